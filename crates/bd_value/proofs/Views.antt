@@ -1,0 +1,64 @@
+-- What a document's pairs are, at each place.
+use Rattle.std.proofs.Common.{zero, suc, ◌+◌, drop, add-one, ◌≡◌, ℕ, ◌<◌, List, [], ◌∷◌, length, map, get_or, Some, rules, refl, ap, ◌∙◌, arith, ℤ, Vec}
+use Rattle.std.specs.Prelude.{String, string_bytes, slice_get}
+use Rattle.std.specs.declared.alloc.Global.{Global}
+use Rattle.std.proofs.lemmas.Option.{slice_get-map, slice_get-get_or}
+use Rattle.std.proofs.lemmas.List.{length-map}
+use Rattle.bd_value.specs.declared.document.Value.{Value}
+use Rattle.bd_value.specs.declared.document.Value.TheVariants.{Int32, Text, Doc, Array}
+use Rattle.bd_value.specs.declared.document.Document.{Document}
+use Rattle.bd_value.specs.declared.document.Value.TheFolds as folds
+use Rattle.bd_value.specs.Tree.{tree_size, fields_size, items_size, Tree, leaf, doc, array, int32, text, Pair, fields_of, items_of}
+use Rattle.bd_value.specs.Tree as Trees
+use Rattle.bd_value.specs.View.{tree_of, pair_of, pairs, pairs_step, tree_step}
+
+pub tree_of-Int32 : (z : ℤ) → tree_of (Int32 z) ≡ leaf (int32 z)
+tree_of-Int32 z = search (rules, folds.the_lemmas)
+
+pub tree_of-Text : (s : String Global) → tree_of (Text s) ≡ leaf (text (string_bytes s))
+tree_of-Text s = search (rules, folds.the_lemmas)
+
+two_maps : (ps : List (String Global × Value)) → map (λ (p : String Global × Tree). (string_bytes p.0, p.1)) (map (λ (p : String Global × Value). (p.0, tree_of p.1)) ps) ≡ map pair_of ps
+two_maps [] = refl
+two_maps (p ∷ ps) = ap (λ (x : Trees.Doc). pair_of p ∷ x) (two_maps ps)
+
+pub pairs_fold : (d : Document) → folds.fold-Document Tree Trees.Doc tree_step pairs_step d ≡ pairs d
+pairs_fold d = folds.fold_out-Document Tree Trees.Doc tree_step pairs_step d ∙ two_maps d.pairs.items
+
+pub tree_of-Doc : (d : Document) → tree_of (Doc d) ≡ doc (fields_of (pairs d))
+tree_of-Doc d =
+    let e : tree_of (Doc d) ≡ doc (fields_of (folds.fold-Document Tree Trees.Doc tree_step pairs_step d)) = search (rules, folds.the_lemmas) in
+    e ∙ ap (λ (x : Trees.Doc). doc (fields_of x)) (pairs_fold d)
+
+pub tree_of-Array : (v : Vec Value Global) → tree_of (Array v) ≡ array (items_of (map tree_of v.items))
+tree_of-Array v = search (rules, folds.the_lemmas)
+
+pub pairs_length : (d : Document) → length (pairs d) ≡ length d.pairs.items
+pairs_length d = length-map d.pairs.items pair_of
+
+pub pair_at : (d : Document) (i : ℕ) (p : String Global × Value) → i < length (pairs d) → p ≡ get_or d.pairs.items i p → slice_get (pairs d) i ≡ Some (pair_of p)
+pair_at d i p lt is =
+    let len = pairs_length d in
+    let inside : i < length d.pairs.items = omega arith in
+    slice_get-map pair_of d.pairs.items i ∙ rw (slice_get-get_or d.pairs.items i p inside, ← is) refl
+
+-- ---- going down a document and an array
+
+pub field_smaller : (ps : Trees.Doc) (i : ℕ) (p : Pair) → slice_get ps i ≡ Some p → tree_size p.1 < fields_size (fields_of ps)
+field_smaller [] i p is = absurd cc
+field_smaller (q ∷ ps) zero p is = let e : q ≡ p = cc in let s = ap (λ (x : Pair). tree_size x.1) e in omega (arith, s)
+field_smaller (q ∷ ps) (suc i) p is = omega (arith, field_smaller ps i p is)
+
+pub item_smaller : (ts : List Tree) (i : ℕ) (t : Tree) → slice_get ts i ≡ Some t → tree_size t < items_size (items_of ts)
+item_smaller [] i t is = absurd cc
+item_smaller (q ∷ ts) zero t is = let e : q ≡ t = cc in let s = ap tree_size e in omega (arith, s)
+item_smaller (q ∷ ts) (suc i) t is = omega (arith, item_smaller ts i t is)
+
+pub next_at : {A : Type 0} (xs : List A) (i : ℕ) (x : A) → slice_get xs i ≡ Some x → drop i xs ≡ x ∷ drop (i + 1) xs
+next_at [] i x is = absurd cc
+next_at (y ∷ xs) zero x is = cc
+next_at (y ∷ xs) (suc i) x is = rw add-one (next_at xs i x is ∙ rw add-one refl)
+
+-- a value in a list, as a tree
+pub tree_at : (vs : List Value) (i : ℕ) (v : Value) → i < length vs → v ≡ get_or vs i v → slice_get (map tree_of vs) i ≡ Some (tree_of v)
+tree_at vs i v lt is = slice_get-map tree_of vs i ∙ rw (slice_get-get_or vs i v lt, ← is) refl

@@ -1,0 +1,5 @@
+use Rattle.bd_value.proofs.Views.{pair_at}
+use Rattle.bd_value.proofs.document.Document.pair.Goals as goal
+
+pub returns : goal.returns
+returns c = rw c.as_str.ensures.value (pair_at c.args.self.now c.args.i c.index.result.now c.requires c.index.ensures)

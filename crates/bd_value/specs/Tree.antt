@@ -1,0 +1,62 @@
+-- The tree that a BSON value stands for (BSON 1.1, `document`, `e_list` and `element`), without where it lies in memory.
+-- A text and a name are their UTF-8 bytes, a number is a whole number.
+use Rattle.std.specs.Prelude.{◌≡◌, ℕ, suc, ◌+◌, ℤ, List, [], ◌∷◌, refl}
+use Rattle.std.proofs.Common.{ap}
+
+-- a value that holds no value: one case for each such type of element
+pub data Scalar : Type 0 where
+  int32 : ℤ → Scalar
+  text : List ℕ → Scalar
+
+-- A list of trees inside a tree has to be a type of its own: `Items` and `Fields` are the lists below.
+mutual
+  pub data Tree : Type 0 where
+    leaf : Scalar → Tree
+    doc : Fields → Tree
+    array : Items → Tree
+
+  pub data Items : Type 0 where
+    no_items : Items
+    item : Tree → Items → Items
+
+  pub data Fields : Type 0 where
+    no_fields : Fields
+    field : List ℕ → Tree → Fields → Fields
+
+-- a document: names and values in their order
+abbrev pub Pair : Type 0
+Pair = List ℕ × Tree
+
+abbrev pub Doc : Type 0
+Doc = List Pair
+
+abbrev pub fields_of : Doc → Fields
+fields_of [] = no_fields
+fields_of (p ∷ ps) = field p.0 p.1 (fields_of ps)
+
+abbrev pub items_of : List Tree → Items
+items_of [] = no_items
+items_of (t ∷ ts) = item t (items_of ts)
+
+abbrev pub pairs_of : Fields → Doc
+pairs_of no_fields = []
+pairs_of (field n t fs) = (n, t) ∷ pairs_of fs
+
+pub pairs_of-fields_of : (d : Doc) → pairs_of (fields_of d) ≡ d
+pairs_of-fields_of [] = refl
+pairs_of-fields_of (p ∷ ps) = ap (λ (x : Doc). p ∷ x) (pairs_of-fields_of ps)
+
+-- how many values stand in it
+abbrev mutual
+  pub tree_size : Tree → ℕ
+  tree_size (leaf s) = 0
+  tree_size (doc fs) = suc (fields_size fs)
+  tree_size (array ts) = suc (items_size ts)
+
+  pub items_size : Items → ℕ
+  items_size no_items = 0
+  items_size (item t ts) = suc (tree_size t) + items_size ts
+
+  pub fields_size : Fields → ℕ
+  fields_size no_fields = 0
+  fields_size (field n t fs) = suc (tree_size t) + fields_size fs

@@ -1,0 +1,11 @@
+//! BSON values and documents in memory.
+//!
+//! A contract sees a value as a tree and a document as a list of pairs of a name and a tree: `specs/Tree.antt` and
+//! `specs/View.antt`.
+#![tactic(auto)]
+
+mod document;
+#[cfg(test)]
+mod tests;
+
+pub use document::{Document, NoMemory, Value};
