@@ -46,6 +46,18 @@ pub pairs_of-fields_of : (d : Doc) → pairs_of (fields_of d) ≡ d
 pairs_of-fields_of [] = refl
 pairs_of-fields_of (p ∷ ps) = ap (λ (x : Doc). p ∷ x) (pairs_of-fields_of ps)
 
+abbrev pub list_of : Items → List Tree
+list_of no_items = []
+list_of (item t ts) = t ∷ list_of ts
+
+pub items_of-list_of : (ts : Items) → items_of (list_of ts) ≡ ts
+items_of-list_of no_items = refl
+items_of-list_of (item t ts) = ap (item t) (items_of-list_of ts)
+
+pub fields_of-pairs_of : (fs : Fields) → fields_of (pairs_of fs) ≡ fs
+fields_of-pairs_of no_fields = refl
+fields_of-pairs_of (field n t fs) = ap (field n t) (fields_of-pairs_of fs)
+
 -- how many values stand in it
 abbrev mutual
   pub tree_size : Tree → ℕ

@@ -5,7 +5,9 @@
 #![tactic(auto)]
 
 mod document;
+mod kind;
 #[cfg(test)]
 mod tests;
 
 pub use document::{Document, NoMemory, Value};
+pub use kind::Kind;

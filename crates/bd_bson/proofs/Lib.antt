@@ -1,0 +1,6 @@
+pub mod Again
+pub mod Loop
+pub mod Nested
+pub mod Takes
+pub mod Tells
+pub mod Texts

@@ -1,0 +1,28 @@
+use Rattle.std.proofs.Common.{◌≡◌, ◌≤◌, ◌<◌, ◌+◌, ◌*◌, length, Some}
+use Rattle.std.specs.Prelude.{IfSome}
+use Rattle.bd_bson.specs.FirstFault.{past_elements, past_nested, start}
+use Rattle.bd_bson.proofs.Takes.{IsBytes}
+use Rattle.bd_bson.proofs.check.+checking.Given as goal
+
+abbrev pub decreases-elements : goal.decreases-elements
+decreases-elements l = 4 * l.room + 3
+
+abbrev pub decreases-element : goal.decreases-element
+decreases-element l = 4 * l.room + 2
+
+abbrev pub decreases-value : goal.decreases-value
+decreases-value l = 4 * l.room + 1
+
+abbrev pub decreases-nested : goal.decreases-nested
+decreases-nested l = 4 * l.room
+
+abbrev pub invariant-elements-loop-rest : goal.invariant-elements-loop-rest
+invariant-elements-loop-rest l = record {
+  inside : length l.rest ≤ l.e;
+  fits : IsBytes l.rest;
+  counted : IfSome l.place (λ i. i + length l.rest ≤ length l.bytes);
+  so_far : past_elements (past_nested l.room) l.place (length l.rest) l.e l.rest ≡ past_elements (past_nested l.room) (start l.in_array) (length l.bytes) l.e l.bytes;
+}
+
+abbrev pub decreases-elements-loop-rest : goal.decreases-elements-loop-rest
+decreases-elements-loop-rest l = length l.rest

@@ -1,0 +1,13 @@
+use Rattle.std.proofs.Common.{refl}
+use Rattle.std.proofs.lemmas.Str.{is_utf8-from_IsUtf8}
+use Rattle.bd_bson.specs.FirstFault.{text_at}
+use Rattle.bd_bson.proofs.Tells.{told_fails}
+use Rattle.bd_bson.proofs.Texts.{is_no_text}
+use Rattle.bd_bson.proofs.parts.text.Goals as goal
+
+pub returns-in-Ok : goal.returns-in-Ok
+returns-in-Ok c = rw (is_utf8-from_IsUtf8 c.args.bytes.now c.in-Ok.ensures.cases.1, c.in-Ok.ensures.cases.0) refl
+
+pub returns-in-Err : goal.returns-in-Err
+returns-in-Err c =
+    told_fails c.fault_at.result _ (text_at c.args.at c.args.bytes.now) c.fault_at.ensures (rw (is_no_text c.args.bytes.now c.in-Err.ensures.cases.0, c.valid_up_to.ensures, c.in-Err.ensures.valid_len) refl)

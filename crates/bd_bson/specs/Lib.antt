@@ -1,0 +1,9 @@
+pub mod Body
+pub mod Fault
+pub mod FirstFault
+pub mod Gives
+pub mod Sizes
+pub mod Sound
+pub mod Spelling
+pub mod Told
+pub mod Unique

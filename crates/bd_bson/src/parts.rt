@@ -1,0 +1,142 @@
+//! What stands in a document's bytes, but for values in values.
+//!
+//! `e` is the place that an item may not pass, and `bytes` are those up to it: the item stands at `e` less their
+//! number.
+
+ghost use Rattle.std.specs.Prelude.{◌≡◌, ◌≤◌, ◌<◌, ◌+◌, ◌^◌, ◌==◌, length, position, IfOk, IfSome};
+ghost use Rattle.bd_bson.specs.Gives.{Gives};
+ghost use Rattle.bd_bson.specs.FirstFault.{past_number, past_zero, text_at, past_name, past_string, past_frame, known, kind_byte};
+
+use crate::fault::{FaultKind, Stop, fault_at};
+use bd_value::Kind;
+use std::alloc::Global;
+
+/// A number of four bytes, and the bytes behind it.
+pub fn number(alloc: Global, short: FaultKind, e: u64, bytes: &[u8]) -> Result<(u32, &[u8]), Stop>
+    requires { length bytes.now ≤ e }
+    ensures gives { Gives (λ x. (x.0, x.1.now)) result (past_number short e bytes.now) }
+    ensures after { IfOk result (λ x. length x.1.now + 4 ≡ length bytes.now) }
+{
+    if bytes.len() < 4 {
+        return Err(fault_at(alloc, short, e - bytes.len() as u64));
+    }
+    let (front, rest) = bytes.split_at(4);
+    let number = u32::from_le_bytes([front[0], front[1], front[2], front[3]]);
+    Ok((number, rest))
+}
+
+/// The bytes behind a zero.
+fn zero(alloc: Global, kind: FaultKind, e: u64, bytes: &[u8]) -> Result<&[u8], Stop>
+    requires { length bytes.now ≤ e }
+    ensures gives { Gives (λ x. x.now) result (past_zero kind e bytes.now) }
+    ensures after { IfOk result (λ x. length x.now + 1 ≡ length bytes.now) }
+{
+    match bytes {
+        [0, rest @ ..] => Ok(rest),
+        _ => Err(fault_at(alloc, kind, e - bytes.len() as u64)),
+    }
+}
+
+/// The bytes at a place as text.
+fn text(alloc: Global, at: u64, bytes: &[u8]) -> Result<&str, Stop>
+    requires { at + length bytes.now < 2 ^ 64 }
+    ensures { Gives (λ x. x.now) result (text_at at bytes.now) }
+{
+    match simdutf8::compat::from_utf8(bytes) {
+        Ok(text) => Ok(text),
+        Err(error) => Err(fault_at(
+            alloc,
+            FaultKind::BadUtf8,
+            at + error.valid_up_to() as u64,
+        )),
+    }
+}
+
+fn first_zero(bytes: &[u8]) -> Option<usize>
+    ensures place { result ≡ position (λ b. b == 0) bytes.now }
+    ensures inside { IfSome result (λ k. k < length bytes.now) }
+{
+    bytes.iter().position(|b| *b == 0)
+}
+
+/// The name up to the first zero, and the bytes behind that zero.
+pub fn name(alloc: Global, e: u64, bytes: &[u8]) -> Result<(&str, &[u8]), Stop>
+    requires { length bytes.now ≤ e }
+    ensures gives { Gives (λ x. (x.0.now, x.1.now)) result (past_name e bytes.now) }
+    ensures after { IfOk result (λ x. length x.1.now < length bytes.now) }
+{
+    let at = e - bytes.len() as u64;
+    match first_zero(bytes) {
+        None => Err(fault_at(alloc, FaultKind::NameUnended, at)),
+        Some(k) => {
+            let (front, _) = bytes.split_at(k);
+            let (_, rest) = bytes.split_at(k + 1);
+            let name = text(alloc, at, front)?;
+            Ok((name, rest))
+        }
+    }
+}
+
+/// The bytes behind a string.
+#[tactic(auto, unfolding(crate::specs::FirstFault::past_string))]
+pub fn string(alloc: Global, e: u64, bytes: &[u8]) -> Result<&[u8], Stop>
+    requires { length bytes.now ≤ e }
+    ensures gives { Gives (λ x. x.now) result (past_string e bytes.now) }
+    ensures after { IfOk result (λ x. length x.now ≤ length bytes.now) }
+{
+    let (n, rest) = number(alloc, FaultKind::ValueShort, e, bytes)?;
+    let n = n as usize;
+    if n == 0 || n > rest.len() {
+        return Err(fault_at(
+            alloc,
+            FaultKind::BadStringLength,
+            e - bytes.len() as u64,
+        ));
+    }
+    let (front, after) = rest.split_at(n - 1);
+    let after = zero(alloc, FaultKind::StringUnended, e, after)?;
+    let _text = text(alloc, e - rest.len() as u64, front)?;
+    Ok(after)
+}
+
+/// The bytes of a document's elements, the place where these end, and the bytes behind the document. `top` tells
+/// that the document is to be all of the bytes.
+#[tactic(auto, unfolding(crate::specs::FirstFault::past_frame))]
+pub fn frame(alloc: Global, top: bool, e: u64, bytes: &[u8]) -> Result<(&[u8], u64, &[u8]), Stop>
+    requires { length bytes.now ≤ e }
+    ensures gives { Gives (λ x. (x.0.now, x.1, x.2.now)) result (past_frame top e bytes.now) }
+    ensures inside { IfOk result (λ x. length x.0.now ≤ x.1) }
+    ensures after { IfOk result (λ x. length x.2.now ≤ length bytes.now) }
+{
+    let short = if top {
+        FaultKind::ShortLength
+    } else {
+        FaultKind::ValueShort
+    };
+    let (n, rest) = number(alloc, short, e, bytes)?;
+    let n = n as usize;
+    if n < 5 || n > 16_793_600 || n > bytes.len() || (top && n != bytes.len()) {
+        return Err(fault_at(
+            alloc,
+            FaultKind::BadLength,
+            e - bytes.len() as u64,
+        ));
+    }
+    let (body, after) = rest.split_at(n - 5);
+    let end = e - after.len() as u64;
+    let rest = zero(alloc, FaultKind::NoTerminator, e, after)?;
+    Ok((body, end, rest))
+}
+
+/// The kind that a type byte at `q` tells.
+pub fn kind_at(alloc: Global, q: u64, byte: u8) -> Result<Kind, Stop>
+    ensures { Gives (λ x. x) result (known q (kind_byte byte)) }
+{
+    match byte {
+        0x02 => Ok(Kind::Text),
+        0x03 => Ok(Kind::Doc),
+        0x04 => Ok(Kind::Array),
+        0x10 => Ok(Kind::Int32),
+        _ => Err(fault_at(alloc, FaultKind::UnknownType, q)),
+    }
+}
