@@ -8,7 +8,7 @@ IsBody (leaf s) ps = ⊥
 IsBody (doc fs) ps = ps ≡ pairs_of fs
 IsBody (array ts) ps = map (λ p. p.1) ps ≡ list_of ts
 
-abbrev pub HoldsNone : Tree → Type 0
-HoldsNone (leaf s) = Unit {0}
-HoldsNone (doc fs) = ⊥
-HoldsNone (array ts) = ⊥
+abbrev pub HoldsElements : Tree → Type 0
+HoldsElements (leaf s) = ⊥
+HoldsElements (doc fs) = Unit {0}
+HoldsElements (array ts) = Unit {0}

@@ -1,4 +1,5 @@
 pub mod Body
+pub mod Dump
 pub mod Fault
 pub mod FirstFault
 pub mod Gives

@@ -4,5 +4,7 @@
 mod check;
 mod fault;
 mod parts;
+mod raw;
+mod raw_parts;
 
 pub use fault::FaultKind;

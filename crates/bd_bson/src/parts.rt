@@ -3,11 +3,12 @@
 //! `e` is the place that an item may not pass, and `bytes` are those up to it: the item stands at `e` less their
 //! number.
 
-ghost use Rattle.std.specs.Prelude.{◌≡◌, ◌≤◌, ◌<◌, ◌+◌, ◌^◌, ◌==◌, length, position, IfOk, IfSome};
+ghost use Rattle.std.specs.Prelude.{◌≡◌, ◌≤◌, ◌<◌, ◌+◌, ◌^◌, length, IfOk};
 ghost use Rattle.bd_bson.specs.Gives.{Gives};
 ghost use Rattle.bd_bson.specs.FirstFault.{past_number, past_zero, text_at, past_name, past_string, past_frame, known, kind_byte};
 
 use crate::fault::{FaultKind, Stop, fault_at};
+use crate::raw_parts::first_zero;
 use bd_value::Kind;
 use std::alloc::Global;
 
@@ -50,13 +51,6 @@ fn text(alloc: Global, at: u64, bytes: &[u8]) -> Result<&str, Stop>
             at + error.valid_up_to() as u64,
         )),
     }
-}
-
-fn first_zero(bytes: &[u8]) -> Option<usize>
-    ensures place { result ≡ position (λ b. b == 0) bytes.now }
-    ensures inside { IfSome result (λ k. k < length bytes.now) }
-{
-    bytes.iter().position(|b| *b == 0)
 }
 
 /// The name up to the first zero, and the bytes behind that zero.
