@@ -1,4 +1,5 @@
 pub mod Again
+pub mod Copies
 pub mod Loop
 pub mod Nested
 pub mod Read

@@ -2,6 +2,7 @@
 #![tactic(auto)]
 
 mod check;
+mod copy;
 mod fault;
 mod parts;
 mod raw;
