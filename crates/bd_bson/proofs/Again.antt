@@ -1,24 +1,21 @@
 -- What a tree spells is gone past without a fault.
-use Rattle.std.proofs.Common.{◌≡◌, ◌≢◌, ℕ, zero, suc, ◌+◌, ◌-◌, ◌^◌, ◌<◌, ◌≤◌, Bool, true, false, cond, ltb, eqb, List, [], ◌∷◌, ◌++◌, length, take, drop, Option, Some, None, Ok, Err, refl, sym, ap, ◌∙◌, append_assoc, arith, ℤ}
+use Rattle.std.proofs.Common.{◌≡◌, ◌≢◌, ℕ, zero, suc, ◌+◌, ◌-◌, ◌^◌, ◌<◌, ◌≤◌, Bool, true, false, cond, ltb, eqb, List, [], ◌∷◌, ◌++◌, length, take, drop, Option, Some, None, Ok, refl, sym, ap, ◌∙◌, append_assoc, arith}
 use Rattle.std.specs.Prelude.{IsUtf8, FitsSigned, ◌||◌, ◌&&◌, not, ◌==◌}
 use Rattle.std.specs.List.{AllByRecursion, position, position_or_len}
-use Rattle.std.specs.Int.{w32, from_le_bytes, cast_unsigned}
+use Rattle.std.specs.Int.{w32, cast_unsigned}
 use Rattle.std.proofs.lemmas.Bool.{le-ltb}
 use Rattle.std.proofs.lemmas.Bool.Decides.{nat_tests}
 use Rattle.std.proofs.lemmas.List.{take_at, drop_at, length-append, append-nil}
-use Rattle.std.proofs.lemmas.Nat.{from_le_bytes-to_le_bytes_4}
-use Rattle.std.proofs.lemmas.Int.{ints, to_z-of_z}
+use Rattle.std.proofs.lemmas.Int.{ints}
 use Rattle.std.proofs.lemmas.Str.{is_utf8-from_IsUtf8}
 use Rattle.bd_value.specs.Tree.{Scalar, Tree, leaf, int32, text, doc, array, Items, no_items, item, Fields, no_fields, field, Doc, fields_of}
 use Rattle.bd_value.specs.Kind.{kind_of}
-use Rattle.bd_bson.specs.Fault.{Fault}
 use Rattle.bd_bson.specs.declared.fault.FaultKind.{FaultKind}
 use Rattle.bd_bson.specs.declared.fault.FaultKind.TheVariants.{ShortLength, ValueShort}
-use Rattle.bd_value.specs.declared.kind.Kind.TheVariants as kinds
 use Rattle.std.specs.Prelude.{option_map}
 use Rattle.bd_bson.specs.FirstFault.{start, past_number, text_at, name_up_to, past_name, past_string, past_frame, kind_byte, known, past_value, past_element, past_elements, past_nested, past_document, Nested}
 use Rattle.bd_bson.specs.Spelling.{type_byte, number, string, IsName, framed, IsScalar, element, IsValue, AreItems, AreFields, depth, items_depth, fields_depth, IsDocument}
-use Rattle.bd_bson.specs.Unique.{number_length, number_value, framed_after, string_after}
+use Rattle.bd_bson.specs.Unique.{number_length, number_value, string_after}
 
 pub number_again : (short : FaultKind) (e n : ℕ) (rest : List ℕ) → n < 2 ^ 32 → past_number short e (number n ++ rest) ≡ Ok (n, rest)
 number_again short e n rest lt =

@@ -1,6 +1,6 @@
 -- A document and an array are made of their elements.
-use Rattle.std.proofs.Common.{◌≡◌, ◌<◌, ◌+◌, ◌*◌, ℕ, List, [], ◌∷◌, map, refl, sym, ap, ◌∙◌, arith}
-use Rattle.bd_value.specs.Tree.{Scalar, int32, text, Tree, leaf, doc, array, Fields, Items, item, Doc, Pair, fields_of, items_of, pairs_of, list_of, tree_size, fields_size, items_size, fields_of-pairs_of, items_of-list_of}
+use Rattle.std.proofs.Common.{◌≡◌, ◌<◌, ◌+◌, ◌*◌, [], ◌∷◌, refl, sym, ap, ◌∙◌, arith}
+use Rattle.bd_value.specs.Tree.{int32, text, Tree, leaf, doc, array, Doc, fields_of, items_of, tree_size, fields_size, items_size, fields_of-pairs_of, items_of-list_of}
 use Rattle.bd_value.specs.Kind.{kind_of}
 use Rattle.bd_value.specs.declared.kind.Kind.TheVariants as kinds
 use Rattle.bd_bson.specs.Body.{IsBody, element_trees}

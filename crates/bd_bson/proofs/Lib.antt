@@ -1,9 +1,11 @@
 pub mod Again
 pub mod Copies
+pub mod Dumps
 pub mod Loop
 pub mod Nested
-pub mod Read
 pub mod Steps
 pub mod Takes
 pub mod Tells
 pub mod Texts
+pub mod Viewed
+pub mod Whole

@@ -1,5 +1,5 @@
 -- Going past elements one after the other, as a loop does.
-use Rattle.std.proofs.Common.{◌≡◌, ℕ, zero, suc, ◌≤◌, ◌<◌, List, [], ◌∷◌, length, Option, Some, None, ◌+◌, Result, Ok, Err, refl, sym, ap, ◌∙◌, arith, false, eqb}
+use Rattle.std.proofs.Common.{◌≡◌, ℕ, zero, suc, ◌≤◌, ◌<◌, List, [], ◌∷◌, length, Option, Some, None, ◌+◌, Result, Ok, Err, refl, sym, ◌∙◌, arith, false, eqb}
 use Rattle.std.specs.Prelude.{option_map, IfSome}
 use Rattle.std.proofs.lemmas.Bool.Decides.{nat_tests}
 use Rattle.bd_bson.specs.Fault.{Fault}

@@ -1,5 +1,5 @@
 -- A document or an array inside, and the item that an element's fault stands in.
-use Rattle.std.proofs.Common.{◌≡◌, ℕ, zero, suc, ◌-◌, ◌<◌, List, [], ◌∷◌, length, get_or, drop, Bool, false, Option, Result, Ok, Err, refl, ap, ◌∙◌, arith}
+use Rattle.std.proofs.Common.{◌≡◌, ℕ, zero, suc, ◌-◌, ◌<◌, List, [], ◌∷◌, length, get_or, drop, Bool, false, Option, Result, Ok, refl, ap, ◌∙◌, arith}
 use Rattle.bd_value.specs.declared.kind.Kind.{Kind}
 use Rattle.bd_bson.specs.Fault.{Fault}
 use Rattle.bd_bson.specs.declared.fault.FaultKind.TheVariants.{TooDeep}

@@ -1,5 +1,5 @@
 -- One element after another.
-use Rattle.std.proofs.Common.{◌≡◌, ◌≢◌, ℕ, zero, suc, ◌+◌, ◌-◌, ◌<◌, ◌≤◌, ◌^◌, List, [], ◌∷◌, ◌++◌, length, take, drop, get_or, Option, Some, None, refl, sym, ap, ap₂, ◌∙◌, append_assoc, arith, eqb, true, false, ltb}
+use Rattle.std.proofs.Common.{◌≡◌, ◌≢◌, ℕ, suc, ◌+◌, ◌<◌, ◌≤◌, ◌^◌, List, [], ◌∷◌, ◌++◌, length, take, drop, get_or, Option, Some, refl, sym, ap, ap₂, ◌∙◌, append_assoc, arith, eqb, true, false, ltb}
 use Rattle.std.specs.Prelude.{slice_index_or, ◌==◌}
 use Rattle.std.specs.List.{AllByRecursion, position, position_or_len}
 use Rattle.std.proofs.lemmas.Bool.Decides.{nat_tests}
@@ -7,7 +7,7 @@ use Rattle.std.proofs.lemmas.List.{take_at, drop_at, length-append, length-drop,
 use Rattle.std.specs.Int.{w32, from_le_bytes, cast_unsigned}
 use Rattle.bd_value.specs.Tree.{int32, text, Tree, leaf, doc, array, Fields, no_fields, field, Pair, Doc, pairs_of}
 use Rattle.bd_bson.specs.Spelling.{type_byte, number, IsName, IsValue, AreFields, framed, element}
-use Rattle.bd_bson.specs.Unique.{element_after, cancel, number_length, number_value, framed_after, string_after}
+use Rattle.bd_bson.specs.Unique.{element_after, number_length, number_value, framed_after, string_after}
 use Rattle.bd_bson.specs.Sound.{Sound, Left, stands, extent, elements_left, stands_is, extent_is, left_is}
 use Rattle.bd_bson.specs.Sizes.{number_of, head_of, size_of}
 
@@ -49,7 +49,16 @@ split bytes at no_fields body after h cut short not_zero =
 split bytes at (field n t fs) body after h cut short not_zero =
     let size : length body ≡ 2 + length n + length h.0 + length h.1 = ap length h.5 ∙ omega (arith, length-append (element t n h.0) h.1, length-append n (0 ∷ h.0)) in
     record {
-      name = n; tree = t; others = fs; value = h.0; rest = h.1; after = after; is = refl; named = h.2; spells = h.3; more = h.4;
+      name = n;
+      tree = t;
+      others = fs;
+      value = h.0;
+      rest = h.1;
+      after = after;
+      is = refl;
+      named = h.2;
+      spells = h.3;
+      more = h.4;
       cut = cut ∙ element_after t n h.0 h.1 (0 ∷ after) body h.5;
       value_short = omega (arith, size);
       rest_short = omega (arith, size);

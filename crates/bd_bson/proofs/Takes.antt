@@ -12,7 +12,7 @@ use Rattle.std.proofs.lemmas.List.Quantifiers.{position-Some}
 use Rattle.std.proofs.lemmas.Nat.{le_bytes_4}
 use Rattle.std.proofs.lemmas.Int.{of_z-to_z, ints}
 use Rattle.std.proofs.lemmas.Str.{IsUtf8-from_is_utf8}
-use Rattle.bd_value.specs.Tree.{Tree, leaf, int32, text, doc, array, Fields, no_fields, field, Items, no_items, item, Doc, pairs_of, fields_of, fields_of-pairs_of}
+use Rattle.bd_value.specs.Tree.{Tree, leaf, int32, text, doc, array, Fields, no_fields, field, Items, no_items, item, Doc, pairs_of, fields_of-pairs_of}
 use Rattle.bd_bson.specs.Fault.{Fault}
 use Rattle.bd_bson.specs.declared.fault.FaultKind.{FaultKind}
 use Rattle.bd_bson.specs.declared.fault.FaultKind.TheVariants.{ShortLength, BadLength, NoTerminator, BadStringLength, StringUnended, ValueShort}
@@ -394,9 +394,11 @@ document_found e bytes fits is =
     let r = frame_takes true e bytes f.0 fits f.1 in
     let all = elements_take 199 (past_nested 199) None (length f.0.0) f.0.1 f.0.0 (nested_takes 199) r.body_fits (omega arith) f.2 in
     let whole : bytes ≡ framed f.0.0 = r.takes.parts ∙ ap (λ (x : List ℕ). framed f.0.0 ++ x) (r.whole refl) ∙ append-nil (framed f.0.0) in
-    let same = fields_of-pairs_of all.fields in
-    (pairs_of all.fields, record {
-      spells = (f.0.0, subst (λ (fs : Fields). AreFields fs f.0.0) (sym same) all.spell, whole);
-      short = let x = ap length whole in let y = r.short in omega arith;
-      shallow = let x = all.shallow in let y = ap fields_depth same in omega arith;
-    })
+    let same = fields_of-pairs_of all.fields in (
+      pairs_of all.fields,
+      record {
+        spells = (f.0.0, subst (λ (fs : Fields). AreFields fs f.0.0) (sym same) all.spell, whole);
+        short = let x = ap length whole in let y = r.short in omega arith;
+        shallow = let x = all.shallow in let y = ap fields_depth same in omega arith;
+      },
+    )

@@ -1,5 +1,5 @@
 -- Documents one after the other with nothing between, as mongodump writes a collection.
-use Rattle.std.specs.Prelude.{◌≡◌, ◌≤◌, ℕ, List, [], ◌∷◌, ◌++◌, length, take, Option, Some, None, Result, Ok, Err, MatchOption, nat_lt, ◌||◌, if◌then◌else◌}
+use Rattle.std.specs.Prelude.{◌≡◌, ◌≤◌, ℕ, List, [], ◌∷◌, ◌++◌, length, take, Option, Some, None, Result, Ok, Err, nat_lt, ◌||◌, if◌then◌else◌}
 use Rattle.std.specs.Int.{w32, from_le_bytes}
 use Rattle.bd_value.specs.Tree.{Doc}
 use Rattle.bd_bson.specs.Spelling.{IsDocument}
@@ -26,7 +26,7 @@ AreJoined (d ∷ ds) bytes = (front : List ℕ) × (rest : List ℕ) × IsDocume
 abbrev pub IsDump : List Doc → List ℕ → Type 0
 IsDump ds bytes = AreJoined ds bytes × (length bytes ≤ 4294967295)
 
-abbrev framed_fault : ℕ → List ℕ → Result (Option ℕ) FaultKind → Option Fault
+abbrev pub framed_fault : ℕ → List ℕ → Result (Option ℕ) FaultKind → Option Fault
 framed_fault base bytes (Ok None) = None
 framed_fault base bytes (Ok (Some n)) = first_fault base (take n bytes)
 framed_fault base bytes (Err kind) = Some (record { kind = kind; offset = base; path = [] })

@@ -1,14 +1,14 @@
 -- The first check that fails, from left to right, in bytes that are to be one document. No tree is built.
 -- Each function goes past one item at the front of its bytes, and gives the bytes behind it or the fault.
 -- e is the place that the item may not pass, and the bytes are those up to e: the item stands at e less their number.
-use Rattle.std.specs.Prelude.{◌≡◌, ℕ, zero, suc, ◌+◌, ◌-◌, List, [], ◌∷◌, length, take, drop, Option, Some, None, option_map, Result, Ok, Err, Bool, true, false, nat_lt, ◌==◌, ◌||◌, ◌&&◌, not, if◌then◌else◌, decimal}
+use Rattle.std.specs.Prelude.{ℕ, zero, suc, ◌+◌, ◌-◌, List, [], ◌∷◌, length, take, drop, Option, Some, None, option_map, Result, Ok, Err, Bool, true, false, nat_lt, ◌==◌, ◌||◌, ◌&&◌, not, if◌then◌else◌, decimal}
 use Rattle.std.specs.List.{position}
 use Rattle.std.specs.Str.{is_utf8}
 use Rattle.std.specs.Str.Lossy.{utf8_valid_len}
 use Rattle.std.specs.Int.{w32, from_le_bytes}
 use Rattle.bd_value.specs.declared.kind.Kind.{Kind}
 use Rattle.bd_value.specs.declared.kind.Kind.TheVariants as kinds
-use Rattle.bd_bson.specs.Fault.{Fault, found_fault, longer}
+use Rattle.bd_bson.specs.Fault.{Fault, longer}
 use Rattle.bd_bson.specs.declared.fault.FaultKind.{FaultKind}
 use Rattle.bd_bson.specs.declared.fault.FaultKind.TheVariants.{ShortLength, BadLength, NoTerminator, UnknownType, NameUnended, BadUtf8, BadStringLength, StringUnended, TooDeep, ValueShort}
 

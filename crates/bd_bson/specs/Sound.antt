@@ -1,7 +1,7 @@
 -- Bytes at whose front a value, or the elements of a document, stand.
-use Rattle.std.specs.Prelude.{◌≡◌, ◌≤◌, length, ℕ, List, [], ◌∷◌, ◌++◌, map}
-use Rattle.std.proofs.Common.{sym, ap, ◌∙◌, refl}
-use Rattle.std.specs.Coded.{Coded-set, coded_ℕ, coded_list, le_prop}
+use Rattle.std.specs.Prelude.{◌≡◌, ◌≤◌, length, ℕ, List, ◌∷◌, ◌++◌}
+use Rattle.std.proofs.Common.{sym, ap, ◌∙◌}
+use Rattle.std.specs.Coded.{Coded-set, coded_ℕ, le_prop}
 use mathlib.Core.HLevel.{is_prop→PathP}
 use Rattle.bd_value.specs.Tree.{Tree, Fields, Doc, pairs_of}
 use Rattle.bd_bson.specs.Spelling.{type_byte, IsValue, AreFields}
@@ -25,7 +25,9 @@ Sound-prop byte bytes p q =
     let v : p.value ≡ q.value = both.1 in
     let a : p.after ≡ q.after = cancel p.value q.value p.after q.after v h in
     λ i. record {
-      tree = t i; value = v i; after = a i;
+      tree = t i;
+      value = v i;
+      after = a i;
       spells = is_prop→PathP (λ k. IsValue (t k) (v k)) (λ k. value_prop (t k) (v k)) p.spells q.spells i;
       kinded = is_prop→PathP (λ k. type_byte (t k) ≡ byte) (λ k. Coded-set coded_ℕ (type_byte (t k)) byte) p.kinded q.kinded i;
       cut = is_prop→PathP (λ k. bytes ≡ v k ++ a k) (λ k. same_bytes bytes (v k ++ a k)) p.cut q.cut i;
@@ -50,7 +52,9 @@ Left-prop bytes p q =
     let zero_after : 0 ∷ p.after ≡ 0 ∷ q.after = cancel p.body q.body (0 ∷ p.after) (0 ∷ q.after) b h in
     let a : p.after ≡ q.after = cc in
     λ i. record {
-      fields = f i; body = b i; after = a i;
+      fields = f i;
+      body = b i;
+      after = a i;
       spell = is_prop→PathP (λ k. AreFields (f k) (b k)) (λ k. fields_prop (f k) (b k)) p.spell q.spell i;
       cut = is_prop→PathP (λ k. bytes ≡ b k ++ 0 ∷ a k) (λ k. same_bytes bytes (b k ++ 0 ∷ a k)) p.cut q.cut i;
       short = is_prop→PathP (λ k. length (b k) ≤ 16793600) (λ k. le_prop) p.short q.short i;

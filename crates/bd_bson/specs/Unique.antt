@@ -1,13 +1,13 @@
 -- Bytes spell one value at most.
-use Rattle.std.specs.Prelude.{◌≡◌, ◌≢◌, ℕ, zero, suc, ◌+◌, ◌<◌, ◌≤◌, ◌^◌, ℤ, List, [], ◌∷◌, ◌++◌, length, take, drop, IsUtf8, FitsSigned}
+use Rattle.std.specs.Prelude.{◌≡◌, ◌≢◌, ℕ, ◌+◌, ◌<◌, ◌^◌, List, [], ◌∷◌, ◌++◌, length, take, drop, FitsSigned}
 use Rattle.std.specs.List.{AllByRecursion}
 use Rattle.std.specs.Int.{w32, from_le_bytes, cast_unsigned, cast_signed}
-use Rattle.std.proofs.Common.{refl, sym, ap, ap₂, ◌∙◌, subst, append_assoc, arith}
-use Rattle.std.proofs.lemmas.List.{take_at, drop_at, length-append}
+use Rattle.std.proofs.Common.{refl, sym, ap, ap₂, ◌∙◌, append_assoc, arith}
+use Rattle.std.proofs.lemmas.List.{take_at, drop_at}
 use Rattle.std.proofs.lemmas.Nat.{from_le_bytes-to_le_bytes_4}
 use Rattle.std.proofs.lemmas.Int.{ints, to_z-of_z}
 use Rattle.std.proofs.Props.{props}
-use Rattle.std.specs.Coded.{Coded-set, coded_ℕ, coded_list, ×_prop, Σ_prop}
+use Rattle.std.specs.Coded.{Coded-set, coded_ℕ, coded_list}
 use mathlib.Core.HLevel.{is_prop→PathP}
 use Rattle.bd_value.specs.Tree.{Scalar, int32, text, Tree, leaf, doc, array, Fields, no_fields, field, Items, no_items, item}
 use Rattle.bd_bson.specs.Spelling.{type_byte, number, IsName, IsScalar, IsValue, AreFields, AreItems, framed, element}

@@ -2,10 +2,15 @@
 
 ghost use Rattle.std.specs.Prelude.{◌≡◌, ◌≤◌, ◌<◌, ◌+◌, length, IfOk, IfSome, option_map, Option, Some, suc};
 ghost use Rattle.bd_bson.specs.Gives.{Gives};
-ghost use Rattle.bd_bson.specs.FirstFault.{past_value, past_element, past_elements, past_nested, past_document, start};
+ghost use Rattle.bd_bson.specs.FirstFault.{past_value, past_element, past_elements, past_nested, past_document, start, first_fault};
+ghost use Rattle.bd_bson.specs.Told.{Finds};
+ghost use Rattle.bd_bson.specs.Spelling.{IsDocument};
+ghost use Rattle.bd_bson.specs.Sound.{stands};
+ghost use Rattle.bd_value.specs.Tree.{pairs_in};
 
-use crate::fault::{FaultKind, Stop, fault_at, within};
+use crate::fault::{Fault, FaultKind, Stop, fault_at, fault_of, within};
 use crate::parts::{frame, kind_at, name, number, string};
+use crate::raw::RawDoc;
 use bd_value::Kind;
 use std::alloc::Global;
 
@@ -22,13 +27,7 @@ fn next(place: Option<usize>) -> Option<usize>
 
 /// Goes past all elements.
 #[cycle(checking)]
-fn elements(
-    alloc: Global,
-    room: u32,
-    in_array: bool,
-    e: u64,
-    bytes: &[u8],
-) -> Result<(), Stop>
+fn elements(alloc: Global, room: u32, in_array: bool, e: u64, bytes: &[u8]) -> Result<(), Stop>
     requires { length bytes.now ≤ e }
     ensures { Gives (λ x. tt) result (past_elements (past_nested room) (start in_array) (length bytes.now) e bytes.now) }
 {
@@ -69,14 +68,7 @@ fn element(
 
 /// Goes past the value of an element whose type byte stands at `q`.
 #[cycle(checking)]
-fn value(
-    alloc: Global,
-    room: u32,
-    kind: Kind,
-    q: u64,
-    e: u64,
-    bytes: &[u8],
-) -> Result<&[u8], Stop>
+fn value(alloc: Global, room: u32, kind: Kind, q: u64, e: u64, bytes: &[u8]) -> Result<&[u8], Stop>
     requires { length bytes.now ≤ e }
     ensures gives { Gives (λ x. x.now) result (past_value (past_nested room) kind q e bytes.now) }
     ensures after { IfOk result (λ x. length x.now ≤ length bytes.now) }
@@ -116,10 +108,31 @@ fn nested(
 
 /// Goes past the document that all of the bytes are to be.
 #[tactic(auto, unfolding(crate::specs::FirstFault::past_document))]
-pub fn document(alloc: Global, e: u64, bytes: &[u8]) -> Result<(), Stop>
+fn document(alloc: Global, e: u64, bytes: &[u8]) -> Result<(), Stop>
     requires { length bytes.now ≤ e }
     ensures { Gives (λ x. tt) result (past_document e bytes.now) }
 {
     let (body, end, _) = frame(alloc, true, e, bytes)?;
     elements(alloc, 199, false, end, body)
+}
+
+/// Checks that all of the bytes are one document, which begins at the place `base` of a dump and has that number in
+/// it, and gives a view of it.
+///
+/// The fault is the first from left to right: BSON 1.1, `document`, with at most 16,793,600 bytes and 200 levels.
+/// Memory is taken for the path of a fault alone.
+pub fn check_document<'a>(
+    alloc: Global,
+    bytes: &'a [u8],
+    base: u64,
+    number: u32,
+) -> Result<RawDoc<'a>, Fault>
+    requires { base + length bytes.now ≤ 4294967295 }
+    ensures spelled { IfOk result (λ d. IsDocument (pairs_in (stands d.sound)) bytes.now) }
+    ensures first { Finds number (first_fault base bytes.now) result }
+{
+    match document(alloc, base + bytes.len() as u64, bytes) {
+        Ok(()) => Ok(RawDoc::whole(bytes)),
+        Err(stop) => Err(fault_of(alloc, stop, number)),
+    }
 }

@@ -3,7 +3,7 @@
 ghost use Rattle.std.specs.Prelude.{◌≡◌, [], IfOk, string_bytes, codes};
 ghost use Rattle.bd_bson.specs.Fault.{Fault as Where, longer, fault_words};
 ghost use Rattle.bd_bson.specs.FirstFault.{label};
-ghost use Rattle.bd_bson.specs.Told.{Told};
+ghost use Rattle.bd_bson.specs.Told.{Told, IsOf, IsWantOfMemory};
 ghost use Rattle.bd_bson.specs.declared.fault.Stop.TheVariants.{NoMemory};
 
 use std::alloc::{AllocError, AllocFailed, Global};
@@ -74,6 +74,19 @@ impl FaultKind {
     }
 }
 
+/// The first check that fails in a dump, and its place.
+#[derive(Debug, Drop)]
+pub struct Fault {
+    /// Which check failed.
+    pub kind: FaultKind,
+    /// The number of the document, counted from 0.
+    pub document: u32,
+    /// The byte, counted from the start of the dump.
+    pub offset: u64,
+    /// The names from the document down to the item. An element of an array stands by its position, from 0.
+    pub path: Vec<String>,
+}
+
 /// The first check that fails, as it is seen from the item outwards.
 #[derive(Debug, Drop)]
 pub struct Found {
@@ -127,6 +140,37 @@ pub fn within(alloc: Global, place: Option<usize>, name: &str, stop: Stop) -> St
                 },
             }
         }
+    }
+}
+
+/// The fault of the document of that number.
+pub fn fault_of(alloc: Global, stop: Stop, document: u32) -> Fault
+    ensures { IsOf stop document result }
+{
+    match stop {
+        Stop::NoMemory => want_of_memory(alloc),
+        Stop::Found(found) => {
+            let mut path = found.path;
+            path.reverse();
+            Fault {
+                kind: found.kind,
+                document,
+                offset: found.offset,
+                path,
+            }
+        }
+    }
+}
+
+/// The fault that stands for want of memory, which has no place.
+pub fn want_of_memory(alloc: Global) -> Fault
+    ensures { IsWantOfMemory result }
+{
+    Fault {
+        kind: FaultKind::NoMemory,
+        document: 0,
+        offset: 0,
+        path: Vec::new(alloc),
     }
 }
 

@@ -4,8 +4,14 @@
 mod check;
 mod copy;
 mod fault;
+mod laws;
 mod parts;
 mod raw;
 mod raw_parts;
+mod read;
 
-pub use fault::FaultKind;
+pub use check::check_document;
+pub use fault::{Fault, FaultKind};
+pub use laws::{no_fault_where_spelled, spells_one_document, walks_in_one_way, walks_on};
+pub use raw::RawDoc;
+pub use read::{Frame, next_frame, read_document};

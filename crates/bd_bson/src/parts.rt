@@ -45,11 +45,7 @@ fn text(alloc: Global, at: u64, bytes: &[u8]) -> Result<&str, Stop>
 {
     match simdutf8::compat::from_utf8(bytes) {
         Ok(text) => Ok(text),
-        Err(error) => Err(fault_at(
-            alloc,
-            FaultKind::BadUtf8,
-            at + error.valid_up_to() as u64,
-        )),
+        Err(error) => Err(fault_at(alloc, FaultKind::BadUtf8, at + error.valid_up_to() as u64)),
     }
 }
 
@@ -81,11 +77,7 @@ pub fn string(alloc: Global, e: u64, bytes: &[u8]) -> Result<&[u8], Stop>
     let (n, rest) = number(alloc, FaultKind::ValueShort, e, bytes)?;
     let n = n as usize;
     if n == 0 || n > rest.len() {
-        return Err(fault_at(
-            alloc,
-            FaultKind::BadStringLength,
-            e - bytes.len() as u64,
-        ));
+        return Err(fault_at(alloc, FaultKind::BadStringLength, e - bytes.len() as u64));
     }
     let (front, after) = rest.split_at(n - 1);
     let after = zero(alloc, FaultKind::StringUnended, e, after)?;
@@ -110,11 +102,7 @@ pub fn frame(alloc: Global, top: bool, e: u64, bytes: &[u8]) -> Result<(&[u8], u
     let (n, rest) = number(alloc, short, e, bytes)?;
     let n = n as usize;
     if n < 5 || n > 16_793_600 || n > bytes.len() || (top && n != bytes.len()) {
-        return Err(fault_at(
-            alloc,
-            FaultKind::BadLength,
-            e - bytes.len() as u64,
-        ));
+        return Err(fault_at(alloc, FaultKind::BadLength, e - bytes.len() as u64));
     }
     let (body, after) = rest.split_at(n - 5);
     let end = e - after.len() as u64;

@@ -2,7 +2,8 @@
 
 ghost use Rattle.std.specs.Prelude.{◌≡◌, ◌≤◌, ◌+◌, length, drop, IfSome, IfNone, [], ◌∷◌};
 ghost use Rattle.std.specs.Int.{w32, cast_signed};
-ghost use Rattle.bd_value.specs.Tree.{leaf, int32, text as text_of, doc, fields_of};
+ghost use Rattle.bd_value.specs.Tree.{leaf, int32, text as text_of, Doc, pairs_in};
+ghost use Rattle.bd_bson.specs.Spelling.{IsDocument};
 ghost use Rattle.bd_value.specs.Kind.{kind_of};
 ghost use Rattle.bd_value.specs.declared.kind.Kind.TheVariants as kinds;
 ghost use Rattle.bd_bson.specs.Sound.{Sound, Sound-prop, Left, Left-prop, stands, extent, elements_left};
@@ -22,12 +23,43 @@ pub struct RawValue<'a> {
     ghost sound: { Sound byte (drop start bytes.now) } by { Sound-prop byte (drop start bytes.now) },
 }
 
+/// A document in bytes, which are known to spell one.
+#[derive(Clone, Copy)]
+pub struct RawDoc<'a> {
+    bytes: &'a [u8],
+    start: usize,
+    ghost inside: { start ≤ length bytes.now },
+    ghost sound: { Sound 3 (drop start bytes.now) } by { Sound-prop 3 (drop start bytes.now) },
+}
+
 /// The elements of a document or an array, from one on.
 #[derive(Clone, Copy)]
 pub struct Elements<'a> {
     bytes: &'a [u8],
     at: usize,
     ghost left: { Left (drop at bytes.now) } by { Left-prop (drop at bytes.now) },
+}
+
+impl<'a> RawDoc<'a> {
+    /// All of the bytes, which are known to spell one document.
+    pub fn whole(bytes: &'a [u8]) -> RawDoc<'a>
+        requires { (d : Doc) × IsDocument d bytes.now }
+        ensures { IsDocument (pairs_in (stands result.sound)) bytes.now }
+    {
+        RawDoc { bytes, start: 0 }
+    }
+
+    /// The elements.
+    pub fn elements(self) -> Elements<'a>
+        ensures { elements_left result.left ≡ pairs_in (stands self.entry.sound) }
+    {
+        let value = RawValue {
+            bytes: self.bytes,
+            start: self.start,
+            byte: 0x03,
+        };
+        value.elements()
+    }
 }
 
 impl<'a> RawValue<'a> {

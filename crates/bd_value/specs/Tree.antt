@@ -50,6 +50,12 @@ abbrev pub list_of : Items → List Tree
 list_of no_items = []
 list_of (item t ts) = t ∷ list_of ts
 
+-- the pairs of a document; every other value has none
+abbrev pub pairs_in : Tree → Doc
+pairs_in (leaf s) = []
+pairs_in (doc fs) = pairs_of fs
+pairs_in (array ts) = []
+
 pub items_of-list_of : (ts : Items) → items_of (list_of ts) ≡ ts
 items_of-list_of no_items = refl
 items_of-list_of (item t ts) = ap (item t) (items_of-list_of ts)

@@ -1,4 +1,4 @@
-use Rattle.std.proofs.Common.{Some, None, add-one, refl, ◌≡◌, length, arith, sym, true, false}
+use Rattle.std.proofs.Common.{arith, sym}
 use Rattle.std.proofs.lemmas.Result.{err_from_is_err_and}
 use Rattle.std.proofs.lemmas.List.{nil_from_length}
 use Rattle.std.proofs.lemmas.Bool.{eqb-true}

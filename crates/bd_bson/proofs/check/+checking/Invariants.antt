@@ -1,4 +1,4 @@
-use Rattle.std.proofs.Common.{◌≡◌, ◌≤◌, ◌<◌, ◌+◌, ◌*◌, length, Some}
+use Rattle.std.proofs.Common.{◌≡◌, ◌≤◌, ◌+◌, ◌*◌, length}
 use Rattle.std.specs.Prelude.{IfSome}
 use Rattle.bd_bson.specs.FirstFault.{past_elements, past_nested, start}
 use Rattle.bd_bson.proofs.Takes.{IsBytes}

@@ -1,5 +1,5 @@
-use Rattle.std.proofs.Common.{◌≡◌, ◌<◌, ◌+◌, ◌*◌, sym, ap, ◌∙◌, arith}
-use Rattle.bd_value.specs.Tree.{doc, array, fields_of, items_of, tree_size, fields_size}
+use Rattle.std.proofs.Common.{◌<◌, ◌+◌, ◌*◌, sym, ap, ◌∙◌, arith}
+use Rattle.bd_value.specs.Tree.{doc, array, fields_of, items_of, fields_size}
 use Rattle.bd_value.proofs.Views.{tree_of-Doc, tree_of-Array}
 use Rattle.bd_bson.specs.Sound.{stands, elements_left}
 use Rattle.bd_bson.proofs.Copies.{doc_is, array_is, doc_larger, array_larger}

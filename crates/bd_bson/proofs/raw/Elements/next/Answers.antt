@@ -1,5 +1,4 @@
-use Rattle.std.proofs.Common.{arith, ap, ◌∙◌, sym, drop, take, length, ◌+◌, ◌≡◌, ℕ, Some, refl}
-use Rattle.std.specs.Prelude.{slice_index_or}
+use Rattle.std.proofs.Common.{◌∙◌, length, ◌≡◌, refl}
 use Rattle.bd_bson.proofs.Steps as s
 use Rattle.bd_bson.proofs.raw.Elements.next.Goals as goal
 

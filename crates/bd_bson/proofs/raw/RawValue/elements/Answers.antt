@@ -1,4 +1,4 @@
-use Rattle.bd_bson.proofs.Read.{elements_sound, elements_are}
+use Rattle.bd_bson.proofs.Viewed.{elements_sound, elements_are}
 use Rattle.bd_bson.proofs.raw.RawValue.elements.Goals as goal
 
 pub invariant_of-result : goal.invariant_of-result

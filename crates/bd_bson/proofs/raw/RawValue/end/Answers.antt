@@ -1,6 +1,5 @@
-use Rattle.std.proofs.Common.{arith, ap, ◌∙◌, drop, length, ◌+◌, ℕ}
-use Rattle.std.proofs.lemmas.List.{length-drop}
-use Rattle.bd_bson.specs.Sizes.{head_of, size_of}
+use Rattle.std.proofs.Common.{arith, ap, ◌∙◌, drop, ◌+◌, ℕ}
+use Rattle.bd_bson.specs.Sizes.{size_of}
 use Rattle.bd_bson.proofs.Steps.{size_at, head_fits, value_fits}
 use Rattle.bd_bson.proofs.raw.RawValue.end.Goals as goal
 

@@ -3,7 +3,7 @@ use Rattle.std.specs.Int.{w32, cast_signed}
 use Rattle.std.proofs.lemmas.Int.{to_z-of_z}
 use Rattle.bd_bson.specs.Sizes.{number_of}
 use Rattle.bd_bson.proofs.Steps.{head_fits}
-use Rattle.bd_bson.proofs.Read.{int_result}
+use Rattle.bd_bson.proofs.Viewed.{int_result}
 use Rattle.bd_bson.proofs.raw.RawValue.int32.Goals as goal
 
 pub number-requires : goal.number-requires

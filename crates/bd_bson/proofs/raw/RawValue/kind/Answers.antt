@@ -1,5 +1,5 @@
 use Rattle.std.proofs.Common.{◌∙◌}
-use Rattle.bd_bson.proofs.Read.{kind_here}
+use Rattle.bd_bson.proofs.Viewed.{kind_here}
 use Rattle.bd_bson.proofs.raw.RawValue.kind.Goals as goal
 
 pub returns : goal.returns

@@ -1,9 +1,8 @@
-use Rattle.std.proofs.Common.{arith, drop, take, length, ap, ◌≡◌, ◌≤◌, ◌∙◌, sym, ◌++◌, ◌∷◌, List, ℕ, ◌+◌, ◌-◌}
+use Rattle.std.proofs.Common.{arith, drop, take, length, ap, ◌≡◌, ◌∙◌, sym, ◌∷◌, List, ℕ, ◌-◌}
 use Rattle.std.proofs.lemmas.List.{take_at, length-append}
-use Rattle.std.specs.Prelude.{IsUtf8}
 use Rattle.bd_value.specs.Tree.{leaf, text}
 use Rattle.bd_bson.specs.Sizes.{number_of}
-use Rattle.bd_bson.proofs.Read as r
+use Rattle.bd_bson.proofs.Viewed as r
 use Rattle.bd_bson.proofs.raw.RawValue.text.Goals as goal
 
 pub number-n-requires : goal.number-n-requires

@@ -1,15 +1,15 @@
 -- What is read of a value that stays in its bytes.
-use Rattle.std.proofs.Common.{◌≡◌, ℕ, zero, suc, ◌+◌, ◌<◌, ◌≤◌, ◌^◌, List, [], ◌∷◌, ◌++◌, length, map, take, drop, true, refl, sym, ap, ◌∙◌, subst, append_assoc, arith, ℤ}
+use Rattle.std.proofs.Common.{◌≡◌, ℕ, ◌+◌, ◌<◌, ◌≤◌, ◌^◌, List, [], ◌∷◌, ◌++◌, length, map, drop, refl, sym, ap, ◌∙◌, subst, arith, ℤ}
 use Rattle.std.specs.Prelude.{IsUtf8, FitsSigned}
 use Rattle.std.proofs.lemmas.List.{take_at, drop_at, length-append, drop-drop}
 use Rattle.std.proofs.lemmas.Int.{ints, to_z-of_z}
 use Rattle.std.specs.Int.{w32, cast_signed, cast_unsigned, from_le_bytes}
-use Rattle.bd_value.specs.Tree.{Scalar, int32, text, Tree, leaf, doc, array, Items, no_items, item, Fields, no_fields, field, Pair, Doc, pairs_of, list_of}
+use Rattle.bd_value.specs.Tree.{int32, text, Tree, leaf, doc, array, Items, no_items, item, Fields, no_fields, field, Pair, Doc, pairs_of, list_of}
 use Rattle.bd_value.specs.Kind.{kind_of}
 use Rattle.bd_value.specs.declared.kind.Kind.TheVariants as kinds
-use Rattle.bd_bson.specs.Spelling.{type_byte, number, string, IsName, IsValue, AreFields, AreItems, framed, element}
+use Rattle.bd_bson.specs.Spelling.{type_byte, number, string, IsValue, AreFields, AreItems, framed}
 use Rattle.bd_bson.specs.Unique.{number_length, number_value, framed_after, string_after}
-use Rattle.bd_bson.specs.Sound.{Sound, Left, stands, extent, elements_left, stands_is, left_is}
+use Rattle.bd_bson.specs.Sound.{Sound, Left, stands, elements_left, stands_is, left_is}
 use Rattle.bd_bson.specs.Sizes.{number_of, kind_at}
 use Rattle.bd_bson.specs.Body.{IsBody, HoldsElements}
 
@@ -66,7 +66,10 @@ module _ (bytes : List ℕ) (start byte : ℕ) (s : Sound byte (drop start bytes
       let size : length s.value ≡ length b.body + 5 = ap length b.frame ∙ omega (arith, length-append (number (length b.body + 5)) (b.body ++ 0 ∷ []), number_length (length b.body + 5), length-append b.body (0 ∷ [])) in
       let short : length b.body ≤ 16793600 = let m = s.short in omega (arith, size) in
       record {
-        fields = b.fields; body = b.body; after = s.after; spell = b.spell;
+        fields = b.fields;
+        body = b.body;
+        after = s.after;
+        spell = b.spell;
         cut = sym (drop-drop 4 start bytes) ∙ ap (drop 4) whole ∙ drop_at (number (length b.body + 5)) (b.body ++ 0 ∷ s.after) 4 (number_length (length b.body + 5));
         short = short;
       }

@@ -1,0 +1,45 @@
+-- A document that is all of some bytes.
+use Rattle.std.proofs.Common.{◌≡◌, ℕ, List, [], Option, refl, sym, ap, ◌∙◌, subst, length, ◌+◌}
+use Rattle.std.proofs.lemmas.List.{append-nil}
+use Rattle.bd_value.specs.Tree.{int32, text, Tree, leaf, doc, array, Doc, fields_of, pairs_in, pairs_of-fields_of}
+use Rattle.bd_value.specs.Kind.{kind_of}
+use Rattle.bd_value.specs.declared.kind.Kind.TheVariants as kinds
+use Rattle.bd_bson.specs.Spelling.{IsDocument}
+use Rattle.bd_bson.specs.Sound.{Sound, stands, stands_is}
+use Rattle.bd_bson.specs.Body.{IsBody, HoldsElements}
+use Rattle.bd_bson.specs.FirstFault.{first_fault, fault_in}
+use Rattle.bd_bson.specs.Told.{Tells, IsWantOfMemory}
+use Rattle.bd_bson.specs.declared.fault.Fault.{Fault}
+use Rattle.bd_bson.specs.Unique as unique
+use Rattle.bd_bson.proofs.Again.{document_again}
+use Rattle.bd_bson.proofs.Viewed.{kind_here, doc_holds}
+
+abbrev pub whole_sound : (bytes : List ℕ) (d : Doc) → IsDocument d bytes → Sound 3 bytes
+whole_sound bytes d h = record { tree = doc (fields_of d); value = bytes; after = []; spells = h.spells; kinded = refl; cut = sym (append-nil bytes); short = h.short }
+
+pub whole_is : (bytes : List ℕ) (d : Doc) (h : IsDocument d bytes) (s : Sound 3 bytes) → IsDocument (pairs_in (stands s)) bytes
+whole_is bytes d h s =
+    let e : d ≡ pairs_in (stands s) = sym (ap pairs_in (stands_is s (whole_sound bytes d h)) ∙ pairs_of-fields_of d) in
+    subst (λ (c : Doc). IsDocument c bytes) e h
+
+pub document_holds : (bytes : List ℕ) (s : Sound 3 bytes) → HoldsElements (stands s)
+document_holds bytes s = doc_holds (stands s) (sym (kind_here 3 bytes s))
+
+body_is : (t : Tree) (ps : Doc) → kind_of t ≡ kinds.Doc → IsBody t ps → ps ≡ pairs_in t
+body_is (leaf (int32 z)) ps k h = absurd cc
+body_is (leaf (text z)) ps k h = absurd cc
+body_is (doc fs) ps k h = h
+body_is (array ts) ps k h = absurd cc
+
+pub document_pairs : (bytes : List ℕ) (s g : Sound 3 bytes) (ps : Doc) → IsBody (stands g) ps → ps ≡ pairs_in (stands s)
+document_pairs bytes s g ps h = body_is (stands s) ps (sym (kind_here 3 bytes s)) (subst (λ (t : Tree). IsBody t ps) (stands_is g s ∙ sym (stands_is s s)) h)
+
+-- the bytes spell one document at most
+pub document_unique : (bytes : List ℕ) (c d : Doc) → IsDocument c bytes → IsDocument d bytes → c ≡ d
+document_unique bytes c d p q =
+    let e = (unique.values (doc (fields_of c)) (doc (fields_of d)) bytes bytes [] [] p.spells q.spells refl refl).0 in
+    sym (pairs_of-fields_of c) ∙ ap pairs_in e ∙ pairs_of-fields_of d
+
+-- a document that is spelled has no fault
+pub spelled_tells : (base number : ℕ) (bytes : List ℕ) (d : Doc) (e : Fault) → IsDocument d bytes → Tells number (first_fault base bytes) e → IsWantOfMemory e
+spelled_tells base number bytes d e is tells = subst (λ (f : Option _). Tells number f e) (ap fault_in (document_again (base + length bytes) bytes d is)) tells
