@@ -9,6 +9,8 @@ mod parts;
 mod raw;
 mod raw_parts;
 mod read;
+#[cfg(test)]
+mod tests;
 
 pub use check::check_document;
 pub use fault::{Fault, FaultKind};

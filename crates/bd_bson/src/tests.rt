@@ -1,0 +1,206 @@
+//! Documents and faults that were worked by hand, byte by byte.
+use crate::{Fault, FaultKind, Frame, next_frame, read_document};
+use bd_value::{Document, Value};
+use std::alloc::{AllocError, Global};
+use std::test::Fail;
+
+/// The fault, with the names of its path joined by dots.
+fn fault_text(alloc: Global, fault: &Fault) -> Result<String, AllocError> {
+    let mut text = format!(in alloc;
+        "{} at {} in {}:",
+        fault.kind.words(),
+        fault.offset,
+        fault.document
+    )?;
+    for name in &fault.path {
+        text.push_str(".")?;
+        text.push_str(name.as_str())?;
+    }
+    Ok(text)
+}
+
+/// So many documents, each the field `a` of the one outside it, the innermost empty.
+fn nested(alloc: Global, levels: u32) -> Result<Vec<u8>, AllocError> {
+    let mut bytes = Vec::new(alloc);
+    for level in 0..levels {
+        let inside = levels - level - 1;
+        let length = inside.wrapping_mul(8).wrapping_add(5);
+        bytes.extend_from_slice(&length.to_le_bytes())?;
+        if inside > 0 {
+            bytes.extend_from_slice(b"\x03a\0")?;
+        }
+    }
+    for _ in 0..levels {
+        bytes.push(0)?;
+    }
+    Ok(bytes)
+}
+
+fn first_value<'a>(rt: &impl std::process::Abort, document: &'a Document) -> (&'a str, &'a Value) {
+    assert!(rt; document.len() == 1);
+    document.pair(0)
+}
+
+#[test]
+fn reads_documents(rt: HostRuntime) -> Result<(), Fail> {
+    let alloc = rt.alloc();
+    let empty = read_document(alloc, b"\x05\0\0\0\0", 0, 0);
+    assert!(rt; empty.is_ok_and(|d| d.is_empty()));
+
+    let one = read_document(alloc, b"\x0c\0\0\0\x10a\0\x01\0\0\0\0", 4, 7);
+    let one = one.map_err(|_| "an int32")?;
+    let (name, value) = first_value(&rt, &one);
+    assert_eq!(rt; name, "a");
+    assert!(rt; matches!(value, Value::Int32(1)));
+
+    let negative = read_document(alloc, b"\x0c\0\0\0\x10a\0\xfe\xff\xff\xff\0", 0, 0);
+    let negative = negative.map_err(|_| "a negative int32")?;
+    let (_, value) = first_value(&rt, &negative);
+    assert!(rt; matches!(value, Value::Int32(-2)));
+
+    let text = read_document(alloc, b"\x10\0\0\0\x02s\0\x04\0\0\0a\0b\0\0", 0, 0);
+    let text = text.map_err(|_| "a text with a zero")?;
+    let (_, value) = first_value(&rt, &text);
+    match value {
+        Value::Text(text) => assert_eq!(rt; text.as_str(), "a\0b"),
+        _ => assert!(rt; false, "a text was wanted"),
+    }
+
+    // The names in an array are any names.
+    let array = read_document(
+        alloc,
+        b"\x1b\0\0\0\x04a\0\x13\0\0\0\x10z\0\x07\0\0\0\x100\0\x08\0\0\0\0\0",
+        0,
+        0,
+    );
+    let array = array.map_err(|_| "an array")?;
+    let (_, value) = first_value(&rt, &array);
+    match value {
+        Value::Array(items) => {
+            assert_eq!(rt; items.len(), 2);
+            assert!(rt; matches!(items[0], Value::Int32(7)));
+            assert!(rt; matches!(items[1], Value::Int32(8)));
+        }
+        _ => assert!(rt; false, "an array was wanted"),
+    }
+    Ok(())
+}
+
+#[test]
+fn names_the_first_fault(rt: HostRuntime) -> Result<(), Fail> {
+    let alloc = rt.alloc();
+    let rows: [(&[u8], &str); 17] = [
+        (b"", "length cut short at 100 in 3:"),
+        (b"\x05\0\0", "length cut short at 100 in 3:"),
+        (b"\x04\0\0\0", "bad length at 100 in 3:"),
+        (b"\xff\xff\xff\xff", "bad length at 100 in 3:"),
+        (b"\0\0\0\x80", "bad length at 100 in 3:"),
+        (b"\x0c\0\0\0\x10a\0\x01\0\0\0", "bad length at 100 in 3:"),
+        (b"\x05\0\0\0\0\0", "bad length at 100 in 3:"),
+        (b"\x05\0\0\0\x01", "no terminator at 104 in 3:"),
+        // A double is not one of the four kinds.
+        (
+            b"\x10\0\0\0\x01d\0\0\0\0\0\0\0\xf0\x3f\0",
+            "unknown type at 104 in 3:",
+        ),
+        (b"\x08\0\0\0\x10ab\0", "name not ended at 105 in 3:"),
+        (
+            b"\x0e\0\0\0\x10b\xff\x61\0\x01\0\0\0\0",
+            "not UTF-8 at 106 in 3:",
+        ),
+        (
+            b"\x0a\0\0\0\x10a\0\x01\0\0",
+            "value cut short at 107 in 3:.a",
+        ),
+        (
+            b"\x0c\0\0\0\x02a\0\0\0\0\0\0",
+            "bad string length at 107 in 3:.a",
+        ),
+        (
+            b"\x0c\0\0\0\x02a\0\xff\xff\xff\x7f\0",
+            "bad string length at 107 in 3:.a",
+        ),
+        (
+            b"\x0e\0\0\0\x02a\0\x02\0\0\0aa\0",
+            "string not ended at 112 in 3:.a",
+        ),
+        (
+            b"\x0f\0\0\0\x02a\0\x03\0\0\0b\xc3\0\0",
+            "not UTF-8 at 112 in 3:.a",
+        ),
+        // An element of an array stands by its position, whatever its name is.
+        (
+            b"\x1c\0\0\0\x04a\0\x14\0\0\0\x10z\0\x07\0\0\0\x03y\0\x05\0\0\0\x01\0\0",
+            "no terminator at 125 in 3:.a.1",
+        ),
+    ];
+    for (bytes, want) in rows {
+        match read_document(alloc, bytes, 100, 3) {
+            Ok(_) => assert!(rt; false, "no fault in {bytes:?}"),
+            Err(fault) => {
+                let text = fault_text(alloc, &fault)?;
+                assert_eq!(rt; text.as_str(), want);
+            }
+        }
+    }
+    Ok(())
+}
+
+#[test]
+fn reads_200_levels(rt: HostRuntime) -> Result<(), Fail> {
+    let alloc = rt.alloc();
+    let bytes = nested(alloc, 200)?;
+    assert_eq!(rt; bytes.len(), 1597);
+    assert!(rt; read_document(alloc, bytes.as_slice(), 0, 0).is_ok());
+    let bytes = nested(alloc, 201)?;
+    assert_eq!(rt; bytes.len(), 1605);
+    match read_document(alloc, bytes.as_slice(), 0, 0) {
+        Ok(_) => assert!(rt; false, "201 levels were read"),
+        Err(fault) => {
+            assert_eq!(rt; fault.kind, FaultKind::TooDeep);
+            assert_eq!(rt; fault.offset, 1397);
+            assert_eq!(rt; fault.path.len(), 200);
+            assert!(rt; fault.path.iter().all(|name| name.as_str() == "a"));
+        }
+    }
+    Ok(())
+}
+
+#[test]
+fn frames_documents(rt: HostRuntime) -> Result<(), Fail> {
+    let alloc = rt.alloc();
+    let bytes = b"\x05\0\0\0\0\x0c\0\0\0\x10a\0\x01\0\0\0\0";
+    let first = next_frame(alloc, bytes, 0, 0).map_err(|_| "the first")?;
+    assert_eq!(rt;
+        first,
+        Some(Frame {
+            start: 0,
+            length: 5
+        })
+    );
+    let second = next_frame(alloc, bytes, 5, 1).map_err(|_| "the second")?;
+    assert_eq!(rt;
+        second,
+        Some(Frame {
+            start: 5,
+            length: 12
+        })
+    );
+    let end = next_frame(alloc, bytes, 17, 2).map_err(|_| "the end")?;
+    assert_eq!(rt; end, None);
+    match next_frame(alloc, &bytes[..16], 5, 1) {
+        Ok(_) => assert!(rt; false, "a document without its last byte"),
+        Err(fault) => assert_eq!(rt;
+            fault_text(alloc, &fault)?.as_str(),
+            "bad length at 5 in 1:"
+        ),
+    }
+    match next_frame(alloc, &bytes[..7], 5, 1) {
+        Ok(_) => assert!(rt; false, "a document of two bytes"),
+        Err(fault) => assert_eq!(rt;
+            fault_text(alloc, &fault)?.as_str(),
+            "length cut short at 5 in 1:"
+        ),
+    }
+    Ok(())
+}
