@@ -1,5 +1,6 @@
 pub mod Again
 pub mod Copies
+pub mod Devices
 pub mod Dumps
 pub mod Loop
 pub mod Nested

@@ -1,4 +1,6 @@
 pub mod Body
+pub mod Counts
+pub mod Devices
 pub mod Dump
 pub mod Fault
 pub mod FirstFault

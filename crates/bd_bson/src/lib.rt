@@ -1,19 +1,28 @@
-//! BSON documents as bytes.
+//! BSON documents as bytes, and the devices that give and take bytes.
 #![tactic(auto)]
 
 mod check;
 mod copy;
+#[cfg(test)]
+mod devices_tests;
 mod fault;
+mod input;
 mod laws;
+mod output;
 mod parts;
 mod raw;
 mod raw_parts;
 mod read;
+mod reading;
+mod tally;
 #[cfg(test)]
 mod tests;
 
 pub use check::check_document;
 pub use fault::{Fault, FaultKind};
+pub use input::{DeviceFault, Input, MemoryInput, SystemInput};
 pub use laws::{no_fault_where_spelled, spells_one_document, walks_in_one_way, walks_on};
+pub use output::{FailingWrite, MemoryOutput, Output, SystemOutput, write_all};
 pub use raw::RawDoc;
 pub use read::{Frame, next_frame, read_document};
+pub use reading::{Limits, ReadFault, read_all};

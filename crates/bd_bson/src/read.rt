@@ -55,6 +55,7 @@ pub fn next_frame(
     requires { at ≤ length bytes.now }
     ensures found { IfOk result (λ f. frame_length (drop at bytes.now) ≡ Ok (option_map (λ x. x.length) f)) }
     ensures start { IfOk result (λ f. MatchOption f (Unit {0}) (λ x. x.start ≡ at)) }
+    ensures inside { IfOk result (λ f. MatchOption f (Unit {0}) (λ x. at + x.length ≤ length bytes.now)) }
     ensures fault { IfErr result (λ e. frame_length (drop at bytes.now) ≡ Err e.kind) }
     ensures place { IfErr result (λ e. (e.document ≡ number) × (e.offset ≡ at) × (e.path.items ≡ [])) }
 {

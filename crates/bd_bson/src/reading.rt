@@ -1,0 +1,116 @@
+//! All bytes of a device.
+ghost use Rattle.std.specs.Prelude.{◌≡◌, ℕ, List, [], Some, None, IfOk, IfSome, IsErrOf, OnErr, OnOk, length, vec_len, ◌+◌, ◌<◌, ◌≤◌, codes};
+ghost use Rattle.std.specs.Io.KnownBytes.{IsAtEnd};
+ghost use Rattle.bd_bson.specs.Counts.{after_more, Rose};
+ghost use Rattle.bd_bson.specs.Devices.{Reads, LosesFront, LosesAtLeast};
+
+use crate::input::Input;
+use std::alloc::Global;
+
+/// What `read_all` may take of a device.
+#[derive(Debug, Clone, Copy, PartialEq, Eq)]
+pub struct Limits {
+    /// How many bytes it may give.
+    pub bytes: u64,
+    /// How many reads may be made, the one that finds the end included.
+    pub turns: u64,
+}
+
+/// Why a device was not read to its end.
+#[derive(Debug, Clone, Copy, PartialEq, Eq)]
+pub enum ReadFault {
+    /// A read failed.
+    Device = 1,
+    /// The device gave more bytes than the limit.
+    TooLong = 2,
+    /// The limit of reads was reached before the end was found.
+    TooManyTurns = 3,
+    /// The allocator gave no memory.
+    NoMemory = 4,
+}
+
+impl ReadFault {
+    /// The fault in the words of the program.
+    pub fn words(self) -> &'static str
+        ensures device { self ≡ ReadFault.Device → result.now ≡ codes "cannot read" }
+        ensures too_long { self ≡ ReadFault.TooLong → result.now ≡ codes "input too long" }
+        ensures too_many { self ≡ ReadFault.TooManyTurns → result.now ≡ codes "too many reads" }
+        ensures memory { self ≡ ReadFault.NoMemory → result.now ≡ codes "no memory" }
+    {
+        match self {
+            ReadFault::Device => "cannot read",
+            ReadFault::TooLong => "input too long",
+            ReadFault::TooManyTurns => "too many reads",
+            ReadFault::NoMemory => "no memory",
+        }
+    }
+}
+
+/// All bytes of a device, to its end. A turn is one read, and no read is made again.
+///
+/// At an error what was taken is a front of the device's bytes. `Device` comes at a read that failed, `TooLong` once more
+/// bytes were given than `limits.bytes`, and `TooManyTurns` where `limits.turns` reads each gave a byte at least, so that
+/// one more is wanted. `NoMemory` comes where the allocator refuses to grow.
+pub fn read_all<R: Input>(
+    alloc: Global,
+    reader: &mut R,
+    limits: Limits,
+) -> Result<Vec<u8>, ReadFault>
+    // All bytes, where they are known, and as the reads gave them.
+    ensures bytes { IfOk result (λ v. IfSome (R.left reader.old) (λ xs. v.items ≡ xs)) }
+    ensures end { OnOk result (IsAtEnd (R.left reader.new)) }
+    ensures whole { IfOk result (λ v. (n : ℕ) × (last : R) × (n < limits.turns)
+        × Reads R.read_gives n reader.old v.items last × R.read_gives last (Some []) reader.new) }
+    ensures short { IfOk result (λ v. vec_len v ≤ limits.bytes) }
+    ensures front { OnErr result (LosesFront (R.left reader.old) (R.left reader.new)) }
+    ensures turns { R.calls reader.new ≤ after_more (R.calls reader.old) limits.turns }
+
+    // The last read went past the limit of bytes.
+    ensures too_long { IsErrOf result ReadFault.TooLong →
+        (n : ℕ) × (given : List ℕ) × (part : List ℕ) × (last : R) × (n < limits.turns)
+        × (length given ≤ limits.bytes) × (limits.bytes < length given + length part)
+        × Reads R.read_gives n reader.old given last × R.read_gives last (Some part) reader.new }
+    ensures too_long_known { IsErrOf result ReadFault.TooLong →
+        IfSome (R.left reader.old) (λ xs. limits.bytes < length xs) }
+
+    // All reads were made, and each gave a byte at least.
+    ensures too_many { IsErrOf result ReadFault.TooManyTurns →
+        (given : List ℕ) × (length given ≤ limits.bytes)
+        × Reads R.read_gives limits.turns reader.old given reader.new }
+    ensures too_many_known { IsErrOf result ReadFault.TooManyTurns →
+        LosesAtLeast limits.turns (R.left reader.old) (R.left reader.new) }
+    ensures too_many_calls { IsErrOf result ReadFault.TooManyTurns →
+        R.calls reader.new ≡ after_more (R.calls reader.old) limits.turns }
+
+    // The last read failed, and it alone: exactly then the count of failures rises.
+    ensures device { IsErrOf result ReadFault.Device →
+        (n : ℕ) × (given : List ℕ) × (last : R) × (n < limits.turns) × (length given ≤ limits.bytes)
+        × Reads R.read_gives n reader.old given last × R.read_gives last None reader.new }
+    ensures failed { IsErrOf result ReadFault.Device →
+        R.failures reader.new ≡ after_more (R.failures reader.old) 1 }
+    ensures rose { IsErrOf result ReadFault.Device → Rose (R.failures reader.old) (R.failures reader.new) }
+    ensures well { ¬ (IsErrOf result ReadFault.Device) → R.failures reader.new ≡ R.failures reader.old }
+
+    // The reads before a refusal of the allocator gave a byte each, and no more than the limit.
+    ensures memory { IsErrOf result ReadFault.NoMemory →
+        (n : ℕ) × (given : List ℕ) × (n ≤ limits.turns) × (length given ≤ limits.bytes)
+        × Reads R.read_gives n reader.old given reader.new }
+{
+    let mut buffer = [0u8; 65536];
+    let mut bytes = Vec::new(alloc);
+    for _ in 0..limits.turns {
+        let Ok(n) = reader.read(&mut buffer) else {
+            return Err(ReadFault::Device);
+        };
+        if n == 0 {
+            return Ok(bytes);
+        }
+        if limits.bytes - (bytes.len() as u64) < n as u64 {
+            return Err(ReadFault::TooLong);
+        }
+        if bytes.extend_from_slice(&buffer[..n]).is_err() {
+            return Err(ReadFault::NoMemory);
+        }
+    }
+    Err(ReadFault::TooManyTurns)
+}

@@ -1,0 +1,9 @@
+pub mod Determined
+pub mod Escapes
+pub mod Fronts
+pub mod Json
+pub mod Pieces
+pub mod Prefix
+pub mod Runs
+pub mod Steps
+pub mod Walking

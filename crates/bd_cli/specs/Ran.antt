@@ -1,0 +1,53 @@
+-- How a run ended: what its devices gave and took.
+use Rattle.std.specs.Prelude.{◌≡◌, ◌≤◌, ◌<◌, ◌⊎◌, ℕ, List, length, codes, Option, IfSome, Result, Ok, Err}
+use Rattle.std.specs.Io.KnownBytes.{Appends, IsAtEnd}
+use Rattle.bd_bson.specs.Counts.{after_more}
+use Rattle.bd_bson.specs.Devices.{AppendsFront, LosesAtLeast}
+use Rattle.bd_bson.specs.declared.reading.ReadFault.{ReadFault}
+use Rattle.bd_bson.specs.declared.reading.ReadFault.TheVariants as reads
+use Rattle.bd_cli.specs.Shown.{Shown, IsShown, error_line}
+use Rattle.bd_cli.specs.declared.status.Status.{Status}
+use Rattle.bd_cli.specs.declared.status.Status.TheVariants.{Failed}
+
+-- Devices are seen by the bytes that they have left or hold, where those are known, and by their counts.
+
+-- the reader's bytes are these, or it was not read whole for this reason
+abbrev pub WasRead : {R : Type 0} → (R → Option (List ℕ)) → (R → ℕ) → (R → ℕ) → R → R → Result (List ℕ) ReadFault → Type 0
+WasRead left calls failures old new (Ok bytes) =
+    IfSome (left old) (λ xs. bytes ≡ xs) × IsAtEnd (left new) × (length bytes ≤ 4294967295) × (failures new ≡ failures old)
+WasRead left calls failures old new (Err reads.Device) = failures new ≡ after_more (failures old) 1
+WasRead left calls failures old new (Err reads.TooLong) = IfSome (left old) (λ xs. 4294967295 < length xs) × (failures new ≡ failures old)
+WasRead left calls failures old new (Err reads.TooManyTurns) =
+    LosesAtLeast 4294967296 (left old) (left new) × (calls new ≡ after_more (calls old) 4294967296) × (failures new ≡ failures old)
+WasRead left calls failures old new (Err reads.NoMemory) = failures new ≡ failures old
+
+-- the writer took all of the text
+abbrev pub Wrote : {W : Type 0} → (W → Option (List ℕ)) → (W → ℕ) → W → W → List ℕ → Type 0
+Wrote held failures old new text = Appends (held old) (held new) text × (failures new ≡ failures old)
+
+-- the writer took a front of the text, and no write failed
+abbrev pub WroteFront : {W : Type 0} → (W → Option (List ℕ)) → (W → ℕ) → W → W → List ℕ → Type 0
+WroteFront held failures old new text = AppendsFront (held old) (held new) text × (failures new ≡ failures old)
+
+-- the writer took a front of the text, and then a write failed
+abbrev pub Broke : {W : Type 0} → (W → Option (List ℕ)) → (W → ℕ) → W → W → List ℕ → Type 0
+Broke held failures old new text = AppendsFront (held old) (held new) text × (failures new ≡ after_more (failures old) 1)
+
+-- the writer took the text, and the status is this; or it broke, and the status is 1
+abbrev pub Told : {W : Type 0} → (W → Option (List ℕ)) → (W → ℕ) → W → W → List ℕ → Status → Status → Type 0
+Told held failures old new text wanted status =
+    (Wrote held failures old new text × (status ≡ wanted)) ⊎ (Broke held failures old new text × (status ≡ Failed))
+
+-- Standard output has the whole text that is to be shown, and standard error what belongs to it. Or standard output
+-- broke, or memory ran out: then it has a front of the text, and standard error tells which it was.
+abbrev pub Ran : {O E : Type 0} → (O → Option (List ℕ)) → (O → ℕ) → O → O → (E → Option (List ℕ)) → (E → ℕ) → E → E → Shown → Status → Type 0
+Ran out_held out_failures out_old out_new err_held err_failures err_old err_new shown status =
+    (Wrote out_held out_failures out_old out_new shown.out × Told err_held err_failures err_old err_new shown.err shown.status status)
+    ⊎ ((Broke out_held out_failures out_old out_new shown.out × Told err_held err_failures err_old err_new (error_line (codes "cannot write")) Failed status)
+    ⊎ (WroteFront out_held out_failures out_old out_new shown.out × Told err_held err_failures err_old err_new (error_line (codes "no memory")) Failed status))
+
+-- `dump` read an input, whole or to a fault, and showed what is to be shown of it
+abbrev pub Dumped : {R O E : Type 0} → (R → Option (List ℕ)) → (R → ℕ) → (R → ℕ) → R → R → (O → Option (List ℕ)) → (O → ℕ) → O → O → (E → Option (List ℕ)) → (E → ℕ) → E → E → Status → Type 0
+Dumped left calls failures old new out_held out_failures out_old out_new err_held err_failures err_old err_new status =
+    (input : Result (List ℕ) ReadFault) × (shown : Shown) × WasRead left calls failures old new input × IsShown input shown
+    × Ran out_held out_failures out_old out_new err_held err_failures err_old err_new shown status

@@ -1,0 +1,12 @@
+//! How a run ends.
+
+/// The exit status of a run.
+#[derive(Clone, Copy, Debug, PartialEq, Eq)]
+pub enum Status {
+    /// All was done.
+    Done = 0,
+    /// A fault in the input or of a device, or want of memory.
+    Failed = 1,
+    /// The words of the line were not taken.
+    Usage = 2,
+}
