@@ -1,5 +1,5 @@
 -- How a run ends.
-use Rattle.std.proofs.Common.{◌≡◌, ◌≤◌, ◌<◌, ℕ, List, [], ◌++◌, length, Option, Result, Ok, Err, IfSome, refl, sym, ap, ◌∙◌, subst, append-nil, inl, inr}
+use Rattle.std.proofs.Common.{◌≡◌, ◌≤◌, ◌<◌, ℕ, List, [], ◌++◌, length, Option, Result, Ok, Err, IfSome, refl, sym, ap, ap₂, ◌∙◌, subst, append-nil, inl, inr}
 use Rattle.std.specs.Prelude.{◌⊎◌, codes, IsErrOf}
 use Rattle.std.specs.Io.KnownBytes.{Appends}
 use Rattle.std.proofs.KnownBytes.{Appends-nil}
@@ -9,6 +9,8 @@ use Rattle.bd_bson.specs.Counts.{after_more}
 use Rattle.bd_bson.specs.Devices.{LosesAtLeast}
 use Rattle.bd_bson.specs.declared.reading.ReadFault.{ReadFault}
 use Rattle.bd_bson.specs.declared.reading.ReadFault.TheVariants as reads
+use Rattle.bd_bson.proofs.Takes.{IsBytes}
+use Rattle.bd_bson.proofs.Dumps.{walk_once, walk_on}
 use Rattle.bd_cli.specs.Shown.{Shown, IsShown, lines, error_line, walk_text, walk_status, shown_walk, shown_refusal, read_words}
 use Rattle.bd_cli.specs.Ran.{WasRead, Wrote, WroteFront, Broke, Told, Ran}
 use Rattle.bd_cli.specs.Walked.{Holds, Walks, Stops, Counts}
@@ -33,21 +35,21 @@ module _ {O E : Type 0} (out_held : O → Option (List ℕ)) (out_failures : O �
     where
     ran : Told err_held err_failures err_old err_new (walk_text (length ds) end) (walk_status end) status ⊎ Told err_held err_failures err_old err_new (error_line (codes "no memory")) Failed status
         → Ran out_held out_failures out_old out_new err_held err_failures err_old err_new (shown_walk ds end) status
-    ran (inl t) = inl (all_taken (lines ds) holds, t)
-    ran (inr t) = let w = all_taken (lines ds) holds in inr (inr (((lines ds, [], sym (append-nil (lines ds)), w.0), w.1), t))
+    ran (inl t) = inl (inl (all_taken (lines ds) holds, t))
+    ran (inr t) = let w = all_taken (lines ds) holds in inr (((lines ds, [], sym (append-nil (lines ds)), w.0), w.1), t)
 
   pub shows_starved : Stops out_held out_failures out_old out_new bytes [] NoMemory → Told err_held err_failures err_old err_new (error_line (codes "no memory")) Failed status → Shows
   shows_starved (ds, end, is, front, rest, cut, holds) told =
       let w = all_taken front holds in
-      (shown_walk ds end, (ds, end, is, refl), inr (inr (((front, rest, cut, w.0), w.1), told)))
+      (shown_walk ds end, (ds, end, is, refl), inr (((front, rest, cut, w.0), w.1), told))
 
   pub shows_broken : Stops out_held out_failures out_old out_new bytes [] Unwritten → Told err_held err_failures err_old err_new (error_line (codes "cannot write")) Failed status → Shows
-  shows_broken (ds, end, is, broke) told = (shown_walk ds end, (ds, end, is, refl), inr (inl (broke, told)))
+  shows_broken (ds, end, is, broke) told = (shown_walk ds end, (ds, end, is, refl), inl (inr (broke, told)))
 
 -- nothing was written to standard output
 pub refused : {O E : Type 0} (out_held : O → Option (List ℕ)) (out_failures : O → ℕ) (out : O) (err_held : E → Option (List ℕ)) (err_failures : E → ℕ) (err_old err_new : E) (words : List ℕ) (status : Status)
     → Told err_held err_failures err_old err_new (error_line words) Failed status → Ran out_held out_failures out out err_held err_failures err_old err_new (shown_refusal words) status
-refused out_held out_failures out err_held err_failures err_old err_new words status told = inl ((Appends-nil (out_held out), refl), told)
+refused out_held out_failures out err_held err_failures err_old err_new words status told = inl (inl ((Appends-nil (out_held out), refl), told))
 
 abbrev failed_as : {A : Type 0} → ReadFault → Result A ReadFault
 failed_as f = Err f
@@ -63,3 +65,20 @@ was_refused left calls failures old new reads.Device failed well long turns made
 was_refused left calls failures old new reads.TooLong failed well long turns made = (long refl, well (λ e. absurd cc))
 was_refused left calls failures old new reads.TooManyTurns failed well long turns made = (turns refl, made refl, well (λ e. absurd cc))
 was_refused left calls failures old new reads.NoMemory failed well long turns made = well (λ e. absurd cc)
+
+-- ---- what is shown is determined
+
+abbrev shown_ok : List ℕ → Shown → Type 0
+shown_ok bytes shown = IsShown (Ok bytes) shown
+
+shown_bytes_once : (bytes : List ℕ) (s t : Shown) → shown_ok bytes s → shown_ok bytes t → s ≡ t
+shown_bytes_once bytes s t (ds, end, is, shows) (es, other, was, showed) =
+    let e = walk_once ds es end other bytes is was in
+    shows ∙ ap₂ (λ (x : List Doc) (o : Option Fault). shown_walk x o) e.0 e.1 ∙ sym showed
+
+pub shown_once : (input : Result (List ℕ) ReadFault) (s t : Shown) → IsShown input s → IsShown input t → s ≡ t
+shown_once (Ok bytes) s t p q = shown_bytes_once bytes s t p q
+shown_once (Err fault) s t p q = p ∙ sym q
+
+pub shown_some : (bytes : List ℕ) → IsBytes bytes → (s : Shown) × IsShown (Ok bytes) s
+shown_some bytes fits = let w = walk_on [] [] bytes fits refl in (shown_walk w.more w.end, (w.more, w.end, w.walk, refl))

@@ -6,6 +6,8 @@ use Rattle.bd_bson.specs.Devices.{AppendsFront, LosesAtLeast}
 use Rattle.bd_bson.specs.declared.reading.ReadFault.{ReadFault}
 use Rattle.bd_bson.specs.declared.reading.ReadFault.TheVariants as reads
 use Rattle.bd_cli.specs.Shown.{Shown, IsShown, error_line}
+use Rattle.bd_cli.specs.declared.order.Order.{Order}
+use Rattle.bd_cli.specs.declared.order.Order.TheVariants as orders
 use Rattle.bd_cli.specs.declared.status.Status.{Status}
 use Rattle.bd_cli.specs.declared.status.Status.TheVariants.{Failed}
 
@@ -39,15 +41,25 @@ Told held failures old new text wanted status =
     (Wrote held failures old new text × (status ≡ wanted)) ⊎ (Broke held failures old new text × (status ≡ Failed))
 
 -- Standard output has the whole text that is to be shown, and standard error what belongs to it. Or standard output
--- broke, or memory ran out: then it has a front of the text, and standard error tells which it was.
+-- broke: then it has a front of its text, and standard error tells so.
+abbrev pub Printed : {O E : Type 0} → (O → Option (List ℕ)) → (O → ℕ) → O → O → (E → Option (List ℕ)) → (E → ℕ) → E → E → Shown → Status → Type 0
+Printed out_held out_failures out_old out_new err_held err_failures err_old err_new shown status =
+    (Wrote out_held out_failures out_old out_new shown.out × Told err_held err_failures err_old err_new shown.err shown.status status)
+    ⊎ (Broke out_held out_failures out_old out_new shown.out × Told err_held err_failures err_old err_new (error_line (codes "cannot write")) Failed status)
+
+-- All was printed so, or memory ran out: then standard output has a front of its text, and standard error tells so.
 abbrev pub Ran : {O E : Type 0} → (O → Option (List ℕ)) → (O → ℕ) → O → O → (E → Option (List ℕ)) → (E → ℕ) → E → E → Shown → Status → Type 0
 Ran out_held out_failures out_old out_new err_held err_failures err_old err_new shown status =
-    (Wrote out_held out_failures out_old out_new shown.out × Told err_held err_failures err_old err_new shown.err shown.status status)
-    ⊎ ((Broke out_held out_failures out_old out_new shown.out × Told err_held err_failures err_old err_new (error_line (codes "cannot write")) Failed status)
-    ⊎ (WroteFront out_held out_failures out_old out_new shown.out × Told err_held err_failures err_old err_new (error_line (codes "no memory")) Failed status))
+    Printed out_held out_failures out_old out_new err_held err_failures err_old err_new shown status
+    ⊎ (WroteFront out_held out_failures out_old out_new shown.out × Told err_held err_failures err_old err_new (error_line (codes "no memory")) Failed status)
 
 -- `dump` read an input, whole or to a fault, and showed what is to be shown of it
 abbrev pub Dumped : {R O E : Type 0} → (R → Option (List ℕ)) → (R → ℕ) → (R → ℕ) → R → R → (O → Option (List ℕ)) → (O → ℕ) → O → O → (E → Option (List ℕ)) → (E → ℕ) → E → E → Status → Type 0
 Dumped left calls failures old new out_held out_failures out_old out_new err_held err_failures err_old err_new status =
     (input : Result (List ℕ) ReadFault) × (shown : Shown) × WasRead left calls failures old new input × IsShown input shown
     × Ran out_held out_failures out_old out_new err_held err_failures err_old err_new shown status
+
+-- the order was carried out
+abbrev pub Ordered : Order → {R O E : Type 0} → (R → Option (List ℕ)) → (R → ℕ) → (R → ℕ) → R → R → (O → Option (List ℕ)) → (O → ℕ) → O → O → (E → Option (List ℕ)) → (E → ℕ) → E → E → Status → Type 0
+Ordered (orders.Dump file) left calls failures old new out_held out_failures out_old out_new err_held err_failures err_old err_new status =
+    Dumped left calls failures old new out_held out_failures out_old out_new err_held err_failures err_old err_new status

@@ -1,5 +1,7 @@
 //! Laws of the texts.
-ghost use Rattle.std.specs.Prelude.{◌≡◌};
+ghost use Rattle.std.specs.Prelude.{◌≡◌, ◌<◌, ℕ, List, Result, Ok, slice_index};
+ghost use Rattle.bd_bson.specs.declared.reading.ReadFault.{ReadFault};
+ghost use Rattle.bd_cli.specs.Shown.{Shown, IsShown};
 ghost use Rattle.bd_value.specs.Tree.{Doc, doc, fields_of};
 ghost use Rattle.bd_cli.specs.Plain.{Fits, IsPlain};
 ghost use Rattle.bd_cli.specs.Text.{text};
@@ -8,4 +10,10 @@ ghost use Rattle.bd_cli.specs.Text.{text};
 /// first. Without that, `{"a":{"$numberInt":"1"}}` is the text of a nested document and of an Int32.
 pub fn text_determines_document()
     ensures { (c d : Doc) → Fits (doc (fields_of c)) → Fits (doc (fields_of d)) → IsPlain (doc (fields_of c)) → IsPlain (doc (fields_of d)) → text (doc (fields_of c)) ≡ text (doc (fields_of d)) → c ≡ d }
+{}
+
+/// One thing is shown of each input, and of each list of bytes there is something to show.
+pub fn shows_one_thing()
+    ensures one { (input : Result (List ℕ) ReadFault) (shown other : Shown) → IsShown input shown → IsShown input other → shown ≡ other }
+    ensures some { (bytes : List ℕ) → ((i : ℕ) → slice_index bytes i < 256) → (shown : Shown) × IsShown (Ok bytes) shown }
 {}

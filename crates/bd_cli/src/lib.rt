@@ -1,17 +1,23 @@
 //! The commands of `bsonfind`, over any devices.
 #![tactic(auto)]
 
+mod command_line;
+#[cfg(test)]
+mod command_line_tests;
+mod commands;
 mod dump_command;
 mod dumping;
 mod json_string;
 mod laws;
 mod messages;
+mod order;
 mod status;
 mod text;
 #[cfg(test)]
 mod text_tests;
 
-pub use dump_command::dump;
-pub use laws::text_determines_document;
+pub use command_line::{USAGE, parse_words};
+pub use commands::{report, run};
+pub use laws::{shows_one_thing, text_determines_document};
+pub use order::{Order, WordsFault};
 pub use status::Status;
-pub use text::{write_doc, write_value};

@@ -1,5 +1,6 @@
 //! Texts written by hand from the table of Extended JSON v2 and RFC 8259.
-use crate::{write_doc, write_number, write_number32, write_path, write_value};
+use crate::json_string::{write_number, write_number32, write_path};
+use crate::text::{write_doc, write_value};
 use bd_value::{Document, NoMemory, Value};
 use std::alloc::Global;
 use std::test::Fail;

@@ -1,0 +1,78 @@
+-- What the words of a line order, by the parser's own definition of the lines that it takes.
+use Rattle.std.specs.Prelude.{List, ◌∷◌, Bool, not, map, codes, Option, Some, None, true}
+use Rattle.std.specs.Prelude.{option_and_then, option_map, if◌then◌else◌, String, string_bytes}
+use Rattle.std.specs.Prelude.{◌≡◌, ◌==◌, Result, MatchResult, false, slice_get}
+use Rattle.std.specs.Str.{bytes_eq}
+use Rattle.std.specs.Option.{option_map_or}
+use Rattle.clap.specs.Walk.{Row, Rule, Text, first_of}
+use Rattle.clap.specs.Simple.{App, new_app, new_rule, on_top, subcommand_of, with_rule, with_subcommand}
+use Rattle.clap.specs.Faults.{fault_of}
+use Rattle.clap.specs.declared.builder.action.ArgAction.TheVariants.{Set}
+use Rattle.clap.specs.declared.error.kind.ErrorKind.{ErrorKind}
+use Rattle.clap.specs.declared.error.kind.ErrorKind.TheVariants as kind
+use Rattle.bd_cli.specs.declared.order.Order.{Order}
+use Rattle.bd_cli.specs.declared.order.Order.TheVariants.{Dump}
+use Rattle.bd_cli.specs.declared.order.WordsFault.{WordsFault}
+use Rattle.bd_cli.specs.declared.order.WordsFault.TheVariants.{Help, NoMemory, Usage}
+
+-- ---- the lines that are taken, as the parser has them
+
+-- the argument FILE, of which each command has one
+abbrev pub file_rule : Rule
+file_rule = record (new_rule (codes "file")) { required = true; action = Some Set }
+
+-- a command that takes a file alone
+abbrev pub file_app : Text → App
+file_app name = with_rule (new_app name) file_rule
+
+abbrev pub line_app : App
+line_app = with_subcommand (on_top (λ s. record s {
+  no_binary_name = true;
+  subcommand_required = true;
+  disable_help_subcommand = true;
+}) (new_app (codes "bsonfind"))) (file_app (codes "dump")).top
+
+-- ---- what they order
+
+pub data Ordered : Type 0 where
+  dump : Text → Ordered
+
+abbrev pub meant : Order → Ordered
+meant (Dump file) = dump (string_bytes file)
+
+abbrev pub words_of : {Z : Type 0} → List (String Z) → List Text
+words_of = map string_bytes
+
+-- the order of a command's name and its matches
+abbrev pub ordered_by : Text → List Row → Option Ordered
+ordered_by name rows =
+    if bytes_eq name (codes "dump") then option_map dump (first_of (codes "file") rows) else None
+
+-- the order of words that are taken
+abbrev pub order_of : List Text → Option Ordered
+order_of words = option_and_then (λ p. ordered_by p.0 p.1) (subcommand_of line_app words)
+
+-- ---- and how the others are answered
+
+abbrev pub told_as : ErrorKind → WordsFault
+told_as kind.DisplayHelp = Help
+told_as kind.OutOfMemory = NoMemory
+told_as _ = Usage
+
+-- the fault that the parser's refusal of the words is told as; none where they are taken. Where the
+-- parser may give one of several kinds, all of them are told as the first.
+abbrev pub fault_for : List Text → Option WordsFault
+fault_for words = option_map told_as (slice_get (fault_of line_app words) 0)
+
+-- the answer is this order, or memory ran out
+abbrev pub Orders : Result Order WordsFault → Ordered → Type 0
+Orders answer order = MatchResult answer (λ o. meant o ≡ order) (λ f. f ≡ NoMemory)
+
+-- the first word is `help`
+abbrev pub is_help_line : List Text → Bool
+is_help_line words = option_map_or (λ word. bytes_eq word (codes "help")) (slice_get words 0) false
+
+-- a word that may stand as FILE: none of two bytes and more that begins with a hyphen (45)
+abbrev pub is_file_word : Text → Bool
+is_file_word (x ∷ y ∷ rest) = not (x == 45)
+is_file_word _ = true

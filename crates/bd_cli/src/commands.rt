@@ -1,0 +1,53 @@
+//! An order carried out over devices, and words that are no order.
+
+ghost use Rattle.std.specs.Prelude.{◌≡◌};
+ghost use Rattle.bd_cli.specs.Ran.{Ordered, Printed};
+ghost use Rattle.bd_cli.specs.Report.{reported};
+
+use crate::command_line::USAGE;
+use crate::dump_command::dump;
+use crate::messages::{tell, tell_no_memory, tell_unwritten};
+use crate::order::{Order, WordsFault};
+use crate::status::Status;
+use bd_bson::{Input, Output, write_all};
+use std::alloc::Global;
+
+/// Carries out an order, and gives the exit status: 0 where all was done, 1 after a fault of the input or of a device,
+/// or for want of memory.
+///
+/// The file that the order names is read from `file`, the commands of a session from `commands`, the results go to
+/// `out`, and what is told of the run to `err`. A device that fails is not tried again.
+pub fn run<F: Input, C: Input, O: Output, E: Output>(
+    alloc: Global,
+    order: &Order,
+    file: &mut F,
+    commands: &mut C,
+    out: &mut O,
+    err: &mut E,
+) -> Status
+    ensures ran { Ordered order.now F.left F.calls F.failures file.old file.new O.held O.failures out.old out.new
+        E.held E.failures err.old err.new result }
+    ensures commands { commands.new ≡ commands.old }
+{
+    let _commands = commands;
+    match order {
+        Order::Dump { .. } => dump(alloc, file, out, err),
+    }
+}
+
+/// Tells why words are no order, and gives the exit status. It takes no memory.
+///
+/// A request for help prints the usage on `out`, with status 0; words that are not taken print it on `err`, with
+/// status 2; want of memory is told on `err`, with status 1. A device that fails makes the status 1.
+pub fn report<O: Output, E: Output>(fault: &WordsFault, out: &mut O, err: &mut E) -> Status
+    ensures { Printed O.held O.failures out.old out.new E.held E.failures err.old err.new (reported fault.now) result }
+{
+    match fault {
+        WordsFault::Help => match write_all(out, USAGE.as_bytes()) {
+            Ok(()) => Status::Done,
+            Err(_) => tell_unwritten(err),
+        },
+        WordsFault::Usage => tell(err, USAGE.as_bytes(), Status::Usage),
+        WordsFault::NoMemory => tell_no_memory(err),
+    }
+}
