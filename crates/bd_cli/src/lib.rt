@@ -11,6 +11,8 @@ mod json_string;
 mod laws;
 mod messages;
 mod order;
+#[cfg(test)]
+mod run_tests;
 mod status;
 mod text;
 #[cfg(test)]
