@@ -1,0 +1,34 @@
+#!/bin/sh
+# Runs the gate, then the tests of the program that the gate proved and built, and prints the sum of both as its last
+# line. The status is 0 where nothing failed.
+set -u
+cd "$(dirname "$0")/.." || exit 1
+log=$(mktemp) || exit 1
+trap 'rm -f "$log"' EXIT
+passed=0
+failed=0
+
+# Adds the counts of the last line of the log. Without such a line a run did not come to its end, and is one failure.
+add() {
+	counts=$(tail -n 1 "$log" | sed -n 's/^\([0-9][0-9]*\) passed, \([0-9][0-9]*\) failed$/\1 \2/p')
+	counts=${counts:-0 1}
+	passed=$((passed + ${counts% *}))
+	failed=$((failed + ${counts#* }))
+}
+
+# A program that an earlier run left is not tested in place of the gate's.
+rm -f crates/bsonfind/out/bsonfind
+rt ci | tee "$log"
+add
+
+# The gate leaves the program that it proved and built, so nothing is proved again.
+if cp crates/bsonfind/out/bsonfind bsonfind; then
+	tests/program.sh | tee "$log"
+	add
+else
+	echo 'tests/program.sh was not run: the gate built no program'
+	failed=$((failed + 1))
+fi
+
+echo "$passed passed, $failed failed"
+[ "$failed" -eq 0 ]

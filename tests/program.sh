@@ -1,0 +1,166 @@
+#!/bin/sh
+# Tests of the built program, ./bsonfind, over what the gate cannot hold: files, pipes, devices, standard error and
+# exit statuses. A line for each test; the last line is 'N passed, M failed', and the status is 0 where nothing failed.
+set -u
+cd "$(dirname "$0")/.." || exit 1
+program=$PWD/bsonfind
+people=$PWD/examples/people
+room=$(mktemp -d) || exit 1
+trap 'rm -rf "$room"' EXIT
+cd "$room" || exit 1
+passed=0
+failed=0
+
+# Runs the program, and keeps what it writes and how it ends.
+run() {
+	"$program" "$@" >out 2>err
+	echo $? >status
+}
+
+# The bytes that are wanted: none, those of the file that @ names, or the text and a newline.
+wanted() {
+	case $1 in
+	'') ;;
+	@*) cat "${1#@}" ;;
+	*) printf '%s\n' "$1" ;;
+	esac
+}
+
+# expect NAME STATUS OUT ERR: the last run ended with that status, and wrote OUT to standard output and ERR to standard
+# error, byte for byte.
+expect() {
+	wanted "$3" >wanted_out
+	wanted "$4" >wanted_err
+	status=$(cat status)
+	if [ "$status" = "$2" ] && cmp -s out wanted_out && cmp -s err wanted_err; then
+		echo "ok: $1"
+		passed=$((passed + 1))
+	else
+		echo "FAILED: $1: status $status, wanted $2"
+		diff wanted_out out | head -n 5
+		diff wanted_err err | head -n 5
+		failed=$((failed + 1))
+	fi
+	rm -f out err status
+}
+
+# So many documents, each the field `a` of the one outside it, the innermost empty.
+nested() {
+	inside=$1
+	while [ "$inside" -gt 0 ]; do
+		inside=$((inside - 1))
+		length=$((8 * inside + 5))
+		printf '%b' "\\0$(printf %o $((length % 256)))\\0$(printf %o $((length / 256)))\\0\\0"
+		[ "$inside" -eq 0 ] || printf '\003a\000'
+	done
+	dd if=/dev/zero bs=1 count="$1" 2>/dev/null
+}
+
+# A text so many times.
+copies() {
+	left=$1
+	while [ "$left" -gt 0 ]; do
+		printf '%s' "$2"
+		left=$((left - 1))
+	done
+}
+
+usage='usage: bsonfind dump FILE
+       bsonfind check FILE
+       bsonfind pack FILE
+       bsonfind find FILE [--query Q] [--sort S] [--skip N] [--limit N] [--batch N] [--index PATH] [--after TOKEN]
+       bsonfind serve FILE'
+# shellcheck disable=SC2016 # $numberInt is a name in the document
+int32='{"a":{"$numberInt":"1"}}'
+printf '\014\000\000\000\020a\000\001\000\000\000\000' >int32.bson
+
+# What is read.
+
+run dump "$people.bson"
+expect 'a file' 0 "@$people.jsonl" '500 objects found'
+
+run dump - <"$people.bson"
+expect 'a file as standard input' 0 "@$people.jsonl" '500 objects found'
+
+dd if="$people.bson" bs=1 2>/dev/null | run dump -
+expect 'a pipe, one byte at a time' 0 "@$people.jsonl" '500 objects found'
+
+run dump - </dev/null
+expect 'an empty input' 0 '' '0 objects found'
+
+cp int32.bson ./-x
+run dump -- -x
+expect 'a file whose name looks like a flag' 0 "$int32" '1 objects found'
+
+nested 200 >nested.bson
+# shellcheck disable=SC3045 # each sh that is in use has -s
+(ulimit -s 1024 && run dump nested.bson)
+expect '200 levels in 1 MiB of stack' 0 "$(copies 199 '{"a":'){}$(copies 199 '}')" '1 objects found'
+
+# Inputs that are refused.
+
+nested 201 >nested.bson
+run dump nested.bson
+expect '201 levels' 1 '' "bsonfind: document 0, byte 1397, path \"a$(copies 199 .a)\": too deep
+0 objects found"
+
+printf '\020\000\000\000\001d\000\000\000\000\000\000\000\360\077\000' | run dump -
+expect 'a double' 1 '' 'bsonfind: document 0, byte 4, path "": unknown type
+0 objects found'
+
+{ cat int32.bson && printf '\005\000'; } | run dump -
+expect 'a second document cut short' 1 "$int32" 'bsonfind: document 1, byte 12, path "": length cut short
+1 objects found'
+
+# Devices that fail.
+
+run dump missing.bson
+expect 'a file that is not there' 1 '' 'bsonfind: cannot open missing.bson'
+
+run dump .
+expect 'a directory' 1 '' 'bsonfind: cannot read'
+
+"$program" dump "$people.bson" >/dev/full 2>err
+echo $? >status
+: >out
+expect 'a full standard output' 1 '' 'bsonfind: cannot write'
+
+{
+	"$program" dump "$people.bson" 2>err
+	echo $? >status
+} | :
+: >out
+expect 'a closed pipe as standard output' 1 '' 'bsonfind: cannot write'
+
+"$program" dump "$people.bson" >out 2>/dev/full
+echo $? >status
+: >err
+expect 'a full standard error' 1 "@$people.jsonl" ''
+
+# Words.
+
+run
+expect 'no words' 2 '' "$usage"
+
+run help
+expect 'the word help' 2 '' "$usage"
+
+run undump int32.bson
+expect 'an unknown command' 2 '' "$usage"
+
+run dump -x
+expect 'an unknown flag' 2 '' "$usage"
+
+run dump "$(printf '\377')"
+expect 'a word that is not UTF-8' 2 '' "$usage"
+
+run --help
+expect 'a request for help' 0 "$usage" ''
+
+"$program" --help >/dev/full 2>err
+echo $? >status
+: >out
+expect 'a request for help, and a full standard output' 1 '' 'bsonfind: cannot write'
+
+echo "$passed passed, $failed failed"
+[ "$failed" -eq 0 ]
