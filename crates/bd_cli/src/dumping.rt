@@ -145,7 +145,7 @@ fn gather<O: Output>(
 
 /// Writes the lines of the documents before the first fault.
 ///
-/// Where it stops, all lines that were whole are written first, as far as the device takes them.
+/// Where memory runs out, the lines that are whole are still written.
 pub fn documents<O: Output>(alloc: Global, bytes: &[u8], out: &mut O) -> Result<Walk, Stopped>
     requires { length bytes.now ≤ 4294967295 }
     ensures walks { IfOk result (Walks O.held O.failures out.old out.new bytes.now []) }

@@ -26,7 +26,14 @@ fn run<F: Input + Drop>(rt: &HostRuntime, order: &Order, mut file: F) -> Status 
     let mut commands = MemoryInput::new(&[], 1, None);
     let mut out = SystemOutput::new(rt.stdout());
     let mut err = SystemOutput::new(rt.stderr());
-    bd_cli::run(rt.alloc(), order, &mut file, &mut commands, &mut out, &mut err)
+    bd_cli::run(
+        rt.alloc(),
+        order,
+        &mut file,
+        &mut commands,
+        &mut out,
+        &mut err,
+    )
 }
 
 /// Tells that a file cannot be opened. Where standard error fails too, the status tells it alone.
