@@ -10,3 +10,7 @@ pub mod Steps
 pub mod Taken
 pub mod Told
 pub mod Walking
+pub mod Kept
+pub mod Placed
+pub mod Numbers
+pub mod Turns
