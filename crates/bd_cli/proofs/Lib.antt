@@ -12,5 +12,6 @@ pub mod Told
 pub mod Walking
 pub mod Kept
 pub mod Placed
+pub mod Queries
 pub mod Numbers
 pub mod Turns

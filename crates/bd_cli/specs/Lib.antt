@@ -3,6 +3,7 @@ pub mod AnswerLaws
 pub mod CommandLine
 pub mod Equality
 pub mod Plain
+pub mod QueryText
 pub mod Ran
 pub mod Report
 pub mod Shown

@@ -14,6 +14,7 @@ mod json_string;
 mod laws;
 mod messages;
 mod order;
+mod query_text;
 mod status;
 mod stepping;
 mod text;
