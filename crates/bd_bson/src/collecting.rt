@@ -1,8 +1,10 @@
 //! The documents of a dump from its bytes.
 
-ghost use Rattle.std.specs.Prelude.{◌≡◌, ◌≤◌, IfOk, IfErr, [], length, drop};
+ghost use Rattle.std.specs.Prelude.{◌≡◌, ◌≤◌, IfOk, IfErr, [], List, Option, length, drop};
+ghost use Rattle.bd_value.specs.Tree.{Doc};
 ghost use Rattle.bd_bson.specs.Collection.{documents, IsNext, IsUnread};
-ghost use Rattle.bd_bson.specs.Dump.{IsDump, frame_fault};
+ghost use Rattle.bd_bson.specs.Dump.{IsDump, IsWalk, frame_fault};
+ghost use Rattle.bd_bson.specs.Fault.{Fault as Where};
 ghost use Rattle.bd_bson.specs.Told.{Tells};
 
 use crate::collection::Dump;
@@ -46,6 +48,24 @@ fn too_long(alloc: Global) -> Fault
     }
 }
 
+/// The documents that bytes which are not too many are a dump of.
+fn read_bytes(alloc: Global, bytes: &[u8]) -> Result<Dump, Fault>
+    requires { length bytes.now ≤ 4294967295 }
+    ensures dump { IfOk result (λ dump. IsDump (documents dump) bytes.now) }
+    ensures fault { IfErr result (IsUnread bytes.now) }
+    ensures walk { (ds : List Doc) × (end : Option Where) × IsWalk ds end bytes.now }
+{
+    let mut documents = Vec::new(alloc);
+    let mut at = 0;
+    while let Some((document, after)) = next_document(alloc, bytes, at, documents.len() as u32)? {
+        at = after;
+        if documents.push(document).is_err() {
+            return Err(want_of_memory(alloc));
+        }
+    }
+    Ok(Dump { documents })
+}
+
 /// The documents that the bytes are a dump of, all of them.
 ///
 /// # Errors
@@ -57,17 +77,11 @@ fn too_long(alloc: Global) -> Fault
 pub fn read_dump(alloc: Global, bytes: Vec<u8>) -> Result<Dump, Fault>
     ensures dump { IfOk result (λ dump. IsDump (documents dump) bytes.items) }
     ensures fault { IfErr result (IsUnread bytes.items) }
+    // Whatever was answered, the bytes are documents in turn and then end, or fail behind these.
+    ensures walk { length bytes.items ≤ 4294967295 → (ds : List Doc) × (end : Option Where) × IsWalk ds end bytes.items }
 {
     if bytes.len() > 4_294_967_295 {
         return Err(too_long(alloc));
     }
-    let mut documents = Vec::new(alloc);
-    let mut at = 0;
-    while let Some((document, after)) = next_document(alloc, &bytes, at, documents.len() as u32)? {
-        at = after;
-        if documents.push(document).is_err() {
-            return Err(want_of_memory(alloc));
-        }
-    }
-    Ok(Dump { documents })
+    read_bytes(alloc, &bytes)
 }

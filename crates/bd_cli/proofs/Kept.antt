@@ -134,7 +134,7 @@ drop_rises lt zero xs h = h
 drop_rises lt (suc n) [] h = tt
 drop_rises lt (suc n) (x ∷ xs) h = drop_rises lt n xs h.1
 
-take_in : (n : ℕ) (xs : List ℕ) (x : ℕ) → In x (take n xs) → In x xs
+pub take_in : (n : ℕ) (xs : List ℕ) (x : ℕ) → In x (take n xs) → In x xs
 take_in zero xs x h = absurd h
 take_in (suc n) [] x h = absurd h
 take_in (suc n) (y ∷ ys) x (inl e) = inl e

@@ -15,3 +15,4 @@ pub mod Placed
 pub mod Queries
 pub mod Numbers
 pub mod Turns
+pub mod Finds

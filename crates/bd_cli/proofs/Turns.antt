@@ -70,6 +70,12 @@ left_after (suc n) k (x ∷ xs) h =
 
 -- ---- the steps
 
+pub end_is : (b : Bool) (ps qs : List ℕ) → (IsTrue b ↔ (ps ≡ [])) → ps ≡ qs → b ≡ is_empty qs
+end_is true ps [] h is = refl
+end_is true ps (q ∷ qs) h is = absurd (let e = h.0 refl in cc)
+end_is false ps [] h is = h.1 is
+end_is false ps (q ∷ qs) h is = refl
+
 module _ (matches : Doc → Bool) (ds : List Doc) where
   abbrev all : List ℕ
   all = answer (each matches) ds
@@ -86,14 +92,8 @@ module _ (matches : Doc → Bool) (ds : List Doc) where
       let rises : From x (rest lower x all) = subst (From x) (sym (rest_is matches ds x)) (matching_from_place matches x (drop x ds)) in
       sym (rest_twice x (past x (take n (rest lower x all))) (past_above n x (rest lower x all) rises)) ∙ left_after n x (rest lower x all) rises
 
-  after_step : (x n : ℕ) (s : Step) → IsStep all x n s → rest lower s.after all ≡ drop n (rest lower x all)
+  pub after_step : (x n : ℕ) (s : Step) → IsStep all x n s → rest lower s.after all ≡ drop n (rest lower x all)
   after_step x n s h = ap (λ y. rest lower y all) (h.after ∙ ap (past x) h.places) ∙ next_rest n x
-
-  end_is : (b : Bool) (ps qs : List ℕ) → (IsTrue b ↔ (ps ≡ [])) → ps ≡ qs → b ≡ is_empty qs
-  end_is true ps [] h is = refl
-  end_is true ps (q ∷ qs) h is = absurd (let e = h.0 refl in cc)
-  end_is false ps [] h is = h.1 is
-  end_is false ps (q ∷ qs) h is = refl
 
   in_turn : (x : ℕ) (sizes : List ℕ) (steps : List Step) → InTurn all x sizes steps → GivesTheAnswer (rest lower x all) sizes steps
   in_turn x [] [] h = record { joined = refl; batched = refl }
@@ -115,7 +115,7 @@ module _ (matches : Doc → Bool) (ds : List Doc) where
       go true e h = rw (← e) refl
       go false e h = rw (← e) h
 
-  from_start : rest lower 0 all ≡ all
+  pub from_start : rest lower 0 all ≡ all
   from_start = rest_is matches ds 0 ∙ sym (answer_matching matches ds)
 
   pub steps_give : (sizes : List ℕ) (steps : List Step) → InTurn all 0 sizes steps → GivesTheAnswer all sizes steps

@@ -2,6 +2,7 @@ pub mod Answer
 pub mod AnswerLaws
 pub mod CommandLine
 pub mod Equality
+pub mod Found
 pub mod Plain
 pub mod QueryText
 pub mod Ran
@@ -10,3 +11,4 @@ pub mod Shown
 pub mod Stepped
 pub mod Text
 pub mod Walked
+pub mod Within
