@@ -16,3 +16,4 @@ pub mod Queries
 pub mod Numbers
 pub mod Turns
 pub mod Finds
+pub mod BatchSize

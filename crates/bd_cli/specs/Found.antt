@@ -1,5 +1,5 @@
 -- What `find` shows of a query and an input.
-use Rattle.std.specs.Prelude.{◌≡◌, ◌⊎◌, ◌^◌, ◌-◌, ℕ, ℤ, Bool, List, [], ◌++◌, length, take, drop, codes, decimal, Option, Some, None, Result, Ok, Err, slice_get, if◌then◌else◌}
+use Rattle.std.specs.Prelude.{◌≡◌, ◌⊎◌, ℕ, ℤ, Bool, List, [], ◌++◌, length, take, drop, codes, decimal, Option, Some, None, Result, Ok, Err, slice_get, if◌then◌else◌}
 use Rattle.std.specs.List.{filter_map}
 use Rattle.bd_value.specs.Tree.{Doc}
 use Rattle.bd_bson.specs.Fault.{Fault}
@@ -8,9 +8,7 @@ use Rattle.bd_bson.specs.declared.reading.ReadFault.{ReadFault}
 use Rattle.bd_cli.specs.Answer.{answer, each, is_empty}
 use Rattle.bd_cli.specs.Equality.{number_matches}
 use Rattle.bd_cli.specs.QueryText.{IsQuery, IsNoQuery}
-use Rattle.bd_cli.specs.Ran.{Ran, WasRead}
 use Rattle.bd_cli.specs.Shown.{Shown, lines, fault_text, read_words, shown_refusal}
-use Rattle.bd_cli.specs.declared.status.Status.{Status}
 use Rattle.bd_cli.specs.declared.status.Status.TheVariants.{Done}
 
 -- the first batch of an answer, and what it leaves; without a size it is the whole
@@ -52,14 +50,3 @@ abbrev pub IsFound : List ℕ → Option ℕ → Result (List ℕ) ReadFault →
 IsFound query size input shown =
     (IsNoQuery query × (shown ≡ shown_refusal (codes "query: byte 0: not in the profile")))
     ⊎ ((name : List ℕ) × (n : ℤ) × IsQuery query name n × IsFoundIn name n size input shown)
-
--- the reader was read as told for a query, and for another text it was left as it was
-abbrev pub WasReadFor : List ℕ → {R : Type 0} → (R → Option (List ℕ)) → (R → ℕ) → (R → ℕ) → R → R → Result (List ℕ) ReadFault → Type 0
-WasReadFor query left calls failures old new input =
-    (IsNoQuery query × (new ≡ old)) ⊎ ((name : List ℕ) × (n : ℤ) × IsQuery query name n × WasRead left calls failures old new input)
-
--- `find` showed what is to be shown of a query and an input
-abbrev pub Found : List ℕ → Option ℕ → {R O E : Type 0} → (R → Option (List ℕ)) → (R → ℕ) → (R → ℕ) → R → R → (O → Option (List ℕ)) → (O → ℕ) → O → O → (E → Option (List ℕ)) → (E → ℕ) → E → E → Status → Type 0
-Found query size left calls failures old new out_held out_failures out_old out_new err_held err_failures err_old err_new status =
-    (input : Result (List ℕ) ReadFault) × (shown : Shown) × WasReadFor query left calls failures old new input × IsFound query size input shown
-    × Ran out_held out_failures out_old out_new err_held err_failures err_old err_new shown status

@@ -5,8 +5,8 @@ ghost use Rattle.bd_bson.specs.Collection.{documents};
 ghost use Rattle.bd_bson.specs.Told.{fault_view};
 ghost use Rattle.bd_cli.specs.Answer.{answer, each};
 ghost use Rattle.bd_cli.specs.Equality.{number_matches};
-ghost use Rattle.bd_cli.specs.Found.{Found, IsFoundIn, found_line, shown_found};
-ghost use Rattle.bd_cli.specs.Ran.{Ran, Told};
+ghost use Rattle.bd_cli.specs.Found.{IsFoundIn, found_line, shown_found};
+ghost use Rattle.bd_cli.specs.Ran.{Found, Ran, Told};
 ghost use Rattle.bd_cli.specs.Shown.{Shown, error_line, fault_text};
 ghost use Rattle.bd_cli.specs.declared.status.Status.TheVariants.{Done, Failed};
 

@@ -9,6 +9,12 @@ use std::alloc::AllocError;
 pub enum Order {
     /// The documents of `file` as text; `-` is the standard input.
     Dump { file: String },
+    /// The documents of `file` that answer `query`, the first `batch` of them or all; `-` is the standard input.
+    Find {
+        file: String,
+        query: String,
+        batch: Option<u32>,
+    },
 }
 
 /// Why a line was not taken.
