@@ -17,3 +17,4 @@ pub mod Numbers
 pub mod Turns
 pub mod Finds
 pub mod BatchSize
+pub mod FoundOnce

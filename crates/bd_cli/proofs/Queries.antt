@@ -1,5 +1,5 @@
 -- The text of a query, step by step.
-use Rattle.std.proofs.Common.{◌≡◌, ◌≢◌, ◌<◌, ◌+◌, ◌^◌, ◌⊎◌, ℕ, ℤ, pos, negsuc, Bool, true, false, zero, suc, List, [], ◌∷◌, ◌++◌, length, take, drop, get_or, Option, Some, None, Result, Ok, Err, inl, inr, refl, sym, ap, ◌∙◌, subst, append_assoc, arith, codes, FitsSigned, true≢false, ap₂}
+use Rattle.std.proofs.Common.{◌≡◌, ◌≢◌, ◌<◌, ◌+◌, ◌^◌, ◌⊎◌, ℕ, ℤ, pos, negsuc, Bool, true, false, zero, suc, List, [], ◌∷◌, ◌++◌, length, take, drop, get_or, Option, Some, None, Result, Ok, Err, inl, inr, refl, sym, ap, ◌∙◌, subst, append_assoc, arith, codes, FitsSigned, true≢false, ap₂, lit<}
 use Rattle.std.specs.Prelude.{IsTrue, IfNone, ◌&&◌, ◌==◌}
 use Rattle.std.specs.Str.{bytes_eq}
 use Rattle.std.proofs.lemmas.Slice.Eq.{bytes_eq-Decides}
@@ -7,7 +7,7 @@ use Rattle.std.specs.List.{list_all}
 use Rattle.std.specs.Int.{w32}
 use Rattle.std.specs.Fmt.{signed_decimal}
 use Rattle.std.specs.Str.Parse.{ParsesSigned, signed_digits_value}
-use Rattle.std.proofs.lemmas.Fmt.{parse-signed_decimal}
+use Rattle.std.proofs.lemmas.Fmt.{parse-signed_decimal, signed_decimal_injective}
 use Rattle.std.proofs.lemmas.List.{take_at, length-append, get_or_at}
 use lib.Signed.{mag}
 use Rattle.bd_cli.specs.QueryText.{is_letter, is_name, IsNumber, IsQuery, IsNoQuery}
@@ -155,3 +155,28 @@ parted text a b inside name rest e f g h = record { inside = inside; braces = cl
 pub if_none : {X : Type 0} (r : Option X) (P : Type 0) → P → IfNone r P
 if_none None P p = p
 if_none (Some x) P p = tt
+
+-- ---- a text is one query at most
+
+minus_zero : ParsesSigned {E = ℕ} w32 10 (codes "-0") (Ok (pos 0))
+minus_zero = (((lit< tt, (lit< tt, tt)), record { sfits = lit< tt }), refl)
+
+not_minus_zero : (m : ℤ) → FitsSigned w32 m → codes "-0" ≡ signed_decimal m → m ≡ pos 0
+not_minus_zero m fits is =
+    let zero_read : Result ℤ ℕ = Ok (pos 0) in
+    let e : zero_read ≡ Ok m = parsed (codes "-0") zero_read m minus_zero fits is in
+    cc
+
+number_once : (digits : List ℕ) (m n : ℤ) → IsNumber digits m → IsNumber digits n → m ≡ n
+number_once digits m n (fits, inl e) (fits_too, inl f) = signed_decimal_injective m n (small m fits) (small n fits_too) (sym e ∙ f)
+number_once digits m n (fits, inl e) (_, inr q) = not_minus_zero m fits (sym q.0 ∙ e) ∙ sym q.1
+number_once digits m n (_, inr p) (fits_too, inl f) = p.1 ∙ sym (not_minus_zero n fits_too (sym p.0 ∙ f))
+number_once digits m n (_, inr p) (_, inr q) = p.1 ∙ sym q.1
+
+pub query_once : (text a b : List ℕ) (m n : ℤ) → IsQuery text a m → IsQuery text b n → (a ≡ b) × (m ≡ n)
+query_once text a b m n p q =
+    let whole : 123 ∷ (34 ∷ (a ++ (34 ∷ (58 ∷ (p.digits ++ 125 ∷ []))))) ≡ 123 ∷ (34 ∷ (b ++ (34 ∷ (58 ∷ (q.digits ++ 125 ∷ []))))) = sym p.spelled ∙ q.spelled in
+    let e = same_front a b (58 ∷ (p.digits ++ 125 ∷ [])) (58 ∷ (q.digits ++ 125 ∷ [])) (no_quote a (name_letters a p.letters)) (no_quote b (name_letters b q.letters)) (cc) in
+    let rest = e.1 in
+    let same : p.digits ≡ q.digits = snoc_same p.digits q.digits 125 (cc) in
+    (e.0, number_once q.digits m n (subst (λ (v : List ℕ). IsNumber v m) same p.number) q.number)

@@ -1,12 +1,12 @@
 //! Reads the words of a line.
-ghost use Rattle.std.specs.Prelude.{◌≡◌, ◌⊎◌, IfErr, IfOk, IsErrOf, IsSome, IsTrue, List, None, Some, [], ◌∷◌, codes, false, true, string_bytes, ℕ};
-ghost use Rattle.clap.specs.Words.{app_of, first_of, found_of, kind_of, rows_of, rule_of, takes};
+ghost use Rattle.std.specs.Prelude.{◌≡◌, ◌⊎◌, IfErr, IfOk, IsErrOf, IsSome, IsTrue, List, None, Some, [], ◌∷◌, codes, false, true, ℕ};
+ghost use Rattle.clap.specs.Words.{app_of, found_of, kind_of, rows_of, rule_of, takes};
 ghost use Rattle.clap.specs.declared.builder.command.Command.TheViews.{out-Command as fields_of};
-ghost use Rattle.bd_cli.specs.CommandLine.{Orders, batch_rule, dump, fault_for, file_app, file_rule, find_app, find_ordered, query_rule, is_file_word, is_help_line, line_app, meant, order_of, ordered_by, told_as, words_of};
+ghost use Rattle.bd_cli.specs.CommandLine.{Orders, dump, fault_for, file_app, file_rule, is_file_word, is_help_line, line_app, meant, order_of, ordered_by, told_as, words_of};
 ghost use Rattle.bd_cli.specs.declared.order.WordsFault.TheVariants.{NoMemory};
 
+use crate::find_words::{find_command, find_order};
 use crate::order::{Order, WordsFault};
-use clap::builder::ValueParser;
 use clap::error::ErrorKind;
 use clap::{Arg, ArgAction, ArgMatches, Command, Error};
 use std::alloc::{AllocError, Global};
@@ -29,42 +29,12 @@ fn file_argument<'a>(alloc: Global) -> Arg<'a>
 }
 
 /// A command that takes a file and nothing else.
-fn of_file<'a>(alloc: Global, name: &'a str) -> Result<Command<'a>, AllocError>
+pub fn of_file<'a>(alloc: Global, name: &'a str) -> Result<Command<'a>, AllocError>
     ensures app { IfOk result (λ c. app_of c ≡ file_app name.entry.now) }
     ensures local { IfOk result (λ c. (fields_of c).has_globals ≡ false) }
 {
     let file = file_argument(alloc);
     Command::new(alloc, name).arg(file)
-}
-
-fn query_argument<'a>(alloc: Global) -> Arg<'a>
-    ensures rule { rule_of result ≡ query_rule }
-    ensures local { result.global ≡ false }
-{
-    Arg::new(alloc, "query")
-        .long("query")
-        .required(true)
-        .action(ArgAction::Set)
-}
-
-fn batch_argument<'a>(alloc: Global) -> Arg<'a>
-    ensures rule { rule_of result ≡ batch_rule }
-    ensures local { result.global ≡ false }
-{
-    Arg::new(alloc, "batch")
-        .long("batch")
-        .action(ArgAction::Set)
-        .value_parser(ValueParser::unsigned(0, 2_147_483_647))
-}
-
-/// The command `find`.
-fn find_command<'a>(alloc: Global) -> Result<Command<'a>, AllocError>
-    ensures app { IfOk result (λ c. app_of c ≡ find_app) }
-    ensures local { IfOk result (λ c. (fields_of c).has_globals ≡ false) }
-{
-    let query = query_argument(alloc);
-    let batch = batch_argument(alloc);
-    of_file(alloc, "find")?.arg(query)?.arg(batch)
 }
 
 /// The program's whole line.
@@ -96,25 +66,6 @@ fn begins_with_help(words: &[String]) -> bool
     ensures { result ≡ is_help_line (words_of words.now) }
 {
     words.first().is_some_and(|word| word.as_str() == "help")
-}
-
-/// The order of `find` over that file with these matches.
-fn find_order(
-    alloc: Global,
-    file: String,
-    matches: &ArgMatches<'_>,
-) -> Result<Order, WordsFault>
-    requires { IsSome (first_of (codes "query") (rows_of (found_of matches.now))) }
-    ensures order { IfOk result (λ o.
-        find_ordered (rows_of (found_of matches.now)) (string_bytes file) ≡ Some (meant o)) }
-    ensures fault { IfErr result (λ f. f ≡ NoMemory) }
-{
-    let Some(query) = matches.get_str("query") else {
-        unreachable!()
-    };
-    let query = String::from_str(alloc, query)?;
-    let batch = matches.get_one::<u32>("batch");
-    Ok(Order::Find { file, query, batch })
 }
 
 /// The order of the command `name` with these matches.

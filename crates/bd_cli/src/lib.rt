@@ -10,6 +10,7 @@ mod dump_command;
 mod dumping;
 mod equality;
 mod find_command;
+mod find_words;
 mod finding;
 mod found_documents;
 mod json_string;

@@ -8,7 +8,7 @@ use Rattle.clap.proofs.WalkLemmas.{first_value-rows, one_text-rows}
 use Rattle.std.specs.Prelude.{string_bytes}
 use Rattle.bd_cli.specs.CommandLine.{Ordered, find, batch_read}
 use Rattle.bd_cli.proofs.BatchSize.{batch_is}
-use Rattle.bd_cli.proofs.command_line.find_order.Goals as goal
+use Rattle.bd_cli.proofs.find_words.find_order.Goals as goal
 
 pub unreachable-requires : goal.unreachable-requires
 unreachable-requires c =
