@@ -25,15 +25,15 @@ fn reads_documents_in_turn(rt: HostRuntime) -> Result<(), Fail> {
 #[test]
 fn tells_the_first_fault(rt: HostRuntime) -> Result<(), Fail> {
     let alloc = rt.alloc();
-    // The second document has a double in `d`, the third no length.
+    // The second document has a string of length 0 in `s`, the third no length.
     let mut bytes = Vec::from_slice(alloc, ONE)?;
-    bytes.extend_from_slice(b"\x10\0\0\0\x01d\0\0\0\0\0\0\0\xf0\x3f\0\x05")?;
+    bytes.extend_from_slice(b"\x0c\0\0\0\x02s\0\0\0\0\0\0\x05")?;
     let Err(fault) = read_dump(alloc, bytes) else {
         return Err("a fault was wanted".into());
     };
-    assert_eq!(rt; fault.kind, FaultKind::Double);
+    assert_eq!(rt; fault.kind, FaultKind::BadStringLength);
     assert!(rt; fault.document == 1);
-    assert!(rt; fault.offset == 16);
+    assert!(rt; fault.offset == 19);
     let names = fault.path.len();
     assert!(rt; names == 1);
     let mut bytes = Vec::from_slice(alloc, ONE)?;

@@ -52,7 +52,8 @@ module _ (ds : List Doc) (ps : List ℕ) where
 module _ {W : Type 0} (held : W → Option (List ℕ)) (failures : W → ℕ) (old : W) where
   pub grown : (new : W) (pending more front longer piece : List ℕ) → Holds held failures old new pending front → more ≡ pending ++ piece → longer ≡ front ++ piece → Holds held failures old new more longer
   grown new pending more front longer piece h is grows = record {
-    written = h.written; wrote = h.wrote;
+    written = h.written;
+    wrote = h.wrote;
     together = ap (λ x. h.written ++ x) is ∙ sym (append_assoc h.written pending piece) ∙ ap (λ x. x ++ piece) h.together ∙ sym grows;
   }
 
@@ -139,9 +140,11 @@ module _ {O E : Type 0} (out_held : O → Option (List ℕ)) (out_failures : O �
   fault_shown name n size bytes fault le (inr (_, inl want)) other told = absurd (other want.kind)
   fault_shown name n size bytes fault le (inr (_, inr first)) other told =
       let words = fault_text (length first.before) (fault_view fault) in
-      let line : error_line (fault_text fault.document (fault_view fault)) ≡ error_line words = ap (λ k. error_line (fault_text k (fault_view fault))) first.document in
-      (shown_refusal words, (first.before, Some (fault_view fault), first.fails, refl),
-      refusal_shown words (subst (λ t. Told err_held err_failures err_old err_new t Failed status ⊎ Told err_held err_failures err_old err_new (error_line (codes "no memory")) Failed status) line told))
+      let line : error_line (fault_text fault.document (fault_view fault)) ≡ error_line words = ap (λ k. error_line (fault_text k (fault_view fault))) first.document in (
+        shown_refusal words,
+        (first.before, Some (fault_view fault), first.fails, refl),
+        refusal_shown words (subst (λ t. Told err_held err_failures err_old err_new t Failed status ⊎ Told err_held err_failures err_old err_new (error_line (codes "no memory")) Failed status) line told),
+      )
 
   pub starved_shown : (name : List ℕ) (n : ℤ) (size : Option ℕ) (bytes : List ℕ) → (ds : List Doc) × (end : Option Fault) × IsWalk ds end bytes → Told err_held err_failures err_old err_new (error_line (codes "no memory")) Failed status
       → (shown : Shown) × IsFoundIn name n size (Ok bytes) shown × Ran out_held out_failures out_old out_old err_held err_failures err_old err_new shown status

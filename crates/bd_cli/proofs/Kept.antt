@@ -89,8 +89,8 @@ pub insert_all_rises : {lt : ℕ → ℕ → Bool} → IsStrictOrder lt → (kep
 insert_all_rises {lt = lt} o kept [] a new up = up
 insert_all_rises {lt = lt} o kept (p ∷ ps) a new up =
     insert_all_rises o (insert lt p kept) ps a.1
-      (λ x h g. elim (insert_in lt p kept x h) [ inl e ↦ a.0 (subst (λ z. In z ps) e g) | inr e ↦ new x e (inr g) ])
-      (insert_rises o p kept (λ h. new p h (inl refl)) up)
+    (λ x h g. elim (insert_in lt p kept x h) [ inl e ↦ a.0 (subst (λ z. In z ps) e g) | inr e ↦ new x e (inr g) ])
+    (insert_rises o p kept (λ h. new p h (inl refl)) up)
 
 same_heads : {lt : ℕ → ℕ → Bool} → IsStrictOrder lt → (x y : ℕ) (xs ys : List ℕ) → Rises lt (x ∷ xs) → Rises lt (y ∷ ys) → In x (y ∷ ys) → In y (x ∷ xs) → x ≡ y
 same_heads o x y xs ys a b (inl e) h = e
@@ -105,8 +105,8 @@ same_rising o (x ∷ xs) [] a b f g = absurd (f x (inl refl))
 same_rising {lt = lt} o (x ∷ xs) (y ∷ ys) a b f g =
     let e = same_heads o x y xs ys a b (f x (inl refl)) (g y (inl refl)) in
     ap (λ z. z ∷ xs) e ∙ ap (λ zs. y ∷ zs) (same_rising o xs ys a.1 b.1
-        (λ p h. elim (f p (inr h)) [ inl k ↦ (let w : ⊥ = cc (o.irreflexive p, a.0 p h, e, k) in absurd w) | inr k ↦ k ])
-        (λ p h. elim (g p (inr h)) [ inl k ↦ (let w : ⊥ = cc (o.irreflexive p, b.0 p h, e, k) in absurd w) | inr k ↦ k ]))
+    (λ p h. elim (f p (inr h)) [ inl k ↦ (let w : ⊥ = cc (o.irreflexive p, a.0 p h, e, k) in absurd w) | inr k ↦ k ])
+    (λ p h. elim (g p (inr h)) [ inl k ↦ (let w : ⊥ = cc (o.irreflexive p, b.0 p h, e, k) in absurd w) | inr k ↦ k ]))
 
 -- by places in the list
 pub in_at : (xs : List ℕ) (i d : ℕ) → i < length xs → In (get_or xs i d) xs

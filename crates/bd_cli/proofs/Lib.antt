@@ -18,3 +18,4 @@ pub mod Turns
 pub mod Finds
 pub mod BatchSize
 pub mod FoundOnce
+pub mod FindTaken

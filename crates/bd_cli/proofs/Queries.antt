@@ -82,7 +82,9 @@ query_inside text inside name n e q =
 
 pub inside_query : (text inside name : List ℕ) (n : ℤ) → text ≡ 123 ∷ (34 ∷ (inside ++ 125 ∷ [])) → Inside inside name n → IsQuery text name n
 inside_query text inside name n e q = record {
-  digits = q.digits; letters = q.letters; number = q.number;
+  digits = q.digits;
+  letters = q.letters;
+  number = q.number;
   spelled = e ∙ ap (λ (v : List ℕ). 123 ∷ (34 ∷ (v ++ 125 ∷ []))) q.spelled ∙ ap (λ (v : List ℕ). 123 ∷ (34 ∷ v)) (sym (braced name q.digits));
 }
 

@@ -31,12 +31,11 @@ module _ {O E : Type 0} (out_held : O → Option (List ℕ)) (out_failures : O �
       → ((ds : List Doc) (end : Option Fault) → Counts walk ds end → Told err_held err_failures err_old err_new (walk_text (length ds) end) (walk_status end) status ⊎ Told err_held err_failures err_old err_new (error_line (codes "no memory")) Failed status)
       → Shows
   shows_walk walk (ds, end, is, counts, holds) told = (shown_walk ds end, (ds, end, is, refl), ran (told ds end counts))
-
     where
-    ran : Told err_held err_failures err_old err_new (walk_text (length ds) end) (walk_status end) status ⊎ Told err_held err_failures err_old err_new (error_line (codes "no memory")) Failed status
-        → Ran out_held out_failures out_old out_new err_held err_failures err_old err_new (shown_walk ds end) status
-    ran (inl t) = inl (inl (all_taken (lines ds) holds, t))
-    ran (inr t) = let w = all_taken (lines ds) holds in inr (((lines ds, [], sym (append-nil (lines ds)), w.0), w.1), t)
+      ran : Told err_held err_failures err_old err_new (walk_text (length ds) end) (walk_status end) status ⊎ Told err_held err_failures err_old err_new (error_line (codes "no memory")) Failed status
+          → Ran out_held out_failures out_old out_new err_held err_failures err_old err_new (shown_walk ds end) status
+      ran (inl t) = inl (inl (all_taken (lines ds) holds, t))
+      ran (inr t) = let w = all_taken (lines ds) holds in inr (((lines ds, [], sym (append-nil (lines ds)), w.0), w.1), t)
 
   pub shows_starved : Stops out_held out_failures out_old out_new bytes [] NoMemory → Told err_held err_failures err_old err_new (error_line (codes "no memory")) Failed status → Shows
   shows_starved (ds, end, is, front, rest, cut, holds) told =

@@ -51,7 +51,11 @@ pub record SoFar {W : Type 0} (held : W → Option (List ℕ)) (failures : W →
 module _ {W : Type 0} (held : W → Option (List ℕ)) (failures : W → ℕ) (old new : W) (bytes : List ℕ) where
   pub begins : (pending : List ℕ) → pending ≡ [] → SoFar held failures old old bytes pending 0 0
   begins pending is = record {
-    done = []; joined = refl; inside = omega arith; counted = refl; few = omega arith;
+    done = [];
+    joined = refl;
+    inside = omega arith;
+    counted = refl;
+    few = omega arith;
     holds = record { written = []; wrote = (Appends-nil (held old), refl); together = is };
   }
 
@@ -76,7 +80,8 @@ module _ {W : Type 0} (held : W → Option (List ℕ)) (failures : W → ℕ) (o
         counted = let c = s.counted in let a = length-append s.done (d ∷ []) in omega arith;
         few = let f = s.few in let n = next.3 in omega arith;
         holds = record {
-          written = h.written; wrote = h.wrote;
+          written = h.written;
+          wrote = h.wrote;
           together = ap (λ x. h.written ++ x) is ∙ sym (append_assoc h.written pending (text (doc (fields_of d)) ++ 10 ∷ [])) ∙ ap (λ x. x ++ (text (doc (fields_of d)) ++ 10 ∷ [])) h.together ∙ sym (lines_more s.done d);
         };
       }
@@ -107,9 +112,11 @@ module _ {W : Type 0} (held : W → Option (List ℕ)) (failures : W → ℕ) (o
   goes_whole pending at count fits s =
       let w = walk_on s.done (take at bytes) (drop at bytes) (IsBytes-drop at bytes fits) s.joined in
       record {
-        ds = s.done ++ w.more; end = w.end;
+        ds = s.done ++ w.more;
+        end = w.end;
         walk = subst (λ (x : List ℕ). IsWalk (s.done ++ w.more) w.end x) (take-append-drop at bytes) w.walk;
-        rest = lines w.more; cut = lines-append s.done w.more;
+        rest = lines w.more;
+        cut = lines-append s.done w.more;
       }
 
 flushed_text : (a b c : List ℕ) → a ++ b ≡ c → (a ++ b) ++ [] ≡ c
@@ -145,21 +152,24 @@ module _ {W : Type 0} (held : W → Option (List ℕ)) (failures : W → ℕ) (o
 
   pub flushed_on : (none : List ℕ) → SoFar held failures old mid bytes pending at count → Wrote held failures mid new pending → none ≡ [] → SoFar held failures old new bytes none at count
   flushed_on none s w is = record {
-    done = s.done; joined = s.joined; inside = s.inside; counted = s.counted; few = s.few;
+    done = s.done;
+    joined = s.joined;
+    inside = s.inside;
+    counted = s.counted;
+    few = s.few;
     holds = flushed held failures old mid new pending none (lines s.done) s.holds w is;
   }
 
   pub walks_failed : (fault : told.Fault) → SoFar held failures old new bytes pending at count → Tells count (frame_fault at (drop at bytes)) fault → ¬ (fault.kind ≡ kinds.NoMemory)
       → Walks held failures old new bytes pending (record { count = count; fault = Some fault })
   walks_failed fault s tells other = fails_as (frame_fault at (drop at bytes)) refl tells
-
     where
-    fails_as : (o : Option Fault) → frame_fault at (drop at bytes) ≡ o → Tells count o fault → Walks held failures old new bytes pending (record { count = count; fault = Some fault })
-    fails_as None is tells = absurd (other tells.kind)
-    fails_as (Some f) is (inl want) = absurd (other want.kind)
-    fails_as (Some f) is (inr h) =
-        let c = s.counted in
-        (s.done, Some f, failed held failures old new bytes pending at count f s is, record { count = c; fault = ap (λ (x : Fault). Some x) (sym h.same); number = h.document ∙ c }, s.holds)
+      fails_as : (o : Option Fault) → frame_fault at (drop at bytes) ≡ o → Tells count o fault → Walks held failures old new bytes pending (record { count = count; fault = Some fault })
+      fails_as None is tells = absurd (other tells.kind)
+      fails_as (Some f) is (inl want) = absurd (other want.kind)
+      fails_as (Some f) is (inr h) =
+          let c = s.counted in
+          (s.done, Some f, failed held failures old new bytes pending at count f s is, record { count = c; fault = ap (λ (x : Fault). Some x) (sym h.same); number = h.document ∙ c }, s.holds)
 
 -- ---- the last write
 

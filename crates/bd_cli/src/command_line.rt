@@ -2,7 +2,7 @@
 ghost use Rattle.std.specs.Prelude.{◌≡◌, ◌⊎◌, IfErr, IfOk, IsErrOf, IsSome, IsTrue, List, None, Some, [], ◌∷◌, codes, false, true, ℕ};
 ghost use Rattle.clap.specs.Words.{app_of, found_of, kind_of, rows_of, rule_of, takes};
 ghost use Rattle.clap.specs.declared.builder.command.Command.TheViews.{out-Command as fields_of};
-ghost use Rattle.bd_cli.specs.CommandLine.{Orders, dump, fault_for, file_app, file_rule, is_file_word, is_help_line, line_app, meant, order_of, ordered_by, told_as, words_of};
+ghost use Rattle.bd_cli.specs.CommandLine.{Orders, dump, fault_for, file_app, file_rule, find, is_file_word, is_help_line, line_app, meant, order_of, ordered_by, told_as, words_of};
 ghost use Rattle.bd_cli.specs.declared.order.WordsFault.TheVariants.{NoMemory};
 
 use crate::find_words::{find_command, find_order};
@@ -104,6 +104,10 @@ pub fn parse_words(alloc: Global, words: &[String]) -> Result<Order, WordsFault>
         → words_of words.now ≡ codes "dump" ∷ file ∷ [] → Orders result (dump file) }
     ensures escaped { (file : List ℕ)
         → words_of words.now ≡ codes "dump" ∷ codes "--" ∷ file ∷ [] → Orders result (dump file) }
+    // A query begins with a brace (123).
+    ensures find { (rest file : List ℕ)
+        → words_of words.now ≡ codes "find" ∷ codes "--query" ∷ (123 ∷ rest) ∷ codes "--" ∷ file ∷ []
+        → Orders result (find file (123 ∷ rest) None) }
     ensures help_word { IsTrue (is_help_line (words_of words.now)) → IsErrOf result WordsFault.Usage }
 {
     if begins_with_help(words) {

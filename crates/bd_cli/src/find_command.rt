@@ -29,7 +29,11 @@ fn text_of_step(alloc: Global, step: &Step) -> Result<Vec<u8>, NoMemory>
 {
     let mut text = Vec::new(alloc);
     write_number(step.places.len() as u64, &mut text)?;
-    let end: &[u8] = if step.end { b" documents, end\n" } else { b" documents, more\n" };
+    let end: &[u8] = if step.end {
+        b" documents, end\n"
+    } else {
+        b" documents, more\n"
+    };
     text.extend_from_slice(end)?;
     Ok(text)
 }

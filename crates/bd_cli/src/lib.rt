@@ -10,6 +10,8 @@ mod dump_command;
 mod dumping;
 mod equality;
 mod find_command;
+#[cfg(test)]
+mod find_tests;
 mod find_words;
 mod finding;
 mod found_documents;

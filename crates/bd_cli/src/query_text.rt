@@ -36,7 +36,11 @@ fn read_number(digits: &str) -> Option<i32>
     };
     // `parse` takes a plus and leading zeros too.
     let mut buffer = Buffer::new();
-    if buffer.format(n) == digits { Some(n) } else { None }
+    if buffer.format(n) == digits {
+        Some(n)
+    } else {
+        None
+    }
 }
 
 /// The name and the number of a query `{"NAME":N}`; none where the text is no such query. It takes no memory.

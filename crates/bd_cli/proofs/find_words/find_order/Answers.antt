@@ -24,5 +24,5 @@ returns-clause-order c =
     let query : first_of (codes "query") rows ≡ Some (string_bytes c.in_ok-query.query) = sym (c.in-Some.ensures ∙ first_value-rows found (codes "query")) ∙ ap (λ t. Some t) (sym c.in_ok-query.ensures.ok) in
     let text = one_text-rows found (codes "batch") in
     let batch : batch_read rows ≡ c.get_one-batch.result = batch_is ParseIntError (λ bs r. ParsesUnsigned 32 10 bs r × ExplainsUnsignedError 10 bs r × HasUnsignedDigitsIfOk bs r) (λ t r h. h.0) (one_of (codes "batch") rows) c.get_one-batch.result
-        (λ e. c.get_one-batch.ensures.none (text ∙ e)) (λ t e. c.get_one-batch.ensures.value t (text ∙ e)) in
+    (λ e. c.get_one-batch.ensures.none (text ∙ e)) (λ t e. c.get_one-batch.ensures.value t (text ∙ e)) in
     rw (query, batch) refl
