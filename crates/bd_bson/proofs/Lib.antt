@@ -1,6 +1,8 @@
 pub mod Again
+pub mod Collects
 pub mod Copies
 pub mod Devices
+pub mod Documents
 pub mod Dumps
 pub mod Loop
 pub mod Nested

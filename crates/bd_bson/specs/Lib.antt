@@ -10,3 +10,4 @@ pub mod Sound
 pub mod Spelling
 pub mod Told
 pub mod Unique
+pub mod Collection

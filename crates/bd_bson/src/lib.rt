@@ -2,9 +2,14 @@
 #![tactic(auto)]
 
 mod check;
+mod collecting;
+mod collection;
+#[cfg(test)]
+mod collection_tests;
 mod copy;
 #[cfg(test)]
 mod devices_tests;
+mod dump_laws;
 mod fault;
 mod input;
 mod laws;
@@ -19,6 +24,9 @@ mod tally;
 mod tests;
 
 pub use check::check_document;
+pub use collecting::read_dump;
+pub use collection::Dump;
+pub use dump_laws::dump_or_fault;
 pub use fault::{Fault, FaultKind};
 pub use input::{DeviceFault, Input, MemoryInput, SystemInput};
 pub use laws::{no_fault_where_spelled, spells_one_document, walks_in_one_way, walks_on};

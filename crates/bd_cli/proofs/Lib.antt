@@ -10,3 +10,12 @@ pub mod Steps
 pub mod Taken
 pub mod Told
 pub mod Walking
+pub mod Kept
+pub mod Placed
+pub mod Queries
+pub mod Numbers
+pub mod Turns
+pub mod Finds
+pub mod BatchSize
+pub mod FoundOnce
+pub mod FindTaken

@@ -23,7 +23,7 @@ use Rattle.clap.proofs.OnLiterals.{clap_on_literals}
 use Rattle.bd_cli.specs.declared.order.Order.{Order}
 use Rattle.bd_cli.specs.declared.order.WordsFault.{WordsFault}
 use Rattle.bd_cli.specs.declared.order.WordsFault.TheVariants.{NoMemory, Usage}
-use Rattle.bd_cli.specs.CommandLine.{Ordered, Orders, meant, dump, fault_for, file_app, told_as, is_file_word, is_help_line, line_app, order_of, ordered_by}
+use Rattle.bd_cli.specs.CommandLine.{Ordered, Orders, meant, batch_read, dump, fault_for, file_app, find as finds, find_app, find_ordered, told_as, is_file_word, is_help_line, line_app, order_of, ordered_by}
 use Rattle.bd_cli.proofs.Filled.{AllFilled, defaults-filled, fills, given_first, left_nil, right_nil, settled-filled, walk-filled}
 use Rattle.bd_cli.proofs.Told.{SameTold, same-fault}
 
@@ -93,9 +93,34 @@ dump_orders : HasOrders dump_shape
 dump_orders words e =
     some_mapped dump (first_of (codes "file") (rows_after dump_shape.rules [] words)) (file_there dump_shape words refl (λ rows c. file_given _ _ c) e)
 
+-- the command `find`: it has FILE and the query
+abbrev find_shape : Shape
+find_shape = built_leaf (inherited (on_top with_leaf_noted (on_top marked_built line_app)).top find_app.top)
+
+query_given : (file given rest : Bool) → check_kinds false false (not file || (not given || rest)) ≡ [] → given ≡ true
+query_given file true rest e = refl
+query_given true false rest e = absurd (refused MissingRequiredArgument e)
+query_given false false rest e = absurd (refused MissingRequiredArgument e)
+
+query_there : (words : List Text) → level_fault find_shape [] nothing_held words false [] ≡ [] → is_some (first_of (codes "query") (rows_after find_shape.rules [] words)) ≡ true
+query_there words e =
+    let rows = rows_after find_shape.rules [] words in
+    given_first (codes "query") rows (level_rows find_shape words refl e) (query_given _ _ _ (level_checks find_shape [] words false [] e).1)
+
+some_ordered : (file query : Option Text) (batch : Option ℕ) → is_some file ≡ true → is_some query ≡ true → is_some (option_and_then (λ f. option_map (λ q. finds f q batch) query) file) ≡ true
+some_ordered None query batch e f = let bad : ⊥ = cc in absurd bad
+some_ordered (Some x) None batch e f = let bad : ⊥ = cc in absurd bad
+some_ordered (Some x) (Some y) batch e f = refl
+
+find_orders : HasOrders find_shape
+find_orders words e =
+    let rows = rows_after find_shape.rules [] words in
+    some_ordered (first_of (codes "file") rows) (first_of (codes "query") rows) (batch_read rows)
+    (file_there find_shape words refl (λ rows c. file_given _ _ c) e) (query_there words e)
+
 commands_order : EachShape HasOrders (built line_app).subs
 unfolding EachShape
-commands_order = (dump_orders, tt)
+commands_order = (dump_orders, (find_orders, tt))
 
 -- words that have no fault have an order
 pub order_there : (words : List Text) → fault_of line_app words ≡ [] → is_some (order_of words) ≡ true
@@ -210,10 +235,12 @@ pair_read (Some p) name rows n r =
 
 -- a command without FILE has no order
 pub no_file : (name : Text) (rows : List Row) → first_of (codes "file") rows ≡ None → ordered_by name rows ≡ None
-no_file name rows e = elim (bytes_eq name (codes "dump")) as (λ b. (cond b (option_map dump (first_of (codes "file") rows)) None) ≡ None) [
-  | true ↦ ap (option_map dump) e
-  | false ↦ refl
-]
+no_file name rows e = go (bytes_eq name (codes "dump")) (bytes_eq name (codes "find"))
+  where
+    go : (a b : Bool) → cond a (option_map dump (first_of (codes "file") rows)) (cond b (option_and_then (find_ordered rows) (first_of (codes "file") rows)) None) ≡ None
+    go true b = ap (option_map dump) e
+    go false true = ap (option_and_then (find_ordered rows)) e
+    go false false = refl
 
 -- ---- the clauses of the parse, at the program's line
 

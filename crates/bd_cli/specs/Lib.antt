@@ -1,7 +1,14 @@
+pub mod Answer
+pub mod AnswerLaws
 pub mod CommandLine
+pub mod Equality
+pub mod Found
 pub mod Plain
+pub mod QueryText
 pub mod Ran
 pub mod Report
 pub mod Shown
+pub mod Stepped
 pub mod Text
 pub mod Walked
+pub mod Within

@@ -1,10 +1,12 @@
 -- How a run ended: what its devices gave and took.
-use Rattle.std.specs.Prelude.{◌≡◌, ◌≤◌, ◌<◌, ◌⊎◌, ℕ, List, length, codes, Option, IfSome, Result, Ok, Err}
+use Rattle.std.specs.Prelude.{◌≡◌, ◌≤◌, ◌<◌, ◌⊎◌, ℕ, List, length, codes, ℤ, Option, IfSome, Result, Ok, Err, string_bytes}
 use Rattle.std.specs.Io.KnownBytes.{Appends, IsAtEnd}
 use Rattle.bd_bson.specs.Counts.{after_more}
 use Rattle.bd_bson.specs.Devices.{AppendsFront, LosesAtLeast}
 use Rattle.bd_bson.specs.declared.reading.ReadFault.{ReadFault}
 use Rattle.bd_bson.specs.declared.reading.ReadFault.TheVariants as reads
+use Rattle.bd_cli.specs.Found.{IsFound}
+use Rattle.bd_cli.specs.QueryText.{IsQuery, IsNoQuery}
 use Rattle.bd_cli.specs.Shown.{Shown, IsShown, error_line}
 use Rattle.bd_cli.specs.declared.order.Order.{Order}
 use Rattle.bd_cli.specs.declared.order.Order.TheVariants as orders
@@ -59,7 +61,20 @@ Dumped left calls failures old new out_held out_failures out_old out_new err_hel
     (input : Result (List ℕ) ReadFault) × (shown : Shown) × WasRead left calls failures old new input × IsShown input shown
     × Ran out_held out_failures out_old out_new err_held err_failures err_old err_new shown status
 
+-- the reader was read as told for a query, and for another text it was left as it was
+abbrev pub WasReadFor : List ℕ → {R : Type 0} → (R → Option (List ℕ)) → (R → ℕ) → (R → ℕ) → R → R → Result (List ℕ) ReadFault → Type 0
+WasReadFor query left calls failures old new input =
+    (IsNoQuery query × (new ≡ old)) ⊎ ((name : List ℕ) × (n : ℤ) × IsQuery query name n × WasRead left calls failures old new input)
+
+-- `find` showed what is to be shown of a query and an input
+abbrev pub Found : List ℕ → Option ℕ → {R O E : Type 0} → (R → Option (List ℕ)) → (R → ℕ) → (R → ℕ) → R → R → (O → Option (List ℕ)) → (O → ℕ) → O → O → (E → Option (List ℕ)) → (E → ℕ) → E → E → Status → Type 0
+Found query size left calls failures old new out_held out_failures out_old out_new err_held err_failures err_old err_new status =
+    (input : Result (List ℕ) ReadFault) × (shown : Shown) × WasReadFor query left calls failures old new input × IsFound query size input shown
+    × Ran out_held out_failures out_old out_new err_held err_failures err_old err_new shown status
+
 -- the order was carried out
 abbrev pub Ordered : Order → {R O E : Type 0} → (R → Option (List ℕ)) → (R → ℕ) → (R → ℕ) → R → R → (O → Option (List ℕ)) → (O → ℕ) → O → O → (E → Option (List ℕ)) → (E → ℕ) → E → E → Status → Type 0
 Ordered (orders.Dump file) left calls failures old new out_held out_failures out_old out_new err_held err_failures err_old err_new status =
     Dumped left calls failures old new out_held out_failures out_old out_new err_held err_failures err_old err_new status
+Ordered (orders.Find file query size) left calls failures old new out_held out_failures out_old out_new err_held err_failures err_old err_new status =
+    Found (string_bytes query) size left calls failures old new out_held out_failures out_old out_new err_held err_failures err_old err_new status

@@ -2,9 +2,10 @@
 ghost use Rattle.std.specs.Prelude.{◌≡◌, ◌⊎◌, IfErr, IfOk, IsErrOf, IsSome, IsTrue, List, None, Some, [], ◌∷◌, codes, false, true, ℕ};
 ghost use Rattle.clap.specs.Words.{app_of, found_of, kind_of, rows_of, rule_of, takes};
 ghost use Rattle.clap.specs.declared.builder.command.Command.TheViews.{out-Command as fields_of};
-ghost use Rattle.bd_cli.specs.CommandLine.{Orders, dump, fault_for, file_app, file_rule, is_file_word, is_help_line, line_app, meant, order_of, ordered_by, told_as, words_of};
+ghost use Rattle.bd_cli.specs.CommandLine.{Orders, dump, fault_for, file_app, file_rule, find, is_file_word, is_help_line, line_app, meant, order_of, ordered_by, told_as, words_of};
 ghost use Rattle.bd_cli.specs.declared.order.WordsFault.TheVariants.{NoMemory};
 
+use crate::find_words::{find_command, find_order};
 use crate::order::{Order, WordsFault};
 use clap::error::ErrorKind;
 use clap::{Arg, ArgAction, ArgMatches, Command, Error};
@@ -28,7 +29,7 @@ fn file_argument<'a>(alloc: Global) -> Arg<'a>
 }
 
 /// A command that takes a file and nothing else.
-fn of_file<'a>(alloc: Global, name: &'a str) -> Result<Command<'a>, AllocError>
+pub fn of_file<'a>(alloc: Global, name: &'a str) -> Result<Command<'a>, AllocError>
     ensures app { IfOk result (λ c. app_of c ≡ file_app name.entry.now) }
     ensures local { IfOk result (λ c. (fields_of c).has_globals ≡ false) }
 {
@@ -42,11 +43,13 @@ fn line_command<'a>(alloc: Global) -> Result<Command<'a>, AllocError>
     ensures local { IfOk result (λ c. (fields_of c).has_globals ≡ false) }
 {
     let dump = of_file(alloc, "dump")?;
+    let find = find_command(alloc)?;
     Command::new(alloc, "bsonfind")
         .no_binary_name(true)
         .subcommand_required(true)
         .disable_help_subcommand(true)
-        .subcommand(dump)
+        .subcommand(dump)?
+        .subcommand(find)
 }
 
 fn fault_told(error: &Error) -> WordsFault
@@ -78,13 +81,14 @@ fn order_named(alloc: Global, name: &str, matches: &ArgMatches<'_>) -> Result<Or
     let file = String::from_str(alloc, file)?;
     match name {
         "dump" => Ok(Order::Dump { file }),
+        "find" => find_order(alloc, file, matches),
         _ => unreachable!(),
     }
 }
 
 /// The order of a line: its words without the program's name.
 ///
-/// `dump FILE` is taken. A file whose name looks like a flag stands behind `--`, as in `dump -- -x`.
+/// `dump FILE` is taken, and `find FILE --query Q` with or without `--batch N`, N from 0 to 2,147,483,647. A file whose name looks like a flag stands behind `--`, as in `dump -- -x`.
 ///
 /// # Errors
 ///
@@ -100,6 +104,10 @@ pub fn parse_words(alloc: Global, words: &[String]) -> Result<Order, WordsFault>
         → words_of words.now ≡ codes "dump" ∷ file ∷ [] → Orders result (dump file) }
     ensures escaped { (file : List ℕ)
         → words_of words.now ≡ codes "dump" ∷ codes "--" ∷ file ∷ [] → Orders result (dump file) }
+    // A query begins with a brace (123).
+    ensures find { (rest file : List ℕ)
+        → words_of words.now ≡ codes "find" ∷ codes "--query" ∷ (123 ∷ rest) ∷ codes "--" ∷ file ∷ []
+        → Orders result (find file (123 ∷ rest) None) }
     ensures help_word { IsTrue (is_help_line (words_of words.now)) → IsErrOf result WordsFault.Usage }
 {
     if begins_with_help(words) {

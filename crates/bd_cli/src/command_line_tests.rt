@@ -50,7 +50,7 @@ fn answers(rt: HostRuntime) -> Result<(), Fail> {
         let words = owned(alloc, line)?;
         let answer = parse_words(alloc, words.as_slice());
         let told = match &answer {
-            Ok(Order::Dump { file }) => Ok(file.as_str()),
+            Ok(Order::Dump { file } | Order::Find { file, .. }) => Ok(file.as_str()),
             Err(fault) => Err(*fault),
         };
         assert!(rt; told == wanted, "{line:?}: {answer:?}");

@@ -6,6 +6,7 @@ ghost use Rattle.bd_cli.specs.Report.{reported};
 
 use crate::command_line::USAGE;
 use crate::dump_command::dump;
+use crate::find_command::find;
 use crate::messages::{tell, tell_no_memory, tell_unwritten};
 use crate::order::{Order, WordsFault};
 use crate::status::Status;
@@ -32,6 +33,7 @@ pub fn run<F: Input, C: Input, O: Output, E: Output>(
     let _commands = commands;
     match order {
         Order::Dump { .. } => dump(alloc, file, out, err),
+        Order::Find { query, batch, .. } => find(alloc, query.as_str(), *batch, file, out, err),
     }
 }
 

@@ -16,7 +16,7 @@ use bd_value::NoMemory;
 use std::alloc::Global;
 
 /// What an input may be: bytes up to 4,294,967,295, in one read less than 4,294,967,297.
-const LIMITS: Limits = Limits {
+pub const LIMITS: Limits = Limits {
     bytes: 4_294_967_295,
     turns: 4_294_967_296,
 };
@@ -65,7 +65,7 @@ fn show<O: Output, E: Output>(alloc: Global, bytes: &[u8], out: &mut O, err: &mu
 }
 
 /// Tells why an input was not read whole. It takes no memory.
-fn tell_read_fault<E: Output>(fault: ReadFault, err: &mut E) -> Status
+pub fn tell_read_fault<E: Output>(fault: ReadFault, err: &mut E) -> Status
     ensures { Told E.held E.failures err.old err.new (error_line (read_words fault)) Failed result }
 {
     match fault {

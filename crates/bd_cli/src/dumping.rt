@@ -51,7 +51,7 @@ impl From<DeviceFault> for Stopped {
 }
 
 /// Lines are gathered until there are so many bytes of them, and then written by one call.
-const GATHERED: usize = 65_536;
+pub const GATHERED: usize = 65_536;
 
 /// The document at the place `at` of a dump, and the place behind it; none at the end.
 fn next_document(
@@ -74,7 +74,7 @@ fn next_document(
 }
 
 /// Appends the line of a document. `NoMemory` leaves `out` as it was.
-fn write_line(document: &Document, out: &mut Vec<u8>) -> Result<(), NoMemory>
+pub fn write_line(document: &Document, out: &mut Vec<u8>) -> Result<(), NoMemory>
     ensures ok { OnOk result (out.new.items ≡ out.old.items ++ (text (doc (fields_of (pairs document.now))) ++ 10 ∷ [])) }
     ensures err { OnErr result (out.new.items ≡ out.old.items) }
 {
@@ -89,14 +89,14 @@ fn write_line(document: &Document, out: &mut Vec<u8>) -> Result<(), NoMemory>
     }
 }
 
-fn is_want_of_memory(fault: &Fault) -> bool
+pub fn is_want_of_memory(fault: &Fault) -> bool
     ensures { IsTrue result ↔ (fault.now.kind ≡ kinds.NoMemory) }
 {
     matches!(fault.kind, FaultKind::NoMemory)
 }
 
 /// Writes the lines that were gathered.
-fn flush<O: Output>(pending: &mut Vec<u8>, out: &mut O) -> Result<(), DeviceFault>
+pub fn flush<O: Output>(pending: &mut Vec<u8>, out: &mut O) -> Result<(), DeviceFault>
     ensures ok { OnOk result (Wrote O.held O.failures out.old out.new pending.old.items × (pending.new.items ≡ [])) }
     ensures err { OnErr result (Broke O.held O.failures out.old out.new pending.old.items) }
 {

@@ -1,25 +1,38 @@
 //! The commands of `bsonfind`, over any devices.
 #![tactic(auto)]
 
+mod answer_laws;
 mod command_line;
 #[cfg(test)]
 mod command_line_tests;
 mod commands;
 mod dump_command;
 mod dumping;
+mod equality;
+mod find_command;
+#[cfg(test)]
+mod find_tests;
+mod find_words;
+mod finding;
+mod found_documents;
 mod json_string;
 mod laws;
 mod messages;
 mod order;
+mod query_text;
 #[cfg(test)]
 mod run_tests;
 mod status;
+mod stepping;
 mod text;
 #[cfg(test)]
 mod text_tests;
 
+pub use answer_laws::{answers_are_ordered, batches_are_the_first, steps_give_the_answer};
 pub use command_line::{USAGE, parse_words};
 pub use commands::{report, run};
+pub use finding::first_find;
 pub use laws::{shows_one_thing, text_determines_document};
 pub use order::{Order, WordsFault};
 pub use status::Status;
+pub use stepping::Step;

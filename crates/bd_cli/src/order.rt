@@ -8,7 +8,15 @@ use std::alloc::AllocError;
 #[derive(Debug, Drop)]
 pub enum Order {
     /// The documents of `file` as text; `-` is the standard input.
-    Dump { file: String },
+    Dump {
+        file: String,
+    },
+    /// The documents of `file` that answer `query`, the first `batch` of them or all; `-` is the standard input.
+    Find {
+        file: String,
+        query: String,
+        batch: Option<u32>,
+    },
 }
 
 /// Why a line was not taken.

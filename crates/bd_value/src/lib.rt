@@ -6,6 +6,7 @@
 
 mod document;
 mod kind;
+mod lookup;
 #[cfg(test)]
 mod tests;
 

@@ -25,5 +25,7 @@ fn keeps_pairs_in_their_order(rt: HostRuntime) -> Result<(), Fail> {
     let (name, value) = document.pair(3);
     assert_eq!(rt; name, "a");
     assert!(rt; matches!(value, Value::Array(_)));
+    assert!(rt; matches!(document.first("b"), Some(Value::Int32(-1))));
+    assert!(rt; document.first("c").is_none());
     Ok(())
 }

@@ -1,0 +1,11 @@
+use Rattle.std.proofs.Common.{◌≡◌, List, ℕ, subst}
+use Rattle.std.specs.Prelude.{string_bytes}
+use Rattle.bd_cli.specs.Ran.{Found}
+use Rattle.bd_cli.proofs.commands.run.Goals as goal
+use Rattle.bd_cli.proofs.commands.run.Goals.{in-Dump, in-Find}
+
+pub returns-clause-ran : goal.returns-clause-ran
+returns-clause-ran g c = elim c.match-order.branch [
+  | in-Dump w ↦ rw (w.in-Dump.is, w.file-is, w.out-is, w.err-is, w.result-is) w.dump.ensures
+  | in-Find w ↦ rw (w.in-Find.is, w.file-is, w.out-is, w.err-is, w.result-is) (rw w.as_str.ensures.value at w.find.ensures)
+]
