@@ -97,6 +97,20 @@ nested 200 >nested.bson
 (ulimit -s 1024 && run dump nested.bson)
 expect '200 levels in 1 MiB of stack' 0 "$(copies 199 '{"a":'){}$(copies 199 '}')" '1 objects found'
 
+run find "$people.bson" --query '{"age":30}'
+grep '^[^}]*},"name":"[^"]*","age":{"$numberInt":"30"}' "$people.jsonl" >thirty
+expect 'the people of 30' 0 @thirty "$(grep -c '' thirty) documents, end"
+
+run find "$people.bson" --query '{"age":30}' --batch 2
+head -n 2 thirty >two
+expect 'two people of 30' 0 @two '2 documents, more'
+
+run find - --query '{"a":1}' <int32.bson
+expect 'find in standard input' 0 "$int32" '1 documents, end'
+
+run find --query '{"a":-1}' -- ./-x
+expect 'find of nothing' 0 '' '0 documents, end'
+
 # Inputs that are refused.
 
 nested 201 >nested.bson
@@ -111,6 +125,15 @@ expect 'a double' 1 '' 'bsonfind: document 0, byte 4, path "": unknown type
 { cat int32.bson && printf '\005\000'; } | run dump -
 expect 'a second document cut short' 1 "$int32" 'bsonfind: document 1, byte 12, path "": length cut short
 1 objects found'
+
+{ cat int32.bson && printf '\005\000'; } | run find - --query '{"a":1}'
+expect 'find in a dump with a fault' 1 '' 'bsonfind: document 1, byte 12, path "": length cut short'
+
+run find int32.bson --query '{"a":1.5}'
+expect 'a query of another form' 1 '' 'bsonfind: query: byte 0: not in the profile'
+
+run find missing.bson --query '{"a":1.5}'
+expect 'a file that is not there, before its query' 1 '' 'bsonfind: cannot open missing.bson'
 
 # Devices that fail.
 
@@ -150,6 +173,12 @@ expect 'an unknown command' 2 '' "$usage"
 
 run dump -x
 expect 'an unknown flag' 2 '' "$usage"
+
+run find int32.bson
+expect 'find without a query' 2 '' "$usage"
+
+run find int32.bson --query '{"a":1}' --batch 2147483648
+expect 'a batch that is too large' 2 '' "$usage"
 
 run dump "$(printf '\377')"
 expect 'a word that is not UTF-8' 2 '' "$usage"
