@@ -1,7 +1,6 @@
 -- How a run ends.
-use Rattle.std.proofs.Common.{◌≡◌, ◌≤◌, ◌<◌, ℕ, List, [], ◌++◌, length, Option, Result, Ok, Err, IfSome, refl, sym, ap, ap₂, ◌∙◌, subst, append-nil, inl, inr}
-use Rattle.std.specs.Prelude.{◌⊎◌, codes, IsErrOf}
-use Rattle.std.specs.Io.KnownBytes.{Appends}
+use Rattle.std.proofs.Common.{◌≡◌, ◌<◌, ℕ, List, [], length, Option, Result, Ok, Err, IfSome, refl, sym, ap₂, ◌∙◌, subst, append-nil, inl, inr}
+use Rattle.std.specs.Prelude.{◌⊎◌, codes}
 use Rattle.std.proofs.KnownBytes.{Appends-nil}
 use Rattle.bd_value.specs.Tree.{Doc}
 use Rattle.bd_bson.specs.Fault.{Fault}
@@ -11,8 +10,8 @@ use Rattle.bd_bson.specs.declared.reading.ReadFault.{ReadFault}
 use Rattle.bd_bson.specs.declared.reading.ReadFault.TheVariants as reads
 use Rattle.bd_bson.proofs.Takes.{IsBytes}
 use Rattle.bd_bson.proofs.Dumps.{walk_once, walk_on}
-use Rattle.bd_cli.specs.Shown.{Shown, IsShown, lines, error_line, walk_text, walk_status, shown_walk, shown_refusal, read_words}
-use Rattle.bd_cli.specs.Ran.{WasRead, Wrote, WroteFront, Broke, Told, Ran}
+use Rattle.bd_cli.specs.Shown.{Shown, IsShown, lines, error_line, walk_text, walk_status, shown_walk, shown_refusal}
+use Rattle.bd_cli.specs.Ran.{WasRead, Wrote, Told, Ran}
 use Rattle.bd_cli.specs.Walked.{Holds, Walks, Stops, Counts}
 use Rattle.bd_cli.specs.declared.dumping.Walk.{Walk}
 use Rattle.bd_cli.specs.declared.dumping.Stopped.TheVariants.{NoMemory, Unwritten}

@@ -1,13 +1,11 @@
 -- The walk over a dump, step by step.
-use Rattle.std.proofs.Common.{◌≡◌, ◌≤◌, ℕ, ◌+◌, ◌-◌, ◌*◌, List, [], ◌∷◌, ◌++◌, length, take, drop, Option, Some, None, refl, sym, ap, ◌∙◌, subst, append_assoc, append-nil, arith, inl, inr}
+use Rattle.std.proofs.Common.{◌≡◌, ◌≤◌, ℕ, ◌+◌, ◌*◌, List, [], ◌∷◌, ◌++◌, length, take, drop, Option, Some, None, refl, sym, ap, ◌∙◌, subst, append_assoc, append-nil, arith, inl, inr}
 use Rattle.std.proofs.lemmas.List.{take-append-drop, drop-drop, length-drop, length-take, length-append, take_at}
 use Rattle.std.proofs.KnownBytes.{Appends-trans, Appends-nil}
-use Rattle.std.specs.Io.KnownBytes.{Appends}
 use Rattle.bd_value.specs.Tree.{Doc, doc, fields_of}
 use Rattle.bd_bson.specs.Fault.{Fault}
 use Rattle.bd_bson.specs.Spelling.{IsDocument}
 use Rattle.bd_bson.specs.Counts.{after_more}
-use Rattle.bd_bson.specs.Devices.{AppendsFront}
 use Rattle.bd_bson.specs.Dump.{AreJoined, IsWalk, frame_fault}
 use Rattle.bd_bson.proofs.Takes.{IsBytes, IsBytes-drop}
 use Rattle.bd_bson.proofs.Dumps.{joined_append, joined_one, document_frame, frame_inside, walk_on}

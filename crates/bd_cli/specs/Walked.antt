@@ -1,5 +1,5 @@
 -- The walk over a dump, which gathers the documents' lines.
-use Rattle.std.specs.Prelude.{◌≡◌, ◌≤◌, ◌+◌, ℕ, List, [], ◌++◌, length, take, drop, Option, Some, None, option_map, IfSome}
+use Rattle.std.specs.Prelude.{◌≡◌, ◌≤◌, ◌+◌, ℕ, List, [], ◌++◌, length, drop, Option, Some, None, option_map, IfSome}
 use Rattle.bd_value.specs.Tree.{Doc}
 use Rattle.bd_value.specs.View.{pairs}
 use Rattle.bd_value.specs.declared.document.Document.{Document}

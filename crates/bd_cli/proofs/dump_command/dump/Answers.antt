@@ -1,4 +1,4 @@
-use Rattle.std.proofs.Common.{◌≡◌, ◌≤◌, List, ℕ, length, Ok, Err, refl, ap, subst, arith}
+use Rattle.std.proofs.Common.{◌≤◌, List, ℕ, length, Ok, Err, refl, ap, subst, arith}
 use Rattle.bd_cli.specs.Shown.{IsShown, shown_refusal, read_words}
 use Rattle.bd_cli.proofs.Runs as runs
 use Rattle.bd_cli.proofs.dump_command.dump.Goals as goal
