@@ -1,7 +1,7 @@
 -- The lines of documents that were found, and the ends of a run of `find`.
-use Rattle.std.proofs.Common.{◌≡◌, ◌≤◌, ◌<◌, ◌+◌, ◌-◌, ◌^◌, ℕ, ℤ, List, [], ◌∷◌, ◌++◌, length, get_or, take, drop, Option, Some, None, refl, sym, ap, ◌∙◌, subst, append_assoc, append-nil, arith, inl, inr, zero, suc, Bool, true, false, cond, ◌⊎◌, codes, Ok}
+use Rattle.std.proofs.Common.{◌≡◌, ◌≤◌, ◌<◌, ◌+◌, ◌-◌, ℕ, ℤ, List, [], ◌∷◌, ◌++◌, length, get_or, take, drop, Option, Some, None, refl, sym, ap, ◌∙◌, subst, append_assoc, append-nil, arith, inl, inr, zero, suc, Bool, true, false, cond, ◌⊎◌, codes, Ok}
 use Rattle.std.specs.Prelude.{slice_get, MatchOption}
-use Rattle.std.specs.List.{filter_map, All}
+use Rattle.std.specs.List.{All}
 use Rattle.std.proofs.lemmas.List.{take-append-drop, take_more, take_all, drop_all}
 use Rattle.std.proofs.lemmas.List.Elements.{filter_map-append}
 use Rattle.bd_value.specs.Tree.{Doc, doc, fields_of}
@@ -23,9 +23,9 @@ use Rattle.bd_cli.specs.Found.{documents_at, first_batch, left_over, IsFoundIn, 
 use Rattle.bd_cli.proofs.Kept.{In, in_at, take_in}
 use Rattle.bd_cli.proofs.Placed.{answer_matching, matching_in}
 use Rattle.bd_cli.proofs.Turns.{after_step, end_is, from_start}
-use Rattle.bd_cli.specs.Ran.{Wrote, WroteFront, Broke, Told, Ran}
+use Rattle.bd_cli.specs.Ran.{Wrote, WroteFront, Told, Ran}
 use Rattle.bd_cli.specs.Walked.{Holds}
-use Rattle.bd_cli.proofs.Walking.{lines-append, flushed, broken}
+use Rattle.bd_cli.proofs.Walking.{lines-append, flushed}
 
 -- the lines of the documents at the first places
 abbrev pub lines_to : List Doc → List ℕ → ℕ → List ℕ

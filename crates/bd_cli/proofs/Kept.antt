@@ -1,5 +1,5 @@
 -- Lists of places that are kept by a strict order.
-use Rattle.std.proofs.Common.{◌≡◌, ◌+◌, ◌<◌, ℕ, Bool, true, false, cond, List, [], ◌∷◌, length, get_or, take, drop, inl, inr, refl, sym, ap, ◌∙◌, subst, ◌⊎◌, filter, arith, zero, suc}
+use Rattle.std.proofs.Common.{◌≡◌, ◌<◌, ℕ, Bool, true, false, cond, List, [], ◌∷◌, length, get_or, take, drop, inl, inr, refl, sym, ap, ◌∙◌, subst, ◌⊎◌, filter, arith, zero, suc}
 use Rattle.std.specs.Prelude.{Contains}
 use Rattle.bd_cli.specs.Answer.{insert, insert_all}
 use Rattle.bd_cli.specs.AnswerLaws.{IsStrictOrder, IsAscending}

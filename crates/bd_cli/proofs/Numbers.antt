@@ -1,8 +1,7 @@
 -- Going down the elements of an array in search of a number.
-use Rattle.std.proofs.Common.{◌≡◌, ◌+◌, ◌<◌, ◌≤◌, ◌||◌, ℕ, ℤ, Bool, true, false, List, ◌∷◌, length, map, get_or, drop, refl, sym, ap, ◌∙◌, arith}
-use Rattle.std.specs.Prelude.{slice_get, Some}
+use Rattle.std.proofs.Common.{◌≡◌, ◌+◌, ◌<◌, ◌≤◌, ◌||◌, ℕ, ℤ, Bool, true, false, List, length, map, get_or, drop, sym, ap, ◌∙◌, arith}
 use Rattle.std.proofs.lemmas.List.{drop_all, length-map}
-use Rattle.bd_value.specs.Tree.{Tree, items_of}
+use Rattle.bd_value.specs.Tree.{items_of}
 use Rattle.bd_value.specs.View.{tree_of}
 use Rattle.bd_value.specs.declared.document.Value.{Value}
 use Rattle.bd_value.proofs.Views.{next_at, tree_at}

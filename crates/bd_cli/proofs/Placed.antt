@@ -1,5 +1,5 @@
 -- The places of the documents that match, in the order of the places.
-use Rattle.std.proofs.Common.{◌≡◌, ◌+◌, ◌-◌, ◌<◌, ◌≤◌, ℕ, Bool, true, false, not, cond, List, [], ◌∷◌, ◌++◌, length, take, drop, Option, Some, None, inl, inr, refl, sym, ap, ◌∙◌, subst, ◌⊎◌, filter, arith, zero, suc, append_assoc, zero-add, ◌==◌, ◌↔◌}
+use Rattle.std.proofs.Common.{◌≡◌, ◌+◌, ◌-◌, ◌<◌, ◌≤◌, ℕ, Bool, true, false, not, cond, List, [], ◌∷◌, ◌++◌, length, take, drop, Some, inl, inr, refl, sym, ap, ◌∙◌, subst, filter, arith, zero, suc, append_assoc, zero-add, ◌==◌, ◌↔◌}
 use Rattle.std.specs.Prelude.{slice_get, Contains}
 use Rattle.std.proofs.lemmas.Bool.{cases_lt, lt-ltb, le-ltb, ltb-true, ltb-false}
 use Rattle.std.proofs.lemmas.List.{drop_all, take_at, take_all, length-append, append-nil}
@@ -9,7 +9,7 @@ use Rattle.bd_cli.specs.Answer.{Request, matching, insert_all, ordered, limited,
 use Rattle.bd_cli.specs.AnswerLaws.{IsStrictOrder, IsMatch}
 use Rattle.bd_cli.specs.Stepped.{IsStep, past}
 use Rattle.bd_cli.specs.declared.stepping.Step.{Step}
-use Rattle.bd_cli.proofs.Kept.{In, Rises, Apart, filter_all, filter_twice, in_insert_all, insert_all_in, insert_all_rises, same_rising, take_rises, drop_rises, contains_in, in_contains}
+use Rattle.bd_cli.proofs.Kept.{In, Rises, Apart, filter_all, in_insert_all, insert_all_in, insert_all_rises, same_rising, take_rises, drop_rises, contains_in, in_contains}
 
 -- ---- the matches
 

@@ -1,10 +1,10 @@
 -- Steps in turn give the answer.
-use Rattle.std.proofs.Common.{◌≡◌, ◌+◌, ◌-◌, ◌<◌, ◌≤◌, ◌==◌, ℕ, Bool, true, false, not, cond, List, [], ◌∷◌, ◌++◌, length, map, take, drop, refl, sym, ap, ap₂, ◌∙◌, subst, filter, arith, zero, suc, sum, add-zero}
+use Rattle.std.proofs.Common.{◌≡◌, ◌+◌, ◌<◌, ◌≤◌, ℕ, Bool, true, false, not, cond, List, [], ◌∷◌, ◌++◌, length, map, take, drop, refl, sym, ap, ap₂, ◌∙◌, subst, filter, arith, zero, suc, sum}
 use Rattle.std.specs.Prelude.{IsTrue, ◌↔◌}
 use Rattle.std.specs.List.{concat}
 use Rattle.std.proofs.lemmas.Bool.{lt-ltb, le-ltb}
 use Rattle.std.proofs.lemmas.Bool.Decides.{nat_tests}
-use Rattle.std.proofs.lemmas.List.{take_all, append-nil, length-drop, drop_all}
+use Rattle.std.proofs.lemmas.List.{take_all, append-nil, length-drop}
 use Rattle.std.proofs.lemmas.List.Sums.{sum_by-cons}
 use Rattle.std.proofs.Math.Seq.{take-add}
 use Rattle.bd_value.specs.Tree.{Doc}
@@ -12,7 +12,7 @@ use Rattle.bd_cli.specs.Answer.{matching, answer, each, lower, rest, is_empty, b
 use Rattle.bd_cli.specs.AnswerLaws.{GivesTheAnswer}
 use Rattle.bd_cli.specs.Stepped.{IsStep, InTurn, until_end, places_of, past}
 use Rattle.bd_cli.specs.declared.stepping.Step.{Step}
-use Rattle.bd_cli.proofs.Kept.{filter_all, filter_twice}
+use Rattle.bd_cli.proofs.Kept.{filter_twice}
 use Rattle.bd_cli.proofs.Placed.{answer_matching, is_from, rest_is}
 
 -- ---- batches

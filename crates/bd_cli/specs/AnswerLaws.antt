@@ -1,5 +1,5 @@
 -- What the laws of answers say.
-use Rattle.std.specs.Prelude.{◌≡◌, ◌↔◌, ℕ, Bool, true, false, List, sum, take, map, slice_get, Option, Some, Contains}
+use Rattle.std.specs.Prelude.{◌≡◌, ◌↔◌, ℕ, Bool, true, false, List, sum, take, map, slice_get, Some, Contains}
 use Rattle.std.specs.List.{AllPairs, concat}
 use Rattle.bd_value.specs.Tree.{Doc}
 use Rattle.bd_cli.specs.Answer.{Request, ordered, answer, each, batches}

@@ -1,5 +1,5 @@
 -- The steps in which an answer in the order of the places is given.
-use Rattle.std.specs.Prelude.{◌≡◌, ◌↔◌, ℕ, ◌+◌, Bool, IsTrue, List, [], ◌∷◌, take, map, if◌then◌else◌}
+use Rattle.std.specs.Prelude.{◌≡◌, ◌↔◌, ℕ, ◌+◌, IsTrue, List, [], ◌∷◌, take, if◌then◌else◌}
 use Rattle.bd_cli.specs.Answer.{lower, rest}
 use Rattle.bd_cli.specs.declared.stepping.Step.{Step}
 

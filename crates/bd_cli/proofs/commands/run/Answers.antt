@@ -1,6 +1,3 @@
-use Rattle.std.proofs.Common.{◌≡◌, List, ℕ, subst}
-use Rattle.std.specs.Prelude.{string_bytes}
-use Rattle.bd_cli.specs.Ran.{Found}
 use Rattle.bd_cli.proofs.commands.run.Goals as goal
 use Rattle.bd_cli.proofs.commands.run.Goals.{in-Dump, in-Find}
 

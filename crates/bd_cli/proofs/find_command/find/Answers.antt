@@ -1,4 +1,4 @@
-use Rattle.std.proofs.Common.{◌≡◌, ◌≤◌, Ok, Err, [], refl, inl, inr, length, ap, List, ℕ, arith, codes}
+use Rattle.std.proofs.Common.{◌≤◌, Ok, Err, [], refl, inl, inr, length, arith, codes}
 use Rattle.std.specs.Int.{w32}
 use Rattle.std.proofs.lemmas.Int.{to_z-of_z}
 use Rattle.bd_cli.specs.Shown.{shown_refusal, read_words}

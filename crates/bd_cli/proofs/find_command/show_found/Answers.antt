@@ -1,14 +1,13 @@
-use Rattle.std.proofs.Common.{◌≡◌, ◌≤◌, ◌∙◌, ℕ, List, length, ap, ap₂, sym, subst, inl, inr, arith}
+use Rattle.std.proofs.Common.{◌≡◌, ◌≤◌, ◌∙◌, ℕ, List, length, subst, inl, inr, arith}
 use Rattle.std.specs.Int.{w32}
 use Rattle.std.proofs.lemmas.Int.{to_z-of_z}
 use Rattle.bd_bson.specs.Collection.{documents}
 use Rattle.bd_bson.proofs.Documents.{documents_length}
-use Rattle.bd_cli.specs.Answer.{answer, each, is_empty}
+use Rattle.bd_cli.specs.Answer.{answer, each}
 use Rattle.bd_cli.specs.Equality.{number_matches}
-use Rattle.bd_cli.specs.Found.{shown_found, first_batch, left_over, found_line, documents_at}
-use Rattle.bd_cli.specs.Ran.{Wrote, Broke, WroteFront, Told}
+use Rattle.bd_cli.specs.Found.{shown_found, first_batch, documents_at}
+use Rattle.bd_cli.specs.Ran.{Wrote, Broke, WroteFront}
 use Rattle.bd_cli.specs.Shown.{lines}
-use Rattle.bd_cli.specs.declared.status.Status.TheVariants.{Done}
 use Rattle.bd_cli.proofs.Finds as finds
 use Rattle.bd_cli.proofs.find_command.show_found.Goals as goal
 

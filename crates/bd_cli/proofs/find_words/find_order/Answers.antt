@@ -2,11 +2,11 @@ use Rattle.std.proofs.Common.{ap, sym, subst, ◌≡◌, ◌∙◌, true, true�
 use Rattle.std.specs.Prelude.{is_some}
 use Rattle.std.specs.Str.Parse.{ParsesUnsigned, ExplainsUnsignedError, HasUnsignedDigitsIfOk}
 use Rattle.std.specs.declared.num.ParseIntError.{ParseIntError}
-use Rattle.clap.specs.Words.{first_of, found_of, rows_of, one_text}
+use Rattle.clap.specs.Words.{first_of, found_of, rows_of}
 use Rattle.clap.specs.Walk.{one_of}
 use Rattle.clap.proofs.WalkLemmas.{first_value-rows, one_text-rows}
 use Rattle.std.specs.Prelude.{string_bytes}
-use Rattle.bd_cli.specs.CommandLine.{Ordered, find, batch_read}
+use Rattle.bd_cli.specs.CommandLine.{batch_read}
 use Rattle.bd_cli.proofs.BatchSize.{batch_is}
 use Rattle.bd_cli.proofs.find_words.find_order.Goals as goal
 

@@ -1,4 +1,4 @@
-use Rattle.std.proofs.Common.{◌∙◌, sym, ap}
+use Rattle.std.proofs.Common.{◌∙◌, ap}
 use Rattle.std.specs.List.{list_all}
 use Rattle.bd_cli.specs.QueryText.{is_letter}
 use Rattle.bd_cli.proofs.Queries.{name_is}
