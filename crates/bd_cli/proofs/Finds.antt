@@ -16,8 +16,8 @@ use Rattle.bd_bson.specs.Dump.{IsWalk}
 use Rattle.bd_cli.specs.Shown.{Shown, lines, error_line, fault_text, shown_refusal}
 use Rattle.bd_cli.specs.declared.status.Status.{Status}
 use Rattle.bd_cli.specs.declared.status.Status.TheVariants.{Failed}
-use Rattle.bd_cli.specs.Answer.{matching, answer, each, lower, rest, is_empty}
-use Rattle.bd_cli.specs.Stepped.{IsStep}
+use Rattle.bd_cli.specs.Answer.{matching, answer, each, is_empty}
+use Rattle.bd_cli.specs.Stepped.{ahead, IsStep}
 use Rattle.bd_cli.specs.declared.stepping.Step.{Step}
 use Rattle.bd_cli.specs.Found.{documents_at, first_batch, left_over, IsFoundIn, shown_find}
 use Rattle.bd_cli.proofs.Kept.{In, in_at, take_in}
@@ -96,7 +96,7 @@ module _ (matches : Doc → Bool) (ds : List Doc) (few : length ds ≤ 429496729
   places_taken = is.places ∙ ap (take most) (from_start matches ds)
 
   end_taken : step.end ≡ is_empty (drop most all)
-  end_taken = end_is step.end (rest lower step.after all) (drop most all) is.end (after_step matches ds 0 most step is ∙ ap (drop most) (from_start matches ds))
+  end_taken = end_is step.end (ahead step.after all) (drop most all) is.end (after_step matches ds 0 most step is ∙ ap (drop most) (from_start matches ds))
 
   pub places_are : (size : Option ℕ) → IsMost size most → step.places.items ≡ first_batch size all
   places_are None m = places_taken ∙ take_all most all (omega (arith, short))

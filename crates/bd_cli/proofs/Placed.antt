@@ -1,5 +1,5 @@
 -- The places of the documents that match, in the order of the places.
-use Rattle.std.proofs.Common.{◌≡◌, ◌+◌, ◌-◌, ◌<◌, ◌≤◌, ℕ, Bool, true, false, not, cond, List, [], ◌∷◌, ◌++◌, length, take, drop, Some, inl, inr, refl, sym, ap, ◌∙◌, subst, filter, arith, zero, suc, append_assoc, zero-add, ◌==◌, ◌↔◌}
+use Rattle.std.proofs.Common.{◌≡◌, ◌+◌, ◌-◌, ◌<◌, ◌≤◌, ℕ, Bool, true, false, not, cond, List, [], ◌∷◌, ◌++◌, length, take, drop, Some, inl, inr, refl, sym, ap, ap₂, ◌∙◌, subst, filter, arith, zero, suc, append_assoc, zero-add, ◌==◌, ◌↔◌}
 use Rattle.std.specs.Prelude.{slice_get, Contains}
 use Rattle.std.proofs.lemmas.Bool.{cases_lt, lt-ltb, le-ltb, ltb-true, ltb-false}
 use Rattle.std.proofs.lemmas.List.{drop_all, take_at, take_all, length-append, append-nil}
@@ -7,7 +7,7 @@ use Rattle.bd_value.specs.Tree.{Doc}
 use Rattle.bd_value.proofs.Views.{next_at}
 use Rattle.bd_cli.specs.Answer.{Request, matching, insert_all, ordered, limited, answer, each, lower, rest}
 use Rattle.bd_cli.specs.AnswerLaws.{IsStrictOrder, IsMatch}
-use Rattle.bd_cli.specs.Stepped.{IsStep, past}
+use Rattle.bd_cli.specs.Stepped.{IsStep, past, ahead}
 use Rattle.bd_cli.specs.declared.stepping.Step.{Step}
 use Rattle.bd_cli.proofs.Kept.{In, Rises, Apart, filter_all, in_insert_all, insert_all_in, insert_all_rises, same_rising, take_rises, drop_rises, contains_in, in_contains}
 
@@ -112,11 +112,25 @@ module _ (matches : Doc → Bool) (from : ℕ) where
     | inr ge ↦ whole_rest k (d ∷ ds) (omega arith)
   ]
 
-pub rest_is : (matches : Doc → Bool) (ds : List Doc) (from : ℕ) → rest lower from (answer (each matches) ds) ≡ matching_from matches ds from
-unfolding rest
+same_filter : (f g : ℕ → Bool) (ps : List ℕ) → ((p : ℕ) → f p ≡ g p) → filter f ps ≡ filter g ps
+same_filter f g [] h = refl
+same_filter f g (p ∷ ps) h = ap₂ (λ (b : Bool) (qs : List ℕ). cond b (p ∷ qs) qs) (h p) (same_filter f g ps h)
+
+after_is : (p q : ℕ) → lower p q ≡ is_from (suc p) q
+after_is p q = elim (cases_lt p q) [
+  | inl lt ↦ lt-ltb p q lt ∙ sym (from_yes (suc p) q (omega arith))
+  | inr ge ↦ le-ltb p q ge ∙ sym (from_no (suc p) q (omega arith))
+]
+
+pub ahead_is : (from : ℕ) (ps : List ℕ) → ahead from ps ≡ filter (is_from from) ps
+unfolding ahead rest
+ahead_is zero ps = sym (filter_all (is_from zero) ps (λ x h. from_yes zero x (omega arith)))
+ahead_is (suc p) ps = same_filter (lower p) (is_from (suc p)) ps (after_is p)
+
+pub rest_is : (matches : Doc → Bool) (ds : List Doc) (from : ℕ) → ahead from (answer (each matches) ds) ≡ matching_from matches ds from
 rest_is matches ds from =
     let z : from - 0 ≡ from = omega arith in
-    ap (filter (is_from from)) (answer_matching matches ds) ∙ rest_matching matches from 0 ds (omega arith) ∙ ap (λ n. matching matches from (drop n ds)) z
+    ahead_is from (answer (each matches) ds) ∙ ap (filter (is_from from)) (answer_matching matches ds) ∙ rest_matching matches from 0 ds (omega arith) ∙ ap (λ n. matching matches from (drop n ds)) z
 
 -- ---- what the loop of a step keeps
 

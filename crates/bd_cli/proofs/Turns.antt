@@ -8,12 +8,12 @@ use Rattle.std.proofs.lemmas.List.{take_all, append-nil, length-drop}
 use Rattle.std.proofs.lemmas.List.Sums.{sum_by-cons}
 use Rattle.std.proofs.Math.Seq.{take-add}
 use Rattle.bd_value.specs.Tree.{Doc}
-use Rattle.bd_cli.specs.Answer.{matching, answer, each, lower, rest, is_empty, batches}
+use Rattle.bd_cli.specs.Answer.{matching, answer, each, is_empty, batches}
 use Rattle.bd_cli.specs.AnswerLaws.{GivesTheAnswer}
-use Rattle.bd_cli.specs.Stepped.{IsStep, InTurn, until_end, places_of, past}
+use Rattle.bd_cli.specs.Stepped.{IsStep, InTurn, until_end, places_of, past, ahead}
 use Rattle.bd_cli.specs.declared.stepping.Step.{Step}
 use Rattle.bd_cli.proofs.Kept.{filter_twice}
-use Rattle.bd_cli.proofs.Placed.{answer_matching, is_from, rest_is}
+use Rattle.bd_cli.proofs.Placed.{answer_matching, is_from, ahead_is, rest_is}
 
 -- ---- batches
 
@@ -80,42 +80,41 @@ module _ (matches : Doc → Bool) (ds : List Doc) where
   abbrev all : List ℕ
   all = answer (each matches) ds
 
-  rest_twice : (x y : ℕ) → x ≤ y → filter (is_from y) (rest lower x all) ≡ rest lower y all
-  unfolding rest
-  rest_twice x y le = filter_twice (is_from x) (is_from y) all (λ p e. later p e)
+  rest_twice : (x y : ℕ) → x ≤ y → filter (is_from y) (ahead x all) ≡ ahead y all
+  rest_twice x y le = ap (filter (is_from y)) (ahead_is x all) ∙ filter_twice (is_from x) (is_from y) all (λ p e. later p e) ∙ sym (ahead_is y all)
     where
       later : (p : ℕ) → is_from y p ≡ true → is_from x p ≡ true
       later p e = grind (arith, nat_tests)
 
-  next_rest : (n x : ℕ) → rest lower (past x (take n (rest lower x all))) all ≡ drop n (rest lower x all)
+  next_rest : (n x : ℕ) → ahead (past x (take n (ahead x all))) all ≡ drop n (ahead x all)
   next_rest n x =
-      let rises : From x (rest lower x all) = subst (From x) (sym (rest_is matches ds x)) (matching_from_place matches x (drop x ds)) in
-      sym (rest_twice x (past x (take n (rest lower x all))) (past_above n x (rest lower x all) rises)) ∙ left_after n x (rest lower x all) rises
+      let rises : From x (ahead x all) = subst (From x) (sym (rest_is matches ds x)) (matching_from_place matches x (drop x ds)) in
+      sym (rest_twice x (past x (take n (ahead x all))) (past_above n x (ahead x all) rises)) ∙ left_after n x (ahead x all) rises
 
-  pub after_step : (x n : ℕ) (s : Step) → IsStep all x n s → rest lower s.after all ≡ drop n (rest lower x all)
-  after_step x n s h = ap (λ y. rest lower y all) (h.after ∙ ap (past x) h.places) ∙ next_rest n x
+  pub after_step : (x n : ℕ) (s : Step) → IsStep all x n s → ahead s.after all ≡ drop n (ahead x all)
+  after_step x n s h = ap (λ y. ahead y all) (h.after ∙ ap (past x) h.places) ∙ next_rest n x
 
-  in_turn : (x : ℕ) (sizes : List ℕ) (steps : List Step) → InTurn all x sizes steps → GivesTheAnswer (rest lower x all) sizes steps
+  in_turn : (x : ℕ) (sizes : List ℕ) (steps : List Step) → InTurn all x sizes steps → GivesTheAnswer (ahead x all) sizes steps
   in_turn x [] [] h = record { joined = refl; batched = refl }
   in_turn x [] (s ∷ ss) h = absurd h
   in_turn x (n ∷ ns) [] h = absurd h
   in_turn x (n ∷ ns) (s ∷ ss) h =
-      let q = rest lower x all in
+      let q = ahead x all in
       let after = after_step x n s h.0 in
       let later : GivesTheAnswer (drop n q) ns ss = subst (λ r. GivesTheAnswer r ns ss) after (in_turn s.after ns ss h.1) in
-      let ends = end_is s.end (rest lower s.after all) (drop n q) h.0.end after in
+      let ends = end_is s.end (ahead s.after all) (drop n q) h.0.end after in
       let places = h.0.places in
       record {
         joined = ap₂ (λ (a b : List ℕ). a ++ b) places later.joined ∙ sym (take-add n (sum ns) q) ∙ sym (ap (λ k. take k q) (sum-cons n ns));
         batched = ap₂ (λ (a : List ℕ) (b : List (List ℕ)). a ∷ b) places (go s.end ends later.batched);
       }
     where
-      go : (b : Bool) → b ≡ is_empty (drop n (rest lower x all)) → map places_of (until_end ss) ≡ batches (drop n (rest lower x all)) ns
-          → map places_of (cond b [] (until_end ss)) ≡ cond (is_empty (drop n (rest lower x all))) [] (batches (drop n (rest lower x all)) ns)
+      go : (b : Bool) → b ≡ is_empty (drop n (ahead x all)) → map places_of (until_end ss) ≡ batches (drop n (ahead x all)) ns
+          → map places_of (cond b [] (until_end ss)) ≡ cond (is_empty (drop n (ahead x all))) [] (batches (drop n (ahead x all)) ns)
       go true e h = rw (← e) refl
       go false e h = rw (← e) h
 
-  pub from_start : rest lower 0 all ≡ all
+  pub from_start : ahead 0 all ≡ all
   from_start = rest_is matches ds 0 ∙ sym (answer_matching matches ds)
 
   pub steps_give : (sizes : List ℕ) (steps : List Step) → InTurn all 0 sizes steps → GivesTheAnswer all sizes steps

@@ -1,6 +1,6 @@
 -- Which documents of a dump answer a request, in which order, and in which batches. A document is named by its place, its
 -- number from 0.
-use Rattle.std.specs.Prelude.{ℕ, ◌+◌, ◌==◌, nat_lt, Bool, true, false, not, List, [], ◌∷◌, take, drop, if◌then◌else◌}
+use Rattle.std.specs.Prelude.{ℕ, ◌+◌, ◌==◌, nat_lt, Bool, true, false, List, [], ◌∷◌, take, drop, if◌then◌else◌}
 use Rattle.std.specs.List.{filter}
 use Rattle.bd_value.specs.Tree.{Doc}
 
@@ -45,9 +45,9 @@ lower = nat_lt
 abbrev pub each : (Doc → Bool) → Request
 each matches = record { matches = matches; before = lower; skip = 0; limit = 0 }
 
--- the rest of an answer from a place on: the places that do not come before it
+-- the rest of an answer after a place: the places that it comes before
 unfoldable pub rest : (ℕ → ℕ → Bool) → ℕ → List ℕ → List ℕ
-rest before from ps = filter (λ p. not (before p from)) ps
+rest before p ps = filter (before p) ps
 
 abbrev pub is_empty : List ℕ → Bool
 is_empty [] = true

@@ -1,5 +1,5 @@
 -- The steps in which an answer in the order of the places is given.
-use Rattle.std.specs.Prelude.{◌≡◌, ◌↔◌, ℕ, ◌+◌, IsTrue, List, [], ◌∷◌, take, if◌then◌else◌}
+use Rattle.std.specs.Prelude.{◌≡◌, ◌↔◌, ℕ, zero, suc, ◌+◌, IsTrue, List, [], ◌∷◌, take, if◌then◌else◌}
 use Rattle.bd_cli.specs.Answer.{lower, rest}
 use Rattle.bd_cli.specs.declared.stepping.Step.{Step}
 
@@ -8,11 +8,16 @@ abbrev pub past : ℕ → List ℕ → ℕ
 past from [] = from
 past from (p ∷ ps) = past (p + 1) ps
 
--- the next places of an answer from a place on, as many as the size, where the rest goes on, and whether nothing is left
+-- what an answer has from a number on: from 0 all of it, else the rest after the place before that number
+unfoldable pub ahead : ℕ → List ℕ → List ℕ
+ahead zero ps = ps
+ahead (suc p) ps = rest lower p ps
+
+-- the next places of an answer from a number on, as many as the size, where the rest goes on, and whether nothing is left
 pub record IsStep (ps : List ℕ) (from size : ℕ) (step : Step) : Type 0 where
-  pub places : step.places.items ≡ take size (rest lower from ps)
+  pub places : step.places.items ≡ take size (ahead from ps)
   pub after : step.after ≡ past from step.places.items
-  pub end : IsTrue step.end ↔ (rest lower step.after ps ≡ [])
+  pub end : IsTrue step.end ↔ (ahead step.after ps ≡ [])
 
 abbrev pub places_of : Step → List ℕ
 places_of step = step.places.items
