@@ -1,5 +1,5 @@
 -- How many bytes a value takes, by its type byte and its first four bytes.
-use Rattle.std.specs.Prelude.{ℕ, Bool, ◌||◌, ◌+◌, ◌==◌, List, take, if◌then◌else◌}
+use Rattle.std.specs.Prelude.{ℕ, ◌+◌, ◌==◌, List, take, if◌then◌else◌}
 use Rattle.std.specs.Int.{w32, from_le_bytes}
 use Rattle.bd_value.specs.declared.kind.Kind.{Kind}
 use Rattle.bd_value.specs.declared.kind.Kind.TheVariants as kinds
@@ -16,7 +16,3 @@ size_of b bytes = if b == 16 then 4 else (if b == 2 then 4 + number_of bytes els
 
 abbrev pub kind_at : ℕ → Kind
 kind_at b = if b == 16 then kinds.Int32 else (if b == 2 then kinds.Text else (if b == 3 then kinds.Doc else kinds.Array))
-
--- a document or an array
-abbrev pub has_body : ℕ → Bool
-has_body b = b == 3 || b == 4

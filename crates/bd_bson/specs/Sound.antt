@@ -83,11 +83,3 @@ extent_is {byte} {bytes} s t = ap (λ (x : Sound byte bytes). length x.value) (S
 pub left_is : {bytes : List ℕ} (s t : Left bytes) → elements_left s ≡ pairs_of t.fields
 unfolding elements_left
 left_is {bytes} s t = ap (λ (x : Left bytes). pairs_of x.fields) (Left-prop bytes s t)
-
--- the same value in the same bytes
-pub stands_across : (b c : ℕ) (x y : List ℕ) (s : Sound b x) (t : Sound c y) → b ≡ c → x ≡ y → stands s ≡ stands t
-stands_across b c x y s t e f =
-    stands_is s s ∙ (values s.tree t.tree s.value t.value s.after t.after s.spells t.spells (s.kinded ∙ e ∙ sym t.kinded) (sym s.cut ∙ f ∙ t.cut)).0 ∙ sym (stands_is t t)
-
-pub sound_across : (b c : ℕ) (x y : List ℕ) → Sound c y → b ≡ c → x ≡ y → Sound b x
-sound_across b c x y t e f = record { tree = t.tree; value = t.value; after = t.after; spells = t.spells; kinded = t.kinded ∙ sym e; cut = f ∙ t.cut; short = t.short }
