@@ -1,12 +1,27 @@
 -- The tree that a BSON value stands for (BSON 1.1, `document`, `e_list` and `element`), without where it lies in memory.
 -- A text and a name are their UTF-8 bytes, a number is a whole number.
-use Rattle.std.specs.Prelude.{◌≡◌, ℕ, suc, ◌+◌, ℤ, List, [], ◌∷◌, refl}
+use Rattle.std.specs.Prelude.{◌≡◌, ℕ, suc, ◌+◌, ℤ, Bool, List, [], ◌∷◌, refl}
 use Rattle.std.proofs.Common.{ap}
 
--- a value that holds no value: one case for each such type of element
+-- A value that holds no value: one case for each such type of element. An id and the data of binary are their bytes;
+-- of binary first the subtype, of a timestamp first the seconds, of a regular expression first the pattern.
 pub data Scalar : Type 0 where
+  min_key : Scalar
+  undefined : Scalar
+  null : Scalar
   int32 : ℤ → Scalar
+  int64 : ℤ → Scalar
   text : List ℕ → Scalar
+  symbol : List ℕ → Scalar
+  binary : ℕ → List ℕ → Scalar
+  object_id : List ℕ → Scalar
+  boolean : Bool → Scalar
+  date : ℤ → Scalar
+  timestamp : ℕ → ℕ → Scalar
+  regex : List ℕ → List ℕ → Scalar
+  db_pointer : List ℕ → List ℕ → Scalar
+  code : List ℕ → Scalar
+  max_key : Scalar
 
 -- A list of trees inside a tree has to be a type of its own: `Items` and `Fields` are the lists below.
 mutual
@@ -14,6 +29,7 @@ mutual
     leaf : Scalar → Tree
     doc : Fields → Tree
     array : Items → Tree
+    code_scope : List ℕ → Fields → Tree
 
   pub data Items : Type 0 where
     no_items : Items
@@ -55,6 +71,7 @@ abbrev pub pairs_in : Tree → Doc
 pairs_in (leaf s) = []
 pairs_in (doc fs) = pairs_of fs
 pairs_in (array ts) = []
+pairs_in (code_scope s fs) = []
 
 pub items_of-list_of : (ts : Items) → items_of (list_of ts) ≡ ts
 items_of-list_of no_items = refl
@@ -70,6 +87,7 @@ abbrev mutual
   tree_size (leaf s) = 0
   tree_size (doc fs) = suc (fields_size fs)
   tree_size (array ts) = suc (items_size ts)
+  tree_size (code_scope s fs) = suc (suc (fields_size fs))
 
   pub items_size : Items → ℕ
   items_size no_items = 0

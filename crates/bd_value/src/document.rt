@@ -13,14 +13,48 @@ pub type NoMemory = AllocError;
 #[cycle(value)]
 #[derive(Drop)]
 pub enum Value {
+    /// Element 0xFF: below every other value.
+    MinKey,
+    /// Element 0x06: undefined, which BSON 1.1 deprecates.
+    Undefined,
+    /// Element 0x0A.
+    Null,
     /// Element 0x10: a signed number of 32 bits.
     Int32(i32),
+    /// Element 0x12: a signed number of 64 bits.
+    Int64(i64),
     /// Element 0x02: UTF-8 text, which may hold U+0000.
     Text(String),
+    /// Element 0x0E: a symbol, which BSON 1.1 deprecates.
+    Symbol(String),
     /// Element 0x03: an embedded document.
     Doc(Document),
     /// Element 0x04: values in their order; the names that stand in the bytes of an array are not kept.
     Array(Vec<Value>),
+    /// Element 0x05: bytes of a subtype.
+    Binary {
+        subtype: u8,
+        /// Of subtype 02 the bytes behind its inner length.
+        payload: Vec<u8>,
+    },
+    /// Element 0x07: 12 bytes.
+    ObjectId([u8; 12]),
+    /// Element 0x08.
+    Bool(bool),
+    /// Element 0x09: milliseconds since 1970-01-01T00:00:00Z.
+    Date(i64),
+    /// Element 0x11: the high and the low half of a number of 64 bits.
+    Timestamp { seconds: u32, increment: u32 },
+    /// Element 0x0B: a regular expression; neither text holds U+0000 where it comes from bytes.
+    Regex { pattern: String, options: String },
+    /// Element 0x0C: a name and an id, which BSON 1.1 deprecates.
+    DbPointer { space: String, id: [u8; 12] },
+    /// Element 0x0D: JavaScript.
+    Code(String),
+    /// Element 0x0F: JavaScript with the document that gives its variables, which BSON 1.1 deprecates.
+    CodeScope(String, Document),
+    /// Element 0x7F: above every other value.
+    MaxKey,
 }
 
 /// Names and values in their order. A name may occur more than once.

@@ -7,8 +7,10 @@
 mod document;
 mod kind;
 mod lookup;
+mod scalar;
 #[cfg(test)]
 mod tests;
 
 pub use document::{Document, NoMemory, Value};
 pub use kind::Kind;
+pub use scalar::Scalar;
