@@ -12,7 +12,8 @@ use Rattle.bd_bson.specs.Fault.{Fault}
 use Rattle.bd_bson.specs.Spelling.{IsDocument, framed, number}
 use Rattle.bd_bson.specs.FirstFault.{first_fault, past_document, fault_in}
 use Rattle.bd_bson.specs.Dump.{length_told, frame_length, framed_fault, frame_fault, AreJoined, IsWalk}
-use Rattle.bd_bson.specs.Unique.{number_length, number_value, framed_after}
+use Rattle.bd_bson.specs.Scalars.{number_length, number_value}
+use Rattle.bd_bson.specs.Unique.{framed_after}
 use Rattle.bd_bson.proofs.Takes.{IsBytes, IsBytes-take, IsBytes-drop, document_found}
 use Rattle.bd_bson.proofs.Again.{document_again}
 use Rattle.bd_bson.proofs.Whole.{document_unique}

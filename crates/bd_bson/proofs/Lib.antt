@@ -6,6 +6,7 @@ pub mod Documents
 pub mod Dumps
 pub mod Loop
 pub mod Nested
+pub mod Readable
 pub mod Steps
 pub mod Takes
 pub mod Tells

@@ -1,48 +1,70 @@
--- A document or an array inside, and the item that an element's fault stands in.
-use Rattle.std.proofs.Common.{◌≡◌, ℕ, zero, suc, ◌-◌, ◌<◌, List, [], ◌∷◌, length, get_or, drop, Bool, false, Option, Result, Ok, refl, ap, ◌∙◌, arith}
-use Rattle.bd_value.specs.declared.kind.Kind.{Kind}
+-- What holds values, and the item that an element's fault stands in.
+use Rattle.std.proofs.Common.{◌≡◌, ℕ, zero, suc, true, false, ◌-◌, ◌<◌, Bor, subst, sym, List, [], ◌∷◌, length, get_or, drop, Option, Result, Ok, refl, ap, ◌∙◌, arith}
+use Rattle.std.specs.Prelude.{codes}
 use Rattle.bd_bson.specs.Fault.{Fault}
-use Rattle.bd_bson.specs.declared.fault.FaultKind.TheVariants.{TooDeep}
+use Rattle.bd_bson.specs.declared.fault.FaultKind.TheVariants.{TooDeep, NameUnended}
 use Rattle.bd_bson.specs.declared.fault.Stop.{Stop}
 use Rattle.bd_bson.specs.declared.fault.Stop.TheVariants as stops
-use Rattle.bd_bson.specs.Gives.{Fails}
-use Rattle.bd_bson.specs.FirstFault.{◌>>=◌, start, known, kind_byte, past_name, within, label, fault, Nested, past_value, past_element, past_frame, past_elements, past_nested}
+use Rattle.bd_bson.specs.declared.element.ElementType.{ElementType}
+use Rattle.bd_bson.specs.declared.element.Holder.{Holder}
+use Rattle.bd_bson.specs.declared.element.Holder.TheVariants as holders
+use Rattle.bd_bson.specs.Gives.{Gives, Fails}
+use Rattle.bd_bson.specs.Types.{type_at}
+use Rattle.bd_bson.specs.FirstFault.{◌>>=◌, known, past_name, past_string, past_code_frame, within, label, fault, Nested, past_typed, past_element, past_body, past_code_scope, past_holder, past_nested}
 
-pub too_deep : (in_array : Bool) (room q e : ℕ) (bytes : List ℕ) → room ≡ 0 → past_nested room in_array q e bytes ≡ fault TooDeep q
+pub too_deep : (holder : Holder) (room q e : ℕ) (bytes : List ℕ) → room ≡ 0 → past_nested room holder q e bytes ≡ fault TooDeep q
 unfolding past_nested
-too_deep in_array zero q e bytes is = refl
-too_deep in_array (suc r) q e bytes is = absurd (omega arith)
+too_deep holder zero q e bytes is = refl
+too_deep holder (suc r) q e bytes is = absurd (omega arith)
 
-below : (in_array : Bool) (room q e : ℕ) (bytes : List ℕ) → 0 < room
-    → past_nested room in_array q e bytes ≡ (past_frame false e bytes >>= λ f. past_elements (past_nested (room - 1)) (start in_array) (length f.0) f.1 f.0 >>= λ u. Ok f.2)
+code_at_one : (room q e : ℕ) (bytes : List ℕ) → room ≡ 1 → past_nested room holders.CodeScope q e bytes ≡ fault TooDeep q
 unfolding past_nested
-below in_array zero q e bytes lt = absurd (omega arith)
-below in_array (suc r) q e bytes lt = let s : suc r - 1 ≡ r = omega arith in rw s refl
+code_at_one zero q e bytes is = absurd (omega arith)
+code_at_one (suc zero) q e bytes is = refl
+code_at_one (suc (suc r)) q e bytes is = absurd (omega arith)
+
+pub code_too_deep : (holder : Holder) (room q e : ℕ) (bytes : List ℕ) → holder ≡ holders.CodeScope → room ≡ 1 → past_nested room holder q e bytes ≡ fault TooDeep q
+code_too_deep holder room q e bytes h is = ap (λ (x : Holder). past_nested room x q e bytes) h ∙ code_at_one room q e bytes is
+
+below : (holder : Holder) (room q e : ℕ) (bytes : List ℕ) → 0 < room → past_nested room holder q e bytes ≡ past_holder (past_nested (room - 1)) (room - 1) holder q e bytes
+unfolding past_nested
+below holder zero q e bytes lt = absurd (omega arith)
+below holder (suc r) q e bytes lt = let s : suc r - 1 ≡ r = omega arith in rw s refl
+
+code_below : (room q e : ℕ) (bytes : List ℕ) → 1 < room → past_nested room holders.CodeScope q e bytes ≡ past_code_scope (past_nested (room - 1)) q e bytes
+unfolding past_nested
+code_below zero q e bytes lt = absurd (omega arith)
+code_below (suc zero) q e bytes lt = absurd (omega arith)
+code_below (suc (suc r)) q e bytes lt = let s : suc (suc r) - 1 ≡ suc r = omega arith in rw s refl
+
+abbrev Answer : Type 0
+Answer = Result (Bor (List ℕ)) Stop
+
+-- what holds values, by what stands in it
+module _ (holder : Holder) (room q e : ℕ) (bytes : List ℕ) (r : Answer) where
+  pub document_gives : holder ≡ holders.Document → 0 < room → Gives (λ x. x.now) r (past_body (past_nested (room - 1)) false e bytes) → Gives (λ x. x.now) r (past_nested room holder q e bytes)
+  document_gives h lt g = subst (Gives (λ x. x.now) r) (sym (ap (λ (x : Holder). past_nested room x q e bytes) h ∙ below holders.Document room q e bytes lt)) g
+
+  pub array_gives : holder ≡ holders.Array → 0 < room → Gives (λ x. x.now) r (past_body (past_nested (room - 1)) true e bytes) → Gives (λ x. x.now) r (past_nested room holder q e bytes)
+  array_gives h lt g = subst (Gives (λ x. x.now) r) (sym (ap (λ (x : Holder). past_nested room x q e bytes) h ∙ below holders.Array room q e bytes lt)) g
+
+  pub code_gives : holder ≡ holders.CodeScope → 1 < room → Gives (λ x. x.now) r (past_code_scope (past_nested (room - 1)) q e bytes) → Gives (λ x. x.now) r (past_nested room holder q e bytes)
+  code_gives h lt g = subst (Gives (λ x. x.now) r) (sym (ap (λ (x : Holder). past_nested room x q e bytes) h ∙ code_below room q e bytes lt)) g
 
 falls : {A B : Type 0} (r : Stop) (x : Result A Fault) (f : A → Result B Fault) → Fails r x → Fails r (x >>= f)
 falls stops.NoMemory x f h = tt
 falls (stops.Found g) x f h = rw h refl
 
--- no frame, no document
-pub frame_fails : (r : Stop) (in_array : Bool) (room q e : ℕ) (bytes : List ℕ) → 0 < room → Fails r (past_frame false e bytes) → Fails r (past_nested room in_array q e bytes)
-frame_fails r in_array room q e bytes lt h = rw (below in_array room q e bytes lt) (falls r (past_frame false e bytes) _ h)
+-- a scope that has a fault
+pub scope_fails : (r : Stop) (nested : Nested) (q e : ℕ) (bytes parts : List ℕ) (end : ℕ) (rest scope : List ℕ) → past_code_frame e bytes ≡ Ok (parts, end, rest) → past_string end parts ≡ Ok scope
+    → Fails r (within (codes "$scope") (nested holders.Document q end scope)) → Fails r (past_code_scope nested q e bytes)
+scope_fails r nested q e bytes parts end rest scope one two h = rw (one, two) (falls r (within (codes "$scope") (nested holders.Document q end scope)) _ h)
 
-abbrev behind : List ℕ → Result (List ℕ) Fault
-behind r = Ok r
-
-pub elements_fail : (r : Stop) (in_array : Bool) (room q e : ℕ) (bytes body : List ℕ) (end : ℕ) (rest : List ℕ) → 0 < room → past_frame false e bytes ≡ Ok (body, end, rest)
-    → Fails r (past_elements (past_nested (room - 1)) (start in_array) (length body) end body) → Fails r (past_nested room in_array q e bytes)
-elements_fail r in_array room q e bytes body end rest lt is h = rw (below in_array room q e bytes lt, is) (falls r (past_elements (past_nested (room - 1)) (start in_array) (length body) end body) (λ u. behind rest) h)
-
-pub elements_pass : (in_array : Bool) (room q e : ℕ) (bytes body : List ℕ) (end : ℕ) (rest : List ℕ) → 0 < room → past_frame false e bytes ≡ Ok (body, end, rest)
-    → past_elements (past_nested (room - 1)) (start in_array) (length body) end body ≡ Ok tt → past_nested room in_array q e bytes ≡ Ok rest
-elements_pass in_array room q e bytes body end rest lt is h = rw (below in_array room q e bytes lt, is, h) refl
-
-pub element_fails : (r : Stop) (nested : Nested) (place : Option ℕ) (e : ℕ) (bytes : List ℕ) (kind : Kind) (more name rest : List ℕ) → 0 < length bytes → known (e - length bytes) (kind_byte (get_or bytes 0 0)) ≡ Ok kind
-    → drop 1 bytes ≡ more → past_name e more ≡ Ok (name, rest) → Fails r (within (label place name) (past_value nested kind (e - length bytes) e rest)) → Fails r (past_element nested place e bytes)
+pub element_fails : (r : Stop) (nested : Nested) (place : Option ℕ) (e : ℕ) (bytes : List ℕ) (type : ElementType) (more name rest : List ℕ) → 0 < length bytes → known (e - length bytes) (type_at (get_or bytes 0 0)) ≡ Ok type
+    → drop 1 bytes ≡ more → past_name NameUnended e more ≡ Ok (name, rest) → Fails r (within (label place name) (past_typed nested type (e - length bytes) e rest)) → Fails r (past_element nested place e bytes)
 unfolding past_element
-element_fails r nested place e [] kind more name rest lt one cut two fails = absurd (omega arith)
-element_fails stops.NoMemory nested place e (first ∷ bytes) kind more name rest lt one cut two fails = tt
-element_fails (stops.Found f) nested place e (first ∷ bytes) kind more name rest lt one cut two fails =
-    let here : past_name e bytes ≡ Ok (name, rest) = ap (past_name e) cut ∙ two in
+element_fails r nested place e [] type more name rest lt one cut two fails = absurd (omega arith)
+element_fails stops.NoMemory nested place e (first ∷ bytes) type more name rest lt one cut two fails = tt
+element_fails (stops.Found f) nested place e (first ∷ bytes) type more name rest lt one cut two fails =
+    let here : past_name NameUnended e bytes ≡ Ok (name, rest) = ap (past_name NameUnended e) cut ∙ two in
     rw (one, here, fails) refl

@@ -1,38 +1,27 @@
 -- A document that is all of some bytes.
-use Rattle.std.proofs.Common.{◌≡◌, ℕ, List, [], Option, refl, sym, ap, ◌∙◌, subst, length, ◌+◌}
+use Rattle.std.proofs.Common.{◌≡◌, ℕ, List, [], Option, refl, sym, ap, ◌∙◌, subst, length, ◌+◌, drop}
 use Rattle.std.proofs.lemmas.List.{append-nil}
-use Rattle.bd_value.specs.Tree.{int32, text, Tree, leaf, doc, array, Doc, fields_of, pairs_in, pairs_of-fields_of}
-use Rattle.bd_value.specs.Kind.{kind_of}
+use Rattle.bd_value.specs.Tree.{doc, Doc, fields_of, pairs_in, pairs_of-fields_of}
 use Rattle.bd_value.specs.declared.kind.Kind.TheVariants as kinds
 use Rattle.bd_bson.specs.Spelling.{IsDocument}
-use Rattle.bd_bson.specs.Sound.{Sound, stands, stands_is}
-use Rattle.bd_bson.specs.Body.{IsBody, HoldsElements}
+use Rattle.bd_bson.specs.Sound.{Sound, Left, stands, stands_is, elements_left}
 use Rattle.bd_bson.specs.FirstFault.{first_fault, fault_in}
 use Rattle.bd_bson.specs.Told.{Tells, IsWantOfMemory}
 use Rattle.bd_bson.specs.declared.fault.Fault.{Fault}
 use Rattle.bd_bson.specs.Unique as unique
 use Rattle.bd_bson.proofs.Again.{document_again}
-use Rattle.bd_bson.proofs.Viewed.{kind_here, doc_holds}
+use Rattle.bd_bson.proofs.Viewed.{document_is}
 
-abbrev pub whole_sound : (bytes : List ℕ) (d : Doc) → IsDocument d bytes → Sound 3 bytes
+abbrev pub whole_sound : (bytes : List ℕ) (d : Doc) → IsDocument d bytes → Sound kinds.Doc bytes
 whole_sound bytes d h = record { tree = doc (fields_of d); value = bytes; after = []; spells = h.spells; kinded = refl; cut = sym (append-nil bytes); short = h.short }
 
-pub whole_is : (bytes : List ℕ) (d : Doc) (h : IsDocument d bytes) (s : Sound 3 bytes) → IsDocument (pairs_in (stands s)) bytes
+pub whole_is : (bytes : List ℕ) (d : Doc) (h : IsDocument d bytes) (s : Sound kinds.Doc bytes) → IsDocument (pairs_in (stands s)) bytes
 whole_is bytes d h s =
     let e : d ≡ pairs_in (stands s) = sym (ap pairs_in (stands_is s (whole_sound bytes d h)) ∙ pairs_of-fields_of d) in
     subst (λ (c : Doc). IsDocument c bytes) e h
 
-pub document_holds : (bytes : List ℕ) (s : Sound 3 bytes) → HoldsElements (stands s)
-document_holds bytes s = doc_holds (stands s) (sym (kind_here 3 bytes s))
-
-body_is : (t : Tree) (ps : Doc) → kind_of t ≡ kinds.Doc → IsBody t ps → ps ≡ pairs_in t
-body_is (leaf (int32 z)) ps k h = absurd cc
-body_is (leaf (text z)) ps k h = absurd cc
-body_is (doc fs) ps k h = h
-body_is (array ts) ps k h = absurd cc
-
-pub document_pairs : (bytes : List ℕ) (s g : Sound 3 bytes) (ps : Doc) → IsBody (stands g) ps → ps ≡ pairs_in (stands s)
-document_pairs bytes s g ps h = body_is (stands s) ps (sym (kind_here 3 bytes s)) (subst (λ (t : Tree). IsBody t ps) (stands_is g s ∙ sym (stands_is s s)) h)
+pub document_elements : (bytes : List ℕ) (start : ℕ) (s : Sound kinds.Doc (drop start bytes)) (g : Left (drop (start + 4) bytes)) → elements_left g ≡ pairs_in (stands s)
+document_elements bytes start s g = sym (ap pairs_in (document_is bytes start kinds.Doc s refl g) ∙ pairs_of-fields_of (elements_left g))
 
 -- the bytes spell one document at most
 pub document_unique : (bytes : List ℕ) (c d : Doc) → IsDocument c bytes → IsDocument d bytes → c ≡ d

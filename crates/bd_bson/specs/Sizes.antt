@@ -1,18 +1,78 @@
--- How many bytes a value takes, by its type byte and its first four bytes.
-use Rattle.std.specs.Prelude.{ℕ, ◌+◌, ◌==◌, List, take, if◌then◌else◌}
-use Rattle.std.specs.Int.{w32, from_le_bytes}
+-- What a value's bytes tell from their front, by its kind: how many they are, and which scalar they spell.
+use Rattle.std.specs.Prelude.{ℕ, ◌+◌, ◌-◌, ◌==◌, List, take, drop, slice_index_or, if◌then◌else◌}
+use Rattle.std.specs.List.{position_or_len}
+use Rattle.std.specs.Int.{w32, w64, from_le_bytes, cast_signed}
+use Rattle.bd_value.specs.Tree as trees
 use Rattle.bd_value.specs.declared.kind.Kind.{Kind}
 use Rattle.bd_value.specs.declared.kind.Kind.TheVariants as kinds
 
 abbrev pub number_of : List ℕ → ℕ
 number_of bytes = from_le_bytes w32 (take 4 bytes)
 
--- the bytes that its size is read from
-abbrev pub head_of : ℕ → ℕ
-head_of b = 4
+abbrev pub long_of : List ℕ → ℕ
+long_of bytes = from_le_bytes w64 (take 8 bytes)
 
-abbrev pub size_of : ℕ → List ℕ → ℕ
-size_of b bytes = if b == 16 then 4 else (if b == 2 then 4 + number_of bytes else number_of bytes)
+-- where the first zero stands
+abbrev pub zero_at : List ℕ → ℕ
+zero_at bytes = position_or_len (λ b. b == 0) bytes
 
-abbrev pub kind_at : ℕ → Kind
-kind_at b = if b == 16 then kinds.Int32 else (if b == 2 then kinds.Text else (if b == 3 then kinds.Doc else kinds.Array))
+-- a text that ends before the first zero, and what stands behind that zero
+abbrev pub name_of : List ℕ → List ℕ
+name_of bytes = take (zero_at bytes) bytes
+
+abbrev pub behind_name : List ℕ → List ℕ
+behind_name bytes = drop (zero_at bytes + 1) bytes
+
+-- the text of a string, and what stands behind the string
+abbrev pub text_of : List ℕ → List ℕ
+text_of bytes = take (number_of bytes - 1) (drop 4 bytes)
+
+abbrev pub behind_string : List ℕ → List ℕ
+behind_string bytes = drop (4 + number_of bytes) bytes
+
+-- the count and the bytes of binary, behind the inner count of subtype 02
+abbrev pub payload_of : List ℕ → List ℕ
+payload_of bytes = if slice_index_or bytes 4 0 == 2 then take (number_of bytes - 4) (drop 9 bytes) else take (number_of bytes) (drop 5 bytes)
+
+abbrev pub size_of : Kind → List ℕ → ℕ
+size_of kinds.MinKey bytes = 0
+size_of kinds.Undefined bytes = 0
+size_of kinds.Null bytes = 0
+size_of kinds.MaxKey bytes = 0
+size_of kinds.Int32 bytes = 4
+size_of kinds.Int64 bytes = 8
+size_of kinds.Date bytes = 8
+size_of kinds.Timestamp bytes = 8
+size_of kinds.ObjectId bytes = 12
+size_of kinds.Bool bytes = 1
+size_of kinds.Text bytes = 4 + number_of bytes
+size_of kinds.Symbol bytes = 4 + number_of bytes
+size_of kinds.Code bytes = 4 + number_of bytes
+size_of kinds.DbPointer bytes = 4 + number_of bytes + 12
+size_of kinds.Binary bytes = 5 + number_of bytes
+size_of kinds.Regex bytes = zero_at bytes + 1 + (zero_at (behind_name bytes) + 1)
+size_of kinds.Doc bytes = number_of bytes
+size_of kinds.Array bytes = number_of bytes
+size_of kinds.CodeScope bytes = number_of bytes
+
+-- documents, arrays and code with scope are no scalars
+abbrev pub scalar_at : Kind → List ℕ → trees.Scalar
+scalar_at kinds.MinKey bytes = trees.min_key
+scalar_at kinds.Undefined bytes = trees.undefined
+scalar_at kinds.Null bytes = trees.null
+scalar_at kinds.MaxKey bytes = trees.max_key
+scalar_at kinds.Int32 bytes = trees.int32 (cast_signed w32 (number_of bytes))
+scalar_at kinds.Int64 bytes = trees.int64 (cast_signed w64 (long_of bytes))
+scalar_at kinds.Date bytes = trees.date (cast_signed w64 (long_of bytes))
+scalar_at kinds.Timestamp bytes = trees.timestamp (number_of (drop 4 bytes)) (number_of bytes)
+scalar_at kinds.ObjectId bytes = trees.object_id (take 12 bytes)
+scalar_at kinds.Bool bytes = trees.boolean (slice_index_or bytes 0 0 == 1)
+scalar_at kinds.Text bytes = trees.text (text_of bytes)
+scalar_at kinds.Symbol bytes = trees.symbol (text_of bytes)
+scalar_at kinds.Code bytes = trees.code (text_of bytes)
+scalar_at kinds.DbPointer bytes = trees.db_pointer (text_of bytes) (take 12 (behind_string bytes))
+scalar_at kinds.Binary bytes = trees.binary (slice_index_or bytes 4 0) (payload_of bytes)
+scalar_at kinds.Regex bytes = trees.regex (name_of bytes) (name_of (behind_name bytes))
+scalar_at kinds.Doc bytes = trees.null
+scalar_at kinds.Array bytes = trees.null
+scalar_at kinds.CodeScope bytes = trees.null

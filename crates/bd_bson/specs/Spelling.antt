@@ -1,19 +1,19 @@
 -- Which bytes are which document (BSON 1.1, the grammar of `document`).
-use Rattle.std.specs.Prelude.{◌≡◌, ◌≢◌, ◌≤◌, ◌<◌, ◌^◌, ℕ, suc, ◌+◌, max, List, [], ◌∷◌, ◌++◌, length, IsUtf8, FitsSigned}
+use Rattle.std.specs.Prelude.{◌≡◌, ◌≢◌, ◌≤◌, ◌<◌, ◌^◌, ℕ, suc, ◌+◌, max, List, [], ◌∷◌, ◌++◌, length, IsUtf8, FitsSigned, ◌==◌, if◌then◌else◌}
 use Rattle.std.specs.List.{AllByRecursion}
-use Rattle.std.specs.Int.{w32, to_le_bytes, cast_unsigned}
-use Rattle.bd_value.specs.Tree.{Scalar, int32, text, Tree, leaf, doc, array, Items, no_items, item, Fields, no_fields, field, Doc, fields_of}
-
--- the byte before an element's name, which tells the type of its value
-abbrev pub type_byte : Tree → ℕ
-type_byte (leaf (int32 z)) = 16
-type_byte (leaf (text s)) = 2
-type_byte (doc fs) = 3
-type_byte (array ts) = 4
+use Rattle.std.specs.Int.{w32, w64, to_le_bytes, cast_unsigned}
+use Rattle.bd_value.specs.Tree as trees
+use Rattle.bd_value.specs.Tree.{Scalar, Tree, leaf, doc, array, code_scope, Items, no_items, item, Fields, no_fields, field, Doc, fields_of}
+use Rattle.bd_value.specs.Kind.{kind_of}
+use Rattle.bd_bson.specs.Types.{type_byte}
 
 -- `int32`: four bytes, least first
 unfoldable pub number : ℕ → List ℕ
 number n = to_le_bytes w32 n
+
+-- `int64` and `uint64`: eight bytes, least first
+unfoldable pub long : ℕ → List ℕ
+long n = to_le_bytes w64 n
 
 -- `cstring`, without its last byte: UTF-8 with no zero in it
 abbrev pub IsName : List ℕ → Type 0
@@ -27,13 +27,39 @@ string s = number (length s + 1) ++ (s ++ 0 ∷ [])
 abbrev pub framed : List ℕ → List ℕ
 framed body = number (length body + 5) ++ (body ++ 0 ∷ [])
 
+-- the data of `binary`: of subtype 02 the count of the bytes behind it comes first
+abbrev pub data_of : ℕ → List ℕ → List ℕ
+data_of subtype payload = if subtype == 2 then number (length payload) ++ payload else payload
+
+-- `code_w_s`: the length with itself, the code, the scope
+abbrev pub scoped : List ℕ → List ℕ → List ℕ
+scoped code scope = number (length (string code ++ scope) + 4) ++ (string code ++ scope)
+
 -- `element`: the type, the name ended by a zero, the value
 abbrev pub element : Tree → List ℕ → List ℕ → List ℕ
-element t name value = type_byte t ∷ (name ++ 0 ∷ value)
+element t name value = type_byte (kind_of t) ∷ (name ++ 0 ∷ value)
+
+-- a text that a `string` can hold
+abbrev pub IsText : List ℕ → Type 0
+IsText s = IsUtf8 s × (length s + 1 < 2 ^ 32)
 
 abbrev pub IsScalar : Scalar → List ℕ → Type 0
-IsScalar (int32 z) bytes = FitsSigned w32 z × (bytes ≡ number (cast_unsigned w32 z))
-IsScalar (text s) bytes = IsUtf8 s × (bytes ≡ string s) × (length s + 1 < 2 ^ 32)
+IsScalar trees.min_key bytes = bytes ≡ []
+IsScalar trees.undefined bytes = bytes ≡ []
+IsScalar trees.null bytes = bytes ≡ []
+IsScalar trees.max_key bytes = bytes ≡ []
+IsScalar (trees.int32 z) bytes = FitsSigned w32 z × (bytes ≡ number (cast_unsigned w32 z))
+IsScalar (trees.int64 z) bytes = FitsSigned w64 z × (bytes ≡ long (cast_unsigned w64 z))
+IsScalar (trees.date z) bytes = FitsSigned w64 z × (bytes ≡ long (cast_unsigned w64 z))
+IsScalar (trees.timestamp seconds increment) bytes = (seconds < 2 ^ 32) × (increment < 2 ^ 32) × (bytes ≡ number increment ++ number seconds)
+IsScalar (trees.boolean b) bytes = bytes ≡ (if b then 1 else 0) ∷ []
+IsScalar (trees.object_id id) bytes = (length id ≡ 12) × (bytes ≡ id)
+IsScalar (trees.text s) bytes = IsText s × (bytes ≡ string s)
+IsScalar (trees.symbol s) bytes = IsText s × (bytes ≡ string s)
+IsScalar (trees.code s) bytes = IsText s × (bytes ≡ string s)
+IsScalar (trees.db_pointer s id) bytes = IsText s × (length id ≡ 12) × (bytes ≡ string s ++ id)
+IsScalar (trees.regex pattern options) bytes = IsName pattern × IsName options × (bytes ≡ pattern ++ 0 ∷ (options ++ 0 ∷ []))
+IsScalar (trees.binary subtype payload) bytes = (subtype < 256) × (length (data_of subtype payload) < 2 ^ 31) × (bytes ≡ number (length (data_of subtype payload)) ++ subtype ∷ data_of subtype payload)
 
 -- The bytes spell the value. An array is spelled as a document whose names are any names.
 abbrev mutual
@@ -41,6 +67,7 @@ abbrev mutual
   IsValue (leaf s) bytes = IsScalar s bytes
   IsValue (doc fs) bytes = (body : List ℕ) × AreFields fs body × (bytes ≡ framed body)
   IsValue (array ts) bytes = (body : List ℕ) × AreItems ts body × (bytes ≡ framed body)
+  IsValue (code_scope s fs) bytes = (body : List ℕ) × AreFields fs body × (bytes ≡ scoped s (framed body)) × IsText s
 
   -- `e_list` of a document
   pub AreFields : Fields → List ℕ → Type 0
@@ -52,12 +79,14 @@ abbrev mutual
   AreItems no_items bytes = bytes ≡ []
   AreItems (item t ts) bytes = (name : List ℕ) × (value : List ℕ) × (rest : List ℕ) × IsName name × IsValue t value × AreItems ts rest × (bytes ≡ element t name value ++ rest)
 
--- how deep documents and arrays nest: each is one deeper than the deepest value in it
+-- How deep documents and arrays nest: each is one deeper than the deepest value in it, and code with scope one deeper
+-- than its scope.
 abbrev mutual
   pub depth : Tree → ℕ
   depth (leaf s) = 0
   depth (doc fs) = suc (fields_depth fs)
   depth (array ts) = suc (items_depth ts)
+  depth (code_scope s fs) = suc (suc (fields_depth fs))
 
   pub fields_depth : Fields → ℕ
   fields_depth no_fields = 0

@@ -2,14 +2,17 @@
 
 ghost use Rattle.std.specs.Prelude.{◌≡◌, ◌≤◌, ◌<◌, ◌+◌, length, IfOk, IfSome, option_map, Option, Some, suc};
 ghost use Rattle.bd_bson.specs.Gives.{Gives};
-ghost use Rattle.bd_bson.specs.FirstFault.{past_value, past_element, past_elements, past_nested, past_document, start, first_fault};
+ghost use Rattle.bd_bson.specs.FirstFault.{past_value, past_typed, past_element, past_elements, past_body, past_code_scope, past_nested, past_document, start, first_fault};
 ghost use Rattle.bd_bson.specs.Told.{Finds};
 ghost use Rattle.bd_bson.specs.Spelling.{IsDocument};
 ghost use Rattle.bd_bson.specs.Sound.{stands};
 ghost use Rattle.bd_value.specs.Tree.{pairs_in};
 
+use crate::element::{ElementType, Holder};
 use crate::fault::{Fault, FaultKind, Stop, fault_at, fault_of, within};
-use crate::parts::{frame, kind_at, name, number, string};
+use crate::parts::{
+    binary, boolean, code_frame, fixed, frame, known_type, name, regex, scope_end, string,
+};
 use crate::raw::RawDoc;
 use bd_value::Kind;
 use std::alloc::Global;
@@ -58,15 +61,36 @@ fn element(
     let q = e - bytes.len() as u64;
     let byte = bytes[0];
     let (_, rest) = bytes.split_at(1);
-    let kind = kind_at(alloc, q, byte)?;
-    let (name, rest) = name(alloc, e, rest)?;
-    match value(alloc, room, kind, q, e, rest) {
+    let element_type = known_type(alloc, q, byte)?;
+    let (name, rest) = name(alloc, FaultKind::NameUnended, e, rest)?;
+    match typed(alloc, room, element_type, q, e, rest) {
         Ok(rest) => Ok(rest),
         Err(stop) => Err(within(alloc, place, name, stop)),
     }
 }
 
-/// Goes past the value of an element whose type byte stands at `q`.
+/// Goes past the value of an element whose type byte stands at `q`. Doubles and decimal128 are refused unseen.
+#[cycle(checking)]
+fn typed(
+    alloc: Global,
+    room: u32,
+    element_type: ElementType,
+    q: u64,
+    e: u64,
+    bytes: &[u8],
+) -> Result<&[u8], Stop>
+    requires { length bytes.now ≤ e }
+    ensures gives { Gives (λ x. x.now) result (past_typed (past_nested room) element_type q e bytes.now) }
+    ensures after { IfOk result (λ x. length x.now ≤ length bytes.now) }
+{
+    match element_type {
+        ElementType::Kept(kind) => value(alloc, room, kind, q, e, bytes),
+        ElementType::Double => Err(fault_at(alloc, FaultKind::Double, q)),
+        ElementType::Decimal128 => Err(fault_at(alloc, FaultKind::Decimal128, q)),
+    }
+}
+
+/// Goes past a value of that kind, whose element's type byte stands at `q`.
 #[cycle(checking)]
 fn value(alloc: Global, room: u32, kind: Kind, q: u64, e: u64, bytes: &[u8]) -> Result<&[u8], Stop>
     requires { length bytes.now ≤ e }
@@ -74,36 +98,81 @@ fn value(alloc: Global, room: u32, kind: Kind, q: u64, e: u64, bytes: &[u8]) -> 
     ensures after { IfOk result (λ x. length x.now ≤ length bytes.now) }
 {
     match kind {
-        Kind::Int32 => {
-            let (_, rest) = number(alloc, FaultKind::ValueShort, e, bytes)?;
-            Ok(rest)
+        Kind::MinKey | Kind::Undefined | Kind::Null | Kind::MaxKey => Ok(bytes),
+        Kind::Int32 => fixed(alloc, 4, e, bytes),
+        Kind::Int64 | Kind::Date | Kind::Timestamp => fixed(alloc, 8, e, bytes),
+        Kind::ObjectId => fixed(alloc, 12, e, bytes),
+        Kind::Bool => boolean(alloc, e, bytes),
+        Kind::Text | Kind::Symbol | Kind::Code => string(alloc, e, bytes),
+        Kind::DbPointer => {
+            let rest = string(alloc, e, bytes)?;
+            fixed(alloc, 12, e, rest)
         }
-        Kind::Text => string(alloc, e, bytes),
-        Kind::Doc => nested(alloc, room, false, q, e, bytes),
-        Kind::Array => nested(alloc, room, true, q, e, bytes),
+        Kind::Binary => binary(alloc, e, bytes),
+        Kind::Regex => regex(alloc, e, bytes),
+        Kind::Doc => nested(alloc, room, Holder::Document, q, e, bytes),
+        Kind::Array => nested(alloc, room, Holder::Array, q, e, bytes),
+        Kind::CodeScope => nested(alloc, room, Holder::CodeScope, q, e, bytes),
     }
 }
 
-/// Goes past a document or an array, with so many levels left for it.
+/// Goes past what holds values, with so many levels left for it.
 #[cycle(checking)]
 fn nested(
     alloc: Global,
     room: u32,
-    in_array: bool,
+    holder: Holder,
     q: u64,
     e: u64,
     bytes: &[u8],
 ) -> Result<&[u8], Stop>
     requires { length bytes.now ≤ e }
-    ensures gives { Gives (λ x. x.now) result (past_nested room in_array q e bytes.now) }
+    ensures gives { Gives (λ x. x.now) result (past_nested room holder q e bytes.now) }
     ensures after { IfOk result (λ x. length x.now ≤ length bytes.now) }
 {
     if room == 0 {
         return Err(fault_at(alloc, FaultKind::TooDeep, q));
     }
+    match holder {
+        Holder::Document => body(alloc, room - 1, false, e, bytes),
+        Holder::Array => body(alloc, room - 1, true, e, bytes),
+        Holder::CodeScope => {
+            if room == 1 {
+                return Err(fault_at(alloc, FaultKind::TooDeep, q));
+            }
+            code_scope(alloc, room - 1, q, e, bytes)
+        }
+    }
+}
+
+/// Goes past a document or an array, with so many levels left below it.
+#[cycle(checking)]
+fn body(alloc: Global, room: u32, in_array: bool, e: u64, bytes: &[u8]) -> Result<&[u8], Stop>
+    requires { length bytes.now ≤ e }
+    ensures gives { Gives (λ x. x.now) result (past_body (past_nested room) in_array e bytes.now) }
+    ensures after { IfOk result (λ x. length x.now ≤ length bytes.now) }
+{
     let (body, end, rest) = frame(alloc, false, e, bytes)?;
-    elements(alloc, room - 1, in_array, end, body)?;
+    elements(alloc, room, in_array, end, body)?;
     Ok(rest)
+}
+
+/// Goes past code with scope, with so many levels left for its scope.
+#[cycle(checking)]
+fn code_scope(alloc: Global, room: u32, q: u64, e: u64, bytes: &[u8]) -> Result<&[u8], Stop>
+    requires { length bytes.now ≤ e }
+    ensures gives { Gives (λ x. x.now) result (past_code_scope (past_nested room) q e bytes.now) }
+    ensures after { IfOk result (λ x. length x.now ≤ length bytes.now) }
+{
+    let (parts, end, rest) = code_frame(alloc, e, bytes)?;
+    let scope = string(alloc, end, parts)?;
+    match nested(alloc, room, Holder::Document, q, end, scope) {
+        Ok(after) => {
+            scope_end(alloc, e - bytes.len() as u64, after)?;
+            Ok(rest)
+        }
+        Err(stop) => Err(within(alloc, None, "$scope", stop)),
+    }
 }
 
 /// Goes past the document that all of the bytes are to be.

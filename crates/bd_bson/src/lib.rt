@@ -6,10 +6,12 @@ mod collecting;
 mod collection;
 #[cfg(test)]
 mod collection_tests;
+mod contents;
 mod copy;
 #[cfg(test)]
 mod devices_tests;
 mod dump_laws;
+mod element;
 mod fault;
 mod input;
 mod laws;

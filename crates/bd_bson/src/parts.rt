@@ -5,11 +5,12 @@
 
 ghost use Rattle.std.specs.Prelude.{◌≡◌, ◌≤◌, ◌<◌, ◌+◌, ◌^◌, length, IfOk};
 ghost use Rattle.bd_bson.specs.Gives.{Gives};
-ghost use Rattle.bd_bson.specs.FirstFault.{past_number, past_zero, text_at, past_name, past_string, past_frame, known, kind_byte};
+ghost use Rattle.bd_bson.specs.FirstFault.{past_number, past_zero, text_at, past_name, past_string, past_frame, past_fixed, past_boolean, past_data, past_binary, past_regex, past_code_frame, past_scope_end, known};
+ghost use Rattle.bd_bson.specs.Types.{type_at};
 
+use crate::element::{ElementType, element_type};
 use crate::fault::{FaultKind, Stop, fault_at};
-use crate::raw_parts::first_zero;
-use bd_value::Kind;
+use crate::raw_parts as raw;
 use std::alloc::Global;
 
 /// A number of four bytes, and the bytes behind it.
@@ -49,15 +50,15 @@ fn text(alloc: Global, at: u64, bytes: &[u8]) -> Result<&str, Stop>
     }
 }
 
-/// The name up to the first zero, and the bytes behind that zero.
-pub fn name(alloc: Global, e: u64, bytes: &[u8]) -> Result<(&str, &[u8]), Stop>
+/// The text up to the first zero, and the bytes behind that zero. `unended` is the fault where there is no zero.
+pub fn name(alloc: Global, unended: FaultKind, e: u64, bytes: &[u8]) -> Result<(&str, &[u8]), Stop>
     requires { length bytes.now ≤ e }
-    ensures gives { Gives (λ x. (x.0.now, x.1.now)) result (past_name e bytes.now) }
+    ensures gives { Gives (λ x. (x.0.now, x.1.now)) result (past_name unended e bytes.now) }
     ensures after { IfOk result (λ x. length x.1.now < length bytes.now) }
 {
     let at = e - bytes.len() as u64;
-    match first_zero(bytes) {
-        None => Err(fault_at(alloc, FaultKind::NameUnended, at)),
+    match raw::first_zero(bytes) {
+        None => Err(fault_at(alloc, unended, at)),
         Some(k) => {
             let (front, _) = bytes.split_at(k);
             let (_, rest) = bytes.split_at(k + 1);
@@ -110,15 +111,115 @@ pub fn frame(alloc: Global, top: bool, e: u64, bytes: &[u8]) -> Result<(&[u8], u
     Ok((body, end, rest))
 }
 
-/// The kind that a type byte at `q` tells.
-pub fn kind_at(alloc: Global, q: u64, byte: u8) -> Result<Kind, Stop>
-    ensures { Gives (λ x. x) result (known q (kind_byte byte)) }
+/// The bytes behind `n` bytes.
+pub fn fixed(alloc: Global, n: usize, e: u64, bytes: &[u8]) -> Result<&[u8], Stop>
+    requires { length bytes.now ≤ e }
+    ensures gives { Gives (λ x. x.now) result (past_fixed n e bytes.now) }
+    ensures after { IfOk result (λ x. length x.now ≤ length bytes.now) }
 {
-    match byte {
-        0x02 => Ok(Kind::Text),
-        0x03 => Ok(Kind::Doc),
-        0x04 => Ok(Kind::Array),
-        0x10 => Ok(Kind::Int32),
-        _ => Err(fault_at(alloc, FaultKind::UnknownType, q)),
+    if bytes.len() < n {
+        return Err(fault_at(alloc, FaultKind::ValueShort, e - bytes.len() as u64));
+    }
+    let (_, rest) = bytes.split_at(n);
+    Ok(rest)
+}
+
+/// The bytes behind a boolean.
+pub fn boolean(alloc: Global, e: u64, bytes: &[u8]) -> Result<&[u8], Stop>
+    requires { length bytes.now ≤ e }
+    ensures gives { Gives (λ x. x.now) result (past_boolean e bytes.now) }
+    ensures after { IfOk result (λ x. length x.now ≤ length bytes.now) }
+{
+    match bytes {
+        [] => Err(fault_at(alloc, FaultKind::ValueShort, e)),
+        [0 | 1, rest @ ..] => Ok(rest),
+        _ => Err(fault_at(alloc, FaultKind::BadBoolean, e - bytes.len() as u64)),
+    }
+}
+
+/// The bytes behind the data of binary that stands at `at`. There are `count` data, of which subtype 02 counts all
+/// but the first four once more.
+fn data(alloc: Global, at: u64, subtype: u8, count: u32, bytes: &[u8]) -> Result<&[u8], Stop>
+    requires some { count ≤ length bytes.now }
+    requires place { at + 5 < 2 ^ 64 }
+    ensures gives { Gives (λ x. x.now) result (past_data at subtype count bytes.now) }
+    ensures after { IfOk result (λ x. length x.now ≤ length bytes.now) }
+{
+    if subtype == 2 {
+        if count < 4 {
+            return Err(fault_at(alloc, FaultKind::BadBinaryLength, at));
+        }
+        if raw::number(bytes) != count - 4 {
+            return Err(fault_at(alloc, FaultKind::BadBinaryLength, at + 5));
+        }
+    }
+    let (_, rest) = bytes.split_at(count as usize);
+    Ok(rest)
+}
+
+/// The bytes behind binary.
+#[tactic(auto, unfolding(crate::specs::FirstFault::past_binary))]
+pub fn binary(alloc: Global, e: u64, bytes: &[u8]) -> Result<&[u8], Stop>
+    requires { length bytes.now ≤ e }
+    ensures gives { Gives (λ x. x.now) result (past_binary e bytes.now) }
+    ensures after { IfOk result (λ x. length x.now ≤ length bytes.now) }
+{
+    let at = e - bytes.len() as u64;
+    if bytes.len() < 5 {
+        return Err(fault_at(alloc, FaultKind::ValueShort, at));
+    }
+    let count = raw::number(bytes);
+    let (head, rest) = bytes.split_at(5);
+    if count > 2_147_483_647 || count as usize > rest.len() {
+        return Err(fault_at(alloc, FaultKind::BadBinaryLength, at));
+    }
+    data(alloc, at, head[4], count, rest)
+}
+
+/// The bytes behind a regular expression.
+pub fn regex(alloc: Global, e: u64, bytes: &[u8]) -> Result<&[u8], Stop>
+    requires { length bytes.now ≤ e }
+    ensures gives { Gives (λ x. x.now) result (past_regex e bytes.now) }
+    ensures after { IfOk result (λ x. length x.now ≤ length bytes.now) }
+{
+    let (_pattern, rest) = name(alloc, FaultKind::StringUnended, e, bytes)?;
+    let (_options, rest) = name(alloc, FaultKind::StringUnended, e, rest)?;
+    Ok(rest)
+}
+
+/// The bytes of the code and the scope of code with scope, the place where these end, and the bytes behind it.
+#[tactic(auto, unfolding(crate::specs::FirstFault::past_code_frame))]
+pub fn code_frame(alloc: Global, e: u64, bytes: &[u8]) -> Result<(&[u8], u64, &[u8]), Stop>
+    requires { length bytes.now ≤ e }
+    ensures gives { Gives (λ x. (x.0.now, x.1, x.2.now)) result (past_code_frame e bytes.now) }
+    ensures inside { IfOk result (λ x. length x.0.now ≤ x.1) }
+    ensures after { IfOk result (λ x. length x.2.now ≤ length bytes.now) }
+{
+    let (n, rest) = number(alloc, FaultKind::ValueShort, e, bytes)?;
+    let n = n as usize;
+    if n < 14 || n > bytes.len() {
+        return Err(fault_at(alloc, FaultKind::BadScopeLength, e - bytes.len() as u64));
+    }
+    let (parts, after) = rest.split_at(n - 4);
+    Ok((parts, e - after.len() as u64, after))
+}
+
+/// Nothing is left behind the scope of the code with scope that stands at `at`.
+pub fn scope_end(alloc: Global, at: u64, bytes: &[u8]) -> Result<(), Stop>
+    ensures { Gives (λ x. tt) result (past_scope_end at bytes.now) }
+{
+    match bytes {
+        [] => Ok(()),
+        _ => Err(fault_at(alloc, FaultKind::BadScopeLength, at)),
+    }
+}
+
+/// The type that a type byte at `q` tells.
+pub fn known_type(alloc: Global, q: u64, byte: u8) -> Result<ElementType, Stop>
+    ensures { Gives (λ x. x) result (known q (type_at byte)) }
+{
+    match element_type(byte) {
+        Some(element) => Ok(element),
+        None => Err(fault_at(alloc, FaultKind::UnknownType, q)),
     }
 }

@@ -1,14 +1,11 @@
 //! Values that stay in their bytes.
 
 ghost use Rattle.std.specs.Prelude.{◌≡◌, ◌≤◌, ◌+◌, length, drop, IfSome, IfNone, [], ◌∷◌};
-ghost use Rattle.std.specs.Int.{w32, cast_signed};
-ghost use Rattle.bd_value.specs.Tree.{leaf, int32, text as text_of, Doc, pairs_in};
-ghost use Rattle.bd_bson.specs.Spelling.{IsDocument};
+ghost use Rattle.bd_value.specs.Tree.{Doc, pairs_in};
 ghost use Rattle.bd_value.specs.Kind.{kind_of};
 ghost use Rattle.bd_value.specs.declared.kind.Kind.TheVariants as kinds;
+ghost use Rattle.bd_bson.specs.Spelling.{IsDocument};
 ghost use Rattle.bd_bson.specs.Sound.{Sound, Sound-prop, Left, Left-prop, stands, extent, elements_left};
-ghost use Rattle.bd_bson.specs.Body.{IsBody, HoldsElements};
-ghost use Rattle.bd_bson.specs.Sizes.{number_of};
 
 use crate::raw_parts as parts;
 use bd_value::Kind;
@@ -16,27 +13,27 @@ use bd_value::Kind;
 /// A value in bytes, which are known to spell one.
 #[derive(Clone, Copy)]
 pub struct RawValue<'a> {
-    bytes: &'a [u8],
-    start: usize,
-    byte: u8,
+    pub(crate) bytes: &'a [u8],
+    pub(crate) start: usize,
+    pub(crate) kind: Kind,
     ghost inside: { start ≤ length bytes.now },
-    ghost sound: { Sound byte (drop start bytes.now) } by { Sound-prop byte (drop start bytes.now) },
+    ghost sound: { Sound kind (drop start bytes.now) } by { Sound-prop kind (drop start bytes.now) },
 }
 
 /// A document in bytes, which are known to spell one.
 #[derive(Clone, Copy)]
 pub struct RawDoc<'a> {
-    bytes: &'a [u8],
-    start: usize,
+    pub(crate) bytes: &'a [u8],
+    pub(crate) start: usize,
     ghost inside: { start ≤ length bytes.now },
-    ghost sound: { Sound 3 (drop start bytes.now) } by { Sound-prop 3 (drop start bytes.now) },
+    ghost sound: { Sound kinds.Doc (drop start bytes.now) } by { Sound-prop kinds.Doc (drop start bytes.now) },
 }
 
 /// The elements of a document or an array, from one on.
 #[derive(Clone, Copy)]
 pub struct Elements<'a> {
-    bytes: &'a [u8],
-    at: usize,
+    pub(crate) bytes: &'a [u8],
+    pub(crate) at: usize,
     ghost left: { Left (drop at bytes.now) } by { Left-prop (drop at bytes.now) },
 }
 
@@ -49,16 +46,25 @@ impl<'a> RawDoc<'a> {
         RawDoc { bytes, start: 0 }
     }
 
+    /// The document as a value.
+    pub fn value(self) -> RawValue<'a>
+        ensures { stands result.sound ≡ stands self.entry.sound }
+    {
+        RawValue {
+            bytes: self.bytes,
+            start: self.start,
+            kind: Kind::Doc,
+        }
+    }
+
     /// The elements.
     pub fn elements(self) -> Elements<'a>
         ensures { elements_left result.left ≡ pairs_in (stands self.entry.sound) }
     {
-        let value = RawValue {
+        Elements {
             bytes: self.bytes,
-            start: self.start,
-            byte: 0x03,
-        };
-        value.elements()
+            at: self.start + 4,
+        }
     }
 }
 
@@ -68,47 +74,14 @@ impl<'a> RawValue<'a> {
         ensures { result ≡ self.entry.start + extent self.entry.sound }
     {
         let (_, here) = self.bytes.split_at(self.start);
-        self.start + parts::size(self.byte, here)
+        self.start + parts::size(self.kind, here)
     }
 
     /// What it is.
     pub fn kind(self) -> Kind
         ensures { result ≡ kind_of (stands self.entry.sound) }
     {
-        parts::kind(self.byte)
-    }
-
-    /// The number of an int32.
-    pub fn int32(self) -> i32
-        requires { kind_of (stands self.sound) ≡ kinds.Int32 }
-        ensures { stands self.entry.sound ≡ leaf (int32 result) }
-    {
-        let (_, here) = self.bytes.split_at(self.start);
-        parts::number(here).cast_signed()
-    }
-
-    /// The text of a string.
-    pub fn text(self) -> &'a str
-        requires { kind_of (stands self.sound) ≡ kinds.Text }
-        ensures { stands self.entry.sound ≡ leaf (text_of result.now) }
-    {
-        let (_, here) = self.bytes.split_at(self.start);
-        let n = parts::number(here) as usize;
-        let (_, front) = here.split_at(4);
-        let (text, _) = front.split_at(n - 1);
-        // These bytes were found to be UTF-8 when the document was checked.
-        unsafe { std::str::from_utf8_unchecked(text) }
-    }
-
-    /// The elements of a document or an array.
-    pub fn elements(self) -> Elements<'a>
-        requires { HoldsElements (stands self.sound) }
-        ensures { IsBody (stands self.entry.sound) (elements_left result.left) }
-    {
-        Elements {
-            bytes: self.bytes,
-            at: self.start + 4,
-        }
+        self.kind
     }
 }
 
@@ -123,23 +96,16 @@ impl<'a> Elements<'a> {
             return None;
         }
         let (_, tail) = self.bytes.split_at(self.at + 1);
-        match parts::first_zero(tail) {
-            None => unreachable!(),
-            Some(k) => {
-                let (name, _) = tail.split_at(k);
-                // These bytes were found to be UTF-8 when the document was checked.
-                let name = unsafe { std::str::from_utf8_unchecked(name) };
-                let value = RawValue {
-                    bytes: self.bytes,
-                    start: self.at + k + 2,
-                    byte,
-                };
-                let after = Elements {
-                    bytes: self.bytes,
-                    at: value.end(),
-                };
-                Some((name, value, after))
-            }
-        }
+        let (name, _) = parts::name(tail);
+        let value = RawValue {
+            bytes: self.bytes,
+            start: self.at + name.len() + 2,
+            kind: parts::kept(byte),
+        };
+        let after = Elements {
+            bytes: self.bytes,
+            at: value.end(),
+        };
+        Some((name, value, after))
     }
 }

@@ -1,4 +1,5 @@
 use Rattle.std.proofs.Common.{arith, sym}
+use Rattle.std.specs.Prelude.{codes}
 use Rattle.std.proofs.lemmas.Result.{err_from_is_err_and}
 use Rattle.std.proofs.lemmas.List.{nil_from_length}
 use Rattle.std.proofs.lemmas.Bool.{eqb-true}
@@ -10,7 +11,7 @@ use Rattle.bd_bson.proofs.check.+checking.Goals as goal
 
 pub element-returns-in-Err-clause-gives : goal.element-returns-in-Err-clause-gives
 element-returns-in-Err-clause-gives t c =
-    nested.element_fails c.within.result (past_nested c.args.room) c.args.place c.args.e c.args.bytes.now c.in_ok-kind.kind c.split_at.result.1.now c.in_ok-name.name.now c.in_ok-name.rest.now c.requires.some c.in_ok-kind.ensures (sym c.split_at.ensures.back) c.in_ok-name.ensures.gives
+    nested.element_fails c.within.result (past_nested c.args.room) c.args.place c.args.e c.args.bytes.now c.in_ok-element_type.element_type c.split_at.result.1.now c.in_ok-name.name.now c.in_ok-name.rest.now c.requires.some c.in_ok-element_type.ensures (sym c.split_at.ensures.back) c.in_ok-name.ensures.gives
     (fails_within c.in-Err.stop c.within.result (label c.args.place c.in_ok-name.name.now) _ c.within.ensures c.in-Err.ensures.gives)
 
 pub elements-returns-in_err-rest : goal.elements-returns-in_err-rest
@@ -34,19 +35,25 @@ elements-returns t c = loop.is_done c.loop-rest.place c.args.room c.args.e c.loo
 
 pub nested-returns-then-room-eq0-clause-gives : goal.nested-returns-then-room-eq0-clause-gives
 nested-returns-then-room-eq0-clause-gives t c =
-    told_fails c.fault_at.result _ (past_nested c.args.room c.args.in_array c.args.q c.args.e c.args.bytes.now) c.fault_at.ensures (nested.too_deep c.args.in_array c.args.room c.args.q c.args.e c.args.bytes.now (omega arith))
+    told_fails c.fault_at.result _ (past_nested c.args.room c.args.holder c.args.q c.args.e c.args.bytes.now) c.fault_at.ensures (nested.too_deep c.args.holder c.args.room c.args.q c.args.e c.args.bytes.now (omega arith))
 
-pub nested-returns-in_err-body-clause-gives : goal.nested-returns-in_err-body-clause-gives
-nested-returns-in_err-body-clause-gives t c =
-    let p = err_from_is_err_and c.from_residual.result c.from_residual.ensures.1 in
-    rw (p.1, p.2) (nested.frame_fails c.in_err-body.field-0.0 c.args.in_array c.args.room c.args.q c.args.e c.args.bytes.now (omega arith) c.in_err-body.ensures.gives)
+pub nested-returns-then-room-eq1-clause-gives : goal.nested-returns-then-room-eq1-clause-gives
+nested-returns-then-room-eq1-clause-gives t c =
+    told_fails c.fault_at-then-room-eq1.result _ (past_nested c.args.room c.args.holder c.args.q c.args.e c.args.bytes.now) c.fault_at-then-room-eq1.ensures (nested.code_too_deep c.args.holder c.args.room c.args.q c.args.e c.args.bytes.now c.in-CodeScope.is c.if-room-eq1.true)
 
-pub nested-returns-in_err-elements-clause-gives : goal.nested-returns-in_err-elements-clause-gives
-nested-returns-in_err-elements-clause-gives t c =
-    let r = c.from_residual-in_err-elements in
-    let p = err_from_is_err_and r.result r.ensures.1 in
-    rw (p.1, p.2) (nested.elements_fail c.in_err-elements.field-0.0 c.args.in_array c.args.room c.args.q c.args.e c.args.bytes.now c.in_ok-body.body.now c.in_ok-body.end c.in_ok-body.rest.now (omega arith) c.in_ok-body.ensures.gives c.in_err-elements.ensures)
+pub nested-returns-in-Document-clause-gives : goal.nested-returns-in-Document-clause-gives
+nested-returns-in-Document-clause-gives t c =
+    nested.document_gives c.args.holder c.args.room c.args.q c.args.e c.args.bytes.now c.body.result c.in-Document.is (omega arith) c.body.ensures.gives
 
-pub nested-returns-clause-gives : goal.nested-returns-clause-gives
-nested-returns-clause-gives t c =
-    nested.elements_pass c.args.in_array c.args.room c.args.q c.args.e c.args.bytes.now c.in_ok-body.body.now c.in_ok-body.end c.in_ok-body.rest.now (omega arith) c.in_ok-body.ensures.gives c.in_ok-elements.ensures
+pub nested-returns-in-Array-clause-gives : goal.nested-returns-in-Array-clause-gives
+nested-returns-in-Array-clause-gives t c =
+    nested.array_gives c.args.holder c.args.room c.args.q c.args.e c.args.bytes.now c.body-in-Array.result c.in-Array.is (omega arith) c.body-in-Array.ensures.gives
+
+pub nested-returns-else-room-eq1-clause-gives : goal.nested-returns-else-room-eq1-clause-gives
+nested-returns-else-room-eq1-clause-gives t c =
+    nested.code_gives c.args.holder c.args.room c.args.q c.args.e c.args.bytes.now c.code_scope.result c.in-CodeScope.is (omega arith) c.code_scope.ensures.gives
+
+pub code_scope-returns-in-Err-clause-gives : goal.code_scope-returns-in-Err-clause-gives
+code_scope-returns-in-Err-clause-gives t c =
+    nested.scope_fails c.within.result (past_nested c.args.room) c.args.q c.args.e c.args.bytes.now c.in_ok-parts.parts.now c.in_ok-parts.end c.in_ok-parts.rest.now c.in_ok-scope.scope.now c.in_ok-parts.ensures.gives c.in_ok-scope.ensures.gives
+    (fails_within c.in-Err.stop c.within.result (codes "$scope") _ c.within.ensures c.in-Err.ensures.gives)

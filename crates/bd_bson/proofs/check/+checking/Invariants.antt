@@ -4,17 +4,26 @@ use Rattle.bd_bson.specs.FirstFault.{past_elements, past_nested, start}
 use Rattle.bd_bson.proofs.Takes.{IsBytes}
 use Rattle.bd_bson.proofs.check.+checking.Given as goal
 
+abbrev pub decreases-body : goal.decreases-body
+decreases-body l = 7 * l.room + 6
+
 abbrev pub decreases-elements : goal.decreases-elements
-decreases-elements l = 4 * l.room + 3
+decreases-elements l = 7 * l.room + 5
 
 abbrev pub decreases-element : goal.decreases-element
-decreases-element l = 4 * l.room + 2
+decreases-element l = 7 * l.room + 4
+
+abbrev pub decreases-typed : goal.decreases-typed
+decreases-typed l = 7 * l.room + 3
 
 abbrev pub decreases-value : goal.decreases-value
-decreases-value l = 4 * l.room + 1
+decreases-value l = 7 * l.room + 2
+
+abbrev pub decreases-code_scope : goal.decreases-code_scope
+decreases-code_scope l = 7 * l.room + 1
 
 abbrev pub decreases-nested : goal.decreases-nested
-decreases-nested l = 4 * l.room
+decreases-nested l = 7 * l.room
 
 abbrev pub invariant-elements-loop-rest : goal.invariant-elements-loop-rest
 invariant-elements-loop-rest l = record {

@@ -1,4 +1,5 @@
 use Rattle.std.proofs.Common.{◌∙◌, length, ◌≡◌, refl}
+use Rattle.bd_value.specs.Kind.{kind_of}
 use Rattle.bd_bson.proofs.Steps as s
 use Rattle.bd_bson.proofs.raw.Elements.next.Goals as goal
 
@@ -8,37 +9,34 @@ bounds-self-self c = s.front_of_left c.args.self.bytes.now c.args.self.at c.args
 pub returns-then-byte-eq0-clause-none : goal.returns-then-byte-eq0-clause-none
 returns-then-byte-eq0-clause-none c = s.at_end c.args.self.bytes.now c.args.self.at c.args.self.left c.if-byte-eq0.true
 
-pub unreachable-requires : goal.unreachable-requires
-unreachable-requires c =
+pub name-requires : goal.name-requires
+name-requires c =
     let n = s.next_of c.args.self.bytes.now c.args.self.at c.args.self.left c.if-byte-eq0.false in
-    let p = s.zero_place c.args.self.bytes.now c.args.self.at c.args.self.left.fields n c.split_at.result.1.now _ c.split_at.ensures.back c.in-None.ensures.place in
-    cc
+    s.name_at c.args.self.bytes.now c.args.self.at c.args.self.left.fields n c.split_at.result.1.now c.split_at.ensures.back
 
-pub from_utf8_unchecked-name-requires : goal.from_utf8_unchecked-name-requires
-from_utf8_unchecked-name-requires c =
+pub kept-requires : goal.kept-requires
+kept-requires c =
     let n = s.next_of c.args.self.bytes.now c.args.self.at c.args.self.left c.if-byte-eq0.false in
-    let p = s.zero_place c.args.self.bytes.now c.args.self.at c.args.self.left.fields n c.split_at.result.1.now _ c.split_at.ensures.back c.in-Some.ensures.place in
-    let k : c.in-Some.k ≡ length n.name = cc in
-    rw (c.split_at-in-Some.ensures.front, s.name_is c.args.self.bytes.now c.args.self.at c.args.self.left.fields n c.split_at.result.1.now c.in-Some.k c.split_at.ensures.back k) n.named.0
+    (kind_of n.tree, s.type_here c.args.self.bytes.now c.args.self.at c.args.self.left.fields n)
 
 pub invariant_of-value : goal.invariant_of-value
 invariant_of-value c =
     let n = s.next_of c.args.self.bytes.now c.args.self.at c.args.self.left c.if-byte-eq0.false in
-    let p = s.zero_place c.args.self.bytes.now c.args.self.at c.args.self.left.fields n c.split_at.result.1.now _ c.split_at.ensures.back c.in-Some.ensures.place in
-    let k : c.in-Some.k ≡ length n.name = cc in
-    record { inside = s.value_inside c.args.self.bytes.now c.args.self.at c.args.self.left.fields n c.in-Some.k k; sound = s.value_sound c.args.self.bytes.now c.args.self.at c.args.self.left.fields n c.in-Some.k k }
+    let k : length c.name.result.0.now ≡ length n.name = c.name.ensures.size ∙ s.name_ends c.args.self.bytes.now c.args.self.at c.args.self.left.fields n c.split_at.result.1.now c.split_at.ensures.back in
+    let kinded = s.kind_here c.args.self.bytes.now c.args.self.at c.args.self.left.fields n c.kept.result c.kept.ensures in
+    record { inside = s.value_inside c.args.self.bytes.now c.args.self.at c.args.self.left.fields n (length c.name.result.0.now) k; sound = s.value_sound c.args.self.bytes.now c.args.self.at c.args.self.left.fields n c.kept.result kinded (length c.name.result.0.now) k }
 
 pub invariant_of-after : goal.invariant_of-after
 invariant_of-after c =
     let n = s.next_of c.args.self.bytes.now c.args.self.at c.args.self.left c.if-byte-eq0.false in
-    let p = s.zero_place c.args.self.bytes.now c.args.self.at c.args.self.left.fields n c.split_at.result.1.now _ c.split_at.ensures.back c.in-Some.ensures.place in
-    let k : c.in-Some.k ≡ length n.name = cc in
-    record { left = s.after_sound c.args.self.bytes.now c.args.self.at c.args.self.left.fields n c.in-Some.k c.end.result _ k c.end.ensures }
+    let k : length c.name.result.0.now ≡ length n.name = c.name.ensures.size ∙ s.name_ends c.args.self.bytes.now c.args.self.at c.args.self.left.fields n c.split_at.result.1.now c.split_at.ensures.back in
+    let kinded = s.kind_here c.args.self.bytes.now c.args.self.at c.args.self.left.fields n c.kept.result c.kept.ensures in
+    record { left = s.after_sound c.args.self.bytes.now c.args.self.at c.args.self.left.fields n c.kept.result kinded (length c.name.result.0.now) c.end.result _ k c.end.ensures }
 
 pub returns-clause-some : goal.returns-clause-some
 returns-clause-some c =
     let n = s.next_of c.args.self.bytes.now c.args.self.at c.args.self.left c.if-byte-eq0.false in
-    let p = s.zero_place c.args.self.bytes.now c.args.self.at c.args.self.left.fields n c.split_at.result.1.now _ c.split_at.ensures.back c.in-Some.ensures.place in
-    let k : c.in-Some.k ≡ length n.name = cc in
-    let named = c.from_utf8_unchecked-name.ensures ∙ c.split_at-in-Some.ensures.front ∙ s.name_is c.args.self.bytes.now c.args.self.at c.args.self.left.fields n c.split_at.result.1.now c.in-Some.k c.split_at.ensures.back k in
-    s.shown c.args.self.bytes.now c.args.self.at c.args.self.left.fields n c.in-Some.k c.end.result c.from_utf8_unchecked-name.result.now c.args.self.left _ _ _ refl k named c.end.ensures
+    let k : length c.name.result.0.now ≡ length n.name = c.name.ensures.size ∙ s.name_ends c.args.self.bytes.now c.args.self.at c.args.self.left.fields n c.split_at.result.1.now c.split_at.ensures.back in
+    let kinded = s.kind_here c.args.self.bytes.now c.args.self.at c.args.self.left.fields n c.kept.result c.kept.ensures in
+    let named = c.name.ensures.text ∙ s.name_is c.args.self.bytes.now c.args.self.at c.args.self.left.fields n c.split_at.result.1.now c.split_at.ensures.back in
+    s.shown c.args.self.bytes.now c.args.self.at c.args.self.left.fields n c.kept.result kinded (length c.name.result.0.now) c.end.result c.name.result.0.now c.args.self.left _ _ _ refl k named c.end.ensures

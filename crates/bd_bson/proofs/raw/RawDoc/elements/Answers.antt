@@ -1,8 +1,11 @@
-use Rattle.bd_bson.proofs.Whole.{document_holds, document_pairs}
+use Rattle.std.proofs.Common.{refl}
+use Rattle.bd_value.specs.declared.kind.Kind.TheVariants as kinds
+use Rattle.bd_bson.proofs.Viewed.{document_left}
+use Rattle.bd_bson.proofs.Whole.{document_elements}
 use Rattle.bd_bson.proofs.raw.RawDoc.elements.Goals as goal
 
-pub elements-requires : goal.elements-requires
-elements-requires c = document_holds _ _
+pub invariant_of-result : goal.invariant_of-result
+invariant_of-result c = record { left = document_left c.args.self.bytes.now c.args.self.start kinds.Doc c.args.self.sound refl }
 
 pub returns : goal.returns
-returns c = document_pairs _ c.args.self.sound _ _ c.elements.ensures
+returns c = document_elements c.args.self.bytes.now c.args.self.start c.args.self.sound _

@@ -1,0 +1,6 @@
+use Rattle.std.proofs.Common.{sym, ◌∙◌}
+use Rattle.bd_bson.specs.Sound.{stands_is}
+use Rattle.bd_bson.proofs.raw.RawDoc.value.Goals as goal
+
+pub returns : goal.returns
+returns c = stands_is _ c.args.self.sound ∙ sym (stands_is c.args.self.sound c.args.self.sound)

@@ -1,0 +1,56 @@
+//! The types of elements.
+
+ghost use Rattle.std.specs.Prelude.{◌≡◌};
+ghost use Rattle.bd_bson.specs.Types.{type_at};
+
+use bd_value::Kind;
+
+/// What the type byte of an element tells.
+#[derive(Clone, Copy, Debug, PartialEq, Eq)]
+pub enum ElementType {
+    /// A value of this kind.
+    Kept(Kind),
+    /// A number that is not whole, which is not read.
+    Double,
+    /// A decimal number, which is not read.
+    Decimal128,
+}
+
+/// What holds values, by how its bytes are laid out.
+#[derive(Clone, Copy, Debug, PartialEq, Eq)]
+pub enum Holder {
+    Document,
+    Array,
+    CodeScope,
+}
+
+/// What a type byte tells; none where BSON 1.1 has no such type.
+pub fn element_type(byte: u8) -> Option<ElementType>
+    ensures { result ≡ type_at byte }
+{
+    let kind = match byte {
+        0x01 => return Some(ElementType::Double),
+        0x02 => Kind::Text,
+        0x03 => Kind::Doc,
+        0x04 => Kind::Array,
+        0x05 => Kind::Binary,
+        0x06 => Kind::Undefined,
+        0x07 => Kind::ObjectId,
+        0x08 => Kind::Bool,
+        0x09 => Kind::Date,
+        0x0A => Kind::Null,
+        0x0B => Kind::Regex,
+        0x0C => Kind::DbPointer,
+        0x0D => Kind::Code,
+        0x0E => Kind::Symbol,
+        0x0F => Kind::CodeScope,
+        0x10 => Kind::Int32,
+        0x11 => Kind::Timestamp,
+        0x12 => Kind::Int64,
+        0x13 => return Some(ElementType::Decimal128),
+        0x7F => Kind::MaxKey,
+        0xFF => Kind::MinKey,
+        _ => return None,
+    };
+    Some(ElementType::Kept(kind))
+}
