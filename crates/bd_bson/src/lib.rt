@@ -12,6 +12,7 @@ mod copy;
 mod devices_tests;
 mod dump_laws;
 mod element;
+mod elements;
 mod fault;
 mod input;
 mod laws;
@@ -24,6 +25,7 @@ mod reading;
 mod tally;
 #[cfg(test)]
 mod tests;
+mod views;
 
 pub use check::check_document;
 pub use collecting::read_dump;
@@ -33,6 +35,6 @@ pub use fault::{Fault, FaultKind};
 pub use input::{DeviceFault, Input, MemoryInput, SystemInput};
 pub use laws::{no_fault_where_spelled, spells_one_document, walks_in_one_way, walks_on};
 pub use output::{FailingWrite, MemoryOutput, Output, SystemOutput, write_all};
-pub use raw::RawDoc;
+pub use raw::{Elements, RawDoc, RawValue};
 pub use read::{Frame, next_frame, read_document};
 pub use reading::{Limits, ReadFault, read_all};

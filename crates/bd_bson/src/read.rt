@@ -9,7 +9,6 @@ ghost use Rattle.bd_bson.specs.Told.{Tells, IsWantOfMemory};
 ghost use Rattle.bd_bson.specs.Dump.{frame_length};
 
 use crate::check::check_document;
-use crate::copy;
 use crate::fault::{Fault, FaultKind, want_of_memory};
 use bd_value::Document;
 use std::alloc::Global;
@@ -36,7 +35,7 @@ pub fn read_document(alloc: Global, bytes: &[u8], base: u64, number: u32) -> Res
     ensures fault { IfErr result (Tells number (first_fault base bytes.now)) }
 {
     let raw = check_document(alloc, bytes, base, number)?;
-    match copy::document(alloc, raw.elements()) {
+    match raw.to_document(alloc) {
         Ok(document) => Ok(document),
         Err(_) => Err(want_of_memory(alloc)),
     }

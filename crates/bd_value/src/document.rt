@@ -44,11 +44,20 @@ pub enum Value {
     /// Element 0x09: milliseconds since 1970-01-01T00:00:00Z.
     Date(i64),
     /// Element 0x11: the high and the low half of a number of 64 bits.
-    Timestamp { seconds: u32, increment: u32 },
+    Timestamp {
+        seconds: u32,
+        increment: u32,
+    },
     /// Element 0x0B: a regular expression; neither text holds U+0000 where it comes from bytes.
-    Regex { pattern: String, options: String },
+    Regex {
+        pattern: String,
+        options: String,
+    },
     /// Element 0x0C: a name and an id, which BSON 1.1 deprecates.
-    DbPointer { space: String, id: [u8; 12] },
+    DbPointer {
+        space: String,
+        id: [u8; 12],
+    },
     /// Element 0x0D: JavaScript.
     Code(String),
     /// Element 0x0F: JavaScript with the document that gives its variables, which BSON 1.1 deprecates.

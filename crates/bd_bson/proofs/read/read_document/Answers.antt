@@ -10,4 +10,4 @@ returns-in_err-raw-clause-only c = λ d is.
 
 pub returns-in-Ok-clause-only : goal.returns-in-Ok-clause-only
 returns-in-Ok-clause-only c = λ d is.
-    c.in-Ok.ensures ∙ c.elements.ensures ∙ document_unique c.args.bytes.now _ d c.in_ok-raw.ensures.spelled is
+    c.in-Ok.ensures ∙ document_unique c.args.bytes.now _ d c.in_ok-raw.ensures.spelled is

@@ -1,0 +1,10 @@
+use Rattle.std.proofs.Common.{◌≡◌, length}
+use Rattle.bd_value.specs.Lookup.{first_of}
+use Rattle.bd_bson.specs.Sound.{elements_left}
+use Rattle.bd_bson.proofs.raw.Elements.find.Given as goal
+
+abbrev pub invariant-loop-here : goal.invariant-loop-here
+invariant-loop-here l = first_of l.name (elements_left l.rest.left) ≡ first_of l.name (elements_left l.initial.rest.left)
+
+abbrev pub decreases-loop-here : goal.decreases-loop-here
+decreases-loop-here l = length (elements_left l.rest.left)

@@ -1,0 +1,24 @@
+-- The values in a value.
+use Rattle.std.specs.Prelude.{ℕ, List, [], length, Option, Some, None}
+use Rattle.bd_value.specs.Tree.{Tree, leaf, doc, array, code_scope, pairs_of, list_of}
+
+-- the elements of an array; every other value has none
+abbrev pub elements_in : Tree → List Tree
+elements_in (leaf s) = []
+elements_in (doc fs) = []
+elements_in (array ts) = list_of ts
+elements_in (code_scope s fs) = []
+
+-- how many pairs a document has, or elements an array
+abbrev pub length_of : Tree → ℕ
+length_of (leaf s) = 0
+length_of (doc fs) = length (pairs_of fs)
+length_of (array ts) = length (list_of ts)
+length_of (code_scope s fs) = 0
+
+-- the scope of code with scope
+abbrev pub scope_of : Tree → Option Tree
+scope_of (leaf s) = None
+scope_of (doc fs) = None
+scope_of (array ts) = None
+scope_of (code_scope s fs) = Some (doc fs)
