@@ -10,4 +10,5 @@ pub mod Sound
 pub mod Spelling
 pub mod Told
 pub mod Unique
+pub mod Verdicts
 pub mod Collection

@@ -22,6 +22,7 @@ mod reading;
 mod tally;
 #[cfg(test)]
 mod tests;
+mod verdict_laws;
 
 pub use check::check_document;
 pub use collecting::read_dump;
@@ -34,3 +35,4 @@ pub use output::{FailingWrite, MemoryOutput, Output, SystemOutput, write_all};
 pub use raw::RawDoc;
 pub use read::{Frame, next_frame, read_document};
 pub use reading::{Limits, ReadFault, read_all};
+pub use verdict_laws::{judges_as_the_walk, judges_in_turn};
