@@ -10,6 +10,7 @@ pub mod Steps
 pub mod Taken
 pub mod Told
 pub mod Walking
+pub mod Judges
 pub mod Kept
 pub mod Placed
 pub mod Queries

@@ -2,6 +2,8 @@
 #![tactic(auto)]
 
 mod answer_laws;
+mod check_command;
+mod checking;
 mod command_line;
 #[cfg(test)]
 mod command_line_tests;
