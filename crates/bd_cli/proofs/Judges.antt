@@ -43,7 +43,7 @@ lines_more us v =
     lines_append 0 us (v ∷ []) ∙ ap (λ n. verdict_lines 0 us ++ verdict_lines n (v ∷ [])) number
     ∙ ap (λ x. verdict_lines 0 us ++ x) (append-nil (verdict_line (length us) v))
 
-faulty_append : (us vs : List Seen) → faulty (us ++ vs) ≡ faulty us + faulty vs
+pub faulty_append : (us vs : List Seen) → faulty (us ++ vs) ≡ faulty us + faulty vs
 faulty_append us vs = sum_by-append (λ v. cond (is_some v) 1 0) us vs
 
 -- ---- the verdict on a document

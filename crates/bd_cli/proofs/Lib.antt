@@ -20,3 +20,5 @@ pub mod Finds
 pub mod BatchSize
 pub mod FoundOnce
 pub mod FindTaken
+pub mod CheckTaken
+pub mod JudgedOnce

@@ -83,5 +83,7 @@ Found query size left calls failures old new out_held out_failures out_old out_n
 abbrev pub Ordered : Order → {R O E : Type 0} → (R → Option (List ℕ)) → (R → ℕ) → (R → ℕ) → R → R → (O → Option (List ℕ)) → (O → ℕ) → O → O → (E → Option (List ℕ)) → (E → ℕ) → E → E → Status → Type 0
 Ordered (orders.Dump file) left calls failures old new out_held out_failures out_old out_new err_held err_failures err_old err_new status =
     Dumped left calls failures old new out_held out_failures out_old out_new err_held err_failures err_old err_new status
+Ordered (orders.Check file) left calls failures old new out_held out_failures out_old out_new err_held err_failures err_old err_new status =
+    Checked left calls failures old new out_held out_failures out_old out_new err_held err_failures err_old err_new status
 Ordered (orders.Find file query size) left calls failures old new out_held out_failures out_old out_new err_held err_failures err_old err_new status =
     Found (string_bytes query) size left calls failures old new out_held out_failures out_old out_new err_held err_failures err_old err_new status
