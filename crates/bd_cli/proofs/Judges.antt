@@ -1,10 +1,9 @@
 -- The walk over a dump that judges its documents, step by step.
-use Rattle.std.proofs.Common.{◌≡◌, ◌≤◌, ℕ, suc, ◌+◌, List, [], ◌∷◌, ◌++◌, length, take, drop, map, Bool, cond, Option, Some, None, Ok, Err, refl, sym, ap, ap₂, ◌∙◌, subst, inl, inr, ◌⊎◌, codes, append_assoc, append-nil, arith, length-append, length-drop}
+use Rattle.std.proofs.Common.{◌≡◌, ◌≤◌, ℕ, suc, ◌+◌, List, [], ◌∷◌, ◌++◌, length, take, drop, map, Bool, cond, Option, Some, None, Ok, Err, sym, ap, ap₂, ◌∙◌, subst, inl, inr, ◌⊎◌, codes, append_assoc, append-nil, arith, length-append, length-drop}
 use Rattle.std.specs.Prelude.{IfSome, option_map, is_some, string_bytes}
 use mir.Val.{bool_byte}
 use Rattle.std.proofs.lemmas.List.{drop-drop, drop_all}
 use Rattle.std.proofs.lemmas.List.Sums.{sum_by-append}
-use Rattle.std.proofs.KnownBytes.{Appends-nil}
 use Rattle.bd_bson.specs.Fault.{Fault}
 use Rattle.bd_bson.specs.declared.fault.Fault as told
 use Rattle.bd_bson.specs.declared.fault.FaultKind.{FaultKind}
@@ -96,17 +95,6 @@ pub record SoFar {W : Type 0} (held : W → Option (List ℕ)) (failures : W →
   pub holds : Holds held failures old new pending (verdict_lines 0 done)
 
 module _ {W : Type 0} (held : W → Option (List ℕ)) (failures : W → ℕ) (old new : W) (bytes : List ℕ) where
-  pub begins : (pending : List ℕ) → pending ≡ [] → SoFar held failures old old bytes pending 0 0 0
-  begins pending is = record {
-    done = [];
-    all = refl;
-    inside = omega arith;
-    counted = refl;
-    bad_counted = refl;
-    few = omega arith;
-    holds = record { written = []; wrote = (Appends-nil (held old), refl); together = is };
-  }
-
   pub goes_on : (pending more : List ℕ) (place documents bad : ℕ) (v : Verdict) → SoFar held failures old new bytes pending place documents bad → IsVerdict bytes place documents v
       → ((number : ℕ) → IfSome v.fault (λ f. f.document ≡ number) → more ≡ pending ++ verdict_line number (option_map fault_view v.fault)) → (b : Bool) (n : ℕ) → b ≡ is_some v.fault → n ≡ bool_byte b
       → SoFar held failures old new bytes more v.after (documents + 1) (bad + n)
