@@ -111,6 +111,32 @@ expect 'find in standard input' 0 "$int32" '1 documents, end'
 run find --query '{"a":-1}' -- ./-x
 expect 'find of nothing' 0 '' '0 documents, end'
 
+run check "$people.bson"
+expect 'a check of a file' 0 '' '500 documents, 0 faulty'
+
+run check - </dev/null
+expect 'a check of an empty input' 0 '' '0 documents, 0 faulty'
+
+run check -- -x
+expect 'a check of a file whose name looks like a flag' 0 '' '1 documents, 0 faulty'
+
+# Documents with faults.
+
+{ printf '\020\000\000\000\001d\000\000\000\000\000\000\000\360\077\000' && cat int32.bson; } | run check -
+expect 'a check goes on behind a double' 1 'document 0, byte 4, path "": unknown type' '2 documents, 1 faulty'
+
+printf '\014\000\000\000\002s\000\000\000\000\000\000' >bad.bson
+cat int32.bson bad.bson int32.bson bad.bson | run check -
+expect 'a check tells each document with a fault' 1 'document 1, byte 19, path "s": bad string length
+document 3, byte 43, path "s": bad string length' '4 documents, 2 faulty'
+
+{ cat int32.bson && printf '\004\000\000\000' && cat int32.bson; } | run check -
+expect 'a check ends at a length that is too small' 1 'document 1, byte 12, path "": bad length' '2 documents, 1 faulty'
+
+{ printf '\005\000\000\000\001' && cat int32.bson && printf '\005\000'; } | run check -
+expect 'a check ends at a length that is cut short' 1 'document 0, byte 4, path "": no terminator
+document 2, byte 17, path "": length cut short' '3 documents, 2 faulty'
+
 # Inputs that are refused.
 
 nested 201 >nested.bson
@@ -143,6 +169,22 @@ expect 'a file that is not there' 1 '' 'bsonfind: cannot open missing.bson'
 run dump .
 expect 'a directory' 1 '' 'bsonfind: cannot read'
 
+run check .
+expect 'a check of a directory' 1 '' 'bsonfind: cannot read'
+
+run check missing.bson
+expect 'a check of a file that is not there' 1 '' 'bsonfind: cannot open missing.bson'
+
+"$program" check bad.bson >/dev/full 2>err
+echo $? >status
+: >out
+expect 'a check, and a full standard output' 1 '' 'bsonfind: cannot write'
+
+"$program" check bad.bson >out 2>/dev/full
+echo $? >status
+: >err
+expect 'a check, and a full standard error' 1 'document 0, byte 7, path "s": bad string length' ''
+
 "$program" dump "$people.bson" >/dev/full 2>err
 echo $? >status
 : >out
@@ -173,6 +215,9 @@ expect 'an unknown command' 2 '' "$usage"
 
 run dump -x
 expect 'an unknown flag' 2 '' "$usage"
+
+run check
+expect 'check without a file' 2 '' "$usage"
 
 run find int32.bson
 expect 'find without a query' 2 '' "$usage"

@@ -13,5 +13,6 @@ pub mod Steps
 pub mod Takes
 pub mod Tells
 pub mod Texts
+pub mod Verdicts
 pub mod Viewed
 pub mod Whole

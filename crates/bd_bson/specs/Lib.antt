@@ -15,3 +15,4 @@ pub mod Spelling
 pub mod Told
 pub mod Types
 pub mod Unique
+pub mod Verdicts

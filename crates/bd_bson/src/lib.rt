@@ -25,6 +25,7 @@ mod reading;
 mod tally;
 #[cfg(test)]
 mod tests;
+mod verdict_laws;
 mod views;
 
 pub use check::check_document;
@@ -38,3 +39,4 @@ pub use output::{FailingWrite, MemoryOutput, Output, SystemOutput, write_all};
 pub use raw::{Elements, RawDoc, RawValue};
 pub use read::{Frame, next_frame, read_document};
 pub use reading::{Limits, ReadFault, read_all};
+pub use verdict_laws::{judges_as_the_walk, judges_in_turn};

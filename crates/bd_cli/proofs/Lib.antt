@@ -10,6 +10,7 @@ pub mod Steps
 pub mod Taken
 pub mod Told
 pub mod Walking
+pub mod Judges
 pub mod Kept
 pub mod Placed
 pub mod Queries
@@ -19,3 +20,5 @@ pub mod Finds
 pub mod BatchSize
 pub mod FoundOnce
 pub mod FindTaken
+pub mod CheckTaken
+pub mod JudgedOnce

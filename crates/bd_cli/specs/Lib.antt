@@ -3,6 +3,8 @@ pub mod AnswerLaws
 pub mod CommandLine
 pub mod Equality
 pub mod Found
+pub mod Judged
+pub mod Judging
 pub mod Plain
 pub mod QueryText
 pub mod Ran

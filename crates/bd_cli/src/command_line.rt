@@ -2,7 +2,7 @@
 ghost use Rattle.std.specs.Prelude.{◌≡◌, ◌⊎◌, IfErr, IfOk, IsErrOf, IsSome, IsTrue, List, None, Some, [], ◌∷◌, codes, false, true, ℕ};
 ghost use Rattle.clap.specs.Words.{app_of, found_of, kind_of, rows_of, rule_of, takes};
 ghost use Rattle.clap.specs.declared.builder.command.Command.TheViews.{out-Command as fields_of};
-ghost use Rattle.bd_cli.specs.CommandLine.{Orders, dump, fault_for, file_app, file_rule, find, is_file_word, is_help_line, line_app, meant, order_of, ordered_by, told_as, words_of};
+ghost use Rattle.bd_cli.specs.CommandLine.{Orders, check, dump, fault_for, file_app, file_rule, files_app, find, is_file_word, is_help_line, line_app, meant, order_of, ordered_by, told_as, words_of};
 ghost use Rattle.bd_cli.specs.declared.order.WordsFault.TheVariants.{NoMemory};
 
 use crate::find_words::{find_command, find_order};
@@ -37,19 +37,28 @@ pub fn of_file<'a>(alloc: Global, name: &'a str) -> Result<Command<'a>, AllocErr
     Command::new(alloc, name).arg(file)
 }
 
-/// The program's whole line.
-fn line_command<'a>(alloc: Global) -> Result<Command<'a>, AllocError>
-    ensures app { IfOk result (λ c. app_of c ≡ line_app) }
+/// The program's line with the commands that take a file and nothing else.
+fn files_command<'a>(alloc: Global) -> Result<Command<'a>, AllocError>
+    ensures app { IfOk result (λ c. app_of c ≡ files_app) }
     ensures local { IfOk result (λ c. (fields_of c).has_globals ≡ false) }
 {
     let dump = of_file(alloc, "dump")?;
-    let find = find_command(alloc)?;
+    let check = of_file(alloc, "check")?;
     Command::new(alloc, "bsonfind")
         .no_binary_name(true)
         .subcommand_required(true)
         .disable_help_subcommand(true)
         .subcommand(dump)?
-        .subcommand(find)
+        .subcommand(check)
+}
+
+/// The program's whole line.
+fn line_command<'a>(alloc: Global) -> Result<Command<'a>, AllocError>
+    ensures app { IfOk result (λ c. app_of c ≡ line_app) }
+    ensures local { IfOk result (λ c. (fields_of c).has_globals ≡ false) }
+{
+    let find = find_command(alloc)?;
+    files_command(alloc)?.subcommand(find)
 }
 
 fn fault_told(error: &Error) -> WordsFault
@@ -81,6 +90,7 @@ fn order_named(alloc: Global, name: &str, matches: &ArgMatches<'_>) -> Result<Or
     let file = String::from_str(alloc, file)?;
     match name {
         "dump" => Ok(Order::Dump { file }),
+        "check" => Ok(Order::Check { file }),
         "find" => find_order(alloc, file, matches),
         _ => unreachable!(),
     }
@@ -88,7 +98,7 @@ fn order_named(alloc: Global, name: &str, matches: &ArgMatches<'_>) -> Result<Or
 
 /// The order of a line: its words without the program's name.
 ///
-/// `dump FILE` is taken, and `find FILE --query Q` with or without `--batch N`, N from 0 to 2,147,483,647. A file whose name looks like a flag stands behind `--`, as in `dump -- -x`.
+/// `dump FILE` and `check FILE` are taken, and `find FILE --query Q` with or without `--batch N`, N from 0 to 2,147,483,647. A file whose name looks like a flag stands behind `--`, as in `dump -- -x`.
 ///
 /// # Errors
 ///
@@ -104,6 +114,10 @@ pub fn parse_words(alloc: Global, words: &[String]) -> Result<Order, WordsFault>
         → words_of words.now ≡ codes "dump" ∷ file ∷ [] → Orders result (dump file) }
     ensures escaped { (file : List ℕ)
         → words_of words.now ≡ codes "dump" ∷ codes "--" ∷ file ∷ [] → Orders result (dump file) }
+    ensures check { (file : List ℕ) → IsTrue (is_file_word file)
+        → words_of words.now ≡ codes "check" ∷ file ∷ [] → Orders result (check file) }
+    ensures check_escaped { (file : List ℕ)
+        → words_of words.now ≡ codes "check" ∷ codes "--" ∷ file ∷ [] → Orders result (check file) }
     // A query begins with a brace (123).
     ensures find { (rest file : List ℕ)
         → words_of words.now ≡ codes "find" ∷ codes "--query" ∷ (123 ∷ rest) ∷ codes "--" ∷ file ∷ []

@@ -28,7 +28,6 @@ fn answers(rt: HostRuntime) -> Result<(), Fail> {
         (["dump", "-h"].as_slice(), help),
         (["--version"].as_slice(), usage),
         (["serve", "-"].as_slice(), usage),
-        (["check", "F"].as_slice(), usage),
         (["pack", "F"].as_slice(), usage),
         (["find", "F", "--limit", "x"].as_slice(), usage),
         (["dum", "F"].as_slice(), usage),
@@ -50,7 +49,8 @@ fn answers(rt: HostRuntime) -> Result<(), Fail> {
         let words = owned(alloc, line)?;
         let answer = parse_words(alloc, words.as_slice());
         let told = match &answer {
-            Ok(Order::Dump { file } | Order::Find { file, .. }) => Ok(file.as_str()),
+            Ok(Order::Dump { file }) => Ok(file.as_str()),
+            Ok(_) => return Err(Fail::from("an order of another command")),
             Err(fault) => Err(*fault),
         };
         assert!(rt; told == wanted, "{line:?}: {answer:?}");

@@ -4,6 +4,7 @@ ghost use Rattle.std.specs.Prelude.{◌≡◌};
 ghost use Rattle.bd_cli.specs.Ran.{Ordered, Printed};
 ghost use Rattle.bd_cli.specs.Report.{reported};
 
+use crate::check_command::check;
 use crate::command_line::USAGE;
 use crate::dump_command::dump;
 use crate::find_command::find;
@@ -33,6 +34,7 @@ pub fn run<F: Input, C: Input, O: Output, E: Output>(
     let _commands = commands;
     match order {
         Order::Dump { .. } => dump(alloc, file, out, err),
+        Order::Check { .. } => check(alloc, file, out, err),
         Order::Find { query, batch, .. } => find(alloc, query.as_str(), *batch, file, out, err),
     }
 }

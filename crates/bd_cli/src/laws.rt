@@ -2,6 +2,7 @@
 ghost use Rattle.std.specs.Prelude.{◌≡◌, ◌<◌, ◌⊎◌, ℕ, ℤ, List, Option, Result, Ok, slice_index};
 ghost use Rattle.bd_bson.specs.declared.reading.ReadFault.{ReadFault};
 ghost use Rattle.bd_cli.specs.Found.{IsFound};
+ghost use Rattle.bd_cli.specs.Judged.{IsJudged};
 ghost use Rattle.bd_cli.specs.QueryText.{IsQuery, IsNoQuery};
 ghost use Rattle.bd_cli.specs.Shown.{Shown, IsShown};
 ghost use Rattle.bd_value.specs.Tree.{Doc, doc, fields_of};
@@ -14,12 +15,19 @@ pub fn text_determines_document()
     ensures { (c d : Doc) → Fits (doc (fields_of c)) → Fits (doc (fields_of d)) → IsPlain (doc (fields_of c)) → IsPlain (doc (fields_of d)) → text (doc (fields_of c)) ≡ text (doc (fields_of d)) → c ≡ d }
 {}
 
-/// One thing is shown of each input, and of each list of bytes there is something to show; so also for `find`, of each
-/// query and size of a batch.
+/// One thing is shown of each input, and of each list of bytes there is something to show; so also for `check`, and for
+/// `find`, of each query and size of a batch.
 pub fn shows_one_thing()
     ensures one { (input : Result (List ℕ) ReadFault) (shown other : Shown) → IsShown input shown → IsShown input other → shown ≡ other }
     ensures some { (bytes : List ℕ) → ((i : ℕ) → slice_index bytes i < 256) → (shown : Shown) × IsShown (Ok bytes) shown }
+    ensures judged_one { (input : Result (List ℕ) ReadFault) (shown other : Shown) → IsJudged input shown → IsJudged input other → shown ≡ other }
+    ensures judged_some { (bytes : List ℕ) → (shown : Shown) × IsJudged (Ok bytes) shown }
     ensures found_one { (query : List ℕ) (size : Option ℕ) (input : Result (List ℕ) ReadFault) (shown other : Shown) → IsFound query size input shown → IsFound query size input other → shown ≡ other }
     ensures found_some { (query : List ℕ) (size : Option ℕ) (bytes : List ℕ) → ((i : ℕ) → slice_index bytes i < 256) →
         IsNoQuery query ⊎ ((name : List ℕ) × (n : ℤ) × IsQuery query name n) → (shown : Shown) × IsFound query size (Ok bytes) shown }
+{}
+
+/// Of each input `check` and `dump` give the same status: there is a document with a fault where there is a first fault.
+pub fn check_has_the_status_of_dump()
+    ensures { (input : Result (List ℕ) ReadFault) (shown other : Shown) → IsShown input shown → IsJudged input other → shown.status ≡ other.status }
 {}

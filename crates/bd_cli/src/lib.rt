@@ -2,6 +2,10 @@
 #![tactic(auto)]
 
 mod answer_laws;
+mod check_command;
+#[cfg(test)]
+mod check_tests;
+mod checking;
 mod command_line;
 #[cfg(test)]
 mod command_line_tests;
@@ -32,7 +36,7 @@ pub use answer_laws::{answers_are_ordered, batches_are_the_first, steps_give_the
 pub use command_line::{USAGE, parse_words};
 pub use commands::{report, run};
 pub use finding::first_find;
-pub use laws::{shows_one_thing, text_determines_document};
+pub use laws::{check_has_the_status_of_dump, shows_one_thing, text_determines_document};
 pub use order::{Order, WordsFault};
 pub use status::Status;
 pub use stepping::Step;

@@ -11,6 +11,10 @@ pub enum Order {
     Dump {
         file: String,
     },
+    /// The documents of `file` that have a fault; `-` is the standard input.
+    Check {
+        file: String,
+    },
     /// The documents of `file` that answer `query`, the first `batch` of them or all; `-` is the standard input.
     Find {
         file: String,

@@ -3,7 +3,7 @@ use Rattle.std.specs.Prelude.{is_some, option_and_then, option_map}
 use Rattle.std.proofs.lemmas.Result.{IfOk-weaker}
 use Rattle.clap.specs.Words.{first_of, found_of, rows_of}
 use Rattle.clap.proofs.WalkLemmas.{first_value-rows}
-use Rattle.bd_cli.specs.CommandLine.{Ordered, dump, find_ordered, ordered_by}
+use Rattle.bd_cli.specs.CommandLine.{Ordered, check, dump, find_ordered, ordered_by}
 use Rattle.bd_cli.proofs.Taken.{no_file}
 use Rattle.bd_cli.proofs.command_line.order_named.Goals as goal
 
@@ -18,6 +18,12 @@ returns-in-dump-clause-order c =
     let found = found_of c.args.matches.now in
     ap (λ name. ordered_by name (rows_of found)) c.in-dump.is
     ∙ (ap (option_map dump) (sym (c.in-Some.ensures ∙ first_value-rows found (codes "file"))) ∙ ap (λ t. Some (dump t)) (sym c.in_ok-file.ensures.ok))
+
+pub returns-in-check-clause-order : goal.returns-in-check-clause-order
+returns-in-check-clause-order c =
+    let found = found_of c.args.matches.now in
+    ap (λ name. ordered_by name (rows_of found)) c.in-check.is
+    ∙ (ap (option_map check) (sym (c.in-Some.ensures ∙ first_value-rows found (codes "file"))) ∙ ap (λ t. Some (check t)) (sym c.in_ok-file.ensures.ok))
 
 pub returns-in-find-clause-order : goal.returns-in-find-clause-order
 returns-in-find-clause-order c =

@@ -1,5 +1,6 @@
 use Rattle.std.proofs.Common.{ap, sym, inr, ◌∙◌, ◌∷◌, None}
-use Rattle.bd_cli.specs.CommandLine.{dump, find, line_app, order_of, told_as, words_of}
+use Rattle.bd_cli.specs.CommandLine.{check, dump, find, line_app, order_of, told_as, words_of}
+use Rattle.bd_cli.proofs.CheckTaken.{check_taken, check_escaped_taken}
 use Rattle.bd_cli.proofs.FindTaken.{find_taken}
 use Rattle.bd_cli.proofs.Taken.{dump_taken, escaped_taken, help_line_refused, help_line_told, no_fault, only_memory, order_read, order_there, refused_as, refused_taken, orders_when}
 use Rattle.clap.specs.Words.{fault_of}
@@ -56,6 +57,22 @@ returns-clause-dump c file plain is =
 pub returns-clause-escaped : goal.returns-clause-escaped
 returns-clause-escaped c file is =
     orders_when c.order_named.result (words_of c.args.words.now) (dump file) (ap order_of is ∙ (escaped_taken file).1) (returns-clause-order c) c.order_named.ensures.fault
+
+pub returns-in-Err-clause-check : goal.returns-in-Err-clause-check
+returns-in-Err-clause-check c file plain is =
+    only_memory (words_of c.args.words.now) c.fault_told.result (ap (fault_of line_app) is ∙ (check_taken file plain).0) (returns-in-Err-clause-fault c)
+
+pub returns-in-Err-clause-check_escaped : goal.returns-in-Err-clause-check_escaped
+returns-in-Err-clause-check_escaped c file is =
+    only_memory (words_of c.args.words.now) c.fault_told.result (ap (fault_of line_app) is ∙ (check_escaped_taken file).0) (returns-in-Err-clause-fault c)
+
+pub returns-clause-check : goal.returns-clause-check
+returns-clause-check c file plain is =
+    orders_when c.order_named.result (words_of c.args.words.now) (check file) (ap order_of is ∙ (check_taken file plain).1) (returns-clause-order c) c.order_named.ensures.fault
+
+pub returns-clause-check_escaped : goal.returns-clause-check_escaped
+returns-clause-check_escaped c file is =
+    orders_when c.order_named.result (words_of c.args.words.now) (check file) (ap order_of is ∙ (check_escaped_taken file).1) (returns-clause-order c) c.order_named.ensures.fault
 
 pub returns-in-Err-clause-find : goal.returns-in-Err-clause-find
 returns-in-Err-clause-find c rest file is =

@@ -1,0 +1,39 @@
+-- What `check` shows of an input.
+use Rattle.std.specs.Prelude.{◌≡◌, ℕ, zero, suc, List, [], ◌∷◌, ◌++◌, length, codes, decimal, Option, Some, None, is_some, Result, Ok, Err}
+use Rattle.std.specs.List.{count_by}
+use Rattle.bd_bson.specs.Fault.{Fault}
+use Rattle.bd_bson.specs.Verdicts.{verdicts}
+use Rattle.bd_bson.specs.declared.reading.ReadFault.{ReadFault}
+use Rattle.bd_cli.specs.Shown.{Shown, fault_text, read_words, shown_refusal}
+use Rattle.bd_cli.specs.declared.status.Status.{Status}
+use Rattle.bd_cli.specs.declared.status.Status.TheVariants.{Done, Failed}
+
+-- the line of a document with a fault; one without has none
+abbrev pub verdict_line : ℕ → Option Fault → List ℕ
+verdict_line number None = []
+verdict_line number (Some f) = fault_text number f ++ 10 ∷ []
+
+-- the lines of documents, the first of which has that number
+abbrev pub verdict_lines : ℕ → List (Option Fault) → List ℕ
+verdict_lines number [] = []
+verdict_lines number (v ∷ vs) = verdict_line number v ++ verdict_lines (suc number) vs
+
+-- how many documents have a fault
+abbrev pub faulty : List (Option Fault) → ℕ
+faulty = count_by is_some
+
+abbrev pub verdicts_line : ℕ → ℕ → List ℕ
+verdicts_line documents bad = (decimal documents ++ codes " documents, ") ++ (decimal bad ++ codes " faulty\n")
+
+abbrev pub verdicts_status : ℕ → Status
+verdicts_status zero = Done
+verdicts_status (suc n) = Failed
+
+-- what is shown of the documents: a line for each that has a fault, and then how many there are of both
+abbrev pub shown_verdicts : List (Option Fault) → Shown
+shown_verdicts vs = record { out = verdict_lines 0 vs; err = verdicts_line (length vs) (faulty vs); status = verdicts_status (faulty vs) }
+
+-- what `check` shows of an input: of its bytes, or of the fault that ended the reading
+abbrev pub IsJudged : Result (List ℕ) ReadFault → Shown → Type 0
+IsJudged (Ok bytes) shown = shown ≡ shown_verdicts (verdicts bytes)
+IsJudged (Err fault) shown = shown ≡ shown_refusal (read_words fault)
