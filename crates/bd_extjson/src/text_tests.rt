@@ -6,23 +6,23 @@ use bd_value::{Document, NoMemory, Value};
 use std::alloc::Global;
 use std::test::Fail;
 
-fn string(alloc: Global, text: &str) -> Result<Value, NoMemory> {
+pub(crate) fn string(alloc: Global, text: &str) -> Result<Value, NoMemory> {
     Ok(Value::Text(String::from_str(alloc, text)?))
 }
 
-fn document_of(alloc: Global, name: &str, value: Value) -> Result<Document, NoMemory> {
+pub(crate) fn document_of(alloc: Global, name: &str, value: Value) -> Result<Document, NoMemory> {
     let mut document = Document::new(alloc);
     document.push(String::from_str(alloc, name)?, value)?;
     Ok(document)
 }
 
-fn printed(alloc: Global, document: &Document) -> Result<Vec<u8>, NoMemory> {
+pub(crate) fn printed(alloc: Global, document: &Document) -> Result<Vec<u8>, NoMemory> {
     let mut out = Vec::new(alloc);
     write_doc(document, &mut out)?;
     Ok(out)
 }
 
-fn printed_value(alloc: Global, value: &Value) -> Result<Vec<u8>, NoMemory> {
+pub(crate) fn printed_value(alloc: Global, value: &Value) -> Result<Vec<u8>, NoMemory> {
     let mut out = Vec::new(alloc);
     write_value(value, &mut out)?;
     Ok(out)
