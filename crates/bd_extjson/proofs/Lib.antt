@@ -1,0 +1,12 @@
+pub mod Back
+pub mod Determined
+pub mod Escapes
+pub mod Fronts
+pub mod InPlace
+pub mod Json
+pub mod Pieces
+pub mod Prefix
+pub mod Steps
+pub mod Symbols
+pub mod TreeJson
+pub mod Written

@@ -1,0 +1,5 @@
+use Rattle.bd_extjson.proofs.Determined.{document_determined}
+use Rattle.bd_extjson.proofs.laws.text_determines_document.Goals as goal
+
+pub returns : goal.returns
+returns c = document_determined

@@ -1,0 +1,20 @@
+//! BSON values and documents as Extended JSON v2, canonical form, without white space.
+//!
+//! The text of each value is a function of its tree: `specs/Text.antt`.
+#![tactic(auto)]
+
+mod encoded;
+mod json_string;
+mod laws;
+mod number;
+mod scalar;
+#[cfg(test)]
+mod scalar_tests;
+mod text;
+#[cfg(test)]
+mod text_tests;
+
+pub use json_string::{write_path, write_string};
+pub use laws::text_determines_document;
+pub use number::{write_number, write_number32};
+pub use text::{write_doc, write_value};
