@@ -1,12 +1,5 @@
-pub mod Determined
-pub mod Escapes
 pub mod Filled
-pub mod Fronts
-pub mod Json
-pub mod Pieces
-pub mod Prefix
 pub mod Runs
-pub mod Steps
 pub mod Taken
 pub mod Told
 pub mod Walking

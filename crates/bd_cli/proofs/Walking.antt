@@ -9,7 +9,7 @@ use Rattle.bd_bson.specs.Counts.{after_more}
 use Rattle.bd_bson.specs.Dump.{AreJoined, IsWalk, frame_fault}
 use Rattle.bd_bson.proofs.Takes.{IsBytes, IsBytes-drop}
 use Rattle.bd_bson.proofs.Dumps.{joined_append, joined_one, document_frame, frame_inside, walk_on}
-use Rattle.bd_cli.specs.Text.{text}
+use Rattle.bd_extjson.specs.Text.{text}
 use Rattle.bd_cli.specs.Shown.{lines}
 use Rattle.bd_cli.specs.Ran.{Wrote, Broke}
 use Rattle.bd_bson.specs.Told.{Tells}

@@ -5,12 +5,10 @@ pub mod Equality
 pub mod Found
 pub mod Judged
 pub mod Judging
-pub mod Plain
 pub mod QueryText
 pub mod Ran
 pub mod Report
 pub mod Shown
 pub mod Stepped
-pub mod Text
 pub mod Walked
 pub mod Within

@@ -6,7 +6,7 @@ use Rattle.bd_bson.specs.Fault.{Fault, fault_words}
 use Rattle.bd_bson.specs.Dump.{IsWalk}
 use Rattle.bd_bson.specs.declared.reading.ReadFault.{ReadFault}
 use Rattle.bd_bson.specs.declared.reading.ReadFault.TheVariants as reads
-use Rattle.bd_cli.specs.Text.{text, quoted}
+use Rattle.bd_extjson.specs.Text.{text, quoted}
 use Rattle.bd_cli.specs.declared.status.Status.{Status}
 use Rattle.bd_cli.specs.declared.status.Status.TheVariants.{Done, Failed}
 

@@ -10,10 +10,10 @@ ghost use Rattle.bd_cli.specs.declared.status.Status.TheVariants.{Failed};
 use crate::checking::{Findings, write_verdicts};
 use crate::dump_command::{LIMITS, tell_read_fault};
 use crate::dumping::Stopped;
-use crate::json_string::write_number32;
 use crate::messages::{tell, tell_no_memory, tell_unwritten};
 use crate::status::Status;
 use bd_bson::{Input, Output, read_all};
+use bd_extjson::write_number32;
 use bd_value::NoMemory;
 use std::alloc::Global;
 

@@ -6,13 +6,13 @@ ghost use Rattle.bd_value.specs.View.{pairs};
 ghost use Rattle.bd_bson.specs.Dump.{frame_fault};
 ghost use Rattle.bd_bson.specs.Told.{Tells};
 ghost use Rattle.bd_bson.specs.declared.fault.FaultKind.TheVariants as kinds;
-ghost use Rattle.bd_cli.specs.Text.{text};
+ghost use Rattle.bd_extjson.specs.Text.{text};
 ghost use Rattle.bd_cli.specs.Ran.{Wrote, Broke};
 ghost use Rattle.bd_cli.specs.Walked.{IsNext, Walks, Stops};
 ghost use Rattle.bd_cli.specs.declared.dumping.Stopped.TheVariants.{NoMemory as no_memory, Unwritten};
 
-use crate::text::write_doc;
 use bd_bson::{DeviceFault, Fault, FaultKind, Output, next_frame, read_document, write_all};
+use bd_extjson::write_doc;
 use bd_value::{Document, NoMemory};
 use std::alloc::{AllocError, Global};
 

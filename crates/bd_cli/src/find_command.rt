@@ -14,12 +14,12 @@ use crate::dump_command::{LIMITS, tell_read_fault};
 use crate::dumping::{Stopped, is_want_of_memory};
 use crate::finding::first_find;
 use crate::found_documents::write_documents;
-use crate::json_string::write_number;
 use crate::messages::{tell, tell_no_memory, tell_unwritten, write_fault};
 use crate::query_text::read_query;
 use crate::status::Status;
 use crate::stepping::Step;
 use bd_bson::{Dump, Fault, Input, Output, read_all, read_dump};
+use bd_extjson::write_number;
 use bd_value::NoMemory;
 use std::alloc::Global;
 

@@ -19,7 +19,6 @@ mod find_tests;
 mod find_words;
 mod finding;
 mod found_documents;
-mod json_string;
 mod laws;
 mod messages;
 mod order;
@@ -28,15 +27,12 @@ mod query_text;
 mod run_tests;
 mod status;
 mod stepping;
-mod text;
-#[cfg(test)]
-mod text_tests;
 
 pub use answer_laws::{answers_are_ordered, batches_are_the_first, steps_give_the_answer};
 pub use command_line::{USAGE, parse_words};
 pub use commands::{report, run};
 pub use finding::first_find;
-pub use laws::{check_has_the_status_of_dump, shows_one_thing, text_determines_document};
+pub use laws::{check_has_the_status_of_dump, shows_one_thing};
 pub use order::{Order, WordsFault};
 pub use status::Status;
 pub use stepping::Step;

@@ -6,9 +6,9 @@ ghost use Rattle.bd_cli.specs.Ran.{Told};
 ghost use Rattle.bd_cli.specs.Shown.{place_text, fault_text, count_line, error_line};
 ghost use Rattle.bd_cli.specs.declared.status.Status.TheVariants.{Failed};
 
-use crate::json_string::{write_number, write_number32, write_path};
 use crate::status::Status;
 use bd_bson::{Fault, Output, write_all};
+use bd_extjson::{write_number, write_number32, write_path};
 use bd_value::NoMemory;
 
 /// Appends where a fault stands.

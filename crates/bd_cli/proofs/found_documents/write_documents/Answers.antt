@@ -3,7 +3,7 @@ use Rattle.std.proofs.lemmas.Result.{err_from_is_err_and}
 use Rattle.bd_value.specs.Tree.{doc, fields_of}
 use Rattle.bd_value.specs.View.{pairs}
 use Rattle.bd_bson.specs.Collection.{documents}
-use Rattle.bd_cli.specs.Text.{text}
+use Rattle.bd_extjson.specs.Text.{text}
 use Rattle.bd_cli.specs.Shown.{lines}
 use Rattle.bd_cli.specs.Found.{documents_at}
 use Rattle.bd_cli.proofs.Finds as finds
