@@ -5,6 +5,7 @@ set -u
 cd "$(dirname "$0")/.." || exit 1
 program=$PWD/bsonfind
 people=$PWD/examples/people
+shop=$PWD/examples/shop
 room=$(mktemp -d) || exit 1
 trap 'rm -rf "$room"' EXIT
 cd "$room" || exit 1
@@ -65,6 +66,12 @@ copies() {
 	done
 }
 
+# Puts bytes, in the form of printf, over those at a place of damaged.bson.
+damage() {
+	# shellcheck disable=SC2059 # the bytes are the form
+	printf "$2" | dd of=damaged.bson bs=1 seek="$1" conv=notrunc 2>/dev/null
+}
+
 usage='usage: bsonfind dump FILE
        bsonfind check FILE
        bsonfind pack FILE
@@ -78,6 +85,9 @@ printf '\014\000\000\000\020a\000\001\000\000\000\000' >int32.bson
 
 run dump "$people.bson"
 expect 'a file' 0 "@$people.jsonl" '500 objects found'
+
+run dump "$shop.bson"
+expect 'a file of other kinds' 0 "@$shop.jsonl" '400 objects found'
 
 run dump - <"$people.bson"
 expect 'a file as standard input' 0 "@$people.jsonl" '500 objects found'
@@ -123,7 +133,7 @@ expect 'a check of a file whose name looks like a flag' 0 '' '1 documents, 0 fau
 # Documents with faults.
 
 { printf '\020\000\000\000\001d\000\000\000\000\000\000\000\360\077\000' && cat int32.bson; } | run check -
-expect 'a check goes on behind a double' 1 'document 0, byte 4, path "": unknown type' '2 documents, 1 faulty'
+expect 'a check goes on behind a double' 1 'document 0, byte 4, path "d": double' '2 documents, 1 faulty'
 
 printf '\014\000\000\000\002s\000\000\000\000\000\000' >bad.bson
 cat int32.bson bad.bson int32.bson bad.bson | run check -
@@ -137,6 +147,25 @@ expect 'a check ends at a length that is too small' 1 'document 1, byte 12, path
 expect 'a check ends at a length that is cut short' 1 'document 0, byte 4, path "": no terminator
 document 2, byte 17, path "": length cut short' '3 documents, 2 faulty'
 
+cp "$shop.bson" damaged.bson
+chmod u+w damaged.bson
+damage 90 '\002'                    # document 0: the byte of a boolean
+damage 415 '\001'                   # document 1: the type of a field of an array's element
+damage 814 '\377'                   # document 2: the second byte of a pattern
+damage 1139 '\001'                  # document 3: its last byte
+damage 1536 '\015'                  # document 4: the length of code with scope
+damage 127644 '\377\377\377\177'    # document 399: its own length
+run check damaged.bson
+expect 'a check of a damaged file' 1 'document 0, byte 90, path "customer.vip": bad boolean
+document 1, byte 415, path "items.2.qty": double
+document 2, byte 814, path "match": not UTF-8
+document 3, byte 1139, path "": no terminator
+document 4, byte 1536, path "code": bad scope length
+document 399, byte 127644, path "": bad length' '400 documents, 6 faulty'
+
+run check "$shop.bson"
+expect 'a check of a file of other kinds' 0 '' '400 documents, 0 faulty'
+
 # Inputs that are refused.
 
 nested 201 >nested.bson
@@ -145,7 +174,7 @@ expect '201 levels' 1 '' "bsonfind: document 0, byte 1397, path \"a$(copies 199 
 0 objects found"
 
 printf '\020\000\000\000\001d\000\000\000\000\000\000\000\360\077\000' | run dump -
-expect 'a double' 1 '' 'bsonfind: document 0, byte 4, path "": unknown type
+expect 'a double' 1 '' 'bsonfind: document 0, byte 4, path "d": double
 0 objects found'
 
 { cat int32.bson && printf '\005\000'; } | run dump -
