@@ -8,7 +8,8 @@ use base64::engine::general_purpose::STANDARD;
 use bd_value::NoMemory;
 use std::alloc::AllocError;
 
-/// Appends the base64 text of bytes. It is written into place, so that no text in between takes memory.
+/// Appends the base64 text of bytes. It is written into place, so that no text in between takes memory. A length that no
+/// vector can have is told as `NoMemory`.
 pub(crate) fn write_base64(bytes: &[u8], out: &mut Vec<u8>) -> Result<(), NoMemory>
     ensures ok { OnOk result (out.new.items ≡ out.old.items ++ base64_text bytes.now) }
     ensures err { OnErr result (StartsWith out.new.items out.old.items) }
@@ -21,10 +22,10 @@ pub(crate) fn write_base64(bytes: &[u8], out: &mut Vec<u8>) -> Result<(), NoMemo
         return Err(AllocError);
     };
     out.resize(after, 0)?;
-    match STANDARD.encode_slice(bytes, &mut out.as_mut_slice()[before..]) {
-        Ok(_) => Ok(()),
-        Err(_) => Err(AllocError),
-    }
+    let Ok(_) = STANDARD.encode_slice(bytes, &mut out.as_mut_slice()[before..]) else {
+        unreachable!();
+    };
+    Ok(())
 }
 
 /// Appends the 24 digits of an id.
@@ -34,10 +35,10 @@ pub(crate) fn write_id(id: &[u8; 12], out: &mut Vec<u8>) -> Result<(), NoMemory>
     ensures err { OnErr result (StartsWith out.new.items out.old.items) }
 {
     let mut digits = [0u8; 24];
-    match hex::encode_to_slice(id.as_slice(), &mut digits) {
-        Ok(()) => out.extend_from_slice(&digits),
-        Err(_) => Err(AllocError),
-    }
+    let Ok(()) = hex::encode_to_slice(id.as_slice(), &mut digits) else {
+        unreachable!();
+    };
+    out.extend_from_slice(&digits)
 }
 
 /// Appends the two digits of a byte.
@@ -47,8 +48,8 @@ pub(crate) fn write_byte(byte: u8, out: &mut Vec<u8>) -> Result<(), NoMemory>
     ensures err { OnErr result (StartsWith out.new.items out.old.items) }
 {
     let mut digits = [0u8; 2];
-    match hex::encode_to_slice([byte].as_slice(), &mut digits) {
-        Ok(()) => out.extend_from_slice(&digits),
-        Err(_) => Err(AllocError),
-    }
+    let Ok(()) = hex::encode_to_slice([byte].as_slice(), &mut digits) else {
+        unreachable!();
+    };
+    out.extend_from_slice(&digits)
 }

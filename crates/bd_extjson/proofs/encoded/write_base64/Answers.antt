@@ -6,9 +6,9 @@ use Rattle.bd_extjson.specs.Text.{base64_text}
 use Rattle.bd_extjson.proofs.InPlace.{in_place, some_size}
 use Rattle.bd_extjson.proofs.encoded.write_base64.Goals as goal
 
-pub returns-in-Ok-clause-ok : goal.returns-in-Ok-clause-ok
+pub returns-clause-ok : goal.returns-clause-ok
 unfolding base64_text
-returns-in-Ok-clause-ok c =
+returns-clause-ok c =
     let a = c.as_mut_slice.result.now in
     let sum = c.in-Some-checked_add.ensures in
     let size : c.in-Some.size ≡ encoded_size_of standard (length c.args.bytes.now) = some_size _ _ c.in-Some.ensures.fits c.in-Some.ensures.too_long in
