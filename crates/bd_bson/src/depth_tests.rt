@@ -77,7 +77,7 @@ fn counts_two_levels_for_a_scope(rt: HostRuntime) -> Result<(), Fail> {
         (
             198,
             in_scope,
-            Some(("too deep at 1504 in 3:", ".c.$scope.d")),
+            Some(("too deep at 1500 in 3:", ".c.$scope.d")),
         ),
         (199, array, None),
         (200, array, Some(("too deep at 1497 in 3:", ".r"))),

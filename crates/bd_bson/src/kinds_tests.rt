@@ -283,7 +283,7 @@ fn names_elements_of_arrays_by_their_places(rt: HostRuntime) -> Result<(), Fail>
             "not UTF-8 at 114 in 3:.a",
         ),
         (
-            b"\x1b\0\0\0\x04a\0\x13\0\0\0\x10z\0\x07\0\0\0\x08y\0\x01\x08x\0\x02\0\0",
+            b"\x1c\0\0\0\x04a\0\x14\0\0\0\x10z\0\x07\0\0\0\x08y\0\x01\x08x\0\x02\0\0",
             "bad boolean at 125 in 3:.a.2",
         ),
     ];

@@ -34,6 +34,8 @@ mod tally;
 #[cfg(test)]
 mod tests;
 mod views;
+#[cfg(test)]
+mod views_tests;
 
 pub use check::check_document;
 pub use collecting::read_dump;

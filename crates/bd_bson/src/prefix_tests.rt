@@ -5,6 +5,22 @@ use std::alloc::Global;
 use std::process::Abort;
 use std::test::Fail;
 
+/// The fault of a value of which so many bytes are left, and where it stands.
+fn value_cut(
+    alloc: Global,
+    cuts: &[(usize, &'static str, usize)],
+    left: usize,
+    value: usize,
+) -> Result<String, NoMemory> {
+    for (until, words, behind) in cuts {
+        if left < *until {
+            let place = value.wrapping_add(*behind);
+            return format!(in alloc; "{} at {place}", *words);
+        }
+    }
+    String::from_str(alloc, "no row")
+}
+
 /// What is answered where so many bytes of the elements stand in a document that ends behind them: `at` is the place of
 /// the first element and `path` that of the document.
 fn wanted(alloc: Global, cut: usize, at: usize, path: &str) -> Result<String, NoMemory> {
@@ -22,13 +38,8 @@ fn wanted(alloc: Global, cut: usize, at: usize, path: &str) -> Result<String, No
         }
         if rest < size {
             let value = at.wrapping_add(head);
-            for (until, words, behind) in element.cuts {
-                if rest.wrapping_sub(head) < *until {
-                    let place = value.wrapping_add(*behind);
-                    return format!(in alloc; "{} at {place} in 3:{path}.{}", *words, element.name);
-                }
-            }
-            return format!(in alloc; "no row for {cut}");
+            let fault = value_cut(alloc, element.cuts, rest.wrapping_sub(head), value)?;
+            return format!(in alloc; "{} in 3:{path}.{}", fault.as_str(), element.name);
         }
         rest = rest.wrapping_sub(size);
         at = at.wrapping_add(size);

@@ -1,12 +1,13 @@
 //! What the tests share: bytes of every kind that were written by hand, and words for values and faults.
 use crate::{Fault, RawDoc, check_document, read_document};
-use bd_value::{Document, NoMemory, Scalar, Value};
+use bd_value::{Kind, NoMemory, Scalar, Value};
 use std::alloc::Global;
 use std::process::Abort;
 
 /// An element that was written by hand.
 #[derive(Clone, Copy)]
 pub struct Element {
+    pub kind: Kind,
     pub name: &'static str,
     /// The type byte, the name and the value.
     pub bytes: &'static [u8],
@@ -17,100 +18,116 @@ pub struct Element {
     pub cuts: &'static [(usize, &'static str, usize)],
 }
 
-/// An element of each kind.
+/// An element of each kind, in the order of the kinds.
 pub fn every_element() -> [Element; 19] {
     [
         Element {
+            kind: Kind::MinKey,
             name: "min",
             bytes: b"\xffmin\0",
             shown: "min key",
             cuts: &[],
         },
         Element {
+            kind: Kind::Undefined,
             name: "un",
             bytes: b"\x06un\0",
             shown: "undefined",
             cuts: &[],
         },
         Element {
+            kind: Kind::Null,
             name: "",
             bytes: b"\x0a\0",
             shown: "null",
             cuts: &[],
         },
         Element {
+            kind: Kind::Int32,
             name: "i",
             bytes: b"\x10i\0\xfe\xff\xff\xff",
             shown: "int32 -2",
             cuts: &[(4, "value cut short", 0)],
         },
         Element {
+            kind: Kind::Int64,
             name: "l",
             bytes: b"\x12l\0\x01\0\0\0\x01\0\0\0",
             shown: "int64 4294967297",
             cuts: &[(8, "value cut short", 0)],
         },
         Element {
+            kind: Kind::Text,
             name: "t",
             bytes: b"\x02t\0\x04\0\0\0a\0b\0",
             shown: "text a\0b",
             cuts: &[(4, "value cut short", 0), (8, "bad string length", 0)],
         },
         Element {
+            kind: Kind::Symbol,
             name: "s",
             bytes: b"\x0es\0\x03\0\0\0\xc3\xa9\0",
             shown: "symbol \u{e9}",
             cuts: &[(4, "value cut short", 0), (7, "bad string length", 0)],
         },
         Element {
+            kind: Kind::Doc,
             name: "d",
             bytes: b"\x03d\0\x0c\0\0\0\x10x\0\x05\0\0\0\0",
             shown: "document of 1",
             cuts: &[(4, "value cut short", 0), (12, "bad length", 0)],
         },
         Element {
+            kind: Kind::Array,
             name: "a",
             bytes: b"\x04a\0\x12\0\0\0\x10z\0\x07\0\0\0\x0a\0\xffyy\0\0",
             shown: "array of 3",
             cuts: &[(4, "value cut short", 0), (18, "bad length", 0)],
         },
         Element {
+            kind: Kind::Binary,
             name: "b",
             bytes: b"\x05b\0\x07\0\0\0\x02\x03\0\0\0\x07\0\xff",
             shown: "binary 2 [7, 0, 255]",
             cuts: &[(5, "value cut short", 0), (12, "bad binary length", 0)],
         },
         Element {
+            kind: Kind::ObjectId,
             name: "o",
             bytes: b"\x07o\0\x01\x02\x03\x04\x05\x06\x07\x08\x09\x0a\x0b\x0c",
             shown: "id [1, 2, 3, 4, 5, 6, 7, 8, 9, 10, 11, 12]",
             cuts: &[(12, "value cut short", 0)],
         },
         Element {
+            kind: Kind::Bool,
             name: "f",
             bytes: b"\x08f\0\x01",
             shown: "true",
             cuts: &[(1, "value cut short", 0)],
         },
         Element {
+            kind: Kind::Date,
             name: "when",
             bytes: b"\x09when\0\xff\xff\xff\xff\xff\xff\xff\xff",
             shown: "date -1",
             cuts: &[(8, "value cut short", 0)],
         },
         Element {
+            kind: Kind::Timestamp,
             name: "ts",
             bytes: b"\x11ts\0\x02\0\0\0\xff\xff\xff\xff",
             shown: "timestamp 4294967295 2",
             cuts: &[(8, "value cut short", 0)],
         },
         Element {
+            kind: Kind::Regex,
             name: "r",
             bytes: b"\x0br\0pq\0i\0",
             shown: "regex pq i",
             cuts: &[(3, "string not ended", 0), (5, "string not ended", 3)],
         },
         Element {
+            kind: Kind::DbPointer,
             name: "p",
             bytes: b"\x0cp\0\x02\0\0\0n\0\0\x01\x02\x03\x04\x05\x06\x07\x08\x09\x0a\x0b",
             shown: "pointer n [0, 1, 2, 3, 4, 5, 6, 7, 8, 9, 10, 11]",
@@ -121,18 +138,21 @@ pub fn every_element() -> [Element; 19] {
             ],
         },
         Element {
+            kind: Kind::Code,
             name: "c",
             bytes: b"\x0dc\0\x02\0\0\0x\0",
             shown: "code x",
             cuts: &[(4, "value cut short", 0), (6, "bad string length", 0)],
         },
         Element {
+            kind: Kind::CodeScope,
             name: "w",
             bytes: b"\x0fw\0\x13\0\0\0\x02\0\0\0y\0\x09\0\0\0\x08k\0\0\0",
             shown: "code y with 1",
             cuts: &[(4, "value cut short", 0), (19, "bad scope length", 0)],
         },
         Element {
+            kind: Kind::MaxKey,
             name: "max",
             bytes: b"\x7fmax\0",
             shown: "max key",
@@ -199,7 +219,7 @@ pub fn answer(rt: &impl Abort, alloc: Global, bytes: &[u8]) -> Result<String, No
         Err(fault) => {
             let text = fault_text(alloc, &fault)?;
             match check_document(alloc, bytes, 100, 3) {
-                Ok(_) => assert!(rt; false, "no fault without a tree: {text}"),
+                Ok(_) => assert!(rt; false, "a fault was wanted"),
                 Err(fault) => assert_eq!(rt; fault_text(alloc, &fault)?.as_str(), text.as_str()),
             }
             Ok(text)
