@@ -7,10 +7,14 @@
 mod document;
 mod kind;
 mod lookup;
+mod node;
 mod scalar;
 #[cfg(test)]
 mod tests;
+mod tree;
 
 pub use document::{Document, NoMemory, Value};
 pub use kind::Kind;
+pub use node::{Node, Reading};
 pub use scalar::Scalar;
+pub use tree::{Tree, TreeParts};
