@@ -3,7 +3,8 @@
 ghost use Rattle.std.specs.Prelude.{◌≡◌, [], option_map};
 ghost use Rattle.bd_value.specs.Kind.{kind_of};
 ghost use Rattle.bd_value.specs.Seen.{seen, own_of};
-ghost use Rattle.bd_value.specs.View.{tree_of};
+ghost use Rattle.bd_value.specs.Lookup.{first_of};
+ghost use Rattle.bd_value.specs.View.{tree_of, pairs};
 ghost use Rattle.bd_value.specs.Held.{held, parts_held};
 
 use crate::document::{Document, Value};
@@ -94,6 +95,16 @@ pub enum TreeParts<'a> {
     Items(&'a [Value]),
 }
 
+/// The value of the first pair of that name.
+fn first_in<'a>(document: &'a Document, name: &str) -> Option<Tree<'a>>
+    ensures { option_map held result ≡ first_of name.now (pairs document.now) }
+{
+    match document.first(name) {
+        Some(value) => Some(Tree::Value(value)),
+        None => None,
+    }
+}
+
 impl<'a> Reading for Tree<'a> {
     type Rest = TreeParts<'a>;
 
@@ -118,8 +129,11 @@ impl<'a> Reading for Tree<'a> {
 
     fn scope(self) -> Option<Self> {
         match self {
-            Tree::Value(Value::CodeScope(_, scope)) => Some(Tree::Doc(scope)),
-            _ => None,
+            Tree::Doc(_) => None,
+            Tree::Value(value) => match value {
+                Value::CodeScope(_, scope) => Some(Tree::Doc(scope)),
+                _ => None,
+            },
         }
     }
 
@@ -150,9 +164,9 @@ impl<'a> Reading for Tree<'a> {
 
     fn first(self, name: &str) -> Option<Self> {
         match self {
-            Tree::Doc(document) => document.first(name).map(Tree::Value),
+            Tree::Doc(document) => first_in(document, name),
             Tree::Value(value) => match value {
-                Value::Doc(document) => document.first(name).map(Tree::Value),
+                Value::Doc(document) => first_in(document, name),
                 _ => None,
             },
         }
