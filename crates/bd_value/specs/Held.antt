@@ -6,7 +6,7 @@ use Rattle.bd_value.specs.View.{tree_of, pair_of, pairs}
 use Rattle.bd_value.specs.declared.tree.Tree.{Tree}
 use Rattle.bd_value.specs.declared.tree.Tree.TheVariants.{Value, Doc}
 use Rattle.bd_value.specs.declared.tree.TreeParts.{TreeParts}
-use Rattle.bd_value.specs.declared.tree.TreeParts.TheVariants.{Nothing, Pairs, Items}
+use Rattle.bd_value.specs.declared.tree.TreeParts.TheVariants.{Pairs, Items}
 
 abbrev pub held : Tree → trees.Tree
 held (Value v) = tree_of v.now
@@ -14,6 +14,5 @@ held (Doc d) = doc (fields_of (pairs d.now))
 
 -- the elements of an array have no names
 abbrev pub parts_held : TreeParts → trees.Doc
-parts_held Nothing = []
 parts_held (Pairs ps) = map pair_of ps.now
 parts_held (Items vs) = map (λ v. ([], tree_of v)) vs.now

@@ -27,14 +27,20 @@ scope_of (code_scope s fs) = Some (doc fs)
 abbrev pub values_of : Doc → List Tree
 values_of ps = map (λ p. p.1) ps
 
--- the pairs of a document, or the elements of an array under some names; of every other value none
+-- the pairs of a document, or the elements of an array under some names
 abbrev pub AreParts : Tree → Doc → Type 0
-AreParts (leaf s) ps = ps ≡ []
+AreParts (leaf s) ps = ⊥
 AreParts (doc fs) ps = ps ≡ pairs_of fs
 AreParts (array ts) ps = values_of ps ≡ list_of ts
-AreParts (code_scope s fs) ps = ps ≡ []
+AreParts (code_scope s fs) ps = ⊥
 
--- it is neither a document nor an array
+-- it is a document or an array, or it is neither
+abbrev pub HoldsParts : Tree → Type 0
+HoldsParts (leaf s) = ⊥
+HoldsParts (doc fs) = Unit {0}
+HoldsParts (array ts) = Unit {0}
+HoldsParts (code_scope s fs) = ⊥
+
 abbrev pub HoldsNoParts : Tree → Type 0
 HoldsNoParts (leaf s) = Unit {0}
 HoldsNoParts (doc fs) = ⊥

@@ -5,7 +5,7 @@ ghost use Rattle.bd_value.specs.Tree as trees;
 ghost use Rattle.bd_value.specs.Tree.{pairs_in};
 ghost use Rattle.bd_value.specs.Kind.{kind_of};
 ghost use Rattle.bd_value.specs.Lookup.{first_of};
-ghost use Rattle.bd_value.specs.Parts.{elements_in, length_of, scope_of, AreParts};
+ghost use Rattle.bd_value.specs.Parts.{elements_in, length_of, scope_of, HoldsParts, AreParts};
 ghost use Rattle.bd_value.specs.Seen.{seen, own_of};
 
 use crate::kind::Kind;
@@ -63,8 +63,9 @@ pub trait Reading: Copy {
         ensures first { option_map tree result ≡ first_of name.now (pairs_in (tree self)) }
         ensures kept { IfSome result (λ n. source n ≡ source self) };
 
-    /// All pairs of a document, or elements of an array; of every other value none.
+    /// All pairs of a document, or elements of an array.
     fn parts(self) -> Self::Rest
+        requires { HoldsParts (tree self) }
         ensures parts { AreParts (tree self) (left result) }
         ensures kept { rest_source result ≡ source self };
 

@@ -90,7 +90,6 @@ pub enum Tree<'a> {
 /// The pairs of a document or the elements of an array in memory, from one on.
 #[derive(Clone, Copy)]
 pub enum TreeParts<'a> {
-    Nothing,
     Pairs(&'a [(String, Value)]),
     Items(&'a [Value]),
 }
@@ -178,14 +177,13 @@ impl<'a> Reading for Tree<'a> {
             Tree::Value(value) => match value {
                 Value::Doc(document) => TreeParts::Pairs(document.as_pairs()),
                 Value::Array(items) => TreeParts::Items(items),
-                _ => TreeParts::Nothing,
+                _ => unreachable!(),
             },
         }
     }
 
     fn next<'r>(rest: &'r TreeParts<'a>) -> Option<(&'r str, Self, TreeParts<'a>)> {
         match rest {
-            TreeParts::Nothing => None,
             TreeParts::Pairs(pairs) => match pairs.split_first() {
                 Some((pair, after)) => Some((
                     pair.0.as_str(),
