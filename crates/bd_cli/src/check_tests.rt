@@ -98,7 +98,7 @@ fn goes_on_behind_a_fault(rt: HostRuntime) -> Result<(), Fail> {
     let alloc = rt.alloc();
     let first = ample(
         &[DOUBLE, ONE],
-        "document 0, byte 4, path \"\": unknown type\n",
+        "document 0, byte 4, path \"d\": double\n",
         "2 documents, 1 faulty\n",
         Status::Failed,
     );
