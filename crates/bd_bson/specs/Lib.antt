@@ -1,4 +1,3 @@
-pub mod Body
 pub mod Collection
 pub mod Contents
 pub mod Counts

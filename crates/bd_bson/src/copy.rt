@@ -4,7 +4,7 @@ ghost use Rattle.std.specs.Prelude.{◌≡◌, IfOk, map, Some};
 ghost use Rattle.bd_value.specs.Seen.{seen, own_of};
 ghost use Rattle.bd_value.specs.View.{tree_of, pairs};
 ghost use Rattle.bd_bson.specs.Sound.{stands, elements_left};
-ghost use Rattle.bd_bson.specs.Body.{element_trees};
+ghost use Rattle.bd_value.specs.Parts.{values_of};
 
 use crate::contents::Contents;
 use crate::raw::{Elements, RawValue};
@@ -81,7 +81,7 @@ pub fn document(alloc: Global, elements: Elements<'_>) -> Result<Document, NoMem
 /// The values of these elements.
 #[cycle(copying)]
 fn items(alloc: Global, elements: Elements<'_>) -> Result<Vec<Value>, NoMemory>
-    ensures { IfOk result (λ v. map tree_of v.items ≡ element_trees (elements_left elements.entry.left)) }
+    ensures { IfOk result (λ v. map tree_of v.items ≡ values_of (elements_left elements.entry.left)) }
 {
     let mut copied = Vec::new(alloc);
     let mut rest = elements;

@@ -2,7 +2,7 @@ use Rattle.std.proofs.Common.{◌≡◌, ◌≤◌, ◌+◌, ◌*◌, ◌++◌, 
 use Rattle.bd_value.specs.Tree.{tree_size, fields_size, fields_of}
 use Rattle.bd_value.specs.View.{tree_of, pairs}
 use Rattle.bd_bson.specs.Sound.{stands, elements_left}
-use Rattle.bd_bson.specs.Body.{element_trees}
+use Rattle.bd_value.specs.Parts.{values_of}
 use Rattle.bd_bson.proofs.copy.+copying.Given as goal
 
 abbrev pub decreases-value : goal.decreases-value
@@ -26,7 +26,7 @@ decreases-document-loop-name l = length (elements_left l.rest.left)
 
 abbrev pub invariant-items-loop-raw : goal.invariant-items-loop-raw
 invariant-items-loop-raw l = record {
-  so_far : map tree_of l.copied.items ++ element_trees (elements_left l.rest.left) ≡ element_trees (elements_left l.elements.left);
+  so_far : map tree_of l.copied.items ++ values_of (elements_left l.rest.left) ≡ values_of (elements_left l.elements.left);
   fewer : fields_size (fields_of (elements_left l.rest.left)) ≤ fields_size (fields_of (elements_left l.elements.left));
 }
 
