@@ -4,7 +4,6 @@ pub mod Collects
 pub mod Copies
 pub mod Cursors
 pub mod Devices
-pub mod Documents
 pub mod Dumps
 pub mod Loop
 pub mod Nested

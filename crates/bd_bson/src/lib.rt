@@ -37,6 +37,6 @@ pub use input::{DeviceFault, Input, MemoryInput, SystemInput};
 pub use laws::{no_fault_where_spelled, spells_one_document, walks_in_one_way, walks_on};
 pub use output::{FailingWrite, MemoryOutput, Output, SystemOutput, write_all};
 pub use raw::{Elements, RawDoc, RawValue};
-pub use read::{Frame, next_frame, read_document};
+pub use read::{Frame, next_document, next_frame, read_document};
 pub use reading::{Limits, ReadFault, read_all};
 pub use verdict_laws::{judges_as_the_walk, judges_in_turn};
