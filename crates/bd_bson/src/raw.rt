@@ -1,7 +1,7 @@
 //! Values that stay in their bytes.
 
 ghost use Rattle.std.specs.Prelude.{◌≡◌, ◌≤◌, ◌+◌, length, drop, IfSome, IfNone, [], ◌∷◌};
-ghost use Rattle.bd_value.specs.Tree.{Doc, pairs_in};
+ghost use Rattle.bd_value.specs.Tree.{Doc, doc, fields_of, pairs_in};
 ghost use Rattle.bd_value.specs.Kind.{kind_of};
 ghost use Rattle.bd_value.specs.declared.kind.Kind.TheVariants as kinds;
 ghost use Rattle.bd_bson.specs.Spelling.{IsDocument};
@@ -49,6 +49,7 @@ impl<'a> RawDoc<'a> {
     /// The document as a value.
     pub fn value(self) -> RawValue<'a>
         ensures value { stands result.sound ≡ stands self.entry.sound }
+        ensures document { stands result.sound ≡ doc (fields_of (pairs_in (stands self.entry.sound))) }
         ensures kept { result.bytes.now ≡ self.entry.bytes.now }
     {
         RawValue {

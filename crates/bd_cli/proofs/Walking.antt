@@ -19,13 +19,6 @@ use Rattle.bd_cli.specs.Walked.{Holds, Walks, Stops}
 use Rattle.bd_cli.specs.declared.dumping.Walk.{Walk}
 use Rattle.bd_cli.specs.declared.dumping.Stopped.TheVariants.{NoMemory, Unwritten}
 
-pub next_is : (bytes : List ℕ) (at n k : ℕ) (d : Doc) → at + n ≤ length bytes → k ≡ n → IsDocument d (take k (drop at bytes))
-    → (front : List ℕ) × IsDocument d front × (drop at bytes ≡ front ++ drop (at + n) bytes) × (at + length front ≡ at + n) × (at + n ≤ length bytes)
-next_is bytes at n k d le same is =
-    let here : IsDocument d (take n (drop at bytes)) = subst (λ (m : ℕ). IsDocument d (take m (drop at bytes))) same is in
-    let cut : drop at bytes ≡ take n (drop at bytes) ++ drop (at + n) bytes = sym (take-append-drop n (drop at bytes)) ∙ ap (λ x. take n (drop at bytes) ++ x) (drop-drop n at bytes) in
-    (take n (drop at bytes), here, cut, omega (arith, length-take n (drop at bytes), length-drop at bytes), le)
-
 -- ---- the lines of documents
 
 pub lines-append : (ds es : List Doc) → lines (ds ++ es) ≡ lines ds ++ lines es
