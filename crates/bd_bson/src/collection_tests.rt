@@ -1,5 +1,6 @@
 //! Dumps that were worked by hand, byte by byte.
-use crate::{FaultKind, read_dump};
+use crate::samples::fault_text;
+use crate::{FaultKind, Frame, next_frame, read_document, read_dump};
 use bd_value::Value;
 use std::test::Fail;
 
@@ -44,5 +45,43 @@ fn tells_the_first_fault(rt: HostRuntime) -> Result<(), Fail> {
     assert_eq!(rt; fault.kind, FaultKind::ShortLength);
     assert!(rt; fault.document == 1);
     assert!(rt; fault.offset == 12);
+    Ok(())
+}
+
+/// A frame does not depend on what its document holds.
+#[test]
+fn goes_on_behind_a_double(rt: HostRuntime) -> Result<(), Fail> {
+    let alloc = rt.alloc();
+    let double: &[u8] = b"\x10\0\0\0\x01d\0\0\0\0\0\0\0\xf0\x3f\0";
+    let mut bytes = Vec::from_slice(alloc, double)?;
+    bytes.extend_from_slice(ONE)?;
+    assert_eq!(rt; bytes.len(), 28);
+    let first = next_frame(alloc, &bytes, 0, 0).map_err(|_| "the first")?;
+    assert_eq!(rt;
+        first,
+        Some(Frame {
+            start: 0,
+            length: 16
+        })
+    );
+    let Err(fault) = read_document(alloc, &bytes[..16], 0, 0) else {
+        return Err("a fault was wanted".into());
+    };
+    assert_eq!(rt; fault_text(alloc, &fault)?.as_str(), "double at 4 in 0:.d");
+    let second = next_frame(alloc, &bytes, 16, 1).map_err(|_| "the second")?;
+    assert_eq!(rt;
+        second,
+        Some(Frame {
+            start: 16,
+            length: 12
+        })
+    );
+    assert!(rt; read_document(alloc, &bytes[16..], 16, 1).is_ok());
+    let end = next_frame(alloc, &bytes, 28, 2).map_err(|_| "the end")?;
+    assert_eq!(rt; end, None);
+    let Err(fault) = read_dump(alloc, bytes) else {
+        return Err("a fault was wanted".into());
+    };
+    assert_eq!(rt; fault_text(alloc, &fault)?.as_str(), "double at 4 in 0:.d");
     Ok(())
 }

@@ -9,24 +9,34 @@ mod collection_tests;
 mod contents;
 mod copy;
 #[cfg(test)]
+mod depth_tests;
+#[cfg(test)]
 mod devices_tests;
 mod dump_laws;
 mod element;
 mod elements;
 mod fault;
 mod input;
+#[cfg(test)]
+mod kinds_tests;
 mod laws;
 mod output;
 mod parts;
+#[cfg(test)]
+mod prefix_tests;
 mod raw;
 mod raw_parts;
 mod read;
 mod reading;
+#[cfg(test)]
+mod samples;
 mod tally;
 #[cfg(test)]
 mod tests;
 mod verdict_laws;
 mod views;
+#[cfg(test)]
+mod views_tests;
 
 pub use check::check_document;
 pub use collecting::read_dump;
