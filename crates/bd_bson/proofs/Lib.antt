@@ -1,7 +1,6 @@
 pub mod Again
 pub mod Asked
 pub mod Collects
-pub mod Copies
 pub mod Cursors
 pub mod Devices
 pub mod Dumps

@@ -7,7 +7,6 @@ mod collection;
 #[cfg(test)]
 mod collection_tests;
 mod contents;
-mod copy;
 #[cfg(test)]
 mod depth_tests;
 #[cfg(test)]

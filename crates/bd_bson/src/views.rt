@@ -8,9 +8,8 @@ ghost use Rattle.bd_value.specs.View.{tree_of, pairs};
 ghost use Rattle.bd_bson.specs.Sound.{stands, elements_left};
 
 use crate::contents::Contents;
-use crate::copy;
 use crate::raw::{Elements, RawDoc, RawValue};
-use bd_value::{Document, Kind, NoMemory, Node, Reading, Scalar, Value};
+use bd_value::{Document, Kind, NoMemory, Node, Reading, Scalar, Value, to_document, to_value};
 use std::alloc::Global;
 
 impl<'a> RawDoc<'a> {
@@ -49,7 +48,7 @@ impl<'a> RawDoc<'a> {
     pub fn to_document(self, alloc: Global) -> Result<Document, NoMemory>
         ensures { IfOk result (λ d. pairs d ≡ pairs_in (stands self.entry.sound)) }
     {
-        copy::document(alloc, self.elements())
+        to_document::<RawValue<'a>>(alloc, self.elements())
     }
 }
 
@@ -72,7 +71,7 @@ impl<'a> RawValue<'a> {
     pub fn to_value(self, alloc: Global) -> Result<Value, NoMemory>
         ensures { IfOk result (λ v. tree_of v ≡ stands self.entry.sound) }
     {
-        copy::value(alloc, self)
+        to_value(alloc, self)
     }
 }
 

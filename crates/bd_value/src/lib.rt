@@ -4,6 +4,7 @@
 //! `specs/View.antt`.
 #![tactic(auto)]
 
+mod copying;
 mod document;
 mod kind;
 mod lookup;
@@ -13,6 +14,7 @@ mod scalar;
 mod tests;
 mod tree;
 
+pub use copying::{to_document, to_value};
 pub use document::{Document, NoMemory, Value};
 pub use kind::Kind;
 pub use node::{Node, Reading};

@@ -1,4 +1,3 @@
-use Rattle.std.proofs.Common.{sym, subst}
 use Rattle.bd_bson.specs.Collection.{documents}
 use Rattle.bd_bson.proofs.Collects.{dump_is}
 use Rattle.bd_bson.proofs.collecting.read_dump.Goals as goal
