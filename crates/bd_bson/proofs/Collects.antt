@@ -14,7 +14,8 @@ use Rattle.bd_bson.specs.Starts.{StandAt, StandAt-prop, documents_at}
 use Rattle.bd_bson.specs.Told.{Tells}
 use Rattle.bd_bson.specs.declared.fault.Fault as told
 use Rattle.bd_bson.specs.declared.raw.RawDoc.{RawDoc}
-use Rattle.bd_bson.specs.Collection.{IsUnread}
+use Rattle.bd_bson.specs.Collection.{documents, IsUnread}
+use Rattle.bd_bson.specs.declared.collection.Dump.{Dump}
 use Rattle.bd_bson.proofs.Readable.{reads_at}
 use Rattle.bd_bson.proofs.Dumps.{joined_append, joined_one, document_frame, frame_inside}
 
@@ -48,6 +49,10 @@ documents_count bytes (s ∷ ss) all = ap suc (documents_count bytes ss all.1)
 
 abbrev some : Doc → Option Doc
 some d = Some d
+
+pub documents_length : (dump : Dump) → length (documents dump) ≡ length dump.starts.items
+unfolding documents
+documents_length dump = documents_count dump.bytes.items dump.starts.items dump.stand
 
 -- the document of a number
 pub stands_there : (bytes starts : List ℕ) (all : StandAt bytes starts) (i start : ℕ) → slice_get starts i ≡ Some start → Sound kinds.Doc (drop start bytes)

@@ -1,6 +1,6 @@
 -- The walk over a dump, step by step.
 use Rattle.std.proofs.Common.{◌≡◌, ◌≤◌, ℕ, ◌+◌, ◌*◌, List, [], ◌∷◌, ◌++◌, length, take, drop, Option, Some, None, refl, sym, ap, ◌∙◌, subst, append_assoc, append-nil, arith, inl, inr}
-use Rattle.std.proofs.lemmas.List.{take-append-drop, drop-drop, length-drop, length-take, length-append, take_at}
+use Rattle.std.proofs.lemmas.List.{take-append-drop, length-take, length-append, take_at}
 use Rattle.std.proofs.KnownBytes.{Appends-trans, Appends-nil}
 use Rattle.bd_value.specs.Tree.{Doc, doc, fields_of}
 use Rattle.bd_bson.specs.Fault.{Fault}

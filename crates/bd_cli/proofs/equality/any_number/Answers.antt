@@ -1,1 +1,0 @@
-use Rattle.bd_cli.proofs.equality.any_number.Goals as goal

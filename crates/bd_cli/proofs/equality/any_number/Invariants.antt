@@ -5,7 +5,7 @@ use Rattle.bd_cli.specs.Equality.{any_number}
 use Rattle.bd_cli.proofs.equality.any_number.Given as goal
 
 abbrev pub invariant-loop-item : goal.invariant-loop-item
-invariant-loop-item g l = any_number l.n (items_of (values_of (g.N.Reading.left l.rest))) ≡ any_number l.n (items_of (values_of (g.N.Reading.left l.items)))
+invariant-loop-item g l = any_number l.n (items_of (values_of (g.N.Reading.left l.rest))) ≡ any_number l.n (items_of (values_of (g.N.Reading.left l.fn.items)))
 
 abbrev pub decreases-loop-item : goal.decreases-loop-item
 decreases-loop-item g l = length (g.N.Reading.left l.rest)
