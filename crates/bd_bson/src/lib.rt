@@ -1,6 +1,8 @@
 //! BSON documents as bytes, and the devices that give and take bytes.
 #![tactic(auto)]
 
+#[cfg(test)]
+mod both_tests;
 mod check;
 mod collecting;
 mod collection;

@@ -13,6 +13,8 @@ mod scalar;
 #[cfg(test)]
 mod tests;
 mod tree;
+#[cfg(test)]
+mod tree_tests;
 
 pub use copying::{to_document, to_value};
 pub use document::{Document, NoMemory, Value};
