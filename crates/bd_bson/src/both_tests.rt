@@ -9,8 +9,11 @@ use std::test::Fail;
 fn node_shown<'a, N: Node<'a>>(alloc: Global, node: N) -> Result<String, NoMemory> {
     match node.scalar() {
         Some(Scalar::CodeScope(code)) => {
-            let count = node.scope().map(|scope| scope.len());
-            format!(in alloc; "code {code} with {}", count.unwrap_or(99))
+            let count = match node.scope() {
+                Some(scope) => scope.len(),
+                None => 99,
+            };
+            format!(in alloc; "code {code} with {count}")
         }
         Some(scalar) => scalar_shown(alloc, scalar),
         None => match node.kind() {

@@ -1,10 +1,11 @@
 //! Printing and matching over a view and over its copy in memory. Bytes are written by hand from the BSON specification,
 //! texts from the conversion table of Extended JSON v2.
 use crate::equality::number_matches;
-use bd_bson::check_document;
+use bd_bson::{RawDoc, check_document};
 use bd_extjson::{write_doc, write_node};
 use bd_value::Tree;
 use std::alloc::{AllocError, Global};
+use std::process::Abort;
 use std::test::Fail;
 
 /// An element of each kind, and its text.
@@ -64,11 +65,12 @@ const EVERY: [(&[u8], &str); 19] = [
 /// The document of these elements.
 fn framed(alloc: Global, elements: &[&[u8]]) -> Result<Vec<u8>, AllocError> {
     let mut bytes = Vec::new(alloc);
-    let mut length: u32 = 5;
+    let mut length: u64 = 5;
     for element in elements {
-        length = length.wrapping_add(element.len() as u32);
+        length = length.wrapping_add(element.len() as u64);
     }
-    bytes.extend_from_slice(&length.to_le_bytes())?;
+    let all = length.to_le_bytes();
+    bytes.extend_from_slice(&[all[0], all[1], all[2], all[3]])?;
     for element in elements {
         bytes.extend_from_slice(element)?;
     }
@@ -76,19 +78,35 @@ fn framed(alloc: Global, elements: &[&[u8]]) -> Result<Vec<u8>, AllocError> {
     Ok(bytes)
 }
 
+/// The bytes, seen as a document that has no fault.
+fn view<'a>(rt: &impl Abort, alloc: Global, bytes: &'a [u8]) -> RawDoc<'a> {
+    assert!(rt; bytes.len() < 100_000);
+    match check_document(alloc, bytes, 0, 0) {
+        Ok(document) => document,
+        Err(_) => panic!(rt; "a document was wanted"),
+    }
+}
+
+/// Both texts of these elements are the one that is wanted.
+fn prints(rt: &impl Abort, alloc: Global, elements: &[&[u8]], wanted: &str) -> Result<(), Fail> {
+    let bytes = framed(alloc, elements)?;
+    let document = view(rt, alloc, bytes.as_slice());
+    let mut seen = Vec::new(alloc);
+    write_node(document.value(), &mut seen)?;
+    assert_eq!(rt; seen.as_slice(), wanted.as_bytes());
+    let mut copied = Vec::new(alloc);
+    write_doc(&document.to_document(alloc)?, &mut copied)?;
+    assert_eq!(rt; copied.as_slice(), wanted.as_bytes());
+    Ok(())
+}
+
 #[test]
 fn prints_views_and_copies_alike(rt: HostRuntime) -> Result<(), Fail> {
     let alloc = rt.alloc();
+    prints(&rt, alloc, &[], "{}")?;
     for (element, field) in EVERY {
-        let bytes = framed(alloc, &[element])?;
-        let document = check_document(alloc, &bytes, 0, 0).map_err(|_| "a document")?;
         let wanted = format!(in alloc; "{{{field}}}")?;
-        let mut seen = Vec::new(alloc);
-        write_node(document.value(), &mut seen)?;
-        assert_eq!(rt; seen.as_slice(), wanted.as_bytes());
-        let mut copied = Vec::new(alloc);
-        write_doc(&document.to_document(alloc)?, &mut copied)?;
-        assert_eq!(rt; copied.as_slice(), wanted.as_bytes());
+        prints(&rt, alloc, &[element], wanted.as_str())?;
     }
     Ok(())
 }
@@ -106,15 +124,7 @@ fn prints_all_kinds_in_turn(rt: HostRuntime) -> Result<(), Fail> {
         wanted.push_str(field)?;
     }
     wanted.push_str("}")?;
-    let bytes = framed(alloc, &elements)?;
-    let document = check_document(alloc, &bytes, 0, 0).map_err(|_| "a document")?;
-    let mut seen = Vec::new(alloc);
-    write_node(document.value(), &mut seen)?;
-    assert_eq!(rt; seen.as_slice(), wanted.as_bytes());
-    let mut copied = Vec::new(alloc);
-    write_doc(&document.to_document(alloc)?, &mut copied)?;
-    assert_eq!(rt; copied.as_slice(), wanted.as_bytes());
-    Ok(())
+    prints(&rt, alloc, elements.as_slice(), wanted.as_str())
 }
 
 /// `a` is the number 1.
@@ -160,7 +170,7 @@ fn matches_views_and_copies_alike(rt: HostRuntime) -> Result<(), Fail> {
     ];
     for (elements, name, n, wanted) in rows {
         let bytes = framed(alloc, elements)?;
-        let document = check_document(alloc, &bytes, 0, 0).map_err(|_| "a document")?;
+        let document = view(&rt, alloc, bytes.as_slice());
         let copy = document.to_document(alloc)?;
         assert!(rt;
             number_matches(document.value(), name, n) == wanted,

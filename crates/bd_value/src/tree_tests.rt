@@ -1,17 +1,29 @@
 //! Each call of a node on a value in memory of each kind.
 use crate::tests::{every_kind, shown};
 use crate::{Document, Kind, Node, Reading, Scalar, Tree, Value, to_document, to_value};
+use std::process::Abort;
 use std::test::Fail;
+
+/// The pair of a document at a place, by both calls.
+fn pair_of<'a>(rt: &impl Abort, node: Tree<'a>, i: usize) -> (&'a str, Tree<'a>) {
+    let kind = node.kind();
+    assert!(rt; kind == Kind::Doc);
+    let count = node.len();
+    assert!(rt; i < count);
+    let (name, value) = node.field(i);
+    let (same_name, same_value) = node.pair(i);
+    assert_eq!(rt; name, same_name);
+    assert_eq!(rt; value.kind(), same_value.kind());
+    (same_name, same_value)
+}
 
 #[test]
 fn reads_every_kind(rt: HostRuntime) -> Result<(), Fail> {
     let alloc = rt.alloc();
     let document = every_kind(alloc)?;
     let node = Tree::Doc(&document);
-    let kind = node.kind();
-    assert!(rt; kind == Kind::Doc);
-    let count = node.len();
-    assert!(rt; count == 19);
+    let count = document.len();
+    assert!(rt; count == 19 && node.len() == 19);
     assert!(rt; node.scalar().is_none() && node.scope().is_none());
     let kinds = [
         Kind::MinKey,
@@ -34,10 +46,11 @@ fn reads_every_kind(rt: HostRuntime) -> Result<(), Fail> {
         Kind::CodeScope,
         Kind::MaxKey,
     ];
+    assert!(rt; node.kind() == Kind::Doc);
     let mut rest = node.parts();
     for i in 0..count {
         let number = i.to_string(alloc)?;
-        let (name, value) = node.pair(i);
+        let (name, value) = pair_of(&rt, node, i);
         assert_eq!(rt; name, number.as_str());
         assert_eq!(rt; value.kind(), kinds[i]);
         let (_, own) = document.pair(i);
@@ -52,9 +65,6 @@ fn reads_every_kind(rt: HostRuntime) -> Result<(), Fail> {
         assert_eq!(rt; value.len() > 0, holder);
         assert_eq!(rt; value.scope().is_some(), kinds[i] == Kind::CodeScope);
         assert_eq!(rt; value.first("in").is_some(), kinds[i] == Kind::Doc);
-        let (name, value) = node.field(i);
-        assert_eq!(rt; name, number.as_str());
-        assert_eq!(rt; value.kind(), kinds[i]);
         let (name, value, after) = Tree::next(&rest).ok_or("a field")?;
         assert_eq!(rt; name, number.as_str());
         assert_eq!(rt; value.kind(), kinds[i]);
@@ -100,13 +110,12 @@ fn copies_code_with_its_scope(rt: HostRuntime) -> Result<(), Fail> {
     let document = every_kind(alloc)?;
     let code = Tree::Doc(&document).first("17").ok_or("code")?;
     assert!(rt; matches!(code.scalar(), Some(Scalar::CodeScope("d"))));
-    match to_value(alloc, code)? {
-        Value::CodeScope(text, scope) => {
-            assert_eq!(rt; text.as_str(), "d");
-            assert!(rt; matches!(scope.first("in"), Some(Value::Null)));
-        }
-        _ => assert!(rt; false, "code with scope was wanted"),
-    }
+    let copy = to_value(alloc, code)?;
+    let copy = Tree::Value(&copy);
+    assert!(rt; matches!(copy.scalar(), Some(Scalar::CodeScope("d"))));
+    let scope = copy.scope().ok_or("a scope")?;
+    let value = scope.first("in").ok_or("a field")?;
+    assert_eq!(rt; value.kind(), Kind::Null);
     Ok(())
 }
 
