@@ -1,10 +1,8 @@
 pub mod Again
 pub mod Asked
 pub mod Collects
-pub mod Copies
 pub mod Cursors
 pub mod Devices
-pub mod Documents
 pub mod Dumps
 pub mod Loop
 pub mod Nested

@@ -13,7 +13,7 @@ use Rattle.bd_bson.specs.Sizes.{number_of, text_of, scalar_at}
 use Rattle.bd_bson.specs.Reads.{TextAt}
 use Rattle.bd_bson.specs.Unique.{framed_after, no_holder}
 use Rattle.bd_bson.specs.Sound.{Sound, Left, stands, elements_left, stands_is, left_is}
-use Rattle.bd_bson.specs.Body.{element_trees}
+use Rattle.bd_value.specs.Parts.{values_of}
 use Rattle.bd_bson.proofs.Readable.{kind_is, text_reads, framed_length, scoped_length}
 
 -- ---- what the kind tells of the tree
@@ -29,7 +29,7 @@ abbrev as_document : Doc → Tree
 as_document ps = doc (fields_of ps)
 
 abbrev as_array : Doc → Tree
-as_array ps = array (items_of (element_trees ps))
+as_array ps = array (items_of (values_of ps))
 
 is_document : (t : Tree) (v : List ℕ) → IsValue t v → kind_of t ≡ kinds.Doc → IsFramed t v as_document
 is_document (leaf a) v h k = absurd (no_holder a kinds.Doc k refl)
@@ -37,7 +37,7 @@ is_document (doc fs) v h k = record { fields = fs; body = h.0; spell = h.1; fram
 is_document (array ts) v h k = absurd cc
 is_document (code_scope s fs) v h k = absurd cc
 
-items_fields : (ts : Items) (b : List ℕ) → AreItems ts b → (fs : Fields) × AreFields fs b × (element_trees (pairs_of fs) ≡ list_of ts)
+items_fields : (ts : Items) (b : List ℕ) → AreItems ts b → (fs : Fields) × AreFields fs b × (values_of (pairs_of fs) ≡ list_of ts)
 items_fields no_items b h = (no_fields, h, refl)
 items_fields (item t ts) b h =
     let others = items_fields ts h.2 h.5 in
@@ -130,7 +130,7 @@ module _ (bytes : List ℕ) (start : ℕ) (kind : Kind) (s : Sound kind (drop st
   pub array_left : kind ≡ kinds.Array → Left (drop (start + 4) bytes)
   array_left k = framed_left bytes start kind s as_array (is_array s.tree s.value s.spells (kind_is kind _ s ∙ k))
 
-  pub array_is : kind ≡ kinds.Array → (g : Left (drop (start + 4) bytes)) → stands s ≡ array (items_of (element_trees (elements_left g)))
+  pub array_is : kind ≡ kinds.Array → (g : Left (drop (start + 4) bytes)) → stands s ≡ array (items_of (values_of (elements_left g)))
   array_is k g = framed_is bytes start kind s as_array (is_array s.tree s.value s.spells (kind_is kind _ s ∙ k)) g
 
 -- ---- code with scope

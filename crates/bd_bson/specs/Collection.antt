@@ -1,10 +1,8 @@
 -- The documents of a dump that was read, and why one was not.
-use Rattle.std.specs.Prelude.{◌≡◌, ◌<◌, ◌≤◌, ◌+◌, ◌⊎◌, ℕ, List, [], ◌++◌, drop, length, map, Option, Some, None}
+use Rattle.std.specs.Prelude.{◌≡◌, ◌<◌, ◌≤◌, ◌⊎◌, ℕ, List, [], length}
 use Rattle.bd_value.specs.Tree.{Doc}
-use Rattle.bd_value.specs.View.{pairs}
-use Rattle.bd_value.specs.declared.document.Document.{Document}
 use Rattle.bd_bson.specs.Dump.{FailsAfter}
-use Rattle.bd_bson.specs.Spelling.{IsDocument}
+use Rattle.bd_bson.specs.Starts.{documents_at}
 use Rattle.bd_bson.specs.Told.{fault_view, IsWantOfMemory}
 use Rattle.bd_bson.specs.declared.collection.Dump.{Dump}
 use Rattle.bd_bson.specs.declared.fault.Fault as declared
@@ -12,7 +10,11 @@ use Rattle.bd_bson.specs.declared.fault.FaultKind.TheVariants.{DumpTooLong}
 
 -- the documents of a dump, in their order
 unfoldable pub documents : Dump → List Doc
-documents dump = map pairs dump.documents.items
+documents dump = documents_at dump.bytes.items dump.starts.items dump.stand
+
+-- the bytes of a dump
+abbrev pub bytes_of : Dump → List ℕ
+bytes_of dump = dump.bytes.items
 
 -- the bytes are too many for a dump: the fault has no place
 pub record IsTooLong (bytes : List ℕ) (e : declared.Fault) : Type 0 where
@@ -31,8 +33,3 @@ pub record IsFirstFault (bytes : List ℕ) (e : declared.Fault) : Type 0 where
 -- why the bytes were not read as a dump: their number, tried first, or want of memory, or the first document with a fault
 abbrev pub IsUnread : List ℕ → declared.Fault → Type 0
 IsUnread bytes e = IsTooLong bytes e ⊎ ((length bytes ≤ 4294967295) × (IsWantOfMemory e ⊎ IsFirstFault bytes e))
-
--- the document that stands at a place of the bytes, and the place behind it; none at the end
-abbrev pub IsNext : List ℕ → ℕ → Option (Document × ℕ) → Type 0
-IsNext bytes at None = drop at bytes ≡ []
-IsNext bytes at (Some p) = (front : List ℕ) × IsDocument (pairs p.0) front × (drop at bytes ≡ front ++ drop p.1 bytes) × (at + length front ≡ p.1) × (p.1 ≤ length bytes)

@@ -1,4 +1,3 @@
-pub mod Body
 pub mod Collection
 pub mod Contents
 pub mod Counts
@@ -7,11 +6,13 @@ pub mod Dump
 pub mod Fault
 pub mod FirstFault
 pub mod Gives
+pub mod Next
 pub mod Reads
 pub mod Scalars
 pub mod Sizes
 pub mod Sound
 pub mod Spelling
+pub mod Starts
 pub mod Told
 pub mod Types
 pub mod Unique

@@ -1,37 +1,16 @@
-//! The documents of a dump from its bytes.
+//! A dump from its bytes.
 
-ghost use Rattle.std.specs.Prelude.{◌≡◌, ◌≤◌, IfOk, IfErr, [], List, Option, length, drop};
+ghost use Rattle.std.specs.Prelude.{◌≡◌, ◌≤◌, IfOk, IfErr, [], List, Option, length};
 ghost use Rattle.bd_value.specs.Tree.{Doc};
-ghost use Rattle.bd_bson.specs.Collection.{documents, IsNext, IsUnread};
-ghost use Rattle.bd_bson.specs.Dump.{IsDump, IsWalk, frame_fault};
+ghost use Rattle.bd_bson.specs.Collection.{documents, bytes_of, IsUnread};
+ghost use Rattle.bd_bson.specs.Dump.{IsDump, IsWalk};
+ghost use Rattle.bd_bson.specs.Starts.{StandAt, documents_at};
 ghost use Rattle.bd_bson.specs.Fault.{Fault as Where};
-ghost use Rattle.bd_bson.specs.Told.{Tells};
 
 use crate::collection::Dump;
 use crate::fault::{Fault, FaultKind, want_of_memory};
-use crate::read::{next_frame, read_document};
-use bd_value::Document;
+use crate::read::next_document;
 use std::alloc::Global;
-
-/// The document at the place `at` of a dump; none at the end.
-fn next_document(
-    alloc: Global,
-    bytes: &[u8],
-    at: usize,
-    number: u32,
-) -> Result<Option<(Document, usize)>, Fault>
-    requires inside { at ≤ length bytes.now }
-    requires short { length bytes.now ≤ 4294967295 }
-    ensures next { IfOk result (IsNext bytes.now at) }
-    ensures fault { IfErr result (Tells number (frame_fault at (drop at bytes.now))) }
-{
-    let Some(frame) = next_frame(alloc, bytes, at, number)? else {
-        return Ok(None);
-    };
-    let after = at + frame.length;
-    let document = read_document(alloc, &bytes[at..after], at as u64, number)?;
-    Ok(Some((document, after)))
-}
 
 /// The fault of bytes that are too many for a dump, which has no place.
 fn too_long(alloc: Global) -> Fault
@@ -48,22 +27,23 @@ fn too_long(alloc: Global) -> Fault
     }
 }
 
-/// The documents that bytes which are not too many are a dump of.
-fn read_bytes(alloc: Global, bytes: &[u8]) -> Result<Dump, Fault>
+/// Where the documents start that bytes which are not too many are a dump of.
+fn starts_in(alloc: Global, bytes: &[u8]) -> Result<Vec<u32>, Fault>
     requires { length bytes.now ≤ 4294967295 }
-    ensures dump { IfOk result (λ dump. IsDump (documents dump) bytes.now) }
+    ensures dump { IfOk result (λ starts. (all : StandAt bytes.now starts.items) × IsDump (documents_at bytes.now starts.items all) bytes.now) }
+    ensures few { IfOk result (λ starts. length starts.items ≤ length bytes.now) }
     ensures fault { IfErr result (IsUnread bytes.now) }
     ensures walk { (ds : List Doc) × (end : Option Where) × IsWalk ds end bytes.now }
 {
-    let mut documents = Vec::new(alloc);
+    let mut starts = Vec::new(alloc);
     let mut at = 0;
-    while let Some((document, after)) = next_document(alloc, bytes, at, documents.len() as u32)? {
-        at = after;
-        if documents.push(document).is_err() {
+    while let Some((_, after)) = next_document(alloc, bytes, at, starts.len() as u32)? {
+        if starts.push(at as u32).is_err() {
             return Err(want_of_memory(alloc));
         }
+        at = after;
     }
-    Ok(Dump { documents })
+    Ok(starts)
 }
 
 /// The documents that the bytes are a dump of, all of them.
@@ -76,6 +56,7 @@ fn read_bytes(alloc: Global, bytes: &[u8]) -> Result<Dump, Fault>
 /// - `FaultKind::NoMemory` where memory ran out. It has no place.
 pub fn read_dump(alloc: Global, bytes: Vec<u8>) -> Result<Dump, Fault>
     ensures dump { IfOk result (λ dump. IsDump (documents dump) bytes.items) }
+    ensures bytes { IfOk result (λ dump. bytes_of dump ≡ bytes.items) }
     ensures fault { IfErr result (IsUnread bytes.items) }
     // Whatever was answered, the bytes are documents in turn and then end, or fail behind these.
     ensures walk { length bytes.items ≤ 4294967295 → (ds : List Doc) × (end : Option Where) × IsWalk ds end bytes.items }
@@ -83,5 +64,6 @@ pub fn read_dump(alloc: Global, bytes: Vec<u8>) -> Result<Dump, Fault>
     if bytes.len() > 4_294_967_295 {
         return Err(too_long(alloc));
     }
-    read_bytes(alloc, &bytes)
+    let starts = starts_in(alloc, &bytes)?;
+    Ok(Dump { bytes, starts })
 }

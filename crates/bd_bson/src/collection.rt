@@ -1,32 +1,48 @@
-//! A dump: all documents of a collection, in memory.
+//! A dump: all documents of a collection, in their bytes.
 
 ghost use Rattle.std.specs.Prelude.{◌≡◌, ◌≤◌, ◌<◌, Some, length, slice_get};
-ghost use Rattle.bd_value.specs.View.{pairs};
+ghost use Rattle.bd_value.specs.Tree.{pairs_in};
+ghost use Rattle.bd_bson.specs.Sound.{stands};
+ghost use Rattle.bd_bson.specs.Starts.{StandAt, StandAt-prop};
 
-use bd_value::Document;
+use crate::raw::RawDoc;
 
-/// The documents of a dump, in their order. A document is named by its number, from 0.
+/// The documents of a dump, in their order. A document is named by its number, from 0. It keeps the bytes and where each
+/// document starts, and no trees.
 #[derive(Drop)]
 pub struct Dump {
-    pub(crate) documents: Vec<Document>,
-    ghost few: { length documents.items ≤ 4294967295 },
+    pub(crate) bytes: Vec<u8>,
+    pub(crate) starts: Vec<u32>,
+    ghost few: { length starts.items ≤ 4294967295 },
+    ghost stand: { StandAt bytes.items starts.items } by { StandAt-prop bytes.items starts.items },
 }
 
 impl Dump {
-    ghost use Rattle.bd_bson.specs.Collection.{documents};
+    ghost use Rattle.bd_bson.specs.Collection.{documents, bytes_of};
 
     /// The number of documents. It takes no memory.
     pub fn len(&self) -> u32
         ensures { result ≡ length (documents self.now) }
     {
-        self.documents.len() as u32
+        self.starts.len() as u32
     }
 
     /// The document of that number. It takes no memory.
-    pub fn document(&self, n: u32) -> &Document
+    pub fn document(&self, n: u32) -> RawDoc<'_>
         requires { n < length (documents self.now) }
-        ensures { slice_get (documents self.now) n ≡ Some (pairs result.now) }
+        ensures document { slice_get (documents self.now) n ≡ Some (pairs_in (stands result.sound)) }
+        ensures kept { result.bytes.now ≡ bytes_of self.now }
     {
-        &self.documents[n as usize]
+        RawDoc {
+            bytes: &self.bytes,
+            start: self.starts[n as usize] as usize,
+        }
+    }
+
+    /// The bytes that it was read from. It takes no memory.
+    pub fn bytes(&self) -> &[u8]
+        ensures { result.now ≡ bytes_of self.now }
+    {
+        &self.bytes
     }
 }

@@ -1,7 +1,7 @@
 //! Dumps that were worked by hand, byte by byte.
 use crate::samples::fault_text;
 use crate::{FaultKind, Frame, next_frame, read_document, read_dump};
-use bd_value::Value;
+use bd_value::{Node, Scalar};
 use std::test::Fail;
 
 const ONE: &[u8] = b"\x0c\0\0\0\x10a\0\x01\0\0\0\0";
@@ -16,7 +16,9 @@ fn reads_documents_in_turn(rt: HostRuntime) -> Result<(), Fail> {
     let count = dump.len();
     assert!(rt; count == 3);
     assert!(rt; dump.document(1).is_empty());
-    assert!(rt; matches!(dump.document(2).first("a"), Some(Value::Int32(1))));
+    let last = dump.document(2).first("a").and_then(|value| value.scalar());
+    assert!(rt; matches!(last, Some(Scalar::Int32(1))));
+    assert!(rt; dump.bytes().len() == 29);
     let none = read_dump(alloc, Vec::new(alloc)).map_err(|_| "no document")?;
     let count = none.len();
     assert!(rt; count == 0);

@@ -1,6 +1,6 @@
 //! What a value that stays in its bytes holds.
 
-ghost use Rattle.bd_bson.specs.Contents.{Holds};
+ghost use Rattle.bd_bson.specs.Contents.{Holds, StandsIn};
 ghost use Rattle.bd_bson.specs.Sound.{stands};
 
 use crate::raw::{Elements, RawDoc, RawValue};
@@ -20,7 +20,8 @@ pub enum Contents<'a> {
 impl<'a> RawValue<'a> {
     /// What it holds.
     pub(crate) fn contents(self) -> Contents<'a>
-        ensures { Holds (stands self.entry.sound) result }
+        ensures holds { Holds (stands self.entry.sound) result }
+        ensures kept { StandsIn self.entry.bytes.now result }
     {
         let (_, here) = self.bytes.split_at(self.start);
         match self.kind {

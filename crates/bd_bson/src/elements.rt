@@ -1,6 +1,6 @@
 //! Going through elements that stay in their bytes. No call takes memory.
 
-ghost use Rattle.std.specs.Prelude.{◌≡◌, ◌<◌, Some, option_map, length, slice_get};
+ghost use Rattle.std.specs.Prelude.{◌≡◌, ◌<◌, Some, option_map, length, slice_get, IfSome};
 ghost use Rattle.bd_value.specs.Lookup.{first_of};
 ghost use Rattle.bd_bson.specs.Sound.{stands, elements_left};
 
@@ -23,7 +23,8 @@ impl<'a> Elements<'a> {
     /// The name and the value of the element at a place, counted from 0. It goes through those before it.
     pub fn nth(self, i: usize) -> (&'a str, RawValue<'a>)
         requires { i < length (elements_left self.left) }
-        ensures { slice_get (elements_left self.entry.left) i ≡ Some (result.0.now, stands result.1.sound) }
+        ensures pair { slice_get (elements_left self.entry.left) i ≡ Some (result.0.now, stands result.1.sound) }
+        ensures kept { result.1.bytes.now ≡ self.entry.bytes.now }
     {
         let mut rest = self;
         let mut k = 0;
@@ -42,7 +43,8 @@ impl<'a> Elements<'a> {
 
     /// The value of the first element of that name; none where no element has it.
     pub fn find(self, name: &str) -> Option<RawValue<'a>>
-        ensures { option_map (λ v. stands v.sound) result ≡ first_of name.now (elements_left self.entry.left) }
+        ensures first { option_map (λ v. stands v.sound) result ≡ first_of name.now (elements_left self.entry.left) }
+        ensures kept { IfSome result (λ v. v.bytes.now ≡ self.entry.bytes.now) }
     {
         let mut rest = self;
         while let Some((here, value, after)) = rest.next() {

@@ -1,13 +1,14 @@
 //! BSON documents as bytes, and the devices that give and take bytes.
 #![tactic(auto)]
 
+#[cfg(test)]
+mod both_tests;
 mod check;
 mod collecting;
 mod collection;
 #[cfg(test)]
 mod collection_tests;
 mod contents;
-mod copy;
 #[cfg(test)]
 mod depth_tests;
 #[cfg(test)]
@@ -47,6 +48,6 @@ pub use input::{DeviceFault, Input, MemoryInput, SystemInput};
 pub use laws::{no_fault_where_spelled, spells_one_document, walks_in_one_way, walks_on};
 pub use output::{FailingWrite, MemoryOutput, Output, SystemOutput, write_all};
 pub use raw::{Elements, RawDoc, RawValue};
-pub use read::{Frame, next_frame, read_document};
+pub use read::{Frame, next_document, next_frame, read_document};
 pub use reading::{Limits, ReadFault, read_all};
 pub use verdict_laws::{judges_as_the_walk, judges_in_turn};

@@ -1,7 +1,7 @@
 //! Values that stay in their bytes.
 
 ghost use Rattle.std.specs.Prelude.{◌≡◌, ◌≤◌, ◌+◌, length, drop, IfSome, IfNone, [], ◌∷◌};
-ghost use Rattle.bd_value.specs.Tree.{Doc, pairs_in};
+ghost use Rattle.bd_value.specs.Tree.{Doc, doc, fields_of, pairs_in};
 ghost use Rattle.bd_value.specs.Kind.{kind_of};
 ghost use Rattle.bd_value.specs.declared.kind.Kind.TheVariants as kinds;
 ghost use Rattle.bd_bson.specs.Spelling.{IsDocument};
@@ -48,7 +48,9 @@ impl<'a> RawDoc<'a> {
 
     /// The document as a value.
     pub fn value(self) -> RawValue<'a>
-        ensures { stands result.sound ≡ stands self.entry.sound }
+        ensures value { stands result.sound ≡ stands self.entry.sound }
+        ensures document { stands result.sound ≡ doc (fields_of (pairs_in (stands self.entry.sound))) }
+        ensures kept { result.bytes.now ≡ self.entry.bytes.now }
     {
         RawValue {
             bytes: self.bytes,
@@ -59,7 +61,8 @@ impl<'a> RawDoc<'a> {
 
     /// The elements.
     pub fn elements(self) -> Elements<'a>
-        ensures { elements_left result.left ≡ pairs_in (stands self.entry.sound) }
+        ensures elements { elements_left result.left ≡ pairs_in (stands self.entry.sound) }
+        ensures kept { result.bytes.now ≡ self.entry.bytes.now }
     {
         Elements {
             bytes: self.bytes,
@@ -78,7 +81,7 @@ impl<'a> RawValue<'a> {
     }
 
     /// What it is.
-    pub fn kind(self) -> Kind
+    pub(crate) fn kind_here(self) -> Kind
         ensures { result ≡ kind_of (stands self.entry.sound) }
     {
         self.kind
@@ -89,6 +92,7 @@ impl<'a> Elements<'a> {
     /// The name and the value of the next element, and the elements after it.
     pub fn next(self) -> Option<(&'a str, RawValue<'a>, Elements<'a>)>
         ensures some { IfSome result (λ x. elements_left self.entry.left ≡ (x.0.now, stands x.1.sound) ∷ elements_left x.2.left) }
+        ensures kept { IfSome result (λ x. (x.1.bytes.now ≡ self.entry.bytes.now) × (x.2.bytes.now ≡ self.entry.bytes.now)) }
         ensures none { IfNone result (elements_left self.entry.left ≡ []) }
     {
         let byte = self.bytes[self.at];

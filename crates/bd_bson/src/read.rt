@@ -6,10 +6,12 @@ ghost use Rattle.bd_value.specs.View.{pairs};
 ghost use Rattle.bd_bson.specs.Spelling.{IsDocument};
 ghost use Rattle.bd_bson.specs.FirstFault.{first_fault};
 ghost use Rattle.bd_bson.specs.Told.{Tells, IsWantOfMemory};
-ghost use Rattle.bd_bson.specs.Dump.{frame_length};
+ghost use Rattle.bd_bson.specs.Dump.{frame_length, frame_fault};
+ghost use Rattle.bd_bson.specs.Next.{IsNext};
 
 use crate::check::check_document;
 use crate::fault::{Fault, FaultKind, want_of_memory};
+use crate::raw::RawDoc;
 use bd_value::Document;
 use std::alloc::Global;
 
@@ -70,6 +72,29 @@ pub fn next_frame(
         return Err(frame_fault(alloc, FaultKind::BadLength, at, number));
     }
     Ok(Some(Frame { start: at, length }))
+}
+
+/// The document at the place `at` of a dump, of which it has that number, and the place behind it; none at the end.
+///
+/// The fault is the first of the document, from left to right, or `FaultKind::NoMemory`, which has no place. Memory is
+/// taken for the path of a fault alone.
+pub fn next_document<'a>(
+    alloc: Global,
+    bytes: &'a [u8],
+    at: usize,
+    number: u32,
+) -> Result<Option<(RawDoc<'a>, usize)>, Fault>
+    requires inside { at ≤ length bytes.now }
+    requires short { length bytes.now ≤ 4294967295 }
+    ensures next { IfOk result (IsNext bytes.now at) }
+    ensures fault { IfErr result (Tells number (frame_fault at (drop at bytes.now))) }
+{
+    let Some(frame) = next_frame(alloc, bytes, at, number)? else {
+        return Ok(None);
+    };
+    let after = at + frame.length;
+    let document = check_document(alloc, &bytes[at..after], at as u64, number)?;
+    Ok(Some((document, after)))
 }
 
 /// A fault of a document as a whole.

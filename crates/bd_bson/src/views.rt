@@ -2,17 +2,14 @@
 
 ghost use Rattle.std.specs.Prelude.{◌≡◌, ◌<◌, ◌↔◌, Some, [], option_map, length, slice_get, IfOk, IfSome, IfNone, IsTrue};
 ghost use Rattle.bd_value.specs.Tree.{pairs_in};
-ghost use Rattle.bd_value.specs.Parts.{elements_in, length_of, scope_of};
-ghost use Rattle.bd_value.specs.Seen.{seen, own_of};
+ghost use Rattle.bd_value.specs.Parts.{AreParts, HoldsNoParts};
 ghost use Rattle.bd_value.specs.Lookup.{first_of};
 ghost use Rattle.bd_value.specs.View.{tree_of, pairs};
 ghost use Rattle.bd_bson.specs.Sound.{stands, elements_left};
-ghost use Rattle.bd_bson.specs.Body.{AreElements, HasNoElements};
 
 use crate::contents::Contents;
-use crate::copy;
 use crate::raw::{Elements, RawDoc, RawValue};
-use bd_value::{Document, NoMemory, Scalar, Value};
+use bd_value::{Document, Kind, NoMemory, Node, Reading, Scalar, Value, to_document, to_value};
 use std::alloc::Global;
 
 impl<'a> RawDoc<'a> {
@@ -33,14 +30,16 @@ impl<'a> RawDoc<'a> {
     /// The name and the value of the pair at a place, counted from 0. It goes through those before it.
     pub fn pair(self, i: usize) -> (&'a str, RawValue<'a>)
         requires { i < length (pairs_in (stands self.sound)) }
-        ensures { slice_get (pairs_in (stands self.entry.sound)) i ≡ Some (result.0.now, stands result.1.sound) }
+        ensures pair { slice_get (pairs_in (stands self.entry.sound)) i ≡ Some (result.0.now, stands result.1.sound) }
+        ensures kept { result.1.bytes.now ≡ self.entry.bytes.now }
     {
         self.elements().nth(i)
     }
 
     /// The value of the first pair of that name; none where no pair has it.
     pub fn first(self, name: &str) -> Option<RawValue<'a>>
-        ensures { option_map (λ v. stands v.sound) result ≡ first_of name.now (pairs_in (stands self.entry.sound)) }
+        ensures first { option_map (λ v. stands v.sound) result ≡ first_of name.now (pairs_in (stands self.entry.sound)) }
+        ensures kept { IfSome result (λ v. v.bytes.now ≡ self.entry.bytes.now) }
     {
         self.elements().find(name)
     }
@@ -49,27 +48,16 @@ impl<'a> RawDoc<'a> {
     pub fn to_document(self, alloc: Global) -> Result<Document, NoMemory>
         ensures { IfOk result (λ d. pairs d ≡ pairs_in (stands self.entry.sound)) }
     {
-        copy::document(alloc, self.elements())
+        to_document::<RawValue<'a>>(alloc, self.elements())
     }
 }
 
 impl<'a> RawValue<'a> {
-    /// What it holds besides other values: of code with scope the code. Documents and arrays have none.
-    pub fn scalar(self) -> Option<Scalar<'a>>
-        ensures { option_map seen result ≡ own_of (stands self.entry.sound) }
-    {
-        match self.contents() {
-            Contents::Scalar(scalar) => Some(scalar),
-            Contents::CodeScope(code, _) => Some(Scalar::CodeScope(code)),
-            Contents::Document(_) => None,
-            Contents::Array(_) => None,
-        }
-    }
-
     /// The elements of a document or an array; every other value has none.
     pub fn elements(self) -> Option<Elements<'a>>
-        ensures some { IfSome result (λ x. AreElements (stands self.entry.sound) (elements_left x.left)) }
-        ensures none { IfNone result (HasNoElements (stands self.entry.sound)) }
+        ensures some { IfSome result (λ x. AreParts (stands self.entry.sound) (elements_left x.left)) }
+        ensures kept { IfSome result (λ x. x.bytes.now ≡ self.entry.bytes.now) }
+        ensures none { IfNone result (HoldsNoParts (stands self.entry.sound)) }
     {
         match self.contents() {
             Contents::Document(elements) => Some(elements),
@@ -79,10 +67,34 @@ impl<'a> RawValue<'a> {
         }
     }
 
-    /// The scope of code with scope.
-    pub fn scope(self) -> Option<RawValue<'a>>
-        ensures { option_map (λ v. stands v.sound) result ≡ scope_of (stands self.entry.sound) }
+    /// The value in memory. It fails for want of memory alone.
+    pub fn to_value(self, alloc: Global) -> Result<Value, NoMemory>
+        ensures { IfOk result (λ v. tree_of v ≡ stands self.entry.sound) }
     {
+        to_value(alloc, self)
+    }
+}
+
+impl<'a> Reading for RawValue<'a> {
+    type Rest = Elements<'a>;
+
+    ghost tree = { λ s. stands s.sound };
+
+    ghost source = { λ s. s.bytes.now };
+
+    ghost left = { λ r. elements_left r.left };
+
+    ghost rest_source = { λ r. r.bytes.now };
+
+    fn kind(self) -> Kind {
+        self.kind_here()
+    }
+
+    fn leaf(&self) -> Option<Scalar<'_>> {
+        self.scalar()
+    }
+
+    fn scope(self) -> Option<Self> {
         match self.contents() {
             Contents::CodeScope(_, scope) => Some(scope.value()),
             Contents::Scalar(_) => None,
@@ -91,10 +103,7 @@ impl<'a> RawValue<'a> {
         }
     }
 
-    /// How many pairs a document has, or elements an array; else 0. It goes through all of them.
-    pub fn len(self) -> usize
-        ensures { result ≡ length_of (stands self.entry.sound) }
-    {
+    fn len(self) -> usize {
         match self.contents() {
             Contents::Document(elements) => elements.count(),
             Contents::Array(elements) => elements.count(),
@@ -103,22 +112,11 @@ impl<'a> RawValue<'a> {
         }
     }
 
-    /// The name and the value of the pair of a document at a place, counted from 0. It goes through those before it.
-    pub fn pair(self, i: usize) -> (&'a str, RawValue<'a>)
-        requires { i < length (pairs_in (stands self.sound)) }
-        ensures { slice_get (pairs_in (stands self.entry.sound)) i ≡ Some (result.0.now, stands result.1.sound) }
-    {
-        match self.contents() {
-            Contents::Document(elements) => elements.nth(i),
-            _ => unreachable!(),
-        }
+    fn field(&self, i: usize) -> (&str, Self) {
+        self.pair(i)
     }
 
-    /// The element of an array at a place, counted from 0. It goes through those before it.
-    pub fn element(self, i: usize) -> RawValue<'a>
-        requires { i < length (elements_in (stands self.sound)) }
-        ensures { slice_get (elements_in (stands self.entry.sound)) i ≡ Some (stands result.sound) }
-    {
+    fn element(self, i: usize) -> Self {
         match self.contents() {
             Contents::Array(elements) => {
                 let (_, value) = elements.nth(i);
@@ -128,20 +126,39 @@ impl<'a> RawValue<'a> {
         }
     }
 
-    /// The value of the first pair of that name of a document; none where no pair has it, or it is no document.
-    pub fn first(self, name: &str) -> Option<RawValue<'a>>
-        ensures { option_map (λ v. stands v.sound) result ≡ first_of name.now (pairs_in (stands self.entry.sound)) }
-    {
+    fn first(self, name: &str) -> Option<Self> {
         match self.contents() {
             Contents::Document(elements) => elements.find(name),
             _ => None,
         }
     }
 
-    /// The value in memory. It fails for want of memory alone.
-    pub fn to_value(self, alloc: Global) -> Result<Value, NoMemory>
-        ensures { IfOk result (λ v. tree_of v ≡ stands self.entry.sound) }
-    {
-        copy::value(alloc, self)
+    fn parts(self) -> Elements<'a> {
+        match self.elements() {
+            Some(elements) => elements,
+            None => unreachable!(),
+        }
+    }
+
+    fn next<'r>(rest: &'r Elements<'a>) -> Option<(&'r str, Self, Elements<'a>)> {
+        rest.next()
+    }
+}
+
+impl<'a> Node<'a> for RawValue<'a> {
+    fn scalar(self) -> Option<Scalar<'a>> {
+        match self.contents() {
+            Contents::Scalar(scalar) => Some(scalar),
+            Contents::CodeScope(code, _) => Some(Scalar::CodeScope(code)),
+            Contents::Document(_) => None,
+            Contents::Array(_) => None,
+        }
+    }
+
+    fn pair(self, i: usize) -> (&'a str, Self) {
+        match self.contents() {
+            Contents::Document(elements) => elements.nth(i),
+            _ => unreachable!(),
+        }
     }
 }

@@ -1,6 +1,6 @@
 -- The walk over a dump, step by step.
 use Rattle.std.proofs.Common.{◌≡◌, ◌≤◌, ℕ, ◌+◌, ◌*◌, List, [], ◌∷◌, ◌++◌, length, take, drop, Option, Some, None, refl, sym, ap, ◌∙◌, subst, append_assoc, append-nil, arith, inl, inr}
-use Rattle.std.proofs.lemmas.List.{take-append-drop, drop-drop, length-drop, length-take, length-append, take_at}
+use Rattle.std.proofs.lemmas.List.{take-append-drop, length-take, length-append, take_at}
 use Rattle.std.proofs.KnownBytes.{Appends-trans, Appends-nil}
 use Rattle.bd_value.specs.Tree.{Doc, doc, fields_of}
 use Rattle.bd_bson.specs.Fault.{Fault}
@@ -18,13 +18,6 @@ use Rattle.bd_bson.specs.declared.fault.FaultKind.TheVariants as kinds
 use Rattle.bd_cli.specs.Walked.{Holds, Walks, Stops}
 use Rattle.bd_cli.specs.declared.dumping.Walk.{Walk}
 use Rattle.bd_cli.specs.declared.dumping.Stopped.TheVariants.{NoMemory, Unwritten}
-
-pub next_is : (bytes : List ℕ) (at n k : ℕ) (d : Doc) → at + n ≤ length bytes → k ≡ n → IsDocument d (take k (drop at bytes))
-    → (front : List ℕ) × IsDocument d front × (drop at bytes ≡ front ++ drop (at + n) bytes) × (at + length front ≡ at + n) × (at + n ≤ length bytes)
-next_is bytes at n k d le same is =
-    let here : IsDocument d (take n (drop at bytes)) = subst (λ (m : ℕ). IsDocument d (take m (drop at bytes))) same is in
-    let cut : drop at bytes ≡ take n (drop at bytes) ++ drop (at + n) bytes = sym (take-append-drop n (drop at bytes)) ∙ ap (λ x. take n (drop at bytes) ++ x) (drop-drop n at bytes) in
-    (take n (drop at bytes), here, cut, omega (arith, length-take n (drop at bytes), length-drop at bytes), le)
 
 -- ---- the lines of documents
 

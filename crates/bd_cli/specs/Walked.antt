@@ -1,10 +1,7 @@
 -- The walk over a dump, which gathers the documents' lines.
-use Rattle.std.specs.Prelude.{◌≡◌, ◌≤◌, ◌+◌, ℕ, List, [], ◌++◌, length, drop, Option, Some, None, option_map, IfSome}
+use Rattle.std.specs.Prelude.{◌≡◌, ℕ, List, ◌++◌, length, Option, option_map, IfSome}
 use Rattle.bd_value.specs.Tree.{Doc}
-use Rattle.bd_value.specs.View.{pairs}
-use Rattle.bd_value.specs.declared.document.Document.{Document}
 use Rattle.bd_bson.specs.Fault.{Fault}
-use Rattle.bd_bson.specs.Spelling.{IsDocument}
 use Rattle.bd_bson.specs.Dump.{IsWalk}
 use Rattle.bd_bson.specs.Told.{fault_view}
 use Rattle.bd_cli.specs.Ran.{Wrote, Broke}
@@ -12,11 +9,6 @@ use Rattle.bd_cli.specs.Shown.{lines}
 use Rattle.bd_cli.specs.declared.dumping.Walk.{Walk}
 use Rattle.bd_cli.specs.declared.dumping.Stopped.{Stopped}
 use Rattle.bd_cli.specs.declared.dumping.Stopped.TheVariants.{NoMemory, Unwritten}
-
--- the document that stands at a place of the bytes, and the place behind it; none at the end
-abbrev pub IsNext : List ℕ → ℕ → Option (Document × ℕ) → Type 0
-IsNext bytes at None = drop at bytes ≡ []
-IsNext bytes at (Some p) = (front : List ℕ) × IsDocument (pairs p.0) front × (drop at bytes ≡ front ++ drop p.1 bytes) × (at + length front ≡ p.1) × (p.1 ≤ length bytes)
 
 -- what the walk tells of the documents and of the fault behind them
 pub record Counts (walk : Walk) (ds : List Doc) (end : Option Fault) : Type 0 where

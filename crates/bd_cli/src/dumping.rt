@@ -1,19 +1,15 @@
 //! The documents of a dump, one a line.
 
-ghost use Rattle.std.specs.Prelude.{◌≡◌, ◌≤◌, ◌++◌, ◌∷◌, [], IfOk, IfErr, OnOk, OnErr, IsTrue, ◌↔◌, length, drop};
-ghost use Rattle.bd_value.specs.Tree.{doc, fields_of};
-ghost use Rattle.bd_value.specs.View.{pairs};
-ghost use Rattle.bd_bson.specs.Dump.{frame_fault};
-ghost use Rattle.bd_bson.specs.Told.{Tells};
+ghost use Rattle.std.specs.Prelude.{◌≡◌, ◌≤◌, ◌++◌, ◌∷◌, [], IfOk, IfErr, OnOk, OnErr, IsTrue, ◌↔◌, length};
 ghost use Rattle.bd_bson.specs.declared.fault.FaultKind.TheVariants as kinds;
 ghost use Rattle.bd_extjson.specs.Text.{text};
 ghost use Rattle.bd_cli.specs.Ran.{Wrote, Broke};
-ghost use Rattle.bd_cli.specs.Walked.{IsNext, Walks, Stops};
+ghost use Rattle.bd_cli.specs.Walked.{Walks, Stops};
 ghost use Rattle.bd_cli.specs.declared.dumping.Stopped.TheVariants.{NoMemory as no_memory, Unwritten};
 
-use bd_bson::{DeviceFault, Fault, FaultKind, Output, next_frame, read_document, write_all};
-use bd_extjson::write_doc;
-use bd_value::{Document, NoMemory};
+use bd_bson::{DeviceFault, Fault, FaultKind, Output, next_document, write_all};
+use bd_extjson::write_node;
+use bd_value::{NoMemory, Reading};
 use std::alloc::{AllocError, Global};
 
 /// What a dump is.
@@ -53,33 +49,13 @@ impl From<DeviceFault> for Stopped {
 /// Lines are gathered until there are so many bytes of them, and then written by one call.
 pub const GATHERED: usize = 65_536;
 
-/// The document at the place `at` of a dump, and the place behind it; none at the end.
-fn next_document(
-    alloc: Global,
-    bytes: &[u8],
-    at: usize,
-    number: u32,
-) -> Result<Option<(Document, usize)>, Fault>
-    requires inside { at ≤ length bytes.now }
-    requires short { length bytes.now ≤ 4294967295 }
-    ensures next { IfOk result (IsNext bytes.now at) }
-    ensures fault { IfErr result (Tells number (frame_fault at (drop at bytes.now))) }
-{
-    let Some(frame) = next_frame(alloc, bytes, at, number)? else {
-        return Ok(None);
-    };
-    let after = at + frame.length;
-    let document = read_document(alloc, &bytes[at..after], at as u64, number)?;
-    Ok(Some((document, after)))
-}
-
 /// Appends the line of a document. `NoMemory` leaves `out` as it was.
-pub fn write_line(document: &Document, out: &mut Vec<u8>) -> Result<(), NoMemory>
-    ensures ok { OnOk result (out.new.items ≡ out.old.items ++ (text (doc (fields_of (pairs document.now))) ++ 10 ∷ [])) }
+pub fn write_line<N: Reading>(document: N, out: &mut Vec<u8>) -> Result<(), NoMemory>
+    ensures ok { OnOk result (out.new.items ≡ out.old.items ++ (text (N.tree document) ++ 10 ∷ [])) }
     ensures err { OnErr result (out.new.items ≡ out.old.items) }
 {
     let before = out.len();
-    write_doc(document, out)?;
+    write_node(document, out)?;
     match out.push(b'\n') {
         Ok(()) => Ok(()),
         Err(error) => {
@@ -123,7 +99,7 @@ fn gather<O: Output>(
         match next_document(alloc, bytes, at, count) {
             Ok(None) => return Ok(Walk { count, fault: None }),
             Ok(Some((document, after))) => {
-                write_line(&document, pending)?;
+                write_line(document.value(), pending)?;
                 at = after;
                 count += 1;
             }

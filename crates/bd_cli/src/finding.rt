@@ -30,7 +30,7 @@ pub fn first_find(
     let mut after = from;
     let mut at = from;
     while at < dump.len() {
-        if number_matches(dump.document(at), name, n) {
+        if number_matches(dump.document(at).value(), name, n) {
             if places.len() as u64 == size {
                 return Ok(Step {
                     places,

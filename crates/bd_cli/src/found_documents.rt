@@ -24,7 +24,7 @@ pub fn write_documents<O: Output>(
 {
     let mut pending = Vec::new(alloc);
     for place in places {
-        write_line(dump.document(*place), &mut pending)?;
+        write_line(dump.document(*place).value(), &mut pending)?;
         if pending.len() >= GATHERED {
             flush(&mut pending, out)?;
         }

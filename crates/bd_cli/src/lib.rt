@@ -2,6 +2,8 @@
 #![tactic(auto)]
 
 mod answer_laws;
+#[cfg(test)]
+mod both_tests;
 mod check_command;
 #[cfg(test)]
 mod check_tests;

@@ -4,6 +4,7 @@ pub mod Escapes
 pub mod Fronts
 pub mod InPlace
 pub mod Json
+pub mod Parts
 pub mod Pieces
 pub mod Prefix
 pub mod Steps

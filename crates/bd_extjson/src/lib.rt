@@ -17,4 +17,4 @@ mod text_tests;
 pub use json_string::{write_path, write_string};
 pub use laws::text_determines_document;
 pub use number::{write_number, write_number32};
-pub use text::{write_doc, write_value};
+pub use text::{write_doc, write_node, write_value};

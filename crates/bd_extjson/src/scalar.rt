@@ -2,12 +2,13 @@
 ghost use Rattle.std.specs.Prelude.{◌≡◌, ◌++◌, OnOk, OnErr};
 ghost use Rattle.std.specs.Io.{StartsWith};
 ghost use Rattle.bd_value.specs.Tree.{min_key, undefined, null, max_key, int32, int64, symbol, binary, object_id, boolean, date, timestamp, regex, db_pointer, code};
-ghost use Rattle.bd_extjson.specs.Text.{quoted, scalar_text};
+ghost use Rattle.bd_value.specs.Seen.{seen};
+ghost use Rattle.bd_extjson.specs.Text.{quoted, scalar_text, own_text};
 
 use crate::encoded::{write_base64, write_byte, write_id};
 use crate::json_string::write_string;
 use crate::number::{write_digits, write_number32};
-use bd_value::NoMemory;
+use bd_value::{NoMemory, Scalar};
 
 /// Appends what leads to a string, and the string with its quotation marks.
 #[tactic(auto, using(crate::proofs::Fronts::fronts))]
@@ -197,4 +198,30 @@ pub(crate) fn write_db_pointer(
     write_id(id, out)?;
     out.extend_from_slice(b"\"}}}")?;
     Ok(())
+}
+
+/// Appends the text of what a value holds besides other values. Of code with scope it is that of the code alone.
+#[tactic(auto, unfolding(crate::specs::Text::scalar_text))]
+pub(crate) fn write_scalar(scalar: Scalar<'_>, out: &mut Vec<u8>) -> Result<(), NoMemory>
+    ensures ok { OnOk result (out.new.items ≡ out.old.items ++ own_text (seen scalar.entry)) }
+    ensures err { OnErr result (StartsWith out.new.items out.old.items) }
+{
+    match scalar {
+        Scalar::MinKey => write_min_key(out),
+        Scalar::Undefined => write_undefined(out),
+        Scalar::Null => write_null(out),
+        Scalar::Int32(number) => write_int32(number, out),
+        Scalar::Int64(number) => write_int64(number, out),
+        Scalar::Text(text) => write_string(text, out),
+        Scalar::Symbol(text) => write_symbol(text, out),
+        Scalar::Binary { subtype, payload } => write_binary(subtype, payload, out),
+        Scalar::ObjectId(id) => write_object_id(&id, out),
+        Scalar::Bool(truth) => write_bool(truth, out),
+        Scalar::Date(milliseconds) => write_date(milliseconds, out),
+        Scalar::Timestamp { seconds, increment } => write_timestamp(seconds, increment, out),
+        Scalar::Regex { pattern, options } => write_regex(pattern, options, out),
+        Scalar::DbPointer { space, id } => write_db_pointer(space, &id, out),
+        Scalar::Code(code) | Scalar::CodeScope(code) => write_code(code, out),
+        Scalar::MaxKey => write_max_key(out),
+    }
 }

@@ -1,6 +1,6 @@
 -- The values in a value.
-use Rattle.std.specs.Prelude.{ℕ, List, [], length, Option, Some, None}
-use Rattle.bd_value.specs.Tree.{Tree, leaf, doc, array, code_scope, pairs_of, list_of}
+use Rattle.std.specs.Prelude.{◌≡◌, ℕ, List, [], length, map, Option, Some, None}
+use Rattle.bd_value.specs.Tree.{Tree, leaf, doc, array, code_scope, Doc, pairs_of, list_of}
 
 -- the elements of an array; every other value has none
 abbrev pub elements_in : Tree → List Tree
@@ -22,3 +22,27 @@ scope_of (leaf s) = None
 scope_of (doc fs) = None
 scope_of (array ts) = None
 scope_of (code_scope s fs) = Some (doc fs)
+
+-- the values alone, without the names that stand before them
+abbrev pub values_of : Doc → List Tree
+values_of ps = map (λ p. p.1) ps
+
+-- the pairs of a document, or the elements of an array under some names
+abbrev pub AreParts : Tree → Doc → Type 0
+AreParts (leaf s) ps = ⊥
+AreParts (doc fs) ps = ps ≡ pairs_of fs
+AreParts (array ts) ps = values_of ps ≡ list_of ts
+AreParts (code_scope s fs) ps = ⊥
+
+-- it is a document or an array, or it is neither
+abbrev pub HoldsParts : Tree → Type 0
+HoldsParts (leaf s) = ⊥
+HoldsParts (doc fs) = Unit {0}
+HoldsParts (array ts) = Unit {0}
+HoldsParts (code_scope s fs) = ⊥
+
+abbrev pub HoldsNoParts : Tree → Type 0
+HoldsNoParts (leaf s) = Unit {0}
+HoldsNoParts (doc fs) = ⊥
+HoldsNoParts (array ts) = ⊥
+HoldsNoParts (code_scope s fs) = Unit {0}

@@ -1,6 +1,6 @@
 //! A value is a scalar, a document or an array; a document is a list of named values.
-ghost use Rattle.std.specs.Prelude.{◌≡◌, ◌<◌, [], ◌∷◌, ◌++◌, length, OnOk, OnErr, slice_get, Some, string_bytes, IsTrue, ◌↔◌};
-ghost use Rattle.bd_value.specs.View.{tree_of, pairs};
+ghost use Rattle.std.specs.Prelude.{◌≡◌, ◌<◌, [], ◌∷◌, ◌++◌, length, map, OnOk, OnErr, slice_get, Some, string_bytes, IsTrue, ◌↔◌};
+ghost use Rattle.bd_value.specs.View.{tree_of, pair_of, pairs};
 
 use std::alloc::{AllocError, Global};
 
@@ -108,6 +108,13 @@ impl Document {
         ensures { IsTrue result ↔ (pairs self.now ≡ []) }
     {
         self.pairs.is_empty()
+    }
+
+    /// The pairs, in their order.
+    pub(crate) fn as_pairs(&self) -> &[(String, Value)]
+        ensures { pairs self.now ≡ map pair_of result.now }
+    {
+        &self.pairs
     }
 
     /// The name and the value of the pair at a place, counted from 0.

@@ -4,13 +4,21 @@
 //! `specs/View.antt`.
 #![tactic(auto)]
 
+mod copying;
 mod document;
 mod kind;
 mod lookup;
+mod node;
 mod scalar;
 #[cfg(test)]
 mod tests;
+mod tree;
+#[cfg(test)]
+mod tree_tests;
 
+pub use copying::{to_document, to_value};
 pub use document::{Document, NoMemory, Value};
 pub use kind::Kind;
+pub use node::{Node, Reading};
 pub use scalar::Scalar;
+pub use tree::{Tree, TreeParts};

@@ -15,7 +15,7 @@ fn document_of(alloc: Global, name: &str, value: Value) -> Result<Document, NoMe
 }
 
 /// The kind of a value and what it holds, of documents and arrays the number of their values.
-fn shown(alloc: Global, value: &Value) -> Result<String, NoMemory> {
+pub(crate) fn shown(alloc: Global, value: &Value) -> Result<String, NoMemory> {
     match value {
         Value::MinKey => text(alloc, "min key"),
         Value::Undefined => text(alloc, "undefined"),
@@ -73,7 +73,7 @@ fn keeps_pairs_in_their_order(rt: HostRuntime) -> Result<(), Fail> {
 }
 
 /// One value of each kind, under the number of its kind as a name.
-fn every_kind(alloc: Global) -> Result<Document, NoMemory> {
+pub(crate) fn every_kind(alloc: Global) -> Result<Document, NoMemory> {
     let mut items = Vec::new(alloc);
     items.push(Value::Null)?;
     items.push(Value::MaxKey)?;

@@ -1,4 +1,4 @@
-use Rattle.std.proofs.Common.{arith}
+use Rattle.std.proofs.Common.{◌∙◌, arith}
 use Rattle.bd_bson.specs.Sound.{elements_left}
 use Rattle.bd_bson.proofs.Cursors as r
 use Rattle.bd_bson.proofs.raw.Elements.nth.Goals as goal
@@ -12,6 +12,7 @@ pub loop-k-preserved : goal.loop-k-preserved
 loop-k-preserved c = record {
   inside = omega arith;
   cut = r.tail_is (elements_left c.loop-k.rest.left) (elements_left c.args.self.left) c.loop-k.k _ _ c.loop-k.invariant.cut c.in-Some.ensures.some;
+  kept = c.in-Some.ensures.kept.1 ∙ c.loop-k.invariant.kept;
 }
 
 pub unreachable-requires-in-None-next : goal.unreachable-requires-in-None-next
@@ -19,5 +20,5 @@ unreachable-requires-in-None-next c =
     let le = r.not_past (elements_left c.loop-k.rest.left) (elements_left c.args.self.left) c.loop-k.k c.loop-k.invariant.cut c.in-None-next.ensures.none in
     omega arith
 
-pub returns : goal.returns
-returns c = r.get_is (elements_left c.loop-k.rest.left) (elements_left c.args.self.left) c.loop-k.k c.args.i _ _ c.loop-k.invariant.cut c.in-Some-next.ensures.some (omega arith)
+pub returns-clause-pair : goal.returns-clause-pair
+returns-clause-pair c = r.get_is (elements_left c.loop-k.rest.left) (elements_left c.args.self.left) c.loop-k.k c.args.i _ _ c.loop-k.invariant.cut c.in-Some-next.ensures.some (omega arith)

@@ -1,0 +1,9 @@
+use Rattle.std.proofs.Common.{◌-◌, ◌≤◌, length}
+use Rattle.bd_bson.proofs.Collects.{SoFar}
+use Rattle.bd_bson.proofs.collecting.starts_in.Given as goal
+
+abbrev pub invariant-loop-starts : goal.invariant-loop-starts
+invariant-loop-starts l = SoFar l.bytes l.starts.items l.at × (length l.bytes ≤ 4294967295)
+
+abbrev pub decreases-loop-starts : goal.decreases-loop-starts
+decreases-loop-starts l = length l.bytes - l.at
