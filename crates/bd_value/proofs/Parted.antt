@@ -1,5 +1,5 @@
 -- What a value is made of.
-use Rattle.std.proofs.Common.{◌≡◌, ℕ, ◌+◌, ◌<◌, ◌≤◌, suc, List, [], ◌∷◌, Some, refl, sym, ap, ap₂, ◌∙◌, subst, arith}
+use Rattle.std.proofs.Common.{◌≡◌, ℕ, ◌+◌, ◌<◌, suc, List, [], ◌∷◌, Some, refl, sym, ap, ap₂, ◌∙◌, subst, arith}
 use Rattle.bd_value.specs.Tree.{Tree, leaf, doc, array, code_scope, Doc, fields_of, items_of, fields_of-pairs_of, items_of-list_of, tree_size, fields_size, items_size}
 use Rattle.bd_value.specs.Kind.{kind_of}
 use Rattle.bd_value.specs.Parts.{values_of, scope_of, AreParts, HoldsParts}
@@ -57,6 +57,3 @@ scope_smaller (leaf s) u scope = absurd cc
 scope_smaller (doc fs) u scope = absurd cc
 scope_smaller (array ts) u scope = absurd cc
 scope_smaller (code_scope s fs) u scope = let inside : doc fs ≡ u = cc in let e = ap tree_size inside in omega arith
-
-pub part_smaller : (ps rest : Doc) (n : List ℕ) (t : Tree) → ps ≡ (n, t) ∷ rest → (fields_size (fields_of rest) ≤ fields_size (fields_of ps)) × (tree_size t < fields_size (fields_of ps))
-part_smaller ps rest n t is = let e = ap (λ (x : Doc). fields_size (fields_of x)) is in (omega (arith, e), omega (arith, e))

@@ -1,5 +1,5 @@
 -- What a document's pairs are, at each place.
-use Rattle.std.proofs.Common.{zero, suc, ◌+◌, drop, add-one, ◌≡◌, ℕ, ◌<◌, List, [], ◌∷◌, length, map, get_or, Some, rules, refl, ap, ◌∙◌, arith, ℤ, Vec, Bool}
+use Rattle.std.proofs.Common.{zero, suc, ◌+◌, drop, add-one, ◌≡◌, ℕ, ◌<◌, List, [], ◌∷◌, length, map, get_or, Some, rules, refl, ap, ◌∙◌, arith, Vec}
 use Rattle.std.specs.Prelude.{String, string_bytes, slice_get}
 use Rattle.std.specs.declared.alloc.Global.{Global}
 use Rattle.std.proofs.lemmas.Option.{slice_get-map, slice_get-get_or}
@@ -11,54 +11,6 @@ use Rattle.bd_value.specs.declared.document.Value.TheFolds as folds
 use Rattle.bd_value.specs.Tree.{tree_size, fields_size, items_size, Tree, leaf, doc, array, code_scope, Pair, fields_of, items_of}
 use Rattle.bd_value.specs.Tree as trees
 use Rattle.bd_value.specs.View.{tree_of, pair_of, pairs, pairs_step, tree_step}
-
-pub tree_of-MinKey : tree_of values.MinKey ≡ leaf trees.min_key
-tree_of-MinKey = search (rules, folds.the_lemmas)
-
-pub tree_of-Undefined : tree_of values.Undefined ≡ leaf trees.undefined
-tree_of-Undefined = search (rules, folds.the_lemmas)
-
-pub tree_of-Null : tree_of values.Null ≡ leaf trees.null
-tree_of-Null = search (rules, folds.the_lemmas)
-
-pub tree_of-Int32 : (z : ℤ) → tree_of (values.Int32 z) ≡ leaf (trees.int32 z)
-tree_of-Int32 z = search (rules, folds.the_lemmas)
-
-pub tree_of-Int64 : (z : ℤ) → tree_of (values.Int64 z) ≡ leaf (trees.int64 z)
-tree_of-Int64 z = search (rules, folds.the_lemmas)
-
-pub tree_of-Text : (s : String Global) → tree_of (values.Text s) ≡ leaf (trees.text (string_bytes s))
-tree_of-Text s = search (rules, folds.the_lemmas)
-
-pub tree_of-Symbol : (s : String Global) → tree_of (values.Symbol s) ≡ leaf (trees.symbol (string_bytes s))
-tree_of-Symbol s = search (rules, folds.the_lemmas)
-
-pub tree_of-Binary : (k : ℕ) (v : Vec ℕ Global) → tree_of (values.Binary k v) ≡ leaf (trees.binary k v.items)
-tree_of-Binary k v = search (rules, folds.the_lemmas)
-
-pub tree_of-ObjectId : (b : List ℕ) → tree_of (values.ObjectId b) ≡ leaf (trees.object_id b)
-tree_of-ObjectId b = search (rules, folds.the_lemmas)
-
-pub tree_of-Bool : (b : Bool) → tree_of (values.Bool b) ≡ leaf (trees.boolean b)
-tree_of-Bool b = search (rules, folds.the_lemmas)
-
-pub tree_of-Date : (z : ℤ) → tree_of (values.Date z) ≡ leaf (trees.date z)
-tree_of-Date z = search (rules, folds.the_lemmas)
-
-pub tree_of-Timestamp : (s i : ℕ) → tree_of (values.Timestamp s i) ≡ leaf (trees.timestamp s i)
-tree_of-Timestamp s i = search (rules, folds.the_lemmas)
-
-pub tree_of-Regex : (p o : String Global) → tree_of (values.Regex p o) ≡ leaf (trees.regex (string_bytes p) (string_bytes o))
-tree_of-Regex p o = search (rules, folds.the_lemmas)
-
-pub tree_of-DbPointer : (s : String Global) (i : List ℕ) → tree_of (values.DbPointer s i) ≡ leaf (trees.db_pointer (string_bytes s) i)
-tree_of-DbPointer s i = search (rules, folds.the_lemmas)
-
-pub tree_of-Code : (s : String Global) → tree_of (values.Code s) ≡ leaf (trees.code (string_bytes s))
-tree_of-Code s = search (rules, folds.the_lemmas)
-
-pub tree_of-MaxKey : tree_of values.MaxKey ≡ leaf trees.max_key
-tree_of-MaxKey = search (rules, folds.the_lemmas)
 
 two_maps : (ps : List (String Global × Value)) → map (λ (p : String Global × Tree). (string_bytes p.0, p.1)) (map (λ (p : String Global × Value). (p.0, tree_of p.1)) ps) ≡ map pair_of ps
 two_maps [] = refl
