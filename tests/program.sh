@@ -95,6 +95,21 @@ expect 'a file as standard input' 0 "@$people.jsonl" '500 objects found'
 dd if="$people.bson" bs=1 2>/dev/null | run dump -
 expect 'a pipe, one byte at a time' 0 "@$people.jsonl" '500 objects found'
 
+mkfifo pipe
+"$program" dump pipe >live 2>err &
+exec 3>pipe
+cat int32.bson >&3
+tries=100
+while [ ! -s live ] && [ "$tries" -gt 0 ]; do
+	sleep 0.1
+	tries=$((tries - 1))
+done
+cp live out
+exec 3>&-
+wait $!
+echo $? >status
+expect 'a line before the program waits for more' 0 "$int32" '1 objects found'
+
 run dump - </dev/null
 expect 'an empty input' 0 '' '0 objects found'
 
@@ -190,16 +205,41 @@ expect 'a query of another form' 1 '' 'bsonfind: query: byte 0: not in the profi
 run find missing.bson --query '{"a":1.5}'
 expect 'a file that is not there, before its query' 1 '' 'bsonfind: cannot open missing.bson'
 
+# 262 MB in 48 MiB of memory.
+
+cp "$shop.bson" big.bson
+doublings=11
+while [ "$doublings" -gt 0 ]; do
+	cat big.bson big.bson >twice.bson
+	mv twice.bson big.bson
+	doublings=$((doublings - 1))
+done
+
+# shellcheck disable=SC3045 # each sh that is in use has -v
+(
+	ulimit -v 49152
+	"$program" dump big.bson 2>err
+	echo $? >status
+) | wc -l >out
+expect 'a large dump in little memory' 0 819200 '819200 objects found'
+
+# shellcheck disable=SC3045 # each sh that is in use has -v
+(ulimit -v 49152 && run check big.bson)
+expect 'a large check in little memory' 0 '' '819200 documents, 0 faulty'
+rm big.bson
+
 # Devices that fail.
 
 run dump missing.bson
 expect 'a file that is not there' 1 '' 'bsonfind: cannot open missing.bson'
 
 run dump .
-expect 'a directory' 1 '' 'bsonfind: cannot read'
+expect 'a directory' 1 '' 'bsonfind: cannot read
+0 objects found'
 
 run check .
-expect 'a check of a directory' 1 '' 'bsonfind: cannot read'
+expect 'a check of a directory' 1 '' 'bsonfind: cannot read
+0 documents, 0 faulty'
 
 run check missing.bson
 expect 'a check of a file that is not there' 1 '' 'bsonfind: cannot open missing.bson'

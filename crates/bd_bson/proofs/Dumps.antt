@@ -31,7 +31,7 @@ told body rest short =
 tests : (n m : ℕ) → 5 ≤ n → n ≤ 16793600 → n ≤ m → (ltb n 5 || ltb 16793600 n || ltb m n) ≡ false
 tests n m low high le = grind (arith, nat_tests)
 
-frame_good : (bytes : List ℕ) (n : ℕ) → length_told bytes ≡ n → 5 ≤ n → n ≤ 16793600 → n ≤ length bytes → frame_length bytes ≡ Ok (Some n)
+pub frame_good : (bytes : List ℕ) (n : ℕ) → length_told bytes ≡ n → 5 ≤ n → n ≤ 16793600 → n ≤ length bytes → frame_length bytes ≡ Ok (Some n)
 frame_good [] n is low high le = absurd (omega arith)
 frame_good (b ∷ bytes) n is low high le =
     let long : ltb (length (b ∷ bytes)) 4 ≡ false = le-ltb _ _ (omega arith) in
@@ -61,7 +61,7 @@ fronts c d a b x y p q h =
     (document_unique b c d (subst (λ (v : List ℕ). IsDocument c v) same p) q, same, others)
 
 -- no document stands at the front
-Stuck : List ℕ → Type 0
+unfoldable pub Stuck : List ℕ → Type 0
 Stuck x = (d : Doc) (front rest : List ℕ) → IsDocument d front → x ≡ front ++ rest → ⊥
 
 nothing_stuck : Stuck []
@@ -76,7 +76,7 @@ not_joined : (e : Doc) (es : List Doc) (b x y : List ℕ) → AreJoined (e ∷ e
 unfolding Stuck
 not_joined e es b x y q s h = s e q.0 (q.1 ++ y) q.2 (h ∙ ap (λ (v : List ℕ). v ++ y) q.4 ∙ append_assoc q.0 q.1 y)
 
-joined_once : (ds es : List Doc) (a b x y : List ℕ) → AreJoined ds a → AreJoined es b → Stuck x → Stuck y → a ++ x ≡ b ++ y → (ds ≡ es) × (a ≡ b) × (x ≡ y)
+pub joined_once : (ds es : List Doc) (a b x y : List ℕ) → AreJoined ds a → AreJoined es b → Stuck x → Stuck y → a ++ x ≡ b ++ y → (ds ≡ es) × (a ≡ b) × (x ≡ y)
 joined_once [] [] a b x y p q s t h =
     let e : x ≡ y = sym (ap (λ (v : List ℕ). v ++ x) p) ∙ h ∙ ap (λ (v : List ℕ). v ++ y) q in
     (refl, p ∙ sym q, e)

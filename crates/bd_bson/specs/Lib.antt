@@ -13,6 +13,7 @@ pub mod Sizes
 pub mod Sound
 pub mod Spelling
 pub mod Starts
+pub mod Stream
 pub mod Told
 pub mod Types
 pub mod Unique

@@ -13,10 +13,15 @@ mod contents;
 mod depth_tests;
 #[cfg(test)]
 mod devices_tests;
+mod doc_buffer;
+mod doc_reader;
+#[cfg(test)]
+mod doc_reader_tests;
 mod dump_laws;
 mod element;
 mod elements;
 mod fault;
+mod filling;
 mod input;
 #[cfg(test)]
 mod kinds_tests;
@@ -42,6 +47,8 @@ mod views_tests;
 pub use check::check_document;
 pub use collecting::read_dump;
 pub use collection::Dump;
+pub use doc_buffer::{DocBuffer, DocFault};
+pub use doc_reader::{DocReader, RawBytes};
 pub use dump_laws::dump_or_fault;
 pub use fault::{Fault, FaultKind};
 pub use input::{DeviceFault, Input, MemoryInput, SystemInput};

@@ -98,7 +98,7 @@ pub fn next_document<'a>(
 }
 
 /// A fault of a document as a whole.
-fn frame_fault(alloc: Global, kind: FaultKind, at: usize, number: u32) -> Fault
+pub fn frame_fault(alloc: Global, kind: FaultKind, at: usize, number: u32) -> Fault
     ensures kind { result.kind ≡ kind }
     ensures document { result.document ≡ number }
     ensures offset { result.offset ≡ at }

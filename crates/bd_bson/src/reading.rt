@@ -7,7 +7,7 @@ ghost use Rattle.bd_bson.specs.Devices.{Reads, LosesFront, LosesAtLeast};
 use crate::input::Input;
 use std::alloc::Global;
 
-/// What `read_all` may take of a device.
+/// What may be taken of a device.
 #[derive(Debug, Clone, Copy, PartialEq, Eq)]
 pub struct Limits {
     /// How many bytes it may give.

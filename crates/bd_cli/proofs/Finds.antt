@@ -24,8 +24,8 @@ use Rattle.bd_cli.proofs.Kept.{In, in_at, take_in}
 use Rattle.bd_cli.proofs.Placed.{answer_matching, matching_in}
 use Rattle.bd_cli.proofs.Turns.{after_step, end_is, from_start}
 use Rattle.bd_cli.specs.Ran.{Wrote, WroteFront, Told, Ran}
-use Rattle.bd_cli.specs.Walked.{Holds}
-use Rattle.bd_cli.proofs.Walking.{lines-append, flushed}
+use Rattle.bd_cli.specs.Holding.{Holds}
+use Rattle.bd_cli.proofs.LinesTaken.{lines-append, flushed}
 
 -- the lines of the documents at the first places
 abbrev pub lines_to : List Doc → List ℕ → ℕ → List ℕ

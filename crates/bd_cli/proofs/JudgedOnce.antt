@@ -1,21 +1,27 @@
 -- What `check` shows is determined, and its status is that of `dump`.
-use Rattle.std.proofs.Common.{◌≡◌, ℕ, suc, ◌+◌, List, [], ◌∷◌, map, Option, Some, None, Result, Ok, Err, refl, sym, ap, ◌∙◌, arith}
+use Rattle.std.proofs.Common.{◌≡◌, ℕ, suc, ◌+◌, List, [], ◌∷◌, length, map, Option, Some, None, refl, sym, ap, ◌∙◌, arith}
 use Rattle.bd_value.specs.Tree.{Doc}
 use Rattle.bd_bson.specs.Fault.{Fault}
 use Rattle.bd_bson.specs.Verdicts.{verdicts, BeginAs}
 use Rattle.bd_bson.specs.declared.reading.ReadFault.{ReadFault}
+use Rattle.bd_bson.proofs.Frames.{frames_once}
 use Rattle.bd_bson.proofs.Verdicts.{as_walk}
-use Rattle.bd_cli.specs.Judged.{IsJudged, faulty, shown_verdicts, verdicts_status}
-use Rattle.bd_cli.specs.Shown.{Shown, IsShown, walk_status}
+use Rattle.bd_cli.specs.Judged.{IsJudged, faulty, shown_verdicts, verdict_lines, verdicts_line, verdicts_status}
+use Rattle.bd_cli.specs.Shown.{Shown, IsShown, shown_unread, walk_status}
 use Rattle.bd_cli.specs.declared.status.Status.{Status}
 use Rattle.bd_cli.specs.declared.status.Status.TheVariants.{Failed}
 use Rattle.bd_cli.proofs.Judges.{faulty_append}
 
-pub judged_once : (input : Result (List ℕ) ReadFault) (s t : Shown) → IsJudged input s → IsJudged input t → s ≡ t
-judged_once (Ok bytes) s t p q = p ∙ sym q
-judged_once (Err fault) s t p q = p ∙ sym q
+part_once : (bytes : List ℕ) (fault : ReadFault) (s t : Shown) → IsJudged bytes (Some fault) s → IsJudged bytes (Some fault) t → s ≡ t
+part_once bytes fault s t (frames, front, part, framed, cut, is, shows) (others, begin, piece, parted, short, was, showed) =
+    let e = frames_once frames others front begin part piece framed parted cut short (sym is ∙ was) in
+    shows ∙ ap (λ (x : List ℕ). shown_unread (verdict_lines 0 (verdicts x)) fault (verdicts_line (length (verdicts x)) (faulty (verdicts x)))) e ∙ sym showed
 
-pub judged_some : (bytes : List ℕ) → (s : Shown) × IsJudged (Ok bytes) s
+pub judged_once : (bytes : List ℕ) (fault : Option ReadFault) (s t : Shown) → IsJudged bytes fault s → IsJudged bytes fault t → s ≡ t
+judged_once bytes None s t p q = p ∙ sym q
+judged_once bytes (Some fault) s t p q = part_once bytes fault s t p q
+
+pub judged_some : (bytes : List ℕ) → (s : Shown) × IsJudged bytes None s
 judged_some bytes = (shown_verdicts (verdicts bytes), refl)
 
 -- ---- the status
@@ -39,6 +45,6 @@ walk_judged ds (Some f) vs is =
 abbrev status_of : Shown → Status
 status_of shown = shown.status
 
-pub same_status : (input : Result (List ℕ) ReadFault) (s t : Shown) → IsShown input s → IsJudged input t → s.status ≡ t.status
-same_status (Ok bytes) s t p q = ap status_of p.3 ∙ walk_judged p.0 p.1 (verdicts bytes) (as_walk p.0 p.1 bytes p.2) ∙ sym (ap status_of q)
-same_status (Err fault) s t p q = ap status_of (p ∙ sym q)
+pub same_status : (bytes : List ℕ) (fault : Option ReadFault) (s t : Shown) → IsShown bytes fault s → IsJudged bytes fault t → s.status ≡ t.status
+same_status bytes None s t p q = ap status_of p.3 ∙ walk_judged p.0 p.1 (verdicts bytes) (as_walk p.0 p.1 bytes p.2) ∙ sym (ap status_of q)
+same_status bytes (Some fault) s t p q = ap status_of p.6 ∙ sym (ap status_of q.6)

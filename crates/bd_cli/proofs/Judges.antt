@@ -1,29 +1,37 @@
--- The walk over a dump that judges its documents, step by step.
-use Rattle.std.proofs.Common.{◌≡◌, ◌≤◌, ℕ, suc, ◌+◌, List, [], ◌∷◌, ◌++◌, length, take, drop, map, Bool, cond, Option, Some, None, Ok, Err, sym, ap, ap₂, ◌∙◌, subst, inl, inr, ◌⊎◌, codes, append_assoc, append-nil, arith, length-append, length-drop}
-use Rattle.std.specs.Prelude.{IfSome, option_map, is_some, string_bytes}
-use mir.Val.{bool_byte}
-use Rattle.std.proofs.lemmas.List.{drop-drop, drop_all}
+-- The judging of `check`, step by step.
+use Rattle.std.proofs.Common.{◌≡◌, ◌≤◌, ℕ, suc, ◌+◌, ◌-◌, List, [], ◌∷◌, ◌++◌, length, take, drop, map, cond, Option, Some, None, Result, Ok, Err, refl, sym, ap, ap₂, ◌∙◌, subst, inl, inr, ◌⊎◌, codes, append_assoc, append-nil, arith, length-append}
+use Rattle.std.specs.Prelude.{IfSome, IfOk, IfErr, option_map, is_some, string_bytes, MatchResult}
+use Rattle.std.specs.Io.KnownBytes.{Appends, Consumes, IsAtEnd}
+use Rattle.std.proofs.KnownBytes.{Appends-trans, Appends-nil, Consumes-trans, Consumes-nil}
+use Rattle.std.proofs.lemmas.List.{take_at, drop_at}
 use Rattle.std.proofs.lemmas.List.Sums.{sum_by-append}
+use Rattle.bd_bson.specs.Counts.{after_more}
 use Rattle.bd_bson.specs.Fault.{Fault}
 use Rattle.bd_bson.specs.declared.fault.Fault as told
-use Rattle.bd_bson.specs.declared.fault.FaultKind.{FaultKind}
+use Rattle.bd_bson.specs.declared.doc_buffer.DocFault.{DocFault}
+use Rattle.bd_bson.specs.declared.doc_buffer.DocFault.TheVariants as faults
+use Rattle.bd_bson.specs.declared.reading.ReadFault.{ReadFault}
+use Rattle.bd_bson.specs.declared.reading.ReadFault.TheVariants as reads
 use Rattle.bd_bson.specs.Dump.{frame_length}
 use Rattle.bd_bson.specs.FirstFault.{first_fault}
+use Rattle.bd_bson.specs.Stream.{IsFrame, AreFrames, CutShort, HasNoFrame, OnFrame, OnRead}
 use Rattle.bd_bson.specs.Told.{fault_view}
 use Rattle.bd_bson.specs.Verdicts.{verdicts_at, verdicts}
+use Rattle.bd_bson.proofs.Frames.{frame_on, frames_more}
 use Rattle.bd_bson.proofs.Verdicts.{none_at, turn_at, last_at}
-use Rattle.bd_bson.proofs.Dumps.{frame_inside}
 use Rattle.bd_cli.specs.Judged.{verdict_line, verdict_lines, faulty, verdicts_line, verdicts_status, shown_verdicts}
-use Rattle.bd_cli.specs.Judging.{IsVerdict, Finds}
-use Rattle.bd_cli.specs.Ran.{Wrote, WroteFront, Broke, Told, Ran}
-use Rattle.bd_cli.specs.Shown.{error_line}
+use Rattle.bd_cli.specs.Judging.{AreVerdicts, Judges, JudgesUpTo, FoundLast, findings_told, findings_status}
+use Rattle.bd_cli.specs.Ran.{WasStreamed, Wrote, WroteFront, Broke, Told, Ran, Checked}
+use Rattle.bd_cli.specs.Shown.{error_line, read_words, shown_unread}
+use Rattle.bd_cli.specs.Walked.{EndedBy}
+use Rattle.bd_cli.specs.declared.checking.Findings.{Findings}
+use Rattle.bd_cli.specs.declared.dumping.Ending.{Ending}
+use Rattle.bd_cli.specs.declared.dumping.Ending.TheVariants as endings
+use Rattle.bd_cli.specs.declared.lines.Stopped.{Stopped}
+use Rattle.bd_cli.specs.declared.lines.Stopped.TheVariants.{NoMemory, Unwritten}
 use Rattle.bd_cli.specs.declared.status.Status.{Status}
 use Rattle.bd_cli.specs.declared.status.Status.TheVariants.{Failed}
-use Rattle.bd_cli.specs.Walked.{Holds}
-use Rattle.bd_cli.specs.declared.checking.Verdict.{Verdict}
-use Rattle.bd_cli.specs.declared.checking.Findings.{Findings}
-use Rattle.bd_cli.proofs.Finds.{grown, starved, all_taken}
-use Rattle.bd_cli.proofs.Walking.{flushed, broken}
+use Rattle.bd_cli.proofs.Streams.{rest_of, known_whole, known_end, known_behind, more_called, unread}
 
 -- the verdicts, as contracts see them
 abbrev Seen : Type 0
@@ -45,128 +53,266 @@ lines_more us v =
 pub faulty_append : (us vs : List Seen) → faulty (us ++ vs) ≡ faulty us + faulty vs
 faulty_append us vs = sum_by-append (λ v. cond (is_some v) 1 0) us vs
 
--- ---- the verdict on a document
+one_bad : (v : Seen) → faulty (v ∷ []) ≤ 1
+one_bad None = omega arith
+one_bad (Some f) = omega arith
 
-judged_some : (bytes : List ℕ) (kind : FaultKind) → frame_length bytes ≡ Err kind → 1 ≤ length bytes
-judged_some [] kind is = absurd cc
-judged_some (b ∷ bytes) kind is = omega arith
+same_ending : (d e : Ending) → Path (Result Ending Stopped) (Ok d) (Ok e) → d ≡ e
+same_ending d e is = cc
 
-pub verdict_is : (bytes : List ℕ) (place n k number : ℕ) (o : Option told.Fault) → frame_length (drop place bytes) ≡ Ok (Some n) → k ≡ n
-    → first_fault place (take k (drop place bytes)) ≡ option_map fault_view o → IfSome o (λ f. f.document ≡ number) → place + n ≤ length bytes
-    → IsVerdict bytes place number (record { fault = o; after = place + n })
-verdict_is bytes place n k number o frame same first numbered le =
-    let size = frame_inside (drop place bytes) n frame in
-    let here : first_fault place (take n (drop place bytes)) ≡ option_map fault_view o = ap (λ m. first_fault place (take m (drop place bytes))) (sym same) ∙ first in
-    record {
-      first = turn_at place n (drop place bytes) frame ∙ ap₂ (λ (v : Seen) (xs : List ℕ). v ∷ verdicts_at (place + n) xs) here (drop-drop n place bytes);
-      numbered = numbered;
-      onward = omega (arith, size.0);
-      inside = le;
-    }
+same_stop : (d e : Stopped) → Path (Result Ending Stopped) (Err d) (Err e) → d ≡ e
+same_stop d e is = cc
 
-pub last_is : (bytes : List ℕ) (place number : ℕ) (f : told.Fault) → frame_length (drop place bytes) ≡ Err f.kind → (f.document ≡ number) × (f.offset ≡ place) × (f.path.items ≡ [])
-    → IsVerdict bytes place number (record { fault = Some f; after = length bytes })
-last_is bytes place number f frame stands =
-    let some = judged_some (drop place bytes) f.kind frame in
-    let seen : Some (record { kind = f.kind; offset = place; path = [] }) ≡ Some (fault_view f) = ap₂ (λ (o : ℕ) (p : List (List ℕ)). Some (record { kind = f.kind; offset = o; path = p })) (sym stands.1) (sym (ap (map string_bytes) stands.2)) in
-    let after : verdicts_at (length bytes) (drop (length bytes) bytes) ≡ [] = ap (verdicts_at (length bytes)) (drop_all (length bytes) bytes (omega arith)) ∙ none_at (length bytes) in
-    record {
-      first = last_at place (drop place bytes) f.kind frame ∙ ap₂ (λ (v : Seen) (vs : List Seen). v ∷ vs) seen (sym after);
-      numbered = stands.0;
-      onward = omega (arith, length-drop place bytes);
-      inside = omega arith;
-    }
+pub ok_of : {A B : Type 0} (r : Result A B) (P : A → Type 0) (Q : B → Type 0) → MatchResult r P Q → IfOk r P
+ok_of (Ok x) P Q h = h
+ok_of (Err e) P Q h = _
 
--- what the code counts for a document
-pub bad_is : (o : Option told.Fault) (b : Bool) (n : ℕ) → b ≡ is_some o → n ≡ bool_byte b → n ≡ faulty (option_map fault_view o ∷ [])
-bad_is None b n some byte = byte ∙ ap bool_byte some
-bad_is (Some f) b n some byte = byte ∙ ap bool_byte some
+pub err_of : {A B : Type 0} (r : Result A B) (P : A → Type 0) (Q : B → Type 0) → MatchResult r P Q → IfErr r Q
+err_of (Ok x) P Q h = _
+err_of (Err e) P Q h = h
 
--- ---- what the loop keeps
+-- ---- what was written
 
--- the verdicts so far, and their lines, which the writer took or which are still to be written
-pub record SoFar {W : Type 0} (held : W → Option (List ℕ)) (failures : W → ℕ) (old new : W) (bytes pending : List ℕ) (place documents bad : ℕ) : Type 0 where
+module _ {W : Type 0} (held : W → Option (List ℕ)) (failures : W → ℕ) (old mid new : W) (front piece rest all : List ℕ) (wrote : Wrote held failures old mid front) where
+  pub broke_behind : Broke held failures mid new piece → all ≡ front ++ (piece ++ rest) → Broke held failures old new all
+  broke_behind b cut =
+      let parts : all ≡ (front ++ b.0.0) ++ (b.0.1 ++ rest) =
+      cut ∙ ap (λ x. front ++ (x ++ rest)) b.0.2 ∙ ap (λ x. front ++ x) (append_assoc b.0.0 b.0.1 rest) ∙ sym (append_assoc front b.0.0 (b.0.1 ++ rest)) in
+      ((front ++ b.0.0, b.0.1 ++ rest, parts, Appends-trans (held old) (held mid) (held new) front b.0.0 wrote.0 b.0.3), b.1 ∙ ap (λ n. after_more n 1) wrote.1)
+
+  pub wrote_behind : Wrote held failures mid new piece → all ≡ front ++ piece → Wrote held failures old new all
+  wrote_behind w cut = (subst (Appends (held old) (held new)) (sym cut) (Appends-trans (held old) (held mid) (held new) front piece wrote.0 w.0), w.1 ∙ wrote.1)
+
+pub front_of : {W : Type 0} (held : W → Option (List ℕ)) (failures : W → ℕ) (old new : W) (front rest all : List ℕ) → Wrote held failures old new front → all ≡ front ++ rest → WroteFront held failures old new all
+front_of held failures old new front rest all w cut = ((front, rest, cut, w.0), w.1)
+
+-- ---- what the loop keeps: the verdicts so far, and the bytes of their documents
+
+pub record SoFar {R O : Type 0} (left : R → Option (List ℕ)) (calls failures : R → ℕ) (old new : R) (held : O → Option (List ℕ)) (out_failures : O → ℕ) (out_old out_new : O)
+    (place number bad room turns : ℕ) : Type 0 where
   pub done : List Seen
-  pub all : verdicts bytes ≡ done ++ verdicts_at place (drop place bytes)
-  pub inside : place ≤ length bytes
-  pub counted : documents ≡ length done
+  pub given : List ℕ
+  pub frames : List (List ℕ)
+  pub framed : AreFrames frames given
+  pub all : (rest : List ℕ) → verdicts (given ++ rest) ≡ done ++ verdicts_at place rest
+  pub gave : Consumes (left old) (left new) given
+  pub placed : place ≡ length given
+  pub counted : number ≡ length done
   pub bad_counted : bad ≡ faulty done
-  pub few : documents ≤ place
-  pub holds : Holds held failures old new pending (verdict_lines 0 done)
+  pub few : bad ≤ number
+  pub fits : room + place ≡ 4294967295
+  pub turned : turns ≤ 4294967296
+  pub called : calls new ≡ after_more (calls old) (4294967296 - turns)
+  pub well : failures new ≡ failures old
+  pub wrote : Wrote held out_failures out_old out_new (verdict_lines 0 done)
 
-module _ {W : Type 0} (held : W → Option (List ℕ)) (failures : W → ℕ) (old new : W) (bytes : List ℕ) where
-  pub goes_on : (pending more : List ℕ) (place documents bad : ℕ) (v : Verdict) → SoFar held failures old new bytes pending place documents bad → IsVerdict bytes place documents v
-      → ((number : ℕ) → IfSome v.fault (λ f. f.document ≡ number) → more ≡ pending ++ verdict_line number (option_map fault_view v.fault)) → (b : Bool) (n : ℕ) → b ≡ is_some v.fault → n ≡ bool_byte b
-      → SoFar held failures old new bytes more v.after (documents + 1) (bad + n)
-  goes_on pending more place documents bad v s next writes b n some byte =
-      let seen = option_map fault_view v.fault in
-      let rest = verdicts_at v.after (drop v.after bytes) in
-      let line = ap (λ n. verdict_line n seen) s.counted in
-      record {
-        done = s.done ++ seen ∷ [];
-        all = s.all ∙ ap (λ vs. s.done ++ vs) next.first ∙ sym (append_assoc s.done (seen ∷ []) rest);
-        inside = next.inside;
-        counted = let c = s.counted in omega (arith, length-append s.done (seen ∷ []));
-        bad_counted = ap₂ (λ (k m : ℕ). k + m) s.bad_counted (bad_is v.fault b n some byte) ∙ sym (faulty_append s.done (seen ∷ []));
-        few = let f = s.few in let o = next.onward in omega arith;
-        holds = grown held failures old new pending more (verdict_lines 0 s.done) (verdict_lines 0 (s.done ++ seen ∷ [])) (verdict_line documents seen) s.holds (writes documents next.numbered)
-            (lines_more s.done seen ∙ ap (λ x. verdict_lines 0 s.done ++ x) (sym line));
-      }
+module _ {R O : Type 0} (left : R → Option (List ℕ)) (calls failures : R → ℕ) (old : R) (held : O → Option (List ℕ)) (out_failures : O → ℕ) (out_old : O) where
+  abbrev pub Kept : R → O → ℕ → ℕ → ℕ → ℕ → ℕ → Type 0
+  Kept new out place number bad room turns = SoFar left calls failures old new held out_failures out_old out place number bad room turns
 
-  pub cut_at : (pending : List ℕ) (place documents bad : ℕ) (s : SoFar held failures old new bytes pending place documents bad)
-      → verdict_lines 0 (verdicts bytes) ≡ verdict_lines 0 s.done ++ verdict_lines (0 + length s.done) (verdicts_at place (drop place bytes))
-  cut_at pending place documents bad s = ap (verdict_lines 0) s.all ∙ lines_append 0 s.done (verdicts_at place (drop place bytes))
-
-  ended : (pending : List ℕ) (place documents bad : ℕ) (s : SoFar held failures old new bytes pending place documents bad) → drop place bytes ≡ [] → verdicts bytes ≡ s.done
-  ended pending place documents bad s is =
-      s.all ∙ ap (λ xs. s.done ++ verdicts_at place xs) is ∙ ap (λ vs. s.done ++ vs) (none_at place) ∙ append-nil s.done
-
-  pub found : (pending : List ℕ) (place : ℕ) (findings : Findings) → SoFar held failures old new bytes pending place findings.documents findings.faulty → drop place bytes ≡ [] → Finds findings bytes
-  found pending place findings s is =
-      let e = ended pending place findings.documents findings.faulty s is in
-      record { documents = s.counted ∙ ap (λ vs. length vs) (sym e); faulty = s.bad_counted ∙ ap faulty (sym e) }
-
-  pub all_held : (pending : List ℕ) (place documents bad : ℕ) → SoFar held failures old new bytes pending place documents bad → drop place bytes ≡ []
-      → Holds held failures old new pending (verdict_lines 0 (verdicts bytes))
-  all_held pending place documents bad s is =
-      let h = s.holds in
-      record { written = h.written; wrote = h.wrote; together = h.together ∙ ap (verdict_lines 0) (sym (ended pending place documents bad s is)) }
-
-  -- memory ran out
-  pub starved_at : (pending : List ℕ) (place documents bad : ℕ) → SoFar held failures old new bytes pending place documents bad → WroteFront held failures old new (verdict_lines 0 (verdicts bytes))
-  starved_at pending place documents bad s = starved held failures old new pending (verdict_lines 0 s.done) _ (verdict_lines 0 (verdicts bytes)) s.holds (cut_at pending place documents bad s)
-
-module _ {W : Type 0} (held : W → Option (List ℕ)) (failures : W → ℕ) (old mid new : W) (bytes pending : List ℕ) (place documents bad : ℕ) (s : SoFar held failures old mid bytes pending place documents bad) where
-  -- what was flushed is no longer to be written
-  pub flushed_on : (none : List ℕ) → Wrote held failures mid new pending → none ≡ [] → SoFar held failures old new bytes none place documents bad
-  flushed_on none w is = record {
-    done = s.done;
-    all = s.all;
-    inside = s.inside;
-    counted = s.counted;
-    bad_counted = s.bad_counted;
-    few = s.few;
-    holds = flushed held failures old mid new pending none (verdict_lines 0 s.done) s.holds w is;
+  pub begins : (place number bad room turns : ℕ) → place ≡ 0 → number ≡ 0 → bad ≡ 0 → room ≡ 4294967295 → turns ≡ 4294967296 → calls old ≡ after_more (calls old) (4294967296 - turns)
+      → Kept old out_old place number bad room turns
+  begins place number bad room turns p n b r t called = record {
+    done = [];
+    given = [];
+    frames = [];
+    framed = refl;
+    all = λ rest. ap (λ m. verdicts_at m rest) (sym p);
+    gave = Consumes-nil (left old);
+    placed = p;
+    counted = n;
+    bad_counted = b;
+    few = omega arith;
+    fits = omega arith;
+    turned = omega arith;
+    called = called;
+    well = refl;
+    wrote = (Appends-nil (held out_old), refl);
   }
 
-  -- the last write
-  pub taken : drop place bytes ≡ [] → Wrote held failures mid new pending → Wrote held failures old new (verdict_lines 0 (verdicts bytes))
-  taken is w = all_taken held failures old mid new pending (verdict_lines 0 (verdicts bytes)) (all_held held failures old mid bytes pending place documents bad s is) w
+  module _ (mid : R) (out_mid : O) (place number bad room turns : ℕ) (s : Kept mid out_mid place number bad room turns) where
+    -- a document by its length, which has this verdict
+    abbrev seen : Option told.Fault → Seen
+    seen o = option_map fault_view o
 
-  pub broken_at : Broke held failures mid new pending → Broke held failures old new (verdict_lines 0 (verdicts bytes))
-  broken_at b = broken held failures old mid new pending (verdict_lines 0 s.done) _ (verdict_lines 0 (verdicts bytes)) s.holds (cut_at held failures old mid bytes pending place documents bad s) b
+    here : (frame rest : List ℕ) (o : Option told.Fault) → IsFrame frame → first_fault place frame ≡ seen o → verdicts (s.given ++ (frame ++ rest)) ≡ (s.done ++ seen o ∷ []) ++ verdicts_at (place + length frame) rest
+    here frame rest o is first =
+        let turn = turn_at place (length frame) (frame ++ rest) (frame_on frame rest is) in
+        let one : first_fault place (take (length frame) (frame ++ rest)) ≡ seen o = ap (first_fault place) (take_at frame rest (length frame) refl) ∙ first in
+        let others : verdicts_at (place + length frame) (drop (length frame) (frame ++ rest)) ≡ verdicts_at (place + length frame) rest = ap (verdicts_at (place + length frame)) (drop_at frame rest (length frame) refl) in
+        s.all (frame ++ rest) ∙ ap (λ vs. s.done ++ vs) (turn ∙ ap₂ (λ (v : Seen) (vs : List Seen). v ∷ vs) one others) ∙ sym (append_assoc s.done (seen o ∷ []) (verdicts_at (place + length frame) rest))
 
--- ---- the ends of a run
+    -- a document was judged, and its line taken
+    pub goes_on : (new : R) (out_new : O) (frame : List ℕ) (o : Option told.Fault) (size next count worse less fewer : ℕ) → IsFrame frame → first_fault place frame ≡ seen o
+        → Consumes (left mid) (left new) frame → length frame ≡ size → (next ≡ place + size) × (count ≡ number + 1) × (less + size ≡ room)
+        → worse ≡ bad + faulty (seen o ∷ []) → (fewer ≤ turns) × (calls new ≡ after_more (calls mid) (turns - fewer)) → failures new ≡ failures mid
+        → Wrote held out_failures out_mid out_new (verdict_line number (seen o)) → Kept new out_new next count worse less fewer
+    goes_on new out_new frame o size next count worse less fewer is first gave sized moved worse_is called well wrote = record {
+      done = s.done ++ seen o ∷ [];
+      given = s.given ++ frame;
+      frames = s.frames ++ frame ∷ [];
+      framed = frames_more s.frames s.given frame s.framed is;
+      all = λ rest. ap verdicts (append_assoc s.given frame rest) ∙ here frame rest o is first ∙ ap (λ n. (s.done ++ seen o ∷ []) ++ verdicts_at n rest) (ap (λ n. place + n) sized ∙ sym moved.0);
+      gave = Consumes-trans (left old) (left mid) (left new) s.given frame s.gave gave;
+      placed = let p = s.placed in let m = moved.0 in omega (arith, length-append s.given frame);
+      counted = let c = s.counted in let m = moved.1 in omega (arith, length-append s.done (seen o ∷ []));
+      bad_counted = worse_is ∙ ap (λ n. n + faulty (seen o ∷ [])) s.bad_counted ∙ sym (faulty_append s.done (seen o ∷ []));
+      few = let f = s.few in let n = moved.1 in let one = one_bad (seen o) in omega arith;
+      fits = let f = s.fits in let m = moved.0 in let l = moved.2 in omega arith;
+      turned = let t = s.turned in let c = called.0 in omega arith;
+      called = more_called (calls old) (calls mid) (calls new) turns fewer s.turned called.0 s.called called.1;
+      well = well ∙ s.well;
+      wrote = wrote_behind held out_failures out_old out_mid out_new (verdict_lines 0 s.done) (verdict_line number (seen o)) [] (verdict_lines 0 (s.done ++ seen o ∷ [])) s.wrote wrote
+          (lines_more s.done (seen o) ∙ ap (λ n. verdict_lines 0 s.done ++ verdict_line n (seen o)) (sym s.counted));
+    }
 
-module _ {O E : Type 0} (out_held : O → Option (List ℕ)) (out_failures : O → ℕ) (out_old out_new : O) (err_held : E → Option (List ℕ)) (err_failures : E → ℕ) (err_old err_new : E) (bytes : List ℕ) (status : Status) where
-  -- standard error was told how many there are, or that memory ran out
-  abbrev TellsCounts : ℕ → ℕ → Type 0
-  TellsCounts documents bad = Told err_held err_failures err_old err_new (verdicts_line documents bad) (verdicts_status bad) status ⊎ Told err_held err_failures err_old err_new (error_line (codes "no memory")) Failed status
+    -- where the judging stops, the lines so far stand in front of all lines
+    cut_at : (rest : List ℕ) → verdict_lines 0 (verdicts (s.given ++ rest)) ≡ verdict_lines 0 s.done ++ verdict_lines (0 + length s.done) (verdicts_at place rest)
+    cut_at rest = ap (verdict_lines 0) (s.all rest) ∙ lines_append 0 s.done (verdicts_at place rest)
 
-  pub shows_verdicts : (findings : Findings) → Finds findings bytes → Wrote out_held out_failures out_old out_new (verdict_lines 0 (verdicts bytes)) → TellsCounts findings.documents findings.faulty
-      → Ran out_held out_failures out_old out_new err_held err_failures err_old err_new (shown_verdicts (verdicts bytes)) status
-  shows_verdicts findings found wrote told = ran (subst (λ n. TellsCounts (length (verdicts bytes)) n) found.faulty (subst (λ n. TellsCounts n findings.faulty) found.documents told))
+    pub starves : (new : R) (rest : List ℕ) → IfSome (left mid) (λ xs. rest ≡ xs) → failures new ≡ failures mid → JudgesUpTo left failures old new held out_failures out_old out_mid NoMemory
+    starves new rest is well = (
+      s.given ++ rest,
+      known_behind (left old) (left mid) s.given rest s.gave is,
+      well ∙ s.well,
+      front_of held out_failures out_old out_mid (verdict_lines 0 s.done) (verdict_lines (0 + length s.done) (verdicts_at place rest)) (verdict_lines 0 (verdicts (s.given ++ rest))) s.wrote (cut_at rest),
+    )
+
+    abbrev was_stopped : Stopped → Stopped → Type 0
+    was_stopped st want = Path (Result (Unit {0}) Stopped) (Err st) (Err want)
+
+    -- the line of a fault was stopped
+    stops_in : (new : R) (out_new : O) (rest : List ℕ) (v : Seen) (more : List Seen) (st : Stopped) → IfSome (left mid) (λ xs. rest ≡ xs) → failures new ≡ failures mid
+        → verdicts_at place rest ≡ v ∷ more → (was_stopped st NoMemory → out_new ≡ out_mid) → (was_stopped st Unwritten → Broke held out_failures out_mid out_new (verdict_line number v))
+        → JudgesUpTo left failures old new held out_failures out_old out_new st
+    stops_in new out_new rest v more NoMemory is well turn starved broke = rw (starved refl) (starves new rest is well)
+    stops_in new out_new rest v more Unwritten is well turn starved broke =
+        let lines : verdict_lines 0 (verdicts (s.given ++ rest)) ≡ verdict_lines 0 s.done ++ (verdict_line number v ++ verdict_lines (suc (0 + length s.done)) more) =
+        cut_at rest ∙ ap (λ vs. verdict_lines 0 s.done ++ verdict_lines (0 + length s.done) vs) turn
+        ∙ ap (λ n. verdict_lines 0 s.done ++ (verdict_line n v ++ verdict_lines (suc (0 + length s.done)) more)) (let c = s.counted in omega arith) in (
+          s.given ++ rest,
+          known_behind (left old) (left mid) s.given rest s.gave is,
+          well ∙ s.well,
+          broke_behind held out_failures out_old out_mid out_new (verdict_lines 0 s.done) (verdict_line number v) (verdict_lines (suc (0 + length s.done)) more) (verdict_lines 0 (verdicts (s.given ++ rest))) s.wrote (broke refl) lines,
+        )
+
+    pub stops_by : (new : R) (out_new : O) (frame : List ℕ) (f : told.Fault) (st : Stopped) → IsFrame frame → first_fault place frame ≡ Some (fault_view f) → f.document ≡ number
+        → Consumes (left mid) (left new) frame → failures new ≡ failures mid → (was_stopped st NoMemory → out_new ≡ out_mid)
+        → (was_stopped st Unwritten → Broke held out_failures out_mid out_new (verdict_line f.document (Some (fault_view f)))) → JudgesUpTo left failures old new held out_failures out_old out_new st
+    stops_by new out_new frame f st is first numbered gave well starved broke =
+        let rest = rest_of (left new) in
+        let turn = turn_at place (length frame) (frame ++ rest) (frame_on frame rest is) ∙ ap (λ (v : Seen). v ∷ verdicts_at (place + length frame) (drop (length frame) (frame ++ rest))) (ap (first_fault place) (take_at frame rest (length frame) refl) ∙ first) in
+        stops_in new out_new (frame ++ rest) (Some (fault_view f)) _ st (known_whole (left mid) (left new) frame gave) well turn starved
+        (λ e. subst (λ n. Broke held out_failures out_mid out_new (verdict_line n (Some (fault_view f)))) numbered (broke e))
+
+    pub starves_behind : (new : R) (part : List ℕ) → Consumes (left mid) (left new) part → failures new ≡ failures mid → JudgesUpTo left failures old new held out_failures out_old out_mid NoMemory
+    starves_behind new part gave well = starves new (part ++ rest_of (left new)) (known_whole (left mid) (left new) part gave) well
+
+    -- ---- the last document
+
+    done_alone : verdicts s.given ≡ s.done
+    done_alone = ap verdicts (sym (append-nil s.given)) ∙ s.all [] ∙ ap (λ vs. s.done ++ vs) (none_at place) ∙ append-nil s.done
+
+    abbrev Last : R → O → Result Findings Stopped → Type 0
+    Last new out_new r = MatchResult r (Judges left calls failures old new held out_failures out_old out_new) (JudgesUpTo left failures old new held out_failures out_old out_new)
+
+    pub ends_whole : (new : R) (out_new : O) (r : Result Findings Stopped) → IsAtEnd (left new) → Consumes (left mid) (left new) [] → failures new ≡ failures mid
+        → FoundLast endings.Whole number bad held out_failures out_mid out_new r → Last new out_new r
+    ends_whole new out_new r end gave well found =
+        rw (found.0, found.1) (s.given, s.done, (known_end (left old) (left mid) (left new) s.given s.gave gave end, well ∙ s.well), sym done_alone, s.counted, s.bad_counted, s.wrote)
+
+    faulty_ends : (new : R) (out_new : O) (f : told.Fault) (r : Result Findings Stopped) (bytes : List ℕ) → IfSome (left mid) (λ xs. bytes ≡ xs) → failures new ≡ failures mid
+        → verdicts_at place bytes ≡ Some (fault_view f) ∷ [] → f.document ≡ number → FoundLast (endings.Faulty f) number bad held out_failures out_mid out_new r → Last new out_new r
+    faulty_ends new out_new f (Ok findings) bytes is well last numbered found =
+        let all : verdicts (s.given ++ bytes) ≡ s.done ++ Some (fault_view f) ∷ [] = s.all bytes ∙ ap (λ vs. s.done ++ vs) last in
+        let line : Wrote held out_failures out_mid out_new (verdict_line number (Some (fault_view f))) = subst (λ n. Wrote held out_failures out_mid out_new (verdict_line n (Some (fault_view f)))) numbered found.1 in
+        rw found.0 (
+          s.given ++ bytes,
+          s.done ++ Some (fault_view f) ∷ [],
+          (known_behind (left old) (left mid) s.given bytes s.gave is, well ∙ s.well),
+          sym all,
+          (let c = s.counted in omega (arith, length-append s.done (Some (fault_view f) ∷ []))),
+          ap (λ n. n + 1) s.bad_counted ∙ sym (faulty_append s.done (Some (fault_view f) ∷ [])),
+          wrote_behind held out_failures out_old out_mid out_new (verdict_lines 0 s.done) (verdict_line number (Some (fault_view f))) [] (verdict_lines 0 (s.done ++ Some (fault_view f) ∷ [])) s.wrote line
+              (lines_more s.done (Some (fault_view f)) ∙ ap (λ n. verdict_lines 0 s.done ++ verdict_line n (Some (fault_view f))) (sym s.counted)),
+        )
+    faulty_ends new out_new f (Err NoMemory) bytes is well last numbered found = rw found (starves new bytes is well)
+    faulty_ends new out_new f (Err Unwritten) bytes is well last numbered found =
+        stops_in new out_new bytes (Some (fault_view f)) [] Unwritten is well last (λ e. absurd cc) (λ e. subst (λ n. Broke held out_failures out_mid out_new (verdict_line n (Some (fault_view f)))) numbered found)
+
+    seen_at : (f : told.Fault) (bytes : List ℕ) → frame_length bytes ≡ Err f.kind → f.offset ≡ place → f.path.items ≡ [] → verdicts_at place bytes ≡ Some (fault_view f) ∷ []
+    seen_at f bytes is offset path =
+        last_at place bytes f.kind is
+        ∙ ap₂ (λ (o : ℕ) (p : List (List ℕ)). Some (record { kind = f.kind; offset = o; path = p }) ∷ []) (sym offset) (sym (ap (map string_bytes) path))
+
+    unread_ends : (new : R) (out_new : O) (f : ReadFault) (r : Result Findings Stopped) → ¬ (f ≡ reads.NoMemory) → CutShort (left mid) (left new) room f
+        → (f ≡ reads.Device → failures new ≡ after_more (failures mid) 1) → (¬ (f ≡ reads.Device) → failures new ≡ failures mid)
+        → (f ≡ reads.TooManyTurns → calls new ≡ after_more (calls mid) turns) → FoundLast (endings.Unread f) number bad held out_failures out_mid out_new r → Last new out_new r
+    unread_ends new out_new f r other cut device well many found =
+        let fits : room + length s.given ≡ 4294967295 = let p = s.placed in let q = s.fits in omega arith in
+        let u = unread left calls failures old mid new s.given s.gave turns room fits s.turned s.called s.well f cut other device well many in
+        rw (found.0, found.1) (s.given ++ u.0, s.done, u.1, (s.frames, s.given, u.0, s.framed, u.2, refl, sym done_alone), s.counted, s.bad_counted, s.wrote)
+
+    pub ends_by : (new : R) (out_new : O) (d : DocFault) (e : Ending) (r : Result Findings Stopped) → EndedBy d (Ok e) → ¬ (d ≡ faults.Failed)
+        → OnFrame (λ f. (f.offset ≡ place) × (f.document ≡ number) × (f.path.items ≡ []) × HasNoFrame (left mid) f.kind) d
+        → OnRead (CutShort (left mid) (left new) room) d
+        → (d ≡ faults.Read reads.Device → failures new ≡ after_more (failures mid) 1) → (¬ (d ≡ faults.Read reads.Device) → failures new ≡ failures mid)
+        → (d ≡ faults.Read reads.TooManyTurns → calls new ≡ after_more (calls mid) turns)
+        → FoundLast e number bad held out_failures out_mid out_new r → Last new out_new r
+    ends_by new out_new (faults.Frame f) e r by other frame cut device well many found =
+        let is : e ≡ endings.Faulty f = same_ending e (endings.Faulty f) by in
+        faulty_ends new out_new f r frame.3.0 frame.3.1 (well (λ x. absurd cc)) (seen_at f frame.3.0 frame.3.2 frame.0 frame.2) frame.1 (rw is at found)
+    ends_by new out_new (faults.Read reads.Device) e r by other frame cut device well many found =
+        unread_ends new out_new reads.Device r (λ x. absurd cc) cut (λ x. device refl) (λ n. absurd (n refl)) (λ x. absurd cc) (rw (same_ending e (endings.Unread reads.Device) by) at found)
+    ends_by new out_new (faults.Read reads.TooLong) e r by other frame cut device well many found =
+        unread_ends new out_new reads.TooLong r (λ x. absurd cc) cut (λ x. absurd cc) (λ n. well (λ x. absurd cc)) (λ x. absurd cc) (rw (same_ending e (endings.Unread reads.TooLong) by) at found)
+    ends_by new out_new (faults.Read reads.TooManyTurns) e r by other frame cut device well many found =
+        unread_ends new out_new reads.TooManyTurns r (λ x. absurd cc) cut (λ x. absurd cc) (λ n. well (λ x. absurd cc)) (λ x. many refl) (rw (same_ending e (endings.Unread reads.TooManyTurns) by) at found)
+    ends_by new out_new (faults.Read reads.NoMemory) e r by other frame cut device well many found = absurd cc
+    ends_by new out_new faults.Failed e r by other frame cut device well many found = absurd (other refl)
+
+    pub starves_by : (new : R) (d : DocFault) (st : Stopped) → EndedBy d (Err st) → ¬ (d ≡ faults.Failed) → OnRead (CutShort (left mid) (left new) room) d
+        → (¬ (d ≡ faults.Read reads.Device) → failures new ≡ failures mid) → JudgesUpTo left failures old new held out_failures out_old out_mid st
+    starves_by new (faults.Frame f) st by other cut well = absurd cc
+    starves_by new (faults.Read reads.Device) st by other cut well = absurd cc
+    starves_by new (faults.Read reads.TooLong) st by other cut well = absurd cc
+    starves_by new (faults.Read reads.TooManyTurns) st by other cut well = absurd cc
+    starves_by new (faults.Read reads.NoMemory) st by other cut well = rw (same_stop st NoMemory by) (starves_behind new cut.0 cut.1 (well (λ x. absurd cc)))
+    starves_by new faults.Failed st by other cut well = absurd (other refl)
+
+-- ---- the end of a run
+
+module _ {R O E : Type 0} (left : R → Option (List ℕ)) (calls failures : R → ℕ) (old new : R) (out_held : O → Option (List ℕ)) (out_failures : O → ℕ) (out_old out_new : O) (err_held : E → Option (List ℕ)) (err_failures : E → ℕ) (err_old err_new : E) (status : Status) where
+  abbrev pub Shows : Type 0
+  Shows = Checked left calls failures old new out_held out_failures out_old out_new err_held err_failures err_old err_new status
+
+  -- standard error was told this, or that memory ran out
+  abbrev Tells : List ℕ → Status → Type 0
+  Tells text wanted = Told err_held err_failures err_old err_new text wanted status ⊎ Told err_held err_failures err_old err_new (error_line (codes "no memory")) Failed status
+
+  ran : (out err : List ℕ) (wanted : Status) → Wrote out_held out_failures out_old out_new out → Tells err wanted
+      → Ran out_held out_failures out_old out_new err_held err_failures err_old err_new (record { out = out; err = err; status = wanted }) status
+  ran out err wanted wrote (inl t) = inl (inl (wrote, t))
+  ran out err wanted wrote (inr t) = inr (front_of out_held out_failures out_old out_new out [] out wrote (sym (append-nil out)), t)
+
+  pub shows_findings : (findings : Findings) → Judges left calls failures old new out_held out_failures out_old out_new findings
+      → Tells (findings_told findings.documents findings.faulty findings.unread) (findings_status findings.faulty findings.unread) → Shows
+  shows_findings findings (bytes, vs, was, are, documents, bad, wrote) told = by_unread findings.unread was are (subst (λ n. Tells (findings_told (length vs) n findings.unread) (findings_status n findings.unread)) bad (subst (λ n. Tells (findings_told n findings.faulty findings.unread) (findings_status findings.faulty findings.unread)) documents told))
     where
-      ran : TellsCounts (length (verdicts bytes)) (faulty (verdicts bytes)) → Ran out_held out_failures out_old out_new err_held err_failures err_old err_new (shown_verdicts (verdicts bytes)) status
-      ran (inl t) = inl (inl (wrote, t))
-      ran (inr t) = inr (((verdict_lines 0 (verdicts bytes), [], sym (append-nil (verdict_lines 0 (verdicts bytes))), wrote.0), wrote.1), t)
+      by_unread : (unread : Option ReadFault) → WasStreamed left calls failures old new bytes unread → AreVerdicts bytes unread vs → Tells (findings_told (length vs) (faulty vs) unread) (findings_status (faulty vs) unread) → Shows
+      by_unread None was are told = (bytes, None, shown_verdicts vs, was, ap shown_verdicts are, ran (verdict_lines 0 vs) (verdicts_line (length vs) (faulty vs)) (verdicts_status (faulty vs)) wrote told)
+      by_unread (Some f) was (frames, front, part, framed, cut, is, are) told =
+          let shown = shown_unread (verdict_lines 0 vs) f (verdicts_line (length vs) (faulty vs)) in (
+            bytes,
+            Some f,
+            shown,
+            was,
+            (frames, front, part, framed, cut, is, ap (λ (ws : List Seen). shown_unread (verdict_lines 0 ws) f (verdicts_line (length ws) (faulty ws))) are),
+            ran (verdict_lines 0 vs) (error_line (read_words f) ++ verdicts_line (length vs) (faulty vs)) Failed wrote told,
+          )
+
+  pub shows_stopped : JudgesUpTo left failures old new out_held out_failures out_old out_new NoMemory → Told err_held err_failures err_old err_new (error_line (codes "no memory")) Failed status → Shows
+  shows_stopped (bytes, is, well, front) told = (bytes, None, shown_verdicts (verdicts bytes), (is, well), refl, inr (front, told))
+
+  pub shows_broken : JudgesUpTo left failures old new out_held out_failures out_old out_new Unwritten → Told err_held err_failures err_old err_new (error_line (codes "cannot write")) Failed status → Shows
+  shows_broken (bytes, is, well, broke) told = (bytes, None, shown_verdicts (verdicts bytes), (is, well), refl, inl (inr (broke, told)))

@@ -2,6 +2,9 @@ pub mod Filled
 pub mod Runs
 pub mod Taken
 pub mod Told
+pub mod LinesTaken
+pub mod Words
+pub mod Streams
 pub mod Walking
 pub mod Judges
 pub mod Kept

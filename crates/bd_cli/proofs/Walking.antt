@@ -1,178 +1,167 @@
--- The walk over a dump, step by step.
-use Rattle.std.proofs.Common.{◌≡◌, ◌≤◌, ℕ, ◌+◌, ◌*◌, List, [], ◌∷◌, ◌++◌, length, take, drop, Option, Some, None, refl, sym, ap, ◌∙◌, subst, append_assoc, append-nil, arith, inl, inr}
-use Rattle.std.proofs.lemmas.List.{take-append-drop, length-take, length-append, take_at}
-use Rattle.std.proofs.KnownBytes.{Appends-trans, Appends-nil}
-use Rattle.bd_value.specs.Tree.{Doc, doc, fields_of}
-use Rattle.bd_bson.specs.Fault.{Fault}
+-- The walk of `dump` over the documents of an input, step by step.
+use Rattle.std.proofs.Common.{◌≡◌, ◌≤◌, ℕ, ◌+◌, ◌-◌, List, [], ◌∷◌, ◌++◌, length, Option, Some, Err, refl, sym, ap, ◌∙◌, subst, arith, length-append}
+use Rattle.std.specs.Prelude.{IfSome, Result, MatchResult}
+use Rattle.std.specs.Io.KnownBytes.{Consumes, IsAtEnd}
+use Rattle.std.proofs.KnownBytes.{Appends-trans, Appends-nil, Consumes-trans, Consumes-nil}
+use Rattle.bd_value.specs.Tree.{Doc}
 use Rattle.bd_bson.specs.Spelling.{IsDocument}
-use Rattle.bd_bson.specs.Counts.{after_more}
-use Rattle.bd_bson.specs.Dump.{AreJoined, IsWalk, frame_fault}
-use Rattle.bd_bson.proofs.Takes.{IsBytes, IsBytes-drop}
-use Rattle.bd_bson.proofs.Dumps.{joined_append, joined_one, document_frame, frame_inside, walk_on}
-use Rattle.bd_extjson.specs.Text.{text}
-use Rattle.bd_cli.specs.Shown.{lines}
-use Rattle.bd_cli.specs.Ran.{Wrote, Broke}
-use Rattle.bd_bson.specs.Told.{Tells}
+use Rattle.bd_bson.specs.Counts.{after_more, greatest}
+use Rattle.bd_bson.specs.FirstFault.{first_fault}
+use Rattle.bd_bson.specs.Dump.{AreJoined}
+use Rattle.bd_bson.specs.Stream.{IsFrame, CutShort, HasNoFrame, OnFrame, OnRead}
+use Rattle.bd_bson.specs.Told.{fault_view}
 use Rattle.bd_bson.specs.declared.fault.Fault as told
-use Rattle.bd_bson.specs.declared.fault.FaultKind.TheVariants as kinds
-use Rattle.bd_cli.specs.Walked.{Holds, Walks, Stops}
-use Rattle.bd_cli.specs.declared.dumping.Walk.{Walk}
-use Rattle.bd_cli.specs.declared.dumping.Stopped.TheVariants.{NoMemory, Unwritten}
+use Rattle.bd_bson.specs.declared.reading.ReadFault.{ReadFault}
+use Rattle.bd_bson.specs.declared.reading.ReadFault.TheVariants as reads
+use Rattle.bd_bson.proofs.Dumps.{joined_append, joined_one}
+use Rattle.bd_cli.specs.Shown.{lines}
+use Rattle.bd_cli.specs.Ran.{Wrote, Broke, BrokeAt, StarvedAt}
+use Rattle.bd_cli.specs.Walked.{Walks, Stops, EndedBy}
+use Rattle.bd_bson.specs.declared.doc_buffer.DocFault.{DocFault}
+use Rattle.bd_bson.specs.declared.doc_buffer.DocFault.TheVariants as faults
+use Rattle.bd_cli.specs.declared.dumping.Ending.{Ending}
+use Rattle.bd_cli.specs.declared.dumping.Ending.TheVariants as endings
+use Rattle.bd_cli.specs.declared.lines.Stopped.{Stopped}
+use Rattle.bd_cli.specs.declared.lines.Stopped.TheVariants.{NoMemory, Unwritten}
+use Rattle.bd_cli.proofs.LinesTaken.{lines-append}
+use Rattle.bd_cli.proofs.Streams.{rest_of, known_whole, known_end, known_behind, front_known, more_called, fault_inside, fault_of_length, unread}
 
--- ---- the lines of documents
+abbrev is_read : DocFault → ReadFault → Type 0
+is_read d f = d ≡ faults.Read f
 
-pub lines-append : (ds es : List Doc) → lines (ds ++ es) ≡ lines ds ++ lines es
-lines-append [] es = refl
-lines-append (d ∷ ds) es = ap (λ x. text (doc (fields_of d)) ++ 10 ∷ x) (lines-append ds es) ∙ sym (append_assoc (text (doc (fields_of d))) (10 ∷ lines ds) (lines es))
+abbrev was_stopped : Stopped → Stopped → Type 0
+was_stopped st want = Path (Result (Option told.Fault) Stopped) (Err st) (Err want)
 
-lines_more : (ds : List Doc) (d : Doc) → lines (ds ++ d ∷ []) ≡ lines ds ++ (text (doc (fields_of d)) ++ 10 ∷ [])
-lines_more ds d = lines-append ds (d ∷ [])
+pub same_fault : {A : Type 0} (d e : DocFault) → Path (Result A DocFault) (Err d) (Err e) → d ≡ e
+same_fault d e is = cc
 
--- ---- what the loop keeps
-
--- documents in front, and their lines, which the writer took or which are still to be written
-pub record SoFar {W : Type 0} (held : W → Option (List ℕ)) (failures : W → ℕ) (old new : W) (bytes pending : List ℕ) (at count : ℕ) : Type 0 where
+-- what the loop keeps: the documents that were printed, and the bytes that they took
+pub record SoFar {R O : Type 0} (left : R → Option (List ℕ)) (calls failures : R → ℕ) (old new : R) (held : O → Option (List ℕ)) (out_failures : O → ℕ) (out_old out_new : O)
+    (place number room turns : ℕ) : Type 0 where
   pub done : List Doc
-  pub joined : AreJoined done (take at bytes)
-  pub inside : at ≤ length bytes
-  pub counted : count ≡ length done
-  pub few : 5 * count ≤ at
-  pub holds : Holds held failures old new pending (lines done)
+  pub given : List ℕ
+  pub joined : AreJoined done given
+  pub gave : Consumes (left old) (left new) given
+  pub placed : place ≡ length given
+  pub counted : number ≡ length done
+  pub fits : room + place ≡ 4294967295
+  pub turned : turns ≤ 4294967296
+  pub called : calls new ≡ after_more (calls old) (4294967296 - turns)
+  pub well : failures new ≡ failures old
+  pub wrote : Wrote held out_failures out_old out_new (lines done)
 
-module _ {W : Type 0} (held : W → Option (List ℕ)) (failures : W → ℕ) (old new : W) (bytes : List ℕ) where
-  pub begins : (pending : List ℕ) → pending ≡ [] → SoFar held failures old old bytes pending 0 0
-  begins pending is = record {
+module _ {R O : Type 0} (left : R → Option (List ℕ)) (calls failures : R → ℕ) (old : R) (held : O → Option (List ℕ)) (out_failures : O → ℕ) (out_old : O) where
+  abbrev pub Kept : R → O → ℕ → ℕ → ℕ → ℕ → Type 0
+  Kept new out place number room turns = SoFar left calls failures old new held out_failures out_old out place number room turns
+
+  pub begins : calls old ≤ greatest → (room turns : ℕ) → room ≡ 4294967295 → turns ≡ 4294967296 → Kept old out_old 0 0 room turns
+  begins within room turns r t = record {
     done = [];
+    given = [];
     joined = refl;
-    inside = omega arith;
+    gave = Consumes-nil (left old);
+    placed = refl;
     counted = refl;
-    few = omega arith;
-    holds = record { written = []; wrote = (Appends-nil (held old), refl); together = is };
+    fits = omega arith;
+    turned = omega arith;
+    called = omega arith;
+    well = refl;
+    wrote = (Appends-nil (held out_old), refl);
   }
 
-  taken_more : (front : List ℕ) (at after : ℕ) → at ≤ length bytes → after ≤ length bytes → drop at bytes ≡ front ++ drop after bytes → at + length front ≡ after → take after bytes ≡ take at bytes ++ front
-  taken_more front at after le in_bytes cut size =
-      let whole : bytes ≡ (take at bytes ++ front) ++ drop after bytes = sym (take-append-drop at bytes) ∙ ap (λ x. take at bytes ++ x) cut ∙ sym (append_assoc (take at bytes) front (drop after bytes)) in
-      ap (take after) whole ∙ take_at (take at bytes ++ front) (drop after bytes) after (omega (arith, length-append (take at bytes) front, length-take at bytes))
+  module _ (mid : R) (out_mid : O) (place number room turns : ℕ) (s : Kept mid out_mid place number room turns) where
+    -- a document was printed
+    pub goes_on : (new : R) (out_new : O) (frame : List ℕ) (size next count less fewer : ℕ) (d : Doc) → IsDocument d frame → Consumes (left mid) (left new) frame
+        → length frame ≡ size → (next ≡ place + size) × (count ≡ number + 1) × (less + size ≡ room)
+        → (fewer ≤ turns) × (calls new ≡ after_more (calls mid) (turns - fewer)) → failures new ≡ failures mid
+        → Wrote held out_failures out_mid out_new (lines (d ∷ [])) → Kept new out_new next count less fewer
+    goes_on new out_new frame size next count less fewer d is gave sized moved called well wrote = record {
+      done = s.done ++ d ∷ [];
+      given = s.given ++ frame;
+      joined = joined_append s.done (d ∷ []) s.given frame s.joined (joined_one d frame is);
+      gave = Consumes-trans (left old) (left mid) (left new) s.given frame s.gave gave;
+      placed = let p = s.placed in let m = moved.0 in omega (arith, length-append s.given frame);
+      counted = let c = s.counted in let m = moved.1 in omega (arith, length-append s.done (d ∷ []));
+      fits = let f = s.fits in let m = moved.0 in let l = moved.2 in omega arith;
+      turned = let t = s.turned in let c = called.0 in omega arith;
+      called = more_called (calls old) (calls mid) (calls new) turns fewer s.turned called.0 s.called called.1;
+      well = well ∙ s.well;
+      wrote = subst (λ (x : List ℕ). Wrote held out_failures out_old out_new x) (sym (lines-append s.done (d ∷ [])))
+          (Appends-trans (held out_old) (held out_mid) (held out_new) (lines s.done) (lines (d ∷ [])) s.wrote.0 wrote.0, wrote.1 ∙ s.wrote.1);
+    }
 
-  front_size : (d : Doc) (front : List ℕ) → IsDocument d front → 5 ≤ length front
-  front_size d front is = (frame_inside (front ++ []) (length front) (document_frame d front [] is)).0
+    -- standard output broke in its line
+    pub breaks : (new : R) (out_new : O) (frame : List ℕ) (d : Doc) → IsDocument d frame → Consumes (left mid) (left new) frame → failures new ≡ failures mid
+        → Broke held out_failures out_mid out_new (lines (d ∷ [])) → BrokeAt left failures old new held out_failures out_old out_new
+    breaks new out_new frame d is gave well broke = (
+      s.done,
+      d,
+      s.given ++ frame,
+      joined_append s.done (d ∷ []) s.given frame s.joined (joined_one d frame is),
+      Consumes-trans (left old) (left mid) (left new) s.given frame s.gave gave,
+      well ∙ s.well,
+      out_mid,
+      s.wrote,
+      broke,
+    )
 
-  pub goes_on : (pending more : List ℕ) (at count after : ℕ) (d : Doc) → SoFar held failures old new bytes pending at count
-      → (front : List ℕ) × IsDocument d front × (drop at bytes ≡ front ++ drop after bytes) × (at + length front ≡ after) × (after ≤ length bytes)
-      → more ≡ pending ++ (text (doc (fields_of d)) ++ 10 ∷ []) → SoFar held failures old new bytes more after (count + 1)
-  goes_on pending more at count after d s next is =
-      let size = front_size d next.0 next.1 in
-      let h = s.holds in
-      record {
-        done = s.done ++ d ∷ [];
-        joined = subst (AreJoined (s.done ++ d ∷ [])) (sym (taken_more next.0 at after s.inside next.4 next.2 next.3)) (joined_append s.done (d ∷ []) (take at bytes) next.0 s.joined (joined_one d next.0 next.1));
-        inside = next.4;
-        counted = let c = s.counted in let a = length-append s.done (d ∷ []) in omega arith;
-        few = let f = s.few in let n = next.3 in omega arith;
-        holds = record {
-          written = h.written;
-          wrote = h.wrote;
-          together = ap (λ x. h.written ++ x) is ∙ sym (append_assoc h.written pending (text (doc (fields_of d)) ++ 10 ∷ [])) ∙ ap (λ x. x ++ (text (doc (fields_of d)) ++ 10 ∷ [])) h.together ∙ sym (lines_more s.done d);
-        };
-      }
+    -- memory ran out
+    pub starves : StarvedAt left old held out_failures out_old out_mid
+    starves = (s.done, s.given, s.joined, front_known (left old) (left mid) s.given s.gave, s.wrote)
 
-  pub later : (at count : ℕ) (pending : List ℕ) (d : Doc) (after : ℕ) → SoFar held failures old new bytes pending at count
-      → (front : List ℕ) × IsDocument d front × (drop at bytes ≡ front ++ drop after bytes) × (at + length front ≡ after) × (after ≤ length bytes) → at + 5 ≤ after
-  later at count pending d after s next = let size = front_size d next.0 next.1 in let n = next.3 in omega arith
+    -- printing a document was stopped
+    pub stops_by : (new : R) (out_new : O) (frame : List ℕ) (st : Stopped) → Consumes (left mid) (left new) frame → failures new ≡ failures mid
+        → (was_stopped st NoMemory → out_new ≡ out_mid) → (was_stopped st Unwritten → (d : Doc) × IsDocument d frame × Broke held out_failures out_mid out_new (lines (d ∷ [])))
+        → Stops left failures old new held out_failures out_old out_new st
+    stops_by new out_new frame NoMemory gave well starved broke = rw (starved refl) starves
+    stops_by new out_new frame Unwritten gave well starved broke = let b = broke refl in breaks new out_new frame b.0 b.1 gave well b.2
 
-  pub ended : (pending : List ℕ) (at count : ℕ) (s : SoFar held failures old new bytes pending at count) → drop at bytes ≡ [] → IsWalk s.done None bytes
-  ended pending at count s is =
-      let e : take at bytes ≡ bytes = sym (append-nil (take at bytes)) ∙ ap (λ x. take at bytes ++ x) (sym is) ∙ take-append-drop at bytes in
-      subst (AreJoined s.done) e s.joined
+    -- the input is at its end
+    pub ends_whole : (new : R) (count : ℕ) → count ≡ number → IsAtEnd (left new) → Consumes (left mid) (left new) [] → failures new ≡ failures mid
+        → Walks left calls failures old new held out_failures out_old out_mid (record { count = count; ending = endings.Whole })
+    ends_whole new count same end gave well =
+        (s.done, same ∙ s.counted, (s.given, (known_end (left old) (left mid) (left new) s.given s.gave gave end, well ∙ s.well), s.joined), s.wrote)
 
-  pub failed : (pending : List ℕ) (at count : ℕ) (f : Fault) (s : SoFar held failures old new bytes pending at count) → frame_fault at (drop at bytes) ≡ Some f → IsWalk s.done (Some f) bytes
-  failed pending at count f s is =
-      let size : length (take at bytes) ≡ at = let i = s.inside in omega (arith, length-take at bytes) in
-      (take at bytes, drop at bytes, s.joined, sym (take-append-drop at bytes), ap (λ n. frame_fault n (drop at bytes)) size ∙ is)
+    -- a document has a fault inside
+    pub ends_faulty : (new : R) (count : ℕ) (frame : List ℕ) (f : told.Fault) → count ≡ number → IsFrame frame → Consumes (left mid) (left new) frame → failures new ≡ failures mid
+        → first_fault place frame ≡ Some (fault_view f) → f.document ≡ number
+        → Walks left calls failures old new held out_failures out_old out_mid (record { count = count; ending = endings.Faulty f })
+    ends_faulty new count frame f same is gave well first numbered =
+        let rest = rest_of (left new) in
+        let all : IfSome (left old) (λ xs. s.given ++ (frame ++ rest) ≡ xs) = known_behind (left old) (left mid) s.given (frame ++ rest) s.gave (known_whole (left mid) (left new) frame gave) in
+        let fails = fault_inside place s.given frame rest (fault_view f) s.placed is first in
+        (s.done, same ∙ s.counted, (s.given ++ (frame ++ rest), (all, well ∙ s.well), (s.given, frame ++ rest, s.joined, refl, fails), numbered ∙ s.counted), s.wrote)
 
-  -- whatever follows, the lines so far are a front of all lines
-  pub record Whole (front : List ℕ) : Type 0 where
-    pub ds : List Doc
-    pub end : Option Fault
-    pub walk : IsWalk ds end bytes
-    pub rest : List ℕ
-    pub cut : lines ds ≡ front ++ rest
+    -- no document was given
+    pub ends_by : (new : R) (count : ℕ) (d : DocFault) (r : Result Ending Stopped) → count ≡ number → EndedBy d r → ¬ (d ≡ faults.Failed)
+        → OnFrame (λ f. (f.offset ≡ place) × (f.document ≡ number) × (f.path.items ≡ []) × HasNoFrame (left mid) f.kind) d
+        → OnRead (CutShort (left mid) (left new) room) d
+        → (is_read d reads.Device → failures new ≡ after_more (failures mid) 1) → (¬ (is_read d reads.Device) → failures new ≡ failures mid)
+        → (is_read d reads.TooManyTurns → calls new ≡ after_more (calls mid) turns)
+        → MatchResult r (λ e. Walks left calls failures old new held out_failures out_old out_mid (record { count = count; ending = e })) (λ st. Stops left failures old new held out_failures out_old out_mid st)
+    ends_by new count (faults.Frame f) r same by other frame cut device well many =
+        let bytes = frame.3.0 in
+        let fails = fault_of_length place s.given bytes f s.placed frame.3.2 frame.0 frame.2 in
+        let all : IfSome (left old) (λ xs. s.given ++ bytes ≡ xs) = known_behind (left old) (left mid) s.given bytes s.gave frame.3.1 in
+        rw by (s.done, same ∙ s.counted, (s.given ++ bytes, (all, well (λ e. absurd cc) ∙ s.well), (s.given, bytes, s.joined, refl, fails), frame.1 ∙ s.counted), s.wrote)
+    ends_by new count (faults.Read f) r same by other frame cut device well many = by_read f by cut (λ e. device (ap (λ (x : ReadFault). faults.Read x) e)) (λ n. well (λ e. n (inner f reads.Device e))) (λ e. many (ap (λ (x : ReadFault). faults.Read x) e))
+      where
+        inner : (f g : ReadFault) → faults.Read f ≡ faults.Read g → f ≡ g
+        inner f g e = cc
 
-  pub goes_whole : (pending : List ℕ) (at count : ℕ) → IsBytes bytes → (s : SoFar held failures old new bytes pending at count) → Whole (lines s.done)
-  goes_whole pending at count fits s =
-      let w = walk_on s.done (take at bytes) (drop at bytes) (IsBytes-drop at bytes fits) s.joined in
-      record {
-        ds = s.done ++ w.more;
-        end = w.end;
-        walk = subst (λ (x : List ℕ). IsWalk (s.done ++ w.more) w.end x) (take-append-drop at bytes) w.walk;
-        rest = lines w.more;
-        cut = lines-append s.done w.more;
-      }
+        ends : (f : ReadFault) → ¬ (f ≡ reads.NoMemory) → CutShort (left mid) (left new) room f → (f ≡ reads.Device → failures new ≡ after_more (failures mid) 1) → (¬ (f ≡ reads.Device) → failures new ≡ failures mid)
+            → (f ≡ reads.TooManyTurns → calls new ≡ after_more (calls mid) turns)
+            → Walks left calls failures old new held out_failures out_old out_mid (record { count = count; ending = endings.Unread f })
+        ends f other cut device well many =
+            let fits : room + length s.given ≡ 4294967295 = let p = s.placed in let q = s.fits in omega arith in
+            let u = unread left calls failures old mid new s.given s.gave turns room fits s.turned s.called s.well f cut other device well many in
+            (s.done, same ∙ s.counted, (s.given, u.0, u.1, s.joined, u.2), s.wrote)
 
-flushed_text : (a b c : List ℕ) → a ++ b ≡ c → (a ++ b) ++ [] ≡ c
-flushed_text a b c e = append-nil (a ++ b) ∙ e
-
--- a write of what was still to be written
-pub flushed : {W : Type 0} (held : W → Option (List ℕ)) (failures : W → ℕ) (old mid new : W) (pending none text : List ℕ) → Holds held failures old mid pending text → Wrote held failures mid new pending → none ≡ [] → Holds held failures old new none text
-flushed held failures old mid new pending none text h w is = record {
-  written = h.written ++ pending;
-  wrote = (Appends-trans (held old) (held mid) (held new) h.written pending h.wrote.0 w.0, w.1 ∙ h.wrote.1);
-  together = ap (λ x. (h.written ++ pending) ++ x) is ∙ flushed_text h.written pending text h.together;
-}
-
-pub broken : {W : Type 0} (held : W → Option (List ℕ)) (failures : W → ℕ) (old mid new : W) (pending text rest all : List ℕ) → Holds held failures old mid pending text → all ≡ text ++ rest → Broke held failures mid new pending → Broke held failures old new all
-broken held failures old mid new pending text rest all h cut w =
-    let parts : all ≡ (h.written ++ w.0.0) ++ (w.0.1 ++ rest) =
-    cut ∙ ap (λ x. x ++ rest) (sym h.together ∙ ap (λ x. h.written ++ x) w.0.2) ∙ ap (λ x. x ++ rest) (sym (append_assoc h.written w.0.0 w.0.1)) ∙ append_assoc (h.written ++ w.0.0) w.0.1 rest in
-    ((h.written ++ w.0.0, w.0.1 ++ rest, parts, Appends-trans (held old) (held mid) (held new) h.written w.0.0 h.wrote.0 w.0.3), w.1 ∙ ap (λ n. after_more n 1) h.wrote.1)
-
--- ---- the ends of the walk
-
-module _ {W : Type 0} (held : W → Option (List ℕ)) (failures : W → ℕ) (old mid new : W) (bytes : List ℕ) (pending : List ℕ) (at count : ℕ) where
-  pub stops_here : (left : List ℕ) → IsBytes bytes → SoFar held failures old new bytes pending at count → left ≡ pending → Stops held failures old new bytes left NoMemory
-  stops_here left fits s is =
-      let w = goes_whole held failures old new bytes pending at count fits s in
-      let h = s.holds in
-      (w.ds, w.end, w.walk, lines s.done, w.rest, w.cut, record { written = h.written; wrote = h.wrote; together = ap (λ x. h.written ++ x) is ∙ h.together })
-
-  pub breaks_here : (left : List ℕ) → IsBytes bytes → SoFar held failures old mid bytes pending at count → Broke held failures mid new pending → Stops held failures old new bytes left Unwritten
-  breaks_here left fits s b =
-      let w = goes_whole held failures old mid bytes pending at count fits s in
-      (w.ds, w.end, w.walk, broken held failures old mid new pending (lines s.done) w.rest (lines w.ds) s.holds w.cut b)
-
-  pub flushed_on : (none : List ℕ) → SoFar held failures old mid bytes pending at count → Wrote held failures mid new pending → none ≡ [] → SoFar held failures old new bytes none at count
-  flushed_on none s w is = record {
-    done = s.done;
-    joined = s.joined;
-    inside = s.inside;
-    counted = s.counted;
-    few = s.few;
-    holds = flushed held failures old mid new pending none (lines s.done) s.holds w is;
-  }
-
-  pub walks_failed : (fault : told.Fault) → SoFar held failures old new bytes pending at count → Tells count (frame_fault at (drop at bytes)) fault → ¬ (fault.kind ≡ kinds.NoMemory)
-      → Walks held failures old new bytes pending (record { count = count; fault = Some fault })
-  walks_failed fault s tells other = fails_as (frame_fault at (drop at bytes)) refl tells
-    where
-      fails_as : (o : Option Fault) → frame_fault at (drop at bytes) ≡ o → Tells count o fault → Walks held failures old new bytes pending (record { count = count; fault = Some fault })
-      fails_as None is tells = absurd (other tells.kind)
-      fails_as (Some f) is (inl want) = absurd (other want.kind)
-      fails_as (Some f) is (inr h) =
-          let c = s.counted in
-          (s.done, Some f, failed held failures old new bytes pending at count f s is, record { count = c; fault = ap (λ (x : Fault). Some x) (sym h.same); number = h.document ∙ c }, s.holds)
-
--- ---- the last write
-
-module _ {W : Type 0} (held : W → Option (List ℕ)) (failures : W → ℕ) (old mid new : W) (bytes : List ℕ) (pending : List ℕ) where
-  pub walks_flushed : (walk : Walk) → Walks held failures old mid bytes pending walk → Wrote held failures mid new pending → Walks held failures old new bytes [] walk
-  walks_flushed walk w wrote = (w.0, w.1, w.2, w.3, flushed held failures old mid new pending [] (lines w.0) w.4 wrote refl)
-
-  pub walks_broken : (walk : Walk) → Walks held failures old mid bytes pending walk → Broke held failures mid new pending → Stops held failures old new bytes [] Unwritten
-  walks_broken walk w b = (w.0, w.1, w.2, broken held failures old mid new pending (lines w.0) [] (lines w.0) w.4 (sym (append-nil (lines w.0))) b)
-
-  pub stops_flushed : Stops held failures old mid bytes pending NoMemory → Wrote held failures mid new pending → Stops held failures old new bytes [] NoMemory
-  stops_flushed w wrote = (w.0, w.1, w.2, w.3, w.4, w.5, flushed held failures old mid new pending [] w.3 w.6 wrote refl)
-
-  pub stops_broken : Stops held failures old mid bytes pending NoMemory → Broke held failures mid new pending → Stops held failures old new bytes [] Unwritten
-  stops_broken w b = (w.0, w.1, w.2, broken held failures old mid new pending w.3 w.4 (lines w.0) w.6 w.5 b)
+        by_read : (f : ReadFault) → EndedBy (faults.Read f) r → CutShort (left mid) (left new) room f → (f ≡ reads.Device → failures new ≡ after_more (failures mid) 1) → (¬ (f ≡ reads.Device) → failures new ≡ failures mid)
+            → (f ≡ reads.TooManyTurns → calls new ≡ after_more (calls mid) turns)
+            → MatchResult r (λ e. Walks left calls failures old new held out_failures out_old out_mid (record { count = count; ending = e })) (λ st. Stops left failures old new held out_failures out_old out_mid st)
+        by_read reads.Device by cut device well many = rw by (ends reads.Device (λ e. absurd cc) cut device well many)
+        by_read reads.TooLong by cut device well many = rw by (ends reads.TooLong (λ e. absurd cc) cut device well many)
+        by_read reads.TooManyTurns by cut device well many = rw by (ends reads.TooManyTurns (λ e. absurd cc) cut device well many)
+        by_read reads.NoMemory by cut device well many = rw by starves
+    ends_by new count faults.Failed r same by other frame cut device well many = absurd (other refl)

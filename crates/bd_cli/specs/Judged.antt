@@ -1,10 +1,11 @@
 -- What `check` shows of an input.
-use Rattle.std.specs.Prelude.{◌≡◌, ℕ, zero, suc, List, [], ◌∷◌, ◌++◌, length, codes, decimal, Option, Some, None, is_some, Result, Ok, Err}
+use Rattle.std.specs.Prelude.{◌≡◌, ℕ, zero, suc, List, [], ◌∷◌, ◌++◌, length, codes, decimal, Option, Some, None, is_some}
 use Rattle.std.specs.List.{count_by}
 use Rattle.bd_bson.specs.Fault.{Fault}
+use Rattle.bd_bson.specs.Stream.{AreFrames, IsCut}
 use Rattle.bd_bson.specs.Verdicts.{verdicts}
 use Rattle.bd_bson.specs.declared.reading.ReadFault.{ReadFault}
-use Rattle.bd_cli.specs.Shown.{Shown, fault_text, read_words, shown_refusal}
+use Rattle.bd_cli.specs.Shown.{Shown, fault_text, shown_unread}
 use Rattle.bd_cli.specs.declared.status.Status.{Status}
 use Rattle.bd_cli.specs.declared.status.Status.TheVariants.{Done, Failed}
 
@@ -33,7 +34,10 @@ verdicts_status (suc n) = Failed
 abbrev pub shown_verdicts : List (Option Fault) → Shown
 shown_verdicts vs = record { out = verdict_lines 0 vs; err = verdicts_line (length vs) (faulty vs); status = verdicts_status (faulty vs) }
 
--- what `check` shows of an input: of its bytes, or of the fault that ended the reading
-abbrev pub IsJudged : Result (List ℕ) ReadFault → Shown → Type 0
-IsJudged (Ok bytes) shown = shown ≡ shown_verdicts (verdicts bytes)
-IsJudged (Err fault) shown = shown ≡ shown_refusal (read_words fault)
+-- What `check` shows of the bytes of an input: of all of them, or of those before a read that failed. Then they are
+-- documents by their lengths, and the beginning of one more.
+abbrev pub IsJudged : List ℕ → Option ReadFault → Shown → Type 0
+IsJudged bytes None shown = shown ≡ shown_verdicts (verdicts bytes)
+IsJudged bytes (Some fault) shown =
+    (frames : List (List ℕ)) × (front : List ℕ) × (part : List ℕ) × AreFrames frames front × IsCut part × (bytes ≡ front ++ part)
+    × (shown ≡ shown_unread (verdict_lines 0 (verdicts front)) fault (verdicts_line (length (verdicts front)) (faulty (verdicts front))))

@@ -3,6 +3,7 @@ pub mod AnswerLaws
 pub mod CommandLine
 pub mod Equality
 pub mod Found
+pub mod Holding
 pub mod Judged
 pub mod Judging
 pub mod QueryText

@@ -1,6 +1,9 @@
 -- How a run ended: what its devices gave and took.
-use Rattle.std.specs.Prelude.{◌≡◌, ◌≤◌, ◌<◌, ◌⊎◌, ℕ, List, length, codes, ℤ, Option, IfSome, Result, Ok, Err, string_bytes}
-use Rattle.std.specs.Io.KnownBytes.{Appends, IsAtEnd}
+use Rattle.std.specs.Prelude.{◌≡◌, ◌≤◌, ◌<◌, ◌⊎◌, ◌+◌, ℕ, List, [], ◌∷◌, ◌++◌, length, codes, ℤ, Option, Some, None, IfSome, Result, Ok, Err, string_bytes}
+use Rattle.std.specs.Io.KnownBytes.{Appends, Consumes, IsAtEnd}
+use Rattle.bd_value.specs.Tree.{Doc}
+use Rattle.bd_bson.specs.Dump.{AreJoined}
+use Rattle.bd_bson.specs.Stream.{IsFrontOf}
 use Rattle.bd_bson.specs.Counts.{after_more}
 use Rattle.bd_bson.specs.Devices.{AppendsFront, LosesAtLeast}
 use Rattle.bd_bson.specs.declared.reading.ReadFault.{ReadFault}
@@ -8,7 +11,7 @@ use Rattle.bd_bson.specs.declared.reading.ReadFault.TheVariants as reads
 use Rattle.bd_cli.specs.Found.{IsFound}
 use Rattle.bd_cli.specs.Judged.{IsJudged}
 use Rattle.bd_cli.specs.QueryText.{IsQuery, IsNoQuery}
-use Rattle.bd_cli.specs.Shown.{Shown, IsShown, error_line}
+use Rattle.bd_cli.specs.Shown.{Shown, IsShown, lines, error_line}
 use Rattle.bd_cli.specs.declared.order.Order.{Order}
 use Rattle.bd_cli.specs.declared.order.Order.TheVariants as orders
 use Rattle.bd_cli.specs.declared.status.Status.{Status}
@@ -25,6 +28,17 @@ WasRead left calls failures old new (Err reads.TooLong) = IfSome (left old) (λ 
 WasRead left calls failures old new (Err reads.TooManyTurns) =
     LosesAtLeast 4294967296 (left old) (left new) × (calls new ≡ after_more (calls old) 4294967296) × (failures new ≡ failures old)
 WasRead left calls failures old new (Err reads.NoMemory) = failures new ≡ failures old
+
+-- The reader's bytes are these; or it gave these, and no more of them were read for this reason. An input is read at most
+-- to 4,294,967,295 bytes.
+abbrev pub WasStreamed : {R : Type 0} → (R → Option (List ℕ)) → (R → ℕ) → (R → ℕ) → R → R → List ℕ → Option ReadFault → Type 0
+WasStreamed left calls failures old new bytes None = IfSome (left old) (λ xs. bytes ≡ xs) × (failures new ≡ failures old)
+WasStreamed left calls failures old new bytes (Some reads.Device) = Consumes (left old) (left new) bytes × (failures new ≡ after_more (failures old) 1)
+WasStreamed left calls failures old new bytes (Some reads.TooLong) =
+    (last : List ℕ) × Consumes (left old) (left new) (bytes ++ last) × (length bytes ≤ 4294967295) × (4294967295 < length bytes + length last) × (failures new ≡ failures old)
+WasStreamed left calls failures old new bytes (Some reads.TooManyTurns) =
+    Consumes (left old) (left new) bytes × (calls new ≡ after_more (calls old) 4294967296) × (failures new ≡ failures old)
+WasStreamed left calls failures old new bytes (Some reads.NoMemory) = ⊥
 
 -- the writer took all of the text
 abbrev pub Wrote : {W : Type 0} → (W → Option (List ℕ)) → (W → ℕ) → W → W → List ℕ → Type 0
@@ -56,16 +70,34 @@ Ran out_held out_failures out_old out_new err_held err_failures err_old err_new 
     Printed out_held out_failures out_old out_new err_held err_failures err_old err_new shown status
     ⊎ (WroteFront out_held out_failures out_old out_new shown.out × Told err_held err_failures err_old err_new (error_line (codes "no memory")) Failed status)
 
--- `dump` read an input, whole or to a fault, and showed what is to be shown of it
+-- `dump` showed all that is to be shown of an input
+abbrev pub DumpedAll : {R O E : Type 0} → (R → Option (List ℕ)) → (R → ℕ) → (R → ℕ) → R → R → (O → Option (List ℕ)) → (O → ℕ) → O → O → (E → Option (List ℕ)) → (E → ℕ) → E → E → Status → Type 0
+DumpedAll left calls failures old new out_held out_failures out_old out_new err_held err_failures err_old err_new status =
+    (bytes : List ℕ) × (fault : Option ReadFault) × (shown : Shown) × WasStreamed left calls failures old new bytes fault × IsShown bytes fault shown
+    × Wrote out_held out_failures out_old out_new shown.out × Told err_held err_failures err_old err_new shown.err shown.status status
+
+-- The reader gave these documents and no byte more, and standard output broke in the line of the last of them.
+abbrev pub BrokeAt : {R O : Type 0} → (R → Option (List ℕ)) → (R → ℕ) → R → R → (O → Option (List ℕ)) → (O → ℕ) → O → O → Type 0
+BrokeAt {O = O} left failures old new out_held out_failures out_old out_new =
+    (ds : List Doc) × (d : Doc) × (given : List ℕ) × AreJoined (ds ++ d ∷ []) given × Consumes (left old) (left new) given × (failures new ≡ failures old)
+    × (mid : O) × Wrote out_held out_failures out_old mid (lines ds) × Broke out_held out_failures mid out_new (lines (d ∷ []))
+
+-- standard output has the lines of documents that stand in front of the reader's bytes
+abbrev pub StarvedAt : {R O : Type 0} → (R → Option (List ℕ)) → R → (O → Option (List ℕ)) → (O → ℕ) → O → O → Type 0
+StarvedAt left old out_held out_failures out_old out_new =
+    (ds : List Doc) × (given : List ℕ) × AreJoined ds given × IfSome (left old) (IsFrontOf given) × Wrote out_held out_failures out_old out_new (lines ds)
+
+-- `dump` showed all that is to be shown of an input; or standard output broke, or memory ran out, and standard error tells so.
 abbrev pub Dumped : {R O E : Type 0} → (R → Option (List ℕ)) → (R → ℕ) → (R → ℕ) → R → R → (O → Option (List ℕ)) → (O → ℕ) → O → O → (E → Option (List ℕ)) → (E → ℕ) → E → E → Status → Type 0
 Dumped left calls failures old new out_held out_failures out_old out_new err_held err_failures err_old err_new status =
-    (input : Result (List ℕ) ReadFault) × (shown : Shown) × WasRead left calls failures old new input × IsShown input shown
-    × Ran out_held out_failures out_old out_new err_held err_failures err_old err_new shown status
+    DumpedAll left calls failures old new out_held out_failures out_old out_new err_held err_failures err_old err_new status
+    ⊎ (BrokeAt left failures old new out_held out_failures out_old out_new × Told err_held err_failures err_old err_new (error_line (codes "cannot write")) Failed status)
+    ⊎ (StarvedAt left old out_held out_failures out_old out_new × Told err_held err_failures err_old err_new (error_line (codes "no memory")) Failed status)
 
--- `check` read an input, whole or to a fault, and showed what is to be shown of it
+-- `check` read an input, whole or to a read that failed, and showed what is to be shown of it
 abbrev pub Checked : {R O E : Type 0} → (R → Option (List ℕ)) → (R → ℕ) → (R → ℕ) → R → R → (O → Option (List ℕ)) → (O → ℕ) → O → O → (E → Option (List ℕ)) → (E → ℕ) → E → E → Status → Type 0
 Checked left calls failures old new out_held out_failures out_old out_new err_held err_failures err_old err_new status =
-    (input : Result (List ℕ) ReadFault) × (shown : Shown) × WasRead left calls failures old new input × IsJudged input shown
+    (bytes : List ℕ) × (fault : Option ReadFault) × (shown : Shown) × WasStreamed left calls failures old new bytes fault × IsJudged bytes fault shown
     × Ran out_held out_failures out_old out_new err_held err_failures err_old err_new shown status
 
 -- the reader was read as told for a query, and for another text it was left as it was

@@ -1,9 +1,10 @@
 -- What `dump` shows of an input.
-use Rattle.std.specs.Prelude.{◌≡◌, ℕ, List, [], ◌∷◌, ◌++◌, length, codes, decimal, Option, Some, None, Result, Ok, Err}
+use Rattle.std.specs.Prelude.{◌≡◌, ℕ, List, [], ◌∷◌, ◌++◌, length, codes, decimal, Option, Some, None}
 use Rattle.std.specs.List.{join_with_byte}
 use Rattle.bd_value.specs.Tree.{Doc, doc, fields_of}
 use Rattle.bd_bson.specs.Fault.{Fault, fault_words}
-use Rattle.bd_bson.specs.Dump.{IsWalk}
+use Rattle.bd_bson.specs.Dump.{AreJoined, IsWalk}
+use Rattle.bd_bson.specs.Stream.{IsCut}
 use Rattle.bd_bson.specs.declared.reading.ReadFault.{ReadFault}
 use Rattle.bd_bson.specs.declared.reading.ReadFault.TheVariants as reads
 use Rattle.bd_extjson.specs.Text.{text, quoted}
@@ -56,7 +57,14 @@ read_words reads.NoMemory = codes "no memory"
 abbrev pub shown_refusal : List ℕ → Shown
 shown_refusal words = record { out = []; err = error_line words; status = Failed }
 
--- what `dump` shows of an input: of its bytes, or of the fault that ended the reading
-abbrev pub IsShown : Result (List ℕ) ReadFault → Shown → Type 0
-IsShown (Ok bytes) shown = (ds : List Doc) × (end : Option Fault) × IsWalk ds end bytes × (shown ≡ shown_walk ds end)
-IsShown (Err fault) shown = shown ≡ shown_refusal (read_words fault)
+-- what is shown where an input was read to a read that failed: what stands before, the fault, and the counts
+abbrev pub shown_unread : List ℕ → ReadFault → List ℕ → Shown
+shown_unread out fault counts = record { out = out; err = error_line (read_words fault) ++ counts; status = Failed }
+
+-- What `dump` shows of the bytes of an input: of all of them, or of those before a read that failed. Then they are whole
+-- documents, and the beginning of one more.
+abbrev pub IsShown : List ℕ → Option ReadFault → Shown → Type 0
+IsShown bytes None shown = (ds : List Doc) × (end : Option Fault) × IsWalk ds end bytes × (shown ≡ shown_walk ds end)
+IsShown bytes (Some fault) shown =
+    (ds : List Doc) × (front : List ℕ) × (part : List ℕ) × AreJoined ds front × IsCut part × (bytes ≡ front ++ part)
+    × (shown ≡ shown_unread (lines ds) fault (count_line (length ds)))

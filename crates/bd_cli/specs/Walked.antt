@@ -1,32 +1,54 @@
--- The walk over a dump, which gathers the documents' lines.
-use Rattle.std.specs.Prelude.{◌≡◌, ℕ, List, ◌++◌, length, Option, option_map, IfSome}
+-- The walk of `dump` over the documents of an input.
+use Rattle.std.specs.Prelude.{◌≡◌, ℕ, List, ◌++◌, length, Option, Some, None, Result, Ok, Err}
 use Rattle.bd_value.specs.Tree.{Doc}
-use Rattle.bd_bson.specs.Fault.{Fault}
-use Rattle.bd_bson.specs.Dump.{IsWalk}
+use Rattle.bd_bson.specs.Dump.{AreJoined, IsWalk}
+use Rattle.bd_bson.specs.Stream.{IsCut}
 use Rattle.bd_bson.specs.Told.{fault_view}
-use Rattle.bd_cli.specs.Ran.{Wrote, Broke}
-use Rattle.bd_cli.specs.Shown.{lines}
+use Rattle.bd_cli.specs.Ran.{WasStreamed, Wrote, BrokeAt, StarvedAt}
+use Rattle.bd_bson.specs.declared.reading.ReadFault.TheVariants as reads
+use Rattle.bd_bson.specs.declared.doc_buffer.DocFault.{DocFault}
+use Rattle.bd_bson.specs.declared.doc_buffer.DocFault.TheVariants as faults
+use Rattle.bd_cli.specs.Shown.{lines, error_line, fault_text, count_line, read_words}
+use Rattle.bd_cli.specs.declared.status.Status.{Status}
+use Rattle.bd_cli.specs.declared.status.Status.TheVariants.{Done, Failed}
+use Rattle.bd_cli.specs.declared.dumping.Ending.{Ending}
+use Rattle.bd_cli.specs.declared.dumping.Ending.TheVariants as endings
 use Rattle.bd_cli.specs.declared.dumping.Walk.{Walk}
-use Rattle.bd_cli.specs.declared.dumping.Stopped.{Stopped}
-use Rattle.bd_cli.specs.declared.dumping.Stopped.TheVariants.{NoMemory, Unwritten}
+use Rattle.bd_cli.specs.declared.lines.Stopped.{Stopped}
+use Rattle.bd_cli.specs.declared.lines.Stopped.TheVariants.{NoMemory, Unwritten}
 
--- what the walk tells of the documents and of the fault behind them
-pub record Counts (walk : Walk) (ds : List Doc) (end : Option Fault) : Type 0 where
-  pub count : walk.count ≡ length ds
-  pub fault : option_map fault_view walk.fault ≡ end
-  pub number : IfSome walk.fault (λ f. f.document ≡ length ds)
+-- what is behind the documents
+abbrev pub Ends : {R : Type 0} → (R → Option (List ℕ)) → (R → ℕ) → (R → ℕ) → R → R → List Doc → Ending → Type 0
+Ends left calls failures old new ds endings.Whole = (bytes : List ℕ) × WasStreamed left calls failures old new bytes None × IsWalk ds None bytes
+Ends left calls failures old new ds (endings.Faulty f) =
+    (bytes : List ℕ) × WasStreamed left calls failures old new bytes None × IsWalk ds (Some (fault_view f)) bytes × (f.document ≡ length ds)
+Ends left calls failures old new ds (endings.Unread f) =
+    (front : List ℕ) × (part : List ℕ) × WasStreamed left calls failures old new (front ++ part) (Some f) × AreJoined ds front × IsCut part
 
--- The writer took some of the lines of the documents in front, and the rest of these lines is still to be written.
-pub record Holds {W : Type 0} (held : W → Option (List ℕ)) (failures : W → ℕ) (old new : W) (pending text : List ℕ) : Type 0 where
-  pub written : List ℕ
-  pub wrote : Wrote held failures old new written
-  pub together : written ++ pending ≡ text
+-- the documents of the walk, and their lines, which the writer took
+abbrev pub Walks : {R O : Type 0} → (R → Option (List ℕ)) → (R → ℕ) → (R → ℕ) → R → R → (O → Option (List ℕ)) → (O → ℕ) → O → O → Walk → Type 0
+Walks left calls failures old new held out_failures out_old out_new walk =
+    (ds : List Doc) × (walk.count ≡ length ds) × Ends left calls failures old new ds walk.ending × Wrote held out_failures out_old out_new (lines ds)
 
--- the walk over all of the bytes, with its lines taken or still to be written
-abbrev pub Walks : {W : Type 0} → (W → Option (List ℕ)) → (W → ℕ) → W → W → List ℕ → List ℕ → Walk → Type 0
-Walks held failures old new bytes pending walk = (ds : List Doc) × (end : Option Fault) × IsWalk ds end bytes × Counts walk ds end × Holds held failures old new pending (lines ds)
+-- the walk was stopped
+abbrev pub Stops : {R O : Type 0} → (R → Option (List ℕ)) → (R → ℕ) → R → R → (O → Option (List ℕ)) → (O → ℕ) → O → O → Stopped → Type 0
+Stops left failures old new held out_failures out_old out_new NoMemory = StarvedAt left old held out_failures out_old out_new
+Stops left failures old new held out_failures out_old out_new Unwritten = BrokeAt left failures old new held out_failures out_old out_new
 
--- the walk was stopped: the lines of some documents in front were taken or are still to be written, or the writer broke
-abbrev pub Stops : {W : Type 0} → (W → Option (List ℕ)) → (W → ℕ) → W → W → List ℕ → List ℕ → Stopped → Type 0
-Stops held failures old new bytes pending NoMemory = (ds : List Doc) × (end : Option Fault) × IsWalk ds end bytes × (front : List ℕ) × (rest : List ℕ) × (lines ds ≡ front ++ rest) × Holds held failures old new pending front
-Stops held failures old new bytes pending Unwritten = (ds : List Doc) × (end : Option Fault) × IsWalk ds end bytes × Broke held failures old new (lines ds)
+-- what a fault of reading is for the walk
+abbrev pub EndedBy : DocFault → Result Ending Stopped → Type 0
+EndedBy (faults.Frame f) r = r ≡ Ok (endings.Faulty f)
+EndedBy (faults.Read reads.NoMemory) r = r ≡ Err NoMemory
+EndedBy (faults.Read f) r = r ≡ Ok (endings.Unread f)
+EndedBy faults.Failed r = Unit {0}
+
+-- what standard error is to tell of a walk, and the status
+abbrev pub walk_told : ℕ → Ending → List ℕ
+walk_told count endings.Whole = count_line count
+walk_told count (endings.Faulty f) = error_line (fault_text f.document (fault_view f)) ++ count_line count
+walk_told count (endings.Unread f) = error_line (read_words f) ++ count_line count
+
+abbrev pub told_status : Ending → Status
+told_status endings.Whole = Done
+told_status (endings.Faulty f) = Failed
+told_status (endings.Unread f) = Failed

@@ -157,11 +157,22 @@ fn ends_at_a_faulty_length(rt: HostRuntime) -> Result<(), Fail> {
 }
 
 #[test]
-fn tells_a_read_that_fails_alone(rt: HostRuntime) -> Result<(), Fail> {
+fn tells_a_read_that_fails(rt: HostRuntime) -> Result<(), Fail> {
     let alloc = rt.alloc();
-    let mut failing = ample(&[BAD, ONE], "", "bsonfind: cannot read\n", Status::Failed);
-    for call in 1..4 {
+    let line = "document 0, byte 7, path \"s\": bad string length\n";
+    // Of seven bytes a read, each document takes three reads.
+    let rows = [
+        (1, "", "bsonfind: cannot read\n0 documents, 0 faulty\n"),
+        (3, "", "bsonfind: cannot read\n0 documents, 0 faulty\n"),
+        (4, line, "bsonfind: cannot read\n1 documents, 1 faulty\n"),
+        (6, line, "bsonfind: cannot read\n1 documents, 1 faulty\n"),
+        (7, line, "bsonfind: cannot read\n2 documents, 1 faulty\n"),
+    ];
+    let mut failing = ample(&[BAD, ONE], "", "", Status::Failed);
+    for (call, out, err) in rows {
         failing.failing_read = Some(call);
+        failing.out = out;
+        failing.err = err;
         shows(&rt, alloc, failing)?;
     }
     Ok(())

@@ -1,40 +1,33 @@
-//! The documents of a dump judged, with a line for each that has a fault.
+//! The documents of an input judged, with a line for each that has a fault.
 
-ghost use Rattle.std.specs.Prelude.{◌≡◌, ◌≤◌, ◌+◌, ◌++◌, ℕ, IfOk, IfErr, OnOk, IfSome, option_map, length};
+ghost use Rattle.std.specs.Prelude.{◌≡◌, ◌≤◌, ◌<◌, ◌+◌, IfOk, IfErr, OnOk, Some, None, Err, IfSome, option_map, length};
 ghost use Rattle.bd_bson.specs.FirstFault.{first_fault};
 ghost use Rattle.bd_bson.specs.Told.{fault_view};
-ghost use Rattle.bd_bson.specs.Verdicts.{verdicts};
-ghost use Rattle.bd_cli.specs.Judged.{verdict_line, verdict_lines};
-ghost use Rattle.bd_cli.specs.Judging.{Finds, IsNextVerdict};
-ghost use Rattle.bd_cli.specs.Ran.{Wrote};
-ghost use Rattle.bd_cli.specs.Within.{StopsWithin};
+ghost use Rattle.bd_cli.specs.Judged.{verdict_line};
+ghost use Rattle.bd_cli.specs.Judging.{Judges, JudgesUpTo, FoundLast};
+ghost use Rattle.bd_cli.specs.Ran.{Wrote, Broke};
 
-use crate::dumping::{GATHERED, Stopped, flush, is_want_of_memory};
+use crate::dumping::{Ending, ending_of};
+use crate::limits::LIMITS;
+use crate::lines::{Stopped, is_want_of_memory};
 use crate::messages::write_fault;
-use bd_bson::{Fault, Output, check_document, next_frame};
+use bd_bson::{DocBuffer, Fault, Input, Output, ReadFault, check_document, write_all};
 use bd_value::NoMemory;
 use std::alloc::{AllocError, Global};
 
-/// What is found of a document.
-#[derive(Debug, Drop)]
-struct Verdict {
-    /// Its first fault.
-    fault: Option<Fault>,
-    /// The place where the next document stands; the end of the bytes, where the fault is of the document's length.
-    after: usize,
-}
-
-/// How many documents were judged.
+/// How many documents of an input were judged.
 #[derive(Clone, Copy, Debug, PartialEq, Eq)]
 pub struct Findings {
     /// All of them.
     pub documents: u32,
     /// Those that have a fault.
     pub faulty: u32,
+    /// Why no more of the input was read.
+    pub unread: Option<ReadFault>,
 }
 
-/// The first fault of the document that all of the bytes are to be. It begins at the place `base` of a dump and has that
-/// number in it.
+/// The first fault of the document that all of the bytes are to be. It begins at the place `base` of the input and has
+/// that number in it.
 fn judge(alloc: Global, bytes: &[u8], base: u64, number: u32) -> Result<Option<Fault>, NoMemory>
     requires { base + length bytes.now ≤ 4294967295 }
     ensures first { IfOk result (λ o. first_fault base bytes.now ≡ option_map fault_view o) }
@@ -51,71 +44,76 @@ fn judge(alloc: Global, bytes: &[u8], base: u64, number: u32) -> Result<Option<F
     }
 }
 
-/// The verdict on the document at the place `at` of a dump, which has that number; none at the end.
-fn next_verdict(
-    alloc: Global,
-    bytes: &[u8],
-    at: usize,
-    number: u32,
-) -> Result<Option<Verdict>, NoMemory>
-    requires inside { at ≤ length bytes.now }
-    requires short { length bytes.now ≤ 4294967295 }
-    ensures { IfOk result (IsNextVerdict bytes.now at number) }
+/// Writes the line of a document that has this fault. `line` is room that documents share.
+fn write_verdict<O: Output>(fault: &Fault, line: &mut Vec<u8>, out: &mut O) -> Result<(), Stopped>
+    ensures wrote { OnOk result (Wrote O.held O.failures out.old out.new (verdict_line fault.now.document (Some (fault_view fault.now)))) }
+    ensures starved { result ≡ Err Stopped.NoMemory → out.new ≡ out.old }
+    ensures broke { result ≡ Err Stopped.Unwritten → Broke O.held O.failures out.old out.new (verdict_line fault.now.document (Some (fault_view fault.now))) }
 {
-    match next_frame(alloc, bytes, at, number) {
-        Ok(None) => Ok(None),
-        Ok(Some(frame)) => {
-            let after = at + frame.length;
-            let fault = judge(alloc, &bytes[at..after], at as u64, number)?;
-            Ok(Some(Verdict { fault, after }))
-        }
-        Err(fault) => Ok(Some(Verdict {
-            fault: Some(fault),
-            after: bytes.len(),
-        })),
-    }
-}
-
-/// Appends the line of a document that has a fault.
-fn write_verdict(verdict: &Verdict, lines: &mut Vec<u8>) -> Result<(), NoMemory>
-    ensures { (number : ℕ) → IfSome verdict.now.fault (λ f. f.document ≡ number) →
-        OnOk result (lines.new.items ≡ lines.old.items ++ verdict_line number (option_map fault_view verdict.now.fault)) }
-{
-    if let Some(fault) = &verdict.fault {
-        write_fault(fault, lines)?;
-        lines.push(b'\n')?;
-    }
+    line.clear();
+    write_fault(fault, line)?;
+    line.extend_from_slice(b"\n")?;
+    write_all(out, line)?;
     Ok(())
 }
 
-/// Judges the documents of a dump, and writes a line for each that has a fault. No tree is built.
-///
-/// Where memory runs out, what was written is a front of the lines.
-pub fn write_verdicts<O: Output>(
-    alloc: Global,
-    bytes: &[u8],
+/// Ends the judging behind so many documents, with what is behind them.
+fn finish<O: Output>(
+    ending: Ending,
+    documents: u32,
+    faulty: u32,
+    line: &mut Vec<u8>,
     out: &mut O,
 ) -> Result<Findings, Stopped>
-    requires { length bytes.now ≤ 4294967295 }
-    ensures wrote { OnOk result (Wrote O.held O.failures out.old out.new (verdict_lines 0 (verdicts bytes.now))) }
-    ensures finds { IfOk result (λ findings. Finds findings bytes.now) }
-    ensures stops { IfErr result (StopsWithin O.held O.failures out.old out.new (verdict_lines 0 (verdicts bytes.now))) }
+    requires few { (documents < 4294967295) × (faulty ≤ documents) }
+    ensures { FoundLast ending documents faulty O.held O.failures out.old out.new result }
 {
-    let mut pending = Vec::new(alloc);
-    let mut findings = Findings {
-        documents: 0,
-        faulty: 0,
-    };
-    let mut at = 0;
-    while let Some(verdict) = next_verdict(alloc, bytes, at, findings.documents)? {
-        write_verdict(&verdict, &mut pending)?;
-        findings.documents += 1;
-        findings.faulty += u32::from(verdict.fault.is_some());
-        at = verdict.after;
-        if pending.len() >= GATHERED {
-            flush(&mut pending, out)?;
+    match ending {
+        Ending::Whole => Ok(Findings {
+            documents,
+            faulty,
+            unread: None,
+        }),
+        Ending::Faulty(fault) => {
+            write_verdict(&fault, line, out)?;
+            Ok(Findings {
+                documents: documents + 1,
+                faulty: faulty + 1,
+                unread: None,
+            })
+        }
+        Ending::Unread(fault) => Ok(Findings {
+            documents,
+            faulty,
+            unread: Some(fault),
+        }),
+    }
+}
+
+/// Judges the documents of an input, and writes a line for each that has a fault. No tree is built.
+pub fn write_verdicts<R: Input, O: Output>(
+    alloc: Global,
+    input: &mut R,
+    out: &mut O,
+) -> Result<Findings, Stopped>
+    ensures judges { IfOk result (Judges R.left R.calls R.failures input.old input.new O.held O.failures out.old out.new) }
+    ensures stops { IfErr result (JudgesUpTo R.left R.failures input.old input.new O.held O.failures out.old out.new) }
+{
+    let mut documents = DocBuffer::new(alloc, LIMITS);
+    let mut line = Vec::new(alloc);
+    let mut faulty = 0;
+    loop {
+        let base = documents.place();
+        let count = documents.number();
+        match documents.read_next(input) {
+            Ok(true) => {
+                if let Some(fault) = judge(alloc, documents.bytes(), base, count)? {
+                    write_verdict(&fault, &mut line, out)?;
+                    faulty += 1;
+                }
+            }
+            Ok(false) => return finish(Ending::Whole, count, faulty, &mut line, out),
+            Err(fault) => return finish(ending_of(fault)?, count, faulty, &mut line, out),
         }
     }
-    flush(&mut pending, out)?;
-    Ok(findings)
 }

@@ -1,142 +1,115 @@
-//! The documents of a dump, one a line.
+//! The documents of an input, one a line.
 
-ghost use Rattle.std.specs.Prelude.{◌≡◌, ◌≤◌, ◌++◌, ◌∷◌, [], IfOk, IfErr, OnOk, OnErr, IsTrue, ◌↔◌, length};
-ghost use Rattle.bd_bson.specs.declared.fault.FaultKind.TheVariants as kinds;
-ghost use Rattle.bd_extjson.specs.Text.{text};
+ghost use Rattle.std.specs.Prelude.{◌≡◌, ◌≤◌, ◌+◌, [], ◌∷◌, IfOk, IfErr, IfSome, Some, None, Ok, Err, length};
+ghost use Rattle.bd_value.specs.Tree.{Doc};
+ghost use Rattle.bd_bson.specs.FirstFault.{first_fault};
+ghost use Rattle.bd_bson.specs.Spelling.{IsDocument};
+ghost use Rattle.bd_bson.specs.Told.{fault_view};
 ghost use Rattle.bd_cli.specs.Ran.{Wrote, Broke};
-ghost use Rattle.bd_cli.specs.Walked.{Walks, Stops};
-ghost use Rattle.bd_cli.specs.declared.dumping.Stopped.TheVariants.{NoMemory as no_memory, Unwritten};
+ghost use Rattle.bd_cli.specs.Shown.{lines};
+ghost use Rattle.bd_cli.specs.Walked.{Walks, Stops, EndedBy};
+ghost use Rattle.bd_cli.specs.declared.lines.Stopped.TheVariants.{NoMemory as no_memory, Unwritten};
 
-use bd_bson::{DeviceFault, Fault, FaultKind, Output, next_document, write_all};
-use bd_extjson::write_node;
-use bd_value::{NoMemory, Reading};
-use std::alloc::{AllocError, Global};
+use crate::limits::LIMITS;
+use crate::lines::{Stopped, is_want_of_memory, write_line};
+use bd_bson::{DocBuffer, DocFault, Fault, Input, Output, ReadFault, check_document, write_all};
+use std::alloc::Global;
 
-/// What a dump is.
+/// What is behind the documents of an input.
+#[derive(Debug, Drop)]
+pub enum Ending {
+    /// Nothing.
+    Whole,
+    /// A document that has this fault.
+    Faulty(Fault),
+    /// A document that was not read to its end.
+    Unread(ReadFault),
+}
+
+/// The documents of an input whose lines were written.
 #[derive(Debug, Drop)]
 pub struct Walk {
-    /// How many documents stand before the first fault.
+    /// How many there are.
     pub count: u32,
-    /// The first fault.
-    pub fault: Option<Fault>,
+    /// What is behind them.
+    pub ending: Ending,
 }
 
-/// Why a walk did not come to its end.
-#[derive(Debug, Clone, Copy, PartialEq, Eq)]
-pub enum Stopped {
-    /// Memory ran out.
-    NoMemory,
-    /// A write failed.
-    Unwritten,
-}
-
-impl From<AllocError> for Stopped {
-    ghost from_gives = { λ _ s. s ≡ no_memory };
-
-    fn from(_error: AllocError) -> Stopped {
-        Stopped::NoMemory
-    }
-}
-
-impl From<DeviceFault> for Stopped {
-    ghost from_gives = { λ _ s. s ≡ Unwritten };
-
-    fn from(_fault: DeviceFault) -> Stopped {
-        Stopped::Unwritten
-    }
-}
-
-/// Lines are gathered until there are so many bytes of them, and then written by one call.
-pub const GATHERED: usize = 65_536;
-
-/// Appends the line of a document. `NoMemory` leaves `out` as it was.
-pub fn write_line<N: Reading>(document: N, out: &mut Vec<u8>) -> Result<(), NoMemory>
-    ensures ok { OnOk result (out.new.items ≡ out.old.items ++ (text (N.tree document) ++ 10 ∷ [])) }
-    ensures err { OnErr result (out.new.items ≡ out.old.items) }
-{
-    let before = out.len();
-    write_node(document, out)?;
-    match out.push(b'\n') {
-        Ok(()) => Ok(()),
-        Err(error) => {
-            out.truncate(before);
-            Err(error.into())
-        }
-    }
-}
-
-pub fn is_want_of_memory(fault: &Fault) -> bool
-    ensures { IsTrue result ↔ (fault.now.kind ≡ kinds.NoMemory) }
-{
-    matches!(fault.kind, FaultKind::NoMemory)
-}
-
-/// Writes the lines that were gathered.
-pub fn flush<O: Output>(pending: &mut Vec<u8>, out: &mut O) -> Result<(), DeviceFault>
-    ensures ok { OnOk result (Wrote O.held O.failures out.old out.new pending.old.items × (pending.new.items ≡ [])) }
-    ensures err { OnErr result (Broke O.held O.failures out.old out.new pending.old.items) }
-{
-    write_all(out, pending)?;
-    pending.clear();
-    Ok(())
-}
-
-/// Gathers the lines of the documents before the first fault, and writes all but the last of them.
-fn gather<O: Output>(
+/// Writes the line of the document that all of the bytes are to be, or gives its first fault. It begins at the place
+/// `base` of the input and has that number in it. `line` is room that documents share.
+fn print_document<O: Output>(
     alloc: Global,
     bytes: &[u8],
-    pending: &mut Vec<u8>,
+    base: u64,
+    number: u32,
+    line: &mut Vec<u8>,
     out: &mut O,
-) -> Result<Walk, Stopped>
-    requires short { length bytes.now ≤ 4294967295 }
-    requires none { pending.old.items ≡ [] }
-    ensures walks { IfOk result (Walks O.held O.failures out.old out.new bytes.now pending.new.items) }
-    ensures stops { IfErr result (Stops O.held O.failures out.old out.new bytes.now pending.new.items) }
+) -> Result<Option<Fault>, Stopped>
+    requires { base + length bytes.now ≤ 4294967295 }
+    ensures printed { result ≡ Ok None → (d : Doc) × IsDocument d bytes.now × Wrote O.held O.failures out.old out.new (lines (d ∷ [])) }
+    ensures faulty { IfOk result (λ o. IfSome o (λ f. (first_fault base bytes.now ≡ Some (fault_view f)) × (f.document ≡ number) × (out.new ≡ out.old))) }
+    ensures starved { result ≡ Err Stopped.NoMemory → out.new ≡ out.old }
+    ensures broke { result ≡ Err Stopped.Unwritten → (d : Doc) × IsDocument d bytes.now × Broke O.held O.failures out.old out.new (lines (d ∷ [])) }
 {
-    let mut at = 0;
-    let mut count = 0;
-    loop {
-        match next_document(alloc, bytes, at, count) {
-            Ok(None) => return Ok(Walk { count, fault: None }),
-            Ok(Some((document, after))) => {
-                write_line(document.value(), pending)?;
-                at = after;
-                count += 1;
-            }
-            Err(fault) => {
-                if is_want_of_memory(&fault) {
-                    return Err(Stopped::NoMemory);
-                }
-                return Ok(Walk {
-                    count,
-                    fault: Some(fault),
-                });
-            }
+    match check_document(alloc, bytes, base, number) {
+        Ok(document) => {
+            line.clear();
+            write_line(document.value(), line)?;
+            write_all(out, line)?;
+            Ok(None)
         }
-        if pending.len() >= GATHERED {
-            flush(pending, out)?;
+        Err(fault) => {
+            if is_want_of_memory(&fault) {
+                return Err(Stopped::NoMemory);
+            }
+            Ok(Some(fault))
         }
     }
 }
 
-/// Writes the lines of the documents before the first fault.
-///
-/// Where memory runs out, the lines that are whole are still written.
-pub fn documents<O: Output>(alloc: Global, bytes: &[u8], out: &mut O) -> Result<Walk, Stopped>
-    requires { length bytes.now ≤ 4294967295 }
-    ensures walks { IfOk result (Walks O.held O.failures out.old out.new bytes.now []) }
-    ensures stops { IfErr result (Stops O.held O.failures out.old out.new bytes.now []) }
+/// What a fault of reading is for the walk.
+pub fn ending_of(fault: DocFault) -> Result<Ending, Stopped>
+    requires { ¬ (fault ≡ DocFault.Failed) }
+    ensures { EndedBy fault result }
 {
-    let mut pending = Vec::new(alloc);
-    match gather(alloc, bytes, &mut pending, out) {
-        Ok(walk) => {
-            flush(&mut pending, out)?;
-            Ok(walk)
+    match fault {
+        DocFault::Frame(fault) => Ok(Ending::Faulty(fault)),
+        DocFault::Read(ReadFault::NoMemory) => Err(Stopped::NoMemory),
+        DocFault::Read(fault) => Ok(Ending::Unread(fault)),
+        DocFault::Failed => unreachable!(),
+    }
+}
+
+/// Writes the lines of the documents before the first fault, each before the input is read further.
+pub fn documents<R: Input, O: Output>(
+    alloc: Global,
+    input: &mut R,
+    out: &mut O,
+) -> Result<Walk, Stopped>
+    ensures walks { IfOk result (Walks R.left R.calls R.failures input.old input.new O.held O.failures out.old out.new) }
+    ensures stops { IfErr result (Stops R.left R.failures input.old input.new O.held O.failures out.old out.new) }
+{
+    let mut documents = DocBuffer::new(alloc, LIMITS);
+    let mut line = Vec::new(alloc);
+    loop {
+        let base = documents.place();
+        let count = documents.number();
+        match documents.read_next(input) {
+            Ok(true) => {
+                let bytes = documents.bytes();
+                if let Some(fault) = print_document(alloc, bytes, base, count, &mut line, out)? {
+                    let ending = Ending::Faulty(fault);
+                    return Ok(Walk { count, ending });
+                }
+            }
+            Ok(false) => {
+                let ending = Ending::Whole;
+                return Ok(Walk { count, ending });
+            }
+            Err(fault) => {
+                let ending = ending_of(fault)?;
+                return Ok(Walk { count, ending });
+            }
         }
-        Err(Stopped::NoMemory) => {
-            flush(&mut pending, out)?;
-            Err(Stopped::NoMemory)
-        }
-        Err(Stopped::Unwritten) => Err(Stopped::Unwritten),
     }
 }

@@ -10,11 +10,11 @@ ghost use Rattle.bd_cli.specs.Ran.{Found, Ran, Told};
 ghost use Rattle.bd_cli.specs.Shown.{Shown, error_line, fault_text};
 ghost use Rattle.bd_cli.specs.declared.status.Status.TheVariants.{Done, Failed};
 
-use crate::dump_command::{LIMITS, tell_read_fault};
-use crate::dumping::{Stopped, is_want_of_memory};
 use crate::finding::first_find;
 use crate::found_documents::write_documents;
-use crate::messages::{tell, tell_no_memory, tell_unwritten, write_fault};
+use crate::limits::LIMITS;
+use crate::lines::{Stopped, is_want_of_memory};
+use crate::messages::{tell, tell_no_memory, tell_read_fault, tell_unwritten, write_fault};
 use crate::query_text::read_query;
 use crate::status::Status;
 use crate::stepping::Step;

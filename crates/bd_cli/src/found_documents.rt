@@ -7,7 +7,7 @@ ghost use Rattle.bd_cli.specs.Ran.{Wrote};
 ghost use Rattle.bd_cli.specs.Shown.{lines};
 ghost use Rattle.bd_cli.specs.Within.{StopsWithin};
 
-use crate::dumping::{GATHERED, Stopped, flush, write_line};
+use crate::lines::{GATHERED, Stopped, flush, write_line};
 use bd_bson::{Dump, Output};
 use std::alloc::Global;
 

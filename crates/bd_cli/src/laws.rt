@@ -1,5 +1,5 @@
 //! Laws of the texts.
-ghost use Rattle.std.specs.Prelude.{◌≡◌, ◌<◌, ◌⊎◌, ℕ, ℤ, List, Option, Result, Ok, slice_index};
+ghost use Rattle.std.specs.Prelude.{◌≡◌, ◌<◌, ◌⊎◌, ℕ, ℤ, List, Option, None, Result, Ok, slice_index};
 ghost use Rattle.bd_bson.specs.declared.reading.ReadFault.{ReadFault};
 ghost use Rattle.bd_cli.specs.Found.{IsFound};
 ghost use Rattle.bd_cli.specs.Judged.{IsJudged};
@@ -9,10 +9,10 @@ ghost use Rattle.bd_cli.specs.Shown.{Shown, IsShown};
 /// One thing is shown of each input, and of each list of bytes there is something to show; so also for `check`, and for
 /// `find`, of each query and size of a batch.
 pub fn shows_one_thing()
-    ensures one { (input : Result (List ℕ) ReadFault) (shown other : Shown) → IsShown input shown → IsShown input other → shown ≡ other }
-    ensures some { (bytes : List ℕ) → ((i : ℕ) → slice_index bytes i < 256) → (shown : Shown) × IsShown (Ok bytes) shown }
-    ensures judged_one { (input : Result (List ℕ) ReadFault) (shown other : Shown) → IsJudged input shown → IsJudged input other → shown ≡ other }
-    ensures judged_some { (bytes : List ℕ) → (shown : Shown) × IsJudged (Ok bytes) shown }
+    ensures one { (bytes : List ℕ) (fault : Option ReadFault) (shown other : Shown) → IsShown bytes fault shown → IsShown bytes fault other → shown ≡ other }
+    ensures some { (bytes : List ℕ) → ((i : ℕ) → slice_index bytes i < 256) → (shown : Shown) × IsShown bytes None shown }
+    ensures judged_one { (bytes : List ℕ) (fault : Option ReadFault) (shown other : Shown) → IsJudged bytes fault shown → IsJudged bytes fault other → shown ≡ other }
+    ensures judged_some { (bytes : List ℕ) → (shown : Shown) × IsJudged bytes None shown }
     ensures found_one { (query : List ℕ) (size : Option ℕ) (input : Result (List ℕ) ReadFault) (shown other : Shown) → IsFound query size input shown → IsFound query size input other → shown ≡ other }
     ensures found_some { (query : List ℕ) (size : Option ℕ) (bytes : List ℕ) → ((i : ℕ) → slice_index bytes i < 256) →
         IsNoQuery query ⊎ ((name : List ℕ) × (n : ℤ) × IsQuery query name n) → (shown : Shown) × IsFound query size (Ok bytes) shown }
@@ -20,5 +20,5 @@ pub fn shows_one_thing()
 
 /// Of each input `check` and `dump` give the same status: there is a document with a fault where there is a first fault.
 pub fn check_has_the_status_of_dump()
-    ensures { (input : Result (List ℕ) ReadFault) (shown other : Shown) → IsShown input shown → IsJudged input other → shown.status ≡ other.status }
+    ensures { (bytes : List ℕ) (fault : Option ReadFault) (shown other : Shown) → IsShown bytes fault shown → IsJudged bytes fault other → shown.status ≡ other.status }
 {}

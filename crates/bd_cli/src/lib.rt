@@ -22,6 +22,8 @@ mod find_words;
 mod finding;
 mod found_documents;
 mod laws;
+mod limits;
+mod lines;
 mod messages;
 mod order;
 mod query_text;

@@ -95,7 +95,8 @@ fn shows_dumps(rt: HostRuntime) -> Result<(), Fail> {
         b"1 objects found\n",
         Status::Done,
     )?;
-    assert_eq!(rt; reads, 2);
+    // The length, the rest, and the end.
+    assert_eq!(rt; reads, 3);
     check(
         &rt,
         alloc,
@@ -154,18 +155,51 @@ fn stops_at_a_read_that_fails(rt: HostRuntime) -> Result<(), Fail> {
     let alloc = rt.alloc();
     let mut failing = ample(ONE);
     failing.most = 5;
-    for call in 1..5 {
+    for call in 1..4 {
         failing.failing_read = Some(call);
         let reads = check(
             &rt,
             alloc,
             failing,
             b"",
-            b"bsonfind: cannot read\n",
+            b"bsonfind: cannot read\n0 objects found\n",
             Status::Failed,
         )?;
         assert_eq!(rt; reads, call, "no read is made behind the one that failed");
     }
+    // The document was read before, so its line stands.
+    failing.failing_read = Some(4);
+    let reads = check(
+        &rt,
+        alloc,
+        failing,
+        ONE_LINE,
+        b"bsonfind: cannot read\n1 objects found\n",
+        Status::Failed,
+    )?;
+    assert_eq!(rt; reads, 4);
+    Ok(())
+}
+
+#[test]
+fn writes_a_line_before_it_reads_on(rt: HostRuntime) -> Result<(), Fail> {
+    let alloc = rt.alloc();
+    let mut endless = Vec::new(alloc);
+    for _ in 0..100 {
+        endless.extend_from_slice(b"\x05\0\0\0\0")?;
+    }
+    let mut full = ample(&endless);
+    full.most = 1;
+    full.room = 3;
+    let reads = check(
+        &rt,
+        alloc,
+        full,
+        b"{}\n",
+        b"bsonfind: cannot write\n",
+        Status::Failed,
+    )?;
+    assert_eq!(rt; reads, 10, "five bytes of each of two documents");
     Ok(())
 }
 

@@ -1,8 +1,9 @@
 //! `bsonfind`: the commands of bd_cli over the system's files and standard streams.
 #![tactic(auto)]
 
-use bd_bson::{Input, MemoryInput, SystemInput, SystemOutput, write_all};
+use bd_bson::{MemoryInput, SystemInput, SystemOutput, write_all};
 use bd_cli::{Order, Status, WordsFault, parse_words, report};
+use std::io::{BufReader, Read};
 use std::process::ExitCode;
 use std::{env, fs, io};
 
@@ -20,12 +21,19 @@ fn order(rt: &HostRuntime) -> Result<Order, WordsFault> {
     parse_words(rt.alloc(), &words)
 }
 
+/// How many bytes the system is asked for at once. It answers with what there is.
+const BUFFER: usize = 65_536;
+
 /// Carries out an order over the input that its file is.
-fn run<F: Input + Drop>(rt: &HostRuntime, order: &Order, mut file: F) -> Status {
-    // No command that is there yet reads commands.
-    let mut commands = MemoryInput::new(&[], 1, None);
+fn run<F: Read + Drop>(rt: &HostRuntime, order: &Order, file: F) -> Status {
     let mut out = SystemOutput::new(rt.stdout());
     let mut err = SystemOutput::new(rt.stderr());
+    let Ok(file) = BufReader::with_capacity(rt.alloc(), BUFFER, file) else {
+        return report(&WordsFault::NoMemory, &mut out, &mut err);
+    };
+    let mut file = SystemInput::new(file);
+    // No command that is there yet reads commands.
+    let mut commands = MemoryInput::new(&[], 1, None);
     bd_cli::run(
         rt.alloc(),
         order,
@@ -58,10 +66,10 @@ fn status(rt: &HostRuntime) -> Status {
     };
     let (Order::Dump { file } | Order::Check { file } | Order::Find { file, .. }) = &order;
     if file.as_str() == "-" {
-        return run(rt, &order, SystemInput::new(rt.reader()));
+        return run(rt, &order, rt.reader());
     }
     match fs::open(rt, file) {
-        Ok(opened) => run(rt, &order, SystemInput::new(opened)),
+        Ok(opened) => run(rt, &order, opened),
         Err(_) => tell_unopened(rt, file),
     }
 }

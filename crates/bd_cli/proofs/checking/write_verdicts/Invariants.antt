@@ -1,9 +1,13 @@
-use Rattle.std.proofs.Common.{◌-◌, length}
+use Rattle.std.proofs.Common.{◌≡◌, false}
 use Rattle.bd_cli.proofs.Judges.{SoFar}
 use Rattle.bd_cli.proofs.checking.write_verdicts.Given as goal
 
-abbrev pub invariant-loop-pending : goal.invariant-loop-pending
-invariant-loop-pending g l = SoFar g.O.Output.held g.O.Output.failures l.initial.out l.out l.bytes l.pending.items l.at l.findings.documents l.findings.faulty
+abbrev pub invariant-loop-alloc : goal.invariant-loop-alloc
+invariant-loop-alloc g l = record {
+  so_far : SoFar g.R.Input.left g.R.Input.calls g.R.Input.failures l.initial.input l.input g.O.Output.held g.O.Output.failures l.initial.out l.out
+      l.documents.place l.documents.number l.faulty l.documents.left.bytes l.documents.left.turns;
+  works : l.documents.failed ≡ false;
+}
 
-abbrev pub decreases-loop-pending : goal.decreases-loop-pending
-decreases-loop-pending g l = length l.bytes - l.at
+abbrev pub decreases-loop-alloc : goal.decreases-loop-alloc
+decreases-loop-alloc g l = l.documents.left.bytes

@@ -1,17 +1,13 @@
-use Rattle.std.proofs.Common.{◌≤◌, List, ℕ, length, Ok, Err, refl, ap, subst, arith}
-use Rattle.bd_cli.specs.Shown.{IsShown, shown_refusal, read_words}
+use Rattle.std.proofs.Common.{inl, inr}
 use Rattle.bd_cli.proofs.Runs as runs
 use Rattle.bd_cli.proofs.dump_command.dump.Goals as goal
 
 pub returns-in-Ok : goal.returns-in-Ok
-returns-in-Ok g c =
-    let e = c.in-Ok.ensures in
-    let s = c.show.ensures in
-    let short : length c.in-Ok.bytes.items ≤ 4294967295 = omega (arith, e.short, c.deref.ensures.len, ap (λ (xs : List ℕ). length xs) c.deref.ensures.value) in
-    let shown = subst (λ (xs : List ℕ). IsShown (Ok xs) s.0) c.deref.ensures.value s.1 in
-    (Ok c.in-Ok.bytes.items, s.0, (e.bytes, e.end, short, e.well (λ f. absurd cc)), shown, s.2)
+returns-in-Ok g c = runs.shows_walk g.R.Input.left g.R.Input.calls g.R.Input.failures c.args.input.now c.documents.new.input g.O.Output.held g.O.Output.failures c.args.out.now c.documents.new.out
+    g.E.Output.held g.E.Output.failures c.args.err.now _ _ c.in-Ok.walk c.in-Ok.ensures.walks c.tell_walk.ensures
 
-pub returns-in-Err : goal.returns-in-Err
-returns-in-Err g c =
-    let e = c.in-Err.ensures in
-    (Err c.in-Err.fault, shown_refusal (read_words c.in-Err.fault), runs.was_refused g.R.Input.left g.R.Input.calls g.R.Input.failures c.args.input.now c.read_all.new.reader c.in-Err.fault e.failed e.well e.too_long_known e.too_many_known e.too_many_calls, refl, runs.refused g.O.Output.held g.O.Output.failures c.args.out.now g.E.Output.held g.E.Output.failures c.args.err.now _ _ _ c.tell_read_fault.ensures)
+pub returns-in-Err-NoMemory : goal.returns-in-Err-NoMemory
+returns-in-Err-NoMemory g c = inr (inr (rw c.in-Err-NoMemory.field-0-is at c.in-Err-NoMemory.ensures.stops, c.tell_no_memory.ensures))
+
+pub returns-in-Err-Unwritten : goal.returns-in-Err-Unwritten
+returns-in-Err-Unwritten g c = inr (inl (rw c.in-Err-Unwritten.field-0-is at c.in-Err-Unwritten.ensures.stops, c.tell_unwritten.ensures))

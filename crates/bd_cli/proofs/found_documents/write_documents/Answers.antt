@@ -7,7 +7,7 @@ use Rattle.bd_extjson.specs.Text.{text}
 use Rattle.bd_cli.specs.Shown.{lines}
 use Rattle.bd_cli.specs.Found.{documents_at}
 use Rattle.bd_cli.proofs.Finds as finds
-use Rattle.bd_cli.proofs.Walking as walking
+use Rattle.bd_cli.proofs.LinesTaken as walking
 use Rattle.bd_cli.proofs.found_documents.write_documents.Goals as goal
 use Rattle.bd_cli.proofs.found_documents.write_documents.Goals.{then-len-ge-GATHERED+in_ok-flush, else-len-ge-GATHERED}
 

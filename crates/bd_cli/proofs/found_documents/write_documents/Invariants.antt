@@ -1,5 +1,5 @@
 use Rattle.bd_bson.specs.Collection.{documents}
-use Rattle.bd_cli.specs.Walked.{Holds}
+use Rattle.bd_cli.specs.Holding.{Holds}
 use Rattle.bd_cli.proofs.Finds.{lines_to}
 use Rattle.bd_cli.proofs.found_documents.write_documents.Given as goal
 

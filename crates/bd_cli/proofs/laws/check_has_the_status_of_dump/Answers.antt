@@ -2,4 +2,4 @@ use Rattle.bd_cli.proofs.JudgedOnce.{same_status}
 use Rattle.bd_cli.proofs.laws.check_has_the_status_of_dump.Goals as goal
 
 pub returns : goal.returns
-returns c = λ input s t p q. same_status input s t p q
+returns c = λ bytes fault s t p q. same_status bytes fault s t p q

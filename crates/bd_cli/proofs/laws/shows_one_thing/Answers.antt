@@ -4,4 +4,4 @@ use Rattle.bd_cli.proofs.Runs.{shown_once, shown_some}
 use Rattle.bd_cli.proofs.laws.shows_one_thing.Goals as goal
 
 pub returns : goal.returns
-returns c = record { judged_one = judged_once; judged_some = judged_some; one = λ input s t p q. shown_once input s t p q; some = λ bytes fits. shown_some bytes fits; found_one = found_once; found_some = λ query size bytes fits o. found_some query size bytes fits o }
+returns c = record { judged_one = judged_once; judged_some = judged_some; one = λ bytes fault s t p q. shown_once bytes fault s t p q; some = λ bytes fits. shown_some bytes fits; found_one = found_once; found_some = λ query size bytes fits o. found_some query size bytes fits o }

@@ -1,0 +1,31 @@
+use Rattle.std.proofs.Common.{rules, ◌≡◌, ◌-◌, length, take, length-take-le}
+use Rattle.std.proofs.KnownBytes.{Consumes-trans}
+use Rattle.bd_bson.proofs.Devices.{Consumes-more}
+use Rattle.bd_bson.proofs.Rooms.{grown}
+use Rattle.bd_bson.proofs.filling.fill.Goals as goal
+
+pub loop-bytes-preserved : goal.loop-bytes-preserved
+loop-bytes-preserved g c =
+    let more = grown c.loop-bytes.bytes (length c.loop-bytes.room - c.loop-bytes.bytes) c.in-Ok.n c.loop-bytes.room c.read.new.room c.loop-bytes.invariant.fits c.in-Ok.ensures.within in
+    record {
+      room = search rules;
+      fits = search rules;
+      consumed = Consumes-more _ _ _ _ _ _ c.loop-bytes.invariant.consumed c.in-Ok.ensures.bytes.0 more;
+      within = search rules;
+      turned = search rules;
+      called = search rules;
+      well = search rules;
+    }
+
+pub returns-then-limits-bytes-clause-unfilled : goal.returns-then-limits-bytes-clause-unfilled
+returns-then-limits-bytes-clause-unfilled g c =
+    let l = c.loop-bytes in
+    let size : length (take l.bytes l.room) ≡ l.bytes = length-take-le l.bytes l.room l.invariant.fits in
+    let last : length (take c.in-Ok.n c.read.new.room) ≡ c.in-Ok.n = length-take-le c.in-Ok.n c.read.new.room c.in-Ok.ensures.within in (
+      take l.bytes l.room,
+      take c.in-Ok.n c.read.new.room,
+      Consumes-trans _ _ _ _ _ l.invariant.consumed c.in-Ok.ensures.bytes.0,
+      search rules,
+      search rules,
+      search rules,
+    )

@@ -1,0 +1,84 @@
+//! A room filled with bytes of a device.
+ghost use Rattle.std.specs.Prelude.{◌≡◌, ℕ, List, ◌++◌, take, length, IfOk, IfErr, IsErrOf, ◌+◌, ◌-◌, ◌<◌, ◌≤◌};
+ghost use Rattle.std.specs.Io.KnownBytes.{IsAtEnd, Consumes};
+ghost use Rattle.bd_bson.specs.Counts.{after_more};
+ghost use Rattle.bd_bson.specs.Stream.{Unfilled};
+
+use crate::input::Input;
+use crate::reading::{Limits, ReadFault};
+
+/// What came of filling a room.
+#[derive(Clone, Copy)]
+pub struct Filled {
+    /// How many bytes came, the whole room unless the device is at its end.
+    pub bytes: usize,
+    /// How many reads were made.
+    pub turns: u64,
+}
+
+/// Reads until the room is full or the device is at its end, as long as the limits let it. No read is made again.
+pub fn fill<R: Input>(reader: &mut R, room: &mut [u8], limits: Limits) -> Result<Filled, ReadFault>
+    ensures fits { IfOk result (λ f. f.bytes ≤ length room.old) }
+    ensures bytes { IfOk result (λ f. Consumes (R.left reader.old) (R.left reader.new) (take f.bytes room.new)) }
+    ensures end { IfOk result (λ f. f.bytes < length room.old → IsAtEnd (R.left reader.new)) }
+    ensures within { IfOk result (λ f. (f.bytes ≤ limits.bytes) × (f.turns ≤ limits.turns)) }
+    ensures called { IfOk result (λ f. R.calls reader.new ≡ after_more (R.calls reader.old) f.turns) }
+    ensures turns { R.calls reader.new ≤ after_more (R.calls reader.old) limits.turns }
+    ensures unfilled { IfErr result (Unfilled (R.left reader.old) (R.left reader.new) (length room.old) limits.bytes) }
+    // All reads were made.
+    ensures too_many { IsErrOf result ReadFault.TooManyTurns →
+        R.calls reader.new ≡ after_more (R.calls reader.old) limits.turns }
+    // The last read failed, and it alone: exactly then the count of failures rises.
+    ensures failed { IsErrOf result ReadFault.Device →
+        R.failures reader.new ≡ after_more (R.failures reader.old) 1 }
+    ensures well { ¬ (IsErrOf result ReadFault.Device) → R.failures reader.new ≡ R.failures reader.old }
+    ensures memory { ¬ (IsErrOf result ReadFault.NoMemory) }
+{
+    let mut bytes = 0;
+    let mut turns = 0;
+    while bytes < room.len() {
+        if turns == limits.turns {
+            return Err(ReadFault::TooManyTurns);
+        }
+        let Ok(n) = reader.read(&mut room[bytes..]) else {
+            return Err(ReadFault::Device);
+        };
+        turns += 1;
+        if n == 0 {
+            return Ok(Filled { bytes, turns });
+        }
+        if limits.bytes - (bytes as u64) < n as u64 {
+            return Err(ReadFault::TooLong);
+        }
+        bytes += n;
+    }
+    Ok(Filled { bytes, turns })
+}
+
+/// Puts four bytes at the front of a room, and fills it behind them up to `size`.
+pub fn fill_behind<R: Input>(
+    reader: &mut R,
+    room: &mut [u8],
+    head: [u8; 4],
+    size: usize,
+    limits: Limits,
+) -> Result<Filled, ReadFault>
+    requires { (4 ≤ size) × (size ≤ length room.old) }
+    ensures fits { IfOk result (λ f. f.bytes + 4 ≤ size) }
+    ensures gives { IfOk result (λ f. (given : List ℕ) × Consumes (R.left reader.old) (R.left reader.new) given
+        × (length given ≡ f.bytes) × (take (4 + f.bytes) room.new ≡ head ++ given)) }
+    ensures end { IfOk result (λ f. f.bytes + 4 < size → IsAtEnd (R.left reader.new)) }
+    ensures within { IfOk result (λ f. (f.bytes ≤ limits.bytes) × (f.turns ≤ limits.turns)) }
+    ensures called { IfOk result (λ f. R.calls reader.new ≡ after_more (R.calls reader.old) f.turns) }
+    ensures turns { R.calls reader.new ≤ after_more (R.calls reader.old) limits.turns }
+    ensures unfilled { IfErr result (Unfilled (R.left reader.old) (R.left reader.new) (size - 4) limits.bytes) }
+    ensures too_many { IsErrOf result ReadFault.TooManyTurns →
+        R.calls reader.new ≡ after_more (R.calls reader.old) limits.turns }
+    ensures failed { IsErrOf result ReadFault.Device →
+        R.failures reader.new ≡ after_more (R.failures reader.old) 1 }
+    ensures well { ¬ (IsErrOf result ReadFault.Device) → R.failures reader.new ≡ R.failures reader.old }
+    ensures memory { ¬ (IsErrOf result ReadFault.NoMemory) }
+{
+    room[..4].copy_from_slice(&head);
+    fill(reader, &mut room[4..size], limits)
+}
