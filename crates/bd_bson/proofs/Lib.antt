@@ -16,3 +16,4 @@ pub mod Texts
 pub mod Verdicts
 pub mod Viewed
 pub mod Whole
+pub mod Writes

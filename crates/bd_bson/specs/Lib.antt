@@ -18,3 +18,4 @@ pub mod Told
 pub mod Types
 pub mod Unique
 pub mod Verdicts
+pub mod Written

@@ -1,10 +1,11 @@
 -- Which bytes are which document (BSON 1.1, the grammar of `document`).
-use Rattle.std.specs.Prelude.{◌≡◌, ◌≢◌, ◌≤◌, ◌<◌, ◌^◌, ℕ, suc, ◌+◌, max, List, [], ◌∷◌, ◌++◌, length, IsUtf8, FitsSigned, ◌==◌, if◌then◌else◌}
+use Rattle.std.specs.Prelude.{◌≡◌, ◌≢◌, ◌≤◌, ◌<◌, ◌^◌, ℕ, ◌+◌, List, [], ◌∷◌, ◌++◌, length, IsUtf8, FitsSigned, ◌==◌, if◌then◌else◌}
 use Rattle.std.specs.List.{AllByRecursion}
 use Rattle.std.specs.Int.{w32, w64, to_le_bytes, cast_unsigned}
 use Rattle.bd_value.specs.Tree as trees
 use Rattle.bd_value.specs.Tree.{Scalar, Tree, leaf, doc, array, code_scope, Items, no_items, item, Fields, no_fields, field, Doc, fields_of}
 use Rattle.bd_value.specs.Kind.{kind_of}
+pub use Rattle.bd_value.specs.Depth.{depth, fields_depth, items_depth}
 use Rattle.bd_bson.specs.Types.{type_byte}
 
 -- `int32`: four bytes, least first
@@ -78,23 +79,6 @@ abbrev mutual
   pub AreItems : Items → List ℕ → Type 0
   AreItems no_items bytes = bytes ≡ []
   AreItems (item t ts) bytes = (name : List ℕ) × (value : List ℕ) × (rest : List ℕ) × IsName name × IsValue t value × AreItems ts rest × (bytes ≡ element t name value ++ rest)
-
--- How deep documents and arrays nest: each is one deeper than the deepest value in it, and code with scope one deeper
--- than its scope.
-abbrev mutual
-  pub depth : Tree → ℕ
-  depth (leaf s) = 0
-  depth (doc fs) = suc (fields_depth fs)
-  depth (array ts) = suc (items_depth ts)
-  depth (code_scope s fs) = suc (suc (fields_depth fs))
-
-  pub fields_depth : Fields → ℕ
-  fields_depth no_fields = 0
-  fields_depth (field n t fs) = max (depth t) (fields_depth fs)
-
-  pub items_depth : Items → ℕ
-  items_depth no_items = 0
-  items_depth (item t ts) = max (depth t) (items_depth ts)
 
 -- the bytes are the document, within the limits of length and depth
 pub record IsDocument (d : Doc) (bytes : List ℕ) : Type 0 where

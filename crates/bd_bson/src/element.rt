@@ -1,7 +1,7 @@
 //! The types of elements.
 
 ghost use Rattle.std.specs.Prelude.{◌≡◌};
-ghost use Rattle.bd_bson.specs.Types.{type_at};
+ghost use Rattle.bd_bson.specs.Types.{type_at, type_byte as byte_of};
 
 use bd_value::Kind;
 
@@ -22,6 +22,33 @@ pub enum Holder {
     Document,
     Array,
     CodeScope,
+}
+
+/// The byte before the name of an element of this kind: BSON 1.1, `element`.
+pub fn type_byte(kind: Kind) -> u8
+    ensures { result ≡ byte_of kind }
+{
+    match kind {
+        Kind::Text => 0x02,
+        Kind::Doc => 0x03,
+        Kind::Array => 0x04,
+        Kind::Binary => 0x05,
+        Kind::Undefined => 0x06,
+        Kind::ObjectId => 0x07,
+        Kind::Bool => 0x08,
+        Kind::Date => 0x09,
+        Kind::Null => 0x0A,
+        Kind::Regex => 0x0B,
+        Kind::DbPointer => 0x0C,
+        Kind::Code => 0x0D,
+        Kind::Symbol => 0x0E,
+        Kind::CodeScope => 0x0F,
+        Kind::Int32 => 0x10,
+        Kind::Timestamp => 0x11,
+        Kind::Int64 => 0x12,
+        Kind::MaxKey => 0x7F,
+        Kind::MinKey => 0xFF,
+    }
 }
 
 /// What a type byte tells; none where BSON 1.1 has no such type.

@@ -43,6 +43,13 @@ mod verdict_laws;
 mod views;
 #[cfg(test)]
 mod views_tests;
+mod write;
+#[cfg(test)]
+mod write_tests;
+mod writing;
+mod writing_scalars;
+mod writing_values;
+mod zeros;
 
 pub use check::check_document;
 pub use collecting::read_dump;
@@ -58,3 +65,5 @@ pub use raw::{Elements, RawDoc, RawValue};
 pub use read::{Frame, next_document, next_frame, read_document};
 pub use reading::{Limits, ReadFault, read_all};
 pub use verdict_laws::{judges_as_the_walk, judges_in_turn};
+pub use write::write_document;
+pub use writing::WriteFault;

@@ -4,9 +4,12 @@ pub mod Escapes
 pub mod Fronts
 pub mod InPlace
 pub mod Json
+pub mod Members
+pub mod Numbers
 pub mod Parts
 pub mod Pieces
 pub mod Prefix
+pub mod Rows
 pub mod Steps
 pub mod Symbols
 pub mod TreeJson

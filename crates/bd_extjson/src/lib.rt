@@ -13,6 +13,11 @@ mod scalar_tests;
 mod text;
 #[cfg(test)]
 mod text_tests;
+mod trouble;
+mod whole_number;
+mod wrapper;
+mod wrapper_parts;
+mod wrapper_values;
 
 pub use json_string::{write_path, write_string};
 pub use laws::text_determines_document;

@@ -1,8 +1,9 @@
 -- What a value is made of.
-use Rattle.std.proofs.Common.{◌≡◌, ℕ, ◌+◌, ◌<◌, suc, List, [], ◌∷◌, Some, refl, sym, ap, ap₂, ◌∙◌, subst, arith}
+use Rattle.std.proofs.Common.{◌≡◌, ℕ, ◌+◌, ◌<◌, suc, List, [], ◌∷◌, Some, None, max, refl, sym, ap, ap₂, ◌∙◌, subst, arith}
 use Rattle.bd_value.specs.Tree.{Tree, leaf, doc, array, code_scope, Doc, fields_of, items_of, fields_of-pairs_of, items_of-list_of, tree_size, fields_size, items_size}
+use Rattle.bd_value.specs.Depth.{depth, fields_depth, items_depth}
 use Rattle.bd_value.specs.Kind.{kind_of}
-use Rattle.bd_value.specs.Parts.{values_of, scope_of, AreParts, HoldsParts}
+use Rattle.bd_value.specs.Parts.{values_of, scope_of, AreParts, HoldsParts, HoldsNoParts}
 use Rattle.bd_value.specs.Seen.{own_code, own_of}
 use Rattle.bd_value.specs.declared.kind.Kind.TheVariants as kinds
 
@@ -57,3 +58,28 @@ scope_smaller (leaf s) u scope = absurd cc
 scope_smaller (doc fs) u scope = absurd cc
 scope_smaller (array ts) u scope = absurd cc
 scope_smaller (code_scope s fs) u scope = let inside : doc fs ≡ u = cc in let e = ap tree_size inside in omega arith
+
+-- ---- the inside is less deep
+
+values_depth : (ps : Doc) → items_depth (items_of (values_of ps)) ≡ fields_depth (fields_of ps)
+values_depth [] = refl
+values_depth (p ∷ ps) = ap (λ n. max (depth p.1) n) (values_depth ps)
+
+pub parts_depth : (t : Tree) (ps : Doc) → AreParts t ps → depth t ≡ suc (fields_depth (fields_of ps))
+parts_depth (leaf s) ps are = absurd are
+parts_depth (doc fs) ps are = ap (λ n. suc n) (sym (ap (λ (x : Doc). fields_depth (fields_of x)) are ∙ ap fields_depth (fields_of-pairs_of fs)))
+parts_depth (array ts) ps are =
+    ap (λ n. suc n) (sym (sym (values_depth ps) ∙ ap (λ (x : List Tree). items_depth (items_of x)) are ∙ ap items_depth (items_of-list_of ts)))
+parts_depth (code_scope s fs) ps are = absurd are
+
+pub scope_depth : (t u : Tree) → scope_of t ≡ Some u → depth t ≡ suc (depth u)
+scope_depth (leaf s) u scope = absurd cc
+scope_depth (doc fs) u scope = absurd cc
+scope_depth (array ts) u scope = absurd cc
+scope_depth (code_scope s fs) u scope = let inside : doc fs ≡ u = cc in ap (λ x. suc (depth x)) inside
+
+pub no_depth : (t : Tree) → HoldsNoParts t → scope_of t ≡ None → depth t ≡ 0
+no_depth (leaf s) none scope = refl
+no_depth (doc fs) none scope = absurd none
+no_depth (array ts) none scope = absurd none
+no_depth (code_scope s fs) none scope = absurd cc

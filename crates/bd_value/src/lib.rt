@@ -8,6 +8,9 @@ mod copying;
 mod document;
 mod kind;
 mod lookup;
+mod nesting;
+#[cfg(test)]
+mod nesting_tests;
 mod node;
 mod scalar;
 #[cfg(test)]
@@ -19,6 +22,7 @@ mod tree_tests;
 pub use copying::{to_document, to_value};
 pub use document::{Document, NoMemory, Value};
 pub use kind::Kind;
+pub use nesting::{depth, depth_of};
 pub use node::{Node, Reading};
 pub use scalar::Scalar;
 pub use tree::{Tree, TreeParts};

@@ -8,7 +8,7 @@ fn text(alloc: Global, text: &str) -> Result<String, NoMemory> {
 }
 
 /// A document with one pair.
-fn document_of(alloc: Global, name: &str, value: Value) -> Result<Document, NoMemory> {
+pub(crate) fn document_of(alloc: Global, name: &str, value: Value) -> Result<Document, NoMemory> {
     let mut document = Document::new(alloc);
     document.push(text(alloc, name)?, value)?;
     Ok(document)

@@ -1,0 +1,28 @@
+-- What a reader of tokens gives: JSON read and wrapped at once.
+use Rattle.std.specs.Prelude.{◌≡◌, ℕ, List, Option, Some, None, option_map, Result, Ok, Err}
+use Rattle.json.specs.Token.{Token}
+use Rattle.json.specs.Json.{Parse, parse_map, Members, members, members_step, value}
+use Rattle.bd_extjson.specs.declared.trouble.Trouble.{Trouble}
+use Rattle.bd_extjson.specs.declared.trouble.Trouble.TheVariants as troubles
+
+-- f of what was read
+abbrev pub through : {J A : Type 0} → (J → Option A) → Option (J × List Token) → Option (A × List Token)
+through f None = None
+through f (Some p) = option_map (λ a. (a, p.1)) (f p.0)
+
+-- what follows a name, or the brace, of an object
+abbrev pub after_key : ℕ → ℕ → Option (List ℕ) → List Token → Option (Members × List Token)
+after_key depth n key ts = members_step (value depth) (members (value depth) n) key ts
+
+abbrev pub Fails : {A : Type 0} → Trouble → Option A → Type 0
+Fails troubles.Memory read = Unit {0}
+Fails troubles.Refused read = read ≡ None
+
+abbrev pub Gives : {X A : Type 0} → (X → A) → Result X Trouble → List Token → Option (A × List Token) → Type 0
+Gives view (Ok x) rest read = read ≡ Some (view x, rest)
+Gives view (Err e) rest read = Fails e read
+
+-- the same of a result that takes nothing
+abbrev pub Tells : {X A : Type 0} → (X → A) → Result X Trouble → Option A → Type 0
+Tells view (Ok x) o = o ≡ Some (view x)
+Tells view (Err e) o = Fails e o

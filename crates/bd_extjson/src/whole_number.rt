@@ -1,0 +1,50 @@
+//! Whole numbers, as texts write them.
+ghost use Rattle.std.specs.Prelude.{◌≡◌};
+ghost use Rattle.std.specs.Str.{all_ascii_digits};
+ghost use Rattle.bd_extjson.specs.Whole.{are_digits, is_whole, whole_64, whole_32};
+
+fn are_all_digits(bytes: &[u8]) -> bool
+    ensures { result ≡ all_ascii_digits bytes.now }
+{
+    for c in bytes {
+        if !c.is_ascii_digit() {
+            return false;
+        }
+    }
+    true
+}
+
+fn is_number(digits: &[u8]) -> bool
+    ensures { result ≡ are_digits digits.now }
+{
+    match digits {
+        [] => false,
+        [b'0', rest @ ..] => rest.is_empty(),
+        [_, ..] => are_all_digits(digits),
+    }
+}
+
+fn is_whole_number(text: &[u8]) -> bool
+    ensures { result ≡ is_whole text.now }
+{
+    match text {
+        [b'-', digits @ ..] => is_number(digits),
+        _ => is_number(text),
+    }
+}
+
+/// The number of 64 bits that a text of the form `-?(0|[1-9][0-9]*)` writes.
+pub(crate) fn whole(text: &str) -> Option<i64>
+    ensures { result ≡ whole_64 text.now }
+{
+    if !is_whole_number(text.as_bytes()) {
+        return None;
+    }
+    text.parse::<i64>().ok()
+}
+
+pub(crate) fn whole_of_32(text: &str) -> Option<i32>
+    ensures { result ≡ whole_32 text.now }
+{
+    i32::try_from(whole(text)?).ok()
+}
