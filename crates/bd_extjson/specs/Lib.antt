@@ -1,3 +1,4 @@
+pub mod JsonFault
 pub mod Plain
 pub mod Progress
 pub mod Reads

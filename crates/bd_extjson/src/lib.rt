@@ -4,9 +4,11 @@
 #![tactic(auto)]
 
 mod encoded;
+mod json_fault;
 mod json_string;
 mod laws;
 mod number;
+mod read;
 mod scalar;
 #[cfg(test)]
 mod scalar_tests;
@@ -19,7 +21,10 @@ mod wrapper;
 mod wrapper_parts;
 mod wrapper_values;
 
+pub use json::Scratch;
+pub use json_fault::{JsonFault, JsonFaultKind};
 pub use json_string::{write_path, write_string};
 pub use laws::text_determines_document;
 pub use number::{write_number, write_number32};
+pub use read::{read_doc, read_doc_with};
 pub use text::{write_doc, write_node, write_value};

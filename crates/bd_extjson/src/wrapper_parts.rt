@@ -37,10 +37,7 @@ fn only_of<'v, 'a>(
 
 /// The value of an object of that one name.
 #[tactic(auto, unfolding(crate::specs::Wrappers::only))]
-pub(crate) fn only<'v, 'a>(
-    part: &'v json::Value<'a>,
-    name: &str,
-) -> Option<&'v json::Value<'a>>
+pub(crate) fn only<'v, 'a>(part: &'v json::Value<'a>, name: &str) -> Option<&'v json::Value<'a>>
     ensures { option_map (λ v. value_view v.now) result ≡ only_in name.now (value_view part.now) }
 {
     only_of(members_of(part)?, name)

@@ -11,8 +11,8 @@ use crate::trouble::Trouble;
 use crate::whole_number::{whole, whole_of_32};
 use crate::wrapper::Wrapper;
 use crate::wrapper_parts::{id_of, name_of, number_of, only, pair, subtype_of, word_of};
-use base64::engine::general_purpose::STANDARD;
 use base64::DecodeAllocError;
+use base64::engine::general_purpose::STANDARD;
 use bd_value::Value;
 use std::alloc::Global;
 
@@ -154,8 +154,12 @@ pub(crate) fn unwrap_single(
         Wrapper::RegularExpression => regex_of(alloc, part),
         Wrapper::DbPointer => pointer_of(alloc, part),
         Wrapper::Date => date_of(part).ok_or(Trouble::Refused),
-        Wrapper::MinKey => is_one(part).then_some(Value::MinKey).ok_or(Trouble::Refused),
-        Wrapper::MaxKey => is_one(part).then_some(Value::MaxKey).ok_or(Trouble::Refused),
+        Wrapper::MinKey => is_one(part)
+            .then_some(Value::MinKey)
+            .ok_or(Trouble::Refused),
+        Wrapper::MaxKey => is_one(part)
+            .then_some(Value::MaxKey)
+            .ok_or(Trouble::Refused),
         Wrapper::Undefined => is_true_part(part)
             .then_some(Value::Undefined)
             .ok_or(Trouble::Refused),
