@@ -14,3 +14,5 @@ pub mod Steps
 pub mod Symbols
 pub mod TreeJson
 pub mod Written
+pub mod Turns
+pub mod Seconds

@@ -9,6 +9,7 @@ mod json_string;
 mod laws;
 mod number;
 mod read;
+mod reading;
 mod scalar;
 #[cfg(test)]
 mod scalar_tests;

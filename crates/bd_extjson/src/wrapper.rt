@@ -1,6 +1,7 @@
 //! The objects that stand for values of other kinds, by their first names.
 ghost use Rattle.std.specs.Prelude.{◌≡◌};
 ghost use Rattle.bd_extjson.specs.Wrappers.{wrapper_of};
+ghost use Rattle.bd_extjson.specs.Progress.{is_code, is_scope, is_code_name, is_scope_name};
 
 /// What an object stands for by its first name: Extended JSON v2, conversion table.
 #[derive(Clone, Copy, Debug, Drop, PartialEq, Eq)]
@@ -68,4 +69,32 @@ impl Wrapper {
             None
         }
     }
+
+    /// Whether it is `$code`, which `$scope` may stand beside.
+    pub(crate) fn is_code(self) -> bool
+        ensures { result ≡ is_code self }
+    {
+        matches!(self, Wrapper::Code)
+    }
+
+    /// Whether it is `$scope`.
+    pub(crate) fn is_scope(self) -> bool
+        ensures { result ≡ is_scope self }
+    {
+        matches!(self, Wrapper::Scope)
+    }
+}
+
+/// Whether a name is `$code`.
+pub(crate) fn names_code(name: &str) -> bool
+    ensures { result ≡ is_code_name (wrapper_of name.now) }
+{
+    matches!(Wrapper::from_name(name), Some(Wrapper::Code))
+}
+
+/// Whether a name is `$scope`.
+pub(crate) fn names_scope(name: &str) -> bool
+    ensures { result ≡ is_scope_name (wrapper_of name.now) }
+{
+    matches!(Wrapper::from_name(name), Some(Wrapper::Scope))
 }

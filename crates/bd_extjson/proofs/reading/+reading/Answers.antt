@@ -1,0 +1,356 @@
+use Rattle.std.proofs.Common.{◌≡◌, ◌<◌, ◌≤◌, ◌-◌, ℕ, true, false, Some, None, length, map, option_map, refl, sym, ap, ap₂, ◌∙◌, rules, arith, ◌++◌, ◌∷◌, [], List, subst}
+use Rattle.std.proofs.lemmas.Result.{err_from_is_err_and}
+use Rattle.std.proofs.lemmas.List.{map_push}
+use Rattle.std.specs.Prelude.{Bool, String, string_bytes, option_and_then}
+use Rattle.std.specs.Borrow.{Bor}
+use Rattle.json.specs.Value.{value_view}
+use Rattle.bd_extjson.specs.Progress.{closing}
+use Rattle.bd_extjson.specs.Wrappers.{single}
+use Rattle.bd_extjson.specs.declared.wrapper.Wrapper.TheVariants as kinds
+use Rattle.bd_extjson.proofs.Seconds.{wrapping}
+use Rattle.json.specs.Token.{Token}
+use Rattle.json.specs.Json.{value, items, members, parse_map, after_end_array, read_key}
+use Rattle.json.specs.Reads.{token_of}
+use Rattle.json.proofs.Grammar.{value_is, items_end, read_key-shorter, after_end_array-shorter, members_no_key}
+use Rattle.bd_value.specs.Tree as tree
+use Rattle.bd_value.specs.Tree.{leaf, doc, array, item, field, items_of, fields_of, no_items, no_fields}
+use Rattle.bd_value.specs.View.{tree_of, pairs}
+use Rattle.bd_value.proofs.Views.{tree_of-Doc, tree_of-Array}
+use Rattle.bd_value.specs.declared.document.Value.TheVariants as values
+use Rattle.bd_value.specs.declared.document.Value.TheFolds as folds
+use Rattle.std.specs.declared.alloc.Global.{Global}
+use Rattle.bd_extjson.specs.Wrap.{wrap, wrap_items, wrap_object, wrap_fields}
+use Rattle.bd_extjson.specs.Wrappers.{wrapper_of, has_zero}
+use Rattle.bd_extjson.specs.Progress.{through, after_key, Fails, Gives}
+use Rattle.bd_extjson.specs.declared.trouble.Trouble.TheVariants.{Refused}
+use Rattle.bd_extjson.proofs.Turns as steps
+use Rattle.bd_extjson.proofs.Turns.{items_before, fields_before}
+use Rattle.bd_extjson.proofs.Seconds as seconds
+use Rattle.bd_extjson.proofs.reading.+reading.Goals as goal
+
+text_is : (s : String Global) → tree_of (values.Text s) ≡ leaf (tree.text (string_bytes s))
+text_is s = search (rules, folds.the_lemmas)
+
+bool_is : (b : Bool) → tree_of (values.Bool b) ≡ leaf (tree.boolean b)
+bool_is b = search (rules, folds.the_lemmas)
+
+null_is : tree_of values.Null ≡ leaf tree.null
+null_is = search (rules, folds.the_lemmas)
+
+-- ---- read_fields
+
+pub read_fields-returns-in_err-next-clause-gives :
+    goal.read_fields-returns-in_err-next-clause-gives
+read_fields-returns-in_err-next-clause-gives t c =
+    let p = err_from_is_err_and c.from_residual-in_err-next.result c.from_residual-in_err-next.ensures.1 in
+    let l = c.loop-next in
+    let n = l.invariant.0 in
+    let named = ap (λ k. through (wrap_fields c.args.room) (after_key c.args.depth n (option_map (λ s. s.now) k) l.reader)) c.in-Some.is in
+    let turn = steps.field_goes_on c.in-Some.name.now c.args.room c.args.depth n l.reader c.read_value.new.reader (tree_of c.in_ok-value.value) (sym c.if-has_zero.ensures) c.in_ok-value.ensures.gives in
+    let none = ap (through (wrap_fields c.args.room)) (members_no_key (value c.args.depth) n c.read_value.new.reader c.in_err-next.ensures.value) in
+    rw (p.1, p.2) (l.invariant.2 ∙ ap (parse_map (fields_before (pairs l.read))) (named ∙ turn ∙ ap (parse_map (field c.in-Some.name.now (tree_of c.in_ok-value.value))) none))
+
+pub read_fields-loop-next-preserved : goal.read_fields-loop-next-preserved
+read_fields-loop-next-preserved t c =
+    let l = c.loop-next in
+    let n = l.invariant.0 in
+    let k = c.in-Some.name.now in
+    let v = tree_of c.in_ok-value.value in
+    let r = c.read_value.new.reader in
+    let named = ap (λ k. through (wrap_fields c.args.room) (after_key c.args.depth n (option_map (λ s. s.now) k) l.reader)) c.in-Some.is in
+    let turn = steps.field_goes_on k c.args.room c.args.depth n l.reader r v (sym c.if-has_zero.ensures) c.in_ok-value.ensures.gives in
+    let key = c.in_ok-next.ensures.value in
+    let less = read_key-shorter r (option_map (λ s. s.now) c.in_ok-next.next) c.next_key.new.self key in
+    let lesser = c.in_ok-value.ensures.shorter in
+    let within : length r ≤ n = omega (arith, l.invariant.1, lesser) in
+    let next = ap (through (wrap_fields c.args.room)) (steps.next_name c.args.depth n r c.next_key.new.self (option_map (λ s. s.now) c.in_ok-next.next) within key) in
+    let pushed : pairs c.push.new.self ≡ pairs l.read ++ (k, v) ∷ [] = rw (← c.in_ok-from_str.ensures.ok) c.in_ok-push.ensures.ok in (
+      n - 1,
+      omega (arith, within, less),
+      l.invariant.2 ∙ ap (parse_map (fields_before (pairs l.read))) (named ∙ turn ∙ ap (parse_map (field k v)) next) ∙ steps.one_more_field (pairs l.read) k v _
+          ∙ ap (λ ps. parse_map (fields_before ps) (through (wrap_fields c.args.room) (after_key c.args.depth (n - 1) (option_map (λ s. s.now) c.in_ok-next.next) c.next_key.new.self))) (sym pushed),
+      omega (arith, l.invariant.3, less, lesser),
+    )
+
+pub read_fields-returns-clause-gives : goal.read_fields-returns-clause-gives
+read_fields-returns-clause-gives t c =
+    let l = c.loop-next in
+    let named = ap (λ k. through (wrap_fields c.args.room) (after_key c.args.depth l.invariant.0 (option_map (λ s. s.now) k) l.reader)) c.in_default.is in
+    l.invariant.2 ∙ ap (parse_map (fields_before (pairs l.read))) named ∙ ap (λ x. Some (x, l.reader)) (steps.fields_before-none (pairs l.read))
+
+-- ---- read_items
+
+pub read_items-returns-in_err-value-clause-gives :
+    goal.read_items-returns-in_err-value-clause-gives
+read_items-returns-in_err-value-clause-gives t c =
+    let p = err_from_is_err_and c.from_residual.result c.from_residual.ensures.1 in
+    let l = c.loop-alloc in
+    let going : (after_end_array l.reader ≡ None) × (c.take_end_array.new.self ≡ l.reader) = grind arith in
+    rw (p.1, p.2) (steps.fails_by c.in_err-value.field-0.0 (through (wrap c.args.room) (value c.args.depth c.take_end_array.new.self)) _
+        (λ none. l.invariant.2 ∙ ap (parse_map (items_before (map tree_of l.found.items))) (steps.items_refused c.args.room c.args.depth l.invariant.0 l.reader going.0 (rw (← going.1) none)))
+        c.in_err-value.ensures.gives)
+
+pub read_items-loop-alloc-preserved : goal.read_items-loop-alloc-preserved
+read_items-loop-alloc-preserved t c =
+    let l = c.loop-alloc in
+    let n = l.invariant.0 in
+    let going : (after_end_array l.reader ≡ None) × (c.take_end_array.new.self ≡ l.reader) = grind arith in
+    let v = tree_of c.in_ok-value.value in
+    let r = c.read_value.new.reader in
+    let less : length r < length l.reader = rw (← going.1) c.in_ok-value.ensures.shorter in
+    let turn = steps.items_go_on c.args.room c.args.depth n l.reader r v (omega (arith, l.invariant.1, less)) going.0 (rw (← going.1) c.in_ok-value.ensures.gives) in
+    let pushed : map tree_of c.push.new.self.items ≡ map tree_of l.found.items ++ v ∷ [] = rw c.in_ok-push.ensures.items (map_push _ l.found.items c.in_ok-value.value) in (
+      n - 1,
+      omega (arith, l.invariant.1, less),
+      l.invariant.2 ∙ ap (parse_map (items_before (map tree_of l.found.items))) turn ∙ steps.one_more_item (map tree_of l.found.items) v _
+          ∙ ap (λ ts. parse_map (items_before ts) (through (wrap_items c.args.room) (items (value c.args.depth) (n - 1) r))) (sym pushed),
+      omega (arith, l.invariant.3, less),
+    )
+
+pub read_items-returns-clause-gives : goal.read_items-returns-clause-gives
+read_items-returns-clause-gives t c =
+    let l = c.loop-alloc in
+    let r = c.take_end_array.new.self in
+    l.invariant.2 ∙ ap (λ x. parse_map (items_before (map tree_of l.found.items)) (through (wrap_items c.args.room) x)) (items_end (value c.args.depth) l.invariant.0 l.reader r l.invariant.1 (grind arith))
+    ∙ ap (λ x. Some (x, r)) (steps.items_before-none (map tree_of l.found.items))
+
+-- ---- read_object
+
+pub read_object-returns-in_err-first-clause-gives :
+    goal.read_object-returns-in_err-first-clause-gives
+read_object-returns-in_err-first-clause-gives t c =
+    let p = err_from_is_err_and c.from_residual.result c.from_residual.ensures.1 in
+    rw (p.1, p.2) (ap (through (wrap_object c.args.room)) (members_no_key (value c.args.depth) (length c.args.reader.now) c.args.reader.now c.in_err-first.ensures.value))
+
+pub read_object-returns-in-Some-clause-gives : goal.read_object-returns-in-Some-clause-gives
+read_object-returns-in-Some-clause-gives t c =
+    let key = option_map (λ s. s.now) c.in_ok-first.first in
+    let start = ap (through (wrap_object c.args.room)) (steps.first_name c.args.depth c.args.reader.now c.next_key.new.self key c.in_ok-first.ensures.value) in
+    rw start (steps.object_is_wrapper tree_of c.read_wrapper.result c.read_wrapper.new.reader c.in-Some.wrapper c.args.room c.args.depth (length c.next_key.new.self) c.next_key.new.self key
+    (sym c.wrapper_named.ensures ∙ c.in-Some.is) (λ name is. c.read_wrapper.ensures.gives name is))
+
+pub read_object-returns-then-room-eq0-clause-gives :
+    goal.read_object-returns-then-room-eq0-clause-gives
+read_object-returns-then-room-eq0-clause-gives t c =
+    let key = option_map (λ s. s.now) c.in_ok-first.first in
+    let start = ap (through (wrap_object c.args.room)) (steps.first_name c.args.depth c.args.reader.now c.next_key.new.self key c.in_ok-first.ensures.value) in
+    start ∙ steps.object_refused c.args.room c.args.depth _ c.next_key.new.self key (omega arith) (sym c.wrapper_named.ensures ∙ c.in_default.is)
+
+pub read_object-returns-in_err-read_fields-clause-gives :
+    goal.read_object-returns-in_err-read_fields-clause-gives
+read_object-returns-in_err-read_fields-clause-gives t c =
+    let p = err_from_is_err_and c.from_residual-in_err-read_fields.result c.from_residual-in_err-read_fields.ensures.1 in
+    let key = option_map (λ s. s.now) c.in_ok-first.first in
+    let start = ap (through (wrap_object c.args.room)) (steps.first_name c.args.depth c.args.reader.now c.next_key.new.self key c.in_ok-first.ensures.value) in
+    rw (p.1, p.2) (steps.fails_by c.in_err-read_fields.field-0.0 _ _
+        (λ none. start ∙ steps.object_is_plain c.args.room c.args.depth _ c.next_key.new.self key (omega arith) (sym c.wrapper_named.ensures ∙ c.in_default.is) ∙ ap (parse_map doc) none)
+        c.in_err-read_fields.ensures.gives)
+
+pub read_object-returns-clause-gives : goal.read_object-returns-clause-gives
+read_object-returns-clause-gives t c =
+    let key = option_map (λ s. s.now) c.in_ok-first.first in
+    let start = ap (through (wrap_object c.args.room)) (steps.first_name c.args.depth c.args.reader.now c.next_key.new.self key c.in_ok-first.ensures.value) in
+    start ∙ steps.object_is_plain c.args.room c.args.depth _ c.next_key.new.self key (omega arith) (sym c.wrapper_named.ensures ∙ c.in_default.is) ∙ ap (parse_map doc) c.in_ok-read_fields.ensures.gives
+    ∙ ap (λ x. Some (x, c.read_fields.new.reader)) (sym (tree_of-Doc c.in_ok-read_fields.field-0))
+
+-- ---- read_value
+
+pub read_value-returns-in_err-token-clause-gives :
+    goal.read_value-returns-in_err-token-clause-gives
+read_value-returns-in_err-token-clause-gives t c =
+    let p = err_from_is_err_and c.from_residual.result c.from_residual.ensures.1 in
+    let empty : c.args.reader.now ≡ [] = grind arith in
+    let refused : c.in_err-token.field-0.0 ≡ Refused = grind arith in
+    rw (p.1, p.2, refused) (steps.read_none c.args.room c.args.depth c.args.reader.now (ap (value c.args.depth) empty ∙ value_is c.args.depth []))
+
+pub read_value-returns-then-depth-eq0-2-clause-gives :
+    goal.read_value-returns-then-depth-eq0-2-clause-gives
+read_value-returns-then-depth-eq0-2-clause-gives t c =
+    let first : c.args.reader.now ≡ token_of c.in_ok-token.token ∷ c.next.new.self = grind arith in
+    let none : c.args.depth ≡ 0 = omega arith in
+    ap (through (wrap c.args.room)) (ap₂ value none (first ∙ ap (λ k. token_of k ∷ c.next.new.self) c.in-BeginObject.is)) ∙ steps.too_deep_object c.args.room c.next.new.self
+
+pub read_value-returns-in_err-read_items-in-BeginArray-clause-gives :
+    goal.read_value-returns-in_err-read_items-in-BeginArray-clause-gives
+read_value-returns-in_err-read_items-in-BeginArray-clause-gives t c =
+    let e = c.from_residual-in_err-read_items-in-BeginArray in
+    let p = err_from_is_err_and e.result e.ensures.1 in
+    let first : c.args.reader.now ≡ token_of c.in_ok-token.token ∷ c.next.new.self = grind arith in
+    let opened = ap (through (wrap c.args.room)) (ap (value c.args.depth) (first ∙ ap (λ k. token_of k ∷ c.next.new.self) c.in-BeginArray.is)) ∙ steps.array_read c.args.room c.args.depth c.next.new.self (omega arith) (omega arith) in
+    rw (p.1, p.2) (steps.fails_by c.in_err-read_items-in-BeginArray.field-0.0 _ _ (λ none. opened ∙ ap (parse_map array) none) c.in_err-read_items-in-BeginArray.ensures.gives)
+
+pub read_value-returns-in_ok-read_items-in-BeginArray-clause-gives :
+    goal.read_value-returns-in_ok-read_items-in-BeginArray-clause-gives
+read_value-returns-in_ok-read_items-in-BeginArray-clause-gives t c =
+    let first : c.args.reader.now ≡ token_of c.in_ok-token.token ∷ c.next.new.self = grind arith in
+    let opened = ap (through (wrap c.args.room)) (ap (value c.args.depth) (first ∙ ap (λ k. token_of k ∷ c.next.new.self) c.in-BeginArray.is)) ∙ steps.array_read c.args.room c.args.depth c.next.new.self (omega arith) (omega arith) in
+    opened ∙ ap (parse_map array) c.in_ok-read_items-in-BeginArray.ensures.gives ∙ ap (λ x. Some (x, c.read_items.new.reader)) (sym (tree_of-Array c.in_ok-read_items-in-BeginArray.field-0))
+
+pub read_value-returns-else-depth-eq0-2-clause-gives :
+    goal.read_value-returns-else-depth-eq0-2-clause-gives
+read_value-returns-else-depth-eq0-2-clause-gives t c =
+    let first : c.args.reader.now ≡ token_of c.in_ok-token.token ∷ c.next.new.self = grind arith in
+    let opened = ap (through (wrap c.args.room)) (ap (value c.args.depth) (first ∙ ap (λ k. token_of k ∷ c.next.new.self) c.in-BeginObject.is)) ∙ steps.object_read c.args.room c.args.depth c.next.new.self (omega arith) in
+    rw opened c.read_object.ensures.gives
+
+pub read_value-returns-in_ok-from_str-in-String-clause-gives :
+    goal.read_value-returns-in_ok-from_str-in-String-clause-gives
+read_value-returns-in_ok-from_str-in-String-clause-gives t c =
+    let first : c.args.reader.now ≡ token_of c.in_ok-token.token ∷ c.next.new.self = grind arith in
+    let s = c.in_ok-from_str-in-String.field-0 in
+    ap (through (wrap c.args.room)) (ap (value c.args.depth) (first ∙ ap (λ k. token_of k ∷ c.next.new.self) c.in-String.is)) ∙ steps.read_string c.args.room c.args.depth c.in-String.text.now c.next.new.self
+    ∙ ap (λ x. Some (leaf (tree.text x), c.next.new.self)) (sym c.in_ok-from_str-in-String.ensures.ok) ∙ ap (λ x. Some (x, c.next.new.self)) (sym (text_is s))
+
+pub read_value-returns-in-Number-clause-gives : goal.read_value-returns-in-Number-clause-gives
+read_value-returns-in-Number-clause-gives t c =
+    let first : c.args.reader.now ≡ token_of c.in_ok-token.token ∷ c.next.new.self = grind arith in
+    steps.number_told tree_of c.next.new.self c.bare.result c.ok_or-in-Number.result _ _ c.bare.ensures c.ok_or-in-Number.ensures.value
+    (ap (through (wrap c.args.room)) (ap (value c.args.depth) (first ∙ ap (λ k. token_of k ∷ c.next.new.self) c.in-Number.is)) ∙ steps.read_number c.args.room c.args.depth c.in-Number.text.now c.next.new.self)
+
+pub read_value-returns-in-Bool-clause-gives : goal.read_value-returns-in-Bool-clause-gives
+read_value-returns-in-Bool-clause-gives t c =
+    let first : c.args.reader.now ≡ token_of c.in_ok-token.token ∷ c.next.new.self = grind arith in
+    ap (through (wrap c.args.room)) (ap (value c.args.depth) (first ∙ ap (λ k. token_of k ∷ c.next.new.self) c.in-Bool.is)) ∙ steps.read_boolean c.args.room c.args.depth c.in-Bool.b c.next.new.self ∙ ap (λ x. Some (x, c.next.new.self)) (sym (bool_is c.in-Bool.b))
+
+pub read_value-returns-in-Null-clause-gives : goal.read_value-returns-in-Null-clause-gives
+read_value-returns-in-Null-clause-gives t c =
+    let first : c.args.reader.now ≡ token_of c.in_ok-token.token ∷ c.next.new.self = grind arith in
+    ap (through (wrap c.args.room)) (ap (value c.args.depth) (first ∙ ap (λ k. token_of k ∷ c.next.new.self) c.in-Null.is)) ∙ steps.read_null c.args.room c.args.depth c.next.new.self ∙ ap (λ x. Some (x, c.next.new.self)) (sym null_is)
+
+pub read_value-returns-in-EndObject-clause-gives :
+    goal.read_value-returns-in-EndObject-clause-gives
+read_value-returns-in-EndObject-clause-gives t c =
+    let first : c.args.reader.now ≡ token_of c.in_ok-token.token ∷ c.next.new.self = grind arith in
+    steps.read_none c.args.room c.args.depth c.args.reader.now (rw (value_is c.args.depth c.args.reader.now, first) (grind arith))
+
+pub read_value-returns-then-depth-eq0-clause-gives :
+    goal.read_value-returns-then-depth-eq0-clause-gives
+read_value-returns-then-depth-eq0-clause-gives t c =
+    let first : c.args.reader.now ≡ token_of c.in_ok-token.token ∷ c.next.new.self = grind arith in
+    let none : c.args.depth ≡ 0 = omega arith in
+    ap (through (wrap c.args.room)) (ap₂ value none (first ∙ ap (λ k. token_of k ∷ c.next.new.self) c.in-BeginArray.is)) ∙ steps.too_deep c.args.room c.next.new.self
+
+pub read_value-returns-then-room-eq0-clause-gives :
+    goal.read_value-returns-then-room-eq0-clause-gives
+read_value-returns-then-room-eq0-clause-gives t c =
+    let first : c.args.reader.now ≡ token_of c.in_ok-token.token ∷ c.next.new.self = grind arith in
+    ap (through (wrap c.args.room)) (ap (value c.args.depth) (first ∙ ap (λ k. token_of k ∷ c.next.new.self) c.in-BeginArray.is)) ∙ steps.array_refused c.args.room c.args.depth c.next.new.self (omega arith) (omega arith)
+
+-- ---- read_wrapper
+
+pub read_wrapper-returns-in_err-second-clause-gives :
+    goal.read_wrapper-returns-in_err-second-clause-gives
+read_wrapper-returns-in_err-second-clause-gives t c = λ name is.
+    let p = err_from_is_err_and c.from_residual-in_err-second.result c.from_residual-in_err-second.ensures.1 in
+    let w = c.args.wrapper in
+    let j = value_view c.in_ok-part.part in
+    rw (p.1, p.2) (seconds.first_part w name c.args.room c.args.depth (length c.args.reader.now) c.args.reader.now c.read_part.new.reader j is c.in_ok-part.ensures.gives
+        ∙ seconds.no_name (wrapping c.args.room w j (wrap (c.args.room - 1) j)) c.args.depth (length c.args.reader.now) c.read_part.new.reader c.in_err-second.ensures.value)
+
+pub read_wrapper-returns-in_default-clause-gives :
+    goal.read_wrapper-returns-in_default-clause-gives
+read_wrapper-returns-in_default-clause-gives t c = λ name is.
+    let w = c.args.wrapper in
+    let j = value_view c.in_ok-part.part in
+    let s = c.read_part.new.reader in
+    let le : length s ≤ length c.args.reader.now = omega (arith, c.in_ok-part.ensures.shorter) in
+    let key = c.in_ok-second.ensures.value ∙ ap (λ k. Some (option_map (λ (s : Bor (List ℕ)). s.now) k, c.next_key.new.self)) c.in_default.is in
+    steps.told tree_of c.unwrap_single.result c.next_key.new.self (option_map leaf (single w j)) _
+    (seconds.first_part w name c.args.room c.args.depth (length c.args.reader.now) c.args.reader.now s j is c.in_ok-part.ensures.gives
+     ∙ seconds.ended (wrapping c.args.room w j (wrap (c.args.room - 1) j)) c.args.depth (length c.args.reader.now) s c.next_key.new.self le key)
+    c.unwrap_single.ensures
+
+pub read_wrapper-returns-then-not-is_code-clause-gives :
+    goal.read_wrapper-returns-then-not-is_code-clause-gives
+read_wrapper-returns-then-not-is_code-clause-gives t c = λ name is.
+    let w = c.args.wrapper in
+    let j = value_view c.in_ok-part.part in
+    let s = c.read_part.new.reader in
+    let f = wrapping c.args.room w j (wrap (c.args.room - 1) j) in
+    let le : length s ≤ length c.args.reader.now = omega (arith, c.in_ok-part.ensures.shorter) in
+    let key = c.in_ok-second.ensures.value ∙ ap (λ k. Some (option_map (λ (s : Bor (List ℕ)). s.now) k, c.next_key.new.self)) c.in-Some.is in
+    seconds.first_part w name c.args.room c.args.depth (length c.args.reader.now) c.args.reader.now s j is c.in_ok-part.ensures.gives
+    ∙ seconds.named f c.in-Some.second.now c.args.depth (length c.args.reader.now) s c.next_key.new.self le key
+    ∙ seconds.refused_member f c.in-Some.second.now c.args.depth (length c.args.reader.now - 1) c.next_key.new.self
+    (λ i ms. seconds.one_name_alone w c.args.room j (wrap (c.args.room - 1) j) c.in-Some.second.now i ms (sym c.if-not-is_code.ensures) (sym c.if-is_scope.ensures))
+
+pub read_wrapper-returns-clause-gives : goal.read_wrapper-returns-clause-gives
+read_wrapper-returns-clause-gives t c = λ name is.
+    let w = c.args.wrapper in
+    let code : w ≡ kinds.Code = seconds.code_is w (sym c.if-not-is_code.ensures) in
+    let j = value_view c.in_ok-part.part in
+    let s = c.read_part.new.reader in
+    let r = c.next_key.new.self in
+    let n = length c.args.reader.now in
+    let u = wrap (c.args.room - 1) j in
+    let le : length s ≤ n = omega (arith, c.in_ok-part.ensures.shorter) in
+    let key = c.in_ok-second.ensures.value ∙ ap (λ k. Some (option_map (λ (s : Bor (List ℕ)). s.now) k, r)) c.in-Some.is in
+    let shorter = read_key-shorter s (Some c.in-Some.second.now) r key in
+    let less : length r ≤ n - 1 = omega (arith, c.in_ok-part.ensures.shorter, shorter) in
+    rw (seconds.first_part kinds.Code name c.args.room c.args.depth n c.args.reader.now s j (is ∙ ap Some code) c.in_ok-part.ensures.gives
+        ∙ seconds.named (wrapping c.args.room kinds.Code j u) c.in-Some.second.now c.args.depth n s r le key)
+    (c.read_scope_second.ensures.gives (n - 1) u less)
+
+-- ---- read_scope_second
+
+pub read_scope_second-returns-then-room-eq0-clause-gives :
+    goal.read_scope_second-returns-then-room-eq0-clause-gives
+read_scope_second-returns-then-room-eq0-clause-gives t c = λ n u le.
+    seconds.no_room_second kinds.Code c.args.second.now c.args.room c.args.depth n c.args.reader.now (value_view c.args.code.now) u (omega arith)
+
+pub read_scope_second-returns-then-not-names_scope-clause-gives :
+    goal.read_scope_second-returns-then-not-names_scope-clause-gives
+read_scope_second-returns-then-not-names_scope-clause-gives t c = λ n u le.
+    seconds.code_without_scope c.args.second.now c.args.room c.args.depth n c.args.reader.now (value_view c.args.code.now) u (sym c.if-not-names_scope.ensures)
+
+pub read_scope_second-returns-in_err-scope-clause-gives :
+    goal.read_scope_second-returns-in_err-scope-clause-gives
+read_scope_second-returns-in_err-scope-clause-gives t c = λ n u le.
+    let p = err_from_is_err_and c.from_residual.result c.from_residual.ensures.1 in
+    rw (p.1, p.2) (steps.fails_by c.in_err-scope.field-0.0 (through (wrap (c.args.room - 1)) (value c.args.depth c.args.reader.now)) _
+        (λ none. seconds.scope_unread c.args.second.now c.args.room c.args.depth n c.args.reader.now (value_view c.args.code.now) u (sym c.if-not-names_scope.ensures) none)
+        c.in_err-scope.ensures.gives)
+
+pub read_scope_second-returns-in_err-end_object-clause-gives :
+    goal.read_scope_second-returns-in_err-end_object-clause-gives
+read_scope_second-returns-in_err-end_object-clause-gives t c = λ n u le.
+    let p = err_from_is_err_and c.from_residual-in_err-end_object.result c.from_residual-in_err-end_object.ensures.1 in
+    let r = c.read_value.new.reader in
+    let less : length r ≤ n = omega (arith, le, c.in_ok-scope.ensures.shorter) in
+    rw (p.1, p.2) (steps.fails_by c.in_err-end_object.field-0.0 (closing r) _
+        (λ none. seconds.scope_unended c.args.second.now c.args.room c.args.depth n c.args.reader.now r (value_view c.args.code.now) u (tree_of c.in_ok-scope.scope) (sym c.if-not-names_scope.ensures) c.in_ok-scope.ensures.gives less none)
+        c.in_err-end_object.ensures.gives)
+
+pub read_scope_second-returns-clause-gives :
+    goal.read_scope_second-returns-clause-gives
+read_scope_second-returns-clause-gives t c = λ n u le.
+    let r = c.read_value.new.reader in
+    let s = c.end_object.new.reader in
+    let less : length r ≤ n = omega (arith, le, c.in_ok-scope.ensures.shorter) in
+    steps.told tree_of c.code_with_scope.result s _ _
+    (seconds.scope_ended c.args.second.now c.args.room c.args.depth n c.args.reader.now r s (value_view c.args.code.now) u (tree_of c.in_ok-scope.scope) (sym c.if-not-names_scope.ensures) c.in_ok-scope.ensures.gives less
+    c.in_ok-end_object.ensures.gives (omega arith))
+    c.code_with_scope.ensures
+
+-- ---- read_scope_first
+
+pub read_scope_first-returns-then-room-eq0-clause-gives :
+    goal.read_scope_first-returns-then-room-eq0-clause-gives
+read_scope_first-returns-then-room-eq0-clause-gives t c = λ name is.
+    seconds.no_room_first name c.args.room c.args.depth (length c.args.reader.now) c.args.reader.now is (omega arith)
+
+pub read_scope_first-returns-in_err-scope-clause-gives :
+    goal.read_scope_first-returns-in_err-scope-clause-gives
+read_scope_first-returns-in_err-scope-clause-gives t c = λ name is.
+    let p = err_from_is_err_and c.from_residual.result c.from_residual.ensures.1 in
+    rw (p.1, p.2) (steps.fails_by c.in_err-scope.field-0.0 (through (wrap (c.args.room - 1)) (value c.args.depth c.args.reader.now)) _
+        (λ none. seconds.first_unread name c.args.room c.args.depth (length c.args.reader.now) c.args.reader.now is none)
+        c.in_err-scope.ensures.gives)
+
+pub read_scope_first-returns-clause-gives :
+    goal.read_scope_first-returns-clause-gives
+read_scope_first-returns-clause-gives t c = λ name is.
+    let r = c.read_value.new.reader in
+    let p = seconds.first_read name c.args.room c.args.depth (length c.args.reader.now) c.args.reader.now r (tree_of c.in_ok-scope.scope) is c.in_ok-scope.ensures.gives in
+    let le : length r ≤ length c.args.reader.now = omega (arith, c.in_ok-scope.ensures.shorter) in
+    rw (p.1) (c.read_code_second.ensures.gives (length c.args.reader.now) c.args.room p.0 le (omega arith))
