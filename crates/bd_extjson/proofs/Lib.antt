@@ -1,4 +1,5 @@
 pub mod Back
+pub mod DecimalsBack
 pub mod Determined
 pub mod Escapes
 pub mod Fronts
@@ -9,10 +10,16 @@ pub mod Numbers
 pub mod Parts
 pub mod Pieces
 pub mod Prefix
+pub mod Printed
+pub mod ReadBack
 pub mod Rows
+pub mod ScalarsBack
 pub mod Steps
 pub mod Symbols
+pub mod TokensBack
 pub mod TreeJson
+pub mod TreesBack
+pub mod Utf8Text
 pub mod Written
 pub mod Turns
 pub mod Seconds

@@ -18,7 +18,7 @@ abbrev first : List ℕ → ℕ × List ℕ
 first [] = (0, [])
 first (c ∷ xs) = if c == 92 then behind_backslash xs else (c, xs)
 
-unless : (n b : ℕ) (P : ℕ → Type 0) → P n → ((b == n) ≡ false → P b) → P b
+pub unless : (n b : ℕ) (P : ℕ → Type 0) → P n → ((b == n) ≡ false → P b) → P b
 unless n b P here other = one (b == n) refl
   where
     one : (v : Bool) → (b == n) ≡ v → P b

@@ -1,6 +1,7 @@
 pub mod JsonFault
 pub mod Plain
 pub mod Progress
+pub mod Readable
 pub mod Reads
 pub mod Text
 pub mod Whole

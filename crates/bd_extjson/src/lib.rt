@@ -25,7 +25,7 @@ mod wrapper_values;
 pub use json::Scratch;
 pub use json_fault::{JsonFault, JsonFaultKind};
 pub use json_string::{write_path, write_string};
-pub use laws::text_determines_document;
+pub use laws::{reads_back, text_determines_document};
 pub use number::{write_number, write_number32};
 pub use read::{read_doc, read_doc_with};
 pub use text::{write_doc, write_node, write_value};
