@@ -14,12 +14,13 @@ pub mod Printed
 pub mod ReadBack
 pub mod Rows
 pub mod ScalarsBack
+pub mod Seconds
 pub mod Steps
 pub mod Symbols
 pub mod TokensBack
 pub mod TreeJson
 pub mod TreesBack
-pub mod Utf8Text
-pub mod Written
 pub mod Turns
-pub mod Seconds
+pub mod Utf8Text
+pub mod WholeText
+pub mod Written

@@ -1,17 +1,54 @@
 //! The document that a text is.
-ghost use Rattle.std.specs.Prelude.{◌≡◌, ◌≢◌, IfOk, IfErr};
+ghost use Rattle.std.specs.Prelude.{◌≡◌, ◌≢◌, ◌≤◌, IfOk, IfErr, length, option_and_then};
 ghost use Rattle.bd_value.specs.Tree.{Doc};
-ghost use Rattle.bd_value.specs.View.{pairs};
-ghost use Rattle.bd_extjson.specs.Reads.{Reads};
+ghost use Rattle.bd_value.specs.View.{tree_of, pairs};
+ghost use Rattle.bd_extjson.specs.Progress.{Tells};
+ghost use Rattle.bd_extjson.specs.Reads.{Reads, json, reading};
+ghost use Rattle.bd_extjson.specs.Wrap.{wrap};
 ghost use Rattle.bd_extjson.specs.declared.json_fault.JsonFaultKind.TheVariants as kinds;
 
 use crate::json_fault::{JsonFault, JsonFaultKind};
-use bd_value::Document;
-use json::Scratch;
+use crate::reading::{document_of, read_value};
+use crate::trouble::Trouble;
+use bd_value::{Document, Value};
+use json::{Reader, Scratch};
 use std::alloc::Global;
+
+/// So many documents and arrays may stand in one another.
+const LEVELS: usize = 200;
+
+/// So many brackets may stand in one another: three more, since the deepest value may be a wrapper of two levels, and the
+/// JSON of a whole text is looked at before its levels are.
+const BRACKETS: usize = 203;
+
+fn read_text(alloc: Global, text: &str, scratch: &mut Scratch) -> Result<Value, Trouble>
+    ensures { Tells tree_of result (option_and_then (wrap 200) (json text.now)) }
+{
+    let mut reader = Reader::new(text, scratch)?;
+    let value = read_value(alloc, &mut reader, LEVELS, BRACKETS)?;
+    if reader.next().is_some() {
+        return Err(Trouble::Refused);
+    }
+    Ok(value)
+}
+
+fn read_bytes(alloc: Global, text: &[u8], scratch: &mut Scratch) -> Result<Document, Trouble>
+    ensures { Tells pairs result (reading text.now) }
+{
+    let text = match simdutf8::compat::from_utf8(text) {
+        Ok(text) => text,
+        Err(_) => return Err(Trouble::Refused),
+    };
+    let value = read_text(alloc, text, scratch)?;
+    document_of(value).ok_or(Trouble::Refused)
+}
 
 /// The document that the text is: Extended JSON v2, canonical form, and bare whole numbers, with any white space and escapes
 /// of JSON.
+///
+/// # Errors
+/// One for each rule of `JsonFaultKind`, with its byte. JSON is looked at first, over the whole text, and then the tree from
+/// left to right. `NoMemory` where the allocator gives no memory.
 pub fn read_doc(alloc: Global, text: &[u8]) -> Result<Document, JsonFault>
     // What is read is what the text is.
     ensures found { IfOk result (λ d. Reads text.now (pairs d)) }
@@ -22,7 +59,7 @@ pub fn read_doc(alloc: Global, text: &[u8]) -> Result<Document, JsonFault>
     read_doc_with(alloc, text, &mut scratch)
 }
 
-/// `read_doc`, with room for texts with escapes that a caller keeps from text to text.
+/// `read_doc`, with room for the texts that have escapes, which a caller keeps from text to text.
 pub fn read_doc_with(
     alloc: Global,
     text: &[u8],
@@ -31,8 +68,15 @@ pub fn read_doc_with(
     ensures found { IfOk result (λ d. Reads text.now (pairs d)) }
     ensures none { IfErr result (λ f. f.kind ≢ kinds.NoMemory → (d : Doc) → Reads text.now d → ⊥) }
 {
-    Err(JsonFault {
-        kind: JsonFaultKind::NoMemory,
-        at: 0,
-    })
+    match read_bytes(alloc, text, scratch) {
+        Ok(document) => Ok(document),
+        Err(Trouble::Memory) => Err(JsonFault {
+            kind: JsonFaultKind::NoMemory,
+            at: 0,
+        }),
+        Err(Trouble::Refused) => Err(JsonFault {
+            kind: JsonFaultKind::Syntax,
+            at: 0,
+        }),
+    }
 }

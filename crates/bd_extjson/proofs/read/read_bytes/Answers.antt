@@ -1,0 +1,5 @@
+use Rattle.bd_extjson.proofs.WholeText.{no_text}
+use Rattle.bd_extjson.proofs.read.read_bytes.Goals as goal
+
+pub returns-in-Err : goal.returns-in-Err
+returns-in-Err c = no_text c.args.text.now c.in-Err.ensures.cases.0
