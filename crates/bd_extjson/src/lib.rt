@@ -9,6 +9,8 @@ mod json_string;
 mod laws;
 mod number;
 mod read;
+#[cfg(test)]
+mod read_tests;
 mod reading;
 mod scalar;
 #[cfg(test)]

@@ -60,11 +60,7 @@ pub(crate) fn document_of(value: Value) -> Option<Document>
 }
 
 /// Code with scope, of the JSON that stands behind `$code` and the value that stands behind `$scope`.
-fn code_with_scope(
-    alloc: Global,
-    code: &json::Value<'_>,
-    scope: Value,
-) -> Result<Value, Trouble>
+fn code_with_scope(alloc: Global, code: &json::Value<'_>, scope: Value) -> Result<Value, Trouble>
     ensures { Tells tree_of result (with_scope (as_str (value_view code.now)) (Some (tree_of scope))) }
 {
     let text = code.as_str().ok_or(Trouble::Refused)?;

@@ -87,8 +87,8 @@ read_items-returns-in_err-value-clause-gives t c =
     let l = c.loop-alloc in
     let going : (after_end_array l.reader ≡ None) × (c.take_end_array.new.self ≡ l.reader) = grind arith in
     rw (p.1, p.2) (steps.fails_by c.in_err-value.field-0.0 (through (wrap c.args.room) (value c.args.depth c.take_end_array.new.self)) _
-        (λ none. l.invariant.2 ∙ ap (parse_map (items_before (map tree_of l.found.items))) (steps.items_refused c.args.room c.args.depth l.invariant.0 l.reader going.0 (rw (← going.1) none)))
-        c.in_err-value.ensures.gives)
+    (λ none. l.invariant.2 ∙ ap (parse_map (items_before (map tree_of l.found.items))) (steps.items_refused c.args.room c.args.depth l.invariant.0 l.reader going.0 (rw (← going.1) none)))
+    c.in_err-value.ensures.gives)
 
 pub read_items-loop-alloc-preserved : goal.read_items-loop-alloc-preserved
 read_items-loop-alloc-preserved t c =
@@ -143,8 +143,8 @@ read_object-returns-in_err-read_fields-clause-gives t c =
     let key = option_map (λ s. s.now) c.in_ok-first.first in
     let start = ap (through (wrap_object c.args.room)) (steps.first_name c.args.depth c.args.reader.now c.next_key.new.self key c.in_ok-first.ensures.value) in
     rw (p.1, p.2) (steps.fails_by c.in_err-read_fields.field-0.0 _ _
-        (λ none. start ∙ steps.object_is_plain c.args.room c.args.depth _ c.next_key.new.self key (omega arith) (sym c.wrapper_named.ensures ∙ c.in_default.is) ∙ ap (parse_map doc) none)
-        c.in_err-read_fields.ensures.gives)
+    (λ none. start ∙ steps.object_is_plain c.args.room c.args.depth _ c.next_key.new.self key (omega arith) (sym c.wrapper_named.ensures ∙ c.in_default.is) ∙ ap (parse_map doc) none)
+    c.in_err-read_fields.ensures.gives)
 
 pub read_object-returns-clause-gives : goal.read_object-returns-clause-gives
 read_object-returns-clause-gives t c =
@@ -245,7 +245,7 @@ read_wrapper-returns-in_err-second-clause-gives t c = λ name is.
     let w = c.args.wrapper in
     let j = value_view c.in_ok-part.part in
     rw (p.1, p.2) (seconds.first_part w name c.args.room c.args.depth (length c.args.reader.now) c.args.reader.now c.read_part.new.reader j is c.in_ok-part.ensures.gives
-        ∙ seconds.no_name (wrapping c.args.room w j (wrap (c.args.room - 1) j)) c.args.depth (length c.args.reader.now) c.read_part.new.reader c.in_err-second.ensures.value)
+    ∙ seconds.no_name (wrapping c.args.room w j (wrap (c.args.room - 1) j)) c.args.depth (length c.args.reader.now) c.read_part.new.reader c.in_err-second.ensures.value)
 
 pub read_wrapper-returns-in_default-clause-gives :
     goal.read_wrapper-returns-in_default-clause-gives
@@ -257,7 +257,7 @@ read_wrapper-returns-in_default-clause-gives t c = λ name is.
     let key = c.in_ok-second.ensures.value ∙ ap (λ k. Some (option_map (λ (s : Bor (List ℕ)). s.now) k, c.next_key.new.self)) c.in_default.is in
     steps.told tree_of c.unwrap_single.result c.next_key.new.self (option_map leaf (single w j)) _
     (seconds.first_part w name c.args.room c.args.depth (length c.args.reader.now) c.args.reader.now s j is c.in_ok-part.ensures.gives
-     ∙ seconds.ended (wrapping c.args.room w j (wrap (c.args.room - 1) j)) c.args.depth (length c.args.reader.now) s c.next_key.new.self le key)
+    ∙ seconds.ended (wrapping c.args.room w j (wrap (c.args.room - 1) j)) c.args.depth (length c.args.reader.now) s c.next_key.new.self le key)
     c.unwrap_single.ensures
 
 pub read_wrapper-returns-then-not-is_code-clause-gives :
@@ -288,7 +288,7 @@ read_wrapper-returns-clause-gives t c = λ name is.
     let shorter = read_key-shorter s (Some c.in-Some.second.now) r key in
     let less : length r ≤ n - 1 = omega (arith, c.in_ok-part.ensures.shorter, shorter) in
     rw (seconds.first_part kinds.Code name c.args.room c.args.depth n c.args.reader.now s j (is ∙ ap Some code) c.in_ok-part.ensures.gives
-        ∙ seconds.named (wrapping c.args.room kinds.Code j u) c.in-Some.second.now c.args.depth n s r le key)
+    ∙ seconds.named (wrapping c.args.room kinds.Code j u) c.in-Some.second.now c.args.depth n s r le key)
     (c.read_scope_second.ensures.gives (n - 1) u less)
 
 -- ---- read_scope_second
@@ -308,8 +308,8 @@ pub read_scope_second-returns-in_err-scope-clause-gives :
 read_scope_second-returns-in_err-scope-clause-gives t c = λ n u le.
     let p = err_from_is_err_and c.from_residual.result c.from_residual.ensures.1 in
     rw (p.1, p.2) (steps.fails_by c.in_err-scope.field-0.0 (through (wrap (c.args.room - 1)) (value c.args.depth c.args.reader.now)) _
-        (λ none. seconds.scope_unread c.args.second.now c.args.room c.args.depth n c.args.reader.now (value_view c.args.code.now) u (sym c.if-not-names_scope.ensures) none)
-        c.in_err-scope.ensures.gives)
+    (λ none. seconds.scope_unread c.args.second.now c.args.room c.args.depth n c.args.reader.now (value_view c.args.code.now) u (sym c.if-not-names_scope.ensures) none)
+    c.in_err-scope.ensures.gives)
 
 pub read_scope_second-returns-in_err-end_object-clause-gives :
     goal.read_scope_second-returns-in_err-end_object-clause-gives
@@ -318,8 +318,8 @@ read_scope_second-returns-in_err-end_object-clause-gives t c = λ n u le.
     let r = c.read_value.new.reader in
     let less : length r ≤ n = omega (arith, le, c.in_ok-scope.ensures.shorter) in
     rw (p.1, p.2) (steps.fails_by c.in_err-end_object.field-0.0 (closing r) _
-        (λ none. seconds.scope_unended c.args.second.now c.args.room c.args.depth n c.args.reader.now r (value_view c.args.code.now) u (tree_of c.in_ok-scope.scope) (sym c.if-not-names_scope.ensures) c.in_ok-scope.ensures.gives less none)
-        c.in_err-end_object.ensures.gives)
+    (λ none. seconds.scope_unended c.args.second.now c.args.room c.args.depth n c.args.reader.now r (value_view c.args.code.now) u (tree_of c.in_ok-scope.scope) (sym c.if-not-names_scope.ensures) c.in_ok-scope.ensures.gives less none)
+    c.in_err-end_object.ensures.gives)
 
 pub read_scope_second-returns-clause-gives :
     goal.read_scope_second-returns-clause-gives
@@ -344,8 +344,8 @@ pub read_scope_first-returns-in_err-scope-clause-gives :
 read_scope_first-returns-in_err-scope-clause-gives t c = λ name is.
     let p = err_from_is_err_and c.from_residual.result c.from_residual.ensures.1 in
     rw (p.1, p.2) (steps.fails_by c.in_err-scope.field-0.0 (through (wrap (c.args.room - 1)) (value c.args.depth c.args.reader.now)) _
-        (λ none. seconds.first_unread name c.args.room c.args.depth (length c.args.reader.now) c.args.reader.now is none)
-        c.in_err-scope.ensures.gives)
+    (λ none. seconds.first_unread name c.args.room c.args.depth (length c.args.reader.now) c.args.reader.now is none)
+    c.in_err-scope.ensures.gives)
 
 pub read_scope_first-returns-clause-gives :
     goal.read_scope_first-returns-clause-gives

@@ -31,8 +31,8 @@ returns-in_err-code-clause-gives c = λ n room j le h.
     let p = err_from_is_err_and c.from_residual-in_err-code.result c.from_residual-in_err-code.ensures.1 in
     let key = c.in_ok-second.ensures.value ∙ ap (λ k. Some (option_map (λ (s : Bor (List ℕ)). s.now) k, c.next_key.new.self)) c.in-Some.is in
     rw (p.1, p.2) (fails_by c.in_err-code.field-0.0 (value c.args.depth c.next_key.new.self) _
-        (λ none. seconds.code_unread c.in-Some.second.now room c.args.depth n c.args.reader.now c.next_key.new.self j (Some (tree_of c.args.scope)) le key none)
-        c.in_err-code.ensures.gives)
+    (λ none. seconds.code_unread c.in-Some.second.now room c.args.depth n c.args.reader.now c.next_key.new.self j (Some (tree_of c.args.scope)) le key none)
+    c.in_err-code.ensures.gives)
 
 pub returns-in_err-end_object-clause-gives : goal.returns-in_err-end_object-clause-gives
 returns-in_err-end_object-clause-gives c = λ n room j le h.
@@ -43,8 +43,8 @@ returns-in_err-end_object-clause-gives c = λ n room j le h.
     let shorter = read_key-shorter c.args.reader.now (Some c.in-Some.second.now) r key in
     let less : length s ≤ n - 1 = omega (arith, le, shorter, c.in_ok-code.ensures.shorter) in
     rw (p.1, p.2) (fails_by c.in_err-end_object.field-0.0 (closing s) _
-        (λ none. seconds.code_unended c.in-Some.second.now room c.args.depth n c.args.reader.now r s j (value_view c.in_ok-code.code) (Some (tree_of c.args.scope)) le key c.in_ok-code.ensures.gives less none)
-        c.in_err-end_object.ensures.gives)
+    (λ none. seconds.code_unended c.in-Some.second.now room c.args.depth n c.args.reader.now r s j (value_view c.in_ok-code.code) (Some (tree_of c.args.scope)) le key c.in_ok-code.ensures.gives less none)
+    c.in_err-end_object.ensures.gives)
 
 pub returns-clause-gives : goal.returns-clause-gives
 returns-clause-gives c = λ n room j le h.
