@@ -1,35 +1,25 @@
 //! Whole numbers, as texts write them.
 ghost use Rattle.std.specs.Prelude.{◌≡◌};
-ghost use Rattle.std.specs.Str.{all_ascii_digits};
-ghost use Rattle.bd_extjson.specs.Whole.{are_digits, is_whole, whole_64, whole_32};
+ghost use Rattle.bd_extjson.specs.Whole.{begins_digits, begins_whole, whole_64, whole_32};
 
-fn are_all_digits(bytes: &[u8]) -> bool
-    ensures { result ≡ all_ascii_digits bytes.now }
-{
-    for c in bytes {
-        if !c.is_ascii_digit() {
-            return false;
-        }
-    }
-    true
-}
-
-fn is_number(digits: &[u8]) -> bool
-    ensures { result ≡ are_digits digits.now }
+/// Whether digits begin with no plus sign and with no zero before others.
+fn begins_as_digits(digits: &[u8]) -> bool
+    ensures { result ≡ begins_digits digits.now }
 {
     match digits {
-        [] => false,
         [b'0', rest @ ..] => rest.is_empty(),
-        [_, ..] => are_all_digits(digits),
+        [b'+', ..] => false,
+        _ => true,
     }
 }
 
-fn is_whole_number(text: &[u8]) -> bool
-    ensures { result ≡ is_whole text.now }
+/// The same behind a minus sign, where there is one.
+fn begins_as_whole(text: &[u8]) -> bool
+    ensures { result ≡ begins_whole text.now }
 {
     match text {
-        [b'-', digits @ ..] => is_number(digits),
-        _ => is_number(text),
+        [b'-', digits @ ..] => begins_as_digits(digits),
+        _ => begins_as_digits(text),
     }
 }
 
@@ -37,7 +27,7 @@ fn is_whole_number(text: &[u8]) -> bool
 pub(crate) fn whole(text: &str) -> Option<i64>
     ensures { result ≡ whole_64 text.now }
 {
-    if !is_whole_number(text.as_bytes()) {
+    if !begins_as_whole(text.as_bytes()) {
         return None;
     }
     text.parse::<i64>().ok()
