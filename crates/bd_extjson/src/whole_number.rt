@@ -24,7 +24,8 @@ fn is_number(digits: &[u8]) -> bool
     }
 }
 
-fn is_whole_number(text: &[u8]) -> bool
+/// Whether a text has the form `-?(0|[1-9][0-9]*)`.
+pub(crate) fn is_whole_number(text: &[u8]) -> bool
     ensures { result ≡ is_whole text.now }
 {
     match text {
