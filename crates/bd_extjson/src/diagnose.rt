@@ -4,7 +4,7 @@ ghost use Rattle.std.specs.Prelude.{◌≤◌, length};
 use crate::findings::{Form, Sought};
 use crate::json_fault::{JsonFault, JsonFaultKind};
 use crate::skip::{MAX_BRACKETS, Stop, skip_white};
-use crate::walk::value;
+use crate::walk;
 use std::alloc::Global;
 
 /// So many documents and arrays may stand one in the other.
@@ -12,7 +12,7 @@ const MAX_LEVELS: usize = 200;
 
 /// The text as JSON, then as a tree, then as a document.
 fn check(alloc: Global, text: &[u8]) -> Result<(), Stop> {
-    let walked = value(alloc, text, MAX_BRACKETS, Sought::Tree(MAX_LEVELS))?;
+    let walked = walk::value(alloc, text, MAX_BRACKETS, Sought::Tree(MAX_LEVELS))?;
     let behind = skip_white(walked.rest);
     if !behind.is_empty() {
         return Err(Stop::at(behind, JsonFaultKind::TrailingText));

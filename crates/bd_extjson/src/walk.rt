@@ -77,6 +77,7 @@ pub(crate) fn value(
     }
 }
 
+/// An array, which begins the text.
 #[cycle(walk)]
 fn array(alloc: Global, text: &[u8], level: usize, sought: Sought) -> Result<Walked<'_>, Stop>
     ensures { IfOk result (λ walked. length walked.rest.now < length text.now) }
@@ -109,22 +110,23 @@ fn array(alloc: Global, text: &[u8], level: usize, sought: Sought) -> Result<Wal
     }
 }
 
+/// An object that is read as a document, or as JSON alone.
 #[cycle(walk)]
-fn document(alloc: Global, text: &[u8], level: usize, sought: Sought) -> Result<Walked<'_>, Stop>
+fn members(alloc: Global, text: &[u8], level: usize, sought: Sought) -> Result<Walked<'_>, Stop>
     ensures { IfOk result (λ walked. length walked.rest.now < length text.now) }
 {
     let mut search = Search::begin(text, sought);
-    let [_, members @ ..] = text else {
+    let [_, inside @ ..] = text else {
         return Err(Stop::syntax(text));
     };
-    if let [b'}', rest @ ..] = skip_white(members) {
+    if let [b'}', rest @ ..] = skip_white(inside) {
         return Ok(Walked {
             form: Form::Document,
             fault: search.fault,
             rest,
         });
     }
-    let mut rest = members;
+    let mut rest = inside;
     loop {
         let key = skip_key(rest)?;
         search.note_name(alloc, &key)?;
@@ -158,18 +160,19 @@ fn first_wrapper(alloc: Global, text: &[u8]) -> Result<Option<Wrapper>, Stop> {
     }
 }
 
+/// An object, which its first name makes a wrapper or a document.
 #[cycle(walk)]
 fn object(alloc: Global, text: &[u8], level: usize, sought: Sought) -> Result<Walked<'_>, Stop>
     ensures { IfOk result (λ walked. length walked.rest.now < length text.now) }
 {
     let Sought::Tree(room) = sought else {
-        return document(alloc, text, level, sought);
+        return members(alloc, text, level, sought);
     };
     match first_wrapper(alloc, text)? {
-        None => document(alloc, text, level, sought),
+        None => members(alloc, text, level, sought),
         Some(Wrapper::Code | Wrapper::Scope) => code(alloc, text, level, room),
         Some(wrapper) => {
-            let rest = document(alloc, text, level, Sought::Json)?.rest;
+            let rest = members(alloc, text, level, Sought::Json)?.rest;
             let object = &text[..text.len() - rest.len()];
             let fault = check_wrapper(alloc, wrapper, object).err();
             Ok(Walked {
@@ -181,6 +184,7 @@ fn object(alloc: Global, text: &[u8], level: usize, sought: Sought) -> Result<Wa
     }
 }
 
+/// An object whose first name is `$code` or `$scope`. Its scope is walked where it stands, and judged behind the rest.
 #[cycle(walk)]
 fn code(alloc: Global, text: &[u8], level: usize, room: usize) -> Result<Walked<'_>, Stop>
     ensures { IfOk result (λ walked. length walked.rest.now < length text.now) }

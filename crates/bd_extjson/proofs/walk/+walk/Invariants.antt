@@ -7,8 +7,8 @@ decreases-value l = 3 * l.level
 abbrev pub decreases-array : goal.decreases-array
 decreases-array l = 3 * l.level + 1
 
-abbrev pub decreases-document : goal.decreases-document
-decreases-document l = 3 * l.level + 1
+abbrev pub decreases-members : goal.decreases-members
+decreases-members l = 3 * l.level + 1
 
 abbrev pub decreases-code : goal.decreases-code
 decreases-code l = 3 * l.level + 1
@@ -22,11 +22,11 @@ invariant-array-loop-item l = length l.rest < length l.fn.text
 abbrev pub decreases-array-loop-item : goal.decreases-array-loop-item
 decreases-array-loop-item l = length l.rest
 
-abbrev pub invariant-document-loop-key : goal.invariant-document-loop-key
-invariant-document-loop-key l = length l.rest < length l.fn.text
+abbrev pub invariant-members-loop-key : goal.invariant-members-loop-key
+invariant-members-loop-key l = length l.rest < length l.fn.text
 
-abbrev pub decreases-document-loop-key : goal.decreases-document-loop-key
-decreases-document-loop-key l = length l.rest
+abbrev pub decreases-members-loop-key : goal.decreases-members-loop-key
+decreases-members-loop-key l = length l.rest
 
 abbrev pub invariant-code-loop-key : goal.invariant-code-loop-key
 invariant-code-loop-key l = length l.rest < length l.fn.text
