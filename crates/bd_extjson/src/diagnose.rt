@@ -1,4 +1,6 @@
-//! Why a text is no document, and where: a second pass over the whole text, for texts that are refused.
+//! Why a text is no document, and where: a pass over the whole text, for texts that are refused.
+//!
+//! What is no JSON stops the walk where it stands. The first fault of the tree is kept until the text has shown itself as JSON.
 ghost use Rattle.std.specs.Prelude.{◌≤◌, length};
 
 use crate::findings::{Form, Sought};
@@ -10,8 +12,11 @@ use std::alloc::Global;
 /// So many documents and arrays may stand one in the other.
 const MAX_LEVELS: usize = 200;
 
-/// The text as JSON, then as a tree, then as a document.
+/// The text as UTF-8, as JSON, as a tree and as a document.
 fn check(alloc: Global, text: &[u8]) -> Result<(), Stop> {
+    if let Err(error) = str::from_utf8(text) {
+        return Err(Stop::syntax(&text[error.valid_up_to()..]));
+    }
     let walked = walk::value(alloc, text, MAX_BRACKETS, Sought::Tree(MAX_LEVELS))?;
     let behind = skip_white(walked.rest);
     if !behind.is_empty() {
@@ -28,28 +33,15 @@ fn check(alloc: Global, text: &[u8]) -> Result<(), Stop> {
 
 /// The first fault of a text: of its UTF-8, of its JSON, of its tree from left to right, and last that it is no document.
 ///
-/// Where it finds none it says `Syntax` at the text's end.
+/// It is asked of texts that are refused. Where it finds no fault it says `Syntax` at the text's end.
 pub(crate) fn diagnose(alloc: Global, text: &[u8]) -> JsonFault
     ensures place { result.at ≤ length text.now }
 {
-    if let Err(error) = str::from_utf8(text) {
-        return JsonFault {
-            kind: JsonFaultKind::Syntax,
-            at: error.valid_up_to() as u64,
-        };
-    }
     match check(alloc, text) {
         Ok(()) => JsonFault {
             kind: JsonFaultKind::Syntax,
             at: text.len() as u64,
         },
-        Err(stop) if stop.kind == JsonFaultKind::NoMemory => JsonFault {
-            kind: stop.kind,
-            at: 0,
-        },
-        Err(stop) => JsonFault {
-            kind: stop.kind,
-            at: text.len().saturating_sub(stop.left) as u64,
-        },
+        Err(stop) => stop.in_text(text.len()),
     }
 }

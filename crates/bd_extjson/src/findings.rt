@@ -23,7 +23,7 @@ pub(crate) enum Form {
     Other,
 }
 
-/// A value of a text that is JSON up to its end.
+/// A value of the text, which is JSON up to the value's end.
 #[derive(Clone, Copy, Drop)]
 pub(crate) struct Walked<'a> {
     pub form: Form,
@@ -59,6 +59,7 @@ impl Search {
         }
     }
 
+    /// Takes the fault of a part. No second one comes, since nothing is sought behind the first.
     pub fn note(&mut self, fault: Option<Stop>) {
         if fault.is_some() {
             self.fault = fault;
@@ -66,6 +67,7 @@ impl Search {
         }
     }
 
+    /// Looks for a zero in the name of a member.
     pub fn note_name(&mut self, alloc: Global, key: &Key<'_>) -> Result<(), Stop> {
         if let Sought::Json = self.sought {
             return Ok(());
@@ -97,6 +99,7 @@ impl CodeParts {
         }
     }
 
+    /// Takes the part of that name.
     pub fn note(&mut self, name: Name, part: &Walked<'_>) {
         match name {
             Name::Wrapper(Wrapper::Code) if self.code.is_none() => self.code = Some(part.form),

@@ -1,12 +1,12 @@
 //! The tokens of JSON (RFC 8259), passed one by one, with the first byte that cannot continue.
 ghost use Rattle.std.specs.Prelude.{◌<◌, ◌≤◌, length, IfOk};
 
-use crate::json_fault::JsonFaultKind;
+use crate::json_fault::{JsonFault, JsonFaultKind};
 
 /// So many brackets may stand one in the other.
 pub(crate) const MAX_BRACKETS: usize = 203;
 
-/// A fault, and the number of bytes from its place to the end of the text.
+/// A fault, and the number of bytes from its place to the end of the text. Want of memory has no place.
 #[derive(Clone, Copy, Debug, Drop, PartialEq, Eq)]
 pub(crate) struct Stop {
     pub kind: JsonFaultKind,
@@ -26,10 +26,17 @@ impl Stop {
         Stop::at(rest, JsonFaultKind::Syntax)
     }
 
-    pub fn no_memory() -> Stop {
-        Stop {
-            kind: JsonFaultKind::NoMemory,
-            left: 0,
+    /// The fault in a text of that length.
+    pub fn in_text(self, length: usize) -> JsonFault
+        ensures { result.at ≤ length }
+    {
+        let at = match self.kind {
+            JsonFaultKind::NoMemory => 0,
+            _ => length.saturating_sub(self.left),
+        };
+        JsonFault {
+            kind: self.kind,
+            at: at as u64,
         }
     }
 }
