@@ -27,12 +27,12 @@ impl Stop {
     }
 
     /// The fault in a text of that length.
-    pub fn in_text(self, length: usize) -> JsonFault
-        ensures { result.at ≤ length }
+    pub fn in_text(self, len: usize) -> JsonFault
+        ensures { result.at ≤ len }
     {
         let at = match self.kind {
             JsonFaultKind::NoMemory => 0,
-            _ => length.saturating_sub(self.left),
+            _ => len.saturating_sub(self.left),
         };
         JsonFault {
             kind: self.kind,

@@ -1,4 +1,4 @@
-use Rattle.std.proofs.Common.{◌+◌, ◌*◌, ◌<◌, ◌≤◌, length}
+use Rattle.std.proofs.Common.{◌+◌, ◌*◌, ◌<◌, length}
 use Rattle.bd_extjson.proofs.walk.+walk.Given as goal
 
 abbrev pub decreases-value : goal.decreases-value
