@@ -6,6 +6,8 @@
 mod diagnose;
 #[cfg(test)]
 mod diagnose_tests;
+#[cfg(test)]
+mod diagnose_tree_tests;
 mod encoded;
 mod findings;
 mod json_fault;
