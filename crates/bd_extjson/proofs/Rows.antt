@@ -4,7 +4,6 @@ use Rattle.std.specs.Prelude.{codes}
 use Rattle.std.specs.Str.{is_utf8, chars}
 use Rattle.json.proofs.OnLiterals.{json_on_literals}
 use Rattle.hex.specs.Hex.{decode_pairs}
-use Rattle.base64.specs.Decode.{groups_error, groups_bytes, scan_steps}
 use Rattle.bd_value.specs.Tree.{leaf, array, code_scope, boolean, int32, int64, timestamp, item, no_items, field, no_fields}
 use Rattle.bd_extjson.specs.Whole.{whole}
 use Rattle.bd_extjson.specs.Wrappers.{wrapper_of, only, pair}

@@ -1,16 +1,15 @@
 -- Reading and wrapping, a step at a time.
-use Rattle.std.proofs.Common.{◌≡◌, ℕ, zero, suc, ◌-◌, ◌<◌, ◌≤◌, Bool, true, false, List, [], ◌∷◌, ◌++◌, length, map, Option, Some, None, option_map, option_and_then, refl, sym, ap, ◌∙◌, subst, arith}
+use Rattle.std.proofs.Common.{◌≡◌, ℕ, zero, suc, ◌-◌, ◌<◌, ◌≤◌, Bool, true, false, List, [], ◌∷◌, ◌++◌, length, Option, Some, None, option_map, option_and_then, refl, ap, ◌∙◌, arith}
 use Rattle.json.specs.Token.{Token}
 use Rattle.json.specs.Json as json
 use Rattle.json.specs.Json.{Json, Parse, parse_map, after_end_array, read_key, items_step, members_step, items, members, value}
-use Rattle.json.proofs.Grammar.{value-begin_array, value-begin_object, items_end, items_more, items_fail, members_end, members_no_key, read_key-shorter, read_key_is, key_token, value_is}
+use Rattle.json.proofs.Grammar.{value-begin_array, value-begin_object, read_key-shorter, read_key_is, key_token, value_is}
 use Rattle.bd_value.specs.Tree as tree
 use Rattle.bd_value.specs.Tree.{Tree, leaf, doc, array, Items, no_items, item, Fields, no_fields, field, Doc, fields_of, items_of}
-use Rattle.bd_extjson.specs.Wrap.{Behind, nothing, one_more, several, bare_number, nested, with_scope, two, wrapped, either, behind_one, behind, add_item, add_field, wrap, wrap_items, wrap_object, wrap_fields}
-use Rattle.bd_extjson.specs.Wrappers.{wrapper_of, single, has_zero}
+use Rattle.bd_extjson.specs.Wrap.{bare_number, nested, add_item, add_field, wrap, wrap_items, wrap_object, wrap_fields}
+use Rattle.bd_extjson.specs.Wrappers.{wrapper_of, has_zero}
 use Rattle.bd_extjson.specs.declared.wrapper.Wrapper.{Wrapper}
-use Rattle.std.specs.Prelude.{is_some, ok_or, Result, Ok, Err}
-use Rattle.std.specs.Borrow.{Bor}
+use Rattle.std.specs.Prelude.{ok_or, Result, Ok, Err}
 use Rattle.bd_extjson.specs.Whole.{whole_64}
 use Rattle.bd_extjson.specs.Progress.{through, after_key, Fails, Tells, Gives}
 use Rattle.bd_extjson.specs.declared.trouble.Trouble.{Trouble}

@@ -1,12 +1,11 @@
 -- A whole text.
 use Rattle.std.proofs.Common.{◌≡◌, ℕ, Bool, true, false, List, [], ◌∷◌, Option, Some, None, option_map, option_and_then, refl, sym, ap, ◌∙◌}
-use Rattle.std.specs.Prelude.{if◌then◌else◌}
 use Rattle.std.specs.Str.{is_utf8, IsUtf8}
 use Rattle.std.proofs.lemmas.Str.{is_utf8-from_IsUtf8, IsUtf8-from_is_utf8}
 use Rattle.json.specs.Token.{Token}
 use Rattle.json.specs.Lex.{tokens}
 use Rattle.json.specs.Json.{Json, value, if_last}
-use Rattle.bd_value.specs.Tree.{Tree, Fields, no_fields, field, Doc, fields_of, pairs_of}
+use Rattle.bd_value.specs.Tree.{Tree, pairs_of}
 use Rattle.bd_extjson.specs.Wrap.{wrap}
 use Rattle.bd_extjson.specs.Progress.{through}
 use Rattle.bd_extjson.specs.Reads.{json, reading, document}

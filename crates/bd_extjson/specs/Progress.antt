@@ -1,7 +1,7 @@
 -- What a reader of tokens gives: JSON read and wrapped at once.
 use Rattle.std.specs.Prelude.{◌≡◌, ℕ, List, Bool, true, false, Option, Some, None, option_map, option_and_then, Result, Ok, Err}
 use Rattle.json.specs.Token.{Token}
-use Rattle.json.specs.Json.{Parse, parse_map, read_key, Members, members, members_step, value}
+use Rattle.json.specs.Json.{read_key, Members, members, members_step, value}
 use Rattle.bd_extjson.specs.declared.trouble.Trouble.{Trouble}
 use Rattle.bd_extjson.specs.declared.trouble.Trouble.TheVariants as troubles
 use Rattle.bd_extjson.specs.declared.wrapper.Wrapper.{Wrapper}

@@ -1,5 +1,5 @@
 -- Which value a JSON value stands for.
-use Rattle.std.specs.Prelude.{ℕ, zero, suc, ◌-◌, ℤ, List, [], ◌∷◌, Bool, ◌==◌, ◌||◌, if◌then◌else◌, Option, Some, None, option_map}
+use Rattle.std.specs.Prelude.{ℕ, zero, suc, ◌-◌, ℤ, List, if◌then◌else◌, Option, Some, None, option_map}
 use Rattle.json.specs.Json as json
 use Rattle.json.specs.Json.{Json}
 use Rattle.json.specs.Find.{as_str}

@@ -3,10 +3,18 @@
 //! The text of each value is a function of its tree: `specs/Text.antt`.
 #![tactic(auto)]
 
+mod diagnose;
+#[cfg(test)]
+mod diagnose_tests;
+#[cfg(test)]
+mod diagnose_tree_tests;
 mod encoded;
+mod findings;
 mod json_fault;
 mod json_string;
 mod laws;
+mod limits;
+mod member_name;
 mod number;
 mod read;
 #[cfg(test)]
@@ -15,12 +23,16 @@ mod reading;
 mod scalar;
 #[cfg(test)]
 mod scalar_tests;
+mod skip;
+mod skip_string;
 mod text;
 #[cfg(test)]
 mod text_tests;
 mod trouble;
+mod walk;
 mod whole_number;
 mod wrapper;
+mod wrapper_faults;
 mod wrapper_parts;
 mod wrapper_values;
 

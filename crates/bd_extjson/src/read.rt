@@ -7,19 +7,14 @@ ghost use Rattle.bd_extjson.specs.Reads.{Reads, json, reading};
 ghost use Rattle.bd_extjson.specs.Wrap.{wrap};
 ghost use Rattle.bd_extjson.specs.declared.json_fault.JsonFaultKind.TheVariants as kinds;
 
+use crate::diagnose::diagnose;
 use crate::json_fault::{JsonFault, JsonFaultKind};
+use crate::limits::{BRACKETS, LEVELS};
 use crate::reading::{document_of, read_value};
 use crate::trouble::Trouble;
 use bd_value::{Document, Value};
 use json::{Reader, Scratch};
 use std::alloc::Global;
-
-/// So many documents and arrays may stand in one another.
-const LEVELS: usize = 200;
-
-/// So many brackets may stand in one another: three more, since the deepest value may be a wrapper of two levels, and the
-/// JSON of a whole text is looked at before its levels are.
-const BRACKETS: usize = 203;
 
 fn read_text(alloc: Global, text: &str, scratch: &mut Scratch) -> Result<Value, Trouble>
     ensures { Tells tree_of result (option_and_then (wrap 200) (json text.now)) }
@@ -54,6 +49,7 @@ pub fn read_doc(alloc: Global, text: &[u8]) -> Result<Document, JsonFault>
     ensures found { IfOk result (λ d. Reads text.now (pairs d)) }
     // A text that is a document is read, unless memory runs out.
     ensures none { IfErr result (λ f. f.kind ≢ kinds.NoMemory → (d : Doc) → Reads text.now d → ⊥) }
+    ensures place { IfErr result (λ f. f.at ≤ length text.now) }
 {
     let mut scratch = Scratch::new(alloc);
     read_doc_with(alloc, text, &mut scratch)
@@ -67,6 +63,7 @@ pub fn read_doc_with(
 ) -> Result<Document, JsonFault>
     ensures found { IfOk result (λ d. Reads text.now (pairs d)) }
     ensures none { IfErr result (λ f. f.kind ≢ kinds.NoMemory → (d : Doc) → Reads text.now d → ⊥) }
+    ensures place { IfErr result (λ f. f.at ≤ length text.now) }
 {
     match read_bytes(alloc, text, scratch) {
         Ok(document) => Ok(document),
@@ -74,9 +71,6 @@ pub fn read_doc_with(
             kind: JsonFaultKind::NoMemory,
             at: 0,
         }),
-        Err(Trouble::Refused) => Err(JsonFault {
-            kind: JsonFaultKind::Syntax,
-            at: 0,
-        }),
+        Err(Trouble::Refused) => Err(diagnose(alloc, text)),
     }
 }

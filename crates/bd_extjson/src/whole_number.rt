@@ -1,6 +1,7 @@
 //! Whole numbers, as texts write them.
 ghost use Rattle.std.specs.Prelude.{◌≡◌};
-ghost use Rattle.bd_extjson.specs.Whole.{begins_digits, begins_whole, whole_64, whole_32};
+ghost use Rattle.std.specs.Str.{all_ascii_digits};
+ghost use Rattle.bd_extjson.specs.Whole.{are_digits, is_whole, begins_digits, begins_whole, whole_64, whole_32};
 
 /// Whether digits begin with no plus sign and with no zero before others.
 fn begins_as_digits(digits: &[u8]) -> bool
@@ -37,4 +38,35 @@ pub(crate) fn whole_of_32(text: &str) -> Option<i32>
     ensures { result ≡ whole_32 text.now }
 {
     i32::try_from(whole(text)?).ok()
+}
+
+fn are_all_digits(bytes: &[u8]) -> bool
+    ensures { result ≡ all_ascii_digits bytes.now }
+{
+    for c in bytes {
+        if !c.is_ascii_digit() {
+            return false;
+        }
+    }
+    true
+}
+
+fn is_number(digits: &[u8]) -> bool
+    ensures { result ≡ are_digits digits.now }
+{
+    match digits {
+        [] => false,
+        [b'0', others @ ..] => others.is_empty(),
+        [_, ..] => are_all_digits(digits),
+    }
+}
+
+/// Whether a text writes a whole number, of any size.
+pub(crate) fn is_whole_number(text: &[u8]) -> bool
+    ensures { result ≡ is_whole text.now }
+{
+    match text {
+        [b'-', digits @ ..] => is_number(digits),
+        _ => is_number(text),
+    }
 }

@@ -1,17 +1,16 @@
-use Rattle.std.proofs.Common.{◌≡◌, ◌<◌, ◌≤◌, ◌-◌, ℕ, true, false, Some, None, length, map, option_map, refl, sym, ap, ap₂, ◌∙◌, rules, arith, ◌++◌, ◌∷◌, [], List, subst}
+use Rattle.std.proofs.Common.{◌≡◌, ◌<◌, ◌≤◌, ◌-◌, ℕ, Some, None, length, map, option_map, sym, ap, ap₂, ◌∙◌, rules, arith, ◌++◌, ◌∷◌, [], List}
 use Rattle.std.proofs.lemmas.Result.{err_from_is_err_and}
 use Rattle.std.proofs.lemmas.List.{map_push}
-use Rattle.std.specs.Prelude.{Bool, String, string_bytes, option_and_then}
+use Rattle.std.specs.Prelude.{Bool, String, string_bytes}
 use Rattle.std.specs.Borrow.{Bor}
 use Rattle.json.specs.Value.{value_view}
 use Rattle.bd_extjson.specs.Progress.{closing}
 use Rattle.bd_extjson.specs.Wrappers.{single}
 use Rattle.bd_extjson.specs.declared.wrapper.Wrapper.TheVariants as kinds
 use Rattle.bd_extjson.proofs.Seconds.{wrapping}
-use Rattle.json.specs.Token.{Token}
-use Rattle.json.specs.Json.{value, items, members, parse_map, after_end_array, read_key}
+use Rattle.json.specs.Json.{value, items, parse_map, after_end_array}
 use Rattle.json.specs.Reads.{token_of}
-use Rattle.json.proofs.Grammar.{value_is, items_end, read_key-shorter, after_end_array-shorter, members_no_key}
+use Rattle.json.proofs.Grammar.{value_is, items_end, read_key-shorter, members_no_key}
 use Rattle.bd_value.specs.Tree as tree
 use Rattle.bd_value.specs.Tree.{leaf, doc, array, item, field, items_of, fields_of, no_items, no_fields}
 use Rattle.bd_value.specs.View.{tree_of, pairs}
@@ -20,8 +19,7 @@ use Rattle.bd_value.specs.declared.document.Value.TheVariants as values
 use Rattle.bd_value.specs.declared.document.Value.TheFolds as folds
 use Rattle.std.specs.declared.alloc.Global.{Global}
 use Rattle.bd_extjson.specs.Wrap.{wrap, wrap_items, wrap_object, wrap_fields}
-use Rattle.bd_extjson.specs.Wrappers.{wrapper_of, has_zero}
-use Rattle.bd_extjson.specs.Progress.{through, after_key, Fails, Gives}
+use Rattle.bd_extjson.specs.Progress.{through, after_key}
 use Rattle.bd_extjson.specs.declared.trouble.Trouble.TheVariants.{Refused}
 use Rattle.bd_extjson.proofs.Turns as steps
 use Rattle.bd_extjson.proofs.Turns.{items_before, fields_before}

@@ -1,5 +1,5 @@
-use Rattle.std.proofs.Common.{◌≡◌, ◌<◌, ◌≤◌, ◌-◌, ℕ, length, map, option_map, ◌+◌, ◌*◌}
-use Rattle.json.specs.Json.{value, items, members, parse_map}
+use Rattle.std.proofs.Common.{◌≡◌, ◌≤◌, ℕ, length, map, option_map, ◌+◌, ◌*◌}
+use Rattle.json.specs.Json.{value, items, parse_map}
 use Rattle.bd_value.specs.View.{tree_of, pairs}
 use Rattle.bd_extjson.specs.Wrap.{wrap_items, wrap_fields}
 use Rattle.bd_extjson.specs.Progress.{through, after_key}

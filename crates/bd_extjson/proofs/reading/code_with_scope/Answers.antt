@@ -1,5 +1,4 @@
 use Rattle.std.proofs.Common.{◌≡◌, Some, option_map, arith, sym, ap, ◌∙◌}
-use Rattle.std.specs.Prelude.{string_bytes}
 use Rattle.json.specs.Value.{value_view}
 use Rattle.json.specs.Find.{as_str}
 use Rattle.bd_value.specs.Tree.{code_scope, pairs_of, fields_of}

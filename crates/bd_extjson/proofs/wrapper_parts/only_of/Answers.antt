@@ -1,4 +1,4 @@
-use Rattle.std.proofs.Common.{sym, arith, ◌≢◌, length}
+use Rattle.std.proofs.Common.{sym, arith}
 use Rattle.bd_extjson.proofs.Members.{not_one}
 use Rattle.bd_extjson.proofs.wrapper_parts.only_of.Goals as goal
 
