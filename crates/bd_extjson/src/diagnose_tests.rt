@@ -60,7 +60,8 @@ fn tells_where_a_string_breaks(rt: HostRuntime) {
         (r#"{"a":"\ud800\x"}"#, 6),
         (r#"{"a":"\ud800"#, 12),
         (r#"{"a":"\ud800\ud"#, 15),
-        (r#"{"a":"\ud800\u00"#, 6),
+        (r#"{"a":"\ud800\u00"#, 16),
+        (r#"{"a":"\ud800\u00"}"#, 6),
         (r#"{"a":"\ud83d\uDE00""#, 19),
     ] {
         expect_fault(&rt, rt.alloc(), text, JsonFaultKind::Syntax, at);

@@ -32,13 +32,11 @@ fn skip_four_digits(text: &[u8]) -> Result<&[u8], Stop>
     Ok(rest)
 }
 
-/// Whether a byte can stand at that place of the escape of a low surrogate.
-fn fits_low_surrogate(place: usize, byte: u8) -> bool {
+/// Whether a byte can stand at that place of an escape of four digits.
+fn fits_escape(place: usize, byte: u8) -> bool {
     match place {
         0 => byte == b'\\',
         1 => byte == b'u',
-        2 => matches!(byte, b'd' | b'D'),
-        3 => matches!(byte, b'c'..=b'f' | b'C'..=b'F'),
         _ => byte.is_ascii_hexdigit(),
     }
 }
@@ -52,11 +50,14 @@ fn skip_low_surrogate<'a>(high: &[u8], text: &'a [u8]) -> Result<&'a [u8], Stop>
     for place in 0..6 {
         match rest {
             [] => return Err(Stop::syntax(rest)),
-            [byte, tail @ ..] if fits_low_surrogate(place, *byte) => rest = tail,
+            [byte, tail @ ..] if fits_escape(place, *byte) => rest = tail,
             _ => return Err(Stop::syntax(high)),
         }
     }
-    Ok(rest)
+    match text {
+        [_, _, digits @ ..] if matches!(unit_of(digits), Unit::LowSurrogate) => Ok(rest),
+        _ => Err(Stop::syntax(high)),
+    }
 }
 
 /// What stands behind `\u` and its digits, in a text that begins with the backslash.
