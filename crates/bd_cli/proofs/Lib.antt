@@ -10,6 +10,7 @@ pub mod Judges
 pub mod Kept
 pub mod Placed
 pub mod Queries
+pub mod ReadsPlain
 pub mod Numbers
 pub mod Turns
 pub mod Finds
