@@ -19,3 +19,4 @@ pub mod FoundOnce
 pub mod FindTaken
 pub mod CheckTaken
 pub mod JudgedOnce
+pub mod Packs

@@ -26,6 +26,7 @@ mod limits;
 mod lines;
 mod messages;
 mod order;
+mod packing;
 mod query_text;
 #[cfg(test)]
 mod run_tests;
