@@ -18,5 +18,6 @@ pub mod BatchSize
 pub mod FoundOnce
 pub mod FindTaken
 pub mod CheckTaken
+pub mod PackTaken
 pub mod JudgedOnce
 pub mod Packs

@@ -1,5 +1,5 @@
 -- The lines of a text packed, step by step.
-use Rattle.std.proofs.Common.{◌≡◌, ◌≢◌, ◌≤◌, ◌<◌, ℕ, suc, ◌+◌, List, [], ◌∷◌, ◌++◌, length, take, drop, get_or, Bool, true, false, Option, Some, None, refl, sym, ap, ◌∙◌, subst, append_assoc, append-nil, arith, inl, inr, eqb, length-append, length-take-le, rules, add-one}
+use Rattle.std.proofs.Common.{◌≡◌, ◌≢◌, ◌≤◌, ◌<◌, ℕ, suc, ◌+◌, List, [], ◌∷◌, ◌++◌, length, take, drop, get_or, Bool, true, false, Option, Some, None, refl, sym, ap, ◌∙◌, subst, append_assoc, append-nil, arith, inl, inr, codes, Ok, eqb, length-append, length-take-le, rules, add-one}
 use Rattle.std.specs.Prelude.{◌⊎◌, ◌==◌, IsTrue, IsFalse}
 use Rattle.std.specs.List.{slice_split, All}
 use Rattle.std.proofs.KnownBytes.{Appends-nil}
@@ -13,17 +13,20 @@ use Rattle.bd_value.specs.Tree.{Doc}
 use Rattle.bd_extjson.specs.Reads.{Reads, reading}
 use Rattle.bd_extjson.specs.declared.json_fault.JsonFault.{JsonFault}
 use Rattle.bd_extjson.specs.declared.json_fault.JsonFaultKind.TheVariants as kinds
-use Rattle.bd_cli.specs.Packed.{lines_of, is_blank, plain, packed_bytes, IsPackable, IsBad, Packs}
+use Rattle.bd_cli.specs.Packed.{lines_of, is_blank, plain, packed_bytes, IsPackable, IsBad, Packs, IsPacked, packed_text, packed_status, shown_packed}
 use Rattle.bd_cli.specs.Packing.{IsPacking, StopsPacking, lines_left, left_size}
 use Rattle.bd_cli.specs.Holding.{Holds}
-use Rattle.bd_cli.specs.Ran.{Wrote, Broke}
+use Rattle.bd_cli.specs.Ran.{Wrote, Broke, Told, Ran}
+use Rattle.bd_cli.specs.Shown.{Shown, error_line}
 use Rattle.bd_cli.specs.Within.{StopsWithin}
 use Rattle.bd_cli.specs.declared.lines.Stopped.TheVariants.{NoMemory, Unwritten}
 use Rattle.bd_cli.specs.declared.packing.BadLine.{BadLine}
 use Rattle.bd_cli.specs.declared.packing.LineFault.{LineFault}
 use Rattle.bd_cli.specs.declared.packing.LineFault.TheVariants as faults
 use Rattle.bd_cli.specs.declared.packing.Packing.{Packing}
-use Rattle.bd_cli.proofs.Finds.{grown, starved, all_taken}
+use Rattle.bd_cli.specs.declared.status.Status.{Status}
+use Rattle.bd_cli.specs.declared.status.Status.TheVariants.{Failed}
+use Rattle.bd_cli.proofs.Finds.{all_shown, grown, starved, all_taken}
 use Rattle.bd_cli.proofs.LinesTaken.{flushed, broken}
 
 packed-append : (ds es : List Doc) → packed_bytes (ds ++ es) ≡ packed_bytes ds ++ packed_bytes es
@@ -56,6 +59,28 @@ packs_some number (line ∷ lines) = by_blank (is_blank line) refl (packs_some (
     by_blank : (b : Bool) → is_blank line ≡ b → HasPacking (suc number) lines → HasPacking number (line ∷ lines)
     by_blank true blank rest = (rest.0, rest.1, inl (blank, rest.2))
     by_blank false full rest = by_reading (reading line) refl full rest
+
+-- ---- the ends of a run
+
+module _ (text : List ℕ) {O E : Type 0} (out_held : O → Option (List ℕ)) (out_failures : O → ℕ) (out_old out_new : O) (err_held : E → Option (List ℕ)) (err_failures : E → ℕ) (err_old err_new : E) (status : Status) where
+  -- something was shown that is to be shown of the text
+  abbrev pub Shows : Type 0
+  Shows = (shown : Shown) × IsPacked (Ok text) shown × Ran out_held out_failures out_old out_new err_held err_failures err_old err_new shown status
+
+  abbrev Tells : List ℕ → Status → Type 0
+  Tells told wanted = Told err_held err_failures err_old err_new told wanted status ⊎ Told err_held err_failures err_old err_new (error_line (codes "no memory")) Failed status
+
+  pub shows_packing : (packing : Packing) → IsPacking text out_held out_failures out_old out_new packing → Tells (packed_text packing.count packing.bad) (packed_status packing.bad) → Shows
+  shows_packing packing (ds, packs, counted, wrote) told =
+      let shown = shown_packed ds packing.bad in
+      (shown, (ds, packing.bad, packs, refl), all_shown out_held out_failures out_old out_new err_held err_failures err_old err_new status shown wrote
+          (subst (λ (n : ℕ). Tells (packed_text n packing.bad) (packed_status packing.bad)) counted told))
+
+  pub shows_starved : StopsPacking text out_held out_failures out_old out_new NoMemory → Told err_held err_failures err_old err_new (error_line (codes "no memory")) Failed status → Shows
+  shows_starved (ds, bad, packs, front) told = (shown_packed ds bad, (ds, bad, packs, refl), inr (front, told))
+
+  pub shows_broken : StopsPacking text out_held out_failures out_old out_new Unwritten → Told err_held err_failures err_old err_new (error_line (codes "cannot write")) Failed status → Shows
+  shows_broken (ds, bad, packs, broke) told = (shown_packed ds bad, (ds, bad, packs, refl), inl (inr (broke, told)))
 
 -- ---- lines cut off a text
 

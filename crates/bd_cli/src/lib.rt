@@ -26,6 +26,7 @@ mod limits;
 mod lines;
 mod messages;
 mod order;
+mod pack_command;
 mod packing;
 mod query_text;
 #[cfg(test)]

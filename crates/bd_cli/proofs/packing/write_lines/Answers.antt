@@ -33,6 +33,13 @@ returns-in-Some-2-clause-packs g c =
     packs.ends_bad c.args.text.now g.O.Output.held g.O.Output.failures c.args.out.now l.out l.pending.items c.in-Some.rest.now c.cut_line.result.0.now (bytes_behind c.cut_line.result.1) l.number l.count s
     c.cut_line.ensures.line c.cut_line.ensures.shorter c.flush.new.out (l.number + 1) c.in-Some-2.fault (omega arith) (sym c.is_blank.ensures ∙ c.if-is_blank.false) bad.0 wrote
 
+pub loop-left-preserved-then-is_blank : goal.loop-left-preserved-then-is_blank
+loop-left-preserved-then-is_blank g c =
+    let l = c.loop-left in
+    let s : packs.Kept c.args.text.now g.O.Output.held g.O.Output.failures c.args.out.now l.out l.pending.items (Some c.in-Some.rest.now) l.number l.count = rw c.in-Some.is at l.invariant in
+    packs.passed c.args.text.now g.O.Output.held g.O.Output.failures c.args.out.now l.out l.pending.items c.in-Some.rest.now c.cut_line.result.0.now (bytes_behind c.cut_line.result.1) l.number l.count s
+    c.cut_line.ensures.line c.cut_line.ensures.shorter (l.number + 1) (omega arith) (sym c.is_blank.ensures ∙ c.if-is_blank.true)
+
 pub loop-left-preserved : goal.loop-left-preserved
 loop-left-preserved g c =
     let l = c.loop-left in
