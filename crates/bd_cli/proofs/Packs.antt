@@ -72,9 +72,12 @@ module _ (text : List ℕ) {O E : Type 0} (out_held : O → Option (List ℕ)) (
 
   pub shows_packing : (packing : Packing) → IsPacking text out_held out_failures out_old out_new packing → Tells (packed_text packing.count packing.bad) (packed_status packing.bad) → Shows
   shows_packing packing (ds, packs, counted, wrote) told =
-      let shown = shown_packed ds packing.bad in
-      (shown, (ds, packing.bad, packs, refl), all_shown out_held out_failures out_old out_new err_held err_failures err_old err_new status shown wrote
-          (subst (λ (n : ℕ). Tells (packed_text n packing.bad) (packed_status packing.bad)) counted told))
+      let shown = shown_packed ds packing.bad in (
+        shown,
+        (ds, packing.bad, packs, refl),
+        all_shown out_held out_failures out_old out_new err_held err_failures err_old err_new status shown wrote
+            (subst (λ (n : ℕ). Tells (packed_text n packing.bad) (packed_status packing.bad)) counted told),
+      )
 
   pub shows_starved : StopsPacking text out_held out_failures out_old out_new NoMemory → Told err_held err_failures err_old err_new (error_line (codes "no memory")) Failed status → Shows
   shows_starved (ds, bad, packs, front) told = (shown_packed ds bad, (ds, bad, packs, refl), inr (front, told))

@@ -27,6 +27,8 @@ mod lines;
 mod messages;
 mod order;
 mod pack_command;
+#[cfg(test)]
+mod pack_tests;
 mod packing;
 mod query_text;
 #[cfg(test)]

@@ -85,12 +85,7 @@ fn tell_packing<E: Output>(alloc: Global, packing: &Packing, err: &mut E) -> Sta
 }
 
 /// Shows what a text is packed as.
-fn pack_text<O: Output, E: Output>(
-    alloc: Global,
-    text: &[u8],
-    out: &mut O,
-    err: &mut E,
-) -> Status
+fn pack_text<O: Output, E: Output>(alloc: Global, text: &[u8], out: &mut O, err: &mut E) -> Status
     requires { length text.now ≤ 4294967295 }
     ensures { (shown : Shown) × IsPacked (Ok text.now) shown
         × Ran O.held O.failures out.old out.new E.held E.failures err.old err.new shown result }

@@ -96,11 +96,7 @@ fn pack_line(
 
 /// Writes the documents of the lines before the first bad one. Where memory runs out, what was written is a front of their
 /// bytes.
-pub fn write_lines<O: Output>(
-    alloc: Global,
-    text: &[u8],
-    out: &mut O,
-) -> Result<Packing, Stopped>
+pub fn write_lines<O: Output>(alloc: Global, text: &[u8], out: &mut O) -> Result<Packing, Stopped>
     requires { length text.now ≤ 4294967295 }
     ensures packs { IfOk result (IsPacking text.now O.held O.failures out.old out.new) }
     ensures stops { IfErr result (StopsPacking text.now O.held O.failures out.old out.new) }
