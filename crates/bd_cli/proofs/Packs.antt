@@ -15,7 +15,7 @@ use Rattle.bd_extjson.specs.declared.json_fault.JsonFault.{JsonFault}
 use Rattle.bd_extjson.specs.declared.json_fault.JsonFaultKind.TheVariants as kinds
 use Rattle.bd_cli.specs.Packed.{lines_of, is_blank, plain, packed_bytes, IsPackable, IsBad, Packs, IsPacked, packed_text, packed_status, shown_packed}
 use Rattle.bd_cli.specs.Packing.{IsPacking, StopsPacking, lines_left, left_size}
-use Rattle.bd_cli.specs.Holding.{Holds}
+use Rattle.bd_cli.specs.Holding.{Holds, WroteSome}
 use Rattle.bd_cli.specs.Ran.{Wrote, Broke, Told, Ran}
 use Rattle.bd_cli.specs.Shown.{Shown, error_line}
 use Rattle.bd_cli.specs.Within.{StopsWithin}
@@ -27,7 +27,7 @@ use Rattle.bd_cli.specs.declared.packing.Packing.{Packing}
 use Rattle.bd_cli.specs.declared.status.Status.{Status}
 use Rattle.bd_cli.specs.declared.status.Status.TheVariants.{Failed}
 use Rattle.bd_cli.proofs.Finds.{all_shown, grown, starved, all_taken}
-use Rattle.bd_cli.proofs.LinesTaken.{flushed, broken}
+use Rattle.bd_cli.proofs.LinesTaken.{flushed_some, broken}
 
 packed-append : (ds es : List Doc) → packed_bytes (ds ++ es) ≡ packed_bytes ds ++ packed_bytes es
 packed-append [] es = refl
@@ -186,14 +186,15 @@ module _ (text : List ℕ) {W : Type 0} (held : W → Option (List ℕ)) (failur
     )
 
   module _ (new : W) (pending : List ℕ) (left : Option (List ℕ)) (number count : ℕ) (s : Kept new pending left number count) where
-    pub written : (end : W) (none : List ℕ) → Wrote held failures new end pending → none ≡ [] → Kept end none left number count
-    written end none wrote empty = record {
+    -- some bytes were written
+    pub written : (end : W) (later : List ℕ) → WroteSome held failures new end pending later → Kept end later left number count
+    written end later wrote = record {
       done = s.done;
       goes = s.goes;
       counted = s.counted;
       few = s.few;
       fits = s.fits;
-      holds = flushed held failures old new end pending none (packed_bytes s.done) s.holds wrote empty;
+      holds = flushed_some held failures old new end pending later (packed_bytes s.done) s.holds wrote;
     }
 
     cut_bytes : (es : List Doc) → packed_bytes (s.done ++ es) ≡ packed_bytes s.done ++ packed_bytes es

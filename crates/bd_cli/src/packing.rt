@@ -5,7 +5,7 @@ ghost use Rattle.bd_value.specs.Tree.{Doc};
 ghost use Rattle.bd_cli.specs.Packed.{is_white, is_blank, plain, packed_bytes, lines_of, IsPackable, IsBad, Packs};
 ghost use Rattle.bd_cli.specs.Packing.{IsPacking, StopsPacking, bytes_behind, left_size, lines_left};
 
-use crate::lines::{GATHERED, Stopped, flush};
+use crate::lines::{Stopped, flush, flush_gathered};
 use bd_bson::{Output, WriteFault, write_document};
 use bd_extjson::{JsonFault, JsonFaultKind, Scratch, read_doc_with};
 use bd_value::NoMemory;
@@ -119,9 +119,7 @@ pub fn write_lines<O: Output>(alloc: Global, text: &[u8], out: &mut O) -> Result
             return Ok(Packing { count, bad });
         }
         count += 1;
-        if pending.len() >= GATHERED {
-            flush(&mut pending, out)?;
-        }
+        flush_gathered(&mut pending, out)?;
     }
     flush(&mut pending, out)?;
     Ok(Packing { count, bad: None })
