@@ -21,3 +21,4 @@ pub mod CheckTaken
 pub mod PackTaken
 pub mod JudgedOnce
 pub mod Packs
+pub mod PackedOnce

@@ -84,3 +84,17 @@ shown_packed ds bad = record { out = packed_bytes ds; err = packed_text (length 
 abbrev pub IsPacked : Result (List ℕ) ReadFault → Shown → Type 0
 IsPacked (Ok text) shown = (ds : List Doc) × (bad : Option BadLine) × Packs 1 (lines_of text) ds bad × (shown ≡ shown_packed ds bad)
 IsPacked (Err fault) shown = shown ≡ shown_refusal (read_words fault)
+
+-- Two tellings of where lines end are of one line, or both of none. Of a line that is no document, the kind and the place of
+-- the fault may differ.
+abbrev pub AreAlikeFaults : LineFault → LineFault → Type 0
+AreAlikeFaults (faults.Unread f) (faults.Unread g) = Unit {0}
+AreAlikeFaults (faults.Unread f) faults.TooLong = ⊥
+AreAlikeFaults faults.TooLong (faults.Unread g) = ⊥
+AreAlikeFaults faults.TooLong faults.TooLong = Unit {0}
+
+abbrev pub AreAlike : Option BadLine → Option BadLine → Type 0
+AreAlike None None = Unit {0}
+AreAlike None (Some b) = ⊥
+AreAlike (Some a) None = ⊥
+AreAlike (Some a) (Some b) = (a.number ≡ b.number) × AreAlikeFaults a.fault b.fault
