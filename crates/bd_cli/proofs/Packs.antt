@@ -1,7 +1,7 @@
 -- The lines of a text packed, step by step.
-use Rattle.std.proofs.Common.{◌≡◌, ◌≢◌, ◌≤◌, ◌<◌, ℕ, suc, ◌+◌, List, [], ◌∷◌, ◌++◌, length, take, drop, get_or, Bool, true, false, Option, Some, None, refl, sym, ap, ◌∙◌, subst, append_assoc, append-nil, arith, inl, inr, codes, Ok, eqb, length-append, length-take-le, rules, add-one}
-use Rattle.std.specs.Prelude.{◌⊎◌, ◌==◌, IsTrue, IsFalse}
-use Rattle.std.specs.List.{slice_split, All}
+use Rattle.std.proofs.Common.{◌≡◌, ◌≤◌, ◌<◌, ℕ, suc, ◌+◌, List, [], ◌∷◌, ◌++◌, length, take, drop, get_or, Bool, true, false, Option, Some, None, refl, sym, ap, ◌∙◌, subst, append_assoc, append-nil, arith, inl, inr, codes, Ok, length-append, length-take-le, rules, add-one}
+use Rattle.std.specs.Prelude.{◌⊎◌, ◌==◌}
+use Rattle.std.specs.List.{All}
 use Rattle.std.proofs.KnownBytes.{Appends-nil}
 use Rattle.std.proofs.lemmas.Bool.{cases_lt}
 use Rattle.std.proofs.lemmas.Bool.Decides.{nat_tests}
@@ -18,7 +18,6 @@ use Rattle.bd_cli.specs.Packing.{IsPacking, StopsPacking, lines_left, left_size}
 use Rattle.bd_cli.specs.Holding.{Holds, WroteSome}
 use Rattle.bd_cli.specs.Ran.{Wrote, Broke, Told, Ran}
 use Rattle.bd_cli.specs.Shown.{Shown, error_line}
-use Rattle.bd_cli.specs.Within.{StopsWithin}
 use Rattle.bd_cli.specs.declared.lines.Stopped.TheVariants.{NoMemory, Unwritten}
 use Rattle.bd_cli.specs.declared.packing.BadLine.{BadLine}
 use Rattle.bd_cli.specs.declared.packing.LineFault.{LineFault}

@@ -1,6 +1,6 @@
 -- What is read of a text can be written: it nests 200 levels at most, and no name and no text of a regular expression has
 -- a zero.
-use Rattle.std.proofs.Common.{◌≡◌, ◌≤◌, ℕ, zero, suc, ◌-◌, ℤ, List, [], ◌∷◌, Bool, true, false, ◌||◌, cond, Option, Some, None, refl, sym, ap, ◌∙◌, subst, arith, max}
+use Rattle.std.proofs.Common.{◌≡◌, ◌≤◌, ℕ, zero, suc, ◌-◌, ℤ, List, [], ◌∷◌, Bool, true, false, ◌||◌, cond, Option, Some, None, refl, sym, ap, ◌∙◌, arith}
 use Rattle.std.specs.Prelude.{codes, option_map, option_and_then, ◌==◌}
 use Rattle.json.specs.Json as json
 use Rattle.json.specs.Json.{Json}

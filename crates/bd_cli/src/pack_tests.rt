@@ -50,9 +50,9 @@ fn shows(rt: &impl Abort, alloc: Global, row: Row<'_>) -> Result<(), Fail> {
     let mut out = MemoryOutput::new(&mut out_room, 10, row.failing_out);
     let mut err = MemoryOutput::new(&mut err_room, 10, row.failing_err);
     let status = run(alloc, &order, &mut input, &mut commands, &mut out, &mut err);
-    assert_eq!(rt; out.bytes(), row.out, "{:?}", row.text);
-    assert_eq!(rt; err.bytes(), row.err.as_bytes(), "{:?}", row.text);
-    assert_eq!(rt; status, row.status, "{:?}", row.text);
+    assert_eq!(rt; out.bytes(), row.out);
+    assert_eq!(rt; err.bytes(), row.err.as_bytes());
+    assert_eq!(rt; status, row.status);
     assert_eq!(rt; commands.calls(), 0);
     Ok(())
 }

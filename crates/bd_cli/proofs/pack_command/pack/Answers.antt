@@ -1,4 +1,4 @@
-use Rattle.std.proofs.Common.{◌≡◌, ◌≤◌, Ok, Err, refl, length, arith}
+use Rattle.std.proofs.Common.{◌≤◌, Ok, Err, refl, length, arith}
 use Rattle.bd_cli.specs.Shown.{shown_refusal, read_words}
 use Rattle.bd_cli.proofs.Runs as runs
 use Rattle.bd_cli.proofs.pack_command.pack.Goals as goal

@@ -1,8 +1,7 @@
-use Rattle.std.proofs.Common.{◌≡◌, ◌<◌, Err, true, true≢false, ap, sym, ◌∙◌, arith}
+use Rattle.std.proofs.Common.{◌<◌, Err, true≢false, ap, sym, ◌∙◌, arith}
 use Rattle.bd_value.specs.Depth.{depth}
 use Rattle.bd_value.specs.Tree.{doc, fields_of}
 use Rattle.bd_value.specs.View.{pairs}
-use Rattle.bd_bson.specs.Written.{zero_in}
 use Rattle.bd_cli.proofs.ReadsPlain.{reads_plain}
 use Rattle.bd_cli.proofs.packing.pack_line.Goals as goal
 

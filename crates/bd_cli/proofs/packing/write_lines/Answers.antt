@@ -1,6 +1,5 @@
-use Rattle.std.proofs.Common.{rules, ◌≡◌, ◌+◌, suc, Ok, Some, None, sym, ap, ◌∙◌, arith, false}
+use Rattle.std.proofs.Common.{rules, ◌≡◌, ◌+◌, Ok, Some, None, sym, ap, ◌∙◌, arith}
 use Rattle.std.proofs.lemmas.Result.{err_from_is_err_and}
-use Rattle.bd_cli.specs.Packed.{is_blank}
 use Rattle.bd_cli.specs.Packing.{bytes_behind}
 use Rattle.bd_cli.specs.Ran.{Wrote, Broke}
 use Rattle.bd_cli.proofs.Packs as packs
