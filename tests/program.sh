@@ -145,6 +145,25 @@ expect 'a check of an empty input' 0 '' '0 documents, 0 faulty'
 run check -- -x
 expect 'a check of a file whose name looks like a flag' 0 '' '1 documents, 0 faulty'
 
+run pack "$people.jsonl"
+expect 'a file of lines packed' 0 "@$people.bson" '500 objects packed'
+
+run pack "$shop.jsonl"
+expect 'a file of lines of other kinds packed' 0 "@$shop.bson" '400 objects packed'
+
+run pack - </dev/null
+expect 'an empty input packed' 0 '' '0 objects packed'
+
+printf '{"a":1}' | run pack -
+expect 'a line without its newline packed' 0 @int32.bson '1 objects packed'
+
+printf '\r\n{"a":1}\r\n \t\r\n' | run pack -
+expect 'lines of white space passed over' 0 @int32.bson '1 objects packed'
+
+cp "$people.jsonl" ./-y
+run pack -- -y
+expect 'a file of lines whose name looks like a flag' 0 "@$people.bson" '500 objects packed'
+
 # Documents with faults.
 
 { printf '\020\000\000\000\001d\000\000\000\000\000\000\000\360\077\000' && cat int32.bson; } | run check -
@@ -180,6 +199,21 @@ document 399, byte 127644, path "": bad length' '400 documents, 6 faulty'
 
 run check "$shop.bson"
 expect 'a check of a file of other kinds' 0 '' '400 documents, 0 faulty'
+
+# Lines with faults.
+
+printf '\014\000\000\000\020a\000\001\000\000\000\000\020\000\000\000\022a\000\000\000\000\200\000\000\000\000\000' >two.bson
+printf '{"a":1}\n{"a":2147483648}\n{"a":1.5}\n{"a":1}\n' | run pack -
+expect 'a line of a double' 1 @two.bson 'bsonfind: line 3, byte 5: not in the profile
+2 objects packed'
+
+printf '\n{"a":1}\r\n \r\n[]\n' | run pack -
+expect 'a line that is no document, behind lines of white space' 1 @int32.bson 'bsonfind: line 4: not a document
+1 objects packed'
+
+{ printf '{"a":1}\n{"a":"' && dd if=/dev/zero bs=1024 count=16400 2>/dev/null | tr '\000' a && printf '"}\n'; } | run pack -
+expect 'a line of a document that is too long' 1 @int32.bson 'bsonfind: line 2: document too long
+1 objects packed'
 
 # Inputs that are refused.
 
@@ -252,6 +286,22 @@ expect 'a check of a directory' 1 '' 'bsonfind: cannot read
 run check missing.bson
 expect 'a check of a file that is not there' 1 '' 'bsonfind: cannot open missing.bson'
 
+run pack .
+expect 'a directory packed' 1 '' 'bsonfind: cannot read'
+
+run pack missing.jsonl
+expect 'a file of lines that is not there' 1 '' 'bsonfind: cannot open missing.jsonl'
+
+"$program" pack "$people.jsonl" >/dev/full 2>err
+echo $? >status
+: >out
+expect 'a full standard output, of lines packed' 1 '' 'bsonfind: cannot write'
+
+"$program" pack "$people.jsonl" >out 2>/dev/full
+echo $? >status
+: >err
+expect 'a full standard error, of lines packed' 1 "@$people.bson" ''
+
 "$program" check bad.bson >/dev/full 2>err
 echo $? >status
 : >out
@@ -295,6 +345,9 @@ expect 'an unknown flag' 2 '' "$usage"
 
 run check
 expect 'check without a file' 2 '' "$usage"
+
+run pack
+expect 'pack without a file' 2 '' "$usage"
 
 run find int32.bson
 expect 'find without a query' 2 '' "$usage"

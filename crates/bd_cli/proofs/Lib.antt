@@ -10,6 +10,7 @@ pub mod Judges
 pub mod Kept
 pub mod Placed
 pub mod Queries
+pub mod ReadsPlain
 pub mod Numbers
 pub mod Turns
 pub mod Finds
@@ -17,4 +18,7 @@ pub mod BatchSize
 pub mod FoundOnce
 pub mod FindTaken
 pub mod CheckTaken
+pub mod PackTaken
 pub mod JudgedOnce
+pub mod Packs
+pub mod PackedOnce

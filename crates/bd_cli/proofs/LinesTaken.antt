@@ -6,7 +6,7 @@ use Rattle.bd_bson.specs.Counts.{after_more}
 use Rattle.bd_extjson.specs.Text.{text}
 use Rattle.bd_cli.specs.Shown.{lines}
 use Rattle.bd_cli.specs.Ran.{Wrote, Broke}
-use Rattle.bd_cli.specs.Holding.{Holds}
+use Rattle.bd_cli.specs.Holding.{Holds, WroteSome}
 
 pub lines-append : (ds es : List Doc) → lines (ds ++ es) ≡ lines ds ++ lines es
 lines-append [] es = refl
@@ -21,6 +21,14 @@ flushed held failures old mid new pending none text h w is = record {
   written = h.written ++ pending;
   wrote = (Appends-trans (held old) (held mid) (held new) h.written pending h.wrote.0 w.0, w.1 ∙ h.wrote.1);
   together = ap (λ x. (h.written ++ pending) ++ x) is ∙ flushed_text h.written pending text h.together;
+}
+
+-- a write of some of it
+pub flushed_some : {W : Type 0} (held : W → Option (List ℕ)) (failures : W → ℕ) (old mid new : W) (pending later text : List ℕ) → Holds held failures old mid pending text → WroteSome held failures mid new pending later → Holds held failures old new later text
+flushed_some held failures old mid new pending later text h (written, cut, w) = record {
+  written = h.written ++ written;
+  wrote = (Appends-trans (held old) (held mid) (held new) h.written written h.wrote.0 w.0, w.1 ∙ h.wrote.1);
+  together = append_assoc h.written written later ∙ ap (λ x. h.written ++ x) (sym cut) ∙ h.together;
 }
 
 pub broken : {W : Type 0} (held : W → Option (List ℕ)) (failures : W → ℕ) (old mid new : W) (pending text rest all : List ℕ) → Holds held failures old mid pending text → all ≡ text ++ rest → Broke held failures mid new pending → Broke held failures old new all

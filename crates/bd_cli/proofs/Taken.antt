@@ -23,7 +23,7 @@ use Rattle.clap.proofs.OnLiterals.{clap_on_literals}
 use Rattle.bd_cli.specs.declared.order.Order.{Order}
 use Rattle.bd_cli.specs.declared.order.WordsFault.{WordsFault}
 use Rattle.bd_cli.specs.declared.order.WordsFault.TheVariants.{NoMemory, Usage}
-use Rattle.bd_cli.specs.CommandLine.{Ordered, Orders, meant, batch_read, check, dump, fault_for, file_app, find as finds, find_app, find_ordered, told_as, is_file_word, is_help_line, line_app, order_of, ordered_by}
+use Rattle.bd_cli.specs.CommandLine.{Ordered, Orders, meant, batch_read, check, dump, pack, fault_for, file_app, find as finds, find_app, find_ordered, told_as, is_file_word, is_help_line, line_app, order_of, ordered_by}
 use Rattle.bd_cli.proofs.Filled.{AllFilled, defaults-filled, fills, given_first, left_nil, right_nil, settled-filled, walk-filled}
 use Rattle.bd_cli.proofs.Told.{SameTold, same-fault}
 
@@ -101,6 +101,14 @@ check_orders : HasOrders check_shape
 check_orders words e =
     some_mapped check (first_of (codes "file") (rows_after check_shape.rules [] words)) (file_there check_shape words refl (λ rows c. file_given _ _ c) e)
 
+-- the command `pack`, likewise
+abbrev pack_shape : Shape
+pack_shape = built_leaf (inherited (on_top with_leaf_noted (on_top marked_built line_app)).top (file_app (codes "pack")).top)
+
+pack_orders : HasOrders pack_shape
+pack_orders words e =
+    some_mapped pack (first_of (codes "file") (rows_after pack_shape.rules [] words)) (file_there pack_shape words refl (λ rows c. file_given _ _ c) e)
+
 -- the command `find`: it has FILE and the query
 abbrev find_shape : Shape
 find_shape = built_leaf (inherited (on_top with_leaf_noted (on_top marked_built line_app)).top find_app.top)
@@ -128,7 +136,7 @@ find_orders words e =
 
 commands_order : EachShape HasOrders (built line_app).subs
 unfolding EachShape
-commands_order = (dump_orders, (check_orders, (find_orders, tt)))
+commands_order = (dump_orders, (check_orders, (pack_orders, (find_orders, tt))))
 
 -- words that have no fault have an order
 pub order_there : (words : List Text) → fault_of line_app words ≡ [] → is_some (order_of words) ≡ true
@@ -243,14 +251,16 @@ pair_read (Some p) name rows n r =
 
 -- a command without FILE has no order
 pub no_file : (name : Text) (rows : List Row) → first_of (codes "file") rows ≡ None → ordered_by name rows ≡ None
-no_file name rows e = go (bytes_eq name (codes "dump")) (bytes_eq name (codes "check")) (bytes_eq name (codes "find"))
+no_file name rows e = go (bytes_eq name (codes "dump")) (bytes_eq name (codes "check")) (bytes_eq name (codes "pack")) (bytes_eq name (codes "find"))
   where
-    go : (a b d : Bool) → cond a (option_map dump (first_of (codes "file") rows))
-        (cond b (option_map check (first_of (codes "file") rows)) (cond d (option_and_then (find_ordered rows) (first_of (codes "file") rows)) None)) ≡ None
-    go true b d = ap (option_map dump) e
-    go false true d = ap (option_map check) e
-    go false false true = ap (option_and_then (find_ordered rows)) e
-    go false false false = refl
+    go : (a b c d : Bool) → cond a (option_map dump (first_of (codes "file") rows))
+        (cond b (option_map check (first_of (codes "file") rows))
+        (cond c (option_map pack (first_of (codes "file") rows)) (cond d (option_and_then (find_ordered rows) (first_of (codes "file") rows)) None))) ≡ None
+    go true b c d = ap (option_map dump) e
+    go false true c d = ap (option_map check) e
+    go false false true d = ap (option_map pack) e
+    go false false false true = ap (option_and_then (find_ordered rows)) e
+    go false false false false = refl
 
 -- ---- the clauses of the parse, at the program's line
 

@@ -14,7 +14,7 @@ use Rattle.clap.specs.declared.builder.action.ArgAction.TheVariants.{Set}
 use Rattle.clap.specs.declared.error.kind.ErrorKind.{ErrorKind}
 use Rattle.clap.specs.declared.error.kind.ErrorKind.TheVariants as kind
 use Rattle.bd_cli.specs.declared.order.Order.{Order}
-use Rattle.bd_cli.specs.declared.order.Order.TheVariants.{Dump, Check, Find}
+use Rattle.bd_cli.specs.declared.order.Order.TheVariants.{Dump, Check, Pack, Find}
 use Rattle.bd_cli.specs.declared.order.WordsFault.{WordsFault}
 use Rattle.bd_cli.specs.declared.order.WordsFault.TheVariants.{Help, NoMemory, Usage}
 
@@ -40,11 +40,11 @@ find_app = with_rule (with_rule (file_app (codes "find")) query_rule) batch_rule
 
 -- the line with the commands that take a file alone
 abbrev pub files_app : App
-files_app = with_subcommand (with_subcommand (on_top (λ s. record s {
+files_app = with_subcommand (with_subcommand (with_subcommand (on_top (λ s. record s {
   no_binary_name = true;
   subcommand_required = true;
   disable_help_subcommand = true;
-}) (new_app (codes "bsonfind"))) (file_app (codes "dump")).top) (file_app (codes "check")).top
+}) (new_app (codes "bsonfind"))) (file_app (codes "dump")).top) (file_app (codes "check")).top) (file_app (codes "pack")).top
 
 abbrev pub line_app : App
 line_app = with_subcommand files_app find_app.top
@@ -54,11 +54,13 @@ line_app = with_subcommand files_app find_app.top
 pub data Ordered : Type 0 where
   dump : Text → Ordered
   check : Text → Ordered
+  pack : Text → Ordered
   find : Text → Text → Option ℕ → Ordered
 
 abbrev pub meant : Order → Ordered
 meant (Dump file) = dump (string_bytes file)
 meant (Check file) = check (string_bytes file)
+meant (Pack file) = pack (string_bytes file)
 meant (Find file query batch) = find (string_bytes file) (string_bytes query) batch
 
 abbrev pub words_of : {Z : Type 0} → List (String Z) → List Text
@@ -79,7 +81,8 @@ abbrev pub ordered_by : Text → List Row → Option Ordered
 ordered_by name rows =
     if bytes_eq name (codes "dump") then option_map dump (first_of (codes "file") rows)
     else (if bytes_eq name (codes "check") then option_map check (first_of (codes "file") rows)
-    else (if bytes_eq name (codes "find") then option_and_then (find_ordered rows) (first_of (codes "file") rows) else None))
+    else (if bytes_eq name (codes "pack") then option_map pack (first_of (codes "file") rows)
+    else (if bytes_eq name (codes "find") then option_and_then (find_ordered rows) (first_of (codes "file") rows) else None)))
 
 -- the order of words that are taken
 abbrev pub order_of : List Text → Option Ordered

@@ -7,3 +7,7 @@ pub record Holds {W : Type 0} (held : W → Option (List ℕ)) (failures : W →
   pub written : List ℕ
   pub wrote : Wrote held failures old new written
   pub together : written ++ pending ≡ text
+
+-- the writer took bytes in front of those that were to be written, and these are still to be written
+abbrev pub WroteSome : {W : Type 0} → (W → Option (List ℕ)) → (W → ℕ) → W → W → List ℕ → List ℕ → Type 0
+WroteSome held failures old new before after = (written : List ℕ) × (before ≡ written ++ after) × Wrote held failures old new written

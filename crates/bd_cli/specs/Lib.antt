@@ -6,6 +6,8 @@ pub mod Found
 pub mod Holding
 pub mod Judged
 pub mod Judging
+pub mod Packed
+pub mod Packing
 pub mod QueryText
 pub mod Ran
 pub mod Report

@@ -10,6 +10,7 @@ use Rattle.bd_bson.specs.declared.reading.ReadFault.{ReadFault}
 use Rattle.bd_bson.specs.declared.reading.ReadFault.TheVariants as reads
 use Rattle.bd_cli.specs.Found.{IsFound}
 use Rattle.bd_cli.specs.Judged.{IsJudged}
+use Rattle.bd_cli.specs.Packed.{IsPacked}
 use Rattle.bd_cli.specs.QueryText.{IsQuery, IsNoQuery}
 use Rattle.bd_cli.specs.Shown.{Shown, IsShown, lines, error_line}
 use Rattle.bd_cli.specs.declared.order.Order.{Order}
@@ -100,6 +101,12 @@ Checked left calls failures old new out_held out_failures out_old out_new err_he
     (bytes : List ℕ) × (fault : Option ReadFault) × (shown : Shown) × WasStreamed left calls failures old new bytes fault × IsJudged bytes fault shown
     × Ran out_held out_failures out_old out_new err_held err_failures err_old err_new shown status
 
+-- `pack` read an input whole, or a read of it failed, and showed what is to be shown of it
+abbrev pub Packed : {R O E : Type 0} → (R → Option (List ℕ)) → (R → ℕ) → (R → ℕ) → R → R → (O → Option (List ℕ)) → (O → ℕ) → O → O → (E → Option (List ℕ)) → (E → ℕ) → E → E → Status → Type 0
+Packed left calls failures old new out_held out_failures out_old out_new err_held err_failures err_old err_new status =
+    (input : Result (List ℕ) ReadFault) × (shown : Shown) × WasRead left calls failures old new input × IsPacked input shown
+    × Ran out_held out_failures out_old out_new err_held err_failures err_old err_new shown status
+
 -- the reader was read as told for a query, and for another text it was left as it was
 abbrev pub WasReadFor : List ℕ → {R : Type 0} → (R → Option (List ℕ)) → (R → ℕ) → (R → ℕ) → R → R → Result (List ℕ) ReadFault → Type 0
 WasReadFor query left calls failures old new input =
@@ -117,5 +124,7 @@ Ordered (orders.Dump file) left calls failures old new out_held out_failures out
     Dumped left calls failures old new out_held out_failures out_old out_new err_held err_failures err_old err_new status
 Ordered (orders.Check file) left calls failures old new out_held out_failures out_old out_new err_held err_failures err_old err_new status =
     Checked left calls failures old new out_held out_failures out_old out_new err_held err_failures err_old err_new status
+Ordered (orders.Pack file) left calls failures old new out_held out_failures out_old out_new err_held err_failures err_old err_new status =
+    Packed left calls failures old new out_held out_failures out_old out_new err_held err_failures err_old err_new status
 Ordered (orders.Find file query size) left calls failures old new out_held out_failures out_old out_new err_held err_failures err_old err_new status =
     Found (string_bytes query) size left calls failures old new out_held out_failures out_old out_new err_held err_failures err_old err_new status

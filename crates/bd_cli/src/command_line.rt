@@ -2,7 +2,7 @@
 ghost use Rattle.std.specs.Prelude.{◌≡◌, ◌⊎◌, IfErr, IfOk, IsErrOf, IsSome, IsTrue, List, None, Some, [], ◌∷◌, codes, false, true, ℕ};
 ghost use Rattle.clap.specs.Words.{app_of, found_of, kind_of, rows_of, rule_of, takes};
 ghost use Rattle.clap.specs.declared.builder.command.Command.TheViews.{out-Command as fields_of};
-ghost use Rattle.bd_cli.specs.CommandLine.{Orders, check, dump, fault_for, file_app, file_rule, files_app, find, is_file_word, is_help_line, line_app, meant, order_of, ordered_by, told_as, words_of};
+ghost use Rattle.bd_cli.specs.CommandLine.{Orders, check, dump, fault_for, file_app, file_rule, files_app, find, is_file_word, is_help_line, line_app, meant, order_of, ordered_by, pack, told_as, words_of};
 ghost use Rattle.bd_cli.specs.declared.order.WordsFault.TheVariants.{NoMemory};
 
 use crate::find_words::{find_command, find_order};
@@ -44,12 +44,14 @@ fn files_command<'a>(alloc: Global) -> Result<Command<'a>, AllocError>
 {
     let dump = of_file(alloc, "dump")?;
     let check = of_file(alloc, "check")?;
+    let pack = of_file(alloc, "pack")?;
     Command::new(alloc, "bsonfind")
         .no_binary_name(true)
         .subcommand_required(true)
         .disable_help_subcommand(true)
         .subcommand(dump)?
-        .subcommand(check)
+        .subcommand(check)?
+        .subcommand(pack)
 }
 
 /// The program's whole line.
@@ -91,6 +93,7 @@ fn order_named(alloc: Global, name: &str, matches: &ArgMatches<'_>) -> Result<Or
     match name {
         "dump" => Ok(Order::Dump { file }),
         "check" => Ok(Order::Check { file }),
+        "pack" => Ok(Order::Pack { file }),
         "find" => find_order(alloc, file, matches),
         _ => unreachable!(),
     }
@@ -98,7 +101,7 @@ fn order_named(alloc: Global, name: &str, matches: &ArgMatches<'_>) -> Result<Or
 
 /// The order of a line: its words without the program's name.
 ///
-/// `dump FILE` and `check FILE` are taken, and `find FILE --query Q` with or without `--batch N`, N from 0 to 2,147,483,647. A file whose name looks like a flag stands behind `--`, as in `dump -- -x`.
+/// `dump FILE`, `check FILE` and `pack FILE` are taken, and `find FILE --query Q` with or without `--batch N`, N from 0 to 2,147,483,647. A file whose name looks like a flag stands behind `--`, as in `dump -- -x`.
 ///
 /// # Errors
 ///
@@ -118,6 +121,10 @@ pub fn parse_words(alloc: Global, words: &[String]) -> Result<Order, WordsFault>
         → words_of words.now ≡ codes "check" ∷ file ∷ [] → Orders result (check file) }
     ensures check_escaped { (file : List ℕ)
         → words_of words.now ≡ codes "check" ∷ codes "--" ∷ file ∷ [] → Orders result (check file) }
+    ensures pack { (file : List ℕ) → IsTrue (is_file_word file)
+        → words_of words.now ≡ codes "pack" ∷ file ∷ [] → Orders result (pack file) }
+    ensures pack_escaped { (file : List ℕ)
+        → words_of words.now ≡ codes "pack" ∷ codes "--" ∷ file ∷ [] → Orders result (pack file) }
     // A query begins with a brace (123).
     ensures find { (rest file : List ℕ)
         → words_of words.now ≡ codes "find" ∷ codes "--query" ∷ (123 ∷ rest) ∷ codes "--" ∷ file ∷ []

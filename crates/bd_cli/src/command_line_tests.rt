@@ -28,7 +28,6 @@ fn answers(rt: HostRuntime) -> Result<(), Fail> {
         (["dump", "-h"].as_slice(), help),
         (["--version"].as_slice(), usage),
         (["serve", "-"].as_slice(), usage),
-        (["pack", "F"].as_slice(), usage),
         (["find", "F", "--limit", "x"].as_slice(), usage),
         (["dum", "F"].as_slice(), usage),
         (["--", "dump", "F"].as_slice(), usage),

@@ -10,6 +10,7 @@ use crate::dump_command::dump;
 use crate::find_command::find;
 use crate::messages::{tell, tell_no_memory, tell_unwritten};
 use crate::order::{Order, WordsFault};
+use crate::pack_command::pack;
 use crate::status::Status;
 use bd_bson::{Input, Output, write_all};
 use std::alloc::Global;
@@ -35,6 +36,7 @@ pub fn run<F: Input, C: Input, O: Output, E: Output>(
     match order {
         Order::Dump { .. } => dump(alloc, file, out, err),
         Order::Check { .. } => check(alloc, file, out, err),
+        Order::Pack { .. } => pack(alloc, file, out, err),
         Order::Find { query, batch, .. } => find(alloc, query.as_str(), *batch, file, out, err),
     }
 }

@@ -26,6 +26,10 @@ mod limits;
 mod lines;
 mod messages;
 mod order;
+mod pack_command;
+#[cfg(test)]
+mod pack_tests;
+mod packing;
 mod query_text;
 #[cfg(test)]
 mod run_tests;

@@ -3,6 +3,7 @@
 ghost use Rattle.std.specs.Prelude.{◌≡◌, ◌++◌, ◌∷◌, [], OnOk, OnErr, IsTrue, ◌↔◌};
 ghost use Rattle.bd_bson.specs.declared.fault.FaultKind.TheVariants as kinds;
 ghost use Rattle.bd_extjson.specs.Text.{text};
+ghost use Rattle.bd_cli.specs.Holding.{WroteSome};
 ghost use Rattle.bd_cli.specs.Ran.{Wrote, Broke};
 ghost use Rattle.bd_cli.specs.declared.lines.Stopped.TheVariants.{NoMemory as no_memory, Unwritten};
 
@@ -69,4 +70,15 @@ pub fn flush<O: Output>(pending: &mut Vec<u8>, out: &mut O) -> Result<(), Device
     write_all(out, pending)?;
     pending.clear();
     Ok(())
+}
+
+/// Writes the lines that were gathered, where they are enough for a call.
+pub fn flush_gathered<O: Output>(pending: &mut Vec<u8>, out: &mut O) -> Result<(), DeviceFault>
+    ensures ok { OnOk result (WroteSome O.held O.failures out.old out.new pending.old.items pending.new.items) }
+    ensures err { OnErr result (Broke O.held O.failures out.old out.new pending.old.items) }
+{
+    if pending.len() < GATHERED {
+        return Ok(());
+    }
+    flush(pending, out)
 }

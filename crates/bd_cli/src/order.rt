@@ -15,6 +15,10 @@ pub enum Order {
     Check {
         file: String,
     },
+    /// The lines of text of `file` as documents; `-` is the standard input.
+    Pack {
+        file: String,
+    },
     /// The documents of `file` that answer `query`, the first `batch` of them or all; `-` is the standard input.
     Find {
         file: String,

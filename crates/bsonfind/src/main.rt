@@ -64,7 +64,10 @@ fn status(rt: &HostRuntime) -> Status {
             return report(&fault, &mut out, &mut err);
         }
     };
-    let (Order::Dump { file } | Order::Check { file } | Order::Find { file, .. }) = &order;
+    let (Order::Dump { file }
+    | Order::Check { file }
+    | Order::Pack { file }
+    | Order::Find { file, .. }) = &order;
     if file.as_str() == "-" {
         return run(rt, &order, rt.reader());
     }

@@ -3,7 +3,7 @@ use Rattle.std.specs.Prelude.{is_some, option_and_then, option_map}
 use Rattle.std.proofs.lemmas.Result.{IfOk-weaker}
 use Rattle.clap.specs.Words.{first_of, found_of, rows_of}
 use Rattle.clap.proofs.WalkLemmas.{first_value-rows}
-use Rattle.bd_cli.specs.CommandLine.{Ordered, check, dump, find_ordered, ordered_by}
+use Rattle.bd_cli.specs.CommandLine.{Ordered, check, dump, find_ordered, ordered_by, pack}
 use Rattle.bd_cli.proofs.Taken.{no_file}
 use Rattle.bd_cli.proofs.command_line.order_named.Goals as goal
 
@@ -24,6 +24,12 @@ returns-in-check-clause-order c =
     let found = found_of c.args.matches.now in
     ap (λ name. ordered_by name (rows_of found)) c.in-check.is
     ∙ (ap (option_map check) (sym (c.in-Some.ensures ∙ first_value-rows found (codes "file"))) ∙ ap (λ t. Some (check t)) (sym c.in_ok-file.ensures.ok))
+
+pub returns-in-pack-clause-order : goal.returns-in-pack-clause-order
+returns-in-pack-clause-order c =
+    let found = found_of c.args.matches.now in
+    ap (λ name. ordered_by name (rows_of found)) c.in-pack.is
+    ∙ (ap (option_map pack) (sym (c.in-Some.ensures ∙ first_value-rows found (codes "file"))) ∙ ap (λ t. Some (pack t)) (sym c.in_ok-file.ensures.ok))
 
 pub returns-in-find-clause-order : goal.returns-in-find-clause-order
 returns-in-find-clause-order c =

@@ -1,7 +1,8 @@
 use Rattle.std.proofs.Common.{ap, sym, inr, ◌∙◌, ◌∷◌, None}
-use Rattle.bd_cli.specs.CommandLine.{check, dump, find, line_app, order_of, told_as, words_of}
+use Rattle.bd_cli.specs.CommandLine.{check, dump, find, line_app, pack, order_of, told_as, words_of}
 use Rattle.bd_cli.proofs.CheckTaken.{check_taken, check_escaped_taken}
 use Rattle.bd_cli.proofs.FindTaken.{find_taken}
+use Rattle.bd_cli.proofs.PackTaken.{pack_taken, pack_escaped_taken}
 use Rattle.bd_cli.proofs.Taken.{dump_taken, escaped_taken, help_line_refused, help_line_told, no_fault, only_memory, order_read, order_there, refused_as, refused_taken, orders_when}
 use Rattle.clap.specs.Words.{fault_of}
 use Rattle.std.specs.Prelude.{is_some, option_map, slice_get}
@@ -73,6 +74,22 @@ returns-clause-check c file plain is =
 pub returns-clause-check_escaped : goal.returns-clause-check_escaped
 returns-clause-check_escaped c file is =
     orders_when c.order_named.result (words_of c.args.words.now) (check file) (ap order_of is ∙ (check_escaped_taken file).1) (returns-clause-order c) c.order_named.ensures.fault
+
+pub returns-in-Err-clause-pack : goal.returns-in-Err-clause-pack
+returns-in-Err-clause-pack c file plain is =
+    only_memory (words_of c.args.words.now) c.fault_told.result (ap (fault_of line_app) is ∙ (pack_taken file plain).0) (returns-in-Err-clause-fault c)
+
+pub returns-in-Err-clause-pack_escaped : goal.returns-in-Err-clause-pack_escaped
+returns-in-Err-clause-pack_escaped c file is =
+    only_memory (words_of c.args.words.now) c.fault_told.result (ap (fault_of line_app) is ∙ (pack_escaped_taken file).0) (returns-in-Err-clause-fault c)
+
+pub returns-clause-pack : goal.returns-clause-pack
+returns-clause-pack c file plain is =
+    orders_when c.order_named.result (words_of c.args.words.now) (pack file) (ap order_of is ∙ (pack_taken file plain).1) (returns-clause-order c) c.order_named.ensures.fault
+
+pub returns-clause-pack_escaped : goal.returns-clause-pack_escaped
+returns-clause-pack_escaped c file is =
+    orders_when c.order_named.result (words_of c.args.words.now) (pack file) (ap order_of is ∙ (pack_escaped_taken file).1) (returns-clause-order c) c.order_named.ensures.fault
 
 pub returns-in-Err-clause-find : goal.returns-in-Err-clause-find
 returns-in-Err-clause-find c rest file is =

@@ -1,0 +1,100 @@
+-- What `pack` shows of an input.
+use Rattle.std.specs.Prelude.{◌≡◌, ◌≢◌, ◌≤◌, ◌<◌, ◌⊎◌, ℕ, suc, List, [], ◌∷◌, ◌++◌, length, codes, decimal, Bool, ◌==◌, ◌||◌, IsTrue, IsFalse, Option, Some, None, Result, Ok, Err}
+use Rattle.std.specs.List.{list_all, slice_split}
+use Rattle.bd_value.specs.Tree.{Doc, doc, fields_of}
+use Rattle.bd_bson.specs.Written.{bytes_of}
+use Rattle.bd_bson.specs.declared.reading.ReadFault.{ReadFault}
+use Rattle.bd_extjson.specs.Reads.{Reads}
+use Rattle.bd_extjson.specs.JsonFault.{json_fault_words}
+use Rattle.bd_extjson.specs.declared.json_fault.JsonFaultKind.{JsonFaultKind}
+use Rattle.bd_extjson.specs.declared.json_fault.JsonFaultKind.TheVariants as kinds
+use Rattle.bd_cli.specs.Shown.{Shown, error_line, read_words, shown_refusal}
+use Rattle.bd_cli.specs.declared.packing.BadLine.{BadLine}
+use Rattle.bd_cli.specs.declared.packing.LineFault.{LineFault}
+use Rattle.bd_cli.specs.declared.packing.LineFault.TheVariants as faults
+use Rattle.bd_cli.specs.declared.status.Status.{Status}
+use Rattle.bd_cli.specs.declared.status.Status.TheVariants.{Done, Failed}
+
+-- The lines of a text are the parts between newlines (10). Where it ends with one, the part behind it is an empty line.
+abbrev pub lines_of : List ℕ → List (List ℕ)
+lines_of text = slice_split (λ b. b == 10) text
+
+-- a space, a tab or a carriage return
+abbrev pub is_white : ℕ → Bool
+is_white b = (b == 32 || b == 9) || b == 13
+
+abbrev pub is_blank : List ℕ → Bool
+is_blank line = list_all is_white line
+
+-- the bytes of a document, and of documents one behind the other
+abbrev pub plain : Doc → List ℕ
+plain d = bytes_of (doc (fields_of d))
+
+abbrev pub packed_bytes : List Doc → List ℕ
+packed_bytes [] = []
+packed_bytes (d ∷ ds) = plain d ++ packed_bytes ds
+
+-- a line is the document, which is not too long
+abbrev pub IsPackable : List ℕ → Doc → Type 0
+IsPackable line d = Reads line d × (length (plain d) ≤ 16793600)
+
+-- A line is no document, or it is one that is too long. Of a line that is none the kind and the place of the fault are taken
+-- as given.
+abbrev pub IsBad : List ℕ → LineFault → Type 0
+IsBad line (faults.Unread f) = (f.kind ≢ kinds.NoMemory) × ((d : Doc) → Reads line d → ⊥)
+IsBad line faults.TooLong = (d : Doc) × Reads line d × (16793600 < length (plain d))
+
+-- Of lines, the first of which has that number, these are the documents before the first bad one, and this is that line.
+-- Lines of white space are passed over.
+abbrev pub Packs : ℕ → List (List ℕ) → List Doc → Option BadLine → Type 0
+Packs number [] ds bad = (ds ≡ []) × (bad ≡ None)
+Packs number (line ∷ lines) ds bad =
+    (IsTrue (is_blank line) × Packs (suc number) lines ds bad)
+    ⊎ (IsFalse (is_blank line) × ((d : Doc) × (es : List Doc) × IsPackable line d × (ds ≡ d ∷ es) × Packs (suc number) lines es bad))
+    ⊎ (IsFalse (is_blank line) × ((fault : LineFault) × IsBad line fault × (ds ≡ []) × (bad ≡ Some (record { number = number; fault = fault }))))
+
+-- a document as a whole has no place
+abbrev pub byte_text : JsonFaultKind → ℕ → List ℕ
+byte_text kinds.NotADocument at = []
+byte_text _ at = codes ", byte " ++ decimal at
+
+abbrev pub line_fault_text : LineFault → List ℕ
+line_fault_text (faults.Unread f) = byte_text f.kind f.at ++ (codes ": " ++ json_fault_words f.kind)
+line_fault_text faults.TooLong = codes ": document too long"
+
+abbrev pub bad_line_text : BadLine → List ℕ
+bad_line_text bad = codes "line " ++ (decimal bad.number ++ line_fault_text bad.fault)
+
+abbrev pub packed_line : ℕ → List ℕ
+packed_line n = decimal n ++ codes " objects packed\n"
+
+-- what standard error tells of lines: the bad one, and how many documents stand before it
+abbrev pub packed_text : ℕ → Option BadLine → List ℕ
+packed_text count None = packed_line count
+packed_text count (Some bad) = error_line (bad_line_text bad) ++ packed_line count
+
+abbrev pub packed_status : Option BadLine → Status
+packed_status None = Done
+packed_status (Some bad) = Failed
+
+abbrev pub shown_packed : List Doc → Option BadLine → Shown
+shown_packed ds bad = record { out = packed_bytes ds; err = packed_text (length ds) bad; status = packed_status bad }
+
+-- what is shown of a text, or of an input that was not read whole
+abbrev pub IsPacked : Result (List ℕ) ReadFault → Shown → Type 0
+IsPacked (Ok text) shown = (ds : List Doc) × (bad : Option BadLine) × Packs 1 (lines_of text) ds bad × (shown ≡ shown_packed ds bad)
+IsPacked (Err fault) shown = shown ≡ shown_refusal (read_words fault)
+
+-- Two tellings of where lines end are of one line, or both of none. Of a line that is no document, the kind and the place of
+-- the fault may differ.
+abbrev pub AreAlikeFaults : LineFault → LineFault → Type 0
+AreAlikeFaults (faults.Unread f) (faults.Unread g) = Unit {0}
+AreAlikeFaults (faults.Unread f) faults.TooLong = ⊥
+AreAlikeFaults faults.TooLong (faults.Unread g) = ⊥
+AreAlikeFaults faults.TooLong faults.TooLong = Unit {0}
+
+abbrev pub AreAlike : Option BadLine → Option BadLine → Type 0
+AreAlike None None = Unit {0}
+AreAlike None (Some b) = ⊥
+AreAlike (Some a) None = ⊥
+AreAlike (Some a) (Some b) = (a.number ≡ b.number) × AreAlikeFaults a.fault b.fault

@@ -1,0 +1,126 @@
+//! The documents of a text of lines, as bytes.
+ghost use Rattle.std.specs.Prelude.{◌≡◌, ◌++◌, ◌∷◌, ◌≤◌, IfOk, IfErr, IfSome, None, Ok, IsTrue, length, List};
+ghost use Rattle.std.specs.List.{list_all};
+ghost use Rattle.bd_value.specs.Tree.{Doc};
+ghost use Rattle.bd_cli.specs.Packed.{is_white, is_blank, plain, packed_bytes, lines_of, IsPackable, IsBad, Packs};
+ghost use Rattle.bd_cli.specs.Packing.{IsPacking, StopsPacking, bytes_behind, left_size, lines_left};
+
+use crate::lines::{Stopped, flush, flush_gathered};
+use bd_bson::{Output, WriteFault, write_document};
+use bd_extjson::{JsonFault, JsonFaultKind, Scratch, read_doc_with};
+use bd_value::NoMemory;
+use memchr::memchr;
+use std::alloc::{AllocError, Global};
+
+/// Why a line is not packed.
+#[derive(Clone, Copy, Debug, Drop, PartialEq, Eq)]
+pub enum LineFault {
+    /// It is no document.
+    Unread(JsonFault),
+    /// Its document has more than 16,793,600 bytes.
+    TooLong,
+}
+
+/// A line that is not packed.
+#[derive(Clone, Copy, Debug, Drop, PartialEq, Eq)]
+pub struct BadLine {
+    /// Its number, from 1.
+    pub number: u64,
+    /// Why it is not packed.
+    pub fault: LineFault,
+}
+
+/// The lines of a text that were packed.
+#[derive(Debug, Drop)]
+pub struct Packing {
+    /// How many documents they are.
+    pub count: u64,
+    /// The line behind them.
+    pub bad: Option<BadLine>,
+}
+
+/// The first line of a text, and what is behind its newline, where there is one.
+fn cut_line(text: &[u8]) -> (&[u8], Option<&[u8]>)
+    ensures line { lines_of text.now ≡ result.0.now ∷ lines_left (bytes_behind result.1) }
+    ensures shorter { left_size (bytes_behind result.1) ≤ length text.now }
+{
+    match memchr(b'\n', text) {
+        Some(end) => (&text[..end], Some(&text[end + 1..])),
+        None => (text, None),
+    }
+}
+
+fn is_white(b: u8) -> bool
+    ensures { result ≡ is_white b }
+{
+    b == b' ' || b == b'\t' || b == b'\r'
+}
+
+fn is_blank(line: &[u8]) -> bool
+    ensures { result ≡ is_blank line.now }
+{
+    line.iter().all(|b| is_white(*b))
+}
+
+/// Appends the bytes of the document that the line is, or tells why there are none. `scratch` is room that lines share.
+fn pack_line(
+    alloc: Global,
+    line: &[u8],
+    scratch: &mut Scratch,
+    pending: &mut Vec<u8>,
+) -> Result<Option<LineFault>, NoMemory>
+    ensures packed { result ≡ Ok None → (d : Doc) × IsPackable line.now d × (pending.new.items ≡ pending.old.items ++ plain d) }
+    ensures bad { IfOk result (λ o. IfSome o (λ f. IsBad line.now f × (pending.new ≡ pending.old))) }
+{
+    let document = match read_doc_with(alloc, line, scratch) {
+        Ok(document) => document,
+        Err(fault) => {
+            return match fault.kind {
+                JsonFaultKind::NoMemory => Err(AllocError),
+                _ => Ok(Some(LineFault::Unread(fault))),
+            };
+        }
+    };
+    match write_document(alloc, &document) {
+        Ok(bytes) => {
+            pending.extend_from_slice(&bytes)?;
+            Ok(None)
+        }
+        Err(WriteFault::TooLong) => Ok(Some(LineFault::TooLong)),
+        Err(WriteFault::NoMemory) => Err(AllocError),
+        // No text is read as such a document.
+        Err(WriteFault::TooDeep) => unreachable!(),
+        Err(WriteFault::NulInName) => unreachable!(),
+    }
+}
+
+/// Writes the documents of the lines before the first bad one. Where memory runs out, what was written is a front of their
+/// bytes.
+pub fn write_lines<O: Output>(alloc: Global, text: &[u8], out: &mut O) -> Result<Packing, Stopped>
+    requires { length text.now ≤ 4294967295 }
+    ensures packs { IfOk result (IsPacking text.now O.held O.failures out.old out.new) }
+    ensures stops { IfErr result (StopsPacking text.now O.held O.failures out.old out.new) }
+{
+    let mut scratch = Scratch::new(alloc);
+    let mut pending = Vec::new(alloc);
+    let mut number = 0;
+    let mut count = 0;
+    let mut left = Some(text);
+    while let Some(rest) = left {
+        let (line, behind) = cut_line(rest);
+        left = behind;
+        number += 1;
+        if is_blank(line) {
+            continue;
+        }
+        if let Some(fault) = pack_line(alloc, line, &mut scratch, &mut pending)? {
+            flush(&mut pending, out)?;
+            let bad = Some(BadLine { number, fault });
+            return Ok(Packing { count, bad });
+        }
+        count += 1;
+        flush_gathered(&mut pending, out)?;
+    }
+    flush(&mut pending, out)?;
+    Ok(Packing { count, bad: None })
+}
