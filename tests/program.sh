@@ -160,6 +160,33 @@ expect 'a line without its newline packed' 0 @int32.bson '1 objects packed'
 printf '\r\n{"a":1}\r\n \t\r\n' | run pack -
 expect 'lines of white space passed over' 0 @int32.bson '1 objects packed'
 
+"$program" pack "$shop.jsonl" 2>/dev/null | run dump -
+expect 'a dump of what was packed is the text again' 0 "@$shop.jsonl" '400 objects found'
+
+# The document of a text of so many letters a, as a line.
+letters() {
+	printf '{"a":"'
+	dd if=/dev/zero bs="$1" count=1 2>/dev/null | tr '\000' a
+	printf '"}\n'
+}
+
+letters 16793587 >longest.jsonl
+run pack longest.jsonl
+cp out longest.bson
+printf '\000\100\000\001\002a\000\364\077\000\001' | cmp -s -n 11 - out || echo 1 >status
+expect 'a line of a document of 16,793,600 bytes' 0 @longest.bson '1 objects packed'
+run dump longest.bson
+expect 'and dumped again' 0 @longest.jsonl '1 objects found'
+
+{ printf '{"a":' && copies 199 '[' && printf '{"$dbPointer":{"$ref":"","$id":{"$oid":"000000000000000000000000"}}}' && copies 199 ']' && printf '}'; } >deepest.json
+run pack deepest.json
+mv out deepest.bson
+: >out
+expect 'a line of 203 brackets' 0 '' '1 objects packed'
+run dump deepest.bson
+printf '\n' | cat deepest.json - >deepest.line
+expect 'and dumped again, of 200 levels' 0 @deepest.line '1 objects found'
+
 cp "$people.jsonl" ./-y
 run pack -- -y
 expect 'a file of lines whose name looks like a flag' 0 "@$people.bson" '500 objects packed'
@@ -211,7 +238,19 @@ printf '\n{"a":1}\r\n \r\n[]\n' | run pack -
 expect 'a line that is no document, behind lines of white space' 1 @int32.bson 'bsonfind: line 4: not a document
 1 objects packed'
 
-{ printf '{"a":1}\n{"a":"' && dd if=/dev/zero bs=1024 count=16400 2>/dev/null | tr '\000' a && printf '"}\n'; } | run pack -
+printf '\357\273\277{"a":1}\n' | run pack -
+expect 'a byte order mark' 1 '' 'bsonfind: line 1, byte 0: not JSON
+0 objects packed'
+
+{ printf '{"a":' && copies 202 '[' && copies 202 ']' && printf '}'; } | run pack -
+expect 'a line of 203 brackets and as many levels' 1 '' 'bsonfind: line 1, byte 204: too deep
+0 objects packed'
+
+{ printf '{"a":' && copies 203 '[' && copies 203 ']' && printf '}'; } | run pack -
+expect 'a line of 204 brackets' 1 '' 'bsonfind: line 1, byte 207: too deep
+0 objects packed'
+
+{ printf '{"a":1}\n' && letters 16793588; } | run pack -
 expect 'a line of a document that is too long' 1 @int32.bson 'bsonfind: line 2: document too long
 1 objects packed'
 
