@@ -49,10 +49,6 @@ no_frame None new given kind gave is alone = (given ++ [], _, alone)
 no_frame (Some xs) None given kind gave is alone = absurd gave
 no_frame (Some xs) (Some ys) given kind gave is alone = (given ++ ys, sym gave, is ys refl)
 
-at_end : (new : Option (List ℕ)) → IsAtEnd new → (rest : List ℕ) → IfSome new (λ xs. rest ≡ xs) → (new ≡ None) ⊎ (rest ≡ [])
-at_end None end rest is = inl refl
-at_end (Some xs) end rest is = inr (is ∙ end)
-
 pub has_short_length : (old new : Option (List ℕ)) (given : List ℕ) → Consumes old new given → IsAtEnd new → 0 < length given → length given < 4 → HasNoFrame old ShortLength
 has_short_length old None given gave end some few =
     let alone = frame_short (given ++ []) (omega (arith, length-append given [])) (omega (arith, length-append given [])) in

@@ -22,9 +22,6 @@ head_at bytes at b x h =
     let e : at ≡ at + 0 = omega arith in
     ap (λ (k : ℕ). get_or bytes k 0) e ∙ sym (get_or-drop at bytes 0 0) ∙ ap (λ (y : List ℕ). get_or y 0 0) h
 
-pub inside_at : (bytes : List ℕ) (at b : ℕ) (x : List ℕ) → drop at bytes ≡ b ∷ x → at < length bytes
-inside_at bytes at b x h = let e = ap (λ (y : List ℕ). length y) h in let d = length-drop at bytes in omega arith
-
 pub front_of_left : (bytes : List ℕ) (at : ℕ) (l : Left (drop at bytes)) → at < length bytes
 front_of_left bytes at l =
     let e = ap (λ (y : List ℕ). length y) l.cut in

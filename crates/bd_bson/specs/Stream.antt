@@ -22,10 +22,6 @@ AreFrames (frame ∷ frames) bytes = (rest : List ℕ) × IsFrame frame × AreFr
 abbrev pub HoldsAsMuch : ℕ → ℕ → ℕ → Type 0
 HoldsAsMuch old new size = (new ≡ old) ⊎ ((old < size) × (new ≡ size))
 
--- the bytes stand at the front of others
-abbrev pub IsFrontOf : List ℕ → List ℕ → Type 0
-IsFrontOf front bytes = (rest : List ℕ) × (bytes ≡ front ++ rest)
-
 -- the bytes are fewer than a document has: too few for its length, or for what this counts
 abbrev pub IsCut : List ℕ → Type 0
 IsCut bytes = (length bytes < 4) ⊎ ((5 ≤ length_told bytes) × (length_told bytes ≤ 16793600) × (length bytes < length_told bytes))

@@ -1,5 +1,5 @@
 //! The next document of a device, in a buffer that the documents share.
-ghost use Rattle.std.specs.Prelude.{◌≡◌, ℕ, List, [], ⊤, Some, None, Ok, Err, true, false, IfOk, IfErr, IfSome, IsErrOf, IsTrue, OnErr, OnOk, length, take, vec_len, ◌+◌, ◌*◌, ◌-◌, ◌<◌, ◌≤◌, ◌↔◌};
+ghost use Rattle.std.specs.Prelude.{◌≡◌, [], Some, None, Ok, Err, true, false, IfOk, IfErr, IfSome, IsTrue, OnErr, OnOk, length, take, ◌+◌, ◌*◌, ◌-◌, ◌<◌, ◌≤◌, ◌↔◌};
 ghost use Rattle.std.specs.Io.KnownBytes.{IsAtEnd, Consumes, prepend_known};
 ghost use Rattle.bd_bson.specs.Counts.{after_more};
 ghost use Rattle.bd_bson.specs.Dump.{length_told};

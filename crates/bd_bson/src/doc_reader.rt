@@ -1,8 +1,9 @@
 //! The documents of a device, one at a time.
 ghost use Rattle.std.specs.Prelude.{◌≡◌, ℕ, List, Option, Ok, Err, Some, None, false, true, IfOk, IfErr, IfSome, IsTrue, OnErr, OnOk, [], length, take, ◌+◌, ◌-◌, ◌≤◌, ◌↔◌};
+ghost use Rattle.std.specs.Io.{StartsWith};
 ghost use Rattle.std.specs.Io.KnownBytes.{Consumes, IsAtEnd};
 ghost use Rattle.bd_bson.specs.Counts.{after_more};
-ghost use Rattle.bd_bson.specs.Stream.{IsFrame, IsFrontOf, HoldsAsMuch, CutShort, HasNoFrame, OnFrame, OnRead};
+ghost use Rattle.bd_bson.specs.Stream.{IsFrame, HoldsAsMuch, CutShort, HasNoFrame, OnFrame, OnRead};
 
 use crate::doc_buffer::{DocBuffer, DocFault};
 use crate::input::Input;
@@ -55,7 +56,7 @@ impl<R: Input + Drop> DocReader<R> {
     /// The errors are those of `DocBuffer::read_next`.
     pub fn next(&mut self) -> Result<Option<RawBytes<'_>>, DocFault>
         ensures frame { IfOk result (λ o. IfSome o (λ d. IsFrame d.bytes.now)) }
-        ensures front { IfOk result (λ o. IfSome o (λ d. IfSome (R.left self.old.reader) (IsFrontOf d.bytes.now))) }
+        ensures front { IfOk result (λ o. IfSome o (λ d. IfSome (R.left self.old.reader) (λ xs. StartsWith xs d.bytes.now))) }
         ensures stands { IfOk result (λ o. IfSome o (λ d. (d.start ≡ self.old.documents.place) × (d.number ≡ self.old.documents.number))) }
         ensures end { result ≡ Ok None → IsAtEnd (R.left self.old.reader) }
         ensures no_frame { IfErr result (OnFrame (λ f. (f.offset ≡ self.old.documents.place) × (f.document ≡ self.old.documents.number)

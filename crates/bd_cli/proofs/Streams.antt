@@ -1,14 +1,16 @@
 -- Inputs that are read document by document.
 use Rattle.std.proofs.Common.{rules, ◌≡◌, ◌≤◌, ℕ, ◌+◌, ◌-◌, List, [], ◌++◌, length, map, Option, Some, None, Err, refl, sym, ap, ap₂, ◌∙◌, subst, append_assoc, append-nil, arith, length-append}
 use Rattle.std.specs.Prelude.{IfSome, string_bytes}
+use Rattle.std.specs.Io.{StartsWith}
 use Rattle.std.specs.Io.KnownBytes.{Consumes, IsAtEnd}
 use Rattle.std.proofs.KnownBytes.{Consumes-trans}
 use Rattle.std.proofs.lemmas.List.{take_at}
+use Rattle.std.proofs.Transfers.{starts_with_of_append}
 use Rattle.bd_bson.specs.Counts.{after_more}
 use Rattle.bd_bson.specs.Fault.{Fault}
 use Rattle.bd_bson.specs.FirstFault.{first_fault}
 use Rattle.bd_bson.specs.Dump.{frame_length, framed_fault, frame_fault}
-use Rattle.bd_bson.specs.Stream.{IsFrame, IsFrontOf, IsCut, CutShort}
+use Rattle.bd_bson.specs.Stream.{IsFrame, IsCut, CutShort}
 use Rattle.bd_bson.specs.Told.{fault_view}
 use Rattle.bd_bson.specs.declared.fault.Fault as told
 use Rattle.bd_bson.specs.declared.reading.ReadFault.{ReadFault}
@@ -37,15 +39,15 @@ known_behind None mid given bytes gave is = _
 known_behind (Some xs) None given bytes gave is = absurd gave
 known_behind (Some xs) (Some ys) given bytes gave is = ap (λ z. given ++ z) is ∙ sym gave
 
-pub front_known : (old new : Option (List ℕ)) (given : List ℕ) → Consumes old new given → IfSome old (IsFrontOf given)
+pub front_known : (old new : Option (List ℕ)) (given : List ℕ) → Consumes old new given → IfSome old (λ xs. StartsWith xs given)
 front_known None new given gave = _
 front_known (Some xs) None given gave = absurd gave
-front_known (Some xs) (Some ys) given gave = (ys, gave)
+front_known (Some xs) (Some ys) given gave = starts_with_of_append xs given ys gave
 
-front_behind : (old new : Option (List ℕ)) (bytes given rest : List ℕ) → Consumes old new bytes → bytes ≡ given ++ rest → IfSome old (IsFrontOf given)
+front_behind : (old new : Option (List ℕ)) (bytes given rest : List ℕ) → Consumes old new bytes → bytes ≡ given ++ rest → IfSome old (λ xs. StartsWith xs given)
 front_behind None new bytes given rest gave cut = _
 front_behind (Some xs) None bytes given rest gave cut = absurd gave
-front_behind (Some xs) (Some ys) bytes given rest gave cut = (rest ++ ys, gave ∙ ap (λ z. z ++ ys) cut ∙ append_assoc given rest ys)
+front_behind (Some xs) (Some ys) bytes given rest gave cut = starts_with_of_append xs given (rest ++ ys) (gave ∙ ap (λ z. z ++ ys) cut ∙ append_assoc given rest ys)
 
 pub more_called : (a b c turns fewer : ℕ) → turns ≤ 4294967296 → fewer ≤ turns → b ≡ after_more a (4294967296 - turns) → c ≡ after_more b (turns - fewer) → c ≡ after_more a (4294967296 - fewer)
 more_called a b c turns fewer le less first second = search rules
@@ -91,12 +93,12 @@ module _ {R : Type 0} (left : R → Option (List ℕ)) (calls failures : R → �
 
 -- what stands in front of an input's bytes stands in front of the reader's
 pub streamed_front : {R : Type 0} (left : R → Option (List ℕ)) (calls failures : R → ℕ) (old new : R) (bytes given rest : List ℕ) (fault : Option ReadFault)
-    → WasStreamed left calls failures old new bytes fault → bytes ≡ given ++ rest → IfSome (left old) (IsFrontOf given)
+    → WasStreamed left calls failures old new bytes fault → bytes ≡ given ++ rest → IfSome (left old) (λ xs. StartsWith xs given)
 streamed_front left calls failures old new bytes given rest None was cut = whole (left old) was.0
   where
-    whole : (o : Option (List ℕ)) → IfSome o (λ xs. bytes ≡ xs) → IfSome o (IsFrontOf given)
+    whole : (o : Option (List ℕ)) → IfSome o (λ xs. bytes ≡ xs) → IfSome o (λ xs. StartsWith xs given)
     whole None is = _
-    whole (Some xs) is = (rest, sym is ∙ cut)
+    whole (Some xs) is = starts_with_of_append xs given rest (sym is ∙ cut)
 streamed_front left calls failures old new bytes given rest (Some reads.Device) was cut = front_behind (left old) (left new) bytes given rest was.0 cut
 streamed_front left calls failures old new bytes given rest (Some reads.TooLong) was cut =
     front_behind (left old) (left new) (bytes ++ was.0) given (rest ++ was.0) was.1 (ap (λ xs. xs ++ was.0) cut ∙ append_assoc given rest was.0)

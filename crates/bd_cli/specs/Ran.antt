@@ -1,9 +1,9 @@
 -- How a run ended: what its devices gave and took.
 use Rattle.std.specs.Prelude.{◌≡◌, ◌≤◌, ◌<◌, ◌⊎◌, ◌+◌, ℕ, List, [], ◌∷◌, ◌++◌, length, codes, ℤ, Option, Some, None, IfSome, Result, Ok, Err, string_bytes}
+use Rattle.std.specs.Io.{StartsWith}
 use Rattle.std.specs.Io.KnownBytes.{Appends, Consumes, IsAtEnd}
 use Rattle.bd_value.specs.Tree.{Doc}
 use Rattle.bd_bson.specs.Dump.{AreJoined}
-use Rattle.bd_bson.specs.Stream.{IsFrontOf}
 use Rattle.bd_bson.specs.Counts.{after_more}
 use Rattle.bd_bson.specs.Devices.{AppendsFront, LosesAtLeast}
 use Rattle.bd_bson.specs.declared.reading.ReadFault.{ReadFault}
@@ -86,7 +86,7 @@ BrokeAt {O = O} left failures old new out_held out_failures out_old out_new =
 -- standard output has the lines of documents that stand in front of the reader's bytes
 abbrev pub StarvedAt : {R O : Type 0} → (R → Option (List ℕ)) → R → (O → Option (List ℕ)) → (O → ℕ) → O → O → Type 0
 StarvedAt left old out_held out_failures out_old out_new =
-    (ds : List Doc) × (given : List ℕ) × AreJoined ds given × IfSome (left old) (IsFrontOf given) × Wrote out_held out_failures out_old out_new (lines ds)
+    (ds : List Doc) × (given : List ℕ) × AreJoined ds given × IfSome (left old) (λ xs. StartsWith xs given) × Wrote out_held out_failures out_old out_new (lines ds)
 
 -- `dump` showed all that is to be shown of an input; or standard output broke, or memory ran out, and standard error tells so.
 abbrev pub Dumped : {R O E : Type 0} → (R → Option (List ℕ)) → (R → ℕ) → (R → ℕ) → R → R → (O → Option (List ℕ)) → (O → ℕ) → O → O → (E → Option (List ℕ)) → (E → ℕ) → E → E → Status → Type 0

@@ -8,7 +8,7 @@ ghost use Rattle.bd_bson.specs.Told.{fault_view};
 ghost use Rattle.bd_cli.specs.Ran.{Wrote, Broke};
 ghost use Rattle.bd_cli.specs.Shown.{lines};
 ghost use Rattle.bd_cli.specs.Walked.{Walks, Stops, EndedBy};
-ghost use Rattle.bd_cli.specs.declared.lines.Stopped.TheVariants.{NoMemory as no_memory, Unwritten};
+ghost use Rattle.bd_cli.specs.declared.lines.Stopped.TheVariants.{Unwritten};
 
 use crate::limits::LIMITS;
 use crate::lines::{Stopped, is_want_of_memory, write_line};

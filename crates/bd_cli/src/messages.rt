@@ -1,6 +1,6 @@
 //! The lines that tell how a run went.
 
-ghost use Rattle.std.specs.Prelude.{◌≡◌, ◌++◌, OnOk, OnErr, codes};
+ghost use Rattle.std.specs.Prelude.{◌≡◌, ◌++◌, OnOk, codes};
 ghost use Rattle.bd_bson.specs.Told.{fault_view};
 ghost use Rattle.bd_cli.specs.Ran.{Told};
 ghost use Rattle.bd_cli.specs.Shown.{place_text, fault_text, count_line, error_line, read_words};
