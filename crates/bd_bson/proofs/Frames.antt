@@ -5,13 +5,14 @@ use Rattle.std.proofs.lemmas.Bool.Decides.{nat_tests}
 use Rattle.std.specs.Prelude.{IfSome, ◌||◌}
 use Rattle.std.specs.Io.KnownBytes.{Consumes, IsAtEnd, prepend_known}
 use lib.Seq.{take-append-le}
+use Rattle.bd_device.specs.declared.reading.ReadFault.{ReadFault}
+use Rattle.bd_device.specs.declared.reading.ReadFault.TheVariants as reads
+use Rattle.bd_device.specs.Filling.{Unfilled}
 use Rattle.bd_bson.specs.declared.fault.Fault.{Fault}
 use Rattle.bd_bson.specs.declared.fault.FaultKind.{FaultKind}
 use Rattle.bd_bson.specs.declared.fault.FaultKind.TheVariants.{ShortLength, BadLength}
-use Rattle.bd_bson.specs.declared.reading.ReadFault.{ReadFault}
-use Rattle.bd_bson.specs.declared.reading.ReadFault.TheVariants as reads
 use Rattle.bd_bson.specs.Dump.{length_told, frame_length}
-use Rattle.bd_bson.specs.Stream.{IsFrame, AreFrames, IsCut, Unfilled, CutShort, HasNoFrame, OnFrame, OnRead}
+use Rattle.bd_bson.specs.Stream.{IsFrame, AreFrames, IsCut, CutShort, HasNoFrame, OnFrame, OnRead}
 use Rattle.bd_bson.specs.declared.doc_buffer.DocFault.{DocFault}
 use Rattle.bd_bson.specs.declared.doc_buffer.DocFault.TheVariants as faults
 use Rattle.bd_bson.proofs.Dumps.{frame_good, frame_inside, document_frame, Stuck}
@@ -100,6 +101,10 @@ pub gave_behind : (head given : List ℕ) (old new : Option (List ℕ)) → Cons
 gave_behind head given None new gave = _
 gave_behind head given (Some xs) None gave = absurd gave
 gave_behind head given (Some xs) (Some ys) gave = ap (λ z. head ++ z) gave ∙ sym (append_assoc head given ys)
+
+-- a room behind which nothing is left
+pub whole_room : (n len : ℕ) (room rest all : List ℕ) → take n room ≡ all → length room ≡ len → take n (take len (room ++ rest)) ≡ all
+whole_room n len room rest all front size = ap (take n) (take_at room rest len size) ∙ front
 
 pub is_frame : (bytes head given : List ℕ) → bytes ≡ head ++ given → IsHead head → length given + 4 ≡ length_told head → IsFrame bytes
 is_frame bytes head given e is size =

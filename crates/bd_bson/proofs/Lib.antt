@@ -2,13 +2,11 @@ pub mod Again
 pub mod Asked
 pub mod Collects
 pub mod Cursors
-pub mod Devices
 pub mod Dumps
 pub mod Frames
 pub mod Loop
 pub mod Nested
 pub mod Readable
-pub mod Rooms
 pub mod Steps
 pub mod Takes
 pub mod Tells

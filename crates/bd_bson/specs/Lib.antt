@@ -1,7 +1,5 @@
 pub mod Collection
 pub mod Contents
-pub mod Counts
-pub mod Devices
 pub mod Dump
 pub mod Fault
 pub mod FirstFault

@@ -1,11 +1,11 @@
 -- Documents that a device gives one at a time, and nothing of the next one.
 use Rattle.std.specs.Prelude.{◌≡◌, ◌<◌, ◌≤◌, ◌+◌, ◌⊎◌, ℕ, List, [], ◌∷◌, ◌++◌, length, Option, Some, Ok, Err, IfSome}
 use Rattle.std.specs.Io.KnownBytes.{Consumes}
+use Rattle.bd_device.specs.declared.reading.ReadFault.{ReadFault}
+use Rattle.bd_device.specs.declared.reading.ReadFault.TheVariants as reads
 use Rattle.bd_bson.specs.Dump.{frame_length, length_told}
 use Rattle.bd_bson.specs.declared.fault.Fault.{Fault}
 use Rattle.bd_bson.specs.declared.fault.FaultKind.{FaultKind}
-use Rattle.bd_bson.specs.declared.reading.ReadFault.{ReadFault}
-use Rattle.bd_bson.specs.declared.reading.ReadFault.TheVariants as reads
 use Rattle.bd_bson.specs.declared.doc_buffer.DocFault.{DocFault}
 use Rattle.bd_bson.specs.declared.doc_buffer.DocFault.TheVariants as faults
 
@@ -25,14 +25,6 @@ HoldsAsMuch old new size = (new ≡ old) ⊎ ((old < size) × (new ≡ size))
 -- the bytes are fewer than a document has: too few for its length, or for what this counts
 abbrev pub IsCut : List ℕ → Type 0
 IsCut bytes = (length bytes < 4) ⊎ ((5 ≤ length_told bytes) × (length_told bytes ≤ 16793600) × (length bytes < length_told bytes))
-
--- what a device gave before it failed to fill a room, of which it may give so many bytes: known bytes are lost from the old to the new
-abbrev pub Unfilled : Option (List ℕ) → Option (List ℕ) → ℕ → ℕ → ReadFault → Type 0
-Unfilled old new room limit reads.Device = (given : List ℕ) × Consumes old new given × (length given < room) × (length given ≤ limit)
-Unfilled old new room limit reads.TooLong =
-    (given : List ℕ) × (last : List ℕ) × Consumes old new (given ++ last) × (length given < room) × (length given ≤ limit) × (limit < length given + length last)
-Unfilled old new room limit reads.TooManyTurns = (given : List ℕ) × Consumes old new given × (length given < room) × (length given ≤ limit)
-Unfilled old new room limit reads.NoMemory = Unit {0}
 
 -- what a device gave of a document before its reading failed; so many bytes it may give
 abbrev pub CutShort : Option (List ℕ) → Option (List ℕ) → ℕ → ReadFault → Type 0

@@ -1,16 +1,14 @@
 //! The next document of a device, in a buffer that the documents share.
 ghost use Rattle.std.specs.Prelude.{◌≡◌, [], Some, None, Ok, Err, true, false, IfOk, IfErr, IfSome, IsTrue, OnErr, OnOk, length, take, ◌+◌, ◌*◌, ◌-◌, ◌<◌, ◌≤◌, ◌↔◌};
 ghost use Rattle.std.specs.Io.KnownBytes.{IsAtEnd, Consumes, prepend_known};
-ghost use Rattle.bd_bson.specs.Counts.{after_more};
+ghost use Rattle.bd_device.specs.Counts.{after_more};
 ghost use Rattle.bd_bson.specs.Dump.{length_told};
 ghost use Rattle.bd_bson.specs.declared.doc_buffer.DocFault.TheVariants.{Read as unread};
 ghost use Rattle.bd_bson.specs.Stream.{IsFrame, HoldsAsMuch, CutShort, HasNoFrame, OnFrame, OnRead};
 
 use crate::fault::{Fault, FaultKind};
-use crate::filling::{fill, fill_behind};
-use crate::input::Input;
 use crate::read::frame_fault;
-use crate::reading::{Limits, ReadFault};
+use bd_device::{Input, Limits, ReadFault, fill, fill_behind};
 use std::alloc::Global;
 
 /// Why a device gave no document.

@@ -2,12 +2,11 @@
 ghost use Rattle.std.specs.Prelude.{◌≡◌, ℕ, List, Option, Ok, Err, Some, None, false, true, IfOk, IfErr, IfSome, IsTrue, OnErr, OnOk, [], length, take, ◌+◌, ◌-◌, ◌≤◌, ◌↔◌};
 ghost use Rattle.std.specs.Io.{StartsWith};
 ghost use Rattle.std.specs.Io.KnownBytes.{Consumes, IsAtEnd};
-ghost use Rattle.bd_bson.specs.Counts.{after_more};
+ghost use Rattle.bd_device.specs.Counts.{after_more};
 ghost use Rattle.bd_bson.specs.Stream.{IsFrame, HoldsAsMuch, CutShort, HasNoFrame, OnFrame, OnRead};
 
 use crate::doc_buffer::{DocBuffer, DocFault};
-use crate::input::Input;
-use crate::reading::{Limits, ReadFault};
+use bd_device::{Input, Limits, ReadFault};
 use std::alloc::Global;
 
 /// The bytes of a document that a device gave.

@@ -2,8 +2,7 @@
 use crate::doc_buffer::{DocBuffer, DocFault};
 use crate::doc_reader::{DocReader, RawBytes};
 use crate::fault::FaultKind;
-use crate::input::{MemoryInput, SystemInput};
-use crate::reading::{Limits, ReadFault, read_all};
+use bd_device::{Limits, MemoryInput, ReadFault, SystemInput, read_all};
 use std::alloc::Global;
 use std::process::Abort;
 use std::test::Fail;

@@ -1,4 +1,4 @@
-//! BSON documents as bytes, and the devices that give and take bytes.
+//! BSON documents as bytes.
 #![tactic(auto)]
 
 #[cfg(test)]
@@ -11,8 +11,6 @@ mod collection_tests;
 mod contents;
 #[cfg(test)]
 mod depth_tests;
-#[cfg(test)]
-mod devices_tests;
 mod doc_buffer;
 mod doc_reader;
 #[cfg(test)]
@@ -21,22 +19,17 @@ mod dump_laws;
 mod element;
 mod elements;
 mod fault;
-mod filling;
-mod input;
 #[cfg(test)]
 mod kinds_tests;
 mod laws;
-mod output;
 mod parts;
 #[cfg(test)]
 mod prefix_tests;
 mod raw;
 mod raw_parts;
 mod read;
-mod reading;
 #[cfg(test)]
 mod samples;
-mod tally;
 #[cfg(test)]
 mod tests;
 mod verdict_laws;
@@ -51,6 +44,10 @@ mod writing_scalars;
 mod writing_values;
 mod zeros;
 
+pub use bd_device::{
+    DeviceFault, FailingWrite, Input, Limits, MemoryInput, MemoryOutput, Output, ReadFault,
+    SystemInput, SystemOutput, read_all, write_all,
+};
 pub use check::check_document;
 pub use collecting::read_dump;
 pub use collection::Dump;
@@ -58,12 +55,9 @@ pub use doc_buffer::{DocBuffer, DocFault};
 pub use doc_reader::{DocReader, RawBytes};
 pub use dump_laws::dump_or_fault;
 pub use fault::{Fault, FaultKind};
-pub use input::{DeviceFault, Input, MemoryInput, SystemInput};
 pub use laws::{no_fault_where_spelled, spells_one_document, walks_in_one_way, walks_on};
-pub use output::{FailingWrite, MemoryOutput, Output, SystemOutput, write_all};
 pub use raw::{Elements, RawDoc, RawValue};
 pub use read::{Frame, next_document, next_frame, read_document};
-pub use reading::{Limits, ReadFault, read_all};
 pub use verdict_laws::{judges_as_the_walk, judges_in_turn};
 pub use write::write_document;
 pub use writing::WriteFault;

@@ -5,13 +5,13 @@ use Rattle.std.specs.Io.KnownBytes.{Appends, Consumes, IsAtEnd}
 use Rattle.std.proofs.KnownBytes.{Appends-trans, Appends-nil, Consumes-trans, Consumes-nil}
 use Rattle.std.proofs.lemmas.List.{take_at, drop_at}
 use Rattle.std.proofs.lemmas.List.Sums.{sum_by-append}
-use Rattle.bd_bson.specs.Counts.{after_more}
+use Rattle.bd_device.specs.Counts.{after_more}
+use Rattle.bd_device.specs.declared.reading.ReadFault.{ReadFault}
+use Rattle.bd_device.specs.declared.reading.ReadFault.TheVariants as reads
 use Rattle.bd_bson.specs.Fault.{Fault}
 use Rattle.bd_bson.specs.declared.fault.Fault as told
 use Rattle.bd_bson.specs.declared.doc_buffer.DocFault.{DocFault}
 use Rattle.bd_bson.specs.declared.doc_buffer.DocFault.TheVariants as faults
-use Rattle.bd_bson.specs.declared.reading.ReadFault.{ReadFault}
-use Rattle.bd_bson.specs.declared.reading.ReadFault.TheVariants as reads
 use Rattle.bd_bson.specs.Dump.{frame_length}
 use Rattle.bd_bson.specs.FirstFault.{first_fault}
 use Rattle.bd_bson.specs.Stream.{IsFrame, AreFrames, CutShort, HasNoFrame, OnFrame, OnRead}

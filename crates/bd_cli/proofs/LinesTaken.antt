@@ -2,7 +2,7 @@
 use Rattle.std.proofs.Common.{◌≡◌, ℕ, List, [], ◌∷◌, ◌++◌, Option, refl, sym, ap, ◌∙◌, append_assoc, append-nil}
 use Rattle.std.proofs.KnownBytes.{Appends-trans}
 use Rattle.bd_value.specs.Tree.{Doc, doc, fields_of}
-use Rattle.bd_bson.specs.Counts.{after_more}
+use Rattle.bd_device.specs.Counts.{after_more}
 use Rattle.bd_extjson.specs.Text.{text}
 use Rattle.bd_cli.specs.Shown.{lines}
 use Rattle.bd_cli.specs.Ran.{Wrote, Broke}

@@ -1,7 +1,7 @@
 -- What `pack` shows is determined, but for the kind and the place of a fault.
 use Rattle.std.proofs.Common.{◌≡◌, ◌<◌, ℕ, suc, List, [], ◌∷◌, length, Option, Some, None, Result, Ok, Err, refl, sym, ap, ap₂, ◌∙◌, subst, arith, inl, inr, true, false, true≢false}
 use Rattle.bd_value.specs.Tree.{Doc}
-use Rattle.bd_bson.specs.declared.reading.ReadFault.{ReadFault}
+use Rattle.bd_device.specs.declared.reading.ReadFault.{ReadFault}
 use Rattle.bd_extjson.specs.Reads.{Reads}
 use Rattle.bd_cli.specs.Packed.{lines_of, plain, packed_bytes, packed_status, shown_packed, IsBad, IsPackable, IsPacked, Packs, AreAlike, AreAlikeFaults}
 use Rattle.bd_cli.specs.Shown.{Shown}

@@ -3,14 +3,14 @@ use Rattle.std.proofs.Common.{◌≡◌, ◌<◌, ℕ, List, [], ◌++◌, lengt
 use Rattle.std.specs.Prelude.{◌⊎◌, codes}
 use Rattle.std.proofs.KnownBytes.{Appends-nil}
 use Rattle.bd_value.specs.Tree.{Doc}
+use Rattle.bd_device.specs.Counts.{after_more}
+use Rattle.bd_device.specs.Devices.{LosesAtLeast}
+use Rattle.bd_device.specs.declared.reading.ReadFault.{ReadFault}
+use Rattle.bd_device.specs.declared.reading.ReadFault.TheVariants as reads
 use Rattle.bd_bson.specs.Fault.{Fault}
-use Rattle.bd_bson.specs.Counts.{after_more}
-use Rattle.bd_bson.specs.Devices.{LosesAtLeast}
 use Rattle.bd_bson.specs.Dump.{AreJoined}
 use Rattle.bd_bson.specs.Told.{fault_view}
 use Rattle.bd_bson.specs.declared.fault.Fault as told
-use Rattle.bd_bson.specs.declared.reading.ReadFault.{ReadFault}
-use Rattle.bd_bson.specs.declared.reading.ReadFault.TheVariants as reads
 use Rattle.bd_bson.proofs.Takes.{IsBytes}
 use Rattle.bd_bson.proofs.Dumps.{walk_once, walk_on, joined_once}
 use Rattle.bd_bson.proofs.Frames.{cut_stuck}

@@ -4,15 +4,15 @@ use Rattle.std.specs.Prelude.{IfSome, Result, MatchResult}
 use Rattle.std.specs.Io.KnownBytes.{Consumes, IsAtEnd}
 use Rattle.std.proofs.KnownBytes.{Appends-trans, Appends-nil, Consumes-trans, Consumes-nil}
 use Rattle.bd_value.specs.Tree.{Doc}
+use Rattle.bd_device.specs.Counts.{after_more, greatest}
+use Rattle.bd_device.specs.declared.reading.ReadFault.{ReadFault}
+use Rattle.bd_device.specs.declared.reading.ReadFault.TheVariants as reads
 use Rattle.bd_bson.specs.Spelling.{IsDocument}
-use Rattle.bd_bson.specs.Counts.{after_more, greatest}
 use Rattle.bd_bson.specs.FirstFault.{first_fault}
 use Rattle.bd_bson.specs.Dump.{AreJoined}
 use Rattle.bd_bson.specs.Stream.{IsFrame, CutShort, HasNoFrame, OnFrame, OnRead}
 use Rattle.bd_bson.specs.Told.{fault_view}
 use Rattle.bd_bson.specs.declared.fault.Fault as told
-use Rattle.bd_bson.specs.declared.reading.ReadFault.{ReadFault}
-use Rattle.bd_bson.specs.declared.reading.ReadFault.TheVariants as reads
 use Rattle.bd_bson.proofs.Dumps.{joined_append, joined_one}
 use Rattle.bd_cli.specs.Shown.{lines}
 use Rattle.bd_cli.specs.Ran.{Wrote, Broke, BrokeAt, StarvedAt}

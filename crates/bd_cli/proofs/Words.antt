@@ -1,7 +1,7 @@
 -- The words of read faults.
 use Rattle.std.proofs.Common.{◌≡◌, ℕ, List, codes, refl}
-use Rattle.bd_bson.specs.declared.reading.ReadFault.{ReadFault}
-use Rattle.bd_bson.specs.declared.reading.ReadFault.TheVariants as reads
+use Rattle.bd_device.specs.declared.reading.ReadFault.{ReadFault}
+use Rattle.bd_device.specs.declared.reading.ReadFault.TheVariants as reads
 use Rattle.bd_cli.specs.Shown.{read_words}
 
 pub words_are : (f : ReadFault) (words : List ℕ) → (f ≡ reads.Device → words ≡ codes "cannot read") → (f ≡ reads.TooLong → words ≡ codes "input too long")

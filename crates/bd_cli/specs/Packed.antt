@@ -2,8 +2,8 @@
 use Rattle.std.specs.Prelude.{◌≡◌, ◌≢◌, ◌≤◌, ◌<◌, ◌⊎◌, ℕ, suc, List, [], ◌∷◌, ◌++◌, length, codes, decimal, Bool, ◌==◌, ◌||◌, IsTrue, IsFalse, Option, Some, None, Result, Ok, Err}
 use Rattle.std.specs.List.{list_all, slice_split}
 use Rattle.bd_value.specs.Tree.{Doc, doc, fields_of}
+use Rattle.bd_device.specs.declared.reading.ReadFault.{ReadFault}
 use Rattle.bd_bson.specs.Written.{bytes_of}
-use Rattle.bd_bson.specs.declared.reading.ReadFault.{ReadFault}
 use Rattle.bd_extjson.specs.Reads.{Reads}
 use Rattle.bd_extjson.specs.JsonFault.{json_fault_words}
 use Rattle.bd_extjson.specs.declared.json_fault.JsonFaultKind.{JsonFaultKind}

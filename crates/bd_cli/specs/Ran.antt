@@ -3,11 +3,11 @@ use Rattle.std.specs.Prelude.{◌≡◌, ◌≤◌, ◌<◌, ◌⊎◌, ◌+◌,
 use Rattle.std.specs.Io.{StartsWith}
 use Rattle.std.specs.Io.KnownBytes.{Appends, Consumes, IsAtEnd}
 use Rattle.bd_value.specs.Tree.{Doc}
+use Rattle.bd_device.specs.Counts.{after_more}
+use Rattle.bd_device.specs.Devices.{AppendsFront, LosesAtLeast}
+use Rattle.bd_device.specs.declared.reading.ReadFault.{ReadFault}
+use Rattle.bd_device.specs.declared.reading.ReadFault.TheVariants as reads
 use Rattle.bd_bson.specs.Dump.{AreJoined}
-use Rattle.bd_bson.specs.Counts.{after_more}
-use Rattle.bd_bson.specs.Devices.{AppendsFront, LosesAtLeast}
-use Rattle.bd_bson.specs.declared.reading.ReadFault.{ReadFault}
-use Rattle.bd_bson.specs.declared.reading.ReadFault.TheVariants as reads
 use Rattle.bd_cli.specs.Found.{IsFound}
 use Rattle.bd_cli.specs.Judged.{IsJudged}
 use Rattle.bd_cli.specs.Packed.{IsPacked}

@@ -1,7 +1,7 @@
 //! Laws of the texts.
 ghost use Rattle.std.specs.Prelude.{◌≡◌, ◌<◌, ◌⊎◌, ℕ, ℤ, List, Option, None, Result, Ok, slice_index};
 ghost use Rattle.bd_value.specs.Tree.{Doc};
-ghost use Rattle.bd_bson.specs.declared.reading.ReadFault.{ReadFault};
+ghost use Rattle.bd_device.specs.declared.reading.ReadFault.{ReadFault};
 ghost use Rattle.bd_cli.specs.Found.{IsFound};
 ghost use Rattle.bd_cli.specs.Judged.{IsJudged};
 ghost use Rattle.bd_cli.specs.Packed.{AreAlike, IsPacked, Packs, lines_of};

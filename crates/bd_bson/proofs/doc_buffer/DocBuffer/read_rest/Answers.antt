@@ -4,8 +4,7 @@ use Rattle.std.specs.Io.KnownBytes.{prepend_known}
 use Rattle.bd_bson.specs.Dump.{length_told}
 use Rattle.bd_bson.specs.Stream.{HasNoFrame}
 use Rattle.bd_bson.specs.declared.fault.FaultKind.TheVariants.{BadLength}
-use Rattle.bd_bson.proofs.Frames.{cut_behind, has_cut_length, is_frame, told_frame}
-use Rattle.bd_bson.proofs.Rooms.{whole_room}
+use Rattle.bd_bson.proofs.Frames.{cut_behind, has_cut_length, is_frame, told_frame, whole_room}
 use Rattle.bd_bson.proofs.doc_buffer.DocBuffer.read_rest.Goals as goal
 
 pub returns-in_err-filled-clause-cut : goal.returns-in_err-filled-clause-cut

@@ -1,8 +1,8 @@
 //! All bytes of a device.
 ghost use Rattle.std.specs.Prelude.{◌≡◌, ℕ, List, [], Some, None, IfOk, IfSome, IsErrOf, OnErr, OnOk, length, vec_len, ◌+◌, ◌<◌, ◌≤◌, codes};
 ghost use Rattle.std.specs.Io.KnownBytes.{IsAtEnd};
-ghost use Rattle.bd_bson.specs.Counts.{after_more, Rose};
-ghost use Rattle.bd_bson.specs.Devices.{Reads, LosesFront, LosesAtLeast};
+ghost use Rattle.bd_device.specs.Counts.{after_more, Rose};
+ghost use Rattle.bd_device.specs.Devices.{Reads, LosesFront, LosesAtLeast};
 
 use crate::input::Input;
 use std::alloc::Global;

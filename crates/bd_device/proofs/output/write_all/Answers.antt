@@ -1,8 +1,8 @@
 use Rattle.std.proofs.Common.{rules, arith, [], ◌++◌, ◌<◌, take, refl}
 use Rattle.std.proofs.KnownBytes.{Appends-nil, Appends-trans}
-use Rattle.bd_bson.specs.Devices.{no_write}
-use Rattle.bd_bson.proofs.Devices.{Writes-more, append-moves}
-use Rattle.bd_bson.proofs.output.write_all.Goals as goal
+use Rattle.bd_device.specs.Devices.{no_write}
+use Rattle.bd_device.proofs.Devices.{Writes-more, append-moves}
+use Rattle.bd_device.proofs.output.write_all.Goals as goal
 
 pub loop-init : goal.loop-init
 loop-init g c = record {

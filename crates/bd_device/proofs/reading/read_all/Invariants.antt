@@ -1,8 +1,8 @@
 use Rattle.std.proofs.Common.{◌≡◌, length, ◌≤◌}
 use Rattle.std.specs.Io.KnownBytes.{Consumes}
-use Rattle.bd_bson.specs.Counts.{after_more}
-use Rattle.bd_bson.specs.Devices.{Reads}
-use Rattle.bd_bson.proofs.reading.read_all.Given as goal
+use Rattle.bd_device.specs.Counts.{after_more}
+use Rattle.bd_device.specs.Devices.{Reads}
+use Rattle.bd_device.proofs.reading.read_all.Given as goal
 
 abbrev pub invariant-loop : goal.invariant-loop
 invariant-loop g l = record {

@@ -1,4 +1,5 @@
 //! Devices, and the calls that move all bytes of one: rows that were worked by hand.
+use crate::filling::{fill, fill_behind};
 use crate::input::{DeviceFault, Input, MemoryInput, SystemInput};
 use crate::output::{FailingWrite, MemoryOutput, Output, SystemOutput, write_all};
 use crate::reading::{Limits, ReadFault, read_all};
@@ -157,5 +158,22 @@ fn the_systems_readers_and_writers(rt: HostRuntime) -> Result<(), Fail> {
     assert_eq!(rt; write_all(&mut output, b"you"), Err(DeviceFault));
     drop(output);
     assert_eq!(rt; &room, b"helloyo");
+    Ok(())
+}
+
+#[test]
+fn a_room_is_filled(rt: HostRuntime) -> Result<(), Fail> {
+    let mut input = MemoryInput::new(b"hello, you", 2, None);
+    let mut room = [0; 5];
+    let filled = fill(&mut input, &mut room, AMPLE)?;
+    assert_eq!(rt; (filled.bytes, filled.turns), (5, 3));
+    assert_eq!(rt; &room, b"hello");
+    let filled = fill_behind(&mut input, &mut room, *b"well", 5, AMPLE)?;
+    assert_eq!(rt; (filled.bytes, filled.turns), (1, 1));
+    assert_eq!(rt; &room, b"well,");
+    // The device is at its end before the room is full.
+    let filled = fill(&mut input, &mut room, AMPLE)?;
+    assert_eq!(rt; (filled.bytes, filled.turns), (4, 3));
+    assert_eq!(rt; &room[..4], b" you".as_slice());
     Ok(())
 }

@@ -1,8 +1,8 @@
 use Rattle.std.proofs.Common.{rules, ◌≡◌, ◌-◌, length, take, length-take-le}
 use Rattle.std.proofs.KnownBytes.{Consumes-trans}
-use Rattle.bd_bson.proofs.Devices.{Consumes-more}
-use Rattle.bd_bson.proofs.Rooms.{grown}
-use Rattle.bd_bson.proofs.filling.fill.Goals as goal
+use Rattle.bd_device.proofs.Devices.{Consumes-more}
+use Rattle.bd_device.proofs.Rooms.{grown}
+use Rattle.bd_device.proofs.filling.fill.Goals as goal
 
 pub loop-bytes-preserved : goal.loop-bytes-preserved
 loop-bytes-preserved g c =

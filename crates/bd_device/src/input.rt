@@ -2,8 +2,8 @@
 ghost use Rattle.std.specs.Prelude.{◌≡◌, ℕ, List, Option, None, Some, IfOk, OnOk, OnErr, length, ◌++◌, ◌<◌, ◌≤◌, ◌≢◌, min, MatchOption, ⊤};
 ghost use Rattle.std.proofs.Common.{rules};
 ghost use Rattle.std.specs.Io.KnownBytes.{ReadConsumes};
-ghost use Rattle.bd_bson.specs.Counts.{after_more, greatest};
-ghost use Rattle.bd_bson.specs.Devices.{given};
+ghost use Rattle.bd_device.specs.Counts.{after_more, greatest};
+ghost use Rattle.bd_device.specs.Devices.{given};
 
 use crate::tally::Tally;
 use std::io::Read;

@@ -1,6 +1,6 @@
 use Rattle.std.proofs.Common.{rules, ◌≡◌, ◌-◌, ◌≤◌, length, take, length-take-le, arith}
-use Rattle.bd_bson.proofs.Rooms.{behind_head, both}
-use Rattle.bd_bson.proofs.filling.fill_behind.Goals as goal
+use Rattle.bd_device.proofs.Rooms.{behind_head, both}
+use Rattle.bd_device.proofs.filling.fill_behind.Goals as goal
 
 pub returns-clause-gives : goal.returns-clause-gives
 returns-clause-gives g c =

@@ -3,7 +3,7 @@ use Rattle.std.proofs.Common.{◌≡◌, ℕ, suc, ◌+◌, ◌-◌, ◌<◌, �
 use Rattle.std.proofs.lemmas.List.{take_rest}
 use Rattle.std.proofs.KnownBytes.{Consumes-trans}
 use Rattle.std.specs.Io.KnownBytes.{Consumes}
-use Rattle.bd_bson.specs.Devices.{Reads, no_read, more_reads, Writes, more_writes}
+use Rattle.bd_device.specs.Devices.{Reads, no_read, more_reads, Writes, more_writes}
 
 pub Reads-none : {S : Type 0} {gives : S → Option (List ℕ) → S → Type 0} (s : S) (bytes : List ℕ) → bytes ≡ [] → Reads gives 0 s bytes s
 Reads-none {S} {gives} s bytes e = let P : List ℕ → Type 0 = λ l. Reads gives 0 s l s in subst P (sym e) (no_read s)

@@ -1,8 +1,8 @@
 //! A room filled with bytes of a device.
 ghost use Rattle.std.specs.Prelude.{◌≡◌, ℕ, List, ◌++◌, take, length, IfOk, IfErr, IsErrOf, ◌+◌, ◌-◌, ◌<◌, ◌≤◌};
 ghost use Rattle.std.specs.Io.KnownBytes.{IsAtEnd, Consumes};
-ghost use Rattle.bd_bson.specs.Counts.{after_more};
-ghost use Rattle.bd_bson.specs.Stream.{Unfilled};
+ghost use Rattle.bd_device.specs.Counts.{after_more};
+ghost use Rattle.bd_device.specs.Filling.{Unfilled};
 
 use crate::input::Input;
 use crate::reading::{Limits, ReadFault};
@@ -55,7 +55,8 @@ pub fn fill<R: Input>(reader: &mut R, room: &mut [u8], limits: Limits) -> Result
     Ok(Filled { bytes, turns })
 }
 
-/// Puts four bytes at the front of a room, and fills it behind them up to `size`.
+/// Puts four bytes at the front of a room, and fills it behind them up to `size`, which is at least 4 and no more than the
+/// room's length.
 pub fn fill_behind<R: Input>(
     reader: &mut R,
     room: &mut [u8],

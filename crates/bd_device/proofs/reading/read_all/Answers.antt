@@ -1,7 +1,7 @@
 use Rattle.std.proofs.Common.{rules, arith, ◌≡◌, ◌++◌, ◌<◌, ◌≤◌, ◌-◌, ◌+◌, length, take, refl}
 use Rattle.std.proofs.KnownBytes.{Consumes-trans}
-use Rattle.bd_bson.proofs.Devices.{Reads-none, Reads-more, Consumes-more, length-within}
-use Rattle.bd_bson.proofs.reading.read_all.Goals as goal
+use Rattle.bd_device.proofs.Devices.{Reads-none, Reads-more, Consumes-more, length-within}
+use Rattle.bd_device.proofs.reading.read_all.Goals as goal
 
 pub loop-init : goal.loop-init
 loop-init g c = record {

@@ -2,9 +2,9 @@
 ghost use Rattle.std.specs.Prelude.{◌≡◌, ◌≢◌, ℕ, List, None, Some, Option, IfOk, OnOk, OnErr, length, take, ◌-◌, ◌<◌, ◌≤◌, min, MatchOption, ⊤, ◌⊎◌, []};
 ghost use Rattle.std.proofs.Common.{rules};
 ghost use Rattle.std.specs.Io.KnownBytes.{WriteAppends, Appends};
-ghost use Rattle.bd_bson.specs.Counts.{after_more, greatest, Rose};
-ghost use Rattle.bd_bson.specs.declared.output.FailingWrite.TheVariants.{Error, Zero};
-ghost use Rattle.bd_bson.specs.Devices.{taken, Writes, AppendsFront};
+ghost use Rattle.bd_device.specs.Counts.{after_more, greatest, Rose};
+ghost use Rattle.bd_device.specs.declared.output.FailingWrite.TheVariants.{Error, Zero};
+ghost use Rattle.bd_device.specs.Devices.{taken, Writes, AppendsFront};
 
 use crate::input::DeviceFault;
 use crate::tally::Tally;

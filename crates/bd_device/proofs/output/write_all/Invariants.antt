@@ -1,7 +1,7 @@
 use Rattle.std.proofs.Common.{◌≡◌, ℕ, List, ◌++◌, ◌+◌, length, ◌≤◌}
 use Rattle.std.specs.Io.KnownBytes.{Appends}
-use Rattle.bd_bson.specs.Devices.{Writes}
-use Rattle.bd_bson.proofs.output.write_all.Given as goal
+use Rattle.bd_device.specs.Devices.{Writes}
+use Rattle.bd_device.proofs.output.write_all.Given as goal
 
 abbrev pub invariant-loop : goal.invariant-loop
 invariant-loop g l = record {

@@ -26,7 +26,3 @@ behind_head k n head rest ys size fits =
 pub both : {X E : Type 0} (r : Result X E) (P Q R : X → Type 0) → IfOk r P → IfOk r Q → ((x : X) → P x → Q x → R x) → IfOk r R
 both (Ok x) P Q R p q f = f x p q
 both (Err e) P Q R p q f = _
-
--- a room behind which nothing is left
-pub whole_room : (n len : ℕ) (room rest all : List ℕ) → take n room ≡ all → length room ≡ len → take n (take len (room ++ rest)) ≡ all
-whole_room n len room rest all front size = ap (take n) (take_at room rest len size) ∙ front

@@ -1,6 +1,6 @@
 //! The two counts that each device keeps.
 ghost use Rattle.std.specs.Prelude.{◌≡◌};
-ghost use Rattle.bd_bson.specs.Counts.{after_more};
+ghost use Rattle.bd_device.specs.Counts.{after_more};
 
 /// How many calls a device took and how many of them failed. Both stay at the greatest number of 64 bits.
 #[derive(Drop)]

@@ -1,0 +1,3 @@
+pub mod Counts
+pub mod Devices
+pub mod Filling
