@@ -1,8 +1,7 @@
 //! The documents of a text of lines, as bytes.
-ghost use Rattle.std.specs.Prelude.{◌≡◌, ◌++◌, ◌∷◌, ◌≤◌, IfOk, IfErr, IfSome, None, Ok, IsTrue, length, List};
-ghost use Rattle.std.specs.List.{list_all};
+ghost use Rattle.std.specs.Prelude.{◌≡◌, ◌++◌, ◌∷◌, ◌≤◌, IfOk, IfErr, IfSome, None, Ok, length};
 ghost use Rattle.bd_value.specs.Tree.{Doc};
-ghost use Rattle.bd_cli.specs.Packed.{is_white, is_blank, plain, packed_bytes, lines_of, IsPackable, IsBad, Packs};
+ghost use Rattle.bd_cli.specs.Packed.{is_white, is_blank, plain, lines_of, IsPackable, IsBad};
 ghost use Rattle.bd_cli.specs.Packing.{IsPacking, StopsPacking, bytes_behind, left_size, lines_left};
 
 use crate::lines::{Stopped, flush, flush_gathered};
