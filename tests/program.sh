@@ -405,5 +405,27 @@ echo $? >status
 : >out
 expect 'a request for help, and a full standard output' 1 '' 'bsonfind: cannot write'
 
+# What make puts in place, of the program that is there.
+
+# With a word: install or uninstall.
+installed() {
+	MAKEFLAGS='' make -s -C "$(dirname "$program")" "$1" DESTDIR="$room/root" PREFIX=/usr >/dev/null 2>err
+	echo $? >status
+	(cd root && find . -type f | sort) >out
+}
+
+installed install
+expect 'make install' 0 './usr/bin/bsonfind
+./usr/share/bash-completion/completions/bsonfind
+./usr/share/doc/bsonfind/GUIDE.md
+./usr/share/doc/bsonfind/LICENSE
+./usr/share/doc/bsonfind/README.md
+./usr/share/fish/vendor_completions.d/bsonfind.fish
+./usr/share/man/man1/bsonfind.1
+./usr/share/zsh/site-functions/_bsonfind' ''
+
+installed uninstall
+expect 'make uninstall' 0 '' ''
+
 echo "$passed passed, $failed failed"
 [ "$failed" -eq 0 ]
