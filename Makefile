@@ -1,11 +1,14 @@
 # make            builds the program, ./bsonfind
 # make test       passes all tests
+# make bench      times the commands over a dump of MB megabytes, 20 without it
 # make install    puts the program, its man page, completions, licence and documents below PREFIX
 # make uninstall  takes them away
 # make clean      removes the program, and the proofs and builds that rt keeps
 #
-# Nothing but rt is wanted on PATH.
+# Nothing but rt is wanted on PATH, and python3 by bench.
 
+PYTHON = python3
+MB = 20
 PREFIX = /usr/local
 BIN = $(DESTDIR)$(PREFIX)/bin
 SHARE = $(DESTDIR)$(PREFIX)/share
@@ -15,7 +18,7 @@ BASH = $(SHARE)/bash-completion/completions
 ZSH = $(SHARE)/zsh/site-functions
 FISH = $(SHARE)/fish/vendor_completions.d
 
-.PHONY: all build test install uninstall clean
+.PHONY: all build test bench install uninstall clean
 
 all: build
 
@@ -31,6 +34,9 @@ bsonfind:
 
 test:
 	@tests/all.sh
+
+bench: bsonfind
+	$(PYTHON) bench/bench.py $(MB)
 
 install: bsonfind
 	install -d "$(BIN)" "$(DOC)" "$(MAN)" "$(BASH)" "$(ZSH)" "$(FISH)"
