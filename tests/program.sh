@@ -123,6 +123,7 @@ nested 200 >nested.bson
 expect '200 levels in 1 MiB of stack' 0 "$(copies 199 '{"a":'){}$(copies 199 '}')" '1 objects found'
 
 run find "$people.bson" --query '{"age":30}'
+# shellcheck disable=SC2016 # and in the lines that are looked for
 grep '^[^}]*},"name":"[^"]*","age":{"$numberInt":"30"}' "$people.jsonl" >thirty
 expect 'the people of 30' 0 @thirty "$(grep -c '' thirty) documents, end"
 
@@ -178,6 +179,7 @@ expect 'a line of a document of 16,793,600 bytes' 0 @longest.bson '1 objects pac
 run dump longest.bson
 expect 'and dumped again' 0 @longest.jsonl '1 objects found'
 
+# shellcheck disable=SC2016 # names again
 { printf '{"a":' && copies 199 '[' && printf '{"$dbPointer":{"$ref":"","$id":{"$oid":"000000000000000000000000"}}}' && copies 199 ']' && printf '}'; } >deepest.json
 run pack deepest.json
 mv out deepest.bson
