@@ -1,15 +1,24 @@
-# make          builds the program, ./bsonfind
-# make test     passes all tests
-# make install  puts the program, its licence and its documents below PREFIX
-# make clean    removes the program, and the proofs and builds that rt keeps
+# make            builds the program, ./bsonfind
+# make test       passes all tests
+# make bench      times the commands over a dump of MB megabytes, 20 without it
+# make install    puts the program, its man page, completions, licence and documents below PREFIX
+# make uninstall  takes them away
+# make clean      removes the program, and the proofs and builds that rt keeps
 #
-# Nothing but rt is wanted on PATH.
+# Nothing but rt is wanted on PATH, and python3 by bench.
 
+PYTHON = python3
+MB = 20
 PREFIX = /usr/local
 BIN = $(DESTDIR)$(PREFIX)/bin
-DOC = $(DESTDIR)$(PREFIX)/share/doc/bsonfind
+SHARE = $(DESTDIR)$(PREFIX)/share
+DOC = $(SHARE)/doc/bsonfind
+MAN = $(SHARE)/man/man1
+BASH = $(SHARE)/bash-completion/completions
+ZSH = $(SHARE)/zsh/site-functions
+FISH = $(SHARE)/fish/vendor_completions.d
 
-.PHONY: all build test install clean
+.PHONY: all build test bench install uninstall clean
 
 all: build
 
@@ -26,10 +35,23 @@ bsonfind:
 test:
 	@tests/all.sh
 
+bench: bsonfind
+	$(PYTHON) bench/bench.py $(MB)
+
 install: bsonfind
-	install -d "$(BIN)" "$(DOC)"
+	install -d "$(BIN)" "$(DOC)" "$(MAN)" "$(BASH)" "$(ZSH)" "$(FISH)"
 	install -m 755 bsonfind "$(BIN)/bsonfind"
-	install -m 644 LICENSE README.md "$(DOC)"
+	install -m 644 LICENSE README.md docs/GUIDE.md "$(DOC)"
+	install -m 644 docs/bsonfind.1 "$(MAN)/bsonfind.1"
+	install -m 644 completions/bsonfind.bash "$(BASH)/bsonfind"
+	install -m 644 completions/_bsonfind "$(ZSH)/_bsonfind"
+	install -m 644 completions/bsonfind.fish "$(FISH)/bsonfind.fish"
+
+uninstall:
+	rm -f "$(BIN)/bsonfind" "$(MAN)/bsonfind.1"
+	rm -f "$(BASH)/bsonfind" "$(ZSH)/_bsonfind" "$(FISH)/bsonfind.fish"
+	rm -f "$(DOC)/LICENSE" "$(DOC)/README.md" "$(DOC)/GUIDE.md"
+	rmdir "$(DOC)" 2>/dev/null || true
 
 clean:
 	rm -f bsonfind

@@ -123,6 +123,7 @@ nested 200 >nested.bson
 expect '200 levels in 1 MiB of stack' 0 "$(copies 199 '{"a":'){}$(copies 199 '}')" '1 objects found'
 
 run find "$people.bson" --query '{"age":30}'
+# shellcheck disable=SC2016 # and in the lines that are looked for
 grep '^[^}]*},"name":"[^"]*","age":{"$numberInt":"30"}' "$people.jsonl" >thirty
 expect 'the people of 30' 0 @thirty "$(grep -c '' thirty) documents, end"
 
@@ -178,6 +179,7 @@ expect 'a line of a document of 16,793,600 bytes' 0 @longest.bson '1 objects pac
 run dump longest.bson
 expect 'and dumped again' 0 @longest.jsonl '1 objects found'
 
+# shellcheck disable=SC2016 # names again
 { printf '{"a":' && copies 199 '[' && printf '{"$dbPointer":{"$ref":"","$id":{"$oid":"000000000000000000000000"}}}' && copies 199 ']' && printf '}'; } >deepest.json
 run pack deepest.json
 mv out deepest.bson
@@ -404,6 +406,28 @@ expect 'a request for help' 0 "$usage" ''
 echo $? >status
 : >out
 expect 'a request for help, and a full standard output' 1 '' 'bsonfind: cannot write'
+
+# What make puts in place, of the program that is there.
+
+# With a word: install or uninstall.
+installed() {
+	MAKEFLAGS='' make -s -C "$(dirname "$program")" "$1" DESTDIR="$room/root" PREFIX=/usr >/dev/null 2>err
+	echo $? >status
+	(cd root && find . -type f | sort) >out
+}
+
+installed install
+expect 'make install' 0 './usr/bin/bsonfind
+./usr/share/bash-completion/completions/bsonfind
+./usr/share/doc/bsonfind/GUIDE.md
+./usr/share/doc/bsonfind/LICENSE
+./usr/share/doc/bsonfind/README.md
+./usr/share/fish/vendor_completions.d/bsonfind.fish
+./usr/share/man/man1/bsonfind.1
+./usr/share/zsh/site-functions/_bsonfind' ''
+
+installed uninstall
+expect 'make uninstall' 0 '' ''
 
 echo "$passed passed, $failed failed"
 [ "$failed" -eq 0 ]

@@ -1,0 +1,155 @@
+#!/usr/bin/env python3
+"""Makes a dump of documents of several kinds and sizes, and the same documents as lines of canonical Extended JSON.
+
+usage: bench/make_dump.py NAME MEGABYTES [SEED]     writes NAME.bson of so many megabytes, and NAME.jsonl
+"""
+
+import base64
+import json
+import random
+import struct
+import sys
+from collections.abc import Callable
+from typing import Any
+
+WORDS = "red green blue alpha omega Łódź 東京 São Paulo queue river “quoted” back\\slash tab\t line\n naïve stone".split(" ")
+
+
+class Long(int):
+    """A whole number of 64 bits; an `int` has 32."""
+
+
+class Id(bytes):
+    """An ObjectId; `bytes` are binary data of subtype 00."""
+
+
+class Date(int):
+    """Milliseconds."""
+
+
+def encoded(value: Any) -> tuple[int, bytes]:
+    """The type byte and the bytes of a value."""
+    match value:
+        case dict():
+            return 0x03, document(value)
+        case list():
+            return 0x04, document({str(place): part for place, part in enumerate(value)})
+        case str():
+            text = value.encode() + b"\0"
+            return 0x02, struct.pack("<i", len(text)) + text
+        case Id():
+            return 0x07, bytes(value)
+        case bytes():
+            return 0x05, struct.pack("<iB", len(value), 0) + value
+        case None:
+            return 0x0A, b""
+        case bool():
+            return 0x08, bytes([value])
+        case Date():
+            return 0x09, struct.pack("<q", value)
+        case Long():
+            return 0x12, struct.pack("<q", value)
+        case _:
+            return 0x10, struct.pack("<i", value)
+
+
+def document(pairs: dict[str, Any]) -> bytes:
+    parts = []
+    for name, value in pairs.items():
+        kind, part = encoded(value)
+        parts += [bytes([kind]), name.encode(), b"\0", part]
+    inside = b"".join(parts)
+    return struct.pack("<i", len(inside) + 5) + inside + b"\0"
+
+
+def wrapped(value: Any) -> Any:
+    """A value as the JSON that stands for it."""
+    match value:
+        case dict():
+            return {name: wrapped(part) for name, part in value.items()}
+        case list():
+            return [wrapped(part) for part in value]
+        case Id():
+            return {"$oid": value.hex()}
+        case bytes():
+            return {"$binary": {"base64": base64.b64encode(value).decode(), "subType": "00"}}
+        case Date():
+            return {"$date": {"$numberLong": str(int(value))}}
+        case Long():
+            return {"$numberLong": str(int(value))}
+        case None | bool() | str():
+            return value
+        case _:
+            return {"$numberInt": str(value)}
+
+
+def words(rng: random.Random, least: int, most: int) -> str:
+    return " ".join(rng.choices(WORDS, k=rng.randint(least, most)))
+
+
+def counter(rng: random.Random, number: int) -> dict[str, Any]:
+    return {"_id": number, "age": rng.randrange(100)}
+
+
+def person(rng: random.Random, number: int) -> dict[str, Any]:
+    return {
+        "_id": number,
+        "name": words(rng, 1, 3),
+        "age": rng.randrange(100),
+        "address": {"city": words(rng, 1, 1), "lines": [words(rng, 2, 5) for _ in range(rng.randrange(3))]},
+        "scores": [rng.randrange(-(1 << 31), 1 << 31) for _ in range(rng.randrange(20))],
+    }
+
+
+def order(rng: random.Random, number: int) -> dict[str, Any]:
+    def item() -> dict[str, Any]:
+        return {"sku": f"SKU-{rng.randrange(10000):04}", "cents": Long(rng.randrange(1 << 40)), "gift": rng.random() < 0.1}
+
+    return {
+        "_id": Id(rng.randbytes(12)),
+        "placed": Date(rng.randrange(1 << 41)),
+        "customer": {"name": words(rng, 1, 3), "referrer": None},
+        "items": [item() for _ in range(rng.randrange(12))],
+        "uuid": rng.randbytes(16),
+    }
+
+
+def article(rng: random.Random, number: int) -> dict[str, Any]:
+    return {"_id": number, "text": words(rng, 100, 2000), "image": rng.randbytes(rng.randrange(4000))}
+
+
+def thread(rng: random.Random, number: int) -> dict[str, Any]:
+    inside: dict[str, Any] = {"age": rng.randrange(100)}
+    for level in range(rng.randrange(40)):
+        inside = {"level": level, "reply": [inside]}
+    return {"_id": number, **inside}
+
+
+KINDS: list[Callable[[random.Random, int], dict[str, Any]]] = [counter, person, order, article, thread]
+# Of a hundred documents.
+SHARES = [30, 35, 25, 2, 8]
+
+
+def make(name: str, size: int, seed: int) -> None:
+    """Writes documents up to a size in bytes."""
+    rng = random.Random(seed)
+    written = number = 0
+    with open(f"{name}.bson", "wb") as dump, open(f"{name}.jsonl", "w", encoding="utf-8", newline="\n") as lines:
+        while written < size:
+            (kind,) = rng.choices(KINDS, SHARES)
+            pairs = kind(rng, number)
+            written += dump.write(document(pairs))
+            lines.write(json.dumps(wrapped(pairs), ensure_ascii=False, separators=(",", ":")) + "\n")
+            number += 1
+
+
+def main() -> int:
+    if len(sys.argv) not in (3, 4):
+        print(__doc__, file=sys.stderr)
+        return 2
+    make(sys.argv[1], int(sys.argv[2]) * 1_000_000, int(sys.argv[3]) if len(sys.argv) == 4 else 1)
+    return 0
+
+
+if __name__ == "__main__":
+    sys.exit(main())

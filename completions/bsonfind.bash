@@ -1,0 +1,46 @@
+# Completion of bsonfind in bash.
+
+# The names of files that begin with the word, of all or of those that end so.
+_bsonfind_files() {
+	local ending=$1 word=$2 name
+	compopt -o filenames 2>/dev/null
+	while IFS= read -r name; do
+		if [[ -d $name || $name == *"$ending" ]]; then
+			COMPREPLY+=("$name")
+		fi
+	done < <(compgen -f -- "$word")
+	if [[ -z $word || $word == - ]]; then
+		COMPREPLY+=(-)
+	fi
+}
+
+_bsonfind() {
+	local word=${COMP_WORDS[COMP_CWORD]} command=${COMP_WORDS[1]} before=${COMP_WORDS[COMP_CWORD - 1]}
+	COMPREPLY=()
+	if ((COMP_CWORD == 1)); then
+		mapfile -t COMPREPLY < <(compgen -W 'dump check pack find --help' -- "$word")
+		return
+	fi
+	if [[ $command != find && $before != -- ]] && ((COMP_CWORD > 2)); then
+		return
+	fi
+	case $command in
+	dump | check) _bsonfind_files .bson "$word" ;;
+	pack) _bsonfind_files '' "$word" ;;
+	find)
+		case $before in
+		--query | --batch) ;; # a text, a number
+		*)
+			if [[ $word == -* && $word != - ]]; then
+				mapfile -t COMPREPLY < <(compgen -W '--query --batch' -- "$word")
+			else
+				_bsonfind_files .bson "$word"
+				[[ -n $word && $word != - ]] || COMPREPLY+=(--query --batch)
+			fi
+			;;
+		esac
+		;;
+	esac
+}
+
+complete -F _bsonfind bsonfind

@@ -1,0 +1,19 @@
+# Completion of bsonfind in fish.
+
+# The command of the line; fails where there is none yet.
+function __bsonfind_command
+    set -l words (commandline -opc)
+    test (count $words) -gt 1; and contains -- $words[2] $argv
+end
+
+complete -c bsonfind -f
+complete -c bsonfind -n 'not __bsonfind_command dump check pack find' -a dump -d 'print each document as a line'
+complete -c bsonfind -n 'not __bsonfind_command dump check pack find' -a check -d 'tell the first fault of each document'
+complete -c bsonfind -n 'not __bsonfind_command dump check pack find' -a pack -d 'turn lines of Extended JSON into a dump'
+complete -c bsonfind -n 'not __bsonfind_command dump check pack find' -a find -d 'print the documents that answer a query'
+complete -c bsonfind -n 'not __bsonfind_command dump check pack find' -s h -l help -d 'print the usage'
+complete -c bsonfind -n '__bsonfind_command dump check pack find' -a - -d 'standard input'
+complete -c bsonfind -n '__bsonfind_command dump check find' -k -a '(__fish_complete_suffix .bson)'
+complete -c bsonfind -n '__bsonfind_command pack' -F
+complete -c bsonfind -n '__bsonfind_command find' -l query -x -d 'the query, as {"age":30}'
+complete -c bsonfind -n '__bsonfind_command find' -l batch -x -d 'the first N documents'
