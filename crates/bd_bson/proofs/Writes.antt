@@ -1,5 +1,5 @@
 -- Values written as bytes.
-use Rattle.std.proofs.Common.{◌≡◌, ◌≢◌, ◌<◌, ◌≤◌, ◌+◌, ◌-◌, ℕ, zero, suc, List, [], ◌∷◌, ◌++◌, length, take, drop, take_at, drop_at, Bool, true, false, ◌||◌, Result, Ok, Err, Some, refl, sym, ap, ap₂, ◌∙◌, cond, arith, true≢false, append_assoc, append-nil, length-append}
+use Rattle.std.proofs.Common.{◌≡◌, ◌≢◌, ◌<◌, ◌≤◌, ◌+◌, ◌-◌, ℕ, zero, suc, List, [], ◌∷◌, ◌++◌, length, take, drop, take_at, drop_at, Bool, true, false, ◌||◌, Result, Ok, Err, Some, refl, sym, ap, ap₂, ◌∙◌, arith, true≢false, append_assoc, append-nil, length-append}
 use Rattle.std.specs.Prelude.{◌==◌, ◌^◌, IsUtf8, OnOk, IfErr, decimal}
 use Rattle.std.proofs.lemmas.Bool.Decides.{nat_tests}
 use Rattle.std.specs.Char.{digit_value}
@@ -10,8 +10,8 @@ use Rattle.bd_value.specs.Tree.{Tree, leaf, doc, array, code_scope, Fields, Doc,
 use Rattle.bd_value.specs.Parts.{scope_of, values_of}
 use Rattle.bd_value.specs.Seen.{Own, own_of, own_code}
 use Rattle.bd_bson.specs.Scalars.{number_length}
-use Rattle.bd_bson.specs.Spelling.{number, string, framed, scoped, IsName, IsText, IsValue}
-use Rattle.bd_bson.specs.Written.{has_zero, zero_in, zero_in_fields, zero_in_items, zero_in_parts, bytes_of, Overruns}
+use Rattle.bd_bson.specs.Spelling.{number, string, framed, scoped, IsName}
+use Rattle.bd_bson.specs.Written.{has_zero, zero_in, zero_in_fields, zero_in_items, zero_in_parts, Overruns}
 use Rattle.bd_bson.specs.declared.writing.WriteFault.{WriteFault}
 use Rattle.bd_bson.specs.declared.writing.WriteFault.TheVariants as faults
 
@@ -34,10 +34,6 @@ are_names a b p q is = let n = neither (has_zero a) (has_zero b) is in (is_name 
 pub ok_on : {A B : Type 0} (r : Result A B) (P Q : Type 0) → OnOk r P → (P → Q) → OnOk r Q
 ok_on (Ok x) P Q p q = q p
 ok_on (Err e) P Q p q = _
-
-pub ok_both : {A B : Type 0} (r : Result A B) (P Q R : Type 0) → OnOk r P → OnOk r Q → (P → Q → R) → OnOk r R
-ok_both (Ok x) P Q R p q f = f p q
-ok_both (Err e) P Q R p q f = _
 
 pub overruns_more : (n m : ℕ) (f : WriteFault) → n ≤ m → Overruns n f → Overruns m f
 overruns_more n m faults.TooDeep le o = absurd o
@@ -87,9 +83,6 @@ element_within old body out piece rest whole =
     omega (arith, ap (λ xs. length xs) whole, length-append out (piece ++ rest), length-append piece rest, length-append (old ++ number 0) body, length-append old (number 0), number_length 0, framed_size body)
 
 -- ---- code with scope
-
-pub code_spells : (s : List ℕ) (fs : Fields) → IsText s → IsValue (doc fs) (bytes_of (doc fs)) → IsValue (code_scope s fs) (bytes_of (code_scope s fs))
-code_spells s fs text (body, are, is) = (body, are, ap (scoped s) is, text)
 
 pub code_parts : (t u : Tree) (o : Own) → own_of t ≡ Some o → scope_of t ≡ Some u → (s : List ℕ) × (fs : Fields) × (t ≡ code_scope s fs) × (o ≡ own_code s) × (u ≡ doc fs)
 code_parts (leaf s) u o own scope = absurd cc

@@ -1,5 +1,5 @@
 -- Reading and wrapping, a step at a time.
-use Rattle.std.proofs.Common.{◌≡◌, ℕ, zero, suc, ◌-◌, ◌<◌, ◌≤◌, Bool, true, false, List, [], ◌∷◌, ◌++◌, length, Option, Some, None, option_map, option_and_then, refl, ap, ◌∙◌, arith}
+use Rattle.std.proofs.Common.{◌≡◌, ℕ, zero, suc, ◌-◌, ◌<◌, ◌≤◌, Bool, false, List, [], ◌∷◌, ◌++◌, length, Option, Some, None, option_map, option_and_then, refl, ap, ◌∙◌, arith}
 use Rattle.json.specs.Token.{Token}
 use Rattle.json.specs.Json as json
 use Rattle.json.specs.Json.{Json, Parse, parse_map, after_end_array, read_key, items_step, members_step, items, members, value}
@@ -109,10 +109,6 @@ pub one_more_item : (ts : List Tree) (t : Tree) (r : Option (Items × List Token
 one_more_item ts t None = refl
 one_more_item ts t (Some p) = ap (λ x. Some (x, p.1)) (items_push ts t p.0)
 
-pub nothing_before : {A : Type 0} (r : Option (A × List Token)) → r ≡ parse_map (λ a. a) r
-nothing_before None = refl
-nothing_before (Some p) = refl
-
 -- ---- objects
 
 abbrev pub with_field : List ℕ → Tree → Option (Fields × List Token) → Option (Fields × List Token)
@@ -159,10 +155,6 @@ next_name depth (suc n) ts r key le e =
 pub with_field_is : (k : List ℕ) (t : Tree) (r : Option (Fields × List Token)) → has_zero k ≡ false → with_field k t r ≡ parse_map (field k t) r
 with_field_is k t None e = refl
 with_field_is k t (Some q) e = rw e refl
-
-pub with_field_refused : (k : List ℕ) (t : Tree) (r : Option (Fields × List Token)) → has_zero k ≡ true → with_field k t r ≡ None
-with_field_refused k t None e = refl
-with_field_refused k t (Some q) e = rw e refl
 
 abbrev pub fields_before : Doc → Fields → Fields
 fields_before [] rest = rest
@@ -232,19 +224,10 @@ pub items_go_on : (room depth n : ℕ) (ts r : List Token) (t : Tree) → 0 < n 
 items_go_on room depth n ts r t h e f =
     items_step_is room depth n ts h e ∙ ap (λ o. then o (λ t r. parse_map (item t) (through (wrap_items room) (items (value depth) (n - 1) r)))) f
 
-pub field_refused : (k : List ℕ) (room depth n : ℕ) (ts : List Token) → through (wrap room) (value depth ts) ≡ None → through (wrap_fields room) (after_key depth n (Some k) ts) ≡ None
-field_refused k room depth n ts f =
-    field_step k room depth n ts ∙ ap (λ o. then o (λ t r. with_field k t (through (wrap_fields room) (members (value depth) n r)))) f
-
 pub field_goes_on : (k : List ℕ) (room depth n : ℕ) (ts r : List Token) (t : Tree) → has_zero k ≡ false → through (wrap room) (value depth ts) ≡ Some (t, r)
     → through (wrap_fields room) (after_key depth n (Some k) ts) ≡ parse_map (field k t) (through (wrap_fields room) (members (value depth) n r))
 field_goes_on k room depth n ts r t z f =
     field_step k room depth n ts ∙ ap (λ o. then o (λ t r. with_field k t (through (wrap_fields room) (members (value depth) n r)))) f ∙ with_field_is k t _ z
-
-pub field_has_zero : (k : List ℕ) (room depth n : ℕ) (ts r : List Token) (t : Tree) → has_zero k ≡ true → through (wrap room) (value depth ts) ≡ Some (t, r)
-    → through (wrap_fields room) (after_key depth n (Some k) ts) ≡ None
-field_has_zero k room depth n ts r t z f =
-    field_step k room depth n ts ∙ ap (λ o. then o (λ t r. with_field k t (through (wrap_fields room) (members (value depth) n r)))) f ∙ with_field_refused k t _ z
 
 -- ---- an object behind its first name
 

@@ -1,4 +1,4 @@
-use Rattle.std.proofs.Common.{◌≡◌, ◌+◌, ◌*◌, ◌≤◌, ◌++◌, ◌∷◌, [], length, false}
+use Rattle.std.proofs.Common.{◌≡◌, ◌+◌, ◌*◌, ◌≤◌, ◌++◌, length, false}
 use Rattle.bd_value.specs.Tree.{fields_of, items_of, tree_size, fields_size}
 use Rattle.bd_value.specs.Parts.{values_of}
 use Rattle.bd_bson.specs.Spelling.{number, AreFields, AreItems}

@@ -1,5 +1,4 @@
 use Rattle.std.proofs.Common.{arith, sym, ap, ◌∙◌}
-use Rattle.bd_value.specs.Parts.{values_of}
 use Rattle.bd_value.proofs.Parted as parted
 use Rattle.bd_bson.specs.Written.{zero_in}
 use Rattle.bd_bson.proofs.Writes as writes
