@@ -34,11 +34,25 @@ for d in bson.decode_file_iter(file):
 }
 
 
-def programs(dump: str, lines: str) -> dict[str, dict[str, list[str]]]:
+def built_libbson(room: str) -> str | None:
+    """The program over libbson, where that and a compiler are installed."""
+    if not shutil.which("cc") or not shutil.which("pkg-config"):
+        return None
+    flags = subprocess.run(["pkg-config", "--cflags", "--libs", "libbson-1.0"], capture_output=True, text=True)
+    if flags.returncode:
+        return None
+    source = Path(__file__).resolve().parent / "libbson.c"
+    subprocess.run(["cc", "-O2", "-o", f"{room}/libbson", str(source), *flags.stdout.split()], check=True)
+    return f"{room}/libbson"
+
+
+def programs(dump: str, lines: str, libbson: str | None) -> dict[str, dict[str, list[str]]]:
     """The words that run each command by each program; a program may have not all."""
     inputs = {"dump": dump, "check": dump, "pack": lines, "find": dump}
     all_of = {"bsonfind": {command: [str(PROGRAM), command, file] for command, file in inputs.items()}}
     all_of["bsonfind"]["find"] += ["--query", '{"age":30}']
+    if libbson:
+        all_of["libbson"] = {command: [libbson, command, inputs[command]] for command in ("dump", "check", "pack")}
     if shutil.which("bsondump"):
         all_of["bsondump"] = {"dump": ["bsondump", "--quiet", dump]}
     if importlib.util.find_spec("bson"):
@@ -71,7 +85,7 @@ def main() -> int:
         dump, lines = f"{room}/dump.bson", f"{room}/dump.jsonl"
         make(f"{room}/dump", megabytes * 1_000_000, seed)
         sizes = {command: Path(lines if command == "pack" else dump).stat().st_size for command in PYTHON}
-        all_of = programs(dump, lines)
+        all_of = programs(dump, lines, built_libbson(room))
         if not is_right(all_of["bsonfind"]["dump"], lines) or not is_right(all_of["bsonfind"]["pack"], dump):
             print("bsonfind does not print what was made")
             return 1

@@ -66,6 +66,15 @@ copies() {
 	done
 }
 
+# Waits until a file has so many lines, ten seconds at most.
+await_lines() {
+	tries=100
+	while [ "$(grep -c '' "$1")" -lt "$2" ] && [ "$tries" -gt 0 ]; do
+		sleep 0.1
+		tries=$((tries - 1))
+	done
+}
+
 # Puts bytes, in the form of printf, over those at a place of damaged.bson.
 damage() {
 	# shellcheck disable=SC2059 # the bytes are the form
@@ -99,16 +108,40 @@ mkfifo pipe
 "$program" dump pipe >live 2>err &
 exec 3>pipe
 cat int32.bson >&3
-tries=100
-while [ ! -s live ] && [ "$tries" -gt 0 ]; do
-	sleep 0.1
-	tries=$((tries - 1))
-done
+await_lines live 1
 cp live out
 exec 3>&-
 wait $!
 echo $? >status
 expect 'a line before the program waits for more' 0 "$int32" '1 objects found'
+
+# The pipe stays open, and holds the front of a third document, until the two lines are copied.
+"$program" dump - >live 2>err <pipe &
+exec 3>pipe
+cat int32.bson >&3
+await_lines live 1
+cp live out
+{ cat int32.bson && printf '\014\000\000\000\020'; } >&3
+await_lines live 2
+cat live >>out
+exec 3>&-
+wait $!
+echo $? >status
+expect 'a line for each document that came' 1 "$int32
+$int32
+$int32" 'bsonfind: document 2, byte 24, path "": bad length
+2 objects found'
+
+printf '\014\000\000\000\002s\000\000\000\000\000\000' >bad.bson
+"$program" check - >live 2>err <pipe &
+exec 3>pipe
+cat bad.bson >&3
+await_lines live 1
+cp live out
+exec 3>&-
+wait $!
+echo $? >status
+expect 'a line of a check before the program waits for more' 1 'document 0, byte 7, path "s": bad string length' '1 documents, 1 faulty'
 
 run dump - </dev/null
 expect 'an empty input' 0 '' '0 objects found'
@@ -193,12 +226,16 @@ cp "$people.jsonl" ./-y
 run pack -- -y
 expect 'a file of lines whose name looks like a flag' 0 "@$people.bson" '500 objects packed'
 
+# The long one does not fit beside what waits, nor what waits beside it.
+{ echo "$int32" && printf '{"a":"' && copies 20000 '\u0001' && printf '"}\n' && echo "$int32"; } >three.jsonl
+"$program" pack three.jsonl 2>/dev/null | run dump -
+expect 'a line of 120,008 bytes between short ones' 0 @three.jsonl '3 objects found'
+
 # Documents with faults.
 
 { printf '\020\000\000\000\001d\000\000\000\000\000\000\000\360\077\000' && cat int32.bson; } | run check -
 expect 'a check goes on behind a double' 1 'document 0, byte 4, path "d": double' '2 documents, 1 faulty'
 
-printf '\014\000\000\000\002s\000\000\000\000\000\000' >bad.bson
 cat int32.bson bad.bson int32.bson bad.bson | run check -
 expect 'a check tells each document with a fault' 1 'document 1, byte 19, path "s": bad string length
 document 3, byte 43, path "s": bad string length' '4 documents, 2 faulty'
@@ -279,6 +316,35 @@ expect 'a query of another form' 1 '' 'bsonfind: query: byte 0: not in the profi
 
 run find missing.bson --query '{"a":1.5}'
 expect 'a file that is not there, before its query' 1 '' 'bsonfind: cannot open missing.bson'
+
+# Both streams into one file: the lines stand before what is told of them.
+
+cat int32.bson bad.bson >one_bad.bson
+"$program" dump one_bad.bson >out 2>&1
+echo $? >status
+: >err
+expect 'a dump into one file' 1 "$int32
+bsonfind: document 1, byte 19, path \"s\": bad string length
+1 objects found" ''
+
+"$program" check bad.bson >out 2>&1
+echo $? >status
+: >err
+expect 'a check into one file' 1 'document 0, byte 7, path "s": bad string length
+1 documents, 1 faulty' ''
+
+"$program" find int32.bson --query '{"a":1}' >out 2>&1
+echo $? >status
+: >err
+expect 'find into one file' 0 "$int32
+1 documents, end" ''
+
+printf '{"a":1}\n{"a":1.5}\n' >one_bad.jsonl
+"$program" pack one_bad.jsonl >out 2>&1
+echo $? >status
+: >err
+{ cat int32.bson && printf 'bsonfind: line 2, byte 5: not in the profile\n1 objects packed\n'; } >packed_and_told
+expect 'lines packed into one file' 1 @packed_and_told ''
 
 # 262 MB in 48 MiB of memory, through a pipe.
 
@@ -369,6 +435,75 @@ expect 'a closed pipe as standard output' 1 '' 'bsonfind: cannot write'
 echo $? >status
 : >err
 expect 'a full standard error' 1 "@$people.jsonl" ''
+
+# A few lines wait in the program's memory, so that a standard output that is full shows only when they are handed on.
+
+"$program" dump int32.bson >/dev/full 2>err
+echo $? >status
+: >out
+expect 'a full standard output, and one line' 1 '' 'bsonfind: cannot write'
+
+"$program" dump one_bad.bson >/dev/full 2>err
+echo $? >status
+: >out
+expect 'a full standard output, and a line before a fault' 1 '' 'bsonfind: cannot write'
+
+"$program" check one_bad.bson >/dev/full 2>err
+echo $? >status
+: >out
+expect 'a full standard output, and one line of a check' 1 '' 'bsonfind: cannot write'
+
+"$program" find int32.bson --query '{"a":1}' >/dev/full 2>err
+echo $? >status
+: >out
+expect 'a full standard output, and one line of find' 1 '' 'bsonfind: cannot write'
+
+"$program" pack one_bad.jsonl >/dev/full 2>err
+echo $? >status
+: >out
+expect 'a full standard output, and one line packed before a bad one' 1 '' 'bsonfind: cannot write'
+
+"$program" dump int32.bson >&- 2>err
+echo $? >status
+: >out
+expect 'a closed standard output, and one line' 1 '' 'bsonfind: cannot write'
+
+exec 3<>pipe 4>pipe 3>&-
+"$program" dump int32.bson >&4 2>err
+echo $? >status
+exec 4>&-
+: >out
+expect 'a closed pipe as standard output, and one line' 1 '' 'bsonfind: cannot write'
+
+"$program" dump - </dev/null >/dev/full 2>err
+echo $? >status
+: >out
+expect 'a full standard output, and nothing to write' 0 '' '0 objects found'
+
+"$program" dump int32.bson >/dev/full 2>/dev/full
+echo $? >status
+: >out
+: >err
+expect 'both outputs full' 1 '' ''
+
+"$program" dump int32.bson >out 2>/dev/full
+echo $? >status
+: >err
+expect 'a full standard error, and one line' 1 "$int32" ''
+
+: >ended
+{
+	"$program" dump pipe >/dev/full 2>err
+	echo $? >ended
+} &
+exec 3>pipe
+cat int32.bson >&3
+await_lines ended 1
+cp ended status
+exec 3>&-
+wait $!
+: >out
+expect 'a full standard output ends a dump before it waits for more' 1 '' 'bsonfind: cannot write'
 
 # Words.
 

@@ -19,6 +19,7 @@ pub enum Contents<'a> {
 
 impl<'a> RawValue<'a> {
     /// What it holds.
+    #[inline(always)]
     pub(crate) fn contents(self) -> Contents<'a>
         ensures holds { Holds (stands self.entry.sound) result }
         ensures kept { StandsIn self.entry.bytes.now result }

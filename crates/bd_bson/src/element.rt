@@ -52,6 +52,7 @@ pub fn type_byte(kind: Kind) -> u8
 }
 
 /// What a type byte tells; none where BSON 1.1 has no such type.
+#[inline(always)]
 pub fn element_type(byte: u8) -> Option<ElementType>
     ensures { result ≡ type_at byte }
 {

@@ -59,5 +59,5 @@ pub use laws::{no_fault_where_spelled, spells_one_document, walks_in_one_way, wa
 pub use raw::{Elements, RawDoc, RawValue};
 pub use read::{Frame, next_document, next_frame, read_document};
 pub use verdict_laws::{judges_as_the_walk, judges_in_turn};
-pub use write::write_document;
+pub use write::{write_document, write_document_into};
 pub use writing::WriteFault;

@@ -39,11 +39,19 @@ fn zero(alloc: Global, kind: FaultKind, e: u64, bytes: &[u8]) -> Result<&[u8], S
     }
 }
 
+/// Texts of fewer bytes are looked at for ASCII first. Most names are, and the check of UTF-8 is made for longer ones.
+const SHORT: usize = 64;
+
 /// The bytes at a place as text.
+#[inline(always)]
 fn text(alloc: Global, at: u64, bytes: &[u8]) -> Result<&str, Stop>
     requires { at + length bytes.now < 2 ^ 64 }
     ensures { Gives (λ x. x.now) result (text_at at bytes.now) }
 {
+    if bytes.len() < SHORT && bytes.is_ascii() {
+        // ASCII is UTF-8.
+        return Ok(unsafe { std::str::from_utf8_unchecked(bytes) });
+    }
     match simdutf8::compat::from_utf8(bytes) {
         Ok(text) => Ok(text),
         Err(error) => Err(fault_at(alloc, FaultKind::BadUtf8, at + error.valid_up_to() as u64)),
@@ -51,6 +59,7 @@ fn text(alloc: Global, at: u64, bytes: &[u8]) -> Result<&str, Stop>
 }
 
 /// The text up to the first zero, and the bytes behind that zero. `unended` is the fault where there is no zero.
+#[inline(always)]
 pub fn name(alloc: Global, unended: FaultKind, e: u64, bytes: &[u8]) -> Result<(&str, &[u8]), Stop>
     requires { length bytes.now ≤ e }
     ensures gives { Gives (λ x. (x.0.now, x.1.now)) result (past_name unended e bytes.now) }

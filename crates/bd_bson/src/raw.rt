@@ -73,6 +73,7 @@ impl<'a> RawDoc<'a> {
 
 impl<'a> RawValue<'a> {
     /// The place behind it.
+    #[inline(always)]
     fn end(self) -> usize
         ensures { result ≡ self.entry.start + extent self.entry.sound }
     {
@@ -90,6 +91,7 @@ impl<'a> RawValue<'a> {
 
 impl<'a> Elements<'a> {
     /// The name and the value of the next element, and the elements after it.
+    #[inline(always)]
     pub fn next(self) -> Option<(&'a str, RawValue<'a>, Elements<'a>)>
         ensures some { IfSome result (λ x. elements_left self.entry.left ≡ (x.0.now, stands x.1.sound) ∷ elements_left x.2.left) }
         ensures kept { IfSome result (λ x. (x.1.bytes.now ≡ self.entry.bytes.now) × (x.2.bytes.now ≡ self.entry.bytes.now)) }

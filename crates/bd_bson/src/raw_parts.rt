@@ -12,6 +12,7 @@ use crate::element::{ElementType, element_type};
 use bd_value::{Kind, Scalar};
 
 /// The kind that the type byte of an element tells.
+#[inline(always)]
 pub fn kept(byte: u8) -> Kind
     requires { (kind : kinds.Kind) × (type_at byte ≡ Some (Kept kind)) }
     ensures { type_at byte ≡ Some (Kept result) }
@@ -23,6 +24,7 @@ pub fn kept(byte: u8) -> Kind
 }
 
 /// The place of the first zero.
+#[inline(always)]
 pub fn first_zero(bytes: &[u8]) -> Option<usize>
     ensures place { result ≡ position (λ b. b == 0) bytes.now }
     ensures inside { IfSome result (λ k. k < length bytes.now) }
@@ -31,6 +33,7 @@ pub fn first_zero(bytes: &[u8]) -> Option<usize>
 }
 
 /// The number that the first four bytes are.
+#[inline(always)]
 pub fn number(bytes: &[u8]) -> u32
     requires { 4 ≤ length bytes.now }
     ensures { result ≡ number_of bytes.now }
@@ -40,6 +43,7 @@ pub fn number(bytes: &[u8]) -> u32
 }
 
 /// The number that the first eight bytes are.
+#[inline(always)]
 fn long(bytes: &[u8]) -> u64
     requires { 8 ≤ length bytes.now }
     ensures { result ≡ long_of bytes.now }
@@ -74,6 +78,7 @@ pub fn text(bytes: &[u8]) -> &str
 }
 
 /// The text before the first zero, and the bytes behind that zero.
+#[inline(always)]
 pub fn name(bytes: &[u8]) -> (&str, &[u8])
     requires { NameAt bytes.now }
     ensures text { result.0.now ≡ name_of bytes.now }
@@ -107,6 +112,7 @@ fn payload(bytes: &[u8]) -> &[u8]
 }
 
 /// The scalar that stands at the front.
+#[inline(always)]
 pub fn scalar(kind: Kind, bytes: &[u8]) -> Scalar<'_>
     requires scalar { holds kind ≡ false }
     requires reads { Reads kind bytes.now }
@@ -153,6 +159,7 @@ pub fn scalar(kind: Kind, bytes: &[u8]) -> Scalar<'_>
 }
 
 /// How many bytes the value at the front takes.
+#[inline(always)]
 pub fn size(kind: Kind, bytes: &[u8]) -> usize
     requires { Reads kind bytes.now }
     ensures { result ≡ size_of kind bytes.now }

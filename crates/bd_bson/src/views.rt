@@ -86,10 +86,12 @@ impl<'a> Reading for RawValue<'a> {
 
     ghost rest_source = { λ r. r.bytes.now };
 
+    #[inline(always)]
     fn kind(self) -> Kind {
         self.kind_here()
     }
 
+    #[inline(always)]
     fn leaf(&self) -> Option<Scalar<'_>> {
         self.scalar()
     }
@@ -140,6 +142,7 @@ impl<'a> Reading for RawValue<'a> {
         }
     }
 
+    #[inline(always)]
     fn next<'r>(rest: &'r Elements<'a>) -> Option<(&'r str, Self, Elements<'a>)> {
         rest.next()
     }

@@ -21,8 +21,8 @@ use Rattle.bd_bson.proofs.Frames.{frame_on, frames_more}
 use Rattle.bd_bson.proofs.Verdicts.{none_at, turn_at, last_at}
 use Rattle.bd_cli.specs.Judged.{verdict_line, verdict_lines, faulty, verdicts_line, verdicts_status, shown_verdicts}
 use Rattle.bd_cli.specs.Judging.{AreVerdicts, Judges, JudgesUpTo, FoundLast, findings_told, findings_status}
-use Rattle.bd_cli.specs.Ran.{WasStreamed, Wrote, WroteFront, Broke, Told, Ran, Checked}
-use Rattle.bd_cli.specs.Shown.{error_line, read_words, shown_unread}
+use Rattle.bd_cli.specs.Ran.{WasStreamed, JudgesWithin, Wrote, WroteFront, Broke, Told, Checked}
+use Rattle.bd_cli.specs.Shown.{Shown, error_line, read_words, shown_unread}
 use Rattle.bd_cli.specs.Walked.{EndedBy}
 use Rattle.bd_cli.specs.declared.checking.Findings.{Findings}
 use Rattle.bd_cli.specs.declared.dumping.Ending.{Ending}
@@ -210,6 +210,9 @@ module _ {R O : Type 0} (left : R → Option (List ℕ)) (calls failures : R →
 
     -- ---- the last document
 
+    within_given : length s.given ≤ 4294967295
+    within_given = let f = s.fits in let p = s.placed in omega arith
+
     done_alone : verdicts s.given ≡ s.done
     done_alone = ap verdicts (sym (append-nil s.given)) ∙ s.all [] ∙ ap (λ vs. s.done ++ vs) (none_at place) ∙ append-nil s.done
 
@@ -219,25 +222,26 @@ module _ {R O : Type 0} (left : R → Option (List ℕ)) (calls failures : R →
     pub ends_whole : (new : R) (out_new : O) (r : Result Findings Stopped) → IsAtEnd (left new) → Consumes (left mid) (left new) [] → failures new ≡ failures mid
         → FoundLast endings.Whole number bad held out_failures out_mid out_new r → Last new out_new r
     ends_whole new out_new r end gave well found =
-        rw (found.0, found.1) (s.given, s.done, (known_end (left old) (left mid) (left new) s.given s.gave gave end, well ∙ s.well), sym done_alone, s.counted, s.bad_counted, s.wrote)
+        rw (found.0, found.1) (s.given, s.done, (known_end (left old) (left mid) (left new) s.given s.gave gave end, well ∙ s.well), inl within_given, sym done_alone, s.counted, s.bad_counted, s.wrote)
 
     faulty_ends : (new : R) (out_new : O) (f : told.Fault) (r : Result Findings Stopped) (bytes : List ℕ) → IfSome (left mid) (λ xs. bytes ≡ xs) → failures new ≡ failures mid
-        → verdicts_at place bytes ≡ Some (fault_view f) ∷ [] → f.document ≡ number → FoundLast (endings.Faulty f) number bad held out_failures out_mid out_new r → Last new out_new r
-    faulty_ends new out_new f (Ok findings) bytes is well last numbered found =
+        → frame_length bytes ≡ Err f.kind → verdicts_at place bytes ≡ Some (fault_view f) ∷ [] → f.document ≡ number → FoundLast (endings.Faulty f) number bad held out_failures out_mid out_new r → Last new out_new r
+    faulty_ends new out_new f (Ok findings) bytes is well bad_length last numbered found =
         let all : verdicts (s.given ++ bytes) ≡ s.done ++ Some (fault_view f) ∷ [] = s.all bytes ∙ ap (λ vs. s.done ++ vs) last in
         let line : Wrote held out_failures out_mid out_new (verdict_line number (Some (fault_view f))) = subst (λ n. Wrote held out_failures out_mid out_new (verdict_line n (Some (fault_view f)))) numbered found.1 in
         rw found.0 (
           s.given ++ bytes,
           s.done ++ Some (fault_view f) ∷ [],
           (known_behind (left old) (left mid) s.given bytes s.gave is, well ∙ s.well),
+          inr (s.frames, s.given, bytes, f.kind, s.framed, refl, bad_length, within_given),
           sym all,
           (let c = s.counted in omega (arith, length-append s.done (Some (fault_view f) ∷ []))),
           ap (λ n. n + 1) s.bad_counted ∙ sym (faulty_append s.done (Some (fault_view f) ∷ [])),
           wrote_behind held out_failures out_old out_mid out_new (verdict_lines 0 s.done) (verdict_line number (Some (fault_view f))) [] (verdict_lines 0 (s.done ++ Some (fault_view f) ∷ [])) s.wrote line
               (lines_more s.done (Some (fault_view f)) ∙ ap (λ n. verdict_lines 0 s.done ++ verdict_line n (Some (fault_view f))) (sym s.counted)),
         )
-    faulty_ends new out_new f (Err NoMemory) bytes is well last numbered found = rw found (starves new bytes is well)
-    faulty_ends new out_new f (Err Unwritten) bytes is well last numbered found =
+    faulty_ends new out_new f (Err NoMemory) bytes is well bad_length last numbered found = rw found (starves new bytes is well)
+    faulty_ends new out_new f (Err Unwritten) bytes is well bad_length last numbered found =
         stops_in new out_new bytes (Some (fault_view f)) [] Unwritten is well last (λ e. absurd cc) (λ e. subst (λ n. Broke held out_failures out_mid out_new (verdict_line n (Some (fault_view f)))) numbered found)
 
     seen_at : (f : told.Fault) (bytes : List ℕ) → frame_length bytes ≡ Err f.kind → f.offset ≡ place → f.path.items ≡ [] → verdicts_at place bytes ≡ Some (fault_view f) ∷ []
@@ -251,7 +255,7 @@ module _ {R O : Type 0} (left : R → Option (List ℕ)) (calls failures : R →
     unread_ends new out_new f r other cut device well many found =
         let fits : room + length s.given ≡ 4294967295 = let p = s.placed in let q = s.fits in omega arith in
         let u = unread left calls failures old mid new s.given s.gave turns room fits s.turned s.called s.well f cut other device well many in
-        rw (found.0, found.1) (s.given ++ u.0, s.done, u.1, (s.frames, s.given, u.0, s.framed, u.2, refl, sym done_alone), s.counted, s.bad_counted, s.wrote)
+        rw (found.0, found.1) (s.given ++ u.0, s.done, u.1, tt, (s.frames, s.given, u.0, s.framed, u.2, refl, sym done_alone), s.counted, s.bad_counted, s.wrote)
 
     pub ends_by : (new : R) (out_new : O) (d : DocFault) (e : Ending) (r : Result Findings Stopped) → EndedBy d (Ok e) → ¬ (d ≡ faults.Failed)
         → OnFrame (λ f. (f.offset ≡ place) × (f.document ≡ number) × (f.path.items ≡ []) × HasNoFrame (left mid) f.kind) d
@@ -261,7 +265,7 @@ module _ {R O : Type 0} (left : R → Option (List ℕ)) (calls failures : R →
         → FoundLast e number bad held out_failures out_mid out_new r → Last new out_new r
     ends_by new out_new (faults.Frame f) e r by other frame cut device well many found =
         let is : e ≡ endings.Faulty f = same_ending e (endings.Faulty f) by in
-        faulty_ends new out_new f r frame.3.0 frame.3.1 (well (λ x. absurd cc)) (seen_at f frame.3.0 frame.3.2 frame.0 frame.2) frame.1 (rw is at found)
+        faulty_ends new out_new f r frame.3.0 frame.3.1 (well (λ x. absurd cc)) frame.3.2 (seen_at f frame.3.0 frame.3.2 frame.0 frame.2) frame.1 (rw is at found)
     ends_by new out_new (faults.Read reads.Device) e r by other frame cut device well many found =
         unread_ends new out_new reads.Device r (λ x. absurd cc) cut (λ x. device refl) (λ n. absurd (n refl)) (λ x. absurd cc) (rw (same_ending e (endings.Unread reads.Device) by) at found)
     ends_by new out_new (faults.Read reads.TooLong) e r by other frame cut device well many found =
@@ -290,29 +294,35 @@ module _ {R O E : Type 0} (left : R → Option (List ℕ)) (calls failures : R �
   abbrev Tells : List ℕ → Status → Type 0
   Tells text wanted = Told err_held err_failures err_old err_new text wanted status ⊎ Told err_held err_failures err_old err_new (error_line (codes "no memory")) Failed status
 
-  ran : (out err : List ℕ) (wanted : Status) → Wrote out_held out_failures out_old out_new out → Tells err wanted
-      → Ran out_held out_failures out_old out_new err_held err_failures err_old err_new (record { out = out; err = err; status = wanted }) status
-  ran out err wanted wrote (inl t) = inl (inl (wrote, t))
-  ran out err wanted wrote (inr t) = inr (front_of out_held out_failures out_old out_new out [] out wrote (sym (append-nil out)), t)
+  -- all was shown, of bytes within the limit, or a front of it
+  abbrev Ends : Type 0 → Shown → Type 0
+  Ends within shown =
+      (within × Wrote out_held out_failures out_old out_new shown.out × Told err_held err_failures err_old err_new shown.err shown.status status)
+      ⊎ (Broke out_held out_failures out_old out_new shown.out × Told err_held err_failures err_old err_new (error_line (codes "cannot write")) Failed status)
+      ⊎ (WroteFront out_held out_failures out_old out_new shown.out × Told err_held err_failures err_old err_new (error_line (codes "no memory")) Failed status)
+
+  ran : {W : Type 0} (out err : List ℕ) (wanted : Status) → W → Wrote out_held out_failures out_old out_new out → Tells err wanted → Ends W (record { out = out; err = err; status = wanted })
+  ran out err wanted within wrote (inl t) = inl (within, wrote, t)
+  ran out err wanted within wrote (inr t) = inr (inr (front_of out_held out_failures out_old out_new out [] out wrote (sym (append-nil out)), t))
 
   pub shows_findings : (findings : Findings) → Judges left calls failures old new out_held out_failures out_old out_new findings
       → Tells (findings_told findings.documents findings.faulty findings.unread) (findings_status findings.faulty findings.unread) → Shows
-  shows_findings findings (bytes, vs, was, are, documents, bad, wrote) told = by_unread findings.unread was are (subst (λ n. Tells (findings_told (length vs) n findings.unread) (findings_status n findings.unread)) bad (subst (λ n. Tells (findings_told n findings.faulty findings.unread) (findings_status findings.faulty findings.unread)) documents told))
+  shows_findings findings (bytes, vs, was, within, are, documents, bad, wrote) told = by_unread findings.unread was within are (subst (λ n. Tells (findings_told (length vs) n findings.unread) (findings_status n findings.unread)) bad (subst (λ n. Tells (findings_told n findings.faulty findings.unread) (findings_status findings.faulty findings.unread)) documents told))
     where
-      by_unread : (unread : Option ReadFault) → WasStreamed left calls failures old new bytes unread → AreVerdicts bytes unread vs → Tells (findings_told (length vs) (faulty vs) unread) (findings_status (faulty vs) unread) → Shows
-      by_unread None was are told = (bytes, None, shown_verdicts vs, was, ap shown_verdicts are, ran (verdict_lines 0 vs) (verdicts_line (length vs) (faulty vs)) (verdicts_status (faulty vs)) wrote told)
-      by_unread (Some f) was (frames, front, part, framed, cut, is, are) told =
+      by_unread : (unread : Option ReadFault) → WasStreamed left calls failures old new bytes unread → JudgesWithin bytes unread → AreVerdicts bytes unread vs → Tells (findings_told (length vs) (faulty vs) unread) (findings_status (faulty vs) unread) → Shows
+      by_unread None was within are told = (bytes, None, shown_verdicts vs, was, ap shown_verdicts are, ran (verdict_lines 0 vs) (verdicts_line (length vs) (faulty vs)) (verdicts_status (faulty vs)) within wrote told)
+      by_unread (Some f) was within (frames, front, part, framed, cut, is, are) told =
           let shown = shown_unread (verdict_lines 0 vs) f (verdicts_line (length vs) (faulty vs)) in (
             bytes,
             Some f,
             shown,
             was,
             (frames, front, part, framed, cut, is, ap (λ (ws : List Seen). shown_unread (verdict_lines 0 ws) f (verdicts_line (length ws) (faulty ws))) are),
-            ran (verdict_lines 0 vs) (error_line (read_words f) ++ verdicts_line (length vs) (faulty vs)) Failed wrote told,
+            ran (verdict_lines 0 vs) (error_line (read_words f) ++ verdicts_line (length vs) (faulty vs)) Failed tt wrote told,
           )
 
   pub shows_stopped : JudgesUpTo left failures old new out_held out_failures out_old out_new NoMemory → Told err_held err_failures err_old err_new (error_line (codes "no memory")) Failed status → Shows
-  shows_stopped (bytes, is, well, front) told = (bytes, None, shown_verdicts (verdicts bytes), (is, well), refl, inr (front, told))
+  shows_stopped (bytes, is, well, front) told = (bytes, None, shown_verdicts (verdicts bytes), (is, well), refl, inr (inr (front, told)))
 
   pub shows_broken : JudgesUpTo left failures old new out_held out_failures out_old out_new Unwritten → Told err_held err_failures err_old err_new (error_line (codes "cannot write")) Failed status → Shows
-  shows_broken (bytes, is, well, broke) told = (bytes, None, shown_verdicts (verdicts bytes), (is, well), refl, inl (inr (broke, told)))
+  shows_broken (bytes, is, well, broke) told = (bytes, None, shown_verdicts (verdicts bytes), (is, well), refl, inr (inl (broke, told)))

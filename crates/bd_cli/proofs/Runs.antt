@@ -15,7 +15,7 @@ use Rattle.bd_bson.proofs.Takes.{IsBytes}
 use Rattle.bd_bson.proofs.Dumps.{walk_once, walk_on, joined_once}
 use Rattle.bd_bson.proofs.Frames.{cut_stuck}
 use Rattle.bd_cli.specs.Shown.{Shown, IsShown, lines, error_line, count_line, fault_text, read_words, walk_text, shown_walk, shown_refusal, shown_unread}
-use Rattle.bd_cli.specs.Ran.{WasRead, WasStreamed, Wrote, Told, Ran, Dumped}
+use Rattle.bd_cli.specs.Ran.{WasRead, WasStreamed, EndsWithin, Wrote, Told, Ran, Dumped}
 use Rattle.bd_cli.specs.Walked.{Ends, Walks, walk_told, told_status}
 use Rattle.bd_cli.specs.declared.dumping.Ending.{Ending}
 use Rattle.bd_cli.specs.declared.dumping.Ending.TheVariants as endings
@@ -33,11 +33,11 @@ module _ {R O E : Type 0} (left : R → Option (List ℕ)) (calls failures : R �
   abbrev Tells : List ℕ → Status → Type 0
   Tells text wanted = Told err_held err_failures err_old err_new text wanted status ⊎ Told err_held err_failures err_old err_new (error_line (codes "no memory")) Failed status
 
-  all_of : (bytes : List ℕ) (fault : Option ReadFault) (shown : Shown) (ds : List Doc) (given rest : List ℕ) → WasStreamed left calls failures old new bytes fault → IsShown bytes fault shown
+  all_of : (bytes : List ℕ) (fault : Option ReadFault) (shown : Shown) (ds : List Doc) (given rest : List ℕ) → WasStreamed left calls failures old new bytes fault → EndsWithin bytes fault → IsShown bytes fault shown
       → AreJoined ds given → bytes ≡ given ++ rest → shown.out ≡ lines ds → Wrote out_held out_failures out_old out_new (lines ds) → Tells shown.err shown.status → Shows
-  all_of bytes fault shown ds given rest was is joined cut same wrote (inl t) =
-      inl (bytes, fault, shown, was, is, subst (λ (x : List ℕ). Wrote out_held out_failures out_old out_new x) (sym same) wrote, t)
-  all_of bytes fault shown ds given rest was is joined cut same wrote (inr t) =
+  all_of bytes fault shown ds given rest was within is joined cut same wrote (inl t) =
+      inl (bytes, fault, shown, was, within, is, subst (λ (x : List ℕ). Wrote out_held out_failures out_old out_new x) (sym same) wrote, t)
+  all_of bytes fault shown ds given rest was within is joined cut same wrote (inr t) =
       inr (inr ((ds, given, joined, streamed_front left calls failures old new bytes given rest fault was cut, wrote), t))
 
   numbered : (count : ℕ) (f : told.Fault) (ds : List Doc) → count ≡ length ds → f.document ≡ length ds
@@ -48,13 +48,13 @@ module _ {R O E : Type 0} (left : R → Option (List ℕ)) (calls failures : R �
   shows_walk walk (ds, counted, ends, wrote) told = by_ending walk.ending walk.count counted ends told
     where
       by_ending : (ending : Ending) (count : ℕ) → count ≡ length ds → Ends left calls failures old new ds ending → Tells (walk_told count ending) (told_status ending) → Shows
-      by_ending endings.Whole count same (bytes, was, joined) told =
-          all_of bytes None (shown_walk ds None) ds bytes [] was (ds, None, joined, refl) joined (sym (append-nil bytes)) refl wrote (subst (λ n. Tells (count_line n) Done) same told)
-      by_ending (endings.Faulty f) count same (bytes, was, fails, number) told =
-          all_of bytes None (shown_walk ds (Some (fault_view f))) ds fails.0 fails.1 was (ds, Some (fault_view f), fails, refl) fails.2 fails.3 refl wrote
+      by_ending endings.Whole count same (bytes, was, within, joined) told =
+          all_of bytes None (shown_walk ds None) ds bytes [] was within (ds, None, joined, refl) joined (sym (append-nil bytes)) refl wrote (subst (λ n. Tells (count_line n) Done) same told)
+      by_ending (endings.Faulty f) count same (bytes, was, within, fails, number) told =
+          all_of bytes None (shown_walk ds (Some (fault_view f))) ds fails.0 fails.1 was within (ds, Some (fault_view f), fails, refl) fails.2 fails.3 refl wrote
           (subst (λ x. Tells x Failed) (numbered count f ds same number) told)
       by_ending (endings.Unread f) count same (front, part, was, joined, cut) told =
-          all_of (front ++ part) (Some f) (shown_unread (lines ds) f (count_line (length ds))) ds front part was (ds, front, part, joined, cut, refl, refl) joined refl refl wrote
+          all_of (front ++ part) (Some f) (shown_unread (lines ds) f (count_line (length ds))) ds front part was tt (ds, front, part, joined, cut, refl, refl) joined refl refl wrote
           (subst (λ n. Tells (error_line (read_words f) ++ count_line n) Failed) same told)
 
 -- nothing was written to standard output

@@ -1,5 +1,5 @@
 -- The walk of `dump` over the documents of an input, step by step.
-use Rattle.std.proofs.Common.{◌≡◌, ◌≤◌, ℕ, ◌+◌, ◌-◌, List, [], ◌∷◌, ◌++◌, length, Option, Some, Err, refl, sym, ap, ◌∙◌, subst, arith, length-append}
+use Rattle.std.proofs.Common.{inl, inr, ◌≡◌, ◌≤◌, ℕ, ◌+◌, ◌-◌, List, [], ◌∷◌, ◌++◌, length, Option, Some, Err, refl, sym, ap, ◌∙◌, subst, arith, length-append}
 use Rattle.std.specs.Prelude.{IfSome, Result, MatchResult}
 use Rattle.std.specs.Io.KnownBytes.{Consumes, IsAtEnd}
 use Rattle.std.proofs.KnownBytes.{Appends-trans, Appends-nil, Consumes-trans, Consumes-nil}
@@ -70,6 +70,9 @@ module _ {R O : Type 0} (left : R → Option (List ℕ)) (calls failures : R →
   }
 
   module _ (mid : R) (out_mid : O) (place number room turns : ℕ) (s : Kept mid out_mid place number room turns) where
+    within_given : length s.given ≤ 4294967295
+    within_given = let f = s.fits in let p = s.placed in omega arith
+
     -- a document was printed
     pub goes_on : (new : R) (out_new : O) (frame : List ℕ) (size next count less fewer : ℕ) (d : Doc) → IsDocument d frame → Consumes (left mid) (left new) frame
         → length frame ≡ size → (next ≡ place + size) × (count ≡ number + 1) × (less + size ≡ room)
@@ -120,7 +123,7 @@ module _ {R O : Type 0} (left : R → Option (List ℕ)) (calls failures : R →
     pub ends_whole : (new : R) (count : ℕ) → count ≡ number → IsAtEnd (left new) → Consumes (left mid) (left new) [] → failures new ≡ failures mid
         → Walks left calls failures old new held out_failures out_old out_mid (record { count = count; ending = endings.Whole })
     ends_whole new count same end gave well =
-        (s.done, same ∙ s.counted, (s.given, (known_end (left old) (left mid) (left new) s.given s.gave gave end, well ∙ s.well), s.joined), s.wrote)
+        (s.done, same ∙ s.counted, (s.given, (known_end (left old) (left mid) (left new) s.given s.gave gave end, well ∙ s.well), inl within_given, s.joined), s.wrote)
 
     -- a document has a fault inside
     pub ends_faulty : (new : R) (count : ℕ) (frame : List ℕ) (f : told.Fault) → count ≡ number → IsFrame frame → Consumes (left mid) (left new) frame → failures new ≡ failures mid
@@ -130,7 +133,7 @@ module _ {R O : Type 0} (left : R → Option (List ℕ)) (calls failures : R →
         let rest = rest_of (left new) in
         let all : IfSome (left old) (λ xs. s.given ++ (frame ++ rest) ≡ xs) = known_behind (left old) (left mid) s.given (frame ++ rest) s.gave (known_whole (left mid) (left new) frame gave) in
         let fails = fault_inside place s.given frame rest (fault_view f) s.placed is first in
-        (s.done, same ∙ s.counted, (s.given ++ (frame ++ rest), (all, well ∙ s.well), (s.given, frame ++ rest, s.joined, refl, fails), numbered ∙ s.counted), s.wrote)
+        (s.done, same ∙ s.counted, (s.given ++ (frame ++ rest), (all, well ∙ s.well), inr (s.done, fault_view f, s.given, frame ++ rest, s.joined, refl, fails, within_given), (s.given, frame ++ rest, s.joined, refl, fails), numbered ∙ s.counted), s.wrote)
 
     -- no document was given
     pub ends_by : (new : R) (count : ℕ) (d : DocFault) (r : Result Ending Stopped) → count ≡ number → EndedBy d r → ¬ (d ≡ faults.Failed)
@@ -143,7 +146,7 @@ module _ {R O : Type 0} (left : R → Option (List ℕ)) (calls failures : R →
         let bytes = frame.3.0 in
         let fails = fault_of_length place s.given bytes f s.placed frame.3.2 frame.0 frame.2 in
         let all : IfSome (left old) (λ xs. s.given ++ bytes ≡ xs) = known_behind (left old) (left mid) s.given bytes s.gave frame.3.1 in
-        rw by (s.done, same ∙ s.counted, (s.given ++ bytes, (all, well (λ e. absurd cc) ∙ s.well), (s.given, bytes, s.joined, refl, fails), frame.1 ∙ s.counted), s.wrote)
+        rw by (s.done, same ∙ s.counted, (s.given ++ bytes, (all, well (λ e. absurd cc) ∙ s.well), inr (s.done, fault_view f, s.given, bytes, s.joined, refl, fails, within_given), (s.given, bytes, s.joined, refl, fails), frame.1 ∙ s.counted), s.wrote)
     ends_by new count (faults.Read f) r same by other frame cut device well many = by_read f by cut (λ e. device (ap (λ (x : ReadFault). faults.Read x) e)) (λ n. well (λ e. n (inner f reads.Device e))) (λ e. many (ap (λ (x : ReadFault). faults.Read x) e))
       where
         inner : (f g : ReadFault) → faults.Read f ≡ faults.Read g → f ≡ g

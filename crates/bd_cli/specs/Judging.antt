@@ -6,7 +6,7 @@ use Rattle.bd_bson.specs.Stream.{AreFrames, IsCut}
 use Rattle.bd_bson.specs.Told.{fault_view}
 use Rattle.bd_bson.specs.Verdicts.{verdicts}
 use Rattle.bd_cli.specs.Judged.{faulty, verdict_line, verdict_lines, verdicts_line, verdicts_status}
-use Rattle.bd_cli.specs.Ran.{WasStreamed, Wrote, Broke}
+use Rattle.bd_cli.specs.Ran.{WasStreamed, JudgesWithin, Wrote, Broke}
 use Rattle.bd_cli.specs.Shown.{error_line, read_words}
 use Rattle.bd_cli.specs.Within.{StopsWithin}
 use Rattle.bd_cli.specs.declared.checking.Findings.{Findings}
@@ -25,7 +25,7 @@ AreVerdicts bytes (Some fault) vs = (frames : List (List ℕ)) × (front : List 
 -- all were judged: their lines were taken, and counted they are so many
 abbrev pub Judges : {R O : Type 0} → (R → Option (List ℕ)) → (R → ℕ) → (R → ℕ) → R → R → (O → Option (List ℕ)) → (O → ℕ) → O → O → Findings → Type 0
 Judges left calls failures old new held out_failures out_old out_new findings =
-    (bytes : List ℕ) × (vs : List (Option Fault)) × WasStreamed left calls failures old new bytes findings.unread × AreVerdicts bytes findings.unread vs
+    (bytes : List ℕ) × (vs : List (Option Fault)) × WasStreamed left calls failures old new bytes findings.unread × JudgesWithin bytes findings.unread × AreVerdicts bytes findings.unread vs
     × (findings.documents ≡ length vs) × (findings.faulty ≡ faulty vs) × Wrote held out_failures out_old out_new (verdict_lines 0 vs)
 
 -- the judging was stopped

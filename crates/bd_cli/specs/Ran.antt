@@ -7,7 +7,10 @@ use Rattle.bd_device.specs.Counts.{after_more}
 use Rattle.bd_device.specs.Devices.{AppendsFront, LosesAtLeast}
 use Rattle.bd_device.specs.declared.reading.ReadFault.{ReadFault}
 use Rattle.bd_device.specs.declared.reading.ReadFault.TheVariants as reads
-use Rattle.bd_bson.specs.Dump.{AreJoined}
+use Rattle.bd_bson.specs.Fault.{Fault}
+use Rattle.bd_bson.specs.Dump.{AreJoined, frame_fault, frame_length}
+use Rattle.bd_bson.specs.Stream.{AreFrames}
+use Rattle.bd_bson.specs.declared.fault.FaultKind.{FaultKind}
 use Rattle.bd_cli.specs.Found.{IsFound}
 use Rattle.bd_cli.specs.Judged.{IsJudged}
 use Rattle.bd_cli.specs.Packed.{IsPacked}
@@ -40,6 +43,20 @@ WasStreamed left calls failures old new bytes (Some reads.TooLong) =
 WasStreamed left calls failures old new bytes (Some reads.TooManyTurns) =
     Consumes (left old) (left new) bytes × (calls new ≡ after_more (calls old) 4294967296) × (failures new ≡ failures old)
 WasStreamed left calls failures old new bytes (Some reads.NoMemory) = ⊥
+
+-- A walk goes no further than 4,294,967,295 bytes: there are no more, or no more stand before the first fault.
+abbrev pub EndsWithin : List ℕ → Option ReadFault → Type 0
+EndsWithin bytes None =
+    (length bytes ≤ 4294967295)
+    ⊎ ((ds : List Doc) × (f : Fault) × (front : List ℕ) × (rest : List ℕ) × AreJoined ds front × (bytes ≡ front ++ rest) × (frame_fault (length front) rest ≡ Some f) × (length front ≤ 4294967295))
+EndsWithin bytes (Some f) = Unit {0}
+
+-- The same where documents are judged: there are no more, or no more stand before a faulty length.
+abbrev pub JudgesWithin : List ℕ → Option ReadFault → Type 0
+JudgesWithin bytes None =
+    (length bytes ≤ 4294967295)
+    ⊎ ((frames : List (List ℕ)) × (front : List ℕ) × (rest : List ℕ) × (kind : FaultKind) × AreFrames frames front × (bytes ≡ front ++ rest) × (frame_length rest ≡ Err kind) × (length front ≤ 4294967295))
+JudgesWithin bytes (Some f) = Unit {0}
 
 -- the writer took all of the text
 abbrev pub Wrote : {W : Type 0} → (W → Option (List ℕ)) → (W → ℕ) → W → W → List ℕ → Type 0
@@ -74,7 +91,7 @@ Ran out_held out_failures out_old out_new err_held err_failures err_old err_new 
 -- `dump` showed all that is to be shown of an input
 abbrev pub DumpedAll : {R O E : Type 0} → (R → Option (List ℕ)) → (R → ℕ) → (R → ℕ) → R → R → (O → Option (List ℕ)) → (O → ℕ) → O → O → (E → Option (List ℕ)) → (E → ℕ) → E → E → Status → Type 0
 DumpedAll left calls failures old new out_held out_failures out_old out_new err_held err_failures err_old err_new status =
-    (bytes : List ℕ) × (fault : Option ReadFault) × (shown : Shown) × WasStreamed left calls failures old new bytes fault × IsShown bytes fault shown
+    (bytes : List ℕ) × (fault : Option ReadFault) × (shown : Shown) × WasStreamed left calls failures old new bytes fault × EndsWithin bytes fault × IsShown bytes fault shown
     × Wrote out_held out_failures out_old out_new shown.out × Told err_held err_failures err_old err_new shown.err shown.status status
 
 -- The reader gave these documents and no byte more, and standard output broke in the line of the last of them.
@@ -95,11 +112,14 @@ Dumped left calls failures old new out_held out_failures out_old out_new err_hel
     ⊎ (BrokeAt left failures old new out_held out_failures out_old out_new × Told err_held err_failures err_old err_new (error_line (codes "cannot write")) Failed status)
     ⊎ (StarvedAt left old out_held out_failures out_old out_new × Told err_held err_failures err_old err_new (error_line (codes "no memory")) Failed status)
 
--- `check` read an input, whole or to a read that failed, and showed what is to be shown of it
+-- `check` read an input, whole or to a read that failed, and showed what is to be shown of it; or a front of it, where
+-- standard output broke or memory ran out, and standard error tells so
 abbrev pub Checked : {R O E : Type 0} → (R → Option (List ℕ)) → (R → ℕ) → (R → ℕ) → R → R → (O → Option (List ℕ)) → (O → ℕ) → O → O → (E → Option (List ℕ)) → (E → ℕ) → E → E → Status → Type 0
 Checked left calls failures old new out_held out_failures out_old out_new err_held err_failures err_old err_new status =
     (bytes : List ℕ) × (fault : Option ReadFault) × (shown : Shown) × WasStreamed left calls failures old new bytes fault × IsJudged bytes fault shown
-    × Ran out_held out_failures out_old out_new err_held err_failures err_old err_new shown status
+    × ((JudgesWithin bytes fault × Wrote out_held out_failures out_old out_new shown.out × Told err_held err_failures err_old err_new shown.err shown.status status)
+    ⊎ (Broke out_held out_failures out_old out_new shown.out × Told err_held err_failures err_old err_new (error_line (codes "cannot write")) Failed status)
+    ⊎ (WroteFront out_held out_failures out_old out_new shown.out × Told err_held err_failures err_old err_new (error_line (codes "no memory")) Failed status))
 
 -- `pack` read an input whole, or a read of it failed, and showed what is to be shown of it
 abbrev pub Packed : {R O E : Type 0} → (R → Option (List ℕ)) → (R → ℕ) → (R → ℕ) → R → R → (O → Option (List ℕ)) → (O → ℕ) → O → O → (E → Option (List ℕ)) → (E → ℕ) → E → E → Status → Type 0

@@ -5,7 +5,7 @@ use Rattle.bd_device.specs.declared.reading.ReadFault.TheVariants as reads
 use Rattle.bd_bson.specs.Dump.{AreJoined, IsWalk}
 use Rattle.bd_bson.specs.Stream.{IsCut}
 use Rattle.bd_bson.specs.Told.{fault_view}
-use Rattle.bd_cli.specs.Ran.{WasStreamed, Wrote, BrokeAt, StarvedAt}
+use Rattle.bd_cli.specs.Ran.{WasStreamed, EndsWithin, Wrote, BrokeAt, StarvedAt}
 use Rattle.bd_bson.specs.declared.doc_buffer.DocFault.{DocFault}
 use Rattle.bd_bson.specs.declared.doc_buffer.DocFault.TheVariants as faults
 use Rattle.bd_cli.specs.Shown.{lines, error_line, fault_text, count_line, read_words}
@@ -19,9 +19,9 @@ use Rattle.bd_cli.specs.declared.lines.Stopped.TheVariants.{NoMemory, Unwritten}
 
 -- what is behind the documents
 abbrev pub Ends : {R : Type 0} → (R → Option (List ℕ)) → (R → ℕ) → (R → ℕ) → R → R → List Doc → Ending → Type 0
-Ends left calls failures old new ds endings.Whole = (bytes : List ℕ) × WasStreamed left calls failures old new bytes None × IsWalk ds None bytes
+Ends left calls failures old new ds endings.Whole = (bytes : List ℕ) × WasStreamed left calls failures old new bytes None × EndsWithin bytes None × IsWalk ds None bytes
 Ends left calls failures old new ds (endings.Faulty f) =
-    (bytes : List ℕ) × WasStreamed left calls failures old new bytes None × IsWalk ds (Some (fault_view f)) bytes × (f.document ≡ length ds)
+    (bytes : List ℕ) × WasStreamed left calls failures old new bytes None × EndsWithin bytes None × IsWalk ds (Some (fault_view f)) bytes × (f.document ≡ length ds)
 Ends left calls failures old new ds (endings.Unread f) =
     (front : List ℕ) × (part : List ℕ) × WasStreamed left calls failures old new (front ++ part) (Some f) × AreJoined ds front × IsCut part
 

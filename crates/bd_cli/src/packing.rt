@@ -5,7 +5,7 @@ ghost use Rattle.bd_cli.specs.Packed.{is_white, is_blank, plain, lines_of, IsPac
 ghost use Rattle.bd_cli.specs.Packing.{IsPacking, StopsPacking, bytes_behind, left_size, lines_left};
 
 use crate::lines::{Stopped, flush, flush_gathered};
-use bd_bson::{Output, WriteFault, write_document};
+use bd_bson::{Output, WriteFault, write_document_into};
 use bd_extjson::{JsonFault, JsonFaultKind, Scratch, read_doc_with};
 use bd_value::NoMemory;
 use memchr::memchr;
@@ -61,11 +61,13 @@ fn is_blank(line: &[u8]) -> bool
     line.iter().all(|b| is_white(*b))
 }
 
-/// Appends the bytes of the document that the line is, or tells why there are none. `scratch` is room that lines share.
+/// Appends the bytes of the document that the line is, or tells why there are none. `scratch` and `spelled` are room that lines
+/// share.
 fn pack_line(
     alloc: Global,
     line: &[u8],
     scratch: &mut Scratch,
+    spelled: &mut Vec<u8>,
     pending: &mut Vec<u8>,
 ) -> Result<Option<LineFault>, NoMemory>
     ensures packed { result ≡ Ok None → (d : Doc) × IsPackable line.now d × (pending.new.items ≡ pending.old.items ++ plain d) }
@@ -80,9 +82,9 @@ fn pack_line(
             };
         }
     };
-    match write_document(alloc, &document) {
-        Ok(bytes) => {
-            pending.extend_from_slice(&bytes)?;
+    match write_document_into(&document, spelled) {
+        Ok(()) => {
+            pending.extend_from_slice(spelled)?;
             Ok(None)
         }
         Err(WriteFault::TooLong) => Ok(Some(LineFault::TooLong)),
@@ -101,6 +103,7 @@ pub fn write_lines<O: Output>(alloc: Global, text: &[u8], out: &mut O) -> Result
     ensures stops { IfErr result (StopsPacking text.now O.held O.failures out.old out.new) }
 {
     let mut scratch = Scratch::new(alloc);
+    let mut spelled = Vec::new(alloc);
     let mut pending = Vec::new(alloc);
     let mut number = 0;
     let mut count = 0;
@@ -112,7 +115,7 @@ pub fn write_lines<O: Output>(alloc: Global, text: &[u8], out: &mut O) -> Result
         if is_blank(line) {
             continue;
         }
-        if let Some(fault) = pack_line(alloc, line, &mut scratch, &mut pending)? {
+        if let Some(fault) = pack_line(alloc, line, &mut scratch, &mut spelled, &mut pending)? {
             flush(&mut pending, out)?;
             let bad = Some(BadLine { number, fault });
             return Ok(Packing { count, bad });

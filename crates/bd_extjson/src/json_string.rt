@@ -14,6 +14,7 @@ fn needs_escape(b: u8) -> bool
     b == b'"' || b == b'\\' || b < 32
 }
 
+#[inline(always)]
 fn first_escape(text: &[u8]) -> Option<usize>
     ensures { result ≡ position needs_escape text.now }
 {
@@ -54,6 +55,7 @@ fn write_escape(b: u8, out: &mut Vec<u8>) -> Result<(), NoMemory>
 
 /// Appends what stands between the quotation marks of a string: the runs between escapes as they are.
 #[tactic(auto, using(crate::proofs::Fronts::fronts))]
+#[inline(always)]
 fn write_escaped(text: &[u8], out: &mut Vec<u8>) -> Result<(), NoMemory>
     ensures ok { OnOk result (out.new.items ≡ out.old.items ++ escaped text.now) }
     ensures err { OnErr result (StartsWith out.new.items out.old.items) }
@@ -71,6 +73,7 @@ fn write_escaped(text: &[u8], out: &mut Vec<u8>) -> Result<(), NoMemory>
 ///
 /// `NoMemory`: `out` begins with what it held.
 #[tactic(auto, using(crate::proofs::Fronts::fronts), unfolding(crate::specs::Text::quoted))]
+#[inline(always)]
 pub fn write_string(text: &str, out: &mut Vec<u8>) -> Result<(), NoMemory>
     ensures ok { OnOk result (out.new.items ≡ out.old.items ++ quoted text.now) }
     ensures err { OnErr result (StartsWith out.new.items out.old.items) }

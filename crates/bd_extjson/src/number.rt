@@ -7,6 +7,7 @@ use itoa::Integer;
 
 /// Appends a number in decimal.
 #[tactic(auto, using(crate::proofs::Fronts::fronts))]
+#[inline(always)]
 pub(crate) fn write_digits<I: Integer>(n: I, out: &mut Vec<u8>) -> Result<(), NoMemory>
     ensures ok { OnOk result (out.new.items ≡ out.old.items ++ I.text n) }
     ensures err { OnErr result (StartsWith out.new.items out.old.items) }

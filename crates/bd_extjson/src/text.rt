@@ -70,10 +70,10 @@ fn append_leaf<N: Reading>(node: N, out: &mut Vec<u8>) -> Result<(), NoMemory>
     let Some(own) = node.leaf() else {
         unreachable!()
     };
-    let Some(scope) = node.scope() else {
+    let Scalar::CodeScope(code) = own else {
         return write_scalar(own, out);
     };
-    let Scalar::CodeScope(code) = own else {
+    let Some(scope) = node.scope() else {
         unreachable!()
     };
     write_led(b"{\"$code\":", code, out)?;

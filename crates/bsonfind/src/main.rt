@@ -1,9 +1,13 @@
 //! `bsonfind`: the commands of bd_cli over the system's files and standard streams.
 #![tactic(auto)]
 
+mod gathering;
+
 use bd_bson::{MemoryInput, SystemInput, SystemOutput, write_all};
 use bd_cli::{Order, Status, WordsFault, parse_words, report};
-use std::io::{BufReader, Read};
+use gathering::{Fate, Gathered, Gathering, TiedError, TiedInput, hand_on};
+use std::cell::RefCell;
+use std::io::{BufReader, Read, Stdout};
 use std::process::ExitCode;
 use std::{env, fs, io};
 
@@ -24,16 +28,29 @@ fn order(rt: &HostRuntime) -> Result<Order, WordsFault> {
 /// How many bytes the system is asked for at once. It answers with what there is.
 const BUFFER: usize = 65_536;
 
+/// What waits to be written to standard output.
+type Waiting = RefCell<Gathering<Stdout>>;
+
+/// Tells why there is no order to be carried out.
+fn refuse(rt: &HostRuntime, fault: &WordsFault, gathering: &Waiting) -> Status {
+    let writer = rt.stderr();
+    let mut out = SystemOutput::new(Gathered { gathering });
+    let mut err = SystemOutput::new(TiedError { writer, gathering });
+    report(fault, &mut out, &mut err)
+}
+
 /// Carries out an order over the input that its file is.
-fn run<F: Read + Drop>(rt: &HostRuntime, order: &Order, file: F) -> Status {
-    let mut out = SystemOutput::new(rt.stdout());
-    let mut err = SystemOutput::new(rt.stderr());
+fn run<F: Read + Drop>(rt: &HostRuntime, order: &Order, reader: F, gathering: &Waiting) -> Status {
+    let file = TiedInput { reader, gathering };
     let Ok(file) = BufReader::with_capacity(rt.alloc(), BUFFER, file) else {
-        return report(&WordsFault::NoMemory, &mut out, &mut err);
+        return refuse(rt, &WordsFault::NoMemory, gathering);
     };
     let mut file = SystemInput::new(file);
     // No command that is there yet reads commands.
     let mut commands = MemoryInput::new(&[], 1, None);
+    let writer = rt.stderr();
+    let mut out = SystemOutput::new(Gathered { gathering });
+    let mut err = SystemOutput::new(TiedError { writer, gathering });
     bd_cli::run(
         rt.alloc(),
         order,
@@ -55,26 +72,37 @@ fn tell_unopened(rt: &HostRuntime, file: &str) -> Status {
     Status::Failed
 }
 
-fn status(rt: &HostRuntime) -> Status {
+/// Does what the process's words say.
+fn obey(rt: &HostRuntime, gathering: &Waiting) -> Status {
     let order = match order(rt) {
         Ok(order) => order,
-        Err(fault) => {
-            let mut out = SystemOutput::new(rt.stdout());
-            let mut err = SystemOutput::new(rt.stderr());
-            return report(&fault, &mut out, &mut err);
-        }
+        Err(fault) => return refuse(rt, &fault, gathering),
     };
     let (Order::Dump { file }
     | Order::Check { file }
     | Order::Pack { file }
     | Order::Find { file, .. }) = &order;
     if file.as_str() == "-" {
-        return run(rt, &order, rt.reader());
+        return run(rt, &order, rt.reader(), gathering);
     }
     match fs::open(rt, file) {
-        Ok(opened) => run(rt, &order, opened),
+        Ok(opened) => run(rt, &order, opened, gathering),
         Err(_) => tell_unopened(rt, file),
     }
+}
+
+/// Does what the process's words say, up to the last byte of standard output. A loss of which the run did not learn is told
+/// here; nothing else was told then.
+fn status(rt: &HostRuntime) -> Status {
+    let gathering = RefCell::new(Gathering::new(rt.alloc(), rt.stdout()));
+    let status = obey(rt, &gathering);
+    if hand_on(&gathering) == Fate::Lost {
+        let mut err = SystemOutput::new(rt.stderr());
+        // Where standard error fails too, the status tells it alone.
+        let _ = write_all(&mut err, b"bsonfind: cannot write\n");
+        return Status::Failed;
+    }
+    status
 }
 
 fn main(rt: HostRuntime) -> ExitCode {

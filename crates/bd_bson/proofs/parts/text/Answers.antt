@@ -1,5 +1,5 @@
 use Rattle.std.proofs.Common.{refl}
-use Rattle.std.proofs.lemmas.Str.{is_utf8-from_IsUtf8}
+use Rattle.std.proofs.lemmas.Str.{is_utf8-from_IsUtf8, IsUtf8-from_ascii}
 use Rattle.bd_bson.specs.FirstFault.{text_at}
 use Rattle.bd_bson.proofs.Tells.{told_fails}
 use Rattle.bd_bson.proofs.Texts.{is_no_text}
@@ -11,3 +11,9 @@ returns-in-Ok c = rw (is_utf8-from_IsUtf8 c.args.bytes.now c.in-Ok.ensures.cases
 pub returns-in-Err : goal.returns-in-Err
 returns-in-Err c =
     told_fails c.fault_at.result _ (text_at c.args.at c.args.bytes.now) c.fault_at.ensures (rw (is_no_text c.args.bytes.now c.in-Err.ensures.cases.0, c.valid_up_to.ensures, c.in-Err.ensures.valid_len) refl)
+
+pub from_utf8_unchecked-requires : goal.from_utf8_unchecked-requires
+from_utf8_unchecked-requires c = IsUtf8-from_ascii c.args.bytes.now c.if-is_ascii.ensures.cases
+
+pub returns-then-is_ascii : goal.returns-then-is_ascii
+returns-then-is_ascii c = rw (is_utf8-from_IsUtf8 c.args.bytes.now (IsUtf8-from_ascii c.args.bytes.now c.if-is_ascii.ensures.cases), c.from_utf8_unchecked.ensures) refl
