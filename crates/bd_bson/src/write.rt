@@ -1,6 +1,6 @@
 //! A document written as bytes.
 
-ghost use Rattle.std.specs.Prelude.{◌≡◌, ◌≤◌, ◌<◌, ◌↔◌, IfOk, OnOk, IsErrOf, true, false, length, Err};
+ghost use Rattle.std.specs.Prelude.{◌≡◌, ◌≤◌, ◌<◌, ◌↔◌, IfOk, IsErrOf, true, false, length, Err};
 ghost use Rattle.bd_value.specs.Depth.{depth as depth_in};
 ghost use Rattle.bd_value.specs.Tree.{doc, fields_of};
 ghost use Rattle.bd_value.specs.View.{pairs};
@@ -12,34 +12,6 @@ use crate::writing_values::append_value;
 use crate::zeros::holds_zero;
 use bd_value::{Document, Tree, depth};
 use std::alloc::Global;
-
-/// Puts the bytes of a document into a vector, in place of what it holds: BSON 1.1, `document`. The names of an array's
-/// elements are their places from 0.
-///
-/// # Errors
-/// Those of `write_document`. What `bytes` holds then is not said.
-pub fn write_document_into(document: &Document, bytes: &mut Vec<u8>) -> Result<(), WriteFault>
-    ensures written { OnOk result (Plainly (pairs document.now) bytes.new.items) }
-    ensures spelled { OnOk result (IsDocument (pairs document.now) bytes.new.items) }
-    ensures too_deep { IsErrOf result WriteFault.TooDeep ↔ (200 < depth_in (doc (fields_of (pairs document.now)))) }
-    ensures zero { IsErrOf result WriteFault.NulInName ↔ ((depth_in (doc (fields_of (pairs document.now))) ≤ 200)
-        × (zero_in (doc (fields_of (pairs document.now))) ≡ true)) }
-    ensures too_long { IsErrOf result WriteFault.TooLong → (depth_in (doc (fields_of (pairs document.now))) ≤ 200)
-        × (zero_in (doc (fields_of (pairs document.now))) ≡ false) × (16793600 < length (bytes_of (doc (fields_of (pairs document.now))))) }
-{
-    bytes.clear();
-    if depth(document) > 200 {
-        return Err(WriteFault::TooDeep);
-    }
-    if holds_zero(Tree::Doc(document)) {
-        return Err(WriteFault::NulInName);
-    }
-    append_value(Tree::Doc(document), bytes)?;
-    if bytes.len() > LONGEST {
-        return Err(WriteFault::TooLong);
-    }
-    Ok(())
-}
 
 /// The bytes of a document: BSON 1.1, `document`. The names of an array's elements are their places from 0.
 ///
@@ -58,7 +30,16 @@ pub fn write_document(alloc: Global, document: &Document) -> Result<Vec<u8>, Wri
     ensures too_long { IsErrOf result WriteFault.TooLong → (depth_in (doc (fields_of (pairs document.now))) ≤ 200)
         × (zero_in (doc (fields_of (pairs document.now))) ≡ false) × (16793600 < length (bytes_of (doc (fields_of (pairs document.now))))) }
 {
+    if depth(document) > 200 {
+        return Err(WriteFault::TooDeep);
+    }
+    if holds_zero(Tree::Doc(document)) {
+        return Err(WriteFault::NulInName);
+    }
     let mut bytes = Vec::new(alloc);
-    write_document_into(document, &mut bytes)?;
+    append_value(Tree::Doc(document), &mut bytes)?;
+    if bytes.len() > LONGEST {
+        return Err(WriteFault::TooLong);
+    }
     Ok(bytes)
 }

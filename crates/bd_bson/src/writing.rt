@@ -58,8 +58,12 @@ pub(crate) fn write_name(name: &str, out: &mut Vec<u8>) -> Result<(), NoMemory>
     Ok(())
 }
 
-/// `string`: the length with the zero at the end, the text, the zero.
-pub(crate) fn write_text(text: &str, out: &mut Vec<u8>) -> Result<(), WriteFault>
+/// Appends a `string` of BSON 1.1: the length with the zero at the end, the text, the zero.
+///
+/// # Errors
+/// `WriteFault::TooLong` where the text has more than 16,793,600 bytes; `WriteFault::NoMemory`.
+#[inline(always)]
+pub fn write_text(text: &str, out: &mut Vec<u8>) -> Result<(), WriteFault>
     ensures ok { OnOk result ((out.new.items ≡ out.old.items ++ string text.now) × (length text.now ≤ 16793600)) }
     ensures err { IfErr result (Overruns (length out.old.items + length (string text.now))) }
 {

@@ -14,9 +14,10 @@ use bd_value::{Kind, Reading};
 
 /// Puts the count of the bytes from a place on into the four bytes at that place.
 #[tactic(auto, unfolding(crate::specs::Spelling::number))]
-fn seal(at: usize, out: &mut Vec<u8>) -> Result<(), WriteFault>
+pub(crate) fn seal(at: usize, out: &mut Vec<u8>) -> Result<(), WriteFault>
     requires { at + 4 ≤ vec_len out.old }
     ensures ok { OnOk result (out.new.items ≡ take at out.old.items ++ (number (length out.old.items - at) ++ drop (at + 4) out.old.items)) }
+    ensures within { OnOk result (length out.new.items ≤ 16793600) }
     ensures err { IfErr result (Overruns (length out.old.items)) }
 {
     if out.len() > LONGEST {
@@ -28,8 +29,12 @@ fn seal(at: usize, out: &mut Vec<u8>) -> Result<(), WriteFault>
     Ok(())
 }
 
-/// Appends what stands before an element's value: its type and its name.
-fn append_label(kind: Kind, name: &str, out: &mut Vec<u8>) -> Result<(), WriteFault>
+/// Appends what stands before an element's value, its type and its name: BSON 1.1, `element`.
+///
+/// # Errors
+/// `WriteFault::TooLong` where there are more than 16,793,600 bytes before it; `WriteFault::NoMemory`.
+#[inline(always)]
+pub fn append_label(kind: Kind, name: &str, out: &mut Vec<u8>) -> Result<(), WriteFault>
     ensures ok { OnOk result ((out.new.items ≡ out.old.items ++ (byte_of kind ∷ (name.now ++ 0 ∷ []))) × (length out.old.items ≤ 16793600)) }
     ensures err { IfErr result (Overruns (length out.old.items)) }
 {
@@ -41,9 +46,12 @@ fn append_label(kind: Kind, name: &str, out: &mut Vec<u8>) -> Result<(), WriteFa
     Ok(())
 }
 
-/// Appends a value.
+/// Appends the bytes of a value. The names of an array's elements are their places from 0.
+///
+/// # Errors
+/// `WriteFault::TooLong` where there are more than 16,793,600 bytes, with what stands before it; `WriteFault::NoMemory`.
 #[cycle(writing)]
-pub(crate) fn append_value<N: Reading>(node: N, out: &mut Vec<u8>) -> Result<(), WriteFault>
+pub fn append_value<N: Reading>(node: N, out: &mut Vec<u8>) -> Result<(), WriteFault>
     requires { zero_in (N.tree node) ≡ false }
     ensures ok { OnOk result (out.new.items ≡ out.old.items ++ bytes_of (N.tree node)) }
     ensures spells { OnOk result (IsValue (N.tree node) (bytes_of (N.tree node))) }

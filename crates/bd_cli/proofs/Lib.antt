@@ -10,7 +10,6 @@ pub mod Judges
 pub mod Kept
 pub mod Placed
 pub mod Queries
-pub mod ReadsPlain
 pub mod Numbers
 pub mod Turns
 pub mod Finds

@@ -3,11 +3,12 @@ use Rattle.std.proofs.Common.{◌≡◌, ◌<◌, ℕ, suc, List, [], ◌∷◌,
 use Rattle.bd_value.specs.Tree.{Doc}
 use Rattle.bd_device.specs.declared.reading.ReadFault.{ReadFault}
 use Rattle.bd_extjson.specs.Reads.{Reads}
-use Rattle.bd_cli.specs.Packed.{lines_of, plain, packed_bytes, packed_status, shown_packed, IsBad, IsPackable, IsPacked, Packs, AreAlike, AreAlikeFaults}
+use Rattle.bd_pack.specs.Packable.{plain, IsBad, IsPackable}
+use Rattle.bd_cli.specs.Packed.{lines_of, packed_bytes, packed_status, shown_packed, IsPacked, Packs, AreAlike, AreAlikeFaults}
 use Rattle.bd_cli.specs.Shown.{Shown}
 use Rattle.bd_cli.specs.declared.packing.BadLine.{BadLine}
-use Rattle.bd_cli.specs.declared.packing.LineFault.{LineFault}
-use Rattle.bd_cli.specs.declared.packing.LineFault.TheVariants as faults
+use Rattle.bd_pack.specs.declared.line.LineFault.{LineFault}
+use Rattle.bd_pack.specs.declared.line.LineFault.TheVariants as faults
 use Rattle.bd_cli.proofs.Packs.{packs_some}
 
 -- a line is one document

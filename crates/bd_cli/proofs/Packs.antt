@@ -13,15 +13,16 @@ use Rattle.bd_value.specs.Tree.{Doc}
 use Rattle.bd_extjson.specs.Reads.{Reads, reading}
 use Rattle.bd_extjson.specs.declared.json_fault.JsonFault.{JsonFault}
 use Rattle.bd_extjson.specs.declared.json_fault.JsonFaultKind.TheVariants as kinds
-use Rattle.bd_cli.specs.Packed.{lines_of, is_blank, plain, packed_bytes, IsPackable, IsBad, Packs, IsPacked, packed_text, packed_status, shown_packed}
+use Rattle.bd_pack.specs.Packable.{plain, IsPackable, IsBad}
+use Rattle.bd_cli.specs.Packed.{lines_of, is_blank, packed_bytes, Packs, IsPacked, packed_text, packed_status, shown_packed}
 use Rattle.bd_cli.specs.Packing.{IsPacking, StopsPacking, lines_left, left_size}
 use Rattle.bd_cli.specs.Holding.{Holds, WroteSome}
 use Rattle.bd_cli.specs.Ran.{Wrote, Broke, Told, Ran}
 use Rattle.bd_cli.specs.Shown.{Shown, error_line}
 use Rattle.bd_cli.specs.declared.lines.Stopped.TheVariants.{NoMemory, Unwritten}
 use Rattle.bd_cli.specs.declared.packing.BadLine.{BadLine}
-use Rattle.bd_cli.specs.declared.packing.LineFault.{LineFault}
-use Rattle.bd_cli.specs.declared.packing.LineFault.TheVariants as faults
+use Rattle.bd_pack.specs.declared.line.LineFault.{LineFault}
+use Rattle.bd_pack.specs.declared.line.LineFault.TheVariants as faults
 use Rattle.bd_cli.specs.declared.packing.Packing.{Packing}
 use Rattle.bd_cli.specs.declared.status.Status.{Status}
 use Rattle.bd_cli.specs.declared.status.Status.TheVariants.{Failed}

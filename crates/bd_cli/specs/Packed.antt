@@ -1,17 +1,16 @@
 -- What `pack` shows of an input.
 use Rattle.std.specs.Prelude.{◌≡◌, ◌≢◌, ◌≤◌, ◌<◌, ◌⊎◌, ℕ, suc, List, [], ◌∷◌, ◌++◌, length, codes, decimal, Bool, ◌==◌, ◌||◌, IsTrue, IsFalse, Option, Some, None, Result, Ok, Err}
 use Rattle.std.specs.List.{list_all, slice_split}
-use Rattle.bd_value.specs.Tree.{Doc, doc, fields_of}
+use Rattle.bd_value.specs.Tree.{Doc}
 use Rattle.bd_device.specs.declared.reading.ReadFault.{ReadFault}
-use Rattle.bd_bson.specs.Written.{bytes_of}
-use Rattle.bd_extjson.specs.Reads.{Reads}
 use Rattle.bd_extjson.specs.JsonFault.{json_fault_words}
 use Rattle.bd_extjson.specs.declared.json_fault.JsonFaultKind.{JsonFaultKind}
 use Rattle.bd_extjson.specs.declared.json_fault.JsonFaultKind.TheVariants as kinds
+use Rattle.bd_pack.specs.Packable.{plain, IsPackable, IsBad}
+use Rattle.bd_pack.specs.declared.line.LineFault.{LineFault}
+use Rattle.bd_pack.specs.declared.line.LineFault.TheVariants as faults
 use Rattle.bd_cli.specs.Shown.{Shown, error_line, read_words, shown_refusal}
 use Rattle.bd_cli.specs.declared.packing.BadLine.{BadLine}
-use Rattle.bd_cli.specs.declared.packing.LineFault.{LineFault}
-use Rattle.bd_cli.specs.declared.packing.LineFault.TheVariants as faults
 use Rattle.bd_cli.specs.declared.status.Status.{Status}
 use Rattle.bd_cli.specs.declared.status.Status.TheVariants.{Done, Failed}
 
@@ -26,23 +25,10 @@ is_white b = (b == 32 || b == 9) || b == 13
 abbrev pub is_blank : List ℕ → Bool
 is_blank line = list_all is_white line
 
--- the bytes of a document, and of documents one behind the other
-abbrev pub plain : Doc → List ℕ
-plain d = bytes_of (doc (fields_of d))
-
+-- the bytes of documents one behind the other
 abbrev pub packed_bytes : List Doc → List ℕ
 packed_bytes [] = []
 packed_bytes (d ∷ ds) = plain d ++ packed_bytes ds
-
--- a line is the document, which is not too long
-abbrev pub IsPackable : List ℕ → Doc → Type 0
-IsPackable line d = Reads line d × (length (plain d) ≤ 16793600)
-
--- A line is no document, or it is one that is too long. Of a line that is none the kind and the place of the fault are taken
--- as given.
-abbrev pub IsBad : List ℕ → LineFault → Type 0
-IsBad line (faults.Unread f) = (f.kind ≢ kinds.NoMemory) × ((d : Doc) → Reads line d → ⊥)
-IsBad line faults.TooLong = (d : Doc) × Reads line d × (16793600 < length (plain d))
 
 -- Of lines, the first of which has that number, these are the documents before the first bad one, and this is that line.
 -- Lines of white space are passed over.

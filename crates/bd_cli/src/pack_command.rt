@@ -9,10 +9,11 @@ ghost use Rattle.bd_cli.specs.declared.status.Status.TheVariants.{Failed};
 use crate::limits::LIMITS;
 use crate::lines::Stopped;
 use crate::messages::{tell, tell_no_memory, tell_read_fault, tell_unwritten};
-use crate::packing::{BadLine, LineFault, Packing, write_lines};
+use crate::packing::{BadLine, Packing, write_lines};
 use crate::status::Status;
 use bd_bson::{Input, Output, read_all};
 use bd_extjson::{JsonFaultKind, write_number};
+use bd_pack::LineFault;
 use bd_value::NoMemory;
 use std::alloc::Global;
 

@@ -1,24 +1,13 @@
 //! The documents of a text of lines, as bytes.
 ghost use Rattle.std.specs.Prelude.{◌≡◌, ◌++◌, ◌∷◌, ◌≤◌, IfOk, IfErr, IfSome, None, Ok, length};
-ghost use Rattle.bd_value.specs.Tree.{Doc};
-ghost use Rattle.bd_cli.specs.Packed.{is_white, is_blank, plain, lines_of, IsPackable, IsBad};
+ghost use Rattle.bd_cli.specs.Packed.{is_white, is_blank, lines_of};
 ghost use Rattle.bd_cli.specs.Packing.{IsPacking, StopsPacking, bytes_behind, left_size, lines_left};
 
 use crate::lines::{Stopped, flush, flush_gathered};
-use bd_bson::{Output, WriteFault, write_document_into};
-use bd_extjson::{JsonFault, JsonFaultKind, Scratch, read_doc_with};
-use bd_value::NoMemory;
+use bd_bson::Output;
+use bd_pack::{LineFault, Packer};
 use memchr::memchr;
-use std::alloc::{AllocError, Global};
-
-/// Why a line is not packed.
-#[derive(Clone, Copy, Debug, Drop, PartialEq, Eq)]
-pub enum LineFault {
-    /// It is no document.
-    Unread(JsonFault),
-    /// Its document has more than 16,793,600 bytes.
-    TooLong,
-}
+use std::alloc::Global;
 
 /// A line that is not packed.
 #[derive(Clone, Copy, Debug, Drop, PartialEq, Eq)]
@@ -61,40 +50,6 @@ fn is_blank(line: &[u8]) -> bool
     line.iter().all(|b| is_white(*b))
 }
 
-/// Appends the bytes of the document that the line is, or tells why there are none. `scratch` and `spelled` are room that lines
-/// share.
-fn pack_line(
-    alloc: Global,
-    line: &[u8],
-    scratch: &mut Scratch,
-    spelled: &mut Vec<u8>,
-    pending: &mut Vec<u8>,
-) -> Result<Option<LineFault>, NoMemory>
-    ensures packed { result ≡ Ok None → (d : Doc) × IsPackable line.now d × (pending.new.items ≡ pending.old.items ++ plain d) }
-    ensures bad { IfOk result (λ o. IfSome o (λ f. IsBad line.now f × (pending.new ≡ pending.old))) }
-{
-    let document = match read_doc_with(alloc, line, scratch) {
-        Ok(document) => document,
-        Err(fault) => {
-            return match fault.kind {
-                JsonFaultKind::NoMemory => Err(AllocError),
-                _ => Ok(Some(LineFault::Unread(fault))),
-            };
-        }
-    };
-    match write_document_into(&document, spelled) {
-        Ok(()) => {
-            pending.extend_from_slice(spelled)?;
-            Ok(None)
-        }
-        Err(WriteFault::TooLong) => Ok(Some(LineFault::TooLong)),
-        Err(WriteFault::NoMemory) => Err(AllocError),
-        // No text is read as such a document.
-        Err(WriteFault::TooDeep) => unreachable!(),
-        Err(WriteFault::NulInName) => unreachable!(),
-    }
-}
-
 /// Writes the documents of the lines before the first bad one. Where memory runs out, what was written is a front of their
 /// bytes.
 pub fn write_lines<O: Output>(alloc: Global, text: &[u8], out: &mut O) -> Result<Packing, Stopped>
@@ -102,8 +57,7 @@ pub fn write_lines<O: Output>(alloc: Global, text: &[u8], out: &mut O) -> Result
     ensures packs { IfOk result (IsPacking text.now O.held O.failures out.old out.new) }
     ensures stops { IfErr result (StopsPacking text.now O.held O.failures out.old out.new) }
 {
-    let mut scratch = Scratch::new(alloc);
-    let mut spelled = Vec::new(alloc);
+    let mut packer = Packer::new(alloc);
     let mut pending = Vec::new(alloc);
     let mut number = 0;
     let mut count = 0;
@@ -115,7 +69,7 @@ pub fn write_lines<O: Output>(alloc: Global, text: &[u8], out: &mut O) -> Result
         if is_blank(line) {
             continue;
         }
-        if let Some(fault) = pack_line(alloc, line, &mut scratch, &mut spelled, &mut pending)? {
+        if let Some(fault) = packer.pack_line(line, &mut pending)? {
             flush(&mut pending, out)?;
             let bad = Some(BadLine { number, fault });
             return Ok(Packing { count, bad });

@@ -21,8 +21,8 @@ use bd_value::{Document, Value};
 use json::{Reader, Token};
 use std::alloc::Global;
 
-/// A bare whole number: an Int32 where it fits, else an Int64.
-fn bare(text: &str) -> Option<Value>
+/// A bare whole number: an Int32 where it fits, else an Int64. None where it is no whole number of 64 bits.
+pub fn bare(text: &str) -> Option<Value>
     ensures { option_map tree_of result ≡ bare_number (whole_64 text.now) }
 {
     let number = whole(text)?;
@@ -150,7 +150,8 @@ fn read_items(
     Ok(found)
 }
 
-fn wrapper_named(first: Option<&str>) -> Option<Wrapper>
+/// What an object stands for by its first name, where it has one. None stands for a document.
+pub fn wrapper_named(first: Option<&str>) -> Option<Wrapper>
     ensures { result ≡ option_and_then wrapper_of (option_map (λ s. s.now) first.entry) }
 {
     match first {
@@ -207,9 +208,13 @@ fn read_fields<'a>(
     Ok(read)
 }
 
-// What follows the first name of a wrapper.
+/// Reads what follows the first name of an object, which is that wrapper's: the value that the object stands for. At most
+/// `room` documents and arrays stand in one another in it, and `depth` brackets.
+///
+/// # Errors
+/// `Trouble::Refused` where it stands for none; `Trouble::Memory`.
 #[cycle(reading)]
-fn read_wrapper(
+pub fn read_wrapper(
     alloc: Global,
     reader: &mut Reader<'_>,
     wrapper: Wrapper,

@@ -6,7 +6,7 @@ use std::alloc::{AllocError, AllocFailed};
 
 /// Why a part of a text was not read.
 #[derive(Clone, Copy, Debug, Drop, PartialEq, Eq)]
-pub(crate) enum Trouble {
+pub enum Trouble {
     /// The allocator gave no memory.
     Memory,
     /// It is none.

@@ -109,7 +109,7 @@ pub(crate) fn pair<'v, 'a>(
 }
 
 /// Whether a text has a zero.
-pub(crate) fn has_zero(text: &str) -> bool
+pub fn has_zero(text: &str) -> bool
     ensures { result ≡ has_zero_in text.now }
 {
     text.as_bytes().contains(&0)

@@ -48,8 +48,8 @@ returns-in_err-flush_gathered-clause-stops g c =
     let none : c.pack_line.result ≡ Ok None = search rules in
     let d = c.pack_line.ensures.packed none in
     let t = packs.packed c.args.text.now g.O.Output.held g.O.Output.failures c.args.out.now l.out l.pending.items c.in-Some.rest.now c.cut_line.result.0.now (bytes_behind c.cut_line.result.1) l.number l.count s
-    c.cut_line.ensures.line c.cut_line.ensures.shorter (l.number + 1) (l.count + 1) c.pack_line.new.pending.items d.0 (omega arith) (omega arith) (sym c.is_blank.ensures ∙ c.if-is_blank.false) d.1 d.2 in
-    rw (p.1, p.2) (packs.breaks c.args.text.now g.O.Output.held g.O.Output.failures c.args.out.now l.out c.pack_line.new.pending.items (bytes_behind c.cut_line.result.1) (l.number + 1) (l.count + 1) t c.flush_gathered.new.out c.in_err-flush_gathered.ensures.err)
+    c.cut_line.ensures.line c.cut_line.ensures.shorter (l.number + 1) (l.count + 1) c.pack_line.new.out.items d.0 (omega arith) (omega arith) (sym c.is_blank.ensures ∙ c.if-is_blank.false) d.1 d.2 in
+    rw (p.1, p.2) (packs.breaks c.args.text.now g.O.Output.held g.O.Output.failures c.args.out.now l.out c.pack_line.new.out.items (bytes_behind c.cut_line.result.1) (l.number + 1) (l.count + 1) t c.flush_gathered.new.out c.in_err-flush_gathered.ensures.err)
 
 pub loop-left-preserved : goal.loop-left-preserved
 loop-left-preserved g c =
@@ -58,8 +58,8 @@ loop-left-preserved g c =
     let none : c.pack_line.result ≡ Ok None = search rules in
     let d = c.pack_line.ensures.packed none in
     let t = packs.packed c.args.text.now g.O.Output.held g.O.Output.failures c.args.out.now l.out l.pending.items c.in-Some.rest.now c.cut_line.result.0.now (bytes_behind c.cut_line.result.1) l.number l.count s
-    c.cut_line.ensures.line c.cut_line.ensures.shorter (l.number + 1) (l.count + 1) c.pack_line.new.pending.items d.0 (omega arith) (omega arith) (sym c.is_blank.ensures ∙ c.if-is_blank.false) d.1 d.2 in
-    packs.written c.args.text.now g.O.Output.held g.O.Output.failures c.args.out.now l.out c.pack_line.new.pending.items (bytes_behind c.cut_line.result.1) (l.number + 1) (l.count + 1) t
+    c.cut_line.ensures.line c.cut_line.ensures.shorter (l.number + 1) (l.count + 1) c.pack_line.new.out.items d.0 (omega arith) (omega arith) (sym c.is_blank.ensures ∙ c.if-is_blank.false) d.1 d.2 in
+    packs.written c.args.text.now g.O.Output.held g.O.Output.failures c.args.out.now l.out c.pack_line.new.out.items (bytes_behind c.cut_line.result.1) (l.number + 1) (l.count + 1) t
     c.flush_gathered.new.out c.flush_gathered.new.pending.items c.in_ok-flush_gathered.ensures.ok
 
 pub returns-in_err-flush-2-clause-stops : goal.returns-in_err-flush-2-clause-stops

@@ -2,6 +2,7 @@
 -- a zero.
 use Rattle.std.proofs.Common.{◌≡◌, ◌≤◌, ℕ, zero, suc, ◌-◌, ℤ, List, [], ◌∷◌, Bool, true, false, ◌||◌, cond, Option, Some, None, refl, sym, ap, ◌∙◌, arith}
 use Rattle.std.specs.Prelude.{codes, option_map, option_and_then, ◌==◌}
+use Rattle.json.specs.Token.{Token}
 use Rattle.json.specs.Json as json
 use Rattle.json.specs.Json.{Json}
 use Rattle.json.specs.Find.{as_str}
@@ -13,6 +14,7 @@ use Rattle.bd_bson.specs.Written.{has_zero as has_nul}
 use Rattle.bd_extjson.specs.Whole.{fits_bits, whole_64, whole_32}
 use Rattle.bd_extjson.specs.Wrappers.{wrapper_of, single, has_zero, name_in, both, both_in, pair, id_of, data_in, subtype_in, word_in, only, long_in, one, is_true, if_no_zero, if_true}
 use Rattle.bd_extjson.specs.Wrap.{wrap, wrap_items, wrap_object, wrap_fields, behind, behind_one, Behind, nothing, one_more, several, bare_number, nested, add_item, add_field, with_scope, two, wrapped, either}
+use Rattle.bd_extjson.specs.Progress.{through}
 use Rattle.bd_extjson.specs.Reads.{Reads, document}
 use Rattle.bd_extjson.specs.Reads as reads
 use Rattle.bd_extjson.specs.declared.wrapper.Wrapper.{Wrapper}
@@ -230,3 +232,20 @@ reads_plain text d = of_json (reads.json text)
     of_json : (o : Option Json) → option_map pairs_of (option_and_then document (option_and_then (wrap 200) o)) ≡ Some d → IsPlain d
     of_json None e = absurd cc
     of_json (Some j) e = of_tree (wrap 200 j) d (wrap_plain 200 j) e
+
+-- ---- parts
+
+of_some : (room : ℕ) (o : Option Tree) (t : Tree) → IsTree room o → o ≡ Some t → zero_in t ≡ false
+of_some room None t p e = absurd cc
+of_some room (Some u) t p e = let is : u ≡ t = cc in ap zero_in (sym is) ∙ p.1
+
+pub bare_plain : (z : Option ℤ) (t : Tree) → bare_number z ≡ Some t → zero_in t ≡ false
+bare_plain z t e = of_some 0 (bare_number z) t (number_plain 0 z) e
+
+kept : (o : Option Tree) (t : Tree) (ts rest : List Token) → option_map {U = Tree × List Token} (λ a. (a, ts)) o ≡ Some (t, rest) → o ≡ Some t
+kept None t ts rest e = absurd cc
+kept (Some u) t ts rest e = ap (λ (x : Option (Tree × List Token)). option_map (λ (p : Tree × List Token). p.0) x) e
+
+pub object_plain : (room : ℕ) (r : Option (json.Members × List Token)) (t : Tree) (rest : List Token) → through (wrap_object room) r ≡ Some (t, rest) → zero_in t ≡ false
+object_plain room None t rest e = absurd cc
+object_plain room (Some p) t rest e = of_some room (wrap_object room p.0) t (wrap_object_plain room p.0) (kept (wrap_object room p.0) t p.1 rest e)

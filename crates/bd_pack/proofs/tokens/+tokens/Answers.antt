@@ -1,0 +1,210 @@
+use Rattle.std.proofs.Common.{◌≡◌, ◌<◌, ◌≤◌, ◌-◌, ◌+◌, ◌++◌, ℕ, Some, None, List, [], ◌∷◌, length, map, option_map, refl, sym, ap, ap₂, ◌∙◌, rules, arith, append-nil, length-append}
+use Rattle.std.specs.Prelude.{decimal}
+use Rattle.std.proofs.lemmas.Result.{MatchResult-at_ok}
+use Rattle.json.specs.Json.{value, items, parse_map, after_end_array}
+use Rattle.json.specs.Reads.{token_of}
+use Rattle.json.proofs.Grammar.{items_end, read_key-shorter}
+use Rattle.bd_value.specs.Tree as trees
+use Rattle.bd_value.specs.Tree.{Tree, leaf, doc, array, item, field, fields_of, items_of}
+use Rattle.bd_value.specs.View.{tree_of}
+use Rattle.bd_bson.specs.Spelling.{number, element}
+use Rattle.bd_bson.specs.Types.{type_byte}
+use Rattle.bd_bson.specs.Written.{bytes_of, fields_bytes, items_bytes}
+use Rattle.bd_extjson.specs.Whole.{whole_64}
+use Rattle.bd_value.specs.declared.kind.Kind.TheVariants as kinds
+use Rattle.bd_extjson.specs.Wrap.{bare_number, wrap, wrap_items, wrap_object, wrap_fields}
+use Rattle.bd_extjson.specs.Progress.{through, after_key, Gives}
+use Rattle.bd_extjson.proofs.Turns as steps
+use Rattle.bd_extjson.proofs.Turns.{items_before, fields_before}
+use Rattle.bd_pack.proofs.Bodies as bodies
+use Rattle.bd_pack.proofs.ReadsPlain as plains
+use Rattle.bd_pack.proofs.tokens.+tokens.Goals as goal
+
+-- ---- append_fields
+
+pub append_fields-loop-next-init : goal.append_fields-loop-next-init
+append_fields-loop-next-init t c = (
+  length c.args.reader.now,
+  [],
+  omega arith,
+  bodies.no_fields_before _,
+  omega arith,
+  bodies.on_ok _ _ _ c.in_ok-at.ensures.value c.begin_body.ensures.begun ∙ sym (append-nil _),
+)
+
+pub append_fields-loop-next-preserved : goal.append_fields-loop-next-preserved
+append_fields-loop-next-preserved t c =
+    let l = c.loop-next in
+    let n = l.invariant.0 in
+    let ps = l.invariant.1 in
+    let k = c.in-Some.name.now in
+    let g = c.in_ok-append_next.ensures.gives in
+    let v = g.0 in
+    let r = c.append_next.new.reader in
+    let s = c.next_key.new.self in
+    let after = option_map (λ s. s.now) c.in_ok-next.next in
+    let named = ap (λ k. through (wrap_fields c.args.room) (after_key c.args.depth n (option_map (λ s. s.now) k) l.reader)) c.in-Some.is in
+    let turn = steps.field_goes_on k c.args.room c.args.depth n l.reader r v (sym c.if-has_zero.ensures) g.1 in
+    let key = MatchResult-at_ok _ _ c.in_ok-next.next (bodies.ok_is c.next_key.result c.in_ok-next.next c.in_ok-next.ensures.value) c.next_key.ensures.value in
+    let less = read_key-shorter r after s key in
+    let lesser = c.in_ok-append_next.ensures.shorter in
+    let within : length r ≤ n = omega (arith, l.invariant.2, lesser) in
+    let next = ap (through (wrap_fields c.args.room)) (steps.next_name c.args.depth n r s after within key) in
+    let one = element v k (bytes_of v) in (
+      n - 1,
+      ps ++ (k, v) ∷ [],
+      omega (arith, within, less),
+      l.invariant.3 ∙ ap (parse_map (fields_before ps)) (named ∙ turn ∙ ap (parse_map (field k v)) next) ∙ steps.one_more_field ps k v _,
+      omega (arith, l.invariant.4, less, lesser),
+      bodies.one_more c.args.out.now.items (fields_bytes (fields_of ps)) one l.out.items c.append_next.new.out.items l.invariant.5 g.2 ∙ ap (λ x. (c.args.out.now.items ++ number 0) ++ x) (sym (bodies.one_more_field ps k v)),
+    )
+
+pub append_fields-end_body-requires : goal.append_fields-end_body-requires
+append_fields-end_body-requires t c =
+    let l = c.loop-next in
+    let at = bodies.if_ok c.begin_body.result c.in_ok-at.at _ c.in_ok-at.ensures.value c.begin_body.ensures.place in
+    let size = bodies.body_size c.args.out.now.items (fields_bytes (fields_of l.invariant.1)) l.out.items c.in_ok-at.at at l.invariant.5 in
+    search rules
+
+pub append_fields-returns-clause-gives : goal.append_fields-returns-clause-gives
+append_fields-returns-clause-gives t c =
+    let l = c.loop-next in
+    let ps = l.invariant.1 in
+    let at = bodies.if_ok c.begin_body.result c.in_ok-at.at _ c.in_ok-at.ensures.value c.begin_body.ensures.place in
+    let named = ap (λ k. through (wrap_fields c.args.room) (after_key c.args.depth l.invariant.0 (option_map (λ s. s.now) k) l.reader)) c.in_default.is in
+    let read = l.invariant.3 ∙ ap (parse_map (fields_before ps)) named ∙ ap (λ x. Some (x, l.reader)) (steps.fields_before-none ps) in
+    bodies.some_ok c.ok-2.result c.end_body.result _ _ c.ok-2.ensures.value c.end_body.ensures.ok (λ e. (fields_of ps, read, e ∙ bodies.ended c.args.out.now.items (fields_bytes (fields_of ps)) l.out.items c.in_ok-at.at at l.invariant.5))
+
+-- ---- append_items
+
+pub append_items-loop-alloc-init : goal.append_items-loop-alloc-init
+append_items-loop-alloc-init t c = (
+  length c.args.reader.now,
+  [],
+  omega arith,
+  bodies.no_items_before _,
+  omega arith,
+  bodies.on_ok _ _ _ c.in_ok-at.ensures.value c.begin_body.ensures.begun ∙ sym (append-nil _),
+  refl,
+)
+
+pub append_items-loop-alloc-preserved : goal.append_items-loop-alloc-preserved
+append_items-loop-alloc-preserved t c =
+    let l = c.loop-alloc in
+    let n = l.invariant.0 in
+    let ts = l.invariant.1 in
+    let going : (after_end_array l.reader ≡ None) × (c.take_end_array.new.self ≡ l.reader) = grind arith in
+    let g = c.in_ok-append_next.ensures.gives in
+    let v = g.0 in
+    let r = c.append_next.new.reader in
+    let less : length r < length l.reader = rw (← going.1) c.in_ok-append_next.ensures.shorter in
+    let turn = steps.items_go_on c.args.room c.args.depth n l.reader r v (omega (arith, l.invariant.2, less)) going.0 (rw (← going.1) g.1) in
+    let name : c.format.result.now ≡ decimal (length ts) = c.format.ensures.text ∙ ap decimal l.invariant.6 in
+    let wrote = g.2 ∙ ap (λ k. l.out.items ++ element v k (bytes_of v)) name in
+    let place : c.in_ok-place.place ≡ l.place + 1 = search rules in (
+      n - 1,
+      ts ++ v ∷ [],
+      omega (arith, l.invariant.2, less),
+      l.invariant.3 ∙ ap (parse_map (items_before ts)) turn ∙ steps.one_more_item ts v _,
+      omega (arith, l.invariant.4, less),
+      bodies.one_more c.args.out.now.items (items_bytes 0 (items_of ts)) (element v (decimal (length ts)) (bytes_of v)) l.out.items c.append_next.new.out.items l.invariant.5 wrote
+          ∙ ap (λ x. (c.args.out.now.items ++ number 0) ++ x) (sym (bodies.one_more_item ts v)),
+      omega (arith, place, l.invariant.6, length-append ts (v ∷ [])),
+    )
+
+pub append_items-end_body-requires : goal.append_items-end_body-requires
+append_items-end_body-requires t c =
+    let l = c.loop-alloc in
+    let at = bodies.if_ok c.begin_body.result c.in_ok-at.at _ c.in_ok-at.ensures.value c.begin_body.ensures.place in
+    let size = bodies.body_size c.args.out.now.items (items_bytes 0 (items_of l.invariant.1)) l.out.items c.in_ok-at.at at l.invariant.5 in
+    search rules
+
+pub append_items-returns-clause-gives : goal.append_items-returns-clause-gives
+append_items-returns-clause-gives t c =
+    let l = c.loop-alloc in
+    let ts = l.invariant.1 in
+    let r = c.take_end_array.new.self in
+    let at = bodies.if_ok c.begin_body.result c.in_ok-at.at _ c.in_ok-at.ensures.value c.begin_body.ensures.place in
+    let read = l.invariant.3 ∙ ap (λ x. parse_map (items_before ts) (through (wrap_items c.args.room) x)) (items_end (value c.args.depth) l.invariant.0 l.reader r l.invariant.2 (grind arith)) ∙ ap (λ x. Some (x, r)) (steps.items_before-none ts) in
+    bodies.some_ok c.ok-2.result c.end_body.result _ _ c.ok-2.ensures.value c.end_body.ensures.ok (λ e. (items_of ts, read, e ∙ bodies.ended c.args.out.now.items (items_bytes 0 (items_of ts)) l.out.items c.in_ok-at.at at l.invariant.5))
+
+-- ---- append_next
+
+pub append_next-returns-in-String-clause-gives : goal.append_next-returns-in-String-clause-gives
+append_next-returns-in-String-clause-gives t c =
+    let first : c.args.reader.now ≡ token_of c.in_ok-text.field-0 ∷ c.next.new.self = grind arith in
+    let s = c.in-String.text.now in
+    let read = ap (through (wrap c.args.room)) (ap (value c.args.depth) (first ∙ ap (λ k. token_of k ∷ c.next.new.self) c.in-String.is)) ∙ steps.read_string c.args.room c.args.depth s c.next.new.self in
+    bodies.if_some c.append_text.result _ _ c.append_text.ensures (λ e. (leaf (trees.text s), read, e))
+
+pub append_next-returns-in_ok-bare-in-Number-clause-gives :
+    goal.append_next-returns-in_ok-bare-in-Number-clause-gives
+append_next-returns-in_ok-bare-in-Number-clause-gives t c =
+    let first : c.args.reader.now ≡ token_of c.in_ok-text.field-0 ∷ c.next.new.self = grind arith in
+    let s = c.in-Number.text.now in
+    let v = c.in_ok-bare-in-Number.field-0 in
+    let bare : bare_number (whole_64 s) ≡ Some (tree_of v) = sym c.in_ok-bare-in-Number.ensures in
+    let read = ap (through (wrap c.args.room)) (ap (value c.args.depth) (first ∙ ap (λ k. token_of k ∷ c.next.new.self) c.in-Number.is)) ∙ steps.read_number c.args.room c.args.depth s c.next.new.self
+    ∙ ap (option_map (λ (a : Tree). (a, c.next.new.self))) bare in
+    bodies.if_some c.append_read.result _ _ c.append_read.ensures (λ e. (tree_of v, read, e))
+
+pub append_next-returns-in-Bool-clause-gives : goal.append_next-returns-in-Bool-clause-gives
+append_next-returns-in-Bool-clause-gives t c =
+    let first : c.args.reader.now ≡ token_of c.in_ok-text.field-0 ∷ c.next.new.self = grind arith in
+    let b = c.in-Bool.b in
+    let read = ap (through (wrap c.args.room)) (ap (value c.args.depth) (first ∙ ap (λ k. token_of k ∷ c.next.new.self) c.in-Bool.is)) ∙ steps.read_boolean c.args.room c.args.depth b c.next.new.self in
+    bodies.if_some c.append_read-in-Bool.result _ _ c.append_read-in-Bool.ensures (λ e. (leaf (trees.boolean b), read, rw (bodies.bool_is b) at e))
+
+pub append_next-returns-in-Null-clause-gives : goal.append_next-returns-in-Null-clause-gives
+append_next-returns-in-Null-clause-gives t c =
+    let first : c.args.reader.now ≡ token_of c.in_ok-text.field-0 ∷ c.next.new.self = grind arith in
+    let read = ap (through (wrap c.args.room)) (ap (value c.args.depth) (first ∙ ap (λ k. token_of k ∷ c.next.new.self) c.in-Null.is)) ∙ steps.read_null c.args.room c.args.depth c.next.new.self in
+    bodies.if_some c.append_read-in-Null.result _ _ c.append_read-in-Null.ensures (λ e. (leaf trees.null, read, rw bodies.null_is at e))
+
+pub append_next-returns-in_ok-ok-in-BeginArray-clause-gives :
+    goal.append_next-returns-in_ok-ok-in-BeginArray-clause-gives
+append_next-returns-in_ok-ok-in-BeginArray-clause-gives t c =
+    let first : c.args.reader.now ≡ token_of c.in_ok-text.field-0 ∷ c.next.new.self = grind arith in
+    let opened = ap (through (wrap c.args.room)) (ap (value c.args.depth) (first ∙ ap (λ k. token_of k ∷ c.next.new.self) c.in-BeginArray.is)) ∙ steps.array_read c.args.room c.args.depth c.next.new.self (omega arith) (omega arith) in
+    let label = bodies.on_ok c.append_label.result _ _ c.in_ok-ok-in-BeginArray.ensures.value c.append_label.ensures.ok in
+    bodies.if_some c.append_items.result _ _ c.append_items.ensures.gives
+    (λ g. (array g.0, opened ∙ ap (parse_map array) g.1, g.2 ∙ ap (λ x. x ++ bytes_of (array g.0)) label.0 ∙ bodies.labelled c.args.out.now.items c.args.name.now (bytes_of (array g.0)) (type_byte kinds.Array)))
+
+pub append_next-returns-else-depth-eq0-2-clause-gives :
+    goal.append_next-returns-else-depth-eq0-2-clause-gives
+append_next-returns-else-depth-eq0-2-clause-gives t c =
+    let first : c.args.reader.now ≡ token_of c.in_ok-text.field-0 ∷ c.next.new.self = grind arith in
+    let opened = ap (through (wrap c.args.room)) (ap (value c.args.depth) (first ∙ ap (λ k. token_of k ∷ c.next.new.self) c.in-BeginObject.is)) ∙ steps.object_read c.args.room c.args.depth c.next.new.self (omega arith) in
+    bodies.if_some c.append_object.result _ _ c.append_object.ensures.gives (λ g. (g.0, opened ∙ g.1, g.2))
+
+-- ---- append_object
+
+pub append_object-append_read-requires : goal.append_object-append_read-requires
+append_object-append_read-requires t c =
+    let r = c.next_key.new.self in
+    let key = option_map (λ s. s.now) c.in_ok-first.first in
+    let v = c.in_ok-value.value in
+    let gives = steps.object_is_wrapper tree_of c.read_wrapper.result c.read_wrapper.new.reader c.in-Some.wrapper c.args.room c.args.depth (length r) r key (sym c.wrapper_named.ensures ∙ c.in-Some.is) (λ name is. c.read_wrapper.ensures.gives name is) in
+    plains.object_plain c.args.room (after_key c.args.depth (length r) key r) (tree_of v) c.read_wrapper.new.reader (bodies.gave tree_of c.read_wrapper.result v c.read_wrapper.new.reader _ c.in_ok-value.ensures.value gives)
+
+pub append_object-returns-in-Some-clause-gives : goal.append_object-returns-in-Some-clause-gives
+append_object-returns-in-Some-clause-gives t c =
+    let r = c.next_key.new.self in
+    let key = option_map (λ s. s.now) c.in_ok-first.first in
+    let v = c.in_ok-value.value in
+    let read = MatchResult-at_ok _ _ c.in_ok-first.first (bodies.ok_is c.next_key.result c.in_ok-first.first c.in_ok-first.ensures.value) c.next_key.ensures.value in
+    let start = ap (through (wrap_object c.args.room)) (steps.first_name c.args.depth c.args.reader.now r key read) in
+    let gives = steps.object_is_wrapper tree_of c.read_wrapper.result c.read_wrapper.new.reader c.in-Some.wrapper c.args.room c.args.depth (length r) r key (sym c.wrapper_named.ensures ∙ c.in-Some.is) (λ name is. c.read_wrapper.ensures.gives name is) in
+    let given = bodies.gave tree_of c.read_wrapper.result v c.read_wrapper.new.reader _ c.in_ok-value.ensures.value gives in
+    bodies.if_some c.append_read.result _ _ c.append_read.ensures (λ e. (tree_of v, start ∙ given, e))
+
+pub append_object-returns-clause-gives : goal.append_object-returns-clause-gives
+append_object-returns-clause-gives t c =
+    let r = c.next_key.new.self in
+    let key = option_map (λ s. s.now) c.in_ok-first.first in
+    let read = MatchResult-at_ok _ _ c.in_ok-first.first (bodies.ok_is c.next_key.result c.in_ok-first.first c.in_ok-first.ensures.value) c.next_key.ensures.value in
+    let start = ap (through (wrap_object c.args.room)) (steps.first_name c.args.depth c.args.reader.now r key read) in
+    let plain = steps.object_is_plain c.args.room c.args.depth (length r) r key (omega arith) (sym c.wrapper_named.ensures ∙ c.in_default.is) in
+    let label = bodies.on_ok c.append_label.result _ _ c.in_ok-ok.ensures.value c.append_label.ensures.ok in
+    bodies.if_some c.append_fields.result _ _ c.append_fields.ensures.gives
+    (λ g. (doc g.0, start ∙ plain ∙ ap (parse_map doc) g.1, g.2 ∙ ap (λ x. x ++ bytes_of (doc g.0)) label.0 ∙ bodies.labelled c.args.out.now.items c.args.name.now (bytes_of (doc g.0)) (type_byte kinds.Doc)))

@@ -1,0 +1,30 @@
+use Rattle.std.proofs.Common.{◌≡◌, ◌∷◌, [], Some, None, length, option_map, option_and_then, sym, ap, ◌∙◌, arith}
+use Rattle.std.proofs.lemmas.Result.{MatchResult-at_ok}
+use Rattle.json.specs.Json.{value, parse_map}
+use Rattle.json.specs.Reads.{token_of}
+use Rattle.bd_value.specs.Tree.{doc}
+use Rattle.bd_extjson.specs.Wrap.{wrap, wrap_object, wrap_fields}
+use Rattle.bd_extjson.specs.Wrappers.{wrapper_of}
+use Rattle.bd_extjson.specs.Progress.{through, after_key}
+use Rattle.bd_extjson.proofs.Turns as steps
+use Rattle.bd_extjson.proofs.WholeText.{whole_text}
+use Rattle.bd_pack.proofs.Bodies as bodies
+use Rattle.bd_pack.proofs.tokens.append_text_whole.Goals as goal
+
+pub returns-clause-gives : goal.returns-clause-gives
+returns-clause-gives c =
+    let ts = c.in_ok-reader.reader in
+    let s = c.next.new.self in
+    let r = c.next_key.new.self in
+    let rest = c.append_fields.new.reader in
+    let key = option_map (λ s. s.now) c.in_ok-first.first in
+    let g = c.in_ok-append_fields.ensures.gives in
+    let whole = bodies.if_ok c.new.result ts _ c.in_ok-reader.ensures.value c.new.ensures.ok in
+    let first : ts ≡ token_of c.in-Some-BeginObject.field-0 ∷ s = grind arith in
+    let opened = ap (through (wrap 200)) (ap (value 203) (first ∙ ap (λ k. token_of k ∷ s) c.in-Some-BeginObject.field-0-is)) ∙ steps.object_read 200 203 s (omega arith) in
+    let read = MatchResult-at_ok _ _ c.in_ok-first.first (bodies.ok_is c.next_key.result c.in_ok-first.first c.in_ok-first.ensures.value) c.next_key.ensures.value in
+    let start = ap (through (wrap_object 200)) (steps.first_name 202 s r key read) in
+    let none : option_and_then wrapper_of key ≡ None = sym c.wrapper_named.ensures ∙ bodies.not_some c.wrapper_named.result (sym c.is_some.ensures ∙ c.if-is_some.false) in
+    let plain = steps.object_is_plain 200 202 (length r) r key (omega arith) none in
+    let empty : rest ≡ [] = grind arith in
+    (g.0, whole_text c.args.text.now ts rest (doc g.0) c.utf8.text whole (opened ∙ start ∙ plain ∙ ap (parse_map doc) g.1) empty, g.2)

@@ -1,0 +1,22 @@
+-- Which lines are packed, and as what.
+use Rattle.std.specs.Prelude.{◌≡◌, ◌≢◌, ◌≤◌, ◌<◌, ℕ, List, length}
+use Rattle.bd_value.specs.Tree.{Doc, doc, fields_of}
+use Rattle.bd_bson.specs.Written.{bytes_of}
+use Rattle.bd_extjson.specs.Reads.{Reads}
+use Rattle.bd_extjson.specs.declared.json_fault.JsonFaultKind.TheVariants as kinds
+use Rattle.bd_pack.specs.declared.line.LineFault.{LineFault}
+use Rattle.bd_pack.specs.declared.line.LineFault.TheVariants as faults
+
+-- the bytes of a document
+abbrev pub plain : Doc → List ℕ
+plain d = bytes_of (doc (fields_of d))
+
+-- a line is the document, which is not too long
+abbrev pub IsPackable : List ℕ → Doc → Type 0
+IsPackable line d = Reads line d × (length (plain d) ≤ 16793600)
+
+-- A line is no document, or it is one that is too long. Of a line that is none the kind and the place of the fault are taken
+-- as given.
+abbrev pub IsBad : List ℕ → LineFault → Type 0
+IsBad line (faults.Unread f) = (f.kind ≢ kinds.NoMemory) × ((d : Doc) → Reads line d → ⊥)
+IsBad line faults.TooLong = (d : Doc) × Reads line d × (16793600 < length (plain d))

@@ -1,0 +1,190 @@
+//! The bytes of a document straight from the tokens of its text, without a tree. What is refused here is not told why.
+ghost use Rattle.std.specs.Prelude.{◌≡◌, ◌<◌, ◌≤◌, ◌++◌, length, Some, IfSome, option_map, option_and_then, false};
+ghost use Rattle.json.specs.Json.{value, items, members};
+ghost use Rattle.bd_value.specs.Tree as trees;
+ghost use Rattle.bd_value.specs.Tree.{Items, Fields, Doc, leaf, doc, array};
+ghost use Rattle.bd_value.specs.View.{tree_of};
+ghost use Rattle.bd_bson.specs.Spelling.{element, string};
+ghost use Rattle.bd_bson.specs.Written.{bytes_of, zero_in};
+ghost use Rattle.bd_extjson.specs.Reads.{json};
+ghost use Rattle.bd_extjson.specs.Wrap.{wrap, wrap_items, wrap_object, wrap_fields};
+ghost use Rattle.bd_extjson.specs.Progress.{through, after_key};
+ghost use Rattle.bd_pack.specs.Packable.{plain, IsPackable};
+
+use bd_bson::{append_label, append_value, begin_body, end_body, write_text};
+use bd_extjson::{BRACKETS, LEVELS, Scratch, bare, has_zero, read_wrapper, wrapper_named};
+use bd_value::{Kind, Tree, Value};
+use json::{Reader, Token};
+use std::alloc::Global;
+
+/// Appends an element of a value in memory.
+fn append_read(name: &str, value: Value, out: &mut Vec<u8>) -> Option<()>
+    requires { zero_in (tree_of value) ≡ false }
+    ensures { IfSome result (λ u. out.new.items ≡ out.old.items ++ element (tree_of value) name.now (bytes_of (tree_of value))) }
+{
+    append_label(value.kind(), name, out).ok()?;
+    append_value(Tree::Value(&value), out).ok()
+}
+
+/// Appends an element of a text.
+#[inline(always)]
+fn append_text(name: &str, text: &str, out: &mut Vec<u8>) -> Option<()>
+    ensures { IfSome result (λ u. out.new.items ≡ out.old.items ++ element (leaf (trees.text text.now)) name.now (string text.now)) }
+{
+    append_label(Kind::Text, name, out).ok()?;
+    write_text(text, out).ok()
+}
+
+/// Appends the element of that name of the value that comes next. At most `room` documents and arrays stand in one another in
+/// it, and `depth` brackets.
+#[cycle(tokens)]
+fn append_next(
+    alloc: Global,
+    reader: &mut Reader<'_>,
+    name: &str,
+    room: usize,
+    depth: usize,
+    out: &mut Vec<u8>,
+) -> Option<()>
+    ensures gives { IfSome result (λ u. (t : trees.Tree) × (through (wrap room) (value depth reader.old) ≡ Some (t, reader.new))
+        × (out.new.items ≡ out.old.items ++ element t name.now (bytes_of t))) }
+    ensures shorter { IfSome result (λ u. length reader.new < length reader.old) }
+{
+    match reader.next()? {
+        Token::String(text) => append_text(name, text, out),
+        Token::Number(text) => append_read(name, bare(text)?, out),
+        Token::Bool(b) => append_read(name, Value::Bool(b), out),
+        Token::Null => append_read(name, Value::Null, out),
+        Token::EndObject | Token::EndArray | Token::Key(_) | Token::Bad => None,
+        Token::BeginArray => {
+            if depth == 0 || room == 0 {
+                return None;
+            }
+            append_label(Kind::Array, name, out).ok()?;
+            append_items(alloc, reader, room - 1, depth - 1, out)
+        }
+        Token::BeginObject => {
+            if depth == 0 {
+                return None;
+            }
+            append_object(alloc, reader, name, room, depth - 1, out)
+        }
+    }
+}
+
+/// Appends the array whose bracket was read. The names of its elements are their places.
+#[cycle(tokens)]
+fn append_items(
+    alloc: Global,
+    reader: &mut Reader<'_>,
+    room: usize,
+    depth: usize,
+    out: &mut Vec<u8>,
+) -> Option<()>
+    ensures gives { IfSome result (λ u. (ts : Items) × (through (wrap_items room) (items (value depth) (length reader.old) reader.old) ≡ Some (ts, reader.new))
+        × (out.new.items ≡ out.old.items ++ bytes_of (array ts))) }
+    ensures shorter { IfSome result (λ u. length reader.new < length reader.old) }
+{
+    let at = begin_body(out).ok()?;
+    let mut place: u32 = 0;
+    while !reader.take_end_array() {
+        let mut digits = itoa::Buffer::new();
+        append_next(alloc, reader, digits.format(place), room, depth, out)?;
+        place = place.checked_add(1)?;
+    }
+    end_body(at, out).ok()
+}
+
+/// Appends the element of that name of the object whose brace was read.
+#[cycle(tokens)]
+fn append_object(
+    alloc: Global,
+    reader: &mut Reader<'_>,
+    name: &str,
+    room: usize,
+    depth: usize,
+    out: &mut Vec<u8>,
+) -> Option<()>
+    ensures gives { IfSome result (λ u. (t : trees.Tree) × (through (wrap_object room) (members (value depth) (length reader.old) reader.old) ≡ Some (t, reader.new))
+        × (out.new.items ≡ out.old.items ++ element t name.now (bytes_of t))) }
+    ensures shorter { IfSome result (λ u. length reader.new < length reader.old) }
+{
+    let first = reader.next_key().ok()?;
+    if let Some(wrapper) = wrapper_named(first) {
+        let value = read_wrapper(alloc, reader, wrapper, room, depth).ok()?;
+        return append_read(name, value, out);
+    }
+    if room == 0 {
+        return None;
+    }
+    append_label(Kind::Doc, name, out).ok()?;
+    append_fields(alloc, reader, first, room - 1, depth, out)
+}
+
+/// Appends the document whose brace and first name were read.
+#[cycle(tokens)]
+fn append_fields<'a>(
+    alloc: Global,
+    reader: &mut Reader<'a>,
+    first: Option<&'a str>,
+    room: usize,
+    depth: usize,
+    out: &mut Vec<u8>,
+) -> Option<()>
+    ensures gives { IfSome result (λ u. (fs : Fields) × (through (wrap_fields room) (after_key depth (length reader.old) (option_map (λ s. s.now) first.entry) reader.old) ≡ Some (fs, reader.new))
+        × (out.new.items ≡ out.old.items ++ bytes_of (doc fs))) }
+    ensures shorter { IfSome result (λ u. length reader.new ≤ length reader.old) }
+    ensures within { IfSome result (λ u. length out.new.items ≤ 16793600) }
+{
+    let at = begin_body(out).ok()?;
+    let mut next = first;
+    while let Some(name) = next {
+        if has_zero(name) {
+            return None;
+        }
+        append_next(alloc, reader, name, room, depth, out)?;
+        next = reader.next_key().ok()?;
+    }
+    end_body(at, out).ok()
+}
+
+/// Appends the document that all of the text is.
+fn append_text_whole(
+    alloc: Global,
+    text: &str,
+    scratch: &mut Scratch,
+    out: &mut Vec<u8>,
+) -> Option<()>
+    ensures gives { IfSome result (λ u. (fs : Fields) × (option_and_then (wrap 200) (json text.now) ≡ Some (doc fs))
+        × (out.new.items ≡ out.old.items ++ bytes_of (doc fs))) }
+    ensures within { IfSome result (λ u. length out.new.items ≤ 16793600) }
+{
+    let mut reader = Reader::new(text, scratch).ok()?;
+    let Some(Token::BeginObject) = reader.next() else {
+        return None;
+    };
+    let first = reader.next_key().ok()?;
+    if wrapper_named(first).is_some() {
+        return None;
+    }
+    append_fields(alloc, &mut reader, first, LEVELS - 1, BRACKETS - 1, out)?;
+    if reader.next().is_some() {
+        return None;
+    }
+    Some(())
+}
+
+/// Puts the bytes of the document that the line is into `out`, in place of what it holds. None where there are none, and also
+/// where no memory is left.
+pub(crate) fn spell_line(
+    alloc: Global,
+    line: &[u8],
+    scratch: &mut Scratch,
+    out: &mut Vec<u8>,
+) -> Option<()>
+    ensures { IfSome result (λ u. (d : Doc) × IsPackable line.now d × (out.new.items ≡ plain d)) }
+{
+    out.clear();
+    let text = simdutf8::compat::from_utf8(line).ok()?;
+    append_text_whole(alloc, text, scratch, out)
+}
