@@ -8,11 +8,11 @@ use Rattle.std.proofs.lemmas.List.Elements.{All-head, All-tail}
 use Rattle.std.proofs.lemmas.Slice.Eq.{bytes_eq-Decides}
 use Rattle.bd_value.specs.Depth.{depth, fields_depth, items_depth}
 use Rattle.bd_value.specs.Tree.{Tree, leaf, doc, array, code_scope, Items, no_items, item, Fields, no_fields, field}
+use Rattle.bd_value.specs.Zeros.{has_zero, zero_in, zero_in_items, zero_in_fields}
 use Rattle.bd_extjson.specs.declared.wrapper.Wrapper.{Wrapper}
 use Rattle.bd_extjson.specs.Plain.{wrapper_names, IsPlainFirst, IsPlain, ArePlainItems, ArePlainFields, Fits, ItemsFit, FieldsFit}
-use Rattle.bd_extjson.specs.Readable.{zero_in, zero_in_items, zero_in_fields}
 use Rattle.bd_extjson.specs.Wrap.{add_item, add_field, with_scope, wrap, wrap_items, wrap_object, wrap_fields}
-use Rattle.bd_extjson.specs.Wrappers.{wrappers, named_in, wrapper_of, has_zero}
+use Rattle.bd_extjson.specs.Wrappers.{wrappers, named_in, wrapper_of}
 use Rattle.bd_extjson.proofs.Printed.{kit_json, kit_items, kit_members}
 use Rattle.bd_extjson.proofs.ScalarsBack.{scalar_back}
 use Rattle.bd_extjson.proofs.TreeJson.{json, elements_json, members_json}

@@ -3,7 +3,8 @@ ghost use Rattle.std.specs.Prelude.{◌≡◌, option_map};
 ghost use Rattle.json.specs.Value.{value_view, members_view};
 ghost use Rattle.json.specs.Find.{as_object};
 ghost use Rattle.hex.specs.Hex.{hex_digit_value};
-ghost use Rattle.bd_extjson.specs.Wrappers.{only_member, only as only_in, either_way as either_way_in, pair_members, pair as pair_in, id_of as id_in, number_in, word_in, digits_in, subtype_in, has_zero as has_zero_in, name_in};
+ghost use Rattle.bd_value.specs.Zeros.{has_zero as has_zero_in};
+ghost use Rattle.bd_extjson.specs.Wrappers.{only_member, only as only_in, either_way as either_way_in, pair_members, pair as pair_in, id_of as id_in, number_in, word_in, digits_in, subtype_in, name_in};
 
 use crate::whole_number::whole;
 use hex::FromHex;
