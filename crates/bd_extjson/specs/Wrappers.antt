@@ -14,6 +14,7 @@ use Rattle.bd_extjson.specs.Whole.{whole_32, whole_64}
 use Rattle.bd_extjson.specs.declared.wrapper.Wrapper.{Wrapper}
 use Rattle.bd_extjson.specs.declared.wrapper.Wrapper.TheVariants as kinds
 
+-- the first names, in canonical, relaxed and earlier texts
 abbrev pub wrappers : List (List ℕ × Wrapper)
 wrappers =
     (codes "$numberInt", kinds.NumberInt) ∷ (codes "$numberLong", kinds.NumberLong) ∷ (codes "$numberDouble", kinds.NumberDouble) ∷ (codes "$numberDecimal", kinds.NumberDecimal)
