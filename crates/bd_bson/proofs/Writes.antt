@@ -9,9 +9,10 @@ use Rattle.std.specs.List.{AllByRecursion}
 use Rattle.bd_value.specs.Tree.{Tree, leaf, doc, array, code_scope, Fields, Doc, fields_of, items_of}
 use Rattle.bd_value.specs.Parts.{scope_of, values_of}
 use Rattle.bd_value.specs.Seen.{Own, own_of, own_code}
+use Rattle.bd_value.specs.Zeros.{has_zero, zero_in, zero_in_fields, zero_in_items, zero_in_parts}
 use Rattle.bd_bson.specs.Scalars.{number_length}
 use Rattle.bd_bson.specs.Spelling.{number, string, framed, scoped, IsName}
-use Rattle.bd_bson.specs.Written.{has_zero, zero_in, zero_in_fields, zero_in_items, zero_in_parts, Overruns}
+use Rattle.bd_bson.specs.Written.{Overruns}
 use Rattle.bd_bson.specs.declared.writing.WriteFault.{WriteFault}
 use Rattle.bd_bson.specs.declared.writing.WriteFault.TheVariants as faults
 

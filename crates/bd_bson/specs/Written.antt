@@ -1,10 +1,11 @@
 -- The spelling that is written: the names of an array's elements are their places from 0.
-use Rattle.std.specs.Prelude.{◌≡◌, ◌≤◌, ◌<◌, ℕ, suc, List, [], ◌∷◌, ◌++◌, length, decimal, Bool, false, ◌&&◌, ◌||◌, ◌==◌, if◌then◌else◌}
+use Rattle.std.specs.Prelude.{◌≡◌, ◌≤◌, ◌<◌, ℕ, suc, List, [], ◌∷◌, ◌++◌, length, decimal, false, if◌then◌else◌}
 use Rattle.std.specs.Int.{w32, w64, cast_unsigned}
 use Rattle.bd_value.specs.Tree as trees
 use Rattle.bd_value.specs.Tree.{Scalar, Tree, leaf, doc, array, code_scope, Items, no_items, item, Fields, no_fields, field, Doc, fields_of}
 use Rattle.bd_value.specs.Depth.{depth}
 use Rattle.bd_value.specs.Seen.{Own, own, own_code}
+use Rattle.bd_value.specs.Zeros.{zero_in}
 use Rattle.bd_bson.specs.declared.writing.WriteFault.{WriteFault}
 use Rattle.bd_bson.specs.declared.writing.WriteFault.TheVariants as faults
 use Rattle.bd_bson.specs.Spelling.{number, long, string, framed, data_of, scoped, element, IsText, IsScalar}
@@ -43,57 +44,10 @@ abbrev mutual
   items_bytes place no_items = []
   items_bytes place (item t ts) = element t (decimal place) (bytes_of t) ++ items_bytes (suc place) ts
 
-abbrev pub has_zero : List ℕ → Bool
-has_zero [] = false
-has_zero (b ∷ bs) = (b == 0) || has_zero bs
-
-abbrev pub zero_in_scalar : Scalar → Bool
-zero_in_scalar trees.min_key = false
-zero_in_scalar trees.undefined = false
-zero_in_scalar trees.null = false
-zero_in_scalar trees.max_key = false
-zero_in_scalar (trees.int32 z) = false
-zero_in_scalar (trees.int64 z) = false
-zero_in_scalar (trees.date z) = false
-zero_in_scalar (trees.timestamp seconds increment) = false
-zero_in_scalar (trees.boolean b) = false
-zero_in_scalar (trees.object_id id) = false
-zero_in_scalar (trees.text s) = false
-zero_in_scalar (trees.symbol s) = false
-zero_in_scalar (trees.code s) = false
-zero_in_scalar (trees.db_pointer s id) = false
-zero_in_scalar (trees.regex pattern options) = has_zero pattern || has_zero options
-zero_in_scalar (trees.binary subtype payload) = false
-
--- whether a name or a text of a regular expression has a zero, which would end it
-abbrev mutual
-  pub zero_in : Tree → Bool
-  zero_in (leaf s) = zero_in_scalar s
-  zero_in (doc fs) = zero_in_fields fs
-  zero_in (array ts) = zero_in_items ts
-  zero_in (code_scope s fs) = zero_in_fields fs
-
-  pub zero_in_fields : Fields → Bool
-  zero_in_fields no_fields = false
-  zero_in_fields (field name t fs) = has_zero name || (zero_in t || zero_in_fields fs)
-
-  pub zero_in_items : Items → Bool
-  zero_in_items no_items = false
-  zero_in_items (item t ts) = zero_in t || zero_in_items ts
-
--- the same of pairs, or of elements, whose names are passed over
-abbrev pub zero_in_parts : Bool → Doc → Bool
-zero_in_parts named [] = false
-zero_in_parts named (p ∷ ps) = (named && has_zero p.0) || (zero_in p.1 || zero_in_parts named ps)
-
 -- what holds no other values: a scalar, or the code of code with scope
 abbrev pub own_bytes : Own → List ℕ
 own_bytes (own s) = scalar_bytes s
 own_bytes (own_code s) = string s
-
-abbrev pub zero_in_own : Own → Bool
-zero_in_own (own s) = zero_in_scalar s
-zero_in_own (own_code s) = false
 
 abbrev pub OwnSpells : Own → Type 0
 OwnSpells (own s) = IsScalar s (scalar_bytes s)

@@ -4,8 +4,9 @@ ghost use Rattle.std.specs.Prelude.{◌≡◌, ◌≤◌, ◌<◌, ◌↔◌, If
 ghost use Rattle.bd_value.specs.Depth.{depth as depth_in};
 ghost use Rattle.bd_value.specs.Tree.{doc, fields_of};
 ghost use Rattle.bd_value.specs.View.{pairs};
+ghost use Rattle.bd_value.specs.Zeros.{zero_in};
 ghost use Rattle.bd_bson.specs.Spelling.{IsDocument};
-ghost use Rattle.bd_bson.specs.Written.{Plainly, bytes_of, zero_in};
+ghost use Rattle.bd_bson.specs.Written.{Plainly, bytes_of};
 
 use crate::writing::{LONGEST, WriteFault};
 use crate::writing_values::append_value;

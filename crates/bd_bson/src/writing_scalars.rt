@@ -2,8 +2,9 @@
 
 ghost use Rattle.std.specs.Prelude.{◌≡◌, ◌≤◌, ◌+◌, ◌++◌, IfErr, OnOk, false, length};
 ghost use Rattle.bd_value.specs.Seen.{seen};
+ghost use Rattle.bd_value.specs.Zeros.{zero_in_own};
 ghost use Rattle.bd_bson.specs.Spelling.{string};
-ghost use Rattle.bd_bson.specs.Written.{own_bytes, zero_in_own, OwnSpells, Overruns};
+ghost use Rattle.bd_bson.specs.Written.{own_bytes, OwnSpells, Overruns};
 
 use crate::writing::{WriteFault, write_binary, write_long, write_number, write_regex, write_text};
 use bd_value::Scalar;

@@ -3,9 +3,10 @@
 ghost use Rattle.std.specs.Prelude.{◌≡◌, ◌≤◌, ◌+◌, ◌-◌, ◌++◌, ◌∷◌, [], take, drop, vec_len, decimal, IfErr, OnOk, false, length};
 ghost use Rattle.bd_value.specs.Tree.{fields_of, items_of};
 ghost use Rattle.bd_value.specs.Parts.{values_of, HoldsNoParts};
+ghost use Rattle.bd_value.specs.Zeros.{has_zero, zero_in, zero_in_fields, zero_in_items};
 ghost use Rattle.bd_bson.specs.Types.{type_byte as byte_of};
 ghost use Rattle.bd_bson.specs.Spelling.{number, framed, element, IsName, IsValue, AreFields, AreItems};
-ghost use Rattle.bd_bson.specs.Written.{bytes_of, fields_bytes, items_bytes, has_zero, zero_in, zero_in_fields, zero_in_items, Overruns};
+ghost use Rattle.bd_bson.specs.Written.{bytes_of, fields_bytes, items_bytes, Overruns};
 
 use crate::element::type_byte;
 use crate::writing::{LONGEST, WriteFault, write_name, write_number};

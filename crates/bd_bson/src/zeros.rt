@@ -4,23 +4,16 @@ ghost use Rattle.std.specs.Prelude.{◌≡◌, List, ℕ};
 ghost use Rattle.bd_value.specs.Parts.{HoldsNoParts};
 ghost use Rattle.bd_value.specs.Tree.{fields_of};
 ghost use Rattle.bd_value.specs.Seen.{seen};
-ghost use Rattle.bd_bson.specs.Written.{has_zero, zero_in, zero_in_own, zero_in_parts};
+ghost use Rattle.bd_value.specs.Zeros.{zero_in, zero_in_own, zero_in_parts};
 
-use bd_value::{Kind, Reading, Scalar};
-
-/// Whether a text has a zero.
-fn zero_in_text(text: &str) -> bool
-    ensures { result ≡ has_zero text.now }
-{
-    text.as_bytes().contains(&0)
-}
+use bd_value::{Kind, Reading, Scalar, has_zero};
 
 /// Whether what a value holds besides other values has a zero in a text that a zero ends.
 fn zero_in_scalar(scalar: Scalar<'_>) -> bool
     ensures { result ≡ zero_in_own (seen scalar.entry) }
 {
     match scalar {
-        Scalar::Regex { pattern, options } => zero_in_text(pattern) || zero_in_text(options),
+        Scalar::Regex { pattern, options } => has_zero(pattern) || has_zero(options),
         _ => false,
     }
 }
@@ -59,7 +52,7 @@ fn zero_in_some<N: Reading>(parts: N::Rest, named: bool) -> bool
 {
     let mut rest = parts;
     while let Some(next) = N::next(&rest) {
-        if named && zero_in_text(next.0) {
+        if named && has_zero(next.0) {
             return true;
         }
         if holds_zero(next.1) {

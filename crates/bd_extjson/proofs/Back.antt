@@ -1,17 +1,13 @@
 -- From the JSON value of a tree back to the tree: a means of the proof that the text determines it.
 use Rattle.std.proofs.Common.{◌≡◌, ℕ, ◌<◌, ◌^◌, ℤ, pos, negsuc, zero, suc, Bool, true, false, List, [], ◌∷◌, Option, Some, None, get_or, arith, refl, ap, ap₂, ◌∙◌}
-use Rattle.std.specs.Prelude.{◌≢◌, ◌==◌, if◌then◌else◌, codes, decimal, map}
+use Rattle.std.specs.Prelude.{◌==◌, if◌then◌else◌, decimal, option_map}
 use Rattle.std.specs.Fmt.{signed_decimal}
 use Rattle.std.specs.Int.Signed.{mag}
-use Rattle.std.specs.List.{All}
 use Rattle.std.specs.Result.{result_unwrap_or}
-use Rattle.std.specs.Str.{bytes_eq}
 use Rattle.std.specs.Str.Parse.{digits_value, IsNumeral}
 use Rattle.std.proofs.lemmas.Fmt.{decimal_is_IsNumeral}
-use Rattle.std.proofs.lemmas.List.Elements.{All-head, All-tail}
 use Rattle.std.proofs.lemmas.Grind.{common_steps}
 use Rattle.std.proofs.lemmas.Str.Parse.{digit_from_value}
-use Rattle.std.proofs.lemmas.Slice.Eq.{bytes_eq-Decides}
 use Rattle.base64.specs.Engines.{standard}
 use Rattle.base64.specs.GeneralPurpose.{decode_of as from_base64_of}
 use Rattle.base64.proofs.EngineFacts.{decode_of-encode_of}
@@ -21,6 +17,9 @@ use Rattle.bd_value.specs.Tree.{Scalar, min_key, undefined, null, int32, int64, 
 use Rattle.bd_value.specs.Tree.{Tree, leaf, doc, array as array_tree, code_scope, Items, no_items, item, Fields, no_fields, field}
 use Rattle.bd_extjson.specs.Text.{base64_text, hex_text}
 use Rattle.bd_extjson.specs.Plain.{IsPlainFirst, IsPlain, ArePlainItems, ArePlainFields, ScalarFits, Fits, ItemsFit, FieldsFit}
+use Rattle.bd_extjson.specs.Wrappers.{wrapper_of}
+use Rattle.bd_extjson.specs.declared.wrapper.Wrapper.{Wrapper}
+use Rattle.bd_extjson.specs.declared.wrapper.Wrapper.TheVariants as kinds
 use Rattle.bd_extjson.proofs.Escapes.{fits_32, fits_64}
 use Rattle.bd_extjson.proofs.Json as js
 use Rattle.bd_extjson.proofs.Json.{Json, string, number, word, array, object, nothing, yes, no, Elements, no_elements, element, Members, no_members, member}
@@ -85,34 +84,22 @@ second_in x = word nothing
 abbrev byte_in : List ℕ → ℕ
 byte_in bytes = get_or bytes 0 0
 
-abbrev Reader : Type 0
-Reader = List ℕ × (Json → Scalar)
-
--- in the order of the names that a plain document has not, with those that no wrapper here has
-abbrev readers : List Reader
-readers =
-    (codes "$numberInt", λ x. int32 (signed_of (string_in x)))
-    ∷ (codes "$numberLong", λ x. int64 (signed_of (string_in x)))
-    ∷ (codes "$numberDouble", λ x. null)
-    ∷ (codes "$numberDecimal", λ x. null)
-    ∷ (codes "$oid", λ x. object_id (from_hex (string_in x)))
-    ∷ (codes "$symbol", λ x. symbol (string_in x))
-    ∷ (codes "$binary", λ x. binary (byte_in (from_hex (string_in (second_in x)))) (from_base64 (string_in (first_in x))))
-    ∷ (codes "$uuid", λ x. null)
-    ∷ (codes "$code", λ x. code (string_in x))
-    ∷ (codes "$scope", λ x. null)
-    ∷ (codes "$timestamp", λ x. timestamp (value_in (first_in x)) (value_in (second_in x)))
-    ∷ (codes "$regularExpression", λ x. regex (string_in (first_in x)) (string_in (second_in x)))
-    ∷ (codes "$dbPointer", λ x. db_pointer (string_in (first_in x)) (from_hex (string_in (first_in (second_in x)))))
-    ∷ (codes "$date", λ x. date (signed_of (string_in (first_in x))))
-    ∷ (codes "$minKey", λ x. min_key)
-    ∷ (codes "$maxKey", λ x. max_key)
-    ∷ (codes "$undefined", λ x. undefined)
-    ∷ []
-
-abbrev read_by : List ℕ → Json → List Reader → Option Scalar
-read_by name x [] = None
-read_by name x (r ∷ rs) = if bytes_eq name r.0 then Some (r.1 x) else read_by name x rs
+-- null where a canonical text has no such wrapper alone
+abbrev scalar_in : Wrapper → Json → Scalar
+scalar_in kinds.NumberInt x = int32 (signed_of (string_in x))
+scalar_in kinds.NumberLong x = int64 (signed_of (string_in x))
+scalar_in kinds.Oid x = object_id (from_hex (string_in x))
+scalar_in kinds.Symbol x = symbol (string_in x)
+scalar_in kinds.Binary x = binary (byte_in (from_hex (string_in (second_in x)))) (from_base64 (string_in (first_in x)))
+scalar_in kinds.Code x = code (string_in x)
+scalar_in kinds.Timestamp x = timestamp (value_in (first_in x)) (value_in (second_in x))
+scalar_in kinds.RegularExpression x = regex (string_in (first_in x)) (string_in (second_in x))
+scalar_in kinds.DbPointer x = db_pointer (string_in (first_in x)) (from_hex (string_in (first_in (second_in x))))
+scalar_in kinds.Date x = date (signed_of (string_in (first_in x)))
+scalar_in kinds.MinKey x = min_key
+scalar_in kinds.MaxKey x = max_key
+scalar_in kinds.Undefined x = undefined
+scalar_in w x = null
 
 -- ---- a tree
 
@@ -139,7 +126,7 @@ settled (Some s) fs = with_scope s (scope_in fs)
 
 abbrev back_object : Members → Fields → Tree
 back_object no_members fs = doc fs
-back_object (member n x ms) fs = settled (read_by n x readers) fs
+back_object (member n x ms) fs = settled (option_map (λ w. scalar_in w x) (wrapper_of n)) fs
 
 abbrev back_word : js.Word → Tree
 back_word nothing = leaf null
@@ -169,6 +156,7 @@ back-word_of true = refl
 back-word_of false = refl
 
 back-scalar_json : (s : Scalar) → ScalarFits s → back (scalar_json s) ≡ leaf s
+unfolding wrapper_of
 back-scalar_json min_key fits = refl
 back-scalar_json undefined fits = refl
 back-scalar_json null fits = refl
@@ -188,25 +176,21 @@ back-scalar_json (db_pointer s id) fits = ap (λ (l : List ℕ). leaf (db_pointe
 back-scalar_json (code s) fits = refl
 back-scalar_json max_key fits = refl
 
-read_by-none : (n : List ℕ) (x : Json) (rs : List Reader) → All (λ name. n ≢ name) (map (λ (r : Reader). r.0) rs) → read_by n x rs ≡ None
-read_by-none n x [] plain = refl
-read_by-none n x (r ∷ rs) plain = one (bytes_eq n r.0) refl (read_by-none n x rs (All-tail (λ name. n ≢ name) r.0 (map (λ (q : Reader). q.0) rs) plain))
-  where
-    one : (v : Bool) → bytes_eq n r.0 ≡ v → read_by n x rs ≡ None → read_by n x (r ∷ rs) ≡ None
-    one true e more = absurd (All-head (λ name. n ≢ name) r.0 (map (λ (q : Reader). q.0) rs) plain ((bytes_eq-Decides n r.0).0 e))
-    one false e more = rw e more
-
 -- a document whose first name is no wrapper's comes back as one, where its fields do
 plain_object : (fs : Fields) → IsPlainFirst fs → back_members (members_json fs) ≡ fs → back (object (members_json fs)) ≡ doc fs
 plain_object no_fields plain same = refl
-plain_object (field n t fs) plain same = rw (read_by-none n (json t) readers plain) (ap doc same)
+plain_object (field n t fs) plain same = rw plain (ap doc same)
+
+scope_back : (s : List ℕ) (fs : Fields) → back (object (members_json fs)) ≡ doc fs → back (json (code_scope s fs)) ≡ code_scope s fs
+unfolding wrapper_of
+scope_back s fs same = ap (λ (t : Tree). code_scope s (fields_in t)) same
 
 mutual
   pub back-json : (t : Tree) → Fits t → IsPlain t → back (json t) ≡ t
   back-json (leaf s) fits plain = back-scalar_json s fits
   back-json (doc fs) fits plain = plain_object fs plain.0 (back-members fs fits plain.1)
   back-json (array_tree ts) fits plain = ap array_tree (back-elements ts fits plain)
-  back-json (code_scope s fs) fits plain = ap (λ (t : Tree). code_scope s (fields_in t)) (plain_object fs plain.0 (back-members fs fits plain.1))
+  back-json (code_scope s fs) fits plain = scope_back s fs (plain_object fs plain.0 (back-members fs fits plain.1))
 
   back-elements : (ts : Items) → ItemsFit ts → ArePlainItems ts → back_elements (elements_json ts) ≡ ts
   back-elements no_items fits plain = refl

@@ -9,8 +9,9 @@ use Rattle.json.proofs.Printed.Tokens.{tokens-print}
 use Rattle.json.proofs.Printed.Trees.{value-json_tokens, ArePrintable-json_tokens}
 use Rattle.bd_value.specs.Depth.{depth}
 use Rattle.bd_value.specs.Tree.{Tree, doc, Doc, fields_of, pairs_of, pairs_of-fields_of}
+use Rattle.bd_value.specs.Zeros.{zero_in}
 use Rattle.bd_extjson.specs.Plain.{IsPlain, Fits}
-use Rattle.bd_extjson.specs.Readable.{HasUtf8, zero_in}
+use Rattle.bd_extjson.specs.Readable.{HasUtf8}
 use Rattle.bd_extjson.specs.Reads.{json as json_in, document, Reads}
 use Rattle.bd_extjson.specs.Text.{text}
 use Rattle.bd_extjson.specs.Wrap.{wrap}

@@ -7,11 +7,11 @@ use Rattle.hex.specs.Hex.{IsBytes, encode_with}
 use Rattle.hex.proofs.HexLemmas.{IsDigits-lower_digits, decode_sized-encode_lower}
 use Rattle.json.specs.Json as kit
 use Rattle.bd_value.specs.Tree.{Scalar, min_key, undefined, null, int32, int64, text as plain_text, symbol, binary, object_id, boolean, date, timestamp, regex, db_pointer, code, max_key, leaf}
+use Rattle.bd_value.specs.Zeros.{has_zero, zero_in_scalar}
 use Rattle.bd_extjson.specs.Text.{base64_text, hex_text}
 use Rattle.bd_extjson.specs.Plain.{ScalarFits, IsId}
-use Rattle.bd_extjson.specs.Readable.{zero_in_scalar}
 use Rattle.bd_extjson.specs.Whole.{whole}
-use Rattle.bd_extjson.specs.Wrappers.{wrapper_of, only, pair, both, ok_of, id_of, data_in, subtype_in, word_in, if_word, name_in, has_zero}
+use Rattle.bd_extjson.specs.Wrappers.{wrapper_of, only, pair, both, ok_of, id_of, data_in, subtype_in, word_in, if_word, name_in}
 use Rattle.bd_extjson.specs.Wrap.{wrap}
 use Rattle.bd_extjson.proofs.DecimalsBack.{whole_64-signed, whole_32-signed, whole_64-decimal}
 use Rattle.bd_extjson.proofs.Printed.{kit_json}

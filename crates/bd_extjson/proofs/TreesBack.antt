@@ -1,37 +1,16 @@
 -- The value that the JSON value of a plain tree stands for is that tree.
-use Rattle.std.proofs.Common.{◌≡◌, ℕ, zero, suc, ◌-◌, ◌≤◌, Bool, true, false, List, [], ◌∷◌, Option, Some, None, option_map, map, refl, ap, ap₂, ◌∙◌, arith}
-use Rattle.std.specs.Prelude.{◌≢◌, ◌||◌}
-use Rattle.std.specs.List.{All}
-use Rattle.std.specs.Str.{bytes_eq}
+use Rattle.std.proofs.Common.{◌≡◌, ℕ, zero, suc, ◌-◌, ◌≤◌, false, List, Option, Some, option_map, refl, ap, ap₂, ◌∙◌, arith}
+use Rattle.std.specs.Prelude.{◌||◌}
 use Rattle.std.proofs.lemmas.Bool.{or_parts}
-use Rattle.std.proofs.lemmas.List.Elements.{All-head, All-tail}
-use Rattle.std.proofs.lemmas.Slice.Eq.{bytes_eq-Decides}
 use Rattle.bd_value.specs.Depth.{depth, fields_depth, items_depth}
 use Rattle.bd_value.specs.Tree.{Tree, leaf, doc, array, code_scope, Items, no_items, item, Fields, no_fields, field}
-use Rattle.bd_extjson.specs.declared.wrapper.Wrapper.{Wrapper}
-use Rattle.bd_extjson.specs.Plain.{wrapper_names, IsPlainFirst, IsPlain, ArePlainItems, ArePlainFields, Fits, ItemsFit, FieldsFit}
-use Rattle.bd_extjson.specs.Readable.{zero_in, zero_in_items, zero_in_fields}
+use Rattle.bd_value.specs.Zeros.{has_zero, zero_in, zero_in_items, zero_in_fields}
+use Rattle.bd_extjson.specs.Plain.{IsPlainFirst, IsPlain, ArePlainItems, ArePlainFields, Fits, ItemsFit, FieldsFit}
 use Rattle.bd_extjson.specs.Wrap.{add_item, add_field, with_scope, wrap, wrap_items, wrap_object, wrap_fields}
-use Rattle.bd_extjson.specs.Wrappers.{wrappers, named_in, wrapper_of, has_zero}
+use Rattle.bd_extjson.specs.Wrappers.{wrapper_of}
 use Rattle.bd_extjson.proofs.Printed.{kit_json, kit_items, kit_members}
 use Rattle.bd_extjson.proofs.ScalarsBack.{scalar_back}
 use Rattle.bd_extjson.proofs.TreeJson.{json, elements_json, members_json}
-
--- ---- a plain name is no wrapper's
-
-named_in-none : (n : List ℕ) (ws : List (List ℕ × Wrapper)) → All (λ name. n ≢ name) (map (λ (w : List ℕ × Wrapper). w.0) ws) → named_in ws n ≡ None
-named_in-none n [] plain = refl
-named_in-none n (w ∷ ws) plain = one (bytes_eq n w.0) refl (named_in-none n ws (All-tail (λ name. n ≢ name) w.0 (map (λ (v : List ℕ × Wrapper). v.0) ws) plain))
-  where
-    one : (b : Bool) → bytes_eq n w.0 ≡ b → named_in ws n ≡ None → named_in (w ∷ ws) n ≡ None
-    one true e more = absurd (All-head (λ name. n ≢ name) w.0 (map (λ (v : List ℕ × Wrapper). v.0) ws) plain ((bytes_eq-Decides n w.0).0 e))
-    one false e more = rw e more
-
-wrapper_of-none : (n : List ℕ) → All (λ name. n ≢ name) wrapper_names → wrapper_of n ≡ None
-unfolding wrapper_of
-wrapper_of-none n plain = named_in-none n wrappers plain
-
--- ---- trees
 
 add_field-some : (n : List ℕ) (t : Tree) (fs : Fields) → has_zero n ≡ false → add_field n (Some t) (Some fs) ≡ Some (field n t fs)
 add_field-some n t fs none = rw none refl
@@ -63,7 +42,7 @@ mutual
   object_back no_fields (suc room) deep fits plain none = refl
   object_back (field n t fs) (suc room) deep fits plain none =
       let parts = no_zeros n t fs none in
-      rw (wrapper_of-none n plain.0)
+      rw plain.0
       (ap (option_map doc) (field_back n t fs parts.0 (tree_back t (suc room - 1) (omega arith) fits.0 plain.1.0 parts.1) (fields_back fs (suc room - 1) (omega arith) fits.1 plain.1.1 parts.2)))
 
   items_back : (ts : Items) (room : ℕ) → items_depth ts ≤ room → ItemsFit ts → ArePlainItems ts → zero_in_items ts ≡ false → wrap_items room (kit_items (elements_json ts)) ≡ Some ts

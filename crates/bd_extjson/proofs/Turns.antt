@@ -6,8 +6,9 @@ use Rattle.json.specs.Json.{Json, Parse, parse_map, after_end_array, read_key, i
 use Rattle.json.proofs.Grammar.{value-begin_array, value-begin_object, read_key-shorter, read_key_is, key_token, value_is}
 use Rattle.bd_value.specs.Tree as tree
 use Rattle.bd_value.specs.Tree.{Tree, leaf, doc, array, Items, no_items, item, Fields, no_fields, field, Doc, fields_of, items_of}
+use Rattle.bd_value.specs.Zeros.{has_zero}
 use Rattle.bd_extjson.specs.Wrap.{bare_number, nested, add_item, add_field, wrap, wrap_items, wrap_object, wrap_fields}
-use Rattle.bd_extjson.specs.Wrappers.{wrapper_of, has_zero}
+use Rattle.bd_extjson.specs.Wrappers.{wrapper_of}
 use Rattle.bd_extjson.specs.declared.wrapper.Wrapper.{Wrapper}
 use Rattle.std.specs.Prelude.{ok_or, Result, Ok, Err}
 use Rattle.bd_extjson.specs.Whole.{whole_64}

@@ -1,23 +1,16 @@
 -- Documents that their canonical text determines.
 -- An Int32 is printed as a document whose first name is $numberInt, so a document that has that name first can look like one.
-use Rattle.std.specs.Prelude.{◌≡◌, ◌≢◌, ◌<◌, ◌^◌, List, [], ◌∷◌, ℕ, length, codes}
+use Rattle.std.specs.Prelude.{◌≡◌, ◌<◌, ◌^◌, List, ℕ, length, None}
 use Rattle.std.specs.Int.{w32, w64}
 use Rattle.std.specs.Int.RustNames.{FitsSigned}
-use Rattle.std.specs.List.{All}
 use Rattle.bd_value.specs.Tree.{Scalar, min_key, undefined, null, int32, int64, text as string, symbol, binary, object_id, boolean, date, timestamp, regex, db_pointer, code, max_key}
 use Rattle.bd_value.specs.Tree.{Tree, leaf, doc, array, code_scope, Items, no_items, item, Fields, no_fields, field}
 use Rattle.hex.specs.Hex.{IsBytes}
-
--- Extended JSON v2, conversion table: the first name of each wrapper, in canonical, relaxed and earlier texts.
-abbrev pub wrapper_names : List (List ℕ)
-wrapper_names =
-    codes "$numberInt" ∷ codes "$numberLong" ∷ codes "$numberDouble" ∷ codes "$numberDecimal" ∷ codes "$oid" ∷ codes "$symbol"
-    ∷ codes "$binary" ∷ codes "$uuid" ∷ codes "$code" ∷ codes "$scope" ∷ codes "$timestamp" ∷ codes "$regularExpression"
-    ∷ codes "$dbPointer" ∷ codes "$date" ∷ codes "$minKey" ∷ codes "$maxKey" ∷ codes "$undefined" ∷ []
+use Rattle.bd_extjson.specs.Wrappers.{wrapper_of}
 
 abbrev pub IsPlainFirst : Fields → Type 0
 IsPlainFirst no_fields = Unit {0}
-IsPlainFirst (field n t fs) = All (λ name. n ≢ name) wrapper_names
+IsPlainFirst (field n t fs) = wrapper_of n ≡ None
 
 -- No document in the tree, itself and the scope of code included, has the name of a wrapper first.
 abbrev mutual

@@ -5,8 +5,9 @@ use Rattle.json.specs.Json.{Json}
 use Rattle.json.specs.Find.{as_str}
 use Rattle.bd_value.specs.Tree as trees
 use Rattle.bd_value.specs.Tree.{Tree, leaf, doc, array, code_scope, Items, no_items, item, Fields, no_fields, field}
+use Rattle.bd_value.specs.Zeros.{has_zero}
 use Rattle.bd_extjson.specs.Whole.{fits_bits, whole_64}
-use Rattle.bd_extjson.specs.Wrappers.{wrapper_of, single, has_zero}
+use Rattle.bd_extjson.specs.Wrappers.{wrapper_of, single}
 use Rattle.bd_extjson.specs.declared.wrapper.Wrapper.{Wrapper}
 use Rattle.bd_extjson.specs.declared.wrapper.Wrapper.TheVariants as kinds
 

@@ -1,5 +1,5 @@
 -- The objects that stand for values of other kinds (Extended JSON v2, conversion table): which, and what is in them.
-use Rattle.std.specs.Prelude.{ℕ, ◌+◌, ◌*◌, ℤ, pos, List, [], ◌∷◌, Bool, false, ◌==◌, ◌&&◌, ◌||◌, nat_lt, if◌then◌else◌, Option, Some, None, option_map, option_and_then, codes, Result, Ok, Err}
+use Rattle.std.specs.Prelude.{ℕ, ◌+◌, ◌*◌, ℤ, pos, List, [], ◌∷◌, Bool, false, ◌==◌, ◌&&◌, nat_lt, if◌then◌else◌, Option, Some, None, option_map, option_and_then, codes, Result, Ok, Err}
 use Rattle.std.specs.Str.{bytes_eq}
 use Rattle.base64.specs.Engines.{standard}
 use Rattle.base64.specs.GeneralPurpose.{decode_of}
@@ -9,10 +9,12 @@ use Rattle.json.specs.Json.{Json}
 use Rattle.json.specs.Find.{as_str, as_object}
 use Rattle.bd_value.specs.Tree as trees
 use Rattle.bd_value.specs.Tree.{Scalar}
+use Rattle.bd_value.specs.Zeros.{has_zero}
 use Rattle.bd_extjson.specs.Whole.{whole_32, whole_64}
 use Rattle.bd_extjson.specs.declared.wrapper.Wrapper.{Wrapper}
 use Rattle.bd_extjson.specs.declared.wrapper.Wrapper.TheVariants as kinds
 
+-- the first names, in canonical, relaxed and earlier texts
 abbrev pub wrappers : List (List ℕ × Wrapper)
 wrappers =
     (codes "$numberInt", kinds.NumberInt) ∷ (codes "$numberLong", kinds.NumberLong) ∷ (codes "$numberDouble", kinds.NumberDouble) ∷ (codes "$numberDecimal", kinds.NumberDecimal)
@@ -96,10 +98,6 @@ if_word z = None
 -- a bare whole number from 0 to 4,294,967,295
 abbrev pub word_in : Json → Option ℕ
 word_in j = option_and_then (λ s. option_and_then if_word (whole_64 s)) (number_in j)
-
-abbrev pub has_zero : List ℕ → Bool
-has_zero [] = false
-has_zero (c ∷ cs) = (c == 0) || has_zero cs
 
 abbrev pub if_no_zero : List ℕ → Option (List ℕ)
 if_no_zero s = if has_zero s then None else Some s

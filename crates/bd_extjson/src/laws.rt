@@ -2,8 +2,9 @@
 ghost use Rattle.std.specs.Prelude.{◌≡◌, ◌≤◌, false};
 ghost use Rattle.bd_value.specs.Depth.{depth};
 ghost use Rattle.bd_value.specs.Tree.{Doc, doc, fields_of};
+ghost use Rattle.bd_value.specs.Zeros.{zero_in};
 ghost use Rattle.bd_extjson.specs.Plain.{Fits, IsPlain};
-ghost use Rattle.bd_extjson.specs.Readable.{HasUtf8, zero_in};
+ghost use Rattle.bd_extjson.specs.Readable.{HasUtf8};
 ghost use Rattle.bd_extjson.specs.Reads.{Reads};
 ghost use Rattle.bd_extjson.specs.Text.{text};
 

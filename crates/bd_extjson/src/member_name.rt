@@ -3,7 +3,7 @@ use crate::json_fault::JsonFaultKind;
 use crate::skip::Stop;
 use crate::skip_string::Key;
 use crate::wrapper::Wrapper;
-use crate::wrapper_parts::has_zero;
+use bd_value::has_zero;
 use json::{Reader, Scratch, Token};
 use std::alloc::Global;
 

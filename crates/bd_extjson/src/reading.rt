@@ -15,9 +15,8 @@ ghost use Rattle.bd_extjson.specs.declared.wrapper.Wrapper.TheVariants as kinds;
 use crate::trouble::Trouble;
 use crate::whole_number::whole;
 use crate::wrapper::{Wrapper, names_code, names_scope};
-use crate::wrapper_parts::has_zero;
 use crate::wrapper_values::unwrap_single;
-use bd_value::{Document, Value};
+use bd_value::{Document, Value, has_zero};
 use json::{Reader, Token};
 use std::alloc::Global;
 

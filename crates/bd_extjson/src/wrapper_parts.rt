@@ -3,9 +3,10 @@ ghost use Rattle.std.specs.Prelude.{◌≡◌, option_map};
 ghost use Rattle.json.specs.Value.{value_view, members_view};
 ghost use Rattle.json.specs.Find.{as_object};
 ghost use Rattle.hex.specs.Hex.{hex_digit_value};
-ghost use Rattle.bd_extjson.specs.Wrappers.{only_member, only as only_in, either_way as either_way_in, pair_members, pair as pair_in, id_of as id_in, number_in, word_in, digits_in, subtype_in, has_zero as has_zero_in, name_in};
+ghost use Rattle.bd_extjson.specs.Wrappers.{only_member, only as only_in, either_way as either_way_in, pair_members, pair as pair_in, id_of as id_in, number_in, word_in, digits_in, subtype_in, name_in};
 
 use crate::whole_number::whole;
+use bd_value::has_zero;
 use hex::FromHex;
 
 /// The names and the values of an object.
@@ -106,13 +107,6 @@ pub(crate) fn pair<'v, 'a>(
     ensures { option_map (λ p. (value_view p.0.now, value_view p.1.now)) result ≡ pair_in a.now b.now (value_view part.now) }
 {
     pair_of(members_of(part)?, a, b)
-}
-
-/// Whether a text has a zero.
-pub fn has_zero(text: &str) -> bool
-    ensures { result ≡ has_zero_in text.now }
-{
-    text.as_bytes().contains(&0)
 }
 
 /// A text with no zero in it.

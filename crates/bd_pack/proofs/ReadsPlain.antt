@@ -1,7 +1,7 @@
 -- What is read of a text can be written: it nests 200 levels at most, and no name and no text of a regular expression has
 -- a zero.
-use Rattle.std.proofs.Common.{◌≡◌, ◌≤◌, ℕ, zero, suc, ◌-◌, ℤ, List, [], ◌∷◌, Bool, true, false, ◌||◌, cond, Option, Some, None, refl, sym, ap, ◌∙◌, arith}
-use Rattle.std.specs.Prelude.{codes, option_map, option_and_then, ◌==◌}
+use Rattle.std.proofs.Common.{◌≡◌, ◌≤◌, ℕ, zero, suc, ◌-◌, ℤ, List, Bool, true, false, ◌||◌, cond, Option, Some, None, refl, sym, ap, ◌∙◌, arith}
+use Rattle.std.specs.Prelude.{codes, option_map, option_and_then}
 use Rattle.json.specs.Token.{Token}
 use Rattle.json.specs.Json as json
 use Rattle.json.specs.Json.{Json}
@@ -9,10 +9,9 @@ use Rattle.json.specs.Find.{as_str}
 use Rattle.bd_value.specs.Tree as trees
 use Rattle.bd_value.specs.Tree.{Scalar, Tree, leaf, doc, array, code_scope, Items, no_items, item, Fields, no_fields, field, Doc, fields_of, pairs_of, fields_of-pairs_of}
 use Rattle.bd_value.specs.Depth.{depth, fields_depth, items_depth}
-use Rattle.bd_bson.specs.Written.{zero_in, zero_in_scalar, zero_in_fields, zero_in_items}
-use Rattle.bd_bson.specs.Written.{has_zero as has_nul}
+use Rattle.bd_value.specs.Zeros.{has_zero, zero_in, zero_in_scalar, zero_in_fields, zero_in_items}
 use Rattle.bd_extjson.specs.Whole.{fits_bits, whole_64, whole_32}
-use Rattle.bd_extjson.specs.Wrappers.{wrapper_of, single, has_zero, name_in, both, both_in, pair, id_of, data_in, subtype_in, word_in, only, long_in, one, is_true, if_no_zero, if_true}
+use Rattle.bd_extjson.specs.Wrappers.{wrapper_of, single, name_in, both, both_in, pair, id_of, data_in, subtype_in, word_in, only, long_in, one, is_true, if_no_zero, if_true}
 use Rattle.bd_extjson.specs.Wrap.{wrap, wrap_items, wrap_object, wrap_fields, behind, behind_one, Behind, nothing, one_more, several, bare_number, nested, add_item, add_field, with_scope, two, wrapped, either}
 use Rattle.bd_extjson.specs.Progress.{through}
 use Rattle.bd_extjson.specs.Reads.{Reads, document}
@@ -38,11 +37,6 @@ IsBehind room nothing = Unit {0}
 IsBehind room (one_more w i u) = IsTree room u
 IsBehind room several = Unit {0}
 
--- the two definitions of a zero in a text
-same_zero : (s : List ℕ) → has_nul s ≡ has_zero s
-same_zero [] = refl
-same_zero (b ∷ bs) = ap (λ (z : Bool). (b == 0) || z) (same_zero bs)
-
 -- ---- scalars
 
 abbrev IsScalar : Option Scalar → Type 0
@@ -55,14 +49,14 @@ mapped f h (Some x) = h x
 
 abbrev HasNone : Option (List ℕ) → Type 0
 HasNone None = Unit {0}
-HasNone (Some s) = has_nul s ≡ false
+HasNone (Some s) = has_zero s ≡ false
 
 none_in : (s : List ℕ) → HasNone (if_no_zero s)
 none_in s = go (has_zero s) refl
   where
     go : (b : Bool) → has_zero s ≡ b → HasNone (cond b None (Some s))
     go true e = tt
-    go false e = same_zero s ∙ e
+    go false e = e
 
 name_plain : (j : Json) → HasNone (name_in j)
 name_plain j = go (as_str j)
@@ -77,7 +71,7 @@ neither a b p q = rw (p, q) refl
 regex_plain : (a b : Option (List ℕ)) → HasNone a → HasNone b → IsScalar (option_map (λ p. trees.regex p.0 p.1) (both a b))
 regex_plain None b p q = tt
 regex_plain (Some s) None p q = tt
-regex_plain (Some s) (Some t) p q = neither (has_nul s) (has_nul t) p q
+regex_plain (Some s) (Some t) p q = neither (has_zero s) (has_zero t) p q
 
 pair_plain : (o : Option (Json × Json)) → IsScalar (option_map (λ p. trees.regex p.0 p.1) (option_and_then (both_in name_in name_in) o))
 pair_plain None = tt
@@ -134,7 +128,7 @@ field_plain room name (Some t) (Some fs) p q = go (has_zero name) refl
     go true e = tt
     go false e = (
       let a = p.0 in let b = q.0 in omega arith,
-      neither (has_nul name) (zero_in t || zero_in_fields fs) (same_zero name ∙ e) (neither (zero_in t) (zero_in_fields fs) p.1 q.1),
+      neither (has_zero name) (zero_in t || zero_in_fields fs) e (neither (zero_in t) (zero_in_fields fs) p.1 q.1),
     )
 
 array_plain : (room : ℕ) (ts : Option Items) → AreItems (room - 1) ts → IsTree room (nested room (option_map array ts))

@@ -18,6 +18,7 @@ mod tests;
 mod tree;
 #[cfg(test)]
 mod tree_tests;
+mod zeros;
 
 pub use copying::{to_document, to_value};
 pub use document::{Document, NoMemory, Value};
@@ -26,3 +27,4 @@ pub use nesting::{depth, depth_of};
 pub use node::{Node, Reading};
 pub use scalar::Scalar;
 pub use tree::{Tree, TreeParts};
+pub use zeros::has_zero;

@@ -4,9 +4,10 @@ use Rattle.std.proofs.lemmas.Result.{err_from_is_err_and}
 use Rattle.bd_value.specs.Tree.{Tree, doc, fields_of, items_of}
 use Rattle.bd_value.specs.Parts.{values_of}
 use Rattle.bd_value.specs.Seen.{seen}
+use Rattle.bd_value.specs.Zeros.{has_zero}
 use Rattle.bd_value.proofs.Parted as parted
 use Rattle.bd_bson.specs.Spelling.{number, string, scoped, element, IsValue, AreItems}
-use Rattle.bd_bson.specs.Written.{bytes_of, fields_bytes, items_bytes, has_zero, Overruns}
+use Rattle.bd_bson.specs.Written.{bytes_of, fields_bytes, items_bytes, Overruns}
 use Rattle.bd_bson.specs.Scalars.{number_length}
 use Rattle.bd_bson.proofs.Writes as writes
 use Rattle.bd_bson.proofs.writing_values.+writing.Goals as goal

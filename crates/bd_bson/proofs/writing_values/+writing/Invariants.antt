@@ -1,8 +1,9 @@
 use Rattle.std.proofs.Common.{◌≡◌, ◌+◌, ◌*◌, ◌≤◌, ◌++◌, length, false}
 use Rattle.bd_value.specs.Tree.{fields_of, items_of, tree_size, fields_size}
 use Rattle.bd_value.specs.Parts.{values_of}
+use Rattle.bd_value.specs.Zeros.{zero_in_fields, zero_in_items}
 use Rattle.bd_bson.specs.Spelling.{number, AreFields, AreItems}
-use Rattle.bd_bson.specs.Written.{fields_bytes, items_bytes, zero_in_fields, zero_in_items}
+use Rattle.bd_bson.specs.Written.{fields_bytes, items_bytes}
 use Rattle.bd_bson.proofs.writing_values.+writing.Given as goal
 
 abbrev pub decreases-append_value : goal.decreases-append_value

@@ -1,6 +1,6 @@
 use Rattle.std.proofs.Common.{arith, sym, ap, ◌∙◌}
 use Rattle.bd_value.proofs.Parted as parted
-use Rattle.bd_bson.specs.Written.{zero_in}
+use Rattle.bd_value.specs.Zeros.{zero_in}
 use Rattle.bd_bson.proofs.Writes as writes
 use Rattle.bd_bson.proofs.zeros.+zeros.Goals as goal
 

@@ -1,6 +1,6 @@
 use Rattle.std.proofs.Common.{◌≡◌, ◌+◌, ◌*◌, ◌≤◌, length}
 use Rattle.bd_value.specs.Tree.{fields_of, tree_size, fields_size}
-use Rattle.bd_bson.specs.Written.{zero_in_parts}
+use Rattle.bd_value.specs.Zeros.{zero_in_parts}
 use Rattle.bd_bson.proofs.zeros.+zeros.Given as goal
 
 abbrev pub decreases-holds_zero : goal.decreases-holds_zero
