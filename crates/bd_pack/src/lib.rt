@@ -2,6 +2,8 @@
 #![tactic(auto)]
 
 mod line;
+#[cfg(test)]
+mod line_tests;
 mod tokens;
 
 pub use line::{LineFault, Packer};
