@@ -1,11 +1,12 @@
 -- The whole number that decimal digits were written from.
-use Rattle.std.proofs.Common.{◌≡◌, ℕ, zero, suc, ◌^◌, ◌<◌, ℤ, pos, negsuc, neg_ℤ, Bool, true, false, cond, ◌==◌, List, [], ◌∷◌, get_or, Some, decimal, refl, sym, ap, ◌∙◌, arith}
+use Rattle.std.proofs.Common.{◌≡◌, ℕ, zero, suc, ◌^◌, ◌<◌, ℤ, pos, negsuc, neg_ℤ, Bool, true, false, cond, ◌==◌, ◌&&◌, List, [], ◌∷◌, get_or, Some, decimal, refl, sym, ap, ◌∙◌, arith}
 use Rattle.std.specs.Fmt.{signed_decimal}
 use Rattle.std.specs.Int.{w32, w64}
 use Rattle.std.specs.Int.RustNames.{FitsSigned}
+use Rattle.std.specs.Char.{is_ascii_digit}
 use Rattle.std.specs.Str.{all_ascii_digits}
 use Rattle.std.specs.Str.Parse.{digits_value}
-use Rattle.std.proofs.lemmas.Bool.{lt-ltb, ltb-true}
+use Rattle.std.proofs.lemmas.Bool.{and_parts, lt-ltb, ltb-true}
 use Rattle.std.proofs.lemmas.Fmt.{digits_decimal, digits_value-decimal, first_decimal, decimal_digit}
 use Rattle.std.proofs.lemmas.Int.{ints}
 use Rattle.bd_extjson.specs.Whole.{is_empty, are_digits, fits_bits, whole, whole_64, whole_32}
@@ -15,9 +16,9 @@ first_nonzero : (ds : List ℕ) → 48 < get_or ds 0 0 → all_ascii_digits ds �
 first_nonzero [] first all = absurd (omega arith)
 first_nonzero (c ∷ cs) first all = one (c == 48) refl
   where
-    one : (b : Bool) → (c == 48) ≡ b → cond b (is_empty cs) (all_ascii_digits (c ∷ cs)) ≡ true
+    one : (b : Bool) → (c == 48) ≡ b → (cond b (is_empty cs) (is_ascii_digit c) && all_ascii_digits (c ∷ cs)) ≡ true
     one true e = let same : c ≡ 48 = grind arith in absurd (omega arith)
-    one false e = all
+    one false e = let digits = and_parts (is_ascii_digit c) (all_ascii_digits cs) all in rw (digits.0, digits.1) refl
 
 are_digits-decimal : (n : ℕ) → n < 2 ^ 64 → are_digits (decimal n) ≡ true
 are_digits-decimal zero small = ap are_digits (decimal_digit 0 (omega arith))

@@ -1,26 +1,26 @@
 //! Whole numbers, as texts write them.
 ghost use Rattle.std.specs.Prelude.{◌≡◌};
 ghost use Rattle.std.specs.Str.{all_ascii_digits};
-ghost use Rattle.bd_extjson.specs.Whole.{are_digits, is_whole, begins_digits, begins_whole, whole_64, whole_32};
+ghost use Rattle.bd_extjson.specs.Whole.{are_digits, begins_digits, unsigned, whole_64, whole_32};
 
-/// Whether digits begin with no plus sign and with no zero before others.
+/// The text behind a minus sign, where there is one.
+fn without_sign(text: &[u8]) -> &[u8]
+    ensures { result.now ≡ unsigned text.now }
+{
+    match text {
+        [b'-', digits @ ..] => digits,
+        _ => text,
+    }
+}
+
+/// Whether a digit stands first, and no zero before others.
 fn begins_as_digits(digits: &[u8]) -> bool
     ensures { result ≡ begins_digits digits.now }
 {
     match digits {
+        [] => false,
         [b'0', rest @ ..] => rest.is_empty(),
-        [b'+', ..] => false,
-        _ => true,
-    }
-}
-
-/// The same behind a minus sign, where there is one.
-fn begins_as_whole(text: &[u8]) -> bool
-    ensures { result ≡ begins_whole text.now }
-{
-    match text {
-        [b'-', digits @ ..] => begins_as_digits(digits),
-        _ => begins_as_digits(text),
+        [first, ..] => first.is_ascii_digit(),
     }
 }
 
@@ -28,7 +28,8 @@ fn begins_as_whole(text: &[u8]) -> bool
 pub(crate) fn whole(text: &str) -> Option<i64>
     ensures { result ≡ whole_64 text.now }
 {
-    if !begins_as_whole(text.as_bytes()) {
+    // `parse` takes a plus sign and zeros in front too, and looks at the other digits itself.
+    if !begins_as_digits(without_sign(text.as_bytes())) {
         return None;
     }
     text.parse::<i64>().ok()
@@ -51,22 +52,10 @@ fn are_all_digits(bytes: &[u8]) -> bool
     true
 }
 
-fn is_number(digits: &[u8]) -> bool
-    ensures { result ≡ are_digits digits.now }
-{
-    match digits {
-        [] => false,
-        [b'0', others @ ..] => others.is_empty(),
-        [_, ..] => are_all_digits(digits),
-    }
-}
-
-/// Whether a text writes a whole number, of any size.
+/// Whether a text has that form, for a number of any size.
 pub(crate) fn is_whole_number(text: &[u8]) -> bool
-    ensures { result ≡ is_whole text.now }
+    ensures { result ≡ are_digits (unsigned text.now) }
 {
-    match text {
-        [b'-', digits @ ..] => is_number(digits),
-        _ => is_number(text),
-    }
+    let digits = without_sign(text);
+    begins_as_digits(digits) && are_all_digits(digits)
 }
