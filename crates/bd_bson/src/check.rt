@@ -13,6 +13,7 @@ use crate::fault::{Fault, FaultKind, Stop, fault_at, fault_of, within};
 use crate::parts::{
     binary, boolean, code_frame, fixed, frame, known_type, name, regex, scope_end, string,
 };
+use crate::plain::plain;
 use crate::raw::RawDoc;
 use bd_value::Kind;
 use std::alloc::Global;
@@ -37,7 +38,10 @@ fn elements(alloc: Global, room: u32, in_array: bool, e: u64, bytes: &[u8]) -> R
     let mut place = if in_array { Some(0) } else { None };
     let mut rest = bytes;
     while !rest.is_empty() {
-        rest = element(alloc, room, place, e, rest)?;
+        rest = match plain(rest) {
+            Some(after) => after,
+            None => element(alloc, room, place, e, rest)?,
+        };
         place = next(place);
     }
     Ok(())

@@ -23,6 +23,7 @@ mod fault;
 mod kinds_tests;
 mod laws;
 mod parts;
+mod plain;
 #[cfg(test)]
 mod prefix_tests;
 mod raw;
