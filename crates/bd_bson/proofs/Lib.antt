@@ -1,5 +1,6 @@
 pub mod Again
 pub mod Asked
+pub mod AtOnce
 pub mod Collects
 pub mod Cursors
 pub mod Dumps

@@ -56,7 +56,7 @@ none_left place room e (b ∷ bytes) is = absurd cc
 pub after_fits : (place : Option ℕ) (room e : ℕ) (bytes after : List ℕ) → IsBytes bytes → past_element (past_nested room) place e bytes ≡ Ok after → IsBytes after
 after_fits place room e bytes after fits is = (element_takes room (past_nested room) place e bytes after (nested_takes room) fits is).takes.rest_fits
 
-after_less : (place : Option ℕ) (room e : ℕ) (bytes after : List ℕ) → IsBytes bytes → past_element (past_nested room) place e bytes ≡ Ok after → length after < length bytes
+pub after_less : (place : Option ℕ) (room e : ℕ) (bytes after : List ℕ) → IsBytes bytes → past_element (past_nested room) place e bytes ≡ Ok after → length after < length bytes
 after_less place room e bytes after fits is = element_shrinks room bytes after (element_takes room (past_nested room) place e bytes after (nested_takes room) fits is)
 
 pub goes_on : (place : Option ℕ) (room e : ℕ) (bytes after : List ℕ) (total : Result (Unit {0}) Fault) → IsBytes bytes → past_element (past_nested room) place e bytes ≡ Ok after

@@ -8,6 +8,7 @@ ghost use Rattle.bd_bson.specs.Spelling.{IsDocument};
 ghost use Rattle.bd_bson.specs.Sound.{stands};
 ghost use Rattle.bd_value.specs.Tree.{pairs_in};
 
+use crate::at_once::past_scalar;
 use crate::element::{ElementType, Holder};
 use crate::fault::{Fault, FaultKind, Stop, fault_at, fault_of, within};
 use crate::parts::{
@@ -37,7 +38,10 @@ fn elements(alloc: Global, room: u32, in_array: bool, e: u64, bytes: &[u8]) -> R
     let mut place = if in_array { Some(0) } else { None };
     let mut rest = bytes;
     while !rest.is_empty() {
-        rest = element(alloc, room, place, e, rest)?;
+        rest = match past_scalar(rest) {
+            Some(after) => after,
+            None => element(alloc, room, place, e, rest)?,
+        };
         place = next(place);
     }
     Ok(())

@@ -1,6 +1,7 @@
 //! BSON documents as bytes.
 #![tactic(auto)]
 
+mod at_once;
 #[cfg(test)]
 mod both_tests;
 mod check;

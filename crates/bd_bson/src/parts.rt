@@ -4,6 +4,7 @@
 //! number.
 
 ghost use Rattle.std.specs.Prelude.{◌≡◌, ◌≤◌, ◌<◌, ◌+◌, ◌^◌, length, IfOk};
+ghost use Rattle.std.specs.Str.{is_utf8};
 ghost use Rattle.bd_bson.specs.Gives.{Gives};
 ghost use Rattle.bd_bson.specs.FirstFault.{past_number, past_zero, text_at, past_name, past_string, past_frame, past_fixed, past_boolean, past_data, past_binary, past_regex, past_code_frame, past_scope_end, known};
 ghost use Rattle.bd_bson.specs.Types.{type_at};
@@ -41,6 +42,20 @@ fn zero(alloc: Global, kind: FaultKind, e: u64, bytes: &[u8]) -> Result<&[u8], S
 
 /// Texts of fewer bytes are looked at for ASCII first. Most names are, and the check of UTF-8 is made for longer ones.
 const SHORT: usize = 64;
+
+/// Whether bytes are UTF-8.
+#[inline(always)]
+pub fn is_text(bytes: &[u8]) -> bool
+    ensures { result ≡ is_utf8 bytes.now }
+{
+    if bytes.len() < SHORT && bytes.is_ascii() {
+        return true;
+    }
+    match simdutf8::compat::from_utf8(bytes) {
+        Ok(_) => true,
+        Err(_) => false,
+    }
+}
 
 /// The bytes at a place as text.
 #[inline(always)]

@@ -149,6 +149,7 @@ impl<'a> Reading for RawValue<'a> {
 }
 
 impl<'a> Node<'a> for RawValue<'a> {
+    #[inline(always)]
     fn scalar(self) -> Option<Scalar<'a>> {
         match self.contents() {
             Contents::Scalar(scalar) => Some(scalar),
