@@ -43,7 +43,7 @@ pub use laws::{reads_back, text_determines_document};
 pub use limits::{BRACKETS, LEVELS};
 pub use number::{write_number, write_number32};
 pub use read::{read_doc, read_doc_with};
-pub use reading::{bare, read_wrapper, wrapper_named};
+pub use reading::{bare_number, read_wrapper, wrapper_named};
 pub use text::{write_doc, write_node, write_value};
 pub use trouble::Trouble;
 pub use wrapper::Wrapper;

@@ -21,7 +21,7 @@ use json::{Reader, Token};
 use std::alloc::Global;
 
 /// A bare whole number: an Int32 where it fits, else an Int64. None where it is no whole number of 64 bits.
-pub fn bare(text: &str) -> Option<Value>
+pub fn bare_number(text: &str) -> Option<Value>
     ensures { option_map tree_of result ≡ bare_number (whole_64 text.now) }
 {
     let number = whole(text)?;
@@ -108,7 +108,7 @@ pub(crate) fn read_value(
     let token = reader.next().ok_or(Trouble::Refused)?;
     match token {
         Token::String(text) => Ok(Value::Text(String::from_str(alloc, text)?)),
-        Token::Number(text) => bare(text).ok_or(Trouble::Refused),
+        Token::Number(text) => bare_number(text).ok_or(Trouble::Refused),
         Token::Bool(b) => Ok(Value::Bool(b)),
         Token::Null => Ok(Value::Null),
         Token::EndObject | Token::EndArray | Token::Key(_) | Token::Bad => Err(Trouble::Refused),

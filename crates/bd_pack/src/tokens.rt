@@ -13,7 +13,7 @@ ghost use Rattle.bd_extjson.specs.Progress.{through, after_key};
 ghost use Rattle.bd_pack.specs.Packable.{plain, IsPackable};
 
 use bd_bson::{append_label, append_value, begin_body, end_body, write_text};
-use bd_extjson::{BRACKETS, LEVELS, Scratch, bare, read_wrapper, wrapper_named};
+use bd_extjson::{BRACKETS, LEVELS, Scratch, bare_number, read_wrapper, wrapper_named};
 use bd_value::{Kind, Tree, Value, has_zero};
 use json::{Reader, Token};
 use std::alloc::Global;
@@ -53,7 +53,7 @@ fn append_next(
 {
     match reader.next()? {
         Token::String(text) => append_text(name, text, out),
-        Token::Number(text) => append_read(name, bare(text)?, out),
+        Token::Number(text) => append_read(name, bare_number(text)?, out),
         Token::Bool(b) => append_read(name, Value::Bool(b), out),
         Token::Null => append_read(name, Value::Null, out),
         Token::EndObject | Token::EndArray | Token::Key(_) | Token::Bad => None,

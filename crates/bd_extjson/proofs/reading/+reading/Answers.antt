@@ -202,7 +202,7 @@ read_value-returns-in_ok-from_str-in-String-clause-gives t c =
 pub read_value-returns-in-Number-clause-gives : goal.read_value-returns-in-Number-clause-gives
 read_value-returns-in-Number-clause-gives t c =
     let first : c.args.reader.now ≡ token_of c.in_ok-token.token ∷ c.next.new.self = grind arith in
-    steps.number_told tree_of c.next.new.self c.bare.result c.ok_or-in-Number.result _ _ c.bare.ensures c.ok_or-in-Number.ensures.value
+    steps.number_told tree_of c.next.new.self c.bare_number.result c.ok_or-in-Number.result _ _ c.bare_number.ensures c.ok_or-in-Number.ensures.value
     (ap (through (wrap c.args.room)) (ap (value c.args.depth) (first ∙ ap (λ k. token_of k ∷ c.next.new.self) c.in-Number.is)) ∙ steps.read_number c.args.room c.args.depth c.in-Number.text.now c.next.new.self)
 
 pub read_value-returns-in-Bool-clause-gives : goal.read_value-returns-in-Bool-clause-gives

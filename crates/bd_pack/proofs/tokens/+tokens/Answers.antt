@@ -137,13 +137,13 @@ append_next-returns-in-String-clause-gives t c =
     let read = ap (through (wrap c.args.room)) (ap (value c.args.depth) (first ∙ ap (λ k. token_of k ∷ c.next.new.self) c.in-String.is)) ∙ steps.read_string c.args.room c.args.depth s c.next.new.self in
     bodies.if_some c.append_text.result _ _ c.append_text.ensures (λ e. (leaf (trees.text s), read, e))
 
-pub append_next-returns-in_ok-bare-in-Number-clause-gives :
-    goal.append_next-returns-in_ok-bare-in-Number-clause-gives
-append_next-returns-in_ok-bare-in-Number-clause-gives t c =
+pub append_next-returns-in_ok-bare_number-in-Number-clause-gives :
+    goal.append_next-returns-in_ok-bare_number-in-Number-clause-gives
+append_next-returns-in_ok-bare_number-in-Number-clause-gives t c =
     let first : c.args.reader.now ≡ token_of c.in_ok-text.field-0 ∷ c.next.new.self = grind arith in
     let s = c.in-Number.text.now in
-    let v = c.in_ok-bare-in-Number.field-0 in
-    let bare : bare_number (whole_64 s) ≡ Some (tree_of v) = sym c.in_ok-bare-in-Number.ensures in
+    let v = c.in_ok-bare_number-in-Number.field-0 in
+    let bare : bare_number (whole_64 s) ≡ Some (tree_of v) = sym c.in_ok-bare_number-in-Number.ensures in
     let read = ap (through (wrap c.args.room)) (ap (value c.args.depth) (first ∙ ap (λ k. token_of k ∷ c.next.new.self) c.in-Number.is)) ∙ steps.read_number c.args.room c.args.depth s c.next.new.self
     ∙ ap (option_map (λ (a : Tree). (a, c.next.new.self))) bare in
     bodies.if_some c.append_read.result _ _ c.append_read.ensures (λ e. (tree_of v, read, e))
