@@ -1,6 +1,6 @@
 # make            builds the program, ./bsonfind
 # make test       passes all tests
-# make bench      times the commands over a dump of MB megabytes, 20 without it
+# make bench      times the commands over a dump of MB megabytes, 20 without it, of documents of a KIND, mixed without it
 # make install    puts the program, its man page, completions, licence and documents below PREFIX
 # make uninstall  takes them away
 # make clean      removes the program, and the proofs and builds that rt keeps
@@ -9,6 +9,7 @@
 
 PYTHON = python3
 MB = 20
+KIND = mixed
 PREFIX = /usr/local
 BIN = $(DESTDIR)$(PREFIX)/bin
 SHARE = $(DESTDIR)$(PREFIX)/share
@@ -36,7 +37,7 @@ test:
 	@tests/all.sh
 
 bench: bsonfind
-	$(PYTHON) bench/bench.py $(MB)
+	$(PYTHON) bench/bench.py $(MB) 5 1 $(KIND)
 
 install: bsonfind
 	install -d "$(BIN)" "$(DOC)" "$(MAN)" "$(BASH)" "$(ZSH)" "$(FISH)"

@@ -1,7 +1,9 @@
 #!/usr/bin/env python3
 """Times the commands of ./bsonfind over a dump that it makes, and other programs over the same files, where they are installed.
 
-usage: bench/bench.py [MEGABYTES [RUNS [SEED]]]     20 megabytes, the best of 5 runs, seed 1
+usage: bench/bench.py [MEGABYTES [RUNS [SEED [KIND]]]]     20 megabytes, the best of 5 runs, seed 1, mixed
+
+KIND of documents: mixed, counter, person, order, article, thread, numbers or wide.
 """
 
 import importlib.util
@@ -12,7 +14,7 @@ import tempfile
 import time
 from pathlib import Path
 
-from make_dump import make
+from make_dump import KINDS, make
 
 PROGRAM = Path(__file__).resolve().parent.parent / "bsonfind"
 
@@ -77,19 +79,20 @@ def is_right(words: list[str], wanted: str) -> bool:
 
 
 def main() -> int:
-    if len(sys.argv) > 4 or not all(word.isdecimal() and int(word) > 0 for word in sys.argv[1:]):
+    *numbers, kind = (sys.argv[1:] + ["20", "5", "1", "mixed"][len(sys.argv) - 1 :])[:5]
+    if len(numbers) != 3 or kind not in ["mixed", *KINDS] or not all(word.isdecimal() and int(word) > 0 for word in numbers):
         print(__doc__, file=sys.stderr)
         return 2
-    megabytes, runs, seed = (int(word) for word in sys.argv[1:] + ["20", "5", "1"][len(sys.argv) - 1 :])
+    megabytes, runs, seed = (int(word) for word in numbers)
     with tempfile.TemporaryDirectory() as room:
         dump, lines = f"{room}/dump.bson", f"{room}/dump.jsonl"
-        make(f"{room}/dump", megabytes * 1_000_000, seed)
+        make(f"{room}/dump", megabytes * 1_000_000, seed, kind)
         sizes = {command: Path(lines if command == "pack" else dump).stat().st_size for command in PYTHON}
         all_of = programs(dump, lines, built_libbson(room))
         if not is_right(all_of["bsonfind"]["dump"], lines) or not is_right(all_of["bsonfind"]["pack"], dump):
             print("bsonfind does not print what was made")
             return 1
-        print(f"A dump of {sizes['dump']:,} bytes, a text of {sizes['pack']:,}; megabytes of input a second, the best of {runs} runs")
+        print(f"A dump of {sizes['dump']:,} bytes ({kind}), a text of {sizes['pack']:,}; megabytes of input a second, the best of {runs} runs")
         print("        " + "".join(f"{program:>24}" for program in all_of))
         for command, size in sizes.items():
             row = f"{command:8}"

@@ -1,7 +1,9 @@
 #!/usr/bin/env python3
 """Makes a dump of documents of several kinds and sizes, and the same documents as lines of canonical Extended JSON.
 
-usage: bench/make_dump.py NAME MEGABYTES [SEED]     writes NAME.bson of so many megabytes, and NAME.jsonl
+usage: bench/make_dump.py NAME MEGABYTES [SEED [KIND]]     writes NAME.bson of so many megabytes, and NAME.jsonl
+
+KIND is counter, person, order, article, thread, numbers or wide; without it the first five are mixed.
 """
 
 import base64
@@ -125,29 +127,40 @@ def thread(rng: random.Random, number: int) -> dict[str, Any]:
     return {"_id": number, **inside}
 
 
-KINDS: list[Callable[[random.Random, int], dict[str, Any]]] = [counter, person, order, article, thread]
-# Of a hundred documents.
-SHARES = [30, 35, 25, 2, 8]
+def numbers(rng: random.Random, number: int) -> dict[str, Any]:
+    return {"_id": number, "values": [Long(rng.randrange(-(1 << 63), 1 << 63)) if rng.random() < 0.3 else rng.randrange(1 << 20) for _ in range(400)]}
 
 
-def make(name: str, size: int, seed: int) -> None:
-    """Writes documents up to a size in bytes."""
+def wide(rng: random.Random, number: int) -> dict[str, Any]:
+    return {"_id": number, **{f"field{place:03}": rng.choice([rng.randrange(1 << 20), words(rng, 1, 2), True, None]) for place in range(200)}}
+
+
+Kind = Callable[[random.Random, int], dict[str, Any]]
+KINDS: dict[str, Kind] = {kind.__name__: kind for kind in (counter, person, order, article, thread, numbers, wide)}
+# Of a hundred documents, where kinds are mixed.
+SHARES: dict[Kind, int] = {counter: 30, person: 35, order: 25, article: 2, thread: 8}
+
+
+def make(name: str, size: int, seed: int, kind: str = "mixed") -> None:
+    """Writes documents of a kind, or of several that are mixed, up to a size in bytes."""
+    shares = SHARES if kind == "mixed" else {KINDS[kind]: 1}
     rng = random.Random(seed)
     written = number = 0
     with open(f"{name}.bson", "wb") as dump, open(f"{name}.jsonl", "w", encoding="utf-8", newline="\n") as lines:
         while written < size:
-            (kind,) = rng.choices(KINDS, SHARES)
-            pairs = kind(rng, number)
+            (made,) = rng.choices(list(shares), list(shares.values()))
+            pairs = made(rng, number)
             written += dump.write(document(pairs))
             lines.write(json.dumps(wrapped(pairs), ensure_ascii=False, separators=(",", ":")) + "\n")
             number += 1
 
 
 def main() -> int:
-    if len(sys.argv) not in (3, 4):
+    if len(sys.argv) not in (3, 4, 5):
         print(__doc__, file=sys.stderr)
         return 2
-    make(sys.argv[1], int(sys.argv[2]) * 1_000_000, int(sys.argv[3]) if len(sys.argv) == 4 else 1)
+    name, megabytes, seed, kind = sys.argv[1:] + ["1", "mixed"][len(sys.argv) - 3 :]
+    make(name, int(megabytes) * 1_000_000, int(seed), kind)
     return 0
 
 

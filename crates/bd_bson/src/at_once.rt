@@ -1,5 +1,6 @@
-//! Elements that are seen at one look to have no fault: scalars with an ASCII name, as most elements are. No fault is
-//! made here, and so nothing is kept for one; what is none of these is gone past part by part.
+//! Elements that are seen at one look to have no fault: numbers, dates, ids, booleans, texts and values without bytes, with an
+//! ASCII name, as most elements are. No fault is made here, and so nothing is kept for one. What is none of these, or may have
+//! a fault, is gone past part by part.
 
 ghost use Rattle.std.specs.Prelude.{◌≡◌, ◌≤◌, ◌<◌, ◌==◌, ◌||◌, ◌+◌, ℕ, length, drop, position, take, nat_lt, Option, Some, Ok, true, IfSome, IsTrue};
 ghost use Rattle.std.specs.Str.{is_utf8};
@@ -86,7 +87,7 @@ fn behind_value(kind: Kind, bytes: &[u8]) -> Option<&[u8]>
     }
 }
 
-/// The bytes behind an element: one of a scalar with an ASCII name, as most are.
+/// The bytes behind such an element; none where it is another, or may have a fault.
 #[inline(always)]
 pub fn past_scalar(bytes: &[u8]) -> Option<&[u8]>
     requires { 0 < length bytes.now }

@@ -17,7 +17,7 @@ pub enum FaultKind {
     BadLength = 2,
     /// A document's last byte is not zero.
     NoTerminator = 3,
-    /// A type byte that BSON 1.1 does not have, or that is not read.
+    /// A type byte that BSON 1.1 does not have.
     UnknownType = 4,
     /// A double.
     Double = 5,

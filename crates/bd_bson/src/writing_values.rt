@@ -50,7 +50,8 @@ pub fn append_label(kind: Kind, name: &str, out: &mut Vec<u8>) -> Result<(), Wri
 /// Appends the bytes of a value. The names of an array's elements are their places from 0.
 ///
 /// # Errors
-/// `WriteFault::TooLong` where there are more than 16,793,600 bytes, with what stands before it; `WriteFault::NoMemory`.
+/// `WriteFault::TooLong` only where there are more than 16,793,600 bytes, with what stands before it: a scalar without a text or
+/// data is appended past that, and `end_body` refuses then. `WriteFault::NoMemory`. What `out` holds then is not said.
 #[cycle(writing)]
 pub fn append_value<N: Reading>(node: N, out: &mut Vec<u8>) -> Result<(), WriteFault>
     requires { zero_in (N.tree node) ≡ false }

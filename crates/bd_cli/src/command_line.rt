@@ -101,7 +101,8 @@ fn order_named(alloc: Global, name: &str, matches: &ArgMatches<'_>) -> Result<Or
 
 /// The order of a line: its words without the program's name.
 ///
-/// `dump FILE`, `check FILE` and `pack FILE` are taken, and `find FILE --query Q` with or without `--batch N`, N from 0 to 2,147,483,647. A file whose name looks like a flag stands behind `--`, as in `dump -- -x`.
+/// `dump FILE`, `check FILE` and `pack FILE` are taken, and `find FILE --query Q` with or without `--batch N`, N from 0 to
+/// 2,147,483,647. A file whose name looks like a flag stands behind `--`, as in `dump -- -x`.
 ///
 /// # Errors
 ///

@@ -15,8 +15,8 @@ use crate::status::Status;
 use bd_bson::{Input, Output, write_all};
 use std::alloc::Global;
 
-/// Carries out an order, and gives the exit status: 0 where all was done, 1 after a fault of the input or of a device,
-/// or for want of memory.
+/// Carries out an order, and gives the exit status: 0 where all was done, 1 after a fault of the input, of the query or of a
+/// device, or for want of memory.
 ///
 /// The file that the order names is read from `file`, the commands of a session from `commands`, the results go to
 /// `out`, and what is told of the run to `err`. A device that fails is not tried again.

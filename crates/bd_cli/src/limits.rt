@@ -2,7 +2,8 @@
 
 use bd_bson::Limits;
 
-/// What an input may be: bytes up to 4,294,967,295, in one read less than 4,294,967,297.
+/// An input has at most 4,294,967,295 bytes, and is read by at most 4,294,967,296 reads: one a byte, and the one that finds
+/// the end.
 pub const LIMITS: Limits = Limits {
     bytes: 4_294_967_295,
     turns: 4_294_967_296,

@@ -56,6 +56,7 @@ pub fn write_line<N: Reading>(document: N, out: &mut Vec<u8>) -> Result<(), NoMe
     }
 }
 
+/// Whether a fault is want of memory, which is no fault of the input.
 pub fn is_want_of_memory(fault: &Fault) -> bool
     ensures { IsTrue result ↔ (fault.now.kind ≡ kinds.NoMemory) }
 {

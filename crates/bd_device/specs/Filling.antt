@@ -4,7 +4,8 @@ use Rattle.std.specs.Io.KnownBytes.{Consumes}
 use Rattle.bd_device.specs.declared.reading.ReadFault.{ReadFault}
 use Rattle.bd_device.specs.declared.reading.ReadFault.TheVariants as reads
 
--- what a device gave before it failed to fill a room, of which it may give so many bytes: known bytes are lost from the old to the new
+-- What a device gave before it failed to fill a room of that size, where it may give as many bytes as the limit. Known bytes
+-- are lost from the old to the new.
 abbrev pub Unfilled : Option (List ℕ) → Option (List ℕ) → ℕ → ℕ → ReadFault → Type 0
 Unfilled old new room limit reads.Device = (given : List ℕ) × Consumes old new given × (length given < room) × (length given ≤ limit)
 Unfilled old new room limit reads.TooLong =

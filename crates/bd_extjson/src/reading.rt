@@ -149,7 +149,7 @@ fn read_items(
     Ok(found)
 }
 
-/// What an object stands for by its first name, where it has one. None stands for a document.
+/// The wrapper that the first name of an object says; none where the object is a document. An empty object has no first name.
 pub fn wrapper_named(first: Option<&str>) -> Option<Wrapper>
     ensures { result ≡ option_and_then wrapper_of (option_map (λ s. s.now) first.entry) }
 {

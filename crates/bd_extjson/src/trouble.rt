@@ -9,7 +9,7 @@ use std::alloc::{AllocError, AllocFailed};
 pub enum Trouble {
     /// The allocator gave no memory.
     Memory,
-    /// It is none.
+    /// It is no JSON here, or stands for no value.
     Refused,
 }
 
