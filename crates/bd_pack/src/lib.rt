@@ -1,4 +1,4 @@
-//! Lines of Extended JSON as BSON: the bytes of the document that a line is, which documents they are by `specs/Packable.antt`.
+//! Lines of Extended JSON as BSON. Which document a line is, and which bytes: `specs/Packable.antt`.
 #![tactic(auto)]
 
 mod line;

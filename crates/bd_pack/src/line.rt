@@ -56,11 +56,12 @@ fn pack_tree(
 pub struct Packer {
     alloc: Global,
     scratch: Scratch,
+    /// The bytes of one line: apart, since the limit of a document counts all of the vector that it is written to.
     spelled: Vec<u8>,
 }
 
 impl Packer {
-    /// It takes no memory yet.
+    /// A packer that has packed nothing. It takes no memory yet.
     pub fn new(alloc: Global) -> Packer {
         Packer {
             alloc,

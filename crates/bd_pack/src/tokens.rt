@@ -150,7 +150,7 @@ fn append_fields<'a>(
 }
 
 /// Appends the document that all of the text is.
-fn append_text_whole(
+fn append_document(
     alloc: Global,
     text: &str,
     scratch: &mut Scratch,
@@ -187,5 +187,5 @@ pub(crate) fn spell_line(
 {
     out.clear();
     let text = simdutf8::compat::from_utf8(line).ok()?;
-    append_text_whole(alloc, text, scratch, out)
+    append_document(alloc, text, scratch, out)
 }

@@ -10,11 +10,11 @@ use Rattle.bd_pack.proofs.tokens.spell_line.Goals as goal
 pub returns : goal.returns
 returns c =
     let same = (MatchResult-at_ok _ _ c.in_ok-text.text (bodies.ok_is c.from_utf8.result c.in_ok-text.text c.in_ok-text.ensures.value) c.from_utf8.ensures.cases).0 in
-    bodies.if_some c.append_text_whole.result _ _ (bodies.both_some c.append_text_whole.result _ _ c.append_text_whole.ensures.gives c.append_text_whole.ensures.within)
+    bodies.if_some c.append_document.result _ _ (bodies.both_some c.append_document.result _ _ c.append_document.ensures.gives c.append_document.ensures.within)
     (λ g.
     let fs = g.0.0 in
     let back : bytes_of (doc fs) ≡ bytes_of (doc (fields_of (pairs_of fs))) = ap (λ x. bytes_of (doc x)) (sym (fields_of-pairs_of fs)) in
-    let out : c.append_text_whole.new.out.items ≡ bytes_of (doc fs) = rw c.clear.ensures.items at g.0.2 in
+    let out : c.append_document.new.out.items ≡ bytes_of (doc fs) = rw c.clear.ensures.items at g.0.2 in
     let reads = ap (λ x. option_map pairs_of (option_and_then document (option_and_then (wrap 200) (json x)))) (sym same) ∙ ap (λ o. option_map pairs_of (option_and_then document o)) g.0.1 in
     let within = g.1 in
     (pairs_of fs, (reads, omega (arith, within, ap (λ x. length x) (out ∙ back))), out ∙ back))

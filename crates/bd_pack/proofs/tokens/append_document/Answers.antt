@@ -9,7 +9,7 @@ use Rattle.bd_extjson.specs.Progress.{through, after_key}
 use Rattle.bd_extjson.proofs.Turns as steps
 use Rattle.bd_extjson.proofs.WholeText.{whole_text}
 use Rattle.bd_pack.proofs.Bodies as bodies
-use Rattle.bd_pack.proofs.tokens.append_text_whole.Goals as goal
+use Rattle.bd_pack.proofs.tokens.append_document.Goals as goal
 
 pub returns-clause-gives : goal.returns-clause-gives
 returns-clause-gives c =
