@@ -2,45 +2,25 @@
 #![tactic(auto)]
 
 mod at_once;
-#[cfg(test)]
-mod both_tests;
 mod check;
 mod collecting;
 mod collection;
-#[cfg(test)]
-mod collection_tests;
 mod contents;
-#[cfg(test)]
-mod depth_tests;
 mod doc_buffer;
 mod doc_reader;
-#[cfg(test)]
-mod doc_reader_tests;
 mod dump_laws;
 mod element;
 mod elements;
 mod fault;
-#[cfg(test)]
-mod kinds_tests;
 mod laws;
 mod parts;
 mod pieces;
-#[cfg(test)]
-mod prefix_tests;
 mod raw;
 mod raw_parts;
 mod read;
-#[cfg(test)]
-mod samples;
-#[cfg(test)]
-mod tests;
 mod verdict_laws;
 mod views;
-#[cfg(test)]
-mod views_tests;
 mod write;
-#[cfg(test)]
-mod write_tests;
 mod writing;
 mod writing_scalars;
 mod writing_values;

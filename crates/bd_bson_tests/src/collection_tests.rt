@@ -1,6 +1,6 @@
 //! Dumps that were worked by hand, byte by byte.
 use crate::samples::fault_text;
-use crate::{FaultKind, Frame, next_frame, read_document, read_dump};
+use bd_bson::{FaultKind, Frame, next_frame, read_document, read_dump};
 use bd_value::{Node, Scalar};
 use std::test::Fail;
 

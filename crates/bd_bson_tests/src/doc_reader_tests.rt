@@ -1,7 +1,5 @@
 //! The documents of a device, one at a time: rows that were worked by hand.
-use crate::doc_buffer::{DocBuffer, DocFault};
-use crate::doc_reader::{DocReader, RawBytes};
-use crate::fault::FaultKind;
+use bd_bson::{DocBuffer, DocFault, DocReader, FaultKind, RawBytes};
 use bd_device::{Limits, MemoryInput, ReadFault, SystemInput, read_all};
 use std::alloc::Global;
 use std::process::Abort;

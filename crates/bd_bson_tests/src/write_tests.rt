@@ -1,6 +1,6 @@
 //! Documents whose bytes were worked by hand, and those that are not written.
 use crate::samples::{every_element, every_kind, framed};
-use crate::{WriteFault, read_document, write_document};
+use bd_bson::{WriteFault, read_document, write_document};
 use bd_value::{Document, Kind, NoMemory, Value};
 use std::alloc::Global;
 use std::process::Abort;

@@ -1,6 +1,6 @@
 //! Each call of a view, on every kind.
 use crate::samples::{every_element, every_kind, fault_text, framed, scalar_shown, shown, view};
-use crate::{RawValue, check_document};
+use bd_bson::{RawValue, check_document};
 use bd_value::{Kind, NoMemory, Node, Reading, Scalar, Value};
 use std::alloc::Global;
 use std::process::Abort;

@@ -1,0 +1,24 @@
+//! Tests of `bd_bson`, over its public calls. They stand in a crate of their own, since a crate is proved once more with its
+//! tests, and its edits wait for that.
+#![tactic(auto)]
+
+#[cfg(test)]
+mod both_tests;
+#[cfg(test)]
+mod collection_tests;
+#[cfg(test)]
+mod depth_tests;
+#[cfg(test)]
+mod doc_reader_tests;
+#[cfg(test)]
+mod kinds_tests;
+#[cfg(test)]
+mod prefix_tests;
+#[cfg(test)]
+mod samples;
+#[cfg(test)]
+mod tests;
+#[cfg(test)]
+mod views_tests;
+#[cfg(test)]
+mod write_tests;
