@@ -1,5 +1,5 @@
 -- Bytes of elements, one behind the other.
-use Rattle.std.proofs.Common.{◌≡◌, ◌≤◌, ◌+◌, ℕ, zero, suc, List, [], ◌∷◌, ◌++◌, length, take, drop, take_at, drop_at, refl, sym, ap, ap₂, ◌∙◌, arith, append_assoc, append-nil, length-append}
+use Rattle.std.proofs.Common.{◌≡◌, ◌≤◌, ◌+◌, ℕ, suc, List, [], ◌∷◌, ◌++◌, length, take, drop, take_at, drop_at, refl, sym, ap, ap₂, ◌∙◌, arith, append_assoc, append-nil, length-append}
 use Rattle.std.proofs.Common.{Bool, false, true≢false, Option, Some, None, Result, Ok, Err, rules}
 use Rattle.std.specs.Option.{is_some}
 use Rattle.std.specs.Prelude.{decimal, IfSome, IfOk, OnOk}

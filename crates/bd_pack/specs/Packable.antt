@@ -1,5 +1,5 @@
 -- Which lines are packed, and as what.
-use Rattle.std.specs.Prelude.{◌≡◌, ◌≢◌, ◌≤◌, ◌<◌, ℕ, List, length}
+use Rattle.std.specs.Prelude.{◌≢◌, ◌≤◌, ◌<◌, ℕ, List, length}
 use Rattle.bd_value.specs.Tree.{Doc, doc, fields_of}
 use Rattle.bd_bson.specs.Written.{bytes_of}
 use Rattle.bd_extjson.specs.Reads.{Reads}

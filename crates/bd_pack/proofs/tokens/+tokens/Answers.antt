@@ -1,7 +1,7 @@
-use Rattle.std.proofs.Common.{◌≡◌, ◌<◌, ◌≤◌, ◌-◌, ◌+◌, ◌++◌, ℕ, Some, None, List, [], ◌∷◌, length, map, option_map, refl, sym, ap, ap₂, ◌∙◌, rules, arith, append-nil, length-append}
+use Rattle.std.proofs.Common.{◌≡◌, ◌<◌, ◌≤◌, ◌-◌, ◌+◌, ◌++◌, Some, None, [], ◌∷◌, length, option_map, refl, sym, ap, ◌∙◌, rules, arith, append-nil, length-append}
 use Rattle.std.specs.Prelude.{decimal}
 use Rattle.std.proofs.lemmas.Result.{MatchResult-at_ok}
-use Rattle.json.specs.Json.{value, items, parse_map, after_end_array}
+use Rattle.json.specs.Json.{value, parse_map, after_end_array}
 use Rattle.json.specs.Reads.{token_of}
 use Rattle.json.proofs.Grammar.{items_end, read_key-shorter}
 use Rattle.bd_value.specs.Tree as trees
@@ -13,7 +13,7 @@ use Rattle.bd_bson.specs.Written.{bytes_of, fields_bytes, items_bytes}
 use Rattle.bd_extjson.specs.Whole.{whole_64}
 use Rattle.bd_value.specs.declared.kind.Kind.TheVariants as kinds
 use Rattle.bd_extjson.specs.Wrap.{bare_number, wrap, wrap_items, wrap_object, wrap_fields}
-use Rattle.bd_extjson.specs.Progress.{through, after_key, Gives}
+use Rattle.bd_extjson.specs.Progress.{through, after_key}
 use Rattle.bd_extjson.proofs.Turns as steps
 use Rattle.bd_extjson.proofs.Turns.{items_before, fields_before}
 use Rattle.bd_pack.proofs.Bodies as bodies

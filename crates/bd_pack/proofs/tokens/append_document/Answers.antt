@@ -1,11 +1,11 @@
-use Rattle.std.proofs.Common.{◌≡◌, ◌∷◌, [], Some, None, length, option_map, option_and_then, sym, ap, ◌∙◌, arith}
+use Rattle.std.proofs.Common.{◌≡◌, ◌∷◌, [], None, length, option_map, option_and_then, sym, ap, ◌∙◌, arith}
 use Rattle.std.proofs.lemmas.Result.{MatchResult-at_ok}
 use Rattle.json.specs.Json.{value, parse_map}
 use Rattle.json.specs.Reads.{token_of}
 use Rattle.bd_value.specs.Tree.{doc}
-use Rattle.bd_extjson.specs.Wrap.{wrap, wrap_object, wrap_fields}
+use Rattle.bd_extjson.specs.Wrap.{wrap, wrap_object}
 use Rattle.bd_extjson.specs.Wrappers.{wrapper_of}
-use Rattle.bd_extjson.specs.Progress.{through, after_key}
+use Rattle.bd_extjson.specs.Progress.{through}
 use Rattle.bd_extjson.proofs.Turns as steps
 use Rattle.bd_extjson.proofs.WholeText.{whole_text}
 use Rattle.bd_pack.proofs.Bodies as bodies

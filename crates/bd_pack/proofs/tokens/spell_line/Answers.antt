@@ -1,4 +1,4 @@
-use Rattle.std.proofs.Common.{◌≡◌, ◌≤◌, Some, length, option_map, option_and_then, sym, ap, ◌∙◌, arith}
+use Rattle.std.proofs.Common.{◌≡◌, length, option_map, option_and_then, sym, ap, ◌∙◌, arith}
 use Rattle.std.proofs.lemmas.Result.{MatchResult-at_ok}
 use Rattle.bd_value.specs.Tree.{doc, pairs_of, fields_of, fields_of-pairs_of}
 use Rattle.bd_bson.specs.Written.{bytes_of}
