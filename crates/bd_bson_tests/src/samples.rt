@@ -6,7 +6,7 @@ use std::process::Abort;
 
 /// An element that was written by hand.
 #[derive(Clone, Copy)]
-pub struct Element {
+pub(crate) struct Element {
     pub kind: Kind,
     pub name: &'static str,
     /// The type byte, the name and the value.
@@ -19,7 +19,7 @@ pub struct Element {
 }
 
 /// An element of each kind, in the order of the kinds.
-pub fn every_element() -> [Element; 19] {
+pub(crate) fn every_element() -> [Element; 19] {
     [
         Element {
             kind: Kind::MinKey,
@@ -162,14 +162,14 @@ pub fn every_element() -> [Element; 19] {
 }
 
 /// The least four bytes of a number, the least byte first.
-pub fn push_number(bytes: &mut Vec<u8>, number: usize) -> Result<(), NoMemory> {
+pub(crate) fn push_number(bytes: &mut Vec<u8>, number: usize) -> Result<(), NoMemory> {
     let all = (number as u64).to_le_bytes();
     bytes.extend_from_slice(&[all[0], all[1], all[2], all[3]])?;
     Ok(())
 }
 
 /// The document of these bytes of elements.
-pub fn framed(alloc: Global, elements: &[u8]) -> Result<Vec<u8>, NoMemory> {
+pub(crate) fn framed(alloc: Global, elements: &[u8]) -> Result<Vec<u8>, NoMemory> {
     let mut bytes = Vec::new(alloc);
     push_number(&mut bytes, elements.len().wrapping_add(5))?;
     bytes.extend_from_slice(elements)?;
@@ -178,7 +178,7 @@ pub fn framed(alloc: Global, elements: &[u8]) -> Result<Vec<u8>, NoMemory> {
 }
 
 /// The bytes of an element of each kind, one after the other.
-pub fn every_kind(alloc: Global) -> Result<Vec<u8>, NoMemory> {
+pub(crate) fn every_kind(alloc: Global) -> Result<Vec<u8>, NoMemory> {
     let mut bytes = Vec::new(alloc);
     for element in every_element() {
         bytes.extend_from_slice(element.bytes)?;
@@ -187,7 +187,7 @@ pub fn every_kind(alloc: Global) -> Result<Vec<u8>, NoMemory> {
 }
 
 /// The fault, with the names of its path each behind a dot.
-pub fn fault_text(alloc: Global, fault: &Fault) -> Result<String, NoMemory> {
+pub(crate) fn fault_text(alloc: Global, fault: &Fault) -> Result<String, NoMemory> {
     let mut text = format!(in alloc;
         "{} at {} in {}:",
         fault.kind.words(),
@@ -203,7 +203,7 @@ pub fn fault_text(alloc: Global, fault: &Fault) -> Result<String, NoMemory> {
 
 /// What is read from document 3 at the place 100: the words for its only value, how many values it has where it has not one
 /// alone, or the fault.
-pub fn answer(rt: &impl Abort, alloc: Global, bytes: &[u8]) -> Result<String, NoMemory> {
+pub(crate) fn answer(rt: &impl Abort, alloc: Global, bytes: &[u8]) -> Result<String, NoMemory> {
     assert!(rt; bytes.len() < 100_000);
     match read_document(alloc, bytes, 100, 3) {
         Ok(document) => {
@@ -228,7 +228,7 @@ pub fn answer(rt: &impl Abort, alloc: Global, bytes: &[u8]) -> Result<String, No
 }
 
 /// The bytes, seen as a document that has no fault.
-pub fn view<'a>(rt: &impl Abort, alloc: Global, bytes: &'a [u8]) -> RawDoc<'a> {
+pub(crate) fn view<'a>(rt: &impl Abort, alloc: Global, bytes: &'a [u8]) -> RawDoc<'a> {
     assert!(rt; bytes.len() < 100_000);
     match check_document(alloc, bytes, 0, 0) {
         Ok(document) => document,
@@ -237,7 +237,7 @@ pub fn view<'a>(rt: &impl Abort, alloc: Global, bytes: &'a [u8]) -> RawDoc<'a> {
 }
 
 /// The kind of a value and what it holds, of documents and arrays the number of their values.
-pub fn shown(alloc: Global, value: &Value) -> Result<String, NoMemory> {
+pub(crate) fn shown(alloc: Global, value: &Value) -> Result<String, NoMemory> {
     match value {
         Value::MinKey => scalar_shown(alloc, Scalar::MinKey),
         Value::Undefined => scalar_shown(alloc, Scalar::Undefined),
@@ -288,7 +288,7 @@ pub fn shown(alloc: Global, value: &Value) -> Result<String, NoMemory> {
 }
 
 /// The same of a scalar; code with scope is shown without it.
-pub fn scalar_shown(alloc: Global, scalar: Scalar<'_>) -> Result<String, NoMemory> {
+pub(crate) fn scalar_shown(alloc: Global, scalar: Scalar<'_>) -> Result<String, NoMemory> {
     match scalar {
         Scalar::MinKey => format!(in alloc; "min key"),
         Scalar::Undefined => format!(in alloc; "undefined"),
