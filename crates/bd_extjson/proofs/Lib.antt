@@ -11,6 +11,7 @@ pub mod Parts
 pub mod Pieces
 pub mod Prefix
 pub mod Printed
+pub mod Quiet
 pub mod ReadBack
 pub mod Rows
 pub mod ScalarsBack

@@ -2,23 +2,55 @@
 ghost use Rattle.std.specs.Prelude.{◌≡◌, ◌<◌, ◌++◌, OnOk, OnErr, IsTrue, string_bytes, map, if◌then◌else◌, [], ◌∷◌};
 ghost use Rattle.std.specs.Char.{digit_char};
 ghost use Rattle.std.specs.Io.{StartsWith};
-ghost use Rattle.std.specs.List.{position, join_with_byte};
+ghost use Rattle.std.specs.List.{list_any, position, join_with_byte};
 ghost use Rattle.bd_extjson.specs.Text.{needs_escape, escape_byte, escaped, quoted};
 
 use bd_value::NoMemory;
 
 /// Whether a byte may not stand for itself in a string.
+#[inline(always)]
 fn needs_escape(b: u8) -> bool
     ensures { result ≡ needs_escape b }
 {
     b == b'"' || b == b'\\' || b < 32
 }
 
+/// Whether a byte of these may not stand for itself. No byte ends the look, so that all are looked at together.
+#[inline(always)]
+fn any_escape(bytes: &[u8]) -> bool
+    ensures { result ≡ list_any needs_escape bytes.now }
+{
+    let mut any = false;
+    for b in bytes {
+        any |= needs_escape(*b);
+    }
+    any
+}
+
+#[inline(always)]
+fn first_of_few(text: &[u8]) -> Option<usize>
+    ensures { result ≡ position needs_escape text.now }
+{
+    text.iter().position(|b| needs_escape(*b))
+}
+
+/// How many bytes are looked at together.
+const STEP: usize = 16;
+
+/// The place of the first byte that may not stand for itself.
 #[inline(always)]
 fn first_escape(text: &[u8]) -> Option<usize>
     ensures { result ≡ position needs_escape text.now }
 {
-    text.iter().position(|b| needs_escape(*b))
+    let mut passed = 0;
+    while text.len() - passed >= STEP && !any_escape(&text[passed..passed + STEP]) {
+        passed += STEP;
+    }
+    let (_, rest) = text.split_at(passed);
+    match first_of_few(rest) {
+        Some(place) => Some(passed + place),
+        None => None,
+    }
 }
 
 fn hex_digit(n: u8) -> u8

@@ -1,6 +1,4 @@
-use Rattle.std.proofs.Common.{rules, arith, ◌≡◌, ◌≤◌, [], max, min, ap, ◌∙◌, sym}
-use Rattle.bd_value.specs.Depth.{depth, fields_depth}
-use Rattle.bd_value.specs.Tree.{fields_of}
+use Rattle.std.proofs.Common.{rules, arith, ◌≡◌, []}
 use Rattle.bd_value.proofs.Parted as parted
 use Rattle.bd_value.proofs.nesting.+nesting.Goals as goal
 
