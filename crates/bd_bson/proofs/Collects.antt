@@ -5,25 +5,19 @@ use Rattle.std.proofs.lemmas.List.{take-append-drop, drop-drop, length-drop, len
 use Rattle.std.proofs.lemmas.Option.{slice_get-get_or}
 use Rattle.bd_value.specs.Tree.{Tree, Doc, doc, fields_of, pairs_in, pairs_of-fields_of}
 use Rattle.bd_value.specs.declared.kind.Kind.TheVariants as kinds
-use Rattle.bd_bson.specs.Fault.{Fault}
-use Rattle.bd_bson.specs.Spelling.{IsDocument}
-use Rattle.bd_bson.specs.Dump.{AreJoined, IsDump, frame_fault}
-use Rattle.bd_bson.specs.Next.{IsNext}
-use Rattle.bd_bson.specs.Sound.{Sound, stands, stands_is}
+use Rattle.bd_check.specs.Fault.{Fault}
+use Rattle.bd_raw.specs.Spelling.{IsDocument}
+use Rattle.bd_check.specs.Dump.{AreJoined, IsDump, frame_fault}
+use Rattle.bd_check.specs.Next.{IsNext}
+use Rattle.bd_raw.specs.Sound.{Sound, stands, stands_is}
 use Rattle.bd_bson.specs.Starts.{StandAt, StandAt-prop, documents_at}
-use Rattle.bd_bson.specs.Told.{Tells}
-use Rattle.bd_bson.specs.declared.fault.Fault as told
-use Rattle.bd_bson.specs.declared.raw.RawDoc.{RawDoc}
+use Rattle.bd_check.specs.Told.{Tells}
+use Rattle.bd_check.specs.declared.fault.Fault as told
+use Rattle.bd_raw.specs.declared.raw.RawDoc.{RawDoc}
 use Rattle.bd_bson.specs.Collection.{documents, IsUnread}
 use Rattle.bd_bson.specs.declared.collection.Dump.{Dump}
-use Rattle.bd_bson.proofs.Readable.{reads_at}
-use Rattle.bd_bson.proofs.Dumps.{joined_append, joined_one, document_frame, frame_inside}
-
-pub next_is : (bytes : List ℕ) (at n k : ℕ) (raw : RawDoc) → at + n ≤ length bytes → k ≡ n → IsDocument (pairs_in (stands raw.sound)) (take k (drop at bytes)) → IsNext bytes at (Some (raw, at + n))
-next_is bytes at n k raw le same is =
-    let here : IsDocument (pairs_in (stands raw.sound)) (take n (drop at bytes)) = subst (λ (m : ℕ). IsDocument (pairs_in (stands raw.sound)) (take m (drop at bytes))) same is in
-    let cut : drop at bytes ≡ take n (drop at bytes) ++ drop (at + n) bytes = sym (take-append-drop n (drop at bytes)) ∙ ap (λ x. take n (drop at bytes) ++ x) (drop-drop n at bytes) in
-    (take n (drop at bytes), here, cut, omega (arith, length-take n (drop at bytes), length-drop at bytes), le)
+use Rattle.bd_raw.proofs.Readable.{reads_at}
+use Rattle.bd_check.proofs.Dumps.{joined_append, joined_one, document_frame, frame_inside}
 
 -- ---- the documents at some starts
 

@@ -3,14 +3,14 @@ use Rattle.std.proofs.Common.{◌≡◌, ◌≤◌, ℕ, zero, suc, ◌+◌, Lis
 use Rattle.std.proofs.lemmas.List.{nil_from_length, take_at, drop_at}
 use Rattle.std.specs.List.{AllByRecursion}
 use Rattle.bd_value.specs.Tree.{Doc}
-use Rattle.bd_bson.specs.declared.fault.FaultKind.{FaultKind}
-use Rattle.bd_bson.specs.Fault.{Fault}
-use Rattle.bd_bson.specs.FirstFault.{first_fault}
-use Rattle.bd_bson.specs.Spelling.{IsDocument}
-use Rattle.bd_bson.specs.Dump.{AreJoined, IsWalk, frame_length, framed_fault, frame_fault}
+use Rattle.bd_check.specs.declared.fault.FaultKind.{FaultKind}
+use Rattle.bd_check.specs.Fault.{Fault}
+use Rattle.bd_check.specs.FirstFault.{first_fault}
+use Rattle.bd_raw.specs.Spelling.{IsDocument}
+use Rattle.bd_check.specs.Dump.{AreJoined, IsWalk, frame_length, framed_fault, frame_fault}
 use Rattle.bd_bson.specs.Verdicts.{verdicts_by, verdicts_from, verdicts_at, verdicts, BeginAs}
-use Rattle.bd_bson.proofs.Takes.{IsBytes}
-use Rattle.bd_bson.proofs.Dumps.{document_faultless, document_frame, frame_inside, walk_on}
+use Rattle.bd_check.proofs.Takes.{IsBytes}
+use Rattle.bd_check.proofs.Dumps.{document_faultless, document_frame, frame_inside, walk_on}
 
 abbrev Verdicts : Type 0
 Verdicts = List (Option Fault)

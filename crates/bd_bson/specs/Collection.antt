@@ -1,12 +1,12 @@
 -- The documents of a dump that was read, and why one was not.
 use Rattle.std.specs.Prelude.{◌≡◌, ◌<◌, ◌≤◌, ◌⊎◌, ℕ, List, [], length}
 use Rattle.bd_value.specs.Tree.{Doc}
-use Rattle.bd_bson.specs.Dump.{FailsAfter}
+use Rattle.bd_check.specs.Dump.{FailsAfter}
 use Rattle.bd_bson.specs.Starts.{documents_at}
-use Rattle.bd_bson.specs.Told.{fault_view, IsWantOfMemory}
+use Rattle.bd_check.specs.Told.{fault_view, IsWantOfMemory}
 use Rattle.bd_bson.specs.declared.collection.Dump.{Dump}
-use Rattle.bd_bson.specs.declared.fault.Fault as declared
-use Rattle.bd_bson.specs.declared.fault.FaultKind.TheVariants.{DumpTooLong}
+use Rattle.bd_check.specs.declared.fault.Fault as declared
+use Rattle.bd_check.specs.declared.fault.FaultKind.TheVariants.{DumpTooLong}
 
 -- the documents of a dump, in their order
 unfoldable pub documents : Dump → List Doc

@@ -3,7 +3,7 @@ use Rattle.std.specs.Prelude.{ℕ, List, [], ◌∷◌, drop}
 use Rattle.std.specs.List.{AllByRecursion}
 use Rattle.bd_value.specs.Tree.{Doc, pairs_in}
 use Rattle.bd_value.specs.declared.kind.Kind.TheVariants as kinds
-use Rattle.bd_bson.specs.Sound.{Sound, Sound-prop, stands}
+use Rattle.bd_raw.specs.Sound.{Sound, Sound-prop, stands}
 
 -- at each start a document stands, whatever is behind it
 abbrev pub StandAt : List ℕ → List ℕ → Type 0

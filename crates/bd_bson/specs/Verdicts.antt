@@ -2,9 +2,9 @@
 -- its length counts. Only a fault of the length itself is the end, since nothing tells then where the next one stands.
 use Rattle.std.specs.Prelude.{ℕ, zero, suc, ◌+◌, List, [], ◌∷◌, ◌++◌, ◌≡◌, length, drop, map, Option, Some, None, Result, Ok, Err}
 use Rattle.bd_value.specs.Tree.{Doc}
-use Rattle.bd_bson.specs.Fault.{Fault}
-use Rattle.bd_bson.specs.Dump.{frame_length, frame_fault}
-use Rattle.bd_bson.specs.declared.fault.FaultKind.{FaultKind}
+use Rattle.bd_check.specs.Fault.{Fault}
+use Rattle.bd_check.specs.Dump.{frame_length, frame_fault}
+use Rattle.bd_check.specs.declared.fault.FaultKind.{FaultKind}
 
 -- the verdict on a document, by what its length tells, and those behind as many bytes
 abbrev pub verdicts_by : Option Fault → (ℕ → List (Option Fault)) → Result (Option ℕ) FaultKind → List (Option Fault)

@@ -3,13 +3,12 @@
 ghost use Rattle.std.specs.Prelude.{◌≡◌, ◌≤◌, IfOk, IfErr, [], List, Option, length};
 ghost use Rattle.bd_value.specs.Tree.{Doc};
 ghost use Rattle.bd_bson.specs.Collection.{documents, bytes_of, IsUnread};
-ghost use Rattle.bd_bson.specs.Dump.{IsDump, IsWalk};
+ghost use Rattle.bd_check.specs.Dump.{IsDump, IsWalk};
 ghost use Rattle.bd_bson.specs.Starts.{StandAt, documents_at};
-ghost use Rattle.bd_bson.specs.Fault.{Fault as Where};
+ghost use Rattle.bd_check.specs.Fault.{Fault as Where};
 
 use crate::collection::Dump;
-use crate::fault::{Fault, FaultKind, want_of_memory};
-use crate::read::next_document;
+use bd_check::{Fault, FaultKind, next_document, want_of_memory};
 use std::alloc::Global;
 
 /// The fault of bytes that are too many for a dump, which has no place.

@@ -2,10 +2,10 @@
 
 ghost use Rattle.std.specs.Prelude.{◌≡◌, ◌≤◌, ◌<◌, Some, length, slice_get};
 ghost use Rattle.bd_value.specs.Tree.{pairs_in};
-ghost use Rattle.bd_bson.specs.Sound.{stands};
+ghost use Rattle.bd_raw.specs.Sound.{stands};
 ghost use Rattle.bd_bson.specs.Starts.{StandAt, StandAt-prop};
 
-use crate::raw::RawDoc;
+use bd_raw::RawDoc;
 
 /// The documents of a dump, in their order. A document is named by its number, from 0. It keeps the bytes and where each
 /// document starts, and no trees.
@@ -33,10 +33,7 @@ impl Dump {
         ensures document { slice_get (documents self.now) n ≡ Some (pairs_in (stands result.sound)) }
         ensures kept { result.bytes.now ≡ bytes_of self.now }
     {
-        RawDoc {
-            bytes: &self.bytes,
-            start: self.starts[n as usize] as usize,
-        }
+        RawDoc::at(&self.bytes, self.starts[n as usize] as usize)
     }
 
     /// The bytes that it was read from. It takes no memory.

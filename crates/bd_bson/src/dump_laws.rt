@@ -2,8 +2,8 @@
 
 ghost use Rattle.std.specs.Prelude.{◌≡◌, ◌≤◌, ◌<◌, ◌⊎◌, ℕ, List, length, slice_index};
 ghost use Rattle.bd_value.specs.Tree.{Doc};
-ghost use Rattle.bd_bson.specs.Fault.{Fault};
-ghost use Rattle.bd_bson.specs.Dump.{IsDump, FailsAfter};
+ghost use Rattle.bd_check.specs.Fault.{Fault};
+ghost use Rattle.bd_check.specs.Dump.{IsDump, FailsAfter};
 
 /// Bytes that are not too many are a dump of documents or have one first fault, never both, and each in one way alone.
 pub fn dump_or_fault()

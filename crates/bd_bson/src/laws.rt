@@ -2,10 +2,10 @@
 
 ghost use Rattle.std.specs.Prelude.{◌≡◌, ◌<◌, ◌++◌, ℕ, List, Option, None, slice_index};
 ghost use Rattle.bd_value.specs.Tree.{Doc};
-ghost use Rattle.bd_bson.specs.Fault.{Fault};
-ghost use Rattle.bd_bson.specs.Spelling.{IsDocument};
-ghost use Rattle.bd_bson.specs.FirstFault.{first_fault};
-ghost use Rattle.bd_bson.specs.Dump.{AreJoined, IsWalk};
+ghost use Rattle.bd_check.specs.Fault.{Fault};
+ghost use Rattle.bd_raw.specs.Spelling.{IsDocument};
+ghost use Rattle.bd_check.specs.FirstFault.{first_fault};
+ghost use Rattle.bd_check.specs.Dump.{AreJoined, IsWalk};
 
 /// Bytes spell one document at most.
 pub fn spells_one_document()

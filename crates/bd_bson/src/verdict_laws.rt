@@ -3,11 +3,11 @@
 ghost use Rattle.std.specs.Prelude.{◌≡◌, ◌<◌, ◌+◌, ℕ, List, [], ◌∷◌, Option, None, Some, Ok, Err, take, drop, slice_index};
 ghost use Rattle.std.specs.List.{AllByRecursion};
 ghost use Rattle.bd_value.specs.Tree.{Doc};
-ghost use Rattle.bd_bson.specs.Dump.{AreJoined, IsWalk, frame_length};
-ghost use Rattle.bd_bson.specs.Fault.{Fault};
-ghost use Rattle.bd_bson.specs.FirstFault.{first_fault};
+ghost use Rattle.bd_check.specs.Dump.{AreJoined, IsWalk, frame_length};
+ghost use Rattle.bd_check.specs.Fault.{Fault};
+ghost use Rattle.bd_check.specs.FirstFault.{first_fault};
 ghost use Rattle.bd_bson.specs.Verdicts.{BeginAs, verdicts, verdicts_at};
-ghost use Rattle.bd_bson.specs.declared.fault.FaultKind.{FaultKind as Kind};
+ghost use Rattle.bd_check.specs.declared.fault.FaultKind.{FaultKind as Kind};
 
 /// Documents are judged in turn, each by the bytes that its length counts, whatever was found before it. The end of the
 /// bytes is the end, and so is a fault of a length itself.

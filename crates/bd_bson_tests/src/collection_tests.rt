@@ -1,6 +1,7 @@
 //! Dumps that were worked by hand, byte by byte.
 use crate::samples::fault_text;
-use bd_bson::{FaultKind, Frame, next_frame, read_document, read_dump};
+use bd_bson::read_dump;
+use bd_check::{FaultKind, Frame, next_frame, read_document};
 use bd_value::{Node, Scalar};
 use std::test::Fail;
 

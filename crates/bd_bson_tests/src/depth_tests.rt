@@ -1,6 +1,6 @@
 //! Documents in documents and scopes, at the limit of 200 levels.
 use crate::samples::{answer, framed, push_number};
-use bd_bson::{FaultKind, read_document};
+use bd_check::{FaultKind, read_document};
 use bd_value::NoMemory;
 use std::alloc::Global;
 use std::test::Fail;

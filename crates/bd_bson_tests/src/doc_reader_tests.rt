@@ -1,6 +1,7 @@
 //! The documents of a device, one at a time: rows that were worked by hand.
-use bd_bson::{DocBuffer, DocFault, DocReader, FaultKind, RawBytes};
+use bd_check::FaultKind;
 use bd_device::{Limits, MemoryInput, ReadFault, SystemInput, read_all};
+use bd_stream::{DocBuffer, DocFault, DocReader, RawBytes};
 use std::alloc::Global;
 use std::process::Abort;
 use std::test::Fail;

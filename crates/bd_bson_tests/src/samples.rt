@@ -1,5 +1,6 @@
 //! What the tests share: bytes of every kind that were written by hand, and words for values and faults.
-use bd_bson::{Fault, RawDoc, check_document, read_document};
+use bd_check::{Fault, check_document, read_document};
+use bd_raw::RawDoc;
 use bd_value::{Kind, NoMemory, Scalar, Value};
 use std::alloc::Global;
 use std::process::Abort;

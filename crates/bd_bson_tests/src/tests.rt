@@ -1,6 +1,6 @@
 //! Documents and faults that were worked by hand, byte by byte.
 use crate::samples::{answer, fault_text};
-use bd_bson::{Frame, next_frame, read_document};
+use bd_check::{Frame, next_frame, read_document};
 use bd_value::{Document, Value};
 use std::test::Fail;
 

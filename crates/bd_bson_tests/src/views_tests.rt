@@ -1,6 +1,7 @@
 //! Each call of a view, on every kind.
 use crate::samples::{every_element, every_kind, fault_text, framed, scalar_shown, shown, view};
-use bd_bson::{RawValue, check_document};
+use bd_check::check_document;
+use bd_raw::RawValue;
 use bd_value::{Kind, NoMemory, Node, Reading, Scalar, Value};
 use std::alloc::Global;
 use std::process::Abort;

@@ -1,7 +1,8 @@
 //! Documents whose bytes were worked by hand, and those that are not written.
 use crate::samples::{every_element, every_kind, framed};
-use bd_bson::{WriteFault, read_document, write_document};
+use bd_check::read_document;
 use bd_value::{Document, Kind, NoMemory, Value};
+use bd_write::{WriteFault, write_document};
 use std::alloc::Global;
 use std::process::Abort;
 use std::test::Fail;

@@ -8,11 +8,11 @@ use Rattle.bd_value.specs.Tree.{Doc, doc, fields_of}
 use Rattle.bd_extjson.specs.Text.{text}
 use Rattle.std.proofs.KnownBytes.{Appends-nil}
 use Rattle.bd_bson.specs.Collection.{IsUnread}
-use Rattle.bd_bson.specs.Told.{fault_view}
-use Rattle.bd_bson.specs.declared.fault.Fault as declared
-use Rattle.bd_bson.specs.declared.fault.FaultKind.TheVariants as kinds
-use Rattle.bd_bson.specs.Fault.{Fault}
-use Rattle.bd_bson.specs.Dump.{IsWalk}
+use Rattle.bd_check.specs.Told.{fault_view}
+use Rattle.bd_check.specs.declared.fault.Fault as declared
+use Rattle.bd_check.specs.declared.fault.FaultKind.TheVariants as kinds
+use Rattle.bd_check.specs.Fault.{Fault}
+use Rattle.bd_check.specs.Dump.{IsWalk}
 use Rattle.bd_cli.specs.Shown.{Shown, lines, error_line, fault_text, shown_refusal}
 use Rattle.bd_cli.specs.declared.status.Status.{Status}
 use Rattle.bd_cli.specs.declared.status.Status.TheVariants.{Failed}

@@ -2,9 +2,9 @@
 use Rattle.std.proofs.Common.{◌≡◌, ◌⊎◌, ℕ, ℤ, List, [], Option, Result, Ok, Err, refl, sym, ap₂, ◌∙◌, subst, inl, inr, codes}
 use Rattle.bd_value.specs.Tree.{Doc}
 use Rattle.bd_device.specs.declared.reading.ReadFault.{ReadFault}
-use Rattle.bd_bson.specs.Fault.{Fault}
-use Rattle.bd_bson.proofs.Takes.{IsBytes}
-use Rattle.bd_bson.proofs.Dumps.{walk_once, walk_on}
+use Rattle.bd_check.specs.Fault.{Fault}
+use Rattle.bd_check.proofs.Takes.{IsBytes}
+use Rattle.bd_check.proofs.Dumps.{walk_once, walk_on}
 use Rattle.bd_cli.specs.QueryText.{IsQuery, IsNoQuery}
 use Rattle.bd_cli.specs.Shown.{Shown, shown_refusal}
 use Rattle.bd_cli.specs.Found.{IsFound, IsFoundIn, shown_find}

@@ -2,9 +2,9 @@
 use Rattle.std.proofs.Common.{◌≡◌, ℕ, suc, ◌+◌, List, [], ◌∷◌, length, map, Option, Some, None, refl, sym, ap, ◌∙◌, arith}
 use Rattle.bd_value.specs.Tree.{Doc}
 use Rattle.bd_device.specs.declared.reading.ReadFault.{ReadFault}
-use Rattle.bd_bson.specs.Fault.{Fault}
+use Rattle.bd_check.specs.Fault.{Fault}
 use Rattle.bd_bson.specs.Verdicts.{verdicts, BeginAs}
-use Rattle.bd_bson.proofs.Frames.{frames_once}
+use Rattle.bd_stream.proofs.Frames.{frames_once}
 use Rattle.bd_bson.proofs.Verdicts.{as_walk}
 use Rattle.bd_cli.specs.Judged.{IsJudged, faulty, shown_verdicts, verdict_lines, verdicts_line, verdicts_status}
 use Rattle.bd_cli.specs.Shown.{Shown, IsShown, shown_unread, walk_status}

@@ -8,16 +8,16 @@ use Rattle.std.proofs.lemmas.List.Sums.{sum_by-append}
 use Rattle.bd_device.specs.Counts.{after_more}
 use Rattle.bd_device.specs.declared.reading.ReadFault.{ReadFault}
 use Rattle.bd_device.specs.declared.reading.ReadFault.TheVariants as reads
-use Rattle.bd_bson.specs.Fault.{Fault}
-use Rattle.bd_bson.specs.declared.fault.Fault as told
-use Rattle.bd_bson.specs.declared.doc_buffer.DocFault.{DocFault}
-use Rattle.bd_bson.specs.declared.doc_buffer.DocFault.TheVariants as faults
-use Rattle.bd_bson.specs.Dump.{frame_length}
-use Rattle.bd_bson.specs.FirstFault.{first_fault}
-use Rattle.bd_bson.specs.Stream.{IsFrame, AreFrames, CutShort, HasNoFrame, OnFrame, OnRead}
-use Rattle.bd_bson.specs.Told.{fault_view}
+use Rattle.bd_check.specs.Fault.{Fault}
+use Rattle.bd_check.specs.declared.fault.Fault as told
+use Rattle.bd_stream.specs.declared.doc_buffer.DocFault.{DocFault}
+use Rattle.bd_stream.specs.declared.doc_buffer.DocFault.TheVariants as faults
+use Rattle.bd_check.specs.Dump.{frame_length}
+use Rattle.bd_check.specs.FirstFault.{first_fault}
+use Rattle.bd_stream.specs.Stream.{IsFrame, AreFrames, CutShort, HasNoFrame, OnFrame, OnRead}
+use Rattle.bd_check.specs.Told.{fault_view}
 use Rattle.bd_bson.specs.Verdicts.{verdicts_at, verdicts}
-use Rattle.bd_bson.proofs.Frames.{frame_on, frames_more}
+use Rattle.bd_stream.proofs.Frames.{frame_on, frames_more}
 use Rattle.bd_bson.proofs.Verdicts.{none_at, turn_at, last_at}
 use Rattle.bd_cli.specs.Judged.{verdict_line, verdict_lines, faulty, verdicts_line, verdicts_status, shown_verdicts}
 use Rattle.bd_cli.specs.Judging.{AreVerdicts, Judges, JudgesUpTo, FoundLast, findings_told, findings_status}

@@ -1,7 +1,4 @@
-pub mod Filled
 pub mod Runs
-pub mod Taken
-pub mod Told
 pub mod LinesTaken
 pub mod Words
 pub mod Streams
@@ -13,11 +10,7 @@ pub mod Queries
 pub mod Numbers
 pub mod Turns
 pub mod Finds
-pub mod BatchSize
 pub mod FoundOnce
-pub mod FindTaken
-pub mod CheckTaken
-pub mod PackTaken
 pub mod JudgedOnce
 pub mod Packs
 pub mod PackedOnce

@@ -11,8 +11,8 @@ use Rattle.std.proofs.Math.Seq.{drop-cons}
 use Rattle.memchr.specs.Find.{IsFirstByte, is_byte}
 use Rattle.bd_value.specs.Tree.{Doc}
 use Rattle.bd_extjson.specs.Reads.{Reads, reading}
-use Rattle.bd_extjson.specs.declared.json_fault.JsonFault.{JsonFault}
-use Rattle.bd_extjson.specs.declared.json_fault.JsonFaultKind.TheVariants as kinds
+use Rattle.bd_diagnose.specs.declared.json_fault.JsonFault.{JsonFault}
+use Rattle.bd_diagnose.specs.declared.json_fault.JsonFaultKind.TheVariants as kinds
 use Rattle.bd_pack.specs.Packable.{plain, IsPackable, IsBad}
 use Rattle.bd_cli.specs.Packed.{lines_of, is_blank, packed_bytes, Packs, IsPacked, packed_text, packed_status, shown_packed}
 use Rattle.bd_cli.specs.Packing.{IsPacking, StopsPacking, lines_left, left_size}

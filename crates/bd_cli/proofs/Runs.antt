@@ -7,13 +7,13 @@ use Rattle.bd_device.specs.Counts.{after_more}
 use Rattle.bd_device.specs.Devices.{LosesAtLeast}
 use Rattle.bd_device.specs.declared.reading.ReadFault.{ReadFault}
 use Rattle.bd_device.specs.declared.reading.ReadFault.TheVariants as reads
-use Rattle.bd_bson.specs.Fault.{Fault}
-use Rattle.bd_bson.specs.Dump.{AreJoined}
-use Rattle.bd_bson.specs.Told.{fault_view}
-use Rattle.bd_bson.specs.declared.fault.Fault as told
-use Rattle.bd_bson.proofs.Takes.{IsBytes}
-use Rattle.bd_bson.proofs.Dumps.{walk_once, walk_on, joined_once}
-use Rattle.bd_bson.proofs.Frames.{cut_stuck}
+use Rattle.bd_check.specs.Fault.{Fault}
+use Rattle.bd_check.specs.Dump.{AreJoined}
+use Rattle.bd_check.specs.Told.{fault_view}
+use Rattle.bd_check.specs.declared.fault.Fault as told
+use Rattle.bd_check.proofs.Takes.{IsBytes}
+use Rattle.bd_check.proofs.Dumps.{walk_once, walk_on, joined_once}
+use Rattle.bd_stream.proofs.Frames.{cut_stuck}
 use Rattle.bd_cli.specs.Shown.{Shown, IsShown, lines, error_line, count_line, fault_text, read_words, walk_text, shown_walk, shown_refusal, shown_unread}
 use Rattle.bd_cli.specs.Ran.{WasRead, WasStreamed, EndsWithin, Wrote, Told, Ran, Dumped}
 use Rattle.bd_cli.specs.Walked.{Ends, Walks, walk_told, told_status}

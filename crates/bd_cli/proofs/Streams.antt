@@ -9,13 +9,13 @@ use Rattle.std.proofs.Transfers.{starts_with_of_append}
 use Rattle.bd_device.specs.Counts.{after_more}
 use Rattle.bd_device.specs.declared.reading.ReadFault.{ReadFault}
 use Rattle.bd_device.specs.declared.reading.ReadFault.TheVariants as reads
-use Rattle.bd_bson.specs.Fault.{Fault}
-use Rattle.bd_bson.specs.FirstFault.{first_fault}
-use Rattle.bd_bson.specs.Dump.{frame_length, framed_fault, frame_fault}
-use Rattle.bd_bson.specs.Stream.{IsFrame, IsCut, CutShort}
-use Rattle.bd_bson.specs.Told.{fault_view}
-use Rattle.bd_bson.specs.declared.fault.Fault as told
-use Rattle.bd_bson.proofs.Frames.{frame_on}
+use Rattle.bd_check.specs.Fault.{Fault}
+use Rattle.bd_check.specs.FirstFault.{first_fault}
+use Rattle.bd_check.specs.Dump.{frame_length, framed_fault, frame_fault}
+use Rattle.bd_stream.specs.Stream.{IsFrame, IsCut, CutShort}
+use Rattle.bd_check.specs.Told.{fault_view}
+use Rattle.bd_check.specs.declared.fault.Fault as told
+use Rattle.bd_stream.proofs.Frames.{frame_on}
 use Rattle.bd_cli.specs.Ran.{WasStreamed}
 
 -- what is left, where it is known

@@ -7,18 +7,18 @@ use Rattle.bd_value.specs.Tree.{Doc}
 use Rattle.bd_device.specs.Counts.{after_more, greatest}
 use Rattle.bd_device.specs.declared.reading.ReadFault.{ReadFault}
 use Rattle.bd_device.specs.declared.reading.ReadFault.TheVariants as reads
-use Rattle.bd_bson.specs.Spelling.{IsDocument}
-use Rattle.bd_bson.specs.FirstFault.{first_fault}
-use Rattle.bd_bson.specs.Dump.{AreJoined}
-use Rattle.bd_bson.specs.Stream.{IsFrame, CutShort, HasNoFrame, OnFrame, OnRead}
-use Rattle.bd_bson.specs.Told.{fault_view}
-use Rattle.bd_bson.specs.declared.fault.Fault as told
-use Rattle.bd_bson.proofs.Dumps.{joined_append, joined_one}
+use Rattle.bd_raw.specs.Spelling.{IsDocument}
+use Rattle.bd_check.specs.FirstFault.{first_fault}
+use Rattle.bd_check.specs.Dump.{AreJoined}
+use Rattle.bd_stream.specs.Stream.{IsFrame, CutShort, HasNoFrame, OnFrame, OnRead}
+use Rattle.bd_check.specs.Told.{fault_view}
+use Rattle.bd_check.specs.declared.fault.Fault as told
+use Rattle.bd_check.proofs.Dumps.{joined_append, joined_one}
 use Rattle.bd_cli.specs.Shown.{lines}
 use Rattle.bd_cli.specs.Ran.{Wrote, Broke, BrokeAt, StarvedAt}
 use Rattle.bd_cli.specs.Walked.{Walks, Stops, EndedBy}
-use Rattle.bd_bson.specs.declared.doc_buffer.DocFault.{DocFault}
-use Rattle.bd_bson.specs.declared.doc_buffer.DocFault.TheVariants as faults
+use Rattle.bd_stream.specs.declared.doc_buffer.DocFault.{DocFault}
+use Rattle.bd_stream.specs.declared.doc_buffer.DocFault.TheVariants as faults
 use Rattle.bd_cli.specs.declared.dumping.Ending.{Ending}
 use Rattle.bd_cli.specs.declared.dumping.Ending.TheVariants as endings
 use Rattle.bd_cli.specs.declared.lines.Stopped.{Stopped}

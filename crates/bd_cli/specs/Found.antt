@@ -3,8 +3,8 @@ use Rattle.std.specs.Prelude.{◌≡◌, ◌⊎◌, ℕ, ℤ, Bool, List, [], �
 use Rattle.std.specs.List.{filter_map}
 use Rattle.bd_value.specs.Tree.{Doc}
 use Rattle.bd_device.specs.declared.reading.ReadFault.{ReadFault}
-use Rattle.bd_bson.specs.Fault.{Fault}
-use Rattle.bd_bson.specs.Dump.{IsWalk}
+use Rattle.bd_check.specs.Fault.{Fault}
+use Rattle.bd_check.specs.Dump.{IsWalk}
 use Rattle.bd_cli.specs.Answer.{answer, each, is_empty}
 use Rattle.bd_cli.specs.Equality.{number_matches}
 use Rattle.bd_cli.specs.QueryText.{IsQuery, IsNoQuery}

@@ -2,8 +2,8 @@
 use Rattle.std.specs.Prelude.{◌≡◌, ℕ, zero, suc, List, [], ◌∷◌, ◌++◌, length, codes, decimal, Option, Some, None, is_some}
 use Rattle.std.specs.List.{count_by}
 use Rattle.bd_device.specs.declared.reading.ReadFault.{ReadFault}
-use Rattle.bd_bson.specs.Fault.{Fault}
-use Rattle.bd_bson.specs.Stream.{AreFrames, IsCut}
+use Rattle.bd_check.specs.Fault.{Fault}
+use Rattle.bd_stream.specs.Stream.{AreFrames, IsCut}
 use Rattle.bd_bson.specs.Verdicts.{verdicts}
 use Rattle.bd_cli.specs.Shown.{Shown, fault_text, shown_unread}
 use Rattle.bd_cli.specs.declared.status.Status.{Status}

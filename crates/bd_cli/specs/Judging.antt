@@ -1,9 +1,9 @@
 -- The documents of an input judged one after the other.
 use Rattle.std.specs.Prelude.{◌≡◌, ◌+◌, ℕ, List, ◌++◌, length, Option, Some, None, IfSome, Result, Ok, Err}
 use Rattle.bd_device.specs.declared.reading.ReadFault.{ReadFault}
-use Rattle.bd_bson.specs.Fault.{Fault}
-use Rattle.bd_bson.specs.Stream.{AreFrames, IsCut}
-use Rattle.bd_bson.specs.Told.{fault_view}
+use Rattle.bd_check.specs.Fault.{Fault}
+use Rattle.bd_stream.specs.Stream.{AreFrames, IsCut}
+use Rattle.bd_check.specs.Told.{fault_view}
 use Rattle.bd_bson.specs.Verdicts.{verdicts}
 use Rattle.bd_cli.specs.Judged.{faulty, verdict_line, verdict_lines, verdicts_line, verdicts_status}
 use Rattle.bd_cli.specs.Ran.{WasStreamed, JudgesWithin, Wrote, Broke}

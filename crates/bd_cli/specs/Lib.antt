@@ -1,6 +1,5 @@
 pub mod Answer
 pub mod AnswerLaws
-pub mod CommandLine
 pub mod Equality
 pub mod Found
 pub mod Holding

@@ -3,9 +3,9 @@ use Rattle.std.specs.Prelude.{◌≡◌, ◌≢◌, ◌≤◌, ◌<◌, ◌⊎�
 use Rattle.std.specs.List.{list_all, slice_split}
 use Rattle.bd_value.specs.Tree.{Doc}
 use Rattle.bd_device.specs.declared.reading.ReadFault.{ReadFault}
-use Rattle.bd_extjson.specs.JsonFault.{json_fault_words}
-use Rattle.bd_extjson.specs.declared.json_fault.JsonFaultKind.{JsonFaultKind}
-use Rattle.bd_extjson.specs.declared.json_fault.JsonFaultKind.TheVariants as kinds
+use Rattle.bd_diagnose.specs.JsonFault.{json_fault_words}
+use Rattle.bd_diagnose.specs.declared.json_fault.JsonFaultKind.{JsonFaultKind}
+use Rattle.bd_diagnose.specs.declared.json_fault.JsonFaultKind.TheVariants as kinds
 use Rattle.bd_pack.specs.Packable.{plain, IsPackable, IsBad}
 use Rattle.bd_pack.specs.declared.line.LineFault.{LineFault}
 use Rattle.bd_pack.specs.declared.line.LineFault.TheVariants as faults

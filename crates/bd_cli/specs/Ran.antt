@@ -7,17 +7,17 @@ use Rattle.bd_device.specs.Counts.{after_more}
 use Rattle.bd_device.specs.Devices.{AppendsFront, LosesAtLeast}
 use Rattle.bd_device.specs.declared.reading.ReadFault.{ReadFault}
 use Rattle.bd_device.specs.declared.reading.ReadFault.TheVariants as reads
-use Rattle.bd_bson.specs.Fault.{Fault}
-use Rattle.bd_bson.specs.Dump.{AreJoined, frame_fault, frame_length}
-use Rattle.bd_bson.specs.Stream.{AreFrames}
-use Rattle.bd_bson.specs.declared.fault.FaultKind.{FaultKind}
+use Rattle.bd_check.specs.Fault.{Fault}
+use Rattle.bd_check.specs.Dump.{AreJoined, frame_fault, frame_length}
+use Rattle.bd_stream.specs.Stream.{AreFrames}
+use Rattle.bd_check.specs.declared.fault.FaultKind.{FaultKind}
 use Rattle.bd_cli.specs.Found.{IsFound}
 use Rattle.bd_cli.specs.Judged.{IsJudged}
 use Rattle.bd_cli.specs.Packed.{IsPacked}
 use Rattle.bd_cli.specs.QueryText.{IsQuery, IsNoQuery}
 use Rattle.bd_cli.specs.Shown.{Shown, IsShown, lines, error_line}
-use Rattle.bd_cli.specs.declared.order.Order.{Order}
-use Rattle.bd_cli.specs.declared.order.Order.TheVariants as orders
+use Rattle.bd_command_line.specs.declared.order.Order.{Order}
+use Rattle.bd_command_line.specs.declared.order.Order.TheVariants as orders
 use Rattle.bd_cli.specs.declared.status.Status.{Status}
 use Rattle.bd_cli.specs.declared.status.Status.TheVariants.{Failed}
 

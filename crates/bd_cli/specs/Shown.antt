@@ -4,9 +4,9 @@ use Rattle.std.specs.List.{join_with_byte}
 use Rattle.bd_value.specs.Tree.{Doc, doc, fields_of}
 use Rattle.bd_device.specs.declared.reading.ReadFault.{ReadFault}
 use Rattle.bd_device.specs.declared.reading.ReadFault.TheVariants as reads
-use Rattle.bd_bson.specs.Fault.{Fault, fault_words}
-use Rattle.bd_bson.specs.Dump.{AreJoined, IsWalk}
-use Rattle.bd_bson.specs.Stream.{IsCut}
+use Rattle.bd_check.specs.Fault.{Fault, fault_words}
+use Rattle.bd_check.specs.Dump.{AreJoined, IsWalk}
+use Rattle.bd_stream.specs.Stream.{IsCut}
 use Rattle.bd_extjson.specs.Text.{text, quoted}
 use Rattle.bd_cli.specs.declared.status.Status.{Status}
 use Rattle.bd_cli.specs.declared.status.Status.TheVariants.{Done, Failed}

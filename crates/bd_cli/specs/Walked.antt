@@ -2,12 +2,12 @@
 use Rattle.std.specs.Prelude.{◌≡◌, ℕ, List, ◌++◌, length, Option, Some, None, Result, Ok, Err}
 use Rattle.bd_value.specs.Tree.{Doc}
 use Rattle.bd_device.specs.declared.reading.ReadFault.TheVariants as reads
-use Rattle.bd_bson.specs.Dump.{AreJoined, IsWalk}
-use Rattle.bd_bson.specs.Stream.{IsCut}
-use Rattle.bd_bson.specs.Told.{fault_view}
+use Rattle.bd_check.specs.Dump.{AreJoined, IsWalk}
+use Rattle.bd_stream.specs.Stream.{IsCut}
+use Rattle.bd_check.specs.Told.{fault_view}
 use Rattle.bd_cli.specs.Ran.{WasStreamed, EndsWithin, Wrote, BrokeAt, StarvedAt}
-use Rattle.bd_bson.specs.declared.doc_buffer.DocFault.{DocFault}
-use Rattle.bd_bson.specs.declared.doc_buffer.DocFault.TheVariants as faults
+use Rattle.bd_stream.specs.declared.doc_buffer.DocFault.{DocFault}
+use Rattle.bd_stream.specs.declared.doc_buffer.DocFault.TheVariants as faults
 use Rattle.bd_cli.specs.Shown.{lines, error_line, fault_text, count_line, read_words}
 use Rattle.bd_cli.specs.declared.status.Status.{Status}
 use Rattle.bd_cli.specs.declared.status.Status.TheVariants.{Done, Failed}

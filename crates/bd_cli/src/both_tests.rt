@@ -1,8 +1,9 @@
 //! Printing and matching over a view and over its copy in memory. Bytes are written by hand from the BSON specification,
 //! texts from the conversion table of Extended JSON v2.
 use crate::equality::number_matches;
-use bd_bson::{RawDoc, check_document};
+use bd_check::check_document;
 use bd_extjson::{write_doc, write_node};
+use bd_raw::RawDoc;
 use bd_value::Tree;
 use std::alloc::{AllocError, Global};
 use std::process::Abort;

@@ -11,7 +11,7 @@ use crate::checking::{Findings, write_verdicts};
 use crate::lines::Stopped;
 use crate::messages::{tell, tell_no_memory, tell_unwritten, write_read_fault};
 use crate::status::Status;
-use bd_bson::{Input, Output};
+use bd_device::{Input, Output};
 use bd_extjson::write_number32;
 use bd_value::NoMemory;
 use std::alloc::Global;

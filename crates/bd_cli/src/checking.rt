@@ -1,8 +1,8 @@
 //! The documents of an input judged, with a line for each that has a fault.
 
 ghost use Rattle.std.specs.Prelude.{◌≡◌, ◌≤◌, ◌<◌, ◌+◌, IfOk, IfErr, OnOk, Some, None, Err, IfSome, option_map, length};
-ghost use Rattle.bd_bson.specs.FirstFault.{first_fault};
-ghost use Rattle.bd_bson.specs.Told.{fault_view};
+ghost use Rattle.bd_check.specs.FirstFault.{first_fault};
+ghost use Rattle.bd_check.specs.Told.{fault_view};
 ghost use Rattle.bd_cli.specs.Judged.{verdict_line};
 ghost use Rattle.bd_cli.specs.Judging.{Judges, JudgesUpTo, FoundLast};
 ghost use Rattle.bd_cli.specs.Ran.{Wrote, Broke};
@@ -11,7 +11,9 @@ use crate::dumping::{Ending, ending_of};
 use crate::limits::LIMITS;
 use crate::lines::{Stopped, is_want_of_memory};
 use crate::messages::write_fault;
-use bd_bson::{DocBuffer, Fault, Input, Output, ReadFault, check_document, write_all};
+use bd_check::{Fault, check_document};
+use bd_device::{Input, Output, ReadFault, write_all};
+use bd_stream::DocBuffer;
 use bd_value::NoMemory;
 use std::alloc::{AllocError, Global};
 

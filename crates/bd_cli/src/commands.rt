@@ -5,14 +5,13 @@ ghost use Rattle.bd_cli.specs.Ran.{Ordered, Printed};
 ghost use Rattle.bd_cli.specs.Report.{reported};
 
 use crate::check_command::check;
-use crate::command_line::USAGE;
 use crate::dump_command::dump;
 use crate::find_command::find;
 use crate::messages::{tell, tell_no_memory, tell_unwritten};
-use crate::order::{Order, WordsFault};
 use crate::pack_command::pack;
 use crate::status::Status;
-use bd_bson::{Input, Output, write_all};
+use bd_command_line::{Order, USAGE, WordsFault};
+use bd_device::{Input, Output, write_all};
 use std::alloc::Global;
 
 /// Carries out an order, and gives the exit status: 0 where all was done, 1 after a fault of the input, of the query or of a

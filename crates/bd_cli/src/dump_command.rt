@@ -12,7 +12,7 @@ use crate::messages::{
     tell, tell_no_memory, tell_unwritten, write_count_line, write_fault, write_read_fault,
 };
 use crate::status::Status;
-use bd_bson::{Input, Output};
+use bd_device::{Input, Output};
 use bd_value::NoMemory;
 use std::alloc::Global;
 

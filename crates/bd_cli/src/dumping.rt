@@ -2,9 +2,9 @@
 
 ghost use Rattle.std.specs.Prelude.{◌≡◌, ◌≤◌, ◌+◌, [], ◌∷◌, IfOk, IfErr, IfSome, Some, None, Ok, Err, length};
 ghost use Rattle.bd_value.specs.Tree.{Doc};
-ghost use Rattle.bd_bson.specs.FirstFault.{first_fault};
-ghost use Rattle.bd_bson.specs.Spelling.{IsDocument};
-ghost use Rattle.bd_bson.specs.Told.{fault_view};
+ghost use Rattle.bd_check.specs.FirstFault.{first_fault};
+ghost use Rattle.bd_raw.specs.Spelling.{IsDocument};
+ghost use Rattle.bd_check.specs.Told.{fault_view};
 ghost use Rattle.bd_cli.specs.Ran.{Wrote, Broke};
 ghost use Rattle.bd_cli.specs.Shown.{lines};
 ghost use Rattle.bd_cli.specs.Walked.{Walks, Stops, EndedBy};
@@ -12,7 +12,9 @@ ghost use Rattle.bd_cli.specs.declared.lines.Stopped.TheVariants.{Unwritten};
 
 use crate::limits::LIMITS;
 use crate::lines::{Stopped, is_want_of_memory, write_line};
-use bd_bson::{DocBuffer, DocFault, Fault, Input, Output, ReadFault, check_document, write_all};
+use bd_check::{Fault, check_document};
+use bd_device::{Input, Output, ReadFault, write_all};
+use bd_stream::{DocBuffer, DocFault};
 use std::alloc::Global;
 
 /// What is behind the documents of an input.

@@ -2,7 +2,7 @@
 
 ghost use Rattle.std.specs.Prelude.{◌≡◌, ◌≤◌, ◌⊎◌, IfOk, Ok, MatchOption, length, codes};
 ghost use Rattle.bd_bson.specs.Collection.{documents};
-ghost use Rattle.bd_bson.specs.Told.{fault_view};
+ghost use Rattle.bd_check.specs.Told.{fault_view};
 ghost use Rattle.bd_cli.specs.Answer.{answer, each};
 ghost use Rattle.bd_cli.specs.Equality.{number_matches};
 ghost use Rattle.bd_cli.specs.Found.{IsFoundIn, found_line, shown_found};
@@ -18,7 +18,9 @@ use crate::messages::{tell, tell_no_memory, tell_read_fault, tell_unwritten, wri
 use crate::query_text::read_query;
 use crate::status::Status;
 use crate::stepping::Step;
-use bd_bson::{Dump, Fault, Input, Output, read_all, read_dump};
+use bd_bson::{Dump, read_dump};
+use bd_check::Fault;
+use bd_device::{Input, Output, read_all};
 use bd_extjson::write_number;
 use bd_value::NoMemory;
 use std::alloc::Global;

@@ -1,11 +1,11 @@
 //! What `find` gives of dumps that were worked by hand.
-use crate::command_line::parse_words;
 use crate::commands::run;
 use crate::finding::first_find;
-use crate::order::{Order, WordsFault};
 use crate::query_text::read_query;
 use crate::status::Status;
-use bd_bson::{MemoryInput, MemoryOutput, read_dump};
+use bd_bson::read_dump;
+use bd_command_line::{Order, WordsFault, parse_words};
+use bd_device::{MemoryInput, MemoryOutput};
 use std::alloc::{AllocError, Global};
 use std::test::Fail;
 

@@ -8,7 +8,8 @@ ghost use Rattle.bd_cli.specs.Shown.{lines};
 ghost use Rattle.bd_cli.specs.Within.{StopsWithin};
 
 use crate::lines::{GATHERED, Stopped, flush, write_line};
-use bd_bson::{Dump, Output};
+use bd_bson::Dump;
+use bd_device::Output;
 use std::alloc::Global;
 
 /// Writes the documents with these numbers, one a line. Where memory runs out, what was written is a front of the lines.

@@ -8,9 +8,6 @@ mod check_command;
 #[cfg(test)]
 mod check_tests;
 mod checking;
-mod command_line;
-#[cfg(test)]
-mod command_line_tests;
 mod commands;
 mod dump_command;
 mod dumping;
@@ -18,14 +15,12 @@ mod equality;
 mod find_command;
 #[cfg(test)]
 mod find_tests;
-mod find_words;
 mod finding;
 mod found_documents;
 mod laws;
 mod limits;
 mod lines;
 mod messages;
-mod order;
 mod pack_command;
 #[cfg(test)]
 mod pack_tests;
@@ -37,10 +32,9 @@ mod status;
 mod stepping;
 
 pub use answer_laws::{answers_are_ordered, batches_are_the_first, steps_give_the_answer};
-pub use command_line::{USAGE, parse_words};
+pub use bd_command_line::{Order, USAGE, WordsFault, parse_words};
 pub use commands::{report, run};
 pub use finding::first_find;
 pub use laws::{check_has_the_status_of_dump, shows_one_thing};
-pub use order::{Order, WordsFault};
 pub use status::Status;
 pub use stepping::Step;

@@ -1,13 +1,14 @@
 //! Lines that are written to standard output.
 
 ghost use Rattle.std.specs.Prelude.{◌≡◌, ◌++◌, ◌∷◌, [], OnOk, OnErr, IsTrue, ◌↔◌};
-ghost use Rattle.bd_bson.specs.declared.fault.FaultKind.TheVariants as kinds;
+ghost use Rattle.bd_check.specs.declared.fault.FaultKind.TheVariants as kinds;
 ghost use Rattle.bd_extjson.specs.Text.{text};
 ghost use Rattle.bd_cli.specs.Holding.{WroteSome};
 ghost use Rattle.bd_cli.specs.Ran.{Wrote, Broke};
 ghost use Rattle.bd_cli.specs.declared.lines.Stopped.TheVariants.{NoMemory as no_memory, Unwritten};
 
-use bd_bson::{DeviceFault, Fault, FaultKind, Output, write_all};
+use bd_check::{Fault, FaultKind};
+use bd_device::{DeviceFault, Output, write_all};
 use bd_extjson::write_node;
 use bd_value::{NoMemory, Reading};
 use std::alloc::AllocError;

@@ -1,13 +1,14 @@
 //! The lines that tell how a run went.
 
 ghost use Rattle.std.specs.Prelude.{◌≡◌, ◌++◌, OnOk, codes};
-ghost use Rattle.bd_bson.specs.Told.{fault_view};
+ghost use Rattle.bd_check.specs.Told.{fault_view};
 ghost use Rattle.bd_cli.specs.Ran.{Told};
 ghost use Rattle.bd_cli.specs.Shown.{place_text, fault_text, count_line, error_line, read_words};
 ghost use Rattle.bd_cli.specs.declared.status.Status.TheVariants.{Failed};
 
 use crate::status::Status;
-use bd_bson::{Fault, Output, ReadFault, write_all};
+use bd_check::Fault;
+use bd_device::{Output, ReadFault, write_all};
 use bd_extjson::{write_number, write_number32, write_path};
 use bd_value::NoMemory;
 

@@ -1,9 +1,8 @@
 //! What `pack` shows of texts that were worked by hand.
-use crate::command_line::parse_words;
 use crate::commands::run;
-use crate::order::{Order, WordsFault};
 use crate::status::Status;
-use bd_bson::{FailingWrite, MemoryInput, MemoryOutput};
+use bd_command_line::{Order, WordsFault, parse_words};
+use bd_device::{FailingWrite, MemoryInput, MemoryOutput};
 use std::alloc::{AllocError, Global};
 use std::process::Abort;
 use std::test::Fail;

@@ -4,7 +4,7 @@ ghost use Rattle.bd_cli.specs.Packed.{is_white, is_blank, lines_of};
 ghost use Rattle.bd_cli.specs.Packing.{IsPacking, StopsPacking, bytes_behind, left_size, lines_left};
 
 use crate::lines::{Stopped, flush, flush_gathered};
-use bd_bson::Output;
+use bd_device::Output;
 use bd_pack::{LineFault, Packer};
 use memchr::memchr;
 use std::alloc::Global;

@@ -1,6 +1,6 @@
 //! Runs over devices in memory, with outcomes that were worked by hand.
 use crate::{Order, Status, USAGE, WordsFault, report, run};
-use bd_bson::{FailingWrite, MemoryInput, MemoryOutput};
+use bd_device::{FailingWrite, MemoryInput, MemoryOutput};
 use std::alloc::Global;
 use std::process::Abort;
 use std::test::Fail;

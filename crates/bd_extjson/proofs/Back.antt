@@ -17,9 +17,9 @@ use Rattle.bd_value.specs.Tree.{Scalar, min_key, undefined, null, int32, int64, 
 use Rattle.bd_value.specs.Tree.{Tree, leaf, doc, array as array_tree, code_scope, Items, no_items, item, Fields, no_fields, field}
 use Rattle.bd_extjson.specs.Text.{base64_text, hex_text}
 use Rattle.bd_extjson.specs.Plain.{IsPlainFirst, IsPlain, ArePlainItems, ArePlainFields, ScalarFits, Fits, ItemsFit, FieldsFit}
-use Rattle.bd_extjson.specs.Wrappers.{wrapper_of}
-use Rattle.bd_extjson.specs.declared.wrapper.Wrapper.{Wrapper}
-use Rattle.bd_extjson.specs.declared.wrapper.Wrapper.TheVariants as kinds
+use Rattle.bd_wrapper.specs.Wrappers.{wrapper_of}
+use Rattle.bd_wrapper.specs.declared.wrapper.Wrapper.{Wrapper}
+use Rattle.bd_wrapper.specs.declared.wrapper.Wrapper.TheVariants as kinds
 use Rattle.bd_extjson.proofs.Escapes.{fits_32, fits_64}
 use Rattle.bd_extjson.proofs.Json as js
 use Rattle.bd_extjson.proofs.Json.{Json, string, number, word, array, object, nothing, yes, no, Elements, no_elements, element, Members, no_members, member}

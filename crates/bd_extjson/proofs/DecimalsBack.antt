@@ -9,8 +9,8 @@ use Rattle.std.specs.Str.Parse.{digits_value}
 use Rattle.std.proofs.lemmas.Bool.{and_parts, lt-ltb, ltb-true}
 use Rattle.std.proofs.lemmas.Fmt.{digits_decimal, digits_value-decimal, first_decimal, decimal_digit}
 use Rattle.std.proofs.lemmas.Int.{ints}
-use Rattle.bd_extjson.specs.Whole.{is_empty, are_digits, fits_bits, whole, whole_64, whole_32}
-use Rattle.bd_extjson.proofs.Numbers.{own, all_of}
+use Rattle.bd_wrapper.specs.Whole.{is_empty, are_digits, fits_bits, whole, whole_64, whole_32}
+use Rattle.bd_wrapper.proofs.Numbers.{own, all_of}
 
 first_nonzero : (ds : List ℕ) → 48 < get_or ds 0 0 → all_ascii_digits ds ≡ true → are_digits ds ≡ true
 first_nonzero [] first all = absurd (omega arith)

@@ -5,8 +5,6 @@ pub mod Escapes
 pub mod Fronts
 pub mod InPlace
 pub mod Json
-pub mod Members
-pub mod Numbers
 pub mod Parts
 pub mod Pieces
 pub mod Prefix

@@ -10,8 +10,8 @@ use Rattle.bd_value.specs.Tree.{Scalar, min_key, undefined, null, int32, int64, 
 use Rattle.bd_value.specs.Zeros.{has_zero, zero_in_scalar}
 use Rattle.bd_extjson.specs.Text.{base64_text, hex_text}
 use Rattle.bd_extjson.specs.Plain.{ScalarFits, IsId}
-use Rattle.bd_extjson.specs.Whole.{whole}
-use Rattle.bd_extjson.specs.Wrappers.{wrapper_of, only, pair, both, ok_of, id_of, data_in, subtype_in, word_in, if_word, name_in}
+use Rattle.bd_wrapper.specs.Whole.{whole}
+use Rattle.bd_wrapper.specs.Wrappers.{wrapper_of, only, pair, both, ok_of, id_of, data_in, subtype_in, word_in, if_word, name_in}
 use Rattle.bd_extjson.specs.Wrap.{wrap}
 use Rattle.bd_extjson.proofs.DecimalsBack.{whole_64-signed, whole_32-signed, whole_64-decimal}
 use Rattle.bd_extjson.proofs.Printed.{kit_json}

@@ -7,11 +7,11 @@ use Rattle.json.specs.Find.{as_str}
 use Rattle.json.proofs.Grammar.{members_end, members_no_key}
 use Rattle.bd_value.specs.Tree.{Tree, leaf, doc, array, code_scope, Fields, Doc, pairs_of, fields_of, fields_of-pairs_of}
 use Rattle.bd_extjson.specs.Wrap.{Behind, nothing, one_more, several, nested, with_scope, two, wrapped, behind_one, behind, wrap, wrap_object}
-use Rattle.bd_extjson.specs.Wrappers.{wrapper_of}
+use Rattle.bd_wrapper.specs.Wrappers.{wrapper_of}
 use Rattle.bd_extjson.specs.Reads.{document}
-use Rattle.bd_extjson.specs.Progress.{through, after_key, if_no_name, closing, is_code, is_scope, is_code_name, is_scope_name}
-use Rattle.bd_extjson.specs.declared.wrapper.Wrapper.{Wrapper}
-use Rattle.bd_extjson.specs.declared.wrapper.Wrapper.TheVariants as kinds
+use Rattle.bd_wrapper.specs.Progress.{through, after_key, if_no_name, closing, is_code, is_scope, is_code_name, is_scope_name}
+use Rattle.bd_wrapper.specs.declared.wrapper.Wrapper.{Wrapper}
+use Rattle.bd_wrapper.specs.declared.wrapper.Wrapper.TheVariants as kinds
 use Rattle.bd_extjson.proofs.Turns.{nested_is, next_name}
 
 -- ---- members, whatever is made of them

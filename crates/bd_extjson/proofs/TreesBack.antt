@@ -7,7 +7,7 @@ use Rattle.bd_value.specs.Tree.{Tree, leaf, doc, array, code_scope, Items, no_it
 use Rattle.bd_value.specs.Zeros.{has_zero, zero_in, zero_in_items, zero_in_fields}
 use Rattle.bd_extjson.specs.Plain.{IsPlainFirst, IsPlain, ArePlainItems, ArePlainFields, Fits, ItemsFit, FieldsFit}
 use Rattle.bd_extjson.specs.Wrap.{add_item, add_field, with_scope, wrap, wrap_items, wrap_object, wrap_fields}
-use Rattle.bd_extjson.specs.Wrappers.{wrapper_of}
+use Rattle.bd_wrapper.specs.Wrappers.{wrapper_of}
 use Rattle.bd_extjson.proofs.Printed.{kit_json, kit_items, kit_members}
 use Rattle.bd_extjson.proofs.ScalarsBack.{scalar_back}
 use Rattle.bd_extjson.proofs.TreeJson.{json, elements_json, members_json}

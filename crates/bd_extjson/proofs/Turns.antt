@@ -8,13 +8,13 @@ use Rattle.bd_value.specs.Tree as tree
 use Rattle.bd_value.specs.Tree.{Tree, leaf, doc, array, Items, no_items, item, Fields, no_fields, field, Doc, fields_of, items_of}
 use Rattle.bd_value.specs.Zeros.{has_zero}
 use Rattle.bd_extjson.specs.Wrap.{bare_number, nested, add_item, add_field, wrap, wrap_items, wrap_object, wrap_fields}
-use Rattle.bd_extjson.specs.Wrappers.{wrapper_of}
-use Rattle.bd_extjson.specs.declared.wrapper.Wrapper.{Wrapper}
+use Rattle.bd_wrapper.specs.Wrappers.{wrapper_of}
+use Rattle.bd_wrapper.specs.declared.wrapper.Wrapper.{Wrapper}
 use Rattle.std.specs.Prelude.{ok_or, Result, Ok, Err}
-use Rattle.bd_extjson.specs.Whole.{whole_64}
-use Rattle.bd_extjson.specs.Progress.{through, after_key, Fails, Tells, Gives}
-use Rattle.bd_extjson.specs.declared.trouble.Trouble.{Trouble}
-use Rattle.bd_extjson.specs.declared.trouble.Trouble.TheVariants as troubles
+use Rattle.bd_wrapper.specs.Whole.{whole_64}
+use Rattle.bd_wrapper.specs.Progress.{through, after_key, Fails, Tells, Gives}
+use Rattle.bd_wrapper.specs.declared.trouble.Trouble.{Trouble}
+use Rattle.bd_wrapper.specs.declared.trouble.Trouble.TheVariants as troubles
 
 pub nested_is : {A : Type 0} (room : ℕ) (r : Option A) → 0 < room → nested room r ≡ r
 nested_is zero r h = absurd (omega arith)

@@ -7,7 +7,7 @@ use Rattle.json.specs.Lex.{tokens}
 use Rattle.json.specs.Json.{Json, value, if_last}
 use Rattle.bd_value.specs.Tree.{Tree, pairs_of}
 use Rattle.bd_extjson.specs.Wrap.{wrap}
-use Rattle.bd_extjson.specs.Progress.{through}
+use Rattle.bd_wrapper.specs.Progress.{through}
 use Rattle.bd_extjson.specs.Reads.{json, reading, document}
 
 kept : (o : Option Tree) (t : Tree) (ts : List Token) → option_map {U = Tree × List Token} (λ a. (a, ts)) o ≡ Some (t, []) → o ≡ Some t

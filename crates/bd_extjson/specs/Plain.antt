@@ -6,7 +6,7 @@ use Rattle.std.specs.Int.RustNames.{FitsSigned}
 use Rattle.bd_value.specs.Tree.{Scalar, min_key, undefined, null, int32, int64, text as string, symbol, binary, object_id, boolean, date, timestamp, regex, db_pointer, code, max_key}
 use Rattle.bd_value.specs.Tree.{Tree, leaf, doc, array, code_scope, Items, no_items, item, Fields, no_fields, field}
 use Rattle.hex.specs.Hex.{IsBytes}
-use Rattle.bd_extjson.specs.Wrappers.{wrapper_of}
+use Rattle.bd_wrapper.specs.Wrappers.{wrapper_of}
 
 abbrev pub IsPlainFirst : Fields → Type 0
 IsPlainFirst no_fields = Unit {0}

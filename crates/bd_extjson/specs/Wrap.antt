@@ -6,10 +6,10 @@ use Rattle.json.specs.Find.{as_str}
 use Rattle.bd_value.specs.Tree as trees
 use Rattle.bd_value.specs.Tree.{Tree, leaf, doc, array, code_scope, Items, no_items, item, Fields, no_fields, field}
 use Rattle.bd_value.specs.Zeros.{has_zero}
-use Rattle.bd_extjson.specs.Whole.{fits_bits, whole_64}
-use Rattle.bd_extjson.specs.Wrappers.{wrapper_of, single}
-use Rattle.bd_extjson.specs.declared.wrapper.Wrapper.{Wrapper}
-use Rattle.bd_extjson.specs.declared.wrapper.Wrapper.TheVariants as kinds
+use Rattle.bd_wrapper.specs.Whole.{fits_bits, whole_64}
+use Rattle.bd_wrapper.specs.Wrappers.{wrapper_of, single}
+use Rattle.bd_wrapper.specs.declared.wrapper.Wrapper.{Wrapper}
+use Rattle.bd_wrapper.specs.declared.wrapper.Wrapper.TheVariants as kinds
 
 -- a bare whole number is an Int32 where it fits, else an Int64
 abbrev pub bare_number : Option ℤ → Option Tree

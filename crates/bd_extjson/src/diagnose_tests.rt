@@ -1,6 +1,5 @@
 //! Texts and their faults, worked out by hand from the rules of reading: what is no JSON, and what is too deep.
-use crate::diagnose::diagnose;
-use crate::json_fault::{JsonFault, JsonFaultKind};
+use bd_diagnose::{JsonFault, JsonFaultKind, diagnose};
 use std::alloc::{AllocError, Global};
 use std::process::Abort;
 use std::test::Fail;

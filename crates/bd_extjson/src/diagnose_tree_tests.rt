@@ -1,6 +1,6 @@
 //! The same of texts that are JSON and no documents, from left to right.
 use crate::diagnose_tests::expect_fault;
-use crate::json_fault::JsonFaultKind;
+use bd_diagnose::JsonFaultKind;
 
 #[test]
 fn tells_a_value_that_is_no_document_last(rt: HostRuntime) {

@@ -2,17 +2,15 @@
 ghost use Rattle.std.specs.Prelude.{◌≡◌, ◌≢◌, ◌≤◌, IfOk, IfErr, length, option_and_then};
 ghost use Rattle.bd_value.specs.Tree.{Doc};
 ghost use Rattle.bd_value.specs.View.{tree_of, pairs};
-ghost use Rattle.bd_extjson.specs.Progress.{Tells};
+ghost use Rattle.bd_wrapper.specs.Progress.{Tells};
 ghost use Rattle.bd_extjson.specs.Reads.{Reads, json, reading};
 ghost use Rattle.bd_extjson.specs.Wrap.{wrap};
-ghost use Rattle.bd_extjson.specs.declared.json_fault.JsonFaultKind.TheVariants as kinds;
+ghost use Rattle.bd_diagnose.specs.declared.json_fault.JsonFaultKind.TheVariants as kinds;
 
-use crate::diagnose::diagnose;
-use crate::json_fault::{JsonFault, JsonFaultKind};
-use crate::limits::{BRACKETS, LEVELS};
 use crate::reading::{document_of, read_value};
-use crate::trouble::Trouble;
+use bd_diagnose::{BRACKETS, JsonFault, JsonFaultKind, LEVELS, diagnose};
 use bd_value::{Document, Value};
+use bd_wrapper::Trouble;
 use json::{Reader, Scratch};
 use std::alloc::Global;
 

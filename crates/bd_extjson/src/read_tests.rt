@@ -1,8 +1,8 @@
 //! Texts read as documents. The texts are those of the MongoDB project's BSON corpus and of the conversion table of Extended
 //! JSON v2, or written by hand from RFC 8259.
-use crate::json_fault::{JsonFault, JsonFaultKind};
 use crate::read::{read_doc, read_doc_with};
 use crate::text_tests::printed;
+use bd_diagnose::{JsonFault, JsonFaultKind};
 use bd_value::{NoMemory, Value};
 use json::Scratch;
 use std::alloc::Global;

@@ -6,17 +6,14 @@ ghost use Rattle.json.specs.Find.{as_str};
 ghost use Rattle.bd_value.specs.Tree.{Tree, pairs_of, fields_of, items_of};
 ghost use Rattle.bd_value.specs.View.{tree_of, pairs};
 ghost use Rattle.bd_extjson.specs.Wrap.{bare_number, with_scope, wrapped, wrap, wrap_items, wrap_object, wrap_fields, behind};
-ghost use Rattle.bd_extjson.specs.Wrappers.{wrapper_of};
-ghost use Rattle.bd_extjson.specs.Whole.{whole_64};
-ghost use Rattle.bd_extjson.specs.Progress.{through, after_key, closing, Gives, Tells};
+ghost use Rattle.bd_wrapper.specs.Wrappers.{wrapper_of};
+ghost use Rattle.bd_wrapper.specs.Whole.{whole_64};
+ghost use Rattle.bd_wrapper.specs.Progress.{through, after_key, closing, Gives, Tells};
 ghost use Rattle.bd_extjson.specs.Reads.{document};
-ghost use Rattle.bd_extjson.specs.declared.wrapper.Wrapper.TheVariants as kinds;
+ghost use Rattle.bd_wrapper.specs.declared.wrapper.Wrapper.TheVariants as kinds;
 
-use crate::trouble::Trouble;
-use crate::whole_number::whole;
-use crate::wrapper::{Wrapper, names_code, names_scope};
-use crate::wrapper_values::unwrap_single;
 use bd_value::{Document, Value, has_zero};
+use bd_wrapper::{Trouble, Wrapper, names_code, names_scope, unwrap_single, whole};
 use json::{Reader, Token};
 use std::alloc::Global;
 

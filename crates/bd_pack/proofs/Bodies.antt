@@ -11,11 +11,11 @@ use Rattle.bd_value.specs.Tree.{Tree, leaf, Items, Fields, Doc, fields_of, items
 use Rattle.bd_value.specs.View.{tree_of}
 use Rattle.bd_value.specs.declared.document.Value.TheVariants as values
 use Rattle.bd_value.specs.declared.document.Value.TheFolds as folds
-use Rattle.bd_bson.specs.Scalars.{number_length}
-use Rattle.bd_bson.specs.Spelling.{number, framed, element}
-use Rattle.bd_bson.specs.Written.{bytes_of, fields_bytes, items_bytes}
-use Rattle.bd_extjson.specs.Progress.{Gives}
-use Rattle.bd_extjson.specs.declared.trouble.Trouble.{Trouble}
+use Rattle.bd_raw.specs.Scalars.{number_length}
+use Rattle.bd_raw.specs.Spelling.{number, framed, element}
+use Rattle.bd_write.specs.Written.{bytes_of, fields_bytes, items_bytes}
+use Rattle.bd_wrapper.specs.Progress.{Gives}
+use Rattle.bd_wrapper.specs.declared.trouble.Trouble.{Trouble}
 use Rattle.bd_extjson.proofs.Turns.{items_before, fields_before}
 
 pub one_more_field : (ps : Doc) (k : List ℕ) (t : Tree) → fields_bytes (fields_of (ps ++ (k, t) ∷ [])) ≡ fields_bytes (fields_of ps) ++ element t k (bytes_of t)

@@ -10,14 +10,14 @@ use Rattle.bd_value.specs.Tree as trees
 use Rattle.bd_value.specs.Tree.{Scalar, Tree, leaf, doc, array, code_scope, Items, no_items, item, Fields, no_fields, field, Doc, fields_of, pairs_of, fields_of-pairs_of}
 use Rattle.bd_value.specs.Depth.{depth, fields_depth, items_depth}
 use Rattle.bd_value.specs.Zeros.{has_zero, zero_in, zero_in_scalar, zero_in_fields, zero_in_items}
-use Rattle.bd_extjson.specs.Whole.{fits_bits, whole_64, whole_32}
-use Rattle.bd_extjson.specs.Wrappers.{wrapper_of, single, name_in, both, both_in, pair, id_of, data_in, subtype_in, word_in, only, long_in, one, is_true, if_no_zero, if_true}
+use Rattle.bd_wrapper.specs.Whole.{fits_bits, whole_64, whole_32}
+use Rattle.bd_wrapper.specs.Wrappers.{wrapper_of, single, name_in, both, both_in, pair, id_of, data_in, subtype_in, word_in, only, long_in, one, is_true, if_no_zero, if_true}
 use Rattle.bd_extjson.specs.Wrap.{wrap, wrap_items, wrap_object, wrap_fields, behind, behind_one, Behind, nothing, one_more, several, bare_number, nested, add_item, add_field, with_scope, two, wrapped, either}
-use Rattle.bd_extjson.specs.Progress.{through}
+use Rattle.bd_wrapper.specs.Progress.{through}
 use Rattle.bd_extjson.specs.Reads.{Reads, document}
 use Rattle.bd_extjson.specs.Reads as reads
-use Rattle.bd_extjson.specs.declared.wrapper.Wrapper.{Wrapper}
-use Rattle.bd_extjson.specs.declared.wrapper.Wrapper.TheVariants as kinds
+use Rattle.bd_wrapper.specs.declared.wrapper.Wrapper.{Wrapper}
+use Rattle.bd_wrapper.specs.declared.wrapper.Wrapper.TheVariants as kinds
 
 -- what stands there nests so deep at most, and has no zero where there may be none
 abbrev IsTree : ℕ → Option Tree → Type 0

@@ -1,9 +1,9 @@
 -- Which lines are packed, and as what.
 use Rattle.std.specs.Prelude.{◌≢◌, ◌≤◌, ◌<◌, ℕ, List, length}
 use Rattle.bd_value.specs.Tree.{Doc, doc, fields_of}
-use Rattle.bd_bson.specs.Written.{bytes_of}
+use Rattle.bd_write.specs.Written.{bytes_of}
 use Rattle.bd_extjson.specs.Reads.{Reads}
-use Rattle.bd_extjson.specs.declared.json_fault.JsonFaultKind.TheVariants as kinds
+use Rattle.bd_diagnose.specs.declared.json_fault.JsonFaultKind.TheVariants as kinds
 use Rattle.bd_pack.specs.declared.line.LineFault.{LineFault}
 use Rattle.bd_pack.specs.declared.line.LineFault.TheVariants as faults
 

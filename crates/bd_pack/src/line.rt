@@ -4,9 +4,11 @@ ghost use Rattle.bd_value.specs.Tree.{Doc};
 ghost use Rattle.bd_pack.specs.Packable.{plain, IsPackable, IsBad};
 
 use crate::tokens::spell_line;
-use bd_bson::{WriteFault, write_document};
-use bd_extjson::{JsonFault, JsonFaultKind, Scratch, read_doc_with};
+use bd_diagnose::{JsonFault, JsonFaultKind};
+use bd_extjson::read_doc_with;
 use bd_value::NoMemory;
+use bd_write::{WriteFault, write_document};
+use json::Scratch;
 use std::alloc::{AllocError, Global};
 
 /// Why a line is not packed.

@@ -1,6 +1,6 @@
 //! Lines whose bytes were worked by hand, and lines that are not packed.
 use crate::{LineFault, Packer};
-use bd_extjson::{JsonFault, JsonFaultKind};
+use bd_diagnose::{JsonFault, JsonFaultKind};
 use std::alloc::Global;
 use std::process::Abort;
 use std::rt::HostRuntime;

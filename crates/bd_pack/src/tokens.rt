@@ -4,18 +4,19 @@ ghost use Rattle.json.specs.Json.{value, items, members};
 ghost use Rattle.bd_value.specs.Tree as trees;
 ghost use Rattle.bd_value.specs.Tree.{Items, Fields, Doc, leaf, doc, array};
 ghost use Rattle.bd_value.specs.View.{tree_of};
-ghost use Rattle.bd_bson.specs.Spelling.{element, string};
+ghost use Rattle.bd_raw.specs.Spelling.{element, string};
 ghost use Rattle.bd_value.specs.Zeros.{zero_in};
-ghost use Rattle.bd_bson.specs.Written.{bytes_of};
+ghost use Rattle.bd_write.specs.Written.{bytes_of};
 ghost use Rattle.bd_extjson.specs.Reads.{json};
 ghost use Rattle.bd_extjson.specs.Wrap.{wrap, wrap_items, wrap_object, wrap_fields};
-ghost use Rattle.bd_extjson.specs.Progress.{through, after_key};
+ghost use Rattle.bd_wrapper.specs.Progress.{through, after_key};
 ghost use Rattle.bd_pack.specs.Packable.{plain, IsPackable};
 
-use bd_bson::{append_label, append_value, begin_body, end_body, write_text};
-use bd_extjson::{BRACKETS, LEVELS, Scratch, bare_number, read_wrapper, wrapper_named};
+use bd_diagnose::{BRACKETS, LEVELS};
+use bd_extjson::{bare_number, read_wrapper, wrapper_named};
 use bd_value::{Kind, Tree, Value, has_zero};
-use json::{Reader, Token};
+use bd_write::{append_label, append_value, begin_body, end_body, write_text};
+use json::{Reader, Scratch, Token};
 use std::alloc::Global;
 
 /// Appends an element of a value in memory.

@@ -7,7 +7,7 @@
 //! The system can so refuse bytes of a write that was answered as done. Then no input is read any more, and nothing is told
 //! on standard error, until a write is answered by that loss. Where none comes, the end has to tell it.
 
-use bd_bson::{DeviceFault, Output, SystemOutput, write_all};
+use bd_device::{DeviceFault, Output, SystemOutput, write_all};
 use std::alloc::Global;
 use std::cell::RefCell;
 use std::io;

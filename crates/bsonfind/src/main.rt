@@ -3,8 +3,9 @@
 
 mod gathering;
 
-use bd_bson::{MemoryInput, SystemInput, SystemOutput, write_all};
-use bd_cli::{Order, Status, WordsFault, parse_words, report};
+use bd_cli::{Status, report};
+use bd_command_line::{Order, WordsFault, parse_words};
+use bd_device::{MemoryInput, SystemInput, SystemOutput, write_all};
 use gathering::{Fate, Gathered, Gathering, TiedError, TiedInput, hand_on};
 use std::cell::RefCell;
 use std::io::{BufReader, Read, Stdout};

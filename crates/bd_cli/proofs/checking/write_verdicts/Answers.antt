@@ -2,8 +2,8 @@ use Rattle.std.proofs.Common.{rules, arith, ◌≡◌, ◌+◌, Ok, Some, None, 
 use Rattle.std.proofs.lemmas.Result.{err_from_is_err_and}
 use Rattle.std.proofs.KnownBytes.{Appends-nil}
 use Rattle.std.specs.Io.KnownBytes.{Consumes}
-use Rattle.bd_bson.specs.Stream.{IsFrame}
-use Rattle.bd_bson.specs.Told.{fault_view}
+use Rattle.bd_stream.specs.Stream.{IsFrame}
+use Rattle.bd_check.specs.Told.{fault_view}
 use Rattle.bd_cli.specs.Judged.{verdict_line}
 use Rattle.bd_cli.specs.Ran.{Wrote}
 use Rattle.bd_cli.proofs.Judges as judges

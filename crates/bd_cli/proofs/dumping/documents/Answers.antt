@@ -1,7 +1,7 @@
 use Rattle.std.proofs.Common.{rules, ◌≡◌, Ok, None, Err, true, length, length-take-le, sym, ap, ◌∙◌, true≢false}
 use Rattle.std.proofs.lemmas.Result.{err_from_is_err_and}
 use Rattle.std.specs.Io.KnownBytes.{Consumes}
-use Rattle.bd_bson.specs.Stream.{IsFrame}
+use Rattle.bd_stream.specs.Stream.{IsFrame}
 use Rattle.bd_cli.proofs.Walking as walking
 use Rattle.bd_cli.proofs.dumping.documents.Goals as goal
 

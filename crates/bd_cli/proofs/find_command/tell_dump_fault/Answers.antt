@@ -1,5 +1,5 @@
 use Rattle.std.proofs.Common.{◌≡◌, ◌∙◌, List, ℕ, subst, inl}
-use Rattle.bd_bson.specs.Told.{fault_view}
+use Rattle.bd_check.specs.Told.{fault_view}
 use Rattle.bd_cli.specs.Ran.{Told}
 use Rattle.bd_cli.specs.Shown.{error_line, fault_text}
 use Rattle.bd_cli.specs.declared.status.Status.TheVariants.{Failed}

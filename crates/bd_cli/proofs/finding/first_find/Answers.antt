@@ -2,7 +2,7 @@ use Rattle.std.proofs.Common.{◌≡◌, ◌<◌, arith, length, refl, rules, �
 use Rattle.std.specs.Int.{w32}
 use Rattle.std.proofs.lemmas.Int.{to_z-of_z}
 use Rattle.bd_value.specs.Tree.{Doc, pairs_in}
-use Rattle.bd_bson.specs.Sound.{stands}
+use Rattle.bd_raw.specs.Sound.{stands}
 use Rattle.bd_bson.specs.Collection.{documents}
 use Rattle.bd_cli.specs.Equality.{number_matches}
 use Rattle.bd_cli.proofs.Placed as placed

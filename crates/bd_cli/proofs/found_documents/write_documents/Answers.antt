@@ -1,7 +1,7 @@
 use Rattle.std.proofs.Common.{◌+◌, ◌++◌, ◌∷◌, [], drop, get_or, refl}
 use Rattle.std.proofs.lemmas.Result.{err_from_is_err_and}
 use Rattle.bd_value.specs.Tree.{doc, fields_of, pairs_in}
-use Rattle.bd_bson.specs.Sound.{stands}
+use Rattle.bd_raw.specs.Sound.{stands}
 use Rattle.bd_bson.specs.Collection.{documents}
 use Rattle.bd_extjson.specs.Text.{text}
 use Rattle.bd_cli.specs.Shown.{lines}

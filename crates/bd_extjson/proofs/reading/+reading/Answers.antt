@@ -4,9 +4,9 @@ use Rattle.std.proofs.lemmas.List.{map_push}
 use Rattle.std.specs.Prelude.{Bool, String, string_bytes}
 use Rattle.std.specs.Borrow.{Bor}
 use Rattle.json.specs.Value.{value_view}
-use Rattle.bd_extjson.specs.Progress.{closing}
-use Rattle.bd_extjson.specs.Wrappers.{single}
-use Rattle.bd_extjson.specs.declared.wrapper.Wrapper.TheVariants as kinds
+use Rattle.bd_wrapper.specs.Progress.{closing}
+use Rattle.bd_wrapper.specs.Wrappers.{single}
+use Rattle.bd_wrapper.specs.declared.wrapper.Wrapper.TheVariants as kinds
 use Rattle.bd_extjson.proofs.Seconds.{wrapping}
 use Rattle.json.specs.Json.{value, items, parse_map, after_end_array}
 use Rattle.json.specs.Reads.{token_of}
@@ -19,8 +19,8 @@ use Rattle.bd_value.specs.declared.document.Value.TheVariants as values
 use Rattle.bd_value.specs.declared.document.Value.TheFolds as folds
 use Rattle.std.specs.declared.alloc.Global.{Global}
 use Rattle.bd_extjson.specs.Wrap.{wrap, wrap_items, wrap_object, wrap_fields}
-use Rattle.bd_extjson.specs.Progress.{through, after_key}
-use Rattle.bd_extjson.specs.declared.trouble.Trouble.TheVariants.{Refused}
+use Rattle.bd_wrapper.specs.Progress.{through, after_key}
+use Rattle.bd_wrapper.specs.declared.trouble.Trouble.TheVariants.{Refused}
 use Rattle.bd_extjson.proofs.Turns as steps
 use Rattle.bd_extjson.proofs.Turns.{items_before, fields_before}
 use Rattle.bd_extjson.proofs.Seconds as seconds

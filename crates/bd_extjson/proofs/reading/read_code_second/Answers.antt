@@ -4,8 +4,8 @@ use Rattle.json.specs.Json.{value}
 use Rattle.json.specs.Value.{value_view}
 use Rattle.json.proofs.Grammar.{read_key-shorter}
 use Rattle.bd_value.specs.View.{tree_of}
-use Rattle.bd_extjson.specs.Progress.{closing}
-use Rattle.bd_extjson.specs.declared.wrapper.Wrapper.TheVariants as kinds
+use Rattle.bd_wrapper.specs.Progress.{closing}
+use Rattle.bd_wrapper.specs.declared.wrapper.Wrapper.TheVariants as kinds
 use Rattle.bd_extjson.proofs.Turns.{fails_by, told}
 use Rattle.bd_extjson.proofs.Seconds as seconds
 use Rattle.bd_extjson.proofs.Seconds.{wrapping}

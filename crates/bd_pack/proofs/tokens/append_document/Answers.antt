@@ -4,8 +4,8 @@ use Rattle.json.specs.Json.{value, parse_map}
 use Rattle.json.specs.Reads.{token_of}
 use Rattle.bd_value.specs.Tree.{doc}
 use Rattle.bd_extjson.specs.Wrap.{wrap, wrap_object}
-use Rattle.bd_extjson.specs.Wrappers.{wrapper_of}
-use Rattle.bd_extjson.specs.Progress.{through}
+use Rattle.bd_wrapper.specs.Wrappers.{wrapper_of}
+use Rattle.bd_wrapper.specs.Progress.{through}
 use Rattle.bd_extjson.proofs.Turns as steps
 use Rattle.bd_extjson.proofs.WholeText.{whole_text}
 use Rattle.bd_pack.proofs.Bodies as bodies

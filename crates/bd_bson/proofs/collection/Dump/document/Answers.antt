@@ -1,7 +1,7 @@
 use Rattle.std.proofs.Common.{List, ℕ, drop, sym, subst, arith}
 use Rattle.bd_value.specs.declared.kind.Kind.TheVariants as kinds
 use Rattle.bd_bson.specs.Collection.{documents}
-use Rattle.bd_bson.specs.Sound.{Sound}
+use Rattle.bd_raw.specs.Sound.{Sound}
 use Rattle.bd_bson.proofs.Collects.{documents_length, start_at, start_inside, stands_there, document_of}
 use Rattle.bd_bson.proofs.collection.Dump.document.Goals as goal
 

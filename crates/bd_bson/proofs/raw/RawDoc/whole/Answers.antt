@@ -1,9 +1,0 @@
-use Rattle.std.proofs.Common.{rules}
-use Rattle.bd_bson.proofs.Whole.{whole_sound, whole_is}
-use Rattle.bd_bson.proofs.raw.RawDoc.whole.Goals as goal
-
-pub invariant_of-result : goal.invariant_of-result
-invariant_of-result c = record { inside = search rules; sound = whole_sound c.args.bytes.now c.requires.0 c.requires.1 }
-
-pub returns : goal.returns
-returns c = whole_is c.args.bytes.now c.requires.0 c.requires.1 _

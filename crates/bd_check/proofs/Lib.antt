@@ -1,0 +1,9 @@
+pub mod Again
+pub mod AtOnce
+pub mod Dumps
+pub mod Loop
+pub mod Nested
+pub mod Takes
+pub mod Tells
+pub mod Texts
+pub mod Spelled

@@ -1,0 +1,191 @@
+//! Why bytes are no document, and where.
+
+ghost use Rattle.std.specs.Prelude.{◌≡◌, [], IfOk, string_bytes, codes};
+ghost use Rattle.bd_check.specs.Fault.{Fault as Where, longer, fault_words};
+ghost use Rattle.bd_check.specs.FirstFault.{label};
+ghost use Rattle.bd_check.specs.Told.{Told, IsOf, IsWantOfMemory};
+ghost use Rattle.bd_check.specs.declared.fault.Stop.TheVariants.{NoMemory};
+
+use std::alloc::{AllocError, AllocFailed, Global};
+
+/// Which check failed first.
+#[derive(Clone, Copy, Debug, PartialEq, Eq)]
+pub enum FaultKind {
+    /// Fewer than the four bytes of a document's length are left.
+    ShortLength = 1,
+    /// A document's length is below 5, above 16,793,600 or past the end of what holds it.
+    BadLength = 2,
+    /// A document's last byte is not zero.
+    NoTerminator = 3,
+    /// A type byte that BSON 1.1 does not have.
+    UnknownType = 4,
+    /// A double.
+    Double = 5,
+    /// A decimal128.
+    Decimal128 = 6,
+    /// A name without a zero behind it.
+    NameUnended = 7,
+    /// A name or a text that is not UTF-8.
+    BadUtf8 = 8,
+    /// A string's length is below 1 or past the end of what holds it.
+    BadStringLength = 9,
+    /// A string's last byte is not zero.
+    StringUnended = 10,
+    /// A boolean other than 00 and 01.
+    BadBoolean = 11,
+    /// A length of binary data that does not fit.
+    BadBinaryLength = 12,
+    /// A length of code with scope that does not fit.
+    BadScopeLength = 13,
+    /// A document or an array at level 201.
+    TooDeep = 14,
+    /// Fewer bytes than the value takes are left.
+    ValueShort = 15,
+    /// A dump above 4,294,967,295 bytes.
+    DumpTooLong = 16,
+    /// No memory was given.
+    NoMemory = 17,
+}
+
+impl FaultKind {
+    /// What went wrong, in words.
+    pub fn words(self) -> &'static str
+        ensures { result.now ≡ fault_words self }
+    {
+        match self {
+            FaultKind::ShortLength => "length cut short",
+            FaultKind::BadLength => "bad length",
+            FaultKind::NoTerminator => "no terminator",
+            FaultKind::UnknownType => "unknown type",
+            FaultKind::Double => "double",
+            FaultKind::Decimal128 => "decimal128",
+            FaultKind::NameUnended => "name not ended",
+            FaultKind::BadUtf8 => "not UTF-8",
+            FaultKind::BadStringLength => "bad string length",
+            FaultKind::StringUnended => "string not ended",
+            FaultKind::BadBoolean => "bad boolean",
+            FaultKind::BadBinaryLength => "bad binary length",
+            FaultKind::BadScopeLength => "bad scope length",
+            FaultKind::TooDeep => "too deep",
+            FaultKind::ValueShort => "value cut short",
+            FaultKind::DumpTooLong => "dump too long",
+            FaultKind::NoMemory => "no memory",
+        }
+    }
+}
+
+/// The first check that fails in a dump, and its place.
+#[derive(Debug, Drop)]
+pub struct Fault {
+    /// Which check failed.
+    pub kind: FaultKind,
+    /// The number of the document, counted from 0.
+    pub document: u32,
+    /// The byte, counted from the start of the dump.
+    pub offset: u64,
+    /// The names from the document down to the item. An element of an array stands by its position, from 0.
+    pub path: Vec<String>,
+}
+
+/// The first check that fails, as it is seen from the item outwards.
+#[derive(Debug, Drop)]
+pub struct Found {
+    pub kind: FaultKind,
+    pub offset: u64,
+    /// From the item up.
+    pub path: Vec<String>,
+}
+
+/// Why reading an item stopped.
+#[derive(Debug, Drop)]
+pub enum Stop {
+    NoMemory,
+    Found(Found),
+}
+
+/// A fault at a place, with no path yet.
+pub fn fault_at(alloc: Global, kind: FaultKind, offset: u64) -> Stop
+    ensures { Told result (record { kind = kind; offset = offset; path = [] }) }
+{
+    Stop::Found(Found {
+        kind,
+        offset,
+        path: Vec::new(alloc),
+    })
+}
+
+/// An element on a path: in an array its position, in a document its name.
+fn label_of(alloc: Global, place: Option<usize>, name: &str) -> Result<String, AllocError>
+    ensures { IfOk result (λ s. string_bytes s ≡ label place name.now) }
+{
+    match place {
+        None => String::from_str(alloc, name),
+        Some(i) => i.to_string(alloc),
+    }
+}
+
+/// The stop as it is seen from one level up.
+pub fn within(alloc: Global, place: Option<usize>, name: &str, stop: Stop) -> Stop
+    ensures { (f : Where) → Told stop f → Told result (longer (label place name.now) f) }
+{
+    match stop {
+        Stop::NoMemory => Stop::NoMemory,
+        Stop::Found(found) => {
+            let mut found = found;
+            match label_of(alloc, place, name) {
+                Err(_) => Stop::NoMemory,
+                Ok(name) => match found.path.push(name) {
+                    Err(_) => Stop::NoMemory,
+                    Ok(()) => Stop::Found(found),
+                },
+            }
+        }
+    }
+}
+
+/// The fault of the document of that number.
+pub fn fault_of(alloc: Global, stop: Stop, document: u32) -> Fault
+    ensures { IsOf stop document result }
+{
+    match stop {
+        Stop::NoMemory => want_of_memory(alloc),
+        Stop::Found(found) => {
+            let mut path = found.path;
+            path.reverse();
+            Fault {
+                kind: found.kind,
+                document,
+                offset: found.offset,
+                path,
+            }
+        }
+    }
+}
+
+/// The fault that stands for want of memory, which has no place.
+pub fn want_of_memory(alloc: Global) -> Fault
+    ensures { IsWantOfMemory result }
+{
+    Fault {
+        kind: FaultKind::NoMemory,
+        document: 0,
+        offset: 0,
+        path: Vec::new(alloc),
+    }
+}
+
+impl From<AllocError> for Stop {
+    ghost from_gives = { λ _ e. e ≡ NoMemory };
+
+    fn from(_error: AllocError) -> Stop {
+        Stop::NoMemory
+    }
+}
+
+impl<T: Drop> From<AllocFailed<T>> for Stop {
+    ghost from_gives = { λ _ e. e ≡ NoMemory };
+
+    fn from(_error: AllocFailed<T>) -> Stop {
+        Stop::NoMemory
+    }
+}

@@ -1,0 +1,114 @@
+-- What the words of a line order, by the parser's own definition of the lines that it takes.
+use Rattle.std.specs.Prelude.{ℕ, List, ◌∷◌, Bool, not, map, codes, Option, Some, None, true}
+use Rattle.std.specs.Prelude.{option_and_then, option_map, if◌then◌else◌, String, string_bytes}
+use Rattle.std.specs.Prelude.{◌≡◌, ◌==◌, Result, MatchResult, false, slice_get}
+use Rattle.std.specs.Str.{bytes_eq}
+use Rattle.std.specs.Option.{option_map_or}
+use Rattle.std.specs.Str.Parse.{digits_value, without_leading_plus}
+use Rattle.clap.specs.Walk.{Row, Rule, Text, first_of, one_of}
+use Rattle.clap.specs.ValueTests.{is_unsigned_in}
+use Rattle.clap.specs.declared.builder.value_parser.ValueParser.TheVariants.{Unsigned}
+use Rattle.clap.specs.Simple.{App, new_app, new_rule, on_top, subcommand_of, with_rule, with_subcommand}
+use Rattle.clap.specs.Faults.{fault_of}
+use Rattle.clap.specs.declared.builder.action.ArgAction.TheVariants.{Set}
+use Rattle.clap.specs.declared.error.kind.ErrorKind.{ErrorKind}
+use Rattle.clap.specs.declared.error.kind.ErrorKind.TheVariants as kind
+use Rattle.bd_command_line.specs.declared.order.Order.{Order}
+use Rattle.bd_command_line.specs.declared.order.Order.TheVariants.{Dump, Check, Pack, Find}
+use Rattle.bd_command_line.specs.declared.order.WordsFault.{WordsFault}
+use Rattle.bd_command_line.specs.declared.order.WordsFault.TheVariants.{Help, NoMemory, Usage}
+
+-- ---- the lines that are taken, as the parser has them
+
+-- the argument FILE, of which each command has one
+abbrev pub file_rule : Rule
+file_rule = record (new_rule (codes "file")) { required = true; action = Some Set }
+
+-- a command that takes a file alone
+abbrev pub file_app : Text → App
+file_app name = with_rule (new_app name) file_rule
+
+-- `find` takes a query and the size of a batch too
+abbrev pub query_rule : Rule
+query_rule = record (new_rule (codes "query")) { long = Some (codes "query"); required = true; action = Some Set }
+
+abbrev pub batch_rule : Rule
+batch_rule = record (new_rule (codes "batch")) { long = Some (codes "batch"); action = Some Set; parser = Some (Unsigned 0 2147483647) }
+
+abbrev pub find_app : App
+find_app = with_rule (with_rule (file_app (codes "find")) query_rule) batch_rule
+
+-- the line with the commands that take a file alone
+abbrev pub files_app : App
+files_app = with_subcommand (with_subcommand (with_subcommand (on_top (λ s. record s {
+  no_binary_name = true;
+  subcommand_required = true;
+  disable_help_subcommand = true;
+}) (new_app (codes "bsonfind"))) (file_app (codes "dump")).top) (file_app (codes "check")).top) (file_app (codes "pack")).top
+
+abbrev pub line_app : App
+line_app = with_subcommand files_app find_app.top
+
+-- ---- what they order
+
+pub data Ordered : Type 0 where
+  dump : Text → Ordered
+  check : Text → Ordered
+  pack : Text → Ordered
+  find : Text → Text → Option ℕ → Ordered
+
+abbrev pub meant : Order → Ordered
+meant (Dump file) = dump (string_bytes file)
+meant (Check file) = check (string_bytes file)
+meant (Pack file) = pack (string_bytes file)
+meant (Find file query batch) = find (string_bytes file) (string_bytes query) batch
+
+abbrev pub words_of : {Z : Type 0} → List (String Z) → List Text
+words_of = map string_bytes
+
+-- the number of 32 bits that a text is read as
+abbrev pub number_read : Text → Option ℕ
+number_read text = if is_unsigned_in 0 4294967295 text then Some (digits_value 10 (without_leading_plus text)) else None
+
+abbrev pub batch_read : List Row → Option ℕ
+batch_read rows = option_and_then number_read (one_of (codes "batch") rows)
+
+abbrev pub find_ordered : List Row → Text → Option Ordered
+find_ordered rows file = option_map (λ query. find file query (batch_read rows)) (first_of (codes "query") rows)
+
+-- the order of a command's name and its matches
+abbrev pub ordered_by : Text → List Row → Option Ordered
+ordered_by name rows =
+    if bytes_eq name (codes "dump") then option_map dump (first_of (codes "file") rows)
+    else (if bytes_eq name (codes "check") then option_map check (first_of (codes "file") rows)
+    else (if bytes_eq name (codes "pack") then option_map pack (first_of (codes "file") rows)
+    else (if bytes_eq name (codes "find") then option_and_then (find_ordered rows) (first_of (codes "file") rows) else None)))
+
+-- the order of words that are taken
+abbrev pub order_of : List Text → Option Ordered
+order_of words = option_and_then (λ p. ordered_by p.0 p.1) (subcommand_of line_app words)
+
+-- ---- and how the others are answered
+
+abbrev pub told_as : ErrorKind → WordsFault
+told_as kind.DisplayHelp = Help
+told_as kind.OutOfMemory = NoMemory
+told_as _ = Usage
+
+-- the fault that the parser's refusal of the words is told as; none where they are taken. Where the
+-- parser may give one of several kinds, all of them are told as the first.
+abbrev pub fault_for : List Text → Option WordsFault
+fault_for words = option_map told_as (slice_get (fault_of line_app words) 0)
+
+-- the answer is this order, or memory ran out
+abbrev pub Orders : Result Order WordsFault → Ordered → Type 0
+Orders answer order = MatchResult answer (λ o. meant o ≡ order) (λ f. f ≡ NoMemory)
+
+-- the first word is `help`
+abbrev pub is_help_line : List Text → Bool
+is_help_line words = option_map_or (λ word. bytes_eq word (codes "help")) (slice_get words 0) false
+
+-- a word that may stand as FILE: none of two bytes and more that begins with a hyphen (45)
+abbrev pub is_file_word : Text → Bool
+is_file_word (x ∷ y ∷ rest) = not (x == 45)
+is_file_word _ = true

@@ -1,0 +1,147 @@
+//! Reads the words of a line.
+ghost use Rattle.std.specs.Prelude.{◌≡◌, ◌⊎◌, IfErr, IfOk, IsErrOf, IsSome, IsTrue, List, None, Some, [], ◌∷◌, codes, false, true, ℕ};
+ghost use Rattle.clap.specs.Words.{app_of, found_of, kind_of, rows_of, rule_of, takes};
+ghost use Rattle.clap.specs.declared.builder.command.Command.TheViews.{out-Command as fields_of};
+ghost use Rattle.bd_command_line.specs.CommandLine.{Orders, check, dump, fault_for, file_app, file_rule, files_app, find, is_file_word, is_help_line, line_app, meant, order_of, ordered_by, pack, told_as, words_of};
+ghost use Rattle.bd_command_line.specs.declared.order.WordsFault.TheVariants.{NoMemory};
+
+use crate::find_words::{find_command, find_order};
+use crate::order::{Order, WordsFault};
+use clap::error::ErrorKind;
+use clap::{Arg, ArgAction, ArgMatches, Command, Error};
+use std::alloc::{AllocError, Global};
+
+/// What a request for help and a refused line are answered with.
+pub const USAGE: &str = "usage: bsonfind dump FILE
+       bsonfind check FILE
+       bsonfind pack FILE
+       bsonfind find FILE [--query Q] [--sort S] [--skip N] [--limit N] [--batch N] [--index PATH] [--after TOKEN]
+       bsonfind serve FILE
+";
+
+fn file_argument<'a>(alloc: Global) -> Arg<'a>
+    ensures rule { rule_of result ≡ file_rule }
+    ensures local { result.global ≡ false }
+{
+    Arg::new(alloc, "file")
+        .required(true)
+        .action(ArgAction::Set)
+}
+
+/// A command that takes a file and nothing else.
+pub fn of_file<'a>(alloc: Global, name: &'a str) -> Result<Command<'a>, AllocError>
+    ensures app { IfOk result (λ c. app_of c ≡ file_app name.entry.now) }
+    ensures local { IfOk result (λ c. (fields_of c).has_globals ≡ false) }
+{
+    let file = file_argument(alloc);
+    Command::new(alloc, name).arg(file)
+}
+
+/// The program's line with the commands that take a file and nothing else.
+fn files_command<'a>(alloc: Global) -> Result<Command<'a>, AllocError>
+    ensures app { IfOk result (λ c. app_of c ≡ files_app) }
+    ensures local { IfOk result (λ c. (fields_of c).has_globals ≡ false) }
+{
+    let dump = of_file(alloc, "dump")?;
+    let check = of_file(alloc, "check")?;
+    let pack = of_file(alloc, "pack")?;
+    Command::new(alloc, "bsonfind")
+        .no_binary_name(true)
+        .subcommand_required(true)
+        .disable_help_subcommand(true)
+        .subcommand(dump)?
+        .subcommand(check)?
+        .subcommand(pack)
+}
+
+/// The program's whole line.
+fn line_command<'a>(alloc: Global) -> Result<Command<'a>, AllocError>
+    ensures app { IfOk result (λ c. app_of c ≡ line_app) }
+    ensures local { IfOk result (λ c. (fields_of c).has_globals ≡ false) }
+{
+    let find = find_command(alloc)?;
+    files_command(alloc)?.subcommand(find)
+}
+
+fn fault_told(error: &Error) -> WordsFault
+    ensures { result ≡ told_as (kind_of error.now) }
+{
+    match error.kind() {
+        ErrorKind::DisplayHelp => WordsFault::Help,
+        ErrorKind::OutOfMemory => WordsFault::NoMemory,
+        _ => WordsFault::Usage,
+    }
+}
+
+fn begins_with_help(words: &[String]) -> bool
+    ensures { result ≡ is_help_line (words_of words.now) }
+{
+    words.first().is_some_and(|word| word.as_str() == "help")
+}
+
+/// The order of the command `name` with these matches.
+fn order_named(alloc: Global, name: &str, matches: &ArgMatches<'_>) -> Result<Order, WordsFault>
+    requires { IsSome (ordered_by name.now (rows_of (found_of matches.now))) }
+    ensures order { IfOk result (λ o.
+        ordered_by name.now (rows_of (found_of matches.now)) ≡ Some (meant o)) }
+    ensures fault { IfErr result (λ f. f ≡ NoMemory) }
+{
+    let Some(file) = matches.get_str("file") else {
+        unreachable!()
+    };
+    let file = String::from_str(alloc, file)?;
+    match name {
+        "dump" => Ok(Order::Dump { file }),
+        "check" => Ok(Order::Check { file }),
+        "pack" => Ok(Order::Pack { file }),
+        "find" => find_order(alloc, file, matches),
+        _ => unreachable!(),
+    }
+}
+
+/// The order of a line: its words without the program's name.
+///
+/// `dump FILE`, `check FILE` and `pack FILE` are taken, and `find FILE --query Q` with or without `--batch N`, N from 0 to
+/// 2,147,483,647. A file whose name looks like a flag stands behind `--`, as in `dump -- -x`.
+///
+/// # Errors
+///
+/// - `Help` where the words ask for help by a flag, as `--help` and `dump -h` do.
+/// - `Usage` where they are not taken otherwise. The word `help` in the first place is no command.
+/// - `NoMemory` where memory ran out, whatever the words are.
+pub fn parse_words(alloc: Global, words: &[String]) -> Result<Order, WordsFault>
+    ensures order { IfOk result (λ o. order_of (words_of words.now) ≡ Some (meant o)) }
+    ensures only_taken { IfOk result (λ _. fault_for (words_of words.now) ≡ None) }
+    ensures fault { IfErr result (λ f. (f ≡ NoMemory) ⊎ (fault_for (words_of words.now) ≡ Some f)) }
+    ensures taken { takes line_app (words_of words.now) ≡ true → IfErr result (λ f. f ≡ NoMemory) }
+    ensures dump { (file : List ℕ) → IsTrue (is_file_word file)
+        → words_of words.now ≡ codes "dump" ∷ file ∷ [] → Orders result (dump file) }
+    ensures escaped { (file : List ℕ)
+        → words_of words.now ≡ codes "dump" ∷ codes "--" ∷ file ∷ [] → Orders result (dump file) }
+    ensures check { (file : List ℕ) → IsTrue (is_file_word file)
+        → words_of words.now ≡ codes "check" ∷ file ∷ [] → Orders result (check file) }
+    ensures check_escaped { (file : List ℕ)
+        → words_of words.now ≡ codes "check" ∷ codes "--" ∷ file ∷ [] → Orders result (check file) }
+    ensures pack { (file : List ℕ) → IsTrue (is_file_word file)
+        → words_of words.now ≡ codes "pack" ∷ file ∷ [] → Orders result (pack file) }
+    ensures pack_escaped { (file : List ℕ)
+        → words_of words.now ≡ codes "pack" ∷ codes "--" ∷ file ∷ [] → Orders result (pack file) }
+    // A query begins with a brace (123).
+    ensures find { (rest file : List ℕ)
+        → words_of words.now ≡ codes "find" ∷ codes "--query" ∷ (123 ∷ rest) ∷ codes "--" ∷ file ∷ []
+        → Orders result (find file (123 ∷ rest) None) }
+    ensures help_word { IsTrue (is_help_line (words_of words.now)) → IsErrOf result WordsFault.Usage }
+{
+    if begins_with_help(words) {
+        return Err(WordsFault::Usage);
+    }
+    let command = line_command(alloc)?;
+    let matches = match command.try_get_matches_from(words) {
+        Ok(matches) => matches,
+        Err(error) => return Err(fault_told(&error)),
+    };
+    let Some((name, inner)) = matches.subcommand() else {
+        unreachable!()
+    };
+    order_named(alloc, name, inner)
+}

@@ -1,0 +1,54 @@
+//! Why a text is no document, and where.
+ghost use Rattle.std.specs.Prelude.{◌≡◌};
+ghost use Rattle.bd_diagnose.specs.JsonFault.{json_fault_words};
+
+/// Which rule a text breaks: JSON (RFC 8259), then Extended JSON v2.
+#[derive(Clone, Copy, Debug, PartialEq, Eq)]
+pub enum JsonFaultKind {
+    /// It is no JSON, or it is not UTF-8.
+    Syntax = 1,
+    /// It is a value that is no document.
+    NotADocument = 2,
+    /// Brackets stand deeper than 203 in one another, or documents and arrays deeper than 200.
+    TooDeep = 3,
+    /// An object begins with a wrapper's name and is not exactly that wrapper.
+    BadWrapper = 4,
+    /// A double, a decimal128, a UUID, a text as date, or another form that is not read.
+    NotInProfile = 5,
+    /// A whole number that does not fit its type.
+    NumberRange = 6,
+    /// A zero in a name, or in a text of a regular expression.
+    NulInName = 7,
+    /// Text behind the document.
+    TrailingText = 8,
+    /// No memory was given.
+    NoMemory = 9,
+}
+
+impl JsonFaultKind {
+    /// What went wrong, in words.
+    pub fn words(self) -> &'static str
+        ensures { result.now ≡ json_fault_words self }
+    {
+        match self {
+            JsonFaultKind::Syntax => "not JSON",
+            JsonFaultKind::NotADocument => "not a document",
+            JsonFaultKind::TooDeep => "too deep",
+            JsonFaultKind::BadWrapper => "bad wrapper",
+            JsonFaultKind::NotInProfile => "not in the profile",
+            JsonFaultKind::NumberRange => "number out of range",
+            JsonFaultKind::NulInName => "zero in a name",
+            JsonFaultKind::TrailingText => "text after the document",
+            JsonFaultKind::NoMemory => "no memory",
+        }
+    }
+}
+
+/// Why a text is no document, and where.
+#[derive(Clone, Copy, Debug, Drop, PartialEq, Eq)]
+pub struct JsonFault {
+    /// Which rule it breaks.
+    pub kind: JsonFaultKind,
+    /// The byte of the text, from 0. It is 0 for `NotADocument` and for `NoMemory`, which have no place.
+    pub at: u64,
+}

@@ -1,0 +1,45 @@
+//! Why a text is no document, and where: a pass over the whole text, for texts that are refused.
+//!
+//! What is no JSON stops the walk where it stands. The first fault of the tree is kept until the text has shown itself as JSON.
+ghost use Rattle.std.specs.Prelude.{◌≤◌, length};
+
+use crate::findings::{Form, Sought};
+use crate::json_fault::{JsonFault, JsonFaultKind};
+use crate::limits::{BRACKETS, LEVELS};
+use crate::skip::{Stop, skip_white};
+use crate::walk;
+use std::alloc::Global;
+
+/// The text as UTF-8, as JSON, as a tree and as a document.
+fn check(alloc: Global, text: &[u8]) -> Result<(), Stop> {
+    if let Err(error) = str::from_utf8(text) {
+        return Err(Stop::syntax(&text[error.valid_up_to()..]));
+    }
+    let walked = walk::value(alloc, text, BRACKETS, Sought::Tree(LEVELS))?;
+    let behind = skip_white(walked.rest);
+    if !behind.is_empty() {
+        return Err(Stop::at(behind, JsonFaultKind::TrailingText));
+    }
+    if let Some(fault) = walked.fault {
+        return Err(fault);
+    }
+    if walked.form != Form::Document {
+        return Err(Stop::at(text, JsonFaultKind::NotADocument));
+    }
+    Ok(())
+}
+
+/// The first fault of a text: of its UTF-8, of its JSON, of its tree from left to right, and last that it is no document.
+///
+/// It is asked of texts that are refused. Where it finds no fault it says `Syntax` at the text's end.
+pub fn diagnose(alloc: Global, text: &[u8]) -> JsonFault
+    ensures place { result.at ≤ length text.now }
+{
+    match check(alloc, text) {
+        Ok(()) => JsonFault {
+            kind: JsonFaultKind::Syntax,
+            at: text.len() as u64,
+        },
+        Err(stop) => stop.in_text(text.len()),
+    }
+}

@@ -1,0 +1,6 @@
+pub mod Asked
+pub mod Cursors
+pub mod Readable
+pub mod Steps
+pub mod Viewed
+pub mod Whole

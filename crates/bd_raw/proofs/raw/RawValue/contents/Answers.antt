@@ -1,0 +1,62 @@
+use Rattle.std.proofs.Common.{◌≡◌, ◌+◌, ◌∙◌, drop, length, List, ℕ, sym, ap, subst, arith}
+use Rattle.std.proofs.lemmas.List.{drop-drop}
+use Rattle.bd_value.specs.Seen.{own}
+use Rattle.bd_raw.specs.Reads.{TextAt, Reads}
+use Rattle.bd_raw.specs.Sizes.{number_of, text_of, scalar_at}
+use Rattle.bd_raw.proofs.Readable.{reads_at}
+use Rattle.bd_raw.proofs.Viewed as v
+use Rattle.bd_raw.proofs.raw.RawValue.contents.Goals as goal
+
+pub invariant_of-result : goal.invariant_of-result
+invariant_of-result c = record { left = v.document_left c.args.self.bytes.now c.args.self.start c.args.self.kind c.args.self.sound c.in-Doc.is }
+
+pub returns-in-Doc-clause-holds : goal.returns-in-Doc-clause-holds
+returns-in-Doc-clause-holds c = v.document_is c.args.self.bytes.now c.args.self.start c.args.self.kind c.args.self.sound c.in-Doc.is _
+
+pub invariant_of-result-in-Array : goal.invariant_of-result-in-Array
+invariant_of-result-in-Array c = record { left = v.array_left c.args.self.bytes.now c.args.self.start c.args.self.kind c.args.self.sound c.in-Array.is }
+
+pub returns-in-Array-clause-holds : goal.returns-in-Array-clause-holds
+returns-in-Array-clause-holds c = v.array_is c.args.self.bytes.now c.args.self.start c.args.self.kind c.args.self.sound c.in-Array.is _
+
+pub split_at-requires-in-CodeScope : goal.split_at-requires-in-CodeScope
+split_at-requires-in-CodeScope c =
+    let l = v.code_long c.args.self.bytes.now c.args.self.start c.args.self.kind c.args.self.sound c.in-CodeScope.is in
+    let e = ap (λ (x : List ℕ). length x) c.split_at.ensures.back in
+    omega arith
+
+pub number-requires : goal.number-requires
+number-requires c =
+    let behind : c.split_at-in-CodeScope.result.1.now ≡ drop (c.args.self.start + 4) c.args.self.bytes.now = c.split_at-in-CodeScope.ensures.back ∙ ap (drop 4) c.split_at.ensures.back ∙ drop-drop 4 c.args.self.start c.args.self.bytes.now in
+    let t = v.code_reads c.args.self.bytes.now c.args.self.start c.args.self.kind c.args.self.sound c.in-CodeScope.is in
+    let i = t.inside in
+    let e = ap (λ (x : List ℕ). length x) behind in
+    omega arith
+
+pub text-requires : goal.text-requires
+text-requires c =
+    let behind : c.split_at-in-CodeScope.result.1.now ≡ drop (c.args.self.start + 4) c.args.self.bytes.now = c.split_at-in-CodeScope.ensures.back ∙ ap (drop 4) c.split_at.ensures.back ∙ drop-drop 4 c.args.self.start c.args.self.bytes.now in
+    subst TextAt (sym behind) (v.code_reads c.args.self.bytes.now c.args.self.start c.args.self.kind c.args.self.sound c.in-CodeScope.is)
+
+pub invariant_of-scope : goal.invariant_of-scope
+invariant_of-scope c =
+    let behind : c.split_at-in-CodeScope.result.1.now ≡ drop (c.args.self.start + 4) c.args.self.bytes.now = c.split_at-in-CodeScope.ensures.back ∙ ap (drop 4) c.split_at.ensures.back ∙ drop-drop 4 c.args.self.start c.args.self.bytes.now in
+    let n = c.number.ensures ∙ ap number_of behind in
+    record { inside = v.scope_inside c.args.self.bytes.now c.args.self.start c.args.self.kind c.args.self.sound c.in-CodeScope.is c.number.result n; sound = v.scope_sound c.args.self.bytes.now c.args.self.start c.args.self.kind c.args.self.sound c.in-CodeScope.is c.number.result n }
+
+pub returns-in-CodeScope-clause-holds : goal.returns-in-CodeScope-clause-holds
+returns-in-CodeScope-clause-holds c =
+    let behind : c.split_at-in-CodeScope.result.1.now ≡ drop (c.args.self.start + 4) c.args.self.bytes.now = c.split_at-in-CodeScope.ensures.back ∙ ap (drop 4) c.split_at.ensures.back ∙ drop-drop 4 c.args.self.start c.args.self.bytes.now in
+    let n = c.number.ensures ∙ ap number_of behind in
+    let t = c.text.ensures ∙ ap text_of behind in
+    v.code_is c.args.self.bytes.now c.args.self.start c.args.self.kind c.args.self.sound c.in-CodeScope.is c.number.result c.text.result.now _ n t
+
+pub scalar-requires : goal.scalar-requires
+scalar-requires c =
+    let none = v.no_holder_left c.args.self.kind c.in_default.not-Doc c.in_default.not-Array c.in_default.not-CodeScope in
+    record { scalar = none; reads = subst (Reads c.args.self.kind) (sym c.split_at.ensures.back) (reads_at c.args.self.kind _ c.args.self.sound) }
+
+pub returns-in_default-clause-holds : goal.returns-in_default-clause-holds
+returns-in_default-clause-holds c =
+    let none = v.no_holder_left c.args.self.kind c.in_default.not-Doc c.in_default.not-Array c.in_default.not-CodeScope in
+    (_, v.leaf_is c.args.self.kind _ c.args.self.sound none, c.scalar.ensures ∙ ap (λ (x : List ℕ). own (scalar_at c.args.self.kind x)) c.split_at.ensures.back)

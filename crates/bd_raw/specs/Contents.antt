@@ -1,0 +1,22 @@
+-- What a value holds.
+use Rattle.std.specs.Prelude.{◌≡◌, ℕ, List}
+use Rattle.bd_value.specs.Tree as trees
+use Rattle.bd_value.specs.Tree.{Tree, leaf, doc, array, code_scope, fields_of, items_of, pairs_in}
+use Rattle.bd_value.specs.Seen.{seen, own}
+use Rattle.bd_value.specs.Parts.{values_of}
+use Rattle.bd_raw.specs.Sound.{stands, elements_left}
+use Rattle.bd_raw.specs.declared.contents.Contents.{Contents}
+use Rattle.bd_raw.specs.declared.contents.Contents.TheVariants.{Scalar, Document, Array, CodeScope}
+
+abbrev pub Holds : Tree → Contents → Type 0
+Holds t (Scalar s) = (a : trees.Scalar) × (t ≡ leaf a) × (seen s ≡ own a)
+Holds t (Document elements) = t ≡ doc (fields_of (elements_left elements.left))
+Holds t (Array elements) = t ≡ array (items_of (values_of (elements_left elements.left)))
+Holds t (CodeScope code scope) = t ≡ code_scope code.now (fields_of (pairs_in (stands scope.sound)))
+
+-- the views in it stand in these bytes
+abbrev pub StandsIn : List ℕ → Contents → Type 0
+StandsIn bytes (Scalar s) = Unit {0}
+StandsIn bytes (Document elements) = elements.bytes.now ≡ bytes
+StandsIn bytes (Array elements) = elements.bytes.now ≡ bytes
+StandsIn bytes (CodeScope code scope) = scope.bytes.now ≡ bytes

@@ -1,0 +1,16 @@
+//! The objects of Extended JSON that stand for values of other kinds, by their first names, as `{"$oid":..}`.
+//!
+//! What each stands for: `specs/Wrappers.antt`. Which texts are whole numbers: `specs/Whole.antt`.
+#![tactic(auto)]
+
+mod trouble;
+mod whole_number;
+mod wrapper;
+mod wrapper_parts;
+mod wrapper_values;
+
+pub use trouble::Trouble;
+pub use whole_number::{is_whole_number, whole};
+pub use wrapper::{Wrapper, names_code, names_scope};
+pub use wrapper_parts::{number_of, only, pair};
+pub use wrapper_values::unwrap_single;
