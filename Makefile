@@ -1,13 +1,15 @@
 # make            builds the program, ./bsonfind
+# make look       prints the documents of FILE, examples/shop.bson without it, by the program as it stands, with no proof
 # make test       passes all tests
 # make bench      times the commands over a dump of MB megabytes, 20 without it, of documents of a KIND, mixed without it
 # make install    puts the program, its man page, completions, licence and documents below PREFIX
 # make uninstall  takes them away
 # make clean      removes the program, and the proofs and builds that rt keeps
 #
-# Nothing but rt is wanted on PATH, and python3 by bench.
+# Nothing but rt is wanted on PATH, and python3, which rt wants too.
 
 PYTHON = python3
+FILE = examples/shop.bson
 MB = 20
 KIND = mixed
 PREFIX = /usr/local
@@ -19,15 +21,17 @@ BASH = $(SHARE)/bash-completion/completions
 ZSH = $(SHARE)/zsh/site-functions
 FISH = $(SHARE)/fish/vendor_completions.d
 
-.PHONY: all build test bench install uninstall clean
+.PHONY: all build look test bench install uninstall clean
 
 all: build
 
-# rt proves and builds what has changed and leaves the program in out/. It has no call that builds a program and does
-# not run it, so the program is asked for its usage.
+# Proves what has changed, as many crates side by side as there are processors and memory, and leaves ./bsonfind.
 build:
-	cd crates/bsonfind && rt run -- --help >/dev/null
-	cp crates/bsonfind/out/bsonfind bsonfind
+	@$(PYTHON) tools/build.py
+
+look:
+	@echo 'make look: the program is run as it stands, and nothing of it is proved; make proves and builds it' >&2
+	@cd crates/bsonfind && rt try --data 'dump.bson=$(abspath $(FILE))' -- dump dump.bson
 
 # What was built is installed; it is built first only where there is none.
 bsonfind:

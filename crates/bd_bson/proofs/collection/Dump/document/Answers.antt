@@ -1,4 +1,5 @@
-use Rattle.std.proofs.Common.{List, ℕ, drop, sym, subst, arith}
+use Rattle.std.proofs.Common.{◌∙◌, List, ℕ, Some, ap, drop, sym, subst, arith}
+use Rattle.bd_value.specs.Tree.{Tree, pairs_in}
 use Rattle.bd_value.specs.declared.kind.Kind.TheVariants as kinds
 use Rattle.bd_bson.specs.Collection.{documents}
 use Rattle.bd_raw.specs.Sound.{Sound}
@@ -8,13 +9,11 @@ use Rattle.bd_bson.proofs.collection.Dump.document.Goals as goal
 pub index-requires : goal.index-requires
 index-requires c = omega (arith, documents_length c.args.self.now)
 
-pub invariant_of-result : goal.invariant_of-result
-invariant_of-result c =
-    let bytes = c.args.self.now.bytes.items in
-    let starts = c.args.self.now.starts.items in
-    let at = start_at starts c.args.n c.index.result.now (omega (arith, documents_length c.args.self.now)) c.index.ensures in
-    let sound = stands_there bytes starts c.args.self.now.stand c.args.n c.index.result.now at in
-    record { inside = rw c.deref.ensures.value (start_inside bytes c.index.result.now sound); sound = subst (λ (x : List ℕ). Sound kinds.Doc (drop c.index.result.now x)) (sym c.deref.ensures.value) sound }
+pub at-requires : goal.at-requires
+at-requires c =
+    let at = start_at c.args.self.now.starts.items c.args.n c.index.result.now (omega (arith, documents_length c.args.self.now)) c.index.ensures in
+    let sound = stands_there c.args.self.now.bytes.items c.args.self.now.starts.items c.args.self.now.stand c.args.n c.index.result.now at in
+    record { inside = rw c.deref.ensures.value (start_inside c.args.self.now.bytes.items c.index.result.now sound); sound = subst (λ (x : List ℕ). Sound kinds.Doc (drop c.index.result.now x)) (sym c.deref.ensures.value) sound }
 
 pub returns-clause-document : goal.returns-clause-document
 unfolding documents
@@ -22,4 +21,6 @@ returns-clause-document c =
     let bytes = c.args.self.now.bytes.items in
     let starts = c.args.self.now.starts.items in
     let at = start_at starts c.args.n c.index.result.now (omega (arith, documents_length c.args.self.now)) c.index.ensures in
-    document_of bytes starts c.args.self.now.stand c.args.n c.index.result.now c.deref.result.now _ at (sym c.deref.ensures.value)
+    let sound = subst (λ (x : List ℕ). Sound kinds.Doc (drop c.index.result.now x)) (sym c.deref.ensures.value) (stands_there bytes starts c.args.self.now.stand c.args.n c.index.result.now at) in
+    document_of bytes starts c.args.self.now.stand c.args.n c.index.result.now c.deref.result.now sound at (sym c.deref.ensures.value)
+    ∙ ap (λ (t : Tree). Some (pairs_in t)) (sym (c.at.ensures.stands sound))
