@@ -292,3 +292,9 @@ pub orders_when : (r : Result Order WordsFault) (words : List Text) (order : Ord
     → IfOk r (λ o. order_of words ≡ Some (meant o)) → IfErr r (λ f. f ≡ NoMemory) → Orders r order
 orders_when (Ok o) words order is ok err = same_order words (meant o) order ok is
 orders_when (Err f) words order is ok err = err
+
+-- words that are taken are answered by their order, or memory ran out
+pub answered : (r : Result Order WordsFault) (words : List Text) (order : Ordered) → fault_of line_app words ≡ [] → order_of words ≡ Some order
+    → IfOk r (λ o. order_of words ≡ Some (meant o)) → IfErr r (λ f. (f ≡ NoMemory) ⊎ (fault_for words ≡ Some f)) → Orders r order
+answered (Ok o) words order none is ok err = orders_when (Ok o) words order is ok err
+answered (Err f) words order none is ok err = only_memory words f none err

@@ -38,13 +38,17 @@ batch_rule = record (new_rule (codes "batch")) { long = Some (codes "batch"); ac
 abbrev pub find_app : App
 find_app = with_rule (with_rule (file_app (codes "find")) query_rule) batch_rule
 
--- the line with the commands that take a file alone
-abbrev pub files_app : App
-files_app = with_subcommand (with_subcommand (with_subcommand (on_top (λ s. record s {
+-- the line without its commands
+abbrev pub top_app : App
+top_app = on_top (λ s. record s {
   no_binary_name = true;
   subcommand_required = true;
   disable_help_subcommand = true;
-}) (new_app (codes "bsonfind"))) (file_app (codes "dump")).top) (file_app (codes "check")).top) (file_app (codes "pack")).top
+}) (new_app (codes "bsonfind"))
+
+-- the line with the commands that take a file alone
+abbrev pub files_app : App
+files_app = with_subcommand (with_subcommand (with_subcommand top_app (file_app (codes "dump")).top) (file_app (codes "check")).top) (file_app (codes "pack")).top
 
 abbrev pub line_app : App
 line_app = with_subcommand files_app find_app.top

@@ -1,8 +1,9 @@
 //! Reads the words of a line.
 ghost use Rattle.std.specs.Prelude.{◌≡◌, ◌⊎◌, IfErr, IfOk, IsErrOf, IsSome, IsTrue, List, None, Some, [], ◌∷◌, codes, false, true, ℕ};
+ghost use Rattle.clap.specs.Simple.{with_subcommand};
 ghost use Rattle.clap.specs.Words.{app_of, found_of, kind_of, rows_of, rule_of, takes};
 ghost use Rattle.clap.specs.declared.builder.command.Command.TheViews.{out-Command as fields_of};
-ghost use Rattle.bd_command_line.specs.CommandLine.{Orders, check, dump, fault_for, file_app, file_rule, files_app, find, is_file_word, is_help_line, line_app, meant, order_of, ordered_by, pack, told_as, words_of};
+ghost use Rattle.bd_command_line.specs.CommandLine.{Orders, check, dump, fault_for, file_app, file_rule, files_app, find, is_file_word, is_help_line, line_app, meant, order_of, ordered_by, pack, told_as, top_app, words_of};
 ghost use Rattle.bd_command_line.specs.declared.order.WordsFault.TheVariants.{NoMemory};
 
 use crate::find_words::{find_command, find_order};
@@ -37,21 +38,39 @@ pub fn of_file<'a>(alloc: Global, name: &'a str) -> Result<Command<'a>, AllocErr
     Command::new(alloc, name).arg(file)
 }
 
+/// The program's line without its commands.
+fn top_command<'a>(alloc: Global) -> Command<'a>
+    ensures app { app_of result ≡ top_app }
+    ensures local { (fields_of result).has_globals ≡ false }
+{
+    Command::new(alloc, "bsonfind")
+        .no_binary_name(true)
+        .subcommand_required(true)
+        .disable_help_subcommand(true)
+}
+
+/// The line with one command more, which takes a file and nothing else.
+fn with_file_command<'a>(
+    alloc: Global,
+    line: Command<'a>,
+    name: &'a str,
+) -> Result<Command<'a>, AllocError>
+    requires { (fields_of line).has_globals ≡ false }
+    ensures app { IfOk result (λ c. app_of c ≡ with_subcommand (app_of line.entry) (file_app name.entry.now).top) }
+    ensures local { IfOk result (λ c. (fields_of c).has_globals ≡ false) }
+{
+    let command = of_file(alloc, name)?;
+    line.subcommand(command)
+}
+
 /// The program's line with the commands that take a file and nothing else.
 fn files_command<'a>(alloc: Global) -> Result<Command<'a>, AllocError>
     ensures app { IfOk result (λ c. app_of c ≡ files_app) }
     ensures local { IfOk result (λ c. (fields_of c).has_globals ≡ false) }
 {
-    let dump = of_file(alloc, "dump")?;
-    let check = of_file(alloc, "check")?;
-    let pack = of_file(alloc, "pack")?;
-    Command::new(alloc, "bsonfind")
-        .no_binary_name(true)
-        .subcommand_required(true)
-        .disable_help_subcommand(true)
-        .subcommand(dump)?
-        .subcommand(check)?
-        .subcommand(pack)
+    let line = with_file_command(alloc, top_command(alloc), "dump")?;
+    let line = with_file_command(alloc, line, "check")?;
+    with_file_command(alloc, line, "pack")
 }
 
 /// The program's whole line.
@@ -99,6 +118,24 @@ fn order_named(alloc: Global, name: &str, matches: &ArgMatches<'_>) -> Result<Or
     }
 }
 
+/// The order of words of which the first is not `help`, or of any words that the parser is to be asked about.
+fn order_in(alloc: Global, words: &[String]) -> Result<Order, WordsFault>
+    ensures order { IfOk result (λ o. order_of (words_of words.now) ≡ Some (meant o)) }
+    ensures only_taken { IfOk result (λ _. fault_for (words_of words.now) ≡ None) }
+    ensures fault { IfErr result (λ f. (f ≡ NoMemory) ⊎ (fault_for (words_of words.now) ≡ Some f)) }
+    ensures taken { takes line_app (words_of words.now) ≡ true → IfErr result (λ f. f ≡ NoMemory) }
+{
+    let command = line_command(alloc)?;
+    let matches = match command.try_get_matches_from(words) {
+        Ok(matches) => matches,
+        Err(error) => return Err(fault_told(&error)),
+    };
+    let Some((name, inner)) = matches.subcommand() else {
+        unreachable!()
+    };
+    order_named(alloc, name, inner)
+}
+
 /// The order of a line: its words without the program's name.
 ///
 /// `dump FILE`, `check FILE` and `pack FILE` are taken, and `find FILE --query Q` with or without `--batch N`, N from 0 to
@@ -135,13 +172,5 @@ pub fn parse_words(alloc: Global, words: &[String]) -> Result<Order, WordsFault>
     if begins_with_help(words) {
         return Err(WordsFault::Usage);
     }
-    let command = line_command(alloc)?;
-    let matches = match command.try_get_matches_from(words) {
-        Ok(matches) => matches,
-        Err(error) => return Err(fault_told(&error)),
-    };
-    let Some((name, inner)) = matches.subcommand() else {
-        unreachable!()
-    };
-    order_named(alloc, name, inner)
+    order_in(alloc, words)
 }

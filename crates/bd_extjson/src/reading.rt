@@ -1,5 +1,5 @@
 //! Values read from the tokens of a text, in one pass.
-ghost use Rattle.std.specs.Prelude.{◌≡◌, ◌<◌, ◌≤◌, ◌-◌, ℕ, length, map, Some, List, Option, option_map, option_and_then, OnOk};
+ghost use Rattle.std.specs.Prelude.{◌≡◌, ◌<◌, ◌≤◌, ◌-◌, ℕ, length, map, Some, List, Option, option_map, option_and_then, IfOk, IfErr, OnOk};
 ghost use Rattle.json.specs.Json.{Json, value, items, members};
 ghost use Rattle.json.specs.Value.{value_view};
 ghost use Rattle.json.specs.Find.{as_str};
@@ -8,7 +8,7 @@ ghost use Rattle.bd_value.specs.View.{tree_of, pairs};
 ghost use Rattle.bd_extjson.specs.Wrap.{bare_number, with_scope, wrapped, wrap, wrap_items, wrap_object, wrap_fields, behind};
 ghost use Rattle.bd_wrapper.specs.Wrappers.{wrapper_of};
 ghost use Rattle.bd_wrapper.specs.Whole.{whole_64};
-ghost use Rattle.bd_wrapper.specs.Progress.{through, after_key, closing, Gives, Tells};
+ghost use Rattle.bd_wrapper.specs.Progress.{through, after_key, closing, Fails, Gives, Tells};
 ghost use Rattle.bd_extjson.specs.Reads.{document};
 ghost use Rattle.bd_wrapper.specs.declared.wrapper.Wrapper.TheVariants as kinds;
 
@@ -289,6 +289,25 @@ fn read_code_second(
         (through (λ ms. wrapped room kinds.Scope j (Some (tree_of scope)) (behind (room - 1) ms)) (members (value depth) n reader.old)) }
     ensures shorter { OnOk result (length reader.new < length reader.old) }
 {
+    match read_code(alloc, reader, depth) {
+        Ok(code) => code_with_scope(alloc, &code, scope),
+        Err(trouble) => Err(trouble),
+    }
+}
+
+// The code that follows such a scope, and the brace that ends the object. No scope is held here, since each `?` would let it go.
+fn read_code<'a>(
+    alloc: Global,
+    reader: &mut Reader<'a>,
+    depth: usize,
+) -> Result<json::Value<'a>, Trouble>
+    ensures code { IfOk result (λ code. (n room : ℕ) (j : Json) (u : Tree) → length reader.old ≤ n → 0 < room →
+        through (λ ms. wrapped room kinds.Scope j (Some u) (behind (room - 1) ms)) (members (value depth) n reader.old)
+        ≡ option_map (λ t. (t, reader.new)) (with_scope (as_str (value_view code)) (Some u))) }
+    ensures none { IfErr result (λ e. (n room : ℕ) (j : Json) (t : Option Tree) → length reader.old ≤ n →
+        Fails e (through (λ ms. wrapped room kinds.Scope j t (behind (room - 1) ms)) (members (value depth) n reader.old))) }
+    ensures shorter { OnOk result (length reader.new < length reader.old) }
+{
     let Some(second) = reader.next_key()? else {
         return Err(Trouble::Refused);
     };
@@ -297,5 +316,5 @@ fn read_code_second(
     }
     let code = read_part(alloc, reader, depth)?;
     end_object(reader)?;
-    code_with_scope(alloc, &code, scope)
+    Ok(code)
 }

@@ -29,6 +29,18 @@ impl From<ReadFault> for DocFault {
     }
 }
 
+/// Makes the buffer at least so long.
+fn make_room(buffer: &mut Vec<u8>, size: usize) -> Result<(), ReadFault>
+    ensures room { OnOk result ((size ≤ length buffer.new.items) × HoldsAsMuch (length buffer.old.items) (length buffer.new.items) size) }
+    ensures kept { OnErr result (buffer.new.items ≡ buffer.old.items) }
+    ensures memory { IfErr result (λ f. f ≡ ReadFault.NoMemory) }
+{
+    if buffer.len() < size && buffer.resize(size, 0).is_err() {
+        return Err(ReadFault::NoMemory);
+    }
+    Ok(())
+}
+
 /// One document of a device, and how much the device gave up to its end.
 #[derive(Drop)]
 pub struct DocBuffer {
@@ -171,9 +183,7 @@ impl DocBuffer {
         ensures first { ¬ (result ≡ Err DocFault.Failed) }
     {
         let length = u32::from_le_bytes(head) as usize;
-        if self.buffer.len() < length && self.buffer.resize(length, 0).is_err() {
-            return Err(DocFault::Read(ReadFault::NoMemory));
-        }
+        make_room(&mut self.buffer, length)?;
         let limits = Limits {
             bytes: self.left.bytes - 4,
             turns: self.left.turns,
@@ -183,11 +193,23 @@ impl DocBuffer {
         if filled.bytes < length - 4 {
             return Err(self.fault(FaultKind::BadLength));
         }
-        self.left.bytes -= length as u64;
-        self.place += length as u64;
-        self.number += 1;
-        self.size = length;
+        self.pass(length);
         Ok(())
+    }
+
+    /// Goes past the document of that size, which is in the buffer.
+    fn pass(&mut self, size: usize)
+        requires works { self.old.failed ≡ false }
+        requires size { (5 ≤ size) × (size ≤ self.old.left.bytes) × (size ≤ length self.old.buffer.items) }
+        ensures held { self.new.size ≡ size }
+        ensures place { (self.new.place ≡ self.old.place + size) × (self.new.number ≡ self.old.number + 1) }
+        ensures left { (self.new.left.bytes + size ≡ self.old.left.bytes) × (self.new.left.turns ≡ self.old.left.turns) }
+        ensures kept { (self.new.buffer ≡ self.old.buffer) × (self.new.failed ≡ self.old.failed) }
+    {
+        self.left.bytes -= size as u64;
+        self.place += size as u64;
+        self.number += 1;
+        self.size = size;
     }
 
     /// Takes the next document into the buffer; false at the end.

@@ -12,7 +12,7 @@ returns-in_err-filled-clause-cut g c =
     let e = c.in_err-filled.ensures in
     let told : c.from_le_bytes-length.result ≡ length_told c.args.head = search rules in
     let size : length c.args.head ≡ 4 = search rules in
-    let p = err_from_is_err_and c.from_residual.result c.from_residual.ensures.1 in
+    let p = err_from_is_err_and c.from_residual-in_err-filled.result c.from_residual-in_err-filled.ensures.1 in
     rw (p.1, p.2) (cut_behind c.args.head _ _ c.args.self.now.left.bytes c.in_err-filled.field-0.0 (size, c.requires.length.0, c.requires.length.1) c.requires.length.2 (rw told at e.unfilled) (λ is. e.memory (ap Err is)))
 
 pub returns-then-filled-length-clause-no_frame : goal.returns-then-filled-length-clause-no_frame
@@ -32,4 +32,4 @@ returns-clause-frame g c =
     let given : length e.gives.0 + 4 ≡ length_told c.args.head = let s = e.gives.2 in let f = e.fits in let l = c.if-filled-length.false in search rules in
     let whole : 4 + c.in_ok-filled.filled.bytes ≡ c.from_le_bytes-length.result = let s = e.gives.2 in omega (arith, given, told, s) in
     let front : take c.from_le_bytes-length.result c.fill_behind.new.room ≡ c.args.head ++ e.gives.0 = rw whole at e.gives.3 in
-    is_frame _ c.args.head e.gives.0 (whole_room c.from_le_bytes-length.result _ c.fill_behind.new.room _ _ front (search rules)) (size, c.requires.length.0, c.requires.length.1) given
+    rw (c.pass.ensures.held, c.pass.ensures.kept.0) (is_frame _ c.args.head e.gives.0 (whole_room c.from_le_bytes-length.result _ c.fill_behind.new.room _ _ front (search rules)) (size, c.requires.length.0, c.requires.length.1) given)
