@@ -1,11 +1,12 @@
 # make            builds the program, ./bsonfind
 # make test       passes all tests
+# make edits      tries wrong bodies, of CRATE alone where it is given: the proofs must refuse each
 # make bench      times the commands over a dump of MB megabytes, 20 without it, of documents of a KIND, mixed without it
 # make install    puts the program, its man page, completions, licence and documents below PREFIX
 # make uninstall  takes them away
 # make clean      removes the program, and the proofs and builds that rt keeps
 #
-# Nothing but rt is wanted on PATH, and python3 by bench.
+# Nothing but rt is wanted on PATH, and python3 by test, edits and bench.
 
 PYTHON = python3
 MB = 20
@@ -19,7 +20,7 @@ BASH = $(SHARE)/bash-completion/completions
 ZSH = $(SHARE)/zsh/site-functions
 FISH = $(SHARE)/fish/vendor_completions.d
 
-.PHONY: all build test bench install uninstall clean
+.PHONY: all build test edits bench install uninstall clean
 
 all: build
 
@@ -35,6 +36,9 @@ bsonfind:
 
 test:
 	@tests/all.sh
+
+edits:
+	@tests/edits.sh $(CRATE)
 
 bench: bsonfind
 	$(PYTHON) bench/bench.py $(MB) 5 1 $(KIND)
