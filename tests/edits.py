@@ -25,8 +25,9 @@ from concurrent.futures import ThreadPoolExecutor
 
 sys.dont_write_bytecode = True
 ROOT = os.path.dirname(os.path.dirname(os.path.realpath(__file__)))
-# How long --round may take, with room for what stands around the checks.
+# How long --round may take, and how many edits it takes at most, since it mostly runs where no work is kept.
 SECONDS = 330
+AT_MOST = 8
 ITEM = re.compile(r" *(?:pub(?:\([^)]*\))? )?(?:(?:const|unsafe|extern \"C\") )*(fn|impl|trait|mod)\b(.*)")
 # What a function's line says of another one: it says nothing of the function's own proof.
 OF_ANOTHER = re.compile(r"it calls|it passes|waits for|which (is|are) not proved|could not tell")
@@ -215,16 +216,13 @@ def edits_of(crate):
     return [Edit(crate, it) for it in [*rt.edits_of(crate)[0], *there] if it.endswith(".edit")]
 
 
-def rounds_of(edits):
+def rounds_of(edits, at_most=1000):
     """Puts each edit into the first round in which its functions and lines are free; one without a function alone."""
     rounds = []
     for edit in edits:
-        free = (it for it in rounds if edit.functions and not any(clash(edit, other) for other in it))
+        free = (it for it in rounds if edit.functions and len(it) < at_most and not any(clash(edit, other) for other in it))
         found = next(free, None)
-        if found is None:
-            rounds.append([edit])
-        else:
-            found.append(edit)
+        rounds.append([edit]) if found is None else found.append(edit)
     return rounds
 
 
@@ -324,12 +322,19 @@ class Trial:
 
     def try_all(self, edits, jobs):
         pending, alone = [it for it in edits if it.functions], [it for it in edits if not it.functions]
-        with ThreadPoolExecutor(jobs) as pool:
-            while pending:
-                tried = [*pool.map(self.try_round, rounds_of(pending))]
-                pending = [it for blocked, _ in tried for it in blocked]
-                alone += [it for _, others in tried for it in others]
-            [*pool.map(self.try_alone, alone)]
+        while pending:
+            tried = side_by_side(self.try_round, rounds_of(pending), jobs)
+            pending = [it for blocked, _ in tried for it in blocked]
+            alone += [it for _, others in tried for it in others]
+        side_by_side(self.try_alone, alone, jobs)
+
+
+def side_by_side(call, given, jobs):
+    """Calls once for each that is given. One job takes no thread, which the end of --round's time could not stop."""
+    if jobs == 1:
+        return [call(it) for it in given]
+    with ThreadPoolExecutor(jobs) as pool:
+        return [*pool.map(call, given)]
 
 
 def is_unproved(line, edit):
@@ -367,9 +372,7 @@ def try_crate(crate, edits, jobs):
 
 def try_one_round(crates, number):
     """Tries one round of all. Only its functions and what they call are proved, since the gate has proved the crate."""
-    rounds = [it for crate in crates for it in rounds_of(edits_of(crate))]
-    if not rounds:
-        return {}
+    rounds = [it for crate in crates for it in rounds_of(edits_of(crate), AT_MOST)]
     at = number % len(rounds)
     edits, crate = rounds[at], rounds[at][0].crate
     print(f"round {at} of {len(rounds)}: {crate.name}, {len(edits)} edits", flush=True)
@@ -385,8 +388,10 @@ def try_one_round(crates, number):
             trial.flags += [word for edit in edits for it in edit.functions for word in ("--only", it.names[0])]
             trial.try_all(edits, 1)
         except TimeoutError:
-            left = len(edits) - len(trial.outcomes)
-            print(f"{crate.name}: {left} edits of this round were passed over: they take more than {SECONDS} seconds here")
+            left = [it.label for it in edits if it.label not in trial.outcomes]
+            print(f"passed over, since they take more than {SECONDS} seconds here: {' '.join(left)}")
+        finally:
+            signal.alarm(0)
     return trial.outcomes
 
 
