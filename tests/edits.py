@@ -291,7 +291,8 @@ class Trial:
         """Tries edits in one check. Returns those that a callee's edit kept from being judged, and those to try alone."""
         lines, status, seconds = self.check(edits)
         unread = [PLACE.match(it) for it in lines if rt.unread(it, texts_of(edits))]
-        if unread or status != 1 or not lines[-1].startswith(("logic=not-proved", "only=")):
+        is_stale = rtlib.STALE.search("\n".join(lines))
+        if unread or is_stale or status != 1 or not lines[-1].startswith(("logic=not-proved", "only=")):
             bad = [it for it in edits if any(it.owns_place(at) for at in unread)]
             return [it for it in edits if it not in bad] if bad else [], bad or edits
         blocked, alone = [], []
