@@ -1,6 +1,7 @@
 # make            builds the program, ./bsonfind
 # make look       prints the documents of FILE, examples/shop.bson without it, by the program as it stands, with no proof
 # make test       passes all tests
+# make edits      tries wrong bodies, of CRATE alone where it is given: the proofs must refuse each
 # make bench      times the commands over a dump of MB megabytes, 20 without it, of documents of a KIND, mixed without it
 # make install    puts the program, its man page, completions, licence and documents below PREFIX
 # make uninstall  takes them away
@@ -21,7 +22,7 @@ BASH = $(SHARE)/bash-completion/completions
 ZSH = $(SHARE)/zsh/site-functions
 FISH = $(SHARE)/fish/vendor_completions.d
 
-.PHONY: all build look test bench install uninstall clean
+.PHONY: all build look test edits bench install uninstall clean
 
 all: build
 
@@ -39,6 +40,9 @@ bsonfind:
 
 test:
 	@tests/all.sh
+
+edits:
+	@tests/edits.sh $(CRATE)
 
 bench: bsonfind
 	$(PYTHON) bench/bench.py $(MB) 5 1 $(KIND)

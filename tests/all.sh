@@ -1,6 +1,6 @@
 #!/bin/sh
-# Runs the gate, then the tests of the program that the gate proved and built, and prints the sum of both as its last
-# line. The status is 0 where nothing failed.
+# Runs the gate, then the tests of the program that the gate proved and built and one round of the edits, and prints the
+# sum of all as its last line. The status is 0 where nothing failed.
 set -u
 cd "$(dirname "$0")/.." || exit 1
 log=$(mktemp) || exit 1
@@ -28,6 +28,12 @@ if cp crates/bsonfind/out/bsonfind bsonfind; then
 else
 	echo 'tests/program.sh was not run: the gate built no program'
 	failed=$((failed + 1))
+fi
+
+# Each commit tries another round. It is over what the gate proved, so not where that failed.
+if [ "$failed" -eq 0 ]; then
+	tests/edits.sh --round "$(git rev-list --count HEAD 2>/dev/null || echo 0)" | tee "$log"
+	add
 fi
 
 echo "$passed passed, $failed failed"
