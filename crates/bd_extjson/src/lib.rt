@@ -3,10 +3,6 @@
 //! The text of each value is a function of its tree: `specs/Text.antt`. Which document a text is: `specs/Reads.antt`.
 #![tactic(auto)]
 
-#[cfg(test)]
-mod diagnose_tests;
-#[cfg(test)]
-mod diagnose_tree_tests;
 mod encoded;
 mod json_string;
 mod laws;
