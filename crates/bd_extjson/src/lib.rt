@@ -8,15 +8,9 @@ mod json_string;
 mod laws;
 mod number;
 mod read;
-#[cfg(test)]
-mod read_tests;
 mod reading;
 mod scalar;
-#[cfg(test)]
-mod scalar_tests;
 mod text;
-#[cfg(test)]
-mod text_tests;
 
 pub use bd_diagnose::{BRACKETS, JsonFault, JsonFaultKind, LEVELS};
 pub use bd_wrapper::{Trouble, Wrapper};
