@@ -4,7 +4,7 @@ use crate::samples::prints_document;
 use bd_diagnose::JsonFaultKind;
 use bd_extjson::{read_doc, read_doc_with};
 use json::Scratch;
-use std::alloc::Global;
+use std::alloc::{AllocError, Global};
 use std::process::Abort;
 use std::test::Fail;
 
@@ -160,28 +160,31 @@ fn reads_other_forms(rt: HostRuntime) -> Result<(), Fail> {
 }
 
 /// A document of so many arrays in one another.
-fn nested(alloc: Global, levels: usize) -> Result<String, Fail> {
+fn nested(alloc: Global, levels: usize) -> Result<String, AllocError> {
     let open = "[".repeat(alloc, levels)?;
     let close = "]".repeat(alloc, levels)?;
-    Ok(format!(in alloc; "{{\"a\":{open}{close}}}")?)
+    format!(in alloc; "{{\"a\":{open}{close}}}")
 }
 
 #[test]
-fn reads_200_levels(rt: HostRuntime) -> Result<(), Fail> {
-    let deep = nested(rt.alloc(), 199)?;
+fn reads_200_levels(rt: HostRuntime) {
+    let deep = nested(rt.alloc(), 199).expect(&rt, "199 arrays");
     assert!(rt; read_doc(rt.alloc(), deep.as_bytes()).is_ok());
-    let deeper = nested(rt.alloc(), 200)?;
+    let deeper = nested(rt.alloc(), 200).expect(&rt, "200 arrays");
     refuses(&rt, rt.alloc(), deeper.as_bytes());
-    Ok(())
 }
 
 #[test]
-fn keeps_its_room_from_text_to_text(rt: HostRuntime) -> Result<(), Fail> {
-    let alloc = rt.alloc();
-    let mut scratch = Scratch::new(alloc);
-    let long = read_doc_with(alloc, br#"{"a":"\u0061\u0062\u0063"}"#, &mut scratch)?;
-    let short = read_doc_with(alloc, br#"{"a":"\u0064"}"#, &mut scratch)?;
-    prints_document(&rt, alloc, long, r#"{"a":"abc"}"#);
-    prints_document(&rt, alloc, short, r#"{"a":"d"}"#);
-    Ok(())
+fn keeps_its_room_from_text_to_text(rt: HostRuntime) {
+    let mut scratch = Scratch::new(rt.alloc());
+    let long = read_doc_with(rt.alloc(), br#"{"a":"\u0061\u0062\u0063"}"#, &mut scratch).expect(
+        &rt,
+        "a long text",
+    );
+    let short = read_doc_with(rt.alloc(), br#"{"a":"\u0064"}"#, &mut scratch).expect(
+        &rt,
+        "a short text",
+    );
+    prints_document(&rt, rt.alloc(), long, r#"{"a":"abc"}"#);
+    prints_document(&rt, rt.alloc(), short, r#"{"a":"d"}"#);
 }

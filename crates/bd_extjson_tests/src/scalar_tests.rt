@@ -1,10 +1,9 @@
 //! A row of the conversion table of Extended JSON v2 each, in its canonical column. Expected texts are written by hand from
 //! the table, those of base64 from the test vectors of RFC 4648, section 10.
-use crate::samples::{document_of, prints, prints_field, string};
+use crate::samples::{add_field, document_of, prints, prints_field, string};
 use bd_value::{Document, Value};
 use std::alloc::Global;
 use std::process::Abort;
-use std::test::Fail;
 
 const ID: [u8; 12] = [0, 1, 2, 3, 4, 5, 6, 7, 8, 9, 10, 11];
 
@@ -172,19 +171,19 @@ fn prints_texts_with_a_wrapper(rt: HostRuntime) {
 }
 
 #[test]
-fn prints_code_with_scope(rt: HostRuntime) -> Result<(), Fail> {
+fn prints_code_with_scope(rt: HostRuntime) {
     let alloc = rt.alloc();
     let empty = Value::CodeScope(string(&rt, alloc, "x"), Document::new(alloc));
     prints_field(&rt, alloc, "c", empty, r#"{"c":{"$code":"x","$scope":{}}}"#);
     let text = Value::Text(string(&rt, alloc, "t"));
-    let inner = Value::CodeScope(string(&rt, alloc, "b"), document_of(&rt, alloc, "s", text));
+    let inner = document_of(&rt, alloc, "s", text);
+    let inner = Value::CodeScope(string(&rt, alloc, "b"), inner);
     let mut scope = document_of(&rt, alloc, "n", Value::Int32(1));
-    scope.push(string(&rt, alloc, "c"), inner)?;
+    add_field(&rt, alloc, &mut scope, "c", inner);
     prints(
         &rt,
         alloc,
         Value::CodeScope(string(&rt, alloc, "a"), scope),
         r#"{"$code":"a","$scope":{"n":{"$numberInt":"1"},"c":{"$code":"b","$scope":{"s":"t"}}}}"#,
     );
-    Ok(())
 }
