@@ -3,24 +3,14 @@
 //! The text of each value is a function of its tree: `specs/Text.antt`. Which document a text is: `specs/Reads.antt`.
 #![tactic(auto)]
 
-#[cfg(test)]
-mod diagnose_tests;
-#[cfg(test)]
-mod diagnose_tree_tests;
 mod encoded;
 mod json_string;
 mod laws;
 mod number;
 mod read;
-#[cfg(test)]
-mod read_tests;
 mod reading;
 mod scalar;
-#[cfg(test)]
-mod scalar_tests;
 mod text;
-#[cfg(test)]
-mod text_tests;
 
 pub use bd_diagnose::{BRACKETS, JsonFault, JsonFaultKind, LEVELS};
 pub use bd_wrapper::{Trouble, Wrapper};

@@ -2,8 +2,6 @@
 #![tactic(auto)]
 
 mod line;
-#[cfg(test)]
-mod line_tests;
 mod tokens;
 
 pub use line::{LineFault, Packer};

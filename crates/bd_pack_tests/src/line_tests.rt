@@ -1,0 +1,79 @@
+//! Lines whose bytes were worked by hand, and lines that are not packed.
+use bd_diagnose::{JsonFault, JsonFaultKind};
+use bd_pack::{LineFault, Packer};
+use std::alloc::Global;
+use std::process::Abort;
+use std::test::Fail;
+
+/// Packs lines by one packer after two bytes, and compares what stands after them then.
+fn packs(rt: &impl Abort, alloc: Global, lines: &str, bytes: &[u8]) -> Result<(), Fail> {
+    let mut packer = Packer::new(alloc);
+    let mut out = Vec::from_slice(alloc, b"xy")?;
+    for line in lines.lines() {
+        let fault = packer.pack_line(line.as_bytes(), &mut out)?;
+        assert!(rt; fault.is_none(), "{line}");
+    }
+    let packed = out.as_slice().strip_prefix(b"xy".as_slice());
+    assert!(rt; packed == Some(bytes), "{lines}");
+    Ok(())
+}
+
+/// Looks why a line is not packed, and whether what was there stays as it was.
+fn refuses(rt: &impl Abort, alloc: Global, line: &str, fault: LineFault) -> Result<(), Fail> {
+    let mut packer = Packer::new(alloc);
+    let mut out = Vec::from_slice(alloc, b"xy")?;
+    let told = packer.pack_line(line.as_bytes(), &mut out)?;
+    assert!(rt; told == Some(fault), "{told:?}");
+    assert!(rt; out.as_slice() == b"xy".as_slice());
+    Ok(())
+}
+
+#[test]
+fn lines_have_their_bytes(rt: HostRuntime) -> Result<(), Fail> {
+    for (lines, bytes) in [
+        // The first example of the specification.
+        (
+            r#"{"hello": "world"}"#,
+            b"\x16\0\0\0\x02hello\0\x06\0\0\0world\0\0".as_slice(),
+        ),
+        ("{}\n { } ", b"\x05\0\0\0\0\x05\0\0\0\0".as_slice()),
+        (
+            r#"{"a":[7,{"$numberLong":"8"}],"b":{"c":true,"d":null}}"#,
+            b"\x2e\0\0\0\x04a\0\x17\0\0\0\x100\0\x07\0\0\0\x121\0\x08\0\0\0\0\0\0\0\0\x03b\0\x0c\0\0\0\x08c\0\x01\x0ad\0\0\0".as_slice(),
+        ),
+        (
+            r#"{"f":{"$scope":{"x":1},"$code":"g"}}"#,
+            b"\x1e\0\0\0\x0ff\0\x16\0\0\0\x02\0\0\0g\0\x0c\0\0\0\x10x\0\x01\0\0\0\0\0".as_slice(),
+        ),
+    ] {
+        packs(&rt, rt.alloc(), lines, bytes)?;
+    }
+    Ok(())
+}
+
+#[test]
+fn lines_that_are_no_documents(rt: HostRuntime) -> Result<(), Fail> {
+    for (line, kind, at) in [
+        (r#"{"a":1.5}"#, JsonFaultKind::NotInProfile, 5),
+        (r#"{"a":1} 2"#, JsonFaultKind::TrailingText, 8),
+        ("[]", JsonFaultKind::NotADocument, 0),
+        (
+            r#"{"$oid":"0123456789abcdef01234567"}"#,
+            JsonFaultKind::NotADocument,
+            0,
+        ),
+    ] {
+        let fault = LineFault::Unread(JsonFault { kind, at });
+        refuses(&rt, rt.alloc(), line, fault)?;
+    }
+    Ok(())
+}
+
+#[test]
+fn a_document_of_16793601_bytes(rt: HostRuntime) -> Result<(), Fail> {
+    let alloc = rt.alloc();
+    // 13 bytes stand beside the text.
+    let long = "x".repeat(alloc, 16_793_588)?;
+    let line = format!(in alloc; "{{\"a\":\"{}\"}}", long)?;
+    refuses(&rt, alloc, &line, LineFault::TooLong)
+}
