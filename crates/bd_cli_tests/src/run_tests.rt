@@ -21,8 +21,6 @@ const TWO_LINES: &[u8] = b"{\"a\":1}\n{\"a\":2147483648}\n";
 /// The documents of these lines.
 const TWO: &[u8] = b"\x0c\0\0\0\x10a\0\x01\0\0\0\0\x10\0\0\0\x12a\0\0\0\0\x80\0\0\0\0\0";
 
-const NO_DOCUMENT: &str = "bsonfind: cannot read\n0 documents, 0 faulty\n";
-
 fn dump(alloc: Global) -> Order {
     Order::Dump {
         file: String::new(alloc),
@@ -65,24 +63,60 @@ fn carries_out_each_order(rt: HostRuntime) -> Result<(), Fail> {
 }
 
 /// Whether the read fails at each of these calls, and the run then shows this and reads no more.
-fn ends_at_reads(
+fn ends_at_reads<'a>(
     alloc: Global,
     order: &Order,
-    devices: Run<'_>,
-    rows: &[(u64, &[u8], &str)],
+    devices: Run<'a>,
+    rows: &[(u64, &'a [u8], &'a str)],
 ) -> bool {
-    let mut failing = devices;
-    failing.status = Status::Failed;
-    for (call, out, err) in rows.iter() {
-        failing.failing_read = Some(*call);
+    for row in rows.iter() {
+        let (call, out, err) = *row;
+        let mut failing = devices;
+        failing.failing_read = Some(call);
         failing.out = out;
         failing.err = err;
-        if reads(alloc, order, failing) != Some(*call) {
+        failing.status = Status::Failed;
+        if reads(alloc, order, failing) != Some(call) {
             return false;
         }
     }
     true
 }
+
+/// Of five bytes a read, a document takes three reads.
+const DUMP_READS: [(u64, &[u8], &str); 4] = [
+    (1, b"", "bsonfind: cannot read\n0 objects found\n"),
+    (2, b"", "bsonfind: cannot read\n0 objects found\n"),
+    (3, b"", "bsonfind: cannot read\n0 objects found\n"),
+    (4, ONE_LINE, "bsonfind: cannot read\n1 objects found\n"),
+];
+
+/// Of seven bytes a read, each document takes three reads.
+const CHECK_READS: [(u64, &[u8], &str); 5] = [
+    (1, b"", "bsonfind: cannot read\n0 documents, 0 faulty\n"),
+    (3, b"", "bsonfind: cannot read\n0 documents, 0 faulty\n"),
+    (
+        4,
+        BAD_LINE,
+        "bsonfind: cannot read\n1 documents, 1 faulty\n",
+    ),
+    (
+        6,
+        BAD_LINE,
+        "bsonfind: cannot read\n1 documents, 1 faulty\n",
+    ),
+    (
+        7,
+        BAD_LINE,
+        "bsonfind: cannot read\n2 documents, 1 faulty\n",
+    ),
+];
+
+const PACK_READS: [(u64, &[u8], &str); 3] = [
+    (1, b"", "bsonfind: cannot read\n"),
+    (2, b"", "bsonfind: cannot read\n"),
+    (3, b"", "bsonfind: cannot read\n"),
+];
 
 /// What was read whole before is shown.
 #[test]
@@ -90,33 +124,12 @@ fn ends_at_a_read_that_fails(rt: HostRuntime) {
     let alloc = rt.alloc();
     let mut devices = ample(ONE, b"", "");
     devices.read_size = 5;
-    let none = "bsonfind: cannot read\n0 objects found\n";
-    let one = "bsonfind: cannot read\n1 objects found\n";
-    let rows: [(u64, &[u8], &str); 4] = [
-        (1, b"", none),
-        (2, b"", none),
-        (3, b"", none),
-        (4, ONE_LINE, one),
-    ];
-    assert!(rt; ends_at_reads(alloc, &dump(alloc), devices, &rows));
-    // Of seven bytes a read, each document takes three reads.
-    let mut devices = ample(BAD_AND_ONE, b"", "");
+    assert!(rt; ends_at_reads(alloc, &dump(alloc), devices, &DUMP_READS));
+    devices.input = BAD_AND_ONE;
     devices.read_size = 7;
-    let one = "bsonfind: cannot read\n1 documents, 1 faulty\n";
-    let two = "bsonfind: cannot read\n2 documents, 1 faulty\n";
-    let rows: [(u64, &[u8], &str); 5] = [
-        (1, b"", NO_DOCUMENT),
-        (3, b"", NO_DOCUMENT),
-        (4, BAD_LINE, one),
-        (6, BAD_LINE, one),
-        (7, BAD_LINE, two),
-    ];
-    assert!(rt; ends_at_reads(alloc, &check(alloc), devices, &rows));
-    let mut devices = ample(b"{\"a\":1}\n{\"a\":1}\n", b"", "");
-    devices.read_size = 7;
-    let none = "bsonfind: cannot read\n";
-    let rows: [(u64, &[u8], &str); 3] = [(1, b"", none), (2, b"", none), (3, b"", none)];
-    assert!(rt; ends_at_reads(alloc, &pack(alloc), devices, &rows));
+    assert!(rt; ends_at_reads(alloc, &check(alloc), devices, &CHECK_READS));
+    devices.input = b"{\"a\":1}\n{\"a\":1}\n";
+    assert!(rt; ends_at_reads(alloc, &pack(alloc), devices, &PACK_READS));
 }
 
 /// Whether each of the first three writes of standard output ends the run where it fails, with what was written before it, and
