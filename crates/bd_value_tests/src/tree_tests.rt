@@ -14,6 +14,32 @@ fn has_parts_of(node: Tree<'_>, kind: Kind) -> bool {
         && node.first("in").is_some() == (kind == Kind::Doc)
 }
 
+/// Whether the first pair of this name is of this kind.
+fn has_first(node: Tree<'_>, name: &str, kind: Kind) -> bool {
+    match node.first(name) {
+        Some(value) => value.kind() == kind,
+        None => false,
+    }
+}
+
+/// Whether the pair at this place is of this kind and has the place as its name.
+fn has_pair(node: Tree<'_>, place: usize, kind: Kind) -> bool {
+    if node.kind() != Kind::Doc || place >= node.len() {
+        return false;
+    }
+    let (name, value) = node.pair(place);
+    name.parse::<usize>() == Ok(place) && has_parts_of(value, kind) && has_first(node, name, kind)
+}
+
+/// The same of the field.
+fn has_field(node: Tree<'_>, place: usize, kind: Kind) -> bool {
+    if node.kind() != Kind::Doc || place >= node.len() {
+        return false;
+    }
+    let (name, value) = node.field(place);
+    name.parse::<usize>() == Ok(place) && value.kind() == kind
+}
+
 /// Whether the document of `every_kind` has its fields, by each call that gives a field.
 fn has_fields(node: Tree<'_>) -> bool {
     if node.kind() != Kind::Doc || node.len() != 19 {
@@ -21,23 +47,14 @@ fn has_fields(node: Tree<'_>) -> bool {
     }
     let mut rest = node.parts();
     for place in 0..19 {
-        let (name, value) = node.pair(place);
-        let (field_name, field) = node.field(place);
-        let Some((next_name, next, after)) = Tree::next(&rest) else {
-            return false;
-        };
-        let Some(first) = node.first(name) else {
-            return false;
-        };
         let kind = KINDS[place];
-        if name.parse::<usize>() != Ok(place) || field_name != name || next_name != name {
+        if !has_pair(node, place, kind) || !has_field(node, place, kind) {
             return false;
         }
-        if !has_parts_of(value, kind)
-            || field.kind() != kind
-            || next.kind() != kind
-            || first.kind() != kind
-        {
+        let Some((name, value, after)) = Tree::next(&rest) else {
+            return false;
+        };
+        if name.parse::<usize>() != Ok(place) || value.kind() != kind {
             return false;
         }
         rest = after;
