@@ -1,6 +1,6 @@
 #!/bin/sh
-# Tests of the built program, ./bsonfind, over what the gate cannot hold: files, pipes, devices, standard error and
-# exit statuses. A line for each test; the last line is 'N passed, M failed', and the status is 0 where nothing failed.
+# Tests of the built program, ./bsonfind, over files, pipes and devices: standard output, standard error and exit
+# statuses. A line for each test; the last line is 'N passed, M failed', and the status is 0 where nothing failed.
 set -u
 cd "$(dirname "$0")/.." || exit 1
 program=$PWD/bsonfind
@@ -34,10 +34,10 @@ expect() {
 	wanted "$4" >wanted_err
 	status=$(cat status)
 	if [ "$status" = "$2" ] && cmp -s out wanted_out && cmp -s err wanted_err; then
-		echo "ok: $1"
+		printf 'ok: %s\n' "$1"
 		passed=$((passed + 1))
 	else
-		echo "FAILED: $1: status $status, wanted $2"
+		printf 'FAILED: %s: status %s, wanted %s\n' "$1" "$status" "$2"
 		diff wanted_out out | head -n 5
 		diff wanted_err err | head -n 5
 		failed=$((failed + 1))
@@ -45,13 +45,26 @@ expect() {
 	rm -f out err status
 }
 
+# The four bytes of a length.
+length() {
+	printf '%b' "\\0$(printf %o $(($1 % 256)))\\0$(printf %o $(($1 / 256)))\\0\\0"
+}
+
+# The document of elements, which are in the form of printf.
+document() {
+	# shellcheck disable=SC2059 # the elements are the form
+	printf "$1" >elements
+	length $(($(wc -c <elements) + 5))
+	cat elements
+	printf '\000'
+}
+
 # So many documents, each the field `a` of the one outside it, the innermost empty.
 nested() {
 	inside=$1
 	while [ "$inside" -gt 0 ]; do
 		inside=$((inside - 1))
-		length=$((8 * inside + 5))
-		printf '%b' "\\0$(printf %o $((length % 256)))\\0$(printf %o $((length / 256)))\\0\\0"
+		length $((8 * inside + 5))
 		[ "$inside" -eq 0 ] || printf '\003a\000'
 	done
 	dd if=/dev/zero bs=1 count="$1" 2>/dev/null
@@ -143,6 +156,45 @@ wait $!
 echo $? >status
 expect 'a line of a check before the program waits for more' 1 'document 0, byte 7, path "s": bad string length' '1 documents, 1 faulty'
 
+# An element of each kind, and its text by the conversion table of Extended JSON v2. The stored names of an array's elements
+# are not shown.
+every_element=
+every_text=
+while read -r element text; do
+	document "$element" >>kinds.bson
+	printf '{%s}\n' "$text" >>kinds.jsonl
+	every_element=$every_element$element
+	every_text=$every_text${every_text:+,}$text
+done <<'END'
+\377min\000 "min":{"$minKey":1}
+\006un\000 "un":{"$undefined":true}
+\012\000 "":null
+\020i\000\376\377\377\377 "i":{"$numberInt":"-2"}
+\022l\000\001\000\000\000\001\000\000\000 "l":{"$numberLong":"4294967297"}
+\002t\000\004\000\000\000a\000b\000 "t":"a\u0000b"
+\016s\000\002\000\000\000q\000 "s":{"$symbol":"q"}
+\003d\000\014\000\000\000\020x\000\005\000\000\000\000 "d":{"x":{"$numberInt":"5"}}
+\004a\000\022\000\000\000\020z\000\007\000\000\000\012\000\377yy\000\000 "a":[{"$numberInt":"7"},null,{"$minKey":1}]
+\005b\000\007\000\000\000\002\003\000\000\000\007\000\377 "b":{"$binary":{"base64":"BwD/","subType":"02"}}
+\007o\000\001\002\003\004\005\006\007\010\011\012\013\014 "o":{"$oid":"0102030405060708090a0b0c"}
+\010f\000\001 "f":true
+\011when\000\377\377\377\377\377\377\377\377 "when":{"$date":{"$numberLong":"-1"}}
+\021ts\000\002\000\000\000\377\377\377\377 "ts":{"$timestamp":{"t":4294967295,"i":2}}
+\013r\000pq\000i\000 "r":{"$regularExpression":{"pattern":"pq","options":"i"}}
+\014p\000\002\000\000\000n\000\000\001\002\003\004\005\006\007\010\011\012\013 "p":{"$dbPointer":{"$ref":"n","$id":{"$oid":"000102030405060708090a0b"}}}
+\015c\000\002\000\000\000x\000 "c":{"$code":"x"}
+\017w\000\023\000\000\000\002\000\000\000y\000\011\000\000\000\010k\000\000\000 "w":{"$code":"y","$scope":{"k":false}}
+\177max\000 "max":{"$maxKey":1}
+END
+run dump kinds.bson
+expect 'a document of each kind' 0 @kinds.jsonl '19 objects found'
+
+document "$every_element" | run dump -
+expect 'a document of all kinds' 0 "{$every_text}" '1 objects found'
+
+document '' | run dump -
+expect 'a document of nothing' 0 '{}' '1 objects found'
+
 run dump - </dev/null
 expect 'an empty input' 0 '' '0 objects found'
 
@@ -170,11 +222,81 @@ expect 'find in standard input' 0 "$int32" '1 documents, end'
 run find --query '{"a":-1}' -- ./-x
 expect 'find of nothing' 0 '' '0 documents, end'
 
+# A query asks for the first field of a name, and for the elements of the array that it is, whatever their stored names.
+one='\020a\000\001\000\000\000'
+two='\020a\000\002\000\000\000'
+list='\004a\000\023\000\000\000\020y\000\002\000\000\000\020a\000\001\000\000\000\000'
+# shellcheck disable=SC2016 # names again
+list_line='{"a":[{"$numberInt":"2"},{"$numberInt":"1"}]}'
+{
+	document ''
+	document "$one"
+	document "$two$one"
+	document "$list"
+	document '\004a\000\024\000\000\000\0040\000\014\000\000\000\0200\000\001\000\000\000\000\000' # in an array in an array
+	document '\003a\000\014\000\000\000\020a\000\001\000\000\000\000' # in a document
+	document '\022a\000\001\000\000\000\000\000\000\000' # of 64 bits
+	document '\004a\000\005\000\000\000\000' # an empty array
+	document '\004a\000\005\000\000\000\000'"$one"
+} >fields.bson
+run find fields.bson --query '{"a":1}'
+expect 'find of 1' 0 "$int32
+$list_line" '2 documents, end'
+
+run find fields.bson --query '{"a":2}'
+# shellcheck disable=SC2016 # names again
+expect 'find of 2' 0 '{"a":{"$numberInt":"2"},"a":{"$numberInt":"1"}}
+'"$list_line" '2 documents, end'
+
+for query in '{"a":3}' '{"b":1}' '{"y":2}'; do
+	run find fields.bson --query "$query"
+	expect "find of nothing by $query" 0 '' '0 documents, end'
+done
+
+{ document "$one" && document "$list" && document "$two" && document "$one"; } >four.bson
+run find four.bson --query '{"a":1}' --batch 2
+expect 'a batch of the documents that answer' 0 "$int32
+$list_line" '2 documents, more'
+
+run find four.bson --query '{"a":1}' --batch 3
+expect 'a batch of all that answer' 0 "$int32
+$list_line
+$int32" '3 documents, end'
+
+run find four.bson --query '{"a":1}'
+expect 'all that answer' 0 "$int32
+$list_line
+$int32" '3 documents, end'
+
+run find four.bson --query '{"a":1}' --batch 0
+expect 'a batch of none' 0 '' '0 documents, more'
+
+run find - --query '{"a":1}' --batch 0 </dev/null
+expect 'a batch of none in an empty input' 0 '' '0 documents, end'
+
+{
+	document '\020aZ\000\000\000\000\200'
+	document '\020a\000\377\377\377\177'
+	document '\020a\000\000\000\000\000'
+} >numbers.bson
+while read -r query line; do
+	run find numbers.bson --query "$query"
+	expect "find by $query" 0 "$line" '1 documents, end'
+done <<'END'
+{"aZ":-2147483648} {"aZ":{"$numberInt":"-2147483648"}}
+{"a":2147483647} {"a":{"$numberInt":"2147483647"}}
+{"a":0} {"a":{"$numberInt":"0"}}
+{"a":-0} {"a":{"$numberInt":"0"}}
+END
+
 run check "$people.bson"
 expect 'a check of a file' 0 '' '500 documents, 0 faulty'
 
 run check - </dev/null
 expect 'a check of an empty input' 0 '' '0 documents, 0 faulty'
+
+{ cat int32.bson && document '' && cat int32.bson; } | run check -
+expect 'a check of three documents' 0 '' '3 documents, 0 faulty'
 
 run check -- -x
 expect 'a check of a file whose name looks like a flag' 0 '' '1 documents, 0 faulty'
@@ -193,6 +315,24 @@ expect 'a line without its newline packed' 0 @int32.bson '1 objects packed'
 
 printf '\r\n{"a":1}\r\n \t\r\n' | run pack -
 expect 'lines of white space passed over' 0 @int32.bson '1 objects packed'
+
+for text in '\n' '\r\n' ' \t\r' '\n\n \n\t\r\n'; do
+	# shellcheck disable=SC2059 # the text is the form
+	printf "$text" | run pack -
+	expect "no line but of white space: $text" 0 '' '0 objects packed'
+done
+
+printf '\014\000\000\000\020a\000\001\000\000\000\000\020\000\000\000\022a\000\000\000\000\200\000\000\000\000\000' >two.bson
+for text in '{"a":1}\n{"a":2147483648}' '{"a":1}\r\n{"a":2147483648}\r\n' \
+	'\n{"a":1}\n \t\n\n {"a" : 2147483648 } \n\r\n'; do
+	# shellcheck disable=SC2059 # the text is the form
+	printf "$text" | run pack -
+	expect "two lines: $text" 0 @two.bson '2 objects packed'
+done
+
+document '\004a\000\023\000\000\000\0200\000\007\000\000\000\0201\000\010\000\000\000\000' >array.bson
+echo '{"a":[7,8]}' | run pack -
+expect 'a line of an array packed' 0 @array.bson '1 objects packed'
 
 "$program" pack "$shop.jsonl" 2>/dev/null | run dump -
 expect 'a dump of what was packed is the text again' 0 "@$shop.jsonl" '400 objects found'
@@ -240,6 +380,12 @@ cat int32.bson bad.bson int32.bson bad.bson | run check -
 expect 'a check tells each document with a fault' 1 'document 1, byte 19, path "s": bad string length
 document 3, byte 43, path "s": bad string length' '4 documents, 2 faulty'
 
+{ document '\002s\000\000\000\000\000\002t\000\000\000\000\000' && cat int32.bson; } | run check -
+expect 'a check tells the first fault of a document' 1 'document 0, byte 7, path "s": bad string length' '2 documents, 1 faulty'
+
+{ cat int32.bson && printf '\015\000\000\000\020a\000\001\000\000\000\000'; } | run check -
+expect 'a check ends at a length past the end' 1 'document 1, byte 12, path "": bad length' '2 documents, 1 faulty'
+
 { cat int32.bson && printf '\004\000\000\000' && cat int32.bson; } | run check -
 expect 'a check ends at a length that is too small' 1 'document 1, byte 12, path "": bad length' '2 documents, 1 faulty'
 
@@ -268,13 +414,20 @@ expect 'a check of a file of other kinds' 0 '' '400 documents, 0 faulty'
 
 # Lines with faults.
 
-printf '\014\000\000\000\020a\000\001\000\000\000\000\020\000\000\000\022a\000\000\000\000\200\000\000\000\000\000' >two.bson
 printf '{"a":1}\n{"a":2147483648}\n{"a":1.5}\n{"a":1}\n' | run pack -
 expect 'a line of a double' 1 @two.bson 'bsonfind: line 3, byte 5: not in the profile
 2 objects packed'
 
 printf '\n{"a":1}\r\n \r\n[]\n' | run pack -
 expect 'a line that is no document, behind lines of white space' 1 @int32.bson 'bsonfind: line 4: not a document
+1 objects packed'
+
+echo '{"a":9223372036854775808}' | run pack -
+expect 'a line of a number that is too great' 1 '' 'bsonfind: line 1, byte 5: number out of range
+0 objects packed'
+
+printf '{"a":1}\n{"a":1} {}\n' | run pack -
+expect 'a line of two documents' 1 @int32.bson 'bsonfind: line 2, byte 8: text after the document
 1 objects packed'
 
 printf '\357\273\277{"a":1}\n' | run pack -
@@ -304,6 +457,18 @@ printf '\020\000\000\000\001d\000\000\000\000\000\000\000\360\077\000' | run dum
 expect 'a double' 1 '' 'bsonfind: document 0, byte 4, path "d": double
 0 objects found'
 
+dd if=int32.bson bs=11 count=1 2>/dev/null | run dump -
+expect 'a document cut short' 1 '' 'bsonfind: document 0, byte 0, path "": bad length
+0 objects found'
+
+{ document '\002a\000\002\000\000\000aa' && document ''; } | run dump -
+expect 'a document after one with a fault' 1 '' 'bsonfind: document 0, byte 12, path "a": string not ended
+0 objects found'
+
+{ document '' && document '\003b"\000\007\000\000\000\040\000\000'; } | run dump -
+expect 'a path with a quotation mark' 1 '{}' 'bsonfind: document 1, byte 17, path "b\"": unknown type
+1 objects found'
+
 { cat int32.bson && printf '\005\000'; } | run dump -
 expect 'a second document cut short' 1 "$int32" 'bsonfind: document 1, byte 12, path "": length cut short
 1 objects found'
@@ -311,15 +476,28 @@ expect 'a second document cut short' 1 "$int32" 'bsonfind: document 1, byte 12, 
 { cat int32.bson && printf '\005\000'; } | run find - --query '{"a":1}'
 expect 'find in a dump with a fault' 1 '' 'bsonfind: document 1, byte 12, path "": length cut short'
 
+cat int32.bson bad.bson >one_bad.bson
+printf '\005\000' | run find - --query '{"a":1}'
+expect 'find in a dump of a length cut short' 1 '' 'bsonfind: document 0, byte 0, path "": length cut short'
+
+run find one_bad.bson --query '{"a":1}'
+expect 'find in a dump with a bad document' 1 '' 'bsonfind: document 1, byte 19, path "s": bad string length'
+
 run find int32.bson --query '{"a":1.5}'
 expect 'a query of another form' 1 '' 'bsonfind: query: byte 0: not in the profile'
+
+# The query is read before the dump, which has a fault.
+for query in '{"a":2147483648}' '{"a":-2147483649}' '{"a":01}' '{"a":-01}' '{"a":+1}' '{"a":}' '{"a":-}' '{"a":1.0}' '{"":1}' \
+	'{"a1":1}' '{"a b":1}' '{"\u00e9":1}' '{ "a":1}' '{"a": 1}' '{"a":1} ' '{"a":1' '{a:1}' '{}' ''; do
+	run find bad.bson --query "$query"
+	expect "a query that is refused: $query" 1 '' 'bsonfind: query: byte 0: not in the profile'
+done
 
 run find missing.bson --query '{"a":1.5}'
 expect 'a file that is not there, before its query' 1 '' 'bsonfind: cannot open missing.bson'
 
 # Both streams into one file: the lines stand before what is told of them.
 
-cat int32.bson bad.bson >one_bad.bson
 "$program" dump one_bad.bson >out 2>&1
 echo $? >status
 : >err

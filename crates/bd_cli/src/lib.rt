@@ -2,19 +2,13 @@
 #![tactic(auto)]
 
 mod answer_laws;
-#[cfg(test)]
-mod both_tests;
 mod check_command;
-#[cfg(test)]
-mod check_tests;
 mod checking;
 mod commands;
 mod dump_command;
 mod dumping;
 mod equality;
 mod find_command;
-#[cfg(test)]
-mod find_tests;
 mod finding;
 mod found_documents;
 mod laws;
@@ -22,12 +16,8 @@ mod limits;
 mod lines;
 mod messages;
 mod pack_command;
-#[cfg(test)]
-mod pack_tests;
 mod packing;
 mod query_text;
-#[cfg(test)]
-mod run_tests;
 mod status;
 mod stepping;
 

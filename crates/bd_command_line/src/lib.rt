@@ -4,8 +4,6 @@
 #![tactic(auto)]
 
 mod command_line;
-#[cfg(test)]
-mod command_line_tests;
 mod find_words;
 mod order;
 

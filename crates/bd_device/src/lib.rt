@@ -1,8 +1,6 @@
 //! Devices that give and take bytes, with counts of calls and of failures.
 #![tactic(auto)]
 
-#[cfg(test)]
-mod devices_tests;
 mod filling;
 mod input;
 mod output;

@@ -9,15 +9,9 @@ mod document;
 mod kind;
 mod lookup;
 mod nesting;
-#[cfg(test)]
-mod nesting_tests;
 mod node;
 mod scalar;
-#[cfg(test)]
-mod tests;
 mod tree;
-#[cfg(test)]
-mod tree_tests;
 mod zeros;
 
 pub use copying::{to_document, to_value};

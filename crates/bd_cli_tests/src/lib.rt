@@ -1,0 +1,14 @@
+//! Tests of `bd_cli`, over its public calls: those that want devices in memory. What the program shows is tested over the
+//! program itself.
+#![tactic(auto)]
+
+#[cfg(test)]
+mod both_tests;
+#[cfg(test)]
+mod devices;
+#[cfg(test)]
+mod find_tests;
+#[cfg(test)]
+mod run_tests;
+#[cfg(test)]
+mod words_tests;

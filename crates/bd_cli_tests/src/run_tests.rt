@@ -1,0 +1,207 @@
+//! Runs over devices in memory, with outcomes that were worked by hand.
+use crate::devices::{Run, ample, reads};
+use bd_cli::Status;
+use bd_command_line::Order;
+use bd_device::FailingWrite;
+use std::alloc::Global;
+use std::test::Fail;
+
+/// The document {"a":1}.
+const ONE: &[u8] = b"\x0c\0\0\0\x10a\0\x01\0\0\0\0";
+
+const ONE_LINE: &[u8] = b"{\"a\":{\"$numberInt\":\"1\"}}\n";
+
+/// A document whose field `s` is a string of length 0, which has no room for its zero, and {"a":1}.
+const BAD_AND_ONE: &[u8] = b"\x0c\0\0\0\x02s\0\0\0\0\0\0\x0c\0\0\0\x10a\0\x01\0\0\0\0";
+
+const BAD_LINE: &[u8] = b"document 0, byte 7, path \"s\": bad string length\n";
+
+const TWO_LINES: &[u8] = b"{\"a\":1}\n{\"a\":2147483648}\n";
+
+/// The documents of these lines.
+const TWO: &[u8] = b"\x0c\0\0\0\x10a\0\x01\0\0\0\0\x10\0\0\0\x12a\0\0\0\0\x80\0\0\0\0\0";
+
+fn dump(alloc: Global) -> Order {
+    Order::Dump {
+        file: String::new(alloc),
+    }
+}
+
+fn check(alloc: Global) -> Order {
+    Order::Check {
+        file: String::new(alloc),
+    }
+}
+
+fn pack(alloc: Global) -> Order {
+    Order::Pack {
+        file: String::new(alloc),
+    }
+}
+
+#[test]
+fn carries_out_each_order(rt: HostRuntime) -> Result<(), Fail> {
+    let alloc = rt.alloc();
+    let query = String::from_str(alloc, "{\"a\":1}")?;
+    let find = Order::Find {
+        file: String::new(alloc),
+        query,
+        batch: Some(2),
+    };
+    let found = ample(ONE, ONE_LINE, "1 documents, end\n");
+    assert!(rt; reads(alloc, &find, found).is_some());
+    let checked = ample(ONE, b"", "1 documents, 0 faulty\n");
+    assert!(rt; reads(alloc, &check(alloc), checked).is_some());
+    let packed = ample(TWO_LINES, TWO, "2 objects packed\n");
+    assert!(rt; reads(alloc, &pack(alloc), packed).is_some());
+    // The length, the rest, and the end.
+    let mut dumped = ample(ONE, ONE_LINE, "1 objects found\n");
+    assert!(rt; reads(alloc, &dump(alloc), dumped) == Some(3));
+    dumped.read_size = 1;
+    assert!(rt; reads(alloc, &dump(alloc), dumped) == Some(13));
+    Ok(())
+}
+
+/// Whether the read fails at each of these calls, and the run then shows this and reads no more.
+fn ends_at_reads<'a>(
+    alloc: Global,
+    order: &Order,
+    devices: Run<'a>,
+    rows: &[(u64, &'a [u8], &'a str)],
+) -> bool {
+    for row in rows.iter() {
+        let (call, out, err) = *row;
+        let mut failing = devices;
+        failing.failing_read = Some(call);
+        failing.out = out;
+        failing.err = err;
+        failing.status = Status::Failed;
+        if reads(alloc, order, failing) != Some(call) {
+            return false;
+        }
+    }
+    true
+}
+
+/// Of five bytes a read, a document takes three reads.
+const DUMP_READS: [(u64, &[u8], &str); 4] = [
+    (1, b"", "bsonfind: cannot read\n0 objects found\n"),
+    (2, b"", "bsonfind: cannot read\n0 objects found\n"),
+    (3, b"", "bsonfind: cannot read\n0 objects found\n"),
+    (4, ONE_LINE, "bsonfind: cannot read\n1 objects found\n"),
+];
+
+/// Of seven bytes a read, each document takes three reads.
+const CHECK_READS: [(u64, &[u8], &str); 5] = [
+    (1, b"", "bsonfind: cannot read\n0 documents, 0 faulty\n"),
+    (3, b"", "bsonfind: cannot read\n0 documents, 0 faulty\n"),
+    (
+        4,
+        BAD_LINE,
+        "bsonfind: cannot read\n1 documents, 1 faulty\n",
+    ),
+    (
+        6,
+        BAD_LINE,
+        "bsonfind: cannot read\n1 documents, 1 faulty\n",
+    ),
+    (
+        7,
+        BAD_LINE,
+        "bsonfind: cannot read\n2 documents, 1 faulty\n",
+    ),
+];
+
+const PACK_READS: [(u64, &[u8], &str); 3] = [
+    (1, b"", "bsonfind: cannot read\n"),
+    (2, b"", "bsonfind: cannot read\n"),
+    (3, b"", "bsonfind: cannot read\n"),
+];
+
+/// What was read whole before is shown.
+#[test]
+fn ends_at_a_read_that_fails(rt: HostRuntime) {
+    let alloc = rt.alloc();
+    let mut devices = ample(ONE, b"", "");
+    devices.read_size = 5;
+    assert!(rt; ends_at_reads(alloc, &dump(alloc), devices, &DUMP_READS));
+    devices.input = BAD_AND_ONE;
+    devices.read_size = 7;
+    assert!(rt; ends_at_reads(alloc, &check(alloc), devices, &CHECK_READS));
+    devices.input = b"{\"a\":1}\n{\"a\":1}\n";
+    assert!(rt; ends_at_reads(alloc, &pack(alloc), devices, &PACK_READS));
+}
+
+/// Whether each of the first three writes of standard output ends the run where it fails, with what was written before it, and
+/// the first of standard error with all of the output.
+fn ends_at_writes(alloc: Global, order: &Order, devices: Run<'_>) -> bool {
+    let mut failing = devices;
+    failing.status = Status::Failed;
+    failing.err = "bsonfind: cannot write\n";
+    let mut front = 0;
+    for call in 1..4 {
+        let Some(out) = devices.out.get(..front) else {
+            return false;
+        };
+        failing.out = out;
+        for way in [FailingWrite::Error(call), FailingWrite::Zero(call)] {
+            failing.failing_out = Some(way);
+            if reads(alloc, order, failing).is_none() {
+                return false;
+            }
+        }
+        front = front.saturating_add(devices.write_size);
+    }
+    failing.failing_out = None;
+    failing.out = devices.out;
+    failing.err = "";
+    for way in [FailingWrite::Error(1), FailingWrite::Zero(1)] {
+        failing.failing_err = Some(way);
+        if reads(alloc, order, failing).is_none() {
+            return false;
+        }
+    }
+    true
+}
+
+#[test]
+fn ends_at_a_write_that_fails(rt: HostRuntime) {
+    let alloc = rt.alloc();
+    let mut devices = ample(ONE, ONE_LINE, "");
+    devices.write_size = 10;
+    assert!(rt; ends_at_writes(alloc, &dump(alloc), devices));
+    let mut devices = ample(BAD_AND_ONE, BAD_LINE, "");
+    devices.write_size = 20;
+    assert!(rt; ends_at_writes(alloc, &check(alloc), devices));
+    let mut devices = ample(TWO_LINES, TWO, "");
+    devices.write_size = 10;
+    assert!(rt; ends_at_writes(alloc, &pack(alloc), devices));
+}
+
+/// A device that is full, and one that fails in the midst of a count.
+#[test]
+fn leaves_what_was_written(rt: HostRuntime) {
+    let alloc = rt.alloc();
+    let mut full = ample(ONE, b"{\"a", "bsonfind: cannot write\n");
+    full.room = 3;
+    full.status = Status::Failed;
+    assert!(rt; reads(alloc, &dump(alloc), full).is_some());
+    let mut failing = ample(b"\n", b"", "0 objects ");
+    failing.write_size = 10;
+    failing.failing_err = Some(FailingWrite::Error(2));
+    failing.status = Status::Failed;
+    assert!(rt; reads(alloc, &pack(alloc), failing).is_some());
+}
+
+/// Five bytes of each of two documents are read before the second line does not fit.
+#[test]
+fn writes_a_line_before_it_reads_on(rt: HostRuntime) {
+    let alloc = rt.alloc();
+    let four = b"\x05\0\0\0\0\x05\0\0\0\0\x05\0\0\0\0\x05\0\0\0\0";
+    let mut full = ample(four, b"{}\n", "bsonfind: cannot write\n");
+    full.read_size = 1;
+    full.write_size = 1;
+    full.room = 3;
+    full.status = Status::Failed;
+    assert!(rt; reads(alloc, &dump(alloc), full) == Some(10));
+}

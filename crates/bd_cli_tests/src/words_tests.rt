@@ -1,0 +1,28 @@
+//! What is shown of words that are no order.
+use bd_cli::{Status, report};
+use bd_command_line::{USAGE, WordsFault};
+use bd_device::MemoryOutput;
+
+#[test]
+fn reports_words(rt: HostRuntime) {
+    let unwritten = "bsonfind: cannot write\n";
+    for (fault, size, out, err, status) in [
+        (WordsFault::Help, 400, USAGE, "", Status::Done),
+        (WordsFault::Help, 3, "usa", unwritten, Status::Failed),
+        (WordsFault::Usage, 400, "", USAGE, Status::Usage),
+        (
+            WordsFault::NoMemory,
+            400,
+            "",
+            "bsonfind: no memory\n",
+            Status::Failed,
+        ),
+    ] {
+        let mut out_room = [0; 400];
+        let mut err_room = [0; 400];
+        let mut output = MemoryOutput::new(&mut out_room[..size], 400, None);
+        let mut error = MemoryOutput::new(&mut err_room, 400, None);
+        assert!(rt; report(&fault, &mut output, &mut error) == status);
+        assert!(rt; output.bytes() == out.as_bytes() && error.bytes() == err.as_bytes());
+    }
+}
