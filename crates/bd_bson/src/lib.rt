@@ -1,4 +1,8 @@
 //! BSON documents as bytes: dumps, the laws of the definitions, and the names of the crates below that read and write them.
+//!
+//! - `collection`: `Dump`, the documents of a collection in their bytes.
+//! - `collecting`: `read_dump`, which makes one.
+//! - `laws`, `dump_laws`, `verdict_laws`: laws of documents, of dumps, and of the verdicts on their documents.
 #![tactic(auto)]
 
 mod collecting;

@@ -1,6 +1,12 @@
 //! The first fault of bytes that are to be BSON documents, from left to right; where there is none, a view of the document.
 //!
 //! Which fault is the first: `specs/FirstFault.antt`. What a dump is, and where it fails: `specs/Dump.antt`.
+//!
+//! - `fault`: why bytes are no document, and where.
+//! - `check`: `check_document`, down the values in values.
+//! - `parts`: numbers, names, texts, and the frames of documents.
+//! - `at_once`: elements that one look shows to have no fault, as most are.
+//! - `read`: the next document of a dump, and a document in memory.
 #![tactic(auto)]
 
 mod at_once;

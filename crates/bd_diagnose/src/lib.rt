@@ -1,6 +1,14 @@
 //! Why a text is no document of Extended JSON, and where: the second pass, over a text that was refused.
 //!
 //! No clause says which kind and which byte it tells: that is tested.
+//!
+//! - `json_fault`: the kinds of faults, and a fault.
+//! - `second_pass`: `diagnose`, over the whole text.
+//! - `walk`: the first fault of each value, as JSON and of the tree that it is.
+//! - `findings`: what was found in a part of a text, and what is sought in the rest.
+//! - `member_name`, `wrapper_faults`: what a name says, and what is wrong with an object that begins with a wrapper's.
+//! - `skip`, `skip_string`: the tokens of JSON, passed one by one.
+//! - `limits`: how deep a text may nest.
 #![tactic(auto)]
 
 mod findings;

@@ -1,6 +1,13 @@
 //! Values and documents that stay in their BSON bytes, seen by views which know that the bytes spell them.
 //!
 //! What the bytes of a document are: `specs/Spelling.antt`, after BSON 1.1. That bytes spell at most one: `specs/Unique.antt`.
+//!
+//! - `element`: the types of elements.
+//! - `raw`: the views, and where the next element stands.
+//! - `raw_parts`: numbers, names, texts and scalars at the front of bytes, read without a check.
+//! - `contents`: what a value holds.
+//! - `elements`: elements counted, taken by their index, and found by their name.
+//! - `views`: what is asked of a document and of a value, and their copies in memory.
 #![tactic(auto)]
 
 mod contents;

@@ -1,6 +1,12 @@
 //! The objects of Extended JSON that stand for values of other kinds, by their first names, as `{"$oid":..}`.
 //!
 //! What each stands for: `specs/Wrappers.antt`. Which texts are whole numbers: `specs/Whole.antt`.
+//!
+//! - `wrapper`: which object a first name tells.
+//! - `wrapper_values`: the values of the objects of one name.
+//! - `wrapper_parts`: what stands in such an object.
+//! - `whole_number`: whole numbers, as texts write them.
+//! - `trouble`: why a part of a text was not read.
 #![tactic(auto)]
 
 mod trouble;
