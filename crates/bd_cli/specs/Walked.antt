@@ -1,11 +1,12 @@
 -- The walk of `dump` over the documents of an input.
-use Rattle.std.specs.Prelude.{◌≡◌, ℕ, List, ◌++◌, length, Option, Some, None, Result, Ok, Err}
+use Rattle.std.specs.Prelude.{◌≡◌, ℕ, List, ◌++◌, length, Option, Some, None, Result, Ok, Err, false}
 use Rattle.bd_value.specs.Tree.{Doc}
 use Rattle.bd_device.specs.declared.reading.ReadFault.TheVariants as reads
 use Rattle.bd_check.specs.Dump.{AreJoined, IsWalk}
 use Rattle.bd_stream.specs.Stream.{IsCut}
 use Rattle.bd_check.specs.Told.{fault_view}
 use Rattle.bd_cli.specs.Ran.{WasStreamed, EndsWithin, Wrote, BrokeAt, StarvedAt}
+use Rattle.bd_stream.specs.declared.doc_buffer.DocBuffer.{DocBuffer}
 use Rattle.bd_stream.specs.declared.doc_buffer.DocFault.{DocFault}
 use Rattle.bd_stream.specs.declared.doc_buffer.DocFault.TheVariants as faults
 use Rattle.bd_cli.specs.Shown.{lines, error_line, fault_text, count_line, read_words}
@@ -16,6 +17,11 @@ use Rattle.bd_cli.specs.declared.dumping.Ending.TheVariants as endings
 use Rattle.bd_cli.specs.declared.dumping.Walk.{Walk}
 use Rattle.bd_cli.specs.declared.lines.Stopped.{Stopped}
 use Rattle.bd_cli.specs.declared.lines.Stopped.TheVariants.{NoMemory, Unwritten}
+
+-- no document was read yet, and as much may be read as an input has
+abbrev pub IsFresh : DocBuffer → Type 0
+IsFresh documents =
+    (documents.place ≡ 0) × (documents.number ≡ 0) × (documents.failed ≡ false) × (documents.left.bytes ≡ 4294967295) × (documents.left.turns ≡ 4294967296)
 
 -- what is behind the documents
 abbrev pub Ends : {R : Type 0} → (R → Option (List ℕ)) → (R → ℕ) → (R → ℕ) → R → R → List Doc → Ending → Type 0

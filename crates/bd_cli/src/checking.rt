@@ -6,6 +6,7 @@ ghost use Rattle.bd_check.specs.Told.{fault_view};
 ghost use Rattle.bd_cli.specs.Judged.{verdict_line};
 ghost use Rattle.bd_cli.specs.Judging.{Judges, JudgesUpTo, FoundLast};
 ghost use Rattle.bd_cli.specs.Ran.{Wrote, Broke};
+ghost use Rattle.bd_cli.specs.Walked.{IsFresh};
 
 use crate::dumping::{Ending, ending_of};
 use crate::limits::LIMITS;
@@ -103,6 +104,21 @@ pub fn write_verdicts<R: Input, O: Output>(
 {
     let mut documents = DocBuffer::new(alloc, LIMITS);
     let mut line = Vec::new(alloc);
+    judge_documents(alloc, input, &mut documents, &mut line, out)
+}
+
+/// `write_verdicts`, over buffers that the caller holds, so that no end of the loop lets them go.
+fn judge_documents<R: Input, O: Output>(
+    alloc: Global,
+    input: &mut R,
+    documents: &mut DocBuffer,
+    line: &mut Vec<u8>,
+    out: &mut O,
+) -> Result<Findings, Stopped>
+    requires { IsFresh documents.old }
+    ensures judges { IfOk result (Judges R.left R.calls R.failures input.old input.new O.held O.failures out.old out.new) }
+    ensures stops { IfErr result (JudgesUpTo R.left R.failures input.old input.new O.held O.failures out.old out.new) }
+{
     let mut faulty = 0;
     loop {
         let base = documents.place();
@@ -110,12 +126,12 @@ pub fn write_verdicts<R: Input, O: Output>(
         match documents.read_next(input) {
             Ok(true) => {
                 if let Some(fault) = judge(alloc, documents.bytes(), base, count)? {
-                    write_verdict(&fault, &mut line, out)?;
+                    write_verdict(&fault, line, out)?;
                     faulty += 1;
                 }
             }
-            Ok(false) => return finish(Ending::Whole, count, faulty, &mut line, out),
-            Err(fault) => return finish(ending_of(fault)?, count, faulty, &mut line, out),
+            Ok(false) => return finish(Ending::Whole, count, faulty, line, out),
+            Err(fault) => return finish(ending_of(fault)?, count, faulty, line, out),
         }
     }
 }

@@ -7,7 +7,7 @@ ghost use Rattle.bd_raw.specs.Spelling.{IsDocument};
 ghost use Rattle.bd_check.specs.Told.{fault_view};
 ghost use Rattle.bd_cli.specs.Ran.{Wrote, Broke};
 ghost use Rattle.bd_cli.specs.Shown.{lines};
-ghost use Rattle.bd_cli.specs.Walked.{Walks, Stops, EndedBy};
+ghost use Rattle.bd_cli.specs.Walked.{IsFresh, Walks, Stops, EndedBy};
 ghost use Rattle.bd_cli.specs.declared.lines.Stopped.TheVariants.{Unwritten};
 
 use crate::limits::LIMITS;
@@ -93,13 +93,28 @@ pub fn documents<R: Input, O: Output>(
 {
     let mut documents = DocBuffer::new(alloc, LIMITS);
     let mut line = Vec::new(alloc);
+    print_documents(alloc, input, &mut documents, &mut line, out)
+}
+
+/// `documents`, over buffers that the caller holds, so that no end of the loop lets them go.
+fn print_documents<R: Input, O: Output>(
+    alloc: Global,
+    input: &mut R,
+    documents: &mut DocBuffer,
+    line: &mut Vec<u8>,
+    out: &mut O,
+) -> Result<Walk, Stopped>
+    requires { IsFresh documents.old }
+    ensures walks { IfOk result (Walks R.left R.calls R.failures input.old input.new O.held O.failures out.old out.new) }
+    ensures stops { IfErr result (Stops R.left R.failures input.old input.new O.held O.failures out.old out.new) }
+{
     loop {
         let base = documents.place();
         let count = documents.number();
         match documents.read_next(input) {
             Ok(true) => {
                 let bytes = documents.bytes();
-                if let Some(fault) = print_document(alloc, bytes, base, count, &mut line, out)? {
+                if let Some(fault) = print_document(alloc, bytes, base, count, line, out)? {
                     let ending = Ending::Faulty(fault);
                     return Ok(Walk { count, ending });
                 }

@@ -1,5 +1,5 @@
 //! The documents of a text of lines, as bytes.
-ghost use Rattle.std.specs.Prelude.{◌≡◌, ◌++◌, ◌∷◌, ◌≤◌, IfOk, IfErr, IfSome, None, Ok, length};
+ghost use Rattle.std.specs.Prelude.{[], ◌≡◌, ◌++◌, ◌∷◌, ◌≤◌, IfOk, IfErr, IfSome, None, Ok, length};
 ghost use Rattle.bd_cli.specs.Packed.{is_white, is_blank, lines_of};
 ghost use Rattle.bd_cli.specs.Packing.{IsPacking, StopsPacking, bytes_behind, left_size, lines_left};
 
@@ -59,6 +59,21 @@ pub fn write_lines<O: Output>(alloc: Global, text: &[u8], out: &mut O) -> Result
 {
     let mut packer = Packer::new(alloc);
     let mut pending = Vec::new(alloc);
+    write_gathered(text, &mut packer, &mut pending, out)
+}
+
+/// `write_lines`, by that packer, over room that the caller holds, so that no end of the loop lets it go.
+fn write_gathered<O: Output>(
+    text: &[u8],
+    packer: &mut Packer,
+    pending: &mut Vec<u8>,
+    out: &mut O,
+) -> Result<Packing, Stopped>
+    requires few { length text.now ≤ 4294967295 }
+    requires empty { pending.old.items ≡ [] }
+    ensures packs { IfOk result (IsPacking text.now O.held O.failures out.old out.new) }
+    ensures stops { IfErr result (StopsPacking text.now O.held O.failures out.old out.new) }
+{
     let mut number = 0;
     let mut count = 0;
     let mut left = Some(text);
@@ -69,14 +84,14 @@ pub fn write_lines<O: Output>(alloc: Global, text: &[u8], out: &mut O) -> Result
         if is_blank(line) {
             continue;
         }
-        if let Some(fault) = packer.pack_line(line, &mut pending)? {
-            flush(&mut pending, out)?;
+        if let Some(fault) = packer.pack_line(line, pending)? {
+            flush(pending, out)?;
             let bad = Some(BadLine { number, fault });
             return Ok(Packing { count, bad });
         }
         count += 1;
-        flush_gathered(&mut pending, out)?;
+        flush_gathered(pending, out)?;
     }
-    flush(&mut pending, out)?;
+    flush(pending, out)?;
     Ok(Packing { count, bad: None })
 }

@@ -1,6 +1,6 @@
 use Rattle.std.proofs.Common.{◌≡◌, false}
 use Rattle.bd_cli.proofs.Judges.{SoFar}
-use Rattle.bd_cli.proofs.checking.write_verdicts.Given as goal
+use Rattle.bd_cli.proofs.checking.judge_documents.Given as goal
 
 abbrev pub invariant-loop-alloc : goal.invariant-loop-alloc
 invariant-loop-alloc g l = record {

@@ -3,10 +3,10 @@ use Rattle.std.proofs.lemmas.Result.{err_from_is_err_and}
 use Rattle.bd_cli.specs.Packing.{bytes_behind}
 use Rattle.bd_cli.specs.Ran.{Wrote, Broke}
 use Rattle.bd_cli.proofs.Packs as packs
-use Rattle.bd_cli.proofs.packing.write_lines.Goals as goal
+use Rattle.bd_cli.proofs.packing.write_gathered.Goals as goal
 
 pub loop-left-init : goal.loop-left-init
-loop-left-init g c = rw c.new-pending.ensures.items (packs.begins c.args.text.now g.O.Output.held g.O.Output.failures c.args.out.now c.requires)
+loop-left-init g c = rw c.requires.empty (packs.begins c.args.text.now g.O.Output.held g.O.Output.failures c.args.out.now c.requires.few)
 
 pub returns-in_err-fault-clause-stops : goal.returns-in_err-fault-clause-stops
 returns-in_err-fault-clause-stops g c =

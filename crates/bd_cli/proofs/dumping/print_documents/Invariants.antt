@@ -1,6 +1,6 @@
 use Rattle.std.proofs.Common.{◌≡◌, false}
 use Rattle.bd_cli.proofs.Walking.{SoFar}
-use Rattle.bd_cli.proofs.dumping.documents.Given as goal
+use Rattle.bd_cli.proofs.dumping.print_documents.Given as goal
 
 abbrev pub invariant-loop-documents : goal.invariant-loop-documents
 invariant-loop-documents g l = record {

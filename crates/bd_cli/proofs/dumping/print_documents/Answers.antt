@@ -3,7 +3,7 @@ use Rattle.std.proofs.lemmas.Result.{err_from_is_err_and}
 use Rattle.std.specs.Io.KnownBytes.{Consumes}
 use Rattle.bd_stream.specs.Stream.{IsFrame}
 use Rattle.bd_cli.proofs.Walking as walking
-use Rattle.bd_cli.proofs.dumping.documents.Goals as goal
+use Rattle.bd_cli.proofs.dumping.print_documents.Goals as goal
 
 pub returns-in_err-fault-in-Ok-true-clause-stops : goal.returns-in_err-fault-in-Ok-true-clause-stops
 returns-in_err-fault-in-Ok-true-clause-stops g c =

@@ -8,7 +8,7 @@ use Rattle.bd_cli.specs.Judged.{verdict_line}
 use Rattle.bd_cli.specs.Ran.{Wrote}
 use Rattle.bd_cli.proofs.Judges as judges
 use Rattle.bd_cli.proofs.Walking.{same_fault}
-use Rattle.bd_cli.proofs.checking.write_verdicts.Goals as goal
+use Rattle.bd_cli.proofs.checking.judge_documents.Goals as goal
 
 pub loop-alloc-init : goal.loop-alloc-init
 loop-alloc-init g c = record {
