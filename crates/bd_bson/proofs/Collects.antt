@@ -1,7 +1,7 @@
 -- The documents of a dump, one by one.
 use Rattle.std.proofs.Common.{◌≡◌, ◌≤◌, ◌<◌, ℕ, zero, suc, ◌+◌, ◌*◌, List, [], ◌∷◌, ◌++◌, length, take, drop, get_or, Option, Some, None, refl, sym, ap, ◌∙◌, subst, append_assoc, append-nil, arith, inl, inr}
 use Rattle.std.specs.Prelude.{slice_get}
-use Rattle.std.proofs.lemmas.List.{take-append-drop, drop-drop, length-drop, length-take, length-append, take_at}
+use Rattle.std.proofs.lemmas.List.{take-append-drop, length-drop, length-take, length-append, take_at}
 use Rattle.std.proofs.lemmas.Option.{slice_get-get_or}
 use Rattle.bd_value.specs.Tree.{Tree, Doc, doc, fields_of, pairs_in, pairs_of-fields_of}
 use Rattle.bd_value.specs.declared.kind.Kind.TheVariants as kinds
