@@ -7,7 +7,10 @@ use std::test::Fail;
 
 /// Whether the copy of the value is in these words.
 fn is_copied<'a, N: Node<'a>>(alloc: Global, node: N, want: &str) -> bool {
-    to_value(alloc, node).is_ok_and(|copy| is_shown(alloc, Tree::Value(&copy), want))
+    match to_value(alloc, node) {
+        Ok(copy) => is_shown(alloc, Tree::Value(&copy), want),
+        Err(_) => false,
+    }
 }
 
 /// The document with an element of each kind, by each call of a node.

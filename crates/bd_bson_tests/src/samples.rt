@@ -204,9 +204,20 @@ fn fault_text(alloc: Global, fault: &Fault) -> Result<String, NoMemory> {
     Ok(text)
 }
 
-/// Whether these are the words for the fault.
-pub(crate) fn is_told(alloc: Global, fault: &Fault, want: &str) -> bool {
-    fault_text(alloc, fault).is_ok_and(|text| text.as_str() == want)
+/// Whether that is the text.
+fn is_text(text: Result<String, NoMemory>, want: &str) -> bool {
+    match text {
+        Ok(text) => text.as_str() == want,
+        Err(_) => false,
+    }
+}
+
+/// Whether a call gave a fault, and in these words.
+pub(crate) fn is_fault<T: Drop>(alloc: Global, given: Result<T, Fault>, want: &str) -> bool {
+    match given {
+        Ok(_) => false,
+        Err(fault) => is_text(fault_text(alloc, &fault), want),
+    }
 }
 
 /// Whether these are the words for the document's only value, or how many values it has where it has not one alone.
@@ -216,8 +227,7 @@ fn is_document(alloc: Global, document: &Document, want: &str) -> bool {
         let (_, value) = document.pair(0);
         is_shown(alloc, Tree::Value(value), want)
     } else {
-        let words = format!(in alloc; "{count} values");
-        words.is_ok_and(|words| words.as_str() == want)
+        is_text(format!(in alloc; "{count} values"), want)
     }
 }
 
@@ -228,9 +238,7 @@ pub(crate) fn answers(rt: &impl Abort, alloc: Global, bytes: &[u8], want: &str) 
     let checked = check_document(alloc, bytes, 100, 3);
     let found = match read_document(alloc, bytes, 100, 3) {
         Ok(document) => checked.is_ok() && is_document(alloc, &document, want),
-        Err(fault) => {
-            checked.is_err_and(|fault| is_told(alloc, &fault, want)) && is_told(alloc, &fault, want)
-        }
+        Err(fault) => { is_fault(alloc, checked, want) && is_text(fault_text(alloc, &fault), want) }
     };
     assert!(rt; found, "{want:?} was wanted of {bytes:?}");
 }
@@ -256,8 +264,11 @@ pub(crate) fn view<'a>(rt: &impl Abort, alloc: Global, bytes: &'a [u8]) -> RawDo
 pub(crate) fn is_shown<'a, N: Node<'a>>(alloc: Global, node: N, want: &str) -> bool {
     let shown = match node.scalar() {
         Some(Scalar::CodeScope(code)) => {
-            let count = node.scope().map_or(99, |scope| scope.len());
-            words(alloc, "code", &[code, "with"], &[count as i128], None)
+            let count = match node.scope() {
+                Some(scope) => scope.len() as i128,
+                None => -1,
+            };
+            words(alloc, "code", &[code, "with"], &[count], None)
         }
         Some(scalar) => scalar_shown(alloc, &scalar),
         None => {
@@ -269,7 +280,7 @@ pub(crate) fn is_shown<'a, N: Node<'a>>(alloc: Global, node: N, want: &str) -> b
             words(alloc, word, &[], &[node.len() as i128], None)
         }
     };
-    shown.is_ok_and(|shown| shown.as_str() == want)
+    is_text(shown, want)
 }
 
 fn scalar_shown(alloc: Global, scalar: &Scalar<'_>) -> Result<String, NoMemory> {

@@ -1,5 +1,5 @@
 //! Documents and faults that were worked by hand, byte by byte.
-use crate::samples::{all_answer, is_told};
+use crate::samples::{all_answer, is_fault};
 use bd_check::{Frame, next_frame, read_document};
 use bd_value::Value;
 use std::test::Fail;
@@ -14,8 +14,7 @@ fn reads_documents(rt: HostRuntime) -> Result<(), Fail> {
         (b"\x10\0\0\0\x02s\0\x04\0\0\0a\0b\0\0", "text a\0b"),
     ];
     all_answer(&rt, alloc, rows);
-    let one = read_document(alloc, b"\x0c\0\0\0\x10a\0\x01\0\0\0\0", 4, 7);
-    let one = one.map_err(|_| "an int32")?;
+    let one = read_document(alloc, b"\x0c\0\0\0\x10a\0\x01\0\0\0\0", 4, 7)?;
     assert!(rt; one.len() == 1);
     let (name, value) = one.pair(0);
     assert!(rt; name == "a");
@@ -27,7 +26,7 @@ fn reads_documents(rt: HostRuntime) -> Result<(), Fail> {
 #[test]
 fn reads_an_array(rt: HostRuntime) -> Result<(), Fail> {
     let bytes = b"\x1b\0\0\0\x04a\0\x13\0\0\0\x10z\0\x07\0\0\0\x100\0\x08\0\0\0\0\0";
-    let document = read_document(rt.alloc(), bytes, 0, 0).map_err(|_| "an array")?;
+    let document = read_document(rt.alloc(), bytes, 0, 0)?;
     assert!(rt; document.len() == 1);
     match document.first("a") {
         Some(Value::Array(items)) => {
@@ -118,7 +117,7 @@ fn frames_documents(rt: HostRuntime) {
     assert!(rt; matches!(end, Ok(None)));
     // A document without its last byte, and one of two bytes.
     let cut = next_frame(alloc, &bytes[..16], 5, 1);
-    assert!(rt; cut.is_err_and(|fault| is_told(alloc, &fault, "bad length at 5 in 1:")));
+    assert!(rt; is_fault(alloc, cut, "bad length at 5 in 1:"));
     let cut = next_frame(alloc, &bytes[..7], 5, 1);
-    assert!(rt; cut.is_err_and(|fault| is_told(alloc, &fault, "length cut short at 5 in 1:")));
+    assert!(rt; is_fault(alloc, cut, "length cut short at 5 in 1:"));
 }

@@ -38,24 +38,34 @@ fn read(rt: &impl Abort, alloc: Global, bytes: &[u8]) -> Document {
 
 /// Whether the document is written as these bytes.
 fn is_written(alloc: Global, document: &Document, want: &[u8]) -> bool {
-    write_document(alloc, document).is_ok_and(|bytes| bytes.as_slice() == want)
+    match write_document(alloc, document) {
+        Ok(bytes) => bytes.as_slice() == want,
+        Err(_) => false,
+    }
 }
 
-/// Whether so many documents around this one are not written, for this reason.
+/// How many bytes so many levels of documents are written as, this one the innermost, or why they are not.
+fn written(
+    alloc: Global,
+    levels: u32,
+    inside: Result<Document, NoMemory>,
+) -> Result<usize, WriteFault> {
+    let document = nested(alloc, levels, inside?)?;
+    let bytes = write_document(alloc, &document)?;
+    Ok(bytes.len())
+}
+
+/// Whether they are not written, for this reason.
 fn is_refused(
     alloc: Global,
     levels: u32,
     inside: Result<Document, NoMemory>,
     why: WriteFault,
 ) -> bool {
-    let document = inside.and_then(|inside| nested(alloc, levels, inside));
-    document.is_ok_and(|document| write_document(alloc, &document).is_err_and(|e| e == why))
-}
-
-/// Whether so many documents around this one are written.
-fn is_taken(alloc: Global, levels: u32, inside: Result<Document, NoMemory>) -> bool {
-    let document = inside.and_then(|inside| nested(alloc, levels, inside));
-    document.is_ok_and(|document| write_document(alloc, &document).is_ok())
+    match written(alloc, levels, inside) {
+        Ok(_) => false,
+        Err(fault) => fault == why,
+    }
 }
 
 #[test]
@@ -162,12 +172,12 @@ fn refuses_zeros(rt: HostRuntime) {
     assert!(rt; is_refused(alloc, 1, zero_inside(alloc), nul));
     assert!(rt; is_refused(alloc, 1, regex(alloc, "p\0q", "i"), nul));
     assert!(rt; is_refused(alloc, 1, regex(alloc, "p", "\0"), nul));
-    assert!(rt; is_taken(alloc, 1, regex(alloc, "p", "i")));
-    assert!(rt; is_taken(alloc, 1, zeros_in_texts(alloc)));
+    assert!(rt; written(alloc, 1, regex(alloc, "p", "i")).is_ok());
+    assert!(rt; written(alloc, 1, zeros_in_texts(alloc)).is_ok());
 }
 
 /// A scope and its code are two levels.
-fn with_scope(alloc: Global) -> Result<Document, NoMemory> {
+fn scope_in_code(alloc: Global) -> Result<Document, NoMemory> {
     let code = Value::CodeScope(text(alloc, "c")?, Document::new(alloc));
     document_of(alloc, "w", code)
 }
@@ -176,7 +186,7 @@ fn with_scope(alloc: Global) -> Result<Document, NoMemory> {
 fn writes_200_levels(rt: HostRuntime) -> Result<(), Fail> {
     let alloc = rt.alloc();
     let document = nested(alloc, 200, Document::new(alloc))?;
-    let bytes = write_document(alloc, &document).map_err(|_| "200 levels")?;
+    let bytes = write_document(alloc, &document)?;
     // Seven bytes a level, the innermost one has five.
     assert!(rt; bytes.len() == 1597);
     let again = read(&rt, alloc, &bytes);
@@ -192,8 +202,8 @@ fn refuses_201_levels(rt: HostRuntime) {
     // Both faults, and one of them alone.
     assert!(rt; is_refused(alloc, 201, zero_named(alloc), deep));
     assert!(rt; is_refused(alloc, 200, zero_named(alloc), WriteFault::NulInName));
-    assert!(rt; is_taken(alloc, 198, with_scope(alloc)));
-    assert!(rt; is_refused(alloc, 199, with_scope(alloc), deep));
+    assert!(rt; written(alloc, 198, scope_in_code(alloc)).is_ok());
+    assert!(rt; is_refused(alloc, 199, scope_in_code(alloc), deep));
 }
 
 /// The document of one text of so many bytes.
@@ -206,11 +216,10 @@ fn document_of_text(alloc: Global, length: usize) -> Result<Document, NoMemory> 
 /// A text takes 13 bytes more in its document: 4 of the length, 3 of the type and the name, 4 of its own length, a zero
 /// after it and one at the end.
 #[test]
-fn writes_16793600_bytes(rt: HostRuntime) -> Result<(), Fail> {
+fn writes_16793600_bytes(rt: HostRuntime) {
     let alloc = rt.alloc();
-    let document = document_of_text(alloc, 16_793_587)?;
-    let written = write_document(alloc, &document);
-    assert!(rt; written.is_ok_and(|bytes| bytes.len() == 16_793_600));
+    let longest = written(alloc, 1, document_of_text(alloc, 16_793_587));
+    assert!(rt; matches!(longest, Ok(16_793_600)));
     for length in [16_793_588, 16_793_600, 16_793_601] {
         let document = document_of_text(alloc, length);
         assert!(rt;
@@ -218,5 +227,4 @@ fn writes_16793600_bytes(rt: HostRuntime) -> Result<(), Fail> {
             "of {length}"
         );
     }
-    Ok(())
 }
