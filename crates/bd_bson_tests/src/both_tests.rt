@@ -1,5 +1,5 @@
 //! The same calls over a view and over its copy in memory.
-use crate::samples::{ELEMENTS, every_kind, framed, is_shown, view};
+use crate::samples::{elements, every_kind, framed, is_shown, view};
 use bd_value::{Kind, Node, Scalar, Tree, to_value};
 use std::alloc::Global;
 use std::process::Abort;
@@ -22,7 +22,7 @@ fn has_every_kind<'a, N: Node<'a>>(rt: &impl Abort, alloc: Global, node: N) -> R
     assert!(rt; node.scalar().is_none());
     let mut rest = node.parts();
     for i in 0..count {
-        let want = &ELEMENTS[i];
+        let want = elements().get(i).ok_or("an element")?;
         let (name, value) = node.pair(i);
         assert!(rt; name == want.name);
         assert!(rt; value.kind() == want.kind, "of {name}");

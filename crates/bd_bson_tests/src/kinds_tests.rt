@@ -1,11 +1,11 @@
 //! Documents of one value that were worked by hand, byte by byte: what is read, and the first fault.
-use crate::samples::{ELEMENTS, all_answer, answers, framed};
+use crate::samples::{all_answer, answers, elements, framed};
 use std::test::Fail;
 
 #[test]
 fn reads_every_kind(rt: HostRuntime) -> Result<(), Fail> {
     let alloc = rt.alloc();
-    for element in ELEMENTS.iter() {
+    for element in elements() {
         let bytes = framed(alloc, element.bytes)?;
         answers(&rt, alloc, &bytes, element.shown);
     }

@@ -1,5 +1,5 @@
 //! Each prefix of a document of every kind.
-use crate::samples::{ELEMENTS, Element, answers, every_kind, framed, joined, with_scope};
+use crate::samples::{Element, answers, elements, every_kind, framed, joined, with_scope};
 use bd_value::NoMemory;
 use std::alloc::Global;
 use std::test::Fail;
@@ -18,7 +18,7 @@ fn value_cut(element: &Element, left: usize) -> (&'static str, usize) {
 fn whole(cut: usize) -> (usize, usize) {
     let mut rest = cut;
     let mut count: usize = 0;
-    for element in ELEMENTS.iter() {
+    for element in elements() {
         let size = element.bytes.len();
         if rest < size {
             break;
@@ -60,10 +60,10 @@ fn wanted(
     after: &str,
 ) -> Result<String, NoMemory> {
     let (count, left) = whole(cut);
-    if left == 0 || count >= 19 {
-        return format!(in alloc; "{before}{count}{after}");
+    match elements().get(count) {
+        Some(element) if left > 0 => element_cut(alloc, element, left, at.wrapping_add(cut), path),
+        _ => format!(in alloc; "{before}{count}{after}"),
     }
-    element_cut(alloc, &ELEMENTS[count], left, at.wrapping_add(cut), path)
 }
 
 #[test]
@@ -88,9 +88,9 @@ fn a_cut_document_is_past_the_end(rt: HostRuntime) -> Result<(), Fail> {
 #[test]
 fn a_cut_element_is_told(rt: HostRuntime) -> Result<(), Fail> {
     let alloc = rt.alloc();
-    let elements = every_kind(alloc)?;
-    for cut in 0..elements.len() {
-        let bytes = framed(alloc, &elements[..cut])?;
+    let kinds = every_kind(alloc)?;
+    for cut in 0..kinds.len() {
+        let bytes = framed(alloc, &kinds[..cut])?;
         // The first element alone is five bytes.
         if cut == 5 {
             answers(&rt, alloc, &bytes, "min key");
@@ -105,9 +105,9 @@ fn a_cut_element_is_told(rt: HostRuntime) -> Result<(), Fail> {
 #[test]
 fn a_cut_element_is_told_in_a_document(rt: HostRuntime) -> Result<(), Fail> {
     let alloc = rt.alloc();
-    let elements = every_kind(alloc)?;
-    for cut in 0..elements.len() {
-        let inside = framed(alloc, &elements[..cut])?;
+    let kinds = every_kind(alloc)?;
+    for cut in 0..kinds.len() {
+        let inside = framed(alloc, &kinds[..cut])?;
         let want = wanted(alloc, cut, 111, ".o", "document of ", "")?;
         answers(&rt, alloc, &joined(alloc, b"\x03o\0", &inside)?, &want);
     }
@@ -117,9 +117,9 @@ fn a_cut_element_is_told_in_a_document(rt: HostRuntime) -> Result<(), Fail> {
 #[test]
 fn a_cut_element_is_told_in_an_array(rt: HostRuntime) -> Result<(), Fail> {
     let alloc = rt.alloc();
-    let elements = every_kind(alloc)?;
-    for cut in 0..elements.len() {
-        let inside = framed(alloc, &elements[..cut])?;
+    let kinds = every_kind(alloc)?;
+    for cut in 0..kinds.len() {
+        let inside = framed(alloc, &kinds[..cut])?;
         let array = joined(alloc, b"\x06\0\x03zz\0", &inside)?;
         let outside = joined(alloc, b"\x04o\0", &array)?;
         let bytes = joined(alloc, b"\x03q\0", &outside)?;
@@ -137,9 +137,9 @@ fn a_cut_element_is_told_in_an_array(rt: HostRuntime) -> Result<(), Fail> {
 #[test]
 fn a_cut_element_is_told_in_a_scope(rt: HostRuntime) -> Result<(), Fail> {
     let alloc = rt.alloc();
-    let elements = every_kind(alloc)?;
-    for cut in 0..elements.len() {
-        let inside = framed(alloc, &elements[..cut])?;
+    let kinds = every_kind(alloc)?;
+    for cut in 0..kinds.len() {
+        let inside = framed(alloc, &kinds[..cut])?;
         let want = wanted(alloc, cut, 121, ".o.$scope", "code x with ", "")?;
         answers(&rt, alloc, &with_scope(alloc, b'o', &inside)?, &want);
     }

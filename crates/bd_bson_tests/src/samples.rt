@@ -19,8 +19,7 @@ pub(crate) struct Element {
     pub cuts: &'static [(usize, &'static str, usize)],
 }
 
-/// An element of each kind, in the order of the kinds.
-pub(crate) static ELEMENTS: [Element; 19] = [
+static ELEMENTS: [Element; 19] = [
     Element {
         kind: Kind::MinKey,
         name: "min",
@@ -160,6 +159,11 @@ pub(crate) static ELEMENTS: [Element; 19] = [
     },
 ];
 
+/// An element of each kind, in the order of the kinds.
+pub(crate) fn elements() -> &'static [Element] {
+    &ELEMENTS
+}
+
 /// The document of these bytes of elements, the others after the first.
 pub(crate) fn joined(alloc: Global, first: &[u8], others: &[u8]) -> Result<Vec<u8>, NoMemory> {
     let size = first.len().wrapping_add(others.len()).wrapping_add(5) as u64;
@@ -187,7 +191,7 @@ pub(crate) fn with_scope(alloc: Global, name: u8, scope: &[u8]) -> Result<Vec<u8
 /// The bytes of an element of each kind, one after the other.
 pub(crate) fn every_kind(alloc: Global) -> Result<Vec<u8>, NoMemory> {
     let mut bytes = Vec::new(alloc);
-    for element in ELEMENTS.iter() {
+    for element in elements() {
         bytes.extend_from_slice(element.bytes)?;
     }
     Ok(bytes)

@@ -1,5 +1,5 @@
 //! Each call of a view, on every kind.
-use crate::samples::{ELEMENTS, every_kind, framed, is_fault, is_shown, view};
+use crate::samples::{elements, every_kind, framed, is_fault, is_shown, view};
 use bd_check::check_document;
 use bd_raw::RawValue;
 use bd_value::{Kind, Node, Reading, Scalar, Tree, Value};
@@ -50,7 +50,7 @@ fn sees_every_kind(rt: HostRuntime) -> Result<(), Fail> {
     assert!(rt; count == 19);
     assert!(rt; !document.is_empty());
     for i in 0..count {
-        let want = &ELEMENTS[i];
+        let want = elements().get(i).ok_or("an element")?;
         let (name, value) = document.pair(i);
         assert!(rt; name == want.name);
         assert!(rt; value.kind() == want.kind, "of {name}");
@@ -81,27 +81,24 @@ fn sees_every_kind(rt: HostRuntime) -> Result<(), Fail> {
 fn goes_through_elements(rt: HostRuntime) -> Result<(), Fail> {
     let alloc = rt.alloc();
     let bytes = framed(alloc, &every_kind(alloc)?)?;
-    let elements = view(&rt, alloc, &bytes).elements();
-    let count = elements.count();
+    let all = view(&rt, alloc, &bytes).elements();
+    let count = all.count();
     assert!(rt; count == 19);
-    let mut rest = elements;
+    let mut rest = all;
     for i in 0..count {
-        let want = &ELEMENTS[i];
+        let want = elements().get(i).ok_or("an element")?;
         assert!(rt; rest.count() == count - i);
         let (name, value, after) = rest.next().ok_or("an element")?;
         assert!(rt; name == want.name);
         assert!(rt; is_shown(alloc, value, want.shown), "of {name}");
         rest = after;
-        let (name, value) = elements.nth(i);
+        let (name, value) = all.nth(i);
         assert!(rt; name == want.name);
         assert!(rt; is_shown(alloc, value, want.shown), "of {name}");
-        assert!(rt;
-            is_first(alloc, elements.find(name), want.shown),
-            "of {name}"
-        );
+        assert!(rt; is_first(alloc, all.find(name), want.shown), "of {name}");
     }
     assert!(rt; rest.next().is_none());
-    assert!(rt; elements.find("none").is_none());
+    assert!(rt; all.find("none").is_none());
     Ok(())
 }
 
@@ -156,7 +153,7 @@ fn copies_every_kind(rt: HostRuntime) -> Result<(), Fail> {
     assert!(rt; count == 19);
     for i in 0..count {
         let (name, value) = document.pair(i);
-        let want = &ELEMENTS[i];
+        let want = elements().get(i).ok_or("an element")?;
         assert!(rt; name == want.name);
         assert!(rt;
             is_shown(alloc, Tree::Value(value), want.shown),

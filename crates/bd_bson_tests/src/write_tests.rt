@@ -1,5 +1,5 @@
 //! Documents whose bytes were worked by hand, and those that are not written.
-use crate::samples::{ELEMENTS, every_kind, framed};
+use crate::samples::{elements, every_kind, framed};
 use bd_check::read_document;
 use bd_value::{Document, Kind, NoMemory, Value};
 use bd_write::{WriteFault, write_document};
@@ -117,7 +117,7 @@ fn writes_every_kind(rt: HostRuntime) -> Result<(), Fail> {
     let alloc = rt.alloc();
     let array = b"\x04a\0\x12\0\0\0\x100\0\x07\0\0\0\x0a1\0\xff2\0\0";
     let mut all = Vec::new(alloc);
-    for element in ELEMENTS.iter() {
+    for element in elements() {
         let document = read(&rt, alloc, &framed(alloc, element.bytes)?);
         let plain = if element.kind == Kind::Array {
             array.as_slice()
