@@ -13,6 +13,24 @@ fn is_copied<'a, N: Node<'a>>(alloc: Global, node: N, want: &str) -> bool {
     }
 }
 
+/// The pair of a document at an index.
+fn pair_of<'a, N: Node<'a>>(rt: &impl Abort, node: N, i: usize) -> (&'a str, N) {
+    let kind = node.kind();
+    assert!(rt; kind == Kind::Doc);
+    let count = node.len();
+    assert!(rt; i < count);
+    node.pair(i)
+}
+
+/// The same, for as long as the node is held.
+fn field_of<'a, 'b, N: Node<'a>>(rt: &impl Abort, node: &'b N, i: usize) -> (&'b str, N) {
+    let kind = node.kind();
+    assert!(rt; kind == Kind::Doc);
+    let count = node.len();
+    assert!(rt; i < count);
+    node.field(i)
+}
+
 /// The document with an element of each kind, by each call of a node.
 fn has_every_kind<'a, N: Node<'a>>(rt: &impl Abort, alloc: Global, node: N) -> Result<(), Fail> {
     let kind = node.kind();
@@ -22,8 +40,8 @@ fn has_every_kind<'a, N: Node<'a>>(rt: &impl Abort, alloc: Global, node: N) -> R
     assert!(rt; node.scalar().is_none());
     let mut rest = node.parts();
     for i in 0..count {
+        let (name, value) = pair_of(rt, node, i);
         let want = elements().get(i).ok_or("an element")?;
-        let (name, value) = node.pair(i);
         assert!(rt; name == want.name);
         assert!(rt; value.kind() == want.kind, "of {name}");
         assert!(rt; is_shown(alloc, value, want.shown), "{}", want.shown);
@@ -40,7 +58,7 @@ fn has_every_kind<'a, N: Node<'a>>(rt: &impl Abort, alloc: Global, node: N) -> R
             value.first("x").is_some() == (want.kind == Kind::Doc),
             "of {name}"
         );
-        let (name, value) = node.field(i);
+        let (name, value) = field_of(rt, &node, i);
         assert!(rt; name == want.name);
         assert!(rt; is_shown(alloc, value, want.shown), "{}", want.shown);
         let (name, value, after) = N::next(&rest).ok_or("a field")?;

@@ -90,12 +90,12 @@ fn goes_through_elements(rt: HostRuntime) -> Result<(), Fail> {
         assert!(rt; rest.count() == count - i);
         let (name, value, after) = rest.next().ok_or("an element")?;
         assert!(rt; name == want.name);
-        assert!(rt; is_shown(alloc, value, want.shown), "of {name}");
+        assert!(rt; is_shown(alloc, value, want.shown), "at {i}");
         rest = after;
         let (name, value) = all.nth(i);
         assert!(rt; name == want.name);
-        assert!(rt; is_shown(alloc, value, want.shown), "of {name}");
-        assert!(rt; is_first(alloc, all.find(name), want.shown), "of {name}");
+        assert!(rt; is_shown(alloc, value, want.shown), "at {i}");
+        assert!(rt; is_first(alloc, all.find(name), want.shown), "at {i}");
     }
     assert!(rt; rest.next().is_none());
     assert!(rt; all.find("none").is_none());
