@@ -1,21 +1,20 @@
 //! Documents of one value that were worked by hand, byte by byte: what is read, and the first fault.
-use crate::samples::{answer, every_element, framed};
+use crate::samples::{all_answer, answers, elements, framed};
 use std::test::Fail;
 
 #[test]
 fn reads_every_kind(rt: HostRuntime) -> Result<(), Fail> {
     let alloc = rt.alloc();
-    for element in every_element() {
+    for element in elements() {
         let bytes = framed(alloc, element.bytes)?;
-        assert_eq!(rt; answer(&rt, alloc, &bytes)?.as_str(), element.shown);
+        answers(&rt, alloc, &bytes, element.shown);
     }
     Ok(())
 }
 
 #[test]
-fn reads_values(rt: HostRuntime) -> Result<(), Fail> {
-    let alloc = rt.alloc();
-    let rows: [(&[u8], &str); 12] = [
+fn reads_values(rt: HostRuntime) {
+    let rows: &[(&[u8], &str)] = &[
         (
             b"\x13\0\0\0\x05x\0\x06\0\0\0\x02\x02\0\0\0\xff\xff\0",
             "binary 2 [255, 255]",
@@ -45,16 +44,12 @@ fn reads_values(rt: HostRuntime) -> Result<(), Fail> {
         ),
         (b"\x09\0\0\0\x08b\0\0\0", "false"),
     ];
-    for (bytes, want) in rows {
-        assert_eq!(rt; answer(&rt, alloc, bytes)?.as_str(), want);
-    }
-    Ok(())
+    all_answer(&rt, rt.alloc(), rows);
 }
 
 #[test]
-fn refuses_doubles_and_decimals_unseen(rt: HostRuntime) -> Result<(), Fail> {
-    let alloc = rt.alloc();
-    let rows: [(&[u8], &str); 7] = [
+fn refuses_doubles_and_decimals_unseen(rt: HostRuntime) {
+    let rows: &[(&[u8], &str)] = &[
         (
             b"\x10\0\0\0\x01d\0\0\0\0\0\0\0\xf0\x3f\0",
             "double at 104 in 3:.d",
@@ -72,10 +67,7 @@ fn refuses_doubles_and_decimals_unseen(rt: HostRuntime) -> Result<(), Fail> {
         // An unknown type stands before its name.
         (b"\x08\0\0\0\x14\xff\0\0", "unknown type at 104 in 3:"),
     ];
-    for (bytes, want) in rows {
-        assert_eq!(rt; answer(&rt, alloc, bytes)?.as_str(), want);
-    }
-    Ok(())
+    all_answer(&rt, rt.alloc(), rows);
 }
 
 /// Each type byte but those of the nineteen kinds, of doubles and of decimal128.
@@ -87,18 +79,14 @@ fn knows_no_other_type(rt: HostRuntime) -> Result<(), Fail> {
             continue;
         }
         let bytes = framed(alloc, &[byte, 97, 0])?;
-        assert_eq!(rt;
-            answer(&rt, alloc, &bytes)?.as_str(),
-            "unknown type at 104 in 3:"
-        );
+        answers(&rt, alloc, &bytes, "unknown type at 104 in 3:");
     }
     Ok(())
 }
 
 #[test]
-fn looks_at_booleans_and_binary(rt: HostRuntime) -> Result<(), Fail> {
-    let alloc = rt.alloc();
-    let rows: [(&[u8], &str); 11] = [
+fn looks_at_booleans_and_binary(rt: HostRuntime) {
+    let rows: &[(&[u8], &str)] = &[
         (b"\x09\0\0\0\x08b\0\x02\0", "bad boolean at 107 in 3:.b"),
         (b"\x09\0\0\0\x08b\0\xff\0", "bad boolean at 107 in 3:.b"),
         (b"\x08\0\0\0\x08b\0\0", "value cut short at 107 in 3:.b"),
@@ -138,16 +126,12 @@ fn looks_at_booleans_and_binary(rt: HostRuntime) -> Result<(), Fail> {
             "value cut short at 107 in 3:.x",
         ),
     ];
-    for (bytes, want) in rows {
-        assert_eq!(rt; answer(&rt, alloc, bytes)?.as_str(), want);
-    }
-    Ok(())
+    all_answer(&rt, rt.alloc(), rows);
 }
 
 #[test]
-fn looks_at_texts(rt: HostRuntime) -> Result<(), Fail> {
-    let alloc = rt.alloc();
-    let rows: [(&[u8], &str); 14] = [
+fn looks_at_texts(rt: HostRuntime) {
+    let rows: &[(&[u8], &str)] = &[
         (
             b"\x0e\0\0\0\x02a\0\x02\0\0\0aa\0",
             "string not ended at 112 in 3:.a",
@@ -196,16 +180,12 @@ fn looks_at_texts(rt: HostRuntime) -> Result<(), Fail> {
             "not UTF-8 at 111 in 3:.d",
         ),
     ];
-    for (bytes, want) in rows {
-        assert_eq!(rt; answer(&rt, alloc, bytes)?.as_str(), want);
-    }
-    Ok(())
+    all_answer(&rt, rt.alloc(), rows);
 }
 
 #[test]
-fn looks_at_code_with_scope(rt: HostRuntime) -> Result<(), Fail> {
-    let alloc = rt.alloc();
-    let rows: [(&[u8], &str); 12] = [
+fn looks_at_code_with_scope(rt: HostRuntime) {
+    let rows: &[(&[u8], &str)] = &[
         // The total one too great: the scope ends before it.
         (
             b"\x17\0\0\0\x0fc\0\x10\0\0\0\x02\0\0\0x\0\x05\0\0\0\0\0",
@@ -259,16 +239,12 @@ fn looks_at_code_with_scope(rt: HostRuntime) -> Result<(), Fail> {
             "bad boolean at 124 in 3:.c.$scope.b",
         ),
     ];
-    for (bytes, want) in rows {
-        assert_eq!(rt; answer(&rt, alloc, bytes)?.as_str(), want);
-    }
-    Ok(())
+    all_answer(&rt, rt.alloc(), rows);
 }
 
 #[test]
-fn names_elements_of_arrays_by_their_places(rt: HostRuntime) -> Result<(), Fail> {
-    let alloc = rt.alloc();
-    let rows: [(&[u8], &str); 4] = [
+fn names_elements_of_arrays_by_their_places(rt: HostRuntime) {
+    let rows: &[(&[u8], &str)] = &[
         // A name in an array has to be UTF-8 too.
         (
             b"\x10\0\0\0\x04a\0\x08\0\0\0\x0a\xff\0\0\0",
@@ -287,8 +263,5 @@ fn names_elements_of_arrays_by_their_places(rt: HostRuntime) -> Result<(), Fail>
             "bad boolean at 125 in 3:.a.2",
         ),
     ];
-    for (bytes, want) in rows {
-        assert_eq!(rt; answer(&rt, alloc, bytes)?.as_str(), want);
-    }
-    Ok(())
+    all_answer(&rt, rt.alloc(), rows);
 }

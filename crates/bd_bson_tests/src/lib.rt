@@ -1,5 +1,5 @@
-//! Tests of `bd_bson`, over its public calls. They stand in a crate of their own, since a crate is proved once more with its
-//! tests, and its edits wait for that.
+//! Tests of `bd_bson` and of the crates whose names it hands on, over their public calls. They stand in a crate of their own,
+//! since a crate is proved once more with its tests, and its edits wait for that.
 #![tactic(auto)]
 
 #[cfg(test)]
@@ -8,8 +8,6 @@ mod both_tests;
 mod collection_tests;
 #[cfg(test)]
 mod depth_tests;
-#[cfg(test)]
-mod doc_reader_tests;
 #[cfg(test)]
 mod kinds_tests;
 #[cfg(test)]

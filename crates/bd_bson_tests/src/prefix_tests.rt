@@ -1,104 +1,86 @@
 //! Each prefix of a document of every kind.
-use crate::samples::{answer, every_element, every_kind, framed, push_number};
+use crate::samples::{Element, answers, elements, every_kind, framed, joined, with_scope};
 use bd_value::NoMemory;
 use std::alloc::Global;
-use std::process::Abort;
 use std::test::Fail;
 
-/// The fault of a value of which so many bytes are left, and where it stands.
-fn value_cut(
-    alloc: Global,
-    cuts: &[(usize, &'static str, usize)],
-    left: usize,
-    value: usize,
-) -> Result<String, NoMemory> {
-    for (until, words, behind) in cuts {
+/// The words for a value of which so many bytes are left, and how far after its first byte the fault stands.
+fn value_cut(element: &Element, left: usize) -> (&'static str, usize) {
+    for (until, words, after) in element.cuts {
         if left < *until {
-            let place = value.wrapping_add(*behind);
-            return format!(in alloc; "{} at {place}", *words);
+            return (*words, *after);
         }
     }
-    String::from_str(alloc, "no row")
+    ("no row", 0)
 }
 
-/// What is answered where so many bytes of the elements stand in a document that ends behind them: `at` is the place of
-/// the first element and `path` that of the document.
-fn wanted(alloc: Global, cut: usize, at: usize, path: &str) -> Result<String, NoMemory> {
-    let mut rest = cut;
-    let mut at = at;
-    for element in every_element() {
-        if rest == 0 {
-            break;
-        }
-        let size = element.bytes.len();
-        let head = element.name.len().wrapping_add(2);
-        if rest < head {
-            let place = at.wrapping_add(1);
-            return format!(in alloc; "name not ended at {place} in 3:{path}");
-        }
-        if rest < size {
-            let value = at.wrapping_add(head);
-            let fault = value_cut(alloc, element.cuts, rest.wrapping_sub(head), value)?;
-            return format!(in alloc; "{} in 3:{path}.{}", fault.as_str(), element.name);
-        }
-        rest = rest.wrapping_sub(size);
-        at = at.wrapping_add(size);
-    }
-    String::from_str(alloc, "")
-}
-
-/// How many elements stand whole in so many bytes.
-fn whole(cut: usize) -> usize {
+/// How many elements stand whole in so many bytes, and how many bytes follow them.
+fn whole(cut: usize) -> (usize, usize) {
     let mut rest = cut;
     let mut count: usize = 0;
-    for element in every_element() {
-        if rest < element.bytes.len() {
+    for element in elements() {
+        let size = element.bytes.len();
+        if rest < size {
             break;
         }
-        rest = rest.wrapping_sub(element.bytes.len());
+        rest = rest.wrapping_sub(size);
         count = count.wrapping_add(1);
     }
-    count
+    (count, rest)
 }
 
-/// Checks the answer for bytes in which a document of the first `cut` bytes of the elements stands. Where it has no
-/// fault, `shown` and then the number of its elements are the words for what is read.
-fn check(
-    rt: &impl Abort,
+/// The fault of an element of which so many bytes are left: `end` is the offset after them, and `path` that of the document.
+fn element_cut(
+    alloc: Global,
+    element: &Element,
+    left: usize,
+    end: usize,
+    path: &str,
+) -> Result<String, NoMemory> {
+    let head = element.name.len().wrapping_add(2);
+    let start = end.wrapping_sub(left);
+    if left < head {
+        let offset = start.wrapping_add(1);
+        return format!(in alloc; "name not ended at {offset} in 3:{path}");
+    }
+    let (words, after) = value_cut(element, left.wrapping_sub(head));
+    let offset = start.wrapping_add(head).wrapping_add(after);
+    format!(in alloc; "{words} at {offset} in 3:{path}.{}", element.name)
+}
+
+/// What is answered where so many bytes of the elements stand in a document that ends after them: `at` is the offset of
+/// the first element and `path` that of the document. Where no element is cut it is `before`, how many elements there
+/// are, and `after`.
+fn wanted(
     alloc: Global,
     cut: usize,
-    bytes: &[u8],
     at: usize,
     path: &str,
-    shown: &str,
-) -> Result<(), NoMemory> {
-    let found = answer(rt, alloc, bytes)?;
-    let fault = wanted(alloc, cut, at, path)?;
-    if fault.is_empty() {
-        let words = format!(in alloc; "{shown}{}", whole(cut))?;
-        assert_eq!(rt; found.as_str(), words.as_str(), "{cut} bytes");
-    } else {
-        assert_eq!(rt; found.as_str(), fault.as_str(), "{cut} bytes");
+    before: &str,
+    after: &str,
+) -> Result<String, NoMemory> {
+    let (count, left) = whole(cut);
+    match elements().get(count) {
+        Some(element) if left > 0 => element_cut(alloc, element, left, at.wrapping_add(cut), path),
+        _ => format!(in alloc; "{before}{count}{after}"),
     }
-    Ok(())
 }
 
 #[test]
 fn a_cut_document_is_past_the_end(rt: HostRuntime) -> Result<(), Fail> {
     let alloc = rt.alloc();
-    let bytes = framed(alloc, every_kind(alloc)?.as_slice())?;
+    let bytes = framed(alloc, &every_kind(alloc)?)?;
     let all = bytes.len();
     assert!(rt; all == 216);
     for cut in 0..all {
-        let found = answer(&rt, alloc, &bytes[..cut])?;
         let want = if cut < 4 {
             "length cut short at 100 in 3:"
         } else {
             "bad length at 100 in 3:"
         };
-        assert_eq!(rt; found.as_str(), want, "{cut} bytes");
+        answers(&rt, alloc, &bytes[..cut], want);
     }
-    assert_eq!(rt; answer(&rt, alloc, bytes.as_slice())?.as_str(), "19 values");
+    answers(&rt, alloc, &bytes, "19 values");
     Ok(())
 }
 
@@ -106,69 +88,60 @@ fn a_cut_document_is_past_the_end(rt: HostRuntime) -> Result<(), Fail> {
 #[test]
 fn a_cut_element_is_told(rt: HostRuntime) -> Result<(), Fail> {
     let alloc = rt.alloc();
-    let elements = every_kind(alloc)?;
-    for cut in 0..elements.len() {
-        let bytes = framed(alloc, &elements[..cut])?;
-        let found = answer(&rt, alloc, bytes.as_slice())?;
-        let fault = wanted(alloc, cut, 104, "")?;
-        if fault.is_empty() {
-            let count = whole(cut);
-            if count == 1 {
-                assert_eq!(rt; found.as_str(), "min key");
-            } else {
-                assert_eq!(rt;
-                    found.as_str(),
-                    format!(in alloc; "{count} values")?.as_str()
-                );
-            }
+    let kinds = every_kind(alloc)?;
+    for cut in 0..kinds.len() {
+        let bytes = framed(alloc, &kinds[..cut])?;
+        // The first element alone is five bytes.
+        if cut == 5 {
+            answers(&rt, alloc, &bytes, "min key");
         } else {
-            assert_eq!(rt; found.as_str(), fault.as_str(), "{cut} bytes");
+            let want = wanted(alloc, cut, 104, "", "", " values")?;
+            answers(&rt, alloc, &bytes, &want);
         }
     }
     Ok(())
 }
 
 #[test]
-fn a_cut_element_is_told_inside(rt: HostRuntime) -> Result<(), Fail> {
+fn a_cut_element_is_told_in_a_document(rt: HostRuntime) -> Result<(), Fail> {
     let alloc = rt.alloc();
-    let elements = every_kind(alloc)?;
-    for cut in 0..elements.len() {
-        let inside = framed(alloc, &elements[..cut])?;
+    let kinds = every_kind(alloc)?;
+    for cut in 0..kinds.len() {
+        let inside = framed(alloc, &kinds[..cut])?;
+        let want = wanted(alloc, cut, 111, ".o", "document of ", "")?;
+        answers(&rt, alloc, &joined(alloc, b"\x03o\0", &inside)?, &want);
+    }
+    Ok(())
+}
 
-        let mut outside = Vec::from_slice(alloc, b"\x03o\0")?;
-        outside.extend_from_slice(inside.as_slice())?;
-        let bytes = framed(alloc, outside.as_slice())?;
-        check(&rt, alloc, cut, bytes.as_slice(), 111, ".o", "document of ")?;
-
-        let mut array = Vec::from_slice(alloc, b"\x06\0\x03zz\0")?;
-        array.extend_from_slice(inside.as_slice())?;
-        let mut outside = Vec::from_slice(alloc, b"\x04o\0")?;
-        outside.extend_from_slice(framed(alloc, array.as_slice())?.as_slice())?;
-        let mut in_array = Vec::from_slice(alloc, b"\x03q\0")?;
-        in_array.extend_from_slice(framed(alloc, outside.as_slice())?.as_slice())?;
-        let bytes = framed(alloc, in_array.as_slice())?;
-        let found = answer(&rt, alloc, bytes.as_slice())?;
-        let fault = wanted(alloc, cut, 128, ".q.o.1")?;
-        if fault.is_empty() {
-            assert_eq!(rt; found.as_str(), "document of 1");
+#[test]
+fn a_cut_element_is_told_in_an_array(rt: HostRuntime) -> Result<(), Fail> {
+    let alloc = rt.alloc();
+    let kinds = every_kind(alloc)?;
+    for cut in 0..kinds.len() {
+        let inside = framed(alloc, &kinds[..cut])?;
+        let array = joined(alloc, b"\x06\0\x03zz\0", &inside)?;
+        let outside = joined(alloc, b"\x04o\0", &array)?;
+        let bytes = joined(alloc, b"\x03q\0", &outside)?;
+        let (_, left) = whole(cut);
+        if left == 0 {
+            answers(&rt, alloc, &bytes, "document of 1");
         } else {
-            assert_eq!(rt; found.as_str(), fault.as_str(), "{cut} bytes");
+            let want = wanted(alloc, cut, 128, ".q.o.1", "", "")?;
+            answers(&rt, alloc, &bytes, &want);
         }
+    }
+    Ok(())
+}
 
-        let mut outside = Vec::from_slice(alloc, b"\x0fo\0")?;
-        push_number(&mut outside, inside.len().wrapping_add(10))?;
-        outside.extend_from_slice(b"\x02\0\0\0x\0")?;
-        outside.extend_from_slice(inside.as_slice())?;
-        let bytes = framed(alloc, outside.as_slice())?;
-        check(
-            &rt,
-            alloc,
-            cut,
-            bytes.as_slice(),
-            121,
-            ".o.$scope",
-            "code x with ",
-        )?;
+#[test]
+fn a_cut_element_is_told_in_a_scope(rt: HostRuntime) -> Result<(), Fail> {
+    let alloc = rt.alloc();
+    let kinds = every_kind(alloc)?;
+    for cut in 0..kinds.len() {
+        let inside = framed(alloc, &kinds[..cut])?;
+        let want = wanted(alloc, cut, 121, ".o.$scope", "code x with ", "")?;
+        answers(&rt, alloc, &with_scope(alloc, b'o', &inside)?, &want);
     }
     Ok(())
 }

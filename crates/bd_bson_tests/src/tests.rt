@@ -1,51 +1,36 @@
 //! Documents and faults that were worked by hand, byte by byte.
-use crate::samples::{answer, fault_text};
+use crate::samples::{all_answer, is_fault};
 use bd_check::{Frame, next_frame, read_document};
-use bd_value::{Document, Value};
+use bd_value::Value;
 use std::test::Fail;
-
-fn first_value<'a>(rt: &impl std::process::Abort, document: &'a Document) -> (&'a str, &'a Value) {
-    assert!(rt; document.len() == 1);
-    document.pair(0)
-}
 
 #[test]
 fn reads_documents(rt: HostRuntime) -> Result<(), Fail> {
     let alloc = rt.alloc();
-    let empty = read_document(alloc, b"\x05\0\0\0\0", 0, 0);
-    assert!(rt; empty.is_ok_and(|d| d.is_empty()));
-
-    let one = read_document(alloc, b"\x0c\0\0\0\x10a\0\x01\0\0\0\0", 4, 7);
-    let one = one.map_err(|_| "an int32")?;
-    let (name, value) = first_value(&rt, &one);
-    assert_eq!(rt; name, "a");
+    let rows: &[(&[u8], &str)] = &[
+        (b"\x05\0\0\0\0", "0 values"),
+        (b"\x0c\0\0\0\x10a\0\x01\0\0\0\0", "int32 1"),
+        (b"\x0c\0\0\0\x10a\0\xfe\xff\xff\xff\0", "int32 -2"),
+        (b"\x10\0\0\0\x02s\0\x04\0\0\0a\0b\0\0", "text a\0b"),
+    ];
+    all_answer(&rt, alloc, rows);
+    let one = read_document(alloc, b"\x0c\0\0\0\x10a\0\x01\0\0\0\0", 4, 7)?;
+    assert!(rt; one.len() == 1);
+    let (name, value) = one.pair(0);
+    assert!(rt; name == "a");
     assert!(rt; matches!(value, Value::Int32(1)));
+    Ok(())
+}
 
-    let negative = read_document(alloc, b"\x0c\0\0\0\x10a\0\xfe\xff\xff\xff\0", 0, 0);
-    let negative = negative.map_err(|_| "a negative int32")?;
-    let (_, value) = first_value(&rt, &negative);
-    assert!(rt; matches!(value, Value::Int32(-2)));
-
-    let text = read_document(alloc, b"\x10\0\0\0\x02s\0\x04\0\0\0a\0b\0\0", 0, 0);
-    let text = text.map_err(|_| "a text with a zero")?;
-    let (_, value) = first_value(&rt, &text);
-    match value {
-        Value::Text(text) => assert_eq!(rt; text.as_str(), "a\0b"),
-        _ => assert!(rt; false, "a text was wanted"),
-    }
-
-    // The names in an array are any names.
-    let array = read_document(
-        alloc,
-        b"\x1b\0\0\0\x04a\0\x13\0\0\0\x10z\0\x07\0\0\0\x100\0\x08\0\0\0\0\0",
-        0,
-        0,
-    );
-    let array = array.map_err(|_| "an array")?;
-    let (_, value) = first_value(&rt, &array);
-    match value {
-        Value::Array(items) => {
-            assert_eq!(rt; items.len(), 2);
+/// The names in an array are any names.
+#[test]
+fn reads_an_array(rt: HostRuntime) -> Result<(), Fail> {
+    let bytes = b"\x1b\0\0\0\x04a\0\x13\0\0\0\x10z\0\x07\0\0\0\x100\0\x08\0\0\0\0\0";
+    let document = read_document(rt.alloc(), bytes, 0, 0)?;
+    assert!(rt; document.len() == 1);
+    match document.first("a") {
+        Some(Value::Array(items)) => {
+            assert!(rt; items.len() == 2);
             assert!(rt; matches!(items[0], Value::Int32(7)));
             assert!(rt; matches!(items[1], Value::Int32(8)));
         }
@@ -55,9 +40,8 @@ fn reads_documents(rt: HostRuntime) -> Result<(), Fail> {
 }
 
 #[test]
-fn names_the_first_fault(rt: HostRuntime) -> Result<(), Fail> {
-    let alloc = rt.alloc();
-    let rows: [(&[u8], &str); 17] = [
+fn names_the_first_fault(rt: HostRuntime) {
+    let rows: &[(&[u8], &str)] = &[
         (b"", "length cut short at 100 in 3:"),
         (b"\x05\0\0", "length cut short at 100 in 3:"),
         (b"\x04\0\0\0", "bad length at 100 in 3:"),
@@ -102,47 +86,38 @@ fn names_the_first_fault(rt: HostRuntime) -> Result<(), Fail> {
             "no terminator at 125 in 3:.a.1",
         ),
     ];
-    for (bytes, want) in rows {
-        assert_eq!(rt; answer(&rt, alloc, bytes)?.as_str(), want);
-    }
-    Ok(())
+    all_answer(&rt, rt.alloc(), rows);
 }
 
 #[test]
-fn frames_documents(rt: HostRuntime) -> Result<(), Fail> {
+fn frames_documents(rt: HostRuntime) {
     let alloc = rt.alloc();
     let bytes = b"\x05\0\0\0\0\x0c\0\0\0\x10a\0\x01\0\0\0\0";
-    let first = next_frame(alloc, bytes, 0, 0).map_err(|_| "the first")?;
-    assert_eq!(rt;
-        first,
-        Some(Frame {
-            start: 0,
-            length: 5
-        })
+    let first = next_frame(alloc, bytes, 0, 0);
+    assert!(rt;
+        matches!(
+            first,
+            Ok(Some(Frame {
+                start: 0,
+                length: 5
+            }))
+        )
     );
-    let second = next_frame(alloc, bytes, 5, 1).map_err(|_| "the second")?;
-    assert_eq!(rt;
-        second,
-        Some(Frame {
-            start: 5,
-            length: 12
-        })
+    let second = next_frame(alloc, bytes, 5, 1);
+    assert!(rt;
+        matches!(
+            second,
+            Ok(Some(Frame {
+                start: 5,
+                length: 12
+            }))
+        )
     );
-    let end = next_frame(alloc, bytes, 17, 2).map_err(|_| "the end")?;
-    assert_eq!(rt; end, None);
-    match next_frame(alloc, &bytes[..16], 5, 1) {
-        Ok(_) => assert!(rt; false, "a document without its last byte"),
-        Err(fault) => assert_eq!(rt;
-            fault_text(alloc, &fault)?.as_str(),
-            "bad length at 5 in 1:"
-        ),
-    }
-    match next_frame(alloc, &bytes[..7], 5, 1) {
-        Ok(_) => assert!(rt; false, "a document of two bytes"),
-        Err(fault) => assert_eq!(rt;
-            fault_text(alloc, &fault)?.as_str(),
-            "length cut short at 5 in 1:"
-        ),
-    }
-    Ok(())
+    let end = next_frame(alloc, bytes, 17, 2);
+    assert!(rt; matches!(end, Ok(None)));
+    // A document without its last byte, and one of two bytes.
+    let cut = next_frame(alloc, &bytes[..16], 5, 1);
+    assert!(rt; is_fault(alloc, cut, "bad length at 5 in 1:"));
+    let cut = next_frame(alloc, &bytes[..7], 5, 1);
+    assert!(rt; is_fault(alloc, cut, "length cut short at 5 in 1:"));
 }

@@ -21,7 +21,7 @@ const ONE: &[u8] = b"\x0c\0\0\0\x10a\0\x01\0\0\0\0";
 const THREE: &[u8] = b"\x05\0\0\0\0\x0c\0\0\0\x10a\0\x01\0\0\0\0\x05\0\0\0\0";
 
 /// What a call answered.
-#[derive(Clone, Copy, Debug, PartialEq, Eq)]
+#[derive(Clone, Copy, PartialEq, Eq)]
 enum Answer {
     /// A document: its start, its number and how many bytes it has.
     Document(u64, u32, usize),
@@ -62,6 +62,20 @@ fn read_next(documents: &mut DocBuffer, input: &mut MemoryInput<'_>) -> Answer {
     }
 }
 
+/// A buffer that holds the last of so many documents of the input.
+fn read_documents(
+    rt: &impl Abort,
+    alloc: Global,
+    input: &mut MemoryInput<'_>,
+    count: u32,
+) -> DocBuffer {
+    let mut documents = DocBuffer::new(alloc, AMPLE);
+    for _ in 0..count {
+        assert!(rt; matches!(documents.read_next(input), Ok(true)));
+    }
+    documents
+}
+
 #[test]
 fn limits_of_bytes_and_of_turns(rt: HostRuntime) {
     let document = Answer::Document(0, 0, 5);
@@ -76,31 +90,27 @@ fn limits_of_bytes_and_of_turns(rt: HostRuntime) {
         assert!(rt; bytes <= 5);
         let input = MemoryInput::new(EMPTY, 1, None);
         let mut reader = DocReader::new(rt.alloc(), input, Limits { bytes, turns });
-        assert_eq!(rt; of_next(reader.next()), first, "at {bytes}, {turns}");
-        assert_eq!(rt; of_next(reader.next()), second, "at {bytes}, {turns}");
+        let found = of_next(reader.next());
+        assert!(rt; found == first, "first of {bytes} bytes, {turns} turns");
+        let found = of_next(reader.next());
+        assert!(rt; found == second, "second of {bytes} bytes, {turns} turns");
         assert!(rt; reader.held() <= 16_793_600);
     }
 }
 
 #[test]
 fn turns_end_amid_many_documents(rt: HostRuntime) -> Result<(), Fail> {
-    let mut bytes = Vec::new(rt.alloc());
-    for _ in 0..100 {
-        bytes.extend_from_slice(EMPTY)?;
-    }
+    let bytes = EMPTY.repeat(rt.alloc(), 100)?;
     let limits = Limits {
         bytes: 100,
         turns: 20,
     };
     let mut reader = DocReader::new(rt.alloc(), MemoryInput::new(&bytes, 1, None), limits);
     for (number, start) in [(0, 0), (1, 5), (2, 10), (3, 15)] {
-        assert_eq!(rt; of_next(reader.next()), Answer::Document(start, number, 5));
+        assert!(rt; of_next(reader.next()) == Answer::Document(start, number, 5));
     }
-    assert_eq!(rt;
-        of_next(reader.next()),
-        Answer::Read(ReadFault::TooManyTurns)
-    );
-    assert_eq!(rt; of_next(reader.next()), Answer::Failed);
+    assert!(rt; of_next(reader.next()) == Answer::Read(ReadFault::TooManyTurns));
+    assert!(rt; of_next(reader.next()) == Answer::Failed);
     Ok(())
 }
 
@@ -114,12 +124,12 @@ fn each_document_with_its_start_and_number(rt: HostRuntime) -> Result<(), Fail> 
             let Ok(Some(document)) = reader.next() else {
                 return Err(Fail::from("a document was wanted"));
             };
-            assert_eq!(rt; document.number, number, "at {most}");
-            assert_eq!(rt; document.start, start, "at {most}");
-            assert_eq!(rt; document.bytes, bytes, "at {most}");
+            assert!(rt; document.number == number, "at {most}");
+            assert!(rt; document.start == start, "at {most}");
+            assert!(rt; document.bytes == bytes, "at {most}");
         }
-        assert_eq!(rt; of_next(reader.next()), Answer::End);
-        assert_eq!(rt; of_next(reader.next()), Answer::End);
+        assert!(rt; of_next(reader.next()) == Answer::End, "at {most}");
+        assert!(rt; of_next(reader.next()) == Answer::End, "again at {most}");
     }
     Ok(())
 }
@@ -140,27 +150,23 @@ fn no_read_more_than_a_document_takes(rt: HostRuntime) {
         let mut documents = DocBuffer::new(rt.alloc(), AMPLE);
         for count in counts {
             assert!(rt; matches!(documents.read_next(&mut input), Ok(true)));
-            assert_eq!(rt; input.calls(), count, "at {most}");
+            assert!(rt; input.calls() == count, "at {most}");
         }
-        assert_eq!(rt; read_next(&mut documents, &mut input), Answer::End);
-        assert_eq!(rt; input.calls(), all, "at {most}");
-        assert_eq!(rt; input.failures(), 0);
+        assert!(rt; matches!(documents.read_next(&mut input), Ok(false)));
+        assert!(rt; input.calls() == all, "at {most}");
+        assert!(rt; input.failures() == 0);
     }
 }
 
 #[test]
-fn no_byte_behind_a_document_is_taken(rt: HostRuntime) -> Result<(), Fail> {
+fn no_byte_after_a_document_is_taken(rt: HostRuntime) -> Result<(), Fail> {
     for most in [1, 2, 3, 7, 100] {
         assert!(rt; most > 0);
-        let rest: &[u8] = b"\x0c\0\0\0\x10a\0\x01\0\0\0\0\x05\0\0\0\0";
-        for (count, left) in [(0, THREE), (1, rest), (2, EMPTY), (3, b"")] {
+        for (count, left) in [(0, THREE), (1, &THREE[5..]), (2, EMPTY), (3, b"")] {
             let mut input = MemoryInput::new(THREE, most, None);
-            let mut documents = DocBuffer::new(rt.alloc(), AMPLE);
-            for _ in 0..count {
-                assert!(rt; matches!(documents.read_next(&mut input), Ok(true)));
-            }
+            let _documents = read_documents(&rt, rt.alloc(), &mut input, count);
             let read = read_all(rt.alloc(), &mut input, AMPLE)?;
-            assert_eq!(rt; read.as_slice(), left, "behind {count} at {most}");
+            assert!(rt; read.as_slice() == left, "after {count} at {most}");
         }
     }
     Ok(())
@@ -170,15 +176,15 @@ fn no_byte_behind_a_document_is_taken(rt: HostRuntime) -> Result<(), Fail> {
 fn an_empty_device_has_no_document(rt: HostRuntime) {
     let mut input = MemoryInput::new(b"", 8, None);
     let mut documents = DocBuffer::new(rt.alloc(), AMPLE);
-    assert_eq!(rt; read_next(&mut documents, &mut input), Answer::End);
-    assert_eq!(rt; input.calls(), 1);
-    assert_eq!(rt; documents.held(), 0);
+    assert!(rt; matches!(documents.read_next(&mut input), Ok(false)));
+    assert!(rt; input.calls() == 1);
+    assert!(rt; documents.held() == 0);
     let mut reader = DocReader::new(rt.alloc(), MemoryInput::new(b"", 8, None), AMPLE);
-    assert_eq!(rt; of_next(reader.next()), Answer::End);
+    assert!(rt; matches!(reader.next(), Ok(None)));
 }
 
 /// Reads the fault of bytes that are no document and follow so many documents. Then no read is made.
-fn fault_behind(
+fn fault_after(
     rt: &impl Abort,
     alloc: Global,
     input: &mut MemoryInput<'_>,
@@ -186,43 +192,36 @@ fn fault_behind(
     fault: Answer,
     calls: u64,
 ) {
-    let mut documents = DocBuffer::new(alloc, AMPLE);
-    for _ in 0..count {
-        assert!(rt; matches!(documents.read_next(input), Ok(true)));
-    }
-    assert_eq!(rt; read_next(&mut documents, input), fault);
+    let mut documents = read_documents(rt, alloc, input, count);
+    assert!(rt; read_next(&mut documents, input) == fault);
     assert!(rt; documents.bytes().is_empty());
-    assert_eq!(rt; input.calls(), calls);
-    assert_eq!(rt; read_next(&mut documents, input), Answer::Failed);
-    assert_eq!(rt; read_next(&mut documents, input), Answer::Failed);
-    assert_eq!(rt; input.calls(), calls);
+    assert!(rt; input.calls() == calls);
+    for _ in 0..2 {
+        assert!(rt; matches!(documents.read_next(input), Err(DocFault::Failed)));
+    }
+    assert!(rt; input.calls() == calls);
 }
 
+/// A read for each byte, and one that finds the end: two for one byte of a length, three for two and four for three, and
+/// five more after a document.
 #[test]
 fn lengths_cut_short(rt: HostRuntime) {
-    // A read for each byte, and one that finds the end.
-    let alone: [(&[u8], u64); 3] = [(b"\x01", 2), (b"\x01\0", 3), (b"\x01\0\0", 4)];
-    for (bytes, calls) in alone {
-        let mut input = MemoryInput::new(bytes, 1, None);
+    let bytes = b"\x05\0\0\0\0\x01\0\0";
+    for size in 1..4 {
+        let calls = size as u64 + 1;
+        let mut alone = MemoryInput::new(&bytes[5..5 + size], 1, None);
         let fault = Answer::Frame(FaultKind::ShortLength, 0, 0);
-        fault_behind(&rt, rt.alloc(), &mut input, 0, fault, calls);
-    }
-    let behind: [(&[u8], u64); 3] = [
-        (b"\x05\0\0\0\0\x01", 7),
-        (b"\x05\0\0\0\0\x01\0", 8),
-        (b"\x05\0\0\0\0\x01\0\0", 9),
-    ];
-    for (bytes, calls) in behind {
-        let mut input = MemoryInput::new(bytes, 1, None);
+        fault_after(&rt, rt.alloc(), &mut alone, 0, fault, calls);
+        let mut second = MemoryInput::new(&bytes[..5 + size], 1, None);
         let fault = Answer::Frame(FaultKind::ShortLength, 5, 1);
-        fault_behind(&rt, rt.alloc(), &mut input, 1, fault, calls);
+        fault_after(&rt, rt.alloc(), &mut second, 1, fault, calls + 5);
     }
 }
 
 #[test]
-fn bad_lengths_end_behind_four_bytes(rt: HostRuntime) -> Result<(), Fail> {
+fn bad_lengths_end_after_four_bytes(rt: HostRuntime) -> Result<(), Fail> {
     // 4, -1 or 4,294,967,295, 2,147,483,648, and one more than a document may have.
-    let rows: [&[u8]; 4] = [
+    let rows = [
         b"\x04\0\0\0rest",
         b"\xff\xff\xff\xffrest",
         b"\0\0\0\x80rest",
@@ -231,31 +230,21 @@ fn bad_lengths_end_behind_four_bytes(rt: HostRuntime) -> Result<(), Fail> {
     for bytes in rows {
         let mut input = MemoryInput::new(bytes, 3, None);
         let fault = Answer::Frame(FaultKind::BadLength, 0, 0);
-        fault_behind(&rt, rt.alloc(), &mut input, 0, fault, 2);
+        fault_after(&rt, rt.alloc(), &mut input, 0, fault, 2);
         let rest = read_all(rt.alloc(), &mut input, AMPLE)?;
-        assert_eq!(rt; rest.as_slice(), b"rest".as_slice());
+        assert!(rt; rest.as_slice() == b"rest".as_slice());
     }
     Ok(())
 }
 
+/// A read for each byte, and one that finds the end: 5 for 4 bytes, and so on up to 12 for 11.
 #[test]
 fn documents_cut_short(rt: HostRuntime) {
-    // A read for each byte, and one that finds the end.
-    let rows = [
-        (4, 5),
-        (5, 6),
-        (6, 7),
-        (7, 8),
-        (8, 9),
-        (9, 10),
-        (10, 11),
-        (11, 12),
-    ];
-    for (size, calls) in rows {
-        assert!(rt; size <= ONE.len());
+    for size in 4..12 {
+        let calls = size as u64 + 1;
         let mut input = MemoryInput::new(&ONE[..size], 1, None);
         let fault = Answer::Frame(FaultKind::BadLength, 0, 0);
-        fault_behind(&rt, rt.alloc(), &mut input, 0, fault, calls);
+        fault_after(&rt, rt.alloc(), &mut input, 0, fault, calls);
     }
 }
 
@@ -272,46 +261,37 @@ fn a_read_that_fails_is_the_last(rt: HostRuntime) -> Result<(), Fail> {
     for (failing, left) in rows {
         let mut input = MemoryInput::new(ONE, 1, Some(failing));
         let fault = Answer::Read(ReadFault::Device);
-        fault_behind(&rt, rt.alloc(), &mut input, 0, fault, failing);
-        assert_eq!(rt; input.failures(), 1);
+        fault_after(&rt, rt.alloc(), &mut input, 0, fault, failing);
+        assert!(rt; input.failures() == 1);
         let rest = read_all(rt.alloc(), &mut input, AMPLE)?;
-        assert_eq!(rt; rest.as_slice(), left, "at {failing}");
+        assert!(rt; rest.as_slice() == left, "at {failing}");
     }
     let mut input = MemoryInput::new(THREE, 1, Some(7));
-    fault_behind(
-        &rt,
-        rt.alloc(),
-        &mut input,
-        1,
-        Answer::Read(ReadFault::Device),
-        7,
-    );
-    assert_eq!(rt; input.failures(), 1);
+    let fault = Answer::Read(ReadFault::Device);
+    fault_after(&rt, rt.alloc(), &mut input, 1, fault, 7);
+    assert!(rt; input.failures() == 1);
     Ok(())
 }
 
 #[test]
 fn documents_share_what_is_held(rt: HostRuntime) -> Result<(), Fail> {
-    let mut bytes = Vec::new(rt.alloc());
-    for _ in 0..50 {
-        bytes.extend_from_slice(ONE)?;
-    }
+    let mut bytes = ONE.repeat(rt.alloc(), 50)?;
     bytes.extend_from_slice(EMPTY)?;
     let mut reader = DocReader::new(rt.alloc(), MemoryInput::new(&bytes, 100, None), AMPLE);
-    assert_eq!(rt; reader.held(), 0);
+    assert!(rt; reader.held() == 0);
     assert!(rt; matches!(reader.advance(), Ok(true)));
     let held = reader.held();
     assert!(rt; held >= 12);
     for _ in 1..50 {
         assert!(rt; matches!(reader.advance(), Ok(true)));
-        assert_eq!(rt; reader.bytes(), ONE);
+        assert!(rt; reader.bytes() == ONE);
     }
-    assert_eq!(rt; reader.held(), held);
+    assert!(rt; reader.held() == held);
     assert!(rt; matches!(reader.advance(), Ok(true)));
-    assert_eq!(rt; reader.bytes(), EMPTY);
-    assert_eq!(rt; reader.held(), held);
+    assert!(rt; reader.bytes() == EMPTY);
+    assert!(rt; reader.held() == held);
     assert!(rt; matches!(reader.advance(), Ok(false)));
-    assert_eq!(rt; reader.held(), held);
+    assert!(rt; reader.held() == held);
     Ok(())
 }
 
@@ -319,18 +299,22 @@ fn documents_share_what_is_held(rt: HostRuntime) -> Result<(), Fail> {
 fn place_number_and_bytes_of_a_buffer(rt: HostRuntime) {
     let mut input = MemoryInput::new(THREE, 7, None);
     let mut documents = DocBuffer::new(rt.alloc(), AMPLE);
-    assert_eq!(rt; documents.place(), 0);
-    assert_eq!(rt; documents.number(), 0);
-    assert!(rt; documents.bytes().is_empty());
-    for (place, number, bytes) in [(5, 1, EMPTY), (17, 2, ONE), (22, 3, EMPTY)] {
-        assert!(rt; matches!(documents.read_next(&mut input), Ok(true)));
-        assert_eq!(rt; documents.place(), place);
-        assert_eq!(rt; documents.number(), number);
-        assert_eq!(rt; documents.bytes(), bytes);
+    let none: &[u8] = b"";
+    let rows = [
+        (0, 0, none, true),
+        (1, 5, EMPTY, true),
+        (2, 17, ONE, true),
+        (3, 22, EMPTY, false),
+    ];
+    for (number, place, bytes, more) in rows {
+        assert!(rt; documents.number() == number);
+        assert!(rt; documents.place() == place);
+        assert!(rt; documents.bytes() == bytes);
+        let next = documents.read_next(&mut input);
+        assert!(rt; next.is_ok_and(|found| found == more), "at {place}");
     }
-    assert!(rt; matches!(documents.read_next(&mut input), Ok(false)));
-    assert_eq!(rt; documents.place(), 22);
-    assert_eq!(rt; documents.number(), 3);
+    assert!(rt; documents.number() == 3);
+    assert!(rt; documents.place() == 22);
     assert!(rt; documents.bytes().is_empty());
 }
 
@@ -339,7 +323,7 @@ fn a_reader_of_the_systems(rt: HostRuntime) {
     let mut reader = DocReader::new(rt.alloc(), SystemInput::new(THREE), AMPLE);
     for (number, start, size) in [(0, 0, 5), (1, 5, 12), (2, 17, 5)] {
         let want = Answer::Document(start, number, size);
-        assert_eq!(rt; of_next(reader.next()), want);
+        assert!(rt; of_next(reader.next()) == want);
     }
-    assert_eq!(rt; of_next(reader.next()), Answer::End);
+    assert!(rt; of_next(reader.next()) == Answer::End);
 }
