@@ -76,8 +76,11 @@ def link_or_copy(file, to):
 
 def copy_tree(crate, below, room):
     """Makes a tree in which rt can prove the crate: sources, and the proved crates below, whose files are not copied."""
-    shutil.copy(f"{ROOT}/crates.txt", room)
-    shutil.copy(f"{ROOT}/HANDLES", room)
+    # rt wants the folder of each crate that is listed
+    with open(f"{ROOT}/crates.txt", encoding="utf-8") as file:
+        lines = [line for line in file if line.partition(":")[0].strip() in [*below, crate]]
+    with open(f"{room}/crates.txt", "w", encoding="utf-8") as file:
+        file.writelines(lines)
     for it in [*below, crate]:
         for part in PARTS:
             if os.path.isdir(f"{ROOT}/crates/{it}/{part}"):
@@ -165,8 +168,10 @@ def main():
     if wanted:
         print(f"proving and building {PROGRAM}", flush=True)
     # rt has no call that builds a program and does not run it, so the program is asked for its usage
-    ran = subprocess.run(["rt", "run", "--", "--help"], cwd=f"{ROOT}/crates/{PROGRAM}", stdout=subprocess.DEVNULL)
+    how = {"stdin": subprocess.DEVNULL, "stdout": subprocess.PIPE, "stderr": subprocess.STDOUT, "errors": "replace"}
+    ran = subprocess.run(["rt", "run", "--", "--help"], cwd=f"{ROOT}/crates/{PROGRAM}", **how)
     if ran.returncode:
+        print(ran.stdout[-4000:])
         return 1
     shutil.copy(f"{ROOT}/crates/{PROGRAM}/out/{PROGRAM}", f"{ROOT}/{PROGRAM}")
     return 0
