@@ -20,12 +20,20 @@ use json::{Reader, Scratch, Token};
 use std::alloc::Global;
 
 /// Appends an element of a value in memory.
-fn append_read(name: &str, value: &Value, out: &mut Vec<u8>) -> Option<()>
+fn append_held(name: &str, value: &Value, out: &mut Vec<u8>) -> Option<()>
     requires { zero_in (tree_of value.now) ≡ false }
     ensures { IfSome result (λ u. out.new.items ≡ out.old.items ++ element (tree_of value.now) name.now (bytes_of (tree_of value.now))) }
 {
     append_label(value.kind(), name, out).ok()?;
     append_value(Tree::Value(value), out).ok()
+}
+
+/// Appends an element of a value that was read, and lets the value go.
+fn append_read(name: &str, value: Value, out: &mut Vec<u8>) -> Option<()>
+    requires { zero_in (tree_of value) ≡ false }
+    ensures { IfSome result (λ u. out.new.items ≡ out.old.items ++ element (tree_of value) name.now (bytes_of (tree_of value))) }
+{
+    append_held(name, &value, out)
 }
 
 /// Appends an element of a text.
@@ -54,9 +62,9 @@ fn append_next(
 {
     match reader.next()? {
         Token::String(text) => append_text(name, text, out),
-        Token::Number(text) => append_read(name, &bare_number(text)?, out),
-        Token::Bool(b) => append_read(name, &Value::Bool(b), out),
-        Token::Null => append_read(name, &Value::Null, out),
+        Token::Number(text) => append_read(name, bare_number(text)?, out),
+        Token::Bool(b) => append_read(name, Value::Bool(b), out),
+        Token::Null => append_read(name, Value::Null, out),
         Token::EndObject | Token::EndArray | Token::Key(_) | Token::Bad => None,
         Token::BeginArray => {
             if depth == 0 || room == 0 {
@@ -114,7 +122,7 @@ fn append_object(
     let first = reader.next_key().ok()?;
     if let Some(wrapper) = wrapper_named(first) {
         let value = read_wrapper(alloc, reader, wrapper, room, depth).ok()?;
-        return append_read(name, &value, out);
+        return append_read(name, value, out);
     }
     if room == 0 {
         return None;
