@@ -126,7 +126,8 @@ class Progress:
 
 
 def prove_all(wanted, below):
-    """Proves the crates, each once those below it are proved and first those with the longest chain of others above."""
+    """Proves the crates, each once those below it are proved. The one with the longest chain of others above it comes first
+    and gets a job for each processor, since the others wait for it; those beside it get one each."""
     left, proved, running = set(wanted), {it for it in below if it not in wanted}, {}
     lines = {it: weight(it) for it in wanted}
     chain = {}
@@ -136,17 +137,15 @@ def prove_all(wanted, below):
     with ThreadPoolExecutor(cores) as pool:
         while left or running:
             ready = sorted((it for it in left if proved.issuperset(below[it])), key=lambda it: -chain[it])
-            busy = sum(jobs for _, jobs in running.values())
-            while ready and busy < cores and (not running or free_memory() > CRATE_MEMORY):
+            while ready and len(running) < cores and (not running or free_memory() > CRATE_MEMORY):
                 crate = ready.pop(0)
+                is_first = all(chain[crate] >= chain[it] for it in running.values())
                 spare = 1 + max(int((free_memory() - CRATE_MEMORY) // JOB_MEMORY), 0)
-                jobs = max(1, min((cores - busy) // (len(ready) + 1), spare))
                 left.remove(crate)
                 progress.begins(crate)
-                running[pool.submit(prove, crate, below[crate], jobs)] = crate, jobs
-                busy += jobs
+                running[pool.submit(prove, crate, below[crate], min(cores, spare) if is_first else 1)] = crate
             for ended in wait(running, return_when=FIRST_COMPLETED).done:
-                crate, _ = running.pop(ended)
+                crate = running.pop(ended)
                 is_well, said = ended.result()
                 if not is_well:
                     print(said[-4000:])
