@@ -34,7 +34,7 @@ pub enum Value {
     /// Element 0x05: bytes of a subtype.
     Binary {
         subtype: u8,
-        /// Of subtype 02 the bytes behind its inner length.
+        /// Of subtype 02 the bytes after its inner length.
         payload: Vec<u8>,
     },
     /// Element 0x07: 12 bytes.
@@ -85,7 +85,7 @@ impl Document {
         }
     }
 
-    /// Adds a pair behind the last one.
+    /// Adds a pair after the last one.
     ///
     /// `NoMemory` leaves the document as it was, and drops the name and the value.
     pub fn push(&mut self, name: String, value: Value) -> Result<(), NoMemory>

@@ -1,11 +1,19 @@
 //! BSON values and documents in memory.
 //!
 //! A contract sees a value as a tree and a document as a list of pairs of a name and a tree: `specs/Tree.antt` and
-//! `specs/View.antt`.
+//! `specs/View.antt`. That the numbers and the texts in it fit their types, a proof has after a call of `value_fits`,
+//! `document_fits` or `node_fits`: `specs/Fits.antt`.
+//!
+//! - `document`: `Document` and `Value`.
+//! - `kind`, `scalar`, `lookup`, `nesting`, `zeros`: what is asked of a value.
+//! - `node`: `Reading` and `Node`, a value wherever it lies; `tree`, one in memory.
+//! - `copying`: any of them copied into memory.
+//! - `fits`: what the types of a value in hand promise.
 #![tactic(auto)]
 
 mod copying;
 mod document;
+mod fits;
 mod kind;
 mod lookup;
 mod nesting;
@@ -16,6 +24,7 @@ mod zeros;
 
 pub use copying::{to_document, to_value};
 pub use document::{Document, NoMemory, Value};
+pub use fits::{document_fits, node_fits, value_fits};
 pub use kind::Kind;
 pub use nesting::{depth, depth_of};
 pub use node::{Node, Reading};

@@ -69,7 +69,7 @@ pub trait Reading: Copy {
         ensures parts { AreParts (tree self) (left result) }
         ensures kept { rest_source result ≡ source self };
 
-    /// The next of them: its name, its value, and those behind it.
+    /// The next of them: its name, its value, and those after it.
     fn next(rest: &Self::Rest) -> Option<(&str, Self, Self::Rest)>
         ensures some { IfSome result (λ x. left rest.now ≡ (x.0.now, tree x.1) ∷ left x.2) }
         ensures kept { IfSome result (λ x. source x.1 ≡ rest_source rest.now) }

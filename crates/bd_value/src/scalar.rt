@@ -14,7 +14,7 @@ pub enum Scalar<'a> {
     Symbol(&'a str),
     Binary {
         subtype: u8,
-        /// Of subtype 02 the bytes behind its inner length.
+        /// Of subtype 02 the bytes after its inner length.
         payload: &'a [u8],
     },
     ObjectId([u8; 12]),

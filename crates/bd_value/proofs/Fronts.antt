@@ -1,0 +1,31 @@
+-- What a vector held before is still a front of it, also where memory gave out in the middle.
+use Rattle.std.proofs.Common.{◌≡◌, ℕ, List, ◌++◌, length, take, drop, append_assoc, sym, ap, ◌∙◌}
+use Rattle.std.specs.Io.{StartsWith}
+use Rattle.std.proofs.Math.Seq.{take-append_seam, take-length}
+use Rattle.std.proofs.lemmas.List.{take-append-drop}
+
+pub seam : (a b : List ℕ) → take (length a) (a ++ b) ≡ a
+seam a b = take-append_seam a b
+
+pub whole : (a : List ℕ) → take (length a) a ≡ a
+whole a = take-length a
+
+pub parts : (n : ℕ) (a : List ℕ) → take n a ++ drop n a ≡ a
+parts n a = take-append-drop n a
+
+pub regroup : (a b c : List ℕ) → (a ++ b) ++ c ≡ a ++ (b ++ c)
+regroup a b c = append_assoc a b c
+
+pub ruleset fronts = (seam, whole, parts, regroup)
+
+pub front_more : (a b x c : List ℕ) → StartsWith b a → c ≡ b ++ x → StartsWith c a
+front_more a b x c front is =
+    let d = drop (length a) b in
+    let cut : c ≡ a ++ (d ++ x) = is ∙ ap (λ (l : List ℕ). l ++ x) (sym (take-append-drop (length a) b) ∙ ap (λ (l : List ℕ). l ++ d) front) ∙ append_assoc a d x in
+    ap (λ (l : List ℕ). take (length a) l) cut ∙ take-append_seam a (d ++ x)
+
+pub front_then : (a b c : List ℕ) → StartsWith b a → StartsWith c b → StartsWith c a
+front_then a b c front more = front_more a b (drop (length b) c) c front (sym (take-append-drop (length b) c) ∙ ap (λ (l : List ℕ). l ++ drop (length b) c) more)
+
+pub front_all : (a x : List ℕ) {c : List ℕ} → c ≡ a ++ x → StartsWith c a
+front_all a x {c} is = ap (λ (l : List ℕ). take (length a) l) is ∙ take-append_seam a x

@@ -1,0 +1,92 @@
+-- What the type of a value in memory says of its tree: each number fits, what is bytes is bytes, and what is text is UTF-8.
+use Rattle.std.specs.Prelude.{◌≡◌, ◌<◌, ◌^◌, ℕ, List, length, slice_index, IsUtf8}
+use Rattle.std.specs.Int.{w32, w64}
+use Rattle.std.specs.Int.RustNames.{FitsSigned}
+use Rattle.bd_value.specs.Seen.{Own, own, own_code}
+use Rattle.bd_value.specs.Tree.{Scalar, min_key, undefined, null, int32, int64, text, symbol, binary, object_id, boolean, date, timestamp, regex, db_pointer, code, max_key}
+use Rattle.bd_value.specs.Tree.{Tree, leaf, doc, array, code_scope, Items, no_items, item, Fields, no_fields, field}
+
+-- each of them is a byte
+abbrev pub AreBytes : List ℕ → Type 0
+AreBytes bytes = (i : ℕ) → slice_index bytes i < 256
+
+-- An id is twelve bytes.
+abbrev pub IsId : List ℕ → Type 0
+IsId id = (length id ≡ 12) × AreBytes id
+
+-- Each number has the bits of its BSON type, and what is no text is bytes.
+abbrev pub ScalarFitsType : Scalar → Type 0
+ScalarFitsType min_key = Unit {0}
+ScalarFitsType undefined = Unit {0}
+ScalarFitsType null = Unit {0}
+ScalarFitsType (int32 z) = FitsSigned w32 z
+ScalarFitsType (int64 z) = FitsSigned w64 z
+ScalarFitsType (text s) = Unit {0}
+ScalarFitsType (symbol s) = Unit {0}
+ScalarFitsType (binary subtype bytes) = (subtype < 256) × AreBytes bytes
+ScalarFitsType (object_id id) = IsId id
+ScalarFitsType (boolean b) = Unit {0}
+ScalarFitsType (date z) = FitsSigned w64 z
+ScalarFitsType (timestamp seconds increment) = (seconds < 2 ^ 32) × (increment < 2 ^ 32)
+ScalarFitsType (regex pattern options) = Unit {0}
+ScalarFitsType (db_pointer space id) = IsId id
+ScalarFitsType (code s) = Unit {0}
+ScalarFitsType max_key = Unit {0}
+
+abbrev mutual
+  pub FitsTypes : Tree → Type 0
+  FitsTypes (leaf s) = ScalarFitsType s
+  FitsTypes (doc fs) = FieldsFitTypes fs
+  FitsTypes (array ts) = ItemsFitTypes ts
+  FitsTypes (code_scope s fs) = FieldsFitTypes fs
+
+  pub ItemsFitTypes : Items → Type 0
+  ItemsFitTypes no_items = Unit {0}
+  ItemsFitTypes (item t ts) = FitsTypes t × ItemsFitTypes ts
+
+  pub FieldsFitTypes : Fields → Type 0
+  FieldsFitTypes no_fields = Unit {0}
+  FieldsFitTypes (field n t fs) = FitsTypes t × FieldsFitTypes fs
+
+abbrev pub ScalarHasUtf8 : Scalar → Type 0
+ScalarHasUtf8 min_key = Unit {0}
+ScalarHasUtf8 undefined = Unit {0}
+ScalarHasUtf8 null = Unit {0}
+ScalarHasUtf8 (int32 z) = Unit {0}
+ScalarHasUtf8 (int64 z) = Unit {0}
+ScalarHasUtf8 (text s) = IsUtf8 s
+ScalarHasUtf8 (symbol s) = IsUtf8 s
+ScalarHasUtf8 (binary subtype bytes) = Unit {0}
+ScalarHasUtf8 (object_id id) = Unit {0}
+ScalarHasUtf8 (boolean b) = Unit {0}
+ScalarHasUtf8 (date z) = Unit {0}
+ScalarHasUtf8 (timestamp seconds increment) = Unit {0}
+ScalarHasUtf8 (regex pattern options) = IsUtf8 pattern × IsUtf8 options
+ScalarHasUtf8 (db_pointer space id) = IsUtf8 space
+ScalarHasUtf8 (code s) = IsUtf8 s
+ScalarHasUtf8 max_key = Unit {0}
+
+-- each text and each name in the tree is UTF-8
+abbrev mutual
+  pub HasUtf8 : Tree → Type 0
+  HasUtf8 (leaf s) = ScalarHasUtf8 s
+  HasUtf8 (doc fs) = FieldsHaveUtf8 fs
+  HasUtf8 (array ts) = ItemsHaveUtf8 ts
+  HasUtf8 (code_scope s fs) = IsUtf8 s × FieldsHaveUtf8 fs
+
+  pub ItemsHaveUtf8 : Items → Type 0
+  ItemsHaveUtf8 no_items = Unit {0}
+  ItemsHaveUtf8 (item t ts) = HasUtf8 t × ItemsHaveUtf8 ts
+
+  pub FieldsHaveUtf8 : Fields → Type 0
+  FieldsHaveUtf8 no_fields = Unit {0}
+  FieldsHaveUtf8 (field n t fs) = IsUtf8 n × (HasUtf8 t × FieldsHaveUtf8 fs)
+
+-- of what holds no other values: a scalar, or the code of code with scope
+abbrev pub OwnFitsType : Own → Type 0
+OwnFitsType (own s) = ScalarFitsType s
+OwnFitsType (own_code s) = Unit {0}
+
+abbrev pub OwnHasUtf8 : Own → Type 0
+OwnHasUtf8 (own s) = ScalarHasUtf8 s
+OwnHasUtf8 (own_code s) = IsUtf8 s
