@@ -1,37 +1,92 @@
--- What runs of reads and of writes did, also where the device's bytes are not known.
+-- Readers and writers before a run and after it, also where their bytes are not known.
 use Rattle.std.specs.Prelude.{◌≡◌, ℕ, suc, ◌<◌, ◌≤◌, List, [], ◌++◌, length, take, drop, Option, None, Some, Result, Ok, Err}
 use Rattle.std.specs.Io.KnownBytes.{Appends, Consumes}
+use Rattle.bd_device.specs.Counts.{after_more}
 
--- what a read into this room gave: its bytes, or none where it failed
-abbrev pub given : {E : Type 0} → Result ℕ E → List ℕ → Option (List ℕ)
-given (Ok n) room = Some (take n room)
-given (Err _) room = None
+-- a reader: the bytes that it will still give, where they are known, how many reads were made, and how many failed
+pub record Reader : Type 0 where
+  pub left : Option (List ℕ)
+  pub calls : ℕ
+  pub failures : ℕ
 
--- how many bytes a write took, or none where it failed
-abbrev pub taken : {E : Type 0} → Result ℕ E → Option ℕ
-taken (Ok n) = Some n
-taken (Err _) = None
+-- a writer: the bytes that it holds, where they are known, how many writes were made, and how many failed
+pub record Writer : Type 0 where
+  pub held : Option (List ℕ)
+  pub calls : ℕ
+  pub failures : ℕ
 
--- so many reads in a row led from one device to the other; each gave a byte at least, and all of them gave these bytes
-pub data Reads {S : Type 0} (gives : S → Option (List ℕ) → S → Type 0) : ℕ → S → List ℕ → S → Type 0 where
-  no_read : (s : S) → Reads gives 0 s [] s
-  more_reads : (n : ℕ) (s t u : S) (front part : List ℕ) → Reads gives n s front t → gives t (Some part) u → 0 < length part
-      → Reads gives (suc n) s (front ++ part) u
+-- a device before a run and after it
+pub record Over (Device : Type 0) : Type 0 where
+  pub before : Device
+  pub after : Device
 
--- writes in a row led from one device to the other; each was of all that was left of the bytes and took some of them
-pub data Writes {S : Type 0} (takes : S → List ℕ → Option ℕ → S → Type 0) (bytes : List ℕ) : S → List ℕ → S → Type 0 where
-  no_write : (s : S) → Writes takes bytes s bytes s
-  more_writes : (s t u : S) (rest : List ℕ) (n : ℕ) → Writes takes bytes s rest t → takes t rest (Some n) u → 0 < n
-      → Writes takes bytes s (drop n rest) u
+abbrev pub between : {Device : Type 0} → Device → Device → Over Device
+between before after = record { before = before; after = after }
 
--- known bytes of a reader lost a front
-abbrev pub LosesFront : Option (List ℕ) → Option (List ℕ) → Type 0
-LosesFront old new = (front : List ℕ) × Consumes old new front
+-- the same for a value that has such a device, as the state of it tells
+abbrev pub over : {D Device : Type 0} → (D → Device) → D → D → Over Device
+over state old new = between (state old) (state new)
+
+-- the writer took the whole text, and no write failed
+abbrev pub TakesText : Over Writer → List ℕ → Type 0
+TakesText out text = Appends out.before.held out.after.held text × (out.after.failures ≡ out.before.failures)
 
 -- known bytes of a writer grew by a front of these
 abbrev pub AppendsFront : Option (List ℕ) → Option (List ℕ) → List ℕ → Type 0
-AppendsFront old new bytes = (front : List ℕ) × (rest : List ℕ) × (bytes ≡ front ++ rest) × Appends old new front
+AppendsFront before after bytes =
+    (front : List ℕ) × (rest : List ℕ) × (bytes ≡ front ++ rest) × Appends before after front
+
+-- the writer took a front of the text, and no write failed
+abbrev pub TakesFront : Over Writer → List ℕ → Type 0
+TakesFront out text =
+    AppendsFront out.before.held out.after.held text × (out.after.failures ≡ out.before.failures)
+
+-- the writer took a front of the text, and then a write failed
+abbrev pub BreaksWithin : Over Writer → List ℕ → Type 0
+BreaksWithin out text =
+    AppendsFront out.before.held out.after.held text
+    × (out.after.failures ≡ after_more out.before.failures 1)
+
+-- the writer took the first text whole and a front of the second, and then a write failed
+abbrev pub BreaksAfter : Over Writer → List ℕ → List ℕ → Type 0
+BreaksAfter out whole text =
+    (front : List ℕ) × (rest : List ℕ) × (text ≡ front ++ rest)
+    × Appends out.before.held out.after.held (whole ++ front)
+    × (out.after.failures ≡ after_more out.before.failures 1)
+
+-- the reader gave no more than so many bytes
+abbrev pub TakesAtMost : ℕ → Over Reader → Type 0
+TakesAtMost limit file =
+    (given : List ℕ) × Consumes file.before.left file.after.left given × (length given ≤ limit)
+
+-- known bytes of a reader lost a front
+abbrev pub LosesFront : Option (List ℕ) → Option (List ℕ) → Type 0
+LosesFront before after = (front : List ℕ) × Consumes before after front
 
 -- known bytes of a reader lost so many at least
 abbrev pub LosesAtLeast : ℕ → Option (List ℕ) → Option (List ℕ) → Type 0
-LosesAtLeast n old new = (front : List ℕ) × Consumes old new front × (n ≤ length front)
+LosesAtLeast n before after = (front : List ℕ) × Consumes before after front × (n ≤ length front)
+
+-- what a read into this room gave: its bytes, or none where it failed
+abbrev pub bytes_given : {E : Type 0} → Result ℕ E → List ℕ → Option (List ℕ)
+bytes_given (Ok n) room = Some (take n room)
+bytes_given (Err _) room = None
+
+-- how many bytes a write took, or none where it failed
+abbrev pub count_taken : {E : Type 0} → Result ℕ E → Option ℕ
+count_taken (Ok n) = Some n
+count_taken (Err _) = None
+
+-- so many reads in a row led from one device to the other; each gave a byte at least, and all of them gave these bytes
+pub data AreReads {S : Type 0} (gives : S → Option (List ℕ) → S → Type 0) : ℕ → S → List ℕ → S → Type 0 where
+  no_read : (s : S) → AreReads gives 0 s [] s
+  more_reads : (n : ℕ) (s t u : S) (front part : List ℕ) → AreReads gives n s front t
+      → gives t (Some part) u → 0 < length part
+      → AreReads gives (suc n) s (front ++ part) u
+
+-- writes in a row led from one device to the other; each was of all that was left of the bytes and took some of them
+pub data AreWrites {S : Type 0} (takes : S → List ℕ → Option ℕ → S → Type 0) (bytes : List ℕ) : S → List ℕ → S → Type 0 where
+  no_write : (s : S) → AreWrites takes bytes s bytes s
+  more_writes : (s t u : S) (rest : List ℕ) (n : ℕ) → AreWrites takes bytes s rest t
+      → takes t rest (Some n) u → 0 < n
+      → AreWrites takes bytes s (drop n rest) u

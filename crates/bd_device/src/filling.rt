@@ -2,7 +2,8 @@
 ghost use Rattle.std.specs.Prelude.{◌≡◌, ℕ, List, ◌++◌, take, length, IfOk, IfErr, IsErrOf, ◌+◌, ◌-◌, ◌<◌, ◌≤◌};
 ghost use Rattle.std.specs.Io.KnownBytes.{IsAtEnd, Consumes};
 ghost use Rattle.bd_device.specs.Counts.{after_more};
-ghost use Rattle.bd_device.specs.Filling.{Unfilled};
+ghost use Rattle.bd_device.specs.Devices.{AreReads, over};
+ghost use Rattle.bd_device.specs.Filling.{FailsToFill, FillsRoom};
 
 use crate::input::Input;
 use crate::reading::{Limits, ReadFault};
@@ -19,19 +20,25 @@ pub struct Filled {
 /// Reads until the room is full or the device is at its end, as long as the limits let it. No read is made again.
 pub fn fill<R: Input>(reader: &mut R, room: &mut [u8], limits: Limits) -> Result<Filled, ReadFault>
     ensures fits { IfOk result (λ f. f.bytes ≤ length room.old) }
-    ensures bytes { IfOk result (λ f. Consumes (R.left reader.old) (R.left reader.new) (take f.bytes room.new)) }
-    ensures end { IfOk result (λ f. f.bytes < length room.old → IsAtEnd (R.left reader.new)) }
+    ensures bytes { IfOk result (λ f. Consumes (R.state reader.old).left (R.state reader.new).left (take f.bytes room.new)) }
+    ensures end { IfOk result (λ f. f.bytes < length room.old → IsAtEnd (R.state reader.new).left) }
     ensures within { IfOk result (λ f. (f.bytes ≤ limits.bytes) × (f.turns ≤ limits.turns)) }
-    ensures called { IfOk result (λ f. R.calls reader.new ≡ after_more (R.calls reader.old) f.turns) }
-    ensures turns { R.calls reader.new ≤ after_more (R.calls reader.old) limits.turns }
-    ensures unfilled { IfErr result (Unfilled (R.left reader.old) (R.left reader.new) (length room.old) limits.bytes) }
-    // All reads were made.
+    ensures called { IfOk result (λ f. (R.state reader.new).calls ≡ after_more (R.state reader.old).calls f.turns) }
+    ensures turns { (R.state reader.new).calls ≤ after_more (R.state reader.old).calls limits.turns }
+    ensures unfilled { IfErr result (FailsToFill (over R.state reader.old reader.new) (length room.old) limits.bytes) }
+    // The reads, also of an unknown device. Where too many would be wanted, all were made and each gave a byte at least.
+    ensures reads { IfOk result (λ f.
+        FillsRoom R.read_gives (length room.old) f.turns reader.old (take f.bytes room.new) reader.new) }
     ensures too_many { IsErrOf result ReadFault.TooManyTurns →
-        R.calls reader.new ≡ after_more (R.calls reader.old) limits.turns }
+        (given : List ℕ) × Consumes (R.state reader.old).left (R.state reader.new).left given
+        × (length given < length room.old) × (length given ≤ limits.bytes)
+        × AreReads R.read_gives limits.turns reader.old given reader.new }
+    ensures too_many_calls { IsErrOf result ReadFault.TooManyTurns →
+        (R.state reader.new).calls ≡ after_more (R.state reader.old).calls limits.turns }
     // The last read failed, and it alone: exactly then the count of failures rises.
     ensures failed { IsErrOf result ReadFault.Device →
-        R.failures reader.new ≡ after_more (R.failures reader.old) 1 }
-    ensures well { ¬ (IsErrOf result ReadFault.Device) → R.failures reader.new ≡ R.failures reader.old }
+        (R.state reader.new).failures ≡ after_more (R.state reader.old).failures 1 }
+    ensures well { ¬ (IsErrOf result ReadFault.Device) → (R.state reader.new).failures ≡ (R.state reader.old).failures }
     ensures memory { ¬ (IsErrOf result ReadFault.NoMemory) }
 {
     let mut bytes = 0;
@@ -55,7 +62,7 @@ pub fn fill<R: Input>(reader: &mut R, room: &mut [u8], limits: Limits) -> Result
     Ok(Filled { bytes, turns })
 }
 
-/// Puts four bytes at the front of a room, and fills it behind them up to `size`, which is at least 4 and no more than the
+/// Puts four bytes at the front of a room, and fills it after them up to `size`, which is at least 4 and no more than the
 /// room's length.
 pub fn fill_behind<R: Input>(
     reader: &mut R,
@@ -66,18 +73,23 @@ pub fn fill_behind<R: Input>(
 ) -> Result<Filled, ReadFault>
     requires { (4 ≤ size) × (size ≤ length room.old) }
     ensures fits { IfOk result (λ f. f.bytes + 4 ≤ size) }
-    ensures gives { IfOk result (λ f. (given : List ℕ) × Consumes (R.left reader.old) (R.left reader.new) given
-        × (length given ≡ f.bytes) × (take (4 + f.bytes) room.new ≡ head ++ given)) }
-    ensures end { IfOk result (λ f. f.bytes + 4 < size → IsAtEnd (R.left reader.new)) }
+    ensures gives { IfOk result (λ f. (given : List ℕ) × Consumes (R.state reader.old).left (R.state reader.new).left given
+        × (length given ≡ f.bytes) × (take (4 + f.bytes) room.new ≡ head ++ given)
+        × FillsRoom R.read_gives (size - 4) f.turns reader.old given reader.new) }
+    ensures end { IfOk result (λ f. f.bytes + 4 < size → IsAtEnd (R.state reader.new).left) }
     ensures within { IfOk result (λ f. (f.bytes ≤ limits.bytes) × (f.turns ≤ limits.turns)) }
-    ensures called { IfOk result (λ f. R.calls reader.new ≡ after_more (R.calls reader.old) f.turns) }
-    ensures turns { R.calls reader.new ≤ after_more (R.calls reader.old) limits.turns }
-    ensures unfilled { IfErr result (Unfilled (R.left reader.old) (R.left reader.new) (size - 4) limits.bytes) }
+    ensures called { IfOk result (λ f. (R.state reader.new).calls ≡ after_more (R.state reader.old).calls f.turns) }
+    ensures turns { (R.state reader.new).calls ≤ after_more (R.state reader.old).calls limits.turns }
+    ensures unfilled { IfErr result (FailsToFill (over R.state reader.old reader.new) (size - 4) limits.bytes) }
     ensures too_many { IsErrOf result ReadFault.TooManyTurns →
-        R.calls reader.new ≡ after_more (R.calls reader.old) limits.turns }
+        (given : List ℕ) × Consumes (R.state reader.old).left (R.state reader.new).left given
+        × (length given < size - 4) × (length given ≤ limits.bytes)
+        × AreReads R.read_gives limits.turns reader.old given reader.new }
+    ensures too_many_calls { IsErrOf result ReadFault.TooManyTurns →
+        (R.state reader.new).calls ≡ after_more (R.state reader.old).calls limits.turns }
     ensures failed { IsErrOf result ReadFault.Device →
-        R.failures reader.new ≡ after_more (R.failures reader.old) 1 }
-    ensures well { ¬ (IsErrOf result ReadFault.Device) → R.failures reader.new ≡ R.failures reader.old }
+        (R.state reader.new).failures ≡ after_more (R.state reader.old).failures 1 }
+    ensures well { ¬ (IsErrOf result ReadFault.Device) → (R.state reader.new).failures ≡ (R.state reader.old).failures }
     ensures memory { ¬ (IsErrOf result ReadFault.NoMemory) }
 {
     room[..4].copy_from_slice(&head);

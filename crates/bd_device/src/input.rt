@@ -3,27 +3,23 @@ ghost use Rattle.std.specs.Prelude.{◌≡◌, ℕ, List, Option, None, Some, If
 ghost use Rattle.std.proofs.Common.{rules};
 ghost use Rattle.std.specs.Io.KnownBytes.{ReadConsumes};
 ghost use Rattle.bd_device.specs.Counts.{after_more, greatest};
-ghost use Rattle.bd_device.specs.Devices.{given};
+ghost use Rattle.bd_device.specs.Devices.{Reader, bytes_given};
 
 use crate::tally::Tally;
 use std::io::Read;
+use thiserror::Error;
 
 /// A read or a write that failed.
-#[derive(Debug, Clone, Copy, PartialEq, Eq)]
+#[derive(Debug, Clone, Copy, Drop, PartialEq, Eq, Error)]
+#[error("a read or a write failed")]
 pub struct DeviceFault;
 
 /// A device that gives bytes.
 ///
 /// Its two counts stay at the greatest number of 64 bits, and then count as risen.
 pub trait Input {
-    /// The bytes that reads will still give, or `None` for an unknown device.
-    ghost left: { Self → Option (List ℕ) } = { λ _. None };
-
-    /// How many reads were made.
-    ghost calls: { Self → ℕ };
-
-    /// How many reads failed.
-    ghost failures: { Self → ℕ };
+    /// The bytes that reads will still give, where they are known, how many reads were made, and how many failed.
+    ghost state: { Self → Reader };
 
     /// A read of the first device may give these bytes, or fail at `None`, and leave the second.
     ghost read_gives: { Self → Option (List ℕ) → Self → Type 0 } = { λ _ _ _. ⊤ };
@@ -32,15 +28,15 @@ pub trait Input {
     /// Where it fails it gives none.
     fn read(&mut self, room: &mut [u8]) -> Result<usize, DeviceFault>
         ensures within { IfOk result (λ n. n ≤ length room.new) }
-        ensures bytes { ReadConsumes (left self.old) (left self.new) result room.new }
-        ensures gives { read_gives self.old (given result room.new) self.new }
-        ensures called { calls self.new ≡ after_more (calls self.old) 1 }
-        ensures well { OnOk result (failures self.new ≡ failures self.old) }
-        ensures failed { OnErr result (failures self.new ≡ after_more (failures self.old) 1) };
+        ensures bytes { ReadConsumes (state self.old).left (state self.new).left result room.new }
+        ensures gives { read_gives self.old (bytes_given result room.new) self.new }
+        ensures called { (state self.new).calls ≡ after_more (state self.old).calls 1 }
+        ensures well { OnOk result ((state self.new).failures ≡ (state self.old).failures) }
+        ensures failed { OnErr result ((state self.new).failures ≡ after_more (state self.old).failures 1) };
 
-    ghost calls_fit: { (s : Self) → calls s ≤ greatest };
+    ghost calls_fit: { (s : Self) → (state s).calls ≤ greatest };
 
-    ghost failures_fit: { (s : Self) → failures s ≤ greatest };
+    ghost failures_fit: { (s : Self) → (state s).failures ≤ greatest };
 }
 
 /// A reader of the system's, such as a file or standard input.
@@ -53,9 +49,9 @@ pub struct SystemInput<R: Read + Drop> {
 impl<R: Read + Drop> SystemInput<R> {
     /// The device over this reader, with both counts at 0.
     pub fn new(reader: R) -> SystemInput<R>
-        ensures left { ⟦<SystemInput<R> as Input>⟧.left result ≡ R.remaining reader }
-        ensures calls { ⟦<SystemInput<R> as Input>⟧.calls result ≡ 0 }
-        ensures failures { ⟦<SystemInput<R> as Input>⟧.failures result ≡ 0 }
+        ensures left { (⟦<SystemInput<R> as Input>⟧.state result).left ≡ R.remaining reader }
+        ensures calls { (⟦<SystemInput<R> as Input>⟧.state result).calls ≡ 0 }
+        ensures failures { (⟦<SystemInput<R> as Input>⟧.state result).failures ≡ 0 }
     {
         SystemInput {
             reader,
@@ -65,12 +61,12 @@ impl<R: Read + Drop> SystemInput<R> {
 }
 
 impl<R: Read + Drop> Input for SystemInput<R> {
-    ghost left = { λ s. R.remaining s.reader };
-
     // `min`, since in a law a count is any number
-    ghost calls = { λ s. min s.tally.calls greatest };
-
-    ghost failures = { λ s. min s.tally.failures greatest };
+    ghost state = { λ s. record {
+      left = R.remaining s.reader;
+      calls = min s.tally.calls greatest;
+      failures = min s.tally.failures greatest;
+    } };
 
     ghost calls_fit = { λ s. Prim.search rules };
 
@@ -105,11 +101,11 @@ impl<'a> MemoryInput<'a> {
     /// fails and gives none. Both counts are at 0.
     pub fn new(bytes: &'a [u8], most: usize, failing: Option<u64>) -> MemoryInput<'a>
         requires { 0 < most }
-        ensures left { ⟦<MemoryInput<'a> as Input>⟧.left result ≡ Some bytes.now }
+        ensures left { (⟦<MemoryInput<'a> as Input>⟧.state result).left ≡ Some bytes.now }
         ensures most { result.most ≡ most }
         ensures failing { result.failing ≡ failing }
-        ensures calls { ⟦<MemoryInput<'a> as Input>⟧.calls result ≡ 0 }
-        ensures failures { ⟦<MemoryInput<'a> as Input>⟧.failures result ≡ 0 }
+        ensures calls { (⟦<MemoryInput<'a> as Input>⟧.state result).calls ≡ 0 }
+        ensures failures { (⟦<MemoryInput<'a> as Input>⟧.state result).failures ≡ 0 }
     {
         MemoryInput {
             most,
@@ -121,26 +117,26 @@ impl<'a> MemoryInput<'a> {
 
     /// How many reads were made.
     pub fn calls(&self) -> u64
-        ensures { result ≡ ⟦<MemoryInput<'a> as Input>⟧.calls self.now }
+        ensures { result ≡ (⟦<MemoryInput<'a> as Input>⟧.state self.now).calls }
     {
         self.tally.calls
     }
 
     /// How many reads failed.
     pub fn failures(&self) -> u64
-        ensures { result ≡ ⟦<MemoryInput<'a> as Input>⟧.failures self.now }
+        ensures { result ≡ (⟦<MemoryInput<'a> as Input>⟧.state self.now).failures }
     {
         self.tally.failures
     }
 }
 
 impl Input for MemoryInput<'_> {
-    ghost left = { λ s. Some s.bytes.now };
-
     // `min`, since in a law a count is any number
-    ghost calls = { λ s. min s.tally.calls greatest };
-
-    ghost failures = { λ s. min s.tally.failures greatest };
+    ghost state = { λ s. record {
+      left = Some s.bytes.now;
+      calls = min s.tally.calls greatest;
+      failures = min s.tally.failures greatest;
+    } };
 
     ghost read_gives = { λ s answer t. (t.most ≡ s.most) × (t.failing ≡ s.failing) × MatchOption answer
         (s.failing ≡ Some (after_more s.tally.calls 1))

@@ -1,4 +1,11 @@
 //! Devices that give and take bytes, with counts of calls and of failures.
+//!
+//! What contracts see of a device, before a call and after it: `specs/Devices.antt`.
+//!
+//! - `input`, `output`: `Input` and `Output`, over the system's readers and writers and over memory; `write_all`.
+//! - `tally`: their two counts.
+//! - `reading`: `read_all`, all bytes of a device.
+//! - `filling`: `fill`, a room filled with its bytes.
 #![tactic(auto)]
 
 mod filling;

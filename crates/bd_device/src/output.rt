@@ -2,9 +2,9 @@
 ghost use Rattle.std.specs.Prelude.{◌≡◌, ◌≢◌, ℕ, List, None, Some, Option, IfOk, OnOk, OnErr, length, take, ◌-◌, ◌<◌, ◌≤◌, min, MatchOption, ⊤, ◌⊎◌, []};
 ghost use Rattle.std.proofs.Common.{rules};
 ghost use Rattle.std.specs.Io.KnownBytes.{WriteAppends, Appends};
-ghost use Rattle.bd_device.specs.Counts.{after_more, greatest, Rose};
+ghost use Rattle.bd_device.specs.Counts.{after_more, greatest, HasRisen};
 ghost use Rattle.bd_device.specs.declared.output.FailingWrite.TheVariants.{Error, Zero};
-ghost use Rattle.bd_device.specs.Devices.{taken, Writes, AppendsFront};
+ghost use Rattle.bd_device.specs.Devices.{Writer, AreWrites, BreaksWithin, TakesText, count_taken, over};
 
 use crate::input::DeviceFault;
 use crate::tally::Tally;
@@ -14,14 +14,9 @@ use std::io::Write;
 ///
 /// Its two counts stay at the greatest number of 64 bits, and then count as risen.
 pub trait Output {
-    /// The bytes that it holds, or `None` for an unknown device.
-    ghost held: { Self → Option (List ℕ) } = { λ _. None };
-
-    /// How many writes were made.
-    ghost calls: { Self → ℕ };
-
-    /// How many writes failed. One that took 0 bytes of some is a failure.
-    ghost failures: { Self → ℕ };
+    /// The bytes that it holds, where they are known, how many writes were made, and how many failed. One that took 0 bytes
+    /// of some is a failure.
+    ghost state: { Self → Writer };
 
     /// A write of these bytes to the first device may take so many, or fail at `None`, and leave the second.
     ghost write_takes: { Self → List ℕ → Option ℕ → Self → Type 0 } = { λ _ _ _ _. ⊤ };
@@ -29,16 +24,16 @@ pub trait Output {
     /// Appends a front of `bytes` and tells how many bytes it took. Where it fails it took none.
     fn write(&mut self, bytes: &[u8]) -> Result<usize, DeviceFault>
         ensures within { IfOk result (λ n. n ≤ length bytes.now) }
-        ensures bytes { WriteAppends (held self.old) (held self.new) result bytes.now }
-        ensures takes { write_takes self.old bytes.now (taken result) self.new }
-        ensures called { calls self.new ≡ after_more (calls self.old) 1 }
-        ensures well { IfOk result (λ n. (0 < n) ⊎ (bytes.now ≡ []) → failures self.new ≡ failures self.old) }
-        ensures none { IfOk result (λ n. n ≡ 0 → bytes.now ≢ [] → failures self.new ≡ after_more (failures self.old) 1) }
-        ensures failed { OnErr result (failures self.new ≡ after_more (failures self.old) 1) };
+        ensures bytes { WriteAppends (state self.old).held (state self.new).held result bytes.now }
+        ensures takes { write_takes self.old bytes.now (count_taken result) self.new }
+        ensures called { (state self.new).calls ≡ after_more (state self.old).calls 1 }
+        ensures well { IfOk result (λ n. (0 < n) ⊎ (bytes.now ≡ []) → (state self.new).failures ≡ (state self.old).failures) }
+        ensures none { IfOk result (λ n. n ≡ 0 → bytes.now ≢ [] → (state self.new).failures ≡ after_more (state self.old).failures 1) }
+        ensures failed { OnErr result ((state self.new).failures ≡ after_more (state self.old).failures 1) };
 
-    ghost calls_fit: { (s : Self) → calls s ≤ greatest };
+    ghost calls_fit: { (s : Self) → (state s).calls ≤ greatest };
 
-    ghost failures_fit: { (s : Self) → failures s ≤ greatest };
+    ghost failures_fit: { (s : Self) → (state s).failures ≤ greatest };
 }
 
 /// A writer of the system's, such as a file or standard output.
@@ -51,9 +46,9 @@ pub struct SystemOutput<W: Write + Drop> {
 impl<W: Write + Drop> SystemOutput<W> {
     /// The device over this writer, with both counts at 0.
     pub fn new(writer: W) -> SystemOutput<W>
-        ensures held { ⟦<SystemOutput<W> as Output>⟧.held result ≡ W.contents writer }
-        ensures calls { ⟦<SystemOutput<W> as Output>⟧.calls result ≡ 0 }
-        ensures failures { ⟦<SystemOutput<W> as Output>⟧.failures result ≡ 0 }
+        ensures held { (⟦<SystemOutput<W> as Output>⟧.state result).held ≡ W.contents writer }
+        ensures calls { (⟦<SystemOutput<W> as Output>⟧.state result).calls ≡ 0 }
+        ensures failures { (⟦<SystemOutput<W> as Output>⟧.state result).failures ≡ 0 }
     {
         SystemOutput {
             writer,
@@ -63,12 +58,12 @@ impl<W: Write + Drop> SystemOutput<W> {
 }
 
 impl<W: Write + Drop> Output for SystemOutput<W> {
-    ghost held = { λ s. W.contents s.writer };
-
     // `min`, since in a law a count is any number
-    ghost calls = { λ s. min s.tally.calls greatest };
-
-    ghost failures = { λ s. min s.tally.failures greatest };
+    ghost state = { λ s. record {
+      held = W.contents s.writer;
+      calls = min s.tally.calls greatest;
+      failures = min s.tally.failures greatest;
+    } };
 
     ghost calls_fit = { λ s. Prim.search rules };
 
@@ -119,11 +114,12 @@ impl<'a> MemoryOutput<'a> {
     /// full. The call that `failing` names takes none. Both counts are at 0.
     pub fn new(room: &'a mut [u8], most: usize, failing: Option<FailingWrite>) -> MemoryOutput<'a>
         requires { 0 < most }
-        ensures held { ⟦<MemoryOutput<'a> as Output>⟧.held result ≡ Some [] }
+        ensures held { (⟦<MemoryOutput<'a> as Output>⟧.state result).held ≡ Some [] }
+        ensures room { length result.room.now ≡ length room.old }
         ensures most { result.most ≡ most }
         ensures failing { result.failing ≡ failing }
-        ensures calls { ⟦<MemoryOutput<'a> as Output>⟧.calls result ≡ 0 }
-        ensures failures { ⟦<MemoryOutput<'a> as Output>⟧.failures result ≡ 0 }
+        ensures calls { (⟦<MemoryOutput<'a> as Output>⟧.state result).calls ≡ 0 }
+        ensures failures { (⟦<MemoryOutput<'a> as Output>⟧.state result).failures ≡ 0 }
     {
         MemoryOutput {
             most,
@@ -136,33 +132,33 @@ impl<'a> MemoryOutput<'a> {
 
     /// The bytes that it holds.
     pub fn bytes(&self) -> &[u8]
-        ensures { ⟦<MemoryOutput<'a> as Output>⟧.held self.now ≡ Some result.now }
+        ensures { (⟦<MemoryOutput<'a> as Output>⟧.state self.now).held ≡ Some result.now }
     {
         &self.room[..self.filled]
     }
 
     /// How many writes were made.
     pub fn calls(&self) -> u64
-        ensures { result ≡ ⟦<MemoryOutput<'a> as Output>⟧.calls self.now }
+        ensures { result ≡ (⟦<MemoryOutput<'a> as Output>⟧.state self.now).calls }
     {
         self.tally.calls
     }
 
     /// How many writes failed. One that took 0 bytes of some is a failure.
     pub fn failures(&self) -> u64
-        ensures { result ≡ ⟦<MemoryOutput<'a> as Output>⟧.failures self.now }
+        ensures { result ≡ (⟦<MemoryOutput<'a> as Output>⟧.state self.now).failures }
     {
         self.tally.failures
     }
 }
 
 impl Output for MemoryOutput<'_> {
-    ghost held = { λ s. Some (take s.filled s.room.now) };
-
     // `min`, since in a law a count is any number
-    ghost calls = { λ s. min s.tally.calls greatest };
-
-    ghost failures = { λ s. min s.tally.failures greatest };
+    ghost state = { λ s. record {
+      held = Some (take s.filled s.room.now);
+      calls = min s.tally.calls greatest;
+      failures = min s.tally.failures greatest;
+    } };
 
     ghost write_takes = { λ s bytes answer t. (t.most ≡ s.most) × (t.failing ≡ s.failing)
         × (length t.room.now ≡ length s.room.now) × MatchOption answer
@@ -201,18 +197,14 @@ impl Output for MemoryOutput<'_> {
 /// No call is made again: an error ends it, and so does a call that takes 0 bytes. What the device took until then is a
 /// front of `bytes`.
 pub fn write_all<W: Output>(writer: &mut W, bytes: &[u8]) -> Result<(), DeviceFault>
-    // What the device holds, where that is known.
-    ensures written { OnOk result (Appends (W.held writer.old) (W.held writer.new) bytes.now) }
-    ensures front { OnErr result (AppendsFront (W.held writer.old) (W.held writer.new) bytes.now) }
-
-    // The count of failures rises exactly at an error.
-    ensures well { OnOk result (W.failures writer.new ≡ W.failures writer.old) }
-    ensures failed { OnErr result (W.failures writer.new ≡ after_more (W.failures writer.old) 1) }
-    ensures rose { OnErr result (Rose (W.failures writer.old) (W.failures writer.new)) }
+    // What the device holds, where that is known, and its count of failures, which rises exactly at an error.
+    ensures written { OnOk result (TakesText (over W.state writer.old writer.new) bytes.now) }
+    ensures broken { OnErr result (BreaksWithin (over W.state writer.old writer.new) bytes.now) }
+    ensures rose { OnErr result (HasRisen (W.state writer.old).failures (W.state writer.new).failures) }
 
     // The writes, also of an unknown device: each of all that was left, and none after a failure.
-    ensures writes { OnOk result (Writes W.write_takes bytes.now writer.old [] writer.new) }
-    ensures stopped { OnErr result ((rest : List ℕ) × (last : W) × Writes W.write_takes bytes.now writer.old rest last
+    ensures writes { OnOk result (AreWrites W.write_takes bytes.now writer.old [] writer.new) }
+    ensures stopped { OnErr result ((rest : List ℕ) × (last : W) × AreWrites W.write_takes bytes.now writer.old rest last
         × (rest ≢ []) × (W.write_takes last rest None writer.new ⊎ W.write_takes last rest (Some 0) writer.new)) }
 {
     let mut rest = bytes;

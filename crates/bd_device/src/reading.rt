@@ -1,11 +1,12 @@
 //! All bytes of a device.
 ghost use Rattle.std.specs.Prelude.{◌≡◌, ℕ, List, [], Some, None, IfOk, IfSome, IsErrOf, OnErr, OnOk, length, vec_len, ◌+◌, ◌<◌, ◌≤◌, codes};
 ghost use Rattle.std.specs.Io.KnownBytes.{IsAtEnd};
-ghost use Rattle.bd_device.specs.Counts.{after_more, Rose};
-ghost use Rattle.bd_device.specs.Devices.{Reads, LosesFront, LosesAtLeast};
+ghost use Rattle.bd_device.specs.Counts.{after_more, HasRisen};
+ghost use Rattle.bd_device.specs.Devices.{AreReads, LosesFront, LosesAtLeast};
 
 use crate::input::Input;
 use std::alloc::Global;
+use thiserror::Error;
 
 /// What may be taken of a device.
 #[derive(Debug, Clone, Copy, PartialEq, Eq)]
@@ -17,7 +18,8 @@ pub struct Limits {
 }
 
 /// Why a device was not read to its end.
-#[derive(Debug, Clone, Copy, PartialEq, Eq)]
+#[derive(Debug, Clone, Copy, Drop, PartialEq, Eq, Error)]
+#[error("{}", self.words())]
 pub enum ReadFault {
     /// A read failed.
     Device = 1,
@@ -57,44 +59,44 @@ pub fn read_all<R: Input>(
     limits: Limits,
 ) -> Result<Vec<u8>, ReadFault>
     // All bytes, where they are known, and as the reads gave them.
-    ensures bytes { IfOk result (λ v. IfSome (R.left reader.old) (λ xs. v.items ≡ xs)) }
-    ensures end { OnOk result (IsAtEnd (R.left reader.new)) }
+    ensures bytes { IfOk result (λ v. IfSome (R.state reader.old).left (λ xs. v.items ≡ xs)) }
+    ensures end { OnOk result (IsAtEnd (R.state reader.new).left) }
     ensures whole { IfOk result (λ v. (n : ℕ) × (last : R) × (n < limits.turns)
-        × Reads R.read_gives n reader.old v.items last × R.read_gives last (Some []) reader.new) }
+        × AreReads R.read_gives n reader.old v.items last × R.read_gives last (Some []) reader.new) }
     ensures short { IfOk result (λ v. vec_len v ≤ limits.bytes) }
-    ensures front { OnErr result (LosesFront (R.left reader.old) (R.left reader.new)) }
-    ensures turns { R.calls reader.new ≤ after_more (R.calls reader.old) limits.turns }
+    ensures front { OnErr result (LosesFront (R.state reader.old).left (R.state reader.new).left) }
+    ensures turns { (R.state reader.new).calls ≤ after_more (R.state reader.old).calls limits.turns }
 
     // The last read went past the limit of bytes.
     ensures too_long { IsErrOf result ReadFault.TooLong →
         (n : ℕ) × (given : List ℕ) × (part : List ℕ) × (last : R) × (n < limits.turns)
         × (length given ≤ limits.bytes) × (limits.bytes < length given + length part)
-        × Reads R.read_gives n reader.old given last × R.read_gives last (Some part) reader.new }
+        × AreReads R.read_gives n reader.old given last × R.read_gives last (Some part) reader.new }
     ensures too_long_known { IsErrOf result ReadFault.TooLong →
-        IfSome (R.left reader.old) (λ xs. limits.bytes < length xs) }
+        IfSome (R.state reader.old).left (λ xs. limits.bytes < length xs) }
 
     // All reads were made, and each gave a byte at least.
     ensures too_many { IsErrOf result ReadFault.TooManyTurns →
         (given : List ℕ) × (length given ≤ limits.bytes)
-        × Reads R.read_gives limits.turns reader.old given reader.new }
+        × AreReads R.read_gives limits.turns reader.old given reader.new }
     ensures too_many_known { IsErrOf result ReadFault.TooManyTurns →
-        LosesAtLeast limits.turns (R.left reader.old) (R.left reader.new) }
+        LosesAtLeast limits.turns (R.state reader.old).left (R.state reader.new).left }
     ensures too_many_calls { IsErrOf result ReadFault.TooManyTurns →
-        R.calls reader.new ≡ after_more (R.calls reader.old) limits.turns }
+        (R.state reader.new).calls ≡ after_more (R.state reader.old).calls limits.turns }
 
     // The last read failed, and it alone: exactly then the count of failures rises.
     ensures device { IsErrOf result ReadFault.Device →
         (n : ℕ) × (given : List ℕ) × (last : R) × (n < limits.turns) × (length given ≤ limits.bytes)
-        × Reads R.read_gives n reader.old given last × R.read_gives last None reader.new }
+        × AreReads R.read_gives n reader.old given last × R.read_gives last None reader.new }
     ensures failed { IsErrOf result ReadFault.Device →
-        R.failures reader.new ≡ after_more (R.failures reader.old) 1 }
-    ensures rose { IsErrOf result ReadFault.Device → Rose (R.failures reader.old) (R.failures reader.new) }
-    ensures well { ¬ (IsErrOf result ReadFault.Device) → R.failures reader.new ≡ R.failures reader.old }
+        (R.state reader.new).failures ≡ after_more (R.state reader.old).failures 1 }
+    ensures rose { IsErrOf result ReadFault.Device → HasRisen (R.state reader.old).failures (R.state reader.new).failures }
+    ensures well { ¬ (IsErrOf result ReadFault.Device) → (R.state reader.new).failures ≡ (R.state reader.old).failures }
 
     // The reads before a refusal of the allocator gave a byte each, and no more than the limit.
     ensures memory { IsErrOf result ReadFault.NoMemory →
         (n : ℕ) × (given : List ℕ) × (n ≤ limits.turns) × (length given ≤ limits.bytes)
-        × Reads R.read_gives n reader.old given reader.new }
+        × AreReads R.read_gives n reader.old given reader.new }
 {
     let mut buffer = [0u8; 65536];
     let mut bytes = Vec::new(alloc);

@@ -1,16 +1,31 @@
-use Rattle.std.proofs.Common.{rules, ◌≡◌, ◌-◌, length, take, length-take-le}
+use Rattle.std.proofs.Common.{rules, refl, arith, ◌<◌, ◌≡◌, ◌-◌, length, take, length-take-le}
 use Rattle.std.proofs.KnownBytes.{Consumes-trans}
-use Rattle.bd_device.proofs.Devices.{Consumes-more}
+use Rattle.bd_device.specs.Devices.{no_read}
+use Rattle.bd_device.proofs.Devices.{Consumes-more, reads_more}
 use Rattle.bd_device.proofs.Rooms.{grown}
 use Rattle.bd_device.proofs.filling.fill.Goals as goal
+
+pub loop-bytes-init : goal.loop-bytes-init
+loop-bytes-init g c = record {
+  room = refl;
+  fits = omega arith;
+  consumed = search rules;
+  reads = no_read _;
+  within = omega arith;
+  turned = omega arith;
+  called = search rules;
+  well = refl;
+}
 
 pub loop-bytes-preserved : goal.loop-bytes-preserved
 loop-bytes-preserved g c =
     let more = grown c.loop-bytes.bytes (length c.loop-bytes.room - c.loop-bytes.bytes) c.in-Ok.n c.loop-bytes.room c.read.new.room c.loop-bytes.invariant.fits c.in-Ok.ensures.within in
+    let some : 0 < length (take c.in-Ok.n c.read.new.room) = search rules in
     record {
       room = search rules;
       fits = search rules;
       consumed = Consumes-more _ _ _ _ _ _ c.loop-bytes.invariant.consumed c.in-Ok.ensures.bytes.0 more;
+      reads = reads_more _ _ _ _ _ _ _ c.loop-bytes.invariant.reads c.in-Ok.ensures.gives some more;
       within = search rules;
       turned = search rules;
       called = search rules;

@@ -1,7 +1,7 @@
 use Rattle.std.proofs.Common.{rules, arith, [], ◌++◌, ◌<◌, take, refl}
 use Rattle.std.proofs.KnownBytes.{Appends-nil, Appends-trans}
 use Rattle.bd_device.specs.Devices.{no_write}
-use Rattle.bd_device.proofs.Devices.{Writes-more, append-moves}
+use Rattle.bd_device.proofs.Devices.{writes_more, append-moves}
 use Rattle.bd_device.proofs.output.write_all.Goals as goal
 
 pub loop-init : goal.loop-init
@@ -20,7 +20,7 @@ loop-preserved g c =
     let some : 0 < n = search rules in
     record {
       appended = (done ++ take n rest, append-moves _ done rest n split, Appends-trans _ _ _ _ _ appended c.in_ok-n.ensures.bytes);
-      writes = Writes-more _ _ _ rest n c.loop.invariant.writes c.in_ok-n.ensures.takes some;
+      writes = writes_more _ _ _ rest n c.loop.invariant.writes c.in_ok-n.ensures.takes some;
       left = search rules;
       well = search rules;
     }

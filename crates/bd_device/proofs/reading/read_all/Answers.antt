@@ -1,12 +1,12 @@
 use Rattle.std.proofs.Common.{rules, arith, ◌≡◌, ◌++◌, ◌<◌, ◌≤◌, ◌-◌, ◌+◌, length, take, refl}
 use Rattle.std.proofs.KnownBytes.{Consumes-trans}
-use Rattle.bd_device.proofs.Devices.{Reads-none, Reads-more, Consumes-more, length-within}
+use Rattle.bd_device.proofs.Devices.{reads_none, reads_more, Consumes-more, length-within}
 use Rattle.bd_device.proofs.reading.read_all.Goals as goal
 
 pub loop-init : goal.loop-init
 loop-init g c = record {
   consumed = search rules;
-  reads = Reads-none _ _ c.new-bytes.ensures.items;
+  reads = reads_none _ _ c.new-bytes.ensures.items;
   within = search rules;
   turned = omega arith;
   called = search rules;
@@ -20,7 +20,7 @@ loop-preserved g c =
     let some : 0 < length part = search rules in
     record {
       consumed = Consumes-more _ _ _ _ _ _ c.loop.invariant.consumed c.in-Ok.ensures.bytes.0 grown;
-      reads = Reads-more _ _ _ _ _ _ _ c.loop.invariant.reads c.in-Ok.ensures.gives some grown;
+      reads = reads_more _ _ _ _ _ _ _ c.loop.invariant.reads c.in-Ok.ensures.gives some grown;
       within = search rules;
       turned = search rules;
       called = search rules;
@@ -44,5 +44,5 @@ returns-then-is_err-clause-memory g c _ =
       _,
       omega arith,
       length-within _ _ _ c.read.new.room fits c.loop.invariant.within,
-      Reads-more _ _ _ _ _ _ _ c.loop.invariant.reads c.in-Ok.ensures.gives some refl,
+      reads_more _ _ _ _ _ _ _ c.loop.invariant.reads c.in-Ok.ensures.gives some refl,
     )
