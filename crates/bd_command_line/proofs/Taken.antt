@@ -23,7 +23,7 @@ use Rattle.clap.proofs.OnLiterals.{clap_on_literals}
 use Rattle.bd_command_line.specs.declared.order.Order.{Order}
 use Rattle.bd_command_line.specs.declared.order.WordsFault.{WordsFault}
 use Rattle.bd_command_line.specs.declared.order.WordsFault.TheVariants.{NoMemory, Usage}
-use Rattle.bd_command_line.specs.CommandLine.{Ordered, Orders, meant, batch_read, check, dump, pack, fault_for, file_app, find as finds, find_app, find_ordered, told_as, is_file_word, is_help_line, line_app, order_of, ordered_by}
+use Rattle.bd_command_line.specs.CommandLine.{Ordered, GivesOrder, meant, batch_read, check, dump, pack, fault_for, file_app, find as finds, find_app, find_ordered, told_as, is_file_word, is_help_line, line_app, order_of, ordered_by}
 use Rattle.bd_command_line.proofs.Filled.{AllFilled, defaults-filled, fills, given_first, left_nil, right_nil, settled-filled, walk-filled}
 use Rattle.bd_command_line.proofs.Told.{SameTold, same-fault}
 
@@ -289,12 +289,12 @@ same_order : (words : List Text) (a b : Ordered) → order_of words ≡ Some a �
 same_order words a b e f = ap (λ o. unwrap_or o a) (sym e ∙ f)
 
 pub orders_when : (r : Result Order WordsFault) (words : List Text) (order : Ordered) → order_of words ≡ Some order
-    → IfOk r (λ o. order_of words ≡ Some (meant o)) → IfErr r (λ f. f ≡ NoMemory) → Orders r order
+    → IfOk r (λ o. order_of words ≡ Some (meant o)) → IfErr r (λ f. f ≡ NoMemory) → GivesOrder r order
 orders_when (Ok o) words order is ok err = same_order words (meant o) order ok is
 orders_when (Err f) words order is ok err = err
 
 -- words that are taken are answered by their order, or memory ran out
 pub answered : (r : Result Order WordsFault) (words : List Text) (order : Ordered) → fault_of line_app words ≡ [] → order_of words ≡ Some order
-    → IfOk r (λ o. order_of words ≡ Some (meant o)) → IfErr r (λ f. (f ≡ NoMemory) ⊎ (fault_for words ≡ Some f)) → Orders r order
+    → IfOk r (λ o. order_of words ≡ Some (meant o)) → IfErr r (λ f. (f ≡ NoMemory) ⊎ (fault_for words ≡ Some f)) → GivesOrder r order
 answered (Ok o) words order none is ok err = orders_when (Ok o) words order is ok err
 answered (Err f) words order none is ok err = only_memory words f none err

@@ -30,10 +30,12 @@ file_app name = with_rule (new_app name) file_rule
 
 -- `find` takes a query and the size of a batch too
 abbrev pub query_rule : Rule
-query_rule = record (new_rule (codes "query")) { long = Some (codes "query"); required = true; action = Some Set }
+query_rule =
+    record (new_rule (codes "query")) { long = Some (codes "query"); required = true; action = Some Set }
 
 abbrev pub batch_rule : Rule
-batch_rule = record (new_rule (codes "batch")) { long = Some (codes "batch"); action = Some Set; parser = Some (Unsigned 0 2147483647) }
+batch_rule =
+    record (new_rule (codes "batch")) { long = Some (codes "batch"); action = Some Set; parser = Some (Unsigned 0 2147483647) }
 
 abbrev pub find_app : App
 find_app = with_rule (with_rule (file_app (codes "find")) query_rule) batch_rule
@@ -48,7 +50,8 @@ top_app = on_top (λ s. record s {
 
 -- the line with the commands that take a file alone
 abbrev pub files_app : App
-files_app = with_subcommand (with_subcommand (with_subcommand top_app (file_app (codes "dump")).top) (file_app (codes "check")).top) (file_app (codes "pack")).top
+files_app =
+    with_subcommand (with_subcommand (with_subcommand top_app (file_app (codes "dump")).top) (file_app (codes "check")).top) (file_app (codes "pack")).top
 
 abbrev pub line_app : App
 line_app = with_subcommand files_app find_app.top
@@ -72,13 +75,15 @@ words_of = map string_bytes
 
 -- the number of 32 bits that a text is read as
 abbrev pub number_read : Text → Option ℕ
-number_read text = if is_unsigned_in 0 4294967295 text then Some (digits_value 10 (without_leading_plus text)) else None
+number_read text =
+    if is_unsigned_in 0 4294967295 text then Some (digits_value 10 (without_leading_plus text)) else None
 
 abbrev pub batch_read : List Row → Option ℕ
 batch_read rows = option_and_then number_read (one_of (codes "batch") rows)
 
 abbrev pub find_ordered : List Row → Text → Option Ordered
-find_ordered rows file = option_map (λ query. find file query (batch_read rows)) (first_of (codes "query") rows)
+find_ordered rows file =
+    option_map (λ query. find file query (batch_read rows)) (first_of (codes "query") rows)
 
 -- the order of a command's name and its matches
 abbrev pub ordered_by : Text → List Row → Option Ordered
@@ -105,8 +110,8 @@ abbrev pub fault_for : List Text → Option WordsFault
 fault_for words = option_map told_as (slice_get (fault_of line_app words) 0)
 
 -- the answer is this order, or memory ran out
-abbrev pub Orders : Result Order WordsFault → Ordered → Type 0
-Orders answer order = MatchResult answer (λ o. meant o ≡ order) (λ f. f ≡ NoMemory)
+abbrev pub GivesOrder : Result Order WordsFault → Ordered → Type 0
+GivesOrder answer order = MatchResult answer (λ o. meant o ≡ order) (λ f. f ≡ NoMemory)
 
 -- the first word is `help`
 abbrev pub is_help_line : List Text → Bool

@@ -3,7 +3,7 @@ ghost use Rattle.std.specs.Prelude.{◌≡◌, ◌⊎◌, IfErr, IfOk, IsErrOf, 
 ghost use Rattle.clap.specs.Simple.{with_subcommand};
 ghost use Rattle.clap.specs.Words.{app_of, found_of, kind_of, rows_of, rule_of, takes};
 ghost use Rattle.clap.specs.declared.builder.command.Command.TheViews.{out-Command as fields_of};
-ghost use Rattle.bd_command_line.specs.CommandLine.{Orders, check, dump, fault_for, file_app, file_rule, files_app, find, is_file_word, is_help_line, line_app, meant, order_of, ordered_by, pack, told_as, top_app, words_of};
+ghost use Rattle.bd_command_line.specs.CommandLine.{GivesOrder, check, dump, fault_for, file_app, file_rule, files_app, find, is_file_word, is_help_line, line_app, meant, order_of, ordered_by, pack, told_as, top_app, words_of};
 ghost use Rattle.bd_command_line.specs.declared.order.WordsFault.TheVariants.{NoMemory};
 
 use crate::find_words::{find_command, find_order};
@@ -139,7 +139,7 @@ fn order_in(alloc: Global, words: &[String]) -> Result<Order, WordsFault>
 /// The order of a line: its words without the program's name.
 ///
 /// `dump FILE`, `check FILE` and `pack FILE` are taken, and `find FILE --query Q` with or without `--batch N`, N from 0 to
-/// 2,147,483,647. A file whose name looks like a flag stands behind `--`, as in `dump -- -x`.
+/// 2,147,483,647. A file whose name looks like a flag stands after `--`, as in `dump -- -x`.
 ///
 /// # Errors
 ///
@@ -152,21 +152,21 @@ pub fn parse_words(alloc: Global, words: &[String]) -> Result<Order, WordsFault>
     ensures fault { IfErr result (λ f. (f ≡ NoMemory) ⊎ (fault_for (words_of words.now) ≡ Some f)) }
     ensures taken { takes line_app (words_of words.now) ≡ true → IfErr result (λ f. f ≡ NoMemory) }
     ensures dump { (file : List ℕ) → IsTrue (is_file_word file)
-        → words_of words.now ≡ codes "dump" ∷ file ∷ [] → Orders result (dump file) }
+        → words_of words.now ≡ codes "dump" ∷ file ∷ [] → GivesOrder result (dump file) }
     ensures escaped { (file : List ℕ)
-        → words_of words.now ≡ codes "dump" ∷ codes "--" ∷ file ∷ [] → Orders result (dump file) }
+        → words_of words.now ≡ codes "dump" ∷ codes "--" ∷ file ∷ [] → GivesOrder result (dump file) }
     ensures check { (file : List ℕ) → IsTrue (is_file_word file)
-        → words_of words.now ≡ codes "check" ∷ file ∷ [] → Orders result (check file) }
+        → words_of words.now ≡ codes "check" ∷ file ∷ [] → GivesOrder result (check file) }
     ensures check_escaped { (file : List ℕ)
-        → words_of words.now ≡ codes "check" ∷ codes "--" ∷ file ∷ [] → Orders result (check file) }
+        → words_of words.now ≡ codes "check" ∷ codes "--" ∷ file ∷ [] → GivesOrder result (check file) }
     ensures pack { (file : List ℕ) → IsTrue (is_file_word file)
-        → words_of words.now ≡ codes "pack" ∷ file ∷ [] → Orders result (pack file) }
+        → words_of words.now ≡ codes "pack" ∷ file ∷ [] → GivesOrder result (pack file) }
     ensures pack_escaped { (file : List ℕ)
-        → words_of words.now ≡ codes "pack" ∷ codes "--" ∷ file ∷ [] → Orders result (pack file) }
+        → words_of words.now ≡ codes "pack" ∷ codes "--" ∷ file ∷ [] → GivesOrder result (pack file) }
     // A query begins with a brace (123).
     ensures find { (rest file : List ℕ)
         → words_of words.now ≡ codes "find" ∷ codes "--query" ∷ (123 ∷ rest) ∷ codes "--" ∷ file ∷ []
-        → Orders result (find file (123 ∷ rest) None) }
+        → GivesOrder result (find file (123 ∷ rest) None) }
     ensures help_word { IsTrue (is_help_line (words_of words.now)) → IsErrOf result WordsFault.Usage }
 {
     if begins_with_help(words) {

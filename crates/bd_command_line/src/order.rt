@@ -3,6 +3,7 @@ ghost use Rattle.std.specs.Prelude.{◌≡◌};
 ghost use Rattle.bd_command_line.specs.declared.order.WordsFault.TheVariants.{NoMemory};
 
 use std::alloc::AllocError;
+use thiserror::Error;
 
 /// A line that was taken.
 #[derive(Debug, Drop)]
@@ -28,13 +29,16 @@ pub enum Order {
 }
 
 /// Why a line was not taken.
-#[derive(Debug, Clone, Copy, PartialEq)]
+#[derive(Debug, Clone, Copy, Drop, PartialEq, Error)]
 pub enum WordsFault {
     /// The line asks for help.
+    #[error("help is asked for")]
     Help = 1,
     /// The line is none of those that are taken.
+    #[error("the line is not taken")]
     Usage = 2,
     /// Memory ran out.
+    #[error("no memory")]
     NoMemory = 3,
 }
 
