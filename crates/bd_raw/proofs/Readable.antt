@@ -9,7 +9,7 @@ use Rattle.bd_value.specs.Kind.{scalar_kind, kind_of}
 use Rattle.bd_value.specs.declared.kind.Kind.{Kind}
 use Rattle.bd_raw.specs.Spelling.{number, string, data_of, scoped, framed, IsName, IsText, IsScalar, IsValue}
 use Rattle.bd_raw.specs.Sizes.{number_of, behind_name, size_of}
-use Rattle.bd_raw.specs.Reads.{TextAt, NameAt, BinaryAt, Reads}
+use Rattle.bd_raw.specs.Reads.{TextAt, NameAt, BinaryAt, HasBytesOf}
 use Rattle.bd_raw.specs.Scalars.{number_length, number_front, zero_place, name_front, name_behind, string_length, string_number, string_text, data_length, binary_count, binary_subtype, regex_whole, scalar_size}
 use Rattle.bd_raw.specs.Unique.{same_kind, framed_after}
 use Rattle.bd_raw.specs.Sound.{Sound, extent, extent_is}
@@ -39,7 +39,7 @@ binary_reads k s r lt =
 long_enough : (n : ℕ) (v r : List ℕ) → length v ≡ n → n ≤ length (v ++ r)
 long_enough n v r e = omega (arith, length-append v r)
 
-pub scalar_reads : (a : Scalar) (v r : List ℕ) → IsScalar a v → Reads (scalar_kind a) (v ++ r)
+pub scalar_reads : (a : Scalar) (v r : List ℕ) → IsScalar a v → HasBytesOf (scalar_kind a) (v ++ r)
 scalar_reads trees.min_key v r h = tt
 scalar_reads trees.undefined v r h = tt
 scalar_reads trees.null v r h = tt
@@ -87,7 +87,7 @@ size_is (doc fs) v r h short = framed_size h.0 v r h.2 short
 size_is (array ts) v r h short = framed_size h.0 v r h.2 short
 size_is (code_scope s fs) v r h short = scoped_size s (framed h.0) v r h.2 short
 
-value_reads : (t : Tree) (v r : List ℕ) → IsValue t v → Reads (kind_of t) (v ++ r)
+value_reads : (t : Tree) (v r : List ℕ) → IsValue t v → HasBytesOf (kind_of t) (v ++ r)
 value_reads (leaf a) v r h = scalar_reads a v r h
 value_reads (doc fs) v r h = omega (arith, length-append v r, ap (λ (x : List ℕ). length x) h.2, framed_length h.0)
 value_reads (array ts) v r h = omega (arith, length-append v r, ap (λ (x : List ℕ). length x) h.2, framed_length h.0)
@@ -96,8 +96,8 @@ value_reads (code_scope s fs) v r h = omega (arith, length-append v r, ap (λ (x
 pub kind_is : (kind : Kind) (bytes : List ℕ) (s : Sound kind bytes) → kind_of s.tree ≡ kind
 kind_is kind bytes s = same_kind (kind_of s.tree) kind s.kinded
 
-pub reads_at : (kind : Kind) (bytes : List ℕ) (s : Sound kind bytes) → Reads kind bytes
-reads_at kind bytes s = subst (Reads kind) (sym s.cut) (subst (λ (k : Kind). Reads k (s.value ++ s.after)) (kind_is kind bytes s) (value_reads s.tree s.value s.after s.spells))
+pub reads_at : (kind : Kind) (bytes : List ℕ) (s : Sound kind bytes) → HasBytesOf kind bytes
+reads_at kind bytes s = subst (HasBytesOf kind) (sym s.cut) (subst (λ (k : Kind). HasBytesOf k (s.value ++ s.after)) (kind_is kind bytes s) (value_reads s.tree s.value s.after s.spells))
 
 pub size_at : (kind : Kind) (bytes : List ℕ) (s : Sound kind bytes) → size_of kind bytes ≡ extent s
 size_at kind bytes s = ap (size_of kind) s.cut ∙ ap (λ (k : Kind). size_of k (s.value ++ s.after)) (sym (kind_is kind bytes s)) ∙ size_is s.tree s.value s.after s.spells s.short ∙ sym (extent_is s s)

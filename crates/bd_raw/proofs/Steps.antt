@@ -12,6 +12,7 @@ use Rattle.bd_raw.specs.Spelling.{IsName, IsValue, AreFields, element}
 use Rattle.bd_raw.specs.Scalars.{zero_place, name_front}
 use Rattle.bd_raw.specs.Sizes.{zero_at, name_of}
 use Rattle.bd_raw.specs.Reads.{NameAt}
+use Rattle.bd_raw.specs.Short.{IsShort}
 use Rattle.bd_raw.specs.Unique.{byte_is_not_zero, type_is, element_after}
 use Rattle.bd_raw.specs.Sound.{Sound, Left, stands, extent, elements_left, stands_is, extent_is, left_is}
 use Rattle.bd_raw.proofs.Readable.{name_reads}
@@ -42,6 +43,7 @@ pub record Next (bytes : List ℕ) (at : ℕ) (left : Fields) : Type 0 where
   pub spells : IsValue tree value
   pub more : AreFields others rest
   pub cut : drop at bytes ≡ type_byte (kind_of tree) ∷ (name ++ 0 ∷ (value ++ (rest ++ 0 ∷ after)))
+  pub name_short : IsShort name
   pub value_short : length value ≤ 16793600
   pub rest_short : length rest ≤ 16793600
 
@@ -62,6 +64,7 @@ split bytes at (field n t fs) body after h cut short not_zero =
       spells = h.3;
       more = h.4;
       cut = cut ∙ element_after t n h.0 h.1 (0 ∷ after) body h.5;
+      name_short = omega (arith, size);
       value_short = omega (arith, size);
       rest_short = omega (arith, size);
     }

@@ -8,11 +8,11 @@ use Rattle.bd_raw.specs.Sound.{stands, elements_left}
 use Rattle.bd_raw.specs.declared.contents.Contents.{Contents}
 use Rattle.bd_raw.specs.declared.contents.Contents.TheVariants.{Scalar, Document, Array, CodeScope}
 
-abbrev pub Holds : Tree → Contents → Type 0
-Holds t (Scalar s) = (a : trees.Scalar) × (t ≡ leaf a) × (seen s ≡ own a)
-Holds t (Document elements) = t ≡ doc (fields_of (elements_left elements.left))
-Holds t (Array elements) = t ≡ array (items_of (values_of (elements_left elements.left)))
-Holds t (CodeScope code scope) = t ≡ code_scope code.now (fields_of (pairs_in (stands scope.sound)))
+abbrev pub HoldsContents : Tree → Contents → Type 0
+HoldsContents t (Scalar s) = (a : trees.Scalar) × (t ≡ leaf a) × (seen s ≡ own a)
+HoldsContents t (Document elements) = t ≡ doc (fields_of (elements_left elements.left))
+HoldsContents t (Array elements) = t ≡ array (items_of (values_of (elements_left elements.left)))
+HoldsContents t (CodeScope code scope) = t ≡ code_scope code.now (fields_of (pairs_in (stands scope.sound)))
 
 -- the views in it stand in these bytes
 abbrev pub StandsIn : List ℕ → Contents → Type 0

@@ -1,6 +1,7 @@
 pub mod Contents
 pub mod Reads
 pub mod Scalars
+pub mod Short
 pub mod Sizes
 pub mod Sound
 pub mod Spelling

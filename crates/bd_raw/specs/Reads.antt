@@ -10,7 +10,7 @@ pub record TextAt (bytes : List ℕ) : Type 0 where
   pub inside : 4 + number_of bytes ≤ length bytes
   pub utf8 : IsUtf8 (text_of bytes)
 
--- a text and the zero behind it
+-- a text and the zero after it
 pub record NameAt (bytes : List ℕ) : Type 0 where
   pub inside : zero_at bytes < length bytes
   pub utf8 : IsUtf8 (name_of bytes)
@@ -20,23 +20,23 @@ pub record BinaryAt (bytes : List ℕ) : Type 0 where
   pub inside : 5 + number_of bytes ≤ length bytes
   pub inner : slice_index_or bytes 4 0 ≡ 2 → 4 ≤ number_of bytes
 
-abbrev pub Reads : Kind → List ℕ → Type 0
-Reads kinds.MinKey bytes = Unit {0}
-Reads kinds.Undefined bytes = Unit {0}
-Reads kinds.Null bytes = Unit {0}
-Reads kinds.MaxKey bytes = Unit {0}
-Reads kinds.Bool bytes = 1 ≤ length bytes
-Reads kinds.Int32 bytes = 4 ≤ length bytes
-Reads kinds.Int64 bytes = 8 ≤ length bytes
-Reads kinds.Date bytes = 8 ≤ length bytes
-Reads kinds.Timestamp bytes = 8 ≤ length bytes
-Reads kinds.ObjectId bytes = 12 ≤ length bytes
-Reads kinds.Text bytes = TextAt bytes
-Reads kinds.Symbol bytes = TextAt bytes
-Reads kinds.Code bytes = TextAt bytes
-Reads kinds.DbPointer bytes = TextAt bytes × (16 + number_of bytes ≤ length bytes)
-Reads kinds.Binary bytes = BinaryAt bytes
-Reads kinds.Regex bytes = NameAt bytes × NameAt (behind_name bytes)
-Reads kinds.Doc bytes = 4 ≤ length bytes
-Reads kinds.Array bytes = 4 ≤ length bytes
-Reads kinds.CodeScope bytes = 4 ≤ length bytes
+abbrev pub HasBytesOf : Kind → List ℕ → Type 0
+HasBytesOf kinds.MinKey bytes = Unit {0}
+HasBytesOf kinds.Undefined bytes = Unit {0}
+HasBytesOf kinds.Null bytes = Unit {0}
+HasBytesOf kinds.MaxKey bytes = Unit {0}
+HasBytesOf kinds.Bool bytes = 1 ≤ length bytes
+HasBytesOf kinds.Int32 bytes = 4 ≤ length bytes
+HasBytesOf kinds.Int64 bytes = 8 ≤ length bytes
+HasBytesOf kinds.Date bytes = 8 ≤ length bytes
+HasBytesOf kinds.Timestamp bytes = 8 ≤ length bytes
+HasBytesOf kinds.ObjectId bytes = 12 ≤ length bytes
+HasBytesOf kinds.Text bytes = TextAt bytes
+HasBytesOf kinds.Symbol bytes = TextAt bytes
+HasBytesOf kinds.Code bytes = TextAt bytes
+HasBytesOf kinds.DbPointer bytes = TextAt bytes × (16 + number_of bytes ≤ length bytes)
+HasBytesOf kinds.Binary bytes = BinaryAt bytes
+HasBytesOf kinds.Regex bytes = NameAt bytes × NameAt (behind_name bytes)
+HasBytesOf kinds.Doc bytes = 4 ≤ length bytes
+HasBytesOf kinds.Array bytes = 4 ≤ length bytes
+HasBytesOf kinds.CodeScope bytes = 4 ≤ length bytes

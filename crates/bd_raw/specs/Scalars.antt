@@ -42,23 +42,36 @@ long_front n x lt = from_le_bytes-to_le_bytes_8 n lt
 not_zero : (b : ℕ) → b ≢ 0 → eqb b 0 ≡ false
 not_zero b h = grind (arith, nat_tests, h)
 
-pub zero_place : (name rest : List ℕ) → AllByRecursion (λ b. b ≢ 0) name → zero_at (name ++ 0 ∷ rest) ≡ length name
+pub zero_place : (name rest : List ℕ) → AllByRecursion (λ b. b ≢ 0) name
+    → zero_at (name ++ 0 ∷ rest) ≡ length name
 zero_place [] rest h = refl
-zero_place (b ∷ name) rest h = let e : 1 + length name ≡ suc (length name) = omega arith in rw (not_zero b h.0) (ap (λ (k : ℕ). 1 + k) (zero_place name rest h.1) ∙ e)
+zero_place (b ∷ name) rest h =
+    let e : 1 + length name ≡ suc (length name) = omega arith in rw (not_zero b h.0) (ap (λ (k : ℕ). 1 + k) (zero_place name rest h.1) ∙ e)
 
 pub name_front : (name rest : List ℕ) → IsName name → name_of (name ++ 0 ∷ rest) ≡ name
 name_front name rest h = take_at name (0 ∷ rest) (zero_at (name ++ 0 ∷ rest)) (sym (zero_place name rest h.1))
 
 pub name_behind : (name rest : List ℕ) → IsName name → behind_name (name ++ 0 ∷ rest) ≡ rest
 name_behind name rest h =
-    let len : length (name ++ 0 ∷ []) ≡ zero_at (name ++ 0 ∷ rest) + 1 = omega (arith, length-append name (0 ∷ []), zero_place name rest h.1) in
-    ap (drop (zero_at (name ++ 0 ∷ rest) + 1)) (sym (append_assoc name (0 ∷ []) rest)) ∙ drop_at (name ++ 0 ∷ []) rest (zero_at (name ++ 0 ∷ rest) + 1) len
+    let len : length (name ++ 0 ∷ []) ≡ zero_at (name ++ 0 ∷ rest) + 1 =
+    omega (arith, length-append name (0 ∷ []), zero_place name rest h.1) in
+    ap (drop (zero_at (name ++ 0 ∷ rest) + 1)) (sym (append_assoc name (0 ∷ []) rest))
+    ∙ drop_at (name ++ 0 ∷ []) rest (zero_at (name ++ 0 ∷ rest) + 1) len
 
 pub string_after : (y r : List ℕ) → string y ++ r ≡ number (length y + 1) ++ (y ++ 0 ∷ r)
-string_after y r = append_assoc (number (length y + 1)) (y ++ 0 ∷ []) r ∙ ap (λ (x : List ℕ). number (length y + 1) ++ x) (append_assoc y (0 ∷ []) r)
+string_after y r =
+    append_assoc (number (length y + 1)) (y ++ 0 ∷ []) r
+    ∙ ap (λ (x : List ℕ). number (length y + 1) ++ x) (append_assoc y (0 ∷ []) r)
 
 pub string_length : (s : List ℕ) → length (string s) ≡ 4 + (length s + 1)
-string_length s = omega (arith, length-append (number (length s + 1)) (s ++ 0 ∷ []), number_length (length s + 1), length-append s (0 ∷ []))
+string_length s =
+    omega (
+      arith,
+      length-append (number (length s + 1)) (s
+          ++ 0 ∷ []),
+      number_length (length s + 1),
+      length-append s (0 ∷ []),
+    )
 
 pub string_number : (s r : List ℕ) → length s + 1 < 2 ^ 32 → number_of (string s ++ r) ≡ length s + 1
 string_number s r lt = ap number_of (string_after s r) ∙ number_front (length s + 1) (s ++ 0 ∷ r) lt
@@ -67,7 +80,9 @@ pub string_text : (s r : List ℕ) → length s + 1 < 2 ^ 32 → text_of (string
 string_text s r lt =
     let n = string_number s r lt in
     let k : length s ≡ number_of (string s ++ r) - 1 = omega arith in
-    ap (take (number_of (string s ++ r) - 1)) (ap (drop 4) (string_after s r) ∙ number_behind (length s + 1) (s ++ 0 ∷ r)) ∙ take_at s (0 ∷ r) (number_of (string s ++ r) - 1) k
+    ap (take (number_of (string s ++ r) - 1)) (ap (drop 4) (string_after s r)
+    ∙ number_behind (length s + 1) (s ++ 0 ∷ r))
+    ∙ take_at s (0 ∷ r) (number_of (string s ++ r) - 1) k
 
 pub string_behind : (s r : List ℕ) → length s + 1 < 2 ^ 32 → behind_string (string s ++ r) ≡ r
 string_behind s r lt =
@@ -77,10 +92,13 @@ string_behind s r lt =
 
 -- ---- binary
 
-pub data_length : (subtype : ℕ) (payload : List ℕ) → (subtype == 2) ≡ true → length (data_of subtype payload) ≡ 4 + length payload
-data_length subtype payload two = rw two (omega (arith, length-append (number (length payload)) payload, number_length (length payload)))
+pub data_length : (subtype : ℕ) (payload : List ℕ) → (subtype == 2) ≡ true
+    → length (data_of subtype payload) ≡ 4 + length payload
+data_length subtype payload two =
+    rw two (omega (arith, length-append (number (length payload)) payload, number_length (length payload)))
 
-pub binary_whole : (k : ℕ) (d r : List ℕ) → (number (length d) ++ k ∷ d) ++ r ≡ number (length d) ++ k ∷ (d ++ r)
+pub binary_whole : (k : ℕ) (d r : List ℕ) → (number (length d) ++ k ∷ d) ++ r ≡ number (length d)
+    ++ k ∷ (d ++ r)
 binary_whole k d r = append_assoc (number (length d)) (k ∷ d) r
 
 pub fifth : (n k : ℕ) (x : List ℕ) → slice_index_or (number n ++ k ∷ x) 4 0 ≡ k
@@ -95,11 +113,14 @@ pub behind_nine : (n k m : ℕ) (x : List ℕ) → drop 9 (number n ++ k ∷ (nu
 unfolding number
 behind_nine n k m x = refl
 
-pub binary_count : (k : ℕ) (d r : List ℕ) → length d < 2 ^ 31 → number_of ((number (length d) ++ k ∷ d) ++ r) ≡ length d
-binary_count k d r lt = ap number_of (binary_whole k d r) ∙ number_front (length d) (k ∷ (d ++ r)) (omega arith)
+pub binary_count : (k : ℕ) (d r : List ℕ) → length d < 2 ^ 31
+    → number_of ((number (length d) ++ k ∷ d) ++ r) ≡ length d
+binary_count k d r lt =
+    ap number_of (binary_whole k d r) ∙ number_front (length d) (k ∷ (d ++ r)) (omega arith)
 
 pub binary_subtype : (k : ℕ) (d r : List ℕ) → slice_index_or ((number (length d) ++ k ∷ d) ++ r) 4 0 ≡ k
-binary_subtype k d r = ap (λ (x : List ℕ). slice_index_or x 4 0) (binary_whole k d r) ∙ fifth (length d) k (d ++ r)
+binary_subtype k d r =
+    ap (λ (x : List ℕ). slice_index_or x 4 0) (binary_whole k d r) ∙ fifth (length d) k (d ++ r)
 
 pub chosen : (b : Bool) (x y : List ℕ) → b ≡ true → cond b x y ≡ x
 chosen true x y e = refl
@@ -109,11 +130,13 @@ pub other : (b : Bool) (x y : List ℕ) → b ≡ false → cond b x y ≡ y
 other true x y e = absurd cc
 other false x y e = refl
 
-payload_behind_count : (bytes s r : List ℕ) → (slice_index_or bytes 4 0 == 2) ≡ true → drop 9 bytes ≡ s ++ r → length s ≡ number_of bytes - 4 → payload_of bytes ≡ s
+payload_behind_count : (bytes s r : List ℕ) → (slice_index_or bytes 4 0 == 2) ≡ true
+    → drop 9 bytes ≡ s ++ r → length s ≡ number_of bytes - 4 → payload_of bytes ≡ s
 payload_behind_count bytes s r two d n =
     chosen (slice_index_or bytes 4 0 == 2) (take (number_of bytes - 4) (drop 9 bytes)) (take (number_of bytes) (drop 5 bytes)) two ∙ ap (take (number_of bytes - 4)) d ∙ take_at s r (number_of bytes - 4) n
 
-payload_behind_subtype : (bytes s r : List ℕ) → (slice_index_or bytes 4 0 == 2) ≡ false → drop 5 bytes ≡ s ++ r → length s ≡ number_of bytes → payload_of bytes ≡ s
+payload_behind_subtype : (bytes s r : List ℕ) → (slice_index_or bytes 4 0 == 2) ≡ false
+    → drop 5 bytes ≡ s ++ r → length s ≡ number_of bytes → payload_of bytes ≡ s
 payload_behind_subtype bytes s r two d n =
     other (slice_index_or bytes 4 0 == 2) (take (number_of bytes - 4) (drop 9 bytes)) (take (number_of bytes) (drop 5 bytes)) two ∙ ap (take (number_of bytes)) d ∙ take_at s r (number_of bytes) n
 
@@ -123,19 +146,29 @@ binary_payload k s r true two lt =
     let count = binary_count k (data_of k s) r lt in
     let same : data_of k s ≡ number (length s) ++ s = chosen (k == 2) (number (length s) ++ s) s two in
     let behind : drop 9 ((number (length (data_of k s)) ++ k ∷ data_of k s) ++ r) ≡ s ++ r =
-    ap (drop 9) (binary_whole k (data_of k s) r ∙ ap (λ (x : List ℕ). number (length (data_of k s)) ++ k ∷ x) (ap (λ (x : List ℕ). x ++ r) same ∙ append_assoc (number (length s)) s r)) ∙ behind_nine (length (data_of k s)) k (length s) (s ++ r) in
-    payload_behind_count ((number (length (data_of k s)) ++ k ∷ data_of k s) ++ r) s r (ap (λ (n : ℕ). n == 2) (binary_subtype k (data_of k s) r) ∙ two) behind (omega (arith, count, data_length k s two))
+    ap (drop 9) (binary_whole k (data_of k s) r
+    ∙ ap (λ (x : List ℕ). number (length (data_of k s)) ++ k ∷ x) (ap (λ (x : List ℕ). x ++ r) same
+    ∙ append_assoc (number (length s)) s r))
+    ∙ behind_nine (length (data_of k s)) k (length s) (s ++ r) in
+    payload_behind_count ((number (length (data_of k s)) ++ k ∷ data_of k s)
+    ++ r) s r (ap (λ (n : ℕ). n == 2) (binary_subtype k (data_of k s) r)
+    ∙ two) behind (omega (arith, count, data_length k s two))
 binary_payload k s r false two lt =
     let count = binary_count k (data_of k s) r lt in
     let same : data_of k s ≡ s = other (k == 2) (number (length s) ++ s) s two in
     let behind : drop 5 ((number (length (data_of k s)) ++ k ∷ data_of k s) ++ r) ≡ s ++ r =
-    ap (drop 5) (binary_whole k (data_of k s) r) ∙ behind_five (length (data_of k s)) k (data_of k s ++ r) ∙ ap (λ (x : List ℕ). x ++ r) same in
-    payload_behind_subtype ((number (length (data_of k s)) ++ k ∷ data_of k s) ++ r) s r (ap (λ (n : ℕ). n == 2) (binary_subtype k (data_of k s) r) ∙ two) behind (sym (count ∙ ap (λ (x : List ℕ). length x) same))
+    ap (drop 5) (binary_whole k (data_of k s) r)
+    ∙ behind_five (length (data_of k s)) k (data_of k s ++ r) ∙ ap (λ (x : List ℕ). x ++ r) same in
+    payload_behind_subtype ((number (length (data_of k s)) ++ k ∷ data_of k s)
+    ++ r) s r (ap (λ (n : ℕ). n == 2) (binary_subtype k (data_of k s) r)
+    ∙ two) behind (sym (count ∙ ap (λ (x : List ℕ). length x) same))
 
 -- ---- regular expressions and pointers
 
 pub regex_whole : (p o r : List ℕ) → (p ++ 0 ∷ (o ++ 0 ∷ [])) ++ r ≡ p ++ 0 ∷ (o ++ 0 ∷ r)
-regex_whole p o r = append_assoc p (0 ∷ (o ++ 0 ∷ [])) r ∙ ap (λ (x : List ℕ). p ++ 0 ∷ x) (append_assoc o (0 ∷ []) r)
+regex_whole p o r =
+    append_assoc p (0 ∷ (o ++ 0 ∷ [])) r
+    ∙ ap (λ (x : List ℕ). p ++ 0 ∷ x) (append_assoc o (0 ∷ []) r)
 
 -- ---- every scalar
 
@@ -145,14 +178,19 @@ of_int z f = omega (arith, ints)
 of_long : (z : ℤ) → FitsSigned w64 z → cast_unsigned w64 z < 2 ^ 64
 of_long z f = omega (arith, ints)
 
-long_back : (z : ℤ) (v r : List ℕ) → FitsSigned w64 z → v ≡ long (cast_unsigned w64 z) → cast_signed w64 (long_of (v ++ r)) ≡ z
-long_back z v r f e = ap (λ (x : List ℕ). cast_signed w64 (long_of (x ++ r))) e ∙ ap (cast_signed w64) (long_front (cast_unsigned w64 z) r (of_long z f)) ∙ to_z-of_z w64 z f
+long_back : (z : ℤ) (v r : List ℕ) → FitsSigned w64 z → v ≡ long (cast_unsigned w64 z)
+    → cast_signed w64 (long_of (v ++ r)) ≡ z
+long_back z v r f e =
+    ap (λ (x : List ℕ). cast_signed w64 (long_of (x ++ r))) e
+    ∙ ap (cast_signed w64) (long_front (cast_unsigned w64 z) r (of_long z f)) ∙ to_z-of_z w64 z f
 
 text_back : (s v r : List ℕ) → IsText s → v ≡ string s → text_of (v ++ r) ≡ s
 text_back s v r h e = ap (λ (x : List ℕ). text_of (x ++ r)) e ∙ string_text s r h.1
 
 text_size : (s v r : List ℕ) → IsText s → v ≡ string s → 4 + number_of (v ++ r) ≡ length v
-text_size s v r h e = let n = ap (λ (x : List ℕ). number_of (x ++ r)) e ∙ string_number s r h.1 in omega (arith, ap (λ (x : List ℕ). length x) e, string_length s)
+text_size s v r h e =
+    let n = ap (λ (x : List ℕ). number_of (x ++ r)) e
+    ∙ string_number s r h.1 in omega (arith, ap (λ (x : List ℕ). length x) e, string_length s)
 
 pub scalar_back : (a : Scalar) (v r : List ℕ) → IsScalar a v → scalar_at (scalar_kind a) (v ++ r) ≡ a
 scalar_back trees.min_key v r h = refl
@@ -160,24 +198,34 @@ scalar_back trees.undefined v r h = refl
 scalar_back trees.null v r h = refl
 scalar_back trees.max_key v r h = refl
 scalar_back (trees.int32 z) v r h =
-    ap (λ (x : List ℕ). trees.int32 (cast_signed w32 (number_of (x ++ r)))) h.1 ∙ ap (λ (n : ℕ). trees.int32 (cast_signed w32 n)) (number_front (cast_unsigned w32 z) r (of_int z h.0)) ∙ ap trees.int32 (to_z-of_z w32 z h.0)
+    ap (λ (x : List ℕ). trees.int32 (cast_signed w32 (number_of (x ++ r)))) h.1
+    ∙ ap (λ (n : ℕ). trees.int32 (cast_signed w32 n)) (number_front (cast_unsigned w32 z) r (of_int z h.0)) ∙ ap trees.int32 (to_z-of_z w32 z h.0)
 scalar_back (trees.int64 z) v r h = ap trees.int64 (long_back z v r h.0 h.1)
 scalar_back (trees.date z) v r h = ap trees.date (long_back z v r h.0 h.1)
 scalar_back (trees.timestamp s i) v r h =
-    let whole : v ++ r ≡ number i ++ (number s ++ r) = ap (λ (x : List ℕ). x ++ r) h.2 ∙ append_assoc (number i) (number s) r in
+    let whole : v ++ r ≡ number i ++ (number s ++ r) =
+    ap (λ (x : List ℕ). x ++ r) h.2 ∙ append_assoc (number i) (number s) r in
     let low = ap number_of whole ∙ number_front i (number s ++ r) h.1 in
-    let high = ap (λ (x : List ℕ). number_of (drop 4 x)) whole ∙ ap number_of (number_behind i (number s ++ r)) ∙ number_front s r h.0 in
+    let high =
+    ap (λ (x : List ℕ). number_of (drop 4 x)) whole
+    ∙ ap number_of (number_behind i (number s ++ r)) ∙ number_front s r h.0 in
     ap₂ trees.timestamp high low
-scalar_back (trees.boolean true) v r h = ap (λ (x : List ℕ). trees.boolean (slice_index_or (x ++ r) 0 0 == 1)) h
-scalar_back (trees.boolean false) v r h = ap (λ (x : List ℕ). trees.boolean (slice_index_or (x ++ r) 0 0 == 1)) h
-scalar_back (trees.object_id id) v r h = ap trees.object_id (ap (λ (x : List ℕ). take 12 (x ++ r)) h.1 ∙ take_at id r 12 h.0)
+scalar_back (trees.boolean true) v r h =
+    ap (λ (x : List ℕ). trees.boolean (slice_index_or (x ++ r) 0 0 == 1)) h
+scalar_back (trees.boolean false) v r h =
+    ap (λ (x : List ℕ). trees.boolean (slice_index_or (x ++ r) 0 0 == 1)) h
+scalar_back (trees.object_id id) v r h =
+    ap trees.object_id (ap (λ (x : List ℕ). take 12 (x ++ r)) h.1 ∙ take_at id r 12 h.0)
 scalar_back (trees.text s) v r h = ap trees.text (text_back s v r h.0 h.1)
 scalar_back (trees.symbol s) v r h = ap trees.symbol (text_back s v r h.0 h.1)
 scalar_back (trees.code s) v r h = ap trees.code (text_back s v r h.0 h.1)
 scalar_back (trees.db_pointer s id) v r h =
-    let whole : v ++ r ≡ string s ++ (id ++ r) = ap (λ (x : List ℕ). x ++ r) h.2 ∙ append_assoc (string s) id r in
+    let whole : v ++ r ≡ string s ++ (id ++ r) =
+    ap (λ (x : List ℕ). x ++ r) h.2 ∙ append_assoc (string s) id r in
     let space = ap text_of whole ∙ string_text s (id ++ r) h.0.1 in
-    let behind = ap (λ (x : List ℕ). take 12 (behind_string x)) whole ∙ ap (take 12) (string_behind s (id ++ r) h.0.1) ∙ take_at id r 12 h.1 in
+    let behind =
+    ap (λ (x : List ℕ). take 12 (behind_string x)) whole
+    ∙ ap (take 12) (string_behind s (id ++ r) h.0.1) ∙ take_at id r 12 h.1 in
     ap₂ trees.db_pointer space behind
 scalar_back (trees.binary k s) v r h =
     let kind = ap (λ (x : List ℕ). slice_index_or (x ++ r) 4 0) h.2 ∙ binary_subtype k (data_of k s) r in
@@ -186,7 +234,9 @@ scalar_back (trees.binary k s) v r h =
 scalar_back (trees.regex p o) v r h =
     let whole : v ++ r ≡ p ++ 0 ∷ (o ++ 0 ∷ r) = ap (λ (x : List ℕ). x ++ r) h.2 ∙ regex_whole p o r in
     let pattern = ap name_of whole ∙ name_front p (o ++ 0 ∷ r) h.0 in
-    let options = ap (λ (x : List ℕ). name_of (behind_name x)) whole ∙ ap name_of (name_behind p (o ++ 0 ∷ r) h.0) ∙ name_front o r h.1 in
+    let options =
+    ap (λ (x : List ℕ). name_of (behind_name x)) whole
+    ∙ ap name_of (name_behind p (o ++ 0 ∷ r) h.0) ∙ name_front o r h.1 in
     ap₂ trees.regex pattern options
 
 pub scalar_size : (a : Scalar) (v r : List ℕ) → IsScalar a v → size_of (scalar_kind a) (v ++ r) ≡ length v
@@ -194,17 +244,22 @@ scalar_size trees.min_key v r h = sym (ap (λ (x : List ℕ). length x) h)
 scalar_size trees.undefined v r h = sym (ap (λ (x : List ℕ). length x) h)
 scalar_size trees.null v r h = sym (ap (λ (x : List ℕ). length x) h)
 scalar_size trees.max_key v r h = sym (ap (λ (x : List ℕ). length x) h)
-scalar_size (trees.int32 z) v r h = sym (ap (λ (x : List ℕ). length x) h.1 ∙ number_length (cast_unsigned w32 z))
-scalar_size (trees.int64 z) v r h = sym (ap (λ (x : List ℕ). length x) h.1 ∙ long_length (cast_unsigned w64 z))
+scalar_size (trees.int32 z) v r h =
+    sym (ap (λ (x : List ℕ). length x) h.1 ∙ number_length (cast_unsigned w32 z))
+scalar_size (trees.int64 z) v r h =
+    sym (ap (λ (x : List ℕ). length x) h.1 ∙ long_length (cast_unsigned w64 z))
 scalar_size (trees.date z) v r h = sym (ap (λ (x : List ℕ). length x) h.1 ∙ long_length (cast_unsigned w64 z))
-scalar_size (trees.timestamp s i) v r h = sym (ap (λ (x : List ℕ). length x) h.2 ∙ omega (arith, length-append (number i) (number s), number_length i, number_length s))
+scalar_size (trees.timestamp s i) v r h =
+    sym (ap (λ (x : List ℕ). length x) h.2
+    ∙ omega (arith, length-append (number i) (number s), number_length i, number_length s))
 scalar_size (trees.boolean b) v r h = sym (ap (λ (x : List ℕ). length x) h)
 scalar_size (trees.object_id id) v r h = sym (ap (λ (x : List ℕ). length x) h.1 ∙ h.0)
 scalar_size (trees.text s) v r h = text_size s v r h.0 h.1
 scalar_size (trees.symbol s) v r h = text_size s v r h.0 h.1
 scalar_size (trees.code s) v r h = text_size s v r h.0 h.1
 scalar_size (trees.db_pointer s id) v r h =
-    let whole : v ++ r ≡ string s ++ (id ++ r) = ap (λ (x : List ℕ). x ++ r) h.2 ∙ append_assoc (string s) id r in
+    let whole : v ++ r ≡ string s ++ (id ++ r) =
+    ap (λ (x : List ℕ). x ++ r) h.2 ∙ append_assoc (string s) id r in
     let n = ap number_of whole ∙ string_number s (id ++ r) h.0.1 in
     omega (arith, n, ap (λ (x : List ℕ). length x) h.2, length-append (string s) id, string_length s, h.1)
 scalar_size (trees.binary k s) v r h =
@@ -213,5 +268,15 @@ scalar_size (trees.binary k s) v r h =
 scalar_size (trees.regex p o) v r h =
     let whole : v ++ r ≡ p ++ 0 ∷ (o ++ 0 ∷ r) = ap (λ (x : List ℕ). x ++ r) h.2 ∙ regex_whole p o r in
     let first = ap zero_at whole ∙ zero_place p (o ++ 0 ∷ r) h.0.1 in
-    let second = ap (λ (x : List ℕ). zero_at (behind_name x)) whole ∙ ap zero_at (name_behind p (o ++ 0 ∷ r) h.0) ∙ zero_place o r h.1.1 in
-    omega (arith, first, second, ap (λ (x : List ℕ). length x) h.2, length-append p (0 ∷ (o ++ 0 ∷ [])), length-append o (0 ∷ []))
+    let second =
+    ap (λ (x : List ℕ). zero_at (behind_name x)) whole
+    ∙ ap zero_at (name_behind p (o ++ 0 ∷ r) h.0) ∙ zero_place o r h.1.1 in
+    omega (
+      arith,
+      first,
+      second,
+      ap (λ (x : List ℕ). length x) h.2,
+      length-append p (0 ∷ (o
+          ++ 0 ∷ [])),
+      length-append o (0 ∷ []),
+    )

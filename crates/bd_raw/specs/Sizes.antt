@@ -16,23 +16,24 @@ long_of bytes = from_le_bytes w64 (take 8 bytes)
 abbrev pub zero_at : List ℕ → ℕ
 zero_at bytes = position_or_len (λ b. b == 0) bytes
 
--- a text that ends before the first zero, and what stands behind that zero
+-- a text that ends before the first zero, and what stands after that zero
 abbrev pub name_of : List ℕ → List ℕ
 name_of bytes = take (zero_at bytes) bytes
 
 abbrev pub behind_name : List ℕ → List ℕ
 behind_name bytes = drop (zero_at bytes + 1) bytes
 
--- the text of a string, and what stands behind the string
+-- the text of a string, and what stands after the string
 abbrev pub text_of : List ℕ → List ℕ
 text_of bytes = take (number_of bytes - 1) (drop 4 bytes)
 
 abbrev pub behind_string : List ℕ → List ℕ
 behind_string bytes = drop (4 + number_of bytes) bytes
 
--- the count and the bytes of binary, behind the inner count of subtype 02
+-- the count and the bytes of binary, after the inner count of subtype 02
 abbrev pub payload_of : List ℕ → List ℕ
-payload_of bytes = if slice_index_or bytes 4 0 == 2 then take (number_of bytes - 4) (drop 9 bytes) else take (number_of bytes) (drop 5 bytes)
+payload_of bytes =
+    if slice_index_or bytes 4 0 == 2 then take (number_of bytes - 4) (drop 9 bytes) else take (number_of bytes) (drop 5 bytes)
 
 abbrev pub size_of : Kind → List ℕ → ℕ
 size_of kinds.MinKey bytes = 0

@@ -23,7 +23,8 @@ pub record Sound (kind : Kind) (bytes : List ℕ) : Type 0 where
 pub Sound-prop : (kind : Kind) (bytes : List ℕ) → IsProp (Sound kind bytes)
 Sound-prop kind bytes p q =
     let h : p.value ++ p.after ≡ q.value ++ q.after = sym p.cut ∙ q.cut in
-    let both = values p.tree q.tree p.value q.value p.after q.after p.spells q.spells (same_kind (kind_of p.tree) (kind_of q.tree) (p.kinded ∙ sym q.kinded)) h in
+    let both =
+    values p.tree q.tree p.value q.value p.after q.after p.spells q.spells (same_kind (kind_of p.tree) (kind_of q.tree) (p.kinded ∙ sym q.kinded)) h in
     let t : p.tree ≡ q.tree = both.0 in
     let v : p.value ≡ q.value = both.1 in
     let a : p.after ≡ q.after = cancel p.value q.value p.after q.after v h in
@@ -32,7 +33,8 @@ Sound-prop kind bytes p q =
       value = v i;
       after = a i;
       spells = is_prop→PathP (λ k. IsValue (t k) (v k)) (λ k. value_prop (t k) (v k)) p.spells q.spells i;
-      kinded = is_prop→PathP (λ k. type_byte (kind_of (t k)) ≡ type_byte kind) (λ k. Coded-set coded_ℕ (type_byte (kind_of (t k))) (type_byte kind)) p.kinded q.kinded i;
+      kinded =
+          is_prop→PathP (λ k. type_byte (kind_of (t k)) ≡ type_byte kind) (λ k. Coded-set coded_ℕ (type_byte (kind_of (t k))) (type_byte kind)) p.kinded q.kinded i;
       cut = is_prop→PathP (λ k. bytes ≡ v k ++ a k) (λ k. same_bytes bytes (v k ++ a k)) p.cut q.cut i;
       short = is_prop→PathP (λ k. length (v k) ≤ 16793600) (λ k. le_prop) p.short q.short i;
     }
@@ -59,7 +61,9 @@ Left-prop bytes p q =
       body = b i;
       after = a i;
       spell = is_prop→PathP (λ k. AreFields (f k) (b k)) (λ k. fields_prop (f k) (b k)) p.spell q.spell i;
-      cut = is_prop→PathP (λ k. bytes ≡ b k ++ 0 ∷ a k) (λ k. same_bytes bytes (b k ++ 0 ∷ a k)) p.cut q.cut i;
+      cut =
+          is_prop→PathP (λ k. bytes ≡ b k
+          ++ 0 ∷ a k) (λ k. same_bytes bytes (b k ++ 0 ∷ a k)) p.cut q.cut i;
       short = is_prop→PathP (λ k. length (b k) ≤ 16793600) (λ k. le_prop) p.short q.short i;
     }
 

@@ -28,7 +28,7 @@ string s = number (length s + 1) ++ (s ++ 0 ∷ [])
 abbrev pub framed : List ℕ → List ℕ
 framed body = number (length body + 5) ++ (body ++ 0 ∷ [])
 
--- the data of `binary`: of subtype 02 the count of the bytes behind it comes first
+-- the data of `binary`: of subtype 02 the count of the bytes after it comes first
 abbrev pub data_of : ℕ → List ℕ → List ℕ
 data_of subtype payload = if subtype == 2 then number (length payload) ++ payload else payload
 
@@ -52,15 +52,19 @@ IsScalar trees.max_key bytes = bytes ≡ []
 IsScalar (trees.int32 z) bytes = FitsSigned w32 z × (bytes ≡ number (cast_unsigned w32 z))
 IsScalar (trees.int64 z) bytes = FitsSigned w64 z × (bytes ≡ long (cast_unsigned w64 z))
 IsScalar (trees.date z) bytes = FitsSigned w64 z × (bytes ≡ long (cast_unsigned w64 z))
-IsScalar (trees.timestamp seconds increment) bytes = (seconds < 2 ^ 32) × (increment < 2 ^ 32) × (bytes ≡ number increment ++ number seconds)
+IsScalar (trees.timestamp seconds increment) bytes =
+    (seconds < 2 ^ 32) × (increment < 2 ^ 32) × (bytes ≡ number increment ++ number seconds)
 IsScalar (trees.boolean b) bytes = bytes ≡ (if b then 1 else 0) ∷ []
 IsScalar (trees.object_id id) bytes = (length id ≡ 12) × (bytes ≡ id)
 IsScalar (trees.text s) bytes = IsText s × (bytes ≡ string s)
 IsScalar (trees.symbol s) bytes = IsText s × (bytes ≡ string s)
 IsScalar (trees.code s) bytes = IsText s × (bytes ≡ string s)
 IsScalar (trees.db_pointer s id) bytes = IsText s × (length id ≡ 12) × (bytes ≡ string s ++ id)
-IsScalar (trees.regex pattern options) bytes = IsName pattern × IsName options × (bytes ≡ pattern ++ 0 ∷ (options ++ 0 ∷ []))
-IsScalar (trees.binary subtype payload) bytes = (subtype < 256) × (length (data_of subtype payload) < 2 ^ 31) × (bytes ≡ number (length (data_of subtype payload)) ++ subtype ∷ data_of subtype payload)
+IsScalar (trees.regex pattern options) bytes =
+    IsName pattern × IsName options × (bytes ≡ pattern ++ 0 ∷ (options ++ 0 ∷ []))
+IsScalar (trees.binary subtype payload) bytes =
+    (subtype < 256) × (length (data_of subtype payload) < 2 ^ 31)
+    × (bytes ≡ number (length (data_of subtype payload)) ++ subtype ∷ data_of subtype payload)
 
 -- The bytes spell the value. An array is spelled as a document whose names are any names.
 abbrev mutual
@@ -68,17 +72,22 @@ abbrev mutual
   IsValue (leaf s) bytes = IsScalar s bytes
   IsValue (doc fs) bytes = (body : List ℕ) × AreFields fs body × (bytes ≡ framed body)
   IsValue (array ts) bytes = (body : List ℕ) × AreItems ts body × (bytes ≡ framed body)
-  IsValue (code_scope s fs) bytes = (body : List ℕ) × AreFields fs body × (bytes ≡ scoped s (framed body)) × IsText s
+  IsValue (code_scope s fs) bytes =
+      (body : List ℕ) × AreFields fs body × (bytes ≡ scoped s (framed body)) × IsText s
 
   -- `e_list` of a document
   pub AreFields : Fields → List ℕ → Type 0
   AreFields no_fields bytes = bytes ≡ []
-  AreFields (field name t fs) bytes = (value : List ℕ) × (rest : List ℕ) × IsName name × IsValue t value × AreFields fs rest × (bytes ≡ element t name value ++ rest)
+  AreFields (field name t fs) bytes =
+      (value : List ℕ) × (rest : List ℕ) × IsName name × IsValue t value × AreFields fs rest
+      × (bytes ≡ element t name value ++ rest)
 
   -- `e_list` of an array
   pub AreItems : Items → List ℕ → Type 0
   AreItems no_items bytes = bytes ≡ []
-  AreItems (item t ts) bytes = (name : List ℕ) × (value : List ℕ) × (rest : List ℕ) × IsName name × IsValue t value × AreItems ts rest × (bytes ≡ element t name value ++ rest)
+  AreItems (item t ts) bytes =
+      (name : List ℕ) × (value : List ℕ) × (rest : List ℕ) × IsName name × IsValue t value
+      × AreItems ts rest × (bytes ≡ element t name value ++ rest)
 
 -- the bytes are the document, within the limits of length and depth
 pub record IsDocument (d : Doc) (bytes : List ℕ) : Type 0 where

@@ -49,7 +49,8 @@ kept k None = k
 
 pub same_kind : (k l : Kind) → type_byte k ≡ type_byte l → k ≡ l
 unfolding kept
-same_kind k l e = sym (ap (kept k) (type_is k)) ∙ ap (λ (b : ℕ). kept k (type_at b)) e ∙ ap (kept k) (type_is l)
+same_kind k l e =
+    sym (ap (kept k) (type_is k)) ∙ ap (λ (b : ℕ). kept k (type_at b)) e ∙ ap (kept k) (type_is l)
 
 pub byte_is_not_zero : (k : Kind) → type_byte k ≢ 0
 byte_is_not_zero k h = let e : Some (Kept k) ≡ None = sym (type_is k) ∙ ap type_at h in cc
@@ -57,41 +58,58 @@ byte_is_not_zero k h = let e : Some (Kept k) ≡ None = sym (type_is k) ∙ ap t
 -- ---- parts
 
 pub cancel : (v w r s : List ℕ) → v ≡ w → v ++ r ≡ w ++ s → r ≡ s
-cancel v w r s e h = sym (drop_at v r (length v) refl) ∙ ap (drop (length v)) h ∙ drop_at w s (length v) (sym (ap (λ (x : List ℕ). length x) e))
+cancel v w r s e h =
+    sym (drop_at v r (length v) refl) ∙ ap (drop (length v)) h
+    ∙ drop_at w s (length v) (sym (ap (λ (x : List ℕ). length x) e))
 
 after_numbers : (a b : ℕ) (r s : List ℕ) → number a ++ r ≡ number b ++ s → r ≡ s
-after_numbers a b r s h = sym (drop_at (number a) r 4 (number_length a)) ∙ ap (drop 4) h ∙ drop_at (number b) s 4 (number_length b)
+after_numbers a b r s h =
+    sym (drop_at (number a) r 4 (number_length a)) ∙ ap (drop 4) h
+    ∙ drop_at (number b) s 4 (number_length b)
 
 -- two names before a zero
-names : (n m r s : List ℕ) → AllByRecursion (λ b. b ≢ 0) n → AllByRecursion (λ b. b ≢ 0) m → n ++ 0 ∷ r ≡ m ++ 0 ∷ s → (n ≡ m) × (r ≡ s)
+names : (n m r s : List ℕ) → AllByRecursion (λ b. b ≢ 0) n → AllByRecursion (λ b. b ≢ 0) m → n
+    ++ 0 ∷ r ≡ m ++ 0 ∷ s → (n ≡ m) × (r ≡ s)
 names [] [] r s p q h = (refl, cc)
 names [] (b ∷ m) r s p q h = absurd (q.0 (cc))
 names (a ∷ n) [] r s p q h = absurd (p.0 (cc))
-names (a ∷ n) (b ∷ m) r s p q h = let e = names n m r s p.1 q.1 (cc) in let head : a ≡ b = cc in (ap₂ (λ (x : ℕ) (y : List ℕ). x ∷ y) head e.0, e.1)
+names (a ∷ n) (b ∷ m) r s p q h =
+    let e = names n m r s p.1 q.1 (cc) in let head : a ≡ b = cc in (ap₂ (λ (x : ℕ) (y : List ℕ). x ∷ y) head e.0, e.1)
 
 pub framed_after : (b r : List ℕ) → framed b ++ r ≡ number (length b + 5) ++ (b ++ 0 ∷ r)
-framed_after b r = append_assoc (number (length b + 5)) (b ++ 0 ∷ []) r ∙ ap (λ (x : List ℕ). number (length b + 5) ++ x) (append_assoc b (0 ∷ []) r)
+framed_after b r =
+    append_assoc (number (length b + 5)) (b ++ 0 ∷ []) r
+    ∙ ap (λ (x : List ℕ). number (length b + 5) ++ x) (append_assoc b (0 ∷ []) r)
 
 bodies : (b c v w r s : List ℕ) → v ≡ framed b → w ≡ framed c → v ++ r ≡ w ++ s → b ++ 0 ∷ r ≡ c ++ 0 ∷ s
 bodies b c v w r s e f h =
-    after_numbers (length b + 5) (length c + 5) (b ++ 0 ∷ r) (c ++ 0 ∷ s) (sym (framed_after b r) ∙ ap (λ (x : List ℕ). x ++ r) (sym e) ∙ h ∙ ap (λ (x : List ℕ). x ++ s) f ∙ framed_after c s)
+    after_numbers (length b + 5) (length c + 5) (b ++ 0 ∷ r) (c ++ 0 ∷ s) (sym (framed_after b r)
+    ∙ ap (λ (x : List ℕ). x ++ r) (sym e) ∙ h ∙ ap (λ (x : List ℕ). x ++ s) f ∙ framed_after c s)
 
 frames : (b c v w : List ℕ) → v ≡ framed b → w ≡ framed c → b ≡ c → v ≡ w
 frames b c v w e f h = e ∙ ap framed h ∙ sym f
 
-pub element_after : (t : Tree) (n v r x : List ℕ) (b : List ℕ) → b ≡ element t n v ++ r → b ++ x ≡ type_byte (kind_of t) ∷ (n ++ 0 ∷ (v ++ (r ++ x)))
+pub element_after : (t : Tree) (n v r x : List ℕ) (b : List ℕ) → b ≡ element t n v ++ r → b
+    ++ x ≡ type_byte (kind_of t) ∷ (n ++ 0 ∷ (v ++ (r ++ x)))
 element_after t n v r x b e =
-    ap (λ (y : List ℕ). y ++ x) e ∙ append_assoc (element t n v) r x ∙ ap (λ (y : List ℕ). type_byte (kind_of t) ∷ y) (append_assoc n (0 ∷ v) (r ++ x))
+    ap (λ (y : List ℕ). y ++ x) e ∙ append_assoc (element t n v) r x
+    ∙ ap (λ (y : List ℕ). type_byte (kind_of t) ∷ y) (append_assoc n (0 ∷ v) (r ++ x))
 
-elements : (t u : Tree) (n m v w r s : List ℕ) → t ≡ u → n ≡ m → v ≡ w → r ≡ s → element t n v ++ r ≡ element u m w ++ s
+elements : (t u : Tree) (n m v w r s : List ℕ) → t ≡ u → n ≡ m → v ≡ w → r ≡ s → element t n v
+    ++ r ≡ element u m w ++ s
 elements t u n m v w r s a b c d = cc
 
 -- ---- scalars
 
-scalars : (a b : Scalar) (v w r s : List ℕ) → IsScalar a v → IsScalar b w → scalar_kind a ≡ scalar_kind b → v ++ r ≡ w ++ s → (a ≡ b) × (v ≡ w)
+scalars : (a b : Scalar) (v w r s : List ℕ) → IsScalar a v → IsScalar b w
+    → scalar_kind a ≡ scalar_kind b → v ++ r ≡ w ++ s → (a ≡ b) × (v ≡ w)
 scalars a b v w r s p q k h =
-    let same : a ≡ b = sym (scalar_back a v r p) ∙ ap₂ (λ (x : Kind) (y : List ℕ). scalar_at x y) k h ∙ scalar_back b w s q in
-    let len : length v ≡ length w = sym (scalar_size a v r p) ∙ ap₂ (λ (x : Kind) (y : List ℕ). size_of x y) k h ∙ scalar_size b w s q in
+    let same : a ≡ b =
+    sym (scalar_back a v r p) ∙ ap₂ (λ (x : Kind) (y : List ℕ). scalar_at x y) k h
+    ∙ scalar_back b w s q in
+    let len : length v ≡ length w =
+    sym (scalar_size a v r p) ∙ ap₂ (λ (x : Kind) (y : List ℕ). size_of x y) k h
+    ∙ scalar_size b w s q in
     (same, sym (take_at v r (length v) refl) ∙ ap (take (length v)) h ∙ take_at w s (length v) (sym len))
 
 pub scalar_holds : (a : Scalar) → holds (scalar_kind a) ≡ false
@@ -116,23 +134,31 @@ scalar_holds trees.max_key = refl
 pub no_holder : (a : Scalar) (k : Kind) → scalar_kind a ≡ k → holds k ≡ true → ⊥
 no_holder a k e h = let f : false ≡ true = sym (scalar_holds a) ∙ ap holds e ∙ h in cc
 
-codes_after : (s d r : List ℕ) → scoped s d ++ r ≡ number (length (string s ++ d) + 4) ++ (string s ++ (d ++ r))
-codes_after s d r = append_assoc (number (length (string s ++ d) + 4)) (string s ++ d) r ∙ ap (λ (x : List ℕ). number (length (string s ++ d) + 4) ++ x) (append_assoc (string s) d r)
+codes_after : (s d r : List ℕ) → scoped s d ++ r ≡ number (length (string s ++ d) + 4)
+    ++ (string s ++ (d ++ r))
+codes_after s d r =
+    append_assoc (number (length (string s ++ d) + 4)) (string s ++ d) r
+    ∙ ap (λ (x : List ℕ). number (length (string s ++ d) + 4) ++ x) (append_assoc (string s) d r)
 
--- code and scope, behind their length
+-- code and scope, after their length
 record SameCode (s z d e x y : List ℕ) : Type 0 where
   pub code : s ≡ z
   pub after : d ++ x ≡ e ++ y
 
-same_code : (s z d e x y v w : List ℕ) → IsText s → IsText z → v ≡ scoped s d → w ≡ scoped z e → v ++ x ≡ w ++ y → SameCode s z d e x y
+same_code : (s z d e x y v w : List ℕ) → IsText s → IsText z → v ≡ scoped s d → w ≡ scoped z e → v
+    ++ x ≡ w ++ y → SameCode s z d e x y
 same_code s z d e x y v w p q a b h =
     let inner : string s ++ (d ++ x) ≡ string z ++ (e ++ y) =
-    after_numbers (length (string s ++ d) + 4) (length (string z ++ e) + 4) (string s ++ (d ++ x)) (string z ++ (e ++ y)) (sym (codes_after s d x) ∙ ap (λ (l : List ℕ). l ++ x) (sym a) ∙ h ∙ ap (λ (l : List ℕ). l ++ y) b ∙ codes_after z e y) in
+    after_numbers (length (string s ++ d) + 4) (length (string z ++ e) + 4) (string s
+    ++ (d ++ x)) (string z ++ (e ++ y)) (sym (codes_after s d x)
+    ∙ ap (λ (l : List ℕ). l ++ x) (sym a) ∙ h ∙ ap (λ (l : List ℕ). l ++ y) b
+    ∙ codes_after z e y) in
     let same : s ≡ z = sym (string_text s (d ++ x) p.1) ∙ ap text_of inner ∙ string_text z (e ++ y) q.1 in
     record { code = same; after = cancel (string s) (string z) (d ++ x) (e ++ y) (ap string same) inner }
 
 mutual
-  pub values : (t u : Tree) (v w r s : List ℕ) → IsValue t v → IsValue u w → kind_of t ≡ kind_of u → v ++ r ≡ w ++ s → (t ≡ u) × (v ≡ w)
+  pub values : (t u : Tree) (v w r s : List ℕ) → IsValue t v → IsValue u w → kind_of t ≡ kind_of u
+      → v ++ r ≡ w ++ s → (t ≡ u) × (v ≡ w)
   values (leaf a) (leaf b) v w r s p q k h = let e = scalars a b v w r s p q k h in (ap leaf e.0, e.1)
   values (leaf a) (doc gs) v w r s p q k h = absurd (no_holder a kinds.Doc k refl)
   values (leaf a) (array us) v w r s p q k h = absurd (no_holder a kinds.Array k refl)
@@ -154,23 +180,32 @@ mutual
       (ap array e.0, frames p.0 q.0 v w p.2 q.2 e.1)
   values (code_scope y fs) (code_scope z gs) v w r s p q k h =
       let c = same_code y z (framed p.0) (framed q.0) r s v w p.3 q.3 p.2 q.2 h in
-      let e = fields fs gs p.0 q.0 r s p.1 q.1 (bodies p.0 q.0 (framed p.0) (framed q.0) r s refl refl c.after) in
+      let e =
+      fields fs gs p.0 q.0 r s p.1 q.1 (bodies p.0 q.0 (framed p.0) (framed q.0) r s refl refl c.after) in
       (ap₂ code_scope c.code e.0, p.2 ∙ ap₂ (λ (x b : List ℕ). scoped x (framed b)) c.code e.1 ∙ sym q.2)
 
-  pub fields : (fs gs : Fields) (b c r s : List ℕ) → AreFields fs b → AreFields gs c → b ++ 0 ∷ r ≡ c ++ 0 ∷ s → (fs ≡ gs) × (b ≡ c)
+  pub fields : (fs gs : Fields) (b c r s : List ℕ) → AreFields fs b → AreFields gs c → b
+      ++ 0 ∷ r ≡ c ++ 0 ∷ s → (fs ≡ gs) × (b ≡ c)
   fields no_fields no_fields b c r s p q h = (refl, p ∙ sym q)
   fields no_fields (field m u gs) b c r s p q h =
-      let e : 0 ∷ r ≡ type_byte (kind_of u) ∷ _ = ap (λ (x : List ℕ). x ++ 0 ∷ r) (sym p) ∙ h ∙ element_after u m q.0 q.1 (0 ∷ s) c q.5 in
+      let e : 0 ∷ r ≡ type_byte (kind_of u) ∷ _ =
+      ap (λ (x : List ℕ). x ++ 0 ∷ r) (sym p) ∙ h ∙ element_after u m q.0 q.1 (0 ∷ s) c q.5 in
       absurd (byte_is_not_zero (kind_of u) cc)
   fields (field n t fs) no_fields b c r s p q h =
-      let e : 0 ∷ s ≡ type_byte (kind_of t) ∷ _ = ap (λ (x : List ℕ). x ++ 0 ∷ s) (sym q) ∙ sym h ∙ element_after t n p.0 p.1 (0 ∷ r) b p.5 in
+      let e : 0 ∷ s ≡ type_byte (kind_of t) ∷ _ =
+      ap (λ (x : List ℕ). x ++ 0 ∷ s) (sym q) ∙ sym h
+      ∙ element_after t n p.0 p.1 (0 ∷ r) b p.5 in
       absurd (byte_is_not_zero (kind_of t) cc)
   fields (field n t fs) (field m u gs) b c r s p q h =
-      let e : type_byte (kind_of t) ∷ (n ++ 0 ∷ (p.0 ++ (p.1 ++ 0 ∷ r))) ≡ type_byte (kind_of u) ∷ (m ++ 0 ∷ (q.0 ++ (q.1 ++ 0 ∷ s))) = sym (element_after t n p.0 p.1 (0 ∷ r) b p.5) ∙ h ∙ element_after u m q.0 q.1 (0 ∷ s) c q.5 in
+      let e : type_byte (kind_of t) ∷ (n ++ 0 ∷ (p.0 ++ (p.1 ++ 0 ∷ r))) ≡ type_byte (kind_of u) ∷ (m ++ 0 ∷ (q.0 ++ (q.1 ++ 0 ∷ s))) =
+      sym (element_after t n p.0 p.1 (0 ∷ r) b p.5) ∙ h
+      ∙ element_after u m q.0 q.1 (0 ∷ s) c q.5 in
       let k : kind_of t ≡ kind_of u = same_kind (kind_of t) (kind_of u) (cc) in
       let named = names n m (p.0 ++ (p.1 ++ 0 ∷ r)) (q.0 ++ (q.1 ++ 0 ∷ s)) p.2.1 q.2.1 (cc) in
       let first = values t u p.0 q.0 (p.1 ++ 0 ∷ r) (q.1 ++ 0 ∷ s) p.3 q.3 k named.1 in
-      let others = fields fs gs p.1 q.1 r s p.4 q.4 (cancel p.0 q.0 (p.1 ++ 0 ∷ r) (q.1 ++ 0 ∷ s) first.1 named.1) in
+      let others =
+      fields fs gs p.1 q.1 r s p.4 q.4 (cancel p.0 q.0 (p.1 ++ 0 ∷ r) (q.1
+      ++ 0 ∷ s) first.1 named.1) in
       let n_is = named.0 in
       let t_is = first.0 in
       let v_is = first.1 in
@@ -178,20 +213,28 @@ mutual
       let r_is = others.1 in
       (cc, p.5 ∙ elements t u n m p.0 q.0 p.1 q.1 t_is n_is v_is r_is ∙ sym q.5)
 
-  pub items : (ts us : Items) (b c r s : List ℕ) → AreItems ts b → AreItems us c → b ++ 0 ∷ r ≡ c ++ 0 ∷ s → (ts ≡ us) × (b ≡ c)
+  pub items : (ts us : Items) (b c r s : List ℕ) → AreItems ts b → AreItems us c → b ++ 0 ∷ r ≡ c
+      ++ 0 ∷ s → (ts ≡ us) × (b ≡ c)
   items no_items no_items b c r s p q h = (refl, p ∙ sym q)
   items no_items (item u us) b c r s p q h =
-      let e : 0 ∷ r ≡ type_byte (kind_of u) ∷ _ = ap (λ (x : List ℕ). x ++ 0 ∷ r) (sym p) ∙ h ∙ element_after u q.0 q.1 q.2 (0 ∷ s) c q.6 in
+      let e : 0 ∷ r ≡ type_byte (kind_of u) ∷ _ =
+      ap (λ (x : List ℕ). x ++ 0 ∷ r) (sym p) ∙ h ∙ element_after u q.0 q.1 q.2 (0 ∷ s) c q.6 in
       absurd (byte_is_not_zero (kind_of u) cc)
   items (item t ts) no_items b c r s p q h =
-      let e : 0 ∷ s ≡ type_byte (kind_of t) ∷ _ = ap (λ (x : List ℕ). x ++ 0 ∷ s) (sym q) ∙ sym h ∙ element_after t p.0 p.1 p.2 (0 ∷ r) b p.6 in
+      let e : 0 ∷ s ≡ type_byte (kind_of t) ∷ _ =
+      ap (λ (x : List ℕ). x ++ 0 ∷ s) (sym q) ∙ sym h
+      ∙ element_after t p.0 p.1 p.2 (0 ∷ r) b p.6 in
       absurd (byte_is_not_zero (kind_of t) cc)
   items (item t ts) (item u us) b c r s p q h =
-      let e : type_byte (kind_of t) ∷ (p.0 ++ 0 ∷ (p.1 ++ (p.2 ++ 0 ∷ r))) ≡ type_byte (kind_of u) ∷ (q.0 ++ 0 ∷ (q.1 ++ (q.2 ++ 0 ∷ s))) = sym (element_after t p.0 p.1 p.2 (0 ∷ r) b p.6) ∙ h ∙ element_after u q.0 q.1 q.2 (0 ∷ s) c q.6 in
+      let e : type_byte (kind_of t) ∷ (p.0 ++ 0 ∷ (p.1 ++ (p.2 ++ 0 ∷ r))) ≡ type_byte (kind_of u) ∷ (q.0 ++ 0 ∷ (q.1 ++ (q.2 ++ 0 ∷ s))) =
+      sym (element_after t p.0 p.1 p.2 (0 ∷ r) b p.6) ∙ h
+      ∙ element_after u q.0 q.1 q.2 (0 ∷ s) c q.6 in
       let k : kind_of t ≡ kind_of u = same_kind (kind_of t) (kind_of u) (cc) in
       let named = names p.0 q.0 (p.1 ++ (p.2 ++ 0 ∷ r)) (q.1 ++ (q.2 ++ 0 ∷ s)) p.3.1 q.3.1 (cc) in
       let first = values t u p.1 q.1 (p.2 ++ 0 ∷ r) (q.2 ++ 0 ∷ s) p.4 q.4 k named.1 in
-      let others = items ts us p.2 q.2 r s p.5 q.5 (cancel p.1 q.1 (p.2 ++ 0 ∷ r) (q.2 ++ 0 ∷ s) first.1 named.1) in
+      let others =
+      items ts us p.2 q.2 r s p.5 q.5 (cancel p.1 q.1 (p.2 ++ 0 ∷ r) (q.2
+      ++ 0 ∷ s) first.1 named.1) in
       let n_is = named.0 in
       let t_is = first.0 in
       let v_is = first.1 in
@@ -199,12 +242,14 @@ mutual
       let r_is = others.1 in
       (cc, p.6 ∙ elements t u p.0 q.0 p.1 q.1 p.2 q.2 t_is n_is v_is r_is ∙ sym q.6)
 
-element_names : (t : Tree) (n m v w r s : List ℕ) → element t n v ++ r ≡ element t m w ++ s → n ++ 0 ∷ (v ++ r) ≡ m ++ 0 ∷ (w ++ s)
+element_names : (t : Tree) (n m v w r s : List ℕ) → element t n v ++ r ≡ element t m w ++ s → n
+    ++ 0 ∷ (v ++ r) ≡ m ++ 0 ∷ (w ++ s)
 element_names t n m v w r s h = sym (append_assoc n (0 ∷ v) r) ∙ (cc) ∙ append_assoc m (0 ∷ w) s
 
 first_values : (t : Tree) (n v w r s : List ℕ) → element t n v ++ r ≡ element t n w ++ s → v ++ r ≡ w ++ s
 first_values t n v w r s h =
-    let e : n ++ 0 ∷ (v ++ r) ≡ n ++ 0 ∷ (w ++ s) = sym (append_assoc n (0 ∷ v) r) ∙ (cc) ∙ append_assoc n (0 ∷ w) s in
+    let e : n ++ 0 ∷ (v ++ r) ≡ n ++ 0 ∷ (w ++ s) =
+    sym (append_assoc n (0 ∷ v) r) ∙ (cc) ∙ append_assoc n (0 ∷ w) s in
     let f : 0 ∷ (v ++ r) ≡ 0 ∷ (w ++ s) = cancel n n (0 ∷ (v ++ r)) (0 ∷ (w ++ s)) refl e in
     cc
 
@@ -246,7 +291,8 @@ mutual
       λ i. (e i, is_prop→PathP (λ k. AreItems ts (e k)) (λ k. items_prop ts (e k)) p.1 q.1 i, is_prop→PathP (λ k. v ≡ framed (e k)) (λ k. same_bytes v (framed (e k))) p.2 q.2 i)
   value_prop (code_scope z fs) v p q =
       let c = same_code z z (framed p.0) (framed q.0) [] [] v v p.3 q.3 p.2 q.2 refl in
-      let e : p.0 ≡ q.0 = (fields fs fs p.0 q.0 [] [] p.1 q.1 (bodies p.0 q.0 (framed p.0) (framed q.0) [] [] refl refl c.after)).1 in
+      let e : p.0 ≡ q.0 =
+      (fields fs fs p.0 q.0 [] [] p.1 q.1 (bodies p.0 q.0 (framed p.0) (framed q.0) [] [] refl refl c.after)).1 in
       λ i. (e i, is_prop→PathP (λ k. AreFields fs (e k)) (λ k. fields_prop fs (e k)) p.1 q.1 i, is_prop→PathP (λ k. v ≡ scoped z (framed (e k))) (λ k. same_bytes v (scoped z (framed (e k)))) p.2 q.2 i, text_prop z p.3 q.3 i)
 
   pub fields_prop : (fs : Fields) (b : List ℕ) → IsProp (AreFields fs b)
@@ -260,7 +306,9 @@ mutual
   pub items_prop : (ts : Items) (b : List ℕ) → IsProp (AreItems ts b)
   items_prop no_items b p q = same_bytes b [] p q
   items_prop (item t ts) b p q =
-      let named = names p.0 q.0 (p.1 ++ p.2) (q.1 ++ q.2) p.3.1 q.3.1 (element_names t p.0 q.0 p.1 q.1 p.2 q.2 (sym p.6 ∙ q.6)) in
+      let named =
+      names p.0 q.0 (p.1 ++ p.2) (q.1
+      ++ q.2) p.3.1 q.3.1 (element_names t p.0 q.0 p.1 q.1 p.2 q.2 (sym p.6 ∙ q.6)) in
       let n : p.0 ≡ q.0 = named.0 in
       let e : p.1 ≡ q.1 = (values t t p.1 q.1 p.2 q.2 p.4 q.4 refl named.1).1 in
       let f : p.2 ≡ q.2 = cancel p.1 q.1 p.2 q.2 e named.1 in

@@ -1,6 +1,6 @@
 //! What a value that stays in its bytes holds.
 
-ghost use Rattle.bd_raw.specs.Contents.{Holds, StandsIn};
+ghost use Rattle.bd_raw.specs.Contents.{HoldsContents, StandsIn};
 ghost use Rattle.bd_raw.specs.Sound.{stands};
 
 use crate::raw::{Elements, RawDoc, RawValue};
@@ -21,7 +21,7 @@ impl<'a> RawValue<'a> {
     /// What it holds.
     #[inline(always)]
     pub(crate) fn contents(self) -> Contents<'a>
-        ensures holds { Holds (stands self.entry.sound) result }
+        ensures holds { HoldsContents (stands self.entry.sound) result }
         ensures kept { StandsIn self.entry.bytes.now result }
     {
         let (_, here) = self.bytes.split_at(self.start);

@@ -2,6 +2,7 @@
 
 ghost use Rattle.std.specs.Prelude.{◌≡◌, ◌<◌, Some, option_map, length, slice_get, IfSome};
 ghost use Rattle.bd_value.specs.Lookup.{first_of};
+ghost use Rattle.bd_raw.specs.Short.{IsShort};
 ghost use Rattle.bd_raw.specs.Sound.{stands, elements_left};
 
 use crate::raw::{Elements, RawValue};
@@ -25,6 +26,7 @@ impl<'a> Elements<'a> {
         requires { i < length (elements_left self.left) }
         ensures pair { slice_get (elements_left self.entry.left) i ≡ Some (result.0.now, stands result.1.sound) }
         ensures kept { result.1.bytes.now ≡ self.entry.bytes.now }
+        ensures short { IsShort result.0.now }
     {
         let mut rest = self;
         let mut k = 0;

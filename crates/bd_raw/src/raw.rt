@@ -4,6 +4,7 @@ ghost use Rattle.std.specs.Prelude.{◌≡◌, ◌≤◌, ◌+◌, length, drop,
 ghost use Rattle.bd_value.specs.Tree.{Doc, doc, fields_of, pairs_in};
 ghost use Rattle.bd_value.specs.Kind.{kind_of};
 ghost use Rattle.bd_value.specs.declared.kind.Kind.TheVariants as kinds;
+ghost use Rattle.bd_raw.specs.Short.{IsShort};
 ghost use Rattle.bd_raw.specs.Spelling.{IsDocument};
 ghost use Rattle.bd_raw.specs.Sound.{Sound, Sound-prop, Left, Left-prop, stands, extent, elements_left};
 
@@ -41,7 +42,8 @@ impl<'a> RawDoc<'a> {
     /// All of the bytes, which are known to spell one document.
     pub fn whole(bytes: &'a [u8]) -> RawDoc<'a>
         requires { (d : Doc) × IsDocument d bytes.now }
-        ensures { IsDocument (pairs_in (stands result.sound)) bytes.now }
+        ensures document { IsDocument (pairs_in (stands result.sound)) bytes.now }
+        ensures kept { result.bytes.now ≡ bytes.now }
     {
         RawDoc { bytes, start: 0 }
     }
@@ -82,7 +84,7 @@ impl<'a> RawDoc<'a> {
 }
 
 impl<'a> RawValue<'a> {
-    /// The place behind it.
+    /// The place after it.
     #[inline(always)]
     fn end(self) -> usize
         ensures { result ≡ self.entry.start + extent self.entry.sound }
@@ -105,6 +107,7 @@ impl<'a> Elements<'a> {
     pub fn next(self) -> Option<(&'a str, RawValue<'a>, Elements<'a>)>
         ensures some { IfSome result (λ x. elements_left self.entry.left ≡ (x.0.now, stands x.1.sound) ∷ elements_left x.2.left) }
         ensures kept { IfSome result (λ x. (x.1.bytes.now ≡ self.entry.bytes.now) × (x.2.bytes.now ≡ self.entry.bytes.now)) }
+        ensures short { IfSome result (λ x. IsShort x.0.now) }
         ensures none { IfNone result (elements_left self.entry.left ≡ []) }
     {
         let byte = self.bytes[self.at];

@@ -3,7 +3,7 @@
 ghost use Rattle.std.specs.Prelude.{◌≡◌, ◌<◌, ◌≤◌, ◌+◌, ◌==◌, length, position, IfSome, Some, take, drop, false, slice_index_or};
 ghost use Rattle.bd_value.specs.Seen.{seen, own};
 ghost use Rattle.bd_raw.specs.Sizes.{number_of, long_of, zero_at, name_of, text_of, payload_of, size_of, scalar_at};
-ghost use Rattle.bd_raw.specs.Reads.{TextAt, NameAt, BinaryAt, Reads};
+ghost use Rattle.bd_raw.specs.Reads.{TextAt, NameAt, BinaryAt, HasBytesOf};
 ghost use Rattle.bd_raw.specs.Types.{type_at, holds};
 ghost use Rattle.bd_value.specs.declared.kind.Kind as kinds;
 ghost use Rattle.bd_raw.specs.declared.element.ElementType.TheVariants.{Kept};
@@ -68,7 +68,8 @@ fn id(bytes: &[u8]) -> [u8; 12]
 /// The text of a string.
 pub fn text(bytes: &[u8]) -> &str
     requires { TextAt bytes.now }
-    ensures { result.now ≡ text_of bytes.now }
+    ensures text { result.now ≡ text_of bytes.now }
+    ensures size { length result.now + 1 ≡ number_of bytes.now }
 {
     let n = number(bytes) as usize;
     let (_, behind) = bytes.split_at(4);
@@ -77,7 +78,7 @@ pub fn text(bytes: &[u8]) -> &str
     unsafe { std::str::from_utf8_unchecked(text) }
 }
 
-/// The text before the first zero, and the bytes behind that zero.
+/// The text before the first zero, and the bytes after that zero.
 #[inline(always)]
 pub fn name(bytes: &[u8]) -> (&str, &[u8])
     requires { NameAt bytes.now }
@@ -94,7 +95,7 @@ pub fn name(bytes: &[u8]) -> (&str, &[u8])
     (unsafe { std::str::from_utf8_unchecked(name) }, behind)
 }
 
-/// The bytes of binary data, behind the inner count of subtype 02.
+/// The bytes of binary data, after the inner count of subtype 02.
 fn payload(bytes: &[u8]) -> &[u8]
     requires { BinaryAt bytes.now }
     ensures { result.now ≡ payload_of bytes.now }
@@ -115,7 +116,7 @@ fn payload(bytes: &[u8]) -> &[u8]
 #[inline(always)]
 pub fn scalar(kind: Kind, bytes: &[u8]) -> Scalar<'_>
     requires scalar { holds kind ≡ false }
-    requires reads { Reads kind bytes.now }
+    requires reads { HasBytesOf kind bytes.now }
     ensures { seen result ≡ own (scalar_at kind bytes.now) }
 {
     match kind {
@@ -161,7 +162,7 @@ pub fn scalar(kind: Kind, bytes: &[u8]) -> Scalar<'_>
 /// How many bytes the value at the front takes.
 #[inline(always)]
 pub fn size(kind: Kind, bytes: &[u8]) -> usize
-    requires { Reads kind bytes.now }
+    requires { HasBytesOf kind bytes.now }
     ensures { result ≡ size_of kind bytes.now }
 {
     match kind {

@@ -5,6 +5,8 @@ ghost use Rattle.bd_value.specs.Tree.{pairs_in};
 ghost use Rattle.bd_value.specs.Parts.{AreParts, HoldsNoParts};
 ghost use Rattle.bd_value.specs.Lookup.{first_of};
 ghost use Rattle.bd_value.specs.View.{tree_of, pairs};
+ghost use Rattle.bd_value.specs.Seen.{seen, own_of};
+ghost use Rattle.bd_raw.specs.Short.{IsShort, OwnIsShort};
 ghost use Rattle.bd_raw.specs.Sound.{stands, elements_left};
 
 use crate::contents::Contents;
@@ -32,6 +34,7 @@ impl<'a> RawDoc<'a> {
         requires { i < length (pairs_in (stands self.sound)) }
         ensures pair { slice_get (pairs_in (stands self.entry.sound)) i ≡ Some (result.0.now, stands result.1.sound) }
         ensures kept { result.1.bytes.now ≡ self.entry.bytes.now }
+        ensures short { IsShort result.0.now }
     {
         self.elements().nth(i)
     }
@@ -150,7 +153,10 @@ impl<'a> Reading for RawValue<'a> {
 
 impl<'a> Node<'a> for RawValue<'a> {
     #[inline(always)]
-    fn scalar(self) -> Option<Scalar<'a>> {
+    fn scalar(self) -> Option<Scalar<'a>>
+        ensures scalar { option_map seen result ≡ own_of (stands self.entry.sound) }
+        ensures short { IfSome result (λ s. OwnIsShort (seen s)) }
+    {
         match self.contents() {
             Contents::Scalar(scalar) => Some(scalar),
             Contents::CodeScope(code, _) => Some(Scalar::CodeScope(code)),

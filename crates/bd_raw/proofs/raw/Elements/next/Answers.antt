@@ -40,3 +40,9 @@ returns-clause-some c =
     let kinded = s.kind_here c.args.self.bytes.now c.args.self.at c.args.self.left.fields n c.kept.result c.kept.ensures in
     let named = c.name.ensures.text ∙ s.name_is c.args.self.bytes.now c.args.self.at c.args.self.left.fields n c.split_at.result.1.now c.split_at.ensures.back in
     s.shown c.args.self.bytes.now c.args.self.at c.args.self.left.fields n c.kept.result kinded (length c.name.result.0.now) c.end.result c.name.result.0.now c.args.self.left _ _ _ refl k named c.end.ensures
+
+pub returns-clause-short : goal.returns-clause-short
+returns-clause-short c =
+    let n = s.next_of c.args.self.bytes.now c.args.self.at c.args.self.left c.if-byte-eq0.false in
+    let named = c.name.ensures.text ∙ s.name_is c.args.self.bytes.now c.args.self.at c.args.self.left.fields n c.split_at.result.1.now c.split_at.ensures.back in
+    rw named n.name_short

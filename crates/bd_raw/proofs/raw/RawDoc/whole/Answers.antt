@@ -5,5 +5,5 @@ use Rattle.bd_raw.proofs.raw.RawDoc.whole.Goals as goal
 pub invariant_of-result : goal.invariant_of-result
 invariant_of-result c = record { inside = search rules; sound = whole_sound c.args.bytes.now c.requires.0 c.requires.1 }
 
-pub returns : goal.returns
-returns c = whole_is c.args.bytes.now c.requires.0 c.requires.1 _
+pub returns-clause-document : goal.returns-clause-document
+returns-clause-document c = whole_is c.args.bytes.now c.requires.0 c.requires.1 _

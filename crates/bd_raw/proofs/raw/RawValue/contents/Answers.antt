@@ -1,7 +1,7 @@
 use Rattle.std.proofs.Common.{◌≡◌, ◌+◌, ◌∙◌, drop, length, List, ℕ, sym, ap, subst, arith}
 use Rattle.std.proofs.lemmas.List.{drop-drop}
 use Rattle.bd_value.specs.Seen.{own}
-use Rattle.bd_raw.specs.Reads.{TextAt, Reads}
+use Rattle.bd_raw.specs.Reads.{TextAt, HasBytesOf}
 use Rattle.bd_raw.specs.Sizes.{number_of, text_of, scalar_at}
 use Rattle.bd_raw.proofs.Readable.{reads_at}
 use Rattle.bd_raw.proofs.Viewed as v
@@ -48,13 +48,13 @@ pub returns-in-CodeScope-clause-holds : goal.returns-in-CodeScope-clause-holds
 returns-in-CodeScope-clause-holds c =
     let behind : c.split_at-in-CodeScope.result.1.now ≡ drop (c.args.self.start + 4) c.args.self.bytes.now = c.split_at-in-CodeScope.ensures.back ∙ ap (drop 4) c.split_at.ensures.back ∙ drop-drop 4 c.args.self.start c.args.self.bytes.now in
     let n = c.number.ensures ∙ ap number_of behind in
-    let t = c.text.ensures ∙ ap text_of behind in
+    let t = c.text.ensures.text ∙ ap text_of behind in
     v.code_is c.args.self.bytes.now c.args.self.start c.args.self.kind c.args.self.sound c.in-CodeScope.is c.number.result c.text.result.now _ n t
 
 pub scalar-requires : goal.scalar-requires
 scalar-requires c =
     let none = v.no_holder_left c.args.self.kind c.in_default.not-Doc c.in_default.not-Array c.in_default.not-CodeScope in
-    record { scalar = none; reads = subst (Reads c.args.self.kind) (sym c.split_at.ensures.back) (reads_at c.args.self.kind _ c.args.self.sound) }
+    record { scalar = none; reads = subst (HasBytesOf c.args.self.kind) (sym c.split_at.ensures.back) (reads_at c.args.self.kind _ c.args.self.sound) }
 
 pub returns-in_default-clause-holds : goal.returns-in_default-clause-holds
 returns-in_default-clause-holds c =

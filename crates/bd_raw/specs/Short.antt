@@ -1,0 +1,31 @@
+-- Texts that are no longer than a document may be.
+use Rattle.std.specs.Prelude.{◌≤◌, ℕ, List, length}
+use Rattle.bd_value.specs.Tree as trees
+use Rattle.bd_value.specs.Tree.{Scalar}
+use Rattle.bd_value.specs.Seen.{Own, own, own_code}
+
+abbrev pub IsShort : List ℕ → Type 0
+IsShort text = length text ≤ 16793600
+
+abbrev pub ScalarIsShort : Scalar → Type 0
+ScalarIsShort trees.min_key = Unit {0}
+ScalarIsShort trees.undefined = Unit {0}
+ScalarIsShort trees.null = Unit {0}
+ScalarIsShort (trees.int32 z) = Unit {0}
+ScalarIsShort (trees.int64 z) = Unit {0}
+ScalarIsShort (trees.text s) = IsShort s
+ScalarIsShort (trees.symbol s) = IsShort s
+ScalarIsShort (trees.binary subtype payload) = IsShort payload
+ScalarIsShort (trees.object_id id) = Unit {0}
+ScalarIsShort (trees.boolean b) = Unit {0}
+ScalarIsShort (trees.date z) = Unit {0}
+ScalarIsShort (trees.timestamp seconds increment) = Unit {0}
+ScalarIsShort (trees.regex pattern options) = IsShort pattern × IsShort options
+ScalarIsShort (trees.db_pointer space id) = IsShort space
+ScalarIsShort (trees.code s) = IsShort s
+ScalarIsShort trees.max_key = Unit {0}
+
+-- the texts, and the bytes, of what a value holds besides other values
+abbrev pub OwnIsShort : Own → Type 0
+OwnIsShort (own s) = ScalarIsShort s
+OwnIsShort (own_code s) = IsShort s
