@@ -117,7 +117,7 @@ joined_append (d ∷ ds) es a b p q = (p.0, p.1 ++ b, p.2, joined_append ds es p
 pub joined_one : (d : Doc) (bytes : List ℕ) → IsDocument d bytes → AreJoined (d ∷ []) bytes
 joined_one d bytes h = (bytes, [], h, refl, sym (append-nil bytes))
 
--- what a walk finds behind some documents
+-- what a walk finds after some documents
 pub record Walked (done : List Doc) (front rest : List ℕ) : Type 0 where
   pub more : List Doc
   pub end : Option Fault
@@ -199,6 +199,6 @@ walk : (turns : ℕ) → Walker turns
 walk zero done front rest le fits j = ends_at done front rest j (nil_from_length rest (omega arith))
 walk (suc turns) done front rest le fits j = walk_frame turns (walk turns) done front rest (frame_length rest) le fits j refl
 
--- the walk goes on behind any documents
+-- the walk goes on after any documents
 pub walk_on : (done : List Doc) (front rest : List ℕ) → IsBytes rest → AreJoined done front → Walked done front rest
 walk_on done front rest fits j = walk (length rest) done front rest (omega arith) fits j

@@ -5,7 +5,7 @@ use Rattle.std.proofs.lemmas.Bool.Decides.{nat_tests}
 use Rattle.bd_check.specs.Fault.{Fault}
 use Rattle.bd_check.specs.declared.fault.Stop.{Stop}
 use Rattle.bd_check.specs.declared.fault.Stop.TheVariants as stops
-use Rattle.bd_check.specs.Gives.{Fails}
+use Rattle.bd_check.specs.Gives.{FailsAtItem}
 use Rattle.bd_check.specs.FirstFault.{◌>>=◌, Nested, past_element, past_elements, past_nested}
 use Rattle.bd_check.proofs.Takes.{IsBytes, NestedTakes, element_takes, element_shrinks, nested_takes}
 
@@ -41,7 +41,7 @@ first_of_all place room e (b ∷ bytes) after fits is less after_fits =
     let k = enough room (past_nested room) (option_map suc place) (length bytes) (length after) e after (nested_takes room) after_fits (omega arith) (omega arith) in
     rw (is, k) refl
 
-no_first : (r : Stop) (place : Option ℕ) (room e : ℕ) (bytes : List ℕ) → 0 < length bytes → Fails r (past_element (past_nested room) place e bytes) → Fails r (past_elements (past_nested room) place (length bytes) e bytes)
+no_first : (r : Stop) (place : Option ℕ) (room e : ℕ) (bytes : List ℕ) → 0 < length bytes → FailsAtItem r (past_element (past_nested room) place e bytes) → FailsAtItem r (past_elements (past_nested room) place (length bytes) e bytes)
 unfolding past_elements
 no_first r place room e [] lt h = absurd (omega arith)
 no_first stops.NoMemory place room e (b ∷ bytes) lt h = tt
@@ -67,12 +67,12 @@ goes_on place room e bytes after total fits is so_far =
 pub some_left : (n : ℕ) → false ≡ eqb n 0 → 0 < n
 some_left n h = grind (arith, nat_tests, h)
 
-falls : (r : Stop) (read total : Result (Unit {0}) Fault) → Fails r read → read ≡ total → Fails r total
+falls : (r : Stop) (read total : Result (Unit {0}) Fault) → FailsAtItem r read → read ≡ total → FailsAtItem r total
 falls stops.NoMemory read total h so_far = tt
 falls (stops.Found f) read total h so_far = sym so_far ∙ h
 
-pub ends : (r : Stop) (place : Option ℕ) (room e : ℕ) (bytes : List ℕ) (total : Result (Unit {0}) Fault) → 0 < length bytes → Fails r (past_element (past_nested room) place e bytes)
-    → past_elements (past_nested room) place (length bytes) e bytes ≡ total → Fails r total
+pub ends : (r : Stop) (place : Option ℕ) (room e : ℕ) (bytes : List ℕ) (total : Result (Unit {0}) Fault) → 0 < length bytes → FailsAtItem r (past_element (past_nested room) place e bytes)
+    → past_elements (past_nested room) place (length bytes) e bytes ≡ total → FailsAtItem r total
 ends r place room e bytes total lt h so_far = falls r _ total (no_first r place room e bytes lt h) so_far
 
 pub is_done : (place : Option ℕ) (room e : ℕ) (bytes : List ℕ) (total : Result (Unit {0}) Fault) → bytes ≡ [] → past_elements (past_nested room) place (length bytes) e bytes ≡ total → total ≡ Ok tt

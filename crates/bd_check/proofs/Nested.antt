@@ -8,7 +8,7 @@ use Rattle.bd_check.specs.declared.fault.Stop.TheVariants as stops
 use Rattle.bd_raw.specs.declared.element.ElementType.{ElementType}
 use Rattle.bd_raw.specs.declared.element.Holder.{Holder}
 use Rattle.bd_raw.specs.declared.element.Holder.TheVariants as holders
-use Rattle.bd_check.specs.Gives.{Gives, Fails}
+use Rattle.bd_check.specs.Gives.{GivesItem, FailsAtItem}
 use Rattle.bd_raw.specs.Types.{type_at}
 use Rattle.bd_check.specs.FirstFault.{◌>>=◌, known, past_name, past_string, past_code_frame, within, label, fault, Nested, past_typed, past_element, past_body, past_code_scope, past_holder, past_nested}
 
@@ -42,26 +42,26 @@ Answer = Result (Bor (List ℕ)) Stop
 
 -- what holds values, by what stands in it
 module _ (holder : Holder) (room q e : ℕ) (bytes : List ℕ) (r : Answer) where
-  pub document_gives : holder ≡ holders.Document → 0 < room → Gives (λ x. x.now) r (past_body (past_nested (room - 1)) false e bytes) → Gives (λ x. x.now) r (past_nested room holder q e bytes)
-  document_gives h lt g = subst (Gives (λ x. x.now) r) (sym (ap (λ (x : Holder). past_nested room x q e bytes) h ∙ below holders.Document room q e bytes lt)) g
+  pub document_gives : holder ≡ holders.Document → 0 < room → GivesItem (λ x. x.now) r (past_body (past_nested (room - 1)) false e bytes) → GivesItem (λ x. x.now) r (past_nested room holder q e bytes)
+  document_gives h lt g = subst (GivesItem (λ x. x.now) r) (sym (ap (λ (x : Holder). past_nested room x q e bytes) h ∙ below holders.Document room q e bytes lt)) g
 
-  pub array_gives : holder ≡ holders.Array → 0 < room → Gives (λ x. x.now) r (past_body (past_nested (room - 1)) true e bytes) → Gives (λ x. x.now) r (past_nested room holder q e bytes)
-  array_gives h lt g = subst (Gives (λ x. x.now) r) (sym (ap (λ (x : Holder). past_nested room x q e bytes) h ∙ below holders.Array room q e bytes lt)) g
+  pub array_gives : holder ≡ holders.Array → 0 < room → GivesItem (λ x. x.now) r (past_body (past_nested (room - 1)) true e bytes) → GivesItem (λ x. x.now) r (past_nested room holder q e bytes)
+  array_gives h lt g = subst (GivesItem (λ x. x.now) r) (sym (ap (λ (x : Holder). past_nested room x q e bytes) h ∙ below holders.Array room q e bytes lt)) g
 
-  pub code_gives : holder ≡ holders.CodeScope → 1 < room → Gives (λ x. x.now) r (past_code_scope (past_nested (room - 1)) q e bytes) → Gives (λ x. x.now) r (past_nested room holder q e bytes)
-  code_gives h lt g = subst (Gives (λ x. x.now) r) (sym (ap (λ (x : Holder). past_nested room x q e bytes) h ∙ code_below room q e bytes lt)) g
+  pub code_gives : holder ≡ holders.CodeScope → 1 < room → GivesItem (λ x. x.now) r (past_code_scope (past_nested (room - 1)) q e bytes) → GivesItem (λ x. x.now) r (past_nested room holder q e bytes)
+  code_gives h lt g = subst (GivesItem (λ x. x.now) r) (sym (ap (λ (x : Holder). past_nested room x q e bytes) h ∙ code_below room q e bytes lt)) g
 
-falls : {A B : Type 0} (r : Stop) (x : Result A Fault) (f : A → Result B Fault) → Fails r x → Fails r (x >>= f)
+falls : {A B : Type 0} (r : Stop) (x : Result A Fault) (f : A → Result B Fault) → FailsAtItem r x → FailsAtItem r (x >>= f)
 falls stops.NoMemory x f h = tt
 falls (stops.Found g) x f h = rw h refl
 
 -- a scope that has a fault
 pub scope_fails : (r : Stop) (nested : Nested) (q e : ℕ) (bytes parts : List ℕ) (end : ℕ) (rest scope : List ℕ) → past_code_frame e bytes ≡ Ok (parts, end, rest) → past_string end parts ≡ Ok scope
-    → Fails r (within (codes "$scope") (nested holders.Document q end scope)) → Fails r (past_code_scope nested q e bytes)
+    → FailsAtItem r (within (codes "$scope") (nested holders.Document q end scope)) → FailsAtItem r (past_code_scope nested q e bytes)
 scope_fails r nested q e bytes parts end rest scope one two h = rw (one, two) (falls r (within (codes "$scope") (nested holders.Document q end scope)) _ h)
 
 pub element_fails : (r : Stop) (nested : Nested) (place : Option ℕ) (e : ℕ) (bytes : List ℕ) (type : ElementType) (more name rest : List ℕ) → 0 < length bytes → known (e - length bytes) (type_at (get_or bytes 0 0)) ≡ Ok type
-    → drop 1 bytes ≡ more → past_name NameUnended e more ≡ Ok (name, rest) → Fails r (within (label place name) (past_typed nested type (e - length bytes) e rest)) → Fails r (past_element nested place e bytes)
+    → drop 1 bytes ≡ more → past_name NameUnended e more ≡ Ok (name, rest) → FailsAtItem r (within (label place name) (past_typed nested type (e - length bytes) e rest)) → FailsAtItem r (past_element nested place e bytes)
 unfolding past_element
 element_fails r nested place e [] type more name rest lt one cut two fails = absurd (omega arith)
 element_fails stops.NoMemory nested place e (first ∷ bytes) type more name rest lt one cut two fails = tt

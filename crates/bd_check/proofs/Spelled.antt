@@ -6,14 +6,14 @@ use Rattle.bd_raw.specs.Spelling.{IsDocument}
 use Rattle.bd_raw.specs.Sound.{stands}
 use Rattle.bd_raw.specs.declared.raw.RawDoc.{RawDoc}
 use Rattle.bd_check.specs.FirstFault.{first_fault, fault_in}
-use Rattle.bd_check.specs.Told.{Tells, IsWantOfMemory}
+use Rattle.bd_check.specs.Told.{TellsFault, IsWantOfMemory}
 use Rattle.bd_check.specs.Next.{IsNext}
 use Rattle.bd_check.specs.declared.fault.Fault.{Fault}
 use Rattle.bd_check.proofs.Again.{document_again}
 
 -- a document that is spelled has no fault
-pub spelled_tells : (base number : ℕ) (bytes : List ℕ) (d : Doc) (e : Fault) → IsDocument d bytes → Tells number (first_fault base bytes) e → IsWantOfMemory e
-spelled_tells base number bytes d e is tells = subst (λ (f : Option _). Tells number f e) (ap fault_in (document_again (base + length bytes) bytes d is)) tells
+pub spelled_tells : (base number : ℕ) (bytes : List ℕ) (d : Doc) (e : Fault) → IsDocument d bytes → TellsFault number (first_fault base bytes) e → IsWantOfMemory e
+spelled_tells base number bytes d e is tells = subst (λ (f : Option _). TellsFault number f e) (ap fault_in (document_again (base + length bytes) bytes d is)) tells
 
 -- the document that its frame spells is the next one
 pub next_is : (bytes : List ℕ) (at n k : ℕ) (raw : RawDoc) → at + n ≤ length bytes → k ≡ n → IsDocument (pairs_in (stands raw.sound)) (take k (drop at bytes)) → IsNext bytes at (Some (raw, at + n))

@@ -15,12 +15,15 @@ length_told bytes = from_le_bytes w32 (take 4 bytes)
 -- how many bytes the document at the front is to take, none at the end, or why that can't be
 abbrev pub frame_length : List ℕ → Result (Option ℕ) FaultKind
 frame_length [] = Ok None
-frame_length (b ∷ bytes) = if nat_lt (length (b ∷ bytes)) 4 then Err ShortLength else (if nat_lt (length_told (b ∷ bytes)) 5 || nat_lt 16793600 (length_told (b ∷ bytes)) || nat_lt (length (b ∷ bytes)) (length_told (b ∷ bytes)) then Err BadLength else Ok (Some (length_told (b ∷ bytes))))
+frame_length (b ∷ bytes) =
+    if nat_lt (length (b ∷ bytes)) 4 then Err ShortLength else (if nat_lt (length_told (b ∷ bytes)) 5 || nat_lt 16793600 (length_told (b ∷ bytes)) || nat_lt (length (b ∷ bytes)) (length_told (b ∷ bytes)) then Err BadLength else Ok (Some (length_told (b ∷ bytes))))
 
 -- the bytes are spellings of the documents
 abbrev pub AreJoined : List Doc → List ℕ → Type 0
 AreJoined [] bytes = bytes ≡ []
-AreJoined (d ∷ ds) bytes = (front : List ℕ) × (rest : List ℕ) × IsDocument d front × AreJoined ds rest × (bytes ≡ front ++ rest)
+AreJoined (d ∷ ds) bytes =
+    (front : List ℕ) × (rest : List ℕ) × IsDocument d front × AreJoined ds rest
+    × (bytes ≡ front ++ rest)
 
 -- the bytes are a dump of the documents
 abbrev pub IsDump : List Doc → List ℕ → Type 0
@@ -35,9 +38,11 @@ framed_fault base bytes (Err kind) = Some (record { kind = kind; offset = base; 
 abbrev pub frame_fault : ℕ → List ℕ → Option Fault
 frame_fault base bytes = framed_fault base bytes (frame_length bytes)
 
--- the documents are whole, and the one behind them has the fault; it has as its number their count
+-- the documents are whole, and the one after them has the fault; it has as its number their count
 abbrev pub FailsAfter : List Doc → Fault → List ℕ → Type 0
-FailsAfter ds f bytes = (front : List ℕ) × (rest : List ℕ) × AreJoined ds front × (bytes ≡ front ++ rest) × (frame_fault (length front) rest ≡ Some f)
+FailsAfter ds f bytes =
+    (front : List ℕ) × (rest : List ℕ) × AreJoined ds front × (bytes ≡ front ++ rest)
+    × (frame_fault (length front) rest ≡ Some f)
 
 -- the documents before the first fault, and that fault, or all documents
 abbrev pub IsWalk : List Doc → Option Fault → List ℕ → Type 0

@@ -1,5 +1,5 @@
 -- The first check that fails, from left to right, in bytes that are to be one document. No tree is built.
--- Each function goes past one item at the front of its bytes, and gives the bytes behind it or the fault.
+-- Each function goes past one item at the front of its bytes, and gives the bytes after it or the fault.
 -- e is the place that the item may not pass, and the bytes are those up to e: the item stands at e less their number.
 use Rattle.std.specs.Prelude.{ℕ, zero, suc, ◌+◌, ◌-◌, List, [], ◌∷◌, length, take, drop, Option, Some, None, option_map, Result, Ok, Err, Bool, true, false, nat_lt, ◌==◌, ◌||◌, ◌&&◌, not, if◌then◌else◌, decimal, codes, slice_index_or}
 use Rattle.std.specs.List.{position}
@@ -26,11 +26,12 @@ abbrev pub ◌>>=◌ : {A B : Type 0} → Result A Fault → (A → Result B Fau
 abbrev pub fault : {A : Type 0} → FaultKind → ℕ → Result A Fault
 fault kind at = Err (record { kind = kind; offset = at; path = [] })
 
--- a number of four bytes, and the bytes behind it
+-- a number of four bytes, and the bytes after it
 abbrev pub past_number : FaultKind → ℕ → List ℕ → Result (ℕ × List ℕ) Fault
-past_number short e bytes = if nat_lt (length bytes) 4 then fault short (e - length bytes) else Ok (from_le_bytes w32 (take 4 bytes), drop 4 bytes)
+past_number short e bytes =
+    if nat_lt (length bytes) 4 then fault short (e - length bytes) else Ok (from_le_bytes w32 (take 4 bytes), drop 4 bytes)
 
--- the bytes behind a zero
+-- the bytes after a zero
 abbrev pub past_zero : FaultKind → ℕ → List ℕ → Result (List ℕ) Fault
 past_zero kind e [] = fault kind (e - 0)
 past_zero kind e (zero ∷ rest) = Ok rest
@@ -40,7 +41,7 @@ past_zero kind e (suc b ∷ rest) = fault kind (e - suc (length rest))
 abbrev pub text_at : ℕ → List ℕ → Result (List ℕ) Fault
 text_at at bytes = if is_utf8 bytes then Ok bytes else fault BadUtf8 (at + utf8_valid_len bytes)
 
--- The text before the first zero, and the bytes behind that zero. The kind is the fault where there is no zero.
+-- The text before the first zero, and the bytes after that zero. The kind is the fault where there is no zero.
 abbrev pub name_up_to : FaultKind → Option ℕ → ℕ → List ℕ → Result (List ℕ × List ℕ) Fault
 name_up_to kind None e bytes = fault kind (e - length bytes)
 name_up_to kind (Some k) e bytes = do
@@ -50,13 +51,13 @@ name_up_to kind (Some k) e bytes = do
 abbrev pub past_name : FaultKind → ℕ → List ℕ → Result (List ℕ × List ℕ) Fault
 past_name kind e bytes = name_up_to kind (position (λ b. b == 0) bytes) e bytes
 
--- a text behind its length
+-- a text after its length
 unfoldable pub past_string : ℕ → List ℕ → Result (List ℕ) Fault
 past_string e bytes = do
   n ← past_number ValueShort e bytes
   if n.0 == 0 || nat_lt (length n.1) n.0 then fault BadStringLength (e - length bytes) else (past_zero StringUnended e (drop (n.0 - 1) n.1) >>= λ rest. text_at (e - length n.1) (take (n.0 - 1) n.1) >>= λ s. Ok rest)
 
--- a document but for its elements: their bytes, the end of these, and the bytes behind the document
+-- a document but for its elements: their bytes, the end of these, and the bytes after the document
 unfoldable pub past_frame : Bool → ℕ → List ℕ → Result (List ℕ × ℕ × List ℕ) Fault
 past_frame top e bytes = do
   n ← past_number (if top then ShortLength else ValueShort) e bytes
@@ -64,7 +65,8 @@ past_frame top e bytes = do
 
 -- so many bytes
 abbrev pub past_fixed : ℕ → ℕ → List ℕ → Result (List ℕ) Fault
-past_fixed n e bytes = if nat_lt (length bytes) n then fault ValueShort (e - length bytes) else Ok (drop n bytes)
+past_fixed n e bytes =
+    if nat_lt (length bytes) n then fault ValueShort (e - length bytes) else Ok (drop n bytes)
 
 -- a boolean: 00 or 01
 abbrev pub past_boolean : ℕ → List ℕ → Result (List ℕ) Fault
@@ -92,7 +94,7 @@ past_regex e bytes = do
   options ← past_name StringUnended e pattern.1
   Ok options.1
 
--- code with scope, but for its parts: their bytes, the end of these, and the bytes behind it
+-- code with scope, but for its parts: their bytes, the end of these, and the bytes after it
 unfoldable pub past_code_frame : ℕ → List ℕ → Result (List ℕ × ℕ × List ℕ) Fault
 past_code_frame e bytes = do
   n ← past_number ValueShort e bytes

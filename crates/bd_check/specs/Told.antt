@@ -7,9 +7,9 @@ use Rattle.bd_check.specs.declared.fault.Stop.{Stop}
 use Rattle.bd_check.specs.declared.fault.Stop.TheVariants as stops
 
 -- which fault an item's reading stopped at, unless memory ran out
-abbrev pub Told : Stop → Fault → Type 0
-Told stops.NoMemory f = Unit {0}
-Told (stops.Found g) f = f ≡ found_fault g
+abbrev pub TellsStop : Stop → Fault → Type 0
+TellsStop stops.NoMemory f = Unit {0}
+TellsStop (stops.Found g) f = f ≡ found_fault g
 
 -- the fault without the number of its document
 abbrev pub fault_view : declared.Fault → Fault
@@ -32,11 +32,11 @@ IsOf stops.NoMemory number e = IsWantOfMemory e
 IsOf (stops.Found g) number e = IsFault number (found_fault g) e
 
 -- the fault that was answered is the one there is, or want of memory
-abbrev pub Tells : ℕ → Option Fault → declared.Fault → Type 0
-Tells number None e = IsWantOfMemory e
-Tells number (Some f) e = IsWantOfMemory e ⊎ IsFault number f e
+abbrev pub TellsFault : ℕ → Option Fault → declared.Fault → Type 0
+TellsFault number None e = IsWantOfMemory e
+TellsFault number (Some f) e = IsWantOfMemory e ⊎ IsFault number f e
 
 -- an answer that is no fault is given only where there is none
-abbrev pub Finds : {A : Type 0} → ℕ → Option Fault → Result A declared.Fault → Type 0
-Finds number first (Ok x) = first ≡ None
-Finds number first (Err e) = Tells number first e
+abbrev pub FindsFault : {A : Type 0} → ℕ → Option Fault → Result A declared.Fault → Type 0
+FindsFault number first (Ok x) = first ≡ None
+FindsFault number first (Err e) = TellsFault number first e

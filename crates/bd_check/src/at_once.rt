@@ -18,7 +18,7 @@ fn ascii_end(bytes: &[u8]) -> Option<usize>
     bytes.iter().position(|b| *b == 0 || *b > 127)
 }
 
-/// The bytes behind an ASCII name.
+/// The bytes after an ASCII name.
 #[inline(always)]
 fn behind_name(bytes: &[u8]) -> Option<&[u8]>
     ensures { IfSome result (λ x. (k : ℕ) × (position (λ b. b == 0) bytes.now ≡ Some k) × (is_utf8 (take k bytes.now) ≡ true)
@@ -32,7 +32,7 @@ fn behind_name(bytes: &[u8]) -> Option<&[u8]>
     Some(behind)
 }
 
-/// The bytes behind `n` bytes.
+/// The bytes after `n` bytes.
 #[inline(always)]
 fn behind(n: usize, bytes: &[u8]) -> Option<&[u8]>
     ensures { IfSome result (λ x. (n ≤ length bytes.now) × (x.now ≡ drop n bytes.now)) }
@@ -44,7 +44,7 @@ fn behind(n: usize, bytes: &[u8]) -> Option<&[u8]>
     Some(rest)
 }
 
-/// The bytes behind a string.
+/// The bytes after a string.
 #[inline(always)]
 #[tactic(auto, unfolding(crate::specs::FirstFault::past_string))]
 fn behind_string(bytes: &[u8]) -> Option<&[u8]>
@@ -66,7 +66,7 @@ fn behind_string(bytes: &[u8]) -> Option<&[u8]>
     }
 }
 
-/// The bytes behind a value of that kind.
+/// The bytes after a value of that kind.
 #[inline(always)]
 fn behind_value(kind: Kind, bytes: &[u8]) -> Option<&[u8]>
     ensures gives { IfSome result (λ x. (nested : Nested) (q e : ℕ) → past_value nested kind q e bytes.now ≡ Ok x.now) }
@@ -86,7 +86,7 @@ fn behind_value(kind: Kind, bytes: &[u8]) -> Option<&[u8]>
     }
 }
 
-/// The bytes behind such an element; none where it is another, or may have a fault.
+/// The bytes after such an element; none where it is another, or may have a fault.
 #[inline(always)]
 pub fn past_scalar(bytes: &[u8]) -> Option<&[u8]>
     requires { 0 < length bytes.now }

@@ -1,9 +1,9 @@
 //! The first fault of a document's bytes, from left to right, without a tree.
 
 ghost use Rattle.std.specs.Prelude.{◌≡◌, ◌≤◌, ◌<◌, ◌+◌, length, IfOk, IfSome, option_map, Option, Some, suc};
-ghost use Rattle.bd_check.specs.Gives.{Gives};
+ghost use Rattle.bd_check.specs.Gives.{GivesItem};
 ghost use Rattle.bd_check.specs.FirstFault.{past_value, past_typed, past_element, past_elements, past_body, past_code_scope, past_nested, past_document, start, first_fault};
-ghost use Rattle.bd_check.specs.Told.{Finds};
+ghost use Rattle.bd_check.specs.Told.{FindsFault};
 ghost use Rattle.bd_raw.specs.Spelling.{IsDocument};
 ghost use Rattle.bd_raw.specs.Sound.{stands};
 ghost use Rattle.bd_value.specs.Tree.{pairs_in};
@@ -32,7 +32,7 @@ fn next(place: Option<usize>) -> Option<usize>
 #[cycle(checking)]
 fn elements(alloc: Global, room: u32, in_array: bool, e: u64, bytes: &[u8]) -> Result<(), Stop>
     requires { length bytes.now ≤ e }
-    ensures { Gives (λ x. tt) result (past_elements (past_nested room) (start in_array) (length bytes.now) e bytes.now) }
+    ensures { GivesItem (λ x. tt) result (past_elements (past_nested room) (start in_array) (length bytes.now) e bytes.now) }
 {
     let mut place = if in_array { Some(0) } else { None };
     let mut rest = bytes;
@@ -58,7 +58,7 @@ fn element(
 ) -> Result<&[u8], Stop>
     requires some { 0 < length bytes.now }
     requires inside { length bytes.now ≤ e }
-    ensures gives { Gives (λ x. x.now) result (past_element (past_nested room) place e bytes.now) }
+    ensures gives { GivesItem (λ x. x.now) result (past_element (past_nested room) place e bytes.now) }
     ensures after { IfOk result (λ x. length x.now < length bytes.now) }
 {
     let q = e - bytes.len() as u64;
@@ -83,7 +83,7 @@ fn typed(
     bytes: &[u8],
 ) -> Result<&[u8], Stop>
     requires { length bytes.now ≤ e }
-    ensures gives { Gives (λ x. x.now) result (past_typed (past_nested room) element_type q e bytes.now) }
+    ensures gives { GivesItem (λ x. x.now) result (past_typed (past_nested room) element_type q e bytes.now) }
     ensures after { IfOk result (λ x. length x.now ≤ length bytes.now) }
 {
     match element_type {
@@ -97,7 +97,7 @@ fn typed(
 #[cycle(checking)]
 fn value(alloc: Global, room: u32, kind: Kind, q: u64, e: u64, bytes: &[u8]) -> Result<&[u8], Stop>
     requires { length bytes.now ≤ e }
-    ensures gives { Gives (λ x. x.now) result (past_value (past_nested room) kind q e bytes.now) }
+    ensures gives { GivesItem (λ x. x.now) result (past_value (past_nested room) kind q e bytes.now) }
     ensures after { IfOk result (λ x. length x.now ≤ length bytes.now) }
 {
     match kind {
@@ -130,7 +130,7 @@ fn nested(
     bytes: &[u8],
 ) -> Result<&[u8], Stop>
     requires { length bytes.now ≤ e }
-    ensures gives { Gives (λ x. x.now) result (past_nested room holder q e bytes.now) }
+    ensures gives { GivesItem (λ x. x.now) result (past_nested room holder q e bytes.now) }
     ensures after { IfOk result (λ x. length x.now ≤ length bytes.now) }
 {
     if room == 0 {
@@ -152,7 +152,7 @@ fn nested(
 #[cycle(checking)]
 fn body(alloc: Global, room: u32, in_array: bool, e: u64, bytes: &[u8]) -> Result<&[u8], Stop>
     requires { length bytes.now ≤ e }
-    ensures gives { Gives (λ x. x.now) result (past_body (past_nested room) in_array e bytes.now) }
+    ensures gives { GivesItem (λ x. x.now) result (past_body (past_nested room) in_array e bytes.now) }
     ensures after { IfOk result (λ x. length x.now ≤ length bytes.now) }
 {
     let (body, end, rest) = frame(alloc, false, e, bytes)?;
@@ -164,7 +164,7 @@ fn body(alloc: Global, room: u32, in_array: bool, e: u64, bytes: &[u8]) -> Resul
 #[cycle(checking)]
 fn code_scope(alloc: Global, room: u32, q: u64, e: u64, bytes: &[u8]) -> Result<&[u8], Stop>
     requires { length bytes.now ≤ e }
-    ensures gives { Gives (λ x. x.now) result (past_code_scope (past_nested room) q e bytes.now) }
+    ensures gives { GivesItem (λ x. x.now) result (past_code_scope (past_nested room) q e bytes.now) }
     ensures after { IfOk result (λ x. length x.now ≤ length bytes.now) }
 {
     let (parts, end, rest) = code_frame(alloc, e, bytes)?;
@@ -182,7 +182,7 @@ fn code_scope(alloc: Global, room: u32, q: u64, e: u64, bytes: &[u8]) -> Result<
 #[tactic(auto, unfolding(crate::specs::FirstFault::past_document))]
 fn document(alloc: Global, e: u64, bytes: &[u8]) -> Result<(), Stop>
     requires { length bytes.now ≤ e }
-    ensures { Gives (λ x. tt) result (past_document e bytes.now) }
+    ensures { GivesItem (λ x. tt) result (past_document e bytes.now) }
 {
     let (body, end, _) = frame(alloc, true, e, bytes)?;
     elements(alloc, 199, false, end, body)
@@ -201,7 +201,8 @@ pub fn check_document<'a>(
 ) -> Result<RawDoc<'a>, Fault>
     requires { base + length bytes.now ≤ 4294967295 }
     ensures spelled { IfOk result (λ d. IsDocument (pairs_in (stands d.sound)) bytes.now) }
-    ensures first { Finds number (first_fault base bytes.now) result }
+    ensures kept { IfOk result (λ d. d.bytes.now ≡ bytes.now) }
+    ensures first { FindsFault number (first_fault base bytes.now) result }
 {
     match document(alloc, base + bytes.len() as u64, bytes) {
         Ok(()) => Ok(RawDoc::whole(bytes)),

@@ -3,13 +3,15 @@
 ghost use Rattle.std.specs.Prelude.{◌≡◌, [], IfOk, string_bytes, codes};
 ghost use Rattle.bd_check.specs.Fault.{Fault as Where, longer, fault_words};
 ghost use Rattle.bd_check.specs.FirstFault.{label};
-ghost use Rattle.bd_check.specs.Told.{Told, IsOf, IsWantOfMemory};
+ghost use Rattle.bd_check.specs.Told.{TellsStop, IsOf, IsWantOfMemory};
 ghost use Rattle.bd_check.specs.declared.fault.Stop.TheVariants.{NoMemory};
 
 use std::alloc::{AllocError, AllocFailed, Global};
+use thiserror::Error;
 
 /// Which check failed first.
-#[derive(Clone, Copy, Debug, PartialEq, Eq)]
+#[derive(Clone, Copy, Debug, Drop, PartialEq, Eq, Error)]
+#[error("{}", self.words())]
 pub enum FaultKind {
     /// Fewer than the four bytes of a document's length are left.
     ShortLength = 1,
@@ -23,7 +25,7 @@ pub enum FaultKind {
     Double = 5,
     /// A decimal128.
     Decimal128 = 6,
-    /// A name without a zero behind it.
+    /// A name without a zero after it.
     NameUnended = 7,
     /// A name or a text that is not UTF-8.
     BadUtf8 = 8,
@@ -75,7 +77,10 @@ impl FaultKind {
 }
 
 /// The first check that fails in a dump, and its place.
-#[derive(Debug, Drop)]
+///
+/// As a text it tells all but the path.
+#[derive(Debug, Drop, Error)]
+#[error("document {document}, byte {offset}: {kind}")]
 pub struct Fault {
     /// Which check failed.
     pub kind: FaultKind,
@@ -105,7 +110,7 @@ pub enum Stop {
 
 /// A fault at a place, with no path yet.
 pub fn fault_at(alloc: Global, kind: FaultKind, offset: u64) -> Stop
-    ensures { Told result (record { kind = kind; offset = offset; path = [] }) }
+    ensures { TellsStop result (record { kind = kind; offset = offset; path = [] }) }
 {
     Stop::Found(Found {
         kind,
@@ -126,7 +131,7 @@ fn label_of(alloc: Global, place: Option<usize>, name: &str) -> Result<String, A
 
 /// The stop as it is seen from one level up.
 pub fn within(alloc: Global, place: Option<usize>, name: &str, stop: Stop) -> Stop
-    ensures { (f : Where) → Told stop f → Told result (longer (label place name.now) f) }
+    ensures { (f : Where) → TellsStop stop f → TellsStop result (longer (label place name.now) f) }
 {
     match stop {
         Stop::NoMemory => Stop::NoMemory,

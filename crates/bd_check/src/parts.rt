@@ -5,7 +5,7 @@
 
 ghost use Rattle.std.specs.Prelude.{◌≡◌, ◌≤◌, ◌<◌, ◌+◌, ◌^◌, length, IfOk};
 ghost use Rattle.std.specs.Str.{is_utf8};
-ghost use Rattle.bd_check.specs.Gives.{Gives};
+ghost use Rattle.bd_check.specs.Gives.{GivesItem};
 ghost use Rattle.bd_check.specs.FirstFault.{past_number, past_zero, text_at, past_name, past_string, past_frame, past_fixed, past_boolean, past_data, past_binary, past_regex, past_code_frame, past_scope_end, known};
 ghost use Rattle.bd_raw.specs.Types.{type_at};
 
@@ -13,10 +13,10 @@ use crate::fault::{FaultKind, Stop, fault_at};
 use bd_raw::{ElementType, element_type, raw_parts as raw};
 use std::alloc::Global;
 
-/// A number of four bytes, and the bytes behind it.
+/// A number of four bytes, and the bytes after it.
 pub fn number(alloc: Global, short: FaultKind, e: u64, bytes: &[u8]) -> Result<(u32, &[u8]), Stop>
     requires { length bytes.now ≤ e }
-    ensures gives { Gives (λ x. (x.0, x.1.now)) result (past_number short e bytes.now) }
+    ensures gives { GivesItem (λ x. (x.0, x.1.now)) result (past_number short e bytes.now) }
     ensures after { IfOk result (λ x. length x.1.now + 4 ≡ length bytes.now) }
 {
     if bytes.len() < 4 {
@@ -27,10 +27,10 @@ pub fn number(alloc: Global, short: FaultKind, e: u64, bytes: &[u8]) -> Result<(
     Ok((number, rest))
 }
 
-/// The bytes behind a zero.
+/// The bytes after a zero.
 fn zero(alloc: Global, kind: FaultKind, e: u64, bytes: &[u8]) -> Result<&[u8], Stop>
     requires { length bytes.now ≤ e }
-    ensures gives { Gives (λ x. x.now) result (past_zero kind e bytes.now) }
+    ensures gives { GivesItem (λ x. x.now) result (past_zero kind e bytes.now) }
     ensures after { IfOk result (λ x. length x.now + 1 ≡ length bytes.now) }
 {
     match bytes {
@@ -60,7 +60,7 @@ pub fn is_text(bytes: &[u8]) -> bool
 #[inline(always)]
 fn text(alloc: Global, at: u64, bytes: &[u8]) -> Result<&str, Stop>
     requires { at + length bytes.now < 2 ^ 64 }
-    ensures { Gives (λ x. x.now) result (text_at at bytes.now) }
+    ensures { GivesItem (λ x. x.now) result (text_at at bytes.now) }
 {
     if bytes.len() < SHORT && bytes.is_ascii() {
         // ASCII is UTF-8.
@@ -72,11 +72,11 @@ fn text(alloc: Global, at: u64, bytes: &[u8]) -> Result<&str, Stop>
     }
 }
 
-/// The text up to the first zero, and the bytes behind that zero. `unended` is the fault where there is no zero.
+/// The text up to the first zero, and the bytes after that zero. `unended` is the fault where there is no zero.
 #[inline(always)]
 pub fn name(alloc: Global, unended: FaultKind, e: u64, bytes: &[u8]) -> Result<(&str, &[u8]), Stop>
     requires { length bytes.now ≤ e }
-    ensures gives { Gives (λ x. (x.0.now, x.1.now)) result (past_name unended e bytes.now) }
+    ensures gives { GivesItem (λ x. (x.0.now, x.1.now)) result (past_name unended e bytes.now) }
     ensures after { IfOk result (λ x. length x.1.now < length bytes.now) }
 {
     let at = e - bytes.len() as u64;
@@ -91,11 +91,11 @@ pub fn name(alloc: Global, unended: FaultKind, e: u64, bytes: &[u8]) -> Result<(
     }
 }
 
-/// The bytes behind a string.
+/// The bytes after a string.
 #[tactic(auto, unfolding(crate::specs::FirstFault::past_string))]
 pub fn string(alloc: Global, e: u64, bytes: &[u8]) -> Result<&[u8], Stop>
     requires { length bytes.now ≤ e }
-    ensures gives { Gives (λ x. x.now) result (past_string e bytes.now) }
+    ensures gives { GivesItem (λ x. x.now) result (past_string e bytes.now) }
     ensures after { IfOk result (λ x. length x.now ≤ length bytes.now) }
 {
     let (n, rest) = number(alloc, FaultKind::ValueShort, e, bytes)?;
@@ -109,12 +109,12 @@ pub fn string(alloc: Global, e: u64, bytes: &[u8]) -> Result<&[u8], Stop>
     Ok(after)
 }
 
-/// The bytes of a document's elements, the place where these end, and the bytes behind the document. `top` tells
+/// The bytes of a document's elements, the place where these end, and the bytes after the document. `top` tells
 /// that the document is to be all of the bytes.
 #[tactic(auto, unfolding(crate::specs::FirstFault::past_frame))]
 pub fn frame(alloc: Global, top: bool, e: u64, bytes: &[u8]) -> Result<(&[u8], u64, &[u8]), Stop>
     requires { length bytes.now ≤ e }
-    ensures gives { Gives (λ x. (x.0.now, x.1, x.2.now)) result (past_frame top e bytes.now) }
+    ensures gives { GivesItem (λ x. (x.0.now, x.1, x.2.now)) result (past_frame top e bytes.now) }
     ensures inside { IfOk result (λ x. length x.0.now ≤ x.1) }
     ensures after { IfOk result (λ x. length x.2.now ≤ length bytes.now) }
 {
@@ -134,10 +134,10 @@ pub fn frame(alloc: Global, top: bool, e: u64, bytes: &[u8]) -> Result<(&[u8], u
     Ok((body, end, rest))
 }
 
-/// The bytes behind `n` bytes.
+/// The bytes after `n` bytes.
 pub fn fixed(alloc: Global, n: usize, e: u64, bytes: &[u8]) -> Result<&[u8], Stop>
     requires { length bytes.now ≤ e }
-    ensures gives { Gives (λ x. x.now) result (past_fixed n e bytes.now) }
+    ensures gives { GivesItem (λ x. x.now) result (past_fixed n e bytes.now) }
     ensures after { IfOk result (λ x. length x.now ≤ length bytes.now) }
 {
     if bytes.len() < n {
@@ -147,10 +147,10 @@ pub fn fixed(alloc: Global, n: usize, e: u64, bytes: &[u8]) -> Result<&[u8], Sto
     Ok(rest)
 }
 
-/// The bytes behind a boolean.
+/// The bytes after a boolean.
 pub fn boolean(alloc: Global, e: u64, bytes: &[u8]) -> Result<&[u8], Stop>
     requires { length bytes.now ≤ e }
-    ensures gives { Gives (λ x. x.now) result (past_boolean e bytes.now) }
+    ensures gives { GivesItem (λ x. x.now) result (past_boolean e bytes.now) }
     ensures after { IfOk result (λ x. length x.now ≤ length bytes.now) }
 {
     match bytes {
@@ -160,12 +160,12 @@ pub fn boolean(alloc: Global, e: u64, bytes: &[u8]) -> Result<&[u8], Stop>
     }
 }
 
-/// The bytes behind the data of binary that stands at `at`. There are `count` data, of which subtype 02 counts all
+/// The bytes after the data of binary that stands at `at`. There are `count` data, of which subtype 02 counts all
 /// but the first four once more.
 fn data(alloc: Global, at: u64, subtype: u8, count: u32, bytes: &[u8]) -> Result<&[u8], Stop>
     requires some { count ≤ length bytes.now }
     requires place { at + 5 < 2 ^ 64 }
-    ensures gives { Gives (λ x. x.now) result (past_data at subtype count bytes.now) }
+    ensures gives { GivesItem (λ x. x.now) result (past_data at subtype count bytes.now) }
     ensures after { IfOk result (λ x. length x.now ≤ length bytes.now) }
 {
     if subtype == 2 {
@@ -180,11 +180,11 @@ fn data(alloc: Global, at: u64, subtype: u8, count: u32, bytes: &[u8]) -> Result
     Ok(rest)
 }
 
-/// The bytes behind binary.
+/// The bytes after binary.
 #[tactic(auto, unfolding(crate::specs::FirstFault::past_binary))]
 pub fn binary(alloc: Global, e: u64, bytes: &[u8]) -> Result<&[u8], Stop>
     requires { length bytes.now ≤ e }
-    ensures gives { Gives (λ x. x.now) result (past_binary e bytes.now) }
+    ensures gives { GivesItem (λ x. x.now) result (past_binary e bytes.now) }
     ensures after { IfOk result (λ x. length x.now ≤ length bytes.now) }
 {
     let at = e - bytes.len() as u64;
@@ -199,10 +199,10 @@ pub fn binary(alloc: Global, e: u64, bytes: &[u8]) -> Result<&[u8], Stop>
     data(alloc, at, head[4], count, rest)
 }
 
-/// The bytes behind a regular expression.
+/// The bytes after a regular expression.
 pub fn regex(alloc: Global, e: u64, bytes: &[u8]) -> Result<&[u8], Stop>
     requires { length bytes.now ≤ e }
-    ensures gives { Gives (λ x. x.now) result (past_regex e bytes.now) }
+    ensures gives { GivesItem (λ x. x.now) result (past_regex e bytes.now) }
     ensures after { IfOk result (λ x. length x.now ≤ length bytes.now) }
 {
     let (_pattern, rest) = name(alloc, FaultKind::StringUnended, e, bytes)?;
@@ -210,11 +210,11 @@ pub fn regex(alloc: Global, e: u64, bytes: &[u8]) -> Result<&[u8], Stop>
     Ok(rest)
 }
 
-/// The bytes of the code and the scope of code with scope, the place where these end, and the bytes behind it.
+/// The bytes of the code and the scope of code with scope, the place where these end, and the bytes after it.
 #[tactic(auto, unfolding(crate::specs::FirstFault::past_code_frame))]
 pub fn code_frame(alloc: Global, e: u64, bytes: &[u8]) -> Result<(&[u8], u64, &[u8]), Stop>
     requires { length bytes.now ≤ e }
-    ensures gives { Gives (λ x. (x.0.now, x.1, x.2.now)) result (past_code_frame e bytes.now) }
+    ensures gives { GivesItem (λ x. (x.0.now, x.1, x.2.now)) result (past_code_frame e bytes.now) }
     ensures inside { IfOk result (λ x. length x.0.now ≤ x.1) }
     ensures after { IfOk result (λ x. length x.2.now ≤ length bytes.now) }
 {
@@ -227,9 +227,9 @@ pub fn code_frame(alloc: Global, e: u64, bytes: &[u8]) -> Result<(&[u8], u64, &[
     Ok((parts, e - after.len() as u64, after))
 }
 
-/// Nothing is left behind the scope of the code with scope that stands at `at`.
+/// Nothing is left after the scope of the code with scope that stands at `at`.
 pub fn scope_end(alloc: Global, at: u64, bytes: &[u8]) -> Result<(), Stop>
-    ensures { Gives (λ x. tt) result (past_scope_end at bytes.now) }
+    ensures { GivesItem (λ x. tt) result (past_scope_end at bytes.now) }
 {
     match bytes {
         [] => Ok(()),
@@ -239,7 +239,7 @@ pub fn scope_end(alloc: Global, at: u64, bytes: &[u8]) -> Result<(), Stop>
 
 /// The type that a type byte at `q` tells.
 pub fn known_type(alloc: Global, q: u64, byte: u8) -> Result<ElementType, Stop>
-    ensures { Gives (λ x. x) result (known q (type_at byte)) }
+    ensures { GivesItem (λ x. x) result (known q (type_at byte)) }
 {
     match element_type(byte) {
         Some(element) => Ok(element),

@@ -1,11 +1,11 @@
 //! Documents from the bytes of a dump.
 
-ghost use Rattle.std.specs.Prelude.{◌≡◌, ◌≤◌, ◌+◌, length, drop, IfOk, IfErr, MatchResult, MatchOption, Ok, Err, Some, None, [], option_map};
+ghost use Rattle.std.specs.Prelude.{◌≡◌, ◌≤◌, ◌+◌, length, drop, slice_range, IfOk, IfErr, IfSome, MatchResult, MatchOption, Ok, Err, Some, None, [], option_map};
 ghost use Rattle.bd_value.specs.Tree.{Doc};
 ghost use Rattle.bd_value.specs.View.{pairs};
 ghost use Rattle.bd_raw.specs.Spelling.{IsDocument};
 ghost use Rattle.bd_check.specs.FirstFault.{first_fault};
-ghost use Rattle.bd_check.specs.Told.{Tells, IsWantOfMemory};
+ghost use Rattle.bd_check.specs.Told.{TellsFault, IsWantOfMemory};
 ghost use Rattle.bd_check.specs.Dump.{frame_length, frame_fault};
 ghost use Rattle.bd_check.specs.Next.{IsNext};
 
@@ -34,7 +34,7 @@ pub fn read_document(alloc: Global, bytes: &[u8], base: u64, number: u32) -> Res
     ensures found { IfOk result (λ d. IsDocument (pairs d) bytes.now) }
     // What the bytes spell is read, unless memory runs out.
     ensures only { (d : Doc) → IsDocument d bytes.now → MatchResult result (λ r. pairs r ≡ d) IsWantOfMemory }
-    ensures fault { IfErr result (Tells number (first_fault base bytes.now)) }
+    ensures fault { IfErr result (TellsFault number (first_fault base bytes.now)) }
 {
     let raw = check_document(alloc, bytes, base, number)?;
     match raw.to_document(alloc) {
@@ -74,7 +74,7 @@ pub fn next_frame(
     Ok(Some(Frame { start: at, length }))
 }
 
-/// The document at the place `at` of a dump, of which it has that number, and the place behind it; none at the end.
+/// The document at the place `at` of a dump, of which it has that number, and the place after it; none at the end.
 ///
 /// The fault is the first of the document, from left to right, or `FaultKind::NoMemory`, which has no place. Memory is
 /// taken for the path of a fault alone.
@@ -87,7 +87,8 @@ pub fn next_document<'a>(
     requires inside { at ≤ length bytes.now }
     requires short { length bytes.now ≤ 4294967295 }
     ensures next { IfOk result (IsNext bytes.now at) }
-    ensures fault { IfErr result (Tells number (frame_fault at (drop at bytes.now))) }
+    ensures kept { IfOk result (λ o. IfSome o (λ p. p.0.bytes.now ≡ slice_range bytes.now at p.1)) }
+    ensures fault { IfErr result (TellsFault number (frame_fault at (drop at bytes.now))) }
 {
     let Some(frame) = next_frame(alloc, bytes, at, number)? else {
         return Ok(None);
