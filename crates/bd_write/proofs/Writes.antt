@@ -12,7 +12,7 @@ use Rattle.bd_value.specs.Seen.{Own, own_of, own_code}
 use Rattle.bd_value.specs.Zeros.{has_zero, zero_in, zero_in_fields, zero_in_items, zero_in_parts}
 use Rattle.bd_raw.specs.Scalars.{number_length}
 use Rattle.bd_raw.specs.Spelling.{number, string, framed, scoped, IsName}
-use Rattle.bd_write.specs.Written.{Overruns}
+use Rattle.bd_write.specs.Written.{OverrunsLimit}
 use Rattle.bd_write.specs.declared.writing.WriteFault.{WriteFault}
 use Rattle.bd_write.specs.declared.writing.WriteFault.TheVariants as faults
 
@@ -36,13 +36,13 @@ pub ok_on : {A B : Type 0} (r : Result A B) (P Q : Type 0) → OnOk r P → (P �
 ok_on (Ok x) P Q p q = q p
 ok_on (Err e) P Q p q = _
 
-pub overruns_more : (n m : ℕ) (f : WriteFault) → n ≤ m → Overruns n f → Overruns m f
+pub overruns_more : (n m : ℕ) (f : WriteFault) → n ≤ m → OverrunsLimit n f → OverrunsLimit m f
 overruns_more n m faults.TooDeep le o = absurd o
 overruns_more n m faults.NulInName le o = absurd o
 overruns_more n m faults.TooLong le o = omega arith
 overruns_more n m faults.NoMemory le o = _
 
-pub err_more : {A : Type 0} (r : Result A WriteFault) (n m : ℕ) → IfErr r (Overruns n) → n ≤ m → IfErr r (Overruns m)
+pub err_more : {A : Type 0} (r : Result A WriteFault) (n m : ℕ) → IfErr r (OverrunsLimit n) → n ≤ m → IfErr r (OverrunsLimit m)
 err_more (Ok x) n m o le = _
 err_more (Err f) n m o le = overruns_more n m f le o
 
@@ -67,7 +67,7 @@ framed_is body = ap (λ n. number n ++ (body ++ 0 ∷ [])) (omega (arith, length
 pub framed_size : (body : List ℕ) → length (framed body) ≡ length body + 5
 framed_size body = omega (arith, length-append (number (length body + 5)) (body ++ 0 ∷ []), number_length (length body + 5), length-append body (0 ∷ []))
 
--- what a loop wrote, with nothing left to come, and the zero behind it
+-- what a loop wrote, with nothing left to come, and the zero after it
 pub ended : (old body last none out : List ℕ) → last ++ none ≡ (old ++ number 0) ++ body → none ≡ [] → out ≡ last ++ 0 ∷ [] → out ≡ (old ++ number 0) ++ (body ++ 0 ∷ [])
 ended old body last none out whole is more =
     more ∙ ap (λ x. x ++ 0 ∷ []) (sym (append-nil last) ∙ ap (λ x. last ++ x) (sym is) ∙ whole) ∙ append_assoc (old ++ number 0) body (0 ∷ [])

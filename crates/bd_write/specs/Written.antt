@@ -26,7 +26,8 @@ scalar_bytes (trees.symbol s) = string s
 scalar_bytes (trees.code s) = string s
 scalar_bytes (trees.db_pointer s id) = string s ++ id
 scalar_bytes (trees.regex pattern options) = pattern ++ 0 ∷ (options ++ 0 ∷ [])
-scalar_bytes (trees.binary subtype payload) = number (length (data_of subtype payload)) ++ subtype ∷ data_of subtype payload
+scalar_bytes (trees.binary subtype payload) =
+    number (length (data_of subtype payload)) ++ subtype ∷ data_of subtype payload
 
 abbrev mutual
   pub bytes_of : Tree → List ℕ
@@ -54,15 +55,15 @@ OwnSpells (own s) = IsScalar s (scalar_bytes s)
 OwnSpells (own_code s) = IsText s
 
 -- the bytes are the document, written within the limits of length and depth
-pub record Plainly (d : Doc) (bytes : List ℕ) : Type 0 where
+pub record SpellsPlainly (d : Doc) (bytes : List ℕ) : Type 0 where
   pub spelled : bytes ≡ bytes_of (doc (fields_of d))
   pub no_zero : zero_in (doc (fields_of d)) ≡ false
   pub short : length bytes ≤ 16793600
   pub shallow : depth (doc (fields_of d)) ≤ 200
 
 -- so many bytes are more than a document has, or memory ran out
-abbrev pub Overruns : ℕ → WriteFault → Type 0
-Overruns total faults.TooDeep = ⊥
-Overruns total faults.NulInName = ⊥
-Overruns total faults.TooLong = 16793600 < total
-Overruns total faults.NoMemory = Unit {0}
+abbrev pub OverrunsLimit : ℕ → WriteFault → Type 0
+OverrunsLimit total faults.TooDeep = ⊥
+OverrunsLimit total faults.NulInName = ⊥
+OverrunsLimit total faults.TooLong = 16793600 < total
+OverrunsLimit total faults.NoMemory = Unit {0}

@@ -7,9 +7,11 @@
 //! - `writing_values`: values that nest, and the labels of elements.
 //! - `writing_scalars`: scalars.
 //! - `writing`: their parts, and why a document is not written.
-//! - `pieces`: how a document begins and ends that is written in pieces.
+//! - `pieces`: a document written in pieces, each of which is appended whole or not at all.
+//! - `laws`: what is written of a document spells it.
 #![tactic(auto)]
 
+mod laws;
 mod pieces;
 mod write;
 mod writing;
@@ -17,7 +19,7 @@ mod writing_scalars;
 mod writing_values;
 mod zeros;
 
-pub use pieces::{begin_body, end_body};
+pub use laws::plainly_spells;
+pub use pieces::{append_label, append_value, begin_body, end_body, write_text};
 pub use write::write_document;
-pub use writing::{WriteFault, write_text};
-pub use writing_values::{append_label, append_value};
+pub use writing::WriteFault;

@@ -6,10 +6,10 @@ ghost use Rattle.bd_value.specs.Tree.{doc, fields_of};
 ghost use Rattle.bd_value.specs.View.{pairs};
 ghost use Rattle.bd_value.specs.Zeros.{zero_in};
 ghost use Rattle.bd_raw.specs.Spelling.{IsDocument};
-ghost use Rattle.bd_write.specs.Written.{Plainly, bytes_of};
+ghost use Rattle.bd_write.specs.Written.{SpellsPlainly, bytes_of};
 
 use crate::writing::{LONGEST, WriteFault};
-use crate::writing_values::append_value;
+use crate::writing_values::put_value;
 use crate::zeros::holds_zero;
 use bd_value::{Document, Tree, depth};
 use std::alloc::Global;
@@ -23,7 +23,7 @@ use std::alloc::Global;
 /// - `WriteFault::TooLong`: it has more than 16,793,600 bytes;
 /// - `WriteFault::NoMemory`: the allocator gave no memory.
 pub fn write_document(alloc: Global, document: &Document) -> Result<Vec<u8>, WriteFault>
-    ensures written { IfOk result (λ v. Plainly (pairs document.now) v.items) }
+    ensures written { IfOk result (λ v. SpellsPlainly (pairs document.now) v.items) }
     ensures spelled { IfOk result (λ v. IsDocument (pairs document.now) v.items) }
     ensures too_deep { IsErrOf result WriteFault.TooDeep ↔ (200 < depth_in (doc (fields_of (pairs document.now)))) }
     ensures zero { IsErrOf result WriteFault.NulInName ↔ ((depth_in (doc (fields_of (pairs document.now))) ≤ 200)
@@ -38,7 +38,7 @@ pub fn write_document(alloc: Global, document: &Document) -> Result<Vec<u8>, Wri
         return Err(WriteFault::NulInName);
     }
     let mut bytes = Vec::new(alloc);
-    append_value(Tree::Doc(document), &mut bytes)?;
+    put_value(Tree::Doc(document), &mut bytes)?;
     if bytes.len() > LONGEST {
         return Err(WriteFault::TooLong);
     }

@@ -1,25 +1,31 @@
 //! Documents written as bytes.
 
-ghost use Rattle.std.specs.Prelude.{◌≡◌, ◌≤◌, ◌+◌, ◌++◌, ◌∷◌, [], IfErr, OnOk, length};
+ghost use Rattle.std.specs.Prelude.{◌≡◌, ◌≤◌, ◌+◌, ◌++◌, ◌∷◌, [], IfErr, OnErr, OnOk, length};
+ghost use Rattle.std.specs.Io.{StartsWith};
 ghost use Rattle.bd_raw.specs.Spelling.{number, long, string, data_of};
-ghost use Rattle.bd_write.specs.Written.{Overruns};
+ghost use Rattle.bd_write.specs.Written.{OverrunsLimit};
 
 use bd_value::NoMemory;
 use std::alloc::AllocError;
+use thiserror::Error;
 
 /// A document has at most so many bytes.
 pub const LONGEST: usize = 16_793_600;
 
 /// Why a document was not written.
-#[derive(Debug, Clone, Copy, PartialEq, Eq)]
+#[derive(Debug, Clone, Copy, Drop, PartialEq, Eq, Error)]
 pub enum WriteFault {
     /// It nests deeper than 200 levels.
+    #[error("too deep")]
     TooDeep = 1,
     /// A name, or a text of a regular expression, has a zero in it.
+    #[error("zero in a name")]
     NulInName = 2,
     /// It has more than 16,793,600 bytes.
+    #[error("document too long")]
     TooLong = 3,
     /// The allocator gave no memory.
+    #[error("no memory")]
     NoMemory = 4,
 }
 
@@ -36,7 +42,8 @@ impl From<AllocError> for WriteFault {
 /// `int32`: four bytes, least first.
 #[tactic(auto, unfolding(bd_raw::specs::Spelling::number))]
 pub(crate) fn write_number(n: u32, out: &mut Vec<u8>) -> Result<(), NoMemory>
-    ensures { OnOk result (out.new.items ≡ out.old.items ++ number n) }
+    ensures ok { OnOk result (out.new.items ≡ out.old.items ++ number n) }
+    ensures kept { OnErr result (out.new.items ≡ out.old.items) }
 {
     out.extend_from_slice(&n.to_le_bytes())
 }
@@ -44,28 +51,30 @@ pub(crate) fn write_number(n: u32, out: &mut Vec<u8>) -> Result<(), NoMemory>
 /// `int64`: eight bytes, least first.
 #[tactic(auto, unfolding(bd_raw::specs::Spelling::long))]
 pub(crate) fn write_long(n: u64, out: &mut Vec<u8>) -> Result<(), NoMemory>
-    ensures { OnOk result (out.new.items ≡ out.old.items ++ long n) }
+    ensures ok { OnOk result (out.new.items ≡ out.old.items ++ long n) }
+    ensures kept { OnErr result (out.new.items ≡ out.old.items) }
 {
     out.extend_from_slice(&n.to_le_bytes())
 }
 
 /// `cstring`.
+#[tactic(auto, using(bd_value::proofs::Fronts::fronts))]
 pub(crate) fn write_name(name: &str, out: &mut Vec<u8>) -> Result<(), NoMemory>
-    ensures { OnOk result (out.new.items ≡ out.old.items ++ (name.now ++ 0 ∷ [])) }
+    ensures ok { OnOk result (out.new.items ≡ out.old.items ++ (name.now ++ 0 ∷ [])) }
+    ensures front { OnErr result (StartsWith out.new.items out.old.items) }
 {
     out.extend_from_slice(name.as_bytes())?;
     out.extend_from_slice(b"\0")?;
     Ok(())
 }
 
-/// Appends a `string` of BSON 1.1: the length with the zero at the end, the text, the zero.
-///
-/// # Errors
-/// `WriteFault::TooLong` where the text has more than 16,793,600 bytes; `WriteFault::NoMemory`.
+/// `string`: the length with the zero at the end, the text, the zero.
+#[tactic(auto, using(bd_value::proofs::Fronts::fronts))]
 #[inline(always)]
-pub fn write_text(text: &str, out: &mut Vec<u8>) -> Result<(), WriteFault>
+pub(crate) fn put_text(text: &str, out: &mut Vec<u8>) -> Result<(), WriteFault>
     ensures ok { OnOk result ((out.new.items ≡ out.old.items ++ string text.now) × (length text.now ≤ 16793600)) }
-    ensures err { IfErr result (Overruns (length out.old.items + length (string text.now))) }
+    ensures err { IfErr result (OverrunsLimit (length out.old.items + length (string text.now))) }
+    ensures front { OnErr result (StartsWith out.new.items out.old.items) }
 {
     if text.len() > LONGEST {
         return Err(WriteFault::TooLong);
@@ -76,15 +85,17 @@ pub fn write_text(text: &str, out: &mut Vec<u8>) -> Result<(), WriteFault>
 }
 
 /// `regex`: two `cstring`s.
+#[tactic(auto, using(bd_value::proofs::Fronts::fronts))]
 pub(crate) fn write_regex(pattern: &str, options: &str, out: &mut Vec<u8>) -> Result<(), NoMemory>
-    ensures { OnOk result (out.new.items ≡ out.old.items ++ (pattern.now ++ 0 ∷ (options.now ++ 0 ∷ []))) }
+    ensures ok { OnOk result (out.new.items ≡ out.old.items ++ (pattern.now ++ 0 ∷ (options.now ++ 0 ∷ []))) }
+    ensures front { OnErr result (StartsWith out.new.items out.old.items) }
 {
     write_name(pattern, out)?;
     write_name(options, out)?;
     Ok(())
 }
 
-/// How many bytes the data of `binary` has: of subtype 02 four more, the count of those behind them.
+/// How many bytes the data of `binary` has: of subtype 02 four more, the count of those after them.
 #[tactic(auto, using(bd_raw::specs::Scalars::number_length))]
 fn data_length(subtype: u8, payload: &[u8]) -> u32
     requires { length payload.now ≤ 16793600 }
@@ -95,9 +106,11 @@ fn data_length(subtype: u8, payload: &[u8]) -> u32
 }
 
 /// The data of `binary`.
+#[tactic(auto, using(bd_value::proofs::Fronts::fronts))]
 fn write_data(subtype: u8, payload: &[u8], out: &mut Vec<u8>) -> Result<(), NoMemory>
     requires { length payload.now ≤ 16793600 }
-    ensures { OnOk result (out.new.items ≡ out.old.items ++ data_of subtype payload.now) }
+    ensures ok { OnOk result (out.new.items ≡ out.old.items ++ data_of subtype payload.now) }
+    ensures front { OnErr result (StartsWith out.new.items out.old.items) }
 {
     if subtype == 2 {
         write_number(payload.len() as u32, out)?;
@@ -107,10 +120,12 @@ fn write_data(subtype: u8, payload: &[u8], out: &mut Vec<u8>) -> Result<(), NoMe
 }
 
 /// `binary`: the count of the bytes, the subtype, the bytes.
+#[tactic(auto, using(bd_value::proofs::Fronts::fronts))]
 pub(crate) fn write_binary(subtype: u8, payload: &[u8], out: &mut Vec<u8>) -> Result<(), WriteFault>
     ensures ok { OnOk result ((out.new.items ≡ out.old.items ++ (number (length (data_of subtype payload.now)) ++ subtype ∷ data_of subtype payload.now))
         × (length (data_of subtype payload.now) ≤ 16793604)) }
-    ensures err { IfErr result (Overruns (length out.old.items + length (number (length (data_of subtype payload.now)) ++ subtype ∷ data_of subtype payload.now))) }
+    ensures err { IfErr result (OverrunsLimit (length out.old.items + length (number (length (data_of subtype payload.now)) ++ subtype ∷ data_of subtype payload.now))) }
+    ensures front { OnErr result (StartsWith out.new.items out.old.items) }
 {
     if payload.len() > LONGEST {
         return Err(WriteFault::TooLong);

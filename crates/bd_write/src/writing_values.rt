@@ -1,12 +1,13 @@
 //! Values written as bytes: what nests.
 
-ghost use Rattle.std.specs.Prelude.{◌≡◌, ◌≤◌, ◌+◌, ◌-◌, ◌++◌, ◌∷◌, [], take, drop, vec_len, decimal, IfErr, OnOk, false, length};
+ghost use Rattle.std.specs.Prelude.{◌≡◌, ◌≤◌, ◌+◌, ◌-◌, ◌++◌, ◌∷◌, [], take, drop, vec_len, decimal, IfErr, OnErr, OnOk, false, length};
+ghost use Rattle.std.specs.Io.{StartsWith};
 ghost use Rattle.bd_value.specs.Tree.{fields_of, items_of};
 ghost use Rattle.bd_value.specs.Parts.{values_of, HoldsNoParts};
 ghost use Rattle.bd_value.specs.Zeros.{has_zero, zero_in, zero_in_fields, zero_in_items};
 ghost use Rattle.bd_raw.specs.Types.{type_byte as byte_of};
 ghost use Rattle.bd_raw.specs.Spelling.{number, framed, element, IsName, IsValue, AreFields, AreItems};
-ghost use Rattle.bd_write.specs.Written.{bytes_of, fields_bytes, items_bytes, Overruns};
+ghost use Rattle.bd_write.specs.Written.{bytes_of, fields_bytes, items_bytes, OverrunsLimit};
 
 use crate::writing::{LONGEST, WriteFault, write_name, write_number};
 use crate::writing_scalars::write_scalar;
@@ -19,7 +20,8 @@ pub(crate) fn seal(at: usize, out: &mut Vec<u8>) -> Result<(), WriteFault>
     requires { at + 4 ≤ vec_len out.old }
     ensures ok { OnOk result (out.new.items ≡ take at out.old.items ++ (number (length out.old.items - at) ++ drop (at + 4) out.old.items)) }
     ensures within { OnOk result (length out.new.items ≤ 16793600) }
-    ensures err { IfErr result (Overruns (length out.old.items)) }
+    ensures err { IfErr result (OverrunsLimit (length out.old.items)) }
+    ensures kept { OnErr result (out.new.items ≡ out.old.items) }
 {
     if out.len() > LONGEST {
         return Err(WriteFault::TooLong);
@@ -31,13 +33,12 @@ pub(crate) fn seal(at: usize, out: &mut Vec<u8>) -> Result<(), WriteFault>
 }
 
 /// Appends what stands before an element's value, its type and its name: BSON 1.1, `element`.
-///
-/// # Errors
-/// `WriteFault::TooLong` where there are more than 16,793,600 bytes before it; `WriteFault::NoMemory`.
+#[tactic(auto, using(bd_value::proofs::Fronts::fronts))]
 #[inline(always)]
-pub fn append_label(kind: Kind, name: &str, out: &mut Vec<u8>) -> Result<(), WriteFault>
+pub(crate) fn put_label(kind: Kind, name: &str, out: &mut Vec<u8>) -> Result<(), WriteFault>
     ensures ok { OnOk result ((out.new.items ≡ out.old.items ++ (byte_of kind ∷ (name.now ++ 0 ∷ []))) × (length out.old.items ≤ 16793600)) }
-    ensures err { IfErr result (Overruns (length out.old.items)) }
+    ensures err { IfErr result (OverrunsLimit (length out.old.items)) }
+    ensures front { OnErr result (StartsWith out.new.items out.old.items) }
 {
     if out.len() > LONGEST {
         return Err(WriteFault::TooLong);
@@ -48,16 +49,14 @@ pub fn append_label(kind: Kind, name: &str, out: &mut Vec<u8>) -> Result<(), Wri
 }
 
 /// Appends the bytes of a value. The names of an array's elements are their places from 0.
-///
-/// # Errors
-/// `WriteFault::TooLong` only where there are more than 16,793,600 bytes, with what stands before it: a scalar without a text or
-/// data is appended past that, and `end_body` refuses then. `WriteFault::NoMemory`. What `out` holds then is not said.
 #[cycle(writing)]
-pub fn append_value<N: Reading>(node: N, out: &mut Vec<u8>) -> Result<(), WriteFault>
+#[tactic(auto, using(bd_value::proofs::Fronts::fronts))]
+pub(crate) fn put_value<N: Reading>(node: N, out: &mut Vec<u8>) -> Result<(), WriteFault>
     requires { zero_in (N.tree node) ≡ false }
     ensures ok { OnOk result (out.new.items ≡ out.old.items ++ bytes_of (N.tree node)) }
     ensures spells { OnOk result (IsValue (N.tree node) (bytes_of (N.tree node))) }
-    ensures err { IfErr result (Overruns (length out.old.items + length (bytes_of (N.tree node)))) }
+    ensures err { IfErr result (OverrunsLimit (length out.old.items + length (bytes_of (N.tree node)))) }
+    ensures front { OnErr result (StartsWith out.new.items out.old.items) }
 {
     match node.kind() {
         Kind::Doc => append_fields::<N>(node.parts(), out),
@@ -68,12 +67,14 @@ pub fn append_value<N: Reading>(node: N, out: &mut Vec<u8>) -> Result<(), WriteF
 
 /// Appends what is neither a document nor an array. Code with scope begins with the count of its bytes.
 #[cycle(writing)]
+#[tactic(auto, using(bd_value::proofs::Fronts::fronts))]
 fn append_leaf<N: Reading>(node: N, out: &mut Vec<u8>) -> Result<(), WriteFault>
     requires kind { HoldsNoParts (N.tree node) }
     requires zero { zero_in (N.tree node) ≡ false }
     ensures ok { OnOk result (out.new.items ≡ out.old.items ++ bytes_of (N.tree node)) }
     ensures spells { OnOk result (IsValue (N.tree node) (bytes_of (N.tree node))) }
-    ensures err { IfErr result (Overruns (length out.old.items + length (bytes_of (N.tree node)))) }
+    ensures err { IfErr result (OverrunsLimit (length out.old.items + length (bytes_of (N.tree node)))) }
+    ensures front { OnErr result (StartsWith out.new.items out.old.items) }
 {
     let Some(own) = node.leaf() else {
         unreachable!()
@@ -84,30 +85,34 @@ fn append_leaf<N: Reading>(node: N, out: &mut Vec<u8>) -> Result<(), WriteFault>
     let at = out.len();
     write_number(0, out)?;
     write_scalar(own, out)?;
-    append_value(scope, out)?;
+    put_value(scope, out)?;
     seal(at, out)
 }
 
 /// Appends an element: its type, its name and its value.
 #[cycle(writing)]
+#[tactic(auto, using(bd_value::proofs::Fronts::fronts))]
 fn append_element<N: Reading>(name: &str, node: N, out: &mut Vec<u8>) -> Result<(), WriteFault>
     requires name { has_zero name.now ≡ false }
     requires zero { zero_in (N.tree node) ≡ false }
     ensures ok { OnOk result ((out.new.items ≡ out.old.items ++ element (N.tree node) name.now (bytes_of (N.tree node))) × (length out.old.items ≤ 16793600)) }
     ensures spells { OnOk result (IsName name.now × IsValue (N.tree node) (bytes_of (N.tree node))) }
-    ensures err { IfErr result (Overruns (length out.old.items + length (element (N.tree node) name.now (bytes_of (N.tree node))))) }
+    ensures err { IfErr result (OverrunsLimit (length out.old.items + length (element (N.tree node) name.now (bytes_of (N.tree node))))) }
+    ensures front { OnErr result (StartsWith out.new.items out.old.items) }
 {
-    append_label(node.kind(), name, out)?;
-    append_value(node, out)
+    put_label(node.kind(), name, out)?;
+    put_value(node, out)
 }
 
 /// Appends the document of these pairs.
 #[cycle(writing)]
+#[tactic(auto, using(bd_value::proofs::Fronts::fronts))]
 fn append_fields<N: Reading>(fields: N::Rest, out: &mut Vec<u8>) -> Result<(), WriteFault>
     requires { zero_in_fields (fields_of (N.left fields)) ≡ false }
     ensures ok { OnOk result (out.new.items ≡ out.old.items ++ framed (fields_bytes (fields_of (N.left fields)))) }
     ensures spells { OnOk result (AreFields (fields_of (N.left fields)) (fields_bytes (fields_of (N.left fields)))) }
-    ensures err { IfErr result (Overruns (length out.old.items + length (framed (fields_bytes (fields_of (N.left fields)))))) }
+    ensures err { IfErr result (OverrunsLimit (length out.old.items + length (framed (fields_bytes (fields_of (N.left fields)))))) }
+    ensures front { OnErr result (StartsWith out.new.items out.old.items) }
 {
     let at = out.len();
     write_number(0, out)?;
@@ -122,11 +127,13 @@ fn append_fields<N: Reading>(fields: N::Rest, out: &mut Vec<u8>) -> Result<(), W
 
 /// Appends the array of these elements, whose names are their places from 0.
 #[cycle(writing)]
+#[tactic(auto, using(bd_value::proofs::Fronts::fronts))]
 fn append_items<N: Reading>(items: N::Rest, out: &mut Vec<u8>) -> Result<(), WriteFault>
     requires { zero_in_items (items_of (values_of (N.left items))) ≡ false }
     ensures ok { OnOk result (out.new.items ≡ out.old.items ++ framed (items_bytes 0 (items_of (values_of (N.left items))))) }
     ensures spells { OnOk result (AreItems (items_of (values_of (N.left items))) (items_bytes 0 (items_of (values_of (N.left items))))) }
-    ensures err { IfErr result (Overruns (length out.old.items + length (framed (items_bytes 0 (items_of (values_of (N.left items))))))) }
+    ensures err { IfErr result (OverrunsLimit (length out.old.items + length (framed (items_bytes 0 (items_of (values_of (N.left items))))))) }
+    ensures front { OnErr result (StartsWith out.new.items out.old.items) }
 {
     let at = out.len();
     write_number(0, out)?;

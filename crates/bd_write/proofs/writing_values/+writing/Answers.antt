@@ -1,20 +1,22 @@
 use Rattle.std.proofs.Common.{rules, arith, ◌≡◌, ◌≤◌, ◌+◌, ◌++◌, [], ℕ, suc, List, false, length, refl, sym, ap, ap₂, ◌∙◌, subst, append_assoc, length-append}
+use Rattle.std.specs.Io.{StartsWith}
 use Rattle.std.specs.Prelude.{OnOk, IfErr, decimal}
 use Rattle.std.proofs.lemmas.Result.{err_from_is_err_and}
 use Rattle.bd_value.specs.Tree.{Tree, doc, fields_of, items_of}
 use Rattle.bd_value.specs.Parts.{values_of}
 use Rattle.bd_value.specs.Seen.{seen}
 use Rattle.bd_value.specs.Zeros.{has_zero}
+use Rattle.bd_value.proofs.Fronts.{front_all, front_more, front_then}
 use Rattle.bd_value.proofs.Parted as parted
 use Rattle.bd_raw.specs.Spelling.{number, string, scoped, element, IsValue, AreItems}
-use Rattle.bd_write.specs.Written.{bytes_of, fields_bytes, items_bytes, Overruns}
+use Rattle.bd_write.specs.Written.{bytes_of, fields_bytes, items_bytes, OverrunsLimit}
 use Rattle.bd_raw.specs.Scalars.{number_length}
 use Rattle.bd_write.proofs.Writes as writes
 use Rattle.bd_write.proofs.writing_values.+writing.Goals as goal
 
 pub append_element-returns-clause-spells : goal.append_element-returns-clause-spells
 append_element-returns-clause-spells g t c =
-    writes.ok_on c.append_value.result _ _ c.append_value.ensures.spells (λ v. (writes.is_name c.args.name.now (search rules) (search rules), v))
+    writes.ok_on c.put_value.result _ _ c.put_value.ensures.spells (λ v. (writes.is_name c.args.name.now (search rules) (search rules), v))
 
 pub append_fields-returns-in_err-append_element-clause-err : goal.append_fields-returns-in_err-append_element-clause-err
 append_fields-returns-in_err-append_element-clause-err g t c =
@@ -46,57 +48,57 @@ append_fields-returns-clause-err g t c =
     let total = writes.frame_total c.args.out.now.items (fields_bytes (fields_of (g.N.Reading.left c.args.fields))) c.extend_from_slice.new.self.items out in
     writes.err_more c.seal.result _ _ c.seal.ensures.err (omega (arith, total))
 
-pub append_value-append_fields-requires : goal.append_value-append_fields-requires
-append_value-append_fields-requires g t c κs within =
+pub put_value-append_fields-requires : goal.put_value-append_fields-requires
+put_value-append_fields-requires g t c κs within =
     let tree = g.N.Reading.tree c.args.node in
     let ps = g.N.Reading.left c.parts.result in
     let s = parted.parts_smaller tree ps c.parts.ensures.parts in
     let e = c.decreases in
     (omega arith, (within.0, (within.1, writes.zero_doc tree ps (parted.doc_is tree ps (sym c.kind.ensures ∙ c.in-Doc.is) c.parts.ensures.parts) c.requires)))
 
-pub append_value-append_items-requires : goal.append_value-append_items-requires
-append_value-append_items-requires g t c κs within =
+pub put_value-append_items-requires : goal.put_value-append_items-requires
+put_value-append_items-requires g t c κs within =
     let tree = g.N.Reading.tree c.args.node in
     let ps = g.N.Reading.left c.parts-in-Array.result in
     let s = parted.parts_smaller tree ps c.parts-in-Array.ensures.parts in
     let e = c.decreases in
     (omega arith, (within.0, (within.1, writes.zero_array tree (values_of ps) (parted.array_is tree ps (sym c.kind.ensures ∙ c.in-Array.is) c.parts-in-Array.ensures.parts) c.requires)))
 
-pub append_value-returns-in-Doc-clause-ok : goal.append_value-returns-in-Doc-clause-ok
-append_value-returns-in-Doc-clause-ok g t c =
+pub put_value-returns-in-Doc-clause-ok : goal.put_value-returns-in-Doc-clause-ok
+put_value-returns-in-Doc-clause-ok g t c =
     let tree = g.N.Reading.tree c.args.node in
     let e = parted.doc_is tree (g.N.Reading.left c.parts.result) (sym c.kind.ensures ∙ c.in-Doc.is) c.parts.ensures.parts in
     subst (λ (x : Tree). OnOk c.append_fields.result (c.append_fields.new.out.items ≡ c.args.out.now.items ++ bytes_of x)) (sym e) c.append_fields.ensures.ok
 
-pub append_value-returns-in-Doc-clause-spells : goal.append_value-returns-in-Doc-clause-spells
-append_value-returns-in-Doc-clause-spells g t c =
+pub put_value-returns-in-Doc-clause-spells : goal.put_value-returns-in-Doc-clause-spells
+put_value-returns-in-Doc-clause-spells g t c =
     let tree = g.N.Reading.tree c.args.node in
     let e = parted.doc_is tree (g.N.Reading.left c.parts.result) (sym c.kind.ensures ∙ c.in-Doc.is) c.parts.ensures.parts in
     subst (λ (x : Tree). OnOk c.append_fields.result (IsValue x (bytes_of x))) (sym e) (writes.ok_on c.append_fields.result _ _ c.append_fields.ensures.spells (λ are. (_, are, refl)))
 
-pub append_value-returns-in-Doc-clause-err : goal.append_value-returns-in-Doc-clause-err
-append_value-returns-in-Doc-clause-err g t c =
+pub put_value-returns-in-Doc-clause-err : goal.put_value-returns-in-Doc-clause-err
+put_value-returns-in-Doc-clause-err g t c =
     let tree = g.N.Reading.tree c.args.node in
     let e = parted.doc_is tree (g.N.Reading.left c.parts.result) (sym c.kind.ensures ∙ c.in-Doc.is) c.parts.ensures.parts in
-    subst (λ (x : Tree). IfErr c.append_fields.result (Overruns (length c.args.out.now.items + length (bytes_of x)))) (sym e) c.append_fields.ensures.err
+    subst (λ (x : Tree). IfErr c.append_fields.result (OverrunsLimit (length c.args.out.now.items + length (bytes_of x)))) (sym e) c.append_fields.ensures.err
 
-pub append_value-returns-in-Array-clause-ok : goal.append_value-returns-in-Array-clause-ok
-append_value-returns-in-Array-clause-ok g t c =
+pub put_value-returns-in-Array-clause-ok : goal.put_value-returns-in-Array-clause-ok
+put_value-returns-in-Array-clause-ok g t c =
     let tree = g.N.Reading.tree c.args.node in
     let e = parted.array_is tree (g.N.Reading.left c.parts-in-Array.result) (sym c.kind.ensures ∙ c.in-Array.is) c.parts-in-Array.ensures.parts in
     subst (λ (x : Tree). OnOk c.append_items.result (c.append_items.new.out.items ≡ c.args.out.now.items ++ bytes_of x)) (sym e) c.append_items.ensures.ok
 
-pub append_value-returns-in-Array-clause-spells : goal.append_value-returns-in-Array-clause-spells
-append_value-returns-in-Array-clause-spells g t c =
+pub put_value-returns-in-Array-clause-spells : goal.put_value-returns-in-Array-clause-spells
+put_value-returns-in-Array-clause-spells g t c =
     let tree = g.N.Reading.tree c.args.node in
     let e = parted.array_is tree (g.N.Reading.left c.parts-in-Array.result) (sym c.kind.ensures ∙ c.in-Array.is) c.parts-in-Array.ensures.parts in
     subst (λ (x : Tree). OnOk c.append_items.result (IsValue x (bytes_of x))) (sym e) (writes.ok_on c.append_items.result _ _ c.append_items.ensures.spells (λ are. (_, are, refl)))
 
-pub append_value-returns-in-Array-clause-err : goal.append_value-returns-in-Array-clause-err
-append_value-returns-in-Array-clause-err g t c =
+pub put_value-returns-in-Array-clause-err : goal.put_value-returns-in-Array-clause-err
+put_value-returns-in-Array-clause-err g t c =
     let tree = g.N.Reading.tree c.args.node in
     let e = parted.array_is tree (g.N.Reading.left c.parts-in-Array.result) (sym c.kind.ensures ∙ c.in-Array.is) c.parts-in-Array.ensures.parts in
-    subst (λ (x : Tree). IfErr c.append_items.result (Overruns (length c.args.out.now.items + length (bytes_of x)))) (sym e) c.append_items.ensures.err
+    subst (λ (x : Tree). IfErr c.append_items.result (OverrunsLimit (length c.args.out.now.items + length (bytes_of x)))) (sym e) c.append_items.ensures.err
 
 pub append_items-append_element-requires : goal.append_items-append_element-requires
 append_items-append_element-requires g t c κs within =
@@ -134,6 +136,7 @@ append_items-loop-next-preserved g t c =
     record {
       whole = ap₂ (λ (x : List ℕ) (n : ℕ). x ++ items_bytes n after) wrote next ∙ append_assoc l.out.items piece (items_bytes (suc place) after) ∙ whole;
       spelled = λ are. spelled (decimal place, _, _, spells.0, spells.1, subst (λ (n : ℕ). AreItems after (items_bytes n after)) next are, refl);
+      front = front_more _ _ _ _ l.invariant.front wrote;
       zero = (writes.neither _ _ zero).1;
       fewer = omega (arith, less);
       few = omega (arith, l.invariant.few, ap (λ (xs : List ℕ). length xs) wrote, length-append l.out.items piece);
@@ -170,32 +173,32 @@ append_leaf-returns-in_err-write_scalar-clause-err g t c =
     let own = rw code.3 at c.in_err-write_scalar.ensures.err in
     let total = writes.scoped_size code.0 (bytes_of (doc code.1)) in
     let le : length c.write_number.new.out.items + length (string code.0) ≤ length c.args.out.now.items + length (scoped code.0 (bytes_of (doc code.1))) =
-    writes.front_total c.args.out.now.items c.write_number.new.out.items (string code.0) (length (scoped code.0 (bytes_of (doc code.1)))) c.in_ok-write_number.ensures (omega (arith, total)) in
+    writes.front_total c.args.out.now.items c.write_number.new.out.items (string code.0) (length (scoped code.0 (bytes_of (doc code.1)))) c.in_ok-write_number.ensures.ok (omega (arith, total)) in
     rw (p.1, p.2, code.2) (writes.overruns_more _ _ c.in_err-write_scalar.field-0.0 le own)
 
-pub append_leaf-returns-in_err-append_value-clause-err : goal.append_leaf-returns-in_err-append_value-clause-err
-append_leaf-returns-in_err-append_value-clause-err g t c =
+pub append_leaf-returns-in_err-put_value-clause-err : goal.append_leaf-returns-in_err-put_value-clause-err
+append_leaf-returns-in_err-put_value-clause-err g t c =
     let tree = g.N.Reading.tree c.args.node in
     let code = writes.code_parts tree (g.N.Reading.tree c.in-Some-scope.scope) (seen c.in-Some.own) (sym c.in-Some.ensures) (sym c.in-Some-scope.ensures.scope) in
-    let r = c.from_residual-in_err-append_value in
+    let r = c.from_residual-in_err-put_value in
     let p = err_from_is_err_and r.result r.ensures.1 in
     let own = rw code.3 at c.in_ok-write_scalar.ensures.ok in
-    let inside = rw code.4 at c.in_err-append_value.ensures.err in
-    let one = ap (λ xs. length xs) c.in_ok-write_number.ensures in
+    let inside = rw code.4 at c.in_err-put_value.ensures.err in
+    let one = ap (λ xs. length xs) c.in_ok-write_number.ensures.ok in
     let two = ap (λ xs. length xs) own in
     let le : length c.write_scalar-2.new.out.items + length (bytes_of (doc code.1)) ≤ length c.args.out.now.items + length (scoped code.0 (bytes_of (doc code.1))) =
     omega (arith, one, two, writes.scoped_size code.0 (bytes_of (doc code.1)), length-append c.args.out.now.items (number 0), number_length 0, length-append c.write_number.new.out.items (string code.0)) in
-    rw (p.1, p.2, code.2) (writes.overruns_more _ _ c.in_err-append_value.field-0.0 le inside)
+    rw (p.1, p.2, code.2) (writes.overruns_more _ _ c.in_err-put_value.field-0.0 le inside)
 
 pub append_leaf-seal-requires : goal.append_leaf-seal-requires
 append_leaf-seal-requires g t c =
     let tree = g.N.Reading.tree c.args.node in
     let code = writes.code_parts tree (g.N.Reading.tree c.in-Some-scope.scope) (seen c.in-Some.own) (sym c.in-Some.ensures) (sym c.in-Some-scope.ensures.scope) in
     let own = rw code.3 at c.in_ok-write_scalar.ensures.ok in
-    let inside = rw code.4 at c.in_ok-append_value.ensures.ok in
-    let out = writes.code_out c.args.out.now.items c.write_number.new.out.items c.write_scalar-2.new.out.items c.append_value.new.out.items code.0 (bytes_of (doc code.1)) c.in_ok-write_number.ensures own inside in
+    let inside = rw code.4 at c.in_ok-put_value.ensures.ok in
+    let out = writes.code_out c.args.out.now.items c.write_number.new.out.items c.write_scalar-2.new.out.items c.put_value.new.out.items code.0 (bytes_of (doc code.1)) c.in_ok-write_number.ensures.ok own inside in
     let at : c.len-at.result ≡ length c.args.out.now.items = search rules in
-    let size = writes.sealed_size c.args.out.now.items _ c.append_value.new.out.items out in
+    let size = writes.sealed_size c.args.out.now.items _ c.put_value.new.out.items out in
     search rules
 
 pub append_leaf-returns-clause-ok : goal.append_leaf-returns-clause-ok
@@ -203,20 +206,31 @@ append_leaf-returns-clause-ok g t c =
     let tree = g.N.Reading.tree c.args.node in
     let code = writes.code_parts tree (g.N.Reading.tree c.in-Some-scope.scope) (seen c.in-Some.own) (sym c.in-Some.ensures) (sym c.in-Some-scope.ensures.scope) in
     let own = rw code.3 at c.in_ok-write_scalar.ensures.ok in
-    let inside = rw code.4 at c.in_ok-append_value.ensures.ok in
-    let out = writes.code_out c.args.out.now.items c.write_number.new.out.items c.write_scalar-2.new.out.items c.append_value.new.out.items code.0 (bytes_of (doc code.1)) c.in_ok-write_number.ensures own inside in
+    let inside = rw code.4 at c.in_ok-put_value.ensures.ok in
+    let out = writes.code_out c.args.out.now.items c.write_number.new.out.items c.write_scalar-2.new.out.items c.put_value.new.out.items code.0 (bytes_of (doc code.1)) c.in_ok-write_number.ensures.ok own inside in
     let at : c.len-at.result ≡ length c.args.out.now.items = search rules in
     subst (λ (x : Tree). OnOk c.seal.result (c.seal.new.out.items ≡ c.args.out.now.items ++ bytes_of x)) (sym code.2)
-    (writes.ok_on c.seal.result _ _ c.seal.ensures.ok (λ e. e ∙ writes.scoped_ok c.args.out.now.items code.0 (bytes_of (doc code.1)) c.append_value.new.out.items c.len-at.result out at))
+    (writes.ok_on c.seal.result _ _ c.seal.ensures.ok (λ e. e ∙ writes.scoped_ok c.args.out.now.items code.0 (bytes_of (doc code.1)) c.put_value.new.out.items c.len-at.result out at))
 
 pub append_leaf-returns-clause-err : goal.append_leaf-returns-clause-err
 append_leaf-returns-clause-err g t c =
     let tree = g.N.Reading.tree c.args.node in
     let code = writes.code_parts tree (g.N.Reading.tree c.in-Some-scope.scope) (seen c.in-Some.own) (sym c.in-Some.ensures) (sym c.in-Some-scope.ensures.scope) in
     let own = rw code.3 at c.in_ok-write_scalar.ensures.ok in
-    let inside = rw code.4 at c.in_ok-append_value.ensures.ok in
-    let out = writes.code_out c.args.out.now.items c.write_number.new.out.items c.write_scalar-2.new.out.items c.append_value.new.out.items code.0 (bytes_of (doc code.1)) c.in_ok-write_number.ensures own inside in
+    let inside = rw code.4 at c.in_ok-put_value.ensures.ok in
+    let out = writes.code_out c.args.out.now.items c.write_number.new.out.items c.write_scalar-2.new.out.items c.put_value.new.out.items code.0 (bytes_of (doc code.1)) c.in_ok-write_number.ensures.ok own inside in
     let at : c.len-at.result ≡ length c.args.out.now.items = search rules in
-    let size = writes.sealed_size c.args.out.now.items _ c.append_value.new.out.items out in
+    let size = writes.sealed_size c.args.out.now.items _ c.put_value.new.out.items out in
     let total = writes.scoped_size code.0 (bytes_of (doc code.1)) in
-    subst (λ (x : Tree). IfErr c.seal.result (Overruns (length c.args.out.now.items + length (bytes_of x)))) (sym code.2) (writes.err_more c.seal.result _ _ c.seal.ensures.err (omega (arith, size, total, length-append (string code.0) (bytes_of (doc code.1)))))
+    subst (λ (x : Tree). IfErr c.seal.result (OverrunsLimit (length c.args.out.now.items + length (bytes_of x)))) (sym code.2) (writes.err_more c.seal.result _ _ c.seal.ensures.err (omega (arith, size, total, length-append (string code.0) (bytes_of (doc code.1)))))
+
+pub append_leaf-returns-in_err-write_scalar-clause-front : goal.append_leaf-returns-in_err-write_scalar-clause-front
+append_leaf-returns-in_err-write_scalar-clause-front g t c =
+    let front : StartsWith c.write_scalar-2.new.out.items c.args.out.now.items = front_then _ _ _ (front_all _ _ c.in_ok-write_number.ensures.ok) c.in_err-write_scalar.ensures.front in
+    grind (arith, front)
+
+pub append_leaf-returns-in_err-put_value-clause-front : goal.append_leaf-returns-in_err-put_value-clause-front
+append_leaf-returns-in_err-put_value-clause-front g t c =
+    let code = front_more _ _ _ _ (front_all _ _ c.in_ok-write_number.ensures.ok) c.in_ok-write_scalar.ensures.ok in
+    let front : StartsWith c.put_value.new.out.items c.args.out.now.items = front_then _ _ _ code c.in_err-put_value.ensures.front in
+    grind (arith, front)

@@ -1,4 +1,5 @@
 use Rattle.std.proofs.Common.{◌≡◌, ◌+◌, ◌*◌, ◌≤◌, ◌++◌, length, false}
+use Rattle.std.specs.Io.{StartsWith}
 use Rattle.bd_value.specs.Tree.{fields_of, items_of, tree_size, fields_size}
 use Rattle.bd_value.specs.Parts.{values_of}
 use Rattle.bd_value.specs.Zeros.{zero_in_fields, zero_in_items}
@@ -6,8 +7,8 @@ use Rattle.bd_raw.specs.Spelling.{number, AreFields, AreItems}
 use Rattle.bd_write.specs.Written.{fields_bytes, items_bytes}
 use Rattle.bd_write.proofs.writing_values.+writing.Given as goal
 
-abbrev pub decreases-append_value : goal.decreases-append_value
-decreases-append_value g l = 4 * tree_size (g.N.Reading.tree l.node) + 2
+abbrev pub decreases-put_value : goal.decreases-put_value
+decreases-put_value g l = 4 * tree_size (g.N.Reading.tree l.node) + 2
 
 abbrev pub decreases-append_leaf : goal.decreases-append_leaf
 decreases-append_leaf g l = 4 * tree_size (g.N.Reading.tree l.node) + 1
@@ -26,6 +27,7 @@ abbrev pub invariant-append_fields-loop-next : goal.invariant-append_fields-loop
 invariant-append_fields-loop-next g l = record {
   whole : l.out.items ++ fields_bytes (fields_of (g.N.Reading.left l.rest)) ≡ (l.fn.out.items ++ number 0) ++ fields_bytes (fields_of (g.N.Reading.left l.fn.fields));
   spelled : AreFields (fields_of (g.N.Reading.left l.rest)) (fields_bytes (fields_of (g.N.Reading.left l.rest))) → AreFields (fields_of (g.N.Reading.left l.fn.fields)) (fields_bytes (fields_of (g.N.Reading.left l.fn.fields)));
+  front : StartsWith l.out.items l.fn.out.items;
   zero : zero_in_fields (fields_of (g.N.Reading.left l.rest)) ≡ false;
   fewer : fields_size (fields_of (g.N.Reading.left l.rest)) ≤ fields_size (fields_of (g.N.Reading.left l.fn.fields));
 }
@@ -37,6 +39,7 @@ abbrev pub invariant-append_items-loop-next : goal.invariant-append_items-loop-n
 invariant-append_items-loop-next g l = record {
   whole : l.out.items ++ items_bytes l.place (items_of (values_of (g.N.Reading.left l.rest))) ≡ (l.fn.out.items ++ number 0) ++ items_bytes 0 (items_of (values_of (g.N.Reading.left l.fn.items)));
   spelled : AreItems (items_of (values_of (g.N.Reading.left l.rest))) (items_bytes l.place (items_of (values_of (g.N.Reading.left l.rest)))) → AreItems (items_of (values_of (g.N.Reading.left l.fn.items))) (items_bytes 0 (items_of (values_of (g.N.Reading.left l.fn.items))));
+  front : StartsWith l.out.items l.fn.out.items;
   zero : zero_in_items (items_of (values_of (g.N.Reading.left l.rest))) ≡ false;
   fewer : fields_size (fields_of (g.N.Reading.left l.rest)) ≤ fields_size (fields_of (g.N.Reading.left l.fn.items));
   few : l.place ≤ length l.out.items;
