@@ -5,24 +5,18 @@ use Rattle.std.proofs.lemmas.Bool.Decides.{nat_tests}
 use Rattle.std.specs.Prelude.{IfSome, ◌||◌}
 use Rattle.std.specs.Io.KnownBytes.{Consumes, IsAtEnd, prepend_known}
 use lib.Seq.{take-append-le}
-use Rattle.bd_device.specs.declared.reading.ReadFault.{ReadFault}
-use Rattle.bd_device.specs.declared.reading.ReadFault.TheVariants as reads
-use Rattle.bd_device.specs.Filling.{Unfilled}
-use Rattle.bd_check.specs.declared.fault.Fault.{Fault}
 use Rattle.bd_check.specs.declared.fault.FaultKind.{FaultKind}
 use Rattle.bd_check.specs.declared.fault.FaultKind.TheVariants.{ShortLength, BadLength}
 use Rattle.bd_check.specs.Dump.{length_told, frame_length}
-use Rattle.bd_stream.specs.Stream.{IsFrame, AreFrames, IsCut, CutShort, HasNoFrame, OnFrame, OnRead}
-use Rattle.bd_stream.specs.declared.doc_buffer.DocFault.{DocFault}
-use Rattle.bd_stream.specs.declared.doc_buffer.DocFault.TheVariants as faults
+use Rattle.bd_stream.specs.Stream.{IsFrame, AreFrames, IsCut, HasNoFrame}
 use Rattle.bd_check.proofs.Dumps.{frame_good, frame_inside, document_frame, Stuck}
 
 -- ---- what a length tells
 
-told_kept : (head rest : List ℕ) → 4 ≤ length head → length_told (head ++ rest) ≡ length_told head
+pub told_kept : (head rest : List ℕ) → 4 ≤ length head → length_told (head ++ rest) ≡ length_told head
 told_kept head rest long = let e : take 4 (head ++ rest) ≡ take 4 head = take-append-le 4 head rest long in rw e refl
 
-frame_short : (bytes : List ℕ) → 0 < length bytes → length bytes < 4 → frame_length bytes ≡ Err ShortLength
+pub frame_short : (bytes : List ℕ) → 0 < length bytes → length bytes < 4 → frame_length bytes ≡ Err ShortLength
 frame_short [] some few = absurd (omega arith)
 frame_short (b ∷ bytes) some few = rw (lt-ltb _ _ few) refl
 
@@ -45,24 +39,24 @@ frame_bad (b ∷ bytes) long is =
 
 -- what follows the bytes that were given, where it is known
 no_frame : (old new : Option (List ℕ)) (given : List ℕ) (kind : FaultKind) → Consumes old new given
-    → ((rest : List ℕ) → IfSome new (λ xs. rest ≡ xs) → frame_length (given ++ rest) ≡ Err kind) → frame_length (given ++ []) ≡ Err kind → HasNoFrame old kind
+    → ((rest : List ℕ) → IfSome new (λ xs. rest ≡ xs) → frame_length (given ++ rest) ≡ Err kind) → frame_length (given ++ []) ≡ Err kind → HasNoFrame [] old kind
 no_frame None new given kind gave is alone = (given ++ [], _, alone)
 no_frame (Some xs) None given kind gave is alone = absurd gave
 no_frame (Some xs) (Some ys) given kind gave is alone = (given ++ ys, sym gave, is ys refl)
 
-pub has_short_length : (old new : Option (List ℕ)) (given : List ℕ) → Consumes old new given → IsAtEnd new → 0 < length given → length given < 4 → HasNoFrame old ShortLength
+pub has_short_length : (old new : Option (List ℕ)) (given : List ℕ) → Consumes old new given → IsAtEnd new → 0 < length given → length given < 4 → HasNoFrame [] old ShortLength
 has_short_length old None given gave end some few =
     let alone = frame_short (given ++ []) (omega (arith, length-append given [])) (omega (arith, length-append given [])) in
     has_short old given gave alone
   where
-    has_short : (old : Option (List ℕ)) (given : List ℕ) → Consumes old None given → frame_length (given ++ []) ≡ Err ShortLength → HasNoFrame old ShortLength
+    has_short : (old : Option (List ℕ)) (given : List ℕ) → Consumes old None given → frame_length (given ++ []) ≡ Err ShortLength → HasNoFrame [] old ShortLength
     has_short None given gave alone = (given ++ [], _, alone)
     has_short (Some xs) given gave alone = absurd gave
 has_short_length old (Some ys) given gave end some few =
     let alone = frame_short (given ++ []) (omega (arith, length-append given [])) (omega (arith, length-append given [])) in
     no_frame old (Some ys) given ShortLength gave (λ rest is. rw (is ∙ end) alone) alone
 
-pub has_bad_length : (old new : Option (List ℕ)) (given : List ℕ) → Consumes old new given → length given ≡ 4 → (length_told given < 5) ⊎ (16793600 < length_told given) → HasNoFrame old BadLength
+pub has_bad_length : (old new : Option (List ℕ)) (given : List ℕ) → Consumes old new given → length given ≡ 4 → (length_told given < 5) ⊎ (16793600 < length_told given) → HasNoFrame [] old BadLength
 has_bad_length old new given gave size is = no_frame old new given BadLength gave (λ rest known. behind rest) (behind [])
   where
     out : (told size : ℕ) → (told < 5) ⊎ (16793600 < told) → IsBad told size
@@ -74,35 +68,37 @@ has_bad_length old new given gave size is = no_frame old new given BadLength gav
         let told = told_kept given rest (omega arith) in
         frame_bad (given ++ rest) (omega (arith, length-append given rest)) (rw told (out (length_told given) (length (given ++ rest)) is))
 
--- ---- behind the four bytes of a length
+pub frame_out : (given : List ℕ) → length given ≡ 4 → (length_told given < 5) ⊎ (16793600 < length_told given) → frame_length given ≡ Err BadLength
+frame_out given size is = frame_bad given (omega arith) (out_of (length_told given) (length given) is)
+  where
+    out_of : (told size : ℕ) → (told < 5) ⊎ (16793600 < told) → IsBad told size
+    out_of told size (inl low) = inl low
+    out_of told size (inr high) = inr (inl high)
+
+-- ---- after the four bytes of a length
 
 abbrev pub IsHead : List ℕ → Type 0
 IsHead head = (length head ≡ 4) × (5 ≤ length_told head) × (length_told head ≤ 16793600)
 
+pub frame_cut : (head given : List ℕ) → IsHead head → length given + 4 < length_told head → frame_length (head ++ given) ≡ Err BadLength
+frame_cut head given is less =
+    let told = told_kept head given (let z = is.0 in omega arith) in
+    frame_bad (head ++ given) (let z = is.0 in omega (arith, length-append head given)) (inr (inr (let z = is.0 in omega (arith, length-append head given))))
+
 pub has_cut_length : (head : List ℕ) (old new : Option (List ℕ)) (given : List ℕ) → IsHead head → Consumes old new given → IsAtEnd new → length given + 4 < length_told head
-    → HasNoFrame (prepend_known head old) BadLength
-has_cut_length head None new given is gave end less = (head ++ given, _, short_of head given is less)
-  where
-    short_of : (head given : List ℕ) → IsHead head → length given + 4 < length_told head → frame_length (head ++ given) ≡ Err BadLength
-    short_of head given is less =
-        let told = told_kept head given (let z = is.0 in omega arith) in
-        frame_bad (head ++ given) (let z = is.0 in omega (arith, length-append head given)) (inr (inr (let z = is.0 in omega (arith, length-append head given))))
+    → HasNoFrame head old BadLength
+has_cut_length head None new given is gave end less = (head ++ given, _, frame_cut head given is less)
 has_cut_length head (Some xs) None given is gave end less = absurd gave
 has_cut_length head (Some xs) (Some ys) given is gave end less =
     let all : xs ≡ given = gave ∙ ap (λ z. given ++ z) end ∙ append-nil given in
-    (head ++ xs, refl, subst (λ z. frame_length (head ++ z) ≡ Err BadLength) (sym all) short)
-  where
-    short : frame_length (head ++ given) ≡ Err BadLength
-    short =
-        let told = told_kept head given (let z = is.0 in omega arith) in
-        frame_bad (head ++ given) (let z = is.0 in omega (arith, length-append head given)) (inr (inr (let z = is.0 in omega (arith, length-append head given))))
+    (head ++ xs, refl, subst (λ z. frame_length (head ++ z) ≡ Err BadLength) (sym all) (frame_cut head given is less))
 
 pub gave_behind : (head given : List ℕ) (old new : Option (List ℕ)) → Consumes old new given → Consumes (prepend_known head old) new (head ++ given)
 gave_behind head given None new gave = _
 gave_behind head given (Some xs) None gave = absurd gave
 gave_behind head given (Some xs) (Some ys) gave = ap (λ z. head ++ z) gave ∙ sym (append_assoc head given ys)
 
--- a room behind which nothing is left
+-- a room after which nothing is left
 pub whole_room : (n len : ℕ) (room rest all : List ℕ) → take n room ≡ all → length room ≡ len → take n (take len (room ++ rest)) ≡ all
 whole_room n len room rest all front size = ap (take n) (take_at room rest len size) ∙ front
 
@@ -112,28 +108,12 @@ is_frame bytes head given e is size =
     let all : length (head ++ given) ≡ length_told head = let z = is.0 in omega (arith, length-append head given) in
     rw e (frame_good (head ++ given) (length (head ++ given)) (told ∙ sym all) (let z = is.1 in omega arith) (let z = is.2 in omega arith) (omega arith))
 
-is_cut : (head given : List ℕ) → IsHead head → length given < length_told head - 4 → IsCut (head ++ given)
+pub is_cut : (head given : List ℕ) → IsHead head → length given < length_told head - 4 → IsCut (head ++ given)
 is_cut head given is less =
     let told = told_kept head given (let z = is.0 in omega arith) in
     inr (rw told is.1, rw told is.2, rw told (let z = is.0 in omega (arith, length-append head given)))
 
-pub cut_behind : (head : List ℕ) (old new : Option (List ℕ)) (limit : ℕ) (fault : ReadFault) → IsHead head → 4 ≤ limit → Unfilled old new (length_told head - 4) (limit - 4) fault
-    → ¬ (fault ≡ reads.NoMemory) → CutShort (prepend_known head old) new limit fault
-cut_behind head old new limit reads.Device is le u other =
-    (head ++ u.0, gave_behind head u.0 old new u.1, is_cut head u.0 is u.2, let z = is.0 in let m = u.3 in omega (arith, length-append head u.0))
-cut_behind head old new limit reads.TooLong is le u other = (
-  head ++ u.0,
-  u.1,
-  subst (Consumes (prepend_known head old) new) (sym (append_assoc head u.0 u.1)) (gave_behind head (u.0 ++ u.1) old new u.2),
-  is_cut head u.0 is u.3,
-  let z = is.0 in let m = u.4 in omega (arith, length-append head u.0),
-  let z = is.0 in let m = u.5 in omega (arith, length-append head u.0),
-)
-cut_behind head old new limit reads.TooManyTurns is le u other =
-    (head ++ u.0, gave_behind head u.0 old new u.1, is_cut head u.0 is u.2, let z = is.0 in let m = u.3 in omega (arith, length-append head u.0))
-cut_behind head old new limit reads.NoMemory is le u other = absurd (other refl)
-
--- ---- the head and what is behind it
+-- ---- the head and what is after it
 
 -- bytes of which the head was given are the head and the rest, where they are known
 pub joined_gave : (old mid new : Option (List ℕ)) (head all : List ℕ) → Consumes old mid head → Consumes (prepend_known head mid) new all → Consumes old new all
@@ -141,34 +121,10 @@ joined_gave None mid new head all gave rest = _
 joined_gave (Some xs) None new head all gave rest = absurd gave
 joined_gave (Some xs) (Some ys) new head all gave rest = subst (λ (z : List ℕ). Consumes (Some z) new all) (sym gave) rest
 
-pub joined_no_frame : (old mid : Option (List ℕ)) (head : List ℕ) (kind : FaultKind) → Consumes old mid head → HasNoFrame (prepend_known head mid) kind → HasNoFrame old kind
+pub joined_no_frame : (old mid : Option (List ℕ)) (head : List ℕ) (kind : FaultKind) → Consumes old mid head → HasNoFrame head mid kind → HasNoFrame [] old kind
 joined_no_frame None mid head kind gave h = (h.0, _, h.2)
 joined_no_frame (Some xs) None head kind gave h = absurd gave
-joined_no_frame (Some xs) (Some ys) head kind gave h = subst (λ (z : List ℕ). HasNoFrame (Some z) kind) (sym gave) h
-
-pub joined_cut : (old mid new : Option (List ℕ)) (head : List ℕ) (limit : ℕ) (fault : ReadFault) → Consumes old mid head → CutShort (prepend_known head mid) new limit fault → CutShort old new limit fault
-joined_cut old mid new head limit reads.Device gave h = (h.0, joined_gave old mid new head h.0 gave h.1, h.2, h.3)
-joined_cut old mid new head limit reads.TooLong gave h = (h.0, h.1, joined_gave old mid new head (h.0 ++ h.1) gave h.2, h.3, h.4, h.5)
-joined_cut old mid new head limit reads.TooManyTurns gave h = (h.0, joined_gave old mid new head h.0 gave h.1, h.2, h.3)
-joined_cut old mid new head limit reads.NoMemory gave h = (h.0, joined_gave old mid new head h.0 gave h.1, h.2)
-
--- a fault of a length that was told
-pub told_frame : (P : FaultKind → Type 0) (d : DocFault) (kind : FaultKind) (place number : ℕ)
-    → OnFrame (λ f. (f.kind ≡ kind) × (f.offset ≡ place) × (f.document ≡ number) × (f.path.items ≡ [])) d → P kind
-    → OnFrame (λ f. (f.offset ≡ place) × (f.document ≡ number) × (f.path.items ≡ []) × P f.kind) d
-told_frame P (faults.Frame f) kind place number is p = (is.1, is.2, is.3, subst P (sym is.0) p)
-told_frame P (faults.Read f) kind place number is p = _
-told_frame P faults.Failed kind place number is p = _
-
-pub frame_weaker : (P Q : Fault → Type 0) (d : DocFault) → OnFrame P d → ((f : Fault) → P f → Q f) → OnFrame Q d
-frame_weaker P Q (faults.Frame f) p q = q f p
-frame_weaker P Q (faults.Read f) p q = _
-frame_weaker P Q faults.Failed p q = _
-
-pub read_weaker : (P Q : ReadFault → Type 0) (d : DocFault) → OnRead P d → ((f : ReadFault) → P f → Q f) → OnRead Q d
-read_weaker P Q (faults.Frame f) p q = _
-read_weaker P Q (faults.Read f) p q = q f p
-read_weaker P Q faults.Failed p q = _
+joined_no_frame (Some xs) (Some ys) head kind gave h = (h.0, h.1 ∙ sym gave, h.2)
 
 -- ---- a document by its length, and what follows
 

@@ -1,1 +1,2 @@
+pub mod NextDocument
 pub mod Stream

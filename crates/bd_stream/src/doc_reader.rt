@@ -1,9 +1,10 @@
 //! The documents of a device, one at a time.
-ghost use Rattle.std.specs.Prelude.{◌≡◌, ℕ, List, Option, Ok, Err, Some, None, false, true, IfOk, IfErr, IfSome, IsTrue, OnErr, OnOk, [], length, take, ◌+◌, ◌-◌, ◌≤◌, ◌↔◌};
+ghost use Rattle.std.specs.Prelude.{◌≡◌, Ok, Err, None, false, true, IfOk, IfErr, IfSome, IsTrue, OnErr, OnOk, [], length, ◌≤◌, ◌↔◌};
 ghost use Rattle.std.specs.Io.{StartsWith};
-ghost use Rattle.std.specs.Io.KnownBytes.{Consumes, IsAtEnd};
-ghost use Rattle.bd_device.specs.Counts.{after_more};
-ghost use Rattle.bd_stream.specs.Stream.{IsFrame, HoldsAsMuch, CutShort, HasNoFrame, OnFrame, OnRead};
+ghost use Rattle.std.specs.Io.KnownBytes.{IsAtEnd};
+ghost use Rattle.bd_stream.specs.NextDocument.{FailsToRead, FindsEnd, HoldsNone, ReadsDocument, held_bytes};
+ghost use Rattle.bd_stream.specs.Stream.{IsFrame};
+ghost use Rattle.bd_stream.specs.declared.doc_buffer.DocBuffer.{DocBuffer};
 
 use crate::doc_buffer::{DocBuffer, DocFault};
 use bd_device::{Input, Limits, ReadFault};
@@ -50,19 +51,18 @@ impl<R: Input + Drop> DocReader<R> {
         self.documents.held()
     }
 
-    /// The next document; none at the end. The device gives no byte behind it.
+    /// The next document; none at the end. The device gives no byte after it.
     ///
     /// The errors are those of `DocBuffer::read_next`.
     pub fn next(&mut self) -> Result<Option<RawBytes<'_>>, DocFault>
         ensures frame { IfOk result (λ o. IfSome o (λ d. IsFrame d.bytes.now)) }
-        ensures front { IfOk result (λ o. IfSome o (λ d. IfSome (R.left self.old.reader) (λ xs. StartsWith xs d.bytes.now))) }
+        ensures front { IfOk result (λ o. IfSome o (λ d. IfSome (R.state self.old.reader).left (λ xs. StartsWith xs d.bytes.now))) }
         ensures stands { IfOk result (λ o. IfSome o (λ d. (d.start ≡ self.old.documents.place) × (d.number ≡ self.old.documents.number))) }
-        ensures end { result ≡ Ok None → IsAtEnd (R.left self.old.reader) }
-        ensures no_frame { IfErr result (OnFrame (λ f. (f.offset ≡ self.old.documents.place) × (f.document ≡ self.old.documents.number)
-            × (f.path.items ≡ []) × HasNoFrame (R.left self.old.reader) f.kind)) }
-        // No whole document stood before a read fault.
-        ensures cut { IfErr result (OnRead (λ f. (new : Option (List ℕ)) × CutShort (R.left self.old.reader) new self.old.documents.left.bytes f)) }
-        ensures failed { (result ≡ Err DocFault.Failed) ↔ IsTrue self.old.documents.failed }
+        ensures end { result ≡ Ok None → IsAtEnd (R.state self.old.reader).left }
+        // No whole document stood before a fault.
+        ensures fails { self.old.documents.failed ≡ false → IfErr result (λ fault. (after : DocBuffer) × (new : R)
+            × FailsToRead R.state R.read_gives [] self.old.documents after self.old.reader new fault) }
+        ensures refused { (result ≡ Err DocFault.Failed) ↔ IsTrue self.old.documents.failed }
     {
         let start = self.documents.place();
         let number = self.documents.number();
@@ -80,39 +80,23 @@ impl<R: Input + Drop> DocReader<R> {
     ///
     /// It is `next` in two steps: of a reader that still lends a document nothing can be said.
     pub fn advance(&mut self) -> Result<bool, DocFault>
-        ensures frame { result ≡ Ok true → IsFrame (take self.new.documents.size self.new.documents.buffer.items) }
-        ensures gives { result ≡ Ok true → Consumes (R.left self.old.reader) (R.left self.new.reader)
-            (take self.new.documents.size self.new.documents.buffer.items) }
-        ensures place { result ≡ Ok true → (self.new.documents.place ≡ self.old.documents.place + self.new.documents.size)
-            × (self.new.documents.number ≡ self.old.documents.number + 1)
-            × (self.new.documents.left.bytes + self.new.documents.size ≡ self.old.documents.left.bytes) }
-        ensures end { result ≡ Ok false → IsAtEnd (R.left self.new.reader) × Consumes (R.left self.old.reader) (R.left self.new.reader) [] }
-        ensures kept { ¬ (result ≡ Ok true) → (self.new.documents.place ≡ self.old.documents.place)
-            × (self.new.documents.number ≡ self.old.documents.number) × (self.new.documents.left.bytes ≡ self.old.documents.left.bytes)
-            × (self.new.documents.size ≡ 0) }
-        ensures room { OnOk result (HoldsAsMuch (length self.old.documents.buffer.items) (length self.new.documents.buffer.items) self.new.documents.size) }
-        ensures called { OnOk result ((self.new.documents.left.turns ≤ self.old.documents.left.turns)
-            × (R.calls self.new.reader ≡ after_more (R.calls self.old.reader) (self.old.documents.left.turns - self.new.documents.left.turns))) }
-        ensures turns { R.calls self.new.reader ≤ after_more (R.calls self.old.reader) self.old.documents.left.turns }
-        ensures no_frame { IfErr result (OnFrame (λ f. (f.offset ≡ self.old.documents.place) × (f.document ≡ self.old.documents.number)
-            × (f.path.items ≡ []) × HasNoFrame (R.left self.old.reader) f.kind)) }
-        ensures cut { IfErr result (OnRead (CutShort (R.left self.old.reader) (R.left self.new.reader) self.old.documents.left.bytes)) }
-        ensures too_many { result ≡ Err (DocFault.Read ReadFault.TooManyTurns) →
-            R.calls self.new.reader ≡ after_more (R.calls self.old.reader) self.old.documents.left.turns }
-        ensures device { result ≡ Err (DocFault.Read ReadFault.Device) →
-            R.failures self.new.reader ≡ after_more (R.failures self.old.reader) 1 }
-        ensures well { ¬ (result ≡ Err (DocFault.Read ReadFault.Device)) → R.failures self.new.reader ≡ R.failures self.old.reader }
-        ensures failed { (result ≡ Err DocFault.Failed) ↔ IsTrue self.old.documents.failed }
-        ensures fails { OnErr result (IsTrue self.new.documents.failed) }
+        ensures reads { result ≡ Ok true →
+            ReadsDocument R.state R.read_gives self.old.documents self.new.documents self.old.reader self.new.reader }
+        ensures end { result ≡ Ok false → FindsEnd R.state self.old.documents self.new.documents self.old.reader self.new.reader }
+        ensures fails { self.old.documents.failed ≡ false → IfErr result
+            (FailsToRead R.state R.read_gives [] self.old.documents self.new.documents self.old.reader self.new.reader) }
+        ensures refused { (result ≡ Err DocFault.Failed) ↔ IsTrue self.old.documents.failed }
+        ensures failed { OnErr result (IsTrue self.new.documents.failed) }
         ensures works { OnOk result (self.new.documents.failed ≡ false) }
-        ensures quiet { result ≡ Err DocFault.Failed → self.new.reader ≡ self.old.reader }
+        ensures quiet { result ≡ Err DocFault.Failed → (self.new.reader ≡ self.old.reader)
+            × HoldsNone self.old.documents self.new.documents × (self.new.documents.buffer ≡ self.old.documents.buffer) }
     {
         self.documents.read_next(&mut self.reader)
     }
 
     /// The bytes of the document that was read last; none before the first, at the end and after a fault.
     pub fn bytes(&self) -> &[u8]
-        ensures { result.now ≡ take self.now.documents.size self.now.documents.buffer.items }
+        ensures { result.now ≡ held_bytes self.now.documents }
     {
         self.documents.bytes()
     }

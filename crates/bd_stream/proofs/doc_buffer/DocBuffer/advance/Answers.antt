@@ -1,22 +1,35 @@
-use Rattle.std.proofs.Common.{◌∙◌}
+use Rattle.std.proofs.Common.{rules}
 use Rattle.std.proofs.lemmas.Result.{err_from_is_err_and}
-use Rattle.bd_stream.proofs.Frames.{joined_no_frame, joined_cut, frame_weaker, read_weaker}
+use Rattle.bd_stream.proofs.Frames.{joined_gave}
+use Rattle.bd_stream.specs.NextDocument.{HoldsNone}
+use Rattle.bd_stream.proofs.NextDocumentLemmas.{fails_after, reads_joined}
 use Rattle.bd_stream.proofs.doc_buffer.DocBuffer.advance.Goals as goal
 
-pub returns-in_err-read_rest-in-Some-clause-no_frame : goal.returns-in_err-read_rest-in-Some-clause-no_frame
-returns-in_err-read_rest-in-Some-clause-no_frame g c =
-    let k = c.read_length.ensures.kept in
-    let gave = (rw c.in-Some.is at c.in_ok-read_length.ensures.length).3 in
-    let r = c.from_residual-in_err-read_rest-in-Some in
-    let p = err_from_is_err_and r.result r.ensures.1 in
-    rw (p.1, p.2) (frame_weaker _ _ c.in_err-read_rest-in-Some.field-0.0 c.in_err-read_rest-in-Some.ensures.no_frame
-    (λ f h. (h.0 ∙ k.1, h.1 ∙ k.2, h.2, joined_no_frame _ _ c.in-Some.head f.kind gave h.3)))
+pub returns-in_err-read_rest-in-Some-clause-fails : goal.returns-in_err-read_rest-in-Some-clause-fails
+returns-in_err-read_rest-in-Some-clause-fails g c =
+    let e = c.in_ok-read_length.ensures in
+    let gave = (rw c.in-Some.is at e.length).3 in
+    let read = rw c.in-Some.is at e.reads in
+    let k = e.kept.0 in
+    let kept : HoldsNone c.args.self.now c.read_length.new.self = record { offset = k.offset; number = k.number; room = k.room; empty = k.empty } in
+    let p = err_from_is_err_and c.from_residual-in_err-read_rest-in-Some.result c.from_residual-in_err-read_rest-in-Some.ensures.1 in
+    rw (p.1, p.2) (fails_after g.R.Input.state g.R.Input.read_gives c.in-Some.head c.args.self.now c.read_length.new.self _ c.args.reader.now c.read_length.new.reader _
+    gave read e.counted e.well kept (search rules) _ c.in_err-read_rest-in-Some.ensures.fails)
 
-pub returns-in_err-read_rest-in-Some-clause-cut : goal.returns-in_err-read_rest-in-Some-clause-cut
-returns-in_err-read_rest-in-Some-clause-cut g c =
-    let k = c.read_length.ensures.kept in
-    let gave = (rw c.in-Some.is at c.in_ok-read_length.ensures.length).3 in
-    let r = c.from_residual-in_err-read_rest-in-Some in
-    let p = err_from_is_err_and r.result r.ensures.1 in
-    rw (p.1, p.2) (read_weaker _ _ c.in_err-read_rest-in-Some.field-0.0 c.in_err-read_rest-in-Some.ensures.cut
-    (λ f h. joined_cut _ _ _ c.in-Some.head c.args.self.now.left.bytes f gave (rw k.0 at h)))
+pub returns-in_ok-read_rest-in-Some-clause-reads : goal.returns-in_ok-read_rest-in-Some-clause-reads
+returns-in_ok-read_rest-in-Some-clause-reads g c _ =
+    let e = c.in_ok-read_length.ensures in
+    let r = c.in_ok-read_rest-in-Some.ensures in
+    let gave = (rw c.in-Some.is at e.length).3 in
+    let read = rw c.in-Some.is at e.reads in
+    record {
+      frame = r.frame;
+      gave = joined_gave _ _ _ c.in-Some.head _ gave r.gives;
+      reads = reads_joined _ _ _ _ _ _ c.in-Some.head r.reads.0 _ e.counted.0 r.counted.0 read r.reads.2 r.reads.1;
+      offset = search rules;
+      number = search rules;
+      room = search rules;
+      counted = search rules;
+      well = search rules;
+      grown = search rules;
+    }

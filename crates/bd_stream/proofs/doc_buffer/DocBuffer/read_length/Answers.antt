@@ -1,29 +1,59 @@
-use Rattle.std.proofs.Common.{rules, ◌≡◌, ◌<◌, ◌≤◌, length, take, length-take-le, inl, inr}
+use Rattle.std.proofs.Common.{rules, ◌⊎◌, ◌≡◌, ◌<◌, ◌≤◌, length, take, length-take-le, inl, inr, refl}
 use Rattle.std.proofs.lemmas.List.{take_all}
 use Rattle.std.specs.Io.KnownBytes.{Consumes}
-use Rattle.bd_stream.specs.Stream.{HasNoFrame}
-use Rattle.bd_check.specs.declared.fault.FaultKind.TheVariants.{ShortLength, BadLength}
-use Rattle.bd_stream.proofs.Frames.{has_short_length, has_bad_length, told_frame}
+use Rattle.bd_check.specs.Dump.{length_told}
+use Rattle.bd_stream.proofs.Frames.{frame_out, frame_short, has_short_length, has_bad_length}
 use Rattle.bd_stream.proofs.doc_buffer.DocBuffer.read_length.Goals as goal
 use Rattle.bd_stream.proofs.doc_buffer.DocBuffer.read_length.Goals.{then-length-lt5-via-then-length-lt5, then-length-lt5-via-else-length-lt5+then-length-gt16793600}
 
-pub returns-then-filled-lt4-clause-frame : goal.returns-then-filled-lt4-clause-frame
-returns-then-filled-lt4-clause-frame g c =
+pub returns-then-filled-lt4-clause-fails : goal.returns-then-filled-lt4-clause-fails
+returns-then-filled-lt4-clause-fails g c =
     let e = c.in_ok-filled.ensures in
+    let told = c.fault.ensures in
     let room : c.in_ok-filled.filled.bytes ≤ length c.fill.new.room = search rules in
     let size : length (take c.in_ok-filled.filled.bytes c.fill.new.room) ≡ c.in_ok-filled.filled.bytes = length-take-le c.in_ok-filled.filled.bytes c.fill.new.room room in
     let less : c.in_ok-filled.filled.bytes < 4 = c.if-filled-lt4.true in
-    told_frame (HasNoFrame (g.R.Input.left c.args.reader.now)) c.fault.result ShortLength _ _ c.fault.ensures.told
-    (has_short_length _ _ _ e.bytes (e.end less) (search rules) (search rules))
+    rw told.1 record {
+      given = take c.in_ok-filled.filled.bytes c.fill.new.room;
+      gave = e.bytes;
+      kept = record { offset = refl; number = refl; room = refl; empty = c.requires.empty };
+      counted = search rules;
+      grown = inl refl;
+      reason = (
+        told.3,
+        told.4,
+        told.5,
+        rw told.2 (has_short_length _ _ _ e.bytes (e.end less) (search rules) (search rules)),
+        rw told.2 (frame_short (take c.in_ok-filled.filled.bytes c.fill.new.room) (search rules) (search rules)),
+        search rules,
+        search rules,
+      );
+    }
 
-pub returns-then-length-lt5-clause-frame : goal.returns-then-length-lt5-clause-frame
-returns-then-length-lt5-clause-frame g c =
+pub returns-then-length-lt5-clause-fails : goal.returns-then-length-lt5-clause-fails
+returns-then-length-lt5-clause-fails g c =
     let e = c.in_ok-filled.ensures in
+    let told = c.fault-then-length-lt5.ensures in
     let size : length c.fill.new.room ≡ 4 = search rules in
     let all : take c.in_ok-filled.filled.bytes c.fill.new.room ≡ c.fill.new.room = take_all c.in_ok-filled.filled.bytes c.fill.new.room (search rules) in
-    let gave : Consumes (g.R.Input.left c.args.reader.now) (g.R.Input.left c.fill.new.reader) c.fill.new.room = rw all at e.bytes in
-    told_frame (HasNoFrame (g.R.Input.left c.args.reader.now)) c.fault-then-length-lt5.result BadLength _ _ c.fault-then-length-lt5.ensures.told
-    (has_bad_length _ _ c.fill.new.room gave size (elim c.then-length-lt5.branch [
+    let gave : Consumes (g.R.Input.state c.args.reader.now).left (g.R.Input.state c.fill.new.reader).left c.fill.new.room = rw all at e.bytes in
+    let out : (length_told c.fill.new.room < 5) ⊎ (16793600 < length_told c.fill.new.room) = elim c.then-length-lt5.branch [
       | then-length-lt5-via-then-length-lt5 w ↦ inl (search rules)
       | then-length-lt5-via-else-length-lt5+then-length-gt16793600 w ↦ inr (search rules)
-    ]))
+    ] in
+    rw told.1 record {
+      given = c.fill.new.room;
+      gave = gave;
+      kept = record { offset = refl; number = refl; room = refl; empty = c.requires.empty };
+      counted = search rules;
+      grown = inl refl;
+      reason = (
+        told.3,
+        told.4,
+        told.5,
+        rw told.2 (has_bad_length _ _ c.fill.new.room gave size out),
+        rw told.2 (frame_out c.fill.new.room size out),
+        search rules,
+        search rules,
+      );
+    }

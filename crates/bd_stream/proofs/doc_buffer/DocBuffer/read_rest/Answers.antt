@@ -1,28 +1,50 @@
-use Rattle.std.proofs.Common.{rules, arith, ◌≡◌, ◌+◌, ◌<◌, ◌++◌, length, take, Err, ap}
+use Rattle.std.proofs.Common.{rules, arith, ℕ, subst, sym, ◌∙◌, inl, refl, ◌≡◌, ◌+◌, ◌<◌, ◌++◌, [], length, take}
 use Rattle.std.proofs.lemmas.Result.{err_from_is_err_and}
-use Rattle.std.specs.Io.KnownBytes.{prepend_known}
+use Rattle.std.proofs.KnownBytes.{Consumes-nil}
 use Rattle.bd_check.specs.Dump.{length_told}
-use Rattle.bd_stream.specs.Stream.{HasNoFrame}
-use Rattle.bd_check.specs.declared.fault.FaultKind.TheVariants.{BadLength}
-use Rattle.bd_stream.proofs.Frames.{cut_behind, has_cut_length, is_frame, told_frame, whole_room}
+use Rattle.bd_stream.proofs.Frames.{frame_cut, has_cut_length, is_cut, is_frame, whole_room}
+use Rattle.bd_stream.proofs.NextDocumentLemmas.{grown_for, kept_room}
+use Rattle.bd_stream.specs.NextDocument.{HoldsAsMuch}
 use Rattle.bd_stream.proofs.doc_buffer.DocBuffer.read_rest.Goals as goal
 
-pub returns-in_err-filled-clause-cut : goal.returns-in_err-filled-clause-cut
-returns-in_err-filled-clause-cut g c =
-    let e = c.in_err-filled.ensures in
-    let told : c.from_le_bytes-length.result ≡ length_told c.args.head = search rules in
+pub returns-in_err-make_room-clause-fails : goal.returns-in_err-make_room-clause-fails
+returns-in_err-make_room-clause-fails g c =
     let size : length c.args.head ≡ 4 = search rules in
-    let p = err_from_is_err_and c.from_residual-in_err-filled.result c.from_residual-in_err-filled.ensures.1 in
-    rw (p.1, p.2) (cut_behind c.args.head _ _ c.args.self.now.left.bytes c.in_err-filled.field-0.0 (size, c.requires.length.0, c.requires.length.1) c.requires.length.2 (rw told at e.unfilled) (λ is. e.memory (ap Err is)))
+    let p = err_from_is_err_and c.from_residual.result c.from_residual.ensures.1 in
+    rw (p.1, p.2, c.in_err-make_room.ensures.memory) record {
+      given = [];
+      gave = Consumes-nil _;
+      kept = record { offset = refl; number = refl; room = refl; empty = c.requires.empty };
+      counted = search rules;
+      grown = inl (search rules);
+      reason = (is_cut c.args.head [] (size, c.requires.length.0, c.requires.length.1) (search rules), search rules, refl, search rules);
+    }
 
-pub returns-then-filled-length-clause-no_frame : goal.returns-then-filled-length-clause-no_frame
-returns-then-filled-length-clause-no_frame g c =
+pub returns-then-filled-length-clause-fails : goal.returns-then-filled-length-clause-fails
+returns-then-filled-length-clause-fails g c =
     let e = c.in_ok-filled.ensures in
-    let told : c.from_le_bytes-length.result ≡ length_told c.args.head = search rules in
+    let told = c.fault.ensures in
+    let known : c.from_le_bytes-length.result ≡ length_told c.args.head = search rules in
     let size : length c.args.head ≡ 4 = search rules in
+    let room : length c.fill_behind.new.room ≡ length c.make_room.new.buffer.items = search rules in
     let less : length e.gives.0 + 4 < length_told c.args.head = let s = e.gives.2 in let l = c.if-filled-length.true in search rules in
-    told_frame (HasNoFrame (prepend_known c.args.head (g.R.Input.left c.args.reader.now))) c.fault.result BadLength _ _ c.fault.ensures.told
-    (has_cut_length c.args.head _ _ e.gives.0 (size, c.requires.length.0, c.requires.length.1) e.gives.1 (e.end (search rules)) less)
+    rw told.1 record {
+      given = e.gives.0;
+      gave = e.gives.1;
+      kept = record { offset = refl; number = refl; room = refl; empty = c.requires.empty };
+      counted = search rules;
+      grown = grown_for _ _ c.from_le_bytes-length.result c.args.head e.gives.0 (size, c.requires.length.0, c.requires.length.1) known
+          (subst (λ (n : ℕ). HoldsAsMuch (length c.args.self.now.buffer.items) n c.from_le_bytes-length.result) (sym (kept_room _ c.fill_behind.new.room _ (search rules) ∙ room)) (c.in_ok-make_room.ensures.room).1);
+      reason = (
+        told.3,
+        told.4,
+        told.5,
+        rw told.2 (has_cut_length c.args.head _ _ e.gives.0 (size, c.requires.length.0, c.requires.length.1) e.gives.1 (e.end (search rules)) less),
+        rw told.2 (frame_cut c.args.head e.gives.0 (size, c.requires.length.0, c.requires.length.1) less),
+        search rules,
+        search rules,
+      );
+    }
 
 pub returns-clause-frame : goal.returns-clause-frame
 returns-clause-frame g c =
