@@ -2,7 +2,7 @@
 use Rattle.std.specs.Prelude.{◌≡◌, ◌<◌, ◌≤◌, ◌⊎◌, ℕ, List, [], length}
 use Rattle.bd_value.specs.Tree.{Doc}
 use Rattle.bd_check.specs.Dump.{FailsAfter}
-use Rattle.bd_bson.specs.Starts.{documents_at}
+use Rattle.bd_bson.specs.Starts.{documents_starting_at}
 use Rattle.bd_check.specs.Told.{fault_view, IsWantOfMemory}
 use Rattle.bd_bson.specs.declared.collection.Dump.{Dump}
 use Rattle.bd_check.specs.declared.fault.Fault as declared
@@ -10,7 +10,7 @@ use Rattle.bd_check.specs.declared.fault.FaultKind.TheVariants.{DumpTooLong}
 
 -- the documents of a dump, in their order
 unfoldable pub documents : Dump → List Doc
-documents dump = documents_at dump.bytes.items dump.starts.items dump.stand
+documents dump = documents_starting_at dump.bytes.items dump.starts.items dump.stand
 
 -- the bytes of a dump
 abbrev pub bytes_of : Dump → List ℕ
@@ -24,7 +24,7 @@ pub record IsTooLong (bytes : List ℕ) (e : declared.Fault) : Type 0 where
   pub offset : e.offset ≡ 0
   pub path : e.path.items ≡ []
 
--- behind some whole documents, of which there are as many as the number that it has, stands one that has the fault
+-- after some whole documents, of which there are as many as the number that it has, stands one that has the fault
 pub record IsFirstFault (bytes : List ℕ) (e : declared.Fault) : Type 0 where
   pub before : List Doc
   pub fails : FailsAfter before (fault_view e) bytes
@@ -32,4 +32,5 @@ pub record IsFirstFault (bytes : List ℕ) (e : declared.Fault) : Type 0 where
 
 -- why the bytes were not read as a dump: their number, tried first, or want of memory, or the first document with a fault
 abbrev pub IsUnread : List ℕ → declared.Fault → Type 0
-IsUnread bytes e = IsTooLong bytes e ⊎ ((length bytes ≤ 4294967295) × (IsWantOfMemory e ⊎ IsFirstFault bytes e))
+IsUnread bytes e =
+    IsTooLong bytes e ⊎ ((length bytes ≤ 4294967295) × (IsWantOfMemory e ⊎ IsFirstFault bytes e))

@@ -5,15 +5,16 @@ use Rattle.bd_value.specs.Tree.{Doc, pairs_in}
 use Rattle.bd_value.specs.declared.kind.Kind.TheVariants as kinds
 use Rattle.bd_raw.specs.Sound.{Sound, Sound-prop, stands}
 
--- at each start a document stands, whatever is behind it
+-- at each start a document stands, whatever is after it
 abbrev pub StandAt : List ℕ → List ℕ → Type 0
 StandAt bytes starts = AllByRecursion (λ s. Sound kinds.Doc (drop s bytes)) starts
 
 pub StandAt-prop : (bytes starts : List ℕ) → IsProp (StandAt bytes starts)
 StandAt-prop bytes [] p q = λ i. tt
-StandAt-prop bytes (s ∷ ss) p q = λ i. (Sound-prop kinds.Doc (drop s bytes) p.0 q.0 i, StandAt-prop bytes ss p.1 q.1 i)
+StandAt-prop bytes (s ∷ ss) p q =
+    λ i. (Sound-prop kinds.Doc (drop s bytes) p.0 q.0 i, StandAt-prop bytes ss p.1 q.1 i)
 
 -- these documents, in the order of their starts
-abbrev pub documents_at : (bytes starts : List ℕ) → StandAt bytes starts → List Doc
-documents_at bytes [] all = []
-documents_at bytes (s ∷ ss) all = pairs_in (stands all.0) ∷ documents_at bytes ss all.1
+abbrev pub documents_starting_at : (bytes starts : List ℕ) → StandAt bytes starts → List Doc
+documents_starting_at bytes [] all = []
+documents_starting_at bytes (s ∷ ss) all = pairs_in (stands all.0) ∷ documents_starting_at bytes ss all.1

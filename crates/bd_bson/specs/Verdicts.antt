@@ -1,4 +1,4 @@
--- What is found of each document of a dump. A document with a fault is no end: the next one stands behind the bytes that
+-- What is found of each document of a dump. A document with a fault is no end: the next one stands after the bytes that
 -- its length counts. Only a fault of the length itself is the end, since nothing tells then where the next one stands.
 use Rattle.std.specs.Prelude.{ℕ, zero, suc, ◌+◌, List, [], ◌∷◌, ◌++◌, ◌≡◌, length, drop, map, Option, Some, None, Result, Ok, Err}
 use Rattle.bd_value.specs.Tree.{Doc}
@@ -6,8 +6,9 @@ use Rattle.bd_check.specs.Fault.{Fault}
 use Rattle.bd_check.specs.Dump.{frame_length, frame_fault}
 use Rattle.bd_check.specs.declared.fault.FaultKind.{FaultKind}
 
--- the verdict on a document, by what its length tells, and those behind as many bytes
-abbrev pub verdicts_by : Option Fault → (ℕ → List (Option Fault)) → Result (Option ℕ) FaultKind → List (Option Fault)
+-- the verdict on a document, by what its length tells, and those after as many bytes
+abbrev pub verdicts_by : Option Fault → (ℕ → List (Option Fault)) → Result (Option ℕ) FaultKind
+    → List (Option Fault)
 verdicts_by first behind (Ok None) = []
 verdicts_by first behind (Ok (Some n)) = first ∷ behind n
 verdicts_by first behind (Err kind) = first ∷ []
@@ -15,7 +16,8 @@ verdicts_by first behind (Err kind) = first ∷ []
 -- The verdicts on bytes that begin at the place. The first number bounds the turns: the count of the bytes is always enough.
 unfoldable pub verdicts_from : ℕ → ℕ → List ℕ → List (Option Fault)
 verdicts_from zero base bytes = []
-verdicts_from (suc turns) base bytes = verdicts_by (frame_fault base bytes) (λ n. verdicts_from turns (base + n) (drop n bytes)) (frame_length bytes)
+verdicts_from (suc turns) base bytes =
+    verdicts_by (frame_fault base bytes) (λ n. verdicts_from turns (base + n) (drop n bytes)) (frame_length bytes)
 
 -- for each document in turn its first fault, or none; of bytes that begin at the place
 unfoldable pub verdicts_at : ℕ → List ℕ → List (Option Fault)
@@ -24,7 +26,7 @@ verdicts_at base bytes = verdicts_from (length bytes) base bytes
 abbrev pub verdicts : List ℕ → List (Option Fault)
 verdicts bytes = verdicts_at 0 bytes
 
--- the verdicts begin as a walk: none has a fault up to its documents, and the one behind them has its fault
+-- the verdicts begin as a walk: none has a fault up to its documents, and the one after them has its fault
 abbrev pub BeginAs : List Doc → Option Fault → List (Option Fault) → Type 0
 BeginAs ds None vs = vs ≡ map (λ d. None) ds
 BeginAs ds (Some f) vs = (others : List (Option Fault)) × (vs ≡ map (λ d. None) ds ++ Some f ∷ others)

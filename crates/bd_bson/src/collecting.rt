@@ -4,7 +4,7 @@ ghost use Rattle.std.specs.Prelude.{◌≡◌, ◌≤◌, IfOk, IfErr, [], List,
 ghost use Rattle.bd_value.specs.Tree.{Doc};
 ghost use Rattle.bd_bson.specs.Collection.{documents, bytes_of, IsUnread};
 ghost use Rattle.bd_check.specs.Dump.{IsDump, IsWalk};
-ghost use Rattle.bd_bson.specs.Starts.{StandAt, documents_at};
+ghost use Rattle.bd_bson.specs.Starts.{StandAt, documents_starting_at};
 ghost use Rattle.bd_check.specs.Fault.{Fault as Where};
 
 use crate::collection::Dump;
@@ -29,7 +29,7 @@ fn too_long(alloc: Global) -> Fault
 /// Where the documents start that bytes which are not too many are a dump of.
 fn starts_in(alloc: Global, bytes: &[u8]) -> Result<Vec<u32>, Fault>
     requires { length bytes.now ≤ 4294967295 }
-    ensures dump { IfOk result (λ starts. (all : StandAt bytes.now starts.items) × IsDump (documents_at bytes.now starts.items all) bytes.now) }
+    ensures dump { IfOk result (λ starts. (all : StandAt bytes.now starts.items) × IsDump (documents_starting_at bytes.now starts.items all) bytes.now) }
     ensures few { IfOk result (λ starts. length starts.items ≤ length bytes.now) }
     ensures fault { IfErr result (IsUnread bytes.now) }
     ensures walk { (ds : List Doc) × (end : Option Where) × IsWalk ds end bytes.now }
@@ -57,7 +57,7 @@ pub fn read_dump(alloc: Global, bytes: Vec<u8>) -> Result<Dump, Fault>
     ensures dump { IfOk result (λ dump. IsDump (documents dump) bytes.items) }
     ensures bytes { IfOk result (λ dump. bytes_of dump ≡ bytes.items) }
     ensures fault { IfErr result (IsUnread bytes.items) }
-    // Whatever was answered, the bytes are documents in turn and then end, or fail behind these.
+    // Whatever was answered, the bytes are documents in turn and then end, or fail after these.
     ensures walk { length bytes.items ≤ 4294967295 → (ds : List Doc) × (end : Option Where) × IsWalk ds end bytes.items }
 {
     if bytes.len() > 4_294_967_295 {

@@ -18,7 +18,7 @@ pub fn no_fault_where_spelled()
     ensures spelled { (base : ℕ) (bytes : List ℕ) → ((i : ℕ) → slice_index bytes i < 256) → first_fault base bytes ≡ None → (d : Doc) × IsDocument d bytes }
 {}
 
-/// Any bytes are documents in turn and then end, or fail behind these, and in one way alone.
+/// Any bytes are documents in turn and then end, or fail after these, and in one way alone.
 pub fn walks_in_one_way()
     ensures some { (bytes : List ℕ) → ((i : ℕ) → slice_index bytes i < 256) → (ds : List Doc) × (end : Option Fault) × IsWalk ds end bytes }
     ensures one { (bytes : List ℕ) (ds es : List Doc) (end other : Option Fault) → IsWalk ds end bytes → IsWalk es other bytes → (ds ≡ es) × (end ≡ other) }
