@@ -8,7 +8,7 @@ use Rattle.std.proofs.lemmas.Bool.{and_parts}
 use Rattle.std.specs.Str.Parse.{ParsesSigned, digits_value}
 use Rattle.std.proofs.lemmas.Str.Parse.{numerals_by_value, tells_all_ascii_digits, IsNumeralModel, parse_signed_minus, parse_signed_plain}
 use Rattle.std.specs.Prelude.{option_and_then}
-use Rattle.bd_wrapper.specs.Whole.{is_empty, are_digits, number_of, fits_bits, if_fits, negative, positive, begins_digits, unsigned, whole, whole_64}
+use Rattle.bd_wrapper.specs.Whole.{has_no_digits, are_digits, digits_number, fits_bits, if_fits, negative, positive, begins_digits, unsigned, whole, whole_64}
 
 pub own : IsNumeralModel (λ ds. all_ascii_digits ds ≡ true) (digits_value 10)
 own = numerals_by_value (λ ds. all_ascii_digits ds ≡ true) tells_all_ascii_digits
@@ -56,7 +56,7 @@ plain_first : {E : Type 0} (bs : List ℕ) (r : Result ℤ E) → (get_or bs 0 0
 plain_first bs r m n w h =
     told (are_digits bs) r _ _ _ (λ d t. let a = all_of bs d in (a.0, a.1, below _ _ t)) (λ p. (digits_from bs w p.0, is_below _ _ p.2)) (parse_signed_plain own w64 bs r h m n)
 
-no_plus : (b : Bool) (c : ℕ) (cs : List ℕ) → (c == 48) ≡ b → cond b (is_empty cs) (is_ascii_digit c) ≡ true → c ≡ 43 → ⊥
+no_plus : (b : Bool) (c : ℕ) (cs : List ℕ) → (c == 48) ≡ b → cond b (has_no_digits cs) (is_ascii_digit c) ≡ true → c ≡ 43 → ⊥
 no_plus true c cs e w p = grind arith
 no_plus false c cs e w p = let f : is_ascii_digit 43 ≡ true = ap is_ascii_digit (sym p) ∙ w in absurd cc
 
@@ -70,9 +70,9 @@ positive_told d false n e = rw e refl
 
 whole_cases : {E : Type 0} (b : Bool) (c : ℕ) (cs : List ℕ) (r : Result ℤ E) → (c == 45) ≡ b → begins_digits (cond b cs (c ∷ cs)) ≡ true → ParsesSigned w64 10 (c ∷ cs) r → result_ok r ≡ whole_64 (c ∷ cs)
 unfolding whole
-whole_cases true c cs r e w h = rw e (minus_first (c ∷ cs) r (grind arith) w h ∙ sym (negative_told (number_of cs) (are_digits cs) (digits_value 10 cs) refl))
+whole_cases true c cs r e w h = rw e (minus_first (c ∷ cs) r (grind arith) w h ∙ sym (negative_told (digits_number cs) (are_digits cs) (digits_value 10 cs) refl))
 whole_cases false c cs r e w h =
-    rw e (plain_first (c ∷ cs) r (λ p. no_plus (c == 48) c cs refl w p) (λ p. grind arith) w h ∙ sym (positive_told (number_of (c ∷ cs)) (are_digits (c ∷ cs)) (digits_value 10 (c ∷ cs)) refl))
+    rw e (plain_first (c ∷ cs) r (λ p. no_plus (c == 48) c cs refl w p) (λ p. grind arith) w h ∙ sym (positive_told (digits_number (c ∷ cs)) (are_digits (c ∷ cs)) (digits_value 10 (c ∷ cs)) refl))
 
 pub parsed : {E : Type 0} (bs : List ℕ) (r : Result ℤ E) → begins_digits (unsigned bs) ≡ true → ParsesSigned w64 10 bs r → result_ok r ≡ whole_64 bs
 unfolding whole

@@ -40,15 +40,16 @@ abbrev pub is_scope_name : Option Wrapper → Bool
 is_scope_name None = false
 is_scope_name (Some w) = is_scope w
 
-abbrev pub Fails : {A : Type 0} → Trouble → Option A → Type 0
-Fails troubles.Memory read = Unit {0}
-Fails troubles.Refused read = read ≡ None
+abbrev pub FailsAtTokens : {A : Type 0} → Trouble → Option A → Type 0
+FailsAtTokens troubles.Memory read = Unit {0}
+FailsAtTokens troubles.Refused read = read ≡ None
 
-abbrev pub Gives : {X A : Type 0} → (X → A) → Result X Trouble → List Token → Option (A × List Token) → Type 0
-Gives view (Ok x) rest read = read ≡ Some (view x, rest)
-Gives view (Err e) rest read = Fails e read
+abbrev pub GivesTokens : {X A : Type 0} → (X → A) → Result X Trouble → List Token
+    → Option (A × List Token) → Type 0
+GivesTokens view (Ok x) rest read = read ≡ Some (view x, rest)
+GivesTokens view (Err e) rest read = FailsAtTokens e read
 
 -- the same of a result that takes nothing
-abbrev pub Tells : {X A : Type 0} → (X → A) → Result X Trouble → Option A → Type 0
-Tells view (Ok x) o = o ≡ Some (view x)
-Tells view (Err e) o = Fails e o
+abbrev pub GivesValue : {X A : Type 0} → (X → A) → Result X Trouble → Option A → Type 0
+GivesValue view (Ok x) o = o ≡ Some (view x)
+GivesValue view (Err e) o = FailsAtTokens e o

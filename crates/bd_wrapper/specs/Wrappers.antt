@@ -42,7 +42,8 @@ unfoldable pub only : List ℕ → Json → Option Json
 only name j = option_and_then (only_member name) (as_object j)
 
 abbrev pub either_way : List ℕ → List ℕ → List ℕ → Json → List ℕ → Json → Option (Json × Json)
-either_way a b k j l i = if bytes_eq k a && bytes_eq l b then Some (j, i) else if bytes_eq k b && bytes_eq l a then Some (i, j) else None
+either_way a b k j l i =
+    if bytes_eq k a && bytes_eq l b then Some (j, i) else if bytes_eq k b && bytes_eq l a then Some (i, j) else None
 
 abbrev pub pair_members : List ℕ → List ℕ → json.Members → Option (Json × Json)
 pair_members a b json.no_members = None
@@ -109,7 +110,7 @@ name_in j = option_and_then if_no_zero (as_str j)
 abbrev pub both_in : {A B : Type 0} → (Json → Option A) → (Json → Option B) → Json × Json → Option (A × B)
 both_in f g p = both (f p.0) (g p.1)
 
--- ---- what an object of one name stands for: a wrapper, and the value behind its name
+-- ---- what an object of one name stands for: a wrapper, and the value after its name
 
 abbrev pub is_one : Option ℤ → Bool
 is_one None = false
@@ -142,13 +143,17 @@ single kinds.NumberDouble j = None
 single kinds.NumberDecimal j = None
 single kinds.Oid j = option_map (λ b. trees.object_id b) (id_of j)
 single kinds.Symbol j = option_map (λ s. trees.symbol s) (as_str j)
-single kinds.Binary j = option_map (λ p. trees.binary p.1 p.0) (option_and_then (both_in data_in subtype_in) (pair (codes "base64") (codes "subType") j))
+single kinds.Binary j =
+    option_map (λ p. trees.binary p.1 p.0) (option_and_then (both_in data_in subtype_in) (pair (codes "base64") (codes "subType") j))
 single kinds.Uuid j = None
 single kinds.Code j = option_map (λ s. trees.code s) (as_str j)
 single kinds.Scope j = None
-single kinds.Timestamp j = option_map (λ p. trees.timestamp p.0 p.1) (option_and_then (both_in word_in word_in) (pair (codes "t") (codes "i") j))
-single kinds.RegularExpression j = option_map (λ p. trees.regex p.0 p.1) (option_and_then (both_in name_in name_in) (pair (codes "pattern") (codes "options") j))
-single kinds.DbPointer j = option_map (λ p. trees.db_pointer p.0 p.1) (option_and_then (both_in as_str (λ i. option_and_then id_of (only (codes "$oid") i))) (pair (codes "$ref") (codes "$id") j))
+single kinds.Timestamp j =
+    option_map (λ p. trees.timestamp p.0 p.1) (option_and_then (both_in word_in word_in) (pair (codes "t") (codes "i") j))
+single kinds.RegularExpression j =
+    option_map (λ p. trees.regex p.0 p.1) (option_and_then (both_in name_in name_in) (pair (codes "pattern") (codes "options") j))
+single kinds.DbPointer j =
+    option_map (λ p. trees.db_pointer p.0 p.1) (option_and_then (both_in as_str (λ i. option_and_then id_of (only (codes "$oid") i))) (pair (codes "$ref") (codes "$id") j))
 single kinds.Date j = option_map (λ z. trees.date z) (long_in (only (codes "$numberLong") j))
 single kinds.MinKey j = if_true (one j) trees.min_key
 single kinds.MaxKey j = if_true (one j) trees.max_key

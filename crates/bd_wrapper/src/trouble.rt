@@ -3,13 +3,16 @@ ghost use Rattle.std.specs.Prelude.{◌≡◌};
 ghost use Rattle.bd_wrapper.specs.declared.trouble.Trouble.TheVariants.{Memory, Refused};
 
 use std::alloc::{AllocError, AllocFailed};
+use thiserror::Error;
 
 /// Why a part of a text was not read.
-#[derive(Clone, Copy, Debug, Drop, PartialEq, Eq)]
+#[derive(Clone, Copy, Debug, Drop, PartialEq, Eq, Error)]
 pub enum Trouble {
     /// The allocator gave no memory.
+    #[error("no memory")]
     Memory,
     /// It is no JSON here, or stands for no value.
+    #[error("not Extended JSON")]
     Refused,
 }
 

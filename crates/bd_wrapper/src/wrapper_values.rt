@@ -3,7 +3,7 @@ ghost use Rattle.std.specs.Prelude.{◌≡◌, option_map, string_bytes, codes};
 ghost use Rattle.json.specs.Value.{value_view};
 ghost use Rattle.bd_value.specs.Tree.{leaf};
 ghost use Rattle.bd_value.specs.View.{tree_of};
-ghost use Rattle.bd_wrapper.specs.Progress.{Tells};
+ghost use Rattle.bd_wrapper.specs.Progress.{GivesValue};
 ghost use Rattle.bd_wrapper.specs.Wrappers.{single, only as only_in, long_in, data_in, one, is_true};
 ghost use Rattle.bd_wrapper.specs.declared.wrapper.Wrapper.TheVariants as kinds;
 
@@ -18,7 +18,7 @@ use std::alloc::Global;
 
 /// The bytes of base64, standard and padded.
 fn data_of(alloc: Global, part: &json::Value<'_>) -> Result<Vec<u8>, Trouble>
-    ensures { Tells (λ v. v.items) result (data_in (value_view part.now)) }
+    ensures { GivesValue (λ v. v.items) result (data_in (value_view part.now)) }
 {
     let text = part.as_str().ok_or(Trouble::Refused)?;
     match STANDARD.decode(alloc, text.as_bytes()) {
@@ -29,14 +29,14 @@ fn data_of(alloc: Global, part: &json::Value<'_>) -> Result<Vec<u8>, Trouble>
 }
 
 fn text_in(alloc: Global, text: Option<&str>) -> Result<String, Trouble>
-    ensures { Tells string_bytes result (option_map (λ s. s.now) text.entry) }
+    ensures { GivesValue string_bytes result (option_map (λ s. s.now) text.entry) }
 {
     let text = text.ok_or(Trouble::Refused)?;
     Ok(String::from_str(alloc, text)?)
 }
 
 fn binary_of(alloc: Global, part: &json::Value<'_>) -> Result<Value, Trouble>
-    ensures { Tells tree_of result (option_map leaf (single kinds.Binary (value_view part.now))) }
+    ensures { GivesValue tree_of result (option_map leaf (single kinds.Binary (value_view part.now))) }
 {
     let (data, subtype) = pair(part, "base64", "subType").ok_or(Trouble::Refused)?;
     let payload = data_of(alloc, data)?;
@@ -45,7 +45,7 @@ fn binary_of(alloc: Global, part: &json::Value<'_>) -> Result<Value, Trouble>
 }
 
 fn regex_of(alloc: Global, part: &json::Value<'_>) -> Result<Value, Trouble>
-    ensures { Tells tree_of result (option_map leaf (single kinds.RegularExpression (value_view part.now))) }
+    ensures { GivesValue tree_of result (option_map leaf (single kinds.RegularExpression (value_view part.now))) }
 {
     let (pattern, options) = pair(part, "pattern", "options").ok_or(Trouble::Refused)?;
     let pattern = text_in(alloc, name_of(pattern))?;
@@ -54,7 +54,7 @@ fn regex_of(alloc: Global, part: &json::Value<'_>) -> Result<Value, Trouble>
 }
 
 fn pointer_of(alloc: Global, part: &json::Value<'_>) -> Result<Value, Trouble>
-    ensures { Tells tree_of result (option_map leaf (single kinds.DbPointer (value_view part.now))) }
+    ensures { GivesValue tree_of result (option_map leaf (single kinds.DbPointer (value_view part.now))) }
 {
     let (space, id) = pair(part, "$ref", "$id").ok_or(Trouble::Refused)?;
     let space = text_in(alloc, space.as_str())?;
@@ -121,24 +121,24 @@ fn is_true_part(part: &json::Value<'_>) -> bool
 }
 
 fn symbol_of(alloc: Global, part: &json::Value<'_>) -> Result<Value, Trouble>
-    ensures { Tells tree_of result (option_map leaf (single kinds.Symbol (value_view part.now))) }
+    ensures { GivesValue tree_of result (option_map leaf (single kinds.Symbol (value_view part.now))) }
 {
     Ok(Value::Symbol(text_in(alloc, part.as_str())?))
 }
 
 fn code_of(alloc: Global, part: &json::Value<'_>) -> Result<Value, Trouble>
-    ensures { Tells tree_of result (option_map leaf (single kinds.Code (value_view part.now))) }
+    ensures { GivesValue tree_of result (option_map leaf (single kinds.Code (value_view part.now))) }
 {
     Ok(Value::Code(text_in(alloc, part.as_str())?))
 }
 
-/// What an object of one name stands for, of the value behind the name.
+/// What an object of one name stands for, of the value after the name.
 pub fn unwrap_single(
     alloc: Global,
     wrapper: Wrapper,
     part: &json::Value<'_>,
 ) -> Result<Value, Trouble>
-    ensures { Tells tree_of result (option_map leaf (single wrapper (value_view part.now))) }
+    ensures { GivesValue tree_of result (option_map leaf (single wrapper (value_view part.now))) }
 {
     match wrapper {
         Wrapper::NumberInt => int_of(part).ok_or(Trouble::Refused),
