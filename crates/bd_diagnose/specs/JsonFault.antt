@@ -1,5 +1,6 @@
--- Why a text is no document, in words.
-use Rattle.std.specs.Prelude.{ℕ, List, codes}
+-- Why a text is no document, in words, and where.
+use Rattle.std.specs.Prelude.{◌≡◌, ◌≤◌, ℕ, List, codes}
+use Rattle.bd_diagnose.specs.declared.json_fault.JsonFault.{JsonFault}
 use Rattle.bd_diagnose.specs.declared.json_fault.JsonFaultKind.{JsonFaultKind}
 use Rattle.bd_diagnose.specs.declared.json_fault.JsonFaultKind.TheVariants as kinds
 
@@ -13,3 +14,10 @@ json_fault_words kinds.NumberRange = codes "number out of range"
 json_fault_words kinds.NulInName = codes "zero in a name"
 json_fault_words kinds.TrailingText = codes "text after the document"
 json_fault_words kinds.NoMemory = codes "no memory"
+
+-- The byte that a fault tells is in its text, which has that many bytes, or at the text's end. A fault of the whole, and want
+-- of memory, are told at byte 0.
+pub record IsPlaced (size : ℕ) (fault : JsonFault) : Type 0 where
+  pub inside : fault.at ≤ size
+  pub whole : fault.kind ≡ kinds.NotADocument → fault.at ≡ 0
+  pub memory : fault.kind ≡ kinds.NoMemory → fault.at ≡ 0

@@ -9,7 +9,7 @@ use std::alloc::Global;
 /// What faults are sought.
 #[derive(Clone, Copy, Drop)]
 pub(crate) enum Sought {
-    /// Those of JSON alone: inside a wrapper, and behind the first fault of the tree.
+    /// Those of JSON alone: inside a wrapper, and after the first fault of the tree.
     Json,
     /// Those of the tree too, where documents and arrays may stand so deep in one another.
     Tree(usize),
@@ -29,7 +29,7 @@ pub(crate) struct Walked<'a> {
     pub form: Form,
     /// The first fault of the tree in it.
     pub fault: Option<Stop>,
-    /// What stands behind it.
+    /// What stands after it.
     pub rest: &'a [u8],
 }
 
@@ -59,7 +59,7 @@ impl Search {
         }
     }
 
-    /// Takes the fault of a part. No second one comes, since nothing is sought behind the first.
+    /// Takes the fault of a part. No second one comes, since nothing is sought after the first.
     pub fn note(&mut self, fault: Option<Stop>) {
         if fault.is_some() {
             self.fault = fault;

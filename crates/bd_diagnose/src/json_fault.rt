@@ -2,8 +2,11 @@
 ghost use Rattle.std.specs.Prelude.{◌≡◌};
 ghost use Rattle.bd_diagnose.specs.JsonFault.{json_fault_words};
 
+use thiserror::Error;
+
 /// Which rule a text breaks: JSON (RFC 8259), then Extended JSON v2.
-#[derive(Clone, Copy, Debug, PartialEq, Eq)]
+#[derive(Clone, Copy, Debug, Drop, PartialEq, Eq, Error)]
+#[error("{}", self.words())]
 pub enum JsonFaultKind {
     /// It is no JSON, or it is not UTF-8.
     Syntax = 1,
@@ -19,7 +22,7 @@ pub enum JsonFaultKind {
     NumberRange = 6,
     /// A zero in a name, or in a text of a regular expression.
     NulInName = 7,
-    /// Text behind the document.
+    /// Text after the document.
     TrailingText = 8,
     /// No memory was given.
     NoMemory = 9,
@@ -45,7 +48,8 @@ impl JsonFaultKind {
 }
 
 /// Why a text is no document, and where.
-#[derive(Clone, Copy, Debug, Drop, PartialEq, Eq)]
+#[derive(Clone, Copy, Debug, Drop, PartialEq, Eq, Error)]
+#[error("byte {at}: {kind}")]
 pub struct JsonFault {
     /// Which rule it breaks.
     pub kind: JsonFaultKind,

@@ -1,7 +1,8 @@
 //! Why a text is no document, and where: a pass over the whole text, for texts that are refused.
 //!
 //! What is no JSON stops the walk where it stands. The first fault of the tree is kept until the text has shown itself as JSON.
-ghost use Rattle.std.specs.Prelude.{◌≤◌, length};
+ghost use Rattle.std.specs.Prelude.{length};
+ghost use Rattle.bd_diagnose.specs.JsonFault.{IsPlaced};
 
 use crate::findings::{Form, Sought};
 use crate::json_fault::{JsonFault, JsonFaultKind};
@@ -33,7 +34,7 @@ fn check(alloc: Global, text: &[u8]) -> Result<(), Stop> {
 ///
 /// It is asked of texts that are refused. Where it finds no fault it says `Syntax` at the text's end.
 pub fn diagnose(alloc: Global, text: &[u8]) -> JsonFault
-    ensures place { result.at ≤ length text.now }
+    ensures place { IsPlaced (length text.now) result }
 {
     match check(alloc, text) {
         Ok(()) => JsonFault {

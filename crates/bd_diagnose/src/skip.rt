@@ -1,5 +1,6 @@
 //! The tokens of JSON (RFC 8259), passed one by one, with the first byte that cannot continue.
 ghost use Rattle.std.specs.Prelude.{◌<◌, ◌≤◌, length, IfOk};
+ghost use Rattle.bd_diagnose.specs.JsonFault.{IsPlaced};
 
 use crate::json_fault::{JsonFault, JsonFaultKind};
 
@@ -25,10 +26,10 @@ impl Stop {
 
     /// The fault in a text of that length.
     pub fn in_text(self, len: usize) -> JsonFault
-        ensures { result.at ≤ len }
+        ensures { IsPlaced len result }
     {
         let at = match self.kind {
-            JsonFaultKind::NoMemory => 0,
+            JsonFaultKind::NoMemory | JsonFaultKind::NotADocument => 0,
             _ => len.saturating_sub(self.left),
         };
         JsonFault {
@@ -38,7 +39,7 @@ impl Stop {
     }
 }
 
-/// What stands behind white space.
+/// What stands after white space.
 pub(crate) fn skip_white(text: &[u8]) -> &[u8]
     ensures { length result.now ≤ length text.now }
 {
@@ -49,7 +50,7 @@ pub(crate) fn skip_white(text: &[u8]) -> &[u8]
     rest
 }
 
-/// What stands behind a word.
+/// What stands after a word.
 pub(crate) fn skip_word<'a>(text: &'a [u8], word: &[u8]) -> Result<&'a [u8], Stop>
     ensures { IfOk result (λ rest. length rest.now ≤ length text.now) }
 {
@@ -73,7 +74,7 @@ fn skip_digits(text: &[u8]) -> &[u8]
     rest
 }
 
-/// What stands behind one digit or more.
+/// What stands after one digit or more.
 fn skip_some_digits(text: &[u8]) -> Result<&[u8], Stop>
     ensures { IfOk result (λ rest. length rest.now < length text.now) }
 {
@@ -83,7 +84,7 @@ fn skip_some_digits(text: &[u8]) -> Result<&[u8], Stop>
     }
 }
 
-/// What stands behind the digits before a point: no digit follows a zero.
+/// What stands after the digits before a point: no digit follows a zero.
 fn skip_whole(text: &[u8]) -> Result<&[u8], Stop>
     ensures { IfOk result (λ rest. length rest.now < length text.now) }
 {
@@ -112,7 +113,7 @@ fn skip_exponent(text: &[u8]) -> Result<&[u8], Stop>
     }
 }
 
-/// What stands behind a number: RFC 8259, section 6.
+/// What stands after a number: RFC 8259, section 6.
 pub(crate) fn skip_number(text: &[u8]) -> Result<&[u8], Stop>
     ensures { IfOk result (λ rest. length rest.now < length text.now) }
 {

@@ -41,7 +41,7 @@ fn fits_escape(place: usize, byte: u8) -> bool {
     }
 }
 
-/// What stands behind the escape of a low surrogate. `high` begins with the escape of the high surrogate, at which it is told
+/// What stands after the escape of a low surrogate. `high` begins with the escape of the high surrogate, at which it is told
 /// that none follows.
 fn skip_low_surrogate<'a>(high: &[u8], text: &'a [u8]) -> Result<&'a [u8], Stop>
     ensures { IfOk result (λ rest. length rest.now ≤ length text.now) }
@@ -60,7 +60,7 @@ fn skip_low_surrogate<'a>(high: &[u8], text: &'a [u8]) -> Result<&'a [u8], Stop>
     }
 }
 
-/// What stands behind `\u` and its digits, in a text that begins with the backslash.
+/// What stands after `\u` and its digits, in a text that begins with the backslash.
 fn skip_unit<'a>(text: &[u8], digits: &'a [u8]) -> Result<&'a [u8], Stop>
     ensures { IfOk result (λ rest. length rest.now ≤ length digits.now) }
 {
@@ -72,7 +72,7 @@ fn skip_unit<'a>(text: &[u8], digits: &'a [u8]) -> Result<&'a [u8], Stop>
     }
 }
 
-/// What stands behind an escape, in a text that begins with its backslash.
+/// What stands after an escape, in a text that begins with its backslash.
 fn skip_escape(text: &[u8]) -> Result<&[u8], Stop>
     ensures { IfOk result (λ rest. length rest.now < length text.now) }
 {
@@ -88,7 +88,7 @@ fn skip_escape(text: &[u8]) -> Result<&[u8], Stop>
     }
 }
 
-/// What stands behind a string, in a text that begins behind its first quotation mark.
+/// What stands after a string, in a text that begins after its first quotation mark.
 pub(crate) fn skip_string(text: &[u8]) -> Result<&[u8], Stop>
     ensures { IfOk result (λ rest. length rest.now ≤ length text.now) }
 {
@@ -110,7 +110,7 @@ pub(crate) struct Key<'a> {
     pub quoted: &'a [u8],
     /// From its opening quotation mark to the text's end.
     pub from: &'a [u8],
-    /// What stands behind the colon.
+    /// What stands after the colon.
     pub rest: &'a [u8],
 }
 

@@ -1,4 +1,4 @@
-//! The first fault of a text: of the whole text as JSON, and behind that of the tree that it is.
+//! The first fault of a text: of the whole text as JSON, and after that of the tree that it is.
 ghost use Rattle.std.specs.Prelude.{◌<◌, ◌≤◌, length, IfOk};
 
 use crate::findings::{CodeParts, Form, Search, Sought, Walked, sought_in};
@@ -183,7 +183,7 @@ fn object(alloc: Global, text: &[u8], level: usize, sought: Sought) -> Result<Wa
     }
 }
 
-/// An object whose first name is `$code` or `$scope`. Its scope is walked where it stands, and judged behind the rest.
+/// An object whose first name is `$code` or `$scope`. Its scope is walked where it stands, and judged after the rest.
 #[cycle(walk)]
 fn code(alloc: Global, text: &[u8], level: usize, room: usize) -> Result<Walked<'_>, Stop>
     ensures { IfOk result (λ walked. length walked.rest.now < length text.now) }

@@ -45,7 +45,7 @@ fn refusal_of(wrapper: Wrapper, part: &Value<'_>) -> JsonFaultKind {
     }
 }
 
-/// Whether the wrapper, with that value behind its name, is of a form that is known and not read.
+/// Whether the wrapper, with that value after its name, is of a form that is known and not read.
 fn is_outside_profile(wrapper: Wrapper, part: &Value<'_>) -> bool {
     match wrapper {
         Wrapper::NumberDouble | Wrapper::NumberDecimal | Wrapper::Uuid => true,
