@@ -16,7 +16,8 @@ use Rattle.hex.proofs.HexLemmas.{decode_of-encode_lower}
 use Rattle.bd_value.specs.Tree.{Scalar, min_key, undefined, null, int32, int64, text as plain_text, symbol, binary, object_id, boolean, date, timestamp, regex, db_pointer, code, max_key}
 use Rattle.bd_value.specs.Tree.{Tree, leaf, doc, array as array_tree, code_scope, Items, no_items, item, Fields, no_fields, field}
 use Rattle.bd_extjson.specs.Text.{base64_text, hex_text}
-use Rattle.bd_extjson.specs.Plain.{IsPlainFirst, IsPlain, ArePlainItems, ArePlainFields, ScalarFits, Fits, ItemsFit, FieldsFit}
+use Rattle.bd_extjson.specs.Plain.{IsPlainFirst, IsPlain, ArePlainItems, ArePlainFields}
+use Rattle.bd_value.specs.Fits.{ScalarFitsType, FitsTypes, ItemsFitTypes, FieldsFitTypes}
 use Rattle.bd_wrapper.specs.Wrappers.{wrapper_of}
 use Rattle.bd_wrapper.specs.declared.wrapper.Wrapper.{Wrapper}
 use Rattle.bd_wrapper.specs.declared.wrapper.Wrapper.TheVariants as kinds
@@ -155,7 +156,7 @@ back-word_of : (b : Bool) → back_word (word_of b) ≡ leaf (boolean b)
 back-word_of true = refl
 back-word_of false = refl
 
-back-scalar_json : (s : Scalar) → ScalarFits s → back (scalar_json s) ≡ leaf s
+back-scalar_json : (s : Scalar) → ScalarFitsType s → back (scalar_json s) ≡ leaf s
 unfolding wrapper_of
 back-scalar_json min_key fits = refl
 back-scalar_json undefined fits = refl
@@ -186,16 +187,16 @@ unfolding wrapper_of
 scope_back s fs same = ap (λ (t : Tree). code_scope s (fields_in t)) same
 
 mutual
-  pub back-json : (t : Tree) → Fits t → IsPlain t → back (json t) ≡ t
+  pub back-json : (t : Tree) → FitsTypes t → IsPlain t → back (json t) ≡ t
   back-json (leaf s) fits plain = back-scalar_json s fits
   back-json (doc fs) fits plain = plain_object fs plain.0 (back-members fs fits plain.1)
   back-json (array_tree ts) fits plain = ap array_tree (back-elements ts fits plain)
   back-json (code_scope s fs) fits plain = scope_back s fs (plain_object fs plain.0 (back-members fs fits plain.1))
 
-  back-elements : (ts : Items) → ItemsFit ts → ArePlainItems ts → back_elements (elements_json ts) ≡ ts
+  back-elements : (ts : Items) → ItemsFitTypes ts → ArePlainItems ts → back_elements (elements_json ts) ≡ ts
   back-elements no_items fits plain = refl
   back-elements (item t ts) fits plain = ap₂ item (back-json t fits.0 plain.0) (back-elements ts fits.1 plain.1)
 
-  back-members : (fs : Fields) → FieldsFit fs → ArePlainFields fs → back_members (members_json fs) ≡ fs
+  back-members : (fs : Fields) → FieldsFitTypes fs → ArePlainFields fs → back_members (members_json fs) ≡ fs
   back-members no_fields fits plain = refl
   back-members (field n t fs) fits plain = ap₂ (field n) (back-json t fits.0 plain.0) (back-members fs fits.1 plain.1)

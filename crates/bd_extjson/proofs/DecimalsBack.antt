@@ -9,14 +9,14 @@ use Rattle.std.specs.Str.Parse.{digits_value}
 use Rattle.std.proofs.lemmas.Bool.{and_parts, lt-ltb, ltb-true}
 use Rattle.std.proofs.lemmas.Fmt.{digits_decimal, digits_value-decimal, first_decimal, decimal_digit}
 use Rattle.std.proofs.lemmas.Int.{ints}
-use Rattle.bd_wrapper.specs.Whole.{is_empty, are_digits, fits_bits, whole, whole_64, whole_32}
+use Rattle.bd_wrapper.specs.Whole.{has_no_digits, are_digits, fits_bits, whole, whole_64, whole_32}
 use Rattle.bd_wrapper.proofs.Numbers.{own, all_of}
 
 first_nonzero : (ds : List ℕ) → 48 < get_or ds 0 0 → all_ascii_digits ds ≡ true → are_digits ds ≡ true
 first_nonzero [] first all = absurd (omega arith)
 first_nonzero (c ∷ cs) first all = one (c == 48) refl
   where
-    one : (b : Bool) → (c == 48) ≡ b → (cond b (is_empty cs) (is_ascii_digit c) && all_ascii_digits (c ∷ cs)) ≡ true
+    one : (b : Bool) → (c == 48) ≡ b → (cond b (has_no_digits cs) (is_ascii_digit c) && all_ascii_digits (c ∷ cs)) ≡ true
     one true e = let same : c ≡ 48 = grind arith in absurd (omega arith)
     one false e = let digits = and_parts (is_ascii_digit c) (all_ascii_digits cs) all in rw (digits.0, digits.1) refl
 

@@ -59,7 +59,7 @@ escaped-to_end xs e =
     let past = not_found (position_or_len needs_escape xs) (length xs) e in
     escaped-from_run xs ∙ rw (take_all (position_or_len needs_escape xs) xs past, drop_of_length-le xs past) (append-nil xs)
 
--- a run and the escape behind it are written, and the rest of the n bytes is still to come
+-- a run and the escape after it are written, and the rest of the n bytes is still to come
 pub run_step : (xs out total : List ℕ) (i n : ℕ) → position needs_escape xs ≡ Some i → length xs ≡ n → out ++ escaped xs ≡ total
     → ((out ++ take i xs) ++ escape_byte (get_or xs i 0)) ++ escaped (take (n - (i + 1)) (drop (i + 1) xs)) ≡ total
 run_step xs out total i n e len so_far =

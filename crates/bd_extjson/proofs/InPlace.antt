@@ -1,4 +1,4 @@
--- A text that is written into the room behind what a vector held.
+-- A text that is written into the room after what a vector held.
 use Rattle.std.proofs.Common.{◌≡◌, ℕ, ◌+◌, ◌-◌, ◌≤◌, List, [], ◌++◌, length, take, drop, sym, ap₂, ◌∙◌, arith, append-nil, ◌^◌, ◌<◌, Some, None, inl, inr}
 use Rattle.std.proofs.lemmas.Bool.{cases_lt}
 use Rattle.std.proofs.lemmas.List.{take-take, take_all, drop_all, length-take, length-drop}

@@ -158,7 +158,7 @@ unfolding quoted
 no_member true n x ms r s e = clash _ _ e refl
 no_member false n x ms r s e = clash _ _ e refl
 
--- what comes behind the comma
+-- what comes after the comma
 behind : (later : Bool) (a b c d r s : List ℕ) → (before later 44 ++ (a ++ b)) ++ r ≡ (before later 44 ++ (c ++ d)) ++ s → a ++ (b ++ r) ≡ c ++ (d ++ s)
 behind later a b c d r s e =
     let left : (before later 44 ++ (a ++ b)) ++ r ≡ before later 44 ++ (a ++ (b ++ r)) = simp append_assoc in

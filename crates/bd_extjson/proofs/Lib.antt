@@ -1,8 +1,9 @@
 pub mod Back
+pub mod Base64Bytes
+pub mod ContentUtf8
 pub mod DecimalsBack
 pub mod Determined
 pub mod Escapes
-pub mod Fronts
 pub mod InPlace
 pub mod Json
 pub mod Parts
@@ -11,12 +12,14 @@ pub mod Prefix
 pub mod Printed
 pub mod Quiet
 pub mod ReadBack
+pub mod ReadsFit
 pub mod Rows
 pub mod ScalarsBack
 pub mod Seconds
 pub mod Steps
 pub mod Symbols
 pub mod TokensBack
+pub mod TokensUtf8
 pub mod TreeJson
 pub mod TreesBack
 pub mod Turns

@@ -45,6 +45,6 @@ name_step later x pieces xs out total is so_far =
     ∙ ap₂ (λ (a b : List ℕ). a ++ b) (escaped-before later) (flat_map-append escape_byte x (to_come true 46 xs)) in
     simp append_assoc (ap (λ (l : List ℕ). out ++ l) (sym cut) ∙ whole)
 
--- what a mapped list has at a place and behind it
+-- what a mapped list has at a place and after it
 pub drop-map : {A B : Type 0} (f : A → B) (xs : List A) (i : ℕ) (x : A) → i < length xs → x ≡ get_or xs i x → drop i (map f xs) ≡ f x ∷ drop (i + 1) (map f xs)
 drop-map f xs i x inside is = next_at (map f xs) i (f x) (slice_get-map f xs i ∙ rw (slice_get-get_or xs i x inside, ← is) refl)

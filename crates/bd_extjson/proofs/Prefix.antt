@@ -5,7 +5,7 @@ use Rattle.std.specs.Char.{digit_char, digit_value}
 use Rattle.std.proofs.lemmas.Str.{digit_value-digit_char}
 use Rattle.bd_extjson.specs.Text.{escape_byte, escaped, quoted}
 
--- ---- the byte that the head of a text stands for, and what comes behind it
+-- ---- the byte that the head of a text stands for, and what comes after it
 
 abbrev letter_byte : ℕ → ℕ
 letter_byte l = if l == 98 then 8 else (if l == 102 then 12 else (if l == 110 then 10 else (if l == 114 then 13 else (if l == 116 then 9 else l))))

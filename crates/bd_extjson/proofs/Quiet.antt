@@ -19,7 +19,7 @@ module _ (p : ℕ → Bool) where
   twice n None = refl
   twice n (Some k) = ap Some (omega arith)
 
-  -- none of the first bytes passes, so the first that does is found behind them
+  -- none of the first bytes passes, so the first that does is found after them
   pub behind : (n : ℕ) (text : List ℕ) → n ≤ length text → ((k : ℕ) → k < n → p (get_or text k 0) ≡ false) → position p text ≡ option_map (λ k. n + k) (position p (drop n text))
   behind zero text le quiet = sym (same (position p text))
   behind (suc n) [] le quiet = absurd (omega arith)
@@ -34,7 +34,7 @@ module _ (p : ℕ → Bool) where
   none_of : (xs : List ℕ) (i : ℕ) → i < length xs → list_any p xs ≡ false → p (get_or xs i 0) ≡ false
   none_of xs i lt e = not_true (p (get_or xs i 0)) (λ t. let f = list_any_at p xs i 0 lt t in cc)
 
-  -- nor do these, behind others
+  -- nor do these, after others
   pub more : (passed size n : ℕ) (text : List ℕ) → passed + size ≤ length text → n ≡ size → ((k : ℕ) → k < passed → p (get_or text k 0) ≡ false) → list_any p (take n (drop passed text)) ≡ false
       → (k : ℕ) → k < passed + size → p (get_or text k 0) ≡ false
   more passed size n text le is quiet none k lt =

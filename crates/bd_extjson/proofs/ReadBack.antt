@@ -10,9 +10,9 @@ use Rattle.json.proofs.Printed.Trees.{value-json_tokens, ArePrintable-json_token
 use Rattle.bd_value.specs.Depth.{depth}
 use Rattle.bd_value.specs.Tree.{Tree, doc, Doc, fields_of, pairs_of, pairs_of-fields_of}
 use Rattle.bd_value.specs.Zeros.{zero_in}
-use Rattle.bd_extjson.specs.Plain.{IsPlain, Fits}
-use Rattle.bd_extjson.specs.Readable.{HasUtf8}
-use Rattle.bd_extjson.specs.Reads.{json as json_in, document, Reads}
+use Rattle.bd_extjson.specs.Plain.{IsPlain}
+use Rattle.bd_value.specs.Fits.{FitsTypes, HasUtf8}
+use Rattle.bd_extjson.specs.Reads.{json as json_in, document, ReadsAs}
 use Rattle.bd_extjson.specs.Text.{text}
 use Rattle.bd_extjson.specs.Wrap.{wrap}
 use Rattle.bd_extjson.proofs.Printed.{kit_json, print-kit_json}
@@ -24,7 +24,7 @@ use Rattle.bd_extjson.proofs.Utf8Text.{utf8-text}
 json_in-utf8 : (s : List ℕ) → is_utf8 s ≡ true → json_in s ≡ option_and_then (λ p. if_last p.0 p.1) (value 203 (tokens s))
 json_in-utf8 s is = rw is refl
 
-json_back : (t : Tree) → Fits t → HasUtf8 t → depth t ≤ 200 → json_in (text t) ≡ Some (kit_json (json t))
+json_back : (t : Tree) → FitsTypes t → HasUtf8 t → depth t ≤ 200 → json_in (text t) ≡ Some (kit_json (json t))
 json_back t fits utf8 deep =
     let j = kit_json (json t) in
     let all : tokens (text t) ≡ json_tokens j ++ [] =
@@ -32,8 +32,8 @@ json_back t fits utf8 deep =
     json_in-utf8 (text t) (is_utf8-from_IsUtf8 (text t) (utf8-text t fits utf8))
     ∙ ap (option_and_then (λ p. if_last p.0 p.1)) (ap (value 203) all ∙ value-json_tokens j 203 [] (omega (arith, shallow t)))
 
-pub document_back : (d : Doc) → Fits (doc (fields_of d)) → HasUtf8 (doc (fields_of d)) → IsPlain (doc (fields_of d)) → zero_in (doc (fields_of d)) ≡ false → depth (doc (fields_of d)) ≤ 200
-    → Reads (text (doc (fields_of d))) d
+pub document_back : (d : Doc) → FitsTypes (doc (fields_of d)) → HasUtf8 (doc (fields_of d)) → IsPlain (doc (fields_of d)) → zero_in (doc (fields_of d)) ≡ false → depth (doc (fields_of d)) ≤ 200
+    → ReadsAs (text (doc (fields_of d))) d
 document_back d fits utf8 plain none deep =
     let t : Tree = doc (fields_of d) in
     ap (λ o. option_map pairs_of (option_and_then document (option_and_then (wrap 200) o))) (json_back t fits utf8 deep)

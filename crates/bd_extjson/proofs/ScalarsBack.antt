@@ -9,7 +9,7 @@ use Rattle.json.specs.Json as kit
 use Rattle.bd_value.specs.Tree.{Scalar, min_key, undefined, null, int32, int64, text as plain_text, symbol, binary, object_id, boolean, date, timestamp, regex, db_pointer, code, max_key, leaf}
 use Rattle.bd_value.specs.Zeros.{has_zero, zero_in_scalar}
 use Rattle.bd_extjson.specs.Text.{base64_text, hex_text}
-use Rattle.bd_extjson.specs.Plain.{ScalarFits, IsId}
+use Rattle.bd_value.specs.Fits.{ScalarFitsType, IsId}
 use Rattle.bd_wrapper.specs.Whole.{whole}
 use Rattle.bd_wrapper.specs.Wrappers.{wrapper_of, only, pair, both, ok_of, id_of, data_in, subtype_in, word_in, if_word, name_in}
 use Rattle.bd_extjson.specs.Wrap.{wrap}
@@ -43,7 +43,7 @@ word_back n small =
 name_back : (s : List ℕ) → has_zero s ≡ false → name_in (kit.string s) ≡ Some s
 name_back s none = rw none refl
 
-pub scalar_back : (s : Scalar) (room : ℕ) → ScalarFits s → zero_in_scalar s ≡ false → wrap room (kit_json (scalar_json s)) ≡ Some (leaf s)
+pub scalar_back : (s : Scalar) (room : ℕ) → ScalarFitsType s → zero_in_scalar s ≡ false → wrap room (kit_json (scalar_json s)) ≡ Some (leaf s)
 unfolding wrapper_of only pair whole
 scalar_back min_key room fits none = refl
 scalar_back undefined room fits none = refl

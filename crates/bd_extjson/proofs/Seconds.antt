@@ -6,7 +6,7 @@ use Rattle.json.specs.Json.{Json, Parse, parse_map, read_key, members, value}
 use Rattle.json.specs.Find.{as_str}
 use Rattle.json.proofs.Grammar.{members_end, members_no_key}
 use Rattle.bd_value.specs.Tree.{Tree, leaf, doc, array, code_scope, Fields, Doc, pairs_of, fields_of, fields_of-pairs_of}
-use Rattle.bd_extjson.specs.Wrap.{Behind, nothing, one_more, several, nested, with_scope, two, wrapped, behind_one, behind, wrap, wrap_object}
+use Rattle.bd_extjson.specs.Wrap.{AfterName, nothing, one_more, several, nested, with_scope, two, wrapper_tree, behind_one, behind, wrap, wrap_object}
 use Rattle.bd_wrapper.specs.Wrappers.{wrapper_of}
 use Rattle.bd_extjson.specs.Reads.{document}
 use Rattle.bd_wrapper.specs.Progress.{through, after_key, if_no_name, closing, is_code, is_scope, is_code_name, is_scope_name}
@@ -113,7 +113,7 @@ was_not_read {A = A} g (Some p) e = inr (p.0, p.1, refl, go (g p.0) e)
 -- ---- wrappers of one name
 
 abbrev pub wrapping : ℕ → Wrapper → Json → Option Tree → json.Members → Option Tree
-wrapping room w j t ms = wrapped room w j t (behind (room - 1) ms)
+wrapping room w j t ms = wrapper_tree room w j t (behind (room - 1) ms)
 
 first_after : (w : Wrapper) (k : List ℕ) (room : ℕ) (j : Json) (r : Option (json.Members × List Token)) → wrapper_of k ≡ Some w
     → through (wrap_object room) (parse_map (json.member k j) r) ≡ through (wrapping room w j (wrap (room - 1) j)) r
@@ -152,7 +152,7 @@ no_two kinds.Undefined v j i t u e f = refl
 pub one_name_alone : (w : Wrapper) (room : ℕ) (j : Json) (t : Option Tree) (k : List ℕ) (i : Json) (ms : json.Members) → is_code w ≡ false → is_scope w ≡ false → wrapping room w j t (json.member k i ms) ≡ None
 one_name_alone w room j t k i json.no_members e f = go (wrapper_of k)
   where
-    go : (v : Option Wrapper) → wrapped room w j t (one_more v i (wrap (room - 1) i)) ≡ None
+    go : (v : Option Wrapper) → wrapper_tree room w j t (one_more v i (wrap (room - 1) i)) ≡ None
     go None = refl
     go (Some v) = ap (nested room) (no_two w v j i t (wrap (room - 1) i) e f) ∙ nested_none room
 one_name_alone w room j t k i (json.member l h ms) e f = refl
@@ -181,7 +181,7 @@ code_with kinds.Undefined j i t u e = refl
 pub code_no_scope : (room : ℕ) (j : Json) (t : Option Tree) (k : List ℕ) (i : Json) (ms : json.Members) → is_scope_name (wrapper_of k) ≡ false → wrapping room kinds.Code j t (json.member k i ms) ≡ None
 code_no_scope room j t k i json.no_members e = go (wrapper_of k) e
   where
-    go : (v : Option Wrapper) → is_scope_name v ≡ false → wrapped room kinds.Code j t (one_more v i (wrap (room - 1) i)) ≡ None
+    go : (v : Option Wrapper) → is_scope_name v ≡ false → wrapper_tree room kinds.Code j t (one_more v i (wrap (room - 1) i)) ≡ None
     go None e = refl
     go (Some v) e = ap (nested room) (code_with v j i t (wrap (room - 1) i) e) ∙ nested_none room
 code_no_scope room j t k i (json.member l h ms) e = refl
@@ -189,7 +189,7 @@ code_no_scope room j t k i (json.member l h ms) e = refl
 pub no_room : (w : Wrapper) (j : Json) (t : Option Tree) (k : List ℕ) (i : Json) (ms : json.Members) → wrapping 0 w j t (json.member k i ms) ≡ None
 no_room w j t k i json.no_members = go (wrapper_of k)
   where
-    go : (v : Option Wrapper) → wrapped 0 w j t (one_more v i (wrap (0 - 1) i)) ≡ None
+    go : (v : Option Wrapper) → wrapper_tree 0 w j t (one_more v i (wrap (0 - 1) i)) ≡ None
     go None = refl
     go (Some v) = refl
 no_room w j t k i (json.member l h ms) = refl
@@ -225,10 +225,10 @@ pub code_without_scope : (k : List ℕ) (room depth n : ℕ) (ts : List Token) (
 code_without_scope k room depth n ts j t e = refused_member (wrapping room kinds.Code j t) k depth n ts (λ i ms. code_no_scope room j t k i ms e)
 
 code_behind : (k : List ℕ) (room : ℕ) (j i : Json) (t u : Option Tree) (ms : json.Members) → is_scope_name (wrapper_of k) ≡ true → wrap (room - 1) i ≡ u
-    → wrapping room kinds.Code j t (json.member k i ms) ≡ wrapped room kinds.Code j t (behind_one (Some kinds.Scope) i u ms)
+    → wrapping room kinds.Code j t (json.member k i ms) ≡ wrapper_tree room kinds.Code j t (behind_one (Some kinds.Scope) i u ms)
 code_behind k room j i t u ms e f = rw (is_scope_is (wrapper_of k) e, f) refl
 
-scope_fails : (room : ℕ) (j i : Json) (t : Option Tree) (ms : json.Members) → wrapped room kinds.Code j t (behind_one (Some kinds.Scope) i None ms) ≡ None
+scope_fails : (room : ℕ) (j i : Json) (t : Option Tree) (ms : json.Members) → wrapper_tree room kinds.Code j t (behind_one (Some kinds.Scope) i None ms) ≡ None
 scope_fails room j i t json.no_members = ap (nested room) (no_scope (as_str j)) ∙ nested_none room
 scope_fails room j i t (json.member l h ms) = refl
 
@@ -247,7 +247,7 @@ same f g h (Some q) = ap (option_map (λ a. (a, q.1))) (h q.0)
 
 -- what follows a scope
 pub scope_read : (k : List ℕ) (room depth n : ℕ) (ts r : List Token) (j : Json) (t : Option Tree) (u : Tree) → is_scope_name (wrapper_of k) ≡ true → through (wrap (room - 1)) (value depth ts) ≡ Some (u, r)
-    → (i : Json) × (through (wrapping room kinds.Code j t) (after_key depth n (Some k) ts) ≡ through (λ ms. wrapped room kinds.Code j t (behind_one (Some kinds.Scope) i (Some u) ms)) (members (value depth) n r))
+    → (i : Json) × (through (wrapping room kinds.Code j t) (after_key depth n (Some k) ts) ≡ through (λ ms. wrapper_tree room kinds.Code j t (behind_one (Some kinds.Scope) i (Some u) ms)) (members (value depth) n r))
 scope_read k room depth n ts r j t u e f =
     let p = was_read (wrap (room - 1)) (value depth ts) u r f in
     (p.0, member_is (wrapping room kinds.Code j t) k depth n ts r p.0 p.1 ∙ same (λ ms. wrapping room kinds.Code j t (json.member k p.0 ms)) _ (λ ms. code_behind k room j p.0 t (Some u) ms e p.2) (members (value depth) n r))
@@ -266,13 +266,13 @@ scope_ended k room depth n ts r s j t u e f le g h =
 
 -- ---- `$scope`, then `$code`
 
-no_room_scope : (j : Json) (t : Option Tree) (b : Behind) → wrapped 0 kinds.Scope j t b ≡ None
+no_room_scope : (j : Json) (t : Option Tree) (b : AfterName) → wrapper_tree 0 kinds.Scope j t b ≡ None
 no_room_scope j t nothing = refl
 no_room_scope j t (one_more None i u) = refl
 no_room_scope j t (one_more (Some v) i u) = refl
 no_room_scope j t several = refl
 
-scope_first_fails : (room : ℕ) (j : Json) (b : Behind) → wrapped room kinds.Scope j None b ≡ None
+scope_first_fails : (room : ℕ) (j : Json) (b : AfterName) → wrapper_tree room kinds.Scope j None b ≡ None
 scope_first_fails room j nothing = refl
 scope_first_fails room j (one_more None i u) = refl
 scope_first_fails room j (one_more (Some kinds.NumberInt) i u) = nested_none room
@@ -334,7 +334,7 @@ scope_with kinds.Undefined j i t u e = refl
 scope_no_code : (room : ℕ) (j : Json) (t : Option Tree) (k : List ℕ) (i : Json) (ms : json.Members) → is_code_name (wrapper_of k) ≡ false → wrapping room kinds.Scope j t (json.member k i ms) ≡ None
 scope_no_code room j t k i json.no_members e = go (wrapper_of k) e
   where
-    go : (v : Option Wrapper) → is_code_name v ≡ false → wrapped room kinds.Scope j t (one_more v i (wrap (room - 1) i)) ≡ None
+    go : (v : Option Wrapper) → is_code_name v ≡ false → wrapper_tree room kinds.Scope j t (one_more v i (wrap (room - 1) i)) ≡ None
     go None e = refl
     go (Some v) e = ap (nested room) (scope_with v j i t (wrap (room - 1) i) e) ∙ nested_none room
 scope_no_code room j t k i (json.member l h ms) e = refl

@@ -9,7 +9,7 @@ use Rattle.json.proofs.Printed.Decimals.{IsNumber-decimal}
 use Rattle.bd_value.specs.Depth.{depth, fields_depth, items_depth}
 use Rattle.bd_value.specs.Tree.{Scalar, min_key, undefined, null, int32, int64, text as plain_text, symbol, binary, object_id, boolean, date, timestamp, regex, db_pointer, code, max_key}
 use Rattle.bd_value.specs.Tree.{Tree, leaf, doc, array, code_scope, Items, no_items, item, Fields, no_fields, field}
-use Rattle.bd_extjson.specs.Plain.{ScalarFits, Fits, ItemsFit, FieldsFit}
+use Rattle.bd_value.specs.Fits.{ScalarFitsType, FitsTypes, ItemsFitTypes, FieldsFitTypes}
 use Rattle.bd_extjson.proofs.Printed.{kit_json, kit_items, kit_members}
 use Rattle.bd_extjson.proofs.TreeJson.{scalar_json, json, elements_json, members_json}
 
@@ -55,7 +55,7 @@ one_number : IsNumber (codes "1")
 unfolding after_number
 one_number = refl
 
-numbers-scalar : (s : Scalar) → ScalarFits s → HasNumbers (kit_json (scalar_json s))
+numbers-scalar : (s : Scalar) → ScalarFitsType s → HasNumbers (kit_json (scalar_json s))
 numbers-scalar min_key fits = (one_number, tt)
 numbers-scalar undefined fits = (tt, tt)
 numbers-scalar null fits = tt
@@ -75,16 +75,16 @@ numbers-scalar (code s) fits = (tt, tt)
 numbers-scalar max_key fits = (one_number, tt)
 
 mutual
-  pub numbers : (t : Tree) → Fits t → HasNumbers (kit_json (json t))
+  pub numbers : (t : Tree) → FitsTypes t → HasNumbers (kit_json (json t))
   numbers (leaf s) fits = numbers-scalar s fits
   numbers (doc fs) fits = numbers-fields fs fits
   numbers (array ts) fits = numbers-items ts fits
   numbers (code_scope s fs) fits = (tt, (numbers-fields fs fits, tt))
 
-  numbers-items : (ts : Items) → ItemsFit ts → ItemsHaveNumbers (kit_items (elements_json ts))
+  numbers-items : (ts : Items) → ItemsFitTypes ts → ItemsHaveNumbers (kit_items (elements_json ts))
   numbers-items no_items fits = tt
   numbers-items (item t ts) fits = (numbers t fits.0, numbers-items ts fits.1)
 
-  numbers-fields : (fs : Fields) → FieldsFit fs → MembersHaveNumbers (kit_members (members_json fs))
+  numbers-fields : (fs : Fields) → FieldsFitTypes fs → MembersHaveNumbers (kit_members (members_json fs))
   numbers-fields no_fields fits = tt
   numbers-fields (field n t fs) fits = (numbers t fits.0, numbers-fields fs fits.1)

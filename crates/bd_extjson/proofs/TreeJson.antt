@@ -6,8 +6,8 @@ use Rattle.std.specs.Str.Parse.{IsNumeral}
 use Rattle.std.proofs.lemmas.Fmt.{decimal_is_IsNumeral}
 use Rattle.bd_value.specs.Tree.{Scalar, min_key, undefined, null, int32, int64, text as plain_text, symbol, binary, object_id, boolean, date, timestamp, regex, db_pointer, code, max_key}
 use Rattle.bd_value.specs.Tree.{Tree, leaf, doc, array as array_tree, code_scope, Items, no_items, item, Fields, no_fields, field}
-use Rattle.bd_extjson.specs.Text.{object as object_text, member as member_text, wrapped as wrapped_text, listed, quoted, base64_text, hex_text, scalar_text, text, items_text, fields_text}
-use Rattle.bd_extjson.specs.Plain.{ScalarFits, Fits, ItemsFit, FieldsFit}
+use Rattle.bd_extjson.specs.Text.{object as object_text, member as member_text, wrapper_text as wrapped_text, listed, quoted, base64_text, hex_text, scalar_text, text, items_text, fields_text}
+use Rattle.bd_value.specs.Fits.{ScalarFitsType, FitsTypes, ItemsFitTypes, FieldsFitTypes}
 use Rattle.bd_extjson.proofs.Json as js
 use Rattle.bd_extjson.proofs.Json.{Json, string, number, word, array, object, nothing, yes, no, Elements, no_elements, element, Members, no_members, member}
 use Rattle.bd_extjson.proofs.Json.{print, IsWell, AreWell, AreWellMembers, member_texts, element_texts, print-object, print-array}
@@ -113,7 +113,7 @@ mutual
 one_digit : IsNumeral 10 (codes "1")
 one_digit = (omega arith, (omega arith, tt))
 
-well-scalar : (s : Scalar) → ScalarFits s → IsWell (scalar_json s)
+well-scalar : (s : Scalar) → ScalarFitsType s → IsWell (scalar_json s)
 well-scalar min_key fits = (one_digit, tt)
 well-scalar undefined fits = (tt, tt)
 well-scalar null fits = tt
@@ -132,16 +132,16 @@ well-scalar (code s) fits = (tt, tt)
 well-scalar max_key fits = (one_digit, tt)
 
 mutual
-  pub well-json : (t : Tree) → Fits t → IsWell (json t)
+  pub well-json : (t : Tree) → FitsTypes t → IsWell (json t)
   well-json (leaf s) fits = well-scalar s fits
   well-json (doc fs) fits = well-members fs fits
   well-json (array_tree ts) fits = well-elements ts fits
   well-json (code_scope s fs) fits = (tt, (well-members fs fits, tt))
 
-  well-elements : (ts : Items) → ItemsFit ts → AreWell (elements_json ts)
+  well-elements : (ts : Items) → ItemsFitTypes ts → AreWell (elements_json ts)
   well-elements no_items fits = tt
   well-elements (item t ts) fits = (well-json t fits.0, well-elements ts fits.1)
 
-  well-members : (fs : Fields) → FieldsFit fs → AreWellMembers (members_json fs)
+  well-members : (fs : Fields) → FieldsFitTypes fs → AreWellMembers (members_json fs)
   well-members no_fields fits = tt
   well-members (field n t fs) fits = (well-json t fits.0, well-members fs fits.1)

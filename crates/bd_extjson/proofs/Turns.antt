@@ -12,7 +12,7 @@ use Rattle.bd_wrapper.specs.Wrappers.{wrapper_of}
 use Rattle.bd_wrapper.specs.declared.wrapper.Wrapper.{Wrapper}
 use Rattle.std.specs.Prelude.{ok_or, Result, Ok, Err}
 use Rattle.bd_wrapper.specs.Whole.{whole_64}
-use Rattle.bd_wrapper.specs.Progress.{through, after_key, Fails, Tells, Gives}
+use Rattle.bd_wrapper.specs.Progress.{through, after_key, FailsAtTokens, GivesValue, GivesTokens}
 use Rattle.bd_wrapper.specs.declared.trouble.Trouble.{Trouble}
 use Rattle.bd_wrapper.specs.declared.trouble.Trouble.TheVariants as troubles
 
@@ -140,7 +140,7 @@ field_turn k room more (Some p) = field_after k room p.0 p.1 (more p.1) ∙ move
     moved None = refl
     moved (Some t) = refl
 
--- what stands behind a name
+-- what stands after a name
 pub field_step : (k : List ℕ) (room depth n : ℕ) (ts : List Token)
     → through (wrap_fields room) (after_key depth n (Some k) ts) ≡ then (through (wrap room) (value depth ts)) (λ t r. with_field k t (through (wrap_fields room) (members (value depth) n r)))
 field_step k room depth n ts = field_turn k room (members (value depth) n) (value depth ts)
@@ -210,7 +210,7 @@ no_room_for_object k depth n ts e = no_room_turn k (members (value depth) n) (va
 
 -- ---- what fails
 
-pub fails_by : {A B : Type 0} (e : Trouble) (x : Option A) (y : Option B) → (x ≡ None → y ≡ None) → Fails e x → Fails e y
+pub fails_by : {A B : Type 0} (e : Trouble) (x : Option A) (y : Option B) → (x ≡ None → y ≡ None) → FailsAtTokens e x → FailsAtTokens e y
 fails_by troubles.Memory x y f h = tt
 fails_by troubles.Refused x y f h = f h
 
@@ -230,7 +230,7 @@ pub field_goes_on : (k : List ℕ) (room depth n : ℕ) (ts r : List Token) (t :
 field_goes_on k room depth n ts r t z f =
     field_step k room depth n ts ∙ ap (λ o. then o (λ t r. with_field k t (through (wrap_fields room) (members (value depth) n r)))) f ∙ with_field_is k t _ z
 
--- ---- an object behind its first name
+-- ---- an object after its first name
 
 pub first_name : (depth : ℕ) (ts r : List Token) (key : Option (List ℕ)) → read_key ts ≡ Some (key, r) → members (value depth) (length ts) ts ≡ after_key depth (length r) key r
 first_name depth ts r key e =
@@ -239,7 +239,7 @@ first_name depth ts r key e =
     next_name depth (length ts) ts r key (omega arith) e ∙ ap (λ m. after_key depth m key r) less
 
 pub object_is_wrapper : {X : Type 0} (view : X → Tree) (result : Result X Trouble) (rest : List Token) (w : Wrapper) (room depth n : ℕ) (ts : List Token) (key : Option (List ℕ)) → option_and_then wrapper_of key ≡ Some w
-    → ((name : List ℕ) → wrapper_of name ≡ Some w → Gives view result rest (through (wrap_object room) (after_key depth n (Some name) ts))) → Gives view result rest (through (wrap_object room) (after_key depth n key ts))
+    → ((name : List ℕ) → wrapper_of name ≡ Some w → GivesTokens view result rest (through (wrap_object room) (after_key depth n (Some name) ts))) → GivesTokens view result rest (through (wrap_object room) (after_key depth n key ts))
 object_is_wrapper view result rest w room depth n ts None e f = absurd cc
 object_is_wrapper view result rest w room depth n ts (Some name) e f = f name e
 
@@ -272,15 +272,15 @@ read_null room depth rest = ap (through (wrap room)) (value_is depth (Token.null
 pub read_none : (room depth : ℕ) (ts : List Token) → value depth ts ≡ None → through (wrap room) (value depth ts) ≡ None
 read_none room depth ts e = ap (through (wrap room)) e
 
-bare_told : {X A : Type 0} (view : X → A) (rest : List Token) (b : Option X) → Gives view (ok_or b troubles.Refused) rest (option_map (λ (a : A). (a, rest)) (option_map view b))
+bare_told : {X A : Type 0} (view : X → A) (rest : List Token) (b : Option X) → GivesTokens view (ok_or b troubles.Refused) rest (option_map (λ (a : A). (a, rest)) (option_map view b))
 bare_told view rest None = refl
 bare_told view rest (Some x) = refl
 
 pub number_told : {X A : Type 0} (view : X → A) (rest : List Token) (b : Option X) (result : Result X Trouble) (o : Option A) (read : Option (A × List Token)) → option_map view b ≡ o → result ≡ ok_or b troubles.Refused → read ≡ option_map (λ (a : A). (a, rest)) o
-    → Gives view result rest read
+    → GivesTokens view result rest read
 number_told view rest b result o read e r s = rw (s, r, ← e) (bare_told view rest b)
 
-pub told : {X A : Type 0} (view : X → A) (result : Result X Trouble) (rest : List Token) (o : Option A) (read : Option (A × List Token)) → read ≡ option_map (λ (a : A). (a, rest)) o → Tells view result o → Gives view result rest read
+pub told : {X A : Type 0} (view : X → A) (result : Result X Trouble) (rest : List Token) (o : Option A) (read : Option (A × List Token)) → read ≡ option_map (λ (a : A). (a, rest)) o → GivesValue view result o → GivesTokens view result rest read
 told view (Ok x) rest o read e t = e ∙ ap (option_map (λ a. (a, rest))) t
 told view (Err troubles.Memory) rest o read e t = tt
 told view (Err troubles.Refused) rest o read e t = e ∙ ap (option_map (λ a. (a, rest))) t

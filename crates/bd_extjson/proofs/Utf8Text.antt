@@ -17,8 +17,7 @@ use Rattle.json.proofs.Printed.Utf8.{IsUtf8-quoted, IsUtf8-are_ascii, are_ascii}
 use Rattle.bd_value.specs.Tree.{Scalar, min_key, undefined, null, int32, int64, text as plain_text, symbol, binary, object_id, boolean, date, timestamp, regex, db_pointer, code, max_key}
 use Rattle.bd_value.specs.Tree.{Tree, leaf, doc, array as array_tree, code_scope, Items, no_items, item, Fields, no_fields, field}
 use Rattle.bd_extjson.specs.Text.{quoted, base64_text, hex_text, text}
-use Rattle.bd_extjson.specs.Plain.{ScalarFits, Fits, ItemsFit, FieldsFit}
-use Rattle.bd_extjson.specs.Readable.{ScalarHasUtf8, HasUtf8, ItemsHaveUtf8, FieldsHaveUtf8}
+use Rattle.bd_value.specs.Fits.{ScalarFitsType, FitsTypes, ItemsFitTypes, FieldsFitTypes, ScalarHasUtf8, HasUtf8, ItemsHaveUtf8, FieldsHaveUtf8}
 use Rattle.bd_extjson.proofs.Escapes.{fits_32, fits_64}
 use Rattle.bd_extjson.proofs.Json.{Word, nothing, yes, no, Json, string, number, word, array, object, Elements, no_elements, element, Members, no_members, member}
 use Rattle.bd_extjson.proofs.Json.{print_word, print, print_elements, print_members}
@@ -113,7 +112,7 @@ text-long z small = text-wrapped (codes "$numberLong") (string (signed_decimal z
 text-id : (id : List ℕ) → IsText (id_json id)
 text-id id = text-wrapped (codes "$oid") (string (hex_text id)) refl (utf8-hex_text id)
 
-text-scalar : (s : Scalar) → ScalarFits s → ScalarHasUtf8 s → IsText (scalar_json s)
+text-scalar : (s : Scalar) → ScalarFitsType s → ScalarHasUtf8 s → IsText (scalar_json s)
 text-scalar min_key fits is = text-wrapped (codes "$minKey") (number (codes "1")) refl (IsUtf8-are_ascii (codes "1") refl)
 text-scalar undefined fits is = text-wrapped (codes "$undefined") (word yes) refl tt
 text-scalar null fits is = tt
@@ -140,19 +139,19 @@ text-scalar (code s) fits is = text-wrapped (codes "$code") (string s) refl is
 text-scalar max_key fits is = text-wrapped (codes "$maxKey") (number (codes "1")) refl (IsUtf8-are_ascii (codes "1") refl)
 
 mutual
-  text-json : (t : Tree) → Fits t → HasUtf8 t → IsText (json t)
+  text-json : (t : Tree) → FitsTypes t → HasUtf8 t → IsText (json t)
   text-json (leaf s) fits is = text-scalar s fits is
   text-json (doc fs) fits is = text-members fs fits is
   text-json (array_tree ts) fits is = text-elements ts fits is
   text-json (code_scope s fs) fits is = text-two (codes "$code") (codes "$scope") (string s) (object (members_json fs)) refl refl is.0 (text-members fs fits is.1)
 
-  text-elements : (ts : Items) → ItemsFit ts → ItemsHaveUtf8 ts → AreTexts (elements_json ts)
+  text-elements : (ts : Items) → ItemsFitTypes ts → ItemsHaveUtf8 ts → AreTexts (elements_json ts)
   text-elements no_items fits is = tt
   text-elements (item t ts) fits is = (text-json t fits.0 is.0, text-elements ts fits.1 is.1)
 
-  text-members : (fs : Fields) → FieldsFit fs → FieldsHaveUtf8 fs → AreTextMembers (members_json fs)
+  text-members : (fs : Fields) → FieldsFitTypes fs → FieldsHaveUtf8 fs → AreTextMembers (members_json fs)
   text-members no_fields fits is = tt
   text-members (field n t fs) fits is = (is.0, (text-json t fits.0 is.1.0, text-members fs fits.1 is.1.1))
 
-pub utf8-text : (t : Tree) → Fits t → HasUtf8 t → IsUtf8 (text t)
+pub utf8-text : (t : Tree) → FitsTypes t → HasUtf8 t → IsUtf8 (text t)
 utf8-text t fits is = subst IsUtf8 (print-json t) (utf8-print (json t) (text-json t fits is))

@@ -1,11 +1,11 @@
--- The texts of the scalars in the pieces in which they are written, behind what was there.
+-- The texts of the scalars in the pieces in which they are written, after what was there.
 use Rattle.std.proofs.Common.{◌≡◌, ℕ, ◌<◌, ℤ, List, [], ◌∷◌, ◌++◌, sym, ap, ◌∙◌, append_assoc, append-nil}
 use Rattle.std.specs.Prelude.{codes, decimal}
 use Rattle.std.specs.Fmt.{signed_decimal}
 use Rattle.std.specs.Int.Signed.{mag}
 use Rattle.std.proofs.Common.{◌^◌}
 use Rattle.bd_value.specs.Tree.{Fields, doc, code_scope, int32, int64, symbol, binary, object_id, date, timestamp, regex, db_pointer, code}
-use Rattle.bd_extjson.specs.Text.{escaped, quoted, object, member, wrapped, base64_text, hex_text, scalar_text, text, escape_byte}
+use Rattle.bd_extjson.specs.Text.{escaped, quoted, object, member, wrapper_text, base64_text, hex_text, scalar_text, text, escape_byte}
 use Rattle.bd_extjson.proofs.Escapes.{escaped-signed_decimal}
 use Rattle.hex.specs.Hex.{IsBytes}
 use Rattle.bd_extjson.proofs.Symbols.{escaped-base64_text, escaped-hex_text}
@@ -32,10 +32,10 @@ first name rest = 123 ∷ (quoted name ++ 58 ∷ rest)
 abbrev next : List ℕ → List ℕ → List ℕ
 next name rest = 44 ∷ (quoted name ++ 58 ∷ rest)
 
-wrapped-tail : (n v end : List ℕ) → wrapped n v ++ end ≡ first n (v ++ 125 ∷ end)
+wrapped-tail : (n v end : List ℕ) → wrapper_text n v ++ end ≡ first n (v ++ 125 ∷ end)
 wrapped-tail n v end = ap (λ (l : List ℕ). 123 ∷ l) (append_assoc (quoted n ++ 58 ∷ v) (125 ∷ []) end ∙ append_assoc (quoted n) (58 ∷ v) (125 ∷ end))
 
-wrapped-is : (n v : List ℕ) → wrapped n v ≡ first n (v ++ 125 ∷ [])
+wrapped-is : (n v : List ℕ) → wrapper_text n v ≡ first n (v ++ 125 ∷ [])
 wrapped-is n v = ap (λ (l : List ℕ). 123 ∷ l) (append_assoc (quoted n) (58 ∷ v) (125 ∷ []))
 
 two-tail : (a x b y end : List ℕ) → object (member a x ∷ member b y ∷ []) ++ end ≡ first a (x ++ next b (y ++ 125 ∷ end))
@@ -45,14 +45,14 @@ two-tail a x b y end =
     ∙ append_assoc (quoted a) (58 ∷ x) (44 ∷ (member b y ++ 125 ∷ end))
     ∙ ap (λ (l : List ℕ). quoted a ++ 58 ∷ (x ++ 44 ∷ l)) (append_assoc (quoted b) (58 ∷ y) (125 ∷ end)))
 
-wrapped_quoted : (n d : List ℕ) → escaped d ≡ d → wrapped n (quoted d) ≡ first n (34 ∷ (d ++ 34 ∷ 125 ∷ []))
+wrapped_quoted : (n d : List ℕ) → escaped d ≡ d → wrapper_text n (quoted d) ≡ first n (34 ∷ (d ++ 34 ∷ 125 ∷ []))
 wrapped_quoted n d e = wrapped-is n (quoted d) ∙ ap (first n) (quoted-tail d (125 ∷ []) e)
 
-wrapped_twice : (n m d : List ℕ) → escaped d ≡ d → wrapped n (wrapped m (quoted d)) ≡ first n (first m (34 ∷ (d ++ 34 ∷ 125 ∷ 125 ∷ [])))
+wrapped_twice : (n m d : List ℕ) → escaped d ≡ d → wrapper_text n (wrapper_text m (quoted d)) ≡ first n (first m (34 ∷ (d ++ 34 ∷ 125 ∷ 125 ∷ [])))
 wrapped_twice n m d e =
-    wrapped-is n (wrapped m (quoted d)) ∙ ap (first n) (wrapped-tail m (quoted d) (125 ∷ []) ∙ ap (first m) (quoted-tail d (125 ∷ 125 ∷ []) e))
+    wrapped-is n (wrapper_text m (quoted d)) ∙ ap (first n) (wrapped-tail m (quoted d) (125 ∷ []) ∙ ap (first m) (quoted-tail d (125 ∷ 125 ∷ []) e))
 
-wrapped_two : (n a x b y : List ℕ) → wrapped n (object (member a x ∷ member b y ∷ [])) ≡ first n (first a (x ++ next b (y ++ 125 ∷ 125 ∷ [])))
+wrapped_two : (n a x b y : List ℕ) → wrapper_text n (object (member a x ∷ member b y ∷ [])) ≡ first n (first a (x ++ next b (y ++ 125 ∷ 125 ∷ [])))
 wrapped_two n a x b y = wrapped-is n (object (member a x ∷ member b y ∷ [])) ∙ ap (first n) (two-tail a x b y (125 ∷ []))
 
 two-is : (a x b y : List ℕ) → object (member a x ∷ member b y ∷ []) ≡ first a (x ++ next b (y ++ 125 ∷ []))
@@ -125,7 +125,7 @@ written-db_pointer old s id fits =
     let digits = hex_text id in
     let inner = wrapped-tail (codes "$oid") (quoted digits) (125 ∷ 125 ∷ []) ∙ ap (first (codes "$oid")) (quoted-tail digits (125 ∷ 125 ∷ 125 ∷ []) (escaped-hex_text id fits)) in
     pointer old (codes "{\"$dbPointer\":{\"$ref\":") (quoted s) (codes ",\"$id\":{\"$oid\":\"") digits (codes "\"}}}")
-    ∙ behind old (wrapped_two (codes "$dbPointer") (codes "$ref") (quoted s) (codes "$id") (wrapped (codes "$oid") (quoted digits))
+    ∙ behind old (wrapped_two (codes "$dbPointer") (codes "$ref") (quoted s) (codes "$id") (wrapper_text (codes "$oid") (quoted digits))
     ∙ ap (λ (l : List ℕ). first (codes "$dbPointer") (first (codes "$ref") (quoted s ++ next (codes "$id") l))) inner)
 
 pub written-code_scope : (old s : List ℕ) (fs : Fields)

@@ -1,5 +1,4 @@
 pub mod Plain
-pub mod Readable
 pub mod Reads
 pub mod Text
 pub mod Wrap

@@ -19,5 +19,5 @@ document (code_scope s fs) = None
 abbrev pub reading : List ℕ → Option Doc
 reading text = option_map pairs_of (option_and_then document (option_and_then (wrap 200) (json text)))
 
-abbrev pub Reads : List ℕ → Doc → Type 0
-Reads text d = reading text ≡ Some d
+abbrev pub ReadsAs : List ℕ → Doc → Type 0
+ReadsAs text d = reading text ≡ Some d

@@ -47,8 +47,8 @@ abbrev pub member : List ℕ → List ℕ → List ℕ
 member name value = quoted name ++ 58 ∷ value
 
 -- an object of one member
-abbrev pub wrapped : List ℕ → List ℕ → List ℕ
-wrapped name value = object (member name value ∷ [])
+abbrev pub wrapper_text : List ℕ → List ℕ → List ℕ
+wrapper_text name value = object (member name value ∷ [])
 
 -- RFC 4648, section 4, with padding
 unfoldable pub base64_text : List ℕ → List ℕ
@@ -60,32 +60,32 @@ hex_text bytes = encode_lower bytes
 
 -- Extended JSON v2, conversion table, column "Canonical Extended JSON".
 abbrev pub long_text : ℤ → List ℕ
-long_text z = wrapped (codes "$numberLong") (quoted (signed_decimal z))
+long_text z = wrapper_text (codes "$numberLong") (quoted (signed_decimal z))
 
 abbrev pub id_text : List ℕ → List ℕ
-id_text id = wrapped (codes "$oid") (quoted (hex_text id))
+id_text id = wrapper_text (codes "$oid") (quoted (hex_text id))
 
 unfoldable pub scalar_text : Scalar → List ℕ
-scalar_text min_key = wrapped (codes "$minKey") (codes "1")
-scalar_text undefined = wrapped (codes "$undefined") (codes "true")
+scalar_text min_key = wrapper_text (codes "$minKey") (codes "1")
+scalar_text undefined = wrapper_text (codes "$undefined") (codes "true")
 scalar_text null = codes "null"
-scalar_text (int32 z) = wrapped (codes "$numberInt") (quoted (signed_decimal z))
+scalar_text (int32 z) = wrapper_text (codes "$numberInt") (quoted (signed_decimal z))
 scalar_text (int64 z) = long_text z
 scalar_text (string s) = quoted s
-scalar_text (symbol s) = wrapped (codes "$symbol") (quoted s)
+scalar_text (symbol s) = wrapper_text (codes "$symbol") (quoted s)
 scalar_text (binary subtype bytes) =
-    wrapped (codes "$binary") (object (member (codes "base64") (quoted (base64_text bytes)) ∷ member (codes "subType") (quoted (hex_text (subtype ∷ []))) ∷ []))
+    wrapper_text (codes "$binary") (object (member (codes "base64") (quoted (base64_text bytes)) ∷ member (codes "subType") (quoted (hex_text (subtype ∷ []))) ∷ []))
 scalar_text (object_id id) = id_text id
 scalar_text (boolean b) = if b then codes "true" else codes "false"
-scalar_text (date z) = wrapped (codes "$date") (long_text z)
+scalar_text (date z) = wrapper_text (codes "$date") (long_text z)
 scalar_text (timestamp seconds increment) =
-    wrapped (codes "$timestamp") (object (member (codes "t") (decimal seconds) ∷ member (codes "i") (decimal increment) ∷ []))
+    wrapper_text (codes "$timestamp") (object (member (codes "t") (decimal seconds) ∷ member (codes "i") (decimal increment) ∷ []))
 scalar_text (regex pattern options) =
-    wrapped (codes "$regularExpression") (object (member (codes "pattern") (quoted pattern) ∷ member (codes "options") (quoted options) ∷ []))
+    wrapper_text (codes "$regularExpression") (object (member (codes "pattern") (quoted pattern) ∷ member (codes "options") (quoted options) ∷ []))
 scalar_text (db_pointer space id) =
-    wrapped (codes "$dbPointer") (object (member (codes "$ref") (quoted space) ∷ member (codes "$id") (id_text id) ∷ []))
-scalar_text (code s) = wrapped (codes "$code") (quoted s)
-scalar_text max_key = wrapped (codes "$maxKey") (codes "1")
+    wrapper_text (codes "$dbPointer") (object (member (codes "$ref") (quoted space) ∷ member (codes "$id") (id_text id) ∷ []))
+scalar_text (code s) = wrapper_text (codes "$code") (quoted s)
+scalar_text max_key = wrapper_text (codes "$maxKey") (codes "1")
 
 -- The same for the values that hold values: each of these by its own text, in the stored order.
 abbrev mutual
@@ -93,7 +93,8 @@ abbrev mutual
   text (leaf s) = scalar_text s
   text (doc fs) = object (fields_text fs)
   text (array ts) = listed (items_text ts)
-  text (code_scope s fs) = object (member (codes "$code") (quoted s) ∷ member (codes "$scope") (object (fields_text fs)) ∷ [])
+  text (code_scope s fs) =
+      object (member (codes "$code") (quoted s) ∷ member (codes "$scope") (object (fields_text fs)) ∷ [])
 
   pub items_text : Items → List (List ℕ)
   items_text no_items = []

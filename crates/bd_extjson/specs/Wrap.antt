@@ -31,11 +31,11 @@ add_field name None r = None
 add_field name (Some t) None = None
 add_field name (Some t) (Some fs) = if has_zero name then None else Some (field name t fs)
 
--- what stands behind the first member: a member's wrapper, its JSON value and the value that it stands for
-pub data Behind : Type 0 where
-  nothing : Behind
-  one_more : Option Wrapper → Json → Option Tree → Behind
-  several : Behind
+-- what stands after the first member: a member's wrapper, its JSON value and the value that it stands for
+pub data AfterName : Type 0 where
+  nothing : AfterName
+  one_more : Option Wrapper → Json → Option Tree → AfterName
+  several : AfterName
 
 -- code with scope, of the code's text and the scope's value
 abbrev pub with_scope : Option (List ℕ) → Option Tree → Option Tree
@@ -52,18 +52,18 @@ two kinds.Code j t kinds.Scope i u = with_scope (as_str j) u
 two kinds.Scope j t kinds.Code i u = with_scope (as_str i) t
 two _ j t _ i u = None
 
-abbrev pub wrapped : ℕ → Wrapper → Json → Option Tree → Behind → Option Tree
-wrapped room w j t nothing = option_map leaf (single w j)
-wrapped room w j t (one_more None i u) = None
-wrapped room w j t (one_more (Some v) i u) = nested room (two w j t v i u)
-wrapped room w j t several = None
+abbrev pub wrapper_tree : ℕ → Wrapper → Json → Option Tree → AfterName → Option Tree
+wrapper_tree room w j t nothing = option_map leaf (single w j)
+wrapper_tree room w j t (one_more None i u) = None
+wrapper_tree room w j t (one_more (Some v) i u) = nested room (two w j t v i u)
+wrapper_tree room w j t several = None
 
 -- the wrapper's value where the first name is one's, and else the document's
-abbrev pub either : ℕ → Option Wrapper → Json → Option Tree → Behind → Option Tree → Option Tree
+abbrev pub either : ℕ → Option Wrapper → Json → Option Tree → AfterName → Option Tree → Option Tree
 either room None j t b d = d
-either room (Some w) j t b d = wrapped room w j t b
+either room (Some w) j t b d = wrapper_tree room w j t b
 
-abbrev pub behind_one : Option Wrapper → Json → Option Tree → json.Members → Behind
+abbrev pub behind_one : Option Wrapper → Json → Option Tree → json.Members → AfterName
 behind_one w i u json.no_members = one_more w i u
 behind_one w i u (json.member name j ms) = several
 
@@ -86,7 +86,7 @@ abbrev mutual
       either room (wrapper_of name) j (wrap (room - 1) j) (behind (room - 1) ms) (nested room (option_map doc (add_field name (wrap (room - 1) j) (wrap_fields (room - 1) ms))))
 
   -- for a wrapper's second member
-  pub behind : ℕ → json.Members → Behind
+  pub behind : ℕ → json.Members → AfterName
   behind room json.no_members = nothing
   behind room (json.member name i ms) = behind_one (wrapper_of name) i (wrap room i) ms
 

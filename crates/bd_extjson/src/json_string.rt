@@ -61,7 +61,7 @@ fn hex_digit(n: u8) -> u8
 }
 
 /// Appends the escape of a byte that needs one.
-#[tactic(auto, using(crate::proofs::Fronts::fronts), unfolding(crate::specs::Text::escape_byte))]
+#[tactic(auto, using(bd_value::proofs::Fronts::fronts), unfolding(crate::specs::Text::escape_byte))]
 fn write_escape(b: u8, out: &mut Vec<u8>) -> Result<(), NoMemory>
     requires { IsTrue (needs_escape b) }
     ensures ok { OnOk result (out.new.items ≡ out.old.items ++ escape_byte b) }
@@ -86,7 +86,7 @@ fn write_escape(b: u8, out: &mut Vec<u8>) -> Result<(), NoMemory>
 }
 
 /// Appends what stands between the quotation marks of a string: the runs between escapes as they are.
-#[tactic(auto, using(crate::proofs::Fronts::fronts))]
+#[tactic(auto, using(bd_value::proofs::Fronts::fronts))]
 #[inline(always)]
 fn write_escaped(text: &[u8], out: &mut Vec<u8>) -> Result<(), NoMemory>
     ensures ok { OnOk result (out.new.items ≡ out.old.items ++ escaped text.now) }
@@ -103,10 +103,23 @@ fn write_escaped(text: &[u8], out: &mut Vec<u8>) -> Result<(), NoMemory>
 
 /// Appends a string with its quotation marks: RFC 8259, section 7.
 ///
-/// `NoMemory`: `out` begins with what it held.
-#[tactic(auto, using(crate::proofs::Fronts::fronts), unfolding(crate::specs::Text::quoted))]
-#[inline(always)]
+/// `NoMemory` leaves `out` as it was.
 pub fn write_string(text: &str, out: &mut Vec<u8>) -> Result<(), NoMemory>
+    ensures ok { OnOk result (out.new.items ≡ out.old.items ++ quoted text.now) }
+    ensures err { OnErr result (out.new.items ≡ out.old.items) }
+{
+    let before = out.len();
+    let answer = append_string(text, out);
+    if answer.is_err() {
+        out.truncate(before);
+    }
+    answer
+}
+
+/// `write_string`, for a caller that takes back itself what an error leaves.
+#[tactic(auto, using(bd_value::proofs::Fronts::fronts), unfolding(crate::specs::Text::quoted))]
+#[inline(always)]
+pub(crate) fn append_string(text: &str, out: &mut Vec<u8>) -> Result<(), NoMemory>
     ensures ok { OnOk result (out.new.items ≡ out.old.items ++ quoted text.now) }
     ensures err { OnErr result (StartsWith out.new.items out.old.items) }
 {
@@ -116,9 +129,9 @@ pub fn write_string(text: &str, out: &mut Vec<u8>) -> Result<(), NoMemory>
     Ok(())
 }
 
-/// Appends what stands before a piece: the separator, behind an earlier piece.
-#[tactic(auto, using(crate::proofs::Fronts::fronts))]
-pub fn write_separator(later: bool, separator: u8, out: &mut Vec<u8>) -> Result<(), NoMemory>
+/// Appends what stands before a piece: the separator, after an earlier piece.
+#[tactic(auto, using(bd_value::proofs::Fronts::fronts))]
+pub(crate) fn write_separator(later: bool, separator: u8, out: &mut Vec<u8>) -> Result<(), NoMemory>
     ensures ok { OnOk result (out.new.items ≡ out.old.items ++ (if later then separator ∷ [] else [])) }
     ensures err { OnErr result (StartsWith out.new.items out.old.items) }
 {
@@ -130,9 +143,22 @@ pub fn write_separator(later: bool, separator: u8, out: &mut Vec<u8>) -> Result<
 
 /// Appends the names of a path, joined by dots, as one string.
 ///
-/// `NoMemory`: `out` begins with what it held.
-#[tactic(auto, using(crate::proofs::Fronts::fronts), unfolding(crate::specs::Text::quoted))]
+/// `NoMemory` leaves `out` as it was.
 pub fn write_path(path: &[String], out: &mut Vec<u8>) -> Result<(), NoMemory>
+    ensures ok { OnOk result (out.new.items ≡ out.old.items ++ quoted (join_with_byte 46 (map string_bytes path.now))) }
+    ensures err { OnErr result (out.new.items ≡ out.old.items) }
+{
+    let before = out.len();
+    let answer = append_path(path, out);
+    if answer.is_err() {
+        out.truncate(before);
+    }
+    answer
+}
+
+/// The same, but at an error a part may stand.
+#[tactic(auto, using(bd_value::proofs::Fronts::fronts), unfolding(crate::specs::Text::quoted))]
+fn append_path(path: &[String], out: &mut Vec<u8>) -> Result<(), NoMemory>
     ensures ok { OnOk result (out.new.items ≡ out.old.items ++ quoted (join_with_byte 46 (map string_bytes path.now))) }
     ensures err { OnErr result (StartsWith out.new.items out.old.items) }
 {

@@ -1,22 +1,50 @@
 //! What the texts determine, and that they are read back.
-ghost use Rattle.std.specs.Prelude.{◌≡◌, ◌≤◌, false};
+ghost use Rattle.std.specs.Prelude.{◌≡◌, ◌≤◌, ℕ, List, false};
 ghost use Rattle.bd_value.specs.Depth.{depth};
+ghost use Rattle.bd_value.specs.Fits.{FitsTypes, HasUtf8};
 ghost use Rattle.bd_value.specs.Tree.{Doc, doc, fields_of};
+ghost use Rattle.bd_value.specs.View.{pairs};
 ghost use Rattle.bd_value.specs.Zeros.{zero_in};
-ghost use Rattle.bd_extjson.specs.Plain.{Fits, IsPlain};
-ghost use Rattle.bd_extjson.specs.Readable.{HasUtf8};
-ghost use Rattle.bd_extjson.specs.Reads.{Reads};
+ghost use Rattle.bd_extjson.specs.Plain.{IsPlain};
+ghost use Rattle.bd_extjson.specs.Reads.{ReadsAs};
 ghost use Rattle.bd_extjson.specs.Text.{text};
+
+use bd_value::{Document, document_fits};
 
 /// What is printed determines the document, for plain documents: those in which no document has the name of a wrapper
 /// first. Without that, `{"a":{"$numberInt":"1"}}` is the text of a nested document and of an Int32.
 pub fn text_determines_document()
-    ensures { (c d : Doc) → Fits (doc (fields_of c)) → Fits (doc (fields_of d)) → IsPlain (doc (fields_of c)) → IsPlain (doc (fields_of d)) → text (doc (fields_of c)) ≡ text (doc (fields_of d)) → c ≡ d }
+    ensures { (c d : Doc) → FitsTypes (doc (fields_of c)) → FitsTypes (doc (fields_of d))
+        → IsPlain (doc (fields_of c)) → IsPlain (doc (fields_of d))
+        → text (doc (fields_of c)) ≡ text (doc (fields_of d)) → c ≡ d }
 {}
 
 /// What is printed of a plain document is read back as that document, whatever kinds of values it holds: where its numbers
 /// have the bits of their types, its texts and names are UTF-8, no name and no part of a regular expression holds U+0000,
 /// and it is at most 200 deep.
 pub fn reads_back()
-    ensures { (d : Doc) → Fits (doc (fields_of d)) → HasUtf8 (doc (fields_of d)) → IsPlain (doc (fields_of d)) → zero_in (doc (fields_of d)) ≡ false → depth (doc (fields_of d)) ≤ 200 → Reads (text (doc (fields_of d))) d }
+    ensures { (d : Doc) → FitsTypes (doc (fields_of d)) → HasUtf8 (doc (fields_of d)) → IsPlain (doc (fields_of d))
+        → zero_in (doc (fields_of d)) ≡ false → depth (doc (fields_of d)) ≤ 200 → ReadsAs (text (doc (fields_of d))) d }
+{}
+
+/// The same of a document in memory, whose numbers, texts and names are as that law wants them, since it exists.
+///
+/// ```
+/// document_reads_back(&document);
+/// write_doc(&document, &mut text)?;
+/// // A proof now knows that `read_doc(alloc, text.as_bytes())` has no other answer than `document`, or no memory.
+/// ```
+#[tactic(auto, using(crate::proofs::ReadBack::document_back))]
+pub fn document_reads_back(document: &Document)
+    ensures { IsPlain (doc (fields_of (pairs document.now))) → zero_in (doc (fields_of (pairs document.now))) ≡ false
+        → depth (doc (fields_of (pairs document.now))) ≤ 200
+        → ReadsAs (text (doc (fields_of (pairs document.now)))) (pairs document.now) }
+{
+    document_fits(document);
+}
+
+/// A document that is read from a text fits too: its numbers have the bits of their types, and its texts and names are UTF-8.
+pub fn reads_what_fits()
+    ensures types { (text : List ℕ) (d : Doc) → ReadsAs text d → FitsTypes (doc (fields_of d)) }
+    ensures texts { (text : List ℕ) (d : Doc) → ReadsAs text d → HasUtf8 (doc (fields_of d)) }
 {}

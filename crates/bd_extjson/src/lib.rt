@@ -1,6 +1,10 @@
 //! BSON values and documents as Extended JSON v2, canonical form: written without white space, and read.
 //!
 //! The text of each value is a function of its tree: `specs/Text.antt`. Which document a text is: `specs/Reads.antt`.
+//!
+//! - `text`: `write_node`, over `scalar`, a row of the conversion table each, `json_string`, `number` and `encoded`.
+//! - `read`: `read_doc`, over `reading`, one pass over the tokens of a text.
+//! - `laws`: what joins the two.
 #![tactic(auto)]
 
 mod encoded;
@@ -16,7 +20,7 @@ pub use bd_diagnose::{BRACKETS, JsonFault, JsonFaultKind, LEVELS};
 pub use bd_wrapper::{Trouble, Wrapper};
 pub use json::Scratch;
 pub use json_string::{write_path, write_string};
-pub use laws::{reads_back, text_determines_document};
+pub use laws::{document_reads_back, reads_back, reads_what_fits, text_determines_document};
 pub use number::{write_number, write_number32};
 pub use read::{read_doc, read_doc_with};
 pub use reading::{bare_number, read_wrapper, wrapper_named};

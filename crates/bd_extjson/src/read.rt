@@ -1,9 +1,10 @@
 //! The document that a text is.
-ghost use Rattle.std.specs.Prelude.{◌≡◌, ◌≢◌, ◌≤◌, IfOk, IfErr, length, option_and_then};
+ghost use Rattle.std.specs.Prelude.{◌≡◌, ◌≢◌, IfOk, IfErr, length, option_and_then};
 ghost use Rattle.bd_value.specs.Tree.{Doc};
 ghost use Rattle.bd_value.specs.View.{tree_of, pairs};
-ghost use Rattle.bd_wrapper.specs.Progress.{Tells};
-ghost use Rattle.bd_extjson.specs.Reads.{Reads, json, reading};
+ghost use Rattle.bd_wrapper.specs.Progress.{GivesValue};
+ghost use Rattle.bd_diagnose.specs.JsonFault.{IsPlaced};
+ghost use Rattle.bd_extjson.specs.Reads.{ReadsAs, json, reading};
 ghost use Rattle.bd_extjson.specs.Wrap.{wrap};
 ghost use Rattle.bd_diagnose.specs.declared.json_fault.JsonFaultKind.TheVariants as kinds;
 
@@ -15,7 +16,7 @@ use json::{Reader, Scratch};
 use std::alloc::Global;
 
 fn read_text(alloc: Global, text: &str, scratch: &mut Scratch) -> Result<Value, Trouble>
-    ensures { Tells tree_of result (option_and_then (wrap 200) (json text.now)) }
+    ensures { GivesValue tree_of result (option_and_then (wrap 200) (json text.now)) }
 {
     let mut reader = Reader::new(text, scratch)?;
     let value = read_value(alloc, &mut reader, LEVELS, BRACKETS)?;
@@ -26,7 +27,7 @@ fn read_text(alloc: Global, text: &str, scratch: &mut Scratch) -> Result<Value, 
 }
 
 fn read_bytes(alloc: Global, text: &[u8], scratch: &mut Scratch) -> Result<Document, Trouble>
-    ensures { Tells pairs result (reading text.now) }
+    ensures { GivesValue pairs result (reading text.now) }
 {
     let text = match simdutf8::compat::from_utf8(text) {
         Ok(text) => text,
@@ -44,10 +45,10 @@ fn read_bytes(alloc: Global, text: &[u8], scratch: &mut Scratch) -> Result<Docum
 /// left to right. `NoMemory` where the allocator gives no memory.
 pub fn read_doc(alloc: Global, text: &[u8]) -> Result<Document, JsonFault>
     // What is read is what the text is.
-    ensures found { IfOk result (λ d. Reads text.now (pairs d)) }
+    ensures found { IfOk result (λ d. ReadsAs text.now (pairs d)) }
     // A text that is a document is read, unless memory runs out.
-    ensures none { IfErr result (λ f. f.kind ≢ kinds.NoMemory → (d : Doc) → Reads text.now d → ⊥) }
-    ensures place { IfErr result (λ f. f.at ≤ length text.now) }
+    ensures none { IfErr result (λ f. f.kind ≢ kinds.NoMemory → (d : Doc) → ReadsAs text.now d → ⊥) }
+    ensures place { IfErr result (IsPlaced (length text.now)) }
 {
     let mut scratch = Scratch::new(alloc);
     read_doc_with(alloc, text, &mut scratch)
@@ -59,9 +60,9 @@ pub fn read_doc_with(
     text: &[u8],
     scratch: &mut Scratch,
 ) -> Result<Document, JsonFault>
-    ensures found { IfOk result (λ d. Reads text.now (pairs d)) }
-    ensures none { IfErr result (λ f. f.kind ≢ kinds.NoMemory → (d : Doc) → Reads text.now d → ⊥) }
-    ensures place { IfErr result (λ f. f.at ≤ length text.now) }
+    ensures found { IfOk result (λ d. ReadsAs text.now (pairs d)) }
+    ensures none { IfErr result (λ f. f.kind ≢ kinds.NoMemory → (d : Doc) → ReadsAs text.now d → ⊥) }
+    ensures place { IfErr result (IsPlaced (length text.now)) }
 {
     match read_bytes(alloc, text, scratch) {
         Ok(document) => Ok(document),

@@ -5,10 +5,10 @@ ghost use Rattle.json.specs.Value.{value_view};
 ghost use Rattle.json.specs.Find.{as_str};
 ghost use Rattle.bd_value.specs.Tree.{Tree, pairs_of, fields_of, items_of};
 ghost use Rattle.bd_value.specs.View.{tree_of, pairs};
-ghost use Rattle.bd_extjson.specs.Wrap.{bare_number, with_scope, wrapped, wrap, wrap_items, wrap_object, wrap_fields, behind};
+ghost use Rattle.bd_extjson.specs.Wrap.{bare_number, with_scope, wrapper_tree, wrap, wrap_items, wrap_object, wrap_fields, behind};
 ghost use Rattle.bd_wrapper.specs.Wrappers.{wrapper_of};
 ghost use Rattle.bd_wrapper.specs.Whole.{whole_64};
-ghost use Rattle.bd_wrapper.specs.Progress.{through, after_key, closing, Fails, Gives, Tells};
+ghost use Rattle.bd_wrapper.specs.Progress.{through, after_key, closing, FailsAtTokens, GivesTokens, GivesValue};
 ghost use Rattle.bd_extjson.specs.Reads.{document};
 ghost use Rattle.bd_wrapper.specs.declared.wrapper.Wrapper.TheVariants as kinds;
 
@@ -55,9 +55,9 @@ pub(crate) fn document_of(value: Value) -> Option<Document>
     }
 }
 
-/// Code with scope, of the JSON that stands behind `$code` and the value that stands behind `$scope`.
+/// Code with scope, of the JSON that stands after `$code` and the value that stands after `$scope`.
 fn code_with_scope(alloc: Global, code: &json::Value<'_>, scope: Value) -> Result<Value, Trouble>
-    ensures { Tells tree_of result (with_scope (as_str (value_view code.now)) (Some (tree_of scope))) }
+    ensures { GivesValue tree_of result (with_scope (as_str (value_view code.now)) (Some (tree_of scope))) }
 {
     let text = code.as_str().ok_or(Trouble::Refused)?;
     let scope = document_of(scope).ok_or(Trouble::Refused)?;
@@ -70,7 +70,7 @@ fn read_part<'a>(
     reader: &mut Reader<'a>,
     depth: usize,
 ) -> Result<json::Value<'a>, Trouble>
-    ensures gives { Gives value_view result reader.new (value depth reader.old) }
+    ensures gives { GivesTokens value_view result reader.new (value depth reader.old) }
     ensures shorter { OnOk result (length reader.new < length reader.old) }
 {
     match json::Value::read(alloc, reader, depth) {
@@ -82,7 +82,7 @@ fn read_part<'a>(
 
 /// The brace that ends an object.
 fn end_object(reader: &mut Reader<'_>) -> Result<(), Trouble>
-    ensures gives { Gives (λ u. u) result reader.new (closing reader.old) }
+    ensures gives { GivesTokens (λ u. u) result reader.new (closing reader.old) }
     ensures shorter { OnOk result (length reader.new < length reader.old) }
 {
     match reader.next_key()? {
@@ -99,7 +99,7 @@ pub(crate) fn read_value(
     room: usize,
     depth: usize,
 ) -> Result<Value, Trouble>
-    ensures gives { Gives tree_of result reader.new (through (wrap room) (value depth reader.old)) }
+    ensures gives { GivesTokens tree_of result reader.new (through (wrap room) (value depth reader.old)) }
     ensures shorter { OnOk result (length reader.new < length reader.old) }
 {
     let token = reader.next().ok_or(Trouble::Refused)?;
@@ -134,7 +134,7 @@ fn read_items(
     room: usize,
     depth: usize,
 ) -> Result<Vec<Value>, Trouble>
-    ensures gives { Gives (λ v. items_of (map tree_of v.items)) result reader.new
+    ensures gives { GivesTokens (λ v. items_of (map tree_of v.items)) result reader.new
         (through (wrap_items room) (items (value depth) (length reader.old) reader.old)) }
     ensures shorter { OnOk result (length reader.new < length reader.old) }
 {
@@ -164,7 +164,7 @@ fn read_object(
     room: usize,
     depth: usize,
 ) -> Result<Value, Trouble>
-    ensures gives { Gives tree_of result reader.new
+    ensures gives { GivesTokens tree_of result reader.new
         (through (wrap_object room) (members (value depth) (length reader.old) reader.old)) }
     ensures shorter { OnOk result (length reader.new < length reader.old) }
 {
@@ -187,7 +187,7 @@ fn read_fields<'a>(
     room: usize,
     depth: usize,
 ) -> Result<Document, Trouble>
-    ensures gives { Gives (λ d. fields_of (pairs d)) result reader.new
+    ensures gives { GivesTokens (λ d. fields_of (pairs d)) result reader.new
         (through (wrap_fields room) (after_key depth (length reader.old) (option_map (λ s. s.now) first.entry) reader.old)) }
     ensures shorter { OnOk result (length reader.new ≤ length reader.old) }
 {
@@ -217,7 +217,7 @@ pub fn read_wrapper(
     room: usize,
     depth: usize,
 ) -> Result<Value, Trouble>
-    ensures gives { (name : List ℕ) → wrapper_of name ≡ Some wrapper → Gives tree_of result reader.new
+    ensures gives { (name : List ℕ) → wrapper_of name ≡ Some wrapper → GivesTokens tree_of result reader.new
         (through (wrap_object room) (after_key depth (length reader.old) (Some name) reader.old)) }
     ensures shorter { OnOk result (length reader.new < length reader.old) }
 {
@@ -244,8 +244,8 @@ fn read_scope_second(
     room: usize,
     depth: usize,
 ) -> Result<Value, Trouble>
-    ensures gives { (n : ℕ) (t : Option Tree) → length reader.old ≤ n → Gives tree_of result reader.new
-        (through (λ ms. wrapped room kinds.Code (value_view code.now) t (behind (room - 1) ms)) (after_key depth n (Some second.now) reader.old)) }
+    ensures gives { (n : ℕ) (t : Option Tree) → length reader.old ≤ n → GivesTokens tree_of result reader.new
+        (through (λ ms. wrapper_tree room kinds.Code (value_view code.now) t (behind (room - 1) ms)) (after_key depth n (Some second.now) reader.old)) }
     ensures shorter { OnOk result (length reader.new < length reader.old) }
 {
     if room == 0 {
@@ -267,7 +267,7 @@ fn read_scope_first(
     room: usize,
     depth: usize,
 ) -> Result<Value, Trouble>
-    ensures gives { (name : List ℕ) → wrapper_of name ≡ Some kinds.Scope → Gives tree_of result reader.new
+    ensures gives { (name : List ℕ) → wrapper_of name ≡ Some kinds.Scope → GivesTokens tree_of result reader.new
         (through (wrap_object room) (after_key depth (length reader.old) (Some name) reader.old)) }
     ensures shorter { OnOk result (length reader.new < length reader.old) }
 {
@@ -285,8 +285,8 @@ fn read_code_second(
     scope: Value,
     depth: usize,
 ) -> Result<Value, Trouble>
-    ensures gives { (n room : ℕ) (j : Json) → length reader.old ≤ n → 0 < room → Gives tree_of result reader.new
-        (through (λ ms. wrapped room kinds.Scope j (Some (tree_of scope)) (behind (room - 1) ms)) (members (value depth) n reader.old)) }
+    ensures gives { (n room : ℕ) (j : Json) → length reader.old ≤ n → 0 < room → GivesTokens tree_of result reader.new
+        (through (λ ms. wrapper_tree room kinds.Scope j (Some (tree_of scope)) (behind (room - 1) ms)) (members (value depth) n reader.old)) }
     ensures shorter { OnOk result (length reader.new < length reader.old) }
 {
     match read_code(alloc, reader, depth) {
@@ -302,10 +302,10 @@ fn read_code<'a>(
     depth: usize,
 ) -> Result<json::Value<'a>, Trouble>
     ensures code { IfOk result (λ code. (n room : ℕ) (j : Json) (u : Tree) → length reader.old ≤ n → 0 < room →
-        through (λ ms. wrapped room kinds.Scope j (Some u) (behind (room - 1) ms)) (members (value depth) n reader.old)
+        through (λ ms. wrapper_tree room kinds.Scope j (Some u) (behind (room - 1) ms)) (members (value depth) n reader.old)
         ≡ option_map (λ t. (t, reader.new)) (with_scope (as_str (value_view code)) (Some u))) }
     ensures none { IfErr result (λ e. (n room : ℕ) (j : Json) (t : Option Tree) → length reader.old ≤ n →
-        Fails e (through (λ ms. wrapped room kinds.Scope j t (behind (room - 1) ms)) (members (value depth) n reader.old))) }
+        FailsAtTokens e (through (λ ms. wrapper_tree room kinds.Scope j t (behind (room - 1) ms)) (members (value depth) n reader.old))) }
     ensures shorter { OnOk result (length reader.new < length reader.old) }
 {
     let Some(second) = reader.next_key()? else {

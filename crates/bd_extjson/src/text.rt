@@ -7,7 +7,7 @@ ghost use Rattle.bd_value.specs.Parts.{values_of, HoldsNoParts};
 ghost use Rattle.bd_value.specs.View.{tree_of, pairs};
 ghost use Rattle.bd_extjson.specs.Text.{text};
 
-use crate::json_string::{write_separator, write_string};
+use crate::json_string::{append_string, write_separator};
 use crate::scalar::{write_led, write_scalar};
 use bd_value::{Document, Kind, NoMemory, Reading, Scalar, Tree, Value};
 
@@ -47,7 +47,7 @@ pub fn write_doc(document: &Document, out: &mut Vec<u8>) -> Result<(), NoMemory>
 }
 
 #[cycle(text)]
-#[tactic(auto, using(crate::proofs::Fronts::fronts))]
+#[tactic(auto, using(bd_value::proofs::Fronts::fronts))]
 fn append_node<N: Reading>(node: N, out: &mut Vec<u8>) -> Result<(), NoMemory>
     ensures ok { OnOk result (out.new.items ≡ out.old.items ++ text (N.tree node)) }
     ensures err { OnErr result (StartsWith out.new.items out.old.items) }
@@ -61,7 +61,7 @@ fn append_node<N: Reading>(node: N, out: &mut Vec<u8>) -> Result<(), NoMemory>
 
 /// Appends the text of what is neither a document nor an array.
 #[cycle(text)]
-#[tactic(auto, using(crate::proofs::Fronts::fronts))]
+#[tactic(auto, using(bd_value::proofs::Fronts::fronts))]
 fn append_leaf<N: Reading>(node: N, out: &mut Vec<u8>) -> Result<(), NoMemory>
     requires { HoldsNoParts (N.tree node) }
     ensures ok { OnOk result (out.new.items ≡ out.old.items ++ text (N.tree node)) }
@@ -85,7 +85,7 @@ fn append_leaf<N: Reading>(node: N, out: &mut Vec<u8>) -> Result<(), NoMemory>
 
 /// Appends the text of the document of these pairs.
 #[cycle(text)]
-#[tactic(auto, using(crate::proofs::Fronts::fronts))]
+#[tactic(auto, using(bd_value::proofs::Fronts::fronts))]
 fn append_fields<N: Reading>(fields: N::Rest, out: &mut Vec<u8>) -> Result<(), NoMemory>
     ensures ok { OnOk result (out.new.items ≡ out.old.items ++ text (doc (fields_of (N.left fields)))) }
     ensures err { OnErr result (StartsWith out.new.items out.old.items) }
@@ -95,7 +95,7 @@ fn append_fields<N: Reading>(fields: N::Rest, out: &mut Vec<u8>) -> Result<(), N
     let mut rest = fields;
     while let Some((name, node, after)) = N::next(&rest) {
         write_separator(later, b',', out)?;
-        write_string(name, out)?;
+        append_string(name, out)?;
         out.push(b':')?;
         append_node(node, out)?;
         later = true;
@@ -107,7 +107,7 @@ fn append_fields<N: Reading>(fields: N::Rest, out: &mut Vec<u8>) -> Result<(), N
 
 /// Appends the text of the array of these elements.
 #[cycle(text)]
-#[tactic(auto, using(crate::proofs::Fronts::fronts))]
+#[tactic(auto, using(bd_value::proofs::Fronts::fronts))]
 fn append_items<N: Reading>(items: N::Rest, out: &mut Vec<u8>) -> Result<(), NoMemory>
     ensures ok { OnOk result (out.new.items ≡ out.old.items ++ text (array (items_of (values_of (N.left items))))) }
     ensures err { OnErr result (StartsWith out.new.items out.old.items) }

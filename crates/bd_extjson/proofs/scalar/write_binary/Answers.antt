@@ -1,6 +1,6 @@
 use Rattle.std.proofs.Common.{arith}
 use Rattle.std.specs.Io.{StartsWith}
-use Rattle.bd_extjson.proofs.Fronts.{front_all, front_more, front_then}
+use Rattle.bd_value.proofs.Fronts.{front_all, front_more, front_then}
 use Rattle.bd_extjson.proofs.Symbols.{one_byte}
 use Rattle.bd_extjson.proofs.Written.{written-binary}
 use Rattle.bd_extjson.proofs.scalar.write_binary.Goals as goal

@@ -6,7 +6,7 @@ use Rattle.bd_value.specs.Tree.{doc, fields_of, items_of}
 use Rattle.bd_value.specs.Parts.{values_of}
 use Rattle.bd_value.specs.Seen.{seen}
 use Rattle.bd_extjson.specs.Text.{text, fields_text, items_text}
-use Rattle.bd_extjson.proofs.Fronts.{fronts, front_all, front_more, front_then}
+use Rattle.bd_value.proofs.Fronts.{fronts, front_all, front_more, front_then}
 use Rattle.bd_extjson.proofs.Parts.{parts_smaller, rest_smaller, text_of-doc, text_of-array, text_of-scope}
 use Rattle.bd_extjson.proofs.Pieces.{to_come-all}
 use Rattle.bd_extjson.proofs.Steps.{field_step}
@@ -20,7 +20,7 @@ append_fields-loop-name-init g t c =
 pub append_fields-loop-name-preserved : goal.append_fields-loop-name-preserved
 append_fields-loop-name-preserved g t c =
     let separated = c.in_ok-write_separator.ensures.ok in
-    let named = c.in_ok-write_string.ensures.ok in
+    let named = c.in_ok-append_string.ensures.ok in
     let colon = c.in_ok-push-2.ensures.items in
     let written = c.in_ok-append_node.ensures.ok in
     let front = front_more _ _ _ _ (front_more _ _ _ _ (front_more _ _ _ _ (front_more _ _ _ _ c.loop-name.invariant.front separated) named) colon) written in
@@ -33,7 +33,7 @@ append_fields-loop-name-preserved g t c =
 
 pub append_fields-returns-in_err-append_node-clause-err : goal.append_fields-returns-in_err-append_node-clause-err
 append_fields-returns-in_err-append_node-clause-err g t c =
-    let named = front_more _ _ _ _ (front_more _ _ _ _ c.loop-name.invariant.front c.in_ok-write_separator.ensures.ok) c.in_ok-write_string.ensures.ok in
+    let named = front_more _ _ _ _ (front_more _ _ _ _ c.loop-name.invariant.front c.in_ok-write_separator.ensures.ok) c.in_ok-append_string.ensures.ok in
     let front : StartsWith c.append_node.new.out.items c.args.out.now.items = front_then _ _ _ (front_more _ _ _ _ named c.in_ok-push-2.ensures.items) c.in_err-append_node.ensures.err in
     grind (arith, front)
 
