@@ -1,4 +1,4 @@
--- Bytes of elements, one behind the other.
+-- Bytes of elements, one after the other.
 use Rattle.std.proofs.Common.{◌≡◌, ◌≤◌, ◌+◌, ℕ, suc, List, [], ◌∷◌, ◌++◌, length, take, drop, take_at, drop_at, refl, sym, ap, ap₂, ◌∙◌, arith, append_assoc, append-nil, length-append}
 use Rattle.std.proofs.Common.{Bool, false, true≢false, Option, Some, None, Result, Ok, Err, rules}
 use Rattle.std.specs.Option.{is_some}
@@ -14,7 +14,7 @@ use Rattle.bd_value.specs.declared.document.Value.TheFolds as folds
 use Rattle.bd_raw.specs.Scalars.{number_length}
 use Rattle.bd_raw.specs.Spelling.{number, framed, element}
 use Rattle.bd_write.specs.Written.{bytes_of, fields_bytes, items_bytes}
-use Rattle.bd_wrapper.specs.Progress.{Gives}
+use Rattle.bd_wrapper.specs.Progress.{GivesTokens}
 use Rattle.bd_wrapper.specs.declared.trouble.Trouble.{Trouble}
 use Rattle.bd_extjson.proofs.Turns.{items_before, fields_before}
 
@@ -39,7 +39,7 @@ one_more_item ts t =
     let here : 0 + length ts ≡ length ts = omega arith in
     more_items 0 ts t ∙ ap (λ n. items_bytes 0 (items_of ts) ++ element t (decimal n) (bytes_of t)) here
 
--- the bytes of elements behind the count of a body that was begun
+-- the bytes of elements after the count of a body that was begun
 pub one_more : (old body more out next : List ℕ) → out ≡ (old ++ number 0) ++ body → next ≡ out ++ more → next ≡ (old ++ number 0) ++ (body ++ more)
 one_more old body more out next is pushed = pushed ∙ ap (λ x. x ++ more) is ∙ append_assoc (old ++ number 0) body more
 
@@ -82,7 +82,7 @@ pub no_items_before : (r : Option (Items × List Token)) → r ≡ parse_map (it
 no_items_before None = refl
 no_items_before (Some p) = refl
 
--- a label and the value behind it
+-- a label and the value after it
 pub labelled : (old name value : List ℕ) (b : ℕ) → (old ++ (b ∷ (name ++ 0 ∷ []))) ++ value ≡ old ++ (b ∷ (name ++ 0 ∷ value))
 labelled old name value b = append_assoc old (b ∷ (name ++ 0 ∷ [])) value ∙ ap (λ x. old ++ (b ∷ x)) (append_assoc name (0 ∷ []) value)
 
@@ -96,7 +96,7 @@ pub if_ok : {A E : Type 0} (r : Result A E) (x : A) (P : A → Type 0) → Some 
 if_ok (Ok y) x P e p = let is : x ≡ y = cc in rw is p
 if_ok (Err f) x P e p = absurd cc
 
-pub gave : {X A : Type 0} (view : X → A) (r : Result X Trouble) (x : X) (rest : List Token) (read : Option (A × List Token)) → Some x ≡ result_ok r → Gives view r rest read → read ≡ Some (view x, rest)
+pub gave : {X A : Type 0} (view : X → A) (r : Result X Trouble) (x : X) (rest : List Token) (read : Option (A × List Token)) → Some x ≡ result_ok r → GivesTokens view r rest read → read ≡ Some (view x, rest)
 gave view (Ok y) x rest read e g = let is : x ≡ y = cc in g ∙ ap (λ z. Some (view z, rest)) (sym is)
 gave view (Err f) x rest read e g = absurd cc
 

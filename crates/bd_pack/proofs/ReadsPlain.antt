@@ -12,9 +12,9 @@ use Rattle.bd_value.specs.Depth.{depth, fields_depth, items_depth}
 use Rattle.bd_value.specs.Zeros.{has_zero, zero_in, zero_in_scalar, zero_in_fields, zero_in_items}
 use Rattle.bd_wrapper.specs.Whole.{fits_bits, whole_64, whole_32}
 use Rattle.bd_wrapper.specs.Wrappers.{wrapper_of, single, name_in, both, both_in, pair, id_of, data_in, subtype_in, word_in, only, long_in, one, is_true, if_no_zero, if_true}
-use Rattle.bd_extjson.specs.Wrap.{wrap, wrap_items, wrap_object, wrap_fields, behind, behind_one, Behind, nothing, one_more, several, bare_number, nested, add_item, add_field, with_scope, two, wrapped, either}
+use Rattle.bd_extjson.specs.Wrap.{wrap, wrap_items, wrap_object, wrap_fields, behind, behind_one, AfterName, nothing, one_more, several, bare_number, nested, add_item, add_field, with_scope, two, wrapper_tree, either}
 use Rattle.bd_wrapper.specs.Progress.{through}
-use Rattle.bd_extjson.specs.Reads.{Reads, document}
+use Rattle.bd_extjson.specs.Reads.{ReadsAs, document}
 use Rattle.bd_extjson.specs.Reads as reads
 use Rattle.bd_wrapper.specs.declared.wrapper.Wrapper.{Wrapper}
 use Rattle.bd_wrapper.specs.declared.wrapper.Wrapper.TheVariants as kinds
@@ -32,7 +32,7 @@ abbrev AreFields : ℕ → Option Fields → Type 0
 AreFields room None = Unit {0}
 AreFields room (Some fs) = (fields_depth fs ≤ room) × (zero_in_fields fs ≡ false)
 
-abbrev IsBehind : ℕ → Behind → Type 0
+abbrev IsBehind : ℕ → AfterName → Type 0
 IsBehind room nothing = Unit {0}
 IsBehind room (one_more w i u) = IsTree room u
 IsBehind room several = Unit {0}
@@ -161,13 +161,13 @@ two_plain room kinds.Code j t kinds.Scope i u p q = scope_plain room (as_str j) 
 two_plain room kinds.Scope j t kinds.Code i u p q = scope_plain room (as_str i) t p
 two_plain room _ j t _ i u p q = none_plain room
 
-wrapped_plain : (room : ℕ) (w : Wrapper) (j : Json) (t : Option Tree) (b : Behind) → IsTree (room - 1) t → IsBehind (room - 1) b → IsTree room (wrapped room w j t b)
+wrapped_plain : (room : ℕ) (w : Wrapper) (j : Json) (t : Option Tree) (b : AfterName) → IsTree (room - 1) t → IsBehind (room - 1) b → IsTree room (wrapper_tree room w j t b)
 wrapped_plain room w j t nothing p q = leaf_plain room (single w j) (single_plain w j)
 wrapped_plain room w j t (one_more None i u) p q = tt
 wrapped_plain room w j t (one_more (Some v) i u) p q = two_plain room w j t v i u p q
 wrapped_plain room w j t several p q = tt
 
-either_plain : (room : ℕ) (o : Option Wrapper) (j : Json) (t : Option Tree) (b : Behind) (d : Option Tree) → IsTree (room - 1) t → IsBehind (room - 1) b → IsTree room d → IsTree room (either room o j t b d)
+either_plain : (room : ℕ) (o : Option Wrapper) (j : Json) (t : Option Tree) (b : AfterName) (d : Option Tree) → IsTree (room - 1) t → IsBehind (room - 1) b → IsTree room d → IsTree room (either room o j t b d)
 either_plain room None j t b d p q r = r
 either_plain room (Some w) j t b d p q r = wrapped_plain room w j t b p q
 
@@ -220,7 +220,7 @@ of_tree (Some (doc fs)) d p e =
 of_tree (Some (array ts)) d p e = absurd cc
 of_tree (Some (code_scope s fs)) d p e = absurd cc
 
-pub reads_plain : (text : List ℕ) (d : Doc) → Reads text d → IsPlain d
+pub reads_plain : (text : List ℕ) (d : Doc) → ReadsAs text d → IsPlain d
 reads_plain text d = of_json (reads.json text)
   where
     of_json : (o : Option Json) → option_map pairs_of (option_and_then document (option_and_then (wrap 200) o)) ≡ Some d → IsPlain d

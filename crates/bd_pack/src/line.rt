@@ -1,5 +1,5 @@
 //! A line as the bytes of the document that it is.
-ghost use Rattle.std.specs.Prelude.{◌≡◌, ◌++◌, IfOk, IfSome, None, Ok};
+ghost use Rattle.std.specs.Prelude.{◌≡◌, ◌++◌, IfOk, IfSome, OnErr, None, Ok};
 ghost use Rattle.bd_value.specs.Tree.{Doc};
 ghost use Rattle.bd_pack.specs.Packable.{plain, IsPackable, IsBad};
 
@@ -10,13 +10,16 @@ use bd_value::NoMemory;
 use bd_write::{WriteFault, write_document};
 use json::Scratch;
 use std::alloc::{AllocError, Global};
+use thiserror::Error;
 
 /// Why a line is not packed.
-#[derive(Clone, Copy, Debug, Drop, PartialEq, Eq)]
+#[derive(Clone, Copy, Debug, Drop, PartialEq, Eq, Error)]
 pub enum LineFault {
     /// It is no document.
+    #[error("{0}")]
     Unread(JsonFault),
     /// Its document has more than 16,793,600 bytes.
+    #[error("document too long")]
     TooLong,
 }
 
@@ -30,6 +33,7 @@ fn pack_tree(
 ) -> Result<Option<LineFault>, NoMemory>
     ensures packed { result ≡ Ok None → (d : Doc) × IsPackable line.now d × (out.new.items ≡ out.old.items ++ plain d) }
     ensures bad { IfOk result (λ o. IfSome o (λ f. IsBad line.now f × (out.new ≡ out.old))) }
+    ensures err { OnErr result (out.new.items ≡ out.old.items) }
 {
     let document = match read_doc_with(alloc, line, scratch) {
         Ok(document) => document,
@@ -76,7 +80,7 @@ impl Packer {
     /// `document`), or tells why there are none and leaves `out` as it was.
     ///
     /// # Errors
-    /// `NoMemory` where the allocator gives none. What `out` holds then is not said.
+    /// `NoMemory` where the allocator gives none. It leaves `out` as it was.
     pub fn pack_line(
         &mut self,
         line: &[u8],
@@ -84,6 +88,7 @@ impl Packer {
     ) -> Result<Option<LineFault>, NoMemory>
         ensures packed { result ≡ Ok None → (d : Doc) × IsPackable line.now d × (out.new.items ≡ out.old.items ++ plain d) }
         ensures bad { IfOk result (λ o. IfSome o (λ f. IsBad line.now f × (out.new ≡ out.old))) }
+        ensures err { OnErr result (out.new.items ≡ out.old.items) }
     {
         // Of nearly every line the bytes come straight from its tokens. The others are read once more, by a tree.
         match spell_line(self.alloc, line, &mut self.scratch, &mut self.spelled) {
