@@ -1,30 +1,28 @@
 //! The commands of `bsonfind`, over any devices.
+//!
+//! What a run did, from the clause of `run` down: `specs/Runs.antt`.
+//!
+//! - `runs`: `run` and `report`.
+//! - `dump`, `check`, `pack`, `find`: a command each.
+//! - `ending`, `limits`, `output`, `status`: what they share.
+//! - `laws`: laws of what is shown.
 #![tactic(auto)]
 
-mod answer_laws;
-mod check_command;
-mod checking;
-mod commands;
-mod dump_command;
-mod dumping;
-mod equality;
-mod find_command;
-mod finding;
-mod found_documents;
+mod check;
+mod dump;
+mod ending;
+mod find;
 mod laws;
 mod limits;
-mod lines;
-mod messages;
-mod pack_command;
-mod packing;
-mod query_text;
+mod output;
+mod pack;
+mod runs;
 mod status;
-mod stepping;
 
-pub use answer_laws::{answers_are_ordered, batches_are_the_first, steps_give_the_answer};
 pub use bd_command_line::{Order, USAGE, WordsFault, parse_words};
-pub use commands::{report, run};
-pub use finding::first_find;
-pub use laws::{check_has_the_status_of_dump, shows_one_thing};
+pub use find::{
+    Step, answers_are_ordered, batches_are_the_first, first_find, steps_give_the_answer,
+};
+pub use laws::{check_has_the_status_of_dump, dump_shows_a_front, shows_one_thing};
+pub use runs::{report, run};
 pub use status::Status;
-pub use stepping::Step;

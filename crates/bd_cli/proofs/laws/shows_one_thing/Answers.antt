@@ -1,9 +1,9 @@
-use Rattle.bd_cli.proofs.FoundOnce.{found_once, found_some}
-use Rattle.bd_cli.proofs.JudgedOnce.{judged_once, judged_some}
-use Rattle.bd_cli.specs.Packed.{lines_of}
-use Rattle.bd_cli.proofs.PackedOnce.{packs_once, packed_alike, packed_some}
-use Rattle.bd_cli.proofs.Runs.{shown_once, shown_some}
+use Rattle.bd_cli.proofs.FindLemmas.ShownOnce.{found_once, found_some}
+use Rattle.bd_cli.proofs.CheckLemmas.{judged_once, judged_some}
+use Rattle.bd_cli.proofs.PackLemmas.{packs_once, packed_alike, packed_some}
+use Rattle.bd_cli.proofs.DumpLemmas.{shown_once, shown_some}
 use Rattle.bd_cli.proofs.laws.shows_one_thing.Goals as goal
+use Rattle.bd_cli.specs.Pack.{lines_of}
 
 pub returns : goal.returns
 returns c = record { judged_one = judged_once; judged_some = judged_some; one = λ bytes fault s t p q. shown_once bytes fault s t p q; some = λ bytes fits. shown_some bytes fits; found_one = found_once; found_some = λ query size bytes fits o. found_some query size bytes fits o; packed_one = λ text ds es bad other p q. packs_once 1 (lines_of text) ds es bad other p q; packed_alike = packed_alike; packed_some = packed_some }

@@ -1,0 +1,2 @@
+-- Lemmas on what a run writes.
+pub mod LinesLemmas

@@ -1,0 +1,20 @@
+use Rattle.std.proofs.Common.{None, refl}
+use Rattle.std.specs.Int.{w32}
+use Rattle.std.proofs.lemmas.Int.{to_z-of_z}
+use Rattle.bd_bson.specs.Collection.{documents}
+use Rattle.bd_cli.proofs.FindLemmas as finds
+use Rattle.bd_cli.proofs.find.find_in.Goals as goal
+use Rattle.bd_cli.specs.Find.{shown_find}
+
+pub returns-in-Ok : goal.returns-in-Ok
+returns-in-Ok g c =
+    let ds = documents c.in-Ok.dump in
+    (shown_find c.args.name.now c.args.n c.args.size ds None, (ds, None, c.in-Ok.ensures.dump.0, refl), rw (to_z-of_z w32 c.args.n c.ranges.n) at c.show_found.ensures)
+
+pub returns-then-is_want_of_memory : goal.returns-then-is_want_of_memory
+returns-then-is_want_of_memory g c =
+    finds.starved_shown (g.O.Output.state c.args.out.now) (g.O.Output.state c.args.out.now) (g.E.Output.state c.args.err.now) (g.E.Output.state c.tell_no_memory.new.err) _ c.args.name.now c.args.n c.args.size c.args.bytes.items (c.read_dump.ensures.walk c.requires) c.tell_no_memory.ensures
+
+pub returns-else-is_want_of_memory : goal.returns-else-is_want_of_memory
+returns-else-is_want_of_memory g c =
+    finds.fault_shown (g.O.Output.state c.args.out.now) (g.O.Output.state c.args.out.now) (g.E.Output.state c.args.err.now) (g.E.Output.state c.tell_dump_fault.new.err) _ c.args.name.now c.args.n c.args.size c.args.bytes.items c.in-Err.fault c.requires c.in-Err.ensures.fault (λ e. cc (c.if-is_want_of_memory.ensures.1 e)) c.tell_dump_fault.ensures

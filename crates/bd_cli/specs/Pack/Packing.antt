@@ -1,0 +1,35 @@
+-- The lines of a text packed.
+use Rattle.std.specs.Prelude.{◌≡◌, ℕ, suc, List, [], length, Option, Some, None}
+use Rattle.std.specs.Borrow.{Bor}
+use Rattle.bd_value.specs.Tree.{Doc}
+use Rattle.bd_device.specs.Devices.{Over, TakesText, Writer}
+use Rattle.bd_cli.specs.Pack.{lines_of, packed_bytes, PacksLines}
+use Rattle.bd_cli.specs.Output.Lines.{StopsWithin}
+use Rattle.bd_cli.specs.declared.output.lines.Stopped.{Stopped}
+use Rattle.bd_cli.specs.declared.pack.packing.BadLine.{BadLine}
+use Rattle.bd_cli.specs.declared.pack.packing.Packing.{Packing}
+
+-- what is left of a text after a newline, where there was one
+abbrev pub bytes_after : Option (Bor (List ℕ)) → Option (List ℕ)
+bytes_after None = None
+bytes_after (Some rest) = Some rest.now
+
+abbrev pub lines_left : Option (List ℕ) → List (List ℕ)
+lines_left None = []
+lines_left (Some text) = lines_of text
+
+abbrev pub left_size : Option (List ℕ) → ℕ
+left_size None = 0
+left_size (Some text) = suc (length text)
+
+-- the documents before the first bad line, whose bytes the writer took
+abbrev pub IsPacking : List ℕ → Over Writer → Packing → Type 0
+IsPacking text out packing =
+    (ds : List Doc) × PacksLines 1 (lines_of text) ds packing.bad × (packing.count ≡ length ds)
+    × TakesText out (packed_bytes ds)
+
+-- the writing of these bytes was stopped
+abbrev pub StopsPacking : List ℕ → Over Writer → Stopped → Type 0
+StopsPacking text out stopped =
+    (ds : List Doc) × (bad : Option BadLine) × PacksLines 1 (lines_of text) ds bad
+    × StopsWithin out (packed_bytes ds) stopped

@@ -1,0 +1,150 @@
+//! `find`: the documents of an input that answer a query, one a line.
+//!
+//! In order of reading: `query_text` and `equality`, what is asked; `step`, the documents that answer;
+//! `found_documents`, their lines; `answer_laws`, what steps of any sizes give together.
+
+mod answer_laws;
+mod equality;
+mod found_documents;
+mod query_text;
+mod step;
+
+ghost use Rattle.std.specs.Prelude.{◌≡◌, ◌≤◌, ◌⊎◌, Ok, MatchOption, length, codes};
+ghost use Rattle.bd_bson.specs.Collection.{documents};
+ghost use Rattle.bd_check.specs.Told.{fault_view};
+ghost use Rattle.bd_cli.specs.Find.Answer.{answer, each};
+ghost use Rattle.bd_cli.specs.Find.Equality.{number_matches};
+ghost use Rattle.bd_cli.specs.declared.status.Status.TheVariants.{Done, Failed};
+ghost use Rattle.bd_cli.specs.Find.{FindsDocuments, IsShownForQuery, find_count_line, find_count_words, shown_found};
+ghost use Rattle.bd_cli.specs.Find.QueryText.{IsNoQuery};
+ghost use Rattle.bd_cli.specs.Outcome.{PrintsOrStarves, TellsMessage};
+ghost use Rattle.bd_cli.specs.Shown.{Shown, error_line, fault_text};
+ghost use Rattle.bd_device.specs.Devices.{over};
+
+use crate::find::found_documents::write_documents;
+use crate::find::query_text::read_query;
+use crate::limits::LIMITS;
+use crate::output::lines::{Stopped, is_want_of_memory};
+use crate::output::messages::{
+    fault_message, status_of, tell_error, tell_no_memory, tell_read_fault, tell_unwritten,
+    write_count,
+};
+use crate::status::Status;
+pub use answer_laws::{answers_are_ordered, batches_are_the_first, steps_give_the_answer};
+use bd_bson::{Dump, read_dump};
+use bd_check::Fault;
+use bd_device::{Input, Output, read_all};
+use std::alloc::Global;
+pub use step::{Step, first_find};
+
+/// What stands after the number of documents, and tells whether nothing is left.
+fn count_words(end: bool) -> &'static [u8]
+    ensures { result.now ≡ find_count_words end }
+{
+    if end {
+        b" documents, end\n"
+    } else {
+        b" documents, more\n"
+    }
+}
+
+/// Tells how many documents a step gave, after their lines on standard output. It takes no memory.
+fn tell_step<E: Output>(step: &Step, err: &mut E) -> Status
+    ensures { TellsMessage (over E.state err.old err.new) (find_count_line (length step.now.places.items) step.now.end) Done result }
+{
+    let written = write_count(step.places.len() as u64, count_words(step.end), err);
+    status_of(written, Status::Done)
+}
+
+/// How many documents a size asks for; without one, more than there can be.
+fn most_of(size: Option<u32>) -> u64
+    ensures { MatchOption size (result ≡ 18446744073709551615) (λ n. result ≡ n) }
+{
+    match size {
+        Some(size) => u64::from(size),
+        None => u64::MAX,
+    }
+}
+
+/// Shows the first batch of the documents that have the number; without a size, all of them.
+fn show_found<O: Output, E: Output>(
+    alloc: Global,
+    dump: &Dump,
+    name: &str,
+    n: i32,
+    size: Option<u32>,
+    out: &mut O,
+    err: &mut E,
+) -> Status
+    ensures { let ds = documents dump.now in
+        PrintsOrStarves (over O.state out.old out.new) (over E.state err.old err.new)
+        (shown_found size ds (answer (each (number_matches name.now n)) ds)) result }
+{
+    let Ok(step) = first_find(alloc, dump, name, n, 0, most_of(size)) else {
+        return tell_no_memory(err);
+    };
+    match write_documents(alloc, dump, &step.places, out) {
+        Ok(()) => tell_step(&step, err),
+        Err(Stopped::NoMemory) => tell_no_memory(err),
+        Err(Stopped::Unwritten) => tell_unwritten(err),
+    }
+}
+
+/// Tells why an input is no dump.
+fn tell_dump_fault<E: Output>(alloc: Global, fault: &Fault, err: &mut E) -> Status
+    ensures { TellsMessage (over E.state err.old err.new) (error_line (fault_text fault.now.document (fault_view fault.now))) Failed result
+        ⊎ TellsMessage (over E.state err.old err.new) (error_line (codes "no memory")) Failed result }
+{
+    match fault_message(alloc, fault) {
+        Ok(message) => tell_error(&message, err),
+        Err(_) => tell_no_memory(err),
+    }
+}
+
+/// Shows what the bytes of an input have of a query.
+fn find_in<O: Output, E: Output>(
+    alloc: Global,
+    bytes: Vec<u8>,
+    name: &str,
+    n: i32,
+    size: Option<u32>,
+    out: &mut O,
+    err: &mut E,
+) -> Status
+    requires { length bytes.items ≤ 4294967295 }
+    ensures { (shown : Shown) × IsShownForQuery name.now n size (Ok bytes.items) shown
+        × PrintsOrStarves (over O.state out.old out.new) (over E.state err.old err.new) shown result }
+{
+    match read_dump(alloc, bytes) {
+        Ok(dump) => show_found(alloc, &dump, name, n, size, out, err),
+        Err(fault) => {
+            if is_want_of_memory(&fault) {
+                return tell_no_memory(err);
+            }
+            tell_dump_fault(alloc, &fault, err)
+        }
+    }
+}
+
+/// Reads an input whole, for a text that is a query, and shows the first batch of the documents that answer it; without a
+/// size, all of them. Nothing is written to standard output where the input is no dump.
+pub(crate) fn find<R: Input, O: Output, E: Output>(
+    alloc: Global,
+    query: &str,
+    size: Option<u32>,
+    input: &mut R,
+    out: &mut O,
+    err: &mut E,
+) -> Status
+    ensures found { FindsDocuments query.now size (over R.state input.old input.new) (over O.state out.old out.new)
+        (over E.state err.old err.new) result }
+    ensures unread { IsNoQuery query.now → input.new ≡ input.old }
+{
+    let Some((name, n)) = read_query(query) else {
+        return tell_error(b"query: byte 0: not in the profile", err);
+    };
+    match read_all(alloc, input, LIMITS) {
+        Ok(bytes) => find_in(alloc, bytes, name, n, size, out, err),
+        Err(fault) => tell_read_fault(fault, err),
+    }
+}

@@ -1,0 +1,60 @@
+//! Lines that are written to standard output.
+
+ghost use Rattle.std.specs.Prelude.{◌≡◌, ◌++◌, ◌∷◌, [], OnOk, OnErr, IsTrue, ◌↔◌};
+ghost use Rattle.bd_check.specs.declared.fault.FaultKind.TheVariants as kinds;
+ghost use Rattle.bd_extjson.specs.Text.{text};
+ghost use Rattle.bd_cli.specs.declared.output.lines.Stopped.TheVariants.{NoMemory as no_memory, Unwritten};
+
+use bd_check::{Fault, FaultKind};
+use bd_device::DeviceFault;
+use bd_extjson::write_node;
+use bd_value::{NoMemory, Reading};
+use std::alloc::AllocError;
+
+/// Why writing lines did not come to its end.
+#[derive(Debug, Clone, Copy, PartialEq, Eq)]
+pub enum Stopped {
+    /// Memory ran out.
+    NoMemory,
+    /// A write failed.
+    Unwritten,
+}
+
+impl From<AllocError> for Stopped {
+    ghost from_gives = { λ _ s. s ≡ no_memory };
+
+    fn from(_error: AllocError) -> Stopped {
+        Stopped::NoMemory
+    }
+}
+
+impl From<DeviceFault> for Stopped {
+    ghost from_gives = { λ _ s. s ≡ Unwritten };
+
+    fn from(_fault: DeviceFault) -> Stopped {
+        Stopped::Unwritten
+    }
+}
+
+/// Appends the line of a document. `NoMemory` leaves `out` as it was.
+pub(crate) fn write_line<N: Reading>(document: N, out: &mut Vec<u8>) -> Result<(), NoMemory>
+    ensures ok { OnOk result (out.new.items ≡ out.old.items ++ (text (N.tree document) ++ 10 ∷ [])) }
+    ensures err { OnErr result (out.new.items ≡ out.old.items) }
+{
+    let before = out.len();
+    write_node(document, out)?;
+    match out.push(b'\n') {
+        Ok(()) => Ok(()),
+        Err(error) => {
+            out.truncate(before);
+            Err(error.into())
+        }
+    }
+}
+
+/// Whether a fault is want of memory, which is no fault of the input.
+pub(crate) fn is_want_of_memory(fault: &Fault) -> bool
+    ensures { IsTrue result ↔ (fault.now.kind ≡ kinds.NoMemory) }
+{
+    matches!(fault.kind, FaultKind::NoMemory)
+}

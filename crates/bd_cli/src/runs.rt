@@ -1,0 +1,65 @@
+//! An order carried out over devices, and words that are no order.
+
+ghost use Rattle.std.specs.Prelude.{◌≡◌};
+ghost use Rattle.bd_cli.specs.Outcome.{PrintsShown};
+ghost use Rattle.bd_cli.specs.Runs.{shown_report};
+ghost use Rattle.bd_cli.specs.Runs.{CarriesOut, ReadsNoFile};
+ghost use Rattle.bd_device.specs.Devices.{over};
+
+use crate::check::check;
+use crate::dump::dump;
+use crate::find::find;
+use crate::output::messages::{status_of, tell_no_memory, tell_unwritten};
+use crate::pack::pack;
+use crate::status::Status;
+use bd_command_line::{Order, USAGE, WordsFault};
+use bd_device::{Input, Output, write_all};
+use std::alloc::Global;
+
+/// Carries out an order, and gives the exit status: 0 where all was done, 1 after a fault of the input, of the query or of a
+/// device, or for want of memory.
+///
+/// The file that the order names is read from `file`, the commands of a session from `commands`, the results go to
+/// `out`, and what is told of the run to `err`. A device that fails is not tried again.
+pub fn run<F: Input, C: Input, O: Output, E: Output>(
+    alloc: Global,
+    order: &Order,
+    file: &mut F,
+    commands: &mut C,
+    out: &mut O,
+    err: &mut E,
+) -> Status
+    ensures ran { CarriesOut order.now (over F.state file.old file.new) (over O.state out.old out.new)
+        (over E.state err.old err.new) result }
+    // What is not wanted is not touched.
+    ensures file { ReadsNoFile order.now → file.new ≡ file.old }
+    ensures commands { commands.new ≡ commands.old }
+{
+    let _commands = commands;
+    match order {
+        Order::Dump { .. } => dump(alloc, file, out, err),
+        Order::Check { .. } => check(alloc, file, out, err),
+        Order::Pack { .. } => pack(alloc, file, out, err),
+        Order::Find { query, batch, .. } => find(alloc, query.as_str(), *batch, file, out, err),
+    }
+}
+
+/// Tells why words are no order, and gives the exit status. It takes no memory.
+///
+/// A request for help prints the usage on `out`, with status 0; words that are not taken print it on `err`, with
+/// status 2; want of memory is told on `err`, with status 1. A device that fails makes the status 1.
+pub fn report<O: Output, E: Output>(fault: &WordsFault, out: &mut O, err: &mut E) -> Status
+    ensures { PrintsShown (over O.state out.old out.new) (over E.state err.old err.new) (shown_report fault.now) result }
+{
+    match fault {
+        WordsFault::Help => match write_all(out, USAGE.as_bytes()) {
+            Ok(()) => Status::Done,
+            Err(_) => tell_unwritten(err),
+        },
+        WordsFault::Usage => {
+            let written = write_all(err, USAGE.as_bytes());
+            status_of(written, Status::Usage)
+        }
+        WordsFault::NoMemory => tell_no_memory(err),
+    }
+}
