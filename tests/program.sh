@@ -614,6 +614,29 @@ echo $? >status
 : >err
 expect 'a full standard error' 1 "@$people.jsonl" ''
 
+# A file that takes a part of what is written and then no more: what it holds is a front of the whole, and the program asks
+# for no other write. The first limit is inside the first 65,536 bytes, the second inside the last write.
+broken() {
+	name=$1 blocks=$2
+	shift 2
+	"$program" "$@" >whole 2>/dev/null
+	(
+		trap '' XFSZ
+		ulimit -f "$blocks"
+		run "$@"
+	)
+	head -c "$(wc -c <out)" whole >front
+	if [ -s out ] && [ "$(wc -c <out)" -lt "$(wc -c <whole)" ]; then
+		expect "$name" 1 @front 'bsonfind: cannot write'
+	else
+		expect "$name" 1 'a front' 'bsonfind: cannot write'
+	fi
+}
+broken 'lines cut off in a first write' 20 dump "$people.bson"
+broken 'lines cut off in a last write' 260 dump "$people.bson"
+broken 'documents cut off in a first write' 20 pack "$people.jsonl"
+broken 'documents cut off in a last write' 180 pack "$people.jsonl"
+
 # A few lines wait in the program's memory, so that a standard output that is full shows only when they are handed on.
 
 "$program" dump int32.bson >/dev/full 2>err

@@ -173,12 +173,13 @@ fn ends_at_a_write_that_fails(rt: HostRuntime) {
     let mut devices = ample(BAD_AND_ONE, BAD_LINE, "");
     devices.write_size = 20;
     assert!(rt; ends_at_writes(alloc, &check(alloc), devices));
+    // A document has 12 bytes, and is written by itself.
     let mut devices = ample(TWO_LINES, TWO, "");
-    devices.write_size = 10;
+    devices.write_size = 6;
     assert!(rt; ends_at_writes(alloc, &pack(alloc), devices));
 }
 
-/// A device that is full, and one that fails in the midst of a count.
+/// A device that is full, and one that fails in the midst of a count, whose number and words are written apart.
 #[test]
 fn leaves_what_was_written(rt: HostRuntime) {
     let alloc = rt.alloc();
@@ -187,8 +188,8 @@ fn leaves_what_was_written(rt: HostRuntime) {
     full.status = Status::Failed;
     assert!(rt; reads(alloc, &dump(alloc), full).is_some());
     let mut failing = ample(b"\n", b"", "0 objects ");
-    failing.write_size = 10;
-    failing.failing_err = Some(FailingWrite::Error(2));
+    failing.write_size = 9;
+    failing.failing_err = Some(FailingWrite::Error(3));
     failing.status = Status::Failed;
     assert!(rt; reads(alloc, &pack(alloc), failing).is_some());
 }

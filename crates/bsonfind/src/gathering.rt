@@ -54,7 +54,7 @@ impl<W: Write + Drop> Gathering<W> {
         self.fate
     }
 
-    /// Takes bytes behind those that wait; these are handed on before, where both do not fit. The bytes go to the system
+    /// Takes bytes after those that wait; these are handed on before, where both do not fit. The bytes go to the system
     /// themselves where they are many, or where there is no memory for them.
     fn take(&mut self, bytes: &[u8]) -> Result<(), DeviceFault> {
         if bytes.len() > GATHERED.saturating_sub(self.waiting.len()) {
