@@ -9,6 +9,7 @@ use crate::document::{Document, NoMemory, Value};
 use crate::kind::Kind;
 use crate::node::Reading;
 use crate::scalar::Scalar;
+use crate::tree::Tree;
 use std::alloc::Global;
 
 /// What a node stands for, in memory. It fails for want of memory alone.
@@ -21,6 +22,13 @@ pub fn to_value<N: Reading>(alloc: Global, node: N) -> Result<Value, NoMemory>
         Kind::Array => Ok(Value::Array(to_items::<N>(alloc, node.parts())?)),
         _ => own_value(alloc, node),
     }
+}
+
+/// A copy of a value. It fails for want of memory alone.
+pub fn try_copy(alloc: Global, value: &Value) -> Result<Value, NoMemory>
+    ensures { IfOk result (λ v. tree_of v ≡ tree_of value.now) }
+{
+    to_value(alloc, Tree::Value(value))
 }
 
 /// The document of these pairs, in memory. It fails for want of memory alone.

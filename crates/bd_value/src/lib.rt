@@ -7,6 +7,7 @@
 //! - `document`: `Document` and `Value`.
 //! - `kind`, `scalar`, `lookup`, `nesting`, `zeros`: what is asked of a value.
 //! - `node`: `Reading` and `Node`, a value wherever it lies; `tree`, one in memory.
+//! - `order`: the comparison order, of any two readings, and its laws: `specs/Order.antt`.
 //! - `copying`: any of them copied into memory.
 //! - `fits`: what the types of a value in hand promise.
 #![tactic(auto)]
@@ -18,16 +19,21 @@ mod kind;
 mod lookup;
 mod nesting;
 mod node;
+mod order;
 mod scalar;
 mod tree;
 mod zeros;
 
-pub use copying::{to_document, to_value};
+pub use copying::{to_document, to_value, try_copy};
 pub use document::{Document, NoMemory, Value};
 pub use fits::{document_fits, node_fits, value_fits};
 pub use kind::Kind;
 pub use nesting::{depth, depth_of};
 pub use node::{Node, Reading};
+pub use order::{
+    Class, class, class_of_node, compare, compare_nodes, equal, equals_have_one_class,
+    numbers_are_one_line, orders_all_values, pairs_compare_in_turn,
+};
 pub use scalar::Scalar;
 pub use tree::{Tree, TreeParts};
 pub use zeros::has_zero;

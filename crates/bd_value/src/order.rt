@@ -1,0 +1,204 @@
+//! The comparison order of values.
+
+mod classes;
+mod laws;
+mod ranks;
+
+ghost use Rattle.std.specs.Prelude.{◌≡◌};
+ghost use Rattle.std.specs.Ordering.{ordering_then};
+ghost use Rattle.bd_value.specs.Order.{bytes_cmp, class_cmp, cmp, equal, fields_cmp, items_cmp, rank_cmp, rank_in, same_class_cmp};
+ghost use Rattle.bd_value.specs.Order.Classes.{class_of};
+ghost use Rattle.bd_value.specs.Kind.{kind_of};
+ghost use Rattle.bd_value.specs.declared.kind.Kind.TheVariants as kinds;
+ghost use Rattle.bd_value.specs.Parts.{values_of, HoldsNoParts};
+ghost use Rattle.bd_value.specs.Tree.{fields_of, items_of};
+ghost use Rattle.bd_value.specs.View.{tree_of};
+
+use crate::document::Value;
+use crate::kind::Kind;
+use crate::node::Reading;
+use crate::tree::Tree;
+pub use classes::Class;
+pub use laws::{
+    equals_have_one_class, numbers_are_one_line, orders_all_values, pairs_compare_in_turn,
+};
+use ranks::{compare_ranks, rank_of};
+use std::cmp::Ordering;
+
+/// The class of a value. It takes no memory.
+pub fn class(value: &Value) -> Class
+    ensures { result ≡ class_of (tree_of value.now) }
+{
+    class_of_node(Tree::Value(value))
+}
+
+/// The class of a value, wherever it lies. It takes no memory.
+pub fn class_of_node<N: Reading>(node: N) -> Class
+    ensures { result ≡ class_of (N.tree node) }
+{
+    match node.kind() {
+        Kind::MinKey => Class::MinKey,
+        Kind::Undefined => Class::Undefined,
+        Kind::Null => Class::Null,
+        Kind::Int32 => Class::Number,
+        Kind::Int64 => Class::Number,
+        Kind::Text => Class::Text,
+        Kind::Symbol => Class::Text,
+        Kind::Doc => Class::Doc,
+        Kind::Array => Class::Array,
+        Kind::Binary => Class::Binary,
+        Kind::ObjectId => Class::ObjectId,
+        Kind::Bool => Class::Bool,
+        Kind::Date => Class::Date,
+        Kind::Timestamp => Class::Timestamp,
+        Kind::Regex => Class::Regex,
+        Kind::DbPointer => Class::DbPointer,
+        Kind::Code => Class::Code,
+        Kind::CodeScope => Class::CodeScope,
+        Kind::MaxKey => Class::MaxKey,
+    }
+}
+
+/// The order of two values. It takes no memory.
+pub fn compare(a: &Value, b: &Value) -> Ordering
+    ensures { result ≡ cmp (tree_of a.now) (tree_of b.now) }
+{
+    compare_nodes(Tree::Value(a), Tree::Value(b))
+}
+
+/// Whether two values compare as equal, as the numbers 5 of 32 and of 64 bits do. It takes no memory.
+pub fn equal(a: &Value, b: &Value) -> bool
+    ensures { result ≡ equal (tree_of a.now) (tree_of b.now) }
+{
+    compare(a, b).is_eq()
+}
+
+/// The order of two values, wherever each of them lies. It takes no memory.
+///
+/// MongoDB manual, "Comparison/Sort Order".
+#[cycle(order)]
+pub fn compare_nodes<M: Reading, N: Reading>(a: M, b: N) -> Ordering
+    ensures { result ≡ cmp (M.tree a) (N.tree b) }
+{
+    match compare_classes(a, b) {
+        Ordering::Equal => compare_within(a, b),
+        unequal => unequal,
+    }
+}
+
+/// The order of two values of one class.
+#[cycle(order)]
+fn compare_within<M: Reading, N: Reading>(a: M, b: N) -> Ordering
+    requires { class_of (M.tree a) ≡ class_of (N.tree b) }
+    ensures { result ≡ same_class_cmp (M.tree a) (N.tree b) }
+{
+    match a.kind() {
+        Kind::Doc => compare_documents::<M, N>(a.parts(), b.parts()),
+        Kind::Array => compare_arrays::<M, N>(a.parts(), b.parts()),
+        Kind::CodeScope => compare_scopes(a, b),
+        _ => compare_own(a, b),
+    }
+}
+
+/// The order of two pairs: the class of the value, then the name, then the value.
+#[cycle(order)]
+fn compare_pairs<M: Reading, N: Reading>(m: &str, a: M, n: &str, b: N) -> Ordering
+    ensures { result ≡ ordering_then (class_cmp (M.tree a) (N.tree b)) (ordering_then (bytes_cmp m.now n.now) (same_class_cmp (M.tree a) (N.tree b))) }
+{
+    match compare_classes(a, b) {
+        Ordering::Equal => match m.cmp(n) {
+            Ordering::Equal => compare_within(a, b),
+            unequal => unequal,
+        },
+        unequal => unequal,
+    }
+}
+
+/// The order of two documents.
+#[cycle(order)]
+fn compare_documents<M: Reading, N: Reading>(first: M::Rest, second: N::Rest) -> Ordering
+    ensures { result ≡ fields_cmp (fields_of (M.left first)) (fields_of (N.left second)) }
+{
+    let mut left = first;
+    let mut right = second;
+    while let Some((m, a, left_after)) = M::next(&left) {
+        let Some((n, b, right_after)) = N::next(&right) else {
+            return Ordering::Greater;
+        };
+        let order = compare_pairs(m, a, n, b);
+        if order != Ordering::Equal {
+            return order;
+        }
+        left = left_after;
+        right = right_after;
+    }
+    match N::next(&right) {
+        Some(_) => Ordering::Less,
+        None => Ordering::Equal,
+    }
+}
+
+/// The order of two arrays.
+#[cycle(order)]
+fn compare_arrays<M: Reading, N: Reading>(first: M::Rest, second: N::Rest) -> Ordering
+    ensures { result ≡ items_cmp (items_of (values_of (M.left first))) (items_of (values_of (N.left second))) }
+{
+    let mut left = first;
+    let mut right = second;
+    while let Some((_, a, left_after)) = M::next(&left) {
+        let Some((_, b, right_after)) = N::next(&right) else {
+            return Ordering::Greater;
+        };
+        let order = compare_nodes(a, b);
+        if order != Ordering::Equal {
+            return order;
+        }
+        left = left_after;
+        right = right_after;
+    }
+    match N::next(&right) {
+        Some(_) => Ordering::Less,
+        None => Ordering::Equal,
+    }
+}
+
+/// The order of two codes with scope.
+#[cycle(order)]
+fn compare_scopes<M: Reading, N: Reading>(a: M, b: N) -> Ordering
+    requires first { kind_of (M.tree a) ≡ kinds.CodeScope }
+    requires second { kind_of (N.tree b) ≡ kinds.CodeScope }
+    ensures { result ≡ same_class_cmp (M.tree a) (N.tree b) }
+{
+    let order = compare_own(a, b);
+    if order != Ordering::Equal {
+        return order;
+    }
+    let Some(first) = a.scope() else {
+        unreachable!()
+    };
+    let Some(second) = b.scope() else {
+        unreachable!()
+    };
+    compare_documents::<M, N>(first.parts(), second.parts())
+}
+
+/// The order of what two values of one class hold besides other values.
+fn compare_own<M: Reading, N: Reading>(a: M, b: N) -> Ordering
+    requires first { HoldsNoParts (M.tree a) }
+    requires second { HoldsNoParts (N.tree b) }
+    ensures { result ≡ rank_cmp (rank_in (M.tree a)) (rank_in (N.tree b)) }
+{
+    let Some(first) = a.leaf() else {
+        unreachable!()
+    };
+    let Some(second) = b.leaf() else {
+        unreachable!()
+    };
+    compare_ranks(rank_of(&first), rank_of(&second))
+}
+
+fn compare_classes<M: Reading, N: Reading>(a: M, b: N) -> Ordering
+    ensures { result ≡ class_cmp (M.tree a) (N.tree b) }
+{
+    class_of_node(a).cmp(&class_of_node(b))
+}
