@@ -15,11 +15,11 @@ abbrev pub EqualsHaveOneClass : Type 0
 EqualsHaveOneClass = (a b : Tree) → cmp a b ≡ Equal → class_of a ≡ class_of b
 
 -- a number of 32 or of 64 bits
-abbrev pub IsNumber : Tree → ℤ → Type 0
-IsNumber t n = (t ≡ leaf (int32 n)) ⊎ (t ≡ leaf (int64 n))
+abbrev pub IsWholeNumber : Tree → ℤ → Type 0
+IsWholeNumber t n = (t ≡ leaf (int32 n)) ⊎ (t ≡ leaf (int64 n))
 
 abbrev pub NumbersAreOneLine : Type 0
-NumbersAreOneLine = (a b : Tree) (m n : ℤ) → IsNumber a m → IsNumber b n → cmp a b ≡ int_cmp m n
+NumbersAreOneLine = (a b : Tree) (m n : ℤ) → IsWholeNumber a m → IsWholeNumber b n → cmp a b ≡ int_cmp m n
 
 -- a document that has no further pair is less
 abbrev pub ShorterDocumentsAreLess : Type 0

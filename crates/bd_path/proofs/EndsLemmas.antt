@@ -1,0 +1,30 @@
+-- Some end of a path, by the ends of what is below.
+use Rattle.std.proofs.Common.{◌≡◌, Bool, true, false, ◌||◌, List, [], ◌∷◌, ◌++◌, refl, sym, ap, ◌∙◌}
+use Rattle.std.proofs.lemmas.List.Folds.{list_any-append}
+use Rattle.std.specs.List.{list_any}
+use Rattle.bd_path.specs.Reach.{End}
+
+or_true : (a b : Bool) → a ≡ true → a ≡ (a || b)
+or_true true b e = refl
+or_true false b e = absurd cc
+
+or_false : (a b : Bool) → a ≡ false → b ≡ (a || b)
+or_false true b e = absurd cc
+or_false false b e = refl
+
+any_one : (f : End → Bool) (e : End) → f e ≡ list_any f (e ∷ [])
+any_one f e = go (f e)
+  where
+    go : (b : Bool) → b ≡ (b || false)
+    go true = refl
+    go false = refl
+
+pub one : (f : End → Bool) (e : End) (b : Bool) (es : List End) → b ≡ f e → es ≡ e ∷ [] → b ≡ list_any f es
+one f e b es h k = h ∙ any_one f e ∙ ap (list_any f) (sym k)
+
+-- of two parts, the first has one, or has none
+pub in_first : (f : End → Bool) (b : Bool) (es fs all : List End) → b ≡ list_any f es → b ≡ true → all ≡ es ++ fs → b ≡ list_any f all
+in_first f b es fs all is passed joined = is ∙ or_true (list_any f es) (list_any f fs) (sym is ∙ passed) ∙ sym (list_any-append f es fs) ∙ ap (list_any f) (sym joined)
+
+pub in_second : (f : End → Bool) (a b : Bool) (es fs all : List End) → a ≡ list_any f es → a ≡ false → b ≡ list_any f fs → all ≡ es ++ fs → b ≡ list_any f all
+in_second f a b es fs all is failed second joined = second ∙ or_false (list_any f es) (list_any f fs) (sym is ∙ failed) ∙ sym (list_any-append f es fs) ∙ ap (list_any f) (sym joined)

@@ -1,0 +1,3 @@
+pub mod ComponentLemmas
+pub mod ReachLemmas
+pub mod EndsLemmas

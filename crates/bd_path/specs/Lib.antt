@@ -1,0 +1,6 @@
+pub mod Component
+pub mod Names
+pub mod Path
+pub mod PathFault
+pub mod PathNames
+pub mod Reach

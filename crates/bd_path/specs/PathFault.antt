@@ -1,0 +1,9 @@
+-- Why a text is no path.
+use Rattle.std.specs.Prelude.{ℕ, List, codes}
+use Rattle.bd_path.specs.declared.path_fault.PathFault.{PathFault}
+use Rattle.bd_path.specs.declared.path_fault.PathFault.TheVariants.{EmptyComponent, TooLong, NoMemory}
+
+abbrev pub fault_words : PathFault → List ℕ
+fault_words EmptyComponent = codes "empty component"
+fault_words TooLong = codes "too many components"
+fault_words NoMemory = codes "no memory"

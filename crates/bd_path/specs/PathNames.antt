@@ -1,0 +1,6 @@
+-- The names of a path in hand.
+use Rattle.bd_path.specs.Names.{Names, component_names}
+use Rattle.bd_path.specs.declared.path.Path.{Path}
+
+abbrev pub names_of : Path → Names
+names_of path = component_names path.components.items

@@ -1,0 +1,57 @@
+-- What a path reaches (MongoDB manual, "Query on Embedded/Nested Documents" and "Query an Array").
+use Rattle.std.specs.Prelude.{ℕ, zero, suc, List, [], ◌∷◌, ◌++◌, Bool, true, false, Option, Some, None, if◌then◌else◌}
+use Rattle.std.specs.Str.{bytes_eq}
+use Rattle.bd_value.specs.Tree.{Tree, leaf, doc, array, code_scope, Items, no_items, item, Fields, no_fields, field}
+use Rattle.bd_path.specs.Component.{index_of}
+use Rattle.bd_path.specs.Names.{Names}
+
+abbrev pub is_document : Tree → Bool
+is_document (leaf s) = false
+is_document (doc fs) = true
+is_document (array ts) = false
+is_document (code_scope s fs) = false
+
+-- What is gathered on the way down a path: from a value at its end, where a field is missing, and of what was gathered from
+-- the elements of an array.
+pub record Gathering (A : Type 0) : Type 0 where
+  pub at_end : Tree → List A
+  pub missing : List A
+  pub of_array : List A → List A
+
+abbrev mutual
+  pub gather : {A : Type 0} → Gathering A → Tree → Names → List A
+  gather g (leaf s) [] = g.at_end (leaf s)
+  gather g (doc fs) [] = g.at_end (doc fs)
+  gather g (array ts) [] = g.at_end (array ts)
+  gather g (code_scope s fs) [] = g.at_end (code_scope s fs)
+  gather g (leaf s) (name ∷ rest) = g.missing
+  gather g (doc fs) (name ∷ rest) = gather_first g fs name rest
+  gather g (array ts) (name ∷ rest) = g.of_array (gather_each g ts (name ∷ rest) ++ gather_at g ts (index_of name) rest)
+  gather g (code_scope s fs) (name ∷ rest) = g.missing
+
+  -- from the first field of that name
+  pub gather_first : {A : Type 0} → Gathering A → Fields → List ℕ → Names → List A
+  gather_first g no_fields name rest = g.missing
+  gather_first g (field n t fs) name rest = if bytes_eq n name then gather g t rest else gather_first g fs name rest
+
+  -- from each element that is a document, with the same path
+  pub gather_each : {A : Type 0} → Gathering A → Items → Names → List A
+  gather_each g no_items path = []
+  gather_each g (item t ts) path = (if is_document t then gather g t path else []) ++ gather_each g ts path
+
+  -- from the element at an index
+  pub gather_at : {A : Type 0} → Gathering A → Items → Option ℕ → Names → List A
+  gather_at g no_items i rest = []
+  gather_at g (item t ts) None rest = []
+  gather_at g (item t ts) (Some zero) rest = gather g t rest
+  gather_at g (item t ts) (Some (suc i)) rest = gather_at g ts (Some i) rest
+
+-- a value that a path reaches; None where a field is missing
+abbrev pub End : Type 0
+End = Option Tree
+
+abbrev pub ends : Gathering End
+ends = record { at_end = λ t. Some t ∷ []; missing = None ∷ []; of_array = λ es. es }
+
+abbrev pub reach : Tree → Names → List End
+reach t path = gather ends t path

@@ -1,0 +1,63 @@
+//! A component of a path.
+
+ghost use Rattle.std.specs.Prelude.{◌≡◌, IfOk, string_bytes};
+ghost use Rattle.std.specs.Str.{all_ascii_digits};
+ghost use Rattle.bd_path.specs.Component.{index_of, is_index, held_index};
+
+use bd_value::NoMemory;
+use std::alloc::Global;
+
+/// A name, and the index of an array that it is.
+#[derive(Drop)]
+pub struct Component {
+    pub name: String,
+    /// None where the name is no index; the greatest number where it is past every array.
+    pub index: Option<usize>,
+
+    ghost known: { index ≡ held_index (string_bytes name) },
+}
+
+impl Component {
+    /// The component of this name. It fails for want of memory alone.
+    pub fn new(alloc: Global, name: &str) -> Result<Self, NoMemory>
+        ensures { IfOk result (λ c. string_bytes c.name ≡ name.now) }
+    {
+        Ok(Component {
+            name: String::from_str(alloc, name)?,
+            index: index_of(name),
+        })
+    }
+}
+
+fn are_digits(bytes: &[u8]) -> bool
+    ensures { result ≡ all_ascii_digits bytes.now }
+{
+    for byte in bytes {
+        if !byte.is_ascii_digit() {
+            return false;
+        }
+    }
+    true
+}
+
+/// Whether a name is `0`, or digits of which the first is none.
+fn is_index(name: &[u8]) -> bool
+    ensures { result ≡ is_index name.now }
+{
+    match name {
+        [] => false,
+        [digit] => digit.is_ascii_digit(),
+        [b'0', ..] => false,
+        _ => are_digits(name),
+    }
+}
+
+/// The index that a name is; the greatest number for one past every array.
+fn index_of(name: &str) -> Option<usize>
+    ensures { result ≡ held_index name.now }
+{
+    if !is_index(name.as_bytes()) {
+        return None;
+    }
+    Some(name.parse::<usize>().unwrap_or(usize::MAX))
+}

@@ -1,0 +1,107 @@
+//! Paths.
+
+ghost use Rattle.std.specs.Prelude.{◌≡◌, ◌<◌, ◌≤◌, length, slice_get, Some, Ok, IfOk, map, string_bytes};
+ghost use Rattle.bd_path.specs.Names.{component_names, components_of};
+ghost use Rattle.std.specs.List.{list_any};
+ghost use Rattle.bd_path.specs.Path.{is_empty_name};
+
+use crate::component::Component;
+use crate::path_fault::PathFault;
+use bd_value::NoMemory;
+use std::alloc::Global;
+
+/// The most components of a path.
+const MOST: usize = 100;
+
+/// A path: one to a hundred names, none empty, with a full stop between each and the next.
+#[derive(Drop)]
+pub struct Path {
+    text: String,
+    components: Vec<Component>,
+
+    ghost cut: { component_names components.items ≡ components_of (string_bytes text) },
+    ghost few: { length components.items ≤ 100 },
+}
+
+impl Path {
+    ghost use Rattle.bd_path.specs.Path.{RefusesOrStarves, path_of};
+    ghost use Rattle.bd_path.specs.PathNames.{names_of};
+
+    /// The path that a text is. It fails where there are more than 100 components, else where one is empty, and for want of
+    /// memory.
+    pub fn parse(alloc: Global, text: &str) -> Result<Path, PathFault>
+        ensures path { IfOk result (λ p. path_of text.now ≡ Ok (names_of p)) }
+        ensures text { IfOk result (λ p. string_bytes p.text ≡ text.now) }
+        ensures fault { RefusesOrStarves result (path_of text.now) }
+    {
+        let names = cut(alloc, text)?;
+        if names.len() > MOST {
+            return Err(PathFault::TooLong);
+        }
+        if has_empty(&names) {
+            return Err(PathFault::EmptyComponent);
+        }
+        let components = named(alloc, &names)?;
+        let text = String::from_str(alloc, text)?;
+        Ok(Path { text, components })
+    }
+
+    /// How many components it has: 1 to 100. It takes no memory.
+    pub fn len(&self) -> u32
+        ensures { result ≡ length (names_of self.now) }
+    {
+        self.components.len() as u32
+    }
+
+    /// The component at an index, counted from 0. It takes no memory.
+    pub fn component(&self, i: u32) -> &str
+        requires { i < length (names_of self.now) }
+        ensures { slice_get (names_of self.now) i ≡ Some result.now }
+    {
+        self.components[i as usize].name.as_str()
+    }
+
+    /// All of them.
+    pub(crate) fn components(&self) -> &[Component]
+        ensures { component_names result.now ≡ names_of self.now }
+    {
+        &self.components
+    }
+
+    /// The text that it was cut from. It takes no memory.
+    pub fn as_str(&self) -> &str
+        ensures { result.now ≡ string_bytes self.now.text }
+    {
+        self.text.as_str()
+    }
+}
+
+/// The names between the full stops of a text. It fails for want of memory alone.
+fn cut(alloc: Global, text: &str) -> Result<Vec<&str>, NoMemory>
+    ensures { IfOk result (λ v. map (λ name. name.now) v.items ≡ components_of text.now) }
+{
+    text.split('.').collect(alloc)
+}
+
+/// Whether one of the names is empty.
+fn has_empty(names: &[&str]) -> bool
+    ensures { result ≡ list_any is_empty_name (map (λ name. name.now) names.now) }
+{
+    for name in names {
+        if name.is_empty() {
+            return true;
+        }
+    }
+    false
+}
+
+/// The components of these names. It fails for want of memory alone.
+fn named(alloc: Global, names: &[&str]) -> Result<Vec<Component>, NoMemory>
+    ensures { IfOk result (λ v. component_names v.items ≡ map (λ name. name.now) names.now) }
+{
+    let mut components = Vec::new(alloc);
+    for name in names {
+        components.push(Component::new(alloc, name)?)?;
+    }
+    Ok(components)
+}
