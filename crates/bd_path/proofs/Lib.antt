@@ -1,3 +1,5 @@
 pub mod ComponentLemmas
-pub mod ReachLemmas
+pub mod EarliestLemmas
 pub mod EndsLemmas
+pub mod KeyListLemmas
+pub mod ReachLemmas

@@ -13,11 +13,11 @@ use Rattle.bd_path.specs.Names.{Names, component_names}
 use Rattle.bd_path.specs.declared.component.Component.{Component}
 use Rattle.bd_path.specs.Reach.{Gathering, gather, gather_at, gather_each, gather_first}
 
-scalar_is_no_array : (s : Scalar) → scalar_kind s ≡ kinds.Array → ⊥
+pub scalar_is_no_array : (s : Scalar) → scalar_kind s ≡ kinds.Array → ⊥
 scalar_is_no_array trees.min_key k = cc
 scalar_is_no_array _ k = cc
 
-scalar_is_no_doc : (s : Scalar) → scalar_kind s ≡ kinds.Doc → ⊥
+pub scalar_is_no_doc : (s : Scalar) → scalar_kind s ≡ kinds.Doc → ⊥
 scalar_is_no_doc trees.min_key k = cc
 scalar_is_no_doc _ k = cc
 

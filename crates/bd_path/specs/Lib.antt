@@ -1,6 +1,10 @@
 pub mod Component
+pub mod Earliest
+pub mod Key
+pub mod KeyList
 pub mod Names
 pub mod Path
 pub mod PathFault
 pub mod PathNames
 pub mod Reach
+pub mod Sort

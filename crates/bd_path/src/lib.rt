@@ -8,10 +8,20 @@
 #![tactic(auto)]
 
 mod component;
+mod dir;
+mod earliest;
 mod ends;
+mod key;
+mod key_list;
 mod path;
 mod path_fault;
+mod sort;
 
+pub use dir::Dir;
+pub use earliest::{compare_in, sort_key, sort_key_node};
 pub use ends::{EndTest, any_end};
+pub use key::{Key, compare_keys, key_value};
+pub use key_list::{key_nodes, keys, sparse_keys};
 pub use path::Path;
 pub use path_fault::PathFault;
+pub use sort::compare_sort;

@@ -1,0 +1,229 @@
+-- The earliest of some keys, by parts.
+use Rattle.std.proofs.Common.{◌≡◌, ◌∷◌, ◌++◌, ℕ, List, [], Bool, true, false, cond, Option, Some, None, ◌⊎◌, inl, inr, refl, sym, ap, ◌∙◌, subst, Ordering, Less, Equal, Greater}
+use Rattle.std.specs.Prelude.{◌||◌, IfSome}
+use Rattle.std.specs.Cmp.{IsTotalOrder}
+use Rattle.std.specs.List.{list_any}
+use Rattle.std.specs.Ordering.{is_eq, is_lt, ordering_reverse}
+use Rattle.bd_value.specs.Order.{cmp, equal}
+use Rattle.bd_value.specs.Kind.{kind_of}
+use Rattle.bd_value.specs.Parts.{elements_in}
+use Rattle.bd_value.specs.Tree as trees
+use Rattle.bd_value.specs.Tree.{Tree, Items, leaf, doc, array, code_scope, item, items_of}
+use Rattle.bd_value.specs.declared.kind.Kind.TheVariants as kinds
+use Rattle.bd_value.proofs.OrderLemmas.LawsLemmas.{cmp_total}
+use Rattle.bd_path.specs.Names.{Names}
+use Rattle.bd_path.specs.Reach.{Gathering, gather, gather_each}
+use Rattle.bd_path.specs.Earliest.{dir_cmp, earlier_key, earliest_key}
+use Rattle.bd_path.specs.Key.{IsKeyOf}
+use Rattle.bd_path.specs.declared.key.Key.{Key}
+use Rattle.bd_path.specs.declared.key.Key.TheVariants.{Node, Null, Undefined}
+use Rattle.bd_path.specs.KeyList.{distinct, end_keys, or_else, with_key, with_keys}
+use Rattle.bd_path.proofs.ReachLemmas.{scalar_is_no_array, scalar_is_no_doc}
+use Rattle.bd_path.specs.declared.dir.Dir.{Dir}
+use Rattle.bd_path.specs.declared.dir.Dir.TheVariants.{Up, Down}
+
+reversed_less : (o : Ordering) → ordering_reverse o ≡ Less → o ≡ Greater
+reversed_less Less is = absurd cc
+reversed_less Equal is = absurd cc
+reversed_less Greater is = refl
+
+reversed_equal : (o : Ordering) → ordering_reverse o ≡ Equal → o ≡ Equal
+reversed_equal Less is = absurd cc
+reversed_equal Equal is = refl
+reversed_equal Greater is = absurd cc
+
+less_than : (o : Ordering) → is_lt o ≡ true → o ≡ Less
+less_than Less is = refl
+less_than Equal is = absurd cc
+less_than Greater is = absurd cc
+
+pub dir_total : (dir : Dir) → IsTotalOrder (dir_cmp dir)
+dir_total Up = cmp_total
+dir_total Down = record {
+  antisymm = λ x y. ap ordering_reverse (cmp_total.antisymm x y);
+  trans = λ x y z e f.
+      ap ordering_reverse (cmp_total.antisymm x z
+      ∙ ap ordering_reverse (cmp_total.trans z y x
+      (cmp_total.antisymm z y ∙ ap ordering_reverse (reversed_less (cmp y z) f))
+      (cmp_total.antisymm y x ∙ ap ordering_reverse (reversed_less (cmp x y) e))));
+  congr = λ x y z e. ap ordering_reverse (cmp_total.congr x y z (reversed_equal (cmp x y) e));
+}
+
+dir_equal : (dir : Dir) (a b : Tree) → is_eq (cmp a b) ≡ true → dir_cmp dir a b ≡ Equal
+dir_equal dir a b is = go dir (cmp a b) refl is
+  where
+    go : (d : Dir) (o : Ordering) → cmp a b ≡ o → is_eq o ≡ true → dir_cmp d a b ≡ Equal
+    go Up Less e h = absurd cc
+    go Up Equal e h = e
+    go Up Greater e h = absurd cc
+    go Down Less e h = absurd cc
+    go Down Equal e h = ap ordering_reverse e
+    go Down Greater e h = absurd cc
+
+abbrev some : Tree → Option Tree
+some t = Some t
+
+module _ (dir : Dir) where
+  total : IsTotalOrder (dir_cmp dir)
+  total = dir_total dir
+
+  -- what is before z is before y, where y is not before z
+  before : (x y z : Tree) (o : Ordering) → dir_cmp dir y z ≡ o → is_lt o ≡ false → dir_cmp dir x z ≡ Less → dir_cmp dir x y ≡ Less
+  before x y z Less e h less = absurd cc
+  before x y z Equal e h less = total.antisymm x y ∙ ap ordering_reverse (total.congr y z x e ∙ total.antisymm z x ∙ ap ordering_reverse less)
+  before x y z Greater e h less = total.trans x z y less (total.antisymm z y ∙ ap ordering_reverse e)
+
+  all_before : (a b c : Tree) → is_lt (dir_cmp dir b a) ≡ true → is_lt (dir_cmp dir c b) ≡ true → is_lt (dir_cmp dir c a) ≡ true
+  all_before a b c ba cb = ap is_lt (total.trans c b a (less_than (dir_cmp dir c b) cb) (less_than (dir_cmp dir b a) ba))
+
+  none_before : (a b c : Tree) → is_lt (dir_cmp dir b a) ≡ false → is_lt (dir_cmp dir c b) ≡ false → is_lt (dir_cmp dir c a) ≡ false
+  none_before a b c ba cb = go (is_lt (dir_cmp dir c a)) refl
+    where
+      go : (t : Bool) → is_lt (dir_cmp dir c a) ≡ t → t ≡ false
+      go true e = let less = ap is_lt (before c b a (dir_cmp dir b a) refl ba (less_than (dir_cmp dir c a) e)) in absurd cc
+      go false e = refl
+
+  pub right_none : (a : Option Tree) → earlier_key dir a None ≡ a
+  right_none None = refl
+  right_none (Some a) = refl
+
+  second_of : (a b c : Tree) (cb : Bool) → earlier_key dir (Some a) (cond cb (Some c) (Some b))
+      ≡ cond cb (cond (is_lt (dir_cmp dir c a)) (Some c) (Some a)) (cond (is_lt (dir_cmp dir b a)) (Some b) (Some a))
+  second_of a b c true = refl
+  second_of a b c false = refl
+
+  first_of : (a b c : Tree) (ba : Bool) → earlier_key dir (cond ba (Some b) (Some a)) (Some c)
+      ≡ cond ba (cond (is_lt (dir_cmp dir c b)) (Some c) (Some b)) (cond (is_lt (dir_cmp dir c a)) (Some c) (Some a))
+  first_of a b c true = refl
+  first_of a b c false = refl
+
+  three : (a b c : Tree) → earlier_key dir (Some a) (earlier_key dir (Some b) (Some c)) ≡ earlier_key dir (earlier_key dir (Some a) (Some b)) (Some c)
+  three a b c =
+      second_of a b c (is_lt (dir_cmp dir c b))
+      ∙ go (is_lt (dir_cmp dir b a)) (is_lt (dir_cmp dir c b)) (is_lt (dir_cmp dir c a)) refl refl refl
+      ∙ sym (first_of a b c (is_lt (dir_cmp dir b a)))
+    where
+      go : (ba cb ca : Bool) → is_lt (dir_cmp dir b a) ≡ ba → is_lt (dir_cmp dir c b) ≡ cb → is_lt (dir_cmp dir c a) ≡ ca
+          → cond cb (cond ca (some c) (some a)) (cond ba (some b) (some a)) ≡ cond ba (cond cb (some c) (some b)) (cond ca (some c) (some a))
+      go true true true e f h = refl
+      go true true false e f h = let t = all_before a b c e f in absurd cc
+      go true false ca e f h = refl
+      go false true ca e f h = refl
+      go false false true e f h = let t = none_before a b c e f in absurd cc
+      go false false false e f h = refl
+
+  pub in_turn : (a b c : Option Tree) → earlier_key dir a (earlier_key dir b c) ≡ earlier_key dir (earlier_key dir a b) c
+  in_turn None b c = refl
+  in_turn (Some a) None c = refl
+  in_turn (Some a) (Some b) None = sym (right_none (earlier_key dir (Some a) (Some b)))
+  in_turn (Some a) (Some b) (Some c) = three a b c
+
+  pub of_both : (xs ys : List Tree) → earliest_key dir (xs ++ ys) ≡ earlier_key dir (earliest_key dir xs) (earliest_key dir ys)
+  of_both [] ys = refl
+  of_both (x ∷ xs) ys = ap (earlier_key dir (Some x)) (of_both xs ys) ∙ in_turn (Some x) (earliest_key dir xs) (earliest_key dir ys)
+
+  -- ---- a key that equals one of them
+
+  equal_first : (k t : Tree) (e : Option Tree) → is_eq (cmp k t) ≡ true → earlier_key dir (Some k) (earlier_key dir e (Some t)) ≡ earlier_key dir (Some k) e
+  equal_first k t None same = let back : is_lt (dir_cmp dir t k) ≡ false = ap is_lt (total.antisymm t k ∙ ap ordering_reverse (dir_equal dir k t same)) in rw back refl
+  equal_first k t (Some e) same = go (is_lt (dir_cmp dir t e)) refl
+    where
+      back : is_lt (dir_cmp dir t k) ≡ false
+      back = ap is_lt (total.antisymm t k ∙ ap ordering_reverse (dir_equal dir k t same))
+
+      go : (b : Bool) → is_lt (dir_cmp dir t e) ≡ b → earlier_key dir (Some k) (earlier_key dir (Some e) (Some t)) ≡ earlier_key dir (Some k) (Some e)
+      go true h =
+          let after : is_lt (dir_cmp dir e k) ≡ false = ap is_lt (total.antisymm e k ∙ ap ordering_reverse (total.congr k t e (dir_equal dir k t same) ∙ less_than (dir_cmp dir t e) h)) in
+          rw h (rw (back, after) refl)
+      go false h = rw h refl
+
+  there : (ks : List Tree) (t : Tree) → list_any (λ x. equal x t) ks ≡ true → earlier_key dir (earliest_key dir ks) (Some t) ≡ earliest_key dir ks
+  there [] t is = absurd cc
+  there (k ∷ ks) t is = sym (in_turn (Some k) (earliest_key dir ks) (Some t)) ∙ go (is_eq (cmp k t)) refl is (there ks t)
+    where
+      go : (b : Bool) → is_eq (cmp k t) ≡ b → (b || list_any (λ x. equal x t) ks) ≡ true → (list_any (λ x. equal x t) ks ≡ true → earlier_key dir (earliest_key dir ks) (Some t) ≡ earliest_key dir ks)
+          → earlier_key dir (Some k) (earlier_key dir (earliest_key dir ks) (Some t)) ≡ earlier_key dir (Some k) (earliest_key dir ks)
+      go true same h rest = equal_first k t (earliest_key dir ks) same
+      go false same h rest = ap (earlier_key dir (Some k)) (rest h)
+
+  one_key : (ks : List Tree) (t : Tree) (b : Bool) → list_any (λ x. equal x t) ks ≡ b → earliest_key dir (cond b ks (ks ++ t ∷ [])) ≡ earlier_key dir (earliest_key dir ks) (Some t)
+  one_key ks t true is = sym (there ks t is)
+  one_key ks t false is = of_both ks (t ∷ [])
+
+  all_of_keys : (ks ts : List Tree) → earliest_key dir (with_keys ks ts) ≡ earlier_key dir (earliest_key dir ks) (earliest_key dir ts)
+  all_of_keys ks [] = sym (right_none (earliest_key dir ks))
+  all_of_keys ks (t ∷ ts) =
+      all_of_keys (with_key ks t) ts
+      ∙ ap (λ e. earlier_key dir e (earliest_key dir ts)) (one_key ks t (list_any (λ x. equal x t) ks) refl)
+      ∙ sym (in_turn (earliest_key dir ks) (Some t) (earliest_key dir ts))
+
+  pub of_distinct : (ts : List Tree) → earliest_key dir (distinct ts) ≡ earliest_key dir ts
+  of_distinct ts = all_of_keys [] ts
+
+  -- ---- what stands for no keys
+
+  pub or_some : (xs missing : List Tree) (k : Tree) → Some k ≡ earliest_key dir xs → Some k ≡ earliest_key dir (or_else xs missing)
+  or_some [] missing k is = absurd cc
+  or_some (x ∷ xs) missing k is = is
+
+  some_key : (x : Tree) (e : Option Tree) → None ≡ earlier_key dir (Some x) e → ⊥
+  some_key x None is = cc
+  some_key x (Some e) is = go (is_lt (dir_cmp dir e x)) is
+    where
+      go : (b : Bool) → None ≡ cond b (Some e) (Some x) → ⊥
+      go true h = cc
+      go false h = cc
+
+  pub or_none : (xs missing : List Tree) → None ≡ earliest_key dir xs → earliest_key dir missing ≡ earliest_key dir (or_else xs missing)
+  or_none [] missing is = refl
+  or_none (x ∷ xs) missing is = absurd (some_key x (earliest_key dir xs) is)
+
+-- what holds of both holds of either
+pub of_either : {A : Type 0} (P : A → Type 0) (r a b : Option A) → (r ≡ a) ⊎ (r ≡ b) → IfSome a P → IfSome b P → IfSome r P
+of_either P r a b (inl is) first second = subst (λ x. IfSome x P) (sym is) first
+of_either P r a b (inr is) first second = subst (λ x. IfSome x P) (sym is) second
+
+pub ends_of_array : (t : Tree) → kind_of t ≡ kinds.Array → end_keys t ≡ or_else (elements_in t) (leaf trees.undefined ∷ [])
+ends_of_array (leaf s) k = absurd (scalar_is_no_array s k)
+ends_of_array (doc fs) k = absurd cc
+ends_of_array (array ts) k = refl
+ends_of_array (code_scope s fs) k = absurd cc
+
+-- the earliest so far is taken on, over the first of those that are left
+pub end_on : (dir : Dir) (e f : Option Tree) (t : Tree) (ts us : List Tree) (all : Option Tree)
+    → earlier_key dir e (earliest_key dir ts) ≡ all → ts ≡ t ∷ us → f ≡ earlier_key dir e (Some t) → earlier_key dir f (earliest_key dir us) ≡ all
+end_on dir e f t ts us all so_far first is =
+    ap (λ x. earlier_key dir x (earliest_key dir us)) is ∙ sym (in_turn dir e (Some t) (earliest_key dir us))
+    ∙ ap (λ xs. earlier_key dir e (earliest_key dir xs)) (sym first) ∙ so_far
+
+each_document : (g : Gathering Tree) (t : Tree) (ts : Items) (names : Names) → kind_of t ≡ kinds.Doc → gather_each g (item t ts) names ≡ gather g t names ++ gather_each g ts names
+each_document g (leaf s) ts names k = absurd (scalar_is_no_doc s k)
+each_document g (doc fs) ts names k = refl
+each_document g (array us) ts names k = absurd cc
+each_document g (code_scope s fs) ts names k = absurd cc
+
+no_document : (g : Gathering Tree) (t : Tree) (ts : Items) (names : Names) → (kind_of t ≡ kinds.Doc → ⊥) → gather_each g (item t ts) names ≡ gather_each g ts names
+no_document g (leaf s) ts names k = refl
+no_document g (doc fs) ts names k = absurd (k refl)
+no_document g (array us) ts names k = refl
+no_document g (code_scope s fs) ts names k = refl
+
+pub document_on : (dir : Dir) (g : Gathering Tree) (names : Names) (e f below : Option Tree) (t : Tree) (ts us : List Tree) (all : Option Tree)
+    → earlier_key dir e (earliest_key dir (gather_each g (items_of ts) names)) ≡ all → ts ≡ t ∷ us → kind_of t ≡ kinds.Doc
+    → below ≡ earliest_key dir (gather g t names) → f ≡ earlier_key dir e below → earlier_key dir f (earliest_key dir (gather_each g (items_of us) names)) ≡ all
+document_on dir g names e f below t ts us all so_far first k under is =
+    let rest = gather_each g (items_of us) names in
+    ap (λ x. earlier_key dir x (earliest_key dir rest)) (is ∙ ap (earlier_key dir e) under)
+    ∙ sym (in_turn dir e (earliest_key dir (gather g t names)) (earliest_key dir rest))
+    ∙ ap (earlier_key dir e) (sym (of_both dir (gather g t names) rest) ∙ ap (earliest_key dir) (sym (each_document g t (items_of us) names k)))
+    ∙ ap (λ xs. earlier_key dir e (earliest_key dir (gather_each g (items_of xs) names))) (sym first) ∙ so_far
+
+pub no_document_on : (dir : Dir) (g : Gathering Tree) (names : Names) (e : Option Tree) (t : Tree) (ts us : List Tree) (all : Option Tree)
+    → earlier_key dir e (earliest_key dir (gather_each g (items_of ts) names)) ≡ all → ts ≡ t ∷ us → (kind_of t ≡ kinds.Doc → ⊥)
+    → earlier_key dir e (earliest_key dir (gather_each g (items_of us) names)) ≡ all
+no_document_on dir g names e t ts us all so_far first k = ap (λ xs. earlier_key dir e (earliest_key dir xs)) (sym (no_document g t (items_of us) names k)) ∙ ap (λ xs. earlier_key dir e (earliest_key dir (gather_each g (items_of xs) names))) (sym first) ∙ so_far
+
+pub key_in : {N : Type 0} (source : N → List ℕ) (bytes other : List ℕ) (k : Key N) → other ≡ bytes → IsKeyOf source other k → IsKeyOf source bytes k
+key_in source bytes other (Node n) same is = is ∙ same
+key_in source bytes other Null same is = tt
+key_in source bytes other Undefined same is = tt
