@@ -2,4 +2,6 @@ pub mod ComponentLemmas
 pub mod EarliestLemmas
 pub mod EndsLemmas
 pub mod KeyListLemmas
+pub mod LawsLemmas
+pub mod Members
 pub mod ReachLemmas

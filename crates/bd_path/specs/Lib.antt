@@ -2,6 +2,7 @@ pub mod Component
 pub mod Earliest
 pub mod Key
 pub mod KeyList
+pub mod Laws
 pub mod Names
 pub mod Path
 pub mod PathFault

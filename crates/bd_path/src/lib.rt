@@ -1,10 +1,15 @@
 //! Paths into values: what a path reaches, and the keys by which a document is sorted and indexed.
 //!
-//! A path is a text of names with full stops between them. It reaches into documents by name and into arrays both by
-//! number and through each document in them: MongoDB manual, "Query on Embedded/Nested Documents", "Query an Array".
+//! A path is a text of names with full stops between them. It goes into documents by name, and into arrays both by index and
+//! through each document in them: MongoDB manual, "Query on Embedded/Nested Documents" and "Query an Array". All calls read a
+//! value wherever it lies, in memory or in the bytes of a dump.
 //!
-//! - `path`: `Path`, a text cut into its components.
+//! - `path`, `path_fault`, `component`: `Path`, a text cut into its components: `specs/Path.antt`.
 //! - `ends`: `any_end`, whether a value that the path reaches passes a test: `specs/Reach.antt`.
+//! - `key`, `key_list`: the keys of a document on a path, as nodes of the document: `specs/KeyList.antt`.
+//! - `dir`, `earliest`, `sort`: the key of a document in a sort, found with no list of keys, and the order of two documents by
+//!   several paths: `specs/Earliest.antt`.
+//! - `laws`: keys are always there; a sparse index leaves out nulls alone; a sort is total.
 #![tactic(auto)]
 
 mod component;
@@ -13,6 +18,7 @@ mod earliest;
 mod ends;
 mod key;
 mod key_list;
+mod laws;
 mod path;
 mod path_fault;
 mod sort;
@@ -22,6 +28,7 @@ pub use earliest::{compare_in, sort_key, sort_key_node};
 pub use ends::{EndTest, any_end};
 pub use key::{Key, compare_keys, key_value};
 pub use key_list::{key_nodes, keys, sparse_keys};
+pub use laws::{keys_are_there, sorts_order_all_documents, sparse_keys_are_the_rest};
 pub use path::Path;
 pub use path_fault::PathFault;
 pub use sort::compare_sort;
