@@ -1,5 +1,5 @@
 -- What a key stands for.
-use Rattle.std.specs.Prelude.{◌≡◌, ℕ, List}
+use Rattle.std.specs.Prelude.{◌≡◌, ◌++◌, ℕ, List, map, All}
 use Rattle.bd_value.specs.Tree as trees
 use Rattle.bd_value.specs.Tree.{Tree, leaf}
 use Rattle.bd_path.specs.declared.key.Key.{Key}
@@ -15,3 +15,13 @@ abbrev pub IsKeyOf : {N : Type 0} → (N → List ℕ) → List ℕ → Key N �
 IsKeyOf source bytes (Node n) = source n ≡ bytes
 IsKeyOf source bytes Null = Unit {0}
 IsKeyOf source bytes Undefined = Unit {0}
+
+abbrev pub key_trees : {N : Type 0} → (N → Tree) → List (Key N) → List Tree
+key_trees tree keys = map (key_tree tree) keys
+
+abbrev pub AreKeysOf : {N : Type 0} → (N → List ℕ) → List ℕ → List (Key N) → Type 0
+AreKeysOf source bytes keys = All (IsKeyOf source bytes) keys
+
+-- to the keys that were there, these were added
+abbrev pub AddsKeys : {N : Type 0} → (N → Tree) → List (Key N) → List (Key N) → List Tree → Type 0
+AddsKeys tree before after more = key_trees tree after ≡ key_trees tree before ++ more

@@ -1,11 +1,13 @@
 -- The keys of a document on a path: what it is sorted by, and what an index has of it.
-use Rattle.std.specs.Prelude.{Bool, true, false, List, [], ◌∷◌, ◌++◌, if◌then◌else◌}
+use Rattle.std.specs.Prelude.{ℕ, Bool, true, false, List, [], ◌∷◌, ◌++◌, if◌then◌else◌}
 use Rattle.std.specs.List.{list_any}
 use Rattle.bd_value.specs.Order.{equal}
+use Rattle.bd_value.specs.Parts.{elements_in}
 use Rattle.bd_value.specs.Tree as trees
-use Rattle.bd_value.specs.Tree.{Tree, leaf, doc, array, code_scope, list_of}
+use Rattle.bd_value.specs.Tree.{Tree, leaf, doc, array, code_scope, items_of, list_of}
+use Rattle.bd_path.specs.Component.{index_of}
 use Rattle.bd_path.specs.Names.{Names}
-use Rattle.bd_path.specs.Reach.{Gathering, gather}
+use Rattle.bd_path.specs.Reach.{Gathering, gather, gather_at, gather_each}
 
 -- what stands for a field that is missing: a null, and in a sparse index nothing
 abbrev pub missing_key : Bool → List Tree
@@ -30,6 +32,13 @@ keyed missing = record { at_end = end_keys; missing = missing; of_array = λ ks.
 -- the keys with equal ones
 abbrev pub all_keys : Bool → Tree → Names → List Tree
 all_keys sparse t path = gather (keyed (missing_key sparse)) t path
+
+-- of the documents in an array, and of the element whose index a component is
+abbrev pub document_keys : Bool → Tree → Names → List Tree
+document_keys sparse t path = gather_each (keyed (missing_key sparse)) (items_of (elements_in t)) path
+
+abbrev pub index_keys : Bool → Tree → List ℕ → Names → List Tree
+index_keys sparse t name rest = gather_at (keyed (missing_key sparse)) (items_of (elements_in t)) (index_of name) rest
 
 -- one key more, which is dropped where it equals an earlier one
 abbrev pub with_key : List Tree → Tree → List Tree

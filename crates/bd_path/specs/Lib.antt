@@ -1,5 +1,6 @@
 pub mod Component
 pub mod Earliest
+pub mod EarliestKeys
 pub mod Key
 pub mod KeyList
 pub mod Laws

@@ -1,7 +1,9 @@
 -- What a path reaches (MongoDB manual, "Query on Embedded/Nested Documents" and "Query an Array").
 use Rattle.std.specs.Prelude.{ℕ, zero, suc, List, [], ◌∷◌, ◌++◌, Bool, true, false, Option, Some, None, if◌then◌else◌}
 use Rattle.std.specs.Str.{bytes_eq}
-use Rattle.bd_value.specs.Tree.{Tree, leaf, doc, array, code_scope, Items, no_items, item, Fields, no_fields, field}
+use Rattle.bd_value.specs.Parts.{elements_in}
+use Rattle.bd_value.specs.Tree.{Tree, leaf, doc, array, code_scope}
+use Rattle.bd_value.specs.Tree.{Items, no_items, item, items_of, Fields, no_fields, field}
 use Rattle.bd_path.specs.Component.{index_of}
 use Rattle.bd_path.specs.Names.{Names}
 
@@ -55,3 +57,10 @@ ends = record { at_end = λ t. Some t ∷ []; missing = None ∷ []; of_array = 
 
 abbrev pub reach : Tree → Names → List End
 reach t path = gather ends t path
+
+-- the ends in the documents of an array, and in the element whose index a component is
+abbrev pub document_ends : Tree → Names → List End
+document_ends t path = gather_each ends (items_of (elements_in t)) path
+
+abbrev pub index_ends : Tree → List ℕ → Names → List End
+index_ends t name rest = gather_at ends (items_of (elements_in t)) (index_of name) rest

@@ -2,17 +2,14 @@
 
 ghost use Rattle.std.specs.Prelude.{◌≡◌, ◌⊎◌, Bool, false, Some, IfOk, IfSome, option_map, string_bytes};
 ghost use Rattle.bd_value.specs.Kind.{kind_of};
-ghost use Rattle.bd_value.specs.Parts.{elements_in};
-ghost use Rattle.bd_value.specs.Tree.{items_of};
 ghost use Rattle.bd_value.specs.View.{tree_of};
 ghost use Rattle.bd_value.specs.declared.kind.Kind.TheVariants as kinds;
-ghost use Rattle.bd_path.specs.Component.{index_of};
 ghost use Rattle.bd_path.specs.Key.{IsKeyOf, key_tree};
-ghost use Rattle.bd_path.specs.KeyList.{all_keys, end_keys, keyed, missing_key};
+ghost use Rattle.bd_path.specs.KeyList.{all_keys, document_keys, end_keys, index_keys};
 ghost use Rattle.bd_path.specs.Names.{component_names};
 ghost use Rattle.bd_path.specs.PathNames.{names_of};
-ghost use Rattle.bd_path.specs.Reach.{gather, gather_at, gather_each};
-ghost use Rattle.bd_path.specs.Earliest.{dir_cmp, earlier_key, earliest_key, sort_key};
+ghost use Rattle.bd_path.specs.Earliest.{dir_cmp, earlier_key, sort_key};
+ghost use Rattle.bd_path.specs.EarliestKeys.{IsEarliest, key_option};
 
 use crate::component::Component;
 use crate::dir::Dir;
@@ -54,7 +51,7 @@ pub fn compare_in<M: Reading, N: Reading>(dir: Dir, a: Key<M>, b: Key<N>) -> Ord
 /// The earliest of the keys of a value on a path.
 #[cycle(earliest)]
 fn earliest_below<N: Reading>(node: N, path: &[Component], dir: Dir) -> Key<N>
-    ensures tree { Some (key_tree N.tree result) ≡ earliest_key dir (all_keys false (N.tree node) (component_names path.now)) }
+    ensures tree { IsEarliest dir N.tree (Some result) (all_keys false (N.tree node) (component_names path.now)) }
     ensures kept { IsKeyOf N.source (N.source node) result }
 {
     let Some((component, rest)) = path.split_first() else {
@@ -81,7 +78,7 @@ fn earliest_below<N: Reading>(node: N, path: &[Component], dir: Dir) -> Key<N>
 #[cycle(earliest)]
 fn earliest_of_documents<N: Reading>(node: N, path: &[Component], dir: Dir) -> Option<Key<N>>
     requires { kind_of (N.tree node) ≡ kinds.Array }
-    ensures tree { option_map (key_tree N.tree) result ≡ earliest_key dir (gather_each (keyed (missing_key false)) (items_of (elements_in (N.tree node))) (component_names path.now)) }
+    ensures tree { IsEarliest dir N.tree result (document_keys false (N.tree node) (component_names path.now)) }
     ensures kept { IfSome result (λ k. IsKeyOf N.source (N.source node) k) }
 {
     let mut earliest = None;
@@ -104,7 +101,7 @@ fn earliest_at_index<N: Reading>(
     dir: Dir,
 ) -> Option<Key<N>>
     requires { kind_of (N.tree node) ≡ kinds.Array }
-    ensures tree { option_map (key_tree N.tree) result ≡ earliest_key dir (gather_at (keyed (missing_key false)) (items_of (elements_in (N.tree node))) (index_of (string_bytes component.now.name)) (component_names path.now)) }
+    ensures tree { IsEarliest dir N.tree result (index_keys false (N.tree node) (string_bytes component.now.name) (component_names path.now)) }
     ensures kept { IfSome result (λ k. IsKeyOf N.source (N.source node) k) }
 {
     match component.index {
@@ -115,7 +112,7 @@ fn earliest_at_index<N: Reading>(
 
 /// A value, or the earliest of the elements of an array.
 fn earliest_end<N: Reading>(node: N, dir: Dir) -> Key<N>
-    ensures tree { Some (key_tree N.tree result) ≡ earliest_key dir (end_keys (N.tree node)) }
+    ensures tree { IsEarliest dir N.tree (Some result) (end_keys (N.tree node)) }
     ensures kept { IsKeyOf N.source (N.source node) result }
 {
     let Kind::Array = node.kind() else {
@@ -135,7 +132,7 @@ fn earliest_end<N: Reading>(node: N, dir: Dir) -> Key<N>
 
 /// The earlier of two keys, where both are there; the first of two that are equal.
 fn earlier<N: Reading>(dir: Dir, first: Option<Key<N>>, second: Option<Key<N>>) -> Option<Key<N>>
-    ensures tree { option_map (key_tree N.tree) result ≡ earlier_key dir (option_map (key_tree N.tree) first) (option_map (key_tree N.tree) second) }
+    ensures tree { key_option N.tree result ≡ earlier_key dir (key_option N.tree first) (key_option N.tree second) }
     ensures either { (result ≡ first) ⊎ (result ≡ second) }
 {
     match (first, second) {

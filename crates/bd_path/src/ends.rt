@@ -3,14 +3,11 @@
 ghost use Rattle.std.specs.Prelude.{◌≡◌, Bool, Option, option_map, string_bytes};
 ghost use Rattle.std.specs.List.{list_any};
 ghost use Rattle.bd_value.specs.Kind.{kind_of};
-ghost use Rattle.bd_value.specs.Parts.{elements_in};
 ghost use Rattle.bd_value.specs.Tree as trees;
-ghost use Rattle.bd_value.specs.Tree.{items_of};
 ghost use Rattle.bd_value.specs.declared.kind.Kind.TheVariants as kinds;
-ghost use Rattle.bd_path.specs.Component.{index_of};
 ghost use Rattle.bd_path.specs.Names.{component_names};
 ghost use Rattle.bd_path.specs.PathNames.{names_of};
-ghost use Rattle.bd_path.specs.Reach.{ends, gather_at, gather_each, reach};
+ghost use Rattle.bd_path.specs.Reach.{document_ends, index_ends, reach};
 
 use crate::component::Component;
 use crate::path::Path;
@@ -59,7 +56,7 @@ fn any_end_below<N: Reading, T: EndTest>(node: N, path: &[Component], test: &T) 
 #[cycle(ends)]
 fn any_end_in_documents<N: Reading, T: EndTest>(node: N, path: &[Component], test: &T) -> bool
     requires { kind_of (N.tree node) ≡ kinds.Array }
-    ensures { result ≡ list_any (T.passes test.now) (gather_each ends (items_of (elements_in (N.tree node))) (component_names path.now)) }
+    ensures { result ≡ list_any (T.passes test.now) (document_ends (N.tree node) (component_names path.now)) }
 {
     let mut left = node.parts();
     while let Some((_, element, after)) = N::next(&left) {
@@ -80,7 +77,7 @@ fn any_end_at_index<N: Reading, T: EndTest>(
     test: &T,
 ) -> bool
     requires { kind_of (N.tree node) ≡ kinds.Array }
-    ensures { result ≡ list_any (T.passes test.now) (gather_at ends (items_of (elements_in (N.tree node))) (index_of (string_bytes component.now.name)) (component_names path.now)) }
+    ensures { result ≡ list_any (T.passes test.now) (index_ends (N.tree node) (string_bytes component.now.name) (component_names path.now)) }
 {
     match component.index {
         Some(i) if i < node.len() => any_end_below(node.element(i), path, test),

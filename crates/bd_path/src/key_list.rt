@@ -4,16 +4,13 @@ ghost use Rattle.std.specs.Prelude.{◌≡◌, ◌++◌, List, ℕ, map, IfOk, O
 ghost use Rattle.std.specs.List.{list_any};
 ghost use Rattle.bd_value.specs.Kind.{kind_of};
 ghost use Rattle.bd_value.specs.Order.{equal};
-ghost use Rattle.bd_value.specs.Parts.{elements_in};
-ghost use Rattle.bd_value.specs.Tree.{items_of};
 ghost use Rattle.bd_value.specs.View.{tree_of};
 ghost use Rattle.bd_value.specs.declared.kind.Kind.TheVariants as kinds;
-ghost use Rattle.bd_path.specs.Component.{index_of};
-ghost use Rattle.bd_path.specs.Key.{IsKeyOf, key_tree};
-ghost use Rattle.bd_path.specs.KeyList.{all_keys, distinct, end_keys, keyed, keys, missing_key, sparse_keys as sparse_keys_of, with_key};
+ghost use Rattle.bd_path.specs.Key.{AddsKeys, AreKeysOf, IsKeyOf, key_tree, key_trees};
+ghost use Rattle.bd_path.specs.KeyList.{all_keys, distinct, document_keys, end_keys, index_keys, keys};
+ghost use Rattle.bd_path.specs.KeyList.{missing_key, sparse_keys as sparse_keys_of, with_key};
 ghost use Rattle.bd_path.specs.Names.{component_names};
 ghost use Rattle.bd_path.specs.PathNames.{names_of};
-ghost use Rattle.bd_path.specs.Reach.{gather, gather_at, gather_each};
 
 use crate::component::Component;
 use crate::key::{Key, compare_keys, key_value};
@@ -25,8 +22,8 @@ use std::alloc::Global;
 /// value itself, a null for a field that is missing. A key that equals an earlier one is dropped. It fails for want of memory
 /// alone.
 pub fn key_nodes<N: Reading>(alloc: Global, doc: N, path: &Path) -> Result<Vec<Key<N>>, NoMemory>
-    ensures trees { IfOk result (λ ks. map (key_tree N.tree) ks.items ≡ keys (N.tree doc) (names_of path.now)) }
-    ensures kept { IfOk result (λ ks. All (IsKeyOf N.source (N.source doc)) ks.items) }
+    ensures trees { IfOk result (λ ks. key_trees N.tree ks.items ≡ keys (N.tree doc) (names_of path.now)) }
+    ensures kept { IfOk result (λ ks. AreKeysOf N.source (N.source doc) ks.items) }
 {
     let mut all = Vec::new(alloc);
     add_keys(doc, path.components(), false, &mut all)?;
@@ -35,8 +32,8 @@ pub fn key_nodes<N: Reading>(alloc: Global, doc: N, path: &Path) -> Result<Vec<K
 
 /// The same without a null for a field that is missing: what a sparse index has. It fails for want of memory alone.
 pub fn sparse_keys<N: Reading>(alloc: Global, doc: N, path: &Path) -> Result<Vec<Key<N>>, NoMemory>
-    ensures trees { IfOk result (λ ks. map (key_tree N.tree) ks.items ≡ sparse_keys_of (N.tree doc) (names_of path.now)) }
-    ensures kept { IfOk result (λ ks. All (IsKeyOf N.source (N.source doc)) ks.items) }
+    ensures trees { IfOk result (λ ks. key_trees N.tree ks.items ≡ sparse_keys_of (N.tree doc) (names_of path.now)) }
+    ensures kept { IfOk result (λ ks. AreKeysOf N.source (N.source doc) ks.items) }
 {
     let mut all = Vec::new(alloc);
     add_keys(doc, path.components(), true, &mut all)?;
@@ -63,8 +60,8 @@ fn add_keys<N: Reading>(
     sparse: bool,
     keys: &mut Vec<Key<N>>,
 ) -> Result<(), NoMemory>
-    ensures added { OnOk result (map (key_tree N.tree) keys.new.items ≡ map (key_tree N.tree) keys.old.items ++ all_keys sparse (N.tree node) (component_names path.now)) }
-    ensures kept { All (IsKeyOf N.source (N.source node)) keys.old.items → All (IsKeyOf N.source (N.source node)) keys.new.items }
+    ensures added { OnOk result (AddsKeys N.tree keys.old.items keys.new.items (all_keys sparse (N.tree node) (component_names path.now))) }
+    ensures kept { AreKeysOf N.source (N.source node) keys.old.items → AreKeysOf N.source (N.source node) keys.new.items }
 {
     let Some((component, rest)) = path.split_first() else {
         return add_end(node, keys);
@@ -96,8 +93,8 @@ fn add_keys_of_documents<N: Reading>(
     keys: &mut Vec<Key<N>>,
 ) -> Result<(), NoMemory>
     requires { kind_of (N.tree node) ≡ kinds.Array }
-    ensures added { OnOk result (map (key_tree N.tree) keys.new.items ≡ map (key_tree N.tree) keys.old.items ++ gather_each (keyed (missing_key sparse)) (items_of (elements_in (N.tree node))) (component_names path.now)) }
-    ensures kept { All (IsKeyOf N.source (N.source node)) keys.old.items → All (IsKeyOf N.source (N.source node)) keys.new.items }
+    ensures added { OnOk result (AddsKeys N.tree keys.old.items keys.new.items (document_keys sparse (N.tree node) (component_names path.now))) }
+    ensures kept { AreKeysOf N.source (N.source node) keys.old.items → AreKeysOf N.source (N.source node) keys.new.items }
 {
     let mut left = node.parts();
     while let Some((_, element, after)) = N::next(&left) {
@@ -119,8 +116,8 @@ fn add_keys_at_index<N: Reading>(
     keys: &mut Vec<Key<N>>,
 ) -> Result<(), NoMemory>
     requires { kind_of (N.tree node) ≡ kinds.Array }
-    ensures added { OnOk result (map (key_tree N.tree) keys.new.items ≡ map (key_tree N.tree) keys.old.items ++ gather_at (keyed (missing_key sparse)) (items_of (elements_in (N.tree node))) (index_of (string_bytes component.now.name)) (component_names path.now)) }
-    ensures kept { All (IsKeyOf N.source (N.source node)) keys.old.items → All (IsKeyOf N.source (N.source node)) keys.new.items }
+    ensures added { OnOk result (AddsKeys N.tree keys.old.items keys.new.items (index_keys sparse (N.tree node) (string_bytes component.now.name) (component_names path.now))) }
+    ensures kept { AreKeysOf N.source (N.source node) keys.old.items → AreKeysOf N.source (N.source node) keys.new.items }
 {
     match component.index {
         Some(i) if i < node.len() => add_keys(node.element(i), path, sparse, keys),
@@ -130,8 +127,8 @@ fn add_keys_at_index<N: Reading>(
 
 /// Appends what stands for a field that is missing.
 fn add_missing<N: Reading>(sparse: bool, keys: &mut Vec<Key<N>>) -> Result<(), NoMemory>
-    ensures added { OnOk result (map (key_tree N.tree) keys.new.items ≡ map (key_tree N.tree) keys.old.items ++ missing_key sparse) }
-    ensures kept { (bytes : List ℕ) → All (IsKeyOf N.source bytes) keys.old.items → All (IsKeyOf N.source bytes) keys.new.items }
+    ensures added { OnOk result (AddsKeys N.tree keys.old.items keys.new.items (missing_key sparse)) }
+    ensures kept { (bytes : List ℕ) → AreKeysOf N.source bytes keys.old.items → AreKeysOf N.source bytes keys.new.items }
 {
     if !sparse {
         keys.push(Key::Null)?;
@@ -141,8 +138,8 @@ fn add_missing<N: Reading>(sparse: bool, keys: &mut Vec<Key<N>>) -> Result<(), N
 
 /// Appends a value, or the elements of an array.
 fn add_end<N: Reading>(node: N, keys: &mut Vec<Key<N>>) -> Result<(), NoMemory>
-    ensures added { OnOk result (map (key_tree N.tree) keys.new.items ≡ map (key_tree N.tree) keys.old.items ++ end_keys (N.tree node)) }
-    ensures kept { All (IsKeyOf N.source (N.source node)) keys.old.items → All (IsKeyOf N.source (N.source node)) keys.new.items }
+    ensures added { OnOk result (AddsKeys N.tree keys.old.items keys.new.items (end_keys (N.tree node))) }
+    ensures kept { AreKeysOf N.source (N.source node) keys.old.items → AreKeysOf N.source (N.source node) keys.new.items }
 {
     let Kind::Array = node.kind() else {
         keys.push(Key::Node(node))?;
@@ -163,8 +160,8 @@ fn add_end<N: Reading>(node: N, keys: &mut Vec<Key<N>>) -> Result<(), NoMemory>
 
 /// The keys, without one that equals an earlier one. Each is compared with those before it.
 fn distinct_keys<N: Reading>(alloc: Global, all: &[Key<N>]) -> Result<Vec<Key<N>>, NoMemory>
-    ensures trees { IfOk result (λ ks. map (key_tree N.tree) ks.items ≡ distinct (map (key_tree N.tree) all.now)) }
-    ensures kept { (bytes : List ℕ) → All (IsKeyOf N.source bytes) all.now → IfOk result (λ ks. All (IsKeyOf N.source bytes) ks.items) }
+    ensures trees { IfOk result (λ ks. key_trees N.tree ks.items ≡ distinct (key_trees N.tree all.now)) }
+    ensures kept { (bytes : List ℕ) → AreKeysOf N.source bytes all.now → IfOk result (λ ks. AreKeysOf N.source bytes ks.items) }
 {
     let mut keys = Vec::new(alloc);
     for key in all {
@@ -175,8 +172,8 @@ fn distinct_keys<N: Reading>(alloc: Global, all: &[Key<N>]) -> Result<Vec<Key<N>
 
 /// Appends a key, where it equals none before it.
 fn add_key<N: Reading>(keys: &mut Vec<Key<N>>, key: Key<N>) -> Result<(), NoMemory>
-    ensures added { OnOk result (map (key_tree N.tree) keys.new.items ≡ with_key (map (key_tree N.tree) keys.old.items) (key_tree N.tree key)) }
-    ensures kept { (bytes : List ℕ) → All (IsKeyOf N.source bytes) keys.old.items → IsKeyOf N.source bytes key → All (IsKeyOf N.source bytes) keys.new.items }
+    ensures added { OnOk result (key_trees N.tree keys.new.items ≡ with_key (key_trees N.tree keys.old.items) (key_tree N.tree key)) }
+    ensures kept { (bytes : List ℕ) → AreKeysOf N.source bytes keys.old.items → IsKeyOf N.source bytes key → AreKeysOf N.source bytes keys.new.items }
 {
     if has_equal(keys, key) {
         return Ok(());
