@@ -46,12 +46,15 @@ shown_found size ds ps = record {
   status = Done;
 }
 
--- A line of a chain gives a value, for which the rest of the chain counts, or refuses with a message, and then nothing below
--- it counts.
-abbrev pub IsRefusedOr : {Given : Type 0} → (List ℕ → Type 0) → (Result Given (List ℕ) → Type 0) → (Given → Type 0) → Type 0
+-- A line of a chain gives a value, for which the lines below it count, or refuses with a message, and
+-- then none of them counts.
+abbrev pub IsRefusedOr : {Given : Type 0} → (List ℕ → Type 0) → (Result Given (List ℕ) → Type 0)
+    → (Given → Type 0) → Type 0
 IsRefusedOr {Given} IsRefused IsLine IsRest =
     ((message : List ℕ) × IsLine (Err message) × IsRefused message)
     ⊎ ((given : Given) × IsLine (Ok given) × IsRest given)
+
+-- ---- the lines: the query that a text is, the bytes of an input, and the documents that they are
 
 abbrev pub ReadsQuery : List ℕ → Result Query (List ℕ) → Type 0
 ReadsQuery text (Ok query) = IsQuery text query.name query.number
@@ -65,6 +68,8 @@ abbrev pub ReadsDump : List ℕ → Result (List Doc) (List ℕ) → Type 0
 ReadsDump bytes (Ok ds) = IsWalk ds None bytes
 ReadsDump bytes (Err message) =
     (ds : List Doc) × (fault : Fault) × IsWalk ds (Some fault) bytes × (message ≡ fault_text (length ds) fault)
+
+-- ---- and the chain
 
 abbrev pub IsRefusal : Shown → List ℕ → Type 0
 IsRefusal shown message = shown ≡ shown_refusal message
