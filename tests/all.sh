@@ -1,6 +1,6 @@
 #!/bin/sh
-# Runs the gate, then the tests of the program that the gate proved and built and one round of the edits, and prints the
-# sum of all as its last line. The status is 0 where nothing failed.
+# Runs the gate, then the tests of the program that the gate proved and built, the look at the examples and one round of the
+# edits, and prints the sum of all as its last line. The status is 0 where nothing failed.
 set -u
 cd "$(dirname "$0")/.." || exit 1
 log=$(mktemp) || exit 1
@@ -29,6 +29,9 @@ else
 	echo 'tests/program.sh was not run: the gate built no program'
 	failed=$((failed + 1))
 fi
+
+tests/examples.py | tee "$log"
+add
 
 # Each commit tries another round. It is over what the gate proved, so not where that failed.
 if [ "$failed" -eq 0 ]; then

@@ -1,5 +1,15 @@
 //! BSON documents as bytes: dumps, the laws of the definitions, and the names of the crates below that read and write them.
 //!
+//! An example, which `bd_bson_tests` proves and runs as `examples::bson`:
+//!
+//! ```
+//! let bytes = Vec::from_slice(alloc, b"\x05\0\0\0\0\x0c\0\0\0\x10a\0\x01\0\0\0\0")?;
+//! let dump = read_dump(alloc, bytes)?;
+//! let count = dump.len();
+//! assert!(rt; count == 2);
+//! assert!(rt; dump.document(1).first("a").is_some());
+//! ```
+//!
 //! - `collection`: `Dump`, the documents of a collection in their bytes.
 //! - `collecting`: `read_dump`, which makes one.
 //! - `laws`, `dump_laws`, `verdict_laws`: laws of documents, of dumps, and of the verdicts on their documents.

@@ -9,6 +9,8 @@ mod collection_tests;
 #[cfg(test)]
 mod depth_tests;
 #[cfg(test)]
+mod examples;
+#[cfg(test)]
 mod kinds_tests;
 #[cfg(test)]
 mod prefix_tests;

@@ -2,6 +2,18 @@
 //!
 //! Which fault is the first: `specs/FirstFault.antt`. What a dump is, and where it fails: `specs/Dump.antt`.
 //!
+//! An example, which `bd_bson_tests` proves and runs as `examples::check`:
+//!
+//! ```
+//! let bytes = b"\x0c\0\0\0\x02s\0\0\0\0\0\0";
+//! match check_document(alloc, bytes, 0, 0) {
+//!     Ok(_) => assert!(rt; false, "a string has a length above 0"),
+//!     Err(fault) => {
+//!         assert!(rt; fault.kind == FaultKind::BadStringLength && fault.offset == 7);
+//!     }
+//! }
+//! ```
+//!
 //! - `fault`: why bytes are no document, and where.
 //! - `check`: `check_document`, down the values in values.
 //! - `parts`: numbers, names, texts, and the frames of documents.

@@ -23,13 +23,14 @@ use Rattle.bd_check.specs.Dump.{IsWalk}
 use Rattle.bd_cli.specs.declared.status.Status.{Status}
 use Rattle.bd_cli.specs.declared.status.Status.TheVariants.{Failed}
 use Rattle.bd_cli.specs.Find.Answer.{matching, answer, each, is_empty}
+use Rattle.bd_cli.specs.Find.Equality.{number_matches}
 use Rattle.bd_cli.specs.Find.Step.{ahead, IsStep}
 use Rattle.bd_cli.specs.declared.find.step.Step.{Step}
 use Rattle.bd_cli.proofs.FindLemmas.Kept.{In, in_at, take_in}
 use Rattle.bd_cli.proofs.FindLemmas.AnswerLemmas.{answer_matching, matching_in}
 use Rattle.bd_cli.proofs.FindLemmas.StepLemmas.{after_step, end_is, from_start}
 use Rattle.bd_cli.proofs.OutputLemmas.LinesLemmas.{lines-append}
-use Rattle.bd_cli.specs.Find.{IsShownForQuery, documents_at, first_batch, left_over, shown_find}
+use Rattle.bd_cli.specs.Find.{IsRefusal, IsRefusedOr, ReadsDump, documents_at, first_batch, left_over, shown_found}
 use Rattle.bd_cli.specs.Outcome.{PrintsOrStarves, TellsMessage}
 use Rattle.bd_cli.specs.Shown.{Shown, error_line, fault_text, lines, shown_refusal}
 use Rattle.bd_device.specs.Devices.{TakesFront, TakesText, Writer, between}
@@ -105,6 +106,16 @@ module _ (matches : Doc → Bool) (ds : List Doc) (few : length ds ≤ 429496729
 
 -- ---- the ends of a run
 
+-- what is shown of the bytes of an input
+abbrev pub IsShownOfBytes : List ℕ → ℤ → Option ℕ → List ℕ → Shown → Type 0
+IsShownOfBytes name n size bytes shown =
+    IsRefusedOr (IsRefusal shown) (ReadsDump bytes) (λ ds. shown ≡ shown_found size ds (answer (each (number_matches name n)) ds))
+
+pub bytes_show : (name : List ℕ) (n : ℤ) (size : Option ℕ) (bytes : List ℕ) (ds : List Doc) (end : Option Fault) → IsWalk ds end bytes
+    → (shown : Shown) × IsShownOfBytes name n size bytes shown
+bytes_show name n size bytes ds None walk = (shown_found size ds (answer (each (number_matches name n)) ds), inr (ds, walk, refl))
+bytes_show name n size bytes ds (Some f) walk = (shown_refusal (fault_text (length ds) f), inl (fault_text (length ds) f, (ds, f, walk, refl), refl))
+
 module _ (out_old out_new : Writer) (err_old err_new : Writer) (status : Status) where
   -- memory ran out before anything was written
   pub nothing_shown : (shown : Shown) → TellsMessage (between err_old err_new) (error_line (codes "no memory")) Failed status → PrintsOrStarves (between out_old out_old) (between err_old err_new) shown status
@@ -125,19 +136,19 @@ module _ (out_old out_new : Writer) (err_old err_new : Writer) (status : Status)
   -- what is shown of a dump with a fault
   pub fault_shown : (name : List ℕ) (n : ℤ) (size : Option ℕ) (bytes : List ℕ) (fault : declared.Fault) → length bytes ≤ 4294967295 → IsUnread bytes fault → ¬ (fault.kind ≡ kinds.NoMemory)
       → TellsMessage (between err_old err_new) (error_line (fault_text fault.document (fault_view fault))) Failed status ⊎ TellsMessage (between err_old err_new) (error_line (codes "no memory")) Failed status
-      → (shown : Shown) × IsShownForQuery name n size (Ok bytes) shown × PrintsOrStarves (between out_old out_old) (between err_old err_new) shown status
+      → (shown : Shown) × IsShownOfBytes name n size bytes shown × PrintsOrStarves (between out_old out_old) (between err_old err_new) shown status
   fault_shown name n size bytes fault le (inl long) other told = absurd (let more = long.more in omega arith)
   fault_shown name n size bytes fault le (inr (_, inl want)) other told = absurd (other want.kind)
   fault_shown name n size bytes fault le (inr (_, inr first)) other told =
       let words = fault_text (length first.before) (fault_view fault) in
       let line : error_line (fault_text fault.document (fault_view fault)) ≡ error_line words = ap (λ k. error_line (fault_text k (fault_view fault))) first.document in (
         shown_refusal words,
-        (first.before, Some (fault_view fault), first.fails, refl),
+        inl (words, (first.before, fault_view fault, first.fails, refl), refl),
         refusal_shown words (subst (λ t. TellsMessage (between err_old err_new) t Failed status ⊎ TellsMessage (between err_old err_new) (error_line (codes "no memory")) Failed status) line told),
       )
 
   pub starved_shown : (name : List ℕ) (n : ℤ) (size : Option ℕ) (bytes : List ℕ) → (ds : List Doc) × (end : Option Fault) × IsWalk ds end bytes → TellsMessage (between err_old err_new) (error_line (codes "no memory")) Failed status
-      → (shown : Shown) × IsShownForQuery name n size (Ok bytes) shown × PrintsOrStarves (between out_old out_old) (between err_old err_new) shown status
+      → (shown : Shown) × IsShownOfBytes name n size bytes shown × PrintsOrStarves (between out_old out_old) (between err_old err_new) shown status
   starved_shown name n size bytes (ds, end, walk) told =
-      let shown = shown_find name n size ds end in
-      (shown, (ds, end, walk, refl), nothing_shown shown told)
+      let shows = bytes_show name n size bytes ds end walk in
+      (shows.0, shows.1, nothing_shown shows.0 told)

@@ -13,7 +13,7 @@ use Rattle.bd_check.specs.Fault.{Fault}
 use Rattle.bd_check.specs.Dump.{IsWalk}
 use Rattle.bd_cli.specs.Find.Answer.{answer, each, is_empty}
 use Rattle.bd_cli.specs.Find.Equality.{number_matches}
-use Rattle.bd_cli.specs.Find.QueryText.{IsQuery, IsNoQuery}
+use Rattle.bd_cli.specs.Find.QueryText.{Query, IsQuery, IsNoQuery}
 use Rattle.bd_cli.specs.Outcome.{PrintsOrStarves, ReadsInput}
 use Rattle.bd_cli.specs.Shown.{Shown, lines, fault_text, read_words, shown_refusal}
 use Rattle.bd_cli.specs.declared.status.Status.{Status}
@@ -46,32 +46,51 @@ shown_found size ds ps = record {
   status = Done;
 }
 
--- what is shown of a dump, or of the documents before a fault and that fault
-abbrev pub shown_find : List ℕ → ℤ → Option ℕ → List Doc → Option Fault → Shown
-shown_find name n size ds None = shown_found size ds (answer (each (number_matches name n)) ds)
-shown_find name n size ds (Some f) = shown_refusal (fault_text (length ds) f)
+-- A line of a chain gives a value, for which the lines below it count, or refuses with a message, and
+-- then none of them counts.
+abbrev pub IsRefusedOr : {Given : Type 0} → (List ℕ → Type 0) → (Result Given (List ℕ) → Type 0)
+    → (Given → Type 0) → Type 0
+IsRefusedOr {Given} IsRefused IsLine IsRest =
+    ((message : List ℕ) × IsLine (Err message) × IsRefused message)
+    ⊎ ((given : Given) × IsLine (Ok given) × IsRest given)
 
--- what is shown of an input, for a query
-abbrev pub IsShownForQuery : List ℕ → ℤ → Option ℕ → Result (List ℕ) ReadFault → Shown → Type 0
-IsShownForQuery name n size (Ok bytes) shown =
-    (ds : List Doc) × (end : Option Fault) × IsWalk ds end bytes × (shown ≡ shown_find name n size ds end)
-IsShownForQuery name n size (Err fault) shown = shown ≡ shown_refusal (read_words fault)
+-- ---- the lines: the query that a text is, the bytes of an input, and the documents that they are
 
--- A text that is no query is refused alone, whatever the input is.
+abbrev pub ReadsQuery : List ℕ → Result Query (List ℕ) → Type 0
+ReadsQuery text (Ok query) = IsQuery text query.name query.number
+ReadsQuery text (Err message) = IsNoQuery text × (message ≡ codes "query: byte 0: not in the profile")
+
+abbrev pub ReadsBytes : Result (List ℕ) ReadFault → Result (List ℕ) (List ℕ) → Type 0
+ReadsBytes (Ok bytes) given = given ≡ Ok bytes
+ReadsBytes (Err fault) given = given ≡ Err (read_words fault)
+
+abbrev pub ReadsDump : List ℕ → Result (List Doc) (List ℕ) → Type 0
+ReadsDump bytes (Ok ds) = IsWalk ds None bytes
+ReadsDump bytes (Err message) =
+    (ds : List Doc) × (fault : Fault) × IsWalk ds (Some fault) bytes × (message ≡ fault_text (length ds) fault)
+
+-- ---- and the chain
+
+abbrev pub IsRefusal : Shown → List ℕ → Type 0
+IsRefusal shown message = shown ≡ shown_refusal message
+
+-- what is shown of the text of a query and an input: the first refusal alone, or the answer
 abbrev pub IsShownByFind : List ℕ → Option ℕ → Result (List ℕ) ReadFault → Shown → Type 0
-IsShownByFind query size input shown =
-    (IsNoQuery query × (shown ≡ shown_refusal (codes "query: byte 0: not in the profile")))
-    ⊎ ((name : List ℕ) × (n : ℤ) × IsQuery query name n × IsShownForQuery name n size input shown)
+IsShownByFind text size input shown =
+    IsRefusedOr (IsRefusal shown) (ReadsQuery text) (λ query.
+    IsRefusedOr (IsRefusal shown) (ReadsBytes input) (λ bytes.
+    IsRefusedOr (IsRefusal shown) (ReadsDump bytes) (λ ds.
+    shown ≡ shown_found size ds (answer (each (number_matches query.name query.number)) ds))))
 
--- an input is read for a query, and left as it is for another text
+-- an input is read once no text is refused, and else left as it is
 abbrev pub ReadsInputFor : List ℕ → Over Reader → Result (List ℕ) ReadFault → Type 0
-ReadsInputFor query file input =
-    (IsNoQuery query × (file.after ≡ file.before))
-    ⊎ ((name : List ℕ) × (n : ℤ) × IsQuery query name n × ReadsInput file input)
+ReadsInputFor text file input =
+    IsRefusedOr (λ message. file.after ≡ file.before) (ReadsQuery text) (λ query.
+    ReadsInput file input)
 
 -- what is to be shown of a query and an input was shown
 abbrev pub FindsDocuments : List ℕ → Option ℕ → Over Reader → Over Writer → Over Writer → Status → Type 0
-FindsDocuments query size file out err status =
-    (input : Result (List ℕ) ReadFault) × (shown : Shown) × ReadsInputFor query file input
-    × IsShownByFind query size input shown
+FindsDocuments text size file out err status =
+    (input : Result (List ℕ) ReadFault) × (shown : Shown) × ReadsInputFor text file input
+    × IsShownByFind text size input shown
     × PrintsOrStarves out err shown status

@@ -9,13 +9,13 @@ mod found_documents;
 mod query_text;
 mod step;
 
-ghost use Rattle.std.specs.Prelude.{◌≡◌, ◌≤◌, ◌⊎◌, Ok, MatchOption, length, codes};
+ghost use Rattle.std.specs.Prelude.{◌≡◌, ◌≤◌, ◌⊎◌, MatchOption, length, codes};
 ghost use Rattle.bd_bson.specs.Collection.{documents};
 ghost use Rattle.bd_check.specs.Told.{fault_view};
 ghost use Rattle.bd_cli.specs.Find.Answer.{answer, each};
 ghost use Rattle.bd_cli.specs.Find.Equality.{number_matches};
 ghost use Rattle.bd_cli.specs.declared.status.Status.TheVariants.{Done, Failed};
-ghost use Rattle.bd_cli.specs.Find.{FindsDocuments, IsShownForQuery, find_count_line, find_count_words, shown_found};
+ghost use Rattle.bd_cli.specs.Find.{FindsDocuments, IsRefusal, IsRefusedOr, ReadsDump, find_count_line, find_count_words, shown_found};
 ghost use Rattle.bd_cli.specs.Find.QueryText.{IsNoQuery};
 ghost use Rattle.bd_cli.specs.Outcome.{PrintsOrStarves, TellsMessage};
 ghost use Rattle.bd_cli.specs.Shown.{Shown, error_line, fault_text};
@@ -112,7 +112,8 @@ fn find_in<O: Output, E: Output>(
     err: &mut E,
 ) -> Status
     requires { length bytes.items ≤ 4294967295 }
-    ensures { (shown : Shown) × IsShownForQuery name.now n size (Ok bytes.items) shown
+    ensures { (shown : Shown) × IsRefusedOr (IsRefusal shown) (ReadsDump bytes.items)
+        (λ ds. shown ≡ shown_found size ds (answer (each (number_matches name.now n)) ds))
         × PrintsOrStarves (over O.state out.old out.new) (over E.state err.old err.new) shown result }
 {
     match read_dump(alloc, bytes) {

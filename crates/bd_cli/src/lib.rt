@@ -2,6 +2,22 @@
 //!
 //! What a run did, from the clause of `run` down: `specs/Runs.antt`.
 //!
+//! An example, which `bd_cli_tests` proves and runs as `examples::cli`:
+//!
+//! ```
+//! let order = Order::Check {
+//!     file: String::from_str(alloc, "-")?,
+//! };
+//! let mut file = MemoryInput::new(b"\x05\0\0\0\0", 5, None);
+//! let mut commands = MemoryInput::new(b"", 1, None);
+//! let mut room = [0; 100];
+//! let mut out = MemoryOutput::new(&mut [], 1, None);
+//! let mut err = MemoryOutput::new(&mut room, 100, None);
+//! let status = run(alloc, &order, &mut file, &mut commands, &mut out, &mut err);
+//! assert!(rt; status == Status::Done);
+//! assert!(rt; err.bytes() == b"1 documents, 0 faulty\n".as_slice());
+//! ```
+//!
 //! - `runs`: `run` and `report`.
 //! - `dump`, `check`, `pack`, `find`: a command each.
 //! - `ending`, `limits`, `output`, `status`: what they share.

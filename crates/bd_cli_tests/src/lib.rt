@@ -7,6 +7,8 @@ mod both_tests;
 #[cfg(test)]
 mod devices;
 #[cfg(test)]
+mod examples;
+#[cfg(test)]
 mod find_tests;
 #[cfg(test)]
 mod run_tests;

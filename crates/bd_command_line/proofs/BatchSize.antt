@@ -9,10 +9,10 @@ use Rattle.clap.proofs.ValueTestLemmas.{accepts-Accepts, Accepts-accepts}
 use Rattle.bd_command_line.specs.CommandLine.{number_read}
 
 -- the text is a number of 32 bits
-abbrev IsSmall : List ℕ → Type 0
+abbrev pub IsSmall : List ℕ → Type 0
 IsSmall t = IsNumeral 10 (without_leading_plus t) × (digits_value 10 (without_leading_plus t) < 2 ^ 32)
 
-small_yes : (t : List ℕ) → IsSmall t → is_unsigned_in 0 4294967295 t ≡ true
+pub small_yes : (t : List ℕ) → IsSmall t → is_unsigned_in 0 4294967295 t ≡ true
 small_yes t h = Accepts-accepts false (Unsigned 0 4294967295) t (h.0, omega (arith, h.1), omega arith, omega (arith, h.1))
 
 small_back : (t : List ℕ) → is_unsigned_in 0 4294967295 t ≡ true → IsSmall t

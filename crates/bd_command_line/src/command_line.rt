@@ -1,5 +1,5 @@
 //! Reads the words of a line.
-ghost use Rattle.std.specs.Prelude.{◌≡◌, ◌⊎◌, IfErr, IfOk, IsErrOf, IsSome, IsTrue, List, None, Some, [], ◌∷◌, codes, false, true, ℕ};
+ghost use Rattle.std.specs.Prelude.{◌≡◌, ◌≤◌, ◌⊎◌, IfErr, IfOk, IsErrOf, IsSome, IsTrue, List, None, Some, [], ◌∷◌, codes, decimal, false, true, ℕ};
 ghost use Rattle.clap.specs.Simple.{with_subcommand};
 ghost use Rattle.clap.specs.Words.{app_of, found_of, kind_of, rows_of, rule_of, takes};
 ghost use Rattle.clap.specs.declared.builder.command.Command.TheViews.{out-Command as fields_of};
@@ -167,6 +167,10 @@ pub fn parse_words(alloc: Global, words: &[String]) -> Result<Order, WordsFault>
     ensures find { (rest file : List ℕ)
         → words_of words.now ≡ codes "find" ∷ codes "--query" ∷ (123 ∷ rest) ∷ codes "--" ∷ file ∷ []
         → GivesOrder result (find file (123 ∷ rest) None) }
+    ensures find_batch { (rest file : List ℕ) (size : ℕ) → size ≤ 2147483647
+        → words_of words.now ≡ codes "find" ∷ codes "--query" ∷ (123 ∷ rest)
+        ∷ codes "--batch" ∷ decimal size ∷ codes "--" ∷ file ∷ []
+        → GivesOrder result (find file (123 ∷ rest) (Some size)) }
     ensures help_word { IsTrue (is_help_line (words_of words.now)) → IsErrOf result WordsFault.Usage }
 {
     if begins_with_help(words) {

@@ -2,6 +2,17 @@
 //!
 //! Which words are taken, and what they order: `specs/CommandLine.antt`.
 //!
+//! An example, which `bd_command_line_tests` proves and runs as `examples::command_line`:
+//!
+//! ```
+//! let words = [
+//!     String::from_str(alloc, "dump")?,
+//!     String::from_str(alloc, "-")?,
+//! ];
+//! let order = parse_words(alloc, &words);
+//! assert!(rt; matches!(order, Ok(Order::Dump { .. })));
+//! ```
+//!
 //! - `order`: what a line orders, or why it does not.
 //! - `command_line`: `parse_words`, by `clap`.
 //! - `find_words`: the words of `find`.

@@ -3,3 +3,5 @@
 
 #[cfg(test)]
 mod answers_tests;
+#[cfg(test)]
+mod examples;

@@ -2,6 +2,8 @@
 #![tactic(auto)]
 
 #[cfg(test)]
+mod examples;
+#[cfg(test)]
 mod reading_tests;
 #[cfg(test)]
 mod system_tests;

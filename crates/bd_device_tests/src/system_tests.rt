@@ -1,15 +1,20 @@
 //! Devices over the readers and writers of the system.
-use bd_device::{DeviceFault, Limits, SystemInput, SystemOutput, read_all, write_all};
+use bd_device::{
+    DeviceFault, Limits, ReadFault, SystemInput, SystemOutput, fill, read_all, write_all,
+};
+use std::cell::Cell;
+use std::io::{self, ErrorKind, Read, Write};
 use std::test::Fail;
+
+const LIMITS: Limits = Limits {
+    bytes: 100,
+    turns: 100,
+};
 
 #[test]
 fn reads_and_writes_by_the_system(rt: HostRuntime) -> Result<(), Fail> {
     let mut input = SystemInput::new(b"hello".as_slice());
-    let limits = Limits {
-        bytes: 100,
-        turns: 100,
-    };
-    let read = read_all(rt.alloc(), &mut input, limits)?;
+    let read = read_all(rt.alloc(), &mut input, LIMITS)?;
     assert!(rt; read.as_slice() == b"hello".as_slice());
 
     let mut room = [0; 7];
@@ -20,4 +25,85 @@ fn reads_and_writes_by_the_system(rt: HostRuntime) -> Result<(), Fail> {
     drop(output);
     assert!(rt; &room == b"helloyo");
     Ok(())
+}
+
+/// A reader and a writer of which one call fails, and each other call is of one byte. It counts the calls where the test
+/// sees them.
+#[derive(Drop)]
+struct FailsOnce<'a> {
+    calls: &'a Cell<u32>,
+    failing: u32,
+    kind: ErrorKind,
+}
+
+impl FailsOnce<'_> {
+    fn call(&self) -> io::Result<()> {
+        let call = self.calls.get().saturating_add(1);
+        self.calls.set(call);
+        if call == self.failing {
+            return Err(io::Error::from(self.kind));
+        }
+        Ok(())
+    }
+}
+
+impl Read for FailsOnce<'_> {
+    fn read(&mut self, room: &mut [u8]) -> io::Result<usize> {
+        self.call()?;
+        Ok(room.len().min(1))
+    }
+}
+
+impl Write for FailsOnce<'_> {
+    fn write(&mut self, bytes: &[u8]) -> io::Result<usize> {
+        self.call()?;
+        Ok(bytes.len().min(1))
+    }
+
+    fn flush(&mut self) -> io::Result<()> {
+        Ok(())
+    }
+}
+
+/// The call that fails is the last, though the next one would work: it is made by the next read or write alone.
+#[test]
+fn asks_once_where_a_call_fails(rt: HostRuntime) {
+    for failing in [1, 3] {
+        for kind in [ErrorKind::Interrupted, ErrorKind::WouldBlock] {
+            let calls = Cell::new(0);
+            let calls = &calls;
+            let once = FailsOnce {
+                calls,
+                failing,
+                kind,
+            };
+            let mut input = SystemInput::new(once);
+            let is_fault = read_all(rt.alloc(), &mut input, LIMITS) == Err(ReadFault::Device);
+            assert!(rt; is_fault && calls.get() == failing);
+            let is_filled = fill(&mut input, &mut [0; 4], LIMITS).is_ok();
+            assert!(rt; is_filled && calls.get() == failing + 4);
+
+            calls.set(0);
+            let once = FailsOnce {
+                calls,
+                failing,
+                kind,
+            };
+            let mut other = SystemInput::new(once);
+            let is_fault = fill(&mut other, &mut [0; 4], LIMITS).is_err();
+            assert!(rt; is_fault && calls.get() == failing);
+
+            calls.set(0);
+            let once = FailsOnce {
+                calls,
+                failing,
+                kind,
+            };
+            let mut output = SystemOutput::new(once);
+            let is_fault = write_all(&mut output, b"hello") == Err(DeviceFault);
+            assert!(rt; is_fault && calls.get() == failing);
+            let is_written = write_all(&mut output, b"hello") == Ok(());
+            assert!(rt; is_written && calls.get() == failing + 5);
+        }
+    }
 }

@@ -2,6 +2,13 @@
 //!
 //! No clause says which kind and which byte it tells: that is tested.
 //!
+//! An example, which `bd_diagnose_tests` proves and runs as `examples::diagnosed`:
+//!
+//! ```
+//! let fault = diagnose(alloc, b"{\"a\":1.5}");
+//! assert!(rt; fault.kind == JsonFaultKind::NotInProfile && fault.at == 5);
+//! ```
+//!
 //! - `json_fault`: the kinds of faults, and a fault.
 //! - `second_pass`: `diagnose`, over the whole text.
 //! - `walk`: the first fault of each value, as JSON and of the tree that it is.

@@ -2,6 +2,15 @@
 //!
 //! The text of each value is a function of its tree: `specs/Text.antt`. Which document a text is: `specs/Reads.antt`.
 //!
+//! An example, which `bd_extjson_tests` proves and runs as `examples::extjson`:
+//!
+//! ```
+//! let document = read_doc(alloc, b"{\"a\":1}")?;
+//! let mut text = Vec::new(alloc);
+//! write_doc(&document, &mut text)?;
+//! assert!(rt; text.as_slice() == b"{\"a\":{\"$numberInt\":\"1\"}}".as_slice());
+//! ```
+//!
 //! - `text`: `write_node`, over `scalar`, a row of the conversion table each, `json_string`, `number` and `encoded`.
 //! - `read`: `read_doc`, over `reading`, one pass over the tokens of a text.
 //! - `laws`: what joins the two.

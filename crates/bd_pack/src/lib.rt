@@ -1,5 +1,15 @@
 //! Lines of Extended JSON as BSON. Which document a line is, and which bytes: `specs/Packable.antt`.
 //!
+//! An example, which `bd_pack_tests` proves and runs as `examples::pack`:
+//!
+//! ```
+//! let mut packer = Packer::new(alloc);
+//! let mut bytes = Vec::new(alloc);
+//! let fault = packer.pack_line(b"{\"a\":1}", &mut bytes)?;
+//! assert!(rt; fault.is_none());
+//! assert!(rt; bytes.as_slice() == b"\x0c\0\0\0\x10a\0\x01\0\0\0\0".as_slice());
+//! ```
+//!
 //! - `line`: `Packer`, a line at a time.
 //! - `tokens`: the bytes straight from the tokens of a line.
 //! - `laws`: what is packed spells the line's document.

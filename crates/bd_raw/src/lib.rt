@@ -2,6 +2,15 @@
 //!
 //! What the bytes of a document are: `specs/Spelling.antt`, after BSON 1.1. That bytes spell at most one: `specs/Unique.antt`.
 //!
+//! An example, which `bd_bson_tests` proves and runs as `examples::raw`:
+//!
+//! ```
+//! let bytes = b"\x0c\0\0\0\x10a\0\x01\0\0\0\0";
+//! let document = check_document(alloc, bytes, 0, 0)?;
+//! let field = document.first("a").ok_or("a field")?;
+//! assert!(rt; matches!(field.scalar(), Some(Scalar::Int32(1))));
+//! ```
+//!
 //! - `element`: the types of elements.
 //! - `raw`: the views, and where the next element stands.
 //! - `raw_parts`: numbers, names, texts and scalars at the front of bytes, read without a check.

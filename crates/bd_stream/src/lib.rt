@@ -2,6 +2,20 @@
 //!
 //! What a device gave for a document, and what it gave before a fault: `specs/Stream.antt`.
 //!
+//! An example, which `bd_stream_tests` proves and runs as `examples::stream`:
+//!
+//! ```
+//! let limits = Limits {
+//!     bytes: 100,
+//!     turns: 100,
+//! };
+//! let mut input = MemoryInput::new(b"\x05\0\0\0\0\x05\0\0\0\0", 3, None);
+//! let mut documents = DocBuffer::new(alloc, limits);
+//! let is_there = documents.read_next(&mut input)?;
+//! assert!(rt; is_there && documents.bytes() == b"\x05\0\0\0\0".as_slice());
+//! assert!(rt; documents.place() == 5 && documents.number() == 1);
+//! ```
+//!
 //! - `doc_buffer`: `DocBuffer`, the next document of a device that is lent for the call.
 //! - `doc_reader`: `DocReader`, the same with a device of its own.
 #![tactic(auto)]

@@ -4,3 +4,5 @@
 
 #[cfg(test)]
 mod doc_reader_tests;
+#[cfg(test)]
+mod examples;

@@ -4,6 +4,15 @@
 //! `specs/View.antt`. That the numbers and the texts in it fit their types, a proof has after a call of `value_fits`,
 //! `document_fits` or `node_fits`: `specs/Fits.antt`.
 //!
+//! An example, which `bd_value_tests` proves and runs as `examples::value`:
+//!
+//! ```
+//! let mut document = Document::new(alloc);
+//! document.push(String::from_str(alloc, "a")?, Value::Int32(1))?;
+//! assert!(rt; document.len() == 1);
+//! assert!(rt; matches!(document.first("a"), Some(Value::Int32(1))));
+//! ```
+//!
 //! - `document`: `Document` and `Value`.
 //! - `kind`, `scalar`, `lookup`, `nesting`, `zeros`: what is asked of a value.
 //! - `node`: `Reading` and `Node`, a value wherever it lies; `tree`, one in memory.

@@ -6,6 +6,8 @@ mod depth_tests;
 #[cfg(test)]
 mod document_tests;
 #[cfg(test)]
+mod examples;
+#[cfg(test)]
 mod samples;
 #[cfg(test)]
 mod tree_tests;

@@ -2,6 +2,14 @@
 //!
 //! What each stands for: `specs/Wrappers.antt`. Which texts are whole numbers: `specs/Whole.antt`.
 //!
+//! An example, which `bd_extjson_tests` proves and runs as `examples::wrapper`:
+//!
+//! ```
+//! assert!(rt; Wrapper::from_name("$oid") == Some(Wrapper::Oid));
+//! assert!(rt; Wrapper::from_name("oid").is_none());
+//! assert!(rt; whole("-5") == Some(-5) && whole("05").is_none());
+//! ```
+//!
 //! - `wrapper`: which object a first name tells.
 //! - `wrapper_values`: the values of the objects of one name.
 //! - `wrapper_parts`: what stands in such an object.

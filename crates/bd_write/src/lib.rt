@@ -2,6 +2,15 @@
 //!
 //! Which bytes are written: `specs/Written.antt`.
 //!
+//! An example, which `bd_bson_tests` proves and runs as `examples::write`:
+//!
+//! ```
+//! let mut document = Document::new(alloc);
+//! document.push(String::from_str(alloc, "a")?, Value::Int32(1))?;
+//! let bytes = write_document(alloc, &document)?;
+//! assert!(rt; bytes.as_slice() == b"\x0c\0\0\0\x10a\0\x01\0\0\0\0".as_slice());
+//! ```
+//!
 //! - `write`: `write_document`.
 //! - `zeros`: zeros where a zero would end a text.
 //! - `writing_values`: values that nest, and the labels of elements.

@@ -62,10 +62,10 @@ fn run<F: Read + Drop>(rt: &HostRuntime, order: &Order, reader: F, gathering: &W
     )
 }
 
-/// Tells that a file cannot be opened. Where standard error fails too, the status tells it alone.
-fn tell_unopened(rt: &HostRuntime, file: &str) -> Status {
+/// Tells an error, and of which file. Where standard error fails too, the status tells it alone.
+fn tell_error(rt: &HostRuntime, message: &str, file: &str) -> Status {
     let mut err = SystemOutput::new(rt.stderr());
-    for part in ["bsonfind: cannot open ", file, "\n"] {
+    for part in ["bsonfind: ", message, file, "\n"] {
         if write_all(&mut err, part.as_bytes()).is_err() {
             break;
         }
@@ -88,7 +88,7 @@ fn obey(rt: &HostRuntime, gathering: &Waiting) -> Status {
     }
     match fs::open(rt, file) {
         Ok(opened) => run(rt, &order, opened, gathering),
-        Err(_) => tell_unopened(rt, file),
+        Err(_) => tell_error(rt, "cannot open ", file),
     }
 }
 
@@ -98,10 +98,7 @@ fn status(rt: &HostRuntime) -> Status {
     let gathering = RefCell::new(Gathering::new(rt.alloc(), rt.stdout()));
     let status = obey(rt, &gathering);
     if hand_on(&gathering) == Fate::Lost {
-        let mut err = SystemOutput::new(rt.stderr());
-        // Where standard error fails too, the status tells it alone.
-        let _ = write_all(&mut err, b"bsonfind: cannot write\n");
-        return Status::Failed;
+        return tell_error(rt, "cannot write", "");
     }
     status
 }

@@ -17,6 +17,11 @@ is_name (b ∷ bs) = list_all is_letter (b ∷ bs)
 abbrev pub IsNumber : List ℕ → ℤ → Type 0
 IsNumber digits n = FitsSigned w32 n × ((digits ≡ signed_decimal n) ⊎ ((digits ≡ codes "-0") × (n ≡ pos 0)))
 
+-- what is asked: documents whose field of the name is the number
+pub record Query : Type 0 where
+  pub name : List ℕ
+  pub number : ℤ
+
 -- the text asks for documents whose field of the name is the number
 pub record IsQuery (text name : List ℕ) (n : ℤ) : Type 0 where
   pub digits : List ℕ

@@ -36,7 +36,11 @@ pub(crate) fn write_read_fault<E: Output>(fault: ReadFault, err: &mut E) -> Resu
 
 /// Writes a number and the words after it.
 #[tactic(auto, using(crate::proofs::OutputLemmas::LinesLemmas::taking))]
-pub(crate) fn write_count<E: Output>(count: u64, words: &[u8], err: &mut E) -> Result<(), DeviceFault>
+pub(crate) fn write_count<E: Output>(
+    count: u64,
+    words: &[u8],
+    err: &mut E,
+) -> Result<(), DeviceFault>
     ensures ok { OnOk result (TakesText (over E.state err.old err.new) (decimal count ++ words.now)) }
     ensures err { OnErr result (BreaksWithin (over E.state err.old err.new) (decimal count ++ words.now)) }
 {

@@ -53,7 +53,11 @@ fn is_blank(line: &[u8]) -> bool
 
 /// Writes the documents of the lines before the first bad one, each as soon as it is packed. Where memory runs out, what was
 /// written is a front of their bytes.
-pub(crate) fn write_lines<O: Output>(alloc: Global, text: &[u8], out: &mut O) -> Result<Packing, Stopped>
+pub(crate) fn write_lines<O: Output>(
+    alloc: Global,
+    text: &[u8],
+    out: &mut O,
+) -> Result<Packing, Stopped>
     requires { length text.now ≤ 4294967295 }
     ensures packs { IfOk result (IsPacking text.now (over O.state out.old out.new)) }
     ensures stops { IfErr result (StopsPacking text.now (over O.state out.old out.new)) }

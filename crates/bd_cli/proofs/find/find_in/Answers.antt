@@ -1,15 +1,17 @@
-use Rattle.std.proofs.Common.{None, refl}
+use Rattle.std.proofs.Common.{inr, refl}
 use Rattle.std.specs.Int.{w32}
 use Rattle.std.proofs.lemmas.Int.{to_z-of_z}
 use Rattle.bd_bson.specs.Collection.{documents}
 use Rattle.bd_cli.proofs.FindLemmas as finds
 use Rattle.bd_cli.proofs.find.find_in.Goals as goal
-use Rattle.bd_cli.specs.Find.{shown_find}
+use Rattle.bd_cli.specs.Find.{shown_found}
+use Rattle.bd_cli.specs.Find.Answer.{answer, each}
+use Rattle.bd_cli.specs.Find.Equality.{number_matches}
 
 pub returns-in-Ok : goal.returns-in-Ok
 returns-in-Ok g c =
     let ds = documents c.in-Ok.dump in
-    (shown_find c.args.name.now c.args.n c.args.size ds None, (ds, None, c.in-Ok.ensures.dump.0, refl), rw (to_z-of_z w32 c.args.n c.ranges.n) at c.show_found.ensures)
+    (shown_found c.args.size ds (answer (each (number_matches c.args.name.now c.args.n)) ds), inr (ds, c.in-Ok.ensures.dump.0, refl), rw (to_z-of_z w32 c.args.n c.ranges.n) at c.show_found.ensures)
 
 pub returns-then-is_want_of_memory : goal.returns-then-is_want_of_memory
 returns-then-is_want_of_memory g c =

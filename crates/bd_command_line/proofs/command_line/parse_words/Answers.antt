@@ -1,7 +1,7 @@
-use Rattle.std.proofs.Common.{ap, sym, inr, ◌∙◌, ◌∷◌, None}
+use Rattle.std.proofs.Common.{ap, sym, inr, ◌∙◌, ◌∷◌, None, Some}
 use Rattle.bd_command_line.specs.CommandLine.{check, dump, find, line_app, pack, order_of, words_of}
 use Rattle.bd_command_line.proofs.CheckTaken.{check_taken, check_escaped_taken}
-use Rattle.bd_command_line.proofs.FindTaken.{find_taken}
+use Rattle.bd_command_line.proofs.FindTaken.{batch_taken, find_taken}
 use Rattle.bd_command_line.proofs.PackTaken.{pack_taken, pack_escaped_taken}
 use Rattle.bd_command_line.proofs.Taken.{answered, dump_taken, escaped_taken, help_line_refused, help_line_told}
 use Rattle.clap.specs.Words.{fault_of}
@@ -42,3 +42,7 @@ returns-clause-pack_escaped c file is =
 pub returns-clause-find : goal.returns-clause-find
 returns-clause-find c rest file is =
     answered c.order_in.result (words_of c.args.words.now) (find file (123 ∷ rest) None) (ap (fault_of line_app) is ∙ (find_taken rest file).0) (ap order_of is ∙ (find_taken rest file).1) c.order_in.ensures.order c.order_in.ensures.fault
+
+pub returns-clause-find_batch : goal.returns-clause-find_batch
+returns-clause-find_batch c rest file size le is =
+    answered c.order_in.result (words_of c.args.words.now) (find file (123 ∷ rest) (Some size)) (ap (fault_of line_app) is ∙ (batch_taken size rest file le).0) (ap order_of is ∙ (batch_taken size rest file le).1) c.order_in.ensures.order c.order_in.ensures.fault
