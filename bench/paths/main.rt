@@ -16,6 +16,7 @@ use std::time::Instant;
 use std::{env, fs, io};
 
 /// Whether an end equals a value.
+#[derive(Clone, Copy)]
 struct Equals<'a> {
     value: &'a Value,
 }

@@ -1,4 +1,4 @@
--- The comparison order of values (MongoDB manual, "Comparison/Sort Order"): by class, and within a class by what is in them.
+-- The comparison order of values (MongoDB manual, "Comparison/Sort Order"): by class, then within the class.
 pub mod Classes
 pub mod Laws
 pub mod Ranks
@@ -8,7 +8,8 @@ use Rattle.std.specs.declared.cmp.Ordering.{Ordering}
 use Rattle.std.specs.declared.cmp.Ordering.TheVariants.{Less, Equal, Greater}
 use Rattle.std.specs.Ordering.{nat_cmp, int_cmp, ordering_then, is_eq}
 use Rattle.std.specs.Cmp.Lexicographic.{slice_cmp}
-use Rattle.bd_value.specs.Tree.{Tree, leaf, doc, array, code_scope, Items, no_items, item, Fields, no_fields, field}
+use Rattle.bd_value.specs.Tree.{Tree, leaf, doc, array, code_scope}
+use Rattle.bd_value.specs.Tree.{Items, no_items, item, Fields, no_fields, field}
 use Rattle.bd_value.specs.Order.Classes.{class_of, class_rank}
 use Rattle.bd_value.specs.Order.Ranks.{Rank, by_bytes, by_number, scalar_rank}
 
@@ -53,7 +54,8 @@ abbrev mutual
   same_class_cmp (leaf s) b = rank_cmp (scalar_rank s) (rank_in b)
   same_class_cmp (doc fs) b = fields_cmp fs (fields_in b)
   same_class_cmp (array ts) b = items_cmp ts (items_in b)
-  same_class_cmp (code_scope s fs) b = ordering_then (rank_cmp (by_bytes s []) (rank_in b)) (fields_cmp fs (fields_in b))
+  same_class_cmp (code_scope s fs) b =
+      ordering_then (rank_cmp (by_bytes s []) (rank_in b)) (fields_cmp fs (fields_in b))
 
   -- pair by pair: the class of the value, then the name, then the value; no further pair is less
   pub fields_cmp : Fields → Fields → Ordering
@@ -61,14 +63,20 @@ abbrev mutual
   fields_cmp no_fields (field n b gs) = Less
   fields_cmp (field m a fs) no_fields = Greater
   fields_cmp (field m a fs) (field n b gs) =
-      ordering_then (ordering_then (class_cmp a b) (ordering_then (bytes_cmp m n) (same_class_cmp a b))) (fields_cmp fs gs)
+      ordering_then (ordering_then (class_cmp a b) (ordering_then (bytes_cmp m n) (same_class_cmp a b)))
+      (fields_cmp fs gs)
 
   -- element by element; a proper prefix is less
   pub items_cmp : Items → Items → Ordering
   items_cmp no_items no_items = Equal
   items_cmp no_items (item b us) = Less
   items_cmp (item a ts) no_items = Greater
-  items_cmp (item a ts) (item b us) = ordering_then (ordering_then (class_cmp a b) (same_class_cmp a b)) (items_cmp ts us)
+  items_cmp (item a ts) (item b us) =
+      ordering_then (ordering_then (class_cmp a b) (same_class_cmp a b)) (items_cmp ts us)
+
+-- two pairs of a document
+abbrev pub pair_cmp : List ℕ → Tree → List ℕ → Tree → Ordering
+pair_cmp m a n b = ordering_then (class_cmp a b) (ordering_then (bytes_cmp m n) (same_class_cmp a b))
 
 -- by class, then within the class
 abbrev pub cmp : Tree → Tree → Ordering

@@ -5,8 +5,8 @@ mod laws;
 mod ranks;
 
 ghost use Rattle.std.specs.Prelude.{◌≡◌};
-ghost use Rattle.std.specs.Ordering.{ordering_then};
-ghost use Rattle.bd_value.specs.Order.{bytes_cmp, class_cmp, cmp, equal, fields_cmp, items_cmp, rank_cmp, rank_in, same_class_cmp};
+ghost use Rattle.bd_value.specs.Order.{class_cmp, cmp, equal, fields_cmp, items_cmp, pair_cmp};
+ghost use Rattle.bd_value.specs.Order.{rank_cmp, rank_in, same_class_cmp};
 ghost use Rattle.bd_value.specs.Order.Classes.{class_of};
 ghost use Rattle.bd_value.specs.Kind.{kind_of};
 ghost use Rattle.bd_value.specs.declared.kind.Kind.TheVariants as kinds;
@@ -103,7 +103,7 @@ fn compare_within<M: Reading, N: Reading>(a: M, b: N) -> Ordering
 /// The order of two pairs: the class of the value, then the name, then the value.
 #[cycle(order)]
 fn compare_pairs<M: Reading, N: Reading>(m: &str, a: M, n: &str, b: N) -> Ordering
-    ensures { result ≡ ordering_then (class_cmp (M.tree a) (N.tree b)) (ordering_then (bytes_cmp m.now n.now) (same_class_cmp (M.tree a) (N.tree b))) }
+    ensures { result ≡ pair_cmp m.now (M.tree a) n.now (N.tree b) }
 {
     match compare_classes(a, b) {
         Ordering::Equal => match m.cmp(n) {

@@ -24,7 +24,8 @@ NumbersAreOneLine = (a b : Tree) (m n : ℤ) → IsWholeNumber a m → IsWholeNu
 -- a document that has no further pair is less
 abbrev pub ShorterDocumentsAreLess : Type 0
 ShorterDocumentsAreLess = (name : List ℕ) (t : Tree) (fs : Fields)
-    → (cmp (doc no_fields) (doc (field name t fs)) ≡ Less) × (cmp (doc (field name t fs)) (doc no_fields) ≡ Greater)
+    → (cmp (doc no_fields) (doc (field name t fs)) ≡ Less)
+    × (cmp (doc (field name t fs)) (doc no_fields) ≡ Greater)
 
 -- the class of the first value, then its name, then the value, then what is after it
 abbrev pub PairsCompareInTurn : Type 0

@@ -1,7 +1,8 @@
 -- What a scalar is compared by within its class.
 use Rattle.std.specs.Prelude.{ℕ, ℤ, pos, ◌+◌, ◌==◌, List, [], length, if◌then◌else◌}
 use Rattle.bd_value.specs.Seen.{Own, own, own_code}
-use Rattle.bd_value.specs.Tree.{Scalar, min_key, undefined, null, int32, int64, text, symbol, binary, object_id, boolean, date, timestamp, regex, db_pointer, code, max_key}
+use Rattle.bd_value.specs.Tree.{Scalar, min_key, undefined, null, int32, int64, text, symbol, binary}
+use Rattle.bd_value.specs.Tree.{object_id, boolean, date, timestamp, regex, db_pointer, code, max_key}
 
 -- A number, a size, a lesser number, bytes, and more bytes, in turn.
 -- What its class has not is 0 or empty.
@@ -30,11 +31,18 @@ scalar_rank (int32 n) = by_number n
 scalar_rank (int64 n) = by_number n
 scalar_rank (text s) = by_bytes s []
 scalar_rank (symbol s) = by_bytes s []
-scalar_rank (binary subtype payload) = record { number = pos 0; size = binary_size subtype payload; lesser = subtype; bytes = payload; more = [] }
+scalar_rank (binary subtype payload) = record {
+  number = pos 0;
+  size = binary_size subtype payload;
+  lesser = subtype;
+  bytes = payload;
+  more = [];
+}
 scalar_rank (object_id id) = by_bytes id []
 scalar_rank (boolean b) = by_number (if b then pos 1 else pos 0)
 scalar_rank (date milliseconds) = by_number milliseconds
-scalar_rank (timestamp seconds increment) = record { number = pos seconds; size = 0; lesser = increment; bytes = []; more = [] }
+scalar_rank (timestamp seconds increment) =
+    record { number = pos seconds; size = 0; lesser = increment; bytes = []; more = [] }
 scalar_rank (regex pattern options) = by_bytes pattern options
 scalar_rank (db_pointer space id) = by_bytes space id
 scalar_rank (code s) = by_bytes s []

@@ -1,6 +1,7 @@
 //! What always holds of the order, for a proof that calls it.
 
-ghost use Rattle.bd_value.specs.Order.Laws.{EqualsHaveOneClass, NumbersAreOneLine, OrdersAllValues, PairsCompareInTurn, ShorterDocumentsAreLess};
+ghost use Rattle.bd_value.specs.Order.Laws.{EqualsHaveOneClass, NumbersAreOneLine, OrdersAllValues};
+ghost use Rattle.bd_value.specs.Order.Laws.{PairsCompareInTurn, ShorterDocumentsAreLess};
 
 /// The order is total up to a tie: it goes one way round as the other, and values that are equal stand at one place.
 pub fn orders_all_values()
