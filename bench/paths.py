@@ -3,7 +3,7 @@
 
 usage: bench/paths.py FILE PATH NUMBER [RUNS]     how many documents have an end of PATH that equals NUMBER; the best of 5 runs
 
-The program is bench/paths/main.rt. It is no part of the repository's crates: it is proved and built in a copy of the tree, which
+The program is bench/paths/main.rt.in, which the gate passes over. It is no part of the repository's crates: it is proved and built in a copy of the tree, which
 takes some minutes where the crates below it were not proved before.
 """
 
@@ -30,8 +30,8 @@ def built(room: Path) -> Path:
     for part in ("src", "specs", "proofs"):
         (here / part).mkdir(parents=True)
     source = ROOT / "bench" / "paths"
-    shutil.copy(source / "main.rt", here / "src" / "main.rt")
-    shutil.copy(source / "Equals.antt", here / "specs" / "Equals.antt")
+    shutil.copy(source / "main.rt.in", here / "src" / "main.rt")
+    shutil.copy(source / "Equals.antt.in", here / "specs" / "Equals.antt")
     (here / "specs" / "Lib.antt").write_text("pub mod Equals\n")
     (here / "proofs" / "Lib.antt").write_text("")
     subprocess.run(["rt", "run"], cwd=here, check=True, stdout=subprocess.DEVNULL)
