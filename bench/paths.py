@@ -3,8 +3,8 @@
 
 usage: bench/paths.py FILE PATH NUMBER [RUNS]     how many documents have an end of PATH that equals NUMBER; the best of 5 runs
 
-The program is bench/paths/main.rt.in, which the gate passes over. It is no part of the repository's crates: it is proved and built in a copy of the tree, which
-takes some minutes where the crates below it were not proved before.
+The program is bench/paths/main.rt.in, which the gate passes over: it is proved and built in a copy of the tree, which takes some
+minutes where the crates below it were not proved before.
 """
 
 import shutil

@@ -4,6 +4,15 @@
 //! through each document in them: MongoDB manual, "Query on Embedded/Nested Documents" and "Query an Array". All calls read a
 //! value wherever it lies, in memory or in the bytes of a dump.
 //!
+//! An example, which `bd_path_tests` proves and runs as `examples::sort_key_of_a_document`:
+//!
+//! ```
+//! let document = read_doc(alloc, b"{\"a\":[{\"b\":7},{\"b\":5}]}")?;
+//! let path = Path::parse(alloc, "a.b")?;
+//! let key = sort_key(alloc, Tree::Doc(&document), &path, Dir::Up)?;
+//! assert!(rt; matches!(key, Value::Int32(5)));
+//! ```
+//!
 //! - `path`, `path_fault`, `component`: `Path`, a text cut into its components: `specs/Path.antt`.
 //! - `ends`: `any_end`, whether a value that the path reaches passes a test: `specs/Reach.antt`.
 //! - `key`, `key_list`: the keys of a document on a path, as nodes of the document: `specs/KeyList.antt`.
