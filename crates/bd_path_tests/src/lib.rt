@@ -5,6 +5,8 @@
 #[cfg(test)]
 mod end_tests;
 #[cfg(test)]
+mod examples;
+#[cfg(test)]
 mod key_tests;
 #[cfg(test)]
 mod order_tests;
