@@ -1,7 +1,9 @@
 #!/usr/bin/env python3
 """Times a path over the documents of a dump, beside the check of the same bytes, in one process.
 
-usage: bench/paths.py FILE PATH NUMBER [RUNS]     how many documents have an end of PATH that equals NUMBER; the best of 5 runs
+usage: bench/paths.py FILE PATH NUMBER [RUNS]     the best of 5 runs
+
+Two figures: whether a document has a value at PATH that equals NUMBER, and its order, in a sort by PATH, beside the one before it.
 
 The program is bench/paths/main.rt.in, which the gate passes over: it is proved and built in a copy of the tree, which takes some
 minutes where the crates below it were not proved before.
@@ -48,9 +50,10 @@ def main() -> None:
         answers = [subprocess.run([program, *words], check=True, capture_output=True, text=True).stdout.split() for _ in range(runs)]
     if not all(answers):
         sys.exit("the file is no dump, or the words are no path and number")
-    checked = min(int(answer[0]) for answer in answers)
-    reached = min(int(answer[1]) for answer in answers)
-    print(f"check {checked / 1000:.1f} ms, path {reached / 1000:.1f} ms, {reached / checked:.2f} of it; found {answers[0][2]}")
+    checked, reached, sorted_by = (min(int(answer[i]) for answer in answers) for i in range(3))
+    print(f"check {checked / 1000:.1f} ms")
+    print(f"path  {reached / 1000:.1f} ms, {reached / checked:.2f} of it; {answers[0][3]} documents have the value")
+    print(f"order {sorted_by / 1000:.1f} ms, {sorted_by / checked:.2f} of it; {answers[0][4]} stand after the one before them")
 
 
 if __name__ == "__main__":
