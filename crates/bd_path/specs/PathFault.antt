@@ -3,7 +3,7 @@ use Rattle.std.specs.Prelude.{ℕ, List, codes}
 use Rattle.bd_path.specs.declared.path_fault.PathFault.{PathFault}
 use Rattle.bd_path.specs.declared.path_fault.PathFault.TheVariants.{EmptyComponent, TooLong, NoMemory}
 
-abbrev pub fault_words : PathFault → List ℕ
-fault_words EmptyComponent = codes "empty component"
-fault_words TooLong = codes "too many components"
-fault_words NoMemory = codes "no memory"
+abbrev pub path_fault_words : PathFault → List ℕ
+path_fault_words EmptyComponent = codes "empty component"
+path_fault_words TooLong = codes "too many components"
+path_fault_words NoMemory = codes "no memory"

@@ -1,7 +1,7 @@
 //! Why a text is no path.
 
 ghost use Rattle.std.specs.Prelude.{◌≡◌};
-ghost use Rattle.bd_path.specs.PathFault.{fault_words};
+ghost use Rattle.bd_path.specs.PathFault.{path_fault_words};
 ghost use Rattle.bd_path.specs.declared.path_fault.PathFault.TheVariants.{NoMemory};
 
 use std::alloc::{AllocError, AllocFailed};
@@ -22,7 +22,7 @@ pub enum PathFault {
 impl PathFault {
     /// What is wrong, in words.
     pub fn words(self) -> &'static str
-        ensures { result.now ≡ fault_words self }
+        ensures { result.now ≡ path_fault_words self }
     {
         match self {
             PathFault::EmptyComponent => "empty component",
