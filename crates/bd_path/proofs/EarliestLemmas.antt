@@ -1,5 +1,5 @@
 -- The earliest of some keys, by parts.
-use Rattle.std.proofs.Common.{◌≡◌, ◌∷◌, ◌++◌, ℕ, List, [], Bool, true, false, cond, Option, Some, None, ◌⊎◌, inl, inr, refl, sym, ap, ◌∙◌, subst, Ordering, Less, Equal, Greater}
+use Rattle.std.proofs.Common.{◌≡◌, ◌∷◌, ◌++◌, ℕ, List, [], Bool, true, false, cond, Option, Some, None, ◌⊎◌, inl, inr, refl, sym, ap, ap₂, ◌∙◌, subst, Ordering, Less, Equal, Greater}
 use Rattle.std.specs.Prelude.{◌||◌, IfSome}
 use Rattle.std.specs.Cmp.{IsTotalOrder}
 use Rattle.std.specs.List.{list_any}
@@ -17,8 +17,8 @@ use Rattle.bd_path.specs.Earliest.{dir_cmp, earlier_key, earliest_key}
 use Rattle.bd_path.specs.Key.{IsKeyOf}
 use Rattle.bd_path.specs.declared.key.Key.{Key}
 use Rattle.bd_path.specs.declared.key.Key.TheVariants.{Node, Null, Undefined}
-use Rattle.bd_path.specs.KeyList.{distinct, end_keys, or_else, with_key, with_keys}
-use Rattle.bd_path.proofs.ReachLemmas.{scalar_is_no_array, scalar_is_no_doc}
+use Rattle.bd_path.specs.KeyList.{all_keys, distinct, document_keys, end_keys, index_keys, keyed, missing_key, or_else, with_key, with_keys}
+use Rattle.bd_path.proofs.ReachLemmas.{of_elements, scalar_is_no_array, scalar_is_no_doc, union}
 use Rattle.bd_path.specs.declared.dir.Dir.{Dir}
 use Rattle.bd_path.specs.declared.dir.Dir.TheVariants.{Up, Down}
 
@@ -227,3 +227,21 @@ pub key_in : {N : Type 0} (source : N → List ℕ) (bytes other : List ℕ) (k 
 key_in source bytes other (Node n) same is = is ∙ same
 key_in source bytes other Null same is = tt
 key_in source bytes other Undefined same is = tt
+
+-- the keys of an array, by those of the documents in it and of the element at the index
+module _ (dir : Dir) (t : Tree) (name : List ℕ) (rest path : Names) (among at both : Option Tree) (array : kind_of t ≡ kinds.Array) (is : path ≡ name ∷ rest)
+    (first : among ≡ earliest_key dir (document_keys false t path)) (second : at ≡ earliest_key dir (index_keys false t name rest))
+    (earliest : both ≡ earlier_key dir among at) where
+  joined : both ≡ earliest_key dir (union (keyed (missing_key false)) t name rest)
+  joined =
+      earliest ∙ ap₂ (earlier_key dir) (first ∙ ap (λ (x : Names). earliest_key dir (document_keys false t x)) is) second
+      ∙ sym (of_both dir (document_keys false t (name ∷ rest)) (index_keys false t name rest))
+
+  whole : or_else (union (keyed (missing_key false)) t name rest) (missing_key false) ≡ all_keys false t path
+  whole = sym (ap (all_keys false t) is ∙ of_elements (keyed (missing_key false)) t name rest array)
+
+  pub array_some : (k : Tree) → Some k ≡ both → Some k ≡ earliest_key dir (all_keys false t path)
+  array_some k some_is = or_some dir (union (keyed (missing_key false)) t name rest) (missing_key false) k (some_is ∙ joined) ∙ ap (earliest_key dir) whole
+
+  pub array_none : None ≡ both → earliest_key dir (missing_key false) ≡ earliest_key dir (all_keys false t path)
+  array_none none_is = or_none dir (union (keyed (missing_key false)) t name rest) (missing_key false) (none_is ∙ joined) ∙ ap (earliest_key dir) whole

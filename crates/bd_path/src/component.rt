@@ -2,7 +2,7 @@
 
 ghost use Rattle.std.specs.Prelude.{◌≡◌, IfOk, string_bytes};
 ghost use Rattle.std.specs.Str.{all_ascii_digits};
-ghost use Rattle.bd_path.specs.Component.{index_of, is_index, held_index};
+ghost use Rattle.bd_path.specs.Component.{is_index, held_index};
 
 use bd_value::NoMemory;
 use std::alloc::Global;

@@ -1,4 +1,4 @@
-use Rattle.std.proofs.Common.{rules, ◌≡◌, ℕ, List, ◌∷◌, ◌++◌, Some, None, false, option_map, string_bytes, sym, subst, ap, ap₂, ◌∙◌, arith}
+use Rattle.std.proofs.Common.{rules, ◌≡◌, ℕ, List, ◌∷◌, Some, None, false, option_map, string_bytes, sym, subst, ap, ◌∙◌, arith}
 use Rattle.std.specs.Prelude.{IfSome}
 use Rattle.bd_value.specs.Kind.{kind_of}
 use Rattle.bd_value.specs.Lookup.{first_of}
@@ -10,8 +10,8 @@ use Rattle.bd_path.specs.Component.{index_of}
 use Rattle.bd_path.specs.Earliest.{earlier_key, earliest_key}
 use Rattle.bd_path.specs.Key.{IsKeyOf, key_tree}
 use Rattle.bd_path.specs.KeyList.{keyed, missing_key}
-use Rattle.bd_path.specs.Names.{Names, component_names}
-use Rattle.bd_path.specs.Reach.{gather, gather_at, gather_each}
+use Rattle.bd_path.specs.Names.{component_names}
+use Rattle.bd_path.specs.Reach.{gather, gather_each}
 use Rattle.bd_path.proofs.EarliestLemmas as first
 use Rattle.bd_path.proofs.ReachLemmas as down
 use Rattle.bd_path.proofs.earliest.+earliest.Goals.{earliest_at_index-in_default-via-in-Some+else-i-len, earliest_at_index-in_default-via-in_default, earliest_of_documents-then-eq, earliest_of_documents-else-eq}
@@ -64,37 +64,17 @@ earliest_below-returns-in-None-clause-tree g t c =
 
 pub earliest_below-returns-in-Some-earlier-clause-tree : goal.earliest_below-returns-in-Some-earlier-clause-tree
 earliest_below-returns-in-Some-earlier-clause-tree g t c =
-    let n = g.N.Reading.tree c.args.node in
-    let g0 = keyed (missing_key false) in
-    let dir = c.args.dir in
     let kt = key_tree g.N.Reading.tree in
-    let name = string_bytes c.in-Some.component.now.name in
-    let rest = component_names c.in-Some.rest.now in
-    let p : component_names c.args.path.now ≡ name ∷ rest = ap component_names c.in-Some.ensures.cases.0 in
-    let docs = gather_each g0 (items_of (elements_in n)) (name ∷ rest) in
-    let at = gather_at g0 (items_of (elements_in n)) (index_of name) rest in
-    let among : option_map kt c.earliest_of_documents-among.result ≡ earliest_key dir docs =
-    c.earliest_of_documents-among.ensures.tree ∙ ap (λ (x : Names). earliest_key dir (gather_each g0 (items_of (elements_in n)) x)) p in
-    first.or_some dir (docs ++ at) (missing_key false) (kt c.in-Some-earlier.key)
-    (ap (option_map kt) (sym c.in-Some-earlier.is) ∙ c.earlier.ensures.tree ∙ ap₂ (earlier_key dir) among c.earliest_at_index-at.ensures.tree ∙ sym (first.of_both dir docs at))
-    ∙ ap (earliest_key dir) (sym (ap (gather g0 n) p ∙ down.of_elements g0 n name rest (sym c.kind.ensures ∙ c.in-Array.is)))
+    first.array_some c.args.dir (g.N.Reading.tree c.args.node) (string_bytes c.in-Some.component.now.name) (component_names c.in-Some.rest.now) (component_names c.args.path.now) _ _ _
+    (sym c.kind.ensures ∙ c.in-Array.is) (ap component_names c.in-Some.ensures.cases.0)
+    c.earliest_of_documents-among.ensures.tree c.earliest_at_index-at.ensures.tree c.earlier.ensures.tree (kt c.in-Some-earlier.key) (ap (option_map kt) (sym c.in-Some-earlier.is))
 
 pub earliest_below-returns-in-None-earlier-clause-tree : goal.earliest_below-returns-in-None-earlier-clause-tree
 earliest_below-returns-in-None-earlier-clause-tree g t c =
-    let n = g.N.Reading.tree c.args.node in
-    let g0 = keyed (missing_key false) in
-    let dir = c.args.dir in
     let kt = key_tree g.N.Reading.tree in
-    let name = string_bytes c.in-Some.component.now.name in
-    let rest = component_names c.in-Some.rest.now in
-    let p : component_names c.args.path.now ≡ name ∷ rest = ap component_names c.in-Some.ensures.cases.0 in
-    let docs = gather_each g0 (items_of (elements_in n)) (name ∷ rest) in
-    let at = gather_at g0 (items_of (elements_in n)) (index_of name) rest in
-    let among : option_map kt c.earliest_of_documents-among.result ≡ earliest_key dir docs =
-    c.earliest_of_documents-among.ensures.tree ∙ ap (λ (x : Names). earliest_key dir (gather_each g0 (items_of (elements_in n)) x)) p in
-    first.or_none dir (docs ++ at) (missing_key false)
-    (ap (option_map kt) (sym c.in-None-earlier.is) ∙ c.earlier.ensures.tree ∙ ap₂ (earlier_key dir) among c.earliest_at_index-at.ensures.tree ∙ sym (first.of_both dir docs at))
-    ∙ ap (earliest_key dir) (sym (ap (gather g0 n) p ∙ down.of_elements g0 n name rest (sym c.kind.ensures ∙ c.in-Array.is)))
+    first.array_none c.args.dir (g.N.Reading.tree c.args.node) (string_bytes c.in-Some.component.now.name) (component_names c.in-Some.rest.now) (component_names c.args.path.now) _ _ _
+    (sym c.kind.ensures ∙ c.in-Array.is) (ap component_names c.in-Some.ensures.cases.0)
+    c.earliest_of_documents-among.ensures.tree c.earliest_at_index-at.ensures.tree c.earlier.ensures.tree (ap (option_map kt) (sym c.in-None-earlier.is))
 
 pub earliest_of_documents-loop-next-init : goal.earliest_of_documents-loop-next-init
 earliest_of_documents-loop-next-init g t c =
