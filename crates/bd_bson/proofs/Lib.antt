@@ -1,2 +1,2 @@
-pub mod Collects
-pub mod Verdicts
+pub mod CollectionLemmas
+pub mod VerdictLemmas

@@ -3,7 +3,7 @@ use Rattle.std.specs.Prelude.{◌≡◌, ◌<◌, ◌≤◌, ◌⊎◌, ℕ, Lis
 use Rattle.bd_value.specs.Tree.{Doc}
 use Rattle.bd_check.specs.Dump.{FailsAfter}
 use Rattle.bd_bson.specs.Starts.{documents_starting_at}
-use Rattle.bd_check.specs.Told.{fault_view, IsWantOfMemory}
+use Rattle.bd_check.specs.AnsweredFault.{fault_view, IsWantOfMemory}
 use Rattle.bd_bson.specs.declared.collection.Dump.{Dump}
 use Rattle.bd_check.specs.declared.fault.Fault as declared
 use Rattle.bd_check.specs.declared.fault.FaultKind.TheVariants.{DumpTooLong}

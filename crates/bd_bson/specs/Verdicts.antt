@@ -9,9 +9,9 @@ use Rattle.bd_check.specs.declared.fault.FaultKind.{FaultKind}
 -- the verdict on a document, by what its length tells, and those after as many bytes
 abbrev pub verdicts_by : Option Fault → (ℕ → List (Option Fault)) → Result (Option ℕ) FaultKind
     → List (Option Fault)
-verdicts_by first behind (Ok None) = []
-verdicts_by first behind (Ok (Some n)) = first ∷ behind n
-verdicts_by first behind (Err kind) = first ∷ []
+verdicts_by first after (Ok None) = []
+verdicts_by first after (Ok (Some n)) = first ∷ after n
+verdicts_by first after (Err kind) = first ∷ []
 
 -- The verdicts on bytes that begin at the place. The first number bounds the turns: the count of the bytes is always enough.
 unfoldable pub verdicts_from : ℕ → ℕ → List ℕ → List (Option Fault)

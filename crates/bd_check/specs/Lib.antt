@@ -1,6 +1,6 @@
 pub mod Dump
 pub mod Fault
 pub mod FirstFault
-pub mod Gives
-pub mod Next
-pub mod Told
+pub mod ItemFault
+pub mod DocumentAt
+pub mod AnsweredFault

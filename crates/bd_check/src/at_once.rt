@@ -20,7 +20,7 @@ fn ascii_end(bytes: &[u8]) -> Option<usize>
 
 /// The bytes after an ASCII name.
 #[inline(always)]
-fn behind_name(bytes: &[u8]) -> Option<&[u8]>
+fn after_name(bytes: &[u8]) -> Option<&[u8]>
     ensures { IfSome result (λ x. (k : ℕ) × (position (λ b. b == 0) bytes.now ≡ Some k) × (is_utf8 (take k bytes.now) ≡ true)
         × (k < length bytes.now) × (x.now ≡ drop (k + 1) bytes.now)) }
 {
@@ -28,13 +28,13 @@ fn behind_name(bytes: &[u8]) -> Option<&[u8]>
     if bytes[k] != 0 {
         return None;
     }
-    let (_, behind) = bytes.split_at(k + 1);
-    Some(behind)
+    let (_, after) = bytes.split_at(k + 1);
+    Some(after)
 }
 
 /// The bytes after `n` bytes.
 #[inline(always)]
-fn behind(n: usize, bytes: &[u8]) -> Option<&[u8]>
+fn after(n: usize, bytes: &[u8]) -> Option<&[u8]>
     ensures { IfSome result (λ x. (n ≤ length bytes.now) × (x.now ≡ drop n bytes.now)) }
 {
     if bytes.len() < n {
@@ -47,7 +47,7 @@ fn behind(n: usize, bytes: &[u8]) -> Option<&[u8]>
 /// The bytes after a string.
 #[inline(always)]
 #[tactic(auto, unfolding(crate::specs::FirstFault::past_string))]
-fn behind_string(bytes: &[u8]) -> Option<&[u8]>
+fn after_string(bytes: &[u8]) -> Option<&[u8]>
     ensures gives { IfSome result (λ x. (e : ℕ) → past_string e bytes.now ≡ Ok x.now) }
     ensures after { IfSome result (λ x. length x.now ≤ length bytes.now) }
 {
@@ -68,20 +68,20 @@ fn behind_string(bytes: &[u8]) -> Option<&[u8]>
 
 /// The bytes after a value of that kind.
 #[inline(always)]
-fn behind_value(kind: Kind, bytes: &[u8]) -> Option<&[u8]>
+fn after_value(kind: Kind, bytes: &[u8]) -> Option<&[u8]>
     ensures gives { IfSome result (λ x. (nested : Nested) (q e : ℕ) → past_value nested kind q e bytes.now ≡ Ok x.now) }
     ensures after { IfSome result (λ x. length x.now ≤ length bytes.now) }
 {
     match kind {
         Kind::MinKey | Kind::Undefined | Kind::Null | Kind::MaxKey => Some(bytes),
-        Kind::Int32 => behind(4, bytes),
-        Kind::Int64 | Kind::Date | Kind::Timestamp => behind(8, bytes),
-        Kind::ObjectId => behind(12, bytes),
+        Kind::Int32 => after(4, bytes),
+        Kind::Int64 | Kind::Date | Kind::Timestamp => after(8, bytes),
+        Kind::ObjectId => after(12, bytes),
         Kind::Bool => match bytes {
             [0 | 1, rest @ ..] => Some(rest),
             _ => None,
         },
-        Kind::Text => behind_string(bytes),
+        Kind::Text => after_string(bytes),
         _ => None,
     }
 }
@@ -94,9 +94,9 @@ pub fn past_scalar(bytes: &[u8]) -> Option<&[u8]>
     ensures after { IfSome result (λ x. length x.now < length bytes.now) }
 {
     let (_, named) = bytes.split_at(1);
-    let value = behind_name(named)?;
+    let value = after_name(named)?;
     match element_type(bytes[0]) {
-        Some(ElementType::Kept(kind)) => behind_value(kind, value),
+        Some(ElementType::Kept(kind)) => after_value(kind, value),
         _ => None,
     }
 }

@@ -1,9 +1,9 @@
 //! The first fault of a document's bytes, from left to right, without a tree.
 
 ghost use Rattle.std.specs.Prelude.{◌≡◌, ◌≤◌, ◌<◌, ◌+◌, length, IfOk, IfSome, option_map, Option, Some, suc};
-ghost use Rattle.bd_check.specs.Gives.{GivesItem};
+ghost use Rattle.bd_check.specs.ItemFault.{GivesItem};
 ghost use Rattle.bd_check.specs.FirstFault.{past_value, past_typed, past_element, past_elements, past_body, past_code_scope, past_nested, past_document, start, first_fault};
-ghost use Rattle.bd_check.specs.Told.{FindsFault};
+ghost use Rattle.bd_check.specs.AnsweredFault.{FindsFault};
 ghost use Rattle.bd_raw.specs.Spelling.{IsDocument};
 ghost use Rattle.bd_raw.specs.Sound.{stands};
 ghost use Rattle.bd_value.specs.Tree.{pairs_in};

@@ -3,7 +3,7 @@
 ghost use Rattle.std.specs.Prelude.{◌≡◌, [], IfOk, string_bytes, codes};
 ghost use Rattle.bd_check.specs.Fault.{Fault as Where, longer, fault_words};
 ghost use Rattle.bd_check.specs.FirstFault.{label};
-ghost use Rattle.bd_check.specs.Told.{TellsStop, IsOf, IsWantOfMemory};
+ghost use Rattle.bd_check.specs.AnsweredFault.{TellsStop, IsOf, IsWantOfMemory};
 ghost use Rattle.bd_check.specs.declared.fault.Stop.TheVariants.{NoMemory};
 
 use std::alloc::{AllocError, AllocFailed, Global};

@@ -5,7 +5,7 @@
 
 ghost use Rattle.std.specs.Prelude.{◌≡◌, ◌≤◌, ◌<◌, ◌+◌, ◌^◌, length, IfOk};
 ghost use Rattle.std.specs.Str.{is_utf8};
-ghost use Rattle.bd_check.specs.Gives.{GivesItem};
+ghost use Rattle.bd_check.specs.ItemFault.{GivesItem};
 ghost use Rattle.bd_check.specs.FirstFault.{past_number, past_zero, text_at, past_name, past_string, past_frame, past_fixed, past_boolean, past_data, past_binary, past_regex, past_code_frame, past_scope_end, known};
 ghost use Rattle.bd_raw.specs.Types.{type_at};
 

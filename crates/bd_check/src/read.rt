@@ -5,9 +5,9 @@ ghost use Rattle.bd_value.specs.Tree.{Doc};
 ghost use Rattle.bd_value.specs.View.{pairs};
 ghost use Rattle.bd_raw.specs.Spelling.{IsDocument};
 ghost use Rattle.bd_check.specs.FirstFault.{first_fault};
-ghost use Rattle.bd_check.specs.Told.{TellsFault, IsWantOfMemory};
+ghost use Rattle.bd_check.specs.AnsweredFault.{TellsFault, IsWantOfMemory};
 ghost use Rattle.bd_check.specs.Dump.{frame_length, frame_fault};
-ghost use Rattle.bd_check.specs.Next.{IsNext};
+ghost use Rattle.bd_check.specs.DocumentAt.{IsNext};
 
 use crate::check::check_document;
 use crate::fault::{Fault, FaultKind, want_of_memory};

@@ -5,8 +5,8 @@ use Rattle.bd_value.specs.Tree.{Doc}
 use Rattle.bd_device.specs.declared.reading.ReadFault.{ReadFault}
 use Rattle.bd_check.specs.Fault.{Fault}
 use Rattle.bd_bson.specs.Verdicts.{verdicts, BeginAs}
-use Rattle.bd_stream.proofs.Frames.{frames_once}
-use Rattle.bd_bson.proofs.Verdicts.{as_walk}
+use Rattle.bd_stream.proofs.FrameLemmas.{frames_once}
+use Rattle.bd_bson.proofs.VerdictLemmas.{as_walk}
 use Rattle.bd_cli.specs.declared.status.Status.{Status}
 use Rattle.bd_cli.specs.declared.status.Status.TheVariants.{Failed}
 use Rattle.bd_cli.proofs.CheckLemmas.JudgingLemmas.{faulty_append}

@@ -11,11 +11,11 @@ use Rattle.bd_device.specs.declared.reading.ReadFault.{ReadFault}
 use Rattle.bd_device.specs.declared.reading.ReadFault.TheVariants as reads
 use Rattle.bd_check.specs.Fault.{Fault}
 use Rattle.bd_check.specs.Dump.{AreJoined, IsWalk}
-use Rattle.bd_check.specs.Told.{fault_view}
+use Rattle.bd_check.specs.AnsweredFault.{fault_view}
 use Rattle.bd_check.specs.declared.fault.Fault as told
-use Rattle.bd_check.proofs.Takes.{IsBytes}
-use Rattle.bd_check.proofs.Dumps.{walk_once, walk_on, joined_once}
-use Rattle.bd_stream.proofs.Frames.{cut_stuck}
+use Rattle.bd_check.proofs.FirstFaultLemmas.{IsBytes}
+use Rattle.bd_check.proofs.DumpLemmas.{walk_once, walk_on, joined_once}
+use Rattle.bd_stream.proofs.FrameLemmas.{cut_stuck}
 use Rattle.bd_cli.specs.declared.ending.Ending.{Ending}
 use Rattle.bd_cli.specs.declared.ending.Ending.TheVariants as endings
 use Rattle.bd_cli.specs.declared.dump.walk.Walk.{Walk}

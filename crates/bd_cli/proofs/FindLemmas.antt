@@ -1,11 +1,11 @@
 -- The lines of documents that were found, and the ends of a run of `find`.
 pub mod AnswerLemmas
-pub mod Kept
+pub mod OrderLemmas
 pub mod NumberLemmas
 pub mod QueryTextLemmas
-pub mod ShownOnce
+pub mod UniqueLemmas
 pub mod StepLemmas
-pub mod Words
+pub mod MessageLemmas
 use Rattle.std.proofs.Common.{◌≡◌, ◌≤◌, ◌<◌, ◌+◌, ◌-◌, ℕ, ℤ, List, [], ◌∷◌, ◌++◌, length, get_or, take, drop, Option, Some, None, refl, sym, ap, ◌∙◌, subst, append_assoc, append-nil, arith, inl, inr, zero, suc, Bool, true, false, cond, ◌⊎◌, codes, Ok}
 use Rattle.std.specs.Prelude.{slice_get, MatchOption}
 use Rattle.std.specs.List.{All}
@@ -15,7 +15,7 @@ use Rattle.bd_value.specs.Tree.{Doc, doc, fields_of}
 use Rattle.bd_extjson.specs.Text.{text}
 use Rattle.std.proofs.KnownBytes.{Appends-nil}
 use Rattle.bd_bson.specs.Collection.{IsUnread}
-use Rattle.bd_check.specs.Told.{fault_view}
+use Rattle.bd_check.specs.AnsweredFault.{fault_view}
 use Rattle.bd_check.specs.declared.fault.Fault as declared
 use Rattle.bd_check.specs.declared.fault.FaultKind.TheVariants as kinds
 use Rattle.bd_check.specs.Fault.{Fault}
@@ -26,7 +26,7 @@ use Rattle.bd_cli.specs.Find.Answer.{matching, answer, each, is_empty}
 use Rattle.bd_cli.specs.Find.Equality.{number_matches}
 use Rattle.bd_cli.specs.Find.Step.{ahead, IsStep}
 use Rattle.bd_cli.specs.declared.find.step.Step.{Step}
-use Rattle.bd_cli.proofs.FindLemmas.Kept.{In, in_at, take_in}
+use Rattle.bd_cli.proofs.FindLemmas.OrderLemmas.{In, in_at, take_in}
 use Rattle.bd_cli.proofs.FindLemmas.AnswerLemmas.{answer_matching, matching_in}
 use Rattle.bd_cli.proofs.FindLemmas.StepLemmas.{after_step, end_is, from_start}
 use Rattle.bd_cli.proofs.OutputLemmas.LinesLemmas.{lines-append}

@@ -16,9 +16,9 @@ use Rattle.bd_stream.specs.NextDocument.{IsReason, ReadsDocument, held_bytes}
 use Rattle.bd_stream.specs.Stream.{IsCut, IsFrame}
 use Rattle.bd_stream.specs.declared.doc_buffer.DocBuffer.{DocBuffer}
 use Rattle.bd_stream.specs.declared.doc_buffer.DocFault.TheVariants as faults
-use Rattle.bd_check.specs.Told.{fault_view}
+use Rattle.bd_check.specs.AnsweredFault.{fault_view}
 use Rattle.bd_check.specs.declared.fault.Fault as told
-use Rattle.bd_stream.proofs.Frames.{frame_on}
+use Rattle.bd_stream.proofs.FrameLemmas.{frame_on}
 use Rattle.bd_cli.specs.Outcome.{StreamsInput}
 use Rattle.bd_device.specs.Devices.{Reader, between}
 
@@ -57,20 +57,20 @@ known_end (Some xs) None new given gave none end = absurd gave
 known_end (Some xs) (Some ys) None given gave none end = absurd none
 known_end (Some xs) (Some ys) (Some zs) given gave none end = sym (gave ∙ ap (λ z. given ++ z) (none ∙ end) ∙ append-nil given)
 
-pub known_behind : (old mid : Option (List ℕ)) (given bytes : List ℕ) → Consumes old mid given → IfSome mid (λ xs. bytes ≡ xs) → IfSome old (λ xs. given ++ bytes ≡ xs)
-known_behind None mid given bytes gave is = _
-known_behind (Some xs) None given bytes gave is = absurd gave
-known_behind (Some xs) (Some ys) given bytes gave is = ap (λ z. given ++ z) is ∙ sym gave
+pub known_after : (old mid : Option (List ℕ)) (given bytes : List ℕ) → Consumes old mid given → IfSome mid (λ xs. bytes ≡ xs) → IfSome old (λ xs. given ++ bytes ≡ xs)
+known_after None mid given bytes gave is = _
+known_after (Some xs) None given bytes gave is = absurd gave
+known_after (Some xs) (Some ys) given bytes gave is = ap (λ z. given ++ z) is ∙ sym gave
 
 pub front_known : (old new : Option (List ℕ)) (given : List ℕ) → Consumes old new given → IfSome old (λ xs. StartsWith xs given)
 front_known None new given gave = _
 front_known (Some xs) None given gave = absurd gave
 front_known (Some xs) (Some ys) given gave = starts_with_of_append xs given ys gave
 
-front_behind : (old new : Option (List ℕ)) (bytes given rest : List ℕ) → Consumes old new bytes → bytes ≡ given ++ rest → IfSome old (λ xs. StartsWith xs given)
-front_behind None new bytes given rest gave cut = _
-front_behind (Some xs) None bytes given rest gave cut = absurd gave
-front_behind (Some xs) (Some ys) bytes given rest gave cut = starts_with_of_append xs given (rest ++ ys) (gave ∙ ap (λ z. z ++ ys) cut ∙ append_assoc given rest ys)
+front_after : (old new : Option (List ℕ)) (bytes given rest : List ℕ) → Consumes old new bytes → bytes ≡ given ++ rest → IfSome old (λ xs. StartsWith xs given)
+front_after None new bytes given rest gave cut = _
+front_after (Some xs) None bytes given rest gave cut = absurd gave
+front_after (Some xs) (Some ys) bytes given rest gave cut = starts_with_of_append xs given (rest ++ ys) (gave ∙ ap (λ z. z ++ ys) cut ∙ append_assoc given rest ys)
 
 pub more_called : (a b c turns fewer : ℕ) → turns ≤ 4294967296 → fewer ≤ turns → b ≡ after_more a (4294967296 - turns) → c ≡ after_more b (turns - fewer) → c ≡ after_more a (4294967296 - fewer)
 more_called a b c turns fewer le less first second = search rules
@@ -129,8 +129,8 @@ streamed_front old new bytes given rest None was cut = whole old.left was.0
     whole : (o : Option (List ℕ)) → IfSome o (λ xs. bytes ≡ xs) → IfSome o (λ xs. StartsWith xs given)
     whole None is = _
     whole (Some xs) is = starts_with_of_append xs given rest (sym is ∙ cut)
-streamed_front old new bytes given rest (Some reads.Device) was cut = front_behind old.left new.left bytes given rest was.0 cut
+streamed_front old new bytes given rest (Some reads.Device) was cut = front_after old.left new.left bytes given rest was.0 cut
 streamed_front old new bytes given rest (Some reads.TooLong) was cut =
-    front_behind old.left new.left (bytes ++ was.0) given (rest ++ was.0) was.1 (ap (λ xs. xs ++ was.0) cut ∙ append_assoc given rest was.0)
-streamed_front old new bytes given rest (Some reads.TooManyTurns) was cut = front_behind old.left new.left bytes given rest was.0 cut
+    front_after old.left new.left (bytes ++ was.0) given (rest ++ was.0) was.1 (ap (λ xs. xs ++ was.0) cut ∙ append_assoc given rest was.0)
+streamed_front old new bytes given rest (Some reads.TooManyTurns) was cut = front_after old.left new.left bytes given rest was.0 cut
 streamed_front old new bytes given rest (Some reads.NoMemory) was cut = absurd was

@@ -3,7 +3,7 @@ pub mod PackingLemmas
 use Rattle.std.proofs.Common.{◌≡◌, ◌<◌, ℕ, suc, List, [], ◌∷◌, length, Option, Some, None, Result, Ok, Err, refl, sym, ap, ap₂, ◌∙◌, subst, arith, inl, inr, true, false, true≢false}
 use Rattle.bd_value.specs.Tree.{Doc}
 use Rattle.bd_device.specs.declared.reading.ReadFault.{ReadFault}
-use Rattle.bd_extjson.specs.Reads.{ReadsAs}
+use Rattle.bd_extjson.specs.TextDocument.{ReadsAs}
 use Rattle.bd_pack.specs.Packable.{plain, IsBad, IsPackable}
 use Rattle.bd_cli.specs.declared.pack.packing.BadLine.{BadLine}
 use Rattle.bd_pack.specs.declared.line.LineFault.{LineFault}

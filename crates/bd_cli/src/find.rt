@@ -11,7 +11,7 @@ mod step;
 
 ghost use Rattle.std.specs.Prelude.{◌≡◌, ◌≤◌, ◌⊎◌, MatchOption, length, codes};
 ghost use Rattle.bd_bson.specs.Collection.{documents};
-ghost use Rattle.bd_check.specs.Told.{fault_view};
+ghost use Rattle.bd_check.specs.AnsweredFault.{fault_view};
 ghost use Rattle.bd_cli.specs.Find.Answer.{answer, each};
 ghost use Rattle.bd_cli.specs.Find.Equality.{number_matches};
 ghost use Rattle.bd_cli.specs.declared.status.Status.TheVariants.{Done, Failed};

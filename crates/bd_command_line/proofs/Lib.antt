@@ -1,7 +1,7 @@
-pub mod Filled
-pub mod Taken
-pub mod Told
-pub mod BatchSize
-pub mod FindTaken
-pub mod CheckTaken
-pub mod PackTaken
+pub mod RowValueLemmas
+pub mod LineLemmas
+pub mod FaultLemmas
+pub mod BatchSizeLemmas
+pub mod FindLineLemmas
+pub mod CheckLineLemmas
+pub mod PackLineLemmas

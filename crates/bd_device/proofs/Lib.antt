@@ -1,2 +1,2 @@
-pub mod Devices
-pub mod Rooms
+pub mod DevicesLemmas
+pub mod FillingLemmas

@@ -64,7 +64,7 @@ pub fn fill<R: Input>(reader: &mut R, room: &mut [u8], limits: Limits) -> Result
 
 /// Puts four bytes at the front of a room, and fills it after them up to `size`, which is at least 4 and no more than the
 /// room's length.
-pub fn fill_behind<R: Input>(
+pub fn fill_after<R: Input>(
     reader: &mut R,
     room: &mut [u8],
     head: [u8; 4],

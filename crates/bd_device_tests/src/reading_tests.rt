@@ -1,5 +1,5 @@
 //! Reads of devices in memory, with outcomes that were worked by hand.
-use bd_device::{Filled, Input, Limits, MemoryInput, ReadFault, fill, fill_behind, read_all};
+use bd_device::{Filled, Input, Limits, MemoryInput, ReadFault, fill, fill_after, read_all};
 use std::alloc::Global;
 use std::test::Fail;
 
@@ -103,7 +103,7 @@ fn a_room_is_filled(rt: HostRuntime) {
     let mut input = MemoryInput::new(b"hello, you", 2, None);
     let mut room = [0; 5];
     assert!(rt; is_filled(fill(&mut input, &mut room, AMPLE), 5, 3) && &room == b"hello");
-    let filled = fill_behind(&mut input, &mut room, *b"well", 5, AMPLE);
+    let filled = fill_after(&mut input, &mut room, *b"well", 5, AMPLE);
     assert!(rt; is_filled(filled, 1, 1) && &room == b"well,");
     // The device is at its end before the room is full.
     assert!(rt; is_filled(fill(&mut input, &mut room, AMPLE), 4, 3) && &room == b" you,");

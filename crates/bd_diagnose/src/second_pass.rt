@@ -17,9 +17,9 @@ fn check(alloc: Global, text: &[u8]) -> Result<(), Stop> {
         return Err(Stop::syntax(&text[error.valid_up_to()..]));
     }
     let walked = walk::value(alloc, text, BRACKETS, Sought::Tree(LEVELS))?;
-    let behind = skip_white(walked.rest);
-    if !behind.is_empty() {
-        return Err(Stop::at(behind, JsonFaultKind::TrailingText));
+    let after = skip_white(walked.rest);
+    if !after.is_empty() {
+        return Err(Stop::at(after, JsonFaultKind::TrailingText));
     }
     if let Some(fault) = walked.fault {
         return Err(fault);

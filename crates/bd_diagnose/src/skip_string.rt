@@ -122,9 +122,9 @@ pub(crate) fn skip_key(text: &[u8]) -> Result<Key<'_>, Stop>
     let [b'"', inside @ ..] = from else {
         return Err(Stop::syntax(from));
     };
-    let behind = skip_string(inside)?;
-    let quoted = &from[..from.len() - behind.len()];
-    let colon = skip_white(behind);
+    let after = skip_string(inside)?;
+    let quoted = &from[..from.len() - after.len()];
+    let colon = skip_white(after);
     let [b':', rest @ ..] = colon else {
         return Err(Stop::syntax(colon));
     };

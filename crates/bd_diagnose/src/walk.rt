@@ -96,15 +96,15 @@ fn array(alloc: Global, text: &[u8], level: usize, sought: Sought) -> Result<Wal
     loop {
         let item = value(alloc, rest, level, search.sought)?;
         search.note(item.fault);
-        let behind = skip_white(item.rest);
-        match behind {
+        let after = skip_white(item.rest);
+        match after {
             [b',', tail @ ..] => rest = tail,
             [b']', rest @ ..] => return Ok(Walked {
                 form: Form::Other,
                 fault: search.fault,
                 rest,
             }),
-            _ => return Err(Stop::syntax(behind)),
+            _ => return Err(Stop::syntax(after)),
         }
     }
 }
@@ -131,15 +131,15 @@ fn members(alloc: Global, text: &[u8], level: usize, sought: Sought) -> Result<W
         search.note_name(alloc, &key)?;
         let member = value(alloc, key.rest, level, search.sought)?;
         search.note(member.fault);
-        let behind = skip_white(member.rest);
-        match behind {
+        let after = skip_white(member.rest);
+        match after {
             [b',', tail @ ..] => rest = tail,
             [b'}', rest @ ..] => return Ok(Walked {
                 form: Form::Document,
                 fault: search.fault,
                 rest,
             }),
-            _ => return Err(Stop::syntax(behind)),
+            _ => return Err(Stop::syntax(after)),
         }
     }
 }
@@ -198,15 +198,15 @@ fn code(alloc: Global, text: &[u8], level: usize, room: usize) -> Result<Walked<
         let name = read_name(alloc, &key)?;
         let part = value(alloc, key.rest, level, sought_in(name, room))?;
         parts.note(name, &part);
-        let behind = skip_white(part.rest);
-        match behind {
+        let after = skip_white(part.rest);
+        match after {
             [b',', tail @ ..] => rest = tail,
             [b'}', rest @ ..] => return Ok(Walked {
                 form: Form::Other,
                 fault: parts.fault(text, room),
                 rest,
             }),
-            _ => return Err(Stop::syntax(behind)),
+            _ => return Err(Stop::syntax(after)),
         }
     }
 }

@@ -1,4 +1,4 @@
 pub mod Plain
-pub mod Reads
+pub mod TextDocument
 pub mod Text
-pub mod Wrap
+pub mod Meaning

@@ -8,7 +8,7 @@ use Rattle.base64.specs.Engines.{standard}
 use Rattle.base64.specs.GeneralPurpose.{encode_of}
 use Rattle.bd_value.specs.Tree.{Scalar, min_key, undefined, null, int32, int64, text as string, symbol, binary, object_id, boolean, date, timestamp, regex, db_pointer, code, max_key}
 use Rattle.bd_value.specs.Tree.{Tree, leaf, doc, array, code_scope, Items, no_items, item, Fields, no_fields, field}
-use Rattle.bd_value.specs.Seen.{Own, own, own_code}
+use Rattle.bd_value.specs.OwnPart.{Own, own, own_code}
 use Rattle.hex.specs.Hex.{encode_lower}
 
 -- RFC 8259, section 7: the quotation mark, the reverse solidus and the control characters may not stand for themselves.

@@ -29,7 +29,7 @@ pub(crate) fn write_base64(bytes: &[u8], out: &mut Vec<u8>) -> Result<(), NoMemo
 }
 
 /// Appends the 24 digits of an id.
-#[tactic(auto, using(bd_value::proofs::Fronts::fronts), unfolding(crate::specs::Text::hex_text))]
+#[tactic(auto, using(bd_value::proofs::FrontLemmas::fronts), unfolding(crate::specs::Text::hex_text))]
 pub(crate) fn write_id(id: &[u8; 12], out: &mut Vec<u8>) -> Result<(), NoMemory>
     ensures ok { OnOk result (out.new.items ≡ out.old.items ++ hex_text id.now) }
     ensures err { OnErr result (StartsWith out.new.items out.old.items) }
@@ -42,7 +42,7 @@ pub(crate) fn write_id(id: &[u8; 12], out: &mut Vec<u8>) -> Result<(), NoMemory>
 }
 
 /// Appends the two digits of a byte.
-#[tactic(auto, using(bd_value::proofs::Fronts::fronts), unfolding(crate::specs::Text::hex_text))]
+#[tactic(auto, using(bd_value::proofs::FrontLemmas::fronts), unfolding(crate::specs::Text::hex_text))]
 pub(crate) fn write_byte(byte: u8, out: &mut Vec<u8>) -> Result<(), NoMemory>
     ensures ok { OnOk result (out.new.items ≡ out.old.items ++ hex_text (byte ∷ [])) }
     ensures err { OnErr result (StartsWith out.new.items out.old.items) }

@@ -61,7 +61,7 @@ fn hex_digit(n: u8) -> u8
 }
 
 /// Appends the escape of a byte that needs one.
-#[tactic(auto, using(bd_value::proofs::Fronts::fronts), unfolding(crate::specs::Text::escape_byte))]
+#[tactic(auto, using(bd_value::proofs::FrontLemmas::fronts), unfolding(crate::specs::Text::escape_byte))]
 fn write_escape(b: u8, out: &mut Vec<u8>) -> Result<(), NoMemory>
     requires { IsTrue (needs_escape b) }
     ensures ok { OnOk result (out.new.items ≡ out.old.items ++ escape_byte b) }
@@ -86,7 +86,7 @@ fn write_escape(b: u8, out: &mut Vec<u8>) -> Result<(), NoMemory>
 }
 
 /// Appends what stands between the quotation marks of a string: the runs between escapes as they are.
-#[tactic(auto, using(bd_value::proofs::Fronts::fronts))]
+#[tactic(auto, using(bd_value::proofs::FrontLemmas::fronts))]
 #[inline(always)]
 fn write_escaped(text: &[u8], out: &mut Vec<u8>) -> Result<(), NoMemory>
     ensures ok { OnOk result (out.new.items ≡ out.old.items ++ escaped text.now) }
@@ -117,7 +117,7 @@ pub fn write_string(text: &str, out: &mut Vec<u8>) -> Result<(), NoMemory>
 }
 
 /// `write_string`, for a caller that takes back itself what an error leaves.
-#[tactic(auto, using(bd_value::proofs::Fronts::fronts), unfolding(crate::specs::Text::quoted))]
+#[tactic(auto, using(bd_value::proofs::FrontLemmas::fronts), unfolding(crate::specs::Text::quoted))]
 #[inline(always)]
 pub(crate) fn append_string(text: &str, out: &mut Vec<u8>) -> Result<(), NoMemory>
     ensures ok { OnOk result (out.new.items ≡ out.old.items ++ quoted text.now) }
@@ -130,7 +130,7 @@ pub(crate) fn append_string(text: &str, out: &mut Vec<u8>) -> Result<(), NoMemor
 }
 
 /// Appends what stands before a piece: the separator, after an earlier piece.
-#[tactic(auto, using(bd_value::proofs::Fronts::fronts))]
+#[tactic(auto, using(bd_value::proofs::FrontLemmas::fronts))]
 pub(crate) fn write_separator(later: bool, separator: u8, out: &mut Vec<u8>) -> Result<(), NoMemory>
     ensures ok { OnOk result (out.new.items ≡ out.old.items ++ (if later then separator ∷ [] else [])) }
     ensures err { OnErr result (StartsWith out.new.items out.old.items) }
@@ -157,7 +157,7 @@ pub fn write_path(path: &[String], out: &mut Vec<u8>) -> Result<(), NoMemory>
 }
 
 /// The same, but at an error a part may stand.
-#[tactic(auto, using(bd_value::proofs::Fronts::fronts), unfolding(crate::specs::Text::quoted))]
+#[tactic(auto, using(bd_value::proofs::FrontLemmas::fronts), unfolding(crate::specs::Text::quoted))]
 fn append_path(path: &[String], out: &mut Vec<u8>) -> Result<(), NoMemory>
     ensures ok { OnOk result (out.new.items ≡ out.old.items ++ quoted (join_with_byte 46 (map string_bytes path.now))) }
     ensures err { OnErr result (StartsWith out.new.items out.old.items) }

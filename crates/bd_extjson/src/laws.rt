@@ -6,7 +6,7 @@ ghost use Rattle.bd_value.specs.Tree.{Doc, doc, fields_of};
 ghost use Rattle.bd_value.specs.View.{pairs};
 ghost use Rattle.bd_value.specs.Zeros.{zero_in};
 ghost use Rattle.bd_extjson.specs.Plain.{IsPlain};
-ghost use Rattle.bd_extjson.specs.Reads.{ReadsAs};
+ghost use Rattle.bd_extjson.specs.TextDocument.{ReadsAs};
 ghost use Rattle.bd_extjson.specs.Text.{text};
 
 use bd_value::{Document, document_fits};
@@ -34,7 +34,7 @@ pub fn reads_back()
 /// write_doc(&document, &mut text)?;
 /// // A proof now knows that `read_doc(alloc, text.as_bytes())` has no other answer than `document`, or no memory.
 /// ```
-#[tactic(auto, using(crate::proofs::ReadBack::document_back))]
+#[tactic(auto, using(crate::proofs::ReadBackLemmas::document_back))]
 pub fn document_reads_back(document: &Document)
     ensures { IsPlain (doc (fields_of (pairs document.now))) → zero_in (doc (fields_of (pairs document.now))) ≡ false
         → depth (doc (fields_of (pairs document.now))) ≤ 200

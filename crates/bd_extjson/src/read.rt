@@ -4,8 +4,8 @@ ghost use Rattle.bd_value.specs.Tree.{Doc};
 ghost use Rattle.bd_value.specs.View.{tree_of, pairs};
 ghost use Rattle.bd_wrapper.specs.Progress.{GivesValue};
 ghost use Rattle.bd_diagnose.specs.JsonFault.{IsPlaced};
-ghost use Rattle.bd_extjson.specs.Reads.{ReadsAs, json, reading};
-ghost use Rattle.bd_extjson.specs.Wrap.{wrap};
+ghost use Rattle.bd_extjson.specs.TextDocument.{ReadsAs, json, reading};
+ghost use Rattle.bd_extjson.specs.Meaning.{wrap};
 ghost use Rattle.bd_diagnose.specs.declared.json_fault.JsonFaultKind.TheVariants as kinds;
 
 use crate::reading::{document_of, read_value};

@@ -5,11 +5,11 @@ ghost use Rattle.json.specs.Value.{value_view};
 ghost use Rattle.json.specs.Find.{as_str};
 ghost use Rattle.bd_value.specs.Tree.{Tree, pairs_of, fields_of, items_of};
 ghost use Rattle.bd_value.specs.View.{tree_of, pairs};
-ghost use Rattle.bd_extjson.specs.Wrap.{bare_number, with_scope, wrapper_tree, wrap, wrap_items, wrap_object, wrap_fields, behind};
+ghost use Rattle.bd_extjson.specs.Meaning.{bare_number, with_scope, wrapper_tree, wrap, wrap_items, wrap_object, wrap_fields, after};
 ghost use Rattle.bd_wrapper.specs.Wrappers.{wrapper_of};
 ghost use Rattle.bd_wrapper.specs.Whole.{whole_64};
 ghost use Rattle.bd_wrapper.specs.Progress.{through, after_key, closing, FailsAtTokens, GivesTokens, GivesValue};
-ghost use Rattle.bd_extjson.specs.Reads.{document};
+ghost use Rattle.bd_extjson.specs.TextDocument.{document};
 ghost use Rattle.bd_wrapper.specs.declared.wrapper.Wrapper.TheVariants as kinds;
 
 use bd_value::{Document, Value, has_zero};
@@ -245,7 +245,7 @@ fn read_scope_second(
     depth: usize,
 ) -> Result<Value, Trouble>
     ensures gives { (n : ℕ) (t : Option Tree) → length reader.old ≤ n → GivesTokens tree_of result reader.new
-        (through (λ ms. wrapper_tree room kinds.Code (value_view code.now) t (behind (room - 1) ms)) (after_key depth n (Some second.now) reader.old)) }
+        (through (λ ms. wrapper_tree room kinds.Code (value_view code.now) t (after (room - 1) ms)) (after_key depth n (Some second.now) reader.old)) }
     ensures shorter { OnOk result (length reader.new < length reader.old) }
 {
     if room == 0 {
@@ -286,7 +286,7 @@ fn read_code_second(
     depth: usize,
 ) -> Result<Value, Trouble>
     ensures gives { (n room : ℕ) (j : Json) → length reader.old ≤ n → 0 < room → GivesTokens tree_of result reader.new
-        (through (λ ms. wrapper_tree room kinds.Scope j (Some (tree_of scope)) (behind (room - 1) ms)) (members (value depth) n reader.old)) }
+        (through (λ ms. wrapper_tree room kinds.Scope j (Some (tree_of scope)) (after (room - 1) ms)) (members (value depth) n reader.old)) }
     ensures shorter { OnOk result (length reader.new < length reader.old) }
 {
     match read_code(alloc, reader, depth) {
@@ -302,10 +302,10 @@ fn read_code<'a>(
     depth: usize,
 ) -> Result<json::Value<'a>, Trouble>
     ensures code { IfOk result (λ code. (n room : ℕ) (j : Json) (u : Tree) → length reader.old ≤ n → 0 < room →
-        through (λ ms. wrapper_tree room kinds.Scope j (Some u) (behind (room - 1) ms)) (members (value depth) n reader.old)
+        through (λ ms. wrapper_tree room kinds.Scope j (Some u) (after (room - 1) ms)) (members (value depth) n reader.old)
         ≡ option_map (λ t. (t, reader.new)) (with_scope (as_str (value_view code)) (Some u))) }
     ensures none { IfErr result (λ e. (n room : ℕ) (j : Json) (t : Option Tree) → length reader.old ≤ n →
-        FailsAtTokens e (through (λ ms. wrapper_tree room kinds.Scope j t (behind (room - 1) ms)) (members (value depth) n reader.old))) }
+        FailsAtTokens e (through (λ ms. wrapper_tree room kinds.Scope j t (after (room - 1) ms)) (members (value depth) n reader.old))) }
     ensures shorter { OnOk result (length reader.new < length reader.old) }
 {
     let Some(second) = reader.next_key()? else {

@@ -2,7 +2,7 @@
 ghost use Rattle.std.specs.Prelude.{◌≡◌, ◌++◌, OnOk, OnErr};
 ghost use Rattle.std.specs.Io.{StartsWith};
 ghost use Rattle.bd_value.specs.Tree.{min_key, undefined, null, max_key, int32, int64, symbol, binary, object_id, boolean, date, timestamp, regex, db_pointer, code};
-ghost use Rattle.bd_value.specs.Seen.{seen};
+ghost use Rattle.bd_value.specs.OwnPart.{seen};
 ghost use Rattle.bd_extjson.specs.Text.{quoted, scalar_text, own_text};
 
 use crate::encoded::{write_base64, write_byte, write_id};
@@ -11,7 +11,7 @@ use crate::number::{write_digits, write_number32};
 use bd_value::{NoMemory, Scalar};
 
 /// Appends what leads to a string, and the string with its quotation marks.
-#[tactic(auto, using(bd_value::proofs::Fronts::fronts))]
+#[tactic(auto, using(bd_value::proofs::FrontLemmas::fronts))]
 pub(crate) fn write_led(lead: &[u8], text: &str, out: &mut Vec<u8>) -> Result<(), NoMemory>
     ensures ok { OnOk result (out.new.items ≡ out.old.items ++ (lead.now ++ quoted text.now)) }
     ensures err { OnErr result (StartsWith out.new.items out.old.items) }
@@ -21,7 +21,7 @@ pub(crate) fn write_led(lead: &[u8], text: &str, out: &mut Vec<u8>) -> Result<()
 }
 
 /// MinKey.
-#[tactic(auto, using(bd_value::proofs::Fronts::fronts), unfolding(crate::specs::Text::scalar_text, crate::specs::Text::quoted, crate::specs::Text::escape_byte))]
+#[tactic(auto, using(bd_value::proofs::FrontLemmas::fronts), unfolding(crate::specs::Text::scalar_text, crate::specs::Text::quoted, crate::specs::Text::escape_byte))]
 pub(crate) fn write_min_key(out: &mut Vec<u8>) -> Result<(), NoMemory>
     ensures ok { OnOk result (out.new.items ≡ out.old.items ++ scalar_text min_key) }
     ensures err { OnErr result (StartsWith out.new.items out.old.items) }
@@ -30,7 +30,7 @@ pub(crate) fn write_min_key(out: &mut Vec<u8>) -> Result<(), NoMemory>
 }
 
 /// Undefined.
-#[tactic(auto, using(bd_value::proofs::Fronts::fronts), unfolding(crate::specs::Text::scalar_text, crate::specs::Text::quoted, crate::specs::Text::escape_byte))]
+#[tactic(auto, using(bd_value::proofs::FrontLemmas::fronts), unfolding(crate::specs::Text::scalar_text, crate::specs::Text::quoted, crate::specs::Text::escape_byte))]
 pub(crate) fn write_undefined(out: &mut Vec<u8>) -> Result<(), NoMemory>
     ensures ok { OnOk result (out.new.items ≡ out.old.items ++ scalar_text undefined) }
     ensures err { OnErr result (StartsWith out.new.items out.old.items) }
@@ -39,7 +39,7 @@ pub(crate) fn write_undefined(out: &mut Vec<u8>) -> Result<(), NoMemory>
 }
 
 /// Null.
-#[tactic(auto, using(bd_value::proofs::Fronts::fronts), unfolding(crate::specs::Text::scalar_text, crate::specs::Text::quoted, crate::specs::Text::escape_byte))]
+#[tactic(auto, using(bd_value::proofs::FrontLemmas::fronts), unfolding(crate::specs::Text::scalar_text, crate::specs::Text::quoted, crate::specs::Text::escape_byte))]
 pub(crate) fn write_null(out: &mut Vec<u8>) -> Result<(), NoMemory>
     ensures ok { OnOk result (out.new.items ≡ out.old.items ++ scalar_text null) }
     ensures err { OnErr result (StartsWith out.new.items out.old.items) }
@@ -48,7 +48,7 @@ pub(crate) fn write_null(out: &mut Vec<u8>) -> Result<(), NoMemory>
 }
 
 /// MaxKey.
-#[tactic(auto, using(bd_value::proofs::Fronts::fronts), unfolding(crate::specs::Text::scalar_text, crate::specs::Text::quoted, crate::specs::Text::escape_byte))]
+#[tactic(auto, using(bd_value::proofs::FrontLemmas::fronts), unfolding(crate::specs::Text::scalar_text, crate::specs::Text::quoted, crate::specs::Text::escape_byte))]
 pub(crate) fn write_max_key(out: &mut Vec<u8>) -> Result<(), NoMemory>
     ensures ok { OnOk result (out.new.items ≡ out.old.items ++ scalar_text max_key) }
     ensures err { OnErr result (StartsWith out.new.items out.old.items) }
@@ -57,7 +57,7 @@ pub(crate) fn write_max_key(out: &mut Vec<u8>) -> Result<(), NoMemory>
 }
 
 /// Int32.
-#[tactic(auto, using(bd_value::proofs::Fronts::fronts))]
+#[tactic(auto, using(bd_value::proofs::FrontLemmas::fronts))]
 pub(crate) fn write_int32(n: i32, out: &mut Vec<u8>) -> Result<(), NoMemory>
     ensures ok { OnOk result (out.new.items ≡ out.old.items ++ scalar_text (int32 n)) }
     ensures err { OnErr result (StartsWith out.new.items out.old.items) }
@@ -69,7 +69,7 @@ pub(crate) fn write_int32(n: i32, out: &mut Vec<u8>) -> Result<(), NoMemory>
 }
 
 /// Int64.
-#[tactic(auto, using(bd_value::proofs::Fronts::fronts))]
+#[tactic(auto, using(bd_value::proofs::FrontLemmas::fronts))]
 pub(crate) fn write_int64(n: i64, out: &mut Vec<u8>) -> Result<(), NoMemory>
     ensures ok { OnOk result (out.new.items ≡ out.old.items ++ scalar_text (int64 n)) }
     ensures err { OnErr result (StartsWith out.new.items out.old.items) }
@@ -81,7 +81,7 @@ pub(crate) fn write_int64(n: i64, out: &mut Vec<u8>) -> Result<(), NoMemory>
 }
 
 /// Datetime: the milliseconds as an Int64 also before 1970 and after 9999.
-#[tactic(auto, using(bd_value::proofs::Fronts::fronts))]
+#[tactic(auto, using(bd_value::proofs::FrontLemmas::fronts))]
 pub(crate) fn write_date(milliseconds: i64, out: &mut Vec<u8>) -> Result<(), NoMemory>
     ensures ok { OnOk result (out.new.items ≡ out.old.items ++ scalar_text (date milliseconds)) }
     ensures err { OnErr result (StartsWith out.new.items out.old.items) }
@@ -93,7 +93,7 @@ pub(crate) fn write_date(milliseconds: i64, out: &mut Vec<u8>) -> Result<(), NoM
 }
 
 /// Symbol.
-#[tactic(auto, using(bd_value::proofs::Fronts::fronts))]
+#[tactic(auto, using(bd_value::proofs::FrontLemmas::fronts))]
 pub(crate) fn write_symbol(text: &str, out: &mut Vec<u8>) -> Result<(), NoMemory>
     ensures ok { OnOk result (out.new.items ≡ out.old.items ++ scalar_text (symbol text.now)) }
     ensures err { OnErr result (StartsWith out.new.items out.old.items) }
@@ -104,7 +104,7 @@ pub(crate) fn write_symbol(text: &str, out: &mut Vec<u8>) -> Result<(), NoMemory
 }
 
 /// Code.
-#[tactic(auto, using(bd_value::proofs::Fronts::fronts))]
+#[tactic(auto, using(bd_value::proofs::FrontLemmas::fronts))]
 pub(crate) fn write_code(text: &str, out: &mut Vec<u8>) -> Result<(), NoMemory>
     ensures ok { OnOk result (out.new.items ≡ out.old.items ++ scalar_text (code text.now)) }
     ensures err { OnErr result (StartsWith out.new.items out.old.items) }
@@ -115,7 +115,7 @@ pub(crate) fn write_code(text: &str, out: &mut Vec<u8>) -> Result<(), NoMemory>
 }
 
 /// Boolean.
-#[tactic(auto, using(bd_value::proofs::Fronts::fronts), unfolding(crate::specs::Text::scalar_text))]
+#[tactic(auto, using(bd_value::proofs::FrontLemmas::fronts), unfolding(crate::specs::Text::scalar_text))]
 pub(crate) fn write_bool(truth: bool, out: &mut Vec<u8>) -> Result<(), NoMemory>
     ensures ok { OnOk result (out.new.items ≡ out.old.items ++ scalar_text (boolean truth)) }
     ensures err { OnErr result (StartsWith out.new.items out.old.items) }
@@ -128,7 +128,7 @@ pub(crate) fn write_bool(truth: bool, out: &mut Vec<u8>) -> Result<(), NoMemory>
 }
 
 /// Binary: base64 with padding, the subtype in two digits.
-#[tactic(auto, using(bd_value::proofs::Fronts::fronts))]
+#[tactic(auto, using(bd_value::proofs::FrontLemmas::fronts))]
 pub(crate) fn write_binary(subtype: u8, bytes: &[u8], out: &mut Vec<u8>) -> Result<(), NoMemory>
     ensures ok { OnOk result (out.new.items ≡ out.old.items ++ scalar_text (binary subtype bytes.now)) }
     ensures err { OnErr result (StartsWith out.new.items out.old.items) }
@@ -142,7 +142,7 @@ pub(crate) fn write_binary(subtype: u8, bytes: &[u8], out: &mut Vec<u8>) -> Resu
 }
 
 /// ObjectId: 24 lower-case digits.
-#[tactic(auto, using(bd_value::proofs::Fronts::fronts))]
+#[tactic(auto, using(bd_value::proofs::FrontLemmas::fronts))]
 pub(crate) fn write_object_id(id: &[u8; 12], out: &mut Vec<u8>) -> Result<(), NoMemory>
     ensures ok { OnOk result (out.new.items ≡ out.old.items ++ scalar_text (object_id id.now)) }
     ensures err { OnErr result (StartsWith out.new.items out.old.items) }
@@ -154,7 +154,7 @@ pub(crate) fn write_object_id(id: &[u8; 12], out: &mut Vec<u8>) -> Result<(), No
 }
 
 /// Timestamp: the seconds and the increment as plain numbers.
-#[tactic(auto, using(bd_value::proofs::Fronts::fronts))]
+#[tactic(auto, using(bd_value::proofs::FrontLemmas::fronts))]
 pub(crate) fn write_timestamp(
     seconds: u32,
     increment: u32,
@@ -172,7 +172,7 @@ pub(crate) fn write_timestamp(
 }
 
 /// Regular Expression: the options as they are stored.
-#[tactic(auto, using(bd_value::proofs::Fronts::fronts))]
+#[tactic(auto, using(bd_value::proofs::FrontLemmas::fronts))]
 pub(crate) fn write_regex(pattern: &str, options: &str, out: &mut Vec<u8>) -> Result<(), NoMemory>
     ensures ok { OnOk result (out.new.items ≡ out.old.items ++ scalar_text (regex pattern.now options.now)) }
     ensures err { OnErr result (StartsWith out.new.items out.old.items) }
@@ -184,7 +184,7 @@ pub(crate) fn write_regex(pattern: &str, options: &str, out: &mut Vec<u8>) -> Re
 }
 
 /// DBPointer.
-#[tactic(auto, using(bd_value::proofs::Fronts::fronts))]
+#[tactic(auto, using(bd_value::proofs::FrontLemmas::fronts))]
 pub(crate) fn write_db_pointer(
     space: &str,
     id: &[u8; 12],

@@ -47,7 +47,7 @@ pub fn write_doc(document: &Document, out: &mut Vec<u8>) -> Result<(), NoMemory>
 }
 
 #[cycle(text)]
-#[tactic(auto, using(bd_value::proofs::Fronts::fronts))]
+#[tactic(auto, using(bd_value::proofs::FrontLemmas::fronts))]
 fn append_node<N: Reading>(node: N, out: &mut Vec<u8>) -> Result<(), NoMemory>
     ensures ok { OnOk result (out.new.items ≡ out.old.items ++ text (N.tree node)) }
     ensures err { OnErr result (StartsWith out.new.items out.old.items) }
@@ -61,7 +61,7 @@ fn append_node<N: Reading>(node: N, out: &mut Vec<u8>) -> Result<(), NoMemory>
 
 /// Appends the text of what is neither a document nor an array.
 #[cycle(text)]
-#[tactic(auto, using(bd_value::proofs::Fronts::fronts))]
+#[tactic(auto, using(bd_value::proofs::FrontLemmas::fronts))]
 fn append_leaf<N: Reading>(node: N, out: &mut Vec<u8>) -> Result<(), NoMemory>
     requires { HoldsNoParts (N.tree node) }
     ensures ok { OnOk result (out.new.items ≡ out.old.items ++ text (N.tree node)) }
@@ -85,7 +85,7 @@ fn append_leaf<N: Reading>(node: N, out: &mut Vec<u8>) -> Result<(), NoMemory>
 
 /// Appends the text of the document of these pairs.
 #[cycle(text)]
-#[tactic(auto, using(bd_value::proofs::Fronts::fronts))]
+#[tactic(auto, using(bd_value::proofs::FrontLemmas::fronts))]
 fn append_fields<N: Reading>(fields: N::Rest, out: &mut Vec<u8>) -> Result<(), NoMemory>
     ensures ok { OnOk result (out.new.items ≡ out.old.items ++ text (doc (fields_of (N.left fields)))) }
     ensures err { OnErr result (StartsWith out.new.items out.old.items) }
@@ -107,7 +107,7 @@ fn append_fields<N: Reading>(fields: N::Rest, out: &mut Vec<u8>) -> Result<(), N
 
 /// Appends the text of the array of these elements.
 #[cycle(text)]
-#[tactic(auto, using(bd_value::proofs::Fronts::fronts))]
+#[tactic(auto, using(bd_value::proofs::FrontLemmas::fronts))]
 fn append_items<N: Reading>(items: N::Rest, out: &mut Vec<u8>) -> Result<(), NoMemory>
     ensures ok { OnOk result (out.new.items ≡ out.old.items ++ text (array (items_of (values_of (N.left items))))) }
     ensures err { OnErr result (StartsWith out.new.items out.old.items) }

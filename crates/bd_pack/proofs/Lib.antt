@@ -1,2 +1,2 @@
-pub mod Bodies
-pub mod ReadsPlain
+pub mod BodyLemmas
+pub mod PlainLemmas

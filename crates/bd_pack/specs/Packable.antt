@@ -1,8 +1,8 @@
 -- Which lines are packed, and as what.
 use Rattle.std.specs.Prelude.{◌≢◌, ◌≤◌, ◌<◌, ℕ, List, length}
 use Rattle.bd_value.specs.Tree.{Doc, doc, fields_of}
-use Rattle.bd_write.specs.Written.{bytes_of}
-use Rattle.bd_extjson.specs.Reads.{ReadsAs}
+use Rattle.bd_write.specs.TreeBytes.{bytes_of}
+use Rattle.bd_extjson.specs.TextDocument.{ReadsAs}
 use Rattle.bd_diagnose.specs.JsonFault.{IsPlaced}
 use Rattle.bd_diagnose.specs.declared.json_fault.JsonFaultKind.TheVariants as kinds
 use Rattle.bd_pack.specs.declared.line.LineFault.{LineFault}

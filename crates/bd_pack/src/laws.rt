@@ -4,8 +4,8 @@ ghost use Rattle.bd_value.specs.Depth.{depth};
 ghost use Rattle.bd_value.specs.Tree.{Doc, doc, fields_of};
 ghost use Rattle.bd_value.specs.Zeros.{zero_in};
 ghost use Rattle.bd_raw.specs.Spelling.{IsDocument};
-ghost use Rattle.bd_write.specs.Written.{SpellsPlainly};
-ghost use Rattle.bd_extjson.specs.Reads.{ReadsAs};
+ghost use Rattle.bd_write.specs.TreeBytes.{SpellsPlainly};
+ghost use Rattle.bd_extjson.specs.TextDocument.{ReadsAs};
 ghost use Rattle.bd_pack.specs.Packable.{plain, IsPackable};
 
 /// A document that is read from a line can be written but for its length: it is at most 200 deep, and no name and no part of a

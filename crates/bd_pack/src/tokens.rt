@@ -6,9 +6,9 @@ ghost use Rattle.bd_value.specs.Tree.{Items, Fields, Doc, leaf, doc, array};
 ghost use Rattle.bd_value.specs.View.{tree_of};
 ghost use Rattle.bd_raw.specs.Spelling.{element, string};
 ghost use Rattle.bd_value.specs.Zeros.{zero_in};
-ghost use Rattle.bd_write.specs.Written.{bytes_of};
-ghost use Rattle.bd_extjson.specs.Reads.{json};
-ghost use Rattle.bd_extjson.specs.Wrap.{wrap, wrap_items, wrap_object, wrap_fields};
+ghost use Rattle.bd_write.specs.TreeBytes.{bytes_of};
+ghost use Rattle.bd_extjson.specs.TextDocument.{json};
+ghost use Rattle.bd_extjson.specs.Meaning.{wrap, wrap_items, wrap_object, wrap_fields};
 ghost use Rattle.bd_wrapper.specs.Progress.{through, after_key};
 ghost use Rattle.bd_pack.specs.Packable.{plain, IsPackable};
 

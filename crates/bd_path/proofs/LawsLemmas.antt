@@ -12,11 +12,11 @@ use Rattle.bd_value.specs.Tree.{Scalar, Tree, leaf, doc, array, code_scope, Item
 use Rattle.bd_value.proofs.OrderLemmas.LawsLemmas.{cmp_total}
 use Rattle.bd_path.specs.Component.{index_of}
 use Rattle.bd_path.specs.Earliest.{SortPath, sort_cmp, sort_key}
-use Rattle.bd_path.specs.KeyList.{all_keys, keyed, keys, or_else, sparse_keys, with_key, with_keys}
+use Rattle.bd_path.specs.KeyList.{all_keys, key_gathering, keys, or_else, sparse_keys, with_key, with_keys}
 use Rattle.bd_path.specs.Names.{Names}
-use Rattle.bd_path.specs.Reach.{End, ends, gather_at, gather_each, gather_first, is_document, reach}
+use Rattle.bd_path.specs.Reach.{End, ends, gathering_at, each_gathering, first_gathering, is_document, reach}
 use Rattle.bd_path.proofs.EarliestLemmas.{dir_total}
-use Rattle.bd_path.proofs.Members.{In, in_left, in_right, in_cases, in_either, any_at, found_from}
+use Rattle.bd_path.proofs.MemberLemmas.{In, in_left, in_right, in_cases, in_either, any_at, found_from}
 
 abbrev null : Tree
 null = leaf trees.null
@@ -42,29 +42,29 @@ mutual
   missing (code_scope s fs) (c ∷ r) h = inl refl
   missing (doc fs) (c ∷ r) h = missing_first fs c r h
   missing (array ts) (c ∷ r) h =
-      let ks = gather_each (keyed nulls) ts (c ∷ r) in
-      let ls = gather_at (keyed nulls) ts (index_of c) r in
-      in_or_else null (ks ++ ls) nulls (elim (in_cases None (gather_each ends ts (c ∷ r)) (gather_at ends ts (index_of c) r) h) [
+      let ks = each_gathering (key_gathering nulls) ts (c ∷ r) in
+      let ls = gathering_at (key_gathering nulls) ts (index_of c) r in
+      in_or_else null (ks ++ ls) nulls (elim (in_cases None (each_gathering ends ts (c ∷ r)) (gathering_at ends ts (index_of c) r) h) [
         | inl a ↦ in_left null ks ls (missing_each ts (c ∷ r) a)
         | inr b ↦ in_right null ks ls (missing_at ts (index_of c) r b)
       ])
 
-  missing_first : (fs : Fields) (c : List ℕ) (r : Names) → In None (gather_first ends fs c r) → In null (gather_first (keyed nulls) fs c r)
+  missing_first : (fs : Fields) (c : List ℕ) (r : Names) → In None (first_gathering ends fs c r) → In null (first_gathering (key_gathering nulls) fs c r)
   missing_first no_fields c r h = inl refl
   missing_first (field n t fs) c r h =
-      in_either (bytes_eq n c) None null (reach t r) (gather_first ends fs c r) (all_keys false t r) (gather_first (keyed nulls) fs c r) (λ a. missing t r a) (λ a. missing_first fs c r a) h
+      in_either (bytes_eq n c) None null (reach t r) (first_gathering ends fs c r) (all_keys false t r) (first_gathering (key_gathering nulls) fs c r) (λ a. missing t r a) (λ a. missing_first fs c r a) h
 
-  missing_each : (ts : Items) (p : Names) → In None (gather_each ends ts p) → In null (gather_each (keyed nulls) ts p)
+  missing_each : (ts : Items) (p : Names) → In None (each_gathering ends ts p) → In null (each_gathering (key_gathering nulls) ts p)
   missing_each no_items p h = absurd h
   missing_each (item t ts) p h =
       let ks = cond (is_document t) (all_keys false t p) [] in
-      let ls = gather_each (keyed nulls) ts p in
-      elim (in_cases None (cond (is_document t) (reach t p) []) (gather_each ends ts p) h) [
+      let ls = each_gathering (key_gathering nulls) ts p in
+      elim (in_cases None (cond (is_document t) (reach t p) []) (each_gathering ends ts p) h) [
         | inl a ↦ in_left null ks ls (in_either (is_document t) None null (reach t p) [] (all_keys false t p) [] (λ b. missing t p b) (λ b. absurd b) a)
         | inr b ↦ in_right null ks ls (missing_each ts p b)
       ]
 
-  missing_at : (ts : Items) (i : Option ℕ) (r : Names) → In None (gather_at ends ts i r) → In null (gather_at (keyed nulls) ts i r)
+  missing_at : (ts : Items) (i : Option ℕ) (r : Names) → In None (gathering_at ends ts i r) → In null (gathering_at (key_gathering nulls) ts i r)
   missing_at no_items i r h = absurd h
   missing_at (item t ts) None r h = absurd h
   missing_at (item t ts) (Some zero) r h = missing t r h
@@ -106,23 +106,23 @@ mutual
   nowhere (code_scope s fs) (c ∷ r) e = inl refl
   nowhere (doc fs) (c ∷ r) e = nowhere_first fs c r e
   nowhere (array ts) (c ∷ r) e =
-      let parts = both_empty (gather_each ends ts (c ∷ r)) (gather_at ends ts (index_of c) r) e in
-      let ks = gather_each (keyed nulls) ts (c ∷ r) in
-      let ls = gather_at (keyed nulls) ts (index_of c) r in
+      let parts = both_empty (each_gathering ends ts (c ∷ r)) (gathering_at ends ts (index_of c) r) e in
+      let ks = each_gathering (key_gathering nulls) ts (c ∷ r) in
+      let ls = gathering_at (key_gathering nulls) ts (index_of c) r in
       null_at_last (ks ++ ls) (joined ks ls (nowhere_each ts (c ∷ r) parts.0) (nowhere_at ts (index_of c) r parts.1))
 
-  nowhere_first : (fs : Fields) (c : List ℕ) (r : Names) → gather_first ends fs c r ≡ [] → In null (gather_first (keyed nulls) fs c r)
+  nowhere_first : (fs : Fields) (c : List ℕ) (r : Names) → first_gathering ends fs c r ≡ [] → In null (first_gathering (key_gathering nulls) fs c r)
   nowhere_first no_fields c r e = inl refl
   nowhere_first (field n t fs) c r e =
-      in_chosen (bytes_eq n c) (reach t r) (gather_first ends fs c r) (all_keys false t r) (gather_first (keyed nulls) fs c r) (λ a. nowhere t r a) (λ a. nowhere_first fs c r a) e
+      in_chosen (bytes_eq n c) (reach t r) (first_gathering ends fs c r) (all_keys false t r) (first_gathering (key_gathering nulls) fs c r) (λ a. nowhere t r a) (λ a. nowhere_first fs c r a) e
 
-  nowhere_each : (ts : Items) (p : Names) → gather_each ends ts p ≡ [] → EmptyOrNull (gather_each (keyed nulls) ts p)
+  nowhere_each : (ts : Items) (p : Names) → each_gathering ends ts p ≡ [] → EmptyOrNull (each_gathering (key_gathering nulls) ts p)
   nowhere_each no_items p e = inl refl
   nowhere_each (item t ts) p e =
-      let parts = both_empty (cond (is_document t) (reach t p) []) (gather_each ends ts p) e in
-      joined (cond (is_document t) (all_keys false t p) []) (gather_each (keyed nulls) ts p) (if_document (is_document t) (reach t p) (all_keys false t p) (λ a. nowhere t p a) parts.0) (nowhere_each ts p parts.1)
+      let parts = both_empty (cond (is_document t) (reach t p) []) (each_gathering ends ts p) e in
+      joined (cond (is_document t) (all_keys false t p) []) (each_gathering (key_gathering nulls) ts p) (if_document (is_document t) (reach t p) (all_keys false t p) (λ a. nowhere t p a) parts.0) (nowhere_each ts p parts.1)
 
-  nowhere_at : (ts : Items) (i : Option ℕ) (r : Names) → gather_at ends ts i r ≡ [] → EmptyOrNull (gather_at (keyed nulls) ts i r)
+  nowhere_at : (ts : Items) (i : Option ℕ) (r : Names) → gathering_at ends ts i r ≡ [] → EmptyOrNull (gathering_at (key_gathering nulls) ts i r)
   nowhere_at no_items i r e = inl refl
   nowhere_at (item t ts) None r e = inl refl
   nowhere_at (item t ts) (Some zero) r e = inr (nowhere t r e)
@@ -159,11 +159,11 @@ mutual
   some_key (leaf s) (c ∷ r) = record { it = null; is_in = inl refl }
   some_key (code_scope s fs) (c ∷ r) = record { it = null; is_in = inl refl }
   some_key (doc fs) (c ∷ r) = some_key_first fs c r
-  some_key (array ts) (c ∷ r) = or_else_some (gather_each (keyed nulls) ts (c ∷ r) ++ gather_at (keyed nulls) ts (index_of c) r) null
+  some_key (array ts) (c ∷ r) = or_else_some (each_gathering (key_gathering nulls) ts (c ∷ r) ++ gathering_at (key_gathering nulls) ts (index_of c) r) null
 
-  some_key_first : (fs : Fields) (c : List ℕ) (r : Names) → HasSome (gather_first (keyed nulls) fs c r)
+  some_key_first : (fs : Fields) (c : List ℕ) (r : Names) → HasSome (first_gathering (key_gathering nulls) fs c r)
   some_key_first no_fields c r = record { it = null; is_in = inl refl }
-  some_key_first (field n t fs) c r = chosen_some (bytes_eq n c) (all_keys false t r) (gather_first (keyed nulls) fs c r) (some_key t r) (some_key_first fs c r)
+  some_key_first (field n t fs) c r = chosen_some (bytes_eq n c) (all_keys false t r) (first_gathering (key_gathering nulls) fs c r) (some_key t r) (some_key_first fs c r)
 
 -- ---- equal values
 
@@ -280,15 +280,15 @@ mutual
   thin (doc fs) (c ∷ r) = thin_first fs c r
   thin (array ts) (c ∷ r) = thin_or_else (thin_append (thin_each ts (c ∷ r)) (thin_at ts (index_of c) r))
 
-  thin_first : (fs : Fields) (c : List ℕ) (r : Names) → Thinned (gather_first (keyed []) fs c r) (gather_first (keyed nulls) fs c r)
+  thin_first : (fs : Fields) (c : List ℕ) (r : Names) → Thinned (first_gathering (key_gathering []) fs c r) (first_gathering (key_gathering nulls) fs c r)
   thin_first no_fields c r = thin_out thin_none
   thin_first (field n t fs) c r = thin_chosen (bytes_eq n c) (thin t r) (thin_first fs c r)
 
-  thin_each : (ts : Items) (p : Names) → Thinned (gather_each (keyed []) ts p) (gather_each (keyed nulls) ts p)
+  thin_each : (ts : Items) (p : Names) → Thinned (each_gathering (key_gathering []) ts p) (each_gathering (key_gathering nulls) ts p)
   thin_each no_items p = thin_none
   thin_each (item t ts) p = thin_append (thin_chosen (is_document t) (thin t p) thin_none) (thin_each ts p)
 
-  thin_at : (ts : Items) (i : Option ℕ) (r : Names) → Thinned (gather_at (keyed []) ts i r) (gather_at (keyed nulls) ts i r)
+  thin_at : (ts : Items) (i : Option ℕ) (r : Names) → Thinned (gathering_at (key_gathering []) ts i r) (gathering_at (key_gathering nulls) ts i r)
   thin_at no_items i r = thin_none
   thin_at (item t ts) None r = thin_none
   thin_at (item t ts) (Some zero) r = thin t r

@@ -3,5 +3,5 @@ pub mod EarliestLemmas
 pub mod EndsLemmas
 pub mod KeyListLemmas
 pub mod LawsLemmas
-pub mod Members
+pub mod MemberLemmas
 pub mod ReachLemmas

@@ -7,7 +7,7 @@ use Rattle.bd_value.specs.Tree as trees
 use Rattle.bd_value.specs.Tree.{Tree, leaf, doc, array, code_scope, items_of, list_of}
 use Rattle.bd_path.specs.Component.{index_of}
 use Rattle.bd_path.specs.Names.{Names}
-use Rattle.bd_path.specs.Reach.{Gathering, gather, gather_at, gather_each}
+use Rattle.bd_path.specs.Reach.{Gathering, gathering, gathering_at, each_gathering}
 
 -- what stands for a field that is missing: a null, and in a sparse index nothing
 abbrev pub missing_key : Bool → List Tree
@@ -26,19 +26,19 @@ end_keys (array ts) = or_else (list_of ts) (leaf trees.undefined ∷ [])
 end_keys (code_scope s fs) = code_scope s fs ∷ []
 
 -- an array that gives no key has what stands for a missing field
-abbrev pub keyed : List Tree → Gathering Tree
-keyed missing = record { at_end = end_keys; missing = missing; of_array = λ ks. or_else ks missing }
+abbrev pub key_gathering : List Tree → Gathering Tree
+key_gathering missing = record { at_end = end_keys; missing = missing; of_array = λ ks. or_else ks missing }
 
 -- the keys with equal ones
 abbrev pub all_keys : Bool → Tree → Names → List Tree
-all_keys sparse t path = gather (keyed (missing_key sparse)) t path
+all_keys sparse t path = gathering (key_gathering (missing_key sparse)) t path
 
 -- of the documents in an array, and of the element whose index a component is
 abbrev pub document_keys : Bool → Tree → Names → List Tree
-document_keys sparse t path = gather_each (keyed (missing_key sparse)) (items_of (elements_in t)) path
+document_keys sparse t path = each_gathering (key_gathering (missing_key sparse)) (items_of (elements_in t)) path
 
 abbrev pub index_keys : Bool → Tree → List ℕ → Names → List Tree
-index_keys sparse t name rest = gather_at (keyed (missing_key sparse)) (items_of (elements_in t)) (index_of name) rest
+index_keys sparse t name rest = gathering_at (key_gathering (missing_key sparse)) (items_of (elements_in t)) (index_of name) rest
 
 -- one key more, which is dropped where it equals an earlier one
 abbrev pub with_key : List Tree → Tree → List Tree

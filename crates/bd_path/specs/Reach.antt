@@ -21,32 +21,32 @@ pub record Gathering (A : Type 0) : Type 0 where
   pub of_array : List A → List A
 
 abbrev mutual
-  pub gather : {A : Type 0} → Gathering A → Tree → Names → List A
-  gather g (leaf s) [] = g.at_end (leaf s)
-  gather g (doc fs) [] = g.at_end (doc fs)
-  gather g (array ts) [] = g.at_end (array ts)
-  gather g (code_scope s fs) [] = g.at_end (code_scope s fs)
-  gather g (leaf s) (name ∷ rest) = g.missing
-  gather g (doc fs) (name ∷ rest) = gather_first g fs name rest
-  gather g (array ts) (name ∷ rest) = g.of_array (gather_each g ts (name ∷ rest) ++ gather_at g ts (index_of name) rest)
-  gather g (code_scope s fs) (name ∷ rest) = g.missing
+  pub gathering : {A : Type 0} → Gathering A → Tree → Names → List A
+  gathering g (leaf s) [] = g.at_end (leaf s)
+  gathering g (doc fs) [] = g.at_end (doc fs)
+  gathering g (array ts) [] = g.at_end (array ts)
+  gathering g (code_scope s fs) [] = g.at_end (code_scope s fs)
+  gathering g (leaf s) (name ∷ rest) = g.missing
+  gathering g (doc fs) (name ∷ rest) = first_gathering g fs name rest
+  gathering g (array ts) (name ∷ rest) = g.of_array (each_gathering g ts (name ∷ rest) ++ gathering_at g ts (index_of name) rest)
+  gathering g (code_scope s fs) (name ∷ rest) = g.missing
 
   -- from the first field of that name
-  pub gather_first : {A : Type 0} → Gathering A → Fields → List ℕ → Names → List A
-  gather_first g no_fields name rest = g.missing
-  gather_first g (field n t fs) name rest = if bytes_eq n name then gather g t rest else gather_first g fs name rest
+  pub first_gathering : {A : Type 0} → Gathering A → Fields → List ℕ → Names → List A
+  first_gathering g no_fields name rest = g.missing
+  first_gathering g (field n t fs) name rest = if bytes_eq n name then gathering g t rest else first_gathering g fs name rest
 
   -- from each element that is a document, with the same path
-  pub gather_each : {A : Type 0} → Gathering A → Items → Names → List A
-  gather_each g no_items path = []
-  gather_each g (item t ts) path = (if is_document t then gather g t path else []) ++ gather_each g ts path
+  pub each_gathering : {A : Type 0} → Gathering A → Items → Names → List A
+  each_gathering g no_items path = []
+  each_gathering g (item t ts) path = (if is_document t then gathering g t path else []) ++ each_gathering g ts path
 
   -- from the element at an index
-  pub gather_at : {A : Type 0} → Gathering A → Items → Option ℕ → Names → List A
-  gather_at g no_items i rest = []
-  gather_at g (item t ts) None rest = []
-  gather_at g (item t ts) (Some zero) rest = gather g t rest
-  gather_at g (item t ts) (Some (suc i)) rest = gather_at g ts (Some i) rest
+  pub gathering_at : {A : Type 0} → Gathering A → Items → Option ℕ → Names → List A
+  gathering_at g no_items i rest = []
+  gathering_at g (item t ts) None rest = []
+  gathering_at g (item t ts) (Some zero) rest = gathering g t rest
+  gathering_at g (item t ts) (Some (suc i)) rest = gathering_at g ts (Some i) rest
 
 -- a value that a path reaches; None where a field is missing
 abbrev pub End : Type 0
@@ -56,11 +56,11 @@ abbrev pub ends : Gathering End
 ends = record { at_end = λ t. Some t ∷ []; missing = None ∷ []; of_array = λ es. es }
 
 abbrev pub reach : Tree → Names → List End
-reach t path = gather ends t path
+reach t path = gathering ends t path
 
 -- the ends in the documents of an array, and in the element whose index a component is
 abbrev pub document_ends : Tree → Names → List End
-document_ends t path = gather_each ends (items_of (elements_in t)) path
+document_ends t path = each_gathering ends (items_of (elements_in t)) path
 
 abbrev pub index_ends : Tree → List ℕ → Names → List End
-index_ends t name rest = gather_at ends (items_of (elements_in t)) (index_of name) rest
+index_ends t name rest = gathering_at ends (items_of (elements_in t)) (index_of name) rest

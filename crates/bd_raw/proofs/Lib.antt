@@ -1,7 +1,7 @@
-pub mod Asked
-pub mod Cursors
-pub mod Readable
-pub mod Shorter
-pub mod Steps
-pub mod Viewed
-pub mod Whole
+pub mod LookupLemmas
+pub mod CursorLemmas
+pub mod ValueAtLemmas
+pub mod ShortLemmas
+pub mod ElementsLemmas
+pub mod ContentsLemmas
+pub mod SoundLemmas

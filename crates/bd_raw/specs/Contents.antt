@@ -2,7 +2,7 @@
 use Rattle.std.specs.Prelude.{◌≡◌, ℕ, List}
 use Rattle.bd_value.specs.Tree as trees
 use Rattle.bd_value.specs.Tree.{Tree, leaf, doc, array, code_scope, fields_of, items_of, pairs_in}
-use Rattle.bd_value.specs.Seen.{seen, own}
+use Rattle.bd_value.specs.OwnPart.{seen, own}
 use Rattle.bd_value.specs.Parts.{values_of}
 use Rattle.bd_raw.specs.Sound.{stands, elements_left}
 use Rattle.bd_raw.specs.declared.contents.Contents.{Contents}

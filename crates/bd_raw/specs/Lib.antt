@@ -1,5 +1,5 @@
 pub mod Contents
-pub mod Reads
+pub mod ValueAt
 pub mod Scalars
 pub mod Short
 pub mod Sizes

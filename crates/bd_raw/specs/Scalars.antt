@@ -11,7 +11,7 @@ use Rattle.bd_value.specs.Tree as trees
 use Rattle.bd_value.specs.Tree.{Scalar}
 use Rattle.bd_value.specs.Kind.{scalar_kind}
 use Rattle.bd_raw.specs.Spelling.{number, long, string, data_of, IsName, IsText, IsScalar}
-use Rattle.bd_raw.specs.Sizes.{number_of, long_of, zero_at, name_of, behind_name, text_of, behind_string, payload_of, size_of, scalar_at}
+use Rattle.bd_raw.specs.Sizes.{number_of, long_of, zero_at, name_of, after_name, text_of, after_string, payload_of, size_of, scalar_at}
 
 -- ---- numbers
 
@@ -26,8 +26,8 @@ number_value n lt = from_le_bytes-to_le_bytes_4 n lt
 pub number_front : (n : ℕ) (x : List ℕ) → n < 2 ^ 32 → number_of (number n ++ x) ≡ n
 number_front n x lt = ap (from_le_bytes w32) (take_at (number n) x 4 (number_length n)) ∙ number_value n lt
 
-pub number_behind : (n : ℕ) (x : List ℕ) → drop 4 (number n ++ x) ≡ x
-number_behind n x = drop_at (number n) x 4 (number_length n)
+pub number_after : (n : ℕ) (x : List ℕ) → drop 4 (number n ++ x) ≡ x
+number_after n x = drop_at (number n) x 4 (number_length n)
 
 pub long_length : (n : ℕ) → length (long n) ≡ 8
 unfolding long
@@ -51,8 +51,8 @@ zero_place (b ∷ name) rest h =
 pub name_front : (name rest : List ℕ) → IsName name → name_of (name ++ 0 ∷ rest) ≡ name
 name_front name rest h = take_at name (0 ∷ rest) (zero_at (name ++ 0 ∷ rest)) (sym (zero_place name rest h.1))
 
-pub name_behind : (name rest : List ℕ) → IsName name → behind_name (name ++ 0 ∷ rest) ≡ rest
-name_behind name rest h =
+pub name_after : (name rest : List ℕ) → IsName name → after_name (name ++ 0 ∷ rest) ≡ rest
+name_after name rest h =
     let len : length (name ++ 0 ∷ []) ≡ zero_at (name ++ 0 ∷ rest) + 1 =
     omega (arith, length-append name (0 ∷ []), zero_place name rest h.1) in
     ap (drop (zero_at (name ++ 0 ∷ rest) + 1)) (sym (append_assoc name (0 ∷ []) rest))
@@ -81,11 +81,11 @@ string_text s r lt =
     let n = string_number s r lt in
     let k : length s ≡ number_of (string s ++ r) - 1 = omega arith in
     ap (take (number_of (string s ++ r) - 1)) (ap (drop 4) (string_after s r)
-    ∙ number_behind (length s + 1) (s ++ 0 ∷ r))
+    ∙ number_after (length s + 1) (s ++ 0 ∷ r))
     ∙ take_at s (0 ∷ r) (number_of (string s ++ r) - 1) k
 
-pub string_behind : (s r : List ℕ) → length s + 1 < 2 ^ 32 → behind_string (string s ++ r) ≡ r
-string_behind s r lt =
+pub string_rest : (s r : List ℕ) → length s + 1 < 2 ^ 32 → after_string (string s ++ r) ≡ r
+string_rest s r lt =
     let n = string_number s r lt in
     let k : length (string s) ≡ 4 + number_of (string s ++ r) = omega (arith, string_length s) in
     drop_at (string s) r (4 + number_of (string s ++ r)) k
@@ -105,13 +105,13 @@ pub fifth : (n k : ℕ) (x : List ℕ) → slice_index_or (number n ++ k ∷ x) 
 unfolding number
 fifth n k x = refl
 
-pub behind_five : (n k : ℕ) (x : List ℕ) → drop 5 (number n ++ k ∷ x) ≡ x
+pub after_five : (n k : ℕ) (x : List ℕ) → drop 5 (number n ++ k ∷ x) ≡ x
 unfolding number
-behind_five n k x = refl
+after_five n k x = refl
 
-pub behind_nine : (n k m : ℕ) (x : List ℕ) → drop 9 (number n ++ k ∷ (number m ++ x)) ≡ x
+pub after_nine : (n k m : ℕ) (x : List ℕ) → drop 9 (number n ++ k ∷ (number m ++ x)) ≡ x
 unfolding number
-behind_nine n k m x = refl
+after_nine n k m x = refl
 
 pub binary_count : (k : ℕ) (d r : List ℕ) → length d < 2 ^ 31
     → number_of ((number (length d) ++ k ∷ d) ++ r) ≡ length d
@@ -130,14 +130,14 @@ pub other : (b : Bool) (x y : List ℕ) → b ≡ false → cond b x y ≡ y
 other true x y e = absurd cc
 other false x y e = refl
 
-payload_behind_count : (bytes s r : List ℕ) → (slice_index_or bytes 4 0 == 2) ≡ true
+payload_after_count : (bytes s r : List ℕ) → (slice_index_or bytes 4 0 == 2) ≡ true
     → drop 9 bytes ≡ s ++ r → length s ≡ number_of bytes - 4 → payload_of bytes ≡ s
-payload_behind_count bytes s r two d n =
+payload_after_count bytes s r two d n =
     chosen (slice_index_or bytes 4 0 == 2) (take (number_of bytes - 4) (drop 9 bytes)) (take (number_of bytes) (drop 5 bytes)) two ∙ ap (take (number_of bytes - 4)) d ∙ take_at s r (number_of bytes - 4) n
 
-payload_behind_subtype : (bytes s r : List ℕ) → (slice_index_or bytes 4 0 == 2) ≡ false
+payload_after_subtype : (bytes s r : List ℕ) → (slice_index_or bytes 4 0 == 2) ≡ false
     → drop 5 bytes ≡ s ++ r → length s ≡ number_of bytes → payload_of bytes ≡ s
-payload_behind_subtype bytes s r two d n =
+payload_after_subtype bytes s r two d n =
     other (slice_index_or bytes 4 0 == 2) (take (number_of bytes - 4) (drop 9 bytes)) (take (number_of bytes) (drop 5 bytes)) two ∙ ap (take (number_of bytes)) d ∙ take_at s r (number_of bytes) n
 
 binary_payload : (k : ℕ) (s r : List ℕ) (two : Bool) → (k == 2) ≡ two → length (data_of k s) < 2 ^ 31
@@ -145,23 +145,23 @@ binary_payload : (k : ℕ) (s r : List ℕ) (two : Bool) → (k == 2) ≡ two �
 binary_payload k s r true two lt =
     let count = binary_count k (data_of k s) r lt in
     let same : data_of k s ≡ number (length s) ++ s = chosen (k == 2) (number (length s) ++ s) s two in
-    let behind : drop 9 ((number (length (data_of k s)) ++ k ∷ data_of k s) ++ r) ≡ s ++ r =
+    let after : drop 9 ((number (length (data_of k s)) ++ k ∷ data_of k s) ++ r) ≡ s ++ r =
     ap (drop 9) (binary_whole k (data_of k s) r
     ∙ ap (λ (x : List ℕ). number (length (data_of k s)) ++ k ∷ x) (ap (λ (x : List ℕ). x ++ r) same
     ∙ append_assoc (number (length s)) s r))
-    ∙ behind_nine (length (data_of k s)) k (length s) (s ++ r) in
-    payload_behind_count ((number (length (data_of k s)) ++ k ∷ data_of k s)
+    ∙ after_nine (length (data_of k s)) k (length s) (s ++ r) in
+    payload_after_count ((number (length (data_of k s)) ++ k ∷ data_of k s)
     ++ r) s r (ap (λ (n : ℕ). n == 2) (binary_subtype k (data_of k s) r)
-    ∙ two) behind (omega (arith, count, data_length k s two))
+    ∙ two) after (omega (arith, count, data_length k s two))
 binary_payload k s r false two lt =
     let count = binary_count k (data_of k s) r lt in
     let same : data_of k s ≡ s = other (k == 2) (number (length s) ++ s) s two in
-    let behind : drop 5 ((number (length (data_of k s)) ++ k ∷ data_of k s) ++ r) ≡ s ++ r =
+    let after : drop 5 ((number (length (data_of k s)) ++ k ∷ data_of k s) ++ r) ≡ s ++ r =
     ap (drop 5) (binary_whole k (data_of k s) r)
-    ∙ behind_five (length (data_of k s)) k (data_of k s ++ r) ∙ ap (λ (x : List ℕ). x ++ r) same in
-    payload_behind_subtype ((number (length (data_of k s)) ++ k ∷ data_of k s)
+    ∙ after_five (length (data_of k s)) k (data_of k s ++ r) ∙ ap (λ (x : List ℕ). x ++ r) same in
+    payload_after_subtype ((number (length (data_of k s)) ++ k ∷ data_of k s)
     ++ r) s r (ap (λ (n : ℕ). n == 2) (binary_subtype k (data_of k s) r)
-    ∙ two) behind (sym (count ∙ ap (λ (x : List ℕ). length x) same))
+    ∙ two) after (sym (count ∙ ap (λ (x : List ℕ). length x) same))
 
 -- ---- regular expressions and pointers
 
@@ -208,7 +208,7 @@ scalar_back (trees.timestamp s i) v r h =
     let low = ap number_of whole ∙ number_front i (number s ++ r) h.1 in
     let high =
     ap (λ (x : List ℕ). number_of (drop 4 x)) whole
-    ∙ ap number_of (number_behind i (number s ++ r)) ∙ number_front s r h.0 in
+    ∙ ap number_of (number_after i (number s ++ r)) ∙ number_front s r h.0 in
     ap₂ trees.timestamp high low
 scalar_back (trees.boolean true) v r h =
     ap (λ (x : List ℕ). trees.boolean (slice_index_or (x ++ r) 0 0 == 1)) h
@@ -223,10 +223,10 @@ scalar_back (trees.db_pointer s id) v r h =
     let whole : v ++ r ≡ string s ++ (id ++ r) =
     ap (λ (x : List ℕ). x ++ r) h.2 ∙ append_assoc (string s) id r in
     let space = ap text_of whole ∙ string_text s (id ++ r) h.0.1 in
-    let behind =
-    ap (λ (x : List ℕ). take 12 (behind_string x)) whole
-    ∙ ap (take 12) (string_behind s (id ++ r) h.0.1) ∙ take_at id r 12 h.1 in
-    ap₂ trees.db_pointer space behind
+    let after =
+    ap (λ (x : List ℕ). take 12 (after_string x)) whole
+    ∙ ap (take 12) (string_rest s (id ++ r) h.0.1) ∙ take_at id r 12 h.1 in
+    ap₂ trees.db_pointer space after
 scalar_back (trees.binary k s) v r h =
     let kind = ap (λ (x : List ℕ). slice_index_or (x ++ r) 4 0) h.2 ∙ binary_subtype k (data_of k s) r in
     let payload = ap (λ (x : List ℕ). payload_of (x ++ r)) h.2 ∙ binary_payload k s r (k == 2) refl h.1 in
@@ -235,8 +235,8 @@ scalar_back (trees.regex p o) v r h =
     let whole : v ++ r ≡ p ++ 0 ∷ (o ++ 0 ∷ r) = ap (λ (x : List ℕ). x ++ r) h.2 ∙ regex_whole p o r in
     let pattern = ap name_of whole ∙ name_front p (o ++ 0 ∷ r) h.0 in
     let options =
-    ap (λ (x : List ℕ). name_of (behind_name x)) whole
-    ∙ ap name_of (name_behind p (o ++ 0 ∷ r) h.0) ∙ name_front o r h.1 in
+    ap (λ (x : List ℕ). name_of (after_name x)) whole
+    ∙ ap name_of (name_after p (o ++ 0 ∷ r) h.0) ∙ name_front o r h.1 in
     ap₂ trees.regex pattern options
 
 pub scalar_size : (a : Scalar) (v r : List ℕ) → IsScalar a v → size_of (scalar_kind a) (v ++ r) ≡ length v
@@ -269,8 +269,8 @@ scalar_size (trees.regex p o) v r h =
     let whole : v ++ r ≡ p ++ 0 ∷ (o ++ 0 ∷ r) = ap (λ (x : List ℕ). x ++ r) h.2 ∙ regex_whole p o r in
     let first = ap zero_at whole ∙ zero_place p (o ++ 0 ∷ r) h.0.1 in
     let second =
-    ap (λ (x : List ℕ). zero_at (behind_name x)) whole
-    ∙ ap zero_at (name_behind p (o ++ 0 ∷ r) h.0) ∙ zero_place o r h.1.1 in
+    ap (λ (x : List ℕ). zero_at (after_name x)) whole
+    ∙ ap zero_at (name_after p (o ++ 0 ∷ r) h.0) ∙ zero_place o r h.1.1 in
     omega (
       arith,
       first,

@@ -2,7 +2,7 @@
 use Rattle.std.specs.Prelude.{◌≤◌, ℕ, List, length}
 use Rattle.bd_value.specs.Tree as trees
 use Rattle.bd_value.specs.Tree.{Scalar}
-use Rattle.bd_value.specs.Seen.{Own, own, own_code}
+use Rattle.bd_value.specs.OwnPart.{Own, own, own_code}
 
 abbrev pub IsShort : List ℕ → Type 0
 IsShort text = length text ≤ 16793600

@@ -20,15 +20,15 @@ zero_at bytes = position_or_len (λ b. b == 0) bytes
 abbrev pub name_of : List ℕ → List ℕ
 name_of bytes = take (zero_at bytes) bytes
 
-abbrev pub behind_name : List ℕ → List ℕ
-behind_name bytes = drop (zero_at bytes + 1) bytes
+abbrev pub after_name : List ℕ → List ℕ
+after_name bytes = drop (zero_at bytes + 1) bytes
 
 -- the text of a string, and what stands after the string
 abbrev pub text_of : List ℕ → List ℕ
 text_of bytes = take (number_of bytes - 1) (drop 4 bytes)
 
-abbrev pub behind_string : List ℕ → List ℕ
-behind_string bytes = drop (4 + number_of bytes) bytes
+abbrev pub after_string : List ℕ → List ℕ
+after_string bytes = drop (4 + number_of bytes) bytes
 
 -- the count and the bytes of binary, after the inner count of subtype 02
 abbrev pub payload_of : List ℕ → List ℕ
@@ -51,7 +51,7 @@ size_of kinds.Symbol bytes = 4 + number_of bytes
 size_of kinds.Code bytes = 4 + number_of bytes
 size_of kinds.DbPointer bytes = 4 + number_of bytes + 12
 size_of kinds.Binary bytes = 5 + number_of bytes
-size_of kinds.Regex bytes = zero_at bytes + 1 + (zero_at (behind_name bytes) + 1)
+size_of kinds.Regex bytes = zero_at bytes + 1 + (zero_at (after_name bytes) + 1)
 size_of kinds.Doc bytes = number_of bytes
 size_of kinds.Array bytes = number_of bytes
 size_of kinds.CodeScope bytes = number_of bytes
@@ -71,9 +71,9 @@ scalar_at kinds.Bool bytes = trees.boolean (slice_index_or bytes 0 0 == 1)
 scalar_at kinds.Text bytes = trees.text (text_of bytes)
 scalar_at kinds.Symbol bytes = trees.symbol (text_of bytes)
 scalar_at kinds.Code bytes = trees.code (text_of bytes)
-scalar_at kinds.DbPointer bytes = trees.db_pointer (text_of bytes) (take 12 (behind_string bytes))
+scalar_at kinds.DbPointer bytes = trees.db_pointer (text_of bytes) (take 12 (after_string bytes))
 scalar_at kinds.Binary bytes = trees.binary (slice_index_or bytes 4 0) (payload_of bytes)
-scalar_at kinds.Regex bytes = trees.regex (name_of bytes) (name_of (behind_name bytes))
+scalar_at kinds.Regex bytes = trees.regex (name_of bytes) (name_of (after_name bytes))
 scalar_at kinds.Doc bytes = trees.null
 scalar_at kinds.Array bytes = trees.null
 scalar_at kinds.CodeScope bytes = trees.null

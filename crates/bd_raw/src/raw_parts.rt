@@ -1,9 +1,9 @@
 //! Parts of a value's bytes, which are known to spell one of its kind.
 
 ghost use Rattle.std.specs.Prelude.{◌≡◌, ◌<◌, ◌≤◌, ◌+◌, ◌==◌, length, position, IfSome, Some, take, drop, false, slice_index_or};
-ghost use Rattle.bd_value.specs.Seen.{seen, own};
+ghost use Rattle.bd_value.specs.OwnPart.{seen, own};
 ghost use Rattle.bd_raw.specs.Sizes.{number_of, long_of, zero_at, name_of, text_of, payload_of, size_of, scalar_at};
-ghost use Rattle.bd_raw.specs.Reads.{TextAt, NameAt, BinaryAt, HasBytesOf};
+ghost use Rattle.bd_raw.specs.ValueAt.{TextAt, NameAt, BinaryAt, HasBytesOf};
 ghost use Rattle.bd_raw.specs.Types.{type_at, holds};
 ghost use Rattle.bd_value.specs.declared.kind.Kind as kinds;
 ghost use Rattle.bd_raw.specs.declared.element.ElementType.TheVariants.{Kept};
@@ -72,8 +72,8 @@ pub fn text(bytes: &[u8]) -> &str
     ensures size { length result.now + 1 ≡ number_of bytes.now }
 {
     let n = number(bytes) as usize;
-    let (_, behind) = bytes.split_at(4);
-    let (text, _) = behind.split_at(n - 1);
+    let (_, after) = bytes.split_at(4);
+    let (text, _) = after.split_at(n - 1);
     // These bytes were found to be UTF-8 when the document was checked.
     unsafe { std::str::from_utf8_unchecked(text) }
 }
@@ -83,16 +83,16 @@ pub fn text(bytes: &[u8]) -> &str
 pub fn name(bytes: &[u8]) -> (&str, &[u8])
     requires { NameAt bytes.now }
     ensures text { result.0.now ≡ name_of bytes.now }
-    ensures behind { result.1.now ≡ drop (zero_at bytes.now + 1) bytes.now }
+    ensures after { result.1.now ≡ drop (zero_at bytes.now + 1) bytes.now }
     ensures size { length result.0.now ≡ zero_at bytes.now }
 {
     let Some(k) = first_zero(bytes) else {
         unreachable!()
     };
     let (name, _) = bytes.split_at(k);
-    let (_, behind) = bytes.split_at(k + 1);
+    let (_, after) = bytes.split_at(k + 1);
     // These bytes were found to be UTF-8 when the document was checked.
-    (unsafe { std::str::from_utf8_unchecked(name) }, behind)
+    (unsafe { std::str::from_utf8_unchecked(name) }, after)
 }
 
 /// The bytes of binary data, after the inner count of subtype 02.
@@ -140,10 +140,10 @@ pub fn scalar(kind: Kind, bytes: &[u8]) -> Scalar<'_>
         Kind::Symbol => Scalar::Symbol(text(bytes)),
         Kind::Code => Scalar::Code(text(bytes)),
         Kind::DbPointer => {
-            let (_, behind) = bytes.split_at(4 + number(bytes) as usize);
+            let (_, after) = bytes.split_at(4 + number(bytes) as usize);
             Scalar::DbPointer {
                 space: text(bytes),
-                id: id(behind),
+                id: id(after),
             }
         }
         Kind::Binary => Scalar::Binary {
@@ -151,8 +151,8 @@ pub fn scalar(kind: Kind, bytes: &[u8]) -> Scalar<'_>
             payload: payload(bytes),
         },
         Kind::Regex => {
-            let (pattern, behind) = name(bytes);
-            let (options, _) = name(behind);
+            let (pattern, after) = name(bytes);
+            let (options, _) = name(after);
             Scalar::Regex { pattern, options }
         }
         Kind::Doc | Kind::Array | Kind::CodeScope => unreachable!(),
@@ -175,8 +175,8 @@ pub fn size(kind: Kind, bytes: &[u8]) -> usize
         Kind::DbPointer => 4 + number(bytes) as usize + 12,
         Kind::Binary => 5 + number(bytes) as usize,
         Kind::Regex => {
-            let (pattern, behind) = name(bytes);
-            let (options, _) = name(behind);
+            let (pattern, after) = name(bytes);
+            let (options, _) = name(after);
             pattern.len() + 1 + (options.len() + 1)
         }
         Kind::Doc | Kind::Array | Kind::CodeScope => number(bytes) as usize,

@@ -5,7 +5,7 @@ ghost use Rattle.bd_value.specs.Tree.{pairs_in};
 ghost use Rattle.bd_value.specs.Parts.{AreParts, HoldsNoParts};
 ghost use Rattle.bd_value.specs.Lookup.{first_of};
 ghost use Rattle.bd_value.specs.View.{tree_of, pairs};
-ghost use Rattle.bd_value.specs.Seen.{seen, own_of};
+ghost use Rattle.bd_value.specs.OwnPart.{seen, own_of};
 ghost use Rattle.bd_raw.specs.Short.{IsShort, OwnIsShort};
 ghost use Rattle.bd_raw.specs.Sound.{stands, elements_left};
 

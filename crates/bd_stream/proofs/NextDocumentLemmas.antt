@@ -5,13 +5,13 @@ use Rattle.std.proofs.KnownBytes.{Consumes-trans}
 use Rattle.bd_device.specs.Counts.{after_more}
 use Rattle.bd_device.specs.Devices.{AreReads, Reader, over}
 use Rattle.bd_device.specs.declared.reading.ReadFault.TheVariants as reads
-use Rattle.bd_device.proofs.Devices.{reads_append}
+use Rattle.bd_device.proofs.DevicesLemmas.{reads_append}
 use Rattle.bd_check.specs.Dump.{length_told}
 use Rattle.bd_stream.specs.NextDocument.{CountsReads, FailsToRead, GrowsFor, HoldsAsMuch, HoldsNone, IsReason}
 use Rattle.bd_stream.specs.declared.doc_buffer.DocBuffer.{DocBuffer}
 use Rattle.bd_stream.specs.declared.doc_buffer.DocFault.{DocFault}
 use Rattle.bd_stream.specs.declared.doc_buffer.DocFault.TheVariants as faults
-use Rattle.bd_stream.proofs.Frames.{IsHead, joined_no_frame, told_kept}
+use Rattle.bd_stream.proofs.FrameLemmas.{IsHead, joined_no_frame, told_kept}
 
 -- a room that is written over is as long as it was
 pub kept_room : (len : ℕ) (room rest : List ℕ) → length room ≡ len → length (take len (room ++ rest)) ≡ length room

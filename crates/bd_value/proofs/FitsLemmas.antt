@@ -3,7 +3,7 @@ use Rattle.std.proofs.Common.{◌≡◌, ◌⊎◌, inl, inr, [], ◌∷◌, Som
 use Rattle.bd_value.specs.Fits.{FitsTypes, HasUtf8, ItemsFitTypes, ItemsHaveUtf8, FieldsFitTypes, FieldsHaveUtf8, OwnFitsType, OwnHasUtf8}
 use Rattle.bd_value.specs.Kind.{kind_of}
 use Rattle.bd_value.specs.Parts.{values_of, scope_of, AreParts}
-use Rattle.bd_value.specs.Seen.{Own, own, own_of}
+use Rattle.bd_value.specs.OwnPart.{Own, own, own_of}
 use Rattle.bd_value.specs.Tree.{Tree, leaf, doc, array, code_scope, Doc, fields_of, items_of, fields_of-pairs_of, items_of-list_of}
 use Rattle.bd_value.specs.declared.kind.Kind.TheVariants as kinds
 

@@ -8,12 +8,12 @@ use Rattle.bd_value.specs.Order.{fields_cmp, items_cmp, rank_cmp, rank_in, same_
 use Rattle.bd_value.specs.Order.Classes.{class_of, class_of_kind}
 use Rattle.bd_value.specs.Order.Ranks.{own_rank}
 use Rattle.bd_value.specs.Parts.{values_of, scope_of, AreParts}
-use Rattle.bd_value.specs.Seen.{Own, own_of}
+use Rattle.bd_value.specs.OwnPart.{Own, own_of}
 use Rattle.bd_value.specs.Tree.{Tree, leaf, doc, array, code_scope, Doc, fields_of, items_of}
 use Rattle.bd_value.specs.declared.kind.Kind.{Kind}
 use Rattle.bd_value.specs.declared.kind.Kind.TheVariants as kinds
 use Rattle.bd_value.specs.declared.order.classes.Class.TheVariants as classes
-use Rattle.bd_value.proofs.Parted.{doc_is, array_is}
+use Rattle.bd_value.proofs.PartsLemmas.{doc_is, array_is}
 
 pub rank_of_own : (t : Tree) (o : Own) → Some o ≡ own_of t → own_rank o ≡ rank_in t
 rank_of_own (leaf s) o is = cc

@@ -2,7 +2,7 @@
 use Rattle.std.specs.Prelude.{◌≡◌, ◌<◌, ◌^◌, ℕ, List, length, slice_index, IsUtf8}
 use Rattle.std.specs.Int.{w32, w64}
 use Rattle.std.specs.Int.RustNames.{FitsSigned}
-use Rattle.bd_value.specs.Seen.{Own, own, own_code}
+use Rattle.bd_value.specs.OwnPart.{Own, own, own_code}
 use Rattle.bd_value.specs.Tree.{Scalar, min_key, undefined, null, int32, int64, text, symbol, binary, object_id, boolean, date, timestamp, regex, db_pointer, code, max_key}
 use Rattle.bd_value.specs.Tree.{Tree, leaf, doc, array, code_scope, Items, no_items, item, Fields, no_fields, field}
 

@@ -1,6 +1,6 @@
 -- Whether a name, or the pattern or the options of a regular expression, has a zero, which would end it.
 use Rattle.std.specs.Prelude.{ℕ, List, [], ◌∷◌, Bool, false, ◌&&◌, ◌||◌, ◌==◌}
-use Rattle.bd_value.specs.Seen.{Own, own, own_code}
+use Rattle.bd_value.specs.OwnPart.{Own, own, own_code}
 use Rattle.bd_value.specs.Tree.{Scalar, regex, Tree, leaf, doc, array, code_scope, Items, no_items, item, Fields, no_fields, field, Doc}
 
 abbrev pub has_zero : List ℕ → Bool

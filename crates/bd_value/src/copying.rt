@@ -2,7 +2,7 @@
 
 ghost use Rattle.std.specs.Prelude.{◌≡◌, IfOk, map, Some};
 ghost use Rattle.bd_value.specs.Parts.{values_of, HoldsNoParts};
-ghost use Rattle.bd_value.specs.Seen.{seen, own_of};
+ghost use Rattle.bd_value.specs.OwnPart.{seen, own_of};
 ghost use Rattle.bd_value.specs.View.{tree_of, pairs};
 
 use crate::document::{Document, NoMemory, Value};

@@ -4,7 +4,7 @@
 //! that only where the code has looked. Each function here looks at all of a value, and does nothing else.
 
 ghost use Rattle.bd_value.specs.Fits.{AreBytes, IsId, FitsTypes, HasUtf8, FieldsFitTypes, FieldsHaveUtf8, OwnFitsType, OwnHasUtf8};
-ghost use Rattle.bd_value.specs.Seen.{seen};
+ghost use Rattle.bd_value.specs.OwnPart.{seen};
 ghost use Rattle.bd_value.specs.Tree.{doc, fields_of};
 ghost use Rattle.bd_value.specs.View.{tree_of, pairs};
 

@@ -6,7 +6,7 @@ ghost use Rattle.bd_value.specs.Tree.{pairs_in};
 ghost use Rattle.bd_value.specs.Kind.{kind_of};
 ghost use Rattle.bd_value.specs.Lookup.{first_of};
 ghost use Rattle.bd_value.specs.Parts.{elements_in, length_of, scope_of, HoldsParts, AreParts};
-ghost use Rattle.bd_value.specs.Seen.{seen, own_of};
+ghost use Rattle.bd_value.specs.OwnPart.{seen, own_of};
 
 use crate::kind::Kind;
 use crate::scalar::Scalar;

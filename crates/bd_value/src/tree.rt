@@ -2,10 +2,10 @@
 
 ghost use Rattle.std.specs.Prelude.{◌≡◌, [], option_map};
 ghost use Rattle.bd_value.specs.Kind.{kind_of};
-ghost use Rattle.bd_value.specs.Seen.{seen, own_of};
+ghost use Rattle.bd_value.specs.OwnPart.{seen, own_of};
 ghost use Rattle.bd_value.specs.Lookup.{first_of};
 ghost use Rattle.bd_value.specs.View.{tree_of, pairs};
-ghost use Rattle.bd_value.specs.Held.{held, parts_held};
+ghost use Rattle.bd_value.specs.NodeTree.{held, parts_held};
 
 use crate::document::{Document, Value};
 use crate::kind::Kind;

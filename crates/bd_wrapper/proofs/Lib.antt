@@ -1,2 +1,2 @@
-pub mod Members
-pub mod Numbers
+pub mod MemberLemmas
+pub mod WholeLemmas

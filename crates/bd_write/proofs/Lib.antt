@@ -1,2 +1,2 @@
-pub mod Spelled
-pub mod Writes
+pub mod TreeBytesLemmas
+pub mod WritingLemmas

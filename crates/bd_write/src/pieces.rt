@@ -5,7 +5,7 @@ ghost use Rattle.std.specs.Prelude.{◌≡◌, ◌≤◌, ◌+◌, ◌++◌, ◌
 ghost use Rattle.bd_value.specs.Zeros.{zero_in};
 ghost use Rattle.bd_raw.specs.Types.{type_byte as byte_of};
 ghost use Rattle.bd_raw.specs.Spelling.{number, string, framed, IsValue};
-ghost use Rattle.bd_write.specs.Written.{bytes_of, OverrunsLimit};
+ghost use Rattle.bd_write.specs.TreeBytes.{bytes_of, OverrunsLimit};
 
 use crate::writing::{WriteFault, put_text, write_number};
 use crate::writing_values::{put_label, put_value, seal};

@@ -6,7 +6,7 @@ ghost use Rattle.bd_value.specs.Tree.{doc, fields_of};
 ghost use Rattle.bd_value.specs.View.{pairs};
 ghost use Rattle.bd_value.specs.Zeros.{zero_in};
 ghost use Rattle.bd_raw.specs.Spelling.{IsDocument};
-ghost use Rattle.bd_write.specs.Written.{SpellsPlainly, bytes_of};
+ghost use Rattle.bd_write.specs.TreeBytes.{SpellsPlainly, bytes_of};
 
 use crate::writing::{LONGEST, WriteFault};
 use crate::writing_values::put_value;

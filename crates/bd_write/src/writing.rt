@@ -3,7 +3,7 @@
 ghost use Rattle.std.specs.Prelude.{◌≡◌, ◌≤◌, ◌+◌, ◌++◌, ◌∷◌, [], IfErr, OnErr, OnOk, length};
 ghost use Rattle.std.specs.Io.{StartsWith};
 ghost use Rattle.bd_raw.specs.Spelling.{number, long, string, data_of};
-ghost use Rattle.bd_write.specs.Written.{OverrunsLimit};
+ghost use Rattle.bd_write.specs.TreeBytes.{OverrunsLimit};
 
 use bd_value::NoMemory;
 use std::alloc::AllocError;
@@ -58,7 +58,7 @@ pub(crate) fn write_long(n: u64, out: &mut Vec<u8>) -> Result<(), NoMemory>
 }
 
 /// `cstring`.
-#[tactic(auto, using(bd_value::proofs::Fronts::fronts))]
+#[tactic(auto, using(bd_value::proofs::FrontLemmas::fronts))]
 pub(crate) fn write_name(name: &str, out: &mut Vec<u8>) -> Result<(), NoMemory>
     ensures ok { OnOk result (out.new.items ≡ out.old.items ++ (name.now ++ 0 ∷ [])) }
     ensures front { OnErr result (StartsWith out.new.items out.old.items) }
@@ -69,7 +69,7 @@ pub(crate) fn write_name(name: &str, out: &mut Vec<u8>) -> Result<(), NoMemory>
 }
 
 /// `string`: the length with the zero at the end, the text, the zero.
-#[tactic(auto, using(bd_value::proofs::Fronts::fronts))]
+#[tactic(auto, using(bd_value::proofs::FrontLemmas::fronts))]
 #[inline(always)]
 pub(crate) fn put_text(text: &str, out: &mut Vec<u8>) -> Result<(), WriteFault>
     ensures ok { OnOk result ((out.new.items ≡ out.old.items ++ string text.now) × (length text.now ≤ 16793600)) }
@@ -85,7 +85,7 @@ pub(crate) fn put_text(text: &str, out: &mut Vec<u8>) -> Result<(), WriteFault>
 }
 
 /// `regex`: two `cstring`s.
-#[tactic(auto, using(bd_value::proofs::Fronts::fronts))]
+#[tactic(auto, using(bd_value::proofs::FrontLemmas::fronts))]
 pub(crate) fn write_regex(pattern: &str, options: &str, out: &mut Vec<u8>) -> Result<(), NoMemory>
     ensures ok { OnOk result (out.new.items ≡ out.old.items ++ (pattern.now ++ 0 ∷ (options.now ++ 0 ∷ []))) }
     ensures front { OnErr result (StartsWith out.new.items out.old.items) }
@@ -106,7 +106,7 @@ fn data_length(subtype: u8, payload: &[u8]) -> u32
 }
 
 /// The data of `binary`.
-#[tactic(auto, using(bd_value::proofs::Fronts::fronts))]
+#[tactic(auto, using(bd_value::proofs::FrontLemmas::fronts))]
 fn write_data(subtype: u8, payload: &[u8], out: &mut Vec<u8>) -> Result<(), NoMemory>
     requires { length payload.now ≤ 16793600 }
     ensures ok { OnOk result (out.new.items ≡ out.old.items ++ data_of subtype payload.now) }
@@ -120,7 +120,7 @@ fn write_data(subtype: u8, payload: &[u8], out: &mut Vec<u8>) -> Result<(), NoMe
 }
 
 /// `binary`: the count of the bytes, the subtype, the bytes.
-#[tactic(auto, using(bd_value::proofs::Fronts::fronts))]
+#[tactic(auto, using(bd_value::proofs::FrontLemmas::fronts))]
 pub(crate) fn write_binary(subtype: u8, payload: &[u8], out: &mut Vec<u8>) -> Result<(), WriteFault>
     ensures ok { OnOk result ((out.new.items ≡ out.old.items ++ (number (length (data_of subtype payload.now)) ++ subtype ∷ data_of subtype payload.now))
         × (length (data_of subtype payload.now) ≤ 16793604)) }

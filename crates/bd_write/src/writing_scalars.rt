@@ -2,16 +2,16 @@
 
 ghost use Rattle.std.specs.Prelude.{◌≡◌, ◌≤◌, ◌+◌, ◌++◌, IfErr, OnErr, OnOk, false, length};
 ghost use Rattle.std.specs.Io.{StartsWith};
-ghost use Rattle.bd_value.specs.Seen.{seen};
+ghost use Rattle.bd_value.specs.OwnPart.{seen};
 ghost use Rattle.bd_value.specs.Zeros.{zero_in_own};
 ghost use Rattle.bd_raw.specs.Spelling.{string};
-ghost use Rattle.bd_write.specs.Written.{own_bytes, OwnSpells, OverrunsLimit};
+ghost use Rattle.bd_write.specs.TreeBytes.{own_bytes, OwnSpells, OverrunsLimit};
 
 use crate::writing::{WriteFault, put_text, write_binary, write_long, write_number, write_regex};
 use bd_value::Scalar;
 
 /// A `string` and the 12 bytes of an id.
-#[tactic(auto, using(bd_value::proofs::Fronts::fronts))]
+#[tactic(auto, using(bd_value::proofs::FrontLemmas::fronts))]
 fn write_pointer(space: &str, id: &[u8; 12], out: &mut Vec<u8>) -> Result<(), WriteFault>
     ensures ok { OnOk result ((out.new.items ≡ out.old.items ++ (string space.now ++ id.now)) × (length space.now ≤ 16793600)) }
     ensures err { IfErr result (OverrunsLimit (length out.old.items + length (string space.now ++ id.now))) }
@@ -23,7 +23,7 @@ fn write_pointer(space: &str, id: &[u8; 12], out: &mut Vec<u8>) -> Result<(), Wr
 }
 
 /// What a value holds besides other values: of code with scope the code.
-#[tactic(auto, using(bd_value::proofs::Fronts::fronts))]
+#[tactic(auto, using(bd_value::proofs::FrontLemmas::fronts))]
 pub(crate) fn write_scalar(scalar: Scalar<'_>, out: &mut Vec<u8>) -> Result<(), WriteFault>
     requires { zero_in_own (seen scalar) ≡ false }
     ensures ok { OnOk result (out.new.items ≡ out.old.items ++ own_bytes (seen scalar.entry)) }

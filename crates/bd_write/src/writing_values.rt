@@ -7,7 +7,7 @@ ghost use Rattle.bd_value.specs.Parts.{values_of, HoldsNoParts};
 ghost use Rattle.bd_value.specs.Zeros.{has_zero, zero_in, zero_in_fields, zero_in_items};
 ghost use Rattle.bd_raw.specs.Types.{type_byte as byte_of};
 ghost use Rattle.bd_raw.specs.Spelling.{number, framed, element, IsName, IsValue, AreFields, AreItems};
-ghost use Rattle.bd_write.specs.Written.{bytes_of, fields_bytes, items_bytes, OverrunsLimit};
+ghost use Rattle.bd_write.specs.TreeBytes.{bytes_of, fields_bytes, items_bytes, OverrunsLimit};
 
 use crate::writing::{LONGEST, WriteFault, write_name, write_number};
 use crate::writing_scalars::write_scalar;
@@ -33,7 +33,7 @@ pub(crate) fn seal(at: usize, out: &mut Vec<u8>) -> Result<(), WriteFault>
 }
 
 /// Appends what stands before an element's value, its type and its name: BSON 1.1, `element`.
-#[tactic(auto, using(bd_value::proofs::Fronts::fronts))]
+#[tactic(auto, using(bd_value::proofs::FrontLemmas::fronts))]
 #[inline(always)]
 pub(crate) fn put_label(kind: Kind, name: &str, out: &mut Vec<u8>) -> Result<(), WriteFault>
     ensures ok { OnOk result ((out.new.items ≡ out.old.items ++ (byte_of kind ∷ (name.now ++ 0 ∷ []))) × (length out.old.items ≤ 16793600)) }
@@ -50,7 +50,7 @@ pub(crate) fn put_label(kind: Kind, name: &str, out: &mut Vec<u8>) -> Result<(),
 
 /// Appends the bytes of a value. The names of an array's elements are their places from 0.
 #[cycle(writing)]
-#[tactic(auto, using(bd_value::proofs::Fronts::fronts))]
+#[tactic(auto, using(bd_value::proofs::FrontLemmas::fronts))]
 pub(crate) fn put_value<N: Reading>(node: N, out: &mut Vec<u8>) -> Result<(), WriteFault>
     requires { zero_in (N.tree node) ≡ false }
     ensures ok { OnOk result (out.new.items ≡ out.old.items ++ bytes_of (N.tree node)) }
@@ -67,7 +67,7 @@ pub(crate) fn put_value<N: Reading>(node: N, out: &mut Vec<u8>) -> Result<(), Wr
 
 /// Appends what is neither a document nor an array. Code with scope begins with the count of its bytes.
 #[cycle(writing)]
-#[tactic(auto, using(bd_value::proofs::Fronts::fronts))]
+#[tactic(auto, using(bd_value::proofs::FrontLemmas::fronts))]
 fn append_leaf<N: Reading>(node: N, out: &mut Vec<u8>) -> Result<(), WriteFault>
     requires kind { HoldsNoParts (N.tree node) }
     requires zero { zero_in (N.tree node) ≡ false }
@@ -91,7 +91,7 @@ fn append_leaf<N: Reading>(node: N, out: &mut Vec<u8>) -> Result<(), WriteFault>
 
 /// Appends an element: its type, its name and its value.
 #[cycle(writing)]
-#[tactic(auto, using(bd_value::proofs::Fronts::fronts))]
+#[tactic(auto, using(bd_value::proofs::FrontLemmas::fronts))]
 fn append_element<N: Reading>(name: &str, node: N, out: &mut Vec<u8>) -> Result<(), WriteFault>
     requires name { has_zero name.now ≡ false }
     requires zero { zero_in (N.tree node) ≡ false }
@@ -106,7 +106,7 @@ fn append_element<N: Reading>(name: &str, node: N, out: &mut Vec<u8>) -> Result<
 
 /// Appends the document of these pairs.
 #[cycle(writing)]
-#[tactic(auto, using(bd_value::proofs::Fronts::fronts))]
+#[tactic(auto, using(bd_value::proofs::FrontLemmas::fronts))]
 fn append_fields<N: Reading>(fields: N::Rest, out: &mut Vec<u8>) -> Result<(), WriteFault>
     requires { zero_in_fields (fields_of (N.left fields)) ≡ false }
     ensures ok { OnOk result (out.new.items ≡ out.old.items ++ framed (fields_bytes (fields_of (N.left fields)))) }
@@ -127,7 +127,7 @@ fn append_fields<N: Reading>(fields: N::Rest, out: &mut Vec<u8>) -> Result<(), W
 
 /// Appends the array of these elements, whose names are their places from 0.
 #[cycle(writing)]
-#[tactic(auto, using(bd_value::proofs::Fronts::fronts))]
+#[tactic(auto, using(bd_value::proofs::FrontLemmas::fronts))]
 fn append_items<N: Reading>(items: N::Rest, out: &mut Vec<u8>) -> Result<(), WriteFault>
     requires { zero_in_items (items_of (values_of (N.left items))) ≡ false }
     ensures ok { OnOk result (out.new.items ≡ out.old.items ++ framed (items_bytes 0 (items_of (values_of (N.left items))))) }

@@ -3,7 +3,7 @@
 ghost use Rattle.std.specs.Prelude.{◌≡◌, List, ℕ};
 ghost use Rattle.bd_value.specs.Parts.{HoldsNoParts};
 ghost use Rattle.bd_value.specs.Tree.{fields_of};
-ghost use Rattle.bd_value.specs.Seen.{seen};
+ghost use Rattle.bd_value.specs.OwnPart.{seen};
 ghost use Rattle.bd_value.specs.Zeros.{zero_in, zero_in_own, zero_in_parts};
 
 use bd_value::{Kind, Reading, Scalar, has_zero};

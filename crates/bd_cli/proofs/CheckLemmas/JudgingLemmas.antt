@@ -17,10 +17,10 @@ use Rattle.bd_check.specs.FirstFault.{first_fault}
 use Rattle.bd_stream.specs.NextDocument.{IsReason}
 use Rattle.bd_stream.specs.Stream.{AreFrames, HasNoFrame, IsFrame}
 use Rattle.bd_stream.specs.declared.doc_buffer.DocBuffer.{DocBuffer}
-use Rattle.bd_check.specs.Told.{fault_view}
+use Rattle.bd_check.specs.AnsweredFault.{fault_view}
 use Rattle.bd_bson.specs.Verdicts.{verdicts_at, verdicts}
-use Rattle.bd_stream.proofs.Frames.{frame_on, frames_more}
-use Rattle.bd_bson.proofs.Verdicts.{none_at, turn_at, last_at}
+use Rattle.bd_stream.proofs.FrameLemmas.{frame_on, frames_more}
+use Rattle.bd_bson.proofs.VerdictLemmas.{none_at, turn_at, last_at}
 use Rattle.bd_cli.specs.declared.check.judging.Findings.{Findings}
 use Rattle.bd_cli.specs.declared.ending.Ending.{Ending}
 use Rattle.bd_cli.specs.declared.ending.Ending.TheVariants as endings
@@ -29,7 +29,7 @@ use Rattle.bd_cli.specs.declared.output.lines.Stopped.TheVariants.{NoMemory, Unw
 use Rattle.bd_cli.specs.declared.status.Status.{Status}
 use Rattle.bd_cli.specs.declared.status.Status.TheVariants.{Failed}
 use Rattle.bd_cli.proofs.OutputLemmas.LinesLemmas.{breaks_after}
-use Rattle.bd_cli.proofs.OutcomeLemmas.{rest_of, known_whole, known_end, known_behind, more_called, unread}
+use Rattle.bd_cli.proofs.OutcomeLemmas.{rest_of, known_whole, known_end, known_after, more_called, unread}
 use Rattle.bd_cli.specs.Check.{BreaksAtVerdict, ChecksInput, JudgesWithinLimit, faulty_count, shown_check, shown_check_unread, verdict_line, verdict_lines}
 use Rattle.bd_cli.specs.Check.Judging.{AreVerdicts, JudgesDocuments, JudgesLast, StopsJudging, findings_message, findings_status}
 use Rattle.bd_cli.specs.Outcome.{StreamsInput, TellsMessage}
@@ -78,14 +78,14 @@ err_of (Err e) P Q h = h
 -- ---- what was written
 
 module _ (old mid new : Writer) (front piece rest all : List ℕ) (wrote : TakesText (between old mid) front) where
-  pub broke_behind : BreaksWithin (between mid new) piece → all ≡ front ++ (piece ++ rest) → BreaksWithin (between old new) all
-  broke_behind b cut =
+  pub broke_after : BreaksWithin (between mid new) piece → all ≡ front ++ (piece ++ rest) → BreaksWithin (between old new) all
+  broke_after b cut =
       let parts : all ≡ (front ++ b.0.0) ++ (b.0.1 ++ rest) =
       cut ∙ ap (λ x. front ++ (x ++ rest)) b.0.2 ∙ ap (λ x. front ++ x) (append_assoc b.0.0 b.0.1 rest) ∙ sym (append_assoc front b.0.0 (b.0.1 ++ rest)) in
       ((front ++ b.0.0, b.0.1 ++ rest, parts, Appends-trans old.held mid.held new.held front b.0.0 wrote.0 b.0.3), b.1 ∙ ap (λ n. after_more n 1) wrote.1)
 
-  pub wrote_behind : TakesText (between mid new) piece → all ≡ front ++ piece → TakesText (between old new) all
-  wrote_behind w cut = (subst (Appends old.held new.held) (sym cut) (Appends-trans old.held mid.held new.held front piece wrote.0 w.0), w.1 ∙ wrote.1)
+  pub wrote_after : TakesText (between mid new) piece → all ≡ front ++ piece → TakesText (between old new) all
+  wrote_after w cut = (subst (Appends old.held new.held) (sym cut) (Appends-trans old.held mid.held new.held front piece wrote.0 w.0), w.1 ∙ wrote.1)
 
 pub front_of : (old new : Writer) (front rest all : List ℕ) → TakesText (between old new) front → all ≡ front ++ rest → TakesFront (between old new) all
 front_of old new front rest all w cut = ((front, rest, cut, w.0), w.1)
@@ -166,7 +166,7 @@ module _ (old : Reader) (out_old : Writer) where
       turned = let t = s.turned in let c = called.0 in omega arith;
       called = more_called old.calls mid.calls new.calls turns fewer s.turned called.0 s.called called.1;
       well = well ∙ s.well;
-      wrote = wrote_behind out_old out_mid out_new (verdict_lines 0 s.done) (verdict_line number (seen o)) [] (verdict_lines 0 (s.done ++ seen o ∷ [])) s.wrote wrote
+      wrote = wrote_after out_old out_mid out_new (verdict_lines 0 s.done) (verdict_line number (seen o)) [] (verdict_lines 0 (s.done ++ seen o ∷ [])) s.wrote wrote
           (lines_more s.done (seen o) ∙ ap (λ n. verdict_lines 0 s.done ++ verdict_line n (seen o)) (sym s.counted));
     }
 
@@ -183,7 +183,7 @@ module _ (old : Reader) (out_old : Writer) where
         → StopsJudging (between old new) (between out_old out_mid) NoMemory
     starves new part rest gave short is well = (
       s.given ++ rest,
-      (known_behind old.left mid.left s.given rest s.gave is, took new part gave short, well ∙ s.well),
+      (known_after old.left mid.left s.given rest s.gave is, took new part gave short, well ∙ s.well),
       front_of out_old out_mid (verdict_lines 0 s.done) (verdict_lines (0 + length s.done) (verdicts_at place rest)) (verdict_lines 0 (verdicts (s.given ++ rest))) s.wrote (cut_at rest),
     )
 
@@ -202,8 +202,8 @@ module _ (old : Reader) (out_old : Writer) where
         cut_at rest ∙ ap (λ vs. verdict_lines 0 s.done ++ verdict_lines (0 + length s.done) vs) turn
         ∙ ap (λ n. verdict_lines 0 s.done ++ (verdict_line n v ++ verdict_lines (suc (0 + length s.done)) more)) (let c = s.counted in omega arith) in (
           s.given ++ rest,
-          (known_behind old.left mid.left s.given rest s.gave is, took new part gave short, well ∙ s.well),
-          broke_behind out_old out_mid out_new (verdict_lines 0 s.done) (verdict_line number v) (verdict_lines (suc (0 + length s.done)) more) (verdict_lines 0 (verdicts (s.given ++ rest))) s.wrote (broke refl) lines,
+          (known_after old.left mid.left s.given rest s.gave is, took new part gave short, well ∙ s.well),
+          broke_after out_old out_mid out_new (verdict_lines 0 s.done) (verdict_line number v) (verdict_lines (suc (0 + length s.done)) more) (verdict_lines 0 (verdicts (s.given ++ rest))) s.wrote (broke refl) lines,
           (
             s.done,
             f,
@@ -233,8 +233,8 @@ module _ (old : Reader) (out_old : Writer) where
         stops_in new out_new frame (frame ++ rest) (fault_view f) _ st gave short (known_whole mid.left new.left frame gave) well (alone frame (fault_view f) is first) turn starved
         (λ e. subst (λ n. BreaksWithin (between out_mid out_new) (verdict_line n (Some (fault_view f)))) numbered (broke e))
 
-    pub starves_behind : (new : Reader) (part : List ℕ) → Consumes mid.left new.left part → length part ≤ room → new.failures ≡ mid.failures → StopsJudging (between old new) (between out_old out_mid) NoMemory
-    starves_behind new part gave short well = starves new part (part ++ rest_of new.left) gave short (known_whole mid.left new.left part gave) well
+    pub starves_after : (new : Reader) (part : List ℕ) → Consumes mid.left new.left part → length part ≤ room → new.failures ≡ mid.failures → StopsJudging (between old new) (between out_old out_mid) NoMemory
+    starves_after new part gave short well = starves new part (part ++ rest_of new.left) gave short (known_whole mid.left new.left part gave) well
 
     -- ---- the last document
 
@@ -261,12 +261,12 @@ module _ (old : Reader) (out_old : Writer) where
         rw found.0 (
           s.given ++ bytes,
           s.done ++ Some (fault_view f) ∷ [],
-          (known_behind old.left mid.left s.given bytes s.gave is, took new part gave short, well ∙ s.well),
+          (known_after old.left mid.left s.given bytes s.gave is, took new part gave short, well ∙ s.well),
           inr (s.frames, s.given, bytes, f.kind, s.framed, refl, bad_length, within_given),
           sym all,
           (let c = s.counted in omega (arith, length-append s.done (Some (fault_view f) ∷ []))),
           ap (λ n. n + 1) s.bad_counted ∙ sym (faulty_append s.done (Some (fault_view f) ∷ [])),
-          wrote_behind out_old out_mid out_new (verdict_lines 0 s.done) (verdict_line number (Some (fault_view f))) [] (verdict_lines 0 (s.done ++ Some (fault_view f) ∷ [])) s.wrote line
+          wrote_after out_old out_mid out_new (verdict_lines 0 s.done) (verdict_line number (Some (fault_view f))) [] (verdict_lines 0 (s.done ++ Some (fault_view f) ∷ [])) s.wrote line
               (lines_more s.done (Some (fault_view f)) ∙ ap (λ n. verdict_lines 0 s.done ++ verdict_line n (Some (fault_view f))) (sym s.counted)),
         )
     faulty_ends new out_new f (Err NoMemory) part bytes gave short is well bad_length given last numbered found = rw found (starves new part bytes gave short is well)
@@ -319,7 +319,7 @@ module _ (old : Reader) (out_old : Writer) where
     starves_by given (faults.Read reads.TooLong) st by gave reason = absurd cc
     starves_by given (faults.Read reads.TooManyTurns) st by gave reason = absurd cc
     starves_by given (faults.Read reads.NoMemory) st by gave reason =
-        rw (same_stop st NoMemory by) (starves_behind (state m) out_mid documents.place documents.number bad documents.left.bytes documents.left.turns s (state n) given gave reason.1 reason.2)
+        rw (same_stop st NoMemory by) (starves_after (state m) out_mid documents.place documents.number bad documents.left.bytes documents.left.turns s (state n) given gave reason.1 reason.2)
     starves_by given faults.Failed st by gave reason = absurd reason
 
 -- ---- the end of a run

@@ -13,9 +13,9 @@ use Rattle.bd_check.specs.Dump.{AreJoined}
 use Rattle.bd_stream.specs.NextDocument.{IsReason}
 use Rattle.bd_stream.specs.Stream.{HasNoFrame, IsFrame}
 use Rattle.bd_stream.specs.declared.doc_buffer.DocBuffer.{DocBuffer}
-use Rattle.bd_check.specs.Told.{fault_view}
+use Rattle.bd_check.specs.AnsweredFault.{fault_view}
 use Rattle.bd_check.specs.declared.fault.Fault as told
-use Rattle.bd_check.proofs.Dumps.{joined_append, joined_one}
+use Rattle.bd_check.proofs.DumpLemmas.{joined_append, joined_one}
 use Rattle.bd_stream.specs.declared.doc_buffer.DocFault.{DocFault}
 use Rattle.bd_stream.specs.declared.doc_buffer.DocFault.TheVariants as faults
 use Rattle.bd_cli.specs.declared.ending.Ending.{Ending}
@@ -23,7 +23,7 @@ use Rattle.bd_cli.specs.declared.ending.Ending.TheVariants as endings
 use Rattle.bd_cli.specs.declared.output.lines.Stopped.{Stopped}
 use Rattle.bd_cli.specs.declared.output.lines.Stopped.TheVariants.{NoMemory, Unwritten}
 use Rattle.bd_cli.proofs.OutputLemmas.LinesLemmas.{breaks_after, lines-append}
-use Rattle.bd_cli.proofs.OutcomeLemmas.{rest_of, known_whole, known_end, known_behind, front_known, more_called, fault_inside, fault_of_length, unread}
+use Rattle.bd_cli.proofs.OutcomeLemmas.{rest_of, known_whole, known_end, known_after, front_known, more_called, fault_inside, fault_of_length, unread}
 use Rattle.bd_cli.specs.Dump.{BreaksAtDocument, StarvesAfterDocuments}
 use Rattle.bd_cli.specs.Shown.{lines}
 use Rattle.bd_cli.specs.Ending.{IsEndingOf}
@@ -134,7 +134,7 @@ module _ (old : Reader) (out_old : Writer) where
         → WalksDocuments (between old new) (between out_old out_mid) (record { count = count; ending = endings.Faulty f })
     ends_faulty new count frame f same is gave short well first numbered =
         let rest = rest_of new.left in
-        let all : IfSome old.left (λ xs. s.given ++ (frame ++ rest) ≡ xs) = known_behind old.left mid.left s.given (frame ++ rest) s.gave (known_whole mid.left new.left frame gave) in
+        let all : IfSome old.left (λ xs. s.given ++ (frame ++ rest) ≡ xs) = known_after old.left mid.left s.given (frame ++ rest) s.gave (known_whole mid.left new.left frame gave) in
         let fails = fault_inside place s.given frame rest (fault_view f) s.placed is first in
         (s.done, same ∙ s.counted, (s.given ++ (frame ++ rest), (all, took new frame gave short, well ∙ s.well), inr (s.done, fault_view f, s.given, frame ++ rest, s.joined, refl, fails, within_given), (s.given, frame ++ rest, s.joined, refl, fails), numbered ∙ s.counted), s.wrote)
 
@@ -145,7 +145,7 @@ module _ (old : Reader) (out_old : Writer) where
     ends_framed new count part f same gave short well none offset numbered path =
         let bytes = none.0 in
         let fails = fault_of_length place s.given bytes f s.placed none.2 offset path in
-        let all : IfSome old.left (λ xs. s.given ++ bytes ≡ xs) = known_behind old.left mid.left s.given bytes s.gave none.1 in
+        let all : IfSome old.left (λ xs. s.given ++ bytes ≡ xs) = known_after old.left mid.left s.given bytes s.gave none.1 in
         (s.done, same ∙ s.counted, (s.given ++ bytes, (all, took new part gave short, well ∙ s.well), inr (s.done, fault_view f, s.given, bytes, s.joined, refl, fails, within_given), (s.given, bytes, s.joined, refl, fails), numbered ∙ s.counted), s.wrote)
 
   -- no document was given

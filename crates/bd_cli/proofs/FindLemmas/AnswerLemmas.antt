@@ -4,12 +4,12 @@ use Rattle.std.specs.Prelude.{slice_get, Contains}
 use Rattle.std.proofs.lemmas.Bool.{cases_lt, lt-ltb, le-ltb, ltb-true, ltb-false}
 use Rattle.std.proofs.lemmas.List.{drop_all, take_at, take_all, length-append, append-nil}
 use Rattle.bd_value.specs.Tree.{Doc}
-use Rattle.bd_value.proofs.Views.{next_at}
+use Rattle.bd_value.proofs.ViewLemmas.{next_at}
 use Rattle.bd_cli.specs.Find.Answer.{Request, matching, insert_all, ordered, limited, answer, each, lower, rest}
 use Rattle.bd_cli.specs.Find.AnswerLaws.{IsStrictOrder, IsMatch}
 use Rattle.bd_cli.specs.Find.Step.{IsStep, past, ahead}
 use Rattle.bd_cli.specs.declared.find.step.Step.{Step}
-use Rattle.bd_cli.proofs.FindLemmas.Kept.{In, Rises, Apart, filter_all, in_insert_all, insert_all_in, insert_all_rises, same_rising, take_rises, drop_rises, contains_in, in_contains}
+use Rattle.bd_cli.proofs.FindLemmas.OrderLemmas.{In, Rises, Apart, filter_all, in_insert_all, insert_all_in, insert_all_rises, same_rising, take_rises, drop_rises, contains_in, in_contains}
 
 -- ---- the matches
 
@@ -141,7 +141,7 @@ past-snoc from (q ∷ qs) p = past-snoc (q + 1) qs p
 pub record SoFar (matches : Doc → Bool) (ds : List Doc) (from size : ℕ) (places : List ℕ) (after at : ℕ) : Type 0 where
   pub found : matching_from matches ds from ≡ places ++ matching_from matches ds at
   pub few : length places ≤ size
-  pub behind : after ≡ past from places
+  pub passed : after ≡ past from places
   pub left : matching_from matches ds after ≡ matching_from matches ds at
 
 module _ (matches : Doc → Bool) (ds : List Doc) (from size : ℕ) where
@@ -149,7 +149,7 @@ module _ (matches : Doc → Bool) (ds : List Doc) (from size : ℕ) where
   begins places is = record {
     found = sym (ap (λ xs. xs ++ matching_from matches ds from) is);
     few = rw is (omega arith);
-    behind = sym (ap (past from) is);
+    passed = sym (ap (past from) is);
     left = refl;
   }
 
@@ -162,14 +162,14 @@ module _ (matches : Doc → Bool) (ds : List Doc) (from size : ℕ) where
       record {
         found = s.found ∙ ap (λ xs. places ++ xs) here ∙ sym (append_assoc places (at ∷ []) (matching_from matches ds (at + 1))) ∙ ap (λ xs. xs ++ matching_from matches ds (at + 1)) (sym grown);
         few = rw grown (omega (arith, length-append places (at ∷ [])));
-        behind = sym (ap (past from) grown ∙ past-snoc from places at);
+        passed = sym (ap (past from) grown ∙ past-snoc from places at);
         left = refl;
       }
 
   pub passed_on : (places : List ℕ) (after at : ℕ) (d : Doc) → SoFar matches ds from size places after at → slice_get ds at ≡ Some d → false ≡ matches d → SoFar matches ds from size places after (at + 1)
   passed_on places after at d s is miss =
       let here : matching_from matches ds at ≡ matching_from matches ds (at + 1) = cut_here at d is ∙ rw (← miss) refl in
-      record { found = s.found ∙ ap (λ xs. places ++ xs) here; few = s.few; behind = s.behind; left = s.left ∙ here }
+      record { found = s.found ∙ ap (λ xs. places ++ xs) here; few = s.few; passed = s.passed; left = s.left ∙ here }
 
   no_more : (at : ℕ) → length ds ≤ at → matching_from matches ds at ≡ []
   no_more at le = ap (matching matches at) (drop_all at ds le)
@@ -180,7 +180,7 @@ module _ (matches : Doc → Bool) (ds : List Doc) (from size : ℕ) where
       let all : matching_from matches ds from ≡ step.places.items = s.found ∙ ap (λ xs. step.places.items ++ xs) none ∙ append-nil step.places.items in
       record {
         places = sym (ap (take size) (rest_is matches ds from ∙ all) ∙ take_all size step.places.items s.few);
-        after = s.behind;
+        after = s.passed;
         end = (λ e. rest_is matches ds step.after ∙ s.left ∙ none, λ e. is);
       }
 
@@ -189,7 +189,7 @@ module _ (matches : Doc → Bool) (ds : List Doc) (from size : ℕ) where
       let here : matching_from matches ds at ≡ at ∷ matching_from matches ds (at + 1) = cut_here at d is ∙ rw (← hit) refl in
       record {
         places = sym (ap (take size) (rest_is matches ds from ∙ s.found) ∙ take_at step.places.items (matching_from matches ds at) size full);
-        after = s.behind;
+        after = s.passed;
         end = (λ e. let f : ⊥ = cc in absurd f, λ e. let f : at ∷ matching_from matches ds (at + 1) ≡ [] = sym here ∙ sym s.left ∙ sym (rest_is matches ds step.after) ∙ e in absurd cc);
       }
 

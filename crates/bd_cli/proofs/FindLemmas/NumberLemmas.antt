@@ -4,7 +4,7 @@ use Rattle.std.proofs.lemmas.List.{drop_all, length-map}
 use Rattle.bd_value.specs.Tree.{items_of}
 use Rattle.bd_value.specs.View.{tree_of}
 use Rattle.bd_value.specs.declared.document.Value.{Value}
-use Rattle.bd_value.proofs.Views.{next_at, tree_at}
+use Rattle.bd_value.proofs.ViewLemmas.{next_at, tree_at}
 use Rattle.bd_cli.specs.Find.Equality.{is_number, any_number}
 
 -- some element from a place on

@@ -12,7 +12,7 @@ use Rattle.bd_cli.specs.Find.Answer.{matching, answer, each, is_empty, batches}
 use Rattle.bd_cli.specs.Find.AnswerLaws.{GivesTheAnswer}
 use Rattle.bd_cli.specs.Find.Step.{IsStep, AreInTurn, until_end, places_of, past, ahead}
 use Rattle.bd_cli.specs.declared.find.step.Step.{Step}
-use Rattle.bd_cli.proofs.FindLemmas.Kept.{filter_twice}
+use Rattle.bd_cli.proofs.FindLemmas.OrderLemmas.{filter_twice}
 use Rattle.bd_cli.proofs.FindLemmas.AnswerLemmas.{answer_matching, is_from, ahead_is, rest_is}
 
 -- ---- batches

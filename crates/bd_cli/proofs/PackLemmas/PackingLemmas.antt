@@ -10,7 +10,7 @@ use Rattle.std.proofs.lemmas.List.Splits.{slice_split_at, slice_split_none}
 use Rattle.std.proofs.Math.Seq.{drop-cons}
 use Rattle.memchr.specs.Find.{IsFirstByte, is_byte}
 use Rattle.bd_value.specs.Tree.{Doc}
-use Rattle.bd_extjson.specs.Reads.{ReadsAs, reading}
+use Rattle.bd_extjson.specs.TextDocument.{ReadsAs, reading}
 use Rattle.bd_diagnose.specs.JsonFault.{IsPlaced}
 use Rattle.bd_diagnose.specs.declared.json_fault.JsonFault.{JsonFault}
 use Rattle.bd_diagnose.specs.declared.json_fault.JsonFaultKind.TheVariants as kinds
@@ -106,8 +106,8 @@ pub cut_at : (text : List ℕ) (k : ℕ) → IsFirstByte (is_byte 10) text (Some
 cut_at text k first =
     let high = first.0.high in
     let here : get_or text k 0 ≡ 10 = newline (get_or text k 0) first.1 in
-    let behind : drop k text ≡ 10 ∷ drop (k + 1) text = rw add-one (drop-cons text k 0 high ∙ ap (λ b. b ∷ drop (suc k) text) here) in
-    let parts : text ≡ take k text ++ 10 ∷ drop (k + 1) text = sym (take-append-drop k text) ∙ ap (λ x. take k text ++ x) behind in
+    let after : drop k text ≡ 10 ∷ drop (k + 1) text = rw add-one (drop-cons text k 0 high ∙ ap (λ b. b ∷ drop (suc k) text) here) in
+    let parts : text ≡ take k text ++ 10 ∷ drop (k + 1) text = sym (take-append-drop k text) ∙ ap (λ x. take k text ++ x) after in
     let none = none_before text k (omega arith) (λ i lt. first.0.before i (omega arith) lt) in
     ap lines_of parts ∙ slice_split_at (λ b. b == 10) (take k text) 10 (drop (k + 1) text) none refl
 

@@ -3,7 +3,7 @@ use Rattle.std.specs.Prelude.{◌≡◌, ◌+◌, ℕ, List, [], ◌++◌, lengt
 use Rattle.bd_device.specs.Devices.{BreaksWithin, Over, Reader, TakesFront, TakesText, Writer}
 use Rattle.bd_device.specs.declared.reading.ReadFault.{ReadFault}
 use Rattle.bd_check.specs.Fault.{Fault}
-use Rattle.bd_check.specs.Told.{fault_view}
+use Rattle.bd_check.specs.AnsweredFault.{fault_view}
 use Rattle.bd_stream.specs.Stream.{AreFrames, IsCut}
 use Rattle.bd_bson.specs.Verdicts.{verdicts}
 use Rattle.bd_cli.specs.Check.{BreaksAtVerdict, JudgesWithinLimit, check_count_line, check_status, faulty_count, verdict_line, verdict_lines}

@@ -3,7 +3,7 @@ use Rattle.std.specs.Prelude.{◌≡◌, ℕ, List, [], ◌++◌, length, Some, 
 use Rattle.bd_value.specs.Tree.{Doc}
 use Rattle.bd_device.specs.Devices.{Over, Reader, TakesText, Writer}
 use Rattle.bd_check.specs.Dump.{AreJoined, IsWalk}
-use Rattle.bd_check.specs.Told.{fault_view}
+use Rattle.bd_check.specs.AnsweredFault.{fault_view}
 use Rattle.bd_stream.specs.Stream.{IsCut}
 use Rattle.bd_cli.specs.Dump.{BreaksAtDocument, EndsWithinLimit, StarvesAfterDocuments, dump_count_line}
 use Rattle.bd_cli.specs.Outcome.{StreamsInput}

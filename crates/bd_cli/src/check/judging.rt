@@ -2,7 +2,7 @@
 
 ghost use Rattle.std.specs.Prelude.{◌≡◌, ◌≤◌, ◌<◌, ◌+◌, IfOk, IfErr, OnOk, Some, None, Err, IfSome, option_map, length};
 ghost use Rattle.bd_check.specs.FirstFault.{first_fault};
-ghost use Rattle.bd_check.specs.Told.{fault_view};
+ghost use Rattle.bd_check.specs.AnsweredFault.{fault_view};
 ghost use Rattle.bd_cli.specs.Check.{verdict_line};
 ghost use Rattle.bd_cli.specs.Check.Judging.{JudgesDocuments, JudgesLast, StopsJudging};
 ghost use Rattle.bd_cli.specs.Ending.{IsFresh};

@@ -4,7 +4,7 @@ ghost use Rattle.std.specs.Prelude.{◌≡◌, ◌≤◌, ◌+◌, [], ◌∷◌
 ghost use Rattle.bd_value.specs.Tree.{Doc};
 ghost use Rattle.bd_check.specs.FirstFault.{first_fault};
 ghost use Rattle.bd_raw.specs.Spelling.{IsDocument};
-ghost use Rattle.bd_check.specs.Told.{fault_view};
+ghost use Rattle.bd_check.specs.AnsweredFault.{fault_view};
 ghost use Rattle.bd_cli.specs.declared.output.lines.Stopped.TheVariants.{Unwritten};
 ghost use Rattle.bd_cli.specs.Shown.{lines};
 ghost use Rattle.bd_cli.specs.Dump.Walk.{StopsWalk, WalksDocuments};

@@ -2,7 +2,7 @@
 
 ghost use Rattle.std.specs.Prelude.{◌≡◌, ◌++◌, IfOk, OnErr, OnOk, codes, decimal};
 ghost use Rattle.bd_device.specs.Devices.{BreaksWithin, TakesText, over};
-ghost use Rattle.bd_check.specs.Told.{fault_view};
+ghost use Rattle.bd_check.specs.AnsweredFault.{fault_view};
 ghost use Rattle.bd_cli.specs.Outcome.{TellsMessage};
 ghost use Rattle.bd_cli.specs.Shown.{error_line, fault_text, place_text, read_words};
 ghost use Rattle.bd_cli.specs.declared.status.Status.TheVariants.{Failed};

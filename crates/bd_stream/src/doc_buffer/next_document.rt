@@ -10,7 +10,7 @@ ghost use Rattle.bd_stream.specs.Stream.{IsFrame};
 
 use crate::doc_buffer::{DocBuffer, DocFault, make_room};
 use bd_check::FaultKind;
-use bd_device::{Input, Limits, fill, fill_behind};
+use bd_device::{Input, Limits, fill, fill_after};
 
 impl DocBuffer {
     /// Takes the next document of a device into the buffer; false at the end.
@@ -112,7 +112,7 @@ impl DocBuffer {
             bytes: self.left.bytes - 4,
             turns: self.left.turns,
         };
-        let filled = fill_behind(reader, &mut self.buffer, head, length, limits)?;
+        let filled = fill_after(reader, &mut self.buffer, head, length, limits)?;
         self.left.turns -= filled.turns;
         if filled.bytes < length - 4 {
             return Err(self.fault(FaultKind::BadLength));

@@ -1,6 +1,6 @@
 -- What a scalar is compared by within its class.
 use Rattle.std.specs.Prelude.{ℕ, ℤ, pos, ◌+◌, ◌==◌, List, [], length, if◌then◌else◌}
-use Rattle.bd_value.specs.Seen.{Own, own, own_code}
+use Rattle.bd_value.specs.OwnPart.{Own, own, own_code}
 use Rattle.bd_value.specs.Tree.{Scalar, min_key, undefined, null, int32, int64, text, symbol, binary}
 use Rattle.bd_value.specs.Tree.{object_id, boolean, date, timestamp, regex, db_pointer, code, max_key}
 

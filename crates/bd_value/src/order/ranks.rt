@@ -3,8 +3,8 @@
 ghost use Rattle.std.specs.Prelude.{◌≡◌};
 ghost use Rattle.bd_value.specs.Order.{rank_cmp, size_cmp};
 ghost use Rattle.bd_value.specs.Order.Ranks.{binary_size, by_bytes, by_number, own_rank};
-ghost use Rattle.bd_value.specs.Order.RanksSeen.{ranked};
-ghost use Rattle.bd_value.specs.Seen.{seen};
+ghost use Rattle.bd_value.specs.Order.RanksSeen.{rank_view};
+ghost use Rattle.bd_value.specs.OwnPart.{seen};
 
 use crate::scalar::Scalar;
 use std::cmp::Ordering;
@@ -22,7 +22,7 @@ pub struct Rank<'a> {
 const NOTHING: &[u8] = &[];
 
 fn by_number<'a>(number: i64) -> Rank<'a>
-    ensures { ranked result ≡ by_number number }
+    ensures { rank_view result ≡ by_number number }
 {
     Rank {
         number,
@@ -34,7 +34,7 @@ fn by_number<'a>(number: i64) -> Rank<'a>
 }
 
 fn by_bytes<'a>(bytes: &'a [u8], more: &'a [u8]) -> Rank<'a>
-    ensures { ranked result ≡ by_bytes bytes.now more.now }
+    ensures { rank_view result ≡ by_bytes bytes.now more.now }
 {
     Rank {
         number: 0,
@@ -55,7 +55,7 @@ fn binary_size(subtype: u8, payload: &[u8]) -> u64
 
 /// What a scalar is compared by; of code with scope, its code.
 pub fn rank_of<'a>(scalar: &'a Scalar<'a>) -> Rank<'a>
-    ensures { ranked result ≡ own_rank (seen scalar.now) }
+    ensures { rank_view result ≡ own_rank (seen scalar.now) }
 {
     match scalar {
         Scalar::MinKey => by_number(0),
@@ -92,7 +92,7 @@ pub fn rank_of<'a>(scalar: &'a Scalar<'a>) -> Rank<'a>
 
 /// The order of two of one class.
 pub fn compare_ranks(a: Rank<'_>, b: Rank<'_>) -> Ordering
-    ensures { result ≡ rank_cmp (ranked a.entry) (ranked b.entry) }
+    ensures { result ≡ rank_cmp (rank_view a.entry) (rank_view b.entry) }
 {
     match a.number.cmp(&b.number) {
         Ordering::Equal => compare_sizes(a, b),
@@ -102,7 +102,7 @@ pub fn compare_ranks(a: Rank<'_>, b: Rank<'_>) -> Ordering
 
 /// The order of two whose numbers are equal.
 fn compare_sizes(a: Rank<'_>, b: Rank<'_>) -> Ordering
-    ensures { result ≡ size_cmp (ranked a.entry) (ranked b.entry) }
+    ensures { result ≡ size_cmp (rank_view a.entry) (rank_view b.entry) }
 {
     match a.size.cmp(&b.size).then(a.lesser.cmp(&b.lesser)) {
         Ordering::Equal => match a.bytes.cmp(b.bytes) {

@@ -1,5 +1,5 @@
 use Rattle.bd_bson.specs.Collection.{documents}
-use Rattle.bd_bson.proofs.Collects.{dump_is}
+use Rattle.bd_bson.proofs.CollectionLemmas.{dump_is}
 use Rattle.bd_bson.proofs.collecting.read_dump.Goals as goal
 
 pub returns-clause-dump : goal.returns-clause-dump

@@ -3,9 +3,9 @@ use Rattle.std.proofs.lemmas.Result.{err_from_is_err_and}
 use Rattle.bd_value.specs.Tree.{Doc}
 use Rattle.bd_check.specs.Dump.{IsWalk}
 use Rattle.bd_check.specs.Fault.{Fault as Where}
-use Rattle.bd_check.proofs.Dumps.{walk_on}
-use Rattle.bd_check.proofs.Takes.{IsBytes}
-use Rattle.bd_bson.proofs.Collects.{goes_on, ended, failed}
+use Rattle.bd_check.proofs.DumpLemmas.{walk_on}
+use Rattle.bd_check.proofs.FirstFaultLemmas.{IsBytes}
+use Rattle.bd_bson.proofs.CollectionLemmas.{goes_on, ended, failed}
 use Rattle.bd_bson.proofs.collecting.starts_in.Goals as goal
 
 walk_there : (bytes : List ℕ) → IsBytes bytes → (ds : List Doc) × (end : Option Where) × IsWalk ds end bytes

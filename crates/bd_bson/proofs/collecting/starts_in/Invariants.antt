@@ -1,5 +1,5 @@
 use Rattle.std.proofs.Common.{◌-◌, ◌≤◌, length}
-use Rattle.bd_bson.proofs.Collects.{SoFar}
+use Rattle.bd_bson.proofs.CollectionLemmas.{SoFar}
 use Rattle.bd_bson.proofs.collecting.starts_in.Given as goal
 
 abbrev pub invariant-loop-starts : goal.invariant-loop-starts

@@ -1,4 +1,4 @@
-use Rattle.bd_check.proofs.Dumps.{document_faultless, found_document}
+use Rattle.bd_check.proofs.DumpLemmas.{document_faultless, found_document}
 use Rattle.bd_bson.proofs.laws.no_fault_where_spelled.Goals as goal
 
 pub returns : goal.returns

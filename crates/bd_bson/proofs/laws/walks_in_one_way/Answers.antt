@@ -1,5 +1,5 @@
 use Rattle.std.proofs.Common.{[], refl}
-use Rattle.bd_check.proofs.Dumps.{walk_once, walk_on}
+use Rattle.bd_check.proofs.DumpLemmas.{walk_once, walk_on}
 use Rattle.bd_bson.proofs.laws.walks_in_one_way.Goals as goal
 
 pub returns : goal.returns

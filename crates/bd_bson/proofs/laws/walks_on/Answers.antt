@@ -1,4 +1,4 @@
-use Rattle.bd_check.proofs.Dumps.{walk_on}
+use Rattle.bd_check.proofs.DumpLemmas.{walk_on}
 use Rattle.bd_bson.proofs.laws.walks_on.Goals as goal
 
 pub returns : goal.returns

@@ -1,4 +1,4 @@
-use Rattle.bd_bson.proofs.Verdicts.{as_walk, joined_where_whole}
+use Rattle.bd_bson.proofs.VerdictLemmas.{as_walk, joined_where_whole}
 use Rattle.bd_bson.proofs.verdict_laws.judges_as_the_walk.Goals as goal
 
 pub returns : goal.returns

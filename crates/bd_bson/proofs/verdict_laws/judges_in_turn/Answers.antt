@@ -1,4 +1,4 @@
-use Rattle.bd_bson.proofs.Verdicts.{none_at, turn_at, last_at}
+use Rattle.bd_bson.proofs.VerdictLemmas.{none_at, turn_at, last_at}
 use Rattle.bd_bson.proofs.verdict_laws.judges_in_turn.Goals as goal
 
 pub returns : goal.returns

@@ -4,9 +4,9 @@ use Rattle.std.proofs.lemmas.Result.{err_from_is_err_and}
 use Rattle.std.proofs.lemmas.List.{nil_from_length}
 use Rattle.std.proofs.lemmas.Bool.{eqb-true}
 use Rattle.bd_check.specs.FirstFault.{label, past_element, past_nested}
-use Rattle.bd_check.proofs.Tells.{told_fails, fails_within}
-use Rattle.bd_check.proofs.Loop as loop
-use Rattle.bd_check.proofs.Nested as nested
+use Rattle.bd_check.proofs.AnsweredFaultLemmas.{told_fails, fails_within}
+use Rattle.bd_check.proofs.ElementsLemmas as loop
+use Rattle.bd_check.proofs.HolderLemmas as nested
 use Rattle.bd_check.proofs.check.+checking.Goals as goal
 use Rattle.bd_check.proofs.check.+checking.Goals.{elements-in-Some, elements-in-None+in_ok-rest-in-None}
 

@@ -1,7 +1,7 @@
 use Rattle.std.proofs.Common.{◌≡◌, ◌≤◌, ◌+◌, ◌*◌, length}
 use Rattle.std.specs.Prelude.{IfSome}
 use Rattle.bd_check.specs.FirstFault.{past_elements, past_nested, start}
-use Rattle.bd_check.proofs.Takes.{IsBytes}
+use Rattle.bd_check.proofs.FirstFaultLemmas.{IsBytes}
 use Rattle.bd_check.proofs.check.+checking.Given as goal
 
 abbrev pub decreases-body : goal.decreases-body

@@ -1,5 +1,5 @@
 use Rattle.std.proofs.Common.{◌+◌, length, arith}
-use Rattle.bd_check.proofs.Takes.{document_found}
+use Rattle.bd_check.proofs.FirstFaultLemmas.{document_found}
 use Rattle.bd_check.proofs.check.check_document.Goals as goal
 
 pub whole-requires : goal.whole-requires

@@ -1,6 +1,6 @@
 use Rattle.std.proofs.Common.{refl, sym, ap, ◌∙◌, map, List, ℕ}
 use Rattle.std.specs.Prelude.{string_bytes}
-use Rattle.bd_check.proofs.Texts.{map-reverse}
+use Rattle.bd_check.proofs.TextLemmas.{map-reverse}
 use Rattle.bd_check.proofs.fault.fault_of.Goals as goal
 
 pub returns-in-Found : goal.returns-in-Found

@@ -1,6 +1,6 @@
 use Rattle.std.proofs.Common.{sym}
 use Rattle.std.proofs.lemmas.Str.{is_utf8-from_IsUtf8, IsUtf8-from_ascii}
-use Rattle.bd_check.proofs.Texts.{is_no_text}
+use Rattle.bd_check.proofs.TextLemmas.{is_no_text}
 use Rattle.bd_check.proofs.parts.is_text.Goals as goal
 
 pub returns-then-is_ascii : goal.returns-then-is_ascii

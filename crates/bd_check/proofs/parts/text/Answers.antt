@@ -1,8 +1,8 @@
 use Rattle.std.proofs.Common.{refl}
 use Rattle.std.proofs.lemmas.Str.{is_utf8-from_IsUtf8, IsUtf8-from_ascii}
 use Rattle.bd_check.specs.FirstFault.{text_at}
-use Rattle.bd_check.proofs.Tells.{told_fails}
-use Rattle.bd_check.proofs.Texts.{is_no_text}
+use Rattle.bd_check.proofs.AnsweredFaultLemmas.{told_fails}
+use Rattle.bd_check.proofs.TextLemmas.{is_no_text}
 use Rattle.bd_check.proofs.parts.text.Goals as goal
 
 pub returns-in-Ok : goal.returns-in-Ok

@@ -1,5 +1,5 @@
 use Rattle.std.proofs.Common.{◌+◌, ◌-◌, arith}
-use Rattle.bd_check.proofs.Spelled.{next_is}
+use Rattle.bd_check.proofs.FrameLemmas.{next_is}
 use Rattle.bd_check.proofs.read.next_document.Goals as goal
 
 pub returns-clause-next : goal.returns-clause-next

@@ -1,7 +1,7 @@
 use Rattle.std.proofs.Common.{◌∙◌}
 use Rattle.std.proofs.lemmas.Result.{err_from_is_err_and}
-use Rattle.bd_raw.proofs.Whole.{document_unique}
-use Rattle.bd_check.proofs.Spelled.{spelled_tells}
+use Rattle.bd_raw.proofs.SoundLemmas.{document_unique}
+use Rattle.bd_check.proofs.FrameLemmas.{spelled_tells}
 use Rattle.bd_check.proofs.read.read_document.Goals as goal
 
 pub returns-in_err-raw-clause-only : goal.returns-in_err-raw-clause-only

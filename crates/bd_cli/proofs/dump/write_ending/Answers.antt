@@ -1,5 +1,5 @@
 use Rattle.std.proofs.Common.{◌≡◌, ◌∙◌}
-use Rattle.bd_check.specs.Told.{fault_view}
+use Rattle.bd_check.specs.AnsweredFault.{fault_view}
 use Rattle.bd_cli.specs.Shown.{fault_text}
 use Rattle.bd_cli.proofs.dump.write_ending.Goals as goal
 

@@ -2,7 +2,7 @@ use Rattle.std.proofs.Common.{◌≡◌, ◌≤◌, ◌∙◌, ℕ, List, length
 use Rattle.std.specs.Int.{w32}
 use Rattle.std.proofs.lemmas.Int.{to_z-of_z}
 use Rattle.bd_bson.specs.Collection.{documents}
-use Rattle.bd_bson.proofs.Collects.{documents_length}
+use Rattle.bd_bson.proofs.CollectionLemmas.{documents_length}
 use Rattle.bd_cli.specs.Find.Answer.{answer, each}
 use Rattle.bd_cli.specs.Find.Equality.{number_matches}
 use Rattle.bd_cli.proofs.FindLemmas as finds

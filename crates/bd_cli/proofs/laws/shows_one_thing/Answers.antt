@@ -1,4 +1,4 @@
-use Rattle.bd_cli.proofs.FindLemmas.ShownOnce.{found_once, found_some}
+use Rattle.bd_cli.proofs.FindLemmas.UniqueLemmas.{found_once, found_some}
 use Rattle.bd_cli.proofs.CheckLemmas.{judged_once, judged_some}
 use Rattle.bd_cli.proofs.PackLemmas.{packs_once, packed_alike, packed_some}
 use Rattle.bd_cli.proofs.DumpLemmas.{shown_once, shown_some}

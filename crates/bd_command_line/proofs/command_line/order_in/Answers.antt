@@ -1,6 +1,6 @@
 use Rattle.std.proofs.Common.{ap, sym, ◌∙◌}
 use Rattle.bd_command_line.specs.CommandLine.{told_as, words_of}
-use Rattle.bd_command_line.proofs.Taken.{no_fault, order_read, order_there, refused_as, refused_taken}
+use Rattle.bd_command_line.proofs.LineLemmas.{no_fault, order_read, order_there, refused_as, refused_taken}
 use Rattle.std.specs.Prelude.{is_some, option_map, slice_get}
 use Rattle.std.proofs.lemmas.Result.{IfOk-weaker}
 use Rattle.bd_command_line.proofs.command_line.order_in.Goals as goal

@@ -4,7 +4,7 @@ use Rattle.std.proofs.lemmas.Result.{IfOk-weaker}
 use Rattle.clap.specs.Words.{first_of, found_of, rows_of}
 use Rattle.clap.proofs.WalkLemmas.{first_value-rows}
 use Rattle.bd_command_line.specs.CommandLine.{Ordered, check, dump, find_ordered, ordered_by, pack}
-use Rattle.bd_command_line.proofs.Taken.{no_file}
+use Rattle.bd_command_line.proofs.LineLemmas.{no_file}
 use Rattle.bd_command_line.proofs.command_line.order_named.Goals as goal
 
 pub unreachable-requires : goal.unreachable-requires

@@ -1,9 +1,9 @@
 use Rattle.std.proofs.Common.{ap, sym, inr, ◌∙◌, ◌∷◌, None, Some}
 use Rattle.bd_command_line.specs.CommandLine.{check, dump, find, line_app, pack, order_of, words_of}
-use Rattle.bd_command_line.proofs.CheckTaken.{check_taken, check_escaped_taken}
-use Rattle.bd_command_line.proofs.FindTaken.{batch_taken, find_taken}
-use Rattle.bd_command_line.proofs.PackTaken.{pack_taken, pack_escaped_taken}
-use Rattle.bd_command_line.proofs.Taken.{answered, dump_taken, escaped_taken, help_line_refused, help_line_told}
+use Rattle.bd_command_line.proofs.CheckLineLemmas.{check_taken, check_escaped_taken}
+use Rattle.bd_command_line.proofs.FindLineLemmas.{batch_taken, find_taken}
+use Rattle.bd_command_line.proofs.PackLineLemmas.{pack_taken, pack_escaped_taken}
+use Rattle.bd_command_line.proofs.LineLemmas.{answered, dump_taken, escaped_taken, help_line_refused, help_line_told}
 use Rattle.clap.specs.Words.{fault_of}
 use Rattle.bd_command_line.proofs.command_line.parse_words.Goals as goal
 

@@ -7,7 +7,7 @@ use Rattle.clap.specs.Walk.{one_of}
 use Rattle.clap.proofs.WalkLemmas.{first_value-rows, one_text-rows}
 use Rattle.std.specs.Prelude.{string_bytes}
 use Rattle.bd_command_line.specs.CommandLine.{batch_read}
-use Rattle.bd_command_line.proofs.BatchSize.{batch_is}
+use Rattle.bd_command_line.proofs.BatchSizeLemmas.{batch_is}
 use Rattle.bd_command_line.proofs.find_words.find_order.Goals as goal
 
 pub unreachable-requires : goal.unreachable-requires

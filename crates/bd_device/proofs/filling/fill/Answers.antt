@@ -1,8 +1,8 @@
 use Rattle.std.proofs.Common.{rules, refl, arith, ◌<◌, ◌≡◌, ◌-◌, length, take, length-take-le}
 use Rattle.std.proofs.KnownBytes.{Consumes-trans}
 use Rattle.bd_device.specs.Devices.{no_read}
-use Rattle.bd_device.proofs.Devices.{Consumes-more, reads_more}
-use Rattle.bd_device.proofs.Rooms.{grown}
+use Rattle.bd_device.proofs.DevicesLemmas.{Consumes-more, reads_more}
+use Rattle.bd_device.proofs.FillingLemmas.{grown}
 use Rattle.bd_device.proofs.filling.fill.Goals as goal
 
 pub loop-bytes-init : goal.loop-bytes-init

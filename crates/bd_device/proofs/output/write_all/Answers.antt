@@ -1,7 +1,7 @@
 use Rattle.std.proofs.Common.{rules, arith, [], ◌++◌, ◌<◌, take, refl}
 use Rattle.std.proofs.KnownBytes.{Appends-nil, Appends-trans}
 use Rattle.bd_device.specs.Devices.{no_write}
-use Rattle.bd_device.proofs.Devices.{writes_more, append-moves}
+use Rattle.bd_device.proofs.DevicesLemmas.{writes_more, append-moves}
 use Rattle.bd_device.proofs.output.write_all.Goals as goal
 
 pub loop-init : goal.loop-init

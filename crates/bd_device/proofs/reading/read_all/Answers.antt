@@ -1,6 +1,6 @@
 use Rattle.std.proofs.Common.{rules, arith, ◌≡◌, ◌++◌, ◌<◌, ◌≤◌, ◌-◌, ◌+◌, length, take, refl}
 use Rattle.std.proofs.KnownBytes.{Consumes-trans}
-use Rattle.bd_device.proofs.Devices.{reads_none, reads_more, Consumes-more, length-within}
+use Rattle.bd_device.proofs.DevicesLemmas.{reads_none, reads_more, Consumes-more, length-within}
 use Rattle.bd_device.proofs.reading.read_all.Goals as goal
 
 pub loop-init : goal.loop-init

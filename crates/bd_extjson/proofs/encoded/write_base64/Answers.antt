@@ -3,7 +3,7 @@ use Rattle.std.proofs.lemmas.List.{length-drop, length-take}
 use Rattle.base64.specs.Engines.{standard}
 use Rattle.base64.specs.GeneralPurpose.{encode_of, encoded_size_of}
 use Rattle.bd_extjson.specs.Text.{base64_text}
-use Rattle.bd_extjson.proofs.InPlace.{in_place, some_size}
+use Rattle.bd_extjson.proofs.InPlaceLemmas.{in_place, some_size}
 use Rattle.bd_extjson.proofs.encoded.write_base64.Goals as goal
 
 pub returns-clause-ok : goal.returns-clause-ok

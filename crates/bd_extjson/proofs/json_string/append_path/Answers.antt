@@ -2,8 +2,8 @@ use Rattle.std.proofs.Common.{◌++◌, ◌∷◌, ◌+◌, [], drop, map, appen
 use Rattle.std.specs.Prelude.{string_bytes}
 use Rattle.std.specs.List.{join_with_byte}
 use Rattle.bd_extjson.specs.Text.{escaped}
-use Rattle.bd_value.proofs.Fronts.{fronts, front_more}
-use Rattle.bd_extjson.proofs.Pieces.{to_come-all, name_step, drop-map}
+use Rattle.bd_value.proofs.FrontLemmas.{fronts, front_more}
+use Rattle.bd_extjson.proofs.PieceLemmas.{to_come-all, name_step, drop-map}
 use Rattle.bd_extjson.proofs.json_string.append_path.Goals as goal
 
 pub loop-name-init : goal.loop-name-init

@@ -3,7 +3,7 @@ use Rattle.std.specs.Prelude.{string_bytes}
 use Rattle.std.specs.List.{join_with_byte}
 use Rattle.std.specs.Io.{StartsWith}
 use Rattle.bd_extjson.specs.Text.{escaped}
-use Rattle.bd_extjson.proofs.Pieces.{to_come}
+use Rattle.bd_extjson.proofs.PieceLemmas.{to_come}
 use Rattle.bd_extjson.proofs.json_string.append_path.Given as goal
 
 -- what is written, and what is still to come, is the whole

@@ -3,8 +3,8 @@ use Rattle.std.specs.Io.{StartsWith}
 use Rattle.std.specs.List.{position}
 use Rattle.std.proofs.lemmas.List.Quantifiers.{position-Some}
 use Rattle.bd_extjson.specs.Text.{needs_escape, escaped}
-use Rattle.bd_value.proofs.Fronts.{front_more, front_then}
-use Rattle.bd_extjson.proofs.Escapes.{run_step, escaped-to_end}
+use Rattle.bd_value.proofs.FrontLemmas.{front_more, front_then}
+use Rattle.bd_extjson.proofs.EscapeLemmas.{run_step, escaped-to_end}
 use Rattle.bd_extjson.proofs.json_string.write_escaped.Goals as goal
 
 pub write_escape-requires : goal.write_escape-requires

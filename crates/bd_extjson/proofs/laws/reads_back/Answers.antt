@@ -1,4 +1,4 @@
-use Rattle.bd_extjson.proofs.ReadBack.{document_back}
+use Rattle.bd_extjson.proofs.ReadBackLemmas.{document_back}
 use Rattle.bd_extjson.proofs.laws.reads_back.Goals as goal
 
 pub returns : goal.returns

@@ -1,4 +1,4 @@
-use Rattle.bd_extjson.proofs.ReadsFit.{reads_sound}
+use Rattle.bd_extjson.proofs.FitLemmas.{reads_sound}
 use Rattle.bd_extjson.proofs.laws.reads_what_fits.Goals as goal
 
 pub returns-clause-types : goal.returns-clause-types

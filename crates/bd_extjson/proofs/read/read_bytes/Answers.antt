@@ -1,4 +1,4 @@
-use Rattle.bd_extjson.proofs.WholeText.{no_text}
+use Rattle.bd_extjson.proofs.WholeTextLemmas.{no_text}
 use Rattle.bd_extjson.proofs.read.read_bytes.Goals as goal
 
 pub returns-in-Err : goal.returns-in-Err

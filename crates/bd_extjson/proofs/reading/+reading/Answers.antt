@@ -7,23 +7,23 @@ use Rattle.json.specs.Value.{value_view}
 use Rattle.bd_wrapper.specs.Progress.{closing}
 use Rattle.bd_wrapper.specs.Wrappers.{single}
 use Rattle.bd_wrapper.specs.declared.wrapper.Wrapper.TheVariants as kinds
-use Rattle.bd_extjson.proofs.Seconds.{wrapping}
+use Rattle.bd_extjson.proofs.MemberLemmas.{wrapping}
 use Rattle.json.specs.Json.{value, items, parse_map, after_end_array}
 use Rattle.json.specs.Reads.{token_of}
 use Rattle.json.proofs.Grammar.{value_is, items_end, read_key-shorter, members_no_key}
 use Rattle.bd_value.specs.Tree as tree
 use Rattle.bd_value.specs.Tree.{leaf, doc, array, item, field, items_of, fields_of, no_items, no_fields}
 use Rattle.bd_value.specs.View.{tree_of, pairs}
-use Rattle.bd_value.proofs.Views.{tree_of-Doc, tree_of-Array}
+use Rattle.bd_value.proofs.ViewLemmas.{tree_of-Doc, tree_of-Array}
 use Rattle.bd_value.specs.declared.document.Value.TheVariants as values
 use Rattle.bd_value.specs.declared.document.Value.TheFolds as folds
 use Rattle.std.specs.declared.alloc.Global.{Global}
-use Rattle.bd_extjson.specs.Wrap.{wrap, wrap_items, wrap_object, wrap_fields}
+use Rattle.bd_extjson.specs.Meaning.{wrap, wrap_items, wrap_object, wrap_fields}
 use Rattle.bd_wrapper.specs.Progress.{through, after_key}
 use Rattle.bd_wrapper.specs.declared.trouble.Trouble.TheVariants.{Refused}
-use Rattle.bd_extjson.proofs.Turns as steps
-use Rattle.bd_extjson.proofs.Turns.{items_before, fields_before}
-use Rattle.bd_extjson.proofs.Seconds as seconds
+use Rattle.bd_extjson.proofs.StepLemmas as steps
+use Rattle.bd_extjson.proofs.StepLemmas.{items_before, fields_before}
+use Rattle.bd_extjson.proofs.MemberLemmas as seconds
 use Rattle.bd_extjson.proofs.reading.+reading.Goals as goal
 
 text_is : (s : String Global) → tree_of (values.Text s) ≡ leaf (tree.text (string_bytes s))

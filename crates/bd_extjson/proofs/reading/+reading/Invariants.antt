@@ -1,9 +1,9 @@
 use Rattle.std.proofs.Common.{◌≡◌, ◌≤◌, ℕ, length, map, option_map, ◌+◌, ◌*◌}
 use Rattle.json.specs.Json.{value, items, parse_map}
 use Rattle.bd_value.specs.View.{tree_of, pairs}
-use Rattle.bd_extjson.specs.Wrap.{wrap_items, wrap_fields}
+use Rattle.bd_extjson.specs.Meaning.{wrap_items, wrap_fields}
 use Rattle.bd_wrapper.specs.Progress.{through, after_key}
-use Rattle.bd_extjson.proofs.Turns.{items_before, fields_before}
+use Rattle.bd_extjson.proofs.StepLemmas.{items_before, fields_before}
 use Rattle.bd_extjson.proofs.reading.+reading.Given as goal
 
 abbrev pub decreases-read_fields : goal.decreases-read_fields

@@ -3,9 +3,9 @@ use Rattle.json.specs.Value.{value_view}
 use Rattle.json.specs.Find.{as_str}
 use Rattle.bd_value.specs.Tree.{code_scope, pairs_of, fields_of}
 use Rattle.bd_value.specs.View.{tree_of, pairs}
-use Rattle.bd_value.proofs.Views.{tree_of-CodeScope}
-use Rattle.bd_extjson.specs.Reads.{document}
-use Rattle.bd_extjson.proofs.Seconds.{scoped}
+use Rattle.bd_value.proofs.ViewLemmas.{tree_of-CodeScope}
+use Rattle.bd_extjson.specs.TextDocument.{document}
+use Rattle.bd_extjson.proofs.MemberLemmas.{scoped}
 use Rattle.bd_extjson.proofs.reading.code_with_scope.Goals as goal
 
 pub returns : goal.returns

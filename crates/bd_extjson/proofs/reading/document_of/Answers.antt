@@ -1,8 +1,8 @@
 use Rattle.std.proofs.Common.{Some, option_map, sym, ap, ◌∙◌}
 use Rattle.bd_value.specs.Tree.{pairs_of}
 use Rattle.bd_value.specs.View.{tree_of, pairs}
-use Rattle.bd_value.proofs.Views.{tree_of-Doc}
-use Rattle.bd_extjson.specs.Reads.{document}
+use Rattle.bd_value.proofs.ViewLemmas.{tree_of-Doc}
+use Rattle.bd_extjson.specs.TextDocument.{document}
 use Rattle.bd_value.specs.Tree.{pairs_of-fields_of}
 use Rattle.bd_extjson.proofs.reading.document_of.Goals as goal
 

@@ -5,9 +5,9 @@ use Rattle.json.specs.Value.{value_view}
 use Rattle.json.proofs.Grammar.{read_key-shorter}
 use Rattle.bd_wrapper.specs.Progress.{closing}
 use Rattle.bd_wrapper.specs.declared.wrapper.Wrapper.TheVariants as kinds
-use Rattle.bd_extjson.proofs.Turns.{fails_by}
-use Rattle.bd_extjson.proofs.Seconds as seconds
-use Rattle.bd_extjson.proofs.Seconds.{wrapping}
+use Rattle.bd_extjson.proofs.StepLemmas.{fails_by}
+use Rattle.bd_extjson.proofs.MemberLemmas as seconds
+use Rattle.bd_extjson.proofs.MemberLemmas.{wrapping}
 use Rattle.bd_extjson.proofs.reading.read_code.Goals as goal
 
 pub returns-in_err-second-clause-none : goal.returns-in_err-second-clause-none

@@ -1,5 +1,5 @@
 use Rattle.bd_value.specs.View.{tree_of}
-use Rattle.bd_extjson.proofs.Turns.{told}
+use Rattle.bd_extjson.proofs.StepLemmas.{told}
 use Rattle.bd_extjson.proofs.reading.read_code_second.Goals as goal
 
 pub returns-in-Ok-clause-gives : goal.returns-in-Ok-clause-gives

@@ -1,8 +1,8 @@
 use Rattle.std.proofs.Common.{arith}
 use Rattle.std.specs.Io.{StartsWith}
-use Rattle.bd_value.proofs.Fronts.{front_all, front_more, front_then}
-use Rattle.bd_extjson.proofs.Symbols.{one_byte}
-use Rattle.bd_extjson.proofs.Written.{written-binary}
+use Rattle.bd_value.proofs.FrontLemmas.{front_all, front_more, front_then}
+use Rattle.bd_extjson.proofs.SymbolLemmas.{one_byte}
+use Rattle.bd_extjson.proofs.TextLemmas.{written-binary}
 use Rattle.bd_extjson.proofs.scalar.write_binary.Goals as goal
 
 pub returns-clause-ok : goal.returns-clause-ok

@@ -1,4 +1,4 @@
-use Rattle.bd_extjson.proofs.Written.{written-code}
+use Rattle.bd_extjson.proofs.TextLemmas.{written-code}
 use Rattle.bd_extjson.proofs.scalar.write_code.Goals as goal
 
 pub returns-clause-ok : goal.returns-clause-ok

@@ -1,4 +1,4 @@
-use Rattle.bd_extjson.proofs.Written.{written-db_pointer}
+use Rattle.bd_extjson.proofs.TextLemmas.{written-db_pointer}
 use Rattle.bd_extjson.proofs.scalar.write_db_pointer.Goals as goal
 
 pub returns-clause-ok : goal.returns-clause-ok

@@ -1,7 +1,7 @@
 use Rattle.std.specs.Int.{w32}
 use Rattle.std.proofs.lemmas.Int.{to_z-of_z}
-use Rattle.bd_extjson.proofs.Escapes.{fits_32}
-use Rattle.bd_extjson.proofs.Written.{written-int32}
+use Rattle.bd_extjson.proofs.EscapeLemmas.{fits_32}
+use Rattle.bd_extjson.proofs.TextLemmas.{written-int32}
 use Rattle.bd_extjson.proofs.scalar.write_int32.Goals as goal
 
 pub returns-clause-ok : goal.returns-clause-ok

@@ -1,4 +1,4 @@
-use Rattle.bd_extjson.proofs.Written.{written-object_id}
+use Rattle.bd_extjson.proofs.TextLemmas.{written-object_id}
 use Rattle.bd_extjson.proofs.scalar.write_object_id.Goals as goal
 
 pub returns-clause-ok : goal.returns-clause-ok

@@ -1,4 +1,4 @@
-use Rattle.bd_extjson.proofs.Written.{written-regex}
+use Rattle.bd_extjson.proofs.TextLemmas.{written-regex}
 use Rattle.bd_extjson.proofs.scalar.write_regex.Goals as goal
 
 pub returns-clause-ok : goal.returns-clause-ok

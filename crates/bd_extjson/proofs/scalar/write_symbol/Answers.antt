@@ -1,4 +1,4 @@
-use Rattle.bd_extjson.proofs.Written.{written-symbol}
+use Rattle.bd_extjson.proofs.TextLemmas.{written-symbol}
 use Rattle.bd_extjson.proofs.scalar.write_symbol.Goals as goal
 
 pub returns-clause-ok : goal.returns-clause-ok

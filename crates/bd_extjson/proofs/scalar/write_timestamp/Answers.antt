@@ -1,7 +1,7 @@
 use Rattle.std.proofs.Common.{arith}
 use Rattle.std.specs.Io.{StartsWith}
-use Rattle.bd_value.proofs.Fronts.{front_all, front_more}
-use Rattle.bd_extjson.proofs.Written.{written-timestamp}
+use Rattle.bd_value.proofs.FrontLemmas.{front_all, front_more}
+use Rattle.bd_extjson.proofs.TextLemmas.{written-timestamp}
 use Rattle.bd_extjson.proofs.scalar.write_timestamp.Goals as goal
 
 pub returns-clause-ok : goal.returns-clause-ok

@@ -4,12 +4,12 @@ use Rattle.std.specs.Io.{StartsWith}
 use Rattle.std.specs.List.{join_with_byte}
 use Rattle.bd_value.specs.Tree.{doc, fields_of, items_of}
 use Rattle.bd_value.specs.Parts.{values_of}
-use Rattle.bd_value.specs.Seen.{seen}
+use Rattle.bd_value.specs.OwnPart.{seen}
 use Rattle.bd_extjson.specs.Text.{text, fields_text, items_text}
-use Rattle.bd_value.proofs.Fronts.{fronts, front_all, front_more, front_then}
-use Rattle.bd_extjson.proofs.Parts.{parts_smaller, rest_smaller, text_of-doc, text_of-array, text_of-scope}
-use Rattle.bd_extjson.proofs.Pieces.{to_come-all}
-use Rattle.bd_extjson.proofs.Steps.{field_step}
+use Rattle.bd_value.proofs.FrontLemmas.{fronts, front_all, front_more, front_then}
+use Rattle.bd_extjson.proofs.PartLemmas.{parts_smaller, rest_smaller, text_of-doc, text_of-array, text_of-scope}
+use Rattle.bd_extjson.proofs.PieceLemmas.{to_come-all}
+use Rattle.bd_extjson.proofs.PairLemmas.{field_step}
 use Rattle.bd_extjson.proofs.text.+text.Goals as goal
 
 pub append_fields-loop-name-init : goal.append_fields-loop-name-init

@@ -3,7 +3,7 @@ use Rattle.std.specs.Io.{StartsWith}
 use Rattle.bd_value.specs.Tree.{doc, array, fields_of, items_of, tree_size, fields_size}
 use Rattle.bd_value.specs.Parts.{values_of}
 use Rattle.bd_extjson.specs.Text.{text, items_text, fields_text}
-use Rattle.bd_extjson.proofs.Pieces.{to_come}
+use Rattle.bd_extjson.proofs.PieceLemmas.{to_come}
 use Rattle.bd_extjson.proofs.text.+text.Given as goal
 
 abbrev pub decreases-append_node : goal.decreases-append_node

@@ -1,10 +1,10 @@
 use Rattle.std.proofs.Common.{List, ℕ, refl}
 use Rattle.bd_value.specs.Tree.{Doc}
-use Rattle.bd_write.specs.Written.{SpellsPlainly}
-use Rattle.bd_write.proofs.Spelled.{plainly_spells}
-use Rattle.bd_extjson.proofs.ReadsFit.{reads_sound}
+use Rattle.bd_write.specs.TreeBytes.{SpellsPlainly}
+use Rattle.bd_write.proofs.TreeBytesLemmas.{plainly_spells}
+use Rattle.bd_extjson.proofs.FitLemmas.{reads_sound}
 use Rattle.bd_pack.specs.Packable.{plain, IsPackable}
-use Rattle.bd_pack.proofs.ReadsPlain.{reads_plain}
+use Rattle.bd_pack.proofs.PlainLemmas.{reads_plain}
 use Rattle.bd_pack.proofs.laws.packs_documents.Goals as goal
 
 plainly : (line : List ℕ) (d : Doc) → IsPackable line d → SpellsPlainly d (plain d)

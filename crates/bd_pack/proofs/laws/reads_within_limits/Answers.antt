@@ -1,4 +1,4 @@
-use Rattle.bd_pack.proofs.ReadsPlain.{reads_plain}
+use Rattle.bd_pack.proofs.PlainLemmas.{reads_plain}
 use Rattle.bd_pack.proofs.laws.reads_within_limits.Goals as goal
 
 pub returns-clause-deep : goal.returns-clause-deep

@@ -2,7 +2,7 @@ use Rattle.std.proofs.Common.{◌<◌, Err, true≢false, ap, sym, ◌∙◌, ar
 use Rattle.bd_value.specs.Depth.{depth}
 use Rattle.bd_value.specs.Tree.{doc, fields_of}
 use Rattle.bd_value.specs.View.{pairs}
-use Rattle.bd_pack.proofs.ReadsPlain.{reads_plain}
+use Rattle.bd_pack.proofs.PlainLemmas.{reads_plain}
 use Rattle.bd_pack.proofs.line.pack_tree.Goals as goal
 
 pub unreachable-requires : goal.unreachable-requires

@@ -9,15 +9,15 @@ use Rattle.bd_value.specs.Tree.{Tree, leaf, doc, array, item, field, fields_of, 
 use Rattle.bd_value.specs.View.{tree_of}
 use Rattle.bd_raw.specs.Spelling.{number, element}
 use Rattle.bd_raw.specs.Types.{type_byte}
-use Rattle.bd_write.specs.Written.{bytes_of, fields_bytes, items_bytes}
+use Rattle.bd_write.specs.TreeBytes.{bytes_of, fields_bytes, items_bytes}
 use Rattle.bd_wrapper.specs.Whole.{whole_64}
 use Rattle.bd_value.specs.declared.kind.Kind.TheVariants as kinds
-use Rattle.bd_extjson.specs.Wrap.{bare_number, wrap, wrap_items, wrap_object, wrap_fields}
+use Rattle.bd_extjson.specs.Meaning.{bare_number, wrap, wrap_items, wrap_object, wrap_fields}
 use Rattle.bd_wrapper.specs.Progress.{through, after_key}
-use Rattle.bd_extjson.proofs.Turns as steps
-use Rattle.bd_extjson.proofs.Turns.{items_before, fields_before}
-use Rattle.bd_pack.proofs.Bodies as bodies
-use Rattle.bd_pack.proofs.ReadsPlain as plains
+use Rattle.bd_extjson.proofs.StepLemmas as steps
+use Rattle.bd_extjson.proofs.StepLemmas.{items_before, fields_before}
+use Rattle.bd_pack.proofs.BodyLemmas as bodies
+use Rattle.bd_pack.proofs.PlainLemmas as plains
 use Rattle.bd_pack.proofs.tokens.+tokens.Goals as goal
 
 -- ---- append_fields

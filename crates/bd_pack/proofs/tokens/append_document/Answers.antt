@@ -3,12 +3,12 @@ use Rattle.std.proofs.lemmas.Result.{MatchResult-at_ok}
 use Rattle.json.specs.Json.{value, parse_map}
 use Rattle.json.specs.Reads.{token_of}
 use Rattle.bd_value.specs.Tree.{doc}
-use Rattle.bd_extjson.specs.Wrap.{wrap, wrap_object}
+use Rattle.bd_extjson.specs.Meaning.{wrap, wrap_object}
 use Rattle.bd_wrapper.specs.Wrappers.{wrapper_of}
 use Rattle.bd_wrapper.specs.Progress.{through}
-use Rattle.bd_extjson.proofs.Turns as steps
-use Rattle.bd_extjson.proofs.WholeText.{whole_text}
-use Rattle.bd_pack.proofs.Bodies as bodies
+use Rattle.bd_extjson.proofs.StepLemmas as steps
+use Rattle.bd_extjson.proofs.WholeTextLemmas.{whole_text}
+use Rattle.bd_pack.proofs.BodyLemmas as bodies
 use Rattle.bd_pack.proofs.tokens.append_document.Goals as goal
 
 pub returns-clause-gives : goal.returns-clause-gives

@@ -1,10 +1,10 @@
 use Rattle.std.proofs.Common.{◌≡◌, length, option_map, option_and_then, sym, ap, ◌∙◌, arith}
 use Rattle.std.proofs.lemmas.Result.{MatchResult-at_ok}
 use Rattle.bd_value.specs.Tree.{doc, pairs_of, fields_of, fields_of-pairs_of}
-use Rattle.bd_write.specs.Written.{bytes_of}
-use Rattle.bd_extjson.specs.Wrap.{wrap}
-use Rattle.bd_extjson.specs.Reads.{document, json}
-use Rattle.bd_pack.proofs.Bodies as bodies
+use Rattle.bd_write.specs.TreeBytes.{bytes_of}
+use Rattle.bd_extjson.specs.Meaning.{wrap}
+use Rattle.bd_extjson.specs.TextDocument.{document, json}
+use Rattle.bd_pack.proofs.BodyLemmas as bodies
 use Rattle.bd_pack.proofs.tokens.spell_line.Goals as goal
 
 pub returns : goal.returns

@@ -3,10 +3,10 @@ use Rattle.std.specs.List.{list_any}
 use Rattle.bd_value.specs.Lookup.{first_of}
 use Rattle.bd_value.specs.Parts.{elements_in}
 use Rattle.bd_value.specs.Tree.{Tree, items_of, pairs_in}
-use Rattle.bd_value.proofs.Parted as parted
+use Rattle.bd_value.proofs.PartsLemmas as parted
 use Rattle.bd_path.specs.Component.{index_of}
 use Rattle.bd_path.specs.Names.{Names, component_names}
-use Rattle.bd_path.specs.Reach.{ends, gather_at, gather_each, reach}
+use Rattle.bd_path.specs.Reach.{ends, gathering_at, each_gathering, reach}
 use Rattle.bd_path.proofs.EndsLemmas as some_end
 use Rattle.bd_path.proofs.ReachLemmas as down
 use Rattle.bd_path.proofs.ends.+ends.Goals as goal
@@ -87,8 +87,8 @@ any_end_below-returns-then-any_end_in_documents g t c =
     let name = string_bytes c.in-Some.component.now.name in
     let rest = component_names c.in-Some.rest.now in
     let p : component_names c.args.path.now ≡ name ∷ rest = ap component_names c.in-Some.ensures.cases.0 in
-    some_end.in_first f c.any_end_in_documents.result (gather_each ends (items_of (elements_in n)) (name ∷ rest)) (gather_at ends (items_of (elements_in n)) (index_of name) rest) _
-    (c.any_end_in_documents.ensures ∙ ap (λ (x : Names). list_any f (gather_each ends (items_of (elements_in n)) x)) p) c.if-any_end_in_documents.true
+    some_end.in_first f c.any_end_in_documents.result (each_gathering ends (items_of (elements_in n)) (name ∷ rest)) (gathering_at ends (items_of (elements_in n)) (index_of name) rest) _
+    (c.any_end_in_documents.ensures ∙ ap (λ (x : Names). list_any f (each_gathering ends (items_of (elements_in n)) x)) p) c.if-any_end_in_documents.true
     (ap (reach n) p ∙ down.of_elements ends n name rest (sym c.kind.ensures ∙ c.in-Array.is))
 
 pub any_end_below-returns-else-any_end_in_documents : goal.any_end_below-returns-else-any_end_in_documents
@@ -98,8 +98,8 @@ any_end_below-returns-else-any_end_in_documents g t c =
     let name = string_bytes c.in-Some.component.now.name in
     let rest = component_names c.in-Some.rest.now in
     let p : component_names c.args.path.now ≡ name ∷ rest = ap component_names c.in-Some.ensures.cases.0 in
-    some_end.in_second f c.any_end_in_documents.result c.any_end_at_index.result (gather_each ends (items_of (elements_in n)) (name ∷ rest)) (gather_at ends (items_of (elements_in n)) (index_of name) rest) _
-    (c.any_end_in_documents.ensures ∙ ap (λ (x : Names). list_any f (gather_each ends (items_of (elements_in n)) x)) p) c.if-any_end_in_documents.false
+    some_end.in_second f c.any_end_in_documents.result c.any_end_at_index.result (each_gathering ends (items_of (elements_in n)) (name ∷ rest)) (gathering_at ends (items_of (elements_in n)) (index_of name) rest) _
+    (c.any_end_in_documents.ensures ∙ ap (λ (x : Names). list_any f (each_gathering ends (items_of (elements_in n)) x)) p) c.if-any_end_in_documents.false
     c.any_end_at_index.ensures (ap (reach n) p ∙ down.of_elements ends n name rest (sym c.kind.ensures ∙ c.in-Array.is))
 
 pub any_end_in_documents-loop-element-init : goal.any_end_in_documents-loop-element-init
@@ -107,6 +107,6 @@ any_end_in_documents-loop-element-init g t c =
     let n = g.N.Reading.tree c.args.node in
     let f = g.T.EndTest.passes c.args.test.now in
     record {
-      so_far = ap (λ (es : List Tree). list_any f (gather_each ends (items_of es) (component_names c.args.path.now))) (down.parts_are n (g.N.Reading.left c.parts-left.result) c.requires c.parts-left.ensures.parts);
+      so_far = ap (λ (es : List Tree). list_any f (each_gathering ends (items_of es) (component_names c.args.path.now))) (down.parts_are n (g.N.Reading.left c.parts-left.result) c.requires c.parts-left.ensures.parts);
       smaller = parted.parts_smaller n (g.N.Reading.left c.parts-left.result) c.parts-left.ensures.parts;
     }

@@ -4,7 +4,7 @@ use Rattle.bd_value.specs.Tree.{leaf}
 use Rattle.bd_path.specs.KeyList.{keys}
 use Rattle.bd_path.specs.Reach.{reach}
 use Rattle.bd_path.proofs.LawsLemmas.{has_a_key, missing_gives_null, nothing_gives_null}
-use Rattle.bd_path.proofs.Members.{contains_from, in_from}
+use Rattle.bd_path.proofs.MemberLemmas.{contains_from, in_from}
 use Rattle.bd_path.proofs.laws.keys_are_there.Goals as goal
 
 pub returns-clause-some : goal.returns-clause-some

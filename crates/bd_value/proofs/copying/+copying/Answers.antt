@@ -1,8 +1,8 @@
 use Rattle.std.proofs.Common.{◌≡◌, Option, Some, sym, ap, ap₂, ◌∙◌, arith}
 use Rattle.bd_value.specs.Tree.{doc, array, code_scope, fields_of, items_of}
-use Rattle.bd_value.specs.Seen.{Own, own_code, own_of, seen}
-use Rattle.bd_value.proofs.Parted as parted
-use Rattle.bd_value.proofs.Views.{tree_of-Doc, tree_of-Array, tree_of-CodeScope}
+use Rattle.bd_value.specs.OwnPart.{Own, own_code, own_of, seen}
+use Rattle.bd_value.proofs.PartsLemmas as parted
+use Rattle.bd_value.proofs.ViewLemmas.{tree_of-Doc, tree_of-Array, tree_of-CodeScope}
 use Rattle.bd_value.proofs.copying.+copying.Goals as goal
 
 pub to_value-to_document-requires : goal.to_value-to_document-requires

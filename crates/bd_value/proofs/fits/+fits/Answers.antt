@@ -1,8 +1,8 @@
 use Rattle.std.proofs.Common.{◌∙◌, ap, sym, inl, inr, arith}
 use Rattle.std.specs.Prelude.{option_map}
-use Rattle.bd_value.specs.Seen.{seen}
+use Rattle.bd_value.specs.OwnPart.{seen}
 use Rattle.bd_value.proofs.FitsLemmas as fitting
-use Rattle.bd_value.proofs.Parted.{parts_smaller}
+use Rattle.bd_value.proofs.PartsLemmas.{parts_smaller}
 use Rattle.bd_value.proofs.fits.+fits.Goals as goal
 use Rattle.bd_value.proofs.fits.+fits.Goals.{node_fits-in-Some, node_fits-in_default-leaf}
 

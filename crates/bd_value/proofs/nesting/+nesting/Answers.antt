@@ -1,5 +1,5 @@
 use Rattle.std.proofs.Common.{rules, arith, ◌≡◌, []}
-use Rattle.bd_value.proofs.Parted as parted
+use Rattle.bd_value.proofs.PartsLemmas as parted
 use Rattle.bd_value.proofs.nesting.+nesting.Goals as goal
 
 pub deepest-returns : goal.deepest-returns

@@ -1,6 +1,6 @@
 use Rattle.std.proofs.Common.{sym, ◌∙◌, arith}
 use Rattle.bd_value.proofs.OrderLemmas as ordered
-use Rattle.bd_value.proofs.Parted as parted
+use Rattle.bd_value.proofs.PartsLemmas as parted
 use Rattle.bd_value.proofs.order.+order.Goals as goal
 
 pub compare_scopes-compare_documents-requires : goal.compare_scopes-compare_documents-requires

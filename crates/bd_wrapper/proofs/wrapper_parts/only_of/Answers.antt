@@ -1,5 +1,5 @@
 use Rattle.std.proofs.Common.{sym, arith}
-use Rattle.bd_wrapper.proofs.Members.{not_one}
+use Rattle.bd_wrapper.proofs.MemberLemmas.{not_one}
 use Rattle.bd_wrapper.proofs.wrapper_parts.only_of.Goals as goal
 
 pub returns-then-members-ne1 : goal.returns-then-members-ne1

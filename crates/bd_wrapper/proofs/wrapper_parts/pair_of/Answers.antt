@@ -1,5 +1,5 @@
 use Rattle.std.proofs.Common.{sym, arith}
-use Rattle.bd_wrapper.proofs.Members.{not_two}
+use Rattle.bd_wrapper.proofs.MemberLemmas.{not_two}
 use Rattle.bd_wrapper.proofs.wrapper_parts.pair_of.Goals as goal
 
 pub returns-then-members-ne2 : goal.returns-then-members-ne2

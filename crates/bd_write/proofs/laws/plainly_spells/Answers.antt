@@ -1,4 +1,4 @@
-use Rattle.bd_write.proofs.Spelled as written
+use Rattle.bd_write.proofs.TreeBytesLemmas as written
 use Rattle.bd_write.proofs.laws.plainly_spells.Goals as goal
 
 pub returns : goal.returns

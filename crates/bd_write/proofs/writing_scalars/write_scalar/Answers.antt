@@ -1,5 +1,5 @@
 use Rattle.std.proofs.Common.{rules, refl}
-use Rattle.bd_write.proofs.Writes.{are_names}
+use Rattle.bd_write.proofs.WritingLemmas.{are_names}
 use Rattle.bd_write.proofs.writing_scalars.write_scalar.Goals as goal
 
 pub returns-in_ok-write_regex-in-Regex-clause-spells : goal.returns-in_ok-write_regex-in-Regex-clause-spells

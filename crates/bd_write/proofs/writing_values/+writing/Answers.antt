@@ -4,14 +4,14 @@ use Rattle.std.specs.Prelude.{OnOk, IfErr, decimal}
 use Rattle.std.proofs.lemmas.Result.{err_from_is_err_and}
 use Rattle.bd_value.specs.Tree.{Tree, doc, fields_of, items_of}
 use Rattle.bd_value.specs.Parts.{values_of}
-use Rattle.bd_value.specs.Seen.{seen}
+use Rattle.bd_value.specs.OwnPart.{seen}
 use Rattle.bd_value.specs.Zeros.{has_zero}
-use Rattle.bd_value.proofs.Fronts.{front_all, front_more, front_then}
-use Rattle.bd_value.proofs.Parted as parted
+use Rattle.bd_value.proofs.FrontLemmas.{front_all, front_more, front_then}
+use Rattle.bd_value.proofs.PartsLemmas as parted
 use Rattle.bd_raw.specs.Spelling.{number, string, scoped, element, IsValue, AreItems}
-use Rattle.bd_write.specs.Written.{bytes_of, fields_bytes, items_bytes, OverrunsLimit}
+use Rattle.bd_write.specs.TreeBytes.{bytes_of, fields_bytes, items_bytes, OverrunsLimit}
 use Rattle.bd_raw.specs.Scalars.{number_length}
-use Rattle.bd_write.proofs.Writes as writes
+use Rattle.bd_write.proofs.WritingLemmas as writes
 use Rattle.bd_write.proofs.writing_values.+writing.Goals as goal
 
 pub append_element-returns-clause-spells : goal.append_element-returns-clause-spells

@@ -4,7 +4,7 @@ use Rattle.bd_value.specs.Tree.{fields_of, items_of, tree_size, fields_size}
 use Rattle.bd_value.specs.Parts.{values_of}
 use Rattle.bd_value.specs.Zeros.{zero_in_fields, zero_in_items}
 use Rattle.bd_raw.specs.Spelling.{number, AreFields, AreItems}
-use Rattle.bd_write.specs.Written.{fields_bytes, items_bytes}
+use Rattle.bd_write.specs.TreeBytes.{fields_bytes, items_bytes}
 use Rattle.bd_write.proofs.writing_values.+writing.Given as goal
 
 abbrev pub decreases-put_value : goal.decreases-put_value

@@ -1,7 +1,7 @@
 use Rattle.std.proofs.Common.{arith, sym, ap, ◌∙◌}
-use Rattle.bd_value.proofs.Parted as parted
+use Rattle.bd_value.proofs.PartsLemmas as parted
 use Rattle.bd_value.specs.Zeros.{zero_in}
-use Rattle.bd_write.proofs.Writes as writes
+use Rattle.bd_write.proofs.WritingLemmas as writes
 use Rattle.bd_write.proofs.zeros.+zeros.Goals as goal
 
 pub holds_zero-zero_in_some-requires : goal.holds_zero-zero_in_some-requires

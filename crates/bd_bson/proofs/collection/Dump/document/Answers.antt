@@ -3,7 +3,7 @@ use Rattle.bd_value.specs.Tree.{Tree, pairs_in}
 use Rattle.bd_value.specs.declared.kind.Kind.TheVariants as kinds
 use Rattle.bd_bson.specs.Collection.{documents}
 use Rattle.bd_raw.specs.Sound.{Sound}
-use Rattle.bd_bson.proofs.Collects.{documents_length, start_at, start_inside, stands_there, document_of}
+use Rattle.bd_bson.proofs.CollectionLemmas.{documents_length, start_at, start_inside, stands_there, document_of}
 use Rattle.bd_bson.proofs.collection.Dump.document.Goals as goal
 
 pub index-requires : goal.index-requires

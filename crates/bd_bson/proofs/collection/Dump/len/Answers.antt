@@ -1,5 +1,5 @@
 use Rattle.std.proofs.Common.{arith}
-use Rattle.bd_bson.proofs.Collects.{documents_length}
+use Rattle.bd_bson.proofs.CollectionLemmas.{documents_length}
 use Rattle.bd_bson.proofs.collection.Dump.len.Goals as goal
 
 pub returns : goal.returns

@@ -1,5 +1,5 @@
 use Rattle.bd_cli.specs.Find.Answer.{answer}
-use Rattle.bd_cli.proofs.FindLemmas.Kept.{rises_ascending}
+use Rattle.bd_cli.proofs.FindLemmas.OrderLemmas.{rises_ascending}
 use Rattle.bd_cli.proofs.FindLemmas.AnswerLemmas.{answer_rises, each_match, each_answer}
 use Rattle.bd_cli.proofs.find.answer_laws.answers_are_ordered.Goals as goal
 

@@ -1,7 +1,7 @@
 use Rattle.std.proofs.Common.{sym, ap, ◌∙◌}
 use Rattle.std.specs.Int.{w32}
 use Rattle.std.proofs.lemmas.Int.{to_z-of_z}
-use Rattle.bd_value.proofs.Parted.{array_is}
+use Rattle.bd_value.proofs.PartsLemmas.{array_is}
 use Rattle.bd_cli.specs.Find.Equality.{value_matches}
 use Rattle.bd_cli.proofs.find.equality.value_matches.Goals as goal
 

@@ -7,8 +7,8 @@ use Rattle.bd_cli.specs.Pack.{lines_of}
 pub returns-in-Some-clause-line : goal.returns-in-Some-clause-line
 returns-in-Some-clause-line c =
     let text = c.args.text.now in
-    let behind = drop (c.in-Some.end + 1) text in
-    let whole : take (length text - (c.in-Some.end + 1)) behind ≡ behind = take_all (length text - (c.in-Some.end + 1)) behind (omega (arith, length-drop (c.in-Some.end + 1) text)) in
+    let after = drop (c.in-Some.end + 1) text in
+    let whole : take (length text - (c.in-Some.end + 1)) after ≡ after = take_all (length text - (c.in-Some.end + 1)) after (omega (arith, length-drop (c.in-Some.end + 1) text)) in
     cut_at text c.in-Some.end c.in-Some.ensures ∙ ap (λ x. take c.in-Some.end text ∷ lines_of x) (sym whole)
 
 pub returns-in-None-clause-line : goal.returns-in-None-clause-line

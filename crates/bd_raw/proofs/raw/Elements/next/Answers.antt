@@ -1,6 +1,6 @@
 use Rattle.std.proofs.Common.{◌∙◌, length, ◌≡◌, refl}
 use Rattle.bd_value.specs.Kind.{kind_of}
-use Rattle.bd_raw.proofs.Steps as s
+use Rattle.bd_raw.proofs.ElementsLemmas as s
 use Rattle.bd_raw.proofs.raw.Elements.next.Goals as goal
 
 pub bounds-self-self : goal.bounds-self-self

@@ -1,4 +1,4 @@
-use Rattle.bd_raw.proofs.Whole.{same_tree}
+use Rattle.bd_raw.proofs.SoundLemmas.{same_tree}
 use Rattle.bd_raw.proofs.raw.RawDoc.at.Goals as goal
 
 pub returns-clause-stands : goal.returns-clause-stands

@@ -1,7 +1,7 @@
 use Rattle.std.proofs.Common.{refl}
 use Rattle.bd_value.specs.declared.kind.Kind.TheVariants as kinds
-use Rattle.bd_raw.proofs.Viewed.{document_left}
-use Rattle.bd_raw.proofs.Whole.{document_elements}
+use Rattle.bd_raw.proofs.ContentsLemmas.{document_left}
+use Rattle.bd_raw.proofs.SoundLemmas.{document_elements}
 use Rattle.bd_raw.proofs.raw.RawDoc.elements.Goals as goal
 
 pub invariant_of-result : goal.invariant_of-result

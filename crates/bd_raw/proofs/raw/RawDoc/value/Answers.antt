@@ -1,6 +1,6 @@
 use Rattle.std.proofs.Common.{sym, ◌∙◌}
 use Rattle.bd_raw.specs.Sound.{stands_is}
-use Rattle.bd_raw.proofs.Whole.{document_tree}
+use Rattle.bd_raw.proofs.SoundLemmas.{document_tree}
 use Rattle.bd_raw.proofs.raw.RawDoc.value.Goals as goal
 
 pub returns-clause-value : goal.returns-clause-value

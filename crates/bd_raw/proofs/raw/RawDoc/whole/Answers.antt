@@ -1,5 +1,5 @@
 use Rattle.std.proofs.Common.{rules}
-use Rattle.bd_raw.proofs.Whole.{whole_sound, whole_is}
+use Rattle.bd_raw.proofs.SoundLemmas.{whole_sound, whole_is}
 use Rattle.bd_raw.proofs.raw.RawDoc.whole.Goals as goal
 
 pub invariant_of-result : goal.invariant_of-result

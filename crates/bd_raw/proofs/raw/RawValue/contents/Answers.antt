@@ -1,10 +1,10 @@
 use Rattle.std.proofs.Common.{◌≡◌, ◌+◌, ◌∙◌, drop, length, List, ℕ, sym, ap, subst, arith}
 use Rattle.std.proofs.lemmas.List.{drop-drop}
-use Rattle.bd_value.specs.Seen.{own}
-use Rattle.bd_raw.specs.Reads.{TextAt, HasBytesOf}
+use Rattle.bd_value.specs.OwnPart.{own}
+use Rattle.bd_raw.specs.ValueAt.{TextAt, HasBytesOf}
 use Rattle.bd_raw.specs.Sizes.{number_of, text_of, scalar_at}
-use Rattle.bd_raw.proofs.Readable.{reads_at}
-use Rattle.bd_raw.proofs.Viewed as v
+use Rattle.bd_raw.proofs.ValueAtLemmas.{reads_at}
+use Rattle.bd_raw.proofs.ContentsLemmas as v
 use Rattle.bd_raw.proofs.raw.RawValue.contents.Goals as goal
 
 pub invariant_of-result : goal.invariant_of-result
@@ -27,28 +27,28 @@ split_at-requires-in-CodeScope c =
 
 pub number-requires : goal.number-requires
 number-requires c =
-    let behind : c.split_at-in-CodeScope.result.1.now ≡ drop (c.args.self.start + 4) c.args.self.bytes.now = c.split_at-in-CodeScope.ensures.back ∙ ap (drop 4) c.split_at.ensures.back ∙ drop-drop 4 c.args.self.start c.args.self.bytes.now in
+    let after : c.split_at-in-CodeScope.result.1.now ≡ drop (c.args.self.start + 4) c.args.self.bytes.now = c.split_at-in-CodeScope.ensures.back ∙ ap (drop 4) c.split_at.ensures.back ∙ drop-drop 4 c.args.self.start c.args.self.bytes.now in
     let t = v.code_reads c.args.self.bytes.now c.args.self.start c.args.self.kind c.args.self.sound c.in-CodeScope.is in
     let i = t.inside in
-    let e = ap (λ (x : List ℕ). length x) behind in
+    let e = ap (λ (x : List ℕ). length x) after in
     omega arith
 
 pub text-requires : goal.text-requires
 text-requires c =
-    let behind : c.split_at-in-CodeScope.result.1.now ≡ drop (c.args.self.start + 4) c.args.self.bytes.now = c.split_at-in-CodeScope.ensures.back ∙ ap (drop 4) c.split_at.ensures.back ∙ drop-drop 4 c.args.self.start c.args.self.bytes.now in
-    subst TextAt (sym behind) (v.code_reads c.args.self.bytes.now c.args.self.start c.args.self.kind c.args.self.sound c.in-CodeScope.is)
+    let after : c.split_at-in-CodeScope.result.1.now ≡ drop (c.args.self.start + 4) c.args.self.bytes.now = c.split_at-in-CodeScope.ensures.back ∙ ap (drop 4) c.split_at.ensures.back ∙ drop-drop 4 c.args.self.start c.args.self.bytes.now in
+    subst TextAt (sym after) (v.code_reads c.args.self.bytes.now c.args.self.start c.args.self.kind c.args.self.sound c.in-CodeScope.is)
 
 pub invariant_of-scope : goal.invariant_of-scope
 invariant_of-scope c =
-    let behind : c.split_at-in-CodeScope.result.1.now ≡ drop (c.args.self.start + 4) c.args.self.bytes.now = c.split_at-in-CodeScope.ensures.back ∙ ap (drop 4) c.split_at.ensures.back ∙ drop-drop 4 c.args.self.start c.args.self.bytes.now in
-    let n = c.number.ensures ∙ ap number_of behind in
+    let after : c.split_at-in-CodeScope.result.1.now ≡ drop (c.args.self.start + 4) c.args.self.bytes.now = c.split_at-in-CodeScope.ensures.back ∙ ap (drop 4) c.split_at.ensures.back ∙ drop-drop 4 c.args.self.start c.args.self.bytes.now in
+    let n = c.number.ensures ∙ ap number_of after in
     record { inside = v.scope_inside c.args.self.bytes.now c.args.self.start c.args.self.kind c.args.self.sound c.in-CodeScope.is c.number.result n; sound = v.scope_sound c.args.self.bytes.now c.args.self.start c.args.self.kind c.args.self.sound c.in-CodeScope.is c.number.result n }
 
 pub returns-in-CodeScope-clause-holds : goal.returns-in-CodeScope-clause-holds
 returns-in-CodeScope-clause-holds c =
-    let behind : c.split_at-in-CodeScope.result.1.now ≡ drop (c.args.self.start + 4) c.args.self.bytes.now = c.split_at-in-CodeScope.ensures.back ∙ ap (drop 4) c.split_at.ensures.back ∙ drop-drop 4 c.args.self.start c.args.self.bytes.now in
-    let n = c.number.ensures ∙ ap number_of behind in
-    let t = c.text.ensures.text ∙ ap text_of behind in
+    let after : c.split_at-in-CodeScope.result.1.now ≡ drop (c.args.self.start + 4) c.args.self.bytes.now = c.split_at-in-CodeScope.ensures.back ∙ ap (drop 4) c.split_at.ensures.back ∙ drop-drop 4 c.args.self.start c.args.self.bytes.now in
+    let n = c.number.ensures ∙ ap number_of after in
+    let t = c.text.ensures.text ∙ ap text_of after in
     v.code_is c.args.self.bytes.now c.args.self.start c.args.self.kind c.args.self.sound c.in-CodeScope.is c.number.result c.text.result.now _ n t
 
 pub scalar-requires : goal.scalar-requires

@@ -1,5 +1,5 @@
 use Rattle.bd_raw.specs.Sound.{stands, elements_left}
-use Rattle.bd_raw.proofs.Asked.{document_elements, array_elements}
+use Rattle.bd_raw.proofs.LookupLemmas.{document_elements, array_elements}
 use Rattle.bd_raw.proofs.raw.RawValue.elements.Goals as goal
 
 pub returns-in-Document-clause-some : goal.returns-in-Document-clause-some

@@ -1,7 +1,7 @@
 use Rattle.std.proofs.Common.{arith, ap, ◌∙◌, drop, ◌+◌, ℕ}
 use Rattle.bd_raw.specs.Sizes.{size_of}
-use Rattle.bd_raw.proofs.Readable.{reads_at, size_at}
-use Rattle.bd_raw.proofs.Steps.{value_fits}
+use Rattle.bd_raw.proofs.ValueAtLemmas.{reads_at, size_at}
+use Rattle.bd_raw.proofs.ElementsLemmas.{value_fits}
 use Rattle.bd_raw.proofs.raw.RawValue.end.Goals as goal
 
 pub overflow_add-result : goal.overflow_add-result

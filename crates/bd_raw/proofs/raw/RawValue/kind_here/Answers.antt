@@ -1,7 +1,7 @@
 use Rattle.std.proofs.Common.{◌∙◌, sym, ap}
 use Rattle.bd_value.specs.Kind.{kind_of}
 use Rattle.bd_raw.specs.Sound.{stands_is}
-use Rattle.bd_raw.proofs.Readable.{kind_is}
+use Rattle.bd_raw.proofs.ValueAtLemmas.{kind_is}
 use Rattle.bd_raw.proofs.raw.RawValue.kind_here.Goals as goal
 
 pub returns : goal.returns

@@ -1,5 +1,5 @@
 use Rattle.bd_raw.specs.Sound.{stands, elements_left}
-use Rattle.bd_raw.proofs.Asked.{pair_inside, pair_is}
+use Rattle.bd_raw.proofs.LookupLemmas.{pair_inside, pair_is}
 use Rattle.bd_raw.proofs.views.RawValueNode.pair.Goals as goal
 
 pub nth-requires : goal.nth-requires

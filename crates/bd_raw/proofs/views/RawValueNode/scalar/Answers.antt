@@ -1,6 +1,6 @@
 use Rattle.std.proofs.Common.{Some, sym, ap, ◌∙◌}
-use Rattle.bd_value.specs.Seen.{own_code, own_of, seen}
-use Rattle.bd_raw.proofs.Shorter.{own_short}
+use Rattle.bd_value.specs.OwnPart.{own_code, own_of, seen}
+use Rattle.bd_raw.proofs.ShortLemmas.{own_short}
 use Rattle.bd_raw.proofs.views.RawValueNode.scalar.Goals as goal
 
 pub returns-in-Scalar-clause-short : goal.returns-in-Scalar-clause-short

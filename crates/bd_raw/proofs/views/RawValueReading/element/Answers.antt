@@ -1,5 +1,5 @@
 use Rattle.bd_raw.specs.Sound.{stands, elements_left}
-use Rattle.bd_raw.proofs.Asked.{element_inside, element_is}
+use Rattle.bd_raw.proofs.LookupLemmas.{element_inside, element_is}
 use Rattle.bd_raw.proofs.views.RawValueReading.element.Goals as goal
 
 pub nth-requires : goal.nth-requires

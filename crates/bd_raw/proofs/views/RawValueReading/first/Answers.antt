@@ -1,7 +1,7 @@
 use Rattle.std.proofs.Common.{sym, ap, ◌∙◌}
 use Rattle.bd_value.specs.Lookup.{first_of}
 use Rattle.bd_raw.specs.Sound.{stands, elements_left}
-use Rattle.bd_raw.proofs.Asked.{document_pairs}
+use Rattle.bd_raw.proofs.LookupLemmas.{document_pairs}
 use Rattle.bd_raw.proofs.views.RawValueReading.first.Goals as goal
 
 pub returns-in-Document-clause-first : goal.returns-in-Document-clause-first

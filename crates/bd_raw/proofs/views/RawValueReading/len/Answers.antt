@@ -1,6 +1,6 @@
 use Rattle.std.proofs.Common.{sym, ◌∙◌}
 use Rattle.bd_raw.specs.Sound.{stands, elements_left}
-use Rattle.bd_raw.proofs.Asked.{document_length, array_length}
+use Rattle.bd_raw.proofs.LookupLemmas.{document_length, array_length}
 use Rattle.bd_raw.proofs.views.RawValueReading.len.Goals as goal
 
 pub returns-in-Document : goal.returns-in-Document

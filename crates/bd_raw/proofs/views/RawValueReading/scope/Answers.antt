@@ -1,7 +1,7 @@
 use Rattle.bd_value.specs.Tree.{pairs_in, fields_of}
 use Rattle.bd_raw.specs.Sound.{stands}
-use Rattle.bd_raw.proofs.Asked.{scope_is}
-use Rattle.bd_raw.proofs.Whole.{document_tree}
+use Rattle.bd_raw.proofs.LookupLemmas.{scope_is}
+use Rattle.bd_raw.proofs.SoundLemmas.{document_tree}
 use Rattle.bd_raw.proofs.views.RawValueReading.scope.Goals as goal
 
 pub returns-in-CodeScope-clause-scope : goal.returns-in-CodeScope-clause-scope

@@ -1,6 +1,6 @@
 use Rattle.std.proofs.Common.{rules}
 use Rattle.std.proofs.lemmas.Result.{err_from_is_err_and}
-use Rattle.bd_stream.proofs.Frames.{joined_gave}
+use Rattle.bd_stream.proofs.FrameLemmas.{joined_gave}
 use Rattle.bd_stream.specs.NextDocument.{HoldsNone}
 use Rattle.bd_stream.proofs.NextDocumentLemmas.{fails_after, reads_joined}
 use Rattle.bd_stream.proofs.doc_buffer.DocBuffer.advance.Goals as goal

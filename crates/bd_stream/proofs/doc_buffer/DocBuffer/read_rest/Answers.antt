@@ -2,7 +2,7 @@ use Rattle.std.proofs.Common.{rules, arith, ℕ, subst, sym, ◌∙◌, inl, ref
 use Rattle.std.proofs.lemmas.Result.{err_from_is_err_and}
 use Rattle.std.proofs.KnownBytes.{Consumes-nil}
 use Rattle.bd_check.specs.Dump.{length_told}
-use Rattle.bd_stream.proofs.Frames.{frame_cut, has_cut_length, is_cut, is_frame, whole_room}
+use Rattle.bd_stream.proofs.FrameLemmas.{frame_cut, has_cut_length, is_cut, is_frame, whole_room}
 use Rattle.bd_stream.proofs.NextDocumentLemmas.{grown_for, kept_room}
 use Rattle.bd_stream.specs.NextDocument.{HoldsAsMuch}
 use Rattle.bd_stream.proofs.doc_buffer.DocBuffer.read_rest.Goals as goal
@@ -26,7 +26,7 @@ returns-then-filled-length-clause-fails g c =
     let told = c.fault.ensures in
     let known : c.from_le_bytes-length.result ≡ length_told c.args.head = search rules in
     let size : length c.args.head ≡ 4 = search rules in
-    let room : length c.fill_behind.new.room ≡ length c.make_room.new.buffer.items = search rules in
+    let room : length c.fill_after.new.room ≡ length c.make_room.new.buffer.items = search rules in
     let less : length e.gives.0 + 4 < length_told c.args.head = let s = e.gives.2 in let l = c.if-filled-length.true in search rules in
     rw told.1 record {
       given = e.gives.0;
@@ -34,7 +34,7 @@ returns-then-filled-length-clause-fails g c =
       kept = record { offset = refl; number = refl; room = refl; empty = c.requires.empty };
       counted = search rules;
       grown = grown_for _ _ c.from_le_bytes-length.result c.args.head e.gives.0 (size, c.requires.length.0, c.requires.length.1) known
-          (subst (λ (n : ℕ). HoldsAsMuch (length c.args.self.now.buffer.items) n c.from_le_bytes-length.result) (sym (kept_room _ c.fill_behind.new.room _ (search rules) ∙ room)) (c.in_ok-make_room.ensures.room).1);
+          (subst (λ (n : ℕ). HoldsAsMuch (length c.args.self.now.buffer.items) n c.from_le_bytes-length.result) (sym (kept_room _ c.fill_after.new.room _ (search rules) ∙ room)) (c.in_ok-make_room.ensures.room).1);
       reason = (
         told.3,
         told.4,
@@ -53,5 +53,5 @@ returns-clause-frame g c =
     let size : length c.args.head ≡ 4 = search rules in
     let given : length e.gives.0 + 4 ≡ length_told c.args.head = let s = e.gives.2 in let f = e.fits in let l = c.if-filled-length.false in search rules in
     let whole : 4 + c.in_ok-filled.filled.bytes ≡ c.from_le_bytes-length.result = let s = e.gives.2 in omega (arith, given, told, s) in
-    let front : take c.from_le_bytes-length.result c.fill_behind.new.room ≡ c.args.head ++ e.gives.0 = rw whole at e.gives.3 in
-    rw (c.pass.ensures.held, c.pass.ensures.kept.0) (is_frame _ c.args.head e.gives.0 (whole_room c.from_le_bytes-length.result _ c.fill_behind.new.room _ _ front (search rules)) (size, c.requires.length.0, c.requires.length.1) given)
+    let front : take c.from_le_bytes-length.result c.fill_after.new.room ≡ c.args.head ++ e.gives.0 = rw whole at e.gives.3 in
+    rw (c.pass.ensures.held, c.pass.ensures.kept.0) (is_frame _ c.args.head e.gives.0 (whole_room c.from_le_bytes-length.result _ c.fill_after.new.room _ _ front (search rules)) (size, c.requires.length.0, c.requires.length.1) given)

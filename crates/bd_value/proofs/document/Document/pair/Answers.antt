@@ -1,4 +1,4 @@
-use Rattle.bd_value.proofs.Views.{pair_at}
+use Rattle.bd_value.proofs.ViewLemmas.{pair_at}
 use Rattle.bd_value.proofs.document.Document.pair.Goals as goal
 
 pub returns : goal.returns

@@ -1,6 +1,6 @@
 use Rattle.std.proofs.Common.{arith}
-use Rattle.bd_value.specs.Held.{held}
-use Rattle.bd_value.proofs.InMemory as m
+use Rattle.bd_value.specs.NodeTree.{held}
+use Rattle.bd_value.proofs.NodeTreeLemmas as m
 use Rattle.bd_value.proofs.tree.TreeReading.element.Goals as goal
 
 pub index-requires : goal.index-requires

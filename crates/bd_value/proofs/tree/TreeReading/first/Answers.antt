@@ -1,7 +1,7 @@
 use Rattle.std.proofs.Common.{ap}
-use Rattle.bd_value.specs.Held.{held}
+use Rattle.bd_value.specs.NodeTree.{held}
 use Rattle.bd_value.specs.View.{pairs}
-use Rattle.bd_value.proofs.InMemory as m
+use Rattle.bd_value.proofs.NodeTreeLemmas as m
 use Rattle.bd_value.proofs.tree.TreeReading.first.Goals as goal
 
 pub returns-in-Doc-clause-first : goal.returns-in-Doc-clause-first

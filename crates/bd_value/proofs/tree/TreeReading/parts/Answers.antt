@@ -1,9 +1,9 @@
 use Rattle.std.proofs.Common.{ap, sym, subst, List, [], map}
 use Rattle.bd_value.specs.Parts.{AreParts}
 use Rattle.bd_value.specs.declared.document.Value.{Value}
-use Rattle.bd_value.specs.Held.{held}
+use Rattle.bd_value.specs.NodeTree.{held}
 use Rattle.bd_value.specs.View.{tree_of, pairs}
-use Rattle.bd_value.proofs.InMemory as m
+use Rattle.bd_value.proofs.NodeTreeLemmas as m
 use Rattle.bd_value.proofs.tree.TreeReading.parts.Goals as goal
 
 pub returns-in-Doc-clause-parts : goal.returns-in-Doc-clause-parts

@@ -1,4 +1,4 @@
-use Rattle.bd_value.proofs.InMemory.{scope_is}
+use Rattle.bd_value.proofs.NodeTreeLemmas.{scope_is}
 use Rattle.bd_value.proofs.tree.TreeReading.scope.Goals as goal
 
 pub returns-in-CodeScope-clause-scope : goal.returns-in-CodeScope-clause-scope

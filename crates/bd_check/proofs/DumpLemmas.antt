@@ -1,0 +1,204 @@
+-- Documents one after the other.
+use Rattle.std.proofs.Common.{◌≡◌, ℕ, zero, suc, ◌+◌, ◌≤◌, Bool, true, false, cond, ltb, List, [], ◌∷◌, ◌++◌, length, take, drop, Option, Some, None, Result, Ok, Err, refl, sym, ap, ap₂, ◌∙◌, subst, append_assoc, arith}
+use Rattle.std.specs.Prelude.{◌||◌}
+use Rattle.std.proofs.lemmas.Bool.{ltb-false, le-ltb}
+use Rattle.std.proofs.lemmas.Bool.Decides.{nat_tests}
+use Rattle.std.proofs.lemmas.List.{take_at, drop_at, length-append, length-drop, take-append-drop, append-nil, nil_from_length}
+use Rattle.std.specs.Int.{w32, from_le_bytes}
+use Rattle.bd_value.specs.Tree.{Doc}
+use Rattle.bd_check.specs.declared.fault.FaultKind.{FaultKind}
+use Rattle.bd_check.specs.declared.fault.FaultKind.TheVariants.{ShortLength, BadLength}
+use Rattle.bd_check.specs.Fault.{Fault}
+use Rattle.bd_raw.specs.Spelling.{IsDocument, framed, number}
+use Rattle.bd_check.specs.FirstFault.{first_fault, past_document, fault_in}
+use Rattle.bd_check.specs.Dump.{length_told, frame_length, framed_fault, frame_fault, AreJoined, IsWalk}
+use Rattle.bd_raw.specs.Scalars.{number_length, number_value}
+use Rattle.bd_raw.specs.Unique.{framed_after}
+use Rattle.bd_check.proofs.FirstFaultLemmas.{IsBytes, IsBytes-take, IsBytes-drop, document_found}
+use Rattle.bd_check.proofs.NoFaultLemmas.{document_again}
+use Rattle.bd_raw.proofs.SoundLemmas.{document_unique}
+
+-- ---- a document at the front tells its length
+
+framed_size : (body : List ℕ) → length (framed body) ≡ length body + 5
+framed_size body = omega (arith, length-append (number (length body + 5)) (body ++ 0 ∷ []), number_length (length body + 5), length-append body (0 ∷ []))
+
+told : (body rest : List ℕ) → length (framed body) ≤ 16793600 → length_told (framed body ++ rest) ≡ length (framed body)
+told body rest short =
+    let size = framed_size body in
+    ap length_told (framed_after body rest) ∙ ap (from_le_bytes w32) (take_at (number (length body + 5)) (body ++ 0 ∷ rest) 4 (number_length (length body + 5))) ∙ number_value (length body + 5) (omega arith) ∙ sym size
+
+tests : (n m : ℕ) → 5 ≤ n → n ≤ 16793600 → n ≤ m → (ltb n 5 || ltb 16793600 n || ltb m n) ≡ false
+tests n m low high le = grind (arith, nat_tests)
+
+pub frame_good : (bytes : List ℕ) (n : ℕ) → length_told bytes ≡ n → 5 ≤ n → n ≤ 16793600 → n ≤ length bytes → frame_length bytes ≡ Ok (Some n)
+frame_good [] n is low high le = absurd (omega arith)
+frame_good (b ∷ bytes) n is low high le =
+    let long : ltb (length (b ∷ bytes)) 4 ≡ false = le-ltb _ _ (omega arith) in
+    rw (long, is, tests n (length (b ∷ bytes)) low high le) refl
+
+pub document_frame : (d : Doc) (front rest : List ℕ) → IsDocument d front → frame_length (front ++ rest) ≡ Ok (Some (length front))
+document_frame d front rest h =
+    let s = h.spells in
+    let short : length (framed s.0) ≤ 16793600 = let m = h.short in omega (arith, ap length s.2) in
+    let t : length_told (front ++ rest) ≡ length front = ap (λ (x : List ℕ). length_told (x ++ rest)) s.2 ∙ told s.0 rest short ∙ sym (ap length s.2) in
+    frame_good (front ++ rest) (length front) t (omega (arith, ap length s.2, framed_size s.0)) h.short (omega (arith, length-append front rest))
+
+-- ---- the walk over a dump ends in one way
+
+pub document_faultless : (base : ℕ) (bytes : List ℕ) (d : Doc) → IsDocument d bytes → first_fault base bytes ≡ None
+document_faultless base bytes d h = ap fault_in (document_again (base + length bytes) bytes d h)
+
+frame_faultless : (base : ℕ) (d : Doc) (front rest : List ℕ) → IsDocument d front → frame_fault base (front ++ rest) ≡ None
+frame_faultless base d front rest h =
+    ap (framed_fault base (front ++ rest)) (document_frame d front rest h) ∙ ap (first_fault base) (take_at front rest (length front) refl) ∙ document_faultless base front d h
+
+fronts : (c d : Doc) (a b x y : List ℕ) → IsDocument c a → IsDocument d b → a ++ x ≡ b ++ y → (c ≡ d) × (a ≡ b) × (x ≡ y)
+fronts c d a b x y p q h =
+    let m : length a ≡ length b = let e = sym (document_frame c a x p) ∙ ap frame_length h ∙ document_frame d b y q in cc in
+    let same : a ≡ b = sym (take_at a x (length a) refl) ∙ ap (take (length a)) h ∙ take_at b y (length a) (sym m) in
+    let others : x ≡ y = sym (drop_at a x (length a) refl) ∙ ap (drop (length a)) h ∙ drop_at b y (length a) (sym m) in
+    (document_unique b c d (subst (λ (v : List ℕ). IsDocument c v) same p) q, same, others)
+
+-- no document stands at the front
+unfoldable pub Stuck : List ℕ → Type 0
+Stuck x = (d : Doc) (front rest : List ℕ) → IsDocument d front → x ≡ front ++ rest → ⊥
+
+nothing_stuck : Stuck []
+unfolding Stuck
+nothing_stuck d front rest h e = let f = ap frame_length e ∙ document_frame d front rest h in absurd cc
+
+fault_stuck : (base : ℕ) (x : List ℕ) (f : Fault) → frame_fault base x ≡ Some f → Stuck x
+unfolding Stuck
+fault_stuck base x f is d front rest h e = let g = sym is ∙ ap (frame_fault base) e ∙ frame_faultless base d front rest h in absurd cc
+
+not_joined : (e : Doc) (es : List Doc) (b x y : List ℕ) → AreJoined (e ∷ es) b → Stuck x → x ≡ b ++ y → ⊥
+unfolding Stuck
+not_joined e es b x y q s h = s e q.0 (q.1 ++ y) q.2 (h ∙ ap (λ (v : List ℕ). v ++ y) q.4 ∙ append_assoc q.0 q.1 y)
+
+pub joined_once : (ds es : List Doc) (a b x y : List ℕ) → AreJoined ds a → AreJoined es b → Stuck x → Stuck y → a ++ x ≡ b ++ y → (ds ≡ es) × (a ≡ b) × (x ≡ y)
+joined_once [] [] a b x y p q s t h =
+    let e : x ≡ y = sym (ap (λ (v : List ℕ). v ++ x) p) ∙ h ∙ ap (λ (v : List ℕ). v ++ y) q in
+    (refl, p ∙ sym q, e)
+joined_once [] (e ∷ es) a b x y p q s t h = absurd (not_joined e es b x y q s (sym (ap (λ (v : List ℕ). v ++ x) p) ∙ h))
+joined_once (d ∷ ds) [] a b x y p q s t h = absurd (not_joined d ds a y x p t (sym (ap (λ (v : List ℕ). v ++ y) q) ∙ sym h))
+joined_once (d ∷ ds) (e ∷ es) a b x y p q s t h =
+    let whole : p.0 ++ (p.1 ++ x) ≡ q.0 ++ (q.1 ++ y) = sym (append_assoc p.0 p.1 x) ∙ sym (ap (λ (v : List ℕ). v ++ x) p.4) ∙ h ∙ ap (λ (v : List ℕ). v ++ y) q.4 ∙ append_assoc q.0 q.1 y in
+    let first = fronts d e p.0 q.0 (p.1 ++ x) (q.1 ++ y) p.2 q.2 whole in
+    let others = joined_once ds es p.1 q.1 x y p.3 q.3 s t first.2 in
+    (ap₂ (λ (u : Doc) (us : List Doc). u ∷ us) first.0 others.0, p.4 ∙ ap₂ (λ (u v : List ℕ). u ++ v) first.1 others.1 ∙ sym q.4, others.2)
+
+nothing_more : (a : List ℕ) → a ≡ a ++ []
+nothing_more a = sym (append-nil a)
+
+abbrev some : Fault → Option Fault
+some f = Some f
+
+pub walk_once : (ds es : List Doc) (o p : Option Fault) (bytes : List ℕ) → IsWalk ds o bytes → IsWalk es p bytes → (ds ≡ es) × (o ≡ p)
+walk_once ds es None None bytes v w =
+    let e = joined_once ds es bytes bytes [] [] v w nothing_stuck nothing_stuck refl in
+    (e.0, refl)
+walk_once ds es None (Some g) bytes v w =
+    let e = joined_once ds es bytes w.0 [] w.1 v w.2 nothing_stuck (fault_stuck (length w.0) w.1 g w.4) (append-nil bytes ∙ w.3) in
+    absurd (let x : None ≡ some g = ap (frame_fault (length w.0)) e.2 ∙ w.4 in cc)
+walk_once ds es (Some f) None bytes v w =
+    let e = joined_once ds es v.0 bytes v.1 [] v.2 w (fault_stuck (length v.0) v.1 f v.4) nothing_stuck (sym v.3 ∙ nothing_more bytes) in
+    absurd (let x : some f ≡ None = sym v.4 ∙ ap (frame_fault (length v.0)) e.2 in cc)
+walk_once ds es (Some f) (Some g) bytes v w =
+    let e = joined_once ds es v.0 w.0 v.1 w.1 v.2 w.2 (fault_stuck (length v.0) v.1 f v.4) (fault_stuck (length w.0) w.1 g w.4) (sym v.3 ∙ w.3) in
+    (e.0, sym v.4 ∙ ap₂ (λ (a x : List ℕ). frame_fault (length a) x) e.1 e.2 ∙ w.4)
+
+-- ---- and it ends
+
+pub joined_append : (ds es : List Doc) (a b : List ℕ) → AreJoined ds a → AreJoined es b → AreJoined (ds ++ es) (a ++ b)
+joined_append [] es a b p q = subst (AreJoined es) (sym (ap (λ (v : List ℕ). v ++ b) p)) q
+joined_append (d ∷ ds) es a b p q = (p.0, p.1 ++ b, p.2, joined_append ds es p.1 b p.3 q, ap (λ (v : List ℕ). v ++ b) p.4 ∙ append_assoc p.0 p.1 b)
+
+pub joined_one : (d : Doc) (bytes : List ℕ) → IsDocument d bytes → AreJoined (d ∷ []) bytes
+joined_one d bytes h = (bytes, [], h, refl, sym (append-nil bytes))
+
+-- what a walk finds after some documents
+pub record Walked (done : List Doc) (front rest : List ℕ) : Type 0 where
+  pub more : List Doc
+  pub end : Option Fault
+  pub walk : IsWalk (done ++ more) end (front ++ rest)
+
+stops_at : (done : List Doc) (front rest : List ℕ) (f : Fault) → AreJoined done front → frame_fault (length front) rest ≡ Some f → Walked done front rest
+stops_at done front rest f j is = record { more = []; end = Some f; walk = (front, rest, subst (λ (ds : List Doc). AreJoined ds front) (sym (append-nil done)) j, refl, is) }
+
+ends_at : (done : List Doc) (front rest : List ℕ) → AreJoined done front → rest ≡ [] → Walked done front rest
+ends_at done front rest j is = record { more = []; end = None; walk = subst (λ (v : List ℕ). AreJoined (done ++ []) (front ++ v)) (sym is) (joined_append done [] front [] j refl) }
+
+goes_on : (done : List Doc) (d : Doc) (front first rest bytes : List ℕ) → first ++ rest ≡ bytes → Walked (done ++ d ∷ []) (front ++ first) rest → Walked done front bytes
+goes_on done d front first rest bytes cut w = record {
+  more = d ∷ w.more;
+  end = w.end;
+  walk = subst (λ (v : List ℕ). IsWalk (done ++ d ∷ w.more) w.end v) (append_assoc front first rest ∙ ap (λ (v : List ℕ). front ++ v) cut)
+      (subst (λ (ds : List Doc). IsWalk ds w.end ((front ++ first) ++ rest)) (append_assoc done (d ∷ []) w.more) w.walk);
+}
+
+neither : (a b : Bool) → (a || b) ≡ false → (a ≡ false) × (b ≡ false)
+neither true b e = absurd cc
+neither false b e = (refl, e)
+
+no_frame : (bytes : List ℕ) → frame_length bytes ≡ Ok None → bytes ≡ []
+no_frame [] is = refl
+no_frame (b ∷ bytes) is = absurd (no_none (ltb (length (b ∷ bytes)) 4) (ltb (length_told (b ∷ bytes)) 5 || ltb 16793600 (length_told (b ∷ bytes)) || ltb (length (b ∷ bytes)) (length_told (b ∷ bytes))) (length_told (b ∷ bytes)) is)
+  where
+    no_none : (s t : Bool) (n : ℕ) → cond s (Err ShortLength) (cond t (Err BadLength) (Ok (Some n))) ≡ Ok None → ⊥
+    no_none true t n is = absurd cc
+    no_none false true n is = absurd cc
+    no_none false false n is = absurd cc
+
+-- a frame takes bytes, and not more than there are
+pub frame_inside : (bytes : List ℕ) (n : ℕ) → frame_length bytes ≡ Ok (Some n) → (5 ≤ n) × (n ≤ length bytes) × (n ≤ 16793600)
+frame_inside [] n is = absurd cc
+frame_inside (b ∷ bytes) n is =
+    inside (ltb (length (b ∷ bytes)) 4) (ltb (length_told (b ∷ bytes)) 5 || ltb 16793600 (length_told (b ∷ bytes)) || ltb (length (b ∷ bytes)) (length_told (b ∷ bytes))) (b ∷ bytes) n refl is
+  where
+    inside : (s t : Bool) (bytes : List ℕ) (n : ℕ) → (ltb (length_told bytes) 5 || ltb 16793600 (length_told bytes) || ltb (length bytes) (length_told bytes)) ≡ t → cond s (Err ShortLength) (cond t (Err BadLength) (Ok (Some (length_told bytes)))) ≡ Ok (Some n) → (5 ≤ n) × (n ≤ length bytes) × (n ≤ 16793600)
+    inside true t bytes n e is = absurd cc
+    inside false true bytes n e is = absurd cc
+    inside false false bytes n e is =
+        let k : length_told bytes ≡ n = cc in
+        let a = neither (ltb (length_told bytes) 5 || ltb 16793600 (length_told bytes)) (ltb (length bytes) (length_told bytes)) e in
+        let c = neither (ltb (length_told bytes) 5) (ltb 16793600 (length_told bytes)) a.0 in
+        let low = ltb-false _ _ c.0 in
+        let high = ltb-false _ _ c.1 in
+        let le = ltb-false _ _ a.1 in
+        (omega arith, omega arith, omega arith)
+
+fault_free : (base : ℕ) (bytes : List ℕ) → first_fault base bytes ≡ None → past_document (base + length bytes) bytes ≡ Ok tt
+fault_free base bytes is = free (past_document (base + length bytes) bytes) is
+  where
+    free : (r : Result (Unit {0}) Fault) → fault_in r ≡ None → r ≡ Ok tt
+    free (Ok u) is = refl
+    free (Err f) is = absurd cc
+
+pub found_document : (base : ℕ) (bytes : List ℕ) → IsBytes bytes → first_fault base bytes ≡ None → (d : Doc) × IsDocument d bytes
+found_document base bytes fits is = document_found (base + length bytes) bytes fits (fault_free base bytes is)
+
+abbrev Walker : ℕ → Type 0
+Walker turns = (done : List Doc) (front rest : List ℕ) → length rest ≤ turns → IsBytes rest → AreJoined done front → Walked done front rest
+
+walk_document : (turns : ℕ) → Walker turns → (done : List Doc) (front rest : List ℕ) (n : ℕ) (first : Option Fault) → length rest ≤ suc turns → IsBytes rest → AreJoined done front → frame_length rest ≡ Ok (Some n) → first_fault (length front) (take n rest) ≡ first
+    → Walked done front rest
+walk_document turns walk done front rest n (Some f) le fits j is first_is = stops_at done front rest f j (ap (framed_fault (length front) rest) is ∙ first_is)
+walk_document turns walk done front rest n None le fits j is first_is =
+    let d = found_document (length front) (take n rest) (IsBytes-take n rest fits) first_is in
+    let size = frame_inside rest n is in
+    goes_on done d.0 front (take n rest) (drop n rest) rest (take-append-drop n rest)
+    (walk (done ++ d.0 ∷ []) (front ++ take n rest) (drop n rest) (omega (arith, length-drop n rest, size.0, size.1)) (IsBytes-drop n rest fits) (joined_append done (d.0 ∷ []) front (take n rest) j (joined_one d.0 (take n rest) d.1)))
+
+walk_frame : (turns : ℕ) → Walker turns → (done : List Doc) (front rest : List ℕ) (frame : Result (Option ℕ) FaultKind) → length rest ≤ suc turns → IsBytes rest → AreJoined done front → frame_length rest ≡ frame → Walked done front rest
+walk_frame turns walk done front rest (Err kind) le fits j is = stops_at done front rest (record { kind = kind; offset = length front; path = [] }) j (ap (framed_fault (length front) rest) is)
+walk_frame turns walk done front rest (Ok None) le fits j is = ends_at done front rest j (no_frame rest is)
+walk_frame turns walk done front rest (Ok (Some n)) le fits j is = walk_document turns walk done front rest n (first_fault (length front) (take n rest)) le fits j is refl
+
+walk : (turns : ℕ) → Walker turns
+walk zero done front rest le fits j = ends_at done front rest j (nil_from_length rest (omega arith))
+walk (suc turns) done front rest le fits j = walk_frame turns (walk turns) done front rest (frame_length rest) le fits j refl
+
+-- the walk goes on after any documents
+pub walk_on : (done : List Doc) (front rest : List ℕ) → IsBytes rest → AreJoined done front → Walked done front rest
+walk_on done front rest fits j = walk (length rest) done front rest (omega arith) fits j

@@ -1,0 +1,300 @@
+-- The lines that are taken have an order.
+use Rattle.std.proofs.Common.{ap₂, subst, ◌⊎◌, inl, inr, ◌≡◌, ◌∙◌, ◌&&◌, ◌||◌, ℕ, Bool, cond, true, false, not, refl, sym, ap, List, [], ◌∷◌, codes, Option, Some, None, true≢false}
+use Rattle.std.specs.Prelude.{Result, Ok, Err, IfOk, IfErr, ⊤, Box, find, slice_get, unwrap_or, IfSome, is_some, option_and_then, option_map, ◌==◌}
+use Rattle.std.specs.List.{list_all}
+use Rattle.std.specs.Option.{option_map_or}
+use Rattle.std.specs.Str.{bytes_eq}
+use Rattle.std.proofs.lemmas.Slice.Eq.{bytes_eq-Decides}
+use Rattle.clap.specs.Kinds.{HasKind, IsAmong, Kinds, check_kinds}
+use Rattle.clap.specs.Values.{kind_of}
+use Rattle.clap.specs.Matches.{found_of, subcommand_name_of}
+use Rattle.clap.specs.declared.parser.matches.ArgMatches.TheViews.{out-ArgMatches, out-SubCommand}
+use Rattle.clap.specs.declared.parser.matches.SubCommand.{SubCommand}
+use Rattle.std.specs.Box.{box_value}
+use Rattle.clap.specs.declared.error.Error.{Error}
+use Rattle.clap.specs.declared.parser.matches.ArgMatches.{ArgMatches}
+use Rattle.clap.specs.Walk.{Row, rows_of, Text, answers_to, finished, first_of, nothing_held, rows_after, settled, walk, walk_from}
+use Rattle.clap.specs.Simple.{App, HasMatchesOf, Shape, built, built_leaf, entered, inherited, marked_built, on_top, subcommand_rows, with_leaf_noted, is_simple, label_of, names_of, rows_at, subcommand_of, subcommand_rows_of}
+use Rattle.clap.specs.Faults.{check_fault, defaults_fault, entered_fault, fault_of, is_simple_and_free, level_fault, settle_fault, walk_fault}
+use Rattle.clap.specs.Takes.{is_given, takes}
+use Rattle.clap.specs.declared.error.kind.ErrorKind.{ErrorKind}
+use Rattle.clap.specs.declared.error.kind.ErrorKind.TheVariants.{OutOfMemory, MissingRequiredArgument, MissingSubcommand, UnknownArgument, InvalidSubcommand}
+use Rattle.clap.proofs.OnLiterals.{clap_on_literals}
+use Rattle.bd_command_line.specs.declared.order.Order.{Order}
+use Rattle.bd_command_line.specs.declared.order.WordsFault.{WordsFault}
+use Rattle.bd_command_line.specs.declared.order.WordsFault.TheVariants.{NoMemory, Usage}
+use Rattle.bd_command_line.specs.CommandLine.{Ordered, GivesOrder, meant, batch_read, check, dump, pack, fault_for, file_app, find as finds, find_app, find_ordered, told_as, is_file_word, is_help_line, line_app, order_of, ordered_by}
+use Rattle.bd_command_line.proofs.RowValueLemmas.{AllFilled, defaults-filled, fills, given_first, left_nil, right_nil, settled-filled, walk-filled}
+use Rattle.bd_command_line.proofs.FaultLemmas.{SameTold, same-fault}
+
+refused : (k : ErrorKind) → k ∷ [] ≡ [] → ⊥
+refused k e = cc
+
+pub line_simple : is_simple line_app ≡ true
+line_simple = refl
+
+pub line_free : is_simple_and_free line_app ≡ true
+line_free = refl
+
+-- a level without a fault, by its parts
+level_rows : (s : Shape) (words : List Text) → list_all fills s.rules ≡ true → level_fault s [] nothing_held words false [] ≡ []
+    → AllFilled (rows_after s.rules [] words)
+level_rows s words fill e =
+    let end = (walk s.rules [] nothing_held words).held in
+    let walked = left_nil (walk_fault s [] (walk_from nothing_held) words) _ e in
+    let after = right_nil (walk_fault s [] (walk_from nothing_held) words) _ e in
+    defaults-filled s.rules (settled s.rules end).rows
+    (settled-filled s.rules s.args_override_self fill end (left_nil _ _ after) (walk-filled s [] fill (walk_from nothing_held) words walked tt))
+
+level_checks : (s : Shape) (names : List (Text × List Text)) (words : List Text) (has : Bool) (below : Kinds) → level_fault s names nothing_held words has below ≡ []
+    → (below ≡ []) × (check_fault s (finished s.rules (walk s.rules names nothing_held words).held) has ≡ [])
+level_checks s names words has below e =
+    let end = (walk s.rules names nothing_held words).held in
+    let after = right_nil (walk_fault s names (walk_from nothing_held) words) _ e in
+    let settle = right_nil below _ after in
+    let defaults = right_nil (settle_fault s.rules s.args_override_self end) _ settle in
+    (left_nil below _ after, right_nil (defaults_fault (settled s.rules end).rows s.rules) _ defaults)
+
+-- what holds of each command
+EachShape : (Shape → Type 0) → List Shape → Type 0
+EachShape P [] = ⊤
+EachShape P (s ∷ rest) = P s × EachShape P rest
+
+found_shape : (P : Shape → Type 0) (p : Shape → Bool) (shapes : List Shape) → EachShape P shapes → IfSome (find p shapes) P
+unfolding EachShape
+found_shape P p [] each = tt
+found_shape P p (s ∷ rest) each = elim (p s) as (λ b. IfSome (cond b (Some s) (find p rest)) P) [ true ↦ each.0 | false ↦ found_shape P p rest each.1 ]
+
+-- the words of the command have an order where they have no fault
+abbrev HasOrders : Shape → Type 0
+HasOrders s = (words : List Text) → level_fault s [] nothing_held words false [] ≡ [] → is_some (ordered_by s.name (rows_after s.rules [] words)) ≡ true
+
+file_given : (given rest : Bool) → check_kinds false false (not given || rest) ≡ [] → given ≡ true
+file_given true rest e = refl
+file_given false rest e = absurd (refused MissingRequiredArgument e)
+
+-- a command that requires FILE has it
+file_there : (s : Shape) (words : List Text) → list_all fills s.rules ≡ true
+    → ((rows : List Row) → check_fault s rows false ≡ [] → is_given (codes "file") rows ≡ true)
+    → level_fault s [] nothing_held words false [] ≡ [] → is_some (first_of (codes "file") (rows_after s.rules [] words)) ≡ true
+file_there s words fill given e =
+    let rows = rows_after s.rules [] words in
+    given_first (codes "file") rows (level_rows s words fill e) (given rows (level_checks s [] words false [] e).1)
+
+some_mapped : {X Y : Type 0} (f : X → Y) (o : Option X) → is_some o ≡ true → is_some (option_map f o) ≡ true
+some_mapped f None e = let bad : ⊥ = cc in absurd bad
+some_mapped f (Some x) e = refl
+
+-- the command `dump`, as it is built
+abbrev dump_shape : Shape
+dump_shape = built_leaf (inherited (on_top with_leaf_noted (on_top marked_built line_app)).top (file_app (codes "dump")).top)
+
+dump_orders : HasOrders dump_shape
+dump_orders words e =
+    some_mapped dump (first_of (codes "file") (rows_after dump_shape.rules [] words)) (file_there dump_shape words refl (λ rows c. file_given _ _ c) e)
+
+-- the command `check`, likewise
+abbrev check_shape : Shape
+check_shape = built_leaf (inherited (on_top with_leaf_noted (on_top marked_built line_app)).top (file_app (codes "check")).top)
+
+check_orders : HasOrders check_shape
+check_orders words e =
+    some_mapped check (first_of (codes "file") (rows_after check_shape.rules [] words)) (file_there check_shape words refl (λ rows c. file_given _ _ c) e)
+
+-- the command `pack`, likewise
+abbrev pack_shape : Shape
+pack_shape = built_leaf (inherited (on_top with_leaf_noted (on_top marked_built line_app)).top (file_app (codes "pack")).top)
+
+pack_orders : HasOrders pack_shape
+pack_orders words e =
+    some_mapped pack (first_of (codes "file") (rows_after pack_shape.rules [] words)) (file_there pack_shape words refl (λ rows c. file_given _ _ c) e)
+
+-- the command `find`: it has FILE and the query
+abbrev find_shape : Shape
+find_shape = built_leaf (inherited (on_top with_leaf_noted (on_top marked_built line_app)).top find_app.top)
+
+query_given : (file given rest : Bool) → check_kinds false false (not file || (not given || rest)) ≡ [] → given ≡ true
+query_given file true rest e = refl
+query_given true false rest e = absurd (refused MissingRequiredArgument e)
+query_given false false rest e = absurd (refused MissingRequiredArgument e)
+
+query_there : (words : List Text) → level_fault find_shape [] nothing_held words false [] ≡ [] → is_some (first_of (codes "query") (rows_after find_shape.rules [] words)) ≡ true
+query_there words e =
+    let rows = rows_after find_shape.rules [] words in
+    given_first (codes "query") rows (level_rows find_shape words refl e) (query_given _ _ _ (level_checks find_shape [] words false [] e).1)
+
+some_ordered : (file query : Option Text) (batch : Option ℕ) → is_some file ≡ true → is_some query ≡ true → is_some (option_and_then (λ f. option_map (λ q. finds f q batch) query) file) ≡ true
+some_ordered None query batch e f = let bad : ⊥ = cc in absurd bad
+some_ordered (Some x) None batch e f = let bad : ⊥ = cc in absurd bad
+some_ordered (Some x) (Some y) batch e f = refl
+
+find_orders : HasOrders find_shape
+find_orders words e =
+    let rows = rows_after find_shape.rules [] words in
+    some_ordered (first_of (codes "file") rows) (first_of (codes "query") rows) (batch_read rows)
+    (file_there find_shape words refl (λ rows c. file_given _ _ c) e) (query_there words e)
+
+commands_order : EachShape HasOrders (built line_app).subs
+unfolding EachShape
+commands_order = (dump_orders, (check_orders, (pack_orders, (find_orders, tt))))
+
+-- words that have no fault have an order
+pub order_there : (words : List Text) → fault_of line_app words ≡ [] → is_some (order_of words) ≡ true
+order_there words e =
+    let stop = (walk top.rules names nothing_held words).stopped in
+    let checks = level_checks top names words (is_some (entered (built line_app) stop)) (entered_fault (built line_app) stop) e in
+    at_stop stop checks.0 checks.1
+  where
+    top : Shape
+    top = (built line_app).top
+
+    names : List (Text × List Text)
+    names = names_of (built line_app)
+
+    rows : List Row
+    rows = finished top.rules (walk top.rules names nothing_held words).held
+
+    at_shape : (p : Text × List Text) (o : Option Shape) → IfSome o HasOrders → option_map_or (λ s. level_fault s [] nothing_held p.1 false []) o [] ≡ []
+        → check_fault top rows (is_some (option_map (λ s. rows_at s p.1) o)) ≡ []
+        → is_some (option_and_then (λ q. ordered_by q.0 q.1) (option_map (λ s. rows_at s p.1) o)) ≡ true
+    at_shape p None orders e c = absurd (refused MissingSubcommand c)
+    at_shape p (Some s) orders e c = orders p.1 e
+
+    at_stop : (stop : Option (Text × List Text)) → entered_fault (built line_app) stop ≡ [] → check_fault top rows (is_some (entered (built line_app) stop)) ≡ []
+        → is_some (option_and_then (λ q. ordered_by q.0 q.1) (entered (built line_app) stop)) ≡ true
+    at_stop None e c = absurd (refused MissingSubcommand c)
+    at_stop (Some p) e c = at_shape p (find (λ s. answers_to p.0 (label_of s)) (built line_app).subs)
+        (found_shape HasOrders (λ s. answers_to p.0 (label_of s)) (built line_app).subs commands_order) e c
+
+-- the word `help` is none of them, whatever follows
+pub help_fault : (rest : List Text) → fault_of line_app (codes "help" ∷ rest) ≡ UnknownArgument ∷ InvalidSubcommand ∷ []
+unfolding clap_on_literals
+help_fault rest = refl
+
+and_false : (b : Bool) → (b && false) ≡ false
+and_false true = refl
+and_false false = refl
+
+help_not_taken : (rest : List Text) → takes line_app (codes "help" ∷ rest) ≡ false
+unfolding clap_on_literals
+help_not_taken rest = and_false _
+
+help_words : (words : List Text) → is_help_line words ≡ true → (rest : List Text) × (words ≡ codes "help" ∷ rest)
+help_words [] e = let f : ⊥ = cc in absurd f
+help_words (w ∷ rest) e = (rest, ap (λ x. x ∷ rest) ((bytes_eq-Decides w (codes "help")).0 e))
+
+pub help_line_told : (words : List Text) → is_help_line words ≡ true → fault_for words ≡ Some Usage
+help_line_told words e =
+    let h = help_words words e in
+    ap fault_for h.1 ∙ ap (λ ks. option_map told_as (slice_get ks 0)) (help_fault h.0)
+
+pub help_line_refused : (words : List Text) → is_help_line words ≡ true → takes line_app words ≡ true → ⊥
+help_line_refused words e taken =
+    let h = help_words words e in
+    true≢false (sym taken ∙ (ap (takes line_app) h.1 ∙ help_not_taken h.0))
+
+-- ---- the lines in their plainest form
+
+abbrev pub IsTaken : List Text → Ordered → Type 0
+IsTaken words order = (fault_of line_app words ≡ []) × (order_of words ≡ Some order)
+
+short_word : (x : ℕ) (xs : List ℕ) → (x == 45) ≡ true → is_file_word (x ∷ xs) ≡ true → IsTaken (codes "dump" ∷ (x ∷ xs) ∷ []) (dump (x ∷ xs))
+unfolding clap_on_literals
+short_word x [] is e = (simp is refl, simp is refl)
+short_word x (y ∷ ys) is e = let f : ⊥ = true≢false (sym (rw is at e)) in absurd f
+
+file_word : (x : ℕ) (xs : List ℕ) (b : Bool) → (x == 45) ≡ b → is_file_word (x ∷ xs) ≡ true → IsTaken (codes "dump" ∷ (x ∷ xs) ∷ []) (dump (x ∷ xs))
+unfolding clap_on_literals
+file_word x xs false is e = (simp is refl, simp is refl)
+file_word x xs true is e = short_word x xs is e
+
+pub dump_taken : (file : Text) → is_file_word file ≡ true → IsTaken (codes "dump" ∷ file ∷ []) (dump file)
+unfolding clap_on_literals
+dump_taken [] e = (refl, refl)
+dump_taken (x ∷ xs) e = file_word x xs (x == 45) refl e
+
+pub escaped_taken : (file : Text) → IsTaken (codes "dump" ∷ codes "--" ∷ file ∷ []) (dump file)
+unfolding clap_on_literals
+escaped_taken file = (refl, refl)
+
+-- ---- what a refusal is told as
+
+first_told : (kinds : Kinds) (k : ErrorKind) → SameTold kinds → IsAmong k kinds → option_map told_as (slice_get kinds 0) ≡ Some (told_as k)
+first_told [] k same a = absurd a
+first_told (x ∷ xs) k same (inl is) = ap (λ y. Some (told_as y)) (sym is)
+first_told (x ∷ xs) k same (inr more) = ap (λ f. Some f) (sym (same k more))
+
+kind_told : (words : List Text) (e : Error) → HasKind (fault_of line_app words) e
+    → (told_as (kind_of e) ≡ NoMemory) ⊎ (fault_for words ≡ Some (told_as (kind_of e)))
+kind_told words e (inl memory) = inl (ap told_as memory)
+kind_told words e (inr among) = inr (first_told (fault_of line_app words) (kind_of e) (same-fault (built line_app) words refl) among)
+
+-- words without a fault are refused for want of memory alone
+pub only_memory : (words : List Text) (f : WordsFault) → fault_of line_app words ≡ [] → (f ≡ NoMemory) ⊎ (fault_for words ≡ Some f) → f ≡ NoMemory
+only_memory words f is (inl memory) = memory
+only_memory words f is (inr told) =
+    let none : None ≡ Some f = sym (ap (λ ks. option_map told_as (slice_get ks 0)) is) ∙ told in
+    let bad : ⊥ = cc in absurd bad
+
+-- ---- from what the code reads of the matches to the order
+
+names_read : {Z : Type 0} (s : Option (Box SubCommand Z)) → option_map (λ b. (out-SubCommand (box_value b)).name.now) s ≡ option_map (λ p. p.0) (subcommand_rows s)
+names_read None = refl
+names_read (Some b) = refl
+
+pair_read : (o : Option (Text × List Row)) (name : Text) (rows : List Row) → Some name ≡ option_map (λ p. p.0) o → Some rows ≡ option_map (λ p. p.1) o → o ≡ Some (name, rows)
+pair_read None name rows n r = let bad : ⊥ = cc in absurd bad
+pair_read (Some p) name rows n r =
+    let n' : name ≡ p.0 = ap (λ o. unwrap_or o name) n in
+    let r' : rows ≡ p.1 = ap (λ o. unwrap_or o rows) r in
+    ap₂ (λ (a : Text) (b : List Row). Some (a, b)) (sym n') (sym r')
+
+-- a command without FILE has no order
+pub no_file : (name : Text) (rows : List Row) → first_of (codes "file") rows ≡ None → ordered_by name rows ≡ None
+no_file name rows e = go (bytes_eq name (codes "dump")) (bytes_eq name (codes "check")) (bytes_eq name (codes "pack")) (bytes_eq name (codes "find"))
+  where
+    go : (a b c d : Bool) → cond a (option_map dump (first_of (codes "file") rows))
+        (cond b (option_map check (first_of (codes "file") rows))
+        (cond c (option_map pack (first_of (codes "file") rows)) (cond d (option_and_then (find_ordered rows) (first_of (codes "file") rows)) None))) ≡ None
+    go true b c d = ap (option_map dump) e
+    go false true c d = ap (option_map check) e
+    go false false true d = ap (option_map pack) e
+    go false false false true = ap (option_and_then (find_ordered rows)) e
+    go false false false false = refl
+
+-- ---- the clauses of the parse, at the program's line
+
+pub refused_as : (a : App) (words : List Text) (e : Error) (f : WordsFault) → a ≡ line_app → (is_simple_and_free a ≡ true → HasKind (fault_of a words) e)
+    → f ≡ told_as (kind_of e) → (f ≡ NoMemory) ⊎ (fault_for words ≡ Some f)
+refused_as a words e f is h told =
+    let kinds = subst (λ (x : App). is_simple_and_free x ≡ true → HasKind (fault_of x words) e) is h line_free in
+    subst (λ (x : WordsFault). (x ≡ NoMemory) ⊎ (fault_for words ≡ Some x)) (sym told) (kind_told words e kinds)
+
+pub refused_taken : (a : App) (words : List Text) (e : Error) → a ≡ line_app → (takes a words ≡ true → kind_of e ≡ OutOfMemory) → takes line_app words ≡ true
+    → told_as (kind_of e) ≡ NoMemory
+refused_taken a words e is h taken = ap told_as (h (ap (λ (x : App). takes x words) is ∙ taken))
+
+pub no_fault : (a : App) (words : List Text) → a ≡ line_app → (is_simple_and_free a ≡ true → fault_of a words ≡ []) → fault_of line_app words ≡ []
+no_fault a words is h = subst (λ (x : App). is_simple_and_free x ≡ true → fault_of x words ≡ []) is h line_free
+
+-- the name and the rows that the code reads give the order
+pub order_read : (a : App) (words : List Text) (m inner : ArgMatches) (name : Text) → a ≡ line_app → HasMatchesOf a words m → Some name ≡ subcommand_name_of m
+    → Some (rows_of (found_of inner)) ≡ option_map (λ p. p.1) (subcommand_rows_of m) → order_of words ≡ ordered_by name (rows_of (found_of inner))
+order_read a words m inner name is has named rows =
+    let sub : subcommand_rows_of m ≡ subcommand_of line_app words = (subst (λ (x : App). HasMatchesOf x words m) is has line_simple).1 in
+    ap (option_and_then (λ p. ordered_by p.0 p.1))
+    (sym sub ∙ pair_read (subcommand_rows_of m) name (rows_of (found_of inner)) (named ∙ names_read (out-ArgMatches m).subcommand) rows)
+
+same_order : (words : List Text) (a b : Ordered) → order_of words ≡ Some a → order_of words ≡ Some b → a ≡ b
+same_order words a b e f = ap (λ o. unwrap_or o a) (sym e ∙ f)
+
+pub orders_when : (r : Result Order WordsFault) (words : List Text) (order : Ordered) → order_of words ≡ Some order
+    → IfOk r (λ o. order_of words ≡ Some (meant o)) → IfErr r (λ f. f ≡ NoMemory) → GivesOrder r order
+orders_when (Ok o) words order is ok err = same_order words (meant o) order ok is
+orders_when (Err f) words order is ok err = err
+
+-- words that are taken are answered by their order, or memory ran out
+pub answered : (r : Result Order WordsFault) (words : List Text) (order : Ordered) → fault_of line_app words ≡ [] → order_of words ≡ Some order
+    → IfOk r (λ o. order_of words ≡ Some (meant o)) → IfErr r (λ f. (f ≡ NoMemory) ⊎ (fault_for words ≡ Some f)) → GivesOrder r order
+answered (Ok o) words order none is ok err = orders_when (Ok o) words order is ok err
+answered (Err f) words order none is ok err = only_memory words f none err

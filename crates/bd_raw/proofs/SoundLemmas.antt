@@ -1,0 +1,43 @@
+-- A document that is all of some bytes.
+use Rattle.std.proofs.Common.{◌≡◌, ℕ, List, [], refl, sym, ap, ◌∙◌, subst, ◌+◌, drop}
+use Rattle.std.proofs.lemmas.List.{append-nil}
+use Rattle.bd_value.specs.Tree.{Tree, leaf, doc, array, code_scope, Doc, fields_of, pairs_in, pairs_of-fields_of, fields_of-pairs_of}
+use Rattle.bd_value.specs.Kind.{kind_of}
+use Rattle.bd_value.specs.declared.kind.Kind.{Kind}
+use Rattle.bd_value.specs.declared.kind.Kind.TheVariants as kinds
+use Rattle.bd_raw.specs.Spelling.{IsDocument}
+use Rattle.bd_raw.specs.Sound.{Sound, Left, stands, stands_is, elements_left}
+use Rattle.bd_raw.specs.Unique as unique
+use Rattle.bd_raw.proofs.ValueAtLemmas.{kind_is}
+use Rattle.bd_raw.proofs.ContentsLemmas.{document_is}
+
+abbrev pub whole_sound : (bytes : List ℕ) (d : Doc) → IsDocument d bytes → Sound kinds.Doc bytes
+whole_sound bytes d h = record { tree = doc (fields_of d); value = bytes; after = []; spells = h.spells; kinded = refl; cut = sym (append-nil bytes); short = h.short }
+
+pub whole_is : (bytes : List ℕ) (d : Doc) (h : IsDocument d bytes) (s : Sound kinds.Doc bytes) → IsDocument (pairs_in (stands s)) bytes
+whole_is bytes d h s =
+    let e : d ≡ pairs_in (stands s) = sym (ap pairs_in (stands_is s (whole_sound bytes d h)) ∙ pairs_of-fields_of d) in
+    subst (λ (c : Doc). IsDocument c bytes) e h
+
+pub document_elements : (bytes : List ℕ) (start : ℕ) (s : Sound kinds.Doc (drop start bytes)) (g : Left (drop (start + 4) bytes)) → elements_left g ≡ pairs_in (stands s)
+document_elements bytes start s g = sym (ap pairs_in (document_is bytes start kinds.Doc s refl g) ∙ pairs_of-fields_of (elements_left g))
+
+-- a document is the pairs in it
+pub document_tree : (bytes : List ℕ) (s : Sound kinds.Doc bytes) → stands s ≡ doc (fields_of (pairs_in (stands s)))
+document_tree bytes s = as_pairs (stands s) (ap kind_of (stands_is s s) ∙ kind_is kinds.Doc bytes s)
+  where
+    as_pairs : (t : Tree) → kind_of t ≡ kinds.Doc → t ≡ doc (fields_of (pairs_in t))
+    as_pairs (leaf a) k = absurd (unique.no_holder a kinds.Doc k refl)
+    as_pairs (doc fs) k = ap doc (sym (fields_of-pairs_of fs))
+    as_pairs (array ts) k = absurd cc
+    as_pairs (code_scope code fs) k = absurd cc
+
+-- the bytes spell one document at most
+pub document_unique : (bytes : List ℕ) (c d : Doc) → IsDocument c bytes → IsDocument d bytes → c ≡ d
+document_unique bytes c d p q =
+    let e = (unique.values (doc (fields_of c)) (doc (fields_of d)) bytes bytes [] [] p.spells q.spells refl refl).0 in
+    sym (pairs_of-fields_of c) ∙ ap pairs_in e ∙ pairs_of-fields_of d
+
+-- one tree stands at a place
+pub same_tree : {kind : Kind} {bytes : List ℕ} (s t : Sound kind bytes) → stands s ≡ stands t
+same_tree s t = stands_is s t ∙ sym (stands_is t t)

@@ -1,0 +1,103 @@
+-- A value that is spelled at the front of bytes can be read there without a check.
+use Rattle.std.proofs.Common.{◌≡◌, ℕ, ◌+◌, ◌≤◌, ◌<◌, ◌^◌, true, List, [], ◌∷◌, ◌++◌, length, sym, ap, ◌∙◌, subst, append_assoc, arith}
+use Rattle.std.specs.Prelude.{IsUtf8, ◌==◌}
+use Rattle.std.proofs.lemmas.List.{length-append}
+use Rattle.std.proofs.lemmas.Bool.Decides.{nat_tests}
+use Rattle.bd_value.specs.Tree as trees
+use Rattle.bd_value.specs.Tree.{Scalar, Tree, leaf, doc, array, code_scope}
+use Rattle.bd_value.specs.Kind.{scalar_kind, kind_of}
+use Rattle.bd_value.specs.declared.kind.Kind.{Kind}
+use Rattle.bd_raw.specs.Spelling.{number, string, data_of, scoped, framed, IsName, IsText, IsScalar, IsValue}
+use Rattle.bd_raw.specs.Sizes.{number_of, after_name, size_of}
+use Rattle.bd_raw.specs.ValueAt.{TextAt, NameAt, BinaryAt, HasBytesOf}
+use Rattle.bd_raw.specs.Scalars.{number_length, number_front, zero_place, name_front, name_after, string_length, string_number, string_text, data_length, binary_count, binary_subtype, regex_whole, scalar_size}
+use Rattle.bd_raw.specs.Unique.{same_kind, framed_after}
+use Rattle.bd_raw.specs.Sound.{Sound, extent, extent_is}
+
+pub text_reads : (s rest : List ℕ) → IsText s → TextAt (string s ++ rest)
+text_reads s rest h = record {
+  some = omega (arith, string_number s rest h.1);
+  inside = omega (arith, string_number s rest h.1, length-append (string s) rest, string_length s);
+  utf8 = subst IsUtf8 (sym (string_text s rest h.1)) h.0;
+}
+
+pub name_reads : (name rest : List ℕ) → IsName name → NameAt (name ++ 0 ∷ rest)
+name_reads name rest h = record {
+  inside = omega (arith, zero_place name rest h.1, length-append name (0 ∷ rest));
+  utf8 = subst IsUtf8 (sym (name_front name rest h)) h.0;
+}
+
+binary_reads : (k : ℕ) (s r : List ℕ) → length (data_of k s) < 2 ^ 31 → BinaryAt ((number (length (data_of k s)) ++ k ∷ data_of k s) ++ r)
+binary_reads k s r lt =
+    let count = binary_count k (data_of k s) r lt in
+    let size : length ((number (length (data_of k s)) ++ k ∷ data_of k s) ++ r) ≡ 5 + length (data_of k s) + length r = omega (arith, length-append (number (length (data_of k s)) ++ k ∷ data_of k s) r, length-append (number (length (data_of k s))) (k ∷ data_of k s), number_length (length (data_of k s))) in
+    record {
+      inside = omega (arith, count, size);
+      inner = λ is. let two : (k == 2) ≡ true = let e = sym (binary_subtype k (data_of k s) r) ∙ is in grind (arith, nat_tests) in omega (arith, count, data_length k s two);
+    }
+
+long_enough : (n : ℕ) (v r : List ℕ) → length v ≡ n → n ≤ length (v ++ r)
+long_enough n v r e = omega (arith, length-append v r)
+
+pub scalar_reads : (a : Scalar) (v r : List ℕ) → IsScalar a v → HasBytesOf (scalar_kind a) (v ++ r)
+scalar_reads trees.min_key v r h = tt
+scalar_reads trees.undefined v r h = tt
+scalar_reads trees.null v r h = tt
+scalar_reads trees.max_key v r h = tt
+scalar_reads (trees.int32 z) v r h = long_enough 4 v r (sym (scalar_size (trees.int32 z) v r h))
+scalar_reads (trees.int64 z) v r h = long_enough 8 v r (sym (scalar_size (trees.int64 z) v r h))
+scalar_reads (trees.date z) v r h = long_enough 8 v r (sym (scalar_size (trees.date z) v r h))
+scalar_reads (trees.timestamp s i) v r h = long_enough 8 v r (sym (scalar_size (trees.timestamp s i) v r h))
+scalar_reads (trees.boolean b) v r h = long_enough 1 v r (sym (scalar_size (trees.boolean b) v r h))
+scalar_reads (trees.object_id id) v r h = long_enough 12 v r (sym (scalar_size (trees.object_id id) v r h))
+scalar_reads (trees.text s) v r h = subst (λ (x : List ℕ). TextAt (x ++ r)) (sym h.1) (text_reads s r h.0)
+scalar_reads (trees.symbol s) v r h = subst (λ (x : List ℕ). TextAt (x ++ r)) (sym h.1) (text_reads s r h.0)
+scalar_reads (trees.code s) v r h = subst (λ (x : List ℕ). TextAt (x ++ r)) (sym h.1) (text_reads s r h.0)
+scalar_reads (trees.db_pointer s id) v r h =
+    let whole : v ++ r ≡ string s ++ (id ++ r) = ap (λ (x : List ℕ). x ++ r) h.2 ∙ append_assoc (string s) id r in
+    (subst TextAt (sym whole) (text_reads s (id ++ r) h.0), omega (arith, scalar_size (trees.db_pointer s id) v r h, length-append v r))
+scalar_reads (trees.binary k s) v r h = subst (λ (x : List ℕ). BinaryAt (x ++ r)) (sym h.2) (binary_reads k s r h.1)
+scalar_reads (trees.regex p o) v r h =
+    let whole : v ++ r ≡ p ++ 0 ∷ (o ++ 0 ∷ r) = ap (λ (x : List ℕ). x ++ r) h.2 ∙ regex_whole p o r in
+    let after : after_name (v ++ r) ≡ o ++ 0 ∷ r = ap after_name whole ∙ name_after p (o ++ 0 ∷ r) h.0 in
+    (subst NameAt (sym whole) (name_reads p (o ++ 0 ∷ r) h.0), subst NameAt (sym after) (name_reads o r h.1))
+
+-- ---- sizes
+
+pub framed_length : (body : List ℕ) → length (framed body) ≡ length body + 5
+framed_length body = omega (arith, length-append (number (length body + 5)) (body ++ 0 ∷ []), number_length (length body + 5), length-append body (0 ∷ []))
+
+pub scoped_length : (s d : List ℕ) → length (scoped s d) ≡ length (string s ++ d) + 4
+scoped_length s d = omega (arith, length-append (number (length (string s ++ d) + 4)) (string s ++ d), number_length (length (string s ++ d) + 4))
+
+framed_size : (body v r : List ℕ) → v ≡ framed body → length v ≤ 16793600 → number_of (v ++ r) ≡ length v
+framed_size body v r e short =
+    let len : length v ≡ length body + 5 = ap length e ∙ framed_length body in
+    ap (λ (x : List ℕ). number_of (x ++ r)) e ∙ ap number_of (framed_after body r) ∙ number_front (length body + 5) (body ++ 0 ∷ r) (omega arith) ∙ sym len
+
+scoped_size : (s d v r : List ℕ) → v ≡ scoped s d → length v ≤ 16793600 → number_of (v ++ r) ≡ length v
+scoped_size s d v r e short =
+    let n = length (string s ++ d) + 4 in
+    let len : length v ≡ length (string s ++ d) + 4 = ap (λ (x : List ℕ). length x) e ∙ scoped_length s d in
+    ap (λ (x : List ℕ). number_of (x ++ r)) e ∙ ap number_of (append_assoc (number (length (string s ++ d) + 4)) (string s ++ d) r) ∙ number_front (length (string s ++ d) + 4) ((string s ++ d) ++ r) (omega arith) ∙ sym len
+
+size_is : (t : Tree) (v r : List ℕ) → IsValue t v → length v ≤ 16793600 → size_of (kind_of t) (v ++ r) ≡ length v
+size_is (leaf a) v r h short = scalar_size a v r h
+size_is (doc fs) v r h short = framed_size h.0 v r h.2 short
+size_is (array ts) v r h short = framed_size h.0 v r h.2 short
+size_is (code_scope s fs) v r h short = scoped_size s (framed h.0) v r h.2 short
+
+value_reads : (t : Tree) (v r : List ℕ) → IsValue t v → HasBytesOf (kind_of t) (v ++ r)
+value_reads (leaf a) v r h = scalar_reads a v r h
+value_reads (doc fs) v r h = omega (arith, length-append v r, ap (λ (x : List ℕ). length x) h.2, framed_length h.0)
+value_reads (array ts) v r h = omega (arith, length-append v r, ap (λ (x : List ℕ). length x) h.2, framed_length h.0)
+value_reads (code_scope s fs) v r h = omega (arith, length-append v r, ap (λ (x : List ℕ). length x) h.2, scoped_length s (framed h.0))
+
+pub kind_is : (kind : Kind) (bytes : List ℕ) (s : Sound kind bytes) → kind_of s.tree ≡ kind
+kind_is kind bytes s = same_kind (kind_of s.tree) kind s.kinded
+
+pub reads_at : (kind : Kind) (bytes : List ℕ) (s : Sound kind bytes) → HasBytesOf kind bytes
+reads_at kind bytes s = subst (HasBytesOf kind) (sym s.cut) (subst (λ (k : Kind). HasBytesOf k (s.value ++ s.after)) (kind_is kind bytes s) (value_reads s.tree s.value s.after s.spells))
+
+pub size_at : (kind : Kind) (bytes : List ℕ) (s : Sound kind bytes) → size_of kind bytes ≡ extent s
+size_at kind bytes s = ap (size_of kind) s.cut ∙ ap (λ (k : Kind). size_of k (s.value ++ s.after)) (sym (kind_is kind bytes s)) ∙ size_is s.tree s.value s.after s.spells s.short ∙ sym (extent_is s s)
