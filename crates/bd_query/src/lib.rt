@@ -1,0 +1,33 @@
+//! Filters: what a document of a query asks of other documents.
+//!
+//! MongoDB manual, "Query and Projection Operators": comparison, logical, element and array operators, with whole numbers and
+//! without regular expressions. What is left out is refused by name and place.
+//!
+//! An example, which `bd_query_tests` proves and runs as `examples::filter_of_a_document`:
+//!
+//! ```
+//! let document = read_doc(alloc, b"{\"qty\":{\"$gte\":5},\"size\":\"S\"}")?;
+//! let Filter::And(filters) = parse(alloc, &document)? else {
+//!     return Err("each pair was wanted".into());
+//! };
+//! assert!(rt; filters.len() == 2);
+//! ```
+//!
+//! - `filter`: `Filter` and `Operator`, to match on: `specs/Filter.antt`, and `specs/FilterView.antt` for what they stand for.
+//! - `fault`: `FilterFault`, which pair or member is no part of a filter: `specs/Fault.antt`.
+//! - `filter_of`: `parse`, the filter that a document is, or its first fault: `specs/FilterOf.antt`.
+//! - `word`, `plain`, `operand`, `types`, `operand_types`: names that stand for something, and operands that are values.
+#![tactic(auto)]
+
+mod fault;
+mod filter;
+mod filter_of;
+mod operand;
+mod operand_types;
+mod plain;
+mod types;
+mod word;
+
+pub use fault::{FilterFault, FilterFaultKind};
+pub use filter::{Filter, Operator};
+pub use filter_of::parse;

@@ -1,0 +1,33 @@
+//! The operators whose operand is values.
+
+ghost use Rattle.bd_query.specs.Fault.{ReadsPart};
+ghost use Rattle.bd_query.specs.FilterOf.{operand_kinds, or_bad_operand, plain_operator};
+ghost use Rattle.bd_query.specs.FilterView.{operator_tree};
+
+use crate::fault::{FilterFaultKind, Stop, stop_at};
+use crate::filter::Operator;
+use crate::operand::{members_of, ordered_value, plain_value, size_value, truth_value};
+use crate::operand_types::kinds_of;
+use crate::word::Plain;
+use bd_value::{Reading, to_value};
+use std::alloc::Global;
+
+/// The operator of a word and its operand.
+pub fn plain_operator<N: Reading>(alloc: Global, plain: Plain, operand: N) -> Result<Operator, Stop>
+    ensures { ReadsPart operator_tree result (plain_operator plain (N.tree operand)) }
+{
+    Ok(match plain {
+        Plain::Equal => Operator::Equal(to_value(alloc, operand)?),
+        Plain::NotEqual => Operator::NotEqual(plain_value(alloc, operand)?),
+        Plain::Greater => Operator::Greater(ordered_value(alloc, operand)?),
+        Plain::GreaterOrEqual => Operator::GreaterOrEqual(ordered_value(alloc, operand)?),
+        Plain::Less => Operator::Less(ordered_value(alloc, operand)?),
+        Plain::LessOrEqual => Operator::LessOrEqual(ordered_value(alloc, operand)?),
+        Plain::In => Operator::In(members_of(alloc, operand)?),
+        Plain::NotIn => Operator::NotIn(members_of(alloc, operand)?),
+        Plain::All => Operator::All(members_of(alloc, operand)?),
+        Plain::Size => Operator::Size(size_value(alloc, operand)?),
+        Plain::Exists => Operator::Exists(truth_value(alloc, operand)?),
+        Plain::Type => Operator::Type(kinds_of(alloc, operand)?),
+    })
+}

@@ -1,0 +1,123 @@
+//! The names that stand for something in a filter.
+
+ghost use Rattle.std.specs.Prelude.{◌≡◌};
+ghost use Rattle.std.specs.List.{list_any};
+ghost use Rattle.bd_query.specs.Word.{begins_with_dollar, is_left_out, word_of};
+
+/// What a name stands for in a filter.
+#[derive(Clone, Copy, Debug, PartialEq, Eq)]
+pub enum Word {
+    /// An operator whose operand is an array of filters.
+    Logical(Logical),
+    /// An operator whose operand is values.
+    Plain(Plain),
+    /// `$not`
+    Not,
+    /// `$elemMatch`
+    ElemMatch,
+    /// An operator of the manual that is left out.
+    LeftOut,
+    /// Another name that begins with a dollar sign.
+    Unknown,
+    /// A path.
+    Field,
+}
+
+/// MongoDB manual, "Logical Query Operators", without `$not`.
+#[derive(Clone, Copy, Debug, PartialEq, Eq)]
+pub enum Logical {
+    And,
+    Or,
+    Nor,
+}
+
+/// The operators whose operand is values.
+#[derive(Clone, Copy, Debug, PartialEq, Eq)]
+pub enum Plain {
+    Equal,
+    NotEqual,
+    Greater,
+    GreaterOrEqual,
+    Less,
+    LessOrEqual,
+    In,
+    NotIn,
+    All,
+    Size,
+    Exists,
+    Type,
+}
+
+impl Word {
+    /// What a name stands for.
+    #[tactic(auto, unfolding(crate::specs::Word::word_of))]
+    pub fn from_name(name: &str) -> Word
+        ensures { result ≡ word_of name.now }
+    {
+        if !begins_with_dollar(name) {
+            return Word::Field;
+        }
+        match name {
+            "$and" => Word::Logical(Logical::And),
+            "$or" => Word::Logical(Logical::Or),
+            "$nor" => Word::Logical(Logical::Nor),
+            "$eq" => Word::Plain(Plain::Equal),
+            "$ne" => Word::Plain(Plain::NotEqual),
+            "$gt" => Word::Plain(Plain::Greater),
+            "$gte" => Word::Plain(Plain::GreaterOrEqual),
+            "$lt" => Word::Plain(Plain::Less),
+            "$lte" => Word::Plain(Plain::LessOrEqual),
+            "$in" => Word::Plain(Plain::In),
+            "$nin" => Word::Plain(Plain::NotIn),
+            "$all" => Word::Plain(Plain::All),
+            "$size" => Word::Plain(Plain::Size),
+            "$exists" => Word::Plain(Plain::Exists),
+            "$type" => Word::Plain(Plain::Type),
+            "$not" => Word::Not,
+            "$elemMatch" => Word::ElemMatch,
+            _ => {
+                if is_left_out(name) {
+                    Word::LeftOut
+                } else {
+                    Word::Unknown
+                }
+            }
+        }
+    }
+}
+
+/// Whether a name begins as an operator does.
+pub fn begins_with_dollar(name: &str) -> bool
+    ensures { result ≡ begins_with_dollar name.now }
+{
+    matches!(name.as_bytes(), [b'$', ..])
+}
+
+/// Whether it is the name of an operator of the manual that is left out, or a part of a DBRef.
+#[tactic(auto, unfolding(crate::specs::Word::is_left_out))]
+fn is_left_out(name: &str) -> bool
+    ensures { result ≡ is_left_out name.now }
+{
+    matches!(
+        name,
+        "$regex"
+            | "$options"
+            | "$mod"
+            | "$expr"
+            | "$where"
+            | "$text"
+            | "$jsonSchema"
+            | "$comment"
+            | "$geoWithin"
+            | "$geoIntersects"
+            | "$near"
+            | "$nearSphere"
+            | "$bitsAllSet"
+            | "$bitsAnySet"
+            | "$bitsAllClear"
+            | "$bitsAnyClear"
+            | "$ref"
+            | "$id"
+            | "$db"
+    )
+}
