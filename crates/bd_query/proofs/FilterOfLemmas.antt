@@ -90,7 +90,7 @@ member_is room (code_scope s fs) ps is are some = absurd are
 
 element_form : (room : ℕ) (fs gs : Fields) → fs ≡ gs → (b : Bool) → has_value_form gs ≡ b → room ≢ 0
     → element_operator room (doc fs) ≡ (if b then read_as (λ xs. has_element (operators_from xs)) (operators_of (room - 1) gs)
-      else read_as (λ xs. has_document (filters_from xs)) (filters_of (room - 1) gs))
+    else read_as (λ xs. has_document (filters_from xs)) (filters_of (room - 1) gs))
 element_form room fs gs same true form some =
     rw (same, form) (with_room room (read_as (λ xs. has_element (operators_from xs)) (operators_of (room - 1) gs)) some)
 element_form room fs gs same false form some =
@@ -98,7 +98,7 @@ element_form room fs gs same false form some =
 
 pub element_is : (room : ℕ) (t : Tree) (ps : Doc) (b : Bool) → kind_of t ≡ kinds.Doc → AreParts t ps → has_value_form (fields_of ps) ≡ b → room ≢ 0
     → element_operator room t ≡ (if b then read_as (λ xs. has_element (operators_from xs)) (operators_of (room - 1) (fields_of ps))
-      else read_as (λ xs. has_document (filters_from xs)) (filters_of (room - 1) (fields_of ps)))
+    else read_as (λ xs. has_document (filters_from xs)) (filters_of (room - 1) (fields_of ps)))
 element_is room (leaf s) ps b is are form some = absurd are
 element_is room (doc fs) ps b is are form some = element_form room fs (fields_of ps) (sym (fields_of-pairs_of fs) ∙ ap fields_of (sym are)) b form some
 element_is room (array ts) ps b is are form some = absurd cc

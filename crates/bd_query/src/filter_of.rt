@@ -153,7 +153,11 @@ fn read_value<N: Reading>(alloc: Global, room: u32, value: N) -> Result<Vec<Oper
 }
 
 #[cycle(parse)]
-fn read_operators<N: Reading>(alloc: Global, room: u32, pairs: N::Rest) -> Result<Vec<Operator>, Stop>
+fn read_operators<N: Reading>(
+    alloc: Global,
+    room: u32,
+    pairs: N::Rest,
+) -> Result<Vec<Operator>, Stop>
     ensures { ReadsPart (λ os. map operator_tree os.items) result (operators_of room (fields_of (N.left pairs))) }
 {
     let mut operators = Vec::new(alloc);
@@ -169,7 +173,12 @@ fn read_operators<N: Reading>(alloc: Global, room: u32, pairs: N::Rest) -> Resul
 }
 
 #[cycle(parse)]
-fn read_operator<N: Reading>(alloc: Global, room: u32, name: &str, operand: N) -> Result<Operator, Stop>
+fn read_operator<N: Reading>(
+    alloc: Global,
+    room: u32,
+    name: &str,
+    operand: N,
+) -> Result<Operator, Stop>
     ensures { ReadsPart operator_tree result (operator_of (word_of name.now) (N.tree operand) (not_operator room (N.tree operand)) (element_operator room (N.tree operand))) }
 {
     match Word::from_name(name) {

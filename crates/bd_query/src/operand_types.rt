@@ -29,7 +29,11 @@ pub fn kinds_of<N: Reading>(alloc: Global, operand: N) -> Result<Vec<Kind>, Stop
 }
 
 /// Appends the kinds of some types.
-fn add_members<N: Reading>(alloc: Global, members: N::Rest, kinds: &mut Vec<Kind>) -> Result<(), Stop>
+fn add_members<N: Reading>(
+    alloc: Global,
+    members: N::Rest,
+    kinds: &mut Vec<Kind>,
+) -> Result<(), Stop>
     ensures { ReadsPart (λ _. kinds.new.items) result (or_bad_operand (both_kinds (Some kinds.old.items) (all_kinds (items_of (values_of (N.left members)))))) }
 {
     let mut left = members;

@@ -80,7 +80,8 @@ const REFUSED: &str = r#"{"a":{"$gt":1,"b":2}} | a.b | operators and fields mixe
 {"b":{"$gt":1,"$foo":2},"a":{"$foo":1}} | b.$foo | unknown operator"#;
 
 /// The operators of the manual that are left out, and the names of a DBRef.
-const LEFT_OUT: &str = "$regex $options $mod $expr $where $text $jsonSchema $comment $geoWithin $geoIntersects $near $nearSphere $bitsAllSet $bitsAnySet $bitsAllClear $bitsAnyClear $ref $id $db";
+const LEFT_OUT: &str =
+    "$regex $options $mod $expr $where $text $jsonSchema $comment $geoWithin $geoIntersects $near $nearSphere $bitsAllSet $bitsAnySet $bitsAllClear $bitsAnyClear $ref $id $db";
 
 /// The names of a place with full stops between them, and the words of the fault.
 fn told(alloc: Global, fault: &FilterFault) -> Result<String, NoMemory> {
@@ -133,16 +134,39 @@ fn names_what_is_left_out(rt: HostRuntime) -> Result<(), Fail> {
     for name in LEFT_OUT.split(' ') {
         let top = format!(in alloc; "{{\"a\":{{}},\"{name}\":1}}")?;
         let want = format!(in alloc; "{name} | not in the profile")?;
-        assert!(rt; is_refused(alloc, top.as_str(), want.as_str())?, "{name} at the top");
+        assert!(rt;
+            is_refused(alloc, top.as_str(), want.as_str())?,
+            "{name} at the top"
+        );
         let inner = format!(in alloc; "{{\"a\":{{\"$gt\":1,\"{name}\":1}}}}")?;
         let want = format!(in alloc; "a.{name} | not in the profile")?;
-        assert!(rt; is_refused(alloc, inner.as_str(), want.as_str())?, "{name} among operators");
+        assert!(rt;
+            is_refused(alloc, inner.as_str(), want.as_str())?,
+            "{name} among operators"
+        );
     }
     Ok(())
 }
 
+/// That a path has too many components is no want of memory.
+#[test]
+fn tells_a_long_path(rt: HostRuntime) -> Result<(), Fail> {
+    let alloc = rt.alloc();
+    let name = "a.".repeat(alloc, 100)?;
+    let text = format!(in alloc; "{{\"{name}b\":1}}")?;
+    let want = format!(in alloc; "{name}b | bad path")?;
+    assert!(rt; is_refused(alloc, text.as_str(), want.as_str())?);
+    Ok(())
+}
+
 /// So many filters, one inside the other.
-fn is_taken(alloc: Global, begin: &str, middle: &str, end: &str, times: usize) -> Result<bool, Fail> {
+fn is_taken(
+    alloc: Global,
+    begin: &str,
+    middle: &str,
+    end: &str,
+    times: usize,
+) -> Result<bool, Fail> {
     let mut text = begin.repeat(alloc, times)?;
     text.push_str(middle)?;
     text.push_str(end.repeat(alloc, times)?.as_str())?;
