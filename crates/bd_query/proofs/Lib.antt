@@ -1,3 +1,4 @@
 pub mod FaultLemmas
 pub mod FilterOfLemmas
 pub mod FilterViewLemmas
+pub mod EndTestLemmas

@@ -3,13 +3,7 @@ use Rattle.std.specs.Prelude.{ℕ, Bool, List, [], ◌∷◌}
 use Rattle.bd_value.specs.Tree.{Tree}
 use Rattle.bd_value.specs.declared.kind.Kind.{Kind}
 use Rattle.bd_path.specs.Names.{Names}
-
--- `$gt`, `$gte`, `$lt`, `$lte`
-pub data Relation : Type 0 where
-  above : Relation
-  at_least : Relation
-  below : Relation
-  at_most : Relation
+use Rattle.bd_query.specs.declared.relation.Relation.{Relation}
 
 -- A list inside a filter has to be a type of its own: `Filters` and `Operators` are lists of them.
 mutual

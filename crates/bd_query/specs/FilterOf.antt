@@ -8,12 +8,13 @@ use Rattle.bd_path.specs.Names.{Names}
 use Rattle.bd_path.specs.Path.{path_of}
 use Rattle.bd_path.specs.declared.path_fault.PathFault.{PathFault}
 use Rattle.bd_query.specs.Fault.{Refusal, refuse, under}
-use Rattle.bd_query.specs.Filter.{above, at_least, below, at_most, Filter, all_of, some_of, none_of, at_path, filters_from}
+use Rattle.bd_query.specs.Filter.{Filter, all_of, some_of, none_of, at_path, filters_from}
 use Rattle.bd_query.specs.Filter.{Operator, equals, compares, is_in, has_all, has_type, has_size, exists, negates, has_element, has_document}
 use Rattle.bd_query.specs.Filter.{negation_of, operators_from}
 use Rattle.bd_query.specs.Types.{kinds_named, kinds_numbered}
 use Rattle.bd_query.specs.Word.{begins_with_dollar, word_of}
 use Rattle.bd_query.specs.declared.fault.FilterFaultKind.TheVariants as faults
+use Rattle.bd_query.specs.declared.relation.Relation.TheVariants as relation
 use Rattle.bd_query.specs.declared.word.Logical.{Logical}
 use Rattle.bd_query.specs.declared.word.Logical.TheVariants as logical
 use Rattle.bd_query.specs.declared.word.Plain.{Plain}
@@ -123,10 +124,10 @@ or_bad_operand (Some x) = Ok x
 abbrev pub plain_operator : Plain → Tree → Result Operator Refusal
 plain_operator plain.Equal t = Ok (equals t)
 plain_operator plain.NotEqual t = read_as (λ v. negation_of (equals v)) (plain_value t)
-plain_operator plain.Greater t = read_as (compares above) (ordered_value t)
-plain_operator plain.GreaterOrEqual t = read_as (compares at_least) (ordered_value t)
-plain_operator plain.Less t = read_as (compares below) (ordered_value t)
-plain_operator plain.LessOrEqual t = read_as (compares at_most) (ordered_value t)
+plain_operator plain.Greater t = read_as (compares relation.Above) (ordered_value t)
+plain_operator plain.GreaterOrEqual t = read_as (compares relation.AtLeast) (ordered_value t)
+plain_operator plain.Less t = read_as (compares relation.Below) (ordered_value t)
+plain_operator plain.LessOrEqual t = read_as (compares relation.AtMost) (ordered_value t)
 plain_operator plain.In t = read_as is_in (members_of t)
 plain_operator plain.NotIn t = read_as (λ vs. negation_of (is_in vs)) (members_of t)
 plain_operator plain.All t = read_as has_all (members_of t)

@@ -3,13 +3,14 @@ use Rattle.std.specs.Prelude.{map}
 use Rattle.bd_value.specs.View.{tree_of}
 use Rattle.bd_path.specs.PathNames.{names_of}
 use Rattle.bd_query.specs.Filter as trees
-use Rattle.bd_query.specs.Filter.{above, at_least, below, at_most, all_of, some_of, none_of, at_path, filters_from}
+use Rattle.bd_query.specs.Filter.{all_of, some_of, none_of, at_path, filters_from}
 use Rattle.bd_query.specs.Filter.{equals, compares, is_in, has_all, has_type, has_size, exists, negates, has_element, has_document}
 use Rattle.bd_query.specs.Filter.{negation_of, operators_from}
 use Rattle.bd_query.specs.declared.filter.Filter.{Filter}
 use Rattle.bd_query.specs.declared.filter.Filter.TheFolds.{fold-Filter, fold-Operator}
 use Rattle.bd_query.specs.declared.filter.Filter.TheOpen.{Filter-F, Operator-F}
 use Rattle.bd_query.specs.declared.filter.Operator.{Operator}
+use Rattle.bd_query.specs.declared.relation.Relation.TheVariants as relation
 
 -- one level of a filter and of an operator, with each part inside already seen so
 abbrev pub filter_step : Filter-F trees.Filter trees.Operator → trees.Filter
@@ -21,10 +22,10 @@ filter_step (Filter-F.Field path os) = at_path (names_of path) (operators_from o
 abbrev pub operator_step : Operator-F trees.Filter trees.Operator → trees.Operator
 operator_step (Operator-F.Equal v) = equals (tree_of v)
 operator_step (Operator-F.NotEqual v) = negation_of (equals (tree_of v))
-operator_step (Operator-F.Greater v) = compares above (tree_of v)
-operator_step (Operator-F.GreaterOrEqual v) = compares at_least (tree_of v)
-operator_step (Operator-F.Less v) = compares below (tree_of v)
-operator_step (Operator-F.LessOrEqual v) = compares at_most (tree_of v)
+operator_step (Operator-F.Greater v) = compares relation.Above (tree_of v)
+operator_step (Operator-F.GreaterOrEqual v) = compares relation.AtLeast (tree_of v)
+operator_step (Operator-F.Less v) = compares relation.Below (tree_of v)
+operator_step (Operator-F.LessOrEqual v) = compares relation.AtMost (tree_of v)
 operator_step (Operator-F.In vs) = is_in (map tree_of vs.items)
 operator_step (Operator-F.NotIn vs) = negation_of (is_in (map tree_of vs.items))
 operator_step (Operator-F.All vs) = has_all (map tree_of vs.items)

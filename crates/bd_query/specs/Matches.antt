@@ -2,20 +2,20 @@
 use Rattle.std.specs.Prelude.{ℕ, ◌==◌, Bool, true, false, ◌&&◌, ◌||◌, not, List, [], ◌∷◌, length, map, Some, None, if◌then◌else◌}
 use Rattle.std.specs.List.{list_any, list_all}
 use Rattle.std.specs.declared.cmp.Ordering.{Ordering}
-use Rattle.std.specs.declared.cmp.Ordering.TheVariants.{Less, Greater}
+use Rattle.std.specs.Ordering.{is_eq, is_ge, is_gt, is_le, is_lt}
 use Rattle.bd_value.specs.Kind.{kind_of}
-use Rattle.bd_value.specs.Order.{cmp, equal}
-use Rattle.bd_value.specs.Order.Classes.{class_of, class_rank}
+use Rattle.bd_value.specs.Order.{class_cmp, cmp, equal}
 use Rattle.bd_value.specs.Parts.{elements_in}
 use Rattle.bd_value.specs.Tree as trees
 use Rattle.bd_value.specs.Tree.{Tree, leaf, doc, array, code_scope}
 use Rattle.bd_value.specs.declared.kind.Kind.{Kind}
 use Rattle.bd_path.specs.Reach.{End, is_document, reach}
-use Rattle.bd_query.specs.Filter.{Relation, above, at_least, below, at_most}
 use Rattle.bd_query.specs.Filter.{Filter, all_of, some_of, none_of, at_path, Filters, no_filters, filter}
 use Rattle.bd_query.specs.Filter.{Operator, equals, compares, is_in, has_all, has_type, has_size, exists, negates, has_element, has_document}
 use Rattle.bd_query.specs.Filter.{Operators, no_operators, operator}
 use Rattle.bd_query.specs.Types.{is_kind}
+use Rattle.bd_query.specs.declared.relation.Relation.{Relation}
+use Rattle.bd_query.specs.declared.relation.Relation.TheVariants as relation
 
 abbrev pub is_array : Tree → Bool
 is_array (leaf s) = false
@@ -47,18 +47,14 @@ is_value test None = false
 is_value test (Some t) = test t
 
 abbrev pub relates : Relation → Ordering → Bool
-relates above Greater = true
-relates above o = false
-relates at_least Less = false
-relates at_least o = true
-relates below Less = true
-relates below o = false
-relates at_most Greater = false
-relates at_most o = true
+relates relation.Above o = is_gt o
+relates relation.AtLeast o = is_ge o
+relates relation.Below o = is_lt o
+relates relation.AtMost o = is_le o
 
 -- of one class, and in that order
 abbrev pub is_related : Relation → Tree → Tree → Bool
-is_related r operand t = class_rank (class_of t) == class_rank (class_of operand) && relates r (cmp t operand)
+is_related r operand t = is_eq (class_cmp t operand) && relates r (cmp t operand)
 
 abbrev pub is_of_type : List Kind → Tree → Bool
 is_of_type kinds t = list_any (λ k. is_kind k (kind_of t)) kinds
@@ -66,7 +62,7 @@ is_of_type kinds t = list_any (λ k. is_kind k (kind_of t)) kinds
 abbrev pub is_of_size : ℕ → Tree → Bool
 is_of_size n t = is_array t && (length (elements_in t) == n)
 
-abbrev pub is_nonempty : List Tree → Bool
+abbrev pub is_nonempty : {A : Type 0} → List A → Bool
 is_nonempty [] = false
 is_nonempty (t ∷ ts) = true
 

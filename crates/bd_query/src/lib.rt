@@ -19,13 +19,16 @@
 //! - `word`, `plain`, `operand`, `types`, `operand_types`: names that stand for something, and operands that are values.
 #![tactic(auto)]
 
+mod end_test;
 mod fault;
 mod filter;
 mod filter_of;
 mod operand;
 mod operand_types;
 mod plain;
+mod relation;
 mod types;
+mod value_test;
 mod word;
 
 pub use fault::{FilterFault, FilterFaultKind};

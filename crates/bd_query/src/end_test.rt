@@ -1,0 +1,99 @@
+//! What an end of a path is asked.
+
+ghost use Rattle.std.specs.Prelude.{◌≡◌, ◌&&◌, Bool};
+ghost use Rattle.std.specs.List.{list_all, list_any};
+ghost use Rattle.bd_value.specs.Parts.{elements_in};
+ghost use Rattle.bd_value.specs.View.{tree_of};
+ghost use Rattle.bd_path.specs.PathNames.{names_of};
+ghost use Rattle.bd_path.specs.Reach.{reach};
+ghost use Rattle.bd_query.specs.Matches.{any_equal, candidates, is_nonempty, is_of_size, is_there, is_value, value_or_null};
+
+use crate::value_test::{EqualTo, ValueTest, any_element};
+use bd_path::{EndTest, Path, any_end};
+use bd_value::{Kind, Reading, Tree, Value};
+
+/// A candidate passes, where a missing field is a null.
+#[derive(Clone, Copy)]
+pub struct OrNull<T>(pub T);
+
+impl<T: ValueTest> EndTest for OrNull<T> {
+    ghost passes = { λ s e. list_any (λ c. T.accepts s.0 (value_or_null c)) (candidates e) };
+
+    fn test<N: Reading>(&self, end: Option<N>) -> bool {
+        match end {
+            None => self.0.test(Tree::Value(&Value::Null)),
+            Some(node) => self.0.test(node) || any_element(node, &self.0),
+        }
+    }
+}
+
+/// A candidate that is a value passes.
+#[derive(Clone, Copy)]
+pub struct Present<T>(pub T);
+
+impl<T: ValueTest> EndTest for Present<T> {
+    ghost passes = { λ s e. list_any (is_value (T.accepts s.0)) (candidates e) };
+
+    fn test<N: Reading>(&self, end: Option<N>) -> bool {
+        match end {
+            None => false,
+            Some(node) => self.0.test(node) || any_element(node, &self.0),
+        }
+    }
+}
+
+/// An array of so many elements.
+#[derive(Clone, Copy)]
+pub struct OfSize(pub u64);
+
+impl EndTest for OfSize {
+    ghost passes = { λ s. is_value (is_of_size s.0) };
+
+    fn test<N: Reading>(&self, end: Option<N>) -> bool {
+        match end {
+            None => false,
+            Some(node) => has_size(node, self.0),
+        }
+    }
+}
+
+/// Whether it is an array of so many elements.
+pub fn has_size<N: Reading>(node: N, size: u64) -> bool
+    ensures { result ≡ is_of_size size (N.tree node) }
+{
+    match node.kind() {
+        Kind::Array => node.len() as u64 == size,
+        _ => false,
+    }
+}
+
+/// A value is there.
+#[derive(Clone, Copy)]
+pub struct There;
+
+impl EndTest for There {
+    ghost passes = { λ _. is_there };
+
+    fn test<N: Reading>(&self, end: Option<N>) -> bool {
+        end.is_some()
+    }
+}
+
+/// Whether each member is equalled by a candidate, and there is one.
+pub fn equals_all<N: Reading>(members: &[Value], path: &Path, node: N) -> bool
+    ensures { result ≡ (is_nonempty members.now && list_all (λ v. any_equal (reach (N.tree node) (names_of path.now)) (tree_of v)) members.now) }
+{
+    match members {
+        [] => false,
+        _ => are_equalled(members, path, node),
+    }
+}
+
+/// Whether each member is equalled by a candidate.
+fn are_equalled<N: Reading>(members: &[Value], path: &Path, node: N) -> bool
+    ensures { result ≡ list_all (λ v. any_equal (reach (N.tree node) (names_of path.now)) (tree_of v)) members.now }
+{
+    members
+        .iter()
+        .all(|member| any_end(node, path, &OrNull(EqualTo(member))))
+}

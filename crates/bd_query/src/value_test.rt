@@ -1,0 +1,108 @@
+//! What one value is asked.
+
+ghost use Rattle.std.specs.Prelude.{◌≡◌, Bool};
+ghost use Rattle.std.specs.List.{list_any};
+ghost use Rattle.bd_value.specs.Order.{equal};
+ghost use Rattle.bd_value.specs.Parts.{elements_in};
+ghost use Rattle.bd_value.specs.Tree as trees;
+ghost use Rattle.bd_value.specs.View.{tree_of};
+ghost use Rattle.bd_query.specs.Matches.{is_of_type, is_related};
+ghost use Rattle.bd_query.specs.Types.{is_kind};
+
+use crate::relation::{Relation, relates};
+use bd_value::{Kind, Reading, Tree, Value, class_of_node, compare_nodes};
+
+/// A test of one value.
+pub trait ValueTest {
+    /// The test, of a tree.
+    ghost accepts: { Self → trees.Tree → Bool };
+
+    /// Whether a value passes.
+    fn test<N: Reading>(&self, node: N) -> bool
+        ensures { result ≡ accepts self.now (N.tree node) };
+}
+
+/// It equals the operand.
+#[derive(Clone, Copy)]
+pub struct EqualTo<'a>(pub &'a Value);
+
+impl<'a> ValueTest for EqualTo<'a> {
+    ghost accepts = { λ s t. equal t (tree_of s.0.now) };
+
+    fn test<N: Reading>(&self, node: N) -> bool {
+        compare_nodes(node, Tree::Value(self.0)).is_eq()
+    }
+}
+
+/// It equals a member.
+#[derive(Clone, Copy)]
+pub struct OneOf<'a>(pub &'a [Value]);
+
+impl<'a> ValueTest for OneOf<'a> {
+    ghost accepts = { λ s t. list_any (λ v. equal t (tree_of v)) s.0.now };
+
+    fn test<N: Reading>(&self, node: N) -> bool {
+        self.0
+            .iter()
+            .any(|member| compare_nodes(node, Tree::Value(member)).is_eq())
+    }
+}
+
+/// It is of the operand's class, and stands to it so.
+#[derive(Clone, Copy)]
+pub struct Related<'a> {
+    pub relation: Relation,
+    pub operand: &'a Value,
+}
+
+impl<'a> ValueTest for Related<'a> {
+    ghost accepts = { λ s t. is_related s.relation (tree_of s.operand.now) t };
+
+    fn test<N: Reading>(&self, node: N) -> bool {
+        let operand = Tree::Value(self.operand);
+        class_of_node(node).cmp(&class_of_node(operand)).is_eq()
+            && relates(self.relation, compare_nodes(node, operand))
+    }
+}
+
+/// It is of one of the kinds.
+#[derive(Clone, Copy)]
+pub struct OfKinds<'a>(pub &'a [Kind]);
+
+impl<'a> ValueTest for OfKinds<'a> {
+    ghost accepts = { λ s t. is_of_type s.0.now t };
+
+    fn test<N: Reading>(&self, node: N) -> bool {
+        has_kind(self.0, node.kind())
+    }
+}
+
+/// Whether a kind is among some.
+fn has_kind(kinds: &[Kind], kind: Kind) -> bool
+    ensures { result ≡ list_any (λ k. is_kind k kind) kinds.now }
+{
+    kinds.iter().any(|k| is_same(*k, kind))
+}
+
+fn is_same(a: Kind, b: Kind) -> bool
+    ensures { result ≡ is_kind a b }
+{
+    a == b
+}
+
+/// Whether an element of an array passes.
+pub fn any_element<N: Reading, T: ValueTest>(node: N, test: &T) -> bool
+    ensures { result ≡ list_any (T.accepts test.now) (elements_in (N.tree node)) }
+{
+    let Kind::Array = node.kind() else {
+        return false;
+    };
+    let mut left = node.parts();
+    while let Some(next) = N::next(&left) {
+        if test.test(next.1) {
+            return true;
+        }
+        left = next.2;
+    }
+    false
+}
