@@ -17,6 +17,7 @@
 //! - `fault`: `FilterFault`, which pair or member is no part of a filter: `specs/Fault.antt`.
 //! - `filter_of`: `parse`, the filter that a document is, or its first fault: `specs/FilterOf.antt`.
 //! - `word`, `plain`, `operand`, `types`, `operand_types`: names that stand for something, and operands that are values.
+//! - `relation`, `value_test`, `end_test`: what one value and what an end of a path is asked; they wait for what matches.
 #![tactic(auto)]
 
 mod end_test;
