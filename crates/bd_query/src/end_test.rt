@@ -58,7 +58,7 @@ impl EndTest for OfSize {
 }
 
 /// Whether it is an array of so many elements.
-pub fn has_size<N: Reading>(node: N, size: u64) -> bool
+pub(crate) fn has_size<N: Reading>(node: N, size: u64) -> bool
     ensures { result ≡ is_of_size size (N.tree node) }
 {
     match node.kind() {
@@ -80,7 +80,7 @@ impl EndTest for There {
 }
 
 /// Whether each member is equalled by a candidate, and there is one.
-pub fn equals_all<N: Reading>(members: &[Value], path: &Path, node: N) -> bool
+pub(crate) fn equals_all<N: Reading>(members: &[Value], path: &Path, node: N) -> bool
     ensures { result ≡ (is_nonempty members.now && list_all (λ v. any_equal (reach (N.tree node) (names_of path.now)) (tree_of v)) members.now) }
 {
     match members {

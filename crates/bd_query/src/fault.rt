@@ -74,7 +74,7 @@ pub enum Stop {
 }
 
 /// A fault with no place yet.
-pub fn stop_at(alloc: Global, kind: FilterFaultKind) -> Stop
+pub(crate) fn stop_at(alloc: Global, kind: FilterFaultKind) -> Stop
     ensures { TellsMisfit result (record { kind = kind; place = [] }) }
 {
     Stop::Misfit(Misfit {
@@ -84,7 +84,7 @@ pub fn stop_at(alloc: Global, kind: FilterFaultKind) -> Stop
 }
 
 /// The stop as it is seen from one name up.
-pub fn under(alloc: Global, name: &str, stop: Stop) -> Stop
+pub(crate) fn under(alloc: Global, name: &str, stop: Stop) -> Stop
     ensures tells { (r : Refusal) → TellsMisfit stop r → TellsMisfit result (deeper name.now r) }
     ensures starved { stop ≡ NoMemory → result ≡ NoMemory }
 {
@@ -104,7 +104,7 @@ pub fn under(alloc: Global, name: &str, stop: Stop) -> Stop
 }
 
 /// The fault that reading stopped at, with its place from the top down.
-pub fn fault_of(alloc: Global, stop: Stop) -> FilterFault
+pub(crate) fn fault_of(alloc: Global, stop: Stop) -> FilterFault
     ensures { IsAnswerTo stop result }
 {
     match stop {

@@ -13,7 +13,7 @@ use bd_value::{Kind, Reading, Scalar, Value, to_value};
 use std::alloc::Global;
 
 /// A value that is no regular expression, in memory.
-pub fn plain_value<N: Reading>(alloc: Global, operand: N) -> Result<Value, Stop>
+pub(crate) fn plain_value<N: Reading>(alloc: Global, operand: N) -> Result<Value, Stop>
     ensures { ReadsPart tree_of result (plain_value (N.tree operand)) }
 {
     if operand.kind() == Kind::Regex {
@@ -23,7 +23,7 @@ pub fn plain_value<N: Reading>(alloc: Global, operand: N) -> Result<Value, Stop>
 }
 
 /// A value that is above some and below others, and no regular expression.
-pub fn ordered_value<N: Reading>(alloc: Global, operand: N) -> Result<Value, Stop>
+pub(crate) fn ordered_value<N: Reading>(alloc: Global, operand: N) -> Result<Value, Stop>
     ensures { ReadsPart tree_of result (ordered_value (N.tree operand)) }
 {
     match operand.kind() {
@@ -35,7 +35,7 @@ pub fn ordered_value<N: Reading>(alloc: Global, operand: N) -> Result<Value, Sto
 }
 
 /// Whether it is a document that begins as operators do.
-pub fn has_operators<N: Reading>(operand: N) -> bool
+pub(crate) fn has_operators<N: Reading>(operand: N) -> bool
     ensures { result ≡ has_operators (N.tree operand) }
 {
     if operand.kind() != Kind::Doc {
@@ -59,7 +59,7 @@ fn member_value<N: Reading>(alloc: Global, member: N) -> Result<Value, Stop>
 }
 
 /// The members of an array, in memory.
-pub fn members_of<N: Reading>(alloc: Global, operand: N) -> Result<Vec<Value>, Stop>
+pub(crate) fn members_of<N: Reading>(alloc: Global, operand: N) -> Result<Vec<Value>, Stop>
     ensures { ReadsPart (λ vs. map tree_of vs.items) result (members_of (N.tree operand)) }
 {
     let Kind::Array = operand.kind() else {
@@ -78,7 +78,7 @@ pub fn members_of<N: Reading>(alloc: Global, operand: N) -> Result<Vec<Value>, S
 }
 
 /// The stop as it is seen from the array, of the member at an index.
-pub fn under_index(alloc: Global, index: usize, stop: Stop) -> Stop
+pub(crate) fn under_index(alloc: Global, index: usize, stop: Stop) -> Stop
     ensures tells { (r : Refusal) → TellsMisfit stop r → TellsMisfit result (deeper (decimal index) r) }
     ensures starved { stop ≡ NoMemory → result ≡ NoMemory }
 {
@@ -89,7 +89,7 @@ pub fn under_index(alloc: Global, index: usize, stop: Stop) -> Stop
 }
 
 /// The number of a size.
-pub fn size_value<N: Reading>(alloc: Global, operand: N) -> Result<u64, Stop>
+pub(crate) fn size_value<N: Reading>(alloc: Global, operand: N) -> Result<u64, Stop>
     ensures { ReadsPart (λ n. n) result (size_value (N.tree operand)) }
 {
     let size = match operand.leaf() {
@@ -101,7 +101,7 @@ pub fn size_value<N: Reading>(alloc: Global, operand: N) -> Result<u64, Stop>
 }
 
 /// A boolean, or whether a number is not zero.
-pub fn truth_value<N: Reading>(alloc: Global, operand: N) -> Result<bool, Stop>
+pub(crate) fn truth_value<N: Reading>(alloc: Global, operand: N) -> Result<bool, Stop>
     ensures { ReadsPart (λ b. b) result (truth_value (N.tree operand)) }
 {
     match operand.leaf() {

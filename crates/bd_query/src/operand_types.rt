@@ -13,7 +13,7 @@ use bd_value::{Kind, Reading, Scalar};
 use std::alloc::Global;
 
 /// The kinds of a type, or of some types in an array.
-pub fn kinds_of<N: Reading>(alloc: Global, operand: N) -> Result<Vec<Kind>, Stop>
+pub(crate) fn kinds_of<N: Reading>(alloc: Global, operand: N) -> Result<Vec<Kind>, Stop>
     ensures { ReadsPart (λ ks. ks.items) result (or_bad_operand (operand_kinds (N.tree operand))) }
 {
     let mut kinds = Vec::new(alloc);

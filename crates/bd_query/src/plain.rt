@@ -13,7 +13,11 @@ use bd_value::{Reading, to_value};
 use std::alloc::Global;
 
 /// The operator of a word and its operand.
-pub fn plain_operator<N: Reading>(alloc: Global, plain: Plain, operand: N) -> Result<Operator, Stop>
+pub(crate) fn plain_operator<N: Reading>(
+    alloc: Global,
+    plain: Plain,
+    operand: N,
+) -> Result<Operator, Stop>
     ensures { ReadsPart operator_tree result (plain_operator plain (N.tree operand)) }
 {
     Ok(match plain {

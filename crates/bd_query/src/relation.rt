@@ -19,7 +19,7 @@ pub enum Relation {
 }
 
 /// Whether a value in this order to an operand stands to it so.
-pub fn relates(relation: Relation, order: Ordering) -> bool
+pub(crate) fn relates(relation: Relation, order: Ordering) -> bool
     ensures { result ≡ relates relation order }
 {
     match relation {

@@ -18,7 +18,7 @@ pub enum Types {
 impl Types {
     /// The type of a name: MongoDB manual, "$type".
     #[tactic(auto, unfolding(crate::specs::Types::kinds_named))]
-    pub fn from_name(name: &str) -> Option<Types>
+    pub(crate) fn from_name(name: &str) -> Option<Types>
         ensures { option_map kinds_in result ≡ kinds_named name.now }
     {
         match name {
@@ -50,7 +50,7 @@ impl Types {
 
     /// The type of a number: MongoDB manual, "$type".
     #[tactic(auto, unfolding(crate::specs::Types::kinds_numbered))]
-    pub fn from_number(number: i64) -> Option<Types>
+    pub(crate) fn from_number(number: i64) -> Option<Types>
         ensures { option_map kinds_in result ≡ kinds_numbered number }
     {
         match number {

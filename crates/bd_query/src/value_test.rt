@@ -91,7 +91,7 @@ fn is_same(a: Kind, b: Kind) -> bool
 }
 
 /// Whether an element of an array passes.
-pub fn any_element<N: Reading, T: ValueTest>(node: N, test: &T) -> bool
+pub(crate) fn any_element<N: Reading, T: ValueTest>(node: N, test: &T) -> bool
     ensures { result ≡ list_any (T.accepts test.now) (elements_in (N.tree node)) }
 {
     let Kind::Array = node.kind() else {

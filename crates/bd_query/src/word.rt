@@ -51,7 +51,7 @@ pub enum Plain {
 impl Word {
     /// What a name stands for.
     #[tactic(auto, unfolding(crate::specs::Word::word_of))]
-    pub fn from_name(name: &str) -> Word
+    pub(crate) fn from_name(name: &str) -> Word
         ensures { result ≡ word_of name.now }
     {
         if !begins_with_dollar(name) {
@@ -87,7 +87,7 @@ impl Word {
 }
 
 /// Whether a name begins as an operator does.
-pub fn begins_with_dollar(name: &str) -> bool
+pub(crate) fn begins_with_dollar(name: &str) -> bool
     ensures { result ≡ begins_with_dollar name.now }
 {
     matches!(name.as_bytes(), [b'$', ..])
