@@ -19,7 +19,7 @@ pub struct Component {
 
 impl Component {
     /// The component of this name. It fails for want of memory alone.
-    pub fn new(alloc: Global, name: &str) -> Result<Self, NoMemory>
+    pub(crate) fn new(alloc: Global, name: &str) -> Result<Self, NoMemory>
         ensures { IfOk result (λ c. string_bytes c.name ≡ name.now) }
     {
         Ok(Component {

@@ -32,6 +32,7 @@ mod path;
 mod path_fault;
 mod sort;
 
+pub use component::Component;
 pub use dir::Dir;
 pub use earliest::{compare_in, sort_key, sort_key_node};
 pub use ends::{EndTest, any_end};

@@ -61,8 +61,8 @@ impl Path {
         self.components[i as usize].name.as_str()
     }
 
-    /// All of them.
-    pub(crate) fn components(&self) -> &[Component]
+    /// All of them. It takes no memory.
+    pub fn components(&self) -> &[Component]
         ensures { component_names result.now ≡ names_of self.now }
     {
         &self.components

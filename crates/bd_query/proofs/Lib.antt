@@ -2,3 +2,4 @@ pub mod FaultLemmas
 pub mod FilterOfLemmas
 pub mod FilterViewLemmas
 pub mod EndTestLemmas
+pub mod FilterMatchLemmas

@@ -1,7 +1,8 @@
+pub mod Body
 pub mod Fault
 pub mod Filter
 pub mod FilterOf
 pub mod FilterView
-pub mod Matches
+pub mod FilterMatch
 pub mod Types
 pub mod Word

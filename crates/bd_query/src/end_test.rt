@@ -1,14 +1,15 @@
 //! What an end of a path is asked.
 
-ghost use Rattle.std.specs.Prelude.{◌≡◌, ◌&&◌, Bool};
+ghost use Rattle.std.specs.Prelude.{◌≡◌, ◌&&◌, ◌||◌, Bool, map};
 ghost use Rattle.std.specs.List.{list_all, list_any};
 ghost use Rattle.bd_value.specs.Parts.{elements_in};
 ghost use Rattle.bd_value.specs.View.{tree_of};
 ghost use Rattle.bd_path.specs.PathNames.{names_of};
 ghost use Rattle.bd_path.specs.Reach.{reach};
-ghost use Rattle.bd_query.specs.Matches.{any_equal, candidates, is_nonempty, is_of_size, is_there, is_value, value_or_null};
+ghost use Rattle.bd_query.specs.FilterMatch.{any_candidate, any_equal, candidates, is_nonempty, is_of_size, is_of_type, is_related, is_there, is_value, value_or_null};
 
-use crate::value_test::{EqualTo, ValueTest, any_element};
+use crate::relation::Relation;
+use crate::value_test::{EqualTo, OfKinds, OneOf, Related, ValueTest, any_element};
 use bd_path::{EndTest, Path, any_end};
 use bd_value::{Kind, Reading, Tree, Value};
 
@@ -22,7 +23,7 @@ impl<T: ValueTest> EndTest for OrNull<T> {
     fn test<N: Reading>(&self, end: Option<N>) -> bool {
         match end {
             None => self.0.test(Tree::Value(&Value::Null)),
-            Some(node) => self.0.test(node) || any_element(node, &self.0),
+            Some(node) => any_inside(node, &self.0),
         }
     }
 }
@@ -37,9 +38,16 @@ impl<T: ValueTest> EndTest for Present<T> {
     fn test<N: Reading>(&self, end: Option<N>) -> bool {
         match end {
             None => false,
-            Some(node) => self.0.test(node) || any_element(node, &self.0),
+            Some(node) => any_inside(node, &self.0),
         }
     }
+}
+
+/// Whether it passes or, where it is an array, an element does.
+fn any_inside<N: Reading, T: ValueTest>(node: N, test: &T) -> bool
+    ensures { result ≡ (T.accepts test.now (N.tree node) || list_any (T.accepts test.now) (elements_in (N.tree node))) }
+{
+    test.test(node) || any_element(node, test)
 }
 
 /// An array of so many elements.
@@ -81,7 +89,7 @@ impl EndTest for There {
 
 /// Whether each member is equalled by a candidate, and there is one.
 pub(crate) fn equals_all<N: Reading>(members: &[Value], path: &Path, node: N) -> bool
-    ensures { result ≡ (is_nonempty members.now && list_all (λ v. any_equal (reach (N.tree node) (names_of path.now)) (tree_of v)) members.now) }
+    ensures { result ≡ (is_nonempty (map tree_of members.now) && list_all (any_equal (reach (N.tree node) (names_of path.now))) (map tree_of members.now)) }
 {
     match members {
         [] => false,
@@ -96,4 +104,30 @@ fn are_equalled<N: Reading>(members: &[Value], path: &Path, node: N) -> bool
     members
         .iter()
         .all(|member| any_end(node, path, &OrNull(EqualTo(member))))
+}
+
+/// Whether a candidate of the operand's class stands to it so.
+pub(crate) fn any_related<N: Reading>(
+    relation: Relation,
+    operand: &Value,
+    path: &Path,
+    node: N,
+) -> bool
+    ensures { result ≡ any_candidate (λ e. is_related relation (tree_of operand.now) (value_or_null e)) (reach (N.tree node) (names_of path.now)) }
+{
+    any_end(node, path, &OrNull(Related { relation, operand }))
+}
+
+/// Whether a candidate equals a member. The path is walked once, whatever the number of members.
+pub(crate) fn any_member<N: Reading>(members: &[Value], path: &Path, node: N) -> bool
+    ensures { result ≡ list_any (any_equal (reach (N.tree node) (names_of path.now))) (map tree_of members.now) }
+{
+    any_end(node, path, &OrNull(OneOf(members)))
+}
+
+/// Whether a candidate that is a value is of one of the kinds.
+pub(crate) fn any_of_type<N: Reading>(kinds: &[Kind], path: &Path, node: N) -> bool
+    ensures { result ≡ any_candidate (is_value (is_of_type kinds.now)) (reach (N.tree node) (names_of path.now)) }
+{
+    any_end(node, path, &Present(OfKinds(kinds)))
 }

@@ -3,26 +3,28 @@
 //! MongoDB manual, "Query and Projection Operators": comparison, logical, element and array operators, with whole numbers and
 //! without regular expressions. What is left out is refused by name and place.
 //!
-//! An example, which `bd_query_tests` proves and runs as `examples::filter_of_a_document`:
+//! An example, which `bd_query_tests` proves and runs as `examples::shirts_in_stock`:
 //!
 //! ```
-//! let document = read_doc(alloc, b"{\"qty\":{\"$gte\":5},\"size\":\"S\"}")?;
-//! let Filter::And(filters) = parse(alloc, &document)? else {
-//!     return Err("each pair was wanted".into());
-//! };
-//! assert!(rt; filters.len() == 2);
+//! let query = read_doc(alloc, b"{\"qty\":{\"$gte\":5},\"size\":\"S\"}")?;
+//! let filter = parse(alloc, &query)?;
+//! let shirt = read_doc(alloc, b"{\"name\":\"shirt\",\"size\":\"S\",\"qty\":7}")?;
+//! assert!(rt; matches(&filter, Tree::Doc(&shirt)));
 //! ```
 //!
 //! - `filter`: `Filter` and `Operator`, to match on: `specs/Filter.antt`, and `specs/FilterView.antt` for what they stand for.
 //! - `fault`: `FilterFault`, which pair or member is no part of a filter: `specs/Fault.antt`.
 //! - `filter_of`: `parse`, the filter that a document is, or its first fault: `specs/FilterOf.antt`.
 //! - `word`, `plain`, `operand`, `types`, `operand_types`: names that stand for something, and operands that are values.
-//! - `relation`, `value_test`, `end_test`: what one value and what an end of a path is asked; they wait for what matches.
+//! - `filter_match`: `matches`, whether a value matches a filter: `specs/FilterMatch.antt`.
+//! - `relation`, `value_test`, `end_test`, `body`: what one value, an end of a path and an element for `$elemMatch` is asked.
 #![tactic(auto)]
 
+mod body;
 mod end_test;
 mod fault;
 mod filter;
+mod filter_match;
 mod filter_of;
 mod operand;
 mod operand_types;
@@ -34,4 +36,5 @@ mod word;
 
 pub use fault::{FilterFault, FilterFaultKind};
 pub use filter::{Filter, Operator};
+pub use filter_match::matches;
 pub use filter_of::parse;

@@ -1,7 +1,7 @@
 //! The relations of `$gt`, `$gte`, `$lt` and `$lte`.
 
 ghost use Rattle.std.specs.Prelude.{◌≡◌};
-ghost use Rattle.bd_query.specs.Matches.{relates};
+ghost use Rattle.bd_query.specs.FilterMatch.{relates};
 
 use std::cmp::Ordering;
 

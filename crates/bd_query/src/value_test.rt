@@ -1,12 +1,12 @@
 //! What one value is asked.
 
-ghost use Rattle.std.specs.Prelude.{◌≡◌, Bool};
-ghost use Rattle.std.specs.List.{list_any};
+ghost use Rattle.std.specs.Prelude.{◌≡◌, ◌&&◌, Bool, map};
+ghost use Rattle.std.specs.List.{list_all, list_any};
 ghost use Rattle.bd_value.specs.Order.{equal};
 ghost use Rattle.bd_value.specs.Parts.{elements_in};
 ghost use Rattle.bd_value.specs.Tree as trees;
 ghost use Rattle.bd_value.specs.View.{tree_of};
-ghost use Rattle.bd_query.specs.Matches.{is_of_type, is_related};
+ghost use Rattle.bd_query.specs.FilterMatch.{is_nonempty, is_of_type, is_related};
 ghost use Rattle.bd_query.specs.Types.{is_kind};
 
 use crate::relation::{Relation, relates};
@@ -105,4 +105,36 @@ pub(crate) fn any_element<N: Reading, T: ValueTest>(node: N, test: &T) -> bool
         left = next.2;
     }
     false
+}
+
+/// Whether it equals a member.
+pub(crate) fn equals_some<N: Reading>(members: &[Value], node: N) -> bool
+    ensures { result ≡ list_any (equal (N.tree node)) (map tree_of members.now) }
+{
+    OneOf(members).test(node)
+}
+
+/// Whether it equals each member, and there is one.
+pub(crate) fn equals_each<N: Reading>(members: &[Value], node: N) -> bool
+    ensures { result ≡ (is_nonempty (map tree_of members.now) && list_all (equal (N.tree node)) (map tree_of members.now)) }
+{
+    match members {
+        [] => false,
+        _ => are_equal(members, node),
+    }
+}
+
+fn are_equal<N: Reading>(members: &[Value], node: N) -> bool
+    ensures { result ≡ list_all (λ v. equal (N.tree node) (tree_of v)) members.now }
+{
+    members
+        .iter()
+        .all(|member| compare_nodes(node, Tree::Value(member)).is_eq())
+}
+
+/// Whether it is of the operand's class, and stands to it so.
+pub(crate) fn is_related<N: Reading>(relation: Relation, operand: &Value, node: N) -> bool
+    ensures { result ≡ is_related relation (tree_of operand.now) (N.tree node) }
+{
+    Related { relation, operand }.test(node)
 }

@@ -1,0 +1,99 @@
+use Rattle.std.proofs.Common.{◌≡◌, ◌≤◌, ◌<◌, ◌+◌, ◌*◌, drop, length, map}
+use Rattle.std.specs.List.{list_any}
+use Rattle.bd_value.specs.Parts.{elements_in, values_of}
+use Rattle.bd_value.specs.Tree.{fields_of, fields_size, items_of, tree_size}
+use Rattle.bd_path.specs.Names.{component_names}
+use Rattle.bd_path.specs.PathNames.{names_of}
+use Rattle.bd_path.specs.Reach.{ends, each_gathering, reach}
+use Rattle.bd_query.specs.Body.{is_suited, suits}
+use Rattle.bd_query.specs.Filter.{filters_from, operators_from}
+use Rattle.bd_query.specs.FilterMatch.{all_accept, all_hold, all_match, some_match}
+use Rattle.bd_query.specs.FilterView.{filter_tree, operator_tree}
+use Rattle.bd_query.proofs.FilterMatchLemmas.{body_size, filter_size, filters_size, operator_size, operators_size}
+use Rattle.bd_query.proofs.filter_match.+matching.Given as goal
+
+-- the filter and the value both count, since one of them gets smaller
+abbrev pub decreases-matches : goal.decreases-matches
+decreases-matches g l = 4 * (filter_size (filter_tree l.filter.now) + tree_size (g.N.Reading.tree l.node))
+
+abbrev pub decreases-all_match : goal.decreases-all_match
+decreases-all_match g l = 4 * (filters_size (filters_from (map filter_tree l.filters.now)) + tree_size (g.N.Reading.tree l.node))
+
+abbrev pub decreases-some_match : goal.decreases-some_match
+decreases-some_match g l = 4 * (filters_size (filters_from (map filter_tree l.filters.now)) + tree_size (g.N.Reading.tree l.node))
+
+abbrev pub decreases-all_hold : goal.decreases-all_hold
+decreases-all_hold g l = 4 * (operators_size (operators_from (map operator_tree l.operators.now)) + tree_size (g.N.Reading.tree l.node))
+
+abbrev pub decreases-holds : goal.decreases-holds
+decreases-holds g l = 4 * (operator_size (operator_tree l.operator.now) + tree_size (g.N.Reading.tree l.node))
+
+abbrev pub decreases-any_end_suits : goal.decreases-any_end_suits
+decreases-any_end_suits g l = 4 * (body_size l.body.now + tree_size (g.N.Reading.tree l.node)) + 3
+
+abbrev pub decreases-any_end_suits_in_documents : goal.decreases-any_end_suits_in_documents
+decreases-any_end_suits_in_documents g l = 4 * (body_size l.body.now + tree_size (g.N.Reading.tree l.node)) + 2
+
+abbrev pub decreases-any_end_suits_at_index : goal.decreases-any_end_suits_at_index
+decreases-any_end_suits_at_index g l = 4 * (body_size l.body.now + tree_size (g.N.Reading.tree l.node)) + 2
+
+abbrev pub decreases-any_suits : goal.decreases-any_suits
+decreases-any_suits g l = 4 * (body_size l.body.now + tree_size (g.N.Reading.tree l.node)) + 2
+
+abbrev pub decreases-suits : goal.decreases-suits
+decreases-suits g l = 4 * (body_size l.body.now + tree_size (g.N.Reading.tree l.element)) + 1
+
+abbrev pub decreases-all_accept : goal.decreases-all_accept
+decreases-all_accept g l = 4 * (operators_size (operators_from (map operator_tree l.operators.now)) + tree_size (g.N.Reading.tree l.element))
+
+abbrev pub decreases-accepts : goal.decreases-accepts
+decreases-accepts g l = 4 * (operator_size (operator_tree l.operator.now) + tree_size (g.N.Reading.tree l.element))
+
+-- what is left decides
+abbrev pub invariant-all_match-loop-filter : goal.invariant-all_match-loop-filter
+invariant-all_match-loop-filter g l = record {
+  so_far : all_match (filters_from (map filter_tree (drop l.filter-index l.filters))) (g.N.Reading.tree l.node)
+      ≡ all_match (filters_from (map filter_tree l.filters)) (g.N.Reading.tree l.node);
+  smaller : filters_size (filters_from (map filter_tree (drop l.filter-index l.filters))) ≤ filters_size (filters_from (map filter_tree l.filters));
+}
+
+abbrev pub invariant-some_match-loop-filter : goal.invariant-some_match-loop-filter
+invariant-some_match-loop-filter g l = record {
+  so_far : some_match (filters_from (map filter_tree (drop l.filter-index l.filters))) (g.N.Reading.tree l.node)
+      ≡ some_match (filters_from (map filter_tree l.filters)) (g.N.Reading.tree l.node);
+  smaller : filters_size (filters_from (map filter_tree (drop l.filter-index l.filters))) ≤ filters_size (filters_from (map filter_tree l.filters));
+}
+
+abbrev pub invariant-all_hold-loop-operator : goal.invariant-all_hold-loop-operator
+invariant-all_hold-loop-operator g l = record {
+  so_far : all_hold (operators_from (map operator_tree (drop l.operator-index l.operators))) (reach (g.N.Reading.tree l.node) (names_of l.path))
+      ≡ all_hold (operators_from (map operator_tree l.operators)) (reach (g.N.Reading.tree l.node) (names_of l.path));
+  smaller : operators_size (operators_from (map operator_tree (drop l.operator-index l.operators))) ≤ operators_size (operators_from (map operator_tree l.operators));
+}
+
+abbrev pub invariant-all_accept-loop-operator : goal.invariant-all_accept-loop-operator
+invariant-all_accept-loop-operator g l = record {
+  so_far : all_accept (operators_from (map operator_tree (drop l.operator-index l.operators))) (g.N.Reading.tree l.element)
+      ≡ all_accept (operators_from (map operator_tree l.operators)) (g.N.Reading.tree l.element);
+  smaller : operators_size (operators_from (map operator_tree (drop l.operator-index l.operators))) ≤ operators_size (operators_from (map operator_tree l.operators));
+}
+
+-- what is left of the array decides
+abbrev pub invariant-any_end_suits_in_documents-loop-element : goal.invariant-any_end_suits_in_documents-loop-element
+invariant-any_end_suits_in_documents-loop-element g l = record {
+  so_far : list_any (is_suited l.body) (each_gathering ends (items_of (values_of (g.N.Reading.left l.left))) (component_names l.path))
+      ≡ list_any (is_suited l.body) (each_gathering ends (items_of (elements_in (g.N.Reading.tree l.fn.node))) (component_names l.path));
+  smaller : fields_size (fields_of (g.N.Reading.left l.left)) < tree_size (g.N.Reading.tree l.fn.node);
+}
+
+abbrev pub decreases-any_end_suits_in_documents-loop-element : goal.decreases-any_end_suits_in_documents-loop-element
+decreases-any_end_suits_in_documents-loop-element g l = length (g.N.Reading.left l.left)
+
+abbrev pub invariant-any_suits-loop-next : goal.invariant-any_suits-loop-next
+invariant-any_suits-loop-next g l = record {
+  so_far : list_any (suits l.body) (values_of (g.N.Reading.left l.left)) ≡ list_any (suits l.body) (elements_in (g.N.Reading.tree l.fn.node));
+  smaller : fields_size (fields_of (g.N.Reading.left l.left)) < tree_size (g.N.Reading.tree l.fn.node);
+}
+
+abbrev pub decreases-any_suits-loop-next : goal.decreases-any_suits-loop-next
+decreases-any_suits-loop-next g l = length (g.N.Reading.left l.left)

@@ -1,0 +1,12 @@
+//! The body of `$elemMatch`.
+
+use crate::filter::{Filter, Operator};
+
+/// What `$elemMatch` asks of an element.
+#[derive(Clone, Copy)]
+pub(crate) enum Body<'a> {
+    /// They all hold of the element by itself.
+    Operators(&'a [Operator]),
+    /// The element is a document that matches each.
+    Filters(&'a [Filter]),
+}

@@ -1,0 +1,225 @@
+//! Whether a document matches a filter.
+
+ghost use Rattle.std.specs.Prelude.{◌≡◌, map, string_bytes};
+ghost use Rattle.std.specs.List.{list_any};
+ghost use Rattle.bd_value.specs.Kind.{kind_of};
+ghost use Rattle.bd_value.specs.Parts.{elements_in};
+ghost use Rattle.bd_value.specs.declared.kind.Kind.TheVariants as kinds;
+ghost use Rattle.bd_path.specs.Names.{component_names};
+ghost use Rattle.bd_path.specs.PathNames.{names_of};
+ghost use Rattle.bd_path.specs.Reach.{document_ends, index_ends, reach};
+ghost use Rattle.bd_query.specs.Body.{is_suited, suits};
+ghost use Rattle.bd_query.specs.Filter.{filters_from, operators_from};
+ghost use Rattle.bd_query.specs.FilterMatch.{accepts, all_accept, all_hold, all_match, holds, matches, some_match};
+ghost use Rattle.bd_query.specs.FilterView.{filter_tree, operator_tree};
+
+use crate::body::Body;
+use crate::end_test::{
+    OfSize, OrNull, There, any_member, any_of_type, any_related, equals_all, has_size,
+};
+use crate::filter::{Filter, Operator};
+use crate::relation::Relation;
+use crate::value_test::{EqualTo, OfKinds, ValueTest, equals_each, equals_some, is_related};
+use bd_path::{Component, Path, any_end};
+use bd_value::{Kind, Reading};
+
+/// Whether a value matches a filter. It takes no memory.
+///
+/// A path that leads nowhere in a value has one end, a field that is missing: MongoDB manual, "Query Documents".
+#[cycle(matching)]
+pub fn matches<N: Reading>(filter: &Filter, node: N) -> bool
+    ensures { result ≡ matches (filter_tree filter.now) (N.tree node) }
+{
+    match filter {
+        Filter::And(filters) => all_match(filters, node),
+        Filter::Or(filters) => some_match(filters, node),
+        Filter::Nor(filters) => !some_match(filters, node),
+        Filter::Field { path, operators } => all_hold(operators, path, node),
+    }
+}
+
+#[cycle(matching)]
+fn all_match<N: Reading>(filters: &[Filter], node: N) -> bool
+    ensures { result ≡ all_match (filters_from (map filter_tree filters.now)) (N.tree node) }
+{
+    for filter in filters {
+        if !matches(filter, node) {
+            return false;
+        }
+    }
+    true
+}
+
+#[cycle(matching)]
+fn some_match<N: Reading>(filters: &[Filter], node: N) -> bool
+    ensures { result ≡ some_match (filters_from (map filter_tree filters.now)) (N.tree node) }
+{
+    for filter in filters {
+        if matches(filter, node) {
+            return true;
+        }
+    }
+    false
+}
+
+/// Whether operators hold of what a path reaches.
+#[cycle(matching)]
+fn all_hold<N: Reading>(operators: &[Operator], path: &Path, node: N) -> bool
+    ensures { result ≡ all_hold (operators_from (map operator_tree operators.now)) (reach (N.tree node) (names_of path.now)) }
+{
+    for operator in operators {
+        if !holds(operator, path, node) {
+            return false;
+        }
+    }
+    true
+}
+
+#[cycle(matching)]
+fn holds<N: Reading>(operator: &Operator, path: &Path, node: N) -> bool
+    ensures { result ≡ holds (operator_tree operator.now) (reach (N.tree node) (names_of path.now)) }
+{
+    match operator {
+        Operator::Equal(operand) => any_end(node, path, &OrNull(EqualTo(operand))),
+        Operator::NotEqual(operand) => !any_end(node, path, &OrNull(EqualTo(operand))),
+        Operator::Greater(operand) => any_related(Relation::Above, operand, path, node),
+        Operator::GreaterOrEqual(operand) => any_related(Relation::AtLeast, operand, path, node),
+        Operator::Less(operand) => any_related(Relation::Below, operand, path, node),
+        Operator::LessOrEqual(operand) => any_related(Relation::AtMost, operand, path, node),
+        Operator::In(members) => any_member(members, path, node),
+        Operator::NotIn(members) => !any_member(members, path, node),
+        Operator::All(members) => equals_all(members, path, node),
+        Operator::Size(size) => any_end(node, path, &OfSize(*size)),
+        Operator::Exists(exists) => any_end(node, path, &There) == *exists,
+        Operator::Type(kinds) => any_of_type(kinds, path, node),
+        Operator::Not(operators) => !all_hold(operators, path, node),
+        Operator::ElemMatch(operators) => any_end_suits(
+            node,
+            path.components(),
+            &Body::Operators(operators),
+        ),
+        Operator::ElemMatchDocument(filters) => any_end_suits(
+            node,
+            path.components(),
+            &Body::Filters(filters),
+        ),
+    }
+}
+
+/// Whether an element of an array at an end of a path suits the body of `$elemMatch`.
+///
+/// It goes down as `any_end` does. A test of an end can't come back to the operators: it would be called by its own walk.
+#[cycle(matching)]
+fn any_end_suits<N: Reading>(node: N, path: &[Component], body: &Body) -> bool
+    ensures { result ≡ list_any (is_suited body.now) (reach (N.tree node) (component_names path.now)) }
+{
+    let Some((component, rest)) = path.split_first() else {
+        return any_suits(node, body);
+    };
+    match node.kind() {
+        Kind::Doc => match node.first(component.name.as_str()) {
+            Some(value) => any_end_suits(value, rest, body),
+            None => false,
+        },
+        Kind::Array => {
+            any_end_suits_in_documents(node, path, body)
+                || any_end_suits_at_index(node, component, rest, body)
+        }
+        _ => false,
+    }
+}
+
+#[cycle(matching)]
+fn any_end_suits_in_documents<N: Reading>(node: N, path: &[Component], body: &Body) -> bool
+    requires { kind_of (N.tree node) ≡ kinds.Array }
+    ensures { result ≡ list_any (is_suited body.now) (document_ends (N.tree node) (component_names path.now)) }
+{
+    let mut left = node.parts();
+    while let Some((_, element, after)) = N::next(&left) {
+        if element.kind() == Kind::Doc && any_end_suits(element, path, body) {
+            return true;
+        }
+        left = after;
+    }
+    false
+}
+
+#[cycle(matching)]
+fn any_end_suits_at_index<N: Reading>(
+    node: N,
+    component: &Component,
+    path: &[Component],
+    body: &Body,
+) -> bool
+    requires { kind_of (N.tree node) ≡ kinds.Array }
+    ensures { result ≡ list_any (is_suited body.now) (index_ends (N.tree node) (string_bytes component.now.name) (component_names path.now)) }
+{
+    match component.index {
+        Some(i) if i < node.len() => any_end_suits(node.element(i), path, body),
+        _ => false,
+    }
+}
+
+/// Whether an element of an array suits the body of `$elemMatch`.
+#[cycle(matching)]
+fn any_suits<N: Reading>(node: N, body: &Body) -> bool
+    ensures { result ≡ list_any (suits body.now) (elements_in (N.tree node)) }
+{
+    let Kind::Array = node.kind() else {
+        return false;
+    };
+    let mut left = node.parts();
+    while let Some(next) = N::next(&left) {
+        if suits(next.1, body) {
+            return true;
+        }
+        left = next.2;
+    }
+    false
+}
+
+#[cycle(matching)]
+fn suits<N: Reading>(element: N, body: &Body) -> bool
+    ensures { result ≡ suits body.now (N.tree element) }
+{
+    match body {
+        Body::Operators(operators) => all_accept(operators, element),
+        Body::Filters(filters) => element.kind() == Kind::Doc && all_match(filters, element),
+    }
+}
+
+/// Whether operators hold of an element by itself.
+#[cycle(matching)]
+fn all_accept<N: Reading>(operators: &[Operator], element: N) -> bool
+    ensures { result ≡ all_accept (operators_from (map operator_tree operators.now)) (N.tree element) }
+{
+    for operator in operators {
+        if !accepts(operator, element) {
+            return false;
+        }
+    }
+    true
+}
+
+#[cycle(matching)]
+fn accepts<N: Reading>(operator: &Operator, element: N) -> bool
+    ensures { result ≡ accepts (operator_tree operator.now) (N.tree element) }
+{
+    match operator {
+        Operator::Equal(operand) => EqualTo(operand).test(element),
+        Operator::NotEqual(operand) => !EqualTo(operand).test(element),
+        Operator::Greater(operand) => is_related(Relation::Above, operand, element),
+        Operator::GreaterOrEqual(operand) => is_related(Relation::AtLeast, operand, element),
+        Operator::Less(operand) => is_related(Relation::Below, operand, element),
+        Operator::LessOrEqual(operand) => is_related(Relation::AtMost, operand, element),
+        Operator::In(members) => equals_some(members, element),
+        Operator::NotIn(members) => !equals_some(members, element),
+        Operator::All(members) => equals_each(members, element),
+        Operator::Size(size) => has_size(element, *size),
+        Operator::Exists(exists) => *exists,
+        Operator::Type(kinds) => OfKinds(kinds).test(element),
+        Operator::Not(operators) => !all_accept(operators, element),
+        Operator::ElemMatch(operators) => any_suits(element, &Body::Operators(operators)),
+        Operator::ElemMatchDocument(filters) => any_suits(element, &Body::Filters(filters)),
+    }
+}
