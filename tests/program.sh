@@ -222,7 +222,7 @@ expect 'find in standard input' 0 "$int32" '1 documents, end'
 run find --query '{"a":-1}' -- ./-x
 expect 'find of nothing' 0 '' '0 documents, end'
 
-# A query asks for the first field of a name, and for the elements of the array that it is, whatever their stored names.
+# A path takes the first field of a name, and the elements of the array that it is, whatever their stored names.
 one='\020a\000\001\000\000\000'
 two='\020a\000\002\000\000\000'
 list='\004a\000\023\000\000\000\020y\000\002\000\000\000\020a\000\001\000\000\000\000'
@@ -239,9 +239,12 @@ list_line='{"a":[{"$numberInt":"2"},{"$numberInt":"1"}]}'
 	document '\004a\000\005\000\000\000\000' # an empty array
 	document '\004a\000\005\000\000\000\000'"$one"
 } >fields.bson
+# Whole numbers are equal whatever their size.
 run find fields.bson --query '{"a":1}'
+# shellcheck disable=SC2016 # names again
 expect 'find of 1' 0 "$int32
-$list_line" '2 documents, end'
+$list_line
+"'{"a":{"$numberLong":"1"}}' '3 documents, end'
 
 run find fields.bson --query '{"a":2}'
 # shellcheck disable=SC2016 # names again
@@ -271,6 +274,15 @@ $int32" '3 documents, end'
 run find four.bson --query '{"a":1}' --batch 0
 expect 'a batch of none' 0 '' '0 documents, more'
 
+run find four.bson
+expect 'all documents, without a query' 0 "$int32
+$list_line
+$(printf '{"a":{"$numberInt":"2"}}')
+$int32" '4 documents, end'
+
+run find four.bson --batch 1
+expect 'the first document, without a query' 0 "$int32" '1 documents, more'
+
 run find - --query '{"a":1}' --batch 0 </dev/null
 expect 'a batch of none in an empty input' 0 '' '0 documents, end'
 
@@ -287,6 +299,48 @@ done <<'END'
 {"a":2147483647} {"a":{"$numberInt":"2147483647"}}
 {"a":0} {"a":{"$numberInt":"0"}}
 {"a":-0} {"a":{"$numberInt":"0"}}
+{"\u0061":{"$numberLong":"0"}} {"a":{"$numberInt":"0"}}
+END
+
+run find numbers.bson --query ' { "a" : 0 } '
+# shellcheck disable=SC2016 # names again
+expect 'a query with white space' 0 '{"a":{"$numberInt":"0"}}' '1 documents, end'
+
+# A query of each kind of operator over a dump of lines, with the numbers of the lines that it finds.
+cat >shop.jsonl <<'END'
+{"_id":1,"name":"shirt","sizes":["S","M"],"stock":[{"at":"north","qty":5},{"at":"south","qty":0}],"price":{"cents":1999}}
+{"_id":2,"name":"hat","sizes":[],"stock":[{"at":"north","qty":12}],"price":{"cents":899}}
+{"_id":3,"name":"sock","sizes":["L"],"price":null}
+{"_id":4,"name":"bag","stock":[],"price":{"cents":{"$numberLong":"899"}},"old":true}
+END
+"$program" pack shop.jsonl >shop.bson 2>err
+while read -r query numbers; do
+	run find shop.bson --query "$query"
+	found=$(sed 's/.*"_id":{"$numberInt":"\([0-9]\)"}.*/\1/' out | tr -d '\n')
+	echo "${found:--}" >out
+	expect "find by $query" 0 "$numbers" "$(printf %s "${numbers#-}" | wc -c | tr -d ' ') documents, end"
+done <<'END'
+{"name":"hat"} 2
+{"price.cents":899} 24
+{"price.cents":{"$gt":899}} 1
+{"price.cents":{"$gte":899,"$lt":1000}} 24
+{"price.cents":null} 3
+{"price":{"$ne":null}} 124
+{"sizes":"M"} 1
+{"sizes":{"$size":0}} 2
+{"sizes":{"$all":["M","S"]}} 1
+{"sizes":{"$in":["L","S"]}} 13
+{"sizes":{"$nin":["L","S"]}} 24
+{"sizes":{"$exists":false}} 4
+{"stock.qty":{"$gt":4,"$lt":1}} 1
+{"stock":{"$elemMatch":{"at":"north","qty":{"$gte":5}}}} 12
+{"stock":{"$elemMatch":{"at":"south","qty":{"$gt":0}}}} -
+{"stock.0.qty":5} 1
+{"old":{"$type":"bool"}} 4
+{"$or":[{"old":true},{"name":"shirt"}]} 14
+{"$nor":[{"old":true},{"name":"shirt"}]} 23
+{"$and":[{"sizes":"S"},{"sizes":"M"}]} 1
+{"name":{"$not":{"$gt":"hat"}}} 24
 END
 
 run check "$people.bson"
@@ -483,14 +537,45 @@ expect 'find in a dump of a length cut short' 1 '' 'bsonfind: document 0, byte 0
 run find one_bad.bson --query '{"a":1}'
 expect 'find in a dump with a bad document' 1 '' 'bsonfind: document 1, byte 19, path "s": bad string length'
 
-run find int32.bson --query '{"a":1.5}'
-expect 'a query of another form' 1 '' 'bsonfind: query: byte 0: not in the profile'
-
 # The query is read before the dump, which has a fault.
-for query in '{"a":2147483648}' '{"a":-2147483649}' '{"a":01}' '{"a":-01}' '{"a":+1}' '{"a":}' '{"a":-}' '{"a":1.0}' '{"":1}' \
-	'{"a1":1}' '{"a b":1}' '{"\u00e9":1}' '{ "a":1}' '{"a": 1}' '{"a":1} ' '{"a":1' '{a:1}' '{}' ''; do
+while read -r query told; do
 	run find bad.bson --query "$query"
-	expect "a query that is refused: $query" 1 '' 'bsonfind: query: byte 0: not in the profile'
+	expect "a query that is refused: $query" 1 '' "bsonfind: query: $told"
+done <<'END'
+{"a":1.5} byte 5: not in the profile
+{"a":01} byte 6: not JSON
+{"a":+1} byte 5: not JSON
+{"a":} byte 5: not JSON
+{"a":-} byte 6: not JSON
+{"a":1 byte 6: not JSON
+{a:1} byte 1: not JSON
+{"a":1}x byte 7: text after the document
+{"a":9223372036854775808} byte 5: number out of range
+{"x":{"$oid":"00"}} byte 5: bad wrapper
+{"a\u0000":1} byte 1: zero in a name
+[1] not a document
+1 not a document
+{"":1} place "": bad path
+{"a..b":1} place "a..b": bad path
+{"a\".":1} place "a\".": bad path
+{"$foo":1} place "$foo": unknown operator
+{"$gt":1} place "$gt": unknown operator
+{"a":{"$regex":"x"}} place "a.$regex": not in the profile
+{"a":{"$gt":1,"b":2}} place "a.b": operators and fields mixed
+{"$and":[]} place "$and": bad operand
+{"$or":[{"a":1},{"b":{"$size":-1}}]} place "$or.1.b.$size": bad operand
+{"a":{"$in":[1,{"$regularExpression":{"pattern":"x","options":""}}]}} place "a.$in.1": not in the profile
+END
+
+run find bad.bson --query ''
+expect 'a query of no text' 1 '' 'bsonfind: query: byte 0: not JSON'
+
+# shellcheck disable=SC2016 # names again
+for levels in 50 51; do
+	run find bad.bson --query "$(copies "$levels" '{"$and":[')$(copies "$levels" ']}')"
+	at="\$and$(copies 49 '.0.$and')"
+	[ "$levels" -eq 50 ] && told="\"$at\": bad operand" || told="\"$at.0\": too deep"
+	expect "a query of $levels levels" 1 '' "bsonfind: query: place $told"
 done
 
 run find missing.bson --query '{"a":1.5}'
@@ -726,8 +811,11 @@ expect 'check without a file' 2 '' "$usage"
 run pack
 expect 'pack without a file' 2 '' "$usage"
 
-run find int32.bson
-expect 'find without a query' 2 '' "$usage"
+run find --query '{"a":1}'
+expect 'find without a file' 2 '' "$usage"
+
+run find int32.bson --query '{}' --query '{}'
+expect 'two queries' 2 '' "$usage"
 
 run find int32.bson --query '{"a":1}' --batch 2147483648
 expect 'a batch that is too large' 2 '' "$usage"

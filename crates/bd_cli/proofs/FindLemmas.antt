@@ -1,12 +1,10 @@
 -- The lines of documents that were found, and the ends of a run of `find`.
 pub mod AnswerLemmas
 pub mod OrderLemmas
-pub mod NumberLemmas
-pub mod QueryTextLemmas
 pub mod UniqueLemmas
 pub mod StepLemmas
 pub mod MessageLemmas
-use Rattle.std.proofs.Common.{◌≡◌, ◌≤◌, ◌<◌, ◌+◌, ◌-◌, ℕ, ℤ, List, [], ◌∷◌, ◌++◌, length, get_or, take, drop, Option, Some, None, refl, sym, ap, ◌∙◌, subst, append_assoc, append-nil, arith, inl, inr, zero, suc, Bool, true, false, cond, ◌⊎◌, codes, Ok}
+use Rattle.std.proofs.Common.{◌≡◌, ◌≤◌, ◌<◌, ◌+◌, ◌-◌, ℕ, List, [], ◌∷◌, ◌++◌, length, get_or, take, drop, Option, Some, None, refl, sym, ap, ◌∙◌, subst, append_assoc, append-nil, arith, inl, inr, zero, suc, Bool, true, false, cond, ◌⊎◌, codes, Ok}
 use Rattle.std.specs.Prelude.{slice_get, MatchOption}
 use Rattle.std.specs.List.{All}
 use Rattle.std.proofs.lemmas.List.{take-append-drop, take_more, take_all, drop_all}
@@ -23,7 +21,8 @@ use Rattle.bd_check.specs.Dump.{IsWalk}
 use Rattle.bd_cli.specs.declared.status.Status.{Status}
 use Rattle.bd_cli.specs.declared.status.Status.TheVariants.{Failed}
 use Rattle.bd_cli.specs.Find.Answer.{matching, answer, each, is_empty}
-use Rattle.bd_cli.specs.Find.Equality.{number_matches}
+use Rattle.bd_query.specs.Filter.{Filter}
+use Rattle.bd_cli.specs.Find.Query.{is_answer}
 use Rattle.bd_cli.specs.Find.Step.{ahead, IsStep}
 use Rattle.bd_cli.specs.declared.find.step.Step.{Step}
 use Rattle.bd_cli.proofs.FindLemmas.OrderLemmas.{In, in_at, take_in}
@@ -107,14 +106,14 @@ module _ (matches : Doc → Bool) (ds : List Doc) (few : length ds ≤ 429496729
 -- ---- the ends of a run
 
 -- what is shown of the bytes of an input
-abbrev pub IsShownOfBytes : List ℕ → ℤ → Option ℕ → List ℕ → Shown → Type 0
-IsShownOfBytes name n size bytes shown =
-    IsRefusedOr (IsRefusal shown) (ReadsDump bytes) (λ ds. shown ≡ shown_found size ds (answer (each (number_matches name n)) ds))
+abbrev pub IsShownOfBytes : Filter → Option ℕ → List ℕ → Shown → Type 0
+IsShownOfBytes filter size bytes shown =
+    IsRefusedOr (IsRefusal shown) (ReadsDump bytes) (λ ds. shown ≡ shown_found size ds (answer (each (is_answer filter)) ds))
 
-pub bytes_show : (name : List ℕ) (n : ℤ) (size : Option ℕ) (bytes : List ℕ) (ds : List Doc) (end : Option Fault) → IsWalk ds end bytes
-    → (shown : Shown) × IsShownOfBytes name n size bytes shown
-bytes_show name n size bytes ds None walk = (shown_found size ds (answer (each (number_matches name n)) ds), inr (ds, walk, refl))
-bytes_show name n size bytes ds (Some f) walk = (shown_refusal (fault_text (length ds) f), inl (fault_text (length ds) f, (ds, f, walk, refl), refl))
+pub bytes_show : (filter : Filter) (size : Option ℕ) (bytes : List ℕ) (ds : List Doc) (end : Option Fault) → IsWalk ds end bytes
+    → (shown : Shown) × IsShownOfBytes filter size bytes shown
+bytes_show filter size bytes ds None walk = (shown_found size ds (answer (each (is_answer filter)) ds), inr (ds, walk, refl))
+bytes_show filter size bytes ds (Some f) walk = (shown_refusal (fault_text (length ds) f), inl (fault_text (length ds) f, (ds, f, walk, refl), refl))
 
 module _ (out_old out_new : Writer) (err_old err_new : Writer) (status : Status) where
   -- memory ran out before anything was written
@@ -134,12 +133,12 @@ module _ (out_old out_new : Writer) (err_old err_new : Writer) (status : Status)
   refusal_shown words (inr told) = nothing_shown (shown_refusal words) told
 
   -- what is shown of a dump with a fault
-  pub fault_shown : (name : List ℕ) (n : ℤ) (size : Option ℕ) (bytes : List ℕ) (fault : declared.Fault) → length bytes ≤ 4294967295 → IsUnread bytes fault → ¬ (fault.kind ≡ kinds.NoMemory)
+  pub fault_shown : (filter : Filter) (size : Option ℕ) (bytes : List ℕ) (fault : declared.Fault) → length bytes ≤ 4294967295 → IsUnread bytes fault → ¬ (fault.kind ≡ kinds.NoMemory)
       → TellsMessage (between err_old err_new) (error_line (fault_text fault.document (fault_view fault))) Failed status ⊎ TellsMessage (between err_old err_new) (error_line (codes "no memory")) Failed status
-      → (shown : Shown) × IsShownOfBytes name n size bytes shown × PrintsOrStarves (between out_old out_old) (between err_old err_new) shown status
-  fault_shown name n size bytes fault le (inl long) other told = absurd (let more = long.more in omega arith)
-  fault_shown name n size bytes fault le (inr (_, inl want)) other told = absurd (other want.kind)
-  fault_shown name n size bytes fault le (inr (_, inr first)) other told =
+      → (shown : Shown) × IsShownOfBytes filter size bytes shown × PrintsOrStarves (between out_old out_old) (between err_old err_new) shown status
+  fault_shown filter size bytes fault le (inl long) other told = absurd (let more = long.more in omega arith)
+  fault_shown filter size bytes fault le (inr (_, inl want)) other told = absurd (other want.kind)
+  fault_shown filter size bytes fault le (inr (_, inr first)) other told =
       let words = fault_text (length first.before) (fault_view fault) in
       let line : error_line (fault_text fault.document (fault_view fault)) ≡ error_line words = ap (λ k. error_line (fault_text k (fault_view fault))) first.document in (
         shown_refusal words,
@@ -147,8 +146,8 @@ module _ (out_old out_new : Writer) (err_old err_new : Writer) (status : Status)
         refusal_shown words (subst (λ t. TellsMessage (between err_old err_new) t Failed status ⊎ TellsMessage (between err_old err_new) (error_line (codes "no memory")) Failed status) line told),
       )
 
-  pub starved_shown : (name : List ℕ) (n : ℤ) (size : Option ℕ) (bytes : List ℕ) → (ds : List Doc) × (end : Option Fault) × IsWalk ds end bytes → TellsMessage (between err_old err_new) (error_line (codes "no memory")) Failed status
-      → (shown : Shown) × IsShownOfBytes name n size bytes shown × PrintsOrStarves (between out_old out_old) (between err_old err_new) shown status
-  starved_shown name n size bytes (ds, end, walk) told =
-      let shows = bytes_show name n size bytes ds end walk in
+  pub starved_shown : (filter : Filter) (size : Option ℕ) (bytes : List ℕ) → (ds : List Doc) × (end : Option Fault) × IsWalk ds end bytes → TellsMessage (between err_old err_new) (error_line (codes "no memory")) Failed status
+      → (shown : Shown) × IsShownOfBytes filter size bytes shown × PrintsOrStarves (between out_old out_old) (between err_old err_new) shown status
+  starved_shown filter size bytes (ds, end, walk) told =
+      let shows = bytes_show filter size bytes ds end walk in
       (shows.0, shows.1, nothing_shown shows.0 told)

@@ -1,10 +1,9 @@
 -- What `find` shows of a query and an input, and what a run of it did.
 pub mod Answer
 pub mod AnswerLaws
-pub mod Equality
-pub mod QueryText
+pub mod Query
 pub mod Step
-use Rattle.std.specs.Prelude.{◌≡◌, ◌⊎◌, ℕ, ℤ, Bool, List, [], ◌++◌, length, take, drop, codes, decimal, Option, Some, None, Result, Ok, Err, slice_get, if◌then◌else◌}
+use Rattle.std.specs.Prelude.{◌≡◌, ◌⊎◌, ℕ, Bool, List, [], ◌++◌, length, take, drop, codes, decimal, Option, Some, None, Result, Ok, Err, slice_get, if◌then◌else◌}
 use Rattle.std.specs.List.{filter_map}
 use Rattle.bd_value.specs.Tree.{Doc}
 use Rattle.bd_device.specs.Devices.{Over, Reader, Writer}
@@ -12,12 +11,12 @@ use Rattle.bd_device.specs.declared.reading.ReadFault.{ReadFault}
 use Rattle.bd_check.specs.Fault.{Fault}
 use Rattle.bd_check.specs.Dump.{IsWalk}
 use Rattle.bd_cli.specs.Find.Answer.{answer, each, is_empty}
-use Rattle.bd_cli.specs.Find.Equality.{number_matches}
-use Rattle.bd_cli.specs.Find.QueryText.{Query, IsQuery, IsNoQuery}
-use Rattle.bd_cli.specs.Outcome.{PrintsOrStarves, ReadsInput}
-use Rattle.bd_cli.specs.Shown.{Shown, lines, fault_text, read_words, shown_refusal}
+use Rattle.bd_query.specs.Filter.{Filter}
+use Rattle.bd_cli.specs.Find.Query.{ReadsFilter, ReadsQuery, is_answer}
+use Rattle.bd_cli.specs.Outcome.{PrintsOrStarves, ReadsInput, TellsMessage}
+use Rattle.bd_cli.specs.Shown.{Shown, error_line, lines, fault_text, read_words, shown_refusal}
 use Rattle.bd_cli.specs.declared.status.Status.{Status}
-use Rattle.bd_cli.specs.declared.status.Status.TheVariants.{Done}
+use Rattle.bd_cli.specs.declared.status.Status.TheVariants.{Done, Failed}
 
 -- the first batch of an answer, and what it leaves; without a size it is the whole
 abbrev pub first_batch : Option ℕ → List ℕ → List ℕ
@@ -54,11 +53,7 @@ IsRefusedOr {Given} IsRefused IsLine IsRest =
     ((message : List ℕ) × IsLine (Err message) × IsRefused message)
     ⊎ ((given : Given) × IsLine (Ok given) × IsRest given)
 
--- ---- the lines: the query that a text is, the bytes of an input, and the documents that they are
-
-abbrev pub ReadsQuery : List ℕ → Result Query (List ℕ) → Type 0
-ReadsQuery text (Ok query) = IsQuery text query.name query.number
-ReadsQuery text (Err message) = IsNoQuery text × (message ≡ codes "query: byte 0: not in the profile")
+-- ---- the lines after those of the query: the bytes of an input, and the documents that they are
 
 abbrev pub ReadsBytes : Result (List ℕ) ReadFault → Result (List ℕ) (List ℕ) → Type 0
 ReadsBytes (Ok bytes) given = given ≡ Ok bytes
@@ -74,23 +69,32 @@ ReadsDump bytes (Err message) =
 abbrev pub IsRefusal : Shown → List ℕ → Type 0
 IsRefusal shown message = shown ≡ shown_refusal message
 
--- what is shown of the text of a query and an input: the first refusal alone, or the answer
-abbrev pub IsShownByFind : List ℕ → Option ℕ → Result (List ℕ) ReadFault → Shown → Type 0
-IsShownByFind text size input shown =
-    IsRefusedOr (IsRefusal shown) (ReadsQuery text) (λ query.
+-- what is shown of a query and an input: the first refusal alone, or the answer
+abbrev pub IsShownByFind : Option (List ℕ) → Option ℕ → Result (List ℕ) ReadFault → Shown → Type 0
+IsShownByFind query size input shown =
+    IsRefusedOr (IsRefusal shown) (ReadsQuery query) (λ d.
+    IsRefusedOr (IsRefusal shown) (ReadsFilter d) (λ filter.
     IsRefusedOr (IsRefusal shown) (ReadsBytes input) (λ bytes.
     IsRefusedOr (IsRefusal shown) (ReadsDump bytes) (λ ds.
-    shown ≡ shown_found size ds (answer (each (number_matches query.name query.number)) ds))))
+    shown ≡ shown_found size ds (answer (each (is_answer filter)) ds)))))
 
 -- an input is read once no text is refused, and else left as it is
-abbrev pub ReadsInputFor : List ℕ → Over Reader → Result (List ℕ) ReadFault → Type 0
-ReadsInputFor text file input =
-    IsRefusedOr (λ message. file.after ≡ file.before) (ReadsQuery text) (λ query.
-    ReadsInput file input)
+abbrev pub ReadsInputFor : Option (List ℕ) → Over Reader → Result (List ℕ) ReadFault → Type 0
+ReadsInputFor query file input =
+    IsRefusedOr (λ message. file.after ≡ file.before) (ReadsQuery query) (λ d.
+    IsRefusedOr (λ message. file.after ≡ file.before) (ReadsFilter d) (λ filter.
+    ReadsInput file input))
 
--- what is to be shown of a query and an input was shown
-abbrev pub FindsDocuments : List ℕ → Option ℕ → Over Reader → Over Writer → Over Writer → Status → Type 0
-FindsDocuments text size file out err status =
-    (input : Result (List ℕ) ReadFault) × (shown : Shown) × ReadsInputFor text file input
-    × IsShownByFind text size input shown
-    × PrintsOrStarves out err shown status
+-- memory ran out before the input was read
+abbrev pub StarvesUnread : Over Reader → Over Writer → Over Writer → Status → Type 0
+StarvesUnread file out err status =
+    (file.after ≡ file.before) × (out.after ≡ out.before)
+    × TellsMessage err (error_line (codes "no memory")) Failed status
+
+-- what is to be shown of a query and an input was shown, or memory ran out before
+abbrev pub FindsDocuments : Option (List ℕ) → Option ℕ → Over Reader → Over Writer → Over Writer → Status → Type 0
+FindsDocuments query size file out err status =
+    StarvesUnread file out err status
+    ⊎ ((input : Result (List ℕ) ReadFault) × (shown : Shown) × ReadsInputFor query file input
+    × IsShownByFind query size input shown
+    × PrintsOrStarves out err shown status)

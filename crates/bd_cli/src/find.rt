@@ -1,28 +1,27 @@
 //! `find`: the documents of an input that answer a query, one a line.
 //!
-//! In order of reading: `query_text` and `equality`, what is asked; `step`, the documents that answer;
-//! `found_documents`, their lines; `answer_laws`, what steps of any sizes give together.
+//! In order of reading: `query`, what is asked; `step`, the documents that answer; `found_documents`, their lines;
+//! `answer_laws`, what steps of any sizes give together.
 
 mod answer_laws;
-mod equality;
 mod found_documents;
-mod query_text;
+mod query;
 mod step;
 
-ghost use Rattle.std.specs.Prelude.{◌≡◌, ◌≤◌, ◌⊎◌, MatchOption, length, codes};
+ghost use Rattle.std.specs.Prelude.{◌≡◌, ◌≤◌, ◌⊎◌, MatchOption, length, codes, option_map};
 ghost use Rattle.bd_bson.specs.Collection.{documents};
 ghost use Rattle.bd_check.specs.AnsweredFault.{fault_view};
 ghost use Rattle.bd_cli.specs.Find.Answer.{answer, each};
-ghost use Rattle.bd_cli.specs.Find.Equality.{number_matches};
+ghost use Rattle.bd_query.specs.FilterView.{filter_tree};
 ghost use Rattle.bd_cli.specs.declared.status.Status.TheVariants.{Done, Failed};
 ghost use Rattle.bd_cli.specs.Find.{FindsDocuments, IsRefusal, IsRefusedOr, ReadsDump, find_count_line, find_count_words, shown_found};
-ghost use Rattle.bd_cli.specs.Find.QueryText.{IsNoQuery};
+ghost use Rattle.bd_cli.specs.Find.Query.{IsNoQuery, is_answer};
 ghost use Rattle.bd_cli.specs.Outcome.{PrintsOrStarves, TellsMessage};
 ghost use Rattle.bd_cli.specs.Shown.{Shown, error_line, fault_text};
 ghost use Rattle.bd_device.specs.Devices.{over};
 
 use crate::find::found_documents::write_documents;
-use crate::find::query_text::read_query;
+use crate::find::query::{QueryFault, read_query};
 use crate::limits::LIMITS;
 use crate::output::lines::{Stopped, is_want_of_memory};
 use crate::output::messages::{
@@ -34,6 +33,7 @@ pub use answer_laws::{answers_are_ordered, batches_are_the_first, steps_give_the
 use bd_bson::{Dump, read_dump};
 use bd_check::Fault;
 use bd_device::{Input, Output, read_all};
+use bd_query::Filter;
 use std::alloc::Global;
 pub use step::{Step, first_find};
 
@@ -66,21 +66,20 @@ fn most_of(size: Option<u32>) -> u64
     }
 }
 
-/// Shows the first batch of the documents that have the number; without a size, all of them.
+/// Shows the first batch of the documents that match; without a size, all of them.
 fn show_found<O: Output, E: Output>(
     alloc: Global,
     dump: &Dump,
-    name: &str,
-    n: i32,
+    filter: &Filter,
     size: Option<u32>,
     out: &mut O,
     err: &mut E,
 ) -> Status
     ensures { let ds = documents dump.now in
         PrintsOrStarves (over O.state out.old out.new) (over E.state err.old err.new)
-        (shown_found size ds (answer (each (number_matches name.now n)) ds)) result }
+        (shown_found size ds (answer (each (is_answer (filter_tree filter.now))) ds)) result }
 {
-    let Ok(step) = first_find(alloc, dump, name, n, 0, most_of(size)) else {
+    let Ok(step) = first_find(alloc, dump, filter, 0, most_of(size)) else {
         return tell_no_memory(err);
     };
     match write_documents(alloc, dump, &step.places, out) {
@@ -105,19 +104,18 @@ fn tell_dump_fault<E: Output>(alloc: Global, fault: &Fault, err: &mut E) -> Stat
 fn find_in<O: Output, E: Output>(
     alloc: Global,
     bytes: Vec<u8>,
-    name: &str,
-    n: i32,
+    filter: &Filter,
     size: Option<u32>,
     out: &mut O,
     err: &mut E,
 ) -> Status
     requires { length bytes.items ≤ 4294967295 }
     ensures { (shown : Shown) × IsRefusedOr (IsRefusal shown) (ReadsDump bytes.items)
-        (λ ds. shown ≡ shown_found size ds (answer (each (number_matches name.now n)) ds))
+        (λ ds. shown ≡ shown_found size ds (answer (each (is_answer (filter_tree filter.now))) ds))
         × PrintsOrStarves (over O.state out.old out.new) (over E.state err.old err.new) shown result }
 {
     match read_dump(alloc, bytes) {
-        Ok(dump) => show_found(alloc, &dump, name, n, size, out, err),
+        Ok(dump) => show_found(alloc, &dump, filter, size, out, err),
         Err(fault) => {
             if is_want_of_memory(&fault) {
                 return tell_no_memory(err);
@@ -127,25 +125,27 @@ fn find_in<O: Output, E: Output>(
     }
 }
 
-/// Reads an input whole, for a text that is a query, and shows the first batch of the documents that answer it; without a
+/// Reads an input whole, for a query that is a filter, and shows the first batch of the documents that answer it; without a
 /// size, all of them. Nothing is written to standard output where the input is no dump.
 pub(crate) fn find<R: Input, O: Output, E: Output>(
     alloc: Global,
-    query: &str,
+    query: Option<&str>,
     size: Option<u32>,
     input: &mut R,
     out: &mut O,
     err: &mut E,
 ) -> Status
-    ensures found { FindsDocuments query.now size (over R.state input.old input.new) (over O.state out.old out.new)
+    ensures found { FindsDocuments (option_map (λ text. text.now) query.entry) size (over R.state input.old input.new) (over O.state out.old out.new)
         (over E.state err.old err.new) result }
-    ensures unread { IsNoQuery query.now → input.new ≡ input.old }
+    ensures unread { IsNoQuery (option_map (λ text. text.now) query.entry) → input.new ≡ input.old }
 {
-    let Some((name, n)) = read_query(query) else {
-        return tell_error(b"query: byte 0: not in the profile", err);
+    let filter = match read_query(alloc, query) {
+        Ok(filter) => filter,
+        Err(QueryFault::NoMemory) => return tell_no_memory(err),
+        Err(QueryFault::Message(message)) => return tell_error(&message, err),
     };
     match read_all(alloc, input, LIMITS) {
-        Ok(bytes) => find_in(alloc, bytes, name, n, size, out, err),
+        Ok(bytes) => find_in(alloc, bytes, &filter, size, out, err),
         Err(fault) => tell_read_fault(fault, err),
     }
 }

@@ -40,7 +40,7 @@ pub fn run<F: Input, C: Input, O: Output, E: Output>(
         Order::Dump { .. } => dump(alloc, file, out, err),
         Order::Check { .. } => check(alloc, file, out, err),
         Order::Pack { .. } => pack(alloc, file, out, err),
-        Order::Find { query, batch, .. } => find(alloc, query.as_str(), *batch, file, out, err),
+        Order::Find { query, batch, .. } => find(alloc, query.as_deref(), *batch, file, out, err),
     }
 }
 

@@ -1,6 +1,8 @@
 //! The documents that `first_find` gives of a dump that was worked by hand.
 use bd_bson::{Dump, read_dump};
 use bd_cli::first_find;
+use bd_extjson::read_doc;
+use bd_query::{Filter, parse};
 use std::alloc::Global;
 use std::test::Fail;
 
@@ -10,9 +12,16 @@ const FOUR: &[u8] = b"\x0c\0\0\0\x10a\0\x01\0\0\0\0\
     \x0c\0\0\0\x10a\0\x02\0\0\0\0\
     \x0c\0\0\0\x10a\0\x01\0\0\0\0";
 
-/// Whether the next documents with the number 1 in `a` are these.
-fn gives(alloc: Global, dump: &Dump, from: u32, size: u64, wanted: (&[u32], u32, bool)) -> bool {
-    match first_find(alloc, dump, "a", 1, from, size) {
+/// Whether the next documents that match are these.
+fn gives(
+    alloc: Global,
+    dump: &Dump,
+    filter: &Filter,
+    from: u32,
+    size: u64,
+    wanted: (&[u32], u32, bool),
+) -> bool {
+    match first_find(alloc, dump, filter, from, size) {
         Ok(step) => {
             step.places.as_slice() == wanted.0 && step.after == wanted.1 && step.end == wanted.2
         }
@@ -26,6 +35,10 @@ fn steps_give_the_places_in_turn(rt: HostRuntime) -> Result<(), Fail> {
     let Ok(dump) = read_dump(alloc, Vec::from_slice(alloc, FOUR)?) else {
         return Err(Fail::from("four documents"));
     };
+    let query = read_doc(alloc, b"{\"a\":1}")?;
+    let Ok(filter) = parse(alloc, &query) else {
+        return Err(Fail::from("a filter"));
+    };
     for (from, size, places, after, end) in [
         (0, 0, [].as_slice(), 0, false),
         (0, 2, [0, 1].as_slice(), 2, false),
@@ -35,7 +48,7 @@ fn steps_give_the_places_in_turn(rt: HostRuntime) -> Result<(), Fail> {
         (9, 1, [].as_slice(), 9, true),
     ] {
         assert!(rt;
-            gives(alloc, &dump, from, size, (places, after, end)),
+            gives(alloc, &dump, &filter, from, size, (places, after, end)),
             "from {from}, size {size}"
         );
     }

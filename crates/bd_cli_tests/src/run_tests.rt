@@ -45,7 +45,7 @@ fn carries_out_each_order(rt: HostRuntime) -> Result<(), Fail> {
     let query = String::from_str(alloc, "{\"a\":1}")?;
     let find = Order::Find {
         file: String::new(alloc),
-        query,
+        query: Some(query),
         batch: Some(2),
     };
     let found = ample(ONE, ONE_LINE, "1 documents, end\n");

@@ -1,84 +1,134 @@
 -- Lines of `find` that any file may stand in.
-use Rattle.std.proofs.Common.{◌≡◌, ◌≢◌, ◌+◌, ◌++◌, ◌<◌, ◌≤◌, ◌^◌, ◌∙◌, ◌∷◌, ℕ, List, [], Bool, Option, Some, None, codes, refl, sym, true, false, ap, subst, arith, get_or, zero, suc, if◌then◌else◌, ◌%◌, ◌/◌}
+use Rattle.std.proofs.Common.{◌≡◌, ◌+◌, ◌++◌, ◌<◌, ◌≤◌, ◌^◌, ◌∙◌, ◌∷◌, ◌==◌, ℕ, Bool, List, [], Option, Some, None, codes, refl, sym, true, false, ap, subst, arith, get_or, if◌then◌else◌, ◌%◌}
 use Rattle.std.specs.Fmt.{decimal}
-use Rattle.std.specs.Str.Parse.{digits_value, without_leading_plus, IsNumeral}
+use Rattle.std.specs.Str.Parse.{digits_value, without_leading_plus}
 use Rattle.std.proofs.lemmas.Fmt.{decimal_by_steps, decimal_is_IsNumeral}
 use Rattle.std.proofs.lemmas.Str.Parse.{without_leading_plus_none}
-use Rattle.clap.specs.Faults.{fault_of}
 use Rattle.clap.specs.Kinds.{Kinds, or_else}
 use Rattle.clap.specs.Values.{refused_kind}
 use Rattle.clap.specs.ValueTests.{is_unsigned_in}
-use Rattle.clap.specs.Walk.{Text}
+use Rattle.clap.specs.Walk.{Row, Text, nothing_held, walk_from}
 use Rattle.clap.specs.declared.builder.value_parser.ValueParser.TheVariants.{Unsigned}
 use Rattle.clap.proofs.OnLiterals.{clap_on_literals}
 use Rattle.clap.proofs.ValueTestLemmas.{Accepts-accepts}
-use Rattle.bd_command_line.specs.CommandLine.{Ordered, find, line_app, number_read, order_of}
+use Rattle.bd_command_line.specs.CommandLine.{Ordered, find, is_file_word, number_read}
 use Rattle.bd_command_line.proofs.BatchSizeLemmas.{small_yes}
+use Rattle.bd_command_line.proofs.FindWalkLemmas.{Leads, after_file, after_size, before_size, file_leads, leads_on, line_taken, past, size_leads}
 use Rattle.bd_command_line.proofs.LineLemmas.{IsTaken}
 
-pub find_taken : (rest file : Text) → IsTaken (codes "find" ∷ codes "--query" ∷ (123 ∷ rest) ∷ codes "--" ∷ file ∷ []) (find file (123 ∷ rest) None)
+-- ---- without a batch
+
+pub all_taken : (file : Text) → is_file_word file ≡ true → IsTaken (codes "find" ∷ file ∷ []) (find file None None)
+unfolding clap_on_literals
+all_taken file plain = line_taken (file ∷ []) (after_file file) (find file None None) (file_leads file plain) refl refl
+
+pub all_escaped_taken : (file : Text) → IsTaken (codes "find" ∷ codes "--" ∷ file ∷ []) (find file None None)
+unfolding clap_on_literals
+all_escaped_taken file = (refl, refl)
+
+pub find_taken : (rest file : Text)
+    → IsTaken (codes "find" ∷ codes "--query" ∷ (123 ∷ rest) ∷ codes "--" ∷ file ∷ [])
+    (find file (Some (123 ∷ rest)) None)
 unfolding clap_on_literals
 find_taken rest file = (refl, refl)
 
--- ---- with a batch
-
-abbrev batch_line : Text → Text → Text → List Text
-batch_line rest size file = codes "find" ∷ codes "--query" ∷ (123 ∷ rest) ∷ codes "--batch" ∷ size ∷ codes "--" ∷ file ∷ []
-
--- the fault of the line, where the size is one or is none
-abbrev batch_fault : Bool → Kinds
-batch_fault is_size =
-    or_else (or_else (or_else (or_else (if is_size then [] else refused_kind (Unsigned 0 2147483647) ∷ []) []) []) []) []
-
--- what the parser makes of a line whose size begins with a digit
-abbrev KnowsLine : Text → Text → Text → Type 0
-KnowsLine rest size file =
-    (fault_of line_app (batch_line rest size file) ≡ batch_fault (is_unsigned_in 0 2147483647 size))
-    × (order_of (batch_line rest size file) ≡ Some (find file (123 ∷ rest) (number_read size)))
-
--- The walk computes where the first digit is written out.
-size_known : (k : ℕ) (digits rest file : Text) → k < 10 → KnowsLine rest ((48 + k) ∷ digits) file
+pub file_first_taken : (rest file : Text) → is_file_word file ≡ true
+    → IsTaken (codes "find" ∷ file ∷ codes "--query" ∷ (123 ∷ rest) ∷ []) (find file (Some (123 ∷ rest)) None)
 unfolding clap_on_literals
-size_known zero digits rest file lt = (refl, refl)
-size_known (suc zero) digits rest file lt = (refl, refl)
-size_known (suc (suc zero)) digits rest file lt = (refl, refl)
-size_known (suc (suc (suc zero))) digits rest file lt = (refl, refl)
-size_known (suc (suc (suc (suc zero)))) digits rest file lt = (refl, refl)
-size_known (suc (suc (suc (suc (suc zero))))) digits rest file lt = (refl, refl)
-size_known (suc (suc (suc (suc (suc (suc zero)))))) digits rest file lt = (refl, refl)
-size_known (suc (suc (suc (suc (suc (suc (suc zero))))))) digits rest file lt = (refl, refl)
-size_known (suc (suc (suc (suc (suc (suc (suc (suc zero)))))))) digits rest file lt = (refl, refl)
-size_known (suc (suc (suc (suc (suc (suc (suc (suc (suc zero))))))))) digits rest file lt = (refl, refl)
-size_known (suc (suc (suc (suc (suc (suc (suc (suc (suc (suc k)))))))))) digits rest file lt = absurd (omega arith)
+file_first_taken rest file plain =
+    let query = codes "--query" ∷ (123 ∷ rest) ∷ [] in
+    let after = after_file file in
+    let end = past after query in
+    let leads = leads_on (walk_from nothing_held) after end (file ∷ []) query (file_leads file plain) (refl, refl) in
+    line_taken (file ∷ query) end (find file (Some (123 ∷ rest)) None) leads refl refl
 
--- the digits of a number begin with a digit
-abbrev IsDigits : ℕ → Text → Type 0
-IsDigits size text = (k : ℕ) × (digits : Text) × (k < 10) × (text ≡ (48 + k) ∷ digits)
+-- ---- the size of a batch, as its digits
 
-digits_of_size : (size : ℕ) → size < 2 ^ 64 → IsDigits size (decimal size)
-digits_of_size = decimal_by_steps IsDigits (λ m lt. (m, [], lt, refl))
-    (λ m ds lt begins. (begins.0, begins.1 ++ ((48 + m % 10) ∷ []), begins.2, ap (λ xs. xs ++ ((48 + m % 10) ∷ [])) begins.3))
+-- the text begins with a digit, or with a byte above the digits
+abbrev BeginsHigh : Text → Type 0
+BeginsHigh text = (x : ℕ) × (xs : Text) × (48 ≤ x) × (text ≡ x ∷ xs)
+
+size_begins : (size : ℕ) → size < 2 ^ 64 → BeginsHigh (decimal size)
+size_begins = decimal_by_steps (λ _ text. BeginsHigh text) (λ m lt. (48 + m, [], omega arith, refl))
+    (λ m ds lt begins.
+    let last = (48 + m % 10) ∷ [] in
+    (begins.0, begins.1 ++ last, begins.2, ap (λ xs. xs ++ last) begins.3))
 
 no_plus : (size : ℕ) → size < 2 ^ 64 → without_leading_plus (decimal size) ≡ decimal size
 no_plus size lt =
-    let d = digits_of_size size lt in
-    without_leading_plus_none (decimal size) (λ e. let f : 48 + d.0 ≡ 43 = sym (ap (λ xs. get_or xs 0 0) d.3) ∙ e in absurd (omega (arith, f)))
+    let d = size_begins size lt in
+    without_leading_plus_none (decimal size) (λ e.
+    let plus : d.0 ≡ 43 = sym (ap (λ xs. get_or xs 0 0) d.3) ∙ e in
+    absurd (omega (arith, plus)))
+
+no_hyphen : (x : ℕ) → 48 ≤ x → (x == 45) ≡ false
+no_hyphen x high = grind arith
+
+-- the word after `--batch` is taken for its value
+abbrev IsValue : List Row → ℕ → Text → Type 0
+IsValue rows position text = Leads (before_size rows position) (text ∷ []) (after_size rows position text)
+
+decimal_leads : (rows : List Row) (position size : ℕ) → size < 2 ^ 64 → IsValue rows position (decimal size)
+decimal_leads rows position size lt =
+    let d = size_begins size lt in
+    subst (IsValue rows position) (sym d.3) (size_leads rows position d.0 d.1 (no_hyphen d.0 d.2))
 
 size_taken : (size : ℕ) → size ≤ 2147483647 → is_unsigned_in 0 2147483647 (decimal size) ≡ true
 size_taken size le =
     let n = decimal_is_IsNumeral size (omega arith) in
     let plain = no_plus size (omega arith) in
-    Accepts-accepts false (Unsigned 0 2147483647) (decimal size) (rw plain (n.0, omega (arith, n.1), omega arith, omega (arith, n.1)))
+    Accepts-accepts false (Unsigned 0 2147483647) (decimal size)
+    (rw plain (n.0, omega (arith, n.1), omega arith, omega (arith, n.1)))
 
 size_read : (size : ℕ) → size ≤ 2147483647 → number_read (decimal size) ≡ Some size
 size_read size le =
     let n = decimal_is_IsNumeral size (omega arith) in
     let plain = no_plus size (omega arith) in
-    rw (small_yes (decimal size) (rw plain (n.0, omega (arith, n.1)))) (ap (λ k. Some k) (ap (digits_value 10) plain ∙ n.1))
+    rw (small_yes (decimal size) (rw plain (n.0, omega (arith, n.1))))
+    (ap (λ k. Some k) (ap (digits_value 10) plain ∙ n.1))
+
+-- ---- with a batch
+
+-- what is refused where the option is used, by whether its value is a size
+abbrev size_fault : Bool → Kinds
+size_fault is_size = or_else (or_else (if is_size then [] else refused_kind (Unsigned 0 2147483647) ∷ []) []) []
+
+-- the order, by the number that the size is read as
+abbrev with_size : Text → Text → Option ℕ → Option Ordered
+with_size rest file size = Some (find file (Some (123 ∷ rest)) size)
 
 pub batch_taken : (size : ℕ) (rest file : Text) → size ≤ 2147483647
-    → IsTaken (batch_line rest (decimal size) file) (find file (123 ∷ rest) (Some size))
+    → IsTaken (codes "find" ∷ codes "--query" ∷ (123 ∷ rest) ∷ codes "--batch" ∷ decimal size ∷ codes "--" ∷ file ∷ [])
+    (find file (Some (123 ∷ rest)) (Some size))
+unfolding clap_on_literals
 batch_taken size rest file le =
-    let d = digits_of_size size (omega arith) in
-    let knows = subst (λ text. KnowsLine rest text file) (sym d.3) (size_known d.0 d.1 rest file d.2) in
-    (knows.0 ∙ ap batch_fault (size_taken size le), knows.1 ∙ ap (λ (n : Option ℕ). Some (find file (123 ∷ rest) n)) (size_read size le))
+    let start = walk_from nothing_held in
+    let options = codes "--query" ∷ (123 ∷ rest) ∷ codes "--batch" ∷ [] in
+    let last = codes "--" ∷ file ∷ [] in
+    let rows = (past start options).held.rows in
+    let before = before_size rows 1 in
+    let after = after_size rows 1 (decimal size) in
+    let end = past after last in
+    let value = decimal_leads rows 1 size (omega arith) in
+    let on_last = leads_on before after end (decimal size ∷ []) last value (ap size_fault (size_taken size le), refl) in
+    let leads = leads_on start before end options (decimal size ∷ last) (refl, refl) on_last in
+    line_taken (options ++ (decimal size ∷ last)) end (find file (Some (123 ∷ rest)) (Some size)) leads
+    refl (ap (with_size rest file) (size_read size le))
+
+pub file_first_batch_taken : (size : ℕ) (rest file : Text) → size ≤ 2147483647 → is_file_word file ≡ true
+    → IsTaken (codes "find" ∷ file ∷ codes "--query" ∷ (123 ∷ rest) ∷ codes "--batch" ∷ decimal size ∷ [])
+    (find file (Some (123 ∷ rest)) (Some size))
+unfolding clap_on_literals
+file_first_batch_taken size rest file le plain =
+    let start = walk_from nothing_held in
+    let after = after_file file in
+    let options = codes "--query" ∷ (123 ∷ rest) ∷ codes "--batch" ∷ [] in
+    let rows = (past after options).held.rows in
+    let before = before_size rows 2 in
+    let end = after_size rows 2 (decimal size) in
+    let value = decimal_leads rows 2 size (omega arith) in
+    let more = options ++ (decimal size ∷ []) in
+    let on_more = leads_on after before end options (decimal size ∷ []) (refl, refl) value in
+    let leads = leads_on start after end (file ∷ []) more (file_leads file plain) on_more in
+    line_taken (file ∷ more) end (find file (Some (123 ∷ rest)) (Some size)) leads
+    (ap size_fault (size_taken size le)) (ap (with_size rest file) (size_read size le))

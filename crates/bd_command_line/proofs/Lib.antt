@@ -5,3 +5,4 @@ pub mod BatchSizeLemmas
 pub mod FindLineLemmas
 pub mod CheckLineLemmas
 pub mod PackLineLemmas
+pub mod FindWalkLemmas

@@ -23,7 +23,7 @@ use Rattle.clap.proofs.OnLiterals.{clap_on_literals}
 use Rattle.bd_command_line.specs.declared.order.Order.{Order}
 use Rattle.bd_command_line.specs.declared.order.WordsFault.{WordsFault}
 use Rattle.bd_command_line.specs.declared.order.WordsFault.TheVariants.{NoMemory, Usage}
-use Rattle.bd_command_line.specs.CommandLine.{Ordered, GivesOrder, meant, batch_read, check, dump, pack, fault_for, file_app, find as finds, find_app, find_ordered, told_as, is_file_word, is_help_line, line_app, order_of, ordered_by}
+use Rattle.bd_command_line.specs.CommandLine.{Ordered, GivesOrder, meant, check, dump, pack, fault_for, file_app, find_app, find_ordered, told_as, is_file_word, is_help_line, line_app, order_of, ordered_by}
 use Rattle.bd_command_line.proofs.RowValueLemmas.{AllFilled, defaults-filled, fills, given_first, left_nil, right_nil, settled-filled, walk-filled}
 use Rattle.bd_command_line.proofs.FaultLemmas.{SameTold, same-fault}
 
@@ -109,30 +109,15 @@ pack_orders : HasOrders pack_shape
 pack_orders words e =
     some_mapped pack (first_of (codes "file") (rows_after pack_shape.rules [] words)) (file_there pack_shape words refl (λ rows c. file_given _ _ c) e)
 
--- the command `find`: it has FILE and the query
-abbrev find_shape : Shape
+-- the command `find`, likewise
+abbrev pub find_shape : Shape
 find_shape = built_leaf (inherited (on_top with_leaf_noted (on_top marked_built line_app)).top find_app.top)
-
-query_given : (file given rest : Bool) → check_kinds false false (not file || (not given || rest)) ≡ [] → given ≡ true
-query_given file true rest e = refl
-query_given true false rest e = absurd (refused MissingRequiredArgument e)
-query_given false false rest e = absurd (refused MissingRequiredArgument e)
-
-query_there : (words : List Text) → level_fault find_shape [] nothing_held words false [] ≡ [] → is_some (first_of (codes "query") (rows_after find_shape.rules [] words)) ≡ true
-query_there words e =
-    let rows = rows_after find_shape.rules [] words in
-    given_first (codes "query") rows (level_rows find_shape words refl e) (query_given _ _ _ (level_checks find_shape [] words false [] e).1)
-
-some_ordered : (file query : Option Text) (batch : Option ℕ) → is_some file ≡ true → is_some query ≡ true → is_some (option_and_then (λ f. option_map (λ q. finds f q batch) query) file) ≡ true
-some_ordered None query batch e f = let bad : ⊥ = cc in absurd bad
-some_ordered (Some x) None batch e f = let bad : ⊥ = cc in absurd bad
-some_ordered (Some x) (Some y) batch e f = refl
 
 find_orders : HasOrders find_shape
 find_orders words e =
     let rows = rows_after find_shape.rules [] words in
-    some_ordered (first_of (codes "file") rows) (first_of (codes "query") rows) (batch_read rows)
-    (file_there find_shape words refl (λ rows c. file_given _ _ c) e) (query_there words e)
+    some_mapped (find_ordered rows) (first_of (codes "file") rows)
+    (file_there find_shape words refl (λ rows c. file_given _ _ c) e)
 
 commands_order : EachShape HasOrders (built line_app).subs
 unfolding EachShape
@@ -255,11 +240,12 @@ no_file name rows e = go (bytes_eq name (codes "dump")) (bytes_eq name (codes "c
   where
     go : (a b c d : Bool) → cond a (option_map dump (first_of (codes "file") rows))
         (cond b (option_map check (first_of (codes "file") rows))
-        (cond c (option_map pack (first_of (codes "file") rows)) (cond d (option_and_then (find_ordered rows) (first_of (codes "file") rows)) None))) ≡ None
+        (cond c (option_map pack (first_of (codes "file") rows))
+        (cond d (option_map (find_ordered rows) (first_of (codes "file") rows)) None))) ≡ None
     go true b c d = ap (option_map dump) e
     go false true c d = ap (option_map check) e
     go false false true d = ap (option_map pack) e
-    go false false false true = ap (option_and_then (find_ordered rows)) e
+    go false false false true = ap (option_map (find_ordered rows)) e
     go false false false false = refl
 
 -- ---- the clauses of the parse, at the program's line
@@ -294,7 +280,8 @@ orders_when (Ok o) words order is ok err = same_order words (meant o) order ok i
 orders_when (Err f) words order is ok err = err
 
 -- words that are taken are answered by their order, or memory ran out
-pub answered : (r : Result Order WordsFault) (words : List Text) (order : Ordered) → fault_of line_app words ≡ [] → order_of words ≡ Some order
-    → IfOk r (λ o. order_of words ≡ Some (meant o)) → IfErr r (λ f. (f ≡ NoMemory) ⊎ (fault_for words ≡ Some f)) → GivesOrder r order
-answered (Ok o) words order none is ok err = orders_when (Ok o) words order is ok err
-answered (Err f) words order none is ok err = only_memory words f none err
+pub answered : (r : Result Order WordsFault) (words line : List Text) (order : Ordered) → words ≡ line
+    → IsTaken line order → IfOk r (λ o. order_of words ≡ Some (meant o))
+    → IfErr r (λ f. (f ≡ NoMemory) ⊎ (fault_for words ≡ Some f)) → GivesOrder r order
+answered (Ok o) words line order is taken ok err = orders_when (Ok o) words order (ap order_of is ∙ taken.1) ok err
+answered (Err f) words line order is taken ok err = only_memory words f (ap (fault_of line_app) is ∙ taken.0) err

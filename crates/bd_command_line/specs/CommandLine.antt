@@ -28,10 +28,10 @@ file_rule = record (new_rule (codes "file")) { required = true; action = Some Se
 abbrev pub file_app : Text → App
 file_app name = with_rule (new_app name) file_rule
 
--- `find` takes a query and the size of a batch too
+-- `find` may have a query and the size of a batch
 abbrev pub query_rule : Rule
 query_rule =
-    record (new_rule (codes "query")) { long = Some (codes "query"); required = true; action = Some Set }
+    record (new_rule (codes "query")) { long = Some (codes "query"); action = Some Set }
 
 abbrev pub batch_rule : Rule
 batch_rule =
@@ -62,13 +62,13 @@ pub data Ordered : Type 0 where
   dump : Text → Ordered
   check : Text → Ordered
   pack : Text → Ordered
-  find : Text → Text → Option ℕ → Ordered
+  find : Text → Option Text → Option ℕ → Ordered
 
 abbrev pub meant : Order → Ordered
 meant (Dump file) = dump (string_bytes file)
 meant (Check file) = check (string_bytes file)
 meant (Pack file) = pack (string_bytes file)
-meant (Find file query batch) = find (string_bytes file) (string_bytes query) batch
+meant (Find file query batch) = find (string_bytes file) (option_map string_bytes query) batch
 
 abbrev pub words_of : {Z : Type 0} → List (String Z) → List Text
 words_of = map string_bytes
@@ -81,9 +81,8 @@ number_read text =
 abbrev pub batch_read : List Row → Option ℕ
 batch_read rows = option_and_then number_read (one_of (codes "batch") rows)
 
-abbrev pub find_ordered : List Row → Text → Option Ordered
-find_ordered rows file =
-    option_map (λ query. find file query (batch_read rows)) (first_of (codes "query") rows)
+abbrev pub find_ordered : List Row → Text → Ordered
+find_ordered rows file = find file (first_of (codes "query") rows) (batch_read rows)
 
 -- the order of a command's name and its matches
 abbrev pub ordered_by : Text → List Row → Option Ordered
@@ -91,7 +90,8 @@ ordered_by name rows =
     if bytes_eq name (codes "dump") then option_map dump (first_of (codes "file") rows)
     else (if bytes_eq name (codes "check") then option_map check (first_of (codes "file") rows)
     else (if bytes_eq name (codes "pack") then option_map pack (first_of (codes "file") rows)
-    else (if bytes_eq name (codes "find") then option_and_then (find_ordered rows) (first_of (codes "file") rows) else None)))
+    else (if bytes_eq name (codes "find")
+    then option_map (find_ordered rows) (first_of (codes "file") rows) else None)))
 
 -- the order of words that are taken
 abbrev pub order_of : List Text → Option Ordered

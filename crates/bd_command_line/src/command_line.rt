@@ -138,8 +138,9 @@ fn order_in(alloc: Global, words: &[String]) -> Result<Order, WordsFault>
 
 /// The order of a line: its words without the program's name.
 ///
-/// `dump FILE`, `check FILE` and `pack FILE` are taken, and `find FILE --query Q` with or without `--batch N`, N from 0 to
-/// 2,147,483,647. A file whose name looks like a flag stands after `--`, as in `dump -- -x`.
+/// `dump FILE`, `check FILE` and `pack FILE` are taken, and `find FILE` with or without `--query Q` and with or
+/// without `--batch N`, N from 0 to 2,147,483,647. FILE stands before the options or after them. A file whose name
+/// looks like a flag stands after `--`, as in `dump -- -x`.
 ///
 /// # Errors
 ///
@@ -163,14 +164,25 @@ pub fn parse_words(alloc: Global, words: &[String]) -> Result<Order, WordsFault>
         → words_of words.now ≡ codes "pack" ∷ file ∷ [] → GivesOrder result (pack file) }
     ensures pack_escaped { (file : List ℕ)
         → words_of words.now ≡ codes "pack" ∷ codes "--" ∷ file ∷ [] → GivesOrder result (pack file) }
+    ensures find_all { (file : List ℕ) → IsTrue (is_file_word file)
+        → words_of words.now ≡ codes "find" ∷ file ∷ [] → GivesOrder result (find file None None) }
+    ensures find_all_escaped { (file : List ℕ)
+        → words_of words.now ≡ codes "find" ∷ codes "--" ∷ file ∷ [] → GivesOrder result (find file None None) }
     // A query begins with a brace (123).
     ensures find { (rest file : List ℕ)
         → words_of words.now ≡ codes "find" ∷ codes "--query" ∷ (123 ∷ rest) ∷ codes "--" ∷ file ∷ []
-        → GivesOrder result (find file (123 ∷ rest) None) }
+        → GivesOrder result (find file (Some (123 ∷ rest)) None) }
     ensures find_batch { (rest file : List ℕ) (size : ℕ) → size ≤ 2147483647
         → words_of words.now ≡ codes "find" ∷ codes "--query" ∷ (123 ∷ rest)
         ∷ codes "--batch" ∷ decimal size ∷ codes "--" ∷ file ∷ []
-        → GivesOrder result (find file (123 ∷ rest) (Some size)) }
+        → GivesOrder result (find file (Some (123 ∷ rest)) (Some size)) }
+    ensures find_file_first { (rest file : List ℕ) → IsTrue (is_file_word file)
+        → words_of words.now ≡ codes "find" ∷ file ∷ codes "--query" ∷ (123 ∷ rest) ∷ []
+        → GivesOrder result (find file (Some (123 ∷ rest)) None) }
+    ensures find_file_first_batch { (rest file : List ℕ) (size : ℕ) → IsTrue (is_file_word file) → size ≤ 2147483647
+        → words_of words.now ≡ codes "find" ∷ file ∷ codes "--query" ∷ (123 ∷ rest)
+        ∷ codes "--batch" ∷ decimal size ∷ []
+        → GivesOrder result (find file (Some (123 ∷ rest)) (Some size)) }
     ensures help_word { IsTrue (is_help_line (words_of words.now)) → IsErrOf result WordsFault.Usage }
 {
     if begins_with_help(words) {

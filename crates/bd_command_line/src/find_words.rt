@@ -1,5 +1,5 @@
 //! The words of `find`.
-ghost use Rattle.std.specs.Prelude.{◌≡◌, IfErr, IfOk, IsSome, Some, codes, false, string_bytes};
+ghost use Rattle.std.specs.Prelude.{◌≡◌, IfErr, IfOk, codes, false, option_map, string_bytes};
 ghost use Rattle.clap.specs.Words.{app_of, first_of, found_of, rows_of, rule_of};
 ghost use Rattle.clap.specs.declared.builder.command.Command.TheViews.{out-Command as fields_of};
 ghost use Rattle.bd_command_line.specs.CommandLine.{batch_rule, find_app, find_ordered, meant, query_rule};
@@ -17,7 +17,6 @@ fn query_argument<'a>(alloc: Global) -> Arg<'a>
 {
     Arg::new(alloc, "query")
         .long("query")
-        .required(true)
         .action(ArgAction::Set)
 }
 
@@ -41,21 +40,31 @@ pub fn find_command<'a>(alloc: Global) -> Result<Command<'a>, AllocError>
     of_file(alloc, "find")?.arg(query)?.arg(batch)
 }
 
+/// The text of an option, where it is given.
+fn text_of(
+    alloc: Global,
+    matches: &ArgMatches<'_>,
+    name: &str,
+) -> Result<Option<String>, WordsFault>
+    ensures text { IfOk result (λ o. option_map string_bytes o ≡ first_of name.now (rows_of (found_of matches.now))) }
+    ensures fault { IfErr result (λ f. f ≡ NoMemory) }
+{
+    match matches.get_str(name) {
+        Some(text) => Ok(Some(String::from_str(alloc, text)?)),
+        None => Ok(None),
+    }
+}
+
 /// The order of `find` over that file with these matches.
 pub fn find_order(
     alloc: Global,
     file: String,
     matches: &ArgMatches<'_>,
 ) -> Result<Order, WordsFault>
-    requires { IsSome (first_of (codes "query") (rows_of (found_of matches.now))) }
-    ensures order { IfOk result (λ o.
-        find_ordered (rows_of (found_of matches.now)) (string_bytes file) ≡ Some (meant o)) }
+    ensures order { IfOk result (λ o. meant o ≡ find_ordered (rows_of (found_of matches.now)) (string_bytes file)) }
     ensures fault { IfErr result (λ f. f ≡ NoMemory) }
 {
-    let Some(query) = matches.get_str("query") else {
-        unreachable!()
-    };
-    let query = String::from_str(alloc, query)?;
+    let query = text_of(alloc, matches, "query")?;
     let batch = matches.get_one::<u32>("batch");
     Ok(Order::Find { file, query, batch })
 }

@@ -20,10 +20,11 @@ pub enum Order {
     Pack {
         file: String,
     },
-    /// The documents of `file` that answer `query`, the first `batch` of them or all; `-` is the standard input.
+    /// The documents of `file` that answer `query`, and without one all documents; the first `batch` of them or
+    /// all; `-` is the standard input.
     Find {
         file: String,
-        query: String,
+        query: Option<String>,
         batch: Option<u32>,
     },
 }

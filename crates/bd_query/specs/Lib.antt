@@ -1,8 +1,10 @@
 pub mod Body
 pub mod Fault
 pub mod Filter
+pub mod FilterBad
 pub mod FilterOf
 pub mod FilterView
 pub mod FilterMatch
+pub mod Laws
 pub mod Types
 pub mod Word

@@ -7,6 +7,7 @@ ghost use Rattle.bd_value.specs.Parts.{values_of};
 ghost use Rattle.bd_path.specs.Path.{path_of};
 ghost use Rattle.bd_path.specs.PathNames.{names_of};
 ghost use Rattle.bd_query.specs.Fault.{IsStarved, ReadsPart, refusal_of};
+ghost use Rattle.bd_query.specs.FilterBad.{IsBadAt};
 ghost use Rattle.bd_query.specs.FilterOf.{filter_of, filters_of, has_value_form, member_filter, member_filters, not_operator};
 ghost use Rattle.bd_query.specs.FilterOf.{element_operator, operand_filters, operator_of, operators_of, pair_filter, path_names, path_operators};
 ghost use Rattle.bd_query.specs.FilterView.{filter_tree, operator_tree};
@@ -36,6 +37,7 @@ const LEVELS: u32 = 49;
 pub fn parse(alloc: Global, document: &Document) -> Result<Filter, FilterFault>
     ensures filter { IfOk result (λ f. filter_of (pairs document.now) ≡ Ok (filter_tree f)) }
     ensures fault { IfErr result (λ f. IsStarved f ⊎ (filter_of (pairs document.now) ≡ Err (refusal_of f))) }
+    ensures bad { IfErr result (λ f. IsStarved f ⊎ IsBadAt (pairs document.now) (refusal_of f)) }
 {
     match read_filters::<Tree<'_>>(alloc, LEVELS, Tree::Doc(document).parts()) {
         Ok(filters) => Ok(Filter::And(filters)),

@@ -15,6 +15,7 @@
 //! - `filter`: `Filter` and `Operator`, to match on: `specs/Filter.antt`, and `specs/FilterView.antt` for what they stand for.
 //! - `fault`: `FilterFault`, which pair or member is no part of a filter: `specs/Fault.antt`.
 //! - `filter_of`: `parse`, the filter that a document is, or its first fault: `specs/FilterOf.antt`.
+//! - `laws`: a document has no filter exactly where a pair or member of it breaks a rule: `specs/FilterBad.antt`.
 //! - `word`, `plain`, `operand`, `types`, `operand_types`: names that stand for something, and operands that are values.
 //! - `filter_match`: `matches`, whether a value matches a filter: `specs/FilterMatch.antt`.
 //! - `relation`, `value_test`, `end_test`, `body`: what one value, an end of a path and an element for `$elemMatch` is asked.
@@ -26,6 +27,7 @@ mod fault;
 mod filter;
 mod filter_match;
 mod filter_of;
+mod laws;
 mod operand;
 mod operand_types;
 mod plain;
@@ -38,3 +40,4 @@ pub use fault::{FilterFault, FilterFaultKind};
 pub use filter::{Filter, Operator};
 pub use filter_match::matches;
 pub use filter_of::parse;
+pub use laws::bad_documents_alone_are_refused;

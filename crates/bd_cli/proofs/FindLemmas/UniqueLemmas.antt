@@ -1,16 +1,21 @@
 -- One thing is shown of each query and input.
-use Rattle.std.proofs.Common.{◌≡◌, ◌⊎◌, ℕ, ℤ, List, [], Option, Some, None, Result, Ok, Err, refl, sym, ap, ap₂, ◌∙◌, subst, inl, inr, codes, length}
+use Rattle.std.proofs.Common.{◌≡◌, ℕ, List, [], Option, Some, None, Result, Ok, Err, refl, sym, ap, ap₂, ◌∙◌, subst, inl, inr, length, arith}
 use Rattle.bd_value.specs.Tree.{Doc}
 use Rattle.bd_device.specs.declared.reading.ReadFault.{ReadFault}
 use Rattle.bd_check.specs.Fault.{Fault}
 use Rattle.bd_check.proofs.FirstFaultLemmas.{IsBytes}
 use Rattle.bd_check.proofs.DumpLemmas.{walk_once, walk_on}
+use Rattle.bd_diagnose.specs.JsonFault.{IsPlaced}
+use Rattle.bd_diagnose.specs.declared.json_fault.JsonFault.{JsonFault}
+use Rattle.bd_diagnose.specs.declared.json_fault.JsonFaultKind.TheVariants as kinds
+use Rattle.bd_extjson.specs.TextDocument.{reading}
+use Rattle.bd_query.specs.Fault.{Refusal}
+use Rattle.bd_query.specs.Filter.{Filter}
+use Rattle.bd_query.specs.FilterOf.{filter_of}
 use Rattle.bd_cli.specs.Find.Answer.{answer, each}
-use Rattle.bd_cli.specs.Find.Equality.{number_matches}
-use Rattle.bd_cli.specs.Find.QueryText.{IsQuery, IsNoQuery}
+use Rattle.bd_cli.specs.Find.Query.{ReadsFilter, ReadsQuery, is_answer, json_fault_text, refusal_text}
 use Rattle.bd_cli.proofs.FindLemmas.{IsShownOfBytes, bytes_show}
-use Rattle.bd_cli.proofs.FindLemmas.QueryTextLemmas.{query_once}
-use Rattle.bd_cli.specs.Find.{IsRefusal, IsRefusedOr, IsShownByFind, ReadsBytes, ReadsDump, ReadsQuery, shown_found}
+use Rattle.bd_cli.specs.Find.{IsRefusal, IsRefusedOr, IsShownByFind, ReadsBytes, ReadsDump, shown_found}
 use Rattle.bd_cli.specs.Shown.{Shown, fault_text, shown_refusal}
 
 -- the line gives one value or refuses with one message
@@ -29,13 +34,24 @@ chain_once IsLine IsRest line rest s t (inr (x, p, e)) (inr (y, q, f)) =
     let same : x ≡ y = (let z = line (Ok x) (Ok y) p q in cc) in
     rest y s t (subst (λ given. IsRest given s) same e) f
 
-query_line : (text : List ℕ) → IsOnce (ReadsQuery text)
-query_line text (Ok a) (Ok b) p q =
-    let e = query_once text a.name b.name a.number b.number p q in
-    ap₂ (λ (name : List ℕ) (number : ℤ). Ok (record { name = name; number = number })) e.0 e.1
-query_line text (Ok a) (Err m) p q = absurd (q.0 a.name a.number p)
-query_line text (Err m) (Ok b) p q = absurd (p.0 b.name b.number q)
-query_line text (Err m) (Err o) p q = ap (λ (message : List ℕ). Err message) (p.1 ∙ sym q.1)
+-- the document of a query is one, and no fault stands where there is one
+document_once : (query : Option (List ℕ)) (d e : Doc) → ReadsQuery query (Ok d) → ReadsQuery query (Ok e) → d ≡ e
+document_once None d e p q = p ∙ sym q
+document_once (Some text) d e p q = let same = sym p ∙ q in cc
+
+no_fault : (query : Option (List ℕ)) (d : Doc) (message : List ℕ) → ReadsQuery query (Ok d) → ReadsQuery query (Err message) → ⊥
+no_fault None d message p q = q
+no_fault (Some text) d message p q = let none = sym p ∙ q.0 in cc
+
+filter_line : (d : Doc) → IsOnce (ReadsFilter d)
+filter_line d (Ok f) (Ok g) p q =
+    let same : f ≡ g = (let x = sym p ∙ q in cc) in
+    ap (λ filter. Ok filter) same
+filter_line d (Ok f) (Err m) p (r, q, e) = absurd (let x = sym p ∙ q in cc)
+filter_line d (Err m) (Ok g) (r, p, e) q = absurd (let x = sym p ∙ q in cc)
+filter_line d (Err m) (Err o) (r, p, e) (s, q, f) =
+    let same : r ≡ s = (let x = sym p ∙ q in cc) in
+    ap (λ (message : List ℕ). Err message) (e ∙ ap refusal_text same ∙ sym f)
 
 bytes_line : (input : Result (List ℕ) ReadFault) → IsOnce (ReadsBytes input)
 bytes_line (Ok bytes) a b p q = p ∙ sym q
@@ -50,18 +66,61 @@ dump_line bytes (Err m) (Err o) (ds, f, w, e) (es, g, v, h) =
     let same : f ≡ g = (let x = both.1 in cc) in
     ap (λ (message : List ℕ). Err message) (e ∙ ap₂ (λ (x : List Doc) (y : Fault). fault_text (length x) y) both.0 same ∙ sym h)
 
-pub found_once : (text : List ℕ) (size : Option ℕ) (input : Result (List ℕ) ReadFault) (s t : Shown) → IsShownByFind text size input s → IsShownByFind text size input t → s ≡ t
-found_once text size input =
-    chain_once (ReadsQuery text) (λ query shown. IsRefusedOr (IsRefusal shown) (ReadsBytes input) (λ bytes. IsShownOfBytes query.name query.number size bytes shown)) (query_line text) (λ query.
-    chain_once (ReadsBytes input) (λ bytes shown. IsShownOfBytes query.name query.number size bytes shown) (bytes_line input) (λ bytes.
-    chain_once (ReadsDump bytes) (λ ds shown. shown ≡ shown_found size ds (answer (each (number_matches query.name query.number)) ds)) (dump_line bytes) (λ ds s t e f.
+-- ---- after the text of the query
+
+abbrev IsShownOfDocument : Doc → Option ℕ → Result (List ℕ) ReadFault → Shown → Type 0
+IsShownOfDocument d size input shown =
+    IsRefusedOr (IsRefusal shown) (ReadsFilter d) (λ filter. IsRefusedOr (IsRefusal shown) (ReadsBytes input) (λ bytes. IsShownOfBytes filter size bytes shown))
+
+document_shows_once : (d : Doc) (size : Option ℕ) (input : Result (List ℕ) ReadFault) (s t : Shown) → IsShownOfDocument d size input s → IsShownOfDocument d size input t → s ≡ t
+document_shows_once d size input =
+    chain_once (ReadsFilter d) (λ filter shown. IsRefusedOr (IsRefusal shown) (ReadsBytes input) (λ bytes. IsShownOfBytes filter size bytes shown)) (filter_line d) (λ filter.
+    chain_once (ReadsBytes input) (λ bytes shown. IsShownOfBytes filter size bytes shown) (bytes_line input) (λ bytes.
+    chain_once (ReadsDump bytes) (λ ds shown. shown ≡ shown_found size ds (answer (each (is_answer filter)) ds)) (dump_line bytes) (λ ds s t e f.
     e ∙ sym f)))
 
-pub found_some : (text : List ℕ) (size : Option ℕ) (bytes : List ℕ) → IsBytes bytes → IsNoQuery text ⊎ ((name : List ℕ) × (n : ℤ) × IsQuery text name n) → (shown : Shown) × IsShownByFind text size (Ok bytes) shown
-found_some text size bytes fits (inl none) =
-    let words = codes "query: byte 0: not in the profile" in
-    (shown_refusal words, inl (words, (none, refl), refl))
-found_some text size bytes fits (inr (name, n, q)) =
-    let w = walk_on [] [] bytes fits refl in
-    let shows = bytes_show name n size bytes w.more w.end w.walk in
-    (shows.0, inr (record { name = name; number = n }, q, inr (bytes, refl, shows.1)))
+pub found_once : (query : Option (List ℕ)) (d : Doc) (size : Option ℕ) (input : Result (List ℕ) ReadFault) (s t : Shown) → ReadsQuery query (Ok d)
+    → IsShownByFind query size input s → IsShownByFind query size input t → s ≡ t
+found_once query d size input s t is (inl (m, p, e)) other = absurd (no_fault query d m is p)
+found_once query d size input s t is (inr one) (inl (m, p, e)) = absurd (no_fault query d m is p)
+found_once query d size input s t is (inr (x, p, e)) (inr (y, q, f)) =
+    document_shows_once y size input s t (subst (λ z. IsShownOfDocument z size input s) (document_once query x y p q) e) f
+
+-- of a text that is no document, the fault told is any
+pub found_alike : (query : Option (List ℕ)) (size : Option ℕ) (input : Result (List ℕ) ReadFault) (s t : Shown)
+    → IsShownByFind query size input s → IsShownByFind query size input t → (s.out ≡ t.out) × (s.status ≡ t.status)
+found_alike query size input s t (inl (m, p, e)) (inl (o, q, f)) = (ap (λ (x : Shown). x.out) e ∙ sym (ap (λ (x : Shown). x.out) f), ap (λ (x : Shown). x.status) e ∙ sym (ap (λ (x : Shown). x.status) f))
+found_alike query size input s t (inl (m, p, e)) (inr (y, q, f)) = absurd (no_fault query y m q p)
+found_alike query size input s t (inr (x, p, e)) (inl (o, q, f)) = absurd (no_fault query x o p q)
+found_alike query size input s t (inr (x, p, e)) (inr (y, q, f)) =
+    let same = found_once query x size input s t p (inr (x, p, e)) (inr (y, q, f)) in
+    (ap (λ (z : Shown). z.out) same, ap (λ (z : Shown). z.status) same)
+
+-- ---- something is shown
+
+document_shows : (d : Doc) (size : Option ℕ) (bytes : List ℕ) → IsBytes bytes → (shown : Shown) × IsShownOfDocument d size (Ok bytes) shown
+document_shows d size bytes fits = go (filter_of d) refl
+  where
+    go : (part : Result Filter Refusal) → filter_of d ≡ part → (shown : Shown) × IsShownOfDocument d size (Ok bytes) shown
+    go (Err r) is = (shown_refusal (refusal_text r), inl (refusal_text r, (r, is, refl), refl))
+    go (Ok filter) is =
+        let w = walk_on [] [] bytes fits refl in
+        let shows = bytes_show filter size bytes w.more w.end w.walk in
+        (shows.0, inr (filter, is, inr (bytes, refl, shows.1)))
+
+-- any fault that may be told of a text
+abbrev first_byte : JsonFault
+first_byte = record { kind = kinds.Syntax; at = 0 }
+
+pub found_some : (query : Option (List ℕ)) (size : Option ℕ) (bytes : List ℕ) → IsBytes bytes → (shown : Shown) × IsShownByFind query size (Ok bytes) shown
+found_some None size bytes fits =
+    let shows = document_shows [] size bytes fits in
+    (shows.0, inr ([], refl, shows.1))
+found_some (Some text) size bytes fits = go (reading text) refl
+  where
+    go : (o : Option Doc) → reading text ≡ o → (shown : Shown) × IsShownByFind (Some text) size (Ok bytes) shown
+    go (Some d) is = let shows = document_shows d size bytes fits in (shows.0, inr (d, is, shows.1))
+    go None is =
+        let words = json_fault_text first_byte in
+        let placed : IsPlaced (length text) first_byte = record { inside = omega arith; whole = λ e. absurd cc; memory = λ e. absurd cc } in
+        (shown_refusal words, inl (words, (is, (first_byte, placed, (λ e. cc), refl)), refl))

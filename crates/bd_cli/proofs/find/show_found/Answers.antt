@@ -1,10 +1,9 @@
 use Rattle.std.proofs.Common.{◌≡◌, ◌≤◌, ◌∙◌, ℕ, List, length, subst, inl, inr, arith}
-use Rattle.std.specs.Int.{w32}
-use Rattle.std.proofs.lemmas.Int.{to_z-of_z}
 use Rattle.bd_bson.specs.Collection.{documents}
 use Rattle.bd_bson.proofs.CollectionLemmas.{documents_length}
 use Rattle.bd_cli.specs.Find.Answer.{answer, each}
-use Rattle.bd_cli.specs.Find.Equality.{number_matches}
+use Rattle.bd_query.specs.FilterView.{filter_tree}
+use Rattle.bd_cli.specs.Find.Query.{is_answer}
 use Rattle.bd_cli.proofs.FindLemmas as finds
 use Rattle.bd_cli.proofs.find.show_found.Goals as goal
 use Rattle.bd_cli.specs.Find.{documents_at, first_batch, shown_found}
@@ -23,10 +22,9 @@ write_documents-requires g c =
 pub returns-in-Ok-write_documents : goal.returns-in-Ok-write_documents
 returns-in-Ok-write_documents g c =
     let ds = documents c.args.dump.now in
-    let same = to_z-of_z w32 c.args.n c.ranges.n in
     let few : length ds ≤ 4294967295 = (let f = c.args.dump.now.few in omega (arith, documents_length c.args.dump.now)) in
-    let m = number_matches c.args.name.now c.args.n in
-    let step = rw same at c.in-Ok.ensures in
+    let m = is_answer (filter_tree c.args.filter.now) in
+    let step = c.in-Ok.ensures in
     let all = answer (each m) ds in
     let places = finds.places_are m ds few c.most_of.result c.in-Ok.step step c.args.size c.most_of.ensures in
     let ends = finds.end_is_told m ds few c.most_of.result c.in-Ok.step step c.args.size c.most_of.ensures in
@@ -37,10 +35,9 @@ returns-in-Ok-write_documents g c =
 pub returns-in-Err-NoMemory : goal.returns-in-Err-NoMemory
 returns-in-Err-NoMemory g c =
     let ds = documents c.args.dump.now in
-    let same = to_z-of_z w32 c.args.n c.ranges.n in
     let few : length ds ≤ 4294967295 = (let f = c.args.dump.now.few in omega (arith, documents_length c.args.dump.now)) in
-    let m = number_matches c.args.name.now c.args.n in
-    let step = rw same at c.in-Ok.ensures in
+    let m = is_answer (filter_tree c.args.filter.now) in
+    let step = c.in-Ok.ensures in
     let places = finds.places_are m ds few c.most_of.result c.in-Ok.step step c.args.size c.most_of.ensures in
     let given : c.deref.result.now ≡ first_batch c.args.size (answer (each m) ds) = c.deref.ensures.value ∙ places in
     let stops = rw c.in-Err-NoMemory.field-0-is at c.in-Err-NoMemory.ensures.stops in
@@ -49,10 +46,9 @@ returns-in-Err-NoMemory g c =
 pub returns : goal.returns
 returns g c =
     let ds = documents c.args.dump.now in
-    let same = to_z-of_z w32 c.args.n c.ranges.n in
     let few : length ds ≤ 4294967295 = (let f = c.args.dump.now.few in omega (arith, documents_length c.args.dump.now)) in
-    let m = number_matches c.args.name.now c.args.n in
-    let step = rw same at c.in-Ok.ensures in
+    let m = is_answer (filter_tree c.args.filter.now) in
+    let step = c.in-Ok.ensures in
     let places = finds.places_are m ds few c.most_of.result c.in-Ok.step step c.args.size c.most_of.ensures in
     let given : c.deref.result.now ≡ first_batch c.args.size (answer (each m) ds) = c.deref.ensures.value ∙ places in
     let stops = rw c.in-Err-Unwritten.field-0-is at c.in-Err-Unwritten.ensures.stops in

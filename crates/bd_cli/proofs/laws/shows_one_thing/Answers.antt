@@ -1,4 +1,4 @@
-use Rattle.bd_cli.proofs.FindLemmas.UniqueLemmas.{found_once, found_some}
+use Rattle.bd_cli.proofs.FindLemmas.UniqueLemmas.{found_alike, found_once, found_some}
 use Rattle.bd_cli.proofs.CheckLemmas.{judged_once, judged_some}
 use Rattle.bd_cli.proofs.PackLemmas.{packs_once, packed_alike, packed_some}
 use Rattle.bd_cli.proofs.DumpLemmas.{shown_once, shown_some}
@@ -6,4 +6,4 @@ use Rattle.bd_cli.proofs.laws.shows_one_thing.Goals as goal
 use Rattle.bd_cli.specs.Pack.{lines_of}
 
 pub returns : goal.returns
-returns c = record { judged_one = judged_once; judged_some = judged_some; one = λ bytes fault s t p q. shown_once bytes fault s t p q; some = λ bytes fits. shown_some bytes fits; found_one = found_once; found_some = λ query size bytes fits o. found_some query size bytes fits o; packed_one = λ text ds es bad other p q. packs_once 1 (lines_of text) ds es bad other p q; packed_alike = packed_alike; packed_some = packed_some }
+returns c = record { judged_one = judged_once; judged_some = judged_some; one = λ bytes fault s t p q. shown_once bytes fault s t p q; some = λ bytes fits. shown_some bytes fits; found_one = λ query d size input s t is p q. found_once query d size input s t is p q; found_alike = found_alike; found_some = λ query size bytes fits. found_some query size bytes fits; packed_one = λ text ds es bad other p q. packs_once 1 (lines_of text) ds es bad other p q; packed_alike = packed_alike; packed_some = packed_some }

@@ -1,5 +1,5 @@
 use Rattle.std.proofs.Common.{ap, sym, subst, ◌≡◌, ◌∙◌, true, true≢false, None, Some, Option, codes}
-use Rattle.std.specs.Prelude.{is_some, option_and_then, option_map}
+use Rattle.std.specs.Prelude.{is_some, option_map}
 use Rattle.std.proofs.lemmas.Result.{IfOk-weaker}
 use Rattle.clap.specs.Words.{first_of, found_of, rows_of}
 use Rattle.clap.proofs.WalkLemmas.{first_value-rows}
@@ -36,5 +36,6 @@ returns-in-find-clause-order c =
     let found = found_of c.args.matches.now in
     let rows = rows_of found in
     let order = ap (λ name. ordered_by name rows) c.in-find.is
-    ∙ (ap (option_and_then (find_ordered rows)) (sym (c.in-Some.ensures ∙ first_value-rows found (codes "file"))) ∙ ap (find_ordered rows) (sym c.in_ok-file.ensures.ok)) in
-    IfOk-weaker c.find_order.result _ _ (λ o e. order ∙ e) c.find_order.ensures.order
+    ∙ (ap (option_map (find_ordered rows)) (sym (c.in-Some.ensures ∙ first_value-rows found (codes "file")))
+    ∙ ap (λ t. Some (find_ordered rows t)) (sym c.in_ok-file.ensures.ok)) in
+    IfOk-weaker c.find_order.result _ _ (λ o e. order ∙ ap (λ x. Some x) (sym e)) c.find_order.ensures.order

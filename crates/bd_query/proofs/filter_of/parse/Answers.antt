@@ -4,6 +4,7 @@ use Rattle.bd_value.specs.Tree.{fields_of}
 use Rattle.bd_value.specs.View.{pairs}
 use Rattle.bd_query.specs.Filter.{all_of, filters_from}
 use Rattle.bd_query.specs.FilterOf.{filter_of, filters_of, read_as}
+use Rattle.bd_query.proofs.FilterBadLemmas.{bad_as_told}
 use Rattle.bd_query.proofs.FilterOfLemmas.{answer_is, stops_as, whole_is}
 use Rattle.bd_query.proofs.FilterViewLemmas.{filter_tree-And}
 use Rattle.bd_query.proofs.filter_of.parse.Goals as goal
@@ -19,3 +20,6 @@ returns-in-Err-clause-fault c =
     answer_is c.in-Err.stop (filter_of (pairs c.args.document.now)) c.fault_of.result
     (stops_as (λ xs. all_of (filters_from xs)) (filters_of 49 (fields_of ps)) (filter_of (pairs c.args.document.now)) c.in-Err.stop (whole_is (pairs c.args.document.now) ps c.parts.ensures.parts) c.in-Err.ensures)
     c.fault_of.ensures
+
+pub returns-in-Err-clause-bad : goal.returns-in-Err-clause-bad
+returns-in-Err-clause-bad c = bad_as_told (pairs c.args.document.now) c.fault_of.result (returns-in-Err-clause-fault c)
