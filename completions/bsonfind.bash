@@ -29,7 +29,7 @@ _bsonfind() {
 	pack) _bsonfind_files '' "$word" ;;
 	find)
 		case $before in
-		--query | --batch) ;; # a text, a number
+		--query | --batch) ;; # a filter, a number
 		*)
 			if [[ $word == -* && $word != - ]]; then
 				mapfile -t COMPREPLY < <(compgen -W '--query --batch' -- "$word")

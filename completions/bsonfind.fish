@@ -15,5 +15,5 @@ complete -c bsonfind -n 'not __bsonfind_command dump check pack find' -s h -l he
 complete -c bsonfind -n '__bsonfind_command dump check pack find' -a - -d 'standard input'
 complete -c bsonfind -n '__bsonfind_command dump check find' -k -a '(__fish_complete_suffix .bson)'
 complete -c bsonfind -n '__bsonfind_command pack' -F
-complete -c bsonfind -n '__bsonfind_command find' -l query -x -d 'the query, as {"age":30}'
+complete -c bsonfind -n '__bsonfind_command find' -l query -x -d 'the query, as {"age":{"$gte":18}}'
 complete -c bsonfind -n '__bsonfind_command find' -l batch -x -d 'the first N documents'

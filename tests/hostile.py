@@ -148,12 +148,12 @@ def is_json(line: bytes) -> bool:
 
 
 def answers(line: bytes, name: str, number: str) -> bool:
-    """Whether the document of a line of canonical text has the number, or an array with it, as its first field of the name."""
-    wanted = [("$numberInt", number)]
+    """Whether a line of canonical text has the number, of 32 or 64 bits, or an array with it, as its first field of the name."""
+    wanted = [[("$numberInt", number)], [("$numberLong", number)]]
     for key, value in json.loads(line, object_pairs_hook=list):
         if key == name:
             # An array is told from a document by its text alone, where it has no pairs.
-            return value == wanted or wanted in value
+            return value in wanted or any(one in value for one in wanted)
     return False
 
 

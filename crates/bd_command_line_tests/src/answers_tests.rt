@@ -86,6 +86,6 @@ fn answers(rt: HostRuntime) -> Result<(), Fail> {
         assert!(rt; told.as_str() == wanted, "{line}: {told}");
         count = count.wrapping_add(1);
     }
-    assert!(rt; count == 56);
+    assert!(rt; count == 57);
     Ok(())
 }

@@ -38,7 +38,7 @@ any_swapped : {A B : Type 0} (f : A → B → Bool) (xs : List A) (ys : List B) 
 any_swapped f [] ys = none_of_all ys
 any_swapped f (x ∷ xs) ys = ap (λ b. list_any (f x) ys || b) (any_swapped f xs ys) ∙ any_of_either (f x) (λ y. list_any (λ x. f x y) xs) ys
 
-any_alike : {A : Type 0} (f g : A → Bool) → ((x : A) → f x ≡ g x) → (xs : List A) → list_any f xs ≡ list_any g xs
+pub any_alike : {A : Type 0} (f g : A → Bool) → ((x : A) → f x ≡ g x) → (xs : List A) → list_any f xs ≡ list_any g xs
 any_alike f g is [] = refl
 any_alike f g is (x ∷ xs) = rw (is x, any_alike f g is xs) refl
 

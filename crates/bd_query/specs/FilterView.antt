@@ -6,6 +6,7 @@ use Rattle.bd_query.specs.Filter as trees
 use Rattle.bd_query.specs.Filter.{all_of, some_of, none_of, at_path, filters_from}
 use Rattle.bd_query.specs.Filter.{equals, compares, is_in, has_all, has_type, has_size, exists, negates, has_element, has_document}
 use Rattle.bd_query.specs.Filter.{negation_of, operators_from}
+use Rattle.bd_query.specs.Members.{trees_in}
 use Rattle.bd_query.specs.declared.filter.Filter.{Filter}
 use Rattle.bd_query.specs.declared.filter.Filter.TheFolds.{fold-Filter, fold-Operator}
 use Rattle.bd_query.specs.declared.filter.Filter.TheOpen.{Filter-F, Operator-F}
@@ -26,8 +27,8 @@ operator_step (Operator-F.Greater v) = compares relation.Above (tree_of v)
 operator_step (Operator-F.GreaterOrEqual v) = compares relation.AtLeast (tree_of v)
 operator_step (Operator-F.Less v) = compares relation.Below (tree_of v)
 operator_step (Operator-F.LessOrEqual v) = compares relation.AtMost (tree_of v)
-operator_step (Operator-F.In vs) = is_in (map tree_of vs.items)
-operator_step (Operator-F.NotIn vs) = negation_of (is_in (map tree_of vs.items))
+operator_step (Operator-F.In members) = is_in (trees_in members)
+operator_step (Operator-F.NotIn members) = negation_of (is_in (trees_in members))
 operator_step (Operator-F.All vs) = has_all (map tree_of vs.items)
 operator_step (Operator-F.Size n) = has_size n
 operator_step (Operator-F.Exists b) = exists b

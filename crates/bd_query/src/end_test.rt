@@ -7,7 +7,9 @@ ghost use Rattle.bd_value.specs.View.{tree_of};
 ghost use Rattle.bd_path.specs.PathNames.{names_of};
 ghost use Rattle.bd_path.specs.Reach.{reach};
 ghost use Rattle.bd_query.specs.FilterMatch.{any_candidate, any_equal, candidates, is_nonempty, is_of_size, is_of_type, is_related, is_there, is_value, value_or_null};
+ghost use Rattle.bd_query.specs.Members.{trees_in};
 
+use crate::members::Members;
 use crate::relation::Relation;
 use crate::value_test::{EqualTo, OfKinds, OneOf, Related, ValueTest, any_element};
 use bd_path::{EndTest, Path, any_end};
@@ -119,8 +121,8 @@ pub(crate) fn any_related<N: Reading>(
 }
 
 /// Whether a candidate equals a member. The path is walked once, whatever the number of members.
-pub(crate) fn any_member<N: Reading>(members: &[Value], path: &Path, node: N) -> bool
-    ensures { result ≡ list_any (any_equal (reach (N.tree node) (names_of path.now))) (map tree_of members.now) }
+pub(crate) fn any_member<N: Reading>(members: &Members, path: &Path, node: N) -> bool
+    ensures { result ≡ list_any (any_equal (reach (N.tree node) (names_of path.now))) (trees_in members.now) }
 {
     any_end(node, path, &OrNull(OneOf(members)))
 }

@@ -1,5 +1,6 @@
 //! Filters.
 
+use crate::members::Members;
 use bd_path::Path;
 use bd_value::{Kind, Value};
 
@@ -41,9 +42,9 @@ pub enum Operator {
     /// `$lte`: one of its class is below it or equals it.
     LessOrEqual(Value),
     /// `$in`: one equals a member.
-    In(Vec<Value>),
+    In(Members),
     /// `$nin`: none equals a member.
-    NotIn(Vec<Value>),
+    NotIn(Members),
     /// `$all`: each member is equalled. Nothing matches where there are none.
     All(Vec<Value>),
     /// `$size`: an array of so many elements.

@@ -13,6 +13,7 @@
 //! ```
 //!
 //! - `filter`: `Filter` and `Operator`, to match on: `specs/Filter.antt`, and `specs/FilterView.antt` for what they stand for.
+//! - `members`: `Members`, those of `$in` and `$nin`, looked up by binary search: `specs/Members.antt`.
 //! - `fault`: `FilterFault`, which pair or member is no part of a filter: `specs/Fault.antt`.
 //! - `filter_of`: `parse`, the filter that a document is, or its first fault: `specs/FilterOf.antt`.
 //! - `laws`: a document has no filter exactly where a pair or member of it breaks a rule: `specs/FilterBad.antt`.
@@ -28,6 +29,7 @@ mod filter;
 mod filter_match;
 mod filter_of;
 mod laws;
+mod members;
 mod operand;
 mod operand_types;
 mod plain;
@@ -41,3 +43,4 @@ pub use filter::{Filter, Operator};
 pub use filter_match::matches;
 pub use filter_of::parse;
 pub use laws::bad_documents_alone_are_refused;
+pub use members::Members;

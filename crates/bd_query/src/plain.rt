@@ -6,6 +6,7 @@ ghost use Rattle.bd_query.specs.FilterView.{operator_tree};
 
 use crate::fault::{FilterFaultKind, Stop, stop_at};
 use crate::filter::Operator;
+use crate::members::Members;
 use crate::operand::{members_of, ordered_value, plain_value, size_value, truth_value};
 use crate::operand_types::kinds_of;
 use crate::word::Plain;
@@ -27,8 +28,8 @@ pub(crate) fn plain_operator<N: Reading>(
         Plain::GreaterOrEqual => Operator::GreaterOrEqual(ordered_value(alloc, operand)?),
         Plain::Less => Operator::Less(ordered_value(alloc, operand)?),
         Plain::LessOrEqual => Operator::LessOrEqual(ordered_value(alloc, operand)?),
-        Plain::In => Operator::In(members_of(alloc, operand)?),
-        Plain::NotIn => Operator::NotIn(members_of(alloc, operand)?),
+        Plain::In => Operator::In(Members::new(alloc, members_of(alloc, operand)?)?),
+        Plain::NotIn => Operator::NotIn(Members::new(alloc, members_of(alloc, operand)?)?),
         Plain::All => Operator::All(members_of(alloc, operand)?),
         Plain::Size => Operator::Size(size_value(alloc, operand)?),
         Plain::Exists => Operator::Exists(truth_value(alloc, operand)?),

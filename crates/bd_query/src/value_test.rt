@@ -7,8 +7,10 @@ ghost use Rattle.bd_value.specs.Parts.{elements_in};
 ghost use Rattle.bd_value.specs.Tree as trees;
 ghost use Rattle.bd_value.specs.View.{tree_of};
 ghost use Rattle.bd_query.specs.FilterMatch.{is_nonempty, is_of_type, is_related};
+ghost use Rattle.bd_query.specs.Members.{trees_in};
 ghost use Rattle.bd_query.specs.Types.{is_kind};
 
+use crate::members::Members;
 use crate::relation::{Relation, relates};
 use bd_value::{Kind, Reading, Tree, Value, class_of_node, compare_nodes};
 
@@ -36,15 +38,13 @@ impl<'a> ValueTest for EqualTo<'a> {
 
 /// It equals a member.
 #[derive(Clone, Copy)]
-pub struct OneOf<'a>(pub &'a [Value]);
+pub struct OneOf<'a>(pub &'a Members);
 
 impl<'a> ValueTest for OneOf<'a> {
-    ghost accepts = { λ s t. list_any (λ v. equal t (tree_of v)) s.0.now };
+    ghost accepts = { λ s t. list_any (equal t) (trees_in s.0.now) };
 
     fn test<N: Reading>(&self, node: N) -> bool {
-        self.0
-            .iter()
-            .any(|member| compare_nodes(node, Tree::Value(member)).is_eq())
+        self.0.contains(node)
     }
 }
 
@@ -108,8 +108,8 @@ pub(crate) fn any_element<N: Reading, T: ValueTest>(node: N, test: &T) -> bool
 }
 
 /// Whether it equals a member.
-pub(crate) fn equals_some<N: Reading>(members: &[Value], node: N) -> bool
-    ensures { result ≡ list_any (equal (N.tree node)) (map tree_of members.now) }
+pub(crate) fn equals_some<N: Reading>(members: &Members, node: N) -> bool
+    ensures { result ≡ list_any (equal (N.tree node)) (trees_in members.now) }
 {
     OneOf(members).test(node)
 }

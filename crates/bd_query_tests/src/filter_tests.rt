@@ -1,7 +1,7 @@
 //! Filters that are made by hand, and filters of many parts and of many levels.
 use crate::samples::{is_match, read_filter};
 use bd_path::Path;
-use bd_query::{Filter, Operator};
+use bd_query::{Filter, Members, Operator};
 use bd_value::Value;
 use std::alloc::Global;
 use std::process::Abort;
@@ -14,7 +14,8 @@ fn at_path(rt: &impl Abort, alloc: Global, operators: Vec<Operator>) -> Filter {
 
 /// Above four, and none of seven: `{"a.b":{"$gt":4,"$not":{"$in":[7]}}}`.
 fn above_four(rt: &impl Abort, alloc: Global) -> Filter {
-    let seven = vec![in alloc; Value::Int32(7)].expect(rt, "a member");
+    let values = vec![in alloc; Value::Int32(7)].expect(rt, "a member");
+    let seven = Members::new(alloc, values).expect(rt, "members");
     let inside = vec![in alloc; Operator::In(seven)].expect(rt, "an operator");
     let greater = Operator::Greater(Value::Int32(4));
     let operators = vec![in alloc; greater, Operator::Not(inside)].expect(rt, "operators");

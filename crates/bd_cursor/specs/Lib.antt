@@ -1,0 +1,4 @@
+pub mod Refused
+pub mod Request
+pub mod Sort
+pub mod Token
