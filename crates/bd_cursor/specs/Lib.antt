@@ -1,3 +1,4 @@
+pub mod Digest
 pub mod Refused
 pub mod Request
 pub mod Sort

@@ -17,16 +17,19 @@
 //! - `request`: `Request`, and the text that its tokens are tied to: `specs/Request.antt`.
 //! - `sort`: the sort that a document asks for: `specs/Sort.antt`.
 //! - `token`: `Token`, to and from its text: `specs/Token.antt`.
+//! - `digest`: what ties a token to a dump and a request: `specs/Digest.antt`.
 //! - `refused`: `Refused`, why a request, a token or a call of a session is refused: `specs/Refused.antt`.
 //!
 //! Sessions and cursors are to come: nothing of the program uses the crate yet.
 #![tactic(auto)]
 
+mod digest;
 mod refused;
 mod request;
 mod sort;
 mod token;
 
+pub use digest::{dump_digest, request_digest};
 pub use refused::Refused;
 pub use request::Request;
 pub use token::Token;

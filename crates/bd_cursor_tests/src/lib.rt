@@ -2,6 +2,8 @@
 #![tactic(auto)]
 
 #[cfg(test)]
+mod digest_tests;
+#[cfg(test)]
 mod examples;
 #[cfg(test)]
 mod request_tests;
