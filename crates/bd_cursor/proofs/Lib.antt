@@ -1,3 +1,6 @@
-pub mod RequestLemmas
-pub mod SortLemmas
-pub mod TokenLemmas
+pub mod AheadLemmas
+pub mod ListedLemmas
+pub mod SessionLemmas
+pub mod SortTableLemmas
+pub mod SortedPlacesLemmas
+pub mod UnsortedAheadLemmas

@@ -1,5 +1,5 @@
-pub mod Digest
-pub mod Refused
-pub mod Request
-pub mod Sort
-pub mod Token
+pub mod Asked
+pub mod Column
+pub mod SessionView
+pub mod SortTable
+pub mod SortedPlaces

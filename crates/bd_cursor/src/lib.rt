@@ -1,35 +1,39 @@
-//! What is asked of a dump, and where its answer goes on.
+//! Cursors over a dump: answers in batches, which tokens carry on.
 //!
-//! A request is a filter, a sort by up to four paths, and how many documents are passed over and given at most (MongoDB manual,
-//! "cursor.sort()", "cursor.skip()", "cursor.limit()"). A token is a text that tells where the answer of a request goes on.
+//! A session owns a dump. A cursor of it gives the answer of a request in batches of any sizes, and the token of each batch leads
+//! on to exactly what was not given, in this session or another over the same dump. Which documents those are: `bd_answer`.
 //!
-//! An example, which `bd_cursor_tests` proves and runs as `examples::ten_cheapest`:
+//! An example, which `bd_cursor_tests` proves and runs as `examples::two_batches`:
 //!
 //! ```
-//! let filter = read_doc(alloc, b"{\"size\":\"S\"}")?;
-//! let sort = read_doc(alloc, b"{\"price\":1}")?;
-//! let Ok(request) = Request::new(alloc, filter, sort, 0, 10) else {
-//!     return Err("a request".into());
-//! };
-//! assert!(rt; request.sort.len() == 1 && request.limit == 10);
+//! let mut session = Session::new(alloc, dump);
+//! let id = session.find(request, Choice::Scan)?;
+//! let batch = session.next(id, 2)?;
+//! assert!(rt; batch.places.len() == 2 && !batch.end);
+//! let batch = session.next(id, 2)?;
+//! assert!(rt; batch.places.len() == 1 && batch.end);
 //! ```
 //!
-//! - `request`: `Request`, and the text that its tokens are tied to: `specs/Request.antt`.
-//! - `sort`: the sort that a document asks for: `specs/Sort.antt`.
-//! - `token`: `Token`, to and from its text: `specs/Token.antt`.
-//! - `digest`: what ties a token to a dump and a request: `specs/Digest.antt`.
-//! - `refused`: `Refused`, why a request, a token or a call of a session is refused: `specs/Refused.antt`.
+//! - `session`: `Session`, its calls and `Choice`: `specs/SessionView.antt`; `specs/Asked.antt`, what a request asks of a dump.
+//! - `cursor`: an open cursor, and `Batch`; `digested_dump`: the digest of a dump, taken once.
+//! - `left`: the places that a cursor has left: `ahead`, without a sort, and `listed`, with one; `matching`, which match.
+//! - `sorted_places`: all places in the order of a sort: `specs/SortedPlaces.antt`; `sort_table` and `column`, the sort keys that
+//!   are kept for it: `specs/SortTable.antt`, `specs/Column.antt`.
 //!
-//! Sessions and cursors are to come: nothing of the program uses the crate yet.
+//! Nothing of the program uses sessions yet.
 #![tactic(auto)]
 
-mod digest;
-mod refused;
-mod request;
-mod sort;
-mod token;
+mod ahead;
+mod column;
+mod cursor;
+mod digested_dump;
+mod left;
+mod listed;
+mod matching;
+mod session;
+mod sort_table;
+mod sorted_places;
 
-pub use digest::{dump_digest, request_digest};
-pub use refused::Refused;
-pub use request::Request;
-pub use token::Token;
+pub use bd_request::{Refused, Request, Token, dump_digest, request_digest};
+pub use cursor::Batch;
+pub use session::{Choice, Session};

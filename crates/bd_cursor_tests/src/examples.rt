@@ -1,5 +1,7 @@
-//! The example of use in the root of `bd_cursor`.
-use bd_cursor::Request;
+//! The examples of use in the roots of `bd_answer`, `bd_request` and `bd_cursor`.
+use crate::samples::{read_documents, read_request};
+use bd_answer::{PlaceSource, Scan};
+use bd_cursor::{Choice, Request, Session};
 use bd_extjson::read_doc;
 use std::test::Fail;
 
@@ -12,5 +14,27 @@ fn ten_cheapest(rt: HostRuntime) -> Result<(), Fail> {
         return Err("a request".into());
     };
     assert!(rt; request.sort.len() == 1 && request.limit == 10);
+    Ok(())
+}
+
+#[test]
+fn scan(rt: HostRuntime) {
+    let mut scan = Scan::new(2);
+    assert!(rt; scan.next_place() == Some(0));
+    assert!(rt; scan.next_place() == Some(1));
+    assert!(rt; scan.next_place().is_none());
+}
+
+#[test]
+fn two_batches(rt: HostRuntime) -> Result<(), Fail> {
+    let alloc = rt.alloc();
+    let dump = read_documents(alloc, "{\"a\":0}\n{\"a\":1}\n{\"a\":2}\n")?;
+    let request = read_request(alloc, "{} {} 0 0")?;
+    let mut session = Session::new(alloc, dump);
+    let id = session.find(request, Choice::Scan)?;
+    let batch = session.next(id, 2)?;
+    assert!(rt; batch.places.len() == 2 && !batch.end);
+    let batch = session.next(id, 2)?;
+    assert!(rt; batch.places.len() == 1 && batch.end);
     Ok(())
 }

@@ -6,6 +6,14 @@ mod digest_tests;
 #[cfg(test)]
 mod examples;
 #[cfg(test)]
+mod page_tests;
+#[cfg(test)]
 mod request_tests;
+#[cfg(test)]
+mod samples;
+#[cfg(test)]
+mod session_tests;
+#[cfg(test)]
+mod sorted_tests;
 #[cfg(test)]
 mod token_tests;

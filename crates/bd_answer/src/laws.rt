@@ -1,0 +1,33 @@
+//! Laws of answers and sessions. The body of each is empty: its contract is the law.
+ghost use Rattle.bd_answer.specs.AnswerLaws.{AnswerAscends, BatchesAreTheFirst, BeforeIsStrict, OrderedAscends, OrderedHasTheMatches, RestOfAnswer, RestOfRest};
+ghost use Rattle.bd_answer.specs.SessionLaws.{FindGivesTheAnswer, ResumeGivesTheRest};
+
+/// Of two places one comes before the other.
+pub fn places_are_ordered()
+    ensures { BeforeIsStrict }
+{}
+
+/// An answer is in its order, so that no place comes twice, and before skip and limit it has each match and nothing else.
+pub fn answers_are_ordered()
+    ensures ascends { OrderedAscends }
+    ensures matches { OrderedHasTheMatches }
+    ensures answer { AnswerAscends }
+{}
+
+/// The batches of an answer, joined, are its first places, as many as the sizes ask for.
+pub fn batches_are_the_first()
+    ensures { BatchesAreTheFirst }
+{}
+
+/// A mark tells where an answer goes on: what follows it is what was not given.
+pub fn rests_follow()
+    ensures answer { RestOfAnswer }
+    ensures rest { RestOfRest }
+{}
+
+/// Over any calls on a session, a cursor gives its answer in batches, as many documents as the sizes ask for, and each token
+/// leads on to exactly the rest.
+pub fn sessions_keep_to_the_answer()
+    ensures find { FindGivesTheAnswer }
+    ensures resume { ResumeGivesTheRest }
+{}

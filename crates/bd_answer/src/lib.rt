@@ -1,0 +1,27 @@
+//! Which documents of a dump answer a request, in which order, in which batches, and how an answer goes on.
+//!
+//! Documents are known by their places alone: how many there are, which match, and how their sort keys stand. So the laws of
+//! answers and of sessions hold whatever a document is.
+//!
+//! An example, which `bd_cursor_tests` proves and runs as `examples::scan`:
+//!
+//! ```
+//! let mut scan = Scan::new(2);
+//! assert!(rt; scan.next_place() == Some(0));
+//! assert!(rt; scan.next_place() == Some(1));
+//! assert!(rt; scan.next_place().is_none());
+//! ```
+//!
+//! - `specs/Answer.antt`: the answer of a request, its batches, and what follows a token; `laws` and `specs/AnswerLaws.antt`.
+//! - `source`: `PlaceSource`, what hands out places, and `Scan`, which hands out all: `specs/Source.antt`.
+//! - `specs/Session.antt`: a session as a machine; what it always gives: `laws` and `specs/SessionLaws.antt`.
+#![tactic(auto)]
+
+mod laws;
+mod source;
+
+pub use laws::{
+    answers_are_ordered, batches_are_the_first, places_are_ordered, rests_follow,
+    sessions_keep_to_the_answer,
+};
+pub use source::{PlaceSource, Scan};

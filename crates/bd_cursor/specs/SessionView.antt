@@ -1,0 +1,92 @@
+-- A session as the state of the machine.
+use Rattle.std.specs.Prelude.{◌≡◌, ◌-◌, ℕ, Bool, List, [], ◌∷◌, drop, length, map, option_map, string_bytes, Option, Some, None}
+use Rattle.std.specs.List.{filter, range_with_len}
+use Rattle.bd_answer.specs.Answer.{Asked, Mark, at_most}
+use Rattle.bd_answer.specs.Session.{GivenBatch, MarkedToken, OpenCursor, Reply, State, foreign_token, gave, no_cursor, no_index, opened, out_of_range, token_place, too_many_cursors}
+use Rattle.bd_bson.specs.declared.collection.Dump.{Dump}
+use Rattle.bd_bson.specs.Collection.{documents}
+use Rattle.bd_query.specs.FilterView.{filter_tree}
+use Rattle.bd_query.specs.declared.filter.Filter.{Filter}
+use Rattle.bd_cursor.specs.Asked.{hits_of, query_of}
+use Rattle.bd_cursor.specs.declared.ahead.Ahead.{Ahead}
+use Rattle.bd_cursor.specs.declared.session.Choice.{Choice}
+use Rattle.bd_cursor.specs.declared.session.Choice.TheVariants as choices
+use Rattle.bd_cursor.specs.declared.cursor.Batch.{Batch}
+use Rattle.bd_cursor.specs.declared.cursor.Cursor.{Cursor}
+use Rattle.bd_cursor.specs.declared.left.Left.{Left}
+use Rattle.bd_cursor.specs.declared.left.Left.TheVariants as lefts
+use Rattle.bd_request.specs.declared.refused.Refused.{Refused}
+use Rattle.bd_request.specs.declared.refused.Refused.TheVariants as reasons
+use Rattle.bd_cursor.specs.declared.session.Session.{Session}
+use Rattle.bd_request.specs.declared.token.Token.{Token}
+
+abbrev pub mark_of : Token → Mark
+mark_of t = record { given = t.given; last = t.last }
+
+abbrev pub marked_token : Token → MarkedToken
+marked_token t = record { mark = mark_of t; digest = t.digest }
+
+-- a place, where there is one, and others after it
+abbrev pub found_first : Option ℕ → List ℕ → List ℕ
+found_first None ps = ps
+found_first (Some p) ps = p ∷ ps
+
+-- what a cursor that goes on where it stands has left: the match that it found, and those among the documents that it did not look at
+abbrev pub ahead_left : ℕ → (ℕ → Bool) → Ahead → List ℕ
+ahead_left count hits a =
+    at_most a.most (found_first a.found (drop a.skip (filter hits (range_with_len a.next (count - a.next)))))
+
+abbrev pub ahead_in : Dump → Filter → Ahead → List ℕ
+ahead_in dump filter a =
+    ahead_left (length (documents dump)) (hits_of (documents dump) (filter_tree filter)) a
+
+-- the places that a cursor has left
+abbrev pub places_left : Asked → Left → List ℕ
+places_left a (lefts.Ahead ahead) = ahead_left a.count a.hits ahead
+places_left a (lefts.Listed ps) = ps
+
+abbrev pub open_cursor : Dump → Cursor → OpenCursor
+open_cursor dump c = record {
+  id = c.id;
+  digest = (query_of dump c.request).digest;
+  token = option_map marked_token c.token;
+  left = places_left (query_of dump c.request).asked c.left;
+}
+
+-- there are no indexes yet
+abbrev pub state_of : Session → State
+state_of s = record {
+  paths = [];
+  next_id = s.next_id;
+  cursors = map (open_cursor s.documents.dump) s.cursors.items;
+}
+
+abbrev pub hint_of : Choice → Option (List ℕ)
+hint_of choices.Scan = None
+hint_of choices.Auto = None
+hint_of (choices.Index path) = Some (string_bytes path.text)
+
+-- a call that is granted and takes memory
+abbrev pub TakesMemory : Reply → Type 0
+TakesMemory (opened id) = Unit {0}
+TakesMemory (gave batch) = Unit {0}
+TakesMemory reply = ⊥
+
+-- why a call is refused is the machine's reply, or memory ran out for one that it grants
+abbrev pub IsRefusedCall : Reply → Refused → Type 0
+IsRefusedCall reply reasons.NoIndex = reply ≡ no_index
+IsRefusedCall reply reasons.TooManyCursors = reply ≡ too_many_cursors
+IsRefusedCall reply reasons.NoCursor = reply ≡ no_cursor
+IsRefusedCall reply reasons.ForeignToken = reply ≡ foreign_token
+IsRefusedCall reply reasons.TokenPlace = reply ≡ token_place
+IsRefusedCall reply reasons.Range = reply ≡ out_of_range
+IsRefusedCall reply reasons.NoMemory = TakesMemory reply
+IsRefusedCall reply _ = ⊥
+
+-- a batch as the machine gives it
+abbrev pub given_batch : Batch → GivenBatch
+given_batch b = record { places = b.places.items; token = option_map marked_token b.token; ends = b.end }
+
+-- the dump that a session is over
+abbrev pub dump_of : Session → Dump
+dump_of s = s.documents.dump

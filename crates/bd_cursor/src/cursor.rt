@@ -1,0 +1,102 @@
+//! An open cursor, and the batches that it gives.
+
+ghost use Rattle.std.specs.Prelude.{◌≡◌, IfOk, OnErr, OnOk, option_map};
+ghost use Rattle.bd_answer.specs.Session.{batch_of, digest_after, given_by, moved, token_after};
+ghost use Rattle.bd_cursor.specs.Asked.{query_of};
+ghost use Rattle.bd_cursor.specs.SessionView.{given_batch, marked_token, open_cursor};
+
+use crate::digested_dump::DigestedDump;
+use crate::left::Left;
+use bd_request::{Request, Token, request_digest};
+use bd_value::NoMemory;
+use std::alloc::Global;
+
+/// What a cursor gives at once.
+#[derive(Debug, Drop)]
+pub struct Batch {
+    /// The numbers of the documents, in the order of the answer.
+    pub places: Vec<u32>,
+    /// Where the answer goes on after them; none where no document was given since the start.
+    pub token: Option<Token>,
+    /// Whether nothing is left. Then the cursor is closed.
+    pub end: bool,
+}
+
+/// An open cursor.
+#[derive(Drop)]
+pub(crate) struct Cursor {
+    pub id: u64,
+    pub request: Request,
+    /// After what it gave last, or the one that it was opened with.
+    pub token: Option<Token>,
+    pub left: Left,
+}
+
+impl Cursor {
+    /// Gives the next documents, as many as the number, as long as there are any left.
+    pub fn next(
+        &mut self,
+        alloc: Global,
+        documents: &mut DigestedDump,
+        n: u64,
+    ) -> Result<Batch, NoMemory>
+        ensures batch { IfOk result (λ batch. given_batch batch ≡ batch_of (open_cursor documents.old.dump self.old) n) }
+        ensures moved { OnOk result (open_cursor documents.old.dump self.new ≡ moved (open_cursor documents.old.dump self.old) n) }
+        ensures dump { documents.new.dump ≡ documents.old.dump }
+        ensures err { OnErr result (self.new ≡ self.old) }
+    {
+        let (places, end) = self.left.take(alloc, &documents.dump, &self.request, n)?;
+        let token = token_after(documents, &self.request, self.token, &places);
+        self.token = token;
+        Ok(Batch { places, token, end })
+    }
+}
+
+/// The token after some more places.
+fn token_after(
+    documents: &mut DigestedDump,
+    request: &Request,
+    token: Option<Token>,
+    places: &[u32],
+) -> Option<Token>
+    ensures token { option_map marked_token result
+        ≡ token_after (query_of documents.old.dump request.now).digest (option_map marked_token token) places.now }
+    ensures dump { documents.new.dump ≡ documents.old.dump }
+{
+    let Some(last) = places.last() else {
+        return token;
+    };
+    let digest = digest_of(documents, request, token);
+    Some(Token {
+        given: given_by(token).saturating_add(places.len() as u64),
+        last: *last,
+        digest,
+    })
+}
+
+/// How many documents were given up to a token.
+fn given_by(token: Option<Token>) -> u64
+    ensures { result ≡ given_by (option_map marked_token token) }
+{
+    match token {
+        Some(token) => token.given,
+        None => 0,
+    }
+}
+
+/// The digest of the token after a token: its own, and for the first one that of the dump and the request.
+fn digest_of(documents: &mut DigestedDump, request: &Request, token: Option<Token>) -> [u8; 32]
+    ensures digest { result ≡ digest_after (query_of documents.old.dump request.now).digest (option_map marked_token token) }
+    ensures dump { documents.new.dump ≡ documents.old.dump }
+{
+    match token {
+        Some(token) => {
+            let digest = token.digest;
+            digest
+        }
+        None => {
+            let dump = documents.digest();
+            request_digest(&dump, request)
+        }
+    }
+}

@@ -1,0 +1,87 @@
+//! The places that a cursor has left.
+
+ghost use Rattle.std.specs.Prelude.{◌≡◌, ◌<◌, IfOk, OnErr, drop, length, take};
+ghost use Rattle.bd_answer.specs.Answer.{answer, is_empty, rest};
+ghost use Rattle.bd_bson.specs.Collection.{documents};
+ghost use Rattle.bd_cursor.specs.Asked.{asked_of};
+ghost use Rattle.bd_cursor.specs.SessionView.{mark_of, places_left};
+
+use crate::ahead::Ahead;
+use crate::listed::Listed;
+use bd_answer::Scan;
+use bd_bson::Dump;
+use bd_request::{Request, Token};
+use bd_value::NoMemory;
+use std::alloc::Global;
+
+/// The places that a cursor has left.
+#[derive(Debug, Drop)]
+pub(crate) enum Left {
+    /// Without a sort they are looked for as they are asked for.
+    Ahead(Ahead),
+    /// With a sort all of them are known.
+    Listed(Listed),
+}
+
+impl Left {
+    /// The answer of a request.
+    pub fn of_answer(alloc: Global, dump: &Dump, request: &Request) -> Result<Left, NoMemory>
+        ensures { IfOk result (λ left. places_left (asked_of (documents dump.now) request.now) left
+            ≡ answer (asked_of (documents dump.now) request.now)) }
+    {
+        if request.sort.is_empty() {
+            return Ok(Left::Ahead(Ahead::of_answer(request.skip, request.limit)));
+        }
+        let listed = Listed::of_answer(alloc, dump, request, Scan::new(dump.len()))?;
+        Ok(Left::Listed(listed))
+    }
+
+    /// The rest of it after a token.
+    pub fn of_rest(
+        alloc: Global,
+        dump: &Dump,
+        request: &Request,
+        token: Token,
+    ) -> Result<Left, NoMemory>
+        requires { token.last < length (documents dump.now) }
+        ensures { IfOk result (λ left. places_left (asked_of (documents dump.now) request.now) left
+            ≡ rest (asked_of (documents dump.now) request.now) (mark_of token)) }
+    {
+        let count = dump.len();
+        let Token { given, last, .. } = token;
+        if request.sort.is_empty() {
+            return Ok(Left::Ahead(Ahead::of_rest(request.limit, given, last)));
+        }
+        let source = Scan::new(count);
+        let listed = Listed::of_rest(alloc, dump, request, source, given, last)?;
+        Ok(Left::Listed(listed))
+    }
+
+    /// Takes the next places, as many as the number, as long as there are any left, and tells whether nothing is left then.
+    pub fn take(
+        &mut self,
+        alloc: Global,
+        dump: &Dump,
+        request: &Request,
+        n: u64,
+    ) -> Result<(Vec<u32>, bool), NoMemory>
+        ensures places { let a = asked_of (documents dump.now) request.now in IfOk result (λ r. r.0.items ≡ take n (places_left a self.old)) }
+        ensures end { let a = asked_of (documents dump.now) request.now in IfOk result (λ r. r.1 ≡ is_empty (drop n (places_left a self.old))) }
+        ensures left { let a = asked_of (documents dump.now) request.now in IfOk result (λ r. places_left a self.new ≡ drop n (places_left a self.old)) }
+        ensures err { OnErr result (self.new ≡ self.old) }
+    {
+        match self {
+            Left::Ahead(ahead) => {
+                let mut moved = *ahead;
+                let places = moved.take(alloc, dump, &request.filter, n)?;
+                let end = moved.is_empty(dump, &request.filter);
+                *ahead = moved;
+                Ok((places, end))
+            }
+            Left::Listed(listed) => {
+                let places = listed.take(alloc, n)?;
+                Ok((places, listed.is_empty()))
+            }
+        }
+    }
+}

@@ -1,0 +1,94 @@
+//! The places that a cursor with a sort has left: all of them, in their order.
+
+ghost use Rattle.std.specs.Prelude.{◌≡◌, ◌≤◌, ◌<◌, IfOk, IfSome, List, OnErr, Some, drop, length, take, ℕ};
+ghost use Rattle.bd_answer.specs.Answer.{answer, at_most, is_empty, rest};
+ghost use Rattle.bd_answer.specs.Source.{places_after};
+ghost use Rattle.bd_bson.specs.Collection.{documents};
+ghost use Rattle.bd_query.specs.FilterView.{filter_tree};
+ghost use Rattle.bd_cursor.specs.Asked.{asked_of, hits_of};
+
+use crate::sorted_places::sorted_places;
+use bd_answer::PlaceSource;
+use bd_bson::Dump;
+use bd_request::Request;
+use bd_value::NoMemory;
+use std::alloc::Global;
+use std::marker::Model;
+
+/// Places in order, of which those from an index on are left.
+#[derive(Debug, Drop)]
+pub(crate) struct Listed {
+    places: Vec<u32>,
+    at: usize,
+}
+
+impl Model for Listed {
+    ghost Value = { List ℕ };
+
+    ghost view = { λ a. drop a.at a.places.items };
+
+    ghost invariant = { λ a. a.at ≤ length a.places.items };
+}
+
+impl Listed {
+    /// The answer of a request, whatever source the places come from.
+    pub fn of_answer<P: PlaceSource + Drop>(
+        alloc: Global,
+        dump: &Dump,
+        request: &Request,
+        source: P,
+    ) -> Result<Listed, NoMemory>
+        requires serves { P.serves source (length (documents dump.now)) (hits_of (documents dump.now) (filter_tree request.now.filter)) }
+        ensures { IfOk result (λ left. left ≡ answer (asked_of (documents dump.now) request.now)) }
+    {
+        let most = if request.limit == 0 {
+            None
+        } else {
+            Some(request.skip.saturating_add(request.limit))
+        };
+        let places = sorted_places(alloc, dump, request, source, None, most)?;
+        let at = (request.skip as usize).min(places.len());
+        Ok(Listed { places, at })
+    }
+
+    /// The rest of it after a place, of which so many were given.
+    pub fn of_rest<P: PlaceSource + Drop>(
+        alloc: Global,
+        dump: &Dump,
+        request: &Request,
+        source: P,
+        given: u64,
+        last: u32,
+    ) -> Result<Listed, NoMemory>
+        requires serves { P.serves source (length (documents dump.now)) (hits_of (documents dump.now) (filter_tree request.now.filter)) }
+        requires there { last < length (documents dump.now) }
+        ensures { IfOk result (λ left. left ≡ rest (asked_of (documents dump.now) request.now) (record { given = given; last = last })) }
+    {
+        let most = if request.limit == 0 {
+            None
+        } else {
+            Some(request.limit.saturating_sub(given))
+        };
+        let places = sorted_places(alloc, dump, request, source, Some(last), most)?;
+        Ok(Listed { places, at: 0 })
+    }
+
+    /// Takes the next places, as many as the number, as long as there are any left.
+    pub fn take(&mut self, alloc: Global, n: u64) -> Result<Vec<u32>, NoMemory>
+        ensures given { IfOk result (λ given. given.items ≡ take n self.old) }
+        ensures left { IfOk result (λ given. self.new ≡ drop n self.old) }
+        ensures err { OnErr result (self.new ≡ self.old) }
+    {
+        let end = self.at + (n as usize).min(self.places.len() - self.at);
+        let given = Vec::from_slice(alloc, &self.places[self.at..end])?;
+        self.at = end;
+        Ok(given)
+    }
+
+    /// Whether nothing is left.
+    pub fn is_empty(&self) -> bool
+        ensures { result ≡ is_empty self.now }
+    {
+        self.at == self.places.len()
+    }
+}

@@ -1,0 +1,190 @@
+//! Sessions over documents of texts, with their calls and replies as words.
+use bd_bson::{Dump, read_dump};
+use bd_cursor::{Batch, Choice, Refused, Request, Session, Token};
+use bd_extjson::read_doc;
+use bd_path::Path;
+use bd_write::write_document;
+use std::alloc::Global;
+use std::process::Abort;
+use std::test::Fail;
+
+/// A session, and the token that it gave last.
+#[derive(Drop)]
+pub(crate) struct Player {
+    alloc: Global,
+    session: Session,
+    token: Option<Token>,
+}
+
+impl Player {
+    /// A session over documents, one a line.
+    pub fn new(alloc: Global, documents: &str) -> Result<Player, Fail> {
+        let dump = read_documents(alloc, documents)?;
+        Ok(Player {
+            alloc,
+            session: Session::new(alloc, dump),
+            token: None,
+        })
+    }
+
+    /// Makes the calls of a script, one a line, and looks at the reply that stands after each.
+    pub fn play(&mut self, rt: &impl Abort, script: &str) -> Result<(), Fail> {
+        for row in script.lines() {
+            let (call, wanted) = row.split_once(" => ").unwrap_or((row, ""));
+            let reply = self.reply(call)?;
+            assert!(rt; reply.as_str() == wanted, "{row}: {reply}");
+        }
+        Ok(())
+    }
+
+    /// The reply to a call. A request is a filter, a sort, a skip and a limit.
+    pub fn reply(&mut self, call: &str) -> Result<String, Fail> {
+        let (name, rest) = call.split_once(" ").unwrap_or((call, ""));
+        match name {
+            "find" => self.find(Choice::Scan, rest),
+            "find_auto" => self.find(Choice::Auto, rest),
+            "find_by_a" => self.find(index_on_a(self.alloc)?, rest),
+            "resume" => self.resume(Choice::Scan, rest),
+            "resume_by_a" => self.resume(index_on_a(self.alloc)?, rest),
+            "next" => self.next(rest),
+            "kill" => self.kill(rest),
+            "mark" => self.mark(rest),
+            _ => Err("a call".into()),
+        }
+    }
+
+    /// The digest of the token that it gave last, in hexadecimal digits, and its text.
+    pub fn token_words(&self) -> Result<String, Fail> {
+        let Some(token) = self.token else {
+            return Err("a token".into());
+        };
+        let digest = hex::encode(self.alloc, &token.digest)?;
+        let text = token.text(self.alloc)?;
+        Ok(format!(in self.alloc; "{digest} {text}")?)
+    }
+
+    fn find(&mut self, choice: Choice, request: &str) -> Result<String, Fail> {
+        let request = read_request(self.alloc, request)?;
+        let opened = self.session.find(request, choice);
+        opened_words(self.alloc, opened)
+    }
+
+    /// Goes on from the token that it gave last.
+    fn resume(&mut self, choice: Choice, request: &str) -> Result<String, Fail> {
+        let request = read_request(self.alloc, request)?;
+        let Some(token) = self.token else {
+            return Err("a token".into());
+        };
+        let opened = self.session.resume(request, choice, &token);
+        opened_words(self.alloc, opened)
+    }
+
+    /// The batch of a cursor and a size.
+    fn next(&mut self, numbers: &str) -> Result<String, Fail> {
+        let (id, n) = two_numbers(numbers)?;
+        match self.session.next(id, n) {
+            Ok(batch) => {
+                if batch.token.is_some() {
+                    self.token = batch.token;
+                }
+                batch_words(self.alloc, &batch)
+            }
+            Err(refused) => Ok(String::from_str(self.alloc, refused.words())?),
+        }
+    }
+
+    fn kill(&mut self, id: &str) -> Result<String, Fail> {
+        let words = match self.session.kill(id.parse::<u64>()?) {
+            Ok(()) => "killed",
+            Err(refused) => refused.words(),
+        };
+        Ok(String::from_str(self.alloc, words)?)
+    }
+
+    /// Puts another count of documents given and another place into the token that it gave last.
+    fn mark(&mut self, numbers: &str) -> Result<String, Fail> {
+        let (given, last) = two_numbers(numbers)?;
+        let Some(token) = self.token else {
+            return Err("a token".into());
+        };
+        self.token = Some(Token {
+            given,
+            last: u32::try_from(last)?,
+            digest: token.digest,
+        });
+        Ok(String::from_str(self.alloc, "marked")?)
+    }
+}
+
+/// The dump of documents, one a line.
+pub(crate) fn read_documents(alloc: Global, documents: &str) -> Result<Dump, Fail> {
+    let mut bytes = Vec::new(alloc);
+    for text in documents.lines() {
+        append_document(alloc, text, &mut bytes)?;
+    }
+    let Ok(dump) = read_dump(alloc, bytes) else {
+        return Err("a dump".into());
+    };
+    Ok(dump)
+}
+
+fn append_document(alloc: Global, text: &str, bytes: &mut Vec<u8>) -> Result<(), Fail> {
+    let document = read_doc(alloc, text.as_bytes())?;
+    let written = write_document(alloc, &document)?;
+    bytes.extend_from_slice(&written)?;
+    Ok(())
+}
+
+/// The request of a filter, a sort, a skip and a limit, with a space between.
+pub(crate) fn read_request(alloc: Global, text: &str) -> Result<Request, Fail> {
+    let mut parts = text.split(" ");
+    let filter = read_doc(alloc, parts.next().unwrap_or("").as_bytes())?;
+    let sort = read_doc(alloc, parts.next().unwrap_or("").as_bytes())?;
+    let skip = parts.next().unwrap_or("").parse::<u64>()?;
+    let limit = parts.next().unwrap_or("").parse::<u64>()?;
+    match Request::new(alloc, filter, sort, skip, limit) {
+        Ok(request) => Ok(request),
+        Err(_) => Err("a request".into()),
+    }
+}
+
+fn index_on_a(alloc: Global) -> Result<Choice, Fail> {
+    match Path::parse(alloc, "a") {
+        Ok(path) => Ok(Choice::Index(path)),
+        Err(_) => Err("a path".into()),
+    }
+}
+
+fn two_numbers(text: &str) -> Result<(u64, u64), Fail> {
+    let (first, second) = text.split_once(" ").unwrap_or((text, ""));
+    Ok((first.parse::<u64>()?, second.parse::<u64>()?))
+}
+
+fn opened_words(alloc: Global, opened: Result<u64, Refused>) -> Result<String, Fail> {
+    match opened {
+        Ok(id) => Ok(format!(in alloc; "cursor {id}")?),
+        Err(refused) => Ok(String::from_str(alloc, refused.words())?),
+    }
+}
+
+/// The places, what the token tells, and whether the answer ends there.
+fn batch_words(alloc: Global, batch: &Batch) -> Result<String, Fail> {
+    let end = if batch.end { "end" } else { "more" };
+    let places = batch.places.as_slice();
+    match batch.token {
+        Some(token) => Ok(format!(in alloc;
+            "{places:?} {} after {}, {end}",
+            token.given, token.last
+        )?),
+        None => Ok(format!(in alloc; "{places:?} no token, {end}")?),
+    }
+}
+
+/// The digest and the text of the token after the first 2 documents of the request before ` => `.
+pub(crate) fn first_token(alloc: Global, documents: &str, row: &str) -> Result<String, Fail> {
+    let request = row.split_once(" => ").unwrap_or((row, "")).0;
+    let mut player = Player::new(alloc, documents)?;
+    let _opened = player.find(Choice::Scan, request)?;
+    let _batch = player.next("1 2")?;
+    player.token_words()
+}

@@ -1,0 +1,3 @@
+pub mod RequestLemmas
+pub mod SortLemmas
+pub mod TokenLemmas

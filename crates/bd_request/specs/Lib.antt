@@ -1,0 +1,5 @@
+pub mod Digest
+pub mod Refused
+pub mod Request
+pub mod Sort
+pub mod Token

@@ -1,0 +1,140 @@
+//! What is asked of a dump.
+
+ghost use Rattle.std.specs.Prelude.{◌≡◌, ◌++◌, IfErr, IfOk, Ok, OnOk, codes, decimal};
+ghost use Rattle.bd_value.specs.Tree.{int32, leaf};
+ghost use Rattle.bd_value.specs.View.{pairs, tree_of};
+ghost use Rattle.bd_query.specs.FilterOf.{filter_of};
+ghost use Rattle.bd_query.specs.FilterView.{filter_tree};
+ghost use Rattle.bd_request.specs.Request.{AsksFor, RefusesRequest, direction_number, request_text, sort_written};
+ghost use Rattle.bd_request.specs.Refused.{TellsFilter};
+ghost use Rattle.bd_request.specs.Sort.{direction_of};
+
+use crate::refused::Refused;
+use crate::sort::{direction_of, read_sort};
+use bd_extjson::{write_doc, write_number};
+use bd_path::{Dir, Path};
+use bd_query::{Filter, FilterFaultKind, parse};
+use bd_value::{Document, NoMemory, Reading, Tree, Value};
+use std::alloc::Global;
+
+/// The greatest number of documents that are passed over, and of those that are given.
+const GREATEST: u64 = 2_147_483_647;
+
+/// What is asked of a dump: which documents, in which order, how many of them to pass over, and how many at most.
+#[derive(Drop)]
+pub struct Request {
+    /// The documents that match.
+    pub filter: Filter,
+    /// The paths by which they are sorted, the first one first; none for the order of the dump.
+    pub sort: Vec<(Path, Dir)>,
+    /// How many are passed over: 0 to 2,147,483,647.
+    pub skip: u64,
+    /// How many are given at most: 0 to 2,147,483,647, where 0 is no limit.
+    pub limit: u64,
+    /// The text that tokens are tied to: `{"filter":F,"sort":S,"skip":N,"limit":N}`, in canonical Extended JSON.
+    pub text: Vec<u8>,
+}
+
+impl Request {
+    /// The request of a filter, a sort (`{}`, or one to four paths with 1 or -1 each), a skip and a limit.
+    ///
+    /// # Errors
+    ///
+    /// In this order: `BadFilter` with the first fault of the filter, `BadSort`, and `Range` where a number is above
+    /// 2,147,483,647. `NoMemory` where no memory was given.
+    pub fn new(
+        alloc: Global,
+        filter: Document,
+        sort: Document,
+        skip: u64,
+        limit: u64,
+    ) -> Result<Request, Refused>
+        ensures request { IfOk result (AsksFor (pairs filter) (pairs sort) skip limit) }
+        ensures refused { IfErr result (RefusesRequest (pairs filter) (pairs sort) skip limit) }
+    {
+        let parsed = read_filter(alloc, &filter)?;
+        let pairs = read_sort(alloc, &sort)?;
+        if skip > GREATEST || limit > GREATEST {
+            return Err(Refused::Range);
+        }
+        let text = text_of(alloc, &filter, &sort, skip, limit)?;
+        Ok(Request {
+            filter: parsed,
+            sort: pairs,
+            skip,
+            limit,
+            text,
+        })
+    }
+}
+
+/// The filter of a document.
+fn read_filter(alloc: Global, document: &Document) -> Result<Filter, Refused>
+    ensures filter { IfOk result (λ f. filter_of (pairs document.now) ≡ Ok (filter_tree f)) }
+    ensures fault { IfErr result (TellsFilter (filter_of (pairs document.now))) }
+{
+    match parse(alloc, document) {
+        Ok(filter) => Ok(filter),
+        Err(fault) => match fault.kind {
+            FilterFaultKind::NoMemory => Err(Refused::NoMemory),
+            _ => Err(Refused::BadFilter(fault)),
+        },
+    }
+}
+
+/// The text of a request.
+fn text_of(
+    alloc: Global,
+    filter: &Document,
+    sort: &Document,
+    skip: u64,
+    limit: u64,
+) -> Result<Vec<u8>, NoMemory>
+    ensures { IfOk result (λ v. v.items ≡ request_text (pairs filter.now) (pairs sort.now) skip limit) }
+{
+    let sort = written_sort(alloc, sort)?;
+    let mut text = Vec::new(alloc);
+    text.extend_from_slice(b"{\"filter\":")?;
+    write_doc(filter, &mut text)?;
+    text.extend_from_slice(b",\"sort\":")?;
+    write_doc(&sort, &mut text)?;
+    write_counts(skip, limit, &mut text)?;
+    Ok(text)
+}
+
+/// Appends a skip and a limit, and the end.
+fn write_counts(skip: u64, limit: u64, text: &mut Vec<u8>) -> Result<(), NoMemory>
+    ensures { OnOk result (text.new.items ≡ text.old.items
+        ++ (codes ",\"skip\":" ++ (decimal skip ++ (codes ",\"limit\":" ++ (decimal limit ++ codes "}"))))) }
+{
+    text.extend_from_slice(b",\"skip\":")?;
+    write_number(skip, text)?;
+    text.extend_from_slice(b",\"limit\":")?;
+    write_number(limit, text)?;
+    text.extend_from_slice(b"}")
+}
+
+/// A sort with each direction as a number of 32 bits.
+fn written_sort(alloc: Global, sort: &Document) -> Result<Document, NoMemory>
+    ensures { IfOk result (λ d. pairs d ≡ sort_written (pairs sort.now)) }
+{
+    let mut written = Document::new(alloc);
+    let mut left = Tree::Doc(sort).parts();
+    while let Some(next) = Tree::next(&left) {
+        let name = String::from_str(alloc, next.0)?;
+        written.push(name, written_direction(next.1))?;
+        left = next.2;
+    }
+    Ok(written)
+}
+
+/// 1 for up, -1 for down; 0 where a value is neither.
+fn written_direction<N: Reading>(value: N) -> Value
+    ensures { tree_of result ≡ leaf (int32 (direction_number (direction_of (N.tree value)))) }
+{
+    match direction_of(value) {
+        Some(Dir::Up) => Value::Int32(1),
+        Some(Dir::Down) => Value::Int32(-1),
+        None => Value::Int32(0),
+    }
+}
