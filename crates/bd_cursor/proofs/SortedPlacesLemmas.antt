@@ -25,7 +25,7 @@ use Rattle.bd_answer.proofs.SourceLemmas.{batch_sorted, permuted_in}
 use Rattle.bd_cursor.specs.Asked.{asked_of, document_at, hits_of, order_of_keys}
 use Rattle.bd_cursor.specs.Column.{columns_cmp, key_columns}
 use Rattle.bd_cursor.specs.SortTable.{IsTable, first_slot, place_at, slot_wanted, slots_cmp, slots_from, slots_in_order}
-use Rattle.bd_cursor.specs.SortedPlaces.{after_last}
+use Rattle.bd_cursor.specs.SortedPlaces.{with_first}
 use Rattle.bd_request.specs.declared.request.Request.{Request}
 use Rattle.bd_cursor.specs.declared.sort_table.SortTable.{SortTable}
 use Rattle.bd_cursor.proofs.SortTableLemmas.{slots_apart, slots_strict}
@@ -98,7 +98,7 @@ tail_places q ms test h same =
     ∙ ap (filter h) (later_places q ms)
 
 -- the slots that are wanted have the places that are
-wanted_places : (ds : List Doc) (ss : List SortPath) (hits : ℕ → Bool) (left : List ℕ) (last : Option ℕ) (t : SortTable) → IsTable ds ss (after_last last (filter hits left)) t
+wanted_places : (ds : List Doc) (ss : List SortPath) (hits : ℕ → Bool) (left : List ℕ) (last : Option ℕ) (t : SortTable) → IsTable ds ss (with_first last (filter hits left)) t
     → map (place_at t.places.items) (slots_from t (is_some last) (first_slot (is_some last))) ≡ filter (passes hits (order_of_keys ds ss) last) left
 wanted_places ds ss hits left None t is =
     let ps = t.places.items in
@@ -139,7 +139,7 @@ places_sorted ds ss ps t has_last is k d a b =
     rw (get_or-map (place_at ps) xs k 0 d one, get_or-map (place_at ps) xs (k + 1) 0 d below) (ap is_lt (sym (slots_order ds ss ps t is y x ly lx)) ∙ up)
 
 pub places_in_order : (ds : List Doc) (r : Request) (left : List ℕ) (last : Option ℕ) (t : SortTable) → IsSource (length ds) (hits_of ds (filter_tree r.filter)) left
-    → IsTable ds (sort_paths r.sort.items) (after_last last (filter (hits_of ds (filter_tree r.filter)) left)) t
+    → IsTable ds (sort_paths r.sort.items) (with_first last (filter (hits_of ds (filter_tree r.filter)) left)) t
     → map (place_at t.places.items) (slots_in_order t (is_some last)) ≡ places_after (asked_of ds r) last
 places_in_order ds r left last t source is =
     let a = asked_of ds r in
@@ -165,7 +165,7 @@ slots_few t has_last =
     omega arith
 
 pub first_places : (ds : List Doc) (r : Request) (left : List ℕ) (last : Option ℕ) (t : SortTable) → IsSource (length ds) (hits_of ds (filter_tree r.filter)) left
-    → IsTable ds (sort_paths r.sort.items) (after_last last (filter (hits_of ds (filter_tree r.filter)) left)) t
+    → IsTable ds (sort_paths r.sort.items) (with_first last (filter (hits_of ds (filter_tree r.filter)) left)) t
     → (limit : ℕ) (most : Option ℕ) (slots : List ℕ) (has_last : Bool) → has_last ≡ is_some last → slots ≡ take limit (slots_in_order t has_last)
     → ((ps : List ℕ) → length ps ≤ length t.places.items → take limit ps ≡ at_most most ps) → map (place_at t.places.items) slots ≡ at_most most (places_after (asked_of ds r) last)
 first_places ds r left last t source is limit most slots has_last flag firsts cut =
@@ -178,7 +178,7 @@ first_places ds r left last t source is limit most slots has_last flag firsts cu
     ∙ ap (at_most most) ordered
 
 -- each place is that of a document
-pub places_below : (n : ℕ) (hits : ℕ → Bool) (left : List ℕ) (last : Option ℕ) → All (λ p. p < n) left → IfSome last (λ p. p < n) → All (λ p. p < n) (after_last last (filter hits left))
+pub places_below : (n : ℕ) (hits : ℕ → Bool) (left : List ℕ) (last : Option ℕ) → All (λ p. p < n) left → IfSome last (λ p. p < n) → All (λ p. p < n) (with_first last (filter hits left))
 places_below n hits left None h there k d l =
     let i = filter_in hits left (get_or (filter hits left) k d) (in_at (filter hits left) k d l) in
     let r = in_contains left (get_or (filter hits left) k d) i.0 in

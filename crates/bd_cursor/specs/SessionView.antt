@@ -1,5 +1,5 @@
 -- A session as the state of the machine.
-use Rattle.std.specs.Prelude.{◌≡◌, ◌-◌, ℕ, Bool, List, [], ◌∷◌, drop, length, map, option_map, string_bytes, Option, Some, None}
+use Rattle.std.specs.Prelude.{◌≡◌, ◌-◌, ℕ, Bool, List, [], drop, length, map, option_map, string_bytes, Option, Some, None}
 use Rattle.std.specs.List.{filter, range_with_len}
 use Rattle.bd_answer.specs.Answer.{Asked, Mark, at_most}
 use Rattle.bd_answer.specs.Session.{GivenBatch, MarkedToken, OpenCursor, Reply, State, foreign_token, gave, no_cursor, no_index, opened, out_of_range, token_place, too_many_cursors}
@@ -8,6 +8,7 @@ use Rattle.bd_bson.specs.Collection.{documents}
 use Rattle.bd_query.specs.FilterView.{filter_tree}
 use Rattle.bd_query.specs.declared.filter.Filter.{Filter}
 use Rattle.bd_cursor.specs.Asked.{hits_of, query_of}
+use Rattle.bd_cursor.specs.SortedPlaces.{with_first}
 use Rattle.bd_cursor.specs.declared.ahead.Ahead.{Ahead}
 use Rattle.bd_cursor.specs.declared.session.Choice.{Choice}
 use Rattle.bd_cursor.specs.declared.session.Choice.TheVariants as choices
@@ -26,15 +27,11 @@ mark_of t = record { given = t.given; last = t.last }
 abbrev pub marked_token : Token → MarkedToken
 marked_token t = record { mark = mark_of t; digest = t.digest }
 
--- a place, where there is one, and others after it
-abbrev pub found_first : Option ℕ → List ℕ → List ℕ
-found_first None ps = ps
-found_first (Some p) ps = p ∷ ps
-
--- what a cursor that goes on where it stands has left: the match that it found, and those among the documents that it did not look at
+-- what a cursor that goes on where it stands has left: the match that it found, and those among the documents that it did
+-- not look at
 abbrev pub ahead_left : ℕ → (ℕ → Bool) → Ahead → List ℕ
 ahead_left count hits a =
-    at_most a.most (found_first a.found (drop a.skip (filter hits (range_with_len a.next (count - a.next)))))
+    at_most a.most (with_first a.found (drop a.skip (filter hits (range_with_len a.next (count - a.next)))))
 
 abbrev pub ahead_in : Dump → Filter → Ahead → List ℕ
 ahead_in dump filter a =

@@ -1,7 +1,7 @@
--- The places of which a sorted cursor makes its list.
+-- Places with one before them.
 use Rattle.std.specs.Prelude.{ℕ, List, ◌∷◌, Option, Some, None}
 
--- the last place given, where there is one, and after it others
-abbrev pub after_last : Option ℕ → List ℕ → List ℕ
-after_last None ps = ps
-after_last (Some p) ps = p ∷ ps
+-- a place, where there is one, and after it others
+abbrev pub with_first : Option ℕ → List ℕ → List ℕ
+with_first None ps = ps
+with_first (Some p) ps = p ∷ ps

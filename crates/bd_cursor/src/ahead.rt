@@ -30,7 +30,7 @@ pub(crate) struct Ahead {
 
 impl Ahead {
     /// The answer of a request without a sort.
-    pub fn of_answer(skip: u64, limit: u64) -> Ahead
+    pub(crate) fn of_answer(skip: u64, limit: u64) -> Ahead
         ensures { (ds : List Doc) (r : Request) → r.sort.items ≡ [] → r.skip ≡ skip → r.limit ≡ limit →
             ahead_left (length ds) (hits_of ds (filter_tree r.filter)) result ≡ answer (asked_of ds r) }
     {
@@ -44,7 +44,7 @@ impl Ahead {
     }
 
     /// The rest of it after a place, of which so many were given.
-    pub fn of_rest(limit: u64, given: u64, last: u32) -> Ahead
+    pub(crate) fn of_rest(limit: u64, given: u64, last: u32) -> Ahead
         requires { last < 4294967295 }
         ensures { (ds : List Doc) (r : Request) → r.sort.items ≡ [] → r.limit ≡ limit →
             ahead_left (length ds) (hits_of ds (filter_tree r.filter)) result
@@ -65,7 +65,7 @@ impl Ahead {
 
     /// Takes the next places, as many as the number, as long as there are any left. Where memory runs out, where it stands
     /// says nothing.
-    pub fn take(
+    pub(crate) fn take(
         &mut self,
         alloc: Global,
         dump: &Dump,
@@ -86,7 +86,7 @@ impl Ahead {
     }
 
     /// Whether nothing is left.
-    pub fn is_empty(&mut self, dump: &Dump, filter: &Filter) -> bool
+    pub(crate) fn is_empty(&mut self, dump: &Dump, filter: &Filter) -> bool
         ensures empty { result ≡ is_empty (ahead_in dump.now filter.now self.old) }
         ensures left { ahead_in dump.now filter.now self.new ≡ ahead_in dump.now filter.now self.old }
     {

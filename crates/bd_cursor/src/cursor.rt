@@ -34,7 +34,7 @@ pub(crate) struct Cursor {
 
 impl Cursor {
     /// Gives the next documents, as many as the number, as long as there are any left.
-    pub fn next(
+    pub(crate) fn next(
         &mut self,
         alloc: Global,
         documents: &mut DigestedDump,

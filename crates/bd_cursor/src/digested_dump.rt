@@ -18,14 +18,14 @@ pub(crate) struct DigestedDump {
 
 impl DigestedDump {
     /// A dump whose digest was not asked for.
-    pub fn new(dump: Dump) -> DigestedDump
+    pub(crate) fn new(dump: Dump) -> DigestedDump
         ensures { result.dump ≡ dump }
     {
         DigestedDump { dump, digest: None }
     }
 
     /// The digest of its bytes. It takes no memory.
-    pub fn digest(&mut self) -> [u8; 32]
+    pub(crate) fn digest(&mut self) -> [u8; 32]
         ensures digest { result ≡ sha256 (bytes_of self.old.dump) }
         ensures dump { self.new.dump ≡ self.old.dump }
     {

@@ -25,7 +25,7 @@ pub(crate) enum Left {
 
 impl Left {
     /// The answer of a request.
-    pub fn of_answer(alloc: Global, dump: &Dump, request: &Request) -> Result<Left, NoMemory>
+    pub(crate) fn of_answer(alloc: Global, dump: &Dump, request: &Request) -> Result<Left, NoMemory>
         ensures { IfOk result (λ left. places_left (asked_of (documents dump.now) request.now) left
             ≡ answer (asked_of (documents dump.now) request.now)) }
     {
@@ -37,7 +37,7 @@ impl Left {
     }
 
     /// The rest of it after a token.
-    pub fn of_rest(
+    pub(crate) fn of_rest(
         alloc: Global,
         dump: &Dump,
         request: &Request,
@@ -58,7 +58,7 @@ impl Left {
     }
 
     /// Takes the next places, as many as the number, as long as there are any left, and tells whether nothing is left then.
-    pub fn take(
+    pub(crate) fn take(
         &mut self,
         alloc: Global,
         dump: &Dump,

@@ -32,7 +32,7 @@ impl Model for Listed {
 
 impl Listed {
     /// The answer of a request, whatever source the places come from.
-    pub fn of_answer<P: PlaceSource + Drop>(
+    pub(crate) fn of_answer<P: PlaceSource + Drop>(
         alloc: Global,
         dump: &Dump,
         request: &Request,
@@ -52,7 +52,7 @@ impl Listed {
     }
 
     /// The rest of it after a place, of which so many were given.
-    pub fn of_rest<P: PlaceSource + Drop>(
+    pub(crate) fn of_rest<P: PlaceSource + Drop>(
         alloc: Global,
         dump: &Dump,
         request: &Request,
@@ -74,7 +74,7 @@ impl Listed {
     }
 
     /// Takes the next places, as many as the number, as long as there are any left.
-    pub fn take(&mut self, alloc: Global, n: u64) -> Result<Vec<u32>, NoMemory>
+    pub(crate) fn take(&mut self, alloc: Global, n: u64) -> Result<Vec<u32>, NoMemory>
         ensures given { IfOk result (λ given. given.items ≡ take n self.old) }
         ensures left { IfOk result (λ given. self.new ≡ drop n self.old) }
         ensures err { OnErr result (self.new ≡ self.old) }
@@ -86,7 +86,7 @@ impl Listed {
     }
 
     /// Whether nothing is left.
-    pub fn is_empty(&self) -> bool
+    pub(crate) fn is_empty(&self) -> bool
         ensures { result ≡ is_empty self.now }
     {
         self.at == self.places.len()

@@ -28,7 +28,7 @@ impl<'d> SortTable<'d> {
     ghost use Rattle.bd_cursor.specs.SortTable.{AreFirst, IsTable, first_slot, place_at, slot_wanted, slots_cmp, slots_in_order};
 
     /// The table of the documents at these places. It fails where memory runs out, and where a slot would not fit in 32 bits.
-    pub fn new(
+    pub(crate) fn new(
         alloc: Global,
         dump: &'d Dump,
         sort: &[(Path, Dir)],
@@ -46,7 +46,7 @@ impl<'d> SortTable<'d> {
 
     /// The first slots that are wanted, at most so many, in the order of their documents. Where the first slot is that of the
     /// last place given, those after it are wanted. It compares some n log k documents for the first k of n.
-    pub fn first_slots(
+    pub(crate) fn first_slots(
         &self,
         alloc: Global,
         has_last: bool,
@@ -72,7 +72,7 @@ impl<'d> SortTable<'d> {
     }
 
     /// The places of slots.
-    pub fn places_of(&self, alloc: Global, slots: &[u32]) -> Result<Vec<u32>, NoMemory>
+    pub(crate) fn places_of(&self, alloc: Global, slots: &[u32]) -> Result<Vec<u32>, NoMemory>
         ensures { IfOk result (λ v. v.items ≡ map (place_at self.now.places.items) slots.now) }
     {
         let mut places = Vec::with_capacity(alloc, slots.len())?;

@@ -7,7 +7,7 @@ ghost use Rattle.bd_answer.specs.Source.{places_after};
 ghost use Rattle.bd_bson.specs.Collection.{documents};
 ghost use Rattle.bd_query.specs.FilterView.{filter_tree};
 ghost use Rattle.bd_cursor.specs.Asked.{asked_of, hits_of};
-ghost use Rattle.bd_cursor.specs.SortedPlaces.{after_last};
+ghost use Rattle.bd_cursor.specs.SortedPlaces.{with_first};
 
 use crate::matching::is_match;
 use crate::sort_table::SortTable;
@@ -62,7 +62,7 @@ fn matching_places<P: PlaceSource + Drop>(
 ) -> Result<Vec<u32>, NoMemory>
     requires { All (λ p. p < length (documents dump.now)) (P.left source) }
     ensures { IfOk result (λ v. v.items
-        ≡ after_last last (filter (hits_of (documents dump.now) (filter_tree request.now.filter)) (P.left source))) }
+        ≡ with_first last (filter (hits_of (documents dump.now) (filter_tree request.now.filter)) (P.left source))) }
 {
     let mut places = Vec::new(alloc);
     if let Some(place) = last {

@@ -18,7 +18,7 @@ pub(crate) struct Player {
 
 impl Player {
     /// A session over documents, one a line.
-    pub fn new(alloc: Global, documents: &str) -> Result<Player, Fail> {
+    pub(crate) fn new(alloc: Global, documents: &str) -> Result<Player, Fail> {
         let dump = read_documents(alloc, documents)?;
         Ok(Player {
             alloc,
@@ -28,7 +28,7 @@ impl Player {
     }
 
     /// Makes the calls of a script, one a line, and looks at the reply that stands after each.
-    pub fn play(&mut self, rt: &impl Abort, script: &str) -> Result<(), Fail> {
+    pub(crate) fn play(&mut self, rt: &impl Abort, script: &str) -> Result<(), Fail> {
         for row in script.lines() {
             let (call, wanted) = row.split_once(" => ").unwrap_or((row, ""));
             let reply = self.reply(call)?;
@@ -38,7 +38,7 @@ impl Player {
     }
 
     /// The reply to a call. A request is a filter, a sort, a skip and a limit.
-    pub fn reply(&mut self, call: &str) -> Result<String, Fail> {
+    pub(crate) fn reply(&mut self, call: &str) -> Result<String, Fail> {
         let (name, rest) = call.split_once(" ").unwrap_or((call, ""));
         match name {
             "find" => self.find(Choice::Scan, rest),
@@ -54,7 +54,7 @@ impl Player {
     }
 
     /// The digest of the token that it gave last, in hexadecimal digits, and its text.
-    pub fn token_words(&self) -> Result<String, Fail> {
+    pub(crate) fn token_words(&self) -> Result<String, Fail> {
         let Some(token) = self.token else {
             return Err("a token".into());
         };

@@ -3,14 +3,14 @@ use Rattle.std.specs.List.{All}
 use Rattle.bd_bson.specs.Collection.{documents}
 use Rattle.bd_query.specs.FilterView.{filter_tree}
 use Rattle.bd_cursor.specs.Asked.{hits_of}
-use Rattle.bd_cursor.specs.SortedPlaces.{after_last}
+use Rattle.bd_cursor.specs.SortedPlaces.{with_first}
 use Rattle.bd_cursor.proofs.sorted_places.matching_places.Given as goal
 
 abbrev pub invariant-loop-place : goal.invariant-loop-place
 invariant-loop-place g l =
     let hits = hits_of (documents l.dump) (filter_tree l.request.filter) in
     record {
-      told : l.places.items ++ filter hits (g.P.PlaceSource.left l.source) ≡ after_last l.fn.last (filter hits (g.P.PlaceSource.left l.initial.source));
+      told : l.places.items ++ filter hits (g.P.PlaceSource.left l.source) ≡ with_first l.fn.last (filter hits (g.P.PlaceSource.left l.initial.source));
       below : All (λ p. p < length (documents l.dump)) (g.P.PlaceSource.left l.source);
     }
 

@@ -6,7 +6,7 @@ use Rattle.bd_path.specs.Sort.{sort_paths}
 use Rattle.bd_query.specs.FilterView.{filter_tree}
 use Rattle.bd_cursor.specs.Asked.{hits_of}
 use Rattle.bd_cursor.specs.SortTable.{IsTable, place_at}
-use Rattle.bd_cursor.specs.SortedPlaces.{after_last}
+use Rattle.bd_cursor.specs.SortedPlaces.{with_first}
 use Rattle.bd_cursor.proofs.SortedPlacesLemmas.{first_places, places_below}
 use Rattle.bd_cursor.proofs.sorted_places.sorted_places.Goals as goal
 
@@ -26,7 +26,7 @@ returns g c =
     let left = g.P.PlaceSource.left c.args.source in
     let t = c.in_ok-table.table in
     let source : IsSource (length ds) hits left = g.met.P.PlaceSource.law c.args.source (length ds) hits c.requires.serves in
-    let is : IsTable ds (sort_paths r.sort.items) (after_last c.args.last (filter hits left)) t =
+    let is : IsTable ds (sort_paths r.sort.items) (with_first c.args.last (filter hits left)) t =
     subst (λ ps. IsTable ds (sort_paths r.sort.items) ps t) c.in_ok-places.ensures
     (subst (λ ss. IsTable ds (sort_paths ss) c.in_ok-places.places.items t) c.deref.ensures.value c.in_ok-table.ensures) in
     let same : length t.places.items ≡ length c.in_ok-places.places.items = ap length (is.places ∙ sym c.in_ok-places.ensures) in

@@ -3,7 +3,7 @@ use Rattle.bd_answer.specs.Answer.{at_most}
 use Rattle.bd_bson.specs.Collection.{documents}
 use Rattle.bd_query.specs.FilterView.{filter_tree}
 use Rattle.bd_cursor.specs.Asked.{hits_of}
-use Rattle.bd_cursor.specs.SessionView.{found_first}
+use Rattle.bd_cursor.specs.SortedPlaces.{with_first}
 use Rattle.bd_cursor.proofs.AheadLemmas.{all_seen, at_most_none, met, missed, passed_over, unseen}
 use Rattle.bd_cursor.proofs.ahead.Ahead.look.Goals as goal
 
@@ -14,7 +14,7 @@ loop-place-preserved-then-self-gt0 c =
     let hits = hits_of (documents c.args.dump.now) (filter_tree c.args.filter.now) in
     let below : s.next < n = omega arith in
     record {
-      left = ap (λ ys. at_most s.most (found_first s.found ys)) (sym (passed_over n s.next s.skip hits below (sym c.is_match.ensures ∙ c.if-is_match.true) c.if-self-gt0.true)) ∙ c.loop-place.invariant.left;
+      left = ap (λ ys. at_most s.most (with_first s.found ys)) (sym (passed_over n s.next s.skip hits below (sym c.is_match.ensures ∙ c.if-is_match.true) c.if-self-gt0.true)) ∙ c.loop-place.invariant.left;
       most = c.loop-place.invariant.most;
     }
 
@@ -27,7 +27,7 @@ loop-place-preserved-else-self-gt0 c =
     let no_skip : s.skip ≡ 0 = omega arith in
     let none : s.found ≡ None = search rules in
     record {
-      left = ap (at_most s.most) (sym (met n s.next s.skip hits below (sym c.is_match.ensures ∙ c.if-is_match.true) no_skip)) ∙ ap (λ f. at_most s.most (found_first f (drop s.skip (unseen n hits s.next)))) (sym none) ∙ c.loop-place.invariant.left;
+      left = ap (at_most s.most) (sym (met n s.next s.skip hits below (sym c.is_match.ensures ∙ c.if-is_match.true) no_skip)) ∙ ap (λ f. at_most s.most (with_first f (drop s.skip (unseen n hits s.next)))) (sym none) ∙ c.loop-place.invariant.left;
       most = c.loop-place.invariant.most;
     }
 
@@ -38,7 +38,7 @@ loop-place-preserved c =
     let hits = hits_of (documents c.args.dump.now) (filter_tree c.args.filter.now) in
     let below : s.next < n = omega arith in
     record {
-      left = ap (λ ys. at_most s.most (found_first s.found ys)) (sym (missed n s.next s.skip hits below (sym c.is_match.ensures ∙ c.if-is_match.false))) ∙ c.loop-place.invariant.left;
+      left = ap (λ ys. at_most s.most (with_first s.found ys)) (sym (missed n s.next s.skip hits below (sym c.is_match.ensures ∙ c.if-is_match.false))) ∙ c.loop-place.invariant.left;
       most = c.loop-place.invariant.most;
     }
 
@@ -48,4 +48,4 @@ returns-else-self-len-clause-none c = λ none.
     let n = length (documents c.args.dump.now) in
     let hits = hits_of (documents c.args.dump.now) (filter_tree c.args.filter.now) in
     let past : n ≤ s.next = omega arith in
-    ap (λ f. at_most s.most (found_first f (drop s.skip (unseen n hits s.next)))) none ∙ ap (at_most s.most) (all_seen n s.next s.skip hits past) ∙ at_most_none s.most
+    ap (λ f. at_most s.most (with_first f (drop s.skip (unseen n hits s.next)))) none ∙ ap (at_most s.most) (all_seen n s.next s.skip hits past) ∙ at_most_none s.most
