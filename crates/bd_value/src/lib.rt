@@ -40,8 +40,8 @@ pub use kind::Kind;
 pub use nesting::{depth, depth_of};
 pub use node::{Node, Reading};
 pub use order::{
-    Class, class, class_of_node, compare, compare_nodes, equal, equals_have_one_class,
-    numbers_are_one_line, orders_all_values, pairs_compare_in_turn,
+    Class, class, class_of_kind, class_of_node, compare, compare_nodes, equal,
+    equals_have_one_class, numbers_are_one_line, orders_all_values, pairs_compare_in_turn,
 };
 pub use scalar::Scalar;
 pub use tree::{Tree, TreeParts};

@@ -7,7 +7,7 @@ mod ranks;
 ghost use Rattle.std.specs.Prelude.{◌≡◌};
 ghost use Rattle.bd_value.specs.Order.{class_cmp, cmp, equal, fields_cmp, items_cmp, pair_cmp};
 ghost use Rattle.bd_value.specs.Order.{rank_cmp, rank_in, same_class_cmp};
-ghost use Rattle.bd_value.specs.Order.Classes.{class_of};
+ghost use Rattle.bd_value.specs.Order.Classes.{class_of, class_of_kind};
 ghost use Rattle.bd_value.specs.Kind.{kind_of};
 ghost use Rattle.bd_value.specs.declared.kind.Kind.TheVariants as kinds;
 ghost use Rattle.bd_value.specs.Parts.{values_of, HoldsNoParts};
@@ -36,7 +36,14 @@ pub fn class(value: &Value) -> Class
 pub fn class_of_node<N: Reading>(node: N) -> Class
     ensures { result ≡ class_of (N.tree node) }
 {
-    match node.kind() {
+    class_of_kind(node.kind())
+}
+
+/// The class of values of a kind. It takes no memory.
+pub fn class_of_kind(kind: Kind) -> Class
+    ensures { result ≡ class_of_kind kind }
+{
+    match kind {
         Kind::MinKey => Class::MinKey,
         Kind::Undefined => Class::Undefined,
         Kind::Null => Class::Null,
