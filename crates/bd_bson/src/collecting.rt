@@ -10,6 +10,7 @@ ghost use Rattle.bd_check.specs.Fault.{Fault as Where};
 use crate::collection::Dump;
 use bd_check::{Fault, FaultKind, next_document, want_of_memory};
 use std::alloc::Global;
+use std::cell::Cell;
 
 /// The fault of bytes that are too many for a dump, which has no place.
 fn too_long(alloc: Global) -> Fault
@@ -64,5 +65,9 @@ pub fn read_dump(alloc: Global, bytes: Vec<u8>) -> Result<Dump, Fault>
         return Err(too_long(alloc));
     }
     let starts = starts_in(alloc, &bytes)?;
-    Ok(Dump { bytes, starts })
+    Ok(Dump {
+        bytes,
+        starts,
+        reads: Cell::new(0),
+    })
 }

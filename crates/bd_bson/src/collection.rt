@@ -1,11 +1,13 @@
 //! A dump: all documents of a collection, in their bytes.
 
 ghost use Rattle.std.specs.Prelude.{◌≡◌, ◌≤◌, ◌<◌, Some, length, slice_get};
-ghost use Rattle.bd_value.specs.Tree.{pairs_in};
+ghost use Rattle.bd_value.specs.Tree.{Tree, pairs_in};
+ghost use Rattle.bd_raw.specs.At.{StandsAt, IsPlace};
 ghost use Rattle.bd_raw.specs.Sound.{stands};
 ghost use Rattle.bd_bson.specs.Starts.{StandAt, StandAt-prop};
 
-use bd_raw::RawDoc;
+use bd_raw::{At, RawDoc, RawValue};
+use std::cell::Cell;
 
 /// The documents of a dump, in their order. A document is named by its number, from 0. It keeps the bytes and where each
 /// document starts, and no trees.
@@ -13,7 +15,10 @@ use bd_raw::RawDoc;
 pub struct Dump {
     pub(crate) bytes: Vec<u8>,
     pub(crate) starts: Vec<u32>,
+    /// How often a document was asked for.
+    pub(crate) reads: Cell<u64>,
     ghost few: { length starts.items ≤ 4294967295 },
+    ghost short: { length bytes.items ≤ 4294967295 },
     ghost stand: { StandAt bytes.items starts.items } by { StandAt-prop bytes.items starts.items },
 }
 
@@ -33,7 +38,24 @@ impl Dump {
         ensures document { slice_get (documents self.now) n ≡ Some (pairs_in (stands result.sound)) }
         ensures kept { result.bytes.now ≡ bytes_of self.now }
     {
+        self.reads.set(self.reads.get().saturating_add(1));
         RawDoc::at(&self.bytes, self.starts[n as usize] as usize)
+    }
+
+    /// The value that stands there: of the `at` of a view into this dump, what the view stands for. It takes no memory, and is
+    /// no read of a document.
+    pub fn value_at(&self, at: At) -> RawValue<'_>
+        requires { IsPlace (bytes_of self.now) at }
+        ensures value { (tree : Tree) → StandsAt (bytes_of self.now) at tree → stands result.sound ≡ tree }
+        ensures kept { result.bytes.now ≡ bytes_of self.now }
+    {
+        at.value_in(&self.bytes)
+    }
+
+    /// How often `document` was called on this dump, at most 18,446,744,073,709,551,615, where it stays. No contract speaks of
+    /// it: it is for tests and for figures.
+    pub fn reads(&self) -> u64 {
+        self.reads.get()
     }
 
     /// The bytes that it was read from. It takes no memory.

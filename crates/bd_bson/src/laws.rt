@@ -1,15 +1,22 @@
 //! Laws of the definitions alone. The body of each is empty: its contract is the law.
 
 ghost use Rattle.std.specs.Prelude.{◌≡◌, ◌<◌, ◌++◌, ℕ, List, Option, None, slice_index};
-ghost use Rattle.bd_value.specs.Tree.{Doc};
+ghost use Rattle.bd_value.specs.Tree.{Doc, Tree};
 ghost use Rattle.bd_check.specs.Fault.{Fault};
 ghost use Rattle.bd_raw.specs.Spelling.{IsDocument};
+ghost use Rattle.bd_raw.specs.At.{StandsAt};
+ghost use Rattle.bd_raw.specs.declared.at.At.{At};
 ghost use Rattle.bd_check.specs.FirstFault.{first_fault};
 ghost use Rattle.bd_check.specs.Dump.{AreJoined, IsWalk};
 
 /// Bytes spell one document at most.
 pub fn spells_one_document()
     ensures { (bytes : List ℕ) (c d : Doc) → IsDocument c bytes → IsDocument d bytes → c ≡ d }
+{}
+
+/// One value at most stands at a place in bytes.
+pub fn one_value_stands()
+    ensures { (bytes : List ℕ) (at : At) (t u : Tree) → StandsAt bytes at t → StandsAt bytes at u → t ≡ u }
 {}
 
 /// There is no fault exactly where the bytes spell some document.

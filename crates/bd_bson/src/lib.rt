@@ -28,7 +28,7 @@ pub use bd_device::{
     DeviceFault, FailingWrite, Input, Limits, MemoryInput, MemoryOutput, Output, ReadFault,
     SystemInput, SystemOutput, read_all, write_all,
 };
-pub use bd_raw::{Elements, RawDoc, RawValue};
+pub use bd_raw::{At, Elements, RawDoc, RawValue};
 pub use bd_stream::{DocBuffer, DocFault, DocReader, RawBytes};
 pub use bd_write::{
     WriteFault, append_label, append_value, begin_body, end_body, write_document, write_text,
@@ -36,5 +36,7 @@ pub use bd_write::{
 pub use collecting::read_dump;
 pub use collection::Dump;
 pub use dump_laws::dump_or_fault;
-pub use laws::{no_fault_where_spelled, spells_one_document, walks_in_one_way, walks_on};
+pub use laws::{
+    no_fault_where_spelled, one_value_stands, spells_one_document, walks_in_one_way, walks_on,
+};
 pub use verdict_laws::{judges_as_the_walk, judges_in_turn};

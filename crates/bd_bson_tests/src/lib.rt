@@ -3,6 +3,8 @@
 #![tactic(auto)]
 
 #[cfg(test)]
+mod at_tests;
+#[cfg(test)]
 mod both_tests;
 #[cfg(test)]
 mod collection_tests;

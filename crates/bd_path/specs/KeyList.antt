@@ -57,3 +57,8 @@ keys t path = distinct (all_keys false t path)
 -- the same without the nulls of missing fields
 abbrev pub sparse_keys : Tree → Names → List Tree
 sparse_keys t path = distinct (all_keys true t path)
+
+-- those that an index has, by whether it is sparse
+abbrev pub indexed_keys : Bool → Tree → Names → List Tree
+indexed_keys true t path = sparse_keys t path
+indexed_keys false t path = keys t path

@@ -7,7 +7,7 @@ ghost use Rattle.bd_value.specs.Order.{equal};
 ghost use Rattle.bd_value.specs.View.{tree_of};
 ghost use Rattle.bd_value.specs.declared.kind.Kind.TheVariants as kinds;
 ghost use Rattle.bd_path.specs.Key.{AddsKeys, AreKeysOf, IsKeyOf, key_tree, key_trees};
-ghost use Rattle.bd_path.specs.KeyList.{all_keys, distinct, document_keys, end_keys, index_keys, keys};
+ghost use Rattle.bd_path.specs.KeyList.{all_keys, distinct, document_keys, end_keys, index_keys, indexed_keys, keys};
 ghost use Rattle.bd_path.specs.KeyList.{missing_key, sparse_keys as sparse_keys_of, with_key};
 ghost use Rattle.bd_path.specs.Names.{component_names};
 ghost use Rattle.bd_path.specs.PathNames.{names_of};
@@ -38,6 +38,24 @@ pub fn sparse_keys<N: Reading>(alloc: Global, doc: N, path: &Path) -> Result<Vec
     let mut all = Vec::new(alloc);
     add_keys(doc, path.components(), true, &mut all)?;
     distinct_keys(alloc, &all)
+}
+
+/// The keys in their order, equal ones too, without a null for a field that is missing where the index is sparse. An index that
+/// sorts them finds equal ones side by side then, where `key_nodes` takes the square of their number to drop them. It fails for
+/// want of memory alone.
+pub fn all_key_nodes<N: Reading>(
+    alloc: Global,
+    doc: N,
+    path: &Path,
+    sparse: bool,
+) -> Result<Vec<Key<N>>, NoMemory>
+    ensures trees { IfOk result (λ ks. key_trees N.tree ks.items ≡ all_keys sparse (N.tree doc) (names_of path.now)) }
+    ensures distinct { IfOk result (λ ks. distinct (key_trees N.tree ks.items) ≡ indexed_keys sparse (N.tree doc) (names_of path.now)) }
+    ensures kept { IfOk result (λ ks. AreKeysOf N.source (N.source doc) ks.items) }
+{
+    let mut all = Vec::new(alloc);
+    add_keys(doc, path.components(), sparse, &mut all)?;
+    Ok(all)
 }
 
 /// The keys in memory. It fails for want of memory alone.

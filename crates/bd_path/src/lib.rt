@@ -37,7 +37,7 @@ pub use dir::Dir;
 pub use earliest::{compare_in, sort_key, sort_key_node};
 pub use ends::{EndTest, any_end};
 pub use key::{Key, compare_keys, key_value};
-pub use key_list::{key_nodes, keys, sparse_keys};
+pub use key_list::{all_key_nodes, key_nodes, keys, sparse_keys};
 pub use laws::{keys_are_there, sorts_order_all_documents, sparse_keys_are_the_rest};
 pub use path::Path;
 pub use path_fault::PathFault;

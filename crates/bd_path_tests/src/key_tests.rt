@@ -1,8 +1,9 @@
 //! The keys of documents on paths: what a sort and an index have of them.
 use crate::samples::{elements, field, path_of, read_sample};
 use bd_path::{
-    Dir, Key, Path, compare_in, compare_keys, key_nodes, key_value, keys, keys_are_there, sort_key,
-    sort_key_node, sorts_order_all_documents, sparse_keys, sparse_keys_are_the_rest,
+    Dir, Key, Path, all_key_nodes, compare_in, compare_keys, key_nodes, key_value, keys,
+    keys_are_there, sort_key, sort_key_node, sorts_order_all_documents, sparse_keys,
+    sparse_keys_are_the_rest,
 };
 use bd_value::{NoMemory, Reading, Tree, Value};
 use std::alloc::Global;
@@ -28,6 +29,11 @@ const ROWS: &str =
 {"document":{"a":[[{"b":1}]]},"path":"a.b","keys":[null],"sparse":[],"least":null,"greatest":null}
 {"document":{"a":[{"b":1},{},{"b":[2,1]}]},"path":"a.b","keys":[1,null,2],"sparse":[1,2],"least":null,"greatest":2}
 {"document":{"a":[{"b":null},{}]},"path":"a.b","keys":[null],"sparse":[null],"least":null,"greatest":null}
+"#;
+
+/// Documents and paths, and their keys with equal ones: those of an index, and those of a sparse index.
+const REPEATED: &str = r#"{"document":{"a":[5,7,5]},"path":"a","keys":[5,7,5],"sparse":[5,7,5]}
+{"document":{"a":[{"b":1},{},{"b":[2,1]},{}]},"path":"a.b","keys":[1,null,2,1,null],"sparse":[1,2,1]}
 "#;
 
 /// Whether the key is the value.
@@ -118,6 +124,29 @@ fn keeps_row<N: Reading>(
     let path = path_of(rt, alloc, row);
     assert!(rt; has_keys(rt, alloc, row, &path)?, "{text}");
     assert!(rt; has_sort_keys(rt, alloc, row, &path)?, "{text}");
+    Ok(())
+}
+
+/// Whether the document of a row has its keys with equal ones.
+fn has_all_keys<N: Reading>(rt: &impl Abort, alloc: Global, row: N) -> Result<bool, NoMemory> {
+    let path = path_of(rt, alloc, row);
+    let document = field(rt, row, "document");
+    let nodes = all_key_nodes(alloc, document, &path, false)?;
+    let sparse = all_key_nodes(alloc, document, &path, true)?;
+    Ok(
+        are_keys(rt, alloc, &nodes, field(rt, row, "keys"))?
+            && are_keys(rt, alloc, &sparse, field(rt, row, "sparse"))?,
+    )
+}
+
+#[test]
+fn gives_equal_keys(rt: HostRuntime) -> Result<(), Fail> {
+    let alloc = rt.alloc();
+    for text in REPEATED.lines() {
+        let row = read_sample(&rt, alloc, text);
+        assert!(rt; has_all_keys(&rt, alloc, row.tree())?, "{text}");
+        assert!(rt; has_all_keys(&rt, alloc, row.view(&rt, alloc))?, "{text}");
+    }
     Ok(())
 }
 

@@ -5,3 +5,4 @@ pub mod ShortLemmas
 pub mod ElementsLemmas
 pub mod ContentsLemmas
 pub mod SoundLemmas
+pub mod AtLemmas

@@ -1,3 +1,4 @@
+pub mod At
 pub mod Contents
 pub mod ValueAt
 pub mod Scalars

@@ -16,9 +16,11 @@
 //! - `raw_parts`: numbers, names, texts and scalars at the front of bytes, read without a check.
 //! - `contents`: what a value holds.
 //! - `elements`: elements counted, taken by their index, and found by their name.
+//! - `at`: `At`, where a value stands in its bytes: `specs/At.antt`.
 //! - `views`: what is asked of a document and of a value, and their copies in memory.
 #![tactic(auto)]
 
+mod at;
 mod contents;
 mod element;
 mod elements;
@@ -26,5 +28,6 @@ mod raw;
 pub mod raw_parts;
 mod views;
 
+pub use at::At;
 pub use element::{ElementType, Holder, element_type, type_byte};
 pub use raw::{Elements, RawDoc, RawValue};

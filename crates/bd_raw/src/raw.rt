@@ -18,6 +18,7 @@ pub struct RawValue<'a> {
     pub(crate) start: usize,
     pub(crate) kind: Kind,
     ghost inside: { start ≤ length bytes.now },
+    ghost short: { length bytes.now ≤ 4294967295 },
     ghost sound: { Sound kind (drop start bytes.now) } by { Sound-prop kind (drop start bytes.now) },
 }
 
@@ -27,6 +28,7 @@ pub struct RawDoc<'a> {
     pub(crate) bytes: &'a [u8],
     pub(crate) start: usize,
     ghost inside: { start ≤ length bytes.now },
+    ghost short: { length bytes.now ≤ 4294967295 },
     ghost sound: { Sound kinds.Doc (drop start bytes.now) } by { Sound-prop kinds.Doc (drop start bytes.now) },
 }
 
@@ -35,6 +37,7 @@ pub struct RawDoc<'a> {
 pub struct Elements<'a> {
     pub(crate) bytes: &'a [u8],
     pub(crate) at: usize,
+    ghost short: { length bytes.now ≤ 4294967295 },
     ghost left: { Left (drop at bytes.now) } by { Left-prop (drop at bytes.now) },
 }
 
@@ -50,6 +53,7 @@ impl<'a> RawDoc<'a> {
 
     /// The document that stands at that place of the bytes, which are known to spell one there.
     pub fn at(bytes: &'a [u8], start: usize) -> RawDoc<'a>
+        requires short { length bytes.now ≤ 4294967295 }
         requires inside { start ≤ length bytes.now }
         requires sound { Sound kinds.Doc (drop start bytes.now) }
         ensures stands { (sound : Sound kinds.Doc (drop start bytes.now)) → stands result.sound ≡ stands sound }

@@ -8,13 +8,13 @@ use Rattle.bd_raw.proofs.ContentsLemmas as v
 use Rattle.bd_raw.proofs.raw.RawValue.contents.Goals as goal
 
 pub invariant_of-result : goal.invariant_of-result
-invariant_of-result c = record { left = v.document_left c.args.self.bytes.now c.args.self.start c.args.self.kind c.args.self.sound c.in-Doc.is }
+invariant_of-result c = record { short = c.args.self.short; left = v.document_left c.args.self.bytes.now c.args.self.start c.args.self.kind c.args.self.sound c.in-Doc.is }
 
 pub returns-in-Doc-clause-holds : goal.returns-in-Doc-clause-holds
 returns-in-Doc-clause-holds c = v.document_is c.args.self.bytes.now c.args.self.start c.args.self.kind c.args.self.sound c.in-Doc.is _
 
 pub invariant_of-result-in-Array : goal.invariant_of-result-in-Array
-invariant_of-result-in-Array c = record { left = v.array_left c.args.self.bytes.now c.args.self.start c.args.self.kind c.args.self.sound c.in-Array.is }
+invariant_of-result-in-Array c = record { short = c.args.self.short; left = v.array_left c.args.self.bytes.now c.args.self.start c.args.self.kind c.args.self.sound c.in-Array.is }
 
 pub returns-in-Array-clause-holds : goal.returns-in-Array-clause-holds
 returns-in-Array-clause-holds c = v.array_is c.args.self.bytes.now c.args.self.start c.args.self.kind c.args.self.sound c.in-Array.is _
@@ -42,7 +42,7 @@ pub invariant_of-scope : goal.invariant_of-scope
 invariant_of-scope c =
     let after : c.split_at-in-CodeScope.result.1.now ≡ drop (c.args.self.start + 4) c.args.self.bytes.now = c.split_at-in-CodeScope.ensures.back ∙ ap (drop 4) c.split_at.ensures.back ∙ drop-drop 4 c.args.self.start c.args.self.bytes.now in
     let n = c.number.ensures ∙ ap number_of after in
-    record { inside = v.scope_inside c.args.self.bytes.now c.args.self.start c.args.self.kind c.args.self.sound c.in-CodeScope.is c.number.result n; sound = v.scope_sound c.args.self.bytes.now c.args.self.start c.args.self.kind c.args.self.sound c.in-CodeScope.is c.number.result n }
+    record { short = c.args.self.short; inside = v.scope_inside c.args.self.bytes.now c.args.self.start c.args.self.kind c.args.self.sound c.in-CodeScope.is c.number.result n; sound = v.scope_sound c.args.self.bytes.now c.args.self.start c.args.self.kind c.args.self.sound c.in-CodeScope.is c.number.result n }
 
 pub returns-in-CodeScope-clause-holds : goal.returns-in-CodeScope-clause-holds
 returns-in-CodeScope-clause-holds c =
