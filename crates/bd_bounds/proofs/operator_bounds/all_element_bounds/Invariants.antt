@@ -1,0 +1,12 @@
+use Rattle.std.proofs.Common.{◌≡◌, false, drop, map}
+use Rattle.bd_query.specs.Filter.{operators_from}
+use Rattle.bd_query.specs.FilterView.{operator_tree}
+use Rattle.bd_bounds.specs.Bounds.{all_element_bounds, conjunction}
+use Rattle.bd_bounds.specs.BoundsView.{parts_bounds}
+use Rattle.bd_bounds.proofs.operator_bounds.all_element_bounds.Given as goal
+
+-- the bounds so far, and those of the operators that are left
+abbrev pub invariant-loop-operator : goal.invariant-loop-operator
+invariant-loop-operator l =
+    conjunction false (parts_bounds l.parts.items) (all_element_bounds (operators_from (map operator_tree (drop l.operator-index l.operators))))
+    ≡ all_element_bounds (operators_from (map operator_tree l.operators))

@@ -1,0 +1,4 @@
+pub mod Bounds
+pub mod BoundsView
+pub mod Cut
+pub mod Laws
