@@ -6,7 +6,7 @@ use Rattle.std.proofs.lemmas.Slice.Eq.{bytes_eq-Decides}
 use Rattle.std.proofs.lemmas.List.{drop_min, length-take, get_or-take, get_or_default, take-append-drop}
 use Rattle.bd_answer.specs.Answer.{Asked, answer, batches, is_empty, rest}
 use Rattle.bd_answer.specs.AnswerLaws.{IsMarkAfter}
-use Rattle.bd_answer.specs.Session.{Call, GivenBatch, MarkedToken, OpenCursor, Query, State, batch_of, cursor_of, find_call, foreign_token, greatest_size, has_index, is_full, kill_call, most_given, moved, next_call, next_cursors, no_index, open_reply, open_state, opened, reply, resume_call, state_after, token_after, token_place, too_many_cursors, with_cursor, with_open, without}
+use Rattle.bd_answer.specs.Session.{Call, GivenBatch, MarkedToken, OpenCursor, Query, State, batch_of, cursor_of, drop_call, explain_call, find_call, foreign_token, greatest_size, has_index, is_full, kill_call, make_call, most_given, moved, next_call, next_cursors, no_index, open_reply, open_state, opened, reply, resume_call, state_after, token_after, token_place, too_many_cursors, with_cursor, with_open, without}
 use Rattle.bd_answer.specs.SessionLaws.{FindGivesTheAnswer, GivesInTurn, IsFair, ResumeGivesTheRest, TokenLeaves, TokensFollow, batch_to, batches_to, given_places, new_state, replies, sizes_to, state_after_all}
 use Rattle.bd_answer.proofs.RestLemmas.{rest_of_answer, rest_of_rest}
 
@@ -80,7 +80,7 @@ pub data Effect (id : ℕ) (s : State) (c : OpenCursor) (call : Call) : Type 0 w
   ended : batch_to id call (reply s call) ≡ [] → cursor_of id (state_after s call).cursors ≡ None → ((cs : List Call) → sizes_to id (call ∷ cs) ≡ []) → Effect id s c call
 
 opening : (id : ℕ) (s : State) (hint : Option (List ℕ)) (q : List ℕ) (t : Option MarkedToken) (ps : List ℕ) → id < s.next_id → cursor_of id (open_state s hint q t ps).cursors ≡ cursor_of id s.cursors
-opening id s hint q t ps l = go (has_index s.paths hint) (is_full s)
+opening id s hint q t ps l = go (has_index s.indexes hint) (is_full s)
   where
     go : (a b : Bool) → cursor_of id (cond a (cond b s (with_open s q t ps)) s).cursors ≡ cursor_of id s.cursors
     go true true = refl
@@ -135,6 +135,9 @@ effect id s c (kill_call i) l h = go (i == id) refl
     go : (b : Bool) → (i == id) ≡ b → Effect id s c (kill_call i)
     go true e = subst (λ j. Effect id s c (kill_call j)) (sym (eqb-true i id e)) (ended refl (without_it id s.cursors) (λ cs. rw (eq-eqb id id refl) refl))
     go false e = kept refl (without_other id i s.cursors (eqb-false i id e) ∙ h) (λ cs. rw e refl)
+effect id s c (make_call i counts) l h = kept refl h (λ cs. refl)
+effect id s c (drop_call path) l h = kept refl h (λ cs. refl)
+effect id s c (explain_call hint explanation) l h = kept refl h (λ cs. refl)
 
 -- a call leaves a cursor that is not there
 absent_next : (id i n : ℕ) (s : State) → cursor_of id s.cursors ≡ None → (batch_to id (next_call i n) (reply s (next_call i n)) ≡ []) × (cursor_of id (state_after s (next_call i n)).cursors ≡ None)
@@ -159,9 +162,12 @@ absent id s (find_call q hint) l h = (refl, opening id s hint q.digest None (ans
 absent id s (resume_call q hint t) l h = (refl, resuming id s q hint t l ∙ h)
 absent id s (next_call i n) l h = absent_next id i n s h
 absent id s (kill_call i) l h = absent_kill id i s h
+absent id s (make_call i counts) l h = (refl, h)
+absent id s (drop_call path) l h = (refl, h)
+absent id s (explain_call hint explanation) l h = (refl, h)
 
 opening_grows : (s : State) (hint : Option (List ℕ)) (q : List ℕ) (t : Option MarkedToken) (ps : List ℕ) → s.next_id ≤ (open_state s hint q t ps).next_id
-opening_grows s hint q t ps = go (has_index s.paths hint) (is_full s)
+opening_grows s hint q t ps = go (has_index s.indexes hint) (is_full s)
   where
     go : (a b : Bool) → s.next_id ≤ (cond a (cond b s (with_open s q t ps)) s).next_id
     go true true = omega arith
@@ -178,6 +184,9 @@ ids_grow s (resume_call q hint t) = go (bytes_eq t.digest q.digest) (nat_lt t.ma
     go false b = omega arith
 ids_grow s (next_call i n) = omega arith
 ids_grow s (kill_call i) = omega arith
+ids_grow s (make_call i counts) = omega arith
+ids_grow s (drop_call path) = omega arith
+ids_grow s (explain_call hint explanation) = omega arith
 
 absent_run : (id : ℕ) (s : State) (calls : List Call) → id < s.next_id → cursor_of id s.cursors ≡ None → batches_to id calls (replies s calls) ≡ []
 absent_run id s [] l h = refl
@@ -287,7 +296,7 @@ abbrev AllBelow : ℕ → List OpenCursor → Type 0
 AllBelow n cs = (id : ℕ) → n ≤ id → cursor_of id cs ≡ None
 
 below_opening : (s : State) (hint : Option (List ℕ)) (q : List ℕ) (t : Option MarkedToken) (ps : List ℕ) → AllBelow s.next_id s.cursors → AllBelow (open_state s hint q t ps).next_id (open_state s hint q t ps).cursors
-below_opening s hint q t ps h id = go (has_index s.paths hint) (is_full s)
+below_opening s hint q t ps h id = go (has_index s.indexes hint) (is_full s)
   where
     go : (a b : Bool) → (cond a (cond b s (with_open s q t ps)) s).next_id ≤ id → cursor_of id (cond a (cond b s (with_open s q t ps)) s).cursors ≡ None
     go true true l = h id l
@@ -304,6 +313,9 @@ below_after s (resume_call q hint t) h = go (bytes_eq t.digest q.digest) (nat_lt
     go false b = h
 below_after s (next_call i n) h = λ id l. (absent_next id i n s (h id l)).1
 below_after s (kill_call i) h = λ id l. (absent_kill id i s (h id l)).1
+below_after s (make_call i counts) h = h
+below_after s (drop_call path) h = h
+below_after s (explain_call hint explanation) h = h
 
 below_run : (s : State) (cs : List Call) → AllBelow s.next_id s.cursors → AllBelow (state_after_all s cs).next_id (state_after_all s cs).cursors
 below_run s [] h = h
@@ -319,7 +331,7 @@ record Opened (s t : State) (id : ℕ) (c : OpenCursor) : Type 0 where
   there : cursor_of id t.cursors ≡ Some c
 
 opened_at : (s : State) (hint : Option (List ℕ)) (q : List ℕ) (t : Option MarkedToken) (ps : List ℕ) (id : ℕ) → AllBelow s.next_id s.cursors → open_reply s hint ≡ opened id → Opened s (open_state s hint q t ps) id (record { id = id; digest = q; token = t; left = ps })
-opened_at s hint q t ps id h = go (has_index s.paths hint) (is_full s)
+opened_at s hint q t ps id h = go (has_index s.indexes hint) (is_full s)
   where
     go : (a b : Bool) → cond a (cond b too_many_cursors (opened s.next_id)) no_index ≡ opened id → Opened s (cond a (cond b s (with_open s q t ps)) s) id (record { id = id; digest = q; token = t; left = ps })
     go true true e = let g : ⊥ = cc in absurd g

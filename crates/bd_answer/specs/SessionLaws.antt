@@ -2,11 +2,11 @@
 use Rattle.std.specs.Prelude.{ℕ, ◌==◌, ◌≤◌, ◌≡◌, nat_lt, List, [], ◌∷◌, ◌++◌, drop, map, length, Option, Some, None, if◌then◌else◌}
 use Rattle.std.specs.Cmp.{IsTotalOrder}
 use Rattle.bd_answer.specs.Answer.{answer, batches, rest}
-use Rattle.bd_answer.specs.Session.{Call, GivenBatch, MarkedToken, Query, Reply, State, find_call, gave, greatest_size, kill_call, most_given, next_call, opened, reply, resume_call, state_after}
+use Rattle.bd_answer.specs.Session.{Call, GivenBatch, MarkedToken, Query, Reply, State, drop_call, explain_call, find_call, gave, greatest_size, kill_call, make_call, most_given, next_call, opened, reply, resume_call, state_after}
 
 -- a session to begin with
 abbrev pub new_state : State
-new_state = record { paths = []; next_id = 1; cursors = [] }
+new_state = record { indexes = []; next_id = 1; cursors = [] }
 
 abbrev pub state_after_all : State → List Call → State
 state_after_all s [] = s
@@ -24,6 +24,9 @@ sizes_to id (resume_call q hint t ∷ cs) = sizes_to id cs
 sizes_to id (next_call i n ∷ cs) =
     if i == id then (if nat_lt greatest_size n then sizes_to id cs else n ∷ sizes_to id cs) else sizes_to id cs
 sizes_to id (kill_call i ∷ cs) = if i == id then [] else sizes_to id cs
+sizes_to id (make_call i counts ∷ cs) = sizes_to id cs
+sizes_to id (drop_call path ∷ cs) = sizes_to id cs
+sizes_to id (explain_call hint explanation ∷ cs) = sizes_to id cs
 
 -- the batches that the replies give to a cursor
 abbrev pub batch_in : Reply → List GivenBatch
