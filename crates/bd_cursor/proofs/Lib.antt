@@ -1,4 +1,5 @@
 pub mod AheadLemmas
+pub mod FrontOrderLemmas
 pub mod ListedLemmas
 pub mod SessionLemmas
 pub mod SortTableLemmas

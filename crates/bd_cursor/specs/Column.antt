@@ -5,18 +5,11 @@ use Rattle.std.specs.declared.cmp.Ordering.{Ordering}
 use Rattle.std.specs.declared.cmp.Ordering.TheVariants.{Equal}
 use Rattle.bd_value.specs.Tree as trees
 use Rattle.bd_value.specs.Tree.{Doc, Tree, leaf}
-use Rattle.bd_raw.specs.Sound.{stands}
-use Rattle.bd_raw.specs.declared.raw.RawValue.{RawValue}
 use Rattle.bd_path.specs.Earliest.{SortPath, dir_cmp, sort_key}
-use Rattle.bd_path.specs.Key.{key_tree}
 use Rattle.bd_path.specs.declared.dir.Dir.{Dir}
-use Rattle.bd_path.specs.declared.key.Key.{Key}
 use Rattle.bd_cursor.specs.Asked.{document_at}
+use Rattle.bd_cursor.specs.Front.{kept_key}
 use Rattle.bd_cursor.specs.declared.column.Column.{Column}
-
--- what a key that is kept as a node stands for
-abbrev pub kept_key : Key RawValue → Tree
-kept_key k = key_tree (λ v. stands v.sound) k
 
 -- the keys of documents on one path of a sort
 pub record KeyColumn : Type 0 where

@@ -53,7 +53,7 @@ open_cursor dump c = record {
 -- there are no indexes yet
 abbrev pub state_of : Session → State
 state_of s = record {
-  paths = [];
+  indexes = [];
   next_id = s.next_id;
   cursors = map (open_cursor s.documents.dump) s.cursors.items;
 }

@@ -1,13 +1,15 @@
 //! The sort keys of some documents, found once and kept side by side.
 
-ghost use Rattle.std.specs.Prelude.{◌≡◌, ◌<◌, All, IfOk, length};
+ghost use Rattle.std.specs.Prelude.{◌≡◌, ◌<◌, length, map};
+ghost use Rattle.bd_value.specs.Order.{cmp};
+ghost use Rattle.bd_value.specs.Tree.{Tree};
 ghost use Rattle.bd_bson.specs.Collection.{documents};
 ghost use Rattle.bd_path.specs.Earliest.{dir_cmp, sort_key};
 ghost use Rattle.bd_path.specs.PathNames.{names_of};
-ghost use Rattle.bd_path.specs.Sort.{sort_paths};
 ghost use Rattle.bd_cursor.specs.Asked.{document_at};
-ghost use Rattle.bd_cursor.specs.Column.{column_of, columns_cmp, columns_in, kept_key, key_at, key_columns, path_keys};
+ghost use Rattle.bd_cursor.specs.Front.{front_of, kept_key};
 
+use crate::front::{Front, compare_fronts};
 use bd_bson::Dump;
 use bd_path::{Dir, Key, Path, compare_in, sort_key_node};
 use bd_raw::RawValue;
@@ -20,11 +22,17 @@ use std::cmp::Ordering;
 pub(crate) struct Column<'d> {
     pub dir: Dir,
     pub keys: Vec<Key<RawValue<'d>>>,
+    /// The fronts of the keys, which lie close together: a text is read only where two fronts do not tell the order.
+    pub fronts: Vec<Front>,
+    ghost fronted: { fronts.items ≡ map (λ k. front_of (kept_key k)) keys.items },
 }
 
 impl<'d> Column<'d> {
+    ghost use Rattle.std.specs.Prelude.{All, IfOk};
+    ghost use Rattle.bd_cursor.specs.Column.{column_of, key_at, path_keys};
+
     /// The keys of the documents at these places.
-    fn new(
+    pub(crate) fn new(
         alloc: Global,
         dump: &'d Dump,
         path: &Path,
@@ -37,10 +45,13 @@ impl<'d> Column<'d> {
             ≡ path_keys (documents dump.now) places.now (record { path = names_of path.now; dir = dir })) }
     {
         let mut keys = Vec::with_capacity(alloc, places.len())?;
+        let mut fronts = Vec::with_capacity(alloc, places.len())?;
         for place in places {
-            keys.push(key_of(dump, *place, path, dir))?;
+            let key = key_of(dump, *place, path, dir);
+            keys.push(key)?;
+            fronts.push(Front::of(key))?;
         }
-        Ok(Column { dir, keys })
+        Ok(Column { dir, keys, fronts })
     }
 
     fn key(&self, slot: u32) -> Key<RawValue<'d>>
@@ -52,10 +63,32 @@ impl<'d> Column<'d> {
         }
     }
 
-    fn compare(&self, a: u32, b: u32) -> Ordering
+    fn front(&self, slot: u32) -> Front
+        ensures { result ≡ front_of (key_at (column_of self.now).keys slot) }
+    {
+        match self.fronts.get(slot as usize) {
+            Some(front) => *front,
+            None => Front::none(),
+        }
+    }
+
+    pub(crate) fn compare(&self, a: u32, b: u32) -> Ordering
         ensures { result ≡ dir_cmp self.now.dir (key_at (column_of self.now).keys a) (key_at (column_of self.now).keys b) }
     {
-        compare_in(self.dir, self.key(a), self.key(b))
+        match compare_fronts(self.front(a), self.front(b)) {
+            Some(order) => in_direction(self.dir, order),
+            None => compare_in(self.dir, self.key(a), self.key(b)),
+        }
+    }
+}
+
+/// The order of two values in a direction.
+fn in_direction(dir: Dir, order: Ordering) -> Ordering
+    ensures { (x y : Tree) → order ≡ cmp x y → result ≡ dir_cmp dir x y }
+{
+    match dir {
+        Dir::Up => order,
+        Dir::Down => order.reverse(),
     }
 }
 
@@ -65,34 +98,4 @@ fn key_of<'d>(dump: &'d Dump, place: u32, path: &Path, dir: Dir) -> Key<RawValue
     ensures { kept_key result ≡ sort_key dir (document_at (documents dump.now) place) (names_of path.now) }
 {
     sort_key_node(dump.document(place).value(), path, dir)
-}
-
-/// The columns of the paths of a sort.
-pub(crate) fn columns_of<'d>(
-    alloc: Global,
-    dump: &'d Dump,
-    sort: &[(Path, Dir)],
-    places: &[u32],
-) -> Result<Vec<Column<'d>>, NoMemory>
-    requires { All (λ p. p < length (documents dump.now)) places.now }
-    ensures { IfOk result (λ v. columns_in v.items ≡ key_columns (documents dump.now) places.now (sort_paths sort.now)) }
-{
-    let mut columns = Vec::with_capacity(alloc, sort.len())?;
-    for (path, dir) in sort {
-        columns.push(Column::new(alloc, dump, path, *dir, places)?)?;
-    }
-    Ok(columns)
-}
-
-/// The first column whose keys differ decides.
-pub(crate) fn compare_columns(columns: &[Column<'_>], a: u32, b: u32) -> Ordering
-    ensures { result ≡ columns_cmp (columns_in columns.now) a b }
-{
-    for column in columns {
-        let order = column.compare(a, b);
-        if order != Ordering::Equal {
-            return order;
-        }
-    }
-    Ordering::Equal
 }

@@ -17,16 +17,17 @@
 //! - `session`: `Session`, its calls and `Choice`: `specs/SessionView.antt`; `specs/Asked.antt`, what a request asks of a dump.
 //! - `cursor`: an open cursor, and `Batch`; `digested_dump`: the digest of a dump, taken once.
 //! - `left`: the places that a cursor has left: `ahead`, without a sort, and `listed`, with one; `matching`, which match.
-//! - `sorted_places`: all places in the order of a sort: `specs/SortedPlaces.antt`; `sort_table` and `column`, the sort keys that
-//!   are kept for it: `specs/SortTable.antt`, `specs/Column.antt`.
-//!
-//! Nothing of the program uses sessions yet.
+//! - `sorted_places`: all places in the order of a sort: `specs/SortedPlaces.antt`; `sort_table`, `columns` and `column`, the sort
+//!   keys that are kept for it: `specs/SortTable.antt`, `specs/Column.antt`; `front`, by which most texts among them compare:
+//!   `specs/Front.antt`.
 #![tactic(auto)]
 
 mod ahead;
 mod column;
+mod columns;
 mod cursor;
 mod digested_dump;
+mod front;
 mod left;
 mod listed;
 mod matching;

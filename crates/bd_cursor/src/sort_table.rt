@@ -6,7 +6,8 @@ ghost use Rattle.bd_answer.specs.Answer.{before};
 ghost use Rattle.bd_bson.specs.Collection.{documents};
 ghost use Rattle.bd_path.specs.Sort.{sort_paths};
 
-use crate::column::{Column, columns_of, compare_columns};
+use crate::column::Column;
+use crate::columns::{columns_of, compare_columns};
 use bd_bson::Dump;
 use bd_path::{Dir, Path};
 use bd_value::NoMemory;
