@@ -1,10 +1,9 @@
 -- The lines of documents that were found, and the ends of a run of `find`.
-pub mod AnswerLemmas
-pub mod OrderLemmas
-pub mod UniqueLemmas
-pub mod StepLemmas
+pub mod AskingLemmas
+pub mod BatchLemmas
 pub mod MessageLemmas
-use Rattle.std.proofs.Common.{◌≡◌, ◌≤◌, ◌<◌, ◌+◌, ◌-◌, ℕ, List, [], ◌∷◌, ◌++◌, length, get_or, take, drop, Option, Some, None, refl, sym, ap, ◌∙◌, subst, append_assoc, append-nil, arith, inl, inr, zero, suc, Bool, true, false, cond, ◌⊎◌, codes, Ok}
+pub mod UniqueLemmas
+use Rattle.std.proofs.Common.{◌≡◌, ◌≤◌, ◌<◌, ◌+◌, ◌-◌, ℕ, List, [], ◌∷◌, ◌++◌, length, get_or, take, drop, Option, Some, None, refl, sym, ap, ◌∙◌, subst, append_assoc, append-nil, arith, inl, inr, zero, suc, Bool, true, false, cond, ◌⊎◌, codes, Ok, Err}
 use Rattle.std.specs.Prelude.{slice_get, MatchOption}
 use Rattle.std.specs.List.{All}
 use Rattle.std.proofs.lemmas.List.{take-append-drop, take_more, take_all, drop_all}
@@ -20,16 +19,13 @@ use Rattle.bd_check.specs.Fault.{Fault}
 use Rattle.bd_check.specs.Dump.{IsWalk}
 use Rattle.bd_cli.specs.declared.status.Status.{Status}
 use Rattle.bd_cli.specs.declared.status.Status.TheVariants.{Failed}
-use Rattle.bd_cli.specs.Find.Answer.{matching, answer, each, is_empty}
-use Rattle.bd_query.specs.Filter.{Filter}
-use Rattle.bd_cli.specs.Find.Query.{is_answer}
-use Rattle.bd_cli.specs.Find.Step.{ahead, IsStep}
-use Rattle.bd_cli.specs.declared.find.step.Step.{Step}
-use Rattle.bd_cli.proofs.FindLemmas.OrderLemmas.{In, in_at, take_in}
-use Rattle.bd_cli.proofs.FindLemmas.AnswerLemmas.{answer_matching, matching_in}
-use Rattle.bd_cli.proofs.FindLemmas.StepLemmas.{after_step, end_is, from_start}
+use Rattle.bd_request.specs.declared.refused.Refused.{Refused}
+use Rattle.bd_request.specs.declared.refused.Refused.TheVariants as reasons
+use Rattle.bd_cli.specs.Find.Asking.{Wanted, refused_text}
+use Rattle.bd_cli.specs.Find.Batch.{places_from, query_for}
+use Rattle.bd_cli.proofs.FindLemmas.UniqueLemmas.{bytes_show, dump_shows}
 use Rattle.bd_cli.proofs.OutputLemmas.LinesLemmas.{lines-append}
-use Rattle.bd_cli.specs.Find.{IsRefusal, IsRefusedOr, ReadsDump, documents_at, first_batch, left_over, shown_found}
+use Rattle.bd_cli.specs.Find.{IsShownOfBytes, IsShownOfDump, documents_at}
 use Rattle.bd_cli.specs.Outcome.{PrintsOrStarves, TellsMessage}
 use Rattle.bd_cli.specs.Shown.{Shown, error_line, fault_text, lines, shown_refusal}
 use Rattle.bd_device.specs.Devices.{TakesFront, TakesText, Writer, between}
@@ -56,64 +52,7 @@ module _ (ds : List Doc) (ps : List ℕ) where
       ap (λ xs. lines (documents_at ds xs)) grown ∙ ap lines (filter_map-append (slice_get ds) (take i ps) (p ∷ []))
       ∙ lines-append (documents_at ds (take i ps)) (documents_at ds (p ∷ [])) ∙ ap (λ xs. lines_to ds ps i ++ xs) (at_place p d is)
 
--- ---- the first batch
-
-matching_length : (matches : Doc → Bool) (p : ℕ) (ds : List Doc) → length (matching matches p ds) ≤ length ds
-matching_length matches p [] = omega arith
-matching_length matches p (d ∷ ds) = go (matches d) (matching_length matches (p + 1) ds)
-  where
-    go : (b : Bool) → length (matching matches (p + 1) ds) ≤ length ds → length (cond b (p ∷ matching matches (p + 1) ds) (matching matches (p + 1) ds)) ≤ length (d ∷ ds)
-    go true h = omega arith
-    go false h = omega arith
-
-there : (ds : List Doc) (p : ℕ) (d : Doc) → slice_get ds p ≡ Some d → p < length ds
-there [] p d is = absurd cc
-there (e ∷ ds) zero d is = omega arith
-there (e ∷ ds) (suc p) d is = omega (arith, there ds p d is)
-
--- how many places a size asks for, of lists that are not too long
-abbrev pub IsMost : Option ℕ → ℕ → Type 0
-IsMost size most = MatchOption size (most ≡ 18446744073709551615) (λ n. most ≡ n)
-
-module _ (matches : Doc → Bool) (ds : List Doc) (few : length ds ≤ 4294967295) (most : ℕ) (step : Step) (is : IsStep (answer (each matches) ds) 0 most step) where
-  abbrev all : List ℕ
-  all = answer (each matches) ds
-
-  short : length all ≤ 4294967295
-  short = omega (arith, few, matching_length matches 0 ds, ap (λ (x : List ℕ). length x) (answer_matching matches ds))
-
-  places_taken : step.places.items ≡ take most all
-  places_taken = is.places ∙ ap (take most) (from_start matches ds)
-
-  end_taken : step.end ≡ is_empty (drop most all)
-  end_taken = end_is step.end (ahead step.after all) (drop most all) is.end (after_step matches ds 0 most step is ∙ ap (drop most) (from_start matches ds))
-
-  pub places_are : (size : Option ℕ) → IsMost size most → step.places.items ≡ first_batch size all
-  places_are None m = places_taken ∙ take_all most all (omega (arith, short))
-  places_are (Some n) m = places_taken ∙ ap (λ k. take k all) m
-
-  pub end_is_told : (size : Option ℕ) → IsMost size most → step.end ≡ is_empty (left_over size all)
-  end_is_told None m = end_taken ∙ ap is_empty (drop_all most all (omega (arith, short)))
-  end_is_told (Some n) m = end_taken ∙ ap (λ k. is_empty (drop k all)) m
-
-  pub places_inside : (xs : List ℕ) → xs ≡ step.places.items → All (λ p. p < length ds) xs
-  places_inside xs same k d lt =
-      let i : In (get_or xs k d) (take most (matching matches 0 ds)) = subst (λ (ys : List ℕ). In (get_or xs k d) ys) (same ∙ places_taken ∙ ap (take most) (answer_matching matches ds)) (in_at xs k d lt) in
-      let m = (matching_in matches 0 ds (get_or xs k d) (take_in most (matching matches 0 ds) (get_or xs k d) i)).1 in
-      let z : get_or xs k d - 0 ≡ get_or xs k d = omega arith in
-      subst (λ p. p < length ds) z (there ds (get_or xs k d - 0) m.0 m.1)
-
 -- ---- the ends of a run
-
--- what is shown of the bytes of an input
-abbrev pub IsShownOfBytes : Filter → Option ℕ → List ℕ → Shown → Type 0
-IsShownOfBytes filter size bytes shown =
-    IsRefusedOr (IsRefusal shown) (ReadsDump bytes) (λ ds. shown ≡ shown_found size ds (answer (each (is_answer filter)) ds))
-
-pub bytes_show : (filter : Filter) (size : Option ℕ) (bytes : List ℕ) (ds : List Doc) (end : Option Fault) → IsWalk ds end bytes
-    → (shown : Shown) × IsShownOfBytes filter size bytes shown
-bytes_show filter size bytes ds None walk = (shown_found size ds (answer (each (is_answer filter)) ds), inr (ds, walk, refl))
-bytes_show filter size bytes ds (Some f) walk = (shown_refusal (fault_text (length ds) f), inl (fault_text (length ds) f, (ds, f, walk, refl), refl))
 
 module _ (out_old out_new : Writer) (err_old err_new : Writer) (status : Status) where
   -- memory ran out before anything was written
@@ -133,12 +72,12 @@ module _ (out_old out_new : Writer) (err_old err_new : Writer) (status : Status)
   refusal_shown words (inr told) = nothing_shown (shown_refusal words) told
 
   -- what is shown of a dump with a fault
-  pub fault_shown : (filter : Filter) (size : Option ℕ) (bytes : List ℕ) (fault : declared.Fault) → length bytes ≤ 4294967295 → IsUnread bytes fault → ¬ (fault.kind ≡ kinds.NoMemory)
+  pub fault_shown : (w : Wanted) (bytes : List ℕ) (fault : declared.Fault) → length bytes ≤ 4294967295 → IsUnread bytes fault → ¬ (fault.kind ≡ kinds.NoMemory)
       → TellsMessage (between err_old err_new) (error_line (fault_text fault.document (fault_view fault))) Failed status ⊎ TellsMessage (between err_old err_new) (error_line (codes "no memory")) Failed status
-      → (shown : Shown) × IsShownOfBytes filter size bytes shown × PrintsOrStarves (between out_old out_old) (between err_old err_new) shown status
-  fault_shown filter size bytes fault le (inl long) other told = absurd (let more = long.more in omega arith)
-  fault_shown filter size bytes fault le (inr (_, inl want)) other told = absurd (other want.kind)
-  fault_shown filter size bytes fault le (inr (_, inr first)) other told =
+      → (shown : Shown) × IsShownOfBytes w bytes shown × PrintsOrStarves (between out_old out_old) (between err_old err_new) shown status
+  fault_shown w bytes fault le (inl long) other told = absurd (let more = long.more in omega arith)
+  fault_shown w bytes fault le (inr (_, inl want)) other told = absurd (other want.kind)
+  fault_shown w bytes fault le (inr (_, inr first)) other told =
       let words = fault_text (length first.before) (fault_view fault) in
       let line : error_line (fault_text fault.document (fault_view fault)) ≡ error_line words = ap (λ k. error_line (fault_text k (fault_view fault))) first.document in (
         shown_refusal words,
@@ -146,8 +85,23 @@ module _ (out_old out_new : Writer) (err_old err_new : Writer) (status : Status)
         refusal_shown words (subst (λ t. TellsMessage (between err_old err_new) t Failed status ⊎ TellsMessage (between err_old err_new) (error_line (codes "no memory")) Failed status) line told),
       )
 
-  pub starved_shown : (filter : Filter) (size : Option ℕ) (bytes : List ℕ) → (ds : List Doc) × (end : Option Fault) × IsWalk ds end bytes → TellsMessage (between err_old err_new) (error_line (codes "no memory")) Failed status
-      → (shown : Shown) × IsShownOfBytes filter size bytes shown × PrintsOrStarves (between out_old out_old) (between err_old err_new) shown status
-  starved_shown filter size bytes (ds, end, walk) told =
-      let shows = bytes_show filter size bytes ds end walk in
+  -- what is shown where no cursor was opened
+  pub refused_shown : (bytes : List ℕ) (ds : List Doc) (w : Wanted) (refused : Refused) → (refused ≡ reasons.NoMemory) ⊎ (places_from (query_for bytes ds w) w.token ≡ Err (refused_text refused))
+      → TellsMessage (between err_old err_new) (error_line (refused_text refused)) Failed status ⊎ TellsMessage (between err_old err_new) (error_line (codes "no memory")) Failed status
+      → (shown : Shown) × IsShownOfDump bytes ds w shown × PrintsOrStarves (between out_old out_old) (between err_old err_new) shown status
+  refused_shown bytes ds w refused (inl want) told =
+      let shows = dump_shows bytes ds w in
+      (shows.0, shows.1, nothing_shown shows.0 (either (rw want at told)))
+    where
+      either : TellsMessage (between err_old err_new) (error_line (codes "no memory")) Failed status ⊎ TellsMessage (between err_old err_new) (error_line (codes "no memory")) Failed status
+          → TellsMessage (between err_old err_new) (error_line (codes "no memory")) Failed status
+      either (inl t) = t
+      either (inr t) = t
+  refused_shown bytes ds w refused (inr led) told =
+      (shown_refusal (refused_text refused), inl (refused_text refused, sym led, refl), refusal_shown (refused_text refused) told)
+
+  pub starved_shown : (w : Wanted) (bytes : List ℕ) → (ds : List Doc) × (end : Option Fault) × IsWalk ds end bytes → TellsMessage (between err_old err_new) (error_line (codes "no memory")) Failed status
+      → (shown : Shown) × IsShownOfBytes w bytes shown × PrintsOrStarves (between out_old out_old) (between err_old err_new) shown status
+  starved_shown w bytes (ds, end, walk) told =
+      let shows = bytes_show w bytes ds end walk in
       (shows.0, shows.1, nothing_shown shows.0 told)

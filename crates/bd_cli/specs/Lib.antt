@@ -1,3 +1,4 @@
+pub mod Chain
 pub mod Check
 pub mod Dump
 pub mod Ending

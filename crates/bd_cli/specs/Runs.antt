@@ -1,6 +1,7 @@
 -- What a run did.
-use Rattle.std.specs.Prelude.{[], codes, option_map, string_bytes}
+use Rattle.std.specs.Prelude.{[], codes}
 use Rattle.bd_device.specs.Devices.{Over, Reader, Writer}
+use Rattle.bd_command_line.specs.FindWords.{find_words_of}
 use Rattle.bd_command_line.specs.declared.order.Order.{Order}
 use Rattle.bd_command_line.specs.declared.order.Order.TheVariants as orders
 use Rattle.bd_command_line.specs.declared.command_line.TheConstants.{USAGE}
@@ -10,7 +11,7 @@ use Rattle.bd_cli.specs.Check.{ChecksInput}
 use Rattle.bd_cli.specs.Dump.{DumpsInput}
 use Rattle.bd_cli.specs.Find.{FindsDocuments}
 use Rattle.bd_cli.specs.Pack.{PacksInput}
-use Rattle.bd_cli.specs.Find.Query.{IsNoQuery}
+use Rattle.bd_cli.specs.Find.Asking.{AsksNothing}
 use Rattle.bd_cli.specs.Shown.{Shown, error_line}
 use Rattle.bd_cli.specs.declared.status.Status.{Status}
 use Rattle.bd_cli.specs.declared.status.Status.TheVariants as statuses
@@ -20,15 +21,14 @@ abbrev pub CarriesOut : Order → Over Reader → Over Writer → Over Writer �
 CarriesOut (orders.Dump path) file out err status = DumpsInput file out err status
 CarriesOut (orders.Check path) file out err status = ChecksInput file out err status
 CarriesOut (orders.Pack path) file out err status = PacksInput file out err status
-CarriesOut (orders.Find path query size) file out err status =
-    FindsDocuments (option_map string_bytes query) size file out err status
+CarriesOut (orders.Find path options) file out err status = FindsDocuments (find_words_of options) file out err status
 
 -- the order is refused for its texts, whatever the file has
 abbrev pub ReadsNoFile : Order → Type 0
 ReadsNoFile (orders.Dump path) = ⊥
 ReadsNoFile (orders.Check path) = ⊥
 ReadsNoFile (orders.Pack path) = ⊥
-ReadsNoFile (orders.Find path query size) = IsNoQuery (option_map string_bytes query)
+ReadsNoFile (orders.Find path options) = AsksNothing (find_words_of options)
 
 -- what is shown of words that are no order
 abbrev pub shown_report : WordsFault → Shown

@@ -1,8 +1,9 @@
 //! Laws of the texts.
-ghost use Rattle.std.specs.Prelude.{◌≡◌, ◌<◌, ℕ, List, Option, None, Result, Ok, slice_index};
+ghost use Rattle.std.specs.Prelude.{◌≡◌, ◌<◌, ℕ, List, Option, None, Result, Ok, codes, slice_index};
 ghost use Rattle.bd_value.specs.Tree.{Doc};
 ghost use Rattle.bd_device.specs.declared.reading.ReadFault.{ReadFault};
-ghost use Rattle.bd_cli.specs.Find.Query.{ReadsQuery};
+ghost use Rattle.bd_command_line.specs.FindWords.{FindWords};
+ghost use Rattle.bd_cli.specs.Find.Asking.{ReadsText};
 ghost use Rattle.bd_cli.specs.declared.pack.packing.BadLine.{BadLine};
 ghost use Rattle.bd_cli.specs.Check.{IsShownByCheck};
 ghost use Rattle.bd_cli.specs.Dump.{IsShownByDump, ShowsFront};
@@ -11,19 +12,20 @@ ghost use Rattle.bd_cli.specs.Pack.{AreAlike, IsShownByPack, PacksLines, lines_o
 ghost use Rattle.bd_cli.specs.Shown.{Shown};
 
 /// One thing is shown of each input, and of each list of bytes there is something to show; so also for `check`, and for
-/// `find`, of each query and size of a batch. For `pack` and `find` it is one thing but for the kind and the place of the fault
-/// of a line, or of a query, that is no document.
+/// `find`, of each words. For `pack` and `find` it is one thing but for the kind and the place of the fault of a line, or of a
+/// query or a sort, that is no document.
 pub fn shows_one_thing()
     ensures one { (bytes : List ℕ) (fault : Option ReadFault) (shown other : Shown) → IsShownByDump bytes fault shown → IsShownByDump bytes fault other → shown ≡ other }
     ensures some { (bytes : List ℕ) → ((i : ℕ) → slice_index bytes i < 256) → (shown : Shown) × IsShownByDump bytes None shown }
     ensures judged_one { (bytes : List ℕ) (fault : Option ReadFault) (shown other : Shown) → IsShownByCheck bytes fault shown → IsShownByCheck bytes fault other → shown ≡ other }
     ensures judged_some { (bytes : List ℕ) → (shown : Shown) × IsShownByCheck bytes None shown }
-    ensures found_one { (query : Option (List ℕ)) (d : Doc) (size : Option ℕ) (input : Result (List ℕ) ReadFault) (shown other : Shown) →
-        ReadsQuery query (Ok d) → IsShownByFind query size input shown → IsShownByFind query size input other → shown ≡ other }
-    ensures found_alike { (query : Option (List ℕ)) (size : Option ℕ) (input : Result (List ℕ) ReadFault) (shown other : Shown) →
-        IsShownByFind query size input shown → IsShownByFind query size input other → (shown.out ≡ other.out) × (shown.status ≡ other.status) }
-    ensures found_some { (query : Option (List ℕ)) (size : Option ℕ) (bytes : List ℕ) → ((i : ℕ) → slice_index bytes i < 256) →
-        (shown : Shown) × IsShownByFind query size (Ok bytes) shown }
+    ensures found_one { (words : FindWords) (query sort : Doc) (input : Result (List ℕ) ReadFault) (shown other : Shown) →
+        ReadsText (codes "query") words.query (Ok query) → ReadsText (codes "sort") words.sort (Ok sort) →
+        IsShownByFind words input shown → IsShownByFind words input other → shown ≡ other }
+    ensures found_alike { (words : FindWords) (input : Result (List ℕ) ReadFault) (shown other : Shown) →
+        IsShownByFind words input shown → IsShownByFind words input other → (shown.out ≡ other.out) × (shown.status ≡ other.status) }
+    ensures found_some { (words : FindWords) (bytes : List ℕ) → ((i : ℕ) → slice_index bytes i < 256) →
+        (shown : Shown) × IsShownByFind words (Ok bytes) shown }
     ensures packed_one { (text : List ℕ) (ds es : List Doc) (bad other : Option BadLine) → PacksLines 1 (lines_of text) ds bad → PacksLines 1 (lines_of text) es other → (ds ≡ es) × AreAlike bad other }
     ensures packed_alike { (input : Result (List ℕ) ReadFault) (shown other : Shown) → IsShownByPack input shown → IsShownByPack input other → (shown.out ≡ other.out) × (shown.status ≡ other.status) }
     ensures packed_some { (text : List ℕ) → (shown : Shown) × IsShownByPack (Ok text) shown }

@@ -35,10 +35,7 @@ mod pack;
 mod runs;
 mod status;
 
-pub use bd_command_line::{Order, USAGE, WordsFault, parse_words};
-pub use find::{
-    Step, answers_are_ordered, batches_are_the_first, first_find, steps_give_the_answer,
-};
+pub use bd_command_line::{FindOptions, Order, USAGE, WordsFault, parse_words};
 pub use laws::{check_has_the_status_of_dump, dump_shows_a_front, shows_one_thing};
 pub use runs::{report, run};
 pub use status::Status;

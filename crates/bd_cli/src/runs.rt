@@ -16,8 +16,8 @@ use bd_command_line::{Order, USAGE, WordsFault};
 use bd_device::{Input, Output, write_all};
 use std::alloc::Global;
 
-/// Carries out an order, and gives the exit status: 0 where all was done, 1 after a fault of the input, of the query or of a
-/// device, or for want of memory.
+/// Carries out an order, and gives the exit status: 0 where all was done, 1 after a fault of the input, of a query, a sort
+/// or a token, or of a device, or for want of memory.
 ///
 /// The file that the order names is read from `file`, the commands of a session from `commands`, the results go to
 /// `out`, and what is told of the run to `err`. A device that fails is not tried again.
@@ -40,7 +40,7 @@ pub fn run<F: Input, C: Input, O: Output, E: Output>(
         Order::Dump { .. } => dump(alloc, file, out, err),
         Order::Check { .. } => check(alloc, file, out, err),
         Order::Pack { .. } => pack(alloc, file, out, err),
-        Order::Find { query, batch, .. } => find(alloc, query.as_deref(), *batch, file, out, err),
+        Order::Find { options, .. } => find(alloc, options, file, out, err),
     }
 }
 

@@ -9,8 +9,6 @@ mod devices;
 #[cfg(test)]
 mod examples;
 #[cfg(test)]
-mod find_tests;
-#[cfg(test)]
 mod run_tests;
 #[cfg(test)]
 mod words_tests;

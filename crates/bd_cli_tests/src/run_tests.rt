@@ -1,15 +1,18 @@
 //! Runs over devices in memory, with outcomes that were worked by hand.
 use crate::devices::{Run, ample, reads};
 use bd_cli::Status;
-use bd_command_line::Order;
+use bd_command_line::{FindOptions, Order};
 use bd_device::FailingWrite;
 use std::alloc::Global;
-use std::test::Fail;
 
 /// The document {"a":1}.
 const ONE: &[u8] = b"\x0c\0\0\0\x10a\0\x01\0\0\0\0";
 
 const ONE_LINE: &[u8] = b"{\"a\":{\"$numberInt\":\"1\"}}\n";
+
+/// The token was made by another program.
+const ONE_COUNT: &str =
+    "1 documents, end, token AQEAAAAAAAAAAAAAAFDfrHT7xyEvSkJ2TtexnfO4OqxgF4gXR6W1rQY99ieN\n";
 
 /// A document whose field `s` is a string of length 0, which has no room for its zero, and {"a":1}.
 const BAD_AND_ONE: &[u8] = b"\x0c\0\0\0\x02s\0\0\0\0\0\0\x0c\0\0\0\x10a\0\x01\0\0\0\0";
@@ -39,17 +42,26 @@ fn pack(alloc: Global) -> Order {
     }
 }
 
-#[test]
-fn carries_out_each_order(rt: HostRuntime) -> Result<(), Fail> {
-    let alloc = rt.alloc();
-    let query = String::from_str(alloc, "{\"a\":1}")?;
-    let find = Order::Find {
+/// All documents.
+fn find(alloc: Global) -> Order {
+    Order::Find {
         file: String::new(alloc),
-        query: Some(query),
-        batch: Some(2),
-    };
-    let found = ample(ONE, ONE_LINE, "1 documents, end\n");
-    assert!(rt; reads(alloc, &find, found).is_some());
+        options: FindOptions {
+            query: None,
+            sort: None,
+            skip: 0,
+            limit: 0,
+            batch: None,
+            after: None,
+        },
+    }
+}
+
+#[test]
+fn carries_out_each_order(rt: HostRuntime) {
+    let alloc = rt.alloc();
+    let found = ample(ONE, ONE_LINE, ONE_COUNT);
+    assert!(rt; reads(alloc, &find(alloc), found).is_some());
     let checked = ample(ONE, b"", "1 documents, 0 faulty\n");
     assert!(rt; reads(alloc, &check(alloc), checked).is_some());
     let packed = ample(TWO_LINES, TWO, "2 objects packed\n");
@@ -59,7 +71,6 @@ fn carries_out_each_order(rt: HostRuntime) -> Result<(), Fail> {
     assert!(rt; reads(alloc, &dump(alloc), dumped) == Some(3));
     dumped.read_size = 1;
     assert!(rt; reads(alloc, &dump(alloc), dumped) == Some(13));
-    Ok(())
 }
 
 /// Whether the read fails at each of these calls, and the run then shows this and reads no more.
@@ -112,7 +123,8 @@ const CHECK_READS: [(u64, &[u8], &str); 5] = [
     ),
 ];
 
-const PACK_READS: [(u64, &[u8], &str); 3] = [
+/// Of commands that read their input whole. Of seven bytes a read, two hold a document.
+const WHOLE_READS: [(u64, &[u8], &str); 3] = [
     (1, b"", "bsonfind: cannot read\n"),
     (2, b"", "bsonfind: cannot read\n"),
     (3, b"", "bsonfind: cannot read\n"),
@@ -128,8 +140,10 @@ fn ends_at_a_read_that_fails(rt: HostRuntime) {
     devices.input = BAD_AND_ONE;
     devices.read_size = 7;
     assert!(rt; ends_at_reads(alloc, &check(alloc), devices, &CHECK_READS));
+    // A fault that was read is not told.
+    assert!(rt; ends_at_reads(alloc, &find(alloc), devices, &WHOLE_READS));
     devices.input = b"{\"a\":1}\n{\"a\":1}\n";
-    assert!(rt; ends_at_reads(alloc, &pack(alloc), devices, &PACK_READS));
+    assert!(rt; ends_at_reads(alloc, &pack(alloc), devices, &WHOLE_READS));
 }
 
 /// Whether each of the first three writes of standard output ends the run where it fails, with what was written before it, and
@@ -173,6 +187,9 @@ fn ends_at_a_write_that_fails(rt: HostRuntime) {
     let mut devices = ample(BAD_AND_ONE, BAD_LINE, "");
     devices.write_size = 20;
     assert!(rt; ends_at_writes(alloc, &check(alloc), devices));
+    let mut devices = ample(ONE, ONE_LINE, "");
+    devices.write_size = 10;
+    assert!(rt; ends_at_writes(alloc, &find(alloc), devices));
     // A document has 12 bytes, and is written by itself.
     let mut devices = ample(TWO_LINES, TWO, "");
     devices.write_size = 6;

@@ -5,7 +5,7 @@ use Rattle.std.specs.Prelude.{◌==◌, fold, option_and_then, is_some}
 use Rattle.clap.specs.Faults.{check_fault, defaults_fault, entered_fault, fault_of, level_fault, settle_fault, turn_fault, walk_fault}
 use Rattle.clap.specs.Kinds.{Kinds, or_else}
 use Rattle.clap.specs.Simple.{App, built, entered, names_of}
-use Rattle.clap.specs.Walk.{Row, Text, Walk, finished, idle, option, nothing_held, rows_after, settled, walk, walk_from, walked}
+use Rattle.clap.specs.Walk.{Row, Text, Walk, arg_by_id, finished, idle, option, option_word, nothing_held, rows_after, settled, walk, walk_from, walked}
 use Rattle.clap.proofs.FaultLemmas.{stopped_fault}
 use Rattle.clap.proofs.OnLiterals.{clap_on_literals}
 use Rattle.clap.proofs.WalkLemmas.{walk_stopped}
@@ -116,27 +116,49 @@ unfolding clap_on_literals
 file_leads [] e = (refl, refl)
 file_leads (x ∷ xs) e = file_word x xs (x == 45) refl e
 
--- ---- the word after `--batch`
+-- ---- the word after an option
 
-abbrev pub before_size : List Row → ℕ → Walk
-before_size rows position = record {
-  held = record { rows = rows; pending = Some (codes "batch", []); skip = 0 };
-  waiting = option (codes "batch");
+abbrev pub before_value : Text → List Row → ℕ → Walk
+before_value name rows position = record {
+  held = record { rows = rows; pending = Some (name, []); skip = 0 };
+  waiting = option name;
   position = position;
   is_trailing = false;
   stopped = None;
 }
 
-abbrev pub after_size : List Row → ℕ → Text → Walk
-after_size rows position size = record {
-  held = record { rows = rows; pending = Some (codes "batch", size ∷ []); skip = 0 };
+abbrev pub after_value : Text → List Row → ℕ → Text → Walk
+after_value name rows position word = record {
+  held = record { rows = rows; pending = Some (name, word ∷ []); skip = 0 };
   waiting = idle;
   position = position;
   is_trailing = false;
   stopped = None;
 }
 
-pub size_leads : (rows : List Row) (position x : ℕ) (xs : List ℕ) → (x == 45) ≡ false
-    → Leads (before_size rows position) ((x ∷ xs) ∷ []) (after_size rows position (x ∷ xs))
+-- the same where the option may be any; of those that `find` has it is the place above
+abbrev pub after_word : Text → List Row → ℕ → Text → Walk
+after_word name rows position word =
+    let before = before_value name rows position in
+    let met = option_word (arg_by_id find_shape.rules name) name word before.held in
+    record before { held = met.0; waiting = met.1 }
+
+-- the word is taken for the value of the option
+abbrev pub IsWordOf : Text → Text → Type 0
+IsWordOf name word = (rows : List Row) (position : ℕ)
+    → Leads (before_value name rows position) (word ∷ []) (after_word name rows position word)
+
+short_value : (name : Text) (x : ℕ) (xs : List ℕ) → (x == 45) ≡ true → is_file_word (x ∷ xs) ≡ true → IsWordOf name (x ∷ xs)
 unfolding clap_on_literals
-size_leads rows position x xs is = (simp is refl, simp is refl)
+short_value name x [] is e rows position = (simp is refl, simp is refl)
+short_value name x (y ∷ ys) is e rows position = let f : ⊥ = true≢false (sym (rw is at e)) in absurd f
+
+any_value : (name : Text) (x : ℕ) (xs : List ℕ) (b : Bool) → (x == 45) ≡ b → is_file_word (x ∷ xs) ≡ true → IsWordOf name (x ∷ xs)
+unfolding clap_on_literals
+any_value name x xs false is e rows position = (simp is refl, simp is refl)
+any_value name x xs true is e rows position = short_value name x xs is e rows position
+
+pub word_leads : (name word : Text) → is_file_word word ≡ true → IsWordOf name word
+unfolding clap_on_literals
+word_leads name [] e rows position = (refl, refl)
+word_leads name (x ∷ xs) e rows position = any_value name x xs (x == 45) refl e rows position

@@ -1,8 +1,9 @@
 pub mod RowValueLemmas
 pub mod LineLemmas
 pub mod FaultLemmas
-pub mod BatchSizeLemmas
+pub mod NumberLemmas
 pub mod FindLineLemmas
+pub mod FindOptionsLemmas
 pub mod CheckLineLemmas
 pub mod PackLineLemmas
 pub mod FindWalkLemmas

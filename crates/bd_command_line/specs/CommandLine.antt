@@ -1,7 +1,7 @@
 -- What the words of a line order, by the parser's own definition of the lines that it takes.
 use Rattle.std.specs.Prelude.{ℕ, List, ◌∷◌, Bool, not, map, codes, Option, Some, None, true}
 use Rattle.std.specs.Prelude.{option_and_then, option_map, if◌then◌else◌, String, string_bytes}
-use Rattle.std.specs.Prelude.{◌≡◌, ◌==◌, Result, MatchResult, false, slice_get}
+use Rattle.std.specs.Prelude.{◌≡◌, ◌==◌, Result, MatchResult, false, slice_get, unwrap_or}
 use Rattle.std.specs.Str.{bytes_eq}
 use Rattle.std.specs.Option.{option_map_or}
 use Rattle.std.specs.Str.Parse.{digits_value, without_leading_plus}
@@ -17,6 +17,7 @@ use Rattle.bd_command_line.specs.declared.order.Order.{Order}
 use Rattle.bd_command_line.specs.declared.order.Order.TheVariants.{Dump, Check, Pack, Find}
 use Rattle.bd_command_line.specs.declared.order.WordsFault.{WordsFault}
 use Rattle.bd_command_line.specs.declared.order.WordsFault.TheVariants.{Help, NoMemory, Usage}
+use Rattle.bd_command_line.specs.FindWords.{FindWords, find_words_of}
 
 -- ---- the lines that are taken, as the parser has them
 
@@ -28,17 +29,26 @@ file_rule = record (new_rule (codes "file")) { required = true; action = Some Se
 abbrev pub file_app : Text → App
 file_app name = with_rule (new_app name) file_rule
 
--- `find` may have a query and the size of a batch
-abbrev pub query_rule : Rule
-query_rule =
-    record (new_rule (codes "query")) { long = Some (codes "query"); action = Some Set }
+-- an option of `find` that takes a text, and one that takes a number
+abbrev pub text_rule : Text → Rule
+text_rule name = record (new_rule name) { long = Some name; action = Some Set }
 
-abbrev pub batch_rule : Rule
-batch_rule =
-    record (new_rule (codes "batch")) { long = Some (codes "batch"); action = Some Set; parser = Some (Unsigned 0 2147483647) }
+abbrev pub number_rule : Text → Rule
+number_rule name =
+    record (new_rule name) { long = Some name; action = Some Set; parser = Some (Unsigned 0 2147483647) }
 
+-- `find` with its query and its sort
+abbrev pub sorted_app : App
+sorted_app =
+    with_rule (with_rule (file_app (codes "find")) (text_rule (codes "query"))) (text_rule (codes "sort"))
+
+-- the same with the numbers that cut the answer
+abbrev pub cut_app : App
+cut_app = with_rule (with_rule sorted_app (number_rule (codes "skip"))) (number_rule (codes "limit"))
+
+-- `find` with all its options
 abbrev pub find_app : App
-find_app = with_rule (with_rule (file_app (codes "find")) query_rule) batch_rule
+find_app = with_rule (with_rule cut_app (number_rule (codes "batch"))) (text_rule (codes "after"))
 
 -- the line without its commands
 abbrev pub top_app : App
@@ -62,13 +72,13 @@ pub data Ordered : Type 0 where
   dump : Text → Ordered
   check : Text → Ordered
   pack : Text → Ordered
-  find : Text → Option Text → Option ℕ → Ordered
+  find : Text → FindWords → Ordered
 
 abbrev pub meant : Order → Ordered
 meant (Dump file) = dump (string_bytes file)
 meant (Check file) = check (string_bytes file)
 meant (Pack file) = pack (string_bytes file)
-meant (Find file query batch) = find (string_bytes file) (option_map string_bytes query) batch
+meant (Find file options) = find (string_bytes file) (find_words_of options)
 
 abbrev pub words_of : {Z : Type 0} → List (String Z) → List Text
 words_of = map string_bytes
@@ -78,11 +88,23 @@ abbrev pub number_read : Text → Option ℕ
 number_read text =
     if is_unsigned_in 0 4294967295 text then Some (digits_value 10 (without_leading_plus text)) else None
 
-abbrev pub batch_read : List Row → Option ℕ
-batch_read rows = option_and_then number_read (one_of (codes "batch") rows)
+-- the number of an option
+abbrev pub option_number : Text → List Row → Option ℕ
+option_number name rows = option_and_then number_read (one_of name rows)
+
+-- what the options say; `skip` and `limit` are 0 where they are absent
+abbrev pub find_words_in : List Row → FindWords
+find_words_in rows = record {
+  query = first_of (codes "query") rows;
+  sort = first_of (codes "sort") rows;
+  skip = unwrap_or (option_number (codes "skip") rows) 0;
+  limit = unwrap_or (option_number (codes "limit") rows) 0;
+  batch = option_number (codes "batch") rows;
+  after = first_of (codes "after") rows;
+}
 
 abbrev pub find_ordered : List Row → Text → Ordered
-find_ordered rows file = find file (first_of (codes "query") rows) (batch_read rows)
+find_ordered rows file = find file (find_words_in rows)
 
 -- the order of a command's name and its matches
 abbrev pub ordered_by : Text → List Row → Option Ordered
@@ -117,7 +139,7 @@ GivesOrder answer order = MatchResult answer (λ o. meant o ≡ order) (λ f. f 
 abbrev pub is_help_line : List Text → Bool
 is_help_line words = option_map_or (λ word. bytes_eq word (codes "help")) (slice_get words 0) false
 
--- a word that may stand as FILE: none of two bytes and more that begins with a hyphen (45)
+-- a word that may stand as FILE, or as the token after `--after`: none of two bytes and more that begins with a hyphen (45)
 abbrev pub is_file_word : Text → Bool
 is_file_word (x ∷ y ∷ rest) = not (x == 45)
 is_file_word _ = true

@@ -4,6 +4,7 @@ ghost use Rattle.clap.specs.Simple.{with_subcommand};
 ghost use Rattle.clap.specs.Words.{app_of, found_of, kind_of, rows_of, rule_of, takes};
 ghost use Rattle.clap.specs.declared.builder.command.Command.TheViews.{out-Command as fields_of};
 ghost use Rattle.bd_command_line.specs.CommandLine.{GivesOrder, check, dump, fault_for, file_app, file_rule, files_app, find, is_file_word, is_help_line, line_app, meant, order_of, ordered_by, pack, told_as, top_app, words_of};
+ghost use Rattle.bd_command_line.specs.FindWords.{no_options};
 ghost use Rattle.bd_command_line.specs.declared.order.WordsFault.TheVariants.{NoMemory};
 
 use crate::find_words::{find_command, find_order};
@@ -138,9 +139,10 @@ fn order_in(alloc: Global, words: &[String]) -> Result<Order, WordsFault>
 
 /// The order of a line: its words without the program's name.
 ///
-/// `dump FILE`, `check FILE` and `pack FILE` are taken, and `find FILE` with or without `--query Q` and with or
-/// without `--batch N`, N from 0 to 2,147,483,647. FILE stands before the options or after them. A file whose name
-/// looks like a flag stands after `--`, as in `dump -- -x`.
+/// `dump FILE`, `check FILE` and `pack FILE` are taken, and
+/// `find FILE [--query Q] [--sort S] [--skip N] [--limit N] [--batch N] [--after TOKEN]`, N from 0 to 2,147,483,647,
+/// with the options in any order, each once at most, and FILE before or after them. Without `--skip` and `--limit`
+/// they are 0. A file whose name looks like a flag stands after `--`, as in `dump -- -x`.
 ///
 /// # Errors
 ///
@@ -165,24 +167,37 @@ pub fn parse_words(alloc: Global, words: &[String]) -> Result<Order, WordsFault>
     ensures pack_escaped { (file : List ℕ)
         → words_of words.now ≡ codes "pack" ∷ codes "--" ∷ file ∷ [] → GivesOrder result (pack file) }
     ensures find_all { (file : List ℕ) → IsTrue (is_file_word file)
-        → words_of words.now ≡ codes "find" ∷ file ∷ [] → GivesOrder result (find file None None) }
+        → words_of words.now ≡ codes "find" ∷ file ∷ [] → GivesOrder result (find file no_options) }
     ensures find_all_escaped { (file : List ℕ)
-        → words_of words.now ≡ codes "find" ∷ codes "--" ∷ file ∷ [] → GivesOrder result (find file None None) }
-    // A query begins with a brace (123).
+        → words_of words.now ≡ codes "find" ∷ codes "--" ∷ file ∷ [] → GivesOrder result (find file no_options) }
+    // A query and a sort begin with a brace (123).
     ensures find { (rest file : List ℕ)
         → words_of words.now ≡ codes "find" ∷ codes "--query" ∷ (123 ∷ rest) ∷ codes "--" ∷ file ∷ []
-        → GivesOrder result (find file (Some (123 ∷ rest)) None) }
+        → GivesOrder result (find file (record no_options { query = Some (123 ∷ rest) })) }
     ensures find_batch { (rest file : List ℕ) (size : ℕ) → size ≤ 2147483647
         → words_of words.now ≡ codes "find" ∷ codes "--query" ∷ (123 ∷ rest)
         ∷ codes "--batch" ∷ decimal size ∷ codes "--" ∷ file ∷ []
-        → GivesOrder result (find file (Some (123 ∷ rest)) (Some size)) }
+        → GivesOrder result (find file (record no_options { query = Some (123 ∷ rest); batch = Some size })) }
     ensures find_file_first { (rest file : List ℕ) → IsTrue (is_file_word file)
         → words_of words.now ≡ codes "find" ∷ file ∷ codes "--query" ∷ (123 ∷ rest) ∷ []
-        → GivesOrder result (find file (Some (123 ∷ rest)) None) }
+        → GivesOrder result (find file (record no_options { query = Some (123 ∷ rest) })) }
     ensures find_file_first_batch { (rest file : List ℕ) (size : ℕ) → IsTrue (is_file_word file) → size ≤ 2147483647
         → words_of words.now ≡ codes "find" ∷ file ∷ codes "--query" ∷ (123 ∷ rest)
         ∷ codes "--batch" ∷ decimal size ∷ []
-        → GivesOrder result (find file (Some (123 ∷ rest)) (Some size)) }
+        → GivesOrder result (find file (record no_options { query = Some (123 ∷ rest); batch = Some size })) }
+    ensures find_options { (query sort token file : List ℕ) (skip limit size : ℕ)
+        → skip ≤ 2147483647 → limit ≤ 2147483647 → size ≤ 2147483647 → IsTrue (is_file_word token)
+        → words_of words.now ≡ codes "find" ∷ codes "--query" ∷ (123 ∷ query) ∷ codes "--sort" ∷ (123 ∷ sort)
+        ∷ codes "--skip" ∷ decimal skip ∷ codes "--limit" ∷ decimal limit ∷ codes "--batch" ∷ decimal size
+        ∷ codes "--after" ∷ token ∷ codes "--" ∷ file ∷ []
+        → GivesOrder result (find file (record {
+          query = Some (123 ∷ query);
+          sort = Some (123 ∷ sort);
+          skip = skip;
+          limit = limit;
+          batch = Some size;
+          after = Some token;
+        })) }
     ensures help_word { IsTrue (is_help_line (words_of words.now)) → IsErrOf result WordsFault.Usage }
 {
     if begins_with_help(words) {

@@ -1,43 +1,89 @@
 //! The words of `find`.
 ghost use Rattle.std.specs.Prelude.{◌≡◌, IfErr, IfOk, codes, false, option_map, string_bytes};
+ghost use Rattle.clap.specs.Simple.{with_rule};
 ghost use Rattle.clap.specs.Words.{app_of, first_of, found_of, rows_of, rule_of};
 ghost use Rattle.clap.specs.declared.builder.command.Command.TheViews.{out-Command as fields_of};
-ghost use Rattle.bd_command_line.specs.CommandLine.{batch_rule, find_app, find_ordered, meant, query_rule};
+ghost use Rattle.bd_command_line.specs.CommandLine.{cut_app, find_app, find_ordered, find_words_in, meant, number_rule, option_number, sorted_app, text_rule};
+ghost use Rattle.bd_command_line.specs.FindWords.{find_words_of};
 ghost use Rattle.bd_command_line.specs.declared.order.WordsFault.TheVariants.{NoMemory};
 
 use crate::command_line::of_file;
-use crate::order::{Order, WordsFault};
+use crate::order::{FindOptions, Order, WordsFault};
 use clap::builder::ValueParser;
 use clap::{Arg, ArgAction, ArgMatches, Command};
 use std::alloc::{AllocError, Global};
 
-fn query_argument<'a>(alloc: Global) -> Arg<'a>
-    ensures rule { rule_of result ≡ query_rule }
+fn text_argument<'a>(alloc: Global, name: &'a str) -> Arg<'a>
+    ensures rule { rule_of result ≡ text_rule name.entry.now }
     ensures local { result.global ≡ false }
 {
-    Arg::new(alloc, "query")
-        .long("query")
-        .action(ArgAction::Set)
+    Arg::new(alloc, name).long(name).action(ArgAction::Set)
 }
 
-fn batch_argument<'a>(alloc: Global) -> Arg<'a>
-    ensures rule { rule_of result ≡ batch_rule }
+fn number_argument<'a>(alloc: Global, name: &'a str) -> Arg<'a>
+    ensures rule { rule_of result ≡ number_rule name.entry.now }
     ensures local { result.global ≡ false }
 {
-    Arg::new(alloc, "batch")
-        .long("batch")
+    Arg::new(alloc, name)
+        .long(name)
         .action(ArgAction::Set)
         .value_parser(ValueParser::unsigned(0, 2_147_483_647))
 }
 
-/// The command `find`.
+/// A command with one option more, which takes a text.
+fn with_text<'a>(
+    alloc: Global,
+    command: Command<'a>,
+    name: &'a str,
+) -> Result<Command<'a>, AllocError>
+    requires { (fields_of command).has_globals ≡ false }
+    ensures app { IfOk result (λ c. app_of c ≡ with_rule (app_of command.entry) (text_rule name.entry.now)) }
+    ensures local { IfOk result (λ c. (fields_of c).has_globals ≡ false) }
+{
+    command.arg(text_argument(alloc, name))
+}
+
+/// A command with one option more, which takes a number.
+fn with_number<'a>(
+    alloc: Global,
+    command: Command<'a>,
+    name: &'a str,
+) -> Result<Command<'a>, AllocError>
+    requires { (fields_of command).has_globals ≡ false }
+    ensures app { IfOk result (λ c. app_of c ≡ with_rule (app_of command.entry) (number_rule name.entry.now)) }
+    ensures local { IfOk result (λ c. (fields_of c).has_globals ≡ false) }
+{
+    command.arg(number_argument(alloc, name))
+}
+
+/// The command `find` with its query and its sort.
+fn sorted_command<'a>(alloc: Global) -> Result<Command<'a>, AllocError>
+    ensures app { IfOk result (λ c. app_of c ≡ sorted_app) }
+    ensures local { IfOk result (λ c. (fields_of c).has_globals ≡ false) }
+{
+    let command = of_file(alloc, "find")?;
+    let command = with_text(alloc, command, "query")?;
+    with_text(alloc, command, "sort")
+}
+
+/// The same with the numbers that cut the answer.
+fn cut_command<'a>(alloc: Global) -> Result<Command<'a>, AllocError>
+    ensures app { IfOk result (λ c. app_of c ≡ cut_app) }
+    ensures local { IfOk result (λ c. (fields_of c).has_globals ≡ false) }
+{
+    let command = sorted_command(alloc)?;
+    let command = with_number(alloc, command, "skip")?;
+    with_number(alloc, command, "limit")
+}
+
+/// The command `find` with all its options.
 pub fn find_command<'a>(alloc: Global) -> Result<Command<'a>, AllocError>
     ensures app { IfOk result (λ c. app_of c ≡ find_app) }
     ensures local { IfOk result (λ c. (fields_of c).has_globals ≡ false) }
 {
-    let query = query_argument(alloc);
-    let batch = batch_argument(alloc);
-    of_file(alloc, "find")?.arg(query)?.arg(batch)
+    let command = cut_command(alloc)?;
+    let command = with_number(alloc, command, "batch")?;
+    with_text(alloc, command, "after")
 }
 
 /// The text of an option, where it is given.
@@ -55,6 +101,31 @@ fn text_of(
     }
 }
 
+/// The number of an option, where it is given.
+fn number_of(matches: &ArgMatches<'_>, name: &str) -> Option<u32>
+    ensures { result ≡ option_number name.now (rows_of (found_of matches.now)) }
+{
+    matches.get_one::<u32>(name)
+}
+
+/// What the options say in these matches.
+fn options_of(alloc: Global, matches: &ArgMatches<'_>) -> Result<FindOptions, WordsFault>
+    ensures words { IfOk result (λ o. find_words_of o ≡ find_words_in (rows_of (found_of matches.now))) }
+    ensures fault { IfErr result (λ f. f ≡ NoMemory) }
+{
+    let query = text_of(alloc, matches, "query")?;
+    let sort = text_of(alloc, matches, "sort")?;
+    let after = text_of(alloc, matches, "after")?;
+    Ok(FindOptions {
+        query,
+        sort,
+        skip: number_of(matches, "skip").unwrap_or(0),
+        limit: number_of(matches, "limit").unwrap_or(0),
+        batch: number_of(matches, "batch"),
+        after,
+    })
+}
+
 /// The order of `find` over that file with these matches.
 pub fn find_order(
     alloc: Global,
@@ -64,7 +135,6 @@ pub fn find_order(
     ensures order { IfOk result (λ o. meant o ≡ find_ordered (rows_of (found_of matches.now)) (string_bytes file)) }
     ensures fault { IfErr result (λ f. f ≡ NoMemory) }
 {
-    let query = text_of(alloc, matches, "query")?;
-    let batch = matches.get_one::<u32>("batch");
-    Ok(Order::Find { file, query, batch })
+    let options = options_of(alloc, matches)?;
+    Ok(Order::Find { file, options })
 }

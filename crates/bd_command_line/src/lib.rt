@@ -1,6 +1,7 @@
 //! The words of the command line, and the order that they are.
 //!
-//! Which words are taken, and what they order: `specs/CommandLine.antt`.
+//! Which words are taken, and what they order: `specs/CommandLine.antt`; what the options of `find` say:
+//! `specs/FindWords.antt`.
 //!
 //! An example, which `bd_command_line_tests` proves and runs as `examples::command_line`:
 //!
@@ -15,7 +16,7 @@
 //!
 //! - `order`: what a line orders, or why it does not.
 //! - `command_line`: `parse_words`, by `clap`.
-//! - `find_words`: the words of `find`.
+//! - `find_words`: the words of `find`, which takes options.
 #![tactic(auto)]
 
 mod command_line;
@@ -23,4 +24,4 @@ mod find_words;
 mod order;
 
 pub use command_line::{USAGE, parse_words};
-pub use order::{Order, WordsFault};
+pub use order::{FindOptions, Order, WordsFault};

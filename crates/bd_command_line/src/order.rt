@@ -9,24 +9,30 @@ use thiserror::Error;
 #[derive(Debug, Drop)]
 pub enum Order {
     /// The documents of `file` as text; `-` is the standard input.
-    Dump {
-        file: String,
-    },
+    Dump { file: String },
     /// The documents of `file` that have a fault; `-` is the standard input.
-    Check {
-        file: String,
-    },
+    Check { file: String },
     /// The lines of text of `file` as documents; `-` is the standard input.
-    Pack {
-        file: String,
-    },
-    /// The documents of `file` that answer `query`, and without one all documents; the first `batch` of them or
-    /// all; `-` is the standard input.
-    Find {
-        file: String,
-        query: Option<String>,
-        batch: Option<u32>,
-    },
+    Pack { file: String },
+    /// The documents of `file` that the options ask for; `-` is the standard input.
+    Find { file: String, options: FindOptions },
+}
+
+/// Which documents `find` is asked for, and in which order. The numbers are 0 to 2,147,483,647 in a line that was taken.
+#[derive(Debug, Drop)]
+pub struct FindOptions {
+    /// The query that the documents answer, as Extended JSON; without one all documents do.
+    pub query: Option<String>,
+    /// The sort of the answer, as Extended JSON; without one it keeps the order of `file`.
+    pub sort: Option<String>,
+    /// How many documents of the answer are passed over, the first ones.
+    pub skip: u32,
+    /// At most so many documents are given; 0 is no limit.
+    pub limit: u32,
+    /// How many documents a batch has; without it all of the answer are one batch.
+    pub batch: Option<u32>,
+    /// The text of a token, which tells where the answer goes on; without one it is given from its start.
+    pub after: Option<String>,
 }
 
 /// Why a line was not taken.

@@ -2,6 +2,7 @@ use Rattle.std.proofs.Common.{sym, inr, ◌∙◌}
 use Rattle.bd_command_line.specs.CommandLine.{words_of}
 use Rattle.bd_command_line.proofs.CheckLineLemmas.{check_taken, check_escaped_taken}
 use Rattle.bd_command_line.proofs.FindLineLemmas.{all_escaped_taken, all_taken, batch_taken, file_first_batch_taken, file_first_taken, find_taken}
+use Rattle.bd_command_line.proofs.FindOptionsLemmas.{options_taken}
 use Rattle.bd_command_line.proofs.PackLineLemmas.{pack_taken, pack_escaped_taken}
 use Rattle.bd_command_line.proofs.LineLemmas.{answered, dump_taken, escaped_taken, help_line_refused, help_line_told}
 use Rattle.bd_command_line.proofs.command_line.parse_words.Goals as goal
@@ -64,4 +65,9 @@ returns-clause-find_file_first c rest file plain is =
 pub returns-clause-find_file_first_batch : goal.returns-clause-find_file_first_batch
 returns-clause-find_file_first_batch c rest file size plain le is =
     answered c.order_in.result _ _ _ is (file_first_batch_taken size rest file le plain)
+    c.order_in.ensures.order c.order_in.ensures.fault
+
+pub returns-clause-find_options : goal.returns-clause-find_options
+returns-clause-find_options c query sort token file skip limit size skip_le limit_le size_le plain is =
+    answered c.order_in.result _ _ _ is (options_taken query sort token file skip limit size skip_le limit_le size_le plain)
     c.order_in.ensures.order c.order_in.ensures.fault

@@ -1,0 +1,25 @@
+-- What the options of `find` say.
+use Rattle.std.specs.Prelude.{ℕ, List, Option, None, option_map, string_bytes}
+use Rattle.bd_command_line.specs.declared.order.FindOptions.{FindOptions}
+
+pub record FindWords : Type 0 where
+  pub query : Option (List ℕ)
+  pub sort : Option (List ℕ)
+  pub skip : ℕ
+  pub limit : ℕ
+  pub batch : Option ℕ
+  pub after : Option (List ℕ)
+
+-- no option is given
+abbrev pub no_options : FindWords
+no_options = record { query = None; sort = None; skip = 0; limit = 0; batch = None; after = None }
+
+abbrev pub find_words_of : FindOptions → FindWords
+find_words_of options = record {
+  query = option_map string_bytes options.query;
+  sort = option_map string_bytes options.sort;
+  skip = options.skip;
+  limit = options.limit;
+  batch = options.batch;
+  after = option_map string_bytes options.after;
+}
