@@ -16,6 +16,7 @@ _bsonfind_files() {
 
 _bsonfind() {
 	local word=${COMP_WORDS[COMP_CWORD]} command=${COMP_WORDS[1]} before=${COMP_WORDS[COMP_CWORD - 1]}
+	local options='--query --sort --skip --limit --batch --after'
 	COMPREPLY=()
 	if ((COMP_CWORD == 1)); then
 		mapfile -t COMPREPLY < <(compgen -W 'dump check pack find --help' -- "$word")
@@ -29,13 +30,14 @@ _bsonfind() {
 	pack) _bsonfind_files '' "$word" ;;
 	find)
 		case $before in
-		--query | --batch) ;; # a filter, a number
+		--query | --sort | --skip | --limit | --batch | --after) ;; # a filter, a sort, numbers, a token
 		*)
 			if [[ $word == -* && $word != - ]]; then
-				mapfile -t COMPREPLY < <(compgen -W '--query --batch' -- "$word")
+				mapfile -t COMPREPLY < <(compgen -W "$options" -- "$word")
 			else
 				_bsonfind_files .bson "$word"
-				[[ -n $word && $word != - ]] || COMPREPLY+=(--query --batch)
+				# shellcheck disable=SC2206 # the options are words
+				[[ -n $word && $word != - ]] || COMPREPLY+=($options)
 			fi
 			;;
 		esac

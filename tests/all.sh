@@ -25,8 +25,10 @@ add
 if cp crates/bsonfind/out/bsonfind bsonfind; then
 	tests/program.sh | tee "$log"
 	add
+	tests/pages.py | tee "$log"
+	add
 else
-	echo 'tests/program.sh was not run: the gate built no program'
+	echo 'tests/program.sh and tests/pages.py were not run: the gate built no program'
 	failed=$((failed + 1))
 fi
 

@@ -20,6 +20,8 @@ from collections.abc import Iterator
 from pathlib import Path
 from typing import NamedTuple, NoReturn
 
+from tokens import digest, request_text, token_of
+
 ROOT = Path(__file__).resolve().parent.parent
 PROGRAM = ROOT / "bsonfind"
 STACK = 1 << 20
@@ -33,7 +35,7 @@ FAULT = rb'document (\d+), byte (\d+), path "(?:[^"\\]|\\.)*": [a-zA-Z0-9 -]+\n'
 DUMPED = re.compile(rb"(?:bsonfind: (" + FAULT + rb"))?(\d+) objects found\n")
 CHECKED = re.compile(rb"(\d+) documents, (\d+) faulty\n")
 PACKED = re.compile(rb"(?:bsonfind: line (\d+)(?:, byte (\d+))?: ([a-zA-Z ]+)\n)?(\d+) objects packed\n")
-FOUND = re.compile(rb"(\d+) documents, (end|more)\n")
+FOUND = re.compile(rb"(\d+) documents, (end|more)(?:, token [A-Za-z0-9+/]{60})?\n")
 
 WRAPPERS = [
     "$numberInt", "$numberLong", "$numberDouble", "$numberDecimal", "$oid", "$symbol", "$binary", "$uuid", "$code",
@@ -238,16 +240,18 @@ class Search:
         numbers = re.findall(rb'"([A-Za-z]+)":\[?{"\$numberInt":"(-?\d+)"}', b"".join(lines)) + [(b"none", b"-2147483648")]
         name, number = (word.decode() for word in self.rng.choice(numbers))
         size = self.rng.choice([None, 0, 1, 2, 2147483647])
-        ran = self.run("find", data, "--query", f'{{"{name}":{number}}}', *([] if size is None else ["--batch", str(size)]))
+        query = f'{{"{name}":{number}}}'
+        ran = self.run("find", data, "--query", query, *([] if size is None else ["--batch", str(size)]))
         self.want(ran.status == (fault is not None), "the status of find")
         if fault is not None:
             self.want(ran.out == b"" and ran.err == b"bsonfind: " + fault, "find in a dump with a fault")
         elif plain:
-            answer = [line for line in lines if answers(line, name, number)]
+            answer = [place for place, line in enumerate(lines) if answers(line, name, number)]
             batch = answer[:size]
-            self.want(ran.out == b"".join(batch), "the documents that were found")
-            end = b"end" if len(batch) == len(answer) else b"more"
-            self.want(ran.err == b"%d documents, %s\n" % (len(batch), end), "standard error of find")
+            self.want(ran.out == b"".join(lines[place] for place in batch), "the documents that were found")
+            end = "end" if len(batch) == len(answer) else "more"
+            token = f", token {token_of(len(batch), batch[-1], digest(data, request_text(query)))}" if batch else ""
+            self.want(ran.err.decode() == f"{len(batch)} documents, {end}{token}\n", "standard error of find")
         else:
             self.want(FOUND.fullmatch(ran.err) is not None, "standard error of find")
 
@@ -285,7 +289,8 @@ class Search:
         Nothing nests deep: where the system has no memory to let the stack grow, it ends the program by a signal.
         """
         command = self.rng.choice(["dump", "check", "pack", "find"])
-        words = ["--query", '{"age":30}'] if command == "find" else []
+        words = self.rng.choice([["--query", '{"age":30}'], ["--sort", '{"name":1}'], ["--sort", '{"age":-1}', "--limit", "3"]])
+        words = words if command == "find" else []
         from_all, between = (self.lines, b"\n") if command == "pack" else (self.documents, b"")
         data = between.join(self.rng.choices(from_all[:SHALLOW], k=self.rng.choice([1, 10, 100, 1000])))
         data += self.rng.choice([b"", b"["])
@@ -303,11 +308,16 @@ class Search:
             limit += 64
         return limit
 
-    def over_query(self, query: str) -> None:
-        """A query of any form is answered or told."""
-        ran = self.run("find", self.documents[0], "--query", query)
-        told = rb"bsonfind: query: .*\n" if ran.status else FOUND.pattern
-        self.want(re.fullmatch(told, ran.err, re.DOTALL) is not None, "what is told of a query")
+    def over_words(self) -> None:
+        """A query, a sort and a token of any form are taken or told."""
+        option, texts = self.rng.choice([("query", [b'{"age":30}', b'{"a":-2147483648}']), ("sort", [b'{"age":1}', b'{"a.b":-1,"c":1}'])])
+        word = self.damaged_word(texts)
+        if self.rng.random() < 0.2:
+            option, word = "after", word.replace("{", "A").replace('"', "0")
+        ran = self.run("find", self.documents[0], f"--{option}={word}")
+        name = b"token" if option == "after" else option.encode()
+        told = rb"bsonfind: %s: .*\n" % name if ran.status else FOUND.pattern
+        self.want(re.fullmatch(told, ran.err, re.DOTALL) is not None, f"what is told of a {name.decode()}")
 
     def damaged(self, data: bytes, parts: list[bytes]) -> bytes:
         """Bytes with a few changes."""
@@ -363,10 +373,10 @@ class Search:
                 chosen[at] = self.damaged(chosen[at], [part.encode() for part in PARTS])
         return self.rng.choice([b"\n", b"\r\n", b"\n \t\n"]).join(chosen) + self.rng.choice([b"", b"\n"])
 
-    def damaged_query(self) -> str:
-        """A query that can be a word of a line."""
-        query = self.damaged(self.rng.choice([b'{"age":30}', b'{"a":-2147483648}']), [part.encode() for part in PARTS])
-        return "{" + query.replace(b"\0", b"").decode(errors="replace")[1:]
+    def damaged_word(self, texts: list[bytes]) -> str:
+        """A text that can be a word of a line."""
+        word = self.damaged(self.rng.choice(texts), [part.encode() for part in PARTS])
+        return "{" + word.replace(b"\0", b"").decode(errors="replace")[1:]
 
     def once(self) -> None:
         way = self.rng.random()
@@ -377,7 +387,7 @@ class Search:
         elif way < 0.95:
             self.over_memory()
         else:
-            self.over_query(self.damaged_query())
+            self.over_words()
 
     def keep(self, reason: str) -> None:
         """Keeps what is wanted to see a failure again."""

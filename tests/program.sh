@@ -4,6 +4,7 @@
 set -u
 cd "$(dirname "$0")/.." || exit 1
 program=$PWD/bsonfind
+tokens=$PWD/tests/tokens.py
 people=$PWD/examples/people
 shop=$PWD/examples/shop
 room=$(mktemp -d) || exit 1
@@ -43,6 +44,14 @@ expect() {
 		failed=$((failed + 1))
 	fi
 	rm -f out err status
+}
+
+# told COUNT end|more FILE LAST [OPTION..]: the line that counts the first documents of an answer, the last of which has that
+# number in the file. The token is made by another program.
+told() {
+	told_count=$1 told_end=$2 told_file=$3 told_last=$4
+	shift 4
+	echo "$told_count documents, $told_end, token $("$tokens" "$told_file" "$told_count" "$told_last" "$@")"
 }
 
 # The four bytes of a length.
@@ -210,14 +219,17 @@ expect '200 levels in 1 MiB of stack' 0 "$(copies 199 '{"a":'){}$(copies 199 '}'
 run find "$people.bson" --query '{"age":30}'
 # shellcheck disable=SC2016 # and in the lines that are looked for
 grep '^[^}]*},"name":"[^"]*","age":{"$numberInt":"30"}' "$people.jsonl" >thirty
-expect 'the people of 30' 0 @thirty "$(grep -c '' thirty) documents, end"
+# Each of the people has its number in the file as its id.
+last=$(sed -n '$s/^{"_id":{"$numberInt":"\([0-9]*\)"}.*/\1/p' thirty)
+expect 'the people of 30' 0 @thirty "$(told "$(grep -c '' thirty)" end "$people.bson" "$last" --query '{"age":30}')"
 
 run find "$people.bson" --query '{"age":30}' --batch 2
 head -n 2 thirty >two
-expect 'two people of 30' 0 @two '2 documents, more'
+last=$(sed -n '$s/^{"_id":{"$numberInt":"\([0-9]*\)"}.*/\1/p' two)
+expect 'two people of 30' 0 @two "$(told 2 more "$people.bson" "$last" --query '{"age":30}')"
 
 run find - --query '{"a":1}' <int32.bson
-expect 'find in standard input' 0 "$int32" '1 documents, end'
+expect 'find in standard input' 0 "$int32" "$(told 1 end int32.bson 0 --query '{"a":1}')"
 
 run find --query '{"a":-1}' -- ./-x
 expect 'find of nothing' 0 '' '0 documents, end'
@@ -244,12 +256,12 @@ run find fields.bson --query '{"a":1}'
 # shellcheck disable=SC2016 # names again
 expect 'find of 1' 0 "$int32
 $list_line
-"'{"a":{"$numberLong":"1"}}' '3 documents, end'
+"'{"a":{"$numberLong":"1"}}' "$(told 3 end fields.bson 6 --query '{"a":1}')"
 
 run find fields.bson --query '{"a":2}'
 # shellcheck disable=SC2016 # names again
 expect 'find of 2' 0 '{"a":{"$numberInt":"2"},"a":{"$numberInt":"1"}}
-'"$list_line" '2 documents, end'
+'"$list_line" "$(told 2 end fields.bson 3 --query '{"a":2}')"
 
 for query in '{"a":3}' '{"b":1}' '{"y":2}'; do
 	run find fields.bson --query "$query"
@@ -259,17 +271,17 @@ done
 { document "$one" && document "$list" && document "$two" && document "$one"; } >four.bson
 run find four.bson --query '{"a":1}' --batch 2
 expect 'a batch of the documents that answer' 0 "$int32
-$list_line" '2 documents, more'
+$list_line" "$(told 2 more four.bson 1 --query '{"a":1}')"
 
 run find four.bson --query '{"a":1}' --batch 3
 expect 'a batch of all that answer' 0 "$int32
 $list_line
-$int32" '3 documents, end'
+$int32" "$(told 3 end four.bson 3 --query '{"a":1}')"
 
 run find four.bson --query '{"a":1}'
 expect 'all that answer' 0 "$int32
 $list_line
-$int32" '3 documents, end'
+$int32" "$(told 3 end four.bson 3 --query '{"a":1}')"
 
 run find four.bson --query '{"a":1}' --batch 0
 expect 'a batch of none' 0 '' '0 documents, more'
@@ -278,10 +290,10 @@ run find four.bson
 expect 'all documents, without a query' 0 "$int32
 $list_line
 $(printf '{"a":{"$numberInt":"2"}}')
-$int32" '4 documents, end'
+$int32" "$(told 4 end four.bson 3)"
 
 run find four.bson --batch 1
-expect 'the first document, without a query' 0 "$int32" '1 documents, more'
+expect 'the first document, without a query' 0 "$int32" "$(told 1 more four.bson 0)"
 
 run find - --query '{"a":1}' --batch 0 </dev/null
 expect 'a batch of none in an empty input' 0 '' '0 documents, end'
@@ -291,20 +303,20 @@ expect 'a batch of none in an empty input' 0 '' '0 documents, end'
 	document '\020a\000\377\377\377\177'
 	document '\020a\000\000\000\000\000'
 } >numbers.bson
-while read -r query line; do
+while read -r place query line; do
 	run find numbers.bson --query "$query"
-	expect "find by $query" 0 "$line" '1 documents, end'
+	expect "find by $query" 0 "$line" "$(told 1 end numbers.bson "$place" --query "$query")"
 done <<'END'
-{"aZ":-2147483648} {"aZ":{"$numberInt":"-2147483648"}}
-{"a":2147483647} {"a":{"$numberInt":"2147483647"}}
-{"a":0} {"a":{"$numberInt":"0"}}
-{"a":-0} {"a":{"$numberInt":"0"}}
-{"\u0061":{"$numberLong":"0"}} {"a":{"$numberInt":"0"}}
+0 {"aZ":-2147483648} {"aZ":{"$numberInt":"-2147483648"}}
+1 {"a":2147483647} {"a":{"$numberInt":"2147483647"}}
+2 {"a":0} {"a":{"$numberInt":"0"}}
+2 {"a":-0} {"a":{"$numberInt":"0"}}
+2 {"\u0061":{"$numberLong":"0"}} {"a":{"$numberInt":"0"}}
 END
 
 run find numbers.bson --query ' { "a" : 0 } '
 # shellcheck disable=SC2016 # names again
-expect 'a query with white space' 0 '{"a":{"$numberInt":"0"}}' '1 documents, end'
+expect 'a query with white space' 0 '{"a":{"$numberInt":"0"}}' "$(told 1 end numbers.bson 2 --query '{"a":0}')"
 
 # A query of each kind of operator over a dump of lines, with the numbers of the lines that it finds.
 cat >shop.jsonl <<'END'
@@ -318,7 +330,8 @@ while read -r query numbers; do
 	run find shop.bson --query "$query"
 	found=$(sed 's/.*"_id":{"$numberInt":"\([0-9]\)"}.*/\1/' out | tr -d '\n')
 	echo "${found:--}" >out
-	expect "find by $query" 0 "$numbers" "$(printf %s "${numbers#-}" | wc -c | tr -d ' ') documents, end"
+	[ "$numbers" = - ] && line='0 documents, end' || line=$(told ${#numbers} end shop.bson $((numbers % 10 - 1)) --query "$query")
+	expect "find by $query" 0 "$numbers" "$line"
 done <<'END'
 {"name":"hat"} 2
 {"price.cents":899} 24
@@ -342,6 +355,172 @@ done <<'END'
 {"$and":[{"sizes":"S"},{"sizes":"M"}]} 1
 {"name":{"$not":{"$gt":"hat"}}} 24
 END
+
+# The options of find: the numbers of the documents that are found, whether they are all, and the size of a batch. Arrays are
+# sorted by their least element, or the greatest; an empty one stands before null, and a missing field is null.
+cat >rows.jsonl <<'END'
+{"n":0,"a":[]}
+{"n":1}
+{"n":2,"a":null}
+{"n":3,"a":[3,1]}
+{"n":4,"a":2}
+END
+"$program" pack rows.jsonl >rows.bson 2>err
+while read -r numbers end size options; do
+	# shellcheck disable=SC2086 # the options are words
+	run find rows.bson $options --batch "$size"
+	# shellcheck disable=SC2016 # names again
+	found=$(sed 's/{"n":{"$numberInt":"\([0-9]\)"}.*/\1/' out | tr -d '\n')
+	echo "${found:--}" >out
+	# shellcheck disable=SC2086 # and here
+	[ "$numbers" = - ] && line="0 documents, $end" || line=$(told ${#numbers} "$end" rows.bson "${numbers#"${numbers%?}"}" $options)
+	expect "find --batch $size $options" 0 "$numbers" "$line"
+done <<'END'
+01234 end 5 --sort {"a":1}
+34120 end 9 --sort {"a":-1}
+34120 end 9 --sort {"a":{"$numberLong":"-1"}}
+34120 end 9 --sort {"a":-1} --limit 0 --skip 0
+01234 end 9 --sort {"b":-1}
+43210 end 9 --sort {"n":-1}
+34120 end 9 --sort {"b":1,"a":-1}
+02134 end 9 --query {"n":{"$ne":9}} --sort {"a":1,"n":-1}
+34120 end 9 --sort {"b":1,"c":-1,"d.e":1,"a":-1}
+01234 end 9 --sort {"n":1,"a":-1}
+01234 end 9 --query {} --sort {}
+34 more 2 --sort {"a":-1}
+12 more 2 --sort {"a":-1} --skip 2
+1 end 9 --sort {"a":-1} --skip 2 --limit 1
+1 end 1 --limit 1 --skip 2 --sort {"a":-1}
+120 end 2147483647 --skip 2 --sort {"a":-1} --limit 2147483647
+0 end 9 --skip 4 --sort {"a":-1} --limit 3
+- end 9 --skip 5
+- end 0 --skip 2147483647 --sort {"a":1}
+- more 0 --skip 4
+- more 0 --limit 1
+0 end 9 --limit 1
+01 more 2 --limit 3
+23 end 9 --skip 2 --limit 2
+34 end 9 --query {"a":{"$gte":2}} --sort {"a":-1}
+34 end 9 --query {"a":{"$gte":2}} --sort {"a":1}
+21 end 9 --query {"a":null} --sort {"n":-1}
+4 end 9 --query {"a":{"$gte":2}} --skip 1
+- end 9 --query {"a":9} --sort {"a":1}
+END
+
+run find rows.bson --sort '{"a":-1}' --limit 1
+# shellcheck disable=SC2016 # names again
+three='{"n":{"$numberInt":"3"},"a":[{"$numberInt":"3"},{"$numberInt":"1"}]}'
+expect 'the last document of a sort, without a size' 0 "$three" "$(told 1 end rows.bson 3 --sort '{"a":-1}' --limit 1)"
+
+run find --limit 1 --sort '{"a":-1}' --query '{}' --skip 0 --batch 1 -- rows.bson
+expect 'options before the file' 0 "$three" "$(told 1 end rows.bson 3 --sort '{"a":-1}' --limit 1)"
+
+run find rows.bson '--sort={ "a" : -1 }' --limit=1
+expect 'options with their values in one word' 0 "$three" "$(told 1 end rows.bson 3 --sort '{"a":-1}' --limit 1)"
+
+# The query takes the first of these by its 9, and the sort by its 1.
+printf '{"a":[1,9]}\n{"a":5}\n' | "$program" pack - >pair.bson 2>err
+# shellcheck disable=SC2016 # names again
+run find pair.bson --query '{"a":{"$gt":4}}' --sort '{"a":1}' --batch 1
+# shellcheck disable=SC2016 # names again
+expect 'a sort asks nothing of the query' 0 '{"a":[{"$numberInt":"1"},{"$numberInt":"9"}]}' \
+	"$(told 1 more pair.bson 0 --query '{"a":{"$gt":4}}' --sort '{"a":1}')"
+
+# Tokens. What a token leads on to, and the pages of an answer, are in tests/pages.py too.
+
+for number in 0 1 2 3 4; do echo "{\"a\":$number}"; done | "$program" pack - >five.bson 2>err
+"$program" dump five.bson >five.lines 2>err
+
+run find five.bson --skip 1 --limit 3 --batch 2
+token=$(sed 's/.*token //' err)
+sed -n 2,3p five.lines >wanted_lines
+expect 'a first page' 0 @wanted_lines "$(told 2 more five.bson 2 --skip 1 --limit 3)"
+
+run find five.bson --skip 1 --limit 3 --batch 2
+cut -c-41 err >out
+: >err
+expect 'the start of its token, which was made by hand' 0 '2 documents, more, token AQIAAAAAAAAAAgAA' ''
+
+run find int32.bson --query '{"a":1}'
+cut -c-40 err >out
+: >err
+expect 'the start of another token' 0 '1 documents, end, token AQEAAAAAAAAAAAAA' ''
+
+run find five.bson --skip 1 --limit 3 --batch 2 --after "$token"
+sed -n 4p five.lines >wanted_lines
+last_token=$("$tokens" five.bson 3 3 --skip 1 --limit 3)
+expect 'the page after it' 0 @wanted_lines "1 documents, end, token $last_token"
+
+run find - --after "$last_token" --limit 3 --skip 1 <five.bson
+expect 'the page after the last one' 0 '' "0 documents, end, token $last_token"
+
+run find five.bson --batch 0
+expect 'a page of nothing, from the start' 0 '' '0 documents, more'
+
+run find five.bson --batch 5
+expect 'a page of all' 0 @five.lines "$(told 5 end five.bson 4)"
+
+run find five.bson --batch 5 --after "$("$tokens" five.bson 5 4)"
+expect 'a page after all' 0 '' "0 documents, end, token $("$tokens" five.bson 5 4)"
+
+run find five.bson --batch 0 --after "$("$tokens" five.bson 2 1)"
+expect 'a page of nothing, after a token' 0 '' "0 documents, more, token $("$tokens" five.bson 2 1)"
+
+run find five.bson --query '{"a":9}' --batch 0
+expect 'a page of nothing, of no answer' 0 '' '0 documents, end'
+
+run find five.bson --sort '{"a":-1}' --after "$("$tokens" five.bson 2 3 --sort '{"a":-1}')" --batch 2
+# shellcheck disable=SC2016 # names again
+expect 'a page of a sort' 0 '{"a":{"$numberInt":"2"}}
+{"a":{"$numberInt":"1"}}' "2 documents, more, token $("$tokens" five.bson 4 1 --sort '{"a":-1}')"
+
+# A token counts to 18,446,744,073,709,551,615, and stays there.
+run find five.bson --batch 1 --after "$("$tokens" five.bson 18446744073709551615 2)"
+sed -n 4p five.lines >wanted_lines
+expect 'the greatest count' 0 @wanted_lines "1 documents, more, token $("$tokens" five.bson 18446744073709551615 3)"
+
+run find five.bson --limit 3 --after "$("$tokens" five.bson 4 1 --limit 3)"
+expect 'a count past the limit' 0 '' "0 documents, end, token $("$tokens" five.bson 4 1 --limit 3)"
+
+run find five.bson --limit 3 --after "$("$tokens" five.bson 2 3 --limit 3)"
+tail -n 1 five.lines >wanted_lines
+expect 'a token that was told by no page' 0 @wanted_lines "1 documents, end, token $("$tokens" five.bson 3 4 --limit 3)"
+
+foreign='bsonfind: token: token of another dump or request'
+# shellcheck disable=SC2016 # names again
+token=$("$tokens" five.bson 2 1 --query '{"a":{"$gte":0}}' --sort '{"a":1}' --skip 1 --limit 4)
+while read -r options; do
+	# shellcheck disable=SC2086 # the options are words
+	run find five.bson $options --after "$token"
+	expect "a token of another request than $options" 1 '' "$foreign"
+done <<'END'
+--query {"a":{"$gte":1}} --sort {"a":1} --skip 1 --limit 4
+--query {"a":{"$gte":{"$numberLong":"0"}}} --sort {"a":1} --skip 1 --limit 4
+--query {"a":{"$gte":0}} --sort {"a":-1} --skip 1 --limit 4
+--query {"a":{"$gte":0}} --sort {"a":1,"b":1} --skip 1 --limit 4
+--query {"a":{"$gte":0}} --sort {"a":1} --skip 2 --limit 4
+--query {"a":{"$gte":0}} --sort {"a":1} --skip 1 --limit 3
+--query {"a":{"$gte":0}} --sort {"a":1} --skip 1
+--sort {"a":1} --skip 1 --limit 4
+END
+# shellcheck disable=SC2016 # names again
+run find rows.bson --query '{"a":{"$gte":0}}' --sort '{"a":1}' --skip 1 --limit 4 --after "$token"
+expect 'a token of another dump' 1 '' "$foreign"
+
+past='bsonfind: token: token place past the dump'
+for place in 5 4294967295; do
+	run find five.bson --after "$("$tokens" five.bson 1 "$place")"
+	expect "a token of place $place in five documents" 1 '' "$past"
+done
+
+run find - --after "$("$tokens" /dev/null 0 0)" </dev/null
+expect 'a token of no document' 1 '' "$past"
+
+token=$("$tokens" five.bson 2 1)
+for text in '' x "${token%?}" "${token}A" "$token=" "A$token" "${token%?}=" "${token%?}-" "AA${token#??}" "AgIA${token#????}" " $token" "$token "; do
+	run find five.bson --after "$text"
+	expect "a text that is no token: $text" 1 '' 'bsonfind: token: not a token'
+done
 
 run check "$people.bson"
 expect 'a check of a file' 0 '' '500 documents, 0 faulty'
@@ -578,8 +757,77 @@ for levels in 50 51; do
 	expect "a query of $levels levels" 1 '' "bsonfind: query: place $told"
 done
 
+# The sort is read before the dump, too.
+while read -r sort told_of; do
+	run find bad.bson --sort "$sort"
+	expect "a sort that is refused: $sort" 1 '' "bsonfind: sort: $told_of"
+done <<'END'
+{"a":1.5} byte 5: not in the profile
+{"a":1 byte 6: not JSON
+{"a":1}x byte 7: text after the document
+{"a":9223372036854775808} byte 5: number out of range
+{"a":{"$oid":"00"}} byte 5: bad wrapper
+{"a\u0000":1} byte 1: zero in a name
+[1] not a document
+1 not a document
+{"a":2} not a sort
+{"a":0} not a sort
+{"a":true} not a sort
+{"a":"1"} not a sort
+{"a":{"$numberLong":"4294967297"}} not a sort
+{"a":{"b":1}} not a sort
+{"a":1,"a":1} not a sort
+{"a":1,"b":1,"a":-1} not a sort
+{"a":1,"b":1,"c":1,"d":1,"e":1} not a sort
+{"a..b":1} not a sort
+{"":1} not a sort
+{"a":1,"b.":1} not a sort
+END
+
+run find bad.bson --sort ''
+expect 'a sort of no text' 1 '' 'bsonfind: sort: byte 0: not JSON'
+
+# Of two things that are wrong the first one is told, in this order: the words, the file, the text of the query, that of the
+# sort, the filter, the sort, the text of the token, a read, the dump, the digest of the token, its place, a write.
+
+run find missing.bson --query '{"a":1}' --limit x
+expect 'words, before a file that is not there' 2 '' "$usage"
+
 run find missing.bson --query '{"a":1.5}'
 expect 'a file that is not there, before its query' 1 '' 'bsonfind: cannot open missing.bson'
+
+run find bad.bson --query '{"a":1' --sort '{'
+expect 'the text of a query, before that of a sort' 1 '' 'bsonfind: query: byte 6: not JSON'
+
+# shellcheck disable=SC2016 # names again
+run find bad.bson --query '{"$foo":1}' --sort '{'
+expect 'the text of a sort, before a filter' 1 '' 'bsonfind: sort: byte 1: not JSON'
+
+# shellcheck disable=SC2016 # names again
+run find bad.bson --query '{"$foo":1}' --sort '{"a":2}'
+# shellcheck disable=SC2016 # names again
+expect 'a filter, before a sort' 1 '' 'bsonfind: query: place "$foo": unknown operator'
+
+run find bad.bson --sort '{"a":2}' --after x
+expect 'a sort, before the text of a token' 1 '' 'bsonfind: sort: not a sort'
+
+run find . --after x
+expect 'the text of a token, before a read' 1 '' 'bsonfind: token: not a token'
+
+foreign_token=$("$tokens" int32.bson 1 9)
+run find . --after "$foreign_token"
+expect 'a read, before a token of another dump' 1 '' 'bsonfind: cannot read'
+
+run find bad.bson --after "$foreign_token"
+expect 'a dump with a fault, before a token of another one' 1 '' 'bsonfind: document 0, byte 7, path "s": bad string length'
+
+run find five.bson --after "$foreign_token"
+expect 'the digest of a token, before its place' 1 '' "$foreign"
+
+"$program" find five.bson --after "$("$tokens" five.bson 1 9)" >/dev/full 2>err
+echo $? >status
+: >out
+expect 'the place of a token, before a write' 1 '' "$past"
 
 # Both streams into one file: the lines stand before what is told of them.
 
@@ -600,7 +848,7 @@ expect 'a check into one file' 1 'document 0, byte 7, path "s": bad string lengt
 echo $? >status
 : >err
 expect 'find into one file' 0 "$int32
-1 documents, end" ''
+$(told 1 end int32.bson 0 --query '{"a":1}')" ''
 
 printf '{"a":1}\n{"a":1.5}\n' >one_bad.jsonl
 "$program" pack one_bad.jsonl >out 2>&1
@@ -817,8 +1065,26 @@ expect 'find without a file' 2 '' "$usage"
 run find int32.bson --query '{}' --query '{}'
 expect 'two queries' 2 '' "$usage"
 
-run find int32.bson --query '{"a":1}' --batch 2147483648
-expect 'a batch that is too large' 2 '' "$usage"
+for option in --sort --after; do
+	run find int32.bson "$option" '{}' "$option" '{}'
+	expect "two of $option" 2 '' "$usage"
+	run find int32.bson "$option"
+	expect "$option without its value" 2 '' "$usage"
+done
+
+for option in --skip --limit --batch; do
+	for number in 2147483648 4294967296 99999999999999999999 -1 x 1.0 1e3 0x1 ''; do
+		run find int32.bson "$option" "$number"
+		expect "$option $number" 2 '' "$usage"
+		run find int32.bson "$option=$number"
+		expect "$option=$number" 2 '' "$usage"
+	done
+	run find int32.bson "$option" 1 "$option" 1
+	expect "two of $option" 2 '' "$usage"
+done
+
+run find int32.bson --index a
+expect 'an option that is not there yet' 2 '' "$usage"
 
 run dump "$(printf '\377')"
 expect 'a word that is not UTF-8' 2 '' "$usage"
