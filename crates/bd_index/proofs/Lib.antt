@@ -1,0 +1,15 @@
+pub mod ComingLemmas
+pub mod CountLemmas
+pub mod CoverLemmas
+pub mod DocumentLemmas
+pub mod DownwardLemmas
+pub mod EntryLemmas
+pub mod FoundLemmas
+pub mod KeptLemmas
+pub mod OrderLemmas
+pub mod PlacesLemmas
+pub mod RepeatLemmas
+pub mod SearchLemmas
+pub mod SortKeyLemmas
+pub mod SpanLemmas
+pub mod WalkLemmas

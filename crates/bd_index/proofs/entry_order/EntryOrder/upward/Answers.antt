@@ -1,0 +1,6 @@
+use Rattle.std.proofs.Common.{arith}
+use Rattle.bd_index.proofs.OrderLemmas.{upward_ahead}
+use Rattle.bd_index.proofs.entry_order.EntryOrder.upward.Goals as goal
+
+pub returns : goal.returns
+returns c h = upward_ahead c.args.dump.now c.args.index.now c.result-1.given.0 h c.len.result (omega (arith, c.len.ensures))

@@ -1,0 +1,39 @@
+use Rattle.std.proofs.Common.{List, ℕ, length, subst, sym, ap, ◌∙◌, eqb, arith}
+use Rattle.std.specs.Prelude.{◌==◌}
+use Rattle.std.specs.List.{list_any}
+use Rattle.std.specs.List.Sorted.{IsStrictlyIncreasing}
+use Rattle.std.proofs.lemmas.List.Filters.{dedup_is}
+use Rattle.std.proofs.lemmas.List.Sorted.{list_any-IsPermutation}
+use Rattle.std.proofs.lemmas.Map.Keys.{IsStrictlyIncreasing-dedup}
+use Rattle.bd_index.specs.Spans.{AreInOrder, CoverKeys}
+use Rattle.bd_index.specs.Within.{lent_bounds}
+use Rattle.bd_index.specs.declared.span.Span.{Span}
+use Rattle.bd_bounds.specs.Bounds.{is_among}
+use Rattle.bd_index.proofs.OrderLemmas.{count_kept}
+use Rattle.bd_index.proofs.PlacesLemmas.{among_once, counted_within, members_within}
+use Rattle.bd_index.proofs.index.Index.places.Goals as goal
+
+pub places_in-requires : goal.places_in-requires
+places_in-requires c =
+    let h = c.requires in
+    subst (λ (l : List Span). AreInOrder 0 (length c.args.self.now.entries.items) l) (sym c.deref.ensures.value)
+    (subst (λ n. AreInOrder 0 n c.in_ok-spans.spans.items) (count_kept c.args.dump.now c.args.self.now h) (c.in_ok-spans.ensures h).order)
+
+pub returns : goal.returns
+returns c =
+    let h = c.requires in
+    let dump = c.args.dump.now in
+    let index = c.args.self.now in
+    let bounds = lent_bounds c.args.bounds in
+    let cover = subst (λ (l : List Span). CoverKeys h.keeps.entries (is_among bounds) l) (sym c.deref.ensures.value) (c.in_ok-spans.ensures h) in
+    let sorted = c.sort_unstable.new.self.items in
+    let once = dedup_is eqb sorted c.dedup.new.self.items c.dedup.ensures.filtered in
+    record {
+      ascend = subst IsStrictlyIncreasing (sym once) (IsStrictlyIncreasing-dedup sorted c.sort_unstable.ensures.sorted);
+      members = λ p.
+          let is_p = λ (q : ℕ). q == p in
+          ap (list_any is_p) once ∙ among_once p sorted
+          ∙ sym (list_any-IsPermutation is_p c.in_ok-places.places.items sorted c.sort_unstable.ensures.permutation)
+          ∙ ap (list_any is_p) c.in_ok-places.ensures ∙ members_within dump index h bounds c.deref.result.now cover p;
+      counted = (let n = ap (λ (l : List ℕ). length l) c.in_ok-places.ensures ∙ counted_within dump index h bounds c.deref.result.now cover in omega (arith, n, c.len-entries.ensures));
+    }

@@ -1,0 +1,20 @@
+use Rattle.std.proofs.Common.{◌≡◌, Bool, List, [], ◌∷◌, map, refl, sym, ap, ◌∙◌}
+use Rattle.std.specs.Prelude.{◌||◌, not}
+use Rattle.std.specs.List.{list_any}
+use Rattle.bd_value.specs.Order.{equal}
+use Rattle.bd_value.specs.Tree.{Tree}
+use Rattle.bd_path.specs.Key.{key_tree, key_trees}
+use Rattle.bd_index.proofs.CountLemmas.{several}
+use Rattle.bd_index.proofs.multikey.are_several.Goals as goal
+
+any_map : {A : Type 0} (test : Tree → Bool) (f : A → Tree) (xs : List A) → list_any (λ x. test (f x)) xs ≡ list_any test (map f xs)
+any_map test f [] = refl
+any_map test f (x ∷ xs) = ap (λ (b : Bool). test (f x) || b) (any_map test f xs)
+
+pub returns : goal.returns
+returns g c =
+    let first = key_tree g.N.Reading.tree c.in-Some.first.now in
+    let others = key_trees g.N.Reading.tree c.in-Some.others.now in
+    c.differ.ensures
+    ∙ any_map (λ t. not (equal first t)) (key_tree g.N.Reading.tree) c.in-Some.others.now
+    ∙ sym (several (key_trees g.N.Reading.tree c.args.keys.now) first others (ap (key_trees g.N.Reading.tree) c.in-Some.ensures.cases.0))

@@ -1,0 +1,12 @@
+pub mod Ahead
+pub mod Downward
+pub mod Entries
+pub mod FoundView
+pub mod Indexed
+pub mod Kept
+pub mod Once
+pub mod Spans
+pub mod Walk
+pub mod WalkLaw
+pub mod WalkLeft
+pub mod Within

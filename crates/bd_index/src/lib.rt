@@ -1,0 +1,37 @@
+//! Multikey indexes over offsets into a dump.
+//!
+//! An index on a path has an entry for each key of each document of a dump: an array gives the keys of its elements, so that a
+//! document may have several (MongoDB manual, "Multikey Indexes"). It holds no key, only where each stands in the dump, in 12
+//! bytes an entry, and is read beside the dump that it was built from: `IsIndexOf` in `specs/Indexed.antt`. A sparse index has no
+//! entry for a field that is missing.
+//!
+//! An example, which `bd_index_tests` proves and runs as `examples::greater_than_six`:
+//!
+//! ```
+//! let path = Path::parse(alloc, "a")?;
+//! let index = Index::build(alloc, &dump, path)?;
+//! let bounds = Bounds::of(alloc, &filter, index.path(), index.multikey())?;
+//! let found = index.places(alloc, &dump, bounds.as_ref())?;
+//! assert!(rt; found.entries == 2 && found.places.as_slice() == [2, 3].as_slice());
+//! ```
+//!
+//! - `index`: `Index`, its entries and how it is built: `specs/Entries.antt`.
+//! - `entry`, `found`, `multikey`: the keys of all documents, put in order; whether a document has two.
+//! - `search`, `span`, `spans`, `places`: `Index::places`, the documents with an entry inside bounds: `specs/Within.antt`.
+//! - `entry_order`, `walk`: `Index::walk`, all documents in the order of a sort: `specs/Walk.antt`.
+#![tactic(auto)]
+
+mod entry;
+mod entry_order;
+mod found;
+mod index;
+mod multikey;
+mod places;
+mod search;
+mod span;
+mod spans;
+mod walk;
+
+pub use index::Index;
+pub use places::Places;
+pub use walk::Walk;

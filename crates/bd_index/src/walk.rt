@@ -1,0 +1,96 @@
+//! The places of all documents, in the order of an index.
+
+ghost use Rattle.std.specs.Prelude.{◌≡◌, ◌<◌, All, Bool, IfOk, false, length, slice_index_or, ℕ};
+ghost use Rattle.std.proofs.Props.{props};
+ghost use Rattle.bd_index.specs.Ahead.{places_ahead};
+
+use crate::entry_order::EntryOrder;
+use crate::index::Index;
+use bd_answer::PlaceSource;
+use bd_bson::Dump;
+use bd_path::Dir;
+use bd_value::NoMemory;
+use std::alloc::Global;
+
+/// The places of all documents, each once, in the order of a sort by the path of an index. Its memory was taken when it was
+/// made, and it reads no more entries than it is asked for.
+#[derive(Drop)]
+pub struct Walk<'a> {
+    pub(crate) order: EntryOrder<'a>,
+    /// For each place, whether it was handed out.
+    pub(crate) seen: Vec<bool>,
+    ghost room: { All (λ p. p < length seen.items) (places_ahead order) } by { Prim.hlevel props },
+}
+
+impl<'a> Iterator for Walk<'a> {
+    ghost use Rattle.std.specs.Iterator.{YieldsFirst, item_count};
+    ghost use Rattle.bd_index.specs.WalkLeft.{walk_left};
+
+    type Item = u32;
+
+    ghost next_gives = { YieldsFirst walk_left };
+
+    ghost remaining = { item_count walk_left };
+
+    /// The next place. It takes no memory.
+    fn next(&mut self) -> Option<u32> {
+        while let Some((place, after)) = self.order.split_first() {
+            self.order = after;
+            if !self.seen[place as usize] {
+                self.seen[place as usize] = true;
+                return Some(place);
+            }
+        }
+        None
+    }
+}
+
+impl<'a> PlaceSource for Walk<'a> {
+    ghost use Rattle.bd_index.specs.WalkLaw.{WalksEach, walk_law};
+    ghost use Rattle.bd_index.specs.WalkLeft.{walk_left};
+
+    ghost left = { walk_left };
+
+    ghost serves = { λ s n hits. WalksEach n (walk_left s) };
+
+    fn next_place(&mut self) -> Option<u32> {
+        self.next()
+    }
+
+    ghost law = { λ s n hits w. walk_law n hits (walk_left s) w };
+}
+
+impl Index {
+    ghost use Rattle.bd_bson.specs.Collection.{documents};
+    ghost use Rattle.bd_path.specs.PathNames.{names_of};
+    ghost use Rattle.bd_index.specs.Indexed.{IsIndexOf};
+    ghost use Rattle.bd_index.specs.Walk.{WalksAll};
+    ghost use Rattle.bd_index.specs.WalkLeft.{walk_left};
+
+    /// The places of all documents, each once, in the order of a sort by the path of the index; documents whose sort keys are
+    /// equal in the order of the dump, in both directions. It fails for want of memory alone.
+    pub fn walk<'a>(&'a self, alloc: Global, dump: &'a Dump, dir: Dir) -> Result<Walk<'a>, NoMemory>
+        requires index { IsIndexOf dump.now self.now }
+        requires whole { self.now.sparse ≡ false }
+        ensures { IfOk result (λ walk. WalksAll dir (names_of self.now.path) (documents dump.now) (walk_left walk)) }
+    {
+        let seen = unmarked(alloc, dump.len())?;
+        let order = match dir {
+            Dir::Up => EntryOrder::upward(dump, self),
+            Dir::Down => EntryOrder::downward(dump, self),
+        };
+        Ok(Walk { order, seen })
+    }
+}
+
+/// No mark for any of so many places.
+fn unmarked(alloc: Global, count: u32) -> Result<Vec<bool>, NoMemory>
+    ensures len { IfOk result (λ v. length v.items ≡ count) }
+    ensures none { IfOk result (λ v. (p : ℕ) (d : Bool) → p < count → slice_index_or v.items p d ≡ false) }
+{
+    let mut seen = Vec::with_capacity(alloc, count as usize)?;
+    for _ in 0..count {
+        seen.push(false)?;
+    }
+    Ok(seen)
+}
