@@ -1,3 +1,4 @@
 pub mod Collection
+pub mod Documents
 pub mod Starts
 pub mod Verdicts

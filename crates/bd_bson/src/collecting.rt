@@ -69,5 +69,6 @@ pub fn read_dump(alloc: Global, bytes: Vec<u8>) -> Result<Dump, Fault>
         bytes,
         starts,
         reads: Cell::new(0),
+        value_reads: Cell::new(0),
     })
 }

@@ -17,6 +17,8 @@ pub struct Dump {
     pub(crate) starts: Vec<u32>,
     /// How often a document was asked for.
     pub(crate) reads: Cell<u64>,
+    /// How often a value was asked for by where it stands.
+    pub(crate) value_reads: Cell<u64>,
     ghost few: { length starts.items ≤ 4294967295 },
     ghost short: { length bytes.items ≤ 4294967295 },
     ghost stand: { StandAt bytes.items starts.items } by { StandAt-prop bytes.items starts.items },
@@ -49,6 +51,7 @@ impl Dump {
         ensures value { (tree : Tree) → StandsAt (bytes_of self.now) at tree → stands result.sound ≡ tree }
         ensures kept { result.bytes.now ≡ bytes_of self.now }
     {
+        self.value_reads.set(self.value_reads.get().saturating_add(1));
         at.value_in(&self.bytes)
     }
 
@@ -56,6 +59,12 @@ impl Dump {
     /// it: it is for tests and for figures.
     pub fn reads(&self) -> u64 {
         self.reads.get()
+    }
+
+    /// How often `value_at` was called on this dump, at most 18,446,744,073,709,551,615, where it stays. No contract speaks of it:
+    /// it is for tests and for figures.
+    pub fn value_reads(&self) -> u64 {
+        self.value_reads.get()
     }
 
     /// The bytes that it was read from. It takes no memory.
