@@ -1,0 +1,20 @@
+//! Fronts of keys, by which most keys compare.
+//!
+//! To compare two keys that lie in a dump, their bytes are read, which are mostly far apart. A front is what decides most
+//! comparisons by itself: of a text its first 15 bytes and its length, of a number, a date or an ObjectId all of it. Fronts are kept
+//! side by side while keys are sorted.
+//!
+//! An example, which `bd_index_tests` proves and runs as `examples::seven_before_nine`:
+//!
+//! ```
+//! let seven = Front::of(sort_key_node(dump.document(0).value(), &path, Dir::Up));
+//! let nine = Front::of(sort_key_node(dump.document(1).value(), &path, Dir::Up));
+//! assert!(rt; compare_fronts(seven, nine) == Some(Ordering::Less));
+//! ```
+//!
+//! - `front`: `Front`, and `compare_fronts`: `specs/Front.antt`.
+#![tactic(auto)]
+
+mod front;
+
+pub use front::{Front, compare_fronts};

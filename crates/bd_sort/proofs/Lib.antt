@@ -1,0 +1,3 @@
+pub mod InOrderLemmas
+pub mod SortTableLemmas
+pub mod SortedLemmas

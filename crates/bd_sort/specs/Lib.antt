@@ -1,0 +1,4 @@
+pub mod Asked
+pub mod Column
+pub mod SortTable
+pub mod Sorted

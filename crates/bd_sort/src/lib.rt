@@ -1,0 +1,29 @@
+//! The documents of a dump that a request asks for, in their order.
+//!
+//! A source hands out places of documents, among which those of all matches are. They are put in the order of the sort, at most
+//! so many, by keys that are found once and not copied; where a source hands them out in that order, nothing is sorted.
+//!
+//! An example, which `bd_cursor_tests` proves and runs as `examples::two_cheapest`:
+//!
+//! ```
+//! let source = Scan::new(dump.len());
+//! let places = sorted_places(alloc, &dump, &request, source, None, Some(2))?;
+//! assert!(rt; places.as_slice() == [2, 0].as_slice());
+//! ```
+//!
+//! - `matching`: which documents match: `specs/Asked.antt`, what a request asks of a dump.
+//! - `sorted`: the places of any source, put in order: `specs/Sorted.antt`; `in_order`, those of a source that has the order.
+//! - `sort_table`, `columns`, `column`: the sort keys that are kept for it: `specs/SortTable.antt`, `specs/Column.antt`; `front`,
+//!   by which most texts among them compare: `specs/Front.antt`.
+#![tactic(auto)]
+
+mod column;
+mod columns;
+mod in_order;
+mod matching;
+mod sort_table;
+mod sorted;
+
+pub use in_order::places_in_order;
+pub use matching::is_match;
+pub use sorted::sorted_places;
