@@ -19,7 +19,8 @@ use Rattle.bd_path.specs.declared.dir.Dir.TheVariants.{Up, Down}
 use Rattle.bd_path.proofs.EarliestLemmas.{dir_total}
 use Rattle.bd_index.specs.Ahead.{fresh_places}
 use Rattle.bd_index.specs.Downward.{downward}
-use Rattle.bd_index.specs.Entries.{AreEntries, KeyAt, document_tree, entries_from, entries_of, keys_at}
+use Rattle.bd_bson.specs.Documents.{document_at}
+use Rattle.bd_index.specs.Entries.{AreEntries, KeyAt, entries_from, entries_of, keys_at}
 use Rattle.bd_index.specs.Walk.{WalksAll}
 use Rattle.bd_index.proofs.ComingLemmas.{Ascends, Ready, Rises, all_append, all_map, first_places, in_turn, none_any, none_passes, place_by}
 use Rattle.bd_index.proofs.DownwardLemmas.{count_downward, downward_rises}
@@ -42,7 +43,7 @@ any_as_counts p xs ys h = any_by_count p xs ∙ ap (nat_lt 0) h ∙ sym (any_by_
 -- ---- of all entries
 
 abbrev keys_of : Names → List Doc → ℕ → List Tree
-keys_of path ds i = keys (document_tree ds i) path
+keys_of path ds i = keys (document_at ds i) path
 
 all_of_keys : (P : KeyAt → Type 0) (n : ℕ) (ks : List Tree) → AllByRecursion (λ k. P (k, n)) ks → AllByRecursion P (keys_at n ks)
 all_of_keys P n [] h = tt
@@ -55,7 +56,7 @@ all_entries P path n (d ∷ ds) h =
     (all_of_keys P n (keys (doc (fields_of d)) path) (subst (λ (m : ℕ). AllByRecursion (λ k. P (k, m)) (keys (doc (fields_of d)) path)) (add-zero n) (h 0 (omega arith))))
     (all_entries P path (n + 1) ds (λ i lt. let e : n + suc i ≡ n + 1 + i = omega arith in subst (λ (m : ℕ). AllByRecursion (λ k. P (k, m)) (keys_of path ds i)) e (h (suc i) (omega arith))))
 
-any_in : {A : Type 0} (t : A → Bool) (xs ys : List A) → list_any t (xs ++ ys) ≡ (list_any t xs || list_any t ys)
+pub any_in : {A : Type 0} (t : A → Bool) (xs ys : List A) → list_any t (xs ++ ys) ≡ (list_any t xs || list_any t ys)
 any_in t [] ys = refl
 any_in t (x ∷ xs) ys = ap (λ (b : Bool). t x || b) (any_in t xs ys) ∙ go (t x) (list_any t xs) (list_any t ys)
   where
@@ -107,7 +108,7 @@ pub record AreOrdered (dir : Dir) (path : Names) (ds : List Doc) (es : List KeyA
   pub rises : Rises (dir_cmp dir) es
 
 abbrev key_of : Dir → Names → List Doc → ℕ → Tree
-key_of dir path ds n = sort_key dir (document_tree ds n) path
+key_of dir path ds n = sort_key dir (document_at ds n) path
 
 ready : (dir : Dir) (path : Names) (ds : List Doc) (es : List KeyAt) → AreOrdered dir path ds es → Ready (dir_cmp dir) (key_of dir path ds) (λ n. nat_lt n (length ds)) [] es
 ready dir path ds es a = record {
@@ -118,10 +119,10 @@ ready dir path ds es a = record {
       any_as_counts t es (entries_of false path ds) (a.same t)
       ∙ some_entry t path 0 ds q lt
       (let z : 0 + q ≡ q = omega arith in
-      ap (λ (b : Bool). list_any (λ k. b && is_eq (dir_cmp dir k (key_of dir path ds q))) (keys_of path ds q)) (eq-eqb (0 + q) q z) ∙ (sort_key_best dir (document_tree ds q) path).there);
+      ap (λ (b : Bool). list_any (λ k. b && is_eq (dir_cmp dir k (key_of dir path ds q))) (keys_of path ds q)) (eq-eqb (0 + q) q z) ∙ (sort_key_best dir (document_at ds q) path).there);
   low = none_of (λ e. is_lt (dir_cmp dir e.0 (key_of dir path ds e.1))) es (entries_of false path ds) (a.same (λ e. is_lt (dir_cmp dir e.0 (key_of dir path ds e.1))))
       (all_entries (λ e. is_lt (dir_cmp dir e.0 (key_of dir path ds e.1)) ≡ false) path 0 ds
-      (λ i lt. let z : i ≡ 0 + i = omega arith in subst (λ (m : ℕ). AllByRecursion (λ k. is_lt (dir_cmp dir k (key_of dir path ds m)) ≡ false) (keys_of path ds i)) z (sort_key_best dir (document_tree ds i) path).low));
+      (λ i lt. let z : i ≡ 0 + i = omega arith in subst (λ (m : ℕ). AllByRecursion (λ k. is_lt (dir_cmp dir k (key_of dir path ds m)) ≡ false) (keys_of path ds i)) z (sort_key_best dir (document_at ds i) path).low));
   rises = a.rises;
   places = places_below path ds es a.same;
 }

@@ -1,5 +1,5 @@
 -- The entries of an index on a path: the keys of the documents of a dump, each with the place of its document.
-use Rattle.std.specs.Prelude.{◌≡◌, ◌==◌, ℕ, ◌+◌, Bool, ◌&&◌, List, [], ◌∷◌, ◌++◌, map, count_by, length, nat_lt, slice_index_or}
+use Rattle.std.specs.Prelude.{◌≡◌, ◌==◌, ℕ, ◌+◌, Bool, ◌&&◌, List, [], ◌∷◌, ◌++◌, map, count_by, length, nat_lt}
 use Rattle.std.specs.List.{list_any}
 use Rattle.std.specs.List.Sorted.{IsSortedBy}
 use Rattle.std.specs.Ordering.{is_lt, nat_cmp, ordering_then}
@@ -15,10 +15,6 @@ KeyAt = Tree × ℕ
 
 abbrev pub keys_at : ℕ → List Tree → List KeyAt
 keys_at place ks = map (λ k. (k, place)) ks
-
--- the document at a place
-abbrev pub document_tree : List Doc → ℕ → Tree
-document_tree ds place = doc (fields_of (slice_index_or ds place []))
 
 -- of documents that stand from a place on, one entry for each key of each
 abbrev pub entries_from : Bool → Names → ℕ → List Doc → List KeyAt

@@ -8,11 +8,11 @@ use Rattle.bd_answer.specs.AnswerLaws.{IsAscending}
 use Rattle.bd_path.specs.Earliest.{sort_cmp}
 use Rattle.bd_path.specs.Names.{Names}
 use Rattle.bd_path.specs.declared.dir.Dir.{Dir}
-use Rattle.bd_index.specs.Entries.{document_tree}
+use Rattle.bd_bson.specs.Documents.{document_at}
 
 -- how the sort keys of two documents stand
 abbrev pub walk_order : Dir → Names → List Doc → ℕ → ℕ → Ordering
-walk_order dir path ds p q = sort_cmp (record { path = path; dir = dir } ∷ []) (document_tree ds p) (document_tree ds q)
+walk_order dir path ds p q = sort_cmp (record { path = path; dir = dir } ∷ []) (document_at ds p) (document_at ds q)
 
 -- the place of each document, once, in the order of the sort, ties in that of the documents
 pub record WalksAll (dir : Dir) (path : Names) (ds : List Doc) (places : List ℕ) : Type 0 where

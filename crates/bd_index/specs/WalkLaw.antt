@@ -12,7 +12,7 @@ use Rattle.bd_answer.proofs.AnswerLemmas.{before_strict}
 use Rattle.bd_path.specs.Names.{Names}
 use Rattle.bd_path.specs.declared.dir.Dir.{Dir}
 use Rattle.bd_path.proofs.LawsLemmas.{sort_total}
-use Rattle.bd_index.specs.Entries.{document_tree}
+use Rattle.bd_bson.specs.Documents.{document_at}
 use Rattle.bd_index.specs.Walk.{WalksAll, walk_order}
 
 -- the walk of some documents, as many as the number
@@ -41,7 +41,7 @@ contained (p ∷ ps) q h = go (p == q) refl (contained ps q)
     go false e rest = let r = rest (ap (λ (b : Bool). b || list_any (λ m. m == q) ps) (sym e) ∙ h) in (suc r.0, omega (arith, r.1), r.2)
 
 order_total : (dir : Dir) (path : Names) (ds : List Doc) → IsTotalOrder (walk_order dir path ds)
-order_total dir path ds = on_total (document_tree ds) (sort_total (record { path = path; dir = dir } ∷ []))
+order_total dir path ds = on_total (document_at ds) (sort_total (record { path = path; dir = dir } ∷ []))
 
 pub walk_law : (n : ℕ) (hits : ℕ → Bool) (ps : List ℕ) → WalksEach n ps → IsSource n hits ps
 walk_law n hits ps w = record {

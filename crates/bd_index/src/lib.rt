@@ -16,11 +16,12 @@
 //! ```
 //!
 //! - `index`: `Index`, its entries and how it is built: `specs/Entries.antt`.
-//! - `entry`, `found`, `multikey`: the keys of all documents, put in order; whether a document has two.
+//! - `entry`, `found`, `entries`, `multikey`: the keys of all documents, put in order; whether a document has two.
 //! - `search`, `span`, `spans`, `places`: `Index::places`, the documents with an entry inside bounds: `specs/Within.antt`.
 //! - `entry_order`, `walk`: `Index::walk`, all documents in the order of a sort: `specs/Walk.antt`.
 #![tactic(auto)]
 
+mod entries;
 mod entry;
 mod entry_order;
 mod found;

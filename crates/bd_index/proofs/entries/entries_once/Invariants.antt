@@ -1,7 +1,7 @@
 use Rattle.std.proofs.Common.{ℕ, List, drop}
 use Rattle.bd_index.specs.FoundView.{AreFoundIn}
 use Rattle.bd_index.proofs.KeptLemmas.{KeepsSoFar}
-use Rattle.bd_index.proofs.found.entries_once.Given as goal
+use Rattle.bd_index.proofs.entries.entries_once.Given as goal
 
 abbrev pub invariant-loop-one : goal.invariant-loop-one
 invariant-loop-one l = (bytes : List ℕ) → AreFoundIn bytes l.found → KeepsSoFar bytes l.entries.items l.last (drop l.one-index l.found) l.found

@@ -2,7 +2,7 @@ use Rattle.std.proofs.Common.{sym, ap, ◌∙◌}
 use Rattle.bd_value.specs.Tree.{leaf, null, undefined}
 use Rattle.bd_path.specs.Key.{key_tree}
 use Rattle.bd_index.specs.FoundView.{raw_tree}
-use Rattle.bd_index.proofs.found.in_dump.Goals as goal
+use Rattle.bd_index.proofs.entries.in_dump.Goals as goal
 
 pub value_at-requires : goal.value_at-requires
 value_at-requires c = (leaf null, c.null.ensures _)

@@ -12,7 +12,7 @@ use Rattle.bd_index.specs.declared.found.Found.{Found}
 use Rattle.bd_index.proofs.EntryLemmas.{entry_total, sorted_map}
 use Rattle.bd_index.proofs.FoundLemmas.{as_they_came, found_lt}
 use Rattle.bd_index.proofs.RepeatLemmas.{ascend_from_sorted, once_sorted, repeats_ascend, sorted_from_ascend}
-use Rattle.bd_index.proofs.found.entries_of.Goals as goal
+use Rattle.bd_index.proofs.entries.entries_of.Goals as goal
 
 pub returns : goal.returns
 returns c =

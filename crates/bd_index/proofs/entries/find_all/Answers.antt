@@ -6,7 +6,7 @@ use Rattle.bd_path.specs.Key.{key_trees}
 use Rattle.bd_path.specs.PathNames.{names_of}
 use Rattle.bd_index.specs.FoundView.{found_entry, raw_tree}
 use Rattle.bd_index.proofs.DocumentLemmas.{one_more}
-use Rattle.bd_index.proofs.found.find_all.Goals as goal
+use Rattle.bd_index.proofs.entries.find_all.Goals as goal
 
 pub loop-place-preserved : goal.loop-place-preserved
 loop-place-preserved c = record {

@@ -3,7 +3,7 @@ use Rattle.bd_bson.specs.Collection.{documents, bytes_of}
 use Rattle.bd_path.specs.PathNames.{names_of}
 use Rattle.bd_index.specs.Entries.{all_entries_from}
 use Rattle.bd_index.specs.FoundView.{AreFoundIn, found_entry}
-use Rattle.bd_index.proofs.found.find_all.Given as goal
+use Rattle.bd_index.proofs.entries.find_all.Given as goal
 
 abbrev pub invariant-loop-place : goal.invariant-loop-place
 invariant-loop-place l = record {

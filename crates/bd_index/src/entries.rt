@@ -1,0 +1,133 @@
+//! The keys of all documents, while they are put in order.
+
+ghost use Rattle.std.specs.Prelude.{◌≡◌, ◌++◌, List, ℕ, None, map, IfOk, OnOk};
+ghost use Rattle.bd_raw.specs.Sound.{stands};
+ghost use Rattle.bd_bson.specs.Collection.{documents, bytes_of};
+ghost use Rattle.bd_path.specs.Key.{AreKeysOf, IsKeyOf, key_tree, key_trees};
+ghost use Rattle.bd_path.specs.PathNames.{names_of};
+ghost use Rattle.bd_index.specs.Entries.{all_entries_from, entry_cmp, keys_at};
+ghost use Rattle.bd_index.specs.FoundView.{AreFoundIn, found_entry, last_entry, raw_source, raw_tree};
+ghost use Rattle.bd_index.specs.Indexed.{KeepsDump};
+ghost use Rattle.bd_index.specs.Kept.{KeepsEntries};
+ghost use Rattle.bd_index.specs.Once.{is_repeat, without_repeats};
+
+use crate::entry::Entry;
+use crate::found::Found;
+use bd_bson::{At, Dump, RawValue};
+use bd_front::{Front, compare_fronts};
+use bd_path::{Key, Path, all_key_nodes};
+use bd_value::{NoMemory, compare_nodes};
+use std::alloc::Global;
+use std::cmp::Ordering;
+
+/// The entries of the documents on a path, in their order; without a null for a field that is missing where the index is
+/// sparse. It fails for want of memory alone.
+///
+/// Equal keys of a document are side by side after the sort, where one of them is kept: so that an array takes no time in the
+/// square of its length.
+pub(crate) fn entries_of(
+    alloc: Global,
+    dump: &Dump,
+    path: &Path,
+    sparse: bool,
+) -> Result<Vec<Entry>, NoMemory>
+    ensures { IfOk result (λ v. KeepsDump sparse (names_of path.now) dump.now v.items) }
+{
+    let mut found = find_all(alloc, dump, path, sparse)?;
+    found.sort_by(compare_found)?;
+    let entries = entries_once(alloc, &found)?;
+    Ok(entries)
+}
+
+/// The keys of all documents, equal ones too, in the order of the documents.
+fn find_all<'a>(
+    alloc: Global,
+    dump: &'a Dump,
+    path: &Path,
+    sparse: bool,
+) -> Result<Vec<Found<'a>>, NoMemory>
+    ensures found { IfOk result (λ v. map found_entry v.items ≡ all_entries_from sparse (names_of path.now) 0 (documents dump.now)) }
+    ensures kept { IfOk result (λ v. AreFoundIn (bytes_of dump.now) v.items) }
+{
+    let mut found = Vec::new(alloc);
+    for place in 0..dump.len() {
+        let keys = all_key_nodes(alloc, dump.document(place).value(), path, sparse)?;
+        add_found(dump, &keys, place, &mut found)?;
+    }
+    Ok(found)
+}
+
+/// Appends the keys of one document.
+fn add_found<'a>(
+    dump: &'a Dump,
+    keys: &[Key<RawValue<'a>>],
+    place: u32,
+    found: &mut Vec<Found<'a>>,
+) -> Result<(), NoMemory>
+    requires { AreKeysOf raw_source (bytes_of dump.now) keys.now }
+    ensures added { OnOk result (map found_entry found.new.items ≡ map found_entry found.old.items ++ keys_at place (key_trees raw_tree keys.now)) }
+    ensures kept { AreFoundIn (bytes_of dump.now) found.old.items → AreFoundIn (bytes_of dump.now) found.new.items }
+{
+    for key in keys {
+        let key = in_dump(dump, *key);
+        found.push(Found {
+            key,
+            place,
+            front: Front::of(Key::Node(key)),
+        })?;
+    }
+    Ok(())
+}
+
+/// The key as a value of the dump. One that is not there takes no byte, and stands everywhere.
+fn in_dump<'a>(dump: &'a Dump, key: Key<RawValue<'a>>) -> RawValue<'a>
+    requires { IsKeyOf raw_source (bytes_of dump.now) key }
+    ensures tree { stands result.sound ≡ key_tree raw_tree key.entry }
+    ensures kept { result.bytes.now ≡ bytes_of dump.now }
+{
+    match key {
+        Key::Node(value) => value,
+        Key::Null => dump.value_at(At::null()),
+        Key::Undefined => dump.value_at(At::undefined()),
+    }
+}
+
+/// The order of two: by key, then by place. The keys are read only where their fronts do not tell it.
+fn compare_found(a: &Found<'_>, b: &Found<'_>) -> Ordering
+    ensures { result ≡ entry_cmp (found_entry a.now) (found_entry b.now) }
+{
+    let order = match compare_fronts(a.front, b.front) {
+        Some(order) => order,
+        None => compare_nodes(a.key, b.key),
+    };
+    order.then(a.place.cmp(&b.place))
+}
+
+/// Where they stand, without one that repeats the one before.
+fn entries_once(alloc: Global, found: &[Found<'_>]) -> Result<Vec<Entry>, NoMemory>
+    ensures { (bytes : List ℕ) → AreFoundIn bytes found.now →
+        IfOk result (λ v. KeepsEntries bytes v.items (without_repeats None (map found_entry found.now))) }
+{
+    let mut entries = Vec::with_capacity(alloc, found.len())?;
+    let mut last = None;
+    for one in found {
+        if !repeats(last, one) {
+            entries.push(Entry {
+                key: one.key.at(),
+                place: one.place,
+            })?;
+            last = Some(*one);
+        }
+    }
+    Ok(entries)
+}
+
+/// Whether it is an equal key of the same document.
+fn repeats(last: Option<Found<'_>>, next: &Found<'_>) -> bool
+    ensures { result ≡ is_repeat (last_entry last.entry) (found_entry next.now) }
+{
+    match last {
+        Some(last) => last.place == next.place && compare_nodes(last.key, next.key).is_eq(),
+        None => false,
+    }
+}
