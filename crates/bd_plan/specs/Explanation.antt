@@ -1,0 +1,80 @@
+-- What is told of how the documents of a request are found.
+use Rattle.std.specs.Prelude.{ℕ, List, count_by, length, string_bytes, Some, None, option_map}
+use Rattle.std.specs.List.{filter, list_any, range_with_len}
+use Rattle.bd_value.specs.Tree.{Doc}
+use Rattle.bd_answer.specs.Answer.{matching}
+use Rattle.bd_answer.specs.Session.{Explained, IndexCounts, IndexMark, PlanKind, by_index, by_scan, by_walk}
+use Rattle.bd_path.specs.KeyList.{indexed_keys}
+use Rattle.bd_path.specs.Sort.{sort_paths}
+use Rattle.bd_query.specs.FilterView.{filter_tree}
+use Rattle.bd_request.specs.declared.request.Request.{Request}
+use Rattle.bd_bson.specs.Documents.{document_at}
+use Rattle.bd_sort.specs.Asked.{asked_of}
+use Rattle.bd_bounds.specs.Bounds.{KeyBounds, is_among}
+use Rattle.bd_index.specs.Entries.{entries_of, is_multikey}
+use Rattle.bd_index.specs.Within.{has_key_in}
+use Rattle.bd_index.specs.declared.index.Index.{Index}
+use Rattle.bd_plan.specs.AccessPath.{AccessPath, access_of, bounded, mark_names, scanned, walked}
+use Rattle.bd_plan.specs.declared.choice.Choice.{Choice}
+use Rattle.bd_plan.specs.declared.explanation.Explain.{Explain}
+use Rattle.bd_plan.specs.declared.explanation.Plan.{Plan}
+use Rattle.bd_plan.specs.declared.explanation.Plan.TheVariants as plans
+
+abbrev pub index_mark : Index → IndexMark
+index_mark i = record { path = string_bytes i.path.text; is_sparse = i.sparse }
+
+-- how many entries the index of these documents has, and whether one of them has two keys
+abbrev pub index_counts : List Doc → IndexMark → IndexCounts
+index_counts ds i = record {
+  entries = length (entries_of i.is_sparse (mark_names i) ds);
+  is_multikey = is_multikey (mark_names i) ds;
+}
+
+-- how many entries of an index are inside bounds
+abbrev pub entries_within : List Doc → IndexMark → KeyBounds → ℕ
+entries_within ds i b = count_by (has_key_in b) (entries_of i.is_sparse (mark_names i) ds)
+
+-- the places of the documents that have one there, ascending
+abbrev pub places_within : List Doc → IndexMark → KeyBounds → List ℕ
+places_within ds i b =
+    filter (λ p. list_any (is_among b) (indexed_keys i.is_sparse (document_at ds p) (mark_names i)))
+    (range_with_len 0 (length ds))
+
+-- what is read on an access path, and how many documents match
+abbrev pub explained_access : List Doc → ℕ → AccessPath → Explained
+explained_access ds matches scanned =
+    record { plan = by_scan; index = None; entries = 0; looked_at = length ds; matches = matches }
+explained_access ds matches (bounded i b) = record {
+  plan = by_index;
+  index = Some i.path;
+  entries = entries_within ds i b;
+  looked_at = length (places_within ds i b);
+  matches = matches;
+}
+explained_access ds matches (walked i dir) = record {
+  plan = by_walk;
+  index = Some i.path;
+  entries = (index_counts ds i).entries;
+  looked_at = length ds;
+  matches = matches;
+}
+
+abbrev pub explanation_of : List Doc → Request → Choice → List IndexMark → Explained
+explanation_of ds r choice indexes =
+    explained_access ds (length (matching (asked_of ds r)))
+    (access_of ds (filter_tree r.filter) (sort_paths r.sort.items) choice indexes)
+
+abbrev pub plan_kind : Plan → PlanKind
+plan_kind plans.Scan = by_scan
+plan_kind plans.Index = by_index
+plan_kind plans.Walk = by_walk
+
+-- what is told, as the machine of sessions has it
+abbrev pub told : Explain → Explained
+told e = record {
+  plan = plan_kind e.plan;
+  index = option_map (λ path. string_bytes path) e.index;
+  entries = e.entries;
+  looked_at = e.documents;
+  matches = e.matches;
+}

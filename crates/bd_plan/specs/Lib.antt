@@ -1,0 +1,3 @@
+pub mod AccessPath
+pub mod AccessView
+pub mod Explanation
