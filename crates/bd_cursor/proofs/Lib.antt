@@ -1,7 +1,5 @@
 pub mod AheadLemmas
-pub mod FrontOrderLemmas
+pub mod CursorLemmas
 pub mod ListedLemmas
 pub mod SessionLemmas
-pub mod SortTableLemmas
-pub mod SortedPlacesLemmas
 pub mod UnsortedAheadLemmas

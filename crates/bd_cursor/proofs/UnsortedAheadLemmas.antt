@@ -11,7 +11,8 @@ use Rattle.bd_path.specs.Earliest.{sort_cmp}
 use Rattle.bd_path.specs.Sort.{sort_paths}
 use Rattle.bd_path.proofs.LawsLemmas.{sort_total}
 use Rattle.bd_query.specs.FilterView.{filter_tree}
-use Rattle.bd_cursor.specs.Asked.{asked_of, document_at, hits_of}
+use Rattle.bd_bson.specs.Documents.{document_at}
+use Rattle.bd_sort.specs.Asked.{asked_of, hits_of}
 use Rattle.bd_request.specs.declared.request.Request.{Request}
 use Rattle.bd_cursor.proofs.AheadLemmas.{unseen}
 

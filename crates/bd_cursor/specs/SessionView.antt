@@ -1,17 +1,23 @@
 -- A session as the state of the machine.
-use Rattle.std.specs.Prelude.{◌≡◌, ◌-◌, ℕ, Bool, List, [], drop, length, map, option_map, string_bytes, Option, Some, None}
+use Rattle.std.specs.Prelude.{◌≡◌, ◌-◌, ◌++◌, ℕ, nat_lt, Bool, false, true, List, [], ◌∷◌, drop, length, map, option_map, string_bytes, Option, Some, None}
 use Rattle.std.specs.List.{filter, range_with_len}
 use Rattle.bd_answer.specs.Answer.{Asked, Mark, at_most}
-use Rattle.bd_answer.specs.Session.{GivenBatch, MarkedToken, OpenCursor, Reply, State, foreign_token, gave, no_cursor, no_index, opened, out_of_range, token_place, too_many_cursors}
+use Rattle.bd_answer.specs.Session.{Call, GivenBatch, IndexCounts, IndexMark, MarkedToken, OpenCursor, Reply, State, explain_call, has_index, make_call, most_indexes}
+use Rattle.bd_answer.specs.Session.{explained, foreign_token, gave, index_there, made, no_cursor, no_index, opened, out_of_range, token_place}
+use Rattle.bd_answer.specs.Session.{too_many_cursors, too_many_indexes}
 use Rattle.bd_bson.specs.declared.collection.Dump.{Dump}
 use Rattle.bd_bson.specs.Collection.{documents}
 use Rattle.bd_query.specs.FilterView.{filter_tree}
 use Rattle.bd_query.specs.declared.filter.Filter.{Filter}
-use Rattle.bd_cursor.specs.Asked.{hits_of, query_of}
-use Rattle.bd_cursor.specs.SortedPlaces.{with_first}
+use Rattle.bd_sort.specs.Asked.{hits_of, query_of}
+use Rattle.bd_sort.specs.Sorted.{with_first}
 use Rattle.bd_cursor.specs.declared.ahead.Ahead.{Ahead}
-use Rattle.bd_cursor.specs.declared.session.Choice.{Choice}
-use Rattle.bd_cursor.specs.declared.session.Choice.TheVariants as choices
+use Rattle.bd_plan.specs.Explanation.{explanation_of, index_counts, index_mark}
+use Rattle.bd_plan.specs.declared.choice.Choice.{Choice}
+use Rattle.bd_plan.specs.declared.choice.Choice.TheVariants as choices
+use Rattle.bd_path.specs.declared.path.Path.{Path}
+use Rattle.bd_request.specs.declared.request.Request.{Request}
+use Rattle.bd_cursor.specs.declared.session.Made.{Made}
 use Rattle.bd_cursor.specs.declared.cursor.Batch.{Batch}
 use Rattle.bd_cursor.specs.declared.cursor.Cursor.{Cursor}
 use Rattle.bd_cursor.specs.declared.left.Left.{Left}
@@ -50,28 +56,58 @@ open_cursor dump c = record {
   left = places_left (query_of dump c.request).asked c.left;
 }
 
--- there are no indexes yet
 abbrev pub state_of : Session → State
 state_of s = record {
-  indexes = [];
+  indexes = map index_mark s.indexes.items;
   next_id = s.next_id;
   cursors = map (open_cursor s.documents.dump) s.cursors.items;
 }
 
+-- ---- calls
+
+-- the path of the index that is to be used
 abbrev pub hint_of : Choice → Option (List ℕ)
 hint_of choices.Scan = None
 hint_of choices.Auto = None
 hint_of (choices.Index path) = Some (string_bytes path.text)
 
+abbrev pub path_mark : Bool → Path → IndexMark
+path_mark sparse path = record { path = string_bytes path.text; is_sparse = sparse }
+
+-- to make an index of a dump, sparse or not
+abbrev pub make_index : Bool → Dump → Path → Call
+make_index sparse dump path =
+    make_call (path_mark sparse path) (index_counts (documents dump) (path_mark sparse path))
+
+abbrev pub made_counts : Made → IndexCounts
+made_counts m = record { entries = m.entries; is_multikey = m.multikey }
+
+-- there is none on the path, and fewer than sixteen
+pub record IsGranted (indexes : List IndexMark) (i : IndexMark) : Type 0 where
+  pub none : has_index indexes (Some i.path) ≡ false
+  pub room : nat_lt (length indexes) most_indexes ≡ true
+
+-- an index more
+abbrev pub with_index : State → IndexMark → State
+with_index s i = record s { indexes = s.indexes ++ i ∷ [] }
+
+-- to explain a request to a dump
+abbrev pub explain_request : Dump → Request → Choice → Call
+explain_request dump r choice = explain_call (hint_of choice) (explanation_of (documents dump) r choice)
+
 -- a call that is granted and takes memory
 abbrev pub TakesMemory : Reply → Type 0
 TakesMemory (opened id) = Unit {0}
 TakesMemory (gave batch) = Unit {0}
+TakesMemory (made counts) = Unit {0}
+TakesMemory (explained e) = Unit {0}
 TakesMemory reply = ⊥
 
 -- why a call is refused is the machine's reply, or memory ran out for one that it grants
 abbrev pub IsRefusedCall : Reply → Refused → Type 0
 IsRefusedCall reply reasons.NoIndex = reply ≡ no_index
+IsRefusedCall reply reasons.IndexThere = reply ≡ index_there
+IsRefusedCall reply reasons.TooManyIndexes = reply ≡ too_many_indexes
 IsRefusedCall reply reasons.TooManyCursors = reply ≡ too_many_cursors
 IsRefusedCall reply reasons.NoCursor = reply ≡ no_cursor
 IsRefusedCall reply reasons.ForeignToken = reply ≡ foreign_token

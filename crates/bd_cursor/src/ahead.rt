@@ -5,10 +5,10 @@ ghost use Rattle.bd_value.specs.Tree.{Doc};
 ghost use Rattle.bd_answer.specs.Answer.{answer, is_empty, rest};
 ghost use Rattle.bd_answer.specs.Source.{HandsOut};
 ghost use Rattle.bd_query.specs.FilterView.{filter_tree};
-ghost use Rattle.bd_cursor.specs.Asked.{asked_of, hits_of};
+ghost use Rattle.bd_sort.specs.Asked.{asked_of, hits_of};
 ghost use Rattle.bd_cursor.specs.SessionView.{ahead_in, ahead_left};
 
-use crate::matching::is_match;
+use bd_sort::is_match;
 use bd_bson::Dump;
 use bd_query::Filter;
 use bd_request::Request;

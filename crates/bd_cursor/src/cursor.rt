@@ -1,8 +1,9 @@
 //! An open cursor, and the batches that it gives.
 
-ghost use Rattle.std.specs.Prelude.{◌≡◌, IfOk, OnErr, OnOk, option_map};
-ghost use Rattle.bd_answer.specs.Session.{batch_of, digest_after, given_by, moved, token_after};
-ghost use Rattle.bd_cursor.specs.Asked.{query_of};
+ghost use Rattle.std.specs.Prelude.{◌≡◌, ◌<◌, IfNone, IfOk, IfSome, None, OnErr, OnOk, length, map, option_map, slice_get, slice_set};
+ghost use Rattle.bd_answer.specs.Session.{OpenCursor, batch_of, cursor_of, digest_after, given_by, moved, token_after, with_cursor, without};
+ghost use Rattle.bd_bson.specs.declared.collection.Dump.{Dump};
+ghost use Rattle.bd_sort.specs.Asked.{query_of};
 ghost use Rattle.bd_cursor.specs.SessionView.{given_batch, marked_token, open_cursor};
 
 use crate::digested_dump::DigestedDump;
@@ -99,4 +100,27 @@ fn digest_of(documents: &mut DigestedDump, request: &Request, token: Option<Toke
             request_digest(&dump, request)
         }
     }
+}
+
+/// The index of a cursor among those that are open.
+pub(crate) fn place_of(cursors: &[Cursor], id: u64) -> Option<usize>
+    ensures none { (dump : Dump) → IfNone result (cursor_of id (map (open_cursor dump) cursors.now) ≡ None) }
+    ensures below { IfSome result (λ i. i < length cursors.now) }
+    ensures it { (dump : Dump) → IfSome result (λ i. cursor_of id (map (open_cursor dump) cursors.now) ≡ slice_get (map (open_cursor dump) cursors.now) i) }
+    ensures changed { (dump : Dump) → IfSome result (λ i. (d : OpenCursor) →
+        with_cursor id d (map (open_cursor dump) cursors.now) ≡ slice_set (map (open_cursor dump) cursors.now) i d) }
+{
+    for i in 0..cursors.len() {
+        if cursors[i].id == id {
+            return Some(i);
+        }
+    }
+    None
+}
+
+/// Takes a cursor out.
+pub(crate) fn close(cursors: &mut Vec<Cursor>, id: u64)
+    ensures { (dump : Dump) → map (open_cursor dump) cursors.new.items ≡ without id (map (open_cursor dump) cursors.old.items) }
+{
+    cursors.retain(|cursor| cursor.id != id);
 }

@@ -3,13 +3,15 @@
 ghost use Rattle.std.specs.Prelude.{◌≡◌, ◌<◌, IfOk, OnErr, drop, length, take};
 ghost use Rattle.bd_answer.specs.Answer.{answer, is_empty, rest};
 ghost use Rattle.bd_bson.specs.Collection.{documents};
-ghost use Rattle.bd_cursor.specs.Asked.{asked_of};
+ghost use Rattle.bd_index.specs.Indexed.{AreIndexesOf};
+ghost use Rattle.bd_sort.specs.Asked.{asked_of};
 ghost use Rattle.bd_cursor.specs.SessionView.{mark_of, places_left};
 
 use crate::ahead::Ahead;
 use crate::listed::Listed;
-use bd_answer::Scan;
 use bd_bson::Dump;
+use bd_index::Index;
+use bd_plan::{Access, Choice};
 use bd_request::{Request, Token};
 use bd_value::NoMemory;
 use std::alloc::Global;
@@ -17,22 +19,30 @@ use std::alloc::Global;
 /// The places that a cursor has left.
 #[derive(Debug, Drop)]
 pub(crate) enum Left {
-    /// Without a sort they are looked for as they are asked for.
+    /// Where each document is looked at and there is no sort, they are looked for as they are asked for.
     Ahead(Ahead),
-    /// With a sort all of them are known.
+    /// Else all of them are known.
     Listed(Listed),
 }
 
 impl Left {
     /// The answer of a request.
-    pub(crate) fn of_answer(alloc: Global, dump: &Dump, request: &Request) -> Result<Left, NoMemory>
+    pub(crate) fn of_answer(
+        alloc: Global,
+        dump: &Dump,
+        indexes: &[Index],
+        request: &Request,
+        choice: &Choice,
+    ) -> Result<Left, NoMemory>
+        requires { AreIndexesOf dump.now indexes.now }
         ensures { IfOk result (λ left. places_left (asked_of (documents dump.now) request.now) left
             ≡ answer (asked_of (documents dump.now) request.now)) }
     {
-        if request.sort.is_empty() {
+        let access = Access::of(alloc, dump, indexes, request, choice)?;
+        if access.is_scan() && request.sort.is_empty() {
             return Ok(Left::Ahead(Ahead::of_answer(request.skip, request.limit)));
         }
-        let listed = Listed::of_answer(alloc, dump, request, Scan::new(dump.len()))?;
+        let listed = Listed::of_answer(alloc, dump, request, &access)?;
         Ok(Left::Listed(listed))
     }
 
@@ -40,20 +50,22 @@ impl Left {
     pub(crate) fn of_rest(
         alloc: Global,
         dump: &Dump,
+        indexes: &[Index],
         request: &Request,
+        choice: &Choice,
         token: Token,
     ) -> Result<Left, NoMemory>
-        requires { token.last < length (documents dump.now) }
+        requires indexes { AreIndexesOf dump.now indexes.now }
+        requires there { token.last < length (documents dump.now) }
         ensures { IfOk result (λ left. places_left (asked_of (documents dump.now) request.now) left
             ≡ rest (asked_of (documents dump.now) request.now) (mark_of token)) }
     {
-        let count = dump.len();
         let Token { given, last, .. } = token;
-        if request.sort.is_empty() {
+        let access = Access::of(alloc, dump, indexes, request, choice)?;
+        if access.is_scan() && request.sort.is_empty() {
             return Ok(Left::Ahead(Ahead::of_rest(request.limit, given, last)));
         }
-        let source = Scan::new(count);
-        let listed = Listed::of_rest(alloc, dump, request, source, given, last)?;
+        let listed = Listed::of_rest(alloc, dump, request, &access, given, last)?;
         Ok(Left::Listed(listed))
     }
 

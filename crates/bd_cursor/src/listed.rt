@@ -1,15 +1,14 @@
-//! The places that a cursor with a sort has left: all of them, in their order.
+//! The places that a cursor has left which knows them all, in their order.
 
 ghost use Rattle.std.specs.Prelude.{◌≡◌, ◌≤◌, ◌<◌, IfOk, IfSome, List, OnErr, Some, drop, length, take, ℕ};
 ghost use Rattle.bd_answer.specs.Answer.{answer, at_most, is_empty, rest};
 ghost use Rattle.bd_answer.specs.Source.{places_after};
 ghost use Rattle.bd_bson.specs.Collection.{documents};
-ghost use Rattle.bd_query.specs.FilterView.{filter_tree};
-ghost use Rattle.bd_cursor.specs.Asked.{asked_of, hits_of};
+ghost use Rattle.bd_plan.specs.AccessView.{IsAccessOf};
+ghost use Rattle.bd_sort.specs.Asked.{asked_of, hits_of};
 
-use crate::sorted_places::sorted_places;
-use bd_answer::PlaceSource;
 use bd_bson::Dump;
+use bd_plan::Access;
 use bd_request::Request;
 use bd_value::NoMemory;
 use std::alloc::Global;
@@ -31,14 +30,14 @@ impl Model for Listed {
 }
 
 impl Listed {
-    /// The answer of a request, whatever source the places come from.
-    pub(crate) fn of_answer<P: PlaceSource + Drop>(
+    /// The answer of a request, by whatever access path.
+    pub(crate) fn of_answer(
         alloc: Global,
         dump: &Dump,
         request: &Request,
-        source: P,
+        access: &Access<'_>,
     ) -> Result<Listed, NoMemory>
-        requires serves { P.serves source (length (documents dump.now)) (hits_of (documents dump.now) (filter_tree request.now.filter)) }
+        requires leads { IsAccessOf dump.now request.now access.now }
         ensures { IfOk result (λ left. left ≡ answer (asked_of (documents dump.now) request.now)) }
     {
         let most = if request.limit == 0 {
@@ -46,21 +45,21 @@ impl Listed {
         } else {
             Some(request.skip.saturating_add(request.limit))
         };
-        let places = sorted_places(alloc, dump, request, source, None, most)?;
+        let places = access.places(alloc, dump, request, None, most)?;
         let at = (request.skip as usize).min(places.len());
         Ok(Listed { places, at })
     }
 
     /// The rest of it after a place, of which so many were given.
-    pub(crate) fn of_rest<P: PlaceSource + Drop>(
+    pub(crate) fn of_rest(
         alloc: Global,
         dump: &Dump,
         request: &Request,
-        source: P,
+        access: &Access<'_>,
         given: u64,
         last: u32,
     ) -> Result<Listed, NoMemory>
-        requires serves { P.serves source (length (documents dump.now)) (hits_of (documents dump.now) (filter_tree request.now.filter)) }
+        requires leads { IsAccessOf dump.now request.now access.now }
         requires there { last < length (documents dump.now) }
         ensures { IfOk result (λ left. left ≡ rest (asked_of (documents dump.now) request.now) (record { given = given; last = last })) }
     {
@@ -69,7 +68,7 @@ impl Listed {
         } else {
             Some(request.limit.saturating_sub(given))
         };
-        let places = sorted_places(alloc, dump, request, source, Some(last), most)?;
+        let places = access.places(alloc, dump, request, Some(last), most)?;
         Ok(Listed { places, at: 0 })
     }
 

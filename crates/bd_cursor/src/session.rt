@@ -1,22 +1,23 @@
 //! Cursors over a dump.
 
-ghost use Rattle.std.specs.Prelude.{◌≡◌, ◌<◌, ◌≤◌, IfErr, IfNone, IfOk, IfSome, List, None, OnErr, OnOk, Option, [], length, map, option_map, slice_get, slice_set, string_bytes, ℕ};
-ghost use Rattle.bd_answer.specs.Session.{MarkedToken, OpenCursor, State, cursor_of, find_call, gave, has_index, is_full, kill_call, killed, next_call, open_reply, opened, reply, resume_call, state_after, with_cursor, with_open, without};
-ghost use Rattle.bd_answer.specs.SessionLaws.{new_state};
-ghost use Rattle.bd_bson.specs.declared.collection.Dump.{Dump};
-ghost use Rattle.bd_cursor.specs.Asked.{query_of};
-ghost use Rattle.bd_cursor.specs.SessionView.{IsRefusedCall, dump_of, given_batch, hint_of, marked_token, open_cursor, places_left, state_of};
+ghost use Rattle.bd_index.specs.Indexed.{AreIndexesOf, AreIndexesOf-prop};
 
-use crate::cursor::{Batch, Cursor};
+use crate::cursor::{Batch, Cursor, close, place_of};
 use crate::digested_dump::DigestedDump;
 use crate::left::Left;
 use bd_bson::Dump;
+use bd_index::Index;
 use bd_path::Path;
+use bd_plan::{Choice, Explain, explain, index_on};
 use bd_request::{Refused, Request, Token, request_digest};
+use bd_value::NoMemory;
 use std::alloc::Global;
 
 /// The most cursors that are open at once.
 const MOST_CURSORS: usize = 64;
+
+/// The most indexes that a session has at once.
+const MOST_INDEXES: usize = 16;
 
 /// The last number of a cursor.
 const LAST_ID: u64 = 9_223_372_036_854_775_807;
@@ -24,28 +25,37 @@ const LAST_ID: u64 = 9_223_372_036_854_775_807;
 /// The greatest size of a batch.
 const GREATEST_SIZE: u64 = 2_147_483_647;
 
-/// How the documents of an answer are looked for. It never changes an answer.
-#[derive(Drop)]
-pub enum Choice {
-    /// Each document is looked at.
-    Scan,
-    /// By the index on that path, which has to be there.
-    Index(Path),
-    /// By an index that serves, where there is one.
-    Auto,
+/// What is told of an index that was made.
+#[derive(Clone, Copy, Debug)]
+pub struct Made {
+    /// How many entries it has.
+    pub entries: u64,
+    /// Whether some document has two keys.
+    pub multikey: bool,
 }
 
-/// A dump and the cursors over it. A call that is refused changes nothing.
+/// A dump, its indexes, and the cursors over it. A call that is refused changes nothing.
 #[derive(Drop)]
 pub struct Session {
     alloc: Global,
     documents: DigestedDump,
+    indexes: Vec<Index>,
     next_id: u64,
     cursors: Vec<Cursor>,
+    ghost indexed: { AreIndexesOf documents.dump indexes.items } by { AreIndexesOf-prop documents.dump indexes.items },
 }
 
 impl Session {
-    /// A session with no cursor. It takes no memory.
+    ghost use Rattle.std.specs.Prelude.{◌≡◌, ◌≤◌, Bool, IfErr, IfOk, IsFalse, IsTrue, OnErr, OnOk, false, option_map, string_bytes, true};
+    ghost use Rattle.bd_answer.specs.Session.{IndexCounts, MarkedToken, drop_call, dropped, explained, find_call, gave, has_index, is_full, kill_call, killed, made, make_reply, next_call, open_reply, opened, reply, resume_call, state_after, with_open};
+    ghost use Rattle.bd_answer.specs.SessionLaws.{new_state};
+    ghost use Rattle.bd_bson.specs.Collection.{documents};
+    ghost use Rattle.bd_index.specs.Indexed.{IsIndexOf};
+    ghost use Rattle.bd_plan.specs.Explanation.{index_counts, index_mark, told};
+    ghost use Rattle.bd_sort.specs.Asked.{query_of};
+    ghost use Rattle.bd_cursor.specs.SessionView.{IsGranted, IsRefusedCall, dump_of, explain_request, given_batch, hint_of, made_counts, make_index, marked_token, path_mark, places_left, state_of, with_index};
+
+    /// A session with no index and no cursor. It takes no memory.
     pub fn new(alloc: Global, dump: Dump) -> Session
         ensures state { state_of result ≡ new_state }
         ensures dump { dump_of result ≡ dump }
@@ -53,6 +63,7 @@ impl Session {
         Session {
             alloc,
             documents: DigestedDump::new(dump),
+            indexes: Vec::new(alloc),
             next_id: 1,
             cursors: Vec::new(alloc),
         }
@@ -63,6 +74,72 @@ impl Session {
         ensures { result.now ≡ dump_of self.now }
     {
         &self.documents.dump
+    }
+
+    /// Makes an index on a path, with an entry for each key of each document, and tells how many entries it has.
+    ///
+    /// # Errors
+    ///
+    /// In this order: `IndexThere` where the path has an index, sparse or not, `TooManyIndexes` where there are 16. `NoMemory`
+    /// where no memory was given.
+    pub fn create_index(&mut self, path: Path) -> Result<Made, Refused>
+        ensures made { IfOk result (λ m. reply (state_of self.old) (make_index false (dump_of self.old) path) ≡ made (made_counts m)) }
+        ensures after { OnOk result (state_of self.new ≡ state_after (state_of self.old) (make_index false (dump_of self.old) path)) }
+        ensures refused { IfErr result (IsRefusedCall (reply (state_of self.old) (make_index false (dump_of self.old) path))) }
+        ensures unchanged { OnErr result (state_of self.new ≡ state_of self.old) }
+        ensures dump { dump_of self.new ≡ dump_of self.old }
+    {
+        self.make(path, false)
+    }
+
+    /// Makes a sparse index on a path: without an entry for a field that is missing. It tells how many entries it has, and
+    /// whether some document has two keys, those for missing fields among them.
+    ///
+    /// # Errors
+    ///
+    /// Those of `create_index`.
+    pub fn create_sparse_index(&mut self, path: Path) -> Result<Made, Refused>
+        ensures made { IfOk result (λ m. reply (state_of self.old) (make_index true (dump_of self.old) path) ≡ made (made_counts m)) }
+        ensures after { OnOk result (state_of self.new ≡ state_after (state_of self.old) (make_index true (dump_of self.old) path)) }
+        ensures refused { IfErr result (IsRefusedCall (reply (state_of self.old) (make_index true (dump_of self.old) path))) }
+        ensures unchanged { OnErr result (state_of self.new ≡ state_of self.old) }
+        ensures dump { dump_of self.new ≡ dump_of self.old }
+    {
+        self.make(path, true)
+    }
+
+    /// Drops the index on a path. Each cursor goes on as before. It takes no memory.
+    ///
+    /// # Errors
+    ///
+    /// `NoIndex` where the path has none.
+    pub fn drop_index(&mut self, path: &Path) -> Result<(), Refused>
+        ensures dropped { OnOk result (reply (state_of self.old) (drop_call (string_bytes path.now.text)) ≡ dropped) }
+        ensures after { OnOk result (state_of self.new ≡ state_after (state_of self.old) (drop_call (string_bytes path.now.text))) }
+        ensures refused { IfErr result (IsRefusedCall (reply (state_of self.old) (drop_call (string_bytes path.now.text)))) }
+        ensures unchanged { OnErr result (state_of self.new ≡ state_of self.old) }
+        ensures dump { dump_of self.new ≡ dump_of self.old }
+    {
+        if index_on(&self.indexes, path).is_none() {
+            return Err(Refused::NoIndex);
+        }
+        self.indexes
+            .retain(|index| path.as_str() != index.path().as_str());
+        Ok(())
+    }
+
+    /// How the documents of a request are found, and how many entries and documents are read for them.
+    ///
+    /// # Errors
+    ///
+    /// `NoIndex` where an index is asked for that is not there. `NoMemory` where no memory was given.
+    pub fn explain(&self, request: &Request, choice: &Choice) -> Result<Explain, Refused>
+        ensures explained { IfOk result (λ e. reply (state_of self.now) (explain_request (dump_of self.now) request.now choice.now) ≡ explained (told e)) }
+        ensures refused { IfErr result (IsRefusedCall (reply (state_of self.now) (explain_request (dump_of self.now) request.now choice.now))) }
+    {
+        self.has_choice(choice)?;
+        let explanation = explain(self.alloc, &self.documents.dump, &self.indexes, request, choice)?;
+        Ok(explanation)
     }
 
     /// Opens a cursor on the answer of a request, and gives its number: 1 for the first cursor of a session, and one more each
@@ -80,7 +157,8 @@ impl Session {
         ensures dump { dump_of self.new ≡ dump_of self.old }
     {
         self.may_open(&choice)?;
-        let left = Left::of_answer(self.alloc, &self.documents.dump, &request)?;
+        let documents = &self.documents;
+        let left = Left::of_answer(self.alloc, &documents.dump, &self.indexes, &request, &choice)?;
         self.open(request, None, left)
     }
 
@@ -112,7 +190,8 @@ impl Session {
             return Err(Refused::TokenPlace);
         }
         self.may_open(&choice)?;
-        let left = Left::of_rest(self.alloc, &self.documents.dump, &request, token)?;
+        let documents = &self.documents;
+        let left = Left::of_rest(self.alloc, &documents.dump, &self.indexes, &request, &choice, token)?;
         self.open(request, Some(token), left)
     }
 
@@ -164,15 +243,83 @@ impl Session {
         Ok(())
     }
 
+    /// Whether the index that is asked for is there.
+    fn has_choice(&self, choice: &Choice) -> Result<(), Refused>
+        ensures there { OnOk result (IsTrue (has_index (state_of self.now).indexes (hint_of choice.now))) }
+        ensures refused { IfErr result (λ r. (r ≡ Refused.NoIndex) × IsFalse (has_index (state_of self.now).indexes (hint_of choice.now))) }
+    {
+        match choice {
+            Choice::Index(path) => match index_on(&self.indexes, path) {
+                Some(_) => Ok(()),
+                None => Err(Refused::NoIndex),
+            },
+            Choice::Scan | Choice::Auto => Ok(()),
+        }
+    }
+
+    /// Makes an index, sparse or not.
+    fn make(&mut self, path: Path, sparse: bool) -> Result<Made, Refused>
+        ensures made { IfOk result (λ m. reply (state_of self.old) (make_index sparse (dump_of self.old) path) ≡ made (made_counts m)) }
+        ensures after { OnOk result (state_of self.new ≡ state_after (state_of self.old) (make_index sparse (dump_of self.old) path)) }
+        ensures refused { IfErr result (IsRefusedCall (reply (state_of self.old) (make_index sparse (dump_of self.old) path))) }
+        ensures unchanged { OnErr result (state_of self.new ≡ state_of self.old) }
+        ensures dump { dump_of self.new ≡ dump_of self.old }
+    {
+        self.may_make(&path, sparse)?;
+        let index = self.build(path, sparse)?;
+        self.add(index)
+    }
+
+    /// An index of the dump, sparse or not.
+    fn build(&self, path: Path, sparse: bool) -> Result<Index, NoMemory>
+        ensures index { IfOk result (IsIndexOf (dump_of self.now)) }
+        ensures mark { IfOk result (λ index. index_mark index ≡ path_mark sparse path) }
+    {
+        if sparse {
+            Index::build_sparse(self.alloc, &self.documents.dump, path)
+        } else {
+            Index::build(self.alloc, &self.documents.dump, path)
+        }
+    }
+
+    /// Whether an index may be made, and why not.
+    fn may_make(&self, path: &Path, sparse: bool) -> Result<(), Refused>
+        ensures granted { OnOk result (IsGranted (state_of self.now).indexes (path_mark sparse path.now)) }
+        ensures refused { (counts : IndexCounts) →
+            IfErr result (IsRefusedCall (make_reply (state_of self.now).indexes (path_mark sparse path.now) counts)) }
+    {
+        if index_on(&self.indexes, path).is_some() {
+            return Err(Refused::IndexThere);
+        }
+        if self.indexes.len() >= MOST_INDEXES {
+            return Err(Refused::TooManyIndexes);
+        }
+        Ok(())
+    }
+
+    /// Puts in an index of the dump, and tells what it has.
+    fn add(&mut self, index: Index) -> Result<Made, Refused>
+        requires { IsIndexOf (dump_of self.old) index }
+        ensures made { IfOk result (λ m. made_counts m ≡ index_counts (documents (dump_of self.old)) (index_mark index)) }
+        ensures after { OnOk result (state_of self.new ≡ with_index (state_of self.old) (index_mark index)) }
+        ensures refused { IfErr result (λ r. r ≡ Refused.NoMemory) }
+        ensures unchanged { OnErr result (state_of self.new ≡ state_of self.old) }
+        ensures dump { dump_of self.new ≡ dump_of self.old }
+    {
+        let made = Made {
+            entries: index.entries(),
+            multikey: index.multikey(),
+        };
+        self.indexes.push(index)?;
+        Ok(made)
+    }
+
     /// Whether a cursor may be opened, and why not.
     fn may_open(&self, choice: &Choice) -> Result<(), Refused>
         ensures opened { OnOk result (open_reply (state_of self.now) (hint_of choice.now) ≡ opened self.now.next_id) }
         ensures refused { IfErr result (IsRefusedCall (open_reply (state_of self.now) (hint_of choice.now))) }
     {
-        match choice {
-            Choice::Index(_) => return Err(Refused::NoIndex),
-            Choice::Scan | Choice::Auto => {}
-        }
+        self.has_choice(choice)?;
         if self.cursors.len() >= MOST_CURSORS || self.next_id > LAST_ID {
             return Err(Refused::TooManyCursors);
         }
@@ -199,27 +346,4 @@ impl Session {
         self.next_id += 1;
         Ok(id)
     }
-}
-
-/// The index of a cursor among those that are open.
-fn place_of(cursors: &[Cursor], id: u64) -> Option<usize>
-    ensures none { (dump : Dump) → IfNone result (cursor_of id (map (open_cursor dump) cursors.now) ≡ None) }
-    ensures below { IfSome result (λ i. i < length cursors.now) }
-    ensures it { (dump : Dump) → IfSome result (λ i. cursor_of id (map (open_cursor dump) cursors.now) ≡ slice_get (map (open_cursor dump) cursors.now) i) }
-    ensures changed { (dump : Dump) → IfSome result (λ i. (d : OpenCursor) →
-        with_cursor id d (map (open_cursor dump) cursors.now) ≡ slice_set (map (open_cursor dump) cursors.now) i d) }
-{
-    for i in 0..cursors.len() {
-        if cursors[i].id == id {
-            return Some(i);
-        }
-    }
-    None
-}
-
-/// Takes a cursor out.
-fn close(cursors: &mut Vec<Cursor>, id: u64)
-    ensures { (dump : Dump) → map (open_cursor dump) cursors.new.items ≡ without id (map (open_cursor dump) cursors.old.items) }
-{
-    cursors.retain(|cursor| cursor.id != id);
 }

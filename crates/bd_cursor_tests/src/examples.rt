@@ -1,8 +1,12 @@
-//! The examples of use in the roots of `bd_answer`, `bd_request` and `bd_cursor`.
+//! The examples of use in the roots of `bd_answer`, `bd_request`, `bd_sort`, `bd_plan` and `bd_cursor`.
 use crate::samples::{read_documents, read_request};
 use bd_answer::{PlaceSource, Scan};
 use bd_cursor::{Choice, Request, Session};
 use bd_extjson::read_doc;
+use bd_index::Index;
+use bd_path::Path;
+use bd_plan::Access;
+use bd_sort::sorted_places;
 use std::test::Fail;
 
 #[test]
@@ -36,5 +40,33 @@ fn two_batches(rt: HostRuntime) -> Result<(), Fail> {
     assert!(rt; batch.places.len() == 2 && !batch.end);
     let batch = session.next(id, 2)?;
     assert!(rt; batch.places.len() == 1 && batch.end);
+    Ok(())
+}
+
+const PRICES: &str = r#"{"price":2}
+{"price":3}
+{"price":1}"#;
+
+#[test]
+fn two_cheapest(rt: HostRuntime) -> Result<(), Fail> {
+    let alloc = rt.alloc();
+    let dump = read_documents(alloc, PRICES)?;
+    let request = read_request(alloc, "{} {\"price\":1} 0 0")?;
+    let source = Scan::new(dump.len());
+    let places = sorted_places(alloc, &dump, &request, source, None, Some(2))?;
+    assert!(rt; places.as_slice() == [2, 0].as_slice());
+    Ok(())
+}
+
+#[test]
+fn two_cheapest_by_index(rt: HostRuntime) -> Result<(), Fail> {
+    let alloc = rt.alloc();
+    let dump = read_documents(alloc, PRICES)?;
+    let request = read_request(alloc, "{} {\"price\":1} 0 0")?;
+    let path = Path::parse(alloc, "price")?;
+    let indexes = [Index::build(alloc, &dump, path)?];
+    let access = Access::of(alloc, &dump, &indexes, &request, &Choice::Auto)?;
+    let places = access.places(alloc, &dump, &request, None, Some(2))?;
+    assert!(rt; places.as_slice() == [2, 0].as_slice());
     Ok(())
 }

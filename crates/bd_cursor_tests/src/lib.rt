@@ -6,7 +6,11 @@ mod digest_tests;
 #[cfg(test)]
 mod examples;
 #[cfg(test)]
+mod index_tests;
+#[cfg(test)]
 mod page_tests;
+#[cfg(test)]
+mod random_tests;
 #[cfg(test)]
 mod request_tests;
 #[cfg(test)]

@@ -1,6 +1,6 @@
 //! Sessions over documents of texts, with their calls and replies as words.
 use bd_bson::{Dump, read_dump};
-use bd_cursor::{Batch, Choice, Refused, Request, Session, Token};
+use bd_cursor::{Batch, Choice, Explain, Made, Plan, Refused, Request, Session, Token};
 use bd_extjson::read_doc;
 use bd_path::Path;
 use bd_write::write_document;
@@ -37,18 +37,20 @@ impl Player {
         Ok(())
     }
 
-    /// The reply to a call. A request is a filter, a sort, a skip and a limit.
+    /// The reply to a call. A request is a filter, a sort, a skip and a limit. A name may end with how documents are looked for:
+    /// `_auto`, or `_by_` and the path of an index.
     pub(crate) fn reply(&mut self, call: &str) -> Result<String, Fail> {
         let (name, rest) = call.split_once(" ").unwrap_or((call, ""));
+        let (name, choice) = read_choice(self.alloc, name)?;
         match name {
-            "find" => self.find(Choice::Scan, rest),
-            "find_auto" => self.find(Choice::Auto, rest),
-            "find_by_a" => self.find(index_on_a(self.alloc)?, rest),
-            "resume" => self.resume(Choice::Scan, rest),
-            "resume_by_a" => self.resume(index_on_a(self.alloc)?, rest),
+            "find" => self.find(choice, rest),
+            "resume" => self.resume(choice, rest),
+            "explain" => self.explain(&choice, rest),
             "next" => self.next(rest),
             "kill" => self.kill(rest),
             "mark" => self.mark(rest),
+            "index" | "sparse" => self.make(name == "sparse", rest),
+            "drop" => self.drop_index(rest),
             _ => Err("a call".into()),
         }
     }
@@ -77,6 +79,33 @@ impl Player {
         };
         let opened = self.session.resume(request, choice, &token);
         opened_words(self.alloc, opened)
+    }
+
+    fn explain(&self, choice: &Choice, request: &str) -> Result<String, Fail> {
+        let request = read_request(self.alloc, request)?;
+        match self.session.explain(&request, choice) {
+            Ok(explain) => explain_words(self.alloc, &explain),
+            Err(refused) => Ok(String::from_str(self.alloc, refused.words())?),
+        }
+    }
+
+    fn make(&mut self, sparse: bool, path: &str) -> Result<String, Fail> {
+        let path = read_path(self.alloc, path)?;
+        let made = if sparse {
+            self.session.create_sparse_index(path)
+        } else {
+            self.session.create_index(path)
+        };
+        made_words(self.alloc, made)
+    }
+
+    fn drop_index(&mut self, path: &str) -> Result<String, Fail> {
+        let path = read_path(self.alloc, path)?;
+        let words = match self.session.drop_index(&path) {
+            Ok(()) => "dropped",
+            Err(refused) => refused.words(),
+        };
+        Ok(String::from_str(self.alloc, words)?)
     }
 
     /// The batch of a cursor and a size.
@@ -148,9 +177,20 @@ pub(crate) fn read_request(alloc: Global, text: &str) -> Result<Request, Fail> {
     }
 }
 
-fn index_on_a(alloc: Global) -> Result<Choice, Fail> {
-    match Path::parse(alloc, "a") {
-        Ok(path) => Ok(Choice::Index(path)),
+/// The name of a call without how documents are looked for.
+fn read_choice(alloc: Global, name: &str) -> Result<(&str, Choice), Fail> {
+    if let Some(name) = name.strip_suffix("_auto") {
+        return Ok((name, Choice::Auto));
+    }
+    match name.split_once("_by_") {
+        Some((name, path)) => Ok((name, Choice::Index(read_path(alloc, path)?))),
+        None => Ok((name, Choice::Scan)),
+    }
+}
+
+fn read_path(alloc: Global, text: &str) -> Result<Path, Fail> {
+    match Path::parse(alloc, text) {
+        Ok(path) => Ok(path),
         Err(_) => Err("a path".into()),
     }
 }
@@ -165,6 +205,28 @@ fn opened_words(alloc: Global, opened: Result<u64, Refused>) -> Result<String, F
         Ok(id) => Ok(format!(in alloc; "cursor {id}")?),
         Err(refused) => Ok(String::from_str(alloc, refused.words())?),
     }
+}
+
+fn made_words(alloc: Global, made: Result<Made, Refused>) -> Result<String, Fail> {
+    match made {
+        Ok(Made { entries, multikey }) => {
+            let several = if multikey { ", multikey" } else { "" };
+            Ok(format!(in alloc; "{entries} entries{several}")?)
+        }
+        Err(refused) => Ok(String::from_str(alloc, refused.words())?),
+    }
+}
+
+/// The plan, the path of its index, the entries and the documents that are looked at, and the matches.
+fn explain_words(alloc: Global, explain: &Explain) -> Result<String, Fail> {
+    let plan = match explain.plan {
+        Plan::Scan => "scan",
+        Plan::Index => "index",
+        Plan::Walk => "walk",
+    };
+    let index = explain.index.as_deref().unwrap_or("none");
+    let (entries, documents) = (explain.entries, explain.documents);
+    Ok(format!(in alloc; "{plan} {index} {entries} {documents} {}", explain.matches)?)
 }
 
 /// The places, what the token tells, and whether the answer ends there.

@@ -2,8 +2,8 @@ use Rattle.std.proofs.Common.{rules, ◌≡◌, ◌≤◌, ◌<◌, ◌∙◌, a
 use Rattle.bd_answer.specs.Answer.{at_most}
 use Rattle.bd_bson.specs.Collection.{documents}
 use Rattle.bd_query.specs.FilterView.{filter_tree}
-use Rattle.bd_cursor.specs.Asked.{hits_of}
-use Rattle.bd_cursor.specs.SortedPlaces.{with_first}
+use Rattle.bd_sort.specs.Asked.{hits_of}
+use Rattle.bd_sort.specs.Sorted.{with_first}
 use Rattle.bd_cursor.proofs.AheadLemmas.{all_seen, at_most_none, met, missed, passed_over, unseen}
 use Rattle.bd_cursor.proofs.ahead.Ahead.look.Goals as goal
 

@@ -1,7 +1,7 @@
 use Rattle.std.proofs.Common.{◌+◌, ◌∙◌, ap, length, take}
 use Rattle.bd_query.specs.FilterView.{filter_tree}
 use Rattle.bd_answer.specs.Answer.{at_most}
-use Rattle.bd_cursor.specs.Asked.{hits_of}
+use Rattle.bd_sort.specs.Asked.{hits_of}
 use Rattle.bd_cursor.proofs.AheadLemmas.{unseen}
 use Rattle.bd_cursor.proofs.UnsortedAheadLemmas.{rest_limited, rest_whole}
 use Rattle.bd_cursor.proofs.ahead.Ahead.of_rest.Goals as goal

@@ -2,13 +2,13 @@ use Rattle.std.proofs.Common.{◌∙◌, ap, drop, min, length, arith, ◌≡◌
 use Rattle.bd_answer.specs.Answer.{at_most}
 use Rattle.bd_answer.specs.Source.{places_after}
 use Rattle.bd_bson.specs.Collection.{documents}
-use Rattle.bd_cursor.specs.Asked.{asked_of}
+use Rattle.bd_sort.specs.Asked.{asked_of}
 use Rattle.bd_cursor.proofs.ListedLemmas.{all_left, some_left}
 use Rattle.bd_cursor.proofs.listed.Listed.of_answer.Goals as goal
 use Rattle.bd_cursor.proofs.listed.Listed.of_answer.Goals.{then-request-eq0, else-request-eq0}
 
 pub returns : goal.returns
-returns g c =
+returns c =
     let a = asked_of (documents c.args.dump.now) c.args.request.now in
     let xs = c.in_ok-places.places.items in
     let start : c.min-at.result ≡ min a.skip (length xs) = cc in

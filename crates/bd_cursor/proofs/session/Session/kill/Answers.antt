@@ -1,7 +1,7 @@
 use Rattle.std.proofs.Common.{◌≡◌, ◌<◌, ◌∙◌, ap, length, map, slice_get}
 use Rattle.bd_answer.specs.Session.{cursor_of, kill_reply}
 use Rattle.bd_cursor.specs.SessionView.{open_cursor}
-use Rattle.bd_cursor.proofs.SessionLemmas.{killed_there}
+use Rattle.bd_cursor.proofs.CursorLemmas.{killed_there}
 use Rattle.bd_cursor.proofs.session.Session.kill.Goals as goal
 
 pub returns-clause-killed : goal.returns-clause-killed

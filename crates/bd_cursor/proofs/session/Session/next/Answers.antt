@@ -1,9 +1,10 @@
-use Rattle.std.proofs.Common.{◌≡◌, ◌≤◌, ◌<◌, ap, sym, ◌∙◌, Some, List, [], length, map, get_or, slice_get, slice_set, arith, drop}
+use Rattle.std.proofs.Common.{◌≡◌, ◌≤◌, ◌<◌, ap, sym, ◌∙◌, Some, List, length, map, get_or, slice_get, slice_set, arith, drop}
 use Rattle.bd_answer.specs.Answer.{is_empty}
 use Rattle.bd_answer.specs.Session.{GivenBatch, OpenCursor, State, cursor_of, gave, moved, with_cursor, without}
+use Rattle.bd_plan.specs.Explanation.{index_mark}
 use Rattle.bd_cursor.specs.SessionView.{open_cursor, state_of}
 use Rattle.bd_cursor.specs.declared.cursor.Cursor.{Cursor}
-use Rattle.bd_cursor.proofs.SessionLemmas.{after_ended, after_going, gave_batch, get_some, map_set}
+use Rattle.bd_cursor.proofs.CursorLemmas.{after_ended, after_going, gave_batch, get_some, map_set}
 use Rattle.bd_cursor.proofs.session.Session.next.Goals as goal
 use Rattle.bd_cursor.proofs.session.Session.next.Goals.{then-batch, else-batch}
 
@@ -36,7 +37,7 @@ returns-clause-after c =
     let now : map (open_cursor dump) (slice_set cs c.in-Some.place c.next.new.self) ≡ with_cursor c.args.id (moved (open_cursor dump k) c.args.n) os =
     map_set dump cs c.in-Some.place c.next.new.self ∙ ap (slice_set os c.in-Some.place) c.in-Ok.ensures.moved ∙ sym (changed (moved (open_cursor dump k) c.args.n)) in
     let same : c.next.new.documents.dump ≡ dump = c.in-Ok.ensures.dump in
-    let whole = λ (xs : List OpenCursor). (let s : State = record { indexes = []; next_id = c.args.self.now.next_id; cursors = xs } in s) in
+    let whole = λ (xs : List OpenCursor). (let s : State = record { indexes = map index_mark c.args.self.now.indexes.items; next_id = c.args.self.now.next_id; cursors = xs } in s) in
     elim c.if-batch.branch [
       | then-batch w ↦ ap state_of w.self-is ∙ ap (λ d. whole (map (open_cursor d) w.close.new.cursors.items)) same
           ∙ ap whole (w.close.ensures dump ∙ ap (without c.args.id) now ∙ after_ended c.args.id c.args.n os (open_cursor dump k) found few (sym ends ∙ w.if-batch.true))
