@@ -16,7 +16,7 @@ _bsonfind_files() {
 
 _bsonfind() {
 	local word=${COMP_WORDS[COMP_CWORD]} command=${COMP_WORDS[1]} before=${COMP_WORDS[COMP_CWORD - 1]}
-	local options='--query --sort --skip --limit --batch --after'
+	local options='--query --sort --skip --limit --batch --index --after'
 	COMPREPLY=()
 	if ((COMP_CWORD == 1)); then
 		mapfile -t COMPREPLY < <(compgen -W 'dump check pack find --help' -- "$word")
@@ -30,7 +30,7 @@ _bsonfind() {
 	pack) _bsonfind_files '' "$word" ;;
 	find)
 		case $before in
-		--query | --sort | --skip | --limit | --batch | --after) ;; # a filter, a sort, numbers, a token
+		--query | --sort | --skip | --limit | --batch | --index | --after) ;; # a filter, a sort, numbers, a path, a token
 		*)
 			if [[ $word == -* && $word != - ]]; then
 				mapfile -t COMPREPLY < <(compgen -W "$options" -- "$word")

@@ -20,4 +20,5 @@ complete -c bsonfind -n '__bsonfind_command find' -l sort -x -d 'the sort, as {"
 complete -c bsonfind -n '__bsonfind_command find' -l skip -x -d 'pass over N documents'
 complete -c bsonfind -n '__bsonfind_command find' -l limit -x -d 'at most N documents'
 complete -c bsonfind -n '__bsonfind_command find' -l batch -x -d 'the next N documents'
+complete -c bsonfind -n '__bsonfind_command find' -l index -x -d 'find by an index on the path, as address.city'
 complete -c bsonfind -n '__bsonfind_command find' -l after -x -d 'go on after a token'

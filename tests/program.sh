@@ -318,7 +318,7 @@ run find numbers.bson --query ' { "a" : 0 } '
 # shellcheck disable=SC2016 # names again
 expect 'a query with white space' 0 '{"a":{"$numberInt":"0"}}' "$(told 1 end numbers.bson 2 --query '{"a":0}')"
 
-# A query of each kind of operator over a dump of lines, with the numbers of the lines that it finds.
+# A query of each kind of operator over a dump of lines, with the numbers of the lines that it finds. No index changes them.
 cat >shop.jsonl <<'END'
 {"_id":1,"name":"shirt","sizes":["S","M"],"stock":[{"at":"north","qty":5},{"at":"south","qty":0}],"price":{"cents":1999}}
 {"_id":2,"name":"hat","sizes":[],"stock":[{"at":"north","qty":12}],"price":{"cents":899}}
@@ -327,11 +327,14 @@ cat >shop.jsonl <<'END'
 END
 "$program" pack shop.jsonl >shop.bson 2>err
 while read -r query numbers; do
-	run find shop.bson --query "$query"
-	found=$(sed 's/.*"_id":{"$numberInt":"\([0-9]\)"}.*/\1/' out | tr -d '\n')
-	echo "${found:--}" >out
 	[ "$numbers" = - ] && line='0 documents, end' || line=$(told ${#numbers} end shop.bson $((numbers % 10 - 1)) --query "$query")
-	expect "find by $query" 0 "$numbers" "$line"
+	for index in '' --index=price.cents --index=sizes --index=stock.qty --index=old; do
+		# shellcheck disable=SC2086 # no index is no word
+		run find shop.bson --query "$query" $index
+		found=$(sed 's/.*"_id":{"$numberInt":"\([0-9]\)"}.*/\1/' out | tr -d '\n')
+		echo "${found:--}" >out
+		expect "find by $query $index" 0 "$numbers" "$line"
+	done
 done <<'END'
 {"name":"hat"} 2
 {"price.cents":899} 24
@@ -368,13 +371,15 @@ END
 "$program" pack rows.jsonl >rows.bson 2>err
 while read -r numbers end size options; do
 	# shellcheck disable=SC2086 # the options are words
-	run find rows.bson $options --batch "$size"
-	# shellcheck disable=SC2016 # names again
-	found=$(sed 's/{"n":{"$numberInt":"\([0-9]\)"}.*/\1/' out | tr -d '\n')
-	echo "${found:--}" >out
-	# shellcheck disable=SC2086 # and here
 	[ "$numbers" = - ] && line="0 documents, $end" || line=$(told ${#numbers} "$end" rows.bson "${numbers#"${numbers%?}"}" $options)
-	expect "find --batch $size $options" 0 "$numbers" "$line"
+	for index in '' --index=a --index=n --index=b; do
+		# shellcheck disable=SC2086 # and here
+		run find rows.bson $options --batch "$size" $index
+		# shellcheck disable=SC2016 # names again
+		found=$(sed 's/{"n":{"$numberInt":"\([0-9]\)"}.*/\1/' out | tr -d '\n')
+		echo "${found:--}" >out
+		expect "find --batch $size $options $index" 0 "$numbers" "$line"
+	done
 done <<'END'
 01234 end 5 --sort {"a":1}
 34120 end 9 --sort {"a":-1}
@@ -418,6 +423,38 @@ expect 'options before the file' 0 "$three" "$(told 1 end rows.bson 3 --sort '{"
 run find rows.bson '--sort={ "a" : -1 }' --limit=1
 expect 'options with their values in one word' 0 "$three" "$(told 1 end rows.bson 3 --sort '{"a":-1}' --limit 1)"
 
+# The same by indexes over a dump with arrays of documents. The numbers of the orders are by python.
+while read -r numbers end size options; do
+	last=${numbers##*,} count=$(echo "$numbers" | tr ',' '\n' | grep -c '')
+	# shellcheck disable=SC2086 # the options are words
+	[ "$numbers" = - ] && line="0 documents, $end" || line=$(told "$count" "$end" "$shop.bson" $((1$last - 1000)) $options)
+	for index in '' --index=items.sku --index=tags --index=placed --index=items.cents --index=nothing; do
+		# shellcheck disable=SC2086 # and here
+		run find "$shop.bson" $options --batch "$size" $index
+		# shellcheck disable=SC2016 # names again
+		found=$(sed 's/.*"order":{"$numberLong":"1000000000\([0-9]*\)"}.*/\1/' out | paste -s -d , -)
+		echo "${found:--}" >out
+		expect "find in the shop, --batch $size $options $index" 0 "$numbers" "$line"
+	done
+done <<'END'
+007,009,030,093,129,214,264 end 400 --query {"items.sku":"SKU-0372"}
+007,009,030 more 3 --query {"items.sku":"SKU-0372"}
+009,093,264 end 400 --query {"items.sku":"SKU-0372","items.qty":{"$gt":10}}
+264 end 1 --query {"items":{"$elemMatch":{"sku":"SKU-0372","qty":{"$gt":10}}}}
+264,030,007,129,009,249,167,379,108,239,093,190,214,065 end 14 --query {"items.sku":{"$in":["SKU-0372","SKU-0012"]}} --sort {"placed":-1}
+020,074,118,154,290,369 end 400 --query {"customer.vip":true,"tags":{"$all":["gift","late"]}}
+378,043,008,330,166,332 end 400 --sort {"placed":1} --limit 6
+166,330,008,043,378 end 400 --sort {"placed":-1} --skip 395
+339,321,082,324,063 end 400 --sort {"items.cents":-1} --limit 5
+385,391,339,268,184 more 5 --sort {"items.cents":1} --skip 62
+000,019,023,025,027,033,058,082 end 400 --query {"tags":{"$size":2}} --sort {"tags":1} --limit 8
+250,277,001,352,164,108 end 400 --query {"tags":{"$gt":"new"},"items":{"$size":5}} --sort {"tags":-1,"placed":1} --limit 6
+006,038,078,094,102,110 end 400 --query {"epoch":{"$ne":null},"placed":{"$lt":{"$date":{"$numberLong":"1300000000000"}}}} --limit 6
+399,398,397 more 3 --query {"nothing":null} --sort {"order":-1}
+- end 400 --query {"nothing":5}
+- end 400 --query {"placed":{"$gt":5}}
+END
+
 # The query takes the first of these by its 9, and the sort by its 1.
 printf '{"a":[1,9]}\n{"a":5}\n' | "$program" pack - >pair.bson 2>err
 # shellcheck disable=SC2016 # names again
@@ -450,6 +487,9 @@ run find five.bson --skip 1 --limit 3 --batch 2 --after "$token"
 sed -n 4p five.lines >wanted_lines
 last_token=$("$tokens" five.bson 3 3 --skip 1 --limit 3)
 expect 'the page after it' 0 @wanted_lines "1 documents, end, token $last_token"
+
+run find five.bson --skip 1 --limit 3 --batch 2 --after "$token" --index a
+expect 'the page after it, by an index' 0 @wanted_lines "1 documents, end, token $last_token"
 
 run find - --after "$last_token" --limit 3 --skip 1 <five.bson
 expect 'the page after the last one' 0 '' "0 documents, end, token $last_token"
@@ -787,8 +827,29 @@ END
 run find bad.bson --sort ''
 expect 'a sort of no text' 1 '' 'bsonfind: sort: byte 0: not JSON'
 
+# And so is the path of an index, of 100 names at most.
+for path in '' . .a a. a..b a.b..c; do
+	run find bad.bson --index "$path"
+	expect "an index that is refused: $path" 1 '' 'bsonfind: index: empty component'
+done
+
+hundred=a$(copies 99 .a)
+for path in "$hundred.a" "$hundred..a" "$(copies 100 .)"; do
+	run find bad.bson --index "$path"
+	expect "an index of more than 100 names: $path" 1 '' 'bsonfind: index: too many components'
+done
+
+for path in a "$hundred" 0 '$' é; do
+	run find int32.bson --index "$path"
+	expect "an index on $path" 0 "$int32" "$(told 1 end int32.bson 0)"
+done
+
+run find - --index a </dev/null
+expect 'an index of an empty input' 0 '' '0 documents, end'
+
 # Of two things that are wrong the first one is told, in this order: the words, the file, the text of the query, that of the
-# sort, the filter, the sort, the text of the token, a read, the dump, the digest of the token, its place, a write.
+# sort, the filter, the sort, the path of the index, the text of the token, a read, the dump, the digest of the token, its place,
+# a write.
 
 run find missing.bson --query '{"a":1}' --limit x
 expect 'words, before a file that is not there' 2 '' "$usage"
@@ -811,6 +872,26 @@ expect 'a filter, before a sort' 1 '' 'bsonfind: query: place "$foo": unknown op
 run find bad.bson --sort '{"a":2}' --after x
 expect 'a sort, before the text of a token' 1 '' 'bsonfind: sort: not a sort'
 
+# shellcheck disable=SC2016 # names again
+run find bad.bson --query '{"$foo":1}' --index a..b
+# shellcheck disable=SC2016 # names again
+expect 'a filter, before the path of an index' 1 '' 'bsonfind: query: place "$foo": unknown operator'
+
+run find bad.bson --sort '{"a":2}' --index a..b
+expect 'a sort, before the path of an index' 1 '' 'bsonfind: sort: not a sort'
+
+run find . --index a..b --after x
+expect 'the path of an index, before the text of a token' 1 '' 'bsonfind: index: empty component'
+
+run find . --index a..b
+expect 'the path of an index, before a read' 1 '' 'bsonfind: index: empty component'
+
+run find . --index a
+expect 'a read, before an index' 1 '' 'bsonfind: cannot read'
+
+run find bad.bson --index a
+expect 'a dump with a fault, before an index' 1 '' 'bsonfind: document 0, byte 7, path "s": bad string length'
+
 run find . --after x
 expect 'the text of a token, before a read' 1 '' 'bsonfind: token: not a token'
 
@@ -823,6 +904,12 @@ expect 'a dump with a fault, before a token of another one' 1 '' 'bsonfind: docu
 
 run find five.bson --after "$foreign_token"
 expect 'the digest of a token, before its place' 1 '' "$foreign"
+
+run find five.bson --index a --after "$foreign_token"
+expect 'the digest of a token, with an index' 1 '' "$foreign"
+
+run find five.bson --index a --after "$("$tokens" five.bson 1 9)"
+expect 'the place of a token, with an index' 1 '' "$past"
 
 "$program" find five.bson --after "$("$tokens" five.bson 1 9)" >/dev/full 2>err
 echo $? >status
@@ -1065,7 +1152,7 @@ expect 'find without a file' 2 '' "$usage"
 run find int32.bson --query '{}' --query '{}'
 expect 'two queries' 2 '' "$usage"
 
-for option in --sort --after; do
+for option in --sort --index --after; do
 	run find int32.bson "$option" '{}' "$option" '{}'
 	expect "two of $option" 2 '' "$usage"
 	run find int32.bson "$option"
@@ -1082,9 +1169,6 @@ for option in --skip --limit --batch; do
 	run find int32.bson "$option" 1 "$option" 1
 	expect "two of $option" 2 '' "$usage"
 done
-
-run find int32.bson --index a
-expect 'an option that is not there yet' 2 '' "$usage"
 
 run dump "$(printf '\377')"
 expect 'a word that is not UTF-8' 2 '' "$usage"

@@ -1,4 +1,5 @@
-//! `find`: the documents of an input that are asked for, in their order, one a line.
+//! `find`: the documents of an input that are asked for, in their order, one a line. An index changes how they are looked for, and
+//! nothing that is shown.
 //!
 //! In order of reading: `asking`, what the words ask for; `batch`, what is shown of it; `found_documents`, the lines.
 

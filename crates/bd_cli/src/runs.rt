@@ -16,8 +16,8 @@ use bd_command_line::{Order, USAGE, WordsFault};
 use bd_device::{Input, Output, write_all};
 use std::alloc::Global;
 
-/// Carries out an order, and gives the exit status: 0 where all was done, 1 after a fault of the input, of a query, a sort
-/// or a token, or of a device, or for want of memory.
+/// Carries out an order, and gives the exit status: 0 where all was done, 1 after a fault of the input, of a query, a sort,
+/// the path of an index or a token, or of a device, or for want of memory.
 ///
 /// The file that the order names is read from `file`, the commands of a session from `commands`, the results go to
 /// `out`, and what is told of the run to `err`. A device that fails is not tried again.

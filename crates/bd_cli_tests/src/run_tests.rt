@@ -4,6 +4,7 @@ use bd_cli::Status;
 use bd_command_line::{FindOptions, Order};
 use bd_device::FailingWrite;
 use std::alloc::Global;
+use std::test::Fail;
 
 /// The document {"a":1}.
 const ONE: &[u8] = b"\x0c\0\0\0\x10a\0\x01\0\0\0\0";
@@ -44,6 +45,11 @@ fn pack(alloc: Global) -> Order {
 
 /// All documents.
 fn find(alloc: Global) -> Order {
+    find_by(alloc, None)
+}
+
+/// All documents, by an index where one is named.
+fn find_by(alloc: Global, index: Option<String>) -> Order {
     Order::Find {
         file: String::new(alloc),
         options: FindOptions {
@@ -52,9 +58,23 @@ fn find(alloc: Global) -> Order {
             skip: 0,
             limit: 0,
             batch: None,
+            index,
             after: None,
         },
     }
+}
+
+#[test]
+fn finds_by_an_index(rt: HostRuntime) -> Result<(), Fail> {
+    let alloc = rt.alloc();
+    let on_a = find_by(alloc, Some(String::from_str(alloc, "a")?));
+    assert!(rt; reads(alloc, &on_a, ample(ONE, ONE_LINE, ONE_COUNT)).is_some());
+    // Of a path that is none nothing is read.
+    let on_none = find_by(alloc, Some(String::from_str(alloc, "a..b")?));
+    let mut refused = ample(ONE, b"", "bsonfind: index: empty component\n");
+    refused.status = Status::Failed;
+    assert!(rt; reads(alloc, &on_none, refused) == Some(0));
+    Ok(())
 }
 
 #[test]

@@ -42,55 +42,66 @@ abbrev after_batch : (query sort skip limit size : Text) → Walk
 after_batch query sort skip limit size =
     after_value (codes "batch") (rows_before (after_limit query sort skip limit) (codes "--batch")) 1 size
 
-abbrev after_token : (query sort skip limit size token : Text) → Walk
-after_token query sort skip limit size token =
-    after_value (codes "after") (rows_before (after_batch query sort skip limit size) (codes "--after")) 1 token
+abbrev after_index : (query sort skip limit size path : Text) → Walk
+after_index query sort skip limit size path =
+    after_value (codes "index") (rows_before (after_batch query sort skip limit size) (codes "--index")) 1 path
+
+abbrev after_token : (query sort skip limit size path token : Text) → Walk
+after_token query sort skip limit size path token =
+    after_value (codes "after") (rows_before (after_index query sort skip limit size path) (codes "--after")) 1 token
 
 -- the order, by the numbers that are read
-abbrev numbers_order : (query sort token file : Text) (skip limit size : Option ℕ) → Option Ordered
-numbers_order query sort token file skip limit size = Some (find file (record {
+abbrev numbers_order : (query sort path token file : Text) (skip limit size : Option ℕ) → Option Ordered
+numbers_order query sort path token file skip limit size = Some (find file (record {
   query = Some (123 ∷ query);
   sort = Some (123 ∷ sort);
   skip = unwrap_or skip 0;
   limit = unwrap_or limit 0;
   batch = size;
+  index = Some path;
   after = Some token;
 }))
 
-numbers_read : (query sort token file : Text) (skip limit size : ℕ) → skip ≤ 2147483647 → limit ≤ 2147483647 → size ≤ 2147483647
-    → numbers_order query sort token file (number_read (decimal skip)) (number_read (decimal limit)) (number_read (decimal size))
-    ≡ numbers_order query sort token file (Some skip) (Some limit) (Some size)
-numbers_read query sort token file skip limit size skip_le limit_le size_le =
-    ap (λ n. numbers_order query sort token file n (number_read (decimal limit)) (number_read (decimal size))) (number_is_read skip skip_le)
-    ∙ (ap (λ n. numbers_order query sort token file (Some skip) n (number_read (decimal size))) (number_is_read limit limit_le)
-    ∙ ap (numbers_order query sort token file (Some skip) (Some limit)) (number_is_read size size_le))
+numbers_read : (query sort path token file : Text) (skip limit size : ℕ) → skip ≤ 2147483647 → limit ≤ 2147483647 → size ≤ 2147483647
+    → numbers_order query sort path token file (number_read (decimal skip)) (number_read (decimal limit)) (number_read (decimal size))
+    ≡ numbers_order query sort path token file (Some skip) (Some limit) (Some size)
+numbers_read query sort path token file skip limit size skip_le limit_le size_le =
+    ap (λ n. numbers_order query sort path token file n (number_read (decimal limit)) (number_read (decimal size))) (number_is_read skip skip_le)
+    ∙ (ap (λ n. numbers_order query sort path token file (Some skip) n (number_read (decimal size))) (number_is_read limit limit_le)
+    ∙ ap (numbers_order query sort path token file (Some skip) (Some limit)) (number_is_read size size_le))
 
-pub options_taken : (query sort token file : Text) (skip limit size : ℕ)
-    → skip ≤ 2147483647 → limit ≤ 2147483647 → size ≤ 2147483647 → is_file_word token ≡ true
+pub options_taken : (query sort path token file : Text) (skip limit size : ℕ)
+    → skip ≤ 2147483647 → limit ≤ 2147483647 → size ≤ 2147483647 → is_file_word path ≡ true → is_file_word token ≡ true
     → IsTaken (codes "find" ∷ codes "--query" ∷ (123 ∷ query) ∷ codes "--sort" ∷ (123 ∷ sort)
     ∷ codes "--skip" ∷ decimal skip ∷ codes "--limit" ∷ decimal limit ∷ codes "--batch" ∷ decimal size
-    ∷ codes "--after" ∷ token ∷ codes "--" ∷ file ∷ [])
+    ∷ codes "--index" ∷ path ∷ codes "--after" ∷ token ∷ codes "--" ∷ file ∷ [])
     (find file (record {
       query = Some (123 ∷ query);
       sort = Some (123 ∷ sort);
       skip = skip;
       limit = limit;
       batch = Some size;
+      index = Some path;
       after = Some token;
     }))
 unfolding clap_on_literals
-options_taken query sort token file skip limit size skip_le limit_le size_le plain =
+options_taken query sort path token file skip limit size skip_le limit_le size_le path_plain token_plain =
     let start = walk_from nothing_held in
     let skipped = after_skip query sort (decimal skip) in
     let limited = after_limit query sort (decimal skip) (decimal limit) in
     let sized = after_batch query sort (decimal skip) (decimal limit) (decimal size) in
-    let resumed = after_token query sort (decimal skip) (decimal limit) (decimal size) token in
+    let indexed = after_index query sort (decimal skip) (decimal limit) (decimal size) path in
+    let resumed = after_token query sort (decimal skip) (decimal limit) (decimal size) path token in
     let last = codes "--" ∷ file ∷ [] in
     let end = past resumed last in
-    let on_token = value_on (codes "after") token resumed.held.rows last end plain (refl, refl) in
-    let from_size = leads_on sized (before_value (codes "after") resumed.held.rows 1) end (codes "--after" ∷ []) (token ∷ last)
-    (ap fault_at_option (number_taken size size_le), refl) on_token in
+    let on_token = value_on (codes "after") token resumed.held.rows last end token_plain (refl, refl) in
+    let from_path = leads_on indexed (before_value (codes "after") resumed.held.rows 1) end (codes "--after" ∷ []) (token ∷ last)
+    (refl, refl) on_token in
     let more = codes "--after" ∷ token ∷ last in
+    let on_path = value_on (codes "index") path indexed.held.rows more end path_plain from_path in
+    let from_size = leads_on sized (before_value (codes "index") indexed.held.rows 1) end (codes "--index" ∷ []) (path ∷ more)
+    (ap fault_at_option (number_taken size size_le), refl) on_path in
+    let more = codes "--index" ∷ path ∷ more in
     let on_size = value_on (codes "batch") (decimal size) sized.held.rows more end (number_word size (omega arith)) from_size in
     let from_limit = leads_on limited (before_value (codes "batch") sized.held.rows 1) end (codes "--batch" ∷ []) (decimal size ∷ more)
     (ap fault_at_option (number_taken limit limit_le), refl) on_size in
@@ -107,5 +118,6 @@ options_taken query sort token file skip limit size skip_le limit_le size_le pla
       skip = skip;
       limit = limit;
       batch = Some size;
+      index = Some path;
       after = Some token;
-    })) leads refl (numbers_read query sort token file skip limit size skip_le limit_le size_le)
+    })) leads refl (numbers_read query sort path token file skip limit size skip_le limit_le size_le)

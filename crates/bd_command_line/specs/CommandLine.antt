@@ -48,7 +48,8 @@ cut_app = with_rule (with_rule sorted_app (number_rule (codes "skip"))) (number_
 
 -- `find` with all its options
 abbrev pub find_app : App
-find_app = with_rule (with_rule cut_app (number_rule (codes "batch"))) (text_rule (codes "after"))
+find_app =
+    with_rule (with_rule (with_rule cut_app (number_rule (codes "batch"))) (text_rule (codes "index"))) (text_rule (codes "after"))
 
 -- the line without its commands
 abbrev pub top_app : App
@@ -100,6 +101,7 @@ find_words_in rows = record {
   skip = unwrap_or (option_number (codes "skip") rows) 0;
   limit = unwrap_or (option_number (codes "limit") rows) 0;
   batch = option_number (codes "batch") rows;
+  index = first_of (codes "index") rows;
   after = first_of (codes "after") rows;
 }
 
@@ -139,7 +141,7 @@ GivesOrder answer order = MatchResult answer (λ o. meant o ≡ order) (λ f. f 
 abbrev pub is_help_line : List Text → Bool
 is_help_line words = option_map_or (λ word. bytes_eq word (codes "help")) (slice_get words 0) false
 
--- a word that may stand as FILE, or as the token after `--after`: none of two bytes and more that begins with a hyphen (45)
+-- a word that may stand as FILE, or as the text after `--index` or `--after`: none of two bytes and more that begins with a hyphen (45)
 abbrev pub is_file_word : Text → Bool
 is_file_word (x ∷ y ∷ rest) = not (x == 45)
 is_file_word _ = true

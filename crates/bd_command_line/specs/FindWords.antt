@@ -8,11 +8,12 @@ pub record FindWords : Type 0 where
   pub skip : ℕ
   pub limit : ℕ
   pub batch : Option ℕ
+  pub index : Option (List ℕ)
   pub after : Option (List ℕ)
 
 -- no option is given
 abbrev pub no_options : FindWords
-no_options = record { query = None; sort = None; skip = 0; limit = 0; batch = None; after = None }
+no_options = record { query = None; sort = None; skip = 0; limit = 0; batch = None; index = None; after = None }
 
 abbrev pub find_words_of : FindOptions → FindWords
 find_words_of options = record {
@@ -21,5 +22,6 @@ find_words_of options = record {
   skip = options.skip;
   limit = options.limit;
   batch = options.batch;
+  index = option_map string_bytes options.index;
   after = option_map string_bytes options.after;
 }

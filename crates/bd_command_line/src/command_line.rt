@@ -140,9 +140,9 @@ fn order_in(alloc: Global, words: &[String]) -> Result<Order, WordsFault>
 /// The order of a line: its words without the program's name.
 ///
 /// `dump FILE`, `check FILE` and `pack FILE` are taken, and
-/// `find FILE [--query Q] [--sort S] [--skip N] [--limit N] [--batch N] [--after TOKEN]`, N from 0 to 2,147,483,647,
-/// with the options in any order, each once at most, and FILE before or after them. Without `--skip` and `--limit`
-/// they are 0. A file whose name looks like a flag stands after `--`, as in `dump -- -x`.
+/// `find FILE [--query Q] [--sort S] [--skip N] [--limit N] [--batch N] [--index PATH] [--after TOKEN]`, N from 0 to
+/// 2,147,483,647, with the options in any order, each once at most, and FILE before or after them. Without `--skip` and
+/// `--limit` they are 0. A file whose name looks like a flag stands after `--`, as in `dump -- -x`.
 ///
 /// # Errors
 ///
@@ -185,17 +185,19 @@ pub fn parse_words(alloc: Global, words: &[String]) -> Result<Order, WordsFault>
         → words_of words.now ≡ codes "find" ∷ file ∷ codes "--query" ∷ (123 ∷ rest)
         ∷ codes "--batch" ∷ decimal size ∷ []
         → GivesOrder result (find file (record no_options { query = Some (123 ∷ rest); batch = Some size })) }
-    ensures find_options { (query sort token file : List ℕ) (skip limit size : ℕ)
-        → skip ≤ 2147483647 → limit ≤ 2147483647 → size ≤ 2147483647 → IsTrue (is_file_word token)
+    ensures find_options { (query sort path token file : List ℕ) (skip limit size : ℕ)
+        → skip ≤ 2147483647 → limit ≤ 2147483647 → size ≤ 2147483647
+        → IsTrue (is_file_word path) → IsTrue (is_file_word token)
         → words_of words.now ≡ codes "find" ∷ codes "--query" ∷ (123 ∷ query) ∷ codes "--sort" ∷ (123 ∷ sort)
         ∷ codes "--skip" ∷ decimal skip ∷ codes "--limit" ∷ decimal limit ∷ codes "--batch" ∷ decimal size
-        ∷ codes "--after" ∷ token ∷ codes "--" ∷ file ∷ []
+        ∷ codes "--index" ∷ path ∷ codes "--after" ∷ token ∷ codes "--" ∷ file ∷ []
         → GivesOrder result (find file (record {
           query = Some (123 ∷ query);
           sort = Some (123 ∷ sort);
           skip = skip;
           limit = limit;
           batch = Some size;
+          index = Some path;
           after = Some token;
         })) }
     ensures help_word { IsTrue (is_help_line (words_of words.now)) → IsErrOf result WordsFault.Usage }

@@ -83,6 +83,7 @@ pub fn find_command<'a>(alloc: Global) -> Result<Command<'a>, AllocError>
 {
     let command = cut_command(alloc)?;
     let command = with_number(alloc, command, "batch")?;
+    let command = with_text(alloc, command, "index")?;
     with_text(alloc, command, "after")
 }
 
@@ -115,6 +116,7 @@ fn options_of(alloc: Global, matches: &ArgMatches<'_>) -> Result<FindOptions, Wo
 {
     let query = text_of(alloc, matches, "query")?;
     let sort = text_of(alloc, matches, "sort")?;
+    let index = text_of(alloc, matches, "index")?;
     let after = text_of(alloc, matches, "after")?;
     Ok(FindOptions {
         query,
@@ -122,6 +124,7 @@ fn options_of(alloc: Global, matches: &ArgMatches<'_>) -> Result<FindOptions, Wo
         skip: number_of(matches, "skip").unwrap_or(0),
         limit: number_of(matches, "limit").unwrap_or(0),
         batch: number_of(matches, "batch"),
+        index,
         after,
     })
 }

@@ -31,6 +31,8 @@ pub struct FindOptions {
     pub limit: u32,
     /// How many documents a batch has; without it all of the answer are one batch.
     pub batch: Option<u32>,
+    /// The path of an index that the answer is found by; without one the documents are looked at in turn.
+    pub index: Option<String>,
     /// The text of a token, which tells where the answer goes on; without one it is given from its start.
     pub after: Option<String>,
 }

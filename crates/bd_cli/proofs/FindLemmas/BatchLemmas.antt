@@ -8,8 +8,7 @@ use Rattle.std.proofs.lemmas.List.{drop_all, take_all, length-append}
 use Rattle.std.proofs.lemmas.List.FromFn.{length-range_with_len}
 use Rattle.bd_value.specs.Tree.{Doc}
 use Rattle.bd_answer.specs.Answer.{Asked, Mark, answer, at_most, before, cut, insert, insert_all, is_empty, matching, ordered, rest}
-use Rattle.bd_answer.specs.Session.{GivenBatch, OpenCursor, Query, State, batch_of, cursor_of, find_call, foreign_token, gave, next_call, opened, reply, resume_call, state_after, token_after, token_place, with_open}
-use Rattle.bd_answer.specs.SessionLaws.{new_state}
+use Rattle.bd_answer.specs.Session.{GivenBatch, IndexMark, OpenCursor, Query, State, batch_of, cursor_of, find_call, foreign_token, gave, has_index, next_call, no_index, opened, reply, resume_call, state_after, token_after, token_place, with_open}
 use Rattle.bd_answer.proofs.AnswerLemmas.{ordered_in}
 use Rattle.bd_answer.proofs.BatchLemmas.{cut_length}
 use Rattle.bd_answer.proofs.OrderLemmas.{In, filter_in, in_at}
@@ -21,7 +20,7 @@ use Rattle.bd_request.specs.declared.refused.Refused.TheVariants as reasons
 use Rattle.bd_request.specs.declared.token.Token.{Token}
 use Rattle.bd_cli.specs.Find.{left_over}
 use Rattle.bd_cli.specs.Find.Asking.{fits_batch, refused_text}
-use Rattle.bd_cli.specs.Find.Batch.{IsOpenedOn, IsReady, cursor_for, places_from}
+use Rattle.bd_cli.specs.Find.Batch.{AwaitsFirst, IsOpenedOn, IsReady, before_first, cursor_for, places_from}
 
 -- ---- a dump has no more documents than a batch may have
 
@@ -119,8 +118,8 @@ led_few q (Some t) ps e = go (bytes_eq t.digest q.digest) (nat_lt t.last q.asked
 only_memory : (id : ℕ) (r : Refused) → IsRefusedCall (opened id) r → r ≡ reasons.NoMemory
 only_memory id reasons.BadSort h = absurd h
 only_memory id reasons.NoIndex h = absurd cc
-only_memory id reasons.IndexThere h = absurd h
-only_memory id reasons.TooManyIndexes h = absurd h
+only_memory id reasons.IndexThere h = absurd cc
+only_memory id reasons.TooManyIndexes h = absurd cc
 only_memory id reasons.TooManyCursors h = absurd cc
 only_memory id reasons.NoCursor h = absurd cc
 only_memory id reasons.BadToken h = absurd h
@@ -133,8 +132,8 @@ only_memory id (reasons.BadFilter fault) h = absurd h
 only_foreign : (r : Refused) → IsRefusedCall foreign_token r → r ≡ reasons.ForeignToken
 only_foreign reasons.BadSort h = absurd h
 only_foreign reasons.NoIndex h = absurd cc
-only_foreign reasons.IndexThere h = absurd h
-only_foreign reasons.TooManyIndexes h = absurd h
+only_foreign reasons.IndexThere h = absurd cc
+only_foreign reasons.TooManyIndexes h = absurd cc
 only_foreign reasons.TooManyCursors h = absurd cc
 only_foreign reasons.NoCursor h = absurd cc
 only_foreign reasons.BadToken h = absurd h
@@ -147,8 +146,8 @@ only_foreign (reasons.BadFilter fault) h = absurd h
 only_place : (r : Refused) → IsRefusedCall token_place r → r ≡ reasons.TokenPlace
 only_place reasons.BadSort h = absurd h
 only_place reasons.NoIndex h = absurd cc
-only_place reasons.IndexThere h = absurd h
-only_place reasons.TooManyIndexes h = absurd h
+only_place reasons.IndexThere h = absurd cc
+only_place reasons.TooManyIndexes h = absurd cc
 only_place reasons.TooManyCursors h = absurd cc
 only_place reasons.NoCursor h = absurd cc
 only_place reasons.BadToken h = absurd h
@@ -158,46 +157,66 @@ only_place reasons.Range h = absurd cc
 only_place reasons.NoMemory h = absurd h
 only_place (reasons.BadFilter fault) h = absurd h
 
-module _ (q : Query) (s : State) where
-  put_in : (token : Option Token) (ps : List ℕ) (id : ℕ) → opened 1 ≡ opened id → s ≡ with_open new_state q.digest (option_map marked_token token) ps
+module _ (q : Query) (s : State) (hint : Option (List ℕ)) where
+  put_in : (marks : List IndexMark) (token : Option Token) (ps : List ℕ) (id : ℕ) → opened 1 ≡ opened id
+      → s ≡ with_open (before_first marks) q.digest (option_map marked_token token) ps
       → cursor_of id s.cursors ≡ Some (cursor_for id q token ps)
-  put_in token ps id r e = let one : 1 ≡ id = cc in rw (e, sym one) refl
+  put_in marks token ps id r e = let one : 1 ≡ id = cc in rw (e, sym one) refl
 
-  find_opens_new : (result : Result ℕ Refused) → IfOk result (λ id. reply new_state (find_call q None) ≡ opened id)
-      → OnOk result (s ≡ state_after new_state (find_call q None)) → IfErr result (IsRefusedCall (reply new_state (find_call q None))) → IsOpenedOn q None s result
-  find_opens_new (Ok id) r e f = (answer q.asked, refl, put_in None (answer q.asked) id r e)
-  find_opens_new (Err refused) r e f = inl (only_memory 1 refused f)
-
-  resume_opens_new : (t : Token) (result : Result ℕ Refused) → IfOk result (λ id. reply new_state (resume_call q None (marked_token t)) ≡ opened id)
-      → OnOk result (s ≡ state_after new_state (resume_call q None (marked_token t))) → IfErr result (IsRefusedCall (reply new_state (resume_call q None (marked_token t)))) → IsOpenedOn q (Some t) s result
-  resume_opens_new t (Ok id) r e f = go (bytes_eq t.digest q.digest) (nat_lt t.last q.asked.count) r e
+  find_opens_first : (marks : List IndexMark) → has_index marks hint ≡ true → (result : Result ℕ Refused)
+      → IfOk result (λ id. reply (before_first marks) (find_call q hint) ≡ opened id)
+      → OnOk result (s ≡ state_after (before_first marks) (find_call q hint))
+      → IfErr result (IsRefusedCall (reply (before_first marks) (find_call q hint))) → IsOpenedOn q None s result
+  find_opens_first marks there (Ok id) r e f = go (has_index marks hint) there r e
     where
-      go : (same place : Bool) → cond same (cond place (opened 1) token_place) foreign_token ≡ opened id
-          → s ≡ cond same (cond place (with_open new_state q.digest (Some (marked_token t)) (rest q.asked (mark_of t))) new_state) new_state
+      go : (has : Bool) → has ≡ true → cond has (opened 1) no_index ≡ opened id
+          → s ≡ cond has (with_open (before_first marks) q.digest None (answer q.asked)) (before_first marks)
+          → (xs : List ℕ) × (places_from q None ≡ Ok xs) × (cursor_of id s.cursors ≡ Some (cursor_for id q None xs))
+      go true there r e = (answer q.asked, refl, put_in marks None (answer q.asked) id r e)
+      go false there r e = absurd cc
+  find_opens_first marks there (Err refused) r e f = go (has_index marks hint) there f
+    where
+      go : (has : Bool) → has ≡ true → IsRefusedCall (cond has (opened 1) no_index) refused
+          → (refused ≡ reasons.NoMemory) ⊎ (places_from q None ≡ Err (refused_text refused))
+      go true there f = inl (only_memory 1 refused f)
+      go false there f = absurd cc
+
+  resume_opens_first : (marks : List IndexMark) → has_index marks hint ≡ true → (t : Token) (result : Result ℕ Refused)
+      → IfOk result (λ id. reply (before_first marks) (resume_call q hint (marked_token t)) ≡ opened id)
+      → OnOk result (s ≡ state_after (before_first marks) (resume_call q hint (marked_token t)))
+      → IfErr result (IsRefusedCall (reply (before_first marks) (resume_call q hint (marked_token t)))) → IsOpenedOn q (Some t) s result
+  resume_opens_first marks there t (Ok id) r e f = go (has_index marks hint) there (bytes_eq t.digest q.digest) (nat_lt t.last q.asked.count) r e
+    where
+      go : (has : Bool) → has ≡ true → (same place : Bool) → cond same (cond place (cond has (opened 1) no_index) token_place) foreign_token ≡ opened id
+          → s ≡ cond same (cond place (cond has (with_open (before_first marks) q.digest (Some (marked_token t)) (rest q.asked (mark_of t))) (before_first marks)) (before_first marks)) (before_first marks)
           → (xs : List ℕ) × (cond same (cond place (Ok (rest q.asked (mark_of t))) (Err (refused_text reasons.TokenPlace))) (Err (refused_text reasons.ForeignToken)) ≡ Ok xs)
           × (cursor_of id s.cursors ≡ Some (cursor_for id q (Some t) xs))
-      go true true r e = (rest q.asked (mark_of t), refl, put_in (Some t) (rest q.asked (mark_of t)) id r e)
-      go true false r e = absurd cc
-      go false place r e = absurd cc
-  resume_opens_new t (Err refused) r e f = go (bytes_eq t.digest q.digest) (nat_lt t.last q.asked.count) f
+      go true there true true r e = (rest q.asked (mark_of t), refl, put_in marks (Some t) (rest q.asked (mark_of t)) id r e)
+      go true there true false r e = absurd cc
+      go true there false place r e = absurd cc
+      go false there same place r e = absurd cc
+  resume_opens_first marks there t (Err refused) r e f = go (has_index marks hint) there (bytes_eq t.digest q.digest) (nat_lt t.last q.asked.count) f
     where
-      go : (same place : Bool) → IsRefusedCall (cond same (cond place (opened 1) token_place) foreign_token) refused
+      go : (has : Bool) → has ≡ true → (same place : Bool) → IsRefusedCall (cond same (cond place (cond has (opened 1) no_index) token_place) foreign_token) refused
           → (refused ≡ reasons.NoMemory) ⊎ (cond same (cond place (Ok (rest q.asked (mark_of t))) (Err (refused_text reasons.TokenPlace))) (Err (refused_text reasons.ForeignToken)) ≡ Err (refused_text refused))
-      go true true f = inl (only_memory 1 refused f)
-      go true false f = inr (ap (λ r. Err (refused_text r)) (sym (only_place refused f)))
-      go false place f = inr (ap (λ r. Err (refused_text r)) (sym (only_foreign refused f)))
+      go true there true true f = inl (only_memory 1 refused f)
+      go true there true false f = inr (ap (λ r. Err (refused_text r)) (sym (only_place refused f)))
+      go true there false place f = inr (ap (λ r. Err (refused_text r)) (sym (only_foreign refused f)))
+      go false there same place f = absurd cc
 
-  pub find_opens : (old : State) → old ≡ new_state → (result : Result ℕ Refused) → IfOk result (λ id. reply old (find_call q None) ≡ opened id)
-      → OnOk result (s ≡ state_after old (find_call q None)) → IfErr result (IsRefusedCall (reply old (find_call q None))) → IsOpenedOn q None s result
-  find_opens old new result r e f =
-      find_opens_new result (subst (λ (o : State). IfOk result (λ id. reply o (find_call q None) ≡ opened id)) new r) (subst (λ (o : State). OnOk result (s ≡ state_after o (find_call q None))) new e)
-      (subst (λ (o : State). IfErr result (IsRefusedCall (reply o (find_call q None)))) new f)
+  pub find_opens : (old : State) → AwaitsFirst old hint → (result : Result ℕ Refused) → IfOk result (λ id. reply old (find_call q hint) ≡ opened id)
+      → OnOk result (s ≡ state_after old (find_call q hint)) → IfErr result (IsRefusedCall (reply old (find_call q hint))) → IsOpenedOn q None s result
+  find_opens old first result r e f =
+      find_opens_first first.marks first.is_there result (subst (λ (o : State). IfOk result (λ id. reply o (find_call q hint) ≡ opened id)) first.is_unopened r)
+      (subst (λ (o : State). OnOk result (s ≡ state_after o (find_call q hint))) first.is_unopened e)
+      (subst (λ (o : State). IfErr result (IsRefusedCall (reply o (find_call q hint)))) first.is_unopened f)
 
-  pub resume_opens : (old : State) → old ≡ new_state → (t : Token) (result : Result ℕ Refused) → IfOk result (λ id. reply old (resume_call q None (marked_token t)) ≡ opened id)
-      → OnOk result (s ≡ state_after old (resume_call q None (marked_token t))) → IfErr result (IsRefusedCall (reply old (resume_call q None (marked_token t)))) → IsOpenedOn q (Some t) s result
-  resume_opens old new t result r e f =
-      resume_opens_new t result (subst (λ (o : State). IfOk result (λ id. reply o (resume_call q None (marked_token t)) ≡ opened id)) new r) (subst (λ (o : State). OnOk result (s ≡ state_after o (resume_call q None (marked_token t)))) new e)
-      (subst (λ (o : State). IfErr result (IsRefusedCall (reply o (resume_call q None (marked_token t))))) new f)
+  pub resume_opens : (old : State) → AwaitsFirst old hint → (t : Token) (result : Result ℕ Refused) → IfOk result (λ id. reply old (resume_call q hint (marked_token t)) ≡ opened id)
+      → OnOk result (s ≡ state_after old (resume_call q hint (marked_token t))) → IfErr result (IsRefusedCall (reply old (resume_call q hint (marked_token t)))) → IsOpenedOn q (Some t) s result
+  resume_opens old first t result r e f =
+      resume_opens_first first.marks first.is_there t result (subst (λ (o : State). IfOk result (λ id. reply o (resume_call q hint (marked_token t)) ≡ opened id)) first.is_unopened r)
+      (subst (λ (o : State). OnOk result (s ≡ state_after o (resume_call q hint (marked_token t)))) first.is_unopened e)
+      (subst (λ (o : State). IfErr result (IsRefusedCall (reply o (resume_call q hint (marked_token t))))) first.is_unopened f)
 
 -- it is ready to give a batch
 pub opened_ready : (q : Query) (token : Option Token) (s : State) (id : ℕ) → q.asked.count ≤ 2147483647 → IsOpenedOn q token s (Ok id) → IsReady s id q.asked.count

@@ -11,6 +11,9 @@ use Rattle.bd_diagnose.specs.declared.json_fault.JsonFault.{JsonFault}
 use Rattle.bd_diagnose.specs.declared.json_fault.JsonFaultKind.TheVariants as kinds
 use Rattle.bd_extjson.specs.TextDocument.{reading}
 use Rattle.bd_path.specs.Earliest.{SortPath}
+use Rattle.bd_path.specs.Names.{Names}
+use Rattle.bd_path.specs.Path.{path_of}
+use Rattle.bd_path.specs.declared.path_fault.PathFault.{PathFault}
 use Rattle.bd_query.specs.Fault.{Refusal}
 use Rattle.bd_query.specs.Filter.{Filter}
 use Rattle.bd_query.specs.FilterOf.{filter_of}
@@ -20,7 +23,7 @@ use Rattle.bd_request.specs.declared.refused.Refused.TheVariants as reasons
 use Rattle.bd_request.specs.declared.token.Token.{Token}
 use Rattle.bd_command_line.specs.FindWords.{FindWords}
 use Rattle.bd_cli.specs.Chain.{IsRefusedOr}
-use Rattle.bd_cli.specs.Find.Asking.{AsksInDocuments, AsksInWords, FitsCounts, IsRefusedAsking, ReadsFilter, ReadsSort, ReadsText, ReadsToken, Wanted, fits_counts, json_fault_text, refusal_text, refused_text, wanted}
+use Rattle.bd_cli.specs.Find.Asking.{AsksInDocuments, AsksInWords, FitsCounts, IsRefusedAsking, NamesIndex, ReadsFilter, ReadsSort, ReadsText, ReadsToken, Wanted, fits_counts, index_fault_text, json_fault_text, refusal_text, refused_text, wanted}
 use Rattle.bd_cli.specs.Find.Batch.{cursor_for, places_from, query_for}
 use Rattle.bd_cli.specs.Find.{IsRefusal, IsShownByFind, IsShownOfBytes, IsShownOfDump, LeadsTo, ReadsBytes, ReadsDump, shown_batch}
 use Rattle.bd_cli.specs.Shown.{Shown, fault_text, shown_refusal}
@@ -85,6 +88,17 @@ counts_line words (Ok u) (Err m) p (q, e) = absurd (let x = sym p ∙ q in cc)
 counts_line words (Err m) (Ok v) (p, e) q = absurd (let x = sym p ∙ q in cc)
 counts_line words (Err m) (Err o) (p, e) (q, f) = ap (λ (message : List ℕ). Err message) (e ∙ sym f)
 
+index_line : (text : Option (List ℕ)) → IsOnce (NamesIndex text)
+index_line None (Ok u) (Ok v) p q = refl
+index_line None (Ok u) (Err m) p q = absurd q
+index_line None (Err m) b p q = absurd p
+index_line (Some text) (Ok u) (Ok v) p q = refl
+index_line (Some text) (Ok u) (Err m) (x, p) (y, q, f) = absurd (let z = sym p ∙ q in cc)
+index_line (Some text) (Err m) (Ok v) (x, p, e) (y, q) = absurd (let z = sym p ∙ q in cc)
+index_line (Some text) (Err m) (Err o) (x, p, e) (y, q, f) =
+    let same : x ≡ y = (let z = sym p ∙ q in cc) in
+    ap (λ (message : List ℕ). Err message) (e ∙ ap index_fault_text same ∙ sym f)
+
 token_line : (text : Option (List ℕ)) → IsOnce (ReadsToken text)
 token_line None (Ok t) (Ok u) p q = ap (λ (token : Option Token). Ok token) (p ∙ sym q)
 token_line None (Ok t) (Err m) p q = absurd q
@@ -117,11 +131,12 @@ refuses message = Err message
 
 documents_once : (words : FindWords) (query sort : Doc) (a b : Result Wanted (List ℕ)) → AsksInDocuments words query sort a → AsksInDocuments words query sort b → a ≡ b
 documents_once words query sort =
-    chain_once refuses (ReadsFilter query) (λ filter asked. IsRefusedOr (IsRefusedAsking asked) (ReadsSort sort) (λ sorts. IsRefusedOr (IsRefusedAsking asked) (FitsCounts words) (λ _. IsRefusedOr (IsRefusedAsking asked) (ReadsToken words.after) (λ token. asked ≡ Ok (wanted words query sort filter sorts token))))) (filter_line query) (λ filter.
-    chain_once refuses (ReadsSort sort) (λ sorts asked. IsRefusedOr (IsRefusedAsking asked) (FitsCounts words) (λ _. IsRefusedOr (IsRefusedAsking asked) (ReadsToken words.after) (λ token. asked ≡ Ok (wanted words query sort filter sorts token)))) (sort_line sort) (λ sorts.
-    chain_once refuses (FitsCounts words) (λ _ asked. IsRefusedOr (IsRefusedAsking asked) (ReadsToken words.after) (λ token. asked ≡ Ok (wanted words query sort filter sorts token))) (counts_line words) (λ _.
+    chain_once refuses (ReadsFilter query) (λ filter asked. IsRefusedOr (IsRefusedAsking asked) (ReadsSort sort) (λ sorts. IsRefusedOr (IsRefusedAsking asked) (FitsCounts words) (λ _. IsRefusedOr (IsRefusedAsking asked) (NamesIndex words.index) (λ _. IsRefusedOr (IsRefusedAsking asked) (ReadsToken words.after) (λ token. asked ≡ Ok (wanted words query sort filter sorts token)))))) (filter_line query) (λ filter.
+    chain_once refuses (ReadsSort sort) (λ sorts asked. IsRefusedOr (IsRefusedAsking asked) (FitsCounts words) (λ _. IsRefusedOr (IsRefusedAsking asked) (NamesIndex words.index) (λ _. IsRefusedOr (IsRefusedAsking asked) (ReadsToken words.after) (λ token. asked ≡ Ok (wanted words query sort filter sorts token))))) (sort_line sort) (λ sorts.
+    chain_once refuses (FitsCounts words) (λ _ asked. IsRefusedOr (IsRefusedAsking asked) (NamesIndex words.index) (λ _. IsRefusedOr (IsRefusedAsking asked) (ReadsToken words.after) (λ token. asked ≡ Ok (wanted words query sort filter sorts token)))) (counts_line words) (λ _.
+    chain_once refuses (NamesIndex words.index) (λ _ asked. IsRefusedOr (IsRefusedAsking asked) (ReadsToken words.after) (λ token. asked ≡ Ok (wanted words query sort filter sorts token))) (index_line words.index) (λ _.
     chain_once refuses (ReadsToken words.after) (λ token asked. asked ≡ Ok (wanted words query sort filter sorts token)) (token_line words.after) (λ token a b e f.
-    e ∙ sym f))))
+    e ∙ sym f)))))
 
 words_once : (words : FindWords) (query sort : Doc) → ReadsText (codes "query") words.query (Ok query) → ReadsText (codes "sort") words.sort (Ok sort)
     → (a b : Result Wanted (List ℕ)) → AsksInWords words a → AsksInWords words b → a ≡ b
@@ -237,6 +252,14 @@ counts_some words = go (fits_counts words) refl
     go true is = (Ok tt, is)
     go false is = (Err (refused_text reasons.Range), (is, refl))
 
+index_some : (text : Option (List ℕ)) → (r : Result (Unit {0}) (List ℕ)) × NamesIndex text r
+index_some None = (Ok tt, tt)
+index_some (Some text) = go (path_of text) refl
+  where
+    go : (o : Result Names PathFault) → path_of text ≡ o → (r : Result (Unit {0}) (List ℕ)) × NamesIndex (Some text) r
+    go (Ok names) is = (Ok tt, (names, is))
+    go (Err fault) is = (Err (index_fault_text fault), (fault, is, refl))
+
 token_some : (text : Option (List ℕ)) → (r : Result (Option Token) (List ℕ)) × ReadsToken text r
 token_some None = (Ok None, refl)
 token_some (Some text) = go (token_of text) refl
@@ -249,11 +272,12 @@ words_some : (words : FindWords) → (a : Result Wanted (List ℕ)) × AsksInWor
 words_some words =
     chain_some refuses (ReadsText (codes "query") words.query) (λ query asked. IsRefusedOr (IsRefusedAsking asked) (ReadsText (codes "sort") words.sort) (λ sort. AsksInDocuments words query sort asked)) (text_some (codes "query") words.query) (λ query.
     chain_some refuses (ReadsText (codes "sort") words.sort) (λ sort asked. AsksInDocuments words query sort asked) (text_some (codes "sort") words.sort) (λ sort.
-    chain_some refuses (ReadsFilter query) (λ filter asked. IsRefusedOr (IsRefusedAsking asked) (ReadsSort sort) (λ sorts. IsRefusedOr (IsRefusedAsking asked) (FitsCounts words) (λ _. IsRefusedOr (IsRefusedAsking asked) (ReadsToken words.after) (λ token. asked ≡ Ok (wanted words query sort filter sorts token))))) (filter_some query) (λ filter.
-    chain_some refuses (ReadsSort sort) (λ sorts asked. IsRefusedOr (IsRefusedAsking asked) (FitsCounts words) (λ _. IsRefusedOr (IsRefusedAsking asked) (ReadsToken words.after) (λ token. asked ≡ Ok (wanted words query sort filter sorts token)))) (sort_some sort) (λ sorts.
-    chain_some refuses (FitsCounts words) (λ _ asked. IsRefusedOr (IsRefusedAsking asked) (ReadsToken words.after) (λ token. asked ≡ Ok (wanted words query sort filter sorts token))) (counts_some words) (λ _.
+    chain_some refuses (ReadsFilter query) (λ filter asked. IsRefusedOr (IsRefusedAsking asked) (ReadsSort sort) (λ sorts. IsRefusedOr (IsRefusedAsking asked) (FitsCounts words) (λ _. IsRefusedOr (IsRefusedAsking asked) (NamesIndex words.index) (λ _. IsRefusedOr (IsRefusedAsking asked) (ReadsToken words.after) (λ token. asked ≡ Ok (wanted words query sort filter sorts token)))))) (filter_some query) (λ filter.
+    chain_some refuses (ReadsSort sort) (λ sorts asked. IsRefusedOr (IsRefusedAsking asked) (FitsCounts words) (λ _. IsRefusedOr (IsRefusedAsking asked) (NamesIndex words.index) (λ _. IsRefusedOr (IsRefusedAsking asked) (ReadsToken words.after) (λ token. asked ≡ Ok (wanted words query sort filter sorts token))))) (sort_some sort) (λ sorts.
+    chain_some refuses (FitsCounts words) (λ _ asked. IsRefusedOr (IsRefusedAsking asked) (NamesIndex words.index) (λ _. IsRefusedOr (IsRefusedAsking asked) (ReadsToken words.after) (λ token. asked ≡ Ok (wanted words query sort filter sorts token)))) (counts_some words) (λ _.
+    chain_some refuses (NamesIndex words.index) (λ _ asked. IsRefusedOr (IsRefusedAsking asked) (ReadsToken words.after) (λ token. asked ≡ Ok (wanted words query sort filter sorts token))) (index_some words.index) (λ _.
     chain_some refuses (ReadsToken words.after) (λ token asked. asked ≡ Ok (wanted words query sort filter sorts token)) (token_some words.after) (λ token.
-    (Ok (wanted words query sort filter sorts token), refl)))))))
+    (Ok (wanted words query sort filter sorts token), refl))))))))
 
 pub dump_shows : (bytes : List ℕ) (ds : List Doc) (w : Wanted) → (shown : Shown) × IsShownOfDump bytes ds w shown
 dump_shows bytes ds w =

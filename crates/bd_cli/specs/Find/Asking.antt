@@ -9,7 +9,11 @@ use Rattle.bd_diagnose.specs.declared.json_fault.JsonFaultKind.TheVariants as ki
 use Rattle.bd_extjson.specs.Text.{quoted}
 use Rattle.bd_extjson.specs.TextDocument.{ReadsAs, reading}
 use Rattle.bd_path.specs.Earliest.{SortPath}
+use Rattle.bd_path.specs.Names.{Names}
+use Rattle.bd_path.specs.Path.{path_of}
+use Rattle.bd_path.specs.PathFault.{path_fault_words}
 use Rattle.bd_path.specs.Sort.{sort_paths}
+use Rattle.bd_path.specs.declared.path_fault.PathFault.{PathFault}
 use Rattle.bd_query.specs.Fault.{Refusal, filter_fault_words, refusal_of}
 use Rattle.bd_query.specs.Filter.{Filter}
 use Rattle.bd_query.specs.FilterOf.{filter_of}
@@ -55,6 +59,9 @@ refusal_text r =
     codes "query: place "
     ++ (quoted (join_with_byte 46 r.place) ++ (codes ": " ++ filter_fault_words r.kind))
 
+abbrev pub index_fault_text : PathFault → List ℕ
+index_fault_text fault = codes "index: " ++ path_fault_words fault
+
 -- what is wrong, after the name of the option
 abbrev pub refused_text : Refused → List ℕ
 refused_text (reasons.BadFilter fault) = refusal_text (refusal_of fault)
@@ -99,6 +106,13 @@ abbrev pub FitsCounts : FindWords → Result (Unit {0}) (List ℕ) → Type 0
 FitsCounts words (Ok _) = fits_counts words ≡ true
 FitsCounts words (Err message) = (fits_counts words ≡ false) × (message ≡ refused_text reasons.Range)
 
+-- the text of an index, where there is one, is a path
+abbrev pub NamesIndex : Option (List ℕ) → Result (Unit {0}) (List ℕ) → Type 0
+NamesIndex None (Ok _) = Unit {0}
+NamesIndex None (Err message) = ⊥
+NamesIndex (Some text) (Ok _) = (names : Names) × (path_of text ≡ Ok names)
+NamesIndex (Some text) (Err message) = (fault : PathFault) × (path_of text ≡ Err fault) × (message ≡ index_fault_text fault)
+
 -- the token of a text, where there is one
 abbrev pub ReadsToken : Option (List ℕ) → Result (Option Token) (List ℕ) → Type 0
 ReadsToken None (Ok token) = token ≡ None
@@ -128,11 +142,12 @@ AsksInDocuments words query sort asked =
     IsRefusedOr (IsRefusedAsking asked) (ReadsFilter query) (λ filter.
     IsRefusedOr (IsRefusedAsking asked) (ReadsSort sort) (λ sorts.
     IsRefusedOr (IsRefusedAsking asked) (FitsCounts words) (λ _.
+    IsRefusedOr (IsRefusedAsking asked) (NamesIndex words.index) (λ _.
     IsRefusedOr (IsRefusedAsking asked) (ReadsToken words.after) (λ token.
-    asked ≡ Ok (wanted words query sort filter sorts token)))))
+    asked ≡ Ok (wanted words query sort filter sorts token))))))
 
 -- what the words ask for, or the message of the first that is refused: the text of the query, that of the sort,
--- the filter, the sort, the counts, the token
+-- the filter, the sort, the counts, the path of the index, the token. Which index is named changes nothing else.
 abbrev pub AsksInWords : FindWords → Result Wanted (List ℕ) → Type 0
 AsksInWords words asked =
     IsRefusedOr (IsRefusedAsking asked) (ReadsText (codes "query") words.query) (λ query.

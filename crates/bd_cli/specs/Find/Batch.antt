@@ -1,11 +1,11 @@
 -- The places that are asked for, and the part of them that is given.
-use Rattle.std.specs.Prelude.{◌≡◌, ◌≤◌, ◌<◌, ◌⊎◌, ℕ, nat_lt, List, length, option_map, Option, Some, None, Result, Ok, Err, if◌then◌else◌}
+use Rattle.std.specs.Prelude.{◌≡◌, ◌≤◌, ◌<◌, ◌⊎◌, ℕ, nat_lt, true, List, [], length, option_map, Option, Some, None, Result, Ok, Err, if◌then◌else◌}
 use Rattle.std.specs.List.{All}
 use Rattle.std.specs.Str.{bytes_eq}
 use Rattle.bd_value.specs.Tree.{Doc}
 use Rattle.bd_answer.specs.Answer.{answer, rest}
-use Rattle.bd_answer.specs.Session.{OpenCursor, Query, State, cursor_of}
-use Rattle.bd_cursor.specs.Asked.{asked_for}
+use Rattle.bd_answer.specs.Session.{IndexMark, OpenCursor, Query, State, cursor_of, has_index}
+use Rattle.bd_sort.specs.Asked.{asked_for}
 use Rattle.bd_cursor.specs.SessionView.{mark_of, marked_token}
 use Rattle.bd_request.specs.Digest.{token_digest}
 use Rattle.bd_request.specs.declared.refused.Refused.{Refused}
@@ -42,6 +42,16 @@ cursor_for id q token ps = record {
   token = option_map marked_token token;
   left = ps;
 }
+
+-- a session that has opened no cursor
+abbrev pub before_first : List IndexMark → State
+before_first indexes = record { indexes = indexes; next_id = 1; cursors = [] }
+
+-- it has the index that is named
+pub record AwaitsFirst (s : State) (hint : Option (List ℕ)) : Type 0 where
+  pub marks : List IndexMark
+  pub is_unopened : s ≡ before_first marks
+  pub is_there : has_index marks hint ≡ true
 
 -- a cursor on the places that are asked for was opened, or why there are none, unless memory ran out
 abbrev pub IsOpenedOn : Query → Option Token → State → Result ℕ Refused → Type 0

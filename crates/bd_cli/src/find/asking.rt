@@ -1,16 +1,17 @@
 //! What the words of `find` ask for.
-ghost use Rattle.std.specs.Prelude.{◌≡◌, IfErr, IfOk, Ok, OnOk, option_map, true};
+ghost use Rattle.std.specs.Prelude.{◌≡◌, IfErr, IfOk, Ok, OnOk, option_map, string_bytes, true};
 ghost use Rattle.bd_value.specs.View.{pairs};
 ghost use Rattle.bd_query.specs.Fault.{refusal_of};
 ghost use Rattle.bd_request.specs.Request.{AsksFor};
 ghost use Rattle.bd_command_line.specs.FindWords.{find_words_of};
-ghost use Rattle.bd_cli.specs.Find.Asking.{AsksInDocuments, AsksInWords, ReadsText, ReadsToken, TellsAskingFault, TellsRefused, fits_batch, json_fault_text, refusal_text, refused_text, wanted_by};
+ghost use Rattle.bd_cli.specs.Find.Asking.{AsksInDocuments, AsksInWords, NamesIndex, ReadsText, ReadsToken, TellsAskingFault, TellsRefused, fits_batch, index_fault_text, json_fault_text, refusal_text, refused_text, wanted_by};
 ghost use Rattle.bd_cli.specs.declared.find.asking.AskingFault.TheVariants.{NoMemory as no_memory};
 
 use bd_command_line::FindOptions;
 use bd_cursor::{Refused, Request, Token};
 use bd_diagnose::{JsonFault, JsonFaultKind};
 use bd_extjson::{read_doc, write_number, write_path};
+use bd_path::{Path, PathFault};
 use bd_query::FilterFault;
 use bd_value::{Document, NoMemory};
 use std::alloc::{AllocError, Global};
@@ -25,6 +26,8 @@ pub struct Asking {
     pub request: Request,
     /// How many of them are shown at most; without a size all.
     pub size: Option<u32>,
+    /// The path of the index that they are found by; without one each document is looked at.
+    pub index: Option<Path>,
     /// After which token the answer goes on.
     pub token: Option<Token>,
 }
@@ -50,15 +53,18 @@ impl From<AllocError> for AskingFault {
 pub(crate) fn read_asking(alloc: Global, options: &FindOptions) -> Result<Asking, AskingFault>
     ensures asking { IfOk result (λ a. AsksInWords (find_words_of options.now) (Ok (wanted_by a))) }
     ensures fits { IfOk result (λ a. fits_batch a.size ≡ true) }
+    ensures index { IfOk result (λ a. option_map (λ path. string_bytes path.text) a.index ≡ (find_words_of options.now).index) }
     ensures fault { IfErr result (TellsAskingFault (AsksInWords (find_words_of options.now))) }
 {
     let query = read_text(alloc, "query", options.query.as_deref())?;
     let sort = read_text(alloc, "sort", options.sort.as_deref())?;
     let request = read_request(alloc, query, sort, options)?;
+    let index = read_index(alloc, options.index.as_deref())?;
     let token = read_token(alloc, options.after.as_deref())?;
     Ok(Asking {
         request,
         size: options.batch,
+        index,
         token,
     })
 }
@@ -133,6 +139,32 @@ fn is_batch(size: Option<u32>) -> bool
         Some(size) => size <= GREATEST,
         None => true,
     }
+}
+
+/// The path of an index's text, where there is one.
+fn read_index(alloc: Global, text: Option<&str>) -> Result<Option<Path>, AskingFault>
+    ensures path { OnOk result (NamesIndex (option_map (λ t. t.now) text.entry) (Ok tt)) }
+    ensures text { IfOk result (λ index. option_map (λ path. string_bytes path.text) index ≡ option_map (λ t. t.now) text.entry) }
+    ensures fault { IfErr result (TellsAskingFault (NamesIndex (option_map (λ t. t.now) text.entry))) }
+{
+    let Some(text) = text else {
+        return Ok(None);
+    };
+    match Path::parse(alloc, text) {
+        Ok(path) => Ok(Some(path)),
+        Err(PathFault::NoMemory) => Err(AskingFault::NoMemory),
+        Err(fault) => Err(AskingFault::Message(index_message(alloc, fault)?)),
+    }
+}
+
+/// The message of an index's text that is no path.
+fn index_message(alloc: Global, fault: PathFault) -> Result<Vec<u8>, NoMemory>
+    ensures { IfOk result (λ v. v.items ≡ index_fault_text fault) }
+{
+    let mut message = Vec::new(alloc);
+    message.extend_from_slice(b"index: ")?;
+    message.extend_from_slice(fault.words().as_bytes())?;
+    Ok(message)
 }
 
 /// The token of a text, where there is one.

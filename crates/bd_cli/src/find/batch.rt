@@ -1,13 +1,14 @@
 //! The batch that is asked for, shown.
-ghost use Rattle.std.specs.Prelude.{◌≡◌, ◌++◌, ◌≤◌, ◌⊎◌, IfOk, MatchOption, OnOk, Some, codes, length, option_map, true};
+ghost use Rattle.std.specs.Prelude.{◌≡◌, ◌++◌, ◌≤◌, ◌⊎◌, IfErr, IfOk, MatchOption, OnOk, Some, codes, length, option_map, string_bytes, true};
 ghost use Rattle.bd_answer.specs.Session.{OpenCursor, cursor_of};
 ghost use Rattle.bd_answer.specs.SessionLaws.{new_state};
 ghost use Rattle.bd_bson.specs.Collection.{bytes_of, documents};
-ghost use Rattle.bd_cursor.specs.Asked.{query_of};
-ghost use Rattle.bd_cursor.specs.SessionView.{dump_of, marked_token, state_of};
+ghost use Rattle.bd_sort.specs.Asked.{query_of};
+ghost use Rattle.bd_cursor.specs.SessionView.{dump_of, hint_of, marked_token, state_of};
+ghost use Rattle.bd_request.specs.declared.refused.Refused.TheVariants.{NoMemory as no_memory};
 ghost use Rattle.bd_cli.specs.Find.{IsShownOfDump, end_words, find_count_line, shown_batch, token_words};
 ghost use Rattle.bd_cli.specs.Find.Asking.{fits_batch, refused_text, wanted_by};
-ghost use Rattle.bd_cli.specs.Find.Batch.{IsOpenedOn, IsReady};
+ghost use Rattle.bd_cli.specs.Find.Batch.{AwaitsFirst, IsOpenedOn, IsReady};
 ghost use Rattle.bd_cli.specs.Outcome.{PrintsOrStarves, TellsMessage};
 ghost use Rattle.bd_cli.specs.Shown.{Shown, error_line};
 ghost use Rattle.bd_cli.specs.declared.status.Status.TheVariants.{Done, Failed};
@@ -19,9 +20,10 @@ use crate::output::lines::Stopped;
 use crate::output::messages::{status_of, tell_error, tell_no_memory, tell_unwritten};
 use crate::status::Status;
 use bd_bson::Dump;
-use bd_cursor::{Batch, Choice, Refused, Request, Session, Token};
+use bd_cursor::{Batch, Choice, Refused, Session, Token};
 use bd_device::{Output, write_all};
 use bd_extjson::write_number;
+use bd_path::Path;
 use bd_value::NoMemory;
 use std::alloc::Global;
 
@@ -43,22 +45,51 @@ pub(crate) fn show_found<O: Output, E: Output>(
 {
     let size = asking.size;
     let mut session = Session::new(alloc, dump);
-    match open_first(&mut session, asking.request, asking.token) {
+    match open_first(alloc, &mut session, asking) {
         Ok(id) => show_batch(alloc, &mut session, id, size, out, err),
         Err(refused) => tell_refused(alloc, &refused, err),
     }
 }
 
 /// Opens the first cursor of a session: on an answer, or on what follows a token.
-fn open_first(session: &mut Session, request: Request, token: Option<Token>) -> Result<u64, Refused>
+fn open_first(alloc: Global, session: &mut Session, asking: Asking) -> Result<u64, Refused>
     requires { state_of session.now ≡ new_state }
-    ensures opened { IsOpenedOn (query_of (dump_of session.old) request) token (state_of session.new) result }
+    ensures opened { IsOpenedOn (query_of (dump_of session.old) asking.request) asking.token (state_of session.new) result }
     ensures dump { dump_of session.new ≡ dump_of session.old }
 {
-    match token {
-        Some(token) => session.resume(request, Choice::Scan, &token),
-        None => session.find(request, Choice::Scan),
+    let choice = choose(alloc, session, asking.index)?;
+    match asking.token {
+        Some(token) => session.resume(asking.request, choice, &token),
+        None => session.find(asking.request, choice),
     }
+}
+
+/// How the documents are looked for: by the index on that path, which is made, or without one each is looked at. It fails for
+/// want of memory alone.
+fn choose(alloc: Global, session: &mut Session, index: Option<Path>) -> Result<Choice, Refused>
+    requires { state_of session.now ≡ new_state }
+    ensures choice { IfOk result (λ choice. AwaitsFirst (state_of session.new) (hint_of choice)) }
+    ensures fault { IfErr result (λ refused. refused ≡ no_memory) }
+    ensures dump { dump_of session.new ≡ dump_of session.old }
+{
+    let Some(path) = index else {
+        return Ok(Choice::Scan);
+    };
+    let copy = copy_of(alloc, &path)?;
+    session.create_index(path)?;
+    Ok(Choice::Index(copy))
+}
+
+/// The same path once more. It fails for want of memory alone.
+fn copy_of(alloc: Global, path: &Path) -> Result<Path, Refused>
+    ensures copy { IfOk result (λ copy. string_bytes copy.text ≡ string_bytes path.now.text) }
+    ensures fault { IfErr result (λ refused. refused ≡ no_memory) }
+{
+    // The text of a path is one, so that nothing but memory is wanted.
+    let Ok(copy) = Path::parse(alloc, path.as_str()) else {
+        return Err(Refused::NoMemory);
+    };
+    Ok(copy)
 }
 
 /// Shows the first batch of a cursor.

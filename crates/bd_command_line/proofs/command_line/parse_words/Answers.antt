@@ -68,6 +68,7 @@ returns-clause-find_file_first_batch c rest file size plain le is =
     c.order_in.ensures.order c.order_in.ensures.fault
 
 pub returns-clause-find_options : goal.returns-clause-find_options
-returns-clause-find_options c query sort token file skip limit size skip_le limit_le size_le plain is =
-    answered c.order_in.result _ _ _ is (options_taken query sort token file skip limit size skip_le limit_le size_le plain)
+returns-clause-find_options c query sort path token file skip limit size skip_le limit_le size_le path_plain token_plain is =
+    answered c.order_in.result _ _ _ is
+    (options_taken query sort path token file skip limit size skip_le limit_le size_le path_plain token_plain)
     c.order_in.ensures.order c.order_in.ensures.fault

@@ -1,7 +1,7 @@
 use Rattle.std.proofs.Common.{◌≡◌, Ok, Err, length, refl, sym, ◌∙◌, subst, inr}
 use Rattle.bd_bson.specs.Collection.{bytes_of, documents}
 use Rattle.bd_bson.specs.declared.collection.Dump.{Dump}
-use Rattle.bd_cursor.specs.Asked.{query_of}
+use Rattle.bd_sort.specs.Asked.{query_of}
 use Rattle.bd_cursor.specs.SessionView.{state_of}
 use Rattle.bd_cli.proofs.FindLemmas as finds
 use Rattle.bd_cli.proofs.FindLemmas.BatchLemmas.{opened_ready}
