@@ -1,0 +1,3 @@
+pub mod CommandOfLemmas
+pub mod FieldLemmas
+pub mod RulesLemmas

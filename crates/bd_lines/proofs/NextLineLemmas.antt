@@ -1,0 +1,350 @@
+-- Lemmas on reading the next line of a device.
+use Rattle.std.proofs.Common.{rules, ◌≡◌, ◌<◌, ◌≤◌, ◌+◌, ℕ, List, [], ◌∷◌, ◌++◌, length, Bool, true, false, Option, Some, None, refl, sym, ap, ◌∙◌, subst, append_assoc, append-nil, arith, inl, inr, length-append}
+use Rattle.std.proofs.Math.Nat.{add-suc}
+use Rattle.std.proofs.KnownBytes.{Consumes-trans, Consumes-nil, Consumes-kept}
+use Rattle.std.specs.Io.KnownBytes.{Consumes, IsAtEnd, Keeps}
+use Rattle.bd_device.specs.Counts.{after_more, greatest}
+use Rattle.bd_device.specs.Devices.{AreReads, no_read, Reader}
+use Rattle.bd_device.specs.declared.reading.Limits.{Limits}
+use Rattle.bd_device.specs.declared.reading.ReadFault.{ReadFault}
+use Rattle.bd_device.specs.declared.reading.ReadFault.TheVariants as reads
+use Rattle.bd_device.proofs.DevicesLemmas.{reads_none, reads_more, reads_append}
+use Rattle.bd_lines.specs.Lines.{IsFirstLine, IsLine, IsPart, longest}
+use Rattle.bd_lines.specs.NextLine.{BeginsTooLong, FailsToReadLine, FindsNoLine, ReadsLine, held_after, GivesBytes, IsCause, IsLazy, LastRead, ReadsTo, StopsReading}
+use Rattle.bd_lines.specs.declared.line_buffer.LineBuffer.{LineBuffer}
+use Rattle.std.specs.Prelude.{◌⊎◌}
+use Rattle.bd_lines.proofs.LinesLemmas.{line_grows, line_front, either, both_empty}
+
+-- one read, which gives nothing at the end and something before it
+pub reads_one : {R : Type 0} (gives : R → Option (List ℕ) → R → Type 0) (ended : Bool) (old new : R) (given : List ℕ) → gives old (Some given) new
+    → (ended ≡ true → given ≡ []) → (ended ≡ false → 0 < length given) → ReadsTo gives ended 1 old given new
+reads_one {R} gives true old new given one none some =
+    (0, old, refl, reads_none old given (none refl), subst (λ (l : List ℕ). gives old (Some l) new) (none refl) one)
+reads_one {R} gives false old new given one none some = reads_more 0 old old new [] given given (no_read old) one (some refl) refl
+
+pub reads_then : {R : Type 0} (gives : R → Option (List ℕ) → R → Type 0) (ended : Bool) (n m : ℕ) (old mid new : R) (front rest : List ℕ)
+    → AreReads gives n old front mid → ReadsTo gives ended m mid rest new → ReadsTo gives ended (n + m) old (front ++ rest) new
+reads_then {R} gives true n m old mid new front rest first (k, last, e, second, none) =
+    (n + k, last, ap (λ i. n + i) e ∙ add-suc n k, reads_append n k old mid last front rest first second, none)
+reads_then {R} gives false n m old mid new front rest first second = reads_append n m old mid new front rest first second
+
+pub adds_calls : (a b c n m : ℕ) → b ≡ after_more a n → c ≡ after_more b m → c ≡ after_more a (n + m)
+adds_calls a b c n m first second = search (rules, first, second)
+
+-- why the rest of a line was not read
+cause_then : (limit middle : ℕ) (head front rest line : List ℕ) (fault : ReadFault) → middle + length front ≡ limit → head ++ front ≡ line
+    → IsCause middle (line ++ rest) rest fault → IsCause limit (head ++ (front ++ rest)) (front ++ rest) fault
+cause_then limit middle head front rest line reads.Device room e (part, fits) =
+    (subst IsPart (ap (λ x. x ++ rest) (sym e) ∙ append_assoc head front rest) part, omega (arith, room, fits, length-append front rest))
+cause_then limit middle head front rest line reads.TooLong room e (inl (long, fits)) =
+    inl (subst BeginsTooLong (ap (λ x. x ++ rest) (sym e) ∙ append_assoc head front rest) long, omega (arith, room, fits, length-append front rest))
+cause_then limit middle head front rest line reads.TooLong room e (inr (part, last, split, is, more, most)) =
+    inr (
+      part,
+      last,
+      (sym (append_assoc head front rest) ∙ ap (λ x. x ++ rest) e) ∙ split,
+      is,
+      omega (arith, room, more, length-append front rest),
+      omega (arith, room, most, length-append front rest),
+    )
+cause_then limit middle head front rest line reads.TooManyTurns room e (part, fits) =
+    (subst IsPart (ap (λ x. x ++ rest) (sym e) ∙ append_assoc head front rest) part, omega (arith, room, fits, length-append front rest))
+cause_then limit middle head front rest line reads.NoMemory room e fits = omega (arith, room, fits, length-append front rest)
+
+-- what the loop keeps: the bytes that were given are the line so far and what is held after it
+pub record SoFar {R : Type 0} (state : R → Reader) (gives : R → Option (List ℕ) → R → Type 0)
+    (limits left : Limits) (ended : Bool) (head line held : List ℕ) (old new : R) : Type 0 where
+  pub given : List ℕ
+  pub reads : GivesBytes state gives limits left ended given old new
+  pub same : head ++ given ≡ line ++ held
+  pub lazy : IsLazy head given
+
+module _ {R : Type 0} {state : R → Reader} {gives : R → Option (List ℕ) → R → Type 0} where
+  pub gives_none : (limits : Limits) (old : R) → (state old).calls ≤ greatest → GivesBytes state gives limits limits false [] old old
+  gives_none limits old fit = record {
+    turns = 0;
+    gave = Consumes-nil (state old).left;
+    reads = no_read old;
+    room = search rules;
+    turned = search rules;
+    calls = search (rules, fit);
+    well = refl;
+    end = λ e. absurd (search (rules, e));
+  }
+
+  pub gives_then : (limits middle left : Limits) (ended : Bool) (old mid new : R) (front rest : List ℕ)
+      → GivesBytes state gives limits middle false front old mid → GivesBytes state gives middle left ended rest mid new
+      → GivesBytes state gives limits left ended (front ++ rest) old new
+  gives_then limits middle left ended old mid new front rest a b = record {
+    turns = a.turns + b.turns;
+    gave = Consumes-trans (state old).left (state mid).left (state new).left front rest a.gave b.gave;
+    reads = reads_then gives ended a.turns b.turns old mid new front rest a.reads b.reads;
+    room = let x = a.room in let y = b.room in omega (arith, x, y, length-append front rest);
+    turned = let x = a.turned in let y = b.turned in omega (arith, x, y);
+    calls = adds_calls (state old).calls (state mid).calls (state new).calls a.turns b.turns a.calls b.calls;
+    well = b.well ∙ a.well;
+    end = b.end;
+  }
+
+  last_then : (limits middle : Limits) (old mid new : R) (front rest : List ℕ) (fault : ReadFault) → GivesBytes state gives limits middle false front old mid
+      → (n : ℕ) → (a : ℕ) → AreReads gives a old front mid → middle.turns + a ≡ limits.turns → (state mid).calls ≡ after_more (state old).calls a
+      → LastRead state gives middle n mid rest new fault → LastRead state gives limits (a + n) old (front ++ rest) new fault
+  last_then limits middle old mid new front rest reads.Device g n a first turned calls (last, second, none, failures) =
+      (last, reads_append a n old mid last front rest first second, none, failures ∙ ap (λ i. after_more i 1) g.well)
+  last_then limits middle old mid new front rest reads.TooLong g n a first turned calls (second, well) =
+      (reads_append a n old mid new front rest first second, well ∙ g.well)
+  last_then limits middle old mid new front rest reads.TooManyTurns g n a first turned calls (second, well, all, called) = (
+    reads_append a n old mid new front rest first second,
+    well ∙ g.well,
+    omega (arith, turned, all),
+    let e : middle.turns + a ≡ a + middle.turns = omega arith in
+        subst (λ i. (state new).calls ≡ after_more (state old).calls i) (sym e ∙ turned) (adds_calls (state old).calls (state mid).calls (state new).calls a middle.turns calls called),
+  )
+  last_then limits middle old mid new front rest reads.NoMemory g n a first turned calls (second, well) =
+      (reads_append a n old mid new front rest first second, well ∙ g.well)
+
+  pub stops_then : (limits middle : Limits) (old mid new : R) (front rest : List ℕ) (fault : ReadFault)
+      → GivesBytes state gives limits middle false front old mid → StopsReading state gives middle rest mid new fault
+      → StopsReading state gives limits (front ++ rest) old new fault
+  stops_then limits middle old mid new front rest fault a b = record {
+    turns = a.turns + b.turns;
+    within = let x = a.turned in let y = b.within in omega (arith, x, y);
+    gave = Consumes-trans (state old).left (state mid).left (state new).left front rest a.gave b.gave;
+    reads = last_then limits middle old mid new front rest fault a b.turns a.turns a.reads a.turned a.calls b.reads;
+    calls = let x = a.turned in let y = b.calls in let z = a.calls in search (rules, x, y, z);
+  }
+
+  -- after a part of a line the reader failed
+  pub fails_then : (limits middle : Limits) (old mid new : R) (head front line : List ℕ) (fault : ReadFault)
+      → GivesBytes state gives limits middle false front old mid → head ++ front ≡ line → IsLine line
+      → FailsToReadLine state gives middle line mid new fault → FailsToReadLine state gives limits head old new fault
+  fails_then limits middle old mid new head front line fault a e is b = record {
+    given = front ++ b.given;
+    stops = stops_then limits middle old mid new front b.given fault a b.stops;
+    cause = cause_then limits.bytes middle.bytes head front b.given line fault a.room e b.cause;
+    lazy = inr (front, b.given, refl, subst IsLine (sym e) is);
+  }
+
+  -- what the reader gave was not taken
+  pub fails_too_long : (limits left : Limits) (old new : R) (head given : List ℕ) → GivesBytes state gives limits left false given old new
+      → BeginsTooLong (head ++ given) → IsLazy head given → FailsToReadLine state gives limits head old new reads.TooLong
+  fails_too_long limits left old new head given a long lazy = record {
+    given = given;
+    stops = record {
+      turns = a.turns;
+      within = let x = a.turned in omega (arith, x);
+      gave = a.gave;
+      reads = (a.reads, a.well);
+      calls = let x = a.turned in let z = a.calls in search (rules, x, z);
+    };
+    cause = inl (long, let x = a.room in omega (arith, x));
+    lazy = lazy;
+  }
+
+  pub fails_memory : (limits left : Limits) (old new : R) (head given : List ℕ) → GivesBytes state gives limits left false given old new
+      → IsLazy head given → FailsToReadLine state gives limits head old new reads.NoMemory
+  fails_memory limits left old new head given a lazy = record {
+    given = given;
+    stops = record {
+      turns = a.turns;
+      within = let x = a.turned in omega (arith, x);
+      gave = a.gave;
+      reads = (a.reads, a.well);
+      calls = let x = a.turned in let z = a.calls in search (rules, x, z);
+    };
+    cause = let x = a.room in omega (arith, x);
+    lazy = lazy;
+  }
+
+  -- no read may be made
+  pub fails_turns : (limits : Limits) (old : R) (head : List ℕ) → limits.turns ≡ 0 → (state old).calls ≤ greatest → IsPart head
+      → FailsToReadLine state gives limits head old old reads.TooManyTurns
+  fails_turns limits old head none fit part =
+      let same : (state old).calls ≡ after_more (state old).calls limits.turns = search (rules, none, fit) in
+      record {
+        given = [];
+        stops = record {
+          turns = 0;
+          within = omega arith;
+          gave = Consumes-nil (state old).left;
+          reads = (no_read old, refl, sym none, same);
+          calls = search (rules, same);
+        };
+        cause = (subst IsPart (sym (append-nil head)) part, omega arith);
+        lazy = inl refl;
+      }
+
+  -- the read failed
+  pub fails_device : (limits : Limits) (old new : R) (head : List ℕ) → 0 < limits.turns → IsPart head → Keeps (state old).left (state new).left
+      → gives old None new → (state new).calls ≡ after_more (state old).calls 1 → (state new).failures ≡ after_more (state old).failures 1
+      → FailsToReadLine state gives limits head old new reads.Device
+  fails_device limits old new head some part kept none calls failures = record {
+    given = [];
+    stops = record {
+      turns = 0;
+      within = omega arith;
+      gave = Consumes-kept (state old).left (state old).left (state new).left [] (Consumes-nil (state old).left) kept;
+      reads = (old, no_read old, none, failures);
+      calls = search (rules, some, calls);
+    };
+    cause = (subst IsPart (sym (append-nil head)) part, omega arith);
+    lazy = inl refl;
+  }
+
+  -- the read gave more than it may
+  pub fails_limit : (limits : Limits) (old new : R) (head last : List ℕ) → 0 < limits.turns → IsPart head → Consumes (state old).left (state new).left last
+      → gives old (Some last) new → (state new).calls ≡ after_more (state old).calls 1 → (state new).failures ≡ (state old).failures
+      → limits.bytes < length last → FailsToReadLine state gives limits head old new reads.TooLong
+  fails_limit limits old new head last some part took one calls well more = record {
+    given = last;
+    stops = record {
+      turns = 1;
+      within = omega (arith, some);
+      gave = took;
+      reads = (reads_more 0 old old new [] last last (no_read old) one (omega (arith, more)) refl, well);
+      calls = search (rules, some, calls);
+    };
+    cause = inr (head, last, refl, part, more, omega arith);
+    lazy = inr ([], last, refl, subst IsLine (sym (append-nil head)) part.0);
+  }
+
+  -- what the read gave found no room
+  pub fails_room : (limits : Limits) (old new : R) (head last : List ℕ) → 0 < limits.turns → IsLine head → Consumes (state old).left (state new).left last
+      → gives old (Some last) new → (state new).calls ≡ after_more (state old).calls 1 → (state new).failures ≡ (state old).failures
+      → 0 < length last → length last ≤ limits.bytes → FailsToReadLine state gives limits head old new reads.NoMemory
+  fails_room limits old new head last some part took one calls well more fits = record {
+    given = last;
+    stops = record {
+      turns = 1;
+      within = omega (arith, some);
+      gave = took;
+      reads = (reads_more 0 old old new [] last last (no_read old) one more refl, well);
+      calls = search (rules, some, calls);
+    };
+    cause = fits;
+    lazy = inr ([], last, refl, subst IsLine (sym (append-nil head)) part);
+  }
+
+  -- what the read gave was taken
+  pub gives_one : (limits left : Limits) (ended : Bool) (old new : R) (given : List ℕ) → Consumes (state old).left (state new).left given
+      → gives old (Some given) new → (state new).calls ≡ after_more (state old).calls 1 → (state new).failures ≡ (state old).failures
+      → left.bytes + length given ≡ limits.bytes → left.turns + 1 ≡ limits.turns → (ended ≡ true → IsAtEnd (state new).left)
+      → (ended ≡ true → given ≡ []) → (ended ≡ false → 0 < length given) → GivesBytes state gives limits left ended given old new
+  gives_one limits left ended old new given took one calls well room turned end none some = record {
+    turns = 1;
+    gave = took;
+    reads = reads_one gives ended old new given one none some;
+    room = room;
+    turned = turned;
+    calls = calls;
+    well = well;
+    end = end;
+  }
+
+  module _ (limits left : Limits) (head line held : List ℕ) (old mid : R) (so_far : SoFar state gives limits left false head line held old mid) (whole : IsLine line) where
+    -- a newline ends the line
+    pub line_ends : (part rest all : List ℕ) → IsLine part → all ≡ line ++ part → held ≡ part ++ 10 ∷ rest → length all ≤ longest
+        → (given : List ℕ) × GivesBytes state gives limits left false given old mid × IsFirstLine (head ++ given) all rest false × IsLazy head given
+    line_ends part rest all is grown split short = (
+      so_far.given,
+      so_far.reads,
+      (
+        (subst IsLine (sym grown) (line_grows line part whole is), short),
+        inl (so_far.same ∙ ap (λ x. line ++ x) split ∙ sym (append_assoc line part (10 ∷ rest)) ∙ ap (λ x. x ++ 10 ∷ rest) (sym grown)),
+      ),
+      so_far.lazy,
+    )
+
+    -- the line is too long
+    pub line_too_long : (part rest : List ℕ) → IsLine part → held ≡ part ++ rest → 16777216 < length line + length part
+        → FailsToReadLine state gives limits head old mid reads.TooLong
+    line_too_long part rest is split long =
+        fails_too_long limits left old mid head so_far.given so_far.reads (
+          line ++ part,
+          rest,
+          so_far.same ∙ ap (λ x. line ++ x) split ∙ sym (append_assoc line part rest),
+          line_grows line part whole is,
+          omega (arith, long, length-append line part),
+        ) so_far.lazy
+
+    pub line_no_memory : FailsToReadLine state gives limits head old mid reads.NoMemory
+    line_no_memory = fails_memory limits left old mid head so_far.given so_far.reads so_far.lazy
+
+    module _ (all : List ℕ) (grown : all ≡ line ++ held) (is : IsLine held) where
+      pub line_grown : IsLine all
+      line_grown = subst IsLine (sym grown) (line_grows line held whole is)
+
+      head_is : IsLine (head ++ so_far.given)
+      head_is = subst IsLine (sym (so_far.same ∙ sym grown)) line_grown
+
+      -- so no newline was held at first
+      pub head_line : IsLine head
+      head_line = line_front head so_far.given head_is
+
+      pub line_fails : (new : R) (fault : ReadFault) → FailsToReadLine state gives left all mid new fault → FailsToReadLine state gives limits head old new fault
+      line_fails new fault fails = fails_then limits left old mid new head so_far.given all fault so_far.reads (so_far.same ∙ sym grown) line_grown fails
+
+      pub line_goes_on : (now : Limits) (ended : Bool) (more : List ℕ) (new : R) → GivesBytes state gives left now ended more mid new
+          → SoFar state gives limits now ended head all more old new
+      line_goes_on now ended more new gave = record {
+        given = so_far.given ++ more;
+        reads = gives_then limits left now ended old mid new so_far.given more so_far.reads gave;
+        same = sym (append_assoc head so_far.given more) ∙ ap (λ x. x ++ more) (so_far.same ∙ sym grown);
+        lazy = inr (so_far.given, more, refl, head_is);
+      }
+
+    pub line_stops : (fault : ReadFault) → (fault ≡ reads.TooLong) ⊎ (fault ≡ reads.NoMemory)
+        → (fault ≡ reads.TooLong → (part : List ℕ) × (rest : List ℕ) × IsLine part × (held ≡ part ++ rest) × (16777216 < length line + length part))
+        → FailsToReadLine state gives limits head old mid fault
+    line_stops fault (inl is) long =
+        let l = long is in subst (λ f. FailsToReadLine state gives limits head old mid f) (sym is) (line_too_long l.0 l.1 l.2 l.3 l.4)
+    line_stops fault (inr is) long = subst (λ f. FailsToReadLine state gives limits head old mid f) (sym is) line_no_memory
+
+  pub starts : (limits : Limits) (ended : Bool) (head line : List ℕ) (old : R) → (state old).calls ≤ greatest → ended ≡ false → line ≡ []
+      → SoFar state gives limits limits ended head line head old old
+  starts limits ended head line old fit is empty = record {
+    given = [];
+    reads = subst (λ b. GivesBytes state gives limits limits b [] old old) (sym is) (gives_none limits old fit);
+    same = append-nil head ∙ ap (λ x. x ++ head) (sym empty);
+    lazy = inl refl;
+  }
+
+  pub runs : (limits left : Limits) (ended : Bool) (head line held : List ℕ) (old new : R) → ended ≡ false
+      → SoFar state gives limits left ended head line held old new → SoFar state gives limits left false head line held old new
+  runs limits left ended head line held old new is so_far = subst (λ b. SoFar state gives limits left b head line held old new) is so_far
+
+  pub reads_line : (before after : LineBuffer) (left : Limits) (old new : R) → after.left ≡ left → after.ended ≡ false
+      → (given : List ℕ) × GivesBytes state gives before.left left false given old new
+      × IsFirstLine (held_after before ++ given) after.line.items (held_after after) false × IsLazy (held_after before) given
+      → ReadsLine state gives before after old new
+  reads_line before after left old new e is (given, gave, first, lazy) = record {
+    given = given;
+    reads = subst (λ l. GivesBytes state gives before.left l after.ended given old new) (sym e)
+        (subst (λ b. GivesBytes state gives before.left left b given old new) (sym is) gave);
+    line = subst (λ b. IsFirstLine (held_after before ++ given) after.line.items (held_after after) b) (sym is) first;
+    lazy = lazy;
+  }
+
+  finds_nothing : (before after : LineBuffer) (old new : R) → after.ended ≡ true → after.line.items ≡ []
+      → SoFar state gives before.left after.left after.ended (held_after before) after.line.items (held_after after) old new
+      → (held_after before ≡ []) × GivesBytes state gives before.left after.left true [] old new
+  finds_nothing before after old new is empty so_far =
+      let none : held_after before ++ so_far.given ≡ [] = so_far.same ∙ ap (λ x. x ++ held_after after) empty ∙ after.drained is in
+      let both = both_empty (held_after before) so_far.given none in
+      let gave = subst (λ b. GivesBytes state gives before.left after.left b so_far.given old new) is so_far.reads in
+      (both.0, subst (λ x. GivesBytes state gives before.left after.left true x old new) both.1 gave)
+
+  finds_by : (before after : LineBuffer) (old new : R) → after.ended ≡ true → after.line.items ≡ []
+      → (before.ended ≡ false → SoFar state gives before.left after.left after.ended (held_after before) after.line.items (held_after after) old new)
+      → (before.ended ≡ true) ⊎ (before.ended ≡ false) → held_after before ≡ []
+  finds_by before after old new is empty so_far (inl was) = before.drained was
+  finds_by before after old new is empty so_far (inr was) = (finds_nothing before after old new is empty (so_far was)).0
+
+  pub finds_no_line : (before after : LineBuffer) (old new : R) → after.ended ≡ true → after.line.items ≡ []
+      → (before.ended ≡ false → SoFar state gives before.left after.left after.ended (held_after before) after.line.items (held_after after) old new)
+      → FindsNoLine state gives before after old new
+  finds_no_line before after old new is empty so_far = record {
+    none = (finds_by before after old new is empty so_far (either before.ended), empty);
+    ended = is;
+    reads = λ was. (finds_nothing before after old new is empty (so_far was)).1;
+  }

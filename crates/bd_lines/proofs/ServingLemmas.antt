@@ -1,0 +1,265 @@
+-- Lemmas on replies to the commands of a device.
+use Rattle.std.proofs.Common.{rules, ◌≡◌, ◌<◌, ◌≤◌, ◌+◌, ℕ, List, [], ◌∷◌, ◌++◌, length, Bool, true, false, cond, Option, refl, sym, ap, ◌∙◌, subst, append_assoc, append-nil, arith, inl, inr, length-append}
+use Rattle.std.proofs.KnownBytes.{Appends-nil, Appends-trans}
+use Rattle.bd_device.specs.Counts.{after_more, greatest}
+use Rattle.bd_device.specs.Devices.{BreaksAfter, BreaksWithin, Reader, TakesText, Writer, between}
+use Rattle.bd_device.specs.declared.reading.Limits.{Limits}
+use Rattle.bd_device.specs.declared.reading.ReadFault.{ReadFault}
+use Rattle.bd_device.specs.declared.reading.ReadFault.TheVariants as faults
+use Rattle.bd_lines.specs.Lines.{AreShort, AreWhole, IsFirstLine, commands_of, is_empty_line, not_empty}
+use Rattle.bd_lines.specs.NextLine.{FailsToReadLine, FindsNoLine, GivesBytes, IsCause, IsLazy, ReadsLine, StopsReading, held_after}
+use Rattle.bd_lines.specs.Serving.{IsReadInTime, Replied, ServesAll, ServesBefore, StopsServing, StopsUnread}
+use Rattle.bd_lines.specs.declared.serving.ServeFault.{ServeFault}
+use Rattle.bd_lines.specs.declared.serving.ServeFault.TheVariants as serves
+use Rattle.std.specs.Prelude.{◌⊎◌}
+use Rattle.bd_lines.specs.declared.line_buffer.LineBuffer.{LineBuffer}
+use Rattle.bd_lines.proofs.LinesLemmas.{commands_line, short_after, short_line, short_none, short_whole_line, commands_whole_line, newlines_more, newlines_of_line}
+use Rattle.bd_lines.proofs.NextLineLemmas.{gives_none, gives_then, stops_then}
+
+-- ---- writers
+
+pub takes_none : (a : Writer) → TakesText (between a a) []
+takes_none a = (Appends-nil a.held, refl)
+
+takes_then : (a b c : Writer) (first second : List ℕ) → TakesText (between a b) first → TakesText (between b c) second → TakesText (between a c) (first ++ second)
+takes_then a b c first second p q = (Appends-trans a.held b.held c.held first second p.0 q.0, q.1 ∙ p.1)
+
+pub breaks_then : (a b c : Writer) (first second : List ℕ) → TakesText (between a b) first → BreaksWithin (between b c) second → BreaksAfter (between a c) first second
+breaks_then a b c first second p ((front, rest, split, some), failures) =
+    (front, rest, split, Appends-trans a.held b.held c.held first front p.0 some, failures ∙ ap (λ i. after_more i 1) p.1)
+
+-- ---- replies
+
+not_empty_none : (line : List ℕ) → is_empty_line line ≡ true → not_empty (line ∷ []) ≡ []
+unfolding not_empty
+not_empty_none line is = ap (λ c. cond c [] (line ∷ [])) is
+
+not_empty_one : (line : List ℕ) → is_empty_line line ≡ false → not_empty (line ∷ []) ≡ line ∷ []
+unfolding not_empty
+not_empty_one line is = ap (λ c. cond c [] (line ∷ [])) is
+
+pub replied_none : {S : Type 0} (replies : S → List ℕ → List ℕ → S → Type 0) (s : S) (line : List ℕ) → is_empty_line line ≡ true
+    → Replied replies s (not_empty (line ∷ [])) [] s
+replied_none {S} replies s line is = subst (λ l. Replied replies s l [] s) (sym (not_empty_none line is)) (refl, refl)
+
+pub replied_one : {S : Type 0} (replies : S → List ℕ → List ℕ → S → Type 0) (s t : S) (line reply : List ℕ) → is_empty_line line ≡ false
+    → replies s line reply t → Replied replies s (not_empty (line ∷ [])) (reply ++ 10 ∷ []) t
+replied_one {S} replies s t line reply is one =
+    subst (λ l. Replied replies s l (reply ++ 10 ∷ []) t) (sym (not_empty_one line is)) (reply, t, [], one, (refl, refl), refl)
+
+pub nothing_replied : {S : Type 0} (replies : S → List ℕ → List ℕ → S → Type 0) (s : S) → Replied replies s (commands_of []) [] s
+unfolding not_empty
+nothing_replied {S} replies s = (refl, refl)
+
+-- replies to commands and to those after them
+pub replied_then : {S : Type 0} (replies : S → List ℕ → List ℕ → S → Type 0) (s t u : S) (done more : List (List ℕ)) (first second : List ℕ)
+    → Replied replies s done first t → Replied replies t more second u → Replied replies s (done ++ more) (first ++ second) u
+replied_then {S} replies s t u [] more first second (e, none) rest =
+    let P : S → List ℕ → Type 0 = λ a x. Replied replies a more (x ++ second) u in
+    subst (λ x. P s x) (sym none) (subst (λ a. P a []) e rest)
+replied_then {S} replies s t u (command ∷ done) more first second (reply, mid, texts, one, others, is) rest = (
+  reply,
+  mid,
+  texts ++ second,
+  one,
+  replied_then replies mid t u done more texts second others rest,
+  ap (λ x. x ++ second) is ∙ append_assoc reply (10 ∷ texts) second,
+)
+
+-- ---- the loop
+
+-- what the loop keeps: whole lines that have their replies, and what is held after them
+pub record Serving {R S : Type 0} (state : R → Reader) (gives : R → Option (List ℕ) → R → Type 0)
+    (replies : S → List ℕ → List ℕ → S → Type 0) (limits left : Limits) (ended : Bool) (held : List ℕ)
+    (old new : R) (before after : Writer) (s t : S) : Type 0 where
+  pub whole : List ℕ
+  pub text : List ℕ
+  pub ends : ended ≡ false → AreWhole whole
+  pub short : AreShort whole
+  pub reads : GivesBytes state gives limits left ended (whole ++ held) old new
+  pub in_time : IsReadInTime whole (whole ++ held)
+  pub replied : Replied replies s (commands_of whole) text t
+  pub written : TakesText (between before after) text
+
+-- one more line is taken
+pub shrinks : (left less : ℕ) (held given line rest : List ℕ) (ended : Bool) → less + length given ≡ left → IsFirstLine (held ++ given) line rest ended
+    → less + length rest < left + length held
+shrinks left less held given line rest ended room (part, inl split) =
+    let size = ap length split in omega (arith, room, size, length-append held given, length-append line (10 ∷ rest))
+shrinks left less held given line rest ended room (part, inr (is, some, none, e)) =
+    let size = ap length is in let no = ap length none in omega (arith, room, size, some, no, length-append held given)
+
+in_time_now : (whole held given : List ℕ) → IsReadInTime whole (whole ++ held) → IsLazy held given → IsReadInTime whole (whole ++ (held ++ given))
+in_time_now whole held given (front, last, split, few) (inl none) =
+    (front, last, ap (λ x. whole ++ (held ++ x)) none ∙ ap (λ x. whole ++ x) (append-nil held) ∙ split, few)
+in_time_now whole held given before (inr (front, last, split, is)) = (
+  whole ++ (held ++ front),
+  last,
+  ap (λ x. whole ++ (held ++ x)) split ∙ ap (λ x. whole ++ x) (sym (append_assoc held front last)) ∙ sym (append_assoc whole (held ++ front) last),
+  newlines_of_line whole (held ++ front) is,
+)
+
+in_time_after : (whole more given : List ℕ) → IsReadInTime whole given → IsReadInTime (whole ++ more) given
+in_time_after whole more given (front, last, split, few) = (front, last, split, newlines_more front whole more few)
+
+cause_after : (limit left : ℕ) (before bytes rest : List ℕ) (fault : ReadFault) → left + length before ≡ limit → IsCause left bytes rest fault
+    → IsCause limit bytes (before ++ rest) fault
+cause_after limit left before bytes rest faults.Device room (part, fits) = (part, omega (arith, room, fits, length-append before rest))
+cause_after limit left before bytes rest faults.TooLong room (inl (long, fits)) = inl (long, omega (arith, room, fits, length-append before rest))
+cause_after limit left before bytes rest faults.TooLong room (inr (front, last, split, part, more, most)) =
+    inr (front, last, split, part, omega (arith, room, more, length-append before rest), omega (arith, room, most, length-append before rest))
+cause_after limit left before bytes rest faults.TooManyTurns room (part, fits) = (part, omega (arith, room, fits, length-append before rest))
+cause_after limit left before bytes rest faults.NoMemory room fits = omega (arith, room, fits, length-append before rest)
+
+module _ {R S : Type 0} (state : R → Reader) (gives : R → Option (List ℕ) → R → Type 0) (replies : S → List ℕ → List ℕ → S → Type 0) where
+  pub begins : (limits : Limits) (ended : Bool) (held : List ℕ) (old : R) (before : Writer) (s : S) → (state old).calls ≤ greatest → ended ≡ false → held ≡ []
+      → Serving state gives replies limits limits ended held old old before before s s
+  begins limits ended held old before s fit is none = record {
+    whole = [];
+    text = [];
+    ends = λ _. inl refl;
+    short = short_none [] refl;
+    reads = subst (λ b. GivesBytes state gives limits limits b held old old) (sym is)
+        (subst (λ x. GivesBytes state gives limits limits false x old old) (sym none) (gives_none limits old fit));
+    in_time = ([], held, refl, omega arith);
+    replied = nothing_replied replies s;
+    written = takes_none before;
+  }
+
+  module _ (limits : Limits) (lines : LineBuffer) (old mid : R) (before now : Writer) (s t : S)
+      (so_far : Serving state gives replies limits lines.left lines.ended (held_after lines) old mid before now s t) where
+    -- the end was found
+    pub serves_all : (next : LineBuffer) (new : R) → lines.ended ≡ false → FindsNoLine state gives lines next mid new
+        → ServesAll state gives replies limits old new (between before now) s t
+    serves_all next new going none =
+        let gave = subst (λ b. GivesBytes state gives limits lines.left b (so_far.whole ++ held_after lines) old mid) going so_far.reads in
+        record {
+          left = next.left;
+          given = so_far.whole;
+          text = so_far.text;
+          short = so_far.short;
+          reads = subst (λ x. GivesBytes state gives limits next.left true x old new)
+              (append-nil (so_far.whole ++ held_after lines) ∙ ap (λ x. so_far.whole ++ x) none.none.0 ∙ append-nil so_far.whole)
+              (gives_then limits lines.left next.left true old mid new (so_far.whole ++ held_after lines) [] gave (none.reads going));
+          replied = so_far.replied;
+          written = so_far.written;
+        }
+
+    -- it was found before
+    pub served_all : (next : LineBuffer) (new : R) → lines.ended ≡ true → new ≡ mid → FindsNoLine state gives lines next mid new
+        → ServesAll state gives replies limits old new (between before now) s t
+    served_all next new over same none = record {
+      left = lines.left;
+      given = so_far.whole;
+      text = so_far.text;
+      short = so_far.short;
+      reads = subst (λ r. GivesBytes state gives limits lines.left true so_far.whole old r) (sym same)
+          (subst (λ x. GivesBytes state gives limits lines.left true x old mid) (ap (λ x. so_far.whole ++ x) none.none.0 ∙ append-nil so_far.whole)
+          (subst (λ b. GivesBytes state gives limits lines.left b (so_far.whole ++ held_after lines) old mid) over so_far.reads));
+      replied = so_far.replied;
+      written = so_far.written;
+    }
+
+    pub serves_end : (next : LineBuffer) (new : R) → (lines.ended ≡ true) ⊎ (lines.ended ≡ false) → (lines.ended ≡ true → new ≡ mid)
+        → FindsNoLine state gives lines next mid new → ServesAll state gives replies limits old new (between before now) s t
+    serves_end next new (inl over) same none = served_all next new over (same over) none
+    serves_end next new (inr going) same none = serves_all next new going none
+
+    -- a fault of reading came
+    pub stops_unread : (new : R) (fault : ReadFault) → lines.ended ≡ false → FailsToReadLine state gives lines.left (held_after lines) mid new fault
+        → StopsUnread state gives replies limits old new (between before now) s t fault
+    stops_unread new fault going fails =
+        let gave = subst (λ b. GivesBytes state gives limits lines.left b (so_far.whole ++ held_after lines) old mid) going so_far.reads in
+        let apart : (so_far.whole ++ held_after lines) ++ fails.given ≡ so_far.whole ++ (held_after lines ++ fails.given) =
+        append_assoc so_far.whole (held_after lines) fails.given in
+        record {
+          whole = so_far.whole;
+          rest = held_after lines ++ fails.given;
+          text = so_far.text;
+          ends = so_far.ends going;
+          short = so_far.short;
+          stops = subst (λ x. StopsReading state gives limits x old new fault) apart
+              (stops_then limits lines.left old mid new (so_far.whole ++ held_after lines) fails.given fault gave fails.stops);
+          cause = subst (λ x. IsCause limits.bytes (held_after lines ++ fails.given) x fault) apart
+              (cause_after limits.bytes lines.left.bytes (so_far.whole ++ held_after lines) (held_after lines ++ fails.given) fails.given fault gave.room fails.cause);
+          replied = so_far.replied;
+          written = so_far.written;
+        }
+
+    module _ (next : LineBuffer) (new : R) (going : lines.ended ≡ false) (reads : ReadsLine state gives lines next mid new) where
+      gave_all : GivesBytes state gives limits next.left next.ended (so_far.whole ++ (held_after lines ++ reads.given)) old new
+      gave_all =
+          let gave = subst (λ b. GivesBytes state gives limits lines.left b (so_far.whole ++ held_after lines) old mid) going so_far.reads in
+          subst (λ x. GivesBytes state gives limits next.left next.ended x old new) (append_assoc so_far.whole (held_after lines) reads.given)
+          (gives_then limits lines.left next.left next.ended old mid new (so_far.whole ++ held_after lines) reads.given gave reads.reads)
+
+      -- the line is a command
+      pub serves_before : is_empty_line next.line.items ≡ false → ServesBefore state gives replies limits old new s next.line.items so_far.text t
+      serves_before is = record {
+        whole = so_far.whole;
+        rest = held_after lines ++ reads.given;
+        after = held_after next;
+        left = next.left;
+        ended = next.ended;
+        ends = so_far.ends going;
+        short = so_far.short;
+        reads = gave_all;
+        in_time = in_time_now so_far.whole (held_after lines) reads.given so_far.in_time reads.lazy;
+        line = reads.line;
+        is_command = is;
+        replied = so_far.replied;
+      }
+
+      grows_by : (new_whole more : List ℕ) → new_whole ≡ so_far.whole ++ more → held_after lines ++ reads.given ≡ more ++ held_after next
+          → (next.ended ≡ false → AreWhole new_whole) → AreShort more → commands_of new_whole ≡ commands_of so_far.whole ++ not_empty (next.line.items ∷ [])
+          → (later : Writer) (u : S) (text : List ℕ) → Replied replies t (not_empty (next.line.items ∷ [])) text u → TakesText (between now later) text
+          → Serving state gives replies limits next.left next.ended (held_after next) old new before later s u
+      grows_by new_whole more grown split ends short commands later u text replied written =
+          let all : so_far.whole ++ (held_after lines ++ reads.given) ≡ new_whole ++ held_after next =
+          ap (λ x. so_far.whole ++ x) split ∙ sym (append_assoc so_far.whole more (held_after next)) ∙ ap (λ x. x ++ held_after next) (sym grown) in
+          let first = in_time_now so_far.whole (held_after lines) reads.given so_far.in_time reads.lazy in
+          record {
+            whole = new_whole;
+            text = so_far.text ++ text;
+            ends = ends;
+            short = subst AreShort (sym grown) (short_after so_far.whole more (so_far.ends going) so_far.short short);
+            reads = subst (λ x. GivesBytes state gives limits next.left next.ended x old new) all gave_all;
+            in_time = subst (λ x. IsReadInTime new_whole x) all
+                (subst (λ x. IsReadInTime x (so_far.whole ++ (held_after lines ++ reads.given))) (sym grown)
+                (in_time_after so_far.whole more (so_far.whole ++ (held_after lines ++ reads.given)) first));
+            replied = subst (λ x. Replied replies s x (so_far.text ++ text) u) (sym commands)
+                (replied_then replies s t u (commands_of so_far.whole) (not_empty (next.line.items ∷ [])) so_far.text text so_far.replied replied);
+            written = takes_then before now later so_far.text text so_far.written written;
+          }
+
+      goes_by : IsFirstLine (held_after lines ++ reads.given) next.line.items (held_after next) next.ended
+          → (later : Writer) (u : S) (text : List ℕ) → Replied replies t (not_empty (next.line.items ∷ [])) text u → TakesText (between now later) text
+          → Serving state gives replies limits next.left next.ended (held_after next) old new before later s u
+      goes_by (part, inl split) later u text replied written =
+          grows_by (so_far.whole ++ (next.line.items ++ 10 ∷ [])) (next.line.items ++ 10 ∷ []) refl
+          (split ∙ sym (append_assoc next.line.items (10 ∷ []) (held_after next)))
+          (λ _. inr (so_far.whole ++ next.line.items, sym (append_assoc so_far.whole next.line.items (10 ∷ []))))
+          (short_whole_line next.line.items part) (commands_whole_line so_far.whole next.line.items (so_far.ends going) part.0) later u text replied written
+      goes_by (part, inr (is, some, none, end)) later u text replied written =
+          grows_by (so_far.whole ++ next.line.items) next.line.items refl
+          (is ∙ sym (append-nil next.line.items) ∙ ap (λ x. next.line.items ++ x) (sym none))
+          (λ not. absurd (search (rules, not, end)))
+          (short_line next.line.items part) (commands_line so_far.whole next.line.items (so_far.ends going) part.0) later u text replied written
+
+      pub goes_on : (later : Writer) (u : S) (text : List ℕ) → Replied replies t (not_empty (next.line.items ∷ [])) text u → TakesText (between now later) text
+          → Serving state gives replies limits next.left next.ended (held_after next) old new before later s u
+      goes_on later u text replied written = goes_by reads.line later u text replied written
+
+      pub stops_answer : (later : Writer) (u : S) (fault : ServeFault) → (fault ≡ serves.NoMemory) ⊎ (fault ≡ serves.Unwritten)
+          → (fault ≡ serves.NoMemory → (is_empty_line next.line.items ≡ false) × (later ≡ now))
+          → (fault ≡ serves.Unwritten → (is_empty_line next.line.items ≡ false)
+          × ((reply : List ℕ) × replies t next.line.items reply u × BreaksWithin (between now later) (reply ++ 10 ∷ [])))
+          → StopsServing state gives replies limits old new (between before later) s u fault
+      stops_answer later u fault (inl is) starved broke =
+          let e = starved is in
+          subst (λ f. StopsServing state gives replies limits old new (between before later) s u f) (sym is)
+          (next.line.items, so_far.text, t, serves_before e.0, subst (λ w. TakesText (between before w) so_far.text) (sym e.1) so_far.written)
+      stops_answer later u fault (inr is) starved broke =
+          let e = broke is in
+          subst (λ f. StopsServing state gives replies limits old new (between before later) s u f) (sym is)
+          (next.line.items, so_far.text, e.1.0, t, serves_before e.0, e.1.1, breaks_then before now later so_far.text (e.1.0 ++ 10 ∷ []) so_far.written e.1.2)

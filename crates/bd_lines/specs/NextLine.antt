@@ -1,0 +1,101 @@
+-- What reading the next line of a device does to the device and to the buffer of the line.
+use Rattle.std.specs.Prelude.{◌≡◌, ◌<◌, ◌≤◌, ◌+◌, ◌⊎◌, ℕ, suc, List, [], ◌++◌, length, drop, Bool, true, false, Option, Some, None}
+use Rattle.std.specs.Io.KnownBytes.{Consumes, IsAtEnd}
+use Rattle.bd_device.specs.Counts.{after_more}
+use Rattle.bd_device.specs.Devices.{AreReads, Reader}
+use Rattle.bd_device.specs.declared.reading.Limits.{Limits}
+use Rattle.bd_device.specs.declared.reading.ReadFault.{ReadFault}
+use Rattle.bd_device.specs.declared.reading.ReadFault.TheVariants as reads
+use Rattle.bd_lines.specs.Lines.{IsFirstLine, IsLine, IsPart, longest}
+use Rattle.bd_lines.specs.declared.line_buffer.LineBuffer.{LineBuffer}
+
+-- the bytes that the device gave after the line
+abbrev pub held_after : LineBuffer → List ℕ
+held_after lines = drop lines.start lines.block.items
+
+-- so many reads gave these bytes; where the end was found, the last of them gave none, and each other a byte at least
+abbrev pub ReadsTo : {R : Type 0} → (R → Option (List ℕ) → R → Type 0) → Bool → ℕ → R → List ℕ → R
+    → Type 0
+ReadsTo gives false turns old given new = AreReads gives turns old given new
+ReadsTo {R} gives true turns old given new =
+    (n : ℕ) × (last : R) × (turns ≡ suc n) × AreReads gives n old given last × gives last (Some []) new
+
+-- What is told of a reader, and which of its reads may give what, is handed to each of these.
+
+-- the reader gave these bytes, and what it may still be asked for went down from `limits` to `left`
+pub record GivesBytes {R : Type 0} (state : R → Reader) (gives : R → Option (List ℕ) → R → Type 0)
+    (limits left : Limits) (ended : Bool) (given : List ℕ) (old new : R) : Type 0 where
+  pub turns : ℕ
+  pub gave : Consumes (state old).left (state new).left given
+  pub reads : ReadsTo gives ended turns old given new
+  pub room : left.bytes + length given ≡ limits.bytes
+  pub turned : left.turns + turns ≡ limits.turns
+  pub calls : (state new).calls ≡ after_more (state old).calls turns
+  pub well : (state new).failures ≡ (state old).failures
+  pub end : ended ≡ true → IsAtEnd (state new).left
+
+-- bytes of a line were there, and no read was made once its newline was
+abbrev pub IsLazy : List ℕ → List ℕ → Type 0
+IsLazy head given =
+    (given ≡ []) ⊎ ((front : List ℕ) × (last : List ℕ) × (given ≡ front ++ last) × IsLine (head ++ front))
+
+-- the next line was read, and no block after the one that ends it
+pub record ReadsLine {R : Type 0} (state : R → Reader) (gives : R → Option (List ℕ) → R → Type 0)
+    (before after : LineBuffer) (old new : R) : Type 0 where
+  pub given : List ℕ
+  pub reads : GivesBytes state gives before.left after.left after.ended given old new
+  pub line : IsFirstLine (held_after before ++ given) after.line.items (held_after after) after.ended
+  pub lazy : IsLazy (held_after before) given
+
+-- there is no next line
+pub record FindsNoLine {R : Type 0} (state : R → Reader) (gives : R → Option (List ℕ) → R → Type 0)
+    (before after : LineBuffer) (old new : R) : Type 0 where
+  pub none : (held_after before ≡ []) × (after.line.items ≡ [])
+  pub ended : after.ended ≡ true
+  pub reads : before.ended ≡ false → GivesBytes state gives before.left after.left true [] old new
+
+-- the last of so many reads that gave these bytes, where a fault of reading came
+abbrev pub LastRead : {R : Type 0} → (R → Reader) → (R → Option (List ℕ) → R → Type 0) → Limits → ℕ → R
+    → List ℕ → R → ReadFault → Type 0
+LastRead {R} state gives limits turns old given new reads.Device =
+    (last : R) × AreReads gives turns old given last × gives last None new
+    × ((state new).failures ≡ after_more (state old).failures 1)
+LastRead state gives limits turns old given new reads.TooLong =
+    AreReads gives turns old given new × ((state new).failures ≡ (state old).failures)
+LastRead state gives limits turns old given new reads.TooManyTurns =
+    AreReads gives turns old given new × ((state new).failures ≡ (state old).failures)
+    × (turns ≡ limits.turns) × ((state new).calls ≡ after_more (state old).calls limits.turns)
+LastRead state gives limits turns old given new reads.NoMemory =
+    AreReads gives turns old given new × ((state new).failures ≡ (state old).failures)
+
+-- the reader gave these bytes up to a fault of reading
+pub record StopsReading {R : Type 0} (state : R → Reader) (gives : R → Option (List ℕ) → R → Type 0)
+    (limits : Limits) (given : List ℕ) (old new : R) (fault : ReadFault) : Type 0 where
+  pub turns : ℕ
+  pub within : turns ≤ limits.turns
+  pub gave : Consumes (state old).left (state new).left given
+  pub reads : LastRead state gives limits turns old given new fault
+  pub calls : (state new).calls ≤ after_more (state old).calls limits.turns
+
+-- these bytes begin with a line that is too long
+abbrev pub BeginsTooLong : List ℕ → Type 0
+BeginsTooLong bytes =
+    (line : List ℕ) × (rest : List ℕ) × (bytes ≡ line ++ rest) × IsLine line × (longest < length line)
+
+-- why the line that these bytes begin was not read, where a reader gave `given` and may give as many bytes as the limit
+abbrev pub IsCause : ℕ → List ℕ → List ℕ → ReadFault → Type 0
+IsCause limit bytes given reads.Device = IsPart bytes × (length given ≤ limit)
+IsCause limit bytes given reads.TooLong =
+    (BeginsTooLong bytes × (length given ≤ limit))
+    ⊎ ((front : List ℕ) × (last : List ℕ) × (bytes ≡ front ++ last) × IsPart front × (limit < length given)
+    × (length given ≤ limit + length last))
+IsCause limit bytes given reads.TooManyTurns = IsPart bytes × (length given ≤ limit)
+IsCause limit bytes given reads.NoMemory = length given ≤ limit
+
+-- the line that begins with these bytes was not read
+pub record FailsToReadLine {R : Type 0} (state : R → Reader) (gives : R → Option (List ℕ) → R → Type 0)
+    (limits : Limits) (head : List ℕ) (old new : R) (fault : ReadFault) : Type 0 where
+  pub given : List ℕ
+  pub stops : StopsReading state gives limits given old new fault
+  pub cause : IsCause limits.bytes (head ++ given) given fault
+  pub lazy : IsLazy head given

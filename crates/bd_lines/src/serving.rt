@@ -1,0 +1,149 @@
+//! A reply to each command of a device, written before a later read.
+ghost use Rattle.std.specs.Prelude.{◌≡◌, ◌++◌, ◌∷◌, [], None, false, IfErr, OnErr, OnOk, IsErrOf, List, ℕ, ◌⊎◌};
+ghost use Rattle.bd_device.specs.Devices.{BreaksWithin, TakesText, over};
+ghost use Rattle.bd_lines.specs.Lines.{is_empty_line, is_space, not_empty};
+ghost use Rattle.bd_lines.specs.Serving.{Replied, ServesAll, StopsServing};
+ghost use Rattle.bd_lines.specs.declared.serving.ServeFault.TheVariants.{NoMemory as starved, Unread as unread, Unwritten as unwritten};
+
+use crate::line_buffer::LineBuffer;
+use bd_device::{DeviceFault, Input, Limits, Output, ReadFault, write_all};
+use std::alloc::{AllocError, Global};
+use thiserror::Error;
+
+/// What replies to commands.
+pub trait Replier {
+    /// In the first state this command may have this reply, which leaves the second state.
+    ghost replies: { Self → List ℕ → List ℕ → Self → Type 0 };
+
+    /// Appends the reply to a command, a line without its newline.
+    fn reply(&mut self, command: &[u8], text: &mut Vec<u8>) -> Result<(), AllocError>
+        ensures replies { OnOk result ((reply : List ℕ) × (text.new.items ≡ text.old.items ++ reply)
+            × replies self.old command.now reply self.new) };
+}
+
+/// Why not all commands of a device had a reply.
+#[derive(Debug, Clone, Copy, Drop, PartialEq, Eq, Error)]
+pub enum ServeFault {
+    /// The next line was not read.
+    #[error("{0}")]
+    Unread(ReadFault),
+    /// Memory for a reply ran out.
+    #[error("no memory")]
+    NoMemory,
+    /// A reply was not written.
+    #[error("cannot write")]
+    Unwritten,
+}
+
+impl From<ReadFault> for ServeFault {
+    ghost from_gives = { λ f s. s ≡ unread f };
+
+    fn from(fault: ReadFault) -> ServeFault {
+        ServeFault::Unread(fault)
+    }
+}
+
+impl From<AllocError> for ServeFault {
+    ghost from_gives = { λ _ s. s ≡ starved };
+
+    fn from(_error: AllocError) -> ServeFault {
+        ServeFault::NoMemory
+    }
+}
+
+impl From<DeviceFault> for ServeFault {
+    ghost from_gives = { λ _ s. s ≡ unwritten };
+
+    fn from(_fault: DeviceFault) -> ServeFault {
+        ServeFault::Unwritten
+    }
+}
+
+/// Whether a byte is a space, a tab or a carriage return.
+fn is_space(byte: u8) -> bool
+    ensures { result ≡ is_space byte }
+{
+    byte == b' ' || byte == b'\t' || byte == b'\r'
+}
+
+/// Whether a line is white space alone, or empty.
+fn is_empty_line(line: &[u8]) -> bool
+    ensures { result ≡ is_empty_line line.now }
+{
+    line.iter().all(|byte| is_space(*byte))
+}
+
+/// Writes the reply to a line, where it is a command. `text` is room that lines share.
+fn answer<O: Output, S: Replier>(
+    line: &[u8],
+    session: &mut S,
+    text: &mut Vec<u8>,
+    out: &mut O,
+) -> Result<(), ServeFault>
+    ensures replied { OnOk result ((written : List ℕ)
+        × Replied S.replies session.old (not_empty (line.now ∷ [])) written session.new
+        × TakesText (over O.state out.old out.new) written) }
+    ensures starved { IsErrOf result ServeFault.NoMemory → (is_empty_line line.now ≡ false) × (out.new ≡ out.old) }
+    ensures broke { IsErrOf result ServeFault.Unwritten → (is_empty_line line.now ≡ false)
+        × ((reply : List ℕ) × S.replies session.old line.now reply session.new
+        × BreaksWithin (over O.state out.old out.new) (reply ++ 10 ∷ [])) }
+    ensures read { IfErr result (λ f. (f ≡ ServeFault.NoMemory) ⊎ (f ≡ ServeFault.Unwritten)) }
+{
+    if is_empty_line(line) {
+        return Ok(());
+    }
+    text.clear();
+    session.reply(line, text)?;
+    if text.push(b'\n').is_err() {
+        return Err(ServeFault::NoMemory);
+    }
+    write_all(out, text)?;
+    Ok(())
+}
+
+/// Writes a reply to each command of a device: to each line that is not white space alone, in their order.
+///
+/// Each reply has a newline after it, and is written before the device is read for a later line.
+///
+/// # Errors
+/// The replies to the commands before it stand then.
+/// - `ServeFault::Unread`: a line was not read, as `LineBuffer::read_next` tells;
+/// - `ServeFault::NoMemory`: memory for a reply ran out, of which nothing is written;
+/// - `ServeFault::Unwritten`: a write failed, and a front of the reply was written. No line is read after it.
+pub fn serve<R: Input, O: Output, S: Replier>(
+    alloc: Global,
+    limits: Limits,
+    reader: &mut R,
+    session: &mut S,
+    out: &mut O,
+) -> Result<(), ServeFault>
+    ensures serves { OnOk result (ServesAll R.state R.read_gives S.replies limits reader.old reader.new
+        (over O.state out.old out.new) session.old session.new) }
+    ensures stops { IfErr result (StopsServing R.state R.read_gives S.replies limits reader.old reader.new
+        (over O.state out.old out.new) session.old session.new) }
+{
+    let mut lines = LineBuffer::new(alloc, limits);
+    let mut text = Vec::new(alloc);
+    serve_lines(&mut lines, &mut text, reader, session, out)
+}
+
+/// `serve`, over buffers that the caller holds, so that no end of the loop lets them go.
+fn serve_lines<R: Input, O: Output, S: Replier>(
+    lines: &mut LineBuffer,
+    text: &mut Vec<u8>,
+    reader: &mut R,
+    session: &mut S,
+    out: &mut O,
+) -> Result<(), ServeFault>
+    requires empty { (lines.old.line.items ≡ []) × (lines.old.block.items ≡ []) }
+    requires starts { (lines.old.ended ≡ false) × (lines.old.failed ≡ None) }
+    ensures serves { OnOk result (ServesAll R.state R.read_gives S.replies lines.old.left reader.old reader.new
+        (over O.state out.old out.new) session.old session.new) }
+    ensures stops { IfErr result (StopsServing R.state R.read_gives S.replies lines.old.left reader.old reader.new
+        (over O.state out.old out.new) session.old session.new) }
+{
+    while lines.read_next(reader)? {
+        answer(lines.line(), session, text, out)?;
+    }
+    Ok(())
+}
