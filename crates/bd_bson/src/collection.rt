@@ -51,7 +51,8 @@ impl Dump {
         ensures value { (tree : Tree) → StandsAt (bytes_of self.now) at tree → stands result.sound ≡ tree }
         ensures kept { result.bytes.now ≡ bytes_of self.now }
     {
-        self.value_reads.set(self.value_reads.get().saturating_add(1));
+        self.value_reads
+            .set(self.value_reads.get().saturating_add(1));
         at.value_in(&self.bytes)
     }
 

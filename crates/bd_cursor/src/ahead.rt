@@ -8,10 +8,10 @@ ghost use Rattle.bd_query.specs.FilterView.{filter_tree};
 ghost use Rattle.bd_sort.specs.Asked.{asked_of, hits_of};
 ghost use Rattle.bd_cursor.specs.SessionView.{ahead_in, ahead_left};
 
-use bd_sort::is_match;
 use bd_bson::Dump;
 use bd_query::Filter;
 use bd_request::Request;
+use bd_sort::is_match;
 use bd_value::NoMemory;
 use std::alloc::Global;
 

@@ -138,7 +138,13 @@ impl Session {
         ensures refused { IfErr result (IsRefusedCall (reply (state_of self.now) (explain_request (dump_of self.now) request.now choice.now))) }
     {
         self.has_choice(choice)?;
-        let explanation = explain(self.alloc, &self.documents.dump, &self.indexes, request, choice)?;
+        let explanation = explain(
+            self.alloc,
+            &self.documents.dump,
+            &self.indexes,
+            request,
+            choice,
+        )?;
         Ok(explanation)
     }
 
@@ -158,7 +164,13 @@ impl Session {
     {
         self.may_open(&choice)?;
         let documents = &self.documents;
-        let left = Left::of_answer(self.alloc, &documents.dump, &self.indexes, &request, &choice)?;
+        let left = Left::of_answer(
+            self.alloc,
+            &documents.dump,
+            &self.indexes,
+            &request,
+            &choice,
+        )?;
         self.open(request, None, left)
     }
 
@@ -191,7 +203,14 @@ impl Session {
         }
         self.may_open(&choice)?;
         let documents = &self.documents;
-        let left = Left::of_rest(self.alloc, &documents.dump, &self.indexes, &request, &choice, token)?;
+        let left = Left::of_rest(
+            self.alloc,
+            &documents.dump,
+            &self.indexes,
+            &request,
+            &choice,
+            token,
+        )?;
         self.open(request, Some(token), left)
     }
 

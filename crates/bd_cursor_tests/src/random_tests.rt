@@ -308,7 +308,10 @@ fn random_requests_are_answered_alike(rt: HostRuntime) -> Result<(), Fail> {
     for request in REQUESTS.lines() {
         let wanted = answer(alloc, &mut whole, request, Choice::Scan)?;
         assert!(rt; is_alike(alloc, &mut whole, request, &wanted)?, "{request}");
-        assert!(rt; is_alike(alloc, &mut sparse, request, &wanted)?, "{request}, sparse");
+        assert!(rt;
+            is_alike(alloc, &mut sparse, request, &wanted)?,
+            "{request}, sparse"
+        );
     }
     Ok(())
 }

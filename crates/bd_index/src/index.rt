@@ -7,8 +7,8 @@ ghost use Rattle.bd_path.specs.PathNames.{names_of};
 ghost use Rattle.bd_index.specs.Entries.{entries_of, is_multikey};
 ghost use Rattle.bd_index.specs.Indexed.{IsIndexOf};
 
-use crate::entry::Entry;
 use crate::entries::entries_of;
+use crate::entry::Entry;
 use crate::multikey::has_several;
 use bd_bson::Dump;
 use bd_path::Path;

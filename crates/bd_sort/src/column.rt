@@ -9,8 +9,8 @@ ghost use Rattle.bd_path.specs.PathNames.{names_of};
 ghost use Rattle.bd_bson.specs.Documents.{document_at};
 ghost use Rattle.bd_front.specs.Front.{front_of, kept_key};
 
-use bd_front::{Front, compare_fronts};
 use bd_bson::Dump;
+use bd_front::{Front, compare_fronts};
 use bd_path::{Dir, Key, Path, compare_in, sort_key_node};
 use bd_raw::RawValue;
 use bd_value::NoMemory;

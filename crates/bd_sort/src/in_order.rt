@@ -74,6 +74,10 @@ fn is_later(dump: &Dump, sort: &[(Path, Dir)], last: Option<u32>, place: u32) ->
     let Some(last) = last else {
         return true;
     };
-    let order = compare_sort(dump.document(last).value(), dump.document(place).value(), sort);
+    let order = compare_sort(
+        dump.document(last).value(),
+        dump.document(place).value(),
+        sort,
+    );
     order.then(last.cmp(&place)).is_lt()
 }
