@@ -6,4 +6,5 @@ pub mod FindLineLemmas
 pub mod FindOptionsLemmas
 pub mod CheckLineLemmas
 pub mod PackLineLemmas
+pub mod ServeLineLemmas
 pub mod FindWalkLemmas

@@ -1,8 +1,8 @@
 -- The lines that are taken have an order.
 use Rattle.std.proofs.Common.{ap₂, subst, ◌⊎◌, inl, inr, ◌≡◌, ◌∙◌, ◌&&◌, ◌||◌, ℕ, Bool, cond, true, false, not, refl, sym, ap, List, [], ◌∷◌, codes, Option, Some, None, true≢false}
-use Rattle.std.specs.Prelude.{Result, Ok, Err, IfOk, IfErr, ⊤, Box, find, slice_get, unwrap_or, IfSome, is_some, option_and_then, option_map, ◌==◌}
+use Rattle.std.specs.Prelude.{Result, Ok, Err, IfOk, IfErr, ⊤, Box, find, slice_get, unwrap_or, IfSome, is_some, option_and_then, option_map, ◌==◌, if◌then◌else◌}
 use Rattle.std.specs.List.{list_all}
-use Rattle.std.specs.Option.{option_map_or}
+use Rattle.std.specs.Option.{option_map_or, option_or}
 use Rattle.std.specs.Str.{bytes_eq}
 use Rattle.std.proofs.lemmas.Slice.Eq.{bytes_eq-Decides}
 use Rattle.clap.specs.Kinds.{HasKind, IsAmong, Kinds, check_kinds}
@@ -23,7 +23,7 @@ use Rattle.clap.proofs.OnLiterals.{clap_on_literals}
 use Rattle.bd_command_line.specs.declared.order.Order.{Order}
 use Rattle.bd_command_line.specs.declared.order.WordsFault.{WordsFault}
 use Rattle.bd_command_line.specs.declared.order.WordsFault.TheVariants.{NoMemory, Usage}
-use Rattle.bd_command_line.specs.CommandLine.{Ordered, GivesOrder, meant, check, dump, pack, fault_for, file_app, find_app, find_ordered, told_as, is_file_word, is_help_line, line_app, order_of, ordered_by}
+use Rattle.bd_command_line.specs.CommandLine.{Ordered, GivesOrder, meant, check, dump, pack, serve, fault_for, file_app, find_app, find_ordered, told_as, is_file_word, is_help_line, is_serve_of_input, line_app, order_of, ordered_by, refusal_of, serves_input}
 use Rattle.bd_command_line.proofs.RowValueLemmas.{AllFilled, defaults-filled, fills, given_first, left_nil, right_nil, settled-filled, walk-filled}
 use Rattle.bd_command_line.proofs.FaultLemmas.{SameTold, same-fault}
 
@@ -109,6 +109,14 @@ pack_orders : HasOrders pack_shape
 pack_orders words e =
     some_mapped pack (first_of (codes "file") (rows_after pack_shape.rules [] words)) (file_there pack_shape words refl (λ rows c. file_given _ _ c) e)
 
+-- the command `serve`, likewise
+abbrev serve_shape : Shape
+serve_shape = built_leaf (inherited (on_top with_leaf_noted (on_top marked_built line_app)).top (file_app (codes "serve")).top)
+
+serve_orders : HasOrders serve_shape
+serve_orders words e =
+    some_mapped serve (first_of (codes "file") (rows_after serve_shape.rules [] words)) (file_there serve_shape words refl (λ rows c. file_given _ _ c) e)
+
 -- the command `find`, likewise
 abbrev pub find_shape : Shape
 find_shape = built_leaf (inherited (on_top with_leaf_noted (on_top marked_built line_app)).top find_app.top)
@@ -121,7 +129,7 @@ find_orders words e =
 
 commands_order : EachShape HasOrders (built line_app).subs
 unfolding EachShape
-commands_order = (dump_orders, (check_orders, (pack_orders, (find_orders, tt))))
+commands_order = (dump_orders, (check_orders, (pack_orders, (serve_orders, (find_orders, tt)))))
 
 -- words that have no fault have an order
 pub order_there : (words : List Text) → fault_of line_app words ≡ [] → is_some (order_of words) ≡ true
@@ -168,10 +176,21 @@ help_words : (words : List Text) → is_help_line words ≡ true → (rest : Lis
 help_words [] e = let f : ⊥ = cc in absurd f
 help_words (w ∷ rest) e = (rest, ap (λ x. x ∷ rest) ((bytes_eq-Decides w (codes "help")).0 e))
 
+-- what a line is told as, by what the parser refuses and by what the words order
+pub told_by : (words : List Text) (refusal : Option WordsFault) (is_of_input : Bool) → refusal_of words ≡ refusal → serves_input words ≡ is_of_input
+    → fault_for words ≡ option_or refusal (if is_of_input then Some Usage else None)
+told_by words refusal is_of_input refused served =
+    ap₂ (λ (r : Option WordsFault) (b : Bool). option_or r (if b then Some Usage else None)) refused served
+
+pub served_as : (words : List Text) (order : Ordered) (is_of_input : Bool) → order_of words ≡ Some order → is_serve_of_input order ≡ is_of_input
+    → serves_input words ≡ is_of_input
+served_as words order is_of_input is e = ap (λ o. option_map_or is_serve_of_input o false) is ∙ e
+
 pub help_line_told : (words : List Text) → is_help_line words ≡ true → fault_for words ≡ Some Usage
 help_line_told words e =
     let h = help_words words e in
-    ap fault_for h.1 ∙ ap (λ ks. option_map told_as (slice_get ks 0)) (help_fault h.0)
+    told_by words (Some Usage) (serves_input words)
+    (ap refusal_of h.1 ∙ ap (λ ks. option_map told_as (slice_get ks 0)) (help_fault h.0)) refl
 
 pub help_line_refused : (words : List Text) → is_help_line words ≡ true → takes line_app words ≡ true → ⊥
 help_line_refused words e taken =
@@ -210,15 +229,18 @@ first_told (x ∷ xs) k same (inl is) = ap (λ y. Some (told_as y)) (sym is)
 first_told (x ∷ xs) k same (inr more) = ap (λ f. Some f) (sym (same k more))
 
 kind_told : (words : List Text) (e : Error) → HasKind (fault_of line_app words) e
-    → (told_as (kind_of e) ≡ NoMemory) ⊎ (fault_for words ≡ Some (told_as (kind_of e)))
+    → (told_as (kind_of e) ≡ NoMemory) ⊎ (refusal_of words ≡ Some (told_as (kind_of e)))
 kind_told words e (inl memory) = inl (ap told_as memory)
 kind_told words e (inr among) = inr (first_told (fault_of line_app words) (kind_of e) (same-fault (built line_app) words refl) among)
 
+pub refusal_none : (words : List Text) → fault_of line_app words ≡ [] → refusal_of words ≡ None
+refusal_none words is = ap (λ ks. option_map told_as (slice_get ks 0)) is
+
 -- words without a fault are refused for want of memory alone
-pub only_memory : (words : List Text) (f : WordsFault) → fault_of line_app words ≡ [] → (f ≡ NoMemory) ⊎ (fault_for words ≡ Some f) → f ≡ NoMemory
+pub only_memory : (words : List Text) (f : WordsFault) → fault_for words ≡ None → (f ≡ NoMemory) ⊎ (fault_for words ≡ Some f) → f ≡ NoMemory
 only_memory words f is (inl memory) = memory
 only_memory words f is (inr told) =
-    let none : None ≡ Some f = sym (ap (λ ks. option_map told_as (slice_get ks 0)) is) ∙ told in
+    let none : None ≡ Some f = sym is ∙ told in
     let bad : ⊥ = cc in absurd bad
 
 -- ---- from what the code reads of the matches to the order
@@ -236,25 +258,27 @@ pair_read (Some p) name rows n r =
 
 -- a command without FILE has no order
 pub no_file : (name : Text) (rows : List Row) → first_of (codes "file") rows ≡ None → ordered_by name rows ≡ None
-no_file name rows e = go (bytes_eq name (codes "dump")) (bytes_eq name (codes "check")) (bytes_eq name (codes "pack")) (bytes_eq name (codes "find"))
+no_file name rows e = go (bytes_eq name (codes "dump")) (bytes_eq name (codes "check")) (bytes_eq name (codes "pack")) (bytes_eq name (codes "find")) (bytes_eq name (codes "serve"))
   where
-    go : (a b c d : Bool) → cond a (option_map dump (first_of (codes "file") rows))
+    go : (a b c d f : Bool) → cond a (option_map dump (first_of (codes "file") rows))
         (cond b (option_map check (first_of (codes "file") rows))
         (cond c (option_map pack (first_of (codes "file") rows))
-        (cond d (option_map (find_ordered rows) (first_of (codes "file") rows)) None))) ≡ None
-    go true b c d = ap (option_map dump) e
-    go false true c d = ap (option_map check) e
-    go false false true d = ap (option_map pack) e
-    go false false false true = ap (option_map (find_ordered rows)) e
-    go false false false false = refl
+        (cond d (option_map (find_ordered rows) (first_of (codes "file") rows))
+        (cond f (option_map serve (first_of (codes "file") rows)) None)))) ≡ None
+    go true b c d f = ap (option_map dump) e
+    go false true c d f = ap (option_map check) e
+    go false false true d f = ap (option_map pack) e
+    go false false false true f = ap (option_map (find_ordered rows)) e
+    go false false false false true = ap (option_map serve) e
+    go false false false false false = refl
 
 -- ---- the clauses of the parse, at the program's line
 
 pub refused_as : (a : App) (words : List Text) (e : Error) (f : WordsFault) → a ≡ line_app → (is_simple_and_free a ≡ true → HasKind (fault_of a words) e)
-    → f ≡ told_as (kind_of e) → (f ≡ NoMemory) ⊎ (fault_for words ≡ Some f)
+    → f ≡ told_as (kind_of e) → (f ≡ NoMemory) ⊎ (refusal_of words ≡ Some f)
 refused_as a words e f is h told =
     let kinds = subst (λ (x : App). is_simple_and_free x ≡ true → HasKind (fault_of x words) e) is h line_free in
-    subst (λ (x : WordsFault). (x ≡ NoMemory) ⊎ (fault_for words ≡ Some x)) (sym told) (kind_told words e kinds)
+    subst (λ (x : WordsFault). (x ≡ NoMemory) ⊎ (refusal_of words ≡ Some x)) (sym told) (kind_told words e kinds)
 
 pub refused_taken : (a : App) (words : List Text) (e : Error) → a ≡ line_app → (takes a words ≡ true → kind_of e ≡ OutOfMemory) → takes line_app words ≡ true
     → told_as (kind_of e) ≡ NoMemory
@@ -281,7 +305,9 @@ orders_when (Err f) words order is ok err = err
 
 -- words that are taken are answered by their order, or memory ran out
 pub answered : (r : Result Order WordsFault) (words line : List Text) (order : Ordered) → words ≡ line
-    → IsTaken line order → IfOk r (λ o. order_of words ≡ Some (meant o))
+    → IsTaken line order → is_serve_of_input order ≡ false → IfOk r (λ o. order_of words ≡ Some (meant o))
     → IfErr r (λ f. (f ≡ NoMemory) ⊎ (fault_for words ≡ Some f)) → GivesOrder r order
-answered (Ok o) words line order is taken ok err = orders_when (Ok o) words order (ap order_of is ∙ taken.1) ok err
-answered (Err f) words line order is taken ok err = only_memory words f (ap (fault_of line_app) is ∙ taken.0) err
+answered (Ok o) words line order is taken other ok err = orders_when (Ok o) words order (ap order_of is ∙ taken.1) ok err
+answered (Err f) words line order is taken other ok err =
+    let refusal = refusal_none words (ap (fault_of line_app) is ∙ taken.0) in
+    only_memory words f (told_by words None false refusal (served_as words order false (ap order_of is ∙ taken.1) other)) err

@@ -1,9 +1,9 @@
 -- What the words of a line order, by the parser's own definition of the lines that it takes.
-use Rattle.std.specs.Prelude.{ℕ, List, ◌∷◌, Bool, not, map, codes, Option, Some, None, true}
+use Rattle.std.specs.Prelude.{ℕ, List, [], ◌∷◌, Bool, not, ◌&&◌, map, codes, Option, Some, None, true}
 use Rattle.std.specs.Prelude.{option_and_then, option_map, if◌then◌else◌, String, string_bytes}
 use Rattle.std.specs.Prelude.{◌≡◌, ◌==◌, Result, MatchResult, false, slice_get, unwrap_or}
 use Rattle.std.specs.Str.{bytes_eq}
-use Rattle.std.specs.Option.{option_map_or}
+use Rattle.std.specs.Option.{option_map_or, option_or}
 use Rattle.std.specs.Str.Parse.{digits_value, without_leading_plus}
 use Rattle.clap.specs.Walk.{Row, Rule, Text, first_of, one_of}
 use Rattle.clap.specs.ValueTests.{is_unsigned_in}
@@ -14,7 +14,7 @@ use Rattle.clap.specs.declared.builder.action.ArgAction.TheVariants.{Set}
 use Rattle.clap.specs.declared.error.kind.ErrorKind.{ErrorKind}
 use Rattle.clap.specs.declared.error.kind.ErrorKind.TheVariants as kind
 use Rattle.bd_command_line.specs.declared.order.Order.{Order}
-use Rattle.bd_command_line.specs.declared.order.Order.TheVariants.{Dump, Check, Pack, Find}
+use Rattle.bd_command_line.specs.declared.order.Order.TheVariants.{Dump, Check, Pack, Find, Serve}
 use Rattle.bd_command_line.specs.declared.order.WordsFault.{WordsFault}
 use Rattle.bd_command_line.specs.declared.order.WordsFault.TheVariants.{Help, NoMemory, Usage}
 use Rattle.bd_command_line.specs.FindWords.{FindWords, find_words_of}
@@ -62,7 +62,7 @@ top_app = on_top (λ s. record s {
 -- the line with the commands that take a file alone
 abbrev pub files_app : App
 files_app =
-    with_subcommand (with_subcommand (with_subcommand top_app (file_app (codes "dump")).top) (file_app (codes "check")).top) (file_app (codes "pack")).top
+    with_subcommand (with_subcommand (with_subcommand (with_subcommand top_app (file_app (codes "dump")).top) (file_app (codes "check")).top) (file_app (codes "pack")).top) (file_app (codes "serve")).top
 
 abbrev pub line_app : App
 line_app = with_subcommand files_app find_app.top
@@ -74,12 +74,14 @@ pub data Ordered : Type 0 where
   check : Text → Ordered
   pack : Text → Ordered
   find : Text → FindWords → Ordered
+  serve : Text → Ordered
 
 abbrev pub meant : Order → Ordered
 meant (Dump file) = dump (string_bytes file)
 meant (Check file) = check (string_bytes file)
 meant (Pack file) = pack (string_bytes file)
 meant (Find file options) = find (string_bytes file) (find_words_of options)
+meant (Serve file) = serve (string_bytes file)
 
 abbrev pub words_of : {Z : Type 0} → List (String Z) → List Text
 words_of = map string_bytes
@@ -115,7 +117,8 @@ ordered_by name rows =
     else (if bytes_eq name (codes "check") then option_map check (first_of (codes "file") rows)
     else (if bytes_eq name (codes "pack") then option_map pack (first_of (codes "file") rows)
     else (if bytes_eq name (codes "find")
-    then option_map (find_ordered rows) (first_of (codes "file") rows) else None)))
+    then option_map (find_ordered rows) (first_of (codes "file") rows)
+    else (if bytes_eq name (codes "serve") then option_map serve (first_of (codes "file") rows) else None))))
 
 -- the order of words that are taken
 abbrev pub order_of : List Text → Option Ordered
@@ -128,10 +131,23 @@ told_as kind.DisplayHelp = Help
 told_as kind.OutOfMemory = NoMemory
 told_as _ = Usage
 
--- the fault that the parser's refusal of the words is told as; none where they are taken. Where the
+-- the fault that the parser's refusal of the words is told as; none where it takes them. Where the
 -- parser may give one of several kinds, all of them are told as the first.
+abbrev pub refusal_of : List Text → Option WordsFault
+refusal_of words = option_map told_as (slice_get (fault_of line_app words) 0)
+
+-- `serve` of the standard input: the commands of a session come from there, so the dump can not
+abbrev pub is_serve_of_input : Ordered → Bool
+is_serve_of_input (serve file) = bytes_eq file (codes "-")
+is_serve_of_input _ = false
+
+-- the words order that, as the parser reads them
+abbrev pub serves_input : List Text → Bool
+serves_input words = option_map_or is_serve_of_input (order_of words) false
+
+-- the fault of the words: the parser's, else that they are `serve` of the standard input; none where they are taken
 abbrev pub fault_for : List Text → Option WordsFault
-fault_for words = option_map told_as (slice_get (fault_of line_app words) 0)
+fault_for words = option_or (refusal_of words) (if serves_input words then Some Usage else None)
 
 -- the answer is this order, or memory ran out
 abbrev pub GivesOrder : Result Order WordsFault → Ordered → Type 0
@@ -140,6 +156,13 @@ GivesOrder answer order = MatchResult answer (λ o. meant o ≡ order) (λ f. f 
 -- the first word is `help`
 abbrev pub is_help_line : List Text → Bool
 is_help_line words = option_map_or (λ word. bytes_eq word (codes "help")) (slice_get words 0) false
+
+-- `serve -` and `serve -- -`, which are refused before they are read
+abbrev pub is_serve_input_line : List Text → Bool
+is_serve_input_line (command ∷ file ∷ []) = bytes_eq command (codes "serve") && bytes_eq file (codes "-")
+is_serve_input_line (command ∷ escape ∷ file ∷ []) =
+    bytes_eq command (codes "serve") && (bytes_eq escape (codes "--") && bytes_eq file (codes "-"))
+is_serve_input_line _ = false
 
 -- a word that may stand as FILE, or as the text after `--index` or `--after`: none of two bytes and more that begins with a hyphen (45)
 abbrev pub is_file_word : Text → Bool

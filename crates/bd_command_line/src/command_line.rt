@@ -1,9 +1,9 @@
 //! Reads the words of a line.
-ghost use Rattle.std.specs.Prelude.{◌≡◌, ◌≤◌, ◌⊎◌, IfErr, IfOk, IsErrOf, IsSome, IsTrue, List, None, Some, [], ◌∷◌, codes, decimal, false, true, ℕ};
+ghost use Rattle.std.specs.Prelude.{◌≡◌, ◌≢◌, ◌≤◌, ◌⊎◌, IfErr, IfOk, IsErrOf, IsSome, IsTrue, List, None, Some, [], ◌∷◌, codes, decimal, false, true, ℕ};
 ghost use Rattle.clap.specs.Simple.{with_subcommand};
 ghost use Rattle.clap.specs.Words.{app_of, found_of, kind_of, rows_of, rule_of, takes};
 ghost use Rattle.clap.specs.declared.builder.command.Command.TheViews.{out-Command as fields_of};
-ghost use Rattle.bd_command_line.specs.CommandLine.{GivesOrder, check, dump, fault_for, file_app, file_rule, files_app, find, is_file_word, is_help_line, line_app, meant, order_of, ordered_by, pack, told_as, top_app, words_of};
+ghost use Rattle.bd_command_line.specs.CommandLine.{GivesOrder, check, dump, fault_for, file_app, file_rule, files_app, find, is_file_word, is_help_line, is_serve_input_line, is_serve_of_input, line_app, meant, order_of, ordered_by, pack, refusal_of, serve, serves_input, told_as, top_app, words_of};
 ghost use Rattle.bd_command_line.specs.FindWords.{no_options};
 ghost use Rattle.bd_command_line.specs.declared.order.WordsFault.TheVariants.{NoMemory};
 
@@ -71,7 +71,8 @@ fn files_command<'a>(alloc: Global) -> Result<Command<'a>, AllocError>
 {
     let line = with_file_command(alloc, top_command(alloc), "dump")?;
     let line = with_file_command(alloc, line, "check")?;
-    with_file_command(alloc, line, "pack")
+    let line = with_file_command(alloc, line, "pack")?;
+    with_file_command(alloc, line, "serve")
 }
 
 /// The program's whole line.
@@ -99,6 +100,19 @@ fn begins_with_help(words: &[String]) -> bool
     words.first().is_some_and(|word| word.as_str() == "help")
 }
 
+/// Whether the words are `serve -` or `serve -- -`.
+fn is_plain_serve_of_input(words: &[String]) -> bool
+    ensures { result ≡ is_serve_input_line (words_of words.now) }
+{
+    match words {
+        [command, file] => command.as_str() == "serve" && file.as_str() == "-",
+        [command, escape, file] => {
+            command.as_str() == "serve" && escape.as_str() == "--" && file.as_str() == "-"
+        }
+        _ => false,
+    }
+}
+
 /// The order of the command `name` with these matches.
 fn order_named(alloc: Global, name: &str, matches: &ArgMatches<'_>) -> Result<Order, WordsFault>
     requires { IsSome (ordered_by name.now (rows_of (found_of matches.now))) }
@@ -115,15 +129,16 @@ fn order_named(alloc: Global, name: &str, matches: &ArgMatches<'_>) -> Result<Or
         "check" => Ok(Order::Check { file }),
         "pack" => Ok(Order::Pack { file }),
         "find" => find_order(alloc, file, matches),
+        "serve" => Ok(Order::Serve { file }),
         _ => unreachable!(),
     }
 }
 
-/// The order of words of which the first is not `help`, or of any words that the parser is to be asked about.
+/// The order of words as the parser reads them, `serve` of the standard input among them.
 fn order_in(alloc: Global, words: &[String]) -> Result<Order, WordsFault>
     ensures order { IfOk result (λ o. order_of (words_of words.now) ≡ Some (meant o)) }
-    ensures only_taken { IfOk result (λ _. fault_for (words_of words.now) ≡ None) }
-    ensures fault { IfErr result (λ f. (f ≡ NoMemory) ⊎ (fault_for (words_of words.now) ≡ Some f)) }
+    ensures only_taken { IfOk result (λ _. refusal_of (words_of words.now) ≡ None) }
+    ensures fault { IfErr result (λ f. (f ≡ NoMemory) ⊎ (refusal_of (words_of words.now) ≡ Some f)) }
     ensures taken { takes line_app (words_of words.now) ≡ true → IfErr result (λ f. f ≡ NoMemory) }
 {
     let command = line_command(alloc)?;
@@ -137,23 +152,51 @@ fn order_in(alloc: Global, words: &[String]) -> Result<Order, WordsFault>
     order_named(alloc, name, inner)
 }
 
+fn orders_serve_of_input(order: &Order) -> bool
+    ensures { result ≡ is_serve_of_input (meant order.now) }
+{
+    match order {
+        Order::Serve { file } => file.as_str() == "-",
+        _ => false,
+    }
+}
+
+/// The order of words that are taken: in whatever form the parser reads `serve` of the standard input, it is refused.
+fn order_taken(alloc: Global, words: &[String]) -> Result<Order, WordsFault>
+    ensures order { IfOk result (λ o. order_of (words_of words.now) ≡ Some (meant o)) }
+    ensures only_taken { IfOk result (λ _. fault_for (words_of words.now) ≡ None) }
+    ensures never_of_input { IfOk result (λ o. is_serve_of_input (meant o) ≡ false) }
+    ensures fault { IfErr result (λ f. (f ≡ NoMemory) ⊎ (fault_for (words_of words.now) ≡ Some f)) }
+    ensures taken { takes line_app (words_of words.now) ≡ true → serves_input (words_of words.now) ≡ false
+        → IfErr result (λ f. f ≡ NoMemory) }
+{
+    let order = order_in(alloc, words)?;
+    if orders_serve_of_input(&order) {
+        return Err(WordsFault::Usage);
+    }
+    Ok(order)
+}
+
 /// The order of a line: its words without the program's name.
 ///
-/// `dump FILE`, `check FILE` and `pack FILE` are taken, and
+/// `dump FILE`, `check FILE`, `pack FILE` and `serve FILE` are taken, and
 /// `find FILE [--query Q] [--sort S] [--skip N] [--limit N] [--batch N] [--index PATH] [--after TOKEN]`, N from 0 to
 /// 2,147,483,647, with the options in any order, each once at most, and FILE before or after them. Without `--skip` and
-/// `--limit` they are 0. A file whose name looks like a flag stands after `--`, as in `dump -- -x`.
+/// `--limit` they are 0. A file whose name looks like a flag stands after `--`, as in `dump -- -x`. The file of `serve` is
+/// not `-`, since the commands of a session come from the standard input.
 ///
 /// # Errors
 ///
 /// - `Help` where the words ask for help by a flag, as `--help` and `dump -h` do.
 /// - `Usage` where they are not taken otherwise. The word `help` in the first place is no command.
-/// - `NoMemory` where memory ran out, whatever the words are.
+/// - `NoMemory` where memory ran out. The word `help` in the first place, `serve -` and `serve -- -` need none.
 pub fn parse_words(alloc: Global, words: &[String]) -> Result<Order, WordsFault>
     ensures order { IfOk result (λ o. order_of (words_of words.now) ≡ Some (meant o)) }
     ensures only_taken { IfOk result (λ _. fault_for (words_of words.now) ≡ None) }
+    ensures never_of_input { IfOk result (λ o. is_serve_of_input (meant o) ≡ false) }
     ensures fault { IfErr result (λ f. (f ≡ NoMemory) ⊎ (fault_for (words_of words.now) ≡ Some f)) }
-    ensures taken { takes line_app (words_of words.now) ≡ true → IfErr result (λ f. f ≡ NoMemory) }
+    ensures taken { takes line_app (words_of words.now) ≡ true → serves_input (words_of words.now) ≡ false
+        → IfErr result (λ f. f ≡ NoMemory) }
     ensures dump { (file : List ℕ) → IsTrue (is_file_word file)
         → words_of words.now ≡ codes "dump" ∷ file ∷ [] → GivesOrder result (dump file) }
     ensures escaped { (file : List ℕ)
@@ -200,10 +243,20 @@ pub fn parse_words(alloc: Global, words: &[String]) -> Result<Order, WordsFault>
           index = Some path;
           after = Some token;
         })) }
+    ensures serve { (file : List ℕ) → IsTrue (is_file_word file) → file ≢ codes "-"
+        → words_of words.now ≡ codes "serve" ∷ file ∷ [] → GivesOrder result (serve file) }
+    ensures serve_escaped { (file : List ℕ) → file ≢ codes "-"
+        → words_of words.now ≡ codes "serve" ∷ codes "--" ∷ file ∷ [] → GivesOrder result (serve file) }
+    ensures serve_input { words_of words.now ≡ codes "serve" ∷ codes "-" ∷ [] → IsErrOf result WordsFault.Usage }
+    ensures serve_input_escaped { words_of words.now ≡ codes "serve" ∷ codes "--" ∷ codes "-" ∷ []
+        → IsErrOf result WordsFault.Usage }
     ensures help_word { IsTrue (is_help_line (words_of words.now)) → IsErrOf result WordsFault.Usage }
 {
     if begins_with_help(words) {
         return Err(WordsFault::Usage);
     }
-    order_in(alloc, words)
+    if is_plain_serve_of_input(words) {
+        return Err(WordsFault::Usage);
+    }
+    order_taken(alloc, words)
 }

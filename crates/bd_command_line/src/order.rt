@@ -16,6 +16,8 @@ pub enum Order {
     Pack { file: String },
     /// The documents of `file` that the options ask for; `-` is the standard input.
     Find { file: String, options: FindOptions },
+    /// A session over the dump `file`. It is not `-` in a line that was taken: standard input has the commands.
+    Serve { file: String },
 }
 
 /// Which documents `find` is asked for, and in which order. The numbers are 0 to 2,147,483,647 in a line that was taken.

@@ -12,4 +12,5 @@ pub returns-clause-app : goal.returns-clause-app
 returns-clause-app c =
     let one = c.in_ok-line.ensures.app ∙ more _ _ (codes "dump") c.top_command.ensures.app in
     let two = c.in_ok-line-2.ensures.app ∙ more _ _ (codes "check") one in
-    IfOk-weaker c.with_file_command-3.result _ _ (λ m h. h ∙ more _ _ (codes "pack") two) c.with_file_command-3.ensures.app
+    let three = c.in_ok-line-3.ensures.app ∙ more _ _ (codes "pack") two in
+    IfOk-weaker c.with_file_command-4.result _ _ (λ m h. h ∙ more _ _ (codes "serve") three) c.with_file_command-4.ensures.app

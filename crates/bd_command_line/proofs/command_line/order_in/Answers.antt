@@ -1,7 +1,7 @@
 use Rattle.std.proofs.Common.{ap, sym, ◌∙◌}
-use Rattle.bd_command_line.specs.CommandLine.{told_as, words_of}
-use Rattle.bd_command_line.proofs.LineLemmas.{no_fault, order_read, order_there, refused_as, refused_taken}
-use Rattle.std.specs.Prelude.{is_some, option_map, slice_get}
+use Rattle.bd_command_line.specs.CommandLine.{words_of}
+use Rattle.bd_command_line.proofs.LineLemmas.{no_fault, order_read, order_there, refusal_none, refused_as, refused_taken}
+use Rattle.std.specs.Prelude.{is_some}
 use Rattle.std.proofs.lemmas.Result.{IfOk-weaker}
 use Rattle.bd_command_line.proofs.command_line.order_in.Goals as goal
 
@@ -28,5 +28,5 @@ returns-clause-order c =
 
 pub returns-clause-only_taken : goal.returns-clause-only_taken
 returns-clause-only_taken c =
-    let none = ap (λ ks. option_map told_as (slice_get ks 0)) (no_fault _ (words_of c.args.words.now) c.in_ok-command.ensures.app c.in-Ok.ensures.kinds) in
+    let none = refusal_none _ (no_fault _ (words_of c.args.words.now) c.in_ok-command.ensures.app c.in-Ok.ensures.kinds) in
     IfOk-weaker c.order_named.result _ _ (λ o _. none) c.order_named.ensures.order

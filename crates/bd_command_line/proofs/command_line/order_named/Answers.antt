@@ -3,7 +3,7 @@ use Rattle.std.specs.Prelude.{is_some, option_map}
 use Rattle.std.proofs.lemmas.Result.{IfOk-weaker}
 use Rattle.clap.specs.Words.{first_of, found_of, rows_of}
 use Rattle.clap.proofs.WalkLemmas.{first_value-rows}
-use Rattle.bd_command_line.specs.CommandLine.{Ordered, check, dump, find_ordered, ordered_by, pack}
+use Rattle.bd_command_line.specs.CommandLine.{Ordered, check, dump, find_ordered, ordered_by, pack, serve}
 use Rattle.bd_command_line.proofs.LineLemmas.{no_file}
 use Rattle.bd_command_line.proofs.command_line.order_named.Goals as goal
 
@@ -39,3 +39,9 @@ returns-in-find-clause-order c =
     ∙ (ap (option_map (find_ordered rows)) (sym (c.in-Some.ensures ∙ first_value-rows found (codes "file")))
     ∙ ap (λ t. Some (find_ordered rows t)) (sym c.in_ok-file.ensures.ok)) in
     IfOk-weaker c.find_order.result _ _ (λ o e. order ∙ ap (λ x. Some x) (sym e)) c.find_order.ensures.order
+
+pub returns-in-serve-clause-order : goal.returns-in-serve-clause-order
+returns-in-serve-clause-order c =
+    let found = found_of c.args.matches.now in
+    ap (λ name. ordered_by name (rows_of found)) c.in-serve.is
+    ∙ (ap (option_map serve) (sym (c.in-Some.ensures ∙ first_value-rows found (codes "file"))) ∙ ap (λ t. Some (serve t)) (sym c.in_ok-file.ensures.ok))
