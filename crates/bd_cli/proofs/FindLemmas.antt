@@ -25,7 +25,8 @@ use Rattle.bd_cli.specs.Find.Asking.{Wanted, refused_text}
 use Rattle.bd_cli.specs.Find.Batch.{places_from, query_for}
 use Rattle.bd_cli.proofs.FindLemmas.UniqueLemmas.{bytes_show, dump_shows}
 use Rattle.bd_cli.proofs.OutputLemmas.LinesLemmas.{lines-append}
-use Rattle.bd_cli.specs.Find.{IsShownOfBytes, IsShownOfDump, documents_at}
+use Rattle.bd_bson.specs.Documents.{documents_at}
+use Rattle.bd_cli.specs.Find.{IsShownOfBytes, IsShownOfDump}
 use Rattle.bd_cli.specs.Outcome.{PrintsOrStarves, TellsMessage}
 use Rattle.bd_cli.specs.Shown.{Shown, error_line, fault_text, lines, shown_refusal}
 use Rattle.bd_device.specs.Devices.{TakesFront, TakesText, Writer, between}

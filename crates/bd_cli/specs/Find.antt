@@ -1,11 +1,11 @@
 -- What `find` shows of its words and an input, and what a run of it did.
 pub mod Asking
 pub mod Batch
-use Rattle.std.specs.Prelude.{◌≡◌, ◌⊎◌, ℕ, Bool, List, [], ◌∷◌, ◌++◌, length, drop, codes, decimal, Option, Some, None, Result, Ok, Err, option_map, slice_get, if◌then◌else◌}
-use Rattle.std.specs.List.{filter_map}
+use Rattle.std.specs.Prelude.{◌≡◌, ◌⊎◌, ℕ, Bool, List, [], ◌∷◌, ◌++◌, length, drop, codes, decimal, Option, Some, None, Result, Ok, Err, option_map, if◌then◌else◌}
 use Rattle.bd_value.specs.Tree.{Doc}
 use Rattle.bd_answer.specs.Answer.{at_most, is_empty}
 use Rattle.bd_answer.specs.Session.{MarkedToken, OpenCursor, token_after}
+use Rattle.bd_bson.specs.Documents.{documents_at}
 use Rattle.bd_device.specs.Devices.{Over, Reader, Writer}
 use Rattle.bd_device.specs.declared.reading.ReadFault.{ReadFault}
 use Rattle.bd_check.specs.Fault.{Fault}
@@ -24,10 +24,6 @@ use Rattle.bd_cli.specs.declared.status.Status.TheVariants.{Done, Failed}
 abbrev pub left_over : Option ℕ → List ℕ → List ℕ
 left_over None ps = []
 left_over (Some n) ps = drop n ps
-
--- the documents at places
-abbrev pub documents_at : List Doc → List ℕ → List Doc
-documents_at ds = filter_map (slice_get ds)
 
 abbrev pub end_words : Bool → List ℕ
 end_words ends = if ends then codes " documents, end" else codes " documents, more"

@@ -7,4 +7,5 @@ pub mod Outcome
 pub mod Output
 pub mod Pack
 pub mod Runs
+pub mod Serve
 pub mod Shown

@@ -1,5 +1,5 @@
 -- What a run did.
-use Rattle.std.specs.Prelude.{[], codes}
+use Rattle.std.specs.Prelude.{ℕ, List, [], Option, codes}
 use Rattle.bd_device.specs.Devices.{Over, Reader, Writer}
 use Rattle.bd_command_line.specs.FindWords.{find_words_of}
 use Rattle.bd_command_line.specs.declared.order.Order.{Order}
@@ -12,16 +12,20 @@ use Rattle.bd_cli.specs.Dump.{DumpsInput}
 use Rattle.bd_cli.specs.Find.{FindsDocuments}
 use Rattle.bd_cli.specs.Pack.{PacksInput}
 use Rattle.bd_cli.specs.Find.Asking.{AsksNothing}
+use Rattle.bd_cli.specs.Serve.{ServesInput}
 use Rattle.bd_cli.specs.Shown.{Shown, error_line}
 use Rattle.bd_cli.specs.declared.status.Status.{Status}
 use Rattle.bd_cli.specs.declared.status.Status.TheVariants as statuses
 
--- the order was carried out
-abbrev pub CarriesOut : Order → Over Reader → Over Writer → Over Writer → Status → Type 0
-CarriesOut (orders.Dump path) file out err status = DumpsInput file out err status
-CarriesOut (orders.Check path) file out err status = ChecksInput file out err status
-CarriesOut (orders.Pack path) file out err status = PacksInput file out err status
-CarriesOut (orders.Find path options) file out err status = FindsDocuments (find_words_of options) file out err status
+-- The order was carried out. What is told of the reader of commands, and which of its reads may give what, is handed to it.
+abbrev pub CarriesOut : {C : Type 0} → Order → (C → Reader) → (C → Option (List ℕ) → C → Type 0) → C → C
+    → Over Reader → Over Writer → Over Writer → Status → Type 0
+CarriesOut (orders.Dump path) state gives old new file out err status = DumpsInput file out err status
+CarriesOut (orders.Check path) state gives old new file out err status = ChecksInput file out err status
+CarriesOut (orders.Pack path) state gives old new file out err status = PacksInput file out err status
+CarriesOut (orders.Find path options) state gives old new file out err status =
+    FindsDocuments (find_words_of options) file out err status
+CarriesOut (orders.Serve path) state gives old new file out err status = ServesInput state gives old new file out err status
 
 -- the order is refused for its texts, whatever the file has
 abbrev pub ReadsNoFile : Order → Type 0
@@ -29,6 +33,12 @@ ReadsNoFile (orders.Dump path) = ⊥
 ReadsNoFile (orders.Check path) = ⊥
 ReadsNoFile (orders.Pack path) = ⊥
 ReadsNoFile (orders.Find path options) = AsksNothing (find_words_of options)
+ReadsNoFile (orders.Serve path) = ⊥
+
+-- an order that reads no commands
+abbrev pub ReadsNoCommands : Order → Type 0
+ReadsNoCommands (orders.Serve path) = ⊥
+ReadsNoCommands _ = Unit {0}
 
 -- what is shown of words that are no order
 abbrev pub shown_report : WordsFault → Shown

@@ -78,7 +78,7 @@ fn find_in<O: Output, E: Output>(
 }
 
 /// Tells why an input is no dump.
-fn tell_dump_fault<E: Output>(alloc: Global, fault: &Fault, err: &mut E) -> Status
+pub(crate) fn tell_dump_fault<E: Output>(alloc: Global, fault: &Fault, err: &mut E) -> Status
     ensures { TellsMessage (over E.state err.old err.new) (error_line (fault_text fault.now.document (fault_view fault.now))) Failed result
         ⊎ TellsMessage (over E.state err.old err.new) (error_line (codes "no memory")) Failed result }
 {

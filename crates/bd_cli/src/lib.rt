@@ -19,7 +19,7 @@
 //! ```
 //!
 //! - `runs`: `run` and `report`.
-//! - `dump`, `check`, `pack`, `find`: a command each.
+//! - `dump`, `check`, `pack`, `find`, `serve`: a command each.
 //! - `ending`, `limits`, `output`, `status`: what they share.
 //! - `laws`: laws of what is shown.
 #![tactic(auto)]
@@ -33,6 +33,7 @@ mod limits;
 mod output;
 mod pack;
 mod runs;
+mod serve;
 mod status;
 
 pub use bd_command_line::{FindOptions, Order, USAGE, WordsFault, parse_words};

@@ -2,8 +2,7 @@
 
 ghost use Rattle.std.specs.Prelude.{◌≡◌};
 ghost use Rattle.bd_cli.specs.Outcome.{PrintsShown};
-ghost use Rattle.bd_cli.specs.Runs.{shown_report};
-ghost use Rattle.bd_cli.specs.Runs.{CarriesOut, ReadsNoFile};
+ghost use Rattle.bd_cli.specs.Runs.{CarriesOut, ReadsNoCommands, ReadsNoFile, shown_report};
 ghost use Rattle.bd_device.specs.Devices.{over};
 
 use crate::check::check;
@@ -11,6 +10,7 @@ use crate::dump::dump;
 use crate::find::find;
 use crate::output::messages::{status_of, tell_no_memory, tell_unwritten};
 use crate::pack::pack;
+use crate::serve::serve;
 use crate::status::Status;
 use bd_command_line::{Order, USAGE, WordsFault};
 use bd_device::{Input, Output, write_all};
@@ -29,18 +29,18 @@ pub fn run<F: Input, C: Input, O: Output, E: Output>(
     out: &mut O,
     err: &mut E,
 ) -> Status
-    ensures ran { CarriesOut order.now (over F.state file.old file.new) (over O.state out.old out.new)
-        (over E.state err.old err.new) result }
+    ensures ran { CarriesOut order.now C.state C.read_gives commands.old commands.new (over F.state file.old file.new)
+        (over O.state out.old out.new) (over E.state err.old err.new) result }
     // What is not wanted is not touched.
     ensures file { ReadsNoFile order.now → file.new ≡ file.old }
-    ensures commands { commands.new ≡ commands.old }
+    ensures commands { ReadsNoCommands order.now → commands.new ≡ commands.old }
 {
-    let _commands = commands;
     match order {
         Order::Dump { .. } => dump(alloc, file, out, err),
         Order::Check { .. } => check(alloc, file, out, err),
         Order::Pack { .. } => pack(alloc, file, out, err),
         Order::Find { options, .. } => find(alloc, options, file, out, err),
+        Order::Serve { .. } => serve(alloc, file, commands, out, err),
     }
 }
 

@@ -36,6 +36,10 @@ asked_for ds f ss skip limit = record {
 abbrev pub asked_of : List Doc → Request → Asked
 asked_of ds r = asked_for ds (filter_tree r.filter) (sort_paths r.sort.items) r.skip r.limit
 
--- a request to a dump, with what ties its tokens to both
+-- the same to a dump of these bytes, which are these documents, with what ties its tokens to the bytes and to the text
+abbrev pub query_to : List ℕ → List Doc → Filter → List SortPath → ℕ → ℕ → List ℕ → Query
+query_to bytes ds f ss skip limit text = record { asked = asked_for ds f ss skip limit; digest = token_digest bytes text }
+
+-- a request to a dump
 abbrev pub query_of : Dump → Request → Query
 query_of dump r = record { asked = asked_of (documents dump) r; digest = token_digest (bytes_of dump) r.text.items }

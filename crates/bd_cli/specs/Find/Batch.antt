@@ -5,9 +5,8 @@ use Rattle.std.specs.Str.{bytes_eq}
 use Rattle.bd_value.specs.Tree.{Doc}
 use Rattle.bd_answer.specs.Answer.{answer, rest}
 use Rattle.bd_answer.specs.Session.{IndexMark, OpenCursor, Query, State, cursor_of, has_index}
-use Rattle.bd_sort.specs.Asked.{asked_for}
+use Rattle.bd_sort.specs.Asked.{query_to}
 use Rattle.bd_cursor.specs.SessionView.{mark_of, marked_token}
-use Rattle.bd_request.specs.Digest.{token_digest}
 use Rattle.bd_request.specs.declared.refused.Refused.{Refused}
 use Rattle.bd_request.specs.declared.refused.Refused.TheVariants as reasons
 use Rattle.bd_request.specs.declared.token.Token.{Token}
@@ -15,10 +14,7 @@ use Rattle.bd_cli.specs.Find.Asking.{Wanted, refused_text}
 
 -- what is wanted of a dump of these bytes, which are these documents
 abbrev pub query_for : List ℕ → List Doc → Wanted → Query
-query_for bytes ds w = record {
-  asked = asked_for ds w.filter w.sorts w.skip w.limit;
-  digest = token_digest bytes w.text;
-}
+query_for bytes ds w = query_to bytes ds w.filter w.sorts w.skip w.limit w.text
 
 -- the places after a token of this dump and this request: the digest is looked at first, then the place
 abbrev pub places_after_token : Query → Token → Result (List ℕ) (List ℕ)

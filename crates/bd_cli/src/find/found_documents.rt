@@ -2,7 +2,7 @@
 ghost use Rattle.std.specs.Prelude.{◌≡◌, ◌<◌, OnOk, IfErr, length};
 ghost use Rattle.std.specs.List.{All};
 ghost use Rattle.bd_bson.specs.Collection.{documents};
-ghost use Rattle.bd_cli.specs.Find.{documents_at};
+ghost use Rattle.bd_bson.specs.Documents.{documents_at};
 ghost use Rattle.bd_cli.specs.Output.Lines.{StopsWithin};
 ghost use Rattle.bd_cli.specs.Shown.{lines};
 ghost use Rattle.bd_device.specs.Devices.{TakesText, over};

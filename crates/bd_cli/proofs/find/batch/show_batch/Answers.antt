@@ -6,7 +6,8 @@ use Rattle.bd_cursor.specs.SessionView.{dump_of, given_batch, state_of}
 use Rattle.bd_cli.proofs.FindLemmas as finds
 use Rattle.bd_cli.proofs.FindLemmas.BatchLemmas.{batch_given, given_is, taken_inside}
 use Rattle.bd_cli.proofs.find.batch.show_batch.Goals as goal
-use Rattle.bd_cli.specs.Find.{documents_at, shown_batch}
+use Rattle.bd_bson.specs.Documents.{documents_at}
+use Rattle.bd_cli.specs.Find.{shown_batch}
 use Rattle.bd_cli.specs.Shown.{lines}
 use Rattle.bd_device.specs.Devices.{BreaksWithin, TakesFront, TakesText, over}
 

@@ -1,0 +1,62 @@
+-- What a run of `serve` did: the replies to the commands over a dump, or why there are none.
+use Rattle.std.specs.Prelude.{◌≡◌, ◌⊎◌, ℕ, List, codes, Option, Result, Ok, Err}
+use Rattle.bd_value.specs.Tree.{Doc}
+use Rattle.bd_answer.specs.Session.{State}
+use Rattle.bd_answer.specs.SessionLaws.{new_state}
+use Rattle.bd_device.specs.Devices.{Over, Reader, Writer}
+use Rattle.bd_device.specs.declared.reading.Limits.{Limits}
+use Rattle.bd_device.specs.declared.reading.ReadFault.{ReadFault}
+use Rattle.bd_lines.specs.Serving.{ServesAll, StopsServing}
+use Rattle.bd_lines.specs.declared.serving.ServeFault.{ServeFault}
+use Rattle.bd_lines.specs.declared.serving.ServeFault.TheVariants as faults
+use Rattle.bd_service.specs.Talk.{RepliesInText}
+use Rattle.bd_cli.specs.Chain.{IsRefusedOr}
+use Rattle.bd_cli.specs.Find.{ReadsBytes, ReadsDump}
+use Rattle.bd_cli.specs.Outcome.{ReadsInput, TellsMessage}
+use Rattle.bd_cli.specs.Shown.{error_line, read_words}
+use Rattle.bd_cli.specs.declared.status.Status.{Status}
+use Rattle.bd_cli.specs.declared.status.Status.TheVariants.{Done, Failed}
+
+-- as much of the commands is read as of an input
+abbrev pub command_limits : Limits
+command_limits = record { bytes = 4294967295; turns = 4294967296 }
+
+-- why the commands were not answered to their end
+abbrev pub serve_words : ServeFault → List ℕ
+serve_words (faults.Unread fault) = read_words fault
+serve_words faults.NoMemory = codes "no memory"
+serve_words faults.Unwritten = codes "cannot write"
+
+-- What is told of the reader of the commands, and which of its reads may give what, is handed to each of these.
+
+-- over a dump of these bytes, which are these documents, each command had its reply, and nothing is told
+abbrev pub ServesToTheEnd : {C : Type 0} → (C → Reader) → (C → Option (List ℕ) → C → Type 0) → List ℕ → List Doc
+    → C → C → Over Writer → Over Writer → Status → Type 0
+ServesToTheEnd state gives bytes ds old new out err status =
+    (t : State) × ServesAll state gives (RepliesInText bytes ds) command_limits old new out new_state t
+    × (err.after ≡ err.before) × (status ≡ Done)
+
+-- or the commands before a fault had theirs, and the fault is told
+abbrev pub ServesToAFault : {C : Type 0} → (C → Reader) → (C → Option (List ℕ) → C → Type 0) → List ℕ → List Doc
+    → C → C → Over Writer → Over Writer → Status → Type 0
+ServesToAFault state gives bytes ds old new out err status =
+    (t : State) × (fault : ServeFault)
+    × StopsServing state gives (RepliesInText bytes ds) command_limits old new out new_state t fault
+    × TellsMessage err (error_line (serve_words fault)) Failed status
+
+-- no command was read, nothing was replied, and this is told
+pub record ServesNothing {C : Type 0} (old new : C) (out err : Over Writer) (status : Status) (message : List ℕ) : Type 0 where
+  pub unread : new ≡ old
+  pub silent : out.after ≡ out.before
+  pub told : TellsMessage err (error_line message) Failed status
+
+-- over an input: it was not read, or it is no dump, or the commands were served; or memory ran out before
+abbrev pub ServesInput : {C : Type 0} → (C → Reader) → (C → Option (List ℕ) → C → Type 0) → C → C
+    → Over Reader → Over Writer → Over Writer → Status → Type 0
+ServesInput state gives old new file out err status =
+    (input : Result (List ℕ) ReadFault) × ReadsInput file input
+    × (ServesNothing old new out err status (codes "no memory")
+    ⊎ IsRefusedOr (ServesNothing old new out err status) (ReadsBytes input) (λ bytes.
+    IsRefusedOr (ServesNothing old new out err status) (ReadsDump bytes) (λ ds.
+    ServesToTheEnd state gives bytes ds old new out err status
+    ⊎ ServesToAFault state gives bytes ds old new out err status)))

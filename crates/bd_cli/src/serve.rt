@@ -1,0 +1,86 @@
+//! `serve`: a session over an input, with a reply to each command.
+
+ghost use Rattle.std.specs.Prelude.{◌≡◌, ◌≤◌, ◌⊎◌, codes, length};
+ghost use Rattle.bd_bson.specs.Collection.{bytes_of, documents};
+ghost use Rattle.bd_cli.specs.Chain.{IsRefusedOr};
+ghost use Rattle.bd_cli.specs.Find.{ReadsDump};
+ghost use Rattle.bd_cli.specs.Serve.{ServesInput, ServesNothing, ServesToAFault, ServesToTheEnd};
+ghost use Rattle.bd_device.specs.Devices.{over};
+
+use crate::find::tell_dump_fault;
+use crate::limits::LIMITS;
+use crate::output::lines::is_want_of_memory;
+use crate::output::messages::{tell_no_memory, tell_read_fault, tell_unwritten};
+use crate::status::Status;
+use bd_bson::{Dump, read_dump};
+use bd_device::{Input, Output, read_all};
+use bd_lines::ServeFault;
+use bd_service::Service;
+use std::alloc::Global;
+
+/// Reads an input whole, and writes the reply to each command, before a later read of the commands. No command is read where the
+/// input is no dump.
+pub(crate) fn serve<F: Input, C: Input, O: Output, E: Output>(
+    alloc: Global,
+    file: &mut F,
+    commands: &mut C,
+    out: &mut O,
+    err: &mut E,
+) -> Status
+    ensures { ServesInput C.state C.read_gives commands.old commands.new (over F.state file.old file.new)
+        (over O.state out.old out.new) (over E.state err.old err.new) result }
+{
+    match read_all(alloc, file, LIMITS) {
+        Ok(bytes) => serve_bytes(alloc, bytes, commands, out, err),
+        Err(fault) => tell_read_fault(fault, err),
+    }
+}
+
+/// Serves the commands over the bytes of an input.
+fn serve_bytes<C: Input, O: Output, E: Output>(
+    alloc: Global,
+    bytes: Vec<u8>,
+    commands: &mut C,
+    out: &mut O,
+    err: &mut E,
+) -> Status
+    requires { length bytes.items ≤ 4294967295 }
+    ensures { ServesNothing commands.old commands.new (over O.state out.old out.new) (over E.state err.old err.new) result (codes "no memory")
+        ⊎ IsRefusedOr (ServesNothing commands.old commands.new (over O.state out.old out.new) (over E.state err.old err.new) result)
+        (ReadsDump bytes.items) (λ ds. ServesToTheEnd C.state C.read_gives bytes.items ds commands.old commands.new
+        (over O.state out.old out.new) (over E.state err.old err.new) result
+        ⊎ ServesToAFault C.state C.read_gives bytes.items ds commands.old commands.new
+        (over O.state out.old out.new) (over E.state err.old err.new) result) }
+{
+    match read_dump(alloc, bytes) {
+        Ok(dump) => serve_dump(alloc, dump, commands, out, err),
+        Err(fault) => {
+            if is_want_of_memory(&fault) {
+                return tell_no_memory(err);
+            }
+            tell_dump_fault(alloc, &fault, err)
+        }
+    }
+}
+
+/// Serves the commands over a dump.
+fn serve_dump<C: Input, O: Output, E: Output>(
+    alloc: Global,
+    dump: Dump,
+    commands: &mut C,
+    out: &mut O,
+    err: &mut E,
+) -> Status
+    ensures { ServesToTheEnd C.state C.read_gives (bytes_of dump) (documents dump) commands.old commands.new
+        (over O.state out.old out.new) (over E.state err.old err.new) result
+        ⊎ ServesToAFault C.state C.read_gives (bytes_of dump) (documents dump) commands.old commands.new
+        (over O.state out.old out.new) (over E.state err.old err.new) result }
+{
+    let mut service = Service::new(alloc, dump);
+    match bd_lines::serve(alloc, LIMITS, commands, &mut service, out) {
+        Ok(()) => Status::Done,
+        Err(ServeFault::Unread(fault)) => tell_read_fault(fault, err),
+        Err(ServeFault::NoMemory) => tell_no_memory(err),
+        Err(ServeFault::Unwritten) => tell_unwritten(err),
+    }
+}

@@ -1,0 +1,4 @@
+pub mod MemberView
+pub mod Refusal
+pub mod Reply
+pub mod ReplyView

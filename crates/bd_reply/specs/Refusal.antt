@@ -1,0 +1,87 @@
+-- Why a line has no result, as a reply tells it.
+use Rattle.std.specs.Prelude.{ℕ, List, [], ◌∷◌, codes}
+use Rattle.std.specs.List.{join_with_byte}
+use Rattle.bd_value.specs.Tree as trees
+use Rattle.bd_value.specs.Tree.{Tree, leaf}
+use Rattle.bd_diagnose.specs.JsonFault.{json_fault_words}
+use Rattle.bd_diagnose.specs.declared.json_fault.JsonFault.{JsonFault}
+use Rattle.bd_diagnose.specs.declared.json_fault.JsonFaultKind.{JsonFaultKind}
+use Rattle.bd_diagnose.specs.declared.json_fault.JsonFaultKind.TheVariants as json
+use Rattle.bd_path.specs.PathFault.{path_fault_words}
+use Rattle.bd_path.specs.declared.path_fault.PathFault.{PathFault}
+use Rattle.bd_path.specs.declared.path_fault.PathFault.TheVariants as paths
+use Rattle.bd_query.specs.Fault.{Refusal, filter_fault_words, refusal_of}
+use Rattle.bd_query.specs.declared.fault.FilterFaultKind.{FilterFaultKind}
+use Rattle.bd_query.specs.declared.fault.FilterFaultKind.TheVariants as filters
+use Rattle.bd_request.specs.Refused.{refused_number, refused_words}
+use Rattle.bd_request.specs.declared.refused.Refused.{Refused}
+use Rattle.bd_request.specs.declared.refused.Refused.TheVariants as reasons
+use Rattle.bd_command.specs.Fault.{command_fault_number, command_fault_words}
+use Rattle.bd_command.specs.declared.fault.CommandFault.{CommandFault}
+use Rattle.bd_reply.specs.Reply.{ToldRefusal, count_value, text_value}
+
+-- ---- a text that is no document
+
+abbrev pub json_fault_number : JsonFaultKind → ℕ
+json_fault_number json.Syntax = 1
+json_fault_number json.NotADocument = 2
+json_fault_number json.TooDeep = 3
+json_fault_number json.BadWrapper = 4
+json_fault_number json.NotInProfile = 5
+json_fault_number json.NumberRange = 6
+json_fault_number json.NulInName = 7
+json_fault_number json.TrailingText = 8
+json_fault_number json.NoMemory = 9
+
+-- the byte, which a text as a whole has not
+abbrev pub json_fault_byte : JsonFaultKind → ℕ → Tree
+json_fault_byte json.NotADocument at = leaf trees.null
+json_fault_byte _ at = count_value at
+
+abbrev pub json_refusal : JsonFault → ToldRefusal
+json_refusal f = record {
+  layer = codes "json";
+  number = json_fault_number f.kind;
+  words = json_fault_words f.kind;
+  place = (codes "at", json_fault_byte f.kind f.at) ∷ [];
+}
+
+-- ---- a document that is no command
+
+abbrev pub command_refusal : CommandFault → ToldRefusal
+command_refusal f =
+    record { layer = codes "command"; number = command_fault_number f; words = command_fault_words f; place = [] }
+
+-- ---- a command that is no call
+
+abbrev pub filter_fault_number : FilterFaultKind → ℕ
+filter_fault_number filters.UnknownOperator = 1
+filter_fault_number filters.NotInProfile = 2
+filter_fault_number filters.BadOperand = 3
+filter_fault_number filters.MixedOperators = 4
+filter_fault_number filters.Path = 5
+filter_fault_number filters.TooDeep = 6
+filter_fault_number filters.NoMemory = 7
+
+-- where it is: the names down to the pair or member, joined by dots
+abbrev pub filter_refusal : Refusal → ToldRefusal
+filter_refusal r = record {
+  layer = codes "filter";
+  number = filter_fault_number r.kind;
+  words = filter_fault_words r.kind;
+  place = (codes "place", text_value (join_with_byte 46 r.place)) ∷ [];
+}
+
+abbrev pub path_fault_number : PathFault → ℕ
+path_fault_number paths.EmptyComponent = 1
+path_fault_number paths.TooLong = 2
+path_fault_number paths.NoMemory = 3
+
+abbrev pub path_refusal : PathFault → ToldRefusal
+path_refusal f = record { layer = codes "path"; number = path_fault_number f; words = path_fault_words f; place = [] }
+
+-- ---- a call that a session refuses, a request, or a text that is no token; of a filter its own fault is told
+
+abbrev pub session_refusal : Refused → ToldRefusal
+session_refusal (reasons.BadFilter fault) = filter_refusal (refusal_of fault)
+session_refusal r = record { layer = codes "session"; number = refused_number r; words = refused_words r; place = [] }

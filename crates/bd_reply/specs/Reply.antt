@@ -1,0 +1,77 @@
+-- The replies of a session, and the document that each is printed as.
+use Rattle.std.specs.Prelude.{ℕ, pos, Bool, true, false, List, [], ◌∷◌, Option, Some, None, codes, map}
+use Rattle.bd_value.specs.Tree as trees
+use Rattle.bd_value.specs.Tree.{Doc, Tree, array, doc, fields_of, items_of, leaf}
+use Rattle.bd_extjson.specs.Text.{text}
+use Rattle.bd_answer.specs.Session.{Explained, IndexCounts, PlanKind, by_index, by_scan, by_walk}
+
+-- why there is no result: the layer that refuses, the number and the words of its reason, and the pair that tells where, if any
+pub record ToldRefusal : Type 0 where
+  pub layer : List ℕ
+  pub number : ℕ
+  pub words : List ℕ
+  pub place : Doc
+
+-- of a batch its documents, whether nothing is left, and the text of the token
+pub data LineReply : Type 0 where
+  done : LineReply
+  opens : ℕ → LineReply
+  gives : List Doc → Bool → Option (List ℕ) → LineReply
+  makes : IndexCounts → LineReply
+  explains : Explained → LineReply
+  refuses : ToldRefusal → LineReply
+
+-- ---- the values
+
+abbrev pub text_value : List ℕ → Tree
+text_value s = leaf (trees.text s)
+
+abbrev pub text_or_null : Option (List ℕ) → Tree
+text_or_null None = leaf trees.null
+text_or_null (Some s) = text_value s
+
+abbrev pub truth_value : Bool → Tree
+truth_value b = leaf (trees.boolean b)
+
+-- an Int64
+abbrev pub count_value : ℕ → Tree
+count_value n = leaf (trees.int64 (pos n))
+
+abbrev pub number_value : ℕ → Tree
+number_value n = leaf (trees.int32 (pos n))
+
+abbrev pub documents_value : List Doc → Tree
+documents_value ds = array (items_of (map (λ d. doc (fields_of d)) ds))
+
+abbrev pub plan_name : PlanKind → List ℕ
+plan_name by_scan = codes "scan"
+plan_name by_index = codes "index"
+plan_name by_walk = codes "walk"
+
+-- ---- the document
+
+-- the pairs after the first one
+abbrev pub reply_pairs : LineReply → Doc
+reply_pairs done = []
+reply_pairs (opens id) = (codes "cursor", count_value id) ∷ []
+reply_pairs (gives ds ends token) =
+    (codes "documents", documents_value ds) ∷ (codes "end", truth_value ends) ∷ (codes "token", text_or_null token) ∷ []
+reply_pairs (makes c) = (codes "entries", count_value c.entries) ∷ (codes "multikey", truth_value c.is_multikey) ∷ []
+reply_pairs (explains e) =
+    (codes "plan", text_value (plan_name e.plan)) ∷ (codes "index", text_or_null e.index)
+    ∷ (codes "entries", count_value e.entries) ∷ (codes "documents", count_value e.looked_at)
+    ∷ (codes "matches", count_value e.matches) ∷ []
+reply_pairs (refuses r) =
+    (codes "layer", text_value r.layer) ∷ (codes "number", number_value r.number) ∷ (codes "text", text_value r.words) ∷ r.place
+
+-- it tells a result
+abbrev pub is_result : LineReply → Bool
+is_result (refuses r) = false
+is_result _ = true
+
+abbrev pub reply_document : LineReply → Doc
+reply_document r = (codes "ok", truth_value (is_result r)) ∷ reply_pairs r
+
+-- canonical Extended JSON, without white space
+abbrev pub reply_text : LineReply → List ℕ
+reply_text r = text (doc (fields_of (reply_document r)))

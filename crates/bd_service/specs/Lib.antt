@@ -1,0 +1,4 @@
+pub mod CallOf
+pub mod CallView
+pub mod ServiceView
+pub mod Talk

@@ -1,0 +1,40 @@
+-- What a session in memory does at a call, and at a line.
+use Rattle.std.specs.Prelude.{◌≡◌, ◌≢◌, List, ℕ}
+use Rattle.bd_answer.specs.Session as machine
+use Rattle.bd_answer.specs.Session.{State, state_after}
+use Rattle.bd_bson.specs.Collection.{bytes_of, documents}
+use Rattle.bd_bson.specs.declared.collection.Dump.{Dump}
+use Rattle.bd_cursor.specs.SessionView.{dump_of, state_of}
+use Rattle.bd_cursor.specs.declared.session.Session.{Session}
+use Rattle.bd_request.specs.declared.refused.Refused.{Refused}
+use Rattle.bd_request.specs.declared.refused.Refused.TheVariants as reasons
+use Rattle.bd_reply.specs.Reply.{LineReply, reply_text}
+use Rattle.bd_reply.specs.ReplyView.{line_reply}
+use Rattle.bd_reply.specs.declared.refusal.LineRefusal.TheVariants as refusals
+use Rattle.bd_reply.specs.declared.reply.Reply.{Reply}
+use Rattle.bd_reply.specs.declared.reply.Reply.TheVariants as replies
+use Rattle.bd_service.specs.Talk.{Answers, shown_reply}
+use Rattle.bd_service.specs.declared.service.Service.{Service}
+
+-- a call was made: its reply and the state after it are those of the machine
+pub record Performs (old : Session) (call : machine.Call) (r : Reply) (new : Session) : Type 0 where
+  pub tells : line_reply (documents (dump_of old)) r ≡ shown_reply (documents (dump_of old)) (machine.reply (state_of old) call)
+  pub moves : state_of new ≡ state_after (state_of old) call
+  pub kept : dump_of new ≡ dump_of old
+
+-- the reply tells this refusal, which is no want of memory
+abbrev pub IsRefusalOf : Refused → Reply → Type 0
+IsRefusalOf why r = (r ≡ replies.Refused (refusals.Session why)) × (why ≢ reasons.NoMemory)
+
+abbrev pub service_state : Service → State
+service_state s = state_of s.session
+
+abbrev pub service_dump : Service → Dump
+service_dump s = dump_of s.session
+
+-- the text is a reply to the line, and the session goes on from one state to the other, over the same dump
+pub record RepliesTo (old : Service) (line text : List ℕ) (new : Service) : Type 0 where
+  pub reply : LineReply
+  pub answers : Answers (bytes_of (service_dump old)) (documents (service_dump old)) (service_state old) line reply (service_state new)
+  pub written : text ≡ reply_text reply
+  pub kept : service_dump new ≡ service_dump old

@@ -1,0 +1,130 @@
+//! Commands read as calls of a session.
+
+ghost use Rattle.std.specs.Prelude.{◌≡◌, IfErr, IfOk, Ok, OnOk, string_bytes};
+ghost use Rattle.bd_value.specs.View.{pairs};
+ghost use Rattle.bd_bson.specs.Collection.{bytes_of, documents};
+ghost use Rattle.bd_bson.specs.declared.collection.Dump.{Dump};
+ghost use Rattle.bd_command.specs.CommandView.{command_tree, find_tree, hint_tree};
+ghost use Rattle.bd_cursor.specs.SessionView.{marked_token};
+ghost use Rattle.bd_path.specs.Path.{path_of};
+ghost use Rattle.bd_request.specs.Request.{AsksFor};
+ghost use Rattle.bd_request.specs.Token.{token_of};
+ghost use Rattle.bd_service.specs.CallOf.{call_of, hint_part, path_part, request_part, search_of, token_part};
+ghost use Rattle.bd_service.specs.CallView.{IsSearch, RefusesPart, choice_hint, session_call};
+
+use crate::call::Call;
+use crate::call_fault::CallFault;
+use bd_command::{Command, FindCommand, Hint};
+use bd_cursor::{Choice, Refused, Request, Token};
+use bd_path::{Path, PathFault};
+use bd_reply::LineRefusal;
+use bd_value::Document;
+use std::alloc::Global;
+
+/// The call that a command is. Of `resume` the token is looked at first, then the filter, the sort, the numbers, and the path of
+/// an index.
+pub(crate) fn call_of(alloc: Global, command: Command) -> Result<Call, CallFault>
+    ensures call { (dump : Dump) → IfOk result (λ c. call_of (bytes_of dump) (documents dump) (command_tree command) ≡ Ok (session_call dump c)) }
+    ensures fault { (dump : Dump) → IfErr result (RefusesPart (call_of (bytes_of dump) (documents dump) (command_tree command))) }
+{
+    match command {
+        Command::CreateIndex { path, sparse } => {
+            let path = read_path(alloc, path.as_str())?;
+            Ok(Call::CreateIndex(path, sparse))
+        }
+        Command::DropIndex { path } => {
+            let path = read_path(alloc, path.as_str())?;
+            Ok(Call::DropIndex(path))
+        }
+        Command::Find(find) => {
+            let (request, choice) = read_search(alloc, find)?;
+            Ok(Call::Find(request, choice))
+        }
+        Command::Resume { token, find } => {
+            let token = read_token(token.as_str())?;
+            let (request, choice) = read_search(alloc, find)?;
+            Ok(Call::Resume(request, choice, token))
+        }
+        Command::GetMore { id, batch } => Ok(Call::GetMore(id, batch)),
+        Command::KillCursor { id } => Ok(Call::KillCursor(id)),
+        Command::Explain(find) => {
+            let (request, choice) = read_search(alloc, find)?;
+            Ok(Call::Explain(request, choice))
+        }
+    }
+}
+
+/// The request of what is to be found, and how.
+fn read_search(alloc: Global, find: FindCommand) -> Result<(Request, Choice), CallFault>
+    ensures search { IfOk result (λ found. IsSearch (find_tree find) found.0 found.1) }
+    ensures fault { IfErr result (RefusesPart (search_of (find_tree find))) }
+{
+    let FindCommand {
+        filter,
+        sort,
+        skip,
+        limit,
+        hint,
+    } = find;
+    let request = read_request(alloc, filter, sort, skip, limit)?;
+    let choice = read_choice(alloc, hint)?;
+    Ok((request, choice))
+}
+
+/// The request of a filter, a sort and counts.
+fn read_request(
+    alloc: Global,
+    filter: Document,
+    sort: Document,
+    skip: u64,
+    limit: u64,
+) -> Result<Request, CallFault>
+    ensures request { IfOk result (AsksFor (pairs filter) (pairs sort) skip limit) }
+    ensures fault { IfErr result (RefusesPart (request_part (pairs filter) (pairs sort) skip limit)) }
+{
+    match Request::new(alloc, filter, sort, skip, limit) {
+        Ok(request) => Ok(request),
+        Err(Refused::NoMemory) => Err(CallFault::NoMemory),
+        Err(refused) => Err(CallFault::Refused(LineRefusal::Session(refused))),
+    }
+}
+
+/// How documents are to be found.
+fn read_choice(alloc: Global, hint: Hint) -> Result<Choice, CallFault>
+    ensures choice { IfOk result (λ choice. choice_hint choice ≡ hint_tree hint) }
+    ensures there { OnOk result (hint_part (hint_tree hint) ≡ Ok tt) }
+    ensures fault { IfErr result (RefusesPart (hint_part (hint_tree hint))) }
+{
+    match hint {
+        Hint::Auto => Ok(Choice::Auto),
+        Hint::Scan => Ok(Choice::Scan),
+        Hint::Index(text) => {
+            let path = read_path(alloc, text.as_str())?;
+            Ok(Choice::Index(path))
+        }
+    }
+}
+
+/// The path of an index.
+fn read_path(alloc: Global, text: &str) -> Result<Path, CallFault>
+    ensures path { OnOk result (path_part (path_of text.now) ≡ Ok tt) }
+    ensures text { IfOk result (λ path. string_bytes path.text ≡ text.now) }
+    ensures fault { IfErr result (RefusesPart (path_part (path_of text.now))) }
+{
+    match Path::parse(alloc, text) {
+        Ok(path) => Ok(path),
+        Err(PathFault::NoMemory) => Err(CallFault::NoMemory),
+        Err(fault) => Err(CallFault::Refused(LineRefusal::Path(fault))),
+    }
+}
+
+/// The token of a text.
+fn read_token(text: &str) -> Result<Token, CallFault>
+    ensures token { IfOk result (λ t. token_part (token_of text.now) ≡ Ok (marked_token t)) }
+    ensures fault { IfErr result (RefusesPart (token_part (token_of text.now))) }
+{
+    match Token::parse(text) {
+        Ok(token) => Ok(token),
+        Err(refused) => Err(CallFault::Refused(LineRefusal::Session(refused))),
+    }
+}

@@ -1,0 +1,26 @@
+//! A session over a dump that lines are sent to, each of which has a reply.
+//!
+//! A line is a command as an Extended JSON document. What is replied to it, and what it changes: `specs/Talk.antt`.
+//!
+//! An example, which `bd_service_tests` proves and runs as `examples::a_talk`:
+//!
+//! ```
+//! let mut service = Service::new(alloc, dump);
+//! let mut text = Vec::new(alloc);
+//! service.reply(b"{\"find\":{}}", &mut text)?;
+//! assert!(rt; text.as_slice() == b"{\"ok\":true,\"cursor\":{\"$numberLong\":\"1\"}}".as_slice());
+//! ```
+//!
+//! - `service`: `Service`, which replies to a line: `specs/ServiceView.antt`.
+//! - `call_of`: the call of a session that a command is: `specs/CallOf.antt`, and `specs/CallView.antt` for `call` and
+//!   `call_fault`.
+//! - `perform`: a call made.
+#![tactic(auto)]
+
+mod call;
+mod call_fault;
+mod call_of;
+mod perform;
+mod service;
+
+pub use service::Service;

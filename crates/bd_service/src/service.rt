@@ -1,0 +1,110 @@
+//! A session that lines are sent to.
+
+ghost use Rattle.std.specs.Prelude.{◌≡◌, IfErr, IfOk, OnOk};
+ghost use Rattle.bd_answer.specs.SessionLaws.{new_state};
+ghost use Rattle.bd_bson.specs.Collection.{bytes_of, documents};
+ghost use Rattle.bd_bson.specs.declared.collection.Dump.{Dump};
+ghost use Rattle.bd_value.specs.View.{pairs};
+ghost use Rattle.bd_command.specs.CommandOf.{command_of};
+ghost use Rattle.bd_command.specs.CommandView.{command_tree};
+ghost use Rattle.bd_extjson.specs.TextDocument.{ReadsAs};
+ghost use Rattle.bd_reply.specs.ReplyView.{line_reply};
+ghost use Rattle.bd_service.specs.CallOf.{command_part};
+ghost use Rattle.bd_service.specs.CallView.{RefusesLine, RefusesPart, session_call};
+ghost use Rattle.bd_service.specs.ServiceView.{RepliesTo, service_dump, service_state};
+ghost use Rattle.bd_service.specs.Talk.{Answers, IsCallIn};
+
+use crate::call::Call;
+use crate::call_fault::CallFault;
+use crate::call_of::call_of;
+use crate::perform::perform;
+use bd_bson::Dump;
+use bd_command::{Command, CommandFault, read_command};
+use bd_cursor::Session;
+use bd_diagnose::{JsonFault, JsonFaultKind};
+use bd_extjson::read_doc;
+use bd_lines::Replier;
+use bd_reply::{LineRefusal, Reply, write_reply};
+use bd_value::{Document, NoMemory};
+use std::alloc::{AllocError, Global};
+
+/// A session over a dump, with a reply to each line.
+#[derive(Drop)]
+pub struct Service {
+    alloc: Global,
+    session: Session,
+}
+
+impl Service {
+    /// A session with no index and no cursor. It takes no memory.
+    pub fn new(alloc: Global, dump: Dump) -> Service
+        ensures state { service_state result ≡ new_state }
+        ensures dump { service_dump result ≡ dump }
+    {
+        Service {
+            alloc,
+            session: Session::new(alloc, dump),
+        }
+    }
+
+    /// The reply to a line. It fails for want of memory alone.
+    fn answer(&mut self, line: &[u8]) -> Result<Reply, NoMemory>
+        ensures answers { IfOk result (λ r. Answers (bytes_of (service_dump self.old)) (documents (service_dump self.old)) (service_state self.old)
+            line.now (line_reply (documents (service_dump self.old)) r) (service_state self.new)) }
+        ensures dump { OnOk result (service_dump self.new ≡ service_dump self.old) }
+    {
+        match read_call(self.alloc, line) {
+            Ok(call) => perform(&mut self.session, call),
+            Err(CallFault::Refused(refusal)) => Ok(Reply::Refused(refusal)),
+            Err(CallFault::NoMemory) => Err(AllocError),
+        }
+    }
+}
+
+impl Replier for Service {
+    ghost replies = { RepliesTo };
+
+    fn reply(&mut self, command: &[u8], text: &mut Vec<u8>) -> Result<(), AllocError> {
+        let reply = self.answer(command)?;
+        write_reply(self.alloc, self.session.dump(), &reply, text)
+    }
+}
+
+/// The call that a line is.
+fn read_call(alloc: Global, line: &[u8]) -> Result<Call, CallFault>
+    ensures call { (dump : Dump) → IfOk result (λ c. IsCallIn (bytes_of dump) (documents dump) line.now (Ok (session_call dump c))) }
+    ensures fault { (dump : Dump) → IfErr result (RefusesLine dump line.now) }
+{
+    let document = read_line(alloc, line)?;
+    let command = command_in(alloc, &document)?;
+    call_of(alloc, command)
+}
+
+/// The document that a line is.
+fn read_line(alloc: Global, line: &[u8]) -> Result<Document, CallFault>
+    ensures document { IfOk result (λ d. ReadsAs line.now (pairs d)) }
+    ensures fault { (dump : Dump) → IfErr result (RefusesLine dump line.now) }
+{
+    match read_doc(alloc, line) {
+        Ok(document) => Ok(document),
+        Err(
+            JsonFault {
+                kind: JsonFaultKind::NoMemory,
+                ..
+            },
+        ) => Err(CallFault::NoMemory),
+        Err(fault) => Err(CallFault::Refused(LineRefusal::Json(fault))),
+    }
+}
+
+/// The command that a document is.
+fn command_in(alloc: Global, document: &Document) -> Result<Command, CallFault>
+    ensures command { IfOk result (λ c. command_of (pairs document.now) ≡ Ok (command_tree c)) }
+    ensures fault { IfErr result (RefusesPart (command_part (command_of (pairs document.now)))) }
+{
+    match read_command(alloc, document) {
+        Ok(command) => Ok(command),
+        Err(CommandFault::NoMemory) => Err(CallFault::NoMemory),
+        Err(fault) => Err(CallFault::Refused(LineRefusal::Command(fault))),
+    }
+}
