@@ -1,13 +1,14 @@
 -- What the fronts of two texts tell of their order.
-use Rattle.std.proofs.Common.{◌≡◌, ◌<◌, ◌≤◌, ℕ, ℤ, List, [], ◌∷◌, ◌++◌, length, min, take, drop, zero, suc, refl, sym, ap, ap₂, ◌∙◌, arith, Ordering, ◌⊎◌, inl, inr}
+use Rattle.std.proofs.Common.{◌≡◌, ◌≢◌, ◌<◌, ◌≤◌, ℕ, ℤ, List, [], ◌∷◌, ◌++◌, length, min, take, drop, zero, suc, refl, sym, ap, ap₂, ◌∙◌, arith, Bool, true, false, not, nat_lt, ◌&&◌, ◌||◌, ◌==◌, Ordering, ◌⊎◌, inl, inr}
 use Rattle.std.specs.Cmp.Lexicographic.{slice_cmp}
-use Rattle.std.specs.Ordering.{int_cmp, nat_cmp, ordering_then}
+use Rattle.std.specs.Ordering.{int_cmp, is_eq, nat_cmp, ordering_then}
 use Rattle.std.specs.declared.cmp.Ordering.TheVariants.{Less, Equal, Greater}
 use Rattle.std.proofs.lemmas.Bool.{cases_lt}
 use Rattle.std.proofs.lemmas.Bool.Decides.{nat_tests}
+use Rattle.std.proofs.lemmas.Map.Text.{is_eq-slice_cmp}
 use Rattle.bd_value.specs.Order.{bytes_cmp, cmp}
 use Rattle.bd_value.specs.Tree.{Tree, date, int32, int64, leaf, object_id, symbol, text}
-use Rattle.bd_front.specs.Front.{front_of, front_of_text, padded}
+use Rattle.bd_front.specs.Front.{front_of, front_of_text, is_same_text_front, padded, texts_tell}
 use Rattle.bd_front.specs.declared.front.Front.{Front}
 use Rattle.bd_front.specs.declared.front.Front.TheVariants as fronts
 use Rattle.bd_front.specs.declared.front.TextFront.{TextFront}
@@ -131,6 +132,42 @@ fronts_told a b o is short s t e f =
     let order : o ≡ ordering_then (slice_cmp nat_cmp (padded 15 s) (padded 15 t)) (nat_cmp (min (length s) 16) (min (length t) 16)) =
     is ∙ ap₂ (λ (g h : TextFront). ordering_then (slice_cmp nat_cmp g.bytes h.bytes) (nat_cmp g.length h.length)) e f in
     texts_decided o s t order (λ g. let l : a.length < 16 = short g in omega arith)
+
+-- when two fronts of texts tell an order
+both_tied : (o p : Ordering) → is_eq (ordering_then o p) ≡ (is_eq o && is_eq p)
+both_tied Less p = refl
+both_tied Equal p = refl
+both_tied Greater p = refl
+
+tied_numbers : (m n : ℕ) → is_eq (nat_cmp m n) ≡ (m == n)
+tied_numbers m n = grind (arith, nat_tests)
+
+tied_fronts : (a b : TextFront) (o : Ordering) → o ≡ ordering_then (slice_cmp nat_cmp a.bytes b.bytes) (nat_cmp a.length b.length)
+    → is_eq o ≡ is_same_text_front a b
+tied_fronts a b o is =
+    ap is_eq is ∙ both_tied (slice_cmp nat_cmp a.bytes b.bytes) (nat_cmp a.length b.length)
+    ∙ ap₂ ◌&&◌ (is_eq-slice_cmp a.bytes b.bytes) (tied_numbers a.length b.length)
+
+pub tied_tell : (a b : TextFront) → Equal ≡ ordering_then (slice_cmp nat_cmp a.bytes b.bytes) (nat_cmp a.length b.length)
+    → nat_lt a.length 16 ≡ texts_tell a b
+tied_tell a b is = or_not (nat_lt a.length 16) (is_same_text_front a b) (tied_fronts a b Equal is) where
+  or_not : (x y : Bool) → true ≡ y → x ≡ (x || not y)
+  or_not false true e = refl
+  or_not true true e = refl
+  or_not x false e = absurd cc
+
+pub others_tell : (a b : TextFront) (o : Ordering) → o ≡ ordering_then (slice_cmp nat_cmp a.bytes b.bytes) (nat_cmp a.length b.length)
+    → o ≢ Equal → true ≡ texts_tell a b
+others_tell a b o is unequal = or_true (nat_lt a.length 16) (is_same_text_front a b) (untied o unequal (tied_fronts a b o is)) where
+  or_true : (x y : Bool) → y ≡ false → true ≡ (x || not y)
+  or_true false false e = refl
+  or_true true y e = refl
+  or_true x true e = absurd cc
+
+  untied : (q : Ordering) {y : Bool} → q ≢ Equal → is_eq q ≡ y → y ≡ false
+  untied Less h e = sym e
+  untied Equal h e = absurd (h refl)
+  untied Greater h e = sym e
 
 then_equal : (o : Ordering) → ordering_then o Equal ≡ o
 then_equal Less = refl

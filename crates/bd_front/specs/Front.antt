@@ -1,6 +1,7 @@
 -- The front of a key, by which most keys compare: of a text its first 15 bytes and its length, of a number,
 -- a date or an ObjectId all of it.
-use Rattle.std.specs.Prelude.{ℕ, zero, suc, List, [], ◌∷◌, length, min, Option, Some, None}
+use Rattle.std.specs.Prelude.{ℕ, zero, suc, nat_lt, Bool, true, false, not, ◌==◌, ◌&&◌, ◌||◌, List, [], ◌∷◌, length, min, Option, Some, None}
+use Rattle.std.specs.Str.{bytes_eq}
 use Rattle.bd_value.specs.OwnPart.{Own, own, own_code, own_of}
 use Rattle.bd_value.specs.Tree.{Scalar, Tree, date, int32, int64, object_id, symbol, text}
 use Rattle.bd_raw.specs.Sound.{stands}
@@ -42,3 +43,18 @@ front_of_own None = fronts.Other
 
 abbrev pub front_of : Tree → Front
 front_of t = front_of_own (own_of t)
+
+abbrev pub is_same_text_front : TextFront → TextFront → Bool
+is_same_text_front a b = bytes_eq a.bytes b.bytes && (a.length == b.length)
+
+-- two fronts of texts tell an order, unless they are one front of longer texts
+abbrev pub texts_tell : TextFront → TextFront → Bool
+texts_tell a b = nat_lt a.length 16 || not (is_same_text_front a b)
+
+-- two fronts of numbers, of dates and of ids always do, and no others
+abbrev pub tells_order : Front → Front → Bool
+tells_order (fronts.Text a) (fronts.Text b) = texts_tell a b
+tells_order (fronts.Number m) (fronts.Number n) = true
+tells_order (fronts.Date m) (fronts.Date n) = true
+tells_order (fronts.Id a) (fronts.Id b) = true
+tells_order _ _ = false

@@ -27,6 +27,16 @@ impl Component {
             index: index_of(name),
         })
     }
+
+    /// The same component once more. It fails for want of memory alone.
+    pub(crate) fn try_copy(&self, alloc: Global) -> Result<Self, NoMemory>
+        ensures { IfOk result (λ c. string_bytes c.name ≡ string_bytes self.now.name) }
+    {
+        Ok(Component {
+            name: String::from_str(alloc, self.name.as_str())?,
+            index: self.index,
+        })
+    }
 }
 
 fn are_digits(bytes: &[u8]) -> bool

@@ -46,6 +46,16 @@ impl Path {
         Ok(Path { text, components })
     }
 
+    /// The same path once more, with no text read again. It fails for want of memory alone.
+    pub fn try_copy(&self, alloc: Global) -> Result<Path, NoMemory>
+        ensures names { IfOk result (λ p. names_of p ≡ names_of self.now) }
+        ensures text { IfOk result (λ p. string_bytes p.text ≡ string_bytes self.now.text) }
+    {
+        let components = copied(alloc, &self.components)?;
+        let text = String::from_str(alloc, self.text.as_str())?;
+        Ok(Path { text, components })
+    }
+
     /// How many components it has: 1 to 100. It takes no memory.
     pub fn len(&self) -> u32
         ensures { result ≡ length (names_of self.now) }
@@ -104,4 +114,15 @@ fn named(alloc: Global, names: &[&str]) -> Result<Vec<Component>, NoMemory>
         components.push(Component::new(alloc, name)?)?;
     }
     Ok(components)
+}
+
+/// The same components once more. It fails for want of memory alone.
+fn copied(alloc: Global, components: &[Component]) -> Result<Vec<Component>, NoMemory>
+    ensures { IfOk result (λ v. component_names v.items ≡ component_names components.now) }
+{
+    let mut copies = Vec::new(alloc);
+    for component in components {
+        copies.push(component.try_copy(alloc)?)?;
+    }
+    Ok(copies)
 }

@@ -13,6 +13,16 @@ fn cuts_a_path(rt: HostRuntime) -> Result<(), Fail> {
 }
 
 #[test]
+fn copies_a_path(rt: HostRuntime) -> Result<(), Fail> {
+    let alloc = rt.alloc();
+    let copy = Path::parse(alloc, "a.7")?.try_copy(alloc)?;
+    assert!(rt; copy.len() == 2 && copy.as_str() == "a.7");
+    assert!(rt; copy.components()[0].name.as_str() == "a" && copy.components()[0].index.is_none());
+    assert!(rt; copy.components()[1].name.as_str() == "7" && copy.components()[1].index == Some(7));
+    Ok(())
+}
+
+#[test]
 fn refuses_empty_components(rt: HostRuntime) -> Result<(), Fail> {
     let alloc = rt.alloc();
     for text in ["", ".", "a..b", ".a", "a.", "a.b..c"] {

@@ -1,5 +1,5 @@
 //! The batch that is asked for, shown.
-ghost use Rattle.std.specs.Prelude.{◌≡◌, ◌++◌, ◌≤◌, ◌⊎◌, IfErr, IfOk, MatchOption, OnOk, Some, codes, length, option_map, string_bytes, true};
+ghost use Rattle.std.specs.Prelude.{◌≡◌, ◌++◌, ◌≤◌, ◌⊎◌, IfErr, IfOk, MatchOption, OnOk, Some, codes, length, option_map, true};
 ghost use Rattle.bd_answer.specs.Session.{OpenCursor, cursor_of};
 ghost use Rattle.bd_answer.specs.SessionLaws.{new_state};
 ghost use Rattle.bd_bson.specs.Collection.{bytes_of, documents};
@@ -75,21 +75,9 @@ fn choose(alloc: Global, session: &mut Session, index: Option<Path>) -> Result<C
     let Some(path) = index else {
         return Ok(Choice::Scan);
     };
-    let copy = copy_of(alloc, &path)?;
+    let copy = path.try_copy(alloc)?;
     session.create_index(path)?;
     Ok(Choice::Index(copy))
-}
-
-/// The same path once more. It fails for want of memory alone.
-fn copy_of(alloc: Global, path: &Path) -> Result<Path, Refused>
-    ensures copy { IfOk result (λ copy. string_bytes copy.text ≡ string_bytes path.now.text) }
-    ensures fault { IfErr result (λ refused. refused ≡ no_memory) }
-{
-    // The text of a path is one, so that nothing but memory is wanted.
-    let Ok(copy) = Path::parse(alloc, path.as_str()) else {
-        return Err(Refused::NoMemory);
-    };
-    Ok(copy)
 }
 
 /// Shows the first batch of a cursor.

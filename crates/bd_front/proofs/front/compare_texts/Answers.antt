@@ -1,4 +1,4 @@
-use Rattle.std.proofs.Common.{◌≡◌, ◌∙◌, ap₂, refl, sym, ℕ, List, Bool, true, false, Ordering, IfSome}
+use Rattle.std.proofs.Common.{◌≡◌, ◌∙◌, ap₂, refl, sym, ℕ, List, Bool, true, false, Ordering, IfSome, is_some}
 use Rattle.std.specs.Bool.{then_some}
 use Rattle.std.specs.Cmp.Lexicographic.{slice_cmp}
 use Rattle.std.specs.Ordering.{nat_cmp, ordering_then}
@@ -7,12 +7,16 @@ use Rattle.std.proofs.Math.Dec.{ltb}
 use Rattle.std.proofs.lemmas.Bool.{ltb-true}
 use Rattle.bd_value.specs.Order.{bytes_cmp}
 use Rattle.bd_front.specs.Front.{front_of_text}
-use Rattle.bd_front.proofs.FrontLemmas.{fronts_told}
+use Rattle.bd_front.proofs.FrontLemmas.{fronts_told, others_tell, tied_tell}
 use Rattle.bd_front.proofs.front.compare_texts.Goals as goal
 
 told : (b : Bool) (P : Ordering → Type 0) → (b ≡ true → P Equal) → IfSome (then_some b Equal) P
 told true P h = h refl
 told false P h = tt
+
+is_told : (b : Bool) → is_some (then_some b Equal) ≡ b
+is_told true = refl
+is_told false = refl
 
 pub returns-in-Equal : goal.returns-in-Equal
 returns-in-Equal c =
@@ -20,7 +24,10 @@ returns-in-Equal c =
     let b = c.args.b in
     let order : Equal ≡ ordering_then (slice_cmp nat_cmp a.bytes b.bytes) (nat_cmp a.length b.length) =
     sym c.in-Equal.is ∙ c.then.ensures ∙ ap₂ ordering_then c.cmp.ensures c.cmp-2.ensures in
-    rw c.then_some.ensures (told (ltb a.length 16) (λ o. (s t : List ℕ) → a ≡ front_of_text s → b ≡ front_of_text t → o ≡ bytes_cmp s t) (λ few. fronts_told a b Equal order (λ e. ltb-true a.length 16 few)))
+    rw c.then_some.ensures (record {
+      order = told (ltb a.length 16) (λ o. (s t : List ℕ) → a ≡ front_of_text s → b ≡ front_of_text t → o ≡ bytes_cmp s t) (λ few. fronts_told a b Equal order (λ e. ltb-true a.length 16 few));
+      told = is_told (ltb a.length 16) ∙ tied_tell a b order;
+    })
 
 pub returns-in_default : goal.returns-in_default
 returns-in_default c =
@@ -28,4 +35,7 @@ returns-in_default c =
     let b = c.args.b in
     let order : c.then.result ≡ ordering_then (slice_cmp nat_cmp a.bytes b.bytes) (nat_cmp a.length b.length) =
     c.then.ensures ∙ ap₂ ordering_then c.cmp.ensures c.cmp-2.ensures in
-    fronts_told a b c.then.result order (λ e. absurd (c.in_default.not-Equal e))
+    record {
+      order = fronts_told a b c.then.result order (λ e. absurd (c.in_default.not-Equal e));
+      told = others_tell a b c.then.result order c.in_default.not-Equal;
+    }
