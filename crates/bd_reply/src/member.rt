@@ -5,7 +5,7 @@ ghost use Rattle.std.specs.Io.{StartsWith};
 ghost use Rattle.bd_value.specs.Tree.{doc, fields_of};
 ghost use Rattle.bd_bson.specs.Collection.{documents};
 ghost use Rattle.bd_bson.specs.Documents.{document_at, documents_at};
-ghost use Rattle.bd_extjson.specs.Text.{member, text};
+ghost use Rattle.bd_extjson.specs.Text.{member, quoted, text};
 ghost use Rattle.bd_reply.specs.MemberView.{field_value, member_pair};
 ghost use Rattle.bd_reply.specs.Reply.{documents_value, truth_value};
 
@@ -70,8 +70,8 @@ fn write_field(value: Field<'_>, out: &mut Vec<u8>) -> Result<(), NoMemory>
     match value {
         Field::Null => out.extend_from_slice(b"null"),
         Field::Truth(truth) => write_truth(truth, out),
-        Field::Number(number) => write_wrapped(b"{\"$numberInt\":\"", u64::from(number), out),
-        Field::Count(count) => write_wrapped(b"{\"$numberLong\":\"", count, out),
+        Field::Number(number) => write_wrapped(b"{\"$numberInt\":", u64::from(number), out),
+        Field::Count(count) => write_wrapped(b"{\"$numberLong\":", count, out),
         Field::Text(text) => write_string(text, out),
         Field::Names(names) => write_path(names, out),
         Field::Documents(dump, places) => write_documents(dump, places, out),
@@ -91,15 +91,17 @@ fn write_truth(truth: bool, out: &mut Vec<u8>) -> Result<(), NoMemory>
     }
 }
 
-/// Appends what leads to the digits of a number, the number, and what ends them.
+/// Appends what leads to a number, and the number as a string.
 #[tactic(auto, using(bd_value::proofs::FrontLemmas::fronts))]
 fn write_wrapped(lead: &[u8], number: u64, out: &mut Vec<u8>) -> Result<(), NoMemory>
-    ensures ok { OnOk result (out.new.items ≡ out.old.items ++ (lead.now ++ (decimal number ++ codes "\"}"))) }
+    ensures ok { OnOk result (out.new.items ≡ out.old.items ++ (lead.now ++ (quoted (decimal number) ++ 125 ∷ []))) }
     ensures err { OnErr result (StartsWith out.new.items out.old.items) }
 {
     out.extend_from_slice(lead)?;
+    out.push(b'"')?;
     write_number(number, out)?;
-    out.extend_from_slice(b"\"}")
+    out.extend_from_slice(b"\"}")?;
+    Ok(())
 }
 
 /// Appends the documents of a dump with these numbers, as an array. A number after the last document has none.
