@@ -158,7 +158,7 @@ pub record Opening (bytes : List ℕ) (ds : List Doc) (call : Call) (id : ℕ) (
   pub earlier : List Call
   pub opens_it : machine.reply (state_after_all new_state earlier) call ≡ opened id
   pub shown : batches_shown bytes ds id lines rs ≡ map (shown_batch_reply ds)
-    (batches_to id (calls_in bytes ds lines) (replies (state_after (state_after_all new_state earlier) call) (calls_in bytes ds lines)))
+      (batches_to id (calls_in bytes ds lines) (replies (state_after (state_after_all new_state earlier) call) (calls_in bytes ds lines)))
 
 opening_of : (bytes : List ℕ) (ds : List Doc) (call : Call) (id : ℕ) (lines : List (List ℕ)) (rs : List LineReply)
     → OpensInTalk bytes ds call id lines rs → Opening bytes ds call id lines rs
@@ -174,7 +174,7 @@ opening_of bytes ds call id lines rs o =
       earlier = cs;
       opens_it = ap (λ (x : State). machine.reply x call) (sym s_is) ∙ opens_only ds (machine.reply o.before call) id told;
       shown = batches_of_talk bytes ds id o.after lines rs o.end o.goes_on
-        ∙ ap (λ (x : State). map (shown_batch_reply ds) (batches_to id (calls_in bytes ds lines) (replies x (calls_in bytes ds lines)))) after_is;
+          ∙ ap (λ (x : State). map (shown_batch_reply ds) (batches_to id (calls_in bytes ds lines) (replies x (calls_in bytes ds lines)))) after_is;
     }
 
 pub talks_give_the_answer : TalksGiveTheAnswer

@@ -15,12 +15,15 @@
 //! - `call_of`: the call of a session that a command is: `specs/CallOf.antt`, and `specs/CallView.antt` for `call` and
 //!   `call_fault`.
 //! - `perform`: a call made.
+//! - `laws`: what always holds of a talk: `specs/TalkLaws.antt`.
 #![tactic(auto)]
 
 mod call;
 mod call_fault;
 mod call_of;
+mod laws;
 mod perform;
 mod service;
 
+pub use laws::{talks_keep_to_the_answer, texts_are_talks};
 pub use service::Service;

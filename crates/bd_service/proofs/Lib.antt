@@ -1,0 +1,3 @@
+pub mod RefusedLemmas
+pub mod TalkLemmas
+pub mod ServedLemmas
