@@ -5,7 +5,7 @@ mod gathering;
 
 use bd_cli::{Status, report};
 use bd_command_line::{Order, WordsFault, parse_words};
-use bd_device::{MemoryInput, SystemInput, SystemOutput, write_all};
+use bd_device::{SystemInput, SystemOutput, write_all};
 use gathering::{Fate, Gathered, Gathering, TiedError, TiedInput, hand_on};
 use std::cell::RefCell;
 use std::io::{BufReader, Read, Stdout};
@@ -47,8 +47,11 @@ fn run<F: Read + Drop>(rt: &HostRuntime, order: &Order, reader: F, gathering: &W
         return refuse(rt, &WordsFault::NoMemory, gathering);
     };
     let mut file = SystemInput::new(file);
-    // No command that is there yet reads commands.
-    let mut commands = MemoryInput::new(&[], 1, None);
+    // They are read in blocks as it is.
+    let mut commands = SystemInput::new(TiedInput {
+        reader: rt.reader(),
+        gathering,
+    });
     let writer = rt.stderr();
     let mut out = SystemOutput::new(Gathered { gathering });
     let mut err = SystemOutput::new(TiedError { writer, gathering });
@@ -82,7 +85,8 @@ fn obey(rt: &HostRuntime, gathering: &Waiting) -> Status {
     let (Order::Dump { file }
     | Order::Check { file }
     | Order::Pack { file }
-    | Order::Find { file, .. }) = &order;
+    | Order::Find { file, .. }
+    | Order::Serve { file }) = &order;
     if file.as_str() == "-" {
         return run(rt, &order, rt.reader(), gathering);
     }
