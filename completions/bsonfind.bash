@@ -9,6 +9,12 @@ _bsonfind_files() {
 			COMPREPLY+=("$name")
 		fi
 	done < <(compgen -f -- "$word")
+}
+
+# The same, and the hyphen of the standard input.
+_bsonfind_inputs() {
+	local ending=$1 word=$2
+	_bsonfind_files "$ending" "$word"
 	if [[ -z $word || $word == - ]]; then
 		COMPREPLY+=(-)
 	fi
@@ -19,15 +25,16 @@ _bsonfind() {
 	local options='--query --sort --skip --limit --batch --index --after'
 	COMPREPLY=()
 	if ((COMP_CWORD == 1)); then
-		mapfile -t COMPREPLY < <(compgen -W 'dump check pack find --help' -- "$word")
+		mapfile -t COMPREPLY < <(compgen -W 'dump check pack find serve --help' -- "$word")
 		return
 	fi
 	if [[ $command != find && $before != -- ]] && ((COMP_CWORD > 2)); then
 		return
 	fi
 	case $command in
-	dump | check) _bsonfind_files .bson "$word" ;;
-	pack) _bsonfind_files '' "$word" ;;
+	dump | check) _bsonfind_inputs .bson "$word" ;;
+	pack) _bsonfind_inputs '' "$word" ;;
+	serve) _bsonfind_files .bson "$word" ;; # the commands come from standard input
 	find)
 		case $before in
 		--query | --sort | --skip | --limit | --batch | --index | --after) ;; # a filter, a sort, numbers, a path, a token
@@ -35,7 +42,7 @@ _bsonfind() {
 			if [[ $word == -* && $word != - ]]; then
 				mapfile -t COMPREPLY < <(compgen -W "$options" -- "$word")
 			else
-				_bsonfind_files .bson "$word"
+				_bsonfind_inputs .bson "$word"
 				# shellcheck disable=SC2206 # the options are words
 				[[ -n $word && $word != - ]] || COMPREPLY+=($options)
 			fi
