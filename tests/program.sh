@@ -975,6 +975,190 @@ expect 'a large dump in little memory' 0 819200 '819200 objects found'
 large 32 | (ulimit -v 49152 && run check -)
 expect 'a large check in little memory' 0 '' '819200 documents, 0 faulty'
 
+# A session. A command is a line of standard input, and its reply one of standard output. tests/talk.py talks with one.
+
+# Each command, and below it the reply.
+cat >talk.txt <<'END'
+{"createIndex":"a"}
+{"ok":true,"entries":{"$numberLong":"3"},"multikey":true}
+{"explain":{"a":{"$gte":5}}}
+{"ok":true,"plan":"index","index":"a","entries":{"$numberLong":"3"},"documents":{"$numberLong":"2"},"matches":{"$numberLong":"2"}}
+{"find":{"a":{"$gte":5}}}
+{"ok":true,"cursor":{"$numberLong":"1"}}
+{"getMore":1,"batch":0}
+{"ok":true,"documents":[],"end":false,"token":null}
+{"getMore":2,"batch":1}
+{"ok":false,"layer":"session","number":{"$numberInt":"6"},"text":"no such cursor"}
+{"getMore":1}
+{"ok":false,"layer":"command","number":{"$numberInt":"2"},"text":"missing field"}
+{"killCursor":1}
+{"ok":true}
+END
+sed -n 'p;n' talk.txt >commands
+sed -n 'n;p' talk.txt >replies
+printf '{"a":[5,7,5]}\n{"a":5}\n' | "$program" pack - >several.bson 2>err
+
+run serve several.bson <commands
+expect 'a session' 0 @replies ''
+
+dd if=commands bs=1 2>/dev/null | run serve several.bson
+expect 'commands through a pipe, one byte at a time' 0 @replies ''
+
+printf '%s' "$(cat commands)" | run serve several.bson
+expect 'a last command without its newline' 0 @replies ''
+
+{
+	printf '\n \t\r\n\r\n'
+	while read -r command; do
+		printf ' %s \r\n \n\t\t\n\n' "$command"
+	done <commands
+	printf ' \t\r'
+} | run serve several.bson
+expect 'lines of white space passed over between commands' 0 @replies ''
+
+for text in '' '\n' ' \t\r' '\r\n\n \n\t\r\n'; do
+	# shellcheck disable=SC2059 # the text is the form
+	printf "$text" | run serve several.bson
+	expect "no command but white space: $text" 0 '' ''
+done
+
+printf '\013\n\377\n{"a":"\377"}\n\000\n' | run serve several.bson
+# shellcheck disable=SC2016 # names again
+expect 'lines that are no text' 0 '{"ok":false,"layer":"json","number":{"$numberInt":"1"},"text":"not JSON","at":{"$numberLong":"0"}}
+{"ok":false,"layer":"json","number":{"$numberInt":"1"},"text":"not JSON","at":{"$numberLong":"0"}}
+{"ok":false,"layer":"json","number":{"$numberInt":"1"},"text":"not JSON","at":{"$numberLong":"6"}}
+{"ok":false,"layer":"json","number":{"$numberInt":"1"},"text":"not JSON","at":{"$numberLong":"0"}}' ''
+
+# The first two documents of five, and by another run those that follow. A token of either command is one for the other.
+token=$("$tokens" five.bson 2 3 --sort '{"a":-1}')
+# shellcheck disable=SC2016 # names again
+first='{"ok":true,"cursor":{"$numberLong":"1"}}'
+printf '{"find":{},"sort":{"a":-1}}\n{"getMore":1,"batch":2}\n' | run serve five.bson
+# shellcheck disable=SC2016 # names again
+expect 'two documents of a session' 0 "$first"'
+{"ok":true,"documents":[{"a":{"$numberInt":"4"}},{"a":{"$numberInt":"3"}}],"end":false,"token":"'"$token"'"}' ''
+
+printf '{"createIndex":"a"}\n{"resume":"%s","sort":{"a":-1}}\n{"getMore":1,"batch":5}\n' "$token" | run serve five.bson
+# shellcheck disable=SC2016 # names again
+expect 'the rest by another session' 0 '{"ok":true,"entries":{"$numberLong":"5"},"multikey":false}
+'"$first"'
+{"ok":true,"documents":[{"a":{"$numberInt":"2"}},{"a":{"$numberInt":"1"}},{"a":{"$numberInt":"0"}}],"end":true,"token":"'"$("$tokens" five.bson 5 0 --sort '{"a":-1}')"'"}' ''
+
+run find five.bson --sort '{"a":-1}' --after "$token" --batch 1
+# shellcheck disable=SC2016 # names again
+expect 'a token of a session for find' 0 '{"a":{"$numberInt":"2"}}' "1 documents, more, token $("$tokens" five.bson 3 2 --sort '{"a":-1}')"
+
+token=$("$tokens" int32.bson 1 0)
+printf '{"resume":"%s"}\n{"getMore":1,"batch":1}\n' "$token" | run serve -- -x
+expect 'a token of find for a session' 0 "$first"'
+{"ok":true,"documents":[],"end":true,"token":"'"$token"'"}' ''
+
+# So many spaces.
+spaces() {
+	dd if=/dev/zero bs="$1" count=1 2>/dev/null | tr '\000' ' '
+}
+
+{ printf '{"find":{}}' && spaces 16777205 && printf '\n{"killCursor":1}\n'; } | run serve five.bson
+expect 'a command of 16,777,216 bytes' 0 "$first"'
+{"ok":true}' ''
+
+{ printf '{"find":{}}' && spaces 16777205 && printf '\r\n{"killCursor":1}\n'; } | run serve five.bson
+expect 'a command of one byte more' 1 '' 'bsonfind: input too long'
+
+{ printf '{"find":{}}\n' && spaces 16777216 && printf '\n{"killCursor":1}\n' && spaces 16777217; } | run serve five.bson
+expect 'replies, and then white space that is too long' 1 "$first"'
+{"ok":true}' 'bsonfind: input too long'
+
+{ printf '{"find":{}}\n{"killCursor":1}' && spaces 16777217; } >long_line
+"$program" serve five.bson <long_line >out 2>&1
+echo $? >status
+: >err
+expect 'both into one file' 1 "$first"'
+bsonfind: input too long' ''
+
+# 64 MB of commands in 48 MiB of memory.
+# shellcheck disable=SC3045 # each sh that is in use has -v
+{
+	lines=64
+	while [ "$lines" -gt 0 ]; do
+		spaces 1000000
+		echo '{"find":{}}'
+		lines=$((lines - 1))
+	done
+	printf '{"find":{}}\n{"killCursor":64}\n'
+} | (ulimit -v 49152 && run serve five.bson)
+tail -n 3 out >ends
+mv ends out
+# shellcheck disable=SC2016 # names again
+expect 'many long commands in little memory' 0 '{"ok":true,"cursor":{"$numberLong":"64"}}
+{"ok":false,"layer":"session","number":{"$numberInt":"5"},"text":"too many cursors"}
+{"ok":true}' ''
+
+"$program" serve five.bson >live 2>err <pipe &
+exec 3>pipe
+echo '{"find":{}}' >&3
+await_lines live 1
+cp live out
+exec 3>&-
+wait $!
+echo $? >status
+expect 'a reply before the program waits for more' 0 "$first" ''
+
+# Where there is no dump no command is read: all are there for the next program.
+{
+	run serve one_bad.bson
+	cat >>out
+} <commands
+expect 'a session over a dump with a fault' 1 @commands 'bsonfind: document 1, byte 19, path "s": bad string length'
+
+{
+	run serve .
+	cat >>out
+} <commands
+expect 'a session over a directory' 1 @commands 'bsonfind: cannot read'
+
+{
+	run serve missing.bson
+	cat >>out
+} <commands
+expect 'a session over a file that is not there' 1 @commands 'bsonfind: cannot open missing.bson'
+
+printf '{"find":{}}\n{"getMore":1,"batch":1}\n' | run serve /dev/null
+expect 'a session over no documents' 0 "$first"'
+{"ok":true,"documents":[],"end":true,"token":null}' ''
+
+run serve five.bson <.
+expect 'commands of a directory' 1 '' 'bsonfind: cannot read'
+
+"$program" serve several.bson <commands >/dev/full 2>err
+echo $? >status
+: >out
+expect 'a session, and a full standard output' 1 '' 'bsonfind: cannot write'
+
+"$program" serve several.bson <commands >out 2>/dev/full
+echo $? >status
+: >err
+expect 'a session, and a full standard error' 0 @replies ''
+
+"$program" serve five.bson <long_line >out 2>/dev/full
+echo $? >status
+: >err
+expect 'a line that is too long, and a full standard error' 1 "$first" ''
+
+: >ended
+{
+	"$program" serve five.bson <pipe >/dev/full 2>err
+	echo $? >ended
+} &
+exec 3>pipe
+echo '{"find":{}}' >&3
+await_lines ended 1
+cp ended status
+exec 3>&-
+wait $!
+: >out
+expect 'a full standard output ends a session before it waits for more' 1 '' 'bsonfind: cannot write'
+
 # Devices that fail.
 
 run dump missing.bson
@@ -1148,6 +1332,12 @@ expect 'pack without a file' 2 '' "$usage"
 
 run find --query '{"a":1}'
 expect 'find without a file' 2 '' "$usage"
+
+for words in serve 'serve -' 'serve -- -' 'serve int32.bson int32.bson' 'serve int32.bson --index a' 'serve --query {} int32.bson'; do
+	# shellcheck disable=SC2086 # they are words
+	run $words <commands
+	expect "the words $words" 2 '' "$usage"
+done
 
 run find int32.bson --query '{}' --query '{}'
 expect 'two queries' 2 '' "$usage"

@@ -11,4 +11,6 @@ mod examples;
 #[cfg(test)]
 mod run_tests;
 #[cfg(test)]
+mod serve_tests;
+#[cfg(test)]
 mod words_tests;

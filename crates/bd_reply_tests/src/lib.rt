@@ -1,0 +1,9 @@
+//! Tests of `bd_reply`, over its public calls: replies and their texts.
+#![tactic(auto)]
+
+#[cfg(test)]
+mod examples;
+#[cfg(test)]
+mod reply_tests;
+#[cfg(test)]
+mod samples;
