@@ -4,3 +4,4 @@ pub mod FindLemmas
 pub mod OutcomeLemmas
 pub mod OutputLemmas
 pub mod PackLemmas
+pub mod ServeLemmas
