@@ -1,15 +1,15 @@
 # Completion of bsonfind in bash.
 
-# The names of files that begin with the word, of all or of those that end so.
+# The names of files that begin with the word, of all or of those that end so; and standard input, unless a third word is empty.
 _bsonfind_files() {
-	local ending=$1 word=$2 name
+	local ending=$1 word=$2 input=${3--} name
 	compopt -o filenames 2>/dev/null
 	while IFS= read -r name; do
 		if [[ -d $name || $name == *"$ending" ]]; then
 			COMPREPLY+=("$name")
 		fi
 	done < <(compgen -f -- "$word")
-	if [[ -z $word || $word == - ]]; then
+	if [[ -n $input && (-z $word || $word == -) ]]; then
 		COMPREPLY+=(-)
 	fi
 }
@@ -19,7 +19,7 @@ _bsonfind() {
 	local options='--query --sort --skip --limit --batch --index --after'
 	COMPREPLY=()
 	if ((COMP_CWORD == 1)); then
-		mapfile -t COMPREPLY < <(compgen -W 'dump check pack find --help' -- "$word")
+		mapfile -t COMPREPLY < <(compgen -W 'dump check pack find serve --help' -- "$word")
 		return
 	fi
 	if [[ $command != find && $before != -- ]] && ((COMP_CWORD > 2)); then
@@ -28,6 +28,7 @@ _bsonfind() {
 	case $command in
 	dump | check) _bsonfind_files .bson "$word" ;;
 	pack) _bsonfind_files '' "$word" ;;
+	serve) _bsonfind_files .bson "$word" '' ;;
 	find)
 		case $before in
 		--query | --sort | --skip | --limit | --batch | --index | --after) ;; # a filter, a sort, numbers, a path, a token

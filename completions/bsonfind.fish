@@ -7,13 +7,14 @@ function __bsonfind_command
 end
 
 complete -c bsonfind -f
-complete -c bsonfind -n 'not __bsonfind_command dump check pack find' -a dump -d 'print each document as a line'
-complete -c bsonfind -n 'not __bsonfind_command dump check pack find' -a check -d 'tell the first fault of each document'
-complete -c bsonfind -n 'not __bsonfind_command dump check pack find' -a pack -d 'turn lines of Extended JSON into a dump'
-complete -c bsonfind -n 'not __bsonfind_command dump check pack find' -a find -d 'print the documents that answer a query, in an order'
-complete -c bsonfind -n 'not __bsonfind_command dump check pack find' -s h -l help -d 'print the usage'
+complete -c bsonfind -n 'not __bsonfind_command dump check pack find serve' -a dump -d 'print each document as a line'
+complete -c bsonfind -n 'not __bsonfind_command dump check pack find serve' -a check -d 'tell the first fault of each document'
+complete -c bsonfind -n 'not __bsonfind_command dump check pack find serve' -a pack -d 'turn lines of Extended JSON into a dump'
+complete -c bsonfind -n 'not __bsonfind_command dump check pack find serve' -a find -d 'print the documents that answer a query, in an order'
+complete -c bsonfind -n 'not __bsonfind_command dump check pack find serve' -a serve -d 'reply to commands, a line each'
+complete -c bsonfind -n 'not __bsonfind_command dump check pack find serve' -s h -l help -d 'print the usage'
 complete -c bsonfind -n '__bsonfind_command dump check pack find' -a - -d 'standard input'
-complete -c bsonfind -n '__bsonfind_command dump check find' -k -a '(__fish_complete_suffix .bson)'
+complete -c bsonfind -n '__bsonfind_command dump check find serve' -k -a '(__fish_complete_suffix .bson)'
 complete -c bsonfind -n '__bsonfind_command pack' -F
 complete -c bsonfind -n '__bsonfind_command find' -l query -x -d 'the query, as {"age":{"$gte":18}}'
 complete -c bsonfind -n '__bsonfind_command find' -l sort -x -d 'the sort, as {"age":-1}'
