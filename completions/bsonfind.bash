@@ -1,15 +1,21 @@
 # Completion of bsonfind in bash.
 
-# The names of files that begin with the word, of all or of those that end so; and standard input, unless a third word is empty.
+# The names of files that begin with the word, of all or of those that end so.
 _bsonfind_files() {
-	local ending=$1 word=$2 input=${3--} name
+	local ending=$1 word=$2 name
 	compopt -o filenames 2>/dev/null
 	while IFS= read -r name; do
 		if [[ -d $name || $name == *"$ending" ]]; then
 			COMPREPLY+=("$name")
 		fi
 	done < <(compgen -f -- "$word")
-	if [[ -n $input && (-z $word || $word == -) ]]; then
+}
+
+# The same, and the hyphen of the standard input.
+_bsonfind_inputs() {
+	local ending=$1 word=$2
+	_bsonfind_files "$ending" "$word"
+	if [[ -z $word || $word == - ]]; then
 		COMPREPLY+=(-)
 	fi
 }
@@ -26,9 +32,9 @@ _bsonfind() {
 		return
 	fi
 	case $command in
-	dump | check) _bsonfind_files .bson "$word" ;;
-	pack) _bsonfind_files '' "$word" ;;
-	serve) _bsonfind_files .bson "$word" '' ;;
+	dump | check) _bsonfind_inputs .bson "$word" ;;
+	pack) _bsonfind_inputs '' "$word" ;;
+	serve) _bsonfind_files .bson "$word" ;; # the commands come from standard input
 	find)
 		case $before in
 		--query | --sort | --skip | --limit | --batch | --index | --after) ;; # a filter, a sort, numbers, a path, a token
@@ -36,7 +42,7 @@ _bsonfind() {
 			if [[ $word == -* && $word != - ]]; then
 				mapfile -t COMPREPLY < <(compgen -W "$options" -- "$word")
 			else
-				_bsonfind_files .bson "$word"
+				_bsonfind_inputs .bson "$word"
 				# shellcheck disable=SC2206 # the options are words
 				[[ -n $word && $word != - ]] || COMPREPLY+=($options)
 			fi

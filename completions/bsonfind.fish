@@ -11,7 +11,7 @@ complete -c bsonfind -n 'not __bsonfind_command dump check pack find serve' -a d
 complete -c bsonfind -n 'not __bsonfind_command dump check pack find serve' -a check -d 'tell the first fault of each document'
 complete -c bsonfind -n 'not __bsonfind_command dump check pack find serve' -a pack -d 'turn lines of Extended JSON into a dump'
 complete -c bsonfind -n 'not __bsonfind_command dump check pack find serve' -a find -d 'print the documents that answer a query, in an order'
-complete -c bsonfind -n 'not __bsonfind_command dump check pack find serve' -a serve -d 'reply to commands, a line each'
+complete -c bsonfind -n 'not __bsonfind_command dump check pack find serve' -a serve -d 'answer the commands of standard input over a dump'
 complete -c bsonfind -n 'not __bsonfind_command dump check pack find serve' -s h -l help -d 'print the usage'
 complete -c bsonfind -n '__bsonfind_command dump check pack find' -a - -d 'standard input'
 complete -c bsonfind -n '__bsonfind_command dump check find serve' -k -a '(__fish_complete_suffix .bson)'

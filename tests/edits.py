@@ -31,8 +31,11 @@ AT_MOST = 8
 ITEM = re.compile(r" *(?:pub(?:\([^)]*\))? )?(?:(?:const|unsafe|extern \"C\") )*(fn|impl|trait|mod)\b(.*)")
 # What a function's line says of another one: it says nothing of the function's own proof.
 OF_ANOTHER = re.compile(r"it calls|it passes|waits for|which (is|are) not proved|could not tell")
-# As `must_fail` of rt has it: a proof names what the edit took away, or cites such a proof.
-BY_NAME = re.compile(r"(note: )?(\./)?proofs/.*(has no field|is not in scope|has no `|was not admitted)")
+# A message of a proof that names what the edit took away, or that cites such a proof. As `must_fail` of rt has it, which reads
+# the first line of a message alone: the words may also begin a later line, and a proof of the same file "was rejected".
+MISSING = r"(has no field|is not in scope|has no `)"
+CITING = r"(was not admitted|which was rejected, (was|were) not checked)"
+BY_NAME = re.compile(rf"(note: )?(\./)?proofs/(.*({MISSING}|{CITING})|(.*\n)+ +{MISSING})")
 PLACE = re.compile(r"(?:note: )?(?:\./)?(\S+?):(\d+):\d+:")
 ONLY_BY_NAME = "refused, but only because a proof names what it took away"
 
@@ -313,9 +316,7 @@ class Trial:
         if unread or rtlib.STALE.search("\n".join(lines)):
             self.tell(edit, "BAD EDIT", seconds, unread or "the kept work of a library could not be used")
         elif status == 1 and lines[-1].startswith(("logic=not-proved", "only=")):
-            told = [it for it in lines if PLACE.match(it) and (": error" in it or it.startswith("note: "))]
-            is_named = bool(told) and all(map(BY_NAME.match, told))
-            self.tell(edit, ONLY_BY_NAME if is_named else "refused", seconds, "tried alone")
+            self.tell(edit, ONLY_BY_NAME if are_by_name(messages_of(lines)) else "refused", seconds, "tried alone")
         elif status == 0:
             self.tell(edit, "NOT REFUSED", seconds, "the crate is proved with it")
         else:
@@ -354,9 +355,25 @@ def is_refused(edit, said, lines):
 
 def is_by_name(edit, lines):
     """Whether all that is told of the functions' proofs is that they name what the edit took away."""
-    told = [it for it in lines if PLACE.match(it) and (": error" in it or it.startswith("note: "))]
-    own = [it for it in told if edit.owns_place(PLACE.match(it))]
-    return bool(own) and all(map(BY_NAME.match, own))
+    return are_by_name([it for it in messages_of(lines) if edit.owns_place(PLACE.match(it))])
+
+
+def are_by_name(messages):
+    return bool(messages) and all(map(BY_NAME.match, messages))
+
+
+def messages_of(lines):
+    """The errors and notes that tell a place, each with the lines that it goes on in, which are indented."""
+    found, is_open = [], False
+    for line in lines:
+        if PLACE.match(line):
+            is_open = ": error" in line or line.startswith("note: ")
+            found += [line] if is_open else []
+        elif is_open and line.startswith(" "):
+            found[-1] += "\n" + line
+        else:
+            is_open = False
+    return found
 
 
 def try_crate(crate, edits, jobs):
@@ -418,8 +435,19 @@ SELF_TEST = {
     "other_callee": ("src/tree.rt", "                Value::Array(items) => TreeParts::Items(items),", "                Value::Array(items) => TreeParts::Items(&items[..0]),", "refused"),
     "caller_with_answers": ("src/lookup.rt", "            if here == name {", "            if (here) == name {", "NOT REFUSED"),
     "caller_without_answers": ("src/nesting.rt", "    depth_of(Tree::Doc(document))", "    (depth_of(Tree::Doc(document)))", "NOT REFUSED"),
+    "name_gone": ("src/fits.rt", "                scalar_fits(own);", "                let _own = own;", ONLY_BY_NAME),
     "elsewhere": ("src/zeros.rt", "    text.as_bytes().contains(&0)", "    text.as_bytes().contains(&0) // nothing", "NOT REFUSED"),
 }
+
+# What a check tells, and whether it says only that a proof names what is gone.
+MESSAGES = [
+    (["./proofs/a/Answers.antt:3:5: error: `returns`: record `A` has no field `b`", "  the fields that can be named here are `c`"], True),
+    (["./proofs/a/Answers.antt:3:5: error: `returns`: record `A`", "  has no field `b`", "  the fields that can be named here are `c`"], True),
+    (["./proofs/a/Answers.antt:3:5: error: `f`: record `A` has no field `b`", "proofs/a/Answers.antt:7:1: error: 2 declarations that depend on `f`, which was rejected, were not checked: g, h"], True),
+    (["./proofs/a/Answers.antt:3:5: error: `returns`: this has type `A`", "  one side has no field", "fn a: not proved", "  has no field `b`"], False),
+    (["./proofs/a/Answers.antt:3:5: error: `returns`: record `A`", "  has no field `b`", "note: src/a.rt:7:1: it is not proved that it holds"], False),
+    (["./proofs/a/Answers.antt:3:5: note: large solution", "fn a: not proved"], False),
+]
 
 
 def self_test(crates):
@@ -433,6 +461,7 @@ def self_test(crates):
         is_one_round = len(rounds_of(edits)) == 1
         outcomes = try_crate(crate, edits, 1)
     wrong = [it for it, wanted in SELF_TEST.items() if outcomes[f"{crate.name}/{it}.edit"] != wanted[-1]]
+    wrong += [lines[0] for lines, wanted in MESSAGES if are_by_name(messages_of(lines)) != wanted]
     print(f"self-test: {'FAILED: ' + ' '.join(wrong) if wrong or not is_one_round else 'ok'}")
     return 1 if wrong or not is_one_round else 0
 

@@ -2,7 +2,7 @@
 use Rattle.std.specs.Prelude.{◌≡◌, ◌-◌, ◌++◌, ℕ, nat_lt, Bool, false, true, List, [], ◌∷◌, drop, length, map, option_map, string_bytes, Option, Some, None}
 use Rattle.std.specs.List.{filter, range_with_len}
 use Rattle.bd_answer.specs.Answer.{Asked, Mark, at_most}
-use Rattle.bd_answer.specs.Session.{Call, GivenBatch, IndexCounts, IndexMark, MarkedToken, OpenCursor, Reply, State, explain_call, has_index, make_call, most_indexes}
+use Rattle.bd_answer.specs.Session.{Call, GivenBatch, IndexCounts, IndexMark, MarkedToken, OpenCursor, Reply, State, explain_call, find_call, has_index, make_call, most_indexes, resume_call}
 use Rattle.bd_answer.specs.Session.{explained, foreign_token, gave, index_there, made, no_cursor, no_index, opened, out_of_range, token_place}
 use Rattle.bd_answer.specs.Session.{too_many_cursors, too_many_indexes}
 use Rattle.bd_bson.specs.declared.collection.Dump.{Dump}
@@ -94,6 +94,14 @@ with_index s i = record s { indexes = s.indexes ++ i ∷ [] }
 -- to explain a request to a dump
 abbrev pub explain_request : Dump → Request → Choice → Call
 explain_request dump r choice = explain_call (hint_of choice) (explanation_of (documents dump) r choice)
+
+-- to open a cursor on its answer
+abbrev pub find_request : Dump → Request → Choice → Call
+find_request dump r choice = find_call (query_of dump r) (hint_of choice)
+
+-- to open one on what follows a token in it
+abbrev pub resume_request : Dump → Request → Choice → Token → Call
+resume_request dump r choice t = resume_call (query_of dump r) (hint_of choice) (marked_token t)
 
 -- a call that is granted and takes memory
 abbrev pub TakesMemory : Reply → Type 0

@@ -47,13 +47,15 @@ pub struct Session {
 
 impl Session {
     ghost use Rattle.std.specs.Prelude.{◌≡◌, ◌≤◌, Bool, IfErr, IfOk, IsFalse, IsTrue, OnErr, OnOk, false, option_map, string_bytes, true};
-    ghost use Rattle.bd_answer.specs.Session.{IndexCounts, MarkedToken, drop_call, dropped, explained, find_call, gave, has_index, is_full, kill_call, killed, made, make_reply, next_call, open_reply, opened, reply, resume_call, state_after, with_open};
+    ghost use Rattle.bd_answer.specs.Session.{IndexCounts, MarkedToken, dropped, explained, gave, has_index, is_full, killed, made, opened, state_after, with_open};
+    ghost use Rattle.bd_answer.specs.Session.{drop_call, kill_call, make_reply, next_call, open_reply, reply};
     ghost use Rattle.bd_answer.specs.SessionLaws.{new_state};
     ghost use Rattle.bd_bson.specs.Collection.{documents};
     ghost use Rattle.bd_index.specs.Indexed.{IsIndexOf};
     ghost use Rattle.bd_plan.specs.Explanation.{index_counts, index_mark, told};
     ghost use Rattle.bd_sort.specs.Asked.{query_of};
-    ghost use Rattle.bd_cursor.specs.SessionView.{IsGranted, IsRefusedCall, dump_of, explain_request, given_batch, hint_of, made_counts, make_index, marked_token, path_mark, places_left, state_of, with_index};
+    ghost use Rattle.bd_cursor.specs.SessionView.{IsGranted, dump_of, given_batch, marked_token, path_mark, places_left, state_of, with_index};
+    ghost use Rattle.bd_cursor.specs.SessionView.{IsRefusedCall, explain_request, find_request, hint_of, made_counts, make_index, resume_request};
 
     /// A session with no index and no cursor. It takes no memory.
     pub fn new(alloc: Global, dump: Dump) -> Session
@@ -83,9 +85,12 @@ impl Session {
     /// In this order: `IndexThere` where the path has an index, sparse or not, `TooManyIndexes` where there are 16. `NoMemory`
     /// where no memory was given.
     pub fn create_index(&mut self, path: Path) -> Result<Made, Refused>
-        ensures made { IfOk result (λ m. reply (state_of self.old) (make_index false (dump_of self.old) path) ≡ made (made_counts m)) }
-        ensures after { OnOk result (state_of self.new ≡ state_after (state_of self.old) (make_index false (dump_of self.old) path)) }
-        ensures refused { IfErr result (IsRefusedCall (reply (state_of self.old) (make_index false (dump_of self.old) path))) }
+        ensures made { IfOk result
+            (λ m. reply (state_of self.old) (make_index false (dump_of self.old) path) ≡ made (made_counts m)) }
+        ensures after { OnOk result
+            (state_of self.new ≡ state_after (state_of self.old) (make_index false (dump_of self.old) path)) }
+        ensures refused { IfErr result
+            (IsRefusedCall (reply (state_of self.old) (make_index false (dump_of self.old) path))) }
         ensures unchanged { OnErr result (state_of self.new ≡ state_of self.old) }
         ensures dump { dump_of self.new ≡ dump_of self.old }
     {
@@ -99,9 +104,12 @@ impl Session {
     ///
     /// Those of `create_index`.
     pub fn create_sparse_index(&mut self, path: Path) -> Result<Made, Refused>
-        ensures made { IfOk result (λ m. reply (state_of self.old) (make_index true (dump_of self.old) path) ≡ made (made_counts m)) }
-        ensures after { OnOk result (state_of self.new ≡ state_after (state_of self.old) (make_index true (dump_of self.old) path)) }
-        ensures refused { IfErr result (IsRefusedCall (reply (state_of self.old) (make_index true (dump_of self.old) path))) }
+        ensures made { IfOk result
+            (λ m. reply (state_of self.old) (make_index true (dump_of self.old) path) ≡ made (made_counts m)) }
+        ensures after { OnOk result
+            (state_of self.new ≡ state_after (state_of self.old) (make_index true (dump_of self.old) path)) }
+        ensures refused { IfErr result
+            (IsRefusedCall (reply (state_of self.old) (make_index true (dump_of self.old) path))) }
         ensures unchanged { OnErr result (state_of self.new ≡ state_of self.old) }
         ensures dump { dump_of self.new ≡ dump_of self.old }
     {
@@ -114,9 +122,12 @@ impl Session {
     ///
     /// `NoIndex` where the path has none.
     pub fn drop_index(&mut self, path: &Path) -> Result<(), Refused>
-        ensures dropped { OnOk result (reply (state_of self.old) (drop_call (string_bytes path.now.text)) ≡ dropped) }
-        ensures after { OnOk result (state_of self.new ≡ state_after (state_of self.old) (drop_call (string_bytes path.now.text))) }
-        ensures refused { IfErr result (IsRefusedCall (reply (state_of self.old) (drop_call (string_bytes path.now.text)))) }
+        ensures dropped { OnOk result
+            (reply (state_of self.old) (drop_call (string_bytes path.now.text)) ≡ dropped) }
+        ensures after { OnOk result
+            (state_of self.new ≡ state_after (state_of self.old) (drop_call (string_bytes path.now.text))) }
+        ensures refused { IfErr result
+            (IsRefusedCall (reply (state_of self.old) (drop_call (string_bytes path.now.text)))) }
         ensures unchanged { OnErr result (state_of self.new ≡ state_of self.old) }
         ensures dump { dump_of self.new ≡ dump_of self.old }
     {
@@ -134,8 +145,11 @@ impl Session {
     ///
     /// `NoIndex` where an index is asked for that is not there. `NoMemory` where no memory was given.
     pub fn explain(&self, request: &Request, choice: &Choice) -> Result<Explain, Refused>
-        ensures explained { IfOk result (λ e. reply (state_of self.now) (explain_request (dump_of self.now) request.now choice.now) ≡ explained (told e)) }
-        ensures refused { IfErr result (IsRefusedCall (reply (state_of self.now) (explain_request (dump_of self.now) request.now choice.now))) }
+        ensures explained { IfOk result
+            (λ e. reply (state_of self.now) (explain_request (dump_of self.now) request.now choice.now)
+            ≡ explained (told e)) }
+        ensures refused { IfErr result
+            (IsRefusedCall (reply (state_of self.now) (explain_request (dump_of self.now) request.now choice.now))) }
     {
         self.has_choice(choice)?;
         let explanation = explain(
@@ -156,9 +170,12 @@ impl Session {
     /// In this order: `NoIndex` where an index is asked for that is not there, `TooManyCursors` where 64 are open. `NoMemory`
     /// where no memory was given.
     pub fn find(&mut self, request: Request, choice: Choice) -> Result<u64, Refused>
-        ensures opened { IfOk result (λ id. reply (state_of self.old) (find_call (query_of (dump_of self.old) request) (hint_of choice)) ≡ opened id) }
-        ensures after { OnOk result (state_of self.new ≡ state_after (state_of self.old) (find_call (query_of (dump_of self.old) request) (hint_of choice))) }
-        ensures refused { IfErr result (IsRefusedCall (reply (state_of self.old) (find_call (query_of (dump_of self.old) request) (hint_of choice)))) }
+        ensures opened { IfOk result
+            (λ id. reply (state_of self.old) (find_request (dump_of self.old) request choice) ≡ opened id) }
+        ensures after { OnOk result (state_of self.new
+            ≡ state_after (state_of self.old) (find_request (dump_of self.old) request choice)) }
+        ensures refused { IfErr result
+            (IsRefusedCall (reply (state_of self.old) (find_request (dump_of self.old) request choice))) }
         ensures unchanged { OnErr result (state_of self.new ≡ state_of self.old) }
         ensures dump { dump_of self.new ≡ dump_of self.old }
     {
@@ -186,9 +203,13 @@ impl Session {
         choice: Choice,
         token: &Token,
     ) -> Result<u64, Refused>
-        ensures opened { IfOk result (λ id. reply (state_of self.old) (resume_call (query_of (dump_of self.old) request) (hint_of choice) (marked_token token.now)) ≡ opened id) }
-        ensures after { OnOk result (state_of self.new ≡ state_after (state_of self.old) (resume_call (query_of (dump_of self.old) request) (hint_of choice) (marked_token token.now))) }
-        ensures refused { IfErr result (IsRefusedCall (reply (state_of self.old) (resume_call (query_of (dump_of self.old) request) (hint_of choice) (marked_token token.now)))) }
+        ensures opened { IfOk result
+            (λ id. reply (state_of self.old) (resume_request (dump_of self.old) request choice token.now)
+            ≡ opened id) }
+        ensures after { OnOk result (state_of self.new
+            ≡ state_after (state_of self.old) (resume_request (dump_of self.old) request choice token.now)) }
+        ensures refused { IfErr result
+            (IsRefusedCall (reply (state_of self.old) (resume_request (dump_of self.old) request choice token.now))) }
         ensures unchanged { OnErr result (state_of self.new ≡ state_of self.old) }
         ensures dump { dump_of self.new ≡ dump_of self.old }
     {
@@ -222,7 +243,8 @@ impl Session {
     /// In this order: `NoCursor` where none has the number, `Range` where `n` is above 2,147,483,647. `NoMemory` where no memory
     /// was given.
     pub fn next(&mut self, id: u64, n: u64) -> Result<Batch, Refused>
-        ensures batch { IfOk result (λ batch. reply (state_of self.old) (next_call id n) ≡ gave (given_batch batch)) }
+        ensures batch { IfOk result
+            (λ batch. reply (state_of self.old) (next_call id n) ≡ gave (given_batch batch)) }
         ensures after { OnOk result (state_of self.new ≡ state_after (state_of self.old) (next_call id n)) }
         ensures refused { IfErr result (IsRefusedCall (reply (state_of self.old) (next_call id n))) }
         ensures unchanged { OnErr result (state_of self.new ≡ state_of self.old) }
@@ -265,7 +287,8 @@ impl Session {
     /// Whether the index that is asked for is there.
     fn has_choice(&self, choice: &Choice) -> Result<(), Refused>
         ensures there { OnOk result (IsTrue (has_index (state_of self.now).indexes (hint_of choice.now))) }
-        ensures refused { IfErr result (λ r. (r ≡ Refused.NoIndex) × IsFalse (has_index (state_of self.now).indexes (hint_of choice.now))) }
+        ensures refused { IfErr result
+            (λ r. (r ≡ Refused.NoIndex) × IsFalse (has_index (state_of self.now).indexes (hint_of choice.now))) }
     {
         match choice {
             Choice::Index(path) => match index_on(&self.indexes, path) {
@@ -278,9 +301,12 @@ impl Session {
 
     /// Makes an index, sparse or not.
     fn make(&mut self, path: Path, sparse: bool) -> Result<Made, Refused>
-        ensures made { IfOk result (λ m. reply (state_of self.old) (make_index sparse (dump_of self.old) path) ≡ made (made_counts m)) }
-        ensures after { OnOk result (state_of self.new ≡ state_after (state_of self.old) (make_index sparse (dump_of self.old) path)) }
-        ensures refused { IfErr result (IsRefusedCall (reply (state_of self.old) (make_index sparse (dump_of self.old) path))) }
+        ensures made { IfOk result
+            (λ m. reply (state_of self.old) (make_index sparse (dump_of self.old) path) ≡ made (made_counts m)) }
+        ensures after { OnOk result
+            (state_of self.new ≡ state_after (state_of self.old) (make_index sparse (dump_of self.old) path)) }
+        ensures refused { IfErr result
+            (IsRefusedCall (reply (state_of self.old) (make_index sparse (dump_of self.old) path))) }
         ensures unchanged { OnErr result (state_of self.new ≡ state_of self.old) }
         ensures dump { dump_of self.new ≡ dump_of self.old }
     {
@@ -319,7 +345,8 @@ impl Session {
     /// Puts in an index of the dump, and tells what it has.
     fn add(&mut self, index: Index) -> Result<Made, Refused>
         requires { IsIndexOf (dump_of self.old) index }
-        ensures made { IfOk result (λ m. made_counts m ≡ index_counts (documents (dump_of self.old)) (index_mark index)) }
+        ensures made { IfOk result
+            (λ m. made_counts m ≡ index_counts (documents (dump_of self.old)) (index_mark index)) }
         ensures after { OnOk result (state_of self.new ≡ with_index (state_of self.old) (index_mark index)) }
         ensures refused { IfErr result (λ r. r ≡ Refused.NoMemory) }
         ensures unchanged { OnErr result (state_of self.new ≡ state_of self.old) }
@@ -335,7 +362,8 @@ impl Session {
 
     /// Whether a cursor may be opened, and why not.
     fn may_open(&self, choice: &Choice) -> Result<(), Refused>
-        ensures opened { OnOk result (open_reply (state_of self.now) (hint_of choice.now) ≡ opened self.now.next_id) }
+        ensures opened { OnOk result
+            (open_reply (state_of self.now) (hint_of choice.now) ≡ opened self.now.next_id) }
         ensures refused { IfErr result (IsRefusedCall (open_reply (state_of self.now) (hint_of choice.now))) }
     {
         self.has_choice(choice)?;
@@ -349,7 +377,8 @@ impl Session {
     fn open(&mut self, request: Request, token: Option<Token>, left: Left) -> Result<u64, Refused>
         requires { self.now.next_id ≤ 9223372036854775807 }
         ensures id { IfOk result (λ id. id ≡ self.old.next_id) }
-        ensures after { OnOk result (state_of self.new ≡ with_open (state_of self.old) (query_of (dump_of self.old) request).digest
+        ensures after { OnOk result
+            (state_of self.new ≡ with_open (state_of self.old) (query_of (dump_of self.old) request).digest
             (option_map marked_token token) (places_left (query_of (dump_of self.old) request).asked left)) }
         ensures refused { IfErr result (λ r. r ≡ Refused.NoMemory) }
         ensures unchanged { OnErr result (state_of self.new ≡ state_of self.old) }

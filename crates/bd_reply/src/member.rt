@@ -15,7 +15,7 @@ use bd_value::NoMemory;
 
 /// A value of a reply.
 #[derive(Clone, Copy)]
-pub(crate) enum Field<'a> {
+pub(crate) enum Field<'a, 'b, 'c> {
     Null,
     Truth(bool),
     /// An Int32.
@@ -26,14 +26,14 @@ pub(crate) enum Field<'a> {
     /// The text of these names, joined by dots.
     Names(&'a [String]),
     /// The documents of a dump with these numbers.
-    Documents(&'a Dump, &'a [u32]),
+    Documents(&'b Dump, &'c [u32]),
 }
 
 /// Appends the document of whether there is a result, and these pairs.
 #[tactic(auto, using(bd_value::proofs::FrontLemmas::fronts))]
 pub(crate) fn write_members(
     ok: bool,
-    members: &[(&str, Field<'_>)],
+    members: &[(&str, Field<'_, '_, '_>)],
     out: &mut Vec<u8>,
 ) -> Result<(), NoMemory>
     ensures ok { OnOk result (out.new.items ≡ out.old.items
@@ -51,7 +51,7 @@ pub(crate) fn write_members(
 
 /// Appends a comma and a pair.
 #[tactic(auto, using(bd_value::proofs::FrontLemmas::fronts))]
-fn write_member(name: &str, value: Field<'_>, out: &mut Vec<u8>) -> Result<(), NoMemory>
+fn write_member(name: &str, value: Field<'_, '_, '_>, out: &mut Vec<u8>) -> Result<(), NoMemory>
     ensures ok { OnOk result (out.new.items ≡ out.old.items ++ 44 ∷ member name.now (text (field_value value.entry))) }
     ensures err { OnErr result (StartsWith out.new.items out.old.items) }
 {
@@ -63,7 +63,7 @@ fn write_member(name: &str, value: Field<'_>, out: &mut Vec<u8>) -> Result<(), N
 
 /// Appends a value.
 #[tactic(auto, using(bd_value::proofs::FrontLemmas::fronts), unfolding(bd_extjson::specs::Text::scalar_text))]
-fn write_field(value: Field<'_>, out: &mut Vec<u8>) -> Result<(), NoMemory>
+fn write_field(value: Field<'_, '_, '_>, out: &mut Vec<u8>) -> Result<(), NoMemory>
     ensures ok { OnOk result (out.new.items ≡ out.old.items ++ text (field_value value.entry)) }
     ensures err { OnErr result (StartsWith out.new.items out.old.items) }
 {

@@ -106,7 +106,7 @@ fn token_text(alloc: Global, token: Option<Token>) -> Result<Option<String>, NoM
 }
 
 /// A text, or null where there is none.
-fn text_or_null(text: Option<&str>) -> Field<'_>
+fn text_or_null<'a>(text: Option<&'a str>) -> Field<'a, 'static, 'static>
     ensures { field_value result ≡ text_or_null (option_map (λ t. t.now) text.entry) }
 {
     match text {
@@ -159,7 +159,12 @@ fn append_refusal(refusal: &LineRefusal, out: &mut Vec<u8>) -> Result<(), NoMemo
 
 /// Appends the reply of a refusal that has no place.
 #[tactic(auto, using(bd_value::proofs::FrontLemmas::fronts))]
-fn append_reason(layer: &str, number: u32, words: &str, out: &mut Vec<u8>) -> Result<(), NoMemory>
+fn append_reason(
+    layer: &'static str,
+    number: u32,
+    words: &'static str,
+    out: &mut Vec<u8>,
+) -> Result<(), NoMemory>
     ensures ok { OnOk result (out.new.items ≡ out.old.items ++ reply_text (refuses (record { layer = layer.now; number = number; words = words.now; place = [] }))) }
     ensures err { OnErr result (StartsWith out.new.items out.old.items) }
 {
@@ -187,7 +192,7 @@ fn append_json_fault(fault: JsonFault, out: &mut Vec<u8>) -> Result<(), NoMemory
 }
 
 /// The byte of a text where a fault is; a text as a whole has none.
-fn json_byte<'a>(fault: JsonFault) -> Field<'a>
+fn json_byte(fault: JsonFault) -> Field<'static, 'static, 'static>
     ensures { field_value result ≡ json_fault_byte fault.kind fault.at }
 {
     match fault.kind {

@@ -1,3 +1,6 @@
 pub mod RefusedLemmas
+pub mod PerformLemmas
+pub mod CallLemmas
+pub mod AnswerLemmas
 pub mod TalkLemmas
 pub mod ServedLemmas

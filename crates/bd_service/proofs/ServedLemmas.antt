@@ -22,19 +22,19 @@ RepliesOver dump = RepliesInText (bytes_of dump) (documents dump)
 
 pub dump_kept : (s : Service) (lines : List (List ℕ)) (text : List ℕ) (t : Service) → Replied RepliesTo s lines text t → service_dump t ≡ service_dump s
 dump_kept s [] text t (same, none) = ap (λ (x : Service). service_dump x) same
-dump_kept s (line ∷ lines) text t (reply, (mid, (rest, (r, more, is)))) = dump_kept mid lines rest t more ∙ r.kept
+dump_kept s (line ∷ lines) text t (reply, mid, rest, r, more, is) = dump_kept mid lines rest t more ∙ r.kept
 
 pub replied : (s : Service) (lines : List (List ℕ)) (text : List ℕ) (t : Service) → Replied RepliesTo s lines text t
     → Replied (RepliesOver (service_dump s)) (service_state s) lines text (service_state t)
 replied s [] text t (same, none) = (ap (λ (x : Service). service_state x) same, none)
-replied s (line ∷ lines) text t (reply, (mid, (rest, (r, more, is)))) =
+replied s (line ∷ lines) text t (reply, mid, rest, r, more, is) =
     let later = subst (λ (d : Dump). Replied (RepliesOver d) (service_state mid) lines rest (service_state t)) r.kept (replied mid lines rest t more) in
-    (reply, (service_state mid, (rest, ((r.reply, (r.answers, r.written)), later, is))))
+    (reply, service_state mid, rest, (r.reply, r.answers, r.written), later, is)
 
 pub one_replied : (s mid t : Service) (line text : List ℕ) → service_dump mid ≡ service_dump s → RepliesTo mid line text t
     → RepliesOver (service_dump s) (service_state mid) line text (service_state t)
 one_replied s mid t line text kept r =
-    subst (λ (d : Dump). RepliesOver d (service_state mid) line text (service_state t)) kept (r.reply, (r.answers, r.written))
+    subst (λ (d : Dump). RepliesOver d (service_state mid) line text (service_state t)) kept (r.reply, r.answers, r.written)
 
 -- ---- served to the end
 
@@ -85,17 +85,17 @@ stopped state gives limits old new out s t (faults.Unread fault) u = record {
   replied = replied s _ u.text t u.replied;
   written = u.written;
 }
-stopped state gives limits old new out s t faults.NoMemory (command, (text, (mid, (b, taken)))) =
-    (command, (text, (service_state mid, (before state gives limits old new s command text mid b, taken))))
-stopped state gives limits old new out s t faults.Unwritten (command, (text, (reply, (mid, (b, r, broken))))) =
+stopped state gives limits old new out s t faults.NoMemory (command, text, mid, b, taken) =
+    (command, text, service_state mid, before state gives limits old new s command text mid b, taken)
+stopped state gives limits old new out s t faults.Unwritten (command, text, reply, mid, b, r, broken) =
     let kept = dump_kept s _ text mid b.replied in
-    (command, (text, (reply, (service_state mid, (before state gives limits old new s command text mid b, one_replied s mid t command reply kept r, broken)))))
+    (command, text, reply, service_state mid, before state gives limits old new s command text mid b, one_replied s mid t command reply kept r, broken)
 
 -- ---- a talk
 
 pub talk_of : (bytes : List ℕ) (ds : List Doc) (s : State) (lines : List (List ℕ)) (text : List ℕ) (t : State)
     → Replied (RepliesInText bytes ds) s lines text t → (rs : List LineReply) × Talks bytes ds s lines rs t × (text ≡ reply_lines rs)
-talk_of bytes ds s [] text t (same, none) = ([], (same, none))
-talk_of bytes ds s (line ∷ lines) text t (reply, (mid, (rest, ((r, (answers, written)), more, is)))) =
+talk_of bytes ds s [] text t (same, none) = ([], same, none)
+talk_of bytes ds s (line ∷ lines) text t (reply, mid, rest, (r, answers, written), more, is) =
     let later = talk_of bytes ds mid lines rest t more in
-    (r ∷ later.0, ((mid, (answers, later.1.0)), is ∙ ap₂ (λ (x y : List ℕ). x ++ 10 ∷ y) written later.1.1))
+    (r ∷ later.0, (mid, answers, later.1), is ∙ ap₂ (λ (x y : List ℕ). x ++ 10 ∷ y) written later.2)

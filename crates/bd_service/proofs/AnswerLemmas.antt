@@ -1,0 +1,25 @@
+-- The reply to a line is that to the call that it is, or why it is none.
+use Rattle.std.proofs.Common.{◌≡◌, ℕ, List, Result, Ok, Err, refl}
+use Rattle.std.specs.Prelude.{IfOk}
+use Rattle.std.specs.declared.alloc.AllocError.{AllocError}
+use Rattle.bd_answer.specs.Session as machine
+use Rattle.bd_bson.specs.Collection.{bytes_of, documents}
+use Rattle.bd_cursor.specs.SessionView.{dump_of, state_of}
+use Rattle.bd_cursor.specs.declared.session.Session.{Session}
+use Rattle.bd_reply.specs.Reply.{refuses}
+use Rattle.bd_reply.specs.ReplyView.{line_reply, told_refusal}
+use Rattle.bd_reply.specs.declared.refusal.LineRefusal.{LineRefusal}
+use Rattle.bd_reply.specs.declared.reply.Reply.{Reply}
+use Rattle.bd_service.specs.ServiceView.{Performs}
+use Rattle.bd_service.specs.Talk.{Answers, IsCallIn}
+
+pub answered : (old new : Session) (line : List ℕ) (call : machine.Call) (result : Result Reply AllocError)
+    → IsCallIn (bytes_of (dump_of old)) (documents (dump_of old)) line (Ok call) → IfOk result (λ r. Performs old call r new)
+    → IfOk result (λ r. Answers (bytes_of (dump_of old)) (documents (dump_of old)) (state_of old) line (line_reply (documents (dump_of old)) r) (state_of new))
+answered old new line call (Ok r) reads p = record { part = Ok call; reads = reads; tells = p.tells; moves = p.moves }
+answered old new line call (Err e) reads p = tt
+
+pub turned_away : (s : Session) (line : List ℕ) (why : LineRefusal)
+    → IsCallIn (bytes_of (dump_of s)) (documents (dump_of s)) line (Err (told_refusal why))
+    → Answers (bytes_of (dump_of s)) (documents (dump_of s)) (state_of s) line (refuses (told_refusal why)) (state_of s)
+turned_away s line why reads = record { part = Err (told_refusal why); reads = reads; tells = refl; moves = refl }
