@@ -27,8 +27,10 @@ if cp crates/bsonfind/out/bsonfind bsonfind; then
 	add
 	tests/pages.py | tee "$log"
 	add
+	tests/talk.py | tee "$log"
+	add
 else
-	echo 'tests/program.sh and tests/pages.py were not run: the gate built no program'
+	echo 'tests/program.sh, tests/pages.py and tests/talk.py were not run: the gate built no program'
 	failed=$((failed + 1))
 fi
 

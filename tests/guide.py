@@ -29,7 +29,8 @@ def main() -> int:
         for block in re.findall(r"(?:^    .*\n|^\n(?=    ))+", guide, re.MULTILINE):
             before, *steps = re.split(r"^\$ ", re.sub("^    ", "", block.strip("\n"), flags=re.MULTILINE), flags=re.MULTILINE)
             if before:
-                Path(room, "good.py").write_text(before, encoding="utf-8")
+                # A script names itself.
+                Path(room, re.search(r"\w+\.(?:py|sh)", before)[0]).write_text(before, encoding="utf-8")
             for step in steps:
                 command, _, wanted = step.partition("\n")
                 ran = subprocess.run(["bash", "-c", command], cwd=room, env=env, stdout=subprocess.PIPE, stderr=subprocess.STDOUT)
