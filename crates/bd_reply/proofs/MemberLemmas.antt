@@ -1,11 +1,11 @@
 -- The texts of the values of a reply, and of the pairs that they stand in.
-use Rattle.std.proofs.Common.{◌≡◌, ◌^◌, ◌<◌, ◌≤◌, ◌+◌, ℕ, Bool, true, false, List, [], ◌∷◌, ◌++◌, drop, get_or, length, map, Option, Some, None, decimal, refl, sym, ap, ◌∙◌, append_assoc, arith}
-use Rattle.std.specs.Prelude.{codes, if◌then◌else◌, slice_get}
-use Rattle.std.specs.List.{cons_option, filter_map, join_with_byte}
+use Rattle.std.proofs.Common.{◌≡◌, ◌^◌, ◌<◌, ◌≤◌, ℕ, Bool, true, false, List, [], ◌∷◌, ◌++◌, get_or, length, map, Option, Some, None, decimal, refl, sym, ap, ◌∙◌, append_assoc}
+use Rattle.std.specs.Prelude.{codes, slice_get}
+use Rattle.std.specs.List.{cons_option, join_with_byte}
 use Rattle.std.proofs.lemmas.Fmt.{decimal_is_IsNumeral}
 use Rattle.std.proofs.lemmas.Option.{slice_get-get_or, slice_get_past}
-use Rattle.bd_value.specs.Tree.{Doc, Pair, Tree, doc, fields_of, items_of}
-use Rattle.bd_extjson.specs.Text.{escape_byte, escaped, fields_text, items_text, member, object, quoted, scalar_text, text}
+use Rattle.bd_value.specs.Tree.{Doc, Tree, doc, fields_of, items_of}
+use Rattle.bd_extjson.specs.Text.{escape_byte, fields_text, items_text, member, quoted, scalar_text, text}
 use Rattle.bd_extjson.proofs.EscapeLemmas.{escaped-digits}
 use Rattle.bd_extjson.proofs.PieceLemmas.{before, to_come, to_come-all, piece_step}
 use Rattle.bd_bson.specs.Documents.{document_at, documents_at}

@@ -1,5 +1,5 @@
 -- The reply to a line is that to the call that it is, or why it is none.
-use Rattle.std.proofs.Common.{◌≡◌, ℕ, List, Result, Ok, Err, refl}
+use Rattle.std.proofs.Common.{ℕ, List, Result, Ok, Err, refl}
 use Rattle.std.specs.Prelude.{IfOk}
 use Rattle.std.specs.declared.alloc.AllocError.{AllocError}
 use Rattle.bd_answer.specs.Session as machine

@@ -1,13 +1,12 @@
 -- A command read as a call, and a line read as one.
-use Rattle.std.proofs.Common.{◌≡◌, ◌≤◌, ℕ, Bool, true, List, Option, Some, None, Result, Ok, Err, refl, sym, ap, ◌∙◌, inl}
-use Rattle.std.specs.Prelude.{IfErr, IfOk, ◌&&◌, nat_le}
+use Rattle.std.proofs.Common.{◌≡◌, ℕ, List, Result, Ok, Err, refl, sym, ap, ◌∙◌, inl}
+use Rattle.std.specs.Prelude.{IfErr, IfOk}
 use Rattle.std.proofs.lemmas.Bool.{le-leb}
 use Rattle.bd_value.specs.Tree.{Doc}
-use Rattle.bd_answer.specs.Session as machine
 use Rattle.bd_answer.specs.Session.{resume_call}
 use Rattle.bd_bson.specs.Collection.{bytes_of, documents}
 use Rattle.bd_bson.specs.declared.collection.Dump.{Dump}
-use Rattle.bd_command.specs.Command.{Command, FindCommand, Hint, resumes}
+use Rattle.bd_command.specs.Command.{Command, FindCommand, resumes}
 use Rattle.bd_command.specs.CommandOf.{command_of}
 use Rattle.bd_command.specs.declared.fault.CommandFault.{CommandFault}
 use Rattle.bd_cursor.specs.SessionView.{hint_of, marked_token}
@@ -15,15 +14,13 @@ use Rattle.bd_extjson.specs.TextDocument.{ReadsAs}
 use Rattle.bd_path.specs.Sort.{sort_paths}
 use Rattle.bd_plan.specs.declared.choice.Choice.{Choice}
 use Rattle.bd_plan.specs.declared.choice.Choice.TheVariants as choices
-use Rattle.bd_query.specs.Filter.{Filter}
 use Rattle.bd_query.specs.FilterView.{filter_tree}
 use Rattle.bd_request.specs.Request.{greatest_count, request_text}
 use Rattle.bd_request.specs.Token.{token_of}
 use Rattle.bd_request.specs.declared.request.Request.{Request}
 use Rattle.bd_request.specs.declared.token.Token.{Token}
 use Rattle.bd_sort.specs.Asked.{query_of, query_to}
-use Rattle.bd_reply.specs.Reply.{ToldRefusal}
-use Rattle.bd_service.specs.CallOf.{Search, call_of, command_part, hint_path, search_of, search_query, search_with, then_part, token_part}
+use Rattle.bd_service.specs.CallOf.{call_of, command_part, hint_path, search_of, search_query, search_with, then_part, token_part}
 use Rattle.bd_service.specs.CallView.{IsSearch, RefusesLine, RefusesPart, choice_hint, session_call}
 use Rattle.bd_service.specs.Talk.{IsCallIn}
 use Rattle.bd_service.specs.declared.call.Call.{Call}

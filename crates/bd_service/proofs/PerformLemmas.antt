@@ -1,5 +1,5 @@
 -- A call that was made on a session is one of the machine, whether it is granted or refused.
-use Rattle.std.proofs.Common.{◌≡◌, ◌≢◌, ℕ, Bool, true, List, Result, Ok, Err, refl, sym, ap, ◌∙◌}
+use Rattle.std.proofs.Common.{◌≡◌, ℕ, true, List, Result, Ok, Err, refl, sym, ap, ◌∙◌}
 use Rattle.std.specs.Prelude.{IfErr, IfOk, OnErr, OnOk}
 use Rattle.std.specs.declared.alloc.AllocError.{AllocError}
 use Rattle.bd_value.specs.Tree.{Doc}
@@ -10,10 +10,8 @@ use Rattle.bd_cursor.specs.SessionView.{IsRefusedCall, dump_of, state_of}
 use Rattle.bd_cursor.specs.declared.session.Session.{Session}
 use Rattle.bd_request.specs.declared.refused.Refused.{Refused}
 use Rattle.bd_request.specs.declared.refused.Refused.TheVariants as reasons
-use Rattle.bd_reply.specs.Refusal.{session_refusal}
-use Rattle.bd_reply.specs.Reply.{done, opens, refuses}
+use Rattle.bd_reply.specs.Reply.{done}
 use Rattle.bd_reply.specs.ReplyView.{line_reply}
-use Rattle.bd_reply.specs.declared.refusal.LineRefusal.TheVariants as refusals
 use Rattle.bd_reply.specs.declared.reply.Reply.{Reply}
 use Rattle.bd_reply.specs.declared.reply.Reply.TheVariants as replies
 use Rattle.bd_service.specs.ServiceView.{IsRefusalOf, Performs}

@@ -1,10 +1,10 @@
 -- A call that is refused leaves the state of a session as it is.
-use Rattle.std.proofs.Common.{◌≡◌, ℕ, Bool, true, false, cond, not, List, [], ◌∷◌, ◌==◌, ◌++◌, drop, Option, Some, None, filter, refl, sym, ap, ◌∙◌}
-use Rattle.std.specs.Prelude.{◌||◌, nat_lt, length, if◌then◌else◌}
+use Rattle.std.proofs.Common.{◌≡◌, ℕ, Bool, true, false, cond, not, List, [], ◌∷◌, ◌==◌, ◌++◌, drop, Option, Some, None, refl, ap}
+use Rattle.std.specs.Prelude.{◌||◌, nat_lt, length}
 use Rattle.std.specs.List.{list_any}
 use Rattle.std.specs.Str.{bytes_eq}
-use Rattle.bd_answer.specs.Answer.{Mark, answer, rest, is_empty}
-use Rattle.bd_answer.specs.Session.{Call, IndexCounts, IndexMark, MarkedToken, OpenCursor, PlanKind, Query, Reply, State, cursor_of, dropped, explained, foreign_token, gave, greatest_size, has_index, index_there, is_full, is_on, killed, made, most_indexes, no_cursor, no_index, opened, out_of_range, reply, state_after, token_place, too_many_cursors, too_many_indexes, with_open, without, without_index, next_cursors, batch_of, moved, with_cursor, kill_reply, next_reply}
+use Rattle.bd_answer.specs.Answer.{answer, rest, is_empty}
+use Rattle.bd_answer.specs.Session.{Call, IndexCounts, IndexMark, OpenCursor, Reply, State, cursor_of, dropped, explained, foreign_token, gave, greatest_size, has_index, index_there, is_full, is_on, killed, made, most_indexes, no_cursor, no_index, opened, out_of_range, reply, state_after, token_place, too_many_cursors, too_many_indexes, with_open, without, without_index, next_cursors, batch_of, moved, with_cursor, kill_reply, next_reply}
 use Rattle.bd_answer.specs.Session.{find_call, resume_call, next_call, kill_call, make_call, drop_call, explain_call}
 
 abbrev pub is_refusal : Reply → Bool

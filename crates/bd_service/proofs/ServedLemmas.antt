@@ -1,18 +1,17 @@
 -- The replies of a session in memory are those of the machine.
-use Rattle.std.proofs.Common.{◌≡◌, ℕ, List, [], ◌∷◌, ◌++◌, Option, refl, sym, ap, ap₂, ◌∙◌, subst}
+use Rattle.std.proofs.Common.{◌≡◌, ℕ, List, [], ◌∷◌, ◌++◌, Option, ap, ap₂, ◌∙◌, subst}
 use Rattle.bd_value.specs.Tree.{Doc}
 use Rattle.bd_answer.specs.Session.{State}
 use Rattle.bd_bson.specs.Collection.{bytes_of, documents}
 use Rattle.bd_bson.specs.declared.collection.Dump.{Dump}
 use Rattle.bd_device.specs.Devices.{Over, Reader, Writer}
 use Rattle.bd_device.specs.declared.reading.Limits.{Limits}
-use Rattle.bd_device.specs.declared.reading.ReadFault.{ReadFault}
-use Rattle.bd_lines.specs.Serving.{Replied, ServesAll, ServesBefore, StopsServing, StopsStarved, StopsUnread, StopsUnwritten}
+use Rattle.bd_lines.specs.Serving.{Replied, ServesAll, ServesBefore, StopsServing}
 use Rattle.bd_lines.specs.declared.serving.ServeFault.{ServeFault}
 use Rattle.bd_lines.specs.declared.serving.ServeFault.TheVariants as faults
-use Rattle.bd_reply.specs.Reply.{LineReply, reply_text}
+use Rattle.bd_reply.specs.Reply.{LineReply}
 use Rattle.bd_service.specs.ServiceView.{RepliesTo, service_dump, service_state}
-use Rattle.bd_service.specs.Talk.{Answers, RepliesInText}
+use Rattle.bd_service.specs.Talk.{RepliesInText}
 use Rattle.bd_service.specs.TalkLaws.{Talks, reply_lines}
 use Rattle.bd_service.specs.declared.service.Service.{Service}
 

@@ -1,7 +1,7 @@
 -- Which call of a session a command is, and why one is none.
-use Rattle.std.specs.Prelude.{ℕ, nat_le, ◌&&◌, Bool, List, [], length, Option, Some, None, Result, Ok, Err, if◌then◌else◌}
+use Rattle.std.specs.Prelude.{ℕ, nat_le, ◌&&◌, Bool, List, length, Option, Some, None, Result, Ok, Err, if◌then◌else◌}
 use Rattle.bd_value.specs.Tree.{Doc}
-use Rattle.bd_answer.specs.Answer.{Asked, matching}
+use Rattle.bd_answer.specs.Answer.{matching}
 use Rattle.bd_answer.specs.Session.{Call, Explained, IndexMark, MarkedToken, Query, drop_call, explain_call, find_call, kill_call, make_call, next_call, resume_call}
 use Rattle.bd_path.specs.Earliest.{SortPath}
 use Rattle.bd_path.specs.Names.{Names}

@@ -1,5 +1,5 @@
 -- A talk with a session: lines and the replies to them.
-use Rattle.std.specs.Prelude.{◌≡◌, ◌≢◌, ◌⊎◌, ℕ, List, length, Option, None, Result, Ok, Err, option_map}
+use Rattle.std.specs.Prelude.{◌≡◌, ◌≢◌, ◌⊎◌, ℕ, List, length, None, Result, Ok, Err, option_map}
 use Rattle.bd_value.specs.Tree.{Doc}
 use Rattle.bd_diagnose.specs.JsonFault.{IsPlaced}
 use Rattle.bd_diagnose.specs.declared.json_fault.JsonFault.{JsonFault}

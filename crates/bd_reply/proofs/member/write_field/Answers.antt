@@ -1,7 +1,5 @@
-use Rattle.std.proofs.Common.{◌≡◌, ◌^◌, ◌<◌, ◌++◌, ℕ, List, arith, subst, ap, sym, ◌∙◌}
+use Rattle.std.proofs.Common.{◌≡◌, ◌++◌, ℕ, List, subst}
 use Rattle.std.specs.Prelude.{OnOk}
-use Rattle.bd_extjson.specs.Text.{text}
-use Rattle.bd_reply.specs.MemberView.{field_value}
 use Rattle.bd_reply.proofs.MemberLemmas.{count_text, number_text}
 use Rattle.bd_reply.proofs.member.write_field.Goals as goal
 

@@ -1,5 +1,5 @@
 use Rattle.std.proofs.Common.{map}
-use Rattle.bd_value.proofs.FrontLemmas.{front_all, front_then}
+use Rattle.bd_value.proofs.FrontLemmas.{front_all}
 use Rattle.bd_reply.specs.MemberView.{member_pair}
 use Rattle.bd_reply.proofs.MemberLemmas.{object_begins}
 use Rattle.bd_value.proofs.FrontLemmas.{front_more}

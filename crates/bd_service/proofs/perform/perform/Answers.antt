@@ -1,7 +1,5 @@
 use Rattle.std.proofs.Common.{refl}
 use Rattle.bd_answer.specs.Session as machine
-use Rattle.bd_cursor.specs.SessionView.{dump_of}
-use Rattle.bd_service.specs.CallView.{session_call}
 use Rattle.bd_service.proofs.PerformLemmas.{done_by, opened_by}
 use Rattle.bd_service.proofs.perform.perform.Goals as goal
 

@@ -1,4 +1,3 @@
-use Rattle.std.proofs.Common.{refl}
 use Rattle.bd_cursor.specs.SessionView.{dump_of}
 use Rattle.bd_service.specs.CallView.{session_call}
 use Rattle.bd_service.proofs.AnswerLemmas.{answered, turned_away}
