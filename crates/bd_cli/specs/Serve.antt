@@ -1,5 +1,5 @@
 -- What a run of `serve` did: the replies to the commands over a dump, or why there are none.
-use Rattle.std.specs.Prelude.{◌≡◌, ◌⊎◌, ℕ, List, codes, Option, Result, Ok, Err}
+use Rattle.std.specs.Prelude.{◌≡◌, ◌⊎◌, ℕ, List, codes, Option, Result}
 use Rattle.bd_value.specs.Tree.{Doc}
 use Rattle.bd_answer.specs.Session.{State}
 use Rattle.bd_answer.specs.SessionLaws.{new_state}

@@ -9,7 +9,8 @@
 //! let mut text = Vec::new(alloc);
 //! write_reply(alloc, &dump, &reply, &mut text)?;
 //! assert!(rt;
-//!     text.as_slice() == b"{\"ok\":false,\"layer\":\"command\",\"number\":{\"$numberInt\":\"2\"},\"text\":\"missing field\"}".as_slice()
+//!     text.as_slice()
+//!         == b"{\"ok\":false,\"layer\":\"command\",\"number\":{\"$numberInt\":\"2\"},\"text\":\"missing field\"}".as_slice()
 //! );
 //! ```
 //!
