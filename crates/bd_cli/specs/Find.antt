@@ -10,8 +10,8 @@ use Rattle.bd_device.specs.Devices.{Over, Reader, Writer}
 use Rattle.bd_device.specs.declared.reading.ReadFault.{ReadFault}
 use Rattle.bd_check.specs.Fault.{Fault}
 use Rattle.bd_check.specs.Dump.{IsWalk}
-use Rattle.bd_request.specs.Token.{token_text}
 use Rattle.bd_command_line.specs.FindWords.{FindWords}
+use Rattle.bd_service.specs.Talk.{marked_text}
 use Rattle.bd_cli.specs.Chain.{IsRefusedOr}
 use Rattle.bd_cli.specs.Find.Asking.{AsksInWords, Wanted}
 use Rattle.bd_cli.specs.Find.Batch.{cursor_for, places_from, query_for}
@@ -31,8 +31,7 @@ end_words ends = if ends then codes " documents, end" else codes " documents, mo
 -- the token after a batch, where there is one
 abbrev pub token_words : Option MarkedToken → List ℕ
 token_words None = []
-token_words (Some t) =
-    codes ", token " ++ token_text (record { given = t.mark.given; last = t.mark.last; digest = t.digest })
+token_words (Some t) = codes ", token " ++ marked_text t
 
 abbrev pub find_count_line : ℕ → Bool → Option MarkedToken → List ℕ
 find_count_line count ends token = decimal count ++ (end_words ends ++ (token_words token ++ 10 ∷ []))
