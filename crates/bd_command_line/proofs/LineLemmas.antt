@@ -23,7 +23,7 @@ use Rattle.clap.proofs.OnLiterals.{clap_on_literals}
 use Rattle.bd_command_line.specs.declared.order.Order.{Order}
 use Rattle.bd_command_line.specs.declared.order.WordsFault.{WordsFault}
 use Rattle.bd_command_line.specs.declared.order.WordsFault.TheVariants.{NoMemory, Usage}
-use Rattle.bd_command_line.specs.CommandLine.{Ordered, GivesOrder, meant, check, dump, pack, serve, fault_for, file_app, find_app, find_ordered, told_as, is_file_word, is_help_line, is_serve_of_input, line_app, order_of, ordered_by, refusal_of, serves_input}
+use Rattle.bd_command_line.specs.CommandLine.{Ordered, GivesOrder, meant, check, dump, pack, serve, fault_for, file_app, find_app, find_ordered, told_as, is_file_word, is_help_line, is_serve_of_input, line_app, order_of, ordered_by, parser_refusal, serves_input}
 use Rattle.bd_command_line.proofs.RowValueLemmas.{AllFilled, defaults-filled, fills, given_first, left_nil, right_nil, settled-filled, walk-filled}
 use Rattle.bd_command_line.proofs.FaultLemmas.{SameTold, same-fault}
 
@@ -177,7 +177,7 @@ help_words [] e = let f : ⊥ = cc in absurd f
 help_words (w ∷ rest) e = (rest, ap (λ x. x ∷ rest) ((bytes_eq-Decides w (codes "help")).0 e))
 
 -- what a line is told as, by what the parser refuses and by what the words order
-pub told_by : (words : List Text) (refusal : Option WordsFault) (is_of_input : Bool) → refusal_of words ≡ refusal → serves_input words ≡ is_of_input
+pub told_by : (words : List Text) (refusal : Option WordsFault) (is_of_input : Bool) → parser_refusal words ≡ refusal → serves_input words ≡ is_of_input
     → fault_for words ≡ option_or refusal (if is_of_input then Some Usage else None)
 told_by words refusal is_of_input refused served =
     ap₂ (λ (r : Option WordsFault) (b : Bool). option_or r (if b then Some Usage else None)) refused served
@@ -190,7 +190,7 @@ pub help_line_told : (words : List Text) → is_help_line words ≡ true → fau
 help_line_told words e =
     let h = help_words words e in
     told_by words (Some Usage) (serves_input words)
-    (ap refusal_of h.1 ∙ ap (λ ks. option_map told_as (slice_get ks 0)) (help_fault h.0)) refl
+    (ap parser_refusal h.1 ∙ ap (λ ks. option_map told_as (slice_get ks 0)) (help_fault h.0)) refl
 
 pub help_line_refused : (words : List Text) → is_help_line words ≡ true → takes line_app words ≡ true → ⊥
 help_line_refused words e taken =
@@ -229,11 +229,11 @@ first_told (x ∷ xs) k same (inl is) = ap (λ y. Some (told_as y)) (sym is)
 first_told (x ∷ xs) k same (inr more) = ap (λ f. Some f) (sym (same k more))
 
 kind_told : (words : List Text) (e : Error) → HasKind (fault_of line_app words) e
-    → (told_as (kind_of e) ≡ NoMemory) ⊎ (refusal_of words ≡ Some (told_as (kind_of e)))
+    → (told_as (kind_of e) ≡ NoMemory) ⊎ (parser_refusal words ≡ Some (told_as (kind_of e)))
 kind_told words e (inl memory) = inl (ap told_as memory)
 kind_told words e (inr among) = inr (first_told (fault_of line_app words) (kind_of e) (same-fault (built line_app) words refl) among)
 
-pub refusal_none : (words : List Text) → fault_of line_app words ≡ [] → refusal_of words ≡ None
+pub refusal_none : (words : List Text) → fault_of line_app words ≡ [] → parser_refusal words ≡ None
 refusal_none words is = ap (λ ks. option_map told_as (slice_get ks 0)) is
 
 -- words without a fault are refused for want of memory alone
@@ -275,10 +275,10 @@ no_file name rows e = go (bytes_eq name (codes "dump")) (bytes_eq name (codes "c
 -- ---- the clauses of the parse, at the program's line
 
 pub refused_as : (a : App) (words : List Text) (e : Error) (f : WordsFault) → a ≡ line_app → (is_simple_and_free a ≡ true → HasKind (fault_of a words) e)
-    → f ≡ told_as (kind_of e) → (f ≡ NoMemory) ⊎ (refusal_of words ≡ Some f)
+    → f ≡ told_as (kind_of e) → (f ≡ NoMemory) ⊎ (parser_refusal words ≡ Some f)
 refused_as a words e f is h told =
     let kinds = subst (λ (x : App). is_simple_and_free x ≡ true → HasKind (fault_of x words) e) is h line_free in
-    subst (λ (x : WordsFault). (x ≡ NoMemory) ⊎ (refusal_of words ≡ Some x)) (sym told) (kind_told words e kinds)
+    subst (λ (x : WordsFault). (x ≡ NoMemory) ⊎ (parser_refusal words ≡ Some x)) (sym told) (kind_told words e kinds)
 
 pub refused_taken : (a : App) (words : List Text) (e : Error) → a ≡ line_app → (takes a words ≡ true → kind_of e ≡ OutOfMemory) → takes line_app words ≡ true
     → told_as (kind_of e) ≡ NoMemory

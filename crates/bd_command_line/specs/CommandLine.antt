@@ -133,8 +133,8 @@ told_as _ = Usage
 
 -- the fault that the parser's refusal of the words is told as; none where it takes them. Where the
 -- parser may give one of several kinds, all of them are told as the first.
-abbrev pub refusal_of : List Text → Option WordsFault
-refusal_of words = option_map told_as (slice_get (fault_of line_app words) 0)
+abbrev pub parser_refusal : List Text → Option WordsFault
+parser_refusal words = option_map told_as (slice_get (fault_of line_app words) 0)
 
 -- `serve` of the standard input: the commands of a session come from there, so the dump can not
 abbrev pub is_serve_of_input : Ordered → Bool
@@ -147,7 +147,7 @@ serves_input words = option_map_or is_serve_of_input (order_of words) false
 
 -- the fault of the words: the parser's, else that they are `serve` of the standard input; none where they are taken
 abbrev pub fault_for : List Text → Option WordsFault
-fault_for words = option_or (refusal_of words) (if serves_input words then Some Usage else None)
+fault_for words = option_or (parser_refusal words) (if serves_input words then Some Usage else None)
 
 -- the answer is this order, or memory ran out
 abbrev pub GivesOrder : Result Order WordsFault → Ordered → Type 0

@@ -3,7 +3,7 @@ ghost use Rattle.std.specs.Prelude.{◌≡◌, ◌≢◌, ◌≤◌, ◌⊎◌, 
 ghost use Rattle.clap.specs.Simple.{with_subcommand};
 ghost use Rattle.clap.specs.Words.{app_of, found_of, kind_of, rows_of, rule_of, takes};
 ghost use Rattle.clap.specs.declared.builder.command.Command.TheViews.{out-Command as fields_of};
-ghost use Rattle.bd_command_line.specs.CommandLine.{GivesOrder, check, dump, fault_for, file_app, file_rule, files_app, find, is_file_word, is_help_line, is_serve_input_line, is_serve_of_input, line_app, meant, order_of, ordered_by, pack, refusal_of, serve, serves_input, told_as, top_app, words_of};
+ghost use Rattle.bd_command_line.specs.CommandLine.{GivesOrder, check, dump, fault_for, file_app, file_rule, files_app, find, is_file_word, is_help_line, is_serve_input_line, is_serve_of_input, line_app, meant, order_of, ordered_by, pack, parser_refusal, serve, serves_input, told_as, top_app, words_of};
 ghost use Rattle.bd_command_line.specs.FindWords.{no_options};
 ghost use Rattle.bd_command_line.specs.declared.order.WordsFault.TheVariants.{NoMemory};
 
@@ -137,8 +137,8 @@ fn order_named(alloc: Global, name: &str, matches: &ArgMatches<'_>) -> Result<Or
 /// The order of words as the parser reads them, `serve` of the standard input among them.
 fn order_in(alloc: Global, words: &[String]) -> Result<Order, WordsFault>
     ensures order { IfOk result (λ o. order_of (words_of words.now) ≡ Some (meant o)) }
-    ensures only_taken { IfOk result (λ _. refusal_of (words_of words.now) ≡ None) }
-    ensures fault { IfErr result (λ f. (f ≡ NoMemory) ⊎ (refusal_of (words_of words.now) ≡ Some f)) }
+    ensures only_taken { IfOk result (λ _. parser_refusal (words_of words.now) ≡ None) }
+    ensures fault { IfErr result (λ f. (f ≡ NoMemory) ⊎ (parser_refusal (words_of words.now) ≡ Some f)) }
     ensures taken { takes line_app (words_of words.now) ≡ true → IfErr result (λ f. f ≡ NoMemory) }
 {
     let command = line_command(alloc)?;

@@ -9,7 +9,7 @@ use Rattle.bd_extjson.specs.Text.{escape_byte, fields_text, items_text, member, 
 use Rattle.bd_extjson.proofs.EscapeLemmas.{escaped-digits}
 use Rattle.bd_extjson.proofs.PieceLemmas.{before, to_come, to_come-all, piece_step}
 use Rattle.bd_bson.specs.Documents.{document_at, documents_at}
-use Rattle.bd_reply.specs.Reply.{count_value, documents_value, number_value, truth_value}
+use Rattle.bd_reply.specs.Reply.{count_value, documents_value, int_value, boolean_value}
 
 plain : (n : ℕ) → n < 2 ^ 64 → quoted (decimal n) ≡ 34 ∷ (decimal n ++ 34 ∷ [])
 unfolding quoted
@@ -26,7 +26,7 @@ unfolding scalar_text quoted escape_byte
 count_text n = refl
 
 -- an Int32
-pub number_text : (n : ℕ) → codes "{\"$numberInt\":" ++ (quoted (decimal n) ++ 125 ∷ []) ≡ text (number_value n)
+pub number_text : (n : ℕ) → codes "{\"$numberInt\":" ++ (quoted (decimal n) ++ 125 ∷ []) ≡ text (int_value n)
 unfolding scalar_text quoted escape_byte
 number_text n = refl
 
@@ -71,11 +71,11 @@ abbrev pub rest_of_object : Doc → List ℕ
 rest_of_object ps = to_come true 44 (fields_text (fields_of ps)) ++ 125 ∷ []
 
 -- whether there is a result is written
-pub object_begins : (ok : Bool) (ps : Doc) (old begun out : List ℕ) → begun ≡ old ++ codes "{\"ok\":" → out ≡ begun ++ text (truth_value ok)
-    → out ++ rest_of_object ps ≡ old ++ text (doc (fields_of ((codes "ok", truth_value ok) ∷ ps)))
+pub object_begins : (ok : Bool) (ps : Doc) (old begun out : List ℕ) → begun ≡ old ++ codes "{\"ok\":" → out ≡ begun ++ text (boolean_value ok)
+    → out ++ rest_of_object ps ≡ old ++ text (doc (fields_of ((codes "ok", boolean_value ok) ∷ ps)))
 unfolding quoted escape_byte
 object_begins ok ps old begun out lead value =
-    let truth = text (truth_value ok) in
+    let truth = text (boolean_value ok) in
     let members = fields_text (fields_of ps) in
     let first : List ℕ = member (codes "ok") truth in
     let whole : to_come false 44 (first ∷ members) ≡ join_with_byte 44 (first ∷ members) = to_come-all 44 (first ∷ members) in

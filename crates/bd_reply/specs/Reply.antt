@@ -30,15 +30,15 @@ abbrev pub text_or_null : Option (List ℕ) → Tree
 text_or_null None = leaf trees.null
 text_or_null (Some s) = text_value s
 
-abbrev pub truth_value : Bool → Tree
-truth_value b = leaf (trees.boolean b)
+abbrev pub boolean_value : Bool → Tree
+boolean_value b = leaf (trees.boolean b)
 
 -- an Int64
 abbrev pub count_value : ℕ → Tree
 count_value n = leaf (trees.int64 (pos n))
 
-abbrev pub number_value : ℕ → Tree
-number_value n = leaf (trees.int32 (pos n))
+abbrev pub int_value : ℕ → Tree
+int_value n = leaf (trees.int32 (pos n))
 
 abbrev pub documents_value : List Doc → Tree
 documents_value ds = array (items_of (map (λ d. doc (fields_of d)) ds))
@@ -55,14 +55,14 @@ abbrev pub reply_pairs : LineReply → Doc
 reply_pairs done = []
 reply_pairs (opens id) = (codes "cursor", count_value id) ∷ []
 reply_pairs (gives ds ends token) =
-    (codes "documents", documents_value ds) ∷ (codes "end", truth_value ends) ∷ (codes "token", text_or_null token) ∷ []
-reply_pairs (makes c) = (codes "entries", count_value c.entries) ∷ (codes "multikey", truth_value c.is_multikey) ∷ []
+    (codes "documents", documents_value ds) ∷ (codes "end", boolean_value ends) ∷ (codes "token", text_or_null token) ∷ []
+reply_pairs (makes c) = (codes "entries", count_value c.entries) ∷ (codes "multikey", boolean_value c.is_multikey) ∷ []
 reply_pairs (explains e) =
     (codes "plan", text_value (plan_name e.plan)) ∷ (codes "index", text_or_null e.index)
     ∷ (codes "entries", count_value e.entries) ∷ (codes "documents", count_value e.looked_at)
     ∷ (codes "matches", count_value e.matches) ∷ []
 reply_pairs (refuses r) =
-    (codes "layer", text_value r.layer) ∷ (codes "number", number_value r.number) ∷ (codes "text", text_value r.words) ∷ r.place
+    (codes "layer", text_value r.layer) ∷ (codes "number", int_value r.number) ∷ (codes "text", text_value r.words) ∷ r.place
 
 -- it tells a result
 abbrev pub is_result : LineReply → Bool
@@ -70,7 +70,7 @@ is_result (refuses r) = false
 is_result _ = true
 
 abbrev pub reply_document : LineReply → Doc
-reply_document r = (codes "ok", truth_value (is_result r)) ∷ reply_pairs r
+reply_document r = (codes "ok", boolean_value (is_result r)) ∷ reply_pairs r
 
 -- canonical Extended JSON, without white space
 abbrev pub reply_text : LineReply → List ℕ

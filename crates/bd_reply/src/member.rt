@@ -6,8 +6,8 @@ ghost use Rattle.bd_value.specs.Tree.{doc, fields_of};
 ghost use Rattle.bd_bson.specs.Collection.{documents};
 ghost use Rattle.bd_bson.specs.Documents.{document_at, documents_at};
 ghost use Rattle.bd_extjson.specs.Text.{member, quoted, text};
-ghost use Rattle.bd_reply.specs.MemberView.{field_value, member_pair};
-ghost use Rattle.bd_reply.specs.Reply.{documents_value, truth_value};
+ghost use Rattle.bd_reply.specs.MemberView.{member_pair, reply_value};
+ghost use Rattle.bd_reply.specs.Reply.{boolean_value, documents_value};
 
 use bd_bson::Dump;
 use bd_extjson::{write_node, write_number, write_path, write_string};
@@ -37,7 +37,7 @@ pub(crate) fn write_members(
     out: &mut Vec<u8>,
 ) -> Result<(), NoMemory>
     ensures ok { OnOk result (out.new.items ≡ out.old.items
-        ++ text (doc (fields_of ((codes "ok", truth_value ok) ∷ map member_pair members.now)))) }
+        ++ text (doc (fields_of ((codes "ok", boolean_value ok) ∷ map member_pair members.now)))) }
     ensures err { OnErr result (StartsWith out.new.items out.old.items) }
 {
     out.extend_from_slice(b"{\"ok\":")?;
@@ -52,7 +52,7 @@ pub(crate) fn write_members(
 /// Appends a comma and a pair.
 #[tactic(auto, using(bd_value::proofs::FrontLemmas::fronts))]
 fn write_member(name: &str, value: Field<'_, '_, '_>, out: &mut Vec<u8>) -> Result<(), NoMemory>
-    ensures ok { OnOk result (out.new.items ≡ out.old.items ++ 44 ∷ member name.now (text (field_value value.entry))) }
+    ensures ok { OnOk result (out.new.items ≡ out.old.items ++ 44 ∷ member name.now (text (reply_value value.entry))) }
     ensures err { OnErr result (StartsWith out.new.items out.old.items) }
 {
     out.push(b',')?;
@@ -64,7 +64,7 @@ fn write_member(name: &str, value: Field<'_, '_, '_>, out: &mut Vec<u8>) -> Resu
 /// Appends a value.
 #[tactic(auto, using(bd_value::proofs::FrontLemmas::fronts), unfolding(bd_extjson::specs::Text::scalar_text))]
 fn write_field(value: Field<'_, '_, '_>, out: &mut Vec<u8>) -> Result<(), NoMemory>
-    ensures ok { OnOk result (out.new.items ≡ out.old.items ++ text (field_value value.entry)) }
+    ensures ok { OnOk result (out.new.items ≡ out.old.items ++ text (reply_value value.entry)) }
     ensures err { OnErr result (StartsWith out.new.items out.old.items) }
 {
     match value {
@@ -81,7 +81,7 @@ fn write_field(value: Field<'_, '_, '_>, out: &mut Vec<u8>) -> Result<(), NoMemo
 /// Appends `true` or `false`.
 #[tactic(auto, using(bd_value::proofs::FrontLemmas::fronts), unfolding(bd_extjson::specs::Text::scalar_text))]
 fn write_truth(truth: bool, out: &mut Vec<u8>) -> Result<(), NoMemory>
-    ensures ok { OnOk result (out.new.items ≡ out.old.items ++ text (truth_value truth)) }
+    ensures ok { OnOk result (out.new.items ≡ out.old.items ++ text (boolean_value truth)) }
     ensures err { OnErr result (StartsWith out.new.items out.old.items) }
 {
     if truth {

@@ -7,7 +7,7 @@ ghost use Rattle.bd_query.specs.Fault.{refusal_of};
 ghost use Rattle.bd_request.specs.Token.{token_text};
 ghost use Rattle.bd_plan.specs.Explanation.{plan_kind, told};
 ghost use Rattle.bd_cursor.specs.SessionView.{made_counts};
-ghost use Rattle.bd_reply.specs.MemberView.{field_value};
+ghost use Rattle.bd_reply.specs.MemberView.{reply_value};
 ghost use Rattle.bd_reply.specs.Refusal.{filter_refusal, json_fault_byte, json_refusal};
 ghost use Rattle.bd_reply.specs.Reply.{explains, makes, plan_name, refuses, reply_text, text_or_null};
 ghost use Rattle.bd_reply.specs.ReplyView.{given_reply, line_reply, told_refusal};
@@ -107,7 +107,7 @@ fn token_text(alloc: Global, token: Option<Token>) -> Result<Option<String>, NoM
 
 /// A text, or null where there is none.
 fn text_or_null<'a>(text: Option<&'a str>) -> Field<'a, 'static, 'static>
-    ensures { field_value result ≡ text_or_null (option_map (λ t. t.now) text.entry) }
+    ensures { reply_value result ≡ text_or_null (option_map (λ t. t.now) text.entry) }
 {
     match text {
         Some(text) => Field::Text(text),
@@ -193,7 +193,7 @@ fn append_json_fault(fault: JsonFault, out: &mut Vec<u8>) -> Result<(), NoMemory
 
 /// The byte of a text where a fault is; a text as a whole has none.
 fn json_byte(fault: JsonFault) -> Field<'static, 'static, 'static>
-    ensures { field_value result ≡ json_fault_byte fault.kind fault.at }
+    ensures { reply_value result ≡ json_fault_byte fault.kind fault.at }
 {
     match fault.kind {
         JsonFaultKind::NotADocument => Field::Null,
