@@ -1,5 +1,5 @@
 #!/usr/bin/env python3
-"""Runs ./bsonfind over damaged dumps and texts, and looks for a crash, a hang or a wrong answer.
+"""Runs ./bsonfind over damaged dumps, texts and commands, and looks for a crash, a hang or a wrong answer.
 
 usage: tests/hostile.py SECONDS [SEED]
 
@@ -166,7 +166,7 @@ class Search:
         self.rng = random.Random(seed)
         self.room = room
         self.runs = 0
-        self.input = b""
+        self.input = self.served = b""
         self.command: list[str] = []
         lines = [line for name in ("people", "shop") for line in (ROOT / f"examples/{name}.jsonl").read_bytes().splitlines()]
         self.lines = self.rng.sample(lines, SHALLOW) + [text.encode() for text in OTHERS]
@@ -192,6 +192,20 @@ class Search:
         self.runs += 1
         try:
             ended = subprocess.run(self.command, input=b"" if by_name else data, capture_output=True, timeout=TIMEOUT)
+        except subprocess.TimeoutExpired:
+            raise Wrong("a hang") from None
+        self.want(ended.returncode in (0, 1), f"status {ended.returncode}")
+        return Ran(ended.returncode, ended.stdout, ended.stderr)
+
+    def serve(self, data: bytes, commands: bytes, limit: int | None = None) -> Ran:
+        """Runs a session over a dump, with these commands and so many KiB of memory."""
+        self.input, self.served = commands, data
+        file = self.room / "served"
+        file.write_bytes(data)
+        self.command = [*([] if limit is None else [*LIMITED, str(limit)]), str(PROGRAM), "serve", str(file)]
+        self.runs += 1
+        try:
+            ended = subprocess.run(self.command, input=commands, capture_output=True, timeout=TIMEOUT)
         except subprocess.TimeoutExpired:
             raise Wrong("a hang") from None
         self.want(ended.returncode in (0, 1), f"status {ended.returncode}")
@@ -288,15 +302,18 @@ class Search:
 
         Nothing nests deep: where the system has no memory to let the stack grow, it ends the program by a signal.
         """
-        command = self.rng.choice(["dump", "check", "pack", "find"])
+        command = self.rng.choice(["dump", "check", "pack", "find", "serve"])
         words = self.rng.choice([["--query", '{"age":30}'], ["--sort", '{"name":1}'], ["--sort", '{"age":-1}', "--limit", "3"]])
         words = words if command == "find" else []
         from_all, between = (self.lines, b"\n") if command == "pack" else (self.documents, b"")
         data = between.join(self.rng.choices(from_all[:SHALLOW], k=self.rng.choice([1, 10, 100, 1000])))
         data += self.rng.choice([b"", b"["])
-        full = self.run(command, data, *words)
         limit = self.least + self.rng.randrange(200 + len(data) // 256)
-        ran = self.run(command, data, *words, limit=limit)
+        if command == "serve":
+            commands = b'{"createIndex":"age"}\n{"find":{"age":{"$gte":18}},"sort":{"name":1}}\n{"getMore":1,"batch":9}\n{"explain":{}}\n'
+            full, ran = self.serve(data, commands), self.serve(data, commands, limit)
+        else:
+            full, ran = self.run(command, data, *words), self.run(command, data, *words, limit=limit)
         if ran != full:
             self.want(ran.status == 1 and ran.err == b"bsonfind: no memory\n", "what is told with little memory")
             self.want(full.out.startswith(ran.out), "what is written with little memory")
@@ -318,6 +335,36 @@ class Search:
         name = b"token" if option == "after" else option.encode()
         told = rb"bsonfind: %s: .*\n" % name if ran.status else FOUND.pattern
         self.want(re.fullmatch(told, ran.err, re.DOTALL) is not None, f"what is told of a {name.decode()}")
+
+    def over_commands(self) -> None:
+        """Each command has one reply, and those that are refused change nothing: without them the others are replied to alike."""
+        commands = b"\n".join(self.damaged_command() for _ in range(self.rng.randint(1, 20)))
+        data = b"".join(self.rng.choices(self.documents[:SHALLOW], k=self.rng.choice([0, 1, 10])))
+        asked = [line for line in commands.split(b"\n") if line.strip(b" \t\r")]
+        ran = self.serve(data, commands)
+        self.want(ran.status == 0 and ran.err == b"", "how a session ends")
+        replies = ran.out.splitlines(keepends=True)
+        self.want(len(replies) == len(asked), "the number of the replies")
+        told = [json.loads(reply) for reply in replies]
+        refused = [reply for reply in told if reply["ok"] is not True]
+        self.want(all(list(reply)[:4] == ["ok", "layer", "number", "text"] for reply in refused), "what is told of a refusal")
+        kept = [place for place, reply in enumerate(told) if reply["ok"] is True]
+        again = self.serve(data, b"\n".join(asked[place] for place in kept))
+        self.want(again == Ran(0, b"".join(replies[place] for place in kept), b""), "the replies without the refused commands")
+
+    def damaged_command(self) -> bytes:
+        """A command, mostly whole, over paths, numbers and tokens that other commands of the session may have."""
+        rng = self.rng
+        path = rng.choice(["age", "name", "address.city", "scores", "a..b", ""])
+        number = rng.choice([0, 1, 1, 2, 2, 3, 4, 100, -1, 2147483648])
+        query = rng.choice(['{"age":30}', "{}", '{"age":{"$gte":18}}', '{"scores":{"$elemMatch":{"$gt":0}}}', '{"$foo":1}'])
+        further = rng.choice(["", ',"sort":{"age":-1}', ',"limit":3,"skip":1', f',"use":{{"index":"{path}"}}', ',"use":"scan"', ',"sort":{"a":2}'])
+        command = rng.choice([
+            f'{{"createIndex":"{path}"}}', f'{{"createIndex":"{path}","sparse":true}}', f'{{"dropIndex":"{path}"}}',
+            f'{{"find":{query}{further}}}', f'{{"explain":{query}{further}}}', f'{{"getMore":{number},"batch":{rng.choice([0, 1, 5])}}}',
+            f'{{"getMore":{number}}}', f'{{"killCursor":{number}}}', f'{{"resume":"x","filter":{query}{further}}}', " \t", "{}",
+        ]).encode()  # fmt: skip
+        return self.damaged(command, [part.encode() for part in PARTS]) if rng.random() < 0.3 else command
 
     def damaged(self, data: bytes, parts: list[bytes]) -> bytes:
         """Bytes with a few changes."""
@@ -384,15 +431,18 @@ class Search:
             self.over_dump(self.damaged_dump())
         elif way < 0.85:
             self.over_text(self.damaged_text())
-        elif way < 0.95:
+        elif way < 0.92:
             self.over_memory()
-        else:
+        elif way < 0.96:
             self.over_words()
+        else:
+            self.over_commands()
 
     def keep(self, reason: str) -> None:
         """Keeps what is wanted to see a failure again."""
         kept = Path(tempfile.mkdtemp(prefix="hostile_"))
         (kept / "input").write_bytes(self.input)
+        (kept / "served").write_bytes(self.served)
         (kept / "words").write_text(f"{self.command!r}\n{reason}\n")
         print(f"FAILED: {reason}: {kept}", flush=True)
 
