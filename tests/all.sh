@@ -1,6 +1,6 @@
 #!/bin/sh
-# Runs the gate, then the tests of the program that the gate proved and built, the look at the examples and one round of the
-# edits, and prints the sum of all as its last line. The status is 0 where nothing failed.
+# Runs the gate, then the tests of the program that the gate proved and built, the rows of the calls that grow, the look at the
+# examples and one round of the edits, and prints the sum of all as its last line. The status is 0 where nothing failed.
 set -u
 cd "$(dirname "$0")/.." || exit 1
 log=$(mktemp) || exit 1
@@ -16,8 +16,8 @@ add() {
 	failed=$((failed + ${counts#* }))
 }
 
-# A program that an earlier run left is not tested in place of the gate's.
-rm -f crates/bsonfind/out/bsonfind
+# What an earlier run left is not tested in place of what the gate builds.
+rm -f crates/bsonfind/out/bsonfind crates/bd_growth_tests/out/bd_growth_tests_tests
 rt ci | tee "$log"
 add
 
@@ -33,6 +33,10 @@ else
 	echo 'tests/program.sh, tests/pages.py and tests/talk.py were not run: the gate built no program'
 	failed=$((failed + 1))
 fi
+
+# The gate leaves these tests too, proved and built.
+tests/growing_calls.py | tee "$log"
+add
 
 tests/examples.py | tee "$log"
 add
