@@ -25,7 +25,7 @@ from itertools import accumulate
 from pathlib import Path
 from typing import NamedTuple
 
-from failing import PATIENCE, PIPE, PROGRAM, Failing, Ran, Tests, main
+from failing import PATIENCE, PIPE, PROGRAM, Failing, Ran, Tests, await_stop, main
 from growths import BAD, BINARY, DOUBLE, FIVE, FIVE_DUMP, INT32, INT32_LINE, INT64, SEVERAL, STARVED, TALK, USAGE, counted, frames, lines
 from pages import ROOT
 from tokens import digest, request_text, token_of
@@ -312,7 +312,7 @@ CUTS = {
 def changed(failing: Failing, words: list[str], read: int, size: int, change: Callable[[], object]) -> Ran:
     """A run whose file is changed while the program waits before a read."""
     with failing.started(words, EXPLAIN, input=3, pause=read, single=size) as (run, told):
-        os.waitid(os.P_PID, run.pid, os.WSTOPPED | os.WEXITED | os.WNOWAIT)
+        await_stop(run)
         reads = told().reads[3]
         change()
         run.send_signal(signal.SIGCONT)

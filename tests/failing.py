@@ -12,6 +12,7 @@ import shutil
 import struct
 import subprocess
 import tempfile
+import time
 from collections.abc import Callable, Iterable, Iterator
 from concurrent.futures import ThreadPoolExecutor
 from contextlib import ExitStack, contextmanager
@@ -74,6 +75,15 @@ def pipe_of(data: bytes) -> int:
     os.write(theirs, data)
     os.close(theirs)
     return ours
+
+
+def await_stop(run: subprocess.Popen) -> None:
+    """Waits until a run has stopped itself, or has ended."""
+    until = time.monotonic() + PATIENCE
+    while os.waitid(os.P_PID, run.pid, os.WSTOPPED | os.WEXITED | os.WNOWAIT | os.WNOHANG) is None:
+        if time.monotonic() > until:
+            raise subprocess.TimeoutExpired(run.args, PATIENCE)
+        time.sleep(0.0005)
 
 
 class Failing:
