@@ -1,6 +1,6 @@
 #!/bin/sh
-# Runs the gate, then the tests of the program that the gate proved and built, the look at the examples and one round of the
-# edits, and prints the sum of all as its last line. The status is 0 where nothing failed.
+# Runs the gate, then the tests of the program that the gate proved and built, the looks at the examples and the definitions and
+# one round of the edits, and prints the sum of all as its last line. The status is 0 where nothing failed.
 set -u
 cd "$(dirname "$0")/.." || exit 1
 log=$(mktemp) || exit 1
@@ -39,6 +39,8 @@ else
 fi
 
 tests/examples.py | tee "$log"
+add
+tests/definitions.py | tee "$log"
 add
 
 # Each commit tries another round. It is over what the gate proved, so not where that failed.
