@@ -1,5 +1,5 @@
 #!/usr/bin/env python3
-"""Runs ./bsonfind over damaged dumps, texts and commands, and looks for a crash, a hang or a wrong answer.
+"""Runs ./bsonfind over damaged dumps, texts and commands, and over random requests, and looks for a crash, a hang or a wrong answer.
 
 usage: tests/hostile.py SECONDS [SEED]
 
@@ -20,6 +20,9 @@ from collections.abc import Iterator
 from pathlib import Path
 from typing import NamedTuple, NoReturn
 
+from answers import Dump, read, written
+from inputs import Inputs
+from sessions import Find, Session
 from tokens import digest, request_text, token_of
 
 ROOT = Path(__file__).resolve().parent.parent
@@ -164,6 +167,7 @@ class Search:
 
     def __init__(self, seed: int, room: Path) -> None:
         self.rng = random.Random(seed)
+        self.inputs = Inputs(self.rng)
         self.room = room
         self.runs = 0
         self.input = self.served = b""
@@ -352,6 +356,47 @@ class Search:
         again = self.serve(data, b"\n".join(asked[place] for place in kept))
         self.want(again == Ran(0, b"".join(replies[place] for place in kept), b""), "the replies without the refused commands")
 
+    def over_requests(self) -> None:
+        """What is found in random documents by random requests, and after the tokens of earlier ones, is what python finds."""
+        inputs, rng = self.inputs, self.rng
+        dump = Dump(inputs.documents())
+        lines = b"".join(written(it).encode() + b"\n" for it in dump.documents)
+        self.want(self.run("dump", dump.bytes) == Ran(0, lines, b"%d objects found\n" % len(dump.documents)), "dump of random documents")
+        earlier: list[Find] = []
+        for _ in range(rng.randint(1, 8)):
+            find = inputs.find()
+            if earlier and rng.random() < 0.5:
+                before = rng.choice(earlier)
+                find = (find if rng.random() < 0.1 else before)._replace(after=before.after, batch=find.batch, index=find.index)
+                if rng.random() < 0.3:
+                    find = find._replace(after=inputs.bent_token(find.after, len(dump.documents)))
+            status, out, told = find.shown(dump)
+            ran = self.run("find", dump.bytes, *find.words(inputs.text))
+            self.want(ran == Ran(status, out, told.encode()), f"what is found; wanted {status} {told!r}")
+            if ", token " in told:
+                earlier.append(find._replace(after=told.rstrip().rsplit(" ", 1)[-1]))
+
+    def over_talk(self) -> None:
+        """The replies to random commands are those that python makes."""
+        inputs, rng = self.inputs, self.rng
+        session = Session(Dump(inputs.documents()))
+        lines, wanted = [], []
+        first = rng.choice([b""] * 20 + [b'{"find":{}}', b'{"createIndex":"%d"}'])
+        for number in range(rng.choice([16, 62, 64]) if first else 0):
+            lines.append(first.replace(b"%d", b"%d" % number))
+            wanted.append(session.reply(read(lines[-1])))
+        for _ in range(rng.choice([3, 10, 40])):
+            command = inputs.command(session)
+            lines.append(inputs.text(command).encode())
+            wanted.append(session.reply(command))
+            if rng.random() < 0.05:
+                lines.append(b" \t")
+        ran = self.serve(session.dump.bytes, b"\n".join(lines) + rng.choice([b"", b"\n", b"\r\n"]))
+        told = ran.out.decode().splitlines()
+        wrong = next((place for place, reply in enumerate(wanted) if told[place : place + 1] != [reply]), None)
+        said = "" if wrong is None else f": wanted {wanted[wrong]}, came {told[wrong : wrong + 1]}"
+        self.want((ran.status, ran.err, len(told)) == (0, b"", len(wanted)) and wrong is None, f"the replies of a session{said}")
+
     def damaged_command(self) -> bytes:
         """A command, mostly whole, over paths, numbers and tokens that other commands of the session may have."""
         rng = self.rng
@@ -426,17 +471,16 @@ class Search:
         return "{" + word.replace(b"\0", b"").decode(errors="replace")[1:]
 
     def once(self) -> None:
-        way = self.rng.random()
-        if way < 0.55:
+        ways = {
+            self.over_requests: 0.3, self.over_talk: 0.2, self.over_memory: 0.04, self.over_words: 0.03, self.over_commands: 0.03,
+        }  # fmt: skip
+        way = self.rng.choices([*ways, None], [*ways.values(), 0.4])[0]
+        if way:
+            way()
+        elif self.rng.random() < 0.6:
             self.over_dump(self.damaged_dump())
-        elif way < 0.85:
-            self.over_text(self.damaged_text())
-        elif way < 0.92:
-            self.over_memory()
-        elif way < 0.96:
-            self.over_words()
         else:
-            self.over_commands()
+            self.over_text(self.damaged_text())
 
     def keep(self, reason: str) -> None:
         """Keeps what is wanted to see a failure again."""
