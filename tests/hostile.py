@@ -385,7 +385,7 @@ class Search:
         for number in range(rng.choice([16, 62, 64]) if first else 0):
             lines.append(first.replace(b"%d", b"%d" % number))
             wanted.append(session.reply(read(lines[-1])))
-        for _ in range(rng.choice([3, 10, 40])):
+        for _ in range(rng.choice([3, 40, 150])):
             command = inputs.command(session)
             lines.append(inputs.text(command).encode())
             wanted.append(session.reply(command))

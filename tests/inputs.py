@@ -5,7 +5,7 @@ import json
 import random
 
 from answers import INT32, LEFT_OUT, LOGICAL, MOST, NULL, RELATIONS, TYPES, UNDEFINED, Token, Value, candidates, number, obj, path_fault, reach, string, written
-from sessions import Find, Session
+from sessions import GREATEST, Find, Session
 
 NAMES = ["a", "a", "a", "b", "b", "c", "0", "1"]
 ODD_NAMES = ["", "a.b", "$a", "$gt", "é", "\0", "2", "00", "a" * 40]
@@ -17,11 +17,12 @@ IDS = [bytes(12), bytes(11) + b"\1", b"\xff" * 12]
 
 
 class Inputs:
-    """Makes inputs by a generator of random numbers. Operands are mostly values of the documents that were made last."""
+    """Makes inputs by a generator of random numbers. Operands are mostly values of the documents that were made last, on few paths."""
 
     def __init__(self, rng: random.Random) -> None:
         self.rng = rng
         self.made: list[Value] = []
+        self.paths: list[str] = []
 
     def chance(self, part: float) -> bool:
         return self.rng.random() < part
@@ -81,13 +82,17 @@ class Inputs:
         return obj(*((name.replace("\0", "z"), value) for name, value in pairs))
 
     def documents(self) -> list[Value]:
-        """Documents, of which some are alike."""
+        """Documents, of which some are alike, and the paths that requests mostly have."""
+        self.paths = []
+        self.paths = [self.path() for _ in range(self.rng.choice([1, 2, 3]))]
         made = [self.document() for _ in range(self.rng.choice([0, 1, 3, 8, 8, 20, 40]))]
         self.made = made + [self.rng.choice(made) for _ in made if self.chance(0.2)]
         return self.made
 
     def path(self) -> str:
         rng = self.rng
+        if self.paths and self.chance(0.7):
+            return rng.choice(self.paths)
         if self.chance(0.01):
             return rng.choice(BAD_PATHS)
         return ".".join(self.rng.choice(NAMES) for _ in range(rng.choice([1, 2, 3, 4]))) if self.chance(0.3) else rng.choice(PATHS)
@@ -190,7 +195,7 @@ class Inputs:
         return rng.choice([
             Token(given, rng.choice([documents, documents + 1, (1 << 32) - 1]), tied).text(),
             Token(given, documents, changed[13:]).text(),
-            Token(rng.choice([0, given + 1, (1 << 64) - 1]), rng.randrange(documents + 1), tied).text(),
+            Token(rng.choice([0, min(given + 1, GREATEST), GREATEST]), rng.randrange(documents + 1), tied).text(),
             Token(given, rng.randrange(documents + 1), tied).text(),
             base64.b64encode(changed).decode(),
             base64.b64encode(bytes([2]) + data[1:]).decode(),
