@@ -138,55 +138,6 @@ def written(value: Value) -> str:
     raise AssertionError(kind)
 
 
-def read(text: str | bytes) -> Value:
-    """The value of a text that is known to be one: bare numbers, and wrappers in their canonical form."""
-
-    def long(it: object) -> int:
-        return int(it[0][1])
-
-    def value_of(it: object) -> Value:
-        if isinstance(it, tuple):
-            match it:
-                case (("$numberInt", of),):
-                    return Value("int", int(of))
-                case (("$numberLong", of),):
-                    return Value("long", int(of))
-                case (("$symbol", of),):
-                    return Value("symbol", of)
-                case (("$code", of),):
-                    return Value("javascript", of)
-                case (("$code", of), ("$scope", scope)):
-                    return Value("javascriptWithScope", (of, value_of(scope)))
-                case (("$oid", of),):
-                    return Value("objectId", bytes.fromhex(of))
-                case (("$date", of),):
-                    return Value("date", long(of))
-                case (("$timestamp", ((_, seconds), (_, increment))),):
-                    return Value("timestamp", (seconds, increment))
-                case (("$binary", ((_, data), (_, subtype))),):
-                    return Value("binData", (int(subtype, 16), base64.b64decode(data)))
-                case (("$regularExpression", ((_, pattern), (_, options))),):
-                    return Value("regex", (pattern, options))
-                case (("$dbPointer", ((_, space), (_, of))),):
-                    return Value("dbPointer", (space, bytes.fromhex(of[0][1])))
-                case (("$minKey", _),):
-                    return Value("minKey")
-                case (("$maxKey", _),):
-                    return Value("maxKey")
-                case (("$undefined", _),):
-                    return UNDEFINED
-            return Value("object", tuple((name, value_of(of)) for name, of in it))
-        if isinstance(it, list):
-            return Value("array", tuple(map(value_of, it)))
-        if isinstance(it, bool):
-            return Value("bool", it)
-        if isinstance(it, int):
-            return number(it)
-        return NULL if it is None else string(it)
-
-    return value_of(json.loads(text, object_pairs_hook=tuple))
-
-
 # The order of values, and paths.
 
 
@@ -625,9 +576,10 @@ class Index(NamedTuple):
 class Dump:
     """Documents, and what is found in them."""
 
-    def __init__(self, documents: list[Value]) -> None:
+    def __init__(self, documents: list[Value], data: bytes | None = None) -> None:
         self.documents = documents
-        self.bytes = b"".join(map(encoded, documents))
+        # Other bytes may be the same documents: names of elements that are not their places.
+        self.bytes = b"".join(map(encoded, documents)) if data is None else data
 
     def tied(self, request: Request) -> bytes:
         return digest(self.bytes, request.text())

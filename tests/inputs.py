@@ -166,7 +166,7 @@ class Inputs:
     def find(self) -> Find:
         rng = self.rng
         skip, limit, batch = rng.choice([0, 0, 0, 1, 2]), rng.choice([0, 0, 0, 1, 2, 5]), rng.choice([None, None, 0, 1, 1, 2, 3, MOST])
-        return Find(self.filter(), self.sort(), skip, limit, batch, self.path() if self.chance(0.4) else None)
+        return Find(self.text(self.filter()), self.text(self.sort()), skip, limit, batch, self.path() if self.chance(0.4) else None)
 
     def text(self, value: Value) -> str:
         """A text of a value, with numbers that are bare, white space or escapes, here and there."""

@@ -19,7 +19,8 @@ from collections.abc import Callable, Iterator
 from pathlib import Path
 from typing import NamedTuple
 
-from answers import LEVELS, BadFilter, check_filter, read
+from answers import LEVELS, BadFilter, check_filter
+from texts import read_document
 
 ROOT = Path(__file__).resolve().parent.parent
 PROGRAM = ROOT / "bsonfind"
@@ -423,7 +424,7 @@ def test_limits(tests: Tests) -> None:
         ran = tests.run(["find", "-", "--query", levels_of(name, LEVELS)])
         tests.want(f"{LEVELS} levels of {name}", ran.status == 0 and ", end" in ran.told, ran)
         try:
-            check_filter(read(levels_of(name, LEVELS + 1)))
+            check_filter(read_document(levels_of(name, LEVELS + 1).encode()))
             place = None
         except BadFilter as bad:
             place = ".".join(bad.place)

@@ -1,17 +1,17 @@
 """What `find` and `serve` should reply, by python: refusals in their order, cursors with all that they have left, and indexes.
 
-It stands on tests/answers.py. Texts that are no documents are not looked into here: commands, filters and sorts are values.
+It stands on tests/answers.py, and for the lines of `serve` on tests/texts.py.
 """
 
 import json
-from collections.abc import Callable
 from dataclasses import dataclass
 from typing import NamedTuple
 
 from answers import (
-    FILTER_WORDS, MOST, BadFilter, Dump, Index, Request, Token, Value, bounds_of, check_filter, first, is_whole, matches, obj, path_fault,
+    FILTER_WORDS, MOST, BadFilter, Dump, Index, Request, Token, Value, bounds_of, check_filter, encoded, is_whole, matches, obj, path_fault,
     read_token, sort_pairs, written,
 )  # fmt: skip
+from texts import NOT_A_DOCUMENT, TEXT_WORDS, TextFault, read_document
 
 INDEXES, CURSORS = 16, 64
 GREATEST = (1 << 64) - 1
@@ -24,6 +24,10 @@ PATH_WORDS = ("empty component", "too many components")
 COMMAND_WORDS = ("unknown command", "missing field", "unknown field", "repeated field", "bad field")
 UNKNOWN_COMMAND, MISSING_FIELD, UNKNOWN_FIELD, REPEATED_FIELD, BAD_FIELD = range(1, 6)
 WORDS = {"command": COMMAND_WORDS, "path": PATH_WORDS, "session": SESSION_WORDS}
+
+
+class Told(Exception):
+    """What `find` tells."""
 
 
 class Refused(Exception):
@@ -113,15 +117,20 @@ class Session:
         # The tokens that were given, with the requests that they are of.
         self.tokens: list[tuple[str, Request]] = []
 
-    def reply(self, command: Value) -> str:
-        """The reply to a document."""
+    def reply(self, line: bytes) -> str:
+        """The reply to a line."""
         try:
+            command = read_document(line)
             name = self.check(command)
             fields = dict(reversed(command.of))
             return f'{{"ok":true{getattr(self, name)(fields)}}}'
         except Refused as refused:
             text = WORDS[refused.layer][refused.number - 1]
             return f'{{"ok":false,"layer":"{refused.layer}","number":{{"$numberInt":"{refused.number}"}},"text":"{text}"}}'
+        except TextFault as fault:
+            at = "null" if fault.number == NOT_A_DOCUMENT else f'{{"$numberLong":"{fault.at}"}}'
+            text = TEXT_WORDS[fault.number - 1]
+            return f'{{"ok":false,"layer":"json","number":{{"$numberInt":"{fault.number}"}},"text":"{text}","at":{at}}}'
         except BadFilter as bad:
             place = json.dumps(".".join(bad.place), ensure_ascii=False)
             text = FILTER_WORDS[bad.number - 1]
@@ -274,38 +283,61 @@ class Session:
 
 
 class Find(NamedTuple):
-    """The words of `find`."""
+    """The words of `find`: texts of a query and a sort, and the rest as it is."""
 
-    query: Value = obj()
-    sort: Value = obj()
+    query: str = "{}"
+    sort: str = "{}"
     skip: int = 0
     limit: int = 0
     batch: int | None = None
     index: str | None = None
     after: str | None = None
 
-    def words(self, text: Callable[[Value], str]) -> list[str]:
-        """Its options, in which values are written by a function; those that say nothing are left out."""
-        options = {
-            "query": text(self.query) if self.query.of else None, "sort": text(self.sort) if self.sort.of else None, "skip": self.skip or None,
-            "limit": self.limit or None, "batch": self.batch, "index": self.index, "after": self.after,
-        }  # fmt: skip
-        return [f"--{name}={value}" for name, value in options.items() if value is not None]
+    def words(self) -> list[str]:
+        """Its options; those that say nothing are left out."""
+        return [f"--{name}={value}" for name, value in self._asdict().items() if value != self._field_defaults[name]]
+
+    def request(self) -> Request:
+        values = []
+        for name, text in (("query", self.query), ("sort", self.sort)):
+            try:
+                values.append(read_document(text.encode()))
+            except TextFault as fault:
+                byte = "" if fault.number == NOT_A_DOCUMENT else f" byte {fault.at}:"
+                raise Told(f"{name}:{byte} {TEXT_WORDS[fault.number - 1]}") from None
+        return request_of(*values, self.skip, self.limit)
 
     def shown(self, dump: Dump) -> tuple[int, bytes, str]:
         """The status, what is written, and what is told."""
         try:
-            request = request_of(self.query, self.sort, self.skip, self.limit)
+            request = self.request()
             if self.index is not None and (fault := path_fault(self.index)):
-                return 1, b"", f"bsonfind: index: {PATH_WORDS[fault - 1]}\n"
+                raise Told(f"index: {PATH_WORDS[fault - 1]}")
             token = None if self.after is None else token_in(self.after)
             left = dump.answer(request) if token is None else rest_after(dump, request, token)
+        except Told as told:
+            return 1, b"", f"bsonfind: {told}\n"
         except BadFilter as bad:
             place = json.dumps(".".join(bad.place), ensure_ascii=False)
             return 1, b"", f"bsonfind: query: place {place}: {FILTER_WORDS[bad.number - 1]}\n"
         except Refused as refused:
             name = "sort" if refused.number == NOT_A_SORT else "token"
             return 1, b"", f"bsonfind: {name}: {SESSION_WORDS[refused.number - 1]}\n"
-        places, end, text = Cursor(left, request, dump.tied(request), token).next(len(left) if self.batch is None else self.batch)
+        cursor = Cursor(left, request, dump.tied(request), token)
+        places, end, text = cursor.next(len(left) if self.batch is None else self.batch)
         lines = b"".join(written(dump.documents[place]).encode() + b"\n" for place in places)
         return 0, lines, f"{len(places)} documents, {'end' if end else 'more'}{f', token {text}' if text else ''}\n"
+
+
+def packed(text: bytes) -> tuple[int, bytes, str]:
+    """The status of `pack`, what it writes, and what it tells."""
+    documents = []
+    for number, line in enumerate(text.split(b"\n"), 1):
+        if not line.strip(b" \t\r"):
+            continue
+        try:
+            documents.append(encoded(read_document(line)))
+        except TextFault as fault:
+            byte = "" if fault.number == NOT_A_DOCUMENT else f", byte {fault.at}"
+            return 1, b"".join(documents), f"bsonfind: line {number}{byte}: {TEXT_WORDS[fault.number - 1]}\n{len(documents)} objects packed\n"
+    return 0, b"".join(documents), f"{len(documents)} objects packed\n"
