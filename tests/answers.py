@@ -5,11 +5,10 @@ is of a kind, which has the name that $type gives it.
 """
 
 import base64
+import hashlib
 import json
 import re
 from typing import Callable, Iterator, NamedTuple
-
-from tokens import digest, token_of
 
 INT32 = range(-(1 << 31), 1 << 31)
 INT64 = range(-(1 << 63), 1 << 63)
@@ -531,8 +530,9 @@ class Token(NamedTuple):
     last: int
     tied: bytes
 
-    def text(self) -> str:
-        return token_of(*self)
+    def text(self, version: int = 1) -> str:
+        """The version, how many documents were given, the number of the last one, and the digest, in base64."""
+        return base64.b64encode(bytes([version]) + self.given.to_bytes(8, "little") + self.last.to_bytes(4, "little") + self.tied).decode()
 
 
 def read_token(text: str) -> Token | None:
@@ -582,7 +582,8 @@ class Dump:
         self.bytes = b"".join(map(encoded, documents)) if data is None else data
 
     def tied(self, request: Request) -> bytes:
-        return digest(self.bytes, request.text())
+        """What tokens are tied to: a digest of the dump and of the request's text."""
+        return hashlib.sha256(hashlib.sha256(self.bytes).digest() + request.text().encode()).digest()
 
     def sort_key(self, place: int, path: str, way: int) -> tuple:
         return (min if way == 1 else max)(map(rank, keys(self.documents[place], path)))

@@ -453,7 +453,7 @@ def main() -> int:
         large, scale = ((2 * MIB, 16 * MIB), 4) if full else ((MIB // 8, MIB), 1)
         for cases in (
             large_cases(large),
-            line_cases(large),
+            line_cases((large[0] - 25, large[1] - 200)),
             member_cases((1250 * scale, 10000 * scale), (50 * scale, 400 * scale)),
             path_cases(scale),
             session_cases(scale),
