@@ -29,8 +29,12 @@ if cp crates/bsonfind/out/bsonfind bsonfind; then
 	add
 	tests/talk.py | tee "$log"
 	add
+	tests/growths.py | tee "$log"
+	add
+	tests/devices.py | tee "$log"
+	add
 else
-	echo 'tests/program.sh, tests/pages.py and tests/talk.py were not run: the gate built no program'
+	echo 'tests/program.sh and the tests after it were not run: the gate built no program'
 	failed=$((failed + 1))
 fi
 

@@ -1,7 +1,6 @@
 -- What `pack` shows of an input, and what a run of it did.
 pub mod Packing
-use Rattle.std.specs.Prelude.{◌≡◌, ◌⊎◌, ℕ, suc, List, [], ◌∷◌, ◌++◌, length, codes, decimal, Bool, ◌==◌, ◌||◌, IsTrue, IsFalse, Option, Some, None, Result, Ok, Err}
-use Rattle.std.specs.List.{list_all, slice_split}
+use Rattle.std.specs.Prelude.{◌≡◌, ◌⊎◌, ℕ, suc, List, [], ◌∷◌, ◌++◌, length, codes, decimal, IsTrue, IsFalse, Option, Some, None, Result, Ok, Err}
 use Rattle.bd_value.specs.Tree.{Doc}
 use Rattle.bd_device.specs.Devices.{Over, Reader, Writer}
 use Rattle.bd_device.specs.declared.reading.ReadFault.{ReadFault}
@@ -11,22 +10,12 @@ use Rattle.bd_diagnose.specs.declared.json_fault.JsonFaultKind.TheVariants as ki
 use Rattle.bd_pack.specs.Packable.{plain, IsPackable, IsBad}
 use Rattle.bd_pack.specs.declared.line.LineFault.{LineFault}
 use Rattle.bd_pack.specs.declared.line.LineFault.TheVariants as faults
+use Rattle.bd_lines.specs.Lines.{is_empty_line, text_lines}
 use Rattle.bd_cli.specs.Outcome.{PrintsOrStarves, ReadsInput}
 use Rattle.bd_cli.specs.Shown.{Shown, error_line, read_words, shown_refusal}
 use Rattle.bd_cli.specs.declared.pack.packing.BadLine.{BadLine}
 use Rattle.bd_cli.specs.declared.status.Status.{Status}
 use Rattle.bd_cli.specs.declared.status.Status.TheVariants.{Done, Failed}
-
--- The lines of a text are the parts between newlines (10). Where it ends with one, the part after it is an empty line.
-abbrev pub lines_of : List ℕ → List (List ℕ)
-lines_of text = slice_split (λ b. b == 10) text
-
--- a space, a tab or a carriage return
-abbrev pub is_white : ℕ → Bool
-is_white b = (b == 32 || b == 9) || b == 13
-
-abbrev pub is_blank : List ℕ → Bool
-is_blank line = list_all is_white line
 
 -- the bytes of documents one after the other
 abbrev pub packed_bytes : List Doc → List ℕ
@@ -38,11 +27,11 @@ packed_bytes (d ∷ ds) = plain d ++ packed_bytes ds
 abbrev pub PacksLines : ℕ → List (List ℕ) → List Doc → Option BadLine → Type 0
 PacksLines number [] ds bad = (ds ≡ []) × (bad ≡ None)
 PacksLines number (line ∷ lines) ds bad =
-    (IsTrue (is_blank line) × PacksLines (suc number) lines ds bad)
-    ⊎ (IsFalse (is_blank line)
+    (IsTrue (is_empty_line line) × PacksLines (suc number) lines ds bad)
+    ⊎ (IsFalse (is_empty_line line)
     × ((d : Doc) × (es : List Doc) × IsPackable line d × (ds ≡ d ∷ es)
     × PacksLines (suc number) lines es bad))
-    ⊎ (IsFalse (is_blank line) × ((fault : LineFault) × IsBad line fault × (ds ≡ []) × (bad ≡ Some (record {
+    ⊎ (IsFalse (is_empty_line line) × ((fault : LineFault) × IsBad line fault × (ds ≡ []) × (bad ≡ Some (record {
       number =
           number;
       fault = fault;
@@ -81,7 +70,7 @@ shown_pack ds bad = record { out = packed_bytes ds; err = pack_message (length d
 -- what is shown of a text, or of an input that was not read whole
 abbrev pub IsShownByPack : Result (List ℕ) ReadFault → Shown → Type 0
 IsShownByPack (Ok text) shown =
-    (ds : List Doc) × (bad : Option BadLine) × PacksLines 1 (lines_of text) ds bad
+    (ds : List Doc) × (bad : Option BadLine) × PacksLines 1 (text_lines text) ds bad
     × (shown ≡ shown_pack ds bad)
 IsShownByPack (Err fault) shown = shown ≡ shown_refusal (read_words fault)
 

@@ -8,7 +8,8 @@ ghost use Rattle.bd_cli.specs.declared.pack.packing.BadLine.{BadLine};
 ghost use Rattle.bd_cli.specs.Check.{IsShownByCheck};
 ghost use Rattle.bd_cli.specs.Dump.{IsShownByDump, ShowsFront};
 ghost use Rattle.bd_cli.specs.Find.{IsShownByFind};
-ghost use Rattle.bd_cli.specs.Pack.{AreAlike, IsShownByPack, PacksLines, lines_of};
+ghost use Rattle.bd_cli.specs.Pack.{AreAlike, IsShownByPack, PacksLines};
+ghost use Rattle.bd_lines.specs.Lines.{text_lines};
 ghost use Rattle.bd_cli.specs.Shown.{Shown};
 
 /// One thing is shown of each input, and of each list of bytes there is something to show; so also for `check`, and for
@@ -26,7 +27,7 @@ pub fn shows_one_thing()
         IsShownByFind words input shown → IsShownByFind words input other → (shown.out ≡ other.out) × (shown.status ≡ other.status) }
     ensures found_some { (words : FindWords) (bytes : List ℕ) → ((i : ℕ) → slice_index bytes i < 256) →
         (shown : Shown) × IsShownByFind words (Ok bytes) shown }
-    ensures packed_one { (text : List ℕ) (ds es : List Doc) (bad other : Option BadLine) → PacksLines 1 (lines_of text) ds bad → PacksLines 1 (lines_of text) es other → (ds ≡ es) × AreAlike bad other }
+    ensures packed_one { (text : List ℕ) (ds es : List Doc) (bad other : Option BadLine) → PacksLines 1 (text_lines text) ds bad → PacksLines 1 (text_lines text) es other → (ds ≡ es) × AreAlike bad other }
     ensures packed_alike { (input : Result (List ℕ) ReadFault) (shown other : Shown) → IsShownByPack input shown → IsShownByPack input other → (shown.out ≡ other.out) × (shown.status ≡ other.status) }
     ensures packed_some { (text : List ℕ) → (shown : Shown) × IsShownByPack (Ok text) shown }
 {}

@@ -17,12 +17,15 @@
 //! assert!(rt; !lines.read_next(&mut input)?);
 //! ```
 //!
+//! - `lines`: `is_empty_line`, which tells the lines that are no commands.
 //! - `line_buffer`: `LineBuffer`, the next line of a device that is lent for the call.
 //! - `serving`: `serve`, which writes what a `Replier` replies to each command.
 #![tactic(auto)]
 
 mod line_buffer;
+mod lines;
 mod serving;
 
 pub use line_buffer::LineBuffer;
+pub use lines::is_empty_line;
 pub use serving::{Replier, ServeFault, serve};

@@ -1,11 +1,12 @@
 //! A reply to each command of a device, written before a later read.
 ghost use Rattle.std.specs.Prelude.{◌≡◌, ◌++◌, ◌∷◌, [], None, false, IfErr, OnErr, OnOk, IsErrOf, List, ℕ, ◌⊎◌};
 ghost use Rattle.bd_device.specs.Devices.{BreaksWithin, TakesText, over};
-ghost use Rattle.bd_lines.specs.Lines.{is_empty_line, is_space, not_empty};
+ghost use Rattle.bd_lines.specs.Lines.{is_empty_line, not_empty};
 ghost use Rattle.bd_lines.specs.Serving.{Replied, ServesAll, StopsServing};
 ghost use Rattle.bd_lines.specs.declared.serving.ServeFault.TheVariants.{NoMemory as starved, Unread as unread, Unwritten as unwritten};
 
 use crate::line_buffer::LineBuffer;
+use crate::lines::is_empty_line;
 use bd_device::{DeviceFault, Input, Limits, Output, ReadFault, write_all};
 use std::alloc::{AllocError, Global};
 use thiserror::Error;
@@ -15,10 +16,12 @@ pub trait Replier {
     /// In the first state this command may have this reply, which leaves the second state.
     ghost replies: { Self → List ℕ → List ℕ → Self → Type 0 };
 
-    /// Appends the reply to a command, a line without its newline.
+    /// Appends the reply to a command, a line without its newline. Where memory runs out the text is as it was, and no more
+    /// commands are to be handed to it: whether this one was carried out is not known.
     fn reply(&mut self, command: &[u8], text: &mut Vec<u8>) -> Result<(), AllocError>
         ensures replies { OnOk result ((reply : List ℕ) × (text.new.items ≡ text.old.items ++ reply)
-            × replies self.old command.now reply self.new) };
+            × replies self.old command.now reply self.new) }
+        ensures kept { OnErr result (text.new.items ≡ text.old.items) };
 }
 
 /// Why not all commands of a device had a reply.
@@ -57,20 +60,6 @@ impl From<DeviceFault> for ServeFault {
     fn from(_fault: DeviceFault) -> ServeFault {
         ServeFault::Unwritten
     }
-}
-
-/// Whether a byte is a space, a tab or a carriage return.
-fn is_space(byte: u8) -> bool
-    ensures { result ≡ is_space byte }
-{
-    byte == b' ' || byte == b'\t' || byte == b'\r'
-}
-
-/// Whether a line is white space alone, or empty.
-fn is_empty_line(line: &[u8]) -> bool
-    ensures { result ≡ is_empty_line line.now }
-{
-    line.iter().all(|byte| is_space(*byte))
 }
 
 /// Writes the reply to a line, where it is a command. `text` is room that lines share.

@@ -20,8 +20,12 @@ impl Replier for Numbered {
         if self.digit == self.last {
             return Err(AllocError);
         }
+        let before = text.len();
         text.extend_from_slice(&[self.digit])?;
-        text.extend_from_slice(command)?;
+        if text.extend_from_slice(command).is_err() {
+            text.truncate(before);
+            return Err(AllocError);
+        }
         self.digit = self.digit.saturating_add(1);
         Ok(())
     }

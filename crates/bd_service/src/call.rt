@@ -6,13 +6,19 @@ use bd_path::Path;
 /// A call of a session, with its texts and documents read.
 #[derive(Drop)]
 pub enum Call {
-    /// An index on a path, sparse or not.
-    CreateIndex(Path, bool),
+    CreateIndex {
+        path: Path,
+        /// Whether documents without the field have no entry.
+        sparse: bool,
+    },
     DropIndex(Path),
     Find(Request, Choice),
     Resume(Request, Choice, Token),
-    /// The next documents of the cursor of a number, and how many at most.
-    GetMore(u64, u64),
+    GetMore {
+        id: u64,
+        /// How many documents at most.
+        batch: u64,
+    },
     KillCursor(u64),
     Explain(Request, Choice),
 }

@@ -30,7 +30,7 @@ pub(crate) fn call_of(alloc: Global, command: Command) -> Result<Call, CallFault
     match command {
         Command::CreateIndex { path, sparse } => {
             let path = read_path(alloc, path.as_str())?;
-            Ok(Call::CreateIndex(path, sparse))
+            Ok(Call::CreateIndex { path, sparse })
         }
         Command::DropIndex { path } => {
             let path = read_path(alloc, path.as_str())?;
@@ -45,7 +45,7 @@ pub(crate) fn call_of(alloc: Global, command: Command) -> Result<Call, CallFault
             let (request, choice) = read_search(alloc, find)?;
             Ok(Call::Resume(request, choice, token))
         }
-        Command::GetMore { id, batch } => Ok(Call::GetMore(id, batch)),
+        Command::GetMore { id, batch } => Ok(Call::GetMore { id, batch }),
         Command::KillCursor { id } => Ok(Call::KillCursor(id)),
         Command::Explain(find) => {
             let (request, choice) = read_search(alloc, find)?;

@@ -16,12 +16,15 @@ pub(crate) fn perform(session: &mut Session, call: Call) -> Result<Reply, NoMemo
     ensures { IfOk result (λ r. Performs session.old (session_call (dump_of session.old) call) r session.new) }
 {
     match call {
-        Call::CreateIndex(path, false) => made(session.create_index(path)),
-        Call::CreateIndex(path, true) => made(session.create_sparse_index(path)),
+        Call::CreateIndex {
+            path,
+            sparse: false,
+        } => made(session.create_index(path)),
+        Call::CreateIndex { path, sparse: true } => made(session.create_sparse_index(path)),
         Call::DropIndex(path) => done(session.drop_index(&path)),
         Call::Find(request, choice) => opened(session.find(request, choice)),
         Call::Resume(request, choice, token) => opened(session.resume(request, choice, &token)),
-        Call::GetMore(id, batch) => match session.next(id, batch) {
+        Call::GetMore { id, batch } => match session.next(id, batch) {
             Ok(batch) => Ok(Reply::Gave(batch)),
             Err(refused) => refuse(refused),
         },

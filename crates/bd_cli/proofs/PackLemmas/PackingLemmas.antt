@@ -25,7 +25,8 @@ use Rattle.bd_cli.specs.declared.status.Status.TheVariants.{Failed}
 use Rattle.bd_cli.proofs.FindLemmas.{all_shown}
 use Rattle.bd_cli.proofs.OutputLemmas.LinesLemmas.{breaks_piece, front_taken, takes_both}
 use Rattle.bd_cli.specs.Outcome.{PrintsOrStarves, TellsMessage}
-use Rattle.bd_cli.specs.Pack.{IsShownByPack, PacksLines, is_blank, lines_of, pack_message, pack_status, packed_bytes, shown_pack}
+use Rattle.bd_cli.specs.Pack.{IsShownByPack, PacksLines, pack_message, pack_status, packed_bytes, shown_pack}
+use Rattle.bd_lines.specs.Lines.{is_empty_line, text_lines}
 use Rattle.bd_cli.specs.Pack.Packing.{IsPacking, StopsPacking, left_size, lines_left}
 use Rattle.bd_cli.specs.Shown.{Shown, error_line}
 use Rattle.bd_device.specs.Devices.{BreaksWithin, TakesText, Writer, between}
@@ -45,20 +46,20 @@ HasPacking number lines = (ds : List Doc) × (bad : Option BadLine) × PacksLine
 
 pub packs_some : (number : ℕ) (lines : List (List ℕ)) → HasPacking number lines
 packs_some number [] = ([], None, (refl, refl))
-packs_some number (line ∷ lines) = by_blank (is_blank line) refl (packs_some (suc number) lines)
+packs_some number (line ∷ lines) = by_blank (is_empty_line line) refl (packs_some (suc number) lines)
   where
-    short : (d : Doc) → is_blank line ≡ false → ReadsAs line d → HasPacking (suc number) lines → (16793600 < length (plain d)) ⊎ (length (plain d) ≤ 16793600) → HasPacking number (line ∷ lines)
+    short : (d : Doc) → is_empty_line line ≡ false → ReadsAs line d → HasPacking (suc number) lines → (16793600 < length (plain d)) ⊎ (length (plain d) ≤ 16793600) → HasPacking number (line ∷ lines)
     short d full is rest (inl long) = ([], Some (record { number = number; fault = faults.TooLong }), inr (inr (full, (faults.TooLong, (d, is, long), refl, refl))))
     short d full is rest (inr le) = (d ∷ rest.0, rest.1, inr (inl (full, (d, rest.0, (is, le), refl, rest.2))))
 
-    by_reading : (o : Option Doc) → reading line ≡ o → is_blank line ≡ false → HasPacking (suc number) lines → HasPacking number (line ∷ lines)
+    by_reading : (o : Option Doc) → reading line ≡ o → is_empty_line line ≡ false → HasPacking (suc number) lines → HasPacking number (line ∷ lines)
     by_reading None none full rest =
         let fault : JsonFault = record { kind = kinds.Syntax; at = 0 } in
         let placed : IsPlaced (length line) fault = record { inside = omega arith; whole = λ e. refl; memory = λ e. refl } in
         ([], Some (record { number = number; fault = faults.Unread fault }), inr (inr (full, (faults.Unread fault, (λ e. cc, λ d is. cc, placed), refl, refl))))
     by_reading (Some d) is full rest = short d full is rest (cases_lt 16793600 (length (plain d)))
 
-    by_blank : (b : Bool) → is_blank line ≡ b → HasPacking (suc number) lines → HasPacking number (line ∷ lines)
+    by_blank : (b : Bool) → is_empty_line line ≡ b → HasPacking (suc number) lines → HasPacking number (line ∷ lines)
     by_blank true blank rest = (rest.0, rest.1, inl (blank, rest.2))
     by_blank false full rest = by_reading (reading line) refl full rest
 
@@ -102,16 +103,16 @@ none_before text k le none i d lt =
     let same : get_or (take k text) i d ≡ get_or text i 0 = get_or-take k text i d inside ∙ get_or_default text i d 0 (omega arith) in
     rw same (other_byte (get_or text i 0) (none i inside))
 
-pub cut_at : (text : List ℕ) (k : ℕ) → IsFirstByte (is_byte 10) text (Some k) → lines_of text ≡ take k text ∷ lines_of (drop (k + 1) text)
+pub cut_at : (text : List ℕ) (k : ℕ) → IsFirstByte (is_byte 10) text (Some k) → text_lines text ≡ take k text ∷ text_lines (drop (k + 1) text)
 cut_at text k first =
     let high = first.0.high in
     let here : get_or text k 0 ≡ 10 = newline (get_or text k 0) first.1 in
     let after : drop k text ≡ 10 ∷ drop (k + 1) text = rw add-one (drop-cons text k 0 high ∙ ap (λ b. b ∷ drop (suc k) text) here) in
     let parts : text ≡ take k text ++ 10 ∷ drop (k + 1) text = sym (take-append-drop k text) ∙ ap (λ x. take k text ++ x) after in
     let none = none_before text k (omega arith) (λ i lt. first.0.before i (omega arith) lt) in
-    ap lines_of parts ∙ slice_split_at (λ b. b == 10) (take k text) 10 (drop (k + 1) text) none refl
+    ap text_lines parts ∙ slice_split_at (λ b. b == 10) (take k text) 10 (drop (k + 1) text) none refl
 
-pub cut_none : (text : List ℕ) → IsFirstByte (is_byte 10) text None → lines_of text ≡ text ∷ []
+pub cut_none : (text : List ℕ) → IsFirstByte (is_byte 10) text None → text_lines text ≡ text ∷ []
 cut_none text none =
     slice_split_none (λ b. b == 10) text (λ i d lt. let same : get_or text i d ≡ get_or text i 0 = get_or_default text i d 0 lt in rw same (other_byte (get_or text i 0) (none i (omega arith) lt)))
 
@@ -120,7 +121,7 @@ cut_none text none =
 -- what the loop keeps: the documents that were packed, whose bytes were taken
 pub record SoFar (text : List ℕ) (old new : Writer) (left : Option (List ℕ)) (number count : ℕ) : Type 0 where
   pub done : List Doc
-  pub goes : (es : List Doc) (bad : Option BadLine) → PacksLines (suc number) (lines_left left) es bad → PacksLines 1 (lines_of text) (done ++ es) bad
+  pub goes : (es : List Doc) (bad : Option BadLine) → PacksLines (suc number) (lines_left left) es bad → PacksLines 1 (text_lines text) (done ++ es) bad
   pub counted : count ≡ length done
   pub few : count ≤ number
   pub fits : number + left_size left ≤ 4294967296
@@ -141,15 +142,15 @@ module _ (text : List ℕ) (old : Writer) where
   }
 
   module _ (new : Writer) (rest line : List ℕ) (after : Option (List ℕ)) (number count : ℕ) (s : Kept new (Some rest) number count)
-      (cut : lines_of rest ≡ line ∷ lines_left after) (smaller : left_size after ≤ length rest) where
-    go_on : (es : List Doc) (bad : Option BadLine) → PacksLines (suc number) (line ∷ lines_left after) es bad → PacksLines 1 (lines_of text) (s.done ++ es) bad
+      (cut : text_lines rest ≡ line ∷ lines_left after) (smaller : left_size after ≤ length rest) where
+    go_on : (es : List Doc) (bad : Option BadLine) → PacksLines (suc number) (line ∷ lines_left after) es bad → PacksLines 1 (text_lines text) (s.done ++ es) bad
     go_on es bad p = s.goes es bad (subst (λ (ls : List (List ℕ)). PacksLines (suc number) ls es bad) (sym cut) p)
 
     renumbered : (next : ℕ) (es : List Doc) (bad : Option BadLine) → next ≡ suc number → PacksLines (suc next) (lines_left after) es bad → PacksLines (suc (suc number)) (lines_left after) es bad
     renumbered next es bad same p = subst (λ (n : ℕ). PacksLines (suc n) (lines_left after) es bad) same p
 
     -- a line of white space
-    pub passed : (next : ℕ) → next ≡ suc number → is_blank line ≡ true → Kept new after next count
+    pub passed : (next : ℕ) → next ≡ suc number → is_empty_line line ≡ true → Kept new after next count
     passed next same blank = record {
       done = s.done;
       goes = λ es bad p. go_on es bad (inl (blank, renumbered next es bad same p));
@@ -163,10 +164,10 @@ module _ (text : List ℕ) (old : Writer) where
     with_one d es = packed-append s.done (d ∷ es)
 
     -- a line with a document, whose bytes were taken
-    pub packed : (end : Writer) (next more : ℕ) (d : Doc) → next ≡ suc number → more ≡ suc count → is_blank line ≡ false → IsPackable line d → TakesText (between new end) (plain d) → Kept end after next more
+    pub packed : (end : Writer) (next more : ℕ) (d : Doc) → next ≡ suc number → more ≡ suc count → is_empty_line line ≡ false → IsPackable line d → TakesText (between new end) (plain d) → Kept end after next more
     packed end next more d same counted full is wrote = record {
       done = s.done ++ d ∷ [];
-      goes = λ es bad p. subst (λ (ds : List Doc). PacksLines 1 (lines_of text) ds bad) (sym (append_assoc s.done (d ∷ []) es))
+      goes = λ es bad p. subst (λ (ds : List Doc). PacksLines 1 (text_lines text) ds bad) (sym (append_assoc s.done (d ∷ []) es))
           (go_on (d ∷ es) bad (inr (inl (full, (d, es, is, refl, renumbered next es bad same p)))));
       counted = let c = s.counted in omega (arith, length-append s.done (d ∷ []));
       few = let f = s.few in omega arith;
@@ -176,7 +177,7 @@ module _ (text : List ℕ) (old : Writer) where
     }
 
     -- standard output broke in its bytes
-    pub breaks : (end : Writer) (d : Doc) → is_blank line ≡ false → IsPackable line d → BreaksWithin (between new end) (plain d) → StopsPacking text (between old end) Unwritten
+    pub breaks : (end : Writer) (d : Doc) → is_empty_line line ≡ false → IsPackable line d → BreaksWithin (between new end) (plain d) → StopsPacking text (between old end) Unwritten
     breaks end d full is broke =
         let w = packs_some (suc (suc number)) (lines_left after) in (
           s.done ++ d ∷ w.0,
@@ -186,12 +187,12 @@ module _ (text : List ℕ) (old : Writer) where
         )
 
     -- a bad line: the documents before it are all
-    pub ends_bad : (next : ℕ) (fault : LineFault) → next ≡ suc number → is_blank line ≡ false → IsBad line fault
+    pub ends_bad : (next : ℕ) (fault : LineFault) → next ≡ suc number → is_empty_line line ≡ false → IsBad line fault
         → IsPacking text (between old new) (record { count = count; bad = Some (record { number = next; fault = fault }) })
     ends_bad next fault same full is = (
       s.done,
-      subst (λ (n : ℕ). PacksLines 1 (lines_of text) s.done (Some (record { number = n; fault = fault }))) (sym same)
-          (subst (λ (ds : List Doc). PacksLines 1 (lines_of text) ds (Some (record { number = suc number; fault = fault }))) (append-nil s.done)
+      subst (λ (n : ℕ). PacksLines 1 (text_lines text) s.done (Some (record { number = n; fault = fault }))) (sym same)
+          (subst (λ (ds : List Doc). PacksLines 1 (text_lines text) ds (Some (record { number = suc number; fault = fault }))) (append-nil s.done)
           (go_on [] (Some (record { number = suc number; fault = fault })) (inr (inr (full, (fault, is, refl, refl)))))),
       s.counted,
       s.wrote,
@@ -208,7 +209,7 @@ module _ (text : List ℕ) (old : Writer) where
     pub ends : left ≡ None → IsPacking text (between old new) (record { count = count; bad = None })
     ends none = (
       s.done,
-      subst (λ (ds : List Doc). PacksLines 1 (lines_of text) ds None) (append-nil s.done)
+      subst (λ (ds : List Doc). PacksLines 1 (text_lines text) ds None) (append-nil s.done)
           (s.goes [] None (subst (λ (o : Option (List ℕ)). PacksLines (suc number) (lines_left o) [] None) (sym none) (refl, refl))),
       s.counted,
       s.wrote,

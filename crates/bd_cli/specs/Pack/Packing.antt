@@ -3,7 +3,8 @@ use Rattle.std.specs.Prelude.{◌≡◌, ℕ, suc, List, [], length, Option, Som
 use Rattle.std.specs.Borrow.{Bor}
 use Rattle.bd_value.specs.Tree.{Doc}
 use Rattle.bd_device.specs.Devices.{Over, TakesText, Writer}
-use Rattle.bd_cli.specs.Pack.{lines_of, packed_bytes, PacksLines}
+use Rattle.bd_cli.specs.Pack.{packed_bytes, PacksLines}
+use Rattle.bd_lines.specs.Lines.{text_lines}
 use Rattle.bd_cli.specs.Output.Lines.{StopsWithin}
 use Rattle.bd_cli.specs.declared.output.lines.Stopped.{Stopped}
 use Rattle.bd_cli.specs.declared.pack.packing.BadLine.{BadLine}
@@ -16,7 +17,7 @@ bytes_after (Some rest) = Some rest.now
 
 abbrev pub lines_left : Option (List ℕ) → List (List ℕ)
 lines_left None = []
-lines_left (Some text) = lines_of text
+lines_left (Some text) = text_lines text
 
 abbrev pub left_size : Option (List ℕ) → ℕ
 left_size None = 0
@@ -25,11 +26,11 @@ left_size (Some text) = suc (length text)
 -- the documents before the first bad line, whose bytes the writer took
 abbrev pub IsPacking : List ℕ → Over Writer → Packing → Type 0
 IsPacking text out packing =
-    (ds : List Doc) × PacksLines 1 (lines_of text) ds packing.bad × (packing.count ≡ length ds)
+    (ds : List Doc) × PacksLines 1 (text_lines text) ds packing.bad × (packing.count ≡ length ds)
     × TakesText out (packed_bytes ds)
 
 -- the writing of these bytes was stopped
 abbrev pub StopsPacking : List ℕ → Over Writer → Stopped → Type 0
 StopsPacking text out stopped =
-    (ds : List Doc) × (bad : Option BadLine) × PacksLines 1 (lines_of text) ds bad
+    (ds : List Doc) × (bad : Option BadLine) × PacksLines 1 (text_lines text) ds bad
     × StopsWithin out (packed_bytes ds) stopped

@@ -1,11 +1,12 @@
 //! The documents of a text of lines, as bytes.
 ghost use Rattle.std.specs.Prelude.{◌≡◌, ◌++◌, ◌∷◌, ◌≤◌, IfOk, IfErr, IfSome, None, Ok, length};
-ghost use Rattle.bd_cli.specs.Pack.{is_blank, is_white, lines_of};
+ghost use Rattle.bd_lines.specs.Lines.{text_lines};
 ghost use Rattle.bd_cli.specs.Pack.Packing.{IsPacking, StopsPacking, bytes_after, left_size, lines_left};
 ghost use Rattle.bd_device.specs.Devices.{over};
 
 use crate::output::lines::Stopped;
 use bd_device::{Output, write_all};
+use bd_lines::is_empty_line;
 use bd_pack::{LineFault, Packer};
 use memchr::memchr;
 use std::alloc::Global;
@@ -30,25 +31,13 @@ pub struct Packing {
 
 /// The first line of a text, and what is after its newline, where there is one.
 fn cut_line(text: &[u8]) -> (&[u8], Option<&[u8]>)
-    ensures line { lines_of text.now ≡ result.0.now ∷ lines_left (bytes_after result.1) }
+    ensures line { text_lines text.now ≡ result.0.now ∷ lines_left (bytes_after result.1) }
     ensures shorter { left_size (bytes_after result.1) ≤ length text.now }
 {
     match memchr(b'\n', text) {
         Some(end) => (&text[..end], Some(&text[end + 1..])),
         None => (text, None),
     }
-}
-
-fn is_white(b: u8) -> bool
-    ensures { result ≡ is_white b }
-{
-    b == b' ' || b == b'\t' || b == b'\r'
-}
-
-fn is_blank(line: &[u8]) -> bool
-    ensures { result ≡ is_blank line.now }
-{
-    line.iter().all(|b| is_white(*b))
 }
 
 /// Writes the documents of the lines before the first bad one, each as soon as it is packed. Where memory runs out, what was
@@ -85,7 +74,7 @@ fn write_packed<O: Output>(
         let (line, after) = cut_line(rest);
         left = after;
         number += 1;
-        if is_blank(line) {
+        if is_empty_line(line) {
             continue;
         }
         bytes.clear();
