@@ -523,6 +523,16 @@ def sort_pairs(sort: Value) -> list[tuple[str, int]] | None:
     return [(path, way.of) for path, way in sort.of] if good and distinct else None
 
 
+def digest(dump: bytes, text: str) -> bytes:
+    """What tokens are tied to: the bytes of a dump, and the text of a request."""
+    return hashlib.sha256(hashlib.sha256(dump).digest() + text.encode()).digest()
+
+
+def token_of(given: int, last: int, tied: bytes, version: int = 1) -> str:
+    """The version, how many documents were given, the number of the last one, and the digest, in base64."""
+    return base64.b64encode(bytes([version]) + given.to_bytes(8, "little") + last.to_bytes(4, "little") + tied).decode()
+
+
 class Token(NamedTuple):
     """How many documents were given, the place of the last one, and what it is tied to."""
 
@@ -530,9 +540,8 @@ class Token(NamedTuple):
     last: int
     tied: bytes
 
-    def text(self, version: int = 1) -> str:
-        """The version, how many documents were given, the number of the last one, and the digest, in base64."""
-        return base64.b64encode(bytes([version]) + self.given.to_bytes(8, "little") + self.last.to_bytes(4, "little") + self.tied).decode()
+    def text(self) -> str:
+        return token_of(*self)
 
 
 def read_token(text: str) -> Token | None:
@@ -582,8 +591,7 @@ class Dump:
         self.bytes = b"".join(map(encoded, documents)) if data is None else data
 
     def tied(self, request: Request) -> bytes:
-        """What tokens are tied to: a digest of the dump and of the request's text."""
-        return hashlib.sha256(hashlib.sha256(self.bytes).digest() + request.text().encode()).digest()
+        return digest(self.bytes, request.text())
 
     def sort_key(self, place: int, path: str, way: int) -> tuple:
         return (min if way == 1 else max)(map(rank, keys(self.documents[place], path)))

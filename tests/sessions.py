@@ -329,6 +329,11 @@ class Find(NamedTuple):
         return 0, lines, f"{len(places)} documents, {'end' if end else 'more'}{f', token {text}' if text else ''}\n"
 
 
+def request_text(query: str = "{}", sort: str = "{}", skip: int = 0, limit: int = 0) -> str:
+    """The text of a request, to which its tokens are tied."""
+    return Find(query, sort, skip, limit).request().text()
+
+
 def packed(text: bytes) -> tuple[int, bytes, str]:
     """The status of `pack`, what it writes, and what it tells."""
     documents = []

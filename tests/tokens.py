@@ -10,8 +10,8 @@ import argparse
 import sys
 from pathlib import Path
 
-from answers import Dump, Token
-from sessions import Find
+from answers import digest, token_of
+from sessions import request_text
 
 
 def main() -> int:
@@ -24,8 +24,8 @@ def main() -> int:
     words.add_argument("--skip", type=int, default=0)
     words.add_argument("--limit", type=int, default=0)
     said = words.parse_args()
-    request = Find(said.query, said.sort, said.skip, said.limit).request()
-    print(Token(said.given, said.last, Dump([], said.file.read_bytes()).tied(request)).text())
+    text = request_text(said.query, said.sort, said.skip, said.limit)
+    print(token_of(said.given, said.last, digest(said.file.read_bytes(), text)))
     return 0
 
 
