@@ -3,7 +3,7 @@
 
 usage: tests/hostile.py SECONDS [SEED]
 
-What is packed, found and replied is compared with what python makes of the same input (tests/answers.py, sessions.py, texts.py).
+What is packed, found and replied is compared with what python makes of the same input (tests/dumps.py, texts.py, answers.py, sessions.py).
 Each run has a stack of 1 MiB, and some have little memory. An input that fails is kept, in a directory that is named,
 with the command and the reason.
 The last line is 'N passed, M failed', which counts inputs.
@@ -16,11 +16,11 @@ import subprocess
 import sys
 import tempfile
 import time
-from collections.abc import Iterator
 from pathlib import Path
 from typing import NamedTuple
 
-from answers import Dump, written
+from answers import Dump, encoded, written
+from dumps import read_dump
 from inputs import Inputs
 from sessions import Find, Session, packed
 from texts import WRAPPERS, read_document
@@ -33,10 +33,6 @@ SHALLOW = 300  # documents of the examples to begin with, which stand before oth
 FAILURES = 10  # the search ends at so many
 # Behind it stand a number of KiB and the words of a line.
 LIMITED = ["sh", "-c", 'ulimit -v "$0" && exec "$@"']
-
-FAULT = rb'document (\d+), byte (\d+), path "(?:[^"\\]|\\.)*": [a-zA-Z0-9 -]+\n'
-DUMPED = re.compile(rb"(?:bsonfind: (" + FAULT + rb"))?(\d+) objects found\n")
-CHECKED = re.compile(rb"(\d+) documents, (\d+) faulty\n")
 
 # Documents of kinds that the examples have not, and at the limits.
 OTHERS = [
@@ -87,51 +83,6 @@ class Ran(NamedTuple):
     err: bytes
 
 
-def frames(data: bytes) -> Iterator[bytes]:
-    """The documents of a dump, by their lengths, up to a length that is none."""
-    at = 0
-    while 5 <= (length := int.from_bytes(data[at : at + 4], "little")) <= min(16793600, len(data) - at):
-        yield data[at : at + length]
-        at += length
-
-
-def is_plain(data: bytes, at: int = 0, is_array: bool = False) -> bool:
-    """Whether a document without faults is the only one of its text: no first name is a wrapper's, and an array's names are places."""
-    wrappers = [name.encode() for name in WRAPPERS]
-    sizes = {0x07: 12, 0x08: 1, 0x09: 8, 0x10: 4, 0x11: 8, 0x12: 8}
-
-    def number(at: int) -> int:
-        return int.from_bytes(data[at : at + 4], "little")
-
-    end = at + number(at) - 1
-    at += 4
-    place = 0
-    while at < end:
-        kind, stop = data[at], data.index(0, at + 1)
-        name = data[at + 1 : stop]
-        if name != str(place).encode() if is_array else place == 0 and name in wrappers:
-            return False
-        at = stop + 1
-        place += 1
-        if kind in (0x03, 0x04):
-            if not is_plain(data, at, kind == 0x04):
-                return False
-            at += number(at)
-        elif kind == 0x0F:
-            if not is_plain(data, at + 8 + number(at + 4)):
-                return False
-            at += number(at)
-        elif kind == 0x0B:
-            at = data.index(0, data.index(0, at) + 1) + 1
-        elif kind == 0x05:
-            at += 5 + number(at)
-        elif kind in (0x02, 0x0C, 0x0D, 0x0E):
-            at += 4 + number(at) + (12 if kind == 0x0C else 0)
-        else:
-            at += sizes.get(kind, 0)
-    return True
-
-
 class Search:
     """Makes inputs, runs the program over them and looks at its answers."""
 
@@ -144,10 +95,8 @@ class Search:
         self.command: list[str] = []
         lines = [line for name in ("people", "shop") for line in (ROOT / f"examples/{name}.jsonl").read_bytes().splitlines()]
         self.lines = self.rng.sample(lines, SHALLOW) + [text.encode() for text in OTHERS]
-        packed = self.run("pack", b"\n".join(self.lines))
-        self.documents = list(frames(packed.out))
+        self.documents = list(map(encoded, map(read_document, self.lines)))
         self.least = self.least_memory()
-        self.want(len(self.documents) == len(self.lines), "the documents to begin with are not all packed")
 
     def want(self, holds: bool, reason: str) -> None:
         if not holds:
@@ -185,70 +134,29 @@ class Search:
         self.want(ended.returncode in (0, 1), f"status {ended.returncode}")
         return Ran(ended.returncode, ended.stdout, ended.stderr)
 
-    def dump(self, data: bytes) -> tuple[list[bytes], bytes | None]:
-        """The lines of a dump and its fault, where their form and the status agree."""
-        ran = self.run("dump", data)
-        told = DUMPED.fullmatch(ran.err)
-        self.want(told is not None, "standard error of dump")
-        fault, number, _, count = told.groups()
-        self.want(ran.status == (fault is not None), "the status of dump")
-        self.want(int(count) == ran.out.count(b"\n"), "the counting line of dump")
-        self.want(fault is None or number == count, "the number of the document with the fault")
-        return ran.out.splitlines(keepends=True), fault
-
     def over_dump(self, data: bytes) -> None:
-        """dump, check, find and pack agree on a dump."""
-        lines, fault = self.dump(data)
-        ran = self.run("check", data)
-        told = CHECKED.fullmatch(ran.err)
-        self.want(told is not None, "standard error of check")
-        count, faulty = int(told[1]), int(told[2])
-        faults = ran.out.splitlines(keepends=True)
-        self.want(all(re.fullmatch(FAULT, line) for line in faults), "standard output of check")
-        self.want(faulty == len(faults), "the count of the faulty")
-        self.want(ran.status == (faulty > 0), "the status of check")
-        self.want(faults[:1] == ([] if fault is None else [fault]), "dump and check do not agree on the first fault")
-        whole = list(frames(data))
-        rest = len(data) > sum(map(len, whole))
-        self.want(count == len(whole) + rest, "the count of the documents")
-        bad = {int(re.match(rb"document (\d+)", line)[1]) for line in faults}
-        self.want(len(bad) == len(faults) and (not rest or len(whole) in bad), "the numbers of the faulty")
+        """dump, check, find and pack of a dump show what python reads in it."""
+        read = read_dump(data)
+        lines = [written(it).encode() + b"\n" for it in read.front()]
+        faults = read.faults()
+        fault = f"bsonfind: {faults[0]}" if faults else ""
+        told = f"{fault}{len(lines)} objects found\n".encode()
+        self.want(self.run("dump", data) == Ran(int(faults != []), b"".join(lines), told), f"dump; wanted {told!r}")
+        checked = "".join(faults).encode(), f"{len(read.documents)} documents, {len(faults)} faulty\n".encode()
+        self.want(self.run("check", data) == Ran(int(faults != []), *checked), f"check; wanted {checked!r}")
 
-        good = [document for number, document in enumerate(whole) if number not in bad]
-        if bad:
-            front = lines
-            lines, none = self.dump(b"".join(good))
-            self.want(none is None and len(lines) == len(good), "the documents that check found good")
-            self.want(lines[: len(front)] == front, "the documents before the first fault")
-        self.over_find(data, fault, lines, all(map(is_plain, good)))
-        self.over_lines(good, lines)
-
-    def over_find(self, data: bytes, fault: bytes | None, lines: list[bytes], plain: bool) -> None:
-        """What is found in a dump is what python finds in its lines, or the fault of the dump is told."""
-        # An odd document can't be read back from its line.
-        self.inputs.made = [read_document(line) for line in lines] if plain else []
+        self.inputs.made = read.good()
         find = self.inputs.find()
-        status, out, told = find.shown(Dump(self.inputs.made, data))
-        ran = self.run("find", data, *find.words())
-        if fault is not None:
-            # What is wrong with the request comes before.
-            refused = status == 1
-            self.want(ran == Ran(1, b"", told.encode() if refused else b"bsonfind: " + fault), "find in a dump with a fault")
-        elif plain:
-            self.want(ran == Ran(status, out, told.encode()), f"what is found; wanted {status} {told!r}")
-
-    def over_lines(self, good: list[bytes], lines: list[bytes]) -> None:
-        """What dump printed is packed to the same bytes, where a document is plain."""
-        plain = [number for number, document in enumerate(good) if is_plain(document)]
-        ran = self.run("pack", b"".join(lines[number] for number in plain))
-        self.want(ran == Ran(0, b"".join(good[number] for number in plain), b"%d objects packed\n" % len(plain)), "dump, and pack again")
+        status, out, told = find.shown(Dump(read.front(), data))
+        if faults and status == 0:
+            status, out, told = 1, b"", fault
+        self.want(self.run("find", data, *find.words()) == Ran(status, out, told.encode()), f"what is found; wanted {status} {told!r}")
+        self.over_text(b"".join(lines))
 
     def over_text(self, text: bytes) -> None:
-        """pack of a text writes the documents that python reads, and tells the first fault that it finds; dump reads them."""
+        """pack of a text writes the documents that python reads, and tells the first fault that it finds."""
         status, documents, told = packed(text)
         self.want(self.run("pack", text) == Ran(status, documents, told.encode()), f"what is packed; wanted {status} {told!r}")
-        lines, fault = self.dump(documents)
-        self.want(fault is None and len(lines) == len(list(frames(documents))), "the dump of what was packed")
 
     def over_memory(self) -> None:
         """With little memory a run is as with enough, or tells that there is none behind a front of what it writes.
