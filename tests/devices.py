@@ -25,10 +25,11 @@ from itertools import accumulate
 from pathlib import Path
 from typing import NamedTuple
 
+from answers import digest, token_of
 from failing import PATIENCE, PIPE, PROGRAM, Failing, Ran, Tests, await_stop, main
 from growths import BAD, BINARY, DOUBLE, FIVE, FIVE_DUMP, INT32, INT32_LINE, INT64, SEVERAL, STARVED, TALK, USAGE, counted, frames, lines
 from pages import ROOT
-from tokens import digest, request_text, token_of
+from sessions import request_text
 
 # The file of an input, in the words of a run.
 FILE = "FILE"

@@ -14,9 +14,10 @@ from functools import partial
 from itertools import accumulate
 from typing import NamedTuple
 
+from answers import digest, token_of
 from failing import Failing, Ran, Tests, main
 from pages import ROOT
-from tokens import digest, request_text, token_of
+from sessions import request_text
 
 STARVED = b"bsonfind: no memory\n"
 USAGE = """\
