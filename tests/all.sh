@@ -1,6 +1,6 @@
 #!/bin/sh
-# Runs the gate, then the tests of the program that the gate proved and built, the look at the examples and one round of the
-# edits, and prints the sum of all as its last line. The status is 0 where nothing failed.
+# Runs the gate, then the tests of the program that the gate proved and built, the looks at the examples and the definitions and
+# one round of the edits, and prints the sum of all as its last line. The status is 0 where nothing failed.
 set -u
 cd "$(dirname "$0")/.." || exit 1
 log=$(mktemp) || exit 1
@@ -33,17 +33,14 @@ if cp crates/bsonfind/out/bsonfind bsonfind; then
 	add
 	tests/devices.py | tee "$log"
 	add
-	tests/malicious.py | tee "$log"
-	add
-	# Each commit looks at other inputs.
-	tests/hostile.py 30 "$(git rev-list --count HEAD 2>/dev/null || echo 0)" | tee "$log"
-	add
 else
 	echo 'tests/program.sh and the tests after it were not run: the gate built no program'
 	failed=$((failed + 1))
 fi
 
 tests/examples.py | tee "$log"
+add
+tests/definitions.py | tee "$log"
 add
 
 # Each commit tries another round. It is over what the gate proved, so not where that failed.
