@@ -19,7 +19,7 @@ import time
 from pathlib import Path
 from typing import NamedTuple
 
-from answers import Dump, encoded, written
+from answers import Dump, Value, encoded, obj, written
 from dumps import read_dump
 from inputs import Inputs
 from sessions import Find, Session, packed
@@ -264,7 +264,7 @@ class Search:
 
     def damaged_dump(self) -> bytes:
         """Some documents, of which one or two are damaged, mostly with their length put right again."""
-        chosen = self.rng.choices(self.documents, k=self.rng.randint(1, 6))
+        chosen = [self.some_document() for _ in range(self.rng.randint(1, 6))]
         for _ in range(self.rng.randint(0, 2)):
             at = self.rng.randrange(len(chosen))
             changed = self.damaged(chosen[at], [document[4:-1] for document in self.rng.sample(self.documents, 3)])
@@ -272,6 +272,20 @@ class Search:
                 changed = len(changed).to_bytes(4, "little") + changed[4:]
             chosen[at] = changed
         return b"".join(chosen)
+
+    def some_document(self) -> bytes:
+        """A document of the examples, one of the others, a random one, or one of some 200 levels."""
+        way = self.rng.random()
+        if way < 0.3:
+            return self.rng.choice(self.documents[:SHALLOW])
+        if way < 0.6:
+            return self.rng.choice(self.documents[SHALLOW:])
+        if way < 0.97:
+            return encoded(self.inputs.document())
+        value = obj()
+        for _ in range(self.rng.randint(195, 199)):
+            value = self.rng.choice([Value("array", (value,)), obj(("a", value))])
+        return encoded(obj(("a", self.rng.choice([value, Value("javascriptWithScope", ("", obj(("a", value))))]))))
 
     def with_other_value(self, line: bytes) -> bytes:
         """A line with another value in place of one, or another name."""

@@ -107,13 +107,13 @@ LINES: dict[str, tuple[Callable[[int], bytes], str | None]] = {
     "digits": (lambda size: b'{"a":' + b"9" * size + b"}", "line 1, byte 5: number out of range"),
     "digits of a fraction": (lambda size: b'{"a":0.' + b"9" * size + b"}", "line 1, byte 5: not in the profile"),
     "wrappers": (lambda size: b'{"a":[' + b",".join([b'{"$numberInt":"1"}'] * (size // 19)) + b"]}", None),
-    "scopes": (lambda size: b'{"a":[' + b",".join([b'{"$code":"","$scope":{"a":' * 90 + b"1" + b"}}" * 90] * (size // 2521)) + b"]}", None),
+    "scopes": (lambda size: b'{"a":[' + b",".join([b'{"$code":"","$scope":{"a":' * 90 + b"1" + b"}}" * 90] * (size // 2600)) + b"]}", None),
     "scopes before their codes": (
-        lambda size: b'{"a":[' + b",".join([b'{"$scope":{"a":' * 90 + b"1" + b'},"$code":""}' * 90] * (size // 2521)) + b"]}",
+        lambda size: b'{"a":[' + b",".join([b'{"$scope":{"a":' * 90 + b"1" + b'},"$code":""}' * 90] * (size // 2600)) + b"]}",
         None,
     ),
     "a long name": (lambda size: b'{"' + b"n" * size + b'":1}', None),
-    "names of one document": (lambda size: b"{" + b",".join([b'"a":1'] * (size // 6)) + b"}", None),
+    "names of one document": (lambda size: b"{" + b",".join([b'"a":true'] * (size // 9)) + b"}", None),
     "white space": (lambda size: b" \t" * (size // 2), None),
     "white space in a document": (lambda size: b"{" + b" " * size + b"}", None),
     "base64": (lambda size: b'{"a":{"$binary":{"subType":"0","base64":"' + b"AAAA" * (size // 4) + b'"}}}', None),
@@ -336,7 +336,7 @@ def path_cases(scale: int) -> Iterator[Case]:
         ["--query", '{"a":{"$elemMatch":{"a":{"$elemMatch":{"a.a":3}}}}}'],
     ):  # fmt: skip
         told = "1 documents, end, token " if "--limit" in words else "0 documents, end\n"
-        cubes = ((15 * scale) ** 3, (30 * scale) ** 3)
+        cubes = (24**3, 48**3) if scale == 1 else (48**3, 96**3)
         yield Case(f"find {' '.join(words)}, wide arrays", ["find", "-", *words], None, lambda size: nested(3, round(size ** (1 / 3))), cubes, tells(told))
 
 
