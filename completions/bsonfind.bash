@@ -20,35 +20,50 @@ _bsonfind_inputs() {
 	fi
 }
 
+# The options of find that the line has not, and a file where it has none; no value of an option.
+_bsonfind_find() {
+	local word=$1 options=' --query --sort --skip --limit --batch --index --after ' option is_file_there='' at=2
+	while ((at < COMP_CWORD)); do
+		case ${COMP_WORDS[at]} in
+		--query | --sort | --skip | --limit | --batch | --index | --after)
+			options=${options/ ${COMP_WORDS[at]} / }
+			((at += 1))
+			if [[ ${COMP_WORDS[at]} == = ]]; then
+				((at += 1))
+			fi
+			;;
+		--) options='' ;;
+		*) is_file_there=1 ;;
+		esac
+		((at += 1))
+	done
+	if ((at > COMP_CWORD)); then
+		return
+	fi
+	if [[ -z $is_file_there ]]; then
+		_bsonfind_inputs .bson "$word"
+	fi
+	if [[ -z $word || $word == -* ]]; then
+		while IFS= read -r option; do
+			COMPREPLY+=("$option")
+		done < <(compgen -W "$options" -- "$word")
+	fi
+}
+
 _bsonfind() {
 	local word=${COMP_WORDS[COMP_CWORD]} command=${COMP_WORDS[1]} before=${COMP_WORDS[COMP_CWORD - 1]}
-	local options='--query --sort --skip --limit --batch --index --after'
 	COMPREPLY=()
 	if ((COMP_CWORD == 1)); then
 		mapfile -t COMPREPLY < <(compgen -W 'dump check pack find serve --help' -- "$word")
 		return
 	fi
-	if [[ $command != find && $before != -- ]] && ((COMP_CWORD > 2)); then
-		return
-	fi
+	# One file, maybe after two hyphens; find alone has more words.
+	[[ $command == find || $COMP_CWORD == 2 || "$COMP_CWORD $before" == '3 --' ]] || return
 	case $command in
 	dump | check) _bsonfind_inputs .bson "$word" ;;
 	pack) _bsonfind_inputs '' "$word" ;;
 	serve) _bsonfind_files .bson "$word" ;; # the commands come from standard input
-	find)
-		case $before in
-		--query | --sort | --skip | --limit | --batch | --index | --after) ;; # a filter, a sort, numbers, a path, a token
-		*)
-			if [[ $word == -* && $word != - ]]; then
-				mapfile -t COMPREPLY < <(compgen -W "$options" -- "$word")
-			else
-				_bsonfind_inputs .bson "$word"
-				# shellcheck disable=SC2206 # the options are words
-				[[ -n $word && $word != - ]] || COMPREPLY+=($options)
-			fi
-			;;
-		esac
-		;;
+	find) _bsonfind_find "$word" ;;
 	esac
 }
 

@@ -1,6 +1,7 @@
 #!/bin/sh
-# Runs the gate, then the tests of the program that the gate proved and built, the rows of the calls that grow, the look at the
-# examples and one round of the edits, and prints the sum of all as its last line. The status is 0 where nothing failed.
+# Runs the gate, then the tests of the program that the gate proved and built, the rows of the calls that grow, the looks at the
+# examples and the definitions and one round of the edits, and prints the sum of all as its last line. The status is 0 where
+# nothing failed.
 set -u
 cd "$(dirname "$0")/.." || exit 1
 log=$(mktemp) || exit 1
@@ -29,16 +30,26 @@ if cp crates/bsonfind/out/bsonfind bsonfind; then
 	add
 	tests/talk.py | tee "$log"
 	add
+	tests/growths.py | tee "$log"
+	add
+	tests/devices.py | tee "$log"
+	add
 else
-	echo 'tests/program.sh, tests/pages.py and tests/talk.py were not run: the gate built no program'
+	echo 'tests/program.sh and the tests after it were not run: the gate built no program'
 	failed=$((failed + 1))
 fi
 
 # The gate leaves these tests too, proved and built.
-tests/growing_calls.py | tee "$log"
-add
+if [ -x crates/bd_growth_tests/out/bd_growth_tests_tests ]; then
+	tests/growing_calls.py | tee "$log"
+	add
+else
+	echo 'tests/growing_calls.py was not run: the gate left no tests of crates/bd_growth_tests'
+fi
 
 tests/examples.py | tee "$log"
+add
+tests/definitions.py | tee "$log"
 add
 
 # Each commit tries another round. It is over what the gate proved, so not where that failed.

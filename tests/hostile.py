@@ -1,14 +1,14 @@
 #!/usr/bin/env python3
-"""Runs ./bsonfind over damaged dumps, texts and commands, and looks for a crash, a hang or a wrong answer.
+"""Runs ./bsonfind over damaged dumps, texts and commands, and over random requests, and looks for a crash, a hang or a wrong answer.
 
 usage: tests/hostile.py SECONDS [SEED]
 
+What is packed, found and replied is compared with what python makes of the same input (tests/dumps.py, texts.py, answers.py, sessions.py).
 Each run has a stack of 1 MiB, and some have little memory. An input that fails is kept, in a directory that is named,
 with the command and the reason.
-The last line is 'N inputs, R runs, F failed'; the status is 0 where nothing failed.
+The last line is 'N passed, M failed', which counts inputs.
 """
 
-import json
 import random
 import re
 import resource
@@ -16,11 +16,14 @@ import subprocess
 import sys
 import tempfile
 import time
-from collections.abc import Iterator
 from pathlib import Path
-from typing import NamedTuple, NoReturn
+from typing import NamedTuple
 
-from tokens import digest, request_text, token_of
+from answers import Dump, Value, encoded, obj, written
+from dumps import read_dump
+from inputs import Inputs
+from sessions import Find, Session, packed
+from texts import WRAPPERS, read_document
 
 ROOT = Path(__file__).resolve().parent.parent
 PROGRAM = ROOT / "bsonfind"
@@ -30,17 +33,6 @@ SHALLOW = 300  # documents of the examples to begin with, which stand before oth
 FAILURES = 10  # the search ends at so many
 # Behind it stand a number of KiB and the words of a line.
 LIMITED = ["sh", "-c", 'ulimit -v "$0" && exec "$@"']
-
-FAULT = rb'document (\d+), byte (\d+), path "(?:[^"\\]|\\.)*": [a-zA-Z0-9 -]+\n'
-DUMPED = re.compile(rb"(?:bsonfind: (" + FAULT + rb"))?(\d+) objects found\n")
-CHECKED = re.compile(rb"(\d+) documents, (\d+) faulty\n")
-PACKED = re.compile(rb"(?:bsonfind: line (\d+)(?:, byte (\d+))?: ([a-zA-Z ]+)\n)?(\d+) objects packed\n")
-FOUND = re.compile(rb"(\d+) documents, (end|more)(?:, token [A-Za-z0-9+/]{60})?\n")
-
-WRAPPERS = [
-    "$numberInt", "$numberLong", "$numberDouble", "$numberDecimal", "$oid", "$symbol", "$binary", "$uuid", "$code",
-    "$scope", "$timestamp", "$regularExpression", "$dbPointer", "$date", "$minKey", "$maxKey", "$undefined",
-]  # fmt: skip
 
 # Documents of kinds that the examples have not, and at the limits.
 OTHERS = [
@@ -91,89 +83,20 @@ class Ran(NamedTuple):
     err: bytes
 
 
-def frames(data: bytes) -> Iterator[bytes]:
-    """The documents of a dump, by their lengths, up to a length that is none."""
-    at = 0
-    while 5 <= (length := int.from_bytes(data[at : at + 4], "little")) <= min(16793600, len(data) - at):
-        yield data[at : at + length]
-        at += length
-
-
-def is_plain(data: bytes, at: int = 0, is_array: bool = False) -> bool:
-    """Whether a document without faults is the only one of its text: no first name is a wrapper's, and an array's names are places."""
-    wrappers = [name.encode() for name in WRAPPERS]
-    sizes = {0x07: 12, 0x08: 1, 0x09: 8, 0x10: 4, 0x11: 8, 0x12: 8}
-
-    def number(at: int) -> int:
-        return int.from_bytes(data[at : at + 4], "little")
-
-    end = at + number(at) - 1
-    at += 4
-    place = 0
-    while at < end:
-        kind, stop = data[at], data.index(0, at + 1)
-        name = data[at + 1 : stop]
-        if name != str(place).encode() if is_array else place == 0 and name in wrappers:
-            return False
-        at = stop + 1
-        place += 1
-        if kind in (0x03, 0x04):
-            if not is_plain(data, at, kind == 0x04):
-                return False
-            at += number(at)
-        elif kind == 0x0F:
-            if not is_plain(data, at + 8 + number(at + 4)):
-                return False
-            at += number(at)
-        elif kind == 0x0B:
-            at = data.index(0, data.index(0, at) + 1) + 1
-        elif kind == 0x05:
-            at += 5 + number(at)
-        elif kind in (0x02, 0x0C, 0x0D, 0x0E):
-            at += 4 + number(at) + (12 if kind == 0x0C else 0)
-        else:
-            at += sizes.get(kind, 0)
-    return True
-
-
-def refuse(text: str) -> NoReturn:
-    raise ValueError(text)
-
-
-def is_json(line: bytes) -> bool:
-    """Whether a line is JSON, by the standard library of Python."""
-    try:
-        json.loads(line.decode(), parse_int=str, parse_float=str, parse_constant=refuse)
-    except ValueError:
-        return False
-    return True
-
-
-def answers(line: bytes, name: str, number: str) -> bool:
-    """Whether a line of canonical text has the number, of 32 or 64 bits, or an array with it, as its first field of the name."""
-    wanted = [[("$numberInt", number)], [("$numberLong", number)]]
-    for key, value in json.loads(line, object_pairs_hook=list):
-        if key == name:
-            # An array is told from a document by its text alone, where it has no pairs.
-            return value in wanted or any(one in value for one in wanted)
-    return False
-
-
 class Search:
     """Makes inputs, runs the program over them and looks at its answers."""
 
     def __init__(self, seed: int, room: Path) -> None:
         self.rng = random.Random(seed)
+        self.inputs = Inputs(self.rng)
         self.room = room
         self.runs = 0
         self.input = self.served = b""
         self.command: list[str] = []
         lines = [line for name in ("people", "shop") for line in (ROOT / f"examples/{name}.jsonl").read_bytes().splitlines()]
         self.lines = self.rng.sample(lines, SHALLOW) + [text.encode() for text in OTHERS]
-        packed = self.run("pack", b"\n".join(self.lines))
-        self.documents = list(frames(packed.out))
+        self.documents = list(map(encoded, map(read_document, self.lines)))
         self.least = self.least_memory()
-        self.want(len(self.documents) == len(self.lines), "the documents to begin with are not all packed")
 
     def want(self, holds: bool, reason: str) -> None:
         if not holds:
@@ -211,91 +134,29 @@ class Search:
         self.want(ended.returncode in (0, 1), f"status {ended.returncode}")
         return Ran(ended.returncode, ended.stdout, ended.stderr)
 
-    def dump(self, data: bytes) -> tuple[list[bytes], bytes | None]:
-        """The lines of a dump and its fault, where their form and the status agree."""
-        ran = self.run("dump", data)
-        told = DUMPED.fullmatch(ran.err)
-        self.want(told is not None, "standard error of dump")
-        fault, number, _, count = told.groups()
-        self.want(ran.status == (fault is not None), "the status of dump")
-        self.want(int(count) == ran.out.count(b"\n"), "the counting line of dump")
-        self.want(fault is None or number == count, "the number of the document with the fault")
-        return ran.out.splitlines(keepends=True), fault
-
     def over_dump(self, data: bytes) -> None:
-        """dump, check, find and pack agree on a dump."""
-        lines, fault = self.dump(data)
-        ran = self.run("check", data)
-        told = CHECKED.fullmatch(ran.err)
-        self.want(told is not None, "standard error of check")
-        count, faulty = int(told[1]), int(told[2])
-        faults = ran.out.splitlines(keepends=True)
-        self.want(all(re.fullmatch(FAULT, line) for line in faults), "standard output of check")
-        self.want(faulty == len(faults), "the count of the faulty")
-        self.want(ran.status == (faulty > 0), "the status of check")
-        self.want(faults[:1] == ([] if fault is None else [fault]), "dump and check do not agree on the first fault")
-        whole = list(frames(data))
-        rest = len(data) > sum(map(len, whole))
-        self.want(count == len(whole) + rest, "the count of the documents")
-        bad = {int(re.match(rb"document (\d+)", line)[1]) for line in faults}
-        self.want(len(bad) == len(faults) and (not rest or len(whole) in bad), "the numbers of the faulty")
+        """dump, check, find and pack of a dump show what python reads in it."""
+        read = read_dump(data)
+        lines = [written(it).encode() + b"\n" for it in read.front()]
+        faults = read.faults()
+        fault = f"bsonfind: {faults[0]}" if faults else ""
+        told = f"{fault}{len(lines)} objects found\n".encode()
+        self.want(self.run("dump", data) == Ran(int(faults != []), b"".join(lines), told), f"dump; wanted {told!r}")
+        checked = "".join(faults).encode(), f"{len(read.documents)} documents, {len(faults)} faulty\n".encode()
+        self.want(self.run("check", data) == Ran(int(faults != []), *checked), f"check; wanted {checked!r}")
 
-        good = [document for number, document in enumerate(whole) if number not in bad]
-        if bad:
-            front = lines
-            lines, none = self.dump(b"".join(good))
-            self.want(none is None and len(lines) == len(good), "the documents that check found good")
-            self.want(lines[: len(front)] == front, "the documents before the first fault")
-        self.over_find(data, fault, lines, all(map(is_plain, good)))
-        self.over_lines(good, lines)
-
-    def over_find(self, data: bytes, fault: bytes | None, lines: list[bytes], plain: bool) -> None:
-        """find shows the documents that answer, or the fault of the dump."""
-        numbers = re.findall(rb'"([A-Za-z]+)":\[?{"\$numberInt":"(-?\d+)"}', b"".join(lines)) + [(b"none", b"-2147483648")]
-        name, number = (word.decode() for word in self.rng.choice(numbers))
-        size = self.rng.choice([None, 0, 1, 2, 2147483647])
-        query = f'{{"{name}":{number}}}'
-        ran = self.run("find", data, "--query", query, *([] if size is None else ["--batch", str(size)]))
-        self.want(ran.status == (fault is not None), "the status of find")
-        if fault is not None:
-            self.want(ran.out == b"" and ran.err == b"bsonfind: " + fault, "find in a dump with a fault")
-        elif plain:
-            answer = [place for place, line in enumerate(lines) if answers(line, name, number)]
-            batch = answer[:size]
-            self.want(ran.out == b"".join(lines[place] for place in batch), "the documents that were found")
-            end = "end" if len(batch) == len(answer) else "more"
-            token = f", token {token_of(len(batch), batch[-1], digest(data, request_text(query)))}" if batch else ""
-            self.want(ran.err.decode() == f"{len(batch)} documents, {end}{token}\n", "standard error of find")
-        else:
-            self.want(FOUND.fullmatch(ran.err) is not None, "standard error of find")
-
-    def over_lines(self, good: list[bytes], lines: list[bytes]) -> None:
-        """What dump printed is packed to the same bytes, where a document is plain."""
-        plain = [number for number, document in enumerate(good) if is_plain(document)]
-        ran = self.run("pack", b"".join(lines[number] for number in plain))
-        self.want(ran == Ran(0, b"".join(good[number] for number in plain), b"%d objects packed\n" % len(plain)), "dump, and pack again")
+        self.inputs.made = read.good()
+        find = self.inputs.find()
+        status, out, told = find.shown(Dump(read.front(), data))
+        if faults and status == 0:
+            status, out, told = 1, b"", fault
+        self.want(self.run("find", data, *find.words()) == Ran(status, out, told.encode()), f"what is found; wanted {status} {told!r}")
+        self.over_text(b"".join(lines))
 
     def over_text(self, text: bytes) -> None:
-        """pack of a text: what is told of it, what is written, and that dump reads this."""
-        ran = self.run("pack", text)
-        told = PACKED.fullmatch(ran.err)
-        self.want(told is not None, "standard error of pack")
-        number, byte, words, count = told.groups()
-        self.want(ran.status == (number is not None), "the status of pack")
-        documents = list(frames(ran.out))
-        self.want(b"".join(documents) == ran.out and len(documents) == int(count), "the documents of pack")
-        lines = text.split(b"\n")
-        last = len(lines) if number is None else int(number) - 1
-        taken = [line for line in lines[:last] if line.strip(b" \t\r")]
-        self.want(len(taken) == int(count), "the number of the bad line")
-        self.want(all(map(is_json, taken)), "a line was packed that is no JSON")
-        if number is not None:
-            self.want(0 <= int(byte or 0) <= len(lines[last]), "the byte of the fault")
-            if words != b"too deep" and not re.search(rb"\\u[dD][89a-fA-F]", lines[last]):
-                wanted = words not in (b"not JSON", b"text after the document")
-                self.want(is_json(lines[last]) == wanted, "the fault of the bad line")
-        printed, fault = self.dump(ran.out)
-        self.want(fault is None and len(printed) == len(documents), "the dump of what was packed")
+        """pack of a text writes the documents that python reads, and tells the first fault that it finds."""
+        status, documents, told = packed(text)
+        self.want(self.run("pack", text) == Ran(status, documents, told.encode()), f"what is packed; wanted {status} {told!r}")
 
     def over_memory(self) -> None:
         """With little memory a run is as with enough, or tells that there is none behind a front of what it writes.
@@ -326,45 +187,56 @@ class Search:
         return limit
 
     def over_words(self) -> None:
-        """A query, a sort and a token of any form are taken or told."""
-        option, texts = self.rng.choice([("query", [b'{"age":30}', b'{"a":-2147483648}']), ("sort", [b'{"age":1}', b'{"a.b":-1,"c":1}'])])
-        word = self.damaged_word(texts)
-        if self.rng.random() < 0.2:
-            option, word = "after", word.replace("{", "A").replace('"', "0")
-        ran = self.run("find", self.documents[0], f"--{option}={word}")
-        name = b"token" if option == "after" else option.encode()
-        told = rb"bsonfind: %s: .*\n" % name if ran.status else FOUND.pattern
-        self.want(re.fullmatch(told, ran.err, re.DOTALL) is not None, f"what is told of a {name.decode()}")
+        """Of a query, a sort or a token of any form the first fault is told."""
+        inputs, rng = self.inputs, self.rng
+        dump = Dump(inputs.documents())
+        find = inputs.find()
+        ways = rng.choice([("query",), ("sort",), ("query", "sort"), ("after",)])
+        texts = {name: self.damaged_word(getattr(find, name) or "A" * 60) for name in ways}
+        find = find._replace(**texts)
+        status, out, told = find.shown(dump)
+        self.want(self.run("find", dump.bytes, *find.words()) == Ran(status, out, told.encode()), f"what is told of words; wanted {told!r}")
 
-    def over_commands(self) -> None:
-        """Each command has one reply, and those that are refused change nothing: without them the others are replied to alike."""
-        commands = b"\n".join(self.damaged_command() for _ in range(self.rng.randint(1, 20)))
-        data = b"".join(self.rng.choices(self.documents[:SHALLOW], k=self.rng.choice([0, 1, 10])))
-        asked = [line for line in commands.split(b"\n") if line.strip(b" \t\r")]
-        ran = self.serve(data, commands)
-        self.want(ran.status == 0 and ran.err == b"", "how a session ends")
-        replies = ran.out.splitlines(keepends=True)
-        self.want(len(replies) == len(asked), "the number of the replies")
-        told = [json.loads(reply) for reply in replies]
-        refused = [reply for reply in told if reply["ok"] is not True]
-        self.want(all(list(reply)[:4] == ["ok", "layer", "number", "text"] for reply in refused), "what is told of a refusal")
-        kept = [place for place, reply in enumerate(told) if reply["ok"] is True]
-        again = self.serve(data, b"\n".join(asked[place] for place in kept))
-        self.want(again == Ran(0, b"".join(replies[place] for place in kept), b""), "the replies without the refused commands")
+    def over_requests(self) -> None:
+        """What is found in random documents by random requests, and after the tokens of earlier ones, is what python finds."""
+        inputs, rng = self.inputs, self.rng
+        dump = Dump(inputs.documents())
+        lines = b"".join(written(it).encode() + b"\n" for it in dump.documents)
+        self.want(self.run("dump", dump.bytes) == Ran(0, lines, b"%d objects found\n" % len(dump.documents)), "dump of random documents")
+        earlier: list[Find] = []
+        for _ in range(rng.randint(1, 8)):
+            find = inputs.find()
+            if earlier and rng.random() < 0.5:
+                before = rng.choice(earlier)
+                find = (find if rng.random() < 0.1 else before)._replace(after=before.after, batch=find.batch, index=find.index)
+                if rng.random() < 0.3:
+                    find = find._replace(after=inputs.bent_token(find.after, len(dump.documents)))
+            status, out, told = find.shown(dump)
+            ran = self.run("find", dump.bytes, *find.words())
+            self.want(ran == Ran(status, out, told.encode()), f"what is found; wanted {status} {told!r}")
+            if ", token " in told:
+                earlier.append(find._replace(after=told.rstrip().rsplit(" ", 1)[-1]))
 
-    def damaged_command(self) -> bytes:
-        """A command, mostly whole, over paths, numbers and tokens that other commands of the session may have."""
-        rng = self.rng
-        path = rng.choice(["age", "name", "address.city", "scores", "a..b", ""])
-        number = rng.choice([0, 1, 1, 2, 2, 3, 4, 100, -1, 2147483648])
-        query = rng.choice(['{"age":30}', "{}", '{"age":{"$gte":18}}', '{"scores":{"$elemMatch":{"$gt":0}}}', '{"$foo":1}'])
-        further = rng.choice(["", ',"sort":{"age":-1}', ',"limit":3,"skip":1', f',"use":{{"index":"{path}"}}', ',"use":"scan"', ',"sort":{"a":2}'])
-        command = rng.choice([
-            f'{{"createIndex":"{path}"}}', f'{{"createIndex":"{path}","sparse":true}}', f'{{"dropIndex":"{path}"}}',
-            f'{{"find":{query}{further}}}', f'{{"explain":{query}{further}}}', f'{{"getMore":{number},"batch":{rng.choice([0, 1, 5])}}}',
-            f'{{"getMore":{number}}}', f'{{"killCursor":{number}}}', f'{{"resume":"x","filter":{query}{further}}}', " \t", "{}",
-        ]).encode()  # fmt: skip
-        return self.damaged(command, [part.encode() for part in PARTS]) if rng.random() < 0.3 else command
+    def over_talk(self) -> None:
+        """The replies to random commands, of which some are damaged, are those that python makes."""
+        inputs, rng = self.inputs, self.rng
+        session = Session(Dump(inputs.documents()))
+        first = rng.choice([b""] * 20 + [b'{"find":{}}', b'{"createIndex":"%d"}'])
+        lines = [first.replace(b"%d", b"%d" % number) for number in range(rng.choice([16, 62, 64]) if first else 0)]
+        wanted = [session.reply(line) for line in lines]
+        damage = rng.choice([0.0, 0.02, 0.5])
+        for _ in range(rng.choice([3, 40, 150])):
+            line = inputs.text(inputs.command(session)).encode()
+            if rng.random() < damage:
+                line = self.damaged(line, [part.encode() for part in PARTS]).replace(b"\n", b" ")
+            lines.append(line)
+            if line.strip(b" \t\r"):
+                wanted.append(session.reply(line))
+        ran = self.serve(session.dump.bytes, b"\n".join(lines) + rng.choice([b"", b"\n", b"\n \t\r\n"]))
+        told = ran.out.decode().splitlines()
+        wrong = next((place for place, reply in enumerate(wanted) if told[place : place + 1] != [reply]), None)
+        said = "" if wrong is None else f": wanted {wanted[wrong]}, came {told[wrong : wrong + 1]}"
+        self.want((ran.status, ran.err, len(told)) == (0, b"", len(wanted)) and wrong is None, f"the replies of a session{said}")
 
     def damaged(self, data: bytes, parts: list[bytes]) -> bytes:
         """Bytes with a few changes."""
@@ -392,7 +264,7 @@ class Search:
 
     def damaged_dump(self) -> bytes:
         """Some documents, of which one or two are damaged, mostly with their length put right again."""
-        chosen = self.rng.choices(self.documents, k=self.rng.randint(1, 6))
+        chosen = [self.some_document() for _ in range(self.rng.randint(1, 6))]
         for _ in range(self.rng.randint(0, 2)):
             at = self.rng.randrange(len(chosen))
             changed = self.damaged(chosen[at], [document[4:-1] for document in self.rng.sample(self.documents, 3)])
@@ -400,6 +272,20 @@ class Search:
                 changed = len(changed).to_bytes(4, "little") + changed[4:]
             chosen[at] = changed
         return b"".join(chosen)
+
+    def some_document(self) -> bytes:
+        """A document of the examples, one of the others, a random one, or one of some 200 levels."""
+        way = self.rng.random()
+        if way < 0.3:
+            return self.rng.choice(self.documents[:SHALLOW])
+        if way < 0.6:
+            return self.rng.choice(self.documents[SHALLOW:])
+        if way < 0.97:
+            return encoded(self.inputs.document())
+        value = obj()
+        for _ in range(self.rng.randint(195, 199)):
+            value = self.rng.choice([Value("array", (value,)), obj(("a", value))])
+        return encoded(obj(("a", self.rng.choice([value, Value("javascriptWithScope", ("", obj(("a", value))))]))))
 
     def with_other_value(self, line: bytes) -> bytes:
         """A line with another value in place of one, or another name."""
@@ -420,23 +306,25 @@ class Search:
                 chosen[at] = self.damaged(chosen[at], [part.encode() for part in PARTS])
         return self.rng.choice([b"\n", b"\r\n", b"\n \t\n"]).join(chosen) + self.rng.choice([b"", b"\n"])
 
-    def damaged_word(self, texts: list[bytes]) -> str:
-        """A text that can be a word of a line."""
-        word = self.damaged(self.rng.choice(texts), [part.encode() for part in PARTS])
-        return "{" + word.replace(b"\0", b"").decode(errors="replace")[1:]
+    def damaged_word(self, text: str) -> str:
+        """A text that can be a word of a line, with a few changes."""
+        return self.damaged(text.encode(), [part.encode() for part in PARTS]).replace(b"\0", b"").decode(errors="replace")
 
     def once(self) -> None:
-        way = self.rng.random()
-        if way < 0.55:
-            self.over_dump(self.damaged_dump())
-        elif way < 0.85:
-            self.over_text(self.damaged_text())
-        elif way < 0.92:
-            self.over_memory()
-        elif way < 0.96:
-            self.over_words()
-        else:
-            self.over_commands()
+        ways = {"requests": 0.2, "talk": 0.2, "memory": 0.04, "words": 0.06, "dump": 0.3, "text": 0.2}
+        match self.rng.choices([*ways], [*ways.values()])[0]:
+            case "requests":
+                self.over_requests()
+            case "talk":
+                self.over_talk()
+            case "memory":
+                self.over_memory()
+            case "words":
+                self.over_words()
+            case "dump":
+                self.over_dump(self.damaged_dump())
+            case "text":
+                self.over_text(self.damaged_text())
 
     def keep(self, reason: str) -> None:
         """Keeps what is wanted to see a failure again."""
@@ -454,6 +342,8 @@ def main() -> int:
     seconds = int(sys.argv[1])
     seed = int(sys.argv[2]) if len(sys.argv) == 3 else random.randrange(1 << 32)
     print(f"seed {seed}", flush=True)
+    # A value of 200 levels is read by as many calls, and more.
+    sys.setrecursionlimit(5000)
     # The programs that are started inherit it.
     resource.setrlimit(resource.RLIMIT_STACK, (STACK, resource.getrlimit(resource.RLIMIT_STACK)[1]))
     inputs = failed = 0
@@ -467,7 +357,8 @@ def main() -> int:
             except Wrong as wrong:
                 search.keep(str(wrong))
                 failed += 1
-    print(f"{inputs} inputs, {search.runs} runs, {failed} failed")
+    print(f"{search.runs} runs")
+    print(f"{inputs - failed} passed, {failed} failed")
     return 1 if failed else 0
 
 

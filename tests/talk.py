@@ -3,8 +3,7 @@
 
 usage: tests/talk.py     The last line is 'N passed, M failed'.
 
-The dump is examples/people.bson. The replies that are wanted are made by python: the answers of tests/pages.py, the tokens of
-tests/tokens.py, and the keys of indexes.
+The dump is examples/people.bson. The replies that are wanted are made by python: see tests/sessions.py.
 
 - Pages of some requests by one run, their cursors in turn, with and without indexes.
 - An answer that a second run goes on with, by the token that the first one gave.
@@ -18,10 +17,9 @@ import select
 import subprocess
 import sys
 import time
-from typing import Callable, NamedTuple
 
-from pages import DOCUMENTS, DUMP, LINES, REQUESTS, ROOT, Request, Tests, keys, rank
-from tokens import token_of
+from pages import DUMP, PEOPLE, REQUESTS, ROOT, Tests
+from sessions import Find, Session
 
 PROGRAM = ROOT / "bsonfind"
 # How many seconds a reply may take.
@@ -38,6 +36,9 @@ class Talk:
     def __init__(self, commands: int = subprocess.PIPE) -> None:
         self.run = subprocess.Popen([PROGRAM, "serve", DUMP], stdin=commands, stdout=subprocess.PIPE, stderr=subprocess.PIPE, bufsize=0)
         self.came = b""
+        # The session that replies as this run should, and its last reply.
+        self.session = Session(PEOPLE)
+        self.wanted = ""
 
     def send(self, data: bytes) -> None:
         self.run.stdin.write(data)
@@ -55,8 +56,15 @@ class Talk:
         return line.decode()
 
     def ask(self, command: dict) -> str:
-        self.send(json.dumps(command, ensure_ascii=False).encode() + b"\n")
+        line = json.dumps(command, ensure_ascii=False).encode()
+        self.send(line + b"\n")
+        self.wanted = self.session.reply(line)
         return self.reply()
+
+    def wrong_reply(self, command: dict) -> str | None:
+        """What comes after a command, where it is not what should."""
+        came = self.ask(command)
+        return None if came == self.wanted else came
 
     def end(self) -> tuple[int, bytes, bytes]:
         """No command follows: how the run ends, and what it still writes."""
@@ -79,51 +87,19 @@ class Talk:
 QUIET = (0, b"", b"")
 
 
-def long(value: int) -> dict:
-    return {"$numberLong": str(value)}
-
-
-def reply(**fields: object) -> str:
-    return json.dumps({"ok": True, **fields}, ensure_ascii=False, separators=(",", ":"))
-
-
-def given(places: list[int], end: bool, token: str | None) -> str:
-    """The reply with the documents of some places: those of the lines, byte for byte."""
-    documents = ",".join(LINES[place].decode().rstrip("\n") for place in places)
-    return f'{{"ok":true,"documents":[{documents}],"end":{json.dumps(end)},"token":{json.dumps(token)}}}'
-
-
-def asked(request: Request, **first: object) -> dict:
+def asked(find: Find, /, **first: object) -> dict:
     """The command of a request; what says nothing is left out."""
-    fields = {"sort": json.loads(request.sort), "skip": request.skip, "limit": request.limit}
+    fields = {"sort": json.loads(find.sort), "skip": find.skip, "limit": find.limit}
     return {**first, **{name: value for name, value in fields.items() if value}}
 
 
-class Reader:
-    """A cursor, and the replies that it owes."""
-
-    def __init__(self, request: Request, cursor: int, size: int, places: list[int], count: int = 0, token: str | None = None) -> None:
-        self.cursor, self.size, self.left, self.count, self.token = cursor, size, places, count, token
-        self.tied = request.digest()
-        self.ended = False
-
-    def wrong_page(self, talk: Talk) -> str | None:
-        """Asks for a page: what came, where it is not what should."""
-        page, self.left = self.left[: self.size], self.left[self.size :]
-        self.count += len(page)
-        self.token = token_of(self.count, page[-1], self.tied) if page else self.token
-        self.ended = not self.left
-        came = talk.ask({"getMore": self.cursor, "batch": self.size})
-        return None if came == given(page, self.ended, self.token) else came
-
-
-def wrong_pages(talk: Talk, readers: list[Reader]) -> str | None:
-    """Reads the pages of cursors in turn, to their ends: the first reply that is wrong."""
-    while readers:
-        for reader in readers:
-            if wrong := reader.wrong_page(talk):
-                return f"cursor {reader.cursor}: {wrong}"
-        readers = [reader for reader in readers if not reader.ended]
+def wrong_pages(talk: Talk, sizes: dict[int, int]) -> str | None:
+    """Reads the pages of cursors in turn, each of its own size, to their ends: the first reply that is wrong."""
+    while sizes:
+        for cursor, size in sizes.items():
+            if wrong := talk.wrong_reply({"getMore": cursor, "batch": size}):
+                return f"cursor {cursor}: {wrong}"
+        sizes = {cursor: size for cursor, size in sizes.items() if cursor in talk.session.cursors}
     return None
 
 
@@ -131,23 +107,23 @@ def test_pages(tests: Tests) -> None:
     """The cursors of all requests in turn. Each page has another size than that of the next cursor."""
     for use in ("scan", "auto", {"index": "age"}):
         with Talk() as talk:
-            wrong = None if use == "scan" else next((came for path in ("age", "name") if '"ok":true' not in (came := talk.ask({"createIndex": path}))), None)
-            readers = []
-            for cursor, (size, request) in enumerate(((size, request) for size in (1, 2, 7, 600) for request in REQUESTS.values()), 1):
-                came = talk.ask(asked(request, find=json.loads(request.query), use=use))
-                wrong = wrong or (None if came == reply(cursor=long(cursor)) else came)
-                readers.append(Reader(request, cursor, size, request.answer()))
-            tests.want(f"cursors of all requests by {use}", wrong is None, wrong)
-            wrong = wrong_pages(talk, readers)
+            for path in () if use == "scan" else ("age", "name"):
+                tests.want(f"an index on {path}", (wrong := talk.wrong_reply({"createIndex": path})) is None, wrong)
+            sizes = {}
+            for cursor, (size, find) in enumerate(((size, find) for size in (1, 2, 7, 600) for find in REQUESTS.values()), 1):
+                wrong = talk.wrong_reply(asked(find, find=json.loads(find.query), use=use))
+                tests.want(f"cursor {cursor} by {use}", wrong is None, wrong)
+                sizes[cursor] = size
+            wrong = wrong_pages(talk, sizes)
             tests.want(f"pages of all requests by {use}", wrong is None, wrong)
             tests.want(f"the end of a run by {use}", (ended := talk.end()) == QUIET, ended)
 
 
 def test_resumed(tests: Tests) -> None:
     """Some documents by one run, and the rest by another one, from the token of the first."""
-    for name, request in REQUESTS.items():
+    for name, find in REQUESTS.items():
         with Talk() as talk:
-            talk.ask(asked(request, find=json.loads(request.query)))
+            talk.ask(asked(find, find=json.loads(find.query)))
             token = json.loads(talk.ask({"getMore": 1, "batch": 11}))["token"]
             tests.want(f"{name}, the first run ends", (ended := talk.end()) == QUIET, ended)
         for path in (None, "age", "visits.place"):
@@ -155,65 +131,43 @@ def test_resumed(tests: Tests) -> None:
                 if path:
                     talk.ask({"createIndex": path})
                 use = {"index": path} if path else "auto"
-                came = talk.ask(asked(request, resume=token, filter=json.loads(request.query), use=use))
-                tests.want(f"{name}, a cursor of a second run by {path}", came == reply(cursor=long(1)), came)
-                wrong = wrong_pages(talk, [Reader(request, 1, 5, request.answer()[11:], 11, token)])
+                wrong = talk.wrong_reply(asked(find, resume=token, filter=json.loads(find.query), use=use))
+                tests.want(f"{name}, a cursor of a second run by {path}", wrong is None, wrong)
+                wrong = wrong_pages(talk, {1: 5})
                 tests.want(f"{name}, the rest by {path}", wrong is None, wrong)
 
 
-class Bound(NamedTuple):
-    """A filter, and what python thinks of it: the keys that it bounds on a path, and the documents that match."""
-
-    path: str
-    query: str
-    is_inside: Callable[[object], bool]
-    matches: Callable[[dict], bool]
-
-
-def scores(it: dict) -> list[int]:
-    return it.get("scores", [])
-
-
-BOUNDS = [
-    Bound("age", '{"age":{"$gte":80}}', lambda key: isinstance(key, int) and key >= 80, lambda it: it["age"] >= 80),
-    Bound("scores", '{"scores":{"$gt":5,"$lt":2}}', lambda key: isinstance(key, int) and key > 5, lambda it: max(scores(it), default=0) > 5 > 2 > min(scores(it))),
-    Bound("address.city", '{"address.city":null}', lambda key: key is None, lambda it: "address" not in it),
-    Bound("visits.place", '{"visits.place":"Nairobi","age":30}', lambda key: key == "Nairobi", lambda it: it["age"] == 30 and "Nairobi" in [one["place"] for one in it.get("visits", [])]),
-    Bound("note", '{"note":{"$type":"string"}}', lambda key: isinstance(key, str), lambda it: "note" in it),
-]
-
-
-def entries(path: str) -> list[list[object]]:
-    """The keys of each document, those that are equal once."""
-    return [list({rank(key): key for key in keys(it, path.split("."))}.values()) for it in DOCUMENTS]
-
-
-def explained(plan: str, index: str | None, *counts: int) -> str:
-    read, looked_at, matching = map(long, counts)
-    return reply(plan=plan, index=index, entries=read, documents=looked_at, matches=matching)
+# Paths, and filters that bound them.
+BOUNDS = {
+    "age": {"age": {"$gte": 80}},
+    "scores": {"scores": {"$gt": 5, "$lt": 2}},
+    "address.city": {"address.city": None},
+    "visits.place": {"visits.place": "Nairobi", "age": 30},
+    "note": {"note": {"$type": "string"}},
+}
 
 
 def test_indexes(tests: Tests) -> None:
     with Talk() as talk:
-        for path, query, is_inside, matches in BOUNDS:
-            each = entries(path)
-            came = talk.ask({"createIndex": path})
-            tests.want(f"an index on {path}", came == reply(entries=long(sum(map(len, each))), multikey=max(map(len, each)) > 1), came)
-            inside = [count for it in each if (count := sum(map(is_inside, it)))]
-            matching = sum(map(matches, DOCUMENTS))
-            came = talk.ask({"explain": json.loads(query), "use": {"index": path}, "skip": 1, "limit": 1})
-            tests.want(f"what is told of {query}", came == explained("index", path, sum(inside), len(inside), matching), came)
-            came = talk.ask({"explain": json.loads(query), "use": "scan"})
-            tests.want(f"what is told of {query} by a scan", came == explained("scan", None, 0, len(DOCUMENTS), matching), came)
-            came = talk.ask({"explain": {}, "sort": {path: -1}})
-            tests.want(f"what is told of a sort by {path}", came == explained("walk", path, sum(map(len, each)), len(DOCUMENTS), len(DOCUMENTS)), came)
-        sparse = sum(len(each) for it, each in zip(DOCUMENTS, entries("scores")) if "scores" in it)
+        for path, query in BOUNDS.items():
+            for command in (
+                {"createIndex": path},
+                {"explain": query, "use": {"index": path}, "skip": 1, "limit": 1},
+                {"explain": query, "use": "scan"},
+                {"explain": {}, "sort": {path: -1}},
+            ):
+                tests.want(f"what is told of {command}", (wrong := talk.wrong_reply(command)) is None, wrong)
         talk.ask({"dropIndex": "scores"})
-        came = talk.ask({"createIndex": "scores", "sparse": True})
-        tests.want("a sparse index", came == reply(entries=long(sparse), multikey=True), came)
+        wrong = talk.wrong_reply({"createIndex": "scores", "sparse": True})
+        tests.want("a sparse index", wrong is None, wrong)
 
 
 FIND = b'{"find":{}}\n'
+
+
+def opened(cursor: int) -> str:
+    """The reply to FIND."""
+    return f'{{"ok":true,"cursor":{{"$numberLong":"{cursor}"}}}}'
 
 
 def test_pieces(tests: Tests) -> None:
@@ -221,7 +175,7 @@ def test_pieces(tests: Tests) -> None:
     with Talk() as talk:
         for byte in FIND:
             talk.send(bytes([byte]))
-        tests.want("a command byte by byte", (came := talk.reply()) == reply(cursor=long(1)), came)
+        tests.want("a command byte by byte", (came := talk.reply()) == opened(1), came)
         talk.send(b"\n \t\r\n" + FIND[:5])
         try:
             tests.want("half a command has no reply", False, talk.reply(0.3))
@@ -229,9 +183,9 @@ def test_pieces(tests: Tests) -> None:
             tests.want("half a command has no reply", talk.came == b"", silence)
         talk.send(FIND[5:] + FIND * 2)
         for cursor in (2, 3, 4):
-            tests.want(f"several commands at once, cursor {cursor}", (came := talk.reply()) == reply(cursor=long(cursor)), came)
+            tests.want(f"several commands at once, cursor {cursor}", (came := talk.reply()) == opened(cursor), came)
         talk.send(FIND.rstrip())
-        tests.want("a command without its newline", (ended := talk.end()) == (0, reply(cursor=long(5)).encode() + b"\n", b""), ended)
+        tests.want("a command without its newline", (ended := talk.end()) == (0, opened(5).encode() + b"\n", b""), ended)
 
 
 def test_devices(tests: Tests) -> None:
@@ -242,7 +196,7 @@ def test_devices(tests: Tests) -> None:
     with Talk(ours) as talk:
         # The pipe stays open, and holds nothing more: the read after the last byte fails.
         ended = talk.end()
-        tests.want("replies before a read that fails", ended == (1, b"".join(reply(cursor=long(it)).encode() + b"\n" for it in (1, 2)), b"bsonfind: cannot read\n"), ended)
+        tests.want("replies before a read that fails", ended == (1, b"".join(opened(it).encode() + b"\n" for it in (1, 2)), b"bsonfind: cannot read\n"), ended)
     os.close(ours)
     os.close(theirs)
     with Talk() as talk:

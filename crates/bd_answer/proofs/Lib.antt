@@ -3,6 +3,7 @@ pub mod BatchLemmas
 pub mod AnswerLemmas
 pub mod RestLemmas
 pub mod SessionLemmas
+pub mod AttemptLemmas
 pub mod SourceLemmas
 pub mod UnsortedLemmas
 pub mod FirstsLemmas

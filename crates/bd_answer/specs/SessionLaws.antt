@@ -1,5 +1,5 @@
 -- What always holds of sessions: whatever calls stand between, a cursor gives its answer, and a token leads on from where it was.
-use Rattle.std.specs.Prelude.{ℕ, ◌==◌, ◌≤◌, ◌≡◌, nat_lt, List, [], ◌∷◌, ◌++◌, drop, map, length, Option, Some, None, if◌then◌else◌}
+use Rattle.std.specs.Prelude.{ℕ, ◌==◌, ◌≤◌, ◌≡◌, nat_lt, Bool, List, [], ◌∷◌, ◌++◌, drop, map, length, Option, Some, None, if◌then◌else◌}
 use Rattle.std.specs.Cmp.{IsTotalOrder}
 use Rattle.bd_answer.specs.Answer.{answer, batches, rest}
 use Rattle.bd_answer.specs.Session.{Call, GivenBatch, MarkedToken, Query, Reply, State, drop_call, explain_call, find_call, gave, greatest_size, kill_call, make_call, most_given, next_call, opened, reply, resume_call, state_after}
@@ -78,3 +78,53 @@ ResumeGivesTheRest = (earlier later : List Call) (q : Query) (hint : Option (Lis
     let s = state_after_all new_state earlier in
     reply s (resume_call q hint t) ≡ opened id →
     GivesInTurn q id (rest q.asked t.mark) later (batches_to id later (replies (state_after s (resume_call q hint t)) later))
+
+-- ---- where memory runs out for some of the calls
+
+-- a call, and whether it was refused for want of memory: then it changed nothing, and has no reply
+pub record Attempt : Type 0 where
+  pub call : Call
+  pub is_starved : Bool
+
+abbrev pub state_after_attempt : State → Attempt → State
+state_after_attempt s a = if a.is_starved then s else state_after s a.call
+
+abbrev pub state_after_attempts : State → List Attempt → State
+state_after_attempts s [] = s
+state_after_attempts s (a ∷ later) = state_after_attempts (state_after_attempt s a) later
+
+-- the calls that were not refused so
+abbrev pub answered_calls : List Attempt → List Call
+answered_calls [] = []
+answered_calls (a ∷ later) = if a.is_starved then answered_calls later else a.call ∷ answered_calls later
+
+abbrev pub attempt_replies : State → List Attempt → List (Option Reply)
+attempt_replies s [] = []
+attempt_replies s (a ∷ later) =
+    (if a.is_starved then None else Some (reply s a.call)) ∷ attempt_replies (state_after_attempt s a) later
+
+-- the batches that the replies give to a cursor
+abbrev pub batch_of_attempt : ℕ → Attempt → Option Reply → List GivenBatch
+batch_of_attempt id a None = []
+batch_of_attempt id a (Some r) = batch_to id a.call r
+
+abbrev pub batches_of_attempts : ℕ → List Attempt → List (Option Reply) → List GivenBatch
+batches_of_attempts id [] rs = []
+batches_of_attempts id (a ∷ later) [] = []
+batches_of_attempts id (a ∷ later) (r ∷ rs) = batch_of_attempt id a r ++ batches_of_attempts id later rs
+
+-- a cursor that `find` opened gives the answer still, by the sizes of the calls that were answered
+abbrev pub FindOutlastsWant : Type 0
+FindOutlastsWant = (earlier later : List Attempt) (q : Query) (hint : Option (List ℕ)) (id : ℕ) → IsFair q →
+    let s = state_after_attempts new_state earlier in
+    reply s (find_call q hint) ≡ opened id →
+    GivesInTurn q id (answer q.asked) (answered_calls later)
+    (batches_of_attempts id later (attempt_replies (state_after s (find_call q hint)) later))
+
+-- and one that `resume` opened the rest
+abbrev pub ResumeOutlastsWant : Type 0
+ResumeOutlastsWant = (earlier later : List Attempt) (q : Query) (hint : Option (List ℕ)) (t : MarkedToken) (id : ℕ) → IsFair q →
+    let s = state_after_attempts new_state earlier in
+    reply s (resume_call q hint t) ≡ opened id →
+    GivesInTurn q id (rest q.asked t.mark) (answered_calls later)
+    (batches_of_attempts id later (attempt_replies (state_after s (resume_call q hint t)) later))

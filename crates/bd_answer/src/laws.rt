@@ -1,6 +1,6 @@
 //! Laws of answers and sessions. The body of each is empty: its contract is the law.
 ghost use Rattle.bd_answer.specs.AnswerLaws.{AnswerAscends, BatchesAreTheFirst, BeforeIsStrict, OrderedAscends, OrderedHasTheMatches, RestOfAnswer, RestOfRest};
-ghost use Rattle.bd_answer.specs.SessionLaws.{FindGivesTheAnswer, ResumeGivesTheRest};
+ghost use Rattle.bd_answer.specs.SessionLaws.{FindGivesTheAnswer, FindOutlastsWant, ResumeGivesTheRest, ResumeOutlastsWant};
 
 /// Of two places one comes before the other.
 pub fn places_are_ordered()
@@ -26,8 +26,10 @@ pub fn rests_follow()
 {}
 
 /// Over any calls on a session, a cursor gives its answer in batches, as many documents as the sizes ask for, and each token
-/// leads on to exactly the rest.
+/// leads on to exactly the rest. Calls that are refused for want of memory, which change nothing, are as if they were not made.
 pub fn sessions_keep_to_the_answer()
     ensures find { FindGivesTheAnswer }
     ensures resume { ResumeGivesTheRest }
+    ensures find_starved { FindOutlastsWant }
+    ensures resume_starved { ResumeOutlastsWant }
 {}

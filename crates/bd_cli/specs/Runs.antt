@@ -1,5 +1,5 @@
 -- What a run did.
-use Rattle.std.specs.Prelude.{ℕ, List, [], Option, codes}
+use Rattle.std.specs.Prelude.{◌<◌, ◌⊎◌, ℕ, List, [], Option, codes}
 use Rattle.bd_device.specs.Devices.{Over, Reader, Writer}
 use Rattle.bd_command_line.specs.FindWords.{find_words_of}
 use Rattle.bd_command_line.specs.declared.order.Order.{Order}
@@ -39,6 +39,16 @@ ReadsNoFile (orders.Serve path) = ⊥
 abbrev pub ReadsNoCommands : Order → Type 0
 ReadsNoCommands (orders.Serve path) = ⊥
 ReadsNoCommands _ = Unit {0}
+
+-- a write failed: a count of failures rose
+abbrev pub WriteFails : Over Writer → Over Writer → Type 0
+WriteFails out err = (out.before.failures < out.after.failures) ⊎ (err.before.failures < err.after.failures)
+
+-- a read or a write failed
+abbrev pub DeviceFails : Over Reader → Over Reader → Over Writer → Over Writer → Type 0
+DeviceFails file commands out err =
+    (file.before.failures < file.after.failures) ⊎ (commands.before.failures < commands.after.failures)
+    ⊎ WriteFails out err
 
 -- what is shown of words that are no order
 abbrev pub shown_report : WordsFault → Shown

@@ -2,7 +2,7 @@
 
 ghost use Rattle.std.specs.Prelude.{◌≡◌};
 ghost use Rattle.bd_cli.specs.Outcome.{PrintsShown};
-ghost use Rattle.bd_cli.specs.Runs.{CarriesOut, ReadsNoCommands, ReadsNoFile, shown_report};
+ghost use Rattle.bd_cli.specs.Runs.{CarriesOut, DeviceFails, ReadsNoCommands, ReadsNoFile, WriteFails, shown_report};
 ghost use Rattle.bd_device.specs.Devices.{over};
 
 use crate::check::check;
@@ -34,6 +34,9 @@ pub fn run<F: Input, C: Input, O: Output, E: Output>(
     // What is not wanted is not touched.
     ensures file { ReadsNoFile order.now → file.new ≡ file.old }
     ensures commands { ReadsNoCommands order.now → commands.new ≡ commands.old }
+    // A device that failed is told by the status.
+    ensures failed { DeviceFails (over F.state file.old file.new) (over C.state commands.old commands.new)
+        (over O.state out.old out.new) (over E.state err.old err.new) → result ≡ Status.Failed }
 {
     match order {
         Order::Dump { .. } => dump(alloc, file, out, err),
@@ -49,7 +52,8 @@ pub fn run<F: Input, C: Input, O: Output, E: Output>(
 /// A request for help prints the usage on `out`, with status 0; words that are not taken print it on `err`, with
 /// status 2; want of memory is told on `err`, with status 1. A device that fails makes the status 1.
 pub fn report<O: Output, E: Output>(fault: &WordsFault, out: &mut O, err: &mut E) -> Status
-    ensures { PrintsShown (over O.state out.old out.new) (over E.state err.old err.new) (shown_report fault.now) result }
+    ensures shown { PrintsShown (over O.state out.old out.new) (over E.state err.old err.new) (shown_report fault.now) result }
+    ensures failed { WriteFails (over O.state out.old out.new) (over E.state err.old err.new) → result ≡ Status.Failed }
 {
     match fault {
         WordsFault::Help => match write_all(out, USAGE.as_bytes()) {

@@ -1,6 +1,6 @@
 //! BSON values and documents as Extended JSON v2, canonical form: written without white space, and read.
 //!
-//! The text of each value is a function of its tree: `specs/Text.antt`. Which document a text is: `specs/Reads.antt`.
+//! The text of each value is a function of its tree: `specs/Text.antt`. Which document a text is: `specs/TextDocument.antt`.
 //!
 //! An example, which `bd_extjson_tests` proves and runs as `examples::extjson`:
 //!

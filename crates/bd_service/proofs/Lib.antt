@@ -4,3 +4,4 @@ pub mod CallLemmas
 pub mod AnswerLemmas
 pub mod TalkLemmas
 pub mod ServedLemmas
+pub mod GoingOnLemmas

@@ -6,10 +6,11 @@ use Rattle.bd_value.specs.Tree.{Doc}
 use Rattle.bd_answer.specs.Answer.{answer, rest}
 use Rattle.bd_answer.specs.Session.{Call, GivenBatch, MarkedToken, Query, State, find_call, gave, next_call, resume_call}
 use Rattle.bd_answer.specs.SessionLaws.{GivesInTurn, IsFair, new_state}
+use Rattle.bd_lines.specs.Serving.{Replied}
 use Rattle.bd_extjson.specs.TextDocument.{reading}
 use Rattle.bd_reply.specs.Reply.{LineReply, gives, opens, reply_text}
 use Rattle.bd_service.specs.CallOf.{document_call}
-use Rattle.bd_service.specs.Talk.{Answers, shown_reply}
+use Rattle.bd_service.specs.Talk.{Answers, RepliesInText, shown_reply}
 
 -- over a dump of these bytes, which are these documents, these lines may have these replies in turn, which lead from one state to
 -- the other
@@ -79,3 +80,9 @@ TalksGiveTheAnswer = (bytes : List ℕ) (ds : List Doc) (q : Query) (hint : Opti
 abbrev pub TalksGiveTheRest : Type 0
 TalksGiveTheRest = (bytes : List ℕ) (ds : List Doc) (q : Query) (hint : Option (List ℕ)) (t : MarkedToken) (id : ℕ) (lines : List (List ℕ)) (rs : List LineReply) →
     IsFair q → OpensInTalk bytes ds (resume_call q hint t) id lines rs → ShowsInTurn bytes ds q id (rest q.asked t.mark) lines rs
+
+-- What was replied to lines stands in front of what may be replied to them and to any lines after them.
+abbrev pub RepliesGoOn : Type 0
+RepliesGoOn = (bytes : List ℕ) (ds : List Doc) (s : State) (lines later : List (List ℕ)) (text : List ℕ) (t : State) →
+    Replied (RepliesInText bytes ds) s lines text t →
+    (rest : List ℕ) × (end : State) × Replied (RepliesInText bytes ds) s (lines ++ later) (text ++ rest) end

@@ -5,7 +5,7 @@ ghost use Rattle.bd_answer.specs.Session.{State};
 ghost use Rattle.bd_lines.specs.Serving.{Replied};
 ghost use Rattle.bd_reply.specs.Reply.{LineReply};
 ghost use Rattle.bd_service.specs.Talk.{RepliesInText};
-ghost use Rattle.bd_service.specs.TalkLaws.{TalksGiveTheAnswer, TalksGiveTheRest, Talks, reply_lines};
+ghost use Rattle.bd_service.specs.TalkLaws.{RepliesGoOn, TalksGiveTheAnswer, TalksGiveTheRest, Talks, reply_lines};
 
 /// Over any lines, a cursor gives its answer in batches, as many documents as the lines ask for, and each token leads on to
 /// exactly the rest.
@@ -19,4 +19,10 @@ pub fn texts_are_talks()
     ensures { (bytes : List ℕ) (ds : List Doc) (s : State) (lines : List (List ℕ)) (text : List ℕ) (t : State) →
         Replied (RepliesInText bytes ds) s lines text t →
         (rs : List LineReply) × Talks bytes ds s lines rs t × (text ≡ reply_lines rs) }
+{}
+
+/// Each line may have a reply, in each state. So what was replied to some lines is a front of what may be replied to all of them:
+/// replies that were cut short are a front of a whole text.
+pub fn replies_go_on()
+    ensures { RepliesGoOn }
 {}

@@ -25,5 +25,5 @@ mod laws;
 mod perform;
 mod service;
 
-pub use laws::{talks_keep_to_the_answer, texts_are_talks};
+pub use laws::{replies_go_on, talks_keep_to_the_answer, texts_are_talks};
 pub use service::Service;

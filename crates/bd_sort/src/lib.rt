@@ -13,8 +13,8 @@
 //!
 //! - `matching`: which documents match: `specs/Asked.antt`, what a request asks of a dump.
 //! - `sorted`: the places of any source, put in order: `specs/Sorted.antt`; `in_order`, those of a source that has the order.
-//! - `sort_table`, `columns`, `column`: the sort keys that are kept for it: `specs/SortTable.antt`, `specs/Column.antt`; `front`,
-//!   by which most texts among them compare: `specs/Front.antt`.
+//! - `sort_table`, `columns`, `column`: the sort keys that are kept for it, which compare by their fronts first (`bd_front`):
+//!   `specs/SortTable.antt`, `specs/Column.antt`.
 #![tactic(auto)]
 
 mod column;

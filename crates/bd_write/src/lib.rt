@@ -1,6 +1,6 @@
 //! Documents written as BSON: from a tree, from any reading of a value, or in pieces.
 //!
-//! Which bytes are written: `specs/Written.antt`.
+//! Which bytes are written: `specs/TreeBytes.antt`.
 //!
 //! An example, which `bd_bson_tests` proves and runs as `examples::write`:
 //!

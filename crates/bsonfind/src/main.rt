@@ -1,4 +1,6 @@
 //! `bsonfind`: the commands of bd_cli over the system's files and standard streams.
+//!
+//! - `gathering`: what waits in memory before the system is handed it.
 #![tactic(auto)]
 
 mod gathering;

@@ -1,0 +1,72 @@
+-- Each line may have a reply, so a talk can go on.
+use Rattle.std.proofs.Common.{◌≡◌, ℕ, List, [], ◌∷◌, ◌++◌, Option, Some, None, Err, length, refl, ap, ◌∙◌, append_assoc, arith, inl, inr, subst, sym}
+use Rattle.bd_value.specs.Tree.{Doc}
+use Rattle.bd_answer.specs.Session.{State}
+use Rattle.bd_diagnose.specs.JsonFault.{IsPlaced}
+use Rattle.bd_diagnose.specs.declared.json_fault.JsonFault.{JsonFault}
+use Rattle.bd_diagnose.specs.declared.json_fault.JsonFaultKind.TheVariants as kinds
+use Rattle.bd_extjson.specs.TextDocument.{reading}
+use Rattle.bd_lines.specs.Serving.{Replied}
+use Rattle.bd_reply.specs.Refusal.{json_refusal}
+use Rattle.bd_reply.specs.Reply.{reply_text}
+use Rattle.bd_service.specs.CallOf.{document_call}
+use Rattle.bd_service.specs.Talk.{IsCallIn, RepliesInText, reply_to, state_then}
+use Rattle.bd_service.specs.TalkLaws.{RepliesGoOn}
+
+module _ (bytes : List ℕ) (ds : List Doc) where
+  abbrev AreReplied : State → List (List ℕ) → List ℕ → State → Type 0
+  AreReplied = Replied (RepliesInText bytes ds)
+
+  -- ---- one line
+
+  abbrev HasPart : List ℕ → Type 0
+  HasPart line = (part : _) × IsCallIn bytes ds line part
+
+  some_part : (line : List ℕ) → HasPart line
+  some_part line = go (reading line) refl
+    where
+      go : (o : Option Doc) → reading line ≡ o → HasPart line
+      go (Some d) is = (document_call bytes ds d, inl (d, is, refl))
+      go None none =
+          let fault : JsonFault = record { kind = kinds.Syntax; at = 0 } in
+          let placed : IsPlaced (length line) fault = record { inside = omega arith; whole = λ e. refl; memory = λ e. refl } in
+          (Err (json_refusal fault), inr (none, (fault, placed, (λ e. cc), refl)))
+
+  abbrev HasReply : State → List ℕ → Type 0
+  HasReply s line = (text : List ℕ) × (t : State) × RepliesInText bytes ds s line text t
+
+  some_reply : (s : State) (line : List ℕ) → HasReply s line
+  some_reply s line =
+      let w = some_part line in
+      let r = reply_to ds s w.0 in
+      (reply_text r, state_then s w.0, (r, record { part = w.0; reads = w.1; tells = refl; moves = refl }, refl))
+
+  -- ---- all lines
+
+  abbrev HasReplies : State → List (List ℕ) → Type 0
+  HasReplies s lines = (text : List ℕ) × (t : State) × AreReplied s lines text t
+
+  some_replies : (s : State) (lines : List (List ℕ)) → HasReplies s lines
+  some_replies s [] = ([], s, (refl, refl))
+  some_replies s (line ∷ lines) =
+      let first = some_reply s line in
+      let later = some_replies first.1 lines in
+      (first.0 ++ 10 ∷ later.0, later.1, (first.0, first.1, later.0, first.2, later.2, refl))
+
+  replied_then : (s : State) (lines later : List (List ℕ)) (text rest : List ℕ) (t end : State)
+      → AreReplied s lines text t → AreReplied t later rest end → AreReplied s (lines ++ later) (text ++ rest) end
+  replied_then s [] later text rest t end (same, none) more =
+      subst (λ (x : List ℕ). AreReplied s later (x ++ rest) end) (sym none) (subst (λ (x : State). AreReplied x later rest end) same more)
+  replied_then s (line ∷ lines) later text rest t end (reply, mid, others, r, replied, is) more = (
+    reply,
+    mid,
+    others ++ rest,
+    r,
+    replied_then mid lines later others rest t end replied more,
+    ap (λ (x : List ℕ). x ++ rest) is ∙ append_assoc reply (10 ∷ others) rest,
+  )
+
+pub replies_on : RepliesGoOn
+replies_on bytes ds s lines later text t replied =
+    let more = some_replies bytes ds t later in
+    (more.0, more.1, replied_then bytes ds s lines later text more.0 t more.1 replied more.2)

@@ -1,0 +1,132 @@
+#!/usr/bin/env python3
+"""Asks bash, zsh and fish, as they run, what they offer after a line: commands, options that the line has not, and files.
+
+usage: tests/completions.py     The last line is 'N passed, M failed'; bash, zsh and fish are wanted, and not the program.
+"""
+
+import os
+import pty
+import re
+import select
+import subprocess
+import sys
+import tempfile
+from collections.abc import Callable
+from pathlib import Path
+
+COMPLETIONS = Path(__file__).resolve().parent.parent / "completions"
+COMMANDS = {"dump", "check", "pack", "find", "serve"}
+OPTIONS = {"--query", "--sort", "--skip", "--limit", "--batch", "--index", "--after"}
+DUMPS = {"one.bson", "two.bson", "room/"}
+OTHERS = {"lines.jsonl"}
+HELP = {"-h", "--help"}
+
+# A line, what is offered after it, and what only some shells offer there.
+ROWS: list[tuple[str, set[str], set[str]]] = [
+    ("", COMMANDS, HELP),
+    ("-", {"--help"}, HELP),
+    ("s", {"serve"}, set()),
+    ("dump ", DUMPS | {"-"}, OTHERS),
+    ("dump o", {"one.bson"}, set()),
+    ("dump -- ", DUMPS | {"-"}, OTHERS),
+    ("dump one.bson ", set(), set()),
+    ("check ", DUMPS | {"-"}, OTHERS),
+    ("check one.bson ", set(), set()),
+    ("pack ", DUMPS | OTHERS | {"-"}, set()),
+    ("pack l", {"lines.jsonl"}, set()),
+    ("pack lines.jsonl ", set(), set()),
+    # The commands of serve come from standard input, so it has no hyphen.
+    ("serve ", DUMPS, OTHERS),
+    ("serve -", set(), set()),
+    ("serve one.bson ", set(), set()),
+    # zsh and fish offer options once a hyphen stands there.
+    ("find ", DUMPS | {"-"}, OPTIONS | OTHERS),
+    ("find -", OPTIONS, {"-"}),
+    ("find --", OPTIONS, set()),
+    ("find one.bson --", OPTIONS, set()),
+    ("find one.bson --s", {"--sort", "--skip"}, set()),
+    ("find one.bson --skip 1 --s", {"--sort"}, set()),
+    ("find one.bson --skip=1 --s", {"--sort"}, set()),
+    ("find one.bson --query '{\"a\":1}' --", OPTIONS - {"--query"}, set()),
+    ("find one.bson t", set(), set()),
+    ("find --batch 3 ", DUMPS | {"-"}, OPTIONS - {"--batch"} | OTHERS),
+    ("find --batch=3 t", {"two.bson"}, set()),
+    *((f"find one.bson {option} ", set(), set()) for option in sorted(OPTIONS)),
+    *((f"find {option}=", set(), set()) for option in sorted(OPTIONS)),
+]
+KNOWN = COMMANDS | OPTIONS | DUMPS | OTHERS | HELP | {"-"}
+PROMPT = "ready> "
+
+
+class Terminal:
+    """A shell in a terminal. Keys are sent when its prompt stands, since zsh takes a tab that comes before as a character."""
+
+    def __init__(self, words: list[str], setup: str, room: str) -> None:
+        process, self.file = pty.fork()
+        if process == 0:
+            os.chdir(room)
+            os.environ.update(TERM="dumb", HOME=room, PS1=PROMPT, LC_ALL="C.UTF-8", INPUTRC="/dev/null")
+            os.execvp(words[0], words)
+        self.told = 0
+        self.tell(setup + "\n")
+
+    def tell(self, text: str) -> str:
+        """What the shell shows from this text on, up to the reply to a command that is sent after it."""
+        self.told += 1
+        os.write(self.file, f"{text}\x15echo told-''{self.told}.\n".encode())
+        shown = ""
+        while PROMPT not in shown.partition(f"told-{self.told}.")[2]:
+            if not select.select([self.file], [], [], 60)[0]:
+                raise TimeoutError(f"no reply after {text!r}: {shown!r}")
+            shown += os.read(self.file, 65536).decode(errors="replace")
+        return shown.partition("echo told-")[0]
+
+    def offered(self, line: str) -> set[str]:
+        shown = re.sub(r"\x1b\[[0-9;?]*[A-Za-z]", "", self.tell(f"bsonfind {line}\t"))
+        shown = re.sub(r".\x08", "", shown)
+        # What was typed stands there too, and is no offer.
+        return set(re.findall(r"[^\s=\x07]+", shown)) - set(re.findall(r"[^\s=]+", line))
+
+
+def fish(room: str) -> Callable[[str], set[str]]:
+    def offered(line: str) -> set[str]:
+        words = ["fish", "--no-config", "-c", f"source {COMPLETIONS}/bsonfind.fish; complete -C $argv[1]", f"bsonfind {line}"]
+        ran = subprocess.run(words, cwd=room, env={**os.environ, "HOME": room}, stdout=subprocess.PIPE, check=True)
+        return {it.partition("\t")[0] for it in ran.stdout.decode().splitlines()}
+
+    return offered
+
+
+def main() -> int:
+    passed = failed = 0
+    with tempfile.TemporaryDirectory() as room:
+        for name in DUMPS | OTHERS:
+            place = Path(room, name)
+            place.mkdir() if name.endswith("/") else place.touch()
+        bash = Terminal(
+            ["bash", "--norc", "--noprofile"],
+            f"bind 'set show-all-if-ambiguous on' 'set bell-style none'; source {COMPLETIONS}/bsonfind.bash",
+            room,
+        )
+        zsh = Terminal(
+            ["zsh", "-f"],
+            f"unsetopt beep list_ambiguous prompt_cr; fpath=({COMPLETIONS} $fpath); autoload -U compinit; compinit -u -D;"
+            " zstyle ':completion:*' verbose no",
+            room,
+        )
+        for shell, offered in (("bash", bash.offered), ("zsh", zsh.offered), ("fish", fish(room))):
+            for line, wanted, allowed in ROWS:
+                words = offered(line)
+                # The front that all offers have is put in the line: of options it is their hyphens.
+                strange = words & KNOWN - wanted - allowed
+                if wanted <= words and not strange:
+                    passed += 1
+                else:
+                    failed += 1
+                    print(f"FAILED: {shell}, after 'bsonfind {line}': missing {wanted - words}, not wanted {strange}")
+    print(f"{passed} passed, {failed} failed")
+    return 1 if failed else 0
+
+
+if __name__ == "__main__":
+    sys.exit(main())

@@ -1,0 +1,132 @@
+#!/usr/bin/env python3
+"""Looks whether docs/DEFINITIONS.md and the roots of the crates name what there is, and all that contracts cite.
+
+usage: tests/definitions.py     The last line is 'N passed, M failed'. It wants neither the program nor a proof.
+
+- Each name in docs/DEFINITIONS.md is one of a definition or of the code, and each file that it names is there.
+- Each definition that the contract of a public function cites is named in it.
+- The root of each crate names its modules, and each file of specs that it names is there.
+"""
+
+import re
+import sys
+from collections.abc import Iterator
+from pathlib import Path
+
+ROOT = Path(__file__).resolve().parent.parent
+CRATES = sorted(it for it in (ROOT / "crates").iterdir() if not it.name.endswith("_tests"))
+DEFINITIONS = ROOT / "docs/DEFINITIONS.md"
+
+# Words in backquotes that are no names of this repository: of the formats, letters of the tables, and names of the toolchain.
+WORDS = {
+    *("true", "false", "base64", "subType", "t", "i", "p", "q", "e", "v", "help"),
+    *("clap", "if_last", "Consumes", "Appends", "IsAtEnd", "ReadConsumes", "WriteAppends"),
+}
+
+# Constructors of trees, which stand there in words.
+CONSTRUCTORS = {"own", "undefined"}
+
+
+def sources(crate: Path, suffix: str) -> Iterator[Path]:
+    folders = ("specs", "proofs") if suffix == ".antt" else ("src",)
+    for folder in folders:
+        yield from sorted((crate / folder).rglob(f"*{suffix}"))
+
+
+def text_of(path: Path) -> str:
+    return path.read_text(encoding="utf-8")
+
+
+def defined() -> set[str]:
+    """The names of definitions, and of their constructors and fields."""
+    names: set[str] = set()
+    for crate in CRATES:
+        for path in sources(crate, ".antt"):
+            text = text_of(path)
+            names.update(re.findall(r"^ *(?:(?:unfoldable|abbrev|mutual|pub|record|data) )*([\w-]+) [^\n]*:", text, re.M))
+    return names
+
+
+def coded() -> set[str]:
+    """The names of functions, types, modules, variants, fields and ghost items of the code."""
+    names: set[str] = set()
+    for crate in CRATES:
+        names.add(crate.name)
+        for path in sources(crate, ".rt"):
+            text = text_of(path)
+            names.update(re.findall(r"\b(?:fn|struct|enum|trait|const|type|mod|ensures|requires|ghost) (\w+)", text))
+            names.update(re.findall(r"^ +(?:pub )?(\w+)(?:,|:|\(| \{| = \d+,)", text, re.M))
+    return names
+
+
+def signatures(text: str) -> Iterator[tuple[str, str]]:
+    """The public functions of a file, each with the lines from its name to its body."""
+    lines = iter(text.splitlines())
+    for line in lines:
+        head = re.match(r"( *)pub (?:const )?fn (\w+)", line)
+        if head:
+            signature = [line]
+            # The body of a law is empty, a method of a trait has none, and that of a small function stands on its first line.
+            bodies = (f"{head[1]}{{", f"{head[1]}{{}}")
+            while signature[-1] not in bodies and not signature[-1].endswith((";", " {")) and not line.endswith("}"):
+                signature.append(next(lines))
+            yield head[2], "\n".join(signature)
+
+
+def cited() -> dict[str, str]:
+    """The definitions that contracts of public functions cite, and one such function each."""
+    found: dict[str, str] = {}
+    for crate in CRATES:
+        for path in sources(crate, ".rt"):
+            text = text_of(path)
+            known: dict[str, str] = {}
+            for module, names in re.findall(r"^\s*ghost use Rattle\.bd_\w+\.(specs[\w.]*)\.\{([^}]*)\};", text, re.M):
+                if "declared" not in module:
+                    pairs = [name.split(" as ") for name in names.split(",")]
+                    known.update({pair[-1].strip(): pair[0].strip() for pair in pairs})
+            for name, signature in signatures(text):
+                for word in re.findall(r"[\w-]+", signature):
+                    if word in known:
+                        found.setdefault(known[word], f"{crate.name}: {name}")
+    return found
+
+
+def roots() -> Iterator[tuple[bool, str]]:
+    for crate in CRATES:
+        path = next(it for it in (crate / "src/lib.rt", crate / "src/main.rt") if it.exists())
+        text = text_of(path)
+        head = "\n".join(line for line in text.splitlines() if line.startswith("//!"))
+        for module in re.findall(r"^(?:pub )?mod (\w+);", text, re.M):
+            yield f"`{module}`" in head, f"{crate.name}: its root does not name the module {module}"
+        for name in re.findall(r"`(specs/[\w/]+\.antt)`", head):
+            yield (crate / name).exists(), f"{crate.name}: its root names {name}, which is not there"
+
+
+def names() -> Iterator[tuple[bool, str]]:
+    there = defined() | coded() | WORDS
+    files = [str(path.relative_to(ROOT)) for crate in CRATES for suffix in (".antt", ".rt") for path in sources(crate, suffix)]
+    quoted = dict.fromkeys(re.findall(r"`([^`\n]+)`", text_of(DEFINITIONS)))
+    for name in quoted:
+        if re.fullmatch(r"[\w/]+\.(?:antt|rt)", name):
+            yield any(f"/{file}".endswith(f"/{name}") for file in files), f"docs/DEFINITIONS.md names {name}, which is not there"
+        elif re.fullmatch(r"[A-Za-z_][\w-]*", name):
+            yield name in there, f"docs/DEFINITIONS.md names {name}, which is not there"
+    for name, function in sorted(cited().items()):
+        if name not in CONSTRUCTORS:
+            yield name in quoted, f"docs/DEFINITIONS.md does not name {name}, which a contract cites ({function})"
+
+
+def main() -> int:
+    passed = failed = 0
+    for holds, told in (*names(), *roots()):
+        if holds:
+            passed += 1
+        else:
+            failed += 1
+            print(told)
+    print(f"{passed} passed, {failed} failed")
+    return 1 if failed else 0
+
+
+if __name__ == "__main__":
+    sys.exit(main())
