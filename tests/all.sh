@@ -1,6 +1,7 @@
 #!/bin/sh
-# Runs the gate, then the tests of the program that the gate proved and built, the looks at the examples and the definitions and
-# one round of the edits, and prints the sum of all as its last line. The status is 0 where nothing failed.
+# Runs the gate, then the tests of the program that the gate proved and built, the rows of the calls that grow, the looks at the
+# examples and the definitions and one round of the edits, and prints the sum of all as its last line. The status is 0 where
+# nothing failed.
 set -u
 cd "$(dirname "$0")/.." || exit 1
 log=$(mktemp) || exit 1
@@ -16,8 +17,8 @@ add() {
 	failed=$((failed + ${counts#* }))
 }
 
-# A program that an earlier run left is not tested in place of the gate's.
-rm -f crates/bsonfind/out/bsonfind
+# What an earlier run left is not tested in place of what the gate builds.
+rm -f crates/bsonfind/out/bsonfind crates/bd_growth_tests/out/bd_growth_tests_tests
 rt ci | tee "$log"
 add
 
@@ -36,6 +37,14 @@ if cp crates/bsonfind/out/bsonfind bsonfind; then
 else
 	echo 'tests/program.sh and the tests after it were not run: the gate built no program'
 	failed=$((failed + 1))
+fi
+
+# The gate leaves these tests too, proved and built.
+if [ -x crates/bd_growth_tests/out/bd_growth_tests_tests ]; then
+	tests/growing_calls.py | tee "$log"
+	add
+else
+	echo 'tests/growing_calls.py was not run: the gate left no tests of crates/bd_growth_tests'
 fi
 
 tests/examples.py | tee "$log"

@@ -4,4 +4,5 @@ pub mod EndsLemmas
 pub mod KeyListLemmas
 pub mod LawsLemmas
 pub mod MemberLemmas
+pub mod PositionsLemmas
 pub mod ReachLemmas

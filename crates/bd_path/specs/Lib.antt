@@ -8,5 +8,6 @@ pub mod Names
 pub mod Path
 pub mod PathFault
 pub mod PathNames
+pub mod Positions
 pub mod Reach
 pub mod Sort

@@ -10,7 +10,9 @@ ghost use Rattle.bd_path.specs.PathNames.{names_of};
 ghost use Rattle.bd_path.specs.Reach.{document_ends, index_ends, reach};
 
 use crate::component::Component;
+use crate::open_ends::any_open_end;
 use crate::path::Path;
+use crate::positions::Positions;
 use bd_value::{Kind, Reading};
 
 /// What an end of a path is asked.
@@ -30,7 +32,26 @@ pub trait EndTest {
 pub fn any_end<N: Reading, T: EndTest>(node: N, path: &Path, test: &T) -> bool
     ensures { result ≡ list_any (T.passes test.now) (reach (N.tree node) (names_of path.now)) }
 {
-    any_end_below(node, path.components(), test)
+    let components = path.components();
+    if repeats_an_index(components) {
+        return any_open_end(node, components, &Positions::start(), test);
+    }
+    any_end_below(node, components, test)
+}
+
+/// Whether a component and the next one are the same index.
+///
+/// Then an element of an array and a field of it may both be reached from two positions of the path, and one value in
+/// exponentially many ways. Along every other path a value is reached from two positions at most.
+fn repeats_an_index(path: &[Component]) -> bool {
+    let mut last = None;
+    for component in path {
+        if component.index.is_some() && component.index == last {
+            return true;
+        }
+        last = component.index;
+    }
+    false
 }
 
 #[cycle(ends)]

@@ -15,6 +15,8 @@
 //!
 //! - `path`, `path_fault`, `component`: `Path`, a text cut into its components: `specs/Path.antt`.
 //! - `ends`: `any_end`, whether a value that the path reaches passes a test: `specs/Reach.antt`.
+//! - `positions`, `open_ends`: the same from several positions of the path at once, for a path that repeats an index:
+//!   `specs/Positions.antt`.
 //! - `key`, `key_list`: the keys of a document on a path, as nodes of the document: `specs/KeyList.antt`.
 //! - `dir`, `earliest`, `sort`: the key of a document in a sort, found with no list of keys, and the order of two documents by
 //!   several paths: `specs/Earliest.antt`.
@@ -28,8 +30,10 @@ mod ends;
 mod key;
 mod key_list;
 mod laws;
+mod open_ends;
 mod path;
 mod path_fault;
+mod positions;
 mod sort;
 
 pub use component::Component;

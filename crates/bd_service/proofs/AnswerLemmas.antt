@@ -1,6 +1,6 @@
 -- The reply to a line is that to the call that it is, or why it is none.
-use Rattle.std.proofs.Common.{ℕ, List, Result, Ok, Err, refl}
-use Rattle.std.specs.Prelude.{IfOk}
+use Rattle.std.proofs.Common.{◌≡◌, ℕ, List, Result, Ok, Err, refl, inr}
+use Rattle.std.specs.Prelude.{IfOk, OnErr}
 use Rattle.std.specs.declared.alloc.AllocError.{AllocError}
 use Rattle.bd_answer.specs.Session as machine
 use Rattle.bd_bson.specs.Collection.{bytes_of, documents}
@@ -10,8 +10,9 @@ use Rattle.bd_reply.specs.Reply.{refuses}
 use Rattle.bd_reply.specs.ReplyView.{line_reply, told_refusal}
 use Rattle.bd_reply.specs.declared.refusal.LineRefusal.{LineRefusal}
 use Rattle.bd_reply.specs.declared.reply.Reply.{Reply}
-use Rattle.bd_service.specs.ServiceView.{Performs}
+use Rattle.bd_service.specs.ServiceView.{Performs, StarvesAt, service_dump, service_state}
 use Rattle.bd_service.specs.Talk.{Answers, IsCallIn}
+use Rattle.bd_service.specs.declared.service.Service.{Service}
 
 pub answered : (old new : Session) (line : List ℕ) (call : machine.Call) (result : Result Reply AllocError)
     → IsCallIn (bytes_of (dump_of old)) (documents (dump_of old)) line (Ok call) → IfOk result (λ r. Performs old call r new)
@@ -23,3 +24,11 @@ pub turned_away : (s : Session) (line : List ℕ) (why : LineRefusal)
     → IsCallIn (bytes_of (dump_of s)) (documents (dump_of s)) line (Err (told_refusal why))
     → Answers (bytes_of (dump_of s)) (documents (dump_of s)) (state_of s) line (refuses (told_refusal why)) (state_of s)
 turned_away s line why reads = record { part = Err (told_refusal why); reads = reads; tells = refl; moves = refl }
+
+-- the reply to a call that was made was not written
+pub left_by_call : {A : Type 0} (old new : Service) (line : List ℕ) (r : Reply) (result : Result A AllocError)
+    → Answers (bytes_of (service_dump old)) (documents (service_dump old)) (service_state old) line (line_reply (documents (service_dump old)) r) (service_state new)
+    → service_dump new ≡ service_dump old → OnErr result (StarvesAt old line new)
+left_by_call old new line r (Ok x) answers kept = tt
+left_by_call old new line r (Err e) answers kept =
+    inr (_, record { reply = line_reply (documents (service_dump old)) r; answers = answers; written = refl; kept = kept })

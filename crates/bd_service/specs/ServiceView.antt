@@ -1,5 +1,5 @@
 -- What a session in memory does at a call, and at a line.
-use Rattle.std.specs.Prelude.{◌≡◌, ◌≢◌, List, ℕ}
+use Rattle.std.specs.Prelude.{◌≡◌, ◌≢◌, ◌⊎◌, List, ℕ}
 use Rattle.bd_answer.specs.Session as machine
 use Rattle.bd_answer.specs.Session.{State, state_after}
 use Rattle.bd_bson.specs.Collection.{bytes_of, documents}
@@ -38,3 +38,8 @@ pub record RepliesTo (old : Service) (line text : List ℕ) (new : Service) : Ty
   pub answers : Answers (bytes_of (service_dump old)) (documents (service_dump old)) (service_state old) line reply (service_state new)
   pub written : text ≡ reply_text reply
   pub kept : service_dump new ≡ service_dump old
+
+-- memory ran out at the line: the session is as it was, or as the call left it whose reply was not made
+abbrev pub StarvesAt : Service → List ℕ → Service → Type 0
+StarvesAt old line new =
+    (service_state new ≡ service_state old) ⊎ ((text : List ℕ) × RepliesTo old line text new)

@@ -1,9 +1,9 @@
 //! A call made on a session, and its reply.
 
-ghost use Rattle.std.specs.Prelude.{◌≡◌, IfErr, IfOk, OnOk};
+ghost use Rattle.std.specs.Prelude.{◌≡◌, IfErr, IfOk, IsErrOf, OnErr, OnOk};
 ghost use Rattle.bd_service.specs.CallView.{session_call};
 ghost use Rattle.bd_service.specs.ServiceView.{IsRefusalOf, Performs};
-ghost use Rattle.bd_cursor.specs.SessionView.{dump_of};
+ghost use Rattle.bd_cursor.specs.SessionView.{dump_of, state_of};
 
 use crate::call::Call;
 use bd_cursor::{Made, Refused, Session};
@@ -13,7 +13,9 @@ use std::alloc::AllocError;
 
 /// Makes a call. It fails for want of memory alone, and then the session is as it was.
 pub(crate) fn perform(session: &mut Session, call: Call) -> Result<Reply, NoMemory>
-    ensures { IfOk result (λ r. Performs session.old (session_call (dump_of session.old) call) r session.new) }
+    ensures performs { IfOk result (λ r. Performs session.old (session_call (dump_of session.old) call) r session.new) }
+    ensures unchanged { OnErr result (state_of session.new ≡ state_of session.old) }
+    ensures dump { dump_of session.new ≡ dump_of session.old }
 {
     match call {
         Call::CreateIndex {
@@ -40,6 +42,7 @@ pub(crate) fn perform(session: &mut Session, call: Call) -> Result<Reply, NoMemo
 fn made(made: Result<Made, Refused>) -> Result<Reply, NoMemory>
     ensures ok { IfOk made (λ m. IfOk result (λ r. r ≡ Reply.Made m)) }
     ensures refused { IfErr made (λ why. IfOk result (IsRefusalOf why)) }
+    ensures starved { OnErr result (IsErrOf made Refused.NoMemory) }
 {
     match made {
         Ok(made) => Ok(Reply::Made(made)),
@@ -51,6 +54,7 @@ fn made(made: Result<Made, Refused>) -> Result<Reply, NoMemory>
 fn opened(opened: Result<u64, Refused>) -> Result<Reply, NoMemory>
     ensures ok { IfOk opened (λ id. IfOk result (λ r. r ≡ Reply.Opened id)) }
     ensures refused { IfErr opened (λ why. IfOk result (IsRefusalOf why)) }
+    ensures starved { OnErr result (IsErrOf opened Refused.NoMemory) }
 {
     match opened {
         Ok(id) => Ok(Reply::Opened(id)),
@@ -62,6 +66,7 @@ fn opened(opened: Result<u64, Refused>) -> Result<Reply, NoMemory>
 fn done(done: Result<(), Refused>) -> Result<Reply, NoMemory>
     ensures ok { OnOk done (IfOk result (λ r. r ≡ Reply.Done)) }
     ensures refused { IfErr done (λ why. IfOk result (IsRefusalOf why)) }
+    ensures starved { OnErr result (IsErrOf done Refused.NoMemory) }
 {
     match done {
         Ok(()) => Ok(Reply::Done),
@@ -71,7 +76,8 @@ fn done(done: Result<(), Refused>) -> Result<Reply, NoMemory>
 
 /// The reply of a call that is refused; want of memory is no reply's.
 fn refuse(refused: Refused) -> Result<Reply, NoMemory>
-    ensures { IfOk result (IsRefusalOf refused) }
+    ensures told { IfOk result (IsRefusalOf refused) }
+    ensures starved { OnErr result (refused ≡ Refused.NoMemory) }
 {
     match refused {
         Refused::NoMemory => Err(AllocError),

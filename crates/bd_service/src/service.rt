@@ -1,6 +1,6 @@
 //! A session that lines are sent to.
 
-ghost use Rattle.std.specs.Prelude.{◌≡◌, IfErr, IfOk, OnOk};
+ghost use Rattle.std.specs.Prelude.{◌≡◌, ◌++◌, IfErr, IfOk, OnErr, OnOk, List, ℕ};
 ghost use Rattle.bd_answer.specs.SessionLaws.{new_state};
 ghost use Rattle.bd_bson.specs.Collection.{bytes_of, documents};
 ghost use Rattle.bd_bson.specs.declared.collection.Dump.{Dump};
@@ -11,7 +11,7 @@ ghost use Rattle.bd_extjson.specs.TextDocument.{ReadsAs};
 ghost use Rattle.bd_reply.specs.ReplyView.{line_reply};
 ghost use Rattle.bd_service.specs.CallOf.{command_part};
 ghost use Rattle.bd_service.specs.CallView.{RefusesLine, RefusesPart, session_call};
-ghost use Rattle.bd_service.specs.ServiceView.{RepliesTo, service_dump, service_state};
+ghost use Rattle.bd_service.specs.ServiceView.{RepliesTo, StarvesAt, service_dump, service_state};
 ghost use Rattle.bd_service.specs.Talk.{Answers, IsCallIn};
 
 use crate::call::Call;
@@ -47,11 +47,12 @@ impl Service {
         }
     }
 
-    /// The reply to a line. It fails for want of memory alone.
+    /// The reply to a line. It fails for want of memory alone, and then the session is as it was.
     fn answer(&mut self, line: &[u8]) -> Result<Reply, NoMemory>
         ensures answers { IfOk result (λ r. Answers (bytes_of (service_dump self.old)) (documents (service_dump self.old)) (service_state self.old)
             line.now (line_reply (documents (service_dump self.old)) r) (service_state self.new)) }
-        ensures dump { OnOk result (service_dump self.new ≡ service_dump self.old) }
+        ensures unchanged { OnErr result (service_state self.new ≡ service_state self.old) }
+        ensures dump { service_dump self.new ≡ service_dump self.old }
     {
         match read_call(self.alloc, line) {
             Ok(call) => perform(&mut self.session, call),
@@ -64,7 +65,14 @@ impl Service {
 impl Replier for Service {
     ghost replies = { RepliesTo };
 
-    fn reply(&mut self, command: &[u8], text: &mut Vec<u8>) -> Result<(), AllocError> {
+    fn reply(&mut self, command: &[u8], text: &mut Vec<u8>) -> Result<(), AllocError>
+        ensures replies { OnOk result ((reply : List ℕ) × (text.new.items ≡ text.old.items ++ reply)
+            × RepliesTo self.old command.now reply self.new) }
+        ensures kept { OnErr result (text.new.items ≡ text.old.items) }
+        // Where memory ran out the session is as it was, or as the call left it whose reply was not made.
+        ensures starved { OnErr result (StarvesAt self.old command.now self.new) }
+        ensures dump { service_dump self.new ≡ service_dump self.old }
+    {
         let reply = self.answer(command)?;
         write_reply(self.alloc, self.session.dump(), &reply, text)
     }

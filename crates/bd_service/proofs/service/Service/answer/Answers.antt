@@ -6,7 +6,7 @@ use Rattle.bd_service.proofs.service.Service.answer.Goals as goal
 pub returns-in-Ok-clause-answers : goal.returns-in-Ok-clause-answers
 returns-in-Ok-clause-answers c =
     answered c.args.self.now.session c.perform.new.session c.args.line.now (session_call (dump_of c.args.self.now.session) c.in-Ok.call) c.perform.result
-    (c.in-Ok.ensures.call (dump_of c.args.self.now.session)) c.perform.ensures
+    (c.in-Ok.ensures.call (dump_of c.args.self.now.session)) c.perform.ensures.performs
 
 pub returns-in-Err-Refused-clause-answers : goal.returns-in-Err-Refused-clause-answers
 returns-in-Err-Refused-clause-answers c =

@@ -1,0 +1,29 @@
+//! Rows of calls that grow, which `tests/growing_calls.py` runs once for each request for memory, with that one refused. Where a
+//! call answers that no memory was given, the row is begun again, and a call of a session or on a lent vector is made again.
+//! Each row then has its whole answer, which was worked by hand; another refusal or a shorter answer fails.
+#![tactic(auto)]
+
+#[cfg(test)]
+mod answers;
+#[cfg(test)]
+mod bytes_tests;
+#[cfg(test)]
+mod device_tests;
+#[cfg(test)]
+mod filter_tests;
+#[cfg(test)]
+mod index_tests;
+#[cfg(test)]
+mod order_tests;
+#[cfg(test)]
+mod path_tests;
+#[cfg(test)]
+mod run_tests;
+#[cfg(test)]
+mod samples;
+#[cfg(test)]
+mod service_tests;
+#[cfg(test)]
+mod session_tests;
+#[cfg(test)]
+mod text_tests;
