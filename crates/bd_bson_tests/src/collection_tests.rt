@@ -27,11 +27,44 @@ fn reads_no_document(rt: HostRuntime) {
     }
 }
 
-/// The second document has a string of length 0 in `s` and the third no length, or the second has no length.
+/// Of the document {"a":1} no byte, a length that is cut short, or less than the length tells.
+#[test]
+fn cut_dumps(rt: HostRuntime) -> Result<(), Fail> {
+    let alloc = rt.alloc();
+    let bytes = b"\x0c\0\0\0\x10a\0\x01\0\0\0\0";
+    for size in 0..12 {
+        let dump = read_dump(alloc, Vec::from_slice(alloc, &bytes[..size])?);
+        let is_told = match size {
+            0 => dump.is_ok_and(|none| none.len() == 0),
+            1..4 => is_fault(alloc, dump, "length cut short at 0 in 0:"),
+            _ => is_fault(alloc, dump, "bad length at 0 in 0:"),
+        };
+        assert!(rt; is_told, "{size} bytes");
+    }
+    Ok(())
+}
+
+/// Lengths of documents and of values that do not fit. Then the second document has a string of length 0 in `s` and the third no
+/// length, or the second has no length.
 #[test]
 fn tells_the_first_fault(rt: HostRuntime) -> Result<(), Fail> {
     let alloc = rt.alloc();
     let rows: &[(&[u8], &str)] = &[
+        (b"\xff\xff\xff\xff", "bad length at 0 in 0:"),
+        (b"\0\0\0\x80", "bad length at 0 in 0:"),
+        (b"\x04\0\0\0", "bad length at 0 in 0:"),
+        (
+            b"\x0c\0\0\0\x02a\0\0\0\0\0\0",
+            "bad string length at 7 in 0:.a",
+        ),
+        (
+            b"\x0c\0\0\0\x02a\0\xff\xff\xff\x7f\0",
+            "bad string length at 7 in 0:.a",
+        ),
+        (
+            b"\x0d\0\0\0\x05a\0\xff\xff\xff\xff\0\0",
+            "bad binary length at 7 in 0:.a",
+        ),
         (
             b"\x0c\0\0\0\x10a\0\x01\0\0\0\0\x0c\0\0\0\x02s\0\0\0\0\0\0\x05",
             "bad string length at 19 in 1:.s",

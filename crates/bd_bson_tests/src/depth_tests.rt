@@ -6,7 +6,7 @@ use std::alloc::Global;
 use std::test::Fail;
 
 /// So many documents, each the field `a` of the one outside it, the innermost of these bytes of elements.
-fn nested(alloc: Global, levels: u32, inside: &[u8]) -> Result<Vec<u8>, NoMemory> {
+pub(crate) fn nested(alloc: Global, levels: u32, inside: &[u8]) -> Result<Vec<u8>, NoMemory> {
     let mut bytes = framed(alloc, inside)?;
     for _ in 1..levels {
         bytes = joined(alloc, b"\x03a\0", &bytes)?;

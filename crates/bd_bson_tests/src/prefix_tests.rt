@@ -1,7 +1,10 @@
-//! Each prefix of a document of every kind.
+//! Each prefix of a document of every kind, of small documents and of deep ones.
+use crate::depth_tests::nested;
 use crate::samples::{Element, answers, elements, every_kind, framed, joined, with_scope};
+use bd_check::read_document;
 use bd_value::NoMemory;
 use std::alloc::Global;
+use std::process::Abort;
 use std::test::Fail;
 
 /// The words for a value of which so many bytes are left, and how far after its first byte the fault stands.
@@ -142,6 +145,37 @@ fn a_cut_element_is_told_in_a_scope(rt: HostRuntime) -> Result<(), Fail> {
         let inside = framed(alloc, &kinds[..cut])?;
         let want = wanted(alloc, cut, 121, ".o.$scope", "code x with ", "")?;
         answers(&rt, alloc, &with_scope(alloc, b'o', &inside)?, &want);
+    }
+    Ok(())
+}
+
+/// Asserts whether the bytes are a document, and that none of their fronts is one.
+fn looks_at_fronts(rt: &impl Abort, alloc: Global, bytes: &[u8], is_one: bool) {
+    assert!(rt; bytes.len() < 100_000);
+    assert!(rt; read_document(alloc, bytes, 0, 0).is_ok() == is_one);
+    for cut in 0..bytes.len() {
+        assert!(rt;
+            read_document(alloc, &bytes[..cut], 0, 0).is_err(),
+            "{cut} bytes"
+        );
+    }
+}
+
+/// Binary data of subtype 02, a timestamp, and a text with a zero; as many levels as may be, and one more.
+#[test]
+fn no_front_of_a_document_is_one(rt: HostRuntime) -> Result<(), Fail> {
+    let alloc = rt.alloc();
+    let deepest = nested(alloc, 200, b"")?;
+    let deeper = nested(alloc, 201, b"")?;
+    let rows: &[(&[u8], bool)] = &[
+        (b"\x13\0\0\0\x05x\0\x06\0\0\0\x02\x02\0\0\0\xff\xff\0", true),
+        (b"\x10\0\0\0\x11t\0\x02\0\0\0\x01\0\0\0\0", true),
+        (b"\x10\0\0\0\x02s\0\x04\0\0\0a\0b\0\0", true),
+        (deepest.as_slice(), true),
+        (deeper.as_slice(), false),
+    ];
+    for (bytes, is_one) in rows {
+        looks_at_fronts(&rt, alloc, bytes, *is_one);
     }
     Ok(())
 }

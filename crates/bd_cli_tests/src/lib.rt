@@ -14,3 +14,5 @@ mod run_tests;
 mod serve_tests;
 #[cfg(test)]
 mod words_tests;
+#[cfg(test)]
+mod write_tests;

@@ -7,44 +7,44 @@ use std::alloc::Global;
 use std::test::Fail;
 
 /// The document {"a":1}.
-const ONE: &[u8] = b"\x0c\0\0\0\x10a\0\x01\0\0\0\0";
+pub(crate) const ONE: &[u8] = b"\x0c\0\0\0\x10a\0\x01\0\0\0\0";
 
-const ONE_LINE: &[u8] = b"{\"a\":{\"$numberInt\":\"1\"}}\n";
+pub(crate) const ONE_LINE: &[u8] = b"{\"a\":{\"$numberInt\":\"1\"}}\n";
 
 /// The token was made by another program.
-const ONE_COUNT: &str =
+pub(crate) const ONE_COUNT: &str =
     "1 documents, end, token AQEAAAAAAAAAAAAAAFDfrHT7xyEvSkJ2TtexnfO4OqxgF4gXR6W1rQY99ieN\n";
 
 /// A document whose field `s` is a string of length 0, which has no room for its zero, and {"a":1}.
-const BAD_AND_ONE: &[u8] = b"\x0c\0\0\0\x02s\0\0\0\0\0\0\x0c\0\0\0\x10a\0\x01\0\0\0\0";
+pub(crate) const BAD_AND_ONE: &[u8] = b"\x0c\0\0\0\x02s\0\0\0\0\0\0\x0c\0\0\0\x10a\0\x01\0\0\0\0";
 
-const BAD_LINE: &[u8] = b"document 0, byte 7, path \"s\": bad string length\n";
+pub(crate) const BAD_LINE: &[u8] = b"document 0, byte 7, path \"s\": bad string length\n";
 
 const TWO_LINES: &[u8] = b"{\"a\":1}\n{\"a\":2147483648}\n";
 
 /// The documents of these lines.
-const TWO: &[u8] = b"\x0c\0\0\0\x10a\0\x01\0\0\0\0\x10\0\0\0\x12a\0\0\0\0\x80\0\0\0\0\0";
+pub(crate) const TWO: &[u8] = b"\x0c\0\0\0\x10a\0\x01\0\0\0\0\x10\0\0\0\x12a\0\0\0\0\x80\0\0\0\0\0";
 
-fn dump(alloc: Global) -> Order {
+pub(crate) fn dump(alloc: Global) -> Order {
     Order::Dump {
         file: String::new(alloc),
     }
 }
 
-fn check(alloc: Global) -> Order {
+pub(crate) fn check(alloc: Global) -> Order {
     Order::Check {
         file: String::new(alloc),
     }
 }
 
-fn pack(alloc: Global) -> Order {
+pub(crate) fn pack(alloc: Global) -> Order {
     Order::Pack {
         file: String::new(alloc),
     }
 }
 
 /// All documents.
-fn find(alloc: Global) -> Order {
+pub(crate) fn find(alloc: Global) -> Order {
     find_by(alloc, None)
 }
 
@@ -166,56 +166,6 @@ fn ends_at_a_read_that_fails(rt: HostRuntime) {
     assert!(rt; ends_at_reads(alloc, &pack(alloc), devices, &WHOLE_READS));
 }
 
-/// Whether each of the first three writes of standard output ends the run where it fails, with what was written before it, and
-/// the first of standard error with all of the output.
-fn ends_at_writes(alloc: Global, order: &Order, devices: Run<'_>) -> bool {
-    let mut failing = devices;
-    failing.status = Status::Failed;
-    failing.err = "bsonfind: cannot write\n";
-    let mut front = 0;
-    for call in 1..4 {
-        let Some(out) = devices.out.get(..front) else {
-            return false;
-        };
-        failing.out = out;
-        for way in [FailingWrite::Error(call), FailingWrite::Zero(call)] {
-            failing.failing_out = Some(way);
-            if reads(alloc, order, failing).is_none() {
-                return false;
-            }
-        }
-        front = front.saturating_add(devices.write_size);
-    }
-    failing.failing_out = None;
-    failing.out = devices.out;
-    failing.err = "";
-    for way in [FailingWrite::Error(1), FailingWrite::Zero(1)] {
-        failing.failing_err = Some(way);
-        if reads(alloc, order, failing).is_none() {
-            return false;
-        }
-    }
-    true
-}
-
-#[test]
-fn ends_at_a_write_that_fails(rt: HostRuntime) {
-    let alloc = rt.alloc();
-    let mut devices = ample(ONE, ONE_LINE, "");
-    devices.write_size = 10;
-    assert!(rt; ends_at_writes(alloc, &dump(alloc), devices));
-    let mut devices = ample(BAD_AND_ONE, BAD_LINE, "");
-    devices.write_size = 20;
-    assert!(rt; ends_at_writes(alloc, &check(alloc), devices));
-    let mut devices = ample(ONE, ONE_LINE, "");
-    devices.write_size = 10;
-    assert!(rt; ends_at_writes(alloc, &find(alloc), devices));
-    // A document has 12 bytes, and is written by itself.
-    let mut devices = ample(TWO_LINES, TWO, "");
-    devices.write_size = 6;
-    assert!(rt; ends_at_writes(alloc, &pack(alloc), devices));
-}
-
 /// A device that is full, and one that fails in the midst of a count, whose number and words are written apart.
 #[test]
 fn leaves_what_was_written(rt: HostRuntime) {
@@ -231,15 +181,16 @@ fn leaves_what_was_written(rt: HostRuntime) {
     assert!(rt; reads(alloc, &pack(alloc), failing).is_some());
 }
 
-/// Five bytes of each of two documents are read before the second line does not fit.
+/// Of a hundred documents, as of any number, five bytes of each of two are read before the second line does not fit.
 #[test]
-fn writes_a_line_before_it_reads_on(rt: HostRuntime) {
+fn writes_a_line_before_it_reads_on(rt: HostRuntime) -> Result<(), Fail> {
     let alloc = rt.alloc();
-    let four = b"\x05\0\0\0\0\x05\0\0\0\0\x05\0\0\0\0\x05\0\0\0\0";
-    let mut full = ample(four, b"{}\n", "bsonfind: cannot write\n");
+    let many = b"\x05\0\0\0\0".repeat(alloc, 100)?;
+    let mut full = ample(&many, b"{}\n", "bsonfind: cannot write\n");
     full.read_size = 1;
     full.write_size = 1;
     full.room = 3;
     full.status = Status::Failed;
     assert!(rt; reads(alloc, &dump(alloc), full) == Some(10));
+    Ok(())
 }

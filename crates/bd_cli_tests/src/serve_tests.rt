@@ -11,11 +11,11 @@ const ONE: &[u8] = b"\x0c\0\0\0\x10a\0\x01\0\0\0\0";
 const BAD: &[u8] = b"\x0c\0\0\0\x02s\0\0\0\0\0\0";
 
 /// Lines of 12, 3, 1, 25 and 23 bytes, with their newlines. The last has none.
-const COMMANDS: &[u8] =
+pub(crate) const COMMANDS: &[u8] =
     b"{\"find\":{}}\n \r\n\n{\"getMore\":1,\"batch\":1}\r\n{\"getMore\":1,\"batch\":1}";
 
 /// The replies, of 41, 133 and 83 bytes. The token was made by another program.
-const REPLIES: &str = r#"{"ok":true,"cursor":{"$numberLong":"1"}}
+pub(crate) const REPLIES: &str = r#"{"ok":true,"cursor":{"$numberLong":"1"}}
 {"ok":true,"documents":[{"a":{"$numberInt":"1"}}],"end":true,"token":"AQEAAAAAAAAAAAAAAFDfrHT7xyEvSkJ2TtexnfO4OqxgF4gXR6W1rQY99ieN"}
 {"ok":false,"layer":"session","number":{"$numberInt":"6"},"text":"no such cursor"}
 "#;

@@ -42,6 +42,8 @@ fn counts_levels(rt: HostRuntime) -> Result<(), Fail> {
     assert!(rt; LEVELS == 200);
     for (levels, inside, kind, at) in [
         (200, "{}", JsonFaultKind::TooDeep, 1000),
+        // The 204th bracket.
+        (203, "{}", JsonFaultKind::TooDeep, 1015),
         (200, r#"{"\u0000":1}"#, JsonFaultKind::TooDeep, 1000),
         (
             199,

@@ -1,5 +1,5 @@
-//! Rows of calls that grow, which `tests/growing_calls.py` runs once for each request for memory, with that one refused. Where a
-//! call answers that no memory was given, the row is begun again, and a call of a session or on a lent vector is made again.
+//! Rows of calls that grow, which `tests/growing_calls.py` runs once for each growth of their memory, with that one refused. Where
+//! a call answers that no memory was given, the row is begun again, and a call of a session or on a lent vector is made again.
 //! Each row then has its whole answer, which was worked by hand; another refusal or a shorter answer fails.
 #![tactic(auto)]
 

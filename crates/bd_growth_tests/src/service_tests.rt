@@ -60,7 +60,12 @@ fn replies(alloc: Global, documents: &str, talk: &str) -> Result<bool, Stopped> 
         match line.strip_prefix("> ") {
             Some(sent) => {
                 replied.clear();
-                service.reply(sent.as_bytes(), &mut replied)?;
+                let answer = service.reply(sent.as_bytes(), &mut replied);
+                // Of a reply that was not made nothing is there.
+                if answer.is_err() && !replied.is_empty() {
+                    return Err(Stopped::Otherwise);
+                }
+                answer?;
             }
             None if replied.as_slice() != line.as_bytes() => return Ok(false),
             None => {}
