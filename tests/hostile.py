@@ -225,7 +225,7 @@ class Search:
         lines = [first.replace(b"%d", b"%d" % number) for number in range(rng.choice([16, 62, 64]) if first else 0)]
         wanted = [session.reply(line) for line in lines]
         damage = rng.choice([0.0, 0.02, 0.5])
-        for _ in range(rng.choice([3, 40, 150])):
+        for _ in range(rng.choice([3, 40, 150, 400])):
             line = inputs.text(inputs.command(session)).encode()
             if rng.random() < damage:
                 line = self.damaged(line, [part.encode() for part in PARTS]).replace(b"\n", b" ")
@@ -311,7 +311,7 @@ class Search:
         return self.damaged(text.encode(), [part.encode() for part in PARTS]).replace(b"\0", b"").decode(errors="replace")
 
     def once(self) -> None:
-        ways = {"requests": 0.2, "talk": 0.2, "memory": 0.04, "words": 0.06, "dump": 0.3, "text": 0.2}
+        ways = {"requests": 0.2, "talk": 0.25, "memory": 0.03, "words": 0.07, "dump": 0.25, "text": 0.2}
         match self.rng.choices([*ways], [*ways.values()])[0]:
             case "requests":
                 self.over_requests()

@@ -10,7 +10,7 @@ from sessions import GREATEST, Find, Session
 NAMES = ["a", "a", "a", "b", "b", "c", "0", "1"]
 ODD_NAMES = ["", "a.b", "$a", "$gt", "é", "\0", "2", "00", "a" * 40]
 TEXTS = ["", "x", "xy", "y", "é", "x\0", "x" * 15, "x" * 16, "x" * 16 + "y", "\ud7ff", "\U0001f600"]
-PATHS = ["a", "a", "a", "b", "c", "a.b", "a.a", "b.a", "a.0", "a.1", "a.0.b", "a.b.a", "0", "b.c.0", "a.0.0", "none"]
+PATHS = ["a", "a", "a", "b", "c", "a.b", "a.a", "b.a", "a.0", "a.1", "a.0.b", "a.b.a", "0", "b.c.0", "a.0.0", "a.00", "a.01", "a.4294967296", "a.18446744073709551616", "none"]
 BAD_PATHS = ["", ".", "a.", ".a", "a..b", ".".join(["a"] * 101)]
 BYTES = [b"", b"\0", b"\1\2\3", b"\1\2\3\4\5\6\7"]
 IDS = [bytes(12), bytes(11) + b"\1", b"\xff" * 12]
@@ -23,17 +23,17 @@ class Inputs:
         self.rng = rng
         self.made: list[Value] = []
         self.paths: list[str] = []
+        self.kinds: list[int] = []
 
     def chance(self, part: float) -> bool:
         return self.rng.random() < part
 
     def scalar(self) -> Value:
-        """A value that is no object and no array, mostly a small number."""
+        """A value that is no object and no array: mostly a small number, or of the kinds that these documents mostly have."""
         rng = self.rng
-        whole = rng.choice([0, 1, 1, 2, 2, 3, 5, -1])
-        if self.chance(0.5):
-            return Value(rng.choice(["int", "int", "long"]), whole)
-        match rng.randrange(16):
+        if not self.kinds and self.chance(0.5):
+            return Value(rng.choice(["int", "int", "long"]), rng.choice([0, 1, 1, 2, 2, 3, 5, -1]))
+        match rng.choice(self.kinds) if self.kinds and self.chance(0.9) else rng.randrange(16):
             case 0 | 1 | 2:
                 return string(rng.choice(TEXTS))
             case 3:
@@ -82,7 +82,8 @@ class Inputs:
         return obj(*((name.replace("\0", "z"), value) for name, value in pairs))
 
     def documents(self) -> list[Value]:
-        """Documents, of which some are alike, and the paths that requests mostly have."""
+        """Documents, of which some are alike, and the paths and kinds that requests mostly have."""
+        self.kinds = self.rng.sample(range(16), 2) if self.chance(0.4) else []
         self.paths = []
         self.paths = [self.path() for _ in range(self.rng.choice([1, 2, 3]))]
         made = [self.document() for _ in range(self.rng.choice([0, 1, 3, 8, 8, 20, 40]))]
@@ -121,7 +122,7 @@ class Inputs:
         rng, operand = self.rng, self.operand(path)
         if self.chance(0.01):
             return rng.choice([*LEFT_OUT, *LOGICAL, "$x", "$", "a", ""]), operand
-        way = rng.randrange(14)
+        way = rng.randrange(16)
         if depth and way == 0:
             return "$not", self.operators(path, depth - 1) if self.chance(0.98) else operand
         if depth and way <= 2:
@@ -207,14 +208,14 @@ class Inputs:
         rng = self.rng
         cursor = number(rng.choice([*session.cursors, session.opened + 1]) if self.chance(0.95) else rng.choice([0, -1, 1 << 40]))
         path = string(rng.choice([self.path(), *(it.path for it in session.indexes)]))
-        match rng.randrange(12):
+        match rng.randrange(14):
             case 0 | 1:
                 pairs = [("createIndex", path), *([("sparse", Value("bool", self.chance(0.7)))] if self.chance(0.4) else [])]
             case 2 if session.indexes:
                 pairs = [("dropIndex", path)]
             case 3 | 4:
                 pairs = [("find", self.filter()), *self.further(self.sort(), rng.choice([0, 1, 2]), rng.choice([0, 1, 2, 5]), path)]
-            case 5 | 6:
+            case 5 | 6 | 12 | 13:
                 pairs = [("explain", self.filter()), *self.further(self.sort(), 0, rng.choice([0, 1]), path)]
             case 7:
                 pairs = [("killCursor", cursor)]
