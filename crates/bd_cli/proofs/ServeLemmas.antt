@@ -18,7 +18,7 @@ use Rattle.bd_cli.specs.Chain.{IsRefusedOr}
 use Rattle.bd_cli.specs.Find.{ReadsDump}
 use Rattle.bd_cli.specs.Outcome.{TellsMessage}
 use Rattle.bd_cli.specs.Serve.{ServesNothing, ServesToAFault, ServesToTheEnd, command_limits, serve_words}
-use Rattle.bd_cli.specs.Shown.{error_line, fault_text}
+use Rattle.bd_cli.specs.Transcript.{error_line, fault_text}
 use Rattle.bd_cli.specs.declared.status.Status.{Status}
 use Rattle.bd_cli.specs.declared.status.Status.TheVariants.{Done, Failed}
 

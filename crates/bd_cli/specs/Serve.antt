@@ -13,7 +13,7 @@ use Rattle.bd_service.specs.Talk.{RepliesInText}
 use Rattle.bd_cli.specs.Chain.{IsRefusedOr}
 use Rattle.bd_cli.specs.Find.{ReadsBytes, ReadsDump}
 use Rattle.bd_cli.specs.Outcome.{ReadsInput, TellsMessage}
-use Rattle.bd_cli.specs.Shown.{error_line, read_words}
+use Rattle.bd_cli.specs.Transcript.{error_line, read_words}
 use Rattle.bd_cli.specs.declared.status.Status.{Status}
 use Rattle.bd_cli.specs.declared.status.Status.TheVariants.{Done, Failed}
 

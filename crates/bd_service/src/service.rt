@@ -17,7 +17,7 @@ ghost use Rattle.bd_service.specs.Talk.{Answers, IsCallIn};
 use crate::call::Call;
 use crate::call_fault::CallFault;
 use crate::call_of::call_of;
-use crate::perform::perform;
+use crate::performing::perform;
 use bd_bson::Dump;
 use bd_command::{Command, CommandFault, read_command};
 use bd_cursor::Session;

@@ -8,7 +8,7 @@ mod gathering;
 use bd_cli::{Status, report};
 use bd_command_line::{Order, WordsFault, parse_words};
 use bd_device::{SystemInput, SystemOutput, write_all};
-use gathering::{Fate, Gathered, Gathering, TiedError, TiedInput, hand_on};
+use gathering::{Fate, GatheredOutput, Gathering, TiedError, TiedInput, hand_on};
 use std::cell::RefCell;
 use std::io::{BufReader, Read, Stdout};
 use std::process::ExitCode;
@@ -37,7 +37,7 @@ type Waiting = RefCell<Gathering<Stdout>>;
 /// Tells why there is no order to be carried out.
 fn refuse(rt: &HostRuntime, fault: &WordsFault, gathering: &Waiting) -> Status {
     let writer = rt.stderr();
-    let mut out = SystemOutput::new(Gathered { gathering });
+    let mut out = SystemOutput::new(GatheredOutput { gathering });
     let mut err = SystemOutput::new(TiedError { writer, gathering });
     report(fault, &mut out, &mut err)
 }
@@ -55,7 +55,7 @@ fn run<F: Read + Drop>(rt: &HostRuntime, order: &Order, reader: F, gathering: &W
         gathering,
     });
     let writer = rt.stderr();
-    let mut out = SystemOutput::new(Gathered { gathering });
+    let mut out = SystemOutput::new(GatheredOutput { gathering });
     let mut err = SystemOutput::new(TiedError { writer, gathering });
     bd_cli::run(
         rt.alloc(),

@@ -2,7 +2,7 @@ use Rattle.std.proofs.Common.{◌≡◌, ◌++◌, drop, map}
 use Rattle.bd_bson.specs.Collection.{documents, bytes_of}
 use Rattle.bd_path.specs.PathNames.{names_of}
 use Rattle.bd_index.specs.Entries.{all_entries_from}
-use Rattle.bd_index.specs.FoundView.{AreFoundIn, found_entry}
+use Rattle.bd_index.specs.FoundKeyView.{AreFoundIn, found_entry}
 use Rattle.bd_index.proofs.entries.find_all.Given as goal
 
 abbrev pub invariant-loop-place : goal.invariant-loop-place
