@@ -17,8 +17,8 @@
 //!
 //! - `session`: `Session`, its calls and `Made`: `specs/SessionView.antt`.
 //! - `cursor`: the open cursors, and `Batch`; `digested_dump`: the digest of a dump, taken once.
-//! - `remainder`: the places that a cursor has left: `scan_position`, where each document is looked at and there is no sort, and `place_list`, where
-//!   all are known.
+//! - `remainder`: the places that a cursor has left: `scan_position`, where each document is looked at and there is no sort, and
+//!   `place_list`, where all are known.
 #![tactic(auto)]
 
 mod cursor;

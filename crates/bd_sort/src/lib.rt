@@ -12,7 +12,8 @@
 //! ```
 //!
 //! - `matching`: which documents match: `specs/Selection.antt`, what a request selects of a dump.
-//! - `sorting`: the places of any source, put in order: `specs/Sorting.antt`; `ordered_source`, those of a source that has the order.
+//! - `sorting`: the places of any source, put in order: `specs/Sorting.antt`; `ordered_source`, those of a source that has the
+//!   order.
 //! - `sort_table`, `columns`, `column`: the sort keys that are kept for it, which compare by their fronts first (`bd_front`):
 //!   `specs/SortTable.antt`, `specs/Column.antt`.
 #![tactic(auto)]
