@@ -65,6 +65,8 @@ impl Service {
 impl Replier for Service {
     ghost replies = { RepliesTo };
 
+    ghost stays = { λ s t. service_state t ≡ service_state s };
+
     fn reply(&mut self, command: &[u8], text: &mut Vec<u8>) -> Result<(), AllocError>
         ensures replies { OnOk result ((reply : List ℕ) × (text.new.items ≡ text.old.items ++ reply)
             × RepliesTo self.old command.now reply self.new) }
