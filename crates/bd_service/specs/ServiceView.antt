@@ -39,7 +39,10 @@ pub record RepliesTo (old : Service) (line text : List ℕ) (new : Service) : Ty
   pub written : text ≡ reply_text reply
   pub kept : service_dump new ≡ service_dump old
 
+-- the session is as it was
+abbrev pub KeepsState : Service → Service → Type 0
+KeepsState old new = service_state new ≡ service_state old
+
 -- memory ran out at the line: the session is as it was, or as the call left it whose reply was not made
 abbrev pub StarvesAt : Service → List ℕ → Service → Type 0
-StarvesAt old line new =
-    (service_state new ≡ service_state old) ⊎ ((text : List ℕ) × RepliesTo old line text new)
+StarvesAt old line new = KeepsState old new ⊎ ((text : List ℕ) × RepliesTo old line text new)
