@@ -11,6 +11,7 @@ use bd_device::{SystemInput, SystemOutput, write_all};
 use gathering::{Fate, GatheredOutput, Gathering, TiedError, TiedInput, hand_on};
 use std::cell::RefCell;
 use std::io::{BufReader, Read, Stdout};
+use std::os::fd::AsRawFd;
 use std::process::ExitCode;
 use std::{env, fs, io};
 
@@ -92,10 +93,14 @@ fn obey(rt: &HostRuntime, gathering: &Waiting) -> Status {
     if file.as_str() == "-" {
         return run(rt, &order, rt.reader(), gathering);
     }
-    match fs::open(rt, file) {
-        Ok(opened) => run(rt, &order, opened, gathering),
-        Err(_) => tell_error(rt, "cannot open ", file),
+    let Ok(opened) = fs::open(rt, file) else {
+        return tell_error(rt, "cannot open ", file);
+    };
+    // The number of standard input, which was closed: commands would be read from the end of the file.
+    if opened.as_raw_fd() == 0 && matches!(&order, Order::Serve { .. }) {
+        return tell_error(rt, "cannot read", "");
     }
+    run(rt, &order, opened, gathering)
 }
 
 /// Does what the process's words say, up to the last byte of standard output. A loss of which the run did not learn is told
