@@ -40,6 +40,11 @@ document_keys sparse t path = each_gathering (key_gathering (missing_key sparse)
 abbrev pub index_keys : Bool → Tree → List ℕ → Names → List Tree
 index_keys sparse t name rest = gathering_at (key_gathering (missing_key sparse)) (items_of (elements_in t)) (index_of name) rest
 
+-- of the element whose index the first component is
+abbrev pub first_index_keys : Bool → Tree → Names → List Tree
+first_index_keys sparse t [] = []
+first_index_keys sparse t (name ∷ rest) = index_keys sparse t name rest
+
 -- one key more, which is dropped where it equals an earlier one
 abbrev pub with_key : List Tree → Tree → List Tree
 with_key ks k = if list_any (λ x. equal x k) ks then ks else ks ++ k ∷ []

@@ -23,6 +23,7 @@
 //! - `laws`: keys are always there; a sparse index leaves out nulls alone; a sort is total.
 #![tactic(auto)]
 
+mod branch;
 mod component;
 mod dir;
 mod earliest;
@@ -45,4 +46,5 @@ pub use key_list::{all_key_nodes, key_nodes, keys, sparse_keys};
 pub use laws::{keys_are_there, sorts_order_all_documents, sparse_keys_are_the_rest};
 pub use path::Path;
 pub use path_fault::PathFault;
+pub use positions::Positions;
 pub use sort::compare_sort;

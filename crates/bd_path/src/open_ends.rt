@@ -5,8 +5,8 @@ ghost use Rattle.bd_value.specs.Kind.{kind_of};
 ghost use Rattle.bd_value.specs.declared.kind.Kind.TheVariants as kinds;
 ghost use Rattle.bd_path.specs.Names.{component_names};
 ghost use Rattle.bd_path.specs.Positions.{IsOpen, NamedBefore, NonePasses, NonePassesAsAt, NonePassesBefore, SomePasses, is_open};
-ghost use Rattle.bd_path.specs.Reach.{is_document};
 
+use crate::branch::is_document;
 use crate::component::Component;
 use crate::ends::EndTest;
 use crate::positions::Positions;
@@ -123,10 +123,4 @@ fn any_open_end_in_elements<N: Reading, T: EndTest>(
         left = next.2;
     }
     false
-}
-
-pub fn is_document<N: Reading>(node: N) -> bool
-    ensures { result ≡ is_document (N.tree node) }
-{
-    matches!(node.kind(), Kind::Doc)
 }

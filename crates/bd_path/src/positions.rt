@@ -38,7 +38,7 @@ pub struct Positions {
 }
 
 impl Positions {
-    fn none() -> Positions
+    pub fn none() -> Positions
         ensures { (k : ℕ) → is_open result k ≡ false }
     {
         Positions {
@@ -164,6 +164,26 @@ impl Positions {
         let mut next = self.after(path, Step::Element(index));
         if is_document {
             next.open_before(self, path.len());
+        }
+        next
+    }
+
+    /// Those at the element whose index the component at a position is, where a walk from that position went through the
+    /// documents of the array before.
+    pub fn at_index(
+        &self,
+        path: &[Component],
+        k: usize,
+        index: usize,
+        is_document: bool,
+    ) -> Positions
+        requires few { length path.now ≤ 100 }
+        requires at { k < length path.now }
+        ensures only { (j : ℕ) → IsOpen result j → LedTo (Step.Element index) (component_names path.now) self.now j ⊎ (is_document ≡ true) × ((j ≡ k) ⊎ (j < length path.now) × IsOpen self.now j) }
+    {
+        let mut next = self.at_element(path, index, is_document);
+        if is_document {
+            next.open_at(k);
         }
         next
     }
