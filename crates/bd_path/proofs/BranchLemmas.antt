@@ -1,9 +1,8 @@
 -- The keys of an array, by whether a path goes on below it.
-use Rattle.std.proofs.Common.{◌≡◌, ◌+◌, ◌<◌, ◌≤◌, ℕ, zero, suc, Bool, true, false, ◌||◌, cond, List, [], ◌∷◌, ◌++◌, Option, Some, None, length, drop, refl, sym, ap, ◌∙◌, subst, arith, add-one}
-use Rattle.std.specs.Prelude.{nat_lt, slice_get}
+use Rattle.std.proofs.Common.{◌≡◌, ◌+◌, ◌<◌, ℕ, zero, suc, Bool, true, false, ◌||◌, cond, List, [], ◌∷◌, ◌++◌, Option, Some, None, length, drop, refl, sym, ap, ◌∙◌, arith, add-one}
+use Rattle.std.specs.Prelude.{slice_get}
 use Rattle.std.specs.List.{list_any}
-use Rattle.bd_value.specs.Tree as trees
-use Rattle.bd_value.specs.Tree.{Tree, leaf, items_of}
+use Rattle.bd_value.specs.Tree.{Tree, items_of}
 use Rattle.bd_value.specs.Parts.{elements_in}
 use Rattle.bd_value.specs.Kind.{kind_of}
 use Rattle.bd_value.specs.declared.kind.Kind.TheVariants as kinds
@@ -13,7 +12,7 @@ use Rattle.bd_path.specs.KeyList.{all_keys, document_keys, first_index_keys, ind
 use Rattle.bd_path.specs.Names.{Names}
 use Rattle.bd_path.specs.Reach.{Gathering, each_gathering, gathering, gathering_at, is_document}
 use Rattle.bd_path.proofs.LawsLemmas.{HasSome, some_key}
-use Rattle.bd_path.proofs.MemberLemmas.{In, in_left, in_right}
+use Rattle.bd_path.proofs.MemberLemmas.{in_left, in_right}
 use Rattle.bd_path.proofs.ReachLemmas as down
 use Rattle.bd_path.proofs.WalkedLemmas.{array_is, drop_at, element_is, left_false, right_false}
 

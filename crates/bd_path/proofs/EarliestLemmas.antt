@@ -1,5 +1,5 @@
 -- The earliest of some keys, by parts.
-use Rattle.std.proofs.Common.{◌≡◌, ◌∷◌, ◌++◌, ℕ, List, [], Bool, true, false, cond, Option, Some, None, ◌⊎◌, inl, inr, refl, sym, ap, ap₂, ◌∙◌, subst, Ordering, Less, Equal, Greater}
+use Rattle.std.proofs.Common.{◌≡◌, ◌∷◌, ◌++◌, List, [], Bool, true, false, cond, Option, Some, None, ◌⊎◌, inl, inr, refl, sym, ap, ◌∙◌, subst, Ordering, Less, Equal, Greater}
 use Rattle.std.specs.Prelude.{◌||◌, IfSome}
 use Rattle.std.specs.Cmp.{IsTotalOrder}
 use Rattle.std.specs.List.{list_any}
@@ -16,11 +16,8 @@ use Rattle.bd_path.specs.Names.{Names}
 use Rattle.bd_path.specs.Reach.{Gathering, gathering, each_gathering, is_document}
 use Rattle.bd_path.specs.Earliest.{dir_cmp, earlier_key, earliest_key}
 use Rattle.bd_path.specs.EarliestKeys.{is_earlier}
-use Rattle.bd_path.specs.Key.{IsKeyOf}
-use Rattle.bd_path.specs.declared.key.Key.{Key}
-use Rattle.bd_path.specs.declared.key.Key.TheVariants.{Node, Null, Undefined}
-use Rattle.bd_path.specs.KeyList.{all_keys, distinct, document_keys, end_keys, index_keys, key_gathering, missing_key, or_else, with_key, with_keys}
-use Rattle.bd_path.proofs.ReachLemmas.{of_elements, scalar_is_no_array, scalar_is_no_doc, union}
+use Rattle.bd_path.specs.KeyList.{distinct, end_keys, or_else, with_key, with_keys}
+use Rattle.bd_path.proofs.ReachLemmas.{scalar_is_no_array}
 use Rattle.bd_path.specs.declared.dir.Dir.{Dir}
 use Rattle.bd_path.specs.declared.dir.Dir.TheVariants.{Up, Down}
 
@@ -197,56 +194,6 @@ pub end_on : (dir : Dir) (e f : Option Tree) (t : Tree) (ts us : List Tree) (all
 end_on dir e f t ts us all so_far first is =
     ap (λ x. earlier_key dir x (earliest_key dir us)) is ∙ sym (in_turn dir e (Some t) (earliest_key dir us))
     ∙ ap (λ xs. earlier_key dir e (earliest_key dir xs)) (sym first) ∙ so_far
-
-each_document : (g : Gathering Tree) (t : Tree) (ts : Items) (names : Names) → kind_of t ≡ kinds.Doc → each_gathering g (item t ts) names ≡ gathering g t names ++ each_gathering g ts names
-each_document g (leaf s) ts names k = absurd (scalar_is_no_doc s k)
-each_document g (doc fs) ts names k = refl
-each_document g (array us) ts names k = absurd cc
-each_document g (code_scope s fs) ts names k = absurd cc
-
-no_document : (g : Gathering Tree) (t : Tree) (ts : Items) (names : Names) → (kind_of t ≡ kinds.Doc → ⊥) → each_gathering g (item t ts) names ≡ each_gathering g ts names
-no_document g (leaf s) ts names k = refl
-no_document g (doc fs) ts names k = absurd (k refl)
-no_document g (array us) ts names k = refl
-no_document g (code_scope s fs) ts names k = refl
-
-pub document_on : (dir : Dir) (g : Gathering Tree) (names : Names) (e f below : Option Tree) (t : Tree) (ts us : List Tree) (all : Option Tree)
-    → earlier_key dir e (earliest_key dir (each_gathering g (items_of ts) names)) ≡ all → ts ≡ t ∷ us → kind_of t ≡ kinds.Doc
-    → below ≡ earliest_key dir (gathering g t names) → f ≡ earlier_key dir e below → earlier_key dir f (earliest_key dir (each_gathering g (items_of us) names)) ≡ all
-document_on dir g names e f below t ts us all so_far first k under is =
-    let rest = each_gathering g (items_of us) names in
-    ap (λ x. earlier_key dir x (earliest_key dir rest)) (is ∙ ap (earlier_key dir e) under)
-    ∙ sym (in_turn dir e (earliest_key dir (gathering g t names)) (earliest_key dir rest))
-    ∙ ap (earlier_key dir e) (sym (of_both dir (gathering g t names) rest) ∙ ap (earliest_key dir) (sym (each_document g t (items_of us) names k)))
-    ∙ ap (λ xs. earlier_key dir e (earliest_key dir (each_gathering g (items_of xs) names))) (sym first) ∙ so_far
-
-pub no_document_on : (dir : Dir) (g : Gathering Tree) (names : Names) (e : Option Tree) (t : Tree) (ts us : List Tree) (all : Option Tree)
-    → earlier_key dir e (earliest_key dir (each_gathering g (items_of ts) names)) ≡ all → ts ≡ t ∷ us → (kind_of t ≡ kinds.Doc → ⊥)
-    → earlier_key dir e (earliest_key dir (each_gathering g (items_of us) names)) ≡ all
-no_document_on dir g names e t ts us all so_far first k = ap (λ xs. earlier_key dir e (earliest_key dir xs)) (sym (no_document g t (items_of us) names k)) ∙ ap (λ xs. earlier_key dir e (earliest_key dir (each_gathering g (items_of xs) names))) (sym first) ∙ so_far
-
-pub key_in : {N : Type 0} (source : N → List ℕ) (bytes other : List ℕ) (k : Key N) → other ≡ bytes → IsKeyOf source other k → IsKeyOf source bytes k
-key_in source bytes other (Node n) same is = is ∙ same
-key_in source bytes other Null same is = tt
-key_in source bytes other Undefined same is = tt
-
--- the keys of an array, by those of the documents in it and of the element at the index
-module _ (dir : Dir) (t : Tree) (name : List ℕ) (rest path : Names) (among at both : Option Tree) (array : kind_of t ≡ kinds.Array) (is : path ≡ name ∷ rest)
-    (first : among ≡ earliest_key dir (document_keys false t path)) (second : at ≡ earliest_key dir (index_keys false t name rest))
-    (earliest : both ≡ earlier_key dir among at) where
-  joined : both ≡ earliest_key dir (union (key_gathering (missing_key false)) t name rest)
-  joined =
-      earliest ∙ ap₂ (earlier_key dir) (first ∙ ap (λ (x : Names). earliest_key dir (document_keys false t x)) is) second
-      ∙ sym (of_both dir (document_keys false t (name ∷ rest)) (index_keys false t name rest))
-
-  whole : or_else (union (key_gathering (missing_key false)) t name rest) (missing_key false) ≡ all_keys false t path
-  whole = sym (ap (all_keys false t) is ∙ of_elements (key_gathering (missing_key false)) t name rest array)
-
-  pub array_some : (k : Tree) → Some k ≡ both → Some k ≡ earliest_key dir (all_keys false t path)
-  array_some k some_is = or_some dir (union (key_gathering (missing_key false)) t name rest) (missing_key false) k (some_is ∙ joined) ∙ ap (earliest_key dir) whole
-
-  pub array_none : None ≡ both → earliest_key dir (missing_key false) ≡ earliest_key dir (all_keys false t path)
-  array_none none_is = or_none dir (union (key_gathering (missing_key false)) t name rest) (missing_key false) (none_is ∙ joined) ∙ ap (earliest_key dir) whole
 
 -- ---- what was walked before
 

@@ -1,5 +1,5 @@
 -- A walk that goes into a value once from each position of a path.
-use Rattle.std.proofs.Common.{◌≡◌, ◌+◌, ◌<◌, ◌≤◌, ◌⊎◌, inl, inr, ℕ, zero, suc, min, Bool, true, false, ◌||◌, cond, not, Bor, List, [], ◌∷◌, ◌++◌, Option, Some, None, length, option_map, get_or, drop, string_bytes, refl, sym, ap, ◌∙◌, subst, add-one, arith}
+use Rattle.std.proofs.Common.{◌≡◌, ◌+◌, ◌<◌, ◌≤◌, ◌⊎◌, inl, inr, ℕ, zero, suc, min, Bool, true, false, ◌||◌, cond, Bor, List, [], ◌∷◌, ◌++◌, Option, Some, None, length, option_map, get_or, drop, string_bytes, refl, sym, ap, ◌∙◌, add-one, arith}
 use Rattle.std.specs.Prelude.{slice_get}
 use Rattle.std.specs.List.{list_any}
 use Rattle.std.proofs.lemmas.List.Folds.{list_any-append}
@@ -10,7 +10,7 @@ use Rattle.bd_value.specs.Kind.{kind_of}
 use Rattle.bd_value.specs.declared.kind.Kind.TheVariants as kinds
 use Rattle.bd_path.specs.Component.{held_index, index_of}
 use Rattle.bd_path.specs.Names.{Names, component_names}
-use Rattle.bd_path.specs.Positions.{IsOpen, Leads, LedTo}
+use Rattle.bd_path.specs.Positions.{IsOpen, LedTo}
 use Rattle.bd_path.specs.Reach.{Gathering, each_gathering, gathering, gathering_at, is_document}
 use Rattle.bd_path.specs.Walked.{NoneGathered}
 use Rattle.bd_path.specs.declared.component.Component.{Component}

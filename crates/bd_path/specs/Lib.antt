@@ -1,3 +1,4 @@
+pub mod AddedKeys
 pub mod Branch
 pub mod Component
 pub mod Earliest

@@ -1,19 +1,17 @@
-use Rattle.std.proofs.Common.{rules, ◌≡◌, ◌≤◌, ◌<◌, ℕ, List, [], ◌∷◌, Some, None, false, true, drop, length, option_map, string_bytes, sym, subst, ap, ◌∙◌, arith, slice_get}
+use Rattle.std.proofs.Common.{rules, ◌≡◌, ◌<◌, List, [], Some, None, false, true, drop, length, string_bytes, sym, subst, ap, ◌∙◌, arith, slice_get}
 use Rattle.std.specs.Prelude.{IfSome}
 use Rattle.std.specs.List.{list_any}
-use Rattle.bd_value.specs.Kind.{kind_of}
 use Rattle.bd_value.specs.Lookup.{first_of}
 use Rattle.bd_value.specs.Parts.{values_of, elements_in}
 use Rattle.bd_value.specs.Tree.{Doc, Tree, fields_of, fields_size, items_of, pairs_in}
-use Rattle.bd_value.specs.declared.kind.Kind.TheVariants as kinds
 use Rattle.bd_value.proofs.PartsLemmas as parted
 use Rattle.bd_path.specs.Component.{held_index}
 use Rattle.bd_path.specs.Earliest.{earlier_key, earliest_key}
 use Rattle.bd_path.specs.EarliestKeys.{is_earlier, key_option}
-use Rattle.bd_path.specs.Key.{IsKeyOf, key_tree}
+use Rattle.bd_path.specs.Key.{IsKeyOf}
 use Rattle.bd_path.specs.KeyList.{all_keys, document_keys, first_index_keys, key_gathering, missing_key}
-use Rattle.bd_path.specs.Names.{Names, component_names}
-use Rattle.bd_path.specs.Reach.{each_gathering, gathering}
+use Rattle.bd_path.specs.Names.{component_names}
+use Rattle.bd_path.specs.Reach.{each_gathering}
 use Rattle.bd_path.specs.declared.component.Component.{Component}
 use Rattle.bd_path.proofs.BranchLemmas as branch
 use Rattle.bd_path.proofs.EarliestLemmas as first
@@ -62,9 +60,22 @@ earliest_in_field-earliest_from-requires g t c κs within =
     let small = down.first_smaller s.now n u e in
     let d = c.decreases in
     let f = is_earlier c.args.dir (key_option g.N.Reading.tree c.args.first) in
-    let gg = key_gathering (missing_key false) in
-    (omega arith, (within.0, (within.1, (c.requires.few, (omega (arith, c.requires.at),
-    walked.field_inside f gg (first.keeps_keys f (missing_key false)) n c.args.path.now c.args.walked.now c.requires.walked s u c.at_field-inside.result c.requires.kind e c.at_field-inside.ensures.only)))))
+    let gg = key_gathering (missing_key false) in (
+      omega arith,
+      (
+        within.0,
+        (
+          within.1,
+          (
+            c.requires.few,
+            (
+              omega (arith, c.requires.at),
+              walked.field_inside f gg (first.keeps_keys f (missing_key false)) n c.args.path.now c.args.walked.now c.requires.walked s u c.at_field-inside.result c.requires.kind e c.at_field-inside.ensures.only,
+            ),
+          ),
+        ),
+      ),
+    )
 
 pub earliest_in_field-returns-in-Some-clause-tree : goal.earliest_in_field-returns-in-Some-clause-tree
 earliest_in_field-returns-in-Some-clause-tree g t c =
@@ -109,10 +120,28 @@ earliest_in_array-earliest_at_index-requires g t c κs within =
     let names = component_names c.args.path.now in
     let e = key_option g.N.Reading.tree c.args.first in
     let d = c.decreases in
-    let told = c.earliest_in_documents-among.ensures.tree in
-    (omega arith, (within.0, (within.1, (c.requires.few, (c.requires.at, (c.requires.kind,
-    ((λ j o. subst (λ x. list_any (is_earlier dir x) (all_keys false n (drop j names)) ≡ false) (sym told) (first.none_still dir e _ (all_keys false n (drop j names)) (c.requires.walked j o))),
-    subst (λ x. list_any (is_earlier dir x) (document_keys false n (drop c.args.k names)) ≡ false) (sym told) (first.all_taken dir e (document_keys false n (drop c.args.k names))))))))))
+    let told = c.earliest_in_documents-among.ensures.tree in (
+      omega arith,
+      (
+        within.0,
+        (
+          within.1,
+          (
+            c.requires.few,
+            (
+              c.requires.at,
+              (
+                c.requires.kind,
+                (
+                  (λ j o. subst (λ x. list_any (is_earlier dir x) (all_keys false n (drop j names)) ≡ false) (sym told) (first.none_still dir e _ (all_keys false n (drop j names)) (c.requires.walked j o))),
+                  subst (λ x. list_any (is_earlier dir x) (document_keys false n (drop c.args.k names)) ≡ false) (sym told) (first.all_taken dir e (document_keys false n (drop c.args.k names))),
+                ),
+              ),
+            ),
+          ),
+        ),
+      ),
+    )
 
 pub earliest_in_array-returns-clause-tree : goal.earliest_in_array-returns-clause-tree
 earliest_in_array-returns-clause-tree g t c =
@@ -166,10 +195,23 @@ earliest_in_documents-earliest_from-earliest-requires g t c κs within =
     let f = is_earlier c.args.dir (key_option g.N.Reading.tree c.loop-i.earliest) in
     let gg = key_gathering (missing_key false) in
     let small = down.element_smaller n c.loop-i.i u here in
-    let d = c.decreases in
-    (omega arith, (within.0, (within.1, (c.requires.few, (omega (arith, c.requires.at),
-    walked.element_inside f gg (first.keeps_keys f (missing_key false)) n c.args.path.now c.args.walked.now c.loop-i.invariant.walked c.requires.kind c.loop-i.i u c.at_element-inside.result here (omega (arith, c.loop-i-test.true)) true
-    (sym c.if-is_document.true ∙ c.is_document.ensures) c.at_element-inside.ensures.only)))))
+    let d = c.decreases in (
+      omega arith,
+      (
+        within.0,
+        (
+          within.1,
+          (
+            c.requires.few,
+            (
+              omega (arith, c.requires.at),
+              walked.element_inside f gg (first.keeps_keys f (missing_key false)) n c.args.path.now c.args.walked.now c.loop-i.invariant.walked c.requires.kind c.loop-i.i u c.at_element-inside.result here (omega (arith, c.loop-i-test.true)) true
+                  (sym c.if-is_document.true ∙ c.is_document.ensures) c.at_element-inside.ensures.only,
+            ),
+          ),
+        ),
+      ),
+    )
 
 pub earliest_in_documents-loop-i-preserved : goal.earliest_in_documents-loop-i-preserved
 earliest_in_documents-loop-i-preserved g t c =
@@ -233,10 +275,23 @@ earliest_at_index-earliest_from-requires g t c κs within =
     let f = is_earlier c.args.dir (key_option g.N.Reading.tree c.args.first) in
     let gg = key_gathering (missing_key false) in
     let small = down.element_smaller n c.in-Some.i u c.element-element.ensures.element in
-    let d = c.decreases in
-    (omega arith, (within.0, (within.1, (c.requires.few, (omega (arith, c.requires.at),
-    walked.index_inside f gg (first.keeps_keys f (missing_key false)) n c.args.path.now c.args.walked.now c.requires.walked c.requires.kind c.args.k c.in-Some.i u c.at_index-inside.result c.element-element.ensures.element
-    (omega (arith, c.len.type_inv, c.if-i-len.true)) c.is_document.result c.is_document.ensures c.requires.documents c.at_index-inside.ensures.only)))))
+    let d = c.decreases in (
+      omega arith,
+      (
+        within.0,
+        (
+          within.1,
+          (
+            c.requires.few,
+            (
+              omega (arith, c.requires.at),
+              walked.index_inside f gg (first.keeps_keys f (missing_key false)) n c.args.path.now c.args.walked.now c.requires.walked c.requires.kind c.args.k c.in-Some.i u c.at_index-inside.result c.element-element.ensures.element
+                  (omega (arith, c.len.type_inv, c.if-i-len.true)) c.is_document.result c.is_document.ensures c.requires.documents c.at_index-inside.ensures.only,
+            ),
+          ),
+        ),
+      ),
+    )
 
 pub earliest_at_index-returns-in-Some-clause-tree : goal.earliest_at_index-returns-in-Some-clause-tree
 earliest_at_index-returns-in-Some-clause-tree g t c =

@@ -1,4 +1,4 @@
-use Rattle.std.proofs.Common.{◌≡◌, ◌<◌, ◌+◌, ◌*◌, ℕ, false, drop}
+use Rattle.std.proofs.Common.{◌≡◌, ◌<◌, ◌+◌, ◌*◌, false, drop}
 use Rattle.std.specs.Prelude.{IfSome}
 use Rattle.bd_value.specs.Tree.{fields_of, fields_size, items_of, tree_size}
 use Rattle.bd_value.specs.Parts.{values_of, elements_in}

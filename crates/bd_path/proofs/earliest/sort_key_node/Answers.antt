@@ -1,4 +1,4 @@
-use Rattle.std.proofs.Common.{false, Some, None, sym, ap, ◌∙◌}
+use Rattle.std.proofs.Common.{false, sym, ap, ◌∙◌}
 use Rattle.bd_path.specs.Earliest.{earliest_key, or_null}
 use Rattle.bd_path.specs.EarliestKeys.{key_option}
 use Rattle.bd_path.specs.KeyList.{all_keys}
