@@ -28,15 +28,7 @@ pub fn key_nodes<N: Reading>(alloc: Global, doc: N, path: &Path) -> Result<Vec<K
     ensures trees { IfOk result (λ ks. key_trees N.tree ks.items ≡ keys (N.tree doc) (names_of path.now)) }
     ensures kept { IfOk result (λ ks. AreKeysOf N.source (N.source doc) ks.items) }
 {
-    let mut all = Vec::new(alloc);
-    add_keys(
-        doc,
-        path.components(),
-        0,
-        &Positions::none(),
-        false,
-        &mut all,
-    )?;
+    let all = all_key_nodes(alloc, doc, path, false)?;
     distinct_keys(alloc, &all)
 }
 
@@ -45,15 +37,7 @@ pub fn sparse_keys<N: Reading>(alloc: Global, doc: N, path: &Path) -> Result<Vec
     ensures trees { IfOk result (λ ks. key_trees N.tree ks.items ≡ sparse_keys_of (N.tree doc) (names_of path.now)) }
     ensures kept { IfOk result (λ ks. AreKeysOf N.source (N.source doc) ks.items) }
 {
-    let mut all = Vec::new(alloc);
-    add_keys(
-        doc,
-        path.components(),
-        0,
-        &Positions::none(),
-        true,
-        &mut all,
-    )?;
+    let all = all_key_nodes(alloc, doc, path, true)?;
     distinct_keys(alloc, &all)
 }
 
@@ -70,14 +54,8 @@ pub fn all_key_nodes<N: Reading>(
     ensures kept { IfOk result (λ ks. AreKeysOf N.source (N.source doc) ks.items) }
 {
     let mut all = Vec::new(alloc);
-    add_keys(
-        doc,
-        path.components(),
-        0,
-        &Positions::none(),
-        sparse,
-        &mut all,
-    )?;
+    let components = path.components();
+    add_keys(doc, components, 0, &Positions::none(), sparse, &mut all)?;
     Ok(all)
 }
 

@@ -56,7 +56,8 @@ impl Positions {
         start
     }
 
-    fn open_at(&mut self, k: usize)
+    /// Opens one more.
+    pub fn open_at(&mut self, k: usize)
         requires { k ≤ 100 }
         ensures here { IsOpen self.new k }
         ensures kept { (j : ℕ) → IsOpen self.old j → IsOpen self.new j }

@@ -61,9 +61,22 @@ add_keys_of_field-add_keys-requires g t c κs within =
     let small = down.first_smaller s.now n u e in
     let d = c.decreases in
     let f = is_new (distinct (key_trees g.N.Reading.tree c.args.keys.now.items)) in
-    let gg = key_gathering (missing_key c.args.sparse) in
-    (omega arith, (within.0, (within.1, (c.requires.few, (omega (arith, c.requires.at),
-    walked.field_inside f gg (keeps_keys f (missing_key c.args.sparse)) n c.args.path.now c.args.walked.now c.requires.walked s u c.at_field-inside.result c.requires.kind e c.at_field-inside.ensures.only)))))
+    let gg = key_gathering (missing_key c.args.sparse) in (
+      omega arith,
+      (
+        within.0,
+        (
+          within.1,
+          (
+            c.requires.few,
+            (
+              omega (arith, c.requires.at),
+              walked.field_inside f gg (keeps_keys f (missing_key c.args.sparse)) n c.args.path.now c.args.walked.now c.requires.walked s u c.at_field-inside.result c.requires.kind e c.at_field-inside.ensures.only,
+            ),
+          ),
+        ),
+      ),
+    )
 
 pub add_keys_of_field-returns-in-Some-clause-added : goal.add_keys_of_field-returns-in-Some-clause-added
 add_keys_of_field-returns-in-Some-clause-added g t c =
@@ -115,10 +128,28 @@ add_keys_of_array-add_keys_at_index-requires g t c κs within =
     let ks = distinct (key_trees g.N.Reading.tree c.args.keys.now.items) in
     let ds = document_keys sparse n (drop c.args.k names) in
     let d = c.decreases in
-    let told = c.in_ok-add_keys_of_documents.ensures.added in
-    (omega arith, (within.0, (within.1, (c.requires.few, (c.requires.at, (c.requires.kind,
-    ((λ j o. subst (λ x. list_any (is_new x) (all_keys sparse n (drop j names)) ≡ false) (sym told) (added.none_still ks ds (all_keys sparse n (drop j names)) (c.requires.walked j o))),
-    subst (λ x. list_any (is_new x) ds ≡ false) (sym told) (added.all_added ks ds))))))))
+    let told = c.in_ok-add_keys_of_documents.ensures.added in (
+      omega arith,
+      (
+        within.0,
+        (
+          within.1,
+          (
+            c.requires.few,
+            (
+              c.requires.at,
+              (
+                c.requires.kind,
+                (
+                  (λ j o. subst (λ x. list_any (is_new x) (all_keys sparse n (drop j names)) ≡ false) (sym told) (added.none_still ks ds (all_keys sparse n (drop j names)) (c.requires.walked j o))),
+                  subst (λ x. list_any (is_new x) ds ≡ false) (sym told) (added.all_added ks ds),
+                ),
+              ),
+            ),
+          ),
+        ),
+      ),
+    )
 
 pub add_keys_of_array-returns-clause-added : goal.add_keys_of_array-returns-clause-added
 add_keys_of_array-returns-clause-added g t c =
@@ -160,10 +191,23 @@ add_keys_of_documents-add_keys-requires g t c κs within =
     let f = is_new (distinct (key_trees g.N.Reading.tree c.loop-i.keys.items)) in
     let gg = key_gathering (missing_key c.args.sparse) in
     let small = down.element_smaller n c.loop-i.i u here in
-    let d = c.decreases in
-    (omega arith, (within.0, (within.1, (c.requires.few, (omega (arith, c.requires.at),
-    walked.element_inside f gg (keeps_keys f (missing_key c.args.sparse)) n c.args.path.now c.args.walked.now c.loop-i.invariant.walked c.requires.kind c.loop-i.i u c.at_element-inside.result here (omega (arith, c.loop-i-test.true)) true
-    (sym c.if-is_document.true ∙ c.is_document.ensures) c.at_element-inside.ensures.only)))))
+    let d = c.decreases in (
+      omega arith,
+      (
+        within.0,
+        (
+          within.1,
+          (
+            c.requires.few,
+            (
+              omega (arith, c.requires.at),
+              walked.element_inside f gg (keeps_keys f (missing_key c.args.sparse)) n c.args.path.now c.args.walked.now c.loop-i.invariant.walked c.requires.kind c.loop-i.i u c.at_element-inside.result here (omega (arith, c.loop-i-test.true)) true
+                  (sym c.if-is_document.true ∙ c.is_document.ensures) c.at_element-inside.ensures.only,
+            ),
+          ),
+        ),
+      ),
+    )
 
 pub add_keys_of_documents-loop-i-preserved : goal.add_keys_of_documents-loop-i-preserved
 add_keys_of_documents-loop-i-preserved g t c =
@@ -214,10 +258,23 @@ add_keys_at_index-add_keys-requires g t c κs within =
     let f = is_new (distinct (key_trees g.N.Reading.tree c.args.keys.now.items)) in
     let gg = key_gathering (missing_key c.args.sparse) in
     let small = down.element_smaller n c.in-Some.i u c.element-element.ensures.element in
-    let d = c.decreases in
-    (omega arith, (within.0, (within.1, (c.requires.few, (omega (arith, c.requires.at),
-    walked.index_inside f gg (keeps_keys f (missing_key c.args.sparse)) n c.args.path.now c.args.walked.now c.requires.walked c.requires.kind c.args.k c.in-Some.i u c.at_index-inside.result c.element-element.ensures.element
-    (omega (arith, c.len.type_inv, c.if-i-len.true)) c.is_document.result c.is_document.ensures c.requires.documents c.at_index-inside.ensures.only)))))
+    let d = c.decreases in (
+      omega arith,
+      (
+        within.0,
+        (
+          within.1,
+          (
+            c.requires.few,
+            (
+              omega (arith, c.requires.at),
+              walked.index_inside f gg (keeps_keys f (missing_key c.args.sparse)) n c.args.path.now c.args.walked.now c.requires.walked c.requires.kind c.args.k c.in-Some.i u c.at_index-inside.result c.element-element.ensures.element
+                  (omega (arith, c.len.type_inv, c.if-i-len.true)) c.is_document.result c.is_document.ensures c.requires.documents c.at_index-inside.ensures.only,
+            ),
+          ),
+        ),
+      ),
+    )
 
 pub add_keys_at_index-returns-in-Some-clause-added : goal.add_keys_at_index-returns-in-Some-clause-added
 add_keys_at_index-returns-in-Some-clause-added g t c =
