@@ -1,5 +1,5 @@
 -- The keys of an array, by whether a path goes on below it.
-use Rattle.std.proofs.Common.{◌≡◌, ◌+◌, ◌<◌, ℕ, zero, suc, Bool, true, false, ◌||◌, cond, List, [], ◌∷◌, ◌++◌, Option, Some, None, length, drop, refl, sym, ap, ◌∙◌, arith, add-one}
+use Rattle.std.proofs.Common.{◌≡◌, ◌<◌, ℕ, zero, suc, Bool, true, false, ◌||◌, cond, List, [], ◌∷◌, ◌++◌, Option, Some, None, length, drop, refl, sym, ap, ◌∙◌, subst, arith}
 use Rattle.std.specs.Prelude.{slice_get}
 use Rattle.std.specs.List.{list_any}
 use Rattle.bd_value.specs.Tree.{Tree, items_of}
@@ -7,14 +7,14 @@ use Rattle.bd_value.specs.Parts.{elements_in}
 use Rattle.bd_value.specs.Kind.{kind_of}
 use Rattle.bd_value.specs.declared.kind.Kind.TheVariants as kinds
 use Rattle.bd_path.specs.Branch.{has_branch, is_below}
-use Rattle.bd_path.specs.Component.{held_index, index_of}
-use Rattle.bd_path.specs.KeyList.{all_keys, document_keys, first_index_keys, index_keys, key_gathering, missing_key, or_else}
+use Rattle.bd_path.specs.Component.{index_of}
+use Rattle.bd_path.specs.KeyList.{all_keys, document_keys, index_keys, key_gathering, missing_key, or_else}
 use Rattle.bd_path.specs.Names.{Names}
 use Rattle.bd_path.specs.Reach.{Gathering, each_gathering, gathering, gathering_at, is_document}
 use Rattle.bd_path.proofs.LawsLemmas.{HasSome, some_key}
 use Rattle.bd_path.proofs.MemberLemmas.{in_left, in_right}
 use Rattle.bd_path.proofs.ReachLemmas as down
-use Rattle.bd_path.proofs.WalkedLemmas.{array_is, drop_at, element_is, left_false, right_false}
+use Rattle.bd_path.proofs.WalkedLemmas.{array_is, first_is, left_false, parts_are, right_false}
 
 -- ---- none
 
@@ -70,9 +70,6 @@ none_missing (k ∷ ks) = refl
 -- ---- the keys of an array
 
 module _ (t : Tree) (path : Names) (k : ℕ) (n : List ℕ) (a : kind_of t ≡ kinds.Array) (at : slice_get path k ≡ Some n) where
-  pub first_is : (sparse : Bool) → first_index_keys sparse t (drop k path) ≡ index_keys sparse t n (drop (suc k) path)
-  first_is sparse = ap (first_index_keys sparse t) (drop_at path k n at)
-
   pub no_branch : (sparse : Bool) → has_branch t n ≡ false → all_keys sparse t (drop k path) ≡ missing_key sparse
   no_branch sparse h =
       let g = key_gathering (missing_key sparse) in
@@ -82,14 +79,13 @@ module _ (t : Tree) (path : Names) (k : ℕ) (n : List ℕ) (a : kind_of t ≡ k
       array_is g t path k n a at ∙ ap (λ (ks : List Tree). or_else (ks ++ gathering_at g (items_of es) (index_of n) (drop (suc k) path)) (missing_key sparse)) documents
       ∙ ap (λ (ks : List Tree). or_else ks (missing_key sparse)) index
 
-  pub some_branch : (sparse : Bool) → has_branch t n ≡ true → document_keys sparse t (drop k path) ++ first_index_keys sparse t (drop k path) ≡ all_keys sparse t (drop k path)
-  some_branch sparse h =
-      ap (λ (ks : List Tree). document_keys sparse t (drop k path) ++ ks) (first_is sparse) ∙ sym (go sparse) ∙ sym (array_is (key_gathering (missing_key sparse)) t path k n a at)
+  pub some_branch : (sparse : Bool) → has_branch t n ≡ true → document_keys sparse t (drop k path) ++ index_keys sparse t (drop k path) ≡ all_keys sparse t (drop k path)
+  some_branch sparse h = sym (go sparse) ∙ sym (parts_are (key_gathering (missing_key sparse)) t path k n a at)
     where
-      go : (s : Bool) → or_else (document_keys s t (drop k path) ++ index_keys s t n (drop (suc k) path)) (missing_key s) ≡ document_keys s t (drop k path) ++ index_keys s t n (drop (suc k) path)
-      go true = none_missing (document_keys true t (drop k path) ++ index_keys true t n (drop (suc k) path))
-      go false = not_missing _ (missing_key false) (some_of (list_any is_document (elements_in t)) (elements_in t) (index_of n) (drop k path) (drop (suc k) path) refl h)
+      some : HasSome (document_keys false t (drop k path) ++ index_keys false t (drop k path))
+      some = subst (λ (ks : List Tree). HasSome (document_keys false t (drop k path) ++ ks)) (sym (first_is (key_gathering (missing_key false)) t path k n at))
+          (some_of (list_any is_document (elements_in t)) (elements_in t) (index_of n) (drop k path) (drop (suc k) path) refl h)
 
-  pub element_keys : (sparse : Bool) (i : ℕ) (u : Tree) → held_index n ≡ Some i → i < 18446744073709551615 → slice_get (elements_in t) i ≡ Some u
-      → index_keys sparse t n (drop (suc k) path) ≡ all_keys sparse u (drop (k + 1) path)
-  element_keys sparse i u held l e = rw add-one (element_is (key_gathering (missing_key sparse)) (elements_in t) n (drop (suc k) path) i u held l e)
+      go : (s : Bool) → or_else (document_keys s t (drop k path) ++ index_keys s t (drop k path)) (missing_key s) ≡ document_keys s t (drop k path) ++ index_keys s t (drop k path)
+      go true = none_missing (document_keys true t (drop k path) ++ index_keys true t (drop k path))
+      go false = not_missing _ (missing_key false) some

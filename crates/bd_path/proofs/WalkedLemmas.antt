@@ -1,5 +1,5 @@
 -- A walk that goes into a value once from each position of a path.
-use Rattle.std.proofs.Common.{◌≡◌, ◌+◌, ◌<◌, ◌≤◌, ◌⊎◌, inl, inr, ℕ, zero, suc, min, Bool, true, false, ◌||◌, cond, Bor, List, [], ◌∷◌, ◌++◌, Option, Some, None, length, option_map, get_or, drop, string_bytes, refl, sym, ap, ◌∙◌, add-one, arith}
+use Rattle.std.proofs.Common.{◌≡◌, ◌+◌, ◌<◌, ◌≤◌, ◌⊎◌, inl, inr, ℕ, zero, suc, min, Bool, true, false, ◌||◌, cond, Bor, List, [], ◌∷◌, ◌++◌, Option, Some, None, length, option_map, get_or, drop, string_bytes, refl, sym, ap, ◌∙◌, subst, add-one, arith}
 use Rattle.std.specs.Prelude.{slice_get}
 use Rattle.std.specs.List.{list_any}
 use Rattle.std.proofs.lemmas.List.Folds.{list_any-append}
@@ -10,11 +10,14 @@ use Rattle.bd_value.specs.Kind.{kind_of}
 use Rattle.bd_value.specs.declared.kind.Kind.TheVariants as kinds
 use Rattle.bd_path.specs.Component.{held_index, index_of}
 use Rattle.bd_path.specs.Names.{Names, component_names}
-use Rattle.bd_path.specs.Positions.{IsOpen, LedTo}
-use Rattle.bd_path.specs.Reach.{Gathering, each_gathering, gathering, gathering_at, is_document}
-use Rattle.bd_path.specs.Walked.{NoneGathered}
+use Rattle.bd_path.specs.Positions.{LedTo, is_open}
+use Rattle.bd_path.specs.Reach.{Gathering, document_gathering, each_gathering, gathering, gathering_at, index_gathering, is_document}
+use Rattle.bd_path.specs.Walked.{IsStepOf, IsWalked, NoneGathered}
 use Rattle.bd_path.specs.declared.component.Component.{Component}
 use Rattle.bd_path.specs.declared.positions.Positions.{Positions}
+use Rattle.bd_path.specs.declared.positions.Step.{Step}
+use Rattle.bd_path.specs.declared.walked.Walked.{Walked}
+use Rattle.bd_path.specs.declared.walked.Walked.TheVariants.{From}
 use Rattle.bd_path.specs.declared.positions.Step.TheVariants.{Element, Field}
 use Rattle.bd_path.proofs.PositionsLemmas.{as_many, named, some_name}
 use Rattle.bd_path.proofs.ReachLemmas as down
@@ -37,6 +40,15 @@ pub index_at : (cs : List Component) (k : ℕ) (c d : Component) (o : Option ℕ
 index_at [] k c d o l is e = absurd (omega arith)
 index_at (x ∷ cs) zero c d o l is e = let same : c ≡ x = is in sym c.known ∙ ap (λ (y : Component). y.index) same ∙ e
 index_at (x ∷ cs) (suc k) c d o l is e = index_at cs k c d o (omega arith) is e
+
+-- the positions of a walk, when they are known
+pub step_of : (step : Step) (path : Names) (w : Walked) (p : Positions) (k : ℕ) → w ≡ From p → LedTo step path p k → IsStepOf step path w k
+step_of step path w p k is by =
+    let led = by.led in
+    record { before = by.before; name = led.name; after = by.after; here = subst (λ (x : Walked). IsWalked x by.before) (sym is) led.here; is_there = led.is_there; takes = led.takes }
+
+pub was_open : (w : Walked) (p : Positions) (k : ℕ) → w ≡ From p → is_open p k ≡ true → IsWalked w k
+was_open w p k is o = subst (λ (x : Walked). IsWalked x k) (sym is) o
 
 -- ---- whether something passes a test
 
@@ -84,6 +96,14 @@ module _ {A : Type 0} (g : Gathering A) (t : Tree) (path : Names) (k : ℕ) wher
   abbrev pub at_name : List ℕ → List A
   at_name n = gathering_at g (items_of (elements_in t)) (index_of n) (drop (suc k) path)
 
+  pub first_is : (n : List ℕ) → slice_get path k ≡ Some n → index_gathering g t (drop k path) ≡ at_name n
+  first_is n at = ap (index_gathering g t) (drop_at path k n at)
+
+  pub parts_are : (n : List ℕ) → kind_of t ≡ kinds.Array → slice_get path k ≡ Some n → gathering g t (drop k path) ≡ g.of_array (document_gathering g t (drop k path) ++ index_gathering g t (drop k path))
+  parts_are n a at =
+      ap (gathering g t) (drop_at path k n at) ∙ down.of_elements g t n (drop (suc k) path) a
+      ∙ ap (λ (p : Names). g.of_array (document_gathering g t p ++ index_gathering g t p)) (sym (drop_at path k n at))
+
   pub array_is : (n : List ℕ) → kind_of t ≡ kinds.Array → slice_get path k ≡ Some n → gathering g t (drop k path) ≡ g.of_array (in_documents ++ at_name n)
   array_is n a at =
       ap (gathering g t) (drop_at path k n at) ∙ down.of_elements g t n (drop (suc k) path) a
@@ -103,48 +123,46 @@ module _ {A : Type 0} (f : A → Bool) (g : Gathering A) where
   each_left (x ∷ es) (suc i) u p e d h =
       each_left es i u p e d (right_false _ _ (sym (list_any-append f (cond (is_document x) (gathering g x p) []) (each_gathering g (items_of es) p)) ∙ h))
 
-  module _ (keeps : KeepsParts f g) (t : Tree) (cs : List Component) (p : Positions) (before : NoneGathered f g t (component_names cs) p) where
-    pub field_inside : (s : Bor (List ℕ)) (u : Tree) (q : Positions) → kind_of t ≡ kinds.Doc → first_of s.now (pairs_in t) ≡ Some u → ((j : ℕ) → IsOpen q j → LedTo (Field s) (component_names cs) p j) → NoneGathered f g u (component_names cs) q
-    field_inside s u q d e only j o =
+  module _ (keeps : KeepsParts f g) (t : Tree) (cs : List Component) (w : Walked) (before : NoneGathered f g t (component_names cs) w) where
+    pub field_inside : (s : Bor (List ℕ)) (u : Tree) (v : Walked) → kind_of t ≡ kinds.Doc → first_of s.now (pairs_in t) ≡ Some u → ((j : ℕ) → IsWalked v j → IsStepOf (Field s) (component_names cs) w j) → NoneGathered f g u (component_names cs) v
+    field_inside s u v d e only j o =
         let by = only j o in
-        let led = by.led in
-        let there : slice_get (component_names cs) by.before ≡ Some s.now = led.is_there ∙ ap some_name led.takes in
+        let there : slice_get (component_names cs) by.before ≡ Some s.now = by.is_there ∙ ap some_name by.takes in
         ap (λ (x : ℕ). list_any f (gathering g u (drop x (component_names cs)))) (by.after ∙ sym (add-one by.before))
-        ∙ ap (list_any f) (sym (field_is g t (component_names cs) by.before s.now u d there e)) ∙ before by.before led.here
+        ∙ ap (list_any f) (sym (field_is g t (component_names cs) by.before s.now u d there e)) ∙ before by.before by.here
 
     module _ (a : kind_of t ≡ kinds.Array) where
       parts_none : (k : ℕ) (n : List ℕ) → slice_get (component_names cs) k ≡ Some n → list_any f (gathering g t (drop k (component_names cs))) ≡ false → list_any f (in_documents g t (component_names cs) k ++ at_name g t (component_names cs) k n) ≡ false
       parts_none k n at h = keeps (in_documents g t (component_names cs) k ++ at_name g t (component_names cs) k n) (ap (list_any f) (sym (array_is g t (component_names cs) k n a at)) ∙ h)
 
       -- a document in it, from a position that was walked
-      document_none : (k i : ℕ) (u : Tree) → slice_get (elements_in t) i ≡ Some u → is_document u ≡ true → k < length cs → IsOpen p k → list_any f (gathering g u (drop k (component_names cs))) ≡ false
+      document_none : (k i : ℕ) (u : Tree) → slice_get (elements_in t) i ≡ Some u → is_document u ≡ true → k < length cs → IsWalked w k → list_any f (gathering g u (drop k (component_names cs))) ≡ false
       document_none k i u e d l o =
           let n = named (component_names cs) k (let many = as_many cs in omega (arith, many, l)) in
           each_left (elements_in t) i u (drop k (component_names cs)) e d
           (left_false _ _ (sym (list_any-append f (in_documents g t (component_names cs) k) (at_name g t (component_names cs) k n.name)) ∙ parts_none k n.name n.is_there (before k o)))
 
       -- the element at an index
-      element_none : (i : ℕ) (u : Tree) (j : ℕ) → slice_get (elements_in t) i ≡ Some u → i < 18446744073709551615 → LedTo (Element i) (component_names cs) p j → list_any f (gathering g u (drop j (component_names cs))) ≡ false
+      element_none : (i : ℕ) (u : Tree) (j : ℕ) → slice_get (elements_in t) i ≡ Some u → i < 18446744073709551615 → IsStepOf (Element i) (component_names cs) w j → list_any f (gathering g u (drop j (component_names cs))) ≡ false
       element_none i u j e l by =
-          let led = by.led in
-          let n = led.name in
+          let n = by.name in
           let k = by.before in
-          let index : index_of n ≡ Some i = held_is n i led.takes l in
+          let index : index_of n ≡ Some i = held_is n i by.takes l in
           ap (λ (x : ℕ). list_any f (gathering g u (drop x (component_names cs)))) by.after
           ∙ ap (list_any f) (sym (ap (λ (o : Option ℕ). gathering_at g (items_of (elements_in t)) o (drop (suc k) (component_names cs))) index ∙ down.at_index g (elements_in t) i u (drop (suc k) (component_names cs)) e))
-          ∙ right_false _ _ (sym (list_any-append f (in_documents g t (component_names cs) k) (at_name g t (component_names cs) k n)) ∙ parts_none k n led.is_there (before k led.here))
+          ∙ right_false _ _ (sym (list_any-append f (in_documents g t (component_names cs) k) (at_name g t (component_names cs) k n)) ∙ parts_none k n by.is_there (before k by.here))
 
-      pub element_inside : (i : ℕ) (u : Tree) (q : Positions) → slice_get (elements_in t) i ≡ Some u → i < 18446744073709551615 → (b : Bool) → b ≡ is_document u
-          → ((j : ℕ) → IsOpen q j → LedTo (Element i) (component_names cs) p j ⊎ (b ≡ true) × (j < length cs) × IsOpen p j) → NoneGathered f g u (component_names cs) q
-      element_inside i u q e l b d only j o = elim (only j o) [
+      pub document_inside : (i : ℕ) (u : Tree) (v : Walked) → slice_get (elements_in t) i ≡ Some u → i < 18446744073709551615 → is_document u ≡ true
+          → ((j : ℕ) → IsWalked v j → IsStepOf (Element i) (component_names cs) w j ⊎ (j < length cs) × IsWalked w j) → NoneGathered f g u (component_names cs) v
+      document_inside i u v e l d only j o = elim (only j o) [
         | inl by ↦ element_none i u j e l by
-        | inr h ↦ document_none j i u e (sym d ∙ h.0) h.1 h.2
+        | inr h ↦ document_none j i u e d h.0 h.1
       ]
 
-      pub index_inside : (k i : ℕ) (u : Tree) (q : Positions) → slice_get (elements_in t) i ≡ Some u → i < 18446744073709551615 → (b : Bool) → b ≡ is_document u
+      pub index_inside : (k i : ℕ) (u : Tree) (v : Walked) → slice_get (elements_in t) i ≡ Some u → i < 18446744073709551615 → (b : Bool) → b ≡ is_document u
           → list_any f (in_documents g t (component_names cs) k) ≡ false
-          → ((j : ℕ) → IsOpen q j → LedTo (Element i) (component_names cs) p j ⊎ (b ≡ true) × ((j ≡ k) ⊎ (j < length cs) × IsOpen p j)) → NoneGathered f g u (component_names cs) q
-      index_inside k i u q e l b d documents only j o = elim (only j o) [
+          → ((j : ℕ) → IsWalked v j → IsStepOf (Element i) (component_names cs) w j ⊎ (b ≡ true) × ((j ≡ k) ⊎ (j < length cs) × IsWalked w j)) → NoneGathered f g u (component_names cs) v
+      index_inside k i u v e l b d documents only j o = elim (only j o) [
         | inl by ↦ element_none i u j e l by
         | inr h ↦ elim h.1 [
           | inl s ↦ ap (λ (x : ℕ). list_any f (gathering g u (drop x (component_names cs)))) s ∙ each_left (elements_in t) i u (drop k (component_names cs)) e (sym d ∙ h.0) documents
@@ -163,3 +181,8 @@ module _ {A : Type 0} (g : Gathering A) (es : List Tree) (n : List ℕ) (r : Nam
 
   pub no_index : held_index n ≡ None → gathering_at g (items_of es) (index_of n) r ≡ []
   no_index e = down.held_none g es (index_of n) r (sym e)
+
+-- the same on the rest of a path
+pub element_at : {A : Type 0} (g : Gathering A) (es : List Tree) (n : List ℕ) (path : Names) (k i : ℕ) (u : Tree) → held_index n ≡ Some i → i < 18446744073709551615 → slice_get es i ≡ Some u
+    → gathering_at g (items_of es) (index_of n) (drop (suc k) path) ≡ gathering g u (drop (k + 1) path)
+element_at g es n path k i u e l at = rw add-one (element_is g es n (drop (suc k) path) i u e l at)

@@ -8,7 +8,7 @@ use Rattle.bd_path.specs.KeyList.{distinct, key_gathering, missing_key, with_key
 use Rattle.bd_path.specs.Names.{Names}
 use Rattle.bd_path.specs.Walked.{NoneGathered}
 use Rattle.bd_path.specs.declared.key.Key.{Key}
-use Rattle.bd_path.specs.declared.positions.Positions.{Positions}
+use Rattle.bd_path.specs.declared.walked.Walked.{Walked}
 
 -- to the keys that were there, these were added
 abbrev pub AddsKeys : {N : Type 0} → (N → Tree) → List (Key N) → List (Key N) → List Tree → Type 0
@@ -23,5 +23,5 @@ abbrev pub is_new : List Tree → Tree → Bool
 is_new ks k = not (list_any (λ x. equal x k) ks)
 
 -- no key of a value is new, on the rest of the path from any of some positions
-abbrev pub NoneNew : Bool → List Tree → Tree → Names → Positions → Type 0
-NoneNew sparse ks t path p = NoneGathered (is_new (distinct ks)) (key_gathering (missing_key sparse)) t path p
+abbrev pub NoneNew : Bool → List Tree → Tree → Names → Walked → Type 0
+NoneNew sparse ks t path w = NoneGathered (is_new (distinct ks)) (key_gathering (missing_key sparse)) t path w

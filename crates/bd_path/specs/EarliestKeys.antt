@@ -9,7 +9,7 @@ use Rattle.bd_path.specs.Names.{Names}
 use Rattle.bd_path.specs.Walked.{NoneGathered}
 use Rattle.bd_path.specs.declared.dir.Dir.{Dir}
 use Rattle.bd_path.specs.declared.key.Key.{Key}
-use Rattle.bd_path.specs.declared.positions.Positions.{Positions}
+use Rattle.bd_path.specs.declared.walked.Walked.{Walked}
 
 abbrev pub key_option : {N : Type 0} → (N → Tree) → Option (Key N) → Option Tree
 key_option tree key = option_map (key_tree tree) key
@@ -27,5 +27,5 @@ is_earlier dir None k = true
 is_earlier dir (Some e) k = is_lt (dir_cmp dir k e)
 
 -- no key of a value is earlier, on the rest of the path from any of some positions
-abbrev pub NoneEarlier : Dir → Option Tree → Tree → Names → Positions → Type 0
-NoneEarlier dir e t path p = NoneGathered (is_earlier dir e) (key_gathering (missing_key false)) t path p
+abbrev pub NoneEarlier : Dir → Option Tree → Tree → Names → Walked → Type 0
+NoneEarlier dir e t path w = NoneGathered (is_earlier dir e) (key_gathering (missing_key false)) t path w

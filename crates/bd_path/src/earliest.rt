@@ -6,7 +6,7 @@ ghost use Rattle.bd_value.specs.Kind.{kind_of};
 ghost use Rattle.bd_value.specs.View.{tree_of};
 ghost use Rattle.bd_value.specs.declared.kind.Kind.TheVariants as kinds;
 ghost use Rattle.bd_path.specs.Key.{IsKeyOf, key_tree};
-ghost use Rattle.bd_path.specs.KeyList.{all_keys, document_keys, end_keys, first_index_keys};
+ghost use Rattle.bd_path.specs.KeyList.{all_keys, document_keys, end_keys, index_keys};
 ghost use Rattle.bd_path.specs.Names.{component_names};
 ghost use Rattle.bd_path.specs.PathNames.{names_of};
 ghost use Rattle.bd_path.specs.Earliest.{dir_cmp, earlier_key, sort_key};
@@ -17,7 +17,7 @@ use crate::component::Component;
 use crate::dir::Dir;
 use crate::key::{Key, compare_keys, key_value};
 use crate::path::Path;
-use crate::positions::Positions;
+use crate::walked::Walked;
 use bd_value::{Kind, NoMemory, Reading, Value};
 use std::alloc::Global;
 use std::cmp::Ordering;
@@ -30,7 +30,7 @@ pub fn sort_key_node<N: Reading>(doc: N, path: &Path, dir: Dir) -> Key<N>
     ensures tree { key_tree N.tree result ≡ sort_key dir (N.tree doc) (names_of path.now) }
     ensures kept { IsKeyOf N.source (N.source doc) result }
 {
-    match earliest_from(doc, path.components(), 0, &Positions::none(), dir, None) {
+    match earliest_from(doc, path.components(), 0, &Walked::Nowhere, dir, None) {
         Some(key) => key,
         None => Key::Null,
     }
@@ -63,7 +63,7 @@ fn earliest_from<N: Reading>(
     node: N,
     path: &[Component],
     k: usize,
-    walked: &Positions,
+    walked: &Walked,
     dir: Dir,
     first: Option<Key<N>>,
 ) -> Option<Key<N>>
@@ -92,7 +92,7 @@ fn earliest_in_field<N: Reading>(
     node: N,
     path: &[Component],
     k: usize,
-    walked: &Positions,
+    walked: &Walked,
     dir: Dir,
     first: Option<Key<N>>,
 ) -> Option<Key<N>>
@@ -119,7 +119,7 @@ fn earliest_in_array<N: Reading>(
     node: N,
     path: &[Component],
     k: usize,
-    walked: &Positions,
+    walked: &Walked,
     dir: Dir,
     first: Option<Key<N>>,
 ) -> Option<Key<N>>
@@ -143,7 +143,7 @@ fn earliest_in_documents<N: Reading>(
     node: N,
     path: &[Component],
     k: usize,
-    walked: &Positions,
+    walked: &Walked,
     dir: Dir,
     first: Option<Key<N>>,
 ) -> Option<Key<N>>
@@ -161,7 +161,7 @@ fn earliest_in_documents<N: Reading>(
             return earliest;
         };
         if is_document(next.1) {
-            let inside = walked.at_element(path, i, true);
+            let inside = walked.at_document(path, i);
             earliest = earliest_from(next.1, path, k, &inside, dir, earliest);
         }
         left = next.2;
@@ -177,7 +177,7 @@ fn earliest_at_index<N: Reading>(
     node: N,
     path: &[Component],
     k: usize,
-    walked: &Positions,
+    walked: &Walked,
     dir: Dir,
     first: Option<Key<N>>,
 ) -> Option<Key<N>>
@@ -186,7 +186,7 @@ fn earliest_at_index<N: Reading>(
     requires kind { kind_of (N.tree node) ≡ kinds.Array }
     requires walked { NoneEarlier dir (key_option N.tree first) (N.tree node) (component_names path.now) walked.now }
     requires documents { list_any (is_earlier dir (key_option N.tree first)) (document_keys false (N.tree node) (drop k (component_names path.now))) ≡ false }
-    ensures tree { IsEarliestWith dir N.tree first result (first_index_keys false (N.tree node) (drop k (component_names path.now))) }
+    ensures tree { IsEarliestWith dir N.tree first result (index_keys false (N.tree node) (drop k (component_names path.now))) }
     ensures kept { IfSome first (λ f. IsKeyOf N.source (N.source node) f) → IfSome result (λ r. IsKeyOf N.source (N.source node) r) }
 {
     match path[k].index {

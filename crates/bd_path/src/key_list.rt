@@ -8,7 +8,7 @@ ghost use Rattle.bd_value.specs.View.{tree_of};
 ghost use Rattle.bd_value.specs.declared.kind.Kind.TheVariants as kinds;
 ghost use Rattle.bd_path.specs.AddedKeys.{AddsKeys, AppendsKeys, NoneNew, is_new};
 ghost use Rattle.bd_path.specs.Key.{AreKeysOf, IsKeyOf, key_tree, key_trees};
-ghost use Rattle.bd_path.specs.KeyList.{all_keys, distinct, document_keys, end_keys, first_index_keys, indexed_keys, keys};
+ghost use Rattle.bd_path.specs.KeyList.{all_keys, distinct, document_keys, end_keys, index_keys, indexed_keys, keys};
 ghost use Rattle.bd_path.specs.KeyList.{missing_key, sparse_keys as sparse_keys_of, with_key};
 ghost use Rattle.bd_path.specs.Names.{component_names};
 ghost use Rattle.bd_path.specs.PathNames.{names_of};
@@ -17,7 +17,7 @@ use crate::branch::{has_branch, is_document};
 use crate::component::Component;
 use crate::key::{Key, compare_keys, key_value};
 use crate::path::Path;
-use crate::positions::Positions;
+use crate::walked::Walked;
 use bd_value::{Kind, NoMemory, Reading, Value};
 use std::alloc::Global;
 
@@ -55,7 +55,7 @@ pub fn all_key_nodes<N: Reading>(
 {
     let mut all = Vec::new(alloc);
     let components = path.components();
-    add_keys(doc, components, 0, &Positions::none(), sparse, &mut all)?;
+    add_keys(doc, components, 0, &Walked::Nowhere, sparse, &mut all)?;
     Ok(all)
 }
 
@@ -80,7 +80,7 @@ fn add_keys<N: Reading>(
     node: N,
     path: &[Component],
     k: usize,
-    walked: &Positions,
+    walked: &Walked,
     sparse: bool,
     keys: &mut Vec<Key<N>>,
 ) -> Result<(), NoMemory>
@@ -109,7 +109,7 @@ fn add_keys_of_field<N: Reading>(
     node: N,
     path: &[Component],
     k: usize,
-    walked: &Positions,
+    walked: &Walked,
     sparse: bool,
     keys: &mut Vec<Key<N>>,
 ) -> Result<(), NoMemory>
@@ -136,7 +136,7 @@ fn add_keys_of_array<N: Reading>(
     node: N,
     path: &[Component],
     k: usize,
-    walked: &Positions,
+    walked: &Walked,
     sparse: bool,
     keys: &mut Vec<Key<N>>,
 ) -> Result<(), NoMemory>
@@ -160,7 +160,7 @@ fn add_keys_of_documents<N: Reading>(
     node: N,
     path: &[Component],
     k: usize,
-    walked: &Positions,
+    walked: &Walked,
     sparse: bool,
     keys: &mut Vec<Key<N>>,
 ) -> Result<(), NoMemory>
@@ -177,7 +177,7 @@ fn add_keys_of_documents<N: Reading>(
             return Ok(());
         };
         if is_document(next.1) {
-            let inside = walked.at_element(path, i, true);
+            let inside = walked.at_document(path, i);
             add_keys(next.1, path, k, &inside, sparse, keys)?;
         }
         left = next.2;
@@ -193,7 +193,7 @@ fn add_keys_at_index<N: Reading>(
     node: N,
     path: &[Component],
     k: usize,
-    walked: &Positions,
+    walked: &Walked,
     sparse: bool,
     keys: &mut Vec<Key<N>>,
 ) -> Result<(), NoMemory>
@@ -202,7 +202,7 @@ fn add_keys_at_index<N: Reading>(
     requires kind { kind_of (N.tree node) ≡ kinds.Array }
     requires walked { NoneNew sparse (key_trees N.tree keys.old.items) (N.tree node) (component_names path.now) walked.now }
     requires documents { list_any (is_new (distinct (key_trees N.tree keys.old.items))) (document_keys sparse (N.tree node) (drop k (component_names path.now))) ≡ false }
-    ensures added { OnOk result (AddsKeys N.tree keys.old.items keys.new.items (first_index_keys sparse (N.tree node) (drop k (component_names path.now)))) }
+    ensures added { OnOk result (AddsKeys N.tree keys.old.items keys.new.items (index_keys sparse (N.tree node) (drop k (component_names path.now)))) }
     ensures kept { AreKeysOf N.source (N.source node) keys.old.items → AreKeysOf N.source (N.source node) keys.new.items }
 {
     match path[k].index {

@@ -1,4 +1,4 @@
-use Rattle.std.proofs.Common.{rules, ◌≡◌, ◌<◌, List, [], Some, None, false, true, drop, length, string_bytes, sym, subst, ap, ◌∙◌, arith, slice_get}
+use Rattle.std.proofs.Common.{rules, ◌≡◌, ◌<◌, List, [], Some, None, false, drop, length, string_bytes, sym, subst, ap, ◌∙◌, arith, slice_get}
 use Rattle.std.specs.Prelude.{IfSome}
 use Rattle.std.specs.List.{list_any}
 use Rattle.bd_value.specs.Lookup.{first_of}
@@ -9,7 +9,7 @@ use Rattle.bd_path.specs.Component.{held_index}
 use Rattle.bd_path.specs.Earliest.{earlier_key, earliest_key}
 use Rattle.bd_path.specs.EarliestKeys.{is_earlier, key_option}
 use Rattle.bd_path.specs.Key.{IsKeyOf}
-use Rattle.bd_path.specs.KeyList.{all_keys, document_keys, first_index_keys, key_gathering, missing_key}
+use Rattle.bd_path.specs.KeyList.{all_keys, document_keys, index_keys, key_gathering, missing_key}
 use Rattle.bd_path.specs.Names.{component_names}
 use Rattle.bd_path.specs.Reach.{each_gathering}
 use Rattle.bd_path.specs.declared.component.Component.{Component}
@@ -70,7 +70,7 @@ earliest_in_field-earliest_from-requires g t c κs within =
             c.requires.few,
             (
               omega (arith, c.requires.at),
-              walked.field_inside f gg (first.keeps_keys f (missing_key false)) n c.args.path.now c.args.walked.now c.requires.walked s u c.at_field-inside.result c.requires.kind e c.at_field-inside.ensures.only,
+              walked.field_inside f gg (first.keeps_keys f (missing_key false)) n c.args.path.now c.args.walked.now c.requires.walked s u c.at_field-inside.result c.requires.kind e c.at_field-inside.ensures,
             ),
           ),
         ),
@@ -153,7 +153,7 @@ earliest_in_array-returns-clause-tree g t c =
     let m = string_bytes c.index-path-k.result.name in
     let there = at.name_at cs c.args.k c.index-path-k.result c.requires.at c.index-path-k.is in
     let ds = document_keys false n (drop c.args.k names) in
-    let is = first_index_keys false n (drop c.args.k names) in
+    let is = index_keys false n (drop c.args.k names) in
     c.earliest_at_index.ensures.tree
     ∙ ap (λ x. earlier_key dir x (earliest_key dir is)) c.earliest_in_documents-among.ensures.tree
     ∙ sym (first.in_turn dir e (earliest_key dir ds) (earliest_key dir is))
@@ -205,8 +205,7 @@ earliest_in_documents-earliest_from-earliest-requires g t c κs within =
             c.requires.few,
             (
               omega (arith, c.requires.at),
-              walked.element_inside f gg (first.keeps_keys f (missing_key false)) n c.args.path.now c.args.walked.now c.loop-i.invariant.walked c.requires.kind c.loop-i.i u c.at_element-inside.result here (omega (arith, c.loop-i-test.true)) true
-                  (sym c.if-is_document.true ∙ c.is_document.ensures) c.at_element-inside.ensures.only,
+              walked.document_inside f gg (first.keeps_keys f (missing_key false)) n c.args.path.now c.args.walked.now c.loop-i.invariant.walked c.requires.kind c.loop-i.i u c.at_document-inside.result here (omega (arith, c.loop-i-test.true)) (sym c.is_document.ensures ∙ c.if-is_document.true) c.at_document-inside.ensures,
             ),
           ),
         ),
@@ -286,7 +285,7 @@ earliest_at_index-earliest_from-requires g t c κs within =
             (
               omega (arith, c.requires.at),
               walked.index_inside f gg (first.keeps_keys f (missing_key false)) n c.args.path.now c.args.walked.now c.requires.walked c.requires.kind c.args.k c.in-Some.i u c.at_index-inside.result c.element-element.ensures.element
-                  (omega (arith, c.len.type_inv, c.if-i-len.true)) c.is_document.result c.is_document.ensures c.requires.documents c.at_index-inside.ensures.only,
+                  (omega (arith, c.len.type_inv, c.if-i-len.true)) c.is_document.result c.is_document.ensures c.requires.documents c.at_index-inside.ensures,
             ),
           ),
         ),
@@ -305,8 +304,8 @@ earliest_at_index-returns-in-Some-clause-tree g t c =
     let held : held_index m ≡ Some c.in-Some.i = walked.index_at cs c.args.k c.index-path-k.result _ _ c.requires.at c.index-path-k.is c.in-Some.is in
     c.earliest_from.ensures.tree
     ∙ ap (λ (ks : List Tree). earlier_key dir (key_option g.N.Reading.tree c.args.first) (earliest_key dir ks))
-    (sym (branch.first_is n names c.args.k m c.requires.kind there false
-    ∙ branch.element_keys n names c.args.k m c.requires.kind there false c.in-Some.i u held (omega (arith, c.len.type_inv, c.if-i-len.true)) c.element-element.ensures.element))
+    (sym (walked.first_is (key_gathering (missing_key false)) n names c.args.k m there
+    ∙ walked.element_at (key_gathering (missing_key false)) (elements_in n) m names c.args.k c.in-Some.i u held (omega (arith, c.len.type_inv, c.if-i-len.true)) c.element-element.ensures.element))
 
 pub earliest_at_index-returns-in_default-clause-tree : goal.earliest_at_index-returns-in_default-clause-tree
 earliest_at_index-returns-in_default-clause-tree g t c =
@@ -320,7 +319,7 @@ earliest_at_index-returns-in_default-clause-tree g t c =
     let held : held_index m ≡ Some c.in-Some.i = walked.index_at cs c.args.k c.index-path-k.result _ _ c.requires.at c.index-path-k.is c.in-Some.is in
     let len = down.length_elements n c.requires.kind in
     sym (ap (λ (ks : List Tree). earlier_key dir e (earliest_key dir ks))
-    (branch.first_is n names c.args.k m c.requires.kind there false
+    (walked.first_is (key_gathering (missing_key false)) n names c.args.k m there
     ∙ walked.none_there (key_gathering (missing_key false)) (elements_in n) m _ c.in-Some.i held (omega (arith, c.if-i-len.false, c.len.ensures, len)) (omega (arith, c.len.type_inv, c.len.ensures, len)))
     ∙ first.right_none dir e)
 
@@ -335,6 +334,6 @@ earliest_at_index-returns-in_default-2-clause-tree g t c =
     let there = at.name_at cs c.args.k c.index-path-k.result c.requires.at c.index-path-k.is in
     let held : held_index m ≡ None = walked.index_at cs c.args.k c.index-path-k.result _ _ c.requires.at c.index-path-k.is c.in_default.is in
     sym (ap (λ (ks : List Tree). earlier_key dir e (earliest_key dir ks))
-    (branch.first_is n names c.args.k m c.requires.kind there false
+    (walked.first_is (key_gathering (missing_key false)) n names c.args.k m there
     ∙ walked.no_index (key_gathering (missing_key false)) (elements_in n) m _ held)
     ∙ first.right_none dir e)

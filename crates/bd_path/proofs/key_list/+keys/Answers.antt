@@ -1,4 +1,4 @@
-use Rattle.std.proofs.Common.{rules, ◌≡◌, ◌<◌, ℕ, List, Some, None, false, true, drop, length, string_bytes, sym, subst, ap, ◌∙◌, arith, slice_get, All}
+use Rattle.std.proofs.Common.{rules, ◌≡◌, ◌<◌, ℕ, List, Some, None, false, drop, length, string_bytes, sym, subst, ap, ◌∙◌, arith, slice_get, All}
 use Rattle.std.specs.List.{list_any}
 use Rattle.bd_value.specs.Lookup.{first_of}
 use Rattle.bd_value.specs.Parts.{values_of, elements_in}
@@ -7,7 +7,7 @@ use Rattle.bd_value.proofs.PartsLemmas as parted
 use Rattle.bd_path.specs.AddedKeys.{is_new}
 use Rattle.bd_path.specs.Component.{held_index}
 use Rattle.bd_path.specs.Key.{IsKeyOf, key_trees}
-use Rattle.bd_path.specs.KeyList.{all_keys, distinct, document_keys, end_keys, first_index_keys, key_gathering, missing_key, with_keys}
+use Rattle.bd_path.specs.KeyList.{all_keys, distinct, document_keys, end_keys, index_keys, key_gathering, missing_key, with_keys}
 use Rattle.bd_path.specs.Names.{component_names}
 use Rattle.bd_path.specs.Reach.{each_gathering}
 use Rattle.bd_path.specs.declared.component.Component.{Component}
@@ -71,7 +71,7 @@ add_keys_of_field-add_keys-requires g t c κs within =
             c.requires.few,
             (
               omega (arith, c.requires.at),
-              walked.field_inside f gg (keeps_keys f (missing_key c.args.sparse)) n c.args.path.now c.args.walked.now c.requires.walked s u c.at_field-inside.result c.requires.kind e c.at_field-inside.ensures.only,
+              walked.field_inside f gg (keeps_keys f (missing_key c.args.sparse)) n c.args.path.now c.args.walked.now c.requires.walked s u c.at_field-inside.result c.requires.kind e c.at_field-inside.ensures,
             ),
           ),
         ),
@@ -161,7 +161,7 @@ add_keys_of_array-returns-clause-added g t c =
     let m = string_bytes c.index-path-k.result.name in
     let there = at.name_at cs c.args.k c.index-path-k.result c.requires.at c.index-path-k.is in
     let ds = document_keys sparse n (drop c.args.k names) in
-    let is = first_index_keys sparse n (drop c.args.k names) in
+    let is = index_keys sparse n (drop c.args.k names) in
     added.on_ok c.add_keys_at_index.result
     (λ h. h ∙ ap (λ (x : List Tree). with_keys x is) c.in_ok-add_keys_of_documents.ensures.added ∙ sym (added.with_append ks ds is)
     ∙ ap (with_keys ks) (branch.some_branch n names c.args.k m c.requires.kind there sparse (search rules)))
@@ -201,8 +201,7 @@ add_keys_of_documents-add_keys-requires g t c κs within =
             c.requires.few,
             (
               omega (arith, c.requires.at),
-              walked.element_inside f gg (keeps_keys f (missing_key c.args.sparse)) n c.args.path.now c.args.walked.now c.loop-i.invariant.walked c.requires.kind c.loop-i.i u c.at_element-inside.result here (omega (arith, c.loop-i-test.true)) true
-                  (sym c.if-is_document.true ∙ c.is_document.ensures) c.at_element-inside.ensures.only,
+              walked.document_inside f gg (keeps_keys f (missing_key c.args.sparse)) n c.args.path.now c.args.walked.now c.loop-i.invariant.walked c.requires.kind c.loop-i.i u c.at_document-inside.result here (omega (arith, c.loop-i-test.true)) (sym c.is_document.ensures ∙ c.if-is_document.true) c.at_document-inside.ensures,
             ),
           ),
         ),
@@ -269,7 +268,7 @@ add_keys_at_index-add_keys-requires g t c κs within =
             (
               omega (arith, c.requires.at),
               walked.index_inside f gg (keeps_keys f (missing_key c.args.sparse)) n c.args.path.now c.args.walked.now c.requires.walked c.requires.kind c.args.k c.in-Some.i u c.at_index-inside.result c.element-element.ensures.element
-                  (omega (arith, c.len.type_inv, c.if-i-len.true)) c.is_document.result c.is_document.ensures c.requires.documents c.at_index-inside.ensures.only,
+                  (omega (arith, c.len.type_inv, c.if-i-len.true)) c.is_document.result c.is_document.ensures c.requires.documents c.at_index-inside.ensures,
             ),
           ),
         ),
@@ -287,8 +286,8 @@ add_keys_at_index-returns-in-Some-clause-added g t c =
     let there = at.name_at cs c.args.k c.index-path-k.result c.requires.at c.index-path-k.is in
     let held : held_index m ≡ Some c.in-Some.i = walked.index_at cs c.args.k c.index-path-k.result _ _ c.requires.at c.index-path-k.is c.in-Some.is in
     added.on_ok c.add_keys.result
-    (λ h. h ∙ ap (with_keys ks) (sym (branch.first_is n names c.args.k m c.requires.kind there c.args.sparse
-    ∙ branch.element_keys n names c.args.k m c.requires.kind there c.args.sparse c.in-Some.i u held (omega (arith, c.len.type_inv, c.if-i-len.true)) c.element-element.ensures.element)))
+    (λ h. h ∙ ap (with_keys ks) (sym (walked.first_is (key_gathering (missing_key c.args.sparse)) n names c.args.k m there
+    ∙ walked.element_at (key_gathering (missing_key c.args.sparse)) (elements_in n) m names c.args.k c.in-Some.i u held (omega (arith, c.len.type_inv, c.if-i-len.true)) c.element-element.ensures.element)))
     c.add_keys.ensures.added
 
 pub add_keys_at_index-returns-in_default-clause-added : goal.add_keys_at_index-returns-in_default-clause-added
@@ -302,7 +301,7 @@ add_keys_at_index-returns-in_default-clause-added g t c =
     let held : held_index m ≡ Some c.in-Some.i = walked.index_at cs c.args.k c.index-path-k.result _ _ c.requires.at c.index-path-k.is c.in-Some.is in
     let len = down.length_elements n c.requires.kind in
     sym (ap (with_keys ks)
-    (branch.first_is n names c.args.k m c.requires.kind there c.args.sparse
+    (walked.first_is (key_gathering (missing_key c.args.sparse)) n names c.args.k m there
     ∙ walked.none_there (key_gathering (missing_key c.args.sparse)) (elements_in n) m _ c.in-Some.i held (omega (arith, c.if-i-len.false, c.len.ensures, len)) (omega (arith, c.len.type_inv, c.len.ensures, len))))
 
 pub add_keys_at_index-returns-in_default-2-clause-added : goal.add_keys_at_index-returns-in_default-2-clause-added
@@ -315,5 +314,5 @@ add_keys_at_index-returns-in_default-2-clause-added g t c =
     let there = at.name_at cs c.args.k c.index-path-k.result c.requires.at c.index-path-k.is in
     let held : held_index m ≡ None = walked.index_at cs c.args.k c.index-path-k.result _ _ c.requires.at c.index-path-k.is c.in_default.is in
     sym (ap (with_keys ks)
-    (branch.first_is n names c.args.k m c.requires.kind there c.args.sparse
+    (walked.first_is (key_gathering (missing_key c.args.sparse)) n names c.args.k m there
     ∙ walked.no_index (key_gathering (missing_key c.args.sparse)) (elements_in n) m _ held))
