@@ -107,7 +107,7 @@ right_true : (a b : Bool) → b ≡ true → (a || b) ≡ true
 right_true true b e = refl
 right_true false b e = e
 
-both_false : (a b : Bool) → a ≡ false → b ≡ false → (a || b) ≡ false
+pub both_false : (a b : Bool) → a ≡ false → b ≡ false → (a || b) ≡ false
 both_false true b e h = absurd cc
 both_false false b e h = h
 
@@ -180,7 +180,7 @@ some_at_index f t u (m ∷ r) zero i n a l g at e h =
     ∙ right_true _ _ (at_some f (elements_in t) m i u r l (ap held_index same ∙ e) g h)
 some_at_index f t u (m ∷ r) (suc k) i n a l g at e h = some_at_index f t u r k i n a l g at e h
 
-none_there : (f : End → Bool) (t : Tree) (path : Names) (k : ℕ) → kind_of t ≡ kinds.Array → length (elements_in t) ≤ 18446744073709551615 → k < length path
+pub none_there : (f : End → Bool) (t : Tree) (path : Names) (k : ℕ) → kind_of t ≡ kinds.Array → length (elements_in t) ≤ 18446744073709551615 → k < length path
     → ((i : ℕ) (u : Tree) → slice_get (elements_in t) i ≡ Some u → is_document u ≡ true → passes_from f u path k ≡ false)
     → ((i : ℕ) (u : Tree) (n : List ℕ) → slice_get (elements_in t) i ≡ Some u → slice_get path k ≡ Some n → held_index n ≡ Some i → passes_from f u path (suc k) ≡ false)
     → passes_from f t path k ≡ false

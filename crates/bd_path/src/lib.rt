@@ -45,4 +45,5 @@ pub use key_list::{all_key_nodes, key_nodes, keys, sparse_keys};
 pub use laws::{keys_are_there, sorts_order_all_documents, sparse_keys_are_the_rest};
 pub use path::Path;
 pub use path_fault::PathFault;
+pub use positions::Positions;
 pub use sort::compare_sort;

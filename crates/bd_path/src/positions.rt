@@ -38,7 +38,8 @@ pub struct Positions {
 }
 
 impl Positions {
-    fn none() -> Positions
+    /// None of them.
+    pub fn none() -> Positions
         ensures { (k : ℕ) → is_open result k ≡ false }
     {
         Positions {
@@ -56,7 +57,8 @@ impl Positions {
         start
     }
 
-    fn open_at(&mut self, k: usize)
+    /// Opens one more.
+    pub fn open_at(&mut self, k: usize)
         requires { k ≤ 100 }
         ensures here { IsOpen self.new k }
         ensures kept { (j : ℕ) → IsOpen self.old j → IsOpen self.new j }

@@ -1,10 +1,11 @@
-use Rattle.std.proofs.Common.{◌≡◌, ◌≤◌, ◌<◌, ◌+◌, ◌*◌, drop, length, map}
+use Rattle.std.proofs.Common.{◌≡◌, ◌≤◌, ◌<◌, ◌+◌, ◌*◌, ℕ, true, false, Some, drop, length, map, slice_get}
 use Rattle.std.specs.List.{list_any}
 use Rattle.bd_value.specs.Parts.{elements_in, values_of}
-use Rattle.bd_value.specs.Tree.{fields_of, fields_size, items_of, tree_size}
+use Rattle.bd_value.specs.Tree.{Tree, fields_of, fields_size, tree_size}
 use Rattle.bd_path.specs.Names.{component_names}
 use Rattle.bd_path.specs.PathNames.{names_of}
-use Rattle.bd_path.specs.Reach.{ends, each_gathering, reach}
+use Rattle.bd_path.specs.Positions.{passes_from}
+use Rattle.bd_path.specs.Reach.{is_document, reach}
 use Rattle.bd_query.specs.Body.{is_suited, suits}
 use Rattle.bd_query.specs.Filter.{filters_from, operators_from}
 use Rattle.bd_query.specs.FilterMatch.{all_accept, all_hold, all_match, some_match}
@@ -78,16 +79,14 @@ invariant-all_accept-loop-operator g l = record {
   smaller : operators_size (operators_from (map operator_tree (drop l.operator-index l.operators))) ≤ operators_size (operators_from (map operator_tree l.operators));
 }
 
--- what is left of the array decides
-abbrev pub invariant-any_end_suits_in_documents-loop-element : goal.invariant-any_end_suits_in_documents-loop-element
-invariant-any_end_suits_in_documents-loop-element g l = record {
-  so_far : list_any (is_suited l.body) (each_gathering ends (items_of (values_of (g.N.Reading.left l.left))) (component_names l.path))
-      ≡ list_any (is_suited l.body) (each_gathering ends (items_of (elements_in (g.N.Reading.tree l.fn.node))) (component_names l.path));
+-- those that are left are the elements from an index on, and before it no document passes
+abbrev pub invariant-any_end_suits_in_documents-loop-i : goal.invariant-any_end_suits_in_documents-loop-i
+invariant-any_end_suits_in_documents-loop-i g l = record {
+  so_far : values_of (g.N.Reading.left l.left) ≡ drop l.i (elements_in (g.N.Reading.tree l.fn.node));
+  none : (j : ℕ) (u : Tree) → j < l.i → slice_get (elements_in (g.N.Reading.tree l.fn.node)) j ≡ Some u → is_document u ≡ true
+      → passes_from (is_suited l.body) u (component_names l.path) l.k ≡ false;
   smaller : fields_size (fields_of (g.N.Reading.left l.left)) < tree_size (g.N.Reading.tree l.fn.node);
 }
-
-abbrev pub decreases-any_end_suits_in_documents-loop-element : goal.decreases-any_end_suits_in_documents-loop-element
-decreases-any_end_suits_in_documents-loop-element g l = length (g.N.Reading.left l.left)
 
 abbrev pub invariant-any_suits-loop-next : goal.invariant-any_suits-loop-next
 invariant-any_suits-loop-next g l = record {
