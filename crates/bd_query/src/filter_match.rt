@@ -176,15 +176,15 @@ fn any_end_suits_in_documents<N: Reading>(
 {
     let mut left = node.parts();
     for i in 0..node.len() {
-        let Some(next) = N::next(&left) else {
+        let Some(part) = N::next(&left) else {
             return false;
         };
-        if is_document(next.1)
-            && any_end_suits(next.1, path, k, &walked.at_element(path, i, true), body)
+        if is_document(part.1)
+            && any_end_suits(part.1, path, k, &walked.at_element(path, i, true), body)
         {
             return true;
         }
-        left = next.2;
+        left = part.2;
     }
     false
 }
