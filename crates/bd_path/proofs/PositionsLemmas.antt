@@ -103,7 +103,7 @@ left_true : (a b : Bool) → a ≡ true → (a || b) ≡ true
 left_true true b e = refl
 left_true false b e = absurd cc
 
-right_true : (a b : Bool) → b ≡ true → (a || b) ≡ true
+pub right_true : (a b : Bool) → b ≡ true → (a || b) ≡ true
 right_true true b e = refl
 right_true false b e = e
 

@@ -1,10 +1,8 @@
 -- The body of `$elemMatch`.
-use Rattle.std.specs.Prelude.{◌≡◌, ℕ, Bool, true, false, ◌&&◌, Some, map, slice_get}
+use Rattle.std.specs.Prelude.{Bool, ◌&&◌, map}
 use Rattle.std.specs.List.{list_any}
 use Rattle.bd_value.specs.Parts.{elements_in}
 use Rattle.bd_value.specs.Tree.{Tree}
-use Rattle.bd_path.specs.Names.{Names}
-use Rattle.bd_path.specs.Positions.{passes_from}
 use Rattle.bd_path.specs.Reach.{End, is_document}
 use Rattle.bd_query.specs.Filter.{filters_from, operators_from}
 use Rattle.bd_query.specs.FilterMatch.{all_accept, all_match, is_value}
@@ -20,7 +18,3 @@ suits (Filters fs) t = is_document t && all_match (filters_from (map filter_tree
 -- an element of an array suits it
 abbrev pub is_suited : Body → End → Bool
 is_suited body = is_value (λ t. list_any (suits body) (elements_in t))
-
--- no document in an array has an end that passes, from a position of a path on
-abbrev pub NoDocumentPasses : (End → Bool) → Tree → Names → ℕ → Type 0
-NoDocumentPasses test t path k = (i : ℕ) (u : Tree) → slice_get (elements_in t) i ≡ Some u → is_document u ≡ true → passes_from test u path k ≡ false

@@ -1,19 +1,19 @@
 //! Whether a document matches a filter.
 
-ghost use Rattle.std.specs.Prelude.{◌≡◌, ◌<◌, ◌≤◌, ◌⊎◌, ℕ, true, length, map, IsTrue, IsFalse};
+ghost use Rattle.std.specs.Prelude.{◌≡◌, ◌<◌, ◌≤◌, true, length, map, IsTrue, IsFalse};
 ghost use Rattle.std.specs.List.{list_any};
 ghost use Rattle.bd_value.specs.Kind.{kind_of};
 ghost use Rattle.bd_value.specs.Parts.{elements_in};
 ghost use Rattle.bd_value.specs.declared.kind.Kind.TheVariants as kinds;
 ghost use Rattle.bd_path.specs.Names.{component_names};
 ghost use Rattle.bd_path.specs.PathNames.{names_of};
-ghost use Rattle.bd_path.specs.Positions.{IsOpen, LedTo, NonePasses, passes_from};
+ghost use Rattle.bd_path.specs.Positions.{passes_from};
 ghost use Rattle.bd_path.specs.Reach.{is_document, reach};
-ghost use Rattle.bd_path.specs.declared.positions.Step.TheVariants as steps;
-ghost use Rattle.bd_query.specs.Body.{NoDocumentPasses, is_suited, suits};
+ghost use Rattle.bd_query.specs.Body.{is_suited, suits};
 ghost use Rattle.bd_query.specs.Filter.{filters_from, operators_from};
 ghost use Rattle.bd_query.specs.FilterMatch.{accepts, all_accept, all_hold, all_match, holds, matches, some_match};
 ghost use Rattle.bd_query.specs.FilterView.{filter_tree, operator_tree};
+ghost use Rattle.bd_query.specs.Walked.{InVain, NoDocumentPasses};
 
 use crate::body::Body;
 use crate::end_test::{
@@ -22,7 +22,8 @@ use crate::end_test::{
 use crate::filter::{Filter, Operator};
 use crate::relation::Relation;
 use crate::value_test::{EqualTo, OfKinds, ValueTest, equals_each, equals_some, is_related};
-use bd_path::{Component, Path, Positions, any_end};
+use crate::walked::Walked;
+use bd_path::{Component, Path, any_end};
 use bd_value::{Kind, Reading};
 
 /// Whether a value matches a filter. It takes no memory.
@@ -99,14 +100,14 @@ fn holds<N: Reading>(operator: &Operator, path: &Path, node: N) -> bool
             node,
             path.components(),
             0,
-            &Positions::none(),
+            &Walked::Nowhere,
             &Body::Operators(operators),
         ),
         Operator::ElemMatchDocument(filters) => any_end_suits(
             node,
             path.components(),
             0,
-            &Positions::none(),
+            &Walked::Nowhere,
             &Body::Filters(filters),
         ),
     }
@@ -114,20 +115,19 @@ fn holds<N: Reading>(operator: &Operator, path: &Path, node: N) -> bool
 
 /// Whether, from a position of a path on, an element of an array at one of its ends suits the body of `$elemMatch`.
 ///
-/// It goes down as `any_end` does. A test of an end can't come back to the operators: it would be called by its own walk. By
-/// `walked`, the positions from which this value was walked before in vain, it walks each value once from each position, also
-/// along a path that repeats an index.
+/// It goes down as `any_end` does. A test of an end can't come back to the operators: it would be called by its own walk. A value
+/// is walked once from each position, along a path that repeats an index too: `walked` tells where it was walked before.
 #[cycle(matching)]
 fn any_end_suits<N: Reading>(
     node: N,
     path: &[Component],
     k: usize,
-    walked: &Positions,
+    walked: &Walked,
     body: &Body,
 ) -> bool
     requires few { length path.now ≤ 100 }
     requires at { k ≤ length path.now }
-    requires vain { NonePasses (is_suited body.now) (N.tree node) (component_names path.now) walked.now }
+    requires vain { InVain (is_suited body.now) (N.tree node) (component_names path.now) walked.now }
     ensures { result ≡ passes_from (is_suited body.now) (N.tree node) (component_names path.now) k }
 {
     if walked.has(k) {
@@ -164,27 +164,26 @@ fn any_end_suits_in_documents<N: Reading>(
     node: N,
     path: &[Component],
     k: usize,
-    walked: &Positions,
+    walked: &Walked,
     body: &Body,
 ) -> bool
     requires few { length path.now ≤ 100 }
     requires at { k < length path.now }
     requires kind { kind_of (N.tree node) ≡ kinds.Array }
-    requires vain { NonePasses (is_suited body.now) (N.tree node) (component_names path.now) walked.now }
+    requires vain { InVain (is_suited body.now) (N.tree node) (component_names path.now) walked.now }
     ensures some { IsTrue result → passes_from (is_suited body.now) (N.tree node) (component_names path.now) k ≡ true }
     ensures none { IsFalse result → NoDocumentPasses (is_suited body.now) (N.tree node) (component_names path.now) k }
 {
     let mut left = node.parts();
-    for i in 0..node.len() {
-        let Some(part) = N::next(&left) else {
-            return false;
-        };
+    let mut i: usize = 0;
+    while let Some(part) = N::next(&left) {
         if is_document(part.1)
-            && any_end_suits(part.1, path, k, &walked.at_element(path, i, true), body)
+            && any_end_suits(part.1, path, k, &walked.at_document(path, i), body)
         {
             return true;
         }
         left = part.2;
+        i = i.saturating_add(1);
     }
     false
 }
@@ -195,43 +194,24 @@ fn any_end_suits_at_index<N: Reading>(
     node: N,
     path: &[Component],
     k: usize,
-    walked: &Positions,
+    walked: &Walked,
     body: &Body,
 ) -> bool
     requires few { length path.now ≤ 100 }
     requires at { k < length path.now }
     requires kind { kind_of (N.tree node) ≡ kinds.Array }
-    requires vain { NonePasses (is_suited body.now) (N.tree node) (component_names path.now) walked.now }
+    requires vain { InVain (is_suited body.now) (N.tree node) (component_names path.now) walked.now }
     requires documents { NoDocumentPasses (is_suited body.now) (N.tree node) (component_names path.now) k }
     ensures { result ≡ passes_from (is_suited body.now) (N.tree node) (component_names path.now) k }
 {
     match path[k].index {
         Some(i) if i < node.len() => {
             let element = node.element(i);
-            let inside = after_documents(walked, path, k, i, is_document(element));
+            let inside = walked.at_index(path, k, i, is_document(element));
             any_end_suits(element, path, k + 1, &inside, body)
         }
         _ => false,
     }
-}
-
-/// The positions from which an element of an array was walked, where its documents were walked from one more.
-fn after_documents(
-    walked: &Positions,
-    path: &[Component],
-    k: usize,
-    index: usize,
-    is_document: bool,
-) -> Positions
-    requires few { length path.now ≤ 100 }
-    requires at { k < length path.now }
-    ensures { (j : ℕ) → IsOpen result j → LedTo (steps.Element index) (component_names path.now) walked.now j ⊎ (is_document ≡ true) × (j < length path.now) × ((j ≡ k) ⊎ IsOpen walked.now j) }
-{
-    let mut inside = walked.at_element(path, index, is_document);
-    if is_document {
-        inside.open_at(k);
-    }
-    inside
 }
 
 fn is_document<N: Reading>(node: N) -> bool

@@ -1266,10 +1266,14 @@ fn walks_each_value_once(rt: HostRuntime) {
     let text = format!(in alloc; "{arrays}{{\"0\":[1]}}{ends}").expect(&rt, "memory");
     let names = "0.".repeat(alloc, 59).expect(&rt, "memory");
     for (operand, wanted) in [("1", true), ("2", false), ("[1]", false)] {
-        let query = format!(in alloc; "{{\"{names}0\":{{\"$elemMatch\":{{\"$eq\":{operand}}}}}}}")
-            .expect(&rt, "memory");
+        let query = format!(in alloc;
+            "{{\"{names}0\":{{\"$elemMatch\":{{\"$eq\":{operand}}}}}}}"
+        ).expect(&rt, "memory");
         let filter = read_filter(&rt, alloc, query.as_str());
-        assert!(rt; is_match(&rt, alloc, &filter, text.as_str()) == wanted, "{operand}");
+        assert!(rt;
+            is_match(&rt, alloc, &filter, text.as_str()) == wanted,
+            "{operand}"
+        );
     }
 }
 

@@ -1,9 +1,9 @@
-use Rattle.std.proofs.Common.{◌≡◌, ◌&&◌, ◌+◌, ◌<◌, ◌≤◌, suc, ◌∷◌, Some, None, true, false, length, drop, map, string_bytes, refl, sym, ap, ◌∙◌, arith, slice_get}
+use Rattle.std.proofs.Common.{◌≡◌, ◌&&◌, ◌+◌, ◌<◌, ◌≤◌, suc, List, ◌∷◌, Some, None, true, false, length, map, string_bytes, refl, sym, ap, ◌∙◌, arith, slice_get, subst}
 use Rattle.std.specs.List.{list_any}
 use Rattle.bd_value.specs.Kind.{kind_of}
 use Rattle.bd_value.specs.Lookup.{first_of}
 use Rattle.bd_value.specs.Parts.{elements_in, values_of}
-use Rattle.bd_value.specs.Tree.{Doc, fields_of, fields_size, pairs_in}
+use Rattle.bd_value.specs.Tree.{Doc, Tree, fields_of, fields_size, pairs_in}
 use Rattle.bd_value.specs.declared.kind.Kind.TheVariants as kinds
 use Rattle.bd_value.proofs.PartsLemmas as parted
 use Rattle.bd_path.specs.Names.{Names, component_names}
@@ -35,12 +35,11 @@ any_end_suits-any_end_suits-requires g t c κs within =
     let n = g.N.Reading.tree c.args.node in
     let f = is_suited c.args.body.now in
     let cs = c.args.path.now in
-    let s = c.as_str-name.result in
     let u = g.N.Reading.tree c.in-Some.value in
-    let e : first_of s.now (pairs_in n) ≡ Some u = sym c.in-Some.ensures.first in
-    let smaller = down.first_smaller s.now n u e in
+    let e : first_of c.as_str-name.result.now (pairs_in n) ≡ Some u = sym c.in-Some.ensures.first in
+    let smaller = down.first_smaller c.as_str-name.result.now n u e in
     let measure = c.decreases in
-    let vain = walked.at_field f n cs c.args.walked.now c.requires.vain s u c.at_field.result (sym c.kind.ensures ∙ c.in-Doc.is) e c.at_field.ensures.only in
+    let vain = c.at_field.ensures f n u (sym c.kind.ensures ∙ c.in-Doc.is) e c.requires.vain in
     (omega arith, (within.0, (within.1, (c.requires.few, (omega arith, vain)))))
 
 pub any_end_suits-returns-in-Some : goal.any_end_suits-returns-in-Some
@@ -87,7 +86,7 @@ any_end_suits_at_index-any_end_suits-requires g t c κs within =
     let u = g.N.Reading.tree c.element-element.result in
     let smaller = down.element_smaller n c.in-Some.i u c.element-element.ensures.element in
     let measure = c.decreases in
-    let vain = walked.at_index f n cs c.args.walked.now c.requires.vain c.requires.kind long c.in-Some.i u c.element-element.ensures.element c.args.k c.after_documents-inside.result c.is_document.result c.is_document.ensures c.requires.documents c.after_documents-inside.ensures in
+    let vain = c.at_index-inside.ensures f n u c.requires.kind long c.element-element.ensures.element c.is_document.ensures c.requires.documents c.requires.vain in
     (omega arith, (within.0, (within.1, (c.requires.few, (omega arith, vain)))))
 
 pub any_end_suits_at_index-returns-in-Some : goal.any_end_suits_at_index-returns-in-Some
@@ -121,64 +120,52 @@ any_end_suits_at_index-returns-in_default-2 g t c =
     let here = walked.indexed cs c.args.k _ None c.requires.at c.in_default.is in
     sym (walked.no_index f n (component_names cs) c.args.k here.name c.requires.kind here.is_there here.index c.requires.documents)
 
-pub any_end_suits_in_documents-loop-i-init : goal.any_end_suits_in_documents-loop-i-init
-any_end_suits_in_documents-loop-i-init g t c =
+pub any_end_suits_in_documents-loop-part-init : goal.any_end_suits_in_documents-loop-part-init
+any_end_suits_in_documents-loop-part-init g t c =
     let n = g.N.Reading.tree c.args.node in
+    let f = is_suited c.args.body.now in
+    let cs = c.args.path.now in
     let ps = g.N.Reading.left c.parts-left.result in
     record {
-      so_far = down.parts_are n ps c.requires.kind c.parts-left.ensures.parts;
-      none = λ j u l e d. absurd (omega arith);
+      walking = walked.begun f n cs c.args.k (values_of ps) (down.parts_are n ps c.requires.kind c.parts-left.ensures.parts);
       smaller = parted.parts_smaller n ps c.parts-left.ensures.parts;
     }
-
-pub any_end_suits_in_documents-returns-in_default-clause-none : goal.any_end_suits_in_documents-returns-in_default-clause-none
-any_end_suits_in_documents-returns-in_default-clause-none g t c h =
-    let n = g.N.Reading.tree c.args.node in
-    let len = down.length_elements n c.requires.kind in
-    let none = ap values_of c.in_default.ensures.none in
-    absurd (at.some_left (elements_in n) c.loop-i.i (sym none ∙ c.loop-i.invariant.so_far) (omega (arith, c.loop-i-test.true, c.len-i-end.ensures, len)))
 
 pub any_end_suits_in_documents-any_end_suits-requires : goal.any_end_suits_in_documents-any_end_suits-requires
 any_end_suits_in_documents-any_end_suits-requires g t c κs within =
     let n = g.N.Reading.tree c.args.node in
     let f = is_suited c.args.body.now in
     let cs = c.args.path.now in
-    let len = down.length_elements n c.requires.kind in
-    let long : length (elements_in n) ≤ 18446744073709551615 = omega (arith, c.len-i-end.type_inv, c.len-i-end.ensures, len) in
     let u = g.N.Reading.tree c.in-Some.part.1 in
     let us = values_of (g.N.Reading.left c.in-Some.part.2) in
-    let left : u ∷ us ≡ drop c.loop-i.i (elements_in n) = sym (ap values_of c.in-Some.ensures.some) ∙ c.loop-i.invariant.so_far in
-    let here : slice_get (elements_in n) c.loop-i.i ≡ Some u = at.next_is (elements_in n) c.loop-i.i u us left in
+    let w : walked.Walking f n cs c.args.k (u ∷ us) c.loop-part.i = subst (λ (x : List Tree). walked.Walking f n cs c.args.k x c.loop-part.i) (ap values_of c.in-Some.ensures.some) c.loop-part.invariant.walking in
+    let here : slice_get (elements_in n) w.place ≡ Some u = walked.is_next f n cs c.args.k u us c.loop-part.i w in
     let size = ap (λ (x : Doc). fields_size (fields_of x)) c.in-Some.ensures.some in
     let measure = c.decreases in
-    let vain = walked.at_document f n cs c.args.walked.now c.requires.vain c.requires.kind long c.loop-i.i u here c.at_element.result (sym c.is_document.ensures ∙ c.if-is_document.true) c.at_element.ensures.only in
-    (omega (arith, size, c.loop-i.invariant.smaller), (within.0, (within.1, (c.requires.few, (omega arith, vain)))))
+    let vain = c.at_document.ensures f n u w.place c.requires.kind here (sym c.is_document.ensures ∙ c.if-is_document.true) w.counted c.requires.vain in
+    (omega (arith, size, c.loop-part.invariant.smaller), (within.0, (within.1, (c.requires.few, (omega arith, vain)))))
 
 pub any_end_suits_in_documents-returns-then-any_end_suits-clause-some : goal.any_end_suits_in_documents-returns-then-any_end_suits-clause-some
 any_end_suits_in_documents-returns-then-any_end_suits-clause-some g t c h =
     let n = g.N.Reading.tree c.args.node in
     let f = is_suited c.args.body.now in
     let cs = c.args.path.now in
-    let len = down.length_elements n c.requires.kind in
-    let long : length (elements_in n) ≤ 18446744073709551615 = omega (arith, c.len-i-end.type_inv, c.len-i-end.ensures, len) in
     let u = g.N.Reading.tree c.in-Some.part.1 in
     let us = values_of (g.N.Reading.left c.in-Some.part.2) in
-    let left : u ∷ us ≡ drop c.loop-i.i (elements_in n) = sym (ap values_of c.in-Some.ensures.some) ∙ c.loop-i.invariant.so_far in
-    let here : slice_get (elements_in n) c.loop-i.i ≡ Some u = at.next_is (elements_in n) c.loop-i.i u us left in
+    let w : walked.Walking f n cs c.args.k (u ∷ us) c.loop-part.i = subst (λ (x : List Tree). walked.Walking f n cs c.args.k x c.loop-part.i) (ap values_of c.in-Some.ensures.some) c.loop-part.invariant.walking in
+    let here : slice_get (elements_in n) w.place ≡ Some u = walked.is_next f n cs c.args.k u us c.loop-part.i w in
     let many = at.as_many cs in
-    at.some_in_document f n u (component_names cs) c.args.k c.loop-i.i c.requires.kind here (sym c.is_document.ensures ∙ c.if-is_document.true) (omega (arith, many, c.requires.at)) (sym c.any_end_suits.ensures ∙ c.if-any_end_suits.true)
+    at.some_in_document f n u (component_names cs) c.args.k w.place c.requires.kind here (sym c.is_document.ensures ∙ c.if-is_document.true) (omega (arith, many, c.requires.at)) (sym c.any_end_suits.ensures ∙ c.if-any_end_suits.true)
 
-pub any_end_suits_in_documents-loop-i-preserved : goal.any_end_suits_in_documents-loop-i-preserved
-any_end_suits_in_documents-loop-i-preserved g t c =
+pub any_end_suits_in_documents-loop-part-preserved : goal.any_end_suits_in_documents-loop-part-preserved
+any_end_suits_in_documents-loop-part-preserved g t c =
     let n = g.N.Reading.tree c.args.node in
     let f = is_suited c.args.body.now in
     let cs = c.args.path.now in
-    let len = down.length_elements n c.requires.kind in
-    let long : length (elements_in n) ≤ 18446744073709551615 = omega (arith, c.len-i-end.type_inv, c.len-i-end.ensures, len) in
     let u = g.N.Reading.tree c.in-Some.part.1 in
     let us = values_of (g.N.Reading.left c.in-Some.part.2) in
-    let left : u ∷ us ≡ drop c.loop-i.i (elements_in n) = sym (ap values_of c.in-Some.ensures.some) ∙ c.loop-i.invariant.so_far in
-    let here : slice_get (elements_in n) c.loop-i.i ≡ Some u = at.next_is (elements_in n) c.loop-i.i u us left in
+    let w : walked.Walking f n cs c.args.k (u ∷ us) c.loop-part.i = subst (λ (x : List Tree). walked.Walking f n cs c.args.k x c.loop-part.i) (ap values_of c.in-Some.ensures.some) c.loop-part.invariant.walking in
+    let here : slice_get (elements_in n) w.place ≡ Some u = walked.is_next f n cs c.args.k u us c.loop-part.i w in
     let size = ap (λ (x : Doc). fields_size (fields_of x)) c.in-Some.ensures.some in
     let now : is_document u ≡ true → passes_from f u (component_names cs) c.args.k ≡ false =
     elim c.else-is_document.branch [
@@ -186,16 +173,16 @@ any_end_suits_in_documents-loop-i-preserved g t c =
       | any_end_suits_in_documents-else-is_document-via-else-is_document w ↦ λ d. absurd (walked.not_both (is_document u) d (sym c.is_document.ensures ∙ w.if-is_document.false))
     ] in
     record {
-      so_far = at.left_after (elements_in n) c.loop-i.i u us left;
-      none = walked.one_more_document f n cs c.args.k c.loop-i.i u c.loop-i.invariant.none here now;
-      smaller = omega (arith, size, c.loop-i.invariant.smaller);
+      walking = walked.stepped f n cs c.args.k u us c.loop-part.i c.saturating_add-i.result c.saturating_add-i.ensures w now;
+      smaller = omega (arith, size, c.loop-part.invariant.smaller);
     }
 
 pub any_end_suits_in_documents-returns-clause-none : goal.any_end_suits_in_documents-returns-clause-none
 any_end_suits_in_documents-returns-clause-none g t c h =
     let n = g.N.Reading.tree c.args.node in
-    let len = down.length_elements n c.requires.kind in
-    λ i u e d. let l = at.is_below (elements_in n) i u e in c.loop-i.invariant.none i u (omega (arith, l, len, c.len-i-end.ensures, c.loop-i-test.false)) e d
+    let f = is_suited c.args.body.now in
+    let cs = c.args.path.now in
+    walked.ended f n cs c.args.k c.loop-part.i (subst (λ (x : List Tree). walked.Walking f n cs c.args.k x c.loop-part.i) (ap values_of c.in_default.ensures.none) c.loop-part.invariant.walking)
 
 pub any_suits-loop-next-init : goal.any_suits-loop-next-init
 any_suits-loop-next-init g t c =
