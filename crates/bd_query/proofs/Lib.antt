@@ -5,3 +5,4 @@ pub mod FilterMatchLemmas
 pub mod FilterOfLemmas
 pub mod FilterViewLemmas
 pub mod MembersLemmas
+pub mod WalkedLemmas

@@ -9,4 +9,5 @@ pub mod Indexes
 pub mod Laws
 pub mod Members
 pub mod Types
+pub mod Walked
 pub mod Word

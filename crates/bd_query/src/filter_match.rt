@@ -1,17 +1,19 @@
 //! Whether a document matches a filter.
 
-ghost use Rattle.std.specs.Prelude.{◌≡◌, map, string_bytes};
+ghost use Rattle.std.specs.Prelude.{◌≡◌, ◌<◌, ◌≤◌, true, length, map, IsTrue, IsFalse};
 ghost use Rattle.std.specs.List.{list_any};
 ghost use Rattle.bd_value.specs.Kind.{kind_of};
 ghost use Rattle.bd_value.specs.Parts.{elements_in};
 ghost use Rattle.bd_value.specs.declared.kind.Kind.TheVariants as kinds;
 ghost use Rattle.bd_path.specs.Names.{component_names};
 ghost use Rattle.bd_path.specs.PathNames.{names_of};
-ghost use Rattle.bd_path.specs.Reach.{document_ends, index_ends, reach};
+ghost use Rattle.bd_path.specs.Positions.{passes_from};
+ghost use Rattle.bd_path.specs.Reach.{is_document, reach};
 ghost use Rattle.bd_query.specs.Body.{is_suited, suits};
 ghost use Rattle.bd_query.specs.Filter.{filters_from, operators_from};
 ghost use Rattle.bd_query.specs.FilterMatch.{accepts, all_accept, all_hold, all_match, holds, matches, some_match};
 ghost use Rattle.bd_query.specs.FilterView.{filter_tree, operator_tree};
+ghost use Rattle.bd_query.specs.Walked.{InVain, NoDocumentPasses};
 
 use crate::body::Body;
 use crate::end_test::{
@@ -20,6 +22,7 @@ use crate::end_test::{
 use crate::filter::{Filter, Operator};
 use crate::relation::Relation;
 use crate::value_test::{EqualTo, OfKinds, ValueTest, equals_each, equals_some, is_related};
+use crate::walked::Walked;
 use bd_path::{Component, Path, any_end};
 use bd_value::{Kind, Reading};
 
@@ -96,68 +99,125 @@ fn holds<N: Reading>(operator: &Operator, path: &Path, node: N) -> bool
         Operator::ElemMatch(operators) => any_end_suits(
             node,
             path.components(),
+            0,
+            &Walked::Nowhere,
             &Body::Operators(operators),
         ),
         Operator::ElemMatchDocument(filters) => any_end_suits(
             node,
             path.components(),
+            0,
+            &Walked::Nowhere,
             &Body::Filters(filters),
         ),
     }
 }
 
-/// Whether an element of an array at an end of a path suits the body of `$elemMatch`.
+/// Whether, from a position of a path on, an element of an array at one of its ends suits the body of `$elemMatch`.
 ///
-/// It goes down as `any_end` does. A test of an end can't come back to the operators: it would be called by its own walk.
+/// It goes down as `any_end` does. A test of an end can't come back to the operators: it would be called by its own walk. A value
+/// is walked once from each position, along a path that repeats an index too: `walked` tells where it was walked before.
 #[cycle(matching)]
-fn any_end_suits<N: Reading>(node: N, path: &[Component], body: &Body) -> bool
-    ensures { result ≡ list_any (is_suited body.now) (reach (N.tree node) (component_names path.now)) }
+fn any_end_suits<N: Reading>(
+    node: N,
+    path: &[Component],
+    k: usize,
+    walked: &Walked,
+    body: &Body,
+) -> bool
+    requires few { length path.now ≤ 100 }
+    requires at { k ≤ length path.now }
+    requires vain { InVain (is_suited body.now) (N.tree node) (component_names path.now) walked.now }
+    ensures { result ≡ passes_from (is_suited body.now) (N.tree node) (component_names path.now) k }
 {
-    let Some((component, rest)) = path.split_first() else {
+    if walked.has(k) {
+        return false;
+    }
+    if k == path.len() {
         return any_suits(node, body);
-    };
+    }
     match node.kind() {
-        Kind::Doc => match node.first(component.name.as_str()) {
-            Some(value) => any_end_suits(value, rest, body),
-            None => false,
-        },
+        Kind::Doc => {
+            let name = path[k].name.as_str();
+            match node.first(name) {
+                Some(value) => any_end_suits(
+                    value,
+                    path,
+                    k + 1,
+                    &walked.at_field(path, name),
+                    body,
+                ),
+                None => false,
+            }
+        }
         Kind::Array => {
-            any_end_suits_in_documents(node, path, body)
-                || any_end_suits_at_index(node, component, rest, body)
+            any_end_suits_in_documents(node, path, k, walked, body)
+                || any_end_suits_at_index(node, path, k, walked, body)
         }
         _ => false,
     }
 }
 
+/// The same in the documents of an array.
 #[cycle(matching)]
-fn any_end_suits_in_documents<N: Reading>(node: N, path: &[Component], body: &Body) -> bool
-    requires { kind_of (N.tree node) ≡ kinds.Array }
-    ensures { result ≡ list_any (is_suited body.now) (document_ends (N.tree node) (component_names path.now)) }
+fn any_end_suits_in_documents<N: Reading>(
+    node: N,
+    path: &[Component],
+    k: usize,
+    walked: &Walked,
+    body: &Body,
+) -> bool
+    requires few { length path.now ≤ 100 }
+    requires at { k < length path.now }
+    requires kind { kind_of (N.tree node) ≡ kinds.Array }
+    requires vain { InVain (is_suited body.now) (N.tree node) (component_names path.now) walked.now }
+    ensures some { IsTrue result → passes_from (is_suited body.now) (N.tree node) (component_names path.now) k ≡ true }
+    ensures none { IsFalse result → NoDocumentPasses (is_suited body.now) (N.tree node) (component_names path.now) k }
 {
     let mut left = node.parts();
-    while let Some((_, element, after)) = N::next(&left) {
-        if element.kind() == Kind::Doc && any_end_suits(element, path, body) {
+    let mut i: usize = 0;
+    while let Some(part) = N::next(&left) {
+        if is_document(part.1)
+            && any_end_suits(part.1, path, k, &walked.at_document(path, i), body)
+        {
             return true;
         }
-        left = after;
+        left = part.2;
+        i = i.saturating_add(1);
     }
     false
 }
 
+/// The same in the element whose index the component is, where no document of the array has such an end.
 #[cycle(matching)]
 fn any_end_suits_at_index<N: Reading>(
     node: N,
-    component: &Component,
     path: &[Component],
+    k: usize,
+    walked: &Walked,
     body: &Body,
 ) -> bool
-    requires { kind_of (N.tree node) ≡ kinds.Array }
-    ensures { result ≡ list_any (is_suited body.now) (index_ends (N.tree node) (string_bytes component.now.name) (component_names path.now)) }
+    requires few { length path.now ≤ 100 }
+    requires at { k < length path.now }
+    requires kind { kind_of (N.tree node) ≡ kinds.Array }
+    requires vain { InVain (is_suited body.now) (N.tree node) (component_names path.now) walked.now }
+    requires documents { NoDocumentPasses (is_suited body.now) (N.tree node) (component_names path.now) k }
+    ensures { result ≡ passes_from (is_suited body.now) (N.tree node) (component_names path.now) k }
 {
-    match component.index {
-        Some(i) if i < node.len() => any_end_suits(node.element(i), path, body),
+    match path[k].index {
+        Some(i) if i < node.len() => {
+            let element = node.element(i);
+            let inside = walked.at_index(path, k, i, is_document(element));
+            any_end_suits(element, path, k + 1, &inside, body)
+        }
         _ => false,
     }
+}
+
+fn is_document<N: Reading>(node: N) -> bool
+    ensures { result ≡ is_document (N.tree node) }
+{
+    matches!(node.kind(), Kind::Doc)
 }
 
 /// Whether an element of an array suits the body of `$elemMatch`.
