@@ -40,6 +40,7 @@ fn has_document<N: Reading>(node: N) -> bool
     false
 }
 
+/// Whether a value is a document.
 pub fn is_document<N: Reading>(node: N) -> bool
     ensures { result ≡ is_document (N.tree node) }
 {

@@ -38,6 +38,7 @@ mod positions;
 mod sort;
 mod walked;
 
+pub use branch::is_document;
 pub use component::Component;
 pub use dir::Dir;
 pub use earliest::{compare_in, sort_key, sort_key_node};

@@ -5,4 +5,3 @@ pub mod FilterMatchLemmas
 pub mod FilterOfLemmas
 pub mod FilterViewLemmas
 pub mod MembersLemmas
-pub mod WalkedLemmas

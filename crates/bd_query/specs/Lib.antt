@@ -9,5 +9,4 @@ pub mod Indexes
 pub mod Laws
 pub mod Members
 pub mod Types
-pub mod Walked
 pub mod Word

@@ -1,19 +1,18 @@
 //! Whether a document matches a filter.
 
-ghost use Rattle.std.specs.Prelude.{◌≡◌, ◌<◌, ◌≤◌, true, length, map, IsTrue, IsFalse};
+ghost use Rattle.std.specs.Prelude.{◌≡◌, ◌<◌, ◌≤◌, false, drop, length, map};
 ghost use Rattle.std.specs.List.{list_any};
 ghost use Rattle.bd_value.specs.Kind.{kind_of};
 ghost use Rattle.bd_value.specs.Parts.{elements_in};
 ghost use Rattle.bd_value.specs.declared.kind.Kind.TheVariants as kinds;
 ghost use Rattle.bd_path.specs.Names.{component_names};
 ghost use Rattle.bd_path.specs.PathNames.{names_of};
-ghost use Rattle.bd_path.specs.Positions.{passes_from};
-ghost use Rattle.bd_path.specs.Reach.{is_document, reach};
+ghost use Rattle.bd_path.specs.Reach.{document_ends, ends, index_ends, reach};
+ghost use Rattle.bd_path.specs.Walked.{NoneGathered};
 ghost use Rattle.bd_query.specs.Body.{is_suited, suits};
 ghost use Rattle.bd_query.specs.Filter.{filters_from, operators_from};
 ghost use Rattle.bd_query.specs.FilterMatch.{accepts, all_accept, all_hold, all_match, holds, matches, some_match};
 ghost use Rattle.bd_query.specs.FilterView.{filter_tree, operator_tree};
-ghost use Rattle.bd_query.specs.Walked.{InVain, NoDocumentPasses};
 
 use crate::body::Body;
 use crate::end_test::{
@@ -22,8 +21,7 @@ use crate::end_test::{
 use crate::filter::{Filter, Operator};
 use crate::relation::Relation;
 use crate::value_test::{EqualTo, OfKinds, ValueTest, equals_each, equals_some, is_related};
-use crate::walked::Walked;
-use bd_path::{Component, Path, any_end};
+use bd_path::{Component, Path, Walked, any_end, is_document};
 use bd_value::{Kind, Reading};
 
 /// Whether a value matches a filter. It takes no memory.
@@ -113,10 +111,9 @@ fn holds<N: Reading>(operator: &Operator, path: &Path, node: N) -> bool
     }
 }
 
-/// Whether, from a position of a path on, an element of an array at one of its ends suits the body of `$elemMatch`.
+/// Whether an element of an array at an end of the rest of a path suits the body of `$elemMatch`, from a component on.
 ///
-/// It goes down as `any_end` does. A test of an end can't come back to the operators: it would be called by its own walk. A value
-/// is walked once from each position, along a path that repeats an index too: `walked` tells where it was walked before.
+/// It goes down as `any_end` does. A test of an end can't come back to the operators: it would be called by its own walk.
 #[cycle(matching)]
 fn any_end_suits<N: Reading>(
     node: N,
@@ -127,8 +124,8 @@ fn any_end_suits<N: Reading>(
 ) -> bool
     requires few { length path.now ≤ 100 }
     requires at { k ≤ length path.now }
-    requires vain { InVain (is_suited body.now) (N.tree node) (component_names path.now) walked.now }
-    ensures { result ≡ passes_from (is_suited body.now) (N.tree node) (component_names path.now) k }
+    requires vain { NoneGathered (is_suited body.now) ends (N.tree node) (component_names path.now) walked.now }
+    ensures { result ≡ list_any (is_suited body.now) (reach (N.tree node) (drop k (component_names path.now))) }
 {
     if walked.has(k) {
         return false;
@@ -137,24 +134,37 @@ fn any_end_suits<N: Reading>(
         return any_suits(node, body);
     }
     match node.kind() {
-        Kind::Doc => {
-            let name = path[k].name.as_str();
-            match node.first(name) {
-                Some(value) => any_end_suits(
-                    value,
-                    path,
-                    k + 1,
-                    &walked.at_field(path, name),
-                    body,
-                ),
-                None => false,
-            }
-        }
+        Kind::Doc => any_end_suits_in_field(node, path, k, walked, body),
         Kind::Array => {
             any_end_suits_in_documents(node, path, k, walked, body)
                 || any_end_suits_at_index(node, path, k, walked, body)
         }
         _ => false,
+    }
+}
+
+/// The same in the field of a document.
+#[cycle(matching)]
+fn any_end_suits_in_field<N: Reading>(
+    node: N,
+    path: &[Component],
+    k: usize,
+    walked: &Walked,
+    body: &Body,
+) -> bool
+    requires few { length path.now ≤ 100 }
+    requires at { k < length path.now }
+    requires kind { kind_of (N.tree node) ≡ kinds.Doc }
+    requires vain { NoneGathered (is_suited body.now) ends (N.tree node) (component_names path.now) walked.now }
+    ensures { result ≡ list_any (is_suited body.now) (reach (N.tree node) (drop k (component_names path.now))) }
+{
+    let name = path[k].name.as_str();
+    match node.first(name) {
+        Some(value) => {
+            let inside = walked.at_field(path, name);
+            any_end_suits(value, path, k + 1, &inside, body)
+        }
+        None => false,
     }
 }
 
@@ -170,25 +180,28 @@ fn any_end_suits_in_documents<N: Reading>(
     requires few { length path.now ≤ 100 }
     requires at { k < length path.now }
     requires kind { kind_of (N.tree node) ≡ kinds.Array }
-    requires vain { InVain (is_suited body.now) (N.tree node) (component_names path.now) walked.now }
-    ensures some { IsTrue result → passes_from (is_suited body.now) (N.tree node) (component_names path.now) k ≡ true }
-    ensures none { IsFalse result → NoDocumentPasses (is_suited body.now) (N.tree node) (component_names path.now) k }
+    requires vain { NoneGathered (is_suited body.now) ends (N.tree node) (component_names path.now) walked.now }
+    ensures { result ≡ list_any (is_suited body.now) (document_ends (N.tree node) (drop k (component_names path.now))) }
 {
     let mut left = node.parts();
-    let mut i: usize = 0;
-    while let Some(part) = N::next(&left) {
-        if is_document(part.1)
-            && any_end_suits(part.1, path, k, &walked.at_document(path, i), body)
-        {
-            return true;
+    for i in 0..usize::MAX {
+        let Some(next) = N::next(&left) else {
+            return false;
+        };
+        if is_document(next.1) {
+            let inside = walked.at_document(path, i);
+            if any_end_suits(next.1, path, k, &inside, body) {
+                return true;
+            }
         }
-        left = part.2;
-        i = i.saturating_add(1);
+        left = next.2;
     }
+    // Nothing is left: an array has no more elements than can be counted.
+    let _count = node.len();
     false
 }
 
-/// The same in the element whose index the component is, where no document of the array has such an end.
+/// The same in the element of an array whose index the component is, where there is one, after its documents.
 #[cycle(matching)]
 fn any_end_suits_at_index<N: Reading>(
     node: N,
@@ -200,9 +213,9 @@ fn any_end_suits_at_index<N: Reading>(
     requires few { length path.now ≤ 100 }
     requires at { k < length path.now }
     requires kind { kind_of (N.tree node) ≡ kinds.Array }
-    requires vain { InVain (is_suited body.now) (N.tree node) (component_names path.now) walked.now }
-    requires documents { NoDocumentPasses (is_suited body.now) (N.tree node) (component_names path.now) k }
-    ensures { result ≡ passes_from (is_suited body.now) (N.tree node) (component_names path.now) k }
+    requires vain { NoneGathered (is_suited body.now) ends (N.tree node) (component_names path.now) walked.now }
+    requires documents { list_any (is_suited body.now) (document_ends (N.tree node) (drop k (component_names path.now))) ≡ false }
+    ensures { result ≡ list_any (is_suited body.now) (index_ends (N.tree node) (drop k (component_names path.now))) }
 {
     match path[k].index {
         Some(i) if i < node.len() => {
@@ -212,12 +225,6 @@ fn any_end_suits_at_index<N: Reading>(
         }
         _ => false,
     }
-}
-
-fn is_document<N: Reading>(node: N) -> bool
-    ensures { result ≡ is_document (N.tree node) }
-{
-    matches!(node.kind(), Kind::Doc)
 }
 
 /// Whether an element of an array suits the body of `$elemMatch`.

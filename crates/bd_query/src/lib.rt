@@ -19,7 +19,6 @@
 //! - `laws`: a document has no filter exactly where a pair or member of it breaks a rule: `specs/FilterBad.antt`.
 //! - `word`, `plain`, `operand`, `types`, `operand_types`: names that stand for something, and operands that are values.
 //! - `filter_match`: `matches`, whether a value matches a filter: `specs/FilterMatch.antt`.
-//! - `walked`: where `$elemMatch` walked a value before, so that it walks none twice from one position: `specs/Walked.antt`.
 //! - `relation`, `value_test`, `end_test`, `body`: what one value, an end of a path and an element for `$elemMatch` is asked.
 #![tactic(auto)]
 
@@ -37,7 +36,6 @@ mod plain;
 mod relation;
 mod types;
 mod value_test;
-mod walked;
 mod word;
 
 pub use fault::{FilterFault, FilterFaultKind};

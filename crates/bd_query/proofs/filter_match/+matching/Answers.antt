@@ -1,188 +1,220 @@
-use Rattle.std.proofs.Common.{◌≡◌, ◌&&◌, ◌+◌, ◌<◌, ◌≤◌, suc, List, ◌∷◌, Some, None, true, false, length, map, string_bytes, refl, sym, ap, ◌∙◌, arith, slice_get, subst}
+use Rattle.std.proofs.Common.{◌≡◌, ◌&&◌, List, Some, None, false, drop, map, string_bytes, refl, sym, ap, ◌∙◌, arith, slice_get}
 use Rattle.std.specs.List.{list_any}
-use Rattle.bd_value.specs.Kind.{kind_of}
 use Rattle.bd_value.specs.Lookup.{first_of}
 use Rattle.bd_value.specs.Parts.{elements_in, values_of}
-use Rattle.bd_value.specs.Tree.{Doc, Tree, fields_of, fields_size, pairs_in}
-use Rattle.bd_value.specs.declared.kind.Kind.TheVariants as kinds
+use Rattle.bd_value.specs.Tree.{Doc, Tree, fields_of, fields_size, items_of, pairs_in}
 use Rattle.bd_value.proofs.PartsLemmas as parted
 use Rattle.bd_path.specs.Names.{Names, component_names}
 use Rattle.bd_path.specs.PathNames.{names_of}
-use Rattle.bd_path.specs.Positions.{ends_from, passes_from}
-use Rattle.bd_path.specs.Reach.{is_document, reach}
+use Rattle.bd_path.specs.Component.{held_index}
+use Rattle.bd_path.specs.Reach.{document_ends, each_gathering, ends, index_ends, is_document, reach}
 use Rattle.bd_path.specs.declared.component.Component.{Component}
+use Rattle.bd_path.proofs.EndsLemmas as some_end
 use Rattle.bd_path.proofs.PositionsLemmas as at
 use Rattle.bd_path.proofs.ReachLemmas as down
+use Rattle.bd_path.proofs.WalkedLemmas as walked
 use Rattle.bd_query.specs.Body.{is_suited, suits}
 use Rattle.bd_query.specs.Filter.{filters_from, operators_from}
 use Rattle.bd_query.specs.FilterMatch.{all_accept, all_match, any_candidate, holds, is_of_type, is_value}
 use Rattle.bd_query.specs.FilterView.{filter_tree, operator_tree}
 use Rattle.bd_query.specs.declared.body.Body.TheVariants as bodies
 use Rattle.bd_query.proofs.FilterViewLemmas.{operator_tree-ElemMatch, operator_tree-ElemMatchDocument, operator_tree-Type}
-use Rattle.bd_query.proofs.WalkedLemmas as walked
 use Rattle.bd_query.proofs.filter_match.+matching.Goals as goal
-use Rattle.bd_query.proofs.filter_match.+matching.Goals.{any_end_suits_in_documents-else-is_document-via-then-is_document+else-any_end_suits, any_end_suits_in_documents-else-is_document-via-else-is_document}
+use Rattle.bd_query.proofs.filter_match.+matching.Goals.{any_end_suits_in_documents-then-is_document+else-any_end_suits, any_end_suits_in_documents-else-is_document}
 
 pub any_end_suits-returns-then-k-path : goal.any_end_suits-returns-then-k-path
 any_end_suits-returns-then-k-path g t c =
     let n = g.N.Reading.tree c.args.node in
-    let f = is_suited c.args.body.now in
     let cs = c.args.path.now in
-    sym (at.one f (Some n) (ends_from n (component_names cs) c.args.k) c.any_suits.result (at.at_end n (component_names cs) c.args.k (c.if-k-path.true ∙ sym (at.as_many cs))) (sym c.any_suits.ensures))
+    some_end.one (is_suited c.args.body.now) (Some n) c.any_suits.result _ c.any_suits.ensures (walked.end_is ends n (component_names cs) c.args.k (c.if-k-path.true ∙ sym (at.as_many cs)))
 
-pub any_end_suits-any_end_suits-requires : goal.any_end_suits-any_end_suits-requires
-any_end_suits-any_end_suits-requires g t c κs within =
+pub any_end_suits-returns-then-any_end_suits_in_documents : goal.any_end_suits-returns-then-any_end_suits_in_documents
+any_end_suits-returns-then-any_end_suits_in_documents g t c =
     let n = g.N.Reading.tree c.args.node in
-    let f = is_suited c.args.body.now in
     let cs = c.args.path.now in
-    let u = g.N.Reading.tree c.in-Some.value in
-    let e : first_of c.as_str-name.result.now (pairs_in n) ≡ Some u = sym c.in-Some.ensures.first in
-    let smaller = down.first_smaller c.as_str-name.result.now n u e in
-    let measure = c.decreases in
-    let vain = c.at_field.ensures f n u (sym c.kind.ensures ∙ c.in-Doc.is) e c.requires.vain in
-    (omega arith, (within.0, (within.1, (c.requires.few, (omega arith, vain)))))
+    let many = at.as_many cs in
+    let m = at.named (component_names cs) c.args.k (omega (arith, many, c.requires.at, c.if-k-path.false)) in
+    some_end.in_first (is_suited c.args.body.now) c.any_end_suits_in_documents.result _ (index_ends n (drop c.args.k (component_names cs))) _ c.any_end_suits_in_documents.ensures c.if-any_end_suits_in_documents.true
+    (walked.parts_are ends n (component_names cs) c.args.k m.name (sym c.kind.ensures ∙ c.in-Array.is) m.is_there)
 
-pub any_end_suits-returns-in-Some : goal.any_end_suits-returns-in-Some
-any_end_suits-returns-in-Some g t c =
+pub any_end_suits-returns-else-any_end_suits_in_documents : goal.any_end_suits-returns-else-any_end_suits_in_documents
+any_end_suits-returns-else-any_end_suits_in_documents g t c =
     let n = g.N.Reading.tree c.args.node in
-    let f = is_suited c.args.body.now in
     let cs = c.args.path.now in
-    let s = c.as_str-name.result in
-    let below : c.args.k < length cs = omega arith in
-    let there : slice_get (component_names cs) c.args.k ≡ Some s.now = at.name_at cs c.args.k c.index-path-k.result below c.index-path-k.is ∙ ap (λ (x : Component). at.some_name (string_bytes x.name)) c.index-path-k.is ∙ ap at.some_name (sym c.as_str-name.ensures.value) in
-    let u = g.N.Reading.tree c.in-Some.value in
-    let e : first_of s.now (pairs_in n) ≡ Some u = sym c.in-Some.ensures.first in
-    let next : c.args.k + 1 ≡ suc c.args.k = omega arith in
-    c.any_end_suits.ensures ∙ ap (passes_from f u (component_names cs)) next ∙ sym (ap (list_any f) (at.found n u (component_names cs) c.args.k s.now (sym c.kind.ensures ∙ c.in-Doc.is) e there))
-
-pub any_end_suits-returns-in-None : goal.any_end_suits-returns-in-None
-any_end_suits-returns-in-None g t c =
-    let n = g.N.Reading.tree c.args.node in
-    let f = is_suited c.args.body.now in
-    let cs = c.args.path.now in
-    let s = c.as_str-name.result in
-    let below : c.args.k < length cs = omega arith in
-    let there : slice_get (component_names cs) c.args.k ≡ Some s.now = at.name_at cs c.args.k c.index-path-k.result below c.index-path-k.is ∙ ap (λ (x : Component). at.some_name (string_bytes x.name)) c.index-path-k.is ∙ ap at.some_name (sym c.as_str-name.ensures.value) in
-    let e : first_of s.now (pairs_in n) ≡ None = sym c.in-None.ensures.first in
-    sym (at.one f None (ends_from n (component_names cs) c.args.k) false (at.lost n (component_names cs) c.args.k s.now (sym c.kind.ensures ∙ c.in-Doc.is) e there) refl)
+    let many = at.as_many cs in
+    let m = at.named (component_names cs) c.args.k (omega (arith, many, c.requires.at, c.if-k-path.false)) in
+    some_end.in_second (is_suited c.args.body.now) c.any_end_suits_in_documents.result c.any_end_suits_at_index.result (document_ends n (drop c.args.k (component_names cs))) (index_ends n (drop c.args.k (component_names cs))) _ c.any_end_suits_in_documents.ensures c.if-any_end_suits_in_documents.false c.any_end_suits_at_index.ensures
+    (walked.parts_are ends n (component_names cs) c.args.k m.name (sym c.kind.ensures ∙ c.in-Array.is) m.is_there)
 
 pub any_end_suits-returns-in_default : goal.any_end_suits-returns-in_default
 any_end_suits-returns-in_default g t c =
     let n = g.N.Reading.tree c.args.node in
-    let f = is_suited c.args.body.now in
     let cs = c.args.path.now in
     let many = at.as_many cs in
-    let no_doc = λ (e : kind_of n ≡ kinds.Doc). c.in_default.not-Doc (c.kind.ensures ∙ e) in
-    let no_array = λ (e : kind_of n ≡ kinds.Array). c.in_default.not-Array (c.kind.ensures ∙ e) in
-    sym (at.one f None (ends_from n (component_names cs) c.args.k) false (at.of_other n (component_names cs) c.args.k no_doc no_array (omega (arith, many))) refl)
+    some_end.one (is_suited c.args.body.now) None false _ refl
+    (walked.other_is ends n (component_names cs) c.args.k (λ e. c.in_default.not-Doc (c.kind.ensures ∙ e)) (λ e. c.in_default.not-Array (c.kind.ensures ∙ e)) (omega (arith, many, c.requires.at, c.if-k-path.false)))
 
-pub any_end_suits_at_index-any_end_suits-requires : goal.any_end_suits_at_index-any_end_suits-requires
-any_end_suits_at_index-any_end_suits-requires g t c κs within =
+pub any_end_suits_in_field-any_end_suits-requires : goal.any_end_suits_in_field-any_end_suits-requires
+any_end_suits_in_field-any_end_suits-requires g t c κs within =
     let n = g.N.Reading.tree c.args.node in
-    let f = is_suited c.args.body.now in
-    let cs = c.args.path.now in
-    let len = down.length_elements n c.requires.kind in
-    let long : length (elements_in n) ≤ 18446744073709551615 = omega (arith, c.len.type_inv, c.len.ensures, len) in
-    let u = g.N.Reading.tree c.element-element.result in
-    let smaller = down.element_smaller n c.in-Some.i u c.element-element.ensures.element in
-    let measure = c.decreases in
-    let vain = c.at_index-inside.ensures f n u c.requires.kind long c.element-element.ensures.element c.is_document.ensures c.requires.documents c.requires.vain in
-    (omega arith, (within.0, (within.1, (c.requires.few, (omega arith, vain)))))
+    let u = g.N.Reading.tree c.in-Some.value in
+    let s = c.as_str-name.result in
+    let e : first_of s.now (pairs_in n) ≡ Some u = sym c.in-Some.ensures.first in
+    let small = down.first_smaller s.now n u e in
+    let d = c.decreases in
+    let f = is_suited c.args.body.now in (
+      omega arith,
+      (
+        within.0,
+        (
+          within.1,
+          (
+            c.requires.few,
+            (
+              omega (arith, c.requires.at),
+              walked.field_inside f ends (some_end.keeps_ends f) n c.args.path.now c.args.walked.now c.requires.vain s u c.at_field-inside.result c.requires.kind e c.at_field-inside.ensures,
+            ),
+          ),
+        ),
+      ),
+    )
 
-pub any_end_suits_at_index-returns-in-Some : goal.any_end_suits_at_index-returns-in-Some
-any_end_suits_at_index-returns-in-Some g t c =
+pub any_end_suits_in_field-returns-in-Some : goal.any_end_suits_in_field-returns-in-Some
+any_end_suits_in_field-returns-in-Some g t c =
     let n = g.N.Reading.tree c.args.node in
-    let f = is_suited c.args.body.now in
+    let u = g.N.Reading.tree c.in-Some.value in
     let cs = c.args.path.now in
-    let len = down.length_elements n c.requires.kind in
-    let long : length (elements_in n) ≤ 18446744073709551615 = omega (arith, c.len.type_inv, c.len.ensures, len) in
-    let here = walked.indexed cs c.args.k _ (Some c.in-Some.i) c.requires.at c.in-Some.is in
-    let u = g.N.Reading.tree c.element-element.result in
-    let next : c.args.k + 1 ≡ suc c.args.k = omega arith in
-    c.any_end_suits.ensures ∙ ap (passes_from f u (component_names cs)) next
-    ∙ sym (walked.at_that_index f n cs c.args.k c.requires.kind long c.requires.at c.requires.documents here.name here.is_there c.in-Some.i u here.index c.element-element.ensures.element)
+    let s = c.as_str-name.result in
+    let there : slice_get (component_names cs) c.args.k ≡ Some s.now = at.name_at cs c.args.k c.index-path-k.result c.requires.at c.index-path-k.is ∙ ap (λ (x : Component). at.some_name (string_bytes x.name)) c.index-path-k.is ∙ ap at.some_name (sym c.as_str-name.ensures.value) in
+    let e : first_of s.now (pairs_in n) ≡ Some u = sym c.in-Some.ensures.first in
+    c.any_end_suits.ensures ∙ ap (list_any (is_suited c.args.body.now)) (sym (walked.field_is ends n (component_names cs) c.args.k s.now u c.requires.kind there e))
 
-pub any_end_suits_at_index-returns-in_default : goal.any_end_suits_at_index-returns-in_default
-any_end_suits_at_index-returns-in_default g t c =
+pub any_end_suits_in_field-returns-in-None : goal.any_end_suits_in_field-returns-in-None
+any_end_suits_in_field-returns-in-None g t c =
     let n = g.N.Reading.tree c.args.node in
-    let f = is_suited c.args.body.now in
     let cs = c.args.path.now in
-    let len = down.length_elements n c.requires.kind in
-    let long : length (elements_in n) ≤ 18446744073709551615 = omega (arith, c.len.type_inv, c.len.ensures, len) in
-    let here = walked.indexed cs c.args.k _ (Some c.in-Some.i) c.requires.at c.in-Some.is in
-    sym (walked.past_index f n cs c.args.k c.requires.kind long c.requires.at c.requires.documents here.name here.is_there c.in-Some.i here.index (omega (arith, c.if-i-len.false, c.len.ensures, len)))
+    let s = c.as_str-name.result in
+    let there : slice_get (component_names cs) c.args.k ≡ Some s.now = at.name_at cs c.args.k c.index-path-k.result c.requires.at c.index-path-k.is ∙ ap (λ (x : Component). at.some_name (string_bytes x.name)) c.index-path-k.is ∙ ap at.some_name (sym c.as_str-name.ensures.value) in
+    let e : first_of s.now (pairs_in n) ≡ None = sym c.in-None.ensures.first in
+    some_end.one (is_suited c.args.body.now) None false _ refl (walked.lost_is ends n (component_names cs) c.args.k s.now c.requires.kind there e)
 
-pub any_end_suits_at_index-returns-in_default-2 : goal.any_end_suits_at_index-returns-in_default-2
-any_end_suits_at_index-returns-in_default-2 g t c =
+pub any_end_suits_in_documents-loop-i-init : goal.any_end_suits_in_documents-loop-i-init
+any_end_suits_in_documents-loop-i-init g t c =
     let n = g.N.Reading.tree c.args.node in
-    let f = is_suited c.args.body.now in
-    let cs = c.args.path.now in
-    let here = walked.indexed cs c.args.k _ None c.requires.at c.in_default.is in
-    sym (walked.no_index f n (component_names cs) c.args.k here.name c.requires.kind here.is_there here.index c.requires.documents)
-
-pub any_end_suits_in_documents-loop-part-init : goal.any_end_suits_in_documents-loop-part-init
-any_end_suits_in_documents-loop-part-init g t c =
-    let n = g.N.Reading.tree c.args.node in
-    let f = is_suited c.args.body.now in
-    let cs = c.args.path.now in
     let ps = g.N.Reading.left c.parts-left.result in
+    let parts = down.parts_are n ps c.requires.kind c.parts-left.ensures.parts in
     record {
-      walking = walked.begun f n cs c.args.k (values_of ps) (down.parts_are n ps c.requires.kind c.parts-left.ensures.parts);
+      left = parts;
+      so_far = ap (λ (es : List Tree). list_any (is_suited c.args.body.now) (each_gathering ends (items_of es) (drop c.args.k (component_names c.args.path.now)))) parts;
       smaller = parted.parts_smaller n ps c.parts-left.ensures.parts;
     }
 
 pub any_end_suits_in_documents-any_end_suits-requires : goal.any_end_suits_in_documents-any_end_suits-requires
 any_end_suits_in_documents-any_end_suits-requires g t c κs within =
     let n = g.N.Reading.tree c.args.node in
+    let u = g.N.Reading.tree c.in-Some.next.1 in
+    let us = values_of (g.N.Reading.left c.in-Some.next.2) in
+    let left = sym (ap values_of c.in-Some.ensures.some) ∙ c.loop-i.invariant.left in
+    let here = at.next_is (elements_in n) c.loop-i.i u us left in
     let f = is_suited c.args.body.now in
-    let cs = c.args.path.now in
-    let u = g.N.Reading.tree c.in-Some.part.1 in
-    let us = values_of (g.N.Reading.left c.in-Some.part.2) in
-    let w : walked.Walking f n cs c.args.k (u ∷ us) c.loop-part.i = subst (λ (x : List Tree). walked.Walking f n cs c.args.k x c.loop-part.i) (ap values_of c.in-Some.ensures.some) c.loop-part.invariant.walking in
-    let here : slice_get (elements_in n) w.place ≡ Some u = walked.is_next f n cs c.args.k u us c.loop-part.i w in
-    let size = ap (λ (x : Doc). fields_size (fields_of x)) c.in-Some.ensures.some in
-    let measure = c.decreases in
-    let vain = c.at_document.ensures f n u w.place c.requires.kind here (sym c.is_document.ensures ∙ c.if-is_document.true) w.counted c.requires.vain in
-    (omega (arith, size, c.loop-part.invariant.smaller), (within.0, (within.1, (c.requires.few, (omega arith, vain)))))
+    let small = down.element_smaller n c.loop-i.i u here in
+    let d = c.decreases in (
+      omega arith,
+      (
+        within.0,
+        (
+          within.1,
+          (
+            c.requires.few,
+            (
+              omega (arith, c.requires.at),
+              walked.document_inside f ends (some_end.keeps_ends f) n c.args.path.now c.args.walked.now c.requires.vain c.requires.kind c.loop-i.i u c.at_document-inside.result here (omega (arith, c.loop-i-test.true))
+                  (sym c.is_document.ensures ∙ c.if-is_document.true) c.at_document-inside.ensures,
+            ),
+          ),
+        ),
+      ),
+    )
 
-pub any_end_suits_in_documents-returns-then-any_end_suits-clause-some : goal.any_end_suits_in_documents-returns-then-any_end_suits-clause-some
-any_end_suits_in_documents-returns-then-any_end_suits-clause-some g t c h =
+pub any_end_suits_in_documents-loop-i-preserved : goal.any_end_suits_in_documents-loop-i-preserved
+any_end_suits_in_documents-loop-i-preserved g t c =
     let n = g.N.Reading.tree c.args.node in
     let f = is_suited c.args.body.now in
-    let cs = c.args.path.now in
-    let u = g.N.Reading.tree c.in-Some.part.1 in
-    let us = values_of (g.N.Reading.left c.in-Some.part.2) in
-    let w : walked.Walking f n cs c.args.k (u ∷ us) c.loop-part.i = subst (λ (x : List Tree). walked.Walking f n cs c.args.k x c.loop-part.i) (ap values_of c.in-Some.ensures.some) c.loop-part.invariant.walking in
-    let here : slice_get (elements_in n) w.place ≡ Some u = walked.is_next f n cs c.args.k u us c.loop-part.i w in
-    let many = at.as_many cs in
-    at.some_in_document f n u (component_names cs) c.args.k w.place c.requires.kind here (sym c.is_document.ensures ∙ c.if-is_document.true) (omega (arith, many, c.requires.at)) (sym c.any_end_suits.ensures ∙ c.if-any_end_suits.true)
-
-pub any_end_suits_in_documents-loop-part-preserved : goal.any_end_suits_in_documents-loop-part-preserved
-any_end_suits_in_documents-loop-part-preserved g t c =
-    let n = g.N.Reading.tree c.args.node in
-    let f = is_suited c.args.body.now in
-    let cs = c.args.path.now in
-    let u = g.N.Reading.tree c.in-Some.part.1 in
-    let us = values_of (g.N.Reading.left c.in-Some.part.2) in
-    let w : walked.Walking f n cs c.args.k (u ∷ us) c.loop-part.i = subst (λ (x : List Tree). walked.Walking f n cs c.args.k x c.loop-part.i) (ap values_of c.in-Some.ensures.some) c.loop-part.invariant.walking in
-    let here : slice_get (elements_in n) w.place ≡ Some u = walked.is_next f n cs c.args.k u us c.loop-part.i w in
+    let p = drop c.args.k (component_names c.args.path.now) in
+    let u = g.N.Reading.tree c.in-Some.next.1 in
+    let us = values_of (g.N.Reading.left c.in-Some.next.2) in
+    let is = ap values_of c.in-Some.ensures.some in
+    let left = sym is ∙ c.loop-i.invariant.left in
     let size = ap (λ (x : Doc). fields_size (fields_of x)) c.in-Some.ensures.some in
-    let now : is_document u ≡ true → passes_from f u (component_names cs) c.args.k ≡ false =
-    elim c.else-is_document.branch [
-      | any_end_suits_in_documents-else-is_document-via-then-is_document+else-any_end_suits w ↦ λ d. sym w.any_end_suits.ensures ∙ w.if-any_end_suits.false
-      | any_end_suits_in_documents-else-is_document-via-else-is_document w ↦ λ d. absurd (walked.not_both (is_document u) d (sym c.is_document.ensures ∙ w.if-is_document.false))
-    ] in
     record {
-      walking = walked.stepped f n cs c.args.k u us c.loop-part.i c.saturating_add-i.result c.saturating_add-i.ensures w now;
-      smaller = omega (arith, size, c.loop-part.invariant.smaller);
+      left = at.left_after (elements_in n) c.loop-i.i u us left;
+      so_far = elim c.if-is_document.branch [
+        | any_end_suits_in_documents-then-is_document+else-any_end_suits w ↦
+            some_end.document_passed f p u _ us _ c.loop-i.invariant.so_far is (sym c.is_document.ensures ∙ w.if-is_document.true) (sym w.any_end_suits.ensures ∙ w.if-any_end_suits.false)
+        | any_end_suits_in_documents-else-is_document w ↦ some_end.other_passed f p u _ us _ c.loop-i.invariant.so_far is (sym c.is_document.ensures ∙ w.if-is_document.false)
+      ];
+      smaller = omega (arith, size, c.loop-i.invariant.smaller);
     }
 
-pub any_end_suits_in_documents-returns-clause-none : goal.any_end_suits_in_documents-returns-clause-none
-any_end_suits_in_documents-returns-clause-none g t c h =
+pub any_end_suits_at_index-any_end_suits-requires : goal.any_end_suits_at_index-any_end_suits-requires
+any_end_suits_at_index-any_end_suits-requires g t c κs within =
     let n = g.N.Reading.tree c.args.node in
+    let u = g.N.Reading.tree c.element-element.result in
     let f = is_suited c.args.body.now in
+    let small = down.element_smaller n c.in-Some.i u c.element-element.ensures.element in
+    let d = c.decreases in (
+      omega arith,
+      (
+        within.0,
+        (
+          within.1,
+          (
+            c.requires.few,
+            (
+              omega (arith, c.requires.at),
+              walked.index_inside f ends (some_end.keeps_ends f) n c.args.path.now c.args.walked.now c.requires.vain c.requires.kind c.args.k c.in-Some.i u c.at_index-inside.result c.element-element.ensures.element
+                  (omega (arith, c.len.type_inv, c.if-i-len.true)) c.is_document.result c.is_document.ensures c.requires.documents c.at_index-inside.ensures,
+            ),
+          ),
+        ),
+      ),
+    )
+
+pub any_end_suits_at_index-returns-in-Some : goal.any_end_suits_at_index-returns-in-Some
+any_end_suits_at_index-returns-in-Some g t c =
+    let n = g.N.Reading.tree c.args.node in
+    let u = g.N.Reading.tree c.element-element.result in
     let cs = c.args.path.now in
-    walked.ended f n cs c.args.k c.loop-part.i (subst (λ (x : List Tree). walked.Walking f n cs c.args.k x c.loop-part.i) (ap values_of c.in_default.ensures.none) c.loop-part.invariant.walking)
+    let names = component_names cs in
+    let m = string_bytes c.index-path-k.result.name in
+    let there = at.name_at cs c.args.k c.index-path-k.result c.requires.at c.index-path-k.is in
+    let held : held_index m ≡ Some c.in-Some.i = walked.index_at cs c.args.k c.index-path-k.result _ _ c.requires.at c.index-path-k.is c.in-Some.is in
+    c.any_end_suits.ensures
+    ∙ ap (list_any (is_suited c.args.body.now))
+    (sym (walked.first_is ends n names c.args.k m there ∙ walked.element_at ends (elements_in n) m names c.args.k c.in-Some.i u held (omega (arith, c.len.type_inv, c.if-i-len.true)) c.element-element.ensures.element))
+
+pub any_end_suits_at_index-returns-in_default : goal.any_end_suits_at_index-returns-in_default
+any_end_suits_at_index-returns-in_default g t c =
+    let n = g.N.Reading.tree c.args.node in
+    let cs = c.args.path.now in
+    let names = component_names cs in
+    let m = string_bytes c.index-path-k.result.name in
+    let there = at.name_at cs c.args.k c.index-path-k.result c.requires.at c.index-path-k.is in
+    let held : held_index m ≡ Some c.in-Some.i = walked.index_at cs c.args.k c.index-path-k.result _ _ c.requires.at c.index-path-k.is c.in-Some.is in
+    let len = down.length_elements n c.requires.kind in
+    sym (ap (list_any (is_suited c.args.body.now))
+    (walked.first_is ends n names c.args.k m there
+    ∙ walked.none_there ends (elements_in n) m _ c.in-Some.i held (omega (arith, c.if-i-len.false, c.len.ensures, len)) (omega (arith, c.len.type_inv, c.len.ensures, len))))
+
+pub any_end_suits_at_index-returns-in_default-2 : goal.any_end_suits_at_index-returns-in_default-2
+any_end_suits_at_index-returns-in_default-2 g t c =
+    let n = g.N.Reading.tree c.args.node in
+    let cs = c.args.path.now in
+    let names = component_names cs in
+    let m = string_bytes c.index-path-k.result.name in
+    let there = at.name_at cs c.args.k c.index-path-k.result c.requires.at c.index-path-k.is in
+    let held : held_index m ≡ None = walked.index_at cs c.args.k c.index-path-k.result _ _ c.requires.at c.index-path-k.is c.in_default.is in
+    sym (ap (list_any (is_suited c.args.body.now)) (walked.first_is ends n names c.args.k m there ∙ walked.no_index ends (elements_in n) m _ held))
 
 pub any_suits-loop-next-init : goal.any_suits-loop-next-init
 any_suits-loop-next-init g t c =
