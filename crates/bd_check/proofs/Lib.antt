@@ -1,5 +1,5 @@
 pub mod NoFaultLemmas
-pub mod AtOnceLemmas
+pub mod FastPathLemmas
 pub mod DumpLemmas
 pub mod ElementsLemmas
 pub mod HolderLemmas

@@ -13,7 +13,7 @@ use Rattle.bd_path.specs.KeyList.{all_keys, distinct, indexed_keys, with_keys}
 use Rattle.bd_path.specs.Names.{Names}
 use Rattle.bd_path.proofs.MemberLemmas.{In, in_left, in_right, in_cases}
 use Rattle.bd_index.specs.Entries.{KeyAt, entries_from, entry_cmp, is_same_entry, keys_at}
-use Rattle.bd_index.specs.Once.{each_once, has_same, is_repeat, without_repeats}
+use Rattle.bd_index.specs.Repeats.{each_once, has_same, is_repeat, without_repeats}
 use Rattle.bd_index.proofs.DocumentLemmas.{next_at}
 use Rattle.bd_index.proofs.EntryLemmas.{entry_total, other_back, same_back, same_between, same_itself, same_on}
 

@@ -5,7 +5,7 @@ use Rattle.bd_bson.specs.Collection.{documents}
 use Rattle.bd_path.specs.Key.{key_trees}
 use Rattle.bd_path.specs.KeyList.{distinct}
 use Rattle.bd_path.specs.PathNames.{names_of}
-use Rattle.bd_index.specs.FoundView.{found_entry, raw_tree}
+use Rattle.bd_index.specs.FoundKeyView.{found_entry, raw_tree}
 use Rattle.bd_index.proofs.RepeatLemmas.{low_more, one_more}
 use Rattle.bd_index.proofs.entries.find_all.Goals as goal
 

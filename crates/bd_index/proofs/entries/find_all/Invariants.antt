@@ -3,8 +3,8 @@ use Rattle.std.specs.List.{AllByRecursion}
 use Rattle.bd_bson.specs.Collection.{documents, bytes_of}
 use Rattle.bd_path.specs.PathNames.{names_of}
 use Rattle.bd_index.specs.Entries.{entries_from, entries_of}
-use Rattle.bd_index.specs.FoundView.{AreFoundIn, found_entry}
-use Rattle.bd_index.specs.Once.{each_once}
+use Rattle.bd_index.specs.FoundKeyView.{AreFoundIn, found_entry}
+use Rattle.bd_index.specs.Repeats.{each_once}
 use Rattle.bd_index.proofs.entries.find_all.Given as goal
 
 abbrev pub invariant-loop-place : goal.invariant-loop-place
