@@ -2,19 +2,41 @@
 //! ASCII name, as most elements are. No fault is made here, and so nothing is kept for one. What is none of these, or may have
 //! a fault, is gone past part by part.
 
-ghost use Rattle.std.specs.Prelude.{◌≡◌, ◌≤◌, ◌<◌, ◌==◌, ◌||◌, ◌+◌, ℕ, length, drop, position, take, nat_lt, Option, Some, Ok, true, IfSome, IsTrue};
+ghost use Rattle.std.specs.Prelude.{◌≡◌, ◌≤◌, ◌<◌, ◌==◌, ◌||◌, ◌+◌, ℕ, length, drop, map, position, take, nat_lt, Option, Some, Ok, true, IfSome, IsTrue};
+ghost use Rattle.std.specs.Simd.Lanes.{mask_l};
 ghost use Rattle.std.specs.Str.{is_utf8};
 ghost use Rattle.bd_check.specs.FirstFault.{Nested, past_element, past_value, past_string};
 
 use crate::parts::is_text;
 use bd_raw::{ElementType, element_type, raw_parts as raw};
 use bd_value::Kind;
+use std::simd::prelude::*;
+
+/// How many bytes are looked at together. Most names are shorter.
+const LANES: usize = 16;
+
+/// Which of the bytes are zero or not ASCII, a bit each.
+#[inline(always)]
+fn ascii_ends(bytes: u8x16) -> u64
+    ensures { result ≡ mask_l (map (λ b. b == 0 || nat_lt 127 b) bytes) }
+{
+    // By half the range further, they are the lowest.
+    (bytes + u8x16::splat(128))
+        .simd_le(u8x16::splat(128))
+        .to_bitmask()
+}
 
 /// The place of the first byte that is zero or not ASCII.
 #[inline(always)]
 fn ascii_end(bytes: &[u8]) -> Option<usize>
     ensures { result ≡ position (λ b. b == 0 || nat_lt 127 b) bytes.now }
 {
+    if bytes.len() >= LANES {
+        let found = ascii_ends(u8x16::from_slice(bytes));
+        if found != 0 {
+            return Some(found.trailing_zeros() as usize);
+        }
+    }
     bytes.iter().position(|b| *b == 0 || *b > 127)
 }
 

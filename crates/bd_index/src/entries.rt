@@ -1,15 +1,15 @@
 //! The keys of all documents, while they are put in order.
 
-ghost use Rattle.std.specs.Prelude.{◌≡◌, ◌++◌, List, ℕ, None, map, IfOk, OnOk};
+ghost use Rattle.std.specs.Prelude.{◌≡◌, ◌++◌, List, [], ℕ, None, map, IfOk, OnOk};
 ghost use Rattle.bd_raw.specs.Sound.{stands};
 ghost use Rattle.bd_bson.specs.Collection.{documents, bytes_of};
 ghost use Rattle.bd_path.specs.Key.{AreKeysOf, IsKeyOf, key_tree, key_trees};
 ghost use Rattle.bd_path.specs.PathNames.{names_of};
-ghost use Rattle.bd_index.specs.Entries.{all_entries_from, entry_cmp, keys_at};
+ghost use Rattle.bd_index.specs.Entries.{entries_of, entry_cmp, keys_at};
 ghost use Rattle.bd_index.specs.FoundKeyView.{AreFoundIn, found_entry, last_entry, raw_source, raw_tree};
 ghost use Rattle.bd_index.specs.IndexView.{KeepsDump};
 ghost use Rattle.bd_index.specs.EntryView.{KeepsEntries};
-ghost use Rattle.bd_index.specs.Repeats.{is_repeat, without_repeats};
+ghost use Rattle.bd_index.specs.Repeats.{each_once, is_repeat, without_repeats};
 
 use crate::entry::Entry;
 use crate::found_key::FoundKey;
@@ -39,14 +39,14 @@ pub(crate) fn entries_of(
     Ok(entries)
 }
 
-/// The keys of all documents, equal ones too, in the order of the documents.
+/// The keys of all documents, some equal ones too, in the order of the documents.
 fn find_all<'a>(
     alloc: Global,
     dump: &'a Dump,
     path: &Path,
     sparse: bool,
 ) -> Result<Vec<FoundKey<'a>>, NoMemory>
-    ensures found { IfOk result (λ v. map found_entry v.items ≡ all_entries_from sparse (names_of path.now) 0 (documents dump.now)) }
+    ensures found { IfOk result (λ v. each_once [] (map found_entry v.items) ≡ entries_of sparse (names_of path.now) (documents dump.now)) }
     ensures kept { IfOk result (λ v. AreFoundIn (bytes_of dump.now) v.items) }
 {
     let mut found = Vec::new(alloc);

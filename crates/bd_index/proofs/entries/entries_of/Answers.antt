@@ -1,10 +1,11 @@
-use Rattle.std.proofs.Common.{Bool, List, None, map, rules, sym, subst}
+use Rattle.std.proofs.Common.{Bool, List, None, map, rules, refl, sym, subst, ap, ◌∙◌}
+use Rattle.std.specs.List.{count_by}
 use Rattle.std.specs.Ordering.{is_lt}
 use Rattle.std.proofs.lemmas.Fn.{always_returns_same}
 use Rattle.std.proofs.lemmas.List.Sorted.{All-permutation, ranks_by}
 use Rattle.bd_bson.specs.Collection.{bytes_of, documents}
 use Rattle.bd_path.specs.PathNames.{names_of}
-use Rattle.bd_index.specs.Entries.{all_entries_from, entry_cmp}
+use Rattle.bd_index.specs.Entries.{entry_cmp}
 use Rattle.bd_index.specs.FoundKeyView.{AreFoundIn, IsFoundIn, found_entry}
 use Rattle.bd_index.specs.EntryView.{KeepsEntries}
 use Rattle.bd_index.specs.Repeats.{without_repeats}
@@ -19,8 +20,6 @@ returns c =
     let found = c.in_ok-found.found.items in
     let sorted = c.sort_by.new.self.items in
     let bytes = bytes_of c.args.dump.now in
-    let path = names_of c.args.path.now in
-    let ds = documents c.args.dump.now in
     let lt : FoundKey → FoundKey → Bool = found_lt in
     let weak = ranks_by entry_total found_entry in
     let answers = always_returns_same _ _ _ (λ a r h k. search rules) in
@@ -30,7 +29,7 @@ returns c =
       entries = without_repeats None (map found_entry sorted);
       stand = subst (λ (l : List FoundKey). KeepsEntries bytes c.in_ok-entries.entries.items (without_repeats None (map found_entry l))) c.deref.ensures.value (c.in_ok-entries.ensures bytes kept);
       are = record {
-        same = once_sorted c.args.sparse path ds (map found_entry sorted) up (as_they_came found sorted (all_entries_from c.args.sparse path 0 ds) c.in_ok-found.ensures.found (c.sort_by.ensures.stable lt weak answers));
+        same = λ test. once_sorted (map found_entry found) (map found_entry sorted) up (as_they_came found sorted (map found_entry found) refl (c.sort_by.ensures.stable lt weak answers)) test ∙ ap (count_by test) c.in_ok-found.ensures.found;
         sorted = sorted_from_ascend (without_repeats None (map found_entry sorted)) (repeats_ascend None (map found_entry sorted) up);
       };
     }
