@@ -11,7 +11,8 @@
 //! assert!(rt; text.as_slice() == b"{\"a\":{\"$numberInt\":\"1\"}}".as_slice());
 //! ```
 //!
-//! - `text`: `write_node`, over `scalar`, a row of the conversion table each, `json_string`, `number` and `encoded`.
+//! - `text`: `write_node`, over `scalar`, a row of the conversion table each, `held`, `json_string`, `plain`, `number`, `encoded`
+//!   and `room`, into which all of them write.
 //! - `read`: `read_doc`, over `reading`, one pass over the tokens of a text.
 //! - `laws`: what joins the two.
 #![tactic(auto)]
