@@ -14,12 +14,13 @@ ghost use Rattle.bd_wrapper.specs.Whole.{whole_64};
 ghost use Rattle.bd_wrapper.specs.Wrappers.{wrapper_of};
 ghost use Rattle.bd_pack.specs.Packable.{plain, IsPackable};
 
+use crate::put::{push_byte, push_label, push_string};
 use crate::short::{append_short, is_short};
 use bd_diagnose::{BRACKETS, LEVELS};
 use bd_extjson::{bare_number, read_wrapper, wrapper_named};
 use bd_value::{Kind, Tree, Value, has_zero};
 use bd_wrapper::Wrapper;
-use bd_write::{append_label, append_value, begin_body, end_body, write_text};
+use bd_write::{append_label, append_value, begin_body, end_body};
 use json::{Reader, Scratch, Token};
 use std::alloc::Global;
 
@@ -45,8 +46,8 @@ fn append_read(name: &str, value: Value, out: &mut Vec<u8>) -> Option<()>
 fn append_text(name: &str, text: &str, out: &mut Vec<u8>) -> Option<()>
     ensures { IfSome result (λ u. out.new.items ≡ out.old.items ++ element (leaf (trees.text text.now)) name.now (string text.now)) }
 {
-    append_label(Kind::Text, name, out).ok()?;
-    write_text(text, out).ok()
+    push_label(Kind::Text, name, out)?;
+    push_string(text, out)
 }
 
 /// Appends an element of a boolean.
@@ -54,8 +55,8 @@ fn append_text(name: &str, text: &str, out: &mut Vec<u8>) -> Option<()>
 fn append_bool(name: &str, truth: bool, out: &mut Vec<u8>) -> Option<()>
     ensures { IfSome result (λ u. out.new.items ≡ out.old.items ++ element (leaf (trees.boolean truth)) name.now (bytes_of (leaf (trees.boolean truth)))) }
 {
-    append_label(Kind::Bool, name, out).ok()?;
-    out.extend_from_slice(&[u8::from(truth)]).ok()
+    push_label(Kind::Bool, name, out)?;
+    push_byte(u8::from(truth), out)
 }
 
 /// Appends an element of a bare number.
@@ -106,7 +107,7 @@ fn append_next(
         Token::String(text) => append_text(name, text, out),
         Token::Number(text) => append_number(name, text, out),
         Token::Bool(b) => append_bool(name, b, out),
-        Token::Null => append_label(Kind::Null, name, out).ok(),
+        Token::Null => push_label(Kind::Null, name, out),
         Token::EndObject | Token::EndArray | Token::Key(_) | Token::Bad => None,
         Token::BeginArray => {
             if depth == 0 || room == 0 {

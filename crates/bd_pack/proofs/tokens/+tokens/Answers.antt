@@ -158,15 +158,14 @@ pub append_next-returns-in-Null-clause-gives : goal.append_next-returns-in-Null-
 append_next-returns-in-Null-clause-gives t c =
     let first : c.args.reader.now ≡ token_of c.in_ok-text.field-0 ∷ c.next.new.self = grind arith in
     let read = ap (through (wrap c.args.room)) (ap (value c.args.depth) (first ∙ ap (λ k. token_of k ∷ c.next.new.self) c.in-Null.is)) ∙ steps.read_null c.args.room c.args.depth c.next.new.self in
-    bodies.some_ok c.ok.result c.append_label.result _ _ c.ok.ensures.value c.append_label.ensures.ok
-    (λ label. (leaf trees.null, read, label.0))
+    bodies.if_some c.push_label.result _ _ c.push_label.ensures (λ e. (leaf trees.null, read, e))
 
 pub append_next-returns-in_ok-ok-in-BeginArray-clause-gives :
     goal.append_next-returns-in_ok-ok-in-BeginArray-clause-gives
 append_next-returns-in_ok-ok-in-BeginArray-clause-gives t c =
     let first : c.args.reader.now ≡ token_of c.in_ok-text.field-0 ∷ c.next.new.self = grind arith in
     let opened = ap (through (wrap c.args.room)) (ap (value c.args.depth) (first ∙ ap (λ k. token_of k ∷ c.next.new.self) c.in-BeginArray.is)) ∙ steps.array_read c.args.room c.args.depth c.next.new.self (omega arith) (omega arith) in
-    let label = bodies.on_ok c.append_label-in-BeginArray.result _ _ c.in_ok-ok-in-BeginArray.ensures.value c.append_label-in-BeginArray.ensures.ok in
+    let label = bodies.on_ok c.append_label.result _ _ c.in_ok-ok-in-BeginArray.ensures.value c.append_label.ensures.ok in
     bodies.if_some c.append_items.result _ _ c.append_items.ensures.gives
     (λ g. (array g.0, opened ∙ ap (parse_map array) g.1, g.2 ∙ ap (λ x. x ++ bytes_of (array g.0)) label.0 ∙ bodies.labelled c.args.out.now.items c.args.name.now (bytes_of (array g.0)) (type_byte kinds.Array)))
 
