@@ -1,6 +1,6 @@
 //! Documents read as commands.
 
-ghost use Rattle.std.specs.Prelude.{◌≡◌, ◌<◌, ◌⊎◌, [], take, IfErr, IfOk, OnOk, Some, Ok, Err, is_some, length, slice_get};
+ghost use Rattle.std.specs.Prelude.{◌≡◌, ◌<◌, ◌⊎◌, [], take, IfErr, IfOk, IsErrOf, OnOk, Some, Ok, Err, is_some, length, slice_get};
 ghost use Rattle.std.specs.Result.{result_err};
 ghost use Rattle.bd_value.specs.Lookup.{first_of};
 ghost use Rattle.bd_value.specs.Tree.{Doc, Pair};
@@ -24,12 +24,15 @@ use std::alloc::Global;
 /// # Errors
 ///
 /// The first fault, in this order: the first name, its value, the further fields as they stand, and then what is missing. Each
-/// further field is tried for `RepeatedField`, `UnknownField` and `BadField`, in this order. `NoMemory` where no memory was given.
+/// further field is tried for `RepeatedField`, `UnknownField` and `BadField`, in this order. `NoMemory` where no memory was given
+/// for a document that is a command.
 pub fn read_command(alloc: Global, document: &Document) -> Result<Command, CommandFault>
     ensures command { IfOk result (λ c. command_of (pairs document.now) ≡ Ok (command_tree c)) }
     ensures fault { IfErr result (λ f. (f ≡ NoMemory) ⊎ (command_of (pairs document.now) ≡ Err f)) }
     ensures keeps { OnOk result (IsCommandDocument (pairs document.now)) }
     ensures breaks { IfErr result (λ f. (f ≡ NoMemory) ⊎ IsFaultOf (pairs document.now) f) }
+    // Want of memory hides no fault.
+    ensures starved { IsErrOf result CommandFault.NoMemory → IsCommandDocument (pairs document.now) }
 {
     let Some(name) = first_command(document) else {
         return Err(CommandFault::UnknownCommand);
