@@ -12,6 +12,8 @@
 //! ```
 //!
 //! - `text`: `write_node`, over `scalar`, a row of the conversion table each, `json_string`, `number` and `encoded`.
+//! - `held`: what a value of a known kind holds.
+//! - `room`: text that is written into place, over room that was made for it; `plain`: texts copied there that need no escape.
 //! - `read`: `read_doc`, over `reading`, one pass over the tokens of a text.
 //! - `laws`: what joins the two.
 #![tactic(auto)]
