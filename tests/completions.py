@@ -8,6 +8,7 @@ import os
 import pty
 import re
 import select
+import shutil
 import subprocess
 import sys
 import tempfile
@@ -98,6 +99,10 @@ def fish(room: str) -> Callable[[str], set[str]]:
 
 
 def main() -> int:
+    missing = [shell for shell in ("bash", "zsh", "fish") if not shutil.which(shell)]
+    if missing:
+        print(f"not installed: {', '.join(missing)}", file=sys.stderr)
+        return 1
     passed = failed = 0
     with tempfile.TemporaryDirectory() as room:
         for name in DUMPS | OTHERS:
