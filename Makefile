@@ -2,7 +2,7 @@
 # make look       prints the documents of FILE, examples/shop.bson without it, by the program as it stands, with no proof
 # make test       passes all tests
 # make edits      tries wrong bodies, of CRATE alone where it is given: the proofs must refuse each
-# make bench      times the commands over a dump of MB megabytes, 20 without it, of documents of a KIND, mixed without it
+# make bench      times the commands over a dump of MB megabytes, 20 without it, of documents of a KIND, mixed without it; of several MB how cost grows
 # make install    puts the program, its man page, completions, licence and documents below PREFIX
 # make uninstall  takes them away
 # make clean      removes the program, and the proofs and builds that rt keeps
@@ -45,7 +45,7 @@ edits:
 	@tests/edits.sh $(CRATE)
 
 bench: bsonfind
-	$(PYTHON) bench/bench.py $(MB) 5 1 $(KIND)
+	$(PYTHON) bench/bench.py $(MB) --kind $(KIND)
 
 install: bsonfind
 	install -d "$(BIN)" "$(DOC)" "$(MAN)" "$(BASH)" "$(ZSH)" "$(FISH)"

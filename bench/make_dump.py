@@ -3,15 +3,18 @@
 
 usage: bench/make_dump.py NAME MEGABYTES [SEED [KIND]]     writes NAME.bson of so many megabytes, and NAME.jsonl
 
-KIND is counter, person, order, article, thread, numbers or wide; without it the first five are mixed.
+KIND is counter, person, order, article, thread, numbers or wide; without it the first five are mixed. Parts of it are made side by
+side, each of its own numbers, so that one of a gigabyte takes minutes.
 """
 
 import base64
 import json
+import multiprocessing
 import random
 import struct
 import sys
 from collections.abc import Callable
+from functools import partial
 from typing import Any
 
 WORDS = "red green blue alpha omega Łódź 東京 São Paulo queue river “quoted” back\\slash tab\t line\n naïve stone".split(" ")
@@ -103,6 +106,11 @@ def person(rng: random.Random, number: int) -> dict[str, Any]:
     }
 
 
+def order_number(number: int) -> int:
+    """Of each 65,536 orders in turn the numbers are mixed, so that an index on them is not made in order."""
+    return number - number % 65536 + number % 65536 * 40503 % 65536
+
+
 def order(rng: random.Random, number: int) -> dict[str, Any]:
     def item() -> dict[str, Any]:
         return {"sku": f"SKU-{rng.randrange(10000):04}", "cents": Long(rng.randrange(1 << 40)), "gift": rng.random() < 0.1}
@@ -113,6 +121,7 @@ def order(rng: random.Random, number: int) -> dict[str, Any]:
         "customer": {"name": words(rng, 1, 3), "referrer": None},
         "items": [item() for _ in range(rng.randrange(12))],
         "uuid": rng.randbytes(16),
+        "order_no": order_number(number),
     }
 
 
@@ -141,18 +150,31 @@ KINDS: dict[str, Kind] = {kind.__name__: kind for kind in (counter, person, orde
 SHARES: dict[Kind, int] = {counter: 30, person: 35, order: 25, article: 2, thread: 8}
 
 
+# How many bytes are made at once, and how far the numbers of its documents are from those of the next.
+PART = 10_000_000
+APART = 1 << 20
+
+
+def made_part(seed: int, kind: str, size: int, part: int) -> tuple[bytes, bytes]:
+    """The documents of a part, up to the size of the whole, and their lines."""
+    shares = SHARES if kind == "mixed" else {KINDS[kind]: 1}
+    rng = random.Random(f"{seed}, {part}")
+    dump, lines = bytearray(), []
+    while len(dump) < min(PART, size - part * PART):
+        (made,) = rng.choices(list(shares), list(shares.values()))
+        pairs = made(rng, part * APART + len(lines))
+        dump += document(pairs)
+        lines.append(json.dumps(wrapped(pairs), ensure_ascii=False, separators=(",", ":")) + "\n")
+    return bytes(dump), "".join(lines).encode()
+
+
 def make(name: str, size: int, seed: int, kind: str = "mixed") -> None:
     """Writes documents of a kind, or of several that are mixed, up to a size in bytes."""
-    shares = SHARES if kind == "mixed" else {KINDS[kind]: 1}
-    rng = random.Random(seed)
-    written = number = 0
-    with open(f"{name}.bson", "wb") as dump, open(f"{name}.jsonl", "w", encoding="utf-8", newline="\n") as lines:
-        while written < size:
-            (made,) = rng.choices(list(shares), list(shares.values()))
-            pairs = made(rng, number)
-            written += dump.write(document(pairs))
-            lines.write(json.dumps(wrapped(pairs), ensure_ascii=False, separators=(",", ":")) + "\n")
-            number += 1
+    parts = range(-(-size // PART))
+    with multiprocessing.Pool() as pool, open(f"{name}.bson", "wb") as dump, open(f"{name}.jsonl", "wb") as lines:
+        for made, texts in pool.imap(partial(made_part, seed, kind, size), parts):
+            dump.write(made)
+            lines.write(texts)
 
 
 def main() -> int:

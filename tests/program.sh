@@ -1273,6 +1273,15 @@ echo $? >status
 : >out
 expect 'a closed standard output, and one line' 1 '' 'bsonfind: cannot write'
 
+# The file would have the number of standard input, and commands be read from it.
+"$program" serve int32.bson <&- >out 2>err
+echo $? >status
+expect 'a closed standard input' 1 '' 'bsonfind: cannot read'
+
+"$program" dump int32.bson <&- >out 2>err
+echo $? >status
+expect 'a closed standard input that is not read' 0 "$int32" '1 objects found'
+
 exec 3<>pipe 4>pipe 3>&-
 "$program" dump int32.bson >&4 2>err
 echo $? >status

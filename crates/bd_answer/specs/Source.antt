@@ -2,7 +2,7 @@
 use Rattle.std.specs.Prelude.{ℕ, ◌<◌, ◌≡◌, ◌≢◌, ◌&&◌, Bool, true, List, [], ◌∷◌, Option, Some, None, Contains}
 use Rattle.std.specs.List.{All, AllPairs, filter}
 use Rattle.std.specs.declared.cmp.Ordering.{Ordering}
-use Rattle.bd_answer.specs.Answer.{Asked, before, ordered}
+use Rattle.bd_answer.specs.Answer.{Selection, before, ordered}
 
 -- a source of places for n documents: no match is missing, none comes twice, and each is the place of a document
 pub record IsSource (n : ℕ) (hits : ℕ → Bool) (ps : List ℕ) : Type 0 where
@@ -25,5 +25,5 @@ abbrev pub passes : (ℕ → Bool) → (ℕ → ℕ → Ordering) → Option ℕ
 passes hits by last p = hits p && is_after (before by) last p
 
 -- the places that match and come after a place, in their order
-abbrev pub places_after : Asked → Option ℕ → List ℕ
+abbrev pub places_after : Selection → Option ℕ → List ℕ
 places_after a last = filter (is_after (before a.by) last) (ordered a)

@@ -1,5 +1,7 @@
 pub mod NoFaultLemmas
-pub mod AtOnceLemmas
+pub mod FastPathLemmas
+pub mod VectorLemmas
+pub mod AsciiLemmas
 pub mod DumpLemmas
 pub mod ElementsLemmas
 pub mod HolderLemmas

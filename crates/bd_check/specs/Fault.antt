@@ -1,6 +1,6 @@
 -- A fault: which check failed first, at which byte, and the names from the top to the item.
 use Rattle.std.specs.Prelude.{ℕ, List, ◌∷◌, map, reverse, string_bytes, codes}
-use Rattle.bd_check.specs.declared.fault.Found.{Found}
+use Rattle.bd_check.specs.declared.fault.Finding.{Finding}
 use Rattle.bd_check.specs.declared.fault.FaultKind.{FaultKind}
 use Rattle.bd_check.specs.declared.fault.FaultKind.TheVariants as kinds
 
@@ -10,7 +10,7 @@ pub record Fault : Type 0 where
   pub path : List (List ℕ)
 
 -- The code keeps the path from the item up.
-abbrev pub found_fault : Found → Fault
+abbrev pub found_fault : Finding → Fault
 found_fault f = record { kind = f.kind; offset = f.offset; path = reverse (map string_bytes f.path.items) }
 
 -- the same fault, seen from one level up

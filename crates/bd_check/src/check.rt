@@ -8,7 +8,7 @@ ghost use Rattle.bd_raw.specs.Spelling.{IsDocument};
 ghost use Rattle.bd_raw.specs.Sound.{stands};
 ghost use Rattle.bd_value.specs.Tree.{pairs_in};
 
-use crate::at_once::past_scalar;
+use crate::fast_path::past_scalar;
 use crate::fault::{Fault, FaultKind, Stop, fault_at, fault_of, within};
 use crate::parts::{
     binary, boolean, code_frame, fixed, frame, known_type, name, regex, scope_end, string,

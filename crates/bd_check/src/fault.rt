@@ -94,7 +94,7 @@ pub struct Fault {
 
 /// The first check that fails, as it is seen from the item outwards.
 #[derive(Debug, Drop)]
-pub struct Found {
+pub struct Finding {
     pub kind: FaultKind,
     pub offset: u64,
     /// From the item up.
@@ -105,14 +105,14 @@ pub struct Found {
 #[derive(Debug, Drop)]
 pub enum Stop {
     NoMemory,
-    Found(Found),
+    Found(Finding),
 }
 
 /// A fault at a place, with no path yet.
 pub fn fault_at(alloc: Global, kind: FaultKind, offset: u64) -> Stop
     ensures { TellsStop result (record { kind = kind; offset = offset; path = [] }) }
 {
-    Stop::Found(Found {
+    Stop::Found(Finding {
         kind,
         offset,
         path: Vec::new(alloc),

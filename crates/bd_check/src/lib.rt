@@ -17,12 +17,12 @@
 //! - `fault`: why bytes are no document, and where.
 //! - `check`: `check_document`, down the values in values.
 //! - `parts`: numbers, names, texts, and the frames of documents.
-//! - `at_once`: elements that one look shows to have no fault, as most are.
+//! - `fast_path`: elements that one look shows to have no fault, as most are.
 //! - `read`: the next document of a dump, and a document in memory.
 #![tactic(auto)]
 
-mod at_once;
 mod check;
+mod fast_path;
 mod fault;
 mod parts;
 mod read;

@@ -3,7 +3,8 @@
 //! `e` is the place that an item may not pass, and `bytes` are those up to it: the item stands at `e` less their
 //! number.
 
-ghost use Rattle.std.specs.Prelude.{◌≡◌, ◌≤◌, ◌<◌, ◌+◌, ◌^◌, length, IfOk};
+ghost use Rattle.std.specs.Prelude.{◌≡◌, ◌≤◌, ◌<◌, ◌+◌, ◌^◌, length, nat_lt, IfOk, IsAscii, IsTrue};
+ghost use Rattle.std.specs.List.{list_any};
 ghost use Rattle.std.specs.Str.{is_utf8};
 ghost use Rattle.bd_check.specs.ItemFault.{GivesItem};
 ghost use Rattle.bd_check.specs.FirstFault.{past_number, past_zero, text_at, past_name, past_string, past_frame, past_fixed, past_boolean, past_data, past_binary, past_regex, past_code_frame, past_scope_end, known};
@@ -39,15 +40,52 @@ fn zero(alloc: Global, kind: FaultKind, e: u64, bytes: &[u8]) -> Result<&[u8], S
     }
 }
 
-/// Texts of fewer bytes are looked at for ASCII first. Most names are, and the check of UTF-8 is made for longer ones.
-const SHORT: usize = 64;
+/// Whether a byte of these is not ASCII. No byte ends the look, so that all are looked at together.
+#[inline(always)]
+fn any_beyond_ascii(bytes: &[u8]) -> bool
+    ensures { result ≡ list_any (λ b. nat_lt 127 b) bytes.now }
+{
+    let mut any = false;
+    for b in bytes {
+        any |= *b > 127;
+    }
+    any
+}
+
+/// Whether at least `size` bytes, and at most twice as many, are ASCII. The first and the last `size` are looked at, so that each
+/// look is of a known length.
+#[inline(always)]
+fn are_ascii(size: usize, bytes: &[u8]) -> bool
+    requires { (size ≤ length bytes.now) × (length bytes.now ≤ size + size) }
+    ensures { IsTrue result → IsAscii bytes.now }
+{
+    let (first, _) = bytes.split_at(size);
+    let (_, last) = bytes.split_at(bytes.len() - size);
+    let any = any_beyond_ascii(first) | any_beyond_ascii(last);
+    !any
+}
+
+/// Whether bytes are few and ASCII, as most names and texts are. The check of UTF-8 is made for others.
+#[inline(always)]
+fn is_short_ascii(bytes: &[u8]) -> bool
+    ensures { IsTrue result → IsAscii bytes.now }
+{
+    match bytes.len() {
+        0..=3 => !any_beyond_ascii(bytes),
+        4..=7 => are_ascii(4, bytes),
+        8..=15 => are_ascii(8, bytes),
+        16..=31 => are_ascii(16, bytes),
+        32..=64 => are_ascii(32, bytes),
+        _ => false,
+    }
+}
 
 /// Whether bytes are UTF-8.
 #[inline(always)]
 pub fn is_text(bytes: &[u8]) -> bool
     ensures { result ≡ is_utf8 bytes.now }
 {
-    if bytes.len() < SHORT && bytes.is_ascii() {
+    if is_short_ascii(bytes) {
         return true;
     }
     match simdutf8::compat::from_utf8(bytes) {
@@ -62,7 +100,7 @@ fn text(alloc: Global, at: u64, bytes: &[u8]) -> Result<&str, Stop>
     requires { at + length bytes.now < 2 ^ 64 }
     ensures { GivesItem (λ x. x.now) result (text_at at bytes.now) }
 {
-    if bytes.len() < SHORT && bytes.is_ascii() {
+    if is_short_ascii(bytes) {
         // ASCII is UTF-8.
         return Ok(unsafe { std::str::from_utf8_unchecked(bytes) });
     }

@@ -12,18 +12,18 @@ use Rattle.bd_cli.specs.declared.status.Status.TheVariants.{Failed}
 use Rattle.bd_cli.proofs.CheckLemmas.JudgingLemmas.{faulty_append}
 use Rattle.bd_cli.specs.Check.{IsShownByCheck, check_count_line, check_status, faulty_count, shown_check, verdict_lines}
 use Rattle.bd_cli.specs.Dump.{IsShownByDump, dump_status}
-use Rattle.bd_cli.specs.Shown.{Shown, shown_unread}
+use Rattle.bd_cli.specs.Transcript.{Transcript, shown_unread}
 
-part_once : (bytes : List ℕ) (fault : ReadFault) (s t : Shown) → IsShownByCheck bytes (Some fault) s → IsShownByCheck bytes (Some fault) t → s ≡ t
+part_once : (bytes : List ℕ) (fault : ReadFault) (s t : Transcript) → IsShownByCheck bytes (Some fault) s → IsShownByCheck bytes (Some fault) t → s ≡ t
 part_once bytes fault s t (frames, front, part, framed, cut, is, shows) (others, begin, piece, parted, short, was, showed) =
     let e = frames_once frames others front begin part piece framed parted cut short (sym is ∙ was) in
     shows ∙ ap (λ (x : List ℕ). shown_unread (verdict_lines 0 (verdicts x)) fault (check_count_line (length (verdicts x)) (faulty_count (verdicts x)))) e ∙ sym showed
 
-pub judged_once : (bytes : List ℕ) (fault : Option ReadFault) (s t : Shown) → IsShownByCheck bytes fault s → IsShownByCheck bytes fault t → s ≡ t
+pub judged_once : (bytes : List ℕ) (fault : Option ReadFault) (s t : Transcript) → IsShownByCheck bytes fault s → IsShownByCheck bytes fault t → s ≡ t
 judged_once bytes None s t p q = p ∙ sym q
 judged_once bytes (Some fault) s t p q = part_once bytes fault s t p q
 
-pub judged_some : (bytes : List ℕ) → (s : Shown) × IsShownByCheck bytes None s
+pub judged_some : (bytes : List ℕ) → (s : Transcript) × IsShownByCheck bytes None s
 judged_some bytes = (shown_check (verdicts bytes), refl)
 
 -- ---- the status
@@ -44,9 +44,9 @@ walk_judged ds (Some f) vs is =
     let count : faulty_count vs ≡ 1 + faulty_count is.0 = ap faulty_count is.1 ∙ faulty_append (whole ds) (Some f ∷ is.0) ∙ ap (λ n. n + faulty_count (Some f ∷ is.0)) (none_faulty ds) ∙ omega (arith, faulty_append (Some f ∷ []) is.0) in
     sym (ap check_status count ∙ failed_status (faulty_count is.0))
 
-abbrev status_of : Shown → Status
+abbrev status_of : Transcript → Status
 status_of shown = shown.status
 
-pub same_status : (bytes : List ℕ) (fault : Option ReadFault) (s t : Shown) → IsShownByDump bytes fault s → IsShownByCheck bytes fault t → s.status ≡ t.status
+pub same_status : (bytes : List ℕ) (fault : Option ReadFault) (s t : Transcript) → IsShownByDump bytes fault s → IsShownByCheck bytes fault t → s.status ≡ t.status
 same_status bytes None s t p q = ap status_of p.3 ∙ walk_judged p.0 p.1 (verdicts bytes) (as_walk p.0 p.1 bytes p.2) ∙ sym (ap status_of q)
 same_status bytes (Some fault) s t p q = ap status_of p.6 ∙ sym (ap status_of q.6)

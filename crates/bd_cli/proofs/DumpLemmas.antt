@@ -25,7 +25,7 @@ use Rattle.bd_cli.proofs.OutcomeLemmas.{streamed_front}
 use Rattle.bd_cli.proofs.OutputLemmas.LinesLemmas.{lines-append}
 use Rattle.bd_cli.specs.Dump.{DumpsInput, EndsWithinLimit, IsFrontOf, IsShownByDump, dump_count_line, dump_message, shown_dump}
 use Rattle.bd_cli.specs.Outcome.{PrintsOrStarves, ReadsInput, StreamsInput, TellsMessage}
-use Rattle.bd_cli.specs.Shown.{Shown, error_line, fault_text, lines, read_words, shown_refusal, shown_unread}
+use Rattle.bd_cli.specs.Transcript.{Transcript, error_line, fault_text, lines, read_words, shown_refusal, shown_unread}
 use Rattle.bd_cli.specs.Dump.Walk.{EndsWalk, IsFaulty, WalksDocuments, ending_status, walk_message}
 use Rattle.bd_device.specs.Devices.{TakesText}
 
@@ -40,7 +40,7 @@ module _ (old new : Reader) (out_old out_new : Writer) (err_old err_new : Writer
       TellsMessage (between err_old err_new) text wanted status
       ⊎ ((new.failures ≡ old.failures) × TellsMessage (between err_old err_new) (error_line (codes "no memory")) Failed status)
 
-  all_of : (bytes : List ℕ) (fault : Option ReadFault) (shown : Shown) (ds : List Doc) (given rest : List ℕ) → StreamsInput (between old new) bytes fault → EndsWithinLimit bytes fault → IsShownByDump bytes fault shown
+  all_of : (bytes : List ℕ) (fault : Option ReadFault) (shown : Transcript) (ds : List Doc) (given rest : List ℕ) → StreamsInput (between old new) bytes fault → EndsWithinLimit bytes fault → IsShownByDump bytes fault shown
       → AreJoined ds given → bytes ≡ given ++ rest → shown.out ≡ lines ds → TakesText (between out_old out_new) (lines ds) → Tells shown.err shown.status → Shows
   all_of bytes fault shown ds given rest was within is joined cut same wrote (inl t) =
       inl (bytes, fault, shown, was, within, is, subst (λ (x : List ℕ). TakesText (between out_old out_new) x) (sym same) wrote, t)
@@ -96,31 +96,31 @@ was_refused old new reads.NoMemory failed well long turns made = well (λ e. abs
 
 -- ---- what is shown is determined
 
-shown_bytes_once : (bytes : List ℕ) (s t : Shown) → IsShownByDump bytes None s → IsShownByDump bytes None t → s ≡ t
+shown_bytes_once : (bytes : List ℕ) (s t : Transcript) → IsShownByDump bytes None s → IsShownByDump bytes None t → s ≡ t
 shown_bytes_once bytes s t (ds, end, is, shows) (es, other, was, showed) =
     let e = walk_once ds es end other bytes is was in
     shows ∙ ap₂ (λ (x : List Doc) (o : Option Fault). shown_dump x o) e.0 e.1 ∙ sym showed
 
-shown_part_once : (bytes : List ℕ) (fault : ReadFault) (s t : Shown) → IsShownByDump bytes (Some fault) s → IsShownByDump bytes (Some fault) t → s ≡ t
+shown_part_once : (bytes : List ℕ) (fault : ReadFault) (s t : Transcript) → IsShownByDump bytes (Some fault) s → IsShownByDump bytes (Some fault) t → s ≡ t
 shown_part_once bytes fault s t (ds, front, part, joined, cut, is, shows) (es, begin, piece, joint, short, was, showed) =
     let e = joined_once ds es front begin part piece joined joint (cut_stuck part cut) (cut_stuck piece short) (sym is ∙ was) in
     shows ∙ ap (λ (x : List Doc). shown_unread (lines x) fault (dump_count_line (length x))) e.0 ∙ sym showed
 
-pub shown_once : (bytes : List ℕ) (fault : Option ReadFault) (s t : Shown) → IsShownByDump bytes fault s → IsShownByDump bytes fault t → s ≡ t
+pub shown_once : (bytes : List ℕ) (fault : Option ReadFault) (s t : Transcript) → IsShownByDump bytes fault s → IsShownByDump bytes fault t → s ≡ t
 shown_once bytes None s t p q = shown_bytes_once bytes s t p q
 shown_once bytes (Some fault) s t p q = shown_part_once bytes fault s t p q
 
-pub shown_some : (bytes : List ℕ) → IsBytes bytes → (s : Shown) × IsShownByDump bytes None s
+pub shown_some : (bytes : List ℕ) → IsBytes bytes → (s : Transcript) × IsShownByDump bytes None s
 shown_some bytes fits = let w = walk_on [] [] bytes fits refl in (shown_dump w.more w.end, (w.more, w.end, w.walk, refl))
 
 bytes_after : (given rest : List ℕ) → IsBytes (given ++ rest) → IsBytes rest
 bytes_after given rest h i = subst (λ n. n < 256) (get_or-append-add given rest i 0) (h (length given + i))
 
 -- what stands in front of the bytes stands in front of what is shown
-pub shows_front : (bytes given rest : List ℕ) (shown : Shown) (ds : List Doc) (front : List ℕ) → IsBytes bytes → bytes ≡ given ++ rest → IsShownByDump bytes None shown
+pub shows_front : (bytes given rest : List ℕ) (shown : Transcript) (ds : List Doc) (front : List ℕ) → IsBytes bytes → bytes ≡ given ++ rest → IsShownByDump bytes None shown
     → AreJoined ds given → IsFrontOf front (lines ds) → IsFrontOf front shown.out
 shows_front bytes given rest shown ds front fits cut (es, end, walk, shows) joined is =
     let w = walk_on ds given rest (bytes_after given rest (subst (λ (x : List ℕ). IsBytes x) cut fits)) joined in
     let same = walk_once es (ds ++ w.more) end w.end bytes walk (subst (λ (x : List ℕ). IsWalk (ds ++ w.more) w.end x) (sym cut) w.walk) in
-    let out : shown.out ≡ lines ds ++ lines w.more = ap (λ (s : Shown). s.out) shows ∙ ap lines same.0 ∙ lines-append ds w.more in
+    let out : shown.out ≡ lines ds ++ lines w.more = ap (λ (s : Transcript). s.out) shows ∙ ap lines same.0 ∙ lines-append ds w.more in
     (is.0 ++ lines w.more, out ∙ ap (λ x. x ++ lines w.more) is.1 ∙ append_assoc front is.0 (lines w.more))

@@ -21,14 +21,14 @@ use Rattle.bd_cli.specs.declared.status.Status.{Status}
 use Rattle.bd_cli.specs.declared.status.Status.TheVariants.{Failed}
 use Rattle.bd_request.specs.declared.refused.Refused.{Refused}
 use Rattle.bd_request.specs.declared.refused.Refused.TheVariants as reasons
-use Rattle.bd_cli.specs.Find.Asking.{Wanted, refused_text}
+use Rattle.bd_cli.specs.Find.Asking.{PageRequest, refused_text}
 use Rattle.bd_cli.specs.Find.Batch.{places_from, query_for}
 use Rattle.bd_cli.proofs.FindLemmas.UniqueLemmas.{bytes_show, dump_shows}
 use Rattle.bd_cli.proofs.OutputLemmas.LinesLemmas.{lines-append}
 use Rattle.bd_bson.specs.Documents.{documents_at}
 use Rattle.bd_cli.specs.Find.{IsShownOfBytes, IsShownOfDump}
 use Rattle.bd_cli.specs.Outcome.{PrintsOrStarves, TellsMessage}
-use Rattle.bd_cli.specs.Shown.{Shown, error_line, fault_text, lines, shown_refusal}
+use Rattle.bd_cli.specs.Transcript.{Transcript, error_line, fault_text, lines, shown_refusal}
 use Rattle.bd_device.specs.Devices.{TakesFront, TakesText, Writer, between}
 
 -- the lines of the documents at the first places
@@ -57,10 +57,10 @@ module _ (ds : List Doc) (ps : List ℕ) where
 
 module _ (out_old out_new : Writer) (err_old err_new : Writer) (status : Status) where
   -- memory ran out before anything was written
-  pub nothing_shown : (shown : Shown) → TellsMessage (between err_old err_new) (error_line (codes "no memory")) Failed status → PrintsOrStarves (between out_old out_old) (between err_old err_new) shown status
+  pub nothing_shown : (shown : Transcript) → TellsMessage (between err_old err_new) (error_line (codes "no memory")) Failed status → PrintsOrStarves (between out_old out_old) (between err_old err_new) shown status
   nothing_shown shown told = inr ((([], shown.out, refl, Appends-nil out_old.held), refl), told)
 
-  pub all_shown : (shown : Shown) → TakesText (between out_old out_new) shown.out
+  pub all_shown : (shown : Transcript) → TakesText (between out_old out_new) shown.out
       → TellsMessage (between err_old err_new) shown.err shown.status status ⊎ TellsMessage (between err_old err_new) (error_line (codes "no memory")) Failed status
       → PrintsOrStarves (between out_old out_new) (between err_old err_new) shown status
   all_shown shown wrote (inl told) = inl (inl (wrote, told))
@@ -73,9 +73,9 @@ module _ (out_old out_new : Writer) (err_old err_new : Writer) (status : Status)
   refusal_shown words (inr told) = nothing_shown (shown_refusal words) told
 
   -- what is shown of a dump with a fault
-  pub fault_shown : (w : Wanted) (bytes : List ℕ) (fault : declared.Fault) → length bytes ≤ 4294967295 → IsUnread bytes fault → ¬ (fault.kind ≡ kinds.NoMemory)
+  pub fault_shown : (w : PageRequest) (bytes : List ℕ) (fault : declared.Fault) → length bytes ≤ 4294967295 → IsUnread bytes fault → ¬ (fault.kind ≡ kinds.NoMemory)
       → TellsMessage (between err_old err_new) (error_line (fault_text fault.document (fault_view fault))) Failed status ⊎ TellsMessage (between err_old err_new) (error_line (codes "no memory")) Failed status
-      → (shown : Shown) × IsShownOfBytes w bytes shown × PrintsOrStarves (between out_old out_old) (between err_old err_new) shown status
+      → (shown : Transcript) × IsShownOfBytes w bytes shown × PrintsOrStarves (between out_old out_old) (between err_old err_new) shown status
   fault_shown w bytes fault le (inl long) other told = absurd (let more = long.more in omega arith)
   fault_shown w bytes fault le (inr (_, inl want)) other told = absurd (other want.kind)
   fault_shown w bytes fault le (inr (_, inr first)) other told =
@@ -87,9 +87,9 @@ module _ (out_old out_new : Writer) (err_old err_new : Writer) (status : Status)
       )
 
   -- what is shown where no cursor was opened
-  pub refused_shown : (bytes : List ℕ) (ds : List Doc) (w : Wanted) (refused : Refused) → (refused ≡ reasons.NoMemory) ⊎ (places_from (query_for bytes ds w) w.token ≡ Err (refused_text refused))
+  pub refused_shown : (bytes : List ℕ) (ds : List Doc) (w : PageRequest) (refused : Refused) → (refused ≡ reasons.NoMemory) ⊎ (places_from (query_for bytes ds w) w.token ≡ Err (refused_text refused))
       → TellsMessage (between err_old err_new) (error_line (refused_text refused)) Failed status ⊎ TellsMessage (between err_old err_new) (error_line (codes "no memory")) Failed status
-      → (shown : Shown) × IsShownOfDump bytes ds w shown × PrintsOrStarves (between out_old out_old) (between err_old err_new) shown status
+      → (shown : Transcript) × IsShownOfDump bytes ds w shown × PrintsOrStarves (between out_old out_old) (between err_old err_new) shown status
   refused_shown bytes ds w refused (inl want) told =
       let shows = dump_shows bytes ds w in
       (shows.0, shows.1, nothing_shown shows.0 (either (rw want at told)))
@@ -101,8 +101,8 @@ module _ (out_old out_new : Writer) (err_old err_new : Writer) (status : Status)
   refused_shown bytes ds w refused (inr led) told =
       (shown_refusal (refused_text refused), inl (refused_text refused, sym led, refl), refusal_shown (refused_text refused) told)
 
-  pub starved_shown : (w : Wanted) (bytes : List ℕ) → (ds : List Doc) × (end : Option Fault) × IsWalk ds end bytes → TellsMessage (between err_old err_new) (error_line (codes "no memory")) Failed status
-      → (shown : Shown) × IsShownOfBytes w bytes shown × PrintsOrStarves (between out_old out_old) (between err_old err_new) shown status
+  pub starved_shown : (w : PageRequest) (bytes : List ℕ) → (ds : List Doc) × (end : Option Fault) × IsWalk ds end bytes → TellsMessage (between err_old err_new) (error_line (codes "no memory")) Failed status
+      → (shown : Transcript) × IsShownOfBytes w bytes shown × PrintsOrStarves (between out_old out_old) (between err_old err_new) shown status
   starved_shown w bytes (ds, end, walk) told =
       let shows = bytes_show w bytes ds end walk in
       (shows.0, shows.1, nothing_shown shows.0 told)

@@ -11,7 +11,7 @@ use Rattle.bd_pack.specs.declared.line.LineFault.TheVariants as faults
 use Rattle.bd_cli.proofs.PackLemmas.PackingLemmas.{packs_some}
 use Rattle.bd_cli.specs.Pack.{AreAlike, AreAlikeFaults, IsShownByPack, PacksLines, pack_status, packed_bytes, shown_pack}
 use Rattle.bd_lines.specs.Lines.{text_lines}
-use Rattle.bd_cli.specs.Shown.{Shown}
+use Rattle.bd_cli.specs.Transcript.{Transcript}
 
 -- a line is one document
 read_once : (line : List ℕ) (d e : Doc) → ReadsAs line d → ReadsAs line e → d ≡ e
@@ -58,14 +58,14 @@ same_status None (Some b) a = absurd a
 same_status (Some b) None a = absurd a
 same_status (Some b) (Some c) a = refl
 
-pub packed_alike : (input : Result (List ℕ) ReadFault) (s t : Shown) → IsShownByPack input s → IsShownByPack input t → (s.out ≡ t.out) × (s.status ≡ t.status)
+pub packed_alike : (input : Result (List ℕ) ReadFault) (s t : Transcript) → IsShownByPack input s → IsShownByPack input t → (s.out ≡ t.out) × (s.status ≡ t.status)
 packed_alike (Ok text) s t (ds, bad, packs, shows) (es, other, packed, showed) =
     let same = packs_once 1 (text_lines text) ds es bad other packs packed in
-    let out : s.out ≡ t.out = ap (λ (x : Shown). x.out) shows ∙ ap packed_bytes same.0 ∙ ap (λ (x : Shown). x.out) (sym showed) in
-    (out, ap (λ (x : Shown). x.status) shows ∙ same_status bad other same.1 ∙ ap (λ (x : Shown). x.status) (sym showed))
-packed_alike (Err fault) s t p q = (ap (λ (x : Shown). x.out) (p ∙ sym q), ap (λ (x : Shown). x.status) (p ∙ sym q))
+    let out : s.out ≡ t.out = ap (λ (x : Transcript). x.out) shows ∙ ap packed_bytes same.0 ∙ ap (λ (x : Transcript). x.out) (sym showed) in
+    (out, ap (λ (x : Transcript). x.status) shows ∙ same_status bad other same.1 ∙ ap (λ (x : Transcript). x.status) (sym showed))
+packed_alike (Err fault) s t p q = (ap (λ (x : Transcript). x.out) (p ∙ sym q), ap (λ (x : Transcript). x.status) (p ∙ sym q))
 
-pub packed_some : (text : List ℕ) → (shown : Shown) × IsShownByPack (Ok text) shown
+pub packed_some : (text : List ℕ) → (shown : Transcript) × IsShownByPack (Ok text) shown
 packed_some text =
     let w = packs_some 1 (text_lines text) in
     (shown_pack w.0 w.1, (w.0, w.1, w.2, refl))

@@ -11,14 +11,15 @@ use Rattle.bd_check.specs.declared.fault.FaultKind.TheVariants as kinds
 use Rattle.bd_device.specs.Devices.{Over, Reader, Writer}
 use Rattle.bd_lines.specs.Serving.{ServesAll, StopsServing}
 use Rattle.bd_lines.specs.declared.serving.ServeFault.{ServeFault}
-use Rattle.bd_service.specs.ServiceView.{RepliesTo, service_dump, service_state}
+use Rattle.bd_service.specs.ServiceView.{KeepsState, RepliesTo, service_dump, service_state}
+use Rattle.bd_service.specs.Talk.{IsKept}
 use Rattle.bd_service.specs.declared.service.Service.{Service}
 use Rattle.bd_service.proofs.ServedLemmas.{RepliesOver, served, stopped}
 use Rattle.bd_cli.specs.Chain.{IsRefusedOr}
 use Rattle.bd_cli.specs.Find.{ReadsDump}
 use Rattle.bd_cli.specs.Outcome.{TellsMessage}
 use Rattle.bd_cli.specs.Serve.{ServesNothing, ServesToAFault, ServesToTheEnd, command_limits, serve_words}
-use Rattle.bd_cli.specs.Shown.{error_line, fault_text}
+use Rattle.bd_cli.specs.Transcript.{error_line, fault_text}
 use Rattle.bd_cli.specs.declared.status.Status.{Status}
 use Rattle.bd_cli.specs.declared.status.Status.TheVariants.{Done, Failed}
 
@@ -33,12 +34,12 @@ to_the_end state gives dump old new out err s t status is_new is_over all same d
 
 pub to_a_fault : {C : Type 0} (state : C → Reader) (gives : C → Option (List ℕ) → C → Type 0) (dump : Dump) (old new : C) (out err : Over Writer)
     (s t : Service) (fault : ServeFault) (status : Status) → service_state s ≡ new_state → service_dump s ≡ dump
-    → StopsServing state gives RepliesTo command_limits old new out s t fault → TellsMessage err (error_line (serve_words fault)) Failed status
+    → StopsServing state gives KeepsState RepliesTo command_limits old new out s t fault → TellsMessage err (error_line (serve_words fault)) Failed status
     → ServesToAFault state gives (bytes_of dump) (documents dump) old new out err status
 to_a_fault state gives dump old new out err s t fault status is_new is_over stops told =
     let whole = stopped state gives command_limits old new out s t fault stops in
-    let over_dump = subst (λ (d : Dump). StopsServing state gives (RepliesOver d) command_limits old new out (service_state s) (service_state t) fault) is_over whole in
-    (service_state t, fault, subst (λ (x : State). StopsServing state gives (RepliesOver dump) command_limits old new out x (service_state t) fault) is_new over_dump, told)
+    let over_dump = subst (λ (d : Dump). StopsServing state gives IsKept (RepliesOver d) command_limits old new out (service_state s) (service_state t) fault) is_over whole in
+    (service_state t, fault, subst (λ (x : State). StopsServing state gives IsKept (RepliesOver dump) command_limits old new out x (service_state t) fault) is_new over_dump, told)
 
 -- ---- what is told where nothing is served
 

@@ -11,7 +11,7 @@ use Rattle.bd_check.specs.declared.fault.FaultKind.{FaultKind}
 use Rattle.bd_stream.specs.Stream.{AreFrames, IsCut}
 use Rattle.bd_bson.specs.Verdicts.{verdicts}
 use Rattle.bd_cli.specs.Outcome.{StreamsInput, TellsMessage}
-use Rattle.bd_cli.specs.Shown.{Shown, error_line, fault_text, shown_unread}
+use Rattle.bd_cli.specs.Transcript.{Transcript, error_line, fault_text, shown_unread}
 use Rattle.bd_cli.specs.declared.status.Status.{Status}
 use Rattle.bd_cli.specs.declared.status.Status.TheVariants.{Done, Failed}
 
@@ -38,7 +38,7 @@ check_status zero = Done
 check_status (suc n) = Failed
 
 -- what is shown of the documents: a line for each that has a fault, and then how many there are of both
-abbrev pub shown_check : List (Option Fault) → Shown
+abbrev pub shown_check : List (Option Fault) → Transcript
 shown_check vs = record {
   out = verdict_lines 0 vs;
   err = check_count_line (length vs) (faulty_count vs);
@@ -46,13 +46,13 @@ shown_check vs = record {
 }
 
 -- the same of the documents before a read that failed
-abbrev pub shown_check_unread : List (Option Fault) → ReadFault → Shown
+abbrev pub shown_check_unread : List (Option Fault) → ReadFault → Transcript
 shown_check_unread vs fault =
     shown_unread (verdict_lines 0 vs) fault (check_count_line (length vs) (faulty_count vs))
 
 -- What `check` shows of the bytes of an input: of all of them, or of those before a read that failed. Then they are
 -- documents by their lengths, and the beginning of one more.
-abbrev pub IsShownByCheck : List ℕ → Option ReadFault → Shown → Type 0
+abbrev pub IsShownByCheck : List ℕ → Option ReadFault → Transcript → Type 0
 IsShownByCheck bytes None shown = shown ≡ shown_check (verdicts bytes)
 IsShownByCheck bytes (Some fault) shown =
     (frames : List (List ℕ)) × (front : List ℕ) × (part : List ℕ) × AreFrames frames front × IsCut part
@@ -78,7 +78,7 @@ BreaksAtVerdict file out =
 -- standard output broke or memory ran out, and standard error tells so.
 abbrev pub ChecksInput : Over Reader → Over Writer → Over Writer → Status → Type 0
 ChecksInput file out err status =
-    (bytes : List ℕ) × (fault : Option ReadFault) × (shown : Shown) × StreamsInput file bytes fault
+    (bytes : List ℕ) × (fault : Option ReadFault) × (shown : Transcript) × StreamsInput file bytes fault
     × IsShownByCheck bytes fault shown
     × ((JudgesWithinLimit bytes fault × TakesText out shown.out
     × TellsMessage err shown.err shown.status status)

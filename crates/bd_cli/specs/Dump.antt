@@ -10,7 +10,7 @@ use Rattle.bd_check.specs.Fault.{Fault}
 use Rattle.bd_check.specs.Dump.{AreJoined, IsWalk, frame_fault}
 use Rattle.bd_stream.specs.Stream.{IsCut}
 use Rattle.bd_cli.specs.Outcome.{StreamsInput, TellsMessage}
-use Rattle.bd_cli.specs.Shown.{Shown, error_line, fault_text, lines, shown_unread}
+use Rattle.bd_cli.specs.Transcript.{Transcript, error_line, fault_text, lines, shown_unread}
 use Rattle.bd_cli.specs.declared.status.Status.{Status}
 use Rattle.bd_cli.specs.declared.status.Status.TheVariants.{Done, Failed}
 
@@ -27,12 +27,12 @@ dump_status None = Done
 dump_status (Some f) = Failed
 
 -- what is shown of the documents before the first fault, and of that fault
-abbrev pub shown_dump : List Doc → Option Fault → Shown
+abbrev pub shown_dump : List Doc → Option Fault → Transcript
 shown_dump ds end = record { out = lines ds; err = dump_message (length ds) end; status = dump_status end }
 
 -- What `dump` shows of the bytes of an input: of all of them, or of those before a read that failed. Then they are whole
 -- documents, and the beginning of one more.
-abbrev pub IsShownByDump : List ℕ → Option ReadFault → Shown → Type 0
+abbrev pub IsShownByDump : List ℕ → Option ReadFault → Transcript → Type 0
 IsShownByDump bytes None shown =
     (ds : List Doc) × (end : Option Fault) × IsWalk ds end bytes × (shown ≡ shown_dump ds end)
 IsShownByDump bytes (Some fault) shown =
@@ -56,7 +56,7 @@ IsFrontOf front text = (rest : List ℕ) × (text ≡ front ++ rest)
 -- all was shown that is to be shown of an input
 abbrev pub DumpsWhole : Over Reader → Over Writer → Over Writer → Status → Type 0
 DumpsWhole file out err status =
-    (bytes : List ℕ) × (fault : Option ReadFault) × (shown : Shown) × StreamsInput file bytes fault
+    (bytes : List ℕ) × (fault : Option ReadFault) × (shown : Transcript) × StreamsInput file bytes fault
     × EndsWithinLimit bytes fault × IsShownByDump bytes fault shown
     × TakesText out shown.out × TellsMessage err shown.err shown.status status
 
@@ -85,7 +85,7 @@ DumpsInput file out err status =
 -- of what is shown of the bytes.
 abbrev pub ShowsFront : Type 0
 ShowsFront =
-    (bytes given rest : List ℕ) (shown : Shown) (ds : List Doc) (front : List ℕ)
+    (bytes given rest : List ℕ) (shown : Transcript) (ds : List Doc) (front : List ℕ)
     → ((i : ℕ) → slice_index bytes i < 256)
     → bytes ≡ given ++ rest → IsShownByDump bytes None shown → AreJoined ds given → IsFrontOf front (lines ds)
     → IsFrontOf front shown.out

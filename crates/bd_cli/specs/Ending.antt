@@ -6,8 +6,8 @@ use Rattle.bd_stream.specs.declared.doc_buffer.DocFault.{DocFault}
 use Rattle.bd_stream.specs.declared.doc_buffer.DocFault.TheVariants as faults
 use Rattle.bd_cli.specs.declared.ending.Ending.{Ending}
 use Rattle.bd_cli.specs.declared.ending.Ending.TheVariants as endings
-use Rattle.bd_cli.specs.declared.output.lines.Stopped.{Stopped}
-use Rattle.bd_cli.specs.declared.output.lines.Stopped.TheVariants.{NoMemory}
+use Rattle.bd_cli.specs.declared.output.lines.OutputFault.{OutputFault}
+use Rattle.bd_cli.specs.declared.output.lines.OutputFault.TheVariants.{NoMemory}
 
 -- no document was read yet, and as much may be read as an input has
 abbrev pub IsFresh : DocBuffer → Type 0
@@ -16,7 +16,7 @@ IsFresh documents =
     × (documents.left.bytes ≡ 4294967295) × (documents.left.turns ≡ 4294967296)
 
 -- what a fault of reading is for the documents before it
-abbrev pub IsEndingOf : DocFault → Result Ending Stopped → Type 0
+abbrev pub IsEndingOf : DocFault → Result Ending OutputFault → Type 0
 IsEndingOf (faults.Frame f) r = r ≡ Ok (endings.Faulty f)
 IsEndingOf (faults.Read reads.NoMemory) r = r ≡ Err NoMemory
 IsEndingOf (faults.Read f) r = r ≡ Ok (endings.Unread f)

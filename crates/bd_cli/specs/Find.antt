@@ -13,10 +13,10 @@ use Rattle.bd_check.specs.Dump.{IsWalk}
 use Rattle.bd_command_line.specs.FindWords.{FindWords}
 use Rattle.bd_service.specs.Talk.{marked_text}
 use Rattle.bd_cli.specs.Chain.{IsRefusedOr}
-use Rattle.bd_cli.specs.Find.Asking.{AsksInWords, Wanted}
+use Rattle.bd_cli.specs.Find.Asking.{AsksInWords, PageRequest}
 use Rattle.bd_cli.specs.Find.Batch.{cursor_for, places_from, query_for}
 use Rattle.bd_cli.specs.Outcome.{PrintsOrStarves, ReadsInput, TellsMessage}
-use Rattle.bd_cli.specs.Shown.{Shown, error_line, lines, fault_text, read_words, shown_refusal}
+use Rattle.bd_cli.specs.Transcript.{Transcript, error_line, lines, fault_text, read_words, shown_refusal}
 use Rattle.bd_cli.specs.declared.status.Status.{Status}
 use Rattle.bd_cli.specs.declared.status.Status.TheVariants.{Done, Failed}
 
@@ -38,7 +38,7 @@ find_count_line count ends token = decimal count ++ (end_words ends ++ (token_wo
 
 -- what is shown of a cursor: the documents of its first batch, how many they are, whether nothing is left, and
 -- the token that leads on
-abbrev pub shown_batch : Option ℕ → List Doc → OpenCursor → Shown
+abbrev pub shown_batch : Option ℕ → List Doc → OpenCursor → Transcript
 shown_batch size ds c = let ps = at_most size c.left in record {
   out = lines (documents_at ds ps);
   err = find_count_line (length ps) (is_empty (left_over size c.left)) (token_after c.digest c.token ps);
@@ -57,27 +57,27 @@ ReadsDump bytes (Err message) =
     (ds : List Doc) × (fault : Fault) × IsWalk ds (Some fault) bytes × (message ≡ fault_text (length ds) fault)
 
 -- the places that are asked for of these documents, or what is wrong with the token
-abbrev pub LeadsTo : List ℕ → List Doc → Wanted → Result (List ℕ) (List ℕ) → Type 0
+abbrev pub LeadsTo : List ℕ → List Doc → PageRequest → Result (List ℕ) (List ℕ) → Type 0
 LeadsTo bytes ds w led = led ≡ places_from (query_for bytes ds w) w.token
 
 -- ---- and the chain
 
-abbrev pub IsRefusal : Shown → List ℕ → Type 0
+abbrev pub IsRefusal : Transcript → List ℕ → Type 0
 IsRefusal shown message = shown ≡ shown_refusal message
 
 -- what is shown of a dump: the first batch of what is asked for
-abbrev pub IsShownOfDump : List ℕ → List Doc → Wanted → Shown → Type 0
+abbrev pub IsShownOfDump : List ℕ → List Doc → PageRequest → Transcript → Type 0
 IsShownOfDump bytes ds w shown =
     IsRefusedOr (IsRefusal shown) (LeadsTo bytes ds w) (λ ps.
     shown ≡ shown_batch w.batch ds (cursor_for 1 (query_for bytes ds w) w.token ps))
 
 -- what is shown of bytes that were read
-abbrev pub IsShownOfBytes : Wanted → List ℕ → Shown → Type 0
+abbrev pub IsShownOfBytes : PageRequest → List ℕ → Transcript → Type 0
 IsShownOfBytes w bytes shown =
     IsRefusedOr (IsRefusal shown) (ReadsDump bytes) (λ ds. IsShownOfDump bytes ds w shown)
 
 -- what is shown of the words and an input: the first refusal alone, or the first batch
-abbrev pub IsShownByFind : FindWords → Result (List ℕ) ReadFault → Shown → Type 0
+abbrev pub IsShownByFind : FindWords → Result (List ℕ) ReadFault → Transcript → Type 0
 IsShownByFind words input shown =
     IsRefusedOr (IsRefusal shown) (AsksInWords words) (λ w.
     IsRefusedOr (IsRefusal shown) (ReadsBytes input) (λ bytes.
@@ -98,6 +98,6 @@ StarvesUnread file out err status =
 abbrev pub FindsDocuments : FindWords → Over Reader → Over Writer → Over Writer → Status → Type 0
 FindsDocuments words file out err status =
     StarvesUnread file out err status
-    ⊎ ((input : Result (List ℕ) ReadFault) × (shown : Shown) × ReadsInputFor words file input
+    ⊎ ((input : Result (List ℕ) ReadFault) × (shown : Transcript) × ReadsInputFor words file input
     × IsShownByFind words input shown
     × PrintsOrStarves out err shown status)

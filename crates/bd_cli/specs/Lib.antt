@@ -8,4 +8,4 @@ pub mod Output
 pub mod Pack
 pub mod Runs
 pub mod Serve
-pub mod Shown
+pub mod Transcript

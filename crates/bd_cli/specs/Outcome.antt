@@ -5,7 +5,7 @@ use Rattle.bd_device.specs.Counts.{after_more}
 use Rattle.bd_device.specs.Devices.{BreaksWithin, LosesAtLeast, Over, Reader, TakesAtMost, TakesFront, TakesText, Writer}
 use Rattle.bd_device.specs.declared.reading.ReadFault.{ReadFault}
 use Rattle.bd_device.specs.declared.reading.ReadFault.TheVariants as reads
-use Rattle.bd_cli.specs.Shown.{Shown, error_line}
+use Rattle.bd_cli.specs.Transcript.{Transcript, error_line}
 use Rattle.bd_cli.specs.declared.status.Status.{Status}
 use Rattle.bd_cli.specs.declared.status.Status.TheVariants.{Failed}
 
@@ -50,13 +50,13 @@ TellsMessage err message wanted status =
 
 -- Standard output has the whole text that is to be shown, and standard error what belongs to it. Or a write to standard
 -- output failed: then it has a front of its text, and standard error tells so.
-abbrev pub PrintsShown : Over Writer → Over Writer → Shown → Status → Type 0
+abbrev pub PrintsShown : Over Writer → Over Writer → Transcript → Status → Type 0
 PrintsShown out err shown status =
     (TakesText out shown.out × TellsMessage err shown.err shown.status status)
     ⊎ (BreaksWithin out shown.out × TellsMessage err (error_line (codes "cannot write")) Failed status)
 
 -- all was printed so, or memory ran out: then standard output has a front of its text, and standard error tells so
-abbrev pub PrintsOrStarves : Over Writer → Over Writer → Shown → Status → Type 0
+abbrev pub PrintsOrStarves : Over Writer → Over Writer → Transcript → Status → Type 0
 PrintsOrStarves out err shown status =
     PrintsShown out err shown status
     ⊎ (TakesFront out shown.out × TellsMessage err (error_line (codes "no memory")) Failed status)

@@ -12,7 +12,7 @@ use Rattle.bd_pack.specs.declared.line.LineFault.{LineFault}
 use Rattle.bd_pack.specs.declared.line.LineFault.TheVariants as faults
 use Rattle.bd_lines.specs.Lines.{is_empty_line, text_lines}
 use Rattle.bd_cli.specs.Outcome.{PrintsOrStarves, ReadsInput}
-use Rattle.bd_cli.specs.Shown.{Shown, error_line, read_words, shown_refusal}
+use Rattle.bd_cli.specs.Transcript.{Transcript, error_line, read_words, shown_refusal}
 use Rattle.bd_cli.specs.declared.pack.packing.BadLine.{BadLine}
 use Rattle.bd_cli.specs.declared.status.Status.{Status}
 use Rattle.bd_cli.specs.declared.status.Status.TheVariants.{Done, Failed}
@@ -64,11 +64,11 @@ abbrev pub pack_status : Option BadLine → Status
 pack_status None = Done
 pack_status (Some bad) = Failed
 
-abbrev pub shown_pack : List Doc → Option BadLine → Shown
+abbrev pub shown_pack : List Doc → Option BadLine → Transcript
 shown_pack ds bad = record { out = packed_bytes ds; err = pack_message (length ds) bad; status = pack_status bad }
 
 -- what is shown of a text, or of an input that was not read whole
-abbrev pub IsShownByPack : Result (List ℕ) ReadFault → Shown → Type 0
+abbrev pub IsShownByPack : Result (List ℕ) ReadFault → Transcript → Type 0
 IsShownByPack (Ok text) shown =
     (ds : List Doc) × (bad : Option BadLine) × PacksLines 1 (text_lines text) ds bad
     × (shown ≡ shown_pack ds bad)
@@ -91,5 +91,5 @@ AreAlike (Some a) (Some b) = (a.number ≡ b.number) × AreAlikeFaults a.fault b
 -- an input was read whole, or was not for a reason, and what is to be shown of it was shown
 abbrev pub PacksInput : Over Reader → Over Writer → Over Writer → Status → Type 0
 PacksInput file out err status =
-    (input : Result (List ℕ) ReadFault) × (shown : Shown) × ReadsInput file input × IsShownByPack input shown
+    (input : Result (List ℕ) ReadFault) × (shown : Transcript) × ReadsInput file input × IsShownByPack input shown
     × PrintsOrStarves out err shown status

@@ -13,7 +13,7 @@ use Rattle.bd_cli.specs.Find.{FindsDocuments}
 use Rattle.bd_cli.specs.Pack.{PacksInput}
 use Rattle.bd_cli.specs.Find.Asking.{AsksNothing}
 use Rattle.bd_cli.specs.Serve.{ServesInput}
-use Rattle.bd_cli.specs.Shown.{Shown, error_line}
+use Rattle.bd_cli.specs.Transcript.{Transcript, error_line}
 use Rattle.bd_cli.specs.declared.status.Status.{Status}
 use Rattle.bd_cli.specs.declared.status.Status.TheVariants as statuses
 
@@ -51,7 +51,7 @@ DeviceFails file commands out err =
     ⊎ WriteFails out err
 
 -- what is shown of words that are no order
-abbrev pub shown_report : WordsFault → Shown
+abbrev pub shown_report : WordsFault → Transcript
 shown_report words.Help = record { out = USAGE.now; err = []; status = statuses.Done }
 shown_report words.Usage = record { out = []; err = USAGE.now; status = statuses.Usage }
 shown_report words.NoMemory = record { out = []; err = error_line (codes "no memory"); status = statuses.Failed }

@@ -9,11 +9,11 @@ use Rattle.bd_device.specs.declared.reading.ReadFault.{ReadFault}
 use Rattle.bd_lines.specs.Serving.{ServesAll, StopsServing}
 use Rattle.bd_lines.specs.declared.serving.ServeFault.{ServeFault}
 use Rattle.bd_lines.specs.declared.serving.ServeFault.TheVariants as faults
-use Rattle.bd_service.specs.Talk.{RepliesInText}
+use Rattle.bd_service.specs.Talk.{IsKept, RepliesInText}
 use Rattle.bd_cli.specs.Chain.{IsRefusedOr}
 use Rattle.bd_cli.specs.Find.{ReadsBytes, ReadsDump}
 use Rattle.bd_cli.specs.Outcome.{ReadsInput, TellsMessage}
-use Rattle.bd_cli.specs.Shown.{error_line, read_words}
+use Rattle.bd_cli.specs.Transcript.{error_line, read_words}
 use Rattle.bd_cli.specs.declared.status.Status.{Status}
 use Rattle.bd_cli.specs.declared.status.Status.TheVariants.{Done, Failed}
 
@@ -41,7 +41,7 @@ abbrev pub ServesToAFault : {C : Type 0} → (C → Reader) → (C → Option (L
     → C → C → Over Writer → Over Writer → Status → Type 0
 ServesToAFault state gives bytes ds old new out err status =
     (t : State) × (fault : ServeFault)
-    × StopsServing state gives (RepliesInText bytes ds) command_limits old new out new_state t fault
+    × StopsServing state gives IsKept (RepliesInText bytes ds) command_limits old new out new_state t fault
     × TellsMessage err (error_line (serve_words fault)) Failed status
 
 -- no command was read, nothing was replied, and this is told

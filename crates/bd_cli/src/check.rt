@@ -11,7 +11,7 @@ ghost use Rattle.bd_cli.specs.Check.Judging.{findings_message, findings_status, 
 ghost use Rattle.bd_cli.specs.Outcome.{TellsMessage};
 
 use crate::check::judging::{Findings, write_verdicts};
-use crate::output::lines::Stopped;
+use crate::output::lines::OutputFault;
 use crate::output::messages::{
     status_of, tell_no_memory, tell_unwritten, write_count, write_read_fault,
 };
@@ -78,7 +78,7 @@ pub(crate) fn check<R: Input, O: Output, E: Output>(
 {
     match write_verdicts(alloc, input, out) {
         Ok(findings) => tell_findings(&findings, err),
-        Err(Stopped::NoMemory) => tell_no_memory(err),
-        Err(Stopped::Unwritten) => tell_unwritten(err),
+        Err(OutputFault::NoMemory) => tell_no_memory(err),
+        Err(OutputFault::Unwritten) => tell_unwritten(err),
     }
 }

@@ -8,13 +8,13 @@ ghost use Rattle.std.specs.Prelude.{◌≡◌, ◌⊎◌, OnOk, Err, codes};
 ghost use Rattle.bd_device.specs.Devices.{BreaksWithin, TakesText, over};
 ghost use Rattle.bd_cli.specs.Dump.{DumpsInput};
 ghost use Rattle.bd_cli.specs.Outcome.{TellsMessage};
-ghost use Rattle.bd_cli.specs.Shown.{error_line};
+ghost use Rattle.bd_cli.specs.Transcript.{error_line};
 ghost use Rattle.bd_cli.specs.Dump.Walk.{IsFaulty, ending_message, ending_status, walk_message};
 ghost use Rattle.bd_cli.specs.declared.status.Status.TheVariants.{Failed};
 
 use crate::dump::walk::{Walk, documents};
 use crate::ending::Ending;
-use crate::output::lines::Stopped;
+use crate::output::lines::OutputFault;
 use crate::output::messages::{
     fault_message, tell_no_memory, tell_unwritten, write_count, write_error, write_read_fault,
 };
@@ -23,10 +23,10 @@ use bd_device::{Input, Output};
 use std::alloc::Global;
 
 /// Writes what standard error is to tell of what comes after the documents.
-fn write_ending<E: Output>(alloc: Global, ending: &Ending, err: &mut E) -> Result<(), Stopped>
+fn write_ending<E: Output>(alloc: Global, ending: &Ending, err: &mut E) -> Result<(), OutputFault>
     ensures ok { OnOk result (TakesText (over E.state err.old err.new) (ending_message ending.now)) }
-    ensures starved { result ≡ Err Stopped.NoMemory → IsFaulty ending.now × (err.new ≡ err.old) }
-    ensures broke { result ≡ Err Stopped.Unwritten → BreaksWithin (over E.state err.old err.new) (ending_message ending.now) }
+    ensures starved { result ≡ Err OutputFault.NoMemory → IsFaulty ending.now × (err.new ≡ err.old) }
+    ensures broke { result ≡ Err OutputFault.Unwritten → BreaksWithin (over E.state err.old err.new) (ending_message ending.now) }
 {
     match ending {
         Ending::Whole => {}
@@ -41,10 +41,10 @@ fn write_ending<E: Output>(alloc: Global, ending: &Ending, err: &mut E) -> Resul
 
 /// Writes what standard error is to tell of a walk: what comes after the documents, and how many they are.
 #[tactic(auto, using(crate::proofs::OutputLemmas::LinesLemmas::taking))]
-fn write_walk<E: Output>(alloc: Global, walk: &Walk, err: &mut E) -> Result<(), Stopped>
+fn write_walk<E: Output>(alloc: Global, walk: &Walk, err: &mut E) -> Result<(), OutputFault>
     ensures ok { OnOk result (TakesText (over E.state err.old err.new) (walk_message walk.now.count walk.now.ending)) }
-    ensures starved { result ≡ Err Stopped.NoMemory → IsFaulty walk.now.ending × (err.new ≡ err.old) }
-    ensures broke { result ≡ Err Stopped.Unwritten → BreaksWithin (over E.state err.old err.new) (walk_message walk.now.count walk.now.ending) }
+    ensures starved { result ≡ Err OutputFault.NoMemory → IsFaulty walk.now.ending × (err.new ≡ err.old) }
+    ensures broke { result ≡ Err OutputFault.Unwritten → BreaksWithin (over E.state err.old err.new) (walk_message walk.now.count walk.now.ending) }
 {
     write_ending(alloc, &walk.ending, err)?;
     write_count(u64::from(walk.count), b" objects found\n", err)?;
@@ -62,8 +62,8 @@ fn tell_walk<E: Output>(alloc: Global, walk: &Walk, err: &mut E) -> Status
     };
     match write_walk(alloc, walk, err) {
         Ok(()) => wanted,
-        Err(Stopped::NoMemory) => tell_no_memory(err),
-        Err(Stopped::Unwritten) => Status::Failed,
+        Err(OutputFault::NoMemory) => tell_no_memory(err),
+        Err(OutputFault::Unwritten) => Status::Failed,
     }
 }
 
@@ -79,7 +79,7 @@ pub(crate) fn dump<R: Input, O: Output, E: Output>(
 {
     match documents(alloc, input, out) {
         Ok(walk) => tell_walk(alloc, &walk, err),
-        Err(Stopped::NoMemory) => tell_no_memory(err),
-        Err(Stopped::Unwritten) => tell_unwritten(err),
+        Err(OutputFault::NoMemory) => tell_no_memory(err),
+        Err(OutputFault::Unwritten) => tell_unwritten(err),
     }
 }

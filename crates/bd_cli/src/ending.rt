@@ -2,7 +2,7 @@
 ghost use Rattle.std.specs.Prelude.{◌≡◌};
 ghost use Rattle.bd_cli.specs.Ending.{IsEndingOf};
 
-use crate::output::lines::Stopped;
+use crate::output::lines::OutputFault;
 use bd_check::Fault;
 use bd_device::ReadFault;
 use bd_stream::DocFault;
@@ -19,13 +19,13 @@ pub enum Ending {
 }
 
 /// What a fault of reading is for the documents before it.
-pub(crate) fn ending_of(fault: DocFault) -> Result<Ending, Stopped>
+pub(crate) fn ending_of(fault: DocFault) -> Result<Ending, OutputFault>
     requires { ¬ (fault ≡ DocFault.Failed) }
     ensures { IsEndingOf fault result }
 {
     match fault {
         DocFault::Frame(fault) => Ok(Ending::Faulty(fault)),
-        DocFault::Read(ReadFault::NoMemory) => Err(Stopped::NoMemory),
+        DocFault::Read(ReadFault::NoMemory) => Err(OutputFault::NoMemory),
         DocFault::Read(fault) => Ok(Ending::Unread(fault)),
         DocFault::Failed => unreachable!(),
     }

@@ -11,9 +11,9 @@ ghost use Rattle.std.specs.Prelude.{◌≡◌, ◌≤◌, ◌⊎◌, codes, leng
 ghost use Rattle.bd_check.specs.AnsweredFault.{fault_view};
 ghost use Rattle.bd_command_line.specs.FindWords.{find_words_of};
 ghost use Rattle.bd_cli.specs.Find.{FindsDocuments, IsShownOfBytes};
-ghost use Rattle.bd_cli.specs.Find.Asking.{AsksNothing, fits_batch, wanted_by};
+ghost use Rattle.bd_cli.specs.Find.Asking.{AsksNothing, fits_batch, page_request_of};
 ghost use Rattle.bd_cli.specs.Outcome.{PrintsOrStarves, TellsMessage};
-ghost use Rattle.bd_cli.specs.Shown.{Shown, error_line, fault_text};
+ghost use Rattle.bd_cli.specs.Transcript.{Transcript, error_line, fault_text};
 ghost use Rattle.bd_cli.specs.declared.status.Status.TheVariants.{Failed};
 ghost use Rattle.bd_device.specs.Devices.{over};
 
@@ -63,7 +63,7 @@ fn find_in<O: Output, E: Output>(
 ) -> Status
     requires short { length bytes.items ≤ 4294967295 }
     requires fits { fits_batch asking.size ≡ true }
-    ensures { (shown : Shown) × IsShownOfBytes (wanted_by asking) bytes.items shown
+    ensures { (shown : Transcript) × IsShownOfBytes (page_request_of asking) bytes.items shown
         × PrintsOrStarves (over O.state out.old out.new) (over E.state err.old err.new) shown result }
 {
     match read_dump(alloc, bytes) {

@@ -8,11 +8,11 @@ ghost use Rattle.std.specs.Prelude.{◌≡◌, ◌≤◌, ◌⊎◌, ◌++◌, I
 ghost use Rattle.bd_cli.specs.declared.status.Status.TheVariants.{Failed};
 ghost use Rattle.bd_cli.specs.Outcome.{PrintsOrStarves, TellsMessage};
 ghost use Rattle.bd_cli.specs.Pack.{IsShownByPack, PacksInput, bad_line_line, bad_line_text, line_fault_text, pack_message, pack_status};
-ghost use Rattle.bd_cli.specs.Shown.{Shown, error_line};
+ghost use Rattle.bd_cli.specs.Transcript.{Transcript, error_line};
 ghost use Rattle.bd_device.specs.Devices.{BreaksWithin, TakesText, over};
 
 use crate::limits::LIMITS;
-use crate::output::lines::Stopped;
+use crate::output::lines::OutputFault;
 use crate::output::messages::{
     tell_no_memory, tell_read_fault, tell_unwritten, write_count, write_error,
 };
@@ -62,10 +62,10 @@ fn write_bad_line<E: Output>(
     alloc: Global,
     bad: &Option<BadLine>,
     err: &mut E,
-) -> Result<(), Stopped>
+) -> Result<(), OutputFault>
     ensures ok { OnOk result (TakesText (over E.state err.old err.new) (bad_line_line bad.now)) }
-    ensures starved { result ≡ Err Stopped.NoMemory → err.new ≡ err.old }
-    ensures broke { result ≡ Err Stopped.Unwritten → BreaksWithin (over E.state err.old err.new) (bad_line_line bad.now) }
+    ensures starved { result ≡ Err OutputFault.NoMemory → err.new ≡ err.old }
+    ensures broke { result ≡ Err OutputFault.Unwritten → BreaksWithin (over E.state err.old err.new) (bad_line_line bad.now) }
 {
     match bad {
         None => {}
@@ -79,10 +79,14 @@ fn write_bad_line<E: Output>(
 
 /// Writes what standard error is to tell: the bad line, where there is one, and how many documents were packed.
 #[tactic(auto, using(crate::proofs::OutputLemmas::LinesLemmas::taking))]
-fn write_packing<E: Output>(alloc: Global, packing: &Packing, err: &mut E) -> Result<(), Stopped>
+fn write_packing<E: Output>(
+    alloc: Global,
+    packing: &Packing,
+    err: &mut E,
+) -> Result<(), OutputFault>
     ensures ok { OnOk result (TakesText (over E.state err.old err.new) (pack_message packing.now.count packing.now.bad)) }
-    ensures starved { result ≡ Err Stopped.NoMemory → err.new ≡ err.old }
-    ensures broke { result ≡ Err Stopped.Unwritten → BreaksWithin (over E.state err.old err.new) (pack_message packing.now.count packing.now.bad) }
+    ensures starved { result ≡ Err OutputFault.NoMemory → err.new ≡ err.old }
+    ensures broke { result ≡ Err OutputFault.Unwritten → BreaksWithin (over E.state err.old err.new) (pack_message packing.now.count packing.now.bad) }
 {
     write_bad_line(alloc, &packing.bad, err)?;
     write_count(packing.count, b" objects packed\n", err)?;
@@ -100,21 +104,21 @@ fn tell_packing<E: Output>(alloc: Global, packing: &Packing, err: &mut E) -> Sta
     };
     match write_packing(alloc, packing, err) {
         Ok(()) => wanted,
-        Err(Stopped::NoMemory) => tell_no_memory(err),
-        Err(Stopped::Unwritten) => Status::Failed,
+        Err(OutputFault::NoMemory) => tell_no_memory(err),
+        Err(OutputFault::Unwritten) => Status::Failed,
     }
 }
 
 /// Shows what a text is packed as.
 fn pack_text<O: Output, E: Output>(alloc: Global, text: &[u8], out: &mut O, err: &mut E) -> Status
     requires { length text.now ≤ 4294967295 }
-    ensures { (shown : Shown) × IsShownByPack (Ok text.now) shown
+    ensures { (shown : Transcript) × IsShownByPack (Ok text.now) shown
         × PrintsOrStarves (over O.state out.old out.new) (over E.state err.old err.new) shown result }
 {
     match write_lines(alloc, text, out) {
         Ok(packing) => tell_packing(alloc, &packing, err),
-        Err(Stopped::NoMemory) => tell_no_memory(err),
-        Err(Stopped::Unwritten) => tell_unwritten(err),
+        Err(OutputFault::NoMemory) => tell_no_memory(err),
+        Err(OutputFault::Unwritten) => tell_unwritten(err),
     }
 }
 

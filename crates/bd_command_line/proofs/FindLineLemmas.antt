@@ -11,7 +11,7 @@ use Rattle.clap.specs.Walk.{Text, nothing_held, walk_from}
 use Rattle.clap.specs.declared.builder.value_parser.ValueParser.TheVariants.{Unsigned}
 use Rattle.clap.proofs.OnLiterals.{clap_on_literals}
 use Rattle.clap.proofs.ValueTestLemmas.{Accepts-accepts}
-use Rattle.bd_command_line.specs.CommandLine.{Ordered, find, is_file_word, number_read}
+use Rattle.bd_command_line.specs.CommandLine.{OrderView, find, is_file_word, number_read}
 use Rattle.bd_command_line.proofs.NumberLemmas.{small_yes}
 use Rattle.bd_command_line.specs.FindWords.{no_options}
 use Rattle.bd_command_line.proofs.FindWalkLemmas.{after_file, after_value, before_value, file_leads, leads_on, line_taken, past, word_leads}
@@ -94,7 +94,7 @@ abbrev pub number_fault : Bool → Kinds
 number_fault is_number = or_else (or_else (if is_number then [] else refused_kind (Unsigned 0 2147483647) ∷ []) []) []
 
 -- the order, by the number that the size is read as
-abbrev with_size : Text → Text → Option ℕ → Option Ordered
+abbrev with_size : Text → Text → Option ℕ → Option OrderView
 with_size rest file size = Some (find file (record no_options { query = Some (123 ∷ rest); batch = size }))
 
 pub batch_taken : (size : ℕ) (rest file : Text) → size ≤ 2147483647

@@ -5,7 +5,7 @@ use Rattle.std.specs.Fmt.{decimal}
 use Rattle.clap.specs.Kinds.{Kinds, or_else}
 use Rattle.clap.specs.Walk.{Row, Text, Walk, nothing_held, walk_from}
 use Rattle.clap.proofs.OnLiterals.{clap_on_literals}
-use Rattle.bd_command_line.specs.CommandLine.{Ordered, find, is_file_word, number_read}
+use Rattle.bd_command_line.specs.CommandLine.{OrderView, find, is_file_word, number_read}
 use Rattle.bd_command_line.proofs.FindLineLemmas.{number_fault, number_is_read, number_taken, number_word}
 use Rattle.bd_command_line.proofs.FindWalkLemmas.{Leads, after_value, after_word, before_value, leads_on, line_taken, past, word_leads}
 use Rattle.bd_command_line.proofs.LineLemmas.{IsTaken}
@@ -51,7 +51,7 @@ after_token query sort skip limit size path token =
     after_value (codes "after") (rows_before (after_index query sort skip limit size path) (codes "--after")) 1 token
 
 -- the order, by the numbers that are read
-abbrev numbers_order : (query sort path token file : Text) (skip limit size : Option ℕ) → Option Ordered
+abbrev numbers_order : (query sort path token file : Text) (skip limit size : Option ℕ) → Option OrderView
 numbers_order query sort path token file skip limit size = Some (find file (record {
   query = Some (123 ∷ query);
   sort = Some (123 ∷ sort);

@@ -9,7 +9,7 @@ use Rattle.clap.specs.Walk.{Row, Text, Walk, arg_by_id, finished, idle, option, 
 use Rattle.clap.proofs.FaultLemmas.{stopped_fault}
 use Rattle.clap.proofs.OnLiterals.{clap_on_literals}
 use Rattle.clap.proofs.WalkLemmas.{walk_stopped}
-use Rattle.bd_command_line.specs.CommandLine.{Ordered, is_file_word, line_app, order_of, ordered_by}
+use Rattle.bd_command_line.specs.CommandLine.{OrderView, is_file_word, line_app, order_of, ordered_by}
 use Rattle.bd_command_line.proofs.LineLemmas.{IsTaken, find_shape}
 use Rattle.bd_command_line.proofs.RowValueLemmas.{left_nil, right_nil}
 
@@ -38,7 +38,7 @@ end_fault end =
     or_else (settle_fault s.rules s.args_override_self end.held)
     (or_else (defaults_fault (settled s.rules end.held).rows s.rules) (check_fault s (finished s.rules end.held) false))
 
-abbrev pub end_order : Walk → Option Ordered
+abbrev pub end_order : Walk → Option OrderView
 end_order end = ordered_by (codes "find") (finished find_shape.rules end.held)
 
 abbrev line : App
@@ -81,7 +81,7 @@ line_order words =
     ap (λ (w : Walk). option_and_then (λ p. ordered_by p.0 p.1) (entered line w.stopped)) (line_walk words)
 
 -- a line is taken where its words lead to a place at which nothing is refused
-pub line_taken : (words : List Text) (end : Walk) (order : Ordered) → Leads (walk_from nothing_held) words end
+pub line_taken : (words : List Text) (end : Walk) (order : OrderView) → Leads (walk_from nothing_held) words end
     → end_fault end ≡ [] → end_order end ≡ Some order → IsTaken (codes "find" ∷ words) order
 line_taken words end order leads none is =
     let level = ap₂ (λ (k : Kinds) (w : Walk). or_else k (end_fault w)) leads.0 leads.1 ∙ none in

@@ -23,7 +23,7 @@ use Rattle.clap.proofs.OnLiterals.{clap_on_literals}
 use Rattle.bd_command_line.specs.declared.order.Order.{Order}
 use Rattle.bd_command_line.specs.declared.order.WordsFault.{WordsFault}
 use Rattle.bd_command_line.specs.declared.order.WordsFault.TheVariants.{NoMemory, Usage}
-use Rattle.bd_command_line.specs.CommandLine.{Ordered, GivesOrder, meant, check, dump, pack, serve, fault_for, file_app, find_app, find_ordered, told_as, is_file_word, is_help_line, is_serve_of_input, line_app, order_of, ordered_by, parser_refusal, serves_input}
+use Rattle.bd_command_line.specs.CommandLine.{OrderView, GivesOrder, meant, check, dump, pack, serve, fault_for, file_app, find_app, find_ordered, told_as, is_file_word, is_help_line, is_serve_of_input, line_app, order_of, ordered_by, parser_refusal, serves_input}
 use Rattle.bd_command_line.proofs.RowValueLemmas.{AllFilled, defaults-filled, fills, given_first, left_nil, right_nil, settled-filled, walk-filled}
 use Rattle.bd_command_line.proofs.FaultLemmas.{SameTold, same-fault}
 
@@ -182,7 +182,7 @@ pub told_by : (words : List Text) (refusal : Option WordsFault) (is_of_input : B
 told_by words refusal is_of_input refused served =
     ap₂ (λ (r : Option WordsFault) (b : Bool). option_or r (if b then Some Usage else None)) refused served
 
-pub served_as : (words : List Text) (order : Ordered) (is_of_input : Bool) → order_of words ≡ Some order → is_serve_of_input order ≡ is_of_input
+pub served_as : (words : List Text) (order : OrderView) (is_of_input : Bool) → order_of words ≡ Some order → is_serve_of_input order ≡ is_of_input
     → serves_input words ≡ is_of_input
 served_as words order is_of_input is e = ap (λ o. option_map_or is_serve_of_input o false) is ∙ e
 
@@ -199,7 +199,7 @@ help_line_refused words e taken =
 
 -- ---- the lines in their plainest form
 
-abbrev pub IsTaken : List Text → Ordered → Type 0
+abbrev pub IsTaken : List Text → OrderView → Type 0
 IsTaken words order = (fault_of line_app words ≡ []) × (order_of words ≡ Some order)
 
 short_word : (x : ℕ) (xs : List ℕ) → (x == 45) ≡ true → is_file_word (x ∷ xs) ≡ true → IsTaken (codes "dump" ∷ (x ∷ xs) ∷ []) (dump (x ∷ xs))
@@ -295,16 +295,16 @@ order_read a words m inner name is has named rows =
     ap (option_and_then (λ p. ordered_by p.0 p.1))
     (sym sub ∙ pair_read (subcommand_rows_of m) name (rows_of (found_of inner)) (named ∙ names_read (out-ArgMatches m).subcommand) rows)
 
-same_order : (words : List Text) (a b : Ordered) → order_of words ≡ Some a → order_of words ≡ Some b → a ≡ b
+same_order : (words : List Text) (a b : OrderView) → order_of words ≡ Some a → order_of words ≡ Some b → a ≡ b
 same_order words a b e f = ap (λ o. unwrap_or o a) (sym e ∙ f)
 
-pub orders_when : (r : Result Order WordsFault) (words : List Text) (order : Ordered) → order_of words ≡ Some order
+pub orders_when : (r : Result Order WordsFault) (words : List Text) (order : OrderView) → order_of words ≡ Some order
     → IfOk r (λ o. order_of words ≡ Some (meant o)) → IfErr r (λ f. f ≡ NoMemory) → GivesOrder r order
 orders_when (Ok o) words order is ok err = same_order words (meant o) order ok is
 orders_when (Err f) words order is ok err = err
 
 -- words that are taken are answered by their order, or memory ran out
-pub answered : (r : Result Order WordsFault) (words line : List Text) (order : Ordered) → words ≡ line
+pub answered : (r : Result Order WordsFault) (words line : List Text) (order : OrderView) → words ≡ line
     → IsTaken line order → is_serve_of_input order ≡ false → IfOk r (λ o. order_of words ≡ Some (meant o))
     → IfErr r (λ f. (f ≡ NoMemory) ⊎ (fault_for words ≡ Some f)) → GivesOrder r order
 answered (Ok o) words line order is taken other ok err = orders_when (Ok o) words order (ap order_of is ∙ taken.1) ok err

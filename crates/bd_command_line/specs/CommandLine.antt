@@ -69,14 +69,14 @@ line_app = with_subcommand files_app find_app.top
 
 -- ---- what they order
 
-pub data Ordered : Type 0 where
-  dump : Text → Ordered
-  check : Text → Ordered
-  pack : Text → Ordered
-  find : Text → FindWords → Ordered
-  serve : Text → Ordered
+pub data OrderView : Type 0 where
+  dump : Text → OrderView
+  check : Text → OrderView
+  pack : Text → OrderView
+  find : Text → FindWords → OrderView
+  serve : Text → OrderView
 
-abbrev pub meant : Order → Ordered
+abbrev pub meant : Order → OrderView
 meant (Dump file) = dump (string_bytes file)
 meant (Check file) = check (string_bytes file)
 meant (Pack file) = pack (string_bytes file)
@@ -107,11 +107,11 @@ find_words_in rows = record {
   after = first_of (codes "after") rows;
 }
 
-abbrev pub find_ordered : List Row → Text → Ordered
+abbrev pub find_ordered : List Row → Text → OrderView
 find_ordered rows file = find file (find_words_in rows)
 
 -- the order of a command's name and its matches
-abbrev pub ordered_by : Text → List Row → Option Ordered
+abbrev pub ordered_by : Text → List Row → Option OrderView
 ordered_by name rows =
     if bytes_eq name (codes "dump") then option_map dump (first_of (codes "file") rows)
     else (if bytes_eq name (codes "check") then option_map check (first_of (codes "file") rows)
@@ -121,7 +121,7 @@ ordered_by name rows =
     else (if bytes_eq name (codes "serve") then option_map serve (first_of (codes "file") rows) else None))))
 
 -- the order of words that are taken
-abbrev pub order_of : List Text → Option Ordered
+abbrev pub order_of : List Text → Option OrderView
 order_of words = option_and_then (λ p. ordered_by p.0 p.1) (subcommand_of line_app words)
 
 -- ---- and how the others are answered
@@ -137,7 +137,7 @@ abbrev pub parser_refusal : List Text → Option WordsFault
 parser_refusal words = option_map told_as (slice_get (fault_of line_app words) 0)
 
 -- `serve` of the standard input: the commands of a session come from there, so the dump can not
-abbrev pub is_serve_of_input : Ordered → Bool
+abbrev pub is_serve_of_input : OrderView → Bool
 is_serve_of_input (serve file) = bytes_eq file (codes "-")
 is_serve_of_input _ = false
 
@@ -150,7 +150,7 @@ abbrev pub fault_for : List Text → Option WordsFault
 fault_for words = option_or (parser_refusal words) (if serves_input words then Some Usage else None)
 
 -- the answer is this order, or memory ran out
-abbrev pub GivesOrder : Result Order WordsFault → Ordered → Type 0
+abbrev pub GivesOrder : Result Order WordsFault → OrderView → Type 0
 GivesOrder answer order = MatchResult answer (λ o. meant o ≡ order) (λ f. f ≡ NoMemory)
 
 -- the first word is `help`

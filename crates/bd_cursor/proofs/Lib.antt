@@ -1,5 +1,5 @@
-pub mod AheadLemmas
 pub mod CursorLemmas
-pub mod ListedLemmas
+pub mod PlaceListLemmas
+pub mod ScanPositionLemmas
 pub mod SessionLemmas
-pub mod UnsortedAheadLemmas
+pub mod UnsortedScanLemmas

@@ -1,7 +1,7 @@
 -- A session as the state of the machine.
 use Rattle.std.specs.Prelude.{◌≡◌, ◌-◌, ◌++◌, ℕ, nat_lt, Bool, false, true, List, [], ◌∷◌, drop, length, map, option_map, string_bytes, Option, Some, None}
 use Rattle.std.specs.List.{filter, range_with_len}
-use Rattle.bd_answer.specs.Answer.{Asked, Mark, at_most}
+use Rattle.bd_answer.specs.Answer.{Selection, Mark, at_most}
 use Rattle.bd_answer.specs.Session.{Call, GivenBatch, IndexCounts, IndexMark, MarkedToken, OpenCursor, Reply, State, explain_call, find_call, has_index, make_call, most_indexes, resume_call}
 use Rattle.bd_answer.specs.Session.{explained, foreign_token, gave, index_there, made, no_cursor, no_index, opened, out_of_range, token_place}
 use Rattle.bd_answer.specs.Session.{too_many_cursors, too_many_indexes}
@@ -9,9 +9,9 @@ use Rattle.bd_bson.specs.declared.collection.Dump.{Dump}
 use Rattle.bd_bson.specs.Collection.{documents}
 use Rattle.bd_query.specs.FilterView.{filter_tree}
 use Rattle.bd_query.specs.declared.filter.Filter.{Filter}
-use Rattle.bd_sort.specs.Asked.{hits_of, query_of}
-use Rattle.bd_sort.specs.Sorted.{with_first}
-use Rattle.bd_cursor.specs.declared.ahead.Ahead.{Ahead}
+use Rattle.bd_sort.specs.Selection.{hits_of, query_of}
+use Rattle.bd_sort.specs.Sorting.{with_first}
+use Rattle.bd_cursor.specs.declared.scan_position.ScanPosition.{ScanPosition}
 use Rattle.bd_plan.specs.Explanation.{explanation_of, index_counts, index_mark}
 use Rattle.bd_plan.specs.declared.choice.Choice.{Choice}
 use Rattle.bd_plan.specs.declared.choice.Choice.TheVariants as choices
@@ -20,8 +20,8 @@ use Rattle.bd_request.specs.declared.request.Request.{Request}
 use Rattle.bd_cursor.specs.declared.session.Made.{Made}
 use Rattle.bd_cursor.specs.declared.cursor.Batch.{Batch}
 use Rattle.bd_cursor.specs.declared.cursor.Cursor.{Cursor}
-use Rattle.bd_cursor.specs.declared.left.Left.{Left}
-use Rattle.bd_cursor.specs.declared.left.Left.TheVariants as lefts
+use Rattle.bd_cursor.specs.declared.remainder.Remainder.{Remainder}
+use Rattle.bd_cursor.specs.declared.remainder.Remainder.TheVariants as remainders
 use Rattle.bd_request.specs.declared.refused.Refused.{Refused}
 use Rattle.bd_request.specs.declared.refused.Refused.TheVariants as reasons
 use Rattle.bd_cursor.specs.declared.session.Session.{Session}
@@ -35,25 +35,25 @@ marked_token t = record { mark = mark_of t; digest = t.digest }
 
 -- what a cursor that goes on where it stands has left: the match that it found, and those among the documents that it did
 -- not look at
-abbrev pub ahead_left : ℕ → (ℕ → Bool) → Ahead → List ℕ
-ahead_left count hits a =
+abbrev pub scan_left : ℕ → (ℕ → Bool) → ScanPosition → List ℕ
+scan_left count hits a =
     at_most a.most (with_first a.found (drop a.skip (filter hits (range_with_len a.next (count - a.next)))))
 
-abbrev pub ahead_in : Dump → Filter → Ahead → List ℕ
-ahead_in dump filter a =
-    ahead_left (length (documents dump)) (hits_of (documents dump) (filter_tree filter)) a
+abbrev pub scan_left_in : Dump → Filter → ScanPosition → List ℕ
+scan_left_in dump filter a =
+    scan_left (length (documents dump)) (hits_of (documents dump) (filter_tree filter)) a
 
 -- the places that a cursor has left
-abbrev pub places_left : Asked → Left → List ℕ
-places_left a (lefts.Ahead ahead) = ahead_left a.count a.hits ahead
-places_left a (lefts.Listed ps) = ps
+abbrev pub places_left : Selection → Remainder → List ℕ
+places_left a (remainders.Scanned position) = scan_left a.count a.hits position
+places_left a (remainders.Listed ps) = ps
 
 abbrev pub open_cursor : Dump → Cursor → OpenCursor
 open_cursor dump c = record {
   id = c.id;
   digest = (query_of dump c.request).digest;
   token = option_map marked_token c.token;
-  left = places_left (query_of dump c.request).asked c.left;
+  left = places_left (query_of dump c.request).selection c.left;
 }
 
 abbrev pub state_of : Session → State

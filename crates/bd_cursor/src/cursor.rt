@@ -3,11 +3,11 @@
 ghost use Rattle.std.specs.Prelude.{◌≡◌, ◌<◌, IfNone, IfOk, IfSome, None, OnErr, OnOk, length, map, option_map, slice_get, slice_set};
 ghost use Rattle.bd_answer.specs.Session.{OpenCursor, batch_of, cursor_of, digest_after, given_by, moved, token_after, with_cursor, without};
 ghost use Rattle.bd_bson.specs.declared.collection.Dump.{Dump};
-ghost use Rattle.bd_sort.specs.Asked.{query_of};
+ghost use Rattle.bd_sort.specs.Selection.{query_of};
 ghost use Rattle.bd_cursor.specs.SessionView.{given_batch, marked_token, open_cursor};
 
 use crate::digested_dump::DigestedDump;
-use crate::left::Left;
+use crate::remainder::Remainder;
 use bd_request::{Request, Token, request_digest};
 use bd_value::NoMemory;
 use std::alloc::Global;
@@ -30,7 +30,7 @@ pub(crate) struct Cursor {
     pub request: Request,
     /// After what it gave last, or the one that it was opened with.
     pub token: Option<Token>,
-    pub left: Left,
+    pub left: Remainder,
 }
 
 impl Cursor {

@@ -17,15 +17,15 @@
 //!
 //! - `session`: `Session`, its calls and `Made`: `specs/SessionView.antt`.
 //! - `cursor`: the open cursors, and `Batch`; `digested_dump`: the digest of a dump, taken once.
-//! - `left`: the places that a cursor has left: `ahead`, where each document is looked at and there is no sort, and `listed`, where
-//!   all are known.
+//! - `remainder`: the places that a cursor has left: `scan_position`, where each document is looked at and there is no sort, and
+//!   `place_list`, where all are known.
 #![tactic(auto)]
 
-mod ahead;
 mod cursor;
 mod digested_dump;
-mod left;
-mod listed;
+mod place_list;
+mod remainder;
+mod scan_position;
 mod session;
 
 pub use bd_plan::{Choice, Explain, Plan};

@@ -1,10 +1,10 @@
 //! Cursors over a dump.
 
-ghost use Rattle.bd_index.specs.Indexed.{AreIndexesOf, AreIndexesOf-prop};
+ghost use Rattle.bd_index.specs.IndexView.{AreIndexesOf, AreIndexesOf-prop};
 
 use crate::cursor::{Batch, Cursor, close, place_of};
 use crate::digested_dump::DigestedDump;
-use crate::left::Left;
+use crate::remainder::Remainder;
 use bd_bson::Dump;
 use bd_index::Index;
 use bd_path::Path;
@@ -51,9 +51,9 @@ impl Session {
     ghost use Rattle.bd_answer.specs.Session.{drop_call, kill_call, make_reply, next_call, open_reply, reply};
     ghost use Rattle.bd_answer.specs.SessionLaws.{new_state};
     ghost use Rattle.bd_bson.specs.Collection.{documents};
-    ghost use Rattle.bd_index.specs.Indexed.{IsIndexOf};
+    ghost use Rattle.bd_index.specs.IndexView.{IsIndexOf};
     ghost use Rattle.bd_plan.specs.Explanation.{index_counts, index_mark, told};
-    ghost use Rattle.bd_sort.specs.Asked.{query_of};
+    ghost use Rattle.bd_sort.specs.Selection.{query_of};
     ghost use Rattle.bd_cursor.specs.SessionView.{IsGranted, dump_of, given_batch, marked_token, path_mark, places_left, state_of, with_index};
     ghost use Rattle.bd_cursor.specs.SessionView.{IsRefusedCall, explain_request, find_request, hint_of, made_counts, make_index, resume_request};
 
@@ -181,7 +181,7 @@ impl Session {
     {
         self.may_open(&choice)?;
         let documents = &self.documents;
-        let left = Left::of_answer(
+        let left = Remainder::of_answer(
             self.alloc,
             &documents.dump,
             &self.indexes,
@@ -224,7 +224,7 @@ impl Session {
         }
         self.may_open(&choice)?;
         let documents = &self.documents;
-        let left = Left::of_rest(
+        let left = Remainder::of_rest(
             self.alloc,
             &documents.dump,
             &self.indexes,
@@ -374,12 +374,17 @@ impl Session {
     }
 
     /// Puts in a cursor that may be opened.
-    fn open(&mut self, request: Request, token: Option<Token>, left: Left) -> Result<u64, Refused>
+    fn open(
+        &mut self,
+        request: Request,
+        token: Option<Token>,
+        left: Remainder,
+    ) -> Result<u64, Refused>
         requires { self.now.next_id ≤ 9223372036854775807 }
         ensures id { IfOk result (λ id. id ≡ self.old.next_id) }
         ensures after { OnOk result
             (state_of self.new ≡ with_open (state_of self.old) (query_of (dump_of self.old) request).digest
-            (option_map marked_token token) (places_left (query_of (dump_of self.old) request).asked left)) }
+            (option_map marked_token token) (places_left (query_of (dump_of self.old) request).selection left)) }
         ensures refused { IfErr result (λ r. r ≡ Refused.NoMemory) }
         ensures unchanged { OnErr result (state_of self.new ≡ state_of self.old) }
         ensures dump { dump_of self.new ≡ dump_of self.old }

@@ -8,7 +8,7 @@ use std::alloc::Global;
 
 /// What faults are sought.
 #[derive(Clone, Copy, Drop)]
-pub(crate) enum Sought {
+pub(crate) enum Target {
     /// Those of JSON alone: inside a wrapper, and after the first fault of the tree.
     Json,
     /// Those of the tree too, where documents and arrays may stand so deep in one another.
@@ -25,7 +25,7 @@ pub(crate) enum Form {
 
 /// A value of the text, which is JSON up to the value's end.
 #[derive(Clone, Copy, Drop)]
-pub(crate) struct Walked<'a> {
+pub(crate) struct WalkedValue<'a> {
     pub form: Form,
     /// The first fault of the tree in it.
     pub fault: Option<Stop>,
@@ -36,24 +36,24 @@ pub(crate) struct Walked<'a> {
 /// What was found in a document or an array so far, and what is sought in the rest.
 #[derive(Clone, Copy, Drop)]
 pub(crate) struct Search {
-    pub sought: Sought,
+    pub target: Target,
     pub fault: Option<Stop>,
 }
 
 impl Search {
     /// Of a document or an array that begins here.
-    pub fn begin(text: &[u8], sought: Sought) -> Search {
-        match sought {
-            Sought::Json => Search {
-                sought,
+    pub fn begin(text: &[u8], target: Target) -> Search {
+        match target {
+            Target::Json => Search {
+                target,
                 fault: None,
             },
-            Sought::Tree(0) => Search {
-                sought: Sought::Json,
+            Target::Tree(0) => Search {
+                target: Target::Json,
                 fault: Some(Stop::at(text, JsonFaultKind::TooDeep)),
             },
-            Sought::Tree(room) => Search {
-                sought: Sought::Tree(room - 1),
+            Target::Tree(room) => Search {
+                target: Target::Tree(room - 1),
                 fault: None,
             },
         }
@@ -63,13 +63,13 @@ impl Search {
     pub fn note(&mut self, fault: Option<Stop>) {
         if fault.is_some() {
             self.fault = fault;
-            self.sought = Sought::Json;
+            self.target = Target::Json;
         }
     }
 
     /// Looks for a zero in the name of a member.
     pub fn note_name(&mut self, alloc: Global, key: &Key<'_>) -> Result<(), Stop> {
-        if let Sought::Json = self.sought {
+        if let Target::Json = self.target {
             return Ok(());
         }
         if let Name::WithZero = read_name(alloc, key)? {
@@ -100,7 +100,7 @@ impl CodeParts {
     }
 
     /// Takes the part of that name.
-    pub fn note(&mut self, name: Name, part: &Walked<'_>) {
+    pub fn note(&mut self, name: Name, part: &WalkedValue<'_>) {
         match name {
             Name::Wrapper(Wrapper::Code) if self.code.is_none() => self.code = Some(part.form),
             Name::Wrapper(Wrapper::Scope) if self.scope.is_none() => {
@@ -128,9 +128,9 @@ impl CodeParts {
 }
 
 /// What is sought in the part of that name.
-pub(crate) fn sought_in(name: Name, room: usize) -> Sought {
+pub(crate) fn target_in(name: Name, room: usize) -> Target {
     match name {
-        Name::Wrapper(Wrapper::Scope) => Sought::Tree(room.saturating_sub(1)),
-        _ => Sought::Json,
+        Name::Wrapper(Wrapper::Scope) => Target::Tree(room.saturating_sub(1)),
+        _ => Target::Json,
     }
 }

@@ -4,7 +4,7 @@
 ghost use Rattle.std.specs.Prelude.{length};
 ghost use Rattle.bd_diagnose.specs.JsonFault.{IsPlaced};
 
-use crate::findings::{Form, Sought};
+use crate::findings::{Form, Target};
 use crate::json_fault::{JsonFault, JsonFaultKind};
 use crate::limits::{BRACKETS, LEVELS};
 use crate::skip::{Stop, skip_white};
@@ -16,7 +16,7 @@ fn check(alloc: Global, text: &[u8]) -> Result<(), Stop> {
     if let Err(error) = str::from_utf8(text) {
         return Err(Stop::syntax(&text[error.valid_up_to()..]));
     }
-    let walked = walk::value(alloc, text, BRACKETS, Sought::Tree(LEVELS))?;
+    let walked = walk::value(alloc, text, BRACKETS, Target::Tree(LEVELS))?;
     let after = skip_white(walked.rest);
     if !after.is_empty() {
         return Err(Stop::at(after, JsonFaultKind::TrailingText));

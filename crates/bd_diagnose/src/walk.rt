@@ -1,7 +1,7 @@
 //! The first fault of a text: of the whole text as JSON, and after that of the tree that it is.
 ghost use Rattle.std.specs.Prelude.{◌<◌, ◌≤◌, length, IfOk};
 
-use crate::findings::{CodeParts, Form, Search, Sought, Walked, sought_in};
+use crate::findings::{CodeParts, Form, Search, Target, WalkedValue, target_in};
 use crate::json_fault::JsonFaultKind;
 use crate::member_name::{Name, read_name};
 use crate::skip::{Stop, skip_number, skip_white, skip_word};
@@ -23,15 +23,15 @@ fn check_number(number: &[u8]) -> Result<(), JsonFaultKind> {
     }
 }
 
-fn number(text: &[u8], sought: Sought) -> Result<Walked<'_>, Stop>
+fn number(text: &[u8], target: Target) -> Result<WalkedValue<'_>, Stop>
     ensures { IfOk result (λ walked. length walked.rest.now < length text.now) }
 {
     let rest = skip_number(text)?;
-    let fault = match sought {
-        Sought::Json => None,
-        Sought::Tree(_) => check_number(&text[..text.len() - rest.len()]).err(),
+    let fault = match target {
+        Target::Json => None,
+        Target::Tree(_) => check_number(&text[..text.len() - rest.len()]).err(),
     };
-    Ok(Walked {
+    Ok(WalkedValue {
         form: Form::Other,
         fault: fault.map(|kind| Stop::at(text, kind)),
         rest,
@@ -39,7 +39,7 @@ fn number(text: &[u8], sought: Sought) -> Result<Walked<'_>, Stop>
 }
 
 /// A value without values in it.
-fn scalar(text: &[u8], sought: Sought) -> Result<Walked<'_>, Stop>
+fn scalar(text: &[u8], target: Target) -> Result<WalkedValue<'_>, Stop>
     ensures { IfOk result (λ walked. length walked.rest.now < length text.now) }
 {
     let (form, rest) = match text {
@@ -47,10 +47,10 @@ fn scalar(text: &[u8], sought: Sought) -> Result<Walked<'_>, Stop>
         [b't', tail @ ..] => (Form::Other, skip_word(tail, b"rue")?),
         [b'f', tail @ ..] => (Form::Other, skip_word(tail, b"alse")?),
         [b'n', tail @ ..] => (Form::Other, skip_word(tail, b"ull")?),
-        [b'-' | b'0'..=b'9', ..] => return number(text, sought),
+        [b'-' | b'0'..=b'9', ..] => return number(text, target),
         _ => return Err(Stop::syntax(text)),
     };
-    Ok(Walked {
+    Ok(WalkedValue {
         form,
         fault: None,
         rest,
@@ -63,30 +63,30 @@ pub(crate) fn value(
     alloc: Global,
     text: &[u8],
     level: usize,
-    sought: Sought,
-) -> Result<Walked<'_>, Stop>
+    target: Target,
+) -> Result<WalkedValue<'_>, Stop>
     ensures { IfOk result (λ walked. length walked.rest.now < length text.now) }
 {
     let here = skip_white(text);
     match here {
         [b'{' | b'[', ..] if level == 0 => Err(Stop::at(here, JsonFaultKind::TooDeep)),
-        [b'{', ..] => object(alloc, here, level - 1, sought),
-        [b'[', ..] => array(alloc, here, level - 1, sought),
-        _ => scalar(here, sought),
+        [b'{', ..] => object(alloc, here, level - 1, target),
+        [b'[', ..] => array(alloc, here, level - 1, target),
+        _ => scalar(here, target),
     }
 }
 
 /// An array, which begins the text.
 #[cycle(walk)]
-fn array(alloc: Global, text: &[u8], level: usize, sought: Sought) -> Result<Walked<'_>, Stop>
+fn array(alloc: Global, text: &[u8], level: usize, target: Target) -> Result<WalkedValue<'_>, Stop>
     ensures { IfOk result (λ walked. length walked.rest.now < length text.now) }
 {
-    let mut search = Search::begin(text, sought);
+    let mut search = Search::begin(text, target);
     let [_, items @ ..] = text else {
         return Err(Stop::syntax(text));
     };
     if let [b']', rest @ ..] = skip_white(items) {
-        return Ok(Walked {
+        return Ok(WalkedValue {
             form: Form::Other,
             fault: search.fault,
             rest,
@@ -94,12 +94,12 @@ fn array(alloc: Global, text: &[u8], level: usize, sought: Sought) -> Result<Wal
     }
     let mut rest = items;
     loop {
-        let item = value(alloc, rest, level, search.sought)?;
+        let item = value(alloc, rest, level, search.target)?;
         search.note(item.fault);
         let after = skip_white(item.rest);
         match after {
             [b',', tail @ ..] => rest = tail,
-            [b']', rest @ ..] => return Ok(Walked {
+            [b']', rest @ ..] => return Ok(WalkedValue {
                 form: Form::Other,
                 fault: search.fault,
                 rest,
@@ -111,15 +111,20 @@ fn array(alloc: Global, text: &[u8], level: usize, sought: Sought) -> Result<Wal
 
 /// An object that is read as a document, or as JSON alone.
 #[cycle(walk)]
-fn members(alloc: Global, text: &[u8], level: usize, sought: Sought) -> Result<Walked<'_>, Stop>
+fn members(
+    alloc: Global,
+    text: &[u8],
+    level: usize,
+    target: Target,
+) -> Result<WalkedValue<'_>, Stop>
     ensures { IfOk result (λ walked. length walked.rest.now < length text.now) }
 {
-    let mut search = Search::begin(text, sought);
+    let mut search = Search::begin(text, target);
     let [_, inside @ ..] = text else {
         return Err(Stop::syntax(text));
     };
     if let [b'}', rest @ ..] = skip_white(inside) {
-        return Ok(Walked {
+        return Ok(WalkedValue {
             form: Form::Document,
             fault: search.fault,
             rest,
@@ -129,12 +134,12 @@ fn members(alloc: Global, text: &[u8], level: usize, sought: Sought) -> Result<W
     loop {
         let key = skip_key(rest)?;
         search.note_name(alloc, &key)?;
-        let member = value(alloc, key.rest, level, search.sought)?;
+        let member = value(alloc, key.rest, level, search.target)?;
         search.note(member.fault);
         let after = skip_white(member.rest);
         match after {
             [b',', tail @ ..] => rest = tail,
-            [b'}', rest @ ..] => return Ok(Walked {
+            [b'}', rest @ ..] => return Ok(WalkedValue {
                 form: Form::Document,
                 fault: search.fault,
                 rest,
@@ -161,20 +166,20 @@ fn first_wrapper(alloc: Global, text: &[u8]) -> Result<Option<Wrapper>, Stop> {
 
 /// An object, which its first name makes a wrapper or a document.
 #[cycle(walk)]
-fn object(alloc: Global, text: &[u8], level: usize, sought: Sought) -> Result<Walked<'_>, Stop>
+fn object(alloc: Global, text: &[u8], level: usize, target: Target) -> Result<WalkedValue<'_>, Stop>
     ensures { IfOk result (λ walked. length walked.rest.now < length text.now) }
 {
-    let Sought::Tree(room) = sought else {
-        return members(alloc, text, level, sought);
+    let Target::Tree(room) = target else {
+        return members(alloc, text, level, target);
     };
     match first_wrapper(alloc, text)? {
-        None => members(alloc, text, level, sought),
+        None => members(alloc, text, level, target),
         Some(Wrapper::Code | Wrapper::Scope) => code(alloc, text, level, room),
         Some(wrapper) => {
-            let rest = members(alloc, text, level, Sought::Json)?.rest;
+            let rest = members(alloc, text, level, Target::Json)?.rest;
             let object = &text[..text.len() - rest.len()];
             let fault = check_wrapper(alloc, wrapper, object).err();
-            Ok(Walked {
+            Ok(WalkedValue {
                 form: Form::Other,
                 fault: fault.map(|kind| Stop::at(text, kind)),
                 rest,
@@ -185,7 +190,7 @@ fn object(alloc: Global, text: &[u8], level: usize, sought: Sought) -> Result<Wa
 
 /// An object whose first name is `$code` or `$scope`. Its scope is walked where it stands, and judged after the rest.
 #[cycle(walk)]
-fn code(alloc: Global, text: &[u8], level: usize, room: usize) -> Result<Walked<'_>, Stop>
+fn code(alloc: Global, text: &[u8], level: usize, room: usize) -> Result<WalkedValue<'_>, Stop>
     ensures { IfOk result (λ walked. length walked.rest.now < length text.now) }
 {
     let mut parts = CodeParts::none();
@@ -196,12 +201,12 @@ fn code(alloc: Global, text: &[u8], level: usize, room: usize) -> Result<Walked<
     loop {
         let key = skip_key(rest)?;
         let name = read_name(alloc, &key)?;
-        let part = value(alloc, key.rest, level, sought_in(name, room))?;
+        let part = value(alloc, key.rest, level, target_in(name, room))?;
         parts.note(name, &part);
         let after = skip_white(part.rest);
         match after {
             [b',', tail @ ..] => rest = tail,
-            [b'}', rest @ ..] => return Ok(Walked {
+            [b'}', rest @ ..] => return Ok(WalkedValue {
                 form: Form::Other,
                 fault: parts.fault(text, room),
                 rest,

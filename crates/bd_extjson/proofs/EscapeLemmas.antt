@@ -1,11 +1,11 @@
 -- Strings: what needs no escape stands for itself.
 use Rattle.std.proofs.Common.{◌≡◌, ℕ, suc, ◌+◌, ◌-◌, ◌<◌, ◌≤◌, Bool, true, false, cond, List, [], ◌∷◌, ◌++◌, length, take, drop, get_or, Some, None, refl, sym, ap, ◌∙◌, subst, arith, add-one, drop-cons, append-nil, append_assoc, length-drop, ◌^◌, ℤ, pos, negsuc, decimal}
-use Rattle.std.specs.Prelude.{nat_lt}
+use Rattle.std.specs.Prelude.{nat_lt, ◌||◌}
 use Rattle.std.specs.Fmt.{signed_decimal}
 use Rattle.std.specs.Int.{w32, w64}
 use Rattle.std.specs.Int.RustNames.{FitsSigned}
 use Rattle.std.specs.Int.Signed.{mag}
-use Rattle.std.specs.List.{position, position_or_len}
+use Rattle.std.specs.List.{position, position_or_len, list_any}
 use Rattle.std.specs.Str.Parse.{AllDigits}
 use Rattle.std.proofs.Math.ListN.{drop_of_length-le}
 use Rattle.std.proofs.lemmas.List.{take_all}
@@ -26,6 +26,16 @@ escaped-digits (d ∷ ds) h =
     let inside = digit_from_value d h.0 in
     let plain : needs_escape d ≡ false = grind (arith, common_steps) in
     rw (escape_byte-plain d plain) (ap (λ (l : List ℕ). d ∷ l) (escaped-digits ds h.1))
+
+either_none : (a b : Bool) → (a || b) ≡ false → (a ≡ false) × (b ≡ false)
+either_none true b e = absurd cc
+either_none false b e = (refl, e)
+
+pub escaped-plain : (xs : List ℕ) → list_any needs_escape xs ≡ false → escaped xs ≡ xs
+escaped-plain [] h = refl
+escaped-plain (b ∷ bs) h =
+    let parts = either_none (needs_escape b) (list_any needs_escape bs) h in
+    rw (escape_byte-plain b parts.0) (ap (λ (l : List ℕ). b ∷ l) (escaped-plain bs parts.1))
 
 escaped-from_run : (xs : List ℕ) → escaped xs ≡ take (position_or_len needs_escape xs) xs ++ escaped (drop (position_or_len needs_escape xs) xs)
 escaped-from_run [] = refl
@@ -79,6 +89,10 @@ fits_32 (negsuc n) fits = omega (arith, ints)
 pub fits_64 : (z : ℤ) → FitsSigned w64 z → mag z < 2 ^ 63
 fits_64 (pos n) fits = omega (arith, ints)
 fits_64 (negsuc n) fits = omega (arith, ints)
+
+pub wider : (z : ℤ) → FitsSigned w32 z → FitsSigned w64 z
+wider (pos n) fits = record { sfits = omega (arith, ints) }
+wider (negsuc n) fits = record { sfits = omega (arith, ints) }
 
 escaped-decimal : (n : ℕ) → n < 2 ^ 64 → escaped (decimal n) ≡ decimal n
 escaped-decimal n small = escaped-digits (decimal n) (decimal_is_IsNumeral n small).0.1

@@ -4,7 +4,6 @@ pub mod StringUtf8Lemmas
 pub mod DecimalLemmas
 pub mod InjectiveLemmas
 pub mod EscapeLemmas
-pub mod InPlaceLemmas
 pub mod JsonLemmas
 pub mod PartLemmas
 pub mod PieceLemmas
@@ -13,6 +12,7 @@ pub mod PrintLemmas
 pub mod PlainByteLemmas
 pub mod ReadBackLemmas
 pub mod FitLemmas
+pub mod RoomLemmas
 pub mod RowLemmas
 pub mod ScalarInverseLemmas
 pub mod MemberLemmas

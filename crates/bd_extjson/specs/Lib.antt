@@ -2,3 +2,4 @@ pub mod Plain
 pub mod TextDocument
 pub mod Text
 pub mod Meaning
+pub mod Short

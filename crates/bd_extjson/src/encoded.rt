@@ -1,55 +1,67 @@
 //! Bytes as base64 and as hexadecimal digits.
-ghost use Rattle.std.specs.Prelude.{◌≡◌, ◌++◌, OnOk, OnErr, [], ◌∷◌};
-ghost use Rattle.std.specs.Io.{StartsWith};
+ghost use Rattle.std.specs.Prelude.{◌≡◌, ◌≤◌, ◌+◌, ◌++◌, IfOk, OnErr, [], ◌∷◌, length, take};
+ghost use Rattle.base64.specs.Engines.{standard};
+ghost use Rattle.base64.specs.GeneralPurpose.{encoded_size_of};
 ghost use Rattle.bd_extjson.specs.Text.{base64_text, hex_text};
 
+use crate::room::make_room;
 use base64::encoded_len;
 use base64::engine::general_purpose::STANDARD;
 use bd_value::NoMemory;
 use std::alloc::AllocError;
 
+/// Writes the base64 text of bytes, of that size, after the text.
+fn put_base64(bytes: &[u8], size: usize, room: &mut [u8], end: usize) -> usize
+    requires size { size ≡ encoded_size_of standard (length bytes.now) }
+    requires room { end + size ≤ length room.old }
+    ensures put { take result room.new ≡ take end room.old ++ base64_text bytes.now }
+    ensures end { result ≡ end + size }
+{
+    let after = end + size;
+    let Ok(_) = STANDARD.encode_slice(bytes, &mut room[end..after]) else {
+        unreachable!();
+    };
+    after
+}
+
 /// Appends the base64 text of bytes. It is written into place, so that no text in between takes memory. A length that no
 /// vector can have is told as `NoMemory`.
-pub(crate) fn write_base64(bytes: &[u8], out: &mut Vec<u8>) -> Result<(), NoMemory>
-    ensures ok { OnOk result (out.new.items ≡ out.old.items ++ base64_text bytes.now) }
-    ensures err { OnErr result (StartsWith out.new.items out.old.items) }
+pub(crate) fn append_base64(bytes: &[u8], out: &mut Vec<u8>, end: usize) -> Result<usize, NoMemory>
+    requires { end ≤ length out.old.items }
+    ensures ok { IfOk result (λ e. take e out.new.items ≡ take end out.old.items ++ base64_text bytes.now) }
+    ensures within { IfOk result (λ e. e ≤ length out.new.items) }
+    ensures err { OnErr result (take end out.new.items ≡ take end out.old.items) }
 {
-    let before = out.len();
     let Some(size) = encoded_len(bytes.len(), true) else {
         return Err(AllocError);
     };
-    let Some(after) = size.checked_add(before) else {
-        return Err(AllocError);
-    };
-    out.resize(after, 0)?;
-    let Ok(_) = STANDARD.encode_slice(bytes, &mut out.as_mut_slice()[before..]) else {
-        unreachable!();
-    };
-    Ok(())
+    make_room(out, end, size)?;
+    Ok(put_base64(bytes, size, out.as_mut_slice(), end))
 }
 
-/// Appends the 24 digits of an id.
-#[tactic(auto, using(bd_value::proofs::FrontLemmas::fronts), unfolding(crate::specs::Text::hex_text))]
-pub(crate) fn write_id(id: &[u8; 12], out: &mut Vec<u8>) -> Result<(), NoMemory>
-    ensures ok { OnOk result (out.new.items ≡ out.old.items ++ hex_text id.now) }
-    ensures err { OnErr result (StartsWith out.new.items out.old.items) }
+/// Writes the 24 digits of an id after the text.
+#[inline(always)]
+#[tactic(auto, unfolding(crate::specs::Text::hex_text))]
+pub(crate) fn put_id(id: &[u8; 12], room: &mut [u8], end: usize) -> usize
+    requires { end + 24 ≤ length room.old }
+    ensures put { take result room.new ≡ take end room.old ++ hex_text id.now }
+    ensures end { result ≡ end + 24 }
 {
-    let mut digits = [0u8; 24];
-    let Ok(()) = hex::encode_to_slice(id.as_slice(), &mut digits) else {
+    let Ok(()) = hex::encode_to_slice(id.as_slice(), &mut room[end..end + 24]) else {
         unreachable!();
     };
-    out.extend_from_slice(&digits)
+    end + 24
 }
 
-/// Appends the two digits of a byte.
-#[tactic(auto, using(bd_value::proofs::FrontLemmas::fronts), unfolding(crate::specs::Text::hex_text))]
-pub(crate) fn write_byte(byte: u8, out: &mut Vec<u8>) -> Result<(), NoMemory>
-    ensures ok { OnOk result (out.new.items ≡ out.old.items ++ hex_text (byte ∷ [])) }
-    ensures err { OnErr result (StartsWith out.new.items out.old.items) }
+/// Writes the two digits of a byte after the text.
+#[tactic(auto, unfolding(crate::specs::Text::hex_text))]
+pub(crate) fn put_hex(byte: u8, room: &mut [u8], end: usize) -> usize
+    requires { end + 2 ≤ length room.old }
+    ensures put { take result room.new ≡ take end room.old ++ hex_text (byte ∷ []) }
+    ensures end { result ≡ end + 2 }
 {
-    let mut digits = [0u8; 2];
-    let Ok(()) = hex::encode_to_slice([byte].as_slice(), &mut digits) else {
+    let Ok(()) = hex::encode_to_slice([byte].as_slice(), &mut room[end..end + 2]) else {
         unreachable!();
     };
-    out.extend_from_slice(&digits)
+    end + 2
 }

@@ -17,11 +17,14 @@
 #![tactic(auto)]
 
 mod encoded;
+mod held;
 mod json_string;
 mod laws;
 mod number;
+mod plain;
 mod read;
 mod reading;
+mod room;
 mod scalar;
 mod text;
 

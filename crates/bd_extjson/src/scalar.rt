@@ -1,227 +1,255 @@
 //! The scalars, each by its row of the conversion table of Extended JSON v2.
-ghost use Rattle.std.specs.Prelude.{◌≡◌, ◌++◌, OnOk, OnErr};
-ghost use Rattle.std.specs.Io.{StartsWith};
-ghost use Rattle.bd_value.specs.Tree.{min_key, undefined, null, max_key, int32, int64, symbol, binary, object_id, boolean, date, timestamp, regex, db_pointer, code};
-ghost use Rattle.bd_value.specs.OwnPart.{seen};
-ghost use Rattle.bd_extjson.specs.Text.{quoted, scalar_text, own_text};
+ghost use Rattle.std.specs.Prelude.{◌≡◌, ◌<◌, ◌≤◌, ◌+◌, ◌++◌, IfOk, OnErr, length, take};
+ghost use Rattle.bd_value.specs.Tree.{Scalar, leaf, int32, int64, symbol, binary, object_id, boolean, date, timestamp, regex, db_pointer, code};
+ghost use Rattle.bd_extjson.specs.Short.{IsShort};
+ghost use Rattle.bd_extjson.specs.Text.{quoted, scalar_text, text};
 
-use crate::encoded::{write_base64, write_byte, write_id};
+use crate::encoded::{append_base64, put_hex, put_id};
+use crate::held;
 use crate::json_string::append_string;
-use crate::number::{write_digits, write_number32};
-use bd_value::{NoMemory, Scalar};
-
-/// Appends what leads to a string, and the string with its quotation marks.
-#[tactic(auto, using(bd_value::proofs::FrontLemmas::fronts))]
-pub(crate) fn write_led(lead: &[u8], text: &str, out: &mut Vec<u8>) -> Result<(), NoMemory>
-    ensures ok { OnOk result (out.new.items ≡ out.old.items ++ (lead.now ++ quoted text.now)) }
-    ensures err { OnErr result (StartsWith out.new.items out.old.items) }
-{
-    out.extend_from_slice(lead)?;
-    append_string(text, out)
-}
-
-/// MinKey.
-#[tactic(auto, using(bd_value::proofs::FrontLemmas::fronts), unfolding(crate::specs::Text::scalar_text, crate::specs::Text::quoted, crate::specs::Text::escape_byte))]
-pub(crate) fn write_min_key(out: &mut Vec<u8>) -> Result<(), NoMemory>
-    ensures ok { OnOk result (out.new.items ≡ out.old.items ++ scalar_text min_key) }
-    ensures err { OnErr result (StartsWith out.new.items out.old.items) }
-{
-    out.extend_from_slice(b"{\"$minKey\":1}")
-}
-
-/// Undefined.
-#[tactic(auto, using(bd_value::proofs::FrontLemmas::fronts), unfolding(crate::specs::Text::scalar_text, crate::specs::Text::quoted, crate::specs::Text::escape_byte))]
-pub(crate) fn write_undefined(out: &mut Vec<u8>) -> Result<(), NoMemory>
-    ensures ok { OnOk result (out.new.items ≡ out.old.items ++ scalar_text undefined) }
-    ensures err { OnErr result (StartsWith out.new.items out.old.items) }
-{
-    out.extend_from_slice(b"{\"$undefined\":true}")
-}
-
-/// Null.
-#[tactic(auto, using(bd_value::proofs::FrontLemmas::fronts), unfolding(crate::specs::Text::scalar_text, crate::specs::Text::quoted, crate::specs::Text::escape_byte))]
-pub(crate) fn write_null(out: &mut Vec<u8>) -> Result<(), NoMemory>
-    ensures ok { OnOk result (out.new.items ≡ out.old.items ++ scalar_text null) }
-    ensures err { OnErr result (StartsWith out.new.items out.old.items) }
-{
-    out.extend_from_slice(b"null")
-}
-
-/// MaxKey.
-#[tactic(auto, using(bd_value::proofs::FrontLemmas::fronts), unfolding(crate::specs::Text::scalar_text, crate::specs::Text::quoted, crate::specs::Text::escape_byte))]
-pub(crate) fn write_max_key(out: &mut Vec<u8>) -> Result<(), NoMemory>
-    ensures ok { OnOk result (out.new.items ≡ out.old.items ++ scalar_text max_key) }
-    ensures err { OnErr result (StartsWith out.new.items out.old.items) }
-{
-    out.extend_from_slice(b"{\"$maxKey\":1}")
-}
+use crate::number::{put_digits, put_signed};
+use crate::room::{VALUE, make_room, put};
+use bd_value::{Kind, NoMemory, Reading};
 
 /// Int32.
-#[tactic(auto, using(bd_value::proofs::FrontLemmas::fronts))]
-pub(crate) fn write_int32(n: i32, out: &mut Vec<u8>) -> Result<(), NoMemory>
-    ensures ok { OnOk result (out.new.items ≡ out.old.items ++ scalar_text (int32 n)) }
-    ensures err { OnErr result (StartsWith out.new.items out.old.items) }
+#[inline(always)]
+fn put_int32(n: i32, room: &mut [u8], end: usize) -> usize
+    requires { end + VALUE ≤ length room.old }
+    ensures put { take result room.new ≡ take end room.old ++ scalar_text (int32 n) }
+    ensures within { result ≤ end + VALUE }
 {
-    out.extend_from_slice(b"{\"$numberInt\":\"")?;
-    write_digits(n, out)?;
-    out.extend_from_slice(b"\"}")?;
-    Ok(())
+    let at = put(b"{\"$numberInt\":\"", room, end);
+    let at = put_signed(i64::from(n), room, at);
+    put(b"\"}", room, at)
 }
 
 /// Int64.
-#[tactic(auto, using(bd_value::proofs::FrontLemmas::fronts))]
-pub(crate) fn write_int64(n: i64, out: &mut Vec<u8>) -> Result<(), NoMemory>
-    ensures ok { OnOk result (out.new.items ≡ out.old.items ++ scalar_text (int64 n)) }
-    ensures err { OnErr result (StartsWith out.new.items out.old.items) }
+#[inline(always)]
+fn put_int64(n: i64, room: &mut [u8], end: usize) -> usize
+    requires { end + VALUE ≤ length room.old }
+    ensures put { take result room.new ≡ take end room.old ++ scalar_text (int64 n) }
+    ensures within { result ≤ end + VALUE }
 {
-    out.extend_from_slice(b"{\"$numberLong\":\"")?;
-    write_digits(n, out)?;
-    out.extend_from_slice(b"\"}")?;
-    Ok(())
+    let at = put(b"{\"$numberLong\":\"", room, end);
+    let at = put_signed(n, room, at);
+    put(b"\"}", room, at)
 }
 
 /// Datetime: the milliseconds as an Int64 also before 1970 and after 9999.
-#[tactic(auto, using(bd_value::proofs::FrontLemmas::fronts))]
-pub(crate) fn write_date(milliseconds: i64, out: &mut Vec<u8>) -> Result<(), NoMemory>
-    ensures ok { OnOk result (out.new.items ≡ out.old.items ++ scalar_text (date milliseconds)) }
-    ensures err { OnErr result (StartsWith out.new.items out.old.items) }
+#[inline(always)]
+fn put_date(milliseconds: i64, room: &mut [u8], end: usize) -> usize
+    requires { end + VALUE ≤ length room.old }
+    ensures put { take result room.new ≡ take end room.old ++ scalar_text (date milliseconds) }
+    ensures within { result ≤ end + VALUE }
 {
-    out.extend_from_slice(b"{\"$date\":{\"$numberLong\":\"")?;
-    write_digits(milliseconds, out)?;
-    out.extend_from_slice(b"\"}}")?;
-    Ok(())
-}
-
-/// Symbol.
-#[tactic(auto, using(bd_value::proofs::FrontLemmas::fronts))]
-pub(crate) fn write_symbol(text: &str, out: &mut Vec<u8>) -> Result<(), NoMemory>
-    ensures ok { OnOk result (out.new.items ≡ out.old.items ++ scalar_text (symbol text.now)) }
-    ensures err { OnErr result (StartsWith out.new.items out.old.items) }
-{
-    write_led(b"{\"$symbol\":", text, out)?;
-    out.extend_from_slice(b"}")?;
-    Ok(())
-}
-
-/// Code.
-#[tactic(auto, using(bd_value::proofs::FrontLemmas::fronts))]
-pub(crate) fn write_code(text: &str, out: &mut Vec<u8>) -> Result<(), NoMemory>
-    ensures ok { OnOk result (out.new.items ≡ out.old.items ++ scalar_text (code text.now)) }
-    ensures err { OnErr result (StartsWith out.new.items out.old.items) }
-{
-    write_led(b"{\"$code\":", text, out)?;
-    out.extend_from_slice(b"}")?;
-    Ok(())
+    let at = put(b"{\"$date\":{\"$numberLong\":\"", room, end);
+    let at = put_signed(milliseconds, room, at);
+    put(b"\"}}", room, at)
 }
 
 /// Boolean.
-#[tactic(auto, using(bd_value::proofs::FrontLemmas::fronts), unfolding(crate::specs::Text::scalar_text))]
-pub(crate) fn write_bool(truth: bool, out: &mut Vec<u8>) -> Result<(), NoMemory>
-    ensures ok { OnOk result (out.new.items ≡ out.old.items ++ scalar_text (boolean truth)) }
-    ensures err { OnErr result (StartsWith out.new.items out.old.items) }
+#[inline(always)]
+#[tactic(auto, unfolding(crate::specs::Text::scalar_text))]
+fn put_bool(truth: bool, room: &mut [u8], end: usize) -> usize
+    requires { end + VALUE ≤ length room.old }
+    ensures put { take result room.new ≡ take end room.old ++ scalar_text (boolean truth) }
+    ensures within { result ≤ end + VALUE }
 {
     if truth {
-        out.extend_from_slice(b"true")
+        put(b"true", room, end)
     } else {
-        out.extend_from_slice(b"false")
+        put(b"false", room, end)
     }
 }
 
-/// Binary: base64 with padding, the subtype in two digits.
-#[tactic(auto, using(bd_value::proofs::FrontLemmas::fronts))]
-pub(crate) fn write_binary(subtype: u8, bytes: &[u8], out: &mut Vec<u8>) -> Result<(), NoMemory>
-    ensures ok { OnOk result (out.new.items ≡ out.old.items ++ scalar_text (binary subtype bytes.now)) }
-    ensures err { OnErr result (StartsWith out.new.items out.old.items) }
-{
-    out.extend_from_slice(b"{\"$binary\":{\"base64\":\"")?;
-    write_base64(bytes, out)?;
-    out.extend_from_slice(b"\",\"subType\":\"")?;
-    write_byte(subtype, out)?;
-    out.extend_from_slice(b"\"}}")?;
-    Ok(())
-}
-
 /// ObjectId: 24 lower-case digits.
-#[tactic(auto, using(bd_value::proofs::FrontLemmas::fronts))]
-pub(crate) fn write_object_id(id: &[u8; 12], out: &mut Vec<u8>) -> Result<(), NoMemory>
-    ensures ok { OnOk result (out.new.items ≡ out.old.items ++ scalar_text (object_id id.now)) }
-    ensures err { OnErr result (StartsWith out.new.items out.old.items) }
+#[inline(always)]
+fn put_object_id(id: &[u8; 12], room: &mut [u8], end: usize) -> usize
+    requires { end + VALUE ≤ length room.old }
+    ensures put { take result room.new ≡ take end room.old ++ scalar_text (object_id id.now) }
+    ensures within { result ≤ end + VALUE }
 {
-    out.extend_from_slice(b"{\"$oid\":\"")?;
-    write_id(id, out)?;
-    out.extend_from_slice(b"\"}")?;
-    Ok(())
+    let at = put(b"{\"$oid\":\"", room, end);
+    let at = put_id(id, room, at);
+    put(b"\"}", room, at)
 }
 
 /// Timestamp: the seconds and the increment as plain numbers.
-#[tactic(auto, using(bd_value::proofs::FrontLemmas::fronts))]
-pub(crate) fn write_timestamp(
-    seconds: u32,
-    increment: u32,
-    out: &mut Vec<u8>,
-) -> Result<(), NoMemory>
-    ensures ok { OnOk result (out.new.items ≡ out.old.items ++ scalar_text (timestamp seconds increment)) }
-    ensures err { OnErr result (StartsWith out.new.items out.old.items) }
+fn put_timestamp(seconds: u32, increment: u32, room: &mut [u8], end: usize) -> usize
+    requires { end + VALUE ≤ length room.old }
+    ensures put { take result room.new ≡ take end room.old ++ scalar_text (timestamp seconds increment) }
+    ensures within { result ≤ end + VALUE }
 {
-    out.extend_from_slice(b"{\"$timestamp\":{\"t\":")?;
-    write_number32(seconds, out)?;
-    out.extend_from_slice(b",\"i\":")?;
-    write_number32(increment, out)?;
-    out.extend_from_slice(b"}}")?;
-    Ok(())
+    let at = put(b"{\"$timestamp\":{\"t\":", room, end);
+    let at = put_digits(u64::from(seconds), room, at);
+    let at = put(b",\"i\":", room, at);
+    let at = put_digits(u64::from(increment), room, at);
+    put(b"}}", room, at)
+}
+
+/// Writes the text of a value after the text, where it holds no text and no bytes but an id.
+#[inline(always)]
+#[tactic(auto, unfolding(crate::specs::Text::scalar_text, crate::specs::Text::quoted, crate::specs::Text::escape_byte))]
+fn put_short<N: Reading>(node: N, room: &mut [u8], end: usize) -> usize
+    requires short { IsShort (N.tree node) }
+    requires room { end + VALUE ≤ length room.old }
+    ensures put { take result room.new ≡ take end room.old ++ text (N.tree node) }
+    ensures within { result ≤ end + VALUE }
+{
+    match node.kind() {
+        Kind::MinKey => put(b"{\"$minKey\":1}", room, end),
+        Kind::Undefined => put(b"{\"$undefined\":true}", room, end),
+        Kind::Null => put(b"null", room, end),
+        Kind::Int32 => put_int32(held::int32_of(node), room, end),
+        Kind::Int64 => put_int64(held::int64_of(node), room, end),
+        Kind::ObjectId => put_object_id(&held::id_of(node), room, end),
+        Kind::Bool => put_bool(held::bool_of(node), room, end),
+        Kind::Date => put_date(held::date_of(node), room, end),
+        Kind::Timestamp => {
+            let (seconds, increment) = held::timestamp_of(node);
+            put_timestamp(seconds, increment, room, end)
+        }
+        Kind::MaxKey => put(b"{\"$maxKey\":1}", room, end),
+        _ => unreachable!(),
+    }
+}
+
+/// Appends what leads to a string, and the string with its quotation marks.
+pub(crate) fn append_led(
+    lead: &[u8],
+    text: &str,
+    out: &mut Vec<u8>,
+    end: usize,
+) -> Result<usize, NoMemory>
+    requires { (end ≤ length out.old.items) × (length lead.now ≤ 1000) }
+    ensures ok { IfOk result (λ e. take e out.new.items ≡ take end out.old.items ++ (lead.now ++ quoted text.now)) }
+    ensures within { IfOk result (λ e. e ≤ length out.new.items) }
+    ensures err { OnErr result (take end out.new.items ≡ take end out.old.items) }
+{
+    make_room(out, end, lead.len() + 1)?;
+    let at = put(lead, out.as_mut_slice(), end);
+    append_string(text, out, at)
+}
+
+/// Appends bytes that are few.
+pub(crate) fn append_few(bytes: &[u8], out: &mut Vec<u8>, end: usize) -> Result<usize, NoMemory>
+    requires { end ≤ length out.old.items }
+    ensures ok { IfOk result (λ e. take e out.new.items ≡ take end out.old.items ++ bytes.now) }
+    ensures room { IfOk result (λ e. e + VALUE ≤ length out.new.items) }
+    ensures err { OnErr result (take end out.new.items ≡ take end out.old.items) }
+{
+    make_room(out, end, bytes.len() + VALUE)?;
+    Ok(put(bytes, out.as_mut_slice(), end))
+}
+
+/// Symbol.
+fn append_symbol(text: &str, out: &mut Vec<u8>, end: usize) -> Result<usize, NoMemory>
+    requires { end ≤ length out.old.items }
+    ensures ok { IfOk result (λ e. take e out.new.items ≡ take end out.old.items ++ scalar_text (symbol text.now)) }
+    ensures within { IfOk result (λ e. e ≤ length out.new.items) }
+    ensures err { OnErr result (take end out.new.items ≡ take end out.old.items) }
+{
+    let at = append_led(b"{\"$symbol\":", text, out, end)?;
+    append_few(b"}", out, at)
+}
+
+/// Code.
+fn append_code(text: &str, out: &mut Vec<u8>, end: usize) -> Result<usize, NoMemory>
+    requires { end ≤ length out.old.items }
+    ensures ok { IfOk result (λ e. take e out.new.items ≡ take end out.old.items ++ scalar_text (code text.now)) }
+    ensures within { IfOk result (λ e. e ≤ length out.new.items) }
+    ensures err { OnErr result (take end out.new.items ≡ take end out.old.items) }
+{
+    let at = append_led(b"{\"$code\":", text, out, end)?;
+    append_few(b"}", out, at)
+}
+
+/// Binary: base64 with padding, the subtype in two digits.
+fn append_binary(
+    subtype: u8,
+    bytes: &[u8],
+    out: &mut Vec<u8>,
+    end: usize,
+) -> Result<usize, NoMemory>
+    requires { end ≤ length out.old.items }
+    ensures ok { IfOk result (λ e. take e out.new.items ≡ take end out.old.items ++ scalar_text (binary subtype bytes.now)) }
+    ensures within { IfOk result (λ e. e ≤ length out.new.items) }
+    ensures err { OnErr result (take end out.new.items ≡ take end out.old.items) }
+{
+    let at = append_few(b"{\"$binary\":{\"base64\":\"", out, end)?;
+    let at = append_base64(bytes, out, at)?;
+    let at = append_few(b"\",\"subType\":\"", out, at)?;
+    let room = out.as_mut_slice();
+    let at = put_hex(subtype, room, at);
+    Ok(put(b"\"}}", room, at))
 }
 
 /// Regular Expression: the options as they are stored.
-#[tactic(auto, using(bd_value::proofs::FrontLemmas::fronts))]
-pub(crate) fn write_regex(pattern: &str, options: &str, out: &mut Vec<u8>) -> Result<(), NoMemory>
-    ensures ok { OnOk result (out.new.items ≡ out.old.items ++ scalar_text (regex pattern.now options.now)) }
-    ensures err { OnErr result (StartsWith out.new.items out.old.items) }
+fn append_regex(
+    pattern: &str,
+    options: &str,
+    out: &mut Vec<u8>,
+    end: usize,
+) -> Result<usize, NoMemory>
+    requires { end ≤ length out.old.items }
+    ensures ok { IfOk result (λ e. take e out.new.items ≡ take end out.old.items ++ scalar_text (regex pattern.now options.now)) }
+    ensures within { IfOk result (λ e. e ≤ length out.new.items) }
+    ensures err { OnErr result (take end out.new.items ≡ take end out.old.items) }
 {
-    write_led(b"{\"$regularExpression\":{\"pattern\":", pattern, out)?;
-    write_led(b",\"options\":", options, out)?;
-    out.extend_from_slice(b"}}")?;
-    Ok(())
+    let at = append_led(b"{\"$regularExpression\":{\"pattern\":", pattern, out, end)?;
+    let at = append_led(b",\"options\":", options, out, at)?;
+    append_few(b"}}", out, at)
 }
 
 /// DBPointer.
-#[tactic(auto, using(bd_value::proofs::FrontLemmas::fronts))]
-pub(crate) fn write_db_pointer(
+fn append_pointer(
     space: &str,
     id: &[u8; 12],
     out: &mut Vec<u8>,
-) -> Result<(), NoMemory>
-    ensures ok { OnOk result (out.new.items ≡ out.old.items ++ scalar_text (db_pointer space.now id.now)) }
-    ensures err { OnErr result (StartsWith out.new.items out.old.items) }
+    end: usize,
+) -> Result<usize, NoMemory>
+    requires { end ≤ length out.old.items }
+    ensures ok { IfOk result (λ e. take e out.new.items ≡ take end out.old.items ++ scalar_text (db_pointer space.now id.now)) }
+    ensures within { IfOk result (λ e. e ≤ length out.new.items) }
+    ensures err { OnErr result (take end out.new.items ≡ take end out.old.items) }
 {
-    write_led(b"{\"$dbPointer\":{\"$ref\":", space, out)?;
-    out.extend_from_slice(b",\"$id\":{\"$oid\":\"")?;
-    write_id(id, out)?;
-    out.extend_from_slice(b"\"}}}")?;
-    Ok(())
+    let at = append_led(b"{\"$dbPointer\":{\"$ref\":", space, out, end)?;
+    let at = append_few(b",\"$id\":{\"$oid\":\"", out, at)?;
+    let room = out.as_mut_slice();
+    let at = put_id(id, room, at);
+    Ok(put(b"\"}}}", room, at))
 }
 
-/// Appends the text of what a value holds besides other values. Of code with scope it is that of the code alone.
+/// Appends the text of a value that holds no other. There is room for one that is short.
+#[inline(always)]
 #[tactic(auto, unfolding(crate::specs::Text::scalar_text))]
-pub(crate) fn write_scalar(scalar: Scalar<'_>, out: &mut Vec<u8>) -> Result<(), NoMemory>
-    ensures ok { OnOk result (out.new.items ≡ out.old.items ++ own_text (seen scalar.entry)) }
-    ensures err { OnErr result (StartsWith out.new.items out.old.items) }
+pub(crate) fn append_scalar<N: Reading>(
+    node: N,
+    out: &mut Vec<u8>,
+    end: usize,
+) -> Result<usize, NoMemory>
+    requires scalar { (s : Scalar) × (N.tree node ≡ leaf s) }
+    requires room { end + VALUE ≤ length out.old.items }
+    ensures ok { IfOk result (λ e. take e out.new.items ≡ take end out.old.items ++ text (N.tree node)) }
+    ensures within { IfOk result (λ e. e ≤ length out.new.items) }
+    ensures err { OnErr result (take end out.new.items ≡ take end out.old.items) }
 {
-    match scalar {
-        Scalar::MinKey => write_min_key(out),
-        Scalar::Undefined => write_undefined(out),
-        Scalar::Null => write_null(out),
-        Scalar::Int32(number) => write_int32(number, out),
-        Scalar::Int64(number) => write_int64(number, out),
-        Scalar::Text(text) => append_string(text, out),
-        Scalar::Symbol(text) => write_symbol(text, out),
-        Scalar::Binary { subtype, payload } => write_binary(subtype, payload, out),
-        Scalar::ObjectId(id) => write_object_id(&id, out),
-        Scalar::Bool(truth) => write_bool(truth, out),
-        Scalar::Date(milliseconds) => write_date(milliseconds, out),
-        Scalar::Timestamp { seconds, increment } => write_timestamp(seconds, increment, out),
-        Scalar::Regex { pattern, options } => write_regex(pattern, options, out),
-        Scalar::DbPointer { space, id } => write_db_pointer(space, &id, out),
-        Scalar::Code(code) | Scalar::CodeScope(code) => write_code(code, out),
-        Scalar::MaxKey => write_max_key(out),
+    match node.kind() {
+        Kind::Text => append_string(held::text_of(&node), out, end),
+        Kind::Symbol => append_symbol(held::symbol_of(&node), out, end),
+        Kind::Code => append_code(held::code_of(&node), out, end),
+        Kind::Binary => {
+            let (subtype, payload) = held::binary_of(&node);
+            append_binary(subtype, payload, out, end)
+        }
+        Kind::Regex => {
+            let (pattern, options) = held::regex_of(&node);
+            append_regex(pattern, options, out, end)
+        }
+        Kind::DbPointer => {
+            let (space, id) = held::pointer_of(&node);
+            append_pointer(space, &id, out, end)
+        }
+        _ => Ok(put_short(node, out.as_mut_slice(), end)),
     }
 }

@@ -1,14 +1,15 @@
 //! Values and documents as canonical Extended JSON.
-ghost use Rattle.std.specs.Prelude.{◌≡◌, ◌++◌, OnOk, OnErr};
-ghost use Rattle.std.specs.Io.{StartsWith};
+ghost use Rattle.std.specs.Prelude.{◌≡◌, ◌<◌, ◌≤◌, ◌+◌, ◌++◌, IfOk, OnOk, OnErr, length, take};
 ghost use Rattle.bd_value.specs.Tree.{doc, array, fields_of, items_of};
 ghost use Rattle.bd_value.specs.Kind.{kind_of};
-ghost use Rattle.bd_value.specs.Parts.{values_of, HoldsNoParts};
+ghost use Rattle.bd_value.specs.declared.kind.Kind.TheVariants as kinds;
+ghost use Rattle.bd_value.specs.Parts.{values_of};
 ghost use Rattle.bd_value.specs.View.{tree_of, pairs};
 ghost use Rattle.bd_extjson.specs.Text.{text};
 
-use crate::json_string::{append_string, write_separator};
-use crate::scalar::{write_led, write_scalar};
+use crate::json_string::{append_name, put_separator};
+use crate::room::{VALUE, make_room, put_byte, settle};
+use crate::scalar::{append_few, append_led, append_scalar};
 use bd_value::{Document, Kind, NoMemory, Reading, Scalar, Tree, Value};
 
 /// Appends the text of what a node stands for: Extended JSON v2, canonical form, without white space.
@@ -19,11 +20,9 @@ pub fn write_node<N: Reading>(node: N, out: &mut Vec<u8>) -> Result<(), NoMemory
     ensures err { OnErr result (out.new.items ≡ out.old.items) }
 {
     let before = out.len();
-    let answer = append_node(node, out);
-    if answer.is_err() {
-        out.truncate(before);
-    }
-    answer
+    make_room(out, before, VALUE)?;
+    let end = append_node(node, out, before);
+    settle(end, before, out)
 }
 
 /// Appends the text of a value: Extended JSON v2, canonical form, without white space.
@@ -46,81 +45,91 @@ pub fn write_doc(document: &Document, out: &mut Vec<u8>) -> Result<(), NoMemory>
     write_node(Tree::Doc(document), out)
 }
 
+/// Appends the text of what a node stands for. There is room for a short one.
 #[cycle(text)]
-#[tactic(auto, using(bd_value::proofs::FrontLemmas::fronts))]
-fn append_node<N: Reading>(node: N, out: &mut Vec<u8>) -> Result<(), NoMemory>
-    ensures ok { OnOk result (out.new.items ≡ out.old.items ++ text (N.tree node)) }
-    ensures err { OnErr result (StartsWith out.new.items out.old.items) }
+#[inline(always)]
+fn append_node<N: Reading>(node: N, out: &mut Vec<u8>, end: usize) -> Result<usize, NoMemory>
+    requires { end + VALUE ≤ length out.old.items }
+    ensures ok { IfOk result (λ e. take e out.new.items ≡ take end out.old.items ++ text (N.tree node)) }
+    ensures within { IfOk result (λ e. e ≤ length out.new.items) }
+    ensures err { OnErr result (take end out.new.items ≡ take end out.old.items) }
 {
     match node.kind() {
-        Kind::Doc => append_fields::<N>(node.parts(), out),
-        Kind::Array => append_items::<N>(node.parts(), out),
-        _ => append_leaf(node, out),
+        Kind::Doc => append_fields::<N>(node.parts(), out, end),
+        Kind::Array => append_items::<N>(node.parts(), out, end),
+        Kind::CodeScope => append_scope(node, out, end),
+        _ => append_scalar(node, out, end),
     }
 }
 
-/// Appends the text of what is neither a document nor an array.
+/// Appends the text of code with scope.
 #[cycle(text)]
-#[tactic(auto, using(bd_value::proofs::FrontLemmas::fronts))]
-fn append_leaf<N: Reading>(node: N, out: &mut Vec<u8>) -> Result<(), NoMemory>
-    requires { HoldsNoParts (N.tree node) }
-    ensures ok { OnOk result (out.new.items ≡ out.old.items ++ text (N.tree node)) }
-    ensures err { OnErr result (StartsWith out.new.items out.old.items) }
+fn append_scope<N: Reading>(node: N, out: &mut Vec<u8>, end: usize) -> Result<usize, NoMemory>
+    requires kind { kind_of (N.tree node) ≡ kinds.CodeScope }
+    requires room { end ≤ length out.old.items }
+    ensures ok { IfOk result (λ e. take e out.new.items ≡ take end out.old.items ++ text (N.tree node)) }
+    ensures within { IfOk result (λ e. e ≤ length out.new.items) }
+    ensures err { OnErr result (take end out.new.items ≡ take end out.old.items) }
 {
-    let Some(own) = node.leaf() else {
+    let Some(Scalar::CodeScope(code)) = node.leaf() else {
         unreachable!()
-    };
-    let Scalar::CodeScope(code) = own else {
-        return write_scalar(own, out);
     };
     let Some(scope) = node.scope() else {
         unreachable!()
     };
-    write_led(b"{\"$code\":", code, out)?;
-    out.extend_from_slice(b",\"$scope\":")?;
-    append_node(scope, out)?;
-    out.push(b'}')?;
-    Ok(())
+    let at = append_led(b"{\"$code\":", code, out, end)?;
+    let at = append_few(b",\"$scope\":", out, at)?;
+    let at = append_node(scope, out, at)?;
+    append_few(b"}", out, at)
 }
 
-/// Appends the text of the document of these pairs.
+/// Appends the text of the document of these pairs. There is room for its first brace.
 #[cycle(text)]
-#[tactic(auto, using(bd_value::proofs::FrontLemmas::fronts))]
-fn append_fields<N: Reading>(fields: N::Rest, out: &mut Vec<u8>) -> Result<(), NoMemory>
-    ensures ok { OnOk result (out.new.items ≡ out.old.items ++ text (doc (fields_of (N.left fields)))) }
-    ensures err { OnErr result (StartsWith out.new.items out.old.items) }
+#[inline(never)]
+fn append_fields<N: Reading>(
+    fields: N::Rest,
+    out: &mut Vec<u8>,
+    end: usize,
+) -> Result<usize, NoMemory>
+    requires { end < length out.old.items }
+    ensures ok { IfOk result (λ e. take e out.new.items ≡ take end out.old.items ++ text (doc (fields_of (N.left fields)))) }
+    ensures within { IfOk result (λ e. e ≤ length out.new.items) }
+    ensures err { OnErr result (take end out.new.items ≡ take end out.old.items) }
 {
-    out.push(b'{')?;
+    let mut at = put_byte(b'{', out.as_mut_slice(), end);
     let mut later = false;
     let mut rest = fields;
     while let Some((name, node, after)) = N::next(&rest) {
-        write_separator(later, b',', out)?;
-        append_string(name, out)?;
-        out.push(b':')?;
-        append_node(node, out)?;
+        at = append_name(later, name, out, at)?;
+        at = append_node(node, out, at)?;
         later = true;
         rest = after;
     }
-    out.push(b'}')?;
-    Ok(())
+    append_few(b"}", out, at)
 }
 
-/// Appends the text of the array of these elements.
+/// Appends the text of the array of these elements. There is room for its first bracket.
 #[cycle(text)]
-#[tactic(auto, using(bd_value::proofs::FrontLemmas::fronts))]
-fn append_items<N: Reading>(items: N::Rest, out: &mut Vec<u8>) -> Result<(), NoMemory>
-    ensures ok { OnOk result (out.new.items ≡ out.old.items ++ text (array (items_of (values_of (N.left items))))) }
-    ensures err { OnErr result (StartsWith out.new.items out.old.items) }
+#[inline(never)]
+fn append_items<N: Reading>(
+    items: N::Rest,
+    out: &mut Vec<u8>,
+    end: usize,
+) -> Result<usize, NoMemory>
+    requires { end < length out.old.items }
+    ensures ok { IfOk result (λ e. take e out.new.items ≡ take end out.old.items ++ text (array (items_of (values_of (N.left items))))) }
+    ensures within { IfOk result (λ e. e ≤ length out.new.items) }
+    ensures err { OnErr result (take end out.new.items ≡ take end out.old.items) }
 {
-    out.push(b'[')?;
+    let mut at = put_byte(b'[', out.as_mut_slice(), end);
     let mut later = false;
     let mut rest = items;
     while let Some((_, node, after)) = N::next(&rest) {
-        write_separator(later, b',', out)?;
-        append_node(node, out)?;
+        make_room(out, at, 1 + VALUE)?;
+        at = put_separator(later, b',', out.as_mut_slice(), at);
+        at = append_node(node, out, at)?;
         later = true;
         rest = after;
     }
-    out.push(b']')?;
-    Ok(())
+    append_few(b"]", out, at)
 }

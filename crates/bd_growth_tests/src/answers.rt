@@ -9,7 +9,7 @@ use std::alloc::AllocError;
 
 /// Why a row has no answer.
 #[derive(Clone, Copy, Debug, Drop)]
-pub(crate) enum Stopped {
+pub(crate) enum RowFault {
     NoMemory,
     /// A call was refused for another reason, or answered what it should not.
     Otherwise,
@@ -20,7 +20,7 @@ pub(crate) enum Stopped {
 macro_rules! is_whole {
     ($row:expr) => {
         match $row {
-            Err(Stopped::NoMemory) => matches!($row, Ok(true)),
+            Err(RowFault::NoMemory) => matches!($row, Ok(true)),
             answer => matches!(answer, Ok(true)),
         }
     };
@@ -29,52 +29,52 @@ macro_rules! is_whole {
 pub(crate) use is_whole;
 
 /// `NoMemory` where memory was wanted.
-fn reason(starved: bool) -> Stopped {
+fn reason(starved: bool) -> RowFault {
     if starved {
-        Stopped::NoMemory
+        RowFault::NoMemory
     } else {
-        Stopped::Otherwise
+        RowFault::Otherwise
     }
 }
 
-impl From<AllocError> for Stopped {
-    fn from(_error: AllocError) -> Stopped {
-        Stopped::NoMemory
+impl From<AllocError> for RowFault {
+    fn from(_error: AllocError) -> RowFault {
+        RowFault::NoMemory
     }
 }
 
-impl From<Fault> for Stopped {
-    fn from(fault: Fault) -> Stopped {
+impl From<Fault> for RowFault {
+    fn from(fault: Fault) -> RowFault {
         reason(fault.kind == FaultKind::NoMemory)
     }
 }
 
-impl From<JsonFault> for Stopped {
-    fn from(fault: JsonFault) -> Stopped {
+impl From<JsonFault> for RowFault {
+    fn from(fault: JsonFault) -> RowFault {
         reason(fault.kind == JsonFaultKind::NoMemory)
     }
 }
 
-impl From<WriteFault> for Stopped {
-    fn from(fault: WriteFault) -> Stopped {
+impl From<WriteFault> for RowFault {
+    fn from(fault: WriteFault) -> RowFault {
         reason(fault == WriteFault::NoMemory)
     }
 }
 
-impl From<PathFault> for Stopped {
-    fn from(fault: PathFault) -> Stopped {
+impl From<PathFault> for RowFault {
+    fn from(fault: PathFault) -> RowFault {
         reason(matches!(fault, PathFault::NoMemory))
     }
 }
 
-impl From<FilterFault> for Stopped {
-    fn from(fault: FilterFault) -> Stopped {
+impl From<FilterFault> for RowFault {
+    fn from(fault: FilterFault) -> RowFault {
         reason(fault.kind == FilterFaultKind::NoMemory)
     }
 }
 
-impl From<Refused> for Stopped {
-    fn from(refused: Refused) -> Stopped {
+impl From<Refused> for RowFault {
+    fn from(refused: Refused) -> RowFault {
         reason(matches!(refused, Refused::NoMemory))
     }
 }

@@ -1,5 +1,5 @@
 //! Documents in memory and in bytes.
-use crate::answers::{Stopped, is_whole};
+use crate::answers::{RowFault, is_whole};
 use crate::samples::ONE;
 use bd_bson::read_dump;
 use bd_check::{FaultKind, read_document};
@@ -10,7 +10,7 @@ use bd_write::write_document;
 use std::alloc::Global;
 
 /// Adds a number under `a`. A push that was refused leaves as many pairs as before, and is made again.
-fn push_number(alloc: Global, document: &mut Document, number: i32) -> Result<(), Stopped> {
+fn push_number(alloc: Global, document: &mut Document, number: i32) -> Result<(), RowFault> {
     let before = document.len();
     for _ in 0..2 {
         let name = String::from_str(alloc, "a")?;
@@ -18,10 +18,10 @@ fn push_number(alloc: Global, document: &mut Document, number: i32) -> Result<()
             return Ok(());
         }
         if document.len() != before {
-            return Err(Stopped::Otherwise);
+            return Err(RowFault::Otherwise);
         }
     }
-    Err(Stopped::Otherwise)
+    Err(RowFault::Otherwise)
 }
 
 /// Whether a document has these numbers, each under `a`.
@@ -39,7 +39,7 @@ fn has_numbers(document: &Document, numbers: &[i32]) -> bool {
     i == document.len()
 }
 
-fn pushes(alloc: Global) -> Result<bool, Stopped> {
+fn pushes(alloc: Global) -> Result<bool, RowFault> {
     let mut document = Document::new(alloc);
     push_number(alloc, &mut document, 1)?;
     let has_one = has_numbers(&document, &[1]);
@@ -47,13 +47,13 @@ fn pushes(alloc: Global) -> Result<bool, Stopped> {
     Ok(has_one && has_numbers(&document, &[1, 2]))
 }
 
-fn reads(alloc: Global) -> Result<bool, Stopped> {
+fn reads(alloc: Global) -> Result<bool, RowFault> {
     let document = read_document(alloc, ONE, 0, 0)?;
     Ok(has_numbers(&document, &[1]))
 }
 
 /// A view of a dump, and what is copied of it.
-fn copies_of_a_view(alloc: Global) -> Result<bool, Stopped> {
+fn copies_of_a_view(alloc: Global) -> Result<bool, RowFault> {
     let dump = read_dump(alloc, Vec::from_slice(alloc, ONE)?)?;
     if dump.len() != 1 {
         return Ok(false);
@@ -74,7 +74,7 @@ const ROWS: [(&[u8], &[u8]); 2] = [
     ),
 ];
 
-fn writes(alloc: Global) -> Result<bool, Stopped> {
+fn writes(alloc: Global) -> Result<bool, RowFault> {
     for (text, wanted) in ROWS {
         let document = read_doc(alloc, text)?;
         let bytes = write_document(alloc, &document)?;
@@ -86,7 +86,7 @@ fn writes(alloc: Global) -> Result<bool, Stopped> {
 }
 
 /// Bytes with a string of length 0, and a text with a fraction.
-fn faults(alloc: Global) -> Result<bool, Stopped> {
+fn faults(alloc: Global) -> Result<bool, RowFault> {
     let bytes = b"\x0c\0\0\0\x02a\0\0\0\0\0\0";
     let Err(fault) = read_document(alloc, bytes, 0, 0) else {
         return Ok(false);
@@ -95,10 +95,10 @@ fn faults(alloc: Global) -> Result<bool, Stopped> {
         return Ok(false);
     };
     if fault.kind != FaultKind::BadStringLength {
-        return Err(Stopped::from(fault));
+        return Err(RowFault::from(fault));
     }
     if unread.kind != JsonFaultKind::NotInProfile || unread.at != 5 {
-        return Err(Stopped::from(unread));
+        return Err(RowFault::from(unread));
     }
     Ok(fault.offset == 7 && matches!(fault.path.as_slice(), [name] if name.as_str() == "a"))
 }

@@ -1,5 +1,5 @@
 //! Documents that are filters, and one that is none.
-use crate::answers::{Stopped, is_whole};
+use crate::answers::{RowFault, is_whole};
 use crate::samples::read_filter;
 use bd_extjson::read_doc;
 use bd_query::{FilterFaultKind, matches, parse};
@@ -7,7 +7,7 @@ use bd_value::Tree;
 use std::alloc::Global;
 
 /// Greater than 1: 2 is, and 1 is not.
-fn greater_than_one(alloc: Global) -> Result<bool, Stopped> {
+fn greater_than_one(alloc: Global) -> Result<bool, RowFault> {
     let filter = read_filter(alloc, "{\"a\":{\"$gt\":1}}")?;
     let one = read_doc(alloc, b"{\"a\":1}")?;
     let two = read_doc(alloc, b"{\"a\":2}")?;
@@ -15,13 +15,13 @@ fn greater_than_one(alloc: Global) -> Result<bool, Stopped> {
 }
 
 /// An operator and a field in one document.
-fn mixed(alloc: Global) -> Result<bool, Stopped> {
+fn mixed(alloc: Global) -> Result<bool, RowFault> {
     let document = read_doc(alloc, b"{\"a\":{\"$gt\":1,\"b\":2}}")?;
     let Err(fault) = parse(alloc, &document) else {
         return Ok(false);
     };
     if fault.kind != FilterFaultKind::MixedOperators {
-        return Err(Stopped::from(fault));
+        return Err(RowFault::from(fault));
     }
     Ok(matches!(fault.place.as_slice(), [a, b] if a.as_str() == "a" && b.as_str() == "b"))
 }

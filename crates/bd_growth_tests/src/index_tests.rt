@@ -1,7 +1,7 @@
 //! Indexes, plain and sparse.
-ghost use Rattle.bd_index.specs.Indexed.{IsIndexOf};
+ghost use Rattle.bd_index.specs.IndexView.{IsIndexOf};
 
-use crate::answers::{Stopped, is_whole};
+use crate::answers::{RowFault, is_whole};
 use crate::path_tests::are_values;
 use crate::samples::{MIXED, SEVERAL_KEYS, read_documents, read_filter};
 use bd_bounds::Bounds;
@@ -12,7 +12,7 @@ use bd_value::{NoMemory, Value};
 use std::alloc::Global;
 
 /// All entries are from 5 on, of both documents.
-fn places(alloc: Global) -> Result<bool, Stopped> {
+fn places(alloc: Global) -> Result<bool, RowFault> {
     let dump = read_documents(alloc, SEVERAL_KEYS)?;
     let index = Index::build(alloc, &dump, Path::parse(alloc, "a")?)?;
     let filter = read_filter(alloc, "{\"a\":{\"$gte\":5}}")?;
@@ -40,7 +40,7 @@ fn walked(alloc: Global, dump: &Dump, index: &Index, dir: Dir) -> Result<Vec<u32
     Ok(places)
 }
 
-fn walks(alloc: Global) -> Result<bool, Stopped> {
+fn walks(alloc: Global) -> Result<bool, RowFault> {
     let dump = read_documents(alloc, MIXED)?;
     let index = Index::build(alloc, &dump, Path::parse(alloc, "a")?)?;
     let up = walked(alloc, &dump, &index, Dir::Up)?;
@@ -48,14 +48,14 @@ fn walks(alloc: Global) -> Result<bool, Stopped> {
     Ok(up.as_slice() == [0, 1, 2, 3, 4].as_slice() && down.as_slice() == [3, 4, 1, 2, 0].as_slice())
 }
 
-fn sparse_entries(alloc: Global) -> Result<bool, Stopped> {
+fn sparse_entries(alloc: Global) -> Result<bool, RowFault> {
     let dump = read_documents(alloc, MIXED)?;
     let index = Index::build_sparse(alloc, &dump, Path::parse(alloc, "a")?)?;
     Ok(index.entries() == 5 && index.multikey() && index.sparse())
 }
 
 /// No key of a field that is missing, null, and two numbers.
-fn keys_of_sparse(alloc: Global) -> Result<bool, Stopped> {
+fn keys_of_sparse(alloc: Global) -> Result<bool, RowFault> {
     let dump = read_documents(alloc, MIXED)?;
     if dump.len() != 5 {
         return Ok(false);

@@ -1,5 +1,5 @@
 //! Paths, the keys that they reach, and the bounds of filters.
-use crate::answers::{Stopped, is_whole};
+use crate::answers::{RowFault, is_whole};
 use crate::samples::read_filter;
 use bd_bounds::Bounds;
 use bd_extjson::read_doc;
@@ -23,7 +23,7 @@ pub(crate) fn are_values<N: Reading>(keys: &[Key<N>], values: &[Value]) -> bool 
 }
 
 /// The keys of 5, 7 and 5 are 5 and 7.
-fn keys_of_an_array(alloc: Global) -> Result<bool, Stopped> {
+fn keys_of_an_array(alloc: Global) -> Result<bool, RowFault> {
     let document = read_doc(alloc, b"{\"a\":[5,7,5]}")?;
     let path = Path::parse(alloc, "a")?;
     let nodes = key_nodes(alloc, Tree::Doc(&document), &path)?;
@@ -35,7 +35,7 @@ fn keys_of_an_array(alloc: Global) -> Result<bool, Stopped> {
 }
 
 /// The greatest of them is 7, and so is its copy. A copy of all has them all.
-fn copies(alloc: Global) -> Result<bool, Stopped> {
+fn copies(alloc: Global) -> Result<bool, RowFault> {
     let document = read_doc(alloc, b"{\"a\":[5,7,5]}")?;
     let path = Path::parse(alloc, "a")?;
     let key = sort_key(alloc, Tree::Doc(&document), &path, Dir::Down)?;
@@ -50,7 +50,7 @@ fn copies(alloc: Global) -> Result<bool, Stopped> {
     )
 }
 
-fn components(alloc: Global) -> Result<bool, Stopped> {
+fn components(alloc: Global) -> Result<bool, RowFault> {
     let path = Path::parse(alloc, "a.0")?;
     let copy = path.try_copy(alloc)?;
     if path.len() != 2 || copy.len() != 2 {
@@ -60,7 +60,7 @@ fn components(alloc: Global) -> Result<bool, Stopped> {
 }
 
 /// A filter for what is not null gives none; one from 5 on holds 5.
-fn bounds(alloc: Global) -> Result<bool, Stopped> {
+fn bounds(alloc: Global) -> Result<bool, RowFault> {
     let path = Path::parse(alloc, "a")?;
     let other = read_filter(alloc, "{\"a\":{\"$ne\":null}}")?;
     let from_five = read_filter(alloc, "{\"a\":{\"$gte\":5}}")?;

@@ -1,5 +1,5 @@
 //! Each command, over devices in memory. The token was made by another program.
-use crate::answers::{Stopped, is_whole};
+use crate::answers::{RowFault, is_whole};
 use crate::samples::{MIXED, ONE, SEVERAL_KEYS, bytes_of};
 use crate::service_tests::{RESUMED, TALK, side};
 use bd_cli::{Status, run};
@@ -9,7 +9,7 @@ use std::alloc::Global;
 
 /// What a command shows.
 #[derive(Clone, Copy)]
-struct Shown<'a> {
+struct Transcript<'a> {
     out: &'a [u8],
     err: &'a str,
     status: Status,
@@ -21,8 +21,8 @@ fn shows(
     order: &Order,
     file: &[u8],
     commands: &[u8],
-    wanted: Shown<'_>,
-) -> Result<bool, Stopped> {
+    wanted: Transcript<'_>,
+) -> Result<bool, RowFault> {
     let mut out_room = [0; 1000];
     let mut err_room = [0; 200];
     let mut file = MemoryInput::new(file, 100, None);
@@ -32,7 +32,7 @@ fn shows(
     let status = run(alloc, order, &mut file, &mut commands, &mut out, &mut err);
     if err.bytes() == b"bsonfind: no memory\n".as_slice() {
         if status == Status::Failed && wanted.out.starts_with(out.bytes()) {
-            return Err(Stopped::NoMemory);
+            return Err(RowFault::NoMemory);
         }
         return Ok(false);
     }
@@ -40,12 +40,12 @@ fn shows(
 }
 
 /// Binary data of subtype 02.
-fn dump(alloc: Global) -> Result<bool, Stopped> {
+fn dump(alloc: Global) -> Result<bool, RowFault> {
     let order = Order::Dump {
         file: String::new(alloc),
     };
     let file = b"\x13\0\0\0\x05x\0\x06\0\0\0\x02\x02\0\0\0\xff\xff\0";
-    let wanted = Shown {
+    let wanted = Transcript {
         out: b"{\"x\":{\"$binary\":{\"base64\":\"//8=\",\"subType\":\"02\"}}}\n",
         err: "1 objects found\n",
         status: Status::Done,
@@ -54,12 +54,12 @@ fn dump(alloc: Global) -> Result<bool, Stopped> {
 }
 
 /// A double, and {"a":1}.
-fn check(alloc: Global) -> Result<bool, Stopped> {
+fn check(alloc: Global) -> Result<bool, RowFault> {
     let order = Order::Check {
         file: String::new(alloc),
     };
     let file = b"\x10\0\0\0\x01d\0\0\0\0\0\0\0\xf0\x3f\0\x0c\0\0\0\x10a\0\x01\0\0\0\0";
-    let wanted = Shown {
+    let wanted = Transcript {
         out: b"document 0, byte 4, path \"d\": double\n",
         err: "2 documents, 1 faulty\n",
         status: Status::Failed,
@@ -68,12 +68,12 @@ fn check(alloc: Global) -> Result<bool, Stopped> {
 }
 
 /// Two lines that are packed, and one with a fraction.
-fn pack(alloc: Global) -> Result<bool, Stopped> {
+fn pack(alloc: Global) -> Result<bool, RowFault> {
     let order = Order::Pack {
         file: String::new(alloc),
     };
     let file = b"{\"a\":1}\n{\"a\":2147483648}\n{\"a\":1.5}\n";
-    let wanted = Shown {
+    let wanted = Transcript {
         out: b"\x0c\0\0\0\x10a\0\x01\0\0\0\0\x10\0\0\0\x12a\0\0\0\0\x80\0\0\0\0\0",
         err: "bsonfind: line 3, byte 5: not in the profile\n2 objects packed\n",
         status: Status::Failed,
@@ -81,7 +81,7 @@ fn pack(alloc: Global) -> Result<bool, Stopped> {
     shows(alloc, &order, file, b"", wanted)
 }
 
-fn find(alloc: Global) -> Result<bool, Stopped> {
+fn find(alloc: Global) -> Result<bool, RowFault> {
     let order = Order::Find {
         file: String::new(alloc),
         options: FindOptions {
@@ -94,7 +94,7 @@ fn find(alloc: Global) -> Result<bool, Stopped> {
             after: None,
         },
     };
-    let wanted = Shown {
+    let wanted = Transcript {
         out: b"{\"a\":{\"$numberInt\":\"1\"}}\n",
         err: "1 documents, end, token AQEAAAAAAAAAAAAAAOxWFkFdqcYCuEUbEhatAeBJGQIzJKd1iFE2vexyGA2P\n",
         status: Status::Done,
@@ -103,14 +103,14 @@ fn find(alloc: Global) -> Result<bool, Stopped> {
 }
 
 /// Whether each line of a talk over documents has its reply.
-fn serves(alloc: Global, documents: &str, talk: &str) -> Result<bool, Stopped> {
+fn serves(alloc: Global, documents: &str, talk: &str) -> Result<bool, RowFault> {
     let order = Order::Serve {
         file: String::new(alloc),
     };
     let file = bytes_of(alloc, documents)?;
     let sent = side(alloc, talk, true)?;
     let replies = side(alloc, talk, false)?;
-    let wanted = Shown {
+    let wanted = Transcript {
         out: replies.as_bytes(),
         err: "",
         status: Status::Done,
@@ -118,11 +118,11 @@ fn serves(alloc: Global, documents: &str, talk: &str) -> Result<bool, Stopped> {
     shows(alloc, &order, &file, sent.as_bytes(), wanted)
 }
 
-fn serve(alloc: Global) -> Result<bool, Stopped> {
+fn serve(alloc: Global) -> Result<bool, RowFault> {
     serves(alloc, SEVERAL_KEYS, TALK)
 }
 
-fn serve_resumed(alloc: Global) -> Result<bool, Stopped> {
+fn serve_resumed(alloc: Global) -> Result<bool, RowFault> {
     serves(alloc, MIXED, RESUMED)
 }
 

@@ -1,5 +1,5 @@
 //! Documents of texts, and their dump.
-use crate::answers::Stopped;
+use crate::answers::RowFault;
 use bd_bson::{Dump, read_dump};
 use bd_extjson::read_doc;
 use bd_query::{Filter, parse};
@@ -27,7 +27,7 @@ pub(crate) const FIVE: &str = r#"{"a":0}
 {"a":4}"#;
 
 /// The bytes of documents, one a line.
-pub(crate) fn bytes_of(alloc: Global, documents: &str) -> Result<Vec<u8>, Stopped> {
+pub(crate) fn bytes_of(alloc: Global, documents: &str) -> Result<Vec<u8>, RowFault> {
     let mut bytes = Vec::new(alloc);
     for text in documents.lines() {
         let document = read_doc(alloc, text.as_bytes())?;
@@ -37,11 +37,11 @@ pub(crate) fn bytes_of(alloc: Global, documents: &str) -> Result<Vec<u8>, Stoppe
 }
 
 /// The dump of documents, one a line.
-pub(crate) fn read_documents(alloc: Global, documents: &str) -> Result<Dump, Stopped> {
+pub(crate) fn read_documents(alloc: Global, documents: &str) -> Result<Dump, RowFault> {
     Ok(read_dump(alloc, bytes_of(alloc, documents)?)?)
 }
 
-pub(crate) fn read_filter(alloc: Global, text: &str) -> Result<Filter, Stopped> {
+pub(crate) fn read_filter(alloc: Global, text: &str) -> Result<Filter, RowFault> {
     let document = read_doc(alloc, text.as_bytes())?;
     Ok(parse(alloc, &document)?)
 }

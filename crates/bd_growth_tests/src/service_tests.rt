@@ -1,5 +1,5 @@
 //! Replies of a service, and one that is written alone. The tokens were made by another program.
-use crate::answers::{Stopped, is_whole};
+use crate::answers::{RowFault, is_whole};
 use crate::samples::{MIXED, SEVERAL_KEYS, read_documents};
 use bd_cursor::{Batch, Token};
 use bd_lines::Replier;
@@ -40,7 +40,7 @@ pub(crate) const RESUMED: &str = r#"> {"createIndex":"a"}
 "#;
 
 /// The lines of a talk that are sent, or those that reply to them, each with its newline.
-pub(crate) fn side(alloc: Global, talk: &str, sent: bool) -> Result<String, Stopped> {
+pub(crate) fn side(alloc: Global, talk: &str, sent: bool) -> Result<String, RowFault> {
     let mut lines = String::new(alloc);
     for line in talk.lines() {
         let command = line.strip_prefix("> ");
@@ -53,7 +53,7 @@ pub(crate) fn side(alloc: Global, talk: &str, sent: bool) -> Result<String, Stop
 }
 
 /// Whether each line that is sent to a service over documents has its reply.
-fn replies(alloc: Global, documents: &str, talk: &str) -> Result<bool, Stopped> {
+fn replies(alloc: Global, documents: &str, talk: &str) -> Result<bool, RowFault> {
     let mut service = Service::new(alloc, read_documents(alloc, documents)?);
     let mut replied = Vec::new(alloc);
     for line in talk.lines() {
@@ -63,7 +63,7 @@ fn replies(alloc: Global, documents: &str, talk: &str) -> Result<bool, Stopped> 
                 let answer = service.reply(sent.as_bytes(), &mut replied);
                 // Of a reply that was not made nothing is there.
                 if answer.is_err() && !replied.is_empty() {
-                    return Err(Stopped::Otherwise);
+                    return Err(RowFault::Otherwise);
                 }
                 answer?;
             }
@@ -74,16 +74,16 @@ fn replies(alloc: Global, documents: &str, talk: &str) -> Result<bool, Stopped> 
     Ok(true)
 }
 
-fn talk(alloc: Global) -> Result<bool, Stopped> {
+fn talk(alloc: Global) -> Result<bool, RowFault> {
     replies(alloc, SEVERAL_KEYS, TALK)
 }
 
-fn resumed(alloc: Global) -> Result<bool, Stopped> {
+fn resumed(alloc: Global) -> Result<bool, RowFault> {
     replies(alloc, MIXED, RESUMED)
 }
 
 /// A batch that is written after two bytes, which alone are there after a refusal.
-fn batch(alloc: Global) -> Result<bool, Stopped> {
+fn batch(alloc: Global) -> Result<bool, RowFault> {
     let dump = read_documents(alloc, SEVERAL_KEYS)?;
     let reply = Reply::Gave(Batch {
         places: Vec::from_slice(alloc, &[1])?,

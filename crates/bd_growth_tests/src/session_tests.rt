@@ -1,5 +1,5 @@
 //! Calls of sessions: one that was refused is made again, and gives its whole answer then.
-use crate::answers::{Stopped, is_whole};
+use crate::answers::{RowFault, is_whole};
 use crate::samples::{FIVE, MIXED, SEVERAL_KEYS, read_documents};
 use bd_cursor::{Batch, Choice, Made, Plan, Request, Session, Token};
 use bd_extjson::read_doc;
@@ -17,7 +17,7 @@ struct Words<'a> {
 }
 
 impl Words<'_> {
-    fn request(self, alloc: Global) -> Result<Request, Stopped> {
+    fn request(self, alloc: Global) -> Result<Request, RowFault> {
         let filter = read_doc(alloc, self.filter.as_bytes())?;
         let sort = read_doc(alloc, self.sort.as_bytes())?;
         Ok(Request::new(alloc, filter, sort, self.skip, self.limit)?)
@@ -33,7 +33,7 @@ const BY_A: Words<'static> = Words {
 };
 
 /// The number of a new cursor.
-fn find(alloc: Global, session: &mut Session, words: Words<'_>) -> Result<u64, Stopped> {
+fn find(alloc: Global, session: &mut Session, words: Words<'_>) -> Result<u64, RowFault> {
     match session.find(words.request(alloc)?, Choice::Auto) {
         Err(Refused::NoMemory) => Ok(session.find(words.request(alloc)?, Choice::Auto)?),
         answer => Ok(answer?),
@@ -46,7 +46,7 @@ fn resume(
     session: &mut Session,
     words: Words<'_>,
     token: &Token,
-) -> Result<u64, Stopped> {
+) -> Result<u64, RowFault> {
     match session.resume(words.request(alloc)?, Choice::Scan, token) {
         Err(Refused::NoMemory) => {
             Ok(session.resume(words.request(alloc)?, Choice::Scan, token)?)
@@ -55,7 +55,7 @@ fn resume(
     }
 }
 
-fn next(session: &mut Session, id: u64, n: u64) -> Result<Batch, Stopped> {
+fn next(session: &mut Session, id: u64, n: u64) -> Result<Batch, RowFault> {
     match session.next(id, n) {
         Err(Refused::NoMemory) => Ok(session.next(id, n)?),
         answer => Ok(answer?),
@@ -71,7 +71,7 @@ fn make(session: &mut Session, path: Path, sparse: bool) -> Result<Made, Refused
 }
 
 /// What is told of a new index on `a`, sparse or not.
-fn create(alloc: Global, session: &mut Session, sparse: bool) -> Result<Made, Stopped> {
+fn create(alloc: Global, session: &mut Session, sparse: bool) -> Result<Made, RowFault> {
     match make(session, Path::parse(alloc, "a")?, sparse) {
         Err(Refused::NoMemory) => Ok(make(session, Path::parse(alloc, "a")?, sparse)?),
         answer => Ok(answer?),
@@ -87,7 +87,7 @@ fn has(batch: &Batch, places: &[u32], end: bool) -> bool {
 const AFTER_TWO: &str = "AQIAAAAAAAAAAgAAAJp0O9zj0p+vf5DvZAVcdDU5n8vAevLSzNWdIqGudhaq";
 
 /// Two batches of an answer that is cut on both sides.
-fn batches(alloc: Global) -> Result<bool, Stopped> {
+fn batches(alloc: Global) -> Result<bool, RowFault> {
     let mut session = Session::new(alloc, read_documents(alloc, FIVE)?);
     let words = Words {
         filter: "{}",
@@ -111,7 +111,7 @@ fn batches(alloc: Global) -> Result<bool, Stopped> {
 }
 
 /// Two documents by a walk on an index; without it the rest follows.
-fn resumed(alloc: Global) -> Result<bool, Stopped> {
+fn resumed(alloc: Global) -> Result<bool, RowFault> {
     let mut session = Session::new(alloc, read_documents(alloc, MIXED)?);
     let made = create(alloc, &mut session, false)?;
     let id = find(alloc, &mut session, BY_A)?;
@@ -132,7 +132,7 @@ fn resumed(alloc: Global) -> Result<bool, Stopped> {
 }
 
 /// What is told of a plan by an index.
-fn explained(alloc: Global) -> Result<bool, Stopped> {
+fn explained(alloc: Global) -> Result<bool, RowFault> {
     let mut session = Session::new(alloc, read_documents(alloc, SEVERAL_KEYS)?);
     let made = create(alloc, &mut session, false)?;
     let words = Words {
@@ -155,7 +155,7 @@ fn explained(alloc: Global) -> Result<bool, Stopped> {
     )
 }
 
-fn made_sparse(alloc: Global) -> Result<bool, Stopped> {
+fn made_sparse(alloc: Global) -> Result<bool, RowFault> {
     let mut session = Session::new(alloc, read_documents(alloc, MIXED)?);
     let made = create(alloc, &mut session, true)?;
     Ok(made.entries == 5 && made.multikey)

@@ -1,5 +1,5 @@
 //! Texts and bytes that are appended: after a refusal the vector holds what it held, and the call is made again.
-use crate::answers::{Stopped, is_whole};
+use crate::answers::{RowFault, is_whole};
 use crate::samples::ONE;
 use bd_bson::read_dump;
 use bd_check::read_document;
@@ -26,7 +26,7 @@ fn append(document: &Document, is_alone: bool, out: &mut Vec<u8>) -> Result<(), 
     }
 }
 
-fn texts_of_trees(alloc: Global) -> Result<bool, Stopped> {
+fn texts_of_trees(alloc: Global) -> Result<bool, RowFault> {
     let document = read_document(alloc, ONE, 0, 0)?;
     for (is_alone, wanted) in [
         (true, b"{\"$numberInt\":\"1\"}".as_slice()),
@@ -46,7 +46,7 @@ fn texts_of_trees(alloc: Global) -> Result<bool, Stopped> {
     Ok(true)
 }
 
-fn text_of_a_view(alloc: Global) -> Result<bool, Stopped> {
+fn text_of_a_view(alloc: Global) -> Result<bool, RowFault> {
     let dump = read_dump(alloc, Vec::from_slice(alloc, ONE)?)?;
     if dump.len() != 1 {
         return Ok(false);
@@ -71,7 +71,7 @@ const LINES: [(&[u8], &[u8]); 2] = [
     ),
 ];
 
-fn packed_lines(alloc: Global) -> Result<bool, Stopped> {
+fn packed_lines(alloc: Global) -> Result<bool, RowFault> {
     let mut packer = Packer::new(alloc);
     for (line, wanted) in LINES {
         let mut out = Vec::from_slice(alloc, b"xy")?;

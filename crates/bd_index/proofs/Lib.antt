@@ -1,11 +1,11 @@
 pub mod ComingLemmas
 pub mod CountLemmas
 pub mod CoverLemmas
+pub mod DescentLemmas
 pub mod DocumentLemmas
-pub mod DownwardLemmas
 pub mod EntryLemmas
-pub mod FoundLemmas
-pub mod KeptLemmas
+pub mod EntryViewLemmas
+pub mod FoundKeyLemmas
 pub mod OrderLemmas
 pub mod PlacesLemmas
 pub mod RepeatLemmas

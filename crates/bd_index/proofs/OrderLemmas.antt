@@ -4,14 +4,14 @@ use Rattle.std.specs.Prelude.{slice_range}
 use Rattle.std.proofs.lemmas.List.{take_all}
 use Rattle.bd_bson.specs.Collection.{bytes_of}
 use Rattle.bd_bson.specs.declared.collection.Dump.{Dump}
-use Rattle.bd_index.specs.Downward.{IsRun, downward}
+use Rattle.bd_index.specs.Descent.{IsRun, downward}
 use Rattle.bd_index.specs.Entries.{KeyAt}
-use Rattle.bd_index.specs.Indexed.{IsIndexOf, IsIndexOf-prop}
-use Rattle.bd_index.specs.Kept.{KeepsEntry}
+use Rattle.bd_index.specs.IndexView.{IsIndexOf, IsIndexOf-prop}
+use Rattle.bd_index.specs.EntryView.{KeepsEntry}
 use Rattle.bd_index.specs.declared.entry.Entry.{Entry}
 use Rattle.bd_index.specs.declared.index.Index.{Index}
-use Rattle.bd_index.proofs.DownwardLemmas.{run_taken}
-use Rattle.bd_index.proofs.KeptLemmas.{as_many_kept, zip_at}
+use Rattle.bd_index.proofs.DescentLemmas.{run_taken}
+use Rattle.bd_index.proofs.EntryViewLemmas.{as_many_kept, zip_at}
 
 same_kept : (dump : Dump) (index : Index) (i h : IsIndexOf dump index) → i.keeps.entries ≡ h.keeps.entries
 same_kept dump index i h = ap (λ (x : IsIndexOf dump index). x.keeps.entries) (IsIndexOf-prop dump index i h)

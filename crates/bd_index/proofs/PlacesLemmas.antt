@@ -10,10 +10,10 @@ use Rattle.bd_bson.specs.declared.collection.Dump.{Dump}
 use Rattle.bd_path.specs.PathNames.{names_of}
 use Rattle.bd_bounds.specs.Bounds.{KeyBounds, is_among}
 use Rattle.bd_index.specs.Entries.{KeyAt, entries_of}
-use Rattle.bd_index.specs.Indexed.{IsIndexOf}
-use Rattle.bd_index.specs.Kept.{KeepsEntries}
+use Rattle.bd_index.specs.IndexView.{IsIndexOf}
+use Rattle.bd_index.specs.EntryView.{KeepsEntries}
 use Rattle.bd_index.specs.Spans.{CoverKeys, pieces}
-use Rattle.bd_index.specs.Within.{has_key_in}
+use Rattle.bd_index.specs.BoundedPlaces.{has_key_in}
 use Rattle.bd_index.specs.declared.entry.Entry.{Entry}
 use Rattle.bd_index.specs.declared.index.Index.{Index}
 use Rattle.bd_index.specs.declared.span.Span.{Span}

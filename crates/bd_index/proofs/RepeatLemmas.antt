@@ -1,6 +1,6 @@
 -- Entries that were sorted, without repeats, are the entries of the documents.
-use Rattle.std.proofs.Common.{◌≡◌, ◌+◌, ◌<◌, ◌≤◌, ℕ, zero, suc, Bool, true, false, cond, List, [], ◌∷◌, ◌++◌, Option, Some, None, ◌⊎◌, inl, inr, filter, length, get_or, refl, sym, ap, ap₂, ◌∙◌, subst, arith, add-one, append_assoc, append-nil, eq-eqb}
-use Rattle.std.specs.Prelude.{◌==◌, ◌&&◌, ◌||◌}
+use Rattle.std.proofs.Common.{◌≡◌, ◌+◌, ◌<◌, ◌≤◌, ℕ, zero, suc, Bool, true, false, cond, List, [], ◌∷◌, ◌++◌, Option, Some, None, ◌⊎◌, inl, inr, filter, length, get_or, drop, refl, sym, ap, ap₂, ◌∙◌, subst, arith, add-one, append_assoc, append-nil, eq-eqb}
+use Rattle.std.specs.Prelude.{◌==◌, ◌&&◌, ◌||◌, slice_get}
 use Rattle.std.specs.List.{AllByRecursion, count_by, list_any}
 use Rattle.std.specs.List.Sorted.{IsSortedBy}
 use Rattle.std.specs.Ordering.{is_lt}
@@ -12,8 +12,9 @@ use Rattle.bd_value.specs.Tree.{Tree, Doc, doc, fields_of}
 use Rattle.bd_path.specs.KeyList.{all_keys, distinct, indexed_keys, with_keys}
 use Rattle.bd_path.specs.Names.{Names}
 use Rattle.bd_path.proofs.MemberLemmas.{In, in_left, in_right, in_cases}
-use Rattle.bd_index.specs.Entries.{KeyAt, all_entries_from, entries_from, entry_cmp, is_same_entry, keys_at}
-use Rattle.bd_index.specs.Once.{is_repeat, without_repeats}
+use Rattle.bd_index.specs.Entries.{KeyAt, entries_from, entry_cmp, is_same_entry, keys_at}
+use Rattle.bd_index.specs.Repeats.{each_once, has_same, is_repeat, without_repeats}
+use Rattle.bd_index.proofs.DocumentLemmas.{next_at}
 use Rattle.bd_index.proofs.EntryLemmas.{entry_total, other_back, same_back, same_between, same_itself, same_on}
 
 -- ---- the first of some entries that is the same as another
@@ -146,13 +147,6 @@ repeats_apart last (x ∷ xs) up low = go (is_repeat last x) (repeats_apart last
     go false on after = (all_from_in (λ y. is_same_entry x y ≡ false) (without_repeats (Some x) xs) (λ y i. (repeats_in (Some x) xs y up.1 up.0 i).new), after)
 
 -- ---- each entry once, in the order of their coming
-
-abbrev has_same : List KeyAt → KeyAt → Bool
-has_same kept x = list_any (λ y. is_same_entry y x) kept
-
-abbrev pub each_once : List KeyAt → List KeyAt → List KeyAt
-each_once kept [] = kept
-each_once kept (x ∷ xs) = each_once (cond (has_same kept x) kept (kept ++ x ∷ [])) xs
 
 any_last : (kept : List KeyAt) (x e : KeyAt) → has_same (kept ++ x ∷ []) e ≡ (has_same kept e || is_same_entry x e)
 any_last [] x e = go (is_same_entry x e)
@@ -364,26 +358,32 @@ once_keys kept place ks (l ∷ ls) low =
         ap (λ (k : List KeyAt). each_once k (keys_at place ls)) (append_assoc kept (keys_at place ks) ((l, place) ∷ []) ∙ ap (λ (k : List KeyAt). kept ++ k) (sym (keys_append place ks (l ∷ []))))
         ∙ after
 
-indexed_is : (sparse : Bool) (t : Tree) (path : Names) → distinct (all_keys sparse t path) ≡ indexed_keys sparse t path
-indexed_is true t path = refl
-indexed_is false t path = refl
-
 low_next : (place : ℕ) (kept : List KeyAt) (ks : List Tree) → AllByRecursion (λ y. y.1 < place) kept → AllByRecursion (λ y. y.1 < place + 1) (kept ++ keys_at place ks)
 low_next place [] [] h = tt
 low_next place [] (k ∷ ks) h = (omega arith, low_next place [] ks tt)
 low_next place (x ∷ xs) ks h = (let lt = h.0 in omega arith, low_next place xs ks h.1)
 
-once_from : (sparse : Bool) (path : Names) (kept : List KeyAt) (place : ℕ) (ds : List Doc) → AllByRecursion (λ y. y.1 < place) kept → each_once kept (all_entries_from sparse path place ds) ≡ kept ++ entries_from sparse path place ds
-once_from sparse path kept place [] low = sym (append-nil kept)
-once_from sparse path kept place (d ∷ ds) low =
-    let t = doc (fields_of d) in
-    let raw = all_keys sparse t path in
-    once_append kept (keys_at place raw) (all_entries_from sparse path (place + 1) ds)
-    ∙ ap (λ (k : List KeyAt). each_once k (all_entries_from sparse path (place + 1) ds))
-    (ap (λ (k : List KeyAt). each_once k (keys_at place raw)) (sym (append-nil kept)) ∙ once_keys kept place [] raw low)
-    ∙ once_from sparse path (kept ++ keys_at place (distinct raw)) (place + 1) ds (low_next place kept (distinct raw) low)
-    ∙ append_assoc kept (keys_at place (distinct raw)) (entries_from sparse path (place + 1) ds)
-    ∙ ap (λ (ks : List Tree). kept ++ (keys_at place ks ++ entries_from sparse path (place + 1) ds)) (indexed_is sparse t path)
+-- a loop's step: the keys of one document more, those that equal an earlier one counting for nothing
+module _ (sparse : Bool) (path : Names) (n : ℕ) (ds : List Doc) (d : Doc) (t : Tree) (old new : List KeyAt) (ks : List Tree)
+    (is : slice_get ds n ≡ Some d) (tree : t ≡ doc (fields_of d)) (listed : distinct ks ≡ indexed_keys sparse t path) (added : new ≡ old ++ keys_at n ks)
+    (low : AllByRecursion (λ y. y.1 < n) (each_once [] old)) where
+  now : each_once [] new ≡ each_once [] old ++ keys_at n (indexed_keys sparse (doc (fields_of d)) path)
+  now =
+      ap (each_once []) added ∙ once_append [] old (keys_at n ks)
+      ∙ ap (λ (k : List KeyAt). each_once k (keys_at n ks)) (sym (append-nil (each_once [] old)))
+      ∙ once_keys (each_once [] old) n [] ks low
+      ∙ ap (λ (x : List Tree). each_once [] old ++ keys_at n x) (listed ∙ ap (λ (x : Tree). indexed_keys sparse x path) tree)
+
+  pub one_more : (all : List KeyAt) → each_once [] old ++ entries_from sparse path n (drop n ds) ≡ all → each_once [] new ++ entries_from sparse path (n + 1) (drop (n + 1) ds) ≡ all
+  one_more all so_far =
+      let rest = entries_from sparse path (n + 1) (drop (n + 1) ds) in
+      ap (λ (x : List KeyAt). x ++ rest) now
+      ∙ append_assoc (each_once [] old) (keys_at n (indexed_keys sparse (doc (fields_of d)) path)) rest
+      ∙ ap (λ (l : List Doc). each_once [] old ++ entries_from sparse path n l) (sym (next_at ds n d is))
+      ∙ so_far
+
+  pub low_more : AllByRecursion (λ y. y.1 < n + 1) (each_once [] new)
+  low_more = subst (λ (x : List KeyAt). AllByRecursion (λ y. y.1 < n + 1) x) (sym now) (low_next n (each_once [] old) (indexed_keys sparse (doc (fields_of d)) path) low)
 
 first_in : (e y : KeyAt) (xs : List KeyAt) → first_same e xs ≡ Some y → In y xs
 first_in e y [] h = absurd (let f : ⊥ = cc in f)
@@ -398,20 +398,15 @@ abbrev pub AsTheyCame : List KeyAt → List KeyAt → Type 0
 AsTheyCame xs ys = (e : KeyAt) → In e ys ⊎ In e xs → filter (is_same_entry e) ys ≡ filter (is_same_entry e) xs
 
 -- sorted entries, of which those that are the same stand as they came, without repeats
-pub once_sorted : (sparse : Bool) (path : Names) (ds : List Doc) (ys : List KeyAt) → Ascend ys → AsTheyCame (all_entries_from sparse path 0 ds) ys
-    → (test : KeyAt → Bool) → count_by test (without_repeats None ys) ≡ count_by test (entries_from sparse path 0 ds)
-once_sorted sparse path ds ys up stable test =
-    let raw = all_entries_from sparse path 0 ds in
+pub once_sorted : (raw ys : List KeyAt) → Ascend ys → AsTheyCame raw ys → (test : KeyAt → Bool) → count_by test (without_repeats None ys) ≡ count_by test (each_once [] raw)
+once_sorted raw ys up stable test =
     as_many test (without_repeats None ys) (each_once [] raw) (repeats_apart None ys up tt) (once_apart [] raw tt)
     (λ e i. let f = repeats_in None ys e up tt i in once_has [] raw e (record { new = refl; is = sym (first_as_filter e raw ys (stable e (inl (first_in e e ys f.is)))) ∙ f.is }))
     (λ e i. repeats_have None ys e (back e (once_in [] raw e i)))
-    ∙ ap (count_by test) (once_from sparse path [] 0 ds tt)
   where
-    back : (e : KeyAt) → In e [] ⊎ IsNew [] (all_entries_from sparse path 0 ds) e → IsFirst None ys e
+    back : (e : KeyAt) → In e [] ⊎ IsNew [] raw e → IsFirst None ys e
     back e (inl n) = absurd n
-    back e (inr f) =
-        let raw = all_entries_from sparse path 0 ds in
-        record { new = refl; is = first_as_filter e raw ys (stable e (inr (first_in e e raw f.is))) ∙ f.is }
+    back e (inr f) = record { new = refl; is = first_as_filter e raw ys (stable e (inr (first_in e e raw f.is))) ∙ f.is }
 
 -- ---- in their order
 

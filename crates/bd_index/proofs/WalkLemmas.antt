@@ -17,13 +17,13 @@ use Rattle.bd_path.specs.Names.{Names}
 use Rattle.bd_path.specs.declared.dir.Dir.{Dir}
 use Rattle.bd_path.specs.declared.dir.Dir.TheVariants.{Up, Down}
 use Rattle.bd_path.proofs.EarliestLemmas.{dir_total}
-use Rattle.bd_index.specs.Ahead.{fresh_places}
-use Rattle.bd_index.specs.Downward.{downward}
+use Rattle.bd_index.specs.EntriesAhead.{fresh_places}
+use Rattle.bd_index.specs.Descent.{downward}
 use Rattle.bd_bson.specs.Documents.{document_at}
 use Rattle.bd_index.specs.Entries.{AreEntries, KeyAt, entries_from, entries_of, keys_at}
 use Rattle.bd_index.specs.Walk.{WalksAll}
 use Rattle.bd_index.proofs.ComingLemmas.{Ascends, Ready, Rises, all_append, all_map, first_places, in_turn, none_any, none_passes, place_by}
-use Rattle.bd_index.proofs.DownwardLemmas.{count_downward, downward_rises}
+use Rattle.bd_index.proofs.DescentLemmas.{count_downward, downward_rises}
 use Rattle.bd_index.proofs.RepeatLemmas.{Ascend, ascend_from_sorted}
 use Rattle.bd_index.proofs.SortKeyLemmas.{sort_key_best}
 

@@ -6,7 +6,7 @@ use Rattle.std.specs.Ordering.{is_lt, nat_cmp, ordering_then}
 use Rattle.std.specs.declared.cmp.Ordering.{Ordering}
 use Rattle.bd_value.specs.Order.{cmp, equal}
 use Rattle.bd_value.specs.Tree.{Tree, Doc, doc, fields_of}
-use Rattle.bd_path.specs.KeyList.{all_keys, indexed_keys, keys}
+use Rattle.bd_path.specs.KeyList.{indexed_keys, keys}
 use Rattle.bd_path.specs.Names.{Names}
 
 -- a key, and the place of its document
@@ -24,12 +24,6 @@ entries_from sparse path place (d ∷ ds) =
 
 abbrev pub entries_of : Bool → Names → List Doc → List KeyAt
 entries_of sparse path ds = entries_from sparse path 0 ds
-
--- the same with those that equal an earlier key of their document
-abbrev pub all_entries_from : Bool → Names → ℕ → List Doc → List KeyAt
-all_entries_from sparse path place [] = []
-all_entries_from sparse path place (d ∷ ds) =
-    keys_at place (all_keys sparse (doc (fields_of d)) path) ++ all_entries_from sparse path (place + 1) ds
 
 abbrev pub has_two_keys : Names → Tree → Bool
 has_two_keys path t = nat_lt 1 (length (keys t path))

@@ -1,6 +1,6 @@
 -- The places that a walk has left.
 use Rattle.std.specs.Prelude.{ℕ, List}
-use Rattle.bd_index.specs.Ahead.{fresh_places, places_ahead}
+use Rattle.bd_index.specs.EntriesAhead.{fresh_places, places_ahead}
 use Rattle.bd_index.specs.declared.walk.Walk.{Walk}
 
 abbrev pub walk_left : Walk → List ℕ

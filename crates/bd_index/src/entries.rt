@@ -1,18 +1,18 @@
 //! The keys of all documents, while they are put in order.
 
-ghost use Rattle.std.specs.Prelude.{◌≡◌, ◌++◌, List, ℕ, None, map, IfOk, OnOk};
+ghost use Rattle.std.specs.Prelude.{◌≡◌, ◌++◌, List, [], ℕ, None, map, IfOk, OnOk};
 ghost use Rattle.bd_raw.specs.Sound.{stands};
 ghost use Rattle.bd_bson.specs.Collection.{documents, bytes_of};
 ghost use Rattle.bd_path.specs.Key.{AreKeysOf, IsKeyOf, key_tree, key_trees};
 ghost use Rattle.bd_path.specs.PathNames.{names_of};
-ghost use Rattle.bd_index.specs.Entries.{all_entries_from, entry_cmp, keys_at};
-ghost use Rattle.bd_index.specs.FoundView.{AreFoundIn, found_entry, last_entry, raw_source, raw_tree};
-ghost use Rattle.bd_index.specs.Indexed.{KeepsDump};
-ghost use Rattle.bd_index.specs.Kept.{KeepsEntries};
-ghost use Rattle.bd_index.specs.Once.{is_repeat, without_repeats};
+ghost use Rattle.bd_index.specs.Entries.{entries_of, entry_cmp, keys_at};
+ghost use Rattle.bd_index.specs.FoundKeyView.{AreFoundIn, found_entry, last_entry, raw_source, raw_tree};
+ghost use Rattle.bd_index.specs.IndexView.{KeepsDump};
+ghost use Rattle.bd_index.specs.EntryView.{KeepsEntries};
+ghost use Rattle.bd_index.specs.Repeats.{each_once, is_repeat, without_repeats};
 
 use crate::entry::Entry;
-use crate::found::Found;
+use crate::found_key::FoundKey;
 use bd_bson::{At, Dump, RawValue};
 use bd_front::{Front, compare_fronts};
 use bd_path::{Key, Path, all_key_nodes};
@@ -39,14 +39,14 @@ pub(crate) fn entries_of(
     Ok(entries)
 }
 
-/// The keys of all documents, equal ones too, in the order of the documents.
+/// The keys of all documents, some equal ones too, in the order of the documents.
 fn find_all<'a>(
     alloc: Global,
     dump: &'a Dump,
     path: &Path,
     sparse: bool,
-) -> Result<Vec<Found<'a>>, NoMemory>
-    ensures found { IfOk result (λ v. map found_entry v.items ≡ all_entries_from sparse (names_of path.now) 0 (documents dump.now)) }
+) -> Result<Vec<FoundKey<'a>>, NoMemory>
+    ensures found { IfOk result (λ v. each_once [] (map found_entry v.items) ≡ entries_of sparse (names_of path.now) (documents dump.now)) }
     ensures kept { IfOk result (λ v. AreFoundIn (bytes_of dump.now) v.items) }
 {
     let mut found = Vec::new(alloc);
@@ -62,7 +62,7 @@ fn add_found<'a>(
     dump: &'a Dump,
     keys: &[Key<RawValue<'a>>],
     place: u32,
-    found: &mut Vec<Found<'a>>,
+    found: &mut Vec<FoundKey<'a>>,
 ) -> Result<(), NoMemory>
     requires { AreKeysOf raw_source (bytes_of dump.now) keys.now }
     ensures added { OnOk result (map found_entry found.new.items ≡ map found_entry found.old.items ++ keys_at place (key_trees raw_tree keys.now)) }
@@ -70,7 +70,7 @@ fn add_found<'a>(
 {
     for key in keys {
         let key = in_dump(dump, *key);
-        found.push(Found {
+        found.push(FoundKey {
             key,
             place,
             front: Front::of(Key::Node(key)),
@@ -93,7 +93,7 @@ fn in_dump<'a>(dump: &'a Dump, key: Key<RawValue<'a>>) -> RawValue<'a>
 }
 
 /// The order of two: by key, then by place. The keys are read only where their fronts do not tell it.
-fn compare_found(a: &Found<'_>, b: &Found<'_>) -> Ordering
+fn compare_found(a: &FoundKey<'_>, b: &FoundKey<'_>) -> Ordering
     ensures { result ≡ entry_cmp (found_entry a.now) (found_entry b.now) }
 {
     let order = match compare_fronts(a.front, b.front) {
@@ -104,7 +104,7 @@ fn compare_found(a: &Found<'_>, b: &Found<'_>) -> Ordering
 }
 
 /// Where they stand, without one that repeats the one before.
-fn entries_once(alloc: Global, found: &[Found<'_>]) -> Result<Vec<Entry>, NoMemory>
+fn entries_once(alloc: Global, found: &[FoundKey<'_>]) -> Result<Vec<Entry>, NoMemory>
     ensures { (bytes : List ℕ) → AreFoundIn bytes found.now →
         IfOk result (λ v. KeepsEntries bytes v.items (without_repeats None (map found_entry found.now))) }
 {
@@ -123,7 +123,7 @@ fn entries_once(alloc: Global, found: &[Found<'_>]) -> Result<Vec<Entry>, NoMemo
 }
 
 /// Whether it is an equal key of the same document.
-fn repeats(last: Option<Found<'_>>, next: &Found<'_>) -> bool
+fn repeats(last: Option<FoundKey<'_>>, next: &FoundKey<'_>) -> bool
     ensures { result ≡ is_repeat (last_entry last.entry) (found_entry next.now) }
 {
     match last {

@@ -1,7 +1,7 @@
 //! The entries of an index in the order of a direction.
 
 ghost use Rattle.std.specs.Prelude.{◌≡◌, ◌<◌, ◌≤◌, length};
-ghost use Rattle.bd_index.specs.Indexed.{IsIndexOf, IsIndexOf-prop};
+ghost use Rattle.bd_index.specs.IndexView.{IsIndexOf, IsIndexOf-prop};
 
 use crate::index::Index;
 use bd_bson::Dump;
@@ -26,8 +26,8 @@ pub(crate) struct EntryOrder<'a> {
 
 impl<'a> EntryOrder<'a> {
     ghost use Rattle.std.specs.Prelude.{IfNone, IfSome, [], ◌∷◌};
-    ghost use Rattle.bd_index.specs.Ahead.{entries_ahead, places_ahead};
-    ghost use Rattle.bd_index.specs.Downward.{downward};
+    ghost use Rattle.bd_index.specs.EntriesAhead.{entries_ahead, places_ahead};
+    ghost use Rattle.bd_index.specs.Descent.{downward};
 
     /// All entries in turn.
     pub(crate) fn upward(dump: &'a Dump, index: &'a Index) -> EntryOrder<'a>

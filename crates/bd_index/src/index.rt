@@ -5,7 +5,7 @@ ghost use Rattle.bd_bson.specs.Collection.{documents};
 ghost use Rattle.bd_bson.specs.declared.collection.Dump.{Dump};
 ghost use Rattle.bd_path.specs.PathNames.{names_of};
 ghost use Rattle.bd_index.specs.Entries.{entries_of, is_multikey};
-ghost use Rattle.bd_index.specs.Indexed.{IsIndexOf};
+ghost use Rattle.bd_index.specs.IndexView.{IsIndexOf};
 
 use crate::entries::entries_of;
 use crate::entry::Entry;

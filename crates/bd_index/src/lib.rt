@@ -2,7 +2,7 @@
 //!
 //! An index on a path has an entry for each key of each document of a dump: an array gives the keys of its elements, so that a
 //! document may have several (MongoDB manual, "Multikey Indexes"). It holds no key, only where each stands in the dump, in 12
-//! bytes an entry, and is read beside the dump that it was built from: `IsIndexOf` in `specs/Indexed.antt`. A sparse index has no
+//! bytes an entry, and is read beside the dump that it was built from: `IsIndexOf` in `specs/IndexView.antt`. A sparse index has no
 //! entry for a field that is missing.
 //!
 //! An example, which `bd_index_tests` proves and runs as `examples::greater_than_six`:
@@ -16,15 +16,15 @@
 //! ```
 //!
 //! - `index`: `Index`, its entries and how it is built: `specs/Entries.antt`.
-//! - `entry`, `found`, `entries`, `multikey`: the keys of all documents, put in order; whether a document has two.
-//! - `search`, `span`, `spans`, `places`: `Index::places`, the documents with an entry inside bounds: `specs/Within.antt`.
+//! - `entry`, `found_key`, `entries`, `multikey`: the keys of all documents, put in order; whether a document has two.
+//! - `search`, `span`, `spans`, `places`: `Index::places`, the documents with an entry inside bounds: `specs/BoundedPlaces.antt`.
 //! - `entry_order`, `walk`: `Index::walk`, all documents in the order of a sort: `specs/Walk.antt`.
 #![tactic(auto)]
 
 mod entries;
 mod entry;
 mod entry_order;
-mod found;
+mod found_key;
 mod index;
 mod multikey;
 mod places;

@@ -3,9 +3,9 @@
 ghost use Rattle.std.specs.Prelude.{◌≡◌, ◌++◌, ◌≤◌, IfOk, OnOk, length, map, slice_range};
 ghost use Rattle.bd_bson.specs.Collection.{documents};
 ghost use Rattle.bd_path.specs.PathNames.{names_of};
-ghost use Rattle.bd_index.specs.Indexed.{IsIndexOf};
+ghost use Rattle.bd_index.specs.IndexView.{IsIndexOf};
 ghost use Rattle.bd_index.specs.Spans.{AreInOrder, pieces};
-ghost use Rattle.bd_index.specs.Within.{AreWithin, lent_bounds};
+ghost use Rattle.bd_index.specs.BoundedPlaces.{AreWithin, lent_bounds};
 
 use crate::index::Index;
 use crate::span::Span;

@@ -6,9 +6,9 @@ ghost use Rattle.bd_raw.specs.Sound.{stands};
 ghost use Rattle.bd_bson.specs.Collection.{bytes_of};
 ghost use Rattle.bd_bounds.specs.BoundsView.{keys_between};
 ghost use Rattle.bd_bounds.specs.Cut.{is_before};
-ghost use Rattle.bd_index.specs.Downward.{IsRun};
+ghost use Rattle.bd_index.specs.Descent.{IsRun};
 ghost use Rattle.bd_index.specs.Entries.{KeyAt};
-ghost use Rattle.bd_index.specs.Indexed.{IsIndexOf};
+ghost use Rattle.bd_index.specs.IndexView.{IsIndexOf};
 ghost use Rattle.bd_index.specs.Spans.{is_in_span};
 
 use crate::index::Index;

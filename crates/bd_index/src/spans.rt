@@ -4,9 +4,9 @@ ghost use Rattle.std.specs.Prelude.{IfOk, map, true};
 ghost use Rattle.bd_bson.specs.declared.collection.Dump.{Dump};
 ghost use Rattle.bd_bounds.specs.Bounds.{intersection, is_among, union};
 ghost use Rattle.bd_bounds.specs.BoundsView.{keys_within};
-ghost use Rattle.bd_index.specs.Indexed.{IsIndexOf};
+ghost use Rattle.bd_index.specs.IndexView.{IsIndexOf};
 ghost use Rattle.bd_index.specs.Spans.{CoverKeys};
-ghost use Rattle.bd_index.specs.Within.{lent_bounds};
+ghost use Rattle.bd_index.specs.BoundedPlaces.{lent_bounds};
 
 use crate::index::Index;
 use crate::span::{Span, append_gaps, between_gaps, in_order};

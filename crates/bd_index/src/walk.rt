@@ -2,7 +2,7 @@
 
 ghost use Rattle.std.specs.Prelude.{◌≡◌, ◌<◌, All, Bool, IfOk, false, length, slice_index_or, ℕ};
 ghost use Rattle.std.proofs.Props.{props};
-ghost use Rattle.bd_index.specs.Ahead.{places_ahead};
+ghost use Rattle.bd_index.specs.EntriesAhead.{places_ahead};
 
 use crate::entry_order::EntryOrder;
 use crate::index::Index;
@@ -63,7 +63,7 @@ impl<'a> PlaceSource for Walk<'a> {
 impl Index {
     ghost use Rattle.bd_bson.specs.Collection.{documents};
     ghost use Rattle.bd_path.specs.PathNames.{names_of};
-    ghost use Rattle.bd_index.specs.Indexed.{IsIndexOf};
+    ghost use Rattle.bd_index.specs.IndexView.{IsIndexOf};
     ghost use Rattle.bd_index.specs.Walk.{WalksAll};
     ghost use Rattle.bd_index.specs.WalkLeft.{walk_left};
 

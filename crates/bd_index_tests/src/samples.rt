@@ -1,6 +1,6 @@
 //! Indexes of documents of texts, and what they answer in words. Want of memory ends the test.
 ghost use Rattle.std.specs.Prelude.{IfOk};
-ghost use Rattle.bd_index.specs.Indexed.{IsIndexOf};
+ghost use Rattle.bd_index.specs.IndexView.{IsIndexOf};
 
 use bd_bounds::Bounds;
 use bd_bson::{Dump, read_dump};

@@ -8,7 +8,7 @@ use Rattle.bd_device.specs.declared.reading.ReadFault.{ReadFault}
 use Rattle.bd_device.specs.declared.reading.ReadFault.TheVariants as faults
 use Rattle.bd_lines.specs.Lines.{AreShort, AreWhole, IsFirstLine, commands_of, is_empty_line, not_empty}
 use Rattle.bd_lines.specs.NextLine.{FailsToReadLine, FindsNoLine, GivesBytes, IsCause, IsLazy, ReadsLine, StopsReading, held_after}
-use Rattle.bd_lines.specs.Serving.{IsReadInTime, Replied, ServesAll, ServesBefore, StopsServing, StopsUnread}
+use Rattle.bd_lines.specs.Serving.{IsReadInTime, Replied, ServesAll, ServesBefore, StarvesAt, StopsServing, StopsUnread}
 use Rattle.bd_lines.specs.declared.serving.ServeFault.{ServeFault}
 use Rattle.bd_lines.specs.declared.serving.ServeFault.TheVariants as serves
 use Rattle.std.specs.Prelude.{◌⊎◌}
@@ -250,16 +250,16 @@ module _ {R S : Type 0} (state : R → Reader) (gives : R → Option (List ℕ) 
           → Serving state gives replies limits next.left next.ended (held_after next) old new before later s u
       goes_on later u text replied written = goes_by reads.line later u text replied written
 
-      pub stops_answer : (later : Writer) (u : S) (fault : ServeFault) → (fault ≡ serves.NoMemory) ⊎ (fault ≡ serves.Unwritten)
-          → (fault ≡ serves.NoMemory → (is_empty_line next.line.items ≡ false) × (later ≡ now))
+      pub stops_answer : (stays : S → S → Type 0) (later : Writer) (u : S) (fault : ServeFault) → (fault ≡ serves.NoMemory) ⊎ (fault ≡ serves.Unwritten)
+          → (fault ≡ serves.NoMemory → (is_empty_line next.line.items ≡ false) × (later ≡ now) × StarvesAt stays replies t next.line.items u)
           → (fault ≡ serves.Unwritten → (is_empty_line next.line.items ≡ false)
           × ((reply : List ℕ) × replies t next.line.items reply u × BreaksWithin (between now later) (reply ++ 10 ∷ [])))
-          → StopsServing state gives replies limits old new (between before later) s u fault
-      stops_answer later u fault (inl is) starved broke =
+          → StopsServing state gives stays replies limits old new (between before later) s u fault
+      stops_answer stays later u fault (inl is) starved broke =
           let e = starved is in
-          subst (λ f. StopsServing state gives replies limits old new (between before later) s u f) (sym is)
-          (next.line.items, so_far.text, t, serves_before e.0, subst (λ w. TakesText (between before w) so_far.text) (sym e.1) so_far.written)
-      stops_answer later u fault (inr is) starved broke =
+          subst (λ f. StopsServing state gives stays replies limits old new (between before later) s u f) (sym is)
+          (next.line.items, so_far.text, t, serves_before e.0, subst (λ w. TakesText (between before w) so_far.text) (sym e.1) so_far.written, e.2)
+      stops_answer stays later u fault (inr is) starved broke =
           let e = broke is in
-          subst (λ f. StopsServing state gives replies limits old new (between before later) s u f) (sym is)
+          subst (λ f. StopsServing state gives stays replies limits old new (between before later) s u f) (sym is)
           (next.line.items, so_far.text, e.1.0, t, serves_before e.0, e.1.1, breaks_then before now later so_far.text (e.1.0 ++ 10 ∷ []) so_far.written e.1.2)

@@ -1,5 +1,5 @@
 -- Replies to the commands of a device, each written before a later read.
-use Rattle.std.specs.Prelude.{◌≡◌, ◌≤◌, ℕ, List, [], ◌∷◌, ◌++◌, Bool, true, false, Option}
+use Rattle.std.specs.Prelude.{◌≡◌, ◌≤◌, ◌⊎◌, ℕ, List, [], ◌∷◌, ◌++◌, Bool, true, false, Option}
 use Rattle.std.specs.List.{count_by}
 use Rattle.bd_device.specs.Devices.{BreaksAfter, Over, Reader, TakesText, Writer}
 use Rattle.bd_device.specs.declared.reading.Limits.{Limits}
@@ -23,8 +23,8 @@ IsReadInTime whole given =
     (front : List ℕ) × (last : List ℕ) × (given ≡ front ++ last)
     × (count_by is_newline front ≤ count_by is_newline whole)
 
--- What is told of a reader, which of its reads may give what, and which replies a command may have, is handed to each of
--- these.
+-- What is told of a reader, which of its reads may give what, which replies a command may have, and which state is as another, is
+-- handed to each of these.
 
 -- the reader gave all its bytes, and the replies to all their commands were written
 pub record ServesAll {R S : Type 0} (state : R → Reader) (gives : R → Option (List ℕ) → R → Type 0)
@@ -69,12 +69,18 @@ pub record ServesBefore {R S : Type 0} (state : R → Reader) (gives : R → Opt
   pub is_command : is_empty_line command ≡ false
   pub replied : Replied replies s (commands_of whole) text t
 
+-- memory ran out at this command: it left the state as it was, or one in which the command has a reply that was not made
+abbrev pub StarvesAt : {S : Type 0} → (S → S → Type 0) → (S → List ℕ → List ℕ → S → Type 0) → S → List ℕ → S
+    → Type 0
+StarvesAt stays replies s command t = stays s t ⊎ ((reply : List ℕ) × replies s command reply t)
+
 -- the reply to a command was not made, for want of memory, and those before it were written
-abbrev pub StopsStarved : {R S : Type 0} → (R → Reader) → (R → Option (List ℕ) → R → Type 0)
-    → (S → List ℕ → List ℕ → S → Type 0) → Limits → R → R → Over Writer → S → Type 0
-StopsStarved {S = S} state gives replies limits old new out s =
-    (command : List ℕ) × (text : List ℕ) × (t : S)
-    × ServesBefore state gives replies limits old new s command text t × TakesText out text
+abbrev pub StopsStarved : {R S : Type 0} → (R → Reader) → (R → Option (List ℕ) → R → Type 0) → (S → S → Type 0)
+    → (S → List ℕ → List ℕ → S → Type 0) → Limits → R → R → Over Writer → S → S → Type 0
+StopsStarved {S = S} state gives stays replies limits old new out s t =
+    (command : List ℕ) × (text : List ℕ) × (mid : S)
+    × ServesBefore state gives replies limits old new s command text mid × TakesText out text
+    × StarvesAt stays replies mid command t
 
 -- the reply to a command was not written, and those before it were
 abbrev pub StopsUnwritten : {R S : Type 0} → (R → Reader) → (R → Option (List ℕ) → R → Type 0)
@@ -85,11 +91,11 @@ StopsUnwritten {S = S} state gives replies limits old new out s t =
     × replies mid command reply t × BreaksAfter out text (reply ++ 10 ∷ [])
 
 -- not all commands had a reply, for this reason
-abbrev pub StopsServing : {R S : Type 0} → (R → Reader) → (R → Option (List ℕ) → R → Type 0)
+abbrev pub StopsServing : {R S : Type 0} → (R → Reader) → (R → Option (List ℕ) → R → Type 0) → (S → S → Type 0)
     → (S → List ℕ → List ℕ → S → Type 0) → Limits → R → R → Over Writer → S → S → ServeFault → Type 0
-StopsServing state gives replies limits old new out s t (faults.Unread fault) =
+StopsServing state gives stays replies limits old new out s t (faults.Unread fault) =
     StopsUnread state gives replies limits old new out s t fault
-StopsServing state gives replies limits old new out s t faults.NoMemory =
-    StopsStarved state gives replies limits old new out s
-StopsServing state gives replies limits old new out s t faults.Unwritten =
+StopsServing state gives stays replies limits old new out s t faults.NoMemory =
+    StopsStarved state gives stays replies limits old new out s t
+StopsServing state gives stays replies limits old new out s t faults.Unwritten =
     StopsUnwritten state gives replies limits old new out s t

@@ -2,7 +2,7 @@
 ghost use Rattle.std.specs.Prelude.{◌≡◌, ◌++◌, ◌∷◌, [], None, false, IfErr, OnErr, OnOk, IsErrOf, List, ℕ, ◌⊎◌};
 ghost use Rattle.bd_device.specs.Devices.{BreaksWithin, TakesText, over};
 ghost use Rattle.bd_lines.specs.Lines.{is_empty_line, not_empty};
-ghost use Rattle.bd_lines.specs.Serving.{Replied, ServesAll, StopsServing};
+ghost use Rattle.bd_lines.specs.Serving.{Replied, ServesAll, StarvesAt, StopsServing};
 ghost use Rattle.bd_lines.specs.declared.serving.ServeFault.TheVariants.{NoMemory as starved, Unread as unread, Unwritten as unwritten};
 
 use crate::line_buffer::LineBuffer;
@@ -16,12 +16,16 @@ pub trait Replier {
     /// In the first state this command may have this reply, which leaves the second state.
     ghost replies: { Self → List ℕ → List ℕ → Self → Type 0 };
 
+    /// The second state is as the first.
+    ghost stays: { Self → Self → Type 0 };
+
     /// Appends the reply to a command, a line without its newline. Where memory runs out the text is as it was, and no more
-    /// commands are to be handed to it: whether this one was carried out is not known.
+    /// commands are to be handed to it: it is as before this one, or as after a reply to it that was not made.
     fn reply(&mut self, command: &[u8], text: &mut Vec<u8>) -> Result<(), AllocError>
         ensures replies { OnOk result ((reply : List ℕ) × (text.new.items ≡ text.old.items ++ reply)
             × replies self.old command.now reply self.new) }
-        ensures kept { OnErr result (text.new.items ≡ text.old.items) };
+        ensures kept { OnErr result (text.new.items ≡ text.old.items) }
+        ensures starved { OnErr result (StarvesAt stays replies self.old command.now self.new) };
 }
 
 /// Why not all commands of a device had a reply.
@@ -72,7 +76,8 @@ fn answer<O: Output, S: Replier>(
     ensures replied { OnOk result ((written : List ℕ)
         × Replied S.replies session.old (not_empty (line.now ∷ [])) written session.new
         × TakesText (over O.state out.old out.new) written) }
-    ensures starved { IsErrOf result ServeFault.NoMemory → (is_empty_line line.now ≡ false) × (out.new ≡ out.old) }
+    ensures starved { IsErrOf result ServeFault.NoMemory → (is_empty_line line.now ≡ false) × (out.new ≡ out.old)
+        × StarvesAt S.stays S.replies session.old line.now session.new }
     ensures broke { IsErrOf result ServeFault.Unwritten → (is_empty_line line.now ≡ false)
         × ((reply : List ℕ) × S.replies session.old line.now reply session.new
         × BreaksWithin (over O.state out.old out.new) (reply ++ 10 ∷ [])) }
@@ -97,7 +102,7 @@ fn answer<O: Output, S: Replier>(
 /// # Errors
 /// The replies to the commands before it stand then.
 /// - `ServeFault::Unread`: a line was not read, as `LineBuffer::read_next` tells;
-/// - `ServeFault::NoMemory`: memory for a reply ran out, of which nothing is written;
+/// - `ServeFault::NoMemory`: memory for a reply ran out, of which nothing is written; `Replier::reply` tells what it left;
 /// - `ServeFault::Unwritten`: a write failed, and a front of the reply was written. No line is read after it.
 pub fn serve<R: Input, O: Output, S: Replier>(
     alloc: Global,
@@ -108,7 +113,7 @@ pub fn serve<R: Input, O: Output, S: Replier>(
 ) -> Result<(), ServeFault>
     ensures serves { OnOk result (ServesAll R.state R.read_gives S.replies limits reader.old reader.new
         (over O.state out.old out.new) session.old session.new) }
-    ensures stops { IfErr result (StopsServing R.state R.read_gives S.replies limits reader.old reader.new
+    ensures stops { IfErr result (StopsServing R.state R.read_gives S.stays S.replies limits reader.old reader.new
         (over O.state out.old out.new) session.old session.new) }
 {
     let mut lines = LineBuffer::new(alloc, limits);
@@ -128,7 +133,7 @@ fn serve_lines<R: Input, O: Output, S: Replier>(
     requires starts { (lines.old.ended ≡ false) × (lines.old.failed ≡ None) }
     ensures serves { OnOk result (ServesAll R.state R.read_gives S.replies lines.old.left reader.old reader.new
         (over O.state out.old out.new) session.old session.new) }
-    ensures stops { IfErr result (StopsServing R.state R.read_gives S.replies lines.old.left reader.old reader.new
+    ensures stops { IfErr result (StopsServing R.state R.read_gives S.stays S.replies lines.old.left reader.old reader.new
         (over O.state out.old out.new) session.old session.new) }
 {
     while lines.read_next(reader)? {

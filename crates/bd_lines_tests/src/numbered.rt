@@ -16,6 +16,8 @@ pub struct Numbered {
 impl Replier for Numbered {
     ghost replies = { λ s command reply t. reply ≡ s.digit ∷ command };
 
+    ghost stays = { λ s t. t ≡ s };
+
     fn reply(&mut self, command: &[u8], text: &mut Vec<u8>) -> Result<(), AllocError> {
         if self.digit == self.last {
             return Err(AllocError);

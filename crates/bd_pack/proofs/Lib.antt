@@ -1,2 +1,3 @@
 pub mod BodyLemmas
 pub mod PlainLemmas
+pub mod ShortLemmas

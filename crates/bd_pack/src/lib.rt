@@ -12,11 +12,13 @@
 //!
 //! - `line`: `Packer`, a line at a time.
 //! - `tokens`: the bytes straight from the tokens of a line.
+//! - `short`: of the wrappers that hold one string, as most do.
 //! - `laws`: what is packed spells the line's document.
 #![tactic(auto)]
 
 mod laws;
 mod line;
+mod short;
 mod tokens;
 
 pub use laws::{packs_documents, reads_within_limits};

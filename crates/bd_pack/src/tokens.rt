@@ -12,6 +12,7 @@ ghost use Rattle.bd_extjson.specs.Meaning.{wrap, wrap_items, wrap_object, wrap_f
 ghost use Rattle.bd_wrapper.specs.Progress.{through, after_key};
 ghost use Rattle.bd_pack.specs.Packable.{plain, IsPackable};
 
+use crate::short::{append_short, is_short};
 use bd_diagnose::{BRACKETS, LEVELS};
 use bd_extjson::{bare_number, read_wrapper, wrapper_named};
 use bd_value::{Kind, Tree, Value, has_zero};
@@ -121,6 +122,9 @@ fn append_object(
 {
     let first = reader.next_key().ok()?;
     if let Some(wrapper) = wrapper_named(first) {
+        if is_short(wrapper) {
+            return append_short(reader, wrapper, name, depth, out);
+        }
         let value = read_wrapper(alloc, reader, wrapper, room, depth).ok()?;
         return append_read(name, value, out);
     }

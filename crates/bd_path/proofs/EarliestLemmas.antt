@@ -1,9 +1,10 @@
 -- The earliest of some keys, by parts.
-use Rattle.std.proofs.Common.{◌≡◌, ◌∷◌, ◌++◌, ℕ, List, [], Bool, true, false, cond, Option, Some, None, ◌⊎◌, inl, inr, refl, sym, ap, ap₂, ◌∙◌, subst, Ordering, Less, Equal, Greater}
+use Rattle.std.proofs.Common.{◌≡◌, ◌∷◌, ◌++◌, List, [], Bool, true, false, cond, Option, Some, None, ◌⊎◌, inl, inr, refl, sym, ap, ◌∙◌, subst, Ordering, Less, Equal, Greater}
 use Rattle.std.specs.Prelude.{◌||◌, IfSome}
 use Rattle.std.specs.Cmp.{IsTotalOrder}
 use Rattle.std.specs.List.{list_any}
 use Rattle.std.specs.Ordering.{is_eq, is_lt, ordering_reverse}
+use Rattle.std.proofs.lemmas.Cmp.{tied_itself}
 use Rattle.bd_value.specs.Order.{cmp, equal}
 use Rattle.bd_value.specs.Kind.{kind_of}
 use Rattle.bd_value.specs.Parts.{elements_in}
@@ -12,13 +13,11 @@ use Rattle.bd_value.specs.Tree.{Tree, Items, leaf, doc, array, code_scope, item,
 use Rattle.bd_value.specs.declared.kind.Kind.TheVariants as kinds
 use Rattle.bd_value.proofs.OrderLemmas.LawsLemmas.{cmp_total}
 use Rattle.bd_path.specs.Names.{Names}
-use Rattle.bd_path.specs.Reach.{Gathering, gathering, each_gathering}
+use Rattle.bd_path.specs.Reach.{Gathering, gathering, each_gathering, is_document}
 use Rattle.bd_path.specs.Earliest.{dir_cmp, earlier_key, earliest_key}
-use Rattle.bd_path.specs.Key.{IsKeyOf}
-use Rattle.bd_path.specs.declared.key.Key.{Key}
-use Rattle.bd_path.specs.declared.key.Key.TheVariants.{Node, Null, Undefined}
-use Rattle.bd_path.specs.KeyList.{all_keys, distinct, document_keys, end_keys, index_keys, key_gathering, missing_key, or_else, with_key, with_keys}
-use Rattle.bd_path.proofs.ReachLemmas.{of_elements, scalar_is_no_array, scalar_is_no_doc, union}
+use Rattle.bd_path.specs.EarliestKeys.{is_earlier}
+use Rattle.bd_path.specs.KeyList.{distinct, end_keys, or_else, with_key, with_keys}
+use Rattle.bd_path.proofs.ReachLemmas.{scalar_is_no_array}
 use Rattle.bd_path.specs.declared.dir.Dir.{Dir}
 use Rattle.bd_path.specs.declared.dir.Dir.TheVariants.{Up, Down}
 
@@ -196,52 +195,88 @@ end_on dir e f t ts us all so_far first is =
     ap (λ x. earlier_key dir x (earliest_key dir us)) is ∙ sym (in_turn dir e (Some t) (earliest_key dir us))
     ∙ ap (λ xs. earlier_key dir e (earliest_key dir xs)) (sym first) ∙ so_far
 
-each_document : (g : Gathering Tree) (t : Tree) (ts : Items) (names : Names) → kind_of t ≡ kinds.Doc → each_gathering g (item t ts) names ≡ gathering g t names ++ each_gathering g ts names
-each_document g (leaf s) ts names k = absurd (scalar_is_no_doc s k)
-each_document g (doc fs) ts names k = refl
-each_document g (array us) ts names k = absurd cc
-each_document g (code_scope s fs) ts names k = absurd cc
+-- ---- what was walked before
 
-no_document : (g : Gathering Tree) (t : Tree) (ts : Items) (names : Names) → (kind_of t ≡ kinds.Doc → ⊥) → each_gathering g (item t ts) names ≡ each_gathering g ts names
-no_document g (leaf s) ts names k = refl
-no_document g (doc fs) ts names k = absurd (k refl)
-no_document g (array us) ts names k = refl
-no_document g (code_scope s fs) ts names k = refl
+module _ (dir : Dir) where
+  -- none earlier: they change nothing
+  pub none_taken : (e : Option Tree) (ks : List Tree) → list_any (is_earlier dir e) ks ≡ false → earlier_key dir e (earliest_key dir ks) ≡ e
+  none_taken e [] h = right_none dir e
+  none_taken None (k ∷ ks) h = absurd cc
+  none_taken (Some a) (k ∷ ks) h = go (is_lt (dir_cmp dir k a)) refl h (none_taken (Some a) ks)
+    where
+      go : (b : Bool) → is_lt (dir_cmp dir k a) ≡ b → (b || list_any (is_earlier dir (Some a)) ks) ≡ false
+          → (list_any (is_earlier dir (Some a)) ks ≡ false → earlier_key dir (Some a) (earliest_key dir ks) ≡ Some a) → earlier_key dir (Some a) (earliest_key dir (k ∷ ks)) ≡ Some a
+      go true e g rest = absurd cc
+      go false e g rest =
+          in_turn dir (Some a) (Some k) (earliest_key dir ks)
+          ∙ ap (λ (b : Bool). earlier_key dir (cond b (Some k) (Some a)) (earliest_key dir ks)) e
+          ∙ rest g
 
-pub document_on : (dir : Dir) (g : Gathering Tree) (names : Names) (e f below : Option Tree) (t : Tree) (ts us : List Tree) (all : Option Tree)
-    → earlier_key dir e (earliest_key dir (each_gathering g (items_of ts) names)) ≡ all → ts ≡ t ∷ us → kind_of t ≡ kinds.Doc
-    → below ≡ earliest_key dir (gathering g t names) → f ≡ earlier_key dir e below → earlier_key dir f (earliest_key dir (each_gathering g (items_of us) names)) ≡ all
-document_on dir g names e f below t ts us all so_far first k under is =
+  -- an earlier one than those before has none earlier among them
+  one_still : (e y : Option Tree) (k : Tree) → is_earlier dir e k ≡ false → is_earlier dir (earlier_key dir e y) k ≡ false
+  one_still None y k h = absurd cc
+  one_still (Some a) None k h = h
+  one_still (Some a) (Some b) k h = go (is_lt (dir_cmp dir b a)) refl
+    where
+      go : (t : Bool) → is_lt (dir_cmp dir b a) ≡ t → is_earlier dir (cond t (Some b) (Some a)) k ≡ false
+      go false e = h
+      go true e = under (is_lt (dir_cmp dir k b)) refl
+        where
+          under : (t : Bool) → is_lt (dir_cmp dir k b) ≡ t → t ≡ false
+          under false f = refl
+          under true f = let g = all_before dir a b k e f in absurd cc
+
+  pub none_still : (e y : Option Tree) (ks : List Tree) → list_any (is_earlier dir e) ks ≡ false → list_any (is_earlier dir (earlier_key dir e y)) ks ≡ false
+  none_still e y [] h = refl
+  none_still e y (k ∷ ks) h = go (is_earlier dir e k) (is_earlier dir (earlier_key dir e y) k) refl refl h (none_still e y ks)
+    where
+      go : (a b : Bool) → is_earlier dir e k ≡ a → is_earlier dir (earlier_key dir e y) k ≡ b → (a || list_any (is_earlier dir e) ks) ≡ false
+          → (list_any (is_earlier dir e) ks ≡ false → list_any (is_earlier dir (earlier_key dir e y)) ks ≡ false) → (b || list_any (is_earlier dir (earlier_key dir e y)) ks) ≡ false
+      go true b f g h rest = absurd cc
+      go false true f g h rest = let s = one_still e y k f in absurd cc
+      go false false f g h rest = rest h
+
+  one_taken : (e : Option Tree) (k : Tree) → is_earlier dir (earlier_key dir e (Some k)) k ≡ false
+  one_taken None k = itself k
+    where
+      itself : (k : Tree) → is_lt (dir_cmp dir k k) ≡ false
+      itself k = ap is_lt (tied_itself (dir_total dir) k)
+  one_taken (Some a) k = go (is_lt (dir_cmp dir k a)) refl
+    where
+      go : (t : Bool) → is_lt (dir_cmp dir k a) ≡ t → is_earlier dir (cond t (Some k) (Some a)) k ≡ false
+      go true e = ap is_lt (tied_itself (dir_total dir) k)
+      go false e = e
+
+  -- once they are taken, none of them is earlier
+  pub all_taken : (e : Option Tree) (ks : List Tree) → list_any (is_earlier dir (earlier_key dir e (earliest_key dir ks))) ks ≡ false
+  all_taken e [] = refl
+  all_taken e (k ∷ ks) =
+      ap (λ (x : Option Tree). list_any (is_earlier dir x) (k ∷ ks)) (in_turn dir e (Some k) (earliest_key dir ks))
+      ∙ go (is_earlier dir (earlier_key dir (earlier_key dir e (Some k)) (earliest_key dir ks)) k) refl (all_taken (earlier_key dir e (Some k)) ks)
+    where
+      go : (b : Bool) → is_earlier dir (earlier_key dir (earlier_key dir e (Some k)) (earliest_key dir ks)) k ≡ b
+          → list_any (is_earlier dir (earlier_key dir (earlier_key dir e (Some k)) (earliest_key dir ks))) ks ≡ false → (b || list_any (is_earlier dir (earlier_key dir (earlier_key dir e (Some k)) (earliest_key dir ks))) ks) ≡ false
+      go true h rest = let s = one_still (earlier_key dir e (Some k)) (earliest_key dir ks) k (one_taken e k) in absurd cc
+      go false h rest = rest
+
+pub keeps_keys : (f : Tree → Bool) (missing : List Tree) (xs : List Tree) → list_any f (or_else xs missing) ≡ false → list_any f xs ≡ false
+keeps_keys f missing [] h = refl
+keeps_keys f missing (x ∷ xs) h = h
+
+-- one more element of an array
+pub document_taken : (dir : Dir) (g : Gathering Tree) (names : Names) (e f : Option Tree) (u : Tree) (ts us : List Tree) (all : Option Tree)
+    → earlier_key dir e (earliest_key dir (each_gathering g (items_of ts) names)) ≡ all → ts ≡ u ∷ us → is_document u ≡ true
+    → f ≡ earlier_key dir e (earliest_key dir (gathering g u names)) → earlier_key dir f (earliest_key dir (each_gathering g (items_of us) names)) ≡ all
+document_taken dir g names e f u ts us all so_far is d taken =
     let rest = each_gathering g (items_of us) names in
-    ap (λ x. earlier_key dir x (earliest_key dir rest)) (is ∙ ap (earlier_key dir e) under)
-    ∙ sym (in_turn dir e (earliest_key dir (gathering g t names)) (earliest_key dir rest))
-    ∙ ap (earlier_key dir e) (sym (of_both dir (gathering g t names) rest) ∙ ap (earliest_key dir) (sym (each_document g t (items_of us) names k)))
-    ∙ ap (λ xs. earlier_key dir e (earliest_key dir (each_gathering g (items_of xs) names))) (sym first) ∙ so_far
+    ap (λ (x : Option Tree). earlier_key dir x (earliest_key dir rest)) taken
+    ∙ sym (in_turn dir e (earliest_key dir (gathering g u names)) (earliest_key dir rest))
+    ∙ ap (earlier_key dir e) (sym (of_both dir (gathering g u names) rest) ∙ ap (λ (b : Bool). earliest_key dir (cond b (gathering g u names) [] ++ rest)) (sym d))
+    ∙ ap (λ (xs : List Tree). earlier_key dir e (earliest_key dir (each_gathering g (items_of xs) names))) (sym is) ∙ so_far
 
-pub no_document_on : (dir : Dir) (g : Gathering Tree) (names : Names) (e : Option Tree) (t : Tree) (ts us : List Tree) (all : Option Tree)
-    → earlier_key dir e (earliest_key dir (each_gathering g (items_of ts) names)) ≡ all → ts ≡ t ∷ us → (kind_of t ≡ kinds.Doc → ⊥)
+pub other_passed : (dir : Dir) (g : Gathering Tree) (names : Names) (e : Option Tree) (u : Tree) (ts us : List Tree) (all : Option Tree)
+    → earlier_key dir e (earliest_key dir (each_gathering g (items_of ts) names)) ≡ all → ts ≡ u ∷ us → is_document u ≡ false
     → earlier_key dir e (earliest_key dir (each_gathering g (items_of us) names)) ≡ all
-no_document_on dir g names e t ts us all so_far first k = ap (λ xs. earlier_key dir e (earliest_key dir xs)) (sym (no_document g t (items_of us) names k)) ∙ ap (λ xs. earlier_key dir e (earliest_key dir (each_gathering g (items_of xs) names))) (sym first) ∙ so_far
-
-pub key_in : {N : Type 0} (source : N → List ℕ) (bytes other : List ℕ) (k : Key N) → other ≡ bytes → IsKeyOf source other k → IsKeyOf source bytes k
-key_in source bytes other (Node n) same is = is ∙ same
-key_in source bytes other Null same is = tt
-key_in source bytes other Undefined same is = tt
-
--- the keys of an array, by those of the documents in it and of the element at the index
-module _ (dir : Dir) (t : Tree) (name : List ℕ) (rest path : Names) (among at both : Option Tree) (array : kind_of t ≡ kinds.Array) (is : path ≡ name ∷ rest)
-    (first : among ≡ earliest_key dir (document_keys false t path)) (second : at ≡ earliest_key dir (index_keys false t name rest))
-    (earliest : both ≡ earlier_key dir among at) where
-  joined : both ≡ earliest_key dir (union (key_gathering (missing_key false)) t name rest)
-  joined =
-      earliest ∙ ap₂ (earlier_key dir) (first ∙ ap (λ (x : Names). earliest_key dir (document_keys false t x)) is) second
-      ∙ sym (of_both dir (document_keys false t (name ∷ rest)) (index_keys false t name rest))
-
-  whole : or_else (union (key_gathering (missing_key false)) t name rest) (missing_key false) ≡ all_keys false t path
-  whole = sym (ap (all_keys false t) is ∙ of_elements (key_gathering (missing_key false)) t name rest array)
-
-  pub array_some : (k : Tree) → Some k ≡ both → Some k ≡ earliest_key dir (all_keys false t path)
-  array_some k some_is = or_some dir (union (key_gathering (missing_key false)) t name rest) (missing_key false) k (some_is ∙ joined) ∙ ap (earliest_key dir) whole
-
-  pub array_none : None ≡ both → earliest_key dir (missing_key false) ≡ earliest_key dir (all_keys false t path)
-  array_none none_is = or_none dir (union (key_gathering (missing_key false)) t name rest) (missing_key false) (none_is ∙ joined) ∙ ap (earliest_key dir) whole
+other_passed dir g names e u ts us all so_far is d =
+    ap (λ (b : Bool). earlier_key dir e (earliest_key dir (cond b (gathering g u names) [] ++ each_gathering g (items_of us) names))) (sym d)
+    ∙ ap (λ (xs : List Tree). earlier_key dir e (earliest_key dir (each_gathering g (items_of xs) names))) (sym is) ∙ so_far

@@ -151,7 +151,7 @@ chosen_some true ks ls f g = f
 chosen_some false ks ls f g = g
 
 mutual
-  some_key : (t : Tree) (p : Names) → HasSome (all_keys false t p)
+  pub some_key : (t : Tree) (p : Names) → HasSome (all_keys false t p)
   some_key (leaf s) [] = record { it = leaf s; is_in = inl refl }
   some_key (doc fs) [] = record { it = doc fs; is_in = inl refl }
   some_key (code_scope s fs) [] = record { it = code_scope s fs; is_in = inl refl }

@@ -1,3 +1,4 @@
+pub mod BranchLemmas
 pub mod ComponentLemmas
 pub mod EarliestLemmas
 pub mod EndsLemmas
@@ -6,3 +7,4 @@ pub mod LawsLemmas
 pub mod MemberLemmas
 pub mod PositionsLemmas
 pub mod ReachLemmas
+pub mod WalkedLemmas

@@ -1,5 +1,5 @@
 -- What a key stands for.
-use Rattle.std.specs.Prelude.{◌≡◌, ◌++◌, ℕ, List, map, All}
+use Rattle.std.specs.Prelude.{◌≡◌, ℕ, List, map, All}
 use Rattle.bd_value.specs.Tree as trees
 use Rattle.bd_value.specs.Tree.{Tree, leaf}
 use Rattle.bd_path.specs.declared.key.Key.{Key}
@@ -21,7 +21,3 @@ key_trees tree keys = map (key_tree tree) keys
 
 abbrev pub AreKeysOf : {N : Type 0} → (N → List ℕ) → List ℕ → List (Key N) → Type 0
 AreKeysOf source bytes keys = All (IsKeyOf source bytes) keys
-
--- to the keys that were there, these were added
-abbrev pub AddsKeys : {N : Type 0} → (N → Tree) → List (Key N) → List (Key N) → List Tree → Type 0
-AddsKeys tree before after more = key_trees tree after ≡ key_trees tree before ++ more

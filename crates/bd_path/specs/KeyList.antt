@@ -1,13 +1,11 @@
 -- The keys of a document on a path: what it is sorted by, and what an index has of it.
-use Rattle.std.specs.Prelude.{ℕ, Bool, true, false, List, [], ◌∷◌, ◌++◌, if◌then◌else◌}
+use Rattle.std.specs.Prelude.{Bool, true, false, List, [], ◌∷◌, ◌++◌, if◌then◌else◌}
 use Rattle.std.specs.List.{list_any}
 use Rattle.bd_value.specs.Order.{equal}
-use Rattle.bd_value.specs.Parts.{elements_in}
 use Rattle.bd_value.specs.Tree as trees
 use Rattle.bd_value.specs.Tree.{Tree, leaf, doc, array, code_scope, items_of, list_of}
-use Rattle.bd_path.specs.Component.{index_of}
 use Rattle.bd_path.specs.Names.{Names}
-use Rattle.bd_path.specs.Reach.{Gathering, gathering, gathering_at, each_gathering}
+use Rattle.bd_path.specs.Reach.{Gathering, document_gathering, gathering, index_gathering}
 
 -- what stands for a field that is missing: a null, and in a sparse index nothing
 abbrev pub missing_key : Bool → List Tree
@@ -33,12 +31,12 @@ key_gathering missing = record { at_end = end_keys; missing = missing; of_array 
 abbrev pub all_keys : Bool → Tree → Names → List Tree
 all_keys sparse t path = gathering (key_gathering (missing_key sparse)) t path
 
--- of the documents in an array, and of the element whose index a component is
+-- of the documents in an array, and of the element whose index the first component is
 abbrev pub document_keys : Bool → Tree → Names → List Tree
-document_keys sparse t path = each_gathering (key_gathering (missing_key sparse)) (items_of (elements_in t)) path
+document_keys sparse t path = document_gathering (key_gathering (missing_key sparse)) t path
 
-abbrev pub index_keys : Bool → Tree → List ℕ → Names → List Tree
-index_keys sparse t name rest = gathering_at (key_gathering (missing_key sparse)) (items_of (elements_in t)) (index_of name) rest
+abbrev pub index_keys : Bool → Tree → Names → List Tree
+index_keys sparse t path = index_gathering (key_gathering (missing_key sparse)) t path
 
 -- one key more, which is dropped where it equals an earlier one
 abbrev pub with_key : List Tree → Tree → List Tree

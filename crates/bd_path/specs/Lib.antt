@@ -1,3 +1,5 @@
+pub mod AddedKeys
+pub mod Branch
 pub mod Component
 pub mod Earliest
 pub mod EarliestKeys
@@ -11,3 +13,4 @@ pub mod PathNames
 pub mod Positions
 pub mod Reach
 pub mod Sort
+pub mod Walked

@@ -58,9 +58,16 @@ ends = record { at_end = λ t. Some t ∷ []; missing = None ∷ []; of_array = 
 abbrev pub reach : Tree → Names → List End
 reach t path = gathering ends t path
 
--- the ends in the documents of an array, and in the element whose index a component is
-abbrev pub document_ends : Tree → Names → List End
-document_ends t path = each_gathering ends (items_of (elements_in t)) path
+-- what is gathered from the documents in an array, and from the element whose index the first component is
+abbrev pub document_gathering : {A : Type 0} → Gathering A → Tree → Names → List A
+document_gathering g t path = each_gathering g (items_of (elements_in t)) path
 
-abbrev pub index_ends : Tree → List ℕ → Names → List End
-index_ends t name rest = gathering_at ends (items_of (elements_in t)) (index_of name) rest
+abbrev pub index_gathering : {A : Type 0} → Gathering A → Tree → Names → List A
+index_gathering g t [] = []
+index_gathering g t (name ∷ rest) = gathering_at g (items_of (elements_in t)) (index_of name) rest
+
+abbrev pub document_ends : Tree → Names → List End
+document_ends t path = document_gathering ends t path
+
+abbrev pub index_ends : Tree → Names → List End
+index_ends t path = index_gathering ends t path

@@ -1,6 +1,7 @@
 //! The key of a document in a sort by a path.
 
-ghost use Rattle.std.specs.Prelude.{◌≡◌, ◌⊎◌, false, Some, IfOk, IfSome, string_bytes};
+ghost use Rattle.std.specs.Prelude.{◌≡◌, ◌⊎◌, ◌≤◌, ◌<◌, false, drop, length, Some, IfOk, IfSome};
+ghost use Rattle.std.specs.List.{list_any};
 ghost use Rattle.bd_value.specs.Kind.{kind_of};
 ghost use Rattle.bd_value.specs.View.{tree_of};
 ghost use Rattle.bd_value.specs.declared.kind.Kind.TheVariants as kinds;
@@ -9,12 +10,14 @@ ghost use Rattle.bd_path.specs.KeyList.{all_keys, document_keys, end_keys, index
 ghost use Rattle.bd_path.specs.Names.{component_names};
 ghost use Rattle.bd_path.specs.PathNames.{names_of};
 ghost use Rattle.bd_path.specs.Earliest.{dir_cmp, earlier_key, sort_key};
-ghost use Rattle.bd_path.specs.EarliestKeys.{IsEarliest, key_option};
+ghost use Rattle.bd_path.specs.EarliestKeys.{IsEarliest, IsEarliestWith, NoneEarlier, is_earlier, key_option};
 
+use crate::branch::{has_branch, is_document};
 use crate::component::Component;
 use crate::dir::Dir;
 use crate::key::{Key, compare_keys, key_value};
 use crate::path::Path;
+use crate::walked::Walked;
 use bd_value::{Kind, NoMemory, Reading, Value};
 use std::alloc::Global;
 use std::cmp::Ordering;
@@ -27,7 +30,10 @@ pub fn sort_key_node<N: Reading>(doc: N, path: &Path, dir: Dir) -> Key<N>
     ensures tree { key_tree N.tree result ≡ sort_key dir (N.tree doc) (names_of path.now) }
     ensures kept { IsKeyOf N.source (N.source doc) result }
 {
-    earliest_below(doc, path.components(), dir)
+    match earliest_from(doc, path.components(), 0, &Walked::Nowhere, dir, None) {
+        Some(key) => key,
+        None => Key::Null,
+    }
 }
 
 /// The same key in memory. It fails for want of memory alone.
@@ -48,65 +54,148 @@ pub fn compare_in<M: Reading, N: Reading>(dir: Dir, a: Key<M>, b: Key<N>) -> Ord
     }
 }
 
-/// The earliest of the keys of a value on a path.
+/// The earliest of a key and the keys of a value on the rest of a path, from a component on; the first of equal ones.
+///
+/// An array may lead to a value from two positions of the path, and a path that repeats an index in as many ways as there are
+/// of counting up to it. So a value is gone into once from each position: the second time none of its keys would be earlier.
 #[cycle(earliest)]
-fn earliest_below<N: Reading>(node: N, path: &[Component], dir: Dir) -> Key<N>
-    ensures tree { IsEarliest dir N.tree (Some result) (all_keys false (N.tree node) (component_names path.now)) }
-    ensures kept { IsKeyOf N.source (N.source node) result }
+fn earliest_from<N: Reading>(
+    node: N,
+    path: &[Component],
+    k: usize,
+    walked: &Walked,
+    dir: Dir,
+    first: Option<Key<N>>,
+) -> Option<Key<N>>
+    requires few { length path.now ≤ 100 }
+    requires at { k ≤ length path.now }
+    requires walked { NoneEarlier dir (key_option N.tree first) (N.tree node) (component_names path.now) walked.now }
+    ensures tree { IsEarliestWith dir N.tree first result (all_keys false (N.tree node) (drop k (component_names path.now))) }
+    ensures kept { IfSome first (λ f. IsKeyOf N.source (N.source node) f) → IfSome result (λ r. IsKeyOf N.source (N.source node) r) }
 {
-    let Some((component, rest)) = path.split_first() else {
-        return earliest_end(node, dir);
-    };
+    if walked.has(k) {
+        return first;
+    }
+    if k == path.len() {
+        return earlier(dir, first, Some(earliest_end(node, dir)));
+    }
     match node.kind() {
-        Kind::Doc => match node.first(component.name.as_str()) {
-            Some(value) => earliest_below(value, rest, dir),
-            None => Key::Null,
-        },
-        Kind::Array => {
-            let among = earliest_of_documents(node, path, dir);
-            let at = earliest_at_index(node, component, rest, dir);
-            match earlier(dir, among, at) {
-                Some(key) => key,
-                None => Key::Null,
-            }
-        }
-        _ => Key::Null,
+        Kind::Doc => earliest_in_field(node, path, k, walked, dir, first),
+        Kind::Array => earliest_in_array(node, path, k, walked, dir, first),
+        _ => earlier(dir, first, Some(Key::Null)),
     }
 }
 
-/// The earliest of the keys of the documents in an array.
+/// The same in the field of a document.
 #[cycle(earliest)]
-fn earliest_of_documents<N: Reading>(node: N, path: &[Component], dir: Dir) -> Option<Key<N>>
-    requires { kind_of (N.tree node) ≡ kinds.Array }
-    ensures tree { IsEarliest dir N.tree result (document_keys false (N.tree node) (component_names path.now)) }
-    ensures kept { IfSome result (λ k. IsKeyOf N.source (N.source node) k) }
+fn earliest_in_field<N: Reading>(
+    node: N,
+    path: &[Component],
+    k: usize,
+    walked: &Walked,
+    dir: Dir,
+    first: Option<Key<N>>,
+) -> Option<Key<N>>
+    requires few { length path.now ≤ 100 }
+    requires at { k < length path.now }
+    requires kind { kind_of (N.tree node) ≡ kinds.Doc }
+    requires walked { NoneEarlier dir (key_option N.tree first) (N.tree node) (component_names path.now) walked.now }
+    ensures tree { IsEarliestWith dir N.tree first result (all_keys false (N.tree node) (drop k (component_names path.now))) }
+    ensures kept { IfSome first (λ f. IsKeyOf N.source (N.source node) f) → IfSome result (λ r. IsKeyOf N.source (N.source node) r) }
 {
-    let mut earliest = None;
+    let name = path[k].name.as_str();
+    match node.first(name) {
+        Some(value) => {
+            let inside = walked.at_field(path, name);
+            earliest_from(value, path, k + 1, &inside, dir, first)
+        }
+        None => earlier(dir, first, Some(Key::Null)),
+    }
+}
+
+/// The same in an array.
+#[cycle(earliest)]
+fn earliest_in_array<N: Reading>(
+    node: N,
+    path: &[Component],
+    k: usize,
+    walked: &Walked,
+    dir: Dir,
+    first: Option<Key<N>>,
+) -> Option<Key<N>>
+    requires few { length path.now ≤ 100 }
+    requires at { k < length path.now }
+    requires kind { kind_of (N.tree node) ≡ kinds.Array }
+    requires walked { NoneEarlier dir (key_option N.tree first) (N.tree node) (component_names path.now) walked.now }
+    ensures tree { IsEarliestWith dir N.tree first result (all_keys false (N.tree node) (drop k (component_names path.now))) }
+    ensures kept { IfSome first (λ f. IsKeyOf N.source (N.source node) f) → IfSome result (λ r. IsKeyOf N.source (N.source node) r) }
+{
+    if !has_branch(node, &path[k]) {
+        return earlier(dir, first, Some(Key::Null));
+    }
+    let among = earliest_in_documents(node, path, k, walked, dir, first);
+    earliest_at_index(node, path, k, walked, dir, among)
+}
+
+/// The same in the documents of an array alone.
+#[cycle(earliest)]
+fn earliest_in_documents<N: Reading>(
+    node: N,
+    path: &[Component],
+    k: usize,
+    walked: &Walked,
+    dir: Dir,
+    first: Option<Key<N>>,
+) -> Option<Key<N>>
+    requires few { length path.now ≤ 100 }
+    requires at { k < length path.now }
+    requires kind { kind_of (N.tree node) ≡ kinds.Array }
+    requires walked { NoneEarlier dir (key_option N.tree first) (N.tree node) (component_names path.now) walked.now }
+    ensures tree { IsEarliestWith dir N.tree first result (document_keys false (N.tree node) (drop k (component_names path.now))) }
+    ensures kept { IfSome first (λ f. IsKeyOf N.source (N.source node) f) → IfSome result (λ r. IsKeyOf N.source (N.source node) r) }
+{
+    let mut earliest = first;
     let mut left = node.parts();
-    while let Some(next) = N::next(&left) {
-        if next.1.kind() == Kind::Doc {
-            earliest = earlier(dir, earliest, Some(earliest_below(next.1, path, dir)));
+    for i in 0..usize::MAX {
+        let Some(next) = N::next(&left) else {
+            return earliest;
+        };
+        if is_document(next.1) {
+            let inside = walked.at_document(path, i);
+            earliest = earliest_from(next.1, path, k, &inside, dir, earliest);
         }
         left = next.2;
     }
+    // Nothing is left: an array has no more elements than can be counted.
+    let _count = node.len();
     earliest
 }
 
-/// The earliest of the keys of the element whose index the component is, where there is one.
+/// The same in the element of an array whose index the component is, where there is one, after its documents.
 #[cycle(earliest)]
 fn earliest_at_index<N: Reading>(
     node: N,
-    component: &Component,
     path: &[Component],
+    k: usize,
+    walked: &Walked,
     dir: Dir,
+    first: Option<Key<N>>,
 ) -> Option<Key<N>>
-    requires { kind_of (N.tree node) ≡ kinds.Array }
-    ensures tree { IsEarliest dir N.tree result (index_keys false (N.tree node) (string_bytes component.now.name) (component_names path.now)) }
-    ensures kept { IfSome result (λ k. IsKeyOf N.source (N.source node) k) }
+    requires few { length path.now ≤ 100 }
+    requires at { k < length path.now }
+    requires kind { kind_of (N.tree node) ≡ kinds.Array }
+    requires walked { NoneEarlier dir (key_option N.tree first) (N.tree node) (component_names path.now) walked.now }
+    requires documents { list_any (is_earlier dir (key_option N.tree first)) (document_keys false (N.tree node) (drop k (component_names path.now))) ≡ false }
+    ensures tree { IsEarliestWith dir N.tree first result (index_keys false (N.tree node) (drop k (component_names path.now))) }
+    ensures kept { IfSome first (λ f. IsKeyOf N.source (N.source node) f) → IfSome result (λ r. IsKeyOf N.source (N.source node) r) }
 {
-    match component.index {
-        Some(i) if i < node.len() => Some(earliest_below(node.element(i), path, dir)),
-        _ => None,
+    match path[k].index {
+        Some(i) if i < node.len() => {
+            let element = node.element(i);
+            let inside = walked.at_index(path, k, i, is_document(element));
+            earliest_from(element, path, k + 1, &inside, dir, first)
+        }
+        _ => first,
     }
 }
 

@@ -1,18 +1,19 @@
 //! What a path reaches.
 
-ghost use Rattle.std.specs.Prelude.{◌≡◌, Bool, Option, option_map, string_bytes};
+ghost use Rattle.std.specs.Prelude.{◌≡◌, ◌≤◌, ◌<◌, Bool, false, Option, drop, length, option_map};
 ghost use Rattle.std.specs.List.{list_any};
 ghost use Rattle.bd_value.specs.Kind.{kind_of};
 ghost use Rattle.bd_value.specs.Tree as trees;
 ghost use Rattle.bd_value.specs.declared.kind.Kind.TheVariants as kinds;
 ghost use Rattle.bd_path.specs.Names.{component_names};
 ghost use Rattle.bd_path.specs.PathNames.{names_of};
-ghost use Rattle.bd_path.specs.Reach.{document_ends, index_ends, reach};
+ghost use Rattle.bd_path.specs.Reach.{document_ends, ends, index_ends, reach};
+ghost use Rattle.bd_path.specs.Walked.{NoneGathered};
 
+use crate::branch::is_document;
 use crate::component::Component;
-use crate::open_ends::any_open_end;
 use crate::path::Path;
-use crate::positions::Positions;
+use crate::walked::Walked;
 use bd_value::{Kind, Reading};
 
 /// What an end of a path is asked.
@@ -32,76 +33,121 @@ pub trait EndTest {
 pub fn any_end<N: Reading, T: EndTest>(node: N, path: &Path, test: &T) -> bool
     ensures { result ≡ list_any (T.passes test.now) (reach (N.tree node) (names_of path.now)) }
 {
-    let components = path.components();
-    if repeats_an_index(components) {
-        return any_open_end(node, components, &Positions::start(), test);
-    }
-    any_end_below(node, components, test)
+    any_end_from(node, path.components(), 0, &Walked::Nowhere, test)
 }
 
-/// Whether a component and the next one are the same index.
+/// Whether some end of the rest of a path passes, from a component on.
 ///
-/// Then an element of an array and a field of it may both be reached from two positions of the path, and one value in
-/// exponentially many ways. Along every other path a value is reached from two positions at most.
-fn repeats_an_index(path: &[Component]) -> bool {
-    let mut last = None;
-    for component in path {
-        if component.index.is_some() && component.index == last {
-            return true;
-        }
-        last = component.index;
-    }
-    false
-}
-
+/// A value is gone into once from each position of the path: where it was walked before, it was in vain.
 #[cycle(ends)]
-fn any_end_below<N: Reading, T: EndTest>(node: N, path: &[Component], test: &T) -> bool
-    ensures { result ≡ list_any (T.passes test.now) (reach (N.tree node) (component_names path.now)) }
+fn any_end_from<N: Reading, T: EndTest>(
+    node: N,
+    path: &[Component],
+    k: usize,
+    walked: &Walked,
+    test: &T,
+) -> bool
+    requires few { length path.now ≤ 100 }
+    requires at { k ≤ length path.now }
+    requires vain { NoneGathered (T.passes test.now) ends (N.tree node) (component_names path.now) walked.now }
+    ensures { result ≡ list_any (T.passes test.now) (reach (N.tree node) (drop k (component_names path.now))) }
 {
-    let Some((component, rest)) = path.split_first() else {
+    if walked.has(k) {
+        return false;
+    }
+    if k == path.len() {
         return test.test(Some(node));
-    };
+    }
     match node.kind() {
-        Kind::Doc => match node.first(component.name.as_str()) {
-            Some(value) => any_end_below(value, rest, test),
-            None => test.test(None::<N>),
-        },
+        Kind::Doc => any_end_in_field(node, path, k, walked, test),
         Kind::Array => {
-            any_end_in_documents(node, path, test) || any_end_at_index(node, component, rest, test)
+            any_end_in_documents(node, path, k, walked, test)
+                || any_end_at_index(node, path, k, walked, test)
         }
         _ => test.test(None::<N>),
     }
 }
 
-/// Whether some end in a document of an array passes.
+/// The same in the field of a document.
 #[cycle(ends)]
-fn any_end_in_documents<N: Reading, T: EndTest>(node: N, path: &[Component], test: &T) -> bool
-    requires { kind_of (N.tree node) ≡ kinds.Array }
-    ensures { result ≡ list_any (T.passes test.now) (document_ends (N.tree node) (component_names path.now)) }
+fn any_end_in_field<N: Reading, T: EndTest>(
+    node: N,
+    path: &[Component],
+    k: usize,
+    walked: &Walked,
+    test: &T,
+) -> bool
+    requires few { length path.now ≤ 100 }
+    requires at { k < length path.now }
+    requires kind { kind_of (N.tree node) ≡ kinds.Doc }
+    requires vain { NoneGathered (T.passes test.now) ends (N.tree node) (component_names path.now) walked.now }
+    ensures { result ≡ list_any (T.passes test.now) (reach (N.tree node) (drop k (component_names path.now))) }
+{
+    let name = path[k].name.as_str();
+    match node.first(name) {
+        Some(value) => {
+            let inside = walked.at_field(path, name);
+            any_end_from(value, path, k + 1, &inside, test)
+        }
+        None => test.test(None::<N>),
+    }
+}
+
+/// The same in the documents of an array.
+#[cycle(ends)]
+fn any_end_in_documents<N: Reading, T: EndTest>(
+    node: N,
+    path: &[Component],
+    k: usize,
+    walked: &Walked,
+    test: &T,
+) -> bool
+    requires few { length path.now ≤ 100 }
+    requires at { k < length path.now }
+    requires kind { kind_of (N.tree node) ≡ kinds.Array }
+    requires vain { NoneGathered (T.passes test.now) ends (N.tree node) (component_names path.now) walked.now }
+    ensures { result ≡ list_any (T.passes test.now) (document_ends (N.tree node) (drop k (component_names path.now))) }
 {
     let mut left = node.parts();
-    while let Some((_, element, after)) = N::next(&left) {
-        if element.kind() == Kind::Doc && any_end_below(element, path, test) {
-            return true;
+    for i in 0..usize::MAX {
+        let Some(next) = N::next(&left) else {
+            return false;
+        };
+        if is_document(next.1) {
+            let inside = walked.at_document(path, i);
+            if any_end_from(next.1, path, k, &inside, test) {
+                return true;
+            }
         }
-        left = after;
+        left = next.2;
     }
+    // Nothing is left: an array has no more elements than can be counted.
+    let _count = node.len();
     false
 }
 
-/// Whether some end of the element passes whose index the component is, where there is one.
+/// The same in the element of an array whose index the component is, where there is one, after its documents.
 #[cycle(ends)]
 fn any_end_at_index<N: Reading, T: EndTest>(
     node: N,
-    component: &Component,
     path: &[Component],
+    k: usize,
+    walked: &Walked,
     test: &T,
 ) -> bool
-    requires { kind_of (N.tree node) ≡ kinds.Array }
-    ensures { result ≡ list_any (T.passes test.now) (index_ends (N.tree node) (string_bytes component.now.name) (component_names path.now)) }
+    requires few { length path.now ≤ 100 }
+    requires at { k < length path.now }
+    requires kind { kind_of (N.tree node) ≡ kinds.Array }
+    requires vain { NoneGathered (T.passes test.now) ends (N.tree node) (component_names path.now) walked.now }
+    requires documents { list_any (T.passes test.now) (document_ends (N.tree node) (drop k (component_names path.now))) ≡ false }
+    ensures { result ≡ list_any (T.passes test.now) (index_ends (N.tree node) (drop k (component_names path.now))) }
 {
-    match component.index {
-        Some(i) if i < node.len() => any_end_below(node.element(i), path, test),
+    match path[k].index {
+        Some(i) if i < node.len() => {
+            let element = node.element(i);
+            let inside = walked.at_index(path, k, i, is_document(element));
+            any_end_from(element, path, k + 1, &inside, test)
+        }
         _ => false,
     }
 }

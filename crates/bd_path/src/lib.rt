@@ -14,15 +14,17 @@
 //! ```
 //!
 //! - `path`, `path_fault`, `component`: `Path`, a text cut into its components: `specs/Path.antt`.
+//! - `positions`, `walked`: where a value was walked before, so that each walk down a path goes into it once from each position of
+//!   the path: `specs/Walked.antt`.
 //! - `ends`: `any_end`, whether a value that the path reaches passes a test: `specs/Reach.antt`.
-//! - `positions`, `open_ends`: the same from several positions of the path at once, for a path that repeats an index:
-//!   `specs/Positions.antt`.
+//! - `branch`: whether a path goes on below an array: `specs/Branch.antt`.
 //! - `key`, `key_list`: the keys of a document on a path, as nodes of the document: `specs/KeyList.antt`.
 //! - `dir`, `earliest`, `sort`: the key of a document in a sort, found with no list of keys, and the order of two documents by
 //!   several paths: `specs/Earliest.antt`.
 //! - `laws`: keys are always there; a sparse index leaves out nulls alone; a sort is total.
 #![tactic(auto)]
 
+mod branch;
 mod component;
 mod dir;
 mod earliest;
@@ -30,12 +32,13 @@ mod ends;
 mod key;
 mod key_list;
 mod laws;
-mod open_ends;
 mod path;
 mod path_fault;
 mod positions;
 mod sort;
+mod walked;
 
+pub use branch::is_document;
 pub use component::Component;
 pub use dir::Dir;
 pub use earliest::{compare_in, sort_key, sort_key_node};
@@ -46,3 +49,4 @@ pub use laws::{keys_are_there, sorts_order_all_documents, sparse_keys_are_the_re
 pub use path::Path;
 pub use path_fault::PathFault;
 pub use sort::compare_sort;
+pub use walked::Walked;

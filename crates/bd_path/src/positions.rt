@@ -1,8 +1,8 @@
-//! The positions of a path that are open at a value.
+//! Positions of a path.
 
 ghost use Rattle.std.specs.Prelude.{◌≡◌, ℕ, suc, ◌<◌, ◌≤◌, ◌⊎◌, true, false, length, IsTrue, IsFalse, string_bytes};
 ghost use Rattle.bd_path.specs.Names.{component_names};
-ghost use Rattle.bd_path.specs.Positions.{HasOpen, IsOpen, Leads, LedTo, NamedBefore, Takes, is_open};
+ghost use Rattle.bd_path.specs.Positions.{IsOpen, Leads, LedTo, Takes, is_open};
 
 use crate::component::Component;
 
@@ -31,14 +31,15 @@ impl Step<'_> {
     }
 }
 
-/// The positions from which the rest of a path is followed at one value, all at once.
+/// Positions of a path: 0 is the first, before each component, and the last is its end.
 #[derive(Drop)]
 pub struct Positions {
     are_open: [bool; MOST],
 }
 
 impl Positions {
-    fn none() -> Positions
+    /// None of them.
+    pub fn none() -> Positions
         ensures { (k : ℕ) → is_open result k ≡ false }
     {
         Positions {
@@ -46,17 +47,8 @@ impl Positions {
         }
     }
 
-    /// The first alone, from which the whole path is followed.
-    pub fn start() -> Positions
-        ensures here { IsOpen result 0 }
-        ensures only { (k : ℕ) → IsOpen result k → k ≡ 0 }
-    {
-        let mut start = Positions::none();
-        start.open_at(0);
-        start
-    }
-
-    fn open_at(&mut self, k: usize)
+    /// Opens one more.
+    pub fn open_at(&mut self, k: usize)
         requires { k ≤ 100 }
         ensures here { IsOpen self.new k }
         ensures kept { (j : ℕ) → IsOpen self.old j → IsOpen self.new j }
@@ -73,20 +65,6 @@ impl Positions {
         self.are_open[k]
     }
 
-    /// Whether a position before an end is open.
-    pub fn has_before(&self, end: usize) -> bool
-        requires { end ≤ 100 }
-        ensures some { IsTrue result → HasOpen self.now end }
-        ensures none { IsFalse result → (k : ℕ) → k < end → is_open self.now k ≡ false }
-    {
-        for k in 0..end {
-            if self.has(k) {
-                return true;
-            }
-        }
-        false
-    }
-
     /// Whether a position is open and its component takes the step.
     fn leads(&self, path: &[Component], k: usize, step: Step) -> bool
         requires few { length path.now ≤ 100 }
@@ -95,25 +73,6 @@ impl Positions {
         ensures no { IsFalse result → Leads step.entry (component_names path.now) self.now k → ⊥ }
     {
         self.has(k) && step.is_of(&path[k])
-    }
-
-    /// Whether a position is open, and no earlier one of the same name.
-    pub fn is_first_of_its_name(&self, path: &[Component], k: usize) -> bool
-        requires few { length path.now ≤ 100 }
-        requires at { k < length path.now }
-        ensures yes { IsTrue result → IsOpen self.now k }
-        ensures no { IsFalse result → IsOpen self.now k → NamedBefore (component_names path.now) self.now k }
-    {
-        if !self.has(k) {
-            return false;
-        }
-        let step = Step::Field(path[k].name.as_str());
-        for j in 0..k {
-            if self.leads(path, j, step) {
-                return false;
-            }
-        }
-        true
     }
 
     /// Those after a step.
@@ -164,6 +123,26 @@ impl Positions {
         let mut next = self.after(path, Step::Element(index));
         if is_document {
             next.open_before(self, path.len());
+        }
+        next
+    }
+
+    /// Those at the element whose index the component at a position is, where a walk from that position went through the
+    /// documents of the array before.
+    pub fn at_index(
+        &self,
+        path: &[Component],
+        k: usize,
+        index: usize,
+        is_document: bool,
+    ) -> Positions
+        requires few { length path.now ≤ 100 }
+        requires at { k < length path.now }
+        ensures { (j : ℕ) → IsOpen result j → LedTo (Step.Element index) (component_names path.now) self.now j ⊎ (is_document ≡ true) × ((j ≡ k) ⊎ (j < length path.now) × IsOpen self.now j) }
+    {
+        let mut next = self.at_element(path, index, is_document);
+        if is_document {
+            next.open_at(k);
         }
         next
     }

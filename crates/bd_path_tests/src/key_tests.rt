@@ -29,6 +29,16 @@ const ROWS: &str =
 {"document":{"a":[[{"b":1}]]},"path":"a.b","keys":[null],"sparse":[],"least":null,"greatest":null}
 {"document":{"a":[{"b":1},{},{"b":[2,1]}]},"path":"a.b","keys":[1,null,2],"sparse":[1,2],"least":null,"greatest":2}
 {"document":{"a":[{"b":null},{}]},"path":"a.b","keys":[null],"sparse":[null],"least":null,"greatest":null}
+{"document":{"0":[{"0":[{"0":1}]}]},"path":"0.0.0","keys":[1,{"0":1}],"sparse":[1,{"0":1}],"least":1,"greatest":{"0":1}}
+{"document":{"a":[[5],{"0":{"0":{"$numberLong":"5"}}}]},"path":"a.0.0","keys":[{"$numberLong":"5"}],"sparse":[{"$numberLong":"5"}],"least":{"$numberLong":"5"},"greatest":{"$numberLong":"5"}}
+{"document":{"a":[[5,4],[6]]},"path":"a.0.0","keys":[5],"sparse":[5],"least":5,"greatest":5}
+{"document":{"a":[[[5,4],6]]},"path":"a.0.0","keys":[5,4],"sparse":[5,4],"least":4,"greatest":5}
+{"document":{"a":[[]]},"path":"a.0.0","keys":[null],"sparse":[],"least":null,"greatest":null}
+{"document":{"a":[{"0":[]}]},"path":"a.0.0","keys":[null,{"$undefined":true}],"sparse":[{"$undefined":true}],"least":{"$undefined":true},"greatest":null}
+{"document":{"a":[{"0":3,"0":{"0":4}},{"0":{"0":2}}]},"path":"a.0.0","keys":[null,2,3],"sparse":[2,3],"least":null,"greatest":3}
+{"document":{"a":[3,{"1":{"0":{"0":2}}},{"1":[{"0":{"0":9}}]}]},"path":"a.1.1.0.0","keys":[null,2],"sparse":[2],"least":null,"greatest":2}
+{"document":{"a":{"0":{"0":7}}},"path":"a.0.0","keys":[7],"sparse":[7],"least":7,"greatest":7}
+{"document":{},"path":"a.0.0","keys":[null],"sparse":[],"least":null,"greatest":null}
 "#;
 
 /// Documents and paths, and their keys with equal ones: those of an index, and those of a sparse index.
@@ -158,6 +168,40 @@ fn gives_keys(rt: HostRuntime) -> Result<(), Fail> {
         keeps_row(&rt, alloc, row.tree(), text)?;
         keeps_row(&rt, alloc, row.view(&rt, alloc), text)?;
     }
+    Ok(())
+}
+
+/// The text of arrays in one another, each in the field `0` of a document and with one document, the innermost `{"0":1}`.
+fn nested(rt: &impl Abort, alloc: Global, arrays: usize) -> String {
+    let starts = "{\"0\":[".repeat(alloc, arrays).expect(rt, "memory");
+    let ends = "]}".repeat(alloc, arrays).expect(rt, "memory");
+    format!(in alloc; "{starts}{{\"0\":1}}{ends}").expect(rt, "memory")
+}
+
+/// Forty arrays, and a path of sixty names `0`. It ends at the earliest at the document in thirty arrays, where it spends as
+/// many names on elements as on fields: of the documents that it comes to this has the most arrays in it, ten, and is the
+/// greatest. Where it spends fewer than 19 names on elements it goes on past the 1 in the innermost, and a field is missing.
+/// So the keys are the documents in thirty to forty arrays, the 1, and a null.
+#[test]
+fn goes_into_each_value_once(rt: HostRuntime) -> Result<(), NoMemory> {
+    let alloc = rt.alloc();
+    let text = nested(&rt, alloc, 40);
+    let inner = nested(&rt, alloc, 10);
+    let sample = read_sample(&rt, alloc, text.as_str());
+    let want = read_sample(&rt, alloc, inner.as_str());
+    let names = "0.".repeat(alloc, 59).expect(&rt, "memory");
+    let names = format!(in alloc; "{names}0").expect(&rt, "memory");
+    let path = Path::parse(alloc, names.as_str()).expect(&rt, "a path");
+    let greatest = sort_key_node(sample.tree(), &path, Dir::Down);
+    assert!(rt; is_key(alloc, greatest, want.tree())?);
+    let greatest = sort_key_node(sample.view(&rt, alloc), &path, Dir::Down);
+    assert!(rt; is_key(alloc, greatest, want.tree())?);
+    let least = sort_key_node(sample.view(&rt, alloc), &path, Dir::Up);
+    assert!(rt; is_key(alloc, least, Tree::Value(&Value::Null))?);
+    let keys = key_nodes(alloc, sample.view(&rt, alloc), &path)?;
+    assert!(rt; keys.len() == 13);
+    let sparse = sparse_keys(alloc, sample.tree(), &path)?;
+    assert!(rt; sparse.len() == 12);
     Ok(())
 }
 

@@ -30,7 +30,7 @@ use Rattle.bd_query.specs.FilterMatch.{matches}
 use Rattle.bd_query.specs.FilterView.{filter_tree}
 use Rattle.bd_request.specs.declared.request.Request.{Request}
 use Rattle.bd_bson.specs.Documents.{document_at}
-use Rattle.bd_sort.specs.Asked.{hits_of, order_of_keys}
+use Rattle.bd_sort.specs.Selection.{hits_of, order_of_keys}
 use Rattle.bd_bounds.specs.Bounds.{KeyBounds, bounds, is_among}
 use Rattle.bd_bounds.specs.BoundsView.{seen_bounds}
 use Rattle.bd_bounds.specs.declared.bounds.Bounds.{Bounds}
@@ -38,7 +38,7 @@ use Rattle.bd_bounds.specs.Laws.{is_fit}
 use Rattle.bd_bounds.proofs.SoundLemmas.{loses_no_match, sparse_loses_no_match}
 use Rattle.bd_index.specs.Entries.{KeyAt, entries_from, has_two_keys, is_multikey, keys_at}
 use Rattle.bd_index.specs.Walk.{WalksAll}
-use Rattle.bd_index.specs.Within.{AreWithin, lent_bounds}
+use Rattle.bd_index.specs.BoundedPlaces.{AreWithin, lent_bounds}
 use Rattle.bd_index.specs.declared.index.Index.{Index}
 use Rattle.bd_index.proofs.WalkLemmas.{any_in}
 use Rattle.bd_plan.specs.AccessView.{HasMatchesWithin, HasSortOrder, ServesFilter}

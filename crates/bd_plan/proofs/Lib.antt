@@ -1,5 +1,5 @@
+pub mod AccessChoiceLemmas
 pub mod AccessLemmas
-pub mod ChosenLemmas
 pub mod IndexesLemmas
 pub mod ReadingLemmas
 pub mod ServingLemmas

@@ -7,8 +7,8 @@ use Rattle.std.specs.Cmp.{IsTotalOrder}
 use Rattle.std.proofs.lemmas.Cmp.{on_total}
 use Rattle.std.proofs.lemmas.List.Sums.{length-filter, sum_by-cons}
 use Rattle.bd_value.specs.Tree.{Doc}
-use Rattle.bd_answer.specs.Answer.{Asked, matching}
-use Rattle.bd_answer.specs.Session.{Explained, PlanKind}
+use Rattle.bd_answer.specs.Answer.{Selection, matching}
+use Rattle.bd_answer.specs.Session.{Explanation, PlanKind}
 use Rattle.bd_answer.specs.Source.{IsSource, passes}
 use Rattle.bd_answer.proofs.OrderLemmas.{filter_all}
 use Rattle.bd_answer.proofs.AnswerLemmas.{in_contains}
@@ -20,17 +20,17 @@ use Rattle.bd_path.proofs.LawsLemmas.{sort_total}
 use Rattle.bd_query.specs.FilterView.{filter_tree}
 use Rattle.bd_request.specs.declared.request.Request.{Request}
 use Rattle.bd_bson.specs.Documents.{document_at}
-use Rattle.bd_sort.specs.Asked.{asked_of, hits_of, order_of_keys}
+use Rattle.bd_sort.specs.Selection.{selection_of, hits_of, order_of_keys}
 use Rattle.bd_bounds.specs.Bounds.{KeyBounds}
 use Rattle.bd_index.specs.Entries.{entries_of}
-use Rattle.bd_index.specs.Within.{AreWithin}
+use Rattle.bd_index.specs.BoundedPlaces.{AreWithin}
 use Rattle.bd_index.specs.declared.index.Index.{Index}
 use Rattle.bd_plan.specs.AccessPath.{mark_names}
 use Rattle.bd_plan.specs.Explanation.{entries_within, index_counts, index_mark, places_within}
 use Rattle.bd_plan.proofs.AccessLemmas.{has_key_at, places_inside, unsorted_ascends, within_source}
 
 -- a test, and no order
-abbrev plainly : List Doc → (ℕ → Bool) → Asked
+abbrev plainly : List Doc → (ℕ → Bool) → Selection
 plainly ds hits = record { count = length ds; hits = hits; by = order_of_keys ds []; skip = 0; limit = 0 }
 
 plain_total : (ds : List Doc) → IsTotalOrder (order_of_keys ds [])
@@ -85,10 +85,10 @@ count_more hits a n p e = rw add-one (go a n e)
 -- ---- what is told
 
 pub told_as : (k : PlanKind) (o p : Option (List ℕ)) (a b c d m n : ℕ) → o ≡ p → a ≡ b → c ≡ d → m ≡ n
-    → (let x : Explained = record { plan = k; index = o; entries = a; looked_at = c; matches = m } in x) ≡ (record { plan = k; index = p; entries = b; looked_at = d; matches = n })
+    → (let x : Explanation = record { plan = k; index = o; entries = a; looked_at = c; matches = m } in x) ≡ (record { plan = k; index = p; entries = b; looked_at = d; matches = n })
 told_as k o p a b c d m n e f g h = λ i. record { plan = k; index = e i; entries = f i; looked_at = g i; matches = h i }
 
-pub matches_of_all : (ds : List Doc) (r : Request) (n : ℕ) → n ≡ count_by (hits_of ds (filter_tree r.filter)) (range_with_len 0 (length ds)) → n ≡ length (matching (asked_of ds r))
+pub matches_of_all : (ds : List Doc) (r : Request) (n : ℕ) → n ≡ count_by (hits_of ds (filter_tree r.filter)) (range_with_len 0 (length ds)) → n ≡ length (matching (selection_of ds r))
 matches_of_all ds r n h = h ∙ sym (length-filter (hits_of ds (filter_tree r.filter)) (range_with_len 0 (length ds)))
 
 abbrev named : (i : Index) (ds : List Doc) (b : KeyBounds) (ps : List ℕ) (entries : ℕ) → AreWithin i.sparse (names_of i.path) ds b ps entries → AreWithin i.sparse (mark_names (index_mark i)) ds b ps entries

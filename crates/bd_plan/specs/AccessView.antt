@@ -11,7 +11,7 @@ use Rattle.bd_query.specs.FilterView.{filter_tree}
 use Rattle.bd_request.specs.declared.request.Request.{Request}
 use Rattle.bd_bounds.specs.Bounds.{KeyBounds, bounds}
 use Rattle.bd_bounds.specs.BoundsView.{seen_bounds}
-use Rattle.bd_index.specs.Indexed.{IsIndexOf}
+use Rattle.bd_index.specs.IndexView.{IsIndexOf}
 use Rattle.bd_index.specs.declared.index.Index.{Index}
 use Rattle.bd_plan.specs.AccessPath.{AccessPath, bounded, scanned, walked}
 use Rattle.bd_plan.specs.Explanation.{index_mark}

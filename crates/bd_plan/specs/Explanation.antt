@@ -3,16 +3,16 @@ use Rattle.std.specs.Prelude.{ℕ, List, count_by, length, string_bytes, Some, N
 use Rattle.std.specs.List.{filter, list_any, range_with_len}
 use Rattle.bd_value.specs.Tree.{Doc}
 use Rattle.bd_answer.specs.Answer.{matching}
-use Rattle.bd_answer.specs.Session.{Explained, IndexCounts, IndexMark, PlanKind, by_index, by_scan, by_walk}
+use Rattle.bd_answer.specs.Session.{Explanation, IndexCounts, IndexMark, PlanKind, by_index, by_scan, by_walk}
 use Rattle.bd_path.specs.KeyList.{indexed_keys}
 use Rattle.bd_path.specs.Sort.{sort_paths}
 use Rattle.bd_query.specs.FilterView.{filter_tree}
 use Rattle.bd_request.specs.declared.request.Request.{Request}
 use Rattle.bd_bson.specs.Documents.{document_at}
-use Rattle.bd_sort.specs.Asked.{asked_of}
+use Rattle.bd_sort.specs.Selection.{selection_of}
 use Rattle.bd_bounds.specs.Bounds.{KeyBounds, is_among}
 use Rattle.bd_index.specs.Entries.{entries_of, is_multikey}
-use Rattle.bd_index.specs.Within.{has_key_in}
+use Rattle.bd_index.specs.BoundedPlaces.{has_key_in}
 use Rattle.bd_index.specs.declared.index.Index.{Index}
 use Rattle.bd_plan.specs.AccessPath.{AccessPath, access_of, bounded, mark_names, scanned, walked}
 use Rattle.bd_plan.specs.declared.choice.Choice.{Choice}
@@ -41,7 +41,7 @@ places_within ds i b =
     (range_with_len 0 (length ds))
 
 -- what is read on an access path, and how many documents match
-abbrev pub explained_access : List Doc → ℕ → AccessPath → Explained
+abbrev pub explained_access : List Doc → ℕ → AccessPath → Explanation
 explained_access ds matches scanned =
     record { plan = by_scan; index = None; entries = 0; looked_at = length ds; matches = matches }
 explained_access ds matches (bounded i b) = record {
@@ -59,9 +59,9 @@ explained_access ds matches (walked i dir) = record {
   matches = matches;
 }
 
-abbrev pub explanation_of : List Doc → Request → Choice → List IndexMark → Explained
+abbrev pub explanation_of : List Doc → Request → Choice → List IndexMark → Explanation
 explanation_of ds r choice indexes =
-    explained_access ds (length (matching (asked_of ds r)))
+    explained_access ds (length (matching (selection_of ds r)))
     (access_of ds (filter_tree r.filter) (sort_paths r.sort.items) choice indexes)
 
 abbrev pub plan_kind : Plan → PlanKind
@@ -70,7 +70,7 @@ plan_kind plans.Index = by_index
 plan_kind plans.Walk = by_walk
 
 -- what is told, as the machine of sessions has it
-abbrev pub told : Explain → Explained
+abbrev pub told : Explain → Explanation
 told e = record {
   plan = plan_kind e.plan;
   index = option_map (λ path. string_bytes path) e.index;

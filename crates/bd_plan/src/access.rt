@@ -7,16 +7,16 @@ ghost use Rattle.bd_answer.specs.Source.{places_after};
 ghost use Rattle.bd_bson.specs.Collection.{documents};
 ghost use Rattle.bd_path.specs.Sort.{sort_paths};
 ghost use Rattle.bd_query.specs.FilterView.{filter_tree};
-ghost use Rattle.bd_sort.specs.Asked.{asked_of, hits_of};
-ghost use Rattle.bd_index.specs.Indexed.{AreIndexesOf};
+ghost use Rattle.bd_sort.specs.Selection.{selection_of, hits_of};
+ghost use Rattle.bd_index.specs.IndexView.{AreIndexesOf};
 ghost use Rattle.bd_plan.specs.AccessPath.{access_of, scanned};
 ghost use Rattle.bd_plan.specs.AccessView.{IsAccessOf, access_path};
 ghost use Rattle.bd_plan.specs.Explanation.{index_mark};
 
+use crate::access_choice::{named_access, serving_access};
+use crate::bounded_places::BoundedPlaces;
 use crate::choice::Choice;
-use crate::chosen::{named_access, serving_access};
 use crate::indexes::index_on;
-use crate::within::Within;
 use bd_answer::{PlaceSource, Scan};
 use bd_bounds::Bounds;
 use bd_bson::Dump;
@@ -90,7 +90,7 @@ impl<'a> Access<'a> {
     ) -> Result<Vec<u32>, NoMemory>
         requires leads { IsAccessOf dump.now request.now self.now }
         requires there { IfSome last (λ p. p < length (documents dump.now)) }
-        ensures { IfOk result (λ v. v.items ≡ at_most most (places_after (asked_of (documents dump.now) request.now) last)) }
+        ensures { IfOk result (λ v. v.items ≡ at_most most (places_after (selection_of (documents dump.now) request.now) last)) }
     {
         match self {
             Access::Scan => ascending_places(
@@ -103,7 +103,7 @@ impl<'a> Access<'a> {
             ),
             Access::Bounded { index, bounds } => {
                 let found = index.places(alloc, dump, bounds.as_ref())?;
-                let source = Within {
+                let source = BoundedPlaces {
                     places: found.places,
                     next: 0,
                 };
@@ -129,7 +129,7 @@ fn ascending_places<P: PlaceSource + Drop>(
     requires serves { P.serves source (length (documents dump.now)) (hits_of (documents dump.now) (filter_tree request.now.filter)) }
     requires ascends { IsStrictlyIncreasing (P.left source) }
     requires there { IfSome last (λ p. p < length (documents dump.now)) }
-    ensures { IfOk result (λ v. v.items ≡ at_most most (places_after (asked_of (documents dump.now) request.now) last)) }
+    ensures { IfOk result (λ v. v.items ≡ at_most most (places_after (selection_of (documents dump.now) request.now) last)) }
 {
     if request.sort.is_empty() {
         places_in_order(alloc, dump, request, source, last, most)

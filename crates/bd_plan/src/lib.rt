@@ -18,19 +18,19 @@
 //! - `indexes`: `index_on`, the index on a path.
 //! - `access`: `Access`, how documents are reached: `specs/AccessPath.antt`, and `specs/AccessView.antt`, that it leads to the
 //!   answer.
-//! - `serving`, `chosen`: whether an index serves a request, and the one that is taken.
-//! - `within`: the places inside bounds as a source.
+//! - `serving`, `access_choice`: whether an index serves a request, and the one that is taken.
+//! - `bounded_places`: the places inside bounds as a source.
 //! - `explanation`, `reading`: `explain`, what is told of it: `specs/Explanation.antt`.
 #![tactic(auto)]
 
 mod access;
+mod access_choice;
+mod bounded_places;
 mod choice;
-mod chosen;
 mod explanation;
 mod indexes;
 mod reading;
 mod serving;
-mod within;
 
 pub use access::Access;
 pub use choice::Choice;

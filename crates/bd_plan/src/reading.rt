@@ -5,8 +5,8 @@ ghost use Rattle.std.specs.List.{range_with_len};
 ghost use Rattle.bd_answer.specs.Answer.{matching};
 ghost use Rattle.bd_bson.specs.Collection.{documents};
 ghost use Rattle.bd_query.specs.FilterView.{filter_tree};
-ghost use Rattle.bd_sort.specs.Asked.{asked_of, hits_of};
-ghost use Rattle.bd_index.specs.Indexed.{AreIndexesOf};
+ghost use Rattle.bd_sort.specs.Selection.{selection_of, hits_of};
+ghost use Rattle.bd_index.specs.IndexView.{AreIndexesOf};
 ghost use Rattle.bd_plan.specs.AccessView.{IsAccessOf, access_path};
 ghost use Rattle.bd_plan.specs.Explanation.{explained_access, explanation_of, index_mark, told};
 
@@ -45,7 +45,7 @@ fn explain_access(
 ) -> Result<Explain, NoMemory>
     requires { IsAccessOf dump.now request.now access.now }
     ensures { IfOk result (λ e. told e
-        ≡ explained_access (documents dump.now) (length (matching (asked_of (documents dump.now) request.now))) (access_path access.now)) }
+        ≡ explained_access (documents dump.now) (length (matching (selection_of (documents dump.now) request.now))) (access_path access.now)) }
 {
     match access {
         Access::Scan => Ok(Explain {

@@ -6,7 +6,7 @@ ghost use Rattle.bd_bson.specs.declared.collection.Dump.{Dump};
 ghost use Rattle.bd_path.specs.Sort.{sort_paths};
 ghost use Rattle.bd_query.specs.FilterView.{filter_tree};
 ghost use Rattle.bd_bounds.specs.BoundsView.{seen_bounds};
-ghost use Rattle.bd_index.specs.Indexed.{IsIndexOf};
+ghost use Rattle.bd_index.specs.IndexView.{IsIndexOf};
 ghost use Rattle.bd_plan.specs.AccessPath.{mark_bounds, serving_bounds, walk_dir};
 ghost use Rattle.bd_plan.specs.Explanation.{index_mark};
 

@@ -1,13 +1,14 @@
 //! Whether a document matches a filter.
 
-ghost use Rattle.std.specs.Prelude.{◌≡◌, map, string_bytes};
+ghost use Rattle.std.specs.Prelude.{◌≡◌, ◌<◌, ◌≤◌, false, drop, length, map};
 ghost use Rattle.std.specs.List.{list_any};
 ghost use Rattle.bd_value.specs.Kind.{kind_of};
 ghost use Rattle.bd_value.specs.Parts.{elements_in};
 ghost use Rattle.bd_value.specs.declared.kind.Kind.TheVariants as kinds;
 ghost use Rattle.bd_path.specs.Names.{component_names};
 ghost use Rattle.bd_path.specs.PathNames.{names_of};
-ghost use Rattle.bd_path.specs.Reach.{document_ends, index_ends, reach};
+ghost use Rattle.bd_path.specs.Reach.{document_ends, ends, index_ends, reach};
+ghost use Rattle.bd_path.specs.Walked.{NoneGathered};
 ghost use Rattle.bd_query.specs.Body.{is_suited, suits};
 ghost use Rattle.bd_query.specs.Filter.{filters_from, operators_from};
 ghost use Rattle.bd_query.specs.FilterMatch.{accepts, all_accept, all_hold, all_match, holds, matches, some_match};
@@ -20,7 +21,7 @@ use crate::end_test::{
 use crate::filter::{Filter, Operator};
 use crate::relation::Relation;
 use crate::value_test::{EqualTo, OfKinds, ValueTest, equals_each, equals_some, is_related};
-use bd_path::{Component, Path, any_end};
+use bd_path::{Component, Path, Walked, any_end, is_document};
 use bd_value::{Kind, Reading};
 
 /// Whether a value matches a filter. It takes no memory.
@@ -96,66 +97,132 @@ fn holds<N: Reading>(operator: &Operator, path: &Path, node: N) -> bool
         Operator::ElemMatch(operators) => any_end_suits(
             node,
             path.components(),
+            0,
+            &Walked::Nowhere,
             &Body::Operators(operators),
         ),
         Operator::ElemMatchDocument(filters) => any_end_suits(
             node,
             path.components(),
+            0,
+            &Walked::Nowhere,
             &Body::Filters(filters),
         ),
     }
 }
 
-/// Whether an element of an array at an end of a path suits the body of `$elemMatch`.
+/// Whether an element of an array at an end of the rest of a path suits the body of `$elemMatch`, from a component on.
 ///
 /// It goes down as `any_end` does. A test of an end can't come back to the operators: it would be called by its own walk.
 #[cycle(matching)]
-fn any_end_suits<N: Reading>(node: N, path: &[Component], body: &Body) -> bool
-    ensures { result ≡ list_any (is_suited body.now) (reach (N.tree node) (component_names path.now)) }
+fn any_end_suits<N: Reading>(
+    node: N,
+    path: &[Component],
+    k: usize,
+    walked: &Walked,
+    body: &Body,
+) -> bool
+    requires few { length path.now ≤ 100 }
+    requires at { k ≤ length path.now }
+    requires vain { NoneGathered (is_suited body.now) ends (N.tree node) (component_names path.now) walked.now }
+    ensures { result ≡ list_any (is_suited body.now) (reach (N.tree node) (drop k (component_names path.now))) }
 {
-    let Some((component, rest)) = path.split_first() else {
+    if walked.has(k) {
+        return false;
+    }
+    if k == path.len() {
         return any_suits(node, body);
-    };
+    }
     match node.kind() {
-        Kind::Doc => match node.first(component.name.as_str()) {
-            Some(value) => any_end_suits(value, rest, body),
-            None => false,
-        },
+        Kind::Doc => any_end_suits_in_field(node, path, k, walked, body),
         Kind::Array => {
-            any_end_suits_in_documents(node, path, body)
-                || any_end_suits_at_index(node, component, rest, body)
+            any_end_suits_in_documents(node, path, k, walked, body)
+                || any_end_suits_at_index(node, path, k, walked, body)
         }
         _ => false,
     }
 }
 
+/// The same in the field of a document.
 #[cycle(matching)]
-fn any_end_suits_in_documents<N: Reading>(node: N, path: &[Component], body: &Body) -> bool
-    requires { kind_of (N.tree node) ≡ kinds.Array }
-    ensures { result ≡ list_any (is_suited body.now) (document_ends (N.tree node) (component_names path.now)) }
+fn any_end_suits_in_field<N: Reading>(
+    node: N,
+    path: &[Component],
+    k: usize,
+    walked: &Walked,
+    body: &Body,
+) -> bool
+    requires few { length path.now ≤ 100 }
+    requires at { k < length path.now }
+    requires kind { kind_of (N.tree node) ≡ kinds.Doc }
+    requires vain { NoneGathered (is_suited body.now) ends (N.tree node) (component_names path.now) walked.now }
+    ensures { result ≡ list_any (is_suited body.now) (reach (N.tree node) (drop k (component_names path.now))) }
+{
+    let name = path[k].name.as_str();
+    match node.first(name) {
+        Some(value) => {
+            let inside = walked.at_field(path, name);
+            any_end_suits(value, path, k + 1, &inside, body)
+        }
+        None => false,
+    }
+}
+
+/// The same in the documents of an array.
+#[cycle(matching)]
+fn any_end_suits_in_documents<N: Reading>(
+    node: N,
+    path: &[Component],
+    k: usize,
+    walked: &Walked,
+    body: &Body,
+) -> bool
+    requires few { length path.now ≤ 100 }
+    requires at { k < length path.now }
+    requires kind { kind_of (N.tree node) ≡ kinds.Array }
+    requires vain { NoneGathered (is_suited body.now) ends (N.tree node) (component_names path.now) walked.now }
+    ensures { result ≡ list_any (is_suited body.now) (document_ends (N.tree node) (drop k (component_names path.now))) }
 {
     let mut left = node.parts();
-    while let Some((_, element, after)) = N::next(&left) {
-        if element.kind() == Kind::Doc && any_end_suits(element, path, body) {
-            return true;
+    for i in 0..usize::MAX {
+        let Some(next) = N::next(&left) else {
+            return false;
+        };
+        if is_document(next.1) {
+            let inside = walked.at_document(path, i);
+            if any_end_suits(next.1, path, k, &inside, body) {
+                return true;
+            }
         }
-        left = after;
+        left = next.2;
     }
+    // Nothing is left: an array has no more elements than can be counted.
+    let _count = node.len();
     false
 }
 
+/// The same in the element of an array whose index the component is, where there is one, after its documents.
 #[cycle(matching)]
 fn any_end_suits_at_index<N: Reading>(
     node: N,
-    component: &Component,
     path: &[Component],
+    k: usize,
+    walked: &Walked,
     body: &Body,
 ) -> bool
-    requires { kind_of (N.tree node) ≡ kinds.Array }
-    ensures { result ≡ list_any (is_suited body.now) (index_ends (N.tree node) (string_bytes component.now.name) (component_names path.now)) }
+    requires few { length path.now ≤ 100 }
+    requires at { k < length path.now }
+    requires kind { kind_of (N.tree node) ≡ kinds.Array }
+    requires vain { NoneGathered (is_suited body.now) ends (N.tree node) (component_names path.now) walked.now }
+    requires documents { list_any (is_suited body.now) (document_ends (N.tree node) (drop k (component_names path.now))) ≡ false }
+    ensures { result ≡ list_any (is_suited body.now) (index_ends (N.tree node) (drop k (component_names path.now))) }
 {
-    match component.index {
-        Some(i) if i < node.len() => any_end_suits(node.element(i), path, body),
+    match path[k].index {
+        Some(i) if i < node.len() => {
+            let element = node.element(i);
+            let inside = walked.at_index(path, k, i, is_document(element));
+            any_end_suits(element, path, k + 1, &inside, body)
+        }
         _ => false,
     }
 }

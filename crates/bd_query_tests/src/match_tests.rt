@@ -1212,6 +1212,71 @@ fn tries_elements_by_operators(rt: HostRuntime) {
     none_match(&rt, alloc, NOT_ELEMENT);
 }
 
+/// `$elemMatch` along a path that repeats an index, or whose index is a name too: a document in an array is walked from two
+/// positions of the path, each time with its own ends.
+const TWICE: &str = r#"{"a.0.b":{"$elemMatch":{"$eq":5}}} | {"a":[{"0":{"b":[4]},"b":[5]}]}
+{"a.0.b":{"$elemMatch":{"$eq":5}}} | {"a":[{"0":{"b":[5]},"b":[4]}]}
+{"a.0.b":{"$elemMatch":{"$eq":5}}} | {"a":[1,{"0":{"b":[5]}}]}
+{"a.0.0":{"$elemMatch":{"$eq":5}}} | {"a":[{"0":[5]}]}
+{"a.0.0":{"$elemMatch":{"$eq":5}}} | {"a":[{"0":[[5]]}]}
+{"a.0.0":{"$elemMatch":{"$eq":5}}} | {"a":[[[5]]]}
+{"a.0.0":{"$elemMatch":{"$eq":5}}} | {"a":[[{"0":[5]}]]}
+{"a.0.0":{"$elemMatch":{"$eq":5}}} | {"a":[1,{"0":{"0":[5]}}]}
+{"a.0.0":{"$elemMatch":{"b":5}}} | {"a":[{"0":[{"b":5}]}]}
+{"a.0.0.0":{"$elemMatch":{"$eq":5}}} | {"a":[{"0":[{"0":[5]}]}]}
+{"a.0.0.0":{"$elemMatch":{"$eq":5}}} | {"a":[{"0":[1,{"0":[5]}]}]}
+{"a.0.0.0":{"$elemMatch":{"$eq":[5]}}} | {"a":[{"0":[[[[5]]]]}]}
+{"a.0.0.0.0":{"$elemMatch":{"$eq":5}}} | {"a":[{"0":[{"0":[5]}]}]}
+{"a.1.1":{"$elemMatch":{"$eq":5}}} | {"a":[{"1":[0,[5]]},{"1":[7]}]}
+{"a.1.1":{"$elemMatch":{"$eq":5}}} | {"a":[{"1":[0]},{"1":[5]}]}
+{"a.1.1.1":{"$elemMatch":{"$eq":5}}} | {"a":[7,{"1":[{"1":[5]},{}]}]}
+{"a.1.1.1":{"$elemMatch":{"$eq":5}}} | {"a":[{"1":[7,{"1":[7,5]}]},8]}
+{"0.0":{"$elemMatch":{"0.0":{"$elemMatch":{"$eq":5}}}}} | {"0":[[{"0":[[5]]}]]}
+{"a.0.0":{"$not":{"$elemMatch":{"$eq":5}}}} | {"a":[{"0":[4]}]}"#;
+
+const NOT_TWICE: &str = r#"{"a.0.b":{"$elemMatch":{"$eq":5}}} | {"a":[{"0":{"b":[4]},"b":[6]}]}
+{"a.0.b":{"$elemMatch":{"$eq":5}}} | {"a":[1,{"b":[5]}]}
+{"a.0.b":{"$elemMatch":{"$eq":5}}} | {"a":[{"0":{"0":[5]},"b":5}]}
+{"a.0.0":{"$elemMatch":{"$eq":5}}} | {"a":[[5]]}
+{"a.0.0":{"$elemMatch":{"$eq":5}}} | {"a":[[[[5]]]]}
+{"a.0.0":{"$elemMatch":{"$eq":5}}} | {"a":[1,{"0":[5]}]}
+{"a.0.0":{"$elemMatch":{"$eq":5}}} | {"a":[{"0":[1,[5]]}]}
+{"a.0.0":{"$elemMatch":{"$eq":5}}} | {"a":[{"0":5}]}
+{"a.0.0":{"$elemMatch":{"b":5}}} | {"a":[{"0":[[{"c":5}]]}]}
+{"a.0.0.0.0.0":{"$elemMatch":{"$eq":5}}} | {"a":[{"0":[{"0":[5]}]}]}
+{"a.1.1":{"$elemMatch":{"$eq":5}}} | {"a":[{"1":[5]},{"1":[0]}]}
+{"a.1.1.1":{"$elemMatch":{"$eq":5}}} | {"a":[{"1":[{"1":[7,5]},7]},8]}
+{"0.0":{"$elemMatch":{"0.0":{"$elemMatch":{"$eq":5}}}}} | {"0":[[{"0":[5]}]]}
+{"a.0.0":{"$not":{"$elemMatch":{"$eq":5}}}} | {"a":[{"0":[5]}]}"#;
+
+#[test]
+fn tries_elements_from_two_positions(rt: HostRuntime) {
+    let alloc = rt.alloc();
+    all_match(&rt, alloc, TWICE);
+    none_match(&rt, alloc, NOT_TWICE);
+}
+
+/// Forty arrays, each in the field `0` of a document and with one document: a path of sixty names `0` comes to the innermost
+/// array where it spends 19 names on elements, in 40 over 19 ways, more than 10^11.
+#[test]
+fn walks_each_value_once(rt: HostRuntime) {
+    let alloc = rt.alloc();
+    let arrays = "{\"0\":[".repeat(alloc, 40).expect(&rt, "memory");
+    let ends = "]}".repeat(alloc, 40).expect(&rt, "memory");
+    let text = format!(in alloc; "{arrays}{{\"0\":[1]}}{ends}").expect(&rt, "memory");
+    let names = "0.".repeat(alloc, 59).expect(&rt, "memory");
+    for (operand, wanted) in [("1", true), ("2", false), ("[1]", false)] {
+        let query = format!(in alloc;
+            "{{\"{names}0\":{{\"$elemMatch\":{{\"$eq\":{operand}}}}}}}"
+        ).expect(&rt, "memory");
+        let filter = read_filter(&rt, alloc, query.as_str());
+        assert!(rt;
+            is_match(&rt, alloc, &filter, text.as_str()) == wanted,
+            "{operand}"
+        );
+    }
+}
+
 /// Operators that hold of a five.
 const OF_FIVE: &str = r#"{"$eq":5}
 {"$ne":6}

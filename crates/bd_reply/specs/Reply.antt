@@ -3,7 +3,7 @@ use Rattle.std.specs.Prelude.{ℕ, pos, Bool, true, false, List, [], ◌∷◌, 
 use Rattle.bd_value.specs.Tree as trees
 use Rattle.bd_value.specs.Tree.{Doc, Tree, array, doc, fields_of, items_of, leaf}
 use Rattle.bd_extjson.specs.Text.{text}
-use Rattle.bd_answer.specs.Session.{Explained, IndexCounts, PlanKind, by_index, by_scan, by_walk}
+use Rattle.bd_answer.specs.Session.{Explanation, IndexCounts, PlanKind, by_index, by_scan, by_walk}
 
 -- why there is no result: the layer that refuses, the number and the words of its reason, and the pair that tells where, if any
 pub record ToldRefusal : Type 0 where
@@ -18,7 +18,7 @@ pub data LineReply : Type 0 where
   opens : ℕ → LineReply
   gives : List Doc → Bool → Option (List ℕ) → LineReply
   makes : IndexCounts → LineReply
-  explains : Explained → LineReply
+  explains : Explanation → LineReply
   refuses : ToldRefusal → LineReply
 
 -- ---- the values

@@ -19,7 +19,7 @@ use Rattle.bd_request.specs.Request.{greatest_count, request_text}
 use Rattle.bd_request.specs.Token.{token_of}
 use Rattle.bd_request.specs.declared.request.Request.{Request}
 use Rattle.bd_request.specs.declared.token.Token.{Token}
-use Rattle.bd_sort.specs.Asked.{query_of, query_to}
+use Rattle.bd_sort.specs.Selection.{query_of, query_to}
 use Rattle.bd_service.specs.CallOf.{call_of, command_part, hint_path, search_of, search_query, search_with, then_part, token_part}
 use Rattle.bd_service.specs.CallView.{IsSearch, RefusesLine, RefusesPart, choice_hint, session_call}
 use Rattle.bd_service.specs.Talk.{IsCallIn}

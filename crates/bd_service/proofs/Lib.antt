@@ -1,5 +1,5 @@
 pub mod RefusedLemmas
-pub mod PerformLemmas
+pub mod PerformingLemmas
 pub mod CallLemmas
 pub mod AnswerLemmas
 pub mod TalkLemmas

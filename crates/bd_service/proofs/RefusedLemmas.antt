@@ -85,10 +85,10 @@ dropping path s false e h = ap (λ (is : List IndexMark). record s { indexes = i
 
 -- a call that is refused changes nothing
 pub refused_keeps : (s : State) (c : Call) → is_refusal (reply s c) ≡ true → state_after s c ≡ s
-refused_keeps s (find_call q hint) h = opening (has_index s.indexes hint) (is_full s) s (with_open s q.digest None (answer q.asked)) s.next_id h
+refused_keeps s (find_call q hint) h = opening (has_index s.indexes hint) (is_full s) s (with_open s q.digest None (answer q.selection)) s.next_id h
 refused_keeps s (resume_call q hint t) h =
-    resuming (bytes_eq t.digest q.digest) (nat_lt t.mark.last q.asked.count) (has_index s.indexes hint) (is_full s) s
-    (with_open s q.digest (Some t) (rest q.asked t.mark)) s.next_id h
+    resuming (bytes_eq t.digest q.digest) (nat_lt t.mark.last q.selection.count) (has_index s.indexes hint) (is_full s) s
+    (with_open s q.digest (Some t) (rest q.selection t.mark)) s.next_id h
 refused_keeps s (next_call id n) h = giving id n s (cursor_of id s.cursors) h
 refused_keeps s (kill_call id) h = killing id s (cursor_of id s.cursors) refl h
 refused_keeps s (make_call i counts) h =

@@ -1,17 +1,18 @@
 -- The replies of a session in memory are those of the machine.
-use Rattle.std.proofs.Common.{◌≡◌, ℕ, List, [], ◌∷◌, ◌++◌, Option, ap, ap₂, ◌∙◌, subst}
+use Rattle.std.proofs.Common.{◌≡◌, ℕ, List, [], ◌∷◌, ◌++◌, Option, ap, ap₂, ◌∙◌, inl, inr, subst}
 use Rattle.bd_value.specs.Tree.{Doc}
 use Rattle.bd_answer.specs.Session.{State}
 use Rattle.bd_bson.specs.Collection.{bytes_of, documents}
 use Rattle.bd_bson.specs.declared.collection.Dump.{Dump}
 use Rattle.bd_device.specs.Devices.{Over, Reader, Writer}
 use Rattle.bd_device.specs.declared.reading.Limits.{Limits}
+use Rattle.bd_lines.specs.Serving as serving
 use Rattle.bd_lines.specs.Serving.{Replied, ServesAll, ServesBefore, StopsServing}
 use Rattle.bd_lines.specs.declared.serving.ServeFault.{ServeFault}
 use Rattle.bd_lines.specs.declared.serving.ServeFault.TheVariants as faults
 use Rattle.bd_reply.specs.Reply.{LineReply}
-use Rattle.bd_service.specs.ServiceView.{RepliesTo, service_dump, service_state}
-use Rattle.bd_service.specs.Talk.{RepliesInText}
+use Rattle.bd_service.specs.ServiceView.{KeepsState, RepliesTo, StarvesAt, service_dump, service_state}
+use Rattle.bd_service.specs.Talk.{IsKept, RepliesInText}
 use Rattle.bd_service.specs.TalkLaws.{Talks, reply_lines}
 use Rattle.bd_service.specs.declared.service.Service.{Service}
 
@@ -34,6 +35,11 @@ pub one_replied : (s mid t : Service) (line text : List ℕ) → service_dump mi
     → RepliesOver (service_dump s) (service_state mid) line text (service_state t)
 one_replied s mid t line text kept r =
     subst (λ (d : Dump). RepliesOver d (service_state mid) line text (service_state t)) kept (r.reply, r.answers, r.written)
+
+one_starved : (s mid t : Service) (line : List ℕ) → service_dump mid ≡ service_dump s → StarvesAt mid line t
+    → serving.StarvesAt IsKept (RepliesOver (service_dump s)) (service_state mid) line (service_state t)
+one_starved s mid t line kept (inl same) = inl same
+one_starved s mid t line kept (inr (text, r)) = inr (text, one_replied s mid t line text kept r)
 
 -- ---- served to the end
 
@@ -71,8 +77,8 @@ before state gives limits old new s command text t b = record {
 }
 
 pub stopped : {R : Type 0} (state : R → Reader) (gives : R → Option (List ℕ) → R → Type 0) (limits : Limits) (old new : R) (out : Over Writer)
-    (s t : Service) (fault : ServeFault) → StopsServing state gives RepliesTo limits old new out s t fault
-    → StopsServing state gives (RepliesOver (service_dump s)) limits old new out (service_state s) (service_state t) fault
+    (s t : Service) (fault : ServeFault) → StopsServing state gives KeepsState RepliesTo limits old new out s t fault
+    → StopsServing state gives IsKept (RepliesOver (service_dump s)) limits old new out (service_state s) (service_state t) fault
 stopped state gives limits old new out s t (faults.Unread fault) u = record {
   whole = u.whole;
   rest = u.rest;
@@ -84,8 +90,9 @@ stopped state gives limits old new out s t (faults.Unread fault) u = record {
   replied = replied s _ u.text t u.replied;
   written = u.written;
 }
-stopped state gives limits old new out s t faults.NoMemory (command, text, mid, b, taken) =
-    (command, text, service_state mid, before state gives limits old new s command text mid b, taken)
+stopped state gives limits old new out s t faults.NoMemory (command, text, mid, b, taken, starved) =
+    let kept = dump_kept s _ text mid b.replied in
+    (command, text, service_state mid, before state gives limits old new s command text mid b, taken, one_starved s mid t command kept starved)
 stopped state gives limits old new out s t faults.Unwritten (command, text, reply, mid, b, r, broken) =
     let kept = dump_kept s _ text mid b.replied in
     (command, text, reply, service_state mid, before state gives limits old new s command text mid b, one_replied s mid t command reply kept r, broken)

@@ -2,7 +2,7 @@
 use Rattle.std.specs.Prelude.{ℕ, nat_le, ◌&&◌, Bool, List, length, Option, Some, None, Result, Ok, Err, if◌then◌else◌}
 use Rattle.bd_value.specs.Tree.{Doc}
 use Rattle.bd_answer.specs.Answer.{matching}
-use Rattle.bd_answer.specs.Session.{Call, Explained, IndexMark, MarkedToken, Query, drop_call, explain_call, find_call, kill_call, make_call, next_call, resume_call}
+use Rattle.bd_answer.specs.Session.{Call, Explanation, IndexMark, MarkedToken, Query, drop_call, explain_call, find_call, kill_call, make_call, next_call, resume_call}
 use Rattle.bd_path.specs.Earliest.{SortPath}
 use Rattle.bd_path.specs.Names.{Names}
 use Rattle.bd_path.specs.Path.{path_of}
@@ -15,7 +15,7 @@ use Rattle.bd_request.specs.Sort.{sort_of}
 use Rattle.bd_request.specs.Token.{token_of}
 use Rattle.bd_request.specs.declared.refused.Refused.TheVariants as reasons
 use Rattle.bd_request.specs.declared.token.Token.{Token}
-use Rattle.bd_sort.specs.Asked.{asked_for, query_to}
+use Rattle.bd_sort.specs.Selection.{selection_for, query_to}
 use Rattle.bd_plan.specs.AccessPath.{AccessPath, access_on, first_bounded, first_walked, scanned}
 use Rattle.bd_plan.specs.Explanation.{explained_access, index_counts}
 use Rattle.bd_cursor.specs.SessionView.{marked_token}
@@ -107,9 +107,9 @@ access_by ds f ss any_way is = first_bounded ds f is (first_walked ss is scanned
 access_by ds f ss by_scan is = scanned
 access_by ds f ss (by_index path) is = access_on ds f ss path is
 
-abbrev pub search_explanation : List Doc → Search → List IndexMark → Explained
+abbrev pub search_explanation : List Doc → Search → List IndexMark → Explanation
 search_explanation ds w is =
-    explained_access ds (length (matching (asked_for ds w.filter w.sorts w.skip w.limit)))
+    explained_access ds (length (matching (selection_for ds w.filter w.sorts w.skip w.limit)))
     (access_by ds w.filter w.sorts w.hint is)
 
 -- ---- the call

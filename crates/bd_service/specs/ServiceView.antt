@@ -1,11 +1,12 @@
 -- What a session in memory does at a call, and at a line.
-use Rattle.std.specs.Prelude.{◌≡◌, ◌≢◌, ◌⊎◌, List, ℕ}
+use Rattle.std.specs.Prelude.{◌≡◌, ◌≢◌, List, ℕ}
 use Rattle.bd_answer.specs.Session as machine
 use Rattle.bd_answer.specs.Session.{State, state_after}
 use Rattle.bd_bson.specs.Collection.{bytes_of, documents}
 use Rattle.bd_bson.specs.declared.collection.Dump.{Dump}
 use Rattle.bd_cursor.specs.SessionView.{dump_of, state_of}
 use Rattle.bd_cursor.specs.declared.session.Session.{Session}
+use Rattle.bd_lines.specs.Serving as serving
 use Rattle.bd_request.specs.declared.refused.Refused.{Refused}
 use Rattle.bd_request.specs.declared.refused.Refused.TheVariants as reasons
 use Rattle.bd_reply.specs.Reply.{LineReply, reply_text}
@@ -39,7 +40,10 @@ pub record RepliesTo (old : Service) (line text : List ℕ) (new : Service) : Ty
   pub written : text ≡ reply_text reply
   pub kept : service_dump new ≡ service_dump old
 
+-- the session is as it was
+abbrev pub KeepsState : Service → Service → Type 0
+KeepsState old new = service_state new ≡ service_state old
+
 -- memory ran out at the line: the session is as it was, or as the call left it whose reply was not made
 abbrev pub StarvesAt : Service → List ℕ → Service → Type 0
-StarvesAt old line new =
-    (service_state new ≡ service_state old) ⊎ ((text : List ℕ) × RepliesTo old line text new)
+StarvesAt old line new = serving.StarvesAt KeepsState RepliesTo old line new

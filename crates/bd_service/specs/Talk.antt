@@ -60,6 +60,10 @@ pub record Answers (bytes : List ℕ) (ds : List Doc) (s : State) (line : List �
   pub tells : r ≡ reply_to ds s part
   pub moves : t ≡ state_then s part
 
--- the same with the text of the reply
+-- the state is as it was
+abbrev pub IsKept : State → State → Type 0
+IsKept s t = t ≡ s
+
+-- a reply as `Answers` tells it, with its text
 abbrev pub RepliesInText : List ℕ → List Doc → State → List ℕ → List ℕ → State → Type 0
 RepliesInText bytes ds s line text t = (r : LineReply) × Answers bytes ds s line r t × (text ≡ reply_text r)

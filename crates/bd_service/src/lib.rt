@@ -14,7 +14,7 @@
 //! - `service`: `Service`, which replies to a line: `specs/ServiceView.antt`.
 //! - `call_of`: the call of a session that a command is: `specs/CallOf.antt`, and `specs/CallView.antt` for `call` and
 //!   `call_fault`.
-//! - `perform`: a call made.
+//! - `performing`: a call made.
 //! - `laws`: what always holds of a talk: `specs/TalkLaws.antt`.
 #![tactic(auto)]
 
@@ -22,7 +22,7 @@ mod call;
 mod call_fault;
 mod call_of;
 mod laws;
-mod perform;
+mod performing;
 mod service;
 
 pub use laws::{replies_go_on, talks_keep_to_the_answer, texts_are_talks};

@@ -11,13 +11,13 @@ ghost use Rattle.bd_extjson.specs.TextDocument.{ReadsAs};
 ghost use Rattle.bd_reply.specs.ReplyView.{line_reply};
 ghost use Rattle.bd_service.specs.CallOf.{command_part};
 ghost use Rattle.bd_service.specs.CallView.{RefusesLine, RefusesPart, session_call};
-ghost use Rattle.bd_service.specs.ServiceView.{RepliesTo, StarvesAt, service_dump, service_state};
+ghost use Rattle.bd_service.specs.ServiceView.{KeepsState, RepliesTo, StarvesAt, service_dump, service_state};
 ghost use Rattle.bd_service.specs.Talk.{Answers, IsCallIn};
 
 use crate::call::Call;
 use crate::call_fault::CallFault;
 use crate::call_of::call_of;
-use crate::perform::perform;
+use crate::performing::perform;
 use bd_bson::Dump;
 use bd_command::{Command, CommandFault, read_command};
 use bd_cursor::Session;
@@ -64,6 +64,8 @@ impl Service {
 
 impl Replier for Service {
     ghost replies = { RepliesTo };
+
+    ghost stays = { KeepsState };
 
     fn reply(&mut self, command: &[u8], text: &mut Vec<u8>) -> Result<(), AllocError>
         ensures replies { OnOk result ((reply : List ℕ) × (text.new.items ≡ text.old.items ++ reply)

@@ -1,3 +1,3 @@
-pub mod InOrderLemmas
+pub mod OrderedSourceLemmas
 pub mod SortTableLemmas
-pub mod SortedLemmas
+pub mod SortingLemmas

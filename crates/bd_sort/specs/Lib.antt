@@ -1,4 +1,4 @@
-pub mod Asked
 pub mod Column
+pub mod Selection
 pub mod SortTable
-pub mod Sorted
+pub mod Sorting

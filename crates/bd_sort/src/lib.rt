@@ -11,19 +11,20 @@
 //! assert!(rt; places.as_slice() == [2, 0].as_slice());
 //! ```
 //!
-//! - `matching`: which documents match: `specs/Asked.antt`, what a request asks of a dump.
-//! - `sorted`: the places of any source, put in order: `specs/Sorted.antt`; `in_order`, those of a source that has the order.
+//! - `matching`: which documents match: `specs/Selection.antt`, what a request selects of a dump.
+//! - `sorting`: the places of any source, put in order: `specs/Sorting.antt`; `ordered_source`, those of a source that has the
+//!   order.
 //! - `sort_table`, `columns`, `column`: the sort keys that are kept for it, which compare by their fronts first (`bd_front`):
 //!   `specs/SortTable.antt`, `specs/Column.antt`.
 #![tactic(auto)]
 
 mod column;
 mod columns;
-mod in_order;
 mod matching;
+mod ordered_source;
 mod sort_table;
-mod sorted;
+mod sorting;
 
-pub use in_order::places_in_order;
 pub use matching::is_match;
-pub use sorted::sorted_places;
+pub use ordered_source::places_in_order;
+pub use sorting::sorted_places;

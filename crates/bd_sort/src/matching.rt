@@ -3,7 +3,7 @@
 ghost use Rattle.std.specs.Prelude.{◌≡◌, ◌<◌, length};
 ghost use Rattle.bd_bson.specs.Collection.{documents};
 ghost use Rattle.bd_query.specs.FilterView.{filter_tree};
-ghost use Rattle.bd_sort.specs.Asked.{hits_of};
+ghost use Rattle.bd_sort.specs.Selection.{hits_of};
 
 use bd_bson::Dump;
 use bd_query::{Filter, matches};

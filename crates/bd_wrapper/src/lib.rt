@@ -24,7 +24,7 @@ mod wrapper_parts;
 mod wrapper_values;
 
 pub use trouble::Trouble;
-pub use whole_number::{is_whole_number, whole};
+pub use whole_number::{is_whole_number, whole, whole_of_32};
 pub use wrapper::{Wrapper, names_code, names_scope};
-pub use wrapper_parts::{number_of, only, pair};
+pub use wrapper_parts::{id_of_text, number_of, only, pair};
 pub use wrapper_values::unwrap_single;

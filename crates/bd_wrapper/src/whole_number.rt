@@ -35,7 +35,8 @@ pub fn whole(text: &str) -> Option<i64>
     text.parse::<i64>().ok()
 }
 
-pub(crate) fn whole_of_32(text: &str) -> Option<i32>
+/// The same of a number of 32 bits.
+pub fn whole_of_32(text: &str) -> Option<i32>
     ensures { result ≡ whole_32 text.now }
 {
     i32::try_from(whole(text)?).ok()

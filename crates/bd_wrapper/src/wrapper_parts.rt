@@ -2,8 +2,8 @@
 ghost use Rattle.std.specs.Prelude.{◌≡◌, option_map};
 ghost use Rattle.json.specs.Value.{value_view, members_view};
 ghost use Rattle.json.specs.Find.{as_object};
-ghost use Rattle.hex.specs.Hex.{hex_digit_value};
-ghost use Rattle.bd_wrapper.specs.Wrappers.{only_member, only as only_in, either_way as either_way_in, pair_members, pair as pair_in, id_of as id_in, number_in, word_in, digits_in, subtype_in, name_in};
+ghost use Rattle.hex.specs.Hex.{decode_sized, hex_digit_value};
+ghost use Rattle.bd_wrapper.specs.Wrappers.{only_member, only as only_in, either_way as either_way_in, pair_members, pair as pair_in, id_of as id_in, number_in, word_in, digits_in, subtype_in, name_in, ok_of};
 
 use crate::whole_number::whole;
 use bd_value::has_zero;
@@ -58,11 +58,18 @@ pub(crate) fn word_of(part: &json::Value<'_>) -> Option<u32>
     u32::try_from(whole(number_of(part)?)?).ok()
 }
 
+/// The 12 bytes of an id, of its 24 hexadecimal digits.
+pub fn id_of_text(text: &str) -> Option<[u8; 12]>
+    ensures { result ≡ ok_of (decode_sized text.now 12) }
+{
+    <[u8; 12] as FromHex>::from_hex(text).ok()
+}
+
 /// The 12 bytes of an id.
 pub(crate) fn id_of(part: &json::Value<'_>) -> Option<[u8; 12]>
     ensures { result ≡ id_in (value_view part.now) }
 {
-    <[u8; 12] as FromHex>::from_hex(part.as_str()?).ok()
+    id_of_text(part.as_str()?)
 }
 
 /// Two of the values, in either order.

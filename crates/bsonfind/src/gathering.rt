@@ -88,11 +88,11 @@ fn refusal() -> io::Error {
 
 /// Standard output: what is written is gathered.
 #[derive(Drop)]
-pub struct Gathered<'a, W: Write + Drop> {
+pub struct GatheredOutput<'a, W: Write + Drop> {
     pub gathering: &'a RefCell<Gathering<W>>,
 }
 
-impl<W: Write + Drop> Write for Gathered<'_, W> {
+impl<W: Write + Drop> Write for GatheredOutput<'_, W> {
     fn write(&mut self, bytes: &[u8]) -> io::Result<usize> {
         let Ok(mut gathering) = self.gathering.try_borrow_mut() else {
             return Err(refusal());

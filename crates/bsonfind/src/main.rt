@@ -8,9 +8,10 @@ mod gathering;
 use bd_cli::{Status, report};
 use bd_command_line::{Order, WordsFault, parse_words};
 use bd_device::{SystemInput, SystemOutput, write_all};
-use gathering::{Fate, Gathered, Gathering, TiedError, TiedInput, hand_on};
+use gathering::{Fate, GatheredOutput, Gathering, TiedError, TiedInput, hand_on};
 use std::cell::RefCell;
 use std::io::{BufReader, Read, Stdout};
+use std::os::fd::AsRawFd;
 use std::process::ExitCode;
 use std::{env, fs, io};
 
@@ -37,7 +38,7 @@ type Waiting = RefCell<Gathering<Stdout>>;
 /// Tells why there is no order to be carried out.
 fn refuse(rt: &HostRuntime, fault: &WordsFault, gathering: &Waiting) -> Status {
     let writer = rt.stderr();
-    let mut out = SystemOutput::new(Gathered { gathering });
+    let mut out = SystemOutput::new(GatheredOutput { gathering });
     let mut err = SystemOutput::new(TiedError { writer, gathering });
     report(fault, &mut out, &mut err)
 }
@@ -55,7 +56,7 @@ fn run<F: Read + Drop>(rt: &HostRuntime, order: &Order, reader: F, gathering: &W
         gathering,
     });
     let writer = rt.stderr();
-    let mut out = SystemOutput::new(Gathered { gathering });
+    let mut out = SystemOutput::new(GatheredOutput { gathering });
     let mut err = SystemOutput::new(TiedError { writer, gathering });
     bd_cli::run(
         rt.alloc(),
@@ -92,10 +93,14 @@ fn obey(rt: &HostRuntime, gathering: &Waiting) -> Status {
     if file.as_str() == "-" {
         return run(rt, &order, rt.reader(), gathering);
     }
-    match fs::open(rt, file) {
-        Ok(opened) => run(rt, &order, opened, gathering),
-        Err(_) => tell_error(rt, "cannot open ", file),
+    let Ok(opened) = fs::open(rt, file) else {
+        return tell_error(rt, "cannot open ", file);
+    };
+    // The number of standard input, which was closed: commands would be read from the end of the file.
+    if opened.as_raw_fd() == 0 && matches!(&order, Order::Serve { .. }) {
+        return tell_error(rt, "cannot read", "");
     }
+    run(rt, &order, opened, gathering)
 }
 
 /// Does what the process's words say, up to the last byte of standard output. A loss of which the run did not learn is told

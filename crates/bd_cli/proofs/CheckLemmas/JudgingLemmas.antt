@@ -24,8 +24,8 @@ use Rattle.bd_bson.proofs.VerdictLemmas.{none_at, turn_at, last_at}
 use Rattle.bd_cli.specs.declared.check.judging.Findings.{Findings}
 use Rattle.bd_cli.specs.declared.ending.Ending.{Ending}
 use Rattle.bd_cli.specs.declared.ending.Ending.TheVariants as endings
-use Rattle.bd_cli.specs.declared.output.lines.Stopped.{Stopped}
-use Rattle.bd_cli.specs.declared.output.lines.Stopped.TheVariants.{NoMemory, Unwritten}
+use Rattle.bd_cli.specs.declared.output.lines.OutputFault.{OutputFault}
+use Rattle.bd_cli.specs.declared.output.lines.OutputFault.TheVariants.{NoMemory, Unwritten}
 use Rattle.bd_cli.specs.declared.status.Status.{Status}
 use Rattle.bd_cli.specs.declared.status.Status.TheVariants.{Failed}
 use Rattle.bd_cli.proofs.OutputLemmas.LinesLemmas.{breaks_after}
@@ -33,7 +33,7 @@ use Rattle.bd_cli.proofs.OutcomeLemmas.{rest_of, known_whole, known_end, known_a
 use Rattle.bd_cli.specs.Check.{BreaksAtVerdict, ChecksInput, JudgesWithinLimit, faulty_count, shown_check, shown_check_unread, verdict_line, verdict_lines}
 use Rattle.bd_cli.specs.Check.Judging.{AreVerdicts, JudgesDocuments, JudgesLast, StopsJudging, findings_message, findings_status}
 use Rattle.bd_cli.specs.Outcome.{StreamsInput, TellsMessage}
-use Rattle.bd_cli.specs.Shown.{Shown, error_line}
+use Rattle.bd_cli.specs.Transcript.{Transcript, error_line}
 use Rattle.bd_cli.specs.Ending.{IsEndingOf}
 use Rattle.bd_device.specs.Devices.{BreaksWithin, Reader, TakesAtMost, TakesFront, TakesText, Writer, between}
 
@@ -61,10 +61,10 @@ one_bad : (v : Seen) → faulty_count (v ∷ []) ≤ 1
 one_bad None = omega arith
 one_bad (Some f) = omega arith
 
-same_ending : (d e : Ending) → Path (Result Ending Stopped) (Ok d) (Ok e) → d ≡ e
+same_ending : (d e : Ending) → Path (Result Ending OutputFault) (Ok d) (Ok e) → d ≡ e
 same_ending d e is = cc
 
-same_stop : (d e : Stopped) → Path (Result Ending Stopped) (Err d) (Err e) → d ≡ e
+same_stop : (d e : OutputFault) → Path (Result Ending OutputFault) (Err d) (Err e) → d ≡ e
 same_stop d e is = cc
 
 pub ok_of : {A B : Type 0} (r : Result A B) (P : A → Type 0) (Q : B → Type 0) → MatchResult r P Q → IfOk r P
@@ -187,11 +187,11 @@ module _ (old : Reader) (out_old : Writer) where
       front_of out_old out_mid (verdict_lines 0 s.done) (verdict_lines (0 + length s.done) (verdicts_at place rest)) (verdict_lines 0 (verdicts (s.given ++ rest))) s.wrote (cut_at rest),
     )
 
-    abbrev was_stopped : Stopped → Stopped → Type 0
-    was_stopped st want = Path (Result (Unit {0}) Stopped) (Err st) (Err want)
+    abbrev was_stopped : OutputFault → OutputFault → Type 0
+    was_stopped st want = Path (Result (Unit {0}) OutputFault) (Err st) (Err want)
 
     -- the line of a fault was stopped
-    stops_in : (new : Reader) (out_new : Writer) (part rest : List ℕ) (f : Fault) (more : List Seen) (st : Stopped) → Consumes mid.left new.left part → length part ≤ room
+    stops_in : (new : Reader) (out_new : Writer) (part rest : List ℕ) (f : Fault) (more : List Seen) (st : OutputFault) → Consumes mid.left new.left part → length part ≤ room
         → IfSome mid.left (λ xs. rest ≡ xs) → new.failures ≡ mid.failures → verdicts_at place part ≡ Some f ∷ [] → verdicts_at place rest ≡ Some f ∷ more
         → (was_stopped st NoMemory → out_new ≡ out_mid) → (was_stopped st Unwritten → BreaksWithin (between out_mid out_new) (verdict_line number (Some f)))
         → StopsJudging (between old new) (between out_old out_new) st
@@ -224,7 +224,7 @@ module _ (old : Reader) (out_old : Writer) where
         let others : verdicts_at (place + length frame) (drop (length frame) frame) ≡ [] = ap (verdicts_at (place + length frame)) (drop_all (length frame) frame (le_refl (length frame))) ∙ none_at (place + length frame) in
         turn ∙ ap₂ (λ (v : Seen) (vs : List Seen). v ∷ vs) one others
 
-    pub stops_by : (new : Reader) (out_new : Writer) (frame : List ℕ) (f : told.Fault) (st : Stopped) → IsFrame frame → length frame ≤ room → first_fault place frame ≡ Some (fault_view f) → f.document ≡ number
+    pub stops_by : (new : Reader) (out_new : Writer) (frame : List ℕ) (f : told.Fault) (st : OutputFault) → IsFrame frame → length frame ≤ room → first_fault place frame ≡ Some (fault_view f) → f.document ≡ number
         → Consumes mid.left new.left frame → new.failures ≡ mid.failures → (was_stopped st NoMemory → out_new ≡ out_mid)
         → (was_stopped st Unwritten → BreaksWithin (between out_mid out_new) (verdict_line f.document (Some (fault_view f)))) → StopsJudging (between old new) (between out_old out_new) st
     stops_by new out_new frame f st is short first numbered gave well starved broke =
@@ -244,15 +244,15 @@ module _ (old : Reader) (out_old : Writer) where
     done_alone : verdicts s.given ≡ s.done
     done_alone = ap verdicts (sym (append-nil s.given)) ∙ s.all [] ∙ ap (λ vs. s.done ++ vs) (none_at place) ∙ append-nil s.done
 
-    abbrev Last : Reader → Writer → Result Findings Stopped → Type 0
+    abbrev Last : Reader → Writer → Result Findings OutputFault → Type 0
     Last new out_new r = MatchResult r (JudgesDocuments (between old new) (between out_old out_new)) (StopsJudging (between old new) (between out_old out_new))
 
-    pub ends_whole : (new : Reader) (out_new : Writer) (r : Result Findings Stopped) → IsAtEnd new.left → Consumes mid.left new.left [] → new.failures ≡ mid.failures
+    pub ends_whole : (new : Reader) (out_new : Writer) (r : Result Findings OutputFault) → IsAtEnd new.left → Consumes mid.left new.left [] → new.failures ≡ mid.failures
         → JudgesLast endings.Whole number bad (between out_mid out_new) r → Last new out_new r
     ends_whole new out_new r end gave well found =
         rw (found.0, found.1) (s.given, s.done, (known_end old.left mid.left new.left s.given s.gave gave end, took new [] gave (omega arith), well ∙ s.well), inl within_given, sym done_alone, s.counted, s.bad_counted, s.wrote)
 
-    faulty_ends : (new : Reader) (out_new : Writer) (f : told.Fault) (r : Result Findings Stopped) (part bytes : List ℕ) → Consumes mid.left new.left part → length part ≤ room
+    faulty_ends : (new : Reader) (out_new : Writer) (f : told.Fault) (r : Result Findings OutputFault) (part bytes : List ℕ) → Consumes mid.left new.left part → length part ≤ room
         → IfSome mid.left (λ xs. bytes ≡ xs) → new.failures ≡ mid.failures → frame_length bytes ≡ Err f.kind → verdicts_at place part ≡ Some (fault_view f) ∷ []
         → verdicts_at place bytes ≡ Some (fault_view f) ∷ [] → f.document ≡ number → JudgesLast (endings.Faulty f) number bad (between out_mid out_new) r → Last new out_new r
     faulty_ends new out_new f (Ok findings) part bytes gave short is well bad_length given last numbered found =
@@ -278,7 +278,7 @@ module _ (old : Reader) (out_old : Writer) where
         last_at place bytes f.kind is
         ∙ ap₂ (λ (o : ℕ) (p : List (List ℕ)). Some (record { kind = f.kind; offset = o; path = p }) ∷ []) (sym offset) (sym (ap (map string_bytes) path))
 
-    pub framed_ends : (new : Reader) (out_new : Writer) (f : told.Fault) (r : Result Findings Stopped) (part : List ℕ) → Consumes mid.left new.left part → length part ≤ room → new.failures ≡ mid.failures
+    pub framed_ends : (new : Reader) (out_new : Writer) (f : told.Fault) (r : Result Findings OutputFault) (part : List ℕ) → Consumes mid.left new.left part → length part ≤ room → new.failures ≡ mid.failures
         → HasNoFrame [] mid.left f.kind → frame_length part ≡ Err f.kind → f.offset ≡ place → f.document ≡ number → f.path.items ≡ []
         → JudgesLast (endings.Faulty f) number bad (between out_mid out_new) r → Last new out_new r
     framed_ends new out_new f r part gave short well none given offset numbered path found =
@@ -287,10 +287,10 @@ module _ (old : Reader) (out_old : Writer) where
   -- no document was given
   module _ {R : Type 0} (state : R → Reader) (gives : R → Option (List ℕ) → R → Type 0) (documents : DocBuffer) (m n : R) (out_mid : Writer) (bad : ℕ)
       (s : Kept (state m) out_mid documents.place documents.number bad documents.left.bytes documents.left.turns) where
-    abbrev Ended : Writer → Result Findings Stopped → Type 0
+    abbrev Ended : Writer → Result Findings OutputFault → Type 0
     Ended out_new r = MatchResult r (JudgesDocuments (between old (state n)) (between out_old out_new)) (StopsJudging (between old (state n)) (between out_old out_new))
 
-    unread_ends : (out_new : Writer) (given : List ℕ) (f : ReadFault) (r : Result Findings Stopped) → ¬ (f ≡ reads.NoMemory) → Consumes (state m).left (state n).left given
+    unread_ends : (out_new : Writer) (given : List ℕ) (f : ReadFault) (r : Result Findings OutputFault) → ¬ (f ≡ reads.NoMemory) → Consumes (state m).left (state n).left given
         → IsReason state gives documents m n [] given (faults.Read f) → JudgesLast (endings.Unread f) documents.number bad (between out_mid out_new) r → Ended out_new r
     unread_ends out_new given f r other gave reason found =
         let fits : documents.left.bytes + length s.given ≡ 4294967295 = let p = s.placed in let q = s.fits in omega arith in
@@ -298,7 +298,7 @@ module _ (old : Reader) (out_old : Writer) where
         let done = done_alone (state m) out_mid documents.place documents.number bad documents.left.bytes documents.left.turns s in
         rw (found.0, found.1) (s.given ++ u.0, s.done, u.1, tt, (s.frames, s.given, u.0, s.framed, u.2, refl, sym done), s.counted, s.bad_counted, s.wrote)
 
-    pub ends_by : (out_new : Writer) (given : List ℕ) (d : DocFault) (e : Ending) (r : Result Findings Stopped) → IsEndingOf d (Ok e) → Consumes (state m).left (state n).left given
+    pub ends_by : (out_new : Writer) (given : List ℕ) (d : DocFault) (e : Ending) (r : Result Findings OutputFault) → IsEndingOf d (Ok e) → Consumes (state m).left (state n).left given
         → IsReason state gives documents m n [] given d → JudgesLast e documents.number bad (between out_mid out_new) r → Ended out_new r
     ends_by out_new given (faults.Frame f) e r by gave reason found =
         let is : e ≡ endings.Faulty f = same_ending e (endings.Faulty f) by in
@@ -312,7 +312,7 @@ module _ (old : Reader) (out_old : Writer) where
     ends_by out_new given (faults.Read reads.NoMemory) e r by gave reason found = absurd cc
     ends_by out_new given faults.Failed e r by gave reason found = absurd reason
 
-    pub starves_by : (given : List ℕ) (d : DocFault) (st : Stopped) → IsEndingOf d (Err st) → Consumes (state m).left (state n).left given → IsReason state gives documents m n [] given d
+    pub starves_by : (given : List ℕ) (d : DocFault) (st : OutputFault) → IsEndingOf d (Err st) → Consumes (state m).left (state n).left given → IsReason state gives documents m n [] given d
         → StopsJudging (between old (state n)) (between out_old out_mid) st
     starves_by given (faults.Frame f) st by gave reason = absurd cc
     starves_by given (faults.Read reads.Device) st by gave reason = absurd cc
@@ -329,7 +329,7 @@ module _ (old new : Reader) (out_old out_new : Writer) (err_old err_new : Writer
   Shows = ChecksInput (between old new) (between out_old out_new) (between err_old err_new) status
 
   -- all was shown, of bytes within the limit, or a front of it
-  abbrev Ends : Type 0 → Shown → Type 0
+  abbrev Ends : Type 0 → Transcript → Type 0
   Ends within shown =
       (within × TakesText (between out_old out_new) shown.out × TellsMessage (between err_old err_new) shown.err shown.status status)
       ⊎ (BreaksWithin (between out_old out_new) shown.out × BreaksAtVerdict (between old new) (between out_old out_new) × TellsMessage (between err_old err_new) (error_line (codes "cannot write")) Failed status)

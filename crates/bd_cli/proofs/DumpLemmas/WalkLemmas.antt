@@ -20,18 +20,18 @@ use Rattle.bd_stream.specs.declared.doc_buffer.DocFault.{DocFault}
 use Rattle.bd_stream.specs.declared.doc_buffer.DocFault.TheVariants as faults
 use Rattle.bd_cli.specs.declared.ending.Ending.{Ending}
 use Rattle.bd_cli.specs.declared.ending.Ending.TheVariants as endings
-use Rattle.bd_cli.specs.declared.output.lines.Stopped.{Stopped}
-use Rattle.bd_cli.specs.declared.output.lines.Stopped.TheVariants.{NoMemory, Unwritten}
+use Rattle.bd_cli.specs.declared.output.lines.OutputFault.{OutputFault}
+use Rattle.bd_cli.specs.declared.output.lines.OutputFault.TheVariants.{NoMemory, Unwritten}
 use Rattle.bd_cli.proofs.OutputLemmas.LinesLemmas.{breaks_after, lines-append}
 use Rattle.bd_cli.proofs.OutcomeLemmas.{rest_of, known_whole, known_end, known_after, front_known, more_called, fault_inside, fault_of_length, unread}
 use Rattle.bd_cli.specs.Dump.{BreaksAtDocument, StarvesAfterDocuments}
-use Rattle.bd_cli.specs.Shown.{lines}
+use Rattle.bd_cli.specs.Transcript.{lines}
 use Rattle.bd_cli.specs.Ending.{IsEndingOf}
 use Rattle.bd_cli.specs.Dump.Walk.{StopsWalk, WalksDocuments}
 use Rattle.bd_device.specs.Devices.{BreaksWithin, Reader, TakesAtMost, TakesText, Writer, between}
 
-abbrev was_stopped : Stopped → Stopped → Type 0
-was_stopped st want = Path (Result (Option told.Fault) Stopped) (Err st) (Err want)
+abbrev was_stopped : OutputFault → OutputFault → Type 0
+was_stopped st want = Path (Result (Option told.Fault) OutputFault) (Err st) (Err want)
 
 pub same_fault : {A : Type 0} (d e : DocFault) → Path (Result A DocFault) (Err d) (Err e) → d ≡ e
 same_fault d e is = cc
@@ -112,7 +112,7 @@ module _ (old : Reader) (out_old : Writer) where
     starves new well = (s.done, s.given, s.joined, front_known old.left mid.left s.given s.gave, well ∙ s.well, s.wrote)
 
     -- printing a document was stopped
-    pub stops_by : (new : Reader) (out_new : Writer) (frame : List ℕ) (st : Stopped) → Consumes mid.left new.left frame → new.failures ≡ mid.failures
+    pub stops_by : (new : Reader) (out_new : Writer) (frame : List ℕ) (st : OutputFault) → Consumes mid.left new.left frame → new.failures ≡ mid.failures
         → (was_stopped st NoMemory → out_new ≡ out_mid) → (was_stopped st Unwritten → (d : Doc) × IsDocument d frame × BreaksWithin (between out_mid out_new) (lines (d ∷ [])))
         → StopsWalk (between old new) (between out_old out_new) st
     stops_by new out_new frame NoMemory gave well starved broke = rw (starved refl) (starves new well)
@@ -151,7 +151,7 @@ module _ (old : Reader) (out_old : Writer) where
   -- no document was given
   module _ {R : Type 0} (state : R → Reader) (gives : R → Option (List ℕ) → R → Type 0) (documents : DocBuffer) (m n : R) (out_mid : Writer)
       (s : Kept (state m) out_mid documents.place documents.number documents.left.bytes documents.left.turns) where
-    abbrev Ended : ℕ → Result Ending Stopped → Type 0
+    abbrev Ended : ℕ → Result Ending OutputFault → Type 0
     Ended count r =
         MatchResult r (λ e. WalksDocuments (between old (state n)) (between out_old out_mid) (record { count = count; ending = e })) (λ st. StopsWalk (between old (state n)) (between out_old out_mid) st)
 
@@ -162,7 +162,7 @@ module _ (old : Reader) (out_old : Writer) where
         let u = unread old s.given state gives documents m n s.gave fits s.turned s.called s.well given f other gave reason in
         (s.done, same ∙ s.counted, (s.given, u.0, u.1, s.joined, u.2), s.wrote)
 
-    pub ends_by : (count : ℕ) (given : List ℕ) (d : DocFault) (r : Result Ending Stopped) → count ≡ documents.number → IsEndingOf d r → Consumes (state m).left (state n).left given
+    pub ends_by : (count : ℕ) (given : List ℕ) (d : DocFault) (r : Result Ending OutputFault) → count ≡ documents.number → IsEndingOf d r → Consumes (state m).left (state n).left given
         → IsReason state gives documents m n [] given d → Ended count r
     ends_by count given (faults.Frame f) r same by gave reason =
         rw by (ends_framed (state m) out_mid documents.place documents.number documents.left.bytes documents.left.turns s (state n) count given f same gave reason.5 reason.6 reason.3 reason.0 reason.1 reason.2)

@@ -12,7 +12,7 @@ use Rattle.bd_request.specs.declared.refused.Refused.TheVariants as reasons
 use Rattle.bd_request.specs.declared.request.Request.{Request}
 use Rattle.bd_request.specs.declared.token.Token.{Token}
 use Rattle.bd_command_line.specs.FindWords.{FindWords}
-use Rattle.bd_cli.specs.Find.Asking.{AsksInDocuments, AsksInWords, NamesIndex, ReadsText, ReadsToken, TellsAskingFault, TellsRefused, Wanted, fits_batch, fits_counts, wanted}
+use Rattle.bd_cli.specs.Find.Asking.{AsksInDocuments, AsksInWords, NamesIndex, ReadsText, ReadsToken, TellsAskingFault, TellsRefused, PageRequest, fits_batch, fits_counts, page_request}
 use Rattle.bd_cli.specs.declared.find.asking.AskingFault.{AskingFault}
 use Rattle.bd_cli.specs.declared.find.asking.AskingFault.TheVariants as faults
 
@@ -20,7 +20,7 @@ both_fit : (words : FindWords) → words.skip ≤ greatest_count → words.limit
 both_fit words s l = rw (le-leb words.skip greatest_count s, le-leb words.limit greatest_count l) refl
 
 -- what is asked for by a request and a token
-abbrev pub asked_by : Request → Option ℕ → Option Token → Wanted
+abbrev pub asked_by : Request → Option ℕ → Option Token → PageRequest
 asked_by r size token = record {
   filter = filter_tree r.filter;
   sorts = sort_paths r.sort.items;
@@ -38,7 +38,7 @@ module _ (words : FindWords) (query sort : Doc) where
   documents_ask : (r : Request) (token : Option Token) → AsksFor query sort words.skip words.limit r → fits_batch words.batch ≡ true → NamesIndex words.index (Ok tt) → ReadsToken words.after (Ok token)
       → AsksInDocuments words query sort (Ok (asked_by r words.batch token))
   documents_ask r token for fits named read =
-      let same : asked_by r words.batch token ≡ wanted words query sort (filter_tree r.filter) (sort_paths r.sort.items) token = rw (for.skip_is.0, for.limit_is.0, for.text_is) refl in
+      let same : asked_by r words.batch token ≡ page_request words query sort (filter_tree r.filter) (sort_paths r.sort.items) token = rw (for.skip_is.0, for.limit_is.0, for.text_is) refl in
       inr (filter_tree r.filter, for.filter_is, inr (sort_paths r.sort.items, for.sort_is, inr (tt, both_fit words for.skip_is.1 for.limit_is.1 ∙ fits, inr (tt, named, inr (token, read, ap (λ w. Ok w) same)))))
 
   pub words_ask : (r : Request) (token : Option Token) → ReadsText (codes "query") words.query (Ok query) → ReadsText (codes "sort") words.sort (Ok sort)

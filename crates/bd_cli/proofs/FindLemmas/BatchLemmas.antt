@@ -7,7 +7,7 @@ use Rattle.std.proofs.lemmas.Bool.{leb-true, le-ltb}
 use Rattle.std.proofs.lemmas.List.{drop_all, take_all, length-append}
 use Rattle.std.proofs.lemmas.List.FromFn.{length-range_with_len}
 use Rattle.bd_value.specs.Tree.{Doc}
-use Rattle.bd_answer.specs.Answer.{Asked, Mark, answer, at_most, before, cut, insert, insert_all, is_empty, matching, ordered, rest}
+use Rattle.bd_answer.specs.Answer.{Selection, Mark, answer, at_most, before, cut, insert, insert_all, is_empty, matching, ordered, rest}
 use Rattle.bd_answer.specs.Session.{GivenBatch, IndexMark, OpenCursor, Query, State, batch_of, cursor_of, find_call, foreign_token, gave, has_index, next_call, no_index, opened, reply, resume_call, state_after, token_after, token_place, with_open}
 use Rattle.bd_answer.proofs.AnswerLemmas.{ordered_in}
 use Rattle.bd_answer.proofs.BatchLemmas.{cut_length}
@@ -58,7 +58,7 @@ drop_length zero xs = omega arith
 drop_length (suc n) [] = omega arith
 drop_length (suc n) (x ∷ xs) = omega (arith, drop_length n xs)
 
-ordered_length : (a : Asked) → length (ordered a) ≤ a.count
+ordered_length : (a : Selection) → length (ordered a) ≤ a.count
 ordered_length a =
     omega (arith, insert_all_length (before a.by) [] (matching a), filter_length a.hits (range_with_len 0 a.count), length-range_with_len 0 a.count)
 
@@ -83,19 +83,19 @@ cut_in limit given xs x = go (limit == 0)
 abbrev pub AreInside : ℕ → List ℕ → Type 0
 AreInside n xs = (x : ℕ) → In x xs → x < n
 
-answer_inside : (a : Asked) → AreInside a.count (answer a)
+answer_inside : (a : Selection) → AreInside a.count (answer a)
 answer_inside a x h = (ordered_in a x (drop_in a.skip (ordered a) x (cut_in a.limit 0 (drop a.skip (ordered a)) x h))).0
 
-rest_inside : (a : Asked) (m : Mark) → AreInside a.count (rest a m)
+rest_inside : (a : Selection) (m : Mark) → AreInside a.count (rest a m)
 rest_inside a m x h =
     let later = filter (before a.by m.last) (ordered a) in
     (ordered_in a x (filter_in (before a.by m.last) (ordered a) x (cut_in a.limit m.given later x h)).0).0
 
-answer_length : (a : Asked) → length (answer a) ≤ a.count
+answer_length : (a : Selection) → length (answer a) ≤ a.count
 answer_length a =
     omega (arith, cut_length a.limit 0 (drop a.skip (ordered a)) (length (answer a)) (omega arith), drop_length a.skip (ordered a), ordered_length a)
 
-rest_length : (a : Asked) (m : Mark) → length (rest a m) ≤ a.count
+rest_length : (a : Selection) (m : Mark) → length (rest a m) ≤ a.count
 rest_length a m =
     let later = filter (before a.by m.last) (ordered a) in
     omega (arith, cut_length a.limit m.given later (length (rest a m)) (omega arith), filter_length (before a.by m.last) (ordered a), ordered_length a)
@@ -104,12 +104,12 @@ rest_length a m =
 abbrev pub AreFew : ℕ → List ℕ → Type 0
 AreFew n ps = AreInside n ps × (length ps ≤ n)
 
-pub led_few : (q : Query) (token : Option Token) (ps : List ℕ) → places_from q token ≡ Ok ps → AreFew q.asked.count ps
-led_few q None ps e = let same : answer q.asked ≡ ps = cc in subst (AreFew q.asked.count) same (answer_inside q.asked, answer_length q.asked)
-led_few q (Some t) ps e = go (bytes_eq t.digest q.digest) (nat_lt t.last q.asked.count) e
+pub led_few : (q : Query) (token : Option Token) (ps : List ℕ) → places_from q token ≡ Ok ps → AreFew q.selection.count ps
+led_few q None ps e = let same : answer q.selection ≡ ps = cc in subst (AreFew q.selection.count) same (answer_inside q.selection, answer_length q.selection)
+led_few q (Some t) ps e = go (bytes_eq t.digest q.digest) (nat_lt t.last q.selection.count) e
   where
-    go : (same place : Bool) → cond same (cond place (Ok (rest q.asked (mark_of t))) (Err (refused_text reasons.TokenPlace))) (Err (refused_text reasons.ForeignToken)) ≡ Ok ps → AreFew q.asked.count ps
-    go true true e = let is : rest q.asked (mark_of t) ≡ ps = cc in subst (AreFew q.asked.count) is (rest_inside q.asked (mark_of t), rest_length q.asked (mark_of t))
+    go : (same place : Bool) → cond same (cond place (Ok (rest q.selection (mark_of t))) (Err (refused_text reasons.TokenPlace))) (Err (refused_text reasons.ForeignToken)) ≡ Ok ps → AreFew q.selection.count ps
+    go true true e = let is : rest q.selection (mark_of t) ≡ ps = cc in subst (AreFew q.selection.count) is (rest_inside q.selection (mark_of t), rest_length q.selection (mark_of t))
     go true false e = absurd cc
     go false place e = absurd cc
 
@@ -170,9 +170,9 @@ module _ (q : Query) (s : State) (hint : Option (List ℕ)) where
   find_opens_first marks there (Ok id) r e f = go (has_index marks hint) there r e
     where
       go : (has : Bool) → has ≡ true → cond has (opened 1) no_index ≡ opened id
-          → s ≡ cond has (with_open (before_first marks) q.digest None (answer q.asked)) (before_first marks)
+          → s ≡ cond has (with_open (before_first marks) q.digest None (answer q.selection)) (before_first marks)
           → (xs : List ℕ) × (places_from q None ≡ Ok xs) × (cursor_of id s.cursors ≡ Some (cursor_for id q None xs))
-      go true there r e = (answer q.asked, refl, put_in marks None (answer q.asked) id r e)
+      go true there r e = (answer q.selection, refl, put_in marks None (answer q.selection) id r e)
       go false there r e = absurd cc
   find_opens_first marks there (Err refused) r e f = go (has_index marks hint) there f
     where
@@ -185,20 +185,20 @@ module _ (q : Query) (s : State) (hint : Option (List ℕ)) where
       → IfOk result (λ id. reply (before_first marks) (resume_call q hint (marked_token t)) ≡ opened id)
       → OnOk result (s ≡ state_after (before_first marks) (resume_call q hint (marked_token t)))
       → IfErr result (IsRefusedCall (reply (before_first marks) (resume_call q hint (marked_token t)))) → IsOpenedOn q (Some t) s result
-  resume_opens_first marks there t (Ok id) r e f = go (has_index marks hint) there (bytes_eq t.digest q.digest) (nat_lt t.last q.asked.count) r e
+  resume_opens_first marks there t (Ok id) r e f = go (has_index marks hint) there (bytes_eq t.digest q.digest) (nat_lt t.last q.selection.count) r e
     where
       go : (has : Bool) → has ≡ true → (same place : Bool) → cond same (cond place (cond has (opened 1) no_index) token_place) foreign_token ≡ opened id
-          → s ≡ cond same (cond place (cond has (with_open (before_first marks) q.digest (Some (marked_token t)) (rest q.asked (mark_of t))) (before_first marks)) (before_first marks)) (before_first marks)
-          → (xs : List ℕ) × (cond same (cond place (Ok (rest q.asked (mark_of t))) (Err (refused_text reasons.TokenPlace))) (Err (refused_text reasons.ForeignToken)) ≡ Ok xs)
+          → s ≡ cond same (cond place (cond has (with_open (before_first marks) q.digest (Some (marked_token t)) (rest q.selection (mark_of t))) (before_first marks)) (before_first marks)) (before_first marks)
+          → (xs : List ℕ) × (cond same (cond place (Ok (rest q.selection (mark_of t))) (Err (refused_text reasons.TokenPlace))) (Err (refused_text reasons.ForeignToken)) ≡ Ok xs)
           × (cursor_of id s.cursors ≡ Some (cursor_for id q (Some t) xs))
-      go true there true true r e = (rest q.asked (mark_of t), refl, put_in marks (Some t) (rest q.asked (mark_of t)) id r e)
+      go true there true true r e = (rest q.selection (mark_of t), refl, put_in marks (Some t) (rest q.selection (mark_of t)) id r e)
       go true there true false r e = absurd cc
       go true there false place r e = absurd cc
       go false there same place r e = absurd cc
-  resume_opens_first marks there t (Err refused) r e f = go (has_index marks hint) there (bytes_eq t.digest q.digest) (nat_lt t.last q.asked.count) f
+  resume_opens_first marks there t (Err refused) r e f = go (has_index marks hint) there (bytes_eq t.digest q.digest) (nat_lt t.last q.selection.count) f
     where
       go : (has : Bool) → has ≡ true → (same place : Bool) → IsRefusedCall (cond same (cond place (cond has (opened 1) no_index) token_place) foreign_token) refused
-          → (refused ≡ reasons.NoMemory) ⊎ (cond same (cond place (Ok (rest q.asked (mark_of t))) (Err (refused_text reasons.TokenPlace))) (Err (refused_text reasons.ForeignToken)) ≡ Err (refused_text refused))
+          → (refused ≡ reasons.NoMemory) ⊎ (cond same (cond place (Ok (rest q.selection (mark_of t))) (Err (refused_text reasons.TokenPlace))) (Err (refused_text reasons.ForeignToken)) ≡ Err (refused_text refused))
       go true there true true f = inl (only_memory 1 refused f)
       go true there true false f = inr (ap (λ r. Err (refused_text r)) (sym (only_place refused f)))
       go true there false place f = inr (ap (λ r. Err (refused_text r)) (sym (only_foreign refused f)))
@@ -219,7 +219,7 @@ module _ (q : Query) (s : State) (hint : Option (List ℕ)) where
       (subst (λ (o : State). IfErr result (IsRefusedCall (reply o (resume_call q hint (marked_token t))))) first.is_unopened f)
 
 -- it is ready to give a batch
-pub opened_ready : (q : Query) (token : Option Token) (s : State) (id : ℕ) → q.asked.count ≤ 2147483647 → IsOpenedOn q token s (Ok id) → IsReady s id q.asked.count
+pub opened_ready : (q : Query) (token : Option Token) (s : State) (id : ℕ) → q.selection.count ≤ 2147483647 → IsOpenedOn q token s (Ok id) → IsReady s id q.selection.count
 opened_ready q token s id le (ps, led, there) =
     let few = led_few q token ps led in
     record {

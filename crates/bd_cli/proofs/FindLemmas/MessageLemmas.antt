@@ -6,7 +6,7 @@ use Rattle.bd_device.specs.Devices.{Over, Reader}
 use Rattle.bd_cli.specs.Find.{IsShownByFind, ReadsInputFor}
 use Rattle.bd_command_line.specs.FindWords.{FindWords}
 use Rattle.bd_cli.specs.Find.Asking.{AsksInWords}
-use Rattle.bd_cli.specs.Shown.{read_words, shown_refusal}
+use Rattle.bd_cli.specs.Transcript.{read_words, shown_refusal}
 
 pub words_are : (f : ReadFault) (words : List ℕ) → (f ≡ reads.Device → words ≡ codes "cannot read") → (f ≡ reads.TooLong → words ≡ codes "input too long")
     → (f ≡ reads.TooManyTurns → words ≡ codes "too many reads") → (f ≡ reads.NoMemory → words ≡ codes "no memory") → words ≡ read_words f

@@ -23,10 +23,10 @@ use Rattle.bd_request.specs.declared.refused.Refused.TheVariants as reasons
 use Rattle.bd_request.specs.declared.token.Token.{Token}
 use Rattle.bd_command_line.specs.FindWords.{FindWords}
 use Rattle.bd_cli.specs.Chain.{IsRefusedOr}
-use Rattle.bd_cli.specs.Find.Asking.{AsksInDocuments, AsksInWords, FitsCounts, IsRefusedAsking, NamesIndex, ReadsFilter, ReadsSort, ReadsText, ReadsToken, Wanted, fits_counts, index_fault_text, json_fault_text, refusal_text, refused_text, wanted}
+use Rattle.bd_cli.specs.Find.Asking.{AsksInDocuments, AsksInWords, FitsCounts, IsRefusedAsking, NamesIndex, ReadsFilter, ReadsSort, ReadsText, ReadsToken, PageRequest, fits_counts, index_fault_text, json_fault_text, refusal_text, refused_text, page_request}
 use Rattle.bd_cli.specs.Find.Batch.{cursor_for, places_from, query_for}
 use Rattle.bd_cli.specs.Find.{IsRefusal, IsShownByFind, IsShownOfBytes, IsShownOfDump, LeadsTo, ReadsBytes, ReadsDump, shown_batch}
-use Rattle.bd_cli.specs.Shown.{Shown, fault_text, shown_refusal}
+use Rattle.bd_cli.specs.Transcript.{Transcript, fault_text, shown_refusal}
 
 -- ---- chains
 
@@ -121,25 +121,25 @@ dump_line bytes (Err m) (Err o) (ds, f, w, e) (es, g, v, h) =
     let same : f ≡ g = (let x = both.1 in cc) in
     ap (λ (message : List ℕ). Err message) (e ∙ ap₂ (λ (x : List Doc) (y : Fault). fault_text (length x) y) both.0 same ∙ sym h)
 
-led_line : (bytes : List ℕ) (ds : List Doc) (w : Wanted) → IsOnce (LeadsTo bytes ds w)
+led_line : (bytes : List ℕ) (ds : List Doc) (w : PageRequest) → IsOnce (LeadsTo bytes ds w)
 led_line bytes ds w a b p q = p ∙ sym q
 
 -- ---- what the words ask for
 
-abbrev refuses : List ℕ → Result Wanted (List ℕ)
+abbrev refuses : List ℕ → Result PageRequest (List ℕ)
 refuses message = Err message
 
-documents_once : (words : FindWords) (query sort : Doc) (a b : Result Wanted (List ℕ)) → AsksInDocuments words query sort a → AsksInDocuments words query sort b → a ≡ b
+documents_once : (words : FindWords) (query sort : Doc) (a b : Result PageRequest (List ℕ)) → AsksInDocuments words query sort a → AsksInDocuments words query sort b → a ≡ b
 documents_once words query sort =
-    chain_once refuses (ReadsFilter query) (λ filter asked. IsRefusedOr (IsRefusedAsking asked) (ReadsSort sort) (λ sorts. IsRefusedOr (IsRefusedAsking asked) (FitsCounts words) (λ _. IsRefusedOr (IsRefusedAsking asked) (NamesIndex words.index) (λ _. IsRefusedOr (IsRefusedAsking asked) (ReadsToken words.after) (λ token. asked ≡ Ok (wanted words query sort filter sorts token)))))) (filter_line query) (λ filter.
-    chain_once refuses (ReadsSort sort) (λ sorts asked. IsRefusedOr (IsRefusedAsking asked) (FitsCounts words) (λ _. IsRefusedOr (IsRefusedAsking asked) (NamesIndex words.index) (λ _. IsRefusedOr (IsRefusedAsking asked) (ReadsToken words.after) (λ token. asked ≡ Ok (wanted words query sort filter sorts token))))) (sort_line sort) (λ sorts.
-    chain_once refuses (FitsCounts words) (λ _ asked. IsRefusedOr (IsRefusedAsking asked) (NamesIndex words.index) (λ _. IsRefusedOr (IsRefusedAsking asked) (ReadsToken words.after) (λ token. asked ≡ Ok (wanted words query sort filter sorts token)))) (counts_line words) (λ _.
-    chain_once refuses (NamesIndex words.index) (λ _ asked. IsRefusedOr (IsRefusedAsking asked) (ReadsToken words.after) (λ token. asked ≡ Ok (wanted words query sort filter sorts token))) (index_line words.index) (λ _.
-    chain_once refuses (ReadsToken words.after) (λ token asked. asked ≡ Ok (wanted words query sort filter sorts token)) (token_line words.after) (λ token a b e f.
+    chain_once refuses (ReadsFilter query) (λ filter asked. IsRefusedOr (IsRefusedAsking asked) (ReadsSort sort) (λ sorts. IsRefusedOr (IsRefusedAsking asked) (FitsCounts words) (λ _. IsRefusedOr (IsRefusedAsking asked) (NamesIndex words.index) (λ _. IsRefusedOr (IsRefusedAsking asked) (ReadsToken words.after) (λ token. asked ≡ Ok (page_request words query sort filter sorts token)))))) (filter_line query) (λ filter.
+    chain_once refuses (ReadsSort sort) (λ sorts asked. IsRefusedOr (IsRefusedAsking asked) (FitsCounts words) (λ _. IsRefusedOr (IsRefusedAsking asked) (NamesIndex words.index) (λ _. IsRefusedOr (IsRefusedAsking asked) (ReadsToken words.after) (λ token. asked ≡ Ok (page_request words query sort filter sorts token))))) (sort_line sort) (λ sorts.
+    chain_once refuses (FitsCounts words) (λ _ asked. IsRefusedOr (IsRefusedAsking asked) (NamesIndex words.index) (λ _. IsRefusedOr (IsRefusedAsking asked) (ReadsToken words.after) (λ token. asked ≡ Ok (page_request words query sort filter sorts token)))) (counts_line words) (λ _.
+    chain_once refuses (NamesIndex words.index) (λ _ asked. IsRefusedOr (IsRefusedAsking asked) (ReadsToken words.after) (λ token. asked ≡ Ok (page_request words query sort filter sorts token))) (index_line words.index) (λ _.
+    chain_once refuses (ReadsToken words.after) (λ token asked. asked ≡ Ok (page_request words query sort filter sorts token)) (token_line words.after) (λ token a b e f.
     e ∙ sym f)))))
 
 words_once : (words : FindWords) (query sort : Doc) → ReadsText (codes "query") words.query (Ok query) → ReadsText (codes "sort") words.sort (Ok sort)
-    → (a b : Result Wanted (List ℕ)) → AsksInWords words a → AsksInWords words b → a ≡ b
+    → (a b : Result PageRequest (List ℕ)) → AsksInWords words a → AsksInWords words b → a ≡ b
 words_once words query sort is are a b (inl (m, p, e)) other = absurd (no_fault (codes "query") words.query query m is p)
 words_once words query sort is are a b (inr one) (inl (m, p, e)) = absurd (no_fault (codes "query") words.query query m is p)
 words_once words query sort is are a b (inr (x, p, inl (m, r, e))) other = absurd (no_fault (codes "sort") words.sort sort m are r)
@@ -150,10 +150,10 @@ words_once words query sort is are a b (inr (x, p, inr (v, r, e))) (inr (y, q, i
     documents_once words y w a b (subst (λ d. AsksInDocuments words d w a) queries (subst (λ d. AsksInDocuments words x d a) sorts e)) f
 
 -- two answers are one, or both are refusals
-abbrev AreAlike : Result Wanted (List ℕ) → Result Wanted (List ℕ) → Type 0
+abbrev AreAlike : Result PageRequest (List ℕ) → Result PageRequest (List ℕ) → Type 0
 AreAlike a b = (a ≡ b) ⊎ ((m : List ℕ) × (o : List ℕ) × (a ≡ Err m) × (b ≡ Err o))
 
-words_alike : (words : FindWords) (a b : Result Wanted (List ℕ)) → AsksInWords words a → AsksInWords words b → AreAlike a b
+words_alike : (words : FindWords) (a b : Result PageRequest (List ℕ)) → AsksInWords words a → AsksInWords words b → AreAlike a b
 words_alike words a b (inl (m, p, e)) (inl (o, q, f)) = inr (m, o, e, f)
 words_alike words a b (inl (m, p, e)) (inr (y, q, f)) = absurd (no_fault (codes "query") words.query y m q p)
 words_alike words a b (inr (x, p, e)) (inl (o, q, f)) = absurd (no_fault (codes "query") words.query x o p q)
@@ -165,19 +165,19 @@ words_alike words a b (inr (x, p, inr (v, r, e))) (inr (y, q, inr (w, s, f))) =
 
 -- ---- one thing is shown
 
-dump_shows_once : (bytes : List ℕ) (ds : List Doc) (w : Wanted) (s t : Shown) → IsShownOfDump bytes ds w s → IsShownOfDump bytes ds w t → s ≡ t
+dump_shows_once : (bytes : List ℕ) (ds : List Doc) (w : PageRequest) (s t : Transcript) → IsShownOfDump bytes ds w s → IsShownOfDump bytes ds w t → s ≡ t
 dump_shows_once bytes ds w =
     chain_once shown_refusal (LeadsTo bytes ds w) (λ ps shown. shown ≡ shown_batch w.batch ds (cursor_for 1 (query_for bytes ds w) w.token ps)) (led_line bytes ds w) (λ ps s t e f. e ∙ sym f)
 
-abbrev IsShownOfWanted : Result (List ℕ) ReadFault → Wanted → Shown → Type 0
-IsShownOfWanted input w shown = IsRefusedOr (IsRefusal shown) (ReadsBytes input) (λ bytes. IsShownOfBytes w bytes shown)
+abbrev IsShownOfPage : Result (List ℕ) ReadFault → PageRequest → Transcript → Type 0
+IsShownOfPage input w shown = IsRefusedOr (IsRefusal shown) (ReadsBytes input) (λ bytes. IsShownOfBytes w bytes shown)
 
-wanted_shows_once : (input : Result (List ℕ) ReadFault) (w : Wanted) (s t : Shown) → IsShownOfWanted input w s → IsShownOfWanted input w t → s ≡ t
-wanted_shows_once input w =
+page_shows_once : (input : Result (List ℕ) ReadFault) (w : PageRequest) (s t : Transcript) → IsShownOfPage input w s → IsShownOfPage input w t → s ≡ t
+page_shows_once input w =
     chain_once shown_refusal (ReadsBytes input) (λ bytes shown. IsShownOfBytes w bytes shown) (bytes_line input) (λ bytes.
     chain_once shown_refusal (ReadsDump bytes) (λ ds shown. IsShownOfDump bytes ds w shown) (dump_line bytes) (λ ds. dump_shows_once bytes ds w))
 
-pub found_once : (words : FindWords) (query sort : Doc) (input : Result (List ℕ) ReadFault) (s t : Shown)
+pub found_once : (words : FindWords) (query sort : Doc) (input : Result (List ℕ) ReadFault) (s t : Transcript)
     → ReadsText (codes "query") words.query (Ok query) → ReadsText (codes "sort") words.sort (Ok sort) → IsShownByFind words input s → IsShownByFind words input t → s ≡ t
 found_once words query sort input s t is are (inl (m, p, e)) (inl (o, q, f)) =
     let same : m ≡ o = (let x = words_once words query sort is are (Err m) (Err o) p q in cc) in e ∙ ap shown_refusal same ∙ sym f
@@ -185,18 +185,18 @@ found_once words query sort input s t is are (inl (m, p, e)) (inr (w, q, f)) = a
 found_once words query sort input s t is are (inr (v, p, e)) (inl (o, q, f)) = absurd (let x = words_once words query sort is are (Ok v) (Err o) p q in cc)
 found_once words query sort input s t is are (inr (v, p, e)) (inr (w, q, f)) =
     let same : v ≡ w = (let x = words_once words query sort is are (Ok v) (Ok w) p q in cc) in
-    wanted_shows_once input w s t (subst (λ x. IsShownOfWanted input x s) same e) f
+    page_shows_once input w s t (subst (λ x. IsShownOfPage input x s) same e) f
 
 -- of a text that is no document, the fault told is any
-abbrev LooksAlike : Shown → Shown → Type 0
+abbrev LooksAlike : Transcript → Transcript → Type 0
 LooksAlike s t = (s.out ≡ t.out) × (s.status ≡ t.status)
 
-same_looks : (s t : Shown) → s ≡ t → LooksAlike s t
-same_looks s t same = (ap (λ (z : Shown). z.out) same, ap (λ (z : Shown). z.status) same)
+same_looks : (s t : Transcript) → s ≡ t → LooksAlike s t
+same_looks s t same = (ap (λ (z : Transcript). z.out) same, ap (λ (z : Transcript). z.status) same)
 
-pub found_alike : (words : FindWords) (input : Result (List ℕ) ReadFault) (s t : Shown) → IsShownByFind words input s → IsShownByFind words input t → LooksAlike s t
+pub found_alike : (words : FindWords) (input : Result (List ℕ) ReadFault) (s t : Transcript) → IsShownByFind words input s → IsShownByFind words input t → LooksAlike s t
 found_alike words input s t (inl (m, p, e)) (inl (o, q, f)) =
-    (ap (λ (x : Shown). x.out) e ∙ sym (ap (λ (x : Shown). x.out) f), ap (λ (x : Shown). x.status) e ∙ sym (ap (λ (x : Shown). x.status) f))
+    (ap (λ (x : Transcript). x.out) e ∙ sym (ap (λ (x : Transcript). x.out) f), ap (λ (x : Transcript). x.status) e ∙ sym (ap (λ (x : Transcript). x.status) f))
 found_alike words input s t (inl (m, p, e)) (inr (w, q, f)) = go (words_alike words (Err m) (Ok w) p q)
   where
     go : AreAlike (Err m) (Ok w) → LooksAlike s t
@@ -212,7 +212,7 @@ found_alike words input s t (inr (v, p, e)) (inr (w, q, f)) = go (words_alike wo
     go : AreAlike (Ok v) (Ok w) → LooksAlike s t
     go (inl x) =
         let same : v ≡ w = cc in
-        same_looks s t (wanted_shows_once input w s t (subst (λ y. IsShownOfWanted input y s) same e) f)
+        same_looks s t (page_shows_once input w s t (subst (λ y. IsShownOfPage input y s) same e) f)
     go (inr (k, l, x, y)) = absurd cc
 
 -- ---- something is shown
@@ -268,28 +268,28 @@ token_some (Some text) = go (token_of text) refl
     go (Some t) is = (Ok (Some t), (t, is, refl))
     go None is = (Err (refused_text reasons.BadToken), (is, refl))
 
-words_some : (words : FindWords) → (a : Result Wanted (List ℕ)) × AsksInWords words a
+words_some : (words : FindWords) → (a : Result PageRequest (List ℕ)) × AsksInWords words a
 words_some words =
     chain_some refuses (ReadsText (codes "query") words.query) (λ query asked. IsRefusedOr (IsRefusedAsking asked) (ReadsText (codes "sort") words.sort) (λ sort. AsksInDocuments words query sort asked)) (text_some (codes "query") words.query) (λ query.
     chain_some refuses (ReadsText (codes "sort") words.sort) (λ sort asked. AsksInDocuments words query sort asked) (text_some (codes "sort") words.sort) (λ sort.
-    chain_some refuses (ReadsFilter query) (λ filter asked. IsRefusedOr (IsRefusedAsking asked) (ReadsSort sort) (λ sorts. IsRefusedOr (IsRefusedAsking asked) (FitsCounts words) (λ _. IsRefusedOr (IsRefusedAsking asked) (NamesIndex words.index) (λ _. IsRefusedOr (IsRefusedAsking asked) (ReadsToken words.after) (λ token. asked ≡ Ok (wanted words query sort filter sorts token)))))) (filter_some query) (λ filter.
-    chain_some refuses (ReadsSort sort) (λ sorts asked. IsRefusedOr (IsRefusedAsking asked) (FitsCounts words) (λ _. IsRefusedOr (IsRefusedAsking asked) (NamesIndex words.index) (λ _. IsRefusedOr (IsRefusedAsking asked) (ReadsToken words.after) (λ token. asked ≡ Ok (wanted words query sort filter sorts token))))) (sort_some sort) (λ sorts.
-    chain_some refuses (FitsCounts words) (λ _ asked. IsRefusedOr (IsRefusedAsking asked) (NamesIndex words.index) (λ _. IsRefusedOr (IsRefusedAsking asked) (ReadsToken words.after) (λ token. asked ≡ Ok (wanted words query sort filter sorts token)))) (counts_some words) (λ _.
-    chain_some refuses (NamesIndex words.index) (λ _ asked. IsRefusedOr (IsRefusedAsking asked) (ReadsToken words.after) (λ token. asked ≡ Ok (wanted words query sort filter sorts token))) (index_some words.index) (λ _.
-    chain_some refuses (ReadsToken words.after) (λ token asked. asked ≡ Ok (wanted words query sort filter sorts token)) (token_some words.after) (λ token.
-    (Ok (wanted words query sort filter sorts token), refl))))))))
+    chain_some refuses (ReadsFilter query) (λ filter asked. IsRefusedOr (IsRefusedAsking asked) (ReadsSort sort) (λ sorts. IsRefusedOr (IsRefusedAsking asked) (FitsCounts words) (λ _. IsRefusedOr (IsRefusedAsking asked) (NamesIndex words.index) (λ _. IsRefusedOr (IsRefusedAsking asked) (ReadsToken words.after) (λ token. asked ≡ Ok (page_request words query sort filter sorts token)))))) (filter_some query) (λ filter.
+    chain_some refuses (ReadsSort sort) (λ sorts asked. IsRefusedOr (IsRefusedAsking asked) (FitsCounts words) (λ _. IsRefusedOr (IsRefusedAsking asked) (NamesIndex words.index) (λ _. IsRefusedOr (IsRefusedAsking asked) (ReadsToken words.after) (λ token. asked ≡ Ok (page_request words query sort filter sorts token))))) (sort_some sort) (λ sorts.
+    chain_some refuses (FitsCounts words) (λ _ asked. IsRefusedOr (IsRefusedAsking asked) (NamesIndex words.index) (λ _. IsRefusedOr (IsRefusedAsking asked) (ReadsToken words.after) (λ token. asked ≡ Ok (page_request words query sort filter sorts token)))) (counts_some words) (λ _.
+    chain_some refuses (NamesIndex words.index) (λ _ asked. IsRefusedOr (IsRefusedAsking asked) (ReadsToken words.after) (λ token. asked ≡ Ok (page_request words query sort filter sorts token))) (index_some words.index) (λ _.
+    chain_some refuses (ReadsToken words.after) (λ token asked. asked ≡ Ok (page_request words query sort filter sorts token)) (token_some words.after) (λ token.
+    (Ok (page_request words query sort filter sorts token), refl))))))))
 
-pub dump_shows : (bytes : List ℕ) (ds : List Doc) (w : Wanted) → (shown : Shown) × IsShownOfDump bytes ds w shown
+pub dump_shows : (bytes : List ℕ) (ds : List Doc) (w : PageRequest) → (shown : Transcript) × IsShownOfDump bytes ds w shown
 dump_shows bytes ds w =
     chain_some shown_refusal (LeadsTo bytes ds w) (λ ps shown. shown ≡ shown_batch w.batch ds (cursor_for 1 (query_for bytes ds w) w.token ps)) (places_from (query_for bytes ds w) w.token, refl) (λ ps.
     (shown_batch w.batch ds (cursor_for 1 (query_for bytes ds w) w.token ps), refl))
 
-pub bytes_show : (w : Wanted) (bytes : List ℕ) (ds : List Doc) (end : Option Fault) → IsWalk ds end bytes → (shown : Shown) × IsShownOfBytes w bytes shown
+pub bytes_show : (w : PageRequest) (bytes : List ℕ) (ds : List Doc) (end : Option Fault) → IsWalk ds end bytes → (shown : Transcript) × IsShownOfBytes w bytes shown
 bytes_show w bytes ds None walk = let shows = dump_shows bytes ds w in (shows.0, inr (ds, walk, shows.1))
 bytes_show w bytes ds (Some f) walk = (shown_refusal (fault_text (length ds) f), inl (fault_text (length ds) f, (ds, f, walk, refl), refl))
 
-pub found_some : (words : FindWords) (bytes : List ℕ) → IsBytes bytes → (shown : Shown) × IsShownByFind words (Ok bytes) shown
+pub found_some : (words : FindWords) (bytes : List ℕ) → IsBytes bytes → (shown : Transcript) × IsShownByFind words (Ok bytes) shown
 found_some words bytes fits =
     let walk = walk_on [] [] bytes fits refl in
-    chain_some shown_refusal (AsksInWords words) (λ w shown. IsShownOfWanted (Ok bytes) w shown) (words_some words) (λ w.
+    chain_some shown_refusal (AsksInWords words) (λ w shown. IsShownOfPage (Ok bytes) w shown) (words_some words) (λ w.
     let shows = bytes_show w bytes walk.more walk.end walk.walk in (shows.0, inr (bytes, refl, shows.1)))

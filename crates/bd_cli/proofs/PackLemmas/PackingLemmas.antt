@@ -15,7 +15,7 @@ use Rattle.bd_diagnose.specs.JsonFault.{IsPlaced}
 use Rattle.bd_diagnose.specs.declared.json_fault.JsonFault.{JsonFault}
 use Rattle.bd_diagnose.specs.declared.json_fault.JsonFaultKind.TheVariants as kinds
 use Rattle.bd_pack.specs.Packable.{plain, IsPackable, IsBad}
-use Rattle.bd_cli.specs.declared.output.lines.Stopped.TheVariants.{NoMemory, Unwritten}
+use Rattle.bd_cli.specs.declared.output.lines.OutputFault.TheVariants.{NoMemory, Unwritten}
 use Rattle.bd_cli.specs.declared.pack.packing.BadLine.{BadLine}
 use Rattle.bd_pack.specs.declared.line.LineFault.{LineFault}
 use Rattle.bd_pack.specs.declared.line.LineFault.TheVariants as faults
@@ -28,7 +28,7 @@ use Rattle.bd_cli.specs.Outcome.{PrintsOrStarves, TellsMessage}
 use Rattle.bd_cli.specs.Pack.{IsShownByPack, PacksLines, pack_message, pack_status, packed_bytes, shown_pack}
 use Rattle.bd_lines.specs.Lines.{is_empty_line, text_lines}
 use Rattle.bd_cli.specs.Pack.Packing.{IsPacking, StopsPacking, left_size, lines_left}
-use Rattle.bd_cli.specs.Shown.{Shown, error_line}
+use Rattle.bd_cli.specs.Transcript.{Transcript, error_line}
 use Rattle.bd_device.specs.Devices.{BreaksWithin, TakesText, Writer, between}
 
 packed-append : (ds es : List Doc) → packed_bytes (ds ++ es) ≡ packed_bytes ds ++ packed_bytes es
@@ -68,7 +68,7 @@ packs_some number (line ∷ lines) = by_blank (is_empty_line line) refl (packs_s
 module _ (text : List ℕ) (out_old out_new : Writer) (err_old err_new : Writer) (status : Status) where
   -- something was shown that is to be shown of the text
   abbrev pub Shows : Type 0
-  Shows = (shown : Shown) × IsShownByPack (Ok text) shown × PrintsOrStarves (between out_old out_new) (between err_old err_new) shown status
+  Shows = (shown : Transcript) × IsShownByPack (Ok text) shown × PrintsOrStarves (between out_old out_new) (between err_old err_new) shown status
 
   abbrev Tells : List ℕ → Status → Type 0
   Tells told wanted = TellsMessage (between err_old err_new) told wanted status ⊎ TellsMessage (between err_old err_new) (error_line (codes "no memory")) Failed status

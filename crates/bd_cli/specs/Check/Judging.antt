@@ -8,12 +8,12 @@ use Rattle.bd_stream.specs.Stream.{AreFrames, IsCut}
 use Rattle.bd_bson.specs.Verdicts.{verdicts}
 use Rattle.bd_cli.specs.Check.{BreaksAtVerdict, JudgesWithinLimit, check_count_line, check_status, faulty_count, verdict_line, verdict_lines}
 use Rattle.bd_cli.specs.Outcome.{StreamsInput}
-use Rattle.bd_cli.specs.Shown.{error_line, read_words}
+use Rattle.bd_cli.specs.Transcript.{error_line, read_words}
 use Rattle.bd_cli.specs.declared.check.judging.Findings.{Findings}
 use Rattle.bd_cli.specs.declared.ending.Ending.{Ending}
 use Rattle.bd_cli.specs.declared.ending.Ending.TheVariants as endings
-use Rattle.bd_cli.specs.declared.output.lines.Stopped.{Stopped}
-use Rattle.bd_cli.specs.declared.output.lines.Stopped.TheVariants.{NoMemory, Unwritten}
+use Rattle.bd_cli.specs.declared.output.lines.OutputFault.{OutputFault}
+use Rattle.bd_cli.specs.declared.output.lines.OutputFault.TheVariants.{NoMemory, Unwritten}
 use Rattle.bd_cli.specs.declared.status.Status.{Status}
 use Rattle.bd_cli.specs.declared.status.Status.TheVariants.{Failed}
 
@@ -33,7 +33,7 @@ JudgesDocuments file out findings =
     × TakesText out (verdict_lines 0 vs)
 
 -- the judging was stopped
-abbrev pub StopsJudging : Over Reader → Over Writer → Stopped → Type 0
+abbrev pub StopsJudging : Over Reader → Over Writer → OutputFault → Type 0
 StopsJudging file out NoMemory =
     (bytes : List ℕ) × StreamsInput file bytes None × TakesFront out (verdict_lines 0 (verdicts bytes))
 StopsJudging file out Unwritten =
@@ -41,7 +41,7 @@ StopsJudging file out Unwritten =
     × BreaksWithin out (verdict_lines 0 (verdicts bytes)) × BreaksAtVerdict file out
 
 -- what comes of the last document: a fault of its length is told
-abbrev pub JudgesLast : Ending → ℕ → ℕ → Over Writer → Result Findings Stopped → Type 0
+abbrev pub JudgesLast : Ending → ℕ → ℕ → Over Writer → Result Findings OutputFault → Type 0
 JudgesLast endings.Whole documents bad out r =
     (r ≡ Ok (record { documents = documents; faulty = bad; unread = None })) × (out.after ≡ out.before)
 JudgesLast (endings.Faulty f) documents bad out (Ok findings) =

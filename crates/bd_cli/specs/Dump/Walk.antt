@@ -7,12 +7,12 @@ use Rattle.bd_check.specs.AnsweredFault.{fault_view}
 use Rattle.bd_stream.specs.Stream.{IsCut}
 use Rattle.bd_cli.specs.Dump.{BreaksAtDocument, EndsWithinLimit, StarvesAfterDocuments, dump_count_line}
 use Rattle.bd_cli.specs.Outcome.{StreamsInput}
-use Rattle.bd_cli.specs.Shown.{error_line, fault_text, lines, read_words}
+use Rattle.bd_cli.specs.Transcript.{error_line, fault_text, lines, read_words}
 use Rattle.bd_cli.specs.declared.ending.Ending.{Ending}
 use Rattle.bd_cli.specs.declared.ending.Ending.TheVariants as endings
 use Rattle.bd_cli.specs.declared.dump.walk.Walk.{Walk}
-use Rattle.bd_cli.specs.declared.output.lines.Stopped.{Stopped}
-use Rattle.bd_cli.specs.declared.output.lines.Stopped.TheVariants.{NoMemory, Unwritten}
+use Rattle.bd_cli.specs.declared.output.lines.OutputFault.{OutputFault}
+use Rattle.bd_cli.specs.declared.output.lines.OutputFault.TheVariants.{NoMemory, Unwritten}
 use Rattle.bd_cli.specs.declared.status.Status.{Status}
 use Rattle.bd_cli.specs.declared.status.Status.TheVariants.{Done, Failed}
 
@@ -34,7 +34,7 @@ WalksDocuments file out walk =
     (ds : List Doc) × (walk.count ≡ length ds) × EndsWalk file ds walk.ending × TakesText out (lines ds)
 
 -- the walk was stopped
-abbrev pub StopsWalk : Over Reader → Over Writer → Stopped → Type 0
+abbrev pub StopsWalk : Over Reader → Over Writer → OutputFault → Type 0
 StopsWalk file out NoMemory = StarvesAfterDocuments file out
 StopsWalk file out Unwritten = BreaksAtDocument file out
 

@@ -33,7 +33,7 @@ use Rattle.bd_cli.specs.declared.find.asking.AskingFault.TheVariants as faults
 
 -- what is asked of a dump, the text that tokens are tied to, how much of the answer is shown, and after which
 -- token it goes on
-pub record Wanted : Type 0 where
+pub record PageRequest : Type 0 where
   pub filter : Filter
   pub sorts : List SortPath
   pub skip : ℕ
@@ -122,8 +122,8 @@ ReadsToken (Some text) (Err message) = (token_of text ≡ None) × (message ≡ 
 
 -- ---- and the chain
 
-abbrev pub wanted : FindWords → Doc → Doc → Filter → List SortPath → Option Token → Wanted
-wanted words query sort filter sorts token = record {
+abbrev pub page_request : FindWords → Doc → Doc → Filter → List SortPath → Option Token → PageRequest
+page_request words query sort filter sorts token = record {
   filter = filter;
   sorts = sorts;
   skip = words.skip;
@@ -133,34 +133,34 @@ wanted words query sort filter sorts token = record {
   token = token;
 }
 
-abbrev pub IsRefusedAsking : Result Wanted (List ℕ) → List ℕ → Type 0
+abbrev pub IsRefusedAsking : Result PageRequest (List ℕ) → List ℕ → Type 0
 IsRefusedAsking asked message = asked ≡ Err message
 
 -- what is asked for by a query and a sort that are documents
-abbrev pub AsksInDocuments : FindWords → Doc → Doc → Result Wanted (List ℕ) → Type 0
+abbrev pub AsksInDocuments : FindWords → Doc → Doc → Result PageRequest (List ℕ) → Type 0
 AsksInDocuments words query sort asked =
     IsRefusedOr (IsRefusedAsking asked) (ReadsFilter query) (λ filter.
     IsRefusedOr (IsRefusedAsking asked) (ReadsSort sort) (λ sorts.
     IsRefusedOr (IsRefusedAsking asked) (FitsCounts words) (λ _.
     IsRefusedOr (IsRefusedAsking asked) (NamesIndex words.index) (λ _.
     IsRefusedOr (IsRefusedAsking asked) (ReadsToken words.after) (λ token.
-    asked ≡ Ok (wanted words query sort filter sorts token))))))
+    asked ≡ Ok (page_request words query sort filter sorts token))))))
 
 -- what the words ask for, or the message of the first that is refused: the text of the query, that of the sort,
 -- the filter, the sort, the counts, the path of the index, the token. Which index is named changes nothing else.
-abbrev pub AsksInWords : FindWords → Result Wanted (List ℕ) → Type 0
+abbrev pub AsksInWords : FindWords → Result PageRequest (List ℕ) → Type 0
 AsksInWords words asked =
     IsRefusedOr (IsRefusedAsking asked) (ReadsText (codes "query") words.query) (λ query.
     IsRefusedOr (IsRefusedAsking asked) (ReadsText (codes "sort") words.sort) (λ sort.
     AsksInDocuments words query sort asked))
 
 abbrev pub AsksNothing : FindWords → Type 0
-AsksNothing words = (w : Wanted) → ¬ (AsksInWords words (Ok w))
+AsksNothing words = (w : PageRequest) → ¬ (AsksInWords words (Ok w))
 
 -- ---- as the code has it
 
-abbrev pub wanted_by : Asking → Wanted
-wanted_by a = record {
+abbrev pub page_request_of : Asking → PageRequest
+page_request_of a = record {
   filter = filter_tree a.request.filter;
   sorts = sort_paths a.request.sort.items;
   skip = a.request.skip;

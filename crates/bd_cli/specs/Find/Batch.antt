@@ -5,27 +5,27 @@ use Rattle.std.specs.Str.{bytes_eq}
 use Rattle.bd_value.specs.Tree.{Doc}
 use Rattle.bd_answer.specs.Answer.{answer, rest}
 use Rattle.bd_answer.specs.Session.{IndexMark, OpenCursor, Query, State, cursor_of, has_index}
-use Rattle.bd_sort.specs.Asked.{query_to}
+use Rattle.bd_sort.specs.Selection.{query_to}
 use Rattle.bd_cursor.specs.SessionView.{mark_of, marked_token}
 use Rattle.bd_request.specs.declared.refused.Refused.{Refused}
 use Rattle.bd_request.specs.declared.refused.Refused.TheVariants as reasons
 use Rattle.bd_request.specs.declared.token.Token.{Token}
-use Rattle.bd_cli.specs.Find.Asking.{Wanted, refused_text}
+use Rattle.bd_cli.specs.Find.Asking.{PageRequest, refused_text}
 
 -- what is wanted of a dump of these bytes, which are these documents
-abbrev pub query_for : List ℕ → List Doc → Wanted → Query
+abbrev pub query_for : List ℕ → List Doc → PageRequest → Query
 query_for bytes ds w = query_to bytes ds w.filter w.sorts w.skip w.limit w.text
 
 -- the places after a token of this dump and this request: the digest is looked at first, then the place
 abbrev pub places_after_token : Query → Token → Result (List ℕ) (List ℕ)
 places_after_token q t =
     if bytes_eq t.digest q.digest
-    then (if nat_lt t.last q.asked.count then Ok (rest q.asked (mark_of t)) else Err (refused_text reasons.TokenPlace))
+    then (if nat_lt t.last q.selection.count then Ok (rest q.selection (mark_of t)) else Err (refused_text reasons.TokenPlace))
     else Err (refused_text reasons.ForeignToken)
 
 -- the places that are asked for: without a token the whole answer
 abbrev pub places_from : Query → Option Token → Result (List ℕ) (List ℕ)
-places_from q None = Ok (answer q.asked)
+places_from q None = Ok (answer q.selection)
 places_from q (Some t) = places_after_token q t
 
 -- ---- as a session has it

@@ -6,7 +6,7 @@ use Rattle.bd_device.specs.Devices.{Over, TakesText, Writer}
 use Rattle.bd_cli.specs.Pack.{packed_bytes, PacksLines}
 use Rattle.bd_lines.specs.Lines.{text_lines}
 use Rattle.bd_cli.specs.Output.Lines.{StopsWithin}
-use Rattle.bd_cli.specs.declared.output.lines.Stopped.{Stopped}
+use Rattle.bd_cli.specs.declared.output.lines.OutputFault.{OutputFault}
 use Rattle.bd_cli.specs.declared.pack.packing.BadLine.{BadLine}
 use Rattle.bd_cli.specs.declared.pack.packing.Packing.{Packing}
 
@@ -30,7 +30,7 @@ IsPacking text out packing =
     × TakesText out (packed_bytes ds)
 
 -- the writing of these bytes was stopped
-abbrev pub StopsPacking : List ℕ → Over Writer → Stopped → Type 0
+abbrev pub StopsPacking : List ℕ → Over Writer → OutputFault → Type 0
 StopsPacking text out stopped =
     (ds : List Doc) × (bad : Option BadLine) × PacksLines 1 (text_lines text) ds bad
     × StopsWithin out (packed_bytes ds) stopped

@@ -10,7 +10,7 @@ ghost use Rattle.bd_device.specs.Devices.{BreaksWithin, TakesText, over};
 
 use crate::ending::{Ending, ending_of};
 use crate::limits::LIMITS;
-use crate::output::lines::{Stopped, is_want_of_memory};
+use crate::output::lines::{OutputFault, is_want_of_memory};
 use crate::output::messages::write_fault;
 use bd_check::{Fault, check_document};
 use bd_device::{Input, Output, ReadFault, write_all};
@@ -48,10 +48,14 @@ fn judge(alloc: Global, bytes: &[u8], base: u64, number: u32) -> Result<Option<F
 }
 
 /// Writes the line of a document that has this fault. `line` is room that documents share.
-fn write_verdict<O: Output>(fault: &Fault, line: &mut Vec<u8>, out: &mut O) -> Result<(), Stopped>
+fn write_verdict<O: Output>(
+    fault: &Fault,
+    line: &mut Vec<u8>,
+    out: &mut O,
+) -> Result<(), OutputFault>
     ensures wrote { OnOk result (TakesText (over O.state out.old out.new) (verdict_line fault.now.document (Some (fault_view fault.now)))) }
-    ensures starved { result ≡ Err Stopped.NoMemory → out.new ≡ out.old }
-    ensures broke { result ≡ Err Stopped.Unwritten → BreaksWithin (over O.state out.old out.new) (verdict_line fault.now.document (Some (fault_view fault.now))) }
+    ensures starved { result ≡ Err OutputFault.NoMemory → out.new ≡ out.old }
+    ensures broke { result ≡ Err OutputFault.Unwritten → BreaksWithin (over O.state out.old out.new) (verdict_line fault.now.document (Some (fault_view fault.now))) }
 {
     line.clear();
     write_fault(fault, line)?;
@@ -67,7 +71,7 @@ fn finish<O: Output>(
     faulty: u32,
     line: &mut Vec<u8>,
     out: &mut O,
-) -> Result<Findings, Stopped>
+) -> Result<Findings, OutputFault>
     requires few { (documents < 4294967295) × (faulty ≤ documents) }
     ensures { JudgesLast ending documents faulty (over O.state out.old out.new) result }
 {
@@ -98,7 +102,7 @@ pub(crate) fn write_verdicts<R: Input, O: Output>(
     alloc: Global,
     input: &mut R,
     out: &mut O,
-) -> Result<Findings, Stopped>
+) -> Result<Findings, OutputFault>
     ensures judges { IfOk result (JudgesDocuments (over R.state input.old input.new) (over O.state out.old out.new)) }
     ensures stops { IfErr result (StopsJudging (over R.state input.old input.new) (over O.state out.old out.new)) }
 {
@@ -114,7 +118,7 @@ fn judge_documents<R: Input, O: Output>(
     documents: &mut DocBuffer,
     line: &mut Vec<u8>,
     out: &mut O,
-) -> Result<Findings, Stopped>
+) -> Result<Findings, OutputFault>
     requires { IsFresh documents.old }
     ensures judges { IfOk result (JudgesDocuments (over R.state input.old input.new) (over O.state out.old out.new)) }
     ensures stops { IfErr result (StopsJudging (over R.state input.old input.new) (over O.state out.old out.new)) }

@@ -5,15 +5,15 @@ ghost use Rattle.bd_value.specs.Tree.{Doc};
 ghost use Rattle.bd_check.specs.FirstFault.{first_fault};
 ghost use Rattle.bd_raw.specs.Spelling.{IsDocument};
 ghost use Rattle.bd_check.specs.AnsweredFault.{fault_view};
-ghost use Rattle.bd_cli.specs.declared.output.lines.Stopped.TheVariants.{Unwritten};
-ghost use Rattle.bd_cli.specs.Shown.{lines};
+ghost use Rattle.bd_cli.specs.declared.output.lines.OutputFault.TheVariants.{Unwritten};
+ghost use Rattle.bd_cli.specs.Transcript.{lines};
 ghost use Rattle.bd_cli.specs.Dump.Walk.{StopsWalk, WalksDocuments};
 ghost use Rattle.bd_cli.specs.Ending.{IsFresh};
 ghost use Rattle.bd_device.specs.Devices.{BreaksWithin, TakesText, over};
 
 use crate::ending::{Ending, ending_of};
 use crate::limits::LIMITS;
-use crate::output::lines::{Stopped, is_want_of_memory, write_line};
+use crate::output::lines::{OutputFault, is_want_of_memory, write_line};
 use bd_check::{Fault, check_document};
 use bd_device::{Input, Output, write_all};
 use bd_stream::DocBuffer;
@@ -37,12 +37,12 @@ fn print_document<O: Output>(
     number: u32,
     line: &mut Vec<u8>,
     out: &mut O,
-) -> Result<Option<Fault>, Stopped>
+) -> Result<Option<Fault>, OutputFault>
     requires { base + length bytes.now ≤ 4294967295 }
     ensures printed { result ≡ Ok None → (d : Doc) × IsDocument d bytes.now × TakesText (over O.state out.old out.new) (lines (d ∷ [])) }
     ensures faulty { IfOk result (λ o. IfSome o (λ f. (first_fault base bytes.now ≡ Some (fault_view f)) × (f.document ≡ number) × (out.new ≡ out.old))) }
-    ensures starved { result ≡ Err Stopped.NoMemory → out.new ≡ out.old }
-    ensures broke { result ≡ Err Stopped.Unwritten → (d : Doc) × IsDocument d bytes.now × BreaksWithin (over O.state out.old out.new) (lines (d ∷ [])) }
+    ensures starved { result ≡ Err OutputFault.NoMemory → out.new ≡ out.old }
+    ensures broke { result ≡ Err OutputFault.Unwritten → (d : Doc) × IsDocument d bytes.now × BreaksWithin (over O.state out.old out.new) (lines (d ∷ [])) }
 {
     match check_document(alloc, bytes, base, number) {
         Ok(document) => {
@@ -53,7 +53,7 @@ fn print_document<O: Output>(
         }
         Err(fault) => {
             if is_want_of_memory(&fault) {
-                return Err(Stopped::NoMemory);
+                return Err(OutputFault::NoMemory);
             }
             Ok(Some(fault))
         }
@@ -65,7 +65,7 @@ pub(crate) fn documents<R: Input, O: Output>(
     alloc: Global,
     input: &mut R,
     out: &mut O,
-) -> Result<Walk, Stopped>
+) -> Result<Walk, OutputFault>
     ensures walks { IfOk result (WalksDocuments (over R.state input.old input.new) (over O.state out.old out.new)) }
     ensures stops { IfErr result (StopsWalk (over R.state input.old input.new) (over O.state out.old out.new)) }
 {
@@ -81,7 +81,7 @@ fn print_documents<R: Input, O: Output>(
     documents: &mut DocBuffer,
     line: &mut Vec<u8>,
     out: &mut O,
-) -> Result<Walk, Stopped>
+) -> Result<Walk, OutputFault>
     requires { IsFresh documents.old }
     ensures walks { IfOk result (WalksDocuments (over R.state input.old input.new) (over O.state out.old out.new)) }
     ensures stops { IfErr result (StopsWalk (over R.state input.old input.new) (over O.state out.old out.new)) }

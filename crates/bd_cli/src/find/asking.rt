@@ -4,7 +4,7 @@ ghost use Rattle.bd_value.specs.View.{pairs};
 ghost use Rattle.bd_query.specs.Fault.{refusal_of};
 ghost use Rattle.bd_request.specs.Request.{AsksFor};
 ghost use Rattle.bd_command_line.specs.FindWords.{find_words_of};
-ghost use Rattle.bd_cli.specs.Find.Asking.{AsksInDocuments, AsksInWords, NamesIndex, ReadsText, ReadsToken, TellsAskingFault, TellsRefused, fits_batch, index_fault_text, json_fault_text, refusal_text, refused_text, wanted_by};
+ghost use Rattle.bd_cli.specs.Find.Asking.{AsksInDocuments, AsksInWords, NamesIndex, ReadsText, ReadsToken, TellsAskingFault, TellsRefused, fits_batch, index_fault_text, json_fault_text, refusal_text, refused_text, page_request_of};
 ghost use Rattle.bd_cli.specs.declared.find.asking.AskingFault.TheVariants.{NoMemory as no_memory};
 
 use bd_command_line::FindOptions;
@@ -51,7 +51,7 @@ impl From<AllocError> for AskingFault {
 
 /// What the options of `find` ask for. Without a query it is each document, without a sort the order of the dump.
 pub(crate) fn read_asking(alloc: Global, options: &FindOptions) -> Result<Asking, AskingFault>
-    ensures asking { IfOk result (λ a. AsksInWords (find_words_of options.now) (Ok (wanted_by a))) }
+    ensures asking { IfOk result (λ a. AsksInWords (find_words_of options.now) (Ok (page_request_of a))) }
     ensures fits { IfOk result (λ a. fits_batch a.size ≡ true) }
     ensures index { IfOk result (λ a. option_map (λ path. string_bytes path.text) a.index ≡ (find_words_of options.now).index) }
     ensures fault { IfErr result (TellsAskingFault (AsksInWords (find_words_of options.now))) }

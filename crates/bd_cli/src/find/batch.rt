@@ -3,20 +3,20 @@ ghost use Rattle.std.specs.Prelude.{◌≡◌, ◌++◌, ◌≤◌, ◌⊎◌, I
 ghost use Rattle.bd_answer.specs.Session.{OpenCursor, cursor_of};
 ghost use Rattle.bd_answer.specs.SessionLaws.{new_state};
 ghost use Rattle.bd_bson.specs.Collection.{bytes_of, documents};
-ghost use Rattle.bd_sort.specs.Asked.{query_of};
+ghost use Rattle.bd_sort.specs.Selection.{query_of};
 ghost use Rattle.bd_cursor.specs.SessionView.{dump_of, hint_of, marked_token, state_of};
 ghost use Rattle.bd_request.specs.declared.refused.Refused.TheVariants.{NoMemory as no_memory};
 ghost use Rattle.bd_cli.specs.Find.{IsShownOfDump, end_words, find_count_line, shown_batch, token_words};
-ghost use Rattle.bd_cli.specs.Find.Asking.{fits_batch, refused_text, wanted_by};
+ghost use Rattle.bd_cli.specs.Find.Asking.{fits_batch, refused_text, page_request_of};
 ghost use Rattle.bd_cli.specs.Find.Batch.{AwaitsFirst, IsOpenedOn, IsReady};
 ghost use Rattle.bd_cli.specs.Outcome.{PrintsOrStarves, TellsMessage};
-ghost use Rattle.bd_cli.specs.Shown.{Shown, error_line};
+ghost use Rattle.bd_cli.specs.Transcript.{Transcript, error_line};
 ghost use Rattle.bd_cli.specs.declared.status.Status.TheVariants.{Done, Failed};
 ghost use Rattle.bd_device.specs.Devices.{over};
 
 use crate::find::asking::{Asking, refused_message};
 use crate::find::found_documents::write_documents;
-use crate::output::lines::Stopped;
+use crate::output::lines::OutputFault;
 use crate::output::messages::{status_of, tell_error, tell_no_memory, tell_unwritten};
 use crate::status::Status;
 use bd_bson::Dump;
@@ -40,7 +40,7 @@ pub(crate) fn show_found<O: Output, E: Output>(
 ) -> Status
     requires few { length (documents dump) ≤ 2147483647 }
     requires fits { fits_batch asking.size ≡ true }
-    ensures { (shown : Shown) × IsShownOfDump (bytes_of dump) (documents dump) (wanted_by asking) shown
+    ensures { (shown : Transcript) × IsShownOfDump (bytes_of dump) (documents dump) (page_request_of asking) shown
         × PrintsOrStarves (over O.state out.old out.new) (over E.state err.old err.new) shown result }
 {
     let size = asking.size;
@@ -100,8 +100,8 @@ fn show_batch<O: Output, E: Output>(
     };
     match write_documents(alloc, session.dump(), &batch.places, out) {
         Ok(()) => tell_batch(alloc, &batch, err),
-        Err(Stopped::NoMemory) => tell_no_memory(err),
-        Err(Stopped::Unwritten) => tell_unwritten(err),
+        Err(OutputFault::NoMemory) => tell_no_memory(err),
+        Err(OutputFault::Unwritten) => tell_unwritten(err),
     }
 }
 

@@ -4,10 +4,10 @@ ghost use Rattle.std.specs.List.{All};
 ghost use Rattle.bd_bson.specs.Collection.{documents};
 ghost use Rattle.bd_bson.specs.Documents.{documents_at};
 ghost use Rattle.bd_cli.specs.Output.Lines.{StopsWithin};
-ghost use Rattle.bd_cli.specs.Shown.{lines};
+ghost use Rattle.bd_cli.specs.Transcript.{lines};
 ghost use Rattle.bd_device.specs.Devices.{TakesText, over};
 
-use crate::output::lines::{Stopped, write_line};
+use crate::output::lines::{OutputFault, write_line};
 use bd_bson::Dump;
 use bd_device::{Output, write_all};
 use std::alloc::Global;
@@ -18,7 +18,7 @@ pub(crate) fn write_documents<O: Output>(
     dump: &Dump,
     places: &[u32],
     out: &mut O,
-) -> Result<(), Stopped>
+) -> Result<(), OutputFault>
     requires { All (λ p. p < length (documents dump.now)) places.now }
     ensures wrote { OnOk result (TakesText (over O.state out.old out.new) (lines (documents_at (documents dump.now) places.now))) }
     ensures stops { IfErr result (StopsWithin (over O.state out.old out.new) (lines (documents_at (documents dump.now) places.now))) }

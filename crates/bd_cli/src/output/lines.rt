@@ -3,7 +3,7 @@
 ghost use Rattle.std.specs.Prelude.{◌≡◌, ◌++◌, ◌∷◌, [], OnOk, OnErr, IsTrue, ◌↔◌};
 ghost use Rattle.bd_check.specs.declared.fault.FaultKind.TheVariants as kinds;
 ghost use Rattle.bd_extjson.specs.Text.{text};
-ghost use Rattle.bd_cli.specs.declared.output.lines.Stopped.TheVariants.{NoMemory as no_memory, Unwritten};
+ghost use Rattle.bd_cli.specs.declared.output.lines.OutputFault.TheVariants.{NoMemory as no_memory, Unwritten};
 
 use bd_check::{Fault, FaultKind};
 use bd_device::DeviceFault;
@@ -13,26 +13,26 @@ use std::alloc::AllocError;
 
 /// Why writing lines did not come to its end.
 #[derive(Debug, Clone, Copy, PartialEq, Eq)]
-pub enum Stopped {
+pub enum OutputFault {
     /// Memory ran out.
     NoMemory,
     /// A write failed.
     Unwritten,
 }
 
-impl From<AllocError> for Stopped {
+impl From<AllocError> for OutputFault {
     ghost from_gives = { λ _ s. s ≡ no_memory };
 
-    fn from(_error: AllocError) -> Stopped {
-        Stopped::NoMemory
+    fn from(_error: AllocError) -> OutputFault {
+        OutputFault::NoMemory
     }
 }
 
-impl From<DeviceFault> for Stopped {
+impl From<DeviceFault> for OutputFault {
     ghost from_gives = { λ _ s. s ≡ Unwritten };
 
-    fn from(_fault: DeviceFault) -> Stopped {
-        Stopped::Unwritten
+    fn from(_fault: DeviceFault) -> OutputFault {
+        OutputFault::Unwritten
     }
 }
 

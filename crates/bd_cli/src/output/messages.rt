@@ -4,7 +4,7 @@ ghost use Rattle.std.specs.Prelude.{◌≡◌, ◌++◌, IfOk, OnErr, OnOk, code
 ghost use Rattle.bd_device.specs.Devices.{BreaksWithin, TakesText, over};
 ghost use Rattle.bd_check.specs.AnsweredFault.{fault_view};
 ghost use Rattle.bd_cli.specs.Outcome.{TellsMessage};
-ghost use Rattle.bd_cli.specs.Shown.{error_line, fault_text, place_text, read_words};
+ghost use Rattle.bd_cli.specs.Transcript.{error_line, fault_text, place_text, read_words};
 ghost use Rattle.bd_cli.specs.declared.status.Status.TheVariants.{Failed};
 
 use crate::status::Status;

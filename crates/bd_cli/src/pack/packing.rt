@@ -4,7 +4,7 @@ ghost use Rattle.bd_lines.specs.Lines.{text_lines};
 ghost use Rattle.bd_cli.specs.Pack.Packing.{IsPacking, StopsPacking, bytes_after, left_size, lines_left};
 ghost use Rattle.bd_device.specs.Devices.{over};
 
-use crate::output::lines::Stopped;
+use crate::output::lines::OutputFault;
 use bd_device::{Output, write_all};
 use bd_lines::is_empty_line;
 use bd_pack::{LineFault, Packer};
@@ -46,7 +46,7 @@ pub(crate) fn write_lines<O: Output>(
     alloc: Global,
     text: &[u8],
     out: &mut O,
-) -> Result<Packing, Stopped>
+) -> Result<Packing, OutputFault>
     requires { length text.now ≤ 4294967295 }
     ensures packs { IfOk result (IsPacking text.now (over O.state out.old out.new)) }
     ensures stops { IfErr result (StopsPacking text.now (over O.state out.old out.new)) }
@@ -62,7 +62,7 @@ fn write_packed<O: Output>(
     packer: &mut Packer,
     bytes: &mut Vec<u8>,
     out: &mut O,
-) -> Result<Packing, Stopped>
+) -> Result<Packing, OutputFault>
     requires { length text.now ≤ 4294967295 }
     ensures packs { IfOk result (IsPacking text.now (over O.state out.old out.new)) }
     ensures stops { IfErr result (StopsPacking text.now (over O.state out.old out.new)) }

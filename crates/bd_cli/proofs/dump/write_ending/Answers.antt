@@ -1,6 +1,6 @@
 use Rattle.std.proofs.Common.{◌≡◌, ◌∙◌}
 use Rattle.bd_check.specs.AnsweredFault.{fault_view}
-use Rattle.bd_cli.specs.Shown.{fault_text}
+use Rattle.bd_cli.specs.Transcript.{fault_text}
 use Rattle.bd_cli.proofs.dump.write_ending.Goals as goal
 
 pub returns-in_ok-write_error-in-Faulty-clause-ok : goal.returns-in_ok-write_error-in-Faulty-clause-ok

@@ -1,6 +1,6 @@
 use Rattle.std.proofs.Common.{◌≡◌, ◌∙◌, inl}
 use Rattle.bd_check.specs.AnsweredFault.{fault_view}
-use Rattle.bd_cli.specs.Shown.{fault_text}
+use Rattle.bd_cli.specs.Transcript.{fault_text}
 use Rattle.bd_cli.proofs.find.tell_dump_fault.Goals as goal
 
 pub returns-in-Ok : goal.returns-in-Ok

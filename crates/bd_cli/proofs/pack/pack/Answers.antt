@@ -1,7 +1,7 @@
 use Rattle.std.proofs.Common.{◌≤◌, Ok, Err, refl, length, arith}
 use Rattle.bd_cli.proofs.DumpLemmas as runs
 use Rattle.bd_cli.proofs.pack.pack.Goals as goal
-use Rattle.bd_cli.specs.Shown.{read_words, shown_refusal}
+use Rattle.bd_cli.specs.Transcript.{read_words, shown_refusal}
 
 pub returns-in-Ok : goal.returns-in-Ok
 returns-in-Ok g c =

@@ -3,7 +3,7 @@ use Rattle.std.specs.Prelude.{is_some, option_map}
 use Rattle.std.proofs.lemmas.Result.{IfOk-weaker}
 use Rattle.clap.specs.Words.{first_of, found_of, rows_of}
 use Rattle.clap.proofs.WalkLemmas.{first_value-rows}
-use Rattle.bd_command_line.specs.CommandLine.{Ordered, check, dump, find_ordered, ordered_by, pack, serve}
+use Rattle.bd_command_line.specs.CommandLine.{OrderView, check, dump, find_ordered, ordered_by, pack, serve}
 use Rattle.bd_command_line.proofs.LineLemmas.{no_file}
 use Rattle.bd_command_line.proofs.command_line.order_named.Goals as goal
 
@@ -11,7 +11,7 @@ pub unreachable-requires : goal.unreachable-requires
 unreachable-requires c =
     let found = found_of c.args.matches.now in
     let none : first_of (codes "file") (rows_of found) ≡ None = sym (c.in_default.ensures ∙ first_value-rows found (codes "file")) in
-    absurd (true≢false (sym (subst (λ (o : Option Ordered). is_some o ≡ true) (no_file c.args.name.now (rows_of found) none) c.requires)))
+    absurd (true≢false (sym (subst (λ (o : Option OrderView). is_some o ≡ true) (no_file c.args.name.now (rows_of found) none) c.requires)))
 
 pub returns-in-dump-clause-order : goal.returns-in-dump-clause-order
 returns-in-dump-clause-order c =

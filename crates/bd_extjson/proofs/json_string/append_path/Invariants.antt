@@ -1,7 +1,6 @@
-use Rattle.std.proofs.Common.{◌≡◌, ◌++◌, ◌∷◌, drop, map}
+use Rattle.std.proofs.Common.{◌≡◌, ◌<◌, ◌≤◌, ◌++◌, ◌∷◌, drop, length, map, take}
 use Rattle.std.specs.Prelude.{string_bytes}
 use Rattle.std.specs.List.{join_with_byte}
-use Rattle.std.specs.Io.{StartsWith}
 use Rattle.bd_extjson.specs.Text.{escaped}
 use Rattle.bd_extjson.proofs.PieceLemmas.{to_come}
 use Rattle.bd_extjson.proofs.json_string.append_path.Given as goal
@@ -9,6 +8,8 @@ use Rattle.bd_extjson.proofs.json_string.append_path.Given as goal
 -- what is written, and what is still to come, is the whole
 abbrev pub invariant-loop-name : goal.invariant-loop-name
 invariant-loop-name l = record {
-  whole : l.out.items ++ escaped (to_come l.later 46 (drop l.name-index (map string_bytes l.path))) ≡ l.fn.out.items ++ 34 ∷ escaped (join_with_byte 46 (map string_bytes l.path));
-  front : StartsWith l.out.items l.fn.out.items;
+  inside : l.at < length l.out.items;
+  whole : take l.at l.out.items ++ escaped (to_come l.later 46 (drop l.name-index (map string_bytes l.path))) ≡ take l.end l.fn.out.items ++ 34 ∷ escaped (join_with_byte 46 (map string_bytes l.path));
+  kept : take l.end l.out.items ≡ take l.end l.fn.out.items;
+  after : l.end ≤ l.at;
 }

@@ -1,5 +1,4 @@
-use Rattle.std.proofs.Common.{◌≡◌, ◌+◌, ◌*◌, ◌≤◌, ◌++◌, ◌∷◌, [], length}
-use Rattle.std.specs.Io.{StartsWith}
+use Rattle.std.proofs.Common.{◌≡◌, ◌+◌, ◌*◌, ◌≤◌, ◌++◌, ◌∷◌, [], length, take}
 use Rattle.bd_value.specs.Tree.{doc, array, fields_of, items_of, tree_size, fields_size}
 use Rattle.bd_value.specs.Parts.{values_of}
 use Rattle.bd_extjson.specs.Text.{text, items_text, fields_text}
@@ -9,8 +8,8 @@ use Rattle.bd_extjson.proofs.text.+text.Given as goal
 abbrev pub decreases-append_node : goal.decreases-append_node
 decreases-append_node g l = 2 * tree_size (g.N.Reading.tree l.node) + 1
 
-abbrev pub decreases-append_leaf : goal.decreases-append_leaf
-decreases-append_leaf g l = 2 * tree_size (g.N.Reading.tree l.node)
+abbrev pub decreases-append_scope : goal.decreases-append_scope
+decreases-append_scope g l = 2 * tree_size (g.N.Reading.tree l.node)
 
 abbrev pub decreases-append_fields : goal.decreases-append_fields
 decreases-append_fields g l = 2 * fields_size (fields_of (g.N.Reading.left l.fields))
@@ -22,8 +21,10 @@ decreases-append_items g l = 2 * fields_size (fields_of (g.N.Reading.left l.item
 -- what is written, and what is still to come, is the whole text
 abbrev pub invariant-append_fields-loop-name : goal.invariant-append_fields-loop-name
 invariant-append_fields-loop-name g l = record {
-  whole : l.out.items ++ (to_come l.later 44 (fields_text (fields_of (g.N.Reading.left l.rest))) ++ 125 ∷ []) ≡ l.fn.out.items ++ text (doc (fields_of (g.N.Reading.left l.fn.fields)));
-  front : StartsWith l.out.items l.fn.out.items;
+  whole : take l.at l.out.items ++ (to_come l.later 44 (fields_text (fields_of (g.N.Reading.left l.rest))) ++ 125 ∷ []) ≡ take l.end l.fn.out.items ++ text (doc (fields_of (g.N.Reading.left l.fn.fields)));
+  kept : take l.end l.out.items ≡ take l.end l.fn.out.items;
+  inside : l.at ≤ length l.out.items;
+  after : l.end ≤ l.at;
   fewer : fields_size (fields_of (g.N.Reading.left l.rest)) ≤ fields_size (fields_of (g.N.Reading.left l.fn.fields));
 }
 
@@ -32,8 +33,10 @@ decreases-append_fields-loop-name g l = length (g.N.Reading.left l.rest)
 
 abbrev pub invariant-append_items-loop-node : goal.invariant-append_items-loop-node
 invariant-append_items-loop-node g l = record {
-  whole : l.out.items ++ (to_come l.later 44 (items_text (items_of (values_of (g.N.Reading.left l.rest)))) ++ 93 ∷ []) ≡ l.fn.out.items ++ text (array (items_of (values_of (g.N.Reading.left l.fn.items))));
-  front : StartsWith l.out.items l.fn.out.items;
+  whole : take l.at l.out.items ++ (to_come l.later 44 (items_text (items_of (values_of (g.N.Reading.left l.rest)))) ++ 93 ∷ []) ≡ take l.end l.fn.out.items ++ text (array (items_of (values_of (g.N.Reading.left l.fn.items))));
+  kept : take l.end l.out.items ≡ take l.end l.fn.out.items;
+  inside : l.at ≤ length l.out.items;
+  after : l.end ≤ l.at;
   fewer : fields_size (fields_of (g.N.Reading.left l.rest)) ≤ fields_size (fields_of (g.N.Reading.left l.fn.items));
 }
 

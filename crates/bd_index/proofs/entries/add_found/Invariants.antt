@@ -2,7 +2,7 @@ use Rattle.std.proofs.Common.{◌≡◌, ◌++◌, take, map}
 use Rattle.bd_bson.specs.Collection.{bytes_of}
 use Rattle.bd_path.specs.Key.{key_trees}
 use Rattle.bd_index.specs.Entries.{keys_at}
-use Rattle.bd_index.specs.FoundView.{AreFoundIn, found_entry, raw_tree}
+use Rattle.bd_index.specs.FoundKeyView.{AreFoundIn, found_entry, raw_tree}
 use Rattle.bd_index.proofs.entries.add_found.Given as goal
 
 abbrev pub invariant-loop-key : goal.invariant-loop-key

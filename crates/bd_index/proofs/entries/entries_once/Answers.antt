@@ -1,6 +1,6 @@
 use Rattle.std.proofs.Common.{◌+◌, Some, drop, sym, ap, ◌∙◌, arith}
 use Rattle.std.proofs.lemmas.List.{drop_all}
-use Rattle.bd_index.proofs.KeptLemmas.{all_kept, joined_so_far, one_kept, repeat_passed}
+use Rattle.bd_index.proofs.EntryViewLemmas.{all_kept, joined_so_far, one_kept, repeat_passed}
 use Rattle.bd_index.proofs.entries.entries_once.Goals.{then-not-repeats+in_ok-push, else-not-repeats}
 use Rattle.bd_index.proofs.entries.entries_once.Goals as goal
 

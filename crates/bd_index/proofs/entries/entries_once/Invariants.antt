@@ -1,6 +1,6 @@
 use Rattle.std.proofs.Common.{ℕ, List, drop}
-use Rattle.bd_index.specs.FoundView.{AreFoundIn}
-use Rattle.bd_index.proofs.KeptLemmas.{KeepsSoFar}
+use Rattle.bd_index.specs.FoundKeyView.{AreFoundIn}
+use Rattle.bd_index.proofs.EntryViewLemmas.{KeepsSoFar}
 use Rattle.bd_index.proofs.entries.entries_once.Given as goal
 
 abbrev pub invariant-loop-one : goal.invariant-loop-one

@@ -7,7 +7,7 @@ use Rattle.bd_path.specs.Key.{key_trees}
 use Rattle.bd_path.specs.KeyList.{distinct}
 use Rattle.bd_path.specs.PathNames.{names_of}
 use Rattle.bd_index.specs.Entries.{has_two_keys, is_multikey}
-use Rattle.bd_index.specs.FoundView.{raw_tree}
+use Rattle.bd_index.specs.FoundKeyView.{raw_tree}
 use Rattle.bd_index.proofs.DocumentLemmas.{any_next}
 use Rattle.bd_index.proofs.multikey.has_several.Goals as goal
 

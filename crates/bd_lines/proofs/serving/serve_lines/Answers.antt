@@ -56,8 +56,8 @@ returns-in_err-answer-clause-stops g c =
     let p = err_from_is_err_and c.from_residual-in_err-answer.result c.from_residual-in_err-answer.ensures.1 in
     rw (p.1, p.2) (serving.stops_answer g.R.Input.state g.R.Input.read_gives g.S.Replier.replies c.args.lines.now.left l.lines
     c.args.reader.now l.reader (g.O.Output.state c.args.out.now) (g.O.Output.state l.out) c.args.session.now l.session l.invariant.so_far
-    c.read_next.new.self c.read_next.new.reader going r (g.O.Output.state c.answer.new.out) c.answer.new.session c.in_err-answer.field-0.0
-    e.read (λ h. let x = starved (ap Err h) in (x.0, ap g.O.Output.state x.1)) (λ h. broke (ap Err h)))
+    c.read_next.new.self c.read_next.new.reader going r g.S.Replier.stays (g.O.Output.state c.answer.new.out) c.answer.new.session
+    c.in_err-answer.field-0.0 e.read (λ h. let x = starved (ap Err h) in (x.0, ap g.O.Output.state x.1, x.2)) (λ h. broke (ap Err h)))
 
 pub returns-clause-serves : goal.returns-clause-serves
 returns-clause-serves g c =

@@ -1,4 +1,4 @@
-use Rattle.std.proofs.Common.{◌≡◌, ◌<◌, ◌≤◌, ◌-◌, ◌+◌, ◌++◌, Some, None, [], ◌∷◌, length, option_map, refl, sym, ap, ◌∙◌, rules, arith, append-nil, length-append}
+use Rattle.std.proofs.Common.{◌≡◌, ◌<◌, ◌≤◌, ◌-◌, ◌+◌, ◌++◌, Some, None, Ok, [], ◌∷◌, length, option_map, refl, sym, ap, ◌∙◌, rules, arith, append-nil, length-append}
 use Rattle.std.specs.Prelude.{decimal}
 use Rattle.std.proofs.lemmas.Result.{MatchResult-at_ok}
 use Rattle.json.specs.Json.{value, parse_map, after_end_array}
@@ -186,6 +186,15 @@ append_object-append_read-requires t c =
     let v = c.in_ok-value.value in
     let gives = steps.object_is_wrapper tree_of c.read_wrapper.result c.read_wrapper.new.reader c.in-Some.wrapper c.args.room c.args.depth (length r) r key (sym c.wrapper_named.ensures ∙ c.in-Some.is) (λ name is. c.read_wrapper.ensures.gives name is) in
     plains.object_plain c.args.room (after_key c.args.depth (length r) key r) (tree_of v) c.read_wrapper.new.reader (bodies.gave tree_of c.read_wrapper.result v c.read_wrapper.new.reader _ c.in_ok-value.ensures.value gives)
+
+pub append_object-returns-then-is_short-clause-gives : goal.append_object-returns-then-is_short-clause-gives
+append_object-returns-then-is_short-clause-gives t c =
+    let r = c.next_key.new.self in
+    let key = option_map (λ s. s.now) c.in_ok-first.first in
+    let read = MatchResult-at_ok _ _ c.in_ok-first.first (bodies.ok_is c.next_key.result c.in_ok-first.first c.in_ok-first.ensures.value) c.next_key.ensures.value in
+    let start = ap (through (wrap_object c.args.room)) (steps.first_name c.args.depth c.args.reader.now r key read) in
+    bodies.if_some c.append_short.result _ _ c.append_short.ensures.gives
+    (λ g. (g.0, start ∙ steps.object_is_wrapper (λ (x : Tree). x) (Ok g.0) c.append_short.new.reader c.in-Some.wrapper c.args.room c.args.depth (length r) r key (sym c.wrapper_named.ensures ∙ c.in-Some.is) (λ name is. g.1 c.args.room name is), g.2))
 
 pub append_object-returns-in-Some-clause-gives : goal.append_object-returns-in-Some-clause-gives
 append_object-returns-in-Some-clause-gives t c =

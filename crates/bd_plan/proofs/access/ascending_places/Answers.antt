@@ -5,7 +5,7 @@ use Rattle.bd_answer.specs.Answer.{before}
 use Rattle.bd_answer.specs.AnswerLaws.{IsAscending}
 use Rattle.bd_bson.specs.Collection.{documents}
 use Rattle.bd_path.specs.Sort.{sort_paths}
-use Rattle.bd_sort.specs.Asked.{order_of_keys}
+use Rattle.bd_sort.specs.Selection.{order_of_keys}
 use Rattle.bd_plan.proofs.AccessLemmas.{not_sorted, unsorted_ascends}
 use Rattle.bd_plan.proofs.access.ascending_places.Goals as goal
 

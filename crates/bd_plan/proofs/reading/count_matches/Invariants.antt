@@ -2,7 +2,7 @@ use Rattle.std.proofs.Common.{◌≡◌, ◌≤◌, count_by}
 use Rattle.std.specs.List.{range_with_len}
 use Rattle.bd_bson.specs.Collection.{documents}
 use Rattle.bd_query.specs.FilterView.{filter_tree}
-use Rattle.bd_sort.specs.Asked.{hits_of}
+use Rattle.bd_sort.specs.Selection.{hits_of}
 use Rattle.bd_plan.proofs.reading.count_matches.Given as goal
 
 abbrev pub invariant-loop-place : goal.invariant-loop-place

@@ -6,7 +6,7 @@ use Rattle.bd_answer.specs.Session.{by_index, by_scan, by_walk}
 use Rattle.bd_bson.specs.Collection.{documents}
 use Rattle.bd_path.specs.declared.path.Path.{Path}
 use Rattle.bd_query.specs.FilterView.{filter_tree}
-use Rattle.bd_sort.specs.Asked.{asked_of, hits_of}
+use Rattle.bd_sort.specs.Selection.{selection_of, hits_of}
 use Rattle.bd_bounds.specs.BoundsView.{seen_bounds}
 use Rattle.bd_plan.specs.AccessView.{IsAccessOf, access_path}
 use Rattle.bd_plan.specs.Explanation.{entries_within, explained_access, index_counts, index_mark, places_within}
@@ -27,8 +27,8 @@ pub returns-in-Scan : goal.returns-in-Scan
 returns-in-Scan c =
     let ds = documents c.args.dump.now in
     let r = c.args.request.now in
-    told_as by_scan None None 0 0 c.from.result (length ds) c.count_matches.result (length (matching (asked_of ds r))) refl refl (c.from.ensures ∙ c.len.ensures) (matches_of_all ds r c.count_matches.result c.count_matches.ensures)
-    ∙ ap (λ a. explained_access ds (length (matching (asked_of ds r))) (access_path a)) (sym c.in-Scan.is)
+    told_as by_scan None None 0 0 c.from.result (length ds) c.count_matches.result (length (matching (selection_of ds r))) refl refl (c.from.ensures ∙ c.len.ensures) (matches_of_all ds r c.count_matches.result c.count_matches.ensures)
+    ∙ ap (λ a. explained_access ds (length (matching (selection_of ds r))) (access_path a)) (sym c.in-Scan.is)
 
 pub returns-in_ok-from_str-in-Bounded : goal.returns-in_ok-from_str-in-Bounded
 returns-in_ok-from_str-in-Bounded c =
@@ -38,7 +38,7 @@ returns-in_ok-from_str-in-Bounded c =
     let b = seen_bounds c.in-Bounded.bounds in
     let found = c.in_ok-found-in-Bounded.found in
     let ps = found.places.items in
-    let n = length (matching (asked_of ds r)) in
+    let n = length (matching (selection_of ds r)) in
     let hits = hits_of ds (filter_tree r.filter) in
     let lead = subst (IsAccessOf c.args.dump.now r) c.in-Bounded.is c.requires in
     let w = lent_within i ds c.as_ref.result c.in-Bounded.bounds ps found.entries c.as_ref.ensures.value c.in_ok-found-in-Bounded.ensures in
@@ -56,7 +56,7 @@ returns-in_ok-from_str-in-Walk c =
     let ds = documents c.args.dump.now in
     let r = c.args.request.now in
     let i = c.in-Walk.index.now in
-    let n = length (matching (asked_of ds r)) in
+    let n = length (matching (selection_of ds r)) in
     let lead = subst (IsAccessOf c.args.dump.now r) c.in-Walk.is c.requires in
     let path = c.in_ok-from_str-in-Walk.ensures.ok ∙ c.as_str-in-Walk.ensures ∙ ap (λ (p : Path). string_bytes p.text) c.path-in-Walk.ensures in
     told_as by_walk (Some (string_bytes c.in_ok-from_str-in-Walk.field-0)) (Some (string_bytes i.path.text)) c.entries.result (index_counts ds (index_mark i)).entries

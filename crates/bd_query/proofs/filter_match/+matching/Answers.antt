@@ -1,15 +1,18 @@
-use Rattle.std.proofs.Common.{◌≡◌, ◌&&◌, ℕ, List, ◌∷◌, Some, None, map, string_bytes, sym, ap, ◌∙◌, arith}
+use Rattle.std.proofs.Common.{◌≡◌, ◌&&◌, List, Some, None, false, drop, map, string_bytes, refl, sym, ap, ◌∙◌, arith, slice_get}
 use Rattle.std.specs.List.{list_any}
 use Rattle.bd_value.specs.Lookup.{first_of}
-use Rattle.bd_value.specs.Parts.{elements_in}
-use Rattle.bd_value.specs.Tree.{Tree, items_of, pairs_in}
+use Rattle.bd_value.specs.Parts.{elements_in, values_of}
+use Rattle.bd_value.specs.Tree.{Doc, Tree, fields_of, fields_size, items_of, pairs_in}
 use Rattle.bd_value.proofs.PartsLemmas as parted
-use Rattle.bd_path.specs.Component.{index_of}
 use Rattle.bd_path.specs.Names.{Names, component_names}
 use Rattle.bd_path.specs.PathNames.{names_of}
-use Rattle.bd_path.specs.Reach.{ends, gathering_at, each_gathering, is_document, reach}
+use Rattle.bd_path.specs.Component.{held_index}
+use Rattle.bd_path.specs.Reach.{document_ends, each_gathering, ends, index_ends, is_document, reach}
+use Rattle.bd_path.specs.declared.component.Component.{Component}
 use Rattle.bd_path.proofs.EndsLemmas as some_end
+use Rattle.bd_path.proofs.PositionsLemmas as at
 use Rattle.bd_path.proofs.ReachLemmas as down
+use Rattle.bd_path.proofs.WalkedLemmas as walked
 use Rattle.bd_query.specs.Body.{is_suited, suits}
 use Rattle.bd_query.specs.Filter.{filters_from, operators_from}
 use Rattle.bd_query.specs.FilterMatch.{all_accept, all_match, any_candidate, holds, is_of_type, is_value}
@@ -17,100 +20,201 @@ use Rattle.bd_query.specs.FilterView.{filter_tree, operator_tree}
 use Rattle.bd_query.specs.declared.body.Body.TheVariants as bodies
 use Rattle.bd_query.proofs.FilterViewLemmas.{operator_tree-ElemMatch, operator_tree-ElemMatchDocument, operator_tree-Type}
 use Rattle.bd_query.proofs.filter_match.+matching.Goals as goal
+use Rattle.bd_query.proofs.filter_match.+matching.Goals.{any_end_suits_in_documents-then-is_document+else-any_end_suits, any_end_suits_in_documents-else-is_document}
 
-pub any_end_suits_at_index-any_end_suits-requires : goal.any_end_suits_at_index-any_end_suits-requires
-any_end_suits_at_index-any_end_suits-requires g t c κs within =
-    let s = down.element_smaller (g.N.Reading.tree c.args.node) c.in-Some.i (g.N.Reading.tree c.element.result) c.element.ensures.element in
-    let e = c.decreases in
-    (omega arith, within)
-
-pub any_end_suits_at_index-returns-in-Some : goal.any_end_suits_at_index-returns-in-Some
-any_end_suits_at_index-returns-in-Some g t c =
+pub any_end_suits-returns-then-k-path : goal.any_end_suits-returns-then-k-path
+any_end_suits-returns-then-k-path g t c =
     let n = g.N.Reading.tree c.args.node in
-    let f = is_suited c.args.body.now in
-    let rest = component_names c.args.path.now in
-    let len = down.length_elements n c.requires in
-    let name = string_bytes c.args.component.now.name in
-    c.any_end_suits.ensures
-    ∙ ap (list_any f) (sym (
-    down.held_some ends (elements_in n) (index_of name) c.in-Some.i rest (sym c.in-Some.is ∙ c.args.component.now.known) (omega (arith, c.len.type_inv, c.len.ensures, len))
-    ∙ down.at_index ends (elements_in n) c.in-Some.i (g.N.Reading.tree c.element.result) rest c.element.ensures.element))
-
-pub any_end_suits_at_index-returns-in_default : goal.any_end_suits_at_index-returns-in_default
-any_end_suits_at_index-returns-in_default g t c =
-    let n = g.N.Reading.tree c.args.node in
-    let f = is_suited c.args.body.now in
-    let rest = component_names c.args.path.now in
-    let len = down.length_elements n c.requires in
-    let name = string_bytes c.args.component.now.name in
-    ap (list_any f) (sym (
-    down.held_some ends (elements_in n) (index_of name) c.in-Some.i rest (sym c.in-Some.is ∙ c.args.component.now.known) (omega (arith, c.len.type_inv, c.len.ensures, len))
-    ∙ down.past_index ends (elements_in n) c.in-Some.i rest (omega (arith, c.if-i-len.false, c.len.ensures, len))))
-
-pub any_end_suits_at_index-returns-in_default-2 : goal.any_end_suits_at_index-returns-in_default-2
-any_end_suits_at_index-returns-in_default-2 g t c =
-    let n = g.N.Reading.tree c.args.node in
-    let f = is_suited c.args.body.now in
-    let name = string_bytes c.args.component.now.name in
-    ap (list_any f) (sym (down.held_none ends (elements_in n) (index_of name) (component_names c.args.path.now) (sym c.in_default.is ∙ c.args.component.now.known)))
-
-pub any_end_suits-any_end_suits-requires : goal.any_end_suits-any_end_suits-requires
-any_end_suits-any_end_suits-requires g t c κs within =
-    let s = down.first_smaller c.as_str.result.now (g.N.Reading.tree c.args.node) (g.N.Reading.tree c.in-Some-first.value) (sym c.in-Some-first.ensures.first) in
-    let e = c.decreases in
-    (omega arith, within)
-
-pub any_end_suits-returns-in-Some-first : goal.any_end_suits-returns-in-Some-first
-any_end_suits-returns-in-Some-first g t c =
-    let n = g.N.Reading.tree c.args.node in
-    let f = is_suited c.args.body.now in
-    let name = string_bytes c.in-Some.component.now.name in
-    let rest = component_names c.in-Some.rest.now in
-    let p : component_names c.args.path.now ≡ name ∷ rest = ap component_names c.in-Some.ensures.cases.0 in
-    let u = g.N.Reading.tree c.in-Some-first.value in
-    let e : first_of name (pairs_in n) ≡ Some u = ap (λ (x : List ℕ). first_of x (pairs_in n)) (sym c.as_str.ensures.value) ∙ sym c.in-Some-first.ensures.first in
-    c.any_end_suits.ensures ∙ ap (list_any f) (sym (ap (reach n) p ∙ down.found ends n u name rest (sym c.kind.ensures ∙ c.in-Doc.is) e))
-
-pub any_end_suits-returns-in-None : goal.any_end_suits-returns-in-None
-any_end_suits-returns-in-None g t c =
-    let n = g.N.Reading.tree c.args.node in
-    let f = is_suited c.args.body.now in
-    let name = string_bytes c.in-Some.component.now.name in
-    let rest = component_names c.in-Some.rest.now in
-    let p : component_names c.args.path.now ≡ name ∷ rest = ap component_names c.in-Some.ensures.cases.0 in
-    let e : first_of name (pairs_in n) ≡ None = ap (λ (x : List ℕ). first_of x (pairs_in n)) (sym c.as_str.ensures.value) ∙ sym c.in-None.ensures.first in
-    sym (ap (list_any f) (ap (reach n) p ∙ down.lost ends n name rest (sym c.kind.ensures ∙ c.in-Doc.is) e))
+    let cs = c.args.path.now in
+    some_end.one (is_suited c.args.body.now) (Some n) c.any_suits.result _ c.any_suits.ensures (walked.end_is ends n (component_names cs) c.args.k (c.if-k-path.true ∙ sym (at.as_many cs)))
 
 pub any_end_suits-returns-then-any_end_suits_in_documents : goal.any_end_suits-returns-then-any_end_suits_in_documents
 any_end_suits-returns-then-any_end_suits_in_documents g t c =
     let n = g.N.Reading.tree c.args.node in
-    let f = is_suited c.args.body.now in
-    let name = string_bytes c.in-Some.component.now.name in
-    let rest = component_names c.in-Some.rest.now in
-    let p : component_names c.args.path.now ≡ name ∷ rest = ap component_names c.in-Some.ensures.cases.0 in
-    some_end.in_first f c.any_end_suits_in_documents.result (each_gathering ends (items_of (elements_in n)) (name ∷ rest)) (gathering_at ends (items_of (elements_in n)) (index_of name) rest) _
-    (c.any_end_suits_in_documents.ensures ∙ ap (λ (x : Names). list_any f (each_gathering ends (items_of (elements_in n)) x)) p) c.if-any_end_suits_in_documents.true
-    (ap (reach n) p ∙ down.of_elements ends n name rest (sym c.kind.ensures ∙ c.in-Array.is))
+    let cs = c.args.path.now in
+    let many = at.as_many cs in
+    let m = at.named (component_names cs) c.args.k (omega (arith, many, c.requires.at, c.if-k-path.false)) in
+    some_end.in_first (is_suited c.args.body.now) c.any_end_suits_in_documents.result _ (index_ends n (drop c.args.k (component_names cs))) _ c.any_end_suits_in_documents.ensures c.if-any_end_suits_in_documents.true
+    (walked.parts_are ends n (component_names cs) c.args.k m.name (sym c.kind.ensures ∙ c.in-Array.is) m.is_there)
 
 pub any_end_suits-returns-else-any_end_suits_in_documents : goal.any_end_suits-returns-else-any_end_suits_in_documents
 any_end_suits-returns-else-any_end_suits_in_documents g t c =
     let n = g.N.Reading.tree c.args.node in
-    let f = is_suited c.args.body.now in
-    let name = string_bytes c.in-Some.component.now.name in
-    let rest = component_names c.in-Some.rest.now in
-    let p : component_names c.args.path.now ≡ name ∷ rest = ap component_names c.in-Some.ensures.cases.0 in
-    some_end.in_second f c.any_end_suits_in_documents.result c.any_end_suits_at_index.result (each_gathering ends (items_of (elements_in n)) (name ∷ rest)) (gathering_at ends (items_of (elements_in n)) (index_of name) rest) _
-    (c.any_end_suits_in_documents.ensures ∙ ap (λ (x : Names). list_any f (each_gathering ends (items_of (elements_in n)) x)) p) c.if-any_end_suits_in_documents.false
-    c.any_end_suits_at_index.ensures (ap (reach n) p ∙ down.of_elements ends n name rest (sym c.kind.ensures ∙ c.in-Array.is))
+    let cs = c.args.path.now in
+    let many = at.as_many cs in
+    let m = at.named (component_names cs) c.args.k (omega (arith, many, c.requires.at, c.if-k-path.false)) in
+    some_end.in_second (is_suited c.args.body.now) c.any_end_suits_in_documents.result c.any_end_suits_at_index.result (document_ends n (drop c.args.k (component_names cs))) (index_ends n (drop c.args.k (component_names cs))) _ c.any_end_suits_in_documents.ensures c.if-any_end_suits_in_documents.false c.any_end_suits_at_index.ensures
+    (walked.parts_are ends n (component_names cs) c.args.k m.name (sym c.kind.ensures ∙ c.in-Array.is) m.is_there)
 
-pub any_end_suits_in_documents-loop-element-init : goal.any_end_suits_in_documents-loop-element-init
-any_end_suits_in_documents-loop-element-init g t c =
+pub any_end_suits-returns-in_default : goal.any_end_suits-returns-in_default
+any_end_suits-returns-in_default g t c =
+    let n = g.N.Reading.tree c.args.node in
+    let cs = c.args.path.now in
+    let many = at.as_many cs in
+    some_end.one (is_suited c.args.body.now) None false _ refl
+    (walked.other_is ends n (component_names cs) c.args.k (λ e. c.in_default.not-Doc (c.kind.ensures ∙ e)) (λ e. c.in_default.not-Array (c.kind.ensures ∙ e)) (omega (arith, many, c.requires.at, c.if-k-path.false)))
+
+pub any_end_suits_in_field-any_end_suits-requires : goal.any_end_suits_in_field-any_end_suits-requires
+any_end_suits_in_field-any_end_suits-requires g t c κs within =
+    let n = g.N.Reading.tree c.args.node in
+    let u = g.N.Reading.tree c.in-Some.value in
+    let s = c.as_str-name.result in
+    let e : first_of s.now (pairs_in n) ≡ Some u = sym c.in-Some.ensures.first in
+    let small = down.first_smaller s.now n u e in
+    let d = c.decreases in
+    let f = is_suited c.args.body.now in (
+      omega arith,
+      (
+        within.0,
+        (
+          within.1,
+          (
+            c.requires.few,
+            (
+              omega (arith, c.requires.at),
+              walked.field_inside f ends (some_end.keeps_ends f) n c.args.path.now c.args.walked.now c.requires.vain s u c.at_field-inside.result c.requires.kind e c.at_field-inside.ensures,
+            ),
+          ),
+        ),
+      ),
+    )
+
+pub any_end_suits_in_field-returns-in-Some : goal.any_end_suits_in_field-returns-in-Some
+any_end_suits_in_field-returns-in-Some g t c =
+    let n = g.N.Reading.tree c.args.node in
+    let u = g.N.Reading.tree c.in-Some.value in
+    let cs = c.args.path.now in
+    let s = c.as_str-name.result in
+    let there : slice_get (component_names cs) c.args.k ≡ Some s.now = at.name_at cs c.args.k c.index-path-k.result c.requires.at c.index-path-k.is ∙ ap (λ (x : Component). at.some_name (string_bytes x.name)) c.index-path-k.is ∙ ap at.some_name (sym c.as_str-name.ensures.value) in
+    let e : first_of s.now (pairs_in n) ≡ Some u = sym c.in-Some.ensures.first in
+    c.any_end_suits.ensures ∙ ap (list_any (is_suited c.args.body.now)) (sym (walked.field_is ends n (component_names cs) c.args.k s.now u c.requires.kind there e))
+
+pub any_end_suits_in_field-returns-in-None : goal.any_end_suits_in_field-returns-in-None
+any_end_suits_in_field-returns-in-None g t c =
+    let n = g.N.Reading.tree c.args.node in
+    let cs = c.args.path.now in
+    let s = c.as_str-name.result in
+    let there : slice_get (component_names cs) c.args.k ≡ Some s.now = at.name_at cs c.args.k c.index-path-k.result c.requires.at c.index-path-k.is ∙ ap (λ (x : Component). at.some_name (string_bytes x.name)) c.index-path-k.is ∙ ap at.some_name (sym c.as_str-name.ensures.value) in
+    let e : first_of s.now (pairs_in n) ≡ None = sym c.in-None.ensures.first in
+    some_end.one (is_suited c.args.body.now) None false _ refl (walked.lost_is ends n (component_names cs) c.args.k s.now c.requires.kind there e)
+
+pub any_end_suits_in_documents-loop-i-init : goal.any_end_suits_in_documents-loop-i-init
+any_end_suits_in_documents-loop-i-init g t c =
+    let n = g.N.Reading.tree c.args.node in
+    let ps = g.N.Reading.left c.parts-left.result in
+    let parts = down.parts_are n ps c.requires.kind c.parts-left.ensures.parts in
+    record {
+      left = parts;
+      so_far = ap (λ (es : List Tree). list_any (is_suited c.args.body.now) (each_gathering ends (items_of es) (drop c.args.k (component_names c.args.path.now)))) parts;
+      smaller = parted.parts_smaller n ps c.parts-left.ensures.parts;
+    }
+
+pub any_end_suits_in_documents-any_end_suits-requires : goal.any_end_suits_in_documents-any_end_suits-requires
+any_end_suits_in_documents-any_end_suits-requires g t c κs within =
+    let n = g.N.Reading.tree c.args.node in
+    let u = g.N.Reading.tree c.in-Some.next.1 in
+    let us = values_of (g.N.Reading.left c.in-Some.next.2) in
+    let left = sym (ap values_of c.in-Some.ensures.some) ∙ c.loop-i.invariant.left in
+    let here = at.next_is (elements_in n) c.loop-i.i u us left in
+    let f = is_suited c.args.body.now in
+    let small = down.element_smaller n c.loop-i.i u here in
+    let d = c.decreases in (
+      omega arith,
+      (
+        within.0,
+        (
+          within.1,
+          (
+            c.requires.few,
+            (
+              omega (arith, c.requires.at),
+              walked.document_inside f ends (some_end.keeps_ends f) n c.args.path.now c.args.walked.now c.requires.vain c.requires.kind c.loop-i.i u c.at_document-inside.result here (omega (arith, c.loop-i-test.true))
+                  (sym c.is_document.ensures ∙ c.if-is_document.true) c.at_document-inside.ensures,
+            ),
+          ),
+        ),
+      ),
+    )
+
+pub any_end_suits_in_documents-loop-i-preserved : goal.any_end_suits_in_documents-loop-i-preserved
+any_end_suits_in_documents-loop-i-preserved g t c =
     let n = g.N.Reading.tree c.args.node in
     let f = is_suited c.args.body.now in
+    let p = drop c.args.k (component_names c.args.path.now) in
+    let u = g.N.Reading.tree c.in-Some.next.1 in
+    let us = values_of (g.N.Reading.left c.in-Some.next.2) in
+    let is = ap values_of c.in-Some.ensures.some in
+    let left = sym is ∙ c.loop-i.invariant.left in
+    let size = ap (λ (x : Doc). fields_size (fields_of x)) c.in-Some.ensures.some in
     record {
-      so_far = ap (λ (es : List Tree). list_any f (each_gathering ends (items_of es) (component_names c.args.path.now))) (down.parts_are n (g.N.Reading.left c.parts-left.result) c.requires c.parts-left.ensures.parts);
-      smaller = parted.parts_smaller n (g.N.Reading.left c.parts-left.result) c.parts-left.ensures.parts;
+      left = at.left_after (elements_in n) c.loop-i.i u us left;
+      so_far = elim c.if-is_document.branch [
+        | any_end_suits_in_documents-then-is_document+else-any_end_suits w ↦
+            some_end.document_passed f p u _ us _ c.loop-i.invariant.so_far is (sym c.is_document.ensures ∙ w.if-is_document.true) (sym w.any_end_suits.ensures ∙ w.if-any_end_suits.false)
+        | any_end_suits_in_documents-else-is_document w ↦ some_end.other_passed f p u _ us _ c.loop-i.invariant.so_far is (sym c.is_document.ensures ∙ w.if-is_document.false)
+      ];
+      smaller = omega (arith, size, c.loop-i.invariant.smaller);
     }
+
+pub any_end_suits_at_index-any_end_suits-requires : goal.any_end_suits_at_index-any_end_suits-requires
+any_end_suits_at_index-any_end_suits-requires g t c κs within =
+    let n = g.N.Reading.tree c.args.node in
+    let u = g.N.Reading.tree c.element-element.result in
+    let f = is_suited c.args.body.now in
+    let small = down.element_smaller n c.in-Some.i u c.element-element.ensures.element in
+    let d = c.decreases in (
+      omega arith,
+      (
+        within.0,
+        (
+          within.1,
+          (
+            c.requires.few,
+            (
+              omega (arith, c.requires.at),
+              walked.index_inside f ends (some_end.keeps_ends f) n c.args.path.now c.args.walked.now c.requires.vain c.requires.kind c.args.k c.in-Some.i u c.at_index-inside.result c.element-element.ensures.element
+                  (omega (arith, c.len.type_inv, c.if-i-len.true)) c.is_document.result c.is_document.ensures c.requires.documents c.at_index-inside.ensures,
+            ),
+          ),
+        ),
+      ),
+    )
+
+pub any_end_suits_at_index-returns-in-Some : goal.any_end_suits_at_index-returns-in-Some
+any_end_suits_at_index-returns-in-Some g t c =
+    let n = g.N.Reading.tree c.args.node in
+    let u = g.N.Reading.tree c.element-element.result in
+    let cs = c.args.path.now in
+    let names = component_names cs in
+    let m = string_bytes c.index-path-k.result.name in
+    let there = at.name_at cs c.args.k c.index-path-k.result c.requires.at c.index-path-k.is in
+    let held : held_index m ≡ Some c.in-Some.i = walked.index_at cs c.args.k c.index-path-k.result _ _ c.requires.at c.index-path-k.is c.in-Some.is in
+    c.any_end_suits.ensures
+    ∙ ap (list_any (is_suited c.args.body.now))
+    (sym (walked.first_is ends n names c.args.k m there ∙ walked.element_at ends (elements_in n) m names c.args.k c.in-Some.i u held (omega (arith, c.len.type_inv, c.if-i-len.true)) c.element-element.ensures.element))
+
+pub any_end_suits_at_index-returns-in_default : goal.any_end_suits_at_index-returns-in_default
+any_end_suits_at_index-returns-in_default g t c =
+    let n = g.N.Reading.tree c.args.node in
+    let cs = c.args.path.now in
+    let names = component_names cs in
+    let m = string_bytes c.index-path-k.result.name in
+    let there = at.name_at cs c.args.k c.index-path-k.result c.requires.at c.index-path-k.is in
+    let held : held_index m ≡ Some c.in-Some.i = walked.index_at cs c.args.k c.index-path-k.result _ _ c.requires.at c.index-path-k.is c.in-Some.is in
+    let len = down.length_elements n c.requires.kind in
+    sym (ap (list_any (is_suited c.args.body.now))
+    (walked.first_is ends n names c.args.k m there
+    ∙ walked.none_there ends (elements_in n) m _ c.in-Some.i held (omega (arith, c.if-i-len.false, c.len.ensures, len)) (omega (arith, c.len.type_inv, c.len.ensures, len))))
+
+pub any_end_suits_at_index-returns-in_default-2 : goal.any_end_suits_at_index-returns-in_default-2
+any_end_suits_at_index-returns-in_default-2 g t c =
+    let n = g.N.Reading.tree c.args.node in
+    let cs = c.args.path.now in
+    let names = component_names cs in
+    let m = string_bytes c.index-path-k.result.name in
+    let there = at.name_at cs c.args.k c.index-path-k.result c.requires.at c.index-path-k.is in
+    let held : held_index m ≡ None = walked.index_at cs c.args.k c.index-path-k.result _ _ c.requires.at c.index-path-k.is c.in_default.is in
+    sym (ap (list_any (is_suited c.args.body.now)) (walked.first_is ends n names c.args.k m there ∙ walked.no_index ends (elements_in n) m _ held))
 
 pub any_suits-loop-next-init : goal.any_suits-loop-next-init
 any_suits-loop-next-init g t c =

@@ -2,9 +2,9 @@ use Rattle.std.proofs.Common.{◌≡◌, ◌≤◌, ◌<◌, ◌+◌, ◌*◌, d
 use Rattle.std.specs.List.{list_any}
 use Rattle.bd_value.specs.Parts.{elements_in, values_of}
 use Rattle.bd_value.specs.Tree.{fields_of, fields_size, items_of, tree_size}
-use Rattle.bd_path.specs.Names.{component_names}
 use Rattle.bd_path.specs.PathNames.{names_of}
-use Rattle.bd_path.specs.Reach.{ends, each_gathering, reach}
+use Rattle.bd_path.specs.Names.{component_names}
+use Rattle.bd_path.specs.Reach.{each_gathering, ends, reach}
 use Rattle.bd_query.specs.Body.{is_suited, suits}
 use Rattle.bd_query.specs.Filter.{filters_from, operators_from}
 use Rattle.bd_query.specs.FilterMatch.{all_accept, all_hold, all_match, some_match}
@@ -30,6 +30,9 @@ decreases-holds g l = 4 * (operator_size (operator_tree l.operator.now) + tree_s
 
 abbrev pub decreases-any_end_suits : goal.decreases-any_end_suits
 decreases-any_end_suits g l = 4 * (body_size l.body.now + tree_size (g.N.Reading.tree l.node)) + 3
+
+abbrev pub decreases-any_end_suits_in_field : goal.decreases-any_end_suits_in_field
+decreases-any_end_suits_in_field g l = 4 * (body_size l.body.now + tree_size (g.N.Reading.tree l.node)) + 2
 
 abbrev pub decreases-any_end_suits_in_documents : goal.decreases-any_end_suits_in_documents
 decreases-any_end_suits_in_documents g l = 4 * (body_size l.body.now + tree_size (g.N.Reading.tree l.node)) + 2
@@ -78,16 +81,14 @@ invariant-all_accept-loop-operator g l = record {
   smaller : operators_size (operators_from (map operator_tree (drop l.operator-index l.operators))) ≤ operators_size (operators_from (map operator_tree l.operators));
 }
 
--- what is left of the array decides
-abbrev pub invariant-any_end_suits_in_documents-loop-element : goal.invariant-any_end_suits_in_documents-loop-element
-invariant-any_end_suits_in_documents-loop-element g l = record {
-  so_far : list_any (is_suited l.body) (each_gathering ends (items_of (values_of (g.N.Reading.left l.left))) (component_names l.path))
-      ≡ list_any (is_suited l.body) (each_gathering ends (items_of (elements_in (g.N.Reading.tree l.fn.node))) (component_names l.path));
+-- no end suits in the documents before those that are left
+abbrev pub invariant-any_end_suits_in_documents-loop-i : goal.invariant-any_end_suits_in_documents-loop-i
+invariant-any_end_suits_in_documents-loop-i g l = record {
+  left : values_of (g.N.Reading.left l.left) ≡ drop l.i (elements_in (g.N.Reading.tree l.fn.node));
+  so_far : list_any (is_suited l.body) (each_gathering ends (items_of (values_of (g.N.Reading.left l.left))) (drop l.k (component_names l.path)))
+      ≡ list_any (is_suited l.body) (each_gathering ends (items_of (elements_in (g.N.Reading.tree l.fn.node))) (drop l.k (component_names l.path)));
   smaller : fields_size (fields_of (g.N.Reading.left l.left)) < tree_size (g.N.Reading.tree l.fn.node);
 }
-
-abbrev pub decreases-any_end_suits_in_documents-loop-element : goal.decreases-any_end_suits_in_documents-loop-element
-decreases-any_end_suits_in_documents-loop-element g l = length (g.N.Reading.left l.left)
 
 abbrev pub invariant-any_suits-loop-next : goal.invariant-any_suits-loop-next
 invariant-any_suits-loop-next g l = record {

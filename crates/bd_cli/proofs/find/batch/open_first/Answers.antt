@@ -1,7 +1,7 @@
 use Rattle.std.proofs.Common.{Option, inl, subst, sym}
 use Rattle.std.proofs.lemmas.Result.{err_from_is_err_and}
 use Rattle.bd_bson.specs.declared.collection.Dump.{Dump}
-use Rattle.bd_sort.specs.Asked.{query_of}
+use Rattle.bd_sort.specs.Selection.{query_of}
 use Rattle.bd_cursor.specs.SessionView.{dump_of, hint_of, state_of}
 use Rattle.bd_request.specs.declared.token.Token.{Token}
 use Rattle.bd_cli.specs.Find.Batch.{IsOpenedOn}

@@ -8,7 +8,7 @@ use Rattle.bd_cli.proofs.FindLemmas.BatchLemmas.{batch_given, given_is, taken_in
 use Rattle.bd_cli.proofs.find.batch.show_batch.Goals as goal
 use Rattle.bd_bson.specs.Documents.{documents_at}
 use Rattle.bd_cli.specs.Find.{shown_batch}
-use Rattle.bd_cli.specs.Shown.{lines}
+use Rattle.bd_cli.specs.Transcript.{lines}
 use Rattle.bd_device.specs.Devices.{BreaksWithin, TakesFront, TakesText, over}
 
 pub returns-in_default : goal.returns-in_default

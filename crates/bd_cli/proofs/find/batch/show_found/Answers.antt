@@ -1,13 +1,13 @@
 use Rattle.std.proofs.Common.{◌≡◌, Ok, Err, length, refl, sym, ◌∙◌, subst, inr}
 use Rattle.bd_bson.specs.Collection.{bytes_of, documents}
 use Rattle.bd_bson.specs.declared.collection.Dump.{Dump}
-use Rattle.bd_sort.specs.Asked.{query_of}
+use Rattle.bd_sort.specs.Selection.{query_of}
 use Rattle.bd_cursor.specs.SessionView.{state_of}
 use Rattle.bd_cli.proofs.FindLemmas as finds
 use Rattle.bd_cli.proofs.FindLemmas.BatchLemmas.{opened_ready}
 use Rattle.bd_cli.proofs.find.batch.show_found.Goals as goal
 use Rattle.bd_cli.specs.Find.{shown_batch}
-use Rattle.bd_cli.specs.Find.Asking.{wanted_by}
+use Rattle.bd_cli.specs.Find.Asking.{page_request_of}
 use Rattle.bd_cli.specs.Find.Batch.{IsOpenedOn, IsReady, cursor_for, places_from}
 use Rattle.bd_cli.specs.Outcome.{PrintsOrStarves}
 use Rattle.bd_device.specs.Devices.{over}
@@ -22,7 +22,7 @@ show_batch-requires-clause-ready g c =
 pub returns-in-Ok : goal.returns-in-Ok
 returns-in-Ok g c =
     let q = query_of c.args.dump c.args.asking.request in
-    let w = wanted_by c.args.asking in
+    let w = page_request_of c.args.asking in
     let token = c.args.asking.token in
     let o : IsOpenedOn q token (state_of c.open_first.new.session) (Ok c.in-Ok.id) = rw c.in-Ok.is at (rw c.new-session.ensures.dump at c.open_first.ensures.opened) in
     let back : Ok o.0 ≡ places_from q token = sym {b = Ok o.0} o.1 in
@@ -37,4 +37,4 @@ pub returns : goal.returns
 returns g c =
     let q = query_of c.args.dump c.args.asking.request in
     let o : IsOpenedOn q c.args.asking.token (state_of c.open_first.new.session) (Err c.in-Err.refused) = rw c.in-Err.is at (rw c.new-session.ensures.dump at c.open_first.ensures.opened) in
-    finds.refused_shown (g.O.Output.state c.args.out.now) (g.O.Output.state c.args.out.now) (g.E.Output.state c.args.err.now) (g.E.Output.state c.tell_refused.new.err) _ (bytes_of c.args.dump) (documents c.args.dump) (wanted_by c.args.asking) c.in-Err.refused o c.tell_refused.ensures
+    finds.refused_shown (g.O.Output.state c.args.out.now) (g.O.Output.state c.args.out.now) (g.E.Output.state c.args.err.now) (g.E.Output.state c.tell_refused.new.err) _ (bytes_of c.args.dump) (documents c.args.dump) (page_request_of c.args.asking) c.in-Err.refused o c.tell_refused.ensures

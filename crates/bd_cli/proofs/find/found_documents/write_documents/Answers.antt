@@ -6,7 +6,7 @@ use Rattle.bd_raw.specs.Sound.{stands}
 use Rattle.bd_bson.specs.Collection.{documents}
 use Rattle.bd_extjson.specs.Text.{text}
 use Rattle.bd_bson.specs.Documents.{documents_at}
-use Rattle.bd_cli.specs.Shown.{lines}
+use Rattle.bd_cli.specs.Transcript.{lines}
 use Rattle.bd_cli.proofs.FindLemmas as finds
 use Rattle.bd_cli.proofs.OutputLemmas.LinesLemmas.{breaks_piece, front_taken, takes_both}
 use Rattle.bd_cli.proofs.find.found_documents.write_documents.Goals as goal

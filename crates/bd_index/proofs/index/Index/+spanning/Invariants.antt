@@ -1,5 +1,5 @@
 use Rattle.std.proofs.Common.{◌≤◌, length, All}
-use Rattle.bd_index.specs.Indexed.{IsIndexOf}
+use Rattle.bd_index.specs.IndexView.{IsIndexOf}
 use Rattle.bd_index.proofs.CoverLemmas.{GapsSoFar, UnionSoFar}
 use Rattle.bd_index.proofs.index.Index.+spanning.Given as goal
 

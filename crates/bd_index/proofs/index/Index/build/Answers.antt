@@ -4,7 +4,7 @@ use Rattle.bd_bson.specs.Collection.{bytes_of, documents}
 use Rattle.bd_path.specs.PathNames.{names_of}
 use Rattle.bd_index.specs.Entries.{entries_of}
 use Rattle.bd_index.proofs.CountLemmas.{as_long, many_by_count}
-use Rattle.bd_index.proofs.KeptLemmas.{as_many_kept}
+use Rattle.bd_index.proofs.EntryViewLemmas.{as_many_kept}
 use Rattle.bd_index.proofs.index.Index.build.Goals as goal
 
 pub returns-clause-index : goal.returns-clause-index

@@ -2,7 +2,7 @@ use Rattle.std.proofs.Common.{arith}
 use Rattle.bd_bson.specs.Collection.{bytes_of, documents}
 use Rattle.bd_path.specs.PathNames.{names_of}
 use Rattle.bd_index.proofs.CountLemmas.{as_long}
-use Rattle.bd_index.proofs.KeptLemmas.{as_many_kept}
+use Rattle.bd_index.proofs.EntryViewLemmas.{as_many_kept}
 use Rattle.bd_index.proofs.index.Index.entries.Goals as goal
 
 pub returns : goal.returns

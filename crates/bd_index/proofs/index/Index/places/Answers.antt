@@ -6,7 +6,7 @@ use Rattle.std.proofs.lemmas.List.Filters.{dedup_is}
 use Rattle.std.proofs.lemmas.List.Sorted.{list_any-IsPermutation}
 use Rattle.std.proofs.lemmas.Map.Keys.{IsStrictlyIncreasing-dedup}
 use Rattle.bd_index.specs.Spans.{AreInOrder, CoverKeys}
-use Rattle.bd_index.specs.Within.{lent_bounds}
+use Rattle.bd_index.specs.BoundedPlaces.{lent_bounds}
 use Rattle.bd_index.specs.declared.span.Span.{Span}
 use Rattle.bd_bounds.specs.Bounds.{is_among}
 use Rattle.bd_index.proofs.OrderLemmas.{count_kept}

@@ -3,7 +3,7 @@ use Rattle.bd_bson.specs.Collection.{documents}
 use Rattle.bd_path.specs.PathNames.{names_of}
 use Rattle.bd_path.specs.declared.dir.Dir.{Dir}
 use Rattle.bd_path.specs.declared.dir.Dir.TheVariants.{Up, Down}
-use Rattle.bd_index.specs.Ahead.{entries_ahead}
+use Rattle.bd_index.specs.EntriesAhead.{entries_ahead}
 use Rattle.bd_index.specs.Entries.{AreEntries}
 use Rattle.bd_index.proofs.WalkLemmas.{AreOrdered, from_above, room_for, upward, walks_fresh}
 use Rattle.bd_index.proofs.index.Index.walk.Goals.{in-Up, in-Down}

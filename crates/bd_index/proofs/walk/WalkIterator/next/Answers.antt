@@ -1,6 +1,6 @@
 use Rattle.std.proofs.Common.{length, refl, true}
 use Rattle.std.proofs.Math.ListN.{length-set}
-use Rattle.bd_index.specs.Ahead.{places_ahead}
+use Rattle.bd_index.specs.EntriesAhead.{places_ahead}
 use Rattle.bd_index.proofs.WalkLemmas.{room_after}
 use Rattle.bd_index.proofs.walk.WalkIterator.next.Goals as goal
 

@@ -5,10 +5,10 @@ use Rattle.bd_answer.specs.Session.{is_on}
 use Rattle.bd_bson.specs.Collection.{documents}
 use Rattle.bd_path.specs.Sort.{sort_paths}
 use Rattle.bd_query.specs.FilterView.{filter_tree}
-use Rattle.bd_index.specs.Indexed.{IsIndexOf}
+use Rattle.bd_index.specs.IndexView.{IsIndexOf}
 use Rattle.bd_plan.specs.AccessPath.{access_of}
 use Rattle.bd_plan.specs.Explanation.{index_mark}
-use Rattle.bd_plan.proofs.ChosenLemmas.{if_ok}
+use Rattle.bd_plan.proofs.AccessChoiceLemmas.{if_ok}
 use Rattle.bd_plan.proofs.IndexesLemmas.{access_elsewhere, access_named, found_below}
 use Rattle.bd_plan.proofs.access.Access.of.Goals as goal
 

@@ -1,0 +1,147 @@
+"""Other programs that do what bsonfind does, where they are installed: libbson, bsondump, python's module bson, jq and mongoexport."""
+
+import functools
+import importlib.util
+import json
+import os
+import shutil
+import subprocess
+import sys
+from pathlib import Path
+from typing import NamedTuple
+
+OWN = "bsonfind"
+# Dates of the orders are below 2^41, amounts below 2^40.
+LATE = 1 << 40
+MUCH = 1 << 39
+
+PYTHON = """
+import bson, datetime, sys
+from bson import json_util
+date = lambda milliseconds: datetime.datetime(1970, 1, 1) + datetime.timedelta(milliseconds=milliseconds)
+canonical = json_util.CANONICAL_JSON_OPTIONS
+documents = lambda: bson.decode_file_iter(open(sys.argv[1], "rb"))
+show = lambda d: print(json_util.dumps(d, json_options=canonical))
+"""
+COMMANDS = {
+    "check": "for d in documents(): pass",
+    "dump": "for d in documents(): show(d)",
+    "pack": "for line in open(sys.argv[1], 'rb'): sys.stdout.buffer.write(bson.encode(json_util.loads(line)))",
+}
+
+
+def python(body: str, file: str) -> list[str]:
+    return [sys.executable, "-c", PYTHON + body, file]
+
+
+def has_bson() -> bool:
+    return importlib.util.find_spec("bson") is not None
+
+
+@functools.cache
+def libbson(room: str) -> str | None:
+    """The program over libbson, built below a room, where that and a compiler are installed."""
+    if not shutil.which("cc") or not shutil.which("pkg-config"):
+        return None
+    flags = subprocess.run(["pkg-config", "--cflags", "--libs", "libbson-1.0"], capture_output=True, text=True)
+    if flags.returncode:
+        return None
+    source = Path(__file__).resolve().parent / "libbson.c"
+    subprocess.run(["cc", "-O2", "-o", f"{room}/libbson", str(source), *flags.stdout.split()], check=True)
+    return f"{room}/libbson"
+
+
+def of_files(inputs: dict[str, str], room: str) -> dict[str, dict[str, list[str]]]:
+    """The words of each command by each of them."""
+    words: dict[str, dict[str, list[str]]] = {command: {} for command in inputs}
+    built = libbson(room)
+    for command, file in inputs.items():
+        if built:
+            words[command]["libbson"] = [built, command, file]
+        if command == "dump" and shutil.which("bsondump"):
+            words[command]["bsondump"] = ["bsondump", "--quiet", file]
+        if has_bson():
+            words[command]["python3 bson"] = python(COMMANDS[command], file)
+    return words
+
+
+class Query(NamedTuple):
+    """A request for orders: the options of bsonfind and of mongoexport; and which lines, and how all of these are sorted and cut, in
+    the words of jq, and of python."""
+
+    name: str
+    options: dict[str, str]
+    select: str = "."
+    sort: str = ""
+    test: str = "True"
+    key: str = ""
+
+    def words(self) -> list[str]:
+        return [word for name, value in self.options.items() for word in (f"--{name}", value)]
+
+
+def queries(order: dict) -> list[Query]:
+    """One order by its id, and many."""
+    one = order["_id"]
+    late = json.dumps({"$date": {"$numberLong": str(LATE)}})
+    three = f'{{"customer.name":{{"$gte":"r"}},"items.gift":true,"placed":{{"$gte":{late}}}}}'
+    placed = '(.placed["$date"]["$numberLong"] | tonumber)'
+    return [
+        Query(
+            "one by its id",
+            {"query": json.dumps({"_id": one})},
+            f'select(._id["$oid"] == "{one["$oid"]}")',
+            test=f'd["_id"] == bson.ObjectId("{one["$oid"]}")',
+        ),
+        Query(
+            "by three conditions, the last 100 by date",
+            {"query": three, "sort": '{"placed":-1}', "limit": "100"},
+            f'select(.customer.name >= "r" and any(.items[]; .gift) and {placed} >= {LATE})',
+            f"sort_by(-{placed}) | .[:100][]",
+            f'd["customer"]["name"] >= "r" and any(i["gift"] for i in d["items"]) and d["placed"] >= date({LATE})',
+            '(lambda d: d["placed"], True, 100)',
+        ),
+        Query(
+            "in an array, the first 20 by date",
+            {"query": f'{{"items.cents":{{"$gte":{MUCH}}}}}', "sort": '{"placed":1}', "limit": "20"},
+            f'select(any(.items[]; (.cents["$numberLong"] | tonumber) >= {MUCH}))',
+            f"sort_by({placed}) | .[:20][]",
+            f'any(i["cents"] >= {MUCH} for i in d["items"])',
+            '(lambda d: d["placed"], False, 20)',
+        ),
+        Query(
+            "all, by a name",
+            {"sort": '{"customer.name":1}'},
+            sort="sort_by(.customer.name)[]",
+            key='(lambda d: d["customer"]["name"], False, None)',
+        ),
+        Query("all", {}),
+    ]
+
+
+def of_query(query: Query, program: str, dump: str) -> dict[str, list[str]]:
+    """The words that find the same."""
+    words = {}
+    if has_bson():
+        found = f"[d for d in documents() if {query.test}]"
+        body = f"key, down, limit = {query.key}\nfor d in sorted({found}, key=key, reverse=down)[:limit]: show(d)" if query.key else f"for d in {found}: show(d)"
+        words["python3 bson"] = python(body, dump)
+    if shutil.which("jq"):
+        sort = f" | jq -cs '{query.sort}'" if query.sort else ""
+        words["dump | jq"] = ["sh", "-c", f"\"$0\" dump \"$1\" | jq -c '{query.select}'{sort}", program, dump]
+    if has_server():
+        words["mongoexport"] = ["mongoexport", *SERVER, "--quiet", "--jsonFormat=canonical", *query.words()]
+    return words
+
+
+SERVER = [f"--uri={os.environ.get('MONGODB_URI', '')}", "--db=bench", "--collection=orders"]
+
+
+def has_server() -> bool:
+    return "MONGODB_URI" in os.environ and all(map(shutil.which, ("mongorestore", "mongoexport")))
+
+
+def restore(dump: str) -> None:
+    """Puts a dump into the server, where there is one."""
+    if has_server():
+        subprocess.run(["mongorestore", *SERVER, "--quiet", "--drop", dump], check=True)

@@ -1,0 +1,30 @@
+-- Texts whose bytes are all ASCII.
+use Rattle.std.proofs.Common.{◌≡◌, ℕ, ◌+◌, ◌-◌, ◌<◌, ◌≤◌, Bool, true, false, List, length, get_or, take, drop, refl, ap, ◌∙◌, subst, arith, inl, inr}
+use Rattle.std.specs.Prelude.{nat_lt, IsAscii}
+use Rattle.std.specs.List.{list_any}
+use Rattle.std.proofs.lemmas.Bool.{cases_lt, ltb-false}
+use Rattle.std.proofs.lemmas.List.{get_or-take, get_or-drop, get_or_past}
+use Rattle.std.proofs.lemmas.List.Folds.{list_any_at}
+
+abbrev beyond : ℕ → Bool
+beyond b = nat_lt 127 b
+
+not_true : (b : Bool) → (b ≡ true → ⊥) → b ≡ false
+not_true true h = absurd (h refl)
+not_true false h = refl
+
+pub none_beyond : (xs : List ℕ) → list_any beyond xs ≡ false → IsAscii xs
+none_beyond xs e = λ i. elim (cases_lt i (length xs)) [
+  | inl lt ↦ let le = ltb-false 127 (get_or xs i 0) (not_true (beyond (get_or xs i 0)) (λ t. let f = list_any_at beyond xs i 0 lt t in cc)) in omega (arith, le)
+  | inr past ↦ rw (get_or_past xs i 0 past) (omega arith)
+]
+
+-- of bytes at most twice as many the first and the last are all
+pub both_ends : (size : ℕ) (xs first last : List ℕ) → size ≤ length xs → length xs ≤ size + size → first ≡ take size xs → last ≡ drop (length xs - size) xs → list_any beyond first ≡ false → list_any beyond last ≡ false → IsAscii xs
+both_ends size xs first last fits near front back one two = λ i. elim (cases_lt i size) [
+  | inl lt ↦ subst (λ (b : ℕ). b < 128) (ap (λ (l : List ℕ). get_or l i 0) front ∙ get_or-take size xs i 0 lt) (none_beyond first one i)
+  | inr high ↦
+      let k = length xs - size in
+      let there : k + (i - k) ≡ i = omega arith in
+      subst (λ (b : ℕ). b < 128) (ap (λ (l : List ℕ). get_or l (i - k) 0) back ∙ get_or-drop k xs (i - k) 0 ∙ ap (λ (j : ℕ). get_or xs j 0) there) (none_beyond last two (i - k))
+]

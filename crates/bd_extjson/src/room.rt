@@ -1,0 +1,90 @@
+//! Text that is written into place: the first `end` bytes are text, and those after them room for more.
+ghost use Rattle.std.specs.Prelude.{◌≡◌, ◌≤◌, ◌<◌, ◌+◌, ◌++◌, ◌∷◌, [], IfOk, OnOk, OnErr, is_ok, length, take};
+
+use bd_value::NoMemory;
+use std::alloc::AllocError;
+
+/// How much more room is made than is wanted, so that it is made seldom.
+const SPARE: usize = 512;
+
+/// More room than the text of a value takes that holds neither text nor bytes.
+pub(crate) const VALUE: usize = 80;
+
+/// Makes room for so many bytes after the text.
+#[inline(always)]
+pub(crate) fn make_room(out: &mut Vec<u8>, end: usize, size: usize) -> Result<(), NoMemory>
+    requires { end ≤ length out.old.items }
+    ensures room { OnOk result (end + size ≤ length out.new.items) }
+    ensures kept { take end out.new.items ≡ take end out.old.items }
+    ensures within { end ≤ length out.new.items }
+    ensures err { OnErr result (out.new.items ≡ out.old.items) }
+{
+    if size <= out.len() - end {
+        return Ok(());
+    }
+    add_room(out, end, size)
+}
+
+/// `make_room` where there is too little.
+#[cold]
+#[inline(never)]
+fn add_room(out: &mut Vec<u8>, end: usize, size: usize) -> Result<(), NoMemory>
+    requires { (end ≤ length out.old.items) × (length out.old.items < end + size) }
+    ensures room { OnOk result (end + size ≤ length out.new.items) }
+    ensures kept { take end out.new.items ≡ take end out.old.items }
+    ensures within { end ≤ length out.new.items }
+    ensures err { OnErr result (out.new.items ≡ out.old.items) }
+{
+    let Some(wanted) = size.checked_add(SPARE) else {
+        return Err(AllocError);
+    };
+    let Some(wanted) = wanted.checked_add(end) else {
+        return Err(AllocError);
+    };
+    out.resize(wanted, 0)
+}
+
+/// Writes bytes after the text, and gives the end of all.
+#[inline(always)]
+pub(crate) fn put(bytes: &[u8], room: &mut [u8], end: usize) -> usize
+    requires { end + length bytes.now ≤ length room.old }
+    ensures put { take result room.new ≡ take end room.old ++ bytes.now }
+    ensures end { result ≡ end + length bytes.now }
+{
+    let after = end + bytes.len();
+    room[end..after].copy_from_slice(bytes);
+    after
+}
+
+/// Writes a byte after the text, and gives the end of both.
+#[inline(always)]
+pub(crate) fn put_byte(byte: u8, room: &mut [u8], end: usize) -> usize
+    requires { end < length room.old }
+    ensures put { take result room.new ≡ take end room.old ++ byte ∷ [] }
+    ensures end { result ≡ end + 1 }
+{
+    room[end] = byte;
+    end + 1
+}
+
+/// Lets go of what is no text: of all after its end, or where there is none, after what stood before.
+pub(crate) fn settle(
+    end: Result<usize, NoMemory>,
+    before: usize,
+    out: &mut Vec<u8>,
+) -> Result<(), NoMemory>
+    ensures ok { OnOk result (IfOk end (λ e. out.new.items ≡ take e out.old.items)) }
+    ensures err { OnErr result (out.new.items ≡ take before out.old.items) }
+    ensures same { is_ok result ≡ is_ok end }
+{
+    match end {
+        Ok(end) => {
+            out.truncate(end);
+            Ok(())
+        }
+        Err(error) => {
+            out.truncate(before);
+            Err(error)
+        }
+    }
+}

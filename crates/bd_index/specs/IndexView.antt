@@ -1,0 +1,77 @@
+-- Which dump an index is of.
+use Rattle.std.specs.Prelude.{◌≡◌, ℕ, List, [], ◌∷◌, Bool}
+use Rattle.std.specs.List.{All}
+use Rattle.std.specs.Coded.{Coded-set, coded_ℕ}
+use Rattle.std.proofs.Common.{ap₂, sym, ◌∙◌}
+use Rattle.std.proofs.Props.{props}
+use mathlib.Core.HLevel.{is_prop→PathP}
+use Rattle.bd_value.specs.Tree.{Doc}
+use Rattle.bd_raw.specs.At.{one_stands, StandsAt-prop}
+use Rattle.bd_bson.specs.Collection.{documents, bytes_of}
+use Rattle.bd_bson.specs.declared.collection.Dump.{Dump}
+use Rattle.bd_path.specs.Names.{Names}
+use Rattle.bd_path.specs.PathNames.{names_of}
+use Rattle.bd_index.specs.Entries.{AreEntries, KeyAt, is_multikey}
+use Rattle.bd_index.specs.EntryView.{KeepsEntries}
+use Rattle.bd_index.specs.declared.entry.Entry.{Entry}
+use Rattle.bd_index.specs.declared.index.Index.{Index}
+
+-- these are kept for the entries of this dump's documents
+pub record KeepsDump (sparse : Bool) (path : Names) (dump : Dump) (kept : List Entry) : Type 0 where
+  pub entries : List KeyAt
+  pub stand : KeepsEntries (bytes_of dump) kept entries
+  pub are : AreEntries sparse path (documents dump) entries
+
+-- the index holds the entries of this dump's documents
+pub record IsIndexOf (dump : Dump) (index : Index) : Type 0 where
+  pub keeps : KeepsDump index.sparse (names_of index.path) dump index.entries.items
+  pub many : index.multikey ≡ is_multikey (names_of index.path) (documents dump)
+
+-- ---- there is one proof of it at most, so that a ghost field may hold it
+
+pair : (a b : KeyAt) → a.0 ≡ b.0 → a.1 ≡ b.1 → a ≡ b
+pair a b e f = λ i. (e i, f i)
+
+-- what is kept stands for one list at most
+pub same_entries : (bytes : List ℕ) (kept : List Entry) (es fs : List KeyAt) → KeepsEntries bytes kept es → KeepsEntries bytes kept fs → es ≡ fs
+same_entries bytes [] [] [] p q = λ i. []
+same_entries bytes [] [] (f ∷ fs) p q = absurd q
+same_entries bytes [] (e ∷ es) fs p q = absurd p
+same_entries bytes (k ∷ ks) [] fs p q = absurd p
+same_entries bytes (k ∷ ks) (e ∷ es) [] p q = absurd q
+same_entries bytes (k ∷ ks) (e ∷ es) (f ∷ fs) p q =
+    ap₂ (λ (x : KeyAt) (xs : List KeyAt). x ∷ xs) (pair e f (one_stands bytes k.key e.0 f.0 p.0.0 q.0.0) (sym p.0.1 ∙ q.0.1)) (same_entries bytes ks es fs p.1 q.1)
+
+pub KeepsEntries-prop : (bytes : List ℕ) (kept : List Entry) (es : List KeyAt) → IsProp (KeepsEntries bytes kept es)
+KeepsEntries-prop bytes [] [] p q = λ i. tt
+KeepsEntries-prop bytes [] (e ∷ es) p q = absurd p
+KeepsEntries-prop bytes (k ∷ ks) [] p q = absurd p
+KeepsEntries-prop bytes (k ∷ ks) (e ∷ es) p q =
+    λ i. ((StandsAt-prop bytes k.key e.0 p.0.0 q.0.0 i, Coded-set coded_ℕ k.place e.1 p.0.1 q.0.1 i), KeepsEntries-prop bytes ks es p.1 q.1 i)
+
+pub AreEntries-prop : (sparse : Bool) (path : Names) (ds : List Doc) (es : List KeyAt) → IsProp (AreEntries sparse path ds es)
+AreEntries-prop sparse path ds es = hlevel props
+
+pub KeepsDump-prop : (sparse : Bool) (path : Names) (dump : Dump) (kept : List Entry) → IsProp (KeepsDump sparse path dump kept)
+KeepsDump-prop sparse path dump kept p q =
+    let e : p.entries ≡ q.entries = same_entries (bytes_of dump) kept p.entries q.entries p.stand q.stand in
+    λ i. record {
+      entries = e i;
+      stand = is_prop→PathP (λ k. KeepsEntries (bytes_of dump) kept (e k)) (λ k. KeepsEntries-prop (bytes_of dump) kept (e k)) p.stand q.stand i;
+      are = is_prop→PathP (λ k. AreEntries sparse path (documents dump) (e k)) (λ k. AreEntries-prop sparse path (documents dump) (e k)) p.are q.are i;
+    }
+
+pub IsIndexOf-prop : (dump : Dump) (index : Index) → IsProp (IsIndexOf dump index)
+IsIndexOf-prop dump index p q =
+    let many : IsProp (index.multikey ≡ is_multikey (names_of index.path) (documents dump)) = hlevel props in
+    λ i. record {
+      keeps = KeepsDump-prop index.sparse (names_of index.path) dump index.entries.items p.keeps q.keeps i;
+      many = many p.many q.many i;
+    }
+
+-- each of the indexes is of this dump
+abbrev pub AreIndexesOf : Dump → List Index → Type 0
+AreIndexesOf dump indexes = All (IsIndexOf dump) indexes
+
+pub AreIndexesOf-prop : (dump : Dump) (indexes : List Index) → IsProp (AreIndexesOf dump indexes)
+AreIndexesOf-prop dump indexes p q = λ i k d low. IsIndexOf-prop dump _ (p k d low) (q k d low) i

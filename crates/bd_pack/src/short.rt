@@ -1,0 +1,120 @@
+//! Wrappers of one string, as whole numbers, dates and ids are written: their bytes straight from that string, with no value in
+//! between.
+ghost use Rattle.std.specs.Prelude.{◌≡◌, ◌<◌, ◌++◌, ◌∷◌, ℕ, List, length, codes, Some, IfSome};
+ghost use Rattle.json.specs.Token.{begin_object, end_object, key, string};
+ghost use Rattle.bd_value.specs.Tree as trees;
+ghost use Rattle.bd_value.specs.Tree.{leaf};
+ghost use Rattle.bd_raw.specs.Spelling.{element, number, long};
+ghost use Rattle.bd_write.specs.TreeBytes.{bytes_of};
+ghost use Rattle.bd_extjson.specs.Meaning.{wrap_object};
+ghost use Rattle.bd_wrapper.specs.Wrappers.{wrapper_of};
+ghost use Rattle.bd_wrapper.specs.Progress.{through, after_key};
+
+use bd_value::Kind;
+use bd_wrapper::{Wrapper, id_of_text, whole, whole_of_32};
+use bd_write::append_label;
+use json::{Reader, Token};
+
+/// The string after a wrapper's name, where the brace that ends the object follows.
+#[inline(always)]
+fn only_string<'a>(reader: &mut Reader<'a>) -> Option<&'a str>
+    ensures { IfSome result (λ s. reader.old ≡ string s.now ∷ end_object ∷ reader.new) }
+{
+    match reader.next()? {
+        Token::String(text) => match reader.next_key().ok()? {
+            None => Some(text),
+            Some(_) => None,
+        },
+        _ => None,
+    }
+}
+
+/// The string in `{"$numberLong":".."}` after a wrapper's name, where the brace that ends the object follows.
+#[inline(always)]
+fn only_long<'a>(reader: &mut Reader<'a>) -> Option<&'a str>
+    ensures { IfSome result (λ s. reader.old ≡ begin_object ∷ key (codes "$numberLong") ∷ string s.now ∷ end_object ∷ end_object ∷ reader.new) }
+{
+    match reader.next()? {
+        Token::BeginObject => {}
+        _ => return None,
+    }
+    if reader.next_key().ok()?? != "$numberLong" {
+        return None;
+    }
+    let text = only_string(reader)?;
+    match reader.next_key().ok()? {
+        None => Some(text),
+        Some(_) => None,
+    }
+}
+
+/// Appends four bytes, least first.
+#[inline(always)]
+#[tactic(auto, unfolding(bd_raw::specs::Spelling::number))]
+fn push_number(n: u32, out: &mut Vec<u8>) -> Option<()>
+    ensures { IfSome result (λ u. out.new.items ≡ out.old.items ++ number n) }
+{
+    out.extend_from_slice(&n.to_le_bytes()).ok()
+}
+
+/// Appends eight bytes, least first.
+#[inline(always)]
+#[tactic(auto, unfolding(bd_raw::specs::Spelling::long))]
+fn push_long(n: u64, out: &mut Vec<u8>) -> Option<()>
+    ensures { IfSome result (λ u. out.new.items ≡ out.old.items ++ long n) }
+{
+    out.extend_from_slice(&n.to_le_bytes()).ok()
+}
+
+/// Appends an element of an id.
+#[inline(always)]
+fn append_id(name: &str, id: &[u8; 12], out: &mut Vec<u8>) -> Option<()>
+    ensures { IfSome result (λ u. out.new.items ≡ out.old.items ++ element (leaf (trees.object_id id.now)) name.now (bytes_of (leaf (trees.object_id id.now)))) }
+{
+    append_label(Kind::ObjectId, name, out).ok()?;
+    out.extend_from_slice(id).ok()
+}
+
+/// Whether a wrapper is written with one string.
+#[inline(always)]
+pub(crate) fn is_short(wrapper: Wrapper) -> bool {
+    matches!(
+        wrapper,
+        Wrapper::NumberInt | Wrapper::NumberLong | Wrapper::Oid | Wrapper::Date
+    )
+}
+
+/// Appends the element of that name of such a wrapper, whose own name was read. `depth` brackets may stand in it.
+#[inline(always)]
+pub(crate) fn append_short(
+    reader: &mut Reader<'_>,
+    wrapper: Wrapper,
+    name: &str,
+    depth: usize,
+    out: &mut Vec<u8>,
+) -> Option<()>
+    ensures gives { IfSome result (λ u. (t : trees.Tree)
+        × ((room : ℕ) (first : List ℕ) → wrapper_of first ≡ Some wrapper → through (wrap_object room) (after_key depth (length reader.old) (Some first) reader.old) ≡ Some (t, reader.new))
+        × (out.new.items ≡ out.old.items ++ element t name.now (bytes_of t))) }
+    ensures shorter { IfSome result (λ u. length reader.new < length reader.old) }
+{
+    match wrapper {
+        Wrapper::NumberInt => {
+            let n = whole_of_32(only_string(reader)?)?;
+            append_label(Kind::Int32, name, out).ok()?;
+            push_number(n.cast_unsigned(), out)
+        }
+        Wrapper::NumberLong => {
+            let n = whole(only_string(reader)?)?;
+            append_label(Kind::Int64, name, out).ok()?;
+            push_long(n.cast_unsigned(), out)
+        }
+        Wrapper::Oid => append_id(name, &id_of_text(only_string(reader)?)?, out),
+        Wrapper::Date if depth > 0 => {
+            let n = whole(only_long(reader)?)?;
+            append_label(Kind::Date, name, out).ok()?;
+            push_long(n.cast_unsigned(), out)
+        }
+        _ => None,
+    }
+}

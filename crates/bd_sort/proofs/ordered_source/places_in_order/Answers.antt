@@ -1,0 +1,45 @@
+use Rattle.std.proofs.Common.{rules, ◌∙◌, sym}
+use Rattle.bd_answer.specs.Source.{IsSource, passes}
+use Rattle.bd_answer.proofs.SourceLemmas.{below_more, left_out_more, taken_more}
+use Rattle.bd_bson.specs.Collection.{documents}
+use Rattle.bd_path.specs.Sort.{sort_paths}
+use Rattle.bd_query.specs.FilterView.{filter_tree}
+use Rattle.bd_sort.specs.Selection.{hits_of, order_of_keys}
+use Rattle.bd_sort.proofs.OrderedSourceLemmas.{all_taken, few_more, first_taken, wanted_in_order}
+use Rattle.bd_sort.proofs.ordered_source.places_in_order.Goals as goal
+use Rattle.bd_sort.proofs.ordered_source.places_in_order.Goals.{else-loop-last-test, then-loop-last-test+in_default}
+
+pub loop-last-preserved-in-Continue-1 : goal.loop-last-preserved-in-Continue-1
+loop-last-preserved-in-Continue-1 g c =
+    let ds = documents c.args.dump.now in
+    let pass = passes (hits_of ds (filter_tree c.args.request.now.filter)) (order_of_keys ds (sort_paths c.args.request.now.sort.items)) c.args.last in
+    let p = c.in-Some.place in
+    record {
+      told = rw (c.in_ok-push.ensures.items) (taken_more pass c.loop-last.places.items _ _ _ p c.in-Some.ensures c.loop-last.invariant.told (sym c.is_wanted.ensures ∙ c.if-is_wanted.true));
+      below = below_more _ _ _ p c.in-Some.ensures c.loop-last.invariant.below;
+      few = few_more c.args.most c.loop-last.places.items _ p c.len.result (search rules) c.in_ok-push.ensures.items (sym c.is_full.ensures ∙ c.loop-last-test.true);
+    }
+
+pub loop-last-preserved : goal.loop-last-preserved
+loop-last-preserved g c =
+    let ds = documents c.args.dump.now in
+    let pass = passes (hits_of ds (filter_tree c.args.request.now.filter)) (order_of_keys ds (sort_paths c.args.request.now.sort.items)) c.args.last in
+    let p = c.in-Some.place in
+    record {
+      told = left_out_more pass c.loop-last.places.items _ _ _ p c.in-Some.ensures c.loop-last.invariant.told (sym c.is_wanted.ensures ∙ c.if-is_wanted.false);
+      below = below_more _ _ _ p c.in-Some.ensures c.loop-last.invariant.below;
+      few = c.loop-last.invariant.few;
+    }
+
+pub returns : goal.returns
+returns g c =
+    let ds = documents c.args.dump.now in
+    let r = c.args.request.now in
+    let pass = passes (hits_of ds (filter_tree r.filter)) (order_of_keys ds (sort_paths r.sort.items)) c.args.last in
+    let left = g.P.PlaceSource.left c.args.source in
+    let source : IsSource _ (hits_of ds (filter_tree r.filter)) left = g.met.P.PlaceSource.law c.args.source _ (hits_of ds (filter_tree r.filter)) c.requires.serves in
+    let told = c.loop-last.invariant.told ∙ wanted_in_order ds r left c.args.last source c.requires.order in
+    elim c.loop-last-test.branch [
+      | else-loop-last-test w ↦ first_taken c.args.most c.loop-last.places.items _ _ c.len.result (search rules) told (sym c.is_full.ensures ∙ w.loop-last-test.false) c.loop-last.invariant.few
+      | then-loop-last-test+in_default w ↦ all_taken pass c.args.most c.loop-last.places.items _ _ told w.in_default.ensures c.loop-last.invariant.few
+    ]

@@ -1,0 +1,45 @@
+-- What a request selects of the documents of a dump.
+use Rattle.std.specs.Prelude.{ℕ, Bool, List, length}
+use Rattle.std.specs.declared.cmp.Ordering.{Ordering}
+use Rattle.bd_value.specs.Tree.{Doc}
+use Rattle.bd_answer.specs.Answer.{Selection}
+use Rattle.bd_answer.specs.Session.{Query}
+use Rattle.bd_bson.specs.Collection.{bytes_of, documents}
+use Rattle.bd_bson.specs.Documents.{document_at}
+use Rattle.bd_bson.specs.declared.collection.Dump.{Dump}
+use Rattle.bd_path.specs.Earliest.{SortPath, sort_cmp}
+use Rattle.bd_path.specs.Sort.{sort_paths}
+use Rattle.bd_query.specs.Filter.{Filter}
+use Rattle.bd_query.specs.FilterMatch.{matches}
+use Rattle.bd_query.specs.FilterView.{filter_tree}
+use Rattle.bd_request.specs.Digest.{token_digest}
+use Rattle.bd_request.specs.declared.request.Request.{Request}
+
+-- which documents match
+abbrev pub hits_of : List Doc → Filter → ℕ → Bool
+hits_of ds f p = matches f (document_at ds p)
+
+-- how the sort keys of two documents stand
+abbrev pub order_of_keys : List Doc → List SortPath → ℕ → ℕ → Ordering
+order_of_keys ds ss p q = sort_cmp ss (document_at ds p) (document_at ds q)
+
+-- what a filter, a sort, a skip and a limit select
+abbrev pub selection_for : List Doc → Filter → List SortPath → ℕ → ℕ → Selection
+selection_for ds f ss skip limit = record {
+  count = length ds;
+  hits = hits_of ds f;
+  by = order_of_keys ds ss;
+  skip = skip;
+  limit = limit;
+}
+
+abbrev pub selection_of : List Doc → Request → Selection
+selection_of ds r = selection_for ds (filter_tree r.filter) (sort_paths r.sort.items) r.skip r.limit
+
+-- the same to a dump of these bytes, which are these documents, with what ties its tokens to the bytes and to the text
+abbrev pub query_to : List ℕ → List Doc → Filter → List SortPath → ℕ → ℕ → List ℕ → Query
+query_to bytes ds f ss skip limit text = record { selection = selection_for ds f ss skip limit; digest = token_digest bytes text }
+
+-- a request to a dump
+abbrev pub query_of : Dump → Request → Query
+query_of dump r = record { selection = selection_of (documents dump) r; digest = token_digest (bytes_of dump) r.text.items }
