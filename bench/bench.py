@@ -103,7 +103,7 @@ def find_tasks(program: str, dump: str, order: dict) -> list[Task]:
     for query in peers.queries(order):
         own = [program, "find", dump, *query.words()]
         others = peers.of_query(query, program, dump)
-        tasks.append(Task(f"find {query.name}", {OWN: own, **others}, alike=others.get("dump | jq", [])))
+        tasks.append(Task(f"find {query.name}", {OWN: own, **others}, alike=others.get("dump, jq", [])))
     number = order["order_no"]["$numberInt"]
     for name, options in {
         "one by its number": ["--query", f'{{"order_no":{number}}}'],

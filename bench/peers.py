@@ -128,7 +128,7 @@ def of_query(query: Query, program: str, dump: str) -> dict[str, list[str]]:
         words["python3 bson"] = python(body, dump)
     if shutil.which("jq"):
         sort = f" | jq -cs '{query.sort}'" if query.sort else ""
-        words["dump | jq"] = ["sh", "-c", f"\"$0\" dump \"$1\" | jq -c '{query.select}'{sort}", program, dump]
+        words["dump, jq"] = ["sh", "-c", f"\"$0\" dump \"$1\" | jq -c '{query.select}'{sort}", program, dump]
     if has_server():
         words["mongoexport"] = ["mongoexport", *SERVER, "--quiet", "--jsonFormat=canonical", *query.words()]
     return words

@@ -319,15 +319,28 @@ def member_cases(members: tuple[int, int], documents: tuple[int, int]) -> Iterat
             yield Case(f"{name}, documents grow, by {use}", ["serve", "DUMP"], numbers, lambda _, it=some, of=session: of(it), documents, are_taken)
 
 
+def both_ways(names: int) -> bytes:
+    """Arrays in arrays, of a document whose field has its place as its name: a path of places goes through each in two ways."""
+    value, kind = int32(1), 0x10
+    for _ in range(names):
+        value, kind = array(0x03, [document(field(kind, "0", value))]), 0x04
+    return document(field(kind, "0", value))
+
+
 def path_cases(scale: int) -> Iterator[Case]:
-    """Long paths over deep documents, and paths through arrays of documents in arrays of documents."""
+    """Long paths over deep documents, paths through arrays of documents in arrays of documents, and paths of places."""
     long = ".".join(["a"] * 100)
     through = ".".join(["a"] * 11)
-    levels, arrays = deep(200), nested(10, 2)
-    for name, path, one, sizes in (("of 100 names", long, levels, (500, 4000)), ("through arrays", through, arrays, (8, 64))):
-        for words in (["--query", f'{{"{path}":1}}'], ["--sort", f'{{"{path}":-1}}', "--limit", "1"], ["--query", f'{{"{path}":8}}', "--index", path]):
+    places = ".".join(["0"] * 60)
+    levels, arrays, ways = deep(200), nested(10, 2), both_ways(60)
+    for name, path, one, sizes in (("of 100 names", long, levels, (500, 4000)), ("through arrays", through, arrays, (8, 64)), ("of 60 places", places, ways, (50, 400))):
+        for words in (
+            ["--query", f'{{"{path}":1}}'], ["--query", f'{{"{path}":{{"$elemMatch":{{"$eq":1}}}}}}'], ["--sort", f'{{"{path}":-1}}', "--limit", "1"],
+            ["--query", f'{{"{path}":8}}', "--index", path],
+        ):  # fmt: skip
             told = "1 documents, end, token " if "--limit" in words else "0 documents, end\n"
-            title = f"find by a path {name}, {words[0]}{' by an index' if '--index' in words else ''}"
+            how = " by an index" if "--index" in words else " by $elemMatch" if "$elemMatch" in words[1] else ""
+            title = f"find by a path {name}, {words[0]}{how}"
             bounds = (sizes[0] * scale, sizes[1] * scale)
             yield Case(title, ["find", "-", *words], None, lambda size, it=one: it * size, bounds, tells(told))
     # Of these the document grows, to the third power of the length of its arrays.
@@ -340,28 +353,15 @@ def path_cases(scale: int) -> Iterator[Case]:
         yield Case(f"find {' '.join(words)}, wide arrays", ["find", "-", *words], None, lambda size: nested(3, round(size ** (1 / 3))), cubes, tells(told))
 
 
-def both_ways(names: int) -> bytes:
-    """Arrays in arrays, of a document whose field has its place as its name: a path of places goes through each in two ways."""
-    value, kind = int32(1), 0x10
-    for _ in range(names):
-        value, kind = array(0x03, [document(field(kind, "0", value))]), 0x04
-    return document(field(kind, "0", value))
-
-
 def known_cases(scale: int) -> Iterator[Case]:
     """What grows faster than its input, and how fast: docs/DECISIONS.md says why."""
 
-    def path(names: int) -> str:
-        return ".".join(["0"] * names)
+    def in_each_other(levels: int) -> object:
+        return {"0.0.0": {"$elemMatch": in_each_other(levels - 1)}} if levels else {"0": 5}
 
-    for name, command in (
-        ("a filter", lambda names: {"explain": {path(names): 2}}),
-        ("a sort", lambda names: {"find": {}, "sort": {path(names): 1}}),
-        ("an index", lambda names: {"createIndex": path(names)}),
-    ):
-        # A name more is 1.618 times as much, as in the numbers of Fibonacci.
-        names = (15 + scale, 21 + scale)
-        yield Case(f"{name} on a path of places", ["serve", "DUMP"], both_ways, lambda size, it=command: lines_of(it(size)), names, are_taken, 1.618**6)
+    # A level more is twice as much, since two elements come to one.
+    levels = (14 + scale, 18 + scale)
+    yield Case("$elemMatch in $elemMatch on a path of places", ["serve", "DUMP"], lambda _: both_ways(95), lambda size: lines_of({"explain": in_each_other(size)}), levels, are_taken, 2.0**4)
     # Each member is compared with each element.
     members = (400 * scale, 1600 * scale)
     yield Case(

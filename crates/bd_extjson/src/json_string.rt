@@ -4,7 +4,7 @@ ghost use Rattle.std.specs.Char.{digit_char};
 ghost use Rattle.std.specs.List.{list_any, position, join_with_byte};
 ghost use Rattle.bd_extjson.specs.Text.{needs_escape, escape_byte, escaped, quoted};
 
-use crate::plain::copy_plain;
+use crate::plain_text::copy_plain;
 use crate::room::{VALUE, make_room, put, put_byte, settle};
 use bd_value::NoMemory;
 

@@ -11,17 +11,19 @@
 //! assert!(rt; text.as_slice() == b"{\"a\":{\"$numberInt\":\"1\"}}".as_slice());
 //! ```
 //!
-//! - `text`: `write_node`, over `scalar`, a row of the conversion table each, `json_string`, `number` and `encoded`.
+//! - `text`: `write_node`, over `scalar`, a row of the conversion table each, `json_string`, `number` and `encoded`; `contents`, what
+//!   a scalar of a known kind holds.
+//! - `room`: text that is written into place, after room for it was made once; `plain_text`: texts without an escape, copied whole.
 //! - `read`: `read_doc`, over `reading`, one pass over the tokens of a text.
 //! - `laws`: what joins the two.
 #![tactic(auto)]
 
+mod contents;
 mod encoded;
-mod held;
 mod json_string;
 mod laws;
 mod number;
-mod plain;
+mod plain_text;
 mod read;
 mod reading;
 mod room;

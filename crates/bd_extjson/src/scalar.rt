@@ -4,8 +4,8 @@ ghost use Rattle.bd_value.specs.Tree.{Scalar, leaf, int32, int64, symbol, binary
 ghost use Rattle.bd_extjson.specs.Short.{IsShort};
 ghost use Rattle.bd_extjson.specs.Text.{quoted, scalar_text, text};
 
+use crate::contents;
 use crate::encoded::{append_base64, put_hex, put_id};
-use crate::held;
 use crate::json_string::append_string;
 use crate::number::{put_digits, put_signed};
 use crate::room::{VALUE, make_room, put};
@@ -100,13 +100,13 @@ fn put_short<N: Reading>(node: N, room: &mut [u8], end: usize) -> usize
         Kind::MinKey => put(b"{\"$minKey\":1}", room, end),
         Kind::Undefined => put(b"{\"$undefined\":true}", room, end),
         Kind::Null => put(b"null", room, end),
-        Kind::Int32 => put_int32(held::int32_of(node), room, end),
-        Kind::Int64 => put_int64(held::int64_of(node), room, end),
-        Kind::ObjectId => put_object_id(&held::id_of(node), room, end),
-        Kind::Bool => put_bool(held::bool_of(node), room, end),
-        Kind::Date => put_date(held::date_of(node), room, end),
+        Kind::Int32 => put_int32(contents::int32_of(node), room, end),
+        Kind::Int64 => put_int64(contents::int64_of(node), room, end),
+        Kind::ObjectId => put_object_id(&contents::id_of(node), room, end),
+        Kind::Bool => put_bool(contents::bool_of(node), room, end),
+        Kind::Date => put_date(contents::date_of(node), room, end),
         Kind::Timestamp => {
-            let (seconds, increment) = held::timestamp_of(node);
+            let (seconds, increment) = contents::timestamp_of(node);
             put_timestamp(seconds, increment, room, end)
         }
         Kind::MaxKey => put(b"{\"$maxKey\":1}", room, end),
@@ -235,19 +235,19 @@ pub(crate) fn append_scalar<N: Reading>(
     ensures err { OnErr result (take end out.new.items ≡ take end out.old.items) }
 {
     match node.kind() {
-        Kind::Text => append_string(held::text_of(&node), out, end),
-        Kind::Symbol => append_symbol(held::symbol_of(&node), out, end),
-        Kind::Code => append_code(held::code_of(&node), out, end),
+        Kind::Text => append_string(contents::text_of(&node), out, end),
+        Kind::Symbol => append_symbol(contents::symbol_of(&node), out, end),
+        Kind::Code => append_code(contents::code_of(&node), out, end),
         Kind::Binary => {
-            let (subtype, payload) = held::binary_of(&node);
+            let (subtype, payload) = contents::binary_of(&node);
             append_binary(subtype, payload, out, end)
         }
         Kind::Regex => {
-            let (pattern, options) = held::regex_of(&node);
+            let (pattern, options) = contents::regex_of(&node);
             append_regex(pattern, options, out, end)
         }
         Kind::DbPointer => {
-            let (space, id) = held::pointer_of(&node);
+            let (space, id) = contents::pointer_of(&node);
             append_pointer(space, &id, out, end)
         }
         _ => Ok(put_short(node, out.as_mut_slice(), end)),

@@ -13,11 +13,13 @@
 //! - `line`: `Packer`, a line at a time.
 //! - `tokens`: the bytes straight from the tokens of a line.
 //! - `short`: of the wrappers that hold one string, as most do.
+//! - `put`: pieces of elements.
 //! - `laws`: what is packed spells the line's document.
 #![tactic(auto)]
 
 mod laws;
 mod line;
+mod put;
 mod short;
 mod tokens;
 

@@ -4,15 +4,15 @@ ghost use Rattle.std.specs.Prelude.{◌≡◌, ◌<◌, ◌++◌, ◌∷◌, ℕ
 ghost use Rattle.json.specs.Token.{begin_object, end_object, key, string};
 ghost use Rattle.bd_value.specs.Tree as trees;
 ghost use Rattle.bd_value.specs.Tree.{leaf};
-ghost use Rattle.bd_raw.specs.Spelling.{element, number, long};
+ghost use Rattle.bd_raw.specs.Spelling.{element};
 ghost use Rattle.bd_write.specs.TreeBytes.{bytes_of};
 ghost use Rattle.bd_extjson.specs.Meaning.{wrap_object};
 ghost use Rattle.bd_wrapper.specs.Wrappers.{wrapper_of};
 ghost use Rattle.bd_wrapper.specs.Progress.{through, after_key};
 
+use crate::put::{push_label, push_long, push_number};
 use bd_value::Kind;
 use bd_wrapper::{Wrapper, id_of_text, whole, whole_of_32};
-use bd_write::append_label;
 use json::{Reader, Token};
 
 /// The string after a wrapper's name, where the brace that ends the object follows.
@@ -48,30 +48,12 @@ fn only_long<'a>(reader: &mut Reader<'a>) -> Option<&'a str>
     }
 }
 
-/// Appends four bytes, least first.
-#[inline(always)]
-#[tactic(auto, unfolding(bd_raw::specs::Spelling::number))]
-fn push_number(n: u32, out: &mut Vec<u8>) -> Option<()>
-    ensures { IfSome result (λ u. out.new.items ≡ out.old.items ++ number n) }
-{
-    out.extend_from_slice(&n.to_le_bytes()).ok()
-}
-
-/// Appends eight bytes, least first.
-#[inline(always)]
-#[tactic(auto, unfolding(bd_raw::specs::Spelling::long))]
-fn push_long(n: u64, out: &mut Vec<u8>) -> Option<()>
-    ensures { IfSome result (λ u. out.new.items ≡ out.old.items ++ long n) }
-{
-    out.extend_from_slice(&n.to_le_bytes()).ok()
-}
-
 /// Appends an element of an id.
 #[inline(always)]
 fn append_id(name: &str, id: &[u8; 12], out: &mut Vec<u8>) -> Option<()>
     ensures { IfSome result (λ u. out.new.items ≡ out.old.items ++ element (leaf (trees.object_id id.now)) name.now (bytes_of (leaf (trees.object_id id.now)))) }
 {
-    append_label(Kind::ObjectId, name, out).ok()?;
+    push_label(Kind::ObjectId, name, out)?;
     out.extend_from_slice(id).ok()
 }
 
@@ -101,18 +83,18 @@ pub(crate) fn append_short(
     match wrapper {
         Wrapper::NumberInt => {
             let n = whole_of_32(only_string(reader)?)?;
-            append_label(Kind::Int32, name, out).ok()?;
+            push_label(Kind::Int32, name, out)?;
             push_number(n.cast_unsigned(), out)
         }
         Wrapper::NumberLong => {
             let n = whole(only_string(reader)?)?;
-            append_label(Kind::Int64, name, out).ok()?;
+            push_label(Kind::Int64, name, out)?;
             push_long(n.cast_unsigned(), out)
         }
         Wrapper::Oid => append_id(name, &id_of_text(only_string(reader)?)?, out),
         Wrapper::Date if depth > 0 => {
             let n = whole(only_long(reader)?)?;
-            append_label(Kind::Date, name, out).ok()?;
+            push_label(Kind::Date, name, out)?;
             push_long(n.cast_unsigned(), out)
         }
         _ => None,

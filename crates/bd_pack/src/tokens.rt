@@ -1,5 +1,5 @@
 //! The bytes of a document straight from the tokens of its text, without a tree. What is refused here is not told why.
-ghost use Rattle.std.specs.Prelude.{◌≡◌, ◌<◌, ◌≤◌, ◌++◌, length, Some, IfSome, option_map, option_and_then, false};
+ghost use Rattle.std.specs.Prelude.{◌≡◌, ◌<◌, ◌≤◌, ◌++◌, ℕ, List, length, Some, IfSome, option_map, option_and_then, false};
 ghost use Rattle.json.specs.Json.{value, items, members};
 ghost use Rattle.bd_value.specs.Tree as trees;
 ghost use Rattle.bd_value.specs.Tree.{Items, Fields, Doc, leaf, doc, array};
@@ -8,15 +8,19 @@ ghost use Rattle.bd_raw.specs.Spelling.{element, string};
 ghost use Rattle.bd_value.specs.Zeros.{zero_in};
 ghost use Rattle.bd_write.specs.TreeBytes.{bytes_of};
 ghost use Rattle.bd_extjson.specs.TextDocument.{json};
-ghost use Rattle.bd_extjson.specs.Meaning.{wrap, wrap_items, wrap_object, wrap_fields};
+ghost use Rattle.bd_extjson.specs.Meaning.{bare_number, wrap, wrap_items, wrap_object, wrap_fields};
 ghost use Rattle.bd_wrapper.specs.Progress.{through, after_key};
+ghost use Rattle.bd_wrapper.specs.Whole.{whole_64};
+ghost use Rattle.bd_wrapper.specs.Wrappers.{wrapper_of};
 ghost use Rattle.bd_pack.specs.Packable.{plain, IsPackable};
 
+use crate::put::{push_byte, push_label, push_string};
 use crate::short::{append_short, is_short};
 use bd_diagnose::{BRACKETS, LEVELS};
 use bd_extjson::{bare_number, read_wrapper, wrapper_named};
 use bd_value::{Kind, Tree, Value, has_zero};
-use bd_write::{append_label, append_value, begin_body, end_body, write_text};
+use bd_wrapper::Wrapper;
+use bd_write::{append_label, append_value, begin_body, end_body};
 use json::{Reader, Scratch, Token};
 use std::alloc::Global;
 
@@ -42,8 +46,46 @@ fn append_read(name: &str, value: Value, out: &mut Vec<u8>) -> Option<()>
 fn append_text(name: &str, text: &str, out: &mut Vec<u8>) -> Option<()>
     ensures { IfSome result (λ u. out.new.items ≡ out.old.items ++ element (leaf (trees.text text.now)) name.now (string text.now)) }
 {
-    append_label(Kind::Text, name, out).ok()?;
-    write_text(text, out).ok()
+    push_label(Kind::Text, name, out)?;
+    push_string(text, out)
+}
+
+/// Appends an element of a boolean.
+#[inline(always)]
+fn append_bool(name: &str, truth: bool, out: &mut Vec<u8>) -> Option<()>
+    ensures { IfSome result (λ u. out.new.items ≡ out.old.items ++ element (leaf (trees.boolean truth)) name.now (bytes_of (leaf (trees.boolean truth)))) }
+{
+    push_label(Kind::Bool, name, out)?;
+    push_byte(u8::from(truth), out)
+}
+
+/// Appends an element of a bare number.
+#[inline(never)]
+fn append_number(name: &str, text: &str, out: &mut Vec<u8>) -> Option<()>
+    ensures { IfSome result (λ u. (t : trees.Tree) × (bare_number (whole_64 text.now) ≡ Some t) × (out.new.items ≡ out.old.items ++ element t name.now (bytes_of t))) }
+{
+    append_read(name, bare_number(text)?, out)
+}
+
+/// Appends the element of that name of a wrapper whose own name was read, by the value that it stands for.
+#[inline(never)]
+fn append_wrapped(
+    alloc: Global,
+    reader: &mut Reader<'_>,
+    wrapper: Wrapper,
+    name: &str,
+    room: usize,
+    depth: usize,
+    out: &mut Vec<u8>,
+) -> Option<()>
+    requires { (first : List ℕ) × (wrapper_of first ≡ Some wrapper) }
+    ensures gives { IfSome result (λ u. (t : trees.Tree)
+        × ((first : List ℕ) → wrapper_of first ≡ Some wrapper → through (wrap_object room) (after_key depth (length reader.old) (Some first) reader.old) ≡ Some (t, reader.new))
+        × (out.new.items ≡ out.old.items ++ element t name.now (bytes_of t))) }
+    ensures shorter { IfSome result (λ u. length reader.new < length reader.old) }
+{
+    let value = read_wrapper(alloc, reader, wrapper, room, depth).ok()?;
+    append_read(name, value, out)
 }
 
 /// Appends the element of that name of the value that comes next. At most `room` documents and arrays stand in one another in
@@ -63,9 +105,9 @@ fn append_next(
 {
     match reader.next()? {
         Token::String(text) => append_text(name, text, out),
-        Token::Number(text) => append_read(name, bare_number(text)?, out),
-        Token::Bool(b) => append_read(name, Value::Bool(b), out),
-        Token::Null => append_read(name, Value::Null, out),
+        Token::Number(text) => append_number(name, text, out),
+        Token::Bool(b) => append_bool(name, b, out),
+        Token::Null => push_label(Kind::Null, name, out),
         Token::EndObject | Token::EndArray | Token::Key(_) | Token::Bad => None,
         Token::BeginArray => {
             if depth == 0 || room == 0 {
@@ -85,6 +127,7 @@ fn append_next(
 
 /// Appends the array whose bracket was read. The names of its elements are their places.
 #[cycle(tokens)]
+#[inline(never)]
 fn append_items(
     alloc: Global,
     reader: &mut Reader<'_>,
@@ -108,6 +151,7 @@ fn append_items(
 
 /// Appends the element of that name of the object whose brace was read.
 #[cycle(tokens)]
+#[inline(never)]
 fn append_object(
     alloc: Global,
     reader: &mut Reader<'_>,
@@ -125,8 +169,7 @@ fn append_object(
         if is_short(wrapper) {
             return append_short(reader, wrapper, name, depth, out);
         }
-        let value = read_wrapper(alloc, reader, wrapper, room, depth).ok()?;
-        return append_read(name, value, out);
+        return append_wrapped(alloc, reader, wrapper, name, room, depth, out);
     }
     if room == 0 {
         return None;
@@ -137,6 +180,7 @@ fn append_object(
 
 /// Appends the document whose brace and first name were read.
 #[cycle(tokens)]
+#[inline(never)]
 fn append_fields<'a>(
     alloc: Global,
     reader: &mut Reader<'a>,

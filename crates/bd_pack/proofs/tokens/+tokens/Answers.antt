@@ -1,4 +1,4 @@
-use Rattle.std.proofs.Common.{◌≡◌, ◌<◌, ◌≤◌, ◌-◌, ◌+◌, ◌++◌, Some, None, Ok, [], ◌∷◌, length, option_map, refl, sym, ap, ◌∙◌, rules, arith, append-nil, length-append}
+use Rattle.std.proofs.Common.{◌≡◌, ◌<◌, ◌≤◌, ◌-◌, ◌+◌, ◌++◌, ℕ, List, Option, Some, None, Ok, option_and_then, [], ◌∷◌, length, option_map, refl, sym, ap, ◌∙◌, rules, arith, append-nil, length-append}
 use Rattle.std.specs.Prelude.{decimal}
 use Rattle.std.proofs.lemmas.Result.{MatchResult-at_ok}
 use Rattle.json.specs.Json.{value, parse_map, after_end_array}
@@ -6,19 +6,22 @@ use Rattle.json.specs.Reads.{token_of}
 use Rattle.json.proofs.Grammar.{items_end, read_key-shorter}
 use Rattle.bd_value.specs.Tree as trees
 use Rattle.bd_value.specs.Tree.{Tree, leaf, doc, array, item, field, fields_of, items_of}
-use Rattle.bd_value.specs.View.{tree_of}
 use Rattle.bd_raw.specs.Spelling.{number, element}
 use Rattle.bd_raw.specs.Types.{type_byte}
 use Rattle.bd_write.specs.TreeBytes.{bytes_of, fields_bytes, items_bytes}
-use Rattle.bd_wrapper.specs.Whole.{whole_64}
+use Rattle.bd_wrapper.specs.Wrappers.{wrapper_of}
+use Rattle.bd_wrapper.specs.declared.wrapper.Wrapper.{Wrapper}
 use Rattle.bd_value.specs.declared.kind.Kind.TheVariants as kinds
-use Rattle.bd_extjson.specs.Meaning.{bare_number, wrap, wrap_items, wrap_object, wrap_fields}
+use Rattle.bd_extjson.specs.Meaning.{wrap, wrap_items, wrap_object, wrap_fields}
 use Rattle.bd_wrapper.specs.Progress.{through, after_key}
 use Rattle.bd_extjson.proofs.StepLemmas as steps
 use Rattle.bd_extjson.proofs.StepLemmas.{items_before, fields_before}
 use Rattle.bd_pack.proofs.BodyLemmas as bodies
-use Rattle.bd_pack.proofs.PlainLemmas as plains
 use Rattle.bd_pack.proofs.tokens.+tokens.Goals as goal
+
+named_by : (key : Option (List ℕ)) (w : Wrapper) → option_and_then wrapper_of key ≡ Some w → (first : List ℕ) × (wrapper_of first ≡ Some w)
+named_by None w e = absurd cc
+named_by (Some k) w e = (k, e)
 
 -- ---- append_fields
 
@@ -137,29 +140,25 @@ append_next-returns-in-String-clause-gives t c =
     let read = ap (through (wrap c.args.room)) (ap (value c.args.depth) (first ∙ ap (λ k. token_of k ∷ c.next.new.self) c.in-String.is)) ∙ steps.read_string c.args.room c.args.depth s c.next.new.self in
     bodies.if_some c.append_text.result _ _ c.append_text.ensures (λ e. (leaf (trees.text s), read, e))
 
-pub append_next-returns-in_ok-bare_number-in-Number-clause-gives :
-    goal.append_next-returns-in_ok-bare_number-in-Number-clause-gives
-append_next-returns-in_ok-bare_number-in-Number-clause-gives t c =
+pub append_next-returns-in-Number-clause-gives : goal.append_next-returns-in-Number-clause-gives
+append_next-returns-in-Number-clause-gives t c =
     let first : c.args.reader.now ≡ token_of c.in_ok-text.field-0 ∷ c.next.new.self = grind arith in
     let s = c.in-Number.text.now in
-    let v = c.in_ok-bare_number-in-Number.field-0 in
-    let bare : bare_number (whole_64 s) ≡ Some (tree_of v) = sym c.in_ok-bare_number-in-Number.ensures in
-    let read = ap (through (wrap c.args.room)) (ap (value c.args.depth) (first ∙ ap (λ k. token_of k ∷ c.next.new.self) c.in-Number.is)) ∙ steps.read_number c.args.room c.args.depth s c.next.new.self
-    ∙ ap (option_map (λ (a : Tree). (a, c.next.new.self))) bare in
-    bodies.if_some c.append_read.result _ _ c.append_read.ensures (λ e. (tree_of v, read, e))
+    let read = ap (through (wrap c.args.room)) (ap (value c.args.depth) (first ∙ ap (λ k. token_of k ∷ c.next.new.self) c.in-Number.is)) ∙ steps.read_number c.args.room c.args.depth s c.next.new.self in
+    bodies.if_some c.append_number.result _ _ c.append_number.ensures (λ g. (g.0, read ∙ ap (option_map (λ (a : Tree). (a, c.next.new.self))) g.1, g.2))
 
 pub append_next-returns-in-Bool-clause-gives : goal.append_next-returns-in-Bool-clause-gives
 append_next-returns-in-Bool-clause-gives t c =
     let first : c.args.reader.now ≡ token_of c.in_ok-text.field-0 ∷ c.next.new.self = grind arith in
     let b = c.in-Bool.b in
     let read = ap (through (wrap c.args.room)) (ap (value c.args.depth) (first ∙ ap (λ k. token_of k ∷ c.next.new.self) c.in-Bool.is)) ∙ steps.read_boolean c.args.room c.args.depth b c.next.new.self in
-    bodies.if_some c.append_read-in-Bool.result _ _ c.append_read-in-Bool.ensures (λ e. (leaf (trees.boolean b), read, rw (bodies.bool_is b) at e))
+    bodies.if_some c.append_bool.result _ _ c.append_bool.ensures (λ e. (leaf (trees.boolean b), read, e))
 
 pub append_next-returns-in-Null-clause-gives : goal.append_next-returns-in-Null-clause-gives
 append_next-returns-in-Null-clause-gives t c =
     let first : c.args.reader.now ≡ token_of c.in_ok-text.field-0 ∷ c.next.new.self = grind arith in
     let read = ap (through (wrap c.args.room)) (ap (value c.args.depth) (first ∙ ap (λ k. token_of k ∷ c.next.new.self) c.in-Null.is)) ∙ steps.read_null c.args.room c.args.depth c.next.new.self in
-    bodies.if_some c.append_read-in-Null.result _ _ c.append_read-in-Null.ensures (λ e. (leaf trees.null, read, rw bodies.null_is at e))
+    bodies.if_some c.push_label.result _ _ c.push_label.ensures (λ e. (leaf trees.null, read, e))
 
 pub append_next-returns-in_ok-ok-in-BeginArray-clause-gives :
     goal.append_next-returns-in_ok-ok-in-BeginArray-clause-gives
@@ -179,13 +178,8 @@ append_next-returns-else-depth-eq0-2-clause-gives t c =
 
 -- ---- append_object
 
-pub append_object-append_read-requires : goal.append_object-append_read-requires
-append_object-append_read-requires t c =
-    let r = c.next_key.new.self in
-    let key = option_map (λ s. s.now) c.in_ok-first.first in
-    let v = c.in_ok-value.value in
-    let gives = steps.object_is_wrapper tree_of c.read_wrapper.result c.read_wrapper.new.reader c.in-Some.wrapper c.args.room c.args.depth (length r) r key (sym c.wrapper_named.ensures ∙ c.in-Some.is) (λ name is. c.read_wrapper.ensures.gives name is) in
-    plains.object_plain c.args.room (after_key c.args.depth (length r) key r) (tree_of v) c.read_wrapper.new.reader (bodies.gave tree_of c.read_wrapper.result v c.read_wrapper.new.reader _ c.in_ok-value.ensures.value gives)
+pub append_object-append_wrapped-requires : goal.append_object-append_wrapped-requires
+append_object-append_wrapped-requires t c = named_by (option_map (λ s. s.now) c.in_ok-first.first) c.in-Some.wrapper (sym c.wrapper_named.ensures ∙ c.in-Some.is)
 
 pub append_object-returns-then-is_short-clause-gives : goal.append_object-returns-then-is_short-clause-gives
 append_object-returns-then-is_short-clause-gives t c =
@@ -200,12 +194,10 @@ pub append_object-returns-in-Some-clause-gives : goal.append_object-returns-in-S
 append_object-returns-in-Some-clause-gives t c =
     let r = c.next_key.new.self in
     let key = option_map (λ s. s.now) c.in_ok-first.first in
-    let v = c.in_ok-value.value in
     let read = MatchResult-at_ok _ _ c.in_ok-first.first (bodies.ok_is c.next_key.result c.in_ok-first.first c.in_ok-first.ensures.value) c.next_key.ensures.value in
     let start = ap (through (wrap_object c.args.room)) (steps.first_name c.args.depth c.args.reader.now r key read) in
-    let gives = steps.object_is_wrapper tree_of c.read_wrapper.result c.read_wrapper.new.reader c.in-Some.wrapper c.args.room c.args.depth (length r) r key (sym c.wrapper_named.ensures ∙ c.in-Some.is) (λ name is. c.read_wrapper.ensures.gives name is) in
-    let given = bodies.gave tree_of c.read_wrapper.result v c.read_wrapper.new.reader _ c.in_ok-value.ensures.value gives in
-    bodies.if_some c.append_read.result _ _ c.append_read.ensures (λ e. (tree_of v, start ∙ given, e))
+    bodies.if_some c.append_wrapped.result _ _ c.append_wrapped.ensures.gives
+    (λ g. (g.0, start ∙ steps.object_is_wrapper (λ (x : Tree). x) (Ok g.0) c.append_wrapped.new.reader c.in-Some.wrapper c.args.room c.args.depth (length r) r key (sym c.wrapper_named.ensures ∙ c.in-Some.is) (λ name is. g.1 name is), g.2))
 
 pub append_object-returns-clause-gives : goal.append_object-returns-clause-gives
 append_object-returns-clause-gives t c =

@@ -1,7 +1,7 @@
 use Rattle.std.proofs.Common.{◌≡◌, ◌+◌, ◌++◌, take}
 use Rattle.std.specs.List.{list_any}
 use Rattle.bd_extjson.specs.Text.{needs_escape}
-use Rattle.bd_extjson.proofs.plain.copy_few.Given as goal
+use Rattle.bd_extjson.proofs.plain_text.copy_few.Given as goal
 
 abbrev pub invariant-loop-i : goal.invariant-loop-i
 invariant-loop-i l = record {

@@ -1,6 +1,6 @@
 use Rattle.std.proofs.Common.{arith, ◌+◌, ◌-◌, length}
 use Rattle.bd_extjson.proofs.RoomLemmas.{both_ends}
-use Rattle.bd_extjson.proofs.plain.copy_ends.Goals as goal
+use Rattle.bd_extjson.proofs.plain_text.copy_ends.Goals as goal
 
 pub returns-then-not-any_escape-clause-copied : goal.returns-then-not-any_escape-clause-copied
 returns-then-not-any_escape-clause-copied c =

@@ -3,7 +3,7 @@ use Rattle.std.proofs.Math.Seq.{take-add}
 use Rattle.std.proofs.lemmas.List.{length-take, length-drop}
 use Rattle.bd_extjson.specs.Text.{needs_escape}
 use Rattle.bd_extjson.proofs.RoomLemmas.{front, chained, none_of_two}
-use Rattle.bd_extjson.proofs.plain.copy_many.Goals as goal
+use Rattle.bd_extjson.proofs.plain_text.copy_many.Goals as goal
 
 pub returns-then-any_escape-clause-kept : goal.returns-then-any_escape-clause-kept
 returns-then-any_escape-clause-kept c =

@@ -1,7 +1,7 @@
 use Rattle.std.proofs.Common.{◌≡◌, ◌≤◌, ◌+◌, ◌-◌, ◌++◌, take, length, false}
 use Rattle.std.specs.List.{list_any}
 use Rattle.bd_extjson.specs.Text.{needs_escape}
-use Rattle.bd_extjson.proofs.plain.copy_many.Given as goal
+use Rattle.bd_extjson.proofs.plain_text.copy_many.Given as goal
 
 abbrev pub invariant-loop-passed : goal.invariant-loop-passed
 invariant-loop-passed l = record {
