@@ -55,9 +55,25 @@ any_end_in_field-any_end_from-requires g t c κs within =
     let e : first_of s.now (pairs_in n) ≡ Some u = sym c.in-Some.ensures.first in
     let small = down.first_smaller s.now n u e in
     let d = c.decreases in
-    let f = g.T.EndTest.passes c.args.test.now in
-    (omega arith, (within.0, (within.1.0, (within.1.1, (c.requires.few, (omega (arith, c.requires.at),
-    walked.field_inside f ends (some_end.keeps_ends f) n c.args.path.now c.args.walked.now c.requires.vain s u c.at_field-inside.result c.requires.kind e c.at_field-inside.ensures))))))
+    let f = g.T.EndTest.passes c.args.test.now in (
+      omega arith,
+      (
+        within.0,
+        (
+          within.1.0,
+          (
+            within.1.1,
+            (
+              c.requires.few,
+              (
+                omega (arith, c.requires.at),
+                walked.field_inside f ends (some_end.keeps_ends f) n c.args.path.now c.args.walked.now c.requires.vain s u c.at_field-inside.result c.requires.kind e c.at_field-inside.ensures,
+              ),
+            ),
+          ),
+        ),
+      ),
+    )
 
 pub any_end_in_field-returns-in-Some : goal.any_end_in_field-returns-in-Some
 any_end_in_field-returns-in-Some g t c =
@@ -98,10 +114,26 @@ any_end_in_documents-any_end_from-requires g t c κs within =
     let here = at.next_is (elements_in n) c.loop-i.i u us left in
     let f = g.T.EndTest.passes c.args.test.now in
     let small = down.element_smaller n c.loop-i.i u here in
-    let d = c.decreases in
-    (omega arith, (within.0, (within.1.0, (within.1.1, (c.requires.few, (omega (arith, c.requires.at),
-    walked.document_inside f ends (some_end.keeps_ends f) n c.args.path.now c.args.walked.now c.requires.vain c.requires.kind c.loop-i.i u c.at_document-inside.result here (omega (arith, c.loop-i-test.true))
-    (sym c.is_document.ensures ∙ c.if-is_document.true) c.at_document-inside.ensures))))))
+    let d = c.decreases in (
+      omega arith,
+      (
+        within.0,
+        (
+          within.1.0,
+          (
+            within.1.1,
+            (
+              c.requires.few,
+              (
+                omega (arith, c.requires.at),
+                walked.document_inside f ends (some_end.keeps_ends f) n c.args.path.now c.args.walked.now c.requires.vain c.requires.kind c.loop-i.i u c.at_document-inside.result here (omega (arith, c.loop-i-test.true))
+                    (sym c.is_document.ensures ∙ c.if-is_document.true) c.at_document-inside.ensures,
+              ),
+            ),
+          ),
+        ),
+      ),
+    )
 
 pub any_end_in_documents-loop-i-preserved : goal.any_end_in_documents-loop-i-preserved
 any_end_in_documents-loop-i-preserved g t c =
@@ -129,10 +161,26 @@ any_end_at_index-any_end_from-requires g t c κs within =
     let u = g.N.Reading.tree c.element-element.result in
     let f = g.T.EndTest.passes c.args.test.now in
     let small = down.element_smaller n c.in-Some.i u c.element-element.ensures.element in
-    let d = c.decreases in
-    (omega arith, (within.0, (within.1.0, (within.1.1, (c.requires.few, (omega (arith, c.requires.at),
-    walked.index_inside f ends (some_end.keeps_ends f) n c.args.path.now c.args.walked.now c.requires.vain c.requires.kind c.args.k c.in-Some.i u c.at_index-inside.result c.element-element.ensures.element
-    (omega (arith, c.len.type_inv, c.if-i-len.true)) c.is_document.result c.is_document.ensures c.requires.documents c.at_index-inside.ensures))))))
+    let d = c.decreases in (
+      omega arith,
+      (
+        within.0,
+        (
+          within.1.0,
+          (
+            within.1.1,
+            (
+              c.requires.few,
+              (
+                omega (arith, c.requires.at),
+                walked.index_inside f ends (some_end.keeps_ends f) n c.args.path.now c.args.walked.now c.requires.vain c.requires.kind c.args.k c.in-Some.i u c.at_index-inside.result c.element-element.ensures.element
+                    (omega (arith, c.len.type_inv, c.if-i-len.true)) c.is_document.result c.is_document.ensures c.requires.documents c.at_index-inside.ensures,
+              ),
+            ),
+          ),
+        ),
+      ),
+    )
 
 pub any_end_at_index-returns-in-Some : goal.any_end_at_index-returns-in-Some
 any_end_at_index-returns-in-Some g t c =
