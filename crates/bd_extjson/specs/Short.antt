@@ -19,8 +19,8 @@ IsShortScalar (date z) = Unit {0}
 IsShortScalar (timestamp s i) = Unit {0}
 IsShortScalar max_key = Unit {0}
 
-abbrev pub IsShort : Tree → Type 0
-IsShort (leaf s) = IsShortScalar s
-IsShort (doc fs) = ⊥
-IsShort (array ts) = ⊥
-IsShort (code_scope s fs) = ⊥
+abbrev pub HasShortText : Tree → Type 0
+HasShortText (leaf s) = IsShortScalar s
+HasShortText (doc fs) = ⊥
+HasShortText (array ts) = ⊥
+HasShortText (code_scope s fs) = ⊥

@@ -1,7 +1,7 @@
 //! The scalars, each by its row of the conversion table of Extended JSON v2.
 ghost use Rattle.std.specs.Prelude.{◌≡◌, ◌<◌, ◌≤◌, ◌+◌, ◌++◌, IfOk, OnErr, length, take};
 ghost use Rattle.bd_value.specs.Tree.{Scalar, leaf, int32, int64, symbol, binary, object_id, boolean, date, timestamp, regex, db_pointer, code};
-ghost use Rattle.bd_extjson.specs.Short.{IsShort};
+ghost use Rattle.bd_extjson.specs.Short.{HasShortText};
 ghost use Rattle.bd_extjson.specs.Text.{quoted, scalar_text, text};
 
 use crate::contents;
@@ -91,7 +91,7 @@ fn put_timestamp(seconds: u32, increment: u32, room: &mut [u8], end: usize) -> u
 #[inline(always)]
 #[tactic(auto, unfolding(crate::specs::Text::scalar_text, crate::specs::Text::quoted, crate::specs::Text::escape_byte))]
 fn put_short<N: Reading>(node: N, room: &mut [u8], end: usize) -> usize
-    requires short { IsShort (N.tree node) }
+    requires short { HasShortText (N.tree node) }
     requires room { end + VALUE ≤ length room.old }
     ensures put { take result room.new ≡ take end room.old ++ text (N.tree node) }
     ensures within { result ≤ end + VALUE }

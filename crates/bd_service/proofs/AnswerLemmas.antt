@@ -10,7 +10,7 @@ use Rattle.bd_reply.specs.Reply.{refuses}
 use Rattle.bd_reply.specs.ReplyView.{line_reply, told_refusal}
 use Rattle.bd_reply.specs.declared.refusal.LineRefusal.{LineRefusal}
 use Rattle.bd_reply.specs.declared.reply.Reply.{Reply}
-use Rattle.bd_service.specs.ServiceView.{Performs, StarvesAt, service_dump, service_state}
+use Rattle.bd_service.specs.ServiceView.{Performs, LeavesStarved, service_dump, service_state}
 use Rattle.bd_service.specs.Talk.{Answers, IsCallIn}
 use Rattle.bd_service.specs.declared.service.Service.{Service}
 
@@ -28,7 +28,7 @@ turned_away s line why reads = record { part = Err (told_refusal why); reads = r
 -- the reply to a call that was made was not written
 pub left_by_call : {A : Type 0} (old new : Service) (line : List ℕ) (r : Reply) (result : Result A AllocError)
     → Answers (bytes_of (service_dump old)) (documents (service_dump old)) (service_state old) line (line_reply (documents (service_dump old)) r) (service_state new)
-    → service_dump new ≡ service_dump old → OnErr result (StarvesAt old line new)
+    → service_dump new ≡ service_dump old → OnErr result (LeavesStarved old line new)
 left_by_call old new line r (Ok x) answers kept = tt
 left_by_call old new line r (Err e) answers kept =
     inr (_, record { reply = line_reply (documents (service_dump old)) r; answers = answers; written = refl; kept = kept })

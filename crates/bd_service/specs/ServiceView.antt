@@ -45,5 +45,5 @@ abbrev pub KeepsState : Service → Service → Type 0
 KeepsState old new = service_state new ≡ service_state old
 
 -- memory ran out at the line: the session is as it was, or as the call left it whose reply was not made
-abbrev pub StarvesAt : Service → List ℕ → Service → Type 0
-StarvesAt old line new = serving.StarvesAt KeepsState RepliesTo old line new
+abbrev pub LeavesStarved : Service → List ℕ → Service → Type 0
+LeavesStarved old line new = serving.StarvesAt KeepsState RepliesTo old line new

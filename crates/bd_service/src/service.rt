@@ -11,7 +11,7 @@ ghost use Rattle.bd_extjson.specs.TextDocument.{ReadsAs};
 ghost use Rattle.bd_reply.specs.ReplyView.{line_reply};
 ghost use Rattle.bd_service.specs.CallOf.{command_part};
 ghost use Rattle.bd_service.specs.CallView.{RefusesLine, RefusesPart, session_call};
-ghost use Rattle.bd_service.specs.ServiceView.{KeepsState, RepliesTo, StarvesAt, service_dump, service_state};
+ghost use Rattle.bd_service.specs.ServiceView.{KeepsState, RepliesTo, LeavesStarved, service_dump, service_state};
 ghost use Rattle.bd_service.specs.Talk.{Answers, IsCallIn};
 
 use crate::call::Call;
@@ -72,7 +72,7 @@ impl Replier for Service {
             × RepliesTo self.old command.now reply self.new) }
         ensures kept { OnErr result (text.new.items ≡ text.old.items) }
         // Where memory ran out the session is as it was, or as the call left it whose reply was not made.
-        ensures starved { OnErr result (StarvesAt self.old command.now self.new) }
+        ensures starved { OnErr result (LeavesStarved self.old command.now self.new) }
         ensures dump { service_dump self.new ≡ service_dump self.old }
     {
         let reply = self.answer(command)?;
