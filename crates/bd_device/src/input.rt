@@ -1,12 +1,13 @@
 //! What gives bytes, with counts of calls and of failures.
-ghost use Rattle.std.specs.Prelude.{◌≡◌, ℕ, List, Option, None, Some, IfOk, OnOk, OnErr, length, ◌++◌, ◌<◌, ◌≤◌, ◌≢◌, min, MatchOption, ⊤};
+ghost use Rattle.std.specs.Prelude.{◌≡◌, ℕ, List, Option, None, Some, false, IfOk, IsTrue, OnOk, OnErr, length, ◌++◌, ◌<◌, ◌≤◌, ◌≢◌, min, MatchOption, ⊤};
 ghost use Rattle.std.proofs.Common.{rules};
-ghost use Rattle.std.specs.Io.KnownBytes.{ReadConsumes};
+ghost use Rattle.std.specs.Io.Buffered.{reader_remaining};
+ghost use Rattle.std.specs.Io.KnownBytes.{Consumes, ReadConsumes};
 ghost use Rattle.bd_device.specs.Counts.{after_more, greatest};
 ghost use Rattle.bd_device.specs.Devices.{Reader, bytes_given};
 
 use crate::tally::Tally;
-use std::io::Read;
+use std::io::{BufRead, BufReader, Read};
 use thiserror::Error;
 
 /// A read or a write that failed.
@@ -33,6 +34,19 @@ pub trait Input {
         ensures called { (state self.new).calls ≡ after_more (state self.old).calls 1 }
         ensures well { OnOk result ((state self.new).failures ≡ (state self.old).failures) }
         ensures failed { OnErr result ((state self.new).failures ≡ after_more (state self.old).failures 1) };
+
+    /// Fills all of `room` by one read, where the device holds so many bytes and the room is not empty; else it does nothing,
+    /// and gives false. A device that holds none gives false always.
+    #[inline(always)]
+    fn read_held(&mut self, room: &mut [u8]) -> bool
+        ensures bytes { IsTrue result → (0 < length room.old) × Consumes (state self.old).left (state self.new).left room.new }
+        ensures gives { IsTrue result → read_gives self.old (Some room.new) self.new }
+        ensures called { IsTrue result → (state self.new).calls ≡ after_more (state self.old).calls 1 }
+        ensures well { (state self.new).failures ≡ (state self.old).failures }
+        ensures none { result ≡ false → (self.new ≡ self.old) × (room.new ≡ room.old) }
+    {
+        false
+    }
 
     ghost calls_fit: { (s : Self) → (state s).calls ≤ greatest };
 
@@ -81,6 +95,50 @@ impl<R: Read + Drop> Input for SystemInput<R> {
                 Err(DeviceFault)
             }
         }
+    }
+}
+
+/// A reader of the system's that is read in blocks. A read of bytes that are held already asks the system for nothing.
+#[derive(Drop)]
+pub struct BufferedInput<R: Read + Drop> {
+    device: SystemInput<BufReader<R>>,
+}
+
+impl<R: Read + Drop> BufferedInput<R> {
+    /// The device over this reader, with both counts at 0.
+    pub fn new(reader: BufReader<R>) -> BufferedInput<R>
+        ensures left { (⟦<BufferedInput<R> as Input>⟧.state result).left ≡ reader_remaining R.remaining reader }
+        ensures calls { (⟦<BufferedInput<R> as Input>⟧.state result).calls ≡ 0 }
+        ensures failures { (⟦<BufferedInput<R> as Input>⟧.state result).failures ≡ 0 }
+    {
+        BufferedInput {
+            device: SystemInput::new(reader),
+        }
+    }
+}
+
+impl<R: Read + Drop> Input for BufferedInput<R> {
+    ghost state = { λ s. ⟦<SystemInput<BufReader<R>> as Input>⟧.state s.device };
+
+    ghost calls_fit = { λ s. Prim.search rules };
+
+    ghost failures_fit = { λ s. Prim.search rules };
+
+    fn read(&mut self, room: &mut [u8]) -> Result<usize, DeviceFault> {
+        self.device.read(room)
+    }
+
+    #[inline(always)]
+    fn read_held(&mut self, room: &mut [u8]) -> bool {
+        let held = self.device.reader.buffer();
+        if room.is_empty() || held.len() < room.len() {
+            return false;
+        }
+        let (front, _) = held.split_at(room.len());
+        room.copy_from_slice(front);
+        self.device.reader.consume(room.len());
+        self.device.tally.call();
+        true
     }
 }
 

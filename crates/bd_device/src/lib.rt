@@ -29,6 +29,6 @@ mod reading;
 mod tally;
 
 pub use filling::{Filled, fill, fill_after};
-pub use input::{DeviceFault, Input, MemoryInput, SystemInput};
+pub use input::{BufferedInput, DeviceFault, Input, MemoryInput, SystemInput};
 pub use output::{FailingWrite, MemoryOutput, Output, SystemOutput, write_all};
 pub use reading::{Limits, ReadFault, read_all};

@@ -2,7 +2,7 @@ use Rattle.std.proofs.Common.{length, ◌-◌, ◌≡◌, take, ◌≤◌}
 use Rattle.std.specs.Io.KnownBytes.{Consumes}
 use Rattle.bd_device.specs.Counts.{after_more}
 use Rattle.bd_device.specs.Devices.{AreReads}
-use Rattle.bd_device.proofs.filling.fill.Given as goal
+use Rattle.bd_device.proofs.filling.fill_by_reads.Given as goal
 
 abbrev pub invariant-loop-bytes : goal.invariant-loop-bytes
 invariant-loop-bytes g l = record {

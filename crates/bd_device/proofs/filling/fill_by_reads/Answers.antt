@@ -1,0 +1,46 @@
+use Rattle.std.proofs.Common.{rules, refl, arith, ◌<◌, ◌≡◌, ◌-◌, length, take, length-take-le}
+use Rattle.std.proofs.KnownBytes.{Consumes-trans}
+use Rattle.bd_device.specs.Devices.{no_read}
+use Rattle.bd_device.proofs.DevicesLemmas.{Consumes-more, reads_more}
+use Rattle.bd_device.proofs.FillingLemmas.{grown}
+use Rattle.bd_device.proofs.filling.fill_by_reads.Goals as goal
+
+pub loop-bytes-init : goal.loop-bytes-init
+loop-bytes-init g c = record {
+  room = refl;
+  fits = omega arith;
+  consumed = search rules;
+  reads = no_read _;
+  within = omega arith;
+  turned = omega arith;
+  called = search rules;
+  well = refl;
+}
+
+pub loop-bytes-preserved : goal.loop-bytes-preserved
+loop-bytes-preserved g c =
+    let more = grown c.loop-bytes.bytes (length c.loop-bytes.room - c.loop-bytes.bytes) c.in-Ok.n c.loop-bytes.room c.read.new.room c.loop-bytes.invariant.fits c.in-Ok.ensures.within in
+    let some : 0 < length (take c.in-Ok.n c.read.new.room) = search rules in
+    record {
+      room = search rules;
+      fits = search rules;
+      consumed = Consumes-more _ _ _ _ _ _ c.loop-bytes.invariant.consumed c.in-Ok.ensures.bytes.0 more;
+      reads = reads_more _ _ _ _ _ _ _ c.loop-bytes.invariant.reads c.in-Ok.ensures.gives some more;
+      within = search rules;
+      turned = search rules;
+      called = search rules;
+      well = search rules;
+    }
+
+pub returns-then-limits-bytes-clause-unfilled : goal.returns-then-limits-bytes-clause-unfilled
+returns-then-limits-bytes-clause-unfilled g c =
+    let l = c.loop-bytes in
+    let size : length (take l.bytes l.room) ≡ l.bytes = length-take-le l.bytes l.room l.invariant.fits in
+    let last : length (take c.in-Ok.n c.read.new.room) ≡ c.in-Ok.n = length-take-le c.in-Ok.n c.read.new.room c.in-Ok.ensures.within in (
+      take l.bytes l.room,
+      take c.in-Ok.n c.read.new.room,
+      Consumes-trans _ _ _ _ _ l.invariant.consumed c.in-Ok.ensures.bytes.0,
+      search rules,
+      search rules,
+      search rules,
+    )
