@@ -2,6 +2,7 @@ pub mod InverseLemmas
 pub mod Base64Lemmas
 pub mod StringUtf8Lemmas
 pub mod DecimalLemmas
+pub mod DigitLemmas
 pub mod InjectiveLemmas
 pub mod EscapeLemmas
 pub mod JsonLemmas

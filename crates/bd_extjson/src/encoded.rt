@@ -1,14 +1,17 @@
 //! Bytes as base64 and as hexadecimal digits.
-ghost use Rattle.std.specs.Prelude.{◌≡◌, ◌≤◌, ◌+◌, ◌++◌, IfOk, OnErr, [], ◌∷◌, length, take};
+ghost use Rattle.std.specs.Prelude.{◌≡◌, ◌<◌, ◌≤◌, ◌+◌, ◌++◌, IfOk, OnErr, [], ◌∷◌, length, map, slice_index, take};
+ghost use Rattle.std.specs.Simd.Lanes.{Each1};
 ghost use Rattle.base64.specs.Engines.{standard};
 ghost use Rattle.base64.specs.GeneralPurpose.{encoded_size_of};
+ghost use Rattle.hex.specs.Hex.{lower_digits};
 ghost use Rattle.bd_extjson.specs.Text.{base64_text, hex_text};
 
-use crate::room::make_room;
+use crate::room::{make_room, put};
 use base64::encoded_len;
 use base64::engine::general_purpose::STANDARD;
 use bd_value::NoMemory;
 use std::alloc::AllocError;
+use std::simd::prelude::*;
 
 /// Writes the base64 text of bytes, of that size, after the text.
 fn put_base64(bytes: &[u8], size: usize, room: &mut [u8], end: usize) -> usize
@@ -39,17 +42,38 @@ pub(crate) fn append_base64(bytes: &[u8], out: &mut Vec<u8>, end: usize) -> Resu
     Ok(put_base64(bytes, size, out.as_mut_slice(), end))
 }
 
-/// Writes the 24 digits of an id after the text.
+/// The digits that stand for these numbers.
 #[inline(always)]
-#[tactic(auto, unfolding(crate::specs::Text::hex_text))]
+fn digits_of(numbers: u8x16) -> u8x16
+    requires { Each1 (λ n. n < 16) numbers }
+    ensures { result ≡ map (slice_index lower_digits) numbers }
+{
+    u8x16::from_array(*b"0123456789abcdef").swizzle_dyn(numbers)
+}
+
+/// The two digits of each byte, those of the first half and those of the second.
+#[inline(always)]
+fn digit_pairs(bytes: u8x16) -> (u8x16, u8x16)
+    ensures digits { result.0 ++ result.1 ≡ hex_text bytes }
+    ensures sizes { (length result.0 ≡ 16) × (length result.1 ≡ 16) }
+{
+    let high = digits_of(bytes >> u8x16::splat(4));
+    let low = digits_of(bytes & u8x16::splat(15));
+    high.interleave(low)
+}
+
+/// Writes the 24 digits of an id after the text. Those of 16 bytes are made and written at once, and the last of them are room.
+#[inline(always)]
 pub(crate) fn put_id(id: &[u8; 12], room: &mut [u8], end: usize) -> usize
-    requires { end + 24 ≤ length room.old }
+    requires { end + 32 ≤ length room.old }
     ensures put { take result room.new ≡ take end room.old ++ hex_text id.now }
     ensures end { result ≡ end + 24 }
 {
-    let Ok(()) = hex::encode_to_slice(id.as_slice(), &mut room[end..end + 24]) else {
-        unreachable!();
-    };
+    let mut bytes = [0; 16];
+    bytes[..12].copy_from_slice(id);
+    let (front, back) = digit_pairs(u8x16::from_array(bytes));
+    let after = put(front.as_array(), room, end);
+    put(back.as_array(), room, after);
     end + 24
 }
 

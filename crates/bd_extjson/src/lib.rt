@@ -38,4 +38,4 @@ pub use laws::{document_reads_back, reads_back, reads_what_fits, text_determines
 pub use number::{write_number, write_number32};
 pub use read::{read_doc, read_doc_with};
 pub use reading::{bare_number, read_wrapper, wrapper_named};
-pub use text::{write_doc, write_node, write_value};
+pub use text::{put_line, write_doc, write_node, write_value};

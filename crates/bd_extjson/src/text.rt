@@ -1,5 +1,5 @@
 //! Values and documents as canonical Extended JSON.
-ghost use Rattle.std.specs.Prelude.{◌≡◌, ◌<◌, ◌≤◌, ◌+◌, ◌++◌, IfOk, OnOk, OnErr, length, take};
+ghost use Rattle.std.specs.Prelude.{◌≡◌, ◌<◌, ◌≤◌, ◌+◌, ◌++◌, ◌∷◌, [], IfOk, OnOk, OnErr, length, take};
 ghost use Rattle.bd_value.specs.Tree.{doc, array, fields_of, items_of};
 ghost use Rattle.bd_value.specs.Kind.{kind_of};
 ghost use Rattle.bd_value.specs.declared.kind.Kind.TheVariants as kinds;
@@ -23,6 +23,17 @@ pub fn write_node<N: Reading>(node: N, out: &mut Vec<u8>) -> Result<(), NoMemory
     make_room(out, before, VALUE)?;
     let end = append_node(node, out, before);
     settle(end, before, out)
+}
+
+/// Writes the line of what a node stands for, its text and a newline, over the front of `room`, and gives its length. The room grows
+/// where it is too small and is not cut, so that for lines one after the other it is made once.
+pub fn put_line<N: Reading>(node: N, room: &mut Vec<u8>) -> Result<usize, NoMemory>
+    ensures line { IfOk result (λ n. take n room.new.items ≡ text (N.tree node) ++ 10 ∷ []) }
+    ensures within { IfOk result (λ n. n ≤ length room.new.items) }
+{
+    make_room(room, 0, VALUE)?;
+    let end = append_node(node, room, 0)?;
+    append_few(b"\n", room, end)
 }
 
 /// Appends the text of a value: Extended JSON v2, canonical form, without white space.
