@@ -5,7 +5,7 @@ ghost use Rattle.std.specs.List.{list_any, position, join_with_byte};
 ghost use Rattle.bd_extjson.specs.Text.{needs_escape, escape_byte, escaped, quoted};
 
 use crate::plain_text::copy_plain;
-use crate::room::{VALUE, make_room, put, put_byte, settle};
+use crate::room::{VALUE, make_room, put, put_byte, put_known, settle};
 use bd_value::NoMemory;
 
 /// Whether a byte may not stand for itself in a string.
@@ -173,10 +173,10 @@ pub(crate) fn append_name(
     let at = put_byte(b'"', room, at);
     let bytes = name.as_bytes();
     if copy_plain(bytes, room, at) {
-        return Ok(put(b"\":", room, at + bytes.len()));
+        return Ok(put_known(*b"\":", room, at + bytes.len()));
     }
     let at = append_escaped(bytes, 2 + VALUE, out, at)?;
-    Ok(put(b"\":", out.as_mut_slice(), at))
+    Ok(put_known(*b"\":", out.as_mut_slice(), at))
 }
 
 /// Appends a string with its quotation marks: RFC 8259, section 7.

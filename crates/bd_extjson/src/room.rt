@@ -56,6 +56,16 @@ pub(crate) fn put(bytes: &[u8], room: &mut [u8], end: usize) -> usize
     after
 }
 
+/// The same of bytes that are known as such, and not where they stand: it is not asked whether they stand in the room.
+#[inline(always)]
+pub(crate) fn put_known<const N: usize>(bytes: [u8; N], room: &mut [u8], end: usize) -> usize
+    requires { end + N ≤ length room.old }
+    ensures put { take result room.new ≡ take end room.old ++ bytes.entry }
+    ensures end { result ≡ end + N }
+{
+    put(&bytes, room, end)
+}
+
 /// Writes a byte after the text, and gives the end of both.
 #[inline(always)]
 pub(crate) fn put_byte(byte: u8, room: &mut [u8], end: usize) -> usize

@@ -1,6 +1,8 @@
 //! The scalars, each by its row of the conversion table of Extended JSON v2.
-ghost use Rattle.std.specs.Prelude.{◌≡◌, ◌<◌, ◌≤◌, ◌+◌, ◌++◌, IfOk, OnErr, length, take};
+ghost use Rattle.std.specs.Prelude.{◌≡◌, ◌≢◌, ◌<◌, ◌≤◌, ◌+◌, ◌++◌, IfOk, OnErr, length, take};
 ghost use Rattle.bd_value.specs.Tree.{Scalar, leaf, int32, int64, symbol, binary, object_id, boolean, date, timestamp, regex, db_pointer, code};
+ghost use Rattle.bd_value.specs.Kind.{kind_of};
+ghost use Rattle.bd_value.specs.declared.kind.Kind.TheVariants as kinds;
 ghost use Rattle.bd_extjson.specs.Short.{HasShortText};
 ghost use Rattle.bd_extjson.specs.Text.{quoted, scalar_text, text};
 
@@ -8,7 +10,7 @@ use crate::contents;
 use crate::encoded::{append_base64, put_hex, put_id};
 use crate::json_string::append_string;
 use crate::number::{put_digits, put_signed};
-use crate::room::{VALUE, make_room, put};
+use crate::room::{VALUE, make_room, put, put_known};
 use bd_value::{Kind, NoMemory, Reading};
 
 /// Int32.
@@ -18,9 +20,9 @@ fn put_int32(n: i32, room: &mut [u8], end: usize) -> usize
     ensures put { take result room.new ≡ take end room.old ++ scalar_text (int32 n) }
     ensures within { result ≤ end + VALUE }
 {
-    let at = put(b"{\"$numberInt\":\"", room, end);
+    let at = put_known(*b"{\"$numberInt\":\"", room, end);
     let at = put_signed(i64::from(n), room, at);
-    put(b"\"}", room, at)
+    put_known(*b"\"}", room, at)
 }
 
 /// Int64.
@@ -30,9 +32,9 @@ fn put_int64(n: i64, room: &mut [u8], end: usize) -> usize
     ensures put { take result room.new ≡ take end room.old ++ scalar_text (int64 n) }
     ensures within { result ≤ end + VALUE }
 {
-    let at = put(b"{\"$numberLong\":\"", room, end);
+    let at = put_known(*b"{\"$numberLong\":\"", room, end);
     let at = put_signed(n, room, at);
-    put(b"\"}", room, at)
+    put_known(*b"\"}", room, at)
 }
 
 /// Datetime: the milliseconds as an Int64 also before 1970 and after 9999.
@@ -42,9 +44,9 @@ fn put_date(milliseconds: i64, room: &mut [u8], end: usize) -> usize
     ensures put { take result room.new ≡ take end room.old ++ scalar_text (date milliseconds) }
     ensures within { result ≤ end + VALUE }
 {
-    let at = put(b"{\"$date\":{\"$numberLong\":\"", room, end);
+    let at = put_known(*b"{\"$date\":{\"$numberLong\":\"", room, end);
     let at = put_signed(milliseconds, room, at);
-    put(b"\"}}", room, at)
+    put_known(*b"\"}}", room, at)
 }
 
 /// Boolean.
@@ -56,9 +58,9 @@ fn put_bool(truth: bool, room: &mut [u8], end: usize) -> usize
     ensures within { result ≤ end + VALUE }
 {
     if truth {
-        put(b"true", room, end)
+        put_known(*b"true", room, end)
     } else {
-        put(b"false", room, end)
+        put_known(*b"false", room, end)
     }
 }
 
@@ -69,9 +71,9 @@ fn put_object_id(id: &[u8; 12], room: &mut [u8], end: usize) -> usize
     ensures put { take result room.new ≡ take end room.old ++ scalar_text (object_id id.now) }
     ensures within { result ≤ end + VALUE }
 {
-    let at = put(b"{\"$oid\":\"", room, end);
+    let at = put_known(*b"{\"$oid\":\"", room, end);
     let at = put_id(id, room, at);
-    put(b"\"}", room, at)
+    put_known(*b"\"}", room, at)
 }
 
 /// Timestamp: the seconds and the increment as plain numbers.
@@ -80,11 +82,11 @@ fn put_timestamp(seconds: u32, increment: u32, room: &mut [u8], end: usize) -> u
     ensures put { take result room.new ≡ take end room.old ++ scalar_text (timestamp seconds increment) }
     ensures within { result ≤ end + VALUE }
 {
-    let at = put(b"{\"$timestamp\":{\"t\":", room, end);
+    let at = put_known(*b"{\"$timestamp\":{\"t\":", room, end);
     let at = put_digits(u64::from(seconds), room, at);
-    let at = put(b",\"i\":", room, at);
+    let at = put_known(*b",\"i\":", room, at);
     let at = put_digits(u64::from(increment), room, at);
-    put(b"}}", room, at)
+    put_known(*b"}}", room, at)
 }
 
 /// Writes the text of a value after the text, where it holds no text and no bytes but an id.
@@ -97,9 +99,9 @@ fn put_short<N: Reading>(node: N, room: &mut [u8], end: usize) -> usize
     ensures within { result ≤ end + VALUE }
 {
     match node.kind() {
-        Kind::MinKey => put(b"{\"$minKey\":1}", room, end),
-        Kind::Undefined => put(b"{\"$undefined\":true}", room, end),
-        Kind::Null => put(b"null", room, end),
+        Kind::MinKey => put_known(*b"{\"$minKey\":1}", room, end),
+        Kind::Undefined => put_known(*b"{\"$undefined\":true}", room, end),
+        Kind::Null => put_known(*b"null", room, end),
         Kind::Int32 => put_int32(contents::int32_of(node), room, end),
         Kind::Int64 => put_int64(contents::int64_of(node), room, end),
         Kind::ObjectId => put_object_id(&contents::id_of(node), room, end),
@@ -109,7 +111,7 @@ fn put_short<N: Reading>(node: N, room: &mut [u8], end: usize) -> usize
             let (seconds, increment) = contents::timestamp_of(node);
             put_timestamp(seconds, increment, room, end)
         }
-        Kind::MaxKey => put(b"{\"$maxKey\":1}", room, end),
+        Kind::MaxKey => put_known(*b"{\"$maxKey\":1}", room, end),
         _ => unreachable!(),
     }
 }
@@ -181,7 +183,7 @@ fn append_binary(
     let at = append_few(b"\",\"subType\":\"", out, at)?;
     let room = out.as_mut_slice();
     let at = put_hex(subtype, room, at);
-    Ok(put(b"\"}}", room, at))
+    Ok(put_known(*b"\"}}", room, at))
 }
 
 /// Regular Expression: the options as they are stored.
@@ -217,11 +219,11 @@ fn append_pointer(
     let at = append_few(b",\"$id\":{\"$oid\":\"", out, at)?;
     let room = out.as_mut_slice();
     let at = put_id(id, room, at);
-    Ok(put(b"\"}}}", room, at))
+    Ok(put_known(*b"\"}}}", room, at))
 }
 
-/// Appends the text of a value that holds no other. There is room for one that is short.
-#[inline(always)]
+/// Appends the text of a value that holds no other and is no string. There is room for one that is short.
+#[inline(never)]
 #[tactic(auto, unfolding(crate::specs::Text::scalar_text))]
 pub(crate) fn append_scalar<N: Reading>(
     node: N,
@@ -229,13 +231,13 @@ pub(crate) fn append_scalar<N: Reading>(
     end: usize,
 ) -> Result<usize, NoMemory>
     requires scalar { (s : Scalar) × (N.tree node ≡ leaf s) }
+    requires other { kind_of (N.tree node) ≢ kinds.Text }
     requires room { end + VALUE ≤ length out.old.items }
     ensures ok { IfOk result (λ e. take e out.new.items ≡ take end out.old.items ++ text (N.tree node)) }
     ensures within { IfOk result (λ e. e ≤ length out.new.items) }
     ensures err { OnErr result (take end out.new.items ≡ take end out.old.items) }
 {
     match node.kind() {
-        Kind::Text => append_string(contents::text_of(&node), out, end),
         Kind::Symbol => append_symbol(contents::symbol_of(&node), out, end),
         Kind::Code => append_code(contents::code_of(&node), out, end),
         Kind::Binary => {

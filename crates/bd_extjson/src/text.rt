@@ -7,7 +7,8 @@ ghost use Rattle.bd_value.specs.Parts.{values_of};
 ghost use Rattle.bd_value.specs.View.{tree_of, pairs};
 ghost use Rattle.bd_extjson.specs.Text.{text};
 
-use crate::json_string::{append_name, put_separator};
+use crate::contents;
+use crate::json_string::{append_name, append_string, put_separator};
 use crate::room::{VALUE, make_room, put_byte, settle};
 use crate::scalar::{append_few, append_led, append_scalar};
 use bd_value::{Document, Kind, NoMemory, Reading, Scalar, Tree, Value};
@@ -59,6 +60,7 @@ pub fn write_doc(document: &Document, out: &mut Vec<u8>) -> Result<(), NoMemory>
 /// Appends the text of what a node stands for. There is room for a short one.
 #[cycle(text)]
 #[inline(always)]
+#[tactic(auto, unfolding(crate::specs::Text::scalar_text))]
 fn append_node<N: Reading>(node: N, out: &mut Vec<u8>, end: usize) -> Result<usize, NoMemory>
     requires { end + VALUE ≤ length out.old.items }
     ensures ok { IfOk result (λ e. take e out.new.items ≡ take end out.old.items ++ text (N.tree node)) }
@@ -69,6 +71,7 @@ fn append_node<N: Reading>(node: N, out: &mut Vec<u8>, end: usize) -> Result<usi
         Kind::Doc => append_fields::<N>(node.parts(), out, end),
         Kind::Array => append_items::<N>(node.parts(), out, end),
         Kind::CodeScope => append_scope(node, out, end),
+        Kind::Text => append_string(contents::text_of(&node), out, end),
         _ => append_scalar(node, out, end),
     }
 }

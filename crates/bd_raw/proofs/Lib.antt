@@ -6,3 +6,4 @@ pub mod ElementsLemmas
 pub mod ContentsLemmas
 pub mod SoundLemmas
 pub mod AtLemmas
+pub mod VectorLemmas

@@ -1,6 +1,7 @@
 //! Parts of a value's bytes, which are known to spell one of its kind.
 
-ghost use Rattle.std.specs.Prelude.{◌≡◌, ◌<◌, ◌≤◌, ◌+◌, ◌==◌, length, position, IfSome, Some, take, drop, false, slice_index_or};
+ghost use Rattle.std.specs.Prelude.{◌≡◌, ◌<◌, ◌≤◌, ◌+◌, ◌==◌, length, map, position, IfSome, Some, take, drop, false, slice_index_or};
+ghost use Rattle.std.specs.Simd.Lanes.{mask_l};
 ghost use Rattle.bd_value.specs.OwnPart.{seen, own};
 ghost use Rattle.bd_raw.specs.Sizes.{number_of, long_of, zero_at, name_of, text_of, payload_of, size_of, scalar_at};
 ghost use Rattle.bd_raw.specs.ValueAt.{TextAt, NameAt, BinaryAt, HasBytesOf};
@@ -10,6 +11,7 @@ ghost use Rattle.bd_raw.specs.declared.element.ElementType.TheVariants.{Kept};
 
 use crate::element::{ElementType, element_type};
 use bd_value::{Kind, Scalar};
+use std::simd::prelude::*;
 
 /// The kind that the type byte of an element tells.
 #[inline(always)]
@@ -23,12 +25,29 @@ pub fn kept(byte: u8) -> Kind
     }
 }
 
+/// How many bytes are looked at together. Most names are shorter.
+const LANES: usize = 16;
+
+/// Which of the bytes are zero, a bit each.
+#[inline(always)]
+fn zeros(bytes: u8x16) -> u64
+    ensures { result ≡ mask_l (map (λ b. b == 0) bytes) }
+{
+    bytes.simd_eq(u8x16::splat(0)).to_bitmask()
+}
+
 /// The place of the first zero.
 #[inline(always)]
 pub fn first_zero(bytes: &[u8]) -> Option<usize>
     ensures place { result ≡ position (λ b. b == 0) bytes.now }
     ensures inside { IfSome result (λ k. k < length bytes.now) }
 {
+    if bytes.len() >= LANES {
+        let found = zeros(u8x16::from_slice(bytes));
+        if found != 0 {
+            return Some(found.trailing_zeros() as usize);
+        }
+    }
     bytes.iter().position(|b| *b == 0)
 }
 

@@ -1,7 +1,7 @@
 use Rattle.std.proofs.Common.{sym, ap, arith}
 use Rattle.std.specs.Prelude.{◌||◌, ◌==◌, nat_lt}
 use lib.Count.{count_trailing_zeros}
-use Rattle.bd_check.proofs.VectorLemmas.{first_in_vector}
+use Rattle.bd_raw.proofs.VectorLemmas.{first_in_vector}
 use Rattle.bd_check.proofs.fast_path.ascii_end.Goals as goal
 
 pub returns-then-found-ne0 : goal.returns-then-found-ne0

@@ -12,17 +12,17 @@ pub returns-then-copy_plain-clause-ok : goal.returns-then-copy_plain-clause-ok
 unfolding quoted
 returns-then-copy_plain-clause-ok c =
     let made = c.make_room.new.out in
-    let room = c.put.new.room in
+    let room = c.put_known.new.room in
     let old : List ℕ = take c.args.end c.args.out.now.items in
     let comma : List ℕ = if c.args.later then 44 ∷ [] else [] in
     let name = c.as_bytes-bytes.result.now in
-    let same : length room ≡ length made.items = omega (arith, c.put.auto.room, c.copy_plain.auto.room, c.put_byte-at.auto.room, c.put_separator-at.auto.room, c.as_mut_slice-room.ensures.len, made.ok.0) in
+    let same : length room ≡ length made.items = omega (arith, c.put_known.auto.room, c.copy_plain.auto.room, c.put_byte-at.auto.room, c.put_separator-at.auto.room, c.as_mut_slice-room.ensures.len, made.ok.0) in
     let lead : take c.args.end c.as_mut_slice-room.result.now ≡ old = ap (λ (l : List ℕ). take c.args.end l) c.as_mut_slice-room.ensures.value ∙ c.make_room.ensures.kept in
     let quote = c.put_byte-at.ensures.put ∙ ap (λ (l : List ℕ). l ++ 34 ∷ []) (c.put_separator-at.ensures.put ∙ ap (λ (l : List ℕ). l ++ comma) lead) in
     let written = c.copy_plain.ensures.copied c.if-copy_plain.true ∙ ap (λ (l : List ℕ). l ++ name) quote in
-    let all = c.put.ensures.put ∙ ap (λ (l : List ℕ). l ++ 34 ∷ 58 ∷ []) written ∙ named old comma name in
+    let all = c.put_known.ensures.put ∙ ap (λ (l : List ℕ). l ++ 34 ∷ 58 ∷ []) written ∙ named old comma name in
     let plain : name ≡ escaped c.args.name.now = sym (escaped-plain name (c.copy_plain.ensures.plain c.if-copy_plain.true)) ∙ ap escaped c.as_bytes-bytes.ensures.value in
-    lent_text made.len c.put.result room made.items _ same made.ok.0 all ∙ ap (λ (l : List ℕ). (old ++ comma) ++ ((34 ∷ (l ++ 34 ∷ [])) ++ 58 ∷ [])) plain
+    lent_text made.len c.put_known.result room made.items _ same made.ok.0 all ∙ ap (λ (l : List ℕ). (old ++ comma) ++ ((34 ∷ (l ++ 34 ∷ [])) ++ 58 ∷ [])) plain
 
 pub returns-in_err-at-clause-err : goal.returns-in_err-at-clause-err
 returns-in_err-at-clause-err c =

@@ -7,5 +7,5 @@ use Rattle.bd_extjson.proofs.scalar.put_date.Goals as goal
 
 pub returns-clause-put : goal.returns-clause-put
 returns-clause-put c =
-    rw (c.put.ensures.put, c.put_signed-at.ensures.put, c.put-at.ensures.put, to_z-of_z w64 c.args.milliseconds c.ranges.milliseconds)
+    rw (c.put_known.ensures.put, c.put_signed-at.ensures.put, c.put_known-at.ensures.put, to_z-of_z w64 c.args.milliseconds c.ranges.milliseconds)
     (written-date (take c.args.end c.args.room.now) c.args.milliseconds (fits_64 c.args.milliseconds c.ranges.milliseconds))

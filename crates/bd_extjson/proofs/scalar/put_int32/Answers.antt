@@ -10,5 +10,5 @@ pub returns-clause-put : goal.returns-clause-put
 returns-clause-put c =
     let same : c.from.result ≡ c.args.n = c.from.ensures ∙ to_z-of_z w32 c.args.n c.ranges.n in
     let fits : FitsSigned w64 c.from.result = subst (λ (z : ℤ). FitsSigned w64 z) (sym same) (wider c.args.n c.ranges.n) in
-    rw (c.put.ensures.put, c.put_signed-at.ensures.put, c.put-at.ensures.put, to_z-of_z w64 c.from.result fits, same)
+    rw (c.put_known.ensures.put, c.put_signed-at.ensures.put, c.put_known-at.ensures.put, to_z-of_z w64 c.from.result fits, same)
     (written-int32 (take c.args.end c.args.room.now) c.args.n (fits_32 c.args.n c.ranges.n))

@@ -7,5 +7,5 @@ use Rattle.bd_extjson.proofs.scalar.put_int64.Goals as goal
 
 pub returns-clause-put : goal.returns-clause-put
 returns-clause-put c =
-    rw (c.put.ensures.put, c.put_signed-at.ensures.put, c.put-at.ensures.put, to_z-of_z w64 c.args.n c.ranges.n)
+    rw (c.put_known.ensures.put, c.put_signed-at.ensures.put, c.put_known-at.ensures.put, to_z-of_z w64 c.args.n c.ranges.n)
     (written-int64 (take c.args.end c.args.room.now) c.args.n (fits_64 c.args.n c.ranges.n))
