@@ -1,9 +1,10 @@
 //! Devices over the readers and writers of the system.
 use bd_device::{
-    DeviceFault, Limits, ReadFault, SystemInput, SystemOutput, fill, read_all, write_all,
+    BufferedInput, DeviceFault, Input, Limits, ReadFault, SystemInput, SystemOutput, fill,
+    read_all, write_all,
 };
 use std::cell::Cell;
-use std::io::{self, ErrorKind, Read, Write};
+use std::io::{self, BufReader, ErrorKind, Read, Write};
 use std::test::Fail;
 
 const LIMITS: Limits = Limits {
@@ -24,6 +25,22 @@ fn reads_and_writes_by_the_system(rt: HostRuntime) -> Result<(), Fail> {
     assert!(rt; write_all(&mut output, b"you") == Err(DeviceFault));
     drop(output);
     assert!(rt; &room == b"helloyo");
+    Ok(())
+}
+
+/// Blocks are of four bytes.
+#[test]
+fn reads_what_is_held(rt: HostRuntime) -> Result<(), Fail> {
+    let reader = BufReader::with_capacity(rt.alloc(), 4, b"hello you".as_slice())?;
+    let mut input = BufferedInput::new(reader);
+    let mut room = [0; 3];
+    assert!(rt; !input.read_held(&mut room));
+    assert!(rt; input.read(&mut room) == Ok(3) && &room == b"hel");
+    // One byte is held.
+    assert!(rt; !input.read_held(&mut room) && !input.read_held(&mut []));
+    assert!(rt; input.read_held(&mut room[..1]) && &room == b"lel");
+    let rest = read_all(rt.alloc(), &mut input, LIMITS)?;
+    assert!(rt; rest.as_slice() == b"o you".as_slice());
     Ok(())
 }
 

@@ -6,19 +6,21 @@ ghost use Rattle.bd_extjson.specs.Text.{needs_escape};
 use crate::json_string::{STEP, any_escape, needs_escape};
 use crate::room::put;
 
-/// Copies a text byte by byte, and tells whether none needs an escape.
+/// Copies a text byte by byte, and tells whether none needs an escape. Where one does, what was copied is a front of it.
 #[inline(always)]
 fn copy_few(text: &[u8], room: &mut [u8], end: usize) -> bool
     requires { end + length text.now ≤ length room.old }
-    ensures copied { take (end + length text.now) room.new ≡ take end room.old ++ text.now }
+    ensures copied { IsTrue result → take (end + length text.now) room.new ≡ take end room.old ++ text.now }
     ensures plain { IsTrue result → list_any needs_escape text.now ≡ false }
+    ensures kept { take end room.new ≡ take end room.old }
 {
-    let mut any = false;
     for (i, b) in text.iter().enumerate() {
-        any |= needs_escape(*b);
+        if needs_escape(*b) {
+            return false;
+        }
         room[end + i] = *b;
     }
-    !any
+    true
 }
 
 /// Copies a text of at least `size` and at most twice as many bytes, and tells whether none needs an escape. The first and the last

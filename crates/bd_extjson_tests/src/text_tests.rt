@@ -1,8 +1,8 @@
 //! Texts written by hand from the table of Extended JSON v2 and RFC 8259.
 use crate::samples::{add_field, document_of, prints, prints_document, prints_field, string};
 use bd_extjson::{
-    reads_back, text_determines_document, write_node, write_number, write_number32, write_path,
-    write_string,
+    put_line, reads_back, text_determines_document, write_node, write_number, write_number32,
+    write_path, write_string,
 };
 use bd_value::{Document, Tree, Value};
 use std::alloc::Global;
@@ -121,6 +121,16 @@ fn prints_strings_and_nodes(rt: HostRuntime) {
     write_string("\"", &mut out).expect(&rt, "a string");
     write_node(Tree::Value(&Value::Null), &mut out).expect(&rt, "null");
     assert!(rt; out.as_slice() == br#""\""null"#.as_slice());
+}
+
+/// What stands in the room is written over, and what is after the line stays room.
+#[test]
+fn prints_lines(rt: HostRuntime) {
+    let mut room = Vec::from_slice(rt.alloc(), b"what stood there").expect(&rt, "a room");
+    for _ in 0..2 {
+        let size = put_line(Tree::Value(&Value::Null), &mut room).expect(&rt, "a line");
+        assert!(rt; &room[..size] == b"null\n".as_slice());
+    }
 }
 
 /// These are clauses alone.

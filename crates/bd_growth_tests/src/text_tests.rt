@@ -3,7 +3,7 @@ use crate::answers::{RowFault, is_whole};
 use crate::samples::ONE;
 use bd_bson::read_dump;
 use bd_check::read_document;
-use bd_extjson::{write_doc, write_node, write_value};
+use bd_extjson::{put_line, write_doc, write_node, write_value};
 use bd_pack::Packer;
 use bd_value::{Document, NoMemory, Value};
 use std::alloc::Global;
@@ -62,6 +62,20 @@ fn text_of_a_view(alloc: Global) -> Result<bool, RowFault> {
     Ok(was_appended(&out, b"{\"a\":{\"$numberInt\":\"1\"}}"))
 }
 
+fn line_of_a_view(alloc: Global) -> Result<bool, RowFault> {
+    let dump = read_dump(alloc, Vec::from_slice(alloc, ONE)?)?;
+    if dump.len() != 1 {
+        return Ok(false);
+    }
+    let view = dump.document(0).value();
+    let mut room = Vec::new(alloc);
+    let size = match put_line(view, &mut room) {
+        Ok(size) => size,
+        Err(_) => put_line(view, &mut room)?,
+    };
+    Ok(&room[..size] == b"{\"a\":{\"$numberInt\":\"1\"}}\n".as_slice())
+}
+
 /// A line that is packed from its tokens, and one of which a tree is made first.
 const LINES: [(&[u8], &[u8]); 2] = [
     (b"{\"a\":1}", ONE),
@@ -90,5 +104,6 @@ fn packed_lines(alloc: Global) -> Result<bool, RowFault> {
 fn lent_vectors(rt: HostRuntime) {
     assert!(rt; is_whole!(texts_of_trees(rt.alloc())));
     assert!(rt; is_whole!(text_of_a_view(rt.alloc())));
+    assert!(rt; is_whole!(line_of_a_view(rt.alloc())));
     assert!(rt; is_whole!(packed_lines(rt.alloc())));
 }

@@ -7,7 +7,7 @@ mod gathering;
 
 use bd_cli::{Status, report};
 use bd_command_line::{Order, WordsFault, parse_words};
-use bd_device::{SystemInput, SystemOutput, write_all};
+use bd_device::{BufferedInput, SystemInput, SystemOutput, write_all};
 use gathering::{Fate, GatheredOutput, Gathering, TiedError, TiedInput, hand_on};
 use std::cell::RefCell;
 use std::io::{BufReader, Read, Stdout};
@@ -49,7 +49,7 @@ fn run<F: Read + Drop>(rt: &HostRuntime, order: &Order, reader: F, gathering: &W
     let Ok(file) = BufReader::with_capacity(rt.alloc(), BUFFER, file) else {
         return refuse(rt, &WordsFault::NoMemory, gathering);
     };
-    let mut file = SystemInput::new(file);
+    let mut file = BufferedInput::new(file);
     // They are read in blocks as it is.
     let mut commands = SystemInput::new(TiedInput {
         reader: rt.reader(),

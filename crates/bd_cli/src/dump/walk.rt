@@ -13,9 +13,10 @@ ghost use Rattle.bd_device.specs.Devices.{BreaksWithin, TakesText, over};
 
 use crate::ending::{Ending, ending_of};
 use crate::limits::LIMITS;
-use crate::output::lines::{OutputFault, is_want_of_memory, write_line};
+use crate::output::lines::{OutputFault, is_want_of_memory};
 use bd_check::{Fault, check_document};
 use bd_device::{Input, Output, write_all};
+use bd_extjson::put_line;
 use bd_stream::DocBuffer;
 use std::alloc::Global;
 
@@ -46,9 +47,8 @@ fn print_document<O: Output>(
 {
     match check_document(alloc, bytes, base, number) {
         Ok(document) => {
-            line.clear();
-            write_line(document.value(), line)?;
-            write_all(out, line)?;
+            let size = put_line(document.value(), line)?;
+            write_all(out, &line[..size])?;
             Ok(None)
         }
         Err(fault) => {

@@ -7,9 +7,10 @@ ghost use Rattle.bd_cli.specs.Output.Lines.{StopsWithin};
 ghost use Rattle.bd_cli.specs.Transcript.{lines};
 ghost use Rattle.bd_device.specs.Devices.{TakesText, over};
 
-use crate::output::lines::{OutputFault, write_line};
+use crate::output::lines::OutputFault;
 use bd_bson::Dump;
 use bd_device::{Output, write_all};
+use bd_extjson::put_line;
 use std::alloc::Global;
 
 /// Writes the documents with these numbers, one a line. Where memory runs out, what was written is a front of the lines.
@@ -25,9 +26,8 @@ pub(crate) fn write_documents<O: Output>(
 {
     let mut line = Vec::new(alloc);
     for place in places {
-        line.clear();
-        write_line(dump.document(*place).value(), &mut line)?;
-        write_all(out, &line)?;
+        let size = put_line(dump.document(*place).value(), &mut line)?;
+        write_all(out, &line[..size])?;
     }
     Ok(())
 }

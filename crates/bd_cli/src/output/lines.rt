@@ -1,14 +1,11 @@
 //! Lines that are written to standard output.
 
-ghost use Rattle.std.specs.Prelude.{◌≡◌, ◌++◌, ◌∷◌, [], OnOk, OnErr, IsTrue, ◌↔◌};
+ghost use Rattle.std.specs.Prelude.{◌≡◌, IsTrue, ◌↔◌};
 ghost use Rattle.bd_check.specs.declared.fault.FaultKind.TheVariants as kinds;
-ghost use Rattle.bd_extjson.specs.Text.{text};
 ghost use Rattle.bd_cli.specs.declared.output.lines.OutputFault.TheVariants.{NoMemory as no_memory, Unwritten};
 
 use bd_check::{Fault, FaultKind};
 use bd_device::DeviceFault;
-use bd_extjson::write_node;
-use bd_value::{NoMemory, Reading};
 use std::alloc::AllocError;
 
 /// Why writing lines did not come to its end.
@@ -33,22 +30,6 @@ impl From<DeviceFault> for OutputFault {
 
     fn from(_fault: DeviceFault) -> OutputFault {
         OutputFault::Unwritten
-    }
-}
-
-/// Appends the line of a document. `NoMemory` leaves `out` as it was.
-pub(crate) fn write_line<N: Reading>(document: N, out: &mut Vec<u8>) -> Result<(), NoMemory>
-    ensures ok { OnOk result (out.new.items ≡ out.old.items ++ (text (N.tree document) ++ 10 ∷ [])) }
-    ensures err { OnErr result (out.new.items ≡ out.old.items) }
-{
-    let before = out.len();
-    write_node(document, out)?;
-    match out.push(b'\n') {
-        Ok(()) => Ok(()),
-        Err(error) => {
-            out.truncate(before);
-            Err(error.into())
-        }
     }
 }
 
