@@ -193,6 +193,7 @@ fn document(alloc: Global, e: u64, bytes: &[u8]) -> Result<(), Stop>
 ///
 /// The fault is the first from left to right: BSON 1.1, `document`, with at most 16,793,600 bytes and 200 levels.
 /// Memory is taken for the path of a fault alone.
+#[inline(always)]
 pub fn check_document<'a>(
     alloc: Global,
     bytes: &'a [u8],

@@ -31,6 +31,7 @@ pub struct Walk {
 
 /// Writes the line of the document that all of the bytes are to be, or gives its first fault. It begins at the place
 /// `base` of the input and has that number in it. `line` is room that documents share.
+#[inline(always)]
 fn print_document<O: Output>(
     alloc: Global,
     bytes: &[u8],

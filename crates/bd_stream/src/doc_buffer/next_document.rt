@@ -23,6 +23,7 @@ impl DocBuffer {
     /// - `DocFault::Read`: a read failed (`Device`), gave more than the limit of bytes (`TooLong`), or one more was
     ///   wanted than may be made (`TooManyTurns`), before the document was whole; or there was no memory (`NoMemory`);
     /// - `DocFault::Failed`: an earlier call met one of these. The device is not read then.
+    #[inline(always)]
     pub fn read_next<R: Input>(&mut self, reader: &mut R) -> Result<bool, DocFault>
         ensures reads { result ≡ Ok true → ReadsDocument R.state R.read_gives self.old self.new reader.old reader.new }
         ensures end { result ≡ Ok false → FindsEnd R.state self.old self.new reader.old reader.new }
