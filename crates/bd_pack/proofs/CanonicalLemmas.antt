@@ -1,14 +1,18 @@
 -- Canonical text, read from its front.
-use Rattle.std.proofs.Common.{◌≡◌, ◌<◌, ◌≤◌, ℕ, suc, ℤ, List, [], ◌∷◌, ◌++◌, eqb, get_or, Bor, option_map, length, take, drop, Bool, true, false, cond, Option, Some, None, refl, sym, ap, ap₂, ◌∙◌, arith, append_assoc, append-nil, length-append, take-append-drop}
-use Rattle.std.specs.Prelude.{codes, ◌||◌, ◌&&◌, ◌==◌, IfSome, IsUtf8}
+use Rattle.std.proofs.Common.{◌≡◌, ◌<◌, ◌≤◌, ℕ, suc, ℤ, List, [], ◌∷◌, ◌++◌, eqb, get_or, Bor, option_map, length, take, drop, Bool, true, false, cond, Option, Some, None, refl, sym, ap, ap₂, ◌∙◌, arith, append_assoc, append-nil, length-append, take-append-drop, Result, Ok, Err, is_ok}
+use Rattle.std.specs.Prelude.{codes, ◌||◌, ◌&&◌, ◌==◌, ◌/◌, ◌%◌, nat_lt, IfSome, IsUtf8}
 use Rattle.std.specs.List.{list_any, join_with_byte}
+use Rattle.std.specs.Char.{digit_char}
 use Rattle.std.specs.Fmt.{signed_decimal}
+use Rattle.base64.specs.Engines.{standard}
+use Rattle.base64.specs.GeneralPurpose.{encode_of}
 use Rattle.std.specs.Int.{w32, w64}
 use Rattle.std.specs.Int.RustNames.{FitsSigned}
 use Rattle.std.specs.Bool.{then_some}
+use Rattle.std.specs.Result.{result_ok}
 use Rattle.std.specs.Str.{bytes_eq}
 use Rattle.bd_value.specs.Depth.{fields_depth, items_depth}
-use Rattle.bd_value.specs.Fits.{ScalarFitsType, ScalarHasUtf8, FieldsFitTypes, ItemsFitTypes, FieldsHaveUtf8, ItemsHaveUtf8}
+use Rattle.bd_value.specs.Fits.{AreBytes, ScalarFitsType, ScalarHasUtf8, FieldsFitTypes, ItemsFitTypes, FieldsHaveUtf8, ItemsHaveUtf8}
 use Rattle.bd_value.specs.Tree as trees
 use Rattle.bd_value.specs.Tree.{Scalar, Tree, leaf, doc, array, code_scope, Items, Fields, item, field, Doc, fields_of, items_of}
 use Rattle.bd_value.specs.Zeros.{has_zero, zero_in_scalar, zero_in, zero_in_fields, zero_in_items}
@@ -17,7 +21,7 @@ use Rattle.bd_write.specs.TreeBytes.{bytes_of}
 use Rattle.bd_wrapper.specs.Wrappers.{wrappers, named_in, wrapper_of}
 use Rattle.bd_wrapper.specs.declared.wrapper.Wrapper.{Wrapper}
 use Rattle.bd_extjson.specs.Plain.{IsPlainFirst, ArePlainFields, ArePlainItems}
-use Rattle.bd_extjson.specs.Text.{needs_escape, escape_byte, escaped, quoted, hex_text, scalar_text, member, text, items_text, fields_text}
+use Rattle.bd_extjson.specs.Text.{needs_escape, escape_byte, escaped, quoted, hex_text, base64_text, scalar_text, member, text, items_text, fields_text, object}
 use Rattle.bd_extjson.specs.TextDocument.{ReadsAs}
 use Rattle.bd_extjson.proofs.EscapeLemmas.{escaped-plain}
 use Rattle.bd_extjson.proofs.ReadBackLemmas.{document_back}
@@ -367,3 +371,90 @@ packs_canonical line rest new old d true r is known short put empty then =
     let none : length rest ≡ 0 = grind arith in
     rw then (d, (reads_canonical line rest d is none known, omega (arith, short, ap (λ x. length x) put, length-append old (plain d))), put)
 packs_canonical line rest new old d false r is known short put empty then = rw then tt
+
+-- ---- strings with escapes
+
+pub run_read : (text : List ℕ) (n : ℕ) (o : Option (Bor (List ℕ) × Bor (List ℕ))) → IfSome o (λ x. x.0.now ≡ take n text) → IfSome o (λ x. x.1.now ≡ drop n text) → list_any needs_escape (take n text) ≡ false
+    → IfSome o (λ p. text ≡ escaped p.0.now ++ p.1.now)
+run_read text n None front back none = tt
+run_read text n (Some p) front back none =
+    sym (take-append-drop n text) ∙ ap₂ (λ (x y : List ℕ). x ++ y) (sym (escaped-plain (take n text) none) ∙ ap escaped (sym front)) (sym back)
+
+escaped-append : (a b : List ℕ) → escaped (a ++ b) ≡ escaped a ++ escaped b
+escaped-append [] b = refl
+escaped-append (x ∷ a) b = ap (λ l. escape_byte x ++ l) (escaped-append a b) ∙ sym (append_assoc (escape_byte x) (escaped a) (escaped b))
+
+pub run_begins : (text after run rest : List ℕ) → text ≡ 34 ∷ after → after ≡ escaped run ++ rest → text ≡ 34 ∷ (escaped run ++ rest)
+run_begins text after run rest a b = a ∙ ap (λ x. 34 ∷ x) b
+
+-- an escape and the run after it
+pub run_goes_on : (text held old after run rest : List ℕ) (byte : ℕ) → text ≡ 34 ∷ (escaped held ++ old) → old ≡ escape_byte byte ++ after → after ≡ escaped run ++ rest → text ≡ 34 ∷ (escaped (held ++ (byte ∷ run)) ++ rest)
+run_goes_on text held old after run rest byte a b c =
+    a ∙ ap (λ x. 34 ∷ x) (ap (λ x. escaped held ++ x) (b ∙ ap (λ x. escape_byte byte ++ x) c ∙ sym (append_assoc (escape_byte byte) (escaped run) rest))
+    ∙ sym (append_assoc (escaped held) (escaped (byte ∷ run)) rest) ∙ ap (λ x. x ++ rest) (sym (escaped-append held (byte ∷ run))))
+
+escape_some : (byte : ℕ) → 0 < length (escape_byte byte)
+unfolding escape_byte
+escape_some byte = go (byte == 34 || byte == 92) (byte == 8) (byte == 12) (byte == 10) (byte == 13) (byte == 9) (nat_lt byte 32)
+  where
+    go : (a b c d e f g : Bool)
+        → 0 < length (cond a (92 ∷ byte ∷ []) (cond b (codes "\\b") (cond c (codes "\\f") (cond d (codes "\\n") (cond e (codes "\\r") (cond f (codes "\\t") (cond g (codes "\\u00" ++ (digit_char (byte / 16) ∷ digit_char (byte % 16) ∷ [])) (byte ∷ []))))))))
+    go true b c d e f g = omega arith
+    go false true c d e f g = omega arith
+    go false false true d e f g = omega arith
+    go false false false true e f g = omega arith
+    go false false false false true f g = omega arith
+    go false false false false false true g = omega arith
+    go false false false false false false true = omega arith
+    go false false false false false false false = omega arith
+
+pub run_shorter : (old after run rest : List ℕ) (byte : ℕ) → old ≡ escape_byte byte ++ after → after ≡ escaped run ++ rest → length rest < length old
+run_shorter old after run rest byte a b = omega (arith, ap (λ x. length x) a, ap (λ x. length x) b, length-append (escape_byte byte) after, length-append (escaped run) rest, escape_some byte)
+
+pub run_ends : (text held old : List ℕ) (o : Option (Bor (List ℕ))) (into new : List ℕ) → text ≡ 34 ∷ (escaped held ++ old) → new ≡ into ++ held → IfSome o (λ rest. old ≡ 34 ∷ rest.now)
+    → IfSome o (λ rest. (held : List ℕ) × (text ≡ quoted held ++ rest.now) × (new ≡ into ++ held))
+unfolding quoted
+run_ends text held old None into new a b c = tt
+run_ends text held old (Some rest) into new a b c = (held, a ∙ ap (λ x. 34 ∷ x) (ap (λ x. escaped held ++ x) c ∙ sym (append_assoc (escaped held) (34 ∷ []) rest.now)), b)
+
+-- ---- binary data
+
+nested : (a b c d e : List ℕ) → ((a ++ (b ++ c)) ++ d) ++ e ≡ a ++ (b ++ (c ++ (d ++ e)))
+nested a b c d e = append_assoc (a ++ (b ++ c)) d e ∙ append_assoc a (b ++ c) (d ++ e) ∙ ap (λ x. a ++ x) (append_assoc b c (d ++ e))
+
+-- the pieces of its text, one in the other
+binary_text : (digits subtype : List ℕ) → codes "{\"$binary\":{\"base64\":" ++ (quoted digits ++ (codes ",\"subType\":" ++ (quoted subtype ++ codes "}}")))
+    ≡ object (member (codes "$binary") (object (member (codes "base64") (quoted digits) ∷ member (codes "subType") (quoted subtype) ∷ [])) ∷ [])
+unfolding quoted escape_byte
+binary_text digits subtype = ap (λ x. codes "{\"$binary\":{\"base64\":" ++ x) (sym (nested (quoted digits) (codes ",\"subType\":") (quoted subtype) (125 ∷ []) (125 ∷ [])))
+
+pub binary_read : (text inside after subtype_at closing rest digits payload : List ℕ) (subtype : ℕ) → text ≡ codes "{\"$binary\":{\"base64\":" ++ inside → inside ≡ quoted digits ++ after → after ≡ codes ",\"subType\":" ++ subtype_at
+    → subtype_at ≡ quoted (hex_text (subtype ∷ [])) ++ closing → closing ≡ codes "}}" ++ rest → digits ≡ encode_of standard payload → text ≡ scalar_text (trees.binary subtype payload) ++ rest
+unfolding scalar_text base64_text
+binary_read text inside after subtype_at closing rest digits payload subtype a b c d e f =
+    let s = quoted (hex_text (subtype ∷ [])) in
+    let q = quoted digits in
+    let tail : after ≡ (codes ",\"subType\":" ++ (s ++ codes "}}")) ++ rest = c ∙ ap (λ x. codes ",\"subType\":" ++ x) (d ∙ ap (λ x. s ++ x) e ∙ sym (append_assoc s (codes "}}") rest)) ∙ sym (append_assoc (codes ",\"subType\":") (s ++ codes "}}") rest) in
+    a ∙ ap (λ x. codes "{\"$binary\":{\"base64\":" ++ x) (b ∙ ap (λ x. q ++ x) tail ∙ sym (append_assoc q (codes ",\"subType\":" ++ (s ++ codes "}}")) rest))
+    ∙ sym (append_assoc (codes "{\"$binary\":{\"base64\":") (q ++ (codes ",\"subType\":" ++ (s ++ codes "}}"))) rest) ∙ ap (λ x. x ++ rest) (binary_text digits (hex_text (subtype ∷ [])) ∙ ap (λ k. scalar_text_of k) f)
+  where
+    scalar_text_of : List ℕ → List ℕ
+    scalar_text_of k = object (member (codes "$binary") (object (member (codes "base64") (quoted k) ∷ member (codes "subType") (quoted (hex_text (subtype ∷ []))) ∷ [])) ∷ [])
+
+-- ---- what is pushed to a text
+
+pub pushed : {A E : Type 0} (r : Result A E) (x : A) (new a b : List ℕ) → Some x ≡ result_ok r → new ≡ cond (is_ok r) a b → new ≡ a
+pushed (Ok y) x new a b is e = e
+pushed (Err f) x new a b is e = absurd cc
+
+pub pieces_put : (into old held plain one new encoded : List ℕ) (byte : ℕ) → old ≡ into ++ held → one ≡ old ++ encoded → encoded ≡ byte ∷ [] → new ≡ one ++ plain → new ≡ into ++ (held ++ (byte ∷ plain))
+pieces_put into old held plain one new encoded byte a b c d =
+    d ∙ ap (λ x. x ++ plain) (b ∙ ap₂ (λ (x y : List ℕ). x ++ y) a c) ∙ append_assoc (into ++ held) (byte ∷ []) plain ∙ append_assoc into held (byte ∷ plain)
+
+pub binary_element : (whole rest name old new payload : List ℕ) (subtype : ℕ) → whole ≡ text (leaf (trees.binary subtype payload)) ++ rest → subtype < 256 → AreBytes payload → (given : List ℕ) → given ≡ payload
+    → new ≡ old ++ element (leaf (trees.binary subtype given)) name (bytes_of (leaf (trees.binary subtype given))) → (t : Tree) × (whole ≡ text t ++ rest) × IsCanonical 0 t × (new ≡ old ++ element t name (bytes_of t))
+binary_element whole rest name old new payload subtype is fits bytes given same put =
+    (leaf (trees.binary subtype payload), is, leaf_canonical (trees.binary subtype payload) (fits, bytes) tt refl, put ∙ ap (λ k. old ++ element (leaf (trees.binary subtype k)) name (bytes_of (leaf (trees.binary subtype k)))) same)
+
+pub held_is : (given final empty held whole rest : List ℕ) → given ≡ final → final ≡ empty ++ held → empty ≡ [] → whole ≡ quoted held ++ rest → whole ≡ quoted given ++ rest
+held_is given final empty held whole rest a b c is = is ∙ ap (λ x. quoted x ++ rest) (sym (a ∙ b ∙ ap (λ x. x ++ held) c))

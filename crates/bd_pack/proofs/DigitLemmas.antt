@@ -1,88 +1,30 @@
 -- The text of a whole number is what its number is written as, but for a zero with a sign.
-use Rattle.std.proofs.Common.{◌≡◌, ℕ, zero, suc, ◌^◌, ◌<◌, ℤ, pos, neg_ℤ, Bool, true, false, not, cond, ◌==◌, List, [], ◌∷◌, ◌++◌, to_z, of_z, length, get_or, Some, None, Result, Ok, Err, decimal, refl, sym, ap, ◌∙◌, arith}
-use Rattle.std.specs.Prelude.{codes, option_and_then}
+use Rattle.bd_extjson.proofs.EscapeLemmas.{escaped-digits}
+use Rattle.std.proofs.lemmas.Str.{digit_value_digit}
+use Rattle.std.proofs.lemmas.Int.Digits.{digits_value_more}
+use Rattle.std.proofs.Common.{◌≡◌, ℕ, zero, suc, ◌^◌, ◌<◌, ℤ, pos, neg_ℤ, Bool, true, false, not, List, [], ◌∷◌, ◌++◌, length, get_or, Some, Result, Ok, Err, decimal, refl, sym, ap, ap₂, ◌∙◌, arith, inl, inr, ◌⊎◌, drop, take-append-drop, ◌≤◌, ◌+◌, ◌*◌, ◌-◌, take, append_assoc}
 use Rattle.std.specs.Fmt.{signed_decimal}
 use Rattle.std.specs.Char.{is_ascii_digit}
 use Rattle.std.specs.Str.{all_ascii_digits, bytes_eq}
-use Rattle.std.specs.Int.{w64}
-use Rattle.std.proofs.lemmas.Int.{to_z-of_z}
 use Rattle.std.specs.Str.Parse.{digits_value}
-use Rattle.std.proofs.lemmas.Bool.{and_parts}
-use Rattle.std.proofs.lemmas.Fmt.{decimal-digits_value, decimal_digit}
+use Rattle.std.proofs.lemmas.Bool.{and_parts, cases_lt}
+use Rattle.std.proofs.lemmas.List.{length-take-le, get_or-take}
+use Rattle.std.proofs.lemmas.Fmt.{decimal-digits_value, decimal_is_IsNumeral}
 use Rattle.std.proofs.lemmas.Slice.Eq.{bytes_eq-Decides}
 use Rattle.hex.specs.Hex.{encode_lower, decode_sized}
 use Rattle.hex.specs.declared.FromHexError.{FromHexError}
 use Rattle.hex.proofs.HexLemmas.{decode_of-ok, decode_sized-ok, decode_sized-twice}
 use Rattle.bd_value.specs.Fits.{IsId}
 use Rattle.bd_wrapper.specs.Wrappers.{ok_of}
-use Rattle.bd_wrapper.specs.Whole.{has_no_digits, begins_digits, are_digits, digits_number, negative, positive, fits_bits, if_fits, whole, whole_64}
-use Rattle.bd_wrapper.proofs.WholeLemmas.{own, all_of}
-use Rattle.bd_extjson.specs.Text.{quoted, hex_text}
-use Rattle.bd_pack.proofs.ShortLemmas.{whole_fits, fits_64}
+use Rattle.bd_wrapper.proofs.WholeLemmas.{own}
+use Rattle.bd_extjson.specs.Text.{quoted, hex_text, escaped, escape_byte}
 
-zero_alone : (ds : List ℕ) → begins_digits ds ≡ true → get_or ds 0 0 ≡ 48 → length ds ≡ 1
-zero_alone [] b e = absurd cc
-zero_alone (c ∷ cs) b e = one cs (ap (λ x. cond x (has_no_digits cs) (is_ascii_digit c)) (sym (same c e)) ∙ b)
-  where
-    same : (c : ℕ) → c ≡ 48 → (c == 48) ≡ true
-    same c e = grind arith
-
-    one : (cs : List ℕ) → has_no_digits cs ≡ true → length (c ∷ cs) ≡ 1
-    one [] h = refl
-    one (d ∷ ds) h = absurd cc
-
-digits_back : (ds : List ℕ) → are_digits ds ≡ true → digits_value 10 ds < 2 ^ 64 → decimal (digits_value 10 ds) ≡ ds
-digits_back ds are small =
-    let a = all_of ds are in
-    let b = (and_parts (begins_digits ds) (all_ascii_digits ds) are).0 in
-    decimal-digits_value own ds a.0 a.1 (zero_alone ds b) small
-
-fit : (z y : ℤ) (b : Bool) → fits_bits 63 z ≡ b → cond b (Some z) None ≡ Some y → (z ≡ y) × (fits_bits 63 z ≡ true)
-fit z y true e is = (cc, e)
-fit z y false e is = absurd cc
-
-below : (n : ℕ) → fits_bits 63 (pos n) ≡ true → n < 2 ^ 64
-below n e = grind arith
-
-below_negative : (n : ℕ) → fits_bits 63 (neg_ℤ (pos n)) ≡ true → n < 2 ^ 64
-below_negative zero e = omega arith
-below_negative (suc n) e = grind arith
-
-minus : (n : ℕ) (cs : List ℕ) → decimal n ≡ cs → (45 ∷ cs ≡ codes "-0" → ⊥) → 45 ∷ cs ≡ signed_decimal (neg_ℤ (pos n))
-minus zero cs is bare = absurd (bare (ap (λ l. 45 ∷ l) (sym is ∙ decimal_digit 0 (omega arith))))
-minus (suc n) cs is bare = ap (λ l. 45 ∷ l) (sym is)
-
-pub whole_back : (s : List ℕ) (z : ℤ) → whole_64 s ≡ Some z → (s ≡ codes "-0" → ⊥) → s ≡ signed_decimal z
-unfolding whole
-whole_back [] z is bare = absurd cc
-whole_back (c ∷ cs) z is bare = by_sign (c == 45) refl is
-  where
-    signed : (b : Bool) → c ≡ 45 → are_digits cs ≡ b → option_and_then (if_fits 63) (negative (cond b (Some (digits_value 10 cs)) None)) ≡ Some z → c ∷ cs ≡ signed_decimal z
-    signed true e are is =
-        let f = fit (neg_ℤ (pos (digits_value 10 cs))) z (fits_bits 63 (neg_ℤ (pos (digits_value 10 cs)))) refl is in
-        let back = digits_back cs are (below_negative (digits_value 10 cs) f.1) in
-        ap (λ x. x ∷ cs) e ∙ minus (digits_value 10 cs) cs back (λ n. bare (ap (λ x. x ∷ cs) e ∙ n)) ∙ ap signed_decimal f.0
-    signed false e are is = absurd cc
-
-    unsigned : (b : Bool) → are_digits (c ∷ cs) ≡ b → option_and_then (if_fits 63) (positive (cond b (Some (digits_value 10 (c ∷ cs))) None)) ≡ Some z → c ∷ cs ≡ signed_decimal z
-    unsigned true are is =
-        let f = fit (pos (digits_value 10 (c ∷ cs))) z (fits_bits 63 (pos (digits_value 10 (c ∷ cs)))) refl is in
-        sym (digits_back (c ∷ cs) are (below (digits_value 10 (c ∷ cs)) f.1)) ∙ ap signed_decimal f.0
-    unsigned false are is = absurd cc
-
-    by_sign : (b : Bool) → (c == 45) ≡ b → option_and_then (if_fits 63) (cond b (negative (digits_number cs)) (positive (digits_number (c ∷ cs)))) ≡ Some z → c ∷ cs ≡ signed_decimal z
-    by_sign true e is = let same : c ≡ 45 = grind arith in signed (are_digits cs) same refl is
-    by_sign false e is = unsigned (are_digits (c ∷ cs)) refl is
-
-pub number_read : (text digits rest : List ℕ) (z : ℤ) → text ≡ quoted digits ++ rest → Some z ≡ whole_64 digits → bytes_eq digits (codes "-0") ≡ false
-    → text ≡ quoted (signed_decimal (to_z w64 (of_z w64 z))) ++ rest
-number_read text digits rest z is read some =
-    let back = whole_back digits z (sym read) (λ e. differ e some) in
-    let fits = to_z-of_z w64 z (fits_64 z (whole_fits 63 (whole digits) z (sym read))) in
-    is ∙ ap (λ x. quoted x ++ rest) (back ∙ ap signed_decimal (sym fits))
-  where
-    differ : digits ≡ codes "-0" → bytes_eq digits (codes "-0") ≡ false → ⊥
-    differ e f = let no_more : bytes_eq (codes "-0") (codes "-0") ≡ false = ap (λ x. bytes_eq x (codes "-0")) (sym e) ∙ f in absurd cc
+pub all_more : (bs : List ℕ) (i : ℕ) → i < length bs → all_ascii_digits (take i bs) ≡ true → is_ascii_digit (get_or bs i 0) ≡ true → all_ascii_digits (take (suc i) bs) ≡ true
+all_more [] i lt all one = absurd (omega arith)
+all_more (b ∷ bs) zero lt all one = rw one refl
+all_more (b ∷ bs) (suc i) lt all one =
+    let both = and_parts (is_ascii_digit b) (all_ascii_digits (take i bs)) all in
+    rw (both.0, all_more bs i (omega arith) both.1 one) refl
 
 pub id_read : (text digits rest written id : List ℕ) → text ≡ quoted digits ++ rest → written ≡ encode_lower id → not (bytes_eq written digits) ≡ false → text ≡ quoted (hex_text id) ++ rest
 unfolding hex_text
@@ -103,3 +45,50 @@ id_fits s bytes e = go (decode_sized s 12) refl e
         let all = decode_of-ok s bytes (sym (decode_sized-twice s 12 size) ∙ whole) in
         (omega (arith, size, all.2), all.3)
     go (Err f) is e = absurd cc
+
+-- ---- digits
+
+pub digits_read : (text rest bytes : List ℕ) (n count : ℕ) → bytes ≡ text → count ≤ length bytes → digits_value 10 (take count bytes) ≡ n → all_ascii_digits (take count bytes) ≡ true → n < 2 ^ 64
+    → 0 < count → (1 < count → get_or bytes 0 0 ≡ 48 → ⊥) → rest ≡ drop count text → text ≡ decimal n ++ rest
+digits_read text rest bytes n count same within value all small some lead left =
+    let d = take count bytes in
+    let long : length d ≡ count = length-take-le count bytes within in
+    let first : get_or d 0 0 ≡ get_or bytes 0 0 = get_or-take count bytes 0 0 (omega arith) in
+    let back = decimal-digits_value own d all (omega (arith, long)) (λ e. one e first long) (omega (arith, value)) in
+    sym (take-append-drop count text) ∙ ap₂ (λ (x y : List ℕ). x ++ y) (ap (take count) (sym same) ∙ sym back ∙ ap decimal value) (sym left)
+  where
+    one : get_or (take count bytes) 0 0 ≡ 48 → get_or (take count bytes) 0 0 ≡ get_or bytes 0 0 → length (take count bytes) ≡ count → length (take count bytes) ≡ 1
+    one e f g = go (cases_lt 1 count)
+      where
+        go : (1 < count) ⊎ (count ≤ 1) → length (take count bytes) ≡ 1
+        go (inl more) = absurd (lead more (sym f ∙ e))
+        go (inr few) = omega (arith, g)
+
+-- one more digit
+pub digit_more : (bs : List ℕ) (i n m d next : ℕ) → i < length bs → digits_value 10 (take i bs) ≡ n → all_ascii_digits (take i bs) ≡ true → is_ascii_digit (get_or bs i 0) ≡ true → m ≡ n * 10 → d ≡ get_or bs i 0 - 48 → next ≡ m + d
+    → (i + 1 ≤ length bs) × (digits_value 10 (take (i + 1) bs) ≡ next) × (all_ascii_digits (take (i + 1) bs) ≡ true)
+digit_more bs i n m d next lt value all one times digit sum =
+    let low : 48 ≤ get_or bs i 0 = grind arith in
+    let high : get_or bs i 0 ≤ 57 = grind arith in
+    let digit_is = digit_value_digit (get_or bs i 0) (low, high) in
+    let step = digits_value_more 10 bs i lt in
+    let after : i + 1 ≡ suc i = omega arith in (
+      omega arith,
+      step ∙ omega (arith, value, times, digit, sum, digit_is),
+      ap (λ k. all_ascii_digits (take k bs)) after ∙ all_more bs i lt all one,
+    )
+
+escaped-decimal : (n : ℕ) → n < 2 ^ 64 → escaped (decimal n) ≡ decimal n
+escaped-decimal n small = escaped-digits (decimal n) (decimal_is_IsNumeral n small).0.1
+
+pub positive_read : (text inside rest after : List ℕ) (n : ℕ) (z : ℤ) → text ≡ 34 ∷ inside → inside ≡ decimal n ++ rest → n < 2 ^ 64 → rest ≡ 34 ∷ after → pos n ≡ z → text ≡ quoted (signed_decimal z) ++ after
+unfolding quoted
+positive_read text inside rest after n z a b small c same =
+    a ∙ ap (λ x. 34 ∷ x) (b ∙ ap (λ x. decimal n ++ x) c ∙ sym (append_assoc (decimal n) (34 ∷ []) after) ∙ ap (λ x. (x ++ 34 ∷ []) ++ after) (sym (escaped-decimal n small))) ∙ ap (λ k. quoted (signed_decimal k) ++ after) same
+
+pub negative_read : (text inside digits rest after : List ℕ) (n : ℕ) (z : ℤ) → text ≡ 34 ∷ inside → inside ≡ 45 ∷ digits → digits ≡ decimal n ++ rest → n < 2 ^ 64 → rest ≡ 34 ∷ after → 0 < n → neg_ℤ (pos n) ≡ z
+    → text ≡ quoted (signed_decimal z) ++ after
+unfolding quoted escape_byte
+negative_read text inside digits rest after zero z a m b small c some same = absurd (omega arith)
+negative_read text inside digits rest after (suc n) z a m b small c some same =
+    a ∙ ap (λ x. 34 ∷ x) (m ∙ ap (λ x. 45 ∷ x) (b ∙ ap (λ x. decimal (suc n) ++ x) c ∙ sym (append_assoc (decimal (suc n)) (34 ∷ []) after) ∙ ap (λ x. (x ++ 34 ∷ []) ++ after) (sym (escaped-decimal (suc n) small)))) ∙ ap (λ k. quoted (signed_decimal k) ++ after) same

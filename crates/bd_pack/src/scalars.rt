@@ -1,11 +1,11 @@
 //! Elements of scalars, appended to bytes. None is where no memory is left, and where the bytes are more than a document has.
-ghost use Rattle.std.specs.Prelude.{◌≡◌, ◌++◌, IfSome};
+ghost use Rattle.std.specs.Prelude.{◌≡◌, ◌==◌, ◌++◌, false, IfSome};
 ghost use Rattle.bd_value.specs.Tree as trees;
 ghost use Rattle.bd_value.specs.Tree.{leaf};
 ghost use Rattle.bd_raw.specs.Spelling.{element, string};
 ghost use Rattle.bd_write.specs.TreeBytes.{bytes_of};
 
-use crate::put::{push_byte, push_label, push_long, push_number, push_string};
+use crate::put::{LONGEST, push_byte, push_label, push_long, push_number, push_string};
 use bd_value::Kind;
 
 /// Appends an element of a text.
@@ -68,4 +68,24 @@ pub(crate) fn append_id(name: &str, id: &[u8; 12], out: &mut Vec<u8>) -> Option<
 {
     push_label(Kind::ObjectId, name, out)?;
     out.extend_from_slice(id).ok()
+}
+
+/// Appends an element of binary data, of any subtype but 2, whose data begins with its length.
+#[inline(always)]
+pub(crate) fn append_binary(
+    name: &str,
+    subtype: u8,
+    payload: &[u8],
+    out: &mut Vec<u8>,
+) -> Option<()>
+    requires { (subtype == 2) ≡ false }
+    ensures { IfSome result (λ u. out.new.items ≡ out.old.items ++ element (leaf (trees.binary subtype payload.now)) name.now (bytes_of (leaf (trees.binary subtype payload.now)))) }
+{
+    if payload.len() > LONGEST {
+        return None;
+    }
+    push_label(Kind::Binary, name, out)?;
+    push_number(payload.len() as u32, out)?;
+    push_byte(subtype, out)?;
+    out.extend_from_slice(payload).ok()
 }

@@ -228,7 +228,7 @@ pub(crate) fn spell_line(
 {
     out.clear();
     let text = simdutf8::compat::from_utf8(line).ok()?;
-    if append_canonical(text, out).is_some() {
+    if append_canonical(alloc, text, out).is_some() {
         return Some(());
     }
     out.clear();

@@ -1,7 +1,7 @@
 use Rattle.std.proofs.Common.{rules, refl, to_z, of_z, w32, w64}
 use Rattle.bd_value.specs.Tree as trees
 use Rattle.bd_value.specs.Tree.{leaf}
-use Rattle.bd_pack.proofs.CanonicalLemmas.{leaf_canonical, int32_element, int64_element, date_element}
+use Rattle.bd_pack.proofs.CanonicalLemmas.{leaf_canonical, int32_element, int64_element, date_element, binary_element}
 use Rattle.bd_pack.proofs.canonical_line.append_wrapper.Goals as goal
 
 pub returns-in_ok-append_int32-in-73 : goal.returns-in_ok-append_int32-in-73
@@ -20,3 +20,8 @@ pub returns-in_ok-append_id-in_default : goal.returns-in_ok-append_id-in_default
 returns-in_ok-append_id-in_default c =
     let id = c.in_ok-id-in_default.id in
     (leaf (trees.object_id id), c.in_ok-id-in_default.ensures.0, leaf_canonical (trees.object_id id) c.in_ok-id-in_default.ensures.1 tt refl, c.in_ok-append_id-in_default.ensures)
+
+pub returns-in_ok-append_binary-in-34 : goal.returns-in_ok-append_binary-in-34
+returns-in_ok-append_binary-in-34 c =
+    let read = c.in_ok-subtype-in-34.ensures in
+    binary_element c.args.text.now c.in_ok-subtype-in-34.rest.now c.args.name.now c.args.out.now.items c.append_binary.new.out.items c.in_ok-subtype-in-34.payload.items c.in_ok-subtype-in-34.subtype read.0 (search rules) read.1 c.deref.result.now c.deref.ensures.value c.in_ok-append_binary-in-34.ensures
