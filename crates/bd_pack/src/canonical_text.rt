@@ -227,9 +227,9 @@ fn byte_digits<'a>(text: &'a str) -> Option<(u8, &'a str)>
 {
     let (digits, rest) = string(text)?;
     let byte = u8::from_str_radix(digits, 16).ok()?;
-    let mut written = [0; 2];
-    hex::encode_to_slice([byte].as_slice(), &mut written).ok()?;
-    if written.as_slice() != digits.as_bytes() {
+    let mut pair = [0; 2];
+    hex::encode_to_slice([byte].as_slice(), &mut pair).ok()?;
+    if pair.as_slice() != digits.as_bytes() {
         return None;
     }
     Some((byte, rest))
