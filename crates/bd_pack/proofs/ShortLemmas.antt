@@ -1,7 +1,7 @@
 -- Wrappers of one string, from their tokens.
-use Rattle.std.proofs.Common.{◌≡◌, ℕ, ◌-◌, ◌<◌, ◌≤◌, ◌^◌, ℤ, pos, negsuc, Bool, true, false, cond, List, [], ◌∷◌, ◌++◌, length, Option, Some, None, option_map, option_and_then, to_z, of_z, refl, sym, ap, ◌∙◌, arith}
+use Rattle.std.proofs.Common.{◌≡◌, ℕ, ◌-◌, ◌<◌, ◌≤◌, ◌^◌, ℤ, pos, negsuc, Bool, true, false, cond, List, ◌∷◌, ◌++◌, length, Option, Some, None, option_map, option_and_then, to_z, of_z, refl, sym, ap, ◌∙◌, arith}
 use Rattle.std.specs.Prelude.{codes}
-use Rattle.std.specs.Int.{w32, w64, cast_unsigned}
+use Rattle.std.specs.Int.{w32, w64}
 use Rattle.std.specs.Int.RustNames.{FitsSigned}
 use Rattle.std.proofs.lemmas.Int.{ints, to_z-of_z}
 use Rattle.json.specs.Token.{Token}
@@ -13,7 +13,8 @@ use Rattle.bd_value.specs.Tree.{Scalar, Tree, leaf}
 use Rattle.bd_extjson.specs.Meaning.{wrap_object}
 use Rattle.bd_extjson.proofs.StepLemmas.{first_name}
 use Rattle.bd_extjson.proofs.MemberLemmas.{member_is, ended}
-use Rattle.bd_pack.proofs.BodyLemmas.{labelled}
+use Rattle.bd_raw.specs.Spelling.{element}
+use Rattle.bd_write.specs.TreeBytes.{bytes_of}
 use Rattle.bd_wrapper.specs.Wrappers.{wrapper_of, single, only}
 use Rattle.bd_wrapper.specs.Progress.{through, after_key}
 use Rattle.bd_wrapper.specs.Whole.{fits_bits, if_fits, whole, whole_32, whole_64}
@@ -66,7 +67,7 @@ kept : (k : ℕ) (x z : ℤ) (b : Bool) → fits_bits k x ≡ b → cond b (Some
 kept k x z true fits is = let same : x ≡ z = cc in rw (← same) fits
 kept k x z false fits is = absurd cc
 
-whole_fits : (k : ℕ) (o : Option ℤ) (z : ℤ) → option_and_then (if_fits k) o ≡ Some z → fits_bits k z ≡ true
+pub whole_fits : (k : ℕ) (o : Option ℤ) (z : ℤ) → option_and_then (if_fits k) o ≡ Some z → fits_bits k z ≡ true
 whole_fits k None z is = absurd cc
 whole_fits k (Some x) z is = kept k x z (fits_bits k x) refl is
 
@@ -74,16 +75,19 @@ fits_32 : (z : ℤ) → fits_bits 31 z ≡ true → FitsSigned w32 z
 fits_32 (pos n) e = let low : n < 2 ^ 31 = grind arith in record { sfits = omega (arith, ints) }
 fits_32 (negsuc n) e = let low : n < 2 ^ 31 = grind arith in record { sfits = omega (arith, ints) }
 
-fits_64 : (z : ℤ) → fits_bits 63 z ≡ true → FitsSigned w64 z
+pub fits_64 : (z : ℤ) → fits_bits 63 z ≡ true → FitsSigned w64 z
 fits_64 (pos n) e = let low : n < 2 ^ 63 = grind arith in record { sfits = omega (arith, ints) }
 fits_64 (negsuc n) e = let low : n < 2 ^ 63 = grind arith in record { sfits = omega (arith, ints) }
 
-pub bits_32 : (s : List ℕ) (z : ℤ) (b : ℕ) → Some z ≡ whole_32 s → b ≡ cast_unsigned w32 (to_z w32 (of_z w32 z)) → b ≡ cast_unsigned w32 z
-bits_32 s z b is cast = cast ∙ ap (cast_unsigned w32) (to_z-of_z w32 z (fits_32 z (whole_fits 31 (whole s) z (sym is))))
+module _ (s : List ℕ) (z : ℤ) (old name new : List ℕ) where
+  pub int32_put : Some z ≡ whole_32 s → new ≡ old ++ element (leaf (trees.int32 (to_z w32 (of_z w32 z)))) name (bytes_of (leaf (trees.int32 (to_z w32 (of_z w32 z)))))
+      → new ≡ old ++ element (leaf (trees.int32 z)) name (bytes_of (leaf (trees.int32 z)))
+  int32_put is put = put ∙ ap (λ k. old ++ element (leaf (trees.int32 k)) name (bytes_of (leaf (trees.int32 k)))) (to_z-of_z w32 z (fits_32 z (whole_fits 31 (whole s) z (sym is))))
 
-pub bits_64 : (s : List ℕ) (z : ℤ) (b : ℕ) → Some z ≡ whole_64 s → b ≡ cast_unsigned w64 (to_z w64 (of_z w64 z)) → b ≡ cast_unsigned w64 z
-bits_64 s z b is cast = cast ∙ ap (cast_unsigned w64) (to_z-of_z w64 z (fits_64 z (whole_fits 63 (whole s) z (sym is))))
+  pub int64_put : Some z ≡ whole_64 s → new ≡ old ++ element (leaf (trees.int64 (to_z w64 (of_z w64 z)))) name (bytes_of (leaf (trees.int64 (to_z w64 (of_z w64 z)))))
+      → new ≡ old ++ element (leaf (trees.int64 z)) name (bytes_of (leaf (trees.int64 z)))
+  int64_put is put = put ∙ ap (λ k. old ++ element (leaf (trees.int64 k)) name (bytes_of (leaf (trees.int64 k)))) (to_z-of_z w64 z (fits_64 z (whole_fits 63 (whole s) z (sym is))))
 
--- a label and the value after it
-pub element_is : (old name value label new : List ℕ) (b : ℕ) → label ≡ old ++ (b ∷ (name ++ 0 ∷ [])) → new ≡ label ++ value → new ≡ old ++ (b ∷ (name ++ 0 ∷ value))
-element_is old name value label new b put more = more ∙ ap (λ (x : List ℕ). x ++ value) put ∙ labelled old name value b
+  pub date_put : Some z ≡ whole_64 s → new ≡ old ++ element (leaf (trees.date (to_z w64 (of_z w64 z)))) name (bytes_of (leaf (trees.date (to_z w64 (of_z w64 z)))))
+      → new ≡ old ++ element (leaf (trees.date z)) name (bytes_of (leaf (trees.date z)))
+  date_put is put = put ∙ ap (λ k. old ++ element (leaf (trees.date k)) name (bytes_of (leaf (trees.date k)))) (to_z-of_z w64 z (fits_64 z (whole_fits 63 (whole s) z (sym is))))

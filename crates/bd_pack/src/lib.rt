@@ -11,15 +11,18 @@
 //! ```
 //!
 //! - `line`: `Packer`, a line at a time.
-//! - `tokens`: the bytes straight from the tokens of a line.
-//! - `short`: of the wrappers that hold one string, as most do.
-//! - `put`: pieces of elements.
+//! - `canonical_line`: the bytes straight from a line as `dump` writes it, over `canonical_text`, what a text begins with.
+//! - `tokens`: the bytes straight from the tokens of any other line; `short`, of the wrappers that hold one string, as most do.
+//! - `scalars`: elements of scalars; `put`, pieces of elements.
 //! - `laws`: what is packed spells the line's document.
 #![tactic(auto)]
 
+mod canonical_line;
+mod canonical_text;
 mod laws;
 mod line;
 mod put;
+mod scalars;
 mod short;
 mod tokens;
 

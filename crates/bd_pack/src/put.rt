@@ -7,7 +7,7 @@ use bd_raw::type_byte;
 use bd_value::Kind;
 
 /// A document has at most so many bytes.
-const LONGEST: usize = 16_793_600;
+pub(crate) const LONGEST: usize = 16_793_600;
 
 /// Appends four bytes, least first.
 #[inline(always)]

@@ -10,8 +10,7 @@ ghost use Rattle.bd_extjson.specs.Meaning.{wrap_object};
 ghost use Rattle.bd_wrapper.specs.Wrappers.{wrapper_of};
 ghost use Rattle.bd_wrapper.specs.Progress.{through, after_key};
 
-use crate::put::{push_label, push_long, push_number};
-use bd_value::Kind;
+use crate::scalars::{append_date, append_id, append_int32, append_int64};
 use bd_wrapper::{Wrapper, id_of_text, whole, whole_of_32};
 use json::{Reader, Token};
 
@@ -48,15 +47,6 @@ fn only_long<'a>(reader: &mut Reader<'a>) -> Option<&'a str>
     }
 }
 
-/// Appends an element of an id.
-#[inline(always)]
-fn append_id(name: &str, id: &[u8; 12], out: &mut Vec<u8>) -> Option<()>
-    ensures { IfSome result (λ u. out.new.items ≡ out.old.items ++ element (leaf (trees.object_id id.now)) name.now (bytes_of (leaf (trees.object_id id.now)))) }
-{
-    push_label(Kind::ObjectId, name, out)?;
-    out.extend_from_slice(id).ok()
-}
-
 /// Whether a wrapper is written with one string.
 #[inline(always)]
 pub(crate) fn is_short(wrapper: Wrapper) -> bool {
@@ -81,22 +71,10 @@ pub(crate) fn append_short(
     ensures shorter { IfSome result (λ u. length reader.new < length reader.old) }
 {
     match wrapper {
-        Wrapper::NumberInt => {
-            let n = whole_of_32(only_string(reader)?)?;
-            push_label(Kind::Int32, name, out)?;
-            push_number(n.cast_unsigned(), out)
-        }
-        Wrapper::NumberLong => {
-            let n = whole(only_string(reader)?)?;
-            push_label(Kind::Int64, name, out)?;
-            push_long(n.cast_unsigned(), out)
-        }
+        Wrapper::NumberInt => { append_int32(name, whole_of_32(only_string(reader)?)?, out) }
+        Wrapper::NumberLong => { append_int64(name, whole(only_string(reader)?)?, out) }
         Wrapper::Oid => append_id(name, &id_of_text(only_string(reader)?)?, out),
-        Wrapper::Date if depth > 0 => {
-            let n = whole(only_long(reader)?)?;
-            push_label(Kind::Date, name, out)?;
-            push_long(n.cast_unsigned(), out)
-        }
+        Wrapper::Date if depth > 0 => { append_date(name, whole(only_long(reader)?)?, out) }
         _ => None,
     }
 }

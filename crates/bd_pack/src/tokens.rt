@@ -14,7 +14,9 @@ ghost use Rattle.bd_wrapper.specs.Whole.{whole_64};
 ghost use Rattle.bd_wrapper.specs.Wrappers.{wrapper_of};
 ghost use Rattle.bd_pack.specs.Packable.{plain, IsPackable};
 
-use crate::put::{push_byte, push_label, push_string};
+use crate::canonical_line::append_canonical;
+use crate::put::push_label;
+use crate::scalars::{append_bool, append_text};
 use crate::short::{append_short, is_short};
 use bd_diagnose::{BRACKETS, LEVELS};
 use bd_extjson::{bare_number, read_wrapper, wrapper_named};
@@ -39,24 +41,6 @@ fn append_read(name: &str, value: Value, out: &mut Vec<u8>) -> Option<()>
     ensures { IfSome result (λ u. out.new.items ≡ out.old.items ++ element (tree_of value) name.now (bytes_of (tree_of value))) }
 {
     append_held(name, &value, out)
-}
-
-/// Appends an element of a text.
-#[inline(always)]
-fn append_text(name: &str, text: &str, out: &mut Vec<u8>) -> Option<()>
-    ensures { IfSome result (λ u. out.new.items ≡ out.old.items ++ element (leaf (trees.text text.now)) name.now (string text.now)) }
-{
-    push_label(Kind::Text, name, out)?;
-    push_string(text, out)
-}
-
-/// Appends an element of a boolean.
-#[inline(always)]
-fn append_bool(name: &str, truth: bool, out: &mut Vec<u8>) -> Option<()>
-    ensures { IfSome result (λ u. out.new.items ≡ out.old.items ++ element (leaf (trees.boolean truth)) name.now (bytes_of (leaf (trees.boolean truth)))) }
-{
-    push_label(Kind::Bool, name, out)?;
-    push_byte(u8::from(truth), out)
 }
 
 /// Appends an element of a bare number.
@@ -244,5 +228,9 @@ pub(crate) fn spell_line(
 {
     out.clear();
     let text = simdutf8::compat::from_utf8(line).ok()?;
+    if append_canonical(alloc, text, out).is_some() {
+        return Some(());
+    }
+    out.clear();
     append_document(alloc, text, scratch, out)
 }

@@ -45,8 +45,58 @@ fn lines_have_their_bytes(rt: HostRuntime) -> Result<(), Fail> {
             r#"{"f":{"$scope":{"x":1},"$code":"g"}}"#,
             b"\x1e\0\0\0\x0ff\0\x16\0\0\0\x02\0\0\0g\0\x0c\0\0\0\x10x\0\x01\0\0\0\0\0".as_slice(),
         ),
+        // Canonical lines, and the same values in other spellings.
+        (
+            "{\"a\":{\"$oid\":\"0123456789abcdef01234567\"}}\n{\"a\":{\"$oid\":\"0123456789ABCDEF01234567\"}}",
+            b"\x14\0\0\0\x07a\0\x01\x23\x45\x67\x89\xab\xcd\xef\x01\x23\x45\x67\0\x14\0\0\0\x07a\0\x01\x23\x45\x67\x89\xab\xcd\xef\x01\x23\x45\x67\0".as_slice(),
+        ),
+        (
+            "{\"b\":{\"$numberInt\":\"0\"}}\n{\"b\":{\"$numberInt\":\"-0\"}}",
+            b"\x0c\0\0\0\x10b\0\0\0\0\0\0\x0c\0\0\0\x10b\0\0\0\0\0\0".as_slice(),
+        ),
+        (
+            "{\"c\":\"A\"}\n{\"c\":\"\\u0041\"}",
+            b"\x0e\0\0\0\x02c\0\x02\0\0\0A\0\0\x0e\0\0\0\x02c\0\x02\0\0\0A\0\0".as_slice(),
+        ),
+        (
+            r#"{"d":{"$date":{"$numberLong":"-1"}}}"#,
+            b"\x10\0\0\0\x09d\0\xff\xff\xff\xff\xff\xff\xff\xff\0".as_slice(),
+        ),
+        (
+            r#"{"e":[true,false,null,{}]}"#,
+            b"\x20\0\0\0\x04e\0\x18\0\0\0\x080\0\x01\x081\0\0\x0a2\0\x033\0\x05\0\0\0\0\0\0".as_slice(),
+        ),
+        (
+            r#"{"f":{"$numberInt":"-2147483648"},"g":{"$numberLong":"9223372036854775807"}}"#,
+            b"\x17\0\0\0\x10f\0\0\0\0\x80\x12g\0\xff\xff\xff\xff\xff\xff\xff\x7f\0".as_slice(),
+        ),
+        // A wrapper's name that stands second names a field.
+        (
+            r#"{"a":{"b":null,"$oid":null}}"#,
+            b"\x16\0\0\0\x03a\0\x0e\0\0\0\x0ab\0\x0a$oid\0\0\0".as_slice(),
+        ),
     ] {
         packs(&rt, rt.alloc(), lines, bytes)?;
+    }
+    Ok(())
+}
+
+/// Of so many bytes that they are looked at in vectors, one by one, and both.
+#[test]
+fn names_and_texts_of_each_length(rt: HostRuntime) -> Result<(), Fail> {
+    let alloc = rt.alloc();
+    for n in 0..80_u32 {
+        let name = "k".repeat(alloc, n as usize)?;
+        let text = "v".repeat(alloc, n as usize)?;
+        let line = format!(in alloc; "{{\"{}\":\"{}\"}}", name, text)?;
+        let mut bytes = Vec::from_slice(alloc, &(12 + 2 * n).to_le_bytes())?;
+        bytes.push(2)?;
+        bytes.extend_from_slice(name.as_bytes())?;
+        bytes.push(0)?;
+        bytes.extend_from_slice(&(n + 1).to_le_bytes())?;
+        bytes.extend_from_slice(text.as_bytes())?;
+        bytes.extend_from_slice(b"\0\0")?;
+        packs(&rt, alloc, &line, &bytes)?;
     }
     Ok(())
 }

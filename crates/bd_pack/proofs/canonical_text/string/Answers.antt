@@ -1,0 +1,14 @@
+use Rattle.std.proofs.Common.{sym, ap, ◌∙◌, take}
+use Rattle.std.specs.List.{list_any}
+use Rattle.bd_extjson.specs.Text.{needs_escape}
+use Rattle.bd_pack.proofs.CanonicalLemmas.{string_read}
+use Rattle.bd_pack.proofs.VectorLemmas.{quiet_front}
+use Rattle.bd_pack.proofs.canonical_text.string.Goals as goal
+
+pub returns : goal.returns
+returns c =
+    let n = c.plain_length.result in
+    let cut = c.in_ok-inside-2.ensures in
+    let same = sym c.as_bytes.ensures.value in
+    let plain = ap (λ x. list_any needs_escape (take n x)) same ∙ quiet_front c.as_bytes.result.now n c.plain_length.ensures.within c.plain_length.ensures.plain in
+    string_read c.args.text.now c.in_ok-inside.inside.now c.in_ok-inside-2.inside.now c.in_ok-inside-2.rest.now c.in_ok-rest.rest.now n c.in_ok-inside.ensures cut.front cut.back c.in_ok-rest.ensures plain
