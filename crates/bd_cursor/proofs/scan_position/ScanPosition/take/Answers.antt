@@ -15,5 +15,5 @@ returns-clause-left c =
           let full : length ps ≡ c.args.n = let l = w.loop-self-test.false in omega (arith, l) in
           ap remaining w.self-is ∙ sym (ap (drop c.args.n) (sym whole) ∙ drop_front c.args.n ps (remaining c.loop-self.self) full)
       | then-loop-self-test+in-None w ↦
-          ap remaining w.self-is ∙ w.in-None.ensures.none ∙ sym (ap (drop c.args.n) (sym whole) ∙ drop_past c.args.n ps (remaining c.loop-self.self) few w.in-None.ensures.place)
+          ap remaining w.self-is ∙ w.in-None.ensures.1 ∙ sym (ap (drop c.args.n) (sym whole) ∙ drop_past c.args.n ps (remaining c.loop-self.self) few w.in-None.ensures.0)
     ]
