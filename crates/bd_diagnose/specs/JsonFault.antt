@@ -1,5 +1,7 @@
 -- Why a text is no document, in words, and where.
 use Rattle.std.specs.Prelude.{◌≡◌, ◌≤◌, ℕ, List, codes}
+use Rattle.std.specs.Str.{IsUtf8}
+use Rattle.std.specs.Str.Lossy.{utf8_valid_len}
 use Rattle.bd_diagnose.specs.declared.json_fault.JsonFault.{JsonFault}
 use Rattle.bd_diagnose.specs.declared.json_fault.JsonFaultKind.{JsonFaultKind}
 use Rattle.bd_diagnose.specs.declared.json_fault.JsonFaultKind.TheVariants as kinds
@@ -21,3 +23,20 @@ pub record IsPlaced (size : ℕ) (fault : JsonFault) : Type 0 where
   pub inside : fault.at ≤ size
   pub whole : fault.kind ≡ kinds.NotADocument → fault.at ≡ 0
   pub memory : fault.kind ≡ kinds.NoMemory → fault.at ≡ 0
+
+-- The byte that is told of a fault at a byte.
+abbrev pub byte_of : JsonFaultKind → ℕ → ℕ
+byte_of kinds.Syntax at = at
+byte_of kinds.NotADocument at = 0
+byte_of kinds.TooDeep at = at
+byte_of kinds.BadWrapper at = at
+byte_of kinds.NotInProfile at = at
+byte_of kinds.NumberRange at = at
+byte_of kinds.NulInName at = at
+byte_of kinds.TrailingText at = at
+byte_of kinds.NoMemory at = 0
+
+-- A text that is not UTF-8 is told as no JSON, at its first byte that is none.
+pub record TellsBadUtf8 (text : List ℕ) (fault : JsonFault) : Type 0 where
+  pub kind : ¬ (IsUtf8 text) → fault.kind ≡ kinds.Syntax
+  pub at : ¬ (IsUtf8 text) → fault.at ≡ utf8_valid_len text

@@ -1,6 +1,6 @@
 //! Why a text is no document of Extended JSON, and where: the second pass, over a text that was refused.
 //!
-//! No clause says which kind and which byte it tells: that is tested.
+//! Of bytes that are not UTF-8 a clause says which kind and which byte it tells; of texts none does: that is tested.
 //!
 //! An example, which `bd_diagnose_tests` proves and runs as `examples::diagnosed`:
 //!

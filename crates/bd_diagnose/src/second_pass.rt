@@ -1,8 +1,11 @@
 //! Why a text is no document, and where: a pass over the whole text, for texts that are refused.
 //!
 //! What is no JSON stops the walk where it stands. The first fault of the tree is kept until the text has shown itself as JSON.
-ghost use Rattle.std.specs.Prelude.{length};
-ghost use Rattle.bd_diagnose.specs.JsonFault.{IsPlaced};
+ghost use Rattle.std.specs.Prelude.{◌≡◌, ◌-◌, IfErr, IfOk, length};
+ghost use Rattle.std.specs.Str.{IsUtf8};
+ghost use Rattle.std.specs.Str.Lossy.{utf8_valid_len};
+ghost use Rattle.bd_diagnose.specs.JsonFault.{IsPlaced, TellsBadUtf8};
+ghost use Rattle.bd_diagnose.specs.declared.json_fault.JsonFaultKind.TheVariants as kinds;
 
 use crate::findings::{Form, Target};
 use crate::json_fault::{JsonFault, JsonFaultKind};
@@ -12,7 +15,10 @@ use crate::walk;
 use std::alloc::Global;
 
 /// The text as UTF-8, as JSON, as a tree and as a document.
-fn check(alloc: Global, text: &[u8]) -> Result<(), Stop> {
+fn check(alloc: Global, text: &[u8]) -> Result<(), Stop>
+    ensures ok { IfOk result (λ u. IsUtf8 text.now) }
+    ensures err { IfErr result (λ stop. ¬ (IsUtf8 text.now) → stop ≡ record { kind = kinds.Syntax; left = length text.now - utf8_valid_len text.now }) }
+{
     if let Err(error) = str::from_utf8(text) {
         return Err(Stop::syntax(&text[error.valid_up_to()..]));
     }
@@ -35,6 +41,7 @@ fn check(alloc: Global, text: &[u8]) -> Result<(), Stop> {
 /// It is asked of texts that are refused. Where it finds no fault it says `Syntax` at the text's end.
 pub fn diagnose(alloc: Global, text: &[u8]) -> JsonFault
     ensures place { IsPlaced (length text.now) result }
+    ensures utf8 { TellsBadUtf8 text.now result }
 {
     match check(alloc, text) {
         Ok(()) => JsonFault {

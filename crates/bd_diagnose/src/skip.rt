@@ -1,6 +1,7 @@
 //! The tokens of JSON (RFC 8259), passed one by one, with the first byte that cannot continue.
-ghost use Rattle.std.specs.Prelude.{◌<◌, ◌≤◌, length, IfOk};
-ghost use Rattle.bd_diagnose.specs.JsonFault.{IsPlaced};
+ghost use Rattle.std.specs.Prelude.{◌≡◌, ◌<◌, ◌≤◌, ◌-◌, length, IfOk};
+ghost use Rattle.bd_diagnose.specs.JsonFault.{IsPlaced, byte_of};
+ghost use Rattle.bd_diagnose.specs.declared.json_fault.JsonFaultKind.TheVariants as kinds;
 
 use crate::json_fault::{JsonFault, JsonFaultKind};
 
@@ -13,20 +14,26 @@ pub(crate) struct Stop {
 
 impl Stop {
     /// A fault at the first byte of what is left of the text.
-    pub fn at(rest: &[u8], kind: JsonFaultKind) -> Stop {
+    pub fn at(rest: &[u8], kind: JsonFaultKind) -> Stop
+        ensures { result ≡ record { kind = kind; left = length rest.now } }
+    {
         Stop {
             kind,
             left: rest.len(),
         }
     }
 
-    pub fn syntax(rest: &[u8]) -> Stop {
+    pub fn syntax(rest: &[u8]) -> Stop
+        ensures { result ≡ record { kind = kinds.Syntax; left = length rest.now } }
+    {
         Stop::at(rest, JsonFaultKind::Syntax)
     }
 
     /// The fault in a text of that length.
     pub fn in_text(self, len: usize) -> JsonFault
-        ensures { IsPlaced len result }
+        ensures placed { IsPlaced len result }
+        ensures kind { result.kind ≡ self.kind }
+        ensures at { result.at ≡ byte_of self.kind (len - self.left) }
     {
         let at = match self.kind {
             JsonFaultKind::NoMemory | JsonFaultKind::NotADocument => 0,
