@@ -49,37 +49,6 @@ pub fn fill<R: Input>(reader: &mut R, room: &mut [u8], limits: Limits) -> Result
             turns: 1,
         });
     }
-    fill_by_reads(reader, room, limits)
-}
-
-/// `fill`, where the device does not hold as many bytes as the room has.
-#[cold]
-#[inline(never)]
-fn fill_by_reads<R: Input>(
-    reader: &mut R,
-    room: &mut [u8],
-    limits: Limits,
-) -> Result<Filled, ReadFault>
-    ensures fits { IfOk result (λ f. f.bytes ≤ length room.old) }
-    ensures bytes { IfOk result (λ f. Consumes (R.state reader.old).left (R.state reader.new).left (take f.bytes room.new)) }
-    ensures end { IfOk result (λ f. f.bytes < length room.old → IsAtEnd (R.state reader.new).left) }
-    ensures within { IfOk result (λ f. (f.bytes ≤ limits.bytes) × (f.turns ≤ limits.turns)) }
-    ensures called { IfOk result (λ f. (R.state reader.new).calls ≡ after_more (R.state reader.old).calls f.turns) }
-    ensures turns { (R.state reader.new).calls ≤ after_more (R.state reader.old).calls limits.turns }
-    ensures unfilled { IfErr result (FailsToFill (over R.state reader.old reader.new) (length room.old) limits.bytes) }
-    ensures reads { IfOk result (λ f.
-        FillsRoom R.read_gives (length room.old) f.turns reader.old (take f.bytes room.new) reader.new) }
-    ensures too_many { IsErrOf result ReadFault.TooManyTurns →
-        (given : List ℕ) × Consumes (R.state reader.old).left (R.state reader.new).left given
-        × (length given < length room.old) × (length given ≤ limits.bytes)
-        × AreReads R.read_gives limits.turns reader.old given reader.new }
-    ensures too_many_calls { IsErrOf result ReadFault.TooManyTurns →
-        (R.state reader.new).calls ≡ after_more (R.state reader.old).calls limits.turns }
-    ensures failed { IsErrOf result ReadFault.Device →
-        (R.state reader.new).failures ≡ after_more (R.state reader.old).failures 1 }
-    ensures well { ¬ (IsErrOf result ReadFault.Device) → (R.state reader.new).failures ≡ (R.state reader.old).failures }
-    ensures memory { ¬ (IsErrOf result ReadFault.NoMemory) }
-{
     let mut bytes = 0;
     let mut turns = 0;
     while bytes < room.len() {
