@@ -28,6 +28,8 @@ pub fn write_node<N: Reading>(node: N, out: &mut Vec<u8>) -> Result<(), NoMemory
 
 /// Writes the line of what a node stands for, its text and a newline, over the front of `room`, and gives its length. The room grows
 /// where it is too small and is not cut, so that for lines one after the other it is made once.
+///
+/// `room` is lent to be written over: nothing that it held is kept, at `NoMemory` neither.
 #[inline(always)]
 pub fn put_line<N: Reading>(node: N, room: &mut Vec<u8>) -> Result<usize, NoMemory>
     ensures line { IfOk result (λ n. take n room.new.items ≡ text (N.tree node) ++ 10 ∷ []) }
