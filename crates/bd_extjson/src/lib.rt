@@ -12,7 +12,7 @@
 //! ```
 //!
 //! - `text`: `write_node`, over `scalar`, a row of the conversion table each, `json_string`, `number` and `encoded`; `contents`, what
-//!   a scalar of a known kind holds.
+//!   a scalar of a known kind holds; `line`: `LineRoom`, a line for one node after the other.
 //! - `room`: text that is written into place, after room for it was made once; `plain_text`: texts without an escape, copied whole.
 //! - `read`: `read_doc`, over `reading`, one pass over the tokens of a text.
 //! - `laws`: what joins the two.
@@ -22,6 +22,7 @@ mod contents;
 mod encoded;
 mod json_string;
 mod laws;
+mod line;
 mod number;
 mod plain_text;
 mod read;
@@ -35,7 +36,8 @@ pub use bd_wrapper::{Trouble, Wrapper};
 pub use json::Scratch;
 pub use json_string::{write_path, write_string};
 pub use laws::{document_reads_back, reads_back, reads_what_fits, text_determines_document};
+pub use line::LineRoom;
 pub use number::{write_number, write_number32};
 pub use read::{read_doc, read_doc_with};
 pub use reading::{bare_number, read_wrapper, wrapper_named};
-pub use text::{put_line, write_doc, write_node, write_value};
+pub use text::{write_doc, write_node, write_value};

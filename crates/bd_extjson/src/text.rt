@@ -1,5 +1,5 @@
 //! Values and documents as canonical Extended JSON.
-ghost use Rattle.std.specs.Prelude.{◌≡◌, ◌<◌, ◌≤◌, ◌+◌, ◌++◌, ◌∷◌, [], IfOk, OnOk, OnErr, length, take};
+ghost use Rattle.std.specs.Prelude.{◌≡◌, ◌<◌, ◌≤◌, ◌+◌, ◌++◌, IfOk, OnOk, OnErr, length, take};
 ghost use Rattle.bd_value.specs.Tree.{doc, array, fields_of, items_of};
 ghost use Rattle.bd_value.specs.Kind.{kind_of};
 ghost use Rattle.bd_value.specs.declared.kind.Kind.TheVariants as kinds;
@@ -26,20 +26,6 @@ pub fn write_node<N: Reading>(node: N, out: &mut Vec<u8>) -> Result<(), NoMemory
     settle(end, before, out)
 }
 
-/// Writes the line of what a node stands for, its text and a newline, over the front of `room`, and gives its length. The room grows
-/// where it is too small and is not cut, so that for lines one after the other it is made once.
-///
-/// `room` is lent to be written over: nothing that it held is kept, at `NoMemory` neither.
-#[inline(always)]
-pub fn put_line<N: Reading>(node: N, room: &mut Vec<u8>) -> Result<usize, NoMemory>
-    ensures line { IfOk result (λ n. take n room.new.items ≡ text (N.tree node) ++ 10 ∷ []) }
-    ensures within { IfOk result (λ n. n ≤ length room.new.items) }
-{
-    make_room(room, 0, VALUE)?;
-    let end = append_node(node, room, 0)?;
-    append_few(b"\n", room, end)
-}
-
 /// Appends the text of a value: Extended JSON v2, canonical form, without white space.
 ///
 /// `NoMemory` leaves `out` as it was.
@@ -64,7 +50,11 @@ pub fn write_doc(document: &Document, out: &mut Vec<u8>) -> Result<(), NoMemory>
 #[cycle(text)]
 #[inline(always)]
 #[tactic(auto, unfolding(crate::specs::Text::scalar_text))]
-fn append_node<N: Reading>(node: N, out: &mut Vec<u8>, end: usize) -> Result<usize, NoMemory>
+pub(crate) fn append_node<N: Reading>(
+    node: N,
+    out: &mut Vec<u8>,
+    end: usize,
+) -> Result<usize, NoMemory>
     requires { end + VALUE ≤ length out.old.items }
     ensures ok { IfOk result (λ e. take e out.new.items ≡ take end out.old.items ++ text (N.tree node)) }
     ensures within { IfOk result (λ e. e ≤ length out.new.items) }

@@ -1,7 +1,7 @@
 //! Texts written by hand from the table of Extended JSON v2 and RFC 8259.
 use crate::samples::{add_field, document_of, prints, prints_document, prints_field, string};
 use bd_extjson::{
-    put_line, reads_back, text_determines_document, write_node, write_number, write_number32,
+    LineRoom, reads_back, text_determines_document, write_node, write_number, write_number32,
     write_path, write_string,
 };
 use bd_value::{Document, Tree, Value};
@@ -123,13 +123,13 @@ fn prints_strings_and_nodes(rt: HostRuntime) {
     assert!(rt; out.as_slice() == br#""\""null"#.as_slice());
 }
 
-/// What stands in the room is written over, and what is after the line stays room.
+/// Each is written over the one before, also where it is shorter.
 #[test]
 fn prints_lines(rt: HostRuntime) {
-    let mut room = Vec::from_slice(rt.alloc(), b"what stood there").expect(&rt, "a room");
-    for _ in 0..2 {
-        let size = put_line(Tree::Value(&Value::Null), &mut room).expect(&rt, "a line");
-        assert!(rt; &room[..size] == b"null\n".as_slice());
+    let mut room = LineRoom::new(rt.alloc());
+    for (value, wanted) in [(Value::Bool(false), "false\n"), (Value::Null, "null\n")] {
+        let line = room.line(Tree::Value(&value)).expect(&rt, "a line");
+        assert!(rt; line == wanted.as_bytes());
     }
 }
 

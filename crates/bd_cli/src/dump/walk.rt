@@ -16,7 +16,7 @@ use crate::limits::LIMITS;
 use crate::output::lines::{OutputFault, is_want_of_memory};
 use bd_check::{Fault, check_document};
 use bd_device::{Input, Output, write_all};
-use bd_extjson::put_line;
+use bd_extjson::LineRoom;
 use bd_stream::DocBuffer;
 use std::alloc::Global;
 
@@ -30,14 +30,14 @@ pub struct Walk {
 }
 
 /// Writes the line of the document that all of the bytes are to be, or gives its first fault. It begins at the place
-/// `base` of the input and has that number in it. `line` is room that documents share.
+/// `base` of the input and has that number in it. `room` is what their lines share.
 #[inline(always)]
 fn print_document<O: Output>(
     alloc: Global,
     bytes: &[u8],
     base: u64,
     number: u32,
-    line: &mut Vec<u8>,
+    room: &mut LineRoom,
     out: &mut O,
 ) -> Result<Option<Fault>, OutputFault>
     requires { base + length bytes.now ≤ 4294967295 }
@@ -48,8 +48,8 @@ fn print_document<O: Output>(
 {
     match check_document(alloc, bytes, base, number) {
         Ok(document) => {
-            let size = put_line(document.value(), line)?;
-            write_all(out, &line[..size])?;
+            let line = room.line(document.value())?;
+            write_all(out, line)?;
             Ok(None)
         }
         Err(fault) => {
@@ -71,8 +71,8 @@ pub(crate) fn documents<R: Input, O: Output>(
     ensures stops { IfErr result (StopsWalk (over R.state input.old input.new) (over O.state out.old out.new)) }
 {
     let mut documents = DocBuffer::new(alloc, LIMITS);
-    let mut line = Vec::new(alloc);
-    print_documents(alloc, input, &mut documents, &mut line, out)
+    let mut room = LineRoom::new(alloc);
+    print_documents(alloc, input, &mut documents, &mut room, out)
 }
 
 /// `documents`, over buffers that the caller holds, so that no end of the loop lets them go.
@@ -80,7 +80,7 @@ fn print_documents<R: Input, O: Output>(
     alloc: Global,
     input: &mut R,
     documents: &mut DocBuffer,
-    line: &mut Vec<u8>,
+    room: &mut LineRoom,
     out: &mut O,
 ) -> Result<Walk, OutputFault>
     requires { IsFresh documents.old }
@@ -93,7 +93,7 @@ fn print_documents<R: Input, O: Output>(
         match documents.read_next(input) {
             Ok(true) => {
                 let bytes = documents.bytes();
-                if let Some(fault) = print_document(alloc, bytes, base, count, line, out)? {
+                if let Some(fault) = print_document(alloc, bytes, base, count, room, out)? {
                     let ending = Ending::Faulty(fault);
                     return Ok(Walk { count, ending });
                 }

@@ -10,7 +10,7 @@ ghost use Rattle.bd_device.specs.Devices.{TakesText, over};
 use crate::output::lines::OutputFault;
 use bd_bson::Dump;
 use bd_device::{Output, write_all};
-use bd_extjson::put_line;
+use bd_extjson::LineRoom;
 use std::alloc::Global;
 
 /// Writes the documents with these numbers, one a line. Where memory runs out, what was written is a front of the lines.
@@ -24,10 +24,10 @@ pub(crate) fn write_documents<O: Output>(
     ensures wrote { OnOk result (TakesText (over O.state out.old out.new) (lines (documents_at (documents dump.now) places.now))) }
     ensures stops { IfErr result (StopsWithin (over O.state out.old out.new) (lines (documents_at (documents dump.now) places.now))) }
 {
-    let mut line = Vec::new(alloc);
+    let mut room = LineRoom::new(alloc);
     for place in places {
-        let size = put_line(dump.document(*place).value(), &mut line)?;
-        write_all(out, &line[..size])?;
+        let line = room.line(dump.document(*place).value())?;
+        write_all(out, line)?;
     }
     Ok(())
 }

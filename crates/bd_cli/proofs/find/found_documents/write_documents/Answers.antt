@@ -11,8 +11,8 @@ use Rattle.bd_cli.proofs.FindLemmas as finds
 use Rattle.bd_cli.proofs.OutputLemmas.LinesLemmas.{breaks_piece, front_taken, takes_both}
 use Rattle.bd_cli.proofs.find.found_documents.write_documents.Goals as goal
 
-pub returns-in_err-size-clause-stops : goal.returns-in_err-size-clause-stops
-returns-in_err-size-clause-stops g c =
+pub returns-in_err-line-clause-stops : goal.returns-in_err-line-clause-stops
+returns-in_err-line-clause-stops g c =
     let p = err_from_is_err_and c.from_residual.result c.from_residual.ensures.1 in
     let ds = documents c.args.dump.now in
     let ps = c.args.places.now in
@@ -32,7 +32,7 @@ returns-in_err-write_all-clause-stops g c =
     let more = finds.one_more ds ps i (get_or ps i 0) d c.loop-place-test.true refl c.document.ensures.document in
     let cut : finds.all_lines ds ps ≡ finds.lines_to ds ps i ++ (line ++ rest) =
     finds.cut_at ds ps (i + 1) ∙ ap (λ (x : List ℕ). x ++ rest) more ∙ append_assoc (finds.lines_to ds ps i) line rest in
-    let bytes : take c.in_ok-size.size c.deref.result.now ≡ line = ap (λ (x : List ℕ). take c.in_ok-size.size x) c.deref.ensures.value ∙ rw c.value.ensures.document at c.in_ok-size.ensures.line in
+    let bytes : c.in_ok-line.line.now ≡ line = rw c.value.ensures.document at c.in_ok-line.ensures in
     let broke : BreaksWithin (over g.O.Output.state c.loop-place.out c.write_all.new.writer) line = rw bytes at c.in_err-write_all.ensures.broken in
     rw (p.1, p.2) (breaks_piece (g.O.Output.state c.args.out.now) (g.O.Output.state c.loop-place.out) (g.O.Output.state c.write_all.new.writer) (finds.lines_to ds ps i) line rest (finds.all_lines ds ps) c.loop-place.invariant broke cut)
 
@@ -44,7 +44,7 @@ loop-place-preserved g c =
     let d = pairs_in (stands c.document.result.sound) in
     let line : List ℕ = text (doc (fields_of d)) ++ 10 ∷ [] in
     let more = finds.one_more ds ps i (get_or ps i 0) d c.loop-place-test.true refl c.document.ensures.document in
-    let bytes : take c.in_ok-size.size c.deref.result.now ≡ line = ap (λ (x : List ℕ). take c.in_ok-size.size x) c.deref.ensures.value ∙ rw c.value.ensures.document at c.in_ok-size.ensures.line in
+    let bytes : c.in_ok-line.line.now ≡ line = rw c.value.ensures.document at c.in_ok-line.ensures in
     let wrote : TakesText (over g.O.Output.state c.loop-place.out c.write_all.new.writer) line = rw bytes at c.in_ok-write_all.ensures.written in
     subst (λ (x : List ℕ). TakesText (between (g.O.Output.state c.args.out.now) (g.O.Output.state c.write_all.new.writer)) x) (sym more)
     (takes_both (g.O.Output.state c.args.out.now) (g.O.Output.state c.loop-place.out) (g.O.Output.state c.write_all.new.writer) (finds.lines_to ds ps i) line c.loop-place.invariant wrote)
