@@ -2,9 +2,11 @@
 use Rattle.bd_extjson.proofs.EscapeLemmas.{escaped-digits}
 use Rattle.std.proofs.lemmas.Str.{digit_value_digit}
 use Rattle.std.proofs.lemmas.Int.Digits.{digits_value_more}
-use Rattle.std.proofs.Common.{◌≡◌, ℕ, zero, suc, ◌^◌, ◌<◌, ℤ, pos, neg_ℤ, Bool, true, false, not, List, [], ◌∷◌, ◌++◌, length, get_or, Some, Result, Ok, Err, decimal, refl, sym, ap, ap₂, ◌∙◌, arith, inl, inr, ◌⊎◌, drop, take-append-drop, ◌≤◌, ◌+◌, ◌*◌, ◌-◌, take, append_assoc}
+use Rattle.std.proofs.Common.{◌≡◌, ℕ, zero, suc, ◌^◌, ◌<◌, ℤ, pos, neg_ℤ, true, false, List, [], ◌∷◌, ◌++◌, length, get_or, Some, Result, Ok, Err, decimal, refl, sym, ap, ap₂, ◌∙◌, arith, inl, inr, ◌⊎◌, drop, take-append-drop, ◌≤◌, ◌+◌, ◌*◌, ◌-◌, take, append_assoc}
 use Rattle.std.specs.Fmt.{signed_decimal}
 use Rattle.std.specs.Char.{is_ascii_digit}
+use Rattle.std.specs.Prelude.{OnOk}
+use Rattle.std.specs.Result.{is_err}
 use Rattle.std.specs.Str.{all_ascii_digits, bytes_eq}
 use Rattle.std.specs.Str.Parse.{digits_value}
 use Rattle.std.proofs.lemmas.Bool.{and_parts, cases_lt}
@@ -26,13 +28,10 @@ all_more (b ∷ bs) (suc i) lt all one =
     let both = and_parts (is_ascii_digit b) (all_ascii_digits (take i bs)) all in
     rw (both.0, all_more bs i (omega arith) both.1 one) refl
 
-pub id_read : (text digits rest written id : List ℕ) → text ≡ quoted digits ++ rest → written ≡ encode_lower id → not (bytes_eq written digits) ≡ false → text ≡ quoted (hex_text id) ++ rest
+pub hex_is : {A E : Type 0} (r : Result A E) (digits written bytes : List ℕ) → is_err r ≡ false → OnOk r (written ≡ encode_lower bytes) → bytes_eq digits written ≡ true → digits ≡ hex_text bytes
 unfolding hex_text
-id_read text digits rest written id is hex same = is ∙ ap (λ x. quoted x ++ rest) (sym (equal (bytes_eq written digits) refl same) ∙ hex)
-  where
-    equal : (b : Bool) → bytes_eq written digits ≡ b → not b ≡ false → written ≡ digits
-    equal true e n = (bytes_eq-Decides written digits).0 e
-    equal false e n = absurd cc
+hex_is (Ok _) digits written bytes well hex same = (bytes_eq-Decides digits written).0 same ∙ hex
+hex_is (Err _) digits written bytes well hex same = absurd cc
 
 pub id_fits : (s bytes : List ℕ) → Some bytes ≡ ok_of (decode_sized s 12) → IsId bytes
 id_fits s bytes e = go (decode_sized s 12) refl e

@@ -168,6 +168,20 @@ fn whole_number<'a>(text: &'a str) -> Option<(i64, &'a str)>
     }
 }
 
+/// Whether a text is the digits of bytes, two each, in lower case. What reads digits takes upper case too.
+#[inline(always)]
+fn is_hex_text(bytes: &[u8], text: &str) -> bool
+    requires { length bytes.now ≤ 12 }
+    ensures { IsTrue result → text.now ≡ hex_text bytes.now }
+{
+    let mut room = [0; 24];
+    let digits = &mut room[..2 * bytes.len()];
+    if hex::encode_to_slice(bytes, digits).is_err() {
+        return false;
+    }
+    text.as_bytes() == digits
+}
+
 /// The bytes of an id in a string, and what follows the string.
 #[inline(always)]
 fn id_digits<'a>(text: &'a str) -> Option<([u8; 12], &'a str)>
@@ -175,10 +189,7 @@ fn id_digits<'a>(text: &'a str) -> Option<([u8; 12], &'a str)>
 {
     let (digits, rest) = string(text)?;
     let id = id_of_text(digits)?;
-    let mut written = [0; 24];
-    hex::encode_to_slice(&id, &mut written).ok()?;
-    // Digits may be upper-case too.
-    if written.as_slice() != digits.as_bytes() {
+    if !is_hex_text(&id, digits) {
         return None;
     }
     Some((id, rest))
@@ -227,9 +238,7 @@ fn byte_digits<'a>(text: &'a str) -> Option<(u8, &'a str)>
 {
     let (digits, rest) = string(text)?;
     let byte = u8::from_str_radix(digits, 16).ok()?;
-    let mut pair = [0; 2];
-    hex::encode_to_slice([byte].as_slice(), &mut pair).ok()?;
-    if pair.as_slice() != digits.as_bytes() {
+    if !is_hex_text(&[byte], digits) {
         return None;
     }
     Some((byte, rest))

@@ -71,10 +71,10 @@ pub(crate) fn append_short(
     ensures shorter { IfSome result (λ u. length reader.new < length reader.old) }
 {
     match wrapper {
-        Wrapper::NumberInt => { append_int32(name, whole_of_32(only_string(reader)?)?, out) }
-        Wrapper::NumberLong => { append_int64(name, whole(only_string(reader)?)?, out) }
+        Wrapper::NumberInt => append_int32(name, whole_of_32(only_string(reader)?)?, out),
+        Wrapper::NumberLong => append_int64(name, whole(only_string(reader)?)?, out),
         Wrapper::Oid => append_id(name, &id_of_text(only_string(reader)?)?, out),
-        Wrapper::Date if depth > 0 => { append_date(name, whole(only_long(reader)?)?, out) }
+        Wrapper::Date if depth > 0 => append_date(name, whole(only_long(reader)?)?, out),
         _ => None,
     }
 }
