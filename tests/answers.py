@@ -1,4 +1,4 @@
-"""What the program should answer, by python: values, their bytes and texts, paths, filters, answers and indexes.
+"""What the program should answer, by Python: values, their bytes and texts, paths, filters, answers and indexes.
 
 It is written from the rules alone, in the plainest way: lists of all that a path reaches, answers that are sorted whole. A value
 is of a kind, which has the name that $type gives it.
@@ -54,7 +54,7 @@ def obj(*pairs: tuple[str, Value]) -> Value:
 
 
 def encoded(value: Value) -> bytes:
-    """The bytes of a value, in which the elements of an array have their places as names."""
+    """The bytes of a value, in which the elements of an array have their indexes as names."""
 
     def little(number: int, size: int = 4) -> bytes:
         return (number & ((1 << 8 * size) - 1)).to_bytes(size, "little")
@@ -141,7 +141,7 @@ def written(value: Value) -> str:
 
 
 def rank(value: Value) -> tuple:
-    """What a value is compared by: python's order of these tuples is that of the values."""
+    """What a value is compared by: Python's order of these tuples is that of the values."""
     kind, of = value
     rest: object = of
     match kind:
@@ -173,7 +173,7 @@ def first(pairs: Pairs, name: str) -> Value | None:
 
 
 def element(elements: tuple[Value, ...], name: str) -> list[Value]:
-    """The element whose place a name is, where there is one."""
+    """The element whose index a name is, where there is one."""
     return [elements[int(name)]] if re.fullmatch(r"0|[1-9][0-9]*", name, re.ASCII) and len(name) < 10 and int(name) < len(elements) else []
 
 
@@ -587,7 +587,7 @@ class Dump:
 
     def __init__(self, documents: list[Value], data: bytes | None = None) -> None:
         self.documents = documents
-        # Other bytes may be the same documents: names of elements that are not their places.
+        # Other bytes may be the same documents: names of elements that are not their indexes.
         self.bytes = b"".join(map(encoded, documents)) if data is None else data
 
     def tied(self, request: Request) -> bytes:

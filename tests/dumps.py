@@ -1,4 +1,4 @@
-"""Dumps read by python: the documents of the bytes, or the first fault of each, from left to right."""
+"""Dumps read by Python: the documents of the bytes, or the first fault of each, from left to right."""
 
 from typing import NamedTuple
 

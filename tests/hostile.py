@@ -3,7 +3,7 @@
 
 usage: tests/hostile.py SECONDS [SEED]
 
-What is packed, found and replied is compared with what python makes of the same input (tests/dumps.py, texts.py, answers.py, sessions.py).
+What is packed, found and replied is compared with what Python makes of the same input (tests/dumps.py, texts.py, answers.py, sessions.py).
 Each run has a stack of 1 MiB, and some have little memory. An input that fails is kept, in a directory that is named,
 with the command and the reason.
 The last line is 'N passed, M failed', which counts inputs.
@@ -31,7 +31,7 @@ STACK = 1 << 20
 TIMEOUT = 60
 SHALLOW = 300  # documents of the examples to begin with, which stand before others
 FAILURES = 10  # the search ends at so many
-# Behind it stand a number of KiB and the words of a line.
+# After it stand a number of KiB and the words of a line.
 LIMITED = ["sh", "-c", 'ulimit -v "$0" && exec "$@"']
 
 # Documents of kinds that the examples have not, and at the limits.
@@ -135,7 +135,7 @@ class Search:
         return Ran(ended.returncode, ended.stdout, ended.stderr)
 
     def over_dump(self, data: bytes) -> None:
-        """dump, check, find and pack of a dump show what python reads in it."""
+        """dump, check, find and pack of a dump show what Python reads in it."""
         read = read_dump(data)
         lines = [written(it).encode() + b"\n" for it in read.front()]
         faults = read.faults()
@@ -154,12 +154,12 @@ class Search:
         self.over_text(b"".join(lines))
 
     def over_text(self, text: bytes) -> None:
-        """pack of a text writes the documents that python reads, and tells the first fault that it finds."""
+        """pack of a text writes the documents that Python reads, and tells the first fault that it finds."""
         status, documents, told = packed(text)
         self.want(self.run("pack", text) == Ran(status, documents, told.encode()), f"what is packed; wanted {status} {told!r}")
 
     def over_memory(self) -> None:
-        """With little memory a run is as with enough, or tells that there is none behind a front of what it writes.
+        """With little memory a run is as with enough, or tells that there is none after a front of what it writes.
 
         Nothing nests deep: where the system has no memory to let the stack grow, it ends the program by a signal.
         """
@@ -198,7 +198,7 @@ class Search:
         self.want(self.run("find", dump.bytes, *find.words()) == Ran(status, out, told.encode()), f"what is told of words; wanted {told!r}")
 
     def over_requests(self) -> None:
-        """What is found in random documents by random requests, and after the tokens of earlier ones, is what python finds."""
+        """What is found in random documents by random requests, and after the tokens of earlier ones, is what Python finds."""
         inputs, rng = self.inputs, self.rng
         dump = Dump(inputs.documents())
         lines = b"".join(written(it).encode() + b"\n" for it in dump.documents)
@@ -218,7 +218,7 @@ class Search:
                 earlier.append(find._replace(after=told.rstrip().rsplit(" ", 1)[-1]))
 
     def over_talk(self) -> None:
-        """The replies to random commands, of which some are damaged, are those that python makes."""
+        """The replies to random commands, of which some are damaged, are those that Python makes."""
         inputs, rng = self.inputs, self.rng
         session = Session(Dump(inputs.documents()))
         first = rng.choice([b""] * 20 + [b'{"find":{}}', b'{"createIndex":"%d"}'])

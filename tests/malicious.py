@@ -320,7 +320,7 @@ def member_cases(members: tuple[int, int], documents: tuple[int, int]) -> Iterat
 
 
 def both_ways(names: int) -> bytes:
-    """Arrays in arrays, of a document whose field has its place as its name: a path of places goes through each in two ways."""
+    """Arrays in arrays, of a document whose field has its index as its name: a path of indexes goes through each in two ways."""
     value, kind = int32(1), 0x10
     for _ in range(names):
         value, kind = array(0x03, [document(field(kind, "0", value))]), 0x04
@@ -328,7 +328,7 @@ def both_ways(names: int) -> bytes:
 
 
 def path_cases(scale: int) -> Iterator[Case]:
-    """Long paths over deep documents, paths through arrays of documents in arrays of documents, and paths of places."""
+    """Long paths over deep documents, paths through arrays of documents in arrays of documents, and paths of indexes."""
     long = ".".join(["a"] * 100)
     through = ".".join(["a"] * 11)
     places = ".".join(["0"] * 60)
@@ -361,7 +361,7 @@ def known_cases(scale: int) -> Iterator[Case]:
 
     # A level more is twice as much, since two elements come to one.
     levels = (14 + scale, 18 + scale)
-    yield Case("$elemMatch in $elemMatch on a path of places", ["serve", "DUMP"], lambda _: both_ways(95), lambda size: lines_of({"explain": in_each_other(size)}), levels, are_taken, 2.0**4)
+    yield Case("$elemMatch in $elemMatch on a path of indexes", ["serve", "DUMP"], lambda _: both_ways(95), lambda size: lines_of({"explain": in_each_other(size)}), levels, are_taken, 2.0**4)
     # Each member is compared with each element.
     members = (400 * scale, 1600 * scale)
     yield Case(

@@ -3,7 +3,7 @@
 
 usage: tests/pages.py     The last line is 'N passed, M failed'.
 
-The answers come from examples/people.jsonl by python: see tests/answers.py.
+The answers come from examples/people.jsonl by Python: see tests/answers.py.
 
 - Of some requests the pages of each size from 1 to 7, and all that the program tells of them.
 - The digests of their tokens, by sha256sum.

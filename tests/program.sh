@@ -647,7 +647,7 @@ expect 'a line of 120,008 bytes between short ones' 0 @three.jsonl '3 objects fo
 # Documents with faults.
 
 { printf '\020\000\000\000\001d\000\000\000\000\000\000\000\360\077\000' && cat int32.bson; } | run check -
-expect 'a check goes on behind a double' 1 'document 0, byte 4, path "d": double' '2 documents, 1 faulty'
+expect 'a check goes on after a double' 1 'document 0, byte 4, path "d": double' '2 documents, 1 faulty'
 
 cat int32.bson bad.bson int32.bson bad.bson | run check -
 expect 'a check tells each document with a fault' 1 'document 1, byte 19, path "s": bad string length
@@ -692,7 +692,7 @@ expect 'a line of a double' 1 @two.bson 'bsonfind: line 3, byte 5: not in the pr
 2 objects packed'
 
 printf '\n{"a":1}\r\n \r\n[]\n' | run pack -
-expect 'a line that is no document, behind lines of white space' 1 @int32.bson 'bsonfind: line 4: not a document
+expect 'a line that is no document, after lines of white space' 1 @int32.bson 'bsonfind: line 4: not a document
 1 objects packed'
 
 echo '{"a":9223372036854775808}' | run pack -

@@ -1,4 +1,4 @@
-"""What `find` and `serve` should reply, by python: refusals in their order, cursors with all that they have left, and indexes.
+"""What `find` and `serve` should reply, by Python: refusals in their order, cursors with all that they have left, and indexes.
 
 It stands on tests/answers.py, and for the lines of `serve` on tests/texts.py.
 """

@@ -3,7 +3,7 @@
 
 usage: tests/talk.py     The last line is 'N passed, M failed'.
 
-The dump is examples/people.bson. The replies that are wanted are made by python: see tests/sessions.py.
+The dump is examples/people.bson. The replies that are wanted are made by Python: see tests/sessions.py.
 
 - Pages of some requests by one run, their cursors in turn, with and without indexes.
 - An answer that a second run goes on with, by the token that the first one gave.

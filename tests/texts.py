@@ -1,4 +1,4 @@
-"""Texts of Extended JSON read by python: the document that a text is, or its first fault and the byte of it.
+"""Texts of Extended JSON read by Python: the document that a text is, or its first fault and the byte of it.
 
 First a text is taken as JSON, from left to right; then the tree that it is, from left to right; last it has to be a document.
 """

@@ -1,5 +1,5 @@
 #!/usr/bin/env python3
-"""The token after a batch of `find`, by python's hashlib and base64.
+"""The token after a batch of `find`, by Python's hashlib and base64.
 
 usage: tests/tokens.py FILE GIVEN LAST [--query Q] [--sort S] [--skip N] [--limit N]
 
