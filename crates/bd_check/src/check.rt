@@ -188,7 +188,7 @@ fn document(alloc: Global, e: u64, bytes: &[u8]) -> Result<(), Stop>
     elements(alloc, 199, false, end, body)
 }
 
-/// Checks that all of the bytes are one document, which begins at the place `base` of a dump and has that number in
+/// Checks that all of the bytes are one document, which begins at the offset `base` of a dump and has that number in
 /// it, and gives a view of it.
 ///
 /// The fault is the first from left to right: BSON 1.1, `document`, with at most 16,793,600 bytes and 200 levels.

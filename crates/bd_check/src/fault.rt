@@ -88,7 +88,7 @@ pub struct Fault {
     pub document: u32,
     /// The byte, counted from the start of the dump.
     pub offset: u64,
-    /// The names from the document down to the item. An element of an array stands by its position, from 0.
+    /// The names from the document down to the item. An element of an array stands by its index, from 0.
     pub path: Vec<String>,
 }
 
@@ -119,7 +119,7 @@ pub fn fault_at(alloc: Global, kind: FaultKind, offset: u64) -> Stop
     })
 }
 
-/// An element on a path: in an array its position, in a document its name.
+/// An element on a path: in an array its index, in a document its name.
 fn label_of(alloc: Global, place: Option<usize>, name: &str) -> Result<String, AllocError>
     ensures { IfOk result (λ s. string_bytes s ≡ label place name.now) }
 {

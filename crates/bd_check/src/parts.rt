@@ -1,6 +1,6 @@
 //! What stands in a document's bytes, but for values in values.
 //!
-//! `e` is the place that an item may not pass, and `bytes` are those up to it: the item stands at `e` less their
+//! `e` is the offset that an item may not pass, and `bytes` are those up to it: the item stands at `e` less their
 //! number.
 
 ghost use Rattle.std.specs.Prelude.{◌≡◌, ◌≤◌, ◌<◌, ◌+◌, ◌^◌, length, nat_lt, IfOk, IsAscii, IsTrue};
@@ -147,7 +147,7 @@ pub fn string(alloc: Global, e: u64, bytes: &[u8]) -> Result<&[u8], Stop>
     Ok(after)
 }
 
-/// The bytes of a document's elements, the place where these end, and the bytes after the document. `top` tells
+/// The bytes of a document's elements, the offset where these end, and the bytes after the document. `top` tells
 /// that the document is to be all of the bytes.
 #[tactic(auto, unfolding(crate::specs::FirstFault::past_frame))]
 pub fn frame(alloc: Global, top: bool, e: u64, bytes: &[u8]) -> Result<(&[u8], u64, &[u8]), Stop>
@@ -248,7 +248,7 @@ pub fn regex(alloc: Global, e: u64, bytes: &[u8]) -> Result<&[u8], Stop>
     Ok(rest)
 }
 
-/// The bytes of the code and the scope of code with scope, the place where these end, and the bytes after it.
+/// The bytes of the code and the scope of code with scope, the offset where these end, and the bytes after it.
 #[tactic(auto, unfolding(crate::specs::FirstFault::past_code_frame))]
 pub fn code_frame(alloc: Global, e: u64, bytes: &[u8]) -> Result<(&[u8], u64, &[u8]), Stop>
     requires { length bytes.now ≤ e }

@@ -18,13 +18,13 @@ use std::alloc::Global;
 /// Where a document stands in a dump.
 #[derive(Clone, Copy, Debug, PartialEq, Eq)]
 pub struct Frame {
-    /// The place of its first byte.
+    /// The offset of its first byte.
     pub start: usize,
     /// The number of its bytes, from 5 to 16,793,600.
     pub length: usize,
 }
 
-/// The document that all of the bytes are. It begins at the place `base` of a dump and has that number in it.
+/// The document that all of the bytes are. It begins at the offset `base` of a dump and has that number in it.
 ///
 /// The fault is the first from left to right, or `FaultKind::NoMemory`, which has no place: BSON 1.1, `document`, with
 /// at most 16,793,600 bytes and 200 levels.
@@ -43,7 +43,7 @@ pub fn read_document(alloc: Global, bytes: &[u8], base: u64, number: u32) -> Res
     }
 }
 
-/// Where the document at the place `at` of a dump stands, by the length that it begins with; none at the end.
+/// Where the document at the offset `at` of a dump stands, by the length that it begins with; none at the end.
 ///
 /// Fewer than four bytes are `FaultKind::ShortLength`; a length below 5, above 16,793,600 or past the end is
 /// `FaultKind::BadLength`. Both stand at the place, and have the number and an empty path. No memory is taken.
@@ -74,7 +74,7 @@ pub fn next_frame(
     Ok(Some(Frame { start: at, length }))
 }
 
-/// The document at the place `at` of a dump, of which it has that number, and the place after it; none at the end.
+/// The document at the offset `at` of a dump, of which it has that number, and the offset after it; none at the end.
 ///
 /// The fault is the first of the document, from left to right, or `FaultKind::NoMemory`, which has no place. Memory is
 /// taken for the path of a fault alone.

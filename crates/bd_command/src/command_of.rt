@@ -62,7 +62,7 @@ fn check_fields(command: CommandName, document: &Document) -> Result<(), Command
     check_required(command, document)
 }
 
-/// Fails with the fault of the field at a position.
+/// Fails with the fault of the field at an index.
 fn check_field(command: CommandName, document: &Document, i: usize) -> Result<(), CommandFault>
     requires { i < length (pairs document.now) }
     ensures { let d = pairs document.now in
@@ -82,7 +82,7 @@ fn check_field(command: CommandName, document: &Document, i: usize) -> Result<()
     }
 }
 
-/// Whether a field stands before a position.
+/// Whether a field stands before an index.
 fn stands_before(document: &Document, end: usize, field: &str) -> bool
     requires { end < length (pairs document.now) }
     ensures { result ≡ is_some (first_of field.now (take end (pairs document.now))) }

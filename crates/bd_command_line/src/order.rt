@@ -23,7 +23,7 @@ pub enum Order {
 /// Which documents `find` is asked for, and in which order. The numbers are 0 to 2,147,483,647 in a line that was taken.
 #[derive(Debug, Drop)]
 pub struct FindOptions {
-    /// The query that the documents answer, as Extended JSON; without one all documents do.
+    /// The query that the documents match, as Extended JSON; without one all documents do.
     pub query: Option<String>,
     /// The sort of the answer, as Extended JSON; without one it keeps the order of `file`.
     pub sort: Option<String>,

@@ -156,7 +156,7 @@ pub fn wrapper_named(first: Option<&str>) -> Option<Wrapper>
     }
 }
 
-// What follows the brace of an object.
+/// What follows the brace of an object.
 #[cycle(reading)]
 fn read_object(
     alloc: Global,
@@ -178,7 +178,7 @@ fn read_object(
     Ok(Value::Doc(read_fields(alloc, reader, first, room - 1, depth)?))
 }
 
-// What follows the first name of an object that is no wrapper.
+/// What follows the first name of an object that is no wrapper.
 #[cycle(reading)]
 fn read_fields<'a>(
     alloc: Global,
@@ -234,7 +234,7 @@ pub fn read_wrapper(
     read_scope_second(alloc, reader, &part, second, room, depth)
 }
 
-// What follows the second name of an object that began with `$code`.
+/// What follows the second name of an object that began with `$code`.
 #[cycle(reading)]
 fn read_scope_second(
     alloc: Global,
@@ -259,7 +259,7 @@ fn read_scope_second(
     code_with_scope(alloc, code, scope)
 }
 
-// What follows the first name of an object, `$scope`.
+/// What follows the first name of an object, `$scope`.
 #[cycle(reading)]
 fn read_scope_first(
     alloc: Global,
@@ -278,7 +278,7 @@ fn read_scope_first(
     read_code_second(alloc, reader, scope, depth)
 }
 
-// What follows the scope of an object that began with `$scope`.
+/// What follows the scope of an object that began with `$scope`.
 fn read_code_second(
     alloc: Global,
     reader: &mut Reader<'_>,
@@ -295,7 +295,7 @@ fn read_code_second(
     }
 }
 
-// The code that follows such a scope, and the brace that ends the object. No scope is held here, since each `?` would let it go.
+/// The code that follows such a scope, and the brace that ends the object. No scope is held here, since each `?` would let it go.
 fn read_code<'a>(
     alloc: Global,
     reader: &mut Reader<'a>,

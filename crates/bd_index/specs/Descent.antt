@@ -4,7 +4,7 @@ use Rattle.std.specs.Ordering.{is_lt}
 use Rattle.bd_value.specs.Order.{cmp, equal}
 use Rattle.bd_index.specs.Entries.{KeyAt}
 
--- an entry put behind those with a greater key
+-- an entry put after those with a greater key
 abbrev pub put_down : KeyAt → List KeyAt → List KeyAt
 put_down e [] = e ∷ []
 put_down e (x ∷ xs) = if is_lt (cmp e.0 x.0) then x ∷ put_down e xs else e ∷ (x ∷ xs)

@@ -8,7 +8,7 @@ use Rattle.bd_device.specs.declared.reading.ReadFault.{ReadFault}
 use Rattle.bd_device.specs.declared.reading.ReadFault.TheVariants as faults
 use Rattle.bd_lines.specs.Lines.{AreShort, AreWhole, IsFirstLine, commands_of, is_empty_line, not_empty}
 use Rattle.bd_lines.specs.NextLine.{FailsToReadLine, FindsNoLine, GivesBytes, IsCause, IsLazy, ReadsLine, StopsReading, held_after}
-use Rattle.bd_lines.specs.Serving.{IsReadInTime, Replied, ServesAll, ServesBefore, StarvesAt, StopsServing, StopsUnread}
+use Rattle.bd_lines.specs.Serving.{IsReadInTime, RepliesInTurn, ServesAll, ServesBefore, StarvesAt, StopsServing, StopsUnread}
 use Rattle.bd_lines.specs.declared.serving.ServeFault.{ServeFault}
 use Rattle.bd_lines.specs.declared.serving.ServeFault.TheVariants as serves
 use Rattle.std.specs.Prelude.{◌⊎◌}
@@ -39,23 +39,23 @@ unfolding not_empty
 not_empty_one line is = ap (λ c. cond c [] (line ∷ [])) is
 
 pub replied_none : {S : Type 0} (replies : S → List ℕ → List ℕ → S → Type 0) (s : S) (line : List ℕ) → is_empty_line line ≡ true
-    → Replied replies s (not_empty (line ∷ [])) [] s
-replied_none {S} replies s line is = subst (λ l. Replied replies s l [] s) (sym (not_empty_none line is)) (refl, refl)
+    → RepliesInTurn replies s (not_empty (line ∷ [])) [] s
+replied_none {S} replies s line is = subst (λ l. RepliesInTurn replies s l [] s) (sym (not_empty_none line is)) (refl, refl)
 
 pub replied_one : {S : Type 0} (replies : S → List ℕ → List ℕ → S → Type 0) (s t : S) (line reply : List ℕ) → is_empty_line line ≡ false
-    → replies s line reply t → Replied replies s (not_empty (line ∷ [])) (reply ++ 10 ∷ []) t
+    → replies s line reply t → RepliesInTurn replies s (not_empty (line ∷ [])) (reply ++ 10 ∷ []) t
 replied_one {S} replies s t line reply is one =
-    subst (λ l. Replied replies s l (reply ++ 10 ∷ []) t) (sym (not_empty_one line is)) (reply, t, [], one, (refl, refl), refl)
+    subst (λ l. RepliesInTurn replies s l (reply ++ 10 ∷ []) t) (sym (not_empty_one line is)) (reply, t, [], one, (refl, refl), refl)
 
-pub nothing_replied : {S : Type 0} (replies : S → List ℕ → List ℕ → S → Type 0) (s : S) → Replied replies s (commands_of []) [] s
+pub nothing_replied : {S : Type 0} (replies : S → List ℕ → List ℕ → S → Type 0) (s : S) → RepliesInTurn replies s (commands_of []) [] s
 unfolding not_empty
 nothing_replied {S} replies s = (refl, refl)
 
 -- replies to commands and to those after them
 pub replied_then : {S : Type 0} (replies : S → List ℕ → List ℕ → S → Type 0) (s t u : S) (done more : List (List ℕ)) (first second : List ℕ)
-    → Replied replies s done first t → Replied replies t more second u → Replied replies s (done ++ more) (first ++ second) u
+    → RepliesInTurn replies s done first t → RepliesInTurn replies t more second u → RepliesInTurn replies s (done ++ more) (first ++ second) u
 replied_then {S} replies s t u [] more first second (e, none) rest =
-    let P : S → List ℕ → Type 0 = λ a x. Replied replies a more (x ++ second) u in
+    let P : S → List ℕ → Type 0 = λ a x. RepliesInTurn replies a more (x ++ second) u in
     subst (λ x. P s x) (sym none) (subst (λ a. P a []) e rest)
 replied_then {S} replies s t u (command ∷ done) more first second (reply, mid, texts, one, others, is) rest = (
   reply,
@@ -78,7 +78,7 @@ pub record Serving {R S : Type 0} (state : R → Reader) (gives : R → Option (
   pub short : AreShort whole
   pub reads : GivesBytes state gives limits left ended (whole ++ held) old new
   pub in_time : IsReadInTime whole (whole ++ held)
-  pub replied : Replied replies s (commands_of whole) text t
+  pub replied : RepliesInTurn replies s (commands_of whole) text t
   pub written : TakesText (between before after) text
 
 -- one more line is taken
@@ -212,7 +212,7 @@ module _ {R S : Type 0} (state : R → Reader) (gives : R → Option (List ℕ) 
 
       grows_by : (new_whole more : List ℕ) → new_whole ≡ so_far.whole ++ more → held_after lines ++ reads.given ≡ more ++ held_after next
           → (next.ended ≡ false → AreWhole new_whole) → AreShort more → commands_of new_whole ≡ commands_of so_far.whole ++ not_empty (next.line.items ∷ [])
-          → (later : Writer) (u : S) (text : List ℕ) → Replied replies t (not_empty (next.line.items ∷ [])) text u → TakesText (between now later) text
+          → (later : Writer) (u : S) (text : List ℕ) → RepliesInTurn replies t (not_empty (next.line.items ∷ [])) text u → TakesText (between now later) text
           → Serving state gives replies limits next.left next.ended (held_after next) old new before later s u
       grows_by new_whole more grown split ends short commands later u text replied written =
           let all : so_far.whole ++ (held_after lines ++ reads.given) ≡ new_whole ++ held_after next =
@@ -227,13 +227,13 @@ module _ {R S : Type 0} (state : R → Reader) (gives : R → Option (List ℕ) 
             in_time = subst (λ x. IsReadInTime new_whole x) all
                 (subst (λ x. IsReadInTime x (so_far.whole ++ (held_after lines ++ reads.given))) (sym grown)
                 (in_time_after so_far.whole more (so_far.whole ++ (held_after lines ++ reads.given)) first));
-            replied = subst (λ x. Replied replies s x (so_far.text ++ text) u) (sym commands)
+            replied = subst (λ x. RepliesInTurn replies s x (so_far.text ++ text) u) (sym commands)
                 (replied_then replies s t u (commands_of so_far.whole) (not_empty (next.line.items ∷ [])) so_far.text text so_far.replied replied);
             written = takes_then before now later so_far.text text so_far.written written;
           }
 
       goes_by : IsFirstLine (held_after lines ++ reads.given) next.line.items (held_after next) next.ended
-          → (later : Writer) (u : S) (text : List ℕ) → Replied replies t (not_empty (next.line.items ∷ [])) text u → TakesText (between now later) text
+          → (later : Writer) (u : S) (text : List ℕ) → RepliesInTurn replies t (not_empty (next.line.items ∷ [])) text u → TakesText (between now later) text
           → Serving state gives replies limits next.left next.ended (held_after next) old new before later s u
       goes_by (part, inl split) later u text replied written =
           grows_by (so_far.whole ++ (next.line.items ++ 10 ∷ [])) (next.line.items ++ 10 ∷ []) refl
@@ -246,7 +246,7 @@ module _ {R S : Type 0} (state : R → Reader) (gives : R → Option (List ℕ) 
           (λ not. absurd (search (rules, not, end)))
           (short_line next.line.items part) (commands_line so_far.whole next.line.items (so_far.ends going) part.0) later u text replied written
 
-      pub goes_on : (later : Writer) (u : S) (text : List ℕ) → Replied replies t (not_empty (next.line.items ∷ [])) text u → TakesText (between now later) text
+      pub goes_on : (later : Writer) (u : S) (text : List ℕ) → RepliesInTurn replies t (not_empty (next.line.items ∷ [])) text u → TakesText (between now later) text
           → Serving state gives replies limits next.left next.ended (held_after next) old new before later s u
       goes_on later u text replied written = goes_by reads.line later u text replied written
 

@@ -10,12 +10,12 @@ use Rattle.bd_lines.specs.declared.serving.ServeFault.{ServeFault}
 use Rattle.bd_lines.specs.declared.serving.ServeFault.TheVariants as faults
 
 -- this text is the replies to these commands in turn, each with a newline after it; they lead from one state to the other
-abbrev pub Replied : {S : Type 0} → (S → List ℕ → List ℕ → S → Type 0) → S → List (List ℕ) → List ℕ → S
+abbrev pub RepliesInTurn : {S : Type 0} → (S → List ℕ → List ℕ → S → Type 0) → S → List (List ℕ) → List ℕ → S
     → Type 0
-Replied replies s [] text t = (t ≡ s) × (text ≡ [])
-Replied {S} replies s (command ∷ commands) text t =
+RepliesInTurn replies s [] text t = (t ≡ s) × (text ≡ [])
+RepliesInTurn {S} replies s (command ∷ commands) text t =
     (reply : List ℕ) × (mid : S) × (rest : List ℕ) × replies s command reply mid
-    × Replied replies mid commands rest t × (text ≡ reply ++ 10 ∷ rest)
+    × RepliesInTurn replies mid commands rest t × (text ≡ reply ++ 10 ∷ rest)
 
 -- the reads but the last gave no more newlines than these whole lines have
 abbrev pub IsReadInTime : List ℕ → List ℕ → Type 0
@@ -35,7 +35,7 @@ pub record ServesAll {R S : Type 0} (state : R → Reader) (gives : R → Option
   pub text : List ℕ
   pub short : AreShort given
   pub reads : GivesBytes state gives limits left true given old new
-  pub replied : Replied replies s (commands_of given) text t
+  pub replied : RepliesInTurn replies s (commands_of given) text t
   pub written : TakesText out text
 
 -- A fault of reading came in the line after some whole lines, and the replies to the commands among these were written.
@@ -49,7 +49,7 @@ pub record StopsUnread {R S : Type 0} (state : R → Reader) (gives : R → Opti
   pub short : AreShort whole
   pub stops : StopsReading state gives limits (whole ++ rest) old new fault
   pub cause : IsCause limits.bytes rest (whole ++ rest) fault
-  pub replied : Replied replies s (commands_of whole) text t
+  pub replied : RepliesInTurn replies s (commands_of whole) text t
   pub written : TakesText out text
 
 -- a command was read, this text is the replies to the commands before it, and they left this state
@@ -67,7 +67,7 @@ pub record ServesBefore {R S : Type 0} (state : R → Reader) (gives : R → Opt
   pub in_time : IsReadInTime whole (whole ++ rest)
   pub line : IsFirstLine rest command after ended
   pub is_command : is_empty_line command ≡ false
-  pub replied : Replied replies s (commands_of whole) text t
+  pub replied : RepliesInTurn replies s (commands_of whole) text t
 
 -- memory ran out at this command: it left the state as it was, or one in which the command has a reply that was not made
 abbrev pub StarvesAt : {S : Type 0} → (S → S → Type 0) → (S → List ℕ → List ℕ → S → Type 0) → S → List ℕ → S

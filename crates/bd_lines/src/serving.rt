@@ -2,7 +2,7 @@
 ghost use Rattle.std.specs.Prelude.{◌≡◌, ◌++◌, ◌∷◌, [], None, false, IfErr, OnErr, OnOk, IsErrOf, List, ℕ, ◌⊎◌};
 ghost use Rattle.bd_device.specs.Devices.{BreaksWithin, TakesText, over};
 ghost use Rattle.bd_lines.specs.Lines.{is_empty_line, not_empty};
-ghost use Rattle.bd_lines.specs.Serving.{Replied, ServesAll, StarvesAt, StopsServing};
+ghost use Rattle.bd_lines.specs.Serving.{RepliesInTurn, ServesAll, StarvesAt, StopsServing};
 ghost use Rattle.bd_lines.specs.declared.serving.ServeFault.TheVariants.{NoMemory as starved, Unread as unread, Unwritten as unwritten};
 
 use crate::line_buffer::LineBuffer;
@@ -74,7 +74,7 @@ fn answer<O: Output, S: Replier>(
     out: &mut O,
 ) -> Result<(), ServeFault>
     ensures replied { OnOk result ((written : List ℕ)
-        × Replied S.replies session.old (not_empty (line.now ∷ [])) written session.new
+        × RepliesInTurn S.replies session.old (not_empty (line.now ∷ [])) written session.new
         × TakesText (over O.state out.old out.new) written) }
     ensures starved { IsErrOf result ServeFault.NoMemory → (is_empty_line line.now ≡ false) × (out.new ≡ out.old)
         × StarvesAt S.stays S.replies session.old line.now session.new }

@@ -12,7 +12,7 @@ use Rattle.bd_path.specs.Component.{held_index, index_of}
 use Rattle.bd_path.specs.Names.{Names, component_names}
 use Rattle.bd_path.specs.Positions.{LedTo, is_open}
 use Rattle.bd_path.specs.Reach.{Gathering, document_gathering, each_gathering, gathering, gathering_at, index_gathering, is_document}
-use Rattle.bd_path.specs.Walked.{IsStepOf, IsWalked, NoneGathered}
+use Rattle.bd_path.specs.Walked.{IsStepOf, IsWalked, GathersNone}
 use Rattle.bd_path.specs.declared.component.Component.{Component}
 use Rattle.bd_path.specs.declared.positions.Positions.{Positions}
 use Rattle.bd_path.specs.declared.positions.Step.{Step}
@@ -123,8 +123,8 @@ module _ {A : Type 0} (f : A → Bool) (g : Gathering A) where
   each_left (x ∷ es) (suc i) u p e d h =
       each_left es i u p e d (right_false _ _ (sym (list_any-append f (cond (is_document x) (gathering g x p) []) (each_gathering g (items_of es) p)) ∙ h))
 
-  module _ (keeps : KeepsParts f g) (t : Tree) (cs : List Component) (w : Walked) (before : NoneGathered f g t (component_names cs) w) where
-    pub field_inside : (s : Bor (List ℕ)) (u : Tree) (v : Walked) → kind_of t ≡ kinds.Doc → first_of s.now (pairs_in t) ≡ Some u → ((j : ℕ) → IsWalked v j → IsStepOf (Field s) (component_names cs) w j) → NoneGathered f g u (component_names cs) v
+  module _ (keeps : KeepsParts f g) (t : Tree) (cs : List Component) (w : Walked) (before : GathersNone f g t (component_names cs) w) where
+    pub field_inside : (s : Bor (List ℕ)) (u : Tree) (v : Walked) → kind_of t ≡ kinds.Doc → first_of s.now (pairs_in t) ≡ Some u → ((j : ℕ) → IsWalked v j → IsStepOf (Field s) (component_names cs) w j) → GathersNone f g u (component_names cs) v
     field_inside s u v d e only j o =
         let by = only j o in
         let there : slice_get (component_names cs) by.before ≡ Some s.now = by.is_there ∙ ap some_name by.takes in
@@ -153,7 +153,7 @@ module _ {A : Type 0} (f : A → Bool) (g : Gathering A) where
           ∙ right_false _ _ (sym (list_any-append f (in_documents g t (component_names cs) k) (at_name g t (component_names cs) k n)) ∙ parts_none k n by.is_there (before k by.here))
 
       pub document_inside : (i : ℕ) (u : Tree) (v : Walked) → slice_get (elements_in t) i ≡ Some u → i < 18446744073709551615 → is_document u ≡ true
-          → ((j : ℕ) → IsWalked v j → IsStepOf (Element i) (component_names cs) w j ⊎ (j < length cs) × IsWalked w j) → NoneGathered f g u (component_names cs) v
+          → ((j : ℕ) → IsWalked v j → IsStepOf (Element i) (component_names cs) w j ⊎ (j < length cs) × IsWalked w j) → GathersNone f g u (component_names cs) v
       document_inside i u v e l d only j o = elim (only j o) [
         | inl by ↦ element_none i u j e l by
         | inr h ↦ document_none j i u e d h.0 h.1
@@ -161,7 +161,7 @@ module _ {A : Type 0} (f : A → Bool) (g : Gathering A) where
 
       pub index_inside : (k i : ℕ) (u : Tree) (v : Walked) → slice_get (elements_in t) i ≡ Some u → i < 18446744073709551615 → (b : Bool) → b ≡ is_document u
           → list_any f (in_documents g t (component_names cs) k) ≡ false
-          → ((j : ℕ) → IsWalked v j → IsStepOf (Element i) (component_names cs) w j ⊎ (b ≡ true) × ((j ≡ k) ⊎ (j < length cs) × IsWalked w j)) → NoneGathered f g u (component_names cs) v
+          → ((j : ℕ) → IsWalked v j → IsStepOf (Element i) (component_names cs) w j ⊎ (b ≡ true) × ((j ≡ k) ⊎ (j < length cs) × IsWalked w j)) → GathersNone f g u (component_names cs) v
       index_inside k i u v e l b d documents only j o = elim (only j o) [
         | inl by ↦ element_none i u j e l by
         | inr h ↦ elim h.1 [

@@ -6,7 +6,7 @@ use Rattle.bd_path.specs.Earliest.{dir_cmp, earlier_key, earliest_key}
 use Rattle.bd_path.specs.Key.{key_tree}
 use Rattle.bd_path.specs.KeyList.{key_gathering, missing_key}
 use Rattle.bd_path.specs.Names.{Names}
-use Rattle.bd_path.specs.Walked.{NoneGathered}
+use Rattle.bd_path.specs.Walked.{GathersNone}
 use Rattle.bd_path.specs.declared.dir.Dir.{Dir}
 use Rattle.bd_path.specs.declared.key.Key.{Key}
 use Rattle.bd_path.specs.declared.walked.Walked.{Walked}
@@ -27,5 +27,5 @@ is_earlier dir None k = true
 is_earlier dir (Some e) k = is_lt (dir_cmp dir k e)
 
 -- no key of a value is earlier, on the rest of the path from any of some positions
-abbrev pub NoneEarlier : Dir → Option Tree → Tree → Names → Walked → Type 0
-NoneEarlier dir e t path w = NoneGathered (is_earlier dir e) (key_gathering (missing_key false)) t path w
+abbrev pub HasNoEarlierKey : Dir → Option Tree → Tree → Names → Walked → Type 0
+HasNoEarlierKey dir e t path w = GathersNone (is_earlier dir e) (key_gathering (missing_key false)) t path w

@@ -27,5 +27,5 @@ pub record IsStepOf (step : Step) (path : Names) (w : Walked) (k : ℕ) : Type 0
   pub takes : Takes step name
 
 -- nothing that is gathered below it on the rest of the path, from any of these positions, passes a test
-abbrev pub NoneGathered : {A : Type 0} → (A → Bool) → Gathering A → Tree → Names → Walked → Type 0
-NoneGathered test g t path w = (k : ℕ) → IsWalked w k → list_any test (gathering g t (drop k path)) ≡ false
+abbrev pub GathersNone : {A : Type 0} → (A → Bool) → Gathering A → Tree → Names → Walked → Type 0
+GathersNone test g t path w = (k : ℕ) → IsWalked w k → list_any test (gathering g t (drop k path)) ≡ false

@@ -10,7 +10,7 @@ ghost use Rattle.bd_path.specs.KeyList.{all_keys, document_keys, end_keys, index
 ghost use Rattle.bd_path.specs.Names.{component_names};
 ghost use Rattle.bd_path.specs.PathNames.{names_of};
 ghost use Rattle.bd_path.specs.Earliest.{dir_cmp, earlier_key, sort_key};
-ghost use Rattle.bd_path.specs.EarliestKeys.{IsEarliest, IsEarliestWith, NoneEarlier, is_earlier, key_option};
+ghost use Rattle.bd_path.specs.EarliestKeys.{IsEarliest, IsEarliestWith, HasNoEarlierKey, is_earlier, key_option};
 
 use crate::branch::{has_branch, is_document};
 use crate::component::Component;
@@ -69,7 +69,7 @@ fn earliest_from<N: Reading>(
 ) -> Option<Key<N>>
     requires few { length path.now ≤ 100 }
     requires at { k ≤ length path.now }
-    requires walked { NoneEarlier dir (key_option N.tree first) (N.tree node) (component_names path.now) walked.now }
+    requires walked { HasNoEarlierKey dir (key_option N.tree first) (N.tree node) (component_names path.now) walked.now }
     ensures tree { IsEarliestWith dir N.tree first result (all_keys false (N.tree node) (drop k (component_names path.now))) }
     ensures kept { IfSome first (λ f. IsKeyOf N.source (N.source node) f) → IfSome result (λ r. IsKeyOf N.source (N.source node) r) }
 {
@@ -99,7 +99,7 @@ fn earliest_in_field<N: Reading>(
     requires few { length path.now ≤ 100 }
     requires at { k < length path.now }
     requires kind { kind_of (N.tree node) ≡ kinds.Doc }
-    requires walked { NoneEarlier dir (key_option N.tree first) (N.tree node) (component_names path.now) walked.now }
+    requires walked { HasNoEarlierKey dir (key_option N.tree first) (N.tree node) (component_names path.now) walked.now }
     ensures tree { IsEarliestWith dir N.tree first result (all_keys false (N.tree node) (drop k (component_names path.now))) }
     ensures kept { IfSome first (λ f. IsKeyOf N.source (N.source node) f) → IfSome result (λ r. IsKeyOf N.source (N.source node) r) }
 {
@@ -126,7 +126,7 @@ fn earliest_in_array<N: Reading>(
     requires few { length path.now ≤ 100 }
     requires at { k < length path.now }
     requires kind { kind_of (N.tree node) ≡ kinds.Array }
-    requires walked { NoneEarlier dir (key_option N.tree first) (N.tree node) (component_names path.now) walked.now }
+    requires walked { HasNoEarlierKey dir (key_option N.tree first) (N.tree node) (component_names path.now) walked.now }
     ensures tree { IsEarliestWith dir N.tree first result (all_keys false (N.tree node) (drop k (component_names path.now))) }
     ensures kept { IfSome first (λ f. IsKeyOf N.source (N.source node) f) → IfSome result (λ r. IsKeyOf N.source (N.source node) r) }
 {
@@ -150,7 +150,7 @@ fn earliest_in_documents<N: Reading>(
     requires few { length path.now ≤ 100 }
     requires at { k < length path.now }
     requires kind { kind_of (N.tree node) ≡ kinds.Array }
-    requires walked { NoneEarlier dir (key_option N.tree first) (N.tree node) (component_names path.now) walked.now }
+    requires walked { HasNoEarlierKey dir (key_option N.tree first) (N.tree node) (component_names path.now) walked.now }
     ensures tree { IsEarliestWith dir N.tree first result (document_keys false (N.tree node) (drop k (component_names path.now))) }
     ensures kept { IfSome first (λ f. IsKeyOf N.source (N.source node) f) → IfSome result (λ r. IsKeyOf N.source (N.source node) r) }
 {
@@ -184,7 +184,7 @@ fn earliest_at_index<N: Reading>(
     requires few { length path.now ≤ 100 }
     requires at { k < length path.now }
     requires kind { kind_of (N.tree node) ≡ kinds.Array }
-    requires walked { NoneEarlier dir (key_option N.tree first) (N.tree node) (component_names path.now) walked.now }
+    requires walked { HasNoEarlierKey dir (key_option N.tree first) (N.tree node) (component_names path.now) walked.now }
     requires documents { list_any (is_earlier dir (key_option N.tree first)) (document_keys false (N.tree node) (drop k (component_names path.now))) ≡ false }
     ensures tree { IsEarliestWith dir N.tree first result (index_keys false (N.tree node) (drop k (component_names path.now))) }
     ensures kept { IfSome first (λ f. IsKeyOf N.source (N.source node) f) → IfSome result (λ r. IsKeyOf N.source (N.source node) r) }

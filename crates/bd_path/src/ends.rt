@@ -8,7 +8,7 @@ ghost use Rattle.bd_value.specs.declared.kind.Kind.TheVariants as kinds;
 ghost use Rattle.bd_path.specs.Names.{component_names};
 ghost use Rattle.bd_path.specs.PathNames.{names_of};
 ghost use Rattle.bd_path.specs.Reach.{document_ends, ends, index_ends, reach};
-ghost use Rattle.bd_path.specs.Walked.{NoneGathered};
+ghost use Rattle.bd_path.specs.Walked.{GathersNone};
 
 use crate::branch::is_document;
 use crate::component::Component;
@@ -49,7 +49,7 @@ fn any_end_from<N: Reading, T: EndTest>(
 ) -> bool
     requires few { length path.now ≤ 100 }
     requires at { k ≤ length path.now }
-    requires vain { NoneGathered (T.passes test.now) ends (N.tree node) (component_names path.now) walked.now }
+    requires vain { GathersNone (T.passes test.now) ends (N.tree node) (component_names path.now) walked.now }
     ensures { result ≡ list_any (T.passes test.now) (reach (N.tree node) (drop k (component_names path.now))) }
 {
     if walked.has(k) {
@@ -80,7 +80,7 @@ fn any_end_in_field<N: Reading, T: EndTest>(
     requires few { length path.now ≤ 100 }
     requires at { k < length path.now }
     requires kind { kind_of (N.tree node) ≡ kinds.Doc }
-    requires vain { NoneGathered (T.passes test.now) ends (N.tree node) (component_names path.now) walked.now }
+    requires vain { GathersNone (T.passes test.now) ends (N.tree node) (component_names path.now) walked.now }
     ensures { result ≡ list_any (T.passes test.now) (reach (N.tree node) (drop k (component_names path.now))) }
 {
     let name = path[k].name.as_str();
@@ -105,7 +105,7 @@ fn any_end_in_documents<N: Reading, T: EndTest>(
     requires few { length path.now ≤ 100 }
     requires at { k < length path.now }
     requires kind { kind_of (N.tree node) ≡ kinds.Array }
-    requires vain { NoneGathered (T.passes test.now) ends (N.tree node) (component_names path.now) walked.now }
+    requires vain { GathersNone (T.passes test.now) ends (N.tree node) (component_names path.now) walked.now }
     ensures { result ≡ list_any (T.passes test.now) (document_ends (N.tree node) (drop k (component_names path.now))) }
 {
     let mut left = node.parts();
@@ -138,7 +138,7 @@ fn any_end_at_index<N: Reading, T: EndTest>(
     requires few { length path.now ≤ 100 }
     requires at { k < length path.now }
     requires kind { kind_of (N.tree node) ≡ kinds.Array }
-    requires vain { NoneGathered (T.passes test.now) ends (N.tree node) (component_names path.now) walked.now }
+    requires vain { GathersNone (T.passes test.now) ends (N.tree node) (component_names path.now) walked.now }
     requires documents { list_any (T.passes test.now) (document_ends (N.tree node) (drop k (component_names path.now))) ≡ false }
     ensures { result ≡ list_any (T.passes test.now) (index_ends (N.tree node) (drop k (component_names path.now))) }
 {

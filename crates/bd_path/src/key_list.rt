@@ -6,7 +6,7 @@ ghost use Rattle.bd_value.specs.Kind.{kind_of};
 ghost use Rattle.bd_value.specs.Order.{equal};
 ghost use Rattle.bd_value.specs.View.{tree_of};
 ghost use Rattle.bd_value.specs.declared.kind.Kind.TheVariants as kinds;
-ghost use Rattle.bd_path.specs.AddedKeys.{AddsKeys, AppendsKeys, NoneNew, is_new};
+ghost use Rattle.bd_path.specs.AddedKeys.{AddsKeys, AppendsKeys, HasNoNewKey, is_new};
 ghost use Rattle.bd_path.specs.Key.{AreKeysOf, IsKeyOf, key_tree, key_trees};
 ghost use Rattle.bd_path.specs.KeyList.{all_keys, distinct, document_keys, end_keys, index_keys, indexed_keys, keys};
 ghost use Rattle.bd_path.specs.KeyList.{missing_key, sparse_keys as sparse_keys_of, with_key};
@@ -86,7 +86,7 @@ fn add_keys<N: Reading>(
 ) -> Result<(), NoMemory>
     requires few { length path.now ≤ 100 }
     requires at { k ≤ length path.now }
-    requires walked { NoneNew sparse (key_trees N.tree keys.old.items) (N.tree node) (component_names path.now) walked.now }
+    requires walked { HasNoNewKey sparse (key_trees N.tree keys.old.items) (N.tree node) (component_names path.now) walked.now }
     ensures added { OnOk result (AddsKeys N.tree keys.old.items keys.new.items (all_keys sparse (N.tree node) (drop k (component_names path.now)))) }
     ensures kept { AreKeysOf N.source (N.source node) keys.old.items → AreKeysOf N.source (N.source node) keys.new.items }
 {
@@ -116,7 +116,7 @@ fn add_keys_of_field<N: Reading>(
     requires few { length path.now ≤ 100 }
     requires at { k < length path.now }
     requires kind { kind_of (N.tree node) ≡ kinds.Doc }
-    requires walked { NoneNew sparse (key_trees N.tree keys.old.items) (N.tree node) (component_names path.now) walked.now }
+    requires walked { HasNoNewKey sparse (key_trees N.tree keys.old.items) (N.tree node) (component_names path.now) walked.now }
     ensures added { OnOk result (AddsKeys N.tree keys.old.items keys.new.items (all_keys sparse (N.tree node) (drop k (component_names path.now)))) }
     ensures kept { AreKeysOf N.source (N.source node) keys.old.items → AreKeysOf N.source (N.source node) keys.new.items }
 {
@@ -143,7 +143,7 @@ fn add_keys_of_array<N: Reading>(
     requires few { length path.now ≤ 100 }
     requires at { k < length path.now }
     requires kind { kind_of (N.tree node) ≡ kinds.Array }
-    requires walked { NoneNew sparse (key_trees N.tree keys.old.items) (N.tree node) (component_names path.now) walked.now }
+    requires walked { HasNoNewKey sparse (key_trees N.tree keys.old.items) (N.tree node) (component_names path.now) walked.now }
     ensures added { OnOk result (AddsKeys N.tree keys.old.items keys.new.items (all_keys sparse (N.tree node) (drop k (component_names path.now)))) }
     ensures kept { AreKeysOf N.source (N.source node) keys.old.items → AreKeysOf N.source (N.source node) keys.new.items }
 {
@@ -167,7 +167,7 @@ fn add_keys_of_documents<N: Reading>(
     requires few { length path.now ≤ 100 }
     requires at { k < length path.now }
     requires kind { kind_of (N.tree node) ≡ kinds.Array }
-    requires walked { NoneNew sparse (key_trees N.tree keys.old.items) (N.tree node) (component_names path.now) walked.now }
+    requires walked { HasNoNewKey sparse (key_trees N.tree keys.old.items) (N.tree node) (component_names path.now) walked.now }
     ensures added { OnOk result (AddsKeys N.tree keys.old.items keys.new.items (document_keys sparse (N.tree node) (drop k (component_names path.now)))) }
     ensures kept { AreKeysOf N.source (N.source node) keys.old.items → AreKeysOf N.source (N.source node) keys.new.items }
 {
@@ -200,7 +200,7 @@ fn add_keys_at_index<N: Reading>(
     requires few { length path.now ≤ 100 }
     requires at { k < length path.now }
     requires kind { kind_of (N.tree node) ≡ kinds.Array }
-    requires walked { NoneNew sparse (key_trees N.tree keys.old.items) (N.tree node) (component_names path.now) walked.now }
+    requires walked { HasNoNewKey sparse (key_trees N.tree keys.old.items) (N.tree node) (component_names path.now) walked.now }
     requires documents { list_any (is_new (distinct (key_trees N.tree keys.old.items))) (document_keys sparse (N.tree node) (drop k (component_names path.now))) ≡ false }
     ensures added { OnOk result (AddsKeys N.tree keys.old.items keys.new.items (index_keys sparse (N.tree node) (drop k (component_names path.now)))) }
     ensures kept { AreKeysOf N.source (N.source node) keys.old.items → AreKeysOf N.source (N.source node) keys.new.items }

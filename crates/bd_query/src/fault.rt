@@ -53,7 +53,7 @@ impl FilterFaultKind {
 pub struct FilterFault {
     /// Which rule it breaks.
     pub kind: FilterFaultKind,
-    /// The names from the top of the document down to it. A member of an array stands by its position, from 0. It is empty where
+    /// The names from the top of the document down to it. A member of an array stands by its index, from 0. It is empty where
     /// no memory was given.
     pub place: Vec<String>,
 }

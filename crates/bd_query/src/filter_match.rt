@@ -8,7 +8,7 @@ ghost use Rattle.bd_value.specs.declared.kind.Kind.TheVariants as kinds;
 ghost use Rattle.bd_path.specs.Names.{component_names};
 ghost use Rattle.bd_path.specs.PathNames.{names_of};
 ghost use Rattle.bd_path.specs.Reach.{document_ends, ends, index_ends, reach};
-ghost use Rattle.bd_path.specs.Walked.{NoneGathered};
+ghost use Rattle.bd_path.specs.Walked.{GathersNone};
 ghost use Rattle.bd_query.specs.Body.{is_suited, suits};
 ghost use Rattle.bd_query.specs.Filter.{filters_from, operators_from};
 ghost use Rattle.bd_query.specs.FilterMatch.{accepts, all_accept, all_hold, all_match, holds, matches, some_match};
@@ -124,7 +124,7 @@ fn any_end_suits<N: Reading>(
 ) -> bool
     requires few { length path.now ≤ 100 }
     requires at { k ≤ length path.now }
-    requires vain { NoneGathered (is_suited body.now) ends (N.tree node) (component_names path.now) walked.now }
+    requires vain { GathersNone (is_suited body.now) ends (N.tree node) (component_names path.now) walked.now }
     ensures { result ≡ list_any (is_suited body.now) (reach (N.tree node) (drop k (component_names path.now))) }
 {
     if walked.has(k) {
@@ -155,7 +155,7 @@ fn any_end_suits_in_field<N: Reading>(
     requires few { length path.now ≤ 100 }
     requires at { k < length path.now }
     requires kind { kind_of (N.tree node) ≡ kinds.Doc }
-    requires vain { NoneGathered (is_suited body.now) ends (N.tree node) (component_names path.now) walked.now }
+    requires vain { GathersNone (is_suited body.now) ends (N.tree node) (component_names path.now) walked.now }
     ensures { result ≡ list_any (is_suited body.now) (reach (N.tree node) (drop k (component_names path.now))) }
 {
     let name = path[k].name.as_str();
@@ -180,7 +180,7 @@ fn any_end_suits_in_documents<N: Reading>(
     requires few { length path.now ≤ 100 }
     requires at { k < length path.now }
     requires kind { kind_of (N.tree node) ≡ kinds.Array }
-    requires vain { NoneGathered (is_suited body.now) ends (N.tree node) (component_names path.now) walked.now }
+    requires vain { GathersNone (is_suited body.now) ends (N.tree node) (component_names path.now) walked.now }
     ensures { result ≡ list_any (is_suited body.now) (document_ends (N.tree node) (drop k (component_names path.now))) }
 {
     let mut left = node.parts();
@@ -213,7 +213,7 @@ fn any_end_suits_at_index<N: Reading>(
     requires few { length path.now ≤ 100 }
     requires at { k < length path.now }
     requires kind { kind_of (N.tree node) ≡ kinds.Array }
-    requires vain { NoneGathered (is_suited body.now) ends (N.tree node) (component_names path.now) walked.now }
+    requires vain { GathersNone (is_suited body.now) ends (N.tree node) (component_names path.now) walked.now }
     requires documents { list_any (is_suited body.now) (document_ends (N.tree node) (drop k (component_names path.now))) ≡ false }
     ensures { result ≡ list_any (is_suited body.now) (index_ends (N.tree node) (drop k (component_names path.now))) }
 {

@@ -21,7 +21,7 @@ impl<'a> Elements<'a> {
         n
     }
 
-    /// The name and the value of the element at a place, counted from 0. It goes through those before it.
+    /// The name and the value of the element at an index, counted from 0. It goes through those before it.
     pub fn nth(self, i: usize) -> (&'a str, RawValue<'a>)
         requires { i < length (elements_left self.left) }
         ensures pair { slice_get (elements_left self.entry.left) i ≡ Some (result.0.now, stands result.1.sound) }

@@ -29,7 +29,7 @@ impl<'a> RawDoc<'a> {
         self.elements().next().is_none()
     }
 
-    /// The name and the value of the pair at a place, counted from 0. It goes through those before it.
+    /// The name and the value of the pair at an index, counted from 0. It goes through those before it.
     pub fn pair(self, i: usize) -> (&'a str, RawValue<'a>)
         requires { i < length (pairs_in (stands self.sound)) }
         ensures pair { slice_get (pairs_in (stands self.entry.sound)) i ≡ Some (result.0.now, stands result.1.sound) }

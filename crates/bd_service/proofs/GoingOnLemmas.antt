@@ -6,7 +6,7 @@ use Rattle.bd_diagnose.specs.JsonFault.{IsPlaced}
 use Rattle.bd_diagnose.specs.declared.json_fault.JsonFault.{JsonFault}
 use Rattle.bd_diagnose.specs.declared.json_fault.JsonFaultKind.TheVariants as kinds
 use Rattle.bd_extjson.specs.TextDocument.{reading}
-use Rattle.bd_lines.specs.Serving.{Replied}
+use Rattle.bd_lines.specs.Serving.{RepliesInTurn}
 use Rattle.bd_reply.specs.Refusal.{json_refusal}
 use Rattle.bd_reply.specs.Reply.{reply_text}
 use Rattle.bd_service.specs.CallOf.{document_call}
@@ -15,7 +15,7 @@ use Rattle.bd_service.specs.TalkLaws.{RepliesGoOn}
 
 module _ (bytes : List ℕ) (ds : List Doc) where
   abbrev AreReplied : State → List (List ℕ) → List ℕ → State → Type 0
-  AreReplied = Replied (RepliesInText bytes ds)
+  AreReplied = RepliesInTurn (RepliesInText bytes ds)
 
   -- ---- one line
 

@@ -7,7 +7,7 @@ use Rattle.bd_bson.specs.declared.collection.Dump.{Dump}
 use Rattle.bd_device.specs.Devices.{Over, Reader, Writer}
 use Rattle.bd_device.specs.declared.reading.Limits.{Limits}
 use Rattle.bd_lines.specs.Serving as serving
-use Rattle.bd_lines.specs.Serving.{Replied, ServesAll, ServesBefore, StopsServing}
+use Rattle.bd_lines.specs.Serving.{RepliesInTurn, ServesAll, ServesBefore, StopsServing}
 use Rattle.bd_lines.specs.declared.serving.ServeFault.{ServeFault}
 use Rattle.bd_lines.specs.declared.serving.ServeFault.TheVariants as faults
 use Rattle.bd_reply.specs.Reply.{LineReply}
@@ -20,15 +20,15 @@ use Rattle.bd_service.specs.declared.service.Service.{Service}
 abbrev pub RepliesOver : Dump → State → List ℕ → List ℕ → State → Type 0
 RepliesOver dump = RepliesInText (bytes_of dump) (documents dump)
 
-pub dump_kept : (s : Service) (lines : List (List ℕ)) (text : List ℕ) (t : Service) → Replied RepliesTo s lines text t → service_dump t ≡ service_dump s
+pub dump_kept : (s : Service) (lines : List (List ℕ)) (text : List ℕ) (t : Service) → RepliesInTurn RepliesTo s lines text t → service_dump t ≡ service_dump s
 dump_kept s [] text t (same, none) = ap (λ (x : Service). service_dump x) same
 dump_kept s (line ∷ lines) text t (reply, mid, rest, r, more, is) = dump_kept mid lines rest t more ∙ r.kept
 
-pub replied : (s : Service) (lines : List (List ℕ)) (text : List ℕ) (t : Service) → Replied RepliesTo s lines text t
-    → Replied (RepliesOver (service_dump s)) (service_state s) lines text (service_state t)
+pub replied : (s : Service) (lines : List (List ℕ)) (text : List ℕ) (t : Service) → RepliesInTurn RepliesTo s lines text t
+    → RepliesInTurn (RepliesOver (service_dump s)) (service_state s) lines text (service_state t)
 replied s [] text t (same, none) = (ap (λ (x : Service). service_state x) same, none)
 replied s (line ∷ lines) text t (reply, mid, rest, r, more, is) =
-    let later = subst (λ (d : Dump). Replied (RepliesOver d) (service_state mid) lines rest (service_state t)) r.kept (replied mid lines rest t more) in
+    let later = subst (λ (d : Dump). RepliesInTurn (RepliesOver d) (service_state mid) lines rest (service_state t)) r.kept (replied mid lines rest t more) in
     (reply, service_state mid, rest, (r.reply, r.answers, r.written), later, is)
 
 pub one_replied : (s mid t : Service) (line text : List ℕ) → service_dump mid ≡ service_dump s → RepliesTo mid line text t
@@ -100,7 +100,7 @@ stopped state gives limits old new out s t faults.Unwritten (command, text, repl
 -- ---- a talk
 
 pub talk_of : (bytes : List ℕ) (ds : List Doc) (s : State) (lines : List (List ℕ)) (text : List ℕ) (t : State)
-    → Replied (RepliesInText bytes ds) s lines text t → (rs : List LineReply) × Talks bytes ds s lines rs t × (text ≡ reply_lines rs)
+    → RepliesInTurn (RepliesInText bytes ds) s lines text t → (rs : List LineReply) × Talks bytes ds s lines rs t × (text ≡ reply_lines rs)
 talk_of bytes ds s [] text t (same, none) = ([], same, none)
 talk_of bytes ds s (line ∷ lines) text t (reply, mid, rest, (r, answers, written), more, is) =
     let later = talk_of bytes ds mid lines rest t more in

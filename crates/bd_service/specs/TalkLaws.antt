@@ -6,7 +6,7 @@ use Rattle.bd_value.specs.Tree.{Doc}
 use Rattle.bd_answer.specs.Answer.{answer, rest}
 use Rattle.bd_answer.specs.Session.{Call, GivenBatch, MarkedToken, Query, State, find_call, gave, next_call, resume_call}
 use Rattle.bd_answer.specs.SessionLaws.{GivesInTurn, IsFair, new_state}
-use Rattle.bd_lines.specs.Serving.{Replied}
+use Rattle.bd_lines.specs.Serving.{RepliesInTurn}
 use Rattle.bd_extjson.specs.TextDocument.{reading}
 use Rattle.bd_reply.specs.Reply.{LineReply, gives, opens, reply_text}
 use Rattle.bd_service.specs.CallOf.{document_call}
@@ -84,5 +84,5 @@ TalksGiveTheRest = (bytes : List ℕ) (ds : List Doc) (q : Query) (hint : Option
 -- What was replied to lines stands in front of what may be replied to them and to any lines after them.
 abbrev pub RepliesGoOn : Type 0
 RepliesGoOn = (bytes : List ℕ) (ds : List Doc) (s : State) (lines later : List (List ℕ)) (text : List ℕ) (t : State) →
-    Replied (RepliesInText bytes ds) s lines text t →
-    (rest : List ℕ) × (end : State) × Replied (RepliesInText bytes ds) s (lines ++ later) (text ++ rest) end
+    RepliesInTurn (RepliesInText bytes ds) s lines text t →
+    (rest : List ℕ) × (end : State) × RepliesInTurn (RepliesInText bytes ds) s (lines ++ later) (text ++ rest) end

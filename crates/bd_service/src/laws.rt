@@ -2,7 +2,7 @@
 ghost use Rattle.std.specs.Prelude.{◌≡◌, List, ℕ};
 ghost use Rattle.bd_value.specs.Tree.{Doc};
 ghost use Rattle.bd_answer.specs.Session.{State};
-ghost use Rattle.bd_lines.specs.Serving.{Replied};
+ghost use Rattle.bd_lines.specs.Serving.{RepliesInTurn};
 ghost use Rattle.bd_reply.specs.Reply.{LineReply};
 ghost use Rattle.bd_service.specs.Talk.{RepliesInText};
 ghost use Rattle.bd_service.specs.TalkLaws.{RepliesGoOn, TalksGiveTheAnswer, TalksGiveTheRest, Talks, reply_lines};
@@ -17,7 +17,7 @@ pub fn talks_keep_to_the_answer()
 /// What is written in reply to lines is a talk, a line a reply.
 pub fn texts_are_talks()
     ensures { (bytes : List ℕ) (ds : List Doc) (s : State) (lines : List (List ℕ)) (text : List ℕ) (t : State) →
-        Replied (RepliesInText bytes ds) s lines text t →
+        RepliesInTurn (RepliesInText bytes ds) s lines text t →
         (rs : List LineReply) × Talks bytes ds s lines rs t × (text ≡ reply_lines rs) }
 {}
 

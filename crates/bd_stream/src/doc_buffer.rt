@@ -54,7 +54,7 @@ pub struct DocBuffer {
     buffer: Vec<u8>,
     /// The length of the document that is held.
     size: usize,
-    /// The place of the next document among all bytes that the device gave.
+    /// The offset of the next document among all bytes that the device gave.
     place: u64,
     /// The number of the next document.
     number: u32,
@@ -101,7 +101,7 @@ impl DocBuffer {
         &self.buffer[..self.size]
     }
 
-    /// The place of the next document's first byte, counted from the first byte that the device gave.
+    /// The offset of the next document's first byte, counted from the first byte that the device gave.
     pub fn place(&self) -> u64
         ensures { result ≡ self.now.place }
     {

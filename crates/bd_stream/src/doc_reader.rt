@@ -15,7 +15,7 @@ use std::alloc::Global;
 pub struct RawBytes<'a> {
     /// All bytes of the document, as many as its length counts.
     pub bytes: &'a [u8],
-    /// The place of the first among all bytes that the device gave.
+    /// The offset of the first among all bytes that the device gave.
     pub start: u64,
     /// The number of the document, counted from 0.
     pub number: u32,

@@ -117,7 +117,7 @@ impl Document {
         &self.pairs
     }
 
-    /// The name and the value of the pair at a place, counted from 0.
+    /// The name and the value of the pair at an index, counted from 0.
     pub fn pair(&self, i: usize) -> (&str, &Value)
         requires { i < length (pairs self.now) }
         ensures { slice_get (pairs self.now) i ≡ Some (result.0.now, tree_of result.1.now) }

@@ -46,13 +46,13 @@ pub trait Reading: Copy {
     fn len(self) -> usize
         ensures { result ≡ length_of (tree self) };
 
-    /// The name and the value of the pair of a document at a place, counted from 0, as long as the node is held.
+    /// The name and the value of the pair of a document at an index, counted from 0, as long as the node is held.
     fn field(&self, i: usize) -> (&str, Self)
         requires { i < length (pairs_in (tree self.now)) }
         ensures field { slice_get (pairs_in (tree self.now)) i ≡ Some (result.0.now, tree result.1) }
         ensures kept { source result.1 ≡ source self.now };
 
-    /// The element of an array at a place, counted from 0.
+    /// The element of an array at an index, counted from 0.
     fn element(self, i: usize) -> Self
         requires { i < length (elements_in (tree self)) }
         ensures element { slice_get (elements_in (tree self)) i ≡ Some (tree result) }
@@ -83,7 +83,7 @@ pub trait Node<'a>: Reading {
     fn scalar(self) -> Option<Scalar<'a>>
         ensures { option_map seen result ≡ own_of (Self.tree self) };
 
-    /// The name and the value of the pair of a document at a place, counted from 0.
+    /// The name and the value of the pair of a document at an index, counted from 0.
     fn pair(self, i: usize) -> (&'a str, Self)
         requires { i < length (pairs_in (Self.tree self)) }
         ensures pair { slice_get (pairs_in (Self.tree self)) i ≡ Some (result.0.now, Self.tree result.1) }

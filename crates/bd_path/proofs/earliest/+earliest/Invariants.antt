@@ -3,7 +3,7 @@ use Rattle.std.specs.Prelude.{IfSome}
 use Rattle.bd_value.specs.Tree.{fields_of, fields_size, items_of, tree_size}
 use Rattle.bd_value.specs.Parts.{values_of, elements_in}
 use Rattle.bd_path.specs.Earliest.{earlier_key, earliest_key}
-use Rattle.bd_path.specs.EarliestKeys.{NoneEarlier, key_option}
+use Rattle.bd_path.specs.EarliestKeys.{HasNoEarlierKey, key_option}
 use Rattle.bd_path.specs.Key.{IsKeyOf}
 use Rattle.bd_path.specs.KeyList.{key_gathering, missing_key}
 use Rattle.bd_path.specs.Names.{component_names}
@@ -33,7 +33,7 @@ invariant-earliest_in_documents-loop-i g l = record {
       (earliest_key l.dir (each_gathering (key_gathering (missing_key false)) (items_of (values_of (g.N.Reading.left l.left))) (drop l.k (component_names l.path))))
       ≡ earlier_key l.dir (key_option g.N.Reading.tree l.fn.first)
       (earliest_key l.dir (each_gathering (key_gathering (missing_key false)) (items_of (elements_in (g.N.Reading.tree l.fn.node))) (drop l.k (component_names l.path))));
-  walked : NoneEarlier l.dir (key_option g.N.Reading.tree l.earliest) (g.N.Reading.tree l.fn.node) (component_names l.path) l.walked;
+  walked : HasNoEarlierKey l.dir (key_option g.N.Reading.tree l.earliest) (g.N.Reading.tree l.fn.node) (component_names l.path) l.walked;
   kept : IfSome l.fn.first (λ k. IsKeyOf g.N.Reading.source (g.N.Reading.source l.fn.node) k) → IfSome l.earliest (λ k. IsKeyOf g.N.Reading.source (g.N.Reading.source l.fn.node) k);
   source : g.N.Reading.rest_source l.left ≡ g.N.Reading.source l.fn.node;
   smaller : fields_size (fields_of (g.N.Reading.left l.left)) < tree_size (g.N.Reading.tree l.fn.node);

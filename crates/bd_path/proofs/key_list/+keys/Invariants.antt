@@ -1,7 +1,7 @@
 use Rattle.std.proofs.Common.{◌≡◌, ◌<◌, ◌+◌, ◌*◌, All, drop}
 use Rattle.bd_value.specs.Tree.{fields_of, fields_size, items_of, tree_size}
 use Rattle.bd_value.specs.Parts.{values_of, elements_in}
-use Rattle.bd_path.specs.AddedKeys.{NoneNew}
+use Rattle.bd_path.specs.AddedKeys.{HasNoNewKey}
 use Rattle.bd_path.specs.Key.{IsKeyOf, key_trees}
 use Rattle.bd_path.specs.KeyList.{distinct, key_gathering, missing_key, with_keys}
 use Rattle.bd_path.specs.Names.{component_names}
@@ -29,7 +29,7 @@ invariant-add_keys_of_documents-loop-i g l = record {
   left : values_of (g.N.Reading.left l.left) ≡ drop l.i (elements_in (g.N.Reading.tree l.fn.node));
   so_far : with_keys (distinct (key_trees g.N.Reading.tree l.keys.items)) (each_gathering (key_gathering (missing_key l.sparse)) (items_of (values_of (g.N.Reading.left l.left))) (drop l.k (component_names l.path)))
       ≡ with_keys (distinct (key_trees g.N.Reading.tree l.fn.keys.items)) (each_gathering (key_gathering (missing_key l.sparse)) (items_of (elements_in (g.N.Reading.tree l.fn.node))) (drop l.k (component_names l.path)));
-  walked : NoneNew l.sparse (key_trees g.N.Reading.tree l.keys.items) (g.N.Reading.tree l.fn.node) (component_names l.path) l.walked;
+  walked : HasNoNewKey l.sparse (key_trees g.N.Reading.tree l.keys.items) (g.N.Reading.tree l.fn.node) (component_names l.path) l.walked;
   kept : All (IsKeyOf g.N.Reading.source (g.N.Reading.source l.fn.node)) l.fn.keys.items → All (IsKeyOf g.N.Reading.source (g.N.Reading.source l.fn.node)) l.keys.items;
   source : g.N.Reading.rest_source l.left ≡ g.N.Reading.source l.fn.node;
   smaller : fields_size (fields_of (g.N.Reading.left l.left)) < tree_size (g.N.Reading.tree l.fn.node);
