@@ -10,7 +10,7 @@ use crate::reading::{Limits, ReadFault};
 
 /// What came of filling a room.
 #[derive(Clone, Copy)]
-pub struct Filled {
+pub struct FillCounts {
     /// How many bytes came, the whole room unless the device is at its end.
     pub bytes: usize,
     /// How many reads were made.
@@ -19,7 +19,11 @@ pub struct Filled {
 
 /// Reads until the room is full or the device is at its end, as long as the limits let it. No read is made again.
 #[inline(always)]
-pub fn fill<R: Input>(reader: &mut R, room: &mut [u8], limits: Limits) -> Result<Filled, ReadFault>
+pub fn fill<R: Input>(
+    reader: &mut R,
+    room: &mut [u8],
+    limits: Limits,
+) -> Result<FillCounts, ReadFault>
     ensures fits { IfOk result (λ f. f.bytes ≤ length room.old) }
     ensures bytes { IfOk result (λ f. Consumes (R.state reader.old).left (R.state reader.new).left (take f.bytes room.new)) }
     ensures end { IfOk result (λ f. f.bytes < length room.old → IsAtEnd (R.state reader.new).left) }
@@ -44,7 +48,7 @@ pub fn fill<R: Input>(reader: &mut R, room: &mut [u8], limits: Limits) -> Result
 {
     let size = room.len();
     if 0 < limits.turns && size as u64 <= limits.bytes && reader.read_held(room) {
-        return Ok(Filled {
+        return Ok(FillCounts {
             bytes: size,
             turns: 1,
         });
@@ -60,14 +64,14 @@ pub fn fill<R: Input>(reader: &mut R, room: &mut [u8], limits: Limits) -> Result
         };
         turns += 1;
         if n == 0 {
-            return Ok(Filled { bytes, turns });
+            return Ok(FillCounts { bytes, turns });
         }
         if limits.bytes - (bytes as u64) < n as u64 {
             return Err(ReadFault::TooLong);
         }
         bytes += n;
     }
-    Ok(Filled { bytes, turns })
+    Ok(FillCounts { bytes, turns })
 }
 
 /// Puts four bytes at the front of a room, and fills it after them up to `size`, which is at least 4 and no more than the
@@ -78,7 +82,7 @@ pub fn fill_after<R: Input>(
     head: [u8; 4],
     size: usize,
     limits: Limits,
-) -> Result<Filled, ReadFault>
+) -> Result<FillCounts, ReadFault>
     requires { (4 ≤ size) × (size ≤ length room.old) }
     ensures fits { IfOk result (λ f. f.bytes + 4 ≤ size) }
     ensures gives { IfOk result (λ f. (given : List ℕ) × Consumes (R.state reader.old).left (R.state reader.new).left given

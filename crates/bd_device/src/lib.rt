@@ -28,7 +28,7 @@ mod output;
 mod reading;
 mod tally;
 
-pub use filling::{Filled, fill, fill_after};
+pub use filling::{FillCounts, fill, fill_after};
 pub use input::{BufferedInput, DeviceFault, Input, MemoryInput, SystemInput};
 pub use output::{FailingWrite, MemoryOutput, Output, SystemOutput, write_all};
 pub use reading::{Limits, ReadFault, read_all};

@@ -1,5 +1,5 @@
 //! Reads of devices in memory, with outcomes that were worked by hand.
-use bd_device::{Filled, Input, Limits, MemoryInput, ReadFault, fill, fill_after, read_all};
+use bd_device::{FillCounts, Input, Limits, MemoryInput, ReadFault, fill, fill_after, read_all};
 use std::alloc::Global;
 use std::test::Fail;
 
@@ -91,7 +91,7 @@ fn the_program_says_each_fault(rt: HostRuntime) {
 }
 
 /// Whether so many bytes came by so many reads.
-fn is_filled(filled: Result<Filled, ReadFault>, bytes: usize, turns: u64) -> bool {
+fn is_filled(filled: Result<FillCounts, ReadFault>, bytes: usize, turns: u64) -> bool {
     match filled {
         Ok(filled) => filled.bytes == bytes && filled.turns == turns,
         Err(_) => false,

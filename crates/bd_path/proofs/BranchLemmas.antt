@@ -14,7 +14,7 @@ use Rattle.bd_path.specs.Reach.{Gathering, each_gathering, gathering, gathering_
 use Rattle.bd_path.proofs.LawsLemmas.{HasSome, some_key}
 use Rattle.bd_path.proofs.MemberLemmas.{in_left, in_right}
 use Rattle.bd_path.proofs.ReachLemmas as down
-use Rattle.bd_path.proofs.WalkedLemmas.{array_is, first_is, left_false, parts_are, right_false}
+use Rattle.bd_path.proofs.VisitsLemmas.{array_is, first_is, left_false, parts_are, right_false}
 
 -- ---- none
 

@@ -12,7 +12,7 @@ use Rattle.bd_path.specs.KeyList.{distinct, with_key, with_keys}
 use Rattle.bd_path.specs.Names.{Names}
 use Rattle.bd_path.specs.Reach.{Gathering, each_gathering, gathering, is_document}
 use Rattle.bd_path.proofs.LawsLemmas.{equal_itself}
-use Rattle.bd_path.proofs.WalkedLemmas.{left_false, right_false}
+use Rattle.bd_path.proofs.VisitsLemmas.{left_false, right_false}
 
 pub on_ok : {T E P Q : Type 0} (r : Result T E) → (P → Q) → OnOk r P → OnOk r Q
 on_ok (Ok x) f h = f h

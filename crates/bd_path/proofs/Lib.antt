@@ -7,4 +7,4 @@ pub mod LawsLemmas
 pub mod MemberLemmas
 pub mod PositionsLemmas
 pub mod ReachLemmas
-pub mod WalkedLemmas
+pub mod VisitsLemmas

@@ -6,9 +6,9 @@ use Rattle.bd_value.specs.Tree.{Tree}
 use Rattle.bd_path.specs.Key.{key_trees}
 use Rattle.bd_path.specs.KeyList.{distinct, key_gathering, missing_key, with_keys}
 use Rattle.bd_path.specs.Names.{Names}
-use Rattle.bd_path.specs.Walked.{GathersNone}
+use Rattle.bd_path.specs.Visits.{GathersNone}
 use Rattle.bd_path.specs.declared.key.Key.{Key}
-use Rattle.bd_path.specs.declared.walked.Walked.{Walked}
+use Rattle.bd_path.specs.declared.visits.Visits.{Visits}
 
 -- to the keys that were there, these were added
 abbrev pub AddsKeys : {N : Type 0} → (N → Tree) → List (Key N) → List (Key N) → List Tree → Type 0
@@ -23,5 +23,5 @@ abbrev pub is_new : List Tree → Tree → Bool
 is_new ks k = not (list_any (λ x. equal x k) ks)
 
 -- no key of a value is new, on the rest of the path from any of some positions
-abbrev pub HasNoNewKey : Bool → List Tree → Tree → Names → Walked → Type 0
+abbrev pub HasNoNewKey : Bool → List Tree → Tree → Names → Visits → Type 0
 HasNoNewKey sparse ks t path w = GathersNone (is_new (distinct ks)) (key_gathering (missing_key sparse)) t path w

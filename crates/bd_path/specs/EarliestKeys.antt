@@ -6,10 +6,10 @@ use Rattle.bd_path.specs.Earliest.{dir_cmp, earlier_key, earliest_key}
 use Rattle.bd_path.specs.Key.{key_tree}
 use Rattle.bd_path.specs.KeyList.{key_gathering, missing_key}
 use Rattle.bd_path.specs.Names.{Names}
-use Rattle.bd_path.specs.Walked.{GathersNone}
+use Rattle.bd_path.specs.Visits.{GathersNone}
 use Rattle.bd_path.specs.declared.dir.Dir.{Dir}
 use Rattle.bd_path.specs.declared.key.Key.{Key}
-use Rattle.bd_path.specs.declared.walked.Walked.{Walked}
+use Rattle.bd_path.specs.declared.visits.Visits.{Visits}
 
 abbrev pub key_option : {N : Type 0} → (N → Tree) → Option (Key N) → Option Tree
 key_option tree key = option_map (key_tree tree) key
@@ -27,5 +27,5 @@ is_earlier dir None k = true
 is_earlier dir (Some e) k = is_lt (dir_cmp dir k e)
 
 -- no key of a value is earlier, on the rest of the path from any of some positions
-abbrev pub HasNoEarlierKey : Dir → Option Tree → Tree → Names → Walked → Type 0
+abbrev pub HasNoEarlierKey : Dir → Option Tree → Tree → Names → Visits → Type 0
 HasNoEarlierKey dir e t path w = GathersNone (is_earlier dir e) (key_gathering (missing_key false)) t path w

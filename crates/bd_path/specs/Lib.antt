@@ -13,4 +13,4 @@ pub mod PathNames
 pub mod Positions
 pub mod Reach
 pub mod Sort
-pub mod Walked
+pub mod Visits

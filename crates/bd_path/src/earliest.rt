@@ -17,7 +17,7 @@ use crate::component::Component;
 use crate::dir::Dir;
 use crate::key::{Key, compare_keys, key_value};
 use crate::path::Path;
-use crate::walked::Walked;
+use crate::visits::Visits;
 use bd_value::{Kind, NoMemory, Reading, Value};
 use std::alloc::Global;
 use std::cmp::Ordering;
@@ -30,7 +30,7 @@ pub fn sort_key_node<N: Reading>(doc: N, path: &Path, dir: Dir) -> Key<N>
     ensures tree { key_tree N.tree result ≡ sort_key dir (N.tree doc) (names_of path.now) }
     ensures kept { IsKeyOf N.source (N.source doc) result }
 {
-    match earliest_from(doc, path.components(), 0, &Walked::Nowhere, dir, None) {
+    match earliest_from(doc, path.components(), 0, &Visits::Nowhere, dir, None) {
         Some(key) => key,
         None => Key::Null,
     }
@@ -63,7 +63,7 @@ fn earliest_from<N: Reading>(
     node: N,
     path: &[Component],
     k: usize,
-    walked: &Walked,
+    walked: &Visits,
     dir: Dir,
     first: Option<Key<N>>,
 ) -> Option<Key<N>>
@@ -92,7 +92,7 @@ fn earliest_in_field<N: Reading>(
     node: N,
     path: &[Component],
     k: usize,
-    walked: &Walked,
+    walked: &Visits,
     dir: Dir,
     first: Option<Key<N>>,
 ) -> Option<Key<N>>
@@ -119,7 +119,7 @@ fn earliest_in_array<N: Reading>(
     node: N,
     path: &[Component],
     k: usize,
-    walked: &Walked,
+    walked: &Visits,
     dir: Dir,
     first: Option<Key<N>>,
 ) -> Option<Key<N>>
@@ -143,7 +143,7 @@ fn earliest_in_documents<N: Reading>(
     node: N,
     path: &[Component],
     k: usize,
-    walked: &Walked,
+    walked: &Visits,
     dir: Dir,
     first: Option<Key<N>>,
 ) -> Option<Key<N>>
@@ -177,7 +177,7 @@ fn earliest_at_index<N: Reading>(
     node: N,
     path: &[Component],
     k: usize,
-    walked: &Walked,
+    walked: &Visits,
     dir: Dir,
     first: Option<Key<N>>,
 ) -> Option<Key<N>>

@@ -8,12 +8,12 @@ ghost use Rattle.bd_value.specs.declared.kind.Kind.TheVariants as kinds;
 ghost use Rattle.bd_path.specs.Names.{component_names};
 ghost use Rattle.bd_path.specs.PathNames.{names_of};
 ghost use Rattle.bd_path.specs.Reach.{document_ends, ends, index_ends, reach};
-ghost use Rattle.bd_path.specs.Walked.{GathersNone};
+ghost use Rattle.bd_path.specs.Visits.{GathersNone};
 
 use crate::branch::is_document;
 use crate::component::Component;
 use crate::path::Path;
-use crate::walked::Walked;
+use crate::visits::Visits;
 use bd_value::{Kind, Reading};
 
 /// What an end of a path is asked.
@@ -33,7 +33,7 @@ pub trait EndTest {
 pub fn any_end<N: Reading, T: EndTest>(node: N, path: &Path, test: &T) -> bool
     ensures { result ≡ list_any (T.passes test.now) (reach (N.tree node) (names_of path.now)) }
 {
-    any_end_from(node, path.components(), 0, &Walked::Nowhere, test)
+    any_end_from(node, path.components(), 0, &Visits::Nowhere, test)
 }
 
 /// Whether some end of the rest of a path passes, from a component on.
@@ -44,7 +44,7 @@ fn any_end_from<N: Reading, T: EndTest>(
     node: N,
     path: &[Component],
     k: usize,
-    walked: &Walked,
+    walked: &Visits,
     test: &T,
 ) -> bool
     requires few { length path.now ≤ 100 }
@@ -74,7 +74,7 @@ fn any_end_in_field<N: Reading, T: EndTest>(
     node: N,
     path: &[Component],
     k: usize,
-    walked: &Walked,
+    walked: &Visits,
     test: &T,
 ) -> bool
     requires few { length path.now ≤ 100 }
@@ -99,7 +99,7 @@ fn any_end_in_documents<N: Reading, T: EndTest>(
     node: N,
     path: &[Component],
     k: usize,
-    walked: &Walked,
+    walked: &Visits,
     test: &T,
 ) -> bool
     requires few { length path.now ≤ 100 }
@@ -132,7 +132,7 @@ fn any_end_at_index<N: Reading, T: EndTest>(
     node: N,
     path: &[Component],
     k: usize,
-    walked: &Walked,
+    walked: &Visits,
     test: &T,
 ) -> bool
     requires few { length path.now ≤ 100 }

@@ -17,7 +17,7 @@ use crate::branch::{has_branch, is_document};
 use crate::component::Component;
 use crate::key::{Key, compare_keys, key_value};
 use crate::path::Path;
-use crate::walked::Walked;
+use crate::visits::Visits;
 use bd_value::{Kind, NoMemory, Reading, Value};
 use std::alloc::Global;
 
@@ -55,7 +55,7 @@ pub fn all_key_nodes<N: Reading>(
 {
     let mut all = Vec::new(alloc);
     let components = path.components();
-    add_keys(doc, components, 0, &Walked::Nowhere, sparse, &mut all)?;
+    add_keys(doc, components, 0, &Visits::Nowhere, sparse, &mut all)?;
     Ok(all)
 }
 
@@ -80,7 +80,7 @@ fn add_keys<N: Reading>(
     node: N,
     path: &[Component],
     k: usize,
-    walked: &Walked,
+    walked: &Visits,
     sparse: bool,
     keys: &mut Vec<Key<N>>,
 ) -> Result<(), NoMemory>
@@ -109,7 +109,7 @@ fn add_keys_of_field<N: Reading>(
     node: N,
     path: &[Component],
     k: usize,
-    walked: &Walked,
+    walked: &Visits,
     sparse: bool,
     keys: &mut Vec<Key<N>>,
 ) -> Result<(), NoMemory>
@@ -136,7 +136,7 @@ fn add_keys_of_array<N: Reading>(
     node: N,
     path: &[Component],
     k: usize,
-    walked: &Walked,
+    walked: &Visits,
     sparse: bool,
     keys: &mut Vec<Key<N>>,
 ) -> Result<(), NoMemory>
@@ -160,7 +160,7 @@ fn add_keys_of_documents<N: Reading>(
     node: N,
     path: &[Component],
     k: usize,
-    walked: &Walked,
+    walked: &Visits,
     sparse: bool,
     keys: &mut Vec<Key<N>>,
 ) -> Result<(), NoMemory>
@@ -193,7 +193,7 @@ fn add_keys_at_index<N: Reading>(
     node: N,
     path: &[Component],
     k: usize,
-    walked: &Walked,
+    walked: &Visits,
     sparse: bool,
     keys: &mut Vec<Key<N>>,
 ) -> Result<(), NoMemory>

@@ -14,8 +14,8 @@
 //! ```
 //!
 //! - `path`, `path_fault`, `component`: `Path`, a text cut into its components: `specs/Path.antt`.
-//! - `positions`, `walked`: where a value was walked before, so that each walk down a path goes into it once from each position of
-//!   the path: `specs/Walked.antt`.
+//! - `positions`, `visits`: where a value was walked before, so that each walk down a path goes into it once from each position of
+//!   the path: `specs/Visits.antt`.
 //! - `ends`: `any_end`, whether a value that the path reaches passes a test: `specs/Reach.antt`.
 //! - `branch`: whether a path goes on below an array: `specs/Branch.antt`.
 //! - `key`, `key_list`: the keys of a document on a path, as nodes of the document: `specs/KeyList.antt`.
@@ -36,7 +36,7 @@ mod path;
 mod path_fault;
 mod positions;
 mod sort;
-mod walked;
+mod visits;
 
 pub use branch::is_document;
 pub use component::Component;
@@ -49,4 +49,4 @@ pub use laws::{keys_are_there, sorts_order_all_documents, sparse_keys_are_the_re
 pub use path::Path;
 pub use path_fault::PathFault;
 pub use sort::compare_sort;
-pub use walked::Walked;
+pub use visits::Visits;

@@ -22,8 +22,8 @@ use Rattle.bd_query.specs.declared.fault.FilterFault.{FilterFault}
 use Rattle.bd_query.specs.declared.fault.FilterFaultKind.{FilterFaultKind}
 use Rattle.bd_query.specs.declared.fault.FilterFaultKind.TheVariants as faults
 use Rattle.bd_query.specs.declared.relation.Relation.TheVariants as relation
-use Rattle.bd_query.specs.declared.word.Plain.{Plain}
-use Rattle.bd_query.specs.declared.word.Plain.TheVariants as plain
+use Rattle.bd_query.specs.declared.word.PlainOperator.{PlainOperator}
+use Rattle.bd_query.specs.declared.word.PlainOperator.TheVariants as plain
 use Rattle.bd_query.specs.declared.word.Word.{Word}
 use Rattle.bd_query.specs.declared.word.Word.TheVariants as words
 
@@ -119,7 +119,7 @@ profile_agrees : (f : Tree → Operator) (b : Bool) (t : Tree)
 profile_agrees f b t =
     as_agrees f (if b then refuse faults.NotInProfile else Ok t) (BreaksHereIf b faults.NotInProfile) (test_agrees b faults.NotInProfile t)
 
-plain_agrees : (p : Plain) (t : Tree) → Agrees (plain_operator p t) (IsBadPlain p t)
+plain_agrees : (p : PlainOperator) (t : Tree) → Agrees (plain_operator p t) (IsBadPlain p t)
 plain_agrees plain.Equal t = λ r e. e
 plain_agrees plain.NotEqual t = profile_agrees (λ v. negation_of (equals v)) (is_regex t) t
 plain_agrees plain.Greater t = profile_agrees (compares relation.Above) (is_regex t || is_bound t) t

@@ -11,8 +11,8 @@ use Rattle.bd_query.specs.FilterOf.{first_is_operator, has_operators, has_value_
 use Rattle.bd_query.specs.Word.{word_of}
 use Rattle.bd_query.specs.declared.fault.FilterFaultKind.{FilterFaultKind}
 use Rattle.bd_query.specs.declared.fault.FilterFaultKind.TheVariants as faults
-use Rattle.bd_query.specs.declared.word.Plain.{Plain}
-use Rattle.bd_query.specs.declared.word.Plain.TheVariants as plain
+use Rattle.bd_query.specs.declared.word.PlainOperator.{PlainOperator}
+use Rattle.bd_query.specs.declared.word.PlainOperator.TheVariants as plain
 use Rattle.bd_query.specs.declared.word.Word.{Word}
 use Rattle.bd_query.specs.declared.word.Word.TheVariants as words
 
@@ -63,7 +63,7 @@ is_truth (leaf (trees.int64 z)) = true
 is_truth t = false
 
 -- `$eq` takes any value; no other takes a regular expression, and none that orders takes the bounds of the order
-abbrev pub IsBadPlain : Plain → Tree → Refusal → Type 0
+abbrev pub IsBadPlain : PlainOperator → Tree → Refusal → Type 0
 IsBadPlain plain.Equal t r = ⊥
 IsBadPlain plain.NotEqual t r = BreaksHereIf (is_regex t) faults.NotInProfile r
 IsBadPlain plain.Greater t r = BreaksHereIf (is_regex t || is_bound t) faults.NotInProfile r

@@ -15,10 +15,10 @@ use Rattle.bd_query.specs.Types.{kinds_named, kinds_numbered}
 use Rattle.bd_query.specs.Word.{begins_with_dollar, word_of}
 use Rattle.bd_query.specs.declared.fault.FilterFaultKind.TheVariants as faults
 use Rattle.bd_query.specs.declared.relation.Relation.TheVariants as relation
-use Rattle.bd_query.specs.declared.word.Logical.{Logical}
-use Rattle.bd_query.specs.declared.word.Logical.TheVariants as logical
-use Rattle.bd_query.specs.declared.word.Plain.{Plain}
-use Rattle.bd_query.specs.declared.word.Plain.TheVariants as plain
+use Rattle.bd_query.specs.declared.word.LogicalOperator.{LogicalOperator}
+use Rattle.bd_query.specs.declared.word.LogicalOperator.TheVariants as logical
+use Rattle.bd_query.specs.declared.word.PlainOperator.{PlainOperator}
+use Rattle.bd_query.specs.declared.word.PlainOperator.TheVariants as plain
 use Rattle.bd_query.specs.declared.word.Word.{Word}
 use Rattle.bd_query.specs.declared.word.Word.TheVariants as words
 
@@ -121,7 +121,7 @@ abbrev pub or_bad_operand : {A : Type 0} → Option A → Result A Refusal
 or_bad_operand None = refuse faults.BadOperand
 or_bad_operand (Some x) = Ok x
 
-abbrev pub plain_operator : Plain → Tree → Result Operator Refusal
+abbrev pub plain_operator : PlainOperator → Tree → Result Operator Refusal
 plain_operator plain.Equal t = Ok (equals t)
 plain_operator plain.NotEqual t = read_as (λ v. negation_of (equals v)) (plain_value t)
 plain_operator plain.Greater t = read_as (compares relation.Above) (ordered_value t)
@@ -137,7 +137,7 @@ plain_operator plain.Type t = read_as has_type (or_bad_operand (operand_kinds t)
 
 -- ---- filters
 
-abbrev pub logical_filter : Logical → List Filter → Filter
+abbrev pub logical_filter : LogicalOperator → List Filter → Filter
 logical_filter logical.And fs = all_of (filters_from fs)
 logical_filter logical.Or fs = some_of (filters_from fs)
 logical_filter logical.Nor fs = none_of (filters_from fs)

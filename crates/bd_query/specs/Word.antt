@@ -2,8 +2,8 @@
 use Rattle.std.specs.Prelude.{ℕ, Bool, false, ◌==◌, List, [], ◌∷◌, codes, if◌then◌else◌}
 use Rattle.std.specs.List.{list_any}
 use Rattle.std.specs.Str.{bytes_eq}
-use Rattle.bd_query.specs.declared.word.Logical.TheVariants as logical
-use Rattle.bd_query.specs.declared.word.Plain.TheVariants as plain
+use Rattle.bd_query.specs.declared.word.LogicalOperator.TheVariants as logical
+use Rattle.bd_query.specs.declared.word.PlainOperator.TheVariants as plain
 use Rattle.bd_query.specs.declared.word.Word.{Word}
 use Rattle.bd_query.specs.declared.word.Word.TheVariants as words
 

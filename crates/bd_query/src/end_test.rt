@@ -11,15 +11,15 @@ ghost use Rattle.bd_query.specs.Members.{trees_in};
 
 use crate::members::Members;
 use crate::relation::Relation;
-use crate::value_test::{EqualTo, OfKinds, OneOf, Related, ValueTest, any_element};
+use crate::value_test::{EqualityTest, KindTest, MemberTest, RelationTest, ValueTest, any_element};
 use bd_path::{EndTest, Path, any_end};
 use bd_value::{Kind, Reading, Tree, Value};
 
 /// A candidate passes, where a missing field is a null.
 #[derive(Clone, Copy)]
-pub struct OrNull<T>(pub T);
+pub struct CandidateTest<T>(pub T);
 
-impl<T: ValueTest> EndTest for OrNull<T> {
+impl<T: ValueTest> EndTest for CandidateTest<T> {
     ghost passes = { λ s e. list_any (λ c. T.accepts s.0 (value_or_null c)) (candidates e) };
 
     fn test<N: Reading>(&self, end: Option<N>) -> bool {
@@ -32,9 +32,9 @@ impl<T: ValueTest> EndTest for OrNull<T> {
 
 /// A candidate that is a value passes.
 #[derive(Clone, Copy)]
-pub struct Present<T>(pub T);
+pub struct ValueCandidateTest<T>(pub T);
 
-impl<T: ValueTest> EndTest for Present<T> {
+impl<T: ValueTest> EndTest for ValueCandidateTest<T> {
     ghost passes = { λ s e. list_any (is_value (T.accepts s.0)) (candidates e) };
 
     fn test<N: Reading>(&self, end: Option<N>) -> bool {
@@ -54,9 +54,9 @@ fn any_inside<N: Reading, T: ValueTest>(node: N, test: &T) -> bool
 
 /// An array of so many elements.
 #[derive(Clone, Copy)]
-pub struct OfSize(pub u64);
+pub struct SizeTest(pub u64);
 
-impl EndTest for OfSize {
+impl EndTest for SizeTest {
     ghost passes = { λ s. is_value (is_of_size s.0) };
 
     fn test<N: Reading>(&self, end: Option<N>) -> bool {
@@ -79,9 +79,9 @@ pub(crate) fn has_size<N: Reading>(node: N, size: u64) -> bool
 
 /// A value is there.
 #[derive(Clone, Copy)]
-pub struct There;
+pub struct PresenceTest;
 
-impl EndTest for There {
+impl EndTest for PresenceTest {
     ghost passes = { λ _. is_there };
 
     fn test<N: Reading>(&self, end: Option<N>) -> bool {
@@ -103,9 +103,7 @@ pub(crate) fn equals_all<N: Reading>(members: &[Value], path: &Path, node: N) ->
 fn are_equalled<N: Reading>(members: &[Value], path: &Path, node: N) -> bool
     ensures { result ≡ list_all (λ v. any_equal (reach (N.tree node) (names_of path.now)) (tree_of v)) members.now }
 {
-    members
-        .iter()
-        .all(|member| any_end(node, path, &OrNull(EqualTo(member))))
+    members.iter().all(|member| any_end(node, path, &CandidateTest(EqualityTest(member))))
 }
 
 /// Whether a candidate of the operand's class stands to it so.
@@ -117,19 +115,23 @@ pub(crate) fn any_related<N: Reading>(
 ) -> bool
     ensures { result ≡ any_candidate (λ e. is_related relation (tree_of operand.now) (value_or_null e)) (reach (N.tree node) (names_of path.now)) }
 {
-    any_end(node, path, &OrNull(Related { relation, operand }))
+    any_end(
+        node,
+        path,
+        &CandidateTest(RelationTest { relation, operand }),
+    )
 }
 
 /// Whether a candidate equals a member. The path is walked once, whatever the number of members.
 pub(crate) fn any_member<N: Reading>(members: &Members, path: &Path, node: N) -> bool
     ensures { result ≡ list_any (any_equal (reach (N.tree node) (names_of path.now))) (trees_in members.now) }
 {
-    any_end(node, path, &OrNull(OneOf(members)))
+    any_end(node, path, &CandidateTest(MemberTest(members)))
 }
 
 /// Whether a candidate that is a value is of one of the kinds.
 pub(crate) fn any_of_type<N: Reading>(kinds: &[Kind], path: &Path, node: N) -> bool
     ensures { result ≡ any_candidate (is_value (is_of_type kinds.now)) (reach (N.tree node) (names_of path.now)) }
 {
-    any_end(node, path, &Present(OfKinds(kinds)))
+    any_end(node, path, &ValueCandidateTest(KindTest(kinds)))
 }

@@ -8,7 +8,7 @@ ghost use Rattle.bd_value.specs.declared.kind.Kind.TheVariants as kinds;
 ghost use Rattle.bd_path.specs.Names.{component_names};
 ghost use Rattle.bd_path.specs.PathNames.{names_of};
 ghost use Rattle.bd_path.specs.Reach.{document_ends, ends, index_ends, reach};
-ghost use Rattle.bd_path.specs.Walked.{GathersNone};
+ghost use Rattle.bd_path.specs.Visits.{GathersNone};
 ghost use Rattle.bd_query.specs.Body.{is_suited, suits};
 ghost use Rattle.bd_query.specs.Filter.{filters_from, operators_from};
 ghost use Rattle.bd_query.specs.FilterMatch.{accepts, all_accept, all_hold, all_match, holds, matches, some_match};
@@ -16,12 +16,13 @@ ghost use Rattle.bd_query.specs.FilterView.{filter_tree, operator_tree};
 
 use crate::body::Body;
 use crate::end_test::{
-    OfSize, OrNull, There, any_member, any_of_type, any_related, equals_all, has_size,
+    CandidateTest, PresenceTest, SizeTest, any_member, any_of_type, any_related, equals_all,
+    has_size,
 };
 use crate::filter::{Filter, Operator};
 use crate::relation::Relation;
-use crate::value_test::{EqualTo, OfKinds, ValueTest, equals_each, equals_some, is_related};
-use bd_path::{Component, Path, Walked, any_end, is_document};
+use crate::value_test::{EqualityTest, KindTest, ValueTest, equals_each, equals_some, is_related};
+use bd_path::{Component, Path, Visits, any_end, is_document};
 use bd_value::{Kind, Reading};
 
 /// Whether a value matches a filter. It takes no memory.
@@ -81,8 +82,8 @@ fn holds<N: Reading>(operator: &Operator, path: &Path, node: N) -> bool
     ensures { result ≡ holds (operator_tree operator.now) (reach (N.tree node) (names_of path.now)) }
 {
     match operator {
-        Operator::Equal(operand) => any_end(node, path, &OrNull(EqualTo(operand))),
-        Operator::NotEqual(operand) => !any_end(node, path, &OrNull(EqualTo(operand))),
+        Operator::Equal(operand) => any_end(node, path, &CandidateTest(EqualityTest(operand))),
+        Operator::NotEqual(operand) => !any_end(node, path, &CandidateTest(EqualityTest(operand))),
         Operator::Greater(operand) => any_related(Relation::Above, operand, path, node),
         Operator::GreaterOrEqual(operand) => any_related(Relation::AtLeast, operand, path, node),
         Operator::Less(operand) => any_related(Relation::Below, operand, path, node),
@@ -90,22 +91,22 @@ fn holds<N: Reading>(operator: &Operator, path: &Path, node: N) -> bool
         Operator::In(members) => any_member(members, path, node),
         Operator::NotIn(members) => !any_member(members, path, node),
         Operator::All(members) => equals_all(members, path, node),
-        Operator::Size(size) => any_end(node, path, &OfSize(*size)),
-        Operator::Exists(exists) => any_end(node, path, &There) == *exists,
+        Operator::Size(size) => any_end(node, path, &SizeTest(*size)),
+        Operator::Exists(exists) => any_end(node, path, &PresenceTest) == *exists,
         Operator::Type(kinds) => any_of_type(kinds, path, node),
         Operator::Not(operators) => !all_hold(operators, path, node),
         Operator::ElemMatch(operators) => any_end_suits(
             node,
             path.components(),
             0,
-            &Walked::Nowhere,
+            &Visits::Nowhere,
             &Body::Operators(operators),
         ),
         Operator::ElemMatchDocument(filters) => any_end_suits(
             node,
             path.components(),
             0,
-            &Walked::Nowhere,
+            &Visits::Nowhere,
             &Body::Filters(filters),
         ),
     }
@@ -119,7 +120,7 @@ fn any_end_suits<N: Reading>(
     node: N,
     path: &[Component],
     k: usize,
-    walked: &Walked,
+    walked: &Visits,
     body: &Body,
 ) -> bool
     requires few { length path.now ≤ 100 }
@@ -149,7 +150,7 @@ fn any_end_suits_in_field<N: Reading>(
     node: N,
     path: &[Component],
     k: usize,
-    walked: &Walked,
+    walked: &Visits,
     body: &Body,
 ) -> bool
     requires few { length path.now ≤ 100 }
@@ -174,7 +175,7 @@ fn any_end_suits_in_documents<N: Reading>(
     node: N,
     path: &[Component],
     k: usize,
-    walked: &Walked,
+    walked: &Visits,
     body: &Body,
 ) -> bool
     requires few { length path.now ≤ 100 }
@@ -207,7 +208,7 @@ fn any_end_suits_at_index<N: Reading>(
     node: N,
     path: &[Component],
     k: usize,
-    walked: &Walked,
+    walked: &Visits,
     body: &Body,
 ) -> bool
     requires few { length path.now ≤ 100 }
@@ -273,8 +274,8 @@ fn accepts<N: Reading>(operator: &Operator, element: N) -> bool
     ensures { result ≡ accepts (operator_tree operator.now) (N.tree element) }
 {
     match operator {
-        Operator::Equal(operand) => EqualTo(operand).test(element),
-        Operator::NotEqual(operand) => !EqualTo(operand).test(element),
+        Operator::Equal(operand) => EqualityTest(operand).test(element),
+        Operator::NotEqual(operand) => !EqualityTest(operand).test(element),
         Operator::Greater(operand) => is_related(Relation::Above, operand, element),
         Operator::GreaterOrEqual(operand) => is_related(Relation::AtLeast, operand, element),
         Operator::Less(operand) => is_related(Relation::Below, operand, element),
@@ -284,7 +285,7 @@ fn accepts<N: Reading>(operator: &Operator, element: N) -> bool
         Operator::All(members) => equals_each(members, element),
         Operator::Size(size) => has_size(element, *size),
         Operator::Exists(exists) => *exists,
-        Operator::Type(kinds) => OfKinds(kinds).test(element),
+        Operator::Type(kinds) => KindTest(kinds).test(element),
         Operator::Not(operators) => !all_accept(operators, element),
         Operator::ElemMatch(operators) => any_suits(element, &Body::Operators(operators)),
         Operator::ElemMatchDocument(filters) => any_suits(element, &Body::Filters(filters)),

@@ -17,7 +17,7 @@ use crate::fault::{FilterFault, FilterFaultKind, Stop, fault_of, stop_at, under}
 use crate::filter::{Filter, Operator};
 use crate::operand::{has_operators, plain_value, under_index};
 use crate::plain::plain_operator;
-use crate::word::{Logical, Word};
+use crate::word::{LogicalOperator, Word};
 use bd_path::{Path, PathFault};
 use bd_value::{Document, Kind, Reading, Tree};
 use std::alloc::Global;
@@ -70,9 +70,9 @@ fn read_pair<N: Reading>(alloc: Global, room: u32, name: &str, value: N) -> Resu
         Word::Logical(logical) => {
             let filters = read_operand(alloc, room, value)?;
             Ok(match logical {
-                Logical::And => Filter::And(filters),
-                Logical::Or => Filter::Or(filters),
-                Logical::Nor => Filter::Nor(filters),
+                LogicalOperator::And => Filter::And(filters),
+                LogicalOperator::Or => Filter::Or(filters),
+                LogicalOperator::Nor => Filter::Nor(filters),
             })
         }
         Word::Field => {

@@ -26,9 +26,9 @@ pub trait ValueTest {
 
 /// It equals the operand.
 #[derive(Clone, Copy)]
-pub struct EqualTo<'a>(pub &'a Value);
+pub struct EqualityTest<'a>(pub &'a Value);
 
-impl<'a> ValueTest for EqualTo<'a> {
+impl<'a> ValueTest for EqualityTest<'a> {
     ghost accepts = { λ s t. equal t (tree_of s.0.now) };
 
     fn test<N: Reading>(&self, node: N) -> bool {
@@ -38,9 +38,9 @@ impl<'a> ValueTest for EqualTo<'a> {
 
 /// It equals a member.
 #[derive(Clone, Copy)]
-pub struct OneOf<'a>(pub &'a Members);
+pub struct MemberTest<'a>(pub &'a Members);
 
-impl<'a> ValueTest for OneOf<'a> {
+impl<'a> ValueTest for MemberTest<'a> {
     ghost accepts = { λ s t. list_any (equal t) (trees_in s.0.now) };
 
     fn test<N: Reading>(&self, node: N) -> bool {
@@ -50,12 +50,12 @@ impl<'a> ValueTest for OneOf<'a> {
 
 /// It is of the operand's class, and stands to it so.
 #[derive(Clone, Copy)]
-pub struct Related<'a> {
+pub struct RelationTest<'a> {
     pub relation: Relation,
     pub operand: &'a Value,
 }
 
-impl<'a> ValueTest for Related<'a> {
+impl<'a> ValueTest for RelationTest<'a> {
     ghost accepts = { λ s t. is_related s.relation (tree_of s.operand.now) t };
 
     fn test<N: Reading>(&self, node: N) -> bool {
@@ -67,9 +67,9 @@ impl<'a> ValueTest for Related<'a> {
 
 /// It is of one of the kinds.
 #[derive(Clone, Copy)]
-pub struct OfKinds<'a>(pub &'a [Kind]);
+pub struct KindTest<'a>(pub &'a [Kind]);
 
-impl<'a> ValueTest for OfKinds<'a> {
+impl<'a> ValueTest for KindTest<'a> {
     ghost accepts = { λ s t. is_of_type s.0.now t };
 
     fn test<N: Reading>(&self, node: N) -> bool {
@@ -111,7 +111,7 @@ pub(crate) fn any_element<N: Reading, T: ValueTest>(node: N, test: &T) -> bool
 pub(crate) fn equals_some<N: Reading>(members: &Members, node: N) -> bool
     ensures { result ≡ list_any (equal (N.tree node)) (trees_in members.now) }
 {
-    OneOf(members).test(node)
+    MemberTest(members).test(node)
 }
 
 /// Whether it equals each member, and there is one.
@@ -136,5 +136,5 @@ fn are_equal<N: Reading>(members: &[Value], node: N) -> bool
 pub(crate) fn is_related<N: Reading>(relation: Relation, operand: &Value, node: N) -> bool
     ensures { result ≡ is_related relation (tree_of operand.now) (N.tree node) }
 {
-    Related { relation, operand }.test(node)
+    RelationTest { relation, operand }.test(node)
 }

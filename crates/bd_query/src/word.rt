@@ -8,9 +8,9 @@ ghost use Rattle.bd_query.specs.Word.{begins_with_dollar, is_left_out, word_of};
 #[derive(Clone, Copy, Debug, PartialEq, Eq)]
 pub enum Word {
     /// An operator whose operand is an array of filters.
-    Logical(Logical),
+    Logical(LogicalOperator),
     /// An operator whose operand is values.
-    Plain(Plain),
+    Plain(PlainOperator),
     /// `$not`
     Not,
     /// `$elemMatch`
@@ -25,7 +25,7 @@ pub enum Word {
 
 /// MongoDB manual, "Logical Query Operators", without `$not`.
 #[derive(Clone, Copy, Debug, PartialEq, Eq)]
-pub enum Logical {
+pub enum LogicalOperator {
     And,
     Or,
     Nor,
@@ -33,7 +33,7 @@ pub enum Logical {
 
 /// The operators whose operand is values.
 #[derive(Clone, Copy, Debug, PartialEq, Eq)]
-pub enum Plain {
+pub enum PlainOperator {
     Equal,
     NotEqual,
     Greater,
@@ -58,21 +58,21 @@ impl Word {
             return Word::Field;
         }
         match name {
-            "$and" => Word::Logical(Logical::And),
-            "$or" => Word::Logical(Logical::Or),
-            "$nor" => Word::Logical(Logical::Nor),
-            "$eq" => Word::Plain(Plain::Equal),
-            "$ne" => Word::Plain(Plain::NotEqual),
-            "$gt" => Word::Plain(Plain::Greater),
-            "$gte" => Word::Plain(Plain::GreaterOrEqual),
-            "$lt" => Word::Plain(Plain::Less),
-            "$lte" => Word::Plain(Plain::LessOrEqual),
-            "$in" => Word::Plain(Plain::In),
-            "$nin" => Word::Plain(Plain::NotIn),
-            "$all" => Word::Plain(Plain::All),
-            "$size" => Word::Plain(Plain::Size),
-            "$exists" => Word::Plain(Plain::Exists),
-            "$type" => Word::Plain(Plain::Type),
+            "$and" => Word::Logical(LogicalOperator::And),
+            "$or" => Word::Logical(LogicalOperator::Or),
+            "$nor" => Word::Logical(LogicalOperator::Nor),
+            "$eq" => Word::Plain(PlainOperator::Equal),
+            "$ne" => Word::Plain(PlainOperator::NotEqual),
+            "$gt" => Word::Plain(PlainOperator::Greater),
+            "$gte" => Word::Plain(PlainOperator::GreaterOrEqual),
+            "$lt" => Word::Plain(PlainOperator::Less),
+            "$lte" => Word::Plain(PlainOperator::LessOrEqual),
+            "$in" => Word::Plain(PlainOperator::In),
+            "$nin" => Word::Plain(PlainOperator::NotIn),
+            "$all" => Word::Plain(PlainOperator::All),
+            "$size" => Word::Plain(PlainOperator::Size),
+            "$exists" => Word::Plain(PlainOperator::Exists),
+            "$type" => Word::Plain(PlainOperator::Type),
             "$not" => Word::Not,
             "$elemMatch" => Word::ElemMatch,
             _ => {

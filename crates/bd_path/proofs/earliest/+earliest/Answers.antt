@@ -17,7 +17,7 @@ use Rattle.bd_path.proofs.BranchLemmas as branch
 use Rattle.bd_path.proofs.EarliestLemmas as first
 use Rattle.bd_path.proofs.PositionsLemmas as at
 use Rattle.bd_path.proofs.ReachLemmas as down
-use Rattle.bd_path.proofs.WalkedLemmas as walked
+use Rattle.bd_path.proofs.VisitsLemmas as walked
 use Rattle.bd_path.proofs.earliest.+earliest.Goals.{earliest_in_documents-then-is_document, earliest_in_documents-else-is_document}
 use Rattle.bd_path.proofs.earliest.+earliest.Goals as goal
 

@@ -11,7 +11,7 @@ use Rattle.bd_path.specs.declared.component.Component.{Component}
 use Rattle.bd_path.proofs.EndsLemmas as some_end
 use Rattle.bd_path.proofs.PositionsLemmas as at
 use Rattle.bd_path.proofs.ReachLemmas as down
-use Rattle.bd_path.proofs.WalkedLemmas as walked
+use Rattle.bd_path.proofs.VisitsLemmas as walked
 use Rattle.bd_path.proofs.ends.+ends.Goals.{any_end_in_documents-then-is_document+else-any_end_from, any_end_in_documents-else-is_document}
 use Rattle.bd_path.proofs.ends.+ends.Goals as goal
 

@@ -16,7 +16,7 @@ use Rattle.bd_path.proofs.EarliestLemmas.{keeps_keys}
 use Rattle.bd_path.proofs.KeyListLemmas as added
 use Rattle.bd_path.proofs.PositionsLemmas as at
 use Rattle.bd_path.proofs.ReachLemmas as down
-use Rattle.bd_path.proofs.WalkedLemmas as walked
+use Rattle.bd_path.proofs.VisitsLemmas as walked
 use Rattle.bd_path.proofs.key_list.+keys.Goals.{add_keys_of_documents-then-is_document+in_ok-add_keys, add_keys_of_documents-else-is_document}
 use Rattle.bd_path.proofs.key_list.+keys.Goals as goal
 

@@ -12,7 +12,7 @@ use Rattle.bd_path.specs.declared.component.Component.{Component}
 use Rattle.bd_path.proofs.EndsLemmas as some_end
 use Rattle.bd_path.proofs.PositionsLemmas as at
 use Rattle.bd_path.proofs.ReachLemmas as down
-use Rattle.bd_path.proofs.WalkedLemmas as walked
+use Rattle.bd_path.proofs.VisitsLemmas as walked
 use Rattle.bd_query.specs.Body.{is_suited, suits}
 use Rattle.bd_query.specs.Filter.{filters_from, operators_from}
 use Rattle.bd_query.specs.FilterMatch.{all_accept, all_match, any_candidate, holds, is_of_type, is_value}

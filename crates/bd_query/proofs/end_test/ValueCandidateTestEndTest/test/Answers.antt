@@ -1,7 +1,7 @@
 use Rattle.std.proofs.Common.{◌∙◌}
 use Rattle.bd_query.specs.FilterMatch.{is_value}
 use Rattle.bd_query.proofs.EndTestLemmas.{of_value}
-use Rattle.bd_query.proofs.end_test.PresentEndTest.test.Goals as goal
+use Rattle.bd_query.proofs.end_test.ValueCandidateTestEndTest.test.Goals as goal
 
 pub returns-in-Some : goal.returns-in-Some
 returns-in-Some g c = rw c.in-Some.is (c.any_inside.ensures ∙ of_value (is_value (g.T.ValueTest.accepts c.args.self.now.0)) (g.N.Reading.tree c.in-Some.node))

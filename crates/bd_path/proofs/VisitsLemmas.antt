@@ -12,12 +12,12 @@ use Rattle.bd_path.specs.Component.{held_index, index_of}
 use Rattle.bd_path.specs.Names.{Names, component_names}
 use Rattle.bd_path.specs.Positions.{LedTo, is_open}
 use Rattle.bd_path.specs.Reach.{Gathering, document_gathering, each_gathering, gathering, gathering_at, index_gathering, is_document}
-use Rattle.bd_path.specs.Walked.{IsStepOf, IsWalked, GathersNone}
+use Rattle.bd_path.specs.Visits.{IsStepOf, IsWalked, GathersNone}
 use Rattle.bd_path.specs.declared.component.Component.{Component}
 use Rattle.bd_path.specs.declared.positions.Positions.{Positions}
 use Rattle.bd_path.specs.declared.positions.Step.{Step}
-use Rattle.bd_path.specs.declared.walked.Walked.{Walked}
-use Rattle.bd_path.specs.declared.walked.Walked.TheVariants.{From}
+use Rattle.bd_path.specs.declared.visits.Visits.{Visits}
+use Rattle.bd_path.specs.declared.visits.Visits.TheVariants.{From}
 use Rattle.bd_path.specs.declared.positions.Step.TheVariants.{Element, Field}
 use Rattle.bd_path.proofs.PositionsLemmas.{as_many, named, some_name}
 use Rattle.bd_path.proofs.ReachLemmas as down
@@ -42,13 +42,13 @@ index_at (x ∷ cs) zero c d o l is e = let same : c ≡ x = is in sym c.known �
 index_at (x ∷ cs) (suc k) c d o l is e = index_at cs k c d o (omega arith) is e
 
 -- the positions of a walk, when they are known
-pub step_of : (step : Step) (path : Names) (w : Walked) (p : Positions) (k : ℕ) → w ≡ From p → LedTo step path p k → IsStepOf step path w k
+pub step_of : (step : Step) (path : Names) (w : Visits) (p : Positions) (k : ℕ) → w ≡ From p → LedTo step path p k → IsStepOf step path w k
 step_of step path w p k is by =
     let led = by.led in
-    record { before = by.before; name = led.name; after = by.after; here = subst (λ (x : Walked). IsWalked x by.before) (sym is) led.here; is_there = led.is_there; takes = led.takes }
+    record { before = by.before; name = led.name; after = by.after; here = subst (λ (x : Visits). IsWalked x by.before) (sym is) led.here; is_there = led.is_there; takes = led.takes }
 
-pub was_open : (w : Walked) (p : Positions) (k : ℕ) → w ≡ From p → is_open p k ≡ true → IsWalked w k
-was_open w p k is o = subst (λ (x : Walked). IsWalked x k) (sym is) o
+pub was_open : (w : Visits) (p : Positions) (k : ℕ) → w ≡ From p → is_open p k ≡ true → IsWalked w k
+was_open w p k is o = subst (λ (x : Visits). IsWalked x k) (sym is) o
 
 -- ---- whether something passes a test
 
@@ -123,8 +123,8 @@ module _ {A : Type 0} (f : A → Bool) (g : Gathering A) where
   each_left (x ∷ es) (suc i) u p e d h =
       each_left es i u p e d (right_false _ _ (sym (list_any-append f (cond (is_document x) (gathering g x p) []) (each_gathering g (items_of es) p)) ∙ h))
 
-  module _ (keeps : KeepsParts f g) (t : Tree) (cs : List Component) (w : Walked) (before : GathersNone f g t (component_names cs) w) where
-    pub field_inside : (s : Bor (List ℕ)) (u : Tree) (v : Walked) → kind_of t ≡ kinds.Doc → first_of s.now (pairs_in t) ≡ Some u → ((j : ℕ) → IsWalked v j → IsStepOf (Field s) (component_names cs) w j) → GathersNone f g u (component_names cs) v
+  module _ (keeps : KeepsParts f g) (t : Tree) (cs : List Component) (w : Visits) (before : GathersNone f g t (component_names cs) w) where
+    pub field_inside : (s : Bor (List ℕ)) (u : Tree) (v : Visits) → kind_of t ≡ kinds.Doc → first_of s.now (pairs_in t) ≡ Some u → ((j : ℕ) → IsWalked v j → IsStepOf (Field s) (component_names cs) w j) → GathersNone f g u (component_names cs) v
     field_inside s u v d e only j o =
         let by = only j o in
         let there : slice_get (component_names cs) by.before ≡ Some s.now = by.is_there ∙ ap some_name by.takes in
@@ -152,14 +152,14 @@ module _ {A : Type 0} (f : A → Bool) (g : Gathering A) where
           ∙ ap (list_any f) (sym (ap (λ (o : Option ℕ). gathering_at g (items_of (elements_in t)) o (drop (suc k) (component_names cs))) index ∙ down.at_index g (elements_in t) i u (drop (suc k) (component_names cs)) e))
           ∙ right_false _ _ (sym (list_any-append f (in_documents g t (component_names cs) k) (at_name g t (component_names cs) k n)) ∙ parts_none k n by.is_there (before k by.here))
 
-      pub document_inside : (i : ℕ) (u : Tree) (v : Walked) → slice_get (elements_in t) i ≡ Some u → i < 18446744073709551615 → is_document u ≡ true
+      pub document_inside : (i : ℕ) (u : Tree) (v : Visits) → slice_get (elements_in t) i ≡ Some u → i < 18446744073709551615 → is_document u ≡ true
           → ((j : ℕ) → IsWalked v j → IsStepOf (Element i) (component_names cs) w j ⊎ (j < length cs) × IsWalked w j) → GathersNone f g u (component_names cs) v
       document_inside i u v e l d only j o = elim (only j o) [
         | inl by ↦ element_none i u j e l by
         | inr h ↦ document_none j i u e d h.0 h.1
       ]
 
-      pub index_inside : (k i : ℕ) (u : Tree) (v : Walked) → slice_get (elements_in t) i ≡ Some u → i < 18446744073709551615 → (b : Bool) → b ≡ is_document u
+      pub index_inside : (k i : ℕ) (u : Tree) (v : Visits) → slice_get (elements_in t) i ≡ Some u → i < 18446744073709551615 → (b : Bool) → b ≡ is_document u
           → list_any f (in_documents g t (component_names cs) k) ≡ false
           → ((j : ℕ) → IsWalked v j → IsStepOf (Element i) (component_names cs) w j ⊎ (b ≡ true) × ((j ≡ k) ⊎ (j < length cs) × IsWalked w j)) → GathersNone f g u (component_names cs) v
       index_inside k i u v e l b d documents only j o = elim (only j o) [

@@ -2,7 +2,7 @@
 
 ghost use Rattle.std.specs.Prelude.{◌≡◌, ◌<◌, ◌≤◌, ◌⊎◌, ℕ, true, length};
 ghost use Rattle.bd_path.specs.Names.{component_names};
-ghost use Rattle.bd_path.specs.Walked.{IsStepOf, IsWalked, is_walked};
+ghost use Rattle.bd_path.specs.Visits.{IsStepOf, IsWalked, is_walked};
 ghost use Rattle.bd_path.specs.declared.positions.Step.TheVariants as steps;
 
 use crate::component::Component;
@@ -14,64 +14,64 @@ use crate::positions::Positions;
 /// They follow from those of the value that it is in, so that none is kept but on the way down. By them a walk of one position
 /// at a time goes into each value once from each position.
 #[derive(Drop)]
-pub enum Walked {
+pub enum Visits {
     Nowhere,
     From(Positions),
 }
 
-impl Walked {
+impl Visits {
     /// Whether it was walked from a position.
     pub fn has(&self, k: usize) -> bool
         requires { k ≤ 100 }
         ensures { result ≡ is_walked self.now k }
     {
         match self {
-            Walked::Nowhere => false,
-            Walked::From(positions) => positions.has(k),
+            Visits::Nowhere => false,
+            Visits::From(positions) => positions.has(k),
         }
     }
 
     /// Where the first field of a name was walked, when the document was.
-    pub fn at_field(&self, path: &[Component], name: &str) -> Walked
+    pub fn at_field(&self, path: &[Component], name: &str) -> Visits
         requires { length path.now ≤ 100 }
         ensures { (j : ℕ) → IsWalked result j → IsStepOf (steps.Field name.entry) (component_names path.now) self.now j }
     {
         match self {
-            Walked::Nowhere => Walked::Nowhere,
-            Walked::From(positions) => Walked::From(positions.at_field(path, name)),
+            Visits::Nowhere => Visits::Nowhere,
+            Visits::From(positions) => Visits::From(positions.at_field(path, name)),
         }
     }
 
     /// Where a document in an array was walked, when the array was.
-    pub fn at_document(&self, path: &[Component], index: usize) -> Walked
+    pub fn at_document(&self, path: &[Component], index: usize) -> Visits
         requires { length path.now ≤ 100 }
         ensures { (j : ℕ) → IsWalked result j → IsStepOf (steps.Element index) (component_names path.now) self.now j ⊎ (j < length path.now) × IsWalked self.now j }
     {
         match self {
-            Walked::Nowhere => Walked::Nowhere,
-            Walked::From(positions) => Walked::From(positions.at_element(path, index, true)),
+            Visits::Nowhere => Visits::Nowhere,
+            Visits::From(positions) => Visits::From(positions.at_element(path, index, true)),
         }
     }
 
     /// Where the element of an array at an index was walked, when the array was, and its documents from one position more.
-    pub fn at_index(&self, path: &[Component], k: usize, index: usize, is_document: bool) -> Walked
+    pub fn at_index(&self, path: &[Component], k: usize, index: usize, is_document: bool) -> Visits
         requires few { length path.now ≤ 100 }
         requires at { k < length path.now }
         ensures { (j : ℕ) → IsWalked result j → IsStepOf (steps.Element index) (component_names path.now) self.now j ⊎ (is_document ≡ true) × ((j ≡ k) ⊎ (j < length path.now) × IsWalked self.now j) }
     {
         match self {
-            Walked::From(positions) => Walked::From(positions.at_index(
+            Visits::From(positions) => Visits::From(positions.at_index(
                 path,
                 k,
                 index,
                 is_document,
             )),
-            Walked::Nowhere if is_document => {
+            Visits::Nowhere if is_document => {
                 let mut positions = Positions::none();
                 positions.open_at(k);
-                Walked::From(positions)
+                Visits::From(positions)
             }
-            Walked::Nowhere => Walked::Nowhere,
+            Visits::Nowhere => Visits::Nowhere,
         }
     }
 }

@@ -6,19 +6,19 @@ use Rattle.bd_path.specs.Names.{Names}
 use Rattle.bd_path.specs.Positions.{Takes, is_open}
 use Rattle.bd_path.specs.Reach.{Gathering, gathering}
 use Rattle.bd_path.specs.declared.positions.Step.{Step}
-use Rattle.bd_path.specs.declared.walked.Walked.{Walked}
-use Rattle.bd_path.specs.declared.walked.Walked.TheVariants.{Nowhere, From}
+use Rattle.bd_path.specs.declared.visits.Visits.{Visits}
+use Rattle.bd_path.specs.declared.visits.Visits.TheVariants.{Nowhere, From}
 
 -- a value was walked from a position of a path
-abbrev pub is_walked : Walked → ℕ → Bool
+abbrev pub is_walked : Visits → ℕ → Bool
 is_walked Nowhere k = false
 is_walked (From p) k = is_open p k
 
-abbrev pub IsWalked : Walked → ℕ → Type 0
+abbrev pub IsWalked : Visits → ℕ → Type 0
 IsWalked w k = is_walked w k ≡ true
 
 -- what it is in was walked from the position before, whose component takes the step to it
-pub record IsStepOf (step : Step) (path : Names) (w : Walked) (k : ℕ) : Type 0 where
+pub record IsStepOf (step : Step) (path : Names) (w : Visits) (k : ℕ) : Type 0 where
   pub before : ℕ
   pub name : List ℕ
   pub after : k ≡ suc before
@@ -27,5 +27,5 @@ pub record IsStepOf (step : Step) (path : Names) (w : Walked) (k : ℕ) : Type 0
   pub takes : Takes step name
 
 -- nothing that is gathered below it on the rest of the path, from any of these positions, passes a test
-abbrev pub GathersNone : {A : Type 0} → (A → Bool) → Gathering A → Tree → Names → Walked → Type 0
+abbrev pub GathersNone : {A : Type 0} → (A → Bool) → Gathering A → Tree → Names → Visits → Type 0
 GathersNone test g t path w = (k : ℕ) → IsWalked w k → list_any test (gathering g t (drop k path)) ≡ false

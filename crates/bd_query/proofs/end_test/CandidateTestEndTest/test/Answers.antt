@@ -1,7 +1,7 @@
 use Rattle.std.proofs.Common.{◌∙◌}
 use Rattle.bd_query.specs.FilterMatch.{value_or_null}
 use Rattle.bd_query.proofs.EndTestLemmas.{of_value}
-use Rattle.bd_query.proofs.end_test.OrNullEndTest.test.Goals as goal
+use Rattle.bd_query.proofs.end_test.CandidateTestEndTest.test.Goals as goal
 
 pub returns-in-Some : goal.returns-in-Some
 returns-in-Some g c =
