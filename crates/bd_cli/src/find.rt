@@ -7,24 +7,21 @@ mod asking;
 mod batch;
 mod found_documents;
 
-ghost use Rattle.std.specs.Prelude.{◌≡◌, ◌≤◌, ◌⊎◌, codes, length, true};
-ghost use Rattle.bd_check.specs.AnsweredFault.{fault_view};
+ghost use Rattle.std.specs.Prelude.{◌≡◌, ◌≤◌, length, true};
 ghost use Rattle.bd_command_line.specs.FindWords.{find_words_of};
 ghost use Rattle.bd_cli.specs.Find.{FindsDocuments, IsShownOfBytes};
 ghost use Rattle.bd_cli.specs.Find.Asking.{AsksNothing, fits_batch, page_request_of};
-ghost use Rattle.bd_cli.specs.Outcome.{PrintsOrStarves, TellsMessage};
-ghost use Rattle.bd_cli.specs.Transcript.{Transcript, error_line, fault_text};
-ghost use Rattle.bd_cli.specs.declared.status.Status.TheVariants.{Failed};
+ghost use Rattle.bd_cli.specs.Outcome.{PrintsOrStarves};
+ghost use Rattle.bd_cli.specs.Transcript.{Transcript};
 ghost use Rattle.bd_device.specs.Devices.{over};
 
 use crate::find::asking::{Asking, AskingFault, read_asking};
 use crate::find::batch::show_found;
 use crate::limits::LIMITS;
 use crate::output::lines::is_want_of_memory;
-use crate::output::messages::{fault_message, tell_error, tell_no_memory, tell_read_fault};
+use crate::output::messages::{tell_dump_fault, tell_error, tell_no_memory, tell_read_fault};
 use crate::status::Status;
 use bd_bson::read_dump;
-use bd_check::Fault;
 use bd_command_line::FindOptions;
 use bd_device::{Input, Output, read_all};
 use std::alloc::Global;
@@ -74,16 +71,5 @@ fn find_in<O: Output, E: Output>(
             }
             tell_dump_fault(alloc, &fault, err)
         }
-    }
-}
-
-/// Tells why an input is no dump.
-pub(crate) fn tell_dump_fault<E: Output>(alloc: Global, fault: &Fault, err: &mut E) -> Status
-    ensures { TellsMessage (over E.state err.old err.new) (error_line (fault_text fault.now.document (fault_view fault.now))) Failed result
-        ⊎ TellsMessage (over E.state err.old err.new) (error_line (codes "no memory")) Failed result }
-{
-    match fault_message(alloc, fault) {
-        Ok(message) => tell_error(&message, err),
-        Err(_) => tell_no_memory(err),
     }
 }

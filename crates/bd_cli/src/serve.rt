@@ -7,10 +7,9 @@ ghost use Rattle.bd_cli.specs.Find.{ReadsDump};
 ghost use Rattle.bd_cli.specs.Serve.{ServesInput, ServesNothing, ServesToAFault, ServesToTheEnd};
 ghost use Rattle.bd_device.specs.Devices.{over};
 
-use crate::find::tell_dump_fault;
 use crate::limits::LIMITS;
 use crate::output::lines::is_want_of_memory;
-use crate::output::messages::{tell_no_memory, tell_read_fault, tell_unwritten};
+use crate::output::messages::{tell_dump_fault, tell_no_memory, tell_read_fault, tell_unwritten};
 use crate::status::Status;
 use bd_bson::{Dump, read_dump};
 use bd_device::{Input, Output, read_all};

@@ -1,4 +1,4 @@
-//! Lines that are written to standard output.
+//! Why the lines on standard output end early.
 
 ghost use Rattle.std.specs.Prelude.{◌≡◌, IsTrue, ◌↔◌};
 ghost use Rattle.bd_check.specs.declared.fault.FaultKind.TheVariants as kinds;

@@ -1,6 +1,6 @@
 //! The lines that tell how a run went. But for the path of a fault they take no memory.
 
-ghost use Rattle.std.specs.Prelude.{◌≡◌, ◌++◌, IfOk, OnErr, OnOk, codes, decimal};
+ghost use Rattle.std.specs.Prelude.{◌≡◌, ◌++◌, ◌⊎◌, IfOk, OnErr, OnOk, codes, decimal};
 ghost use Rattle.bd_device.specs.Devices.{BreaksWithin, TakesText, over};
 ghost use Rattle.bd_check.specs.AnsweredFault.{fault_view};
 ghost use Rattle.bd_cli.specs.Outcome.{TellsMessage};
@@ -88,6 +88,17 @@ pub(crate) fn tell_read_fault<E: Output>(fault: ReadFault, err: &mut E) -> Statu
 {
     let written = write_read_fault(fault, err);
     status_of(written, Status::Failed)
+}
+
+/// Tells why an input is no dump.
+pub(crate) fn tell_dump_fault<E: Output>(alloc: Global, fault: &Fault, err: &mut E) -> Status
+    ensures { TellsMessage (over E.state err.old err.new) (error_line (fault_text fault.now.document (fault_view fault.now))) Failed result
+        ⊎ TellsMessage (over E.state err.old err.new) (error_line (codes "no memory")) Failed result }
+{
+    match fault_message(alloc, fault) {
+        Ok(message) => tell_error(&message, err),
+        Err(_) => tell_no_memory(err),
+    }
 }
 
 /// Appends where a fault stands.

@@ -1,7 +1,7 @@
 use Rattle.std.proofs.Common.{◌≡◌, ◌∙◌, inl}
 use Rattle.bd_check.specs.AnsweredFault.{fault_view}
 use Rattle.bd_cli.specs.Transcript.{fault_text}
-use Rattle.bd_cli.proofs.find.tell_dump_fault.Goals as goal
+use Rattle.bd_cli.proofs.output.messages.tell_dump_fault.Goals as goal
 
 pub returns-in-Ok : goal.returns-in-Ok
 returns-in-Ok g c =
