@@ -30,7 +30,9 @@ SECONDS = 330
 AT_MOST = 8
 ITEM = re.compile(r" *(?:pub(?:\([^)]*\))? )?(?:(?:const|unsafe|extern \"C\") )*(fn|impl|trait|mod)\b(.*)")
 # What a function's line says of another one: it says nothing of the function's own proof.
-OF_ANOTHER = re.compile(r"it calls|it passes|waits for|which (is|are) not proved|could not tell")
+OF_ANOTHER = re.compile(r"it calls|it passes|waits for|which (is|are) not proved|which (has|have) no proof|could not tell")
+# What it says of a body whose form the prover does not take: it says nothing of the contract.
+NOT_COVERED = "the borrow checker does not cover this function yet"
 # A message of a proof that names what the edit took away, or that cites such a proof. As `must_fail` of rt has it, which reads
 # the first line of a message alone: the words may also begin a later line, and a proof of the same file "was rejected".
 MISSING = r"(has no field|is not in scope|has no `)"
@@ -301,6 +303,8 @@ class Trial:
         blocked, alone = [], []
         for edit in edits:
             said = [it for it in lines if is_unproved(it, edit)]
+            if self.tells_not_covered(edit, said, seconds):
+                continue
             if is_refused(edit, said, lines):
                 self.tell(edit, ONLY_BY_NAME if is_by_name(edit, lines) else "refused", seconds)
             else:
@@ -313,6 +317,8 @@ class Trial:
             return self.tell(edit, "BAD EDIT", 0, edit.why)
         lines, status, seconds = self.check([edit])
         unread = next((it for it in lines if rt.unread(it, edit.texts)), "")
+        if self.tells_not_covered(edit, [it for it in lines if is_unproved(it, edit)], seconds):
+            return
         if unread or rtlib.STALE.search("\n".join(lines)):
             self.tell(edit, "BAD EDIT", seconds, unread or "the kept work of a library could not be used")
         elif status == 1 and lines[-1].startswith(("logic=not-proved", "only=")):
@@ -321,6 +327,13 @@ class Trial:
             self.tell(edit, "NOT REFUSED", seconds, "the crate is proved with it")
         else:
             self.tell(edit, "BAD EDIT", seconds, f"the prover did not judge it: {lines[-1]}")
+
+    def tells_not_covered(self, edit, said, seconds):
+        """Tells of an edit whose form the prover does not take, and returns whether it is one."""
+        of_form = next((it for it in said if NOT_COVERED in it), "")
+        if of_form:
+            self.tell(edit, "BAD EDIT", seconds, f"no contract was tried: {of_form[of_form.index(NOT_COVERED) :]}")
+        return bool(of_form)
 
     def try_all(self, edits, jobs):
         pending, alone = [it for it in edits if it.functions], [it for it in edits if not it.functions]
@@ -449,6 +462,14 @@ MESSAGES = [
     (["./proofs/a/Answers.antt:3:5: note: large solution", "fn a: not proved"], False),
 ]
 
+# What a check tells of a function alone, and whether its edit is refused by it.
+SAID = [
+    ("fn a: not proved", True),
+    ("fn a: no proof: expected answers in ./proofs/a/Answers.antt; `search` did not prove `returns`; it calls `b`, which is not proved", True),
+    ("fn a: not proved; it calls `b`, which is not proved", False),
+    ("fn a: no proof: the borrow checker's part in its proof is not made yet: a call of `b`, which has no proof: help: prove it first", False),
+]
+
 
 def self_test(crates):
     crate = next(it for it in crates if it.name == "bd_value")
@@ -462,6 +483,7 @@ def self_test(crates):
         outcomes = try_crate(crate, edits, 1)
     wrong = [it for it, wanted in SELF_TEST.items() if outcomes[f"{crate.name}/{it}.edit"] != wanted[-1]]
     wrong += [lines[0] for lines, wanted in MESSAGES if are_by_name(messages_of(lines)) != wanted]
+    wrong += [line for line, wanted in SAID if is_refused(None, [line], []) != wanted]
     print(f"self-test: {'FAILED: ' + ' '.join(wrong) if wrong or not is_one_round else 'ok'}")
     return 1 if wrong or not is_one_round else 0
 
