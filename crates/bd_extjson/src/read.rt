@@ -1,12 +1,14 @@
 //! The document that a text is.
-ghost use Rattle.std.specs.Prelude.{◌≡◌, ◌≢◌, IfOk, IfErr, length, option_and_then};
+ghost use Rattle.std.specs.Prelude.{◌≡◌, ◌≢◌, Err, IfOk, IfErr, length, option_and_then};
+ghost use Rattle.std.specs.Str.{IsUtf8};
 ghost use Rattle.bd_value.specs.Tree.{Doc};
 ghost use Rattle.bd_value.specs.View.{tree_of, pairs};
 ghost use Rattle.bd_wrapper.specs.Progress.{GivesValue};
-ghost use Rattle.bd_diagnose.specs.JsonFault.{IsPlaced};
+ghost use Rattle.bd_diagnose.specs.JsonFault.{IsPlaced, TellsBadUtf8};
 ghost use Rattle.bd_extjson.specs.TextDocument.{ReadsAs, json, reading};
 ghost use Rattle.bd_extjson.specs.Meaning.{wrap};
 ghost use Rattle.bd_diagnose.specs.declared.json_fault.JsonFaultKind.TheVariants as kinds;
+ghost use Rattle.bd_wrapper.specs.declared.trouble.Trouble.TheVariants as troubles;
 
 use crate::reading::{document_of, read_value};
 use bd_diagnose::{BRACKETS, JsonFault, JsonFaultKind, LEVELS, diagnose};
@@ -27,7 +29,8 @@ fn read_text(alloc: Global, text: &str, scratch: &mut Scratch) -> Result<Value, 
 }
 
 fn read_bytes(alloc: Global, text: &[u8], scratch: &mut Scratch) -> Result<Document, Trouble>
-    ensures { GivesValue pairs result (reading text.now) }
+    ensures gives { GivesValue pairs result (reading text.now) }
+    ensures utf8 { ¬ (IsUtf8 text.now) → result ≡ Err troubles.Refused }
 {
     let text = match simdutf8::compat::from_utf8(text) {
         Ok(text) => text,
@@ -49,6 +52,7 @@ pub fn read_doc(alloc: Global, text: &[u8]) -> Result<Document, JsonFault>
     // A text that is a document is read, unless memory runs out.
     ensures none { IfErr result (λ f. f.kind ≢ kinds.NoMemory → (d : Doc) → ReadsAs text.now d → ⊥) }
     ensures place { IfErr result (IsPlaced (length text.now)) }
+    ensures utf8 { IfErr result (TellsBadUtf8 text.now) }
 {
     let mut scratch = Scratch::new(alloc);
     read_doc_with(alloc, text, &mut scratch)
@@ -63,6 +67,7 @@ pub fn read_doc_with(
     ensures found { IfOk result (λ d. ReadsAs text.now (pairs d)) }
     ensures none { IfErr result (λ f. f.kind ≢ kinds.NoMemory → (d : Doc) → ReadsAs text.now d → ⊥) }
     ensures place { IfErr result (IsPlaced (length text.now)) }
+    ensures utf8 { IfErr result (TellsBadUtf8 text.now) }
 {
     match read_bytes(alloc, text, scratch) {
         Ok(document) => Ok(document),

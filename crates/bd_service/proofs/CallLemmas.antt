@@ -1,5 +1,5 @@
 -- A command read as a call, and a line read as one.
-use Rattle.std.proofs.Common.{◌≡◌, ℕ, List, Result, Ok, Err, refl, sym, ap, ◌∙◌, inl}
+use Rattle.std.proofs.Common.{◌≡◌, ℕ, List, Result, Ok, Err, refl, sym, ap, ◌∙◌, inl, Option, Some, None}
 use Rattle.std.specs.Prelude.{IfErr, IfOk}
 use Rattle.std.proofs.lemmas.Bool.{le-leb}
 use Rattle.bd_value.specs.Tree.{Doc}
@@ -74,3 +74,7 @@ fault_in_line dump line d command (Ok c) reads is h = tt
 fault_in_line dump line d command (Err faults.NoMemory) reads is h = tt
 fault_in_line dump line d command (Err (faults.Refused why)) reads is h =
     inl (d, reads, sym (ap (λ (p : Result Command CommandFault). then_part (command_part p) (call_of (bytes_of dump) (documents dump))) is ∙ h))
+
+pub none_read : {A : Type 0} (o : Option A) → ((x : A) → o ≡ Some x → ⊥) → o ≡ None
+none_read None never = refl
+none_read (Some x) never = absurd (never x refl)
