@@ -8,7 +8,7 @@ use crate::text::append_node;
 use bd_value::{NoMemory, Reading};
 use std::alloc::Global;
 
-/// Room for a line, which each is written over the one before: it is made once, and grows where a line is longer.
+/// Room for one line after the other, each over the one before. It is made once, and grows where a line is longer.
 #[derive(Debug, Drop)]
 pub struct LineRoom {
     room: Vec<u8>,
