@@ -5,7 +5,7 @@ use Rattle.bd_value.specs.Tree.{Doc, doc, fields_of}
 use Rattle.bd_device.specs.declared.reading.ReadFault.{ReadFault}
 use Rattle.bd_device.specs.declared.reading.ReadFault.TheVariants as reads
 use Rattle.bd_check.specs.Fault.{Fault, fault_words}
-use Rattle.bd_extjson.specs.Text.{text, quoted}
+use Rattle.bd_text.specs.Text.{text, quoted}
 use Rattle.bd_cli.specs.declared.status.Status.{Status}
 use Rattle.bd_cli.specs.declared.status.Status.TheVariants.{Failed}
 

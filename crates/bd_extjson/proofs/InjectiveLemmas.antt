@@ -3,7 +3,7 @@ use Rattle.std.proofs.Common.{◌≡◌, sym, ap, ◌∙◌}
 use Rattle.bd_value.specs.Tree.{Tree, doc, Doc, fields_of, pairs_in, pairs_of-fields_of}
 use Rattle.bd_extjson.specs.Plain.{IsPlain}
 use Rattle.bd_value.specs.Fits.{FitsTypes}
-use Rattle.bd_extjson.specs.Text.{text}
+use Rattle.bd_text.specs.Text.{text}
 use Rattle.bd_extjson.proofs.InverseLemmas.{back, back-json}
 use Rattle.bd_extjson.proofs.JsonLemmas.{print-injective}
 use Rattle.bd_extjson.proofs.TreeJsonLemmas.{json, print-json, well-json}

@@ -15,16 +15,16 @@ use Rattle.hex.specs.Hex.{IsBytes, decode_of as from_hex_of}
 use Rattle.hex.proofs.HexLemmas.{decode_of-encode_lower}
 use Rattle.bd_value.specs.Tree.{Scalar, min_key, undefined, null, int32, int64, text as plain_text, symbol, binary, object_id, boolean, date, timestamp, regex, db_pointer, code, max_key}
 use Rattle.bd_value.specs.Tree.{Tree, leaf, doc, array as array_tree, code_scope, Items, no_items, item, Fields, no_fields, field}
-use Rattle.bd_extjson.specs.Text.{base64_text, hex_text}
+use Rattle.bd_text.specs.Text.{base64_text, hex_text}
 use Rattle.bd_extjson.specs.Plain.{IsPlainFirst, IsPlain, ArePlainItems, ArePlainFields}
 use Rattle.bd_value.specs.Fits.{ScalarFitsType, FitsTypes, ItemsFitTypes, FieldsFitTypes}
 use Rattle.bd_wrapper.specs.Wrappers.{wrapper_of}
 use Rattle.bd_wrapper.specs.declared.wrapper.Wrapper.{Wrapper}
 use Rattle.bd_wrapper.specs.declared.wrapper.Wrapper.TheVariants as kinds
-use Rattle.bd_extjson.proofs.EscapeLemmas.{fits_32, fits_64}
+use Rattle.bd_text.proofs.EscapeLemmas.{fits_32, fits_64}
 use Rattle.bd_extjson.proofs.JsonLemmas as js
 use Rattle.bd_extjson.proofs.JsonLemmas.{Json, string, number, word, array, object, nothing, yes, no, Elements, no_elements, element, Members, no_members, member}
-use Rattle.bd_extjson.proofs.SymbolLemmas.{one_byte}
+use Rattle.bd_text.proofs.SymbolLemmas.{one_byte}
 use Rattle.bd_extjson.proofs.TreeJsonLemmas.{scalar_json, json, elements_json, members_json, word_of}
 
 -- ---- numbers and bytes from their texts

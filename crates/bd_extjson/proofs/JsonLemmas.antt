@@ -4,8 +4,8 @@ use Rattle.std.specs.Prelude.{◌==◌, ◌||◌, nat_lt, if◌then◌else◌, c
 use Rattle.std.specs.Char.{digit_value}
 use Rattle.std.specs.Str.Parse.{AllDigits, IsNumeral}
 use Rattle.std.proofs.lemmas.List.{append_cancel_left}
-use Rattle.bd_extjson.specs.Text.{quoted, object as object_text, member as member_text, listed}
-use Rattle.bd_extjson.proofs.PieceLemmas.{before, to_come, to_come-all}
+use Rattle.bd_text.specs.Text.{quoted, object as object_text, member as member_text, listed}
+use Rattle.bd_text.proofs.PieceLemmas.{before, to_come, to_come-all}
 use Rattle.bd_extjson.proofs.StringPrefixLemmas.{quoted-prefix}
 
 pub data Word : Type 0 where

@@ -5,10 +5,10 @@ use Rattle.json.specs.Print as kit_print
 use Rattle.json.specs.Print.{print_from}
 use Rattle.json.specs.Token.{Token}
 use Rattle.json.specs.Tree.{json_tokens, items_tokens, members_tokens}
-use Rattle.bd_extjson.specs.Text.{escape_byte, escaped, quoted}
+use Rattle.bd_text.specs.Text.{escape_byte, escaped, quoted}
 use Rattle.bd_extjson.proofs.JsonLemmas.{Word, nothing, yes, no, Json, string, number, word, array, object, Elements, no_elements, element, Members, no_members, member}
 use Rattle.bd_extjson.proofs.JsonLemmas.{print_word, print, print_elements, print_members}
-use Rattle.bd_extjson.proofs.PieceLemmas.{before}
+use Rattle.bd_text.proofs.PieceLemmas.{before}
 use Rattle.bd_extjson.proofs.StringPrefixLemmas.{unless}
 
 -- ---- strings

@@ -13,7 +13,7 @@ use Rattle.bd_value.specs.Zeros.{zero_in}
 use Rattle.bd_extjson.specs.Plain.{IsPlain}
 use Rattle.bd_value.specs.Fits.{FitsTypes, HasUtf8}
 use Rattle.bd_extjson.specs.TextDocument.{json as json_in, document, ReadsAs}
-use Rattle.bd_extjson.specs.Text.{text}
+use Rattle.bd_text.specs.Text.{text}
 use Rattle.bd_extjson.specs.Meaning.{wrap}
 use Rattle.bd_extjson.proofs.PrintLemmas.{kit_json, print-kit_json}
 use Rattle.bd_extjson.proofs.TokenInverseLemmas.{shallow, numbers}

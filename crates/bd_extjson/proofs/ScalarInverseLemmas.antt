@@ -8,7 +8,7 @@ use Rattle.hex.proofs.HexLemmas.{IsDigits-lower_digits, decode_sized-encode_lowe
 use Rattle.json.specs.Json as kit
 use Rattle.bd_value.specs.Tree.{Scalar, min_key, undefined, null, int32, int64, text as plain_text, symbol, binary, object_id, boolean, date, timestamp, regex, db_pointer, code, max_key, leaf}
 use Rattle.bd_value.specs.Zeros.{has_zero, zero_in_scalar}
-use Rattle.bd_extjson.specs.Text.{base64_text, hex_text}
+use Rattle.bd_text.specs.Text.{base64_text, hex_text}
 use Rattle.bd_value.specs.Fits.{ScalarFitsType, IsId}
 use Rattle.bd_wrapper.specs.Whole.{whole}
 use Rattle.bd_wrapper.specs.Wrappers.{wrapper_of, only, pair, both, ok_of, id_of, data_in, subtype_in, word_in, if_word, name_in}

@@ -3,7 +3,7 @@ use Rattle.std.proofs.Common.{◌≡◌, ℕ, ◌+◌, ◌*◌, ◌/◌, ◌%◌
 use Rattle.std.specs.Prelude.{◌==◌, nat_lt, if◌then◌else◌}
 use Rattle.std.specs.Char.{digit_char, digit_value}
 use Rattle.std.proofs.lemmas.Str.{digit_value-digit_char}
-use Rattle.bd_extjson.specs.Text.{escape_byte, escaped, quoted}
+use Rattle.bd_text.specs.Text.{escape_byte, escaped, quoted}
 
 -- ---- the byte that the head of a text stands for, and what comes after it
 

@@ -16,12 +16,12 @@ use Rattle.hex.proofs.HexLemmas.{IsAscii-encode_with}
 use Rattle.json.proofs.Printed.Utf8.{IsUtf8-quoted, IsUtf8-are_ascii, are_ascii}
 use Rattle.bd_value.specs.Tree.{Scalar, min_key, undefined, null, int32, int64, text as plain_text, symbol, binary, object_id, boolean, date, timestamp, regex, db_pointer, code, max_key}
 use Rattle.bd_value.specs.Tree.{Tree, leaf, doc, array as array_tree, code_scope, Items, no_items, item, Fields, no_fields, field}
-use Rattle.bd_extjson.specs.Text.{quoted, base64_text, hex_text, text}
+use Rattle.bd_text.specs.Text.{quoted, base64_text, hex_text, text}
 use Rattle.bd_value.specs.Fits.{ScalarFitsType, FitsTypes, ItemsFitTypes, FieldsFitTypes, ScalarHasUtf8, HasUtf8, ItemsHaveUtf8, FieldsHaveUtf8}
-use Rattle.bd_extjson.proofs.EscapeLemmas.{fits_32, fits_64}
+use Rattle.bd_text.proofs.EscapeLemmas.{fits_32, fits_64}
 use Rattle.bd_extjson.proofs.JsonLemmas.{Word, nothing, yes, no, Json, string, number, word, array, object, Elements, no_elements, element, Members, no_members, member}
 use Rattle.bd_extjson.proofs.JsonLemmas.{print_word, print, print_elements, print_members}
-use Rattle.bd_extjson.proofs.PieceLemmas.{before}
+use Rattle.bd_text.proofs.PieceLemmas.{before}
 use Rattle.bd_extjson.proofs.PrintLemmas.{quoted-kit}
 use Rattle.bd_extjson.proofs.TreeJsonLemmas.{wrapped, two, long_json, id_json, scalar_json, json, elements_json, members_json, print-json}
 

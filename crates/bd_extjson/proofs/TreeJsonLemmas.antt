@@ -6,7 +6,7 @@ use Rattle.std.specs.Str.Parse.{IsNumeral}
 use Rattle.std.proofs.lemmas.Fmt.{decimal_is_IsNumeral}
 use Rattle.bd_value.specs.Tree.{Scalar, min_key, undefined, null, int32, int64, text as plain_text, symbol, binary, object_id, boolean, date, timestamp, regex, db_pointer, code, max_key}
 use Rattle.bd_value.specs.Tree.{Tree, leaf, doc, array as array_tree, code_scope, Items, no_items, item, Fields, no_fields, field}
-use Rattle.bd_extjson.specs.Text.{object as object_text, member as member_text, wrapper_text as wrapped_text, listed, quoted, base64_text, hex_text, scalar_text, text, items_text, fields_text}
+use Rattle.bd_text.specs.Text.{object as object_text, member as member_text, wrapper_text as wrapped_text, listed, quoted, base64_text, hex_text, scalar_text, text, items_text, fields_text}
 use Rattle.bd_value.specs.Fits.{ScalarFitsType, FitsTypes, ItemsFitTypes, FieldsFitTypes}
 use Rattle.bd_extjson.proofs.JsonLemmas as js
 use Rattle.bd_extjson.proofs.JsonLemmas.{Json, string, number, word, array, object, nothing, yes, no, Elements, no_elements, element, Members, no_members, member}

@@ -7,7 +7,7 @@ ghost use Rattle.bd_value.specs.View.{pairs};
 ghost use Rattle.bd_value.specs.Zeros.{zero_in};
 ghost use Rattle.bd_extjson.specs.Plain.{IsPlain};
 ghost use Rattle.bd_extjson.specs.TextDocument.{ReadsAs};
-ghost use Rattle.bd_extjson.specs.Text.{text};
+ghost use Rattle.bd_text.specs.Text.{text};
 
 use bd_value::{Document, document_fits};
 

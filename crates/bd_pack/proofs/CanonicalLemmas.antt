@@ -21,9 +21,9 @@ use Rattle.bd_write.specs.TreeBytes.{bytes_of}
 use Rattle.bd_wrapper.specs.Wrappers.{wrappers, named_in, wrapper_of}
 use Rattle.bd_wrapper.specs.declared.wrapper.Wrapper.{Wrapper}
 use Rattle.bd_extjson.specs.Plain.{IsPlainFirst, ArePlainFields, ArePlainItems}
-use Rattle.bd_extjson.specs.Text.{needs_escape, escape_byte, escaped, quoted, hex_text, base64_text, scalar_text, member, text, items_text, fields_text, object}
+use Rattle.bd_text.specs.Text.{needs_escape, escape_byte, escaped, quoted, hex_text, base64_text, scalar_text, member, text, items_text, fields_text, object}
 use Rattle.bd_extjson.specs.TextDocument.{ReadsAs}
-use Rattle.bd_extjson.proofs.EscapeLemmas.{escaped-plain}
+use Rattle.bd_text.proofs.EscapeLemmas.{escaped-plain}
 use Rattle.bd_extjson.proofs.ReadBackLemmas.{document_back}
 use Rattle.bd_pack.specs.Packable.{plain, IsPackable}
 use Rattle.bd_pack.specs.Canonical.{IsCanonical, AreCanonical, AreCanonicalFields}

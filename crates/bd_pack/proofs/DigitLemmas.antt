@@ -1,5 +1,5 @@
 -- The text of a whole number is what its number is written as, but for a zero with a sign.
-use Rattle.bd_extjson.proofs.EscapeLemmas.{escaped-digits}
+use Rattle.bd_text.proofs.EscapeLemmas.{escaped-digits}
 use Rattle.std.proofs.lemmas.Str.{digit_value_digit}
 use Rattle.std.proofs.lemmas.Int.Digits.{digits_value_more}
 use Rattle.std.proofs.Common.{◌≡◌, ℕ, zero, suc, ◌^◌, ◌<◌, ℤ, pos, neg_ℤ, true, false, List, [], ◌∷◌, ◌++◌, length, get_or, Some, Result, Ok, Err, decimal, refl, sym, ap, ap₂, ◌∙◌, arith, inl, inr, ◌⊎◌, drop, take-append-drop, ◌≤◌, ◌+◌, ◌*◌, ◌-◌, take, append_assoc}
@@ -19,7 +19,7 @@ use Rattle.hex.proofs.HexLemmas.{decode_of-ok, decode_sized-ok, decode_sized-twi
 use Rattle.bd_value.specs.Fits.{IsId}
 use Rattle.bd_wrapper.specs.Wrappers.{ok_of}
 use Rattle.bd_wrapper.proofs.WholeLemmas.{own}
-use Rattle.bd_extjson.specs.Text.{quoted, hex_text, escaped, escape_byte}
+use Rattle.bd_text.specs.Text.{quoted, hex_text, escaped, escape_byte}
 
 pub all_more : (bs : List ℕ) (i : ℕ) → i < length bs → all_ascii_digits (take i bs) ≡ true → is_ascii_digit (get_or bs i 0) ≡ true → all_ascii_digits (take (suc i) bs) ≡ true
 all_more [] i lt all one = absurd (omega arith)

@@ -8,7 +8,7 @@ use Rattle.std.proofs.lemmas.Simd.{length-chunk, trailing_mask_l, mask_l-mod, zi
 use Rattle.std.proofs.lemmas.List.Sums.{prefix_len-le-length}
 use lib.Count.{count_trailing_zeros}
 use lib.Lanes.{zip2, chunk, mask_l, top}
-use Rattle.bd_extjson.specs.Text.{needs_escape}
+use Rattle.bd_text.specs.Text.{needs_escape}
 
 -- ---- the test, lane by lane
 

@@ -5,7 +5,7 @@ ghost use Rattle.bd_value.specs.Tree.{Tree, Doc, leaf, doc, array, fields_of, it
 ghost use Rattle.bd_raw.specs.Spelling.{element};
 ghost use Rattle.bd_write.specs.TreeBytes.{bytes_of};
 ghost use Rattle.bd_wrapper.specs.Wrappers.{wrapper_of};
-ghost use Rattle.bd_extjson.specs.Text.{text as text_of, items_text, fields_text};
+ghost use Rattle.bd_text.specs.Text.{text as text_of, items_text, fields_text};
 ghost use Rattle.bd_pack.specs.Packable.{plain, IsPackable};
 ghost use Rattle.bd_pack.specs.Canonical.{IsCanonical, AreCanonical, AreCanonicalFields};
 

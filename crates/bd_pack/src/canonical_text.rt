@@ -7,7 +7,7 @@ ghost use Rattle.bd_value.specs.Fits.{AreBytes, IsId};
 ghost use Rattle.bd_value.specs.Tree as trees;
 ghost use Rattle.bd_value.specs.Tree.{leaf};
 ghost use Rattle.bd_value.specs.Zeros.{has_zero};
-ghost use Rattle.bd_extjson.specs.Text.{needs_escape, escape_byte, escaped, quoted, hex_text, text as text_of};
+ghost use Rattle.bd_text.specs.Text.{needs_escape, escape_byte, escaped, quoted, hex_text, text as text_of};
 
 use base64::engine::general_purpose::STANDARD;
 use bd_wrapper::id_of_text;
@@ -258,7 +258,7 @@ pub(crate) fn binary<'a>(alloc: Global, text: &'a str) -> Option<(u8, Vec<u8>, &
 
 /// The byte of an escape of two characters, and what follows it.
 #[inline(always)]
-#[tactic(auto, unfolding(bd_extjson::specs::Text::escape_byte))]
+#[tactic(auto, unfolding(bd_text::specs::Text::escape_byte))]
 fn escape<'a>(text: &'a str) -> Option<(u8, &'a str)>
     ensures { IfSome result (λ p. (text.now ≡ escape_byte p.0 ++ p.1.now) × (p.0 < 128)) }
 {

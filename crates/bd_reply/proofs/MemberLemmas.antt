@@ -5,9 +5,9 @@ use Rattle.std.specs.List.{cons_option, join_with_byte}
 use Rattle.std.proofs.lemmas.Fmt.{decimal_is_IsNumeral}
 use Rattle.std.proofs.lemmas.Option.{slice_get-get_or, slice_get_past}
 use Rattle.bd_value.specs.Tree.{Doc, Tree, doc, fields_of, items_of}
-use Rattle.bd_extjson.specs.Text.{escape_byte, fields_text, items_text, member, quoted, scalar_text, text}
-use Rattle.bd_extjson.proofs.EscapeLemmas.{escaped-digits}
-use Rattle.bd_extjson.proofs.PieceLemmas.{before, to_come, to_come-all, piece_step}
+use Rattle.bd_text.specs.Text.{escape_byte, fields_text, items_text, member, quoted, scalar_text, text}
+use Rattle.bd_text.proofs.EscapeLemmas.{escaped-digits}
+use Rattle.bd_text.proofs.PieceLemmas.{before, to_come, to_come-all, piece_step}
 use Rattle.bd_bson.specs.Documents.{document_at, documents_at}
 use Rattle.bd_reply.specs.Reply.{count_value, documents_value, int_value, boolean_value}
 

@@ -2,7 +2,7 @@
 use Rattle.std.specs.Prelude.{ℕ, pos, Bool, true, false, List, [], ◌∷◌, Option, Some, None, codes, map}
 use Rattle.bd_value.specs.Tree as trees
 use Rattle.bd_value.specs.Tree.{Doc, Tree, array, doc, fields_of, items_of, leaf}
-use Rattle.bd_extjson.specs.Text.{text}
+use Rattle.bd_text.specs.Text.{text}
 use Rattle.bd_answer.specs.Session.{Explanation, IndexCounts, PlanKind, by_index, by_scan, by_walk}
 
 -- why there is no result: the layer that refuses, the number and the words of its reason, and the pair that tells where, if any

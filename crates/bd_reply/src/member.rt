@@ -5,7 +5,7 @@ ghost use Rattle.std.specs.Io.{StartsWith};
 ghost use Rattle.bd_value.specs.Tree.{doc, fields_of};
 ghost use Rattle.bd_bson.specs.Collection.{documents};
 ghost use Rattle.bd_bson.specs.Documents.{document_at, documents_at};
-ghost use Rattle.bd_extjson.specs.Text.{member, quoted, text};
+ghost use Rattle.bd_text.specs.Text.{member, quoted, text};
 ghost use Rattle.bd_reply.specs.MemberView.{member_pair, reply_value};
 ghost use Rattle.bd_reply.specs.Reply.{boolean_value, documents_value};
 
@@ -62,7 +62,7 @@ fn write_member(name: &str, value: Field<'_, '_, '_>, out: &mut Vec<u8>) -> Resu
 }
 
 /// Appends a value.
-#[tactic(auto, using(bd_value::proofs::FrontLemmas::fronts), unfolding(bd_extjson::specs::Text::scalar_text))]
+#[tactic(auto, using(bd_value::proofs::FrontLemmas::fronts), unfolding(bd_text::specs::Text::scalar_text))]
 fn write_field(value: Field<'_, '_, '_>, out: &mut Vec<u8>) -> Result<(), NoMemory>
     ensures ok { OnOk result (out.new.items ≡ out.old.items ++ text (reply_value value.entry)) }
     ensures err { OnErr result (StartsWith out.new.items out.old.items) }
@@ -79,7 +79,7 @@ fn write_field(value: Field<'_, '_, '_>, out: &mut Vec<u8>) -> Result<(), NoMemo
 }
 
 /// Appends `true` or `false`.
-#[tactic(auto, using(bd_value::proofs::FrontLemmas::fronts), unfolding(bd_extjson::specs::Text::scalar_text))]
+#[tactic(auto, using(bd_value::proofs::FrontLemmas::fronts), unfolding(bd_text::specs::Text::scalar_text))]
 fn write_truth(truth: bool, out: &mut Vec<u8>) -> Result<(), NoMemory>
     ensures ok { OnOk result (out.new.items ≡ out.old.items ++ text (boolean_value truth)) }
     ensures err { OnErr result (StartsWith out.new.items out.old.items) }

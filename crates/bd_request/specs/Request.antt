@@ -2,7 +2,7 @@
 use Rattle.std.specs.Prelude.{◌≡◌, ◌<◌, ◌≤◌, ◌⊎◌, ℕ, ℤ, pos, negsuc, List, ◌++◌, codes, decimal, map, Option, Some, None, Ok, Err}
 use Rattle.bd_value.specs.Tree as trees
 use Rattle.bd_value.specs.Tree.{Tree, Doc, doc, fields_of, leaf}
-use Rattle.bd_extjson.specs.Text.{text}
+use Rattle.bd_text.specs.Text.{text}
 use Rattle.bd_path.specs.Earliest.{SortPath}
 use Rattle.bd_path.specs.Sort.{sort_paths}
 use Rattle.bd_path.specs.declared.dir.Dir.{Dir}

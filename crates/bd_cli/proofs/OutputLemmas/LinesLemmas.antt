@@ -4,7 +4,7 @@ use Rattle.std.specs.Prelude.{OnErr, OnOk, Result, Ok, Err}
 use Rattle.std.proofs.KnownBytes.{Appends-trans}
 use Rattle.bd_value.specs.Tree.{Doc, doc, fields_of}
 use Rattle.bd_device.specs.Counts.{after_more}
-use Rattle.bd_extjson.specs.Text.{text}
+use Rattle.bd_text.specs.Text.{text}
 use Rattle.bd_cli.specs.Transcript.{lines}
 use Rattle.bd_device.specs.Devices.{BreaksAfter, BreaksWithin, TakesFront, TakesText, Writer, between}
 

@@ -6,7 +6,7 @@ use Rattle.bd_diagnose.specs.JsonFault.{IsPlaced, json_fault_words}
 use Rattle.bd_diagnose.specs.declared.json_fault.JsonFault.{JsonFault}
 use Rattle.bd_diagnose.specs.declared.json_fault.JsonFaultKind.{JsonFaultKind}
 use Rattle.bd_diagnose.specs.declared.json_fault.JsonFaultKind.TheVariants as kinds
-use Rattle.bd_extjson.specs.Text.{quoted}
+use Rattle.bd_text.specs.Text.{quoted}
 use Rattle.bd_extjson.specs.TextDocument.{ReadsAs, reading}
 use Rattle.bd_path.specs.Earliest.{SortPath}
 use Rattle.bd_path.specs.Names.{Names}

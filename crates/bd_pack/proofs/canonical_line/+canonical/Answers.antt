@@ -3,7 +3,7 @@ use Rattle.std.specs.Prelude.{decimal}
 use Rattle.bd_value.specs.Tree.{doc, array, fields_of, items_of}
 use Rattle.bd_raw.specs.Spelling.{number, element}
 use Rattle.bd_write.specs.TreeBytes.{bytes_of, fields_bytes, items_bytes}
-use Rattle.bd_extjson.specs.Text.{text, member, items_text, fields_text}
+use Rattle.bd_text.specs.Text.{text, member, items_text, fields_text}
 use Rattle.bd_pack.proofs.BodyLemmas as bodies
 use Rattle.bd_pack.proofs.CanonicalLemmas as pieces
 use Rattle.bd_pack.proofs.canonical_line.+canonical.Goals as goal

@@ -2,7 +2,7 @@ use Rattle.std.proofs.Common.{◌≡◌, ◌++◌, ◌∷◌, ℕ, List, length}
 use Rattle.std.specs.Prelude.{string_bytes}
 use denote.Shadow.{shadow}
 use denote.Text.{Utf8}
-use Rattle.bd_extjson.specs.Text.{escaped}
+use Rattle.bd_text.specs.Text.{escaped}
 use Rattle.bd_pack.proofs.canonical_text.append_unescaped.Given as goal
 
 -- what was read of the string, and what it holds

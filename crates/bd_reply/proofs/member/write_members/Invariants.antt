@@ -2,7 +2,7 @@ use Rattle.std.proofs.Common.{◌≡◌, ◌++◌, ◌∷◌, map, drop}
 use Rattle.std.specs.Io.{StartsWith}
 use Rattle.std.specs.Prelude.{codes}
 use Rattle.bd_value.specs.Tree.{doc, fields_of}
-use Rattle.bd_extjson.specs.Text.{text}
+use Rattle.bd_text.specs.Text.{text}
 use Rattle.bd_reply.specs.MemberView.{member_pair}
 use Rattle.bd_reply.specs.Reply.{boolean_value}
 use Rattle.bd_reply.proofs.MemberLemmas.{rest_of_object}

@@ -4,7 +4,7 @@ use Rattle.bd_value.specs.Tree.{doc, fields_of, pairs_in}
 use Rattle.bd_device.specs.Devices.{BreaksWithin, TakesText, between, over}
 use Rattle.bd_raw.specs.Sound.{stands}
 use Rattle.bd_bson.specs.Collection.{documents}
-use Rattle.bd_extjson.specs.Text.{text}
+use Rattle.bd_text.specs.Text.{text}
 use Rattle.bd_bson.specs.Documents.{documents_at}
 use Rattle.bd_cli.specs.Transcript.{lines}
 use Rattle.bd_cli.proofs.FindLemmas as finds

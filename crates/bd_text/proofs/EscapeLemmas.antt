@@ -1,0 +1,103 @@
+-- Strings: what needs no escape stands for itself.
+use Rattle.std.proofs.Common.{◌≡◌, ℕ, suc, ◌+◌, ◌-◌, ◌<◌, ◌≤◌, Bool, true, false, cond, List, [], ◌∷◌, ◌++◌, length, take, drop, get_or, Some, None, refl, sym, ap, ◌∙◌, subst, arith, add-one, drop-cons, append-nil, append_assoc, length-drop, ◌^◌, ℤ, pos, negsuc, decimal}
+use Rattle.std.specs.Prelude.{nat_lt, ◌||◌}
+use Rattle.std.specs.Fmt.{signed_decimal}
+use Rattle.std.specs.Int.{w32, w64}
+use Rattle.std.specs.Int.RustNames.{FitsSigned}
+use Rattle.std.specs.Int.Signed.{mag}
+use Rattle.std.specs.List.{position, position_or_len, list_any}
+use Rattle.std.specs.Str.Parse.{AllDigits}
+use Rattle.std.proofs.Math.ListN.{drop_of_length-le}
+use Rattle.std.proofs.lemmas.List.{take_all}
+use Rattle.std.proofs.lemmas.List.Quantifiers.{position-Some}
+use Rattle.std.proofs.lemmas.Str.Parse.{digit_from_value}
+use Rattle.std.proofs.lemmas.Fmt.{decimal_is_IsNumeral}
+use Rattle.std.proofs.lemmas.Int.{ints}
+use Rattle.std.proofs.lemmas.Grind.{common_steps}
+use Rattle.bd_text.specs.Text.{needs_escape, escape_byte, escaped}
+
+pub escape_byte-plain : (b : ℕ) → needs_escape b ≡ false → escape_byte b ≡ b ∷ []
+unfolding escape_byte
+escape_byte-plain b h = grind (arith, common_steps)
+
+pub escaped-digits : (ds : List ℕ) → AllDigits 10 ds → escaped ds ≡ ds
+escaped-digits [] h = refl
+escaped-digits (d ∷ ds) h =
+    let inside = digit_from_value d h.0 in
+    let plain : needs_escape d ≡ false = grind (arith, common_steps) in
+    rw (escape_byte-plain d plain) (ap (λ (l : List ℕ). d ∷ l) (escaped-digits ds h.1))
+
+either_none : (a b : Bool) → (a || b) ≡ false → (a ≡ false) × (b ≡ false)
+either_none true b e = absurd cc
+either_none false b e = (refl, e)
+
+pub escaped-plain : (xs : List ℕ) → list_any needs_escape xs ≡ false → escaped xs ≡ xs
+escaped-plain [] h = refl
+escaped-plain (b ∷ bs) h =
+    let parts = either_none (needs_escape b) (list_any needs_escape bs) h in
+    rw (escape_byte-plain b parts.0) (ap (λ (l : List ℕ). b ∷ l) (escaped-plain bs parts.1))
+
+escaped-from_run : (xs : List ℕ) → escaped xs ≡ take (position_or_len needs_escape xs) xs ++ escaped (drop (position_or_len needs_escape xs) xs)
+escaped-from_run [] = refl
+escaped-from_run (b ∷ bs) = one (needs_escape b) refl (escaped-from_run bs)
+  where
+    one : (v : Bool) → needs_escape b ≡ v → escaped bs ≡ take (position_or_len needs_escape bs) bs ++ escaped (drop (position_or_len needs_escape bs) bs)
+        → escaped (b ∷ bs) ≡ take (position_or_len needs_escape (b ∷ bs)) (b ∷ bs) ++ escaped (drop (position_or_len needs_escape (b ∷ bs)) (b ∷ bs))
+    one true e more = rw e refl
+    one false e more =
+        let next : 1 + position_or_len needs_escape bs ≡ suc (position_or_len needs_escape bs) = omega arith in
+        rw (e, next, escape_byte-plain b e) (ap (λ (l : List ℕ). b ∷ l) more)
+
+-- ---- copying in runs
+
+found : (m n i : ℕ) → cond (nat_lt m n) (Some m) None ≡ Some i → m ≡ i
+found m n i e = one (nat_lt m n) e
+  where
+    one : (v : Bool) → cond v (Some m) None ≡ Some i → m ≡ i
+    one true h = cc
+    one false h = absurd cc
+
+not_found : (m n : ℕ) → cond (nat_lt m n) (Some m) None ≡ None → n ≤ m
+not_found m n e = one (nat_lt m n) refl e
+  where
+    one : (v : Bool) → nat_lt m n ≡ v → cond v (Some m) None ≡ None → n ≤ m
+    one true t h = absurd cc
+    one false t h = grind arith
+
+pub escaped-to_end : (xs : List ℕ) → position needs_escape xs ≡ None → escaped xs ≡ xs
+escaped-to_end xs e =
+    let past = not_found (position_or_len needs_escape xs) (length xs) e in
+    escaped-from_run xs ∙ rw (take_all (position_or_len needs_escape xs) xs past, drop_of_length-le xs past) (append-nil xs)
+
+-- a run and the escape after it are written, and the rest of the n bytes is still to come
+pub run_step : (xs out total : List ℕ) (i n : ℕ) → position needs_escape xs ≡ Some i → length xs ≡ n → out ++ escaped xs ≡ total
+    → ((out ++ take i xs) ++ escape_byte (get_or xs i 0)) ++ escaped (take (n - (i + 1)) (drop (i + 1) xs)) ≡ total
+run_step xs out total i n e len so_far =
+    let inside = (position-Some needs_escape xs i 0 e).0 in
+    let at = found (position_or_len needs_escape xs) (length xs) i e in
+    let run : escaped xs ≡ take i xs ++ escaped (drop i xs) = subst (λ (k : ℕ). escaped xs ≡ take k xs ++ escaped (drop k xs)) at (escaped-from_run xs) in
+    let here : escaped (drop i xs) ≡ escape_byte (get_or xs i 0) ++ escaped (drop (i + 1) xs) = rw (add-one, drop-cons xs i 0) refl in
+    let short : length (drop (i + 1) xs) ≤ n - (i + 1) = omega (arith, length-drop (i + 1) xs) in
+    rw (take_all (n - (i + 1)) (drop (i + 1) xs) short) (simp append_assoc (ap (λ (l : List ℕ). out ++ l) (sym (run ∙ ap (λ (l : List ℕ). take i xs ++ l) here)) ∙ so_far))
+
+-- ---- numbers
+
+pub fits_32 : (z : ℤ) → FitsSigned w32 z → mag z < 2 ^ 63
+fits_32 (pos n) fits = omega (arith, ints)
+fits_32 (negsuc n) fits = omega (arith, ints)
+
+pub fits_64 : (z : ℤ) → FitsSigned w64 z → mag z < 2 ^ 63
+fits_64 (pos n) fits = omega (arith, ints)
+fits_64 (negsuc n) fits = omega (arith, ints)
+
+pub wider : (z : ℤ) → FitsSigned w32 z → FitsSigned w64 z
+wider (pos n) fits = record { sfits = omega (arith, ints) }
+wider (negsuc n) fits = record { sfits = omega (arith, ints) }
+
+escaped-decimal : (n : ℕ) → n < 2 ^ 64 → escaped (decimal n) ≡ decimal n
+escaped-decimal n small = escaped-digits (decimal n) (decimal_is_IsNumeral n small).0.1
+
+pub escaped-signed_decimal : (z : ℤ) → mag z < 2 ^ 63 → escaped (signed_decimal z) ≡ signed_decimal z
+unfolding escape_byte
+escaped-signed_decimal (pos n) small = escaped-decimal n (omega arith)
+escaped-signed_decimal (negsuc n) small = ap (λ (l : List ℕ). 45 ∷ l) (escaped-decimal (suc n) (omega arith))

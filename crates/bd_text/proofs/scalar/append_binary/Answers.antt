@@ -1,0 +1,32 @@
+use Rattle.std.proofs.Common.{◌≡◌, ◌++◌, ◌∷◌, [], List, ℕ, length, take, ap, ◌∙◌, arith}
+use Rattle.std.specs.Prelude.{codes}
+use Rattle.bd_text.specs.Text.{base64_text, hex_text}
+use Rattle.bd_text.proofs.RoomLemmas.{front, chained, lent_text}
+use Rattle.bd_text.proofs.SymbolLemmas.{one_byte}
+use Rattle.bd_text.proofs.TextLemmas.{written-binary}
+use Rattle.bd_text.proofs.scalar.append_binary.Goals as goal
+
+pub returns-in_err-at-2-clause-err : goal.returns-in_err-at-2-clause-err
+returns-in_err-at-2-clause-err c =
+    let kept = front c.args.end c.in_ok-at.at c.args.out.now.items _ c.append_base64.new.out.items (omega arith) (c.in_err-at-2.ensures.err ∙ c.in_ok-at.ensures.ok) in
+    grind (arith, kept)
+
+pub returns-in_err-at-3-clause-err : goal.returns-in_err-at-3-clause-err
+returns-in_err-at-3-clause-err c =
+    let both = chained c.args.end c.in_ok-at.at c.in_ok-at-2.at c.args.out.now.items _ _ _ _ c.in_ok-at.ensures.ok c.in_ok-at-2.ensures.ok in
+    let kept = front c.args.end c.in_ok-at-2.at c.args.out.now.items _ c.append_few-2.new.out.items (omega arith) (c.in_err-at-3.ensures.err ∙ both) in
+    grind (arith, kept)
+
+pub returns-clause-ok : goal.returns-clause-ok
+returns-clause-ok c =
+    let made = c.append_few-2.new.out in
+    let room = c.put_known.new.room in
+    let bytes = c.args.bytes.now in
+    let same : length room ≡ length made.items = omega (arith, c.put_known.auto.room, c.put_hex-at.auto.room, c.as_mut_slice-room.ensures.len, made.ok.0) in
+    let held = c.in_ok-at-2.ensures.ok ∙ ap (λ (l : List ℕ). l ++ base64_text bytes) c.in_ok-at.ensures.ok in
+    let lead = ap (λ (l : List ℕ). take c.in_ok-at-3.at l) c.as_mut_slice-room.ensures.value ∙ c.in_ok-at-3.ensures.ok ∙ ap (λ (l : List ℕ). l ++ codes "\",\"subType\":\"") held in
+    let subtype = c.put_hex-at.ensures.put ∙ ap (λ (l : List ℕ). l ++ hex_text (c.args.subtype ∷ [])) lead in
+    let all =
+    c.put_known.ensures.put ∙ ap (λ (l : List ℕ). l ++ codes "\"}}") subtype
+    ∙ written-binary (take c.args.end c.args.out.now.items) bytes c.args.subtype (λ i. (c.type_inv.bytes i).fits) (one_byte c.args.subtype c.ranges.subtype.fits) in
+    lent_text made.len c.put_known.result room made.items _ same made.ok.0 all

@@ -1,0 +1,22 @@
+use Rattle.std.proofs.Common.{◌≡◌, ◌++◌, List, ℕ, length, take, ap, ◌∙◌, arith}
+use Rattle.std.specs.Prelude.{codes}
+use Rattle.bd_text.specs.Text.{hex_text}
+use Rattle.bd_text.proofs.RoomLemmas.{front, lent_text}
+use Rattle.bd_text.proofs.TextLemmas.{written-db_pointer}
+use Rattle.bd_text.proofs.scalar.append_pointer.Goals as goal
+
+pub returns-in_err-at-2-clause-err : goal.returns-in_err-at-2-clause-err
+returns-in_err-at-2-clause-err c =
+    let kept = front c.args.end c.in_ok-at.at c.args.out.now.items _ c.append_few.new.out.items (omega arith) (c.in_err-at-2.ensures.err ∙ c.in_ok-at.ensures.ok) in
+    grind (arith, kept)
+
+pub returns-clause-ok : goal.returns-clause-ok
+returns-clause-ok c =
+    let made = c.append_few.new.out in
+    let room = c.put_known.new.room in
+    let same : length room ≡ length made.items = omega (arith, c.put_known.auto.room, c.put_id-at.auto.room, c.as_mut_slice-room.ensures.len, made.ok.0) in
+    let lead =
+    ap (λ (l : List ℕ). take c.in_ok-at-2.at l) c.as_mut_slice-room.ensures.value ∙ c.in_ok-at-2.ensures.ok ∙ ap (λ (l : List ℕ). l ++ codes ",\"$id\":{\"$oid\":\"") c.in_ok-at.ensures.ok in
+    let id = c.put_id-at.ensures.put ∙ ap (λ (l : List ℕ). l ++ hex_text c.args.id.now) lead in
+    let all = c.put_known.ensures.put ∙ ap (λ (l : List ℕ). l ++ codes "\"}}}") id ∙ written-db_pointer (take c.args.end c.args.out.now.items) c.args.space.now c.args.id.now c.fits-id in
+    lent_text made.len c.put_known.result room made.items _ same made.ok.0 all

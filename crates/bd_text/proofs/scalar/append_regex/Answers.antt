@@ -1,0 +1,24 @@
+use Rattle.std.proofs.Common.{◌≡◌, ◌++◌, ◌∷◌, [], List, ℕ, take, ap, ◌∙◌, arith}
+use Rattle.std.specs.Prelude.{codes}
+use Rattle.bd_value.specs.Tree.{regex}
+use Rattle.bd_text.specs.Text.{scalar_text, quoted}
+use Rattle.bd_text.proofs.RoomLemmas.{front, chained, if_ok, on_err}
+use Rattle.bd_text.proofs.TextLemmas.{written-regex}
+use Rattle.bd_text.proofs.scalar.append_regex.Goals as goal
+
+pub returns-in_err-at-2-clause-err : goal.returns-in_err-at-2-clause-err
+returns-in_err-at-2-clause-err c =
+    let kept = front c.args.end c.in_ok-at.at c.args.out.now.items _ c.append_led-2.new.out.items (omega arith) (c.in_err-at-2.ensures.err ∙ c.in_ok-at.ensures.ok) in
+    grind (arith, kept)
+
+pub returns-clause-ok : goal.returns-clause-ok
+returns-clause-ok c =
+    let old : List ℕ = take c.args.end c.args.out.now.items in
+    let both = c.in_ok-at-2.ensures.ok ∙ ap (λ (l : List ℕ). l ++ (codes ",\"options\":" ++ quoted c.args.options.now)) c.in_ok-at.ensures.ok in
+    if_ok _ (λ e. take e c.append_few.new.out.items ≡ old ++ scalar_text (regex c.args.pattern.now c.args.options.now)) c.append_few.result
+    (λ e put. put ∙ ap (λ (l : List ℕ). l ++ 125 ∷ 125 ∷ []) both ∙ written-regex old c.args.pattern.now c.args.options.now) c.append_few.ensures.ok
+
+pub returns-clause-err : goal.returns-clause-err
+returns-clause-err c =
+    let both = chained c.args.end c.in_ok-at.at c.in_ok-at-2.at c.args.out.now.items _ _ _ _ c.in_ok-at.ensures.ok c.in_ok-at-2.ensures.ok in
+    on_err _ _ c.append_few.result (λ kept. front c.args.end c.in_ok-at-2.at c.args.out.now.items _ c.append_few.new.out.items (omega arith) (kept ∙ both)) c.append_few.ensures.err
