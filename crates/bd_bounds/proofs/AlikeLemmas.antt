@@ -13,11 +13,11 @@ use Rattle.bd_value.specs.declared.kind.Kind.TheVariants as kinds
 use Rattle.bd_value.specs.declared.order.classes.Class.{Class}
 use Rattle.bd_value.proofs.OrderLemmas.LawsLemmas.{cmp_total}
 use Rattle.bd_path.specs.Names.{Names}
-use Rattle.bd_query.specs.Filter.{Filter, all_of, some_of, none_of, at_path, Filters, no_filters, filter}
-use Rattle.bd_query.specs.Filter.{Operator, equals, compares, is_in, has_all, has_type, has_size, exists, negates, has_element, has_document}
-use Rattle.bd_query.specs.Filter.{Operators, no_operators, operator}
-use Rattle.bd_query.specs.FilterMatch.{is_array, is_related, relates}
-use Rattle.bd_query.specs.declared.relation.Relation.{Relation}
+use Rattle.bd_filter.specs.Filter.{Filter, all_of, some_of, none_of, at_path, Filters, no_filters, filter}
+use Rattle.bd_filter.specs.Filter.{Operator, equals, compares, is_in, has_all, has_type, has_size, exists, negates, has_element, has_document}
+use Rattle.bd_filter.specs.Filter.{Operators, no_operators, operator}
+use Rattle.bd_filter.specs.FilterMatch.{is_array, is_related, relates}
+use Rattle.bd_filter.specs.declared.relation.Relation.{Relation}
 use Rattle.bd_bounds.specs.Bounds.{KeyBounds, KeySet, all_bounds, all_element_bounds, bounds, bounds_below, bounds_here, conjunction, disjunction, element_bounds, first_or_undefined, is_among, is_listed, is_of_class, keys_equal_to, keys_of_each, keys_of_equal, keys_of_types, intersection, union, operator_bounds, rest_after, rest_bounds, some_bounds}
 
 pub equal_is : (o : Ordering) → is_eq o ≡ true → o ≡ Equal

@@ -3,7 +3,7 @@ use Rattle.std.proofs.Common.{◌≡◌, ℕ, ◌<◌, ◌+◌, length, get_or, 
 use Rattle.std.proofs.Math.Path.{fun_ext}
 use Rattle.std.proofs.lemmas.List.{at_drop_more, map-append}
 use Rattle.bd_value.specs.Tree.{Tree}
-use Rattle.bd_query.specs.Filter.{Operators, no_operators, operator}
+use Rattle.bd_filter.specs.Filter.{Operators, no_operators, operator}
 use Rattle.bd_bounds.specs.Bounds.{KeyBounds, KeySet, conjunction, disjunction, no_key, operator_bounds, union}
 use Rattle.bd_bounds.specs.BoundsView.{keys_within}
 use Rattle.bd_bounds.specs.declared.bounds.Bounds.{Bounds}

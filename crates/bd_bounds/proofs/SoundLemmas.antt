@@ -11,10 +11,10 @@ use Rattle.bd_path.specs.Names.{Names}
 use Rattle.bd_path.specs.Reach.{is_document, reach}
 use Rattle.bd_path.proofs.LawsLemmas.{distinct_has, equal_back, equal_on, sparse_has}
 use Rattle.bd_path.proofs.MemberLemmas.{In, Found, found_from, any_at}
-use Rattle.bd_query.specs.Filter.{Filter, all_of, some_of, none_of, at_path, Filters, no_filters, filter}
-use Rattle.bd_query.specs.Filter.{Operator, equals, compares, is_in, has_all, has_type, has_size, exists, negates, has_element, has_document}
-use Rattle.bd_query.specs.Filter.{Operators, no_operators, operator}
-use Rattle.bd_query.specs.FilterMatch.{all_hold, all_match, any_equal, holds, is_nonempty, matches, some_match}
+use Rattle.bd_filter.specs.Filter.{Filter, all_of, some_of, none_of, at_path, Filters, no_filters, filter}
+use Rattle.bd_filter.specs.Filter.{Operator, equals, compares, is_in, has_all, has_type, has_size, exists, negates, has_element, has_document}
+use Rattle.bd_filter.specs.Filter.{Operators, no_operators, operator}
+use Rattle.bd_filter.specs.FilterMatch.{all_hold, all_match, any_equal, holds, is_nonempty, matches, some_match}
 use Rattle.bd_bounds.specs.Bounds.{KeyBounds, all_bounds, bounds, bounds_below, bounds_here, conjunction, disjunction, is_among, is_inside, keys_of_each, keys_of_equal, union, operator_bounds, rest_after, rest_bounds, some_bounds}
 use Rattle.bd_bounds.specs.Laws.{is_fit}
 use Rattle.bd_bounds.proofs.AlikeLemmas.{same_all, same_bounds, same_keys_of_equal, same_operators}

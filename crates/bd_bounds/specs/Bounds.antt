@@ -13,11 +13,11 @@ use Rattle.bd_value.specs.declared.kind.Kind.TheVariants as kinds
 use Rattle.bd_value.specs.declared.order.classes.Class.{Class}
 use Rattle.bd_value.specs.declared.order.classes.Class.TheVariants as classes
 use Rattle.bd_path.specs.Names.{Names}
-use Rattle.bd_query.specs.Filter.{Filter, all_of, some_of, none_of, at_path, Filters, no_filters, filter}
-use Rattle.bd_query.specs.Filter.{Operator, equals, compares, is_in, has_all, has_type, has_size, exists, negates, has_element, has_document}
-use Rattle.bd_query.specs.Filter.{Operators, no_operators, operator}
-use Rattle.bd_query.specs.FilterMatch.{is_array, is_related}
-use Rattle.bd_query.specs.Types.{is_kind}
+use Rattle.bd_filter.specs.Filter.{Filter, all_of, some_of, none_of, at_path, Filters, no_filters, filter}
+use Rattle.bd_filter.specs.Filter.{Operator, equals, compares, is_in, has_all, has_type, has_size, exists, negates, has_element, has_document}
+use Rattle.bd_filter.specs.Filter.{Operators, no_operators, operator}
+use Rattle.bd_filter.specs.FilterMatch.{is_array, is_related}
+use Rattle.bd_filter.specs.Types.{is_kind}
 
 -- ---- sets of keys
 

@@ -7,8 +7,8 @@ use Rattle.bd_value.specs.Tree as trees
 use Rattle.bd_value.specs.Tree.{Tree, leaf}
 use Rattle.bd_path.specs.KeyList.{keys, sparse_keys}
 use Rattle.bd_path.specs.Names.{Names}
-use Rattle.bd_query.specs.Filter.{Filter}
-use Rattle.bd_query.specs.FilterMatch.{matches}
+use Rattle.bd_filter.specs.Filter.{Filter}
+use Rattle.bd_filter.specs.FilterMatch.{matches}
 use Rattle.bd_bounds.specs.Bounds.{is_bounded, is_inside}
 use Rattle.bd_bounds.specs.Cut.{is_before}
 use Rattle.bd_bounds.specs.declared.cut.Cut.{Cut}

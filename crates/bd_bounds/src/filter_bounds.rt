@@ -3,15 +3,15 @@
 ghost use Rattle.std.specs.Prelude.{◌≡◌, IfOk, map};
 ghost use Rattle.bd_path.specs.Names.{component_names};
 ghost use Rattle.bd_path.specs.PathNames.{names_of};
-ghost use Rattle.bd_query.specs.Filter.{filters_from, operators_from};
-ghost use Rattle.bd_query.specs.FilterView.{filter_tree, operator_tree};
+ghost use Rattle.bd_filter.specs.Filter.{filters_from, operators_from};
+ghost use Rattle.bd_filter.specs.FilterView.{filter_tree, operator_tree};
 ghost use Rattle.bd_bounds.specs.Bounds.{all_bounds, bounds, bounds_at, operator_bounds, rest_after, some_bounds};
 ghost use Rattle.bd_bounds.specs.BoundsView.{rest_names, seen_bounds};
 
 use crate::bounds::Bounds;
 use crate::operator_bounds::{bounds_here, conjoined, narrow};
 use bd_path::{Component, Path};
-use bd_query::{Filter, Operator};
+use bd_filter::{Filter, Operator};
 use bd_value::NoMemory;
 use std::alloc::Global;
 

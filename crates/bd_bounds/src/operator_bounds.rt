@@ -3,9 +3,9 @@
 ghost use Rattle.std.specs.Prelude.{◌≡◌, IfOk, OnOk, None, Some, if◌then◌else◌, map};
 ghost use Rattle.bd_value.specs.View.{tree_of};
 ghost use Rattle.bd_value.specs.declared.kind.Kind.TheVariants as kind;
-ghost use Rattle.bd_query.specs.Filter.{operators_from};
-ghost use Rattle.bd_query.specs.FilterMatch.{is_array};
-ghost use Rattle.bd_query.specs.FilterView.{operator_tree};
+ghost use Rattle.bd_filter.specs.Filter.{operators_from};
+ghost use Rattle.bd_filter.specs.FilterMatch.{is_array};
+ghost use Rattle.bd_filter.specs.FilterView.{operator_tree};
 ghost use Rattle.bd_bounds.specs.Bounds.{all_element_bounds, bounds_here, conjunction, element_bounds, is_listed, keys_of_types};
 ghost use Rattle.bd_bounds.specs.BoundsView.{keys_within, parts_bounds, seen_bounds};
 
@@ -14,7 +14,7 @@ use crate::range::{above, at_least, at_most, below, equal_to, null, of_class, un
 use crate::sets::{
     bounds_of_all, bounds_of_equal, equal_bounds, ranges_of_all, ranges_of_equal, ranges_of_kinds,
 };
-use bd_query::Operator;
+use bd_filter::Operator;
 use bd_value::{Class, Kind, NoMemory, Value};
 use std::alloc::Global;
 

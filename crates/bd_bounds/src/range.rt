@@ -4,8 +4,8 @@ ghost use Rattle.std.specs.Prelude.{◌≡◌, true, false};
 ghost use Rattle.bd_value.specs.Tree as trees;
 ghost use Rattle.bd_value.specs.Tree.{leaf};
 ghost use Rattle.bd_value.specs.View.{tree_of};
-ghost use Rattle.bd_query.specs.FilterMatch.{is_related};
-ghost use Rattle.bd_query.specs.declared.relation.Relation.TheVariants as relation;
+ghost use Rattle.bd_filter.specs.FilterMatch.{is_related};
+ghost use Rattle.bd_filter.specs.declared.relation.Relation.TheVariants as relation;
 ghost use Rattle.bd_bounds.specs.Bounds.{is_of_class, keys_equal_to};
 ghost use Rattle.bd_bounds.specs.BoundsView.{keys_within};
 

@@ -10,7 +10,7 @@ use Rattle.bd_answer.proofs.UnsortedLemmas.{IsUnsorted, unsorted_after, unsorted
 use Rattle.bd_path.specs.Earliest.{sort_cmp}
 use Rattle.bd_path.specs.Sort.{sort_paths}
 use Rattle.bd_path.proofs.LawsLemmas.{sort_total}
-use Rattle.bd_query.specs.FilterView.{filter_tree}
+use Rattle.bd_filter.specs.FilterView.{filter_tree}
 use Rattle.bd_bson.specs.Documents.{document_at}
 use Rattle.bd_sort.specs.Selection.{selection_of, hits_of}
 use Rattle.bd_request.specs.declared.request.Request.{Request}

@@ -7,8 +7,8 @@ use Rattle.bd_answer.specs.Session.{explained, foreign_token, gave, index_there,
 use Rattle.bd_answer.specs.Session.{too_many_cursors, too_many_indexes}
 use Rattle.bd_bson.specs.declared.collection.Dump.{Dump}
 use Rattle.bd_bson.specs.Collection.{documents}
-use Rattle.bd_query.specs.FilterView.{filter_tree}
-use Rattle.bd_query.specs.declared.filter.Filter.{Filter}
+use Rattle.bd_filter.specs.FilterView.{filter_tree}
+use Rattle.bd_filter.specs.declared.filter.Filter.{Filter}
 use Rattle.bd_sort.specs.Selection.{hits_of, query_of}
 use Rattle.bd_sort.specs.Sorting.{with_first}
 use Rattle.bd_cursor.specs.declared.scan_position.ScanPosition.{ScanPosition}
@@ -17,8 +17,8 @@ use Rattle.bd_plan.specs.declared.choice.Choice.{Choice}
 use Rattle.bd_plan.specs.declared.choice.Choice.TheVariants as choices
 use Rattle.bd_path.specs.declared.path.Path.{Path}
 use Rattle.bd_request.specs.declared.request.Request.{Request}
-use Rattle.bd_cursor.specs.declared.session.Made.{Made}
-use Rattle.bd_cursor.specs.declared.cursor.Batch.{Batch}
+use Rattle.bd_request.specs.declared.results.Made.{Made}
+use Rattle.bd_request.specs.declared.results.Batch.{Batch}
 use Rattle.bd_cursor.specs.declared.cursor.Cursor.{Cursor}
 use Rattle.bd_cursor.specs.declared.remainder.Remainder.{Remainder}
 use Rattle.bd_cursor.specs.declared.remainder.Remainder.TheVariants as remainders
@@ -78,9 +78,6 @@ path_mark sparse path = record { path = string_bytes path.text; is_sparse = spar
 abbrev pub make_index : Bool → Dump → Path → Call
 make_index sparse dump path =
     make_call (path_mark sparse path) (index_counts (documents dump) (path_mark sparse path))
-
-abbrev pub made_counts : Made → IndexCounts
-made_counts m = record { entries = m.entries; is_multikey = m.multikey }
 
 -- there is none on the path, and fewer than sixteen
 pub record IsGranted (indexes : List IndexMark) (i : IndexMark) : Type 0 where

@@ -8,20 +8,9 @@ ghost use Rattle.bd_cursor.specs.SessionView.{given_batch, marked_token, open_cu
 
 use crate::digested_dump::DigestedDump;
 use crate::remainder::Remainder;
-use bd_request::{Request, Token, request_digest};
+use bd_request::{Batch, Request, Token, request_digest};
 use bd_value::NoMemory;
 use std::alloc::Global;
-
-/// What a cursor gives at once.
-#[derive(Debug, Drop)]
-pub struct Batch {
-    /// The numbers of the documents, in the order of the answer.
-    pub places: Vec<u32>,
-    /// Where the answer goes on after them; none where no document was given since the start.
-    pub token: Option<Token>,
-    /// Whether nothing is left. Then the cursor is closed.
-    pub end: bool,
-}
 
 /// An open cursor.
 #[derive(Drop)]

@@ -15,8 +15,8 @@
 //! assert!(rt; batch.places.len() == 1 && batch.end);
 //! ```
 //!
-//! - `session`: `Session`, its calls and `Made`: `specs/SessionView.antt`.
-//! - `cursor`: the open cursors, and `Batch`; `digested_dump`: the digest of a dump, taken once.
+//! - `session`: `Session` and its calls: `specs/SessionView.antt`.
+//! - `cursor`: the open cursors; `digested_dump`: the digest of a dump, taken once.
 //! - `remainder`: the places that a cursor has left: `scan_position`, where each document is looked at and there is no sort, and
 //!   `place_list`, where all are known.
 #![tactic(auto)]
@@ -28,7 +28,8 @@ mod remainder;
 mod scan_position;
 mod session;
 
-pub use bd_plan::{Choice, Explain, Plan};
-pub use bd_request::{Refused, Request, Token, dump_digest, request_digest};
-pub use cursor::Batch;
-pub use session::{Made, Session};
+pub use bd_plan::Choice;
+pub use bd_request::{
+    Batch, Explain, Made, Plan, Refused, Request, Token, dump_digest, request_digest,
+};
+pub use session::Session;

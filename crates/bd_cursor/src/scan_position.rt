@@ -4,12 +4,12 @@ ghost use Rattle.std.specs.Prelude.{◌≡◌, ◌<◌, IfOk, OnOk, List, None, 
 ghost use Rattle.bd_value.specs.Tree.{Doc};
 ghost use Rattle.bd_answer.specs.Answer.{answer, is_empty, rest};
 ghost use Rattle.bd_answer.specs.Source.{HandsOut};
-ghost use Rattle.bd_query.specs.FilterView.{filter_tree};
+ghost use Rattle.bd_filter.specs.FilterView.{filter_tree};
 ghost use Rattle.bd_sort.specs.Selection.{selection_of, hits_of};
 ghost use Rattle.bd_cursor.specs.SessionView.{scan_left_in, scan_left};
 
 use bd_bson::Dump;
-use bd_query::Filter;
+use bd_filter::Filter;
 use bd_request::Request;
 use bd_sort::is_match;
 use bd_value::NoMemory;

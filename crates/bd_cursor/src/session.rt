@@ -2,14 +2,14 @@
 
 ghost use Rattle.bd_index.specs.IndexView.{AreIndexesOf, AreIndexesOf-prop};
 
-use crate::cursor::{Batch, Cursor, close, place_of};
+use crate::cursor::{Cursor, close, place_of};
 use crate::digested_dump::DigestedDump;
 use crate::remainder::Remainder;
 use bd_bson::Dump;
 use bd_index::Index;
 use bd_path::Path;
-use bd_plan::{Choice, Explain, explain, index_on};
-use bd_request::{Refused, Request, Token, request_digest};
+use bd_plan::{Choice, explain, index_on};
+use bd_request::{Batch, Explain, Made, Refused, Request, Token, request_digest};
 use bd_value::NoMemory;
 use std::alloc::Global;
 
@@ -24,15 +24,6 @@ const LAST_ID: u64 = 9_223_372_036_854_775_807;
 
 /// The greatest size of a batch.
 const GREATEST_SIZE: u64 = 2_147_483_647;
-
-/// What is told of an index that was made.
-#[derive(Clone, Copy, Debug)]
-pub struct Made {
-    /// How many entries it has.
-    pub entries: u64,
-    /// Whether some document has two keys.
-    pub multikey: bool,
-}
 
 /// A dump, its indexes, and the cursors over it. A call that is refused changes nothing.
 #[derive(Drop)]
@@ -52,10 +43,11 @@ impl Session {
     ghost use Rattle.bd_answer.specs.SessionLaws.{new_state};
     ghost use Rattle.bd_bson.specs.Collection.{documents};
     ghost use Rattle.bd_index.specs.IndexView.{IsIndexOf};
-    ghost use Rattle.bd_plan.specs.Explanation.{index_counts, index_mark, told};
+    ghost use Rattle.bd_plan.specs.Explanation.{index_counts, index_mark};
     ghost use Rattle.bd_sort.specs.Selection.{query_of};
     ghost use Rattle.bd_cursor.specs.SessionView.{IsGranted, dump_of, given_batch, marked_token, path_mark, places_left, state_of, with_index};
-    ghost use Rattle.bd_cursor.specs.SessionView.{IsRefusedCall, explain_request, find_request, hint_of, made_counts, make_index, resume_request};
+    ghost use Rattle.bd_cursor.specs.SessionView.{IsRefusedCall, explain_request, find_request, hint_of, make_index, resume_request};
+    ghost use Rattle.bd_request.specs.Results.{made_counts, told};
 
     /// A session with no index and no cursor. It takes no memory.
     pub fn new(alloc: Global, dump: Dump) -> Session

@@ -11,8 +11,8 @@ use Rattle.bd_path.specs.Names.{Names}
 use Rattle.bd_path.specs.PathNames.{names_of}
 use Rattle.bd_path.specs.Sort.{sort_paths}
 use Rattle.bd_path.specs.declared.dir.Dir.{Dir}
-use Rattle.bd_query.specs.Filter.{Filter}
-use Rattle.bd_query.specs.FilterView.{filter_tree}
+use Rattle.bd_filter.specs.Filter.{Filter}
+use Rattle.bd_filter.specs.FilterView.{filter_tree}
 use Rattle.bd_request.specs.declared.request.Request.{Request}
 use Rattle.bd_bounds.specs.Bounds.{KeyBounds, KeySet, bounds}
 use Rattle.bd_index.specs.Entries.{is_multikey}

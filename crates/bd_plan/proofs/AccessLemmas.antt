@@ -25,9 +25,9 @@ use Rattle.bd_path.specs.Sort.{sort_paths}
 use Rattle.bd_path.specs.declared.dir.Dir.{Dir}
 use Rattle.bd_path.specs.declared.path.Path.{Path}
 use Rattle.bd_path.proofs.LawsLemmas.{has_a_key}
-use Rattle.bd_query.specs.Filter.{Filter}
-use Rattle.bd_query.specs.FilterMatch.{matches}
-use Rattle.bd_query.specs.FilterView.{filter_tree}
+use Rattle.bd_filter.specs.Filter.{Filter}
+use Rattle.bd_filter.specs.FilterMatch.{matches}
+use Rattle.bd_filter.specs.FilterView.{filter_tree}
 use Rattle.bd_request.specs.declared.request.Request.{Request}
 use Rattle.bd_bson.specs.Documents.{document_at}
 use Rattle.bd_sort.specs.Selection.{hits_of, order_of_keys}

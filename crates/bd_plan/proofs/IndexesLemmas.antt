@@ -8,7 +8,7 @@ use Rattle.std.proofs.lemmas.List.Quantifiers.{position-Some}
 use Rattle.bd_value.specs.Tree.{Doc}
 use Rattle.bd_answer.specs.Session.{IndexMark, is_on}
 use Rattle.bd_path.specs.Earliest.{SortPath}
-use Rattle.bd_query.specs.Filter.{Filter}
+use Rattle.bd_filter.specs.Filter.{Filter}
 use Rattle.bd_index.specs.declared.index.Index.{Index}
 use Rattle.bd_plan.specs.AccessPath.{access_on, named_access, scanned}
 use Rattle.bd_plan.specs.Explanation.{index_mark}

@@ -17,7 +17,7 @@ use Rattle.bd_answer.proofs.UnsortedLemmas.{all_places, unsorted_ordered}
 use Rattle.bd_path.specs.Names.{Names}
 use Rattle.bd_path.specs.PathNames.{names_of}
 use Rattle.bd_path.proofs.LawsLemmas.{sort_total}
-use Rattle.bd_query.specs.FilterView.{filter_tree}
+use Rattle.bd_filter.specs.FilterView.{filter_tree}
 use Rattle.bd_request.specs.declared.request.Request.{Request}
 use Rattle.bd_bson.specs.Documents.{document_at}
 use Rattle.bd_sort.specs.Selection.{selection_of, hits_of, order_of_keys}

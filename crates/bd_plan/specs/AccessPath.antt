@@ -7,7 +7,7 @@ use Rattle.bd_answer.specs.Session.{IndexMark, is_on}
 use Rattle.bd_path.specs.Earliest.{SortPath}
 use Rattle.bd_path.specs.Names.{Names, components_of}
 use Rattle.bd_path.specs.declared.dir.Dir.{Dir}
-use Rattle.bd_query.specs.Filter.{Filter}
+use Rattle.bd_filter.specs.Filter.{Filter}
 use Rattle.bd_bounds.specs.Bounds.{KeyBounds, bounds}
 use Rattle.bd_index.specs.Entries.{is_multikey}
 use Rattle.bd_plan.specs.declared.choice.Choice.{Choice}

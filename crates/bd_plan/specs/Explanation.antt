@@ -1,12 +1,12 @@
 -- What is told of how the documents of a request are found.
-use Rattle.std.specs.Prelude.{ℕ, List, count_by, length, string_bytes, Some, None, option_map}
+use Rattle.std.specs.Prelude.{ℕ, List, count_by, length, string_bytes, Some, None}
 use Rattle.std.specs.List.{filter, list_any, range_with_len}
 use Rattle.bd_value.specs.Tree.{Doc}
 use Rattle.bd_answer.specs.Answer.{matching}
-use Rattle.bd_answer.specs.Session.{Explanation, IndexCounts, IndexMark, PlanKind, by_index, by_scan, by_walk}
+use Rattle.bd_answer.specs.Session.{Explanation, IndexCounts, IndexMark, by_index, by_scan, by_walk}
 use Rattle.bd_path.specs.KeyList.{indexed_keys}
 use Rattle.bd_path.specs.Sort.{sort_paths}
-use Rattle.bd_query.specs.FilterView.{filter_tree}
+use Rattle.bd_filter.specs.FilterView.{filter_tree}
 use Rattle.bd_request.specs.declared.request.Request.{Request}
 use Rattle.bd_bson.specs.Documents.{document_at}
 use Rattle.bd_sort.specs.Selection.{selection_of}
@@ -16,9 +16,6 @@ use Rattle.bd_index.specs.BoundedPlaces.{has_key_in}
 use Rattle.bd_index.specs.declared.index.Index.{Index}
 use Rattle.bd_plan.specs.AccessPath.{AccessPath, access_of, bounded, mark_names, scanned, walked}
 use Rattle.bd_plan.specs.declared.choice.Choice.{Choice}
-use Rattle.bd_plan.specs.declared.explanation.Explain.{Explain}
-use Rattle.bd_plan.specs.declared.explanation.Plan.{Plan}
-use Rattle.bd_plan.specs.declared.explanation.Plan.TheVariants as plans
 
 abbrev pub index_mark : Index → IndexMark
 index_mark i = record { path = string_bytes i.path.text; is_sparse = i.sparse }
@@ -63,18 +60,3 @@ abbrev pub explanation_of : List Doc → Request → Choice → List IndexMark �
 explanation_of ds r choice indexes =
     explained_access ds (length (matching (selection_of ds r)))
     (access_of ds (filter_tree r.filter) (sort_paths r.sort.items) choice indexes)
-
-abbrev pub plan_kind : Plan → PlanKind
-plan_kind plans.Scan = by_scan
-plan_kind plans.Index = by_index
-plan_kind plans.Walk = by_walk
-
--- what is told, as the machine of sessions has it
-abbrev pub told : Explain → Explanation
-told e = record {
-  plan = plan_kind e.plan;
-  index = option_map (λ path. string_bytes path) e.index;
-  entries = e.entries;
-  looked_at = e.documents;
-  matches = e.matches;
-}

@@ -6,7 +6,7 @@ ghost use Rattle.bd_answer.specs.Answer.{at_most};
 ghost use Rattle.bd_answer.specs.Source.{places_after};
 ghost use Rattle.bd_bson.specs.Collection.{documents};
 ghost use Rattle.bd_path.specs.Sort.{sort_paths};
-ghost use Rattle.bd_query.specs.FilterView.{filter_tree};
+ghost use Rattle.bd_filter.specs.FilterView.{filter_tree};
 ghost use Rattle.bd_sort.specs.Selection.{selection_of, hits_of};
 ghost use Rattle.bd_index.specs.IndexView.{AreIndexesOf};
 ghost use Rattle.bd_plan.specs.AccessPath.{access_of, scanned};

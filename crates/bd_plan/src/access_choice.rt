@@ -4,7 +4,7 @@ ghost use Rattle.std.specs.Prelude.{IfOk, map};
 ghost use Rattle.bd_bson.specs.Collection.{documents};
 ghost use Rattle.bd_bson.specs.declared.collection.Dump.{Dump};
 ghost use Rattle.bd_path.specs.Sort.{sort_paths};
-ghost use Rattle.bd_query.specs.FilterView.{filter_tree};
+ghost use Rattle.bd_filter.specs.FilterView.{filter_tree};
 ghost use Rattle.bd_index.specs.IndexView.{AreIndexesOf, IsIndexOf};
 ghost use Rattle.bd_plan.specs.AccessPath.{first_bounded, first_walked, named_access, scanned};
 ghost use Rattle.bd_plan.specs.AccessView.{Reaches};

@@ -20,20 +20,18 @@
 //!   answer.
 //! - `serving`, `access_choice`: whether an index serves a request, and the one that is taken.
 //! - `bounded_places`: the places inside bounds as a source.
-//! - `explanation`, `reading`: `explain`, what is told of it: `specs/Explanation.antt`.
+//! - `reading`: `explain`, what is told of it: `specs/Explanation.antt`.
 #![tactic(auto)]
 
 mod access;
 mod access_choice;
 mod bounded_places;
 mod choice;
-mod explanation;
 mod indexes;
 mod reading;
 mod serving;
 
 pub use access::Access;
 pub use choice::Choice;
-pub use explanation::{Explain, Plan};
 pub use indexes::index_on;
 pub use reading::explain;

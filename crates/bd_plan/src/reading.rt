@@ -4,19 +4,19 @@ ghost use Rattle.std.specs.Prelude.{◌≡◌, ◌<◌, All, IfOk, count_by, len
 ghost use Rattle.std.specs.List.{range_with_len};
 ghost use Rattle.bd_answer.specs.Answer.{matching};
 ghost use Rattle.bd_bson.specs.Collection.{documents};
-ghost use Rattle.bd_query.specs.FilterView.{filter_tree};
+ghost use Rattle.bd_filter.specs.FilterView.{filter_tree};
 ghost use Rattle.bd_sort.specs.Selection.{selection_of, hits_of};
 ghost use Rattle.bd_index.specs.IndexView.{AreIndexesOf};
 ghost use Rattle.bd_plan.specs.AccessView.{IsAccessOf, access_path};
-ghost use Rattle.bd_plan.specs.Explanation.{explained_access, explanation_of, index_mark, told};
+ghost use Rattle.bd_plan.specs.Explanation.{explained_access, explanation_of, index_mark};
+ghost use Rattle.bd_request.specs.Results.{told};
 
 use crate::access::Access;
 use crate::choice::Choice;
-use crate::explanation::{Explain, Plan};
 use bd_bson::Dump;
+use bd_filter::Filter;
 use bd_index::Index;
-use bd_query::Filter;
-use bd_request::Request;
+use bd_request::{Explain, Plan, Request};
 use bd_sort::is_match;
 use bd_value::NoMemory;
 use std::alloc::Global;

@@ -4,7 +4,7 @@ ghost use Rattle.std.specs.Prelude.{◌≡◌, IfOk};
 ghost use Rattle.bd_bson.specs.Collection.{documents};
 ghost use Rattle.bd_bson.specs.declared.collection.Dump.{Dump};
 ghost use Rattle.bd_path.specs.Sort.{sort_paths};
-ghost use Rattle.bd_query.specs.FilterView.{filter_tree};
+ghost use Rattle.bd_filter.specs.FilterView.{filter_tree};
 ghost use Rattle.bd_bounds.specs.BoundsView.{seen_bounds};
 ghost use Rattle.bd_index.specs.IndexView.{IsIndexOf};
 ghost use Rattle.bd_plan.specs.AccessPath.{mark_bounds, serving_bounds, walk_dir};
@@ -13,7 +13,7 @@ ghost use Rattle.bd_plan.specs.Explanation.{index_mark};
 use bd_bounds::Bounds;
 use bd_index::Index;
 use bd_path::{Dir, Path};
-use bd_query::Filter;
+use bd_filter::Filter;
 use bd_value::NoMemory;
 use std::alloc::Global;
 

@@ -4,11 +4,8 @@ use Rattle.std.specs.List.{list_any}
 use Rattle.bd_value.specs.Parts.{elements_in}
 use Rattle.bd_value.specs.Tree.{Tree}
 use Rattle.bd_path.specs.Reach.{End}
-use Rattle.bd_query.specs.FilterMatch.{candidates, is_nonempty}
-
-pub any_mapped : {A B : Type 0} (f : B → Bool) (h : A → B) (xs : List A) → list_any f (map h xs) ≡ list_any (λ x. f (h x)) xs
-any_mapped f h [] = refl
-any_mapped f h (x ∷ xs) = ap (λ b. f (h x) || b) (any_mapped f h xs)
+use Rattle.bd_filter.specs.FilterMatch.{candidates, is_nonempty}
+use Rattle.bd_filter.proofs.MembersLemmas.{any_alike, any_mapped}
 
 -- the candidates of a value are it and its elements
 pub of_value : (f : End → Bool) (t : Tree) → (f (Some t) || list_any (λ x. f (Some x)) (elements_in t)) ≡ list_any f (candidates (Some t))
@@ -37,10 +34,6 @@ none_of_all (x ∷ xs) = none_of_all xs
 any_swapped : {A B : Type 0} (f : A → B → Bool) (xs : List A) (ys : List B) → list_any (λ x. list_any (f x) ys) xs ≡ list_any (λ y. list_any (λ x. f x y) xs) ys
 any_swapped f [] ys = none_of_all ys
 any_swapped f (x ∷ xs) ys = ap (λ b. list_any (f x) ys || b) (any_swapped f xs ys) ∙ any_of_either (f x) (λ y. list_any (λ x. f x y) xs) ys
-
-pub any_alike : {A : Type 0} (f g : A → Bool) → ((x : A) → f x ≡ g x) → (xs : List A) → list_any f xs ≡ list_any g xs
-any_alike f g is [] = refl
-any_alike f g is (x ∷ xs) = rw (is x, any_alike f g is xs) refl
 
 -- a candidate with some member is a member with some candidate
 pub members_first : {A : Type 0} (f : End → A → Bool) (es : List End) (xs : List A)

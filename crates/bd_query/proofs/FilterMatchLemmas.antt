@@ -1,9 +1,9 @@
 -- Whether a document matches a filter, part by part.
 use Rattle.std.proofs.Common.{◌+◌, ℕ, suc, map}
-use Rattle.bd_query.specs.Filter.{Filter, all_of, some_of, none_of, at_path, Filters, no_filters, filter}
-use Rattle.bd_query.specs.Filter.{Operator, equals, compares, is_in, has_all, has_type, has_size, exists, negates, has_element, has_document}
-use Rattle.bd_query.specs.Filter.{Operators, no_operators, operator, filters_from, operators_from}
-use Rattle.bd_query.specs.FilterView.{filter_tree, operator_tree}
+use Rattle.bd_filter.specs.Filter.{Filter, all_of, some_of, none_of, at_path, Filters, no_filters, filter}
+use Rattle.bd_filter.specs.Filter.{Operator, equals, compares, is_in, has_all, has_type, has_size, exists, negates, has_element, has_document}
+use Rattle.bd_filter.specs.Filter.{Operators, no_operators, operator, filters_from, operators_from}
+use Rattle.bd_filter.specs.FilterView.{filter_tree, operator_tree}
 use Rattle.bd_query.specs.declared.body.Body.{Body}
 use Rattle.bd_query.specs.declared.body.Body.TheVariants as bodies
 

@@ -4,9 +4,9 @@ use Rattle.std.specs.List.{list_any}
 use Rattle.bd_value.specs.Parts.{elements_in}
 use Rattle.bd_value.specs.Tree.{Tree}
 use Rattle.bd_path.specs.Reach.{End, is_document}
-use Rattle.bd_query.specs.Filter.{filters_from, operators_from}
-use Rattle.bd_query.specs.FilterMatch.{all_accept, all_match, is_value}
-use Rattle.bd_query.specs.FilterView.{filter_tree, operator_tree}
+use Rattle.bd_filter.specs.Filter.{filters_from, operators_from}
+use Rattle.bd_filter.specs.FilterMatch.{all_accept, all_match, is_value}
+use Rattle.bd_filter.specs.FilterView.{filter_tree, operator_tree}
 use Rattle.bd_query.specs.declared.body.Body.{Body}
 use Rattle.bd_query.specs.declared.body.Body.TheVariants.{Operators, Filters}
 

@@ -1,6 +1,6 @@
 //! The body of `$elemMatch`.
 
-use crate::filter::{Filter, Operator};
+use bd_filter::{Filter, Operator};
 
 /// What `$elemMatch` asks of an element.
 #[derive(Clone, Copy)]

@@ -6,12 +6,11 @@ ghost use Rattle.bd_value.specs.Parts.{elements_in};
 ghost use Rattle.bd_value.specs.View.{tree_of};
 ghost use Rattle.bd_path.specs.PathNames.{names_of};
 ghost use Rattle.bd_path.specs.Reach.{reach};
-ghost use Rattle.bd_query.specs.FilterMatch.{any_candidate, any_equal, candidates, is_nonempty, is_of_size, is_of_type, is_related, is_there, is_value, value_or_null};
-ghost use Rattle.bd_query.specs.Members.{trees_in};
+ghost use Rattle.bd_filter.specs.FilterMatch.{any_candidate, any_equal, candidates, is_nonempty, is_of_size, is_of_type, is_related, is_there, is_value, value_or_null};
+ghost use Rattle.bd_filter.specs.Members.{trees_in};
 
-use crate::members::Members;
-use crate::relation::Relation;
 use crate::value_test::{EqualityTest, KindTest, MemberTest, RelationTest, ValueTest, any_element};
+use bd_filter::{Members, Relation};
 use bd_path::{EndTest, Path, any_end};
 use bd_value::{Kind, Reading, Tree, Value};
 

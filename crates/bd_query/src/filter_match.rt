@@ -10,18 +10,17 @@ ghost use Rattle.bd_path.specs.PathNames.{names_of};
 ghost use Rattle.bd_path.specs.Reach.{document_ends, ends, index_ends, reach};
 ghost use Rattle.bd_path.specs.Visits.{GathersNone};
 ghost use Rattle.bd_query.specs.Body.{is_suited, suits};
-ghost use Rattle.bd_query.specs.Filter.{filters_from, operators_from};
-ghost use Rattle.bd_query.specs.FilterMatch.{accepts, all_accept, all_hold, all_match, holds, matches, some_match};
-ghost use Rattle.bd_query.specs.FilterView.{filter_tree, operator_tree};
+ghost use Rattle.bd_filter.specs.Filter.{filters_from, operators_from};
+ghost use Rattle.bd_filter.specs.FilterMatch.{accepts, all_accept, all_hold, all_match, holds, matches, some_match};
+ghost use Rattle.bd_filter.specs.FilterView.{filter_tree, operator_tree};
 
 use crate::body::Body;
 use crate::end_test::{
     CandidateTest, PresenceTest, SizeTest, any_member, any_of_type, any_related, equals_all,
     has_size,
 };
-use crate::filter::{Filter, Operator};
-use crate::relation::Relation;
 use crate::value_test::{EqualityTest, KindTest, ValueTest, equals_each, equals_some, is_related};
+use bd_filter::{Filter, Operator, Relation};
 use bd_path::{Component, Path, Visits, any_end, is_document};
 use bd_value::{Kind, Reading};
 

@@ -1,4 +1,4 @@
-//! Filters: what a document of a query asks of other documents.
+//! Queries: which documents match a filter.
 //!
 //! MongoDB manual, "Query and Projection Operators": comparison, logical, element and array operators, with whole numbers and
 //! without regular expressions. What is left out is refused by name and place.
@@ -12,35 +12,19 @@
 //! assert!(rt; matches(&filter, Tree::Doc(&shirt)));
 //! ```
 //!
-//! - `filter`: `Filter` and `Operator`, to match on: `specs/Filter.antt`, and `specs/FilterView.antt` for what they stand for.
-//! - `members`: `Members`, those of `$in` and `$nin`, looked up by binary search: `specs/Members.antt`.
-//! - `fault`: `FilterFault`, which pair or member is no part of a filter: `specs/Fault.antt`.
-//! - `filter_of`: `parse`, the filter that a document is, or its first fault: `specs/FilterOf.antt`.
-//! - `laws`: a document has no filter exactly where a pair or member of it breaks a rule: `specs/FilterBad.antt`.
-//! - `word`, `plain`, `operand`, `types`, `operand_types`: names that stand for something, and operands that are values.
-//! - `filter_match`: `matches`, whether a value matches a filter: `specs/FilterMatch.antt`.
-//! - `relation`, `value_test`, `end_test`, `body`: what one value, an end of a path and an element for `$elemMatch` is asked.
+//! - `filter_match`: `matches`, whether a value matches a filter.
+//! - `value_test`, `end_test`, `body`: what one value, an end of a path and an element for `$elemMatch` is asked.
+//!
+//! Filters themselves are those of `bd_filter`, whose calls stand here too.
 #![tactic(auto)]
 
 mod body;
 mod end_test;
-mod fault;
-mod filter;
 mod filter_match;
-mod filter_of;
-mod laws;
-mod members;
-mod operand;
-mod operand_types;
-mod plain;
-mod relation;
-mod types;
 mod value_test;
-mod word;
 
-pub use fault::{FilterFault, FilterFaultKind};
-pub use filter::{Filter, Operator};
+pub use bd_filter::{
+    Filter, FilterFault, FilterFaultKind, Members, Operator, bad_documents_alone_are_refused,
+    parse,
+};
 pub use filter_match::matches;
-pub use filter_of::parse;
-pub use laws::bad_documents_alone_are_refused;
-pub use members::Members;

@@ -10,9 +10,9 @@ use Rattle.bd_diagnose.specs.declared.json_fault.JsonFaultKind.TheVariants as js
 use Rattle.bd_path.specs.PathFault.{path_fault_words}
 use Rattle.bd_path.specs.declared.path_fault.PathFault.{PathFault}
 use Rattle.bd_path.specs.declared.path_fault.PathFault.TheVariants as paths
-use Rattle.bd_query.specs.Fault.{Refusal, filter_fault_words, refusal_of}
-use Rattle.bd_query.specs.declared.fault.FilterFaultKind.{FilterFaultKind}
-use Rattle.bd_query.specs.declared.fault.FilterFaultKind.TheVariants as filters
+use Rattle.bd_filter.specs.Fault.{Refusal, filter_fault_words, refusal_of}
+use Rattle.bd_filter.specs.declared.fault.FilterFaultKind.{FilterFaultKind}
+use Rattle.bd_filter.specs.declared.fault.FilterFaultKind.TheVariants as filters
 use Rattle.bd_request.specs.Refused.{refused_number, refused_words}
 use Rattle.bd_request.specs.declared.refused.Refused.{Refused}
 use Rattle.bd_request.specs.declared.refused.Refused.TheVariants as reasons

@@ -1,11 +1,10 @@
 -- The reply that one in memory stands for.
 use Rattle.std.specs.Prelude.{List, option_map}
 use Rattle.bd_value.specs.Tree.{Doc}
+use Rattle.bd_request.specs.Results.{made_counts, told}
 use Rattle.bd_request.specs.Token.{token_text}
-use Rattle.bd_plan.specs.Explanation.{told}
 use Rattle.bd_bson.specs.Documents.{documents_at}
-use Rattle.bd_cursor.specs.SessionView.{made_counts}
-use Rattle.bd_cursor.specs.declared.cursor.Batch.{Batch}
+use Rattle.bd_request.specs.declared.results.Batch.{Batch}
 use Rattle.bd_reply.specs.Refusal.{command_refusal, json_refusal, path_refusal, session_refusal}
 use Rattle.bd_reply.specs.Reply.{LineReply, ToldRefusal, done, explains, gives, makes, opens, refuses}
 use Rattle.bd_reply.specs.declared.refusal.LineRefusal.{LineRefusal}

@@ -10,7 +10,7 @@ ghost use Rattle.bd_reply.specs.MemberView.{member_pair, reply_value};
 ghost use Rattle.bd_reply.specs.Reply.{boolean_value, documents_value};
 
 use bd_bson::Dump;
-use bd_extjson::{write_node, write_number, write_path, write_string};
+use bd_text::{write_node, write_number, write_path, write_string};
 use bd_value::NoMemory;
 
 /// A value of a reply.

@@ -4,10 +4,10 @@ ghost use Rattle.std.specs.Prelude.{◌≡◌};
 ghost use Rattle.bd_reply.specs.Refusal.{filter_fault_number, json_fault_number, path_fault_number};
 
 use bd_command::CommandFault;
-use bd_cursor::Refused;
 use bd_diagnose::{JsonFault, JsonFaultKind};
 use bd_path::PathFault;
-use bd_query::FilterFaultKind;
+use bd_request::Refused;
+use bd_filter::FilterFaultKind;
 
 /// Why a line has no result, by the layer that refuses it.
 #[derive(Drop)]

@@ -1,7 +1,7 @@
 //! What a line is answered with.
 
 use crate::refusal::LineRefusal;
-use bd_cursor::{Batch, Explain, Made};
+use bd_request::{Batch, Explain, Made};
 
 /// The reply to a line.
 #[derive(Drop)]

@@ -3,10 +3,9 @@
 ghost use Rattle.std.specs.Prelude.{◌≡◌, ◌++◌, [], IfOk, OnErr, OnOk, option_map, string_bytes};
 ghost use Rattle.std.specs.Io.{StartsWith};
 ghost use Rattle.bd_bson.specs.Collection.{documents};
-ghost use Rattle.bd_query.specs.Fault.{refusal_of};
+ghost use Rattle.bd_filter.specs.Fault.{refusal_of};
 ghost use Rattle.bd_request.specs.Token.{token_text};
-ghost use Rattle.bd_plan.specs.Explanation.{plan_kind, told};
-ghost use Rattle.bd_cursor.specs.SessionView.{made_counts};
+ghost use Rattle.bd_request.specs.Results.{made_counts, plan_kind, told};
 ghost use Rattle.bd_reply.specs.MemberView.{reply_value};
 ghost use Rattle.bd_reply.specs.Refusal.{filter_refusal, json_fault_byte, json_refusal};
 ghost use Rattle.bd_reply.specs.Reply.{explains, makes, plan_name, refuses, reply_text, text_or_null};
@@ -16,9 +15,9 @@ use crate::member::{Field, write_members};
 use crate::refusal::{LineRefusal, filter_number, json_number, path_number};
 use crate::reply::Reply;
 use bd_bson::Dump;
-use bd_cursor::{Batch, Explain, Made, Plan, Refused, Token};
 use bd_diagnose::{JsonFault, JsonFaultKind};
-use bd_query::FilterFault;
+use bd_filter::FilterFault;
+use bd_request::{Batch, Explain, Made, Plan, Refused, Token};
 use bd_value::NoMemory;
 use std::alloc::Global;
 

@@ -1,7 +1,7 @@
 -- Why a call is refused, in words and by its number.
 use Rattle.std.specs.Prelude.{◌≡◌, ◌⊎◌, ℕ, List, Result, Err, codes}
-use Rattle.bd_query.specs.Fault.{Refusal, filter_fault_words, refusal_of}
-use Rattle.bd_query.specs.Filter.{Filter}
+use Rattle.bd_filter.specs.Fault.{Refusal, filter_fault_words, refusal_of}
+use Rattle.bd_filter.specs.Filter.{Filter}
 use Rattle.bd_request.specs.declared.refused.Refused.{Refused}
 use Rattle.bd_request.specs.declared.refused.Refused.TheVariants as reasons
 

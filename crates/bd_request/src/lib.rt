@@ -1,4 +1,4 @@
-//! What is asked of a dump, and where its answer goes on.
+//! What is asked of a dump, where its answer resumes, and what a call of a session gives.
 //!
 //! A request is a filter, a sort by up to four paths, and how many documents are passed over and given at most (MongoDB manual,
 //! "cursor.sort()", "cursor.skip()", "cursor.limit()"). A token is a text that tells where the answer of a request goes on.
@@ -19,15 +19,18 @@
 //! - `token`: `Token`, to and from its text: `specs/Token.antt`.
 //! - `digest`: what ties a token to a dump and a request: `specs/Digest.antt`.
 //! - `refused`: `Refused`, why a request, a token or a call of a session is refused: `specs/Refused.antt`.
+//! - `results`: `Batch`, `Made`, `Explain`, what the calls of a session give: `specs/Results.antt`.
 #![tactic(auto)]
 
 mod digest;
 mod refused;
 mod request;
+mod results;
 mod sort;
 mod token;
 
 pub use digest::{dump_digest, request_digest};
 pub use refused::Refused;
 pub use request::Request;
+pub use results::{Batch, Explain, Made, Plan};
 pub use token::Token;

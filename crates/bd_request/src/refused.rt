@@ -4,7 +4,7 @@ ghost use Rattle.std.specs.Prelude.{◌≡◌};
 ghost use Rattle.bd_request.specs.Refused.{refused_number, refused_words};
 ghost use Rattle.bd_request.specs.declared.refused.Refused.TheVariants.{NoMemory};
 
-use bd_query::FilterFault;
+use bd_filter::FilterFault;
 use std::alloc::{AllocError, AllocFailed};
 use thiserror::Error;
 

@@ -3,17 +3,17 @@
 ghost use Rattle.std.specs.Prelude.{◌≡◌, ◌++◌, IfErr, IfOk, Ok, OnOk, codes, decimal};
 ghost use Rattle.bd_value.specs.Tree.{int32, leaf};
 ghost use Rattle.bd_value.specs.View.{pairs, tree_of};
-ghost use Rattle.bd_query.specs.FilterOf.{filter_of};
-ghost use Rattle.bd_query.specs.FilterView.{filter_tree};
+ghost use Rattle.bd_filter.specs.FilterOf.{filter_of};
+ghost use Rattle.bd_filter.specs.FilterView.{filter_tree};
 ghost use Rattle.bd_request.specs.Request.{AsksFor, RefusesRequest, direction_number, request_text, sort_written};
 ghost use Rattle.bd_request.specs.Refused.{TellsFilter};
 ghost use Rattle.bd_request.specs.Sort.{direction_of};
 
 use crate::refused::Refused;
 use crate::sort::{direction_of, read_sort};
-use bd_extjson::{write_doc, write_number};
+use bd_text::{write_doc, write_number};
 use bd_path::{Dir, Path};
-use bd_query::{Filter, FilterFaultKind, parse};
+use bd_filter::{Filter, FilterFaultKind, parse};
 use bd_value::{Document, NoMemory, Reading, Tree, Value};
 use std::alloc::Global;
 

@@ -7,9 +7,9 @@ use Rattle.bd_path.specs.Earliest.{SortPath}
 use Rattle.bd_path.specs.Names.{Names}
 use Rattle.bd_path.specs.Path.{path_of}
 use Rattle.bd_path.specs.declared.path_fault.PathFault.{PathFault}
-use Rattle.bd_query.specs.Fault.{Refusal}
-use Rattle.bd_query.specs.Filter.{Filter}
-use Rattle.bd_query.specs.FilterOf.{filter_of}
+use Rattle.bd_filter.specs.Fault.{Refusal}
+use Rattle.bd_filter.specs.Filter.{Filter}
+use Rattle.bd_filter.specs.FilterOf.{filter_of}
 use Rattle.bd_request.specs.Request.{greatest_count, request_text}
 use Rattle.bd_request.specs.Sort.{sort_of}
 use Rattle.bd_request.specs.Token.{token_of}

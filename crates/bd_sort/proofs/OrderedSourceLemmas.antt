@@ -11,7 +11,7 @@ use Rattle.bd_answer.specs.Source.{IsSource, passes, places_after}
 use Rattle.bd_answer.proofs.SourceLemmas.{batch_in_order}
 use Rattle.bd_path.proofs.LawsLemmas.{sort_total}
 use Rattle.bd_path.specs.Sort.{sort_paths}
-use Rattle.bd_query.specs.FilterView.{filter_tree}
+use Rattle.bd_filter.specs.FilterView.{filter_tree}
 use Rattle.bd_request.specs.declared.request.Request.{Request}
 use Rattle.bd_bson.specs.Documents.{document_at}
 use Rattle.bd_sort.specs.Selection.{selection_of, hits_of, order_of_keys}

@@ -15,7 +15,7 @@ use Rattle.bd_value.specs.Tree.{Doc, leaf}
 use Rattle.bd_path.specs.Earliest.{SortPath, dir_cmp, sort_key}
 use Rattle.bd_path.specs.Sort.{sort_paths}
 use Rattle.bd_path.proofs.LawsLemmas.{sort_total}
-use Rattle.bd_query.specs.FilterView.{filter_tree}
+use Rattle.bd_filter.specs.FilterView.{filter_tree}
 use Rattle.bd_answer.specs.Answer.{at_most, before}
 use Rattle.bd_answer.specs.Source.{IsSource, passes, places_after}
 use Rattle.bd_answer.proofs.AnswerLemmas.{in_contains}

@@ -9,9 +9,9 @@ use Rattle.bd_bson.specs.Documents.{document_at}
 use Rattle.bd_bson.specs.declared.collection.Dump.{Dump}
 use Rattle.bd_path.specs.Earliest.{SortPath, sort_cmp}
 use Rattle.bd_path.specs.Sort.{sort_paths}
-use Rattle.bd_query.specs.Filter.{Filter}
-use Rattle.bd_query.specs.FilterMatch.{matches}
-use Rattle.bd_query.specs.FilterView.{filter_tree}
+use Rattle.bd_filter.specs.Filter.{Filter}
+use Rattle.bd_filter.specs.FilterMatch.{matches}
+use Rattle.bd_filter.specs.FilterView.{filter_tree}
 use Rattle.bd_request.specs.Digest.{token_digest}
 use Rattle.bd_request.specs.declared.request.Request.{Request}
 

@@ -6,7 +6,7 @@ ghost use Rattle.bd_answer.specs.AnswerLaws.{IsAscending};
 ghost use Rattle.bd_answer.specs.Source.{is_after, passes, places_after};
 ghost use Rattle.bd_bson.specs.Collection.{documents};
 ghost use Rattle.bd_path.specs.Sort.{sort_paths};
-ghost use Rattle.bd_query.specs.FilterView.{filter_tree};
+ghost use Rattle.bd_filter.specs.FilterView.{filter_tree};
 ghost use Rattle.bd_sort.specs.Selection.{selection_of, hits_of, order_of_keys};
 ghost use Rattle.bd_sort.specs.Sorting.{has_enough};
 

@@ -14,10 +14,10 @@ use Rattle.bd_path.specs.Path.{path_of}
 use Rattle.bd_path.specs.PathFault.{path_fault_words}
 use Rattle.bd_path.specs.Sort.{sort_paths}
 use Rattle.bd_path.specs.declared.path_fault.PathFault.{PathFault}
-use Rattle.bd_query.specs.Fault.{Refusal, filter_fault_words, refusal_of}
-use Rattle.bd_query.specs.Filter.{Filter}
-use Rattle.bd_query.specs.FilterOf.{filter_of}
-use Rattle.bd_query.specs.FilterView.{filter_tree}
+use Rattle.bd_filter.specs.Fault.{Refusal, filter_fault_words, refusal_of}
+use Rattle.bd_filter.specs.Filter.{Filter}
+use Rattle.bd_filter.specs.FilterOf.{filter_of}
+use Rattle.bd_filter.specs.FilterView.{filter_tree}
 use Rattle.bd_request.specs.Refused.{refused_words}
 use Rattle.bd_request.specs.Request.{greatest_count, request_text}
 use Rattle.bd_request.specs.Sort.{sort_of}

@@ -1,7 +1,7 @@
 //! What the words of `find` ask for.
 ghost use Rattle.std.specs.Prelude.{◌≡◌, IfErr, IfOk, Ok, OnOk, option_map, string_bytes, true};
 ghost use Rattle.bd_value.specs.View.{pairs};
-ghost use Rattle.bd_query.specs.Fault.{refusal_of};
+ghost use Rattle.bd_filter.specs.Fault.{refusal_of};
 ghost use Rattle.bd_request.specs.Request.{AsksFor};
 ghost use Rattle.bd_command_line.specs.FindWords.{find_words_of};
 ghost use Rattle.bd_cli.specs.Find.Asking.{AsksInDocuments, AsksInWords, NamesIndex, ReadsText, ReadsToken, TellsAskingFault, TellsRefused, fits_batch, index_fault_text, json_fault_text, refusal_text, refused_text, page_request_of};
@@ -12,7 +12,7 @@ use bd_cursor::{Refused, Request, Token};
 use bd_diagnose::{JsonFault, JsonFaultKind};
 use bd_extjson::{read_doc, write_number, write_path};
 use bd_path::{Path, PathFault};
-use bd_query::FilterFault;
+use bd_filter::FilterFault;
 use bd_value::{Document, NoMemory};
 use std::alloc::{AllocError, Global};
 

@@ -1,8 +1,8 @@
 use Rattle.std.proofs.Common.{◌+◌, drop, map, Some, sym, ap, ◌∙◌}
 use Rattle.std.proofs.lemmas.List.{at_drop_all}
 use Rattle.bd_path.specs.Names.{component_names}
-use Rattle.bd_query.specs.Filter.{filters_from, operators_from}
-use Rattle.bd_query.specs.FilterView.{filter_tree, operator_tree}
+use Rattle.bd_filter.specs.Filter.{filters_from, operators_from}
+use Rattle.bd_filter.specs.FilterView.{filter_tree, operator_tree}
 use Rattle.bd_bounds.specs.Bounds.{KeyBounds, all_bounds, bounds, bounds_at, conjunction, disjunction, operator_bounds, some_bounds}
 use Rattle.bd_bounds.specs.BoundsView.{parts_bounds, seen_bounds}
 use Rattle.bd_bounds.proofs.BoundsViewLemmas.{keys_within-Or}

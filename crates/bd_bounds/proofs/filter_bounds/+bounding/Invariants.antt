@@ -1,7 +1,7 @@
 use Rattle.std.proofs.Common.{◌≡◌, drop, map, Some}
 use Rattle.bd_path.specs.Names.{component_names}
-use Rattle.bd_query.specs.Filter.{filters_from, operators_from}
-use Rattle.bd_query.specs.FilterView.{filter_tree, operator_tree}
+use Rattle.bd_filter.specs.Filter.{filters_from, operators_from}
+use Rattle.bd_filter.specs.FilterView.{filter_tree, operator_tree}
 use Rattle.bd_bounds.specs.Bounds.{all_bounds, conjunction, disjunction, operator_bounds, some_bounds}
 use Rattle.bd_bounds.specs.BoundsView.{parts_bounds}
 use Rattle.bd_bounds.proofs.FilterBoundsLemmas.{some_parts}

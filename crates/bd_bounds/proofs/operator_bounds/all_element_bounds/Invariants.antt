@@ -1,6 +1,6 @@
 use Rattle.std.proofs.Common.{◌≡◌, false, drop, map}
-use Rattle.bd_query.specs.Filter.{operators_from}
-use Rattle.bd_query.specs.FilterView.{operator_tree}
+use Rattle.bd_filter.specs.Filter.{operators_from}
+use Rattle.bd_filter.specs.FilterView.{operator_tree}
 use Rattle.bd_bounds.specs.Bounds.{all_element_bounds, conjunction}
 use Rattle.bd_bounds.specs.BoundsView.{parts_bounds}
 use Rattle.bd_bounds.proofs.operator_bounds.all_element_bounds.Given as goal

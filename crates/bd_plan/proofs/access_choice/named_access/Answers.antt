@@ -2,7 +2,7 @@ use Rattle.std.proofs.Common.{◌≡◌, Option, Some, None, false, cond, ap, sy
 use Rattle.bd_bson.specs.Collection.{documents}
 use Rattle.bd_path.specs.Sort.{sort_paths}
 use Rattle.bd_path.specs.declared.dir.Dir.{Dir}
-use Rattle.bd_query.specs.FilterView.{filter_tree}
+use Rattle.bd_filter.specs.FilterView.{filter_tree}
 use Rattle.bd_bounds.specs.BoundsView.{seen_bounds}
 use Rattle.bd_plan.specs.AccessPath.{bounded, mark_bounds, scanned, serving_bounds, walk_dir, walk_or}
 use Rattle.bd_plan.specs.Explanation.{index_mark}

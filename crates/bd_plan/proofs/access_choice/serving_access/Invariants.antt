@@ -1,7 +1,7 @@
 use Rattle.std.proofs.Common.{◌≡◌, drop, map}
 use Rattle.bd_bson.specs.Collection.{documents}
 use Rattle.bd_bson.specs.declared.collection.Dump.{Dump}
-use Rattle.bd_query.specs.FilterView.{filter_tree}
+use Rattle.bd_filter.specs.FilterView.{filter_tree}
 use Rattle.bd_index.specs.IndexView.{AreIndexesOf}
 use Rattle.bd_plan.specs.AccessPath.{AccessPath, first_bounded}
 use Rattle.bd_plan.specs.Explanation.{index_mark}

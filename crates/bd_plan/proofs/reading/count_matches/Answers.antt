@@ -1,6 +1,6 @@
 use Rattle.std.proofs.Common.{◌≡◌, ℕ, Bool, cond, ap, sym, ◌∙◌, arith}
 use Rattle.bd_bson.specs.Collection.{documents}
-use Rattle.bd_query.specs.FilterView.{filter_tree}
+use Rattle.bd_filter.specs.FilterView.{filter_tree}
 use Rattle.bd_sort.specs.Selection.{hits_of}
 use Rattle.bd_plan.proofs.ReadingLemmas.{count_more}
 use Rattle.bd_plan.proofs.reading.count_matches.Goals.{then-is_match, else-is_match}

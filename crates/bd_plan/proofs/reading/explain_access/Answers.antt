@@ -5,7 +5,7 @@ use Rattle.bd_answer.specs.Answer.{matching}
 use Rattle.bd_answer.specs.Session.{by_index, by_scan, by_walk}
 use Rattle.bd_bson.specs.Collection.{documents}
 use Rattle.bd_path.specs.declared.path.Path.{Path}
-use Rattle.bd_query.specs.FilterView.{filter_tree}
+use Rattle.bd_filter.specs.FilterView.{filter_tree}
 use Rattle.bd_sort.specs.Selection.{selection_of, hits_of}
 use Rattle.bd_bounds.specs.BoundsView.{seen_bounds}
 use Rattle.bd_plan.specs.AccessView.{IsAccessOf, access_path}

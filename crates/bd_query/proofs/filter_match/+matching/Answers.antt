@@ -14,11 +14,11 @@ use Rattle.bd_path.proofs.PositionsLemmas as at
 use Rattle.bd_path.proofs.ReachLemmas as down
 use Rattle.bd_path.proofs.VisitsLemmas as walked
 use Rattle.bd_query.specs.Body.{is_suited, suits}
-use Rattle.bd_query.specs.Filter.{filters_from, operators_from}
-use Rattle.bd_query.specs.FilterMatch.{all_accept, all_match, any_candidate, holds, is_of_type, is_value}
-use Rattle.bd_query.specs.FilterView.{filter_tree, operator_tree}
+use Rattle.bd_filter.specs.Filter.{filters_from, operators_from}
+use Rattle.bd_filter.specs.FilterMatch.{all_accept, all_match, any_candidate, holds, is_of_type, is_value}
+use Rattle.bd_filter.specs.FilterView.{filter_tree, operator_tree}
 use Rattle.bd_query.specs.declared.body.Body.TheVariants as bodies
-use Rattle.bd_query.proofs.FilterViewLemmas.{operator_tree-ElemMatch, operator_tree-ElemMatchDocument, operator_tree-Type}
+use Rattle.bd_filter.proofs.FilterViewLemmas.{operator_tree-ElemMatch, operator_tree-ElemMatchDocument, operator_tree-Type}
 use Rattle.bd_query.proofs.filter_match.+matching.Goals as goal
 use Rattle.bd_query.proofs.filter_match.+matching.Goals.{any_end_suits_in_documents-then-is_document+else-any_end_suits, any_end_suits_in_documents-else-is_document}
 

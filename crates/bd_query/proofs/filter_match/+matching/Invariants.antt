@@ -6,9 +6,9 @@ use Rattle.bd_path.specs.PathNames.{names_of}
 use Rattle.bd_path.specs.Names.{component_names}
 use Rattle.bd_path.specs.Reach.{each_gathering, ends, reach}
 use Rattle.bd_query.specs.Body.{is_suited, suits}
-use Rattle.bd_query.specs.Filter.{filters_from, operators_from}
-use Rattle.bd_query.specs.FilterMatch.{all_accept, all_hold, all_match, some_match}
-use Rattle.bd_query.specs.FilterView.{filter_tree, operator_tree}
+use Rattle.bd_filter.specs.Filter.{filters_from, operators_from}
+use Rattle.bd_filter.specs.FilterMatch.{all_accept, all_hold, all_match, some_match}
+use Rattle.bd_filter.specs.FilterView.{filter_tree, operator_tree}
 use Rattle.bd_query.proofs.FilterMatchLemmas.{body_size, filter_size, filters_size, operator_size, operators_size}
 use Rattle.bd_query.proofs.filter_match.+matching.Given as goal
 

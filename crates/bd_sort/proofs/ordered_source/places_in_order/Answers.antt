@@ -3,7 +3,7 @@ use Rattle.bd_answer.specs.Source.{IsSource, passes}
 use Rattle.bd_answer.proofs.SourceLemmas.{below_more, left_out_more, taken_more}
 use Rattle.bd_bson.specs.Collection.{documents}
 use Rattle.bd_path.specs.Sort.{sort_paths}
-use Rattle.bd_query.specs.FilterView.{filter_tree}
+use Rattle.bd_filter.specs.FilterView.{filter_tree}
 use Rattle.bd_sort.specs.Selection.{hits_of, order_of_keys}
 use Rattle.bd_sort.proofs.OrderedSourceLemmas.{all_taken, few_more, first_taken, wanted_in_order}
 use Rattle.bd_sort.proofs.ordered_source.places_in_order.Goals as goal

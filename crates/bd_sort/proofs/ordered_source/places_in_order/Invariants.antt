@@ -3,7 +3,7 @@ use Rattle.std.specs.List.{All}
 use Rattle.bd_answer.specs.Source.{passes}
 use Rattle.bd_bson.specs.Collection.{documents}
 use Rattle.bd_path.specs.Sort.{sort_paths}
-use Rattle.bd_query.specs.FilterView.{filter_tree}
+use Rattle.bd_filter.specs.FilterView.{filter_tree}
 use Rattle.bd_sort.specs.Selection.{hits_of, order_of_keys}
 use Rattle.bd_sort.proofs.ordered_source.places_in_order.Given as goal
 

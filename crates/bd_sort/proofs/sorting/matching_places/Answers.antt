@@ -1,7 +1,7 @@
 use Rattle.std.proofs.Common.{◌≡◌, false, rules, true}
 use Rattle.bd_answer.proofs.SourceLemmas.{below_more, left_out_more, taken_more}
 use Rattle.bd_bson.specs.Collection.{documents}
-use Rattle.bd_query.specs.FilterView.{filter_tree}
+use Rattle.bd_filter.specs.FilterView.{filter_tree}
 use Rattle.bd_sort.specs.Selection.{hits_of}
 use Rattle.bd_sort.proofs.sorting.matching_places.Goals as goal
 

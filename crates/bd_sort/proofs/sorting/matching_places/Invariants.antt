@@ -1,7 +1,7 @@
 use Rattle.std.proofs.Common.{◌≡◌, ◌<◌, ◌++◌, filter, length}
 use Rattle.std.specs.List.{All}
 use Rattle.bd_bson.specs.Collection.{documents}
-use Rattle.bd_query.specs.FilterView.{filter_tree}
+use Rattle.bd_filter.specs.FilterView.{filter_tree}
 use Rattle.bd_sort.specs.Selection.{hits_of}
 use Rattle.bd_sort.specs.Sorting.{with_first}
 use Rattle.bd_sort.proofs.sorting.matching_places.Given as goal

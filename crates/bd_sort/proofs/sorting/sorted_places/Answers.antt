@@ -3,7 +3,7 @@ use Rattle.std.specs.List.{All}
 use Rattle.bd_answer.specs.Source.{IsSource}
 use Rattle.bd_bson.specs.Collection.{documents}
 use Rattle.bd_path.specs.Sort.{sort_paths}
-use Rattle.bd_query.specs.FilterView.{filter_tree}
+use Rattle.bd_filter.specs.FilterView.{filter_tree}
 use Rattle.bd_sort.specs.Selection.{hits_of}
 use Rattle.bd_sort.specs.SortTable.{IsTable, place_at}
 use Rattle.bd_sort.specs.Sorting.{with_first}

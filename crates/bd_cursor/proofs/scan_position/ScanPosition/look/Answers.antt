@@ -1,7 +1,7 @@
 use Rattle.std.proofs.Common.{rules, ◌≡◌, ◌≤◌, ◌<◌, ◌∙◌, ap, sym, arith, drop, length, None}
 use Rattle.bd_answer.specs.Answer.{at_most}
 use Rattle.bd_bson.specs.Collection.{documents}
-use Rattle.bd_query.specs.FilterView.{filter_tree}
+use Rattle.bd_filter.specs.FilterView.{filter_tree}
 use Rattle.bd_sort.specs.Selection.{hits_of}
 use Rattle.bd_sort.specs.Sorting.{with_first}
 use Rattle.bd_cursor.proofs.ScanPositionLemmas.{all_seen, at_most_none, met, missed, passed_over, unseen}

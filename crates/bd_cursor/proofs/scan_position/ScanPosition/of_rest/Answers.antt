@@ -1,5 +1,5 @@
 use Rattle.std.proofs.Common.{◌+◌, ◌∙◌, ap, length, take}
-use Rattle.bd_query.specs.FilterView.{filter_tree}
+use Rattle.bd_filter.specs.FilterView.{filter_tree}
 use Rattle.bd_answer.specs.Answer.{at_most}
 use Rattle.bd_sort.specs.Selection.{hits_of}
 use Rattle.bd_cursor.proofs.ScanPositionLemmas.{unseen}

@@ -4,7 +4,7 @@ use Rattle.std.specs.List.{list_any}
 use Rattle.bd_answer.specs.Session.{is_on}
 use Rattle.bd_bson.specs.Collection.{documents}
 use Rattle.bd_path.specs.Sort.{sort_paths}
-use Rattle.bd_query.specs.FilterView.{filter_tree}
+use Rattle.bd_filter.specs.FilterView.{filter_tree}
 use Rattle.bd_index.specs.IndexView.{IsIndexOf}
 use Rattle.bd_plan.specs.AccessPath.{access_of}
 use Rattle.bd_plan.specs.Explanation.{index_mark}

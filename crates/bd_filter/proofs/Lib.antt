@@ -1,0 +1,5 @@
+pub mod FaultLemmas
+pub mod FilterBadLemmas
+pub mod FilterOfLemmas
+pub mod FilterViewLemmas
+pub mod MembersLemmas

@@ -1,0 +1,114 @@
+use Rattle.std.proofs.Common.{map, length, Ok, sym, ap, subst, ◌∙◌, ◌+◌, ◌-◌, decimal, true, false}
+use Rattle.std.proofs.lemmas.Result.{err_from_is_err_and}
+use Rattle.bd_value.specs.Parts.{values_of}
+use Rattle.bd_value.specs.Tree.{fields_of, items_of}
+use Rattle.bd_filter.specs.Fault.{ReadsPart, StopsAt, under}
+use Rattle.bd_filter.specs.Filter.{all_of, filters_from, has_document, has_element, negates, operators_from}
+use Rattle.bd_filter.specs.FilterOf.{element_operator, filters_of, member_filter, member_filters, not_operator, operand_filters, operator_of, operators_of}
+use Rattle.bd_filter.specs.FilterOf.{pair_filter, path_operators, read_as}
+use Rattle.bd_filter.specs.FilterView.{filter_tree, operator_tree}
+use Rattle.bd_filter.specs.Word.{word_of}
+use Rattle.bd_filter.proofs.FilterOfLemmas.{element_is, joined, member_is, negation_is, operand_is, operators_are, refused, seen_above, stops_as}
+use Rattle.bd_filter.proofs.FilterViewLemmas.{filter_tree-And, operator_tree-ElemMatch, operator_tree-ElemMatchDocument, operator_tree-Not}
+use Rattle.bd_filter.proofs.filter_of.+parse.Goals as goal
+
+pub read_elem_match-returns-in_err-operators : goal.read_elem_match-returns-in_err-operators
+read_elem_match-returns-in_err-operators g t c =
+    let n = g.N.Reading.tree c.args.operand in
+    let ps = g.N.Reading.left c.parts-parts.result in
+    let p = err_from_is_err_and c.from_residual.result c.from_residual.ensures.1 in
+    rw (p.1, p.2) (stops_as (λ xs. has_element (operators_from xs)) (operators_of (c.args.room - 1) (fields_of ps)) (element_operator c.args.room n) c.in_err-operators.field-0.0
+    (element_is c.args.room n ps true (sym c.kind.ensures ∙ c.in-Doc.is) c.parts-parts.ensures.parts (sym c.is_value_form.ensures ∙ c.if-is_value_form.true) c.if-room-eq0.false) c.in_err-operators.ensures)
+
+pub read_elem_match-returns-then-is_value_form : goal.read_elem_match-returns-then-is_value_form
+read_elem_match-returns-then-is_value_form g t c =
+    let n = g.N.Reading.tree c.args.operand in
+    let ps = g.N.Reading.left c.parts-parts.result in
+    element_is c.args.room n ps true (sym c.kind.ensures ∙ c.in-Doc.is) c.parts-parts.ensures.parts (sym c.is_value_form.ensures ∙ c.if-is_value_form.true) c.if-room-eq0.false
+    ∙ ap (read_as (λ xs. has_element (operators_from xs))) c.in_ok-operators.ensures ∙ ap (λ x. Ok x) (sym (operator_tree-ElemMatch c.in_ok-operators.operators))
+
+pub read_elem_match-returns-in_err-filters : goal.read_elem_match-returns-in_err-filters
+read_elem_match-returns-in_err-filters g t c =
+    let n = g.N.Reading.tree c.args.operand in
+    let ps = g.N.Reading.left c.parts-parts.result in
+    let p = err_from_is_err_and c.from_residual-in_err-filters.result c.from_residual-in_err-filters.ensures.1 in
+    rw (p.1, p.2) (stops_as (λ xs. has_document (filters_from xs)) (filters_of (c.args.room - 1) (fields_of ps)) (element_operator c.args.room n) c.in_err-filters.field-0.0
+    (element_is c.args.room n ps false (sym c.kind.ensures ∙ c.in-Doc.is) c.parts-parts.ensures.parts (sym c.is_value_form.ensures ∙ c.if-is_value_form.false) c.if-room-eq0.false) c.in_err-filters.ensures)
+
+pub read_elem_match-returns : goal.read_elem_match-returns
+read_elem_match-returns g t c =
+    let n = g.N.Reading.tree c.args.operand in
+    let ps = g.N.Reading.left c.parts-parts.result in
+    element_is c.args.room n ps false (sym c.kind.ensures ∙ c.in-Doc.is) c.parts-parts.ensures.parts (sym c.is_value_form.ensures ∙ c.if-is_value_form.false) c.if-room-eq0.false
+    ∙ ap (read_as (λ xs. has_document (filters_from xs))) c.in_ok-filters.ensures ∙ ap (λ x. Ok x) (sym (operator_tree-ElemMatchDocument c.in_ok-filters.filters))
+
+pub read_filters-returns-in-Err : goal.read_filters-returns-in-Err
+read_filters-returns-in-Err g t c =
+    let xs = map filter_tree c.loop-next.filters.items in
+    let name = c.in-Some.next.0.now in
+    let value = g.N.Reading.tree c.in-Some.next.1 in
+    let part = pair_filter (word_of name) name (operand_filters c.args.room value) (path_operators c.args.room value) in
+    refused xs (under name part) (filters_of c.args.room (fields_of (g.N.Reading.left c.in-Some.next.2))) (filters_of c.args.room (fields_of (g.N.Reading.left c.args.pairs))) c.under.result
+    (ap (λ ps. joined xs (filters_of c.args.room (fields_of ps))) (sym c.in-Some.ensures.some) ∙ c.loop-next.invariant)
+    (seen_above name c.in-Err.stop c.under.result part c.under.ensures.tells c.under.ensures.starved c.in-Err.ensures)
+
+pub read_member-returns-in_err-filters : goal.read_member-returns-in_err-filters
+read_member-returns-in_err-filters g t c =
+    let n = g.N.Reading.tree c.args.member in
+    let ps = g.N.Reading.left c.parts.result in
+    let p = err_from_is_err_and c.from_residual.result c.from_residual.ensures.1 in
+    rw (p.1, p.2) (stops_as (λ xs. all_of (filters_from xs)) (filters_of (c.args.room - 1) (fields_of ps)) (member_filter c.args.room n) c.in_err-filters.field-0.0
+    (member_is c.args.room n ps (sym c.kind.ensures ∙ c.in-Doc.is) c.parts.ensures.parts c.if-room-eq0.false) c.in_err-filters.ensures)
+
+pub read_member-returns : goal.read_member-returns
+read_member-returns g t c =
+    let n = g.N.Reading.tree c.args.member in
+    let ps = g.N.Reading.left c.parts.result in
+    member_is c.args.room n ps (sym c.kind.ensures ∙ c.in-Doc.is) c.parts.ensures.parts c.if-room-eq0.false
+    ∙ ap (read_as (λ xs. all_of (filters_from xs))) c.in_ok-filters.ensures ∙ ap (λ x. Ok x) (sym (filter_tree-And c.in_ok-filters.filters))
+
+pub read_members-returns-in-Err : goal.read_members-returns-in-Err
+read_members-returns-in-Err g t c =
+    let xs = map filter_tree c.loop-next.filters.items in
+    let i = length c.loop-next.filters.items in
+    let part = member_filter c.args.room (g.N.Reading.tree c.in-Some.next.1) in
+    refused xs (under (decimal i) part) (member_filters c.args.room (i + 1) (items_of (values_of (g.N.Reading.left c.in-Some.next.2)))) (member_filters c.args.room 0 (items_of (values_of (g.N.Reading.left c.args.members)))) c.under_index.result
+    (ap (λ ps. joined xs (member_filters c.args.room i (items_of (values_of ps)))) (sym c.in-Some.ensures.some) ∙ c.loop-next.invariant)
+    (subst (λ n. StopsAt c.under_index.result (under (decimal n) part)) (c.len.ensures ∙ c.loop-next.filters.ok.0) (seen_above (decimal c.len.result) c.in-Err.stop c.under_index.result part c.under_index.ensures.tells c.under_index.ensures.starved c.in-Err.ensures))
+
+pub read_not-returns-in_err-operators : goal.read_not-returns-in_err-operators
+read_not-returns-in_err-operators g t c =
+    let n = g.N.Reading.tree c.args.operand in
+    let ps = g.N.Reading.left c.parts.result in
+    let p = err_from_is_err_and c.from_residual.result c.from_residual.ensures.1 in
+    rw (p.1, p.2) (stops_as (λ xs. negates (operators_from xs)) (operators_of (c.args.room - 1) (fields_of ps)) (not_operator c.args.room n) c.in_err-operators.field-0.0
+    (negation_is c.args.room n ps (sym c.has_operators.ensures ∙ c.if-has_operators.true) c.parts.ensures.parts c.if-room-eq0.false) c.in_err-operators.ensures)
+
+pub read_not-returns-then-has_operators : goal.read_not-returns-then-has_operators
+read_not-returns-then-has_operators g t c =
+    let n = g.N.Reading.tree c.args.operand in
+    let ps = g.N.Reading.left c.parts.result in
+    negation_is c.args.room n ps (sym c.has_operators.ensures ∙ c.if-has_operators.true) c.parts.ensures.parts c.if-room-eq0.false
+    ∙ ap (read_as (λ xs. negates (operators_from xs))) c.in_ok-operators.ensures ∙ ap (λ x. Ok x) (sym (operator_tree-Not c.in_ok-operators.operators))
+
+pub read_operand-returns : goal.read_operand-returns
+read_operand-returns g t c =
+    let n = g.N.Reading.tree c.args.operand in
+    let ps = g.N.Reading.left c.parts.result in
+    subst (λ part. ReadsPart (λ fs. map filter_tree fs.items) c.read_members.result part)
+    (sym (operand_is c.args.room n ps (sym c.kind.ensures ∙ c.in-Array.is) c.parts.ensures.parts (λ e. c.if-len-eq0.false (c.len.ensures ∙ e)))) c.read_members.ensures
+
+pub read_operators-returns-in-Err : goal.read_operators-returns-in-Err
+read_operators-returns-in-Err g t c =
+    let xs = map operator_tree c.loop-next.operators.items in
+    let name = c.in-Some.next.0.now in
+    let value = g.N.Reading.tree c.in-Some.next.1 in
+    let part = operator_of (word_of name) value (not_operator c.args.room value) (element_operator c.args.room value) in
+    refused xs (under name part) (operators_of c.args.room (fields_of (g.N.Reading.left c.in-Some.next.2))) (operators_of c.args.room (fields_of (g.N.Reading.left c.args.pairs))) c.under.result
+    (ap (λ ps. joined xs (operators_of c.args.room (fields_of ps))) (sym c.in-Some.ensures.some) ∙ c.loop-next.invariant)
+    (seen_above name c.in-Err.stop c.under.result part c.under.ensures.tells c.under.ensures.starved c.in-Err.ensures)
+
+pub read_value-returns-then-has_operators : goal.read_value-returns-then-has_operators
+read_value-returns-then-has_operators g t c =
+    subst (λ part. ReadsPart (λ os. map operator_tree os.items) c.read_operators.result part)
+    (sym (operators_are c.args.room (g.N.Reading.tree c.args.value) (g.N.Reading.left c.parts.result) (sym c.has_operators.ensures ∙ c.if-has_operators.true) c.parts.ensures.parts)) c.read_operators.ensures

@@ -1,0 +1,21 @@
+use Rattle.std.proofs.Common.{map, length, sym, ap, ◌∙◌, subst, decimal, ◌+◌}
+use Rattle.bd_value.specs.Parts.{values_of}
+use Rattle.bd_value.specs.Tree.{items_of}
+use Rattle.bd_value.specs.View.{tree_of}
+use Rattle.bd_filter.specs.FilterOf.{member_value, member_values, members_of}
+use Rattle.bd_filter.specs.Fault.{StopsAt, under}
+use Rattle.bd_filter.proofs.FilterOfLemmas.{joined, members_start, refused, seen_above}
+use Rattle.bd_filter.proofs.operand.members_of.Goals as goal
+
+pub loop-next-init : goal.loop-next-init
+loop-next-init g c =
+    rw c.new-members.ensures.items (members_start (g.N.Reading.tree c.args.operand) (g.N.Reading.left c.parts-left.result) (sym c.kind.ensures ∙ c.in-Array.is) c.parts-left.ensures.parts)
+
+pub returns-in-Err : goal.returns-in-Err
+returns-in-Err g c =
+    let xs = map tree_of c.loop-next.members.items in
+    let i = length c.loop-next.members.items in
+    let part = member_value (g.N.Reading.tree c.in-Some.next.1) in
+    refused xs (under (decimal i) part) (member_values (i + 1) (items_of (values_of (g.N.Reading.left c.in-Some.next.2)))) (members_of (g.N.Reading.tree c.args.operand)) c.under_index.result
+    (ap (λ ps. joined xs (member_values i (items_of (values_of ps)))) (sym c.in-Some.ensures.some) ∙ c.loop-next.invariant)
+    (subst (λ n. StopsAt c.under_index.result (under (decimal n) part)) (c.len.ensures ∙ c.loop-next.members.ok.0) (seen_above (decimal c.len.result) c.in-Err.stop c.under_index.result part c.under_index.ensures.tells c.under_index.ensures.starved c.in-Err.ensures))

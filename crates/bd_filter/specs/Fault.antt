@@ -1,0 +1,63 @@
+-- Why a document is no filter: which rule a pair or a member of it breaks, and the names from the top down to that.
+use Rattle.std.specs.Prelude.{◌≡◌, ℕ, List, [], ◌∷◌, Result, Ok, Err, map, reverse, string_bytes, codes}
+use Rattle.bd_filter.specs.declared.fault.FilterFault.{FilterFault}
+use Rattle.bd_filter.specs.declared.fault.FilterFaultKind.{FilterFaultKind}
+use Rattle.bd_filter.specs.declared.fault.FilterFaultKind.TheVariants as kinds
+use Rattle.bd_filter.specs.declared.fault.Misfit.{Misfit}
+use Rattle.bd_filter.specs.declared.fault.Stop.{Stop}
+use Rattle.bd_filter.specs.declared.fault.Stop.TheVariants as stops
+
+pub record Refusal : Type 0 where
+  pub kind : FilterFaultKind
+  pub place : List (List ℕ)
+
+abbrev pub refuse : {A : Type 0} → FilterFaultKind → Result A Refusal
+refuse kind = Err (record { kind = kind; place = [] })
+
+-- the same refusal, seen from one name up
+abbrev pub deeper : List ℕ → Refusal → Refusal
+deeper name r = record { kind = r.kind; place = name ∷ r.place }
+
+abbrev pub under : {A : Type 0} → List ℕ → Result A Refusal → Result A Refusal
+under name (Ok x) = Ok x
+under name (Err r) = Err (deeper name r)
+
+-- what is wrong, in words
+abbrev pub filter_fault_words : FilterFaultKind → List ℕ
+filter_fault_words kinds.UnknownOperator = codes "unknown operator"
+filter_fault_words kinds.NotInProfile = codes "not in the profile"
+filter_fault_words kinds.BadOperand = codes "bad operand"
+filter_fault_words kinds.MixedOperators = codes "operators and fields mixed"
+filter_fault_words kinds.Path = codes "bad path"
+filter_fault_words kinds.TooDeep = codes "too deep"
+filter_fault_words kinds.NoMemory = codes "no memory"
+
+-- The code keeps the names from the pair or member up.
+abbrev pub misfit_refusal : Misfit → Refusal
+misfit_refusal m = record { kind = m.kind; place = reverse (map string_bytes m.place.items) }
+
+-- which refusal reading stopped at, unless memory ran out
+abbrev pub TellsMisfit : Stop → Refusal → Type 0
+TellsMisfit stops.NoMemory r = Unit {0}
+TellsMisfit (stops.Misfit m) r = r ≡ misfit_refusal m
+
+-- reading stopped at the refusal that a part of a filter is, unless memory ran out
+abbrev pub StopsAt : {B : Type 0} → Stop → Result B Refusal → Type 0
+StopsAt stops.NoMemory part = Unit {0}
+StopsAt (stops.Misfit m) part = part ≡ Err (misfit_refusal m)
+
+-- a part of a filter is what was read, or reading stopped at its refusal
+abbrev pub ReadsPart : {A B : Type 0} → (A → B) → Result A Stop → Result B Refusal → Type 0
+ReadsPart view (Ok x) part = part ≡ Ok (view x)
+ReadsPart view (Err stop) part = StopsAt stop part
+
+abbrev pub refusal_of : FilterFault → Refusal
+refusal_of f = record { kind = f.kind; place = map string_bytes f.place.items }
+
+-- no memory was given: the fault has no place
+abbrev pub IsStarved : FilterFault → Type 0
+IsStarved f = (f.kind ≡ kinds.NoMemory) × (f.place.items ≡ [])
+
+abbrev pub IsAnswerTo : Stop → FilterFault → Type 0
+IsAnswerTo stops.NoMemory f = IsStarved f
+IsAnswerTo (stops.Misfit m) f = misfit_refusal m ≡ refusal_of f

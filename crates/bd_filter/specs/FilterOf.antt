@@ -1,0 +1,241 @@
+-- Which filter a document is (MongoDB manual, "Query and Projection Operators"), and which pair or member of another document
+-- is the first that is no part of one.
+use Rattle.std.specs.Prelude.{ℕ, zero, ◌+◌, ◌-◌, ◌==◌, ℤ, pos, negsuc, Bool, true, false, not, ◌||◌, List, [], ◌∷◌, ◌++◌, Option, Some, None, Result, Ok, Err, if◌then◌else◌, decimal}
+use Rattle.bd_value.specs.Tree as trees
+use Rattle.bd_value.specs.Tree.{Scalar, Tree, leaf, doc, array, code_scope, Items, no_items, item, Fields, no_fields, field, Doc, fields_of}
+use Rattle.bd_value.specs.declared.kind.Kind.{Kind}
+use Rattle.bd_path.specs.Names.{Names}
+use Rattle.bd_path.specs.Path.{path_of}
+use Rattle.bd_path.specs.declared.path_fault.PathFault.{PathFault}
+use Rattle.bd_filter.specs.Fault.{Refusal, refuse, under}
+use Rattle.bd_filter.specs.Filter.{Filter, all_of, some_of, none_of, at_path, filters_from}
+use Rattle.bd_filter.specs.Filter.{Operator, equals, compares, is_in, has_all, has_type, has_size, exists, negates, has_element, has_document}
+use Rattle.bd_filter.specs.Filter.{negation_of, operators_from}
+use Rattle.bd_filter.specs.Types.{kinds_named, kinds_numbered}
+use Rattle.bd_filter.specs.Word.{begins_with_dollar, word_of}
+use Rattle.bd_filter.specs.declared.fault.FilterFaultKind.TheVariants as faults
+use Rattle.bd_filter.specs.declared.relation.Relation.TheVariants as relation
+use Rattle.bd_filter.specs.declared.word.LogicalOperator.{LogicalOperator}
+use Rattle.bd_filter.specs.declared.word.LogicalOperator.TheVariants as logical
+use Rattle.bd_filter.specs.declared.word.PlainOperator.{PlainOperator}
+use Rattle.bd_filter.specs.declared.word.PlainOperator.TheVariants as plain
+use Rattle.bd_filter.specs.declared.word.Word.{Word}
+use Rattle.bd_filter.specs.declared.word.Word.TheVariants as words
+
+-- ---- parts that are read in turn
+
+abbrev pub read_as : {A B : Type 0} → (A → B) → Result A Refusal → Result B Refusal
+read_as f (Ok x) = Ok (f x)
+read_as f (Err r) = Err r
+
+-- the first part and those after it; the first refusal counts
+abbrev pub read_first : {A : Type 0} → Result A Refusal → Result (List A) Refusal → Result (List A) Refusal
+read_first (Err r) rest = Err r
+read_first (Ok x) (Err r) = Err r
+read_first (Ok x) (Ok xs) = Ok (x ∷ xs)
+
+-- ---- operands
+
+abbrev pub is_regex : Tree → Bool
+is_regex (leaf (trees.regex p o)) = true
+is_regex t = false
+
+-- below or above all values
+abbrev pub is_bound : Tree → Bool
+is_bound (leaf trees.min_key) = true
+is_bound (leaf trees.max_key) = true
+is_bound t = false
+
+abbrev pub first_is_operator : Fields → Bool
+first_is_operator no_fields = false
+first_is_operator (field n t fs) = begins_with_dollar n
+
+-- a document that begins as operators do
+abbrev pub has_operators : Tree → Bool
+has_operators (doc fs) = first_is_operator fs
+has_operators t = false
+
+-- the operand of an operator that takes no regular expression, and of one that takes no bound either
+abbrev pub plain_value : Tree → Result Tree Refusal
+plain_value t = if is_regex t then refuse faults.NotInProfile else Ok t
+
+abbrev pub ordered_value : Tree → Result Tree Refusal
+ordered_value t = if is_regex t || is_bound t then refuse faults.NotInProfile else Ok t
+
+-- a member of the array of `$in`, `$nin` and `$all`
+abbrev pub member_value : Tree → Result Tree Refusal
+member_value t = if is_regex t || has_operators t then refuse faults.NotInProfile else Ok t
+
+abbrev pub member_values : ℕ → Items → Result (List Tree) Refusal
+member_values i no_items = Ok []
+member_values i (item t ts) = read_first (under (decimal i) (member_value t)) (member_values (i + 1) ts)
+
+abbrev pub members_of : Tree → Result (List Tree) Refusal
+members_of (array ts) = member_values 0 ts
+members_of t = refuse faults.BadOperand
+
+abbrev pub size_number : ℤ → Result ℕ Refusal
+size_number (pos n) = Ok n
+size_number (negsuc n) = refuse faults.BadOperand
+
+abbrev pub size_value : Tree → Result ℕ Refusal
+size_value (leaf (trees.int32 z)) = size_number z
+size_value (leaf (trees.int64 z)) = size_number z
+size_value t = refuse faults.BadOperand
+
+abbrev pub is_not_zero : ℤ → Bool
+is_not_zero (pos n) = not (n == 0)
+is_not_zero (negsuc n) = true
+
+abbrev pub truth_value : Tree → Result Bool Refusal
+truth_value (leaf (trees.boolean b)) = Ok b
+truth_value (leaf (trees.int32 z)) = Ok (is_not_zero z)
+truth_value (leaf (trees.int64 z)) = Ok (is_not_zero z)
+truth_value t = refuse faults.BadOperand
+
+-- the kinds of one type, by its name or its number
+abbrev pub type_kinds : Tree → Option (List Kind)
+type_kinds (leaf (trees.text s)) = kinds_named s
+type_kinds (leaf (trees.int32 z)) = kinds_numbered z
+type_kinds (leaf (trees.int64 z)) = kinds_numbered z
+type_kinds t = None
+
+abbrev pub both_kinds : Option (List Kind) → Option (List Kind) → Option (List Kind)
+both_kinds None others = None
+both_kinds (Some kinds) None = None
+both_kinds (Some kinds) (Some others) = Some (kinds ++ others)
+
+abbrev pub all_kinds : Items → Option (List Kind)
+all_kinds no_items = Some []
+all_kinds (item t ts) = both_kinds (type_kinds t) (all_kinds ts)
+
+-- one type, or some in an array
+abbrev pub operand_kinds : Tree → Option (List Kind)
+operand_kinds (array no_items) = None
+operand_kinds (array (item t ts)) = all_kinds (item t ts)
+operand_kinds (leaf s) = type_kinds (leaf s)
+operand_kinds (doc fs) = None
+operand_kinds (code_scope s fs) = None
+
+abbrev pub or_bad_operand : {A : Type 0} → Option A → Result A Refusal
+or_bad_operand None = refuse faults.BadOperand
+or_bad_operand (Some x) = Ok x
+
+abbrev pub plain_operator : PlainOperator → Tree → Result Operator Refusal
+plain_operator plain.Equal t = Ok (equals t)
+plain_operator plain.NotEqual t = read_as (λ v. negation_of (equals v)) (plain_value t)
+plain_operator plain.Greater t = read_as (compares relation.Above) (ordered_value t)
+plain_operator plain.GreaterOrEqual t = read_as (compares relation.AtLeast) (ordered_value t)
+plain_operator plain.Less t = read_as (compares relation.Below) (ordered_value t)
+plain_operator plain.LessOrEqual t = read_as (compares relation.AtMost) (ordered_value t)
+plain_operator plain.In t = read_as is_in (members_of t)
+plain_operator plain.NotIn t = read_as (λ vs. negation_of (is_in vs)) (members_of t)
+plain_operator plain.All t = read_as has_all (members_of t)
+plain_operator plain.Size t = read_as has_size (size_value t)
+plain_operator plain.Exists t = read_as exists (truth_value t)
+plain_operator plain.Type t = read_as has_type (or_bad_operand (operand_kinds t))
+
+-- ---- filters
+
+abbrev pub logical_filter : LogicalOperator → List Filter → Filter
+logical_filter logical.And fs = all_of (filters_from fs)
+logical_filter logical.Or fs = some_of (filters_from fs)
+logical_filter logical.Nor fs = none_of (filters_from fs)
+
+-- a level more, where there is room for one
+abbrev pub inner_part : {A : Type 0} → ℕ → Result A Refusal → Result A Refusal
+inner_part zero part = refuse faults.TooDeep
+inner_part room part = part
+
+abbrev pub path_names : Result Names PathFault → Result Names Refusal
+path_names (Ok names) = Ok names
+path_names (Err fault) = refuse faults.Path
+
+abbrev pub with_path : Result Names Refusal → Result (List Operator) Refusal → Result Filter Refusal
+with_path (Err r) os = Err r
+with_path (Ok names) os = read_as (λ xs. at_path names (operators_from xs)) os
+
+-- operators for an element, and not a filter
+abbrev pub is_value_form : Word → Bool
+is_value_form (words.Logical l) = false
+is_value_form words.Field = false
+is_value_form w = true
+
+abbrev pub has_value_form : Fields → Bool
+has_value_form no_fields = false
+has_value_form (field n t fs) = is_value_form (word_of n)
+
+-- a pair, by its name, of its value as filters and as what a path is asked
+abbrev pub pair_filter : Word → List ℕ → Result (List Filter) Refusal → Result (List Operator) Refusal → Result Filter Refusal
+pair_filter (words.Logical l) name filters operators = read_as (logical_filter l) filters
+pair_filter words.Field name filters operators = with_path (path_names (path_of name)) operators
+pair_filter words.LeftOut name filters operators = refuse faults.NotInProfile
+pair_filter (words.Plain p) name filters operators = refuse faults.UnknownOperator
+pair_filter words.Not name filters operators = refuse faults.UnknownOperator
+pair_filter words.ElemMatch name filters operators = refuse faults.UnknownOperator
+pair_filter words.Unknown name filters operators = refuse faults.UnknownOperator
+
+-- a pair among operators, by its name, of its value, and of that as the body of `$not` and of `$elemMatch`
+abbrev pub operator_of : Word → Tree → Result Operator Refusal → Result Operator Refusal → Result Operator Refusal
+operator_of (words.Plain p) t inverse element = plain_operator p t
+operator_of words.Not t inverse element = inverse
+operator_of words.ElemMatch t inverse element = element
+operator_of words.LeftOut t inverse element = refuse faults.NotInProfile
+operator_of words.Field t inverse element = refuse faults.MixedOperators
+operator_of (words.Logical l) t inverse element = refuse faults.UnknownOperator
+operator_of words.Unknown t inverse element = refuse faults.UnknownOperator
+
+abbrev mutual
+  -- the pairs of a document; so many levels more may stand inside
+  pub filters_of : ℕ → Fields → Result (List Filter) Refusal
+  filters_of room no_fields = Ok []
+  filters_of room (field n t fs) = read_first (under n (pair_filter (word_of n) n (operand_filters room t) (path_operators room t))) (filters_of room fs)
+
+  -- the filters of `$and`, `$or`, `$nor`: at least one
+  pub operand_filters : ℕ → Tree → Result (List Filter) Refusal
+  operand_filters room (array no_items) = refuse faults.BadOperand
+  operand_filters room (array (item t ts)) = member_filters room 0 (item t ts)
+  operand_filters room (leaf s) = refuse faults.BadOperand
+  operand_filters room (doc fs) = refuse faults.BadOperand
+  operand_filters room (code_scope s fs) = refuse faults.BadOperand
+
+  pub member_filters : ℕ → ℕ → Items → Result (List Filter) Refusal
+  member_filters room i no_items = Ok []
+  member_filters room i (item t ts) = read_first (under (decimal i) (member_filter room t)) (member_filters room (i + 1) ts)
+
+  pub member_filter : ℕ → Tree → Result Filter Refusal
+  member_filter room (doc fs) = inner_part room (read_as (λ xs. all_of (filters_from xs)) (filters_of (room - 1) fs))
+  member_filter room (leaf s) = refuse faults.BadOperand
+  member_filter room (array ts) = refuse faults.BadOperand
+  member_filter room (code_scope s fs) = refuse faults.BadOperand
+
+  -- the value of a path: operators, or a value that is to be equalled
+  pub path_operators : ℕ → Tree → Result (List Operator) Refusal
+  path_operators room (leaf s) = read_as (λ v. equals v ∷ []) (plain_value (leaf s))
+  path_operators room (array ts) = Ok (equals (array ts) ∷ [])
+  path_operators room (code_scope s fs) = Ok (equals (code_scope s fs) ∷ [])
+  path_operators room (doc fs) = if first_is_operator fs then operators_of room fs else Ok (equals (doc fs) ∷ [])
+
+  pub operators_of : ℕ → Fields → Result (List Operator) Refusal
+  operators_of room no_fields = Ok []
+  operators_of room (field n t fs) = read_first (under n (operator_of (word_of n) t (not_operator room t) (element_operator room t))) (operators_of room fs)
+
+  pub not_operator : ℕ → Tree → Result Operator Refusal
+  not_operator room (doc fs) =
+      if first_is_operator fs then inner_part room (read_as (λ xs. negates (operators_from xs)) (operators_of (room - 1) fs))
+      else refuse faults.BadOperand
+  not_operator room (leaf s) = if is_regex (leaf s) then refuse faults.NotInProfile else refuse faults.BadOperand
+  not_operator room (array ts) = refuse faults.BadOperand
+  not_operator room (code_scope s fs) = refuse faults.BadOperand
+
+  pub element_operator : ℕ → Tree → Result Operator Refusal
+  element_operator room (doc fs) =
+      if has_value_form fs then inner_part room (read_as (λ xs. has_element (operators_from xs)) (operators_of (room - 1) fs))
+      else inner_part room (read_as (λ xs. has_document (filters_from xs)) (filters_of (room - 1) fs))
+  element_operator room (leaf s) = refuse faults.BadOperand
+  element_operator room (array ts) = refuse faults.BadOperand
+  element_operator room (code_scope s fs) = refuse faults.BadOperand
+
+-- a filter has fifty levels at most, and its top is one
+abbrev pub filter_of : Doc → Result Filter Refusal
+filter_of d = read_as (λ xs. all_of (filters_from xs)) (filters_of 49 (fields_of d))

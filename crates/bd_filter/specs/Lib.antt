@@ -1,0 +1,11 @@
+pub mod Fault
+pub mod Filter
+pub mod FilterBad
+pub mod FilterMatch
+pub mod FilterOf
+pub mod FilterView
+pub mod Indexes
+pub mod Laws
+pub mod Members
+pub mod Types
+pub mod Word

@@ -1,0 +1,240 @@
+//! Documents read as filters.
+
+ghost use Rattle.std.specs.Prelude.{◌≡◌, ◌⊎◌, map, IfOk, IfErr, Ok, Err, string_bytes};
+ghost use Rattle.bd_value.specs.View.{pairs};
+ghost use Rattle.bd_value.specs.Tree.{fields_of, items_of};
+ghost use Rattle.bd_value.specs.Parts.{values_of};
+ghost use Rattle.bd_path.specs.Path.{path_of};
+ghost use Rattle.bd_path.specs.PathNames.{names_of};
+ghost use Rattle.bd_filter.specs.Fault.{IsStarved, ReadsPart, refusal_of};
+ghost use Rattle.bd_filter.specs.FilterBad.{IsBadAt};
+ghost use Rattle.bd_filter.specs.FilterOf.{filter_of, filters_of, has_value_form, member_filter, member_filters, not_operator};
+ghost use Rattle.bd_filter.specs.FilterOf.{element_operator, operand_filters, operator_of, operators_of, pair_filter, path_names, path_operators};
+ghost use Rattle.bd_filter.specs.FilterView.{filter_tree, operator_tree};
+ghost use Rattle.bd_filter.specs.Word.{word_of};
+
+use crate::fault::{FilterFault, FilterFaultKind, Stop, fault_of, stop_at, under};
+use crate::filter::{Filter, Operator};
+use crate::operand::{has_operators, plain_value, under_index};
+use crate::plain::plain_operator;
+use crate::word::{LogicalOperator, Word};
+use bd_path::{Path, PathFault};
+use bd_value::{Document, Kind, Reading, Tree};
+use std::alloc::Global;
+
+/// The most levels that stand inside the top of a filter.
+const LEVELS: u32 = 49;
+
+/// The filter that a document is.
+///
+/// MongoDB manual, "Query and Projection Operators". Each member of `$and`, `$or` and `$nor` and each body of `$not` and
+/// `$elemMatch` is a level more, and there are fifty at most.
+///
+/// # Errors
+///
+/// The first pair or member that is no part of a filter, in the order in which they stand, and which rule it breaks; `NoMemory`
+/// where no memory was given.
+pub fn parse(alloc: Global, document: &Document) -> Result<Filter, FilterFault>
+    ensures filter { IfOk result (λ f. filter_of (pairs document.now) ≡ Ok (filter_tree f)) }
+    ensures fault { IfErr result (λ f. IsStarved f ⊎ (filter_of (pairs document.now) ≡ Err (refusal_of f))) }
+    ensures bad { IfErr result (λ f. IsStarved f ⊎ IsBadAt (pairs document.now) (refusal_of f)) }
+{
+    match read_filters::<Tree<'_>>(alloc, LEVELS, Tree::Doc(document).parts()) {
+        Ok(filters) => Ok(Filter::And(filters)),
+        Err(stop) => Err(fault_of(alloc, stop)),
+    }
+}
+
+/// The filters of the pairs of a document.
+#[cycle(parse)]
+fn read_filters<N: Reading>(alloc: Global, room: u32, pairs: N::Rest) -> Result<Vec<Filter>, Stop>
+    ensures { ReadsPart (λ fs. map filter_tree fs.items) result (filters_of room (fields_of (N.left pairs))) }
+{
+    let mut filters = Vec::new(alloc);
+    let mut left = pairs;
+    while let Some(next) = N::next(&left) {
+        match read_pair(alloc, room, next.0, next.1) {
+            Ok(filter) => filters.push(filter)?,
+            Err(stop) => return Err(under(alloc, next.0, stop)),
+        }
+        left = next.2;
+    }
+    Ok(filters)
+}
+
+#[cycle(parse)]
+fn read_pair<N: Reading>(alloc: Global, room: u32, name: &str, value: N) -> Result<Filter, Stop>
+    ensures { ReadsPart filter_tree result (pair_filter (word_of name.now) name.now (operand_filters room (N.tree value)) (path_operators room (N.tree value))) }
+{
+    match Word::from_name(name) {
+        Word::Logical(logical) => {
+            let filters = read_operand(alloc, room, value)?;
+            Ok(match logical {
+                LogicalOperator::And => Filter::And(filters),
+                LogicalOperator::Or => Filter::Or(filters),
+                LogicalOperator::Nor => Filter::Nor(filters),
+            })
+        }
+        Word::Field => {
+            let path = read_path(alloc, name)?;
+            let operators = read_value(alloc, room, value)?;
+            Ok(Filter::Field { path, operators })
+        }
+        Word::LeftOut => Err(stop_at(alloc, FilterFaultKind::NotInProfile)),
+        _ => Err(stop_at(alloc, FilterFaultKind::UnknownOperator)),
+    }
+}
+
+/// The path that a name is.
+fn read_path(alloc: Global, name: &str) -> Result<Path, Stop>
+    ensures { ReadsPart names_of result (path_names (path_of name.now)) }
+{
+    match Path::parse(alloc, name) {
+        Ok(path) => Ok(path),
+        Err(PathFault::NoMemory) => Err(Stop::NoMemory),
+        Err(_) => Err(stop_at(alloc, FilterFaultKind::Path)),
+    }
+}
+
+/// The filters of the operand of `$and`, `$or` and `$nor`.
+#[cycle(parse)]
+fn read_operand<N: Reading>(alloc: Global, room: u32, operand: N) -> Result<Vec<Filter>, Stop>
+    ensures { ReadsPart (λ fs. map filter_tree fs.items) result (operand_filters room (N.tree operand)) }
+{
+    let Kind::Array = operand.kind() else {
+        return Err(stop_at(alloc, FilterFaultKind::BadOperand));
+    };
+    if operand.len() == 0 {
+        return Err(stop_at(alloc, FilterFaultKind::BadOperand));
+    }
+    read_members::<N>(alloc, room, operand.parts())
+}
+
+#[cycle(parse)]
+fn read_members<N: Reading>(alloc: Global, room: u32, members: N::Rest) -> Result<Vec<Filter>, Stop>
+    ensures { ReadsPart (λ fs. map filter_tree fs.items) result (member_filters room 0 (items_of (values_of (N.left members)))) }
+{
+    let mut filters = Vec::new(alloc);
+    let mut left = members;
+    while let Some(next) = N::next(&left) {
+        match read_member(alloc, room, next.1) {
+            Ok(filter) => filters.push(filter)?,
+            Err(stop) => return Err(under_index(alloc, filters.len(), stop)),
+        }
+        left = next.2;
+    }
+    Ok(filters)
+}
+
+#[cycle(parse)]
+fn read_member<N: Reading>(alloc: Global, room: u32, member: N) -> Result<Filter, Stop>
+    ensures { ReadsPart filter_tree result (member_filter room (N.tree member)) }
+{
+    let Kind::Doc = member.kind() else {
+        return Err(stop_at(alloc, FilterFaultKind::BadOperand));
+    };
+    if room == 0 {
+        return Err(stop_at(alloc, FilterFaultKind::TooDeep));
+    }
+    let filters = read_filters::<N>(alloc, room - 1, member.parts())?;
+    Ok(Filter::And(filters))
+}
+
+/// The operators that the value of a path stands for.
+#[cycle(parse)]
+fn read_value<N: Reading>(alloc: Global, room: u32, value: N) -> Result<Vec<Operator>, Stop>
+    ensures { ReadsPart (λ os. map operator_tree os.items) result (path_operators room (N.tree value)) }
+{
+    if has_operators(value) {
+        return read_operators::<N>(alloc, room, value.parts());
+    }
+    let operand = plain_value(alloc, value)?;
+    let mut operators = Vec::new(alloc);
+    operators.push(Operator::Equal(operand))?;
+    Ok(operators)
+}
+
+#[cycle(parse)]
+fn read_operators<N: Reading>(
+    alloc: Global,
+    room: u32,
+    pairs: N::Rest,
+) -> Result<Vec<Operator>, Stop>
+    ensures { ReadsPart (λ os. map operator_tree os.items) result (operators_of room (fields_of (N.left pairs))) }
+{
+    let mut operators = Vec::new(alloc);
+    let mut left = pairs;
+    while let Some(next) = N::next(&left) {
+        match read_operator(alloc, room, next.0, next.1) {
+            Ok(operator) => operators.push(operator)?,
+            Err(stop) => return Err(under(alloc, next.0, stop)),
+        }
+        left = next.2;
+    }
+    Ok(operators)
+}
+
+#[cycle(parse)]
+fn read_operator<N: Reading>(
+    alloc: Global,
+    room: u32,
+    name: &str,
+    operand: N,
+) -> Result<Operator, Stop>
+    ensures { ReadsPart operator_tree result (operator_of (word_of name.now) (N.tree operand) (not_operator room (N.tree operand)) (element_operator room (N.tree operand))) }
+{
+    match Word::from_name(name) {
+        Word::Plain(plain) => plain_operator(alloc, plain, operand),
+        Word::Not => read_not(alloc, room, operand),
+        Word::ElemMatch => read_elem_match(alloc, room, operand),
+        Word::LeftOut => Err(stop_at(alloc, FilterFaultKind::NotInProfile)),
+        Word::Field => Err(stop_at(alloc, FilterFaultKind::MixedOperators)),
+        _ => Err(stop_at(alloc, FilterFaultKind::UnknownOperator)),
+    }
+}
+
+#[cycle(parse)]
+fn read_not<N: Reading>(alloc: Global, room: u32, operand: N) -> Result<Operator, Stop>
+    ensures { ReadsPart operator_tree result (not_operator room (N.tree operand)) }
+{
+    if has_operators(operand) {
+        if room == 0 {
+            return Err(stop_at(alloc, FilterFaultKind::TooDeep));
+        }
+        let operators = read_operators::<N>(alloc, room - 1, operand.parts())?;
+        return Ok(Operator::Not(operators));
+    }
+    match operand.kind() {
+        Kind::Regex => Err(stop_at(alloc, FilterFaultKind::NotInProfile)),
+        _ => Err(stop_at(alloc, FilterFaultKind::BadOperand)),
+    }
+}
+
+#[cycle(parse)]
+fn read_elem_match<N: Reading>(alloc: Global, room: u32, operand: N) -> Result<Operator, Stop>
+    ensures { ReadsPart operator_tree result (element_operator room (N.tree operand)) }
+{
+    let Kind::Doc = operand.kind() else {
+        return Err(stop_at(alloc, FilterFaultKind::BadOperand));
+    };
+    if room == 0 {
+        return Err(stop_at(alloc, FilterFaultKind::TooDeep));
+    }
+    let parts = operand.parts();
+    if is_value_form::<N>(&parts) {
+        let operators = read_operators::<N>(alloc, room - 1, parts)?;
+        return Ok(Operator::ElemMatch(operators));
+    }
+    let filters = read_filters::<N>(alloc, room - 1, parts)?;
+    Ok(Operator::ElemMatchDocument(filters))
+}
+
+/// Whether the body of `$elemMatch` is operators for an element, and no filter.
+fn is_value_form<N: Reading>(pairs: &N::Rest) -> bool
+    ensures { result ≡ has_value_form (fields_of (N.left pairs.now)) }
+{
+    let Some((name, _, _)) = N::next(pairs) else {
+        return false;
+    };
+    !matches!(Word::from_name(name), Word::Logical(_) | Word::Field)
+}

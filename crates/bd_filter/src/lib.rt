@@ -1,0 +1,43 @@
+//! Filters: what a document of a query asks of other documents, and the first thing in it that is no part of a filter.
+//!
+//! MongoDB manual, "Query and Projection Operators": comparison, logical, element and array operators, with whole numbers and
+//! without regular expressions. What is left out is refused by name and place. Which documents match is defined here too:
+//! `specs/FilterMatch.antt`; `bd_query` has the call.
+//!
+//! An example, which `bd_query_tests` proves and runs as `examples::mixed`:
+//!
+//! ```
+//! let query = read_doc(alloc, b"{\"qty\":{\"$gte\":5,\"size\":\"S\"}}")?;
+//! match parse(alloc, &query) {
+//!     Err(fault) => assert!(rt; fault.kind == FilterFaultKind::MixedOperators),
+//!     Ok(_) => assert!(rt; false),
+//! }
+//! ```
+//!
+//! - `filter`: `Filter` and `Operator`, to match on: `specs/Filter.antt`, and `specs/FilterView.antt` for what they stand for.
+//! - `members`: `Members`, those of `$in` and `$nin`, looked up by binary search: `specs/Members.antt`.
+//! - `relation`: how a value stands to an operand.
+//! - `fault`: `FilterFault`, which pair or member is no part of a filter: `specs/Fault.antt`.
+//! - `filter_of`: `parse`, the filter that a document is, or its first fault: `specs/FilterOf.antt`.
+//! - `laws`: a document has no filter exactly where a pair or member of it breaks a rule: `specs/FilterBad.antt`.
+//! - `word`, `plain`, `operand`, `types`, `operand_types`: names that stand for something, and operands that are values.
+#![tactic(auto)]
+
+mod fault;
+mod filter;
+mod filter_of;
+mod laws;
+mod members;
+mod operand;
+mod operand_types;
+mod plain;
+mod relation;
+mod types;
+mod word;
+
+pub use fault::{FilterFault, FilterFaultKind};
+pub use filter::{Filter, Operator};
+pub use filter_of::parse;
+pub use laws::bad_documents_alone_are_refused;
+pub use members::Members;
+pub use relation::{Relation, relates};

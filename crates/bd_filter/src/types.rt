@@ -1,0 +1,81 @@
+//! The types of `$type`.
+
+ghost use Rattle.std.specs.Prelude.{◌≡◌, option_map};
+ghost use Rattle.bd_filter.specs.Types.{kinds_in, kinds_named, kinds_numbered};
+
+use bd_value::Kind;
+
+/// The kinds that a type of the manual has.
+#[derive(Clone, Copy)]
+pub enum Types {
+    /// Doubles and decimals: they are not read.
+    None,
+    One(Kind),
+    /// The alias `number`.
+    Numbers,
+}
+
+impl Types {
+    /// The type of a name: MongoDB manual, "$type".
+    #[tactic(auto, unfolding(crate::specs::Types::kinds_named))]
+    pub(crate) fn from_name(name: &str) -> Option<Types>
+        ensures { option_map kinds_in result ≡ kinds_named name.now }
+    {
+        match name {
+            "double" => Some(Types::None),
+            "string" => Some(Types::One(Kind::Text)),
+            "object" => Some(Types::One(Kind::Doc)),
+            "array" => Some(Types::One(Kind::Array)),
+            "binData" => Some(Types::One(Kind::Binary)),
+            "undefined" => Some(Types::One(Kind::Undefined)),
+            "objectId" => Some(Types::One(Kind::ObjectId)),
+            "bool" => Some(Types::One(Kind::Bool)),
+            "date" => Some(Types::One(Kind::Date)),
+            "null" => Some(Types::One(Kind::Null)),
+            "regex" => Some(Types::One(Kind::Regex)),
+            "dbPointer" => Some(Types::One(Kind::DbPointer)),
+            "javascript" => Some(Types::One(Kind::Code)),
+            "symbol" => Some(Types::One(Kind::Symbol)),
+            "javascriptWithScope" => Some(Types::One(Kind::CodeScope)),
+            "int" => Some(Types::One(Kind::Int32)),
+            "timestamp" => Some(Types::One(Kind::Timestamp)),
+            "long" => Some(Types::One(Kind::Int64)),
+            "decimal" => Some(Types::None),
+            "minKey" => Some(Types::One(Kind::MinKey)),
+            "maxKey" => Some(Types::One(Kind::MaxKey)),
+            "number" => Some(Types::Numbers),
+            _ => None,
+        }
+    }
+
+    /// The type of a number: MongoDB manual, "$type".
+    #[tactic(auto, unfolding(crate::specs::Types::kinds_numbered))]
+    pub(crate) fn from_number(number: i64) -> Option<Types>
+        ensures { option_map kinds_in result ≡ kinds_numbered number }
+    {
+        match number {
+            1 => Some(Types::None),
+            2 => Some(Types::One(Kind::Text)),
+            3 => Some(Types::One(Kind::Doc)),
+            4 => Some(Types::One(Kind::Array)),
+            5 => Some(Types::One(Kind::Binary)),
+            6 => Some(Types::One(Kind::Undefined)),
+            7 => Some(Types::One(Kind::ObjectId)),
+            8 => Some(Types::One(Kind::Bool)),
+            9 => Some(Types::One(Kind::Date)),
+            10 => Some(Types::One(Kind::Null)),
+            11 => Some(Types::One(Kind::Regex)),
+            12 => Some(Types::One(Kind::DbPointer)),
+            13 => Some(Types::One(Kind::Code)),
+            14 => Some(Types::One(Kind::Symbol)),
+            15 => Some(Types::One(Kind::CodeScope)),
+            16 => Some(Types::One(Kind::Int32)),
+            17 => Some(Types::One(Kind::Timestamp)),
+            18 => Some(Types::One(Kind::Int64)),
+            19 => Some(Types::None),
+            -1 => Some(Types::One(Kind::MinKey)),
+            127 => Some(Types::One(Kind::MaxKey)),
+            _ => None,
+        }
+    }
+}

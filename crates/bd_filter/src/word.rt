@@ -1,0 +1,123 @@
+//! The names that stand for something in a filter.
+
+ghost use Rattle.std.specs.Prelude.{◌≡◌};
+ghost use Rattle.std.specs.List.{list_any};
+ghost use Rattle.bd_filter.specs.Word.{begins_with_dollar, is_left_out, word_of};
+
+/// What a name stands for in a filter.
+#[derive(Clone, Copy, Debug, PartialEq, Eq)]
+pub enum Word {
+    /// An operator whose operand is an array of filters.
+    Logical(LogicalOperator),
+    /// An operator whose operand is values.
+    Plain(PlainOperator),
+    /// `$not`
+    Not,
+    /// `$elemMatch`
+    ElemMatch,
+    /// An operator of the manual that is left out.
+    LeftOut,
+    /// Another name that begins with a dollar sign.
+    Unknown,
+    /// A path.
+    Field,
+}
+
+/// MongoDB manual, "Logical Query Operators", without `$not`.
+#[derive(Clone, Copy, Debug, PartialEq, Eq)]
+pub enum LogicalOperator {
+    And,
+    Or,
+    Nor,
+}
+
+/// The operators whose operand is values.
+#[derive(Clone, Copy, Debug, PartialEq, Eq)]
+pub enum PlainOperator {
+    Equal,
+    NotEqual,
+    Greater,
+    GreaterOrEqual,
+    Less,
+    LessOrEqual,
+    In,
+    NotIn,
+    All,
+    Size,
+    Exists,
+    Type,
+}
+
+impl Word {
+    /// What a name stands for.
+    #[tactic(auto, unfolding(crate::specs::Word::word_of))]
+    pub(crate) fn from_name(name: &str) -> Word
+        ensures { result ≡ word_of name.now }
+    {
+        if !begins_with_dollar(name) {
+            return Word::Field;
+        }
+        match name {
+            "$and" => Word::Logical(LogicalOperator::And),
+            "$or" => Word::Logical(LogicalOperator::Or),
+            "$nor" => Word::Logical(LogicalOperator::Nor),
+            "$eq" => Word::Plain(PlainOperator::Equal),
+            "$ne" => Word::Plain(PlainOperator::NotEqual),
+            "$gt" => Word::Plain(PlainOperator::Greater),
+            "$gte" => Word::Plain(PlainOperator::GreaterOrEqual),
+            "$lt" => Word::Plain(PlainOperator::Less),
+            "$lte" => Word::Plain(PlainOperator::LessOrEqual),
+            "$in" => Word::Plain(PlainOperator::In),
+            "$nin" => Word::Plain(PlainOperator::NotIn),
+            "$all" => Word::Plain(PlainOperator::All),
+            "$size" => Word::Plain(PlainOperator::Size),
+            "$exists" => Word::Plain(PlainOperator::Exists),
+            "$type" => Word::Plain(PlainOperator::Type),
+            "$not" => Word::Not,
+            "$elemMatch" => Word::ElemMatch,
+            _ => {
+                if is_left_out(name) {
+                    Word::LeftOut
+                } else {
+                    Word::Unknown
+                }
+            }
+        }
+    }
+}
+
+/// Whether a name begins as an operator does.
+pub(crate) fn begins_with_dollar(name: &str) -> bool
+    ensures { result ≡ begins_with_dollar name.now }
+{
+    matches!(name.as_bytes(), [b'$', ..])
+}
+
+/// Whether it is the name of an operator of the manual that is left out, or a part of a DBRef.
+#[tactic(auto, unfolding(crate::specs::Word::is_left_out))]
+fn is_left_out(name: &str) -> bool
+    ensures { result ≡ is_left_out name.now }
+{
+    matches!(
+        name,
+        "$regex"
+            | "$options"
+            | "$mod"
+            | "$expr"
+            | "$where"
+            | "$text"
+            | "$jsonSchema"
+            | "$comment"
+            | "$geoWithin"
+            | "$geoIntersects"
+            | "$near"
+            | "$nearSphere"
+            | "$bitsAllSet"
+            | "$bitsAnySet"
+            | "$bitsAllClear"
+            | "$bitsAnyClear"
+            | "$ref"
+            | "$id"
+            | "$db"
+    )
+}

@@ -1,0 +1,25 @@
+-- What the results of a session's calls stand for.
+use Rattle.std.specs.Prelude.{option_map, string_bytes}
+use Rattle.bd_answer.specs.Session.{Explanation, IndexCounts, PlanKind, by_index, by_scan, by_walk}
+use Rattle.bd_request.specs.declared.results.Explain.{Explain}
+use Rattle.bd_request.specs.declared.results.Made.{Made}
+use Rattle.bd_request.specs.declared.results.Plan.{Plan}
+use Rattle.bd_request.specs.declared.results.Plan.TheVariants as plans
+
+abbrev pub made_counts : Made → IndexCounts
+made_counts m = record { entries = m.entries; is_multikey = m.multikey }
+
+abbrev pub plan_kind : Plan → PlanKind
+plan_kind plans.Scan = by_scan
+plan_kind plans.Index = by_index
+plan_kind plans.Walk = by_walk
+
+-- what is told, as the machine of sessions has it
+abbrev pub told : Explain → Explanation
+told e = record {
+  plan = plan_kind e.plan;
+  index = option_map (λ path. string_bytes path) e.index;
+  entries = e.entries;
+  looked_at = e.documents;
+  matches = e.matches;
+}
