@@ -1,7 +1,1 @@
-pub mod CheckLemmas
-pub mod DumpLemmas
-pub mod FindLemmas
-pub mod OutcomeLemmas
-pub mod OutputLemmas
-pub mod PackLemmas
 pub mod ServeLemmas

@@ -15,13 +15,13 @@ use Rattle.bd_service.specs.ServiceView.{KeepsState, RepliesTo, service_dump, se
 use Rattle.bd_service.specs.Talk.{IsKept}
 use Rattle.bd_service.specs.declared.service.Service.{Service}
 use Rattle.bd_service.proofs.ServedLemmas.{RepliesOver, served, stopped}
-use Rattle.bd_cli.specs.Chain.{IsRefusedOr}
-use Rattle.bd_cli.specs.Find.{ReadsDump}
-use Rattle.bd_cli.specs.Outcome.{TellsMessage}
+use Rattle.bd_find.specs.Chain.{IsRefusedOr}
+use Rattle.bd_find.specs.Find.{ReadsDump}
+use Rattle.bd_files.specs.Outcome.{TellsMessage}
 use Rattle.bd_cli.specs.Serve.{ServesNothing, ServesToAFault, ServesToTheEnd, command_limits, serve_words}
-use Rattle.bd_cli.specs.Transcript.{error_line, fault_text}
-use Rattle.bd_cli.specs.declared.status.Status.{Status}
-use Rattle.bd_cli.specs.declared.status.Status.TheVariants.{Done, Failed}
+use Rattle.bd_files.specs.Transcript.{error_line, fault_text}
+use Rattle.bd_files.specs.declared.status.Status.{Status}
+use Rattle.bd_files.specs.declared.status.Status.TheVariants.{Done, Failed}
 
 pub to_the_end : {C : Type 0} (state : C → Reader) (gives : C → Option (List ℕ) → C → Type 0) (dump : Dump) (old new : C) (out err : Over Writer)
     (s t : Service) (status : Status) → service_state s ≡ new_state → service_dump s ≡ dump

@@ -1,11 +1,2 @@
-pub mod Chain
-pub mod Check
-pub mod Dump
-pub mod Ending
-pub mod Find
-pub mod Outcome
-pub mod Output
-pub mod Pack
 pub mod Runs
 pub mod Serve
-pub mod Transcript

@@ -7,15 +7,15 @@ use Rattle.bd_command_line.specs.declared.order.Order.TheVariants as orders
 use Rattle.bd_command_line.specs.declared.command_line.TheConstants.{USAGE}
 use Rattle.bd_command_line.specs.declared.order.WordsFault.{WordsFault}
 use Rattle.bd_command_line.specs.declared.order.WordsFault.TheVariants as words
-use Rattle.bd_cli.specs.Check.{ChecksInput}
-use Rattle.bd_cli.specs.Dump.{DumpsInput}
-use Rattle.bd_cli.specs.Find.{FindsDocuments}
-use Rattle.bd_cli.specs.Pack.{PacksInput}
-use Rattle.bd_cli.specs.Find.Asking.{AsksNothing}
+use Rattle.bd_files.specs.Check.{ChecksInput}
+use Rattle.bd_files.specs.Dump.{DumpsInput}
+use Rattle.bd_find.specs.Find.{FindsDocuments}
+use Rattle.bd_files.specs.Pack.{PacksInput}
+use Rattle.bd_find.specs.Asking.{AsksNothing}
 use Rattle.bd_cli.specs.Serve.{ServesInput}
-use Rattle.bd_cli.specs.Transcript.{Transcript, error_line}
-use Rattle.bd_cli.specs.declared.status.Status.{Status}
-use Rattle.bd_cli.specs.declared.status.Status.TheVariants as statuses
+use Rattle.bd_files.specs.Transcript.{Transcript, error_line}
+use Rattle.bd_files.specs.declared.status.Status.{Status}
+use Rattle.bd_files.specs.declared.status.Status.TheVariants as statuses
 
 -- The order was carried out. What is told of the reader of commands, and which of its reads may give what, is handed to it.
 abbrev pub CarriesOut : {C : Type 0} → Order → (C → Reader) → (C → Option (List ℕ) → C → Type 0) → C → C

@@ -10,12 +10,12 @@ use Rattle.bd_lines.specs.Serving.{ServesAll, StopsServing}
 use Rattle.bd_lines.specs.declared.serving.ServeFault.{ServeFault}
 use Rattle.bd_lines.specs.declared.serving.ServeFault.TheVariants as faults
 use Rattle.bd_service.specs.Talk.{IsKept, RepliesInText}
-use Rattle.bd_cli.specs.Chain.{IsRefusedOr}
-use Rattle.bd_cli.specs.Find.{ReadsBytes, ReadsDump}
-use Rattle.bd_cli.specs.Outcome.{ReadsInput, TellsMessage}
-use Rattle.bd_cli.specs.Transcript.{error_line, read_words}
-use Rattle.bd_cli.specs.declared.status.Status.{Status}
-use Rattle.bd_cli.specs.declared.status.Status.TheVariants.{Done, Failed}
+use Rattle.bd_find.specs.Chain.{IsRefusedOr}
+use Rattle.bd_find.specs.Find.{ReadsBytes, ReadsDump}
+use Rattle.bd_files.specs.Outcome.{ReadsInput, TellsMessage}
+use Rattle.bd_files.specs.Transcript.{error_line, read_words}
+use Rattle.bd_files.specs.declared.status.Status.{Status}
+use Rattle.bd_files.specs.declared.status.Status.TheVariants.{Done, Failed}
 
 -- as much of the commands is read as of an input
 abbrev pub command_limits : Limits

@@ -3,14 +3,14 @@ ghost use Rattle.std.specs.Prelude.{◌≡◌, ◌<◌, ℕ, List, Option, None,
 ghost use Rattle.bd_value.specs.Tree.{Doc};
 ghost use Rattle.bd_device.specs.declared.reading.ReadFault.{ReadFault};
 ghost use Rattle.bd_command_line.specs.FindWords.{FindWords};
-ghost use Rattle.bd_cli.specs.Find.Asking.{ReadsText};
-ghost use Rattle.bd_cli.specs.declared.pack.packing.BadLine.{BadLine};
-ghost use Rattle.bd_cli.specs.Check.{IsShownByCheck};
-ghost use Rattle.bd_cli.specs.Dump.{IsShownByDump, ShowsFront};
-ghost use Rattle.bd_cli.specs.Find.{IsShownByFind};
-ghost use Rattle.bd_cli.specs.Pack.{AreAlike, IsShownByPack, PacksLines};
+ghost use Rattle.bd_find.specs.Asking.{ReadsText};
+ghost use Rattle.bd_files.specs.declared.pack.packing.BadLine.{BadLine};
+ghost use Rattle.bd_files.specs.Check.{IsShownByCheck};
+ghost use Rattle.bd_files.specs.Dump.{IsShownByDump, ShowsFront};
+ghost use Rattle.bd_find.specs.Find.{IsShownByFind};
+ghost use Rattle.bd_files.specs.Pack.{AreAlike, IsShownByPack, PacksLines};
 ghost use Rattle.bd_lines.specs.Lines.{text_lines};
-ghost use Rattle.bd_cli.specs.Transcript.{Transcript};
+ghost use Rattle.bd_files.specs.Transcript.{Transcript};
 
 /// One thing is shown of each input, and of each list of bytes there is something to show; so also for `check`, and for
 /// `find`, of each words. For `pack` and `find` it is one thing but for the kind and the place of the fault of a line, or of a

@@ -19,24 +19,15 @@
 //! ```
 //!
 //! - `runs`: `run` and `report`.
-//! - `dump`, `check`, `pack`, `find`, `serve`: a command each.
-//! - `ending`, `limits`, `output`, `status`: what they share.
+//! - `serve`: the command `serve`. `bd_files` has `dump`, `check` and `pack`, and `bd_find` has `find`.
 //! - `laws`: laws of what is shown.
 #![tactic(auto)]
 
-mod check;
-mod dump;
-mod ending;
-mod find;
 mod laws;
-mod limits;
-mod output;
-mod pack;
 mod runs;
 mod serve;
-mod status;
 
 pub use bd_command_line::{FindOptions, Order, USAGE, WordsFault, parse_words};
+pub use bd_files::Status;
 pub use laws::{check_has_the_status_of_dump, dump_shows_a_front, shows_one_thing};
 pub use runs::{report, run};
-pub use status::Status;

@@ -1,17 +1,17 @@
 //! An order carried out over devices, and words that are no order.
 
 ghost use Rattle.std.specs.Prelude.{◌≡◌};
-ghost use Rattle.bd_cli.specs.Outcome.{PrintsShown};
+ghost use Rattle.bd_files.specs.Outcome.{PrintsShown};
 ghost use Rattle.bd_cli.specs.Runs.{CarriesOut, DeviceFails, ReadsNoCommands, ReadsNoFile, WriteFails, shown_report};
 ghost use Rattle.bd_device.specs.Devices.{over};
 
-use crate::check::check;
-use crate::dump::dump;
-use crate::find::find;
-use crate::output::messages::{status_of, tell_no_memory, tell_unwritten};
-use crate::pack::pack;
+use bd_files::check::check;
+use bd_files::dump::dump;
+use bd_find::find::find;
+use bd_files::output::messages::{status_of, tell_no_memory, tell_unwritten};
+use bd_files::pack::pack;
 use crate::serve::serve;
-use crate::status::Status;
+use bd_files::Status;
 use bd_command_line::{Order, USAGE, WordsFault};
 use bd_device::{Input, Output, write_all};
 use std::alloc::Global;

@@ -2,15 +2,15 @@
 
 ghost use Rattle.std.specs.Prelude.{◌≡◌, ◌≤◌, ◌⊎◌, codes, length};
 ghost use Rattle.bd_bson.specs.Collection.{bytes_of, documents};
-ghost use Rattle.bd_cli.specs.Chain.{IsRefusedOr};
-ghost use Rattle.bd_cli.specs.Find.{ReadsDump};
+ghost use Rattle.bd_find.specs.Chain.{IsRefusedOr};
+ghost use Rattle.bd_find.specs.Find.{ReadsDump};
 ghost use Rattle.bd_cli.specs.Serve.{ServesInput, ServesNothing, ServesToAFault, ServesToTheEnd};
 ghost use Rattle.bd_device.specs.Devices.{over};
 
-use crate::limits::LIMITS;
-use crate::output::lines::is_want_of_memory;
-use crate::output::messages::{tell_dump_fault, tell_no_memory, tell_read_fault, tell_unwritten};
-use crate::status::Status;
+use bd_files::LIMITS;
+use bd_files::output::lines::is_want_of_memory;
+use bd_files::output::messages::{tell_dump_fault, tell_no_memory, tell_read_fault, tell_unwritten};
+use bd_files::Status;
 use bd_bson::{Dump, read_dump};
 use bd_device::{Input, Output, read_all};
 use bd_lines::ServeFault;

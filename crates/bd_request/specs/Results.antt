@@ -1,10 +1,15 @@
 -- What the results of a session's calls stand for.
-use Rattle.std.specs.Prelude.{option_map, string_bytes}
-use Rattle.bd_answer.specs.Session.{Explanation, IndexCounts, PlanKind, by_index, by_scan, by_walk}
+use Rattle.std.specs.Prelude.{ℕ, List, option_map, string_bytes}
+use Rattle.bd_answer.specs.Session.{Explanation, IndexCounts, MarkedToken, PlanKind, by_index, by_scan, by_walk}
 use Rattle.bd_request.specs.declared.results.Explain.{Explain}
 use Rattle.bd_request.specs.declared.results.Made.{Made}
 use Rattle.bd_request.specs.declared.results.Plan.{Plan}
 use Rattle.bd_request.specs.declared.results.Plan.TheVariants as plans
+use Rattle.bd_request.specs.Token.{token_text}
+
+-- the text of a token
+abbrev pub marked_text : MarkedToken → List ℕ
+marked_text t = token_text (record { given = t.mark.given; last = t.mark.last; digest = t.digest })
 
 abbrev pub made_counts : Made → IndexCounts
 made_counts m = record { entries = m.entries; is_multikey = m.multikey }

@@ -6,17 +6,13 @@ use Rattle.bd_diagnose.specs.declared.json_fault.JsonFault.{JsonFault}
 use Rattle.bd_diagnose.specs.declared.json_fault.JsonFaultKind.TheVariants as json
 use Rattle.bd_extjson.specs.TextDocument.{ReadsAs, reading}
 use Rattle.bd_answer.specs.Session as machine
-use Rattle.bd_answer.specs.Session.{Call, MarkedToken, State, state_after}
+use Rattle.bd_answer.specs.Session.{Call, State, state_after}
 use Rattle.bd_bson.specs.Documents.{documents_at}
-use Rattle.bd_request.specs.Token.{token_text}
+use Rattle.bd_request.specs.Results.{marked_text}
 use Rattle.bd_request.specs.declared.refused.Refused.TheVariants as reasons
 use Rattle.bd_reply.specs.Refusal.{json_refusal, session_refusal}
 use Rattle.bd_reply.specs.Reply.{LineReply, ToldRefusal, done, explains, gives, makes, opens, refuses, reply_text}
 use Rattle.bd_service.specs.CallOf.{document_call}
-
--- the text of a token
-abbrev pub marked_text : MarkedToken → List ℕ
-marked_text t = token_text (record { given = t.mark.given; last = t.mark.last; digest = t.digest })
 
 -- what is told of a session's reply, with the documents at the places that it gives
 abbrev pub shown_reply : List Doc → machine.Reply → LineReply

@@ -1,7 +1,7 @@
-use Rattle.bd_cli.proofs.FindLemmas.UniqueLemmas.{found_alike, found_once, found_some}
-use Rattle.bd_cli.proofs.CheckLemmas.{judged_once, judged_some}
-use Rattle.bd_cli.proofs.PackLemmas.{packs_once, packed_alike, packed_some}
-use Rattle.bd_cli.proofs.DumpLemmas.{shown_once, shown_some}
+use Rattle.bd_find.proofs.UniqueLemmas.{found_alike, found_once, found_some}
+use Rattle.bd_files.proofs.CheckLemmas.{judged_once, judged_some}
+use Rattle.bd_files.proofs.PackLemmas.{packs_once, packed_alike, packed_some}
+use Rattle.bd_files.proofs.DumpLemmas.{shown_once, shown_some}
 use Rattle.bd_cli.proofs.laws.shows_one_thing.Goals as goal
 use Rattle.bd_lines.specs.Lines.{text_lines}
 

@@ -1,7 +1,7 @@
 use Rattle.std.proofs.Common.{Ok, Err, ◌≤◌, arith, inl, inr, length, refl}
-use Rattle.bd_cli.proofs.DumpLemmas as runs
+use Rattle.bd_files.proofs.DumpLemmas as runs
 use Rattle.bd_cli.proofs.serve.serve.Goals as goal
-use Rattle.bd_cli.specs.Transcript.{read_words}
+use Rattle.bd_files.specs.Transcript.{read_words}
 
 pub returns-in-Ok : goal.returns-in-Ok
 returns-in-Ok g c =

@@ -1,0 +1,216 @@
+-- The lines of a text packed, step by step.
+use Rattle.std.proofs.Common.{◌≡◌, ◌≤◌, ◌<◌, ℕ, suc, ◌+◌, List, [], ◌∷◌, ◌++◌, length, take, drop, get_or, Bool, true, false, Option, Some, None, refl, sym, ap, ◌∙◌, subst, append_assoc, append-nil, arith, inl, inr, codes, Ok, length-append, length-take-le, rules, add-one}
+use Rattle.std.specs.Prelude.{◌⊎◌, ◌==◌}
+use Rattle.std.specs.List.{All}
+use Rattle.std.proofs.KnownBytes.{Appends-nil}
+use Rattle.std.proofs.lemmas.Bool.{cases_lt}
+use Rattle.std.proofs.lemmas.Bool.Decides.{nat_tests}
+use Rattle.std.proofs.lemmas.List.{get_or-take, get_or_default, take-append-drop}
+use Rattle.std.proofs.lemmas.List.Splits.{slice_split_at, slice_split_none}
+use Rattle.std.proofs.Math.Seq.{drop-cons}
+use Rattle.memchr.specs.Find.{IsFirstByte, is_byte}
+use Rattle.bd_value.specs.Tree.{Doc}
+use Rattle.bd_extjson.specs.TextDocument.{ReadsAs, reading}
+use Rattle.bd_diagnose.specs.JsonFault.{IsPlaced}
+use Rattle.bd_diagnose.specs.declared.json_fault.JsonFault.{JsonFault}
+use Rattle.bd_diagnose.specs.declared.json_fault.JsonFaultKind.TheVariants as kinds
+use Rattle.bd_pack.specs.Packable.{plain, IsPackable, IsBad}
+use Rattle.bd_files.specs.declared.output.lines.OutputFault.TheVariants.{NoMemory, Unwritten}
+use Rattle.bd_files.specs.declared.pack.packing.BadLine.{BadLine}
+use Rattle.bd_pack.specs.declared.line.LineFault.{LineFault}
+use Rattle.bd_pack.specs.declared.line.LineFault.TheVariants as faults
+use Rattle.bd_files.specs.declared.pack.packing.Packing.{Packing}
+use Rattle.bd_files.specs.declared.status.Status.{Status}
+use Rattle.bd_files.specs.declared.status.Status.TheVariants.{Failed}
+use Rattle.bd_files.proofs.TranscriptLemmas.{all_shown}
+use Rattle.bd_files.proofs.OutputLemmas.LinesLemmas.{breaks_piece, front_taken, takes_both}
+use Rattle.bd_files.specs.Outcome.{PrintsOrStarves, TellsMessage}
+use Rattle.bd_files.specs.Pack.{IsShownByPack, PacksLines, pack_message, pack_status, packed_bytes, shown_pack}
+use Rattle.bd_lines.specs.Lines.{is_empty_line, text_lines}
+use Rattle.bd_files.specs.Pack.Packing.{IsPacking, StopsPacking, left_size, lines_left}
+use Rattle.bd_files.specs.Transcript.{Transcript, error_line}
+use Rattle.bd_device.specs.Devices.{BreaksWithin, TakesText, Writer, between}
+
+packed-append : (ds es : List Doc) → packed_bytes (ds ++ es) ≡ packed_bytes ds ++ packed_bytes es
+packed-append [] es = refl
+packed-append (d ∷ ds) es = ap (λ x. plain d ++ x) (packed-append ds es) ∙ sym (append_assoc (plain d) (packed_bytes ds) (packed_bytes es))
+
+packed-one : (d : Doc) → packed_bytes (d ∷ []) ≡ plain d
+packed-one d = append-nil (plain d)
+
+-- ---- any lines are packed in some way
+
+-- lines, the first of which has that number, are packed in some way
+abbrev HasPacking : ℕ → List (List ℕ) → Type 0
+HasPacking number lines = (ds : List Doc) × (bad : Option BadLine) × PacksLines number lines ds bad
+
+pub packs_some : (number : ℕ) (lines : List (List ℕ)) → HasPacking number lines
+packs_some number [] = ([], None, (refl, refl))
+packs_some number (line ∷ lines) = by_blank (is_empty_line line) refl (packs_some (suc number) lines)
+  where
+    short : (d : Doc) → is_empty_line line ≡ false → ReadsAs line d → HasPacking (suc number) lines → (16793600 < length (plain d)) ⊎ (length (plain d) ≤ 16793600) → HasPacking number (line ∷ lines)
+    short d full is rest (inl long) = ([], Some (record { number = number; fault = faults.TooLong }), inr (inr (full, (faults.TooLong, (d, is, long), refl, refl))))
+    short d full is rest (inr le) = (d ∷ rest.0, rest.1, inr (inl (full, (d, rest.0, (is, le), refl, rest.2))))
+
+    by_reading : (o : Option Doc) → reading line ≡ o → is_empty_line line ≡ false → HasPacking (suc number) lines → HasPacking number (line ∷ lines)
+    by_reading None none full rest =
+        let fault : JsonFault = record { kind = kinds.Syntax; at = 0 } in
+        let placed : IsPlaced (length line) fault = record { inside = omega arith; whole = λ e. refl; memory = λ e. refl } in
+        ([], Some (record { number = number; fault = faults.Unread fault }), inr (inr (full, (faults.Unread fault, (λ e. cc, λ d is. cc, placed), refl, refl))))
+    by_reading (Some d) is full rest = short d full is rest (cases_lt 16793600 (length (plain d)))
+
+    by_blank : (b : Bool) → is_empty_line line ≡ b → HasPacking (suc number) lines → HasPacking number (line ∷ lines)
+    by_blank true blank rest = (rest.0, rest.1, inl (blank, rest.2))
+    by_blank false full rest = by_reading (reading line) refl full rest
+
+-- ---- the ends of a run
+
+module _ (text : List ℕ) (out_old out_new : Writer) (err_old err_new : Writer) (status : Status) where
+  -- something was shown that is to be shown of the text
+  abbrev pub Shows : Type 0
+  Shows = (shown : Transcript) × IsShownByPack (Ok text) shown × PrintsOrStarves (between out_old out_new) (between err_old err_new) shown status
+
+  abbrev Tells : List ℕ → Status → Type 0
+  Tells told wanted = TellsMessage (between err_old err_new) told wanted status ⊎ TellsMessage (between err_old err_new) (error_line (codes "no memory")) Failed status
+
+  pub shows_packing : (packing : Packing) → IsPacking text (between out_old out_new) packing → Tells (pack_message packing.count packing.bad) (pack_status packing.bad) → Shows
+  shows_packing packing (ds, packs, counted, wrote) told =
+      let shown = shown_pack ds packing.bad in (
+        shown,
+        (ds, packing.bad, packs, refl),
+        all_shown out_old out_new err_old err_new status shown wrote
+            (subst (λ (n : ℕ). Tells (pack_message n packing.bad) (pack_status packing.bad)) counted told),
+      )
+
+  pub shows_starved : StopsPacking text (between out_old out_new) NoMemory → TellsMessage (between err_old err_new) (error_line (codes "no memory")) Failed status → Shows
+  shows_starved (ds, bad, packs, front) told = (shown_pack ds bad, (ds, bad, packs, refl), inr (front, told))
+
+  pub shows_broken : StopsPacking text (between out_old out_new) Unwritten → TellsMessage (between err_old err_new) (error_line (codes "cannot write")) Failed status → Shows
+  shows_broken (ds, bad, packs, broke) told = (shown_pack ds bad, (ds, bad, packs, refl), inl (inr (broke, told)))
+
+-- ---- lines cut off a text
+
+-- a byte is a newline or none
+newline : (b : ℕ) → (b == 10) ≡ true → b ≡ 10
+newline b e = search (rules, nat_tests)
+
+other_byte : (b : ℕ) → ¬ ((b == 10) ≡ true) → (b == 10) ≡ false
+other_byte b other = search (rules, nat_tests)
+
+none_before : (text : List ℕ) (k : ℕ) → k ≤ length text → ((i : ℕ) → i < k → ¬ ((get_or text i 0 == 10) ≡ true)) → All (λ b. (b == 10) ≡ false) (take k text)
+none_before text k le none i d lt =
+    let inside : i < k = omega (arith, length-take-le k text le) in
+    let same : get_or (take k text) i d ≡ get_or text i 0 = get_or-take k text i d inside ∙ get_or_default text i d 0 (omega arith) in
+    rw same (other_byte (get_or text i 0) (none i inside))
+
+pub cut_at : (text : List ℕ) (k : ℕ) → IsFirstByte (is_byte 10) text (Some k) → text_lines text ≡ take k text ∷ text_lines (drop (k + 1) text)
+cut_at text k first =
+    let high = first.0.high in
+    let here : get_or text k 0 ≡ 10 = newline (get_or text k 0) first.1 in
+    let after : drop k text ≡ 10 ∷ drop (k + 1) text = rw add-one (drop-cons text k 0 high ∙ ap (λ b. b ∷ drop (suc k) text) here) in
+    let parts : text ≡ take k text ++ 10 ∷ drop (k + 1) text = sym (take-append-drop k text) ∙ ap (λ x. take k text ++ x) after in
+    let none = none_before text k (omega arith) (λ i lt. first.0.before i (omega arith) lt) in
+    ap text_lines parts ∙ slice_split_at (λ b. b == 10) (take k text) 10 (drop (k + 1) text) none refl
+
+pub cut_none : (text : List ℕ) → IsFirstByte (is_byte 10) text None → text_lines text ≡ text ∷ []
+cut_none text none =
+    slice_split_none (λ b. b == 10) text (λ i d lt. let same : get_or text i d ≡ get_or text i 0 = get_or_default text i d 0 lt in rw same (other_byte (get_or text i 0) (none i (omega arith) lt)))
+
+-- ---- the loop over the lines
+
+-- what the loop keeps: the documents that were packed, whose bytes were taken
+pub record SoFar (text : List ℕ) (old new : Writer) (left : Option (List ℕ)) (number count : ℕ) : Type 0 where
+  pub done : List Doc
+  pub goes : (es : List Doc) (bad : Option BadLine) → PacksLines (suc number) (lines_left left) es bad → PacksLines 1 (text_lines text) (done ++ es) bad
+  pub counted : count ≡ length done
+  pub few : count ≤ number
+  pub fits : number + left_size left ≤ 4294967296
+  pub wrote : TakesText (between old new) (packed_bytes done)
+
+module _ (text : List ℕ) (old : Writer) where
+  abbrev pub Kept : Writer → Option (List ℕ) → ℕ → ℕ → Type 0
+  Kept new left number count = SoFar text old new left number count
+
+  pub begins : length text ≤ 4294967295 → Kept old (Some text) 0 0
+  begins short = record {
+    done = [];
+    goes = λ es bad p. p;
+    counted = refl;
+    few = omega arith;
+    fits = omega arith;
+    wrote = (Appends-nil old.held, refl);
+  }
+
+  module _ (new : Writer) (rest line : List ℕ) (after : Option (List ℕ)) (number count : ℕ) (s : Kept new (Some rest) number count)
+      (cut : text_lines rest ≡ line ∷ lines_left after) (smaller : left_size after ≤ length rest) where
+    go_on : (es : List Doc) (bad : Option BadLine) → PacksLines (suc number) (line ∷ lines_left after) es bad → PacksLines 1 (text_lines text) (s.done ++ es) bad
+    go_on es bad p = s.goes es bad (subst (λ (ls : List (List ℕ)). PacksLines (suc number) ls es bad) (sym cut) p)
+
+    renumbered : (next : ℕ) (es : List Doc) (bad : Option BadLine) → next ≡ suc number → PacksLines (suc next) (lines_left after) es bad → PacksLines (suc (suc number)) (lines_left after) es bad
+    renumbered next es bad same p = subst (λ (n : ℕ). PacksLines (suc n) (lines_left after) es bad) same p
+
+    -- a line of white space
+    pub passed : (next : ℕ) → next ≡ suc number → is_empty_line line ≡ true → Kept new after next count
+    passed next same blank = record {
+      done = s.done;
+      goes = λ es bad p. go_on es bad (inl (blank, renumbered next es bad same p));
+      counted = s.counted;
+      few = let f = s.few in omega arith;
+      fits = let f = s.fits in omega arith;
+      wrote = s.wrote;
+    }
+
+    with_one : (d : Doc) (es : List Doc) → packed_bytes (s.done ++ d ∷ es) ≡ packed_bytes s.done ++ (plain d ++ packed_bytes es)
+    with_one d es = packed-append s.done (d ∷ es)
+
+    -- a line with a document, whose bytes were taken
+    pub packed : (end : Writer) (next more : ℕ) (d : Doc) → next ≡ suc number → more ≡ suc count → is_empty_line line ≡ false → IsPackable line d → TakesText (between new end) (plain d) → Kept end after next more
+    packed end next more d same counted full is wrote = record {
+      done = s.done ++ d ∷ [];
+      goes = λ es bad p. subst (λ (ds : List Doc). PacksLines 1 (text_lines text) ds bad) (sym (append_assoc s.done (d ∷ []) es))
+          (go_on (d ∷ es) bad (inr (inl (full, (d, es, is, refl, renumbered next es bad same p)))));
+      counted = let c = s.counted in omega (arith, length-append s.done (d ∷ []));
+      few = let f = s.few in omega arith;
+      fits = let f = s.fits in omega arith;
+      wrote = subst (λ (x : List ℕ). TakesText (between old end) x) (sym (with_one d [] ∙ ap (λ x. packed_bytes s.done ++ x) (append-nil (plain d))))
+          (takes_both old new end (packed_bytes s.done) (plain d) s.wrote wrote);
+    }
+
+    -- standard output broke in its bytes
+    pub breaks : (end : Writer) (d : Doc) → is_empty_line line ≡ false → IsPackable line d → BreaksWithin (between new end) (plain d) → StopsPacking text (between old end) Unwritten
+    breaks end d full is broke =
+        let w = packs_some (suc (suc number)) (lines_left after) in (
+          s.done ++ d ∷ w.0,
+          w.1,
+          go_on (d ∷ w.0) w.1 (inr (inl (full, (d, w.0, is, refl, w.2)))),
+          breaks_piece old new end (packed_bytes s.done) (plain d) (packed_bytes w.0) (packed_bytes (s.done ++ d ∷ w.0)) s.wrote broke (with_one d w.0),
+        )
+
+    -- a bad line: the documents before it are all
+    pub ends_bad : (next : ℕ) (fault : LineFault) → next ≡ suc number → is_empty_line line ≡ false → IsBad line fault
+        → IsPacking text (between old new) (record { count = count; bad = Some (record { number = next; fault = fault }) })
+    ends_bad next fault same full is = (
+      s.done,
+      subst (λ (n : ℕ). PacksLines 1 (text_lines text) s.done (Some (record { number = n; fault = fault }))) (sym same)
+          (subst (λ (ds : List Doc). PacksLines 1 (text_lines text) ds (Some (record { number = suc number; fault = fault }))) (append-nil s.done)
+          (go_on [] (Some (record { number = suc number; fault = fault })) (inr (inr (full, (fault, is, refl, refl)))))),
+      s.counted,
+      s.wrote,
+    )
+
+  module _ (new : Writer) (left : Option (List ℕ)) (number count : ℕ) (s : Kept new left number count) where
+    -- memory ran out
+    pub starves : StopsPacking text (between old new) NoMemory
+    starves =
+        let w = packs_some (suc number) (lines_left left) in
+        (s.done ++ w.0, w.1, s.goes w.0 w.1 w.2, front_taken old new (packed_bytes s.done) (packed_bytes w.0) (packed_bytes (s.done ++ w.0)) s.wrote (packed-append s.done w.0))
+
+    -- the text is at its end
+    pub ends : left ≡ None → IsPacking text (between old new) (record { count = count; bad = None })
+    ends none = (
+      s.done,
+      subst (λ (ds : List Doc). PacksLines 1 (text_lines text) ds None) (append-nil s.done)
+          (s.goes [] None (subst (λ (o : Option (List ℕ)). PacksLines (suc number) (lines_left o) [] None) (sym none) (refl, refl))),
+      s.counted,
+      s.wrote,
+    )

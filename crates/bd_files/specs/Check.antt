@@ -1,0 +1,87 @@
+-- What `check` shows of an input, and what a run of it did.
+pub mod Judging
+use Rattle.std.specs.Prelude.{◌≡◌, ◌≤◌, ◌⊎◌, ℕ, zero, suc, List, [], ◌∷◌, ◌++◌, length, codes, decimal, Option, Some, None, Err, is_some}
+use Rattle.std.specs.Io.KnownBytes.{Consumes}
+use Rattle.std.specs.List.{count_by}
+use Rattle.bd_device.specs.Devices.{BreaksAfter, BreaksWithin, Over, Reader, TakesFront, TakesText, Writer}
+use Rattle.bd_device.specs.declared.reading.ReadFault.{ReadFault}
+use Rattle.bd_check.specs.Fault.{Fault}
+use Rattle.bd_check.specs.Dump.{frame_length}
+use Rattle.bd_check.specs.declared.fault.FaultKind.{FaultKind}
+use Rattle.bd_stream.specs.Stream.{AreFrames, IsCut}
+use Rattle.bd_bson.specs.Verdicts.{verdicts}
+use Rattle.bd_files.specs.Outcome.{StreamsInput, TellsMessage}
+use Rattle.bd_files.specs.Transcript.{Transcript, error_line, fault_text, shown_unread}
+use Rattle.bd_files.specs.declared.status.Status.{Status}
+use Rattle.bd_files.specs.declared.status.Status.TheVariants.{Done, Failed}
+
+-- the line of a document with a fault; one without has none
+abbrev pub verdict_line : ℕ → Option Fault → List ℕ
+verdict_line number None = []
+verdict_line number (Some f) = fault_text number f ++ 10 ∷ []
+
+-- the lines of documents, the first of which has that number
+abbrev pub verdict_lines : ℕ → List (Option Fault) → List ℕ
+verdict_lines number [] = []
+verdict_lines number (v ∷ vs) = verdict_line number v ++ verdict_lines (suc number) vs
+
+-- how many documents have a fault
+abbrev pub faulty_count : List (Option Fault) → ℕ
+faulty_count = count_by is_some
+
+abbrev pub check_count_line : ℕ → ℕ → List ℕ
+check_count_line documents faulty =
+    (decimal documents ++ codes " documents, ") ++ (decimal faulty ++ codes " faulty\n")
+
+abbrev pub check_status : ℕ → Status
+check_status zero = Done
+check_status (suc n) = Failed
+
+-- what is shown of the documents: a line for each that has a fault, and then how many there are of both
+abbrev pub shown_check : List (Option Fault) → Transcript
+shown_check vs = record {
+  out = verdict_lines 0 vs;
+  err = check_count_line (length vs) (faulty_count vs);
+  status = check_status (faulty_count vs);
+}
+
+-- the same of the documents before a read that failed
+abbrev pub shown_check_unread : List (Option Fault) → ReadFault → Transcript
+shown_check_unread vs fault =
+    shown_unread (verdict_lines 0 vs) fault (check_count_line (length vs) (faulty_count vs))
+
+-- What `check` shows of the bytes of an input: of all of them, or of those before a read that failed. Then they are
+-- documents by their lengths, and the beginning of one more.
+abbrev pub IsShownByCheck : List ℕ → Option ReadFault → Transcript → Type 0
+IsShownByCheck bytes None shown = shown ≡ shown_check (verdicts bytes)
+IsShownByCheck bytes (Some fault) shown =
+    (frames : List (List ℕ)) × (front : List ℕ) × (part : List ℕ) × AreFrames frames front × IsCut part
+    × (bytes ≡ front ++ part) × (shown ≡ shown_check_unread (verdicts front) fault)
+
+-- no more than 4,294,967,295 bytes were judged: there are no more, or no more stand before a faulty length
+abbrev pub JudgesWithinLimit : List ℕ → Option ReadFault → Type 0
+JudgesWithinLimit bytes None =
+    (length bytes ≤ 4294967295)
+    ⊎ ((frames : List (List ℕ)) × (front : List ℕ) × (rest : List ℕ) × (kind : FaultKind)
+    × AreFrames frames front
+    × (bytes ≡ front ++ rest) × (frame_length rest ≡ Err kind) × (length front ≤ 4294967295))
+JudgesWithinLimit bytes (Some f) = Unit {0}
+
+-- the reader gave these documents and no byte after them, and standard output broke in the line of the last of them
+abbrev pub BreaksAtVerdict : Over Reader → Over Writer → Type 0
+BreaksAtVerdict file out =
+    (vs : List (Option Fault)) × (f : Fault) × (given : List ℕ) × (verdicts given ≡ vs ++ Some f ∷ [])
+    × Consumes file.before.left file.after.left given × (file.after.failures ≡ file.before.failures)
+    × BreaksAfter out (verdict_lines 0 vs) (verdict_line (length vs) (Some f))
+
+-- An input was read, whole or to a read that failed, and what is to be shown of it was shown; or a front of it, where
+-- standard output broke or memory ran out, and standard error tells so.
+abbrev pub ChecksInput : Over Reader → Over Writer → Over Writer → Status → Type 0
+ChecksInput file out err status =
+    (bytes : List ℕ) × (fault : Option ReadFault) × (shown : Transcript) × StreamsInput file bytes fault
+    × IsShownByCheck bytes fault shown
+    × ((JudgesWithinLimit bytes fault × TakesText out shown.out
+    × TellsMessage err shown.err shown.status status)
+    ⊎ (BreaksWithin out shown.out × BreaksAtVerdict file out
+    × TellsMessage err (error_line (codes "cannot write")) Failed status)
+    ⊎ (TakesFront out shown.out × TellsMessage err (error_line (codes "no memory")) Failed status))

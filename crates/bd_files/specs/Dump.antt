@@ -1,0 +1,91 @@
+-- What `dump` shows of an input, and what a run of it did.
+pub mod Walk
+use Rattle.std.specs.Prelude.{◌≡◌, ◌≤◌, ◌⊎◌, ℕ, List, [], ◌∷◌, ◌++◌, length, codes, decimal, Option, Some, None, IfSome, slice_index, ◌<◌}
+use Rattle.std.specs.Io.{StartsWith}
+use Rattle.std.specs.Io.KnownBytes.{Consumes}
+use Rattle.bd_value.specs.Tree.{Doc}
+use Rattle.bd_device.specs.Devices.{BreaksAfter, Over, Reader, TakesText, Writer}
+use Rattle.bd_device.specs.declared.reading.ReadFault.{ReadFault}
+use Rattle.bd_check.specs.Fault.{Fault}
+use Rattle.bd_check.specs.Dump.{AreJoined, IsWalk, frame_fault}
+use Rattle.bd_stream.specs.Stream.{IsCut}
+use Rattle.bd_files.specs.Outcome.{StreamsInput, TellsMessage}
+use Rattle.bd_files.specs.Transcript.{Transcript, error_line, fault_text, lines, shown_unread}
+use Rattle.bd_files.specs.declared.status.Status.{Status}
+use Rattle.bd_files.specs.declared.status.Status.TheVariants.{Done, Failed}
+
+abbrev pub dump_count_line : ℕ → List ℕ
+dump_count_line n = decimal n ++ codes " objects found\n"
+
+-- what standard error tells of a walk over a dump: the fault, and how many documents stand before it
+abbrev pub dump_message : ℕ → Option Fault → List ℕ
+dump_message count None = dump_count_line count
+dump_message count (Some f) = error_line (fault_text count f) ++ dump_count_line count
+
+abbrev pub dump_status : Option Fault → Status
+dump_status None = Done
+dump_status (Some f) = Failed
+
+-- what is shown of the documents before the first fault, and of that fault
+abbrev pub shown_dump : List Doc → Option Fault → Transcript
+shown_dump ds end = record { out = lines ds; err = dump_message (length ds) end; status = dump_status end }
+
+-- What `dump` shows of the bytes of an input: of all of them, or of those before a read that failed. Then they are whole
+-- documents, and the beginning of one more.
+abbrev pub IsShownByDump : List ℕ → Option ReadFault → Transcript → Type 0
+IsShownByDump bytes None shown =
+    (ds : List Doc) × (end : Option Fault) × IsWalk ds end bytes × (shown ≡ shown_dump ds end)
+IsShownByDump bytes (Some fault) shown =
+    (ds : List Doc) × (front : List ℕ) × (part : List ℕ) × AreJoined ds front × IsCut part
+    × (bytes ≡ front ++ part)
+    × (shown ≡ shown_unread (lines ds) fault (dump_count_line (length ds)))
+
+-- no more than 4,294,967,295 bytes were walked over: there are no more, or no more stand before the first fault
+abbrev pub EndsWithinLimit : List ℕ → Option ReadFault → Type 0
+EndsWithinLimit bytes None =
+    (length bytes ≤ 4294967295)
+    ⊎ ((ds : List Doc) × (f : Fault) × (front : List ℕ) × (rest : List ℕ) × AreJoined ds front
+    × (bytes ≡ front ++ rest)
+    × (frame_fault (length front) rest ≡ Some f) × (length front ≤ 4294967295))
+EndsWithinLimit bytes (Some f) = Unit {0}
+
+-- the text begins with this front
+abbrev pub IsFrontOf : List ℕ → List ℕ → Type 0
+IsFrontOf front text = (rest : List ℕ) × (text ≡ front ++ rest)
+
+-- all was shown that is to be shown of an input
+abbrev pub DumpsWhole : Over Reader → Over Writer → Over Writer → Status → Type 0
+DumpsWhole file out err status =
+    (bytes : List ℕ) × (fault : Option ReadFault) × (shown : Transcript) × StreamsInput file bytes fault
+    × EndsWithinLimit bytes fault × IsShownByDump bytes fault shown
+    × TakesText out shown.out × TellsMessage err shown.err shown.status status
+
+-- the reader gave these documents and no byte after them, and standard output broke in the line of the last of them
+abbrev pub BreaksAtDocument : Over Reader → Over Writer → Type 0
+BreaksAtDocument file out =
+    (ds : List Doc) × (d : Doc) × (given : List ℕ) × AreJoined (ds ++ d ∷ []) given
+    × Consumes file.before.left file.after.left given × (file.after.failures ≡ file.before.failures)
+    × BreaksAfter out (lines ds) (lines (d ∷ []))
+
+-- memory ran out after the lines of these documents: the reader's bytes begin with them, and no read failed
+abbrev pub StarvesAfterDocuments : Over Reader → Over Writer → Type 0
+StarvesAfterDocuments file out =
+    (ds : List Doc) × (given : List ℕ) × AreJoined ds given
+    × IfSome file.before.left (λ xs. StartsWith xs given)
+    × (file.after.failures ≡ file.before.failures) × TakesText out (lines ds)
+
+-- all was shown; or standard output broke, or memory ran out, and standard error tells so
+abbrev pub DumpsInput : Over Reader → Over Writer → Over Writer → Status → Type 0
+DumpsInput file out err status =
+    DumpsWhole file out err status
+    ⊎ (BreaksAtDocument file out × TellsMessage err (error_line (codes "cannot write")) Failed status)
+    ⊎ (StarvesAfterDocuments file out × TellsMessage err (error_line (codes "no memory")) Failed status)
+
+-- The lines of documents that stand in front of the bytes, and any front of the line of one that follows them, stand in front
+-- of what is shown of the bytes.
+abbrev pub ShowsFront : Type 0
+ShowsFront =
+    (bytes given rest : List ℕ) (shown : Transcript) (ds : List Doc) (front : List ℕ)
+    → ((i : ℕ) → slice_index bytes i < 256)
+    → bytes ≡ given ++ rest → IsShownByDump bytes None shown → AreJoined ds given → IsFrontOf front (lines ds)
+    → IsFrontOf front shown.out

@@ -1,0 +1,7 @@
+pub mod Check
+pub mod Dump
+pub mod Ending
+pub mod Outcome
+pub mod Output
+pub mod Pack
+pub mod Transcript

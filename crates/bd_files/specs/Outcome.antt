@@ -1,0 +1,62 @@
+-- What a run read of its input, and what it told of itself.
+use Rattle.std.specs.Prelude.{◌≡◌, ◌≤◌, ◌<◌, ◌⊎◌, ◌+◌, ℕ, List, ◌++◌, length, codes, Option, Some, None, IfSome, Result, Ok, Err}
+use Rattle.std.specs.Io.KnownBytes.{Consumes, IsAtEnd}
+use Rattle.bd_device.specs.Counts.{after_more}
+use Rattle.bd_device.specs.Devices.{BreaksWithin, LosesAtLeast, Over, Reader, TakesAtMost, TakesFront, TakesText, Writer}
+use Rattle.bd_device.specs.declared.reading.ReadFault.{ReadFault}
+use Rattle.bd_device.specs.declared.reading.ReadFault.TheVariants as reads
+use Rattle.bd_files.specs.Transcript.{Transcript, error_line}
+use Rattle.bd_files.specs.declared.status.Status.{Status}
+use Rattle.bd_files.specs.declared.status.Status.TheVariants.{Failed}
+
+-- An input is read at most to 4,294,967,295 bytes, by at most 4,294,967,296 reads.
+
+-- the reader's bytes are these, or it was not read whole for this reason
+abbrev pub ReadsInput : Over Reader → Result (List ℕ) ReadFault → Type 0
+ReadsInput file (Ok bytes) =
+    IfSome file.before.left (λ xs. bytes ≡ xs) × IsAtEnd file.after.left × (length bytes ≤ 4294967295)
+    × (file.after.failures ≡ file.before.failures)
+ReadsInput file (Err reads.Device) = file.after.failures ≡ after_more file.before.failures 1
+ReadsInput file (Err reads.TooLong) =
+    IfSome file.before.left (λ xs. 4294967295 < length xs) × (file.after.failures ≡ file.before.failures)
+ReadsInput file (Err reads.TooManyTurns) =
+    LosesAtLeast 4294967296 file.before.left file.after.left
+    × (file.after.calls ≡ after_more file.before.calls 4294967296)
+    × (file.after.failures ≡ file.before.failures)
+ReadsInput file (Err reads.NoMemory) = file.after.failures ≡ file.before.failures
+
+-- The reader's bytes are these, and no more than the limit were taken; or it gave these, and no more of them were read for this reason
+abbrev pub StreamsInput : Over Reader → List ℕ → Option ReadFault → Type 0
+StreamsInput file bytes None =
+    IfSome file.before.left (λ xs. bytes ≡ xs) × TakesAtMost 4294967295 file
+    × (file.after.failures ≡ file.before.failures)
+StreamsInput file bytes (Some reads.Device) =
+    Consumes file.before.left file.after.left bytes × (length bytes ≤ 4294967295)
+    × (file.after.failures ≡ after_more file.before.failures 1)
+StreamsInput file bytes (Some reads.TooLong) =
+    (last : List ℕ) × Consumes file.before.left file.after.left (bytes ++ last)
+    × (length bytes ≤ 4294967295) × (4294967295 < length bytes + length last)
+    × (file.after.failures ≡ file.before.failures)
+StreamsInput file bytes (Some reads.TooManyTurns) =
+    Consumes file.before.left file.after.left bytes × (length bytes ≤ 4294967295)
+    × (file.after.calls ≡ after_more file.before.calls 4294967296)
+    × (file.after.failures ≡ file.before.failures)
+StreamsInput file bytes (Some reads.NoMemory) = ⊥
+
+-- the writer took the message, and the status is this; or a write failed, and the status is 1
+abbrev pub TellsMessage : Over Writer → List ℕ → Status → Status → Type 0
+TellsMessage err message wanted status =
+    (TakesText err message × (status ≡ wanted)) ⊎ (BreaksWithin err message × (status ≡ Failed))
+
+-- Standard output has the whole text that is to be shown, and standard error what belongs to it. Or a write to standard
+-- output failed: then it has a front of its text, and standard error tells so.
+abbrev pub PrintsShown : Over Writer → Over Writer → Transcript → Status → Type 0
+PrintsShown out err shown status =
+    (TakesText out shown.out × TellsMessage err shown.err shown.status status)
+    ⊎ (BreaksWithin out shown.out × TellsMessage err (error_line (codes "cannot write")) Failed status)
+
+-- all was printed so, or memory ran out: then standard output has a front of its text, and standard error tells so
+abbrev pub PrintsOrStarves : Over Writer → Over Writer → Transcript → Status → Type 0
+PrintsOrStarves out err shown status =
+    PrintsShown out err shown status
+    ⊎ (TakesFront out shown.out × TellsMessage err (error_line (codes "no memory")) Failed status)

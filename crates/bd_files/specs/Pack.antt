@@ -1,0 +1,95 @@
+-- What `pack` shows of an input, and what a run of it did.
+pub mod Packing
+use Rattle.std.specs.Prelude.{◌≡◌, ◌⊎◌, ℕ, suc, List, [], ◌∷◌, ◌++◌, length, codes, decimal, IsTrue, IsFalse, Option, Some, None, Result, Ok, Err}
+use Rattle.bd_value.specs.Tree.{Doc}
+use Rattle.bd_device.specs.Devices.{Over, Reader, Writer}
+use Rattle.bd_device.specs.declared.reading.ReadFault.{ReadFault}
+use Rattle.bd_diagnose.specs.JsonFault.{json_fault_words}
+use Rattle.bd_diagnose.specs.declared.json_fault.JsonFaultKind.{JsonFaultKind}
+use Rattle.bd_diagnose.specs.declared.json_fault.JsonFaultKind.TheVariants as kinds
+use Rattle.bd_pack.specs.Packable.{plain, IsPackable, IsBad}
+use Rattle.bd_pack.specs.declared.line.LineFault.{LineFault}
+use Rattle.bd_pack.specs.declared.line.LineFault.TheVariants as faults
+use Rattle.bd_lines.specs.Lines.{is_empty_line, text_lines}
+use Rattle.bd_files.specs.Outcome.{PrintsOrStarves, ReadsInput}
+use Rattle.bd_files.specs.Transcript.{Transcript, error_line, read_words, shown_refusal}
+use Rattle.bd_files.specs.declared.pack.packing.BadLine.{BadLine}
+use Rattle.bd_files.specs.declared.status.Status.{Status}
+use Rattle.bd_files.specs.declared.status.Status.TheVariants.{Done, Failed}
+
+-- the bytes of documents one after the other
+abbrev pub packed_bytes : List Doc → List ℕ
+packed_bytes [] = []
+packed_bytes (d ∷ ds) = plain d ++ packed_bytes ds
+
+-- Of lines, the first of which has that number, these are the documents before the first bad one, and this is that line.
+-- Lines of white space are passed over.
+abbrev pub PacksLines : ℕ → List (List ℕ) → List Doc → Option BadLine → Type 0
+PacksLines number [] ds bad = (ds ≡ []) × (bad ≡ None)
+PacksLines number (line ∷ lines) ds bad =
+    (IsTrue (is_empty_line line) × PacksLines (suc number) lines ds bad)
+    ⊎ (IsFalse (is_empty_line line)
+    × ((d : Doc) × (es : List Doc) × IsPackable line d × (ds ≡ d ∷ es)
+    × PacksLines (suc number) lines es bad))
+    ⊎ (IsFalse (is_empty_line line) × ((fault : LineFault) × IsBad line fault × (ds ≡ []) × (bad ≡ Some (record {
+      number =
+          number;
+      fault = fault;
+    }))))
+
+-- a document as a whole has no place
+abbrev pub byte_text : JsonFaultKind → ℕ → List ℕ
+byte_text kinds.NotADocument at = []
+byte_text _ at = codes ", byte " ++ decimal at
+
+abbrev pub line_fault_text : LineFault → List ℕ
+line_fault_text (faults.Unread f) = byte_text f.kind f.at ++ (codes ": " ++ json_fault_words f.kind)
+line_fault_text faults.TooLong = codes ": document too long"
+
+abbrev pub bad_line_text : BadLine → List ℕ
+bad_line_text bad = codes "line " ++ (decimal bad.number ++ line_fault_text bad.fault)
+
+abbrev pub pack_count_line : ℕ → List ℕ
+pack_count_line n = decimal n ++ codes " objects packed\n"
+
+-- what standard error tells of lines: the bad one, and how many documents stand before it
+abbrev pub bad_line_line : Option BadLine → List ℕ
+bad_line_line None = []
+bad_line_line (Some bad) = error_line (bad_line_text bad)
+
+abbrev pub pack_message : ℕ → Option BadLine → List ℕ
+pack_message count bad = bad_line_line bad ++ pack_count_line count
+
+abbrev pub pack_status : Option BadLine → Status
+pack_status None = Done
+pack_status (Some bad) = Failed
+
+abbrev pub shown_pack : List Doc → Option BadLine → Transcript
+shown_pack ds bad = record { out = packed_bytes ds; err = pack_message (length ds) bad; status = pack_status bad }
+
+-- what is shown of a text, or of an input that was not read whole
+abbrev pub IsShownByPack : Result (List ℕ) ReadFault → Transcript → Type 0
+IsShownByPack (Ok text) shown =
+    (ds : List Doc) × (bad : Option BadLine) × PacksLines 1 (text_lines text) ds bad
+    × (shown ≡ shown_pack ds bad)
+IsShownByPack (Err fault) shown = shown ≡ shown_refusal (read_words fault)
+
+-- Two tellings of where lines end are of one line, or both of none. Of a line that is no document, the kind and the place of
+-- the fault may differ.
+abbrev pub AreAlikeFaults : LineFault → LineFault → Type 0
+AreAlikeFaults (faults.Unread f) (faults.Unread g) = Unit {0}
+AreAlikeFaults (faults.Unread f) faults.TooLong = ⊥
+AreAlikeFaults faults.TooLong (faults.Unread g) = ⊥
+AreAlikeFaults faults.TooLong faults.TooLong = Unit {0}
+
+abbrev pub AreAlike : Option BadLine → Option BadLine → Type 0
+AreAlike None None = Unit {0}
+AreAlike None (Some b) = ⊥
+AreAlike (Some a) None = ⊥
+AreAlike (Some a) (Some b) = (a.number ≡ b.number) × AreAlikeFaults a.fault b.fault
+
+-- an input was read whole, or was not for a reason, and what is to be shown of it was shown
+abbrev pub PacksInput : Over Reader → Over Writer → Over Writer → Status → Type 0
+PacksInput file out err status =
+    (input : Result (List ℕ) ReadFault) × (shown : Transcript) × ReadsInput file input × IsShownByPack input shown
+    × PrintsOrStarves out err shown status

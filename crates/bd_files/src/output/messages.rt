@@ -1,0 +1,132 @@
+//! The lines that tell how a run went. But for the path of a fault they take no memory.
+
+ghost use Rattle.std.specs.Prelude.{◌≡◌, ◌++◌, ◌⊎◌, IfOk, OnErr, OnOk, codes, decimal};
+ghost use Rattle.bd_device.specs.Devices.{BreaksWithin, TakesText, over};
+ghost use Rattle.bd_check.specs.AnsweredFault.{fault_view};
+ghost use Rattle.bd_files.specs.Outcome.{TellsMessage};
+ghost use Rattle.bd_files.specs.Transcript.{error_line, fault_text, place_text, read_words};
+ghost use Rattle.bd_files.specs.declared.status.Status.TheVariants.{Failed};
+
+use crate::status::Status;
+use bd_check::Fault;
+use bd_device::{DeviceFault, Output, ReadFault, write_all};
+use bd_extjson::{write_number, write_number32, write_path};
+use bd_value::NoMemory;
+use itoa::Buffer;
+use std::alloc::Global;
+
+/// Writes the line of an error.
+#[tactic(auto, using(crate::proofs::OutputLemmas::LinesLemmas::taking))]
+pub fn write_error<E: Output>(message: &[u8], err: &mut E) -> Result<(), DeviceFault>
+    ensures ok { OnOk result (TakesText (over E.state err.old err.new) (error_line message.now)) }
+    ensures err { OnErr result (BreaksWithin (over E.state err.old err.new) (error_line message.now)) }
+{
+    write_all(err, b"bsonfind: ")?;
+    write_all(err, message)?;
+    write_all(err, b"\n")
+}
+
+/// Writes the line that tells why a read ended.
+pub fn write_read_fault<E: Output>(fault: ReadFault, err: &mut E) -> Result<(), DeviceFault>
+    ensures ok { OnOk result (TakesText (over E.state err.old err.new) (error_line (read_words fault))) }
+    ensures err { OnErr result (BreaksWithin (over E.state err.old err.new) (error_line (read_words fault))) }
+{
+    write_error(fault.words().as_bytes(), err)
+}
+
+/// Writes a number and the words after it.
+#[tactic(auto, using(crate::proofs::OutputLemmas::LinesLemmas::taking))]
+pub fn write_count<E: Output>(
+    count: u64,
+    words: &[u8],
+    err: &mut E,
+) -> Result<(), DeviceFault>
+    ensures ok { OnOk result (TakesText (over E.state err.old err.new) (decimal count ++ words.now)) }
+    ensures err { OnErr result (BreaksWithin (over E.state err.old err.new) (decimal count ++ words.now)) }
+{
+    let mut buffer = Buffer::new();
+    write_all(err, buffer.format(count).as_bytes())?;
+    write_all(err, words)
+}
+
+/// The status that is wanted where a message was written, and 1 where it was not.
+pub fn status_of(written: Result<(), DeviceFault>, wanted: Status) -> Status
+    ensures ok { OnOk written (result ≡ wanted) }
+    ensures err { OnErr written (result ≡ Failed) }
+{
+    match written {
+        Ok(()) => wanted,
+        Err(_) => Status::Failed,
+    }
+}
+
+/// Tells an error. It takes no memory.
+pub fn tell_error<E: Output>(message: &[u8], err: &mut E) -> Status
+    ensures { TellsMessage (over E.state err.old err.new) (error_line message.now) Failed result }
+{
+    let written = write_error(message, err);
+    status_of(written, Status::Failed)
+}
+
+/// Tells that memory ran out. It takes none itself.
+pub fn tell_no_memory<E: Output>(err: &mut E) -> Status
+    ensures { TellsMessage (over E.state err.old err.new) (error_line (codes "no memory")) Failed result }
+{
+    tell_error(b"no memory", err)
+}
+
+/// Tells that standard output failed.
+pub fn tell_unwritten<E: Output>(err: &mut E) -> Status
+    ensures { TellsMessage (over E.state err.old err.new) (error_line (codes "cannot write")) Failed result }
+{
+    tell_error(b"cannot write", err)
+}
+
+/// Tells why an input was not read whole. It takes no memory.
+pub fn tell_read_fault<E: Output>(fault: ReadFault, err: &mut E) -> Status
+    ensures { TellsMessage (over E.state err.old err.new) (error_line (read_words fault)) Failed result }
+{
+    let written = write_read_fault(fault, err);
+    status_of(written, Status::Failed)
+}
+
+/// Tells why an input is no dump.
+pub fn tell_dump_fault<E: Output>(alloc: Global, fault: &Fault, err: &mut E) -> Status
+    ensures { TellsMessage (over E.state err.old err.new) (error_line (fault_text fault.now.document (fault_view fault.now))) Failed result
+        ⊎ TellsMessage (over E.state err.old err.new) (error_line (codes "no memory")) Failed result }
+{
+    match fault_message(alloc, fault) {
+        Ok(message) => tell_error(&message, err),
+        Err(_) => tell_no_memory(err),
+    }
+}
+
+/// Appends where a fault stands.
+fn write_place(fault: &Fault, text: &mut Vec<u8>) -> Result<(), NoMemory>
+    ensures { OnOk result (text.new.items ≡ text.old.items ++ place_text fault.now.document fault.now.offset) }
+{
+    text.extend_from_slice(b"document ")?;
+    write_number32(fault.document, text)?;
+    text.extend_from_slice(b", byte ")?;
+    write_number(fault.offset, text)
+}
+
+/// Appends a fault: where it stands, the names on the way to it, and what it is.
+pub fn write_fault(fault: &Fault, text: &mut Vec<u8>) -> Result<(), NoMemory>
+    ensures { OnOk result (text.new.items ≡ text.old.items ++ fault_text fault.now.document (fault_view fault.now)) }
+{
+    write_place(fault, text)?;
+    text.extend_from_slice(b", path ")?;
+    write_path(&fault.path, text)?;
+    text.extend_from_slice(b": ")?;
+    text.extend_from_slice(fault.kind.words().as_bytes())
+}
+
+/// The message of a fault.
+pub fn fault_message(alloc: Global, fault: &Fault) -> Result<Vec<u8>, NoMemory>
+    ensures { IfOk result (λ v. v.items ≡ fault_text fault.now.document (fault_view fault.now)) }
+{
+    let mut text = Vec::new(alloc);
+    write_fault(fault, &mut text)?;
+    Ok(text)
+}

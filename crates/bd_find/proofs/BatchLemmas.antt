@@ -1,0 +1,283 @@
+-- The places that are asked for, and the batch that a session gives of them.
+use Rattle.std.proofs.Common.{◌≡◌, ◌≤◌, ◌<◌, ◌+◌, ◌-◌, ◌*◌, ℕ, zero, suc, Bool, true, false, cond, List, [], ◌∷◌, ◌++◌, length, get_or, take, drop, Option, Some, None, Result, Ok, Err, filter, refl, sym, ap, ◌∙◌, subst, arith, inl, inr, ◌⊎◌, ◌==◌}
+use Rattle.std.specs.Prelude.{MatchOption, IfErr, IfOk, OnOk, nat_lt, option_map}
+use Rattle.std.specs.List.{All, range_with_len}
+use Rattle.std.specs.Str.{bytes_eq}
+use Rattle.std.proofs.lemmas.Bool.{leb-true, le-ltb}
+use Rattle.std.proofs.lemmas.List.{drop_all, take_all, length-append}
+use Rattle.std.proofs.lemmas.List.FromFn.{length-range_with_len}
+use Rattle.bd_value.specs.Tree.{Doc}
+use Rattle.bd_answer.specs.Answer.{Selection, Mark, answer, at_most, before, cut, insert, insert_all, is_empty, matching, ordered, rest}
+use Rattle.bd_answer.specs.Session.{GivenBatch, IndexMark, OpenCursor, Query, State, batch_of, cursor_of, find_call, foreign_token, gave, has_index, next_call, no_index, opened, reply, resume_call, state_after, token_after, token_place, with_open}
+use Rattle.bd_answer.proofs.AnswerLemmas.{ordered_in}
+use Rattle.bd_answer.proofs.BatchLemmas.{cut_length}
+use Rattle.bd_answer.proofs.OrderLemmas.{In, filter_in, in_at}
+use Rattle.bd_check.specs.Dump.{AreJoined}
+use Rattle.bd_check.proofs.DumpLemmas.{document_frame, frame_inside}
+use Rattle.bd_cursor.specs.SessionView.{IsRefusedCall, mark_of, marked_token}
+use Rattle.bd_request.specs.declared.refused.Refused.{Refused}
+use Rattle.bd_request.specs.declared.refused.Refused.TheVariants as reasons
+use Rattle.bd_request.specs.declared.token.Token.{Token}
+use Rattle.bd_find.specs.Find.{left_over}
+use Rattle.bd_find.specs.Asking.{fits_batch, refused_text}
+use Rattle.bd_find.specs.Batch.{AwaitsFirst, IsOpenedOn, IsReady, before_first, cursor_for, places_from}
+
+-- ---- a dump has no more documents than a batch may have
+
+-- each document has at least five bytes
+pub five_each : (ds : List Doc) (bytes : List ℕ) → AreJoined ds bytes → length ds * 5 ≤ length bytes
+five_each [] bytes e = omega arith
+five_each (d ∷ ds) bytes (front, rest, document, joined, cut) =
+    let five : 5 ≤ length front = (frame_inside (front ++ []) (length front) (document_frame d front [] document)).0 in
+    omega (arith, five, five_each ds rest joined, ap length cut, length-append front rest)
+
+-- ---- which places, and how many
+
+insert_length : (lt : ℕ → ℕ → Bool) (p : ℕ) (qs : List ℕ) → length (insert lt p qs) ≡ length qs + 1
+insert_length lt p [] = omega arith
+insert_length lt p (q ∷ qs) = go (lt p q) (insert_length lt p qs)
+  where
+    go : (b : Bool) → length (insert lt p qs) ≡ length qs + 1 → length (cond b (p ∷ (q ∷ qs)) (q ∷ insert lt p qs)) ≡ length (q ∷ qs) + 1
+    go true h = omega arith
+    go false h = omega (arith, h)
+
+insert_all_length : (lt : ℕ → ℕ → Bool) (kept ps : List ℕ) → length (insert_all lt kept ps) ≡ length kept + length ps
+insert_all_length lt kept [] = omega arith
+insert_all_length lt kept (p ∷ ps) = omega (arith, insert_all_length lt (insert lt p kept) ps, insert_length lt p kept)
+
+filter_length : (test : ℕ → Bool) (xs : List ℕ) → length (filter test xs) ≤ length xs
+filter_length test [] = omega arith
+filter_length test (x ∷ xs) = go (test x) (filter_length test xs)
+  where
+    go : (b : Bool) → length (filter test xs) ≤ length xs → length (cond b (x ∷ filter test xs) (filter test xs)) ≤ length (x ∷ xs)
+    go true h = omega (arith, h)
+    go false h = omega (arith, h)
+
+drop_length : (n : ℕ) (xs : List ℕ) → length (drop n xs) ≤ length xs
+drop_length zero xs = omega arith
+drop_length (suc n) [] = omega arith
+drop_length (suc n) (x ∷ xs) = omega (arith, drop_length n xs)
+
+ordered_length : (a : Selection) → length (ordered a) ≤ a.count
+ordered_length a =
+    omega (arith, insert_all_length (before a.by) [] (matching a), filter_length a.hits (range_with_len 0 a.count), length-range_with_len 0 a.count)
+
+drop_in : (n : ℕ) (xs : List ℕ) (x : ℕ) → In x (drop n xs) → In x xs
+drop_in zero xs x h = h
+drop_in (suc n) [] x h = h
+drop_in (suc n) (y ∷ xs) x h = inr (drop_in n xs x h)
+
+take_in : (n : ℕ) (xs : List ℕ) (x : ℕ) → In x (take n xs) → In x xs
+take_in zero xs x h = absurd h
+take_in (suc n) [] x h = h
+take_in (suc n) (y ∷ xs) x (inl e) = inl e
+take_in (suc n) (y ∷ xs) x (inr h) = inr (take_in n xs x h)
+
+cut_in : (limit given : ℕ) (xs : List ℕ) (x : ℕ) → In x (cut limit given xs) → In x xs
+cut_in limit given xs x = go (limit == 0)
+  where
+    go : (b : Bool) → In x (cond b xs (take (limit - given) xs)) → In x xs
+    go true h = h
+    go false h = take_in (limit - given) xs x h
+
+abbrev pub AreInside : ℕ → List ℕ → Type 0
+AreInside n xs = (x : ℕ) → In x xs → x < n
+
+answer_inside : (a : Selection) → AreInside a.count (answer a)
+answer_inside a x h = (ordered_in a x (drop_in a.skip (ordered a) x (cut_in a.limit 0 (drop a.skip (ordered a)) x h))).0
+
+rest_inside : (a : Selection) (m : Mark) → AreInside a.count (rest a m)
+rest_inside a m x h =
+    let later = filter (before a.by m.last) (ordered a) in
+    (ordered_in a x (filter_in (before a.by m.last) (ordered a) x (cut_in a.limit m.given later x h)).0).0
+
+answer_length : (a : Selection) → length (answer a) ≤ a.count
+answer_length a =
+    omega (arith, cut_length a.limit 0 (drop a.skip (ordered a)) (length (answer a)) (omega arith), drop_length a.skip (ordered a), ordered_length a)
+
+rest_length : (a : Selection) (m : Mark) → length (rest a m) ≤ a.count
+rest_length a m =
+    let later = filter (before a.by m.last) (ordered a) in
+    omega (arith, cut_length a.limit m.given later (length (rest a m)) (omega arith), filter_length (before a.by m.last) (ordered a), ordered_length a)
+
+-- the places that are asked for are places of documents, and no more than these
+abbrev pub AreFew : ℕ → List ℕ → Type 0
+AreFew n ps = AreInside n ps × (length ps ≤ n)
+
+pub led_few : (q : Query) (token : Option Token) (ps : List ℕ) → places_from q token ≡ Ok ps → AreFew q.selection.count ps
+led_few q None ps e = let same : answer q.selection ≡ ps = cc in subst (AreFew q.selection.count) same (answer_inside q.selection, answer_length q.selection)
+led_few q (Some t) ps e = go (bytes_eq t.digest q.digest) (nat_lt t.last q.selection.count) e
+  where
+    go : (same place : Bool) → cond same (cond place (Ok (rest q.selection (mark_of t))) (Err (refused_text reasons.TokenPlace))) (Err (refused_text reasons.ForeignToken)) ≡ Ok ps → AreFew q.selection.count ps
+    go true true e = let is : rest q.selection (mark_of t) ≡ ps = cc in subst (AreFew q.selection.count) is (rest_inside q.selection (mark_of t), rest_length q.selection (mark_of t))
+    go true false e = absurd cc
+    go false place e = absurd cc
+
+-- ---- the cursor that is opened first
+
+only_memory : (id : ℕ) (r : Refused) → IsRefusedCall (opened id) r → r ≡ reasons.NoMemory
+only_memory id reasons.BadSort h = absurd h
+only_memory id reasons.NoIndex h = absurd cc
+only_memory id reasons.IndexThere h = absurd cc
+only_memory id reasons.TooManyIndexes h = absurd cc
+only_memory id reasons.TooManyCursors h = absurd cc
+only_memory id reasons.NoCursor h = absurd cc
+only_memory id reasons.BadToken h = absurd h
+only_memory id reasons.ForeignToken h = absurd cc
+only_memory id reasons.TokenPlace h = absurd cc
+only_memory id reasons.Range h = absurd cc
+only_memory id reasons.NoMemory h = refl
+only_memory id (reasons.BadFilter fault) h = absurd h
+
+only_foreign : (r : Refused) → IsRefusedCall foreign_token r → r ≡ reasons.ForeignToken
+only_foreign reasons.BadSort h = absurd h
+only_foreign reasons.NoIndex h = absurd cc
+only_foreign reasons.IndexThere h = absurd cc
+only_foreign reasons.TooManyIndexes h = absurd cc
+only_foreign reasons.TooManyCursors h = absurd cc
+only_foreign reasons.NoCursor h = absurd cc
+only_foreign reasons.BadToken h = absurd h
+only_foreign reasons.ForeignToken h = refl
+only_foreign reasons.TokenPlace h = absurd cc
+only_foreign reasons.Range h = absurd cc
+only_foreign reasons.NoMemory h = absurd h
+only_foreign (reasons.BadFilter fault) h = absurd h
+
+only_place : (r : Refused) → IsRefusedCall token_place r → r ≡ reasons.TokenPlace
+only_place reasons.BadSort h = absurd h
+only_place reasons.NoIndex h = absurd cc
+only_place reasons.IndexThere h = absurd cc
+only_place reasons.TooManyIndexes h = absurd cc
+only_place reasons.TooManyCursors h = absurd cc
+only_place reasons.NoCursor h = absurd cc
+only_place reasons.BadToken h = absurd h
+only_place reasons.ForeignToken h = absurd cc
+only_place reasons.TokenPlace h = refl
+only_place reasons.Range h = absurd cc
+only_place reasons.NoMemory h = absurd h
+only_place (reasons.BadFilter fault) h = absurd h
+
+module _ (q : Query) (s : State) (hint : Option (List ℕ)) where
+  put_in : (marks : List IndexMark) (token : Option Token) (ps : List ℕ) (id : ℕ) → opened 1 ≡ opened id
+      → s ≡ with_open (before_first marks) q.digest (option_map marked_token token) ps
+      → cursor_of id s.cursors ≡ Some (cursor_for id q token ps)
+  put_in marks token ps id r e = let one : 1 ≡ id = cc in rw (e, sym one) refl
+
+  find_opens_first : (marks : List IndexMark) → has_index marks hint ≡ true → (result : Result ℕ Refused)
+      → IfOk result (λ id. reply (before_first marks) (find_call q hint) ≡ opened id)
+      → OnOk result (s ≡ state_after (before_first marks) (find_call q hint))
+      → IfErr result (IsRefusedCall (reply (before_first marks) (find_call q hint))) → IsOpenedOn q None s result
+  find_opens_first marks there (Ok id) r e f = go (has_index marks hint) there r e
+    where
+      go : (has : Bool) → has ≡ true → cond has (opened 1) no_index ≡ opened id
+          → s ≡ cond has (with_open (before_first marks) q.digest None (answer q.selection)) (before_first marks)
+          → (xs : List ℕ) × (places_from q None ≡ Ok xs) × (cursor_of id s.cursors ≡ Some (cursor_for id q None xs))
+      go true there r e = (answer q.selection, refl, put_in marks None (answer q.selection) id r e)
+      go false there r e = absurd cc
+  find_opens_first marks there (Err refused) r e f = go (has_index marks hint) there f
+    where
+      go : (has : Bool) → has ≡ true → IsRefusedCall (cond has (opened 1) no_index) refused
+          → (refused ≡ reasons.NoMemory) ⊎ (places_from q None ≡ Err (refused_text refused))
+      go true there f = inl (only_memory 1 refused f)
+      go false there f = absurd cc
+
+  resume_opens_first : (marks : List IndexMark) → has_index marks hint ≡ true → (t : Token) (result : Result ℕ Refused)
+      → IfOk result (λ id. reply (before_first marks) (resume_call q hint (marked_token t)) ≡ opened id)
+      → OnOk result (s ≡ state_after (before_first marks) (resume_call q hint (marked_token t)))
+      → IfErr result (IsRefusedCall (reply (before_first marks) (resume_call q hint (marked_token t)))) → IsOpenedOn q (Some t) s result
+  resume_opens_first marks there t (Ok id) r e f = go (has_index marks hint) there (bytes_eq t.digest q.digest) (nat_lt t.last q.selection.count) r e
+    where
+      go : (has : Bool) → has ≡ true → (same place : Bool) → cond same (cond place (cond has (opened 1) no_index) token_place) foreign_token ≡ opened id
+          → s ≡ cond same (cond place (cond has (with_open (before_first marks) q.digest (Some (marked_token t)) (rest q.selection (mark_of t))) (before_first marks)) (before_first marks)) (before_first marks)
+          → (xs : List ℕ) × (cond same (cond place (Ok (rest q.selection (mark_of t))) (Err (refused_text reasons.TokenPlace))) (Err (refused_text reasons.ForeignToken)) ≡ Ok xs)
+          × (cursor_of id s.cursors ≡ Some (cursor_for id q (Some t) xs))
+      go true there true true r e = (rest q.selection (mark_of t), refl, put_in marks (Some t) (rest q.selection (mark_of t)) id r e)
+      go true there true false r e = absurd cc
+      go true there false place r e = absurd cc
+      go false there same place r e = absurd cc
+  resume_opens_first marks there t (Err refused) r e f = go (has_index marks hint) there (bytes_eq t.digest q.digest) (nat_lt t.last q.selection.count) f
+    where
+      go : (has : Bool) → has ≡ true → (same place : Bool) → IsRefusedCall (cond same (cond place (cond has (opened 1) no_index) token_place) foreign_token) refused
+          → (refused ≡ reasons.NoMemory) ⊎ (cond same (cond place (Ok (rest q.selection (mark_of t))) (Err (refused_text reasons.TokenPlace))) (Err (refused_text reasons.ForeignToken)) ≡ Err (refused_text refused))
+      go true there true true f = inl (only_memory 1 refused f)
+      go true there true false f = inr (ap (λ r. Err (refused_text r)) (sym (only_place refused f)))
+      go true there false place f = inr (ap (λ r. Err (refused_text r)) (sym (only_foreign refused f)))
+      go false there same place f = absurd cc
+
+  pub find_opens : (old : State) → AwaitsFirst old hint → (result : Result ℕ Refused) → IfOk result (λ id. reply old (find_call q hint) ≡ opened id)
+      → OnOk result (s ≡ state_after old (find_call q hint)) → IfErr result (IsRefusedCall (reply old (find_call q hint))) → IsOpenedOn q None s result
+  find_opens old first result r e f =
+      find_opens_first first.marks first.is_there result (subst (λ (o : State). IfOk result (λ id. reply o (find_call q hint) ≡ opened id)) first.is_unopened r)
+      (subst (λ (o : State). OnOk result (s ≡ state_after o (find_call q hint))) first.is_unopened e)
+      (subst (λ (o : State). IfErr result (IsRefusedCall (reply o (find_call q hint)))) first.is_unopened f)
+
+  pub resume_opens : (old : State) → AwaitsFirst old hint → (t : Token) (result : Result ℕ Refused) → IfOk result (λ id. reply old (resume_call q hint (marked_token t)) ≡ opened id)
+      → OnOk result (s ≡ state_after old (resume_call q hint (marked_token t))) → IfErr result (IsRefusedCall (reply old (resume_call q hint (marked_token t)))) → IsOpenedOn q (Some t) s result
+  resume_opens old first t result r e f =
+      resume_opens_first first.marks first.is_there t result (subst (λ (o : State). IfOk result (λ id. reply o (resume_call q hint (marked_token t)) ≡ opened id)) first.is_unopened r)
+      (subst (λ (o : State). OnOk result (s ≡ state_after o (resume_call q hint (marked_token t)))) first.is_unopened e)
+      (subst (λ (o : State). IfErr result (IsRefusedCall (reply o (resume_call q hint (marked_token t))))) first.is_unopened f)
+
+-- it is ready to give a batch
+pub opened_ready : (q : Query) (token : Option Token) (s : State) (id : ℕ) → q.selection.count ≤ 2147483647 → IsOpenedOn q token s (Ok id) → IsReady s id q.selection.count
+opened_ready q token s id le (ps, led, there) =
+    let few = led_few q token ps led in
+    record {
+      cursor = cursor_for id q token ps;
+      is_there = there;
+      inside = λ k d lt. few.0 (get_or ps k d) (in_at ps k d lt);
+      few = omega (arith, few.1);
+    }
+
+-- ---- its first batch
+
+abbrev pub IsMost : Option ℕ → ℕ → Type 0
+IsMost size most = MatchOption size (most ≡ 2147483647) (λ n. most ≡ n)
+
+most_fits : (size : Option ℕ) (n : ℕ) → IsMost size n → fits_batch size ≡ true → n ≤ 2147483647
+most_fits None n m fits = omega (arith, m)
+most_fits (Some k) n m fits = omega (arith, m, leb-true k 2147483647 fits)
+
+pub taken_is : (size : Option ℕ) (n : ℕ) (ps : List ℕ) → IsMost size n → length ps ≤ 2147483647 → take n ps ≡ at_most size ps
+taken_is None n ps m le = take_all n ps (omega (arith, m, le))
+taken_is (Some k) n ps m le = ap (λ i. take i ps) m
+
+pub left_is : (size : Option ℕ) (n : ℕ) (ps : List ℕ) → IsMost size n → length ps ≤ 2147483647 → drop n ps ≡ left_over size ps
+left_is None n ps m le = drop_all n ps (omega (arith, m, le))
+left_is (Some k) n ps m le = ap (λ i. drop i ps) m
+
+pub given_is : (s : State) (id n : ℕ) (c : OpenCursor) (size : Option ℕ) (b : GivenBatch) → IsMost size n → fits_batch size ≡ true → cursor_of id s.cursors ≡ Some c
+    → reply s (next_call id n) ≡ gave b → b ≡ batch_of c n
+given_is s id n c size b most fits there r =
+    let small : nat_lt 2147483647 n ≡ false = le-ltb 2147483647 n (most_fits size n most fits) in
+    let g : gave (batch_of c n) ≡ gave b = (rw (there, small) at r) in
+    cc
+
+pub taken_inside : (count n : ℕ) (ps xs : List ℕ) → All (λ p. p < count) ps → xs ≡ take n ps → All (λ p. p < count) xs
+taken_inside count n ps xs inside same k d lt =
+    let i : In (get_or xs k d) (take n ps) = subst (λ (ys : List ℕ). In (get_or xs k d) ys) same (in_at xs k d lt) in
+    inside_all ps inside (get_or xs k d) (take_in n ps (get_or xs k d) i)
+  where
+    inside_all : (ys : List ℕ) → All (λ p. p < count) ys → (x : ℕ) → In x ys → x < count
+    inside_all [] h x i = absurd i
+    inside_all (y ∷ ys) h x (inl e) = let z : y < count = h 0 0 (omega arith) in omega (arith, e, z)
+    inside_all (y ∷ ys) h x (inr i) = inside_all ys (λ k d lt. h (suc k) d (omega (arith, lt))) x i
+
+-- what a session gives is the first batch of the cursor
+pub record IsBatchOf (size : Option ℕ) (c : OpenCursor) (b : GivenBatch) : Type 0 where
+  pub places : b.places ≡ at_most size c.left
+  pub ends : b.ends ≡ is_empty (left_over size c.left)
+  pub token : b.token ≡ token_after c.digest c.token (at_most size c.left)
+
+pub batch_given : (s : State) (id n : ℕ) (count : ℕ) (size : Option ℕ) (b : GivenBatch) → IsReady s id count → IsMost size n → fits_batch size ≡ true
+    → reply s (next_call id n) ≡ gave b → (c : OpenCursor) → cursor_of id s.cursors ≡ Some c → IsBatchOf size c b
+batch_given s id n count size b ready most fits r c there =
+    let same : ready.cursor ≡ c = (let e = sym ready.is_there ∙ there in cc) in
+    let few : length c.left ≤ 2147483647 = subst (λ (x : OpenCursor). length x.left ≤ 2147483647) same ready.few in
+    let is = given_is s id n c size b most fits there r in
+    let places = taken_is size n c.left most few in
+    record {
+      places = ap (λ (x : GivenBatch). x.places) is ∙ places;
+      ends = ap (λ (x : GivenBatch). x.ends) is ∙ ap is_empty (left_is size n c.left most few);
+      token = ap (λ (x : GivenBatch). x.token) is ∙ ap (token_after c.digest c.token) places;
+    }

@@ -1,0 +1,98 @@
+-- The lines of documents that were found, and the ends of a run of `find`.
+use Rattle.std.proofs.Common.{◌≡◌, ◌≤◌, ◌<◌, ◌+◌, ◌-◌, ℕ, List, [], ◌∷◌, ◌++◌, length, get_or, take, drop, Option, Some, None, refl, sym, ap, ◌∙◌, subst, append_assoc, append-nil, arith, inl, inr, zero, suc, Bool, true, false, cond, ◌⊎◌, codes, Ok, Err}
+use Rattle.std.specs.Prelude.{slice_get, MatchOption}
+use Rattle.std.specs.List.{All}
+use Rattle.std.proofs.lemmas.List.{take-append-drop, take_more, take_all, drop_all}
+use Rattle.std.proofs.lemmas.List.Elements.{filter_map-append}
+use Rattle.bd_value.specs.Tree.{Doc, doc, fields_of}
+use Rattle.bd_text.specs.Text.{text}
+use Rattle.std.proofs.KnownBytes.{Appends-nil}
+use Rattle.bd_bson.specs.Collection.{IsUnread}
+use Rattle.bd_check.specs.AnsweredFault.{fault_view}
+use Rattle.bd_check.specs.declared.fault.Fault as declared
+use Rattle.bd_check.specs.declared.fault.FaultKind.TheVariants as kinds
+use Rattle.bd_check.specs.Fault.{Fault}
+use Rattle.bd_check.specs.Dump.{IsWalk}
+use Rattle.bd_files.specs.declared.status.Status.{Status}
+use Rattle.bd_files.specs.declared.status.Status.TheVariants.{Failed}
+use Rattle.bd_request.specs.declared.refused.Refused.{Refused}
+use Rattle.bd_request.specs.declared.refused.Refused.TheVariants as reasons
+use Rattle.bd_find.specs.Asking.{PageRequest, refused_text}
+use Rattle.bd_find.specs.Batch.{places_from, query_for}
+use Rattle.bd_find.proofs.UniqueLemmas.{bytes_show, dump_shows}
+use Rattle.bd_files.proofs.OutputLemmas.LinesLemmas.{lines-append}
+use Rattle.bd_bson.specs.Documents.{documents_at}
+use Rattle.bd_find.specs.Find.{IsShownOfBytes, IsShownOfDump}
+use Rattle.bd_files.specs.Outcome.{PrintsOrStarves, TellsMessage}
+use Rattle.bd_files.specs.Transcript.{Transcript, error_line, fault_text, lines, shown_refusal}
+use Rattle.bd_device.specs.Devices.{TakesFront, TakesText, Writer, between}
+
+-- the lines of the documents at the first places
+abbrev pub lines_to : List Doc → List ℕ → ℕ → List ℕ
+lines_to ds ps i = lines (documents_at ds (take i ps))
+
+abbrev pub all_lines : List Doc → List ℕ → List ℕ
+all_lines ds ps = lines (documents_at ds ps)
+
+module _ (ds : List Doc) (ps : List ℕ) where
+  pub cut_at : (i : ℕ) → all_lines ds ps ≡ lines_to ds ps i ++ lines (documents_at ds (drop i ps))
+  cut_at i =
+      ap (λ xs. lines (documents_at ds xs)) (sym (take-append-drop i ps)) ∙ ap lines (filter_map-append (slice_get ds) (take i ps) (drop i ps))
+      ∙ lines-append (documents_at ds (take i ps)) (documents_at ds (drop i ps))
+
+  at_place : (p : ℕ) (d : Doc) → slice_get ds p ≡ Some d → lines (documents_at ds (p ∷ [])) ≡ text (doc (fields_of d)) ++ 10 ∷ []
+  at_place p d is = rw is refl
+
+  pub one_more : (i p : ℕ) (d : Doc) → i < length ps → get_or ps i 0 ≡ p → slice_get ds p ≡ Some d → lines_to ds ps (i + 1) ≡ lines_to ds ps i ++ (text (doc (fields_of d)) ++ 10 ∷ [])
+  one_more i p d lt here is =
+      let grown : take (i + 1) ps ≡ take i ps ++ p ∷ [] = take_more ps i 0 lt ∙ ap (λ x. take i ps ++ x ∷ []) here in
+      ap (λ xs. lines (documents_at ds xs)) grown ∙ ap lines (filter_map-append (slice_get ds) (take i ps) (p ∷ []))
+      ∙ lines-append (documents_at ds (take i ps)) (documents_at ds (p ∷ [])) ∙ ap (λ xs. lines_to ds ps i ++ xs) (at_place p d is)
+
+-- ---- the ends of a run
+
+module _ (out_old out_new : Writer) (err_old err_new : Writer) (status : Status) where
+  -- memory ran out before anything was written
+  pub nothing_shown : (shown : Transcript) → TellsMessage (between err_old err_new) (error_line (codes "no memory")) Failed status → PrintsOrStarves (between out_old out_old) (between err_old err_new) shown status
+  nothing_shown shown told = inr ((([], shown.out, refl, Appends-nil out_old.held), refl), told)
+
+  -- the line of a fault alone, or want of memory
+  pub refusal_shown : (words : List ℕ) → TellsMessage (between err_old err_new) (error_line words) Failed status ⊎ TellsMessage (between err_old err_new) (error_line (codes "no memory")) Failed status
+      → PrintsOrStarves (between out_old out_old) (between err_old err_new) (shown_refusal words) status
+  refusal_shown words (inl told) = inl (inl ((Appends-nil out_old.held, refl), told))
+  refusal_shown words (inr told) = nothing_shown (shown_refusal words) told
+
+  -- what is shown of a dump with a fault
+  pub fault_shown : (w : PageRequest) (bytes : List ℕ) (fault : declared.Fault) → length bytes ≤ 4294967295 → IsUnread bytes fault → ¬ (fault.kind ≡ kinds.NoMemory)
+      → TellsMessage (between err_old err_new) (error_line (fault_text fault.document (fault_view fault))) Failed status ⊎ TellsMessage (between err_old err_new) (error_line (codes "no memory")) Failed status
+      → (shown : Transcript) × IsShownOfBytes w bytes shown × PrintsOrStarves (between out_old out_old) (between err_old err_new) shown status
+  fault_shown w bytes fault le (inl long) other told = absurd (let more = long.more in omega arith)
+  fault_shown w bytes fault le (inr (_, inl want)) other told = absurd (other want.kind)
+  fault_shown w bytes fault le (inr (_, inr first)) other told =
+      let words = fault_text (length first.before) (fault_view fault) in
+      let line : error_line (fault_text fault.document (fault_view fault)) ≡ error_line words = ap (λ k. error_line (fault_text k (fault_view fault))) first.document in (
+        shown_refusal words,
+        inl (words, (first.before, fault_view fault, first.fails, refl), refl),
+        refusal_shown words (subst (λ t. TellsMessage (between err_old err_new) t Failed status ⊎ TellsMessage (between err_old err_new) (error_line (codes "no memory")) Failed status) line told),
+      )
+
+  -- what is shown where no cursor was opened
+  pub refused_shown : (bytes : List ℕ) (ds : List Doc) (w : PageRequest) (refused : Refused) → (refused ≡ reasons.NoMemory) ⊎ (places_from (query_for bytes ds w) w.token ≡ Err (refused_text refused))
+      → TellsMessage (between err_old err_new) (error_line (refused_text refused)) Failed status ⊎ TellsMessage (between err_old err_new) (error_line (codes "no memory")) Failed status
+      → (shown : Transcript) × IsShownOfDump bytes ds w shown × PrintsOrStarves (between out_old out_old) (between err_old err_new) shown status
+  refused_shown bytes ds w refused (inl want) told =
+      let shows = dump_shows bytes ds w in
+      (shows.0, shows.1, nothing_shown shows.0 (either (rw want at told)))
+    where
+      either : TellsMessage (between err_old err_new) (error_line (codes "no memory")) Failed status ⊎ TellsMessage (between err_old err_new) (error_line (codes "no memory")) Failed status
+          → TellsMessage (between err_old err_new) (error_line (codes "no memory")) Failed status
+      either (inl t) = t
+      either (inr t) = t
+  refused_shown bytes ds w refused (inr led) told =
+      (shown_refusal (refused_text refused), inl (refused_text refused, sym led, refl), refusal_shown (refused_text refused) told)
+
+  pub starved_shown : (w : PageRequest) (bytes : List ℕ) → (ds : List Doc) × (end : Option Fault) × IsWalk ds end bytes → TellsMessage (between err_old err_new) (error_line (codes "no memory")) Failed status
+      → (shown : Transcript) × IsShownOfBytes w bytes shown × PrintsOrStarves (between out_old out_old) (between err_old err_new) shown status
+  starved_shown w bytes (ds, end, walk) told =
+      let shows = bytes_show w bytes ds end walk in
+      (shows.0, shows.1, nothing_shown shows.0 told)

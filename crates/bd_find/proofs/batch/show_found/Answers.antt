@@ -1,0 +1,40 @@
+use Rattle.std.proofs.Common.{◌≡◌, Ok, Err, length, refl, sym, ◌∙◌, subst, inr}
+use Rattle.bd_bson.specs.Collection.{bytes_of, documents}
+use Rattle.bd_bson.specs.declared.collection.Dump.{Dump}
+use Rattle.bd_sort.specs.Selection.{query_of}
+use Rattle.bd_cursor.specs.SessionView.{state_of}
+use Rattle.bd_find.proofs.FindLemmas as finds
+use Rattle.bd_find.proofs.BatchLemmas.{opened_ready}
+use Rattle.bd_find.proofs.batch.show_found.Goals as goal
+use Rattle.bd_find.specs.Find.{shown_batch}
+use Rattle.bd_find.specs.Asking.{page_request_of}
+use Rattle.bd_find.specs.Batch.{IsOpenedOn, IsReady, cursor_for, places_from}
+use Rattle.bd_files.specs.Outcome.{PrintsOrStarves}
+use Rattle.bd_device.specs.Devices.{over}
+
+pub show_batch-requires-clause-ready : goal.show_batch-requires-clause-ready
+show_batch-requires-clause-ready g c =
+    let q = query_of c.args.dump c.args.asking.request in
+    let o : IsOpenedOn q c.args.asking.token (state_of c.open_first.new.session) (Ok c.in-Ok.id) = rw c.in-Ok.is at (rw c.new-session.ensures.dump at c.open_first.ensures.opened) in
+    subst (λ (dump : Dump). IsReady (state_of c.open_first.new.session) c.in-Ok.id (length (documents dump))) (sym (c.open_first.ensures.dump ∙ c.new-session.ensures.dump))
+    (opened_ready q c.args.asking.token (state_of c.open_first.new.session) c.in-Ok.id c.requires.few o)
+
+pub returns-in-Ok : goal.returns-in-Ok
+returns-in-Ok g c =
+    let q = query_of c.args.dump c.args.asking.request in
+    let w = page_request_of c.args.asking in
+    let token = c.args.asking.token in
+    let o : IsOpenedOn q token (state_of c.open_first.new.session) (Ok c.in-Ok.id) = rw c.in-Ok.is at (rw c.new-session.ensures.dump at c.open_first.ensures.opened) in
+    let back : Ok o.0 ≡ places_from q token = sym {b = Ok o.0} o.1 in
+    let shown = shown_batch c.args.asking.size (documents c.args.dump) (cursor_for 1 q token o.0) in (
+      shown,
+      inr (o.0, back, refl),
+      subst (λ (dump : Dump). PrintsOrStarves (over g.O.Output.state c.args.out.now c.show_batch.new.out) (over g.E.Output.state c.args.err.now c.show_batch.new.err) (shown_batch c.args.asking.size (documents dump) (cursor_for 1 q token o.0)) c.show_batch.result) (c.open_first.ensures.dump ∙ c.new-session.ensures.dump)
+          (c.show_batch.ensures (cursor_for c.in-Ok.id q token o.0) o.2),
+    )
+
+pub returns : goal.returns
+returns g c =
+    let q = query_of c.args.dump c.args.asking.request in
+    let o : IsOpenedOn q c.args.asking.token (state_of c.open_first.new.session) (Err c.in-Err.refused) = rw c.in-Err.is at (rw c.new-session.ensures.dump at c.open_first.ensures.opened) in
+    finds.refused_shown (g.O.Output.state c.args.out.now) (g.O.Output.state c.args.out.now) (g.E.Output.state c.args.err.now) (g.E.Output.state c.tell_refused.new.err) _ (bytes_of c.args.dump) (documents c.args.dump) (page_request_of c.args.asking) c.in-Err.refused o c.tell_refused.ensures

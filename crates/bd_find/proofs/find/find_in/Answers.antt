@@ -1,0 +1,28 @@
+use Rattle.std.proofs.Common.{inr, subst, arith}
+use Rattle.bd_bson.specs.Collection.{documents}
+use Rattle.bd_find.proofs.FindLemmas as finds
+use Rattle.bd_find.proofs.BatchLemmas.{five_each}
+use Rattle.bd_find.proofs.find.find_in.Goals as goal
+use Rattle.bd_find.specs.Find.{IsShownOfDump}
+use Rattle.bd_find.specs.Asking.{page_request_of}
+
+pub show_found-requires-clause-few : goal.show_found-requires-clause-few
+show_found-requires-clause-few g c =
+    let few = five_each (documents c.in-Ok.dump) c.args.bytes.items c.in-Ok.ensures.dump.0 in
+    let short = c.requires.short in
+    omega (arith, few, short)
+
+pub returns-in-Ok : goal.returns-in-Ok
+returns-in-Ok g c =
+    let ds = documents c.in-Ok.dump in
+    let s = c.show_found.ensures in
+    let w = page_request_of c.args.asking in
+    (s.0, inr (ds, c.in-Ok.ensures.dump.0, subst (λ bytes. IsShownOfDump bytes ds w s.0) c.in-Ok.ensures.bytes s.1), s.2)
+
+pub returns-then-is_want_of_memory : goal.returns-then-is_want_of_memory
+returns-then-is_want_of_memory g c =
+    finds.starved_shown (g.O.Output.state c.args.out.now) (g.O.Output.state c.args.out.now) (g.E.Output.state c.args.err.now) (g.E.Output.state c.tell_no_memory.new.err) _ (page_request_of c.args.asking) c.args.bytes.items (c.read_dump.ensures.walk c.requires.short) c.tell_no_memory.ensures
+
+pub returns-else-is_want_of_memory : goal.returns-else-is_want_of_memory
+returns-else-is_want_of_memory g c =
+    finds.fault_shown (g.O.Output.state c.args.out.now) (g.O.Output.state c.args.out.now) (g.E.Output.state c.args.err.now) (g.E.Output.state c.tell_dump_fault.new.err) _ (page_request_of c.args.asking) c.args.bytes.items c.in-Err.fault c.requires.short c.in-Err.ensures.fault (λ e. cc (c.if-is_want_of_memory.ensures.1 e)) c.tell_dump_fault.ensures

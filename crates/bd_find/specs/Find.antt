@@ -1,0 +1,101 @@
+-- What `find` shows of its words and an input, and what a run of it did.
+use Rattle.std.specs.Prelude.{◌≡◌, ◌⊎◌, ℕ, Bool, List, [], ◌∷◌, ◌++◌, length, drop, codes, decimal, Option, Some, None, Result, Ok, Err, option_map, if◌then◌else◌}
+use Rattle.bd_value.specs.Tree.{Doc}
+use Rattle.bd_answer.specs.Answer.{at_most, is_empty}
+use Rattle.bd_answer.specs.Session.{MarkedToken, OpenCursor, token_after}
+use Rattle.bd_bson.specs.Documents.{documents_at}
+use Rattle.bd_device.specs.Devices.{Over, Reader, Writer}
+use Rattle.bd_device.specs.declared.reading.ReadFault.{ReadFault}
+use Rattle.bd_check.specs.Fault.{Fault}
+use Rattle.bd_check.specs.Dump.{IsWalk}
+use Rattle.bd_command_line.specs.FindWords.{FindWords}
+use Rattle.bd_request.specs.Results.{marked_text}
+use Rattle.bd_find.specs.Chain.{IsRefusedOr}
+use Rattle.bd_find.specs.Asking.{AsksInWords, PageRequest}
+use Rattle.bd_find.specs.Batch.{cursor_for, places_from, query_for}
+use Rattle.bd_files.specs.Outcome.{PrintsOrStarves, ReadsInput, TellsMessage}
+use Rattle.bd_files.specs.Transcript.{Transcript, error_line, lines, fault_text, read_words, shown_refusal}
+use Rattle.bd_files.specs.declared.status.Status.{Status}
+use Rattle.bd_files.specs.declared.status.Status.TheVariants.{Done, Failed}
+
+-- what the first batch leaves; without a size it is the whole
+abbrev pub left_over : Option ℕ → List ℕ → List ℕ
+left_over None ps = []
+left_over (Some n) ps = drop n ps
+
+abbrev pub end_words : Bool → List ℕ
+end_words ends = if ends then codes " documents, end" else codes " documents, more"
+
+-- the token after a batch, where there is one
+abbrev pub token_words : Option MarkedToken → List ℕ
+token_words None = []
+token_words (Some t) = codes ", token " ++ marked_text t
+
+abbrev pub find_count_line : ℕ → Bool → Option MarkedToken → List ℕ
+find_count_line count ends token = decimal count ++ (end_words ends ++ (token_words token ++ 10 ∷ []))
+
+-- what is shown of a cursor: the documents of its first batch, how many they are, whether nothing is left, and
+-- the token that leads on
+abbrev pub shown_batch : Option ℕ → List Doc → OpenCursor → Transcript
+shown_batch size ds c = let ps = at_most size c.left in record {
+  out = lines (documents_at ds ps);
+  err = find_count_line (length ps) (is_empty (left_over size c.left)) (token_after c.digest c.token ps);
+  status = Done;
+}
+
+-- ---- the lines after those of the words: the bytes of an input, and the documents that they are
+
+abbrev pub ReadsBytes : Result (List ℕ) ReadFault → Result (List ℕ) (List ℕ) → Type 0
+ReadsBytes (Ok bytes) given = given ≡ Ok bytes
+ReadsBytes (Err fault) given = given ≡ Err (read_words fault)
+
+abbrev pub ReadsDump : List ℕ → Result (List Doc) (List ℕ) → Type 0
+ReadsDump bytes (Ok ds) = IsWalk ds None bytes
+ReadsDump bytes (Err message) =
+    (ds : List Doc) × (fault : Fault) × IsWalk ds (Some fault) bytes × (message ≡ fault_text (length ds) fault)
+
+-- the places that are asked for of these documents, or what is wrong with the token
+abbrev pub LeadsTo : List ℕ → List Doc → PageRequest → Result (List ℕ) (List ℕ) → Type 0
+LeadsTo bytes ds w led = led ≡ places_from (query_for bytes ds w) w.token
+
+-- ---- and the chain
+
+abbrev pub IsRefusal : Transcript → List ℕ → Type 0
+IsRefusal shown message = shown ≡ shown_refusal message
+
+-- what is shown of a dump: the first batch of what is asked for
+abbrev pub IsShownOfDump : List ℕ → List Doc → PageRequest → Transcript → Type 0
+IsShownOfDump bytes ds w shown =
+    IsRefusedOr (IsRefusal shown) (LeadsTo bytes ds w) (λ ps.
+    shown ≡ shown_batch w.batch ds (cursor_for 1 (query_for bytes ds w) w.token ps))
+
+-- what is shown of bytes that were read
+abbrev pub IsShownOfBytes : PageRequest → List ℕ → Transcript → Type 0
+IsShownOfBytes w bytes shown =
+    IsRefusedOr (IsRefusal shown) (ReadsDump bytes) (λ ds. IsShownOfDump bytes ds w shown)
+
+-- what is shown of the words and an input: the first refusal alone, or the first batch
+abbrev pub IsShownByFind : FindWords → Result (List ℕ) ReadFault → Transcript → Type 0
+IsShownByFind words input shown =
+    IsRefusedOr (IsRefusal shown) (AsksInWords words) (λ w.
+    IsRefusedOr (IsRefusal shown) (ReadsBytes input) (λ bytes.
+    IsShownOfBytes w bytes shown))
+
+-- an input is read once no word is refused, and else left as it is
+abbrev pub ReadsInputFor : FindWords → Over Reader → Result (List ℕ) ReadFault → Type 0
+ReadsInputFor words file input =
+    IsRefusedOr (λ message. file.after ≡ file.before) (AsksInWords words) (λ w. ReadsInput file input)
+
+-- memory ran out before the input was read
+abbrev pub StarvesUnread : Over Reader → Over Writer → Over Writer → Status → Type 0
+StarvesUnread file out err status =
+    (file.after ≡ file.before) × (out.after ≡ out.before)
+    × TellsMessage err (error_line (codes "no memory")) Failed status
+
+-- what is to be shown of the words and an input was shown, or memory ran out before
+abbrev pub FindsDocuments : FindWords → Over Reader → Over Writer → Over Writer → Status → Type 0
+FindsDocuments words file out err status =
+    StarvesUnread file out err status
+    ⊎ ((input : Result (List ℕ) ReadFault) × (shown : Transcript) × ReadsInputFor words file input
+    × IsShownByFind words input shown
+    × PrintsOrStarves out err shown status)

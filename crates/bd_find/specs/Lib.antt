@@ -1,0 +1,4 @@
+pub mod Asking
+pub mod Batch
+pub mod Chain
+pub mod Find

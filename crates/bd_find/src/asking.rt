@@ -1,0 +1,223 @@
+//! What the words of `find` ask for.
+ghost use Rattle.std.specs.Prelude.{◌≡◌, IfErr, IfOk, Ok, OnOk, option_map, string_bytes, true};
+ghost use Rattle.bd_value.specs.View.{pairs};
+ghost use Rattle.bd_filter.specs.Fault.{refusal_of};
+ghost use Rattle.bd_request.specs.Request.{AsksFor};
+ghost use Rattle.bd_command_line.specs.FindWords.{find_words_of};
+ghost use Rattle.bd_find.specs.Asking.{AsksInDocuments, AsksInWords, NamesIndex, ReadsText, ReadsToken, TellsAskingFault, TellsRefused, fits_batch, index_fault_text, json_fault_text, refusal_text, refused_text, page_request_of};
+ghost use Rattle.bd_find.specs.declared.asking.AskingFault.TheVariants.{NoMemory as no_memory};
+
+use bd_command_line::FindOptions;
+use bd_cursor::{Refused, Request, Token};
+use bd_diagnose::{JsonFault, JsonFaultKind};
+use bd_extjson::{read_doc, write_number, write_path};
+use bd_path::{Path, PathFault};
+use bd_filter::FilterFault;
+use bd_value::{Document, NoMemory};
+use std::alloc::{AllocError, Global};
+
+/// The greatest size of a batch.
+const GREATEST: u32 = 2_147_483_647;
+
+/// What is asked for.
+#[derive(Drop)]
+pub struct Asking {
+    /// Which documents, in which order.
+    pub request: Request,
+    /// How many of them are shown at most; without a size all.
+    pub size: Option<u32>,
+    /// The path of the index that they are found by; without one each document is looked at.
+    pub index: Option<Path>,
+    /// After which token the answer goes on.
+    pub token: Option<Token>,
+}
+
+/// Why nothing is asked for.
+#[derive(Debug, Drop)]
+pub enum AskingFault {
+    /// Memory ran out.
+    NoMemory,
+    /// What is wrong, and where.
+    Message(Vec<u8>),
+}
+
+impl From<AllocError> for AskingFault {
+    ghost from_gives = { λ _ f. f ≡ no_memory };
+
+    fn from(_error: AllocError) -> AskingFault {
+        AskingFault::NoMemory
+    }
+}
+
+/// What the options of `find` ask for. Without a query it is each document, without a sort the order of the dump.
+pub(crate) fn read_asking(alloc: Global, options: &FindOptions) -> Result<Asking, AskingFault>
+    ensures asking { IfOk result (λ a. AsksInWords (find_words_of options.now) (Ok (page_request_of a))) }
+    ensures fits { IfOk result (λ a. fits_batch a.size ≡ true) }
+    ensures index { IfOk result (λ a. option_map (λ path. string_bytes path.text) a.index ≡ (find_words_of options.now).index) }
+    ensures fault { IfErr result (TellsAskingFault (AsksInWords (find_words_of options.now))) }
+{
+    let query = read_text(alloc, "query", options.query.as_deref())?;
+    let sort = read_text(alloc, "sort", options.sort.as_deref())?;
+    let request = read_request(alloc, query, sort, options)?;
+    let index = read_index(alloc, options.index.as_deref())?;
+    let token = read_token(alloc, options.after.as_deref())?;
+    Ok(Asking {
+        request,
+        size: options.batch,
+        index,
+        token,
+    })
+}
+
+/// The document of a query or a sort, as the name tells; without a text it has no pairs.
+fn read_text(alloc: Global, name: &str, text: Option<&str>) -> Result<Document, AskingFault>
+    ensures document { IfOk result (λ d. ReadsText name.now (option_map (λ t. t.now) text.entry) (Ok (pairs d))) }
+    ensures fault { IfErr result (TellsAskingFault (ReadsText name.now (option_map (λ t. t.now) text.entry))) }
+{
+    let Some(text) = text else {
+        return Ok(Document::new(alloc));
+    };
+    match read_doc(alloc, text.as_bytes()) {
+        Ok(document) => Ok(document),
+        Err(
+            JsonFault {
+                kind: JsonFaultKind::NoMemory,
+                ..
+            },
+        ) => Err(AskingFault::NoMemory),
+        Err(fault) => Err(AskingFault::Message(json_message(alloc, name, fault)?)),
+    }
+}
+
+/// The message of a text that is no document.
+fn json_message(alloc: Global, name: &str, fault: JsonFault) -> Result<Vec<u8>, NoMemory>
+    ensures { IfOk result (λ v. v.items ≡ json_fault_text name.now fault) }
+{
+    let mut message = Vec::new(alloc);
+    message.extend_from_slice(name.as_bytes())?;
+    match fault.kind {
+        // It is the whole text that is none.
+        JsonFaultKind::NotADocument => {}
+        _ => {
+            message.extend_from_slice(b": byte ")?;
+            write_number(fault.at, &mut message)?;
+        }
+    }
+    message.extend_from_slice(b": ")?;
+    message.extend_from_slice(fault.kind.words().as_bytes())?;
+    Ok(message)
+}
+
+/// The request of a query and a sort, with the counts of the options.
+fn read_request(
+    alloc: Global,
+    query: Document,
+    sort: Document,
+    options: &FindOptions,
+) -> Result<Request, AskingFault>
+    ensures request { IfOk result (AsksFor (pairs query) (pairs sort) options.now.skip options.now.limit) }
+    ensures fits { OnOk result (fits_batch options.now.batch ≡ true) }
+    ensures fault { IfErr result (TellsAskingFault (AsksInDocuments (find_words_of options.now) (pairs query) (pairs sort))) }
+{
+    let (skip, limit) = (u64::from(options.skip), u64::from(options.limit));
+    let request = match Request::new(alloc, query, sort, skip, limit) {
+        Ok(request) => request,
+        Err(refused) => return Err(told(alloc, &refused)),
+    };
+    if is_batch(options.batch) {
+        Ok(request)
+    } else {
+        Err(told(alloc, &Refused::Range))
+    }
+}
+
+/// Whether a batch may have that size.
+fn is_batch(size: Option<u32>) -> bool
+    ensures { result ≡ fits_batch size }
+{
+    match size {
+        Some(size) => size <= GREATEST,
+        None => true,
+    }
+}
+
+/// The path of an index's text, where there is one.
+fn read_index(alloc: Global, text: Option<&str>) -> Result<Option<Path>, AskingFault>
+    ensures path { OnOk result (NamesIndex (option_map (λ t. t.now) text.entry) (Ok tt)) }
+    ensures text { IfOk result (λ index. option_map (λ path. string_bytes path.text) index ≡ option_map (λ t. t.now) text.entry) }
+    ensures fault { IfErr result (TellsAskingFault (NamesIndex (option_map (λ t. t.now) text.entry))) }
+{
+    let Some(text) = text else {
+        return Ok(None);
+    };
+    match Path::parse(alloc, text) {
+        Ok(path) => Ok(Some(path)),
+        Err(PathFault::NoMemory) => Err(AskingFault::NoMemory),
+        Err(fault) => Err(AskingFault::Message(index_message(alloc, fault)?)),
+    }
+}
+
+/// The message of an index's text that is no path.
+fn index_message(alloc: Global, fault: PathFault) -> Result<Vec<u8>, NoMemory>
+    ensures { IfOk result (λ v. v.items ≡ index_fault_text fault) }
+{
+    let mut message = Vec::new(alloc);
+    message.extend_from_slice(b"index: ")?;
+    message.extend_from_slice(fault.words().as_bytes())?;
+    Ok(message)
+}
+
+/// The token of a text, where there is one.
+fn read_token(alloc: Global, text: Option<&str>) -> Result<Option<Token>, AskingFault>
+    ensures token { IfOk result (λ token. ReadsToken (option_map (λ t. t.now) text.entry) (Ok token)) }
+    ensures fault { IfErr result (TellsAskingFault (ReadsToken (option_map (λ t. t.now) text.entry))) }
+{
+    let Some(text) = text else {
+        return Ok(None);
+    };
+    match Token::parse(text) {
+        Ok(token) => Ok(Some(token)),
+        Err(refused) => Err(told(alloc, &refused)),
+    }
+}
+
+/// A refusal as it is told.
+fn told(alloc: Global, refused: &Refused) -> AskingFault
+    ensures { TellsRefused refused.now result }
+{
+    match refused {
+        Refused::NoMemory => AskingFault::NoMemory,
+        _ => match refused_message(alloc, refused) {
+            Ok(message) => AskingFault::Message(message),
+            Err(_) => AskingFault::NoMemory,
+        },
+    }
+}
+
+/// The message of a refusal.
+pub(crate) fn refused_message(alloc: Global, refused: &Refused) -> Result<Vec<u8>, NoMemory>
+    ensures { IfOk result (λ v. v.items ≡ refused_text refused.now) }
+{
+    let option = match refused {
+        Refused::BadFilter(fault) => return filter_message(alloc, fault),
+        Refused::BadSort => "sort: ",
+        Refused::BadToken | Refused::ForeignToken | Refused::TokenPlace => "token: ",
+        _ => "",
+    };
+    let mut message = Vec::new(alloc);
+    message.extend_from_slice(option.as_bytes())?;
+    message.extend_from_slice(refused.words().as_bytes())?;
+    Ok(message)
+}
+
+/// The message of a document that is no filter.
+fn filter_message(alloc: Global, fault: &FilterFault) -> Result<Vec<u8>, NoMemory>
+    ensures { IfOk result (λ v. v.items ≡ refusal_text (refusal_of fault.now)) }
+{
+    let mut message = Vec::new(alloc);
+    message.extend_from_slice(b"query: place ")?;
+    write_path(&fault.place, &mut message)?;
+    message.extend_from_slice(b": ")?;
+    message.extend_from_slice(fault.kind.words().as_bytes())?;
+    Ok(message)
+}

@@ -1,0 +1,176 @@
+//! The batch that is asked for, shown.
+ghost use Rattle.std.specs.Prelude.{◌≡◌, ◌++◌, ◌≤◌, ◌⊎◌, IfErr, IfOk, MatchOption, OnOk, Some, codes, length, option_map, true};
+ghost use Rattle.bd_answer.specs.Session.{OpenCursor, cursor_of};
+ghost use Rattle.bd_answer.specs.SessionLaws.{new_state};
+ghost use Rattle.bd_bson.specs.Collection.{bytes_of, documents};
+ghost use Rattle.bd_sort.specs.Selection.{query_of};
+ghost use Rattle.bd_cursor.specs.SessionView.{dump_of, hint_of, marked_token, state_of};
+ghost use Rattle.bd_request.specs.declared.refused.Refused.TheVariants.{NoMemory as no_memory};
+ghost use Rattle.bd_find.specs.Find.{IsShownOfDump, end_words, find_count_line, shown_batch, token_words};
+ghost use Rattle.bd_find.specs.Asking.{fits_batch, refused_text, page_request_of};
+ghost use Rattle.bd_find.specs.Batch.{AwaitsFirst, IsOpenedOn, IsReady};
+ghost use Rattle.bd_files.specs.Outcome.{PrintsOrStarves, TellsMessage};
+ghost use Rattle.bd_files.specs.Transcript.{Transcript, error_line};
+ghost use Rattle.bd_files.specs.declared.status.Status.TheVariants.{Done, Failed};
+ghost use Rattle.bd_device.specs.Devices.{over};
+
+use crate::asking::{Asking, refused_message};
+use crate::found_documents::write_documents;
+use bd_files::output::lines::OutputFault;
+use bd_files::output::messages::{status_of, tell_error, tell_no_memory, tell_unwritten};
+use bd_files::Status;
+use bd_bson::Dump;
+use bd_cursor::{Batch, Choice, Refused, Session, Token};
+use bd_device::{Output, write_all};
+use bd_extjson::write_number;
+use bd_path::Path;
+use bd_value::NoMemory;
+use std::alloc::Global;
+
+/// The greatest size of a batch.
+const GREATEST: u64 = 2_147_483_647;
+
+/// Shows the first batch of what is asked for of a dump.
+pub(crate) fn show_found<O: Output, E: Output>(
+    alloc: Global,
+    dump: Dump,
+    asking: Asking,
+    out: &mut O,
+    err: &mut E,
+) -> Status
+    requires few { length (documents dump) ≤ 2147483647 }
+    requires fits { fits_batch asking.size ≡ true }
+    ensures { (shown : Transcript) × IsShownOfDump (bytes_of dump) (documents dump) (page_request_of asking) shown
+        × PrintsOrStarves (over O.state out.old out.new) (over E.state err.old err.new) shown result }
+{
+    let size = asking.size;
+    let mut session = Session::new(alloc, dump);
+    match open_first(alloc, &mut session, asking) {
+        Ok(id) => show_batch(alloc, &mut session, id, size, out, err),
+        Err(refused) => tell_refused(alloc, &refused, err),
+    }
+}
+
+/// Opens the first cursor of a session: on an answer, or on what follows a token.
+fn open_first(alloc: Global, session: &mut Session, asking: Asking) -> Result<u64, Refused>
+    requires { state_of session.now ≡ new_state }
+    ensures opened { IsOpenedOn (query_of (dump_of session.old) asking.request) asking.token (state_of session.new) result }
+    ensures dump { dump_of session.new ≡ dump_of session.old }
+{
+    let choice = choose(alloc, session, asking.index)?;
+    match asking.token {
+        Some(token) => session.resume(asking.request, choice, &token),
+        None => session.find(asking.request, choice),
+    }
+}
+
+/// How the documents are looked for: by the index on that path, which is made, or without one each is looked at. It fails for
+/// want of memory alone.
+fn choose(alloc: Global, session: &mut Session, index: Option<Path>) -> Result<Choice, Refused>
+    requires { state_of session.now ≡ new_state }
+    ensures choice { IfOk result (λ choice. AwaitsFirst (state_of session.new) (hint_of choice)) }
+    ensures fault { IfErr result (λ refused. refused ≡ no_memory) }
+    ensures dump { dump_of session.new ≡ dump_of session.old }
+{
+    let Some(path) = index else {
+        return Ok(Choice::Scan);
+    };
+    let copy = path.try_copy(alloc)?;
+    session.create_index(path)?;
+    Ok(Choice::Index(copy))
+}
+
+/// Shows the first batch of a cursor.
+fn show_batch<O: Output, E: Output>(
+    alloc: Global,
+    session: &mut Session,
+    id: u64,
+    size: Option<u32>,
+    out: &mut O,
+    err: &mut E,
+) -> Status
+    requires ready { IsReady (state_of session.now) id (length (documents (dump_of session.now))) }
+    requires fits { fits_batch size ≡ true }
+    ensures { (cursor : OpenCursor) → cursor_of id (state_of session.old).cursors ≡ Some cursor →
+        PrintsOrStarves (over O.state out.old out.new) (over E.state err.old err.new)
+        (shown_batch size (documents (dump_of session.old)) cursor) result }
+{
+    let Ok(batch) = session.next(id, most_of(size)) else {
+        return tell_no_memory(err);
+    };
+    match write_documents(alloc, session.dump(), &batch.places, out) {
+        Ok(()) => tell_batch(alloc, &batch, err),
+        Err(OutputFault::NoMemory) => tell_no_memory(err),
+        Err(OutputFault::Unwritten) => tell_unwritten(err),
+    }
+}
+
+/// How many documents a size asks for; without one, as many as a batch may have.
+fn most_of(size: Option<u32>) -> u64
+    ensures { MatchOption size (result ≡ 2147483647) (λ n. result ≡ n) }
+{
+    match size {
+        Some(size) => u64::from(size),
+        None => GREATEST,
+    }
+}
+
+/// Tells how many documents a batch has, whether nothing is left, and the token that leads on.
+fn tell_batch<E: Output>(alloc: Global, batch: &Batch, err: &mut E) -> Status
+    ensures { TellsMessage (over E.state err.old err.new) (find_count_line (length batch.now.places.items) batch.now.end (option_map marked_token batch.now.token)) Done result
+        ⊎ TellsMessage (over E.state err.old err.new) (error_line (codes "no memory")) Failed result }
+{
+    match count_line(alloc, batch) {
+        Ok(line) => {
+            let written = write_all(err, &line);
+            status_of(written, Status::Done)
+        }
+        Err(_) => tell_no_memory(err),
+    }
+}
+
+/// The line that counts the documents of a batch.
+fn count_line(alloc: Global, batch: &Batch) -> Result<Vec<u8>, NoMemory>
+    ensures { IfOk result (λ v. v.items ≡ find_count_line (length batch.now.places.items) batch.now.end (option_map marked_token batch.now.token)) }
+{
+    let mut line = Vec::new(alloc);
+    write_number(batch.places.len() as u64, &mut line)?;
+    line.extend_from_slice(words_of_end(batch.end))?;
+    write_token(alloc, batch.token, &mut line)?;
+    line.push(b'\n')?;
+    Ok(line)
+}
+
+/// What stands after the number of documents.
+fn words_of_end(end: bool) -> &'static [u8]
+    ensures { result.now ≡ end_words end }
+{
+    if end {
+        b" documents, end"
+    } else {
+        b" documents, more"
+    }
+}
+
+/// Appends a token, where there is one.
+fn write_token(alloc: Global, token: Option<Token>, line: &mut Vec<u8>) -> Result<(), NoMemory>
+    ensures { OnOk result (line.new.items ≡ line.old.items ++ token_words (option_map marked_token token)) }
+{
+    let Some(token) = token else {
+        return Ok(());
+    };
+    line.extend_from_slice(b", token ")?;
+    let text = token.text(alloc)?;
+    line.extend_from_slice(text.as_bytes())
+}
+
+/// Tells why no cursor was opened.
+fn tell_refused<E: Output>(alloc: Global, refused: &Refused, err: &mut E) -> Status
+    ensures { TellsMessage (over E.state err.old err.new) (error_line (refused_text refused.now)) Failed result
+        ⊎ TellsMessage (over E.state err.old err.new) (error_line (codes "no memory")) Failed result }
+{
+    match refused_message(alloc, refused) {
+        Ok(message) => tell_error(&message, err),
+        Err(_) => tell_no_memory(err),
+    }
+}

@@ -1,0 +1,69 @@
+//! `find`: the documents of an input that are asked for, in their order, one a line. An index changes how they are looked for, and
+//! nothing that is shown.
+
+ghost use Rattle.std.specs.Prelude.{◌≡◌, ◌≤◌, length, true};
+ghost use Rattle.bd_command_line.specs.FindWords.{find_words_of};
+ghost use Rattle.bd_find.specs.Find.{FindsDocuments, IsShownOfBytes};
+ghost use Rattle.bd_find.specs.Asking.{AsksNothing, fits_batch, page_request_of};
+ghost use Rattle.bd_files.specs.Outcome.{PrintsOrStarves};
+ghost use Rattle.bd_files.specs.Transcript.{Transcript};
+ghost use Rattle.bd_device.specs.Devices.{over};
+
+use crate::asking::{Asking, AskingFault, read_asking};
+use crate::batch::show_found;
+use bd_files::LIMITS;
+use bd_files::output::lines::is_want_of_memory;
+use bd_files::output::messages::{tell_dump_fault, tell_error, tell_no_memory, tell_read_fault};
+use bd_files::Status;
+use bd_bson::read_dump;
+use bd_command_line::FindOptions;
+use bd_device::{Input, Output, read_all};
+use std::alloc::Global;
+
+/// Reads an input whole, where the words ask for something, and shows the first batch of the documents that are asked for;
+/// without a size, all of them. Nothing is written to standard output where the input is no dump.
+pub fn find<R: Input, O: Output, E: Output>(
+    alloc: Global,
+    options: &FindOptions,
+    input: &mut R,
+    out: &mut O,
+    err: &mut E,
+) -> Status
+    ensures found { FindsDocuments (find_words_of options.now) (over R.state input.old input.new) (over O.state out.old out.new)
+        (over E.state err.old err.new) result }
+    ensures unread { AsksNothing (find_words_of options.now) → input.new ≡ input.old }
+{
+    let asking = match read_asking(alloc, options) {
+        Ok(asking) => asking,
+        Err(AskingFault::NoMemory) => return tell_no_memory(err),
+        Err(AskingFault::Message(message)) => return tell_error(&message, err),
+    };
+    match read_all(alloc, input, LIMITS) {
+        Ok(bytes) => find_in(alloc, bytes, asking, out, err),
+        Err(fault) => tell_read_fault(fault, err),
+    }
+}
+
+/// Shows what is asked for of the bytes of an input.
+fn find_in<O: Output, E: Output>(
+    alloc: Global,
+    bytes: Vec<u8>,
+    asking: Asking,
+    out: &mut O,
+    err: &mut E,
+) -> Status
+    requires short { length bytes.items ≤ 4294967295 }
+    requires fits { fits_batch asking.size ≡ true }
+    ensures { (shown : Transcript) × IsShownOfBytes (page_request_of asking) bytes.items shown
+        × PrintsOrStarves (over O.state out.old out.new) (over E.state err.old err.new) shown result }
+{
+    match read_dump(alloc, bytes) {
+        Ok(dump) => show_found(alloc, dump, asking, out, err),
+        Err(fault) => {
+            if is_want_of_memory(&fault) {
+                return tell_no_memory(err);
+            }
+            tell_dump_fault(alloc, &fault, err)
+        }
+    }
+}

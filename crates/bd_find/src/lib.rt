@@ -1,0 +1,28 @@
+//! The command `find` over any devices: the first batch of the documents that are asked for.
+//!
+//! What is shown of each command line and each input: `specs/Find.antt`.
+//!
+//! An example, which `bd_cli_tests` proves and runs as `examples::find_in_a_dump`:
+//!
+//! ```
+//! let options = FindOptions {
+//!     query: Some(String::from_str(alloc, "{\"a\":{\"$exists\":true}}")?),
+//!     ..FindOptions::default()
+//! };
+//! let mut file = MemoryInput::new(b"\x05\0\0\0\0", 5, None);
+//! let mut out = MemoryOutput::new(&mut [], 1, None);
+//! let mut room = [0; 100];
+//! let mut err = MemoryOutput::new(&mut room, 100, None);
+//! let status = find(alloc, &options, &mut file, &mut out, &mut err);
+//! assert!(rt; err.bytes() == b"0 documents, end\n".as_slice());
+//! ```
+//!
+//! - `find`: the command.
+//! - `asking`: what its arguments ask for: `specs/Asking.antt`.
+//! - `batch`: what is shown of a dump: `specs/Batch.antt`; `found_documents`: the lines.
+#![tactic(auto)]
+
+mod asking;
+mod batch;
+pub mod find;
+mod found_documents;
