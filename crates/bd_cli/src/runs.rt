@@ -5,15 +5,15 @@ ghost use Rattle.bd_files.specs.Outcome.{PrintsShown};
 ghost use Rattle.bd_cli.specs.Runs.{CarriesOut, DeviceFails, ReadsNoCommands, ReadsNoFile, WriteFails, shown_report};
 ghost use Rattle.bd_device.specs.Devices.{over};
 
-use bd_files::check::check;
-use bd_files::dump::dump;
-use bd_find::find::find;
-use bd_files::output::messages::{status_of, tell_no_memory, tell_unwritten};
-use bd_files::pack::pack;
 use crate::serve::serve;
-use bd_files::Status;
 use bd_command_line::{Order, USAGE, WordsFault};
 use bd_device::{Input, Output, write_all};
+use bd_files::Status;
+use bd_files::check::check;
+use bd_files::dump::dump;
+use bd_files::output::messages::{status_of, tell_no_memory, tell_unwritten};
+use bd_files::pack::pack;
+use bd_find::find::find;
 use std::alloc::Global;
 
 /// Carries out an order, and gives the exit status: 0 where all was done, 1 after a fault of the input, of a query, a sort,

@@ -7,12 +7,13 @@ ghost use Rattle.bd_find.specs.Find.{ReadsDump};
 ghost use Rattle.bd_cli.specs.Serve.{ServesInput, ServesNothing, ServesToAFault, ServesToTheEnd};
 ghost use Rattle.bd_device.specs.Devices.{over};
 
-use bd_files::LIMITS;
-use bd_files::output::lines::is_want_of_memory;
-use bd_files::output::messages::{tell_dump_fault, tell_no_memory, tell_read_fault, tell_unwritten};
-use bd_files::Status;
 use bd_bson::{Dump, read_dump};
 use bd_device::{Input, Output, read_all};
+use bd_files::output::lines::is_want_of_memory;
+use bd_files::output::messages::{
+    tell_dump_fault, tell_no_memory, tell_read_fault, tell_unwritten,
+};
+use bd_files::{LIMITS, Status};
 use bd_lines::ServeFault;
 use bd_service::Service;
 use std::alloc::Global;

@@ -11,8 +11,8 @@ use bd_command_line::FindOptions;
 use bd_cursor::{Refused, Request, Token};
 use bd_diagnose::{JsonFault, JsonFaultKind};
 use bd_extjson::{read_doc, write_number, write_path};
-use bd_path::{Path, PathFault};
 use bd_filter::FilterFault;
+use bd_path::{Path, PathFault};
 use bd_value::{Document, NoMemory};
 use std::alloc::{AllocError, Global};
 

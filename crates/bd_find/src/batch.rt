@@ -16,13 +16,13 @@ ghost use Rattle.bd_device.specs.Devices.{over};
 
 use crate::asking::{Asking, refused_message};
 use crate::found_documents::write_documents;
-use bd_files::output::lines::OutputFault;
-use bd_files::output::messages::{status_of, tell_error, tell_no_memory, tell_unwritten};
-use bd_files::Status;
 use bd_bson::Dump;
 use bd_cursor::{Batch, Choice, Refused, Session, Token};
 use bd_device::{Output, write_all};
 use bd_extjson::write_number;
+use bd_files::Status;
+use bd_files::output::lines::OutputFault;
+use bd_files::output::messages::{status_of, tell_error, tell_no_memory, tell_unwritten};
 use bd_path::Path;
 use bd_value::NoMemory;
 use std::alloc::Global;

@@ -11,13 +11,12 @@ ghost use Rattle.bd_device.specs.Devices.{over};
 
 use crate::asking::{Asking, AskingFault, read_asking};
 use crate::batch::show_found;
-use bd_files::LIMITS;
-use bd_files::output::lines::is_want_of_memory;
-use bd_files::output::messages::{tell_dump_fault, tell_error, tell_no_memory, tell_read_fault};
-use bd_files::Status;
 use bd_bson::read_dump;
 use bd_command_line::FindOptions;
 use bd_device::{Input, Output, read_all};
+use bd_files::output::lines::is_want_of_memory;
+use bd_files::output::messages::{tell_dump_fault, tell_error, tell_no_memory, tell_read_fault};
+use bd_files::{LIMITS, Status};
 use std::alloc::Global;
 
 /// Reads an input whole, where the words ask for something, and shows the first batch of the documents that are asked for;

@@ -11,9 +11,9 @@ ghost use Rattle.bd_plan.specs.AccessPath.{mark_bounds, serving_bounds, walk_dir
 ghost use Rattle.bd_plan.specs.Explanation.{index_mark};
 
 use bd_bounds::Bounds;
+use bd_filter::Filter;
 use bd_index::Index;
 use bd_path::{Dir, Path};
-use bd_filter::Filter;
 use bd_value::NoMemory;
 use std::alloc::Global;
 

@@ -24,7 +24,6 @@ mod filter_match;
 mod value_test;
 
 pub use bd_filter::{
-    Filter, FilterFault, FilterFaultKind, Members, Operator, bad_documents_alone_are_refused,
-    parse,
+    Filter, FilterFault, FilterFaultKind, Members, Operator, bad_documents_alone_are_refused, parse,
 };
 pub use filter_match::matches;

@@ -5,9 +5,9 @@ ghost use Rattle.bd_reply.specs.Refusal.{filter_fault_number, json_fault_number,
 
 use bd_command::CommandFault;
 use bd_diagnose::{JsonFault, JsonFaultKind};
+use bd_filter::FilterFaultKind;
 use bd_path::PathFault;
 use bd_request::Refused;
-use bd_filter::FilterFaultKind;
 
 /// Why a line has no result, by the layer that refuses it.
 #[derive(Drop)]

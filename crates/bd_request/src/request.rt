@@ -11,9 +11,9 @@ ghost use Rattle.bd_request.specs.Sort.{direction_of};
 
 use crate::refused::Refused;
 use crate::sort::{direction_of, read_sort};
-use bd_text::{write_doc, write_number};
-use bd_path::{Dir, Path};
 use bd_filter::{Filter, FilterFaultKind, parse};
+use bd_path::{Dir, Path};
+use bd_text::{write_doc, write_number};
 use bd_value::{Document, NoMemory, Reading, Tree, Value};
 use std::alloc::Global;
 

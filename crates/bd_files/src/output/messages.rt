@@ -36,11 +36,7 @@ pub fn write_read_fault<E: Output>(fault: ReadFault, err: &mut E) -> Result<(), 
 
 /// Writes a number and the words after it.
 #[tactic(auto, using(crate::proofs::OutputLemmas::LinesLemmas::taking))]
-pub fn write_count<E: Output>(
-    count: u64,
-    words: &[u8],
-    err: &mut E,
-) -> Result<(), DeviceFault>
+pub fn write_count<E: Output>(count: u64, words: &[u8], err: &mut E) -> Result<(), DeviceFault>
     ensures ok { OnOk result (TakesText (over E.state err.old err.new) (decimal count ++ words.now)) }
     ensures err { OnErr result (BreaksWithin (over E.state err.old err.new) (decimal count ++ words.now)) }
 {
