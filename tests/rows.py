@@ -7,6 +7,7 @@ Without --program each row runs over ./bsonfind. A failure names its file and li
 A row is JSON whose names may stand twice and in any order that matters; where the form of a text matters it is a string.
 """
 
+import base64
 import json
 import re
 import subprocess
@@ -115,13 +116,17 @@ def replies(program: Program, dump: str, commands: list[str]) -> list[str]:
     """What a session replies; it has to end well."""
     ran = program.run("serve", dump, given="".join(f"{it}\n" for it in commands).encode())
     want((ran.returncode, ran.stderr), (0, b""), "the end of serve")
-    return ran.stdout.decode().split("\n")[:-1]
+    came = ran.stdout.decode().split("\n")[:-1]
+    want(len(came), len(commands), "replies")
+    return came
 
 
 def match(program: Program, rows: list[Row]) -> Came:
     """{"filter":F,"matches":[D..],"others":[D..]}: which documents a filter finds. All are finds of one session over one dump of
-    the documents of all rows; a filter may find documents of other rows too."""
-    documents = list(dict.fromkeys(text_of(it) for _, row in rows for name in ("matches", "others") for it in row.get(name, [])))
+    the documents of all rows; a filter may find documents of other rows too. With "only" in place of "matches" it finds none but
+    these."""
+    names = ("matches", "only", "others")
+    documents = list(dict.fromkeys(text_of(it) for _, row in rows for name in names for it in row.get(name, [])))
     dump = program.dump(documents)
     shown = dict(zip(documents, program.run("dump", dump).stdout.decode().split("\n")))
     commands = []
@@ -132,12 +137,60 @@ def match(program: Program, rows: list[Row]) -> Came:
     for (place, row), opened, batch in zip(rows, came[::2], came[1::2]):
         answer = read(batch)
         found = {compact(it) for it in answer.get("documents", [])}
-        wrong = [text_of(it) for it in row.get("matches", []) if shown[text_of(it)] not in found]
-        wrong += [text_of(it) for it in row.get("others", []) if shown[text_of(it)] in found]
+        matching = [text_of(it) for it in row.get("only", row.get("matches", []))]
+        others = [it for it in documents if it not in matching] if "only" in row else [text_of(it) for it in row.get("others", [])]
+        wrong = [it for it in matching if shown[it] not in found] + [it for it in others if shown[it] in found]
         is_open = answer.get("end") is True
-        tried = len(row.get("matches", [])) + len(row.get("others", []))
+        tried = len(matching) + len(others)
         said = None if is_open and not wrong else f"{text_of(row.get('filter'))}: {wrong or opened}"
         yield place, tried, said
+
+
+def filters(program: Program, rows: list[Row]) -> Came:
+    """{"filter":F}: a filter that is taken; {"filter":F,"place":P,"words":W}: one that is refused. All are explained in one
+    session."""
+    came = replies(program, program.dump([]), [f'{{"explain":{text_of(row.get("filter"))}}}' for _, row in rows])
+    for (place, row), reply in zip(rows, came):
+        told = f',"text":{compact(row.get("words"))},"place":{compact(row.get("place"))}}}'
+        is_refused = reply.startswith('{"ok":false,"layer":"filter",') and reply.endswith(told)
+        is_right = is_refused if "words" in row else reply.startswith('{"ok":true,')
+        yield place, 1, None if is_right else f"{text_of(row.get('filter'))}: {reply}"
+
+
+def count_of(answer: Members, name: str) -> int:
+    """A number of a reply."""
+    return int(answer.get(name).get("$numberLong"))
+
+
+@one_by_one
+def plan(program: Program, row: Members) -> int:
+    """{"index":PATH,"sparse":true,"documents":[D..],"entries":N,"multikey":B,"filter":F,"sort":S,"plan":P,"inside":N,"places":[N..]}:
+    an index over documents, and an answer. "plan" is the one that a session chooses, which is "index" without it. By the index
+    as many entries as "inside" are read, and of the documents those at "places", among which all are found, in this order."""
+    index, documents = compact(row.get("index")), row.get("documents")
+    sparse = ',"sparse":true' if row.get("sparse") else ""
+    request = text_of(row.get("filter")) + (f',"sort":{text_of(row.get("sort"))}' if "sort" in row else "")
+    commands = [f'{{"createIndex":{index}{sparse}}}', f'{{"explain":{request}}}']
+    commands += [f'{{"{it}":{request},"use":{{"index":{index}}}}}' for it in ("explain", "find")]
+    came = [read(it) for it in replies(program, program.dump(documents), commands + ['{"getMore":1,"batch":1}'] * len(documents))]
+    for command, answer in zip(commands, came):
+        want(answer.get("ok"), True, command)
+    made, chosen, used, _, *batches = came
+    want(chosen.get("plan"), row.get("plan", "index"), "plan")
+    if "multikey" in row:
+        want(made.get("multikey"), row.get("multikey"), "multikey")
+    for answer, name in (made, "entries"), (used, "inside"):
+        if name in row:
+            want(count_of(answer, "entries"), row.get(name), name)
+    if "places" in row:
+        places = row.get("places")
+        want(count_of(used, "documents"), len(places), "documents that are read")
+        # A token has the place of the last document that was given.
+        tokens = [base64.b64decode(it.get("token")) for it in batches if it.get("documents")]
+        found = [int.from_bytes(it[9:13], "little") for it in tokens]
+        want(len(found), count_of(used, "matches"), "matches")
+        want(found, [it for it in places if it in found], "places of what is found")
+    return 1
 
 
 @one_by_one
@@ -209,7 +262,9 @@ def run(program: Program, row: Members) -> int:
     return 1
 
 
-KINDS: dict[str, Callable[[Program, list[Row]], Came]] = {"match": match, "talk": talk, "check": check, "pack": pack, "run": run}
+KINDS: dict[str, Callable[[Program, list[Row]], Came]] = {
+    "match": match, "filter": filters, "plan": plan, "talk": talk, "check": check, "pack": pack, "run": run,
+}  # fmt: skip
 
 
 def rows_of(file: Path) -> list[Row]:
