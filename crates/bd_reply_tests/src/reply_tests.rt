@@ -1,9 +1,7 @@
 //! Replies made by hand, which no talk shows.
 use crate::samples::three;
-use bd_cursor::{Batch, Explain, Made, Plan, Refused};
-use bd_diagnose::{JsonFault, JsonFaultKind};
-use bd_query::{FilterFault, FilterFaultKind};
-use bd_reply::{LineRefusal, Reply, write_reply};
+use bd_cursor::{Batch, Explain, Made, Plan};
+use bd_reply::{Reply, write_reply};
 use std::alloc::Global;
 use std::test::Fail;
 
@@ -39,20 +37,13 @@ fn results(rt: HostRuntime) -> Result<(), Fail> {
             }),
             r#"{"ok":true,"plan":"scan","index":null,"entries":{"$numberLong":"3"},"documents":{"$numberLong":"2"},"matches":{"$numberLong":"1"}}"#,
         ),
-        (
-            Reply::Refused(LineRefusal::Json(JsonFault {
-                kind: JsonFaultKind::TooDeep,
-                at: 7,
-            })),
-            r#"{"ok":false,"layer":"json","number":{"$numberInt":"3"},"text":"too deep","at":{"$numberLong":"7"}}"#,
-        ),
     ] {
         assert!(rt; is_told(rt.alloc(), &reply, wanted)?, "{wanted}");
     }
     Ok(())
 }
 
-/// A batch of the second document, with no token.
+/// The second document, with no token.
 #[test]
 fn a_batch_without_a_token(rt: HostRuntime) -> Result<(), Fail> {
     let batch = Batch {
@@ -62,29 +53,5 @@ fn a_batch_without_a_token(rt: HostRuntime) -> Result<(), Fail> {
     };
     let wanted = r#"{"ok":true,"documents":[{}],"end":true,"token":null}"#;
     assert!(rt; is_told(rt.alloc(), &Reply::Gave(batch), wanted)?);
-    Ok(())
-}
-
-/// The names of a place are joined by dots, whatever they are.
-#[test]
-fn faults_of_filters(rt: HostRuntime) -> Result<(), Fail> {
-    for (kind, name, wanted) in [
-        (
-            FilterFaultKind::Path,
-            "a\".\u{1}",
-            r#"{"ok":false,"layer":"filter","number":{"$numberInt":"5"},"text":"bad path","place":"a\".\u0001"}"#,
-        ),
-        (
-            FilterFaultKind::TooDeep,
-            "",
-            r#"{"ok":false,"layer":"filter","number":{"$numberInt":"6"},"text":"too deep","place":""}"#,
-        ),
-    ] {
-        let mut place = Vec::new(rt.alloc());
-        place.push(String::from_str(rt.alloc(), name)?)?;
-        let fault = Refused::BadFilter(FilterFault { kind, place });
-        let reply = Reply::Refused(LineRefusal::Session(fault));
-        assert!(rt; is_told(rt.alloc(), &reply, wanted)?, "{wanted}");
-    }
     Ok(())
 }
