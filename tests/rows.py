@@ -112,9 +112,26 @@ def one_by_one(test: Callable[[Program, Members], int]) -> Callable[[Program, li
     return kind
 
 
+def spelled(text: str) -> bytes:
+    """The bytes of hexadecimal digits, where spaces are for reading. "(" is the length of what stands up to its ")", which is a
+    zero: a document. "[" is the length of what stands up to its "]", which is no byte: the value of code with scope."""
+    data, starts = bytearray(), []
+    for part in re.split(r"([][()])", text):
+        if part in ("(", "["):
+            starts.append(len(data))
+            data += bytes(4)
+        elif part in (")", "]"):
+            data += b"\0" if part == ")" else b""
+            start = starts.pop()
+            data[start : start + 4] = (len(data) - start).to_bytes(4, "little")
+        else:
+            data += bytes.fromhex(part)
+    return bytes(data)
+
+
 def bytes_of(row: Members, name: str) -> bytes:
-    """The bytes of a field of hexadecimal digits, where spaces are for reading."""
-    return bytes.fromhex(str(row.get(name)))
+    """The bytes of a field, as `spelled` reads it."""
+    return spelled(str(row.get(name)))
 
 
 def replies(program: Program, dump: Path, commands: list[str]) -> list[str]:
@@ -214,21 +231,51 @@ def talk(program: Program, row: Members) -> int:
     return len(wanted)
 
 
+def judge(program: Program, data: bytes, documents: list, faults: list[str], count: int) -> None:
+    """Wants the documents before the first fault of dump, all faults of check, and of find the documents or the first fault."""
+    shown = "".join(f"{text_of(it)}\n" for it in documents)
+    first = "".join(f"bsonfind: {it}\n" for it in faults[:1])
+    status = 1 if faults else 0
+    ran = program.run("dump", "-", given=data)
+    want(ran.stdout.decode(), shown, "dump")
+    want((ran.returncode, ran.stderr.decode()), (status, f"{first}{len(documents)} objects found\n"), "the end of dump")
+    ran = program.run("check", "-", given=data)
+    want(ran.stdout.decode(), "".join(f"{it}\n" for it in faults), "check")
+    told = f"{count} documents, {len(faults)} faulty\n"
+    want((ran.returncode, ran.stderr.decode()), (status, told), "the end of check")
+    ran = program.run("find", "-", given=data)
+    want(ran.stdout.decode(), "" if faults else shown, "find")
+    told = re.sub(r", token \S+$", "", ran.stderr.decode())
+    want((ran.returncode, told), (status, first or f"{len(documents)} documents, end\n"), "the end of find")
+
+
 @one_by_one
 def check(program: Program, row: Members) -> int:
     """{"bytes":HEX,"documents":[D..],"faults":["document 0, byte 4, path \\"d\\": double"..]}: the documents before the first fault
     as dump prints them, and the faults that check tells; "count" is of all documents, where it is not that of both."""
-    data, documents, faults = bytes_of(row, "bytes"), row.get("documents", []), row.get("faults", [])
-    ran = program.run("dump", "-", given=data)
-    want(ran.stdout.decode(), "".join(f"{text_of(it)}\n" for it in documents), "dump")
-    told = "".join(f"bsonfind: {it}\n" for it in faults[:1]) + f"{len(documents)} objects found\n"
-    want((ran.returncode, ran.stderr.decode()), (1 if faults else 0, told), "the end of dump")
-    ran = program.run("check", "-", given=data)
-    want(ran.stdout.decode(), "".join(f"{it}\n" for it in faults), "check")
-    count = row.get("count", len(documents) + len(faults))
-    told = f"{count} documents, {len(faults)} faulty\n"
-    want((ran.returncode, ran.stderr.decode()), (1 if faults else 0, told), "the end of check")
+    documents, faults = row.get("documents", []), row.get("faults", [])
+    judge(program, bytes_of(row, "bytes"), documents, faults, row.get("count", len(documents) + len(faults)))
     return 1
+
+
+@one_by_one
+def cut(program: Program, row: Members) -> int:
+    """{"before":"(036f00(","bytes":HEX,"after":"))","documents":[[0,D]..],"faults":[[1,4,12,"path \\"o\\": name not ended"]..]}: a dump,
+    each document of which holds so many of the bytes: those that are whole, and then of 1 to 4 bytes each with a fault at its byte 12."""
+    digits, documents = bytes_of(row, "bytes").hex(), row.get("documents")
+
+    def holding(size: int) -> bytes:
+        return spelled(f"{row.get('before')}{digits[: 2 * size]}{row.get('after')}")
+
+    data = b"".join(holding(size) for size, _ in documents)
+    faults = []
+    for least, most, byte, fault in row.get("faults"):
+        for size in range(least, most + 1):
+            faults.append(f"document {len(documents) + len(faults)}, byte {len(data) + byte}, {fault}")
+            data += holding(size)
+    count = len(documents) + len(faults)
+    judge(program, data, [it for _, it in documents], faults, count)
+    return count
 
 
 @one_by_one
@@ -316,8 +363,16 @@ def find(program: Program, rows: list[Row]) -> Came:
 
 
 KINDS: dict[str, Callable[[Program, list[Row]], Came]] = {
-    "match": match, "filter": filters, "plan": plan, "find": find, "talk": talk, "check": check, "pack": pack, "run": run,
-}  # fmt: skip
+    "match": match,
+    "filter": filters,
+    "plan": plan,
+    "find": find,
+    "talk": talk,
+    "check": check,
+    "cut": cut,
+    "pack": pack,
+    "run": run,
+}
 
 
 def rows_of(file: Path) -> list[Row]:
