@@ -1,14 +1,14 @@
-//! `bd_path_rows`: what the public calls of `bd_path` answer to rows, and the order of values of `bd_value`.
+//! `bd_path_rows`: what the calls of `bd_path`, and the order of values of `bd_value`, answer to rows.
 //!
 //! A row is a line of standard input, a document as Extended JSON: its field `call` names a call, and other fields are what it is
 //! asked of. The answer is a line too: a value as Extended JSON, or in words why there is none. Each call is made over the row in
 //! memory and over its bytes, and one that compares values over each beside the other: all have to answer the same.
 //!
-//! The rows are the file `stdin`, and what they have to answer is `stdout`. No program wrote it: the answers were worked by hand,
+//! The rows are the file `stdin`, and what they have to answer is `stdout`. No program wrote that: the answers were worked by hand,
 //! from the MongoDB manual ("Comparison/Sort Order", "Query on Embedded/Nested Documents", "Query an Array", "Query for Null or
-//! Missing Fields") and, where it leaves a choice open, from what this project chose. The values that are read and written as they
-//! are stand in the MongoDB project's BSON corpus or in the conversion table of Extended JSON v2, or are made by hand from RFC
-//! 8259. Of one row alone, whose values were put together at random, `tests/answers.py` found the order.
+//! Missing Fields") and, where it leaves a choice open, from what this project chose. The texts that are read and written again
+//! are those of `tests/rows/pack-*.jsonl`. Of one row alone, whose values were put together at random, `tests/answers.py` found
+//! the order.
 //!
 //! - `calls`: the calls, by their names.
 //! - `order`: the calls that order values.

@@ -60,22 +60,37 @@ fn grouped<N: Reading>(alloc: Global, row: N) -> Result<Vec<(N, i32)>, RowFault>
     Ok(values)
 }
 
-/// Whether all values of a row and those of another, which has the same, compare as their groups stand: those of one group are
-/// equal. If not, the answer is two groups whose values do not.
+/// The groups of two values that do not compare as these groups stand.
+fn misplaced<M: Reading, N: Reading>(
+    values: &[(M, i32)],
+    others: &[(N, i32)],
+    by: &By,
+) -> Option<(i32, i32)> {
+    for value in values {
+        for other in others {
+            if by.compare(value.0, other.0) != value.1.cmp(&other.1) {
+                return Some((value.1, other.1));
+            }
+        }
+    }
+    None
+}
+
+/// Whether each value of a row compares with each of the same values in another row as their groups stand, and as equal where
+/// they are of one group. If not, the answer is two groups whose values do not.
 pub(crate) fn ascending<M: Reading, N: Reading>(
     alloc: Global,
     row: M,
     other: N,
     by: &By,
 ) -> Result<Value, RowFault> {
+    let values = grouped(alloc, row)?;
     let others = grouped(alloc, other)?;
-    for value in &grouped(alloc, row)? {
-        for other in &others {
-            if by.compare(value.0, other.0) != value.1.cmp(&other.1) {
-                let groups = [Value::Int32(value.1), Value::Int32(other.1)];
-                return Ok(Value::Array(Vec::from_array(alloc, groups)?));
-            }
+    match misplaced(&values, &others, by) {
+        None => Ok(Value::Bool(true)),
+        Some((first, second)) => {
+            let groups = [Value::Int32(first), Value::Int32(second)];
+            Ok(Value::Array(Vec::from_array(alloc, groups)?))
         }
     }
-    Ok(Value::Bool(true))
 }
