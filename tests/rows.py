@@ -186,8 +186,8 @@ def line_of(row: Members) -> bytes:
 @one_by_one
 def pack(program: Program, row: Members) -> int:
     """{"text":T,"bytes":HEX,"shown":D}: a line as the bytes of its document, and what dump prints of them (without "shown" the line
-    itself); or {"text":T,"fault":"byte 5: not in the profile"}, which is told of a query too. In place of "text", "hex" gives a line
-    by its bytes, and "parts":[T,[TIMES,T]..] by texts, of which those with a number are repeated."""
+    itself); or {"text":T,"fault":"byte 5: not in the profile"}, which is told of a query too. In place of "text", "hex" gives a
+    line by its bytes, and "parts":[T,[TIMES,T]..] by texts, of which those with a number are repeated."""
     line = line_of(row)
     ran = program.run("pack", "-", given=line + b"\n")
     if "fault" in row:
