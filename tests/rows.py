@@ -25,6 +25,8 @@ ROOT = Path(__file__).resolve().parent.parent
 ROWS = ROOT / "tests/rows"
 # How many seconds a run may take.
 PATIENCE = 60
+# A word of the system's has fewer bytes.
+LONGEST_WORD = 131_072
 
 
 class Members(list):
@@ -258,6 +260,14 @@ def check(program: Program, row: Members) -> int:
     return 1
 
 
+def line_of(row: Members) -> bytes:
+    """The line that a row of pack gives, by its text, its bytes or its parts."""
+    if "hex" in row:
+        return bytes_of(row, "hex")
+    parts = row.get("parts", [text_of(row.get("text"))])
+    return "".join(it if isinstance(it, str) else it[0] * it[1] for it in parts).encode()
+
+
 @one_by_one
 def cut(program: Program, row: Members) -> int:
     """{"before":"(036f00(","bytes":HEX,"after":"))","documents":[[0,D]..],"faults":[[1,4,12,"path \\"o\\": name not ended"]..]}: a dump,
@@ -280,19 +290,23 @@ def cut(program: Program, row: Members) -> int:
 
 @one_by_one
 def pack(program: Program, row: Members) -> int:
-    """{"text":T,"bytes":HEX,"shown":D}: a line as the bytes of its document, and what dump prints of them (without "shown" the text
-    itself); or {"text":T,"fault":"byte 5: not in the profile"}. "hex" in place of "text" is a line by its bytes."""
-    line = bytes_of(row, "hex") if "hex" in row else text_of(row.get("text")).encode()
+    """{"text":T,"bytes":HEX,"shown":D}: a line as the bytes of its document, and what dump prints of them (without "shown" the line
+    itself); or {"text":T,"fault":"byte 5: not in the profile"}, which is told of a query too. In place of "text", "hex" gives a
+    line by its bytes, and "parts":[T,[TIMES,T]..] by texts, of which those with a number are repeated."""
+    line = line_of(row)
     ran = program.run("pack", "-", given=line + b"\n")
     if "fault" in row:
         fault = str(row.get("fault"))
         told = f"bsonfind: line 1{', ' if fault.startswith('byte ') else ': '}{fault}\n0 objects packed\n"
         want((ran.returncode, ran.stdout, ran.stderr.decode()), (1, b"", told), "pack")
+        if "hex" not in row and len(line) < LONGEST_WORD:
+            ran = program.run("find", "-", "--query", line.decode())
+            want((ran.returncode, ran.stdout, ran.stderr.decode()), (1, b"", f"bsonfind: query: {fault}\n"), "find")
         return 1
     want((ran.returncode, ran.stderr), (0, b"1 objects packed\n"), "the end of pack")
     if "bytes" in row:
         want(ran.stdout.hex(), bytes_of(row, "bytes").hex(), "the bytes")
-    shown = text_of(row.get("shown", row.get("text")))
+    shown = text_of(row.get("shown")) if "shown" in row else line.decode()
     want(program.run("dump", "-", given=ran.stdout).stdout.decode(), f"{shown}\n", "the document")
     return 1
 
