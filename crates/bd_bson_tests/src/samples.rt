@@ -7,9 +7,9 @@ use std::alloc::Global;
 use std::process::Abort;
 
 /// An element that was written by hand: its name; its type byte, its name and its value; the canonical text of the value.
-pub(crate) type Element = (&'static str, &'static [u8], &'static str);
+pub(crate) type Element<'a> = (&'a str, &'a [u8], &'a str);
 
-static ELEMENTS: [Element; 19] = [
+static ELEMENTS: [Element<'static>; 19] = [
     ("min", b"\xffmin\0", r#"{"$minKey":1}"#),
     ("un", b"\x06un\0", r#"{"$undefined":true}"#),
     ("", b"\x0a\0", "null"),
@@ -72,7 +72,7 @@ static ELEMENTS: [Element; 19] = [
 ];
 
 /// An element of each kind, in the order of the kinds.
-pub(crate) fn elements() -> &'static [Element] {
+pub(crate) fn elements() -> &'static [Element<'static>] {
     &ELEMENTS
 }
 

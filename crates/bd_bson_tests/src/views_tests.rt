@@ -6,7 +6,12 @@ use std::alloc::Global;
 use std::test::Fail;
 
 /// Whether a field is the element: its name, and each call of its value.
-fn is_element<'a, N: Node<'a>>(alloc: Global, name: &str, node: N, element: &Element) -> bool {
+fn is_element<'a, 'e, N: Node<'a>>(
+    alloc: Global,
+    name: &str,
+    node: N,
+    element: &Element<'e>,
+) -> bool {
     let (want, bytes, shown) = *element;
     let kind = node.kind();
     let holder = kind == Kind::Doc || kind == Kind::Array;
@@ -34,8 +39,10 @@ fn has_every_kind<'a, N: Node<'a>>(alloc: Global, node: N) -> bool {
         }
         let (pair_name, pair) = node.pair(i);
         let (field_name, field) = node.field(i);
-        let (Some(first), Some((name, value, after))) = (node.first(element.0), N::next(&rest))
-        else {
+        let Some(first) = node.first(element.0) else {
+            return false;
+        };
+        let Some((name, value, after)) = N::next(&rest) else {
             return false;
         };
         if !is_element(alloc, pair_name, pair, element)
@@ -62,7 +69,10 @@ fn sees_every_kind(alloc: Global, document: RawDoc<'_>) -> bool {
             return false;
         };
         let (label, _, shown) = *element;
-        let (Some(first), Some(found)) = (document.first(label), all.find(label)) else {
+        let Some(first) = document.first(label) else {
+            return false;
+        };
+        let Some(found) = all.find(label) else {
             return false;
         };
         let Some((name, value, after)) = rest.next() else {
@@ -75,11 +85,15 @@ fn sees_every_kind(alloc: Global, document: RawDoc<'_>) -> bool {
         {
             return false;
         }
-        let (pair, nth) = (document.pair(i), all.nth(i));
-        for (name, value) in [(name, value), pair, nth, (label, first), (label, found)] {
-            if !is_element(alloc, name, value, element) {
-                return false;
-            }
+        let (pair_name, pair) = document.pair(i);
+        let (nth_name, nth) = all.nth(i);
+        if !is_element(alloc, name, value, element)
+            || !is_element(alloc, pair_name, pair, element)
+            || !is_element(alloc, nth_name, nth, element)
+            || !is_element(alloc, label, first, element)
+            || !is_element(alloc, label, found, element)
+        {
+            return false;
         }
         rest = after;
     }

@@ -57,6 +57,28 @@ fn counts_levels(rt: HostRuntime) -> Result<(), Fail> {
     Ok(())
 }
 
+/// Whether the pair there is that of its kind, by each call that finds it.
+fn has_kind_at(alloc: Global, document: &Document, place: usize) -> bool {
+    let node = Tree::Doc(document);
+    if place >= document.len() || node.kind() != Kind::Doc || place >= node.len() {
+        return false;
+    }
+    let (name, value) = document.pair(place);
+    let (pair_name, pair) = node.pair(place);
+    let (field_name, field) = node.field(place);
+    let Some(first) = document.first(name) else {
+        return false;
+    };
+    let Some(part) = node.first(name) else {
+        return false;
+    };
+    is_field(alloc, place, name, Tree::Value(value))
+        && is_field(alloc, place, name, Tree::Value(first))
+        && is_field(alloc, place, name, part)
+        && is_field(alloc, place, pair_name, pair)
+        && is_field(alloc, place, field_name, field)
+}
+
 /// Whether the document is that of every kind, by each call of a document and of a node.
 fn has_every_kind(alloc: Global, document: &Document) -> bool {
     let node = Tree::Doc(document);
@@ -69,24 +91,14 @@ fn has_every_kind(alloc: Global, document: &Document) -> bool {
     }
     let mut rest = node.parts();
     for place in 0..19 {
-        if place >= document.len() || node.kind() != Kind::Doc || place >= node.len() {
+        if !has_kind_at(alloc, document, place) {
             return false;
         }
-        let (name, value) = document.pair(place);
-        let (Some(first), Some(part), Some((next_name, next, after))) = (
-            document.first(name),
-            node.first(name),
-            Tree::next(&rest),
-        ) else {
+        let Some((name, next, after)) = Tree::next(&rest) else {
             return false;
         };
-        let (pair, field) = (node.pair(place), node.field(place));
-        let own = (name, Tree::Value(value));
-        let first = (name, Tree::Value(first));
-        for (name, value) in [own, first, (name, part), (next_name, next), pair, field] {
-            if !is_field(alloc, place, name, value) {
-                return false;
-            }
+        if !is_field(alloc, place, name, next) {
+            return false;
         }
         rest = after;
     }
