@@ -10,8 +10,8 @@ ghost use Rattle.bd_bounds.specs.BoundsView.{rest_names, seen_bounds};
 
 use crate::bounds::Bounds;
 use crate::operator_bounds::{bounds_here, conjoined, narrow};
-use bd_path::{Component, Path};
 use bd_filter::{Filter, Operator};
+use bd_path::{Component, Path};
 use bd_value::NoMemory;
 use std::alloc::Global;
 
