@@ -1,7 +1,7 @@
 #!/bin/sh
-# Runs the gate, then the tests of the program that the gate proved and built, the rows of the calls that grow, the looks at the
-# examples and the definitions and one round of the edits, and prints the sum of all as its last line. The status is 0 where
-# nothing failed.
+# Runs the gate, then the tests of the program that the gate proved and built, its rows, the rows of the calls that grow, the looks
+# at the examples and the definitions and two rounds of the edits, and prints the sum of all as its last line. The status is 0
+# where nothing failed.
 set -u
 cd "$(dirname "$0")/.." || exit 1
 log=$(mktemp) || exit 1
@@ -34,6 +34,9 @@ if cp crates/bsonfind/out/bsonfind bsonfind; then
 	add
 	tests/devices.py | tee "$log"
 	add
+	# As LLVM builds it, and as Rattle's own compiler does.
+	tests/rows.py --program crates/bsonfind/out/bsonfind --program crates/bsonfind/out/bsonfind.by-rattle | tee "$log"
+	add
 else
 	echo 'tests/program.sh and the tests after it were not run: the gate built no program'
 	failed=$((failed + 1))
@@ -52,10 +55,13 @@ add
 tests/definitions.py | tee "$log"
 add
 
-# Each commit tries another round. It is over what the gate proved, so not where that failed.
+# Each commit tries two others, so that all have their turn. They are over what the gate proved, so not where that failed.
 if [ "$failed" -eq 0 ]; then
-	tests/edits.sh --round "$(git rev-list --count HEAD 2>/dev/null || echo 0)" | tee "$log"
-	add
+	commits=$(git rev-list --count HEAD 2>/dev/null || echo 0)
+	for round in $((2 * commits)) $((2 * commits + 1)); do
+		tests/edits.sh --round "$round" | tee "$log"
+		add
+	done
 fi
 
 echo "$passed passed, $failed failed"

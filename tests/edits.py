@@ -1,18 +1,20 @@
 #!/usr/bin/env python3
-"""Tries the edits of crates/CRATE/must-fail and of tests/edits/CRATE in batches: the proofs must refuse each.
+"""Tries the edits of crates/CRATE/must-fail and of tests/edits/CRATE.edits in batches: the proofs must refuse each.
 
 usage: tests/edits.sh [CRATE..] [--jobs N]   tries all edits, or those of the named crates, N checks at once
        tests/edits.sh --list [CRATE..]       prints the function and the round of each edit, and tries nothing
+       tests/edits.sh --count [CRATE..]      prints how many edits there are, and tries nothing
        tests/edits.sh --round K              tries one round, another for each K, within some minutes, for a run after the gate
        tests/edits.sh --self-test            tries edits that must not count as refused
+
+In tests/edits/CRATE.edits an edit is a line '# NAME' and the lines of a file of must-fail; a blank line ends it.
 
 A round is a copy of a crate with one edit a function, and one check of it. An edit counts as refused where the line of
 its own function says that its proof fails for a reason of its own. Where it says that a callee is not proved, the edit
 is tried in a later round without that callee's; and each edit that no round refused is tried alone.
 """
+
 import argparse
-import importlib.machinery
-import importlib.util
 import os
 import re
 import shutil
@@ -20,15 +22,22 @@ import signal
 import sys
 import tempfile
 import time
-import types
+from collections.abc import Callable
 from concurrent.futures import ThreadPoolExecutor
+from functools import cache
+from importlib.machinery import SourceFileLoader
+from pathlib import Path
+from types import ModuleType
+from typing import NamedTuple
 
 sys.dont_write_bytecode = True
-ROOT = os.path.dirname(os.path.dirname(os.path.realpath(__file__)))
+ROOT = Path(__file__).resolve().parent.parent
 # How long --round may take, and how many edits it takes at most, since it mostly runs where no work is kept.
-SECONDS = 330
-AT_MOST = 8
+SECONDS, AT_MOST = 330, 8
 ITEM = re.compile(r" *(?:pub(?:\([^)]*\))? )?(?:(?:const|unsafe|extern \"C\") )*(fn|impl|trait|mod)\b(.*)")
+# The parameters of an impl, and the last name of a path.
+PARAMETERS = re.compile(r"^<(?:[^<>]|<(?:[^<>]|<[^<>]*>)*>)*>")
+NAME = re.compile(r"(?<![':\w])(?:\w+::)*(\w+)")
 # What a function's line says of another one: it says nothing of the function's own proof.
 OF_ANOTHER = re.compile(r"it calls|it passes|waits for|which (is|are) not proved|which (has|have) no proof|could not tell")
 # What it says of a body whose form the prover does not take: it says nothing of the contract.
@@ -39,218 +48,171 @@ MISSING = r"(has no field|is not in scope|has no `)"
 CITING = r"(was not admitted|which was rejected, (was|were) not checked)"
 BY_NAME = re.compile(rf"(note: )?(\./)?proofs/(.*({MISSING}|{CITING})|(.*\n)+ +{MISSING})")
 PLACE = re.compile(r"(?:note: )?(?:\./)?(\S+?):(\d+):\d+:")
+REFUSED, NOT_REFUSED, BAD_EDIT, NOT_TRIED = "refused", "NOT REFUSED", "BAD EDIT", "not tried"
 ONLY_BY_NAME = "refused, but only because a proof names what it took away"
 
-
-def load_rt():
-    """rt as a module: it knows how a crate is checked and what says that an edit cannot be read."""
-    path = shutil.which("rt") or sys.exit("edits: rt is not on PATH")
-    loader = importlib.machinery.SourceFileLoader("rt", os.path.realpath(path))
-    made = importlib.util.module_from_spec(importlib.util.spec_from_loader("rt", loader))
-    loader.exec_module(made)
-    return made
+# rt as a module: it knows how a crate is checked and what says that an edit cannot be read.
+rt = ModuleType("rt")
+rt.__file__ = os.path.realpath(shutil.which("rt") or sys.exit("edits: rt is not on PATH"))
+SourceFileLoader("rt", rt.__file__).exec_module(rt)
+rtlib, Crate = rt.rtlib, rt.Crate
 
 
-rt = load_rt()
-rtlib = rt.rtlib
+class Function(NamedTuple):
+    """A function of a source file: the name of its proof, its own in the lines of a check, and its lines, from 1."""
+
+    # That of a cycle is the proof of all its functions.
+    proof: str
+    name: str
+    path: str
+    lines: range
+    body: range
+
+    def owns_line(self, said: str) -> bool:
+        """Whether a line of the check is the function's, or of a closure in it."""
+        return f"{said.replace('::fn::', '::')}::".startswith(f"{self.name}::")
+
+    def owns_place(self, path: str, line: int) -> bool:
+        """Whether a place is in what is written of the proof, or in the function."""
+        is_in_proof = path.startswith("/".join(["proofs", *self.proof.split("::")[1:], ""]))
+        return is_in_proof or path == self.path and line in self.lines
 
 
-class Function:
-    """A function of a source file, or all functions of a cycle, which have one proof."""
-
-    def __init__(self, crate, path, lines, head, above):
-        self.path, self.spans = path, [span_of(lines, head)]
-        # rt names a type's own methods by the module that declares the type.
-        own = next((it for it in above if ITEM.match(it)[1] == "impl" and " for " not in it), None)
-        parts = modules_of(declared_in(crate, name_of(own)) or path if own else path) + [name_of(it) for it in above]
-        names, last = [name_of(lines[head])], name_of(lines[head])
-        cycle = re.fullmatch(r" *#\[cycle\((\w+)\)\]", attribute_above(lines, head))
-        if cycle:
-            heads = [at for at in range(len(lines)) if attribute_above(lines, at).strip() == cycle[0].strip()]
-            heads = [at for at in heads if ITEM.match(lines[at])]
-            self.spans, last = [span_of(lines, at) for at in heads], "+" + cycle[1]
-            names = [name_of(lines[at]) for at in heads]
-        self.names = ["::".join([crate.name, *parts, it]) for it in names]
-        self.name = "::".join([crate.name, *parts, last])
-        self.proofs = "/".join(["proofs", *parts, last]) + "/"
-
-    def owns_line(self, said):
-        """Whether a line of the check is one of this function's, or of a closure in it."""
-        name = said.replace("::fn::", "::")
-        return any(name == it or name.startswith(f"{it}::") for it in self.names)
-
-    def owns_place(self, path, row):
-        is_inside = any(first <= row <= last for first, last in self.spans)
-        return path.startswith(self.proofs) or path == self.path and is_inside
+@cache
+def source(crate: Crate, path: str) -> str:
+    return Path(crate.folder, path).read_text(encoding="utf-8")
 
 
-def modules_of(path):
-    return [it for it in re.sub(r"(^|/)(lib|main|mod)$", "", path[len("src/") : -len(".rt")]).split("/") if it]
+@cache
+def functions_of(crate: Crate, path: str) -> list[Function]:
+    """Return the functions of a source file. What rt fmt lays out in an item is indented, and the item's last line is not."""
+    lines, above, found, stems = source(crate, path).split("\n"), [], [], {}
+    heads = [at for at, line in enumerate(lines) if ITEM.match(line)]
+    for at in heads:
+        indent = indent_of(lines[at])
+        above = [it for it in above if indent_of(it) < indent]
+        if ITEM.match(lines[at])[1] == "fn" and not any(ITEM.match(it)[1] == "fn" for it in above):
+            end = next((it for it in heads if it > at and indent_of(lines[it]) <= indent), len(lines))
+            rows = [it for it in range(at, end) if indent_of(lines[it]) == indent]
+            opens = next((it for it in rows if lines[it].endswith("{")), end)
+            last = next((it for it in rows if lines[it].strip() == "}"), at)
+            within = "::".join([crate.name, *modules_of(crate, path, above), *map(name_of, above), ""])
+            cycle, name = cycle_above(lines, at), within + name_of(lines[at])
+            # A cycle of functions and methods has its proof beside the functions.
+            stems[cycle] = min(stems.get(cycle, within), within, key=len)
+            found.append((cycle, name, path, range(at + 1, last + 2), range(opens + 2, last + 2)))
+        above = [*above, lines[at]]
+    return [Function(f"{stems[it[0]]}+{it[0]}" if it[0] else it[1], *it[1:]) for it in found]
 
 
-def declared_in(crate, name):
-    """The source file that declares a type."""
-    for file in sorted(rtlib.files_of(crate.folder)):
-        if file.endswith(".rt") and re.search(rf"(?m)^ *(pub(\([^)]*\))? )?(struct|enum) {name}\b", rtlib.text_of(file)):
-            return os.path.relpath(file, crate.folder)
-    return None
-
-
-def name_of(line):
-    """The name that rattle gives an item: of an impl the type's, then the trait's and those of its arguments."""
-    kind, rest = ITEM.match(line).groups()
-    if kind != "impl":
-        return re.match(r"\W*(\w+)", rest)[1]
-    rest = without_parameters(rest) if rest.startswith("<") else rest
-    of_trait, is_there, of_type = rest.split(" where")[0].rstrip("{ ").partition(" for ")
-    words = lambda text: re.findall(r"(?<![':\w])(?:\w+::)*(\w+)", text)
-    if not is_there:
-        return words(of_trait)[0]
-    outer, _, arguments = of_trait.partition("<")
-    given = [words(it)[0] for it in arguments.split(",") if words(it)]
-    return "".join([words(of_type)[0], words(outer)[0], *given])
-
-
-def without_parameters(text):
-    """The text after the brackets at its start."""
-    depth = 0
-    for at, letter in enumerate(text):
-        depth += (letter == "<") - (letter == ">" and text[at - 1] != "-")
-        if not depth:
-            return text[at + 1 :]
-    return text
-
-
-def indent_of(line):
+def indent_of(line: str) -> int:
     return len(line) - len(line.lstrip(" "))
 
 
-def attribute_above(lines, at):
-    """The line #[cycle(..)] among the attributes above an item, or an empty text."""
+def name_of(line: str) -> str:
+    """Return the name that rattle gives an item: of an impl the type's, then the trait's and those of its arguments."""
+    kind, rest = ITEM.match(line).groups()
+    if kind != "impl":
+        return NAME.search(rest)[1]
+    of_trait, _, of_type = PARAMETERS.sub("", rest).split(" where")[0].rpartition(" for ")
+    outer, _, arguments = of_trait.partition("<")
+    return "".join(name for it in [of_type, outer, *arguments.split(",")] for name in NAME.findall(it)[:1])
+
+
+def cycle_above(lines: list[str], at: int) -> str:
+    """Return the word of #[cycle(..)] among the attributes above an item, or an empty text."""
     while at > 0 and lines[at - 1].lstrip().startswith("#["):
         at -= 1
-        if "#[cycle(" in lines[at]:
-            return lines[at]
+        if named := re.match(r" *#\[cycle\((\w+)\)\]", lines[at]):
+            return named[1]
     return ""
 
 
-def span_of(lines, head):
-    """The first and the last line of an item, counted from 1. rt fmt indents its last line as its first."""
-    indent = " " * indent_of(lines[head])
-    ends = (at for at in range(head, len(lines)) if lines[at] == indent + "}")
-    return head + 1, next(ends, head) + 1
-
-
-def items_around(lines, at):
-    """The rows of the items around a line, from the inside out: rt fmt indents what stands in an item."""
-    found, indent = [], indent_of(lines[at]) + 1
-    for row in range(at, -1, -1):
-        line = lines[row]
-        here = indent_of(line)
-        if not line.strip() or here >= indent:
-            continue
-        if ITEM.match(line):
-            found.append(row)
-        # The bracket after an item's head is indented as the head.
-        indent = here + 1 if line[here] in "{)" else here
-    return found
-
-
-def function_at(crate, path, lines, at):
-    """The function in whose body a line stands. A contract is no function's alone: its callers read it."""
-    around = items_around(lines, at)
-    functions = [it for it in around if ITEM.match(lines[it])[1] == "fn"]
-    if not functions:
-        return None
-    head = functions[-1]
-    indent = indent_of(lines[head])
-    opens = [it for it in range(head, at) if indent_of(lines[it]) == indent and lines[it].endswith("{")]
-    above = [lines[it] for it in reversed(around[around.index(head) + 1 :])]
-    return Function(crate, path, lines, head, above) if opens else None
+def modules_of(crate: Crate, path: str, above: list[str]) -> list[str]:
+    """Return the modules of a function's file; of a type's own method they are those of the file that declares the type."""
+    own = next((name_of(it) for it in above if ITEM.match(it)[1] == "impl" and " for " not in it), "")
+    for file in sorted(rtlib.files_of(crate.folder)) if own else []:
+        if file.endswith(".rt") and re.search(rf"(?m)^ *(pub(\([^)]*\))? )?(struct|enum) {own}\b", rtlib.text_of(file)):
+            path = os.path.relpath(file, crate.folder)
+            break
+    return [it for it in re.sub(r"(^|/)(lib|main|mod)$", "", path[len("src/") : -len(".rt")]).split("/") if it]
 
 
 class Edit:
-    """A file of pairs of an old text and a new one."""
+    """An edit: lines that name a file, and pairs of an old text of it and a new one."""
 
-    def __init__(self, crate, file):
-        self.crate, self.file, self.label = crate, file, f"{crate.name}/{os.path.basename(file)}"
-        self.texts, self.why = rt.read_edit(file, crate.folder)
-        self.changes, self.functions, self.lines = [], [], set()
-        if not self.why:
-            self.find_changes()
+    def __init__(self, crate: Crate, name: str, lines: str) -> None:
+        self.crate, self.label = crate, f"{crate.name}/{name}"
+        self.texts, self.why = rt.edited(lines, crate.folder)
+        self.changes: list[tuple[str, int, int, str]] = []
+        # Those that it changes, with the others of their cycles. An edit that changes what is in none is tried alone.
+        self.functions: list[Function] = []
+        path = old = ""
+        for kind, text in [] if self.why else re.findall(r"(?m)^(file|old|new): ?(.*)$", lines):
+            path = text.strip() if kind == "file" else path
+            old = text if kind == "old" else old
+            if kind == "new" and not self.adds_change(path, old, text):
+                self.functions = []
+                break
+        self.proofs = {it.proof: it for it in self.functions}
 
-    def find_changes(self):
-        """Finds what is changed where. An edit whose places are not all in functions is tried alone."""
-        with open(self.file, encoding="utf-8") as it:
-            rows = it.read().split("\n")
-        path, old, is_apart = "", "", False
-        for row in rows:
-            kind, _, text = row.partition(":")
-            text = text[1:]
-            if kind == "file":
-                path = text.strip()
-            elif kind == "old":
-                old = text
-            elif kind == "new":
-                is_apart = not self.add_change(path, old, text) or is_apart
-        if is_apart:
-            self.functions = []
-
-    def add_change(self, path, old, new):
-        with open(f"{self.crate.folder}/{path}", encoding="utf-8") as it:
-            whole = it.read()
+    def adds_change(self, path: str, old: str, new: str) -> bool:
+        """Note what is changed, and return whether it is in a function's body. A contract is no function's alone."""
+        whole = source(self.crate, path)
         start = whole.find(old)
         if start < 0 or not path.startswith("src/"):
             return False
         self.changes.append((path, start, start + len(old), new))
-        first = whole.count("\n", 0, start)
-        self.lines.add((path, first))
-        found = function_at(self.crate, path, whole.split("\n"), first)
-        if found and found.name not in [it.name for it in self.functions]:
-            self.functions.append(found)
-        return found is not None
+        functions = functions_of(self.crate, path)
+        proof = next((it.proof for it in functions if whole.count("\n", 0, start) + 1 in it.body), "")
+        self.functions += [it for it in functions if it.proof == proof]
+        return bool(proof)
 
-    def owns_place(self, place):
+    def owns_place(self, message: str) -> bool:
+        place = PLACE.match(message)
         return bool(place) and any(it.owns_place(place[1], int(place[2])) for it in self.functions)
 
-
-def edits_of(crate):
-    """The edits of both places."""
-    more = types.SimpleNamespace(folder=f"{ROOT}/tests/edits/{crate.name}")
-    there = [f"{more.folder}/{it}" for it in sorted(os.listdir(more.folder))] if os.path.isdir(more.folder) else []
-    return [Edit(crate, it) for it in [*rt.edits_of(crate)[0], *there] if it.endswith(".edit")]
+    def lines_in(self, lines: list[str]) -> list[str]:
+        """Return the lines of a check that tell of the edit's functions that they are not proved."""
+        said = [(it, re.match(r"fn (\S+): (?!proved$|assumed$)", it)) for it in lines]
+        return [it for it, name in said if name and any(own.owns_line(name[1]) for own in self.functions)]
 
 
-def rounds_of(edits, at_most=1000):
-    """Puts each edit into the first round in which its functions and lines are free; one without a function alone."""
-    rounds = []
+def edits_of(crate: Crate) -> list[Edit]:
+    """Return the edits of must-fail, which the gate tries too, and those of tests/edits."""
+    found = [(it.stem, it.read_text(encoding="utf-8")) for it in map(Path, rt.edits_of(crate)[0])]
+    file = ROOT / f"tests/edits/{crate.name}.edits"
+    for block in re.split(r"\n\n+", file.read_text(encoding="utf-8").strip("\n")) if file.exists() else []:
+        name, _, lines = block.partition("\n")
+        if not name.startswith("# ") or name[2:] in dict(found):
+            sys.exit(f"edits: {file.name}: a block begins by {name!r}, and not by '# NAME' with a name of its own")
+        found.append((name[2:], lines))
+    return [Edit(crate, *it) for it in found]
+
+
+def rounds_of(edits: list[Edit], at_most: int = 1000) -> list[list[Edit]]:
+    """Put each edit into the first round in which its functions are free; one without a function alone."""
+    rounds: list[list[Edit]] = []
     for edit in edits:
-        free = (it for it in rounds if edit.functions and len(it) < at_most and not any(clash(edit, other) for other in it))
-        found = next(free, None)
+        free = (it for it in rounds if len(it) < at_most and all(not edit.proofs.keys() & other.proofs for other in it))
+        found = next((it for it in free if edit.proofs and it[0].proofs), None)
         rounds.append([edit]) if found is None else found.append(edit)
     return rounds
 
 
-def clash(one, other):
-    names = {it.name for it in other.functions}
-    return not names or any(it.name in names for it in one.functions) or bool(one.lines & other.lines)
-
-
-def texts_of(edits):
-    """The files that a round changes, by their path in the crate."""
+def texts_of(edits: list[Edit]) -> dict[str, str]:
+    """Return the files that a round changes, by their path in the crate."""
     if len(edits) == 1:
         return edits[0].texts
-    texts = {}
+    texts: dict[str, str] = {}
     for path, start, end, new in sorted((it for edit in edits for it in edit.changes), reverse=True):
-        if path not in texts:
-            with open(f"{edits[0].crate.folder}/{path}", encoding="utf-8") as it:
-                texts[path] = it.read()
-        texts[path] = texts[path][:start] + new + texts[path][end:]
+        text = texts.get(path) or source(edits[0].crate, path)
+        texts[path] = text[:start] + new + text[end:]
     return texts
 
 
-def kept_work(crate, room):
-    """A copy of what the crate's checks keep, in which the crate as it stands is proved, or None where it is not."""
+def kept_work(crate: Crate, room: str) -> str | None:
+    """Return a copy of what the crate's checks keep, or None where a library below it is not proved."""
     held = rtlib.lock([*crate.below(), crate])
     try:
         built = is_left_by_gate(crate) or not any(it.build_rlib(["--jobs", "1"], anew=False) for it in crate.below())
@@ -263,7 +225,7 @@ def kept_work(crate, room):
     return kept if built else None
 
 
-def is_left_by_gate(crate):
+def is_left_by_gate(crate: Crate) -> bool:
     """Whether the libraries below are those of rt ci, which leaves them with no stamp and with all made in one run."""
     newest = 0
     for it in crate.below():
@@ -273,110 +235,127 @@ def is_left_by_gate(crate):
     return all(os.path.getmtime(f"{it.rlib}/format") > newest for it in crate.below())
 
 
+class Check(NamedTuple):
+    """What a check told: its lines, and those that say that it judged nothing."""
+
+    lines: list[str]
+    unread: list[str]
+    status: int
+    seconds: float
+
+    def is_refusal(self) -> bool:
+        return self.status == 1 and not self.unread and self.lines[-1].startswith(("logic=not-proved", "only="))
+
+
 class Trial:
     """Tries edits of one crate and prints what came of each."""
 
-    def __init__(self, crate, kept, flags):
-        self.crate, self.kept, self.flags, self.outcomes = crate, kept, flags, {}
+    def __init__(self, crate: Crate, flags: list[str]) -> None:
+        self.crate, self.flags, self.kept = crate, flags, ""
+        self.outcomes: dict[str, str] = {}
 
-    def check(self, edits):
-        """One check, over a copy of the kept work, so that none rests on another's. Returns its lines, status and seconds."""
-        since = time.monotonic()
+    def run(self, edits: list[Edit], jobs: int, is_proved: bool = False) -> None:
+        """Try all edits, where the crate is proved without them."""
+        with tempfile.TemporaryDirectory(prefix="edits-") as room:
+            self.kept = kept_work(self.crate, room)
+            if self.kept is None or not is_proved and rt.checked(self.crate, {}, self.flags, self.kept).returncode:
+                print(f"{self.crate.name}: it or a library below it is not proved without an edit, so none was tried")
+                self.outcomes = {it.label: NOT_TRIED for it in edits}
+                return
+            pending, alone = [it for it in edits if it.functions], [it for it in edits if not it.functions]
+            while pending:
+                tried = side_by_side(self.try_round, rounds_of(pending), jobs)
+                pending = [it for blocked, _ in tried for it in blocked]
+                alone += [it for _, others in tried for it in others]
+            side_by_side(self.try_alone, alone, jobs)
+
+    def check(self, edits: list[Edit]) -> Check:
+        """Check the crate once, over a copy of the kept work, so that no check rests on another."""
+        since, texts = time.monotonic(), texts_of(edits)
         with tempfile.TemporaryDirectory(prefix="edits-kept-") as room:
             if os.path.isdir(self.kept):
                 shutil.copytree(self.kept, f"{room}/kept")
-            ran = rt.checked(self.crate, texts_of(edits), self.flags, f"{room}/kept")
-        return ran.stdout.rstrip("\n").split("\n"), ran.returncode, time.monotonic() - since
+            ran = rt.checked(self.crate, texts, self.flags, f"{room}/kept")
+        lines = ran.stdout.rstrip("\n").split("\n")
+        unread = [it for it in lines if rt.unread(it, texts)]
+        if not unread and rtlib.STALE.search(ran.stdout):
+            unread = ["the kept work of a library could not be used"]
+        return Check(lines, unread, ran.returncode, time.monotonic() - since)
 
-    def tell(self, edit, outcome, seconds, why=""):
+    def tell(self, edit: Edit, outcome: str, seconds: float, why: str = "") -> None:
         self.outcomes[edit.label] = outcome
         print(f"{edit.label}: {outcome} ({seconds:.0f} s){': ' + why[:300] if why else ''}", flush=True)
 
-    def try_round(self, edits):
-        """Tries edits in one check. Returns those that a callee's edit kept from being judged, and those to try alone."""
-        lines, status, seconds = self.check(edits)
-        unread = [PLACE.match(it) for it in lines if rt.unread(it, texts_of(edits))]
-        is_stale = rtlib.STALE.search("\n".join(lines))
-        if unread or is_stale or status != 1 or not lines[-1].startswith(("logic=not-proved", "only=")):
-            bad = [it for it in edits if any(it.owns_place(at) for at in unread)]
+    def try_round(self, edits: list[Edit]) -> tuple[list[Edit], list[Edit]]:
+        """Try edits in one check. Return those that a callee's edit kept from being judged, and those to try alone."""
+        check = self.check(edits)
+        if not check.is_refusal():
+            bad = [it for it in edits if any(map(it.owns_place, check.unread))]
             return [it for it in edits if it not in bad] if bad else [], bad or edits
         blocked, alone = [], []
         for edit in edits:
-            said = [it for it in lines if is_unproved(it, edit)]
-            if self.tells_not_covered(edit, said, seconds):
-                continue
-            if is_refused(edit, said, lines):
-                self.tell(edit, ONLY_BY_NAME if is_by_name(edit, lines) else "refused", seconds)
+            said = edit.lines_in(check.lines)
+            if why := not_covered(said):
+                self.tell(edit, BAD_EDIT, check.seconds, why)
+            elif is_refused(edit, said, check.lines):
+                own = filter(edit.owns_place, messages_of(check.lines))
+                self.tell(edit, ONLY_BY_NAME if are_by_name([*own]) else REFUSED, check.seconds)
             else:
                 (blocked if said else alone).append(edit)
         return (blocked, alone) if len(blocked) < len(edits) else ([], edits)
 
-    def try_alone(self, edit):
-        """Tries one edit, as rt does: all that is not proved is due to it."""
+    def try_alone(self, edit: Edit) -> None:
+        """Try one edit, as rt does: all that is not proved is due to it."""
         if edit.why:
-            return self.tell(edit, "BAD EDIT", 0, edit.why)
-        lines, status, seconds = self.check([edit])
-        unread = next((it for it in lines if rt.unread(it, edit.texts)), "")
-        if self.tells_not_covered(edit, [it for it in lines if is_unproved(it, edit)], seconds):
+            self.tell(edit, BAD_EDIT, 0, edit.why)
             return
-        if unread or rtlib.STALE.search("\n".join(lines)):
-            self.tell(edit, "BAD EDIT", seconds, unread or "the kept work of a library could not be used")
-        elif status == 1 and lines[-1].startswith(("logic=not-proved", "only=")):
-            self.tell(edit, ONLY_BY_NAME if are_by_name(messages_of(lines)) else "refused", seconds, "tried alone")
-        elif status == 0:
-            self.tell(edit, "NOT REFUSED", seconds, "the crate is proved with it")
+        check = self.check([edit])
+        if why := not_covered(edit.lines_in(check.lines)):
+            outcome = BAD_EDIT
+        elif check.unread:
+            outcome, why = BAD_EDIT, check.unread[0]
+        elif check.is_refusal():
+            outcome, why = ONLY_BY_NAME if are_by_name(messages_of(check.lines)) else REFUSED, "tried alone"
+        elif check.status == 0:
+            outcome, why = NOT_REFUSED, "the crate is proved with it"
         else:
-            self.tell(edit, "BAD EDIT", seconds, f"the prover did not judge it: {lines[-1]}")
-
-    def tells_not_covered(self, edit, said, seconds):
-        """Tells of an edit whose form the prover does not take, and returns whether it is one."""
-        of_form = next((it for it in said if NOT_COVERED in it), "")
-        if of_form:
-            self.tell(edit, "BAD EDIT", seconds, f"no contract was tried: {of_form[of_form.index(NOT_COVERED) :]}")
-        return bool(of_form)
-
-    def try_all(self, edits, jobs):
-        pending, alone = [it for it in edits if it.functions], [it for it in edits if not it.functions]
-        while pending:
-            tried = side_by_side(self.try_round, rounds_of(pending), jobs)
-            pending = [it for blocked, _ in tried for it in blocked]
-            alone += [it for _, others in tried for it in others]
-        side_by_side(self.try_alone, alone, jobs)
+            outcome, why = BAD_EDIT, f"the prover did not judge it: {check.lines[-1]}"
+        self.tell(edit, outcome, check.seconds, why)
 
 
-def side_by_side(call, given, jobs):
-    """Calls once for each that is given. One job takes no thread, which the end of --round's time could not stop."""
+def side_by_side(call: Callable, given: list, jobs: int) -> list:
+    """Call once for each that is given. One job takes no thread, which the end of --round's time could not stop."""
     if jobs == 1:
         return [call(it) for it in given]
     with ThreadPoolExecutor(jobs) as pool:
         return [*pool.map(call, given)]
 
 
-def is_unproved(line, edit):
-    said = re.match(r"fn (\S+): (?!proved$|assumed$)", line)
-    return bool(said) and any(it.owns_line(said[1]) for it in edit.functions)
+def not_covered(said: list[str]) -> str:
+    """Return what a function's lines say of a form that the prover does not take, or an empty text."""
+    of_form = next((it for it in said if NOT_COVERED in it), "")
+    return of_form and f"no contract was tried: {of_form[of_form.index(NOT_COVERED) :]}"
 
 
-def is_refused(edit, said, lines):
-    """Whether a function's lines tell of a fault of its own. Where a callee is not proved its goals are tried all the
-    same, and an error in its proof counts unless that rests on what was not admitted."""
+def is_refused(edit: Edit | None, said: list[str], lines: list[str]) -> bool:
+    """Whether the lines of a function tell of a fault of its own.
+
+    Where a callee is not proved its goals are tried all the same, and an error in its proof counts unless that rests on
+    what was not admitted.
+    """
     if any(not OF_ANOTHER.search(it) or "`search` did not prove" in it for it in said):
         return True
-    own = [it for it in lines if ": error: " in it and "was not admitted" not in it and edit.owns_place(PLACE.match(it))]
+    own = [it for it in lines if ": error: " in it and "was not admitted" not in it and edit.owns_place(it)]
     return bool(said and own)
 
 
-def is_by_name(edit, lines):
-    """Whether all that is told of the functions' proofs is that they name what the edit took away."""
-    return are_by_name([it for it in messages_of(lines) if edit.owns_place(PLACE.match(it))])
-
-
-def are_by_name(messages):
+def are_by_name(messages: list[str]) -> bool:
+    """Whether all that is told is that proofs name what an edit took away."""
     return bool(messages) and all(map(BY_NAME.match, messages))
 
 
-def messages_of(lines):
-    """The errors and notes that tell a place, each with the lines that it goes on in, which are indented."""
+def messages_of(lines: list[str]) -> list[str]:
+    """Return the errors and notes that tell a place, each with the lines that it goes on in, which are indented."""
     found, is_open = [], False
     for line in lines:
         if PLACE.match(line):
@@ -389,67 +368,63 @@ def messages_of(lines):
     return found
 
 
-def try_crate(crate, edits, jobs):
-    """Tries all edits of a crate, and returns what came of each."""
-    with tempfile.TemporaryDirectory(prefix="edits-") as room:
-        kept = kept_work(crate, room)
-        if kept is None or rt.checked(crate, {}, ["--jobs", "1"], kept).returncode:
-            print(f"{crate.name}: it or a library below it is not proved without an edit, so none was tried")
-            return {it.label: "not tried" for it in edits}
-        trial = Trial(crate, kept, ["--jobs", "1"])
-        trial.try_all(edits, jobs)
-    return trial.outcomes
-
-
-def try_one_round(crates, number):
-    """Tries one round of all. Only its functions and what they call are proved, since the gate has proved the crate."""
+def try_one_round(crates: list[Crate], number: int) -> dict[str, str]:
+    """Try one round of all. Only its functions and what they call are proved, since the gate has proved the crate."""
     rounds = [it for crate in crates for it in rounds_of(edits_of(crate), AT_MOST)]
     at = number % len(rounds)
     edits, crate = rounds[at], rounds[at][0].crate
     print(f"round {at} of {len(rounds)}: {crate.name}, {len(edits)} edits", flush=True)
+    only = [word for edit in edits for it in edit.proofs.values() for word in ("--only", it.name)]
+    trial = Trial(crate, ["--jobs", str(rt.processors()), *only])
     signal.signal(signal.SIGALRM, stop_in_time)
     signal.alarm(SECONDS)
-    with tempfile.TemporaryDirectory(prefix="edits-") as room:
-        trial = Trial(crate, "", ["--jobs", str(rt.processors())])
-        try:
-            trial.kept = kept_work(crate, room)
-            if trial.kept is None:
-                print(f"{crate.name}: a library below it is not proved, so no edit was tried")
-                return {it.label: "not tried" for it in edits}
-            trial.flags += [word for edit in edits for it in edit.functions for word in ("--only", it.names[0])]
-            trial.try_all(edits, 1)
-        except TimeoutError:
-            left = [it.label for it in edits if it.label not in trial.outcomes]
-            print(f"passed over, since they take more than {SECONDS} seconds here: {' '.join(left)}")
-        finally:
-            signal.alarm(0)
+    try:
+        trial.run(edits, 1, is_proved=True)
+    except TimeoutError:
+        left = [it.label for it in edits if it.label not in trial.outcomes]
+        print(f"passed over, since they take more than {SECONDS} seconds here: {' '.join(left)}")
+    finally:
+        signal.alarm(0)
     return trial.outcomes
 
 
-def stop_in_time(*_):
+def stop_in_time(*_: object) -> None:
     raise TimeoutError
 
 
-def summed_up(outcomes, seconds):
-    """Prints the sums and returns the status."""
+def listed(crates: list[Crate]) -> list[str]:
+    """Return a line an edit: its functions and its round, where all of its crate are tried."""
+    rounds = [it for crate in crates for it in enumerate(rounds_of(edits_of(crate)))]
+    return [f"{it.label}: {' '.join(it.proofs) or 'alone'}: round {number}" for number, edits in rounds for it in edits]
+
+
+def counted(crates: list[Crate]) -> list[str]:
+    """Return a line a crate, and one for all: how many edits there are."""
+    found = [(it.name, edits_of(it), len(rt.edits_of(it)[0])) for it in crates]
+    rows = [(name, len(edits), of_gate, len(rounds_of(edits, AT_MOST))) for name, edits, of_gate in found if edits]
+    rows.append(("all", *(sum(row[column] for row in rows) for column in (1, 2, 3))))
+    return ["{}: {} edits, {} of them in must-fail; {} rounds for --round".format(*it) for it in rows]
+
+
+def summed_up(outcomes: dict[str, str], seconds: float) -> int:
+    """Print the sums and return the status."""
     by_name = sum(it == ONLY_BY_NAME for it in outcomes.values())
-    passed = by_name + sum(it == "refused" for it in outcomes.values())
-    failed = [it for it, outcome in outcomes.items() if outcome not in ("refused", ONLY_BY_NAME)]
+    failed = [it for it, outcome in outcomes.items() if outcome not in (REFUSED, ONLY_BY_NAME)]
     if failed:
         print(f"FAILED: {' '.join(failed)}")
     print(f"{by_name} refused only by name; {seconds / max(len(outcomes), 1):.1f} seconds an edit")
-    print(f"{passed} passed, {len(failed)} failed")
+    print(f"{len(outcomes) - len(failed)} passed, {len(failed)} failed")
     return 1 if failed else 0
 
 
 # What --self-test tries, in one round: edits of callees, and some that change nothing, in callers of those and elsewhere.
 SELF_TEST = {
-    "callee": ("src/document.rt", "        self.pairs.len()", "        self.pairs.capacity()", "refused"),
-    "other_callee": ("src/tree.rt", "                Value::Array(items) => TreeParts::Items(items),", "                Value::Array(items) => TreeParts::Items(&items[..0]),", "refused"),
-    "caller_with_answers": ("src/lookup.rt", "            if here == name {", "            if (here) == name {", "NOT REFUSED"),
-    "caller_without_answers": ("src/nesting.rt", "    depth_of(Tree::Doc(document))", "    (depth_of(Tree::Doc(document)))", "NOT REFUSED"),
+    "callee": ("src/document.rt", "        self.pairs.len()", "        self.pairs.capacity()", REFUSED),
+    "other_callee": ("src/tree.rt", "TreeParts::Items(items),", "TreeParts::Items(&items[..0]),", REFUSED),
+    "caller_with_answers": ("src/lookup.rt", "            if here == name {", "            if (here) == name {", NOT_REFUSED),
+    "caller_without_answers": ("src/nesting.rt", "    depth_of(Tree::Doc(document))", "    (depth_of(Tree::Doc(document)))", NOT_REFUSED),
     "name_gone": ("src/fits.rt", "                scalar_fits(own);", "                let _own = own;", ONLY_BY_NAME),
-    "elsewhere": ("src/zeros.rt", "    text.as_bytes().contains(&0)", "    text.as_bytes().contains(&0) // nothing", "NOT REFUSED"),
+    "elsewhere": ("src/zeros.rt", "    text.as_bytes().contains(&0)", "    text.as_bytes().contains(&0) // nothing", NOT_REFUSED),
 }
 
 # What a check tells, and whether it says only that a proof names what is gone.
@@ -471,53 +446,50 @@ SAID = [
 ]
 
 
-def self_test(crates):
+def self_test(crates: list[Crate]) -> int:
+    """Try the edits of SELF_TEST and judge what is told in MESSAGES and SAID."""
     crate = next(it for it in crates if it.name == "bd_value")
-    with tempfile.TemporaryDirectory(prefix="edits-self-test-") as room:
-        edits = []
-        for name, (path, old, new, _) in SELF_TEST.items():
-            with open(f"{room}/{name}.edit", "w", encoding="utf-8") as it:
-                it.write(f"file: {path}\nold: {old}\nnew: {new}\n")
-            edits.append(Edit(crate, f"{room}/{name}.edit"))
-        is_one_round = len(rounds_of(edits)) == 1
-        outcomes = try_crate(crate, edits, 1)
-    wrong = [it for it, wanted in SELF_TEST.items() if outcomes[f"{crate.name}/{it}.edit"] != wanted[-1]]
+    edits = [Edit(crate, name, f"file: {path}\nold: {old}\nnew: {new}\n") for name, (path, old, new, _) in SELF_TEST.items()]
+    is_one_round = len(rounds_of(edits)) == 1
+    trial = Trial(crate, ["--jobs", "1"])
+    trial.run(edits, 1)
+    wrong = [it for it, wanted in SELF_TEST.items() if trial.outcomes[f"{crate.name}/{it}"] != wanted[-1]]
     wrong += [lines[0] for lines, wanted in MESSAGES if are_by_name(messages_of(lines)) != wanted]
     wrong += [line for line, wanted in SAID if is_refused(None, [line], []) != wanted]
     print(f"self-test: {'FAILED: ' + ' '.join(wrong) if wrong or not is_one_round else 'ok'}")
     return 1 if wrong or not is_one_round else 0
 
 
-def main():
+def main() -> int:
     read = argparse.ArgumentParser(usage=__doc__)
     read.add_argument("crates", nargs="*")
     read.add_argument("--jobs", type=int, default=1)
     read.add_argument("--list", action="store_true")
+    read.add_argument("--count", action="store_true")
     read.add_argument("--round", type=int)
     read.add_argument("--self-test", action="store_true")
     words = read.parse_args()
     # Its first call sets a signal's handler, which only the main thread may.
     rtlib.guarded()
     since, outcomes = time.monotonic(), {}
-    crates = rtlib.crates_below(ROOT)
+    crates = rtlib.crates_below(str(ROOT))
     unknown = {*words.crates} - {it.name for it in crates}
     if unknown:
         sys.exit(f"edits: no crate is named {' '.join(sorted(unknown))}")
     crates = [it for it in crates if not words.crates or it.name in words.crates]
     if words.self_test:
         return self_test(crates)
+    if words.list or words.count:
+        print(*(listed if words.list else counted)(crates), sep="\n")
+        return 0
     if words.round is not None:
-        outcomes = try_one_round(crates, words.round)
-        return summed_up(outcomes, time.monotonic() - since)
+        return summed_up(try_one_round(crates, words.round), time.monotonic() - since)
     for crate in crates:
-        edits = edits_of(crate)
-        if words.list:
-            for number, edits in enumerate(rounds_of(edits)):
-                for it in edits:
-                    print(f"{it.label}: {' '.join(f.name for f in it.functions) or 'alone'}: round {number}")
-        elif edits:
-            outcomes.update(try_crate(crate, edits, words.jobs))
-    return 0 if words.list else summed_up(outcomes, time.monotonic() - since)
+        if edits := edits_of(crate):
+            trial = Trial(crate, ["--jobs", "1"])
+            trial.run(edits, words.jobs)
+            outcomes |= trial.outcomes
+    return summed_up(outcomes, time.monotonic() - since)
 
 
 if __name__ == "__main__":

@@ -7,6 +7,8 @@ Without --program each row runs over ./bsonfind. A failure names its file and li
 A row is JSON whose names may stand twice and in any order that matters; where the form of a text matters it is a string.
 """
 
+import base64
+import itertools
 import json
 import re
 import subprocess
@@ -16,10 +18,15 @@ from collections.abc import Callable, Iterator
 from concurrent.futures import ThreadPoolExecutor
 from pathlib import Path
 
+from answers import digest, token_of
+from sessions import request_text
+
 ROOT = Path(__file__).resolve().parent.parent
 ROWS = ROOT / "tests/rows"
 # How many seconds a run may take.
 PATIENCE = 60
+# A word of the system's has fewer bytes.
+LONGEST_WORD = 131_072
 
 
 class Members(list):
@@ -60,20 +67,21 @@ class Program:
     def __init__(self, path: Path, room: Path) -> None:
         self.path, self.room = path, room
 
-    def run(self, *words: str, given: bytes = b"") -> subprocess.CompletedProcess:
-        return subprocess.run([self.path, *words], input=given, capture_output=True, timeout=PATIENCE, check=False)
+    def run(self, *words: str | Path, given: bytes = b"", folder: Path | None = None) -> subprocess.CompletedProcess:
+        return subprocess.run([self.path, *words], input=given, capture_output=True, timeout=PATIENCE, check=False, cwd=folder)
 
-    def file(self, data: bytes) -> str:
-        with tempfile.NamedTemporaryFile(dir=self.room, delete=False) as file:
-            file.write(data)
-        return file.name
+    def file(self, data: bytes, name: str = "dump") -> Path:
+        """A file in a folder of its own."""
+        file = Path(tempfile.mkdtemp(dir=self.room), name)
+        file.write_bytes(data)
+        return file
 
-    def dump(self, documents: list) -> str:
+    def dump(self, documents: list, name: str = "dump") -> Path:
         """A file of documents."""
         packed = self.run("pack", "-", given="".join(f"{text_of(it)}\n" for it in documents).encode())
         if packed.returncode:
             raise Wrong(packed.stderr.decode())
-        return self.file(packed.stdout)
+        return self.file(packed.stdout, name)
 
 
 class Wrong(Exception):
@@ -106,22 +114,43 @@ def one_by_one(test: Callable[[Program, Members], int]) -> Callable[[Program, li
     return kind
 
 
+def spelled(text: str) -> bytes:
+    """The bytes of hexadecimal digits, where spaces are for reading. "(" is the length of what stands up to its ")", which is a
+    zero: a document. "[" is the length of what stands up to its "]", which is no byte: the value of code with scope."""
+    data, starts = bytearray(), []
+    for part in re.split(r"([][()])", text):
+        if part in ("(", "["):
+            starts.append(len(data))
+            data += bytes(4)
+        elif part in (")", "]"):
+            data += b"\0" if part == ")" else b""
+            start = starts.pop()
+            data[start : start + 4] = (len(data) - start).to_bytes(4, "little")
+        else:
+            data += bytes.fromhex(part)
+    return bytes(data)
+
+
 def bytes_of(row: Members, name: str) -> bytes:
-    """The bytes of a field of hexadecimal digits, where spaces are for reading."""
-    return bytes.fromhex(str(row.get(name)))
+    """The bytes of a field, as `spelled` reads it."""
+    return spelled(str(row.get(name)))
 
 
-def replies(program: Program, dump: str, commands: list[str]) -> list[str]:
+def replies(program: Program, dump: Path, commands: list[str]) -> list[str]:
     """What a session replies; it has to end well."""
     ran = program.run("serve", dump, given="".join(f"{it}\n" for it in commands).encode())
     want((ran.returncode, ran.stderr), (0, b""), "the end of serve")
-    return ran.stdout.decode().split("\n")[:-1]
+    came = ran.stdout.decode().split("\n")[:-1]
+    want(len(came), len(commands), "replies")
+    return came
 
 
 def match(program: Program, rows: list[Row]) -> Came:
     """{"filter":F,"matches":[D..],"others":[D..]}: which documents a filter finds. All are finds of one session over one dump of
-    the documents of all rows; a filter may find documents of other rows too."""
-    documents = list(dict.fromkeys(text_of(it) for _, row in rows for name in ("matches", "others") for it in row.get(name, [])))
+    the documents of all rows; a filter may find documents of other rows too. With "only" in place of "matches" it finds none but
+    these."""
+    names = ("matches", "only", "others")
+    documents = list(dict.fromkeys(text_of(it) for _, row in rows for name in names for it in row.get(name, [])))
     dump = program.dump(documents)
     shown = dict(zip(documents, program.run("dump", dump).stdout.decode().split("\n")))
     commands = []
@@ -132,62 +161,152 @@ def match(program: Program, rows: list[Row]) -> Came:
     for (place, row), opened, batch in zip(rows, came[::2], came[1::2]):
         answer = read(batch)
         found = {compact(it) for it in answer.get("documents", [])}
-        wrong = [text_of(it) for it in row.get("matches", []) if shown[text_of(it)] not in found]
-        wrong += [text_of(it) for it in row.get("others", []) if shown[text_of(it)] in found]
+        matching = [text_of(it) for it in row.get("only", row.get("matches", []))]
+        others = [it for it in documents if it not in matching] if "only" in row else [text_of(it) for it in row.get("others", [])]
+        wrong = [it for it in matching if shown[it] not in found] + [it for it in others if shown[it] in found]
         is_open = answer.get("end") is True
-        tried = len(row.get("matches", [])) + len(row.get("others", []))
+        tried = len(matching) + len(others)
         said = None if is_open and not wrong else f"{text_of(row.get('filter'))}: {wrong or opened}"
         yield place, tried, said
+
+
+def filters(program: Program, rows: list[Row]) -> Came:
+    """{"filter":F}: a filter that is taken; {"filter":F,"place":P,"words":W}: one that is refused. All are explained in one
+    session."""
+    came = replies(program, program.dump([]), [f'{{"explain":{text_of(row.get("filter"))}}}' for _, row in rows])
+    for (place, row), reply in zip(rows, came):
+        told = f',"text":{compact(row.get("words"))},"place":{compact(row.get("place"))}}}'
+        is_refused = reply.startswith('{"ok":false,"layer":"filter",') and reply.endswith(told)
+        is_right = is_refused if "words" in row else reply.startswith('{"ok":true,')
+        yield place, 1, None if is_right else f"{text_of(row.get('filter'))}: {reply}"
+
+
+def count_of(answer: Members, name: str) -> int:
+    """A number of a reply."""
+    return int(answer.get(name).get("$numberLong"))
+
+
+@one_by_one
+def plan(program: Program, row: Members) -> int:
+    """{"index":PATH,"sparse":true,"documents":[D..],"entries":N,"multikey":B,"filter":F,"sort":S,"plan":P,"inside":N,"places":[N..]}:
+    an index over documents, and an answer. "plan" is the one that a session chooses, which is "index" without it. By the index
+    as many entries as "inside" are read, and of the documents those at "places", among which all are found, in this order."""
+    index, documents = compact(row.get("index")), row.get("documents")
+    sparse = ',"sparse":true' if row.get("sparse") else ""
+    request = text_of(row.get("filter")) + (f',"sort":{text_of(row.get("sort"))}' if "sort" in row else "")
+    commands = [f'{{"createIndex":{index}{sparse}}}', f'{{"explain":{request}}}']
+    commands += [f'{{"{it}":{request},"use":{{"index":{index}}}}}' for it in ("explain", "find")]
+    came = [read(it) for it in replies(program, program.dump(documents), commands + ['{"getMore":1,"batch":1}'] * len(documents))]
+    for command, answer in zip(commands, came):
+        want(answer.get("ok"), True, command)
+    made, chosen, used, _, *batches = came
+    want(chosen.get("plan"), row.get("plan", "index"), "plan")
+    if "multikey" in row:
+        want(made.get("multikey"), row.get("multikey"), "multikey")
+    for answer, name in (made, "entries"), (used, "inside"):
+        if name in row:
+            want(count_of(answer, "entries"), row.get(name), name)
+    if "places" in row:
+        places = row.get("places")
+        want(count_of(used, "documents"), len(places), "documents that are read")
+        # A token has the place of the last document that was given.
+        tokens = [base64.b64decode(it.get("token")) for it in batches if it.get("documents")]
+        found = [int.from_bytes(it[9:13], "little") for it in tokens]
+        want(len(found), count_of(used, "matches"), "matches")
+        want(found, [it for it in places if it in found], "places of what is found")
+    return 1
 
 
 @one_by_one
 def talk(program: Program, row: Members) -> int:
     """{"documents":[D..],"talk":[COMMAND,REPLY..]}: a session over these documents; a command that is a string is sent as it
-    stands. "status" and "error" are how it ends, where that is not with 0 and nothing."""
+    stands, \\udcff in it as the byte ff. "status" and "error" are how it ends, where that is not with 0 and nothing."""
     script = row.get("talk")
     commands, wanted = script[::2], script[1::2]
-    given = "".join(f"{text_of(it)}\n" for it in commands).encode()
+    given = "".join(f"{text_of(it)}\n" for it in commands).encode(errors="surrogateescape")
     ran = program.run("serve", program.dump(row.get("documents", [])), given=given)
     came = ran.stdout.decode().split("\n")
     for command, reply, line in zip(commands, wanted, came):
-        want(line, text_of(reply), text_of(command))
+        want(line, text_of(reply), repr(text_of(command)))
     want(came[len(wanted) :], [""], "lines after the last reply")
     want((ran.returncode, ran.stderr.decode()), (row.get("status", 0), row.get("error", "")), "the end")
     return len(wanted)
+
+
+def judge(program: Program, data: bytes, documents: list, faults: list[str], count: int) -> None:
+    """Wants the documents before the first fault of dump, all faults of check, and of find the documents or the first fault."""
+    shown = "".join(f"{text_of(it)}\n" for it in documents)
+    first = "".join(f"bsonfind: {it}\n" for it in faults[:1])
+    status = 1 if faults else 0
+    ran = program.run("dump", "-", given=data)
+    want(ran.stdout.decode(), shown, "dump")
+    want((ran.returncode, ran.stderr.decode()), (status, f"{first}{len(documents)} objects found\n"), "the end of dump")
+    ran = program.run("check", "-", given=data)
+    want(ran.stdout.decode(), "".join(f"{it}\n" for it in faults), "check")
+    told = f"{count} documents, {len(faults)} faulty\n"
+    want((ran.returncode, ran.stderr.decode()), (status, told), "the end of check")
+    ran = program.run("find", "-", given=data)
+    want(ran.stdout.decode(), "" if faults else shown, "find")
+    told = re.sub(r", token \S+$", "", ran.stderr.decode())
+    want((ran.returncode, told), (status, first or f"{len(documents)} documents, end\n"), "the end of find")
 
 
 @one_by_one
 def check(program: Program, row: Members) -> int:
     """{"bytes":HEX,"documents":[D..],"faults":["document 0, byte 4, path \\"d\\": double"..]}: the documents before the first fault
     as dump prints them, and the faults that check tells; "count" is of all documents, where it is not that of both."""
-    data, documents, faults = bytes_of(row, "bytes"), row.get("documents", []), row.get("faults", [])
-    ran = program.run("dump", "-", given=data)
-    want(ran.stdout.decode(), "".join(f"{text_of(it)}\n" for it in documents), "dump")
-    told = "".join(f"bsonfind: {it}\n" for it in faults[:1]) + f"{len(documents)} objects found\n"
-    want((ran.returncode, ran.stderr.decode()), (1 if faults else 0, told), "the end of dump")
-    ran = program.run("check", "-", given=data)
-    want(ran.stdout.decode(), "".join(f"{it}\n" for it in faults), "check")
-    count = row.get("count", len(documents) + len(faults))
-    told = f"{count} documents, {len(faults)} faulty\n"
-    want((ran.returncode, ran.stderr.decode()), (1 if faults else 0, told), "the end of check")
+    documents, faults = row.get("documents", []), row.get("faults", [])
+    judge(program, bytes_of(row, "bytes"), documents, faults, row.get("count", len(documents) + len(faults)))
     return 1
+
+
+def line_of(row: Members) -> bytes:
+    """The line that a row of pack gives, by its text, its bytes or its parts."""
+    if "hex" in row:
+        return bytes_of(row, "hex")
+    parts = row.get("parts", [text_of(row.get("text"))])
+    return "".join(it if isinstance(it, str) else it[0] * it[1] for it in parts).encode()
+
+
+@one_by_one
+def cut(program: Program, row: Members) -> int:
+    """{"before":"(036f00(","bytes":HEX,"after":"))","documents":[[0,D]..],"faults":[[1,4,12,"path \\"o\\": name not ended"]..]}: a dump,
+    each document of which holds so many of the bytes: those that are whole, and then of 1 to 4 bytes each with a fault at its byte 12."""
+    digits, documents = bytes_of(row, "bytes").hex(), row.get("documents")
+
+    def holding(size: int) -> bytes:
+        return spelled(f"{row.get('before')}{digits[: 2 * size]}{row.get('after')}")
+
+    data = b"".join(holding(size) for size, _ in documents)
+    faults = []
+    for least, most, byte, fault in row.get("faults"):
+        for size in range(least, most + 1):
+            faults.append(f"document {len(documents) + len(faults)}, byte {len(data) + byte}, {fault}")
+            data += holding(size)
+    count = len(documents) + len(faults)
+    judge(program, data, [it for _, it in documents], faults, count)
+    return count
 
 
 @one_by_one
 def pack(program: Program, row: Members) -> int:
-    """{"text":T,"bytes":HEX,"shown":D}: a line as the bytes of its document, and what dump prints of them (without "shown" the text
-    itself); or {"text":T,"fault":"byte 5: not in the profile"}. "hex" in place of "text" is a line by its bytes."""
-    line = bytes_of(row, "hex") if "hex" in row else text_of(row.get("text")).encode()
+    """{"text":T,"bytes":HEX,"shown":D}: a line as the bytes of its document, and what dump prints of them (without "shown" the line
+    itself); or {"text":T,"fault":"byte 5: not in the profile"}, which is told of a query too. In place of "text", "hex" gives a
+    line by its bytes, and "parts":[T,[TIMES,T]..] by texts, of which those with a number are repeated."""
+    line = line_of(row)
     ran = program.run("pack", "-", given=line + b"\n")
     if "fault" in row:
         fault = str(row.get("fault"))
         told = f"bsonfind: line 1{', ' if fault.startswith('byte ') else ': '}{fault}\n0 objects packed\n"
         want((ran.returncode, ran.stdout, ran.stderr.decode()), (1, b"", told), "pack")
+        if "hex" not in row and len(line) < LONGEST_WORD:
+            ran = program.run("find", "-", "--query", line.decode())
+            want((ran.returncode, ran.stdout, ran.stderr.decode()), (1, b"", f"bsonfind: query: {fault}\n"), "find")
         return 1
     want((ran.returncode, ran.stderr), (0, b"1 objects packed\n"), "the end of pack")
     if "bytes" in row:
         want(ran.stdout.hex(), bytes_of(row, "bytes").hex(), "the bytes")
-    shown = text_of(row.get("shown", row.get("text")))
+    shown = text_of(row.get("shown")) if "shown" in row else line.decode()
     want(program.run("dump", "-", given=ran.stdout).stdout.decode(), f"{shown}\n", "the document")
     return 1
 
@@ -195,21 +314,79 @@ def pack(program: Program, row: Members) -> int:
 @one_by_one
 def run(program: Program, row: Members) -> int:
     """{"arguments":["find","FILE"..],"documents":[D..],"input":T,"status":0,"output":[LINE..],"error":[LINE..]}: a run; FILE among the
-    arguments is a dump of the documents, or of "bytes". Output that is a string is hexadecimal digits."""
-    file = program.file(bytes_of(row, "bytes")) if "bytes" in row else program.dump(row.get("documents", []))
-    words = [file if it == "FILE" else it for it in row.get("arguments", [])]
-    ran = program.run(*words, given=str(row.get("input", "")).encode())
+    arguments is a dump of the documents, or of "bytes". Output that is a string is hexadecimal digits. "each" in place of
+    "arguments" is a list of them, which all end so; "file" is the name of the dump in the folder that the run is in."""
+    name = str(row.get("file", "dump"))
+    file = program.file(bytes_of(row, "bytes"), name) if "bytes" in row else program.dump(row.get("documents", []), name)
     output = row.get("output", [])
-    if isinstance(output, list):
-        want(ran.stdout.decode(), "".join(f"{text_of(it)}\n" for it in output), "standard output")
-    else:
-        want(ran.stdout.hex(), bytes_of(row, "output").hex(), "standard output")
-    want(ran.stderr.decode(), "".join(f"{it}\n" for it in row.get("error", [])), "standard error")
-    want(ran.returncode, row.get("status", 0), "the status")
-    return 1
+    wanted = "".join(f"{text_of(it)}\n" for it in output).encode() if isinstance(output, list) else bytes_of(row, "output")
+    lines = row.get("each", [row.get("arguments", [])])
+    for line in lines:
+        words = [file if it == "FILE" else it for it in line]
+        ran = program.run(*words, given=str(row.get("input", "")).encode(), folder=file.parent)
+        want(ran.stdout, wanted, f"standard output of {line}")
+        want(ran.stderr.decode(), "".join(f"{it}\n" for it in row.get("error", [])), f"standard error of {line}")
+        want(ran.returncode, row.get("status", 0), f"the status of {line}")
+    return len(lines)
 
 
-KINDS: dict[str, Callable[[Program, list[Row]], Came]] = {"match": match, "talk": talk, "check": check, "pack": pack, "run": run}
+def pages(row: Members, size: int, use: str, is_anew: bool, shown: list[str], tied: bytes, numbers: Iterator[int]) -> Iterator[tuple[str, str]]:
+    """The commands that ask for an answer, so many documents at a time, and their replies."""
+    query, answer, given, token, cursor = text_of(row.get("filter")), row.get("answer"), 0, None, 0
+    fields = "".join(f',"{name}":{text_of(row.get(name))}' for name in ("sort", "skip", "limit") if name in row) + f',"use":{use}'
+    while True:
+        if is_anew or not cursor:
+            cursor = next(numbers)
+            first = f'{{"find":{query}' if token is None else f'{{"resume":"{token}","filter":{query}'
+            yield f"{first}{fields}}}", f'{{"ok":true,"cursor":{{"$numberLong":"{cursor}"}}}}'
+        page = answer[given : given + size]
+        given += len(page)
+        token = token_of(given, page[-1], tied) if page else None
+        is_end = given == len(answer)
+        documents = ",".join(shown[place] for place in page)
+        yield f'{{"getMore":{cursor},"batch":{size}}}', f'{{"ok":true,"documents":[{documents}],"end":{json.dumps(is_end)},"token":{json.dumps(token)}}}'
+        if is_end:
+            return
+        if is_anew:
+            yield f'{{"killCursor":{cursor}}}', '{"ok":true}'
+
+
+def find(program: Program, rows: list[Row]) -> Came:
+    """{"documents":[D..],"indexes":[PATH..]} and, after it, {"filter":F,"sort":S,"skip":N,"limit":N,"answer":[PLACE..],"pages":[N..]}:
+    the numbers of the documents that a request over these gives, whole and in pages of so many, by a scan, by each index and where
+    serve chooses. In a second session the indexes are sparse, and each page is asked for by the token of the one before."""
+    (_, head), *rows = rows
+    paths = head.get("indexes", [])
+    dump = program.dump(head.get("documents"))
+    shown = program.run("dump", dump).stdout.decode().split("\n")
+    uses = ['"scan"', '"auto"', *(f'{{"index":"{path}"}}' for path in paths)]
+    for is_sparse in (False, True):
+        numbers, script = itertools.count(1), []
+        for place, row in rows:
+            request = request_text(text_of(row.get("filter")), text_of(row.get("sort", Members())), row.get("skip", 0), row.get("limit", 0))
+            tied = digest(dump.read_bytes(), request)
+            for use in uses:
+                for size in (len(shown), *row.get("pages", [])):
+                    script += [(place, *it) for it in pages(row, size, use, is_sparse, shown, tied, numbers)]
+        made = [f'{{"createIndex":"{path}","sparse":{json.dumps(is_sparse)}}}' for path in paths]
+        came = replies(program, dump, made + [command for _, command, _ in script])[len(made) :]
+        for place, told in itertools.groupby(zip(script, came, strict=True), lambda it: it[0][0]):
+            told = list(told)
+            wrong = next((f"{command}: {reply!r}, wanted {wanted!r}" for (_, command, wanted), reply in told if reply != wanted), None)
+            yield place, len(told), wrong
+
+
+KINDS: dict[str, Callable[[Program, list[Row]], Came]] = {
+    "match": match,
+    "filter": filters,
+    "plan": plan,
+    "find": find,
+    "talk": talk,
+    "check": check,
+    "cut": cut,
+    "pack": pack,
+    "run": run,
+}
 
 
 def rows_of(file: Path) -> list[Row]:

@@ -16,6 +16,8 @@ import time
 from collections.abc import Iterator
 from pathlib import Path
 
+from meter import Meter
+
 ROOT = Path(__file__).resolve().parent.parent
 PROGRAM = "bsonfind"
 # Of a crate, what its proof reads, and what its program is run on.
@@ -61,17 +63,20 @@ def copy_crates(crates: dict[str, str], room: str) -> None:
 
 
 def prove(room: str, count: int) -> int:
-    """Prove the crates of a repository and build its program; say how far it is; return the status."""
+    """Prove the crates of a repository and build its program; print a line a crate; return the status."""
     started, done, said = time.monotonic(), 0, []
-    with subprocess.Popen(["rt", "ci"], cwd=room, stdin=subprocess.DEVNULL, stdout=subprocess.PIPE, stderr=subprocess.STDOUT, text=True, errors="replace") as run:
+    how = {"stdin": subprocess.DEVNULL, "stdout": subprocess.PIPE, "stderr": subprocess.STDOUT}
+    with subprocess.Popen(["rt", "ci"], cwd=room, text=True, errors="replace", **how) as run:
+        meter = Meter(run.pid)
         for line in run.stdout or ():
             said.append(line)
             found = re.match(r"rt: (\w+) (proved$|is kept)", line)
             if found:
                 done += 1
-                seconds = int(time.monotonic() - started)
-                how = "proved" if found[2] == "proved" else "proved before"
-                print(f"{how} {found[1]} ({done} of {count}), {seconds // 60} min {seconds % 60} s so far", flush=True)
+                seconds = meter.seconds()[found[1]]["proof"]
+                took = f"{seconds:.0f} seconds of processor time" if found[2] == "proved" else "proved before"
+                minutes = (time.monotonic() - started) / 60
+                print(f"{found[1]} is proved ({done} of {count}): {took}; {minutes:.1f} minutes so far", flush=True)
     if run.returncode:
         print("".join(said)[-8000:])
         print("not every crate is proved, so the program is not built")

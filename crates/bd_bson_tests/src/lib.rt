@@ -1,21 +1,12 @@
 //! Tests of `bd_bson` and of the crates whose names it hands on, over their public calls. They stand in a crate of their own,
-//! since a crate is proved once more with its tests, and its edits wait for that.
+//! since a crate is proved once more with its tests, and its edits wait for that. Rows of bytes, and of what is written, are in
+//! `tests/rows`.
 #![tactic(auto)]
 
 #[cfg(test)]
 mod at_tests;
 #[cfg(test)]
-mod both_tests;
-#[cfg(test)]
-mod collection_tests;
-#[cfg(test)]
-mod depth_tests;
-#[cfg(test)]
 mod examples;
-#[cfg(test)]
-mod kinds_tests;
-#[cfg(test)]
-mod prefix_tests;
 #[cfg(test)]
 mod samples;
 #[cfg(test)]

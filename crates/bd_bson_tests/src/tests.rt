@@ -1,123 +1,102 @@
-//! Documents and faults that were worked by hand, byte by byte.
-use crate::samples::{all_answer, is_fault};
-use bd_check::{Frame, next_frame, read_document};
-use bd_value::Value;
+//! Places of faults, fronts of documents, and frames. The documents and the faults of other bytes are those of the program:
+//! `tests/rows/check-*.jsonl` and `cut-kinds.jsonl`.
+use crate::samples::{every_kind, is_shown, joined};
+use bd_bson::{next_frame, read_document};
+use bd_check::{Fault, check_document};
+use bd_value::Tree;
+use std::alloc::Global;
+use std::process::Abort;
 use std::test::Fail;
 
-#[test]
-fn reads_documents(rt: HostRuntime) -> Result<(), Fail> {
-    let alloc = rt.alloc();
-    let rows: &[(&[u8], &str)] = &[
-        (b"\x05\0\0\0\0", "0 values"),
-        (b"\x0c\0\0\0\x10a\0\x01\0\0\0\0", "int32 1"),
-        (b"\x0c\0\0\0\x10a\0\xfe\xff\xff\xff\0", "int32 -2"),
-        (b"\x10\0\0\0\x02s\0\x04\0\0\0a\0b\0\0", "text a\0b"),
-    ];
-    all_answer(&rt, alloc, rows);
-    let one = read_document(alloc, b"\x0c\0\0\0\x10a\0\x01\0\0\0\0", 4, 7)?;
-    assert!(rt; one.len() == 1);
-    let (name, value) = one.pair(0);
-    assert!(rt; name == "a");
-    assert!(rt; matches!(value, Value::Int32(1)));
-    Ok(())
+/// Whether a call gave a fault, and in these words.
+fn is_fault<T: Drop>(alloc: Global, given: Result<T, Fault>, want: &str) -> bool {
+    match given {
+        Ok(_) => false,
+        Err(fault) => format!(in alloc; "{fault}").is_ok_and(|text| text.as_str() == want),
+    }
 }
 
-/// The names in an array are any names.
+/// Asserts the fault of the bytes as document 3 at the offset 100, where they are read and where they are only checked.
+fn refused(rt: &impl Abort, alloc: Global, bytes: &[u8], want: &str) {
+    assert!(rt; bytes.len() < 100_000);
+    let is_checked = is_fault(alloc, check_document(alloc, bytes, 100, 3), want);
+    let is_read = is_fault(alloc, read_document(alloc, bytes, 100, 3), want);
+    assert!(rt; is_checked && is_read, "{want:?} was wanted of {bytes:?}");
+}
+
+/// Faults of a document with a byte too many, in an array and in a scope, and at the last bytes of the longest dump.
 #[test]
-fn reads_an_array(rt: HostRuntime) -> Result<(), Fail> {
-    let bytes = b"\x1b\0\0\0\x04a\0\x13\0\0\0\x10z\0\x07\0\0\0\x100\0\x08\0\0\0\0\0";
-    let document = read_document(rt.alloc(), bytes, 0, 0)?;
-    assert!(rt; document.len() == 1);
-    match document.first("a") {
-        Some(Value::Array(items)) => {
-            assert!(rt; items.len() == 2);
-            assert!(rt; matches!(items[0], Value::Int32(7)));
-            assert!(rt; matches!(items[1], Value::Int32(8)));
+fn adds_an_offset_and_a_number(rt: HostRuntime) {
+    let alloc = rt.alloc();
+    let rows: &[(&[u8], &str)] = &[
+        (b"\x05\0\0\0\0\0", "document 3, byte 100: bad length"),
+        (
+            b"\x1c\0\0\0\x04a\0\x14\0\0\0\x10z\0\x07\0\0\0\x03y\0\x05\0\0\0\x01\0\0",
+            "document 3, byte 125: no terminator",
+        ),
+        (
+            b"\x1b\0\0\0\x0fc\0\x13\0\0\0\x02\0\0\0x\0\x09\0\0\0\x08b\0\x02\0\0",
+            "document 3, byte 124: bad boolean",
+        ),
+    ];
+    for (bytes, want) in rows {
+        refused(&rt, alloc, bytes, want);
+    }
+    let one = read_document(alloc, b"\x0c\0\0\0\x10a\0\x01\0\0\0\0", 4, 7);
+    let want = r#"{"a":{"$numberInt":"1"}}"#;
+    assert!(rt; one.is_ok_and(|document| is_shown(alloc, Tree::Doc(&document), want)));
+    let base = 4_294_967_286;
+    assert!(rt; check_document(alloc, b"\x09\0\0\0\x08b\0\x01\0", base, 0).is_ok());
+    let last = check_document(alloc, b"\x09\0\0\0\x08b\0\x02\0", base, 4_294_967_295);
+    let want = "document 4294967295, byte 4294967293: bad boolean";
+    assert!(rt; is_fault(alloc, last, want));
+}
+
+/// Fronts of the document of each kind, of binary data of subtype 02, of a timestamp, and of a text with a zero; of as many
+/// levels as may be, and of one more, which are no document as a whole.
+#[test]
+fn no_front_of_a_document_is_one(rt: HostRuntime) -> Result<(), Fail> {
+    let alloc = rt.alloc();
+    let kinds = every_kind(alloc)?;
+    let mut deepest = joined(alloc, b"", b"")?;
+    for _ in 1..200 {
+        deepest = joined(alloc, b"\x03a\0", &deepest)?;
+    }
+    let deeper = joined(alloc, b"\x03a\0", &deepest)?;
+    let rows: &[(&[u8], bool)] = &[
+        (kinds.as_slice(), true),
+        (b"\x13\0\0\0\x05x\0\x06\0\0\0\x02\x02\0\0\0\xff\xff\0", true),
+        (b"\x10\0\0\0\x11t\0\x02\0\0\0\x01\0\0\0\0", true),
+        (b"\x10\0\0\0\x02s\0\x04\0\0\0a\0b\0\0", true),
+        (deepest.as_slice(), true),
+        (deeper.as_slice(), false),
+    ];
+    for (bytes, is_one) in rows {
+        assert!(rt; bytes.len() < 100_000);
+        assert!(rt; read_document(alloc, bytes, 0, 0).is_ok() == *is_one);
+        for cut in 0..bytes.len() {
+            let want = match cut {
+                0..4 => "document 3, byte 100: length cut short",
+                _ => "document 3, byte 100: bad length",
+            };
+            refused(&rt, alloc, &bytes[..cut], want);
         }
-        _ => assert!(rt; false, "an array was wanted"),
     }
     Ok(())
 }
 
-#[test]
-fn names_the_first_fault(rt: HostRuntime) {
-    let rows: &[(&[u8], &str)] = &[
-        (b"", "length cut short at 100 in 3:"),
-        (b"\x05\0\0", "length cut short at 100 in 3:"),
-        (b"\x04\0\0\0", "bad length at 100 in 3:"),
-        (b"\xff\xff\xff\xff", "bad length at 100 in 3:"),
-        (b"\0\0\0\x80", "bad length at 100 in 3:"),
-        (b"\x0c\0\0\0\x10a\0\x01\0\0\0", "bad length at 100 in 3:"),
-        (b"\x05\0\0\0\0\0", "bad length at 100 in 3:"),
-        (b"\x05\0\0\0\x01", "no terminator at 104 in 3:"),
-        // A double's eight bytes are not looked at.
-        (
-            b"\x10\0\0\0\x01d\0\0\0\0\0\0\0\xf0\x3f\0",
-            "double at 104 in 3:.d",
-        ),
-        (b"\x08\0\0\0\x10ab\0", "name not ended at 105 in 3:"),
-        (
-            b"\x0e\0\0\0\x10b\xff\x61\0\x01\0\0\0\0",
-            "not UTF-8 at 106 in 3:",
-        ),
-        (
-            b"\x0a\0\0\0\x10a\0\x01\0\0",
-            "value cut short at 107 in 3:.a",
-        ),
-        (
-            b"\x0c\0\0\0\x02a\0\0\0\0\0\0",
-            "bad string length at 107 in 3:.a",
-        ),
-        (
-            b"\x0c\0\0\0\x02a\0\xff\xff\xff\x7f\0",
-            "bad string length at 107 in 3:.a",
-        ),
-        (
-            b"\x0e\0\0\0\x02a\0\x02\0\0\0aa\0",
-            "string not ended at 112 in 3:.a",
-        ),
-        (
-            b"\x0f\0\0\0\x02a\0\x03\0\0\0b\xc3\0\0",
-            "not UTF-8 at 112 in 3:.a",
-        ),
-        // An element of an array stands by its position, whatever its name is.
-        (
-            b"\x1c\0\0\0\x04a\0\x14\0\0\0\x10z\0\x07\0\0\0\x03y\0\x05\0\0\0\x01\0\0",
-            "no terminator at 125 in 3:.a.1",
-        ),
-    ];
-    all_answer(&rt, rt.alloc(), rows);
-}
-
+/// A frame does not depend on what its document holds: a double, and then the document {"a":1}.
 #[test]
 fn frames_documents(rt: HostRuntime) {
     let alloc = rt.alloc();
-    let bytes = b"\x05\0\0\0\0\x0c\0\0\0\x10a\0\x01\0\0\0\0";
-    let first = next_frame(alloc, bytes, 0, 0);
-    assert!(rt;
-        matches!(
-            first,
-            Ok(Some(Frame {
-                start: 0,
-                length: 5
-            }))
-        )
-    );
-    let second = next_frame(alloc, bytes, 5, 1);
-    assert!(rt;
-        matches!(
-            second,
-            Ok(Some(Frame {
-                start: 5,
-                length: 12
-            }))
-        )
-    );
-    let end = next_frame(alloc, bytes, 17, 2);
-    assert!(rt; matches!(end, Ok(None)));
-    // A document without its last byte, and one of two bytes.
-    let cut = next_frame(alloc, &bytes[..16], 5, 1);
-    assert!(rt; is_fault(alloc, cut, "bad length at 5 in 1:"));
-    let cut = next_frame(alloc, &bytes[..7], 5, 1);
-    assert!(rt; is_fault(alloc, cut, "length cut short at 5 in 1:"));
+    let bytes = b"\x10\0\0\0\x01d\0\0\0\0\0\0\0\xf0\x3f\0\x0c\0\0\0\x10a\0\x01\0\0\0\0";
+    for (at, number, length) in [(0, 0, 16), (16, 1, 12), (28, 2, 0)] {
+        assert!(rt; at <= 28);
+        let is_found = match next_frame(alloc, bytes, at, number) {
+            Ok(Some(frame)) => frame.start == at && frame.length == length,
+            Ok(None) => length == 0,
+            Err(_) => false,
+        };
+        assert!(rt; is_found, "at {at}");
+    }
 }

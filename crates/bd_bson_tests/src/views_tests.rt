@@ -1,229 +1,146 @@
-//! Each call of a view, on every kind.
-use crate::samples::{elements, every_kind, framed, is_fault, is_shown, view};
-use bd_check::check_document;
-use bd_raw::RawValue;
-use bd_value::{Kind, Node, Reading, Scalar, Tree, Value};
+//! Each call of a view on every kind, and of its copy in memory.
+use crate::samples::{Element, elements, every_kind, is_shown, view};
+use bd_raw::{RawDoc, type_byte};
+use bd_value::{Kind, Node, Reading, Tree, to_value};
 use std::alloc::Global;
-use std::process::Abort;
 use std::test::Fail;
 
-/// The pair of a document at an index.
-fn pair_of<'a>(rt: &impl Abort, value: RawValue<'a>, i: usize) -> (&'a str, RawValue<'a>) {
-    let kind = value.kind();
-    assert!(rt; kind == Kind::Doc);
-    let count = value.len();
-    assert!(rt; i < count);
-    value.pair(i)
+/// Whether a field is the element: its name, and each call of its value.
+fn is_element<'a, N: Node<'a>>(alloc: Global, name: &str, node: N, element: &Element) -> bool {
+    let (want, bytes, shown) = *element;
+    let kind = node.kind();
+    let holder = kind == Kind::Doc || kind == Kind::Array;
+    let copy = to_value(alloc, node);
+    name == want
+        && is_shown(alloc, node, shown)
+        && copy.is_ok_and(|copy| is_shown(alloc, Tree::Value(&copy), shown))
+        && bytes.first() == Some(&type_byte(kind))
+        && node.scalar().is_none() == holder
+        && node.leaf().is_none() == holder
+        && (node.len() > 0) == holder
+        && node.scope().is_some() == (kind == Kind::CodeScope)
+        && node.first("x").is_some() == (kind == Kind::Doc)
 }
 
-/// The element of an array at an index.
-fn element_of<'a>(rt: &impl Abort, value: RawValue<'a>, i: usize) -> RawValue<'a> {
-    let kind = value.kind();
-    assert!(rt; kind == Kind::Array);
-    let count = value.len();
-    assert!(rt; i < count);
-    value.element(i)
-}
-
-/// Whether the copy of the value is in these words.
-fn is_copied(alloc: Global, value: RawValue<'_>, want: &str) -> bool {
-    match value.to_value(alloc) {
-        Ok(copy) => is_shown(alloc, Tree::Value(&copy), want),
-        Err(_) => false,
+/// Whether the node is the document of every kind, by each call that gives a field.
+fn has_every_kind<'a, N: Node<'a>>(alloc: Global, node: N) -> bool {
+    if node.kind() != Kind::Doc || node.len() != 19 || node.scalar().is_some() {
+        return false;
     }
-}
-
-/// Whether the first value of that name is in these words.
-fn is_first(alloc: Global, value: Option<RawValue<'_>>, want: &str) -> bool {
-    match value {
-        Some(value) => is_shown(alloc, value, want),
-        None => false,
+    let mut rest = node.parts();
+    for (i, element) in elements().iter().enumerate() {
+        if node.kind() != Kind::Doc || i >= node.len() {
+            return false;
+        }
+        let (pair_name, pair) = node.pair(i);
+        let (field_name, field) = node.field(i);
+        let (Some(first), Some((name, value, after))) = (node.first(element.0), N::next(&rest))
+        else {
+            return false;
+        };
+        if !is_element(alloc, pair_name, pair, element)
+            || !is_element(alloc, field_name, field, element)
+            || !is_element(alloc, element.0, first, element)
+            || !is_element(alloc, name, value, element)
+        {
+            return false;
+        }
+        rest = after;
     }
+    N::next(&rest).is_none() && node.first("none").is_none()
 }
 
-#[test]
-fn sees_every_kind(rt: HostRuntime) -> Result<(), Fail> {
-    let alloc = rt.alloc();
-    let bytes = framed(alloc, &every_kind(alloc)?)?;
-    let document = view(&rt, alloc, &bytes);
-    let count = document.len();
-    assert!(rt; count == 19);
-    assert!(rt; !document.is_empty());
-    for i in 0..count {
-        let want = elements().get(i).ok_or("an element")?;
-        let (name, value) = document.pair(i);
-        assert!(rt; name == want.name);
-        assert!(rt; value.kind() == want.kind, "of {name}");
-        assert!(rt; is_shown(alloc, value, want.shown), "of {name}");
-        assert!(rt; is_copied(alloc, value, want.shown), "of {name}");
-        let holder = matches!(want.kind, Kind::Doc | Kind::Array);
-        assert!(rt; value.scalar().is_none() == holder, "of {name}");
-        assert!(rt; value.elements().is_some() == holder, "of {name}");
-        assert!(rt; (value.len() > 0) == holder, "of {name}");
-        assert!(rt;
-            value.scope().is_some() == (want.kind == Kind::CodeScope),
-            "of {name}"
-        );
-        assert!(rt;
-            value.first("x").is_some() == (want.kind == Kind::Doc),
-            "of {name}"
-        );
-        assert!(rt;
-            is_first(alloc, document.first(name), want.shown),
-            "of {name}"
-        );
+/// Whether the view has every kind, by each call of the view and of its elements.
+fn sees_every_kind(alloc: Global, document: RawDoc<'_>) -> bool {
+    let all = document.elements();
+    if document.is_empty() || document.len() != 19 || all.count() != 19 {
+        return false;
     }
-    assert!(rt; document.first("none").is_none());
-    Ok(())
-}
-
-#[test]
-fn goes_through_elements(rt: HostRuntime) -> Result<(), Fail> {
-    let alloc = rt.alloc();
-    let bytes = framed(alloc, &every_kind(alloc)?)?;
-    let all = view(&rt, alloc, &bytes).elements();
-    let count = all.count();
-    assert!(rt; count == 19);
     let mut rest = all;
-    for i in 0..count {
-        let want = elements().get(i).ok_or("an element")?;
-        assert!(rt; rest.count() == count - i);
-        let (name, value, after) = rest.next().ok_or("an element")?;
-        assert!(rt; name == want.name);
-        assert!(rt; is_shown(alloc, value, want.shown), "at {i}");
-        rest = after;
-        let (name, value) = all.nth(i);
-        assert!(rt; name == want.name);
-        assert!(rt; is_shown(alloc, value, want.shown), "at {i}");
-        assert!(rt; is_first(alloc, all.find(name), want.shown), "at {i}");
-    }
-    assert!(rt; rest.next().is_none());
-    assert!(rt; all.find("none").is_none());
-    Ok(())
-}
-
-/// The document and the array in it.
-fn sees_holders(rt: &impl Abort, alloc: Global, whole: RawValue<'_>) -> Result<(), Fail> {
-    let (name, value) = pair_of(rt, whole, 7);
-    assert!(rt; name == "d");
-    let (name, value) = pair_of(rt, value, 0);
-    assert!(rt; name == "x");
-    assert!(rt; is_shown(alloc, value, "int32 5"));
-
-    let array = whole.first("a").ok_or("an array")?;
-    // What is named in an array is no field.
-    assert!(rt; array.first("z").is_none());
-    let wants = [("z", "int32 7"), ("", "null"), ("yy", "min key")];
-    let mut rest = array.elements().ok_or("elements")?;
-    for i in 0..3 {
-        let (name, want) = wants[i];
-        assert!(rt; is_shown(alloc, element_of(rt, array, i), want), "{want}");
-        let (stored, value, after) = rest.next().ok_or("an element")?;
-        assert!(rt; stored == name);
-        assert!(rt; is_shown(alloc, value, want), "{want}");
+    for i in 0..19 {
+        let Some(element) = elements().get(i) else {
+            return false;
+        };
+        let (label, _, shown) = *element;
+        let (Some(first), Some(found)) = (document.first(label), all.find(label)) else {
+            return false;
+        };
+        let Some((name, value, after)) = rest.next() else {
+            return false;
+        };
+        let copy = value.to_value(alloc);
+        if rest.count() != 19 - i
+            || value.elements().is_some() != value.scalar().is_none()
+            || !copy.is_ok_and(|copy| is_shown(alloc, Tree::Value(&copy), shown))
+        {
+            return false;
+        }
+        let (pair, nth) = (document.pair(i), all.nth(i));
+        for (name, value) in [(name, value), pair, nth, (label, first), (label, found)] {
+            if !is_element(alloc, name, value, element) {
+                return false;
+            }
+        }
         rest = after;
     }
-    assert!(rt; rest.next().is_none());
+    rest.next().is_none() && all.find("none").is_none() && document.first("none").is_none()
+}
+
+#[test]
+fn reads_views_and_copies_alike(rt: HostRuntime) -> Result<(), Fail> {
+    let alloc = rt.alloc();
+    let bytes = every_kind(alloc)?;
+    let document = view(&rt, alloc, &bytes);
+    let copy = document.to_document(alloc)?;
+    assert!(rt; sees_every_kind(alloc, document));
+    assert!(rt; has_every_kind(alloc, document.value()));
+    assert!(rt; has_every_kind(alloc, Tree::Doc(&copy)));
     Ok(())
 }
 
+/// No element, a name that stands twice, and an array of an array of two and a number.
 #[test]
-fn sees_what_is_inside(rt: HostRuntime) -> Result<(), Fail> {
-    let alloc = rt.alloc();
-    let bytes = framed(alloc, &every_kind(alloc)?)?;
-    let whole = view(&rt, alloc, &bytes).value();
-    assert!(rt; whole.kind() == Kind::Doc);
-    assert!(rt; whole.len() == 19);
-    sees_holders(&rt, alloc, whole)?;
-    let code = whole.first("w").ok_or("code with scope")?;
-    assert!(rt; matches!(code.scalar(), Some(Scalar::CodeScope("y"))));
-    let scope = code.scope().ok_or("a scope")?;
-    let (name, value) = pair_of(&rt, scope, 0);
-    assert!(rt; name == "k");
-    assert!(rt; is_shown(alloc, value, "false"));
-    Ok(())
-}
-
-#[test]
-fn copies_every_kind(rt: HostRuntime) -> Result<(), Fail> {
-    let alloc = rt.alloc();
-    let bytes = framed(alloc, &every_kind(alloc)?)?;
-    let document = view(&rt, alloc, &bytes).to_document(alloc)?;
-    let count = document.len();
-    assert!(rt; count == 19);
-    for i in 0..count {
-        let (name, value) = document.pair(i);
-        let want = elements().get(i).ok_or("an element")?;
-        assert!(rt; name == want.name);
-        assert!(rt;
-            is_shown(alloc, Tree::Value(value), want.shown),
-            "of {name}"
-        );
-    }
-    match document.first("d") {
-        Some(Value::Doc(inside)) => assert!(rt; matches!(inside.first("x"), Some(Value::Int32(5)))),
-        _ => assert!(rt; false, "a document was wanted"),
-    }
-    match document.first("a") {
-        Some(Value::Array(items)) => {
-            assert!(rt; items.len() == 3);
-            assert!(rt; matches!(items[0], Value::Int32(7)));
-            assert!(rt; matches!(items[1], Value::Null));
-            assert!(rt; matches!(items[2], Value::MinKey));
-        }
-        _ => assert!(rt; false, "an array was wanted"),
-    }
-    match document.first("w") {
-        Some(Value::CodeScope(_, scope)) => {
-            assert!(rt; matches!(scope.first("k"), Some(Value::Bool(false))))
-        }
-        _ => assert!(rt; false, "code with scope was wanted"),
-    }
-    Ok(())
-}
-
-#[test]
-fn finds_the_first_of_a_name(rt: HostRuntime) {
-    let alloc = rt.alloc();
-    let bytes = b"\x13\0\0\0\x10a\0\x01\0\0\0\x10a\0\x02\0\0\0\0";
-    let document = view(&rt, alloc, bytes);
-    assert!(rt; is_first(alloc, document.first("a"), "int32 1"));
-    assert!(rt; is_first(alloc, document.elements().find("a"), "int32 1"));
-    assert!(rt; document.len() == 2);
-}
-
-/// An array of an array of two and a number.
-#[test]
-fn counts_its_own_elements(rt: HostRuntime) -> Result<(), Fail> {
-    let alloc = rt.alloc();
-    let bytes: &[u8] =
-        b"\x22\0\0\0\x04a\0\x1a\0\0\0\x040\0\x0b\0\0\0\x0a0\0\x0a1\0\0\x101\0\x01\0\0\0\0\0";
-    let document = view(&rt, alloc, bytes);
-    let value = document.first("a").ok_or("an array")?;
-    assert!(rt; value.len() == 2);
-    assert!(rt; is_shown(alloc, element_of(&rt, value, 0), "array of 2"));
-    assert!(rt; is_shown(alloc, element_of(&rt, value, 1), "int32 1"));
-    Ok(())
-}
-
-#[test]
-fn sees_an_empty_document(rt: HostRuntime) -> Result<(), Fail> {
+fn sees_small_documents(rt: HostRuntime) -> Result<(), Fail> {
     let alloc = rt.alloc();
     let empty = view(&rt, alloc, b"\x05\0\0\0\0");
-    assert!(rt; empty.is_empty());
-    assert!(rt; empty.len() == 0);
-    assert!(rt; empty.first("").is_none());
-    assert!(rt; empty.elements().next().is_none());
-    assert!(rt; empty.to_document(alloc)?.is_empty());
+    assert!(rt; empty.is_empty() && empty.len() == 0 && empty.first("").is_none());
+    assert!(rt; empty.elements().next().is_none() && empty.to_document(alloc)?.is_empty());
+    let bytes = b"\x13\0\0\0\x10a\0\x01\0\0\0\x10a\0\x02\0\0\0\0";
+    let twice = view(&rt, alloc, bytes);
+    let first = twice.first("a").ok_or("a field")?;
+    let found = twice.elements().find("a").ok_or("a field")?;
+    let one = r#"{"$numberInt":"1"}"#;
+    assert!(rt; twice.len() == 2 && is_shown(alloc, first, one) && is_shown(alloc, found, one));
+    let bytes =
+        b"\x22\0\0\0\x04a\0\x1a\0\0\0\x040\0\x0b\0\0\0\x0a0\0\x0a1\0\0\x101\0\x01\0\0\0\0\0";
+    let array = view(&rt, alloc, bytes).first("a").ok_or("an array")?;
+    assert!(rt; array.len() == 2 && is_shown(alloc, array, "[[null,null],{\"$numberInt\":\"1\"}]"));
     Ok(())
 }
 
+/// The array in the document of every kind. What is named in it is no field.
 #[test]
-fn checks_bytes_without_a_tree(rt: HostRuntime) {
+fn sees_an_array(rt: HostRuntime) -> Result<(), Fail> {
     let alloc = rt.alloc();
-    let base = 4_294_967_286;
-    assert!(rt; check_document(alloc, b"\x09\0\0\0\x08b\0\x01\0", base, 0).is_ok());
-    let checked = check_document(alloc, b"\x09\0\0\0\x08b\0\x02\0", base, 4_294_967_295);
-    let want = "bad boolean at 4294967293 in 4294967295:.b";
-    assert!(rt; is_fault(alloc, checked, want));
+    let bytes = every_kind(alloc)?;
+    let array = view(&rt, alloc, &bytes).first("a").ok_or("an array")?;
+    let kind = array.kind();
+    assert!(rt; kind == Kind::Array && array.first("z").is_none());
+    let mut rest = array.elements().ok_or("elements")?;
+    let wants = [
+        ("z", r#"{"$numberInt":"7"}"#),
+        ("", "null"),
+        ("yy", r#"{"$minKey":1}"#),
+    ];
+    for i in 0..3 {
+        let (want, shown) = wants[i];
+        let count = array.len();
+        assert!(rt; i < count);
+        assert!(rt; is_shown(alloc, array.element(i), shown), "{want}");
+        let (name, value, after) = rest.next().ok_or("an element")?;
+        assert!(rt; name == want && is_shown(alloc, value, shown), "{want}");
+        rest = after;
+    }
+    assert!(rt; rest.next().is_none());
+    Ok(())
 }

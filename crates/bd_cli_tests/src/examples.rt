@@ -1,8 +1,44 @@
-//! The example of use in the root of `bd_cli`.
+//! The examples of use in the roots of `bd_files`, `bd_find` and `bd_cli`.
 use bd_cli::{Status, run};
-use bd_command_line::Order;
+use bd_command_line::{FindOptions, Order};
 use bd_device::{MemoryInput, MemoryOutput};
+use bd_files::check::check;
+use bd_find::find::find;
 use std::test::Fail;
+
+#[test]
+fn check_a_dump(rt: HostRuntime) {
+    let alloc = rt.alloc();
+    let mut file = MemoryInput::new(b"\x05\0\0\0\0", 5, None);
+    let mut room = [0; 100];
+    let mut out = MemoryOutput::new(&mut [], 1, None);
+    let mut err = MemoryOutput::new(&mut room, 100, None);
+    let status = check(alloc, &mut file, &mut out, &mut err);
+    assert!(rt; status == Status::Done);
+    assert!(rt; err.bytes() == b"1 documents, 0 faulty\n".as_slice());
+}
+
+#[test]
+fn find_in_a_dump(rt: HostRuntime) -> Result<(), Fail> {
+    let alloc = rt.alloc();
+    let options = FindOptions {
+        query: Some(String::from_str(alloc, "{\"a\":1}")?),
+        sort: None,
+        skip: 0,
+        limit: 0,
+        batch: None,
+        index: None,
+        after: None,
+    };
+    let mut file = MemoryInput::new(b"\x05\0\0\0\0", 5, None);
+    let mut room = [0; 100];
+    let mut out = MemoryOutput::new(&mut [], 1, None);
+    let mut err = MemoryOutput::new(&mut room, 100, None);
+    let status = find(alloc, &options, &mut file, &mut out, &mut err);
+    assert!(rt; status == Status::Done);
+    assert!(rt; err.bytes() == b"0 documents, end\n".as_slice());
+    Ok(())
+}
 
 #[test]
 fn cli(rt: HostRuntime) -> Result<(), Fail> {

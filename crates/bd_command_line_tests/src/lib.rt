@@ -1,4 +1,4 @@
-//! Tests of `bd_command_line`, over its public calls.
+//! Tests of `bd_command_line`, over its public calls. Most lines are rows of `tests/rows`, over the program.
 #![tactic(auto)]
 
 #[cfg(test)]

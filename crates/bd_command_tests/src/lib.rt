@@ -1,4 +1,4 @@
-//! Tests of `bd_command`, over its public calls. Documents are read from texts.
+//! Tests of `bd_command`, over its public calls. Most commands and all faults are rows of `tests/rows`, over the program.
 #![tactic(auto)]
 
 #[cfg(test)]

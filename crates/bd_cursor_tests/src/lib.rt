@@ -1,23 +1,12 @@
-//! Tests of `bd_cursor`, over its public calls. Documents are read from texts.
+//! Tests of `bd_cursor` and of the crates below it, over their public calls. Sessions, call by call, are rows of `tests/rows`, over
+//! the program.
 #![tactic(auto)]
 
 #[cfg(test)]
-mod digest_tests;
-#[cfg(test)]
 mod examples;
 #[cfg(test)]
-mod index_tests;
+mod hand_tests;
 #[cfg(test)]
-mod page_tests;
-#[cfg(test)]
-mod random_tests;
-#[cfg(test)]
-mod request_tests;
+mod read_tests;
 #[cfg(test)]
 mod samples;
-#[cfg(test)]
-mod session_tests;
-#[cfg(test)]
-mod sorted_tests;
-#[cfg(test)]
-mod token_tests;

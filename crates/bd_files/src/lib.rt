@@ -4,8 +4,8 @@
 //!
 //! ```
 //! let mut file = MemoryInput::new(b"\x05\0\0\0\0", 5, None);
-//! let mut out = MemoryOutput::new(&mut [], 1, None);
 //! let mut room = [0; 100];
+//! let mut out = MemoryOutput::new(&mut [], 1, None);
 //! let mut err = MemoryOutput::new(&mut room, 100, None);
 //! let status = check(alloc, &mut file, &mut out, &mut err);
 //! assert!(rt; status == Status::Done);

@@ -8,10 +8,11 @@
 //!
 //! ```
 //! let query = read_doc(alloc, b"{\"qty\":{\"$gte\":5,\"size\":\"S\"}}")?;
-//! match parse(alloc, &query) {
-//!     Err(fault) => assert!(rt; fault.kind == FilterFaultKind::MixedOperators),
-//!     Ok(_) => assert!(rt; false),
-//! }
+//! let is_mixed = match parse(alloc, &query) {
+//!     Ok(_) => false,
+//!     Err(fault) => fault.kind == FilterFaultKind::MixedOperators,
+//! };
+//! assert!(rt; is_mixed);
 //! ```
 //!
 //! - `filter`: `Filter` and `Operator`, to match on: `specs/Filter.antt`, and `specs/FilterView.antt` for what they stand for.

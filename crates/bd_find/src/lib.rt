@@ -6,14 +6,20 @@
 //!
 //! ```
 //! let options = FindOptions {
-//!     query: Some(String::from_str(alloc, "{\"a\":{\"$exists\":true}}")?),
-//!     ..FindOptions::default()
+//!     query: Some(String::from_str(alloc, "{\"a\":1}")?),
+//!     sort: None,
+//!     skip: 0,
+//!     limit: 0,
+//!     batch: None,
+//!     index: None,
+//!     after: None,
 //! };
 //! let mut file = MemoryInput::new(b"\x05\0\0\0\0", 5, None);
-//! let mut out = MemoryOutput::new(&mut [], 1, None);
 //! let mut room = [0; 100];
+//! let mut out = MemoryOutput::new(&mut [], 1, None);
 //! let mut err = MemoryOutput::new(&mut room, 100, None);
 //! let status = find(alloc, &options, &mut file, &mut out, &mut err);
+//! assert!(rt; status == Status::Done);
 //! assert!(rt; err.bytes() == b"0 documents, end\n".as_slice());
 //! ```
 //!

@@ -1,13 +1,11 @@
-//! Tests of `bd_index`, over its public calls. Documents and filters are read from texts.
+//! Tests of `bd_index`, over its public calls: what the program does not show. Rows of indexes are in `tests/rows`.
 #![tactic(auto)]
 
 #[cfg(test)]
 mod examples;
 #[cfg(test)]
-mod places_tests;
-#[cfg(test)]
 mod reads_tests;
 #[cfg(test)]
 mod samples;
 #[cfg(test)]
-mod walk_tests;
+mod sparse_tests;

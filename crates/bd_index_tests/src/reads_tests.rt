@@ -1,32 +1,28 @@
 //! How many documents are read, which no contract tells.
-use crate::samples::{build, places, places_words, read_filter, read_path, walked};
-use bd_bson::{Dump, read_dump};
-use bd_path::Dir;
-use bd_value::{Document, Value};
-use bd_write::write_document;
+use crate::samples::{read_documents, read_filter};
+use bd_bounds::Bounds;
+use bd_bson::Dump;
+use bd_index::Index;
+use bd_path::{Dir, Path};
 use std::alloc::Global;
 use std::test::Fail;
 
 /// A thousand documents, the numbers from 0 to 999 under `a`.
 fn thousand(alloc: Global) -> Result<Dump, Fail> {
-    let mut bytes = Vec::new(alloc);
-    for n in 0..1000i32 {
-        let mut document = Document::new(alloc);
-        document.push(String::from_str(alloc, "a")?, Value::Int32(n))?;
-        let written = write_document(alloc, &document)?;
-        bytes.extend_from_slice(&written)?;
+    let mut text = String::from_str(alloc, "{\"a\":0}")?;
+    for n in 1..1000u32 {
+        text.push_str(format!(in alloc; ";{{\"a\":{n}}}")?.as_str())?;
     }
-    let Ok(dump) = read_dump(alloc, bytes) else {
-        return Err("a dump".into());
-    };
-    Ok(dump)
+    read_documents(alloc, text.as_str())
 }
 
-/// The filters, and what is inside their bounds.
-const QUERIES: &str = r#"{"a":7} | 1 in [7]
-{"a":{"$gt":996}} | 3 in [997, 998, 999]
-{"a":{"$in":[999,0,500]}} | 3 in [0, 500, 999]
-{"a":1000} | 0 in []"#;
+/// The filters, and the documents inside their bounds, each with an entry.
+const QUERIES: [(&str, &[u32]); 4] = [
+    (r#"{"a":7}"#, &[7]),
+    (r#"{"a":{"$gt":996}}"#, &[997, 998, 999]),
+    (r#"{"a":{"$in":[999,0,500]}}"#, &[0, 500, 999]),
+    (r#"{"a":1000}"#, &[]),
+];
 
 /// An index reads each document once, while it is built, and none later: no query looks through the documents, nor compares many of
 /// the keys.
@@ -34,21 +30,25 @@ const QUERIES: &str = r#"{"a":7} | 1 in [7]
 fn reads_none_once_it_is_built(rt: HostRuntime) -> Result<(), Fail> {
     let alloc = rt.alloc();
     let dump = thousand(alloc)?;
-    let index = build(alloc, &dump, read_path(alloc, "a")?, false)?;
+    let index = Index::build(alloc, &dump, Path::parse(alloc, "a")?)?;
     assert!(rt; dump.reads() == 1000);
-    for line in QUERIES.lines() {
-        let (filter, wanted) = line.split_once(" | ").unwrap_or((line, ""));
+    for (query, wanted) in QUERIES {
+        let filter = read_filter(alloc, query)?;
         let before = dump.value_reads();
-        let found = places(alloc, &dump, &index, &read_filter(alloc, filter)?)?;
-        let words = places_words(alloc, &found)?;
-        assert!(rt; words.as_str() == wanted, "{line}: {words}");
+        let bounds = Bounds::of(alloc, &filter, index.path(), index.multikey())?;
+        let found = index.places(alloc, &dump, bounds.as_ref())?;
+        assert!(rt; found.places.as_slice() == wanted, "{query}");
+        assert!(rt; found.entries == wanted.len() as u64, "{query}");
         assert!(rt; dump.reads() == 1000);
         // Each of two cuts a range is found by halves, with some ten keys read.
         let compared = dump.value_reads().saturating_sub(before);
-        assert!(rt; compared < 100, "{line}: {compared}");
+        assert!(rt; compared < 100, "{query}: {compared}");
     }
-    let walk = walked(alloc, &dump, &index, Dir::Down)?;
-    assert!(rt; walk.len() == 1000);
+    let mut walked = 0u64;
+    for _ in index.walk(alloc, &dump, Dir::Down)? {
+        walked = walked.saturating_add(1);
+    }
+    assert!(rt; walked == 1000);
     assert!(rt; dump.reads() == 1000);
     Ok(())
 }

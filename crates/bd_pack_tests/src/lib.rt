@@ -1,5 +1,4 @@
-//! Tests of `bd_pack`, over its public calls. They stand in a crate of their own, since a crate is proved once more with its
-//! tests, and its edits wait for that.
+//! Tests of `bd_pack`, over its public calls: those that no row of `tests/rows` shows.
 #![tactic(auto)]
 
 #[cfg(test)]

@@ -1,14 +1,7 @@
-//! Tests of `bd_query`, over its public calls. Documents are read from texts; those that a filter is tried over are in memory, and
-//! in their bytes.
+//! Tests of `bd_query`, over its public calls: what no text is, and values in memory. Rows of filters over bytes are in `tests/rows`.
 #![tactic(auto)]
 
 #[cfg(test)]
 mod examples;
 #[cfg(test)]
 mod filter_tests;
-#[cfg(test)]
-mod match_tests;
-#[cfg(test)]
-mod parse_tests;
-#[cfg(test)]
-mod samples;

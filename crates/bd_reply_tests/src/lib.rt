@@ -1,4 +1,4 @@
-//! Tests of `bd_reply`, over its public calls: replies and their texts.
+//! Tests of `bd_reply`, over its public calls: replies and their texts. Those of a talk are rows of `tests/rows`, over the program.
 #![tactic(auto)]
 
 #[cfg(test)]

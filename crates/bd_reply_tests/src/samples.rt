@@ -9,8 +9,7 @@ const THREE: &[u8] = b"\x0c\0\0\0\x10a\0\x01\0\0\0\0\
     \x12\0\0\0\x08a\0\x01\x02b\0\x02\0\0\0\"\0\0";
 
 pub(crate) fn three(alloc: Global) -> Result<Dump, Fail> {
-    let mut bytes = Vec::new(alloc);
-    bytes.extend_from_slice(THREE)?;
+    let bytes = Vec::from_slice(alloc, THREE)?;
     let Ok(dump) = read_dump(alloc, bytes) else {
         return Err("a dump".into());
     };

@@ -1,13 +1,7 @@
-//! Tests of `bd_service`, over its public calls: lines and their replies, as texts.
+//! Tests of `bd_service`, over its public calls. Talks with it are rows of `tests/rows`, over the program.
 #![tactic(auto)]
 
 #[cfg(test)]
 mod examples;
 #[cfg(test)]
-mod limit_tests;
-#[cfg(test)]
-mod refusal_tests;
-#[cfg(test)]
 mod samples;
-#[cfg(test)]
-mod talk_tests;

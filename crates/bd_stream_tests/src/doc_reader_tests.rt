@@ -1,6 +1,6 @@
 //! The documents of a device, one at a time: rows that were worked by hand.
 use bd_check::FaultKind;
-use bd_device::{Limits, MemoryInput, ReadFault, SystemInput, read_all};
+use bd_device::{Input, Limits, MemoryInput, ReadFault, SystemInput, read_all};
 use bd_stream::{DocBuffer, DocFault, DocReader, RawBytes};
 use std::alloc::Global;
 use std::process::Abort;
@@ -51,17 +51,6 @@ fn of_next(next: Result<Option<RawBytes<'_>>, DocFault>) -> Answer {
     }
 }
 
-/// What `DocBuffer::read_next` answers.
-fn read_next(documents: &mut DocBuffer, input: &mut MemoryInput<'_>) -> Answer {
-    let start = documents.place();
-    let number = documents.number();
-    match documents.read_next(input) {
-        Ok(true) => Answer::Document(start, number, documents.bytes().len()),
-        Ok(false) => Answer::End,
-        Err(fault) => of_fault(&fault),
-    }
-}
-
 /// A buffer that holds the last of so many documents of the input.
 fn read_documents(
     rt: &impl Abort,
@@ -76,8 +65,9 @@ fn read_documents(
     documents
 }
 
+/// One document by each pair of limits, and 100 documents by 20 turns.
 #[test]
-fn limits_of_bytes_and_of_turns(rt: HostRuntime) {
+fn limits_of_bytes_and_of_turns(rt: HostRuntime) -> Result<(), Fail> {
     let document = Answer::Document(0, 0, 5);
     let too_many = Answer::Read(ReadFault::TooManyTurns);
     let rows = [
@@ -90,16 +80,10 @@ fn limits_of_bytes_and_of_turns(rt: HostRuntime) {
         assert!(rt; bytes <= 5);
         let input = MemoryInput::new(EMPTY, 1, None);
         let mut reader = DocReader::new(rt.alloc(), input, Limits { bytes, turns });
-        let found = of_next(reader.next());
-        assert!(rt; found == first, "first of {bytes} bytes, {turns} turns");
-        let found = of_next(reader.next());
-        assert!(rt; found == second, "second of {bytes} bytes, {turns} turns");
+        assert!(rt; of_next(reader.next()) == first, "{bytes}, {turns}");
+        assert!(rt; of_next(reader.next()) == second, "{bytes}, {turns}");
         assert!(rt; reader.held() <= 16_793_600);
     }
-}
-
-#[test]
-fn turns_end_amid_many_documents(rt: HostRuntime) -> Result<(), Fail> {
     let bytes = EMPTY.repeat(rt.alloc(), 100)?;
     let limits = Limits {
         bytes: 100,
@@ -109,32 +93,39 @@ fn turns_end_amid_many_documents(rt: HostRuntime) -> Result<(), Fail> {
     for (number, start) in [(0, 0), (1, 5), (2, 10), (3, 15)] {
         assert!(rt; of_next(reader.next()) == Answer::Document(start, number, 5));
     }
-    assert!(rt; of_next(reader.next()) == Answer::Read(ReadFault::TooManyTurns));
+    assert!(rt; of_next(reader.next()) == too_many);
     assert!(rt; of_next(reader.next()) == Answer::Failed);
     Ok(())
 }
 
-#[test]
-fn each_document_with_its_start_and_number(rt: HostRuntime) -> Result<(), Fail> {
-    for most in [1, 2, 3, 7, 100] {
-        assert!(rt; most > 0);
-        let input = MemoryInput::new(THREE, most, None);
-        let mut reader = DocReader::new(rt.alloc(), input, AMPLE);
-        for (number, start, bytes) in [(0, 0, EMPTY), (1, 5, ONE), (2, 17, EMPTY)] {
-            let Ok(Some(document)) = reader.next() else {
-                return Err(Fail::from("a document was wanted"));
-            };
-            assert!(rt; document.number == number, "at {most}");
-            assert!(rt; document.start == start, "at {most}");
-            assert!(rt; document.bytes == bytes, "at {most}");
+/// Asserts that a reader of `THREE` gives each with its start and its number, and then the end, twice.
+fn gives_three<R: Input + Drop>(rt: &impl Abort, alloc: Global, device: R) {
+    let mut reader = DocReader::new(alloc, device, AMPLE);
+    for (number, start, bytes) in [(0, 0, EMPTY), (1, 5, ONE), (2, 17, EMPTY)] {
+        match reader.next() {
+            Ok(Some(document)) => {
+                assert!(rt; document.number == number && document.start == start);
+                assert!(rt; document.bytes == bytes);
+            }
+            _ => assert!(rt; false, "a document was wanted"),
         }
-        assert!(rt; of_next(reader.next()) == Answer::End, "at {most}");
-        assert!(rt; of_next(reader.next()) == Answer::End, "again at {most}");
     }
-    Ok(())
+    assert!(rt; of_next(reader.next()) == Answer::End);
+    assert!(rt; of_next(reader.next()) == Answer::End);
 }
 
-/// How many reads are made up to the end of each document, and up to the end of all: four bytes, and then the others.
+/// Of devices in memory that give so many bytes a call, and of the system.
+#[test]
+fn each_document_with_its_start_and_number(rt: HostRuntime) {
+    for most in [1, 2, 3, 7, 100] {
+        assert!(rt; most > 0);
+        gives_three(&rt, rt.alloc(), MemoryInput::new(THREE, most, None));
+    }
+    gives_three(&rt, rt.alloc(), SystemInput::new(THREE));
+}
+
+/// The number, the place and the bytes of a buffer, and how many reads are made up to the end of each document, and up to the
+/// end of all: four bytes, and then the others.
 #[test]
 fn no_read_more_than_a_document_takes(rt: HostRuntime) {
     let rows = [
@@ -144,17 +135,25 @@ fn no_read_more_than_a_document_takes(rt: HostRuntime) {
         (7, [2, 5, 7], 8),
         (100, [2, 4, 6], 7),
     ];
+    let documents_of_three = [(1, 5, EMPTY), (2, 17, ONE), (3, 22, EMPTY)];
     for (most, counts, all) in rows {
         assert!(rt; most > 0);
         let mut input = MemoryInput::new(THREE, most, None);
         let mut documents = DocBuffer::new(rt.alloc(), AMPLE);
-        for count in counts {
+        assert!(rt; documents.number() == 0 && documents.place() == 0);
+        assert!(rt; documents.bytes().is_empty());
+        for i in 0..3 {
+            let (number, place, bytes) = documents_of_three[i];
             assert!(rt; matches!(documents.read_next(&mut input), Ok(true)));
-            assert!(rt; input.calls() == count, "at {most}");
+            assert!(rt; input.calls() == counts[i], "at {most}");
+            assert!(rt; documents.number() == number && documents.place() == place);
+            assert!(rt; documents.bytes() == bytes);
         }
         assert!(rt; matches!(documents.read_next(&mut input), Ok(false)));
         assert!(rt; input.calls() == all, "at {most}");
         assert!(rt; input.failures() == 0);
+        assert!(rt; documents.number() == 3 && documents.place() == 22);
+        assert!(rt; documents.bytes().is_empty());
     }
 }
 
@@ -172,18 +171,7 @@ fn no_byte_after_a_document_is_taken(rt: HostRuntime) -> Result<(), Fail> {
     Ok(())
 }
 
-#[test]
-fn an_empty_device_has_no_document(rt: HostRuntime) {
-    let mut input = MemoryInput::new(b"", 8, None);
-    let mut documents = DocBuffer::new(rt.alloc(), AMPLE);
-    assert!(rt; matches!(documents.read_next(&mut input), Ok(false)));
-    assert!(rt; input.calls() == 1);
-    assert!(rt; documents.held() == 0);
-    let mut reader = DocReader::new(rt.alloc(), MemoryInput::new(b"", 8, None), AMPLE);
-    assert!(rt; matches!(reader.next(), Ok(None)));
-}
-
-/// Reads the fault of bytes that are no document and follow so many documents. Then no read is made.
+/// Reads the fault of bytes that are no document and follow so many documents. Then no read is made, and these bytes are left.
 fn fault_after(
     rt: &impl Abort,
     alloc: Global,
@@ -191,35 +179,45 @@ fn fault_after(
     count: u32,
     fault: Answer,
     calls: u64,
+    left: &[u8],
 ) {
     let mut documents = read_documents(rt, alloc, input, count);
-    assert!(rt; read_next(&mut documents, input) == fault);
-    assert!(rt; documents.bytes().is_empty());
-    assert!(rt; input.calls() == calls);
+    let found = match documents.read_next(input) {
+        Ok(_) => Answer::End,
+        Err(fault) => of_fault(&fault),
+    };
+    assert!(rt; found == fault && documents.bytes().is_empty() && input.calls() == calls);
     for _ in 0..2 {
         assert!(rt; matches!(documents.read_next(input), Err(DocFault::Failed)));
     }
     assert!(rt; input.calls() == calls);
+    assert!(rt; input.failures() == u64::from(fault == Answer::Read(ReadFault::Device)));
+    let rest = read_all(alloc, input, AMPLE);
+    assert!(rt; rest.is_ok_and(|rest| rest.as_slice() == left));
 }
 
-/// A read for each byte, and one that finds the end: two for one byte of a length, three for two and four for three, and
-/// five more after a document.
+/// A read for each byte, and one that finds the end: two for one byte of a length, and so on up to twelve for 11 bytes of a
+/// document; five more after a document.
 #[test]
-fn lengths_cut_short(rt: HostRuntime) {
-    let bytes = b"\x05\0\0\0\0\x01\0\0";
-    for size in 1..4 {
+fn documents_cut_short(rt: HostRuntime) {
+    for size in 1..12 {
         let calls = size as u64 + 1;
-        let mut alone = MemoryInput::new(&bytes[5..5 + size], 1, None);
-        let fault = Answer::Frame(FaultKind::ShortLength, 0, 0);
-        fault_after(&rt, rt.alloc(), &mut alone, 0, fault, calls);
-        let mut second = MemoryInput::new(&bytes[..5 + size], 1, None);
-        let fault = Answer::Frame(FaultKind::ShortLength, 5, 1);
-        fault_after(&rt, rt.alloc(), &mut second, 1, fault, calls + 5);
+        let kind = match size {
+            1..4 => FaultKind::ShortLength,
+            _ => FaultKind::BadLength,
+        };
+        let mut alone = MemoryInput::new(&ONE[..size], 1, None);
+        let fault = Answer::Frame(kind, 0, 0);
+        fault_after(&rt, rt.alloc(), &mut alone, 0, fault, calls, b"");
+        let mut second = MemoryInput::new(&THREE[..5 + size], 1, None);
+        let fault = Answer::Frame(kind, 5, 1);
+        fault_after(&rt, rt.alloc(), &mut second, 1, fault, calls + 5, b"");
     }
 }
 
+/// A bad length ends after four bytes, and a read that fails takes nothing.
 #[test]
-fn bad_lengths_end_after_four_bytes(rt: HostRuntime) -> Result<(), Fail> {
+fn what_a_fault_leaves(rt: HostRuntime) {
     // 4, -1 or 4,294,967,295, 2,147,483,648, and one more than a document may have.
     let rows = [
         b"\x04\0\0\0rest",
@@ -230,27 +228,9 @@ fn bad_lengths_end_after_four_bytes(rt: HostRuntime) -> Result<(), Fail> {
     for bytes in rows {
         let mut input = MemoryInput::new(bytes, 3, None);
         let fault = Answer::Frame(FaultKind::BadLength, 0, 0);
-        fault_after(&rt, rt.alloc(), &mut input, 0, fault, 2);
-        let rest = read_all(rt.alloc(), &mut input, AMPLE)?;
-        assert!(rt; rest.as_slice() == b"rest".as_slice());
+        fault_after(&rt, rt.alloc(), &mut input, 0, fault, 2, b"rest");
     }
-    Ok(())
-}
-
-/// A read for each byte, and one that finds the end: 5 for 4 bytes, and so on up to 12 for 11.
-#[test]
-fn documents_cut_short(rt: HostRuntime) {
-    for size in 4..12 {
-        let calls = size as u64 + 1;
-        let mut input = MemoryInput::new(&ONE[..size], 1, None);
-        let fault = Answer::Frame(FaultKind::BadLength, 0, 0);
-        fault_after(&rt, rt.alloc(), &mut input, 0, fault, calls);
-    }
-}
-
-#[test]
-fn a_read_that_fails_is_the_last(rt: HostRuntime) -> Result<(), Fail> {
-    // The reads from 5 on are of the rest of the document. The one that fails takes nothing.
+    // The reads from 5 on are of the rest of the document.
     let rows: [(u64, &[u8]); 5] = [
         (1, ONE),
         (3, b"\0\0\x10a\0\x01\0\0\0\0"),
@@ -258,72 +238,36 @@ fn a_read_that_fails_is_the_last(rt: HostRuntime) -> Result<(), Fail> {
         (5, b"\x10a\0\x01\0\0\0\0"),
         (12, b"\0"),
     ];
+    let fault = Answer::Read(ReadFault::Device);
     for (failing, left) in rows {
         let mut input = MemoryInput::new(ONE, 1, Some(failing));
-        let fault = Answer::Read(ReadFault::Device);
-        fault_after(&rt, rt.alloc(), &mut input, 0, fault, failing);
-        assert!(rt; input.failures() == 1);
-        let rest = read_all(rt.alloc(), &mut input, AMPLE)?;
-        assert!(rt; rest.as_slice() == left, "at {failing}");
+        fault_after(&rt, rt.alloc(), &mut input, 0, fault, failing, left);
     }
     let mut input = MemoryInput::new(THREE, 1, Some(7));
-    let fault = Answer::Read(ReadFault::Device);
-    fault_after(&rt, rt.alloc(), &mut input, 1, fault, 7);
-    assert!(rt; input.failures() == 1);
-    Ok(())
+    fault_after(&rt, rt.alloc(), &mut input, 1, fault, 7, &THREE[6..]);
 }
 
+/// Nothing is held of an empty device, and as much as one document of any more.
 #[test]
 fn documents_share_what_is_held(rt: HostRuntime) -> Result<(), Fail> {
+    let mut input = MemoryInput::new(b"", 8, None);
+    let mut documents = DocBuffer::new(rt.alloc(), AMPLE);
+    assert!(rt; matches!(documents.read_next(&mut input), Ok(false)));
+    assert!(rt; input.calls() == 1 && documents.held() == 0);
+    let mut reader = DocReader::new(rt.alloc(), MemoryInput::new(b"", 8, None), AMPLE);
+    assert!(rt; matches!(reader.next(), Ok(None)));
     let mut bytes = ONE.repeat(rt.alloc(), 50)?;
     bytes.extend_from_slice(EMPTY)?;
     let mut reader = DocReader::new(rt.alloc(), MemoryInput::new(&bytes, 100, None), AMPLE);
-    assert!(rt; reader.held() == 0);
-    assert!(rt; matches!(reader.advance(), Ok(true)));
+    assert!(rt; reader.held() == 0 && matches!(reader.advance(), Ok(true)));
     let held = reader.held();
     assert!(rt; held >= 12);
     for _ in 1..50 {
-        assert!(rt; matches!(reader.advance(), Ok(true)));
-        assert!(rt; reader.bytes() == ONE);
+        assert!(rt; matches!(reader.advance(), Ok(true)) && reader.bytes() == ONE);
     }
     assert!(rt; reader.held() == held);
-    assert!(rt; matches!(reader.advance(), Ok(true)));
-    assert!(rt; reader.bytes() == EMPTY);
+    assert!(rt; matches!(reader.advance(), Ok(true)) && reader.bytes() == EMPTY);
     assert!(rt; reader.held() == held);
-    assert!(rt; matches!(reader.advance(), Ok(false)));
-    assert!(rt; reader.held() == held);
+    assert!(rt; matches!(reader.advance(), Ok(false)) && reader.held() == held);
     Ok(())
-}
-
-#[test]
-fn place_number_and_bytes_of_a_buffer(rt: HostRuntime) {
-    let mut input = MemoryInput::new(THREE, 7, None);
-    let mut documents = DocBuffer::new(rt.alloc(), AMPLE);
-    let none: &[u8] = b"";
-    let rows = [
-        (0, 0, none, true),
-        (1, 5, EMPTY, true),
-        (2, 17, ONE, true),
-        (3, 22, EMPTY, false),
-    ];
-    for (number, place, bytes, more) in rows {
-        assert!(rt; documents.number() == number);
-        assert!(rt; documents.place() == place);
-        assert!(rt; documents.bytes() == bytes);
-        let next = documents.read_next(&mut input);
-        assert!(rt; next.is_ok_and(|found| found == more), "at {place}");
-    }
-    assert!(rt; documents.number() == 3);
-    assert!(rt; documents.place() == 22);
-    assert!(rt; documents.bytes().is_empty());
-}
-
-#[test]
-fn a_reader_of_the_systems(rt: HostRuntime) {
-    let mut reader = DocReader::new(rt.alloc(), SystemInput::new(THREE), AMPLE);
-    for (number, start, size) in [(0, 0, 5), (1, 5, 12), (2, 17, 5)] {
-        let want = Answer::Document(start, number, size);
-        assert!(rt; of_next(reader.next()) == want);
-    }
-    assert!(rt; of_next(reader.next()) == Answer::End);
 }

@@ -1,13 +1,9 @@
-//! Tests of `bd_value`, over its public calls.
+//! Tests of `bd_value`, over its public calls. `bd_extjson` reads the texts of values and writes them.
 #![tactic(auto)]
 
-#[cfg(test)]
-mod depth_tests;
-#[cfg(test)]
-mod document_tests;
 #[cfg(test)]
 mod examples;
 #[cfg(test)]
 mod samples;
 #[cfg(test)]
-mod tree_tests;
+mod tests;

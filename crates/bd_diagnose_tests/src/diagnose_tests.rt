@@ -1,0 +1,30 @@
+//! What is told of texts, where the program does not show it.
+use bd_diagnose::{BRACKETS, JsonFaultKind, LEVELS, diagnose};
+use std::test::Fail;
+
+/// Of a document no fault is told, at the text's end. These are the deepest.
+#[test]
+fn takes_the_deepest_documents(rt: HostRuntime) -> Result<(), Fail> {
+    let alloc = rt.alloc();
+    for (levels, inside, end) in [
+        (199, "{}", 1196),
+        (198, r#"{"$code":"","$scope":{}}"#, 1212),
+        (200, r#"{"$minKey":1}"#, 1213),
+    ] {
+        let open = r#"{"a":"#.repeat(alloc, levels)?;
+        let close = "}".repeat(alloc, levels)?;
+        let text = format!(in alloc; "{open}{inside}{close}")?;
+        let told = diagnose(alloc, text.as_bytes());
+        assert!(rt; told.kind == JsonFaultKind::Syntax && told.at == end);
+    }
+    Ok(())
+}
+
+#[test]
+fn has_limits_and_words(rt: HostRuntime) {
+    assert!(rt; BRACKETS == 203 && LEVELS == 200);
+    assert!(rt; JsonFaultKind::TooDeep.words() == "too deep");
+    // It has no place.
+    let told = diagnose(rt.alloc(), b" [1]");
+    assert!(rt; told.kind == JsonFaultKind::NotADocument && told.at == 0);
+}

@@ -1,0 +1,65 @@
+//! `bd_path_rows`: what the calls of `bd_path`, and the order of values of `bd_value`, answer to rows.
+//!
+//! A row is a line of standard input, a document as Extended JSON: its field `call` names a call, and other fields are what it is
+//! asked of. The answer is a line too: a value as Extended JSON, or in words why there is none. Each call is made over the row in
+//! memory and over its bytes, and one that compares values over each beside the other: all have to answer the same.
+//!
+//! The rows are the file `stdin`, and what they have to answer is `stdout`. No program wrote that: the answers were worked by hand,
+//! from the MongoDB manual ("Comparison/Sort Order", "Query on Embedded/Nested Documents", "Query an Array", "Query for Null or
+//! Missing Fields") and, where it leaves a choice open, from what this project chose. The texts that are read and written again
+//! are those of `tests/rows/pack-*.jsonl`. Of one row alone, whose values were put together at random, `tests/answers.py` found
+//! the order.
+//!
+//! - `calls`: the calls, by their names.
+//! - `order`: the calls that order values.
+//! - `fault`: why a row has no answer.
+#![tactic(auto)]
+
+mod calls;
+mod fault;
+mod order;
+
+use bd_check::check_document;
+use bd_extjson::{read_doc, write_value};
+use bd_value::{Reading, Tree};
+use bd_write::write_document;
+use calls::call;
+use fault::RowFault;
+use std::alloc::Global;
+use std::io;
+
+/// The text of what a row is answered, which lies in two places.
+fn text_of<M: Reading, N: Reading>(alloc: Global, row: M, other: N) -> Result<Vec<u8>, RowFault> {
+    let mut text = Vec::new(alloc);
+    write_value(&call(alloc, row, other)?, &mut text)?;
+    Ok(text)
+}
+
+/// The text of what a row is answered, wherever it lies.
+fn answer(alloc: Global, row: &str) -> Result<Vec<u8>, RowFault> {
+    let document = read_doc(alloc, row.as_bytes())?;
+    let bytes = write_document(alloc, &document)?;
+    if bytes.len() > 16_793_600 {
+        return Err(RowFault("document too long"));
+    }
+    let tree = Tree::Doc(&document);
+    let view = check_document(alloc, &bytes, 0, 0)?.value();
+    let text = text_of(alloc, tree, tree)?;
+    if text_of(alloc, tree, view)? != text
+        || text_of(alloc, view, tree)? != text
+        || text_of(alloc, view, view)? != text
+    {
+        return Err(RowFault("the bytes answer something else"));
+    }
+    Ok(text)
+}
+
+fn main(rt: HostRuntime) -> io::Result<()> {
+    for row in rt.lines(rt.alloc()) {
+        match answer(rt.alloc(), row?.as_str()) {
+            Ok(text) => println!(rt; "{}", String::from_utf8_lossy(rt.alloc(), &text)?)?,
+            Err(RowFault(words)) => println!(rt; "{words}")?,
+        }
+    }
+    Ok(())
+}
