@@ -3,3 +3,4 @@ pub mod FilterBadLemmas
 pub mod FilterOfLemmas
 pub mod FilterViewLemmas
 pub mod MembersLemmas
+pub mod NamedLemmas

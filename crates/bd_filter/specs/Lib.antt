@@ -7,5 +7,6 @@ pub mod FilterView
 pub mod Indexes
 pub mod Laws
 pub mod Members
+pub mod Named
 pub mod Types
 pub mod Word

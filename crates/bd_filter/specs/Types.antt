@@ -1,8 +1,8 @@
 -- The types of `$type` (MongoDB manual, "$type", "Available Types").
 use Rattle.std.specs.Prelude.{ℕ, ℤ, pos, negsuc, ◌==◌, Bool, List, [], ◌∷◌, codes, Option, Some, None, if◌then◌else◌}
-use Rattle.std.specs.Str.{bytes_eq}
 use Rattle.bd_value.specs.declared.kind.Kind.{Kind}
 use Rattle.bd_value.specs.declared.kind.Kind.TheVariants as kinds
+use Rattle.bd_filter.specs.Named.{named_in}
 use Rattle.bd_filter.specs.declared.types.Types.{Types}
 use Rattle.bd_filter.specs.declared.types.Types.TheVariants as types
 
@@ -17,12 +17,8 @@ type_names =
     ∷ (codes "long", kinds.Int64 ∷ []) ∷ (codes "decimal", []) ∷ (codes "minKey", kinds.MinKey ∷ []) ∷ (codes "maxKey", kinds.MaxKey ∷ [])
     ∷ (codes "number", kinds.Int32 ∷ kinds.Int64 ∷ []) ∷ []
 
-abbrev pub kinds_among : List (List ℕ × List Kind) → List ℕ → Option (List Kind)
-kinds_among [] name = None
-kinds_among (row ∷ rows) name = if bytes_eq name row.0 then Some row.1 else kinds_among rows name
-
 unfoldable pub kinds_named : List ℕ → Option (List Kind)
-kinds_named name = kinds_among type_names name
+kinds_named = named_in type_names
 
 -- the numbers
 unfoldable pub kinds_numbered : ℤ → Option (List Kind)

@@ -1,7 +1,8 @@
 -- What a name stands for in a filter (MongoDB manual, "Query and Projection Operators").
-use Rattle.std.specs.Prelude.{ℕ, Bool, false, ◌==◌, List, [], ◌∷◌, codes, if◌then◌else◌}
+use Rattle.std.specs.Prelude.{ℕ, Bool, false, ◌==◌, List, [], ◌∷◌, codes, if◌then◌else◌, unwrap_or}
 use Rattle.std.specs.List.{list_any}
 use Rattle.std.specs.Str.{bytes_eq}
+use Rattle.bd_filter.specs.Named.{named_in}
 use Rattle.bd_filter.specs.declared.word.LogicalOperator.TheVariants as logical
 use Rattle.bd_filter.specs.declared.word.PlainOperator.TheVariants as plain
 use Rattle.bd_filter.specs.declared.word.Word.{Word}
@@ -29,11 +30,9 @@ left_out_names =
     ∷ codes "$bitsAllSet" ∷ codes "$bitsAnySet" ∷ codes "$bitsAllClear" ∷ codes "$bitsAnyClear" ∷ codes "$ref" ∷ codes "$id" ∷ codes "$db" ∷ []
 
 unfoldable pub is_left_out : List ℕ → Bool
-is_left_out name = list_any (bytes_eq name) left_out_names
-
-abbrev pub operator_word : List (List ℕ × Word) → List ℕ → Word
-operator_word [] name = if is_left_out name then words.LeftOut else words.Unknown
-operator_word (w ∷ ws) name = if bytes_eq name w.0 then w.1 else operator_word ws name
+is_left_out name = list_any (λ left_out. bytes_eq left_out name) left_out_names
 
 unfoldable pub word_of : List ℕ → Word
-word_of name = if begins_with_dollar name then operator_word query_operators name else words.Field
+word_of name =
+    if begins_with_dollar name then unwrap_or (named_in query_operators name) (if is_left_out name then words.LeftOut else words.Unknown)
+    else words.Field

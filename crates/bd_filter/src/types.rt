@@ -15,37 +15,39 @@ pub enum Types {
     Numbers,
 }
 
+/// The names of the types: MongoDB manual, "$type".
+const NAMES: [(&str, Types); 22] = [
+    ("double", Types::None),
+    ("string", Types::One(Kind::Text)),
+    ("object", Types::One(Kind::Doc)),
+    ("array", Types::One(Kind::Array)),
+    ("binData", Types::One(Kind::Binary)),
+    ("undefined", Types::One(Kind::Undefined)),
+    ("objectId", Types::One(Kind::ObjectId)),
+    ("bool", Types::One(Kind::Bool)),
+    ("date", Types::One(Kind::Date)),
+    ("null", Types::One(Kind::Null)),
+    ("regex", Types::One(Kind::Regex)),
+    ("dbPointer", Types::One(Kind::DbPointer)),
+    ("javascript", Types::One(Kind::Code)),
+    ("symbol", Types::One(Kind::Symbol)),
+    ("javascriptWithScope", Types::One(Kind::CodeScope)),
+    ("int", Types::One(Kind::Int32)),
+    ("timestamp", Types::One(Kind::Timestamp)),
+    ("long", Types::One(Kind::Int64)),
+    ("decimal", Types::None),
+    ("minKey", Types::One(Kind::MinKey)),
+    ("maxKey", Types::One(Kind::MaxKey)),
+    ("number", Types::Numbers),
+];
+
 impl Types {
     /// The type of a name: MongoDB manual, "$type".
     #[tactic(auto, unfolding(crate::specs::Types::kinds_named))]
     pub(crate) fn from_name(name: &str) -> Option<Types>
         ensures { option_map kinds_in result ≡ kinds_named name.now }
     {
-        match name {
-            "double" => Some(Types::None),
-            "string" => Some(Types::One(Kind::Text)),
-            "object" => Some(Types::One(Kind::Doc)),
-            "array" => Some(Types::One(Kind::Array)),
-            "binData" => Some(Types::One(Kind::Binary)),
-            "undefined" => Some(Types::One(Kind::Undefined)),
-            "objectId" => Some(Types::One(Kind::ObjectId)),
-            "bool" => Some(Types::One(Kind::Bool)),
-            "date" => Some(Types::One(Kind::Date)),
-            "null" => Some(Types::One(Kind::Null)),
-            "regex" => Some(Types::One(Kind::Regex)),
-            "dbPointer" => Some(Types::One(Kind::DbPointer)),
-            "javascript" => Some(Types::One(Kind::Code)),
-            "symbol" => Some(Types::One(Kind::Symbol)),
-            "javascriptWithScope" => Some(Types::One(Kind::CodeScope)),
-            "int" => Some(Types::One(Kind::Int32)),
-            "timestamp" => Some(Types::One(Kind::Timestamp)),
-            "long" => Some(Types::One(Kind::Int64)),
-            "decimal" => Some(Types::None),
-            "minKey" => Some(Types::One(Kind::MinKey)),
-            "maxKey" => Some(Types::One(Kind::MaxKey)),
-            "number" => Some(Types::Numbers),
-            _ => None,
-        }
+        NAMES.iter().find(|row| row.0 == name).map(|row| row.1)
     }
 
     /// The type of a number: MongoDB manual, "$type".

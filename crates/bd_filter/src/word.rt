@@ -2,7 +2,8 @@
 
 ghost use Rattle.std.specs.Prelude.{◌≡◌};
 ghost use Rattle.std.specs.List.{list_any};
-ghost use Rattle.bd_filter.specs.Word.{begins_with_dollar, is_left_out, word_of};
+ghost use Rattle.bd_filter.specs.Named.{named_in};
+ghost use Rattle.bd_filter.specs.Word.{begins_with_dollar, is_left_out, query_operators, word_of};
 
 /// What a name stands for in a filter.
 #[derive(Clone, Copy, Debug, PartialEq, Eq)]
@@ -48,6 +49,27 @@ pub enum PlainOperator {
     Type,
 }
 
+/// The operators that are known.
+const OPERATORS: [(&str, Word); 17] = [
+    ("$and", Word::Logical(LogicalOperator::And)),
+    ("$or", Word::Logical(LogicalOperator::Or)),
+    ("$nor", Word::Logical(LogicalOperator::Nor)),
+    ("$eq", Word::Plain(PlainOperator::Equal)),
+    ("$ne", Word::Plain(PlainOperator::NotEqual)),
+    ("$gt", Word::Plain(PlainOperator::Greater)),
+    ("$gte", Word::Plain(PlainOperator::GreaterOrEqual)),
+    ("$lt", Word::Plain(PlainOperator::Less)),
+    ("$lte", Word::Plain(PlainOperator::LessOrEqual)),
+    ("$in", Word::Plain(PlainOperator::In)),
+    ("$nin", Word::Plain(PlainOperator::NotIn)),
+    ("$all", Word::Plain(PlainOperator::All)),
+    ("$size", Word::Plain(PlainOperator::Size)),
+    ("$exists", Word::Plain(PlainOperator::Exists)),
+    ("$type", Word::Plain(PlainOperator::Type)),
+    ("$not", Word::Not),
+    ("$elemMatch", Word::ElemMatch),
+];
+
 impl Word {
     /// What a name stands for.
     #[tactic(auto, unfolding(crate::specs::Word::word_of))]
@@ -57,33 +79,19 @@ impl Word {
         if !begins_with_dollar(name) {
             return Word::Field;
         }
-        match name {
-            "$and" => Word::Logical(LogicalOperator::And),
-            "$or" => Word::Logical(LogicalOperator::Or),
-            "$nor" => Word::Logical(LogicalOperator::Nor),
-            "$eq" => Word::Plain(PlainOperator::Equal),
-            "$ne" => Word::Plain(PlainOperator::NotEqual),
-            "$gt" => Word::Plain(PlainOperator::Greater),
-            "$gte" => Word::Plain(PlainOperator::GreaterOrEqual),
-            "$lt" => Word::Plain(PlainOperator::Less),
-            "$lte" => Word::Plain(PlainOperator::LessOrEqual),
-            "$in" => Word::Plain(PlainOperator::In),
-            "$nin" => Word::Plain(PlainOperator::NotIn),
-            "$all" => Word::Plain(PlainOperator::All),
-            "$size" => Word::Plain(PlainOperator::Size),
-            "$exists" => Word::Plain(PlainOperator::Exists),
-            "$type" => Word::Plain(PlainOperator::Type),
-            "$not" => Word::Not,
-            "$elemMatch" => Word::ElemMatch,
-            _ => {
-                if is_left_out(name) {
-                    Word::LeftOut
-                } else {
-                    Word::Unknown
-                }
-            }
+        match known_operator(name) {
+            Some(word) => word,
+            None if is_left_out(name) => Word::LeftOut,
+            None => Word::Unknown,
         }
     }
+}
+
+/// What the name of a known operator stands for.
+fn known_operator(name: &str) -> Option<Word>
+    ensures { result ≡ named_in query_operators name.now }
+{
+    OPERATORS.iter().find(|row| row.0 == name).map(|row| row.1)
 }
 
 /// Whether a name begins as an operator does.
@@ -93,31 +101,33 @@ pub(crate) fn begins_with_dollar(name: &str) -> bool
     matches!(name.as_bytes(), [b'$', ..])
 }
 
+/// The operators of the manual that are left out, and the parts of a DBRef.
+const LEFT_OUT: [&str; 19] = [
+    "$regex",
+    "$options",
+    "$mod",
+    "$expr",
+    "$where",
+    "$text",
+    "$jsonSchema",
+    "$comment",
+    "$geoWithin",
+    "$geoIntersects",
+    "$near",
+    "$nearSphere",
+    "$bitsAllSet",
+    "$bitsAnySet",
+    "$bitsAllClear",
+    "$bitsAnyClear",
+    "$ref",
+    "$id",
+    "$db",
+];
+
 /// Whether it is the name of an operator of the manual that is left out, or a part of a DBRef.
 #[tactic(auto, unfolding(crate::specs::Word::is_left_out))]
 fn is_left_out(name: &str) -> bool
     ensures { result ≡ is_left_out name.now }
 {
-    matches!(
-        name,
-        "$regex"
-            | "$options"
-            | "$mod"
-            | "$expr"
-            | "$where"
-            | "$text"
-            | "$jsonSchema"
-            | "$comment"
-            | "$geoWithin"
-            | "$geoIntersects"
-            | "$near"
-            | "$nearSphere"
-            | "$bitsAllSet"
-            | "$bitsAnySet"
-            | "$bitsAllClear"
-            | "$bitsAnyClear"
-            | "$ref"
-            | "$id"
-            | "$db"
-    )
+    LEFT_OUT.contains(&name)
 }
