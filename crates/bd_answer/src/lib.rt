@@ -3,7 +3,7 @@
 //! Documents are known by their places alone: how many there are, which match, and how their sort keys stand. So the laws of
 //! answers and of sessions hold whatever a document is.
 //!
-//! An example, which `bd_cursor_tests` proves and runs as `examples::scan`:
+//! An example, which `bd_service_tests` proves and runs as `examples::scan`:
 //!
 //! ```
 //! let mut scan = Scan::new(2);

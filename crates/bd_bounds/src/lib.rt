@@ -4,7 +4,7 @@
 //! (MongoDB manual, "Multikey Index Bounds"). No match is lost: a document that matches has a key inside, for every filter, path
 //! and document. The bounds themselves are this project's own.
 //!
-//! An example, which `bd_bounds_tests` proves and runs as `examples::between_four_and_six`:
+//! An example, which `bd_query_tests` proves and runs as `examples::between_four_and_six`:
 //!
 //! ```
 //! let query = read_doc(alloc, b"{\"a\":{\"$gt\":4,\"$lt\":6}}")?;

@@ -3,7 +3,7 @@
 //! The first name of a document is the command, and its value and the further fields say what is wanted. Filters, sorts, paths and
 //! tokens are not looked into here.
 //!
-//! An example, which `bd_command_tests` proves and runs as `examples::a_page`:
+//! An example, which `bd_service_tests` proves and runs as `examples::a_page`:
 //!
 //! ```
 //! let document = read_doc(alloc, b"{\"getMore\":1,\"batch\":100}")?;

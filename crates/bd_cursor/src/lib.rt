@@ -4,7 +4,7 @@
 //! each batch leads on to exactly what was not given, in this session or another over the same dump. Which documents those are:
 //! `bd_answer`.
 //!
-//! An example, which `bd_cursor_tests` proves and runs as `examples::two_batches`:
+//! An example, which `bd_service_tests` proves and runs as `examples::two_batches`:
 //!
 //! ```
 //! let mut session = Session::new(alloc, dump);

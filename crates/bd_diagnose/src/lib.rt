@@ -2,7 +2,7 @@
 //!
 //! Of bytes that are not UTF-8 a clause says which kind and which byte it tells; of texts none does: that is tested.
 //!
-//! An example, which `bd_diagnose_tests` proves and runs as `examples::diagnosed`:
+//! An example, which `bd_extjson_tests` proves and runs as `examples::diagnosed`:
 //!
 //! ```
 //! let fault = diagnose(alloc, b"{\"a\":1.5}");

@@ -1,5 +1,7 @@
-//! The examples of use in the roots of `bd_text`, `bd_wrapper` and `bd_extjson`.
+//! The examples of use in the roots of `bd_diagnose`, `bd_extjson`, `bd_pack`, `bd_text` and `bd_wrapper`.
+use bd_diagnose::{JsonFaultKind, diagnose};
 use bd_extjson::{read_doc, write_doc};
+use bd_pack::Packer;
 use bd_text::write_value;
 use bd_value::Value;
 use bd_wrapper::{Wrapper, whole};
@@ -28,5 +30,23 @@ fn extjson(rt: HostRuntime) -> Result<(), Fail> {
     let mut text = Vec::new(alloc);
     write_doc(&document, &mut text)?;
     assert!(rt; text.as_slice() == b"{\"a\":{\"$numberInt\":\"1\"}}".as_slice());
+    Ok(())
+}
+
+#[test]
+fn diagnosed(rt: HostRuntime) {
+    let alloc = rt.alloc();
+    let fault = diagnose(alloc, b"{\"a\":1.5}");
+    assert!(rt; fault.kind == JsonFaultKind::NotInProfile && fault.at == 5);
+}
+
+#[test]
+fn pack(rt: HostRuntime) -> Result<(), Fail> {
+    let alloc = rt.alloc();
+    let mut packer = Packer::new(alloc);
+    let mut bytes = Vec::new(alloc);
+    let fault = packer.pack_line(b"{\"a\":1}", &mut bytes)?;
+    assert!(rt; fault.is_none());
+    assert!(rt; bytes.as_slice() == b"\x0c\0\0\0\x10a\0\x01\0\0\0\0".as_slice());
     Ok(())
 }

@@ -2,7 +2,11 @@
 #![tactic(auto)]
 
 #[cfg(test)]
+mod diagnose_tests;
+#[cfg(test)]
 mod examples;
+#[cfg(test)]
+mod pack_tests;
 #[cfg(test)]
 mod text_tests;
 #[cfg(test)]

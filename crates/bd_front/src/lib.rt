@@ -4,7 +4,7 @@
 //! comparisons by itself: of a text its first 15 bytes and its length, of a number, a date or an ObjectId all of it. Fronts are kept
 //! side by side while keys are sorted.
 //!
-//! An example, which `bd_index_tests` proves and runs as `examples::seven_before_nine`:
+//! An example, which `bd_query_tests` proves and runs as `examples::seven_before_nine`:
 //!
 //! ```
 //! let seven = Front::of(sort_key_node(dump.document(0).value(), &path, Dir::Up));

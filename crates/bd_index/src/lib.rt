@@ -5,7 +5,7 @@
 //! bytes an entry, and is read beside the dump that it was built from: `IsIndexOf` in `specs/IndexView.antt`. A sparse index has no
 //! entry for a field that is missing.
 //!
-//! An example, which `bd_index_tests` proves and runs as `examples::greater_than_six`:
+//! An example, which `bd_query_tests` proves and runs as `examples::greater_than_six`:
 //!
 //! ```
 //! let path = Path::parse(alloc, "a")?;

@@ -1,6 +1,6 @@
 //! Lines of Extended JSON as BSON. Which document a line is, and which bytes: `specs/Packable.antt`.
 //!
-//! An example, which `bd_pack_tests` proves and runs as `examples::pack`:
+//! An example, which `bd_extjson_tests` proves and runs as `examples::pack`:
 //!
 //! ```
 //! let mut packer = Packer::new(alloc);

@@ -4,7 +4,7 @@
 //! through each document in them: MongoDB manual, "Query on Embedded/Nested Documents" and "Query an Array". All calls read a
 //! value wherever it lies, in memory or in the bytes of a dump.
 //!
-//! An example, which `bd_path_tests` proves and runs as `examples::sort_key_of_a_document`:
+//! An example, which `bd_query_tests` proves and runs as `examples::sort_key_of_a_document`:
 //!
 //! ```
 //! let document = read_doc(alloc, b"{\"a\":[{\"b\":7},{\"b\":5}]}")?;

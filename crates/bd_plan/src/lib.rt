@@ -4,7 +4,7 @@
 //! manual, "Use Indexes to Sort Query Results"). A sparse one serves only where no field that is missing may match. Whatever
 //! way is taken, the answer is the same.
 //!
-//! An example, which `bd_cursor_tests` proves and runs as `examples::two_cheapest_by_index`:
+//! An example, which `bd_service_tests` proves and runs as `examples::two_cheapest_by_index`:
 //!
 //! ```
 //! let path = Path::parse(alloc, "price")?;

@@ -2,6 +2,18 @@
 #![tactic(auto)]
 
 #[cfg(test)]
+mod bounds_tests;
+#[cfg(test)]
 mod examples;
 #[cfg(test)]
 mod filter_tests;
+#[cfg(test)]
+mod index_samples;
+#[cfg(test)]
+mod order_tests;
+#[cfg(test)]
+mod path_tests;
+#[cfg(test)]
+mod reads_tests;
+#[cfg(test)]
+mod sparse_tests;

@@ -2,7 +2,7 @@
 //!
 //! A reply tells a result, or why there is none: the layer that refuses, the number and the words of the reason, and where.
 //!
-//! An example, which `bd_reply_tests` proves and runs as `examples::refused`:
+//! An example, which `bd_service_tests` proves and runs as `examples::refused`:
 //!
 //! ```
 //! let reply = Reply::Refused(LineRefusal::Command(CommandFault::MissingField));

@@ -3,7 +3,7 @@
 //! A request is a filter, a sort by up to four paths, and how many documents are passed over and given at most (MongoDB manual,
 //! "cursor.sort()", "cursor.skip()", "cursor.limit()"). A token is a text that tells where the answer of a request goes on.
 //!
-//! An example, which `bd_cursor_tests` proves and runs as `examples::ten_cheapest`:
+//! An example, which `bd_service_tests` proves and runs as `examples::ten_cheapest`:
 //!
 //! ```
 //! let filter = read_doc(alloc, b"{\"size\":\"S\"}")?;

@@ -2,6 +2,18 @@
 #![tactic(auto)]
 
 #[cfg(test)]
+mod command_tests;
+#[cfg(test)]
 mod examples;
 #[cfg(test)]
+mod hand_tests;
+#[cfg(test)]
+mod read_tests;
+#[cfg(test)]
+mod reply_samples;
+#[cfg(test)]
+mod reply_tests;
+#[cfg(test)]
 mod samples;
+#[cfg(test)]
+mod session_samples;

@@ -3,7 +3,7 @@
 //! A source hands out places of documents, among which those of all matches are. They are put in the order of the sort, at most
 //! so many, by keys that are found once and not copied; where a source hands them out in that order, nothing is sorted.
 //!
-//! An example, which `bd_cursor_tests` proves and runs as `examples::two_cheapest`:
+//! An example, which `bd_service_tests` proves and runs as `examples::two_cheapest`:
 //!
 //! ```
 //! let source = Scan::new(dump.len());

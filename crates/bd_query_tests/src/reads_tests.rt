@@ -1,5 +1,5 @@
 //! How many documents are read, which no contract tells.
-use crate::samples::{read_documents, read_filter};
+use crate::index_samples::{read_documents, read_filter};
 use bd_bounds::Bounds;
 use bd_bson::Dump;
 use bd_index::Index;

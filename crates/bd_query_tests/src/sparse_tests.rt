@@ -1,5 +1,5 @@
 //! A sparse index without bounds, which the program does not take.
-use crate::samples::read_documents;
+use crate::index_samples::read_documents;
 use bd_index::Index;
 use bd_path::Path;
 use std::test::Fail;
