@@ -1,6 +1,6 @@
 //! Documents in memory and in bytes, and devices that are read whole, and document by document.
 use crate::answers::{RowFault, is_whole};
-use crate::samples::{FIVE, MIXED, ONE, SEVERAL_KEYS, dump_of};
+use crate::samples::{FIVE, MIXED, ONE, SEVERAL_KEYS, TWICE, dump_of};
 use bd_check::{FaultKind, read_document};
 use bd_device::{Limits, MemoryInput, ReadFault, read_all};
 use bd_diagnose::JsonFaultKind;
@@ -14,9 +14,6 @@ use std::alloc::Global;
 fn is_one(document: &Document) -> bool {
     document.len() == 1 && matches!(document.first("a"), Some(Value::Int32(1)))
 }
-
-/// {"a":1,"a":2}
-const TWICE: &[u8] = b"\x13\0\0\0\x10a\0\x01\0\0\0\x10a\0\x02\0\0\0\0";
 
 /// Adds numbers under `a`. A push that was refused leaves as many pairs as before, and is made again.
 fn pushes(alloc: Global) -> Result<bool, RowFault> {

@@ -8,6 +8,9 @@ use std::alloc::Global;
 /// {"a":1}
 pub(crate) const ONE: &[u8] = b"\x0c\0\0\0\x10a\0\x01\0\0\0\0";
 
+/// {"a":1,"a":2}
+pub(crate) const TWICE: &[u8] = b"\x13\0\0\0\x10a\0\x01\0\0\0\x10a\0\x02\0\0\0\0";
+
 /// Two keys of one document: {"a":[5,7,5]} and {"a":5}.
 pub(crate) const SEVERAL_KEYS: &[u8] = b"\
     \x22\0\0\0\x04a\0\x1a\0\0\0\x100\0\x05\0\0\0\x101\0\x07\0\0\0\x102\0\x05\0\0\0\0\0\

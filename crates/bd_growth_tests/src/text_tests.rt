@@ -1,6 +1,6 @@
 //! Texts and bytes that are appended: after a refusal the vector holds what it held, and the call is made again.
 use crate::answers::{RowFault, is_whole};
-use crate::samples::{ONE, dump_of};
+use crate::samples::{ONE, TWICE, dump_of};
 use bd_bson::Dump;
 use bd_check::read_document;
 use bd_cursor::{Batch, Token};
@@ -10,7 +10,7 @@ use bd_reply::{Reply, write_reply};
 use bd_value::{Document, NoMemory, Value};
 use std::alloc::Global;
 
-/// What is appended: 1, {"a":1} in memory or in a dump, its line, a reply that has it, or the bytes of a line.
+/// What is appended: 1, {"a":1,"a":2} in memory, {"a":1} in a dump, its line, a reply that has it, or the bytes of a line.
 #[derive(Clone, Copy)]
 enum Row {
     Value,
@@ -23,7 +23,10 @@ enum Row {
 
 const ROWS: [(Row, &[u8]); 8] = [
     (Row::Value, b"{\"$numberInt\":\"1\"}"),
-    (Row::Tree, b"{\"a\":{\"$numberInt\":\"1\"}}"),
+    (
+        Row::Tree,
+        br#"{"a":{"$numberInt":"1"},"a":{"$numberInt":"2"}}"#,
+    ),
     (Row::View, b"{\"a\":{\"$numberInt\":\"1\"}}"),
     // The second is over the first.
     (Row::Line, b"{\"a\":{\"$numberInt\":\"1\"}}\n"),
@@ -61,7 +64,7 @@ fn read_sources(alloc: Global) -> Result<Sources, RowFault> {
         end: false,
     };
     Ok(Sources {
-        document: read_document(alloc, ONE, 0, 0)?,
+        document: read_document(alloc, TWICE, 0, 0)?,
         dump: dump_of(alloc, ONE)?,
         reply: Reply::Gave(batch),
         room: LineRoom::new(alloc),
