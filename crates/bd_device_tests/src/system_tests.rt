@@ -101,7 +101,7 @@ fn asks_once_where_a_call_fails(rt: HostRuntime) {
         let is_fault = read_all(rt.alloc(), &mut input, LIMITS) == Err(ReadFault::Device);
         assert!(rt; is_fault && calls.get() == failing);
         let is_filled = fill(&mut input, &mut [0; 4], LIMITS).is_ok();
-        assert!(rt; is_filled && calls.get() == failing + 4);
+        assert!(rt; is_filled && calls.get() == failing.saturating_add(4));
 
         calls.set(0);
         let mut other = SystemInput::new(once);
@@ -113,6 +113,6 @@ fn asks_once_where_a_call_fails(rt: HostRuntime) {
         let is_fault = write_all(&mut output, b"hello") == Err(DeviceFault);
         assert!(rt; is_fault && calls.get() == failing);
         let is_written = write_all(&mut output, b"hello") == Ok(());
-        assert!(rt; is_written && calls.get() == failing + 5);
+        assert!(rt; is_written && calls.get() == failing.saturating_add(5));
     }
 }
