@@ -22,8 +22,8 @@ macro_rules! is_whole {
 
 pub(crate) use is_whole;
 
-/// An error has `NoMemory` in its text for debugging where memory was wanted; one of the allocator is named by it. A filter that is
-/// refused is never refused for that.
+/// Where memory was wanted, the text of an error for debugging has `NoMemory` in it, or is that of an error of the allocator. A filter
+/// is never refused for that.
 impl<E: Debug + Drop> From<E> for RowFault {
     fn from(error: E) -> RowFault {
         let text = InlineText::<512>::of(format_args!("{error:?}"));
