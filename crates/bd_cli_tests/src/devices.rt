@@ -1,64 +1,95 @@
-//! A run over devices in memory.
+//! Runs over devices in memory.
 use bd_cli::{Status, run};
-use bd_command_line::Order;
+use bd_command_line::{FindOptions, Order};
 use bd_device::{FailingWrite, MemoryInput, MemoryOutput};
 use std::alloc::Global;
 
-/// The devices of a run, and what it is to show on them.
+/// The document {"a":1}.
+pub(crate) const ONE: &[u8] = b"\x0c\0\0\0\x10a\0\x01\0\0\0\0";
+
+pub(crate) const ONE_LINE: &[u8] = b"{\"a\":{\"$numberInt\":\"1\"}}\n";
+
+/// A document whose field `s` is a string of length 0, which has no room for its zero, and {"a":1}.
+pub(crate) const BAD_AND_ONE: &[u8] = b"\x0c\0\0\0\x02s\0\0\0\0\0\0\x0c\0\0\0\x10a\0\x01\0\0\0\0";
+
+pub(crate) const FAULT: &[u8] = b"document 0, byte 7, path \"s\": bad string length\n";
+
 #[derive(Clone, Copy)]
-pub(crate) struct Run<'a> {
-    pub input: &'a [u8],
-    /// How many bytes a read gives at most.
-    pub read_size: usize,
-    /// How many bytes a write takes at most.
-    pub write_size: usize,
-    pub failing_read: Option<u64>,
-    pub failing_out: Option<FailingWrite>,
-    pub failing_err: Option<FailingWrite>,
-    /// How many bytes standard output has room for.
-    pub room: usize,
-    pub out: &'a [u8],
-    pub err: &'a str,
-    pub status: Status,
+pub(crate) enum Command {
+    Dump,
+    Check,
+    Pack,
+    /// All documents.
+    Find,
+    Serve,
 }
 
-/// A run on devices of which none fails.
-pub(crate) fn ample<'a>(input: &'a [u8], out: &'a [u8], err: &'a str) -> Run<'a> {
-    Run {
-        input,
-        read_size: 100,
-        write_size: 100,
-        failing_read: None,
-        failing_out: None,
-        failing_err: None,
-        room: 400,
-        out,
-        err,
-        status: Status::Done,
+/// The order of a command; `find` by an index where one is named.
+pub(crate) fn order_of(alloc: Global, command: Command, index: Option<String>) -> Order {
+    let file = String::new(alloc);
+    match command {
+        Command::Dump => Order::Dump { file },
+        Command::Check => Order::Check { file },
+        Command::Pack => Order::Pack { file },
+        Command::Find => Order::Find {
+            file,
+            options: FindOptions {
+                query: None,
+                sort: None,
+                skip: 0,
+                limit: 0,
+                batch: None,
+                index,
+                after: None,
+            },
+        },
+        Command::Serve => Order::Serve { file },
     }
 }
 
-/// How many reads the run makes; none where it shows anything else, or reads a command.
-pub(crate) fn reads(alloc: Global, order: &Order, wanted: Run<'_>) -> Option<u64> {
-    if wanted.read_size == 0 || wanted.write_size == 0 || wanted.room > 400 {
+/// The devices of a run.
+#[derive(Clone, Copy)]
+pub(crate) struct Devices<'a> {
+    pub input: &'a [u8],
+    /// How many bytes a call gives or takes at most.
+    pub size: usize,
+    pub failing_read: Option<u64>,
+    pub failing_err: Option<FailingWrite>,
+    /// How many bytes standard output has room for.
+    pub room: usize,
+}
+
+/// None of them fails.
+pub(crate) const AMPLE: Devices<'static> = Devices {
+    input: b"",
+    size: 100,
+    failing_read: None,
+    failing_err: None,
+    room: 400,
+};
+
+/// How many reads a run makes, and how it ends; none where it shows anything else than this, or reads a command.
+pub(crate) fn reads(
+    alloc: Global,
+    order: &Order,
+    devices: Devices<'_>,
+    wanted_out: &[u8],
+    wanted_err: &str,
+) -> Option<(u64, Status)> {
+    let size = devices.size;
+    if size == 0 || devices.room > 400 {
         return None;
     }
     let mut out_room = [0; 400];
     let mut err_room = [0; 400];
-    let mut input = MemoryInput::new(wanted.input, wanted.read_size, wanted.failing_read);
+    let mut input = MemoryInput::new(devices.input, size, devices.failing_read);
     let mut commands = MemoryInput::new(b"{}", 1, None);
-    let mut out = MemoryOutput::new(
-        &mut out_room[..wanted.room],
-        wanted.write_size,
-        wanted.failing_out,
-    );
-    let mut err = MemoryOutput::new(&mut err_room, wanted.write_size, wanted.failing_err);
+    let mut out = MemoryOutput::new(&mut out_room[..devices.room], size, None);
+    let mut err = MemoryOutput::new(&mut err_room, size, devices.failing_err);
     let status = run(alloc, order, &mut input, &mut commands, &mut out, &mut err);
-    let is_shown = status == wanted.status
-        && out.bytes() == wanted.out
-        && err.bytes() == wanted.err.as_bytes();
+    let is_shown = out.bytes() == wanted_out && err.bytes() == wanted_err.as_bytes();
     if is_shown && commands.calls() == 0 {
-        Some(input.calls())
+        Some((input.calls(), status))
     } else {
         None
     }

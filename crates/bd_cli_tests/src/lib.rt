@@ -3,8 +3,6 @@
 #![tactic(auto)]
 
 #[cfg(test)]
-mod both_tests;
-#[cfg(test)]
 mod devices;
 #[cfg(test)]
 mod examples;

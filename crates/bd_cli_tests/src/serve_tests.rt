@@ -1,102 +1,71 @@
 //! `serve` over devices in memory, with outcomes that were worked by hand.
+use crate::devices::{BAD_AND_ONE, Command, ONE, order_of};
 use bd_cli::{Status, run};
-use bd_command_line::Order;
-use bd_device::{FailingWrite, MemoryInput, MemoryOutput};
-use std::alloc::Global;
-
-/// The document {"a":1}.
-const ONE: &[u8] = b"\x0c\0\0\0\x10a\0\x01\0\0\0\0";
-
-/// A document whose field `s` is a string of length 0, which has no room for its zero.
-const BAD: &[u8] = b"\x0c\0\0\0\x02s\0\0\0\0\0\0";
+use bd_device::FailingWrite::{Error, Zero};
+use bd_device::{MemoryInput, MemoryOutput};
 
 /// Lines of 12, 3, 1, 25 and 23 bytes, with their newlines. The last has none.
 pub(crate) const COMMANDS: &[u8] =
     b"{\"find\":{}}\n \r\n\n{\"getMore\":1,\"batch\":1}\r\n{\"getMore\":1,\"batch\":1}";
 
 /// The replies, of 41, 133 and 83 bytes. The token was made by another program.
-pub(crate) const REPLIES: &str = r#"{"ok":true,"cursor":{"$numberLong":"1"}}
+pub(crate) const REPLIES: &[u8] = br#"{"ok":true,"cursor":{"$numberLong":"1"}}
 {"ok":true,"documents":[{"a":{"$numberInt":"1"}}],"end":true,"token":"AQEAAAAAAAAAAAAAAFDfrHT7xyEvSkJ2TtexnfO4OqxgF4gXR6W1rQY99ieN"}
 {"ok":false,"layer":"session","number":{"$numberInt":"6"},"text":"no such cursor"}
 "#;
 
-/// Serves commands over a dump.
-fn serve(
-    alloc: Global,
-    dump: &[u8],
-    commands: &mut MemoryInput<'_>,
-    out: &mut MemoryOutput<'_>,
-    err: &mut MemoryOutput<'_>,
-) -> Status {
-    let order = Order::Serve {
-        file: String::new(alloc),
-    };
-    let mut file = MemoryInput::new(dump, 5, None);
-    run(alloc, &order, &mut file, commands, out, err)
-}
+const UNREAD: &str = "bsonfind: cannot read\n";
 
-#[test]
-fn commands_in_pieces(rt: HostRuntime) {
-    for (most, size) in [(1, 100), (2, 1), (12, 7), (41, 41), (100, 100)] {
-        assert!(rt; most > 0 && size > 0);
-        let mut commands = MemoryInput::new(COMMANDS, most, None);
-        let mut room = [0; 400];
-        let mut out = MemoryOutput::new(&mut room, size, None);
-        let mut err = MemoryOutput::new(&mut [], 1, None);
-        let status = serve(rt.alloc(), ONE, &mut commands, &mut out, &mut err);
-        assert!(rt; status == Status::Done, "{most} a read");
-        assert!(rt; out.bytes() == REPLIES.as_bytes(), "{most} a read");
-    }
-}
+const UNWRITTEN: &str = "bsonfind: cannot write\n";
 
-/// Of one byte a read: the replies to the lines that were whole stand, and the end is found by a read too.
+const UNSERVED: &str = "bsonfind: document 0, byte 7, path \"s\": bad string length\n";
+
+/// How many bytes of the replies are there at the end, and how many reads of commands were made. A reply is written before the
+/// next line is read.
 #[test]
-fn commands_that_cannot_be_read(rt: HostRuntime) {
-    for (failing, count) in [(1, 0), (12, 0), (13, 1), (41, 1), (42, 2), (64, 2), (65, 2)] {
-        let mut commands = MemoryInput::new(COMMANDS, 1, Some(failing));
-        let mut room = [0; 400];
-        let mut out = MemoryOutput::new(&mut room, 100, None);
+fn serves_until_a_call_fails(rt: HostRuntime) {
+    for (dump, most, size, failing, broken, shown, wanted, calls) in [
+        // Commands in pieces, and replies.
+        (ONE, 1, 100, None, None, 257, "", 65),
+        (ONE, 2, 1, None, None, 257, "", 33),
+        (ONE, 12, 7, None, None, 257, "", 7),
+        (ONE, 41, 41, None, None, 257, "", 3),
+        (ONE, 100, 100, None, None, 257, "", 2),
+        // The replies to the lines that were whole stand, and the end is found by a read too.
+        (ONE, 1, 100, Some(1), None, 0, UNREAD, 1),
+        (ONE, 1, 100, Some(12), None, 0, UNREAD, 12),
+        (ONE, 1, 100, Some(13), None, 41, UNREAD, 13),
+        (ONE, 1, 100, Some(41), None, 41, UNREAD, 41),
+        (ONE, 1, 100, Some(42), None, 174, UNREAD, 42),
+        (ONE, 1, 100, Some(64), None, 174, UNREAD, 64),
+        (ONE, 1, 100, Some(65), None, 174, UNREAD, 65),
+        // No command is read after a reply that was not written.
+        (ONE, 1, 200, None, Some(Error(1)), 0, UNWRITTEN, 12),
+        (ONE, 1, 200, None, Some(Zero(1)), 0, UNWRITTEN, 12),
+        (ONE, 1, 200, None, Some(Error(2)), 41, UNWRITTEN, 41),
+        (ONE, 1, 200, None, Some(Zero(2)), 41, UNWRITTEN, 41),
+        // Where there is no dump none is read.
+        (BAD_AND_ONE, 1, 200, None, None, 0, UNSERVED, 0),
+    ] {
+        assert!(rt; most > 0 && size > 0 && shown <= REPLIES.len());
+        let order = order_of(rt.alloc(), Command::Serve, None);
+        let mut file = MemoryInput::new(dump, 5, None);
+        let mut commands = MemoryInput::new(COMMANDS, most, failing);
+        let mut out_room = [0; 400];
         let mut err_room = [0; 100];
+        let mut out = MemoryOutput::new(&mut out_room, size, broken);
         let mut err = MemoryOutput::new(&mut err_room, 100, None);
-        let status = serve(rt.alloc(), ONE, &mut commands, &mut out, &mut err);
-        assert!(rt; status == Status::Failed, "read {failing}");
-        let ends = REPLIES.as_bytes().starts_with(out.bytes());
-        let lines = out.bytes().iter().filter(|byte| **byte == b'\n').count();
-        assert!(rt; ends && lines == count, "read {failing}");
-        assert!(rt; err.bytes() == b"bsonfind: cannot read\n".as_slice());
-        assert!(rt; commands.calls() == failing);
+        let alloc = rt.alloc();
+        let status = run(alloc, &order, &mut file, &mut commands, &mut out, &mut err);
+        assert!(rt; (status == Status::Done) == wanted.is_empty() && status != Status::Usage);
+        assert!(rt;
+            out.bytes() == &REPLIES[..shown],
+            "{most} a read, {calls} reads"
+        );
+        assert!(rt;
+            err.bytes() == wanted.as_bytes(),
+            "{most} a read, {calls} reads"
+        );
+        assert!(rt; commands.calls() == calls, "{most} a read, {calls} reads");
     }
-}
-
-/// A reply is written before the next line is read, and none is read after a write that failed.
-#[test]
-fn replies_that_cannot_be_written(rt: HostRuntime) {
-    for (failing, calls) in [(1, 12), (2, 41)] {
-        for broken in [FailingWrite::Error(failing), FailingWrite::Zero(failing)] {
-            let mut commands = MemoryInput::new(COMMANDS, 1, None);
-            let mut room = [0; 400];
-            let mut out = MemoryOutput::new(&mut room, 200, Some(broken));
-            let mut err_room = [0; 100];
-            let mut err = MemoryOutput::new(&mut err_room, 100, None);
-            let status = serve(rt.alloc(), ONE, &mut commands, &mut out, &mut err);
-            assert!(rt; status == Status::Failed, "write {failing}");
-            assert!(rt; err.bytes() == b"bsonfind: cannot write\n".as_slice());
-            assert!(rt; commands.calls() == calls, "write {failing}");
-        }
-    }
-}
-
-/// No command is read.
-#[test]
-fn no_dump(rt: HostRuntime) {
-    let mut commands = MemoryInput::new(COMMANDS, 1, None);
-    let mut room = [0; 400];
-    let mut out = MemoryOutput::new(&mut room, 200, None);
-    let mut err_room = [0; 100];
-    let mut err = MemoryOutput::new(&mut err_room, 100, None);
-    let status = serve(rt.alloc(), BAD, &mut commands, &mut out, &mut err);
-    assert!(rt; status == Status::Failed);
-    assert!(rt; out.bytes().is_empty() && commands.calls() == 0);
-    let wanted = "bsonfind: document 0, byte 7, path \"s\": bad string length\n";
-    assert!(rt; err.bytes() == wanted.as_bytes());
 }

@@ -1,6 +1,6 @@
 //! Reads of devices in memory, with outcomes that were worked by hand.
-use bd_device::{FillCounts, Input, Limits, MemoryInput, ReadFault, fill, fill_after, read_all};
-use std::alloc::Global;
+use bd_device::ReadFault::{Device, NoMemory, TooLong, TooManyTurns};
+use bd_device::{FillCounts, Limits, MemoryInput, fill, fill_after, read_all};
 use std::test::Fail;
 
 const AMPLE: Limits = Limits {
@@ -8,93 +8,53 @@ const AMPLE: Limits = Limits {
     turns: 100,
 };
 
-/// Whether all bytes of the device are these or, where a fault is wanted, reading them ends in it.
-fn reads(
-    alloc: Global,
-    input: &mut MemoryInput<'_>,
-    limits: Limits,
-    wanted: &[u8],
-    wanted_fault: Option<ReadFault>,
-) -> bool {
-    match read_all(alloc, input, limits) {
-        Ok(read) => wanted_fault.is_none() && read.as_slice() == wanted,
-        Err(fault) => wanted_fault == Some(fault),
-    }
-}
-
-/// A byte a read of a device of five.
+/// What ends the reading, if anything, how many reads were made, and how many bytes they took: one read finds the end, and one that
+/// fails takes nothing and is not made again. The next call goes on after them.
 #[test]
-fn limits_of_bytes_and_of_turns(rt: HostRuntime) {
-    for (bytes, turns, fault) in [
-        (4, 9, Some(ReadFault::TooLong)),
-        (5, 3, Some(ReadFault::TooManyTurns)),
-        (5, 5, Some(ReadFault::TooManyTurns)),
-        (5, 6, None),
-        (0, 0, Some(ReadFault::TooManyTurns)),
-    ] {
-        let mut input = MemoryInput::new(b"hello", 1, None);
-        let limits = Limits { bytes, turns };
-        assert!(rt;
-            reads(rt.alloc(), &mut input, limits, b"hello", fault) && input.failures() == 0
-        );
-    }
-}
-
-#[test]
-fn counts_reads(rt: HostRuntime) {
-    let alloc = rt.alloc();
-    let mut empty = MemoryInput::new(b"", 8, None);
-    let one = Limits { bytes: 0, turns: 1 };
-    assert!(rt; reads(alloc, &mut empty, one, b"", None) && empty.calls() == 1);
-    // A read that fails is not made again.
-    let mut input = MemoryInput::new(b"hello", 2, Some(2));
-    assert!(rt;
-        reads(alloc, &mut input, AMPLE, b"", Some(ReadFault::Device)) && input.calls() == 2
-    );
-    assert!(rt; input.failures() == 1);
-    // It took nothing, so the next call goes on after the first read.
-    assert!(rt; reads(alloc, &mut input, AMPLE, b"llo", None) && input.failures() == 1);
-}
-
-#[test]
-fn more_bytes_than_one_read_takes(rt: HostRuntime) -> Result<(), Fail> {
+fn reads_all_within_limits(rt: HostRuntime) -> Result<(), Fail> {
     let mut long = Vec::new(rt.alloc());
     long.resize(200_000, 7u8)?;
-    let mut input = MemoryInput::new(&long, 1_000_000, None);
-    let limits = Limits {
-        bytes: 200_000,
-        turns: 5,
-    };
-    assert!(rt; reads(rt.alloc(), &mut input, limits, &long, None) && input.calls() == 5);
-    Ok(())
-}
-
-#[test]
-fn reads_part_by_part(rt: HostRuntime) {
-    let mut input = MemoryInput::new(b"hello", 4, None);
-    let mut part = [0; 3];
-    for (count, bytes) in [(3, b"hel"), (2, b"lol"), (0, b"lol")] {
-        assert!(rt; input.read(&mut part) == Ok(count) && &part == bytes);
+    let hello = b"hello".as_slice();
+    for (all, most, failing, bytes, turns, fault, calls, taken) in [
+        (hello, 1, None, 4, 9, Some(TooLong), 5, 5),
+        (hello, 1, None, 5, 3, Some(TooManyTurns), 3, 3),
+        (hello, 1, None, 5, 5, Some(TooManyTurns), 5, 5),
+        (hello, 1, None, 5, 6, None, 6, 5),
+        (hello, 1, None, 0, 0, Some(TooManyTurns), 0, 0),
+        (hello, 2, Some(2), 100, 100, Some(Device), 2, 2),
+        (b"", 8, None, 0, 1, None, 1, 0),
+        // More bytes than one read takes.
+        (&long, 1_000_000, None, 200_000, 5, None, 5, 200_000),
+    ] {
+        assert!(rt; most > 0 && taken <= all.len());
+        let mut input = MemoryInput::new(all, most, failing);
+        let is_right = match read_all(rt.alloc(), &mut input, Limits { bytes, turns }) {
+            Ok(read) => fault.is_none() && read.as_slice() == all,
+            Err(why) => fault == Some(why),
+        };
+        assert!(rt;
+            is_right && input.calls() == calls,
+            "{bytes} bytes, {turns} reads"
+        );
+        let rest = read_all(rt.alloc(), &mut input, AMPLE)?;
+        assert!(rt;
+            rest.as_slice() == &all[taken..],
+            "{bytes} bytes, {turns} reads"
+        );
+        assert!(rt; input.failures() == u64::from(failing.is_some()));
     }
+    Ok(())
 }
 
 #[test]
 fn the_program_says_each_fault(rt: HostRuntime) {
     for (fault, number, words) in [
-        (ReadFault::Device, 1, "cannot read"),
-        (ReadFault::TooLong, 2, "input too long"),
-        (ReadFault::TooManyTurns, 3, "too many reads"),
-        (ReadFault::NoMemory, 4, "no memory"),
+        (Device, 1, "cannot read"),
+        (TooLong, 2, "input too long"),
+        (TooManyTurns, 3, "too many reads"),
+        (NoMemory, 4, "no memory"),
     ] {
         assert!(rt; fault as u8 == number && fault.words() == words);
-    }
-}
-
-/// Whether so many bytes came by so many reads.
-fn is_filled(filled: Result<FillCounts, ReadFault>, bytes: usize, turns: u64) -> bool {
-    match filled {
-        Ok(filled) => filled.bytes == bytes && filled.turns == turns,
-        Err(_) => false,
     }
 }
 
@@ -102,9 +62,11 @@ fn is_filled(filled: Result<FillCounts, ReadFault>, bytes: usize, turns: u64) ->
 fn a_room_is_filled(rt: HostRuntime) {
     let mut input = MemoryInput::new(b"hello, you", 2, None);
     let mut room = [0; 5];
-    assert!(rt; is_filled(fill(&mut input, &mut room, AMPLE), 5, 3) && &room == b"hello");
+    let filled = fill(&mut input, &mut room, AMPLE);
+    assert!(rt; matches!(filled, Ok(FillCounts { bytes: 5, turns: 3 })) && &room == b"hello");
     let filled = fill_after(&mut input, &mut room, *b"well", 5, AMPLE);
-    assert!(rt; is_filled(filled, 1, 1) && &room == b"well,");
+    assert!(rt; matches!(filled, Ok(FillCounts { bytes: 1, turns: 1 })) && &room == b"well,");
     // The device is at its end before the room is full.
-    assert!(rt; is_filled(fill(&mut input, &mut room, AMPLE), 4, 3) && &room == b" you,");
+    let filled = fill(&mut input, &mut room, AMPLE);
+    assert!(rt; matches!(filled, Ok(FillCounts { bytes: 4, turns: 3 })) && &room == b" you,");
 }

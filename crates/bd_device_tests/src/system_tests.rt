@@ -46,7 +46,7 @@ fn reads_what_is_held(rt: HostRuntime) -> Result<(), Fail> {
 
 /// A reader and a writer of which one call fails, and each other call is of one byte. It counts the calls where the test
 /// sees them.
-#[derive(Drop)]
+#[derive(Clone, Copy)]
 struct FailsOnce<'a> {
     calls: &'a Cell<u32>,
     failing: u32,
@@ -85,42 +85,34 @@ impl Write for FailsOnce<'_> {
 /// The call that fails is the last, though the next one would work: it is made by the next read or write alone.
 #[test]
 fn asks_once_where_a_call_fails(rt: HostRuntime) {
-    for failing in [1, 3] {
-        for kind in [ErrorKind::Interrupted, ErrorKind::WouldBlock] {
-            let calls = Cell::new(0);
-            let calls = &calls;
-            let once = FailsOnce {
-                calls,
-                failing,
-                kind,
-            };
-            let mut input = SystemInput::new(once);
-            let is_fault = read_all(rt.alloc(), &mut input, LIMITS) == Err(ReadFault::Device);
-            assert!(rt; is_fault && calls.get() == failing);
-            let is_filled = fill(&mut input, &mut [0; 4], LIMITS).is_ok();
-            assert!(rt; is_filled && calls.get() == failing + 4);
+    for (failing, kind) in [
+        (1, ErrorKind::Interrupted),
+        (1, ErrorKind::WouldBlock),
+        (3, ErrorKind::Interrupted),
+        (3, ErrorKind::WouldBlock),
+    ] {
+        let calls = Cell::new(0);
+        let once = FailsOnce {
+            calls: &calls,
+            failing,
+            kind,
+        };
+        let mut input = SystemInput::new(once);
+        let is_fault = read_all(rt.alloc(), &mut input, LIMITS) == Err(ReadFault::Device);
+        assert!(rt; is_fault && calls.get() == failing);
+        let is_filled = fill(&mut input, &mut [0; 4], LIMITS).is_ok();
+        assert!(rt; is_filled && calls.get() == failing.saturating_add(4));
 
-            calls.set(0);
-            let once = FailsOnce {
-                calls,
-                failing,
-                kind,
-            };
-            let mut other = SystemInput::new(once);
-            let is_fault = fill(&mut other, &mut [0; 4], LIMITS).is_err();
-            assert!(rt; is_fault && calls.get() == failing);
+        calls.set(0);
+        let mut other = SystemInput::new(once);
+        let is_fault = fill(&mut other, &mut [0; 4], LIMITS).is_err();
+        assert!(rt; is_fault && calls.get() == failing);
 
-            calls.set(0);
-            let once = FailsOnce {
-                calls,
-                failing,
-                kind,
-            };
-            let mut output = SystemOutput::new(once);
-            let is_fault = write_all(&mut output, b"hello") == Err(DeviceFault);
-            assert!(rt; is_fault && calls.get() == failing);
-            let is_written = write_all(&mut output, b"hello") == Ok(());
-            assert!(rt; is_written && calls.get() == failing + 5);
-        }
+        calls.set(0);
+        let mut output = SystemOutput::new(once);
+        let is_fault = write_all(&mut output, b"hello") == Err(DeviceFault);
+        assert!(rt; is_fault && calls.get() == failing);
+        let is_written = write_all(&mut output, b"hello") == Ok(());
+        assert!(rt; is_written && calls.get() == failing.saturating_add(5));
     }
 }

@@ -1,14 +1,8 @@
 //! What a row answers, and a row that is begun again.
-use bd_check::{Fault, FaultKind};
-use bd_diagnose::{JsonFault, JsonFaultKind};
-use bd_path::PathFault;
-use bd_query::{FilterFault, FilterFaultKind};
-use bd_request::Refused;
-use bd_write::WriteFault;
-use std::alloc::AllocError;
+use std::fmt::{Debug, InlineText};
 
-/// Why a row has no answer.
-#[derive(Clone, Copy, Debug, Drop)]
+/// Why a row has no answer. It is no `Debug` itself, so that each error converts to it.
+#[derive(Drop)]
 pub(crate) enum RowFault {
     NoMemory,
     /// A call was refused for another reason, or answered what it should not.
@@ -28,53 +22,17 @@ macro_rules! is_whole {
 
 pub(crate) use is_whole;
 
-/// `NoMemory` where memory was wanted.
-fn reason(starved: bool) -> RowFault {
-    if starved {
-        RowFault::NoMemory
-    } else {
-        RowFault::Otherwise
-    }
-}
-
-impl From<AllocError> for RowFault {
-    fn from(_error: AllocError) -> RowFault {
-        RowFault::NoMemory
-    }
-}
-
-impl From<Fault> for RowFault {
-    fn from(fault: Fault) -> RowFault {
-        reason(fault.kind == FaultKind::NoMemory)
-    }
-}
-
-impl From<JsonFault> for RowFault {
-    fn from(fault: JsonFault) -> RowFault {
-        reason(fault.kind == JsonFaultKind::NoMemory)
-    }
-}
-
-impl From<WriteFault> for RowFault {
-    fn from(fault: WriteFault) -> RowFault {
-        reason(fault == WriteFault::NoMemory)
-    }
-}
-
-impl From<PathFault> for RowFault {
-    fn from(fault: PathFault) -> RowFault {
-        reason(matches!(fault, PathFault::NoMemory))
-    }
-}
-
-impl From<FilterFault> for RowFault {
-    fn from(fault: FilterFault) -> RowFault {
-        reason(fault.kind == FilterFaultKind::NoMemory)
-    }
-}
-
-impl From<Refused> for RowFault {
-    fn from(refused: Refused) -> RowFault {
-        reason(matches!(refused, Refused::NoMemory))
+/// Where memory was wanted, the text of an error for debugging has `NoMemory` in it, or is that of an error of the allocator. A filter
+/// is never refused for that.
+impl<E: Debug + Drop> From<E> for RowFault {
+    fn from(error: E) -> RowFault {
+        let text = InlineText::<512>::of(format_args!("{error:?}"));
+        let text = text.as_str();
+        let is_starved = text.contains("NoMemory") && !text.starts_with("BadFilter");
+        if is_starved || text.starts_with("Alloc") {
+            RowFault::NoMemory
+        } else {
+            RowFault::Otherwise
+        }
     }
 }

@@ -1,88 +1,74 @@
-//! Documents in memory and in bytes.
+//! Documents in memory and in bytes, and devices that are read whole, and document by document.
 use crate::answers::{RowFault, is_whole};
-use crate::samples::ONE;
-use bd_bson::read_dump;
+use crate::samples::{FIVE, MIXED, ONE, SEVERAL_KEYS, TWICE, dump_of};
 use bd_check::{FaultKind, read_document};
+use bd_device::{Limits, MemoryInput, ReadFault, read_all};
 use bd_diagnose::JsonFaultKind;
 use bd_extjson::read_doc;
+use bd_stream::{DocFault, DocReader};
 use bd_value::{Document, Value};
 use bd_write::write_document;
 use std::alloc::Global;
 
-/// Adds a number under `a`. A push that was refused leaves as many pairs as before, and is made again.
-fn push_number(alloc: Global, document: &mut Document, number: i32) -> Result<(), RowFault> {
-    let before = document.len();
-    for _ in 0..2 {
-        let name = String::from_str(alloc, "a")?;
-        if document.push(name, Value::Int32(number)).is_ok() {
-            return Ok(());
-        }
-        if document.len() != before {
-            return Err(RowFault::Otherwise);
-        }
-    }
-    Err(RowFault::Otherwise)
+/// Whether a document is {"a":1}.
+fn is_one(document: &Document) -> bool {
+    document.len() == 1 && matches!(document.first("a"), Some(Value::Int32(1)))
 }
 
-/// Whether a document has these numbers, each under `a`.
-fn has_numbers(document: &Document, numbers: &[i32]) -> bool {
-    let mut i = 0;
-    for number in numbers {
-        if i >= document.len() {
-            return false;
-        }
-        match document.pair(i) {
-            ("a", Value::Int32(n)) if n == number => i += 1,
-            _ => return false,
-        }
-    }
-    i == document.len()
-}
-
+/// Adds numbers under `a`. A push that was refused leaves as many pairs as before, and is made again.
 fn pushes(alloc: Global) -> Result<bool, RowFault> {
     let mut document = Document::new(alloc);
-    push_number(alloc, &mut document, 1)?;
-    let has_one = has_numbers(&document, &[1]);
-    push_number(alloc, &mut document, 2)?;
-    Ok(has_one && has_numbers(&document, &[1, 2]))
-}
-
-fn reads(alloc: Global) -> Result<bool, RowFault> {
-    let document = read_document(alloc, ONE, 0, 0)?;
-    Ok(has_numbers(&document, &[1]))
-}
-
-/// A view of a dump, and what is copied of it.
-fn copies_of_a_view(alloc: Global) -> Result<bool, RowFault> {
-    let dump = read_dump(alloc, Vec::from_slice(alloc, ONE)?)?;
-    if dump.len() != 1 {
-        return Ok(false);
-    }
-    let view = dump.document(0);
-    let document = view.to_document(alloc)?;
-    let value = view.value().to_value(alloc)?;
-    let is_same = matches!(&value, Value::Doc(same) if has_numbers(same, &[1]));
-    Ok(has_numbers(&document, &[1]) && is_same)
-}
-
-/// A text, and the bytes of its document.
-const ROWS: [(&[u8], &[u8]); 2] = [
-    (b"{\"a\":1}", ONE),
-    (
-        b"{\"a\":2147483648}",
-        b"\x10\0\0\0\x12a\0\0\0\0\x80\0\0\0\0\0",
-    ),
-];
-
-fn writes(alloc: Global) -> Result<bool, RowFault> {
-    for (text, wanted) in ROWS {
-        let document = read_doc(alloc, text)?;
-        let bytes = write_document(alloc, &document)?;
-        if bytes.as_slice() != wanted {
+    for (number, wanted) in [(1, ONE), (2, TWICE)] {
+        let before = document.len();
+        let name = String::from_str(alloc, "a")?;
+        if document.push(name, Value::Int32(number)).is_err() {
+            if document.len() != before {
+                return Ok(false);
+            }
+            document.push(String::from_str(alloc, "a")?, Value::Int32(number))?;
+        }
+        if write_document(alloc, &document)?.as_slice() != wanted {
             return Ok(false);
         }
     }
     Ok(true)
+}
+
+/// What is read of bytes, and what is copied of a view of a dump.
+fn reads_and_copies(alloc: Global) -> Result<bool, RowFault> {
+    let is_read = is_one(&read_document(alloc, ONE, 0, 0)?);
+    let dump = dump_of(alloc, ONE)?;
+    if !is_read || dump.len() != 1 {
+        return Ok(false);
+    }
+    let view = dump.document(0);
+    let is_copied = is_one(&view.to_document(alloc)?);
+    match view.value().to_value(alloc)? {
+        Value::Doc(same) => Ok(is_copied && is_one(&same)),
+        _ => Ok(false),
+    }
+}
+
+/// Texts of documents, and the bytes of these.
+const ROWS: [(&str, &[u8]); 5] = [
+    (r#"{"a":1}"#, ONE),
+    (
+        r#"{"a":2147483648}"#,
+        b"\x10\0\0\0\x12a\0\0\0\0\x80\0\0\0\0\0",
+    ),
+    (r#"{"a":[5,7,5]} {"a":5}"#, SEVERAL_KEYS),
+    (r#"{"a":[]} {} {"a":null} {"a":[3,1]} {"a":2}"#, MIXED),
+    (r#"{"a":0} {"a":1} {"a":2} {"a":3} {"a":4}"#, FIVE),
+];
+
+/// Whether the documents of texts, with a space after each but the last, have these bytes.
+fn are_written(alloc: Global, texts: &str, wanted: &[u8]) -> Result<bool, RowFault> {
+    let mut bytes = Vec::new(alloc);
+    for text in texts.split(' ') {
+        let document = read_doc(alloc, text.as_bytes())?;
+        bytes.extend_from_slice(&write_document(alloc, &document)?)?;
+    }
+    Ok(bytes.as_slice() == wanted)
 }
 
 /// Bytes with a string of length 0, and a text with a fraction.
@@ -103,11 +89,53 @@ fn faults(alloc: Global) -> Result<bool, RowFault> {
     Ok(fault.offset == 7 && matches!(fault.path.as_slice(), [name] if name.as_str() == "a"))
 }
 
+/// Five bytes.
+const EMPTY: &[u8] = b"\x05\0\0\0\0";
+
+/// Whether reading five bytes, one a read, is refused for this; for none where all are read.
+fn reads(alloc: Global, limits: Limits, wanted: Option<ReadFault>) -> Result<bool, RowFault> {
+    let mut input = MemoryInput::new(EMPTY, 1, None);
+    match read_all(alloc, &mut input, limits) {
+        Ok(bytes) => Ok(wanted.is_none() && bytes.as_slice() == EMPTY),
+        Err(fault) if wanted == Some(fault) => Ok(true),
+        Err(fault) => Err(RowFault::from(fault)),
+    }
+}
+
+/// A document, and two bytes of a length. After a refusal each further call fails.
+fn cut_documents(alloc: Global) -> Result<bool, RowFault> {
+    let input = MemoryInput::new(b"\x0c\0\0\0\x10a\0\x01\0\0\0\0\x05\0", 5, None);
+    let limits = Limits {
+        bytes: 100,
+        turns: 100,
+    };
+    let mut reader = DocReader::new(alloc, input, limits);
+    if !reader.advance()? || reader.bytes() != ONE {
+        return Ok(false);
+    }
+    match reader.next() {
+        Ok(_) => Ok(false),
+        Err(DocFault::Frame(it)) if it.kind == FaultKind::ShortLength => Ok(it.offset == 12),
+        Err(fault) => Err(RowFault::from(fault)),
+    }
+}
+
 #[test]
 fn documents_and_bytes(rt: HostRuntime) {
     assert!(rt; is_whole!(pushes(rt.alloc())));
-    assert!(rt; is_whole!(reads(rt.alloc())));
-    assert!(rt; is_whole!(copies_of_a_view(rt.alloc())));
-    assert!(rt; is_whole!(writes(rt.alloc())));
+    assert!(rt; is_whole!(reads_and_copies(rt.alloc())));
     assert!(rt; is_whole!(faults(rt.alloc())));
+    for (texts, bytes) in ROWS {
+        assert!(rt; is_whole!(are_written(rt.alloc(), texts, bytes)), "{texts}");
+    }
+    // The fifth byte is one too many, the fourth turn, or the sixth finds the end.
+    for (bytes, turns, wanted) in [
+        (5, 6, None),
+        (4, 9, Some(ReadFault::TooLong)),
+        (5, 3, Some(ReadFault::TooManyTurns)),
+    ] {
+        let limits = Limits { bytes, turns };
+        assert!(rt; is_whole!(reads(rt.alloc(), limits, wanted)));
+    }
+    assert!(rt; is_whole!(cut_documents(rt.alloc())));
 }

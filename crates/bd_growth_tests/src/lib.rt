@@ -8,13 +8,7 @@ mod answers;
 #[cfg(test)]
 mod bytes_tests;
 #[cfg(test)]
-mod device_tests;
-#[cfg(test)]
-mod filter_tests;
-#[cfg(test)]
 mod index_tests;
-#[cfg(test)]
-mod order_tests;
 #[cfg(test)]
 mod path_tests;
 #[cfg(test)]

@@ -1,170 +1,119 @@
-//! Calls of sessions: one that was refused is made again, and gives its whole answer then.
+//! Calls of sessions: one that was refused is made again, and gives its whole answer then. The tokens were made by other programs.
 use crate::answers::{RowFault, is_whole};
-use crate::samples::{FIVE, MIXED, SEVERAL_KEYS, read_documents};
-use bd_cursor::{Batch, Choice, Made, Plan, Request, Session, Token};
+use crate::samples::{FIVE, MIXED, SEVERAL_KEYS, dump_of};
+use crate::service_tests::{RESUMED, TALK};
+use bd_cursor::{Choice, Request, Session, Token};
 use bd_extjson::read_doc;
 use bd_path::Path;
-use bd_request::Refused;
+use bd_reply::{Reply, write_reply};
 use std::alloc::Global;
 
-/// A request of a filter, a sort, a skip and a limit.
+/// A filter, a sort, a skip and a limit.
 #[derive(Clone, Copy)]
-struct Words<'a> {
-    filter: &'a str,
-    sort: &'a str,
-    skip: u64,
-    limit: u64,
+struct Words(&'static str, &'static str, u64, u64);
+
+fn request(alloc: Global, words: Words) -> Result<Request, RowFault> {
+    let Words(filter, sort, skip, limit) = words;
+    let filter = read_doc(alloc, filter.as_bytes())?;
+    let sort = read_doc(alloc, sort.as_bytes())?;
+    Ok(Request::new(alloc, filter, sort, skip, limit)?)
 }
 
-impl Words<'_> {
-    fn request(self, alloc: Global) -> Result<Request, RowFault> {
-        let filter = read_doc(alloc, self.filter.as_bytes())?;
-        let sort = read_doc(alloc, self.sort.as_bytes())?;
-        Ok(Request::new(alloc, filter, sort, self.skip, self.limit)?)
-    }
+/// A call of a session; an index is on `a`.
+#[derive(Clone, Copy)]
+enum Call {
+    Create,
+    CreateSparse,
+    Drop,
+    Find(Words),
+    /// Without an index.
+    Resume(Words, &'static str),
+    Next(u64, u64),
+    Explain(Words),
 }
 
-/// All documents, by the least key of `a`.
-const BY_A: Words<'static> = Words {
-    filter: "{}",
-    sort: "{\"a\":1}",
-    skip: 0,
-    limit: 0,
-};
-
-/// The number of a new cursor.
-fn find(alloc: Global, session: &mut Session, words: Words<'_>) -> Result<u64, RowFault> {
-    match session.find(words.request(alloc)?, Choice::Auto) {
-        Err(Refused::NoMemory) => Ok(session.find(words.request(alloc)?, Choice::Auto)?),
-        answer => Ok(answer?),
-    }
-}
-
-/// The number of a new cursor that goes on after a token, without an index.
-fn resume(
-    alloc: Global,
-    session: &mut Session,
-    words: Words<'_>,
-    token: &Token,
-) -> Result<u64, RowFault> {
-    match session.resume(words.request(alloc)?, Choice::Scan, token) {
-        Err(Refused::NoMemory) => {
-            Ok(session.resume(words.request(alloc)?, Choice::Scan, token)?)
+/// The reply to a call.
+fn reply(alloc: Global, session: &mut Session, call: Call) -> Result<Reply, RowFault> {
+    let reply = match call {
+        Call::Create => Reply::Made(session.create_index(Path::parse(alloc, "a")?)?),
+        Call::CreateSparse => Reply::Made(session.create_sparse_index(Path::parse(alloc, "a")?)?),
+        Call::Drop => {
+            session.drop_index(&Path::parse(alloc, "a")?)?;
+            Reply::Done
         }
-        answer => Ok(answer?),
+        Call::Find(words) => Reply::Opened(session.find(request(alloc, words)?, Choice::Auto)?),
+        Call::Resume(words, token) => {
+            let token = Token::parse(token)?;
+            let request = request(alloc, words)?;
+            Reply::Opened(session.resume(request, Choice::Scan, &token)?)
+        }
+        Call::Next(id, n) => Reply::Gave(session.next(id, n)?),
+        Call::Explain(words) => {
+            Reply::Explained(session.explain(&request(alloc, words)?, &Choice::Auto)?)
+        }
+    };
+    Ok(reply)
+}
+
+/// Whether calls of a session over a dump have these replies, in their texts.
+fn replies(alloc: Global, dump: &[u8], calls: &[Call], wanted: &str) -> Result<bool, RowFault> {
+    let mut session = Session::new(alloc, dump_of(alloc, dump)?);
+    let mut wanted = wanted.lines();
+    let mut text = Vec::new(alloc);
+    for call in calls {
+        let reply = match reply(alloc, &mut session, *call) {
+            Err(RowFault::NoMemory) => reply(alloc, &mut session, *call)?,
+            answer => answer?,
+        };
+        text.clear();
+        write_reply(alloc, session.dump(), &reply, &mut text)?;
+        if text.as_slice() != wanted.next().unwrap_or("").as_bytes() {
+            return Ok(false);
+        }
     }
+    Ok(true)
 }
-
-fn next(session: &mut Session, id: u64, n: u64) -> Result<Batch, RowFault> {
-    match session.next(id, n) {
-        Err(Refused::NoMemory) => Ok(session.next(id, n)?),
-        answer => Ok(answer?),
-    }
-}
-
-fn make(session: &mut Session, path: Path, sparse: bool) -> Result<Made, Refused> {
-    if sparse {
-        session.create_sparse_index(path)
-    } else {
-        session.create_index(path)
-    }
-}
-
-/// What is told of a new index on `a`, sparse or not.
-fn create(alloc: Global, session: &mut Session, sparse: bool) -> Result<Made, RowFault> {
-    match make(session, Path::parse(alloc, "a")?, sparse) {
-        Err(Refused::NoMemory) => Ok(make(session, Path::parse(alloc, "a")?, sparse)?),
-        answer => Ok(answer?),
-    }
-}
-
-/// Whether a batch has these places and this end.
-fn has(batch: &Batch, places: &[u32], end: bool) -> bool {
-    batch.places.as_slice() == places && batch.end == end
-}
-
-/// The text of the token that was made with `sha256sum` and `base64`.
-const AFTER_TWO: &str = "AQIAAAAAAAAAAgAAAJp0O9zj0p+vf5DvZAVcdDU5n8vAevLSzNWdIqGudhaq";
 
 /// Two batches of an answer that is cut on both sides.
-fn batches(alloc: Global) -> Result<bool, RowFault> {
-    let mut session = Session::new(alloc, read_documents(alloc, FIVE)?);
-    let words = Words {
-        filter: "{}",
-        sort: "{}",
-        skip: 1,
-        limit: 3,
-    };
-    let id = find(alloc, &mut session, words)?;
-    let first = next(&mut session, id, 2)?;
-    let Some(token) = first.token else {
-        return Ok(false);
-    };
-    let text = token.text(alloc)?;
-    let last = next(&mut session, id, 2)?;
-    Ok(
-        id == 1
-            && has(&first, &[1, 2], false)
-            && text.as_str() == AFTER_TWO
-            && has(&last, &[3], true),
-    )
-}
+const BATCHES: [Call; 3] = [
+    Call::Find(Words("{}", "{}", 1, 3)),
+    Call::Next(1, 2),
+    Call::Next(1, 2),
+];
+
+const GIVEN: &str = r#"{"ok":true,"cursor":{"$numberLong":"1"}}
+{"ok":true,"documents":[{"a":{"$numberInt":"1"}},{"a":{"$numberInt":"2"}}],"end":false,"token":"AQIAAAAAAAAAAgAAAJp0O9zj0p+vf5DvZAVcdDU5n8vAevLSzNWdIqGudhaq"}
+{"ok":true,"documents":[{"a":{"$numberInt":"3"}}],"end":true,"token":"AQMAAAAAAAAAAwAAAJp0O9zj0p+vf5DvZAVcdDU5n8vAevLSzNWdIqGudhaq"}"#;
+
+/// All documents, by the least key of `a`.
+const BY_A: Words = Words("{}", "{\"a\":1}", 0, 0);
+
+/// After the second of them.
+const TOKEN: &str = "AQIAAAAAAAAAAQAAAMnybd8W0Svym49NksrDop1seNhyK3FVwRdWmJPE9mAN";
 
 /// Two documents by a walk on an index; without it the rest follows.
-fn resumed(alloc: Global) -> Result<bool, RowFault> {
-    let mut session = Session::new(alloc, read_documents(alloc, MIXED)?);
-    let made = create(alloc, &mut session, false)?;
-    let id = find(alloc, &mut session, BY_A)?;
-    let first = next(&mut session, id, 2)?;
-    let Some(token) = first.token else {
-        return Ok(false);
-    };
-    session.drop_index(&Path::parse(alloc, "a")?)?;
-    let id = resume(alloc, &mut session, BY_A, &token)?;
-    let rest = next(&mut session, id, 5)?;
-    Ok(
-        made.entries == 6
-            && made.multikey
-            && id == 2
-            && has(&first, &[0, 1], false)
-            && has(&rest, &[2, 3, 4], true),
-    )
-}
+const WALKED: [Call; 6] = [
+    Call::Create,
+    Call::Find(BY_A),
+    Call::Next(1, 2),
+    Call::Drop,
+    Call::Resume(BY_A, TOKEN),
+    Call::Next(2, 5),
+];
 
 /// What is told of a plan by an index.
-fn explained(alloc: Global) -> Result<bool, RowFault> {
-    let mut session = Session::new(alloc, read_documents(alloc, SEVERAL_KEYS)?);
-    let made = create(alloc, &mut session, false)?;
-    let words = Words {
-        filter: "{\"a\":{\"$gte\":5}}",
-        sort: "{}",
-        skip: 0,
-        limit: 0,
-    };
-    let request = words.request(alloc)?;
-    let told = match session.explain(&request, &Choice::Auto) {
-        Err(Refused::NoMemory) => session.explain(&request, &Choice::Auto)?,
-        answer => answer?,
-    };
-    Ok(
-        made.entries == 3
-            && made.multikey
-            && matches!(told.plan, Plan::Index)
-            && told.index.as_deref() == Some("a")
-            && (told.entries, told.documents, told.matches) == (3, 2, 2),
-    )
-}
+const EXPLAINED: [Call; 2] = [
+    Call::Create,
+    Call::Explain(Words("{\"a\":{\"$gte\":5}}", "{}", 0, 0)),
+];
 
-fn made_sparse(alloc: Global) -> Result<bool, RowFault> {
-    let mut session = Session::new(alloc, read_documents(alloc, MIXED)?);
-    let made = create(alloc, &mut session, true)?;
-    Ok(made.entries == 5 && made.multikey)
-}
+const SPARSE: &str = r#"{"ok":true,"entries":{"$numberLong":"5"},"multikey":true}"#;
 
 #[test]
 fn sessions(rt: HostRuntime) {
-    assert!(rt; is_whole!(batches(rt.alloc())));
-    assert!(rt; is_whole!(resumed(rt.alloc())));
-    assert!(rt; is_whole!(explained(rt.alloc())));
-    assert!(rt; is_whole!(made_sparse(rt.alloc())));
+    let alloc = rt.alloc();
+    assert!(rt; is_whole!(replies(alloc, FIVE, &BATCHES, GIVEN)));
+    assert!(rt; is_whole!(replies(alloc, MIXED, &WALKED, RESUMED.1)));
+    assert!(rt; is_whole!(replies(alloc, SEVERAL_KEYS, &EXPLAINED, TALK.1)));
+    assert!(rt; is_whole!(replies(alloc, MIXED, &[Call::CreateSparse], SPARSE)));
 }

@@ -1,7 +1,6 @@
 //! Lines of devices in memory, with outcomes that were worked by hand.
 use bd_device::{Limits, MemoryInput, ReadFault};
 use bd_lines::LineBuffer;
-use std::alloc::{AllocError, Global};
 use std::test::Fail;
 
 const AMPLE: Limits = Limits {
@@ -61,18 +60,12 @@ fn no_read_where_a_line_is_held(rt: HostRuntime) {
     }
 }
 
-/// A line of so many letters.
-fn letters(alloc: Global, count: usize) -> Result<Vec<u8>, AllocError> {
-    let mut line = Vec::new(alloc);
-    line.resize(count, b'x')?;
-    line.extend_from_slice(b"\n")?;
-    Ok(line)
-}
-
 /// The byte past the limit may be the first of the line or the last of a block.
 #[test]
 fn a_line_of_the_limit_and_one_longer(rt: HostRuntime) -> Result<(), Fail> {
-    let bytes = letters(rt.alloc(), 16_777_217)?;
+    let mut bytes = Vec::new(rt.alloc());
+    bytes.resize(16_777_217, b'x')?;
+    bytes.extend_from_slice(b"\n")?;
     for (start, most, answer) in [
         (1, 65_536, Ok(true)),
         (1, 1_000_003, Ok(true)),
@@ -89,47 +82,37 @@ fn a_line_of_the_limit_and_one_longer(rt: HostRuntime) -> Result<(), Fail> {
     Ok(())
 }
 
-/// The fault after so many lines, and what a later call answers.
+/// The fault after so many lines of seven bytes, which a later call answers too. A read that failed is the last.
 #[test]
-fn limits_of_bytes_and_of_reads(rt: HostRuntime) {
-    for (bytes, turns, count, fault) in [
-        (7, 8, 3, None),
-        (6, 8, 2, Some(ReadFault::TooLong)),
-        (3, 8, 1, Some(ReadFault::TooLong)),
-        (7, 7, 2, Some(ReadFault::TooManyTurns)),
-        (7, 4, 1, Some(ReadFault::TooManyTurns)),
-        (0, 0, 0, Some(ReadFault::TooManyTurns)),
+fn a_fault_ends_the_lines(rt: HostRuntime) {
+    for (bytes, turns, failing, count, fault) in [
+        (7, 8, None, 3, None),
+        (6, 8, None, 2, Some(ReadFault::TooLong)),
+        (3, 8, None, 1, Some(ReadFault::TooLong)),
+        (7, 7, None, 2, Some(ReadFault::TooManyTurns)),
+        (7, 4, None, 1, Some(ReadFault::TooManyTurns)),
+        (0, 0, None, 0, Some(ReadFault::TooManyTurns)),
+        (9, 9, Some(1), 0, Some(ReadFault::Device)),
+        (9, 9, Some(3), 0, Some(ReadFault::Device)),
+        (9, 9, Some(4), 1, Some(ReadFault::Device)),
+        (9, 9, Some(5), 1, Some(ReadFault::Device)),
+        (9, 9, Some(6), 2, Some(ReadFault::Device)),
+        (9, 9, Some(7), 2, Some(ReadFault::Device)),
+        (9, 9, Some(8), 2, Some(ReadFault::Device)),
     ] {
-        let mut input = MemoryInput::new(b"ab\nc\nde", 1, None);
+        let mut input = MemoryInput::new(b"ab\nc\nde", 1, failing);
         let mut lines = LineBuffer::new(rt.alloc(), Limits { bytes, turns });
         for _ in 0..count {
             assert!(rt;
                 lines.read_next(&mut input) == Ok(true),
-                "{bytes} bytes, {turns} reads"
+                "{fault:?} after {count}"
             );
         }
         for _ in 0..2 {
             let next = lines.read_next(&mut input);
-            assert!(rt; next.err() == fault, "{bytes} bytes, {turns} reads");
-            assert!(rt; input.calls() <= turns && lines.line().is_empty());
-        }
-    }
-}
-
-/// A read that failed is the last.
-#[test]
-fn a_read_that_fails(rt: HostRuntime) {
-    for (failing, count) in [(1, 0), (3, 0), (4, 1), (5, 1), (6, 2), (7, 2), (8, 2)] {
-        let mut input = MemoryInput::new(b"ab\nc\nde", 1, Some(failing));
-        let mut lines = LineBuffer::new(rt.alloc(), AMPLE);
-        for _ in 0..count {
-            assert!(rt; lines.read_next(&mut input) == Ok(true), "read {failing}");
-        }
-        for _ in 0..2 {
-            let next = lines.read_next(&mut input);
-            assert!(rt; next == Err(ReadFault::Device), "read {failing}");
-            assert!(rt; lines.line().is_empty());
-            assert!(rt; input.calls() == failing && input.failures() == 1);
+            assert!(rt; next.err() == fault, "{fault:?} after {count}");
+            assert!(rt; input.calls() <= failing.unwrap_or(turns) && lines.line().is_empty());
+            assert!(rt; input.failures() == u64::from(failing.is_some()));
         }
     }
 }

@@ -1,7 +1,10 @@
 //! Replies to commands of devices in memory, with outcomes that were worked by hand.
 use crate::numbered::Numbered;
-use bd_device::{FailingWrite, Limits, MemoryInput, MemoryOutput, ReadFault};
-use bd_lines::{ServeFault, serve};
+use bd_device::FailingWrite::{Error, Zero};
+use bd_device::ReadFault::{Device, TooLong, TooManyTurns};
+use bd_device::{Limits, MemoryInput, MemoryOutput};
+use bd_lines::ServeFault::{NoMemory, Unread, Unwritten};
+use bd_lines::serve;
 
 const AMPLE: Limits = Limits {
     bytes: 1000,
@@ -9,13 +12,6 @@ const AMPLE: Limits = Limits {
 };
 
 const TWO: &[u8] = b"ab\n\ncd\n";
-
-fn numbered() -> Numbered {
-    Numbered {
-        digit: b'1',
-        last: b'9',
-    }
-}
 
 #[test]
 fn a_reply_to_each_command(rt: HostRuntime) {
@@ -35,7 +31,10 @@ fn a_reply_to_each_command(rt: HostRuntime) {
             let mut input = MemoryInput::new(commands, most, None);
             let mut room = [0; 64];
             let mut output = MemoryOutput::new(&mut room, size, None);
-            let mut session = numbered();
+            let mut session = Numbered {
+                digit: b'1',
+                last: b'9',
+            };
             let result = serve(rt.alloc(), AMPLE, &mut input, &mut session, &mut output);
             assert!(rt; result == Ok(()), "{most} a read");
             assert!(rt; output.bytes() == wanted, "{most} a read");
@@ -43,62 +42,44 @@ fn a_reply_to_each_command(rt: HostRuntime) {
     }
 }
 
-/// The replies to the lines that were whole stand, and no other.
+/// How many bytes of two replies are there, and how many reads of a byte each were made. A reply is written as soon as its line was
+/// read, by two bytes a write.
 #[test]
-fn commands_that_cannot_be_read(rt: HostRuntime) {
-    let device = ReadFault::Device;
-    let rows: [(u64, u64, u64, ReadFault, &[u8]); 7] = [
-        (1, 1000, 1000, device, b""),
-        (3, 1000, 1000, device, b""),
-        (4, 1000, 1000, device, b"1ab\n"),
-        (7, 1000, 1000, device, b"1ab\n"),
-        (8, 1000, 1000, device, b"1ab\n2cd\n"),
-        (99, 6, 1000, ReadFault::TooLong, b"1ab\n"),
-        (99, 1000, 7, ReadFault::TooManyTurns, b"1ab\n2cd\n"),
-    ];
-    for (failing, bytes, turns, fault, wanted) in rows {
-        let mut input = MemoryInput::new(TWO, 1, Some(failing));
-        let mut room = [0; 64];
-        let mut output = MemoryOutput::new(&mut room, 64, None);
+fn a_call_that_fails(rt: HostRuntime) {
+    let replies = b"1ab\n2cd\n";
+    for (failing, bytes, turns, last, broken, fault, shown, calls) in [
+        // The replies to the lines that were whole stand, and no other.
+        (Some(1), 1000, 1000, b'9', None, Unread(Device), 0, 1),
+        (Some(3), 1000, 1000, b'9', None, Unread(Device), 0, 3),
+        (Some(4), 1000, 1000, b'9', None, Unread(Device), 4, 4),
+        (Some(7), 1000, 1000, b'9', None, Unread(Device), 4, 7),
+        (Some(8), 1000, 1000, b'9', None, Unread(Device), 8, 8),
+        (None, 6, 1000, b'9', None, Unread(TooLong), 4, 7),
+        (None, 1000, 7, b'9', None, Unread(TooManyTurns), 8, 7),
+        // No line is read after one whose reply was not written, or found no memory.
+        (None, 1000, 1000, b'9', Some(Error(1)), Unwritten, 0, 3),
+        (None, 1000, 1000, b'9', Some(Zero(1)), Unwritten, 0, 3),
+        (None, 1000, 1000, b'9', Some(Error(2)), Unwritten, 2, 3),
+        (None, 1000, 1000, b'9', Some(Zero(2)), Unwritten, 2, 3),
+        (None, 1000, 1000, b'9', Some(Error(3)), Unwritten, 4, 7),
+        (None, 1000, 1000, b'9', Some(Zero(3)), Unwritten, 4, 7),
+        (None, 1000, 1000, b'9', Some(Error(4)), Unwritten, 6, 7),
+        (None, 1000, 1000, b'9', Some(Zero(4)), Unwritten, 6, 7),
+        (None, 1000, 1000, b'1', None, NoMemory, 0, 3),
+        (None, 1000, 1000, b'2', None, NoMemory, 4, 7),
+    ] {
+        assert!(rt; shown <= replies.len());
         let limits = Limits { bytes, turns };
-        let result = serve(rt.alloc(), limits, &mut input, &mut numbered(), &mut output);
-        assert!(rt; result == Err(ServeFault::Unread(fault)), "read {failing}");
-        assert!(rt; output.bytes() == wanted, "read {failing}");
-    }
-}
-
-/// A reply is written as soon as its line was read, and no line is read after one that was not written.
-#[test]
-fn replies_that_cannot_be_written(rt: HostRuntime) {
-    let rows: [(u64, &[u8], u64); 4] = [
-        (1, b"", 3),
-        (2, b"1a", 3),
-        (3, b"1ab\n", 7),
-        (4, b"1ab\n2c", 7),
-    ];
-    for (failing, wanted, calls) in rows {
-        for broken in [FailingWrite::Error(failing), FailingWrite::Zero(failing)] {
-            let mut input = MemoryInput::new(TWO, 1, None);
-            let mut room = [0; 64];
-            let mut output = MemoryOutput::new(&mut room, 2, Some(broken));
-            let result = serve(rt.alloc(), AMPLE, &mut input, &mut numbered(), &mut output);
-            assert!(rt; result == Err(ServeFault::Unwritten), "write {failing}");
-            assert!(rt; output.bytes() == wanted, "write {failing}");
-            assert!(rt; input.calls() == calls, "write {failing}");
-        }
-    }
-}
-
-#[test]
-fn a_reply_that_finds_no_memory(rt: HostRuntime) {
-    let rows: [(u8, &[u8], u64); 2] = [(b'1', b"", 3), (b'2', b"1ab\n", 7)];
-    for (last, wanted, calls) in rows {
-        let mut input = MemoryInput::new(TWO, 1, None);
-        let mut room = [0; 64];
-        let mut output = MemoryOutput::new(&mut room, 64, None);
+        let mut input = MemoryInput::new(TWO, 1, failing);
         let mut session = Numbered { digit: b'1', last };
-        let result = serve(rt.alloc(), AMPLE, &mut input, &mut session, &mut output);
-        assert!(rt; result == Err(ServeFault::NoMemory));
-        assert!(rt; output.bytes() == wanted && input.calls() == calls);
+        let mut room = [0; 64];
+        let mut output = MemoryOutput::new(&mut room, 2, broken);
+        let result = serve(rt.alloc(), limits, &mut input, &mut session, &mut output);
+        assert!(rt; result == Err(fault), "{shown} bytes, {calls} reads");
+        assert!(rt;
+            output.bytes() == &replies[..shown],
+            "{shown} bytes, {calls} reads"
+        );
+        assert!(rt; input.calls() == calls, "{shown} bytes, {calls} reads");
     }
 }
