@@ -1,6 +1,8 @@
-//! The examples of use in the roots of `bd_raw`, `bd_check`, `bd_write` and `bd_bson`.
+//! The examples of use in the roots of `bd_bson`, `bd_check`, `bd_raw`, `bd_stream`, `bd_value` and `bd_write`.
 use bd_bson::read_dump;
 use bd_check::{FaultKind, check_document};
+use bd_device::{Limits, MemoryInput};
+use bd_stream::DocBuffer;
 use bd_value::{Document, Node, Scalar, Value};
 use bd_write::write_document;
 use std::test::Fail;
@@ -45,5 +47,30 @@ fn bson(rt: HostRuntime) -> Result<(), Fail> {
     let count = dump.len();
     assert!(rt; count == 2);
     assert!(rt; dump.document(1).first("a").is_some());
+    Ok(())
+}
+
+#[test]
+fn value(rt: HostRuntime) -> Result<(), Fail> {
+    let alloc = rt.alloc();
+    let mut document = Document::new(alloc);
+    document.push(String::from_str(alloc, "a")?, Value::Int32(1))?;
+    assert!(rt; document.len() == 1);
+    assert!(rt; matches!(document.first("a"), Some(Value::Int32(1))));
+    Ok(())
+}
+
+#[test]
+fn stream(rt: HostRuntime) -> Result<(), Fail> {
+    let alloc = rt.alloc();
+    let limits = Limits {
+        bytes: 100,
+        turns: 100,
+    };
+    let mut input = MemoryInput::new(b"\x05\0\0\0\0\x05\0\0\0\0", 3, None);
+    let mut documents = DocBuffer::new(alloc, limits);
+    let is_there = documents.read_next(&mut input)?;
+    assert!(rt; is_there && documents.bytes() == b"\x05\0\0\0\0".as_slice());
+    assert!(rt; documents.place() == 5 && documents.number() == 1);
     Ok(())
 }

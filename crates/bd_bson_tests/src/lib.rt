@@ -1,16 +1,22 @@
-//! Tests of `bd_bson` and of the crates whose names it hands on, over their public calls. They stand in a crate of their own,
-//! since a crate is proved once more with its tests, and its edits wait for that. Rows of bytes, and of what is written, are in
-//! `tests/rows`.
+//! Tests of the crates of values and bytes, from `bd_value` to `bd_stream` and `bd_bson`, over their public calls. They stand in a
+//! crate of their own, since a crate is proved once more with its tests, and its edits wait for that. Rows of bytes, and of what is
+//! written, are in `tests/rows`.
 #![tactic(auto)]
 
 #[cfg(test)]
 mod at_tests;
+#[cfg(test)]
+mod doc_reader_tests;
 #[cfg(test)]
 mod examples;
 #[cfg(test)]
 mod samples;
 #[cfg(test)]
 mod tests;
+#[cfg(test)]
+mod value_samples;
+#[cfg(test)]
+mod value_tests;
 #[cfg(test)]
 mod views_tests;
 #[cfg(test)]

@@ -1,6 +1,6 @@
-//! The examples of use in the roots of `bd_files`, `bd_find` and `bd_cli`.
+//! The examples of use in the roots of `bd_cli`, `bd_command_line`, `bd_files` and `bd_find`.
 use bd_cli::{Status, run};
-use bd_command_line::{FindOptions, Order};
+use bd_command_line::{FindOptions, Order, parse_words};
 use bd_device::{MemoryInput, MemoryOutput};
 use bd_files::check::check;
 use bd_find::find::find;
@@ -54,5 +54,17 @@ fn cli(rt: HostRuntime) -> Result<(), Fail> {
     let status = run(alloc, &order, &mut file, &mut commands, &mut out, &mut err);
     assert!(rt; status == Status::Done);
     assert!(rt; err.bytes() == b"1 documents, 0 faulty\n".as_slice());
+    Ok(())
+}
+
+#[test]
+fn command_line(rt: HostRuntime) -> Result<(), Fail> {
+    let alloc = rt.alloc();
+    let words = [
+        String::from_str(alloc, "dump")?,
+        String::from_str(alloc, "-")?,
+    ];
+    let order = parse_words(alloc, &words);
+    assert!(rt; matches!(order, Ok(Order::Dump { .. })));
     Ok(())
 }

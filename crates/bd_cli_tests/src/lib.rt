@@ -1,7 +1,9 @@
-//! Tests of `bd_cli`, over its public calls: those that want devices in memory. What the program shows is tested over the
-//! program itself.
+//! Tests of `bd_command_line`, `bd_files`, `bd_find` and `bd_cli`, over their public calls: those that need devices in memory. What the
+//! program shows is tested over the program itself.
 #![tactic(auto)]
 
+#[cfg(test)]
+mod answers_tests;
 #[cfg(test)]
 mod devices;
 #[cfg(test)]

@@ -3,7 +3,7 @@
 //! Which words are taken, and what they order: `specs/CommandLine.antt`; what the options of `find` say:
 //! `specs/FindWords.antt`.
 //!
-//! An example, which `bd_command_line_tests` proves and runs as `examples::command_line`:
+//! An example, which `bd_cli_tests` proves and runs as `examples::command_line`:
 //!
 //! ```
 //! let words = [

@@ -1,6 +1,41 @@
-//! The example of use in the root of `bd_device`.
-use bd_device::{Limits, MemoryInput, read_all};
+//! The examples of use in the roots of `bd_device` and `bd_lines`.
+use crate::numbered::Numbered;
+use bd_device::{Limits, MemoryInput, MemoryOutput, read_all};
+use bd_lines::{LineBuffer, serve};
 use std::test::Fail;
+
+#[test]
+fn lines(rt: HostRuntime) -> Result<(), Fail> {
+    let alloc = rt.alloc();
+    let limits = Limits {
+        bytes: 100,
+        turns: 100,
+    };
+    let mut input = MemoryInput::new(b"one\ntwo", 100, None);
+    let mut lines = LineBuffer::new(alloc, limits);
+    assert!(rt; lines.read_next(&mut input)? && lines.line() == b"one".as_slice());
+    assert!(rt; lines.read_next(&mut input)? && lines.line() == b"two".as_slice());
+    assert!(rt; !lines.read_next(&mut input)?);
+    Ok(())
+}
+
+#[test]
+fn replies(rt: HostRuntime) -> Result<(), Fail> {
+    let limits = Limits {
+        bytes: 100,
+        turns: 100,
+    };
+    let mut input = MemoryInput::new(b"find\n\ncount", 100, None);
+    let mut session = Numbered {
+        digit: b'1',
+        last: b'9',
+    };
+    let mut room = [0; 20];
+    let mut output = MemoryOutput::new(&mut room, 20, None);
+    serve(rt.alloc(), limits, &mut input, &mut session, &mut output)?;
+    assert!(rt; output.bytes() == b"1find\n2count\n".as_slice());
+    Ok(())
+}
 
 #[test]
 fn device(rt: HostRuntime) -> Result<(), Fail> {

@@ -1,4 +1,5 @@
-//! Tests of `bd_extjson` and `bd_wrapper`, over their public calls: those that no row of `tests/rows` shows.
+//! Tests of the crates of texts, `bd_text`, `bd_wrapper`, `bd_diagnose`, `bd_extjson` and `bd_pack`, over their public calls: those that
+//! no row of `tests/rows` shows.
 #![tactic(auto)]
 
 #[cfg(test)]

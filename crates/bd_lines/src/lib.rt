@@ -3,7 +3,7 @@
 //! The lines of a text, and those of them that are commands: `specs/Lines.antt`. What is replied to them:
 //! `specs/Serving.antt`.
 //!
-//! An example, which `bd_lines_tests` proves and runs as `examples::lines`:
+//! An example, which `bd_device_tests` proves and runs as `examples::lines`:
 //!
 //! ```
 //! let limits = Limits {

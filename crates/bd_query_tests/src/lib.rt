@@ -1,4 +1,5 @@
-//! Tests of `bd_query`, over its public calls: what no text is, and values in memory. Rows of filters over bytes are in `tests/rows`.
+//! Tests of the crates of questions, `bd_path`, `bd_filter`, `bd_query`, `bd_bounds`, `bd_front` and `bd_index`, over their public calls:
+//! what no text is, values in memory, and counted reads. Rows of filters and indexes are in `tests/rows`.
 #![tactic(auto)]
 
 #[cfg(test)]

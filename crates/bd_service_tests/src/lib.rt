@@ -1,4 +1,5 @@
-//! Tests of `bd_service`, over its public calls. Talks with it are rows of `tests/rows`, over the program.
+//! Tests of the crates of answers, from `bd_answer` and `bd_request` to `bd_service`, over their public calls. Talks are rows of
+//! `tests/rows`, over the program.
 #![tactic(auto)]
 
 #[cfg(test)]

@@ -2,7 +2,7 @@
 //!
 //! What a device gave for a document, and what it gave before a fault: `specs/Stream.antt`.
 //!
-//! An example, which `bd_stream_tests` proves and runs as `examples::stream`:
+//! An example, which `bd_bson_tests` proves and runs as `examples::stream`:
 //!
 //! ```
 //! let limits = Limits {

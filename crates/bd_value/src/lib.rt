@@ -4,7 +4,7 @@
 //! `specs/View.antt`. That the numbers and the texts in it fit their types, a proof has after a call of `value_fits`,
 //! `document_fits` or `node_fits`: `specs/Fits.antt`.
 //!
-//! An example, which `bd_value_tests` proves and runs as `examples::value`:
+//! An example, which `bd_bson_tests` proves and runs as `examples::value`:
 //!
 //! ```
 //! let mut document = Document::new(alloc);

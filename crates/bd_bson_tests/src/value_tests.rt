@@ -1,5 +1,5 @@
 //! Documents, depths that were counted by hand, and each call of a node in memory.
-use crate::samples::{every_kind, is_field, is_shown};
+use crate::value_samples::{every_kind, is_field, is_shown};
 use bd_extjson::read_doc;
 use bd_value::{
     Document, Kind, Node, Reading, Scalar, Tree, Value, depth, depth_of, has_zero, to_document,
