@@ -1,10 +1,5 @@
-pub mod RowValueLemmas
-pub mod LineLemmas
 pub mod FaultLemmas
+pub mod FileLineLemmas
+pub mod LineLemmas
 pub mod NumberLemmas
-pub mod FindLineLemmas
-pub mod FindOptionsLemmas
-pub mod CheckLineLemmas
-pub mod PackLineLemmas
-pub mod ServeLineLemmas
-pub mod FindWalkLemmas
+pub mod RowValueLemmas

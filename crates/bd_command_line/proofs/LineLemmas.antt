@@ -202,25 +202,6 @@ help_line_refused words e taken =
 abbrev pub IsTaken : List Text → OrderView → Type 0
 IsTaken words order = (fault_of line_app words ≡ []) × (order_of words ≡ Some order)
 
-short_word : (x : ℕ) (xs : List ℕ) → (x == 45) ≡ true → is_file_word (x ∷ xs) ≡ true → IsTaken (codes "dump" ∷ (x ∷ xs) ∷ []) (dump (x ∷ xs))
-unfolding clap_on_literals
-short_word x [] is e = (simp is refl, simp is refl)
-short_word x (y ∷ ys) is e = let f : ⊥ = true≢false (sym (rw is at e)) in absurd f
-
-file_word : (x : ℕ) (xs : List ℕ) (b : Bool) → (x == 45) ≡ b → is_file_word (x ∷ xs) ≡ true → IsTaken (codes "dump" ∷ (x ∷ xs) ∷ []) (dump (x ∷ xs))
-unfolding clap_on_literals
-file_word x xs false is e = (simp is refl, simp is refl)
-file_word x xs true is e = short_word x xs is e
-
-pub dump_taken : (file : Text) → is_file_word file ≡ true → IsTaken (codes "dump" ∷ file ∷ []) (dump file)
-unfolding clap_on_literals
-dump_taken [] e = (refl, refl)
-dump_taken (x ∷ xs) e = file_word x xs (x == 45) refl e
-
-pub escaped_taken : (file : Text) → IsTaken (codes "dump" ∷ codes "--" ∷ file ∷ []) (dump file)
-unfolding clap_on_literals
-escaped_taken file = (refl, refl)
-
 -- ---- what a refusal is told as
 
 first_told : (kinds : Kinds) (k : ErrorKind) → SameTold kinds → IsAmong k kinds → option_map told_as (slice_get kinds 0) ≡ Some (told_as k)

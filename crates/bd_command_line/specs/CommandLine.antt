@@ -1,7 +1,7 @@
 -- What the words of a line order, by the parser's own definition of the lines that it takes.
 use Rattle.std.specs.Prelude.{ℕ, List, [], ◌∷◌, Bool, not, ◌&&◌, map, codes, Option, Some, None, true}
 use Rattle.std.specs.Prelude.{option_and_then, option_map, if◌then◌else◌, String, string_bytes}
-use Rattle.std.specs.Prelude.{◌≡◌, ◌==◌, Result, MatchResult, false, slice_get, unwrap_or}
+use Rattle.std.specs.Prelude.{◌≡◌, ◌==◌, ◌⊎◌, Result, MatchResult, false, slice_get, unwrap_or}
 use Rattle.std.specs.Str.{bytes_eq}
 use Rattle.std.specs.Option.{option_map_or, option_or}
 use Rattle.std.specs.Str.Parse.{digits_value, without_leading_plus}
@@ -75,6 +75,12 @@ pub data OrderView : Type 0 where
   pack : Text → OrderView
   find : Text → FindWords → OrderView
   serve : Text → OrderView
+
+-- a command that takes a file and nothing else, and its order
+abbrev pub IsFileCommand : Text → (Text → OrderView) → Type 0
+IsFileCommand name order =
+    ((name ≡ codes "dump") × (order ≡ dump)) ⊎ ((name ≡ codes "check") × (order ≡ check))
+    ⊎ ((name ≡ codes "pack") × (order ≡ pack)) ⊎ ((name ≡ codes "serve") × (order ≡ serve))
 
 abbrev pub meant : Order → OrderView
 meant (Dump file) = dump (string_bytes file)

@@ -1,5 +1,5 @@
 -- What the options of `find` say.
-use Rattle.std.specs.Prelude.{ℕ, List, Option, None, option_map, string_bytes}
+use Rattle.std.specs.Prelude.{ℕ, List, Option, option_map, string_bytes}
 use Rattle.bd_command_line.specs.declared.order.FindOptions.{FindOptions}
 
 pub record FindWords : Type 0 where
@@ -10,10 +10,6 @@ pub record FindWords : Type 0 where
   pub batch : Option ℕ
   pub index : Option (List ℕ)
   pub after : Option (List ℕ)
-
--- no option is given
-abbrev pub no_options : FindWords
-no_options = record { query = None; sort = None; skip = 0; limit = 0; batch = None; index = None; after = None }
 
 abbrev pub find_words_of : FindOptions → FindWords
 find_words_of options = record {

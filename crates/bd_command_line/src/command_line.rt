@@ -1,10 +1,9 @@
 //! Reads the words of a line.
-ghost use Rattle.std.specs.Prelude.{◌≡◌, ◌≢◌, ◌≤◌, ◌⊎◌, IfErr, IfOk, IsErrOf, IsSome, IsTrue, List, None, Some, [], ◌∷◌, codes, decimal, false, true, ℕ};
+ghost use Rattle.std.specs.Prelude.{◌≡◌, ◌⊎◌, IfErr, IfOk, IsErrOf, IsSome, IsTrue, List, None, Some, [], ◌∷◌, codes, false, true, ℕ};
 ghost use Rattle.clap.specs.Simple.{with_subcommand};
 ghost use Rattle.clap.specs.Words.{app_of, found_of, kind_of, rows_of, rule_of, takes};
 ghost use Rattle.clap.specs.declared.builder.command.Command.TheViews.{out-Command as fields_of};
-ghost use Rattle.bd_command_line.specs.CommandLine.{GivesOrder, check, dump, fault_for, file_app, file_rule, files_app, find, is_file_word, is_help_line, is_serve_input_line, is_serve_of_input, line_app, meant, order_of, ordered_by, pack, parser_refusal, serve, serves_input, told_as, top_app, words_of};
-ghost use Rattle.bd_command_line.specs.FindWords.{no_options};
+ghost use Rattle.bd_command_line.specs.CommandLine.{GivesOrder, IsFileCommand, OrderView, fault_for, file_app, file_rule, files_app, is_file_word, is_help_line, is_serve_input_line, is_serve_of_input, line_app, meant, order_of, ordered_by, parser_refusal, serves_input, told_as, top_app, words_of};
 ghost use Rattle.bd_command_line.specs.declared.order.WordsFault.TheVariants.{NoMemory};
 
 use crate::find_words::{find_command, find_order};
@@ -197,59 +196,13 @@ pub fn parse_words(alloc: Global, words: &[String]) -> Result<Order, WordsFault>
     ensures fault { IfErr result (λ f. (f ≡ NoMemory) ⊎ (fault_for (words_of words.now) ≡ Some f)) }
     ensures taken { takes line_app (words_of words.now) ≡ true → serves_input (words_of words.now) ≡ false
         → IfErr result (λ f. f ≡ NoMemory) }
-    ensures dump { (file : List ℕ) → IsTrue (is_file_word file)
-        → words_of words.now ≡ codes "dump" ∷ file ∷ [] → GivesOrder result (dump file) }
-    ensures escaped { (file : List ℕ)
-        → words_of words.now ≡ codes "dump" ∷ codes "--" ∷ file ∷ [] → GivesOrder result (dump file) }
-    ensures check { (file : List ℕ) → IsTrue (is_file_word file)
-        → words_of words.now ≡ codes "check" ∷ file ∷ [] → GivesOrder result (check file) }
-    ensures check_escaped { (file : List ℕ)
-        → words_of words.now ≡ codes "check" ∷ codes "--" ∷ file ∷ [] → GivesOrder result (check file) }
-    ensures pack { (file : List ℕ) → IsTrue (is_file_word file)
-        → words_of words.now ≡ codes "pack" ∷ file ∷ [] → GivesOrder result (pack file) }
-    ensures pack_escaped { (file : List ℕ)
-        → words_of words.now ≡ codes "pack" ∷ codes "--" ∷ file ∷ [] → GivesOrder result (pack file) }
-    ensures find_all { (file : List ℕ) → IsTrue (is_file_word file)
-        → words_of words.now ≡ codes "find" ∷ file ∷ [] → GivesOrder result (find file no_options) }
-    ensures find_all_escaped { (file : List ℕ)
-        → words_of words.now ≡ codes "find" ∷ codes "--" ∷ file ∷ [] → GivesOrder result (find file no_options) }
-    // A query and a sort begin with a brace (123).
-    ensures find { (rest file : List ℕ)
-        → words_of words.now ≡ codes "find" ∷ codes "--query" ∷ (123 ∷ rest) ∷ codes "--" ∷ file ∷ []
-        → GivesOrder result (find file (record no_options { query = Some (123 ∷ rest) })) }
-    ensures find_batch { (rest file : List ℕ) (size : ℕ) → size ≤ 2147483647
-        → words_of words.now ≡ codes "find" ∷ codes "--query" ∷ (123 ∷ rest)
-        ∷ codes "--batch" ∷ decimal size ∷ codes "--" ∷ file ∷ []
-        → GivesOrder result (find file (record no_options { query = Some (123 ∷ rest); batch = Some size })) }
-    ensures find_file_first { (rest file : List ℕ) → IsTrue (is_file_word file)
-        → words_of words.now ≡ codes "find" ∷ file ∷ codes "--query" ∷ (123 ∷ rest) ∷ []
-        → GivesOrder result (find file (record no_options { query = Some (123 ∷ rest) })) }
-    ensures find_file_first_batch { (rest file : List ℕ) (size : ℕ) → IsTrue (is_file_word file) → size ≤ 2147483647
-        → words_of words.now ≡ codes "find" ∷ file ∷ codes "--query" ∷ (123 ∷ rest)
-        ∷ codes "--batch" ∷ decimal size ∷ []
-        → GivesOrder result (find file (record no_options { query = Some (123 ∷ rest); batch = Some size })) }
-    ensures find_options { (query sort path token file : List ℕ) (skip limit size : ℕ)
-        → skip ≤ 2147483647 → limit ≤ 2147483647 → size ≤ 2147483647
-        → IsTrue (is_file_word path) → IsTrue (is_file_word token)
-        → words_of words.now ≡ codes "find" ∷ codes "--query" ∷ (123 ∷ query) ∷ codes "--sort" ∷ (123 ∷ sort)
-        ∷ codes "--skip" ∷ decimal skip ∷ codes "--limit" ∷ decimal limit ∷ codes "--batch" ∷ decimal size
-        ∷ codes "--index" ∷ path ∷ codes "--after" ∷ token ∷ codes "--" ∷ file ∷ []
-        → GivesOrder result (find file (record {
-          query = Some (123 ∷ query);
-          sort = Some (123 ∷ sort);
-          skip = skip;
-          limit = limit;
-          batch = Some size;
-          index = Some path;
-          after = Some token;
-        })) }
-    ensures serve { (file : List ℕ) → IsTrue (is_file_word file) → file ≢ codes "-"
-        → words_of words.now ≡ codes "serve" ∷ file ∷ [] → GivesOrder result (serve file) }
-    ensures serve_escaped { (file : List ℕ) → file ≢ codes "-"
-        → words_of words.now ≡ codes "serve" ∷ codes "--" ∷ file ∷ [] → GivesOrder result (serve file) }
-    ensures serve_input { words_of words.now ≡ codes "serve" ∷ codes "-" ∷ [] → IsErrOf result WordsFault.Usage }
-    ensures serve_input_escaped { words_of words.now ≡ codes "serve" ∷ codes "--" ∷ codes "-" ∷ []
-        → IsErrOf result WordsFault.Usage }
+    // A command that takes a file and nothing else: its file as it stands, or after `--`.
+    ensures file { (name file : List ℕ) (order : List ℕ → OrderView) → IsFileCommand name order → IsTrue (is_file_word file)
+        → is_serve_of_input (order file) ≡ false → words_of words.now ≡ name ∷ file ∷ [] → GivesOrder result (order file) }
+    ensures escaped { (name file : List ℕ) (order : List ℕ → OrderView) → IsFileCommand name order
+        → is_serve_of_input (order file) ≡ false → words_of words.now ≡ name ∷ codes "--" ∷ file ∷ []
+        → GivesOrder result (order file) }
+    ensures serve_input { IsTrue (is_serve_input_line (words_of words.now)) → IsErrOf result WordsFault.Usage }
     ensures help_word { IsTrue (is_help_line (words_of words.now)) → IsErrOf result WordsFault.Usage }
 {
     if begins_with_help(words) {
