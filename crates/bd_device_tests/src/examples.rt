@@ -1,7 +1,9 @@
-//! The examples of use in the roots of `bd_device` and `bd_lines`.
+//! The examples of use in the roots of `bd_device`, `bd_gathering` and `bd_lines`.
 use crate::numbered::Numbered;
-use bd_device::{Limits, MemoryInput, MemoryOutput, read_all};
+use bd_device::{Limits, MemoryInput, MemoryOutput, SystemOutput, read_all, write_all};
+use bd_gathering::{Fate, GatheredOutput, Gathering, hand_on};
 use bd_lines::{LineBuffer, serve};
+use std::cell::RefCell;
 use std::test::Fail;
 
 #[test]
@@ -50,4 +52,15 @@ fn device(rt: HostRuntime) -> Result<(), Fail> {
     // Three reads give bytes, and one finds the end.
     assert!(rt; input.calls() == 4);
     Ok(())
+}
+
+#[test]
+fn gathered(rt: HostRuntime) {
+    let alloc = rt.alloc();
+    let gathering = RefCell::new(Gathering::new(alloc, Vec::new(alloc)));
+    let mut out = SystemOutput::new(GatheredOutput {
+        gathering: &gathering,
+    });
+    assert!(rt; write_all(&mut out, b"a line\n").is_ok());
+    assert!(rt; hand_on(&gathering) == Fate::Kept);
 }

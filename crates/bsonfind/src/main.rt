@@ -1,14 +1,10 @@
 //! `bsonfind`: the commands of bd_cli over the system's files and standard streams.
-//!
-//! - `gathering`: what waits in memory before the system is handed it.
 #![tactic(auto)]
-
-mod gathering;
 
 use bd_cli::{Status, report};
 use bd_command_line::{Order, WordsFault, parse_words};
 use bd_device::{BufferedInput, SystemInput, SystemOutput, write_all};
-use gathering::{Fate, GatheredOutput, Gathering, TiedError, TiedInput, hand_on};
+use bd_gathering::{Fate, GatheredOutput, Gathering, TiedError, TiedInput, hand_on};
 use std::cell::RefCell;
 use std::io::{BufReader, Read, Stdout};
 use std::os::fd::AsRawFd;
