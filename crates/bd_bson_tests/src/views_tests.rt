@@ -1,6 +1,6 @@
 //! Each call of a view on every kind, and of its copy in memory.
 use crate::samples::{Element, elements, every_kind, is_shown, view};
-use bd_raw::{RawDoc, type_byte};
+use bd_raw::{RawDoc, RawValue, type_byte};
 use bd_value::{Kind, Node, Reading, Tree, to_value};
 use std::alloc::Global;
 use std::test::Fail;
@@ -27,6 +27,26 @@ fn is_element<'a, 'e, N: Node<'a>>(
         && node.first("x").is_some() == (kind == Kind::Doc)
 }
 
+/// Whether each call of a node that finds a field gives this one.
+fn has_element<'a, 'e, N: Node<'a>>(
+    alloc: Global,
+    node: N,
+    i: usize,
+    element: &Element<'e>,
+) -> bool {
+    if node.kind() != Kind::Doc || i >= node.len() {
+        return false;
+    }
+    let (pair_name, pair) = node.pair(i);
+    let (field_name, field) = node.field(i);
+    let Some(first) = node.first(element.0) else {
+        return false;
+    };
+    is_element(alloc, pair_name, pair, element)
+        && is_element(alloc, field_name, field, element)
+        && is_element(alloc, element.0, first, element)
+}
+
 /// Whether the node is the document of every kind, by each call that gives a field.
 fn has_every_kind<'a, N: Node<'a>>(alloc: Global, node: N) -> bool {
     if node.kind() != Kind::Doc || node.len() != 19 || node.scalar().is_some() {
@@ -34,22 +54,10 @@ fn has_every_kind<'a, N: Node<'a>>(alloc: Global, node: N) -> bool {
     }
     let mut rest = node.parts();
     for (i, element) in elements().iter().enumerate() {
-        if node.kind() != Kind::Doc || i >= node.len() {
-            return false;
-        }
-        let (pair_name, pair) = node.pair(i);
-        let (field_name, field) = node.field(i);
-        let Some(first) = node.first(element.0) else {
-            return false;
-        };
         let Some((name, value, after)) = N::next(&rest) else {
             return false;
         };
-        if !is_element(alloc, pair_name, pair, element)
-            || !is_element(alloc, field_name, field, element)
-            || !is_element(alloc, element.0, first, element)
-            || !is_element(alloc, name, value, element)
-        {
+        if !is_element(alloc, name, value, element) || !has_element(alloc, node, i, element) {
             return false;
         }
         rest = after;
@@ -57,47 +65,57 @@ fn has_every_kind<'a, N: Node<'a>>(alloc: Global, node: N) -> bool {
     N::next(&rest).is_none() && node.first("none").is_none()
 }
 
-/// Whether the view has every kind, by each call of the view and of its elements.
-fn sees_every_kind(alloc: Global, document: RawDoc<'_>) -> bool {
+/// Whether each call of a view and of its elements that finds one by its index gives this one.
+fn sees_at(alloc: Global, document: RawDoc<'_>, i: usize, element: &Element<'_>) -> bool {
     let all = document.elements();
-    if document.is_empty() || document.len() != 19 || all.count() != 19 {
+    if i >= document.len() || i >= all.count() {
         return false;
     }
-    let mut rest = all;
-    for i in 0..19 {
-        let Some(element) = elements().get(i) else {
-            return false;
-        };
-        let (label, _, shown) = *element;
-        let Some(first) = document.first(label) else {
-            return false;
-        };
-        let Some(found) = all.find(label) else {
-            return false;
-        };
+    let (pair_name, pair) = document.pair(i);
+    let (nth_name, nth) = all.nth(i);
+    is_element(alloc, pair_name, pair, element) && is_element(alloc, nth_name, nth, element)
+}
+
+/// Whether each call of a view and of its elements that finds one by its name gives this one.
+fn sees_by_name(alloc: Global, document: RawDoc<'_>, element: &Element<'_>) -> bool {
+    let Some(first) = document.first(element.0) else {
+        return false;
+    };
+    let Some(found) = document.elements().find(element.0) else {
+        return false;
+    };
+    is_element(alloc, element.0, first, element) && is_element(alloc, element.0, found, element)
+}
+
+/// Whether a view's value has elements exactly where it is no scalar, and its copy is shown as it.
+fn is_seen(alloc: Global, value: RawValue<'_>, shown: &str) -> bool {
+    let copy = value.to_value(alloc);
+    value.elements().is_some() == value.scalar().is_none()
+        && copy.is_ok_and(|copy| is_shown(alloc, Tree::Value(&copy), shown))
+}
+
+/// Whether the view has every kind, by each call of the view and of its elements.
+fn sees_every_kind(alloc: Global, document: RawDoc<'_>) -> bool {
+    if document.is_empty() || document.len() != 19 || document.first("none").is_some() {
+        return false;
+    }
+    let mut rest = document.elements();
+    for (i, element) in elements().iter().enumerate() {
+        let count = rest.count();
         let Some((name, value, after)) = rest.next() else {
             return false;
         };
-        let copy = value.to_value(alloc);
-        if rest.count() != 19 - i
-            || value.elements().is_some() != value.scalar().is_none()
-            || !copy.is_ok_and(|copy| is_shown(alloc, Tree::Value(&copy), shown))
-        {
-            return false;
-        }
-        let (pair_name, pair) = document.pair(i);
-        let (nth_name, nth) = all.nth(i);
-        if !is_element(alloc, name, value, element)
-            || !is_element(alloc, pair_name, pair, element)
-            || !is_element(alloc, nth_name, nth, element)
-            || !is_element(alloc, label, first, element)
-            || !is_element(alloc, label, found, element)
+        if count != 19_usize.saturating_sub(i)
+            || !is_element(alloc, name, value, element)
+            || !is_seen(alloc, value, element.2)
+            || !sees_at(alloc, document, i, element)
+            || !sees_by_name(alloc, document, element)
         {
             return false;
         }
         rest = after;
     }
-    rest.next().is_none() && all.find("none").is_none() && document.first("none").is_none()
+    rest.next().is_none() && document.elements().find("none").is_none()
 }
 
 #[test]
