@@ -37,19 +37,20 @@ abbrev pub number_rule : Text → Rule
 number_rule name =
     record (new_rule name) { long = Some name; action = Some Set; parser = Some (Unsigned 0 2147483647) }
 
--- `find` with its query and its sort
-abbrev pub sorted_app : App
-sorted_app =
-    with_rule (with_rule (file_app (codes "find")) (text_rule (codes "query"))) (text_rule (codes "sort"))
+-- one or the other
+abbrev pub option_rule : Text → Bool → Rule
+option_rule name takes_number = if takes_number then number_rule name else text_rule name
 
--- the same with the numbers that cut the answer
-abbrev pub cut_app : App
-cut_app = with_rule (with_rule sorted_app (number_rule (codes "skip"))) (number_rule (codes "limit"))
+-- a command with these options more, and whether each takes a number
+abbrev pub with_options : App → List (Text × Bool) → App
+with_options app [] = app
+with_options app (o ∷ os) = with_options (with_rule app (option_rule o.0 o.1)) os
 
--- `find` with all its options
+-- `find` with all its options, and whether each takes a number
 abbrev pub find_app : App
-find_app =
-    with_rule (with_rule (with_rule cut_app (number_rule (codes "batch"))) (text_rule (codes "index"))) (text_rule (codes "after"))
+find_app = with_options (file_app (codes "find"))
+    ((codes "query", false) ∷ (codes "sort", false) ∷ (codes "skip", true) ∷ (codes "limit", true)
+    ∷ (codes "batch", true) ∷ (codes "index", false) ∷ (codes "after", false) ∷ [])
 
 -- the line without its commands
 abbrev pub top_app : App

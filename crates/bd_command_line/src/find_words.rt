@@ -1,9 +1,8 @@
 //! The words of `find`.
-ghost use Rattle.std.specs.Prelude.{◌≡◌, IfErr, IfOk, codes, false, option_map, string_bytes};
-ghost use Rattle.clap.specs.Simple.{with_rule};
+ghost use Rattle.std.specs.Prelude.{◌≡◌, IfErr, IfOk, codes, false, map, option_map, string_bytes};
 ghost use Rattle.clap.specs.Words.{app_of, first_of, found_of, rows_of, rule_of};
 ghost use Rattle.clap.specs.declared.builder.command.Command.TheViews.{out-Command as fields_of};
-ghost use Rattle.bd_command_line.specs.CommandLine.{cut_app, find_app, find_ordered, find_words_in, meant, number_rule, option_number, sorted_app, text_rule};
+ghost use Rattle.bd_command_line.specs.CommandLine.{find_app, find_ordered, find_words_in, meant, option_number, option_rule, text_rule, with_options};
 ghost use Rattle.bd_command_line.specs.FindWords.{find_words_of};
 ghost use Rattle.bd_command_line.specs.declared.order.WordsFault.TheVariants.{NoMemory};
 
@@ -13,6 +12,17 @@ use clap::builder::ValueParser;
 use clap::{Arg, ArgAction, ArgMatches, Command};
 use std::alloc::{AllocError, Global};
 
+/// The options of `find`, and whether each takes a number and not a text.
+const OPTIONS: [(&str, bool); 7] = [
+    ("query", false),
+    ("sort", false),
+    ("skip", true),
+    ("limit", true),
+    ("batch", true),
+    ("index", false),
+    ("after", false),
+];
+
 fn text_argument<'a>(alloc: Global, name: &'a str) -> Arg<'a>
     ensures rule { rule_of result ≡ text_rule name.entry.now }
     ensures local { result.global ≡ false }
@@ -20,60 +30,33 @@ fn text_argument<'a>(alloc: Global, name: &'a str) -> Arg<'a>
     Arg::new(alloc, name).long(name).action(ArgAction::Set)
 }
 
-fn number_argument<'a>(alloc: Global, name: &'a str) -> Arg<'a>
-    ensures rule { rule_of result ≡ number_rule name.entry.now }
+fn option_argument<'a>(alloc: Global, name: &'a str, takes_number: bool) -> Arg<'a>
+    ensures rule { rule_of result ≡ option_rule name.entry.now takes_number }
     ensures local { result.global ≡ false }
 {
-    Arg::new(alloc, name)
-        .long(name)
-        .action(ArgAction::Set)
-        .value_parser(ValueParser::unsigned(0, 2_147_483_647))
+    let text = text_argument(alloc, name);
+    if takes_number {
+        text.value_parser(ValueParser::unsigned(0, 2_147_483_647))
+    } else {
+        text
+    }
 }
 
-/// A command with one option more, which takes a text.
-fn with_text<'a>(
+/// A command with these options more, and whether each takes a number.
+fn with_options<'a>(
     alloc: Global,
     command: Command<'a>,
-    name: &'a str,
+    options: &[(&'a str, bool)],
 ) -> Result<Command<'a>, AllocError>
     requires { (fields_of command).has_globals ≡ false }
-    ensures app { IfOk result (λ c. app_of c ≡ with_rule (app_of command.entry) (text_rule name.entry.now)) }
+    ensures app { IfOk result (λ c. app_of c ≡ with_options (app_of command.entry) (map (λ o. (o.0.now, o.1)) options.now)) }
     ensures local { IfOk result (λ c. (fields_of c).has_globals ≡ false) }
 {
-    command.arg(text_argument(alloc, name))
-}
-
-/// A command with one option more, which takes a number.
-fn with_number<'a>(
-    alloc: Global,
-    command: Command<'a>,
-    name: &'a str,
-) -> Result<Command<'a>, AllocError>
-    requires { (fields_of command).has_globals ≡ false }
-    ensures app { IfOk result (λ c. app_of c ≡ with_rule (app_of command.entry) (number_rule name.entry.now)) }
-    ensures local { IfOk result (λ c. (fields_of c).has_globals ≡ false) }
-{
-    command.arg(number_argument(alloc, name))
-}
-
-/// The command `find` with its query and its sort.
-fn sorted_command<'a>(alloc: Global) -> Result<Command<'a>, AllocError>
-    ensures app { IfOk result (λ c. app_of c ≡ sorted_app) }
-    ensures local { IfOk result (λ c. (fields_of c).has_globals ≡ false) }
-{
-    let command = of_file(alloc, "find")?;
-    let command = with_text(alloc, command, "query")?;
-    with_text(alloc, command, "sort")
-}
-
-/// The same with the numbers that cut the answer.
-fn cut_command<'a>(alloc: Global) -> Result<Command<'a>, AllocError>
-    ensures app { IfOk result (λ c. app_of c ≡ cut_app) }
-    ensures local { IfOk result (λ c. (fields_of c).has_globals ≡ false) }
-{
-    let command = sorted_command(alloc)?;
-    let command = with_number(alloc, command, "skip")?;
-    with_number(alloc, command, "limit")
+    let mut with = command;
+    for (name, takes_number) in options {
+        with = with.arg(option_argument(alloc, name, *takes_number))?;
+    }
+    Ok(with)
 }
 
 /// The command `find` with all its options.
@@ -81,10 +64,7 @@ pub fn find_command<'a>(alloc: Global) -> Result<Command<'a>, AllocError>
     ensures app { IfOk result (λ c. app_of c ≡ find_app) }
     ensures local { IfOk result (λ c. (fields_of c).has_globals ≡ false) }
 {
-    let command = cut_command(alloc)?;
-    let command = with_number(alloc, command, "batch")?;
-    let command = with_text(alloc, command, "index")?;
-    with_text(alloc, command, "after")
+    with_options(alloc, of_file(alloc, "find")?, &OPTIONS)
 }
 
 /// The text of an option, where it is given.
