@@ -1,7 +1,5 @@
 //! The examples of use in the roots of `bd_answer`, `bd_command`, `bd_cursor`, `bd_plan`, `bd_reply`, `bd_request`, `bd_service` and `bd_sort`.
-use crate::reply_samples::three;
-use crate::samples::{FIVE, read_documents};
-use crate::session_samples::{read_documents, read_request};
+use crate::samples::{five, read_documents, read_request, three};
 use bd_answer::{PlaceSource, Scan};
 use bd_command::{Command, CommandFault, read_command};
 use bd_cursor::{Choice, Request, Session};
@@ -18,7 +16,7 @@ use std::test::Fail;
 #[test]
 fn a_talk(rt: HostRuntime) -> Result<(), Fail> {
     let alloc = rt.alloc();
-    let dump = read_documents(alloc, FIVE)?;
+    let dump = five(alloc)?;
     let mut service = Service::new(alloc, dump);
     let mut text = Vec::new(alloc);
     service.reply(b"{\"find\":{}}", &mut text)?;

@@ -1,5 +1,5 @@
 //! What no command shows.
-use crate::session_samples::{read_documents, read_request};
+use crate::samples::{read_documents, read_request};
 use bd_cursor::{Choice, Refused, Request, Session, Token};
 use bd_extjson::read_doc;
 use std::test::Fail;

@@ -11,10 +11,6 @@ mod hand_tests;
 #[cfg(test)]
 mod read_tests;
 #[cfg(test)]
-mod reply_samples;
-#[cfg(test)]
 mod reply_tests;
 #[cfg(test)]
 mod samples;
-#[cfg(test)]
-mod session_samples;

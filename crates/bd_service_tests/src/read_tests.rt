@@ -1,5 +1,5 @@
 //! How many documents are read, which no contract tells.
-use crate::session_samples::{read_documents, read_request};
+use crate::samples::{read_documents, read_request};
 use bd_cursor::{Choice, Session};
 use bd_path::Path;
 use std::alloc::Global;

@@ -1,5 +1,5 @@
 //! Replies made by hand, which no talk shows.
-use crate::reply_samples::three;
+use crate::samples::three;
 use bd_cursor::{Batch, Explain, Made, Plan};
 use bd_reply::{Reply, write_reply};
 use std::alloc::Global;
