@@ -1,8 +1,14 @@
 #!/usr/bin/env python3
 """Runs what the documents show with ./bsonfind: README.md up to its first heading, the recipes of docs/GUIDE.md, the examples of
-the man page. Of the first two it compares what is printed, line by line in any order; of the last the status has to be 0.
+the man page.
 
-usage: tests/guide.py     The last line is 'N passed, M failed'; jq is wanted.
+usage: tests/guide.py     The last line is 'N passed, M failed'. It needs jq.
+
+- Of README.md and the guide what is printed is compared, line by line in any order.
+- The status is 0, unless the lines show a fault.
+- Each command that reads a file is also run where this file is damaged, and where it is missing. Its status is then not 0, and no
+  script prints a traceback.
+- The first command of a document is `set -o pipefail`, and none throws standard error away.
 """
 
 import gzip
@@ -16,13 +22,55 @@ from pathlib import Path
 from typing import NamedTuple
 
 ROOT = Path(__file__).resolve().parent.parent
+# What a command writes, and a word of it that may name a file.
+WRITTEN = re.compile(r"\d?>>?\s*\S+|\bmv \S+ \S+|\bof=\S+")
+WORD = re.compile(r"(?<![\w./$*-])(?<!bsonfind )\w[\w./*-]*")
+FUNCTION = re.compile(r"(\w+)\(\) \{")
+# Programs that see a damaged file; cp, head and others take it as it is.
+JUDGES = re.compile(r"\b(?:bsonfind|python3|bash)\b")
+FAULT = re.compile(r"\bbsonfind: |^\w+\.(?:py|sh): |, [1-9]\d* faulty$", re.MULTILINE)
 
 
 class Step(NamedTuple):
-    """A command, and what is to be printed; where that is None the status is looked at."""
+    """A command, and what is to be printed; None where that is not shown."""
 
     command: str
     wanted: str | None
+
+
+class Shell:
+    """A bash that runs one command after the other, and keeps what they define."""
+
+    LOOP = 'while IFS= read -rd "" command; do eval "$command" </dev/null >"$0" 2>&1; echo $?; done'
+
+    def __init__(self, room: Path, printed: Path) -> None:
+        env = {**os.environ, "PATH": f"{ROOT}:{os.environ['PATH']}", "LC_ALL": "C"}
+        self.printed = printed
+        pipe = subprocess.PIPE
+        self.bash = subprocess.Popen(["bash", "-c", self.LOOP, printed], cwd=room, env=env, stdin=pipe, stdout=pipe, text=True)
+
+    def run(self, command: str) -> tuple[int | None, str]:
+        """The status of a command, None where the shell has ended, and what it prints on both streams."""
+        try:
+            print(command, end="\0", file=self.bash.stdin, flush=True)
+        except BrokenPipeError:
+            return None, "not run\n"
+        status = self.bash.stdout.readline()
+        return int(status) if status else None, self.printed.read_text(encoding="utf-8", errors="replace")
+
+
+class Counts:
+    """Counts what passed."""
+
+    def __init__(self) -> None:
+        self.passed = self.failed = 0
+
+    def want(self, is_so: bool, name: str, text: str) -> None:
+        if is_so:
+            self.passed += 1
+        else:
+            self.failed += 1
+            print(f"FAILED: {name}\n{text}")
 
 
 def recipes(text: str, room: Path) -> list[Step]:
@@ -34,7 +82,7 @@ def recipes(text: str, room: Path) -> list[Step]:
         ended = block.end()
         lines = re.sub("^    ", "", block[0].strip("\n"), flags=re.MULTILINE)
         content, *commands = re.split(r"^\$ ", lines, flags=re.MULTILINE)
-        name = re.search(r"`(\w+\.(?:py|sh|json))`", paragraph)
+        name = re.search(r"`(\w+\.(?:py|sh|json|log))`", paragraph)
         if content and name:
             Path(room, name[1]).write_text(content.strip("\n") + "\n", encoding="utf-8")
         for command in commands:
@@ -44,7 +92,8 @@ def recipes(text: str, room: Path) -> list[Step]:
 
 
 def examples(text: str) -> list[Step]:
-    """The examples of the man page, as they are typed."""
+    """The examples of the man page, as they are typed. A line that ends with a pipe or && goes on in the next one."""
+    text = re.sub(r"(\||&&)\n\.Dl \\& *", r"\1 ", text)
     for escape, typed in ((r"\(dq", '"'), (r"\(aq", "'"), (r"\-", "-"), (r"\e", "\\")):
         text = text.replace(escape, typed)
     return [Step(line, None) for line in re.findall(r"^\.Dl \$ (.*)$", text, re.MULTILINE)]
@@ -55,28 +104,60 @@ def printed(text: str) -> list[str]:
     return sorted(line.strip() for line in text.splitlines())
 
 
-def failures(steps: list[Step], room: Path) -> int:
-    """How many steps fail, all by one shell, one after the other."""
-    env = {**os.environ, "PATH": f"{ROOT}:{os.environ['PATH']}", "LC_ALL": "C"}
-    failed = 0
-    with tempfile.TemporaryDirectory() as shown:
-        script = [f"exec >{shown}/{at} 2>&1\n{step.command}\necho $? >{shown}/{at}.status" for at, step in enumerate(steps)]
-        subprocess.run(["bash", "-c", "\n".join(script)], cwd=room, env=env, stdin=subprocess.DEVNULL)
-        for at, step in enumerate(steps):
-            out, status = Path(shown, str(at)), Path(shown, f"{at}.status")
-            text = out.read_text(encoding="utf-8", errors="replace") if out.exists() else "not run\n"
-            if step.wanted is None:
-                passes = status.exists() and status.read_text() == "0\n"
+def inputs(command: str, room: Path) -> dict[str, list[Path]]:
+    """The files that a command reads, below the room, by the word that names them: a file, a pattern or a folder."""
+    written = WORD.findall(" ".join(WRITTEN.findall(command)))
+    found = {}
+    for word in dict.fromkeys(it for it in WORD.findall(command) if it not in written):
+        files = [below for it in room.glob(word) for below in (it.rglob("*") if it.is_dir() else [it]) if below.is_file()]
+        if files := [it.relative_to(room) for it in files if it.suffix not in (".py", ".sh")]:
+            found[word] = files
+    return found
+
+
+def damage(file: Path) -> None:
+    """Makes the length of the second document of a dump wrong; takes the end of another file away."""
+    data = file.read_bytes()
+    if file.suffix == ".bson":
+        second = int.from_bytes(data[:4], "little")
+        file.write_bytes(data[:second] + b"\xff\xff\xff\x7f" + data[second + 4 :])
+    else:
+        file.write_bytes(data[:-3])
+
+
+def run_harmed(command: str, reads: str, shell: Shell, room: Path, counts: Counts) -> None:
+    """Runs a command where each of its inputs is damaged, and missing, in a copy of the room. A text says what it reads."""
+    for word, files in inputs(reads, room).items():
+        for harm in (damage, Path.unlink) if JUDGES.search(reads) else (Path.unlink,):
+            with tempfile.TemporaryDirectory() as folder:
+                copy = Path(folder, "room")
+                shutil.copytree(room, copy)
+                for file in files:
+                    harm(copy / file)
+                status, text = shell.run(f"(cd {copy}\n{command}\n)")
+            how = "damaged" if harm is damage else "missing"
+            counts.want(status != 0 and "Traceback" not in text, f"with {word} {how} the status is {status}: {command}", text)
+
+
+def run(steps: list[Step], room: Path, counts: Counts) -> None:
+    """Runs commands by one shell, one after the other."""
+    functions: dict[str, str] = {}
+    with tempfile.TemporaryDirectory() as folder:
+        shell = Shell(room, Path(folder, "printed"))
+        for command, wanted in steps:
+            if name := FUNCTION.match(command):
+                functions[name[1]] = command
             else:
-                passes = printed(text) == printed(step.wanted)
-            if not passes:
-                failed += 1
-                print(f"FAILED: {step.command}\n{text}")
-    return failed
+                body = functions.get(command.partition(" ")[0], "")
+                run_harmed(command, f"{command}\n{body}", shell, room, counts)
+            status, text = shell.run(command)
+            shows = wanted is None or printed(text) == printed(wanted)
+            counts.want(shows and (status == 0) != bool(FAULT.search(wanted or "")), f"status {status}: {command}", text)
+        shell.bash.communicate()
 
 
 def main() -> int:
-    passed = failed = 0
+    counts = Counts()
     for name in ("README.md", "docs/GUIDE.md", "docs/bsonfind.1"):
         text = (ROOT / name).read_text(encoding="utf-8")
         with tempfile.TemporaryDirectory() as folder:
@@ -89,11 +170,11 @@ def main() -> int:
                 steps = examples(text)
             else:
                 steps = recipes(text.partition("\n## ")[0] if name == "README.md" else text, room)
-            count = failures(steps, room)
-        passed += len(steps) - count
-        failed += count
-    print(f"{passed} passed, {failed} failed")
-    return 1 if failed else 0
+            counts.want(steps[0].command == "set -o pipefail", f"the first command of {name}", steps[0].command)
+            counts.want(not re.search(r"[2&]> *&?/dev/null", text), f"{name} throws no standard error away", "")
+            run(steps, room, counts)
+    print(f"{counts.passed} passed, {counts.failed} failed")
+    return 1 if counts.failed else 0
 
 
 if __name__ == "__main__":
