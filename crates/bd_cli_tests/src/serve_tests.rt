@@ -47,7 +47,7 @@ fn serves_until_a_call_fails(rt: HostRuntime) {
         // Where there is no dump none is read.
         (BAD_AND_ONE, 1, 200, None, None, 0, UNSERVED, 0),
     ] {
-        assert!(rt; most > 0 && size > 0 && shown <= REPLIES.len());
+        assert!(rt; most > 0 && size > 0);
         let order = order_of(rt.alloc(), Command::Serve, None);
         let mut file = MemoryInput::new(dump, 5, None);
         let mut commands = MemoryInput::new(COMMANDS, most, failing);
@@ -59,7 +59,7 @@ fn serves_until_a_call_fails(rt: HostRuntime) {
         let status = run(alloc, &order, &mut file, &mut commands, &mut out, &mut err);
         assert!(rt; (status == Status::Done) == wanted.is_empty() && status != Status::Usage);
         assert!(rt;
-            out.bytes() == &REPLIES[..shown],
+            REPLIES.starts_with(out.bytes()) && out.bytes().len() == shown,
             "{most} a read, {calls} reads"
         );
         assert!(rt;

@@ -8,16 +8,14 @@ use bd_device::{FailingWrite, MemoryInput, MemoryOutput};
 use std::alloc::Global;
 
 /// A command, its file, and what it shows where no write fails: on standard output, on standard error, and by its status.
-type Whole = (Command, Bytes, Bytes, Bytes, Status);
-
-type Bytes = &'static [u8];
+type Whole<'a> = (Command, &'a [u8], &'a [u8], &'a [u8], Status);
 
 /// Whether the write was made that fails; none where the run shows what it should not. Standard output has a front of the whole
 /// text where it fails, and all of it where standard error fails.
 fn is_reached(
     alloc: Global,
     order: &Order,
-    whole: Whole,
+    whole: Whole<'_>,
     size: usize,
     on_output: bool,
     failing: FailingWrite,
@@ -39,7 +37,7 @@ fn is_reached(
     let is_right = if out.failures() > 0 {
         whole_out.starts_with(out.bytes()) && err.bytes() == b"bsonfind: cannot write\n".as_slice()
     } else {
-        whole_out == out.bytes() && whole_err.starts_with(err.bytes())
+        out.bytes() == whole_out && whole_err.starts_with(err.bytes())
     };
     let is_ended = if has_failed {
         status == Failed
@@ -58,7 +56,7 @@ fn is_reached(
 fn writes(
     alloc: Global,
     order: &Order,
-    whole: Whole,
+    whole: Whole<'_>,
     size: usize,
     on_output: bool,
     zero: bool,
@@ -93,7 +91,7 @@ const TWO_PACKED: &[u8] = b"bsonfind: line 3, byte 5: not in the profile\n2 obje
 const FOUND: &[u8] =
     b"1 documents, end, token AQEAAAAAAAAAAAAAAFDfrHT7xyEvSkJ2TtexnfO4OqxgF4gXR6W1rQY99ieN\n";
 
-const RUNS: [Whole; 5] = [
+const RUNS: [Whole<'static>; 5] = [
     (Command::Dump, ONE_AND_CUT, ONE_LINE, CUT, Failed),
     (Command::Check, BAD_AND_ONE, FAULT, BAD_COUNT, Failed),
     (Command::Pack, LINES, TWO, TWO_PACKED, Failed),
