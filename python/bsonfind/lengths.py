@@ -1,0 +1,50 @@
+"""The lengths with which the documents of a dump begin."""
+
+from __future__ import annotations
+
+import os
+import struct
+from typing import BinaryIO, Iterator
+
+from .errors import DumpError
+from .faults import Fault
+
+SHORTEST, LONGEST = 5, 16_793_600
+_PIECE = 1 << 18
+_length_at = struct.Struct("<i").unpack_from
+
+
+def is_length(length: int, left: int) -> bool:
+    """Whether a document of that length may begin where so many bytes are left."""
+    return SHORTEST <= length <= min(LONGEST, left)
+
+
+def walk(file: BinaryIO, start: int = 0, end: int | None = None) -> Iterator[int]:
+    """The place after each document that stands from a place on, by its length alone.
+
+    A length that is wrong is a `DumpError`; its fault counts documents from the first that was passed. The file is read a piece
+    at a time, and long documents are passed over. No map of the file is made, since the system ends a program that looks at a map
+    of a file that shrinks.
+    """
+    descriptor = file.fileno()
+    end = os.fstat(descriptor).st_size if end is None else end
+    at, number = start, 0
+    # The piece that is held, where it begins, and the last place in it of a whole length.
+    piece, base, last = b"", start, start - 1
+    while at < end:
+        if at > last:
+            piece, base = os.pread(descriptor, _PIECE, at), at
+            last = base + len(piece) - 4
+            if at > last:
+                raise _bad(number, at, "length cut short")
+        (length,) = _length_at(piece, at - base)
+        if not SHORTEST <= length <= LONGEST or length > end - at:
+            raise _bad(number, at, "bad length")
+        at += length
+        number += 1
+        yield at
+
+
+def _bad(number: int, at: int, kind: str) -> DumpError:
+    fault = Fault(number, at, "", kind)
+    return DumpError(str(fault), fault)
