@@ -61,7 +61,7 @@ def run_audit(words: argparse.Namespace) -> int:
 
 def _lines(name: str) -> list[str]:
     with open(name, encoding="utf-8", errors="surrogateescape") as file:
-        return file.read().split("\n")[:-1] if name else []
+        return [line for line in file.read().split("\n") if line]
 
 
 def _print_audit(done: Audit, console: Console) -> None:
@@ -80,7 +80,9 @@ def run_salvage(words: argparse.Namespace) -> int:
     """Salvages a file, and gives the status."""
     console = Console()
     with ExitStack() as files:
-        good, bad = (files.enter_context(_output(name, words)) for name in (words.good, words.bad))
+        good, bad = (files.enter_context(_output(name, words.file)) for name in (words.good, words.bad))
+        if os.path.isfile(words.good) and os.path.samefile(words.good, words.bad):
+            raise Refused(f"{words.good} is named twice")
         salvage = Salvage(words.file, good, bad, words.program)
         left_out = 0
         for it in salvage.copy():
@@ -90,9 +92,9 @@ def run_salvage(words: argparse.Namespace) -> int:
     return FAULTY if salvage.bad or left_out else GOOD
 
 
-def _output(name: str, words: argparse.Namespace) -> BinaryIO:
+def _output(name: str, dump: str) -> BinaryIO:
     """A file that is written, and is not the dump."""
-    if os.path.exists(name) and os.path.samefile(name, words.file):
+    if os.path.exists(name) and os.path.samefile(name, dump):
         raise Refused(f"{name} is the dump")
     return open(name, "wb")
 

@@ -19,6 +19,14 @@ def is_length(length: int, left: int) -> bool:
     return SHORTEST <= length <= min(LONGEST, left)
 
 
+def read_at(file: BinaryIO, at: int, most: int, least: int = 1) -> bytes:
+    """Some bytes of a file at a place; an error where the file no longer has so many."""
+    piece = os.pread(file.fileno(), most, at)
+    if len(piece) < least:
+        raise DumpError(f"no bytes at byte {at}: the file became shorter")
+    return piece
+
+
 def walk(file: BinaryIO, start: int = 0, end: int | None = None) -> Iterator[int]:
     """The place after each document that stands from a place on, by its length alone.
 
@@ -26,14 +34,13 @@ def walk(file: BinaryIO, start: int = 0, end: int | None = None) -> Iterator[int
     at a time, and long documents are passed over. No map of the file is made, since the system ends a program that looks at a map
     of a file that shrinks.
     """
-    descriptor = file.fileno()
-    end = os.fstat(descriptor).st_size if end is None else end
+    end = os.fstat(file.fileno()).st_size if end is None else end
     at, number = start, 0
     # The piece that is held, where it begins, and the last place in it of a whole length.
     piece, base, last = b"", start, start - 1
     while at < end:
         if at > last:
-            piece, base = os.pread(descriptor, _PIECE, at), at
+            piece, base = read_at(file, at, min(_PIECE, end - at), min(4, end - at)), at
             last = base + len(piece) - 4
             if at > last:
                 raise _bad(number, at, "length cut short")

@@ -82,6 +82,7 @@ class Run:
         group: Group | None = None,
     ) -> None:
         self._group = group or Group()
+        self._feeder: Feeder | None = None
         self._told = tempfile.TemporaryFile()
         streams = {"stdin": stdin if pieces is None else subprocess.PIPE, "stdout": stdout, "stderr": self._told}
         try:
@@ -89,9 +90,18 @@ class Run:
         except BaseException:
             self._told.close()
             raise
-        self._feeder = None if pieces is None else Feeder(pieces, self.stdin)
-        if self._feeder:
+        if pieces is not None:
+            self._feed(pieces)
+
+    def _feed(self, pieces: Iterable[bytes]) -> None:
+        """Begins to write pieces to standard input."""
+        try:
+            self._feeder = Feeder(pieces, self.stdin)
             self._feeder.start()
+        except BaseException:
+            self._feeder = None
+            self.close()
+            raise
 
     @property
     def stdin(self) -> IO[bytes]:

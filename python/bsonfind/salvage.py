@@ -8,15 +8,16 @@ from typing import BinaryIO, Iterator, NamedTuple
 
 from .checks import faults_of, finish_check
 from .errors import DumpError
-from .lengths import is_length, walk
+from .lengths import is_length, read_at, walk
 from .parts import Part
 from .runs import Run
 
 # From so many documents in a row, or from fewer that end with the file, a place is guessed to be the beginning of a document.
 IN_A_ROW = 4
 _PIECE = 1 << 20
-# A length that a document may have, and the type of its first element.
-_BEGINNING = re.compile(rb"(?=...[\x00\x01][\x01-\x13\x7f\xff])", re.DOTALL)
+# The type of a first element after the last byte of a length. Keys that are least or greatest begin no document that is looked for.
+_BEGINNING = re.compile(rb"[\x01-\x13](?<=[\x00\x01].)", re.DOTALL)
+_BEFORE = 4
 
 
 class LeftOut(NamedTuple):
@@ -86,16 +87,18 @@ class _Stretch:
         """Goes to the end of the next document; stays where its length is wrong."""
         try:
             self.at = next(self._places)
-        except (DumpError, StopIteration):
+        except StopIteration:
+            return False
+        except DumpError as error:
+            if not error.fault:
+                raise
             return False
         return True
 
 
 def _copy_bytes(file: BinaryIO, start: int, end: int, to: BinaryIO) -> None:
     while start < end:
-        piece = os.pread(file.fileno(), min(end - start, _PIECE), start)
-        if not piece:
-            raise DumpError(f"no bytes at byte {start}: the file became shorter")
+        piece = read_at(file, start, min(end - start, _PIECE))
         to.write(piece)
         start += len(piece)
 
@@ -103,12 +106,13 @@ def _copy_bytes(file: BinaryIO, start: int, end: int, to: BinaryIO) -> None:
 def next_beginning(file: BinaryIO, at: int, size: int) -> int | None:
     """The first place from there on from which lengths lead on for several documents, None where there is none."""
     while at < size:
-        piece = os.pread(file.fileno(), _PIECE, at)
-        for found in _BEGINNING.finditer(piece):
-            if _leads_on(file, at + found.start(), size):
-                return at + found.start()
-        # A beginning of five bytes may go over the end of the piece.
-        at += max(len(piece) - 4, 1)
+        piece = read_at(file, at, min(size - at, _PIECE))
+        for found in _BEGINNING.finditer(piece, _BEFORE):
+            beginning = at + found.start() - _BEFORE
+            if _leads_on(file, beginning, size):
+                return beginning
+        # A beginning may go over the end of the piece.
+        at += max(len(piece) - _BEFORE, 1)
     return None
 
 

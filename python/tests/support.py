@@ -63,6 +63,7 @@ class Room(unittest.TestCase):
         python = subprocess.Popen([sys.executable, "-c", code], env=environment(), stderr=subprocess.DEVNULL, stdout=subprocess.DEVNULL)
         pids = self.room / "pids"
         wait_for(lambda: pids.exists() and len(pids.read_text().split()) == stuck)
+        time.sleep(0.5)  # It waits for them by now, even on a busy machine.
         python.send_signal(signal.SIGINT)
         status = python.wait(PATIENCE)
         left = [pid for pid in pids.read_text().split() if Path("/proc", pid).exists()]

@@ -4,6 +4,7 @@ import itertools
 import json
 import pickle
 import random
+import signal
 import sys
 import unittest
 from concurrent.futures import ProcessPoolExecutor, ThreadPoolExecutor
@@ -203,9 +204,10 @@ class BadInput(Room):
         """All programs end where Python alone is interrupted, and none is started after."""
         parts = "from bsonfind import find_parts, plan\nfrom concurrent.futures import ThreadPoolExecutor\n"
         call = f"find_parts(plan({str(PEOPLE)!r}, 10_000), map=%s, program={self.stuck()!r})"
-        self.interrupt(f"{parts}with ThreadPoolExecutor(3) as pool: {call % 'pool.map'}", 6)
+        status = self.interrupt(f"{parts}with ThreadPoolExecutor(3) as pool: {call % 'pool.map'}", 6)
+        self.assertEqual(status, -signal.SIGINT)
         self.assertEqual(len((self.room / "pids").read_text().split()), 6)
 
     def test_interrupt_of_one_after_the_other(self) -> None:
         call = f"find_parts(plan({str(PEOPLE)!r}, 10_000), program={self.stuck()!r})"
-        self.interrupt(f"from bsonfind import find_parts, plan\n{call}", 2)
+        self.assertEqual(self.interrupt(f"from bsonfind import find_parts, plan\n{call}", 2), -signal.SIGINT)

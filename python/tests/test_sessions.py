@@ -227,4 +227,5 @@ class Endings(Room):
     def test_interrupt(self) -> None:
         """No program is left, where Python alone is interrupted while a dump is read."""
         program = self.script('echo $$ >>"$ROOM/pids"\nexec sleep 600')
-        self.interrupt(f"import bsonfind\nbsonfind.Session({str(PEOPLE)!r}, {program!r})", 1)
+        status = self.interrupt(f"import bsonfind\nbsonfind.Session({str(PEOPLE)!r}, {program!r})", 1)
+        self.assertEqual(status, -signal.SIGINT)
