@@ -3,48 +3,27 @@
 from __future__ import annotations
 
 import os
-import subprocess
-import threading
 from collections import deque
 from typing import Any, Iterator, Mapping, Union
 
-from .answers import file_word
+from .connections import Connection
 from .documents import decoder
-from .errors import SessionEnded
 from .replies import Batch, read_batch, read_reply
-from .requests import Filter, Request, Sort, text_of, text_of_pairs, whole
-from .runs import Run
-from .told import error_of
+from .requests import Filter, Request, Sort, text_of, whole
 
 # How documents are to be found: by what the program chooses, by each document, or by the index on a path.
 Use = Union[str, Mapping[str, str]]
-
-LONGEST_COMMAND = 16_777_216
 
 
 class Session:
     """A dump with its indexes and cursors, held by a run of the program to the end of the session.
 
-    Threads may share a session: a command has its reply before the next one is sent. A cursor belongs to one thread at a time.
-    A dump that is refused is a `DumpError` at once.
+    Threads may share a session, and a cursor belongs to one thread at a time. A dump that is refused is a `DumpError` at once, and
+    a `SessionEnded` tells that the program went away later.
     """
 
     def __init__(self, path: str | os.PathLike[str], program: str = "bsonfind") -> None:
-        self._lock = threading.Lock()
-        self._run = Run([program, "serve", file_word(path)], stdin=subprocess.PIPE)
-        self._is_open = True
-        self._left_cursors: deque[int] = deque()
-        try:
-            self._await_dump()
-        except BaseException:
-            self._end()
-            raise
-
-    def _await_dump(self) -> None:
-        """Waits until the dump is read, by a command that changes nothing."""
-        if not self._exchange(b'{"killCursor":0}\n'):
-            status = self._run.wait()
-            raise error_of(status, self._run.told())
+        self._connection = Connection(path, program)
 
     def find(
         self,
@@ -59,68 +38,26 @@ class Session:
     ) -> Cursor:
         """Opens a cursor over an answer, or over what follows a token of the same request."""
         request = Request.of(filter, sort, skip, limit)
-        return Cursor(self, request, use, whole("batch_size", batch_size, 1), after, decode)
+        return Cursor(self._connection, request, use, whole("batch_size", batch_size, 1), after, decode)
 
     def create_index(self, path: str, sparse: bool = False) -> dict[str, Any]:
         """Makes an index on a path: how many `entries` it has, and whether a document has more than one (`multikey`)."""
-        return read_reply(self.command([("createIndex", text_of(path)), ("sparse", text_of(sparse))]))
+        return read_reply(self._connection.ask([("createIndex", text_of(path)), ("sparse", text_of(sparse))]))
 
     def drop_index(self, path: str) -> None:
         """Drops the index on a path; cursors that were opened by it give the same."""
-        read_reply(self.command([("dropIndex", text_of(path))]))
+        read_reply(self._connection.ask([("dropIndex", text_of(path))]))
 
     def explain(
         self, filter: Filter | None = None, sort: Sort | None = None, skip: int = 0, limit: int = 0, use: Use = "auto"
     ) -> dict[str, Any]:
         """How an answer is found: the `plan`, the path of the `index`, and how many `entries`, `documents` and `matches`."""
         request = Request.of(filter, sort, skip, limit)
-        return read_reply(self.command([("explain", request.filter), *request.fields(), ("use", text_of(use))]))
+        return read_reply(self._connection.ask([("explain", request.filter), *request.fields(), ("use", text_of(use))]))
 
     def close(self) -> None:
         """Ends the session."""
-        with self._lock:
-            self._end()
-
-    def command(self, fields: list[tuple[str, str]]) -> str:
-        """Sends a command, of names and the JSON of their values, and gives the line of its reply."""
-        line = text_of_pairs(fields).encode()
-        if len(line) > LONGEST_COMMAND:
-            raise ValueError(f"a command has at most {LONGEST_COMMAND} bytes, not {len(line)}")
-        with self._lock:
-            while self._left_cursors:
-                self._reply(b'{"killCursor":%d}' % self._left_cursors.popleft())
-            return self._reply(line)
-
-    def leave(self, number: int) -> None:
-        """Has a cursor closed before the next command. It takes no lock, so that a cursor that is let go can call it."""
-        self._left_cursors.append(number)
-
-    def _reply(self, line: bytes) -> str:
-        """The reply to a line; where there is none the session is ended, since what is still to come would be taken for a later one."""
-        if not self._is_open:
-            raise SessionEnded("the session was closed")
-        try:
-            reply = self._exchange(line + b"\n")
-            if not reply:
-                raise SessionEnded(str(error_of(self._run.wait(), self._run.told())))
-            return reply
-        except BaseException:
-            self._end()
-            raise
-
-    def _exchange(self, command: bytes) -> str:
-        """Sends a command and reads the line of its reply; nothing where the program has ended."""
-        try:
-            self._run.stdin.write(command)
-            self._run.stdin.flush()
-        except BrokenPipeError:
-            return ""
-        reply = self._run.stdout.readline()
-        return reply.decode() if reply.endswith(b"\n") else ""
-
-    def _end(self) -> None:
-        self._is_open = False
-        self._run.close()
+        self._connection.close()
 
     def __enter__(self) -> Session:
         return self
@@ -132,9 +69,11 @@ class Session:
 class Cursor(Iterator[Any]):
     """The documents of an answer, which are asked for a batch at a time."""
 
-    def __init__(self, session: Session, request: Request, use: Use, batch_size: int, after: str | None, decode: str) -> None:
+    def __init__(
+        self, connection: Connection, request: Request, use: Use, batch_size: int, after: str | None, decode: str
+    ) -> None:
         self._number: int | None = None
-        self._session, self._request, self._use = session, request, text_of(use)
+        self._connection, self._request, self._use = connection, request, text_of(use)
         self._batch_size = batch_size
         self._decode, self._document_of = decode, decoder(decode)
         # What is left of the last batch, how many of it were given, and the tokens before and after it.
@@ -150,12 +89,12 @@ class Cursor(Iterator[Any]):
             first = [("find", self._request.filter)]
         else:
             first = [("resume", text_of(after)), ("filter", self._request.filter)]
-        reply = self._session.command([*first, *self._request.fields(), ("use", self._use)])
+        reply = self._connection.ask([*first, *self._request.fields(), ("use", self._use)])
         return read_reply(reply)["cursor"]
 
     def _read(self, number: int, size: int) -> Batch:
         """The next documents of a cursor of the program."""
-        return read_batch(self._session.command([("getMore", str(number)), ("batch", str(size))]))
+        return read_batch(self._connection.ask([("getMore", str(number)), ("batch", str(size))]))
 
     def __next__(self) -> Any:
         while not self._left and self._number is not None:
@@ -191,7 +130,7 @@ class Cursor(Iterator[Any]):
         try:
             return self._read(number, self._given).token
         finally:
-            self._session.leave(number)
+            self._connection.leave(number)
 
     def close(self) -> None:
         """Closes the cursor: no document follows. Its token stays."""
@@ -201,7 +140,7 @@ class Cursor(Iterator[Any]):
     def _leave(self) -> None:
         number, self._number = self._number, None
         if number is not None:
-            self._session.leave(number)
+            self._connection.leave(number)
 
     def __enter__(self) -> Cursor:
         return self
