@@ -2,6 +2,7 @@
 
 import gzip
 import json
+import os
 import subprocess
 import sys
 
@@ -108,6 +109,17 @@ class Audits(Room):
         run = run_package("--program", "no-such-program", "audit", self.backup)
         self.assertEqual((run.returncode, run.stdout), (2, ""))
         self.assertEqual(run.stderr, "bsonfind: cannot start no-such-program: No such file or directory\n")
+
+    def test_progress_on_a_terminal(self) -> None:
+        ours, theirs = os.openpty()
+        command = [sys.executable, "-m", "bsonfind", "--program", PROGRAM, "audit", self.backup]
+        with os.fdopen(ours, "rb", buffering=0) as terminal:
+            run = subprocess.run(command, env=environment(), stdout=subprocess.PIPE, stderr=theirs)
+            os.close(theirs)
+            shown = terminal.read(4096)
+        self.assertEqual(run.stdout.count(b"\n"), 5)
+        self.assertIn(b"1 of 2 files", shown)
+        self.assertTrue(shown.endswith(b"\r\x1b[K"), shown)
 
     def test_full_disk(self) -> None:
         with open("/dev/full", "wb") as full:

@@ -150,6 +150,12 @@ class Sessions(Room):
         with Session(self.file(packed([f'{{"a":"{text}"}}'] * 10)), PROGRAM) as session:
             self.assertEqual([it["a"] for it in session.find({"a": {"$in": [text, "y" * 1_000_000]}})], [text] * 10)
 
+    def test_deep_documents(self) -> None:
+        line = '{"a":' * 199 + "{}" + "}" * 199
+        with Session(self.file(packed([line])), PROGRAM) as session:
+            self.assertEqual(list(session.find(decode="bytes")), [line.encode()])
+            self.assertEqual(list(session.find()), [json.loads(line)])
+
     def test_command_that_is_too_long(self) -> None:
         with self.assertRaises(ValueError):
             self.session.find({"a": "x" * LONGEST_COMMAND})
