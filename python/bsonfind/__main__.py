@@ -88,7 +88,8 @@ def run_salvage(words: argparse.Namespace) -> int:
         for it in salvage.copy():
             console.line(f"{words.file}: {it}")
             left_out += it.end - it.start
-    console.line(f"{words.file}: {salvage.good} documents to {words.good}, {salvage.bad} to {words.bad}, {left_out} bytes left out")
+    copied = f"{salvage.good} documents to {words.good}, {salvage.bad} to {words.bad}"
+    console.line(f"{words.file}: {copied}, {left_out} bytes left out")
     return FAULTY if salvage.bad or left_out else GOOD
 
 

@@ -56,7 +56,7 @@ class Connection:
             raise error_of(self._run.wait(), self._run.told())
 
     def _reply(self, line: bytes) -> str:
-        """The reply to a line. Where there is none the run is ended, so that no later line has a reply that was meant for this one."""
+        """The reply to a line. Where there is none the run is ended, so that no later line takes the reply to this one."""
         if not self._is_open:
             raise SessionEnded("the session was closed")
         try:

@@ -1,8 +1,15 @@
 """Asks the parts of a dump, each by a run of the program, and makes one answer of what they gave.
 
+    parts = plan("orders.bson", 2_500_000_000)
+    with ThreadPoolExecutor(4) as pool:
+        newest = find_parts(parts, {"status": "open"}, [("created", -1)], limit=10, map=pool.map)
+
 An engine runs the parts by its `map`: a function that applies another one to each part, and gives the results in the order of the
-parts. The built-in does so one after the other, that of an executor side by side, and of an engine over many machines wherever the
-files and the program are: `lambda ask, parts: client.gather(client.map(ask, parts))` for Dask.
+parts. The built-in does so one after the other, that of an executor side by side, and that of an engine over many machines wherever
+the files, this package and the program are: `lambda ask, parts: client.gather(client.map(ask, parts))` for Dask.
+
+What is found goes from the parts to the whole as lines. So a document that is written like another value, as that of the one field
+"$oid" is, ends in a `PartError` or is taken for that value.
 """
 
 from __future__ import annotations

@@ -15,7 +15,7 @@ from .runs import Run
 # From so many documents in a row, or from fewer that end with the file, a place is guessed to be the beginning of a document.
 IN_A_ROW = 4
 _PIECE = 1 << 20
-# The type of a first element after the last byte of a length. Keys that are least or greatest begin no document that is looked for.
+# The type of a first element after the last byte of a length. A document that begins with MinKey or MaxKey is not looked for.
 _BEGINNING = re.compile(rb"[\x01-\x13](?<=[\x00\x01].)", re.DOTALL)
 _BEFORE = 4
 

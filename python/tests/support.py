@@ -55,12 +55,14 @@ class Room(unittest.TestCase):
 
     def stuck(self) -> str:
         """A program that answers when it is started first, and then never; `pids` has the numbers of those that never do."""
-        return self.script('if mkdir "$ROOM/first" 2>/dev/null; then exec "$PROGRAM" "$@"; fi\necho $$ >>"$ROOM/pids"\nexec sleep 600')
+        first = 'if mkdir "$ROOM/first" 2>/dev/null; then exec "$PROGRAM" "$@"; fi'
+        return self.script(f'{first}\necho $$ >>"$ROOM/pids"\nexec sleep 600')
 
     def interrupt(self, code: str, stuck: int) -> int:
         """Interrupts Python alone once so many programs are stuck below it, and gives its status; none of them may be left."""
         code = f"import signal\nsignal.signal(signal.SIGINT, signal.default_int_handler)\n{code}"
-        python = subprocess.Popen([sys.executable, "-c", code], env=environment(), stderr=subprocess.DEVNULL, stdout=subprocess.DEVNULL)
+        streams = {"stdout": subprocess.DEVNULL, "stderr": subprocess.DEVNULL}
+        python = subprocess.Popen([sys.executable, "-c", code], env=environment(), **streams)
         pids = self.room / "pids"
         wait_for(lambda: pids.exists() and len(pids.read_text().split()) == stuck)
         time.sleep(0.5)  # It waits for them by now, even on a busy machine.

@@ -59,9 +59,8 @@ class Audits(Room):
         self.assertEqual(lines[3:], self.table(("files", 3), ("documents", 1300), ("faulty", 0)))
 
     def test_names_as_they_are(self) -> None:
-        """Some are no UTF-8, or have what goes for an option."""
-        self.file(SHOP.read_bytes(), "other/Łódź a:b.bson")
-        self.assertEqual(self.audit(str(self.room / "other"), status=0)[0], f"{self.room}/other/Łódź a:b.bson: 400 documents, 0 faulty")
+        named = self.file(SHOP.read_bytes(), "other/Łódź a:b.bson")
+        self.assertEqual(self.audit(str(self.room / "other"), status=0)[0], f"{named}: 400 documents, 0 faulty")
 
     def test_expected_counts(self) -> None:
         log = self.file(LOG.encode(), "log")

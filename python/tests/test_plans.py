@@ -18,7 +18,8 @@ class Plans(Room):
         for most in (1, 200, 5000, 40_000, len(data) - 1, len(data), 1 << 40):
             parts = plan(PEOPLE, most)
             self.assertEqual(b"".join(piece for part in parts for piece in part.pieces()), data)
-            self.assertEqual([part.offset for part in parts], [sum(it.length for it in parts[:number]) for number in range(len(parts))])
+            offsets = [sum(it.length for it in parts[:number]) for number in range(len(parts))]
+            self.assertEqual([part.offset for part in parts], offsets)
             self.assertEqual({part.path for part in parts}, {str(PEOPLE)})
         self.assertEqual(plan(PEOPLE), [Part(str(PEOPLE), 0, len(data), 0)])
 

@@ -54,7 +54,8 @@ class Salvages(Room):
         data = SHOP.read_bytes()
         damaged = data[:99809] + b"\xff\xff\xff\x7f" + data[99813:]
         told, good, bad = self.salvage(damaged, 1)
-        line = f"{self.damaged}: wrong length at byte 99809: 373 bytes left out; that a document begins at byte 100182 is a guess\n"
+        guess = "that a document begins at byte 100182 is a guess"
+        line = f"{self.damaged}: wrong length at byte 99809: 373 bytes left out; {guess}\n"
         self.assertEqual(told, line + self.counted(399, 0, 373))
         self.assertEqual((good, bad), (data[:99809] + data[100182:], b""))
 

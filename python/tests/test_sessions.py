@@ -143,7 +143,8 @@ class Sessions(Room):
         ages = range(60, 92, 4)
         with ThreadPoolExecutor(8) as pool:
             found = list(pool.map(read, ages))
-        self.assertEqual(found, [list(find(PEOPLE, {"age": {"$gte": age}}, BY_NAME, decode="bytes", program=PROGRAM)) for age in ages])
+        wanted = [find(PEOPLE, {"age": {"$gte": age}}, BY_NAME, decode="bytes", program=PROGRAM) for age in ages]
+        self.assertEqual(found, list(map(list, wanted)))
 
     def test_large_replies_and_commands(self) -> None:
         text = "x" * 300_000
@@ -224,8 +225,8 @@ class Endings(Room):
 
     def test_reply_that_is_cut(self) -> None:
         refusal = '{"ok":false,"layer":"session","number":{"$numberInt":"6"},"text":"no such cursor"}'
-        program = self.script(f"read line\necho '{refusal}'\nread line\nprintf '{{\"ok\":tr'\necho 'bsonfind: no memory' >&2\nexit 1")
-        session = Session(PEOPLE, program)
+        cut = "printf '{\"ok\":tr'\necho 'bsonfind: no memory' >&2\nexit 1"
+        session = Session(PEOPLE, self.script(f"read line\necho '{refusal}'\nread line\n{cut}"))
         with self.assertRaises(SessionEnded) as raised:
             session.find()
         self.assertEqual(str(raised.exception), "no memory")

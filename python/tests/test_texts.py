@@ -57,13 +57,14 @@ class Told(unittest.TestCase):
         self.assertEqual(Fault(1, 20, "a", "double").moved(10, 300), Fault(11, 320, "a", "double"))
 
     def test_errors(self) -> None:
+        double = Fault(1, 9, "a", "double")
         for told, wanted in (
             ("bsonfind: cannot open a: b\n", DumpError("cannot open a: b")),
             ("bsonfind: cannot read\n0 documents, 0 faulty\n", DumpError("cannot read")),
             ("bsonfind: input too long\n", DumpError("input too long")),
             ("bsonfind: no memory\n", ProgramError("no memory")),
             ("bsonfind: cannot write\n", ProgramError("cannot write")),
-            ('bsonfind: document 1, byte 9, path "a": double\n', DumpError('document 1, byte 9, path "a": double', Fault(1, 9, "a", "double"))),
+            (f"bsonfind: {double}\n", DumpError(str(double), double)),
             ('bsonfind: query: place "a.$b": unknown operator\n', CommandError("filter", 1, "unknown operator", "a.$b")),
             ('bsonfind: query: place "a": too deep\n', CommandError("filter", 6, "too deep", "a")),
             ("bsonfind: query: byte 9: too deep\n", CommandError("json", 3, "too deep", 9)),
