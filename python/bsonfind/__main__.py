@@ -27,19 +27,25 @@ def parser() -> argparse.ArgumentParser:
     )
     main.add_argument("--program", default="bsonfind", help="the program that is run, bsonfind on PATH without it")
     commands = main.add_subparsers(required=True, metavar="COMMAND")
-    of_audit = commands.add_parser("audit", help="check many files", description="Checks many files, on all processors.")
-    of_audit.add_argument("files", nargs="*", metavar="FILE", help="a dump, one by mongodump --gzip, or a directory of such files")
-    of_audit.add_argument("--list", metavar="F", help="also the files whose names are the lines of F")
-    of_audit.add_argument("--expect", metavar="LOG", help="compare the counts with those in a log of mongodump")
-    of_audit.add_argument("--json", action="store_true", help="print one line of JSON, and nothing else")
-    of_audit.add_argument("--jobs", type=int, default=os.cpu_count(), metavar="N", help="check so many files at once")
-    of_audit.set_defaults(run=run_audit)
-    of_salvage = commands.add_parser("salvage", help="copy what is good", description="Copies each document to one of two files.")
-    of_salvage.add_argument("file", metavar="FILE", help="a damaged dump")
-    of_salvage.add_argument("--good", required=True, metavar="G", help="the file for documents without a fault")
-    of_salvage.add_argument("--bad", required=True, metavar="B", help="the file for other documents whose length is known")
-    of_salvage.set_defaults(run=run_salvage)
+    _add_audit(commands.add_parser("audit", help="check many files", description="Checks many files, on all processors."))
+    _add_salvage(commands.add_parser("salvage", help="copy what is good", description="Copies each document to one of two files."))
     return main
+
+
+def _add_audit(command: argparse.ArgumentParser) -> None:
+    command.add_argument("files", nargs="*", metavar="FILE", help="a dump, one by mongodump --gzip, or a directory of such files")
+    command.add_argument("--list", metavar="F", help="also the files whose names are the lines of F")
+    command.add_argument("--expect", metavar="LOG", help="compare the counts with those in a log of mongodump")
+    command.add_argument("--json", action="store_true", help="print one line of JSON, and nothing else")
+    command.add_argument("--jobs", type=int, default=os.cpu_count(), metavar="N", help="check so many files at once")
+    command.set_defaults(run=run_audit)
+
+
+def _add_salvage(command: argparse.ArgumentParser) -> None:
+    command.add_argument("file", metavar="FILE", help="a damaged dump")
+    command.add_argument("--good", required=True, metavar="G", help="the file for documents without a fault, which is made anew")
+    command.add_argument("--bad", required=True, metavar="B", help="the file for other documents whose length is known")
+    command.set_defaults(run=run_salvage)
 
 
 def run_audit(words: argparse.Namespace) -> int:
@@ -80,10 +86,11 @@ def run_salvage(words: argparse.Namespace) -> int:
     """Salvages a file, and gives the status."""
     console = Console()
     with ExitStack() as files:
+        dump = files.enter_context(open(words.file, "rb"))
         good, bad = (files.enter_context(_output(name, words.file)) for name in (words.good, words.bad))
         if os.path.isfile(words.good) and os.path.samefile(words.good, words.bad):
             raise Refused(f"{words.good} is named twice")
-        salvage = Salvage(words.file, good, bad, words.program)
+        salvage = Salvage(dump, good, bad, words.program)
         left_out = 0
         for it in salvage.copy():
             console.line(f"{words.file}: {it}")
@@ -108,7 +115,7 @@ def main(words: Sequence[str] | None = None) -> int:
     except (Refused, CannotWrite, BsonfindError) as error:
         return _told(str(error))
     except OSError as error:
-        return _told(f"{error.filename or 'cannot write'}: {error.strerror}")
+        return _told(f"{error.filename}: {error.strerror}" if error.filename else str(error.strerror))
     except KeyboardInterrupt:
         return INTERRUPTED
 

@@ -37,28 +37,27 @@ class LeftOut(NamedTuple):
 class Salvage:
     """The copying of the documents of a file to one of two others, by whether they have a fault."""
 
-    def __init__(self, path: str, good: BinaryIO, bad: BinaryIO, program: str) -> None:
-        self._path, self._program = path, program
+    def __init__(self, dump: BinaryIO, good: BinaryIO, bad: BinaryIO, program: str) -> None:
+        self._dump, self._program = dump, program
         self._good, self._bad = good, bad
         self.good = self.bad = 0
 
     def copy(self) -> Iterator[LeftOut]:
         """Copies all documents whose length is known, and gives what is left out, as it is met."""
-        with open(self._path, "rb") as file:
-            size = os.fstat(file.fileno()).st_size
-            at = 0
-            while at < size:
-                at = self._copy_to_wrong_length(file, at, size)
-                if at < size:
-                    found = next_beginning(file, at + 1, size)
-                    left_out = LeftOut(at, size if found is None else found, found is not None)
-                    yield left_out
-                    at = left_out.end
+        at, size = 0, os.fstat(self._dump.fileno()).st_size
+        while at < size:
+            at = self._copy_to_wrong_length(at, size)
+            if at < size:
+                found = next_beginning(self._dump, at + 1, size)
+                left_out = LeftOut(at, size if found is None else found, found is not None)
+                yield left_out
+                at = left_out.end
 
-    def _copy_to_wrong_length(self, file: BinaryIO, start: int, size: int) -> int:
+    def _copy_to_wrong_length(self, start: int, size: int) -> int:
         """Copies documents up to a wrong length or the end of the file, and gives this place."""
-        stretch = _Stretch(file, start, size)
-        with Run([self._program, "check", "-"], Part(self._path, start, size - start, 0).pieces()) as run:
+        stretch = _Stretch(self._dump, start, size)
+        rest = Part(self._dump.name, start, size - start, 0)
+        with Run([self._program, "check", "-"], rest.pieces()) as run:
             for fault in faults_of(run):
                 self.good += stretch.copy(fault.document, self._good)
                 self.bad += stretch.copy(fault.document + 1, self._bad)

@@ -1,5 +1,6 @@
 """Tests of the command `salvage`."""
 
+import os
 import subprocess
 import sys
 from typing import Tuple
@@ -108,6 +109,7 @@ class BadInput(Room):
         path, missing = str(self.file(PEOPLE.read_bytes())), str(self.room / "missing.bson")
         good, bad = str(self.room / "good.bson"), str(self.room / "bad.bson")
         self.refused("salvage", missing, "--good", good, "--bad", bad, told=f"{missing}: No such file or directory")
+        self.assertEqual(os.listdir(self.room), ["dump.bson"])
         self.refused("salvage", path, "--good", path, "--bad", bad, told=f"{path} is the dump")
         self.refused("salvage", path, "--good", good, "--bad", path, told=f"{path} is the dump")
         self.refused("salvage", path, "--good", good, "--bad", good, told=f"{good} is named twice")
@@ -118,7 +120,7 @@ class BadInput(Room):
     def test_full_disk(self) -> None:
         path = str(self.file(PEOPLE.read_bytes() + DOUBLE))
         for good, bad in (("/dev/full", "/dev/null"), ("/dev/null", "/dev/full")):
-            self.refused("salvage", path, "--good", good, "--bad", bad, told="cannot write: No space left on device")
+            self.refused("salvage", path, "--good", good, "--bad", bad, told="No space left on device")
         with open("/dev/full", "wb") as full:
             run = run_package("salvage", path, "--good", "/dev/null", "--bad", "/dev/null", stdout=full)
         self.assertEqual((run.returncode, run.stderr), (2, "bsonfind: cannot write: No space left on device\n"))
