@@ -18,6 +18,8 @@ from .answers import file_word
 from .checks import faults_of, finish_check
 from .console import Console
 from .errors import BsonfindError
+from .lengths import LARGEST_INPUT
+from .parts import inputs
 from .runs import Group, Run
 
 _PIECE = 1 << 20
@@ -156,12 +158,13 @@ def _check_file(name: str, console: Console | None, group: Group, program: str) 
     kinds: Counter[str] = Counter()
     documents, error = 0, None
     try:
-        with _check_run(name, group, program) as run:
-            for fault in faults_of(run):
-                kinds[fault.kind] += 1
-                if console:
-                    console.line(f"{name}: {fault}")
-            documents = finish_check(run)
+        for offset, run in _runs(name, group, program):
+            with run:
+                for fault in faults_of(run):
+                    kinds[fault.kind] += 1
+                    if console:
+                        console.line(f"{name}: {fault.moved(documents, offset)}")
+                documents += finish_check(run)
     except (BsonfindError, OSError, EOFError, zlib.error) as failed:
         if group.is_ended:
             raise
@@ -172,11 +175,16 @@ def _check_file(name: str, console: Console | None, group: Group, program: str) 
     return report
 
 
-def _check_run(name: str, group: Group, program: str) -> Run:
-    """The run over a file, or over what a compressed one holds."""
+def _runs(name: str, group: Group, program: str) -> Iterator[tuple[int, Run]]:
+    """The runs over a file, with the place where the input of each begins; several where it is larger than what one reads."""
+    from_pipe = [program, "check", "-"]
     if name.endswith(".gz"):
-        return Run([program, "check", "-"], _unpacked(name), group=group)
-    return Run([program, "check", file_word(name)], group=group)
+        yield 0, Run(from_pipe, _unpacked(name), group=group)
+    elif os.path.isfile(name) and os.path.getsize(name) > LARGEST_INPUT:
+        for part in inputs(name):
+            yield part.offset, Run(from_pipe, part.pieces(), group=group)
+    else:
+        yield 0, Run([program, "check", file_word(name)], group=group)
 
 
 def _unpacked(name: str) -> Iterator[bytes]:

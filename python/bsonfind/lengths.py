@@ -10,6 +10,8 @@ from .errors import DumpError
 from .faults import Fault
 
 SHORTEST, LONGEST = 5, 16_793_600
+# What a run of the program reads at most.
+LARGEST_INPUT = 4_294_967_295
 _PIECE = 1 << 18
 _length_at = struct.Struct("<i").unpack_from
 
@@ -50,6 +52,25 @@ def walk(file: BinaryIO, start: int = 0, end: int | None = None) -> Iterator[int
         at += length
         number += 1
         yield at
+
+
+def end_of_input(file: BinaryIO, start: int, size: int) -> int:
+    """Where the input of a run ends that begins at a place: with the file or, where that is too large, with a document.
+
+    It is that place itself where the file is too large, and the first length there is wrong.
+    """
+    if size - start <= LARGEST_INPUT:
+        return size
+    end = start
+    try:
+        for after in walk(file, start, size):
+            if after - start > LARGEST_INPUT:
+                break
+            end = after
+    except DumpError as error:
+        if not error.fault:
+            raise
+    return end
 
 
 def _bad(number: int, at: int, kind: str) -> DumpError:

@@ -6,7 +6,7 @@ import os
 from typing import Iterator, NamedTuple
 
 from .errors import PartError
-from .lengths import walk
+from .lengths import end_of_input, walk
 
 # What a part has at most where nothing else is asked for; a run of `find` holds its part in memory.
 MOST = 1 << 30
@@ -55,3 +55,18 @@ def plan(path: str | os.PathLike[str], most: int = MOST) -> list[Part]:
     if at > start:
         parts.append(Part(name, start, at - start, first))
     return parts
+
+
+def inputs(path: str) -> Iterator[Part]:
+    """Cuts a file into parts that a run can read, without the numbers of their documents.
+
+    The length with which the last one begins is wrong, where there is such a length.
+    """
+    with open(path, "rb") as file:
+        start, size = 0, os.fstat(file.fileno()).st_size
+        while start < size:
+            end = end_of_input(file, start, size)
+            if end == start:
+                end = size
+            yield Part(path, start, end - start, 0)
+            start = end

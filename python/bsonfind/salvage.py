@@ -8,7 +8,7 @@ from typing import BinaryIO, Iterator, NamedTuple
 
 from .checks import faults_of, finish_check
 from .errors import DumpError
-from .lengths import is_length, read_at, walk
+from .lengths import end_of_input, is_length, read_at, walk
 from .parts import Part
 from .runs import Run
 
@@ -46,18 +46,19 @@ class Salvage:
         """Copies all documents whose length is known, and gives what is left out, as it is met."""
         at, size = 0, os.fstat(self._dump.fileno()).st_size
         while at < size:
-            at = self._copy_to_wrong_length(at, size)
-            if at < size:
+            start, end = at, end_of_input(self._dump, at, size)
+            at = self._copy_to_wrong_length(start, end)
+            if at < end or at == start:
                 found = next_beginning(self._dump, at + 1, size)
                 left_out = LeftOut(at, size if found is None else found, found is not None)
                 yield left_out
                 at = left_out.end
 
-    def _copy_to_wrong_length(self, start: int, size: int) -> int:
-        """Copies documents up to a wrong length or the end of the file, and gives this place."""
-        stretch = _Stretch(self._dump, start, size)
-        rest = Part(self._dump.name, start, size - start, 0)
-        with Run([self._program, "check", "-"], rest.pieces()) as run:
+    def _copy_to_wrong_length(self, start: int, end: int) -> int:
+        """Copies documents up to a wrong length or the end, and gives this place."""
+        stretch = _Stretch(self._dump, start, end)
+        part = Part(self._dump.name, start, end - start, 0)
+        with Run([self._program, "check", "-"], part.pieces()) as run:
             for fault in faults_of(run):
                 self.good += stretch.copy(fault.document, self._good)
                 self.bad += stretch.copy(fault.document + 1, self._bad)
@@ -68,9 +69,9 @@ class Salvage:
 class _Stretch:
     """Documents one after the other, of which some were copied."""
 
-    def __init__(self, file: BinaryIO, start: int, size: int) -> None:
+    def __init__(self, file: BinaryIO, start: int, end: int) -> None:
         self._file = file
-        self._places = walk(file, start, size)
+        self._places = walk(file, start, end)
         self._number = 0
         self.at = start
 

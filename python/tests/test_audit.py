@@ -5,6 +5,9 @@ import json
 import os
 import subprocess
 import sys
+from unittest import mock
+
+from bsonfind.audit import audit
 
 from .support import DOUBLE, PEOPLE, PROGRAM, SHOP, Room, environment, run_package
 
@@ -61,6 +64,27 @@ class Audits(Room):
     def test_names_as_they_are(self) -> None:
         named = self.file(SHOP.read_bytes(), "other/Łódź a:b.bson")
         self.assertEqual(self.audit(str(self.room / "other"), status=0)[0], f"{named}: 400 documents, 0 faulty")
+
+    def test_file_larger_than_what_a_run_reads(self) -> None:
+        """With a largest input of 30,000 bytes in place of 4,294,967,295."""
+        people = PEOPLE.read_bytes()
+        whole = self.file(people[:79930] + DOUBLE + people[79930:], "large/whole.bson")
+        wrong = self.file(people[:39978] + b"\xff" * 50_000, "large/wrong.bson")
+        lines: list = []
+        console = mock.Mock(line=lines.append)
+        limits = (mock.patch(f"bsonfind.{module}.LARGEST_INPUT", 30_000) for module in ("audit", "lengths"))
+        with next(limits), next(limits):
+            done = audit([str(whole), str(wrong)], {}, console, 1, PROGRAM)
+        self.assertEqual(
+            lines,
+            [
+                f'{whole}: document 436, byte 79934, path "d": double',
+                f"{whole}: 501 documents, 1 faulty",
+                f'{wrong}: document 220, byte 39978, path "": bad length',
+                f"{wrong}: 221 documents, 1 faulty",
+            ],
+        )
+        self.assertEqual([it.documents for it in done.reports], [501, 221])
 
     def test_expected_counts(self) -> None:
         log = self.file(LOG.encode(), "log")

@@ -1,11 +1,13 @@
 """Tests of the command `salvage`."""
 
+import io
 import os
 import subprocess
 import sys
 from typing import Tuple
+from unittest import mock
 
-from bsonfind.salvage import next_beginning
+from bsonfind.salvage import Salvage, next_beginning
 
 from .support import DOUBLE, PEOPLE, PROGRAM, SHOP, Room, environment, run_package
 
@@ -67,6 +69,21 @@ class Salvages(Room):
         self.assertEqual((good, bad), (people * 2, DOUBLE))
         self.assertEqual(told.count("is a guess"), 2)
         self.assertEqual(told.splitlines()[-1] + "\n", self.counted(1000, 1, 9_000_000))
+
+    def test_file_larger_than_what_a_run_reads(self) -> None:
+        """With a largest input of 30,000 bytes in place of 4,294,967,295, and with wrong lengths at cuts and elsewhere."""
+        people, junk = PEOPLE.read_bytes(), b"\xff" * 100
+        for data, kept, left_out in (
+            (people, people, 0),
+            (people[:39978] + junk + people[39978:], people, 1),
+            (junk + people + DOUBLE + junk * 1000, people, 2),
+        ):
+            good, bad = io.BytesIO(), io.BytesIO()
+            with mock.patch("bsonfind.lengths.LARGEST_INPUT", 30_000), open(self.file(data), "rb") as dump:
+                salvage = Salvage(dump, good, bad, PROGRAM)
+                self.assertEqual(len(list(salvage.copy())), left_out)
+            self.assertEqual(good.getvalue(), kept)
+            self.assertEqual((salvage.good, salvage.bad), (500, len(bad.getvalue()) // len(DOUBLE)))
 
     def test_beginning_over_the_end_of_what_is_read_at_once(self) -> None:
         data = PEOPLE.read_bytes()
