@@ -3,10 +3,7 @@
 from __future__ import annotations
 
 import json
-from typing import Any, Callable, Mapping, Union
-
-# A document: a mapping or, where lines are left alone, bytes.
-Document = Union[Mapping[str, Any], bytes]
+from typing import Any, Callable
 
 
 def decoder(decode: str) -> Callable[[bytes], Any]:

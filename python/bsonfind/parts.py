@@ -3,7 +3,8 @@
 from __future__ import annotations
 
 import os
-from typing import Iterator, NamedTuple
+from dataclasses import dataclass
+from typing import Iterator
 
 from .errors import PartError
 from .lengths import end_of_input, walk
@@ -13,7 +14,8 @@ MOST = 1 << 30
 _PIECE = 1 << 20
 
 
-class Part(NamedTuple):
+@dataclass(frozen=True)
+class Part:
     """Some documents of a file: where they begin, how many bytes they have, and the number of the first one."""
 
     path: str
