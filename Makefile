@@ -3,7 +3,7 @@
 # make test       passes all tests
 # make edits      tries wrong bodies, of CRATE alone where it is given: the proofs must refuse each
 # make bench      times the commands over a dump of MB megabytes, 20 without it, of documents of a KIND, mixed without it; of several MB how cost grows
-# make install    puts the program, its man page, completions, licence and documents below PREFIX
+# make install    puts the program, its man page, completions, licence, documents and package of Python below PREFIX
 # make uninstall  takes them away
 # make clean      removes the program, and the proofs and builds that rt keeps
 #
@@ -21,6 +21,8 @@ MAN = $(SHARE)/man/man1
 BASH = $(SHARE)/bash-completion/completions
 ZSH = $(SHARE)/zsh/site-functions
 FISH = $(SHARE)/fish/vendor_completions.d
+# Where the Python at hand looks for packages below PREFIX.
+PACKAGE = $(DESTDIR)$(shell $(PYTHON) tools/packages.py "$(PREFIX)")/bsonfind
 
 .PHONY: all build look test edits bench install uninstall clean
 
@@ -55,12 +57,14 @@ install: bsonfind
 	install -m 644 completions/bsonfind.bash "$(BASH)/bsonfind"
 	install -m 644 completions/_bsonfind "$(ZSH)/_bsonfind"
 	install -m 644 completions/bsonfind.fish "$(FISH)/bsonfind.fish"
+	if command -v $(PYTHON) >/dev/null; then install -d "$(PACKAGE)" && install -m 644 python/bsonfind/*.py python/bsonfind/py.typed "$(PACKAGE)"; fi
 
 uninstall:
 	rm -f "$(BIN)/bsonfind" "$(MAN)/bsonfind.1"
 	rm -f "$(BASH)/bsonfind" "$(ZSH)/_bsonfind" "$(FISH)/bsonfind.fish"
 	rm -f "$(DOC)/LICENSE" "$(DOC)/README.md" "$(DOC)/GUIDE.md"
 	rmdir "$(DOC)" 2>/dev/null || true
+	if command -v $(PYTHON) >/dev/null; then rm -rf "$(PACKAGE)"; fi
 
 clean:
 	rm -f bsonfind

@@ -1,7 +1,7 @@
 #!/bin/sh
-# Runs the gate, then the tests of the program that the gate proved and built, its rows, the rows of the calls that grow, the looks
-# at the examples and the definitions and two rounds of the edits, and prints the sum of all as its last line. The status is 0
-# where nothing failed.
+# Runs the gate, then the tests of the program that the gate proved and built, those of the package of Python, the rows, the rows of
+# the calls that grow, the looks at the examples and the definitions and two rounds of the edits, and prints the sum of all as its
+# last line. The status is 0 where nothing failed.
 set -u
 cd "$(dirname "$0")/.." || exit 1
 log=$(mktemp) || exit 1
@@ -33,6 +33,8 @@ if cp crates/bsonfind/out/bsonfind bsonfind; then
 	tests/growths.py | tee "$log"
 	add
 	tests/devices.py | tee "$log"
+	add
+	tests/package.py | tee "$log"
 	add
 	# As LLVM builds it, and as Rattle's own compiler does.
 	tests/rows.py --program crates/bsonfind/out/bsonfind --program crates/bsonfind/out/bsonfind.by-rattle | tee "$log"

@@ -3,7 +3,8 @@
 # statuses. A line for each test; the last line is 'N passed, M failed', and the status is 0 where nothing failed.
 set -u
 cd "$(dirname "$0")/.." || exit 1
-program=$PWD/bsonfind
+root=$PWD
+program=$root/bsonfind
 tokens=$PWD/tests/tokens.py
 people=$PWD/examples/people
 shop=$PWD/examples/shop
@@ -1389,15 +1390,20 @@ installed() {
 	(cd root && find . -type f | sort) >out
 }
 
+# The files of the package of Python, where this one looks for them.
+packages=$("$root/tools/packages.py" /usr)
+package=$(cd "$root/python" && printf ".$packages/%s\n" bsonfind/*.py bsonfind/py.typed | sort)
+
 installed install
-expect 'make install' 0 './usr/bin/bsonfind
+expect 'make install' 0 "./usr/bin/bsonfind
+$package
 ./usr/share/bash-completion/completions/bsonfind
 ./usr/share/doc/bsonfind/GUIDE.md
 ./usr/share/doc/bsonfind/LICENSE
 ./usr/share/doc/bsonfind/README.md
 ./usr/share/fish/vendor_completions.d/bsonfind.fish
 ./usr/share/man/man1/bsonfind.1
-./usr/share/zsh/site-functions/_bsonfind' ''
+./usr/share/zsh/site-functions/_bsonfind" ''
 
 installed uninstall
 expect 'make uninstall' 0 '' ''

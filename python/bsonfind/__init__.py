@@ -1,0 +1,38 @@
+"""Asks dumps of MongoDB, which the program `bsonfind` reads: each answer is the program's, this package starts it and moves bytes.
+
+    from bsonfind import Session, find, find_parts, plan
+
+    with Session("people.bson") as session:
+        for person in session.find({"age": {"$gte": 90}}, sort=[("name", 1)]):
+            print(person["name"])
+
+`find` answers one request by one run, a `Session` many of one dump. `plan` cuts a dump of any size into parts, of which
+`find_parts`, `count_parts` and `check_parts` make one answer. `python3 -m bsonfind` has the commands `audit` and `salvage`.
+"""
+
+from .answers import Answer, find
+from .errors import BsonfindError, CommandError, DumpError, PartError, ProgramError, SessionEnded
+from .faults import Fault
+from .merge import Check, check_parts, count_parts, find_parts
+from .parts import Part, plan
+from .sessions import Cursor, Session
+
+__all__ = [
+    "Answer",
+    "BsonfindError",
+    "Check",
+    "CommandError",
+    "Cursor",
+    "DumpError",
+    "Fault",
+    "Part",
+    "PartError",
+    "ProgramError",
+    "Session",
+    "SessionEnded",
+    "check_parts",
+    "count_parts",
+    "find",
+    "find_parts",
+    "plan",
+]

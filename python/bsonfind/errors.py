@@ -1,0 +1,61 @@
+"""What can go wrong, as exceptions that pass from process to process as they are."""
+
+from __future__ import annotations
+
+from typing import TYPE_CHECKING
+
+if TYPE_CHECKING:
+    from .faults import Fault
+    from .parts import Part
+
+
+class BsonfindError(Exception):
+    """What this package raises of its own."""
+
+
+class ProgramError(BsonfindError):
+    """The program cannot be started, or it failed for a reason of its own."""
+
+
+class CommandError(BsonfindError):
+    """A request that the program refuses: the filter, the sort, a path, a token or what a session has not.
+
+    The layers, numbers and texts are those of the refusals of `serve`. The place is the names to the part of a filter that is
+    refused, the byte of a text that is no Extended JSON, and else None.
+    """
+
+    def __init__(self, layer: str, number: int, text: str, place: str | int | None = None) -> None:
+        super().__init__(layer, number, text, place)
+        self.layer, self.number, self.text, self.place = layer, number, text, place
+
+    def __str__(self) -> str:
+        if self.place is None:
+            return f"{self.layer}: {self.text}"
+        where = f"byte {self.place}" if isinstance(self.place, int) else f'place "{self.place}"'
+        return f"{self.layer}: {where}: {self.text}"
+
+
+class DumpError(BsonfindError):
+    """A dump that is refused, with what was told of it, and its first fault where it has one."""
+
+    def __init__(self, text: str, fault: Fault | None = None) -> None:
+        super().__init__(text, fault)
+        self.text, self.fault = text, fault
+
+    def __str__(self) -> str:
+        return self.text
+
+
+class PartError(BsonfindError):
+    """A part that could not be asked, and why; the fault counts in the whole file."""
+
+    def __init__(self, part: Part, text: str, fault: Fault | None = None) -> None:
+        super().__init__(part, text, fault)
+        self.part, self.text, self.fault = part, text, fault
+
+    def __str__(self) -> str:
+        return f"{self.part}: {self.text}"
+
+
+class SessionEnded(BsonfindError):
+    """A session whose program is no longer there, or that was closed."""

@@ -1,0 +1,35 @@
+"""Faults of documents, as the program tells them."""
+
+from __future__ import annotations
+
+import json
+import re
+from typing import NamedTuple
+
+_LINE = re.compile(r'document (\d+), byte (\d+), path (".*"): (.+)')
+
+
+class Fault(NamedTuple):
+    """The first fault of a document: its number, the byte, the names to it joined by dots, and its kind in words."""
+
+    document: int
+    offset: int
+    path: str
+    kind: str
+
+    def moved(self, documents: int, offset: int) -> Fault:
+        """The same fault where so many documents and bytes stand before."""
+        return self._replace(document=self.document + documents, offset=self.offset + offset)
+
+    def __str__(self) -> str:
+        path = json.dumps(self.path, ensure_ascii=False)
+        return f"document {self.document}, byte {self.offset}, path {path}: {self.kind}"
+
+
+def read_fault(line: str) -> Fault | None:
+    """The fault of a line of `check`, None where it is another line."""
+    found = _LINE.fullmatch(line)
+    if not found:
+        return None
+    document, offset, path, kind = found.groups()
+    return Fault(int(document), int(offset), json.loads(path), kind)

@@ -1,0 +1,71 @@
+"""What is asked of a dump: a filter, a sort, a skip and a limit, as pymongo takes them, as texts that the program takes."""
+
+from __future__ import annotations
+
+import json
+import operator
+from dataclasses import dataclass, replace
+from typing import Any, Iterable, Mapping, Sequence, Union
+
+Filter = Mapping[str, Any]
+Sort = Union[Mapping[str, int], Sequence["tuple[str, int]"]]
+
+# The greatest skip, limit and size of a batch.
+MOST = 2_147_483_647
+
+
+def whole(name: str, number: int, least: int = 0) -> int:
+    """A number that the program takes; others are a ValueError."""
+    number = operator.index(number)
+    if not least <= number <= MOST:
+        raise ValueError(f"{name} is {least} to {MOST}, not {number}")
+    return number
+
+
+def text_of(value: Any) -> str:
+    """The JSON of a value. What pymongo's types stand for is written by pymongo, in canonical form."""
+    return json.dumps(value, separators=(",", ":"), default=_extended)
+
+
+def text_of_pairs(pairs: Iterable[tuple[str, str]]) -> str:
+    """The JSON of an object of names and the texts of their values; a name may stand twice."""
+    return "{" + ",".join(f"{text_of(name)}:{text}" for name, text in pairs) + "}"
+
+
+def _extended(value: Any) -> Any:
+    """Extended JSON of a date, an id and the like."""
+    try:
+        from bson import json_util
+    except ImportError:
+        raise TypeError(f"{type(value).__name__} is none of JSON's types; write it as Extended JSON, or install pymongo") from None
+    return json_util.default(value, json_util.CANONICAL_JSON_OPTIONS)
+
+
+@dataclass(frozen=True)
+class Request:
+    """The texts of a filter and a sort, how many documents are passed over, and how many are given at most (0 is no limit)."""
+
+    filter: str = "{}"
+    sort: str = "{}"
+    skip: int = 0
+    limit: int = 0
+
+    @classmethod
+    def of(cls, filter: Filter | None = None, sort: Sort | None = None, skip: int = 0, limit: int = 0) -> Request:
+        """The request for what pymongo's `Collection.find` is asked by."""
+        pairs = sort.items() if isinstance(sort, Mapping) else sort or ()
+        sort_text = text_of_pairs((path, text_of(way)) for path, way in pairs)
+        return cls(text_of({} if filter is None else filter), sort_text, whole("skip", skip), whole("limit", limit))
+
+    def of_part(self) -> Request:
+        """What each part is asked, so that the documents of the answer are among those of the parts."""
+        most = self.skip + self.limit
+        return replace(self, skip=0, limit=most if self.limit and most <= MOST else 0)
+
+    def words(self) -> list[str]:
+        """The options of `find`."""
+        return [f"--query={self.filter}", f"--sort={self.sort}", f"--skip={self.skip}", f"--limit={self.limit}"]
+
+    def fields(self) -> list[tuple[str, str]]:
+        """The further fields of a command, with the texts of their values."""
+        return [("sort", self.sort), ("skip", str(self.skip)), ("limit", str(self.limit))]

@@ -1,0 +1,51 @@
+"""What the program tells on standard error, as exceptions."""
+
+from __future__ import annotations
+
+import json
+import re
+
+from .errors import BsonfindError, CommandError, DumpError, ProgramError
+from .faults import read_fault
+
+_PREFIX = "bsonfind: "
+# The words of each layer of refusals, from number 1 on; what is told in a session alone is left out.
+_WORDS = {
+    "json": (
+        "not JSON", "not a document", "too deep", "bad wrapper", "not in the profile", "number out of range", "zero in a name",
+        "text after the document",
+    ),
+    "filter": ("unknown operator", "not in the profile", "bad operand", "operators and fields mixed", "bad path", "too deep"),
+    "path": ("empty component", "too many components"),
+}  # fmt: skip
+_SESSION = {"not a sort": 1, "not a token": 7, "token of another dump or request": 8, "token place past the dump": 9}
+_REFUSAL = re.compile(r'(query|sort|index|token): (?:byte (\d+): |place (".*"): )?(.+)')
+_OF_THE_DUMP = ("cannot open", "cannot read", "input too long", "too many reads")
+
+
+def error_of(status: int, told: str) -> BsonfindError:
+    """The error of a run that did not end well, by its status and what it told."""
+    if status < 0:
+        return ProgramError(f"ended by signal {-status}")
+    line = next((line[len(_PREFIX) :] for line in told.split("\n") if line.startswith(_PREFIX)), None)
+    if line is None:
+        return ProgramError(told.strip() or f"ended with status {status}")
+    fault = read_fault(line)
+    if fault or line.startswith(_OF_THE_DUMP):
+        return DumpError(line, fault)
+    return _refusal(line) or ProgramError(line)
+
+
+def _refusal(line: str) -> CommandError | None:
+    """What a run of `find` refuses, with the layer and the number that a session tells."""
+    found = _REFUSAL.fullmatch(line)
+    if not found:
+        return None
+    option, byte, place, words = found.groups()
+    if words in _SESSION:
+        return CommandError("session", _SESSION[words], words)
+    layer = "path" if option == "index" else "filter" if place else "json"
+    if words not in _WORDS[layer]:
+        return None
+    where = json.loads(place) if place else int(byte) if byte else None
+    return CommandError(layer, _WORDS[layer].index(words) + 1, words, where)

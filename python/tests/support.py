@@ -1,0 +1,99 @@
+"""What the tests share: the program, dumps and rooms for files."""
+
+import os
+import shutil
+import signal
+import subprocess
+import sys
+import tempfile
+import time
+import unittest
+from pathlib import Path
+from typing import Callable, Iterable, List
+
+ROOT = Path(__file__).resolve().parents[2]
+PACKAGE = ROOT / "python"
+PROGRAM = os.environ.get("BSONFIND") or shutil.which("bsonfind") or str(ROOT / "bsonfind")
+PEOPLE = ROOT / "examples/people.bson"
+SHOP = ROOT / "examples/shop.bson"
+# The documents of the examples, as another program wrote them.
+PEOPLE_LINES = (ROOT / "examples/people.jsonl").read_bytes().splitlines()
+SHOP_LINES = (ROOT / "examples/shop.jsonl").read_bytes().splitlines()
+# A document with a double, which is refused.
+DOUBLE = bytes.fromhex("10000000016400000000000000f03f00")
+PATIENCE = 60.0
+
+
+class Room(unittest.TestCase):
+    """A test with a directory of its own."""
+
+    def setUp(self) -> None:
+        self.room = Path(tempfile.mkdtemp())
+        self.addCleanup(shutil.rmtree, self.room)
+
+    def file(self, data: bytes, name: str = "dump.bson") -> Path:
+        """A file of these bytes."""
+        path = self.room / name
+        path.parent.mkdir(parents=True, exist_ok=True)
+        path.write_bytes(data)
+        return path
+
+    def script(self, text: str, name: str = "program") -> str:
+        """A program that is a script of the shell, in which PROGRAM is the real one and ROOM the directory."""
+        path = self.file(f"#!/bin/sh\nPROGRAM='{PROGRAM}'\nROOM='{self.room}'\n{text}\n".encode(), name)
+        path.chmod(0o755)
+        return str(path)
+
+    def counting(self) -> str:
+        """The program, of which each start is a line of the file `starts`."""
+        return self.script('echo "$@" >>"$ROOM/starts"\nexec "$PROGRAM" "$@"')
+
+    def starts(self) -> List[str]:
+        """The words of each start of the counting program."""
+        path = self.room / "starts"
+        return path.read_text().splitlines() if path.exists() else []
+
+    def stuck(self) -> str:
+        """A program that answers when it is started first, and then never; `pids` has the numbers of those that never do."""
+        first = 'if mkdir "$ROOM/first" 2>/dev/null; then exec "$PROGRAM" "$@"; fi'
+        return self.script(f'{first}\necho $$ >>"$ROOM/pids"\nexec sleep 600')
+
+    def interrupt(self, code: str, stuck: int) -> int:
+        """Interrupts Python alone once so many programs are stuck below it, and gives its status; none of them may be left."""
+        code = f"import signal\nsignal.signal(signal.SIGINT, signal.default_int_handler)\n{code}"
+        streams = {"stdout": subprocess.DEVNULL, "stderr": subprocess.DEVNULL}
+        python = subprocess.Popen([sys.executable, "-c", code], env=environment(), **streams)
+        pids = self.room / "pids"
+        wait_for(lambda: pids.exists() and len(pids.read_text().split()) == stuck)
+        time.sleep(0.5)  # It waits for them by now, even on a busy machine.
+        python.send_signal(signal.SIGINT)
+        status = python.wait(PATIENCE)
+        left = [pid for pid in pids.read_text().split() if Path("/proc", pid).exists()]
+        self.assertEqual(left, [])
+        return status
+
+
+def environment() -> dict:
+    """The environment of a Python that finds the package."""
+    return {**os.environ, "PYTHONPATH": str(PACKAGE)}
+
+
+def run_package(*words: str, stdout: object = subprocess.PIPE) -> "subprocess.CompletedProcess[str]":
+    """A run of `python3 -m bsonfind`."""
+    command = [sys.executable, "-m", "bsonfind", "--program", PROGRAM, *words]
+    return subprocess.run(command, env=environment(), stdout=stdout, stderr=subprocess.PIPE, text=True, timeout=PATIENCE)
+
+
+def packed(lines: Iterable[str]) -> bytes:
+    """The dump of lines of JSON."""
+    text = "".join(f"{line}\n" for line in lines).encode()
+    return subprocess.run([PROGRAM, "pack", "-"], input=text, stdout=subprocess.PIPE, stderr=subprocess.DEVNULL, check=True).stdout
+
+
+def wait_for(holds: Callable[[], bool]) -> None:
+    """Waits until something holds."""
+    until = time.monotonic() + PATIENCE
+    while not holds():
+        if time.monotonic() > until:
+            raise TimeoutError
+        time.sleep(0.02)

@@ -1,0 +1,28 @@
+#!/usr/bin/env python3
+"""Runs the tests of the package in python, as `python3 -m unittest` there does, over ./bsonfind or the program of BSONFIND.
+
+usage: tests/package.py     The last line is 'N passed, M failed'.
+"""
+
+import os
+import sys
+import unittest
+from pathlib import Path
+
+ROOT = Path(__file__).resolve().parent.parent
+PACKAGE = ROOT / "python"
+
+
+def main() -> int:
+    os.environ.setdefault("BSONFIND", str(ROOT / "bsonfind"))
+    sys.path.insert(0, str(PACKAGE))
+    suite = unittest.defaultTestLoader.discover(str(PACKAGE / "tests"), top_level_dir=str(PACKAGE))
+    result = unittest.TextTestRunner(stream=sys.stdout).run(suite)
+    failed = len(result.failures) + len(result.errors) + len(result.unexpectedSuccesses)
+    passed = result.testsRun - failed - len(result.skipped)
+    print(f"{passed} passed, {failed} failed")
+    return 1 if failed else 0
+
+
+if __name__ == "__main__":
+    sys.exit(main())
