@@ -43,7 +43,7 @@ def _add_audit(command: argparse.ArgumentParser) -> None:
 
 def _add_salvage(command: argparse.ArgumentParser) -> None:
     command.add_argument("file", metavar="FILE", help="a damaged dump")
-    command.add_argument("--good", required=True, metavar="G", help="the file for documents without a fault, which is made anew")
+    command.add_argument("--good", required=True, metavar="G", help="the file for documents without a fault, which is overwritten")
     command.add_argument("--bad", required=True, metavar="B", help="the file for other documents whose length is known")
     command.set_defaults(run=run_salvage)
 

@@ -85,7 +85,7 @@ def find(
 ) -> Answer:
     """Finds documents of a dump by one run of the program, which begins with the first document that is asked for.
 
-    `batch` gives the next so many documents of the answer in place of all, and `after` goes on after the documents that were given
+    `batch` gives the next so many documents of the answer in place of all, and `after` resumes after the documents that were given
     with this token. `index` makes an index on a path, and changes no answer.
     """
     words = [program, "find", file_word(path), *Request.of(filter, sort, skip, limit).words()]
