@@ -135,7 +135,7 @@ def read_log(lines: Iterable[str]) -> dict[str, int]:
 def audit(files: Sequence[str], expected: dict[str, int], console: Console | None, jobs: int, program: str) -> Audit:
     """Checks files side by side; faults and counts go to the console where there is one, the names in front, as they come."""
     with Run([program, "check", "-"]) as run:
-        finish_check(run)  # A program that cannot be started is told once, and not of each file.
+        finish_check(run)  # A program that cannot be started is reported once, not for each file.
     group = Group()
     check = partial(_check_file, console=console, group=group, program=program)
     reports = []

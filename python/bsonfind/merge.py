@@ -80,7 +80,7 @@ def check_parts(parts: Sequence[Part], *, map: Map = builtins.map, program: str 
 
 
 def _try_request(request: Request, program: str) -> None:
-    """Asks no documents, so that a request that is refused, or a program that is not there, is told before any part is asked."""
+    """Asks no documents, so that a refused request or a missing program is reported before any part is asked."""
     with Run([program, "find", "-", *request.words()]) as run:
         run.finish()
 

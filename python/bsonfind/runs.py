@@ -70,7 +70,7 @@ class Feeder(threading.Thread):
 class Run:
     """A run of the program, which is killed where it has not ended when the run is left.
 
-    Standard error goes to a file without a name, so that however much is told no pipe is full of it.
+    Standard error goes to a file without a name, so that no message is too long for a pipe.
     """
 
     def __init__(

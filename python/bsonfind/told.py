@@ -9,7 +9,7 @@ from .errors import BsonfindError, CommandError, DumpError, ProgramError
 from .faults import read_fault
 
 _PREFIX = "bsonfind: "
-# The words of each layer of refusals, from number 1 on; what is told in a session alone is left out.
+# The words of each layer of refusals, from number 1 on; words that only a session prints are left out.
 _WORDS = {
     "json": (
         "not JSON", "not a document", "too deep", "bad wrapper", "not in the profile", "number out of range", "zero in a name",

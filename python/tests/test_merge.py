@@ -196,7 +196,7 @@ class BadInput(Room):
         self.assertIn("ended by signal 9", str(raised.exception))
 
     def test_pack_that_fails(self) -> None:
-        """What is told is why it failed, and not that `find` could write no more."""
+        """The error says why it failed, and not that `find` could write no more."""
         program = self.script('if [ "$1" = pack ]; then echo "bsonfind: no memory" >&2; exit 1; fi\nexec "$PROGRAM" "$@"')
         parts = plan(self.file(PEOPLE.read_bytes() * 4), 1 << 20)
         with self.assertRaises(PartError) as raised:

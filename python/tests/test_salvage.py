@@ -14,7 +14,7 @@ from .support import DOUBLE, PEOPLE, PROGRAM, SHOP, Room, environment, run_packa
 
 class Salvages(Room):
     def salvage(self, data: bytes, status: int, program: str = PROGRAM) -> Tuple[str, bytes, bytes]:
-        """What is told of bytes, and what is copied of them."""
+        """What is reported of bytes, and what is copied of them."""
         self.damaged, self.good, self.bad = (self.room / name for name in ("damaged.bson", "good.bson", "bad.bson"))
         self.damaged.write_bytes(data)
         run = run_package("--program", program, "salvage", str(self.damaged), "--good", str(self.good), "--bad", str(self.bad))

@@ -171,7 +171,7 @@ class Endings(Room):
         self.assertEqual(raised.exception.fault, (500, 92730, "d", "double"))
 
     def test_fault_in_a_long_path(self) -> None:
-        """What is told does not fit into a pipe, and has what ends a line elsewhere."""
+        """The message does not fit into a pipe, and has characters that end a line elsewhere."""
         name = "\u2028x\x85" * 60_000
         element = b"\x01" + name.encode() + b"\0" + bytes(8)
         with self.assertRaises(DumpError) as raised:
