@@ -1,5 +1,6 @@
 -- Lemmas on reading the next document into a buffer.
-use Rattle.std.proofs.Common.{rules, take, take_at, ◌≡◌, ◌≤◌, inr, ℕ, ◌+◌, ◌-◌, List, [], ◌++◌, length, Option, sym, ap, ◌∙◌, subst, append_assoc, arith, length-append}
+use Rattle.std.proofs.Common.{rules, take, take_at, ◌≡◌, ◌≤◌, inr, ℕ, ◌+◌, ◌-◌, List, [], ◌++◌, length, Option, None, Some, IfSome, refl, sym, ap, ◌∙◌, subst, append_assoc, arith, length-append}
+use Rattle.std.specs.Io.{StartsWith}
 use Rattle.std.specs.Io.KnownBytes.{Consumes}
 use Rattle.std.proofs.KnownBytes.{Consumes-trans}
 use Rattle.bd_device.specs.Counts.{after_more}
@@ -12,6 +13,12 @@ use Rattle.bd_stream.specs.declared.doc_buffer.DocBuffer.{DocBuffer}
 use Rattle.bd_stream.specs.declared.doc_buffer.DocFault.{DocFault}
 use Rattle.bd_stream.specs.declared.doc_buffer.DocFault.TheVariants as faults
 use Rattle.bd_stream.proofs.FrameLemmas.{IsHead, joined_no_frame, told_kept}
+
+-- known bytes begin with those that were given
+pub begins : (old new : Option (List ℕ)) (bytes : List ℕ) → Consumes old new bytes → IfSome old (λ xs. StartsWith xs bytes)
+begins None new bytes gave = tt
+begins (Some xs) None bytes gave = absurd gave
+begins (Some xs) (Some ys) bytes gave = ap (take (length bytes)) gave ∙ take_at bytes ys (length bytes) refl
 
 -- a room that is written over is as long as it was
 pub kept_room : (len : ℕ) (room rest : List ℕ) → length room ≡ len → length (take len (room ++ rest)) ≡ length room
@@ -41,11 +48,10 @@ module _ {R : Type 0} (state : R → Reader) (gives : R → Option (List ℕ) �
     reason_after given (faults.Frame f) is = (
       is.0 ∙ kept.offset,
       is.1 ∙ kept.number,
-      is.2,
-      joined_no_frame (state old).left (state middle).left head f.kind gave is.3,
-      is.4,
-      rw kept.room at is.5,
-      is.6 ∙ well,
+      joined_no_frame (state old).left (state middle).left head f.kind gave is.2,
+      is.3,
+      rw kept.room at is.4,
+      is.5 ∙ well,
     )
     reason_after given (faults.Read reads.Device) is = (is.0, rw kept.room at is.1, is.2 ∙ ap (λ n. after_more n 1) well)
     reason_after given (faults.Read reads.TooLong) is = (
@@ -55,7 +61,8 @@ module _ {R : Type 0} (state : R → Reader) (gives : R → Option (List ℕ) �
       is.3,
       rw kept.room at is.4,
       rw kept.room at is.5,
-      is.6 ∙ well,
+      is.6,
+      is.7 ∙ well,
     )
     reason_after given (faults.Read reads.TooManyTurns) is = (
       is.0,

@@ -5,7 +5,7 @@ use Rattle.bd_device.specs.Counts.{after_more}
 use Rattle.bd_device.specs.Devices.{AreReads, Over, Reader, over}
 use Rattle.bd_device.specs.declared.reading.ReadFault.TheVariants as reads
 use Rattle.bd_check.specs.Dump.{frame_length, length_told}
-use Rattle.bd_stream.specs.Stream.{HasNoFrame, IsCut, IsFrame}
+use Rattle.bd_stream.specs.Stream.{HasNoFrame, IsCut, IsFrame, IsWithinOne}
 use Rattle.bd_stream.specs.declared.doc_buffer.DocBuffer.{DocBuffer}
 use Rattle.bd_stream.specs.declared.doc_buffer.DocFault.{DocFault}
 use Rattle.bd_stream.specs.declared.doc_buffer.DocFault.TheVariants as faults
@@ -65,7 +65,7 @@ pub record FindsEnd {R : Type 0} (state : R → Reader) (before after : DocBuffe
 abbrev pub IsReason : {R : Type 0} → (R → Reader) → (R → Option (List ℕ) → R → Type 0) → DocBuffer → R → R
     → List ℕ → List ℕ → DocFault → Type 0
 IsReason state gives before old new head given (faults.Frame f) =
-    (f.offset ≡ before.place) × (f.document ≡ before.number) × (f.path.items ≡ [])
+    (f.offset ≡ before.place) × (f.document ≡ before.number)
     × HasNoFrame head (state old).left f.kind × (frame_length (head ++ given) ≡ Err f.kind)
     × (length (head ++ given) ≤ before.left.bytes) × ((state new).failures ≡ (state old).failures)
 IsReason state gives before old new head given (faults.Read reads.Device) =
@@ -74,7 +74,7 @@ IsReason state gives before old new head given (faults.Read reads.Device) =
 IsReason state gives before old new head given (faults.Read reads.TooLong) =
     (front : List ℕ) × (last : List ℕ) × (given ≡ front ++ last) × IsCut (head ++ front)
     × (length (head ++ front) ≤ before.left.bytes)
-    × (before.left.bytes < length (head ++ front) + length last)
+    × (before.left.bytes < length (head ++ front) + length last) × IsWithinOne (head ++ given)
     × ((state new).failures ≡ (state old).failures)
 IsReason state gives before old new head given (faults.Read reads.TooManyTurns) =
     IsCut (head ++ given) × (length (head ++ given) ≤ before.left.bytes)

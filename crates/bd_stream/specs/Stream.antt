@@ -19,6 +19,18 @@ IsCut bytes =
     (length bytes < 4)
     ⊎ ((5 ≤ length_told bytes) × (length_told bytes ≤ 16793600) × (length bytes < length_told bytes))
 
+-- the bytes are no more than a document has: too few to go past its length, or no more than this counts
+abbrev pub IsWithinOne : List ℕ → Type 0
+IsWithinOne bytes =
+    (length bytes ≤ 4)
+    ⊎ ((5 ≤ length_told bytes) × (length_told bytes ≤ 16793600) × (length bytes ≤ length_told bytes))
+
+-- the bytes are documents by their lengths and a part of one more, and the last ones are no more than are missing of it
+abbrev pub EndsWithinOne : List ℕ → List ℕ → Type 0
+EndsWithinOne bytes last =
+    (frames : List (List ℕ)) × (front : List ℕ) × (part : List ℕ) × AreFrames frames front
+    × (bytes ≡ front ++ part) × IsWithinOne (part ++ last)
+
 -- a head, and the bytes that a device still gives after it, where they are known, or some, begin with no length of a document,
 -- for this reason
 abbrev pub HasNoFrame : List ℕ → Option (List ℕ) → FaultKind → Type 0

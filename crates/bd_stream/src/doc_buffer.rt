@@ -1,6 +1,6 @@
 //! The next document of a device, in a buffer that the documents share.
 ghost use Rattle.std.specs.Prelude.{◌≡◌, [], true, false, IfErr, OnErr, OnOk, length, take, ◌+◌, ◌*◌, ◌<◌, ◌≤◌, ◌⊎◌};
-ghost use Rattle.bd_check.specs.declared.fault.Fault.{Fault};
+ghost use Rattle.bd_stream.specs.declared.doc_buffer.FrameFault.{FrameFault};
 ghost use Rattle.bd_stream.specs.declared.doc_buffer.DocFault.TheVariants.{Frame as framed, Read as unread};
 
 mod next_document;
@@ -10,12 +10,34 @@ use bd_device::{Limits, ReadFault};
 use std::alloc::Global;
 use thiserror::Error;
 
-/// Why a device gave no document.
-#[derive(Debug, Drop, Error)]
+/// A length that is no document's, and where it stands.
+#[derive(Clone, Copy, Debug, Drop, PartialEq, Eq, Error)]
+#[error("document {document}, byte {offset}: {kind}")]
+pub struct FrameFault {
+    /// `ShortLength` or `BadLength`.
+    pub kind: FaultKind,
+    /// The number of the document, counted from 0.
+    pub document: u32,
+    /// The byte, counted from the first that the device gave.
+    pub offset: u64,
+}
+
+impl FrameFault {
+    /// The same as a fault of a dump, with no path.
+    pub fn to_fault(self, alloc: Global) -> Fault
+        ensures same { (result.kind ≡ self.kind) × (result.document ≡ self.document) × (result.offset ≡ self.offset) }
+        ensures path { result.path.items ≡ [] }
+    {
+        frame_fault(alloc, self.kind, self.offset as usize, self.document)
+    }
+}
+
+/// Why a device gave no document. It owns no memory, so that `DocReader::next` may lend.
+#[derive(Clone, Copy, Debug, Drop, PartialEq, Eq, Error)]
 pub enum DocFault {
     /// The length of the document is cut short or bad.
     #[error("{0}")]
-    Frame(Fault),
+    Frame(FrameFault),
     /// The device was not read to the end of the document.
     #[error("{0}")]
     Read(ReadFault),
@@ -50,7 +72,6 @@ fn make_room(buffer: &mut Vec<u8>, size: usize) -> Result<(), ReadFault>
 pub struct DocBuffer {
     /// What the device may still be asked for.
     left: Limits,
-    alloc: Global,
     buffer: Vec<u8>,
     /// The length of the document that is held.
     size: usize,
@@ -78,7 +99,6 @@ impl DocBuffer {
     {
         DocBuffer {
             left: limits,
-            alloc,
             buffer: Vec::new(alloc),
             size: 0,
             place: 0,
@@ -117,10 +137,14 @@ impl DocBuffer {
 
     /// A fault of the next document as a whole.
     fn fault(&self, kind: FaultKind) -> DocFault
-        ensures { (f : Fault) × (result ≡ framed f) × (f.kind ≡ kind) × (f.offset ≡ self.now.place)
-            × (f.document ≡ self.now.number) × (f.path.items ≡ []) }
+        ensures { (f : FrameFault) × (result ≡ framed f) × (f.kind ≡ kind) × (f.offset ≡ self.now.place)
+            × (f.document ≡ self.now.number) }
     {
-        DocFault::Frame(frame_fault(self.alloc, kind, self.place as usize, self.number))
+        DocFault::Frame(FrameFault {
+            kind,
+            document: self.number,
+            offset: self.place,
+        })
     }
 
     /// Goes past the document of that size, which is in the buffer.

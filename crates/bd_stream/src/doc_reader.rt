@@ -2,6 +2,9 @@
 ghost use Rattle.std.specs.Prelude.{◌≡◌, Ok, Err, None, false, true, IfOk, IfErr, IfSome, IsTrue, OnErr, OnOk, [], length, ◌≤◌, ◌↔◌};
 ghost use Rattle.std.specs.Io.{StartsWith};
 ghost use Rattle.std.specs.Io.KnownBytes.{IsAtEnd};
+ghost use Rattle.std.specs.Io.BufRead.{Rests};
+ghost use Rattle.std.specs.Borrow.{sem};
+ghost use Rattle.bd_stream.specs.Lending.{Leaves};
 ghost use Rattle.bd_stream.specs.NextDocument.{FailsToRead, FindsEnd, HoldsNone, ReadsDocument, held_bytes};
 ghost use Rattle.bd_stream.specs.Stream.{IsFrame};
 ghost use Rattle.bd_stream.specs.declared.doc_buffer.DocBuffer.{DocBuffer};
@@ -29,6 +32,8 @@ pub struct DocReader<R: Input + Drop> {
 }
 
 impl<R: Input + Drop> DocReader<R> {
+    ghost use Rattle.bd_stream.specs.contracts.doc_reader.DocReader.{the_row};
+
     /// The documents of this device from its next byte on. No memory is taken. `limits.bytes` is at most 4,294,967,295.
     pub fn new(alloc: Global, reader: R, limits: Limits) -> DocReader<R>
         requires { limits.bytes ≤ 4294967295 }
@@ -59,10 +64,9 @@ impl<R: Input + Drop> DocReader<R> {
         ensures front { IfOk result (λ o. IfSome o (λ d. IfSome (R.state self.old.reader).left (λ xs. StartsWith xs d.bytes.now))) }
         ensures stands { IfOk result (λ o. IfSome o (λ d. (d.start ≡ self.old.documents.place) × (d.number ≡ self.old.documents.number))) }
         ensures end { result ≡ Ok None → IsAtEnd (R.state self.old.reader).left }
-        // No whole document stood before a fault.
-        ensures fails { self.old.documents.failed ≡ false → IfErr result (λ fault. (after : DocBuffer) × (new : R)
-            × FailsToRead R.state R.read_gives [] self.old.documents after self.old.reader new fault) }
         ensures refused { (result ≡ Err DocFault.Failed) ↔ IsTrue self.old.documents.failed }
+        ensures* after { sem 𝓛 (Rests (the_row R.row) self.entry (λ new.
+            Leaves R.state R.read_gives self.old.documents self.old.reader result new.documents new.reader)) }
     {
         let start = self.documents.place();
         let number = self.documents.number();

@@ -23,5 +23,5 @@
 mod doc_buffer;
 mod doc_reader;
 
-pub use doc_buffer::{DocBuffer, DocFault};
+pub use doc_buffer::{DocBuffer, DocFault, FrameFault};
 pub use doc_reader::{DocReader, RawBytes};

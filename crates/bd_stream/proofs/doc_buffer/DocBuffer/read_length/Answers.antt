@@ -22,7 +22,6 @@ returns-then-filled-lt4-clause-fails g c =
       reason = (
         told.3,
         told.4,
-        told.5,
         rw told.2 (has_short_length _ _ _ e.bytes (e.end less) (search rules) (search rules)),
         rw told.2 (frame_short (take c.in_ok-filled.filled.bytes c.fill.new.room) (search rules) (search rules)),
         search rules,
@@ -50,7 +49,6 @@ returns-then-length-lt5-clause-fails g c =
       reason = (
         told.3,
         told.4,
-        told.5,
         rw told.2 (has_bad_length _ _ c.fill.new.room gave size out),
         rw told.2 (frame_out c.fill.new.room size out),
         search rules,

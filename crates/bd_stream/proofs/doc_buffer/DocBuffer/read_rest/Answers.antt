@@ -38,7 +38,6 @@ returns-then-filled-length-clause-fails g c =
       reason = (
         told.3,
         told.4,
-        told.5,
         rw told.2 (has_cut_length c.args.head _ _ e.gives.0 (size, c.requires.length.0, c.requires.length.1) e.gives.1 (e.end (search rules)) less),
         rw told.2 (frame_cut c.args.head e.gives.0 (size, c.requires.length.0, c.requires.length.1) less),
         search rules,
