@@ -29,7 +29,7 @@ pub use bd_device::{
     SystemInput, SystemOutput, read_all, write_all,
 };
 pub use bd_raw::{At, Elements, RawDoc, RawValue};
-pub use bd_stream::{DocBuffer, DocFault, DocReader, RawBytes};
+pub use bd_stream::{DocBuffer, DocFault, DocReader, FrameFault, RawBytes};
 pub use bd_write::{
     WriteFault, append_label, append_value, begin_body, end_body, write_document, write_text,
 };

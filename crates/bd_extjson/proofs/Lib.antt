@@ -18,3 +18,4 @@ pub mod TreeInverseLemmas
 pub mod StepLemmas
 pub mod TextUtf8Lemmas
 pub mod WholeTextLemmas
+pub mod LineLemmas

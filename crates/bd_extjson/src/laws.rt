@@ -1,8 +1,8 @@
 //! What the texts determine, and that they are read back.
-ghost use Rattle.std.specs.Prelude.{◌≡◌, ◌≤◌, ℕ, List, false};
+ghost use Rattle.std.specs.Prelude.{◌≡◌, ◌==◌, ◌≤◌, ℕ, List, All, false};
 ghost use Rattle.bd_value.specs.Depth.{depth};
 ghost use Rattle.bd_value.specs.Fits.{FitsTypes, HasUtf8};
-ghost use Rattle.bd_value.specs.Tree.{Doc, doc, fields_of};
+ghost use Rattle.bd_value.specs.Tree.{Doc, Tree, doc, fields_of};
 ghost use Rattle.bd_value.specs.View.{pairs};
 ghost use Rattle.bd_value.specs.Zeros.{zero_in};
 ghost use Rattle.bd_extjson.specs.Plain.{IsPlain};
@@ -47,4 +47,9 @@ pub fn document_reads_back(document: &Document)
 pub fn reads_what_fits()
     ensures types { (text : List ℕ) (d : Doc) → ReadsAs text d → FitsTypes (doc (fields_of d)) }
     ensures texts { (text : List ℕ) (d : Doc) → ReadsAs text d → HasUtf8 (doc (fields_of d)) }
+{}
+
+/// A text is one line: no byte of it is a newline.
+pub fn texts_are_lines()
+    ensures { (t : Tree) → FitsTypes t → All (λ b. (b == 10) ≡ false) (text t) }
 {}

@@ -28,6 +28,8 @@ pub use bd_text::{
 };
 pub use bd_wrapper::{Trouble, Wrapper};
 pub use json::Scratch;
-pub use laws::{document_reads_back, reads_back, reads_what_fits, text_determines_document};
+pub use laws::{
+    document_reads_back, reads_back, reads_what_fits, text_determines_document, texts_are_lines,
+};
 pub use read::{read_doc, read_doc_with};
 pub use reading::{bare_number, read_wrapper, wrapper_named};

@@ -1,15 +1,17 @@
 -- Parts that are read in turn.
-use Rattle.std.proofs.Common.{◌≡◌, ◌≢◌, ◌⊎◌, inl, inr, ℕ, zero, suc, ◌-◌, Bool, true, false, length, Option, Some, None, if◌then◌else◌, List, [], ◌∷◌, ◌++◌, Result, Ok, Err, refl, sym, ap, ◌∙◌, append_assoc, append-nil}
+use Rattle.std.proofs.Common.{◌≡◌, ◌≢◌, ◌⊎◌, inl, inr, ℕ, zero, suc, ◌-◌, Bool, true, false, length, Option, Some, None, if◌then◌else◌, List, [], ◌∷◌, ◌++◌, Result, Ok, Err, map, refl, sym, ap, ◌∙◌, append_assoc, append-nil}
+use Rattle.std.proofs.lemmas.List.{map_push}
 use Rattle.bd_value.specs.Kind.{kind_of}
 use Rattle.bd_value.specs.Parts.{AreParts, length_of, values_of}
 use Rattle.bd_value.specs.Tree.{Tree, leaf, doc, array, code_scope, Doc, Fields, Items, no_items, item, fields_of, items_of, list_of, fields_of-pairs_of, pairs_of, items_of-list_of}
 use Rattle.bd_value.specs.declared.kind.Kind.{Kind}
+use Rattle.bd_value.specs.Tree as trees
 use Rattle.bd_value.specs.declared.kind.Kind.TheVariants as kinds
 use Rattle.bd_filter.specs.Fault.{IsAnswerTo, IsStarved, Refusal, refusal_of, StopsAt, TellsMisfit, deeper, under, misfit_refusal}
 use Rattle.bd_filter.specs.declared.fault.FilterFault.{FilterFault}
 use Rattle.bd_filter.specs.declared.fault.Stop.{Stop}
 use Rattle.bd_filter.specs.declared.fault.Stop.TheVariants as stops
-use Rattle.bd_filter.specs.FilterOf.{all_kinds, both_kinds, element_operator, filter_of, filters_of, has_operators, has_value_form, member_filter, member_filters, member_values, members_of}
+use Rattle.bd_filter.specs.FilterOf.{all_kinds, both_kinds, element_operator, filter_of, filters_of, has_operators, has_value_form, member_filter, member_filters, member_values, members_of, ordered_value}
 use Rattle.bd_filter.specs.FilterOf.{inner_part, not_operator, operand_filters, operand_kinds, operators_of, path_operators, read_as, read_first, type_kinds}
 use Rattle.bd_filter.specs.Filter.{all_of, filters_from, has_document, has_element, negates, operators_from}
 
@@ -18,16 +20,29 @@ abbrev pub joined : {A : Type 0} → List A → Result (List A) Refusal → Resu
 joined xs (Ok ys) = Ok (xs ++ ys)
 joined xs (Err r) = Err r
 
-pub one_more : {A : Type 0} (xs : List A) (x : A) (rest : Result (List A) Refusal) → joined xs (read_first (Ok x) rest) ≡ joined (xs ++ x ∷ []) rest
+one_more : {A : Type 0} (xs : List A) (x : A) (rest : Result (List A) Refusal) → joined xs (read_first (Ok x) rest) ≡ joined (xs ++ x ∷ []) rest
 one_more xs x (Ok ys) = ap (λ l. Ok l) (sym (append_assoc xs (x ∷ []) ys))
 one_more xs x (Err r) = refl
 
-pub no_more : {A : Type 0} (xs : List A) → joined xs (Ok []) ≡ Ok xs
+no_more : {A : Type 0} (xs : List A) → joined xs (Ok []) ≡ Ok xs
 no_more xs = ap (λ l. Ok l) (append-nil xs)
 
 pub none_yet : {A : Type 0} (rest : Result (List A) Refusal) → joined [] rest ≡ rest
 none_yet (Ok ys) = refl
 none_yet (Err r) = refl
+
+-- of parts in memory: none was read yet, one more was read, and all were
+pub none_read : {A B : Type 0} (view : A → B) (xs : List A) (whole : Result (List B) Refusal) → xs ≡ [] → joined (map view xs) whole ≡ whole
+none_read view xs whole none = ap (λ ys. joined (map view ys) whole) none ∙ none_yet whole
+
+pub one_read : {A B : Type 0} (view : A → B) (xs ys : List A) (x : A) (name : List ℕ) (part : Result B Refusal) (rest whole : Result (List B) Refusal)
+    → ys ≡ xs ++ x ∷ [] → part ≡ Ok (view x) → joined (map view xs) (read_first (under name part) rest) ≡ whole → joined (map view ys) rest ≡ whole
+one_read view xs ys x name part rest whole pushed is so_far =
+    ap (λ zs. joined (map view zs) rest) pushed ∙ ap (λ zs. joined zs rest) (map_push view xs x) ∙ sym (one_more (map view xs) (view x) rest)
+    ∙ sym (ap (λ p. joined (map view xs) (read_first (under name p) rest)) is) ∙ so_far
+
+pub all_read : {B : Type 0} (xs : List B) (rest whole : Result (List B) Refusal) → joined xs rest ≡ whole → rest ≡ Ok [] → whole ≡ Ok xs
+all_read xs rest whole so_far none = sym so_far ∙ ap (joined xs) none ∙ no_more xs
 
 -- a part that is refused under a name is the refusal of all
 pub seen_above : {A : Type 0} (name : List ℕ) (stop result : Stop) (part : Result A Refusal)
@@ -42,6 +57,14 @@ pub refused : {A : Type 0} (xs : List A) (part : Result A Refusal) (rest whole :
     → joined xs (read_first part rest) ≡ whole → StopsAt stop part → StopsAt stop whole
 refused xs part rest whole stops.NoMemory is at = tt
 refused xs part rest whole (stops.Misfit m) is at = sym is ∙ ap (λ p. joined xs (read_first p rest)) at
+
+-- ---- operands that are values
+
+pub ordered_is : (t : Tree) → kind_of t ≢ kinds.Regex → kind_of t ≢ kinds.MinKey → kind_of t ≢ kinds.MaxKey → ordered_value t ≡ Ok t
+ordered_is (leaf (trees.regex p o)) regex least greatest = absurd (regex refl)
+ordered_is (leaf trees.min_key) regex least greatest = absurd (least refl)
+ordered_is (leaf trees.max_key) regex least greatest = absurd (greatest refl)
+ordered_is t regex least greatest = refl
 
 -- ---- the array of `$in` and its kin
 

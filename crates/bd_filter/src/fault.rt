@@ -59,7 +59,7 @@ pub struct FilterFault {
 }
 
 /// The same, as it is seen from the pair or member outwards.
-#[derive(Debug, Drop)]
+#[derive(Drop)]
 pub struct Misfit {
     pub kind: FilterFaultKind,
     /// From the pair or member up.
@@ -67,7 +67,7 @@ pub struct Misfit {
 }
 
 /// Why reading a filter stopped.
-#[derive(Debug, Drop)]
+#[derive(Drop)]
 pub enum Stop {
     NoMemory,
     Misfit(Misfit),

@@ -6,7 +6,7 @@ ghost use Rattle.bd_filter.specs.Named.{named_in};
 ghost use Rattle.bd_filter.specs.Word.{begins_with_dollar, is_left_out, query_operators, word_of};
 
 /// What a name stands for in a filter.
-#[derive(Clone, Copy, Debug, PartialEq, Eq)]
+#[derive(Clone, Copy)]
 pub enum Word {
     /// An operator whose operand is an array of filters.
     Logical(LogicalOperator),
@@ -25,7 +25,7 @@ pub enum Word {
 }
 
 /// MongoDB manual, "Logical Query Operators", without `$not`.
-#[derive(Clone, Copy, Debug, PartialEq, Eq)]
+#[derive(Clone, Copy)]
 pub enum LogicalOperator {
     And,
     Or,
@@ -33,7 +33,7 @@ pub enum LogicalOperator {
 }
 
 /// The operators whose operand is values.
-#[derive(Clone, Copy, Debug, PartialEq, Eq)]
+#[derive(Clone, Copy)]
 pub enum PlainOperator {
     Equal,
     NotEqual,
@@ -98,7 +98,10 @@ fn known_operator(name: &str) -> Option<Word>
 pub(crate) fn begins_with_dollar(name: &str) -> bool
     ensures { result ≡ begins_with_dollar name.now }
 {
-    matches!(name.as_bytes(), [b'$', ..])
+    match name.as_bytes().first() {
+        Some(byte) => *byte == b'$',
+        None => false,
+    }
 }
 
 /// The operators of the manual that are left out, and the parts of a DBRef.

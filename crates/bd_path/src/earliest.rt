@@ -17,6 +17,7 @@ use crate::component::Component;
 use crate::dir::Dir;
 use crate::key::{Key, compare_keys, key_value};
 use crate::path::Path;
+use crate::positions::{index_at, name_at};
 use crate::visits::Visits;
 use bd_value::{Kind, NoMemory, Reading, Value};
 use std::alloc::Global;
@@ -103,7 +104,7 @@ fn earliest_in_field<N: Reading>(
     ensures tree { IsEarliestWith dir N.tree first result (all_keys false (N.tree node) (drop k (component_names path.now))) }
     ensures kept { IfSome first (λ f. IsKeyOf N.source (N.source node) f) → IfSome result (λ r. IsKeyOf N.source (N.source node) r) }
 {
-    let name = path[k].name.as_str();
+    let name = name_at(path, k);
     match node.first(name) {
         Some(value) => {
             let inside = walked.at_field(path, name);
@@ -189,7 +190,8 @@ fn earliest_at_index<N: Reading>(
     ensures tree { IsEarliestWith dir N.tree first result (index_keys false (N.tree node) (drop k (component_names path.now))) }
     ensures kept { IfSome first (λ f. IsKeyOf N.source (N.source node) f) → IfSome result (λ r. IsKeyOf N.source (N.source node) r) }
 {
-    match path[k].index {
+    let index = index_at(path, k);
+    match index {
         Some(i) if i < node.len() => {
             let element = node.element(i);
             let inside = walked.at_index(path, k, i, is_document(element));

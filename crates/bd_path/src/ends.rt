@@ -13,6 +13,7 @@ ghost use Rattle.bd_path.specs.Visits.{GathersNone};
 use crate::branch::is_document;
 use crate::component::Component;
 use crate::path::Path;
+use crate::positions::{index_at, name_at};
 use crate::visits::Visits;
 use bd_value::{Kind, Reading};
 
@@ -83,7 +84,7 @@ fn any_end_in_field<N: Reading, T: EndTest>(
     requires vain { GathersNone (T.passes test.now) ends (N.tree node) (component_names path.now) walked.now }
     ensures { result ≡ list_any (T.passes test.now) (reach (N.tree node) (drop k (component_names path.now))) }
 {
-    let name = path[k].name.as_str();
+    let name = name_at(path, k);
     match node.first(name) {
         Some(value) => {
             let inside = walked.at_field(path, name);
@@ -142,7 +143,8 @@ fn any_end_at_index<N: Reading, T: EndTest>(
     requires documents { list_any (T.passes test.now) (document_ends (N.tree node) (drop k (component_names path.now))) ≡ false }
     ensures { result ≡ list_any (T.passes test.now) (index_ends (N.tree node) (drop k (component_names path.now))) }
 {
-    match path[k].index {
+    let index = index_at(path, k);
+    match index {
         Some(i) if i < node.len() => {
             let element = node.element(i);
             let inside = walked.at_index(path, k, i, is_document(element));

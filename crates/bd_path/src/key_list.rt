@@ -17,6 +17,7 @@ use crate::branch::{has_branch, is_document};
 use crate::component::Component;
 use crate::key::{Key, compare_keys, key_value};
 use crate::path::Path;
+use crate::positions::{index_at, name_at};
 use crate::visits::Visits;
 use bd_value::{Kind, NoMemory, Reading, Value};
 use std::alloc::Global;
@@ -120,7 +121,7 @@ fn add_keys_of_field<N: Reading>(
     ensures added { OnOk result (AddsKeys N.tree keys.old.items keys.new.items (all_keys sparse (N.tree node) (drop k (component_names path.now)))) }
     ensures kept { AreKeysOf N.source (N.source node) keys.old.items → AreKeysOf N.source (N.source node) keys.new.items }
 {
-    let name = path[k].name.as_str();
+    let name = name_at(path, k);
     match node.first(name) {
         Some(value) => {
             let inside = walked.at_field(path, name);
@@ -205,7 +206,8 @@ fn add_keys_at_index<N: Reading>(
     ensures added { OnOk result (AddsKeys N.tree keys.old.items keys.new.items (index_keys sparse (N.tree node) (drop k (component_names path.now)))) }
     ensures kept { AreKeysOf N.source (N.source node) keys.old.items → AreKeysOf N.source (N.source node) keys.new.items }
 {
-    match path[k].index {
+    let index = index_at(path, k);
+    match index {
         Some(i) if i < node.len() => {
             let element = node.element(i);
             let inside = walked.at_index(path, k, i, is_document(element));

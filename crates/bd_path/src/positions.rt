@@ -1,6 +1,7 @@
 //! Positions of a path.
 
-ghost use Rattle.std.specs.Prelude.{◌≡◌, ℕ, suc, ◌<◌, ◌≤◌, ◌⊎◌, true, false, length, IsTrue, IsFalse, string_bytes};
+ghost use Rattle.std.specs.Prelude.{◌≡◌, ℕ, List, suc, ◌<◌, ◌≤◌, ◌⊎◌, true, false, Some, length, slice_get, IsTrue, IsFalse, string_bytes};
+ghost use Rattle.bd_path.specs.Component.{held_index};
 ghost use Rattle.bd_path.specs.Names.{component_names};
 ghost use Rattle.bd_path.specs.Positions.{IsOpen, Leads, LedTo, Takes, is_open};
 
@@ -146,4 +147,22 @@ impl Positions {
         }
         next
     }
+}
+
+/// The name of the component at a position.
+#[inline(always)]
+pub(crate) fn name_at(path: &[Component], k: usize) -> &str
+    requires { k < length path.now }
+    ensures { slice_get (component_names path.now) k ≡ Some result.now }
+{
+    path[k].name.as_str()
+}
+
+/// The index that the component at a position is.
+#[inline(always)]
+pub(crate) fn index_at(path: &[Component], k: usize) -> Option<usize>
+    requires { k < length path.now }
+    ensures { (name : List ℕ) × (slice_get (component_names path.now) k ≡ Some name) × (held_index name ≡ result) }
+{
+    path[k].index
 }

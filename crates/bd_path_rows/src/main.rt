@@ -7,8 +7,8 @@
 //! The rows are the file `stdin`, and what they have to answer is `stdout`. No program wrote that: the answers were worked by hand,
 //! from the MongoDB manual ("Comparison/Sort Order", "Query on Embedded/Nested Documents", "Query an Array", "Query for Null or
 //! Missing Fields") and, where it leaves a choice open, from what this project chose. The texts that are read and written again
-//! are those of `tests/rows/pack-*.jsonl`. Of one row alone, whose values were put together at random, `tests/answers.py` found
-//! the order.
+//! are those of `tests/rows/pack-*.jsonl`. Of one row alone, whose values were put together at random,
+//! `tests/model/answers.py` found the order.
 //!
 //! - `calls`: the calls, by their names.
 //! - `order`: the calls that order values.

@@ -56,7 +56,8 @@ impl At {
 impl<'a> RawValue<'a> {
     /// Where it stands in its bytes.
     pub fn at(self) -> At
-        ensures { StandsAt self.entry.bytes.now result (stands self.entry.sound) }
+        ensures stands { StandsAt self.entry.bytes.now result (stands self.entry.sound) }
+        ensures start { result.start ≡ self.entry.start }
     {
         At {
             kind: type_byte(self.kind),

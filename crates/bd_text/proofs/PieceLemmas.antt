@@ -36,7 +36,7 @@ escaped-before true = refl
 escaped-before false = refl
 
 -- the same of names inside one string
-pub name_step : (later : Bool) (x : List ℕ) (pieces xs : List (List ℕ)) (out total : List ℕ) → pieces ≡ x ∷ xs → out ++ escaped (to_come later 46 pieces) ≡ total
+name_step : (later : Bool) (x : List ℕ) (pieces xs : List (List ℕ)) (out total : List ℕ) → pieces ≡ x ∷ xs → out ++ escaped (to_come later 46 pieces) ≡ total
     → ((out ++ before later 46) ++ escaped x) ++ escaped (to_come true 46 xs) ≡ total
 name_step later x pieces xs out total is so_far =
     let whole : out ++ escaped (before later 46 ++ (x ++ to_come true 46 xs)) ≡ total = subst (λ (p : List (List ℕ)). out ++ escaped (to_come later 46 p) ≡ total) is so_far in
@@ -44,6 +44,11 @@ name_step later x pieces xs out total is so_far =
     flat_map-append escape_byte (before later 46) (x ++ to_come true 46 xs)
     ∙ ap₂ (λ (a b : List ℕ). a ++ b) (escaped-before later) (flat_map-append escape_byte x (to_come true 46 xs)) in
     simp append_assoc (ap (λ (l : List ℕ). out ++ l) (sym cut) ∙ whole)
+
+-- the same of what was written
+pub name_written : (later : Bool) (given x : List ℕ) (pieces xs : List (List ℕ)) (old separated out total : List ℕ) → separated ≡ old ++ before later 46 → out ≡ separated ++ escaped given → given ≡ x → pieces ≡ x ∷ xs
+    → old ++ escaped (to_come later 46 pieces) ≡ total → out ++ escaped (to_come true 46 xs) ≡ total
+name_written later given x pieces xs old separated out total dot put same is so_far = rw (put, dot, same) (name_step later x pieces xs old total is so_far)
 
 -- what a mapped list has at a place and after it
 pub drop-map : {A B : Type 0} (f : A → B) (xs : List A) (i : ℕ) (x : A) → i < length xs → x ≡ get_or xs i x → drop i (map f xs) ≡ f x ∷ drop (i + 1) (map f xs)

@@ -1,5 +1,5 @@
 -- Text that is written into place: what the first bytes are after a write, and that those before it stay.
-use Rattle.std.proofs.Common.{◌≡◌, ℕ, ◌+◌, ◌-◌, ◌≤◌, Bool, true, false, List, ◌++◌, length, take, drop, sym, ap, ap₂, ◌∙◌, arith, append_assoc, append-nil}
+use Rattle.std.proofs.Common.{◌≡◌, ℕ, ◌+◌, ◌-◌, ◌≤◌, Bool, true, false, List, [], ◌∷◌, ◌++◌, length, take, drop, sym, ap, ap₂, ◌∙◌, arith, append_assoc, append-nil}
 use Rattle.std.proofs.Math.Seq.{take-append-add, take-append_seam}
 use Rattle.std.proofs.lemmas.List.{take-take, take_all, drop_all, length-take, length-take-le, length-drop, length-append, take-append-drop}
 use Rattle.std.proofs.lemmas.Slice.{take-put_mid}
@@ -34,6 +34,22 @@ front end e old x new inside put =
 -- a text after another
 pub chained : (end e1 e2 : ℕ) (old mid new x y : List ℕ) → take e1 mid ≡ take end old ++ x → take e2 new ≡ take e1 mid ++ y → take e2 new ≡ take end old ++ (x ++ y)
 chained end e1 e2 old mid new x y first second = second ∙ ap (λ (l : List ℕ). l ++ y) first ∙ append_assoc (take end old) x y
+
+-- the first byte of a longer text is written
+pub begun : (end e b : ℕ) (old new rest : List ℕ) → take e new ≡ take end old ++ b ∷ [] → take e new ++ rest ≡ take end old ++ b ∷ rest
+begun end e b old new rest put = ap (λ (l : List ℕ). l ++ rest) put ∙ append_assoc (take end old) (b ∷ []) rest
+
+module _ (end at : ℕ) (start out : List ℕ) (after : end ≤ at) (inside : at ≤ length out) (kept : take end out ≡ take end start) where
+  -- a text is written further on, and then nothing
+  pub still_kept : (e : ℕ) (mid new x : List ℕ) → take e mid ≡ take at out ++ x → take e new ≡ take e mid → take end new ≡ take end start
+  still_kept e mid new x put same = cut end at new out after (front at e out x new inside (same ∙ put)) ∙ kept
+
+  -- two texts are written further on
+  pub goes_on : (e1 e2 : ℕ) (mid new x y : List ℕ) → take e1 mid ≡ take at out ++ x → take e2 new ≡ take e1 mid ++ y → (take end new ≡ take end start) × (end ≤ e2)
+  goes_on e1 e2 mid new x y first second =
+      let both = chained at e1 e2 out mid new x y first second in
+      let more = rises at e2 out (x ++ y) new inside both in
+      (cut end at new out after (front at e2 out (x ++ y) new inside both) ∙ kept, omega arith)
 
 -- of what a part of the room was overwritten by, only the first bytes are text
 pub put_front : (end k m : ℕ) (room ys text : List ℕ) → end ≤ length room → k ≤ length ys → take k ys ≡ text
@@ -74,10 +90,14 @@ both_ends end between size n e1 e2 text first last r0 r1 r2 inside near fits is 
     ap (λ k. take k r2) all ∙ put2 ∙ ap₂ (λ (a b : List ℕ). a ++ b) kept back ∙ append_assoc (take end r0) (take between text) (drop between text)
     ∙ ap (λ (l : List ℕ). take end r0 ++ l) (take-append-drop between text)
 
--- what follows for an error from what is known for it, and for an end
+-- what follows for an error from what is known for it or whatever the result is, and for an end
 pub on_err : {A E : Type 0} (P Q : Type 0) (r : Result A E) → (P → Q) → OnErr r P → OnErr r Q
 on_err P Q (Ok a) f known = known
 on_err P Q (Err e) f known = f known
+
+pub when_err : {A E : Type 0} (P : Type 0) (r : Result A E) → P → OnErr r P
+when_err P (Ok a) known = tt
+when_err P (Err e) known = known
 
 pub if_ok : {A E : Type 0} (P Q : A → Type 0) (r : Result A E) → ((a : A) → P a → Q a) → IfOk r P → IfOk r Q
 if_ok P Q (Ok a) f known = f a known

@@ -19,6 +19,9 @@ five old a b c d e = simp append_assoc
 pointer : (old a b c d e : List ℕ) → (((old ++ (a ++ b)) ++ c) ++ d) ++ e ≡ old ++ (a ++ (b ++ (c ++ (d ++ e))))
 pointer old a b c d e = simp append_assoc
 
+scoped : (old a b c d e : List ℕ) → ((old ++ (a ++ (b ++ c))) ++ d) ++ e ≡ old ++ (a ++ (b ++ (c ++ (d ++ e))))
+scoped old a b c d e = simp append_assoc
+
 -- ---- what is in quotation marks here needs no escape
 
 quoted-tail : (d end : List ℕ) → escaped d ≡ d → quoted d ++ end ≡ 34 ∷ (d ++ 34 ∷ end)
@@ -129,7 +132,7 @@ written-db_pointer old s id fits =
     ∙ ap (λ (l : List ℕ). first (codes "$dbPointer") (first (codes "$ref") (quoted s ++ next (codes "$id") l))) inner)
 
 pub written-code_scope : (old s : List ℕ) (fs : Fields)
-    → (((old ++ (codes "{\"$code\":" ++ quoted s)) ++ codes ",\"$scope\":") ++ text (doc fs)) ++ 125 ∷ [] ≡ old ++ text (code_scope s fs)
+    → ((old ++ (codes "{\"$code\":" ++ (quoted s ++ codes ",\"$scope\":"))) ++ text (doc fs)) ++ 125 ∷ [] ≡ old ++ text (code_scope s fs)
 unfolding quoted escape_byte
 written-code_scope old s fs =
-    pointer old (codes "{\"$code\":") (quoted s) (codes ",\"$scope\":") (text (doc fs)) (125 ∷ []) ∙ after old (two-is (codes "$code") (quoted s) (codes "$scope") (text (doc fs)))
+    scoped old (codes "{\"$code\":") (quoted s) (codes ",\"$scope\":") (text (doc fs)) (125 ∷ []) ∙ after old (two-is (codes "$code") (quoted s) (codes "$scope") (text (doc fs)))

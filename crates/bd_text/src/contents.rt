@@ -1,6 +1,6 @@
 //! What a value of a known kind holds. Where the kind is known, nothing is left of the look at it.
 ghost use Rattle.std.specs.Prelude.{◌≡◌};
-ghost use Rattle.bd_value.specs.Tree.{leaf, int32, int64, text, symbol, binary, object_id, boolean, date, timestamp, regex, db_pointer, code};
+ghost use Rattle.bd_value.specs.Tree.{Fields, leaf, doc, code_scope, int32, int64, text, symbol, binary, object_id, boolean, date, timestamp, regex, db_pointer, code};
 ghost use Rattle.bd_value.specs.Kind.{kind_of};
 ghost use Rattle.bd_value.specs.declared.kind.Kind.TheVariants as kinds;
 
@@ -142,4 +142,18 @@ pub(crate) fn pointer_of<N: Reading>(node: &N) -> (&str, [u8; 12])
         Some(Scalar::DbPointer { space, id }) => (space, id),
         _ => unreachable!(),
     }
+}
+
+/// The code and the scope of code with scope.
+pub(crate) fn code_scope_of<N: Reading>(node: &N) -> (&str, N)
+    requires { kind_of (N.tree node.now) ≡ kinds.CodeScope }
+    ensures { (fs : Fields) × (N.tree node.now ≡ code_scope result.0.now fs) × (N.tree result.1 ≡ doc fs) }
+{
+    let Some(Scalar::CodeScope(code)) = node.leaf() else {
+        unreachable!()
+    };
+    let Some(scope) = node.scope() else {
+        unreachable!()
+    };
+    (code, scope)
 }

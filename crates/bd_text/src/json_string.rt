@@ -5,7 +5,7 @@ ghost use Rattle.std.specs.List.{list_any, position, join_with_byte};
 ghost use Rattle.bd_text.specs.Text.{needs_escape, escape_byte, escaped, quoted};
 
 use crate::plain_text::copy_plain;
-use crate::room::{VALUE, make_room, put, put_byte, put_known, settle};
+use crate::room::{VALUE, make_room, put, put_byte, put_byte_in, put_known, settle};
 use bd_value::NoMemory;
 
 /// Whether a byte may not stand for itself in a string.
@@ -134,9 +134,9 @@ pub(crate) fn append_string(text: &str, out: &mut Vec<u8>, end: usize) -> Result
     ensures within { IfOk result (λ e. e ≤ length out.new.items) }
     ensures err { OnErr result (take end out.new.items ≡ take end out.old.items) }
 {
-    let at = put_byte(b'"', out.as_mut_slice(), end);
+    let at = put_byte_in(b'"', out, end);
     let at = append_text(text.as_bytes(), 1, out, at)?;
-    Ok(put_byte(b'"', out.as_mut_slice(), at))
+    Ok(put_byte_in(b'"', out, at))
 }
 
 /// Writes what stands before a piece after the text: the separator, where it comes `later` than others.
@@ -150,6 +150,23 @@ pub(crate) fn put_separator(later: bool, separator: u8, room: &mut [u8], end: us
         return put_byte(separator, room, end);
     }
     end
+}
+
+/// The same in a buffer, which gets room for a value after the separator: `VALUE` bytes.
+#[inline(always)]
+pub(crate) fn append_separator(
+    later: bool,
+    separator: u8,
+    out: &mut Vec<u8>,
+    end: usize,
+) -> Result<usize, NoMemory>
+    requires { end ≤ length out.old.items }
+    ensures ok { IfOk result (λ e. take e out.new.items ≡ take end out.old.items ++ (if later then separator ∷ [] else [])) }
+    ensures room { IfOk result (λ e. e + VALUE ≤ length out.new.items) }
+    ensures err { OnErr result (take end out.new.items ≡ take end out.old.items) }
+{
+    make_room(out, end, 1 + VALUE)?;
+    Ok(put_separator(later, separator, out.as_mut_slice(), end))
 }
 
 /// Appends a name as a string, with a comma before it where it comes `later` than others and a colon after it, and makes room for a
@@ -213,12 +230,12 @@ fn append_path(path: &[String], out: &mut Vec<u8>, end: usize) -> Result<usize, 
     ensures err { OnErr result (take end out.new.items ≡ take end out.old.items) }
 {
     make_room(out, end, 2)?;
-    let mut at = put_byte(b'"', out.as_mut_slice(), end);
+    let mut at = put_byte_in(b'"', out, end);
     let mut later = false;
     for name in path {
-        let next = put_separator(later, b'.', out.as_mut_slice(), at);
-        at = append_text(name.as_bytes(), 1, out, next)?;
+        at = append_separator(later, b'.', out, at)?;
+        at = append_text(name.as_bytes(), 1, out, at)?;
         later = true;
     }
-    Ok(put_byte(b'"', out.as_mut_slice(), at))
+    Ok(put_byte_in(b'"', out, at))
 }

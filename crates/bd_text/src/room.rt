@@ -77,6 +77,17 @@ pub(crate) fn put_byte(byte: u8, room: &mut [u8], end: usize) -> usize
     end + 1
 }
 
+/// The same in a buffer, whose size stays.
+#[inline(always)]
+pub(crate) fn put_byte_in(byte: u8, out: &mut Vec<u8>, end: usize) -> usize
+    requires { end < length out.old.items }
+    ensures put { take result out.new.items ≡ take end out.old.items ++ byte ∷ [] }
+    ensures end { result ≡ end + 1 }
+    ensures size { length out.new.items ≡ length out.old.items }
+{
+    put_byte(byte, out.as_mut_slice(), end)
+}
+
 /// Lets go of what is no text: of all after its end, or where there is none, after what stood before.
 pub(crate) fn settle(
     end: Result<usize, NoMemory>,

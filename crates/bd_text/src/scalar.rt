@@ -1,5 +1,5 @@
 //! The scalars, each by its row of the conversion table of Extended JSON v2.
-ghost use Rattle.std.specs.Prelude.{◌≡◌, ◌≢◌, ◌<◌, ◌≤◌, ◌+◌, ◌++◌, IfOk, OnErr, length, take};
+ghost use Rattle.std.specs.Prelude.{◌≡◌, ◌≢◌, ◌<◌, ◌≤◌, ◌+◌, ◌++◌, IfOk, OnErr, codes, length, take};
 ghost use Rattle.bd_value.specs.Tree.{Scalar, leaf, int32, int64, symbol, binary, object_id, boolean, date, timestamp, regex, db_pointer, code};
 ghost use Rattle.bd_value.specs.Kind.{kind_of};
 ghost use Rattle.bd_value.specs.declared.kind.Kind.TheVariants as kinds;
@@ -166,6 +166,17 @@ fn append_code(text: &str, out: &mut Vec<u8>, end: usize) -> Result<usize, NoMem
     append_few(b"}", out, at)
 }
 
+/// Code with scope, up to the scope. There is room for a short one.
+pub(crate) fn append_scoped(code: &str, out: &mut Vec<u8>, end: usize) -> Result<usize, NoMemory>
+    requires { end ≤ length out.old.items }
+    ensures ok { IfOk result (λ e. take e out.new.items ≡ take end out.old.items ++ (codes "{\"$code\":" ++ (quoted code.now ++ codes ",\"$scope\":"))) }
+    ensures room { IfOk result (λ e. e + VALUE ≤ length out.new.items) }
+    ensures err { OnErr result (take end out.new.items ≡ take end out.old.items) }
+{
+    let at = append_led(b"{\"$code\":", code, out, end)?;
+    append_few(b",\"$scope\":", out, at)
+}
+
 /// Binary: base64 with padding, the subtype in two digits.
 fn append_binary(
     subtype: u8,
@@ -224,7 +235,6 @@ fn append_pointer(
 
 /// Appends the text of a value that holds no other and is no string. There is room for one that is short.
 #[inline(never)]
-#[tactic(auto, unfolding(crate::specs::Text::scalar_text))]
 pub(crate) fn append_scalar<N: Reading>(
     node: N,
     out: &mut Vec<u8>,

@@ -8,10 +8,10 @@ ghost use Rattle.bd_value.specs.View.{tree_of, pairs};
 ghost use Rattle.bd_text.specs.Text.{text};
 
 use crate::contents;
-use crate::json_string::{append_name, append_string, put_separator};
-use crate::room::{VALUE, make_room, put_byte, settle};
-use crate::scalar::{append_few, append_led, append_scalar};
-use bd_value::{Document, Kind, NoMemory, Reading, Scalar, Tree, Value};
+use crate::json_string::{append_name, append_separator, append_string};
+use crate::room::{VALUE, make_room, put_byte_in, settle};
+use crate::scalar::{append_few, append_scalar, append_scoped};
+use bd_value::{Document, Kind, NoMemory, Reading, Tree, Value};
 
 /// Appends the text of what a node stands for: Extended JSON v2, canonical form, without white space.
 ///
@@ -49,7 +49,6 @@ pub fn write_doc(document: &Document, out: &mut Vec<u8>) -> Result<(), NoMemory>
 /// Appends the text of what a node stands for. There is room for a short one.
 #[cycle(text)]
 #[inline(always)]
-#[tactic(auto, unfolding(crate::specs::Text::scalar_text))]
 pub(crate) fn append_node<N: Reading>(
     node: N,
     out: &mut Vec<u8>,
@@ -78,14 +77,8 @@ fn append_scope<N: Reading>(node: N, out: &mut Vec<u8>, end: usize) -> Result<us
     ensures within { IfOk result (λ e. e ≤ length out.new.items) }
     ensures err { OnErr result (take end out.new.items ≡ take end out.old.items) }
 {
-    let Some(Scalar::CodeScope(code)) = node.leaf() else {
-        unreachable!()
-    };
-    let Some(scope) = node.scope() else {
-        unreachable!()
-    };
-    let at = append_led(b"{\"$code\":", code, out, end)?;
-    let at = append_few(b",\"$scope\":", out, at)?;
+    let (code, scope) = contents::code_scope_of(&node);
+    let at = append_scoped(code, out, end)?;
     let at = append_node(scope, out, at)?;
     append_few(b"}", out, at)
 }
@@ -103,7 +96,7 @@ fn append_fields<N: Reading>(
     ensures within { IfOk result (λ e. e ≤ length out.new.items) }
     ensures err { OnErr result (take end out.new.items ≡ take end out.old.items) }
 {
-    let mut at = put_byte(b'{', out.as_mut_slice(), end);
+    let mut at = put_byte_in(b'{', out, end);
     let mut later = false;
     let mut rest = fields;
     while let Some((name, node, after)) = N::next(&rest) {
@@ -128,12 +121,11 @@ fn append_items<N: Reading>(
     ensures within { IfOk result (λ e. e ≤ length out.new.items) }
     ensures err { OnErr result (take end out.new.items ≡ take end out.old.items) }
 {
-    let mut at = put_byte(b'[', out.as_mut_slice(), end);
+    let mut at = put_byte_in(b'[', out, end);
     let mut later = false;
     let mut rest = items;
     while let Some((_, node, after)) = N::next(&rest) {
-        make_room(out, at, 1 + VALUE)?;
-        at = put_separator(later, b',', out.as_mut_slice(), at);
+        at = append_separator(later, b',', out, at)?;
         at = append_node(node, out, at)?;
         later = true;
         rest = after;

@@ -207,5 +207,5 @@ fn compare_own<M: Reading, N: Reading>(a: M, b: N) -> Ordering
 fn compare_classes<M: Reading, N: Reading>(a: M, b: N) -> Ordering
     ensures { result ≡ class_cmp (M.tree a) (N.tree b) }
 {
-    class_of_node(a).cmp(&class_of_node(b))
+    (class_of_node(a) as u8).cmp(&(class_of_node(b) as u8))
 }

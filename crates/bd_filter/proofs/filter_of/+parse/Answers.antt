@@ -1,4 +1,4 @@
-use Rattle.std.proofs.Common.{map, length, Ok, sym, ap, subst, ◌∙◌, ◌+◌, ◌-◌, decimal, true, false}
+use Rattle.std.proofs.Common.{◌≡◌, map, length, length-append, [], ◌∷◌, Ok, sym, ap, subst, ◌∙◌, ◌+◌, ◌-◌, decimal, true, false}
 use Rattle.std.proofs.lemmas.Result.{err_from_is_err_and}
 use Rattle.bd_value.specs.Parts.{values_of}
 use Rattle.bd_value.specs.Tree.{fields_of, items_of}
@@ -8,7 +8,7 @@ use Rattle.bd_filter.specs.FilterOf.{element_operator, filters_of, member_filter
 use Rattle.bd_filter.specs.FilterOf.{pair_filter, path_operators, read_as}
 use Rattle.bd_filter.specs.FilterView.{filter_tree, operator_tree}
 use Rattle.bd_filter.specs.Word.{word_of}
-use Rattle.bd_filter.proofs.FilterOfLemmas.{element_is, joined, member_is, negation_is, operand_is, operators_are, refused, seen_above, stops_as}
+use Rattle.bd_filter.proofs.FilterOfLemmas.{all_read, element_is, joined, member_is, negation_is, none_read, one_read, operand_is, operators_are, refused, seen_above, stops_as}
 use Rattle.bd_filter.proofs.FilterViewLemmas.{filter_tree-And, operator_tree-ElemMatch, operator_tree-ElemMatchDocument, operator_tree-Not}
 use Rattle.bd_filter.proofs.filter_of.+parse.Goals as goal
 
@@ -112,3 +112,62 @@ pub read_value-returns-then-has_operators : goal.read_value-returns-then-has_ope
 read_value-returns-then-has_operators g t c =
     subst (λ part. ReadsPart (λ os. map operator_tree os.items) c.read_operators.result part)
     (sym (operators_are c.args.room (g.N.Reading.tree c.args.value) (g.N.Reading.left c.parts.result) (sym c.has_operators.ensures ∙ c.if-has_operators.true) c.parts.ensures.parts)) c.read_operators.ensures
+
+pub read_filters-loop-next-init : goal.read_filters-loop-next-init
+read_filters-loop-next-init g t c = none_read filter_tree c.new-filters.result.items _ c.new-filters.ensures.items
+
+pub read_filters-loop-next-preserved : goal.read_filters-loop-next-preserved
+read_filters-loop-next-preserved g t c =
+    let old = c.loop-next.filters.items in
+    let name = c.in-Some.next.0.now in
+    let value = g.N.Reading.tree c.in-Some.next.1 in
+    let part = pair_filter (word_of name) name (operand_filters c.args.room value) (path_operators c.args.room value) in
+    one_read filter_tree old c.push.new.self.items c.in-Ok.filter name part (filters_of c.args.room (fields_of (g.N.Reading.left c.in-Some.next.2))) _
+    c.in_ok-push-in-Ok.ensures.items c.in-Ok.ensures
+    (ap (λ ps. joined (map filter_tree old) (filters_of c.args.room (fields_of ps))) (sym c.in-Some.ensures.some) ∙ c.loop-next.invariant)
+
+pub read_filters-returns : goal.read_filters-returns
+read_filters-returns g t c =
+    all_read (map filter_tree c.loop-next.filters.items) (filters_of c.args.room (fields_of (g.N.Reading.left c.loop-next.left))) _ c.loop-next.invariant
+    (ap (λ ps. filters_of c.args.room (fields_of ps)) c.in_default.ensures.none)
+
+pub read_operators-loop-next-init : goal.read_operators-loop-next-init
+read_operators-loop-next-init g t c = none_read operator_tree c.new-operators.result.items _ c.new-operators.ensures.items
+
+pub read_operators-loop-next-preserved : goal.read_operators-loop-next-preserved
+read_operators-loop-next-preserved g t c =
+    let old = c.loop-next.operators.items in
+    let name = c.in-Some.next.0.now in
+    let value = g.N.Reading.tree c.in-Some.next.1 in
+    let part = operator_of (word_of name) value (not_operator c.args.room value) (element_operator c.args.room value) in
+    one_read operator_tree old c.push.new.self.items c.in-Ok.operator name part (operators_of c.args.room (fields_of (g.N.Reading.left c.in-Some.next.2))) _
+    c.in_ok-push-in-Ok.ensures.items c.in-Ok.ensures
+    (ap (λ ps. joined (map operator_tree old) (operators_of c.args.room (fields_of ps))) (sym c.in-Some.ensures.some) ∙ c.loop-next.invariant)
+
+pub read_operators-returns : goal.read_operators-returns
+read_operators-returns g t c =
+    all_read (map operator_tree c.loop-next.operators.items) (operators_of c.args.room (fields_of (g.N.Reading.left c.loop-next.left))) _ c.loop-next.invariant
+    (ap (λ ps. operators_of c.args.room (fields_of ps)) c.in_default.ensures.none)
+
+pub read_members-loop-next-init : goal.read_members-loop-next-init
+read_members-loop-next-init g t c =
+    ap (λ n. joined (map filter_tree c.new-filters.result.items) (member_filters c.args.room n (items_of (values_of (g.N.Reading.left c.args.members))))) (ap (λ xs. length xs) c.new-filters.ensures.items)
+    ∙ none_read filter_tree c.new-filters.result.items _ c.new-filters.ensures.items
+
+pub read_members-loop-next-preserved : goal.read_members-loop-next-preserved
+read_members-loop-next-preserved g t c =
+    let old = c.loop-next.filters.items in
+    let i = length old in
+    let part = member_filter c.args.room (g.N.Reading.tree c.in-Some.next.1) in
+    let rest = items_of (values_of (g.N.Reading.left c.in-Some.next.2)) in
+    let pushed = c.in_ok-push-in-Ok.ensures.items in
+    let longer : length c.push.new.self.items ≡ i + 1 = ap (λ xs. length xs) pushed ∙ length-append old (c.in-Ok.filter ∷ []) in
+    ap (λ n. joined (map filter_tree c.push.new.self.items) (member_filters c.args.room n rest)) longer
+    ∙ one_read filter_tree old c.push.new.self.items c.in-Ok.filter (decimal i) part (member_filters c.args.room (i + 1) rest) _ pushed c.in-Ok.ensures
+    (ap (λ ps. joined (map filter_tree old) (member_filters c.args.room i (items_of (values_of ps)))) (sym c.in-Some.ensures.some) ∙ c.loop-next.invariant)
+
+pub read_members-returns : goal.read_members-returns
+read_members-returns g t c =
+    let i = length c.loop-next.filters.items in
+    all_read (map filter_tree c.loop-next.filters.items) (member_filters c.args.room i (items_of (values_of (g.N.Reading.left c.loop-next.left)))) _ c.loop-next.invariant
+    (ap (λ ps. member_filters c.args.room i (items_of (values_of ps))) c.in_default.ensures.none)

@@ -1,18 +1,16 @@
-use Rattle.std.proofs.Common.{rules, ◌≡◌, ◌<◌, List, [], Some, None, false, drop, length, string_bytes, sym, subst, ap, ◌∙◌, arith, slice_get}
+use Rattle.std.proofs.Common.{rules, ◌≡◌, ◌<◌, List, [], Some, None, false, drop, length, string_bytes, sym, subst, ap, ◌∙◌, arith}
 use Rattle.std.specs.Prelude.{IfSome}
 use Rattle.std.specs.List.{list_any}
 use Rattle.bd_value.specs.Lookup.{first_of}
 use Rattle.bd_value.specs.Parts.{values_of, elements_in}
 use Rattle.bd_value.specs.Tree.{Doc, Tree, fields_of, fields_size, items_of, pairs_in}
 use Rattle.bd_value.proofs.PartsLemmas as parted
-use Rattle.bd_path.specs.Component.{held_index}
 use Rattle.bd_path.specs.Earliest.{earlier_key, earliest_key}
 use Rattle.bd_path.specs.EarliestKeys.{is_earlier, key_option}
 use Rattle.bd_path.specs.Key.{IsKeyOf}
 use Rattle.bd_path.specs.KeyList.{all_keys, document_keys, index_keys, key_gathering, missing_key}
 use Rattle.bd_path.specs.Names.{component_names}
 use Rattle.bd_path.specs.Reach.{each_gathering}
-use Rattle.bd_path.specs.declared.component.Component.{Component}
 use Rattle.bd_path.proofs.BranchLemmas as branch
 use Rattle.bd_path.proofs.EarliestLemmas as first
 use Rattle.bd_path.proofs.PositionsLemmas as at
@@ -55,7 +53,7 @@ pub earliest_in_field-earliest_from-requires : goal.earliest_in_field-earliest_f
 earliest_in_field-earliest_from-requires g t c κs within =
     let n = g.N.Reading.tree c.args.node in
     let u = g.N.Reading.tree c.in-Some.value in
-    let s = c.as_str-name.result in
+    let s = c.name_at-name.result in
     let e : first_of s.now (pairs_in n) ≡ Some u = sym c.in-Some.ensures.first in
     let small = down.first_smaller s.now n u e in
     let d = c.decreases in
@@ -83,8 +81,8 @@ earliest_in_field-returns-in-Some-clause-tree g t c =
     let u = g.N.Reading.tree c.in-Some.value in
     let cs = c.args.path.now in
     let dir = c.args.dir in
-    let s = c.as_str-name.result in
-    let there : slice_get (component_names cs) c.args.k ≡ Some s.now = at.name_at cs c.args.k c.index-path-k.result c.requires.at c.index-path-k.is ∙ ap (λ (x : Component). at.some_name (string_bytes x.name)) c.index-path-k.is ∙ ap at.some_name (sym c.as_str-name.ensures.value) in
+    let s = c.name_at-name.result in
+    let there = c.name_at-name.ensures in
     let e : first_of s.now (pairs_in n) ≡ Some u = sym c.in-Some.ensures.first in
     c.earliest_from.ensures.tree
     ∙ ap (λ (ks : List Tree). earlier_key dir (key_option g.N.Reading.tree c.args.first) (earliest_key dir ks))
@@ -95,8 +93,8 @@ earliest_in_field-returns-in-None-clause-tree g t c =
     let n = g.N.Reading.tree c.args.node in
     let cs = c.args.path.now in
     let dir = c.args.dir in
-    let s = c.as_str-name.result in
-    let there : slice_get (component_names cs) c.args.k ≡ Some s.now = at.name_at cs c.args.k c.index-path-k.result c.requires.at c.index-path-k.is ∙ ap (λ (x : Component). at.some_name (string_bytes x.name)) c.index-path-k.is ∙ ap at.some_name (sym c.as_str-name.ensures.value) in
+    let s = c.name_at-name.result in
+    let there = c.name_at-name.ensures in
     let e : first_of s.now (pairs_in n) ≡ None = sym c.in-None.ensures.first in
     c.earlier.ensures.tree
     ∙ ap (λ (ks : List Tree). earlier_key dir (key_option g.N.Reading.tree c.args.first) (earliest_key dir ks))
@@ -299,9 +297,9 @@ earliest_at_index-returns-in-Some-clause-tree g t c =
     let cs = c.args.path.now in
     let dir = c.args.dir in
     let names = component_names cs in
-    let m = string_bytes c.index-path-k.result.name in
-    let there = at.name_at cs c.args.k c.index-path-k.result c.requires.at c.index-path-k.is in
-    let held : held_index m ≡ Some c.in-Some.i = walked.index_at cs c.args.k c.index-path-k.result _ _ c.requires.at c.index-path-k.is c.in-Some.is in
+    let m = c.index_at-index.ensures.0 in
+    let there = c.index_at-index.ensures.1 in
+    let held = c.index_at-index.ensures.2 ∙ c.in-Some.is in
     c.earliest_from.ensures.tree
     ∙ ap (λ (ks : List Tree). earlier_key dir (key_option g.N.Reading.tree c.args.first) (earliest_key dir ks))
     (sym (walked.first_is (key_gathering (missing_key false)) n names c.args.k m there
@@ -314,9 +312,9 @@ earliest_at_index-returns-in_default-clause-tree g t c =
     let dir = c.args.dir in
     let names = component_names cs in
     let e = key_option g.N.Reading.tree c.args.first in
-    let m = string_bytes c.index-path-k.result.name in
-    let there = at.name_at cs c.args.k c.index-path-k.result c.requires.at c.index-path-k.is in
-    let held : held_index m ≡ Some c.in-Some.i = walked.index_at cs c.args.k c.index-path-k.result _ _ c.requires.at c.index-path-k.is c.in-Some.is in
+    let m = c.index_at-index.ensures.0 in
+    let there = c.index_at-index.ensures.1 in
+    let held = c.index_at-index.ensures.2 ∙ c.in-Some.is in
     let len = down.length_elements n c.requires.kind in
     sym (ap (λ (ks : List Tree). earlier_key dir e (earliest_key dir ks))
     (walked.first_is (key_gathering (missing_key false)) n names c.args.k m there
@@ -330,10 +328,23 @@ earliest_at_index-returns-in_default-2-clause-tree g t c =
     let dir = c.args.dir in
     let names = component_names cs in
     let e = key_option g.N.Reading.tree c.args.first in
-    let m = string_bytes c.index-path-k.result.name in
-    let there = at.name_at cs c.args.k c.index-path-k.result c.requires.at c.index-path-k.is in
-    let held : held_index m ≡ None = walked.index_at cs c.args.k c.index-path-k.result _ _ c.requires.at c.index-path-k.is c.in_default.is in
+    let m = c.index_at-index.ensures.0 in
+    let there = c.index_at-index.ensures.1 in
+    let held = c.index_at-index.ensures.2 ∙ c.in_default.is in
     sym (ap (λ (ks : List Tree). earlier_key dir e (earliest_key dir ks))
     (walked.first_is (key_gathering (missing_key false)) n names c.args.k m there
     ∙ walked.no_index (key_gathering (missing_key false)) (elements_in n) m _ held)
     ∙ first.right_none dir e)
+
+-- ---- keys of the same bytes
+
+pub earliest_in_field-returns-in-Some-clause-kept : goal.earliest_in_field-returns-in-Some-clause-kept
+earliest_in_field-returns-in-Some-clause-kept g t c =
+    subst (λ b. IfSome c.args.first (λ k. IsKeyOf g.N.Reading.source b k) → IfSome c.earliest_from.result (λ k. IsKeyOf g.N.Reading.source b k)) c.in-Some.ensures.kept c.earliest_from.ensures.kept
+
+pub earliest_in_array-returns-clause-kept : goal.earliest_in_array-returns-clause-kept
+earliest_in_array-returns-clause-kept g t c = λ h. c.earliest_at_index.ensures.kept (c.earliest_in_documents-among.ensures.kept h)
+
+pub earliest_at_index-returns-in-Some-clause-kept : goal.earliest_at_index-returns-in-Some-clause-kept
+earliest_at_index-returns-in-Some-clause-kept g t c =
+    subst (λ b. IfSome c.args.first (λ k. IsKeyOf g.N.Reading.source b k) → IfSome c.earliest_from.result (λ k. IsKeyOf g.N.Reading.source b k)) c.element-element.ensures.kept c.earliest_from.ensures.kept

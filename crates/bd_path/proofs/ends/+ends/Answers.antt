@@ -1,13 +1,11 @@
-use Rattle.std.proofs.Common.{◌≡◌, List, Some, None, drop, string_bytes, sym, ap, ◌∙◌, arith, slice_get}
+use Rattle.std.proofs.Common.{◌≡◌, List, Some, None, drop, sym, ap, ◌∙◌, arith}
 use Rattle.std.specs.List.{list_any}
 use Rattle.bd_value.specs.Lookup.{first_of}
 use Rattle.bd_value.specs.Parts.{values_of, elements_in}
 use Rattle.bd_value.specs.Tree.{Doc, Tree, fields_of, fields_size, items_of, pairs_in}
 use Rattle.bd_value.proofs.PartsLemmas as parted
-use Rattle.bd_path.specs.Component.{held_index}
 use Rattle.bd_path.specs.Names.{component_names}
 use Rattle.bd_path.specs.Reach.{each_gathering, ends}
-use Rattle.bd_path.specs.declared.component.Component.{Component}
 use Rattle.bd_path.proofs.EndsLemmas as some_end
 use Rattle.bd_path.proofs.PositionsLemmas as at
 use Rattle.bd_path.proofs.ReachLemmas as down
@@ -51,7 +49,7 @@ pub any_end_in_field-any_end_from-requires : goal.any_end_in_field-any_end_from-
 any_end_in_field-any_end_from-requires g t c κs within =
     let n = g.N.Reading.tree c.args.node in
     let u = g.N.Reading.tree c.in-Some.value in
-    let s = c.as_str-name.result in
+    let s = c.name_at-name.result in
     let e : first_of s.now (pairs_in n) ≡ Some u = sym c.in-Some.ensures.first in
     let small = down.first_smaller s.now n u e in
     let d = c.decreases in
@@ -80,8 +78,8 @@ any_end_in_field-returns-in-Some g t c =
     let n = g.N.Reading.tree c.args.node in
     let u = g.N.Reading.tree c.in-Some.value in
     let cs = c.args.path.now in
-    let s = c.as_str-name.result in
-    let there : slice_get (component_names cs) c.args.k ≡ Some s.now = at.name_at cs c.args.k c.index-path-k.result c.requires.at c.index-path-k.is ∙ ap (λ (x : Component). at.some_name (string_bytes x.name)) c.index-path-k.is ∙ ap at.some_name (sym c.as_str-name.ensures.value) in
+    let s = c.name_at-name.result in
+    let there = c.name_at-name.ensures in
     let e : first_of s.now (pairs_in n) ≡ Some u = sym c.in-Some.ensures.first in
     c.any_end_from.ensures ∙ ap (list_any (g.T.EndTest.passes c.args.test.now)) (sym (walked.field_is ends n (component_names cs) c.args.k s.now u c.requires.kind there e))
 
@@ -89,8 +87,8 @@ pub any_end_in_field-returns-in-None : goal.any_end_in_field-returns-in-None
 any_end_in_field-returns-in-None g t c =
     let n = g.N.Reading.tree c.args.node in
     let cs = c.args.path.now in
-    let s = c.as_str-name.result in
-    let there : slice_get (component_names cs) c.args.k ≡ Some s.now = at.name_at cs c.args.k c.index-path-k.result c.requires.at c.index-path-k.is ∙ ap (λ (x : Component). at.some_name (string_bytes x.name)) c.index-path-k.is ∙ ap at.some_name (sym c.as_str-name.ensures.value) in
+    let s = c.name_at-name.result in
+    let there = c.name_at-name.ensures in
     let e : first_of s.now (pairs_in n) ≡ None = sym c.in-None.ensures.first in
     some_end.one (g.T.EndTest.passes c.args.test.now) None c.test.result _ c.test.ensures (walked.lost_is ends n (component_names cs) c.args.k s.now c.requires.kind there e)
 
@@ -188,9 +186,9 @@ any_end_at_index-returns-in-Some g t c =
     let u = g.N.Reading.tree c.element-element.result in
     let cs = c.args.path.now in
     let names = component_names cs in
-    let m = string_bytes c.index-path-k.result.name in
-    let there = at.name_at cs c.args.k c.index-path-k.result c.requires.at c.index-path-k.is in
-    let held : held_index m ≡ Some c.in-Some.i = walked.index_at cs c.args.k c.index-path-k.result _ _ c.requires.at c.index-path-k.is c.in-Some.is in
+    let m = c.index_at-index.ensures.0 in
+    let there = c.index_at-index.ensures.1 in
+    let held = c.index_at-index.ensures.2 ∙ c.in-Some.is in
     c.any_end_from.ensures
     ∙ ap (list_any (g.T.EndTest.passes c.args.test.now))
     (sym (walked.first_is ends n names c.args.k m there ∙ walked.element_at ends (elements_in n) m names c.args.k c.in-Some.i u held (omega (arith, c.len.type_inv, c.if-i-len.true)) c.element-element.ensures.element))
@@ -200,9 +198,9 @@ any_end_at_index-returns-in_default g t c =
     let n = g.N.Reading.tree c.args.node in
     let cs = c.args.path.now in
     let names = component_names cs in
-    let m = string_bytes c.index-path-k.result.name in
-    let there = at.name_at cs c.args.k c.index-path-k.result c.requires.at c.index-path-k.is in
-    let held : held_index m ≡ Some c.in-Some.i = walked.index_at cs c.args.k c.index-path-k.result _ _ c.requires.at c.index-path-k.is c.in-Some.is in
+    let m = c.index_at-index.ensures.0 in
+    let there = c.index_at-index.ensures.1 in
+    let held = c.index_at-index.ensures.2 ∙ c.in-Some.is in
     let len = down.length_elements n c.requires.kind in
     sym (ap (list_any (g.T.EndTest.passes c.args.test.now))
     (walked.first_is ends n names c.args.k m there
@@ -213,7 +211,7 @@ any_end_at_index-returns-in_default-2 g t c =
     let n = g.N.Reading.tree c.args.node in
     let cs = c.args.path.now in
     let names = component_names cs in
-    let m = string_bytes c.index-path-k.result.name in
-    let there = at.name_at cs c.args.k c.index-path-k.result c.requires.at c.index-path-k.is in
-    let held : held_index m ≡ None = walked.index_at cs c.args.k c.index-path-k.result _ _ c.requires.at c.index-path-k.is c.in_default.is in
+    let m = c.index_at-index.ensures.0 in
+    let there = c.index_at-index.ensures.1 in
+    let held = c.index_at-index.ensures.2 ∙ c.in_default.is in
     sym (ap (list_any (g.T.EndTest.passes c.args.test.now)) (walked.first_is ends n names c.args.k m there ∙ walked.no_index ends (elements_in n) m _ held))

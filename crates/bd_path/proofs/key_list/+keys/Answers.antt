@@ -1,16 +1,14 @@
-use Rattle.std.proofs.Common.{rules, ◌≡◌, ◌<◌, ℕ, List, Some, None, false, drop, length, string_bytes, sym, subst, ap, ◌∙◌, arith, slice_get, All}
+use Rattle.std.proofs.Common.{rules, ◌≡◌, ◌<◌, ℕ, List, Some, None, false, drop, length, string_bytes, sym, subst, ap, ◌∙◌, arith, All}
 use Rattle.std.specs.List.{list_any}
 use Rattle.bd_value.specs.Lookup.{first_of}
 use Rattle.bd_value.specs.Parts.{values_of, elements_in}
 use Rattle.bd_value.specs.Tree.{Doc, Tree, fields_of, fields_size, items_of, pairs_in}
 use Rattle.bd_value.proofs.PartsLemmas as parted
 use Rattle.bd_path.specs.AddedKeys.{is_new}
-use Rattle.bd_path.specs.Component.{held_index}
 use Rattle.bd_path.specs.Key.{IsKeyOf, key_trees}
 use Rattle.bd_path.specs.KeyList.{all_keys, distinct, document_keys, end_keys, index_keys, key_gathering, missing_key, with_keys}
 use Rattle.bd_path.specs.Names.{component_names}
 use Rattle.bd_path.specs.Reach.{each_gathering}
-use Rattle.bd_path.specs.declared.component.Component.{Component}
 use Rattle.bd_path.proofs.BranchLemmas as branch
 use Rattle.bd_path.proofs.EarliestLemmas.{keeps_keys}
 use Rattle.bd_path.proofs.KeyListLemmas as added
@@ -56,7 +54,7 @@ pub add_keys_of_field-add_keys-requires : goal.add_keys_of_field-add_keys-requir
 add_keys_of_field-add_keys-requires g t c κs within =
     let n = g.N.Reading.tree c.args.node in
     let u = g.N.Reading.tree c.in-Some.value in
-    let s = c.as_str-name.result in
+    let s = c.name_at-name.result in
     let e : first_of s.now (pairs_in n) ≡ Some u = sym c.in-Some.ensures.first in
     let small = down.first_smaller s.now n u e in
     let d = c.decreases in
@@ -84,8 +82,8 @@ add_keys_of_field-returns-in-Some-clause-added g t c =
     let u = g.N.Reading.tree c.in-Some.value in
     let cs = c.args.path.now in
     let ks = distinct (key_trees g.N.Reading.tree c.args.keys.now.items) in
-    let s = c.as_str-name.result in
-    let there : slice_get (component_names cs) c.args.k ≡ Some s.now = at.name_at cs c.args.k c.index-path-k.result c.requires.at c.index-path-k.is ∙ ap (λ (x : Component). at.some_name (string_bytes x.name)) c.index-path-k.is ∙ ap at.some_name (sym c.as_str-name.ensures.value) in
+    let s = c.name_at-name.result in
+    let there = c.name_at-name.ensures in
     let e : first_of s.now (pairs_in n) ≡ Some u = sym c.in-Some.ensures.first in
     added.on_ok c.add_keys.result (λ h. h ∙ ap (with_keys ks) (sym (walked.field_is (key_gathering (missing_key c.args.sparse)) n (component_names cs) c.args.k s.now u c.requires.kind there e))) c.add_keys.ensures.added
 
@@ -95,8 +93,8 @@ add_keys_of_field-returns-in-None-clause-added g t c =
     let cs = c.args.path.now in
     let trees = key_trees g.N.Reading.tree in
     let ks = distinct (trees c.args.keys.now.items) in
-    let s = c.as_str-name.result in
-    let there : slice_get (component_names cs) c.args.k ≡ Some s.now = at.name_at cs c.args.k c.index-path-k.result c.requires.at c.index-path-k.is ∙ ap (λ (x : Component). at.some_name (string_bytes x.name)) c.index-path-k.is ∙ ap at.some_name (sym c.as_str-name.ensures.value) in
+    let s = c.name_at-name.result in
+    let there = c.name_at-name.ensures in
     let e : first_of s.now (pairs_in n) ≡ None = sym c.in-None.ensures.first in
     added.on_ok c.add_missing.result
     (λ h. added.appended (trees c.args.keys.now.items) (trees c.add_missing.new.keys.items) (missing_key c.args.sparse) h ∙ ap (with_keys ks) (sym (walked.lost_is (key_gathering (missing_key c.args.sparse)) n (component_names cs) c.args.k s.now c.requires.kind there e)))
@@ -282,9 +280,9 @@ add_keys_at_index-returns-in-Some-clause-added g t c =
     let cs = c.args.path.now in
     let names = component_names cs in
     let ks = distinct (key_trees g.N.Reading.tree c.args.keys.now.items) in
-    let m = string_bytes c.index-path-k.result.name in
-    let there = at.name_at cs c.args.k c.index-path-k.result c.requires.at c.index-path-k.is in
-    let held : held_index m ≡ Some c.in-Some.i = walked.index_at cs c.args.k c.index-path-k.result _ _ c.requires.at c.index-path-k.is c.in-Some.is in
+    let m = c.index_at-index.ensures.0 in
+    let there = c.index_at-index.ensures.1 in
+    let held = c.index_at-index.ensures.2 ∙ c.in-Some.is in
     added.on_ok c.add_keys.result
     (λ h. h ∙ ap (with_keys ks) (sym (walked.first_is (key_gathering (missing_key c.args.sparse)) n names c.args.k m there
     ∙ walked.element_at (key_gathering (missing_key c.args.sparse)) (elements_in n) m names c.args.k c.in-Some.i u held (omega (arith, c.len.type_inv, c.if-i-len.true)) c.element-element.ensures.element)))
@@ -296,9 +294,9 @@ add_keys_at_index-returns-in_default-clause-added g t c =
     let cs = c.args.path.now in
     let names = component_names cs in
     let ks = distinct (key_trees g.N.Reading.tree c.args.keys.now.items) in
-    let m = string_bytes c.index-path-k.result.name in
-    let there = at.name_at cs c.args.k c.index-path-k.result c.requires.at c.index-path-k.is in
-    let held : held_index m ≡ Some c.in-Some.i = walked.index_at cs c.args.k c.index-path-k.result _ _ c.requires.at c.index-path-k.is c.in-Some.is in
+    let m = c.index_at-index.ensures.0 in
+    let there = c.index_at-index.ensures.1 in
+    let held = c.index_at-index.ensures.2 ∙ c.in-Some.is in
     let len = down.length_elements n c.requires.kind in
     sym (ap (with_keys ks)
     (walked.first_is (key_gathering (missing_key c.args.sparse)) n names c.args.k m there
@@ -310,9 +308,22 @@ add_keys_at_index-returns-in_default-2-clause-added g t c =
     let cs = c.args.path.now in
     let names = component_names cs in
     let ks = distinct (key_trees g.N.Reading.tree c.args.keys.now.items) in
-    let m = string_bytes c.index-path-k.result.name in
-    let there = at.name_at cs c.args.k c.index-path-k.result c.requires.at c.index-path-k.is in
-    let held : held_index m ≡ None = walked.index_at cs c.args.k c.index-path-k.result _ _ c.requires.at c.index-path-k.is c.in_default.is in
+    let m = c.index_at-index.ensures.0 in
+    let there = c.index_at-index.ensures.1 in
+    let held = c.index_at-index.ensures.2 ∙ c.in_default.is in
     sym (ap (with_keys ks)
     (walked.first_is (key_gathering (missing_key c.args.sparse)) n names c.args.k m there
     ∙ walked.no_index (key_gathering (missing_key c.args.sparse)) (elements_in n) m _ held))
+
+-- ---- keys of the same bytes
+
+pub add_keys_of_field-returns-in-Some-clause-kept : goal.add_keys_of_field-returns-in-Some-clause-kept
+add_keys_of_field-returns-in-Some-clause-kept g t c =
+    subst (λ b. All (IsKeyOf g.N.Reading.source b) c.args.keys.now.items → All (IsKeyOf g.N.Reading.source b) c.add_keys.new.keys.items) c.in-Some.ensures.kept c.add_keys.ensures.kept
+
+pub add_keys_of_array-returns-clause-kept : goal.add_keys_of_array-returns-clause-kept
+add_keys_of_array-returns-clause-kept g t c = λ h. c.add_keys_at_index.ensures.kept (c.in_ok-add_keys_of_documents.ensures.kept h)
+
+pub add_keys_at_index-returns-in-Some-clause-kept : goal.add_keys_at_index-returns-in-Some-clause-kept
+add_keys_at_index-returns-in-Some-clause-kept g t c =
+    subst (λ b. All (IsKeyOf g.N.Reading.source b) c.args.keys.now.items → All (IsKeyOf g.N.Reading.source b) c.add_keys.new.keys.items) c.element-element.ensures.kept c.add_keys.ensures.kept

@@ -2,7 +2,7 @@ use Rattle.std.proofs.Common.{◌≡◌, ◌++◌, ◌∷◌, [], List, ℕ, len
 use Rattle.std.specs.Prelude.{if◌then◌else◌}
 use Rattle.bd_text.specs.Text.{escaped, quoted}
 use Rattle.bd_text.proofs.EscapeLemmas.{escaped-plain}
-use Rattle.bd_text.proofs.RoomLemmas.{front, lent_text}
+use Rattle.bd_text.proofs.RoomLemmas.{front, lent_text, when_err}
 use Rattle.bd_text.proofs.json_string.append_name.Goals as goal
 
 named : (old comma name : List ℕ) → (((old ++ comma) ++ 34 ∷ []) ++ name) ++ 34 ∷ 58 ∷ [] ≡ (old ++ comma) ++ ((34 ∷ (name ++ 34 ∷ [])) ++ 58 ∷ [])
@@ -34,5 +34,4 @@ returns-in_err-at-clause-err c =
     let lead : take c.args.end c.as_mut_slice-room.result.now ≡ take c.args.end old = ap (λ (l : List ℕ). take c.args.end l) c.as_mut_slice-room.ensures.value ∙ c.make_room.ensures.kept in
     let quote = c.put_byte-at.ensures.put ∙ ap (λ (l : List ℕ). l ++ 34 ∷ []) (c.put_separator-at.ensures.put ∙ ap (λ (l : List ℕ). l ++ comma) lead) in
     let there = lent_text made.len c.put_byte-at.result room made.items _ same made.ok.0 (c.copy_plain.ensures.kept ∙ quote ∙ append_assoc (take c.args.end old) comma (34 ∷ [])) in
-    let kept = front c.args.end c.put_byte-at.result old (comma ++ 34 ∷ []) c.append_escaped.new.out.items (omega arith) (c.in_err-at.ensures.err ∙ there) in
-    grind (arith, kept)
+    when_err _ _ (front c.args.end c.put_byte-at.result old (comma ++ 34 ∷ []) c.append_escaped.new.out.items (omega arith) (c.in_err-at.ensures.err ∙ there))

@@ -1,21 +1,19 @@
 use Rattle.std.proofs.Common.{◌≡◌, ◌++◌, ◌∷◌, [], List, ℕ, length, take, ap, ◌∙◌, arith}
 use Rattle.std.specs.Prelude.{codes}
 use Rattle.bd_text.specs.Text.{base64_text, hex_text}
-use Rattle.bd_text.proofs.RoomLemmas.{front, chained, lent_text}
+use Rattle.bd_text.proofs.RoomLemmas.{front, chained, lent_text, when_err}
 use Rattle.bd_text.proofs.SymbolLemmas.{one_byte}
 use Rattle.bd_text.proofs.TextLemmas.{written-binary}
 use Rattle.bd_text.proofs.scalar.append_binary.Goals as goal
 
 pub returns-in_err-at-2-clause-err : goal.returns-in_err-at-2-clause-err
 returns-in_err-at-2-clause-err c =
-    let kept = front c.args.end c.in_ok-at.at c.args.out.now.items _ c.append_base64.new.out.items (omega arith) (c.in_err-at-2.ensures.err ∙ c.in_ok-at.ensures.ok) in
-    grind (arith, kept)
+    when_err _ _ (front c.args.end c.in_ok-at.at c.args.out.now.items _ c.append_base64.new.out.items (omega arith) (c.in_err-at-2.ensures.err ∙ c.in_ok-at.ensures.ok))
 
 pub returns-in_err-at-3-clause-err : goal.returns-in_err-at-3-clause-err
 returns-in_err-at-3-clause-err c =
     let both = chained c.args.end c.in_ok-at.at c.in_ok-at-2.at c.args.out.now.items _ _ _ _ c.in_ok-at.ensures.ok c.in_ok-at-2.ensures.ok in
-    let kept = front c.args.end c.in_ok-at-2.at c.args.out.now.items _ c.append_few-2.new.out.items (omega arith) (c.in_err-at-3.ensures.err ∙ both) in
-    grind (arith, kept)
+    when_err _ _ (front c.args.end c.in_ok-at-2.at c.args.out.now.items _ c.append_few-2.new.out.items (omega arith) (c.in_err-at-3.ensures.err ∙ both))
 
 pub returns-clause-ok : goal.returns-clause-ok
 returns-clause-ok c =

@@ -1,14 +1,13 @@
 use Rattle.std.proofs.Common.{◌≡◌, ◌++◌, List, ℕ, length, take, ap, ◌∙◌, arith}
 use Rattle.std.specs.Prelude.{codes}
 use Rattle.bd_text.specs.Text.{hex_text}
-use Rattle.bd_text.proofs.RoomLemmas.{front, lent_text}
+use Rattle.bd_text.proofs.RoomLemmas.{front, lent_text, when_err}
 use Rattle.bd_text.proofs.TextLemmas.{written-db_pointer}
 use Rattle.bd_text.proofs.scalar.append_pointer.Goals as goal
 
 pub returns-in_err-at-2-clause-err : goal.returns-in_err-at-2-clause-err
 returns-in_err-at-2-clause-err c =
-    let kept = front c.args.end c.in_ok-at.at c.args.out.now.items _ c.append_few.new.out.items (omega arith) (c.in_err-at-2.ensures.err ∙ c.in_ok-at.ensures.ok) in
-    grind (arith, kept)
+    when_err _ _ (front c.args.end c.in_ok-at.at c.args.out.now.items _ c.append_few.new.out.items (omega arith) (c.in_err-at-2.ensures.err ∙ c.in_ok-at.ensures.ok))
 
 pub returns-clause-ok : goal.returns-clause-ok
 returns-clause-ok c =

@@ -2,14 +2,13 @@ use Rattle.std.proofs.Common.{◌≡◌, ◌++◌, ◌∷◌, [], List, ℕ, tak
 use Rattle.std.specs.Prelude.{codes}
 use Rattle.bd_value.specs.Tree.{regex}
 use Rattle.bd_text.specs.Text.{scalar_text, quoted}
-use Rattle.bd_text.proofs.RoomLemmas.{front, chained, if_ok, on_err}
+use Rattle.bd_text.proofs.RoomLemmas.{front, chained, if_ok, on_err, when_err}
 use Rattle.bd_text.proofs.TextLemmas.{written-regex}
 use Rattle.bd_text.proofs.scalar.append_regex.Goals as goal
 
 pub returns-in_err-at-2-clause-err : goal.returns-in_err-at-2-clause-err
 returns-in_err-at-2-clause-err c =
-    let kept = front c.args.end c.in_ok-at.at c.args.out.now.items _ c.append_led-2.new.out.items (omega arith) (c.in_err-at-2.ensures.err ∙ c.in_ok-at.ensures.ok) in
-    grind (arith, kept)
+    when_err _ _ (front c.args.end c.in_ok-at.at c.args.out.now.items _ c.append_led-2.new.out.items (omega arith) (c.in_err-at-2.ensures.err ∙ c.in_ok-at.ensures.ok))
 
 pub returns-clause-ok : goal.returns-clause-ok
 returns-clause-ok c =
