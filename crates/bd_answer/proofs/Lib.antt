@@ -7,3 +7,7 @@ pub mod AttemptLemmas
 pub mod SourceLemmas
 pub mod UnsortedLemmas
 pub mod FirstsLemmas
+pub mod StableLemmas
+pub mod FoundLemmas
+pub mod PartsLemmas
+pub mod SelectionLemmas

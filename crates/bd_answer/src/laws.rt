@@ -1,5 +1,6 @@
 //! Laws of answers and sessions. The body of each is empty: its contract is the law.
 ghost use Rattle.bd_answer.specs.AnswerLaws.{AnswerAscends, BatchesAreTheFirst, BeforeIsStrict, OrderedAscends, OrderedHasTheMatches, RestOfAnswer, RestOfRest};
+ghost use Rattle.bd_answer.specs.PartsLaw.{AnswerGivesFound, PartsGiveTheWhole, StretchGivesTheWhole};
 ghost use Rattle.bd_answer.specs.SessionLaws.{FindGivesTheAnswer, FindOutlastsWant, ResumeGivesTheRest, ResumeOutlastsWant};
 
 /// Of two places one comes before the other.
@@ -32,4 +33,13 @@ pub fn sessions_keep_to_the_answer()
     ensures resume { ResumeGivesTheRest }
     ensures find_starved { FindOutlastsWant }
     ensures resume_starved { ResumeOutlastsWant }
+{}
+
+/// A collection may be cut into parts, and each part asked by itself: the same request over what the parts gave, joined, gives
+/// the answer of the whole. So may any stretch of it. `T` is what documents are, and the answers over them are those over their
+/// places.
+pub fn parts_give_the_whole<T>()
+    ensures parts { PartsGiveTheWhole T }
+    ensures stretch { StretchGivesTheWhole T }
+    ensures places { AnswerGivesFound T }
 {}

@@ -15,13 +15,14 @@
 //! - `specs/Answer.antt`: the answer of a request, its batches, and what follows a token; `laws` and `specs/AnswerLaws.antt`.
 //! - `source`: `PlaceSource`, what hands out places, and `Scan`, which hands out all: `specs/Source.antt`.
 //! - `specs/Session.antt`: a session as a machine; what it always gives: `laws` and `specs/SessionLaws.antt`.
+//! - `specs/PartsLaw.antt`: answers over documents, and collections that are cut into parts, each asked by itself: `laws`.
 #![tactic(auto)]
 
 mod laws;
 mod source;
 
 pub use laws::{
-    answers_are_ordered, batches_are_the_first, places_are_ordered, rests_follow,
-    sessions_keep_to_the_answer,
+    answers_are_ordered, batches_are_the_first, parts_give_the_whole, places_are_ordered,
+    rests_follow, sessions_keep_to_the_answer,
 };
 pub use source::{PlaceSource, Scan};

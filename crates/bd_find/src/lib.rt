@@ -26,9 +26,13 @@
 //! - `find`: the command.
 //! - `asking`: what its arguments ask for: `specs/Asking.antt`.
 //! - `batch`: what is shown of a dump: `specs/Batch.antt`; `found_documents`: the lines.
+//! - `laws`: a collection that is asked in parts: `specs/Parts.antt`.
 #![tactic(auto)]
 
 mod asking;
 mod batch;
 pub mod find;
 mod found_documents;
+mod laws;
+
+pub use laws::parts_show_the_whole;
