@@ -15,14 +15,30 @@ use std::test::Fail;
 const BYTES: &[u8] =
     b"\x05\0\0\0\0\x34\0\0\0\x10a\0\x01\0\0\0\x02s\0\x03\0\0\0hi\0\x0an\0\x03d\0\x0c\0\0\0\x10x\0\x05\0\0\0\0\x04e\0\x09\0\0\0\x080\0\x01\0\0";
 
-/// The fields: their type byte, their offset, their class, and their text.
-const FIELDS: [(&str, u8, u32, Class, &str); 5] = [
-    ("a", 0x10, 12, Class::Number, r#"{"$numberInt":"1"}"#),
-    ("s", 0x02, 19, Class::Text, r#""hi""#),
-    ("n", 0x0A, 29, Class::Null, "null"),
-    ("d", 0x03, 32, Class::Doc, r#"{"x":{"$numberInt":"5"}}"#),
-    ("e", 0x04, 47, Class::Array, "[true]"),
+/// A field, or the first value inside it: its name, whether it is inside, its type byte, its offset, its class and its text.
+type Found<'a> = (&'a str, bool, u8, u32, Class, &'a str);
+
+/// Values that are found again.
+static VALUES: [Found<'static>; 7] = [
+    ("a", false, 0x10, 12, Class::Number, r#"{"$numberInt":"1"}"#),
+    ("s", false, 0x02, 19, Class::Text, r#""hi""#),
+    ("n", false, 0x0A, 29, Class::Null, "null"),
+    (
+        "d",
+        false,
+        0x03,
+        32,
+        Class::Doc,
+        r#"{"x":{"$numberInt":"5"}}"#,
+    ),
+    ("e", false, 0x04, 47, Class::Array, "[true]"),
+    ("d", true, 0x10, 39, Class::Number, r#"{"$numberInt":"5"}"#),
+    ("e", true, 0x08, 54, Class::Bool, "true"),
 ];
+
+fn values() -> &'static [Found<'static>] {
+    &VALUES
+}
 
 fn sample(alloc: Global) -> Result<Dump, Fail> {
     let bytes = Vec::from_slice(alloc, BYTES)?;
@@ -47,50 +63,53 @@ fn again<'a>(dump: &'a Dump, value: RawValue<'_>) -> RawValue<'a>
     dump.value_at(value.at())
 }
 
-#[test]
-fn finds_values_again(rt: HostRuntime) -> Result<(), Fail> {
-    let alloc = rt.alloc();
-    let dump = sample(alloc)?;
-    let fields = document(&rt, &dump, 1);
-    for (name, kind, start, class, shown) in FIELDS {
-        let Some(value) = fields.first(name) else {
-            return Err(Fail::from("a field"));
-        };
-        assert!(rt; value.at() == At { kind, start }, "of {name}");
-        let found = again(&dump, value);
-        assert!(rt; class_of_node(found) == class, "of {name}");
-        assert!(rt; is_shown(alloc, found, shown), "of {name}");
-    }
-    Ok(())
-}
-
-/// The first value inside the value of that name.
-fn first_inside<'a>(value: RawValue<'a>, name: &str) -> Option<RawValue<'a>>
-    ensures { IfSome result (λ v. v.bytes.now ≡ value.entry.bytes.now) }
+/// The value of that name, or the first value inside it.
+fn value_in<'a>(whole: RawValue<'a>, name: &str, is_inside: bool) -> Option<RawValue<'a>>
+    ensures { IfSome result (λ v. v.bytes.now ≡ whole.entry.bytes.now) }
 {
-    let holder = value.first(name)?;
-    let elements = holder.elements()?;
+    let value = whole.first(name)?;
+    if !is_inside {
+        return Some(value);
+    }
+    let elements = value.elements()?;
     let (_, first, _) = elements.next()?;
     Some(first)
 }
 
-/// What is inside a value stands in the same bytes, and so does the whole document.
+/// Whether that value stands in its place, and what is found there is the same.
+fn is_found(alloc: Global, dump: &Dump, whole: RawValue<'_>, row: &Found<'_>) -> bool
+    requires { whole.bytes.now ≡ bytes_of dump.now }
+{
+    let (name, is_inside, kind, start, class, shown) = *row;
+    let Some(value) = value_in(whole, name, is_inside) else {
+        return false;
+    };
+    let found = again(dump, value);
+    let is_there = value.at() == At { kind, start };
+    is_there && class_of_node(found) == class && is_shown(alloc, found, shown)
+}
+
+/// The whole document, its fields, and what is inside them stand in the same bytes.
 #[test]
-fn finds_what_is_inside(rt: HostRuntime) -> Result<(), Fail> {
+fn finds_values_again(rt: HostRuntime) -> Result<(), Fail> {
     let alloc = rt.alloc();
     let dump = sample(alloc)?;
     let whole = document(&rt, &dump, 1).value();
-    let At { kind, start } = whole.at();
-    assert!(rt; kind == 0x03 && start == 5);
-    let found = again(&dump, whole);
-    assert!(rt; found.kind() == Kind::Doc && found.len() == 5);
-    let five = r#"{"$numberInt":"5"}"#;
-    for (holder, kind, start, shown) in [("d", 0x10, 39, five), ("e", 0x08, 54, "true")] {
-        let Some(value) = first_inside(found, holder) else {
-            return Err(Fail::from("a value"));
-        };
-        assert!(rt; value.at() == At { kind, start }, "in {holder}");
-        assert!(rt; is_shown(alloc, again(&dump, value), shown), "in {holder}");
+    assert!(rt;
+        whole.at()
+            == At {
+                kind: 0x03,
+                start: 5
+            }
+    );
+    let same = again(&dump, whole);
+    assert!(rt; same.kind() == Kind::Doc && same.len() == 5);
+    for row in values() {
+        let (name, is_inside, ..) = *row;
+        assert!(rt;
+            is_found(alloc, &dump, same, row),
+            "{name}, inside: {is_inside}"
+        );
     }
     Ok(())
 }

@@ -2,6 +2,7 @@
 use bd_check::FaultKind;
 use bd_device::{Input, Limits, MemoryInput, ReadFault, SystemInput, read_all};
 use bd_stream::{DocBuffer, DocFault, DocReader, RawBytes};
+use bd_value::NoMemory;
 use std::alloc::Global;
 use std::process::Abort;
 use std::test::Fail;
@@ -40,6 +41,14 @@ fn of_fault(fault: &DocFault) -> Answer {
     }
 }
 
+/// What `DocBuffer::read_next` answered where no document was wanted.
+fn of_read(read: Result<bool, DocFault>) -> Answer {
+    match read {
+        Ok(_) => Answer::End,
+        Err(fault) => of_fault(&fault),
+    }
+}
+
 /// What `DocReader::next` answered.
 fn of_next(next: Result<Option<RawBytes<'_>>, DocFault>) -> Answer {
     match next {
@@ -65,53 +74,71 @@ fn read_documents(
     documents
 }
 
-/// One document by each pair of limits, and 100 documents by 20 turns.
+const TOO_MANY: Answer = Answer::Read(ReadFault::TooManyTurns);
+
+/// One document by each pair of limits.
 #[test]
-fn limits_of_bytes_and_of_turns(rt: HostRuntime) -> Result<(), Fail> {
+fn limits_of_bytes_and_of_turns(rt: HostRuntime) {
     let document = Answer::Document(0, 0, 5);
-    let too_many = Answer::Read(ReadFault::TooManyTurns);
-    let rows = [
-        (4, 9, Answer::Read(ReadFault::TooLong), Answer::Failed),
-        (5, 3, too_many, Answer::Failed),
-        (5, 5, document, too_many),
-        (5, 6, document, Answer::End),
-    ];
-    for (bytes, turns, first, second) in rows {
-        assert!(rt; bytes <= 5);
+    for (bytes, turns, answers) in [
+        (4, 9, [Answer::Read(ReadFault::TooLong), Answer::Failed]),
+        (5, 3, [TOO_MANY, Answer::Failed]),
+        (5, 5, [document, TOO_MANY]),
+        (5, 6, [document, Answer::End]),
+    ] {
         let input = MemoryInput::new(EMPTY, 1, None);
         let mut reader = DocReader::new(rt.alloc(), input, Limits { bytes, turns });
-        assert!(rt; of_next(reader.next()) == first, "{bytes}, {turns}");
-        assert!(rt; of_next(reader.next()) == second, "{bytes}, {turns}");
+        for answer in answers {
+            assert!(rt; of_next(reader.next()) == answer, "{bytes}, {turns}");
+        }
         assert!(rt; reader.held() <= 16_793_600);
     }
+}
+
+/// 100 documents by 20 turns.
+#[test]
+fn turns_of_many_documents(rt: HostRuntime) -> Result<(), Fail> {
     let bytes = EMPTY.repeat(rt.alloc(), 100)?;
     let limits = Limits {
         bytes: 100,
         turns: 20,
     };
     let mut reader = DocReader::new(rt.alloc(), MemoryInput::new(&bytes, 1, None), limits);
-    for (number, start) in [(0, 0), (1, 5), (2, 10), (3, 15)] {
-        assert!(rt; of_next(reader.next()) == Answer::Document(start, number, 5));
+    for answer in [
+        Answer::Document(0, 0, 5),
+        Answer::Document(5, 1, 5),
+        Answer::Document(10, 2, 5),
+        Answer::Document(15, 3, 5),
+        TOO_MANY,
+        Answer::Failed,
+    ] {
+        assert!(rt; of_next(reader.next()) == answer);
     }
-    assert!(rt; of_next(reader.next()) == too_many);
-    assert!(rt; of_next(reader.next()) == Answer::Failed);
     Ok(())
+}
+
+/// Whether a call of a reader gave this document.
+fn is_document(
+    next: Result<Option<RawBytes<'_>>, DocFault>,
+    number: u32,
+    start: u64,
+    bytes: &[u8],
+) -> bool {
+    match next {
+        Ok(Some(it)) => it.number == number && it.start == start && it.bytes == bytes,
+        _ => false,
+    }
 }
 
 /// Asserts that a reader of `THREE` gives each with its start and its number, and then the end, twice.
 fn gives_three<R: Input + Drop>(rt: &impl Abort, alloc: Global, device: R) {
     let mut reader = DocReader::new(alloc, device, AMPLE);
     for (number, start, bytes) in [(0, 0, EMPTY), (1, 5, ONE), (2, 17, EMPTY)] {
-        match reader.next() {
-            Ok(Some(document)) => {
-                assert!(rt; document.number == number && document.start == start);
-                assert!(rt; document.bytes == bytes);
-            }
-            _ => assert!(rt; false, "a document was wanted"),
-        }
+        assert!(rt; is_document(reader.next(), number, start, bytes));
     }
-    assert!(rt; of_next(reader.next()) == Answer::End);
-    assert!(rt; of_next(reader.next()) == Answer::End);
+    for _ in 0..2 {
+        assert!(rt; of_next(reader.next()) == Answer::End);
+    }
 }
 
 /// Of devices in memory that give so many bytes a call, and of the system.
@@ -124,51 +151,66 @@ fn each_document_with_its_start_and_number(rt: HostRuntime) {
     gives_three(&rt, rt.alloc(), SystemInput::new(THREE));
 }
 
-/// The number, the place and the bytes of a buffer, and how many reads are made up to the end of each document, and up to the
-/// end of all: four bytes, and then the others.
+/// The number, the place and the bytes of a buffer of `THREE` after each of its documents, and at the end.
+const STANDS: [(u32, u64, &[u8]); 4] = [(1, 5, EMPTY), (2, 17, ONE), (3, 22, EMPTY), (3, 22, b"")];
+
+/// Whether a buffer holds these bytes, of the document before that number, which ends there.
+fn stands_at(documents: &DocBuffer, number: u32, place: u64, bytes: &[u8]) -> bool {
+    documents.number() == number && documents.place() == place && documents.bytes() == bytes
+}
+
+/// Whether a buffer takes the three documents and the end, after so many reads.
+fn takes_three(alloc: Global, input: &mut MemoryInput<'_>, counts: [u64; 4]) -> bool {
+    let mut documents = DocBuffer::new(alloc, AMPLE);
+    if !stands_at(&documents, 0, 0, b"") {
+        return false;
+    }
+    for i in 0..4 {
+        let (number, place, bytes) = STANDS[i];
+        let Ok(is_there) = documents.read_next(input) else {
+            return false;
+        };
+        let is_right = stands_at(&documents, number, place, bytes);
+        if !is_right || is_there == (i == 3) || input.calls() != counts[i] {
+            return false;
+        }
+    }
+    true
+}
+
+/// How many reads are made up to the end of each document, and up to the end of all: four bytes, and then the others.
 #[test]
 fn no_read_more_than_a_document_takes(rt: HostRuntime) {
-    let rows = [
-        (1, [5, 17, 22], 23),
-        (2, [3, 9, 12], 13),
-        (3, [3, 8, 11], 12),
-        (7, [2, 5, 7], 8),
-        (100, [2, 4, 6], 7),
-    ];
-    let documents_of_three = [(1, 5, EMPTY), (2, 17, ONE), (3, 22, EMPTY)];
-    for (most, counts, all) in rows {
+    for (most, counts) in [
+        (1, [5, 17, 22, 23]),
+        (2, [3, 9, 12, 13]),
+        (3, [3, 8, 11, 12]),
+        (7, [2, 5, 7, 8]),
+        (100, [2, 4, 6, 7]),
+    ] {
         assert!(rt; most > 0);
         let mut input = MemoryInput::new(THREE, most, None);
-        let mut documents = DocBuffer::new(rt.alloc(), AMPLE);
-        assert!(rt; documents.number() == 0 && documents.place() == 0);
-        assert!(rt; documents.bytes().is_empty());
-        for i in 0..3 {
-            let (number, place, bytes) = documents_of_three[i];
-            assert!(rt; matches!(documents.read_next(&mut input), Ok(true)));
-            assert!(rt; input.calls() == counts[i], "at {most}");
-            assert!(rt; documents.number() == number && documents.place() == place);
-            assert!(rt; documents.bytes() == bytes);
-        }
-        assert!(rt; matches!(documents.read_next(&mut input), Ok(false)));
-        assert!(rt; input.calls() == all, "at {most}");
+        assert!(rt; takes_three(rt.alloc(), &mut input, counts), "at {most}");
         assert!(rt; input.failures() == 0);
-        assert!(rt; documents.number() == 3 && documents.place() == 22);
-        assert!(rt; documents.bytes().is_empty());
     }
 }
 
+/// Whether these bytes are left of `THREE` after so many documents.
+fn leaves(rt: &impl Abort, alloc: Global, most: usize, count: u32, left: &[u8]) -> bool {
+    assert!(rt; most > 0);
+    let mut input = MemoryInput::new(THREE, most, None);
+    let _documents = read_documents(rt, alloc, &mut input, count);
+    read_all(alloc, &mut input, AMPLE).is_ok_and(|read| read.as_slice() == left)
+}
+
 #[test]
-fn no_byte_after_a_document_is_taken(rt: HostRuntime) -> Result<(), Fail> {
+fn no_byte_after_a_document_is_taken(rt: HostRuntime) {
     for most in [1, 2, 3, 7, 100] {
-        assert!(rt; most > 0);
         for (count, left) in [(0, THREE), (1, &THREE[5..]), (2, EMPTY), (3, b"")] {
-            let mut input = MemoryInput::new(THREE, most, None);
-            let _documents = read_documents(&rt, rt.alloc(), &mut input, count);
-            let read = read_all(rt.alloc(), &mut input, AMPLE)?;
-            assert!(rt; read.as_slice() == left, "after {count} at {most}");
+            let is_left = leaves(&rt, rt.alloc(), most, count, left);
+            assert!(rt; is_left, "after {count} at {most}");
         }
     }
-    Ok(())
 }
 
 /// Reads the fault of bytes that are no document and follow so many documents. Then no read is made, and these bytes are left.
@@ -182,15 +224,10 @@ fn fault_after(
     left: &[u8],
 ) {
     let mut documents = read_documents(rt, alloc, input, count);
-    let found = match documents.read_next(input) {
-        Ok(_) => Answer::End,
-        Err(fault) => of_fault(&fault),
-    };
-    assert!(rt; found == fault && documents.bytes().is_empty() && input.calls() == calls);
-    for _ in 0..2 {
-        assert!(rt; matches!(documents.read_next(input), Err(DocFault::Failed)));
+    for wanted in [fault, Answer::Failed, Answer::Failed] {
+        assert!(rt; of_read(documents.read_next(input)) == wanted);
+        assert!(rt; documents.bytes().is_empty() && input.calls() == calls);
     }
-    assert!(rt; input.calls() == calls);
     assert!(rt; input.failures() == u64::from(fault == Answer::Read(ReadFault::Device)));
     let rest = read_all(alloc, input, AMPLE);
     assert!(rt; rest.is_ok_and(|rest| rest.as_slice() == left));
@@ -247,27 +284,45 @@ fn what_a_fault_leaves(rt: HostRuntime) {
     fault_after(&rt, rt.alloc(), &mut input, 1, fault, 7, &THREE[6..]);
 }
 
-/// Nothing is held of an empty device, and as much as one document of any more.
+/// Nothing is held of an empty device.
 #[test]
-fn documents_share_what_is_held(rt: HostRuntime) -> Result<(), Fail> {
+fn nothing_is_held_of_no_document(rt: HostRuntime) {
     let mut input = MemoryInput::new(b"", 8, None);
     let mut documents = DocBuffer::new(rt.alloc(), AMPLE);
     assert!(rt; matches!(documents.read_next(&mut input), Ok(false)));
     assert!(rt; input.calls() == 1 && documents.held() == 0);
     let mut reader = DocReader::new(rt.alloc(), MemoryInput::new(b"", 8, None), AMPLE);
     assert!(rt; matches!(reader.next(), Ok(None)));
-    let mut bytes = ONE.repeat(rt.alloc(), 50)?;
+}
+
+/// Fifty documents, and one that is shorter.
+fn fifty_and_one(alloc: Global) -> Result<Vec<u8>, NoMemory> {
+    let mut bytes = ONE.repeat(alloc, 50)?;
     bytes.extend_from_slice(EMPTY)?;
+    Ok(bytes)
+}
+
+/// How much is held behind the next document, where that is this one; none where it is not.
+fn held_after(reader: &mut DocReader<MemoryInput<'_>>, wanted: &[u8]) -> Option<usize> {
+    let is_there = matches!(reader.advance(), Ok(true)) && reader.bytes() == wanted;
+    is_there.then_some(reader.held())
+}
+
+/// As much is held as one document takes, of any more.
+#[test]
+fn documents_share_what_is_held(rt: HostRuntime) -> Result<(), Fail> {
+    let bytes = fifty_and_one(rt.alloc())?;
     let mut reader = DocReader::new(rt.alloc(), MemoryInput::new(&bytes, 100, None), AMPLE);
-    assert!(rt; reader.held() == 0 && matches!(reader.advance(), Ok(true)));
-    let held = reader.held();
-    assert!(rt; held >= 12);
-    for _ in 1..50 {
-        assert!(rt; matches!(reader.advance(), Ok(true)) && reader.bytes() == ONE);
+    assert!(rt; reader.held() == 0);
+    let held = held_after(&mut reader, ONE);
+    assert!(rt; held >= Some(12));
+    for number in 1..51 {
+        let wanted = if number < 50 { ONE } else { EMPTY };
+        assert!(rt;
+            held_after(&mut reader, wanted) == held,
+            "document {number}"
+        );
     }
-    assert!(rt; reader.held() == held);
-    assert!(rt; matches!(reader.advance(), Ok(true)) && reader.bytes() == EMPTY);
-    assert!(rt; reader.held() == held);
-    assert!(rt; matches!(reader.advance(), Ok(false)) && reader.held() == held);
+    assert!(rt; matches!(reader.advance(), Ok(false)) && Some(reader.held()) == held);
     Ok(())
 }

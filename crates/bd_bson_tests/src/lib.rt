@@ -14,8 +14,6 @@ mod samples;
 #[cfg(test)]
 mod tests;
 #[cfg(test)]
-mod value_samples;
-#[cfg(test)]
 mod value_tests;
 #[cfg(test)]
 mod views_tests;

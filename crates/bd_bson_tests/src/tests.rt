@@ -3,7 +3,7 @@
 use crate::samples::{every_kind, is_shown, joined};
 use bd_bson::{next_frame, read_document};
 use bd_check::{Fault, check_document};
-use bd_value::Tree;
+use bd_value::{NoMemory, Tree};
 use std::alloc::Global;
 use std::process::Abort;
 use std::test::Fail;
@@ -52,35 +52,43 @@ fn adds_an_offset_and_a_number(rt: HostRuntime) {
     assert!(rt; is_fault(alloc, last, want));
 }
 
+/// Asserts that the bytes are a document or not, and no front of them is one.
+fn no_front(rt: &impl Abort, alloc: Global, bytes: &[u8], is_one: bool) {
+    assert!(rt; bytes.len() < 100_000);
+    assert!(rt; read_document(alloc, bytes, 0, 0).is_ok() == is_one);
+    for cut in 0..bytes.len() {
+        let want = match cut {
+            0..4 => "document 3, byte 100: length cut short",
+            _ => "document 3, byte 100: bad length",
+        };
+        refused(rt, alloc, &bytes[..cut], want);
+    }
+}
+
+/// A document of so many levels.
+fn nested(alloc: Global, levels: u32) -> Result<Vec<u8>, NoMemory> {
+    let mut bytes = joined(alloc, b"", b"")?;
+    for _ in 1..levels {
+        bytes = joined(alloc, b"\x03a\0", &bytes)?;
+    }
+    Ok(bytes)
+}
+
 /// Fronts of the document of each kind, of binary data of subtype 02, of a timestamp, and of a text with a zero; of as many
 /// levels as may be, and of one more, which are no document as a whole.
 #[test]
 fn no_front_of_a_document_is_one(rt: HostRuntime) -> Result<(), Fail> {
-    let alloc = rt.alloc();
-    let kinds = every_kind(alloc)?;
-    let mut deepest = joined(alloc, b"", b"")?;
-    for _ in 1..200 {
-        deepest = joined(alloc, b"\x03a\0", &deepest)?;
-    }
-    let deeper = joined(alloc, b"\x03a\0", &deepest)?;
-    let rows: &[(&[u8], bool)] = &[
-        (kinds.as_slice(), true),
-        (b"\x13\0\0\0\x05x\0\x06\0\0\0\x02\x02\0\0\0\xff\xff\0", true),
-        (b"\x10\0\0\0\x11t\0\x02\0\0\0\x01\0\0\0\0", true),
-        (b"\x10\0\0\0\x02s\0\x04\0\0\0a\0b\0\0", true),
-        (deepest.as_slice(), true),
-        (deeper.as_slice(), false),
+    let rows: &[&[u8]] = &[
+        b"\x13\0\0\0\x05x\0\x06\0\0\0\x02\x02\0\0\0\xff\xff\0",
+        b"\x10\0\0\0\x11t\0\x02\0\0\0\x01\0\0\0\0",
+        b"\x10\0\0\0\x02s\0\x04\0\0\0a\0b\0\0",
     ];
-    for (bytes, is_one) in rows {
-        assert!(rt; bytes.len() < 100_000);
-        assert!(rt; read_document(alloc, bytes, 0, 0).is_ok() == *is_one);
-        for cut in 0..bytes.len() {
-            let want = match cut {
-                0..4 => "document 3, byte 100: length cut short",
-                _ => "document 3, byte 100: bad length",
-            };
-            refused(&rt, alloc, &bytes[..cut], want);
-        }
+    for bytes in rows {
+        no_front(&rt, rt.alloc(), bytes, true);
+    }
+    no_front(&rt, rt.alloc(), &every_kind(rt.alloc())?, true);
+    for (levels, is_one) in [(200, true), (201, false)] {
+        no_front(&rt, rt.alloc(), &nested(rt.alloc(), levels)?, is_one);
     }
     Ok(())
 }

@@ -1,39 +1,35 @@
-//! Each call of a view on every kind, and of its copy in memory.
+//! Each call of a view on every kind, and of its copies in memory.
 use crate::samples::{Element, elements, every_kind, is_shown, view};
-use bd_raw::{RawDoc, RawValue, type_byte};
-use bd_value::{Kind, Node, Reading, Tree, to_value};
+use bd_raw::{Elements, RawDoc, RawValue, type_byte};
+use bd_value::{Document, Kind, NoMemory, Node, Reading, Scalar, Tree, to_document, to_value};
 use std::alloc::Global;
 use std::test::Fail;
 
 /// Whether a field is the element: its name, and each call of its value.
-fn is_element<'a, 'e, N: Node<'a>>(
-    alloc: Global,
-    name: &str,
-    node: N,
-    element: &Element<'e>,
-) -> bool {
+fn is_element<'a, N: Node<'a>>(alloc: Global, name: &str, node: N, element: &Element<'_>) -> bool {
     let (want, bytes, shown) = *element;
     let kind = node.kind();
     let holder = kind == Kind::Doc || kind == Kind::Array;
-    let copy = to_value(alloc, node);
+    let holds = [
+        node.scalar().is_none(),
+        node.leaf().is_none(),
+        node.len() > 0,
+    ];
+    let finds = [node.scope().is_some(), node.first("x").is_some()];
     name == want
-        && is_shown(alloc, node, shown)
-        && copy.is_ok_and(|copy| is_shown(alloc, Tree::Value(&copy), shown))
         && bytes.first() == Some(&type_byte(kind))
-        && node.scalar().is_none() == holder
-        && node.leaf().is_none() == holder
-        && (node.len() > 0) == holder
-        && node.scope().is_some() == (kind == Kind::CodeScope)
-        && node.first("x").is_some() == (kind == Kind::Doc)
+        && holds == [holder; 3]
+        && finds == [kind == Kind::CodeScope, kind == Kind::Doc]
+        && is_shown(alloc, node, shown)
+}
+
+/// Whether the copy of a node is shown as this.
+fn is_copied<N: Reading>(alloc: Global, node: N, shown: &str) -> bool {
+    to_value(alloc, node).is_ok_and(|copy| is_shown(alloc, Tree::Value(&copy), shown))
 }
 
 /// Whether each call of a node that finds a field gives this one.
-fn has_element<'a, 'e, N: Node<'a>>(
-    alloc: Global,
-    node: N,
-    i: usize,
-    element: &Element<'e>,
-) -> bool {
+fn has_element<'a, N: Node<'a>>(alloc: Global, node: N, i: usize, element: &Element<'_>) -> bool {
     if node.kind() != Kind::Doc || i >= node.len() {
         return false;
     }
@@ -45,24 +41,74 @@ fn has_element<'a, 'e, N: Node<'a>>(
     is_element(alloc, pair_name, pair, element)
         && is_element(alloc, field_name, field, element)
         && is_element(alloc, element.0, first, element)
+        && is_copied(alloc, first, element.2)
+}
+
+/// What follows in a node's parts, where this element is the next of them.
+fn part_after<'a, N: Node<'a>>(
+    alloc: Global,
+    rest: N::Rest,
+    element: &Element<'_>,
+) -> Option<N::Rest> {
+    let (name, value, after) = N::next(&rest)?;
+    is_element(alloc, name, value, element).then_some(after)
 }
 
 /// Whether the node is the document of every kind, by each call that gives a field.
 fn has_every_kind<'a, N: Node<'a>>(alloc: Global, node: N) -> bool {
-    if node.kind() != Kind::Doc || node.len() != 19 || node.scalar().is_some() {
+    if node.kind() != Kind::Doc || node.len() != 19 || node.first("none").is_some() {
         return false;
     }
     let mut rest = node.parts();
     for (i, element) in elements().iter().enumerate() {
-        let Some((name, value, after)) = N::next(&rest) else {
-            return false;
-        };
-        if !is_element(alloc, name, value, element) || !has_element(alloc, node, i, element) {
+        if !has_element(alloc, node, i, element) {
             return false;
         }
+        let Some(after) = part_after::<N>(alloc, rest, element) else {
+            return false;
+        };
         rest = after;
     }
-    N::next(&rest).is_none() && node.first("none").is_none()
+    N::next(&rest).is_none()
+}
+
+/// The elements of the array in the document of every kind. What is named in it is no field.
+static ITEMS: [(&str, &str); 3] = [
+    ("z", r#"{"$numberInt":"7"}"#),
+    ("", "null"),
+    ("yy", r#"{"$minKey":1}"#),
+];
+
+fn items() -> &'static [(&'static str, &'static str)] {
+    &ITEMS
+}
+
+/// Whether the node has the array and the code with scope of every kind, and is no scalar and has no scope itself.
+fn has_parts<'a, N: Node<'a>>(alloc: Global, node: N) -> bool {
+    let (Some(array), Some(code)) = (node.first("a"), node.first("w")) else {
+        return false;
+    };
+    let Some(scope) = code.scope() else {
+        return false;
+    };
+    node.scalar().is_none()
+        && node.scope().is_none()
+        && is_shown(alloc, scope, r#"{"k":false}"#)
+        && matches!(code.scalar(), Some(Scalar::CodeScope("y")))
+        && has_items(alloc, array)
+}
+
+/// Whether the node is that array.
+fn has_items<'a, N: Node<'a>>(alloc: Global, array: N) -> bool {
+    if array.kind() != Kind::Array || array.len() != 3 || array.first("z").is_some() {
+        return false;
+    }
+    for (i, (_, shown)) in items().iter().enumerate() {
+        if i >= array.len() || !is_shown(alloc, array.element(i), shown) {
+            return false;
+        }
+    }
+    true
 }
 
 /// Whether each call of a view and of its elements that finds one by its index gives this one.
@@ -84,7 +130,9 @@ fn sees_by_name(alloc: Global, document: RawDoc<'_>, element: &Element<'_>) -> b
     let Some(found) = document.elements().find(element.0) else {
         return false;
     };
-    is_element(alloc, element.0, first, element) && is_element(alloc, element.0, found, element)
+    is_element(alloc, element.0, first, element)
+        && is_element(alloc, element.0, found, element)
+        && is_seen(alloc, found, element.2)
 }
 
 /// Whether a view's value has elements exactly where it is no scalar, and its copy is shown as it.
@@ -94,6 +142,17 @@ fn is_seen(alloc: Global, value: RawValue<'_>, shown: &str) -> bool {
         && copy.is_ok_and(|copy| is_shown(alloc, Tree::Value(&copy), shown))
 }
 
+/// What follows in a view's elements, where this element is the next of so many.
+fn element_after<'a>(
+    alloc: Global,
+    rest: Elements<'a>,
+    count: usize,
+    element: &Element<'_>,
+) -> Option<Elements<'a>> {
+    let (name, value, after) = rest.next()?;
+    (rest.count() == count && is_element(alloc, name, value, element)).then_some(after)
+}
+
 /// Whether the view has every kind, by each call of the view and of its elements.
 fn sees_every_kind(alloc: Global, document: RawDoc<'_>) -> bool {
     if document.is_empty() || document.len() != 19 || document.first("none").is_some() {
@@ -101,21 +160,60 @@ fn sees_every_kind(alloc: Global, document: RawDoc<'_>) -> bool {
     }
     let mut rest = document.elements();
     for (i, element) in elements().iter().enumerate() {
-        let count = rest.count();
+        if !sees_at(alloc, document, i, element) || !sees_by_name(alloc, document, element) {
+            return false;
+        }
+        let Some(after) = element_after(alloc, rest, 19_usize.saturating_sub(i), element) else {
+            return false;
+        };
+        rest = after;
+    }
+    rest.next().is_none() && document.elements().find("none").is_none()
+}
+
+/// Whether a document in memory has every kind, by each of its own calls.
+fn holds_every_kind(alloc: Global, document: &Document) -> bool {
+    for (i, element) in elements().iter().enumerate() {
+        if document.len() != 19 || i >= document.len() {
+            return false;
+        }
+        let (name, value) = document.pair(i);
+        let Some(first) = document.first(name) else {
+            return false;
+        };
+        if !is_element(alloc, name, Tree::Value(value), element)
+            || !is_element(alloc, name, Tree::Value(first), element)
+        {
+            return false;
+        }
+    }
+    true
+}
+
+/// Whether a document in memory has every kind, by each of its calls and of a node.
+fn is_whole(alloc: Global, document: &Document) -> bool {
+    let node = Tree::Doc(document);
+    holds_every_kind(alloc, document) && has_every_kind(alloc, node) && has_parts(alloc, node)
+}
+
+/// Whether the view has that array, with the names that stand in its bytes.
+fn sees_items(alloc: Global, document: RawDoc<'_>) -> bool {
+    let Some(array) = document.first("a") else {
+        return false;
+    };
+    let Some(mut rest) = array.elements() else {
+        return false;
+    };
+    for (want, shown) in items() {
         let Some((name, value, after)) = rest.next() else {
             return false;
         };
-        if count != 19_usize.saturating_sub(i)
-            || !is_element(alloc, name, value, element)
-            || !is_seen(alloc, value, element.2)
-            || !sees_at(alloc, document, i, element)
-            || !sees_by_name(alloc, document, element)
-        {
+        if name != *want || !is_shown(alloc, value, shown) {
             return false;
         }
         rest = after;
     }
-    rest.next().is_none() && document.elements().find("none").is_none()
+    rest.next().is_none()
 }
 
 #[test]
@@ -123,56 +221,52 @@ fn reads_views_and_copies_alike(rt: HostRuntime) -> Result<(), Fail> {
     let alloc = rt.alloc();
     let bytes = every_kind(alloc)?;
     let document = view(&rt, alloc, &bytes);
-    let copy = document.to_document(alloc)?;
     assert!(rt; sees_every_kind(alloc, document));
+    assert!(rt; sees_items(alloc, document));
     assert!(rt; has_every_kind(alloc, document.value()));
-    assert!(rt; has_every_kind(alloc, Tree::Doc(&copy)));
+    assert!(rt; has_parts(alloc, document.value()));
+    let copy = document.to_document(alloc)?;
+    assert!(rt; is_whole(alloc, &copy));
+    let again = to_document::<Tree<'_>>(alloc, Tree::Doc(&copy).parts())?;
+    assert!(rt; is_whole(alloc, &again));
     Ok(())
 }
 
-/// No element, a name that stands twice, and an array of an array of two and a number.
+/// Whether the copies of a view of no element have none.
+fn has_empty_copies(alloc: Global, empty: RawDoc<'_>) -> Result<bool, NoMemory> {
+    let copy = empty.to_document(alloc)?;
+    let again = to_value(alloc, Tree::Doc(&copy))?;
+    Ok(copy.is_empty() && again.kind() == Kind::Doc && Tree::Value(&again).len() == 0)
+}
+
+/// Whether of two elements of one name the first is found.
+fn finds_first(alloc: Global, twice: RawDoc<'_>) -> bool {
+    let one = r#"{"$numberInt":"1"}"#;
+    let (Some(first), Some(found)) = (twice.first("a"), twice.elements().find("a")) else {
+        return false;
+    };
+    twice.len() == 2 && is_shown(alloc, first, one) && is_shown(alloc, found, one)
+}
+
+/// Whether there is an array of an array of two and a number.
+fn sees_nested(alloc: Global, document: RawDoc<'_>) -> bool {
+    let Some(array) = document.first("a") else {
+        return false;
+    };
+    array.len() == 2 && is_shown(alloc, array, "[[null,null],{\"$numberInt\":\"1\"}]")
+}
+
 #[test]
 fn sees_small_documents(rt: HostRuntime) -> Result<(), Fail> {
     let alloc = rt.alloc();
     let empty = view(&rt, alloc, b"\x05\0\0\0\0");
     assert!(rt; empty.is_empty() && empty.len() == 0 && empty.first("").is_none());
-    assert!(rt; empty.elements().next().is_none() && empty.to_document(alloc)?.is_empty());
+    assert!(rt; empty.elements().next().is_none());
+    assert!(rt; has_empty_copies(alloc, empty)?);
     let bytes = b"\x13\0\0\0\x10a\0\x01\0\0\0\x10a\0\x02\0\0\0\0";
-    let twice = view(&rt, alloc, bytes);
-    let first = twice.first("a").ok_or("a field")?;
-    let found = twice.elements().find("a").ok_or("a field")?;
-    let one = r#"{"$numberInt":"1"}"#;
-    assert!(rt; twice.len() == 2 && is_shown(alloc, first, one) && is_shown(alloc, found, one));
+    assert!(rt; finds_first(alloc, view(&rt, alloc, bytes)));
     let bytes =
         b"\x22\0\0\0\x04a\0\x1a\0\0\0\x040\0\x0b\0\0\0\x0a0\0\x0a1\0\0\x101\0\x01\0\0\0\0\0";
-    let array = view(&rt, alloc, bytes).first("a").ok_or("an array")?;
-    assert!(rt; array.len() == 2 && is_shown(alloc, array, "[[null,null],{\"$numberInt\":\"1\"}]"));
-    Ok(())
-}
-
-/// The array in the document of every kind. What is named in it is no field.
-#[test]
-fn sees_an_array(rt: HostRuntime) -> Result<(), Fail> {
-    let alloc = rt.alloc();
-    let bytes = every_kind(alloc)?;
-    let array = view(&rt, alloc, &bytes).first("a").ok_or("an array")?;
-    let kind = array.kind();
-    assert!(rt; kind == Kind::Array && array.first("z").is_none());
-    let mut rest = array.elements().ok_or("elements")?;
-    let wants = [
-        ("z", r#"{"$numberInt":"7"}"#),
-        ("", "null"),
-        ("yy", r#"{"$minKey":1}"#),
-    ];
-    for i in 0..3 {
-        let (want, shown) = wants[i];
-        let count = array.len();
-        assert!(rt; i < count);
-        assert!(rt; is_shown(alloc, array.element(i), shown), "{want}");
-        let (name, value, after) = rest.next().ok_or("an element")?;
-        assert!(rt; name == want && is_shown(alloc, value, shown), "{want}");
-        rest = after;
-    }
-    assert!(rt; rest.next().is_none());
+    assert!(rt; sees_nested(alloc, view(&rt, alloc, bytes)));
     Ok(())
 }

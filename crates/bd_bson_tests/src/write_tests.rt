@@ -18,22 +18,48 @@ fn is_written(rt: &impl Abort, alloc: Global, bytes: &[u8], want: &[u8]) -> bool
     }
 }
 
-/// Of the samples the array alone has names that are not its elements' places. Then no element; a repeated name and an empty
-/// one; a text, a code and a pointer's text with zeros; arrays of two and of twelve.
+/// The array of the samples, whose names are its elements' places. No other sample has names that are not.
+const ARRAY: &[u8] = b"\x04a\0\x12\0\0\0\x100\0\x07\0\0\0\x0a1\0\xff2\0\0";
+
+/// Whether a document of these bytes of elements is written as that of the others.
+fn are_written(
+    rt: &impl Abort,
+    alloc: Global,
+    elements: &[u8],
+    want: &[u8],
+) -> Result<bool, NoMemory> {
+    let bytes = joined(alloc, elements, b"")?;
+    Ok(is_written(rt, alloc, &bytes, &joined(alloc, want, b"")?))
+}
+
+/// What is written of an element.
+fn plain<'a>(name: &str, element: &'a [u8]) -> &'a [u8] {
+    if name == "a" { ARRAY } else { element }
+}
+
+/// The document of what is written of all.
+fn every_plain_kind(alloc: Global) -> Result<Vec<u8>, NoMemory> {
+    let mut all = Vec::new(alloc);
+    for (name, element, _) in elements() {
+        all.extend_from_slice(plain(name, element))?;
+    }
+    joined(alloc, &all, b"")
+}
+
 #[test]
 fn writes_every_kind(rt: HostRuntime) -> Result<(), Fail> {
     let alloc = rt.alloc();
-    let array: &[u8] = b"\x04a\0\x12\0\0\0\x100\0\x07\0\0\0\x0a1\0\xff2\0\0";
-    let mut all = Vec::new(alloc);
     for (name, element, _) in elements() {
-        let plain = if *name == "a" { array } else { *element };
-        let bytes = joined(alloc, element, b"")?;
-        let want = joined(alloc, plain, b"")?;
-        assert!(rt; is_written(&rt, alloc, &bytes, &want), "{name}");
-        all.extend_from_slice(plain)?;
+        let is_right = are_written(&rt, alloc, element, plain(name, element))?;
+        assert!(rt; is_right, "{name}");
     }
-    let bytes = every_kind(alloc)?;
-    assert!(rt; is_written(&rt, alloc, &bytes, &joined(alloc, &all, b"")?));
+    assert!(rt; is_written(&rt, alloc, &every_kind(alloc)?, &every_plain_kind(alloc)?));
+    Ok(())
+}
+
+/// No element; a repeated name and an empty one; a text, a code and a pointer's text with zeros; arrays of two and of twelve.
+#[test]
+fn writes_what_was_read(rt: HostRuntime) {
     let rows: &[&[u8]] = &[
         b"\x05\0\0\0\0",
         b"\x1a\0\0\0\x10a\0\x01\0\0\0\x08a\0\x01\x12\0\xfe\xff\xff\xff\xff\xff\xff\xff\0",
@@ -43,9 +69,8 @@ fn writes_every_kind(rt: HostRuntime) -> Result<(), Fail> {
             \x0a0\0\x0a1\0\x0a2\0\x0a3\0\x0a4\0\x0a5\0\x0a6\0\x0a7\0\x0a8\0\x0a9\0\x0a10\0\x0a11\0\0\0",
     ];
     for bytes in rows {
-        assert!(rt; is_written(&rt, alloc, bytes, bytes), "{bytes:?}");
+        assert!(rt; is_written(&rt, rt.alloc(), bytes, bytes), "{bytes:?}");
     }
-    Ok(())
 }
 
 /// A document with one pair.
@@ -55,25 +80,29 @@ fn document_of(alloc: Global, name: &str, value: Value) -> Result<Document, NoMe
     Ok(document)
 }
 
+fn pattern(alloc: Global, pattern: &str, options: &str) -> Result<Value, NoMemory> {
+    Ok(Value::Regex {
+        pattern: String::from_str(alloc, pattern)?,
+        options: String::from_str(alloc, options)?,
+    })
+}
+
+/// An array with a code whose scope holds a document with a zero in a name.
+fn zero_inside(alloc: Global) -> Result<Value, NoMemory> {
+    let zero = document_of(alloc, "a\0", Value::Null)?;
+    let scope = document_of(alloc, "b", Value::Doc(zero))?;
+    let code = Value::CodeScope(String::from_str(alloc, "c")?, scope);
+    Ok(Value::Array(Vec::from_array(alloc, [Value::Null, code])?))
+}
+
 /// The document that a row names.
 fn sample(alloc: Global, name: &str) -> Result<Document, NoMemory> {
     let value = match name {
         "no element" => return Ok(Document::new(alloc)),
         "zero in a name" => return document_of(alloc, "a\0", Value::Null),
-        "zero in a pattern" => Value::Regex {
-            pattern: String::from_str(alloc, "p\0q")?,
-            options: String::from_str(alloc, "i")?,
-        },
-        "zero in options" => Value::Regex {
-            pattern: String::from_str(alloc, "p")?,
-            options: String::from_str(alloc, "\0")?,
-        },
-        "zero inside" => {
-            let zero = document_of(alloc, "a\0", Value::Null)?;
-            let scope = document_of(alloc, "b", Value::Doc(zero))?;
-            let code = Value::CodeScope(String::from_str(alloc, "c")?, scope);
-            Value::Array(Vec::from_array(alloc, [Value::Null, code])?)
-        }
+        "zero in a pattern" => pattern(alloc, "p\0q", "i")?,
+        "zero in options" => pattern(alloc, "p", "\0")?,
+        "zero inside" => zero_inside(alloc)?,
         _ => Value::CodeScope(String::from_str(alloc, "c")?, Document::new(alloc)),
     };
     document_of(alloc, "d", value)

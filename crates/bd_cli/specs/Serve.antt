@@ -50,13 +50,13 @@ pub record ServesNothing {C : Type 0} (old new : C) (out err : Over Writer) (sta
   pub silent : out.after ≡ out.before
   pub told : TellsMessage err (error_line message) Failed status
 
--- over an input: it was not read, or it is no dump, or the commands were served; or memory ran out before
+-- over an input: it was not read, or it was and is no dump, or the commands were served, or memory ran out before
 abbrev pub ServesInput : {C : Type 0} → (C → Reader) → (C → Option (List ℕ) → C → Type 0) → C → C
     → Over Reader → Over Writer → Over Writer → Status → Type 0
 ServesInput state gives old new file out err status =
     (input : Result (List ℕ) ReadFault) × ReadsInput file input
-    × (ServesNothing old new out err status (codes "no memory")
-    ⊎ IsRefusedOr (ServesNothing old new out err status) (ReadsBytes input) (λ bytes.
-    IsRefusedOr (ServesNothing old new out err status) (ReadsDump bytes) (λ ds.
+    × IsRefusedOr (ServesNothing old new out err status) (ReadsBytes input) (λ bytes.
+    ServesNothing old new out err status (codes "no memory")
+    ⊎ IsRefusedOr (ServesNothing old new out err status) (ReadsDump bytes) (λ ds.
     ServesToTheEnd state gives bytes ds old new out err status
-    ⊎ ServesToAFault state gives bytes ds old new out err status)))
+    ⊎ ServesToAFault state gives bytes ds old new out err status))

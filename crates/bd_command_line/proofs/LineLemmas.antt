@@ -1,6 +1,6 @@
 -- The lines that are taken have an order.
-use Rattle.std.proofs.Common.{ap₂, subst, ◌⊎◌, inl, inr, ◌≡◌, ◌∙◌, ◌&&◌, ◌||◌, ℕ, Bool, cond, true, false, not, refl, sym, ap, List, [], ◌∷◌, codes, Option, Some, None, true≢false}
-use Rattle.std.specs.Prelude.{Result, Ok, Err, IfOk, IfErr, ⊤, Box, find, slice_get, unwrap_or, IfSome, is_some, option_and_then, option_map, ◌==◌, if◌then◌else◌}
+use Rattle.std.proofs.Common.{ap₂, subst, ◌⊎◌, inl, inr, ◌≡◌, ◌∙◌, ◌&&◌, ◌||◌, Bool, cond, true, false, not, refl, sym, ap, List, [], ◌∷◌, codes, Option, Some, None, true≢false}
+use Rattle.std.specs.Prelude.{Result, Ok, Err, IfOk, IfErr, ⊤, Box, find, slice_get, unwrap_or, IfSome, is_some, option_and_then, option_map, if◌then◌else◌}
 use Rattle.std.specs.List.{list_all}
 use Rattle.std.specs.Option.{option_map_or, option_or}
 use Rattle.std.specs.Str.{bytes_eq}
@@ -23,7 +23,7 @@ use Rattle.clap.proofs.OnLiterals.{clap_on_literals}
 use Rattle.bd_command_line.specs.declared.order.Order.{Order}
 use Rattle.bd_command_line.specs.declared.order.WordsFault.{WordsFault}
 use Rattle.bd_command_line.specs.declared.order.WordsFault.TheVariants.{NoMemory, Usage}
-use Rattle.bd_command_line.specs.CommandLine.{OrderView, GivesOrder, meant, check, dump, pack, serve, fault_for, file_app, find_app, find_ordered, told_as, is_file_word, is_help_line, is_serve_of_input, line_app, order_of, ordered_by, parser_refusal, serves_input}
+use Rattle.bd_command_line.specs.CommandLine.{OrderView, GivesOrder, meant, check, dump, pack, serve, fault_for, file_app, find_app, find_ordered, told_as, is_help_line, is_serve_of_input, line_app, order_of, ordered_by, parser_refusal, serves_input}
 use Rattle.bd_command_line.proofs.RowValueLemmas.{AllFilled, defaults-filled, fills, given_first, left_nil, right_nil, settled-filled, walk-filled}
 use Rattle.bd_command_line.proofs.FaultLemmas.{SameTold, same-fault}
 

@@ -60,10 +60,14 @@ top_app = on_top (λ s. record s {
   disable_help_subcommand = true;
 }) (new_app (codes "bsonfind"))
 
+-- the line with these commands more, each of which takes a file alone
+abbrev pub with_file_commands : App → List Text → App
+with_file_commands app [] = app
+with_file_commands app (name ∷ names) = with_file_commands (with_subcommand app (file_app name).top) names
+
 -- the line with the commands that take a file alone
 abbrev pub files_app : App
-files_app =
-    with_subcommand (with_subcommand (with_subcommand (with_subcommand top_app (file_app (codes "dump")).top) (file_app (codes "check")).top) (file_app (codes "pack")).top) (file_app (codes "serve")).top
+files_app = with_file_commands top_app (codes "dump" ∷ codes "check" ∷ codes "pack" ∷ codes "serve" ∷ [])
 
 abbrev pub line_app : App
 line_app = with_subcommand files_app find_app.top

@@ -1,9 +1,9 @@
 //! Reads the words of a line.
-ghost use Rattle.std.specs.Prelude.{◌≡◌, ◌⊎◌, IfErr, IfOk, IsErrOf, IsSome, IsTrue, List, None, Some, [], ◌∷◌, codes, false, true, ℕ};
+ghost use Rattle.std.specs.Prelude.{◌≡◌, ◌⊎◌, IfErr, IfOk, IsErrOf, IsSome, IsTrue, List, None, Some, [], ◌∷◌, codes, false, map, true, ℕ};
 ghost use Rattle.clap.specs.Simple.{with_subcommand};
 ghost use Rattle.clap.specs.Words.{app_of, found_of, kind_of, rows_of, rule_of, takes};
 ghost use Rattle.clap.specs.declared.builder.command.Command.TheViews.{out-Command as fields_of};
-ghost use Rattle.bd_command_line.specs.CommandLine.{GivesOrder, IsFileCommand, OrderView, fault_for, file_app, file_rule, files_app, is_file_word, is_help_line, is_serve_input_line, is_serve_of_input, line_app, meant, order_of, ordered_by, parser_refusal, serves_input, told_as, top_app, words_of};
+ghost use Rattle.bd_command_line.specs.CommandLine.{GivesOrder, IsFileCommand, OrderView, fault_for, file_app, file_rule, files_app, is_file_word, is_help_line, is_serve_input_line, is_serve_of_input, line_app, meant, order_of, ordered_by, parser_refusal, serves_input, told_as, top_app, with_file_commands, words_of};
 ghost use Rattle.bd_command_line.specs.declared.order.WordsFault.TheVariants.{NoMemory};
 
 use crate::find_words::{find_command, find_order};
@@ -19,6 +19,9 @@ pub const USAGE: &str = "usage: bsonfind dump FILE
        bsonfind find FILE [--query Q] [--sort S] [--skip N] [--limit N] [--batch N] [--index PATH] [--after TOKEN]
        bsonfind serve FILE
 ";
+
+/// The commands that take a file and nothing else.
+const FILE_COMMANDS: [&str; 4] = ["dump", "check", "pack", "serve"];
 
 fn file_argument<'a>(alloc: Global) -> Arg<'a>
     ensures rule { rule_of result ≡ file_rule }
@@ -63,15 +66,29 @@ fn with_file_command<'a>(
     line.subcommand(command)
 }
 
+/// The line with these commands more, each of which takes a file and nothing else.
+fn with_file_commands<'a>(
+    alloc: Global,
+    line: Command<'a>,
+    names: &[&'a str],
+) -> Result<Command<'a>, AllocError>
+    requires { (fields_of line).has_globals ≡ false }
+    ensures app { IfOk result (λ c. app_of c ≡ with_file_commands (app_of line.entry) (map (λ name. name.now) names.now)) }
+    ensures local { IfOk result (λ c. (fields_of c).has_globals ≡ false) }
+{
+    let mut with = line;
+    for name in names {
+        with = with_file_command(alloc, with, name)?;
+    }
+    Ok(with)
+}
+
 /// The program's line with the commands that take a file and nothing else.
 fn files_command<'a>(alloc: Global) -> Result<Command<'a>, AllocError>
     ensures app { IfOk result (λ c. app_of c ≡ files_app) }
     ensures local { IfOk result (λ c. (fields_of c).has_globals ≡ false) }
 {
-    let line = with_file_command(alloc, top_command(alloc), "dump")?;
-    let line = with_file_command(alloc, line, "check")?;
-    let line = with_file_command(alloc, line, "pack")?;
-    with_file_command(alloc, line, "serve")
+    with_file_commands(alloc, top_command(alloc), &FILE_COMMANDS)
 }
 
 /// The program's whole line.

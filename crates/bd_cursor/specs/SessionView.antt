@@ -2,7 +2,7 @@
 use Rattle.std.specs.Prelude.{◌≡◌, ◌-◌, ◌++◌, ℕ, nat_lt, Bool, false, true, List, [], ◌∷◌, drop, length, map, option_map, string_bytes, Option, Some, None}
 use Rattle.std.specs.List.{filter, range_with_len}
 use Rattle.bd_answer.specs.Answer.{Selection, Mark, at_most}
-use Rattle.bd_answer.specs.Session.{Call, GivenBatch, IndexCounts, IndexMark, MarkedToken, OpenCursor, Reply, State, explain_call, find_call, has_index, make_call, most_indexes, resume_call}
+use Rattle.bd_answer.specs.Session.{Call, GivenBatch, IndexMark, MarkedToken, OpenCursor, Reply, State, explain_call, find_call, has_index, make_call, most_indexes, resume_call}
 use Rattle.bd_answer.specs.Session.{explained, foreign_token, gave, index_there, made, no_cursor, no_index, opened, out_of_range, token_place}
 use Rattle.bd_answer.specs.Session.{too_many_cursors, too_many_indexes}
 use Rattle.bd_bson.specs.declared.collection.Dump.{Dump}
@@ -17,7 +17,6 @@ use Rattle.bd_plan.specs.declared.choice.Choice.{Choice}
 use Rattle.bd_plan.specs.declared.choice.Choice.TheVariants as choices
 use Rattle.bd_path.specs.declared.path.Path.{Path}
 use Rattle.bd_request.specs.declared.request.Request.{Request}
-use Rattle.bd_request.specs.declared.results.Made.{Made}
 use Rattle.bd_request.specs.declared.results.Batch.{Batch}
 use Rattle.bd_cursor.specs.declared.cursor.Cursor.{Cursor}
 use Rattle.bd_cursor.specs.declared.remainder.Remainder.{Remainder}

@@ -19,17 +19,21 @@
 //! - `cursor`: the open cursors; `digested_dump`: the digest of a dump, taken once.
 //! - `remainder`: the places that a cursor has left: `scan_position`, where each document is looked at and there is no sort, and
 //!   `place_list`, where all are known.
+//! - `laws`: that the laws of sessions hold of each request.
 #![tactic(auto)]
 
 mod cursor;
 mod digested_dump;
+mod laws;
 mod place_list;
 mod remainder;
 mod scan_position;
 mod session;
 
+pub use bd_answer::PlaceSource;
 pub use bd_plan::Choice;
 pub use bd_request::{
     Batch, Explain, Made, Plan, Refused, Request, Token, dump_digest, request_digest,
 };
+pub use laws::requests_are_fair;
 pub use session::Session;

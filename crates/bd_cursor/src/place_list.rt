@@ -15,7 +15,7 @@ use std::alloc::Global;
 use std::marker::Model;
 
 /// Places in order, of which those from an index on are left.
-#[derive(Debug, Drop)]
+#[derive(Drop)]
 pub(crate) struct PlaceList {
     places: Vec<u32>,
     at: usize,

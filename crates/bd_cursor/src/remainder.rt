@@ -17,7 +17,7 @@ use bd_value::NoMemory;
 use std::alloc::Global;
 
 /// The places that a cursor has left.
-#[derive(Debug, Drop)]
+#[derive(Drop)]
 pub(crate) enum Remainder {
     /// Where each document is looked at and there is no sort, they are looked for as they are asked for.
     Scanned(ScanPosition),

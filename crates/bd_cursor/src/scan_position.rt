@@ -16,7 +16,7 @@ use bd_value::NoMemory;
 use std::alloc::Global;
 
 /// Where a cursor without a sort stands.
-#[derive(Clone, Copy, Debug)]
+#[derive(Clone, Copy)]
 pub(crate) struct ScanPosition {
     /// The match that was found and not given yet.
     pub found: Option<u32>,

@@ -38,6 +38,7 @@ pub struct Session {
 
 impl Session {
     ghost use Rattle.std.specs.Prelude.{◌≡◌, ◌≤◌, Bool, IfErr, IfOk, IsFalse, IsTrue, OnErr, OnOk, false, option_map, string_bytes, true};
+    ghost use Rattle.bd_answer.specs.Answer.{answer, rest};
     ghost use Rattle.bd_answer.specs.Session.{IndexCounts, MarkedToken, dropped, explained, gave, has_index, is_full, killed, made, opened, state_after, with_open};
     ghost use Rattle.bd_answer.specs.Session.{drop_call, kill_call, make_reply, next_call, open_reply, reply};
     ghost use Rattle.bd_answer.specs.SessionLaws.{new_state};
@@ -45,7 +46,7 @@ impl Session {
     ghost use Rattle.bd_index.specs.IndexView.{IsIndexOf};
     ghost use Rattle.bd_plan.specs.Explanation.{index_counts, index_mark};
     ghost use Rattle.bd_sort.specs.Selection.{query_of};
-    ghost use Rattle.bd_cursor.specs.SessionView.{IsGranted, dump_of, given_batch, marked_token, path_mark, places_left, state_of, with_index};
+    ghost use Rattle.bd_cursor.specs.SessionView.{IsGranted, dump_of, given_batch, mark_of, marked_token, path_mark, places_left, state_of, with_index};
     ghost use Rattle.bd_cursor.specs.SessionView.{IsRefusedCall, explain_request, find_request, hint_of, make_index, resume_request};
     ghost use Rattle.bd_request.specs.Results.{made_counts, told};
 
@@ -171,15 +172,7 @@ impl Session {
         ensures unchanged { OnErr result (state_of self.new ≡ state_of self.old) }
         ensures dump { dump_of self.new ≡ dump_of self.old }
     {
-        self.may_open(&choice)?;
-        let documents = &self.documents;
-        let left = Remainder::of_answer(
-            self.alloc,
-            &documents.dump,
-            &self.indexes,
-            &request,
-            &choice,
-        )?;
+        let left = self.answer_to(&request, &choice)?;
         self.open(request, None, left)
     }
 
@@ -206,24 +199,7 @@ impl Session {
         ensures dump { dump_of self.new ≡ dump_of self.old }
     {
         let token = *token;
-        let dump = self.documents.digest();
-        let digest = request_digest(&dump, &request);
-        if token.digest != digest {
-            return Err(Refused::ForeignToken);
-        }
-        if token.last >= self.documents.dump.len() {
-            return Err(Refused::TokenPlace);
-        }
-        self.may_open(&choice)?;
-        let documents = &self.documents;
-        let left = Remainder::of_rest(
-            self.alloc,
-            &documents.dump,
-            &self.indexes,
-            &request,
-            &choice,
-            token,
-        )?;
+        let left = self.rest_after(&request, &choice, token)?;
         self.open(request, Some(token), left)
     }
 
@@ -352,10 +328,73 @@ impl Session {
         Ok(made)
     }
 
+    /// The answer of a request, where a cursor may be opened on it.
+    fn answer_to(&self, request: &Request, choice: &Choice) -> Result<Remainder, Refused>
+        ensures opened { OnOk result
+            (open_reply (state_of self.now) (hint_of choice.now) ≡ opened self.now.next_id) }
+        ensures number { OnOk result (self.now.next_id ≤ 9223372036854775807) }
+        ensures left { IfOk result
+            (λ left. places_left (query_of (dump_of self.now) request.now).selection left
+            ≡ answer (query_of (dump_of self.now) request.now).selection) }
+        ensures refused { IfErr result (IsRefusedCall (open_reply (state_of self.now) (hint_of choice.now))) }
+    {
+        self.may_open(choice)?;
+        let documents = &self.documents;
+        let left = Remainder::of_answer(
+            self.alloc,
+            &documents.dump,
+            &self.indexes,
+            request,
+            choice,
+        )?;
+        Ok(left)
+    }
+
+    /// What follows a token in the answer of its request, where a cursor may be opened on it.
+    fn rest_after(
+        &mut self,
+        request: &Request,
+        choice: &Choice,
+        token: Token,
+    ) -> Result<Remainder, Refused>
+        ensures opened { OnOk result
+            (reply (state_of self.old) (resume_request (dump_of self.old) request.now choice.now token)
+            ≡ opened self.new.next_id) }
+        ensures number { OnOk result (self.new.next_id ≤ 9223372036854775807) }
+        ensures left { IfOk result
+            (λ left. places_left (query_of (dump_of self.old) request.now).selection left
+            ≡ rest (query_of (dump_of self.old) request.now).selection (mark_of token)) }
+        ensures refused { IfErr result
+            (IsRefusedCall (reply (state_of self.old) (resume_request (dump_of self.old) request.now choice.now token))) }
+        ensures same { state_of self.new ≡ state_of self.old }
+        ensures dump { dump_of self.new ≡ dump_of self.old }
+    {
+        let dump = self.documents.digest();
+        let digest = request_digest(&dump, request);
+        if token.digest != digest {
+            return Err(Refused::ForeignToken);
+        }
+        if token.last >= self.documents.dump.len() {
+            return Err(Refused::TokenPlace);
+        }
+        self.may_open(choice)?;
+        let documents = &self.documents;
+        let left = Remainder::of_rest(
+            self.alloc,
+            &documents.dump,
+            &self.indexes,
+            request,
+            choice,
+            token,
+        )?;
+        Ok(left)
+    }
+
     /// Whether a cursor may be opened, and why not.
     fn may_open(&self, choice: &Choice) -> Result<(), Refused>
         ensures opened { OnOk result
             (open_reply (state_of self.now) (hint_of choice.now) ≡ opened self.now.next_id) }
+        ensures number { OnOk result (self.now.next_id ≤ 9223372036854775807) }
         ensures refused { IfErr result (IsRefusedCall (open_reply (state_of self.now) (hint_of choice.now))) }
     {
         self.has_choice(choice)?;

@@ -29,6 +29,12 @@ reads_append {S} {gives} n m s t u front rest first (more_reads k w v x middle p
     subst (λ l. AreReads gives (suc (n + k)) s l x) (append_assoc front middle part) one in
     subst (λ i. AreReads gives i s (front ++ (middle ++ part)) x) (sym (add-suc n k)) two
 
+-- each read gave a byte at least
+pub reads_at_least : {S : Type 0} {gives : S → Option (List ℕ) → S → Type 0} (n : ℕ) (s t : S) (bytes : List ℕ) → AreReads gives n s bytes t → n ≤ length bytes
+reads_at_least {S} {gives} n s t bytes (no_read v) = omega arith
+reads_at_least {S} {gives} n s t bytes (more_reads k w v x front part first last some) =
+    let h = reads_at_least k w v front first in omega (arith, h, length-append front part)
+
 pub Consumes-more : (a b c : Option (List ℕ)) (front part all : List ℕ) → Consumes a b front → Consumes b c part → all ≡ front ++ part → Consumes a c all
 Consumes-more a b c front part all p q e = subst (Consumes a c) (sym e) (Consumes-trans a b c front part p q)
 

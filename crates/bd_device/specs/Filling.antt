@@ -19,7 +19,7 @@ FailsToFill file size limit reads.Device =
     × (length given ≤ limit)
 FailsToFill file size limit reads.TooLong =
     (given : List ℕ) × (last : List ℕ) × Consumes file.before.left file.after.left (given ++ last)
-    × (length given < size) × (length given ≤ limit) × (limit < length given + length last)
+    × (length given ≤ limit) × (limit < length given + length last) × (length given + length last ≤ size)
 FailsToFill file size limit reads.TooManyTurns =
     (given : List ℕ) × Consumes file.before.left file.after.left given × (length given < size)
     × (length given ≤ limit)

@@ -2,7 +2,7 @@
 ghost use Rattle.std.specs.Prelude.{◌≡◌, ℕ, List, [], Some, None, IfOk, IfSome, IsErrOf, OnErr, OnOk, length, vec_len, ◌+◌, ◌<◌, ◌≤◌, codes};
 ghost use Rattle.std.specs.Io.KnownBytes.{IsAtEnd};
 ghost use Rattle.bd_device.specs.Counts.{after_more, HasRisen};
-ghost use Rattle.bd_device.specs.Devices.{AreReads, LosesFront, LosesAtLeast};
+ghost use Rattle.bd_device.specs.Devices.{AreReads, LosesFront, LosesAtLeast, TakesAtMost, over};
 
 use crate::input::Input;
 use std::alloc::Global;
@@ -97,6 +97,7 @@ pub fn read_all<R: Input>(
     ensures memory { IsErrOf result ReadFault.NoMemory →
         (n : ℕ) × (given : List ℕ) × (n ≤ limits.turns) × (length given ≤ limits.bytes)
         × AreReads R.read_gives n reader.old given reader.new }
+    ensures memory_known { IsErrOf result ReadFault.NoMemory → TakesAtMost limits.bytes (over R.state reader.old reader.new) }
 {
     let mut buffer = [0u8; 65536];
     let mut bytes = Vec::new(alloc);

@@ -24,10 +24,10 @@ use Rattle.bd_files.specs.declared.status.Status.TheVariants.{Done, Failed}
 use Rattle.bd_files.proofs.OutcomeLemmas.{streamed_front}
 use Rattle.bd_files.proofs.OutputLemmas.LinesLemmas.{lines-append}
 use Rattle.bd_files.specs.Dump.{DumpsInput, EndsWithinLimit, IsFrontOf, IsShownByDump, dump_count_line, dump_message, shown_dump}
-use Rattle.bd_files.specs.Outcome.{PrintsOrStarves, ReadsInput, StreamsInput, TellsMessage}
+use Rattle.bd_files.specs.Outcome.{PrintsShown, ReadsInput, StreamsInput, TellsMessage}
 use Rattle.bd_files.specs.Transcript.{Transcript, error_line, fault_text, lines, read_words, shown_refusal, shown_unread}
 use Rattle.bd_files.specs.Dump.Walk.{EndsWalk, IsFaulty, WalksDocuments, ending_status, walk_message}
-use Rattle.bd_device.specs.Devices.{TakesText}
+use Rattle.bd_device.specs.Devices.{TakesAtMost, TakesText}
 
 module _ (old new : Reader) (out_old out_new : Writer) (err_old err_new : Writer) (status : Status) where
   -- `dump` was carried out
@@ -76,8 +76,8 @@ module _ (old new : Reader) (out_old out_new : Writer) (err_old err_new : Writer
 
 -- nothing was written to standard output
 pub refused : (out : Writer) (err_old err_new : Writer) (words : List ℕ) (status : Status)
-    → TellsMessage (between err_old err_new) (error_line words) Failed status → PrintsOrStarves (between out out) (between err_old err_new) (shown_refusal words) status
-refused out err_old err_new words status told = inl (inl ((Appends-nil out.held, refl), told))
+    → TellsMessage (between err_old err_new) (error_line words) Failed status → PrintsShown (between out out) (between err_old err_new) (shown_refusal words) status
+refused out err_old err_new words status told = inl ((Appends-nil out.held, refl), told)
 
 abbrev failed_as : {A : Type 0} → ReadFault → Result A ReadFault
 failed_as f = Err f
@@ -88,11 +88,12 @@ pub was_refused : {A : Type 0} (old new : Reader) (fault : ReadFault)
     → (failed_as {A = A} fault ≡ failed_as reads.TooLong → IfSome old.left (λ xs. 4294967295 < length xs))
     → (failed_as {A = A} fault ≡ failed_as reads.TooManyTurns → LosesAtLeast 4294967296 old.left new.left)
     → (failed_as {A = A} fault ≡ failed_as reads.TooManyTurns → new.calls ≡ after_more old.calls 4294967296)
+    → (failed_as {A = A} fault ≡ failed_as reads.NoMemory → TakesAtMost 4294967295 (between old new))
     → ReadsInput (between old new) (Err fault)
-was_refused old new reads.Device failed well long turns made = failed refl
-was_refused old new reads.TooLong failed well long turns made = (long refl, well (λ e. absurd cc))
-was_refused old new reads.TooManyTurns failed well long turns made = (turns refl, made refl, well (λ e. absurd cc))
-was_refused old new reads.NoMemory failed well long turns made = well (λ e. absurd cc)
+was_refused old new reads.Device failed well long turns made few = failed refl
+was_refused old new reads.TooLong failed well long turns made few = (long refl, well (λ e. absurd cc))
+was_refused old new reads.TooManyTurns failed well long turns made few = (turns refl, made refl, well (λ e. absurd cc))
+was_refused old new reads.NoMemory failed well long turns made few = (few refl, well (λ e. absurd cc))
 
 -- ---- what is shown is determined
 

@@ -13,11 +13,12 @@ use Rattle.bd_check.specs.Fault.{Fault}
 use Rattle.bd_check.specs.FirstFault.{first_fault}
 use Rattle.bd_check.specs.Dump.{frame_length, framed_fault, frame_fault}
 use Rattle.bd_stream.specs.NextDocument.{IsReason, ReadsDocument, held_bytes}
-use Rattle.bd_stream.specs.Stream.{IsCut, IsFrame}
+use Rattle.bd_stream.specs.Stream.{AreFrames, IsCut, IsFrame, IsWithinOne}
 use Rattle.bd_stream.specs.declared.doc_buffer.DocBuffer.{DocBuffer}
 use Rattle.bd_stream.specs.declared.doc_buffer.DocFault.TheVariants as faults
 use Rattle.bd_check.specs.AnsweredFault.{fault_view}
 use Rattle.bd_check.specs.declared.fault.Fault as told
+use Rattle.bd_device.proofs.DevicesLemmas.{reads_at_least}
 use Rattle.bd_stream.proofs.FrameLemmas.{frame_on}
 use Rattle.bd_files.specs.Outcome.{StreamsInput}
 use Rattle.bd_device.specs.Devices.{Reader, between}
@@ -28,6 +29,7 @@ pub record Read (old new : Reader) (before after : DocBuffer) (bytes : List ℕ)
   pub gave : Consumes old.left new.left bytes
   pub size : length bytes ≡ after.size
   pub short : length bytes ≤ before.left.bytes
+  pub many : before.left.turns - after.left.turns ≤ length bytes
 
 pub document_read : {R : Type 0} (state : R → Reader) (gives : R → Option (List ℕ) → R → Type 0) (before after : DocBuffer) (old new : R) (bytes : List ℕ)
     → bytes ≡ held_bytes after → after.size ≤ length after.buffer.items → ReadsDocument state gives before after old new
@@ -39,6 +41,7 @@ document_read state gives before after old new bytes shown inside read =
       gave = rw shown read.gave;
       size = size;
       short = let room = read.room in omega (arith, size, room);
+      many = rw shown (reads_at_least (before.left.turns - after.left.turns) old new (held_bytes after) read.reads);
     }
 
 -- what is left, where it is known
@@ -95,7 +98,8 @@ fault_of_length place given bytes f at is offset path =
 
 module _ (old : Reader) (given : List ℕ) {R : Type 0} (state : R → Reader) (gives : R → Option (List ℕ) → R → Type 0) (documents : DocBuffer) (m n : R)
     (gave : Consumes old.left (state m).left given) (fits : documents.left.bytes + length given ≡ 4294967295) (turned : documents.left.turns ≤ 4294967296)
-    (called : (state m).calls ≡ after_more old.calls (4294967296 - documents.left.turns)) (well : (state m).failures ≡ old.failures) where
+    (called : (state m).calls ≡ after_more old.calls (4294967296 - documents.left.turns)) (well : (state m).failures ≡ old.failures)
+    (frames : List (List ℕ)) (framed : AreFrames frames given) (many : 4294967296 - documents.left.turns ≤ length given) where
   -- the bytes of the document that were given, and what is known then
   abbrev pub Unread : ReadFault → Type 0
   Unread f = (part : List ℕ) × StreamsInput (between old (state n)) (given ++ part) (Some f) × IsCut part
@@ -114,11 +118,13 @@ module _ (old : Reader) (given : List ℕ) {R : Type 0} (state : R → Reader) (
       let all : Consumes old.left (state n).left (given ++ (reason.0 ++ reason.1)) = subst (λ (x : List ℕ). Consumes old.left (state n).left (given ++ x)) reason.2 (moved part more) in
       let after : Consumes old.left (state n).left ((given ++ reason.0) ++ reason.1) = subst (Consumes old.left (state n).left) (sym (append_assoc given reason.0 reason.1)) all in (
         reason.0,
-        (reason.1, after, short reason.0 reason.4, let r = reason.5 in omega (arith, fits, r, length-append given reason.0), reason.6 ∙ well),
+        (reason.1, after, short reason.0 reason.4, let r = reason.5 in omega (arith, fits, r, length-append given reason.0), (frames, given, reason.0, framed, refl, subst IsWithinOne reason.2 reason.6), reason.7 ∙ well),
         reason.3,
       )
   unread part reads.TooManyTurns other more reason =
-      (part, (moved part more, short part reason.1, all_called old.calls (state m).calls (state n).calls documents.left.turns turned called reason.3, reason.4 ∙ well), reason.0)
+      let each = reads_at_least documents.left.turns m n part reason.2 in
+      let all : 4294967296 ≤ length (given ++ part) = omega (arith, many, turned, each, length-append given part) in
+      (part, (moved part more, short part reason.1, (given ++ part, moved part more, all), all_called old.calls (state m).calls (state n).calls documents.left.turns turned called reason.3, reason.4 ∙ well), reason.0)
   unread part reads.NoMemory other more reason = absurd (other refl)
 
 -- what stands in front of an input's bytes stands in front of the reader's

@@ -84,4 +84,5 @@ ChecksInput file out err status =
     × TellsMessage err shown.err shown.status status)
     ⊎ (BreaksWithin out shown.out × BreaksAtVerdict file out
     × TellsMessage err (error_line (codes "cannot write")) Failed status)
-    ⊎ (TakesFront out shown.out × TellsMessage err (error_line (codes "no memory")) Failed status))
+    ⊎ ((fault ≡ None) × TakesFront out shown.out
+    × TellsMessage err (error_line (codes "no memory")) Failed status))

@@ -5,6 +5,7 @@ use Rattle.bd_device.specs.Counts.{after_more}
 use Rattle.bd_device.specs.Devices.{BreaksWithin, LosesAtLeast, Over, Reader, TakesAtMost, TakesFront, TakesText, Writer}
 use Rattle.bd_device.specs.declared.reading.ReadFault.{ReadFault}
 use Rattle.bd_device.specs.declared.reading.ReadFault.TheVariants as reads
+use Rattle.bd_stream.specs.Stream.{EndsWithinOne}
 use Rattle.bd_files.specs.Transcript.{Transcript, error_line}
 use Rattle.bd_files.specs.declared.status.Status.{Status}
 use Rattle.bd_files.specs.declared.status.Status.TheVariants.{Failed}
@@ -23,9 +24,11 @@ ReadsInput file (Err reads.TooManyTurns) =
     LosesAtLeast 4294967296 file.before.left file.after.left
     × (file.after.calls ≡ after_more file.before.calls 4294967296)
     × (file.after.failures ≡ file.before.failures)
-ReadsInput file (Err reads.NoMemory) = file.after.failures ≡ file.before.failures
+ReadsInput file (Err reads.NoMemory) =
+    TakesAtMost 4294967295 file × (file.after.failures ≡ file.before.failures)
 
--- The reader's bytes are these, and no more than the limit were taken; or it gave these, and no more of them were read for this reason
+-- The reader's bytes are these, and no more than the limit were taken; or it gave these, and no more of them were read for this
+-- reason. A read that went past the limit gave no more than was missing of the document that it was in.
 abbrev pub StreamsInput : Over Reader → List ℕ → Option ReadFault → Type 0
 StreamsInput file bytes None =
     IfSome file.before.left (λ xs. bytes ≡ xs) × TakesAtMost 4294967295 file
@@ -35,10 +38,11 @@ StreamsInput file bytes (Some reads.Device) =
     × (file.after.failures ≡ after_more file.before.failures 1)
 StreamsInput file bytes (Some reads.TooLong) =
     (last : List ℕ) × Consumes file.before.left file.after.left (bytes ++ last)
-    × (length bytes ≤ 4294967295) × (4294967295 < length bytes + length last)
+    × (length bytes ≤ 4294967295) × (4294967295 < length bytes + length last) × EndsWithinOne bytes last
     × (file.after.failures ≡ file.before.failures)
 StreamsInput file bytes (Some reads.TooManyTurns) =
     Consumes file.before.left file.after.left bytes × (length bytes ≤ 4294967295)
+    × LosesAtLeast 4294967296 file.before.left file.after.left
     × (file.after.calls ≡ after_more file.before.calls 4294967296)
     × (file.after.failures ≡ file.before.failures)
 StreamsInput file bytes (Some reads.NoMemory) = ⊥
@@ -55,8 +59,13 @@ PrintsShown out err shown status =
     (TakesText out shown.out × TellsMessage err shown.err shown.status status)
     ⊎ (BreaksWithin out shown.out × TellsMessage err (error_line (codes "cannot write")) Failed status)
 
--- all was printed so, or memory ran out: then standard output has a front of its text, and standard error tells so
+-- All was printed so, or memory ran out: then standard output has a front of its text, and standard error tells so.
 abbrev pub PrintsOrStarves : Over Writer → Over Writer → Transcript → Status → Type 0
 PrintsOrStarves out err shown status =
     PrintsShown out err shown status
     ⊎ (TakesFront out shown.out × TellsMessage err (error_line (codes "no memory")) Failed status)
+
+-- The same of an input. Why one was not read whole is told as it is, and never as want of memory.
+abbrev pub PrintsInput : Result (List ℕ) ReadFault → Over Writer → Over Writer → Transcript → Status → Type 0
+PrintsInput (Ok bytes) out err shown status = PrintsOrStarves out err shown status
+PrintsInput (Err fault) out err shown status = PrintsShown out err shown status

@@ -11,7 +11,7 @@ use Rattle.bd_pack.specs.Packable.{plain, IsPackable, IsBad}
 use Rattle.bd_pack.specs.declared.line.LineFault.{LineFault}
 use Rattle.bd_pack.specs.declared.line.LineFault.TheVariants as faults
 use Rattle.bd_lines.specs.Lines.{is_empty_line, text_lines}
-use Rattle.bd_files.specs.Outcome.{PrintsOrStarves, ReadsInput}
+use Rattle.bd_files.specs.Outcome.{PrintsInput, ReadsInput}
 use Rattle.bd_files.specs.Transcript.{Transcript, error_line, read_words, shown_refusal}
 use Rattle.bd_files.specs.declared.pack.packing.BadLine.{BadLine}
 use Rattle.bd_files.specs.declared.status.Status.{Status}
@@ -92,4 +92,4 @@ AreAlike (Some a) (Some b) = (a.number ≡ b.number) × AreAlikeFaults a.fault b
 abbrev pub PacksInput : Over Reader → Over Writer → Over Writer → Status → Type 0
 PacksInput file out err status =
     (input : Result (List ℕ) ReadFault) × (shown : Transcript) × ReadsInput file input × IsShownByPack input shown
-    × PrintsOrStarves out err shown status
+    × PrintsInput input out err shown status

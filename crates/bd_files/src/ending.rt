@@ -6,6 +6,7 @@ use crate::output::lines::OutputFault;
 use bd_check::Fault;
 use bd_device::ReadFault;
 use bd_stream::DocFault;
+use std::alloc::Global;
 
 /// What comes after the documents of an input.
 #[derive(Debug, Drop)]
@@ -19,12 +20,12 @@ pub enum Ending {
 }
 
 /// What a fault of reading is for the documents before it.
-pub(crate) fn ending_of(fault: DocFault) -> Result<Ending, OutputFault>
+pub(crate) fn ending_of(alloc: Global, fault: DocFault) -> Result<Ending, OutputFault>
     requires { ¬ (fault ≡ DocFault.Failed) }
     ensures { IsEndingOf fault result }
 {
     match fault {
-        DocFault::Frame(fault) => Ok(Ending::Faulty(fault)),
+        DocFault::Frame(fault) => Ok(Ending::Faulty(fault.to_fault(alloc))),
         DocFault::Read(ReadFault::NoMemory) => Err(OutputFault::NoMemory),
         DocFault::Read(fault) => Ok(Ending::Unread(fault)),
         DocFault::Failed => unreachable!(),

@@ -15,38 +15,44 @@ fn is_one(document: &Document) -> bool {
     document.len() == 1 && matches!(document.first("a"), Some(Value::Int32(1)))
 }
 
-/// Adds numbers under `a`. A push that was refused leaves as many pairs as before, and is made again.
+/// Adds a number under `a`. A push that was refused leaves as many pairs as before, and is made again.
+fn push(alloc: Global, document: &mut Document, number: i32) -> Result<bool, RowFault> {
+    let before = document.len();
+    let name = String::from_str(alloc, "a")?;
+    if document.push(name, Value::Int32(number)).is_ok() {
+        return Ok(true);
+    }
+    let is_left = document.len() == before;
+    document.push(String::from_str(alloc, "a")?, Value::Int32(number))?;
+    Ok(is_left)
+}
+
 fn pushes(alloc: Global) -> Result<bool, RowFault> {
     let mut document = Document::new(alloc);
     for (number, wanted) in [(1, ONE), (2, TWICE)] {
-        let before = document.len();
-        let name = String::from_str(alloc, "a")?;
-        if document.push(name, Value::Int32(number)).is_err() {
-            if document.len() != before {
-                return Ok(false);
-            }
-            document.push(String::from_str(alloc, "a")?, Value::Int32(number))?;
-        }
-        if write_document(alloc, &document)?.as_slice() != wanted {
+        let is_pushed = push(alloc, &mut document, number)?;
+        if !is_pushed || write_document(alloc, &document)?.as_slice() != wanted {
             return Ok(false);
         }
     }
     Ok(true)
 }
 
-/// What is read of bytes, and what is copied of a view of a dump.
-fn reads_and_copies(alloc: Global) -> Result<bool, RowFault> {
-    let is_read = is_one(&read_document(alloc, ONE, 0, 0)?);
+/// What is read of bytes.
+fn documents(alloc: Global) -> Result<bool, RowFault> {
+    Ok(is_one(&read_document(alloc, ONE, 0, 0)?))
+}
+
+/// What is copied of a view of a dump.
+fn copies(alloc: Global) -> Result<bool, RowFault> {
     let dump = dump_of(alloc, ONE)?;
-    if !is_read || dump.len() != 1 {
+    if dump.len() != 1 {
         return Ok(false);
     }
     let view = dump.document(0);
-    let is_copied = is_one(&view.to_document(alloc)?);
-    match view.value().to_value(alloc)? {
-        Value::Doc(same) => Ok(is_copied && is_one(&same)),
-        _ => Ok(false),
-    }
+    let document = view.to_document(alloc)?;
+    let value = view.value().to_value(alloc)?;
+    Ok(is_one(&document) && matches!(&value, Value::Doc(same) if is_one(same)))
 }
 
 /// Texts of documents, and the bytes of these.
@@ -120,11 +126,29 @@ fn cut_documents(alloc: Global) -> Result<bool, RowFault> {
     }
 }
 
+/// What the row of that name answers.
+fn answer(alloc: Global, row: &str) -> Result<bool, RowFault> {
+    match row {
+        "pushes" => pushes(alloc),
+        "a document" => documents(alloc),
+        "copies" => copies(alloc),
+        "faults" => faults(alloc),
+        "documents that are cut" => cut_documents(alloc),
+        _ => Err(RowFault::Otherwise),
+    }
+}
+
 #[test]
 fn documents_and_bytes(rt: HostRuntime) {
-    assert!(rt; is_whole!(pushes(rt.alloc())));
-    assert!(rt; is_whole!(reads_and_copies(rt.alloc())));
-    assert!(rt; is_whole!(faults(rt.alloc())));
+    for row in [
+        "pushes",
+        "a document",
+        "copies",
+        "faults",
+        "documents that are cut",
+    ] {
+        assert!(rt; is_whole!(answer(rt.alloc(), row)), "{row}");
+    }
     for (texts, bytes) in ROWS {
         assert!(rt; is_whole!(are_written(rt.alloc(), texts, bytes)), "{texts}");
     }
@@ -135,7 +159,9 @@ fn documents_and_bytes(rt: HostRuntime) {
         (5, 3, Some(ReadFault::TooManyTurns)),
     ] {
         let limits = Limits { bytes, turns };
-        assert!(rt; is_whole!(reads(rt.alloc(), limits, wanted)));
+        assert!(rt;
+            is_whole!(reads(rt.alloc(), limits, wanted)),
+            "{bytes}, {turns}"
+        );
     }
-    assert!(rt; is_whole!(cut_documents(rt.alloc())));
 }

@@ -1,6 +1,7 @@
-//! Rows of calls that grow, which `tests/growing_calls.py` runs once for each growth of their memory, with that one refused. Where
-//! a call answers that no memory was given, the row is begun again, and a call of a session or on a lent vector is made again.
-//! Each row then has its whole answer, which was worked by hand; another refusal or a shorter answer fails.
+//! Rows of calls that grow. `tests/faults/growing_calls.py` runs them once for each growth of their memory, with that one refused.
+//! Where a call answers that no memory was given, the row is begun again; a call of a session or on a lent vector is made again.
+//! Each row then has its whole answer, which was worked by hand. Another refusal or a shorter answer fails. Whole runs of the
+//! program are in `tests/faults/growths.py`.
 #![tactic(auto)]
 
 #[cfg(test)]
@@ -11,8 +12,6 @@ mod bytes_tests;
 mod index_tests;
 #[cfg(test)]
 mod path_tests;
-#[cfg(test)]
-mod run_tests;
 #[cfg(test)]
 mod samples;
 #[cfg(test)]

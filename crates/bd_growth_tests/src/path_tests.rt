@@ -4,7 +4,7 @@ use crate::samples::read_filter;
 use bd_bounds::Bounds;
 use bd_extjson::read_doc;
 use bd_path::{Dir, Key, Path, key_nodes, keys, sort_key};
-use bd_query::{FilterFaultKind, matches, parse};
+use bd_query::{Filter, FilterFaultKind, matches, parse};
 use bd_value::{Reading, Tree, Value, compare_nodes, try_copy};
 use std::alloc::Global;
 use std::cmp::Ordering;
@@ -33,18 +33,27 @@ fn keys_of_an_array(alloc: Global) -> Result<bool, RowFault> {
     Ok(are_keys && matches!(values.as_slice(), [Value::Int32(5), Value::Int32(7)]))
 }
 
-/// The greatest of them is 7, and so is its copy. A copy of all has them all.
+/// A copy of all has them all.
 fn copies(alloc: Global) -> Result<bool, RowFault> {
     let document = read_doc(alloc, b"{\"a\":[5,7,5]}")?;
     let Some(array) = document.first("a") else {
         return Ok(false);
     };
-    let all = try_copy(alloc, array)?;
-    let is_same = compare_nodes(Tree::Value(&all), Tree::Value(array)) == Ordering::Equal;
+    let copy = try_copy(alloc, array)?;
+    Ok(compare_nodes(Tree::Value(&copy), Tree::Value(array)) == Ordering::Equal)
+}
+
+fn greatest_key(alloc: Global) -> Result<Value, RowFault> {
+    let document = read_doc(alloc, b"{\"a\":[5,7,5]}")?;
     let path = Path::parse(alloc, "a")?;
-    let key = sort_key(alloc, Tree::Doc(&document), &path, Dir::Down)?;
+    Ok(sort_key(alloc, Tree::Doc(&document), &path, Dir::Down)?)
+}
+
+/// The greatest of them is 7, and so is its copy.
+fn copies_a_key(alloc: Global) -> Result<bool, RowFault> {
+    let key = greatest_key(alloc)?;
     let copy = try_copy(alloc, &key)?;
-    Ok(is_same && matches!((key, copy), (Value::Int32(7), Value::Int32(7))))
+    Ok(matches!(&key, Value::Int32(7)) && matches!(&copy, Value::Int32(7)))
 }
 
 fn components(alloc: Global) -> Result<bool, RowFault> {
@@ -56,12 +65,15 @@ fn components(alloc: Global) -> Result<bool, RowFault> {
     Ok(path.component(0) == "a" && path.component(1) == "0" && copy.component(1) == "0")
 }
 
+fn is_match(alloc: Global, filter: &Filter, text: &str) -> Result<bool, RowFault> {
+    let document = read_doc(alloc, text.as_bytes())?;
+    Ok(matches(filter, Tree::Doc(&document)))
+}
+
 /// Greater than 1: 2 is, and 1 is not.
 fn greater_than_one(alloc: Global) -> Result<bool, RowFault> {
     let filter = read_filter(alloc, "{\"a\":{\"$gt\":1}}")?;
-    let has_one = matches(&filter, Tree::Doc(&read_doc(alloc, b"{\"a\":1}")?));
-    let has_two = matches(&filter, Tree::Doc(&read_doc(alloc, b"{\"a\":2}")?));
-    Ok(has_two && !has_one)
+    Ok(is_match(alloc, &filter, "{\"a\":2}")? && !is_match(alloc, &filter, "{\"a\":1}")?)
 }
 
 /// An operator and a field in one document.
@@ -88,12 +100,31 @@ fn bounds(alloc: Global) -> Result<bool, RowFault> {
     Ok(matches!(&bounds, Some(b) if b.holds(Tree::Value(&Value::Int32(5)))))
 }
 
+/// What the row of that name answers.
+fn answer(alloc: Global, row: &str) -> Result<bool, RowFault> {
+    match row {
+        "keys" => keys_of_an_array(alloc),
+        "copies" => copies(alloc),
+        "a copy of a key" => copies_a_key(alloc),
+        "components" => components(alloc),
+        "a filter" => greater_than_one(alloc),
+        "a fault" => mixed(alloc),
+        "bounds" => bounds(alloc),
+        _ => Err(RowFault::Otherwise),
+    }
+}
+
 #[test]
 fn paths_and_filters(rt: HostRuntime) {
-    assert!(rt; is_whole!(keys_of_an_array(rt.alloc())));
-    assert!(rt; is_whole!(copies(rt.alloc())));
-    assert!(rt; is_whole!(components(rt.alloc())));
-    assert!(rt; is_whole!(greater_than_one(rt.alloc())));
-    assert!(rt; is_whole!(mixed(rt.alloc())));
-    assert!(rt; is_whole!(bounds(rt.alloc())));
+    for row in [
+        "keys",
+        "copies",
+        "a copy of a key",
+        "components",
+        "a filter",
+        "a fault",
+        "bounds",
+    ] {
+        assert!(rt; is_whole!(answer(rt.alloc(), row)), "{row}");
+    }
 }

@@ -50,13 +50,14 @@ fn replies(alloc: Global, dump: &[u8], talk: (&str, &str)) -> Result<bool, RowFa
     let mut replied = Vec::new(alloc);
     for line in talk.0.lines() {
         replied.clear();
-        let answer = service.reply(line.as_bytes(), &mut replied);
-        if answer.is_err() && !replied.is_empty() {
-            return Err(RowFault::Otherwise);
+        if service.reply(line.as_bytes(), &mut replied).is_err() {
+            return Err(if replied.is_empty() {
+                RowFault::NoMemory
+            } else {
+                RowFault::Otherwise
+            });
         }
-        answer?;
-        let reply = wanted.next().unwrap_or("");
-        if replied.as_slice() != reply.as_bytes() {
+        if replied.as_slice() != wanted.next().unwrap_or("").as_bytes() {
             return Ok(false);
         }
     }

@@ -111,9 +111,16 @@ const SPARSE: &str = r#"{"ok":true,"entries":{"$numberLong":"5"},"multikey":true
 
 #[test]
 fn sessions(rt: HostRuntime) {
-    let alloc = rt.alloc();
-    assert!(rt; is_whole!(replies(alloc, FIVE, &BATCHES, GIVEN)));
-    assert!(rt; is_whole!(replies(alloc, MIXED, &WALKED, RESUMED.1)));
-    assert!(rt; is_whole!(replies(alloc, SEVERAL_KEYS, &EXPLAINED, TALK.1)));
-    assert!(rt; is_whole!(replies(alloc, MIXED, &[Call::CreateSparse], SPARSE)));
+    let rows: [(&[u8], &[Call], &str); 4] = [
+        (FIVE, &BATCHES, GIVEN),
+        (MIXED, &WALKED, RESUMED.1),
+        (SEVERAL_KEYS, &EXPLAINED, TALK.1),
+        (MIXED, &[Call::CreateSparse], SPARSE),
+    ];
+    for (dump, calls, wanted) in rows {
+        assert!(rt;
+            is_whole!(replies(rt.alloc(), dump, calls, wanted)),
+            "{wanted}"
+        );
+    }
 }

@@ -33,6 +33,7 @@ mod span;
 mod spans;
 mod walk;
 
+pub use bd_bounds::Bounds;
 pub use index::Index;
 pub use places::Places;
 pub use walk::Walk;

@@ -10,7 +10,7 @@ use Rattle.bd_device.specs.declared.reading.ReadFault.{ReadFault}
 use Rattle.bd_device.specs.declared.reading.ReadFault.TheVariants as reads
 use Rattle.bd_device.proofs.DevicesLemmas.{reads_none, reads_more, reads_append}
 use Rattle.bd_lines.specs.Lines.{IsFirstLine, IsLine, IsPart, longest}
-use Rattle.bd_lines.specs.NextLine.{BeginsTooLong, FailsToReadLine, FindsNoLine, ReadsLine, held_after, GivesBytes, IsCause, IsLazy, LastRead, ReadsTo, StopsReading}
+use Rattle.bd_lines.specs.NextLine.{BeginsTooLong, EndsByOneRead, FailsToReadLine, FindsNoLine, ReadsLine, held_after, GivesBeforeLast, GivesBytes, IsCause, IsLazy, LastRead, ReadsTo, StopsReading}
 use Rattle.bd_lines.specs.declared.line_buffer.LineBuffer.{LineBuffer}
 use Rattle.std.specs.Prelude.{◌⊎◌}
 use Rattle.bd_lines.proofs.LinesLemmas.{line_grows, line_front, either, both_empty}
@@ -31,25 +31,35 @@ reads_then {R} gives false n m old mid new front rest first second = reads_appen
 pub adds_calls : (a b c n m : ℕ) → b ≡ after_more a n → c ≡ after_more b m → c ≡ after_more a (n + m)
 adds_calls a b c n m first second = search (rules, first, second)
 
+-- reads, and then those of which the last is told apart
+pub one_read_then : {R : Type 0} {gives : R → Option (List ℕ) → R → Type 0} (n : ℕ) (old mid new : R) (first front part : List ℕ)
+    → AreReads gives n old first mid → EndsByOneRead gives front part mid new → EndsByOneRead gives (first ++ front) part old new
+one_read_then {R} {gives} n old mid new first front part are (turns, last, more, one) =
+    (n + turns, last, reads_append n turns old mid last first front are more, one)
+
 -- why the rest of a line was not read
-cause_then : (limit middle : ℕ) (head front rest line : List ℕ) (fault : ReadFault) → middle + length front ≡ limit → head ++ front ≡ line
-    → IsCause middle (line ++ rest) rest fault → IsCause limit (head ++ (front ++ rest)) (front ++ rest) fault
-cause_then limit middle head front rest line reads.Device room e (part, fits) =
+cause_then : {R : Type 0} {gives : R → Option (List ℕ) → R → Type 0} (limit middle n : ℕ) (old mid new : R) (head front rest line : List ℕ) (fault : ReadFault)
+    → AreReads gives n old front mid → middle + length front ≡ limit → head ++ front ≡ line
+    → IsCause gives middle (line ++ rest) rest mid new fault → IsCause gives limit (head ++ (front ++ rest)) (front ++ rest) old new fault
+cause_then {R} {gives} limit middle n old mid new head front rest line reads.Device are room e (part, fits) =
     (subst IsPart (ap (λ x. x ++ rest) (sym e) ∙ append_assoc head front rest) part, omega (arith, room, fits, length-append front rest))
-cause_then limit middle head front rest line reads.TooLong room e (inl (long, fits)) =
+cause_then {R} {gives} limit middle n old mid new head front rest line reads.TooLong are room e (inl (long, fits)) =
     inl (subst BeginsTooLong (ap (λ x. x ++ rest) (sym e) ∙ append_assoc head front rest) long, omega (arith, room, fits, length-append front rest))
-cause_then limit middle head front rest line reads.TooLong room e (inr (part, last, split, is, more, most)) =
+cause_then {R} {gives} limit middle n old mid new head front rest line reads.TooLong are room e (inr (begun, before, part, split, is, cut, few, more, one)) =
     inr (
+      begun,
+      front ++ before,
       part,
-      last,
       (sym (append_assoc head front rest) ∙ ap (λ x. x ++ rest) e) ∙ split,
       is,
+      ap (λ x. front ++ x) cut ∙ sym (append_assoc front before part),
+      omega (arith, room, few, length-append front before),
       omega (arith, room, more, length-append front rest),
-      omega (arith, room, most, length-append front rest),
+      one_read_then n old mid new front before part are one,
     )
-cause_then limit middle head front rest line reads.TooManyTurns room e (part, fits) =
+cause_then {R} {gives} limit middle n old mid new head front rest line reads.TooManyTurns are room e (part, fits) =
     (subst IsPart (ap (λ x. x ++ rest) (sym e) ∙ append_assoc head front rest) part, omega (arith, room, fits, length-append front rest))
-cause_then limit middle head front rest line reads.NoMemory room e fits = omega (arith, room, fits, length-append front rest)
+cause_then {R} {gives} limit middle n old mid new head front rest line reads.NoMemory are room e fits = omega (arith, room, fits, length-append front rest)
 
 -- what the loop keeps: the bytes that were given are the line so far and what is held after it
 pub record SoFar {R : Type 0} (state : R → Reader) (gives : R → Option (List ℕ) → R → Type 0)
@@ -57,7 +67,25 @@ pub record SoFar {R : Type 0} (state : R → Reader) (gives : R → Option (List
   pub given : List ℕ
   pub reads : GivesBytes state gives limits left ended given old new
   pub same : head ++ given ≡ line ++ held
-  pub lazy : IsLazy head given
+  pub lazy : IsLazy gives head given old new
+
+-- the same of all that they gave
+pub before_last_then : {R : Type 0} {gives : R → Option (List ℕ) → R → Type 0} (n : ℕ) (old mid new : R) (first front given : List ℕ)
+    → AreReads gives n old first mid → GivesBeforeLast gives front mid given new → GivesBeforeLast gives (first ++ front) old (first ++ given) new
+before_last_then {R} {gives} n old mid new first front given are (part, split, one) =
+    (part, ap (λ x. first ++ x) split ∙ sym (append_assoc first front part), one_read_then n old mid new first front part are one)
+
+-- after a part of a line no read was made once its newline was there
+lazy_then : {R : Type 0} {gives : R → Option (List ℕ) → R → Type 0} (n : ℕ) (old mid new : R) (head front line rest : List ℕ) → head ++ front ≡ line
+    → AreReads gives n old front mid → IsLazy gives head front old mid → IsLazy gives line rest mid new → IsLazy gives head (front ++ rest) old new
+lazy_then {R} {gives} n old mid new head front line rest e are before (inl (none, same)) =
+    subst (λ r. IsLazy gives head (front ++ rest) old r) (sym same)
+    (subst (λ x. IsLazy gives head x old mid) (sym (ap (λ x. front ++ x) none ∙ append-nil front)) before)
+lazy_then {R} {gives} n old mid new head front line rest e are before (inr (more, is, last)) = inr (
+  front ++ more,
+  subst IsLine (sym (ap (λ x. x ++ more) e) ∙ append_assoc head front more) is,
+  before_last_then n old mid new front more rest are last,
+)
 
 module _ {R : Type 0} {state : R → Reader} {gives : R → Option (List ℕ) → R → Type 0} where
   pub gives_none : (limits : Limits) (old : R) → (state old).calls ≤ greatest → GivesBytes state gives limits limits false [] old old
@@ -116,18 +144,18 @@ module _ {R : Type 0} {state : R → Reader} {gives : R → Option (List ℕ) �
 
   -- after a part of a line the reader failed
   pub fails_then : (limits middle : Limits) (old mid new : R) (head front line : List ℕ) (fault : ReadFault)
-      → GivesBytes state gives limits middle false front old mid → head ++ front ≡ line → IsLine line
+      → GivesBytes state gives limits middle false front old mid → head ++ front ≡ line → IsLazy gives head front old mid
       → FailsToReadLine state gives middle line mid new fault → FailsToReadLine state gives limits head old new fault
-  fails_then limits middle old mid new head front line fault a e is b = record {
+  fails_then limits middle old mid new head front line fault a e lazy b = record {
     given = front ++ b.given;
     stops = stops_then limits middle old mid new front b.given fault a b.stops;
-    cause = cause_then limits.bytes middle.bytes head front b.given line fault a.room e b.cause;
-    lazy = inr (front, b.given, refl, subst IsLine (sym e) is);
+    cause = cause_then limits.bytes middle.bytes a.turns old mid new head front b.given line fault a.reads a.room e b.cause;
+    lazy = lazy_then a.turns old mid new head front line b.given e a.reads lazy b.lazy;
   }
 
   -- what the reader gave was not taken
   pub fails_too_long : (limits left : Limits) (old new : R) (head given : List ℕ) → GivesBytes state gives limits left false given old new
-      → BeginsTooLong (head ++ given) → IsLazy head given → FailsToReadLine state gives limits head old new reads.TooLong
+      → BeginsTooLong (head ++ given) → IsLazy gives head given old new → FailsToReadLine state gives limits head old new reads.TooLong
   fails_too_long limits left old new head given a long lazy = record {
     given = given;
     stops = record {
@@ -142,7 +170,7 @@ module _ {R : Type 0} {state : R → Reader} {gives : R → Option (List ℕ) �
   }
 
   pub fails_memory : (limits left : Limits) (old new : R) (head given : List ℕ) → GivesBytes state gives limits left false given old new
-      → IsLazy head given → FailsToReadLine state gives limits head old new reads.NoMemory
+      → IsLazy gives head given old new → FailsToReadLine state gives limits head old new reads.NoMemory
   fails_memory limits left old new head given a lazy = record {
     given = given;
     stops = record {
@@ -171,7 +199,7 @@ module _ {R : Type 0} {state : R → Reader} {gives : R → Option (List ℕ) �
           calls = search (rules, same);
         };
         cause = (subst IsPart (sym (append-nil head)) part, omega arith);
-        lazy = inl refl;
+        lazy = inl (refl, refl);
       }
 
   -- the read failed
@@ -188,7 +216,7 @@ module _ {R : Type 0} {state : R → Reader} {gives : R → Option (List ℕ) �
       calls = search (rules, some, calls);
     };
     cause = (subst IsPart (sym (append-nil head)) part, omega arith);
-    lazy = inl refl;
+    lazy = inr ([], subst IsLine (sym (append-nil head)) part.0, ([], refl, (0, old, no_read old, inr (refl, none))));
   }
 
   -- the read gave more than it may
@@ -204,8 +232,8 @@ module _ {R : Type 0} {state : R → Reader} {gives : R → Option (List ℕ) �
       reads = (reads_more 0 old old new [] last last (no_read old) one (omega (arith, more)) refl, well);
       calls = search (rules, some, calls);
     };
-    cause = inr (head, last, refl, part, more, omega arith);
-    lazy = inr ([], last, refl, subst IsLine (sym (append-nil head)) part.0);
+    cause = inr (head, [], last, refl, part, refl, omega arith, more, (0, old, no_read old, inl one));
+    lazy = inr ([], subst IsLine (sym (append-nil head)) part.0, (last, refl, (0, old, no_read old, inl one)));
   }
 
   -- what the read gave found no room
@@ -222,7 +250,7 @@ module _ {R : Type 0} {state : R → Reader} {gives : R → Option (List ℕ) �
       calls = search (rules, some, calls);
     };
     cause = fits;
-    lazy = inr ([], last, refl, subst IsLine (sym (append-nil head)) part);
+    lazy = inr ([], subst IsLine (sym (append-nil head)) part, (last, refl, (0, old, no_read old, inl one)));
   }
 
   -- what the read gave was taken
@@ -244,7 +272,7 @@ module _ {R : Type 0} {state : R → Reader} {gives : R → Option (List ℕ) �
   module _ (limits left : Limits) (head line held : List ℕ) (old mid : R) (so_far : SoFar state gives limits left false head line held old mid) (whole : IsLine line) where
     -- a newline ends the line
     pub line_ends : (part rest all : List ℕ) → IsLine part → all ≡ line ++ part → held ≡ part ++ 10 ∷ rest → length all ≤ longest
-        → (given : List ℕ) × GivesBytes state gives limits left false given old mid × IsFirstLine (head ++ given) all rest false × IsLazy head given
+        → (given : List ℕ) × GivesBytes state gives limits left false given old mid × IsFirstLine (head ++ given) all rest false × IsLazy gives head given old mid
     line_ends part rest all is grown split short = (
       so_far.given,
       so_far.reads,
@@ -282,15 +310,15 @@ module _ {R : Type 0} {state : R → Reader} {gives : R → Option (List ℕ) �
       head_line = line_front head so_far.given head_is
 
       pub line_fails : (new : R) (fault : ReadFault) → FailsToReadLine state gives left all mid new fault → FailsToReadLine state gives limits head old new fault
-      line_fails new fault fails = fails_then limits left old mid new head so_far.given all fault so_far.reads (so_far.same ∙ sym grown) line_grown fails
+      line_fails new fault fails = fails_then limits left old mid new head so_far.given all fault so_far.reads (so_far.same ∙ sym grown) so_far.lazy fails
 
       pub line_goes_on : (now : Limits) (ended : Bool) (more : List ℕ) (new : R) → GivesBytes state gives left now ended more mid new
-          → SoFar state gives limits now ended head all more old new
-      line_goes_on now ended more new gave = record {
+          → gives mid (Some more) new → SoFar state gives limits now ended head all more old new
+      line_goes_on now ended more new gave one = record {
         given = so_far.given ++ more;
         reads = gives_then limits left now ended old mid new so_far.given more so_far.reads gave;
         same = sym (append_assoc head so_far.given more) ∙ ap (λ x. x ++ more) (so_far.same ∙ sym grown);
-        lazy = inr (so_far.given, more, refl, head_is);
+        lazy = inr (so_far.given, head_is, (more, refl, (so_far.reads.turns, mid, so_far.reads.reads, inl one)));
       }
 
     pub line_stops : (fault : ReadFault) → (fault ≡ reads.TooLong) ⊎ (fault ≡ reads.NoMemory)
@@ -306,7 +334,7 @@ module _ {R : Type 0} {state : R → Reader} {gives : R → Option (List ℕ) �
     given = [];
     reads = subst (λ b. GivesBytes state gives limits limits b [] old old) (sym is) (gives_none limits old fit);
     same = append-nil head ∙ ap (λ x. x ++ head) (sym empty);
-    lazy = inl refl;
+    lazy = inl (refl, refl);
   }
 
   pub runs : (limits left : Limits) (ended : Bool) (head line held : List ℕ) (old new : R) → ended ≡ false
@@ -315,7 +343,7 @@ module _ {R : Type 0} {state : R → Reader} {gives : R → Option (List ℕ) �
 
   pub reads_line : (before after : LineBuffer) (left : Limits) (old new : R) → after.left ≡ left → after.ended ≡ false
       → (given : List ℕ) × GivesBytes state gives before.left left false given old new
-      × IsFirstLine (held_after before ++ given) after.line.items (held_after after) false × IsLazy (held_after before) given
+      × IsFirstLine (held_after before ++ given) after.line.items (held_after after) false × IsLazy gives (held_after before) given old new
       → ReadsLine state gives before after old new
   reads_line before after left old new e is (given, gave, first, lazy) = record {
     given = given;

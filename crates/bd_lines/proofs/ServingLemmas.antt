@@ -2,19 +2,19 @@
 use Rattle.std.proofs.Common.{rules, ◌≡◌, ◌<◌, ◌≤◌, ◌+◌, ℕ, List, [], ◌∷◌, ◌++◌, length, Bool, true, false, cond, Option, refl, sym, ap, ◌∙◌, subst, append_assoc, append-nil, arith, inl, inr, length-append}
 use Rattle.std.proofs.KnownBytes.{Appends-nil, Appends-trans}
 use Rattle.bd_device.specs.Counts.{after_more, greatest}
-use Rattle.bd_device.specs.Devices.{BreaksAfter, BreaksWithin, Reader, TakesText, Writer, between}
+use Rattle.bd_device.specs.Devices.{AreReads, BreaksAfter, BreaksWithin, Reader, TakesText, Writer, between}
 use Rattle.bd_device.specs.declared.reading.Limits.{Limits}
 use Rattle.bd_device.specs.declared.reading.ReadFault.{ReadFault}
 use Rattle.bd_device.specs.declared.reading.ReadFault.TheVariants as faults
 use Rattle.bd_lines.specs.Lines.{AreShort, AreWhole, IsFirstLine, commands_of, is_empty_line, not_empty}
-use Rattle.bd_lines.specs.NextLine.{FailsToReadLine, FindsNoLine, GivesBytes, IsCause, IsLazy, ReadsLine, StopsReading, held_after}
+use Rattle.bd_lines.specs.NextLine.{FailsToReadLine, FindsNoLine, GivesBeforeLast, GivesBytes, IsCause, IsLazy, ReadsLine, StopsReading, held_after}
 use Rattle.bd_lines.specs.Serving.{IsReadInTime, RepliesInTurn, ServesAll, ServesBefore, StarvesAt, StopsServing, StopsUnread}
 use Rattle.bd_lines.specs.declared.serving.ServeFault.{ServeFault}
 use Rattle.bd_lines.specs.declared.serving.ServeFault.TheVariants as serves
 use Rattle.std.specs.Prelude.{◌⊎◌}
 use Rattle.bd_lines.specs.declared.line_buffer.LineBuffer.{LineBuffer}
 use Rattle.bd_lines.proofs.LinesLemmas.{commands_line, short_after, short_line, short_none, short_whole_line, commands_whole_line, newlines_more, newlines_of_line}
-use Rattle.bd_lines.proofs.NextLineLemmas.{gives_none, gives_then, stops_then}
+use Rattle.bd_lines.proofs.NextLineLemmas.{before_last_then, gives_none, gives_then, one_read_then, stops_then}
 
 -- ---- writers
 
@@ -77,7 +77,7 @@ pub record Serving {R S : Type 0} (state : R → Reader) (gives : R → Option (
   pub ends : ended ≡ false → AreWhole whole
   pub short : AreShort whole
   pub reads : GivesBytes state gives limits left ended (whole ++ held) old new
-  pub in_time : IsReadInTime whole (whole ++ held)
+  pub in_time : IsReadInTime gives whole (whole ++ held) old new
   pub replied : RepliesInTurn replies s (commands_of whole) text t
   pub written : TakesText (between before after) text
 
@@ -89,27 +89,43 @@ shrinks left less held given line rest ended room (part, inl split) =
 shrinks left less held given line rest ended room (part, inr (is, some, none, e)) =
     let size = ap length is in let no = ap length none in omega (arith, room, size, some, no, length-append held given)
 
-in_time_now : (whole held given : List ℕ) → IsReadInTime whole (whole ++ held) → IsLazy held given → IsReadInTime whole (whole ++ (held ++ given))
-in_time_now whole held given (front, last, split, few) (inl none) =
-    (front, last, ap (λ x. whole ++ (held ++ x)) none ∙ ap (λ x. whole ++ x) (append-nil held) ∙ split, few)
-in_time_now whole held given before (inr (front, last, split, is)) = (
+in_time_now : {R : Type 0} {gives : R → Option (List ℕ) → R → Type 0} (whole held given : List ℕ) (n : ℕ) (old mid new : R) → AreReads gives n old (whole ++ held) mid
+    → IsReadInTime gives whole (whole ++ held) old mid → IsLazy gives held given mid new → IsReadInTime gives whole (whole ++ (held ++ given)) old new
+in_time_now {R} {gives} whole held given n old mid new are before (inl (none, same)) =
+    subst (λ r. IsReadInTime gives whole (whole ++ (held ++ given)) old r) (sym same)
+    (subst (λ x. IsReadInTime gives whole x old mid) (sym (ap (λ x. whole ++ (held ++ x)) none ∙ ap (λ x. whole ++ x) (append-nil held))) before)
+in_time_now {R} {gives} whole held given n old mid new are before (inr (front, is, last)) = inr (
   whole ++ (held ++ front),
-  last,
-  ap (λ x. whole ++ (held ++ x)) split ∙ ap (λ x. whole ++ x) (sym (append_assoc held front last)) ∙ sym (append_assoc whole (held ++ front) last),
   newlines_of_line whole (held ++ front) is,
+  subst (λ x. GivesBeforeLast gives x old (whole ++ (held ++ given)) new) (append_assoc whole held front)
+      (subst (λ x. GivesBeforeLast gives ((whole ++ held) ++ front) old x new) (append_assoc whole held given)
+      (before_last_then n old mid new (whole ++ held) front given are last)),
 )
 
-in_time_after : (whole more given : List ℕ) → IsReadInTime whole given → IsReadInTime (whole ++ more) given
-in_time_after whole more given (front, last, split, few) = (front, last, split, newlines_more front whole more few)
+in_time_after : {R : Type 0} {gives : R → Option (List ℕ) → R → Type 0} (whole more given : List ℕ) (old new : R) → IsReadInTime gives whole given old new
+    → IsReadInTime gives (whole ++ more) given old new
+in_time_after {R} {gives} whole more given old new (inl none) = inl none
+in_time_after {R} {gives} whole more given old new (inr (front, few, last)) = inr (front, newlines_more front whole more few, last)
 
-cause_after : (limit left : ℕ) (before bytes rest : List ℕ) (fault : ReadFault) → left + length before ≡ limit → IsCause left bytes rest fault
-    → IsCause limit bytes (before ++ rest) fault
-cause_after limit left before bytes rest faults.Device room (part, fits) = (part, omega (arith, room, fits, length-append before rest))
-cause_after limit left before bytes rest faults.TooLong room (inl (long, fits)) = inl (long, omega (arith, room, fits, length-append before rest))
-cause_after limit left before bytes rest faults.TooLong room (inr (front, last, split, part, more, most)) =
-    inr (front, last, split, part, omega (arith, room, more, length-append before rest), omega (arith, room, most, length-append before rest))
-cause_after limit left before bytes rest faults.TooManyTurns room (part, fits) = (part, omega (arith, room, fits, length-append before rest))
-cause_after limit left before bytes rest faults.NoMemory room fits = omega (arith, room, fits, length-append before rest)
+cause_after : {R : Type 0} {gives : R → Option (List ℕ) → R → Type 0} (limit left n : ℕ) (old mid new : R) (before bytes rest : List ℕ) (fault : ReadFault)
+    → AreReads gives n old before mid → left + length before ≡ limit → IsCause gives left bytes rest mid new fault
+    → IsCause gives limit bytes (before ++ rest) old new fault
+cause_after {R} {gives} limit left n old mid new before bytes rest faults.Device are room (part, fits) = (part, omega (arith, room, fits, length-append before rest))
+cause_after {R} {gives} limit left n old mid new before bytes rest faults.TooLong are room (inl (long, fits)) = inl (long, omega (arith, room, fits, length-append before rest))
+cause_after {R} {gives} limit left n old mid new before bytes rest faults.TooLong are room (inr (begun, front, part, split, is, cut, few, more, one)) =
+    inr (
+      begun,
+      before ++ front,
+      part,
+      split,
+      is,
+      ap (λ x. before ++ x) cut ∙ sym (append_assoc before front part),
+      omega (arith, room, few, length-append before front),
+      omega (arith, room, more, length-append before rest),
+      one_read_then n old mid new before front part are one,
+    )
+cause_after {R} {gives} limit left n old mid new before bytes rest faults.TooManyTurns are room (part, fits) = (part, omega (arith, room, fits, length-append before rest))
+cause_after {R} {gives} limit left n old mid new before bytes rest faults.NoMemory are room fits = omega (arith, room, fits, length-append before rest)
 
 module _ {R S : Type 0} (state : R → Reader) (gives : R → Option (List ℕ) → R → Type 0) (replies : S → List ℕ → List ℕ → S → Type 0) where
   pub begins : (limits : Limits) (ended : Bool) (held : List ℕ) (old : R) (before : Writer) (s : S) → (state old).calls ≤ greatest → ended ≡ false → held ≡ []
@@ -121,7 +137,7 @@ module _ {R S : Type 0} (state : R → Reader) (gives : R → Option (List ℕ) 
     short = short_none [] refl;
     reads = subst (λ b. GivesBytes state gives limits limits b held old old) (sym is)
         (subst (λ x. GivesBytes state gives limits limits false x old old) (sym none) (gives_none limits old fit));
-    in_time = ([], held, refl, omega arith);
+    in_time = inl (none, refl);
     replied = nothing_replied replies s;
     written = takes_none before;
   }
@@ -180,13 +196,18 @@ module _ {R S : Type 0} (state : R → Reader) (gives : R → Option (List ℕ) 
           short = so_far.short;
           stops = subst (λ x. StopsReading state gives limits x old new fault) apart
               (stops_then limits lines.left old mid new (so_far.whole ++ held_after lines) fails.given fault gave fails.stops);
-          cause = subst (λ x. IsCause limits.bytes (held_after lines ++ fails.given) x fault) apart
-              (cause_after limits.bytes lines.left.bytes (so_far.whole ++ held_after lines) (held_after lines ++ fails.given) fails.given fault gave.room fails.cause);
+          cause = subst (λ x. IsCause gives limits.bytes (held_after lines ++ fails.given) x old new fault) apart
+              (cause_after limits.bytes lines.left.bytes gave.turns old mid new (so_far.whole ++ held_after lines) (held_after lines ++ fails.given) fails.given fault
+              gave.reads gave.room fails.cause);
+          in_time = in_time_now so_far.whole (held_after lines) fails.given gave.turns old mid new gave.reads so_far.in_time fails.lazy;
           replied = so_far.replied;
           written = so_far.written;
         }
 
     module _ (next : LineBuffer) (new : R) (going : lines.ended ≡ false) (reads : ReadsLine state gives lines next mid new) where
+      gave_before : GivesBytes state gives limits lines.left false (so_far.whole ++ held_after lines) old mid
+      gave_before = subst (λ b. GivesBytes state gives limits lines.left b (so_far.whole ++ held_after lines) old mid) going so_far.reads
+
       gave_all : GivesBytes state gives limits next.left next.ended (so_far.whole ++ (held_after lines ++ reads.given)) old new
       gave_all =
           let gave = subst (λ b. GivesBytes state gives limits lines.left b (so_far.whole ++ held_after lines) old mid) going so_far.reads in
@@ -204,7 +225,7 @@ module _ {R S : Type 0} (state : R → Reader) (gives : R → Option (List ℕ) 
         ends = so_far.ends going;
         short = so_far.short;
         reads = gave_all;
-        in_time = in_time_now so_far.whole (held_after lines) reads.given so_far.in_time reads.lazy;
+        in_time = in_time_now so_far.whole (held_after lines) reads.given gave_before.turns old mid new gave_before.reads so_far.in_time reads.lazy;
         line = reads.line;
         is_command = is;
         replied = so_far.replied;
@@ -217,16 +238,16 @@ module _ {R S : Type 0} (state : R → Reader) (gives : R → Option (List ℕ) 
       grows_by new_whole more grown split ends short commands later u text replied written =
           let all : so_far.whole ++ (held_after lines ++ reads.given) ≡ new_whole ++ held_after next =
           ap (λ x. so_far.whole ++ x) split ∙ sym (append_assoc so_far.whole more (held_after next)) ∙ ap (λ x. x ++ held_after next) (sym grown) in
-          let first = in_time_now so_far.whole (held_after lines) reads.given so_far.in_time reads.lazy in
+          let first = in_time_now so_far.whole (held_after lines) reads.given gave_before.turns old mid new gave_before.reads so_far.in_time reads.lazy in
           record {
             whole = new_whole;
             text = so_far.text ++ text;
             ends = ends;
             short = subst AreShort (sym grown) (short_after so_far.whole more (so_far.ends going) so_far.short short);
             reads = subst (λ x. GivesBytes state gives limits next.left next.ended x old new) all gave_all;
-            in_time = subst (λ x. IsReadInTime new_whole x) all
-                (subst (λ x. IsReadInTime x (so_far.whole ++ (held_after lines ++ reads.given))) (sym grown)
-                (in_time_after so_far.whole more (so_far.whole ++ (held_after lines ++ reads.given)) first));
+            in_time = subst (λ x. IsReadInTime gives new_whole x old new) all
+                (subst (λ x. IsReadInTime gives x (so_far.whole ++ (held_after lines ++ reads.given)) old new) (sym grown)
+                (in_time_after so_far.whole more (so_far.whole ++ (held_after lines ++ reads.given)) old new first));
             replied = subst (λ x. RepliesInTurn replies s x (so_far.text ++ text) u) (sym commands)
                 (replied_then replies s t u (commands_of so_far.whole) (not_empty (next.line.items ∷ [])) so_far.text text so_far.replied replied);
             written = takes_then before now later so_far.text text so_far.written written;

@@ -34,10 +34,25 @@ pub record GivesBytes {R : Type 0} (state : R → Reader) (gives : R → Option 
   pub well : (state new).failures ≡ (state old).failures
   pub end : ended ≡ true → IsAtEnd (state new).left
 
--- bytes of a line were there, and no read was made once its newline was
-abbrev pub IsLazy : List ℕ → List ℕ → Type 0
-IsLazy head given =
-    (given ≡ []) ⊎ ((front : List ℕ) × (last : List ℕ) × (given ≡ front ++ last) × IsLine (head ++ front))
+-- one read of the first device gave these bytes, or it failed and gave none, and it left the second
+abbrev pub IsOneRead : {R : Type 0} → (R → Option (List ℕ) → R → Type 0) → R → List ℕ → R → Type 0
+IsOneRead gives old part new = gives old (Some part) new ⊎ ((part ≡ []) × gives old None new)
+
+-- reads gave this front, and one more after them gave this part
+abbrev pub EndsByOneRead : {R : Type 0} → (R → Option (List ℕ) → R → Type 0) → List ℕ → List ℕ → R → R → Type 0
+EndsByOneRead {R} gives front part old new =
+    (turns : ℕ) × (last : R) × AreReads gives turns old front last × IsOneRead gives last part new
+
+-- reads gave these bytes, and those before the last one gave this front
+abbrev pub GivesBeforeLast : {R : Type 0} → (R → Option (List ℕ) → R → Type 0) → List ℕ → R → List ℕ → R → Type 0
+GivesBeforeLast gives front old given new =
+    (part : List ℕ) × (given ≡ front ++ part) × EndsByOneRead gives front part old new
+
+-- no read was made; or bytes of a line were there before the last one, so none was made once its newline was
+abbrev pub IsLazy : {R : Type 0} → (R → Option (List ℕ) → R → Type 0) → List ℕ → List ℕ → R → R → Type 0
+IsLazy gives head given old new =
+    ((given ≡ []) × (new ≡ old))
+    ⊎ ((front : List ℕ) × IsLine (head ++ front) × GivesBeforeLast gives front old given new)
 
 -- the next line was read, and no block after the one that ends it
 pub record ReadsLine {R : Type 0} (state : R → Reader) (gives : R → Option (List ℕ) → R → Type 0)
@@ -45,7 +60,7 @@ pub record ReadsLine {R : Type 0} (state : R → Reader) (gives : R → Option (
   pub given : List ℕ
   pub reads : GivesBytes state gives before.left after.left after.ended given old new
   pub line : IsFirstLine (held_after before ++ given) after.line.items (held_after after) after.ended
-  pub lazy : IsLazy (held_after before) given
+  pub lazy : IsLazy gives (held_after before) given old new
 
 -- there is no next line
 pub record FindsNoLine {R : Type 0} (state : R → Reader) (gives : R → Option (List ℕ) → R → Type 0)
@@ -82,20 +97,22 @@ abbrev pub BeginsTooLong : List ℕ → Type 0
 BeginsTooLong bytes =
     (line : List ℕ) × (rest : List ℕ) × (bytes ≡ line ++ rest) × IsLine line × (longest < length line)
 
--- why the line that these bytes begin was not read, where a reader gave `given` and may give as many bytes as the limit
-abbrev pub IsCause : ℕ → List ℕ → List ℕ → ReadFault → Type 0
-IsCause limit bytes given reads.Device = IsPart bytes × (length given ≤ limit)
-IsCause limit bytes given reads.TooLong =
+-- Why the line that these bytes begin was not read, where a reader gave `given` and may give as many bytes as the limit.
+-- `TooLong`: the line is too long; or the last read, while a part of the line was there, went past the limit.
+abbrev pub IsCause : {R : Type 0} → (R → Option (List ℕ) → R → Type 0) → ℕ → List ℕ → List ℕ → R → R → ReadFault → Type 0
+IsCause gives limit bytes given old new reads.Device = IsPart bytes × (length given ≤ limit)
+IsCause gives limit bytes given old new reads.TooLong =
     (BeginsTooLong bytes × (length given ≤ limit))
-    ⊎ ((front : List ℕ) × (last : List ℕ) × (bytes ≡ front ++ last) × IsPart front × (limit < length given)
-    × (length given ≤ limit + length last))
-IsCause limit bytes given reads.TooManyTurns = IsPart bytes × (length given ≤ limit)
-IsCause limit bytes given reads.NoMemory = length given ≤ limit
+    ⊎ ((line : List ℕ) × (front : List ℕ) × (part : List ℕ) × (bytes ≡ line ++ part) × IsPart line
+    × (given ≡ front ++ part) × (length front ≤ limit) × (limit < length given)
+    × EndsByOneRead gives front part old new)
+IsCause gives limit bytes given old new reads.TooManyTurns = IsPart bytes × (length given ≤ limit)
+IsCause gives limit bytes given old new reads.NoMemory = length given ≤ limit
 
 -- the line that begins with these bytes was not read
 pub record FailsToReadLine {R : Type 0} (state : R → Reader) (gives : R → Option (List ℕ) → R → Type 0)
     (limits : Limits) (head : List ℕ) (old new : R) (fault : ReadFault) : Type 0 where
   pub given : List ℕ
   pub stops : StopsReading state gives limits given old new fault
-  pub cause : IsCause limits.bytes (head ++ given) given fault
-  pub lazy : IsLazy head given
+  pub cause : IsCause gives limits.bytes (head ++ given) given old new fault
+  pub lazy : IsLazy gives head given old new

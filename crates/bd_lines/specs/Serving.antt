@@ -5,7 +5,7 @@ use Rattle.bd_device.specs.Devices.{BreaksAfter, Over, Reader, TakesText, Writer
 use Rattle.bd_device.specs.declared.reading.Limits.{Limits}
 use Rattle.bd_device.specs.declared.reading.ReadFault.{ReadFault}
 use Rattle.bd_lines.specs.Lines.{AreShort, AreWhole, IsFirstLine, commands_of, is_empty_line, is_newline}
-use Rattle.bd_lines.specs.NextLine.{GivesBytes, IsCause, StopsReading}
+use Rattle.bd_lines.specs.NextLine.{GivesBeforeLast, GivesBytes, IsCause, StopsReading}
 use Rattle.bd_lines.specs.declared.serving.ServeFault.{ServeFault}
 use Rattle.bd_lines.specs.declared.serving.ServeFault.TheVariants as faults
 
@@ -17,11 +17,12 @@ RepliesInTurn {S} replies s (command ∷ commands) text t =
     (reply : List ℕ) × (mid : S) × (rest : List ℕ) × replies s command reply mid
     × RepliesInTurn replies mid commands rest t × (text ≡ reply ++ 10 ∷ rest)
 
--- the reads but the last gave no more newlines than these whole lines have
-abbrev pub IsReadInTime : List ℕ → List ℕ → Type 0
-IsReadInTime whole given =
-    (front : List ℕ) × (last : List ℕ) × (given ≡ front ++ last)
-    × (count_by is_newline front ≤ count_by is_newline whole)
+-- no read was made; or the reads but the last gave no more newlines than these whole lines have
+abbrev pub IsReadInTime : {R : Type 0} → (R → Option (List ℕ) → R → Type 0) → List ℕ → List ℕ → R → R → Type 0
+IsReadInTime gives whole given old new =
+    ((given ≡ []) × (new ≡ old))
+    ⊎ ((front : List ℕ) × (count_by is_newline front ≤ count_by is_newline whole)
+    × GivesBeforeLast gives front old given new)
 
 -- What is told of a reader, which of its reads may give what, which replies a command may have, and which state is as another, is
 -- handed to each of these.
@@ -48,7 +49,8 @@ pub record StopsUnread {R S : Type 0} (state : R → Reader) (gives : R → Opti
   pub ends : AreWhole whole
   pub short : AreShort whole
   pub stops : StopsReading state gives limits (whole ++ rest) old new fault
-  pub cause : IsCause limits.bytes rest (whole ++ rest) fault
+  pub cause : IsCause gives limits.bytes rest (whole ++ rest) old new fault
+  pub in_time : IsReadInTime gives whole (whole ++ rest) old new
   pub replied : RepliesInTurn replies s (commands_of whole) text t
   pub written : TakesText out text
 
@@ -64,7 +66,7 @@ pub record ServesBefore {R S : Type 0} (state : R → Reader) (gives : R → Opt
   pub ends : AreWhole whole
   pub short : AreShort whole
   pub reads : GivesBytes state gives limits left ended (whole ++ rest) old new
-  pub in_time : IsReadInTime whole (whole ++ rest)
+  pub in_time : IsReadInTime gives whole (whole ++ rest) old new
   pub line : IsFirstLine rest command after ended
   pub is_command : is_empty_line command ≡ false
   pub replied : RepliesInTurn replies s (commands_of whole) text t

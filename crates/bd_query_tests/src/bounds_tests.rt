@@ -1,9 +1,10 @@
 //! Bounds of filters, worked by hand.
+use crate::filter_tests::split_filter;
 use bd_bounds::Bounds;
 use bd_extjson::read_doc;
 use bd_path::{Path, keys};
-use bd_query::parse;
-use bd_value::Tree;
+use bd_query::Filter;
+use bd_value::{Tree, Value};
 use std::alloc::Global;
 use std::process::Abort;
 
@@ -15,29 +16,47 @@ const ANY_INDEX: &str = r#"{"a":{"$gte":5}} | {"a":[5,7,5]} | 2
 {"a":{"$elemMatch":{"$gt":4,"$lt":6}}} | {"a":[1,9]} | 0
 {"b":1,"a":{"$ne":7,"$lt":3}} | {"a":[1,2,3]} | 2"#;
 
-/// Whether as many keys of the document of a line are inside as it says.
-fn has_as_many_inside(rt: &impl Abort, alloc: Global, line: &str, multikey: bool) -> bool {
-    let (filter, rest) = line.split_once(" | ").expect(rt, line);
-    let (document, count) = rest.split_once(" | ").expect(rt, line);
-    let query = read_doc(alloc, filter.as_bytes()).expect(rt, line);
-    let filter = parse(alloc, &query).expect(rt, line);
-    let path = Path::parse(alloc, "a").expect(rt, line);
-    let document = read_doc(alloc, document.as_bytes()).expect(rt, line);
-    let given = Bounds::of(alloc, &filter, &path, multikey).expect(rt, line);
+/// The path `a`.
+fn path_a(rt: &impl Abort, alloc: Global) -> Path {
+    Path::parse(alloc, "a").expect(rt, "a path")
+}
+
+/// The keys of the document of a text.
+fn keys_of(rt: &impl Abort, alloc: Global, text: &str) -> Vec<Value> {
+    let document = read_doc(alloc, text.as_bytes()).expect(rt, text);
+    keys(alloc, Tree::Doc(&document), &path_a(rt, alloc)).expect(rt, text)
+}
+
+/// How many of the keys are inside the bounds of the filter of a line.
+fn count_inside(
+    rt: &impl Abort,
+    alloc: Global,
+    line: &str,
+    filter: &Filter,
+    multikey: bool,
+    keys: &[Value],
+) -> u64 {
+    let path = path_a(rt, alloc);
+    let given = Bounds::of(alloc, filter, &path, multikey).expect(rt, line);
     let bounds = given.expect(rt, line);
     let mut inside = 0u64;
-    for key in &keys(alloc, Tree::Doc(&document), &path).expect(rt, line) {
+    for key in keys {
         inside = inside.saturating_add(u64::from(bounds.holds(Tree::Value(key))));
     }
-    count.parse::<u64>() == Ok(inside)
+    inside
 }
 
 /// The program never says of an index over such a document that it is not multikey.
 #[test]
 fn counts_keys_inside(rt: HostRuntime) {
     for line in ANY_INDEX.lines() {
-        assert!(rt; has_as_many_inside(&rt, rt.alloc(), line, true), "{line}");
-        assert!(rt; has_as_many_inside(&rt, rt.alloc(), line, false), "{line}");
+        let (filter, rest) = split_filter(&rt, rt.alloc(), line);
+        let (document, count) = rest.split_once(" | ").expect(&rt, line);
+        let keys = keys_of(&rt, rt.alloc(), document);
+        for multikey in [true, false] {
+            let inside = count_inside(&rt, rt.alloc(), line, &filter, multikey, &keys);
+            assert!(rt; count.parse::<u64>() == Ok(inside), "{line}");
+        }
     }
 }
 
@@ -58,12 +77,12 @@ fn ranges(bounds: &Bounds<'_>) -> u64 {
 /// Two lists of members are kept side by side, and not each member with each.
 #[test]
 fn two_lists_stay_two(rt: HostRuntime) {
-    let alloc = rt.alloc();
-    let text =
-        r#"{"a":{"$in":[1,2,3,4,5,6,7,8,9]},"$and":[{"a":{"$in":[11,2,13,4,15,6,17,8,19]}}]}"#;
-    let query = read_doc(alloc, text.as_bytes()).expect(&rt, text);
-    let filter = parse(alloc, &query).expect(&rt, text);
-    let path = Path::parse(alloc, "a").expect(&rt, "a path");
-    let bounds = Bounds::of(alloc, &filter, &path, false).expect(&rt, "bounds");
+    let (filter, _) = split_filter(
+        &rt,
+        rt.alloc(),
+        r#"{"a":{"$in":[1,2,3,4,5,6,7,8,9]},"$and":[{"a":{"$in":[11,2,13,4,15,6,17,8,19]}}]} | "#,
+    );
+    let path = path_a(&rt, rt.alloc());
+    let bounds = Bounds::of(rt.alloc(), &filter, &path, false).expect(&rt, "bounds");
     assert!(rt; matches!(&bounds, Some(b) if ranges(b) == 18));
 }

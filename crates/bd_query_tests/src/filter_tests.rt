@@ -12,6 +12,12 @@ fn is_match(rt: &impl Abort, alloc: Global, filter: &Filter, text: &str) -> bool
     matches(filter, Tree::Doc(&document))
 }
 
+/// Whether the document of a line matches a filter as the word after it tells.
+fn is_as_told(rt: &impl Abort, alloc: Global, filter: &Filter, line: &str) -> bool {
+    let (document, wanted) = line.split_once(" | ").expect(rt, line);
+    wanted.parse::<bool>() == Ok(is_match(rt, alloc, filter, document))
+}
+
 /// These operators at the path `a.b`.
 fn at_path(rt: &impl Abort, alloc: Global, operators: Vec<Operator>) -> Filter {
     let path = Path::parse(alloc, "a.b").expect(rt, "a path");
@@ -31,109 +37,92 @@ fn above_four_or_empty(rt: &impl Abort, alloc: Global) -> Filter {
     Filter::Or(filters)
 }
 
+/// Documents, and whether that filter matches them.
+const ABOVE_FOUR_OR_EMPTY: &str = r#"{"a":{"b":5}} | true
+{"a":[{"b":1},{"b":[2,9]}]} | true
+{"a":{"b":[]}} | true
+{"a":[{"b":7},{"b":[]}]} | true
+{} | false
+{"a":5} | false
+{"a":{"b":4}} | false
+{"a":{"b":7}} | false
+{"a":[{"b":9},{"b":7}]} | false"#;
+
 #[test]
 fn takes_filters_made_by_hand(rt: HostRuntime) {
-    let alloc = rt.alloc();
-    let filter = above_four_or_empty(&rt, alloc);
-    for (document, wanted) in [
-        (r#"{"a":{"b":5}}"#, true),
-        (r#"{"a":[{"b":1},{"b":[2,9]}]}"#, true),
-        (r#"{"a":{"b":[]}}"#, true),
-        (r#"{"a":[{"b":7},{"b":[]}]}"#, true),
-        (r#"{}"#, false),
-        (r#"{"a":5}"#, false),
-        (r#"{"a":{"b":4}}"#, false),
-        (r#"{"a":{"b":7}}"#, false),
-        (r#"{"a":[{"b":9},{"b":7}]}"#, false),
-    ] {
-        assert!(rt;
-            is_match(&rt, alloc, &filter, document) == wanted,
-            "{document}"
-        );
+    let filter = above_four_or_empty(&rt, rt.alloc());
+    for line in ABOVE_FOUR_OR_EMPTY.lines() {
+        assert!(rt; is_as_told(&rt, rt.alloc(), &filter, line), "{line}");
     }
 }
 
-/// Whether an array of a five, at the path, matches a filter.
-fn takes_five(rt: &impl Abort, alloc: Global, filter: Filter) -> bool {
-    is_match(rt, alloc, &filter, r#"{"a":{"b":[5]}}"#)
-}
-
-/// Whether this operator holds of it.
-fn holds_of_five(rt: &impl Abort, alloc: Global, operator: Operator) -> bool {
+/// The filter of that name without members. An operator stands at the path `a.b`.
+fn without_members(rt: &impl Abort, alloc: Global, name: &str) -> Filter {
+    let operator = match name {
+        "$and" => return Filter::And(Vec::new(alloc)),
+        "$or" => return Filter::Or(Vec::new(alloc)),
+        "$nor" => return Filter::Nor(Vec::new(alloc)),
+        "no operator" => return at_path(rt, alloc, Vec::new(alloc)),
+        "$not" => Operator::Not(Vec::new(alloc)),
+        "$type" => Operator::Type(Vec::new(alloc)),
+        "$elemMatch of operators" => Operator::ElemMatch(Vec::new(alloc)),
+        _ => Operator::ElemMatchDocument(Vec::new(alloc)),
+    };
     let operators = vec![in alloc; operator].expect(rt, "an operator");
-    takes_five(rt, alloc, at_path(rt, alloc, operators))
+    at_path(rt, alloc, operators)
 }
 
 /// A part without members, which no text is: all of none hold, and none of them does.
 #[test]
 fn takes_parts_of_no_members(rt: HostRuntime) {
-    let alloc = rt.alloc();
-    assert!(rt; takes_five(&rt, alloc, Filter::And(Vec::new(alloc))));
-    assert!(rt; !takes_five(&rt, alloc, Filter::Or(Vec::new(alloc))));
-    assert!(rt; takes_five(&rt, alloc, Filter::Nor(Vec::new(alloc))));
-    assert!(rt; takes_five(&rt, alloc, at_path(&rt, alloc, Vec::new(alloc))));
-    assert!(rt; !holds_of_five(&rt, alloc, Operator::Not(Vec::new(alloc))));
-    assert!(rt; !holds_of_five(&rt, alloc, Operator::Type(Vec::new(alloc))));
-    assert!(rt; holds_of_five(&rt, alloc, Operator::ElemMatch(Vec::new(alloc))));
-    assert!(rt; !holds_of_five(&rt, alloc, Operator::ElemMatchDocument(Vec::new(alloc))));
+    for (name, wanted) in [
+        ("$and", true),
+        ("$or", false),
+        ("$nor", true),
+        ("no operator", true),
+        ("$not", false),
+        ("$type", false),
+        ("$elemMatch of operators", true),
+        ("$elemMatch of a filter", false),
+    ] {
+        let filter = without_members(&rt, rt.alloc(), name);
+        let is_taken = is_match(&rt, rt.alloc(), &filter, r#"{"a":{"b":[5]}}"#);
+        assert!(rt; is_taken == wanted, "{name}");
+    }
 }
 
-/// A filter and a document in memory. The rows of `tests/rows` have these too, over bytes.
-const IN_MEMORY: [(&str, &str, bool); 18] = [
-    (r#"{"a.b":5}"#, r#"{"a":[5,[],{"b":5}]}"#, true),
-    (r#"{"a":2}"#, r#"{"a":1,"a":2}"#, false),
-    (r#"{"a.0.0":5}"#, r#"{"a":[{"0":[5]}]}"#, true),
-    (r#"{"a.b":null}"#, r#"{"a":[{},{"b":1}]}"#, true),
-    (r#"{"a.b":null}"#, r#"{"a":[1]}"#, false),
-    (
-        r#"{"a":[5,"x"]}"#,
-        r#"{"a":[{"$numberLong":"5"},{"$symbol":"x"}]}"#,
-        true,
-    ),
-    (r#"{"a":{"$ne":5}}"#, r#"{"a":[4,5]}"#, false),
-    (r#"{"a":{"$gt":4,"$lt":6}}"#, r#"{"a":[1,9]}"#, true),
-    (r#"{"a":{"$nin":[1,5]}}"#, r#"{"a":[[1],[5]]}"#, true),
-    (r#"{"a":{"$all":[5,[5]]}}"#, r#"{"a":[5]}"#, true),
-    (r#"{"a":{"$size":2}}"#, r#"{"a":[[1,2]]}"#, false),
-    (r#"{"a.b":{"$exists":false}}"#, r#"{"a":[[{"b":1}]]}"#, true),
-    (
-        r#"{"a":{"$type":"object"}}"#,
-        r#"{"a":{"$code":"x","$scope":{}}}"#,
-        false,
-    ),
-    (r#"{"a":{"$not":{"$gt":5}}}"#, r#"{"a":[1,9]}"#, false),
-    (
-        r#"{"a":{"$elemMatch":{"$gt":4,"$lt":6}}}"#,
-        r#"{"a":[1,9]}"#,
-        false,
-    ),
-    (
-        r#"{"a":{"$elemMatch":{"b":5,"c":7}}}"#,
-        r#"{"a":[{"b":5},{"c":7,"b":5}]}"#,
-        true,
-    ),
-    (
-        r#"{"a.0.0":{"$elemMatch":{"$eq":5}}}"#,
-        r#"{"a":[{"0":[[5]]}]}"#,
-        true,
-    ),
-    (r#"{"$nor":[{"a":5},{"b":7}]}"#, r#"{"a":7,"b":5}"#, true),
-];
+/// A filter, a document in memory, and whether it matches. The rows of `tests/rows` have these too, over bytes.
+const IN_MEMORY: &str = r#"{"a.b":5} | {"a":[5,[],{"b":5}]} | true
+{"a":2} | {"a":1,"a":2} | false
+{"a.0.0":5} | {"a":[{"0":[5]}]} | true
+{"a.b":null} | {"a":[{},{"b":1}]} | true
+{"a.b":null} | {"a":[1]} | false
+{"a":[5,"x"]} | {"a":[{"$numberLong":"5"},{"$symbol":"x"}]} | true
+{"a":{"$ne":5}} | {"a":[4,5]} | false
+{"a":{"$gt":4,"$lt":6}} | {"a":[1,9]} | true
+{"a":{"$nin":[1,5]}} | {"a":[[1],[5]]} | true
+{"a":{"$all":[5,[5]]}} | {"a":[5]} | true
+{"a":{"$size":2}} | {"a":[[1,2]]} | false
+{"a.b":{"$exists":false}} | {"a":[[{"b":1}]]} | true
+{"a":{"$type":"object"}} | {"a":{"$code":"x","$scope":{}}} | false
+{"a":{"$not":{"$gt":5}}} | {"a":[1,9]} | false
+{"a":{"$elemMatch":{"$gt":4,"$lt":6}}} | {"a":[1,9]} | false
+{"a":{"$elemMatch":{"b":5,"c":7}}} | {"a":[{"b":5},{"c":7,"b":5}]} | true
+{"a.0.0":{"$elemMatch":{"$eq":5}}} | {"a":[{"0":[[5]]}]} | true
+{"$nor":[{"a":5},{"b":7}]} | {"a":7,"b":5} | true"#;
+
+/// The filter of a line, and the rest of it.
+pub(crate) fn split_filter<'a>(rt: &impl Abort, alloc: Global, line: &'a str) -> (Filter, &'a str) {
+    let (query, rest) = line.split_once(" | ").expect(rt, line);
+    let query = read_doc(alloc, query.as_bytes()).expect(rt, line);
+    (parse(alloc, &query).expect(rt, line), rest)
+}
 
 #[test]
 fn looks_at_documents_in_memory(rt: HostRuntime) {
-    let alloc = rt.alloc();
-    for (query, document, wanted) in IN_MEMORY {
-        let read = read_doc(alloc, query.as_bytes()).expect(&rt, query);
-        match parse(alloc, &read) {
-            Ok(filter) => {
-                assert!(rt;
-                    is_match(&rt, alloc, &filter, document) == wanted,
-                    "{query} {document}"
-                )
-            }
-            Err(fault) => panic!(rt; "{query}: {}", fault.kind.words()),
-        }
+    for line in IN_MEMORY.lines() {
+        let (filter, rest) = split_filter(&rt, rt.alloc(), line);
+        assert!(rt; is_as_told(&rt, rt.alloc(), &filter, rest), "{line}");
     }
     // No row sees it come.
     assert!(rt; FilterFaultKind::NoMemory.words() == "no memory");

@@ -1,21 +1,28 @@
-//! The order of values that are made by hand, and of keys.
-use bd_path::{Dir, Key, compare_in, compare_keys};
+//! The order of values that are made by hand, and of keys; the laws of values and of paths.
+use bd_path::{
+    Dir, Key, compare_in, compare_keys, keys_are_there, sorts_order_all_documents,
+    sparse_keys_are_the_rest,
+};
 use bd_value::{
     Class, Tree, Value, class, class_of_node, compare, compare_nodes, equal, equals_have_one_class,
     numbers_are_one_line, orders_all_values, pairs_compare_in_turn, try_copy,
 };
 use std::test::Fail;
 
+/// Whether a value equals the number seven of 64 bits, and is greater than null, by each call that compares.
+fn is_seven(value: &Value) -> bool {
+    let long = Value::Int64(7);
+    let are_numbers = class(value) == Class::Number
+        && class_of_node(Tree::Value(&long)) == Class::Number;
+    let is_equal = equal(value, &long)
+        && compare_nodes(Tree::Value(value), Tree::Value(&long)).is_eq();
+    are_numbers && is_equal && compare(&Value::Null, value).is_lt() && !equal(&Value::Null, value)
+}
+
 #[test]
 fn orders_values_in_memory(rt: HostRuntime) -> Result<(), Fail> {
     let copy = try_copy(rt.alloc(), &Value::Int32(7))?;
-    let long = Value::Int64(7);
-    assert!(rt; matches!(copy, Value::Int32(7)) && equal(&copy, &long));
-    assert!(rt; compare(&Value::Null, &copy).is_lt() && !equal(&Value::Null, &copy));
-    assert!(rt; compare_nodes(Tree::Value(&copy), Tree::Value(&long)).is_eq());
-    assert!(rt;
-        class(&copy) == Class::Number && class_of_node(Tree::Value(&long)) == Class::Number
-    );
+    assert!(rt; matches!(&copy, Value::Int32(7)) && is_seven(&copy));
     Ok(())
 }
 
@@ -52,4 +59,7 @@ fn has_laws() {
     equals_have_one_class();
     numbers_are_one_line();
     pairs_compare_in_turn();
+    keys_are_there();
+    sparse_keys_are_the_rest();
+    sorts_order_all_documents();
 }

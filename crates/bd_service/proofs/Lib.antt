@@ -2,6 +2,7 @@ pub mod RefusedLemmas
 pub mod PerformingLemmas
 pub mod CallLemmas
 pub mod AnswerLemmas
+pub mod FairLemmas
 pub mod TalkLemmas
 pub mod ServedLemmas
 pub mod GoingOnLemmas

@@ -87,6 +87,7 @@ stopped state gives limits old new out s t (faults.Unread fault) u = record {
   short = u.short;
   stops = u.stops;
   cause = u.cause;
+  in_time = u.in_time;
   replied = replied s _ u.text t u.replied;
   written = u.written;
 }

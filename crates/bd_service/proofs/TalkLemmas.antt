@@ -9,9 +9,11 @@ use Rattle.bd_answer.specs.Session as machine
 use Rattle.bd_answer.specs.Session.{Call, GivenBatch, MarkedToken, Query, State, find_call, gave, next_call, resume_call, state_after, kill_call, make_call, drop_call, explain_call, opened}
 use Rattle.bd_answer.specs.SessionLaws.{batch_in, batch_to, batches_to, new_state, replies, state_after_all}
 use Rattle.bd_answer.proofs.SessionLemmas.{find_gives, resume_gives}
+use Rattle.bd_extjson.specs.TextDocument.{reading}
 use Rattle.bd_reply.specs.Reply.{LineReply, ToldRefusal, opens}
 use Rattle.bd_service.specs.CallOf.{document_call}
 use Rattle.bd_service.specs.Talk.{IsCallIn, reply_to, shown_reply, state_then}
+use Rattle.bd_service.proofs.FairLemmas.{line_fair}
 use Rattle.bd_service.specs.TalkLaws.{OpensInTalk, Talks, TalksGiveTheAnswer, TalksGiveTheRest, batch_shown, batches_shown, calls_in, given_in, line_call}
 
 -- ---- the call of a line
@@ -176,19 +178,19 @@ opening_of bytes ds call id lines rs o =
     }
 
 pub talks_give_the_answer : TalksGiveTheAnswer
-talks_give_the_answer bytes ds q hint id lines rs fair o =
+talks_give_the_answer bytes ds q hint id lines rs o =
     let opening = opening_of bytes ds (find_call q hint) id lines rs o in
     record {
       given = batches_to id (calls_in bytes ds lines) (replies (state_after (state_after_all new_state opening.earlier) (find_call q hint)) (calls_in bytes ds lines));
-      in_turn = find_gives opening.earlier (calls_in bytes ds lines) q hint id fair opening.opens_it;
+      in_turn = find_gives opening.earlier (calls_in bytes ds lines) q hint id (line_fair bytes ds (reading o.line) (find_call q hint) o.asks) opening.opens_it;
       shown = opening.shown;
     }
 
 pub talks_give_the_rest : TalksGiveTheRest
-talks_give_the_rest bytes ds q hint t id lines rs fair o =
+talks_give_the_rest bytes ds q hint t id lines rs o =
     let opening = opening_of bytes ds (resume_call q hint t) id lines rs o in
     record {
       given = batches_to id (calls_in bytes ds lines) (replies (state_after (state_after_all new_state opening.earlier) (resume_call q hint t)) (calls_in bytes ds lines));
-      in_turn = resume_gives opening.earlier (calls_in bytes ds lines) q hint t id fair opening.opens_it;
+      in_turn = resume_gives opening.earlier (calls_in bytes ds lines) q hint t id (line_fair bytes ds (reading o.line) (resume_call q hint t) o.asks) opening.opens_it;
       shown = opening.shown;
     }

@@ -5,7 +5,7 @@ use Rattle.std.specs.Result.{result_ok}
 use Rattle.bd_value.specs.Tree.{Doc}
 use Rattle.bd_answer.specs.Answer.{answer, rest}
 use Rattle.bd_answer.specs.Session.{Call, GivenBatch, MarkedToken, Query, State, find_call, gave, next_call, resume_call}
-use Rattle.bd_answer.specs.SessionLaws.{GivesInTurn, IsFair, new_state}
+use Rattle.bd_answer.specs.SessionLaws.{GivesInTurn, new_state}
 use Rattle.bd_lines.specs.Serving.{RepliesInTurn}
 use Rattle.bd_extjson.specs.TextDocument.{reading}
 use Rattle.bd_reply.specs.Reply.{LineReply, gives, opens, reply_text}
@@ -74,12 +74,12 @@ pub record OpensInTalk (bytes : List ℕ) (ds : List Doc) (call : Call) (id : �
 -- after a line that finds, the cursor gives the answer
 abbrev pub TalksGiveTheAnswer : Type 0
 TalksGiveTheAnswer = (bytes : List ℕ) (ds : List Doc) (q : Query) (hint : Option (List ℕ)) (id : ℕ) (lines : List (List ℕ)) (rs : List LineReply) →
-    IsFair q → OpensInTalk bytes ds (find_call q hint) id lines rs → ShowsInTurn bytes ds q id (answer q.selection) lines rs
+    OpensInTalk bytes ds (find_call q hint) id lines rs → ShowsInTurn bytes ds q id (answer q.selection) lines rs
 
 -- and after one that resumes, the rest
 abbrev pub TalksGiveTheRest : Type 0
 TalksGiveTheRest = (bytes : List ℕ) (ds : List Doc) (q : Query) (hint : Option (List ℕ)) (t : MarkedToken) (id : ℕ) (lines : List (List ℕ)) (rs : List LineReply) →
-    IsFair q → OpensInTalk bytes ds (resume_call q hint t) id lines rs → ShowsInTurn bytes ds q id (rest q.selection t.mark) lines rs
+    OpensInTalk bytes ds (resume_call q hint t) id lines rs → ShowsInTurn bytes ds q id (rest q.selection t.mark) lines rs
 
 -- What was replied to lines stands in front of what may be replied to them and to any lines after them.
 abbrev pub RepliesGoOn : Type 0

@@ -41,3 +41,28 @@ fn fewer_documents_by_an_index(rt: HostRuntime) -> Result<(), Fail> {
     assert!(rt; by_scan >= 100, "{by_scan}");
     Ok(())
 }
+
+/// The request of the documents with 7, 8 and 9, without the first of them.
+const TWO_OF_THREE: &str = "{\"a\":{\"$gte\":7,\"$lt\":10}} {} 1 0";
+
+/// Nor are they where some are skipped, or where an answer is resumed.
+#[test]
+fn fewer_documents_after_a_skip_and_a_token(rt: HostRuntime) -> Result<(), Fail> {
+    let alloc = rt.alloc();
+    let mut session = indexed_hundred(alloc)?;
+    let before = session.dump().reads();
+    let path = Path::parse(alloc, "a")?;
+    let id = session.find(read_request(alloc, TWO_OF_THREE)?, Choice::Index(path))?;
+    let batch = session.next(id, 1)?;
+    assert!(rt; batch.places.as_slice() == [8].as_slice());
+    let skipped = session.dump().reads();
+    let token = batch.token.ok_or("a token")?;
+    let path = Path::parse(alloc, "a")?;
+    let request = read_request(alloc, TWO_OF_THREE)?;
+    let id = session.resume(request, Choice::Index(path), &token)?;
+    let batch = session.next(id, 5)?;
+    assert!(rt; batch.places.as_slice() == [9].as_slice());
+    let resumed = session.dump().reads();
+    assert!(rt; skipped.saturating_sub(before) < 100 && resumed.saturating_sub(skipped) < 100);
+    Ok(())
+}

@@ -107,6 +107,7 @@ pub record SoFar (old new : Reader) (out_old out_new : Writer)
   pub fits : room + place ≡ 4294967295
   pub turned : turns ≤ 4294967296
   pub called : new.calls ≡ after_more old.calls (4294967296 - turns)
+  pub many : 4294967296 - turns ≤ length given
   pub well : new.failures ≡ old.failures
   pub wrote : TakesText (between out_old out_new) (verdict_lines 0 done)
 
@@ -130,6 +131,7 @@ module _ (old : Reader) (out_old : Writer) where
     fits = omega arith;
     turned = omega arith;
     called = called;
+    many = omega arith;
     well = refl;
     wrote = (Appends-nil out_old.held, refl);
   }
@@ -149,9 +151,9 @@ module _ (old : Reader) (out_old : Writer) where
     -- a document was judged, and its line taken
     pub goes_on : (new : Reader) (out_new : Writer) (frame : List ℕ) (o : Option told.Fault) (size next count worse less fewer : ℕ) → IsFrame frame → first_fault place frame ≡ seen o
         → Consumes mid.left new.left frame → length frame ≡ size → (next ≡ place + size) × (count ≡ number + 1) × (less + size ≡ room)
-        → worse ≡ bad + faulty_count (seen o ∷ []) → (fewer ≤ turns) × (new.calls ≡ after_more mid.calls (turns - fewer)) → new.failures ≡ mid.failures
+        → worse ≡ bad + faulty_count (seen o ∷ []) → (fewer ≤ turns) × (new.calls ≡ after_more mid.calls (turns - fewer)) → turns - fewer ≤ length frame → new.failures ≡ mid.failures
         → TakesText (between out_mid out_new) (verdict_line number (seen o)) → Kept new out_new next count worse less fewer
-    goes_on new out_new frame o size next count worse less fewer is first gave sized moved worse_is called well wrote = record {
+    goes_on new out_new frame o size next count worse less fewer is first gave sized moved worse_is called each well wrote = record {
       done = s.done ++ seen o ∷ [];
       given = s.given ++ frame;
       frames = s.frames ++ frame ∷ [];
@@ -165,6 +167,7 @@ module _ (old : Reader) (out_old : Writer) where
       fits = let f = s.fits in let m = moved.0 in let l = moved.2 in omega arith;
       turned = let t = s.turned in let c = called.0 in omega arith;
       called = more_called old.calls mid.calls new.calls turns fewer s.turned called.0 s.called called.1;
+      many = let m = s.many in let t = s.turned in let c = called.0 in omega (arith, length-append s.given frame);
       well = well ∙ s.well;
       wrote = wrote_after out_old out_mid out_new (verdict_lines 0 s.done) (verdict_line number (seen o)) [] (verdict_lines 0 (s.done ++ seen o ∷ [])) s.wrote wrote
           (lines_more s.done (seen o) ∙ ap (λ n. verdict_lines 0 s.done ++ verdict_line n (seen o)) (sym s.counted));
@@ -294,15 +297,16 @@ module _ (old : Reader) (out_old : Writer) where
         → IsReason state gives documents m n [] given (faults.Read f) → JudgesLast (endings.Unread f) documents.number bad (between out_mid out_new) r → Ended out_new r
     unread_ends out_new given f r other gave reason found =
         let fits : documents.left.bytes + length s.given ≡ 4294967295 = let p = s.placed in let q = s.fits in omega arith in
-        let u = unread old s.given state gives documents m n s.gave fits s.turned s.called s.well given f other gave reason in
+        let u = unread old s.given state gives documents m n s.gave fits s.turned s.called s.well s.frames s.framed s.many given f other gave reason in
         let done = done_alone (state m) out_mid documents.place documents.number bad documents.left.bytes documents.left.turns s in
         rw (found.0, found.1) (s.given ++ u.0, s.done, u.1, tt, (s.frames, s.given, u.0, s.framed, u.2, refl, sym done), s.counted, s.bad_counted, s.wrote)
 
     pub ends_by : (out_new : Writer) (given : List ℕ) (d : DocFault) (e : Ending) (r : Result Findings OutputFault) → IsEndingOf d (Ok e) → Consumes (state m).left (state n).left given
         → IsReason state gives documents m n [] given d → JudgesLast e documents.number bad (between out_mid out_new) r → Ended out_new r
-    ends_by out_new given (faults.Frame f) e r by gave reason found =
-        let is : e ≡ endings.Faulty f = same_ending e (endings.Faulty f) by in
-        framed_ends (state m) out_mid documents.place documents.number bad documents.left.bytes documents.left.turns s (state n) out_new f r given gave reason.5 reason.6 reason.3 reason.4 reason.0 reason.1 reason.2 (rw is at found)
+    ends_by out_new given (faults.Frame f) e r (fault, by, alike) gave reason found =
+        let is : e ≡ endings.Faulty fault = same_ending e (endings.Faulty fault) by in
+        framed_ends (state m) out_mid documents.place documents.number bad documents.left.bytes documents.left.turns s (state n) out_new fault r given gave reason.4 reason.5 (rw alike.kind reason.2) (rw alike.kind reason.3)
+        (alike.offset ∙ reason.0) (alike.document ∙ reason.1) alike.path (rw is at found)
     ends_by out_new given (faults.Read reads.Device) e r by gave reason found =
         unread_ends out_new given reads.Device r (λ x. absurd cc) gave reason (rw (same_ending e (endings.Unread reads.Device) by) at found)
     ends_by out_new given (faults.Read reads.TooLong) e r by gave reason found =
@@ -314,7 +318,7 @@ module _ (old : Reader) (out_old : Writer) where
 
     pub starves_by : (given : List ℕ) (d : DocFault) (st : OutputFault) → IsEndingOf d (Err st) → Consumes (state m).left (state n).left given → IsReason state gives documents m n [] given d
         → StopsJudging (between old (state n)) (between out_old out_mid) st
-    starves_by given (faults.Frame f) st by gave reason = absurd cc
+    starves_by given (faults.Frame f) st (fault, by, is) gave reason = absurd cc
     starves_by given (faults.Read reads.Device) st by gave reason = absurd cc
     starves_by given (faults.Read reads.TooLong) st by gave reason = absurd cc
     starves_by given (faults.Read reads.TooManyTurns) st by gave reason = absurd cc
@@ -329,11 +333,11 @@ module _ (old new : Reader) (out_old out_new : Writer) (err_old err_new : Writer
   Shows = ChecksInput (between old new) (between out_old out_new) (between err_old err_new) status
 
   -- all was shown, of bytes within the limit, or a front of it
-  abbrev Ends : Type 0 → Transcript → Type 0
-  Ends within shown =
+  abbrev Ends : Type 0 → Option ReadFault → Transcript → Type 0
+  Ends within fault shown =
       (within × TakesText (between out_old out_new) shown.out × TellsMessage (between err_old err_new) shown.err shown.status status)
       ⊎ (BreaksWithin (between out_old out_new) shown.out × BreaksAtVerdict (between old new) (between out_old out_new) × TellsMessage (between err_old err_new) (error_line (codes "cannot write")) Failed status)
-      ⊎ (TakesFront (between out_old out_new) shown.out × TellsMessage (between err_old err_new) (error_line (codes "no memory")) Failed status)
+      ⊎ ((fault ≡ None) × TakesFront (between out_old out_new) shown.out × TellsMessage (between err_old err_new) (error_line (codes "no memory")) Failed status)
 
   abbrev Told : ℕ → ℕ → Option ReadFault → Type 0
   Told count worse unread = TellsMessage (between err_old err_new) (findings_message count worse unread) (findings_status worse unread) status
@@ -349,7 +353,7 @@ module _ (old new : Reader) (out_old out_new : Writer) (err_old err_new : Writer
           (bytes, Some f, shown_check_unread vs f, was, (frames, front, part, framed, cut, is, ap (λ (ws : List Seen). shown_check_unread ws f) are), inl (tt, wrote, told))
 
   pub shows_stopped : StopsJudging (between old new) (between out_old out_new) NoMemory → TellsMessage (between err_old err_new) (error_line (codes "no memory")) Failed status → Shows
-  shows_stopped (bytes, was, front) told = (bytes, None, shown_check (verdicts bytes), was, refl, inr (inr (front, told)))
+  shows_stopped (bytes, was, front) told = (bytes, None, shown_check (verdicts bytes), was, refl, inr (inr (refl, front, told)))
 
   pub shows_broken : StopsJudging (between old new) (between out_old out_new) Unwritten → TellsMessage (between err_old err_new) (error_line (codes "cannot write")) Failed status → Shows
   shows_broken (bytes, was, broke, at) told = (bytes, None, shown_check (verdicts bytes), was, refl, inr (inl (broke, at, told)))

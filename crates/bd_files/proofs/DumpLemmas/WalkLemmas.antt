@@ -1,5 +1,5 @@
 -- The walk of `dump` over the documents of an input, step by step.
-use Rattle.std.proofs.Common.{inl, inr, ◌≡◌, ◌≤◌, ℕ, ◌+◌, ◌-◌, List, [], ◌∷◌, ◌++◌, length, Option, Some, Err, refl, sym, ◌∙◌, subst, arith, length-append}
+use Rattle.std.proofs.Common.{inl, inr, ◌≡◌, ◌≤◌, ℕ, ◌+◌, ◌-◌, List, [], ◌∷◌, ◌++◌, length, append-nil, Option, Some, Ok, Err, refl, sym, ◌∙◌, subst, arith, length-append}
 use Rattle.std.specs.Prelude.{IfSome, Result, MatchResult}
 use Rattle.std.specs.Io.KnownBytes.{Consumes, IsAtEnd}
 use Rattle.std.proofs.KnownBytes.{Appends-trans, Appends-nil, Consumes-trans, Consumes-nil}
@@ -9,13 +9,13 @@ use Rattle.bd_device.specs.declared.reading.ReadFault.{ReadFault}
 use Rattle.bd_device.specs.declared.reading.ReadFault.TheVariants as reads
 use Rattle.bd_raw.specs.Spelling.{IsDocument}
 use Rattle.bd_check.specs.FirstFault.{first_fault}
-use Rattle.bd_check.specs.Dump.{AreJoined}
+use Rattle.bd_check.specs.Dump.{AreJoined, frame_length}
 use Rattle.bd_stream.specs.NextDocument.{IsReason}
-use Rattle.bd_stream.specs.Stream.{HasNoFrame, IsFrame}
+use Rattle.bd_stream.specs.Stream.{AreFrames, HasNoFrame, IsFrame}
 use Rattle.bd_stream.specs.declared.doc_buffer.DocBuffer.{DocBuffer}
 use Rattle.bd_check.specs.AnsweredFault.{fault_view}
 use Rattle.bd_check.specs.declared.fault.Fault as told
-use Rattle.bd_check.proofs.DumpLemmas.{joined_append, joined_one}
+use Rattle.bd_check.proofs.DumpLemmas.{document_frame, joined_append, joined_one}
 use Rattle.bd_stream.specs.declared.doc_buffer.DocFault.{DocFault}
 use Rattle.bd_stream.specs.declared.doc_buffer.DocFault.TheVariants as faults
 use Rattle.bd_files.specs.declared.ending.Ending.{Ending}
@@ -29,6 +29,14 @@ use Rattle.bd_files.specs.Transcript.{lines}
 use Rattle.bd_files.specs.Ending.{IsEndingOf}
 use Rattle.bd_files.specs.Dump.Walk.{StopsWalk, WalksDocuments}
 use Rattle.bd_device.specs.Devices.{BreaksWithin, Reader, TakesAtMost, TakesText, Writer, between}
+
+-- documents that were joined are documents by their lengths
+joined_frames : (ds : List Doc) (bytes : List ℕ) → AreJoined ds bytes → (frames : List (List ℕ)) × AreFrames frames bytes
+joined_frames [] bytes joined = ([], joined)
+joined_frames (d ∷ ds) bytes joined =
+    let rest = joined_frames ds joined.1 joined.3 in
+    let frame : IsFrame joined.0 = subst (λ x. frame_length x ≡ Ok (Some (length joined.0))) (append-nil joined.0) (document_frame d joined.0 [] joined.2) in
+    (joined.0 ∷ rest.0, (joined.1, frame, rest.1, joined.4))
 
 abbrev was_stopped : OutputFault → OutputFault → Type 0
 was_stopped st want = Path (Result (Option told.Fault) OutputFault) (Err st) (Err want)
@@ -48,6 +56,7 @@ pub record SoFar (old new : Reader) (out_old out_new : Writer)
   pub fits : room + place ≡ 4294967295
   pub turned : turns ≤ 4294967296
   pub called : new.calls ≡ after_more old.calls (4294967296 - turns)
+  pub many : 4294967296 - turns ≤ length given
   pub well : new.failures ≡ old.failures
   pub wrote : TakesText (between out_old out_new) (lines done)
 
@@ -66,6 +75,7 @@ module _ (old : Reader) (out_old : Writer) where
     fits = omega arith;
     turned = omega arith;
     called = omega arith;
+    many = omega arith;
     well = refl;
     wrote = (Appends-nil out_old.held, refl);
   }
@@ -77,9 +87,9 @@ module _ (old : Reader) (out_old : Writer) where
     -- a document was printed
     pub goes_on : (new : Reader) (out_new : Writer) (frame : List ℕ) (size next count less fewer : ℕ) (d : Doc) → IsDocument d frame → Consumes mid.left new.left frame
         → length frame ≡ size → (next ≡ place + size) × (count ≡ number + 1) × (less + size ≡ room)
-        → (fewer ≤ turns) × (new.calls ≡ after_more mid.calls (turns - fewer)) → new.failures ≡ mid.failures
+        → (fewer ≤ turns) × (new.calls ≡ after_more mid.calls (turns - fewer)) → turns - fewer ≤ length frame → new.failures ≡ mid.failures
         → TakesText (between out_mid out_new) (lines (d ∷ [])) → Kept new out_new next count less fewer
-    goes_on new out_new frame size next count less fewer d is gave sized moved called well wrote = record {
+    goes_on new out_new frame size next count less fewer d is gave sized moved called each well wrote = record {
       done = s.done ++ d ∷ [];
       given = s.given ++ frame;
       joined = joined_append s.done (d ∷ []) s.given frame s.joined (joined_one d frame is);
@@ -89,6 +99,7 @@ module _ (old : Reader) (out_old : Writer) where
       fits = let f = s.fits in let m = moved.0 in let l = moved.2 in omega arith;
       turned = let t = s.turned in let c = called.0 in omega arith;
       called = more_called old.calls mid.calls new.calls turns fewer s.turned called.0 s.called called.1;
+      many = let m = s.many in let t = s.turned in let c = called.0 in omega (arith, length-append s.given frame);
       well = well ∙ s.well;
       wrote = subst (λ (x : List ℕ). TakesText (between out_old out_new) x) (sym (lines-append s.done (d ∷ [])))
           (Appends-trans out_old.held out_mid.held out_new.held (lines s.done) (lines (d ∷ [])) s.wrote.0 wrote.0, wrote.1 ∙ s.wrote.1);
@@ -159,13 +170,15 @@ module _ (old : Reader) (out_old : Writer) where
         → IsReason state gives documents m n [] given (faults.Read f) → WalksDocuments (between old (state n)) (between out_old out_mid) (record { count = count; ending = endings.Unread f })
     unread_ends count given f same other gave reason =
         let fits : documents.left.bytes + length s.given ≡ 4294967295 = let p = s.placed in let q = s.fits in omega arith in
-        let u = unread old s.given state gives documents m n s.gave fits s.turned s.called s.well given f other gave reason in
+        let frames = joined_frames s.done s.given s.joined in
+        let u = unread old s.given state gives documents m n s.gave fits s.turned s.called s.well frames.0 frames.1 s.many given f other gave reason in
         (s.done, same ∙ s.counted, (s.given, u.0, u.1, s.joined, u.2), s.wrote)
 
     pub ends_by : (count : ℕ) (given : List ℕ) (d : DocFault) (r : Result Ending OutputFault) → count ≡ documents.number → IsEndingOf d r → Consumes (state m).left (state n).left given
         → IsReason state gives documents m n [] given d → Ended count r
-    ends_by count given (faults.Frame f) r same by gave reason =
-        rw by (ends_framed (state m) out_mid documents.place documents.number documents.left.bytes documents.left.turns s (state n) count given f same gave reason.5 reason.6 reason.3 reason.0 reason.1 reason.2)
+    ends_by count given (faults.Frame f) r same (fault, by, is) gave reason =
+        rw by (ends_framed (state m) out_mid documents.place documents.number documents.left.bytes documents.left.turns s (state n) count given fault same gave reason.4 reason.5 (rw is.kind reason.2)
+        (is.offset ∙ reason.0) (is.document ∙ reason.1) is.path)
     ends_by count given (faults.Read reads.Device) r same by gave reason = rw by (unread_ends count given reads.Device same (λ e. absurd cc) gave reason)
     ends_by count given (faults.Read reads.TooLong) r same by gave reason = rw by (unread_ends count given reads.TooLong same (λ e. absurd cc) gave reason)
     ends_by count given (faults.Read reads.TooManyTurns) r same by gave reason = rw by (unread_ends count given reads.TooManyTurns same (λ e. absurd cc) gave reason)

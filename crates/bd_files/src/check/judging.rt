@@ -135,7 +135,7 @@ fn judge_documents<R: Input, O: Output>(
                 }
             }
             Ok(false) => return finish(Ending::Whole, count, faulty, line, out),
-            Err(fault) => return finish(ending_of(fault)?, count, faulty, line, out),
+            Err(fault) => return finish(ending_of(alloc, fault)?, count, faulty, line, out),
         }
     }
 }

@@ -103,7 +103,7 @@ fn print_documents<R: Input, O: Output>(
                 return Ok(Walk { count, ending });
             }
             Err(fault) => {
-                let ending = ending_of(fault)?;
+                let ending = ending_of(alloc, fault)?;
                 return Ok(Walk { count, ending });
             }
         }

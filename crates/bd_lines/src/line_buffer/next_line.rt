@@ -128,6 +128,7 @@ impl LineBuffer {
         requires part { IsLine self.old.line.items }
         ensures gives { OnOk result (GivesBytes R.state R.read_gives self.old.left self.new.left self.new.ended
             (drop self.new.start self.new.block.items) reader.old reader.new) }
+        ensures one { OnOk result (R.read_gives reader.old (Some (drop self.new.start self.new.block.items)) reader.new) }
         ensures turned { OnOk result (self.new.left.turns < self.old.left.turns) }
         ensures fails { IfErr result
             (FailsToReadLine R.state R.read_gives self.old.left self.old.line.items reader.old reader.new) }

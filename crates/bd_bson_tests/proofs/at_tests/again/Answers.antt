@@ -4,4 +4,4 @@ use Rattle.bd_raw.specs.Sound.{stands}
 use Rattle.bd_bson_tests.proofs.at_tests.again.Goals as goal
 
 pub returns-clause-value : goal.returns-clause-value
-returns-clause-value c = c.value_at.ensures.value (stands c.args.value.sound) (subst (λ (x : List ℕ). StandsAt x c.at.result (stands c.args.value.sound)) c.requires c.at.ensures)
+returns-clause-value c = c.value_at.ensures.value (stands c.args.value.sound) (subst (λ (x : List ℕ). StandsAt x c.at.result (stands c.args.value.sound)) c.requires c.at.ensures.stands)

@@ -9,13 +9,13 @@ returns-in-Ok g c =
     let short : length c.in-Ok.bytes.items ≤ 4294967295 = omega (arith, e.short) in (
       Ok c.in-Ok.bytes.items,
       (e.bytes, e.end, short, e.well (λ x. absurd cc)),
-      elim c.serve_bytes.ensures [ inl nothing ↦ inl nothing | inr served ↦ inr (inr (c.in-Ok.bytes.items, refl, served)) ],
+      inr (c.in-Ok.bytes.items, refl, c.serve_bytes.ensures),
     )
 
 pub returns-in-Err : goal.returns-in-Err
 returns-in-Err g c =
     let e = c.in-Err.ensures in (
       Err c.in-Err.fault,
-      runs.was_refused (g.F.Input.state c.args.file.now) (g.F.Input.state c.read_all.new.reader) c.in-Err.fault e.failed e.well e.too_long_known e.too_many_known e.too_many_calls,
-      inr (inl (read_words c.in-Err.fault, refl, record { unread = refl; silent = refl; told = c.tell_read_fault.ensures })),
+      runs.was_refused (g.F.Input.state c.args.file.now) (g.F.Input.state c.read_all.new.reader) c.in-Err.fault e.failed e.well e.too_long_known e.too_many_known e.too_many_calls e.memory_known,
+      inl (read_words c.in-Err.fault, refl, record { unread = refl; silent = refl; told = c.tell_read_fault.ensures }),
     )

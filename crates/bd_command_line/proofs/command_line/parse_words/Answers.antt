@@ -1,4 +1,4 @@
-use Rattle.std.proofs.Common.{sym, inr, refl, true≢false, ◌∙◌}
+use Rattle.std.proofs.Common.{sym, inr, true≢false, ◌∙◌}
 use Rattle.bd_command_line.specs.CommandLine.{words_of}
 use Rattle.bd_command_line.proofs.FileLineLemmas.{file_escaped_taken, file_taken, line_of_input}
 use Rattle.bd_command_line.proofs.LineLemmas.{answered, help_line_refused, help_line_told}

@@ -12,7 +12,7 @@ loop-one-preserved c bytes all =
     elim c.if-not-repeats.branch [
       | then-not-repeats+in_ok-push w ↦ (
           joined_so_far bytes (drop (i + 1) xs) xs c.if-not-repeats.entries.items w.push.new.self.items c.if-not-repeats.last (Some c.one-item.result) (ap (λ v. v.items) w.entries-is) w.last-is
-          (one_kept bytes c.loop-one.entries.items w.push.new.self.items c.loop-one.last xs i c.one-item.result w.at.result c.loop-one-test.true c.one-item.is (sym c.repeats.ensures ∙ w.if-not-repeats.true) all w.at.ensures w.in_ok-push.ensures.items so_far))
+          (one_kept bytes c.loop-one.entries.items w.push.new.self.items c.loop-one.last xs i c.one-item.result w.at.result c.loop-one-test.true c.one-item.is (sym c.repeats.ensures ∙ w.if-not-repeats.true) all w.at.ensures.stands w.in_ok-push.ensures.items so_far))
       | else-not-repeats w ↦ (
           joined_so_far bytes (drop (i + 1) xs) xs c.if-not-repeats.entries.items c.loop-one.entries.items c.if-not-repeats.last c.loop-one.last (ap (λ v. v.items) w.entries-is) w.last-is
           (repeat_passed bytes c.loop-one.entries.items c.loop-one.last xs i c.one-item.result c.loop-one-test.true c.one-item.is (sym c.repeats.ensures ∙ w.if-not-repeats.false) so_far))

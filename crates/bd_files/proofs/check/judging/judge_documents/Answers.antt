@@ -48,7 +48,7 @@ loop-alloc-preserved-in-Some g c =
       so_far = judges.goes_on (g.R.Input.state c.args.input.now) (g.O.Output.state c.args.out.now) (g.R.Input.state l.input) (g.O.Output.state l.out)
           l.documents.place l.documents.number l.faulty l.documents.left.bytes l.documents.left.turns l.invariant.so_far (g.R.Input.state c.read_next.new.reader) (g.O.Output.state c.write_verdict.new.out) c.bytes.result.now (Some c.in-Some.fault)
           c.read_next.new.self.size c.read_next.new.self.place c.read_next.new.self.number (l.faulty + 1) c.read_next.new.self.left.bytes c.read_next.new.self.left.turns
-          read.frame (rw (c.place-base.ensures, c.in-Some.is) at judged.first) read.gave read.size (d.offset, d.number, d.room) (omega arith) d.counted d.well
+          read.frame (rw (c.place-base.ensures, c.in-Some.is) at judged.first) read.gave read.size (d.offset, d.number, d.room) (omega arith) d.counted read.many d.well
           (subst (λ n. TakesText (over g.O.Output.state l.out c.write_verdict.new.out) (verdict_line n (Some (fault_view c.in-Some.fault)))) numbered wrote);
       works = search rules;
     }
@@ -63,7 +63,7 @@ loop-alloc-preserved g c =
       so_far = judges.goes_on (g.R.Input.state c.args.input.now) (g.O.Output.state c.args.out.now) (g.R.Input.state l.input) (g.O.Output.state l.out)
           l.documents.place l.documents.number l.faulty l.documents.left.bytes l.documents.left.turns l.invariant.so_far (g.R.Input.state c.read_next.new.reader) (g.O.Output.state l.out) c.bytes.result.now None
           c.read_next.new.self.size c.read_next.new.self.place c.read_next.new.self.number l.faulty c.read_next.new.self.left.bytes c.read_next.new.self.left.turns
-          read.frame (rw (c.place-base.ensures, c.in_default.is) at judged.first) read.gave read.size (d.offset, d.number, d.room) (omega arith) d.counted d.well
+          read.frame (rw (c.place-base.ensures, c.in_default.is) at judged.first) read.gave read.size (d.offset, d.number, d.room) (omega arith) d.counted read.many d.well
           (Appends-nil (g.O.Output.state l.out).held, refl);
       works = search rules;
     }

@@ -36,7 +36,7 @@ loop-documents-preserved g c =
       so_far = walking.goes_on (g.R.Input.state c.args.input.now) (g.O.Output.state c.args.out.now) (g.R.Input.state l.input) (g.O.Output.state l.out)
           l.documents.place l.documents.number l.documents.left.bytes l.documents.left.turns l.invariant.so_far (g.R.Input.state c.read_next.new.reader) (g.O.Output.state c.print_document.new.out) c.bytes-bytes.result.now
           c.read_next.new.self.size c.read_next.new.self.place c.read_next.new.self.number c.read_next.new.self.left.bytes c.read_next.new.self.left.turns
-          printed.0 printed.1 read.gave read.size (d.offset, d.number, d.room) d.counted d.well printed.2;
+          printed.0 printed.1 read.gave read.size (d.offset, d.number, d.room) d.counted read.many d.well printed.2;
       works = search rules;
     }
 

@@ -59,7 +59,7 @@ loop-self-preserved g c =
     let left : c.take_part.new.self.left ≡ l.self.left = c.take_part.ensures.kept.0 in
     record {
       so_far = λ _. next.line_goes_on c.args.self.now.left l.self.left (held_after c.args.self.now) l.self.line.items (held_after l.self) c.args.reader.now l.reader so l.invariant.line
-          new.line.items line n.0 new.left new.ended (held_after new) c.fetch.new.reader (rw left at gave);
+          new.line.items line n.0 new.left new.ended (held_after new) c.fetch.new.reader (rw left at gave) c.in_ok-fetch.ensures.one;
       line = next.line_grown c.args.self.now.left l.self.left (held_after c.args.self.now) l.self.line.items (held_after l.self) c.args.reader.now l.reader so l.invariant.line
           new.line.items line n.0;
       still = λ _. was;

@@ -42,3 +42,8 @@ returns-clause-gives g c =
     let some : nat_eq c.in-Ok.n 0 ≡ false → 0 < length (take c.in-Ok.n c.read.new.room) = search rules in
     rw is (gives_one c.args.self.now.left _ (nat_eq c.in-Ok.n 0) c.args.reader.now c.read.new.self (take c.in-Ok.n c.read.new.room)
     e.bytes.0 e.gives e.called e.well room turned end none some)
+
+pub returns-clause-one : goal.returns-clause-one
+returns-clause-one g c =
+    let is : c.extend_from_slice.new.self.items ≡ take c.in-Ok.n c.read.new.room = search rules in
+    rw is c.in-Ok.ensures.gives
