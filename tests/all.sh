@@ -22,40 +22,29 @@ rm -f crates/bsonfind/out/bsonfind crates/bd_growth_tests/out/bd_growth_tests_te
 rt ci | tee "$log"
 add
 
-# The gate leaves the program that it proved and built, so nothing is proved again.
+# The gate leaves the program and the tests of the calls that grow, proved and built, so nothing is proved again.
 if cp crates/bsonfind/out/bsonfind bsonfind; then
-	tests/program.sh | tee "$log"
-	add
-	tests/pages.py | tee "$log"
-	add
-	tests/talk.py | tee "$log"
-	add
-	tests/growths.py | tee "$log"
-	add
-	tests/devices.py | tee "$log"
-	add
-	tests/package.py | tee "$log"
-	add
+	for script in program/program.sh program/pages.py program/talk.py faults/growths.py faults/devices.py package/package.py; do
+		"tests/$script" | tee "$log"
+		add
+	done
 	# As LLVM builds it, and as Rattle's own compiler does.
-	tests/rows.py --program crates/bsonfind/out/bsonfind --program crates/bsonfind/out/bsonfind.by-rattle | tee "$log"
+	tests/rows/rows.py --program crates/bsonfind/out/bsonfind --program crates/bsonfind/out/bsonfind.by-rattle | tee "$log"
 	add
 else
-	echo 'tests/program.sh and the tests after it were not run: the gate built no program'
+	echo 'the gate built no program: its tests were not run'
 	failed=$((failed + 1))
 fi
-
-# The gate leaves these tests too, proved and built.
 if [ -x crates/bd_growth_tests/out/bd_growth_tests_tests ]; then
-	tests/growing_calls.py | tee "$log"
+	tests/faults/growing_calls.py | tee "$log"
 	add
 else
-	echo 'tests/growing_calls.py was not run: the gate left no tests of crates/bd_growth_tests'
+	echo 'the gate left no tests of crates/bd_growth_tests: tests/faults/growing_calls.py was not run'
 fi
-
-tests/examples.py | tee "$log"
-add
-tests/definitions.py | tee "$log"
-add
+for script in docs/examples.py docs/definitions.py; do
+	"tests/$script" | tee "$log"
+	add
+done
 
 # Each commit tries two others, so that all have their turn. They are over what the gate proved, so not where that failed.
 if [ "$failed" -eq 0 ]; then

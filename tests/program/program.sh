@@ -2,10 +2,10 @@
 # Tests of the built program, ./bsonfind, over files, pipes and devices: standard output, standard error and exit
 # statuses. A line for each test; the last line is 'N passed, M failed', and the status is 0 where nothing failed.
 set -u
-cd "$(dirname "$0")/.." || exit 1
+cd "$(dirname "$0")/../.." || exit 1
 root=$PWD
 program=$root/bsonfind
-tokens=$PWD/tests/tokens.py
+tokens=$PWD/tests/program/tokens.py
 people=$PWD/examples/people
 shop=$PWD/examples/shop
 room=$(mktemp -d) || exit 1
@@ -464,7 +464,7 @@ run find pair.bson --query '{"a":{"$gt":4}}' --sort '{"a":1}' --batch 1
 expect 'a sort asks nothing of the query' 0 '{"a":[{"$numberInt":"1"},{"$numberInt":"9"}]}' \
 	"$(told 1 more pair.bson 0 --query '{"a":{"$gt":4}}' --sort '{"a":1}')"
 
-# Tokens. What a token leads on to, and the pages of an answer, are in tests/pages.py too.
+# Tokens. What a token leads on to, and the pages of an answer, are in tests/program/pages.py too.
 
 for number in 0 1 2 3 4; do echo "{\"a\":$number}"; done | "$program" pack - >five.bson 2>err
 "$program" dump five.bson >five.lines 2>err
@@ -976,7 +976,7 @@ expect 'a large dump in little memory' 0 819200 '819200 objects found'
 large 32 | (ulimit -v 49152 && run check -)
 expect 'a large check in little memory' 0 '' '819200 documents, 0 faulty'
 
-# A session. A command is a line of standard input, and its reply one of standard output. tests/talk.py talks with one.
+# A session. A command is a line of standard input, and its reply one of standard output. tests/program/talk.py talks with one.
 
 # Each command, and below it the reply.
 cat >talk.txt <<'END'
@@ -1392,15 +1392,18 @@ installed() {
 
 # The files of the package of Python, where this one looks for them.
 packages=$("$root/tools/packages.py" /usr)
-package=$(cd "$root/python" && printf ".$packages/%s\n" bsonfind/*.py bsonfind/py.typed | sort)
+package=$(cd "$root/python" && printf ".$packages/%s\n" bsonfind/*.py bsonfind/py.typed bsonfind/VERSION | sort)
+examples=$(cd "$root" && printf './usr/share/doc/bsonfind/%s\n' examples/* | sort)
 
 installed install
 expect 'make install' 0 "./usr/bin/bsonfind
 $package
 ./usr/share/bash-completion/completions/bsonfind
+./usr/share/doc/bsonfind/CHANGELOG.md
 ./usr/share/doc/bsonfind/GUIDE.md
 ./usr/share/doc/bsonfind/LICENSE
 ./usr/share/doc/bsonfind/README.md
+$examples
 ./usr/share/fish/vendor_completions.d/bsonfind.fish
 ./usr/share/man/man1/bsonfind.1
 ./usr/share/zsh/site-functions/_bsonfind" ''

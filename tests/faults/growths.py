@@ -1,9 +1,9 @@
 #!/usr/bin/env python3
 """Runs ./bsonfind with each growth of its memory refused in turn: alone, and with all that come after it.
 
-usage: tests/growths.py     The last line is 'N passed, M failed'.
+usage: tests/faults/growths.py     The last line is 'N passed, M failed'.
 
-The inputs and the whole answers are written by hand, or are those of examples/; tests/tokens.py makes tokens. With a growth
+The inputs and the whole answers are written by hand, or are those of examples/; tests/program/tokens.py makes tokens. With a growth
 refused a run gives the whole answer, where it does without; else it writes lines of it from the front (`pack` documents), tells
 `bsonfind: no memory` and nothing else, and has status 1.
 """
@@ -12,12 +12,15 @@ import sys
 from collections.abc import Iterator
 from functools import partial
 from itertools import accumulate
+from pathlib import Path
 from typing import NamedTuple
 
-from answers import digest, token_of
+sys.path.insert(0, str(Path(__file__).resolve().parents[1]))
+
 from failing import Failing, Ran, Tests, main
-from pages import ROOT
-from sessions import request_text
+from model.answers import digest, token_of
+from model.sessions import request_text
+from support import ROOT
 
 STARVED = b"bsonfind: no memory\n"
 USAGE = """\

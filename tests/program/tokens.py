@@ -1,7 +1,7 @@
 #!/usr/bin/env python3
 """The token after a batch of `find`, by Python's hashlib and base64.
 
-usage: tests/tokens.py FILE GIVEN LAST [--query Q] [--sort S] [--skip N] [--limit N]
+usage: tests/program/tokens.py FILE GIVEN LAST [--query Q] [--sort S] [--skip N] [--limit N]
 
 Prints the token which says that of this dump and this request GIVEN documents were given, the last of them the one of number LAST.
 """
@@ -10,8 +10,10 @@ import argparse
 import sys
 from pathlib import Path
 
-from answers import digest, token_of
-from sessions import request_text
+sys.path.insert(0, str(Path(__file__).resolve().parents[1]))
+
+from model.answers import digest, token_of
+from model.sessions import request_text
 
 
 def main() -> int:

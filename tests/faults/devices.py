@@ -1,7 +1,7 @@
 #!/usr/bin/env python3
 """Runs ./bsonfind over inputs and outputs that fail, each read and each write in turn.
 
-usage: tests/devices.py     The last line is 'N passed, M failed'.
+usage: tests/faults/devices.py     The last line is 'N passed, M failed'.
 
 - Each read of an input fails, of a file and of pipes, with a block a read and with a byte a read: what is shown is that of the
   bytes before, and nothing is read again.
@@ -9,8 +9,9 @@ usage: tests/devices.py     The last line is 'N passed, M failed'.
   nothing is written again.
 - All goes well with a byte a read and a byte a write.
 - Files that shrink and grow while they are read, inputs without end, outputs that are closed or that no one reads.
+- The longest input, and one byte more.
 
-The inputs and the whole answers are written by hand, or are those of examples/; tests/tokens.py makes tokens.
+The inputs and the whole answers are written by hand, or are those of examples/; tests/program/tokens.py makes tokens.
 """
 
 import errno
@@ -25,11 +26,13 @@ from itertools import accumulate
 from pathlib import Path
 from typing import NamedTuple
 
-from answers import digest, token_of
+sys.path.insert(0, str(Path(__file__).resolve().parents[1]))
+
 from failing import PATIENCE, PIPE, PROGRAM, Failing, Ran, Tests, await_stop, main
 from growths import BAD, BINARY, DOUBLE, FIVE, FIVE_DUMP, INT32, INT32_LINE, INT64, SEVERAL, STARVED, TALK, USAGE, counted, frames, lines
-from pages import ROOT
-from sessions import request_text
+from model.answers import digest, token_of
+from model.sessions import request_text
+from support import ROOT
 
 # The file of an input, in the words of a run.
 FILE = "FILE"
@@ -382,7 +385,7 @@ def test_closed(tests: Tests, failing: Failing) -> None:
 
 
 def test_full(tests: Tests, failing: Failing) -> None:
-    """Outputs that are full, of runs that tests/program.sh has not."""
+    """Outputs that are full, of runs that tests/program/program.sh has not."""
     with open("/dev/full", "wb") as full:
         for case in SMALL[3:4] + TOLD[5:8] + LARGE:
             way, (_, out, err) = of_file(failing, case), case.answer
@@ -446,5 +449,29 @@ def test_endless(tests: Tests, failing: Failing) -> None:
         tests.want(f"{name}, an input without end in 64 MiB of memory", ran == Ran(1, b"", STARVED), ran)
 
 
+def fed(words: list[str], part: bytes, count: int, last: bytes) -> tuple[int, bytes]:
+    """The status and the standard error of a run over so many parts and then the last bytes."""
+    with subprocess.Popen([PROGRAM, *words], stdin=subprocess.PIPE, stdout=subprocess.DEVNULL, stderr=subprocess.PIPE) as run:
+        for _ in range(count):
+            run.stdin.write(part)
+        run.stdin.write(last)
+        run.stdin.close()
+        told = run.stderr.read()
+    return run.returncode, told
+
+
+def test_too_long(tests: Tests, failing: Failing) -> None:
+    """What reads as it goes takes 4,294,967,295 bytes, and tells one more with the count of all documents before it."""
+    text = b"x" * 65524
+    # A document of 65,537 bytes: 65,535 of them are as many bytes as an input may have.
+    one = (65537).to_bytes(4, "little") + b"\2a\0" + (65525).to_bytes(4, "little") + text + b"\0\0"
+    part = one * 15
+    for name, words, count in (("check", ["check", "-"], b"65535 documents, 0 faulty\n"), ("dump", ["dump", "-"], b"65535 objects found\n")):
+        ran = fed(words, part, 4369, b"")
+        tests.want(f"{name} of the longest input", ran == (0, count), ran)
+        ran = fed(words, part, 4369, b"\5")
+        tests.want(f"{name} of an input of one byte more", ran == (1, b"bsonfind: input too long\n" + count), ran)
+
+
 if __name__ == "__main__":
-    sys.exit(main([test_reads, test_commands, test_writes, test_whole, test_changes, test_closed, test_full, test_endless]))
+    sys.exit(main([test_reads, test_commands, test_writes, test_whole, test_changes, test_closed, test_full, test_endless, test_too_long]))

@@ -4,8 +4,8 @@ import base64
 import json
 import random
 
-from answers import INT32, LEFT_OUT, LOGICAL, MOST, NULL, RELATIONS, TYPES, UNDEFINED, Token, Value, candidates, number, obj, path_fault, reach, string, written
-from sessions import GREATEST, Find, Session
+from model.answers import INT32, LEFT_OUT, LOGICAL, MOST, NULL, RELATIONS, TYPES, UNDEFINED, Token, Value, candidates, number, obj, path_fault, reach, string, written
+from model.sessions import GREATEST, Find, Session
 
 NAMES = ["a", "a", "a", "b", "b", "c", "0", "1"]
 ODD_NAMES = ["", "a.b", "$a", "$gt", "é", "\0", "2", "00", "a" * 40]

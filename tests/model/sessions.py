@@ -1,17 +1,17 @@
 """What `find` and `serve` should reply, by Python: refusals in their order, cursors with all that they have left, and indexes.
 
-It stands on tests/answers.py, and for the lines of `serve` on tests/texts.py.
+It stands on tests/model/answers.py, and for the lines of `serve` on tests/model/texts.py.
 """
 
 import json
 from dataclasses import dataclass
 from typing import NamedTuple
 
-from answers import (
+from model.answers import (
     FILTER_WORDS, MOST, BadFilter, Dump, Index, Request, Token, Value, bounds_of, check_filter, encoded, is_whole, matches, obj, path_fault,
     read_token, sort_pairs, written,
 )  # fmt: skip
-from texts import NOT_A_DOCUMENT, TEXT_WORDS, TextFault, read_document
+from model.texts import NOT_A_DOCUMENT, TEXT_WORDS, TextFault, read_document
 
 INDEXES, CURSORS = 16, 64
 GREATEST = (1 << 64) - 1

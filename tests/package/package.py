@@ -1,7 +1,7 @@
 #!/usr/bin/env python3
 """Runs the tests of the package in python, as `python3 -m unittest` there does, over ./bsonfind or the program of BSONFIND.
 
-usage: tests/package.py     The last line is 'N passed, M failed'.
+usage: tests/package/package.py     The last line is 'N passed, M failed'.
 """
 
 import os
@@ -9,12 +9,15 @@ import sys
 import unittest
 from pathlib import Path
 
-ROOT = Path(__file__).resolve().parent.parent
+sys.path.insert(0, str(Path(__file__).resolve().parents[1]))
+
+from support import PROGRAM, ROOT
+
 PACKAGE = ROOT / "python"
 
 
 def main() -> int:
-    os.environ.setdefault("BSONFIND", str(ROOT / "bsonfind"))
+    os.environ.setdefault("BSONFIND", str(PROGRAM))
     sys.path.insert(0, str(PACKAGE))
     suite = unittest.defaultTestLoader.discover(str(PACKAGE / "tests"), top_level_dir=str(PACKAGE))
     result = unittest.TextTestRunner(stream=sys.stdout).run(suite)

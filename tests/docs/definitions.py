@@ -1,10 +1,11 @@
 #!/usr/bin/env python3
 """Looks whether docs/DEFINITIONS.md and the roots of the crates name what there is, and all that contracts cite.
 
-usage: tests/definitions.py     The last line is 'N passed, M failed'. It wants neither the program nor a proof.
+usage: tests/docs/definitions.py     The last line is 'N passed, M failed'. It wants neither the program nor a proof.
 
 - Each name in docs/DEFINITIONS.md is one of a definition or of the code, and each file that it names is there.
-- Each definition that the contract of a public function cites is named in it.
+- The section of a crate in it names each file of the crate's definitions, and each definition of the crate that the contract of a
+  public function cites.
 - The root of each crate names its modules, and each file of specs that it names is there.
 """
 
@@ -13,7 +14,10 @@ import sys
 from collections.abc import Iterator
 from pathlib import Path
 
-ROOT = Path(__file__).resolve().parent.parent
+sys.path.insert(0, str(Path(__file__).resolve().parents[1]))
+
+from support import ROOT
+
 CRATES = sorted(it for it in (ROOT / "crates").iterdir() if not it.name.endswith("_tests"))
 DEFINITIONS = ROOT / "docs/DEFINITIONS.md"
 
@@ -73,17 +77,18 @@ def signatures(text: str) -> Iterator[tuple[str, str]]:
             yield head[2], "\n".join(signature)
 
 
-def cited() -> dict[str, str]:
-    """The definitions that contracts of public functions cite, and one such function each."""
-    found: dict[str, str] = {}
+def cited() -> dict[tuple[str, str], str]:
+    """The definitions that contracts of public functions cite, by crate and name, and one such function each."""
+    found: dict[tuple[str, str], str] = {}
     for crate in CRATES:
         for path in sources(crate, ".rt"):
             text = text_of(path)
-            known: dict[str, str] = {}
-            for module, names in re.findall(r"^\s*ghost use Rattle\.bd_\w+\.(specs[\w.]*)\.\{([^}]*)\};", text, re.M):
-                if "declared" not in module:
+            known: dict[str, tuple[str, str]] = {}
+            for owner, module, names in re.findall(r"^\s*ghost use Rattle\.(bd_\w+)\.(specs[\w.]*)\.\{([^}]*)\};", text, re.M):
+                # What the compiler writes for a type, `contracts`, is no definition.
+                if "declared" not in module and "contracts" not in module:
                     pairs = [name.split(" as ") for name in names.split(",")]
-                    known.update({pair[-1].strip(): pair[0].strip() for pair in pairs})
+                    known.update({pair[-1].strip(): (owner, pair[0].strip()) for pair in pairs})
             for name, signature in signatures(text):
                 for word in re.findall(r"[\w-]+", signature):
                     if word in known:
@@ -102,18 +107,30 @@ def roots() -> Iterator[tuple[bool, str]]:
             yield (crate / name).exists(), f"{crate.name}: its root names {name}, which is not there"
 
 
+def quoted_in(text: str) -> dict[str, None]:
+    return dict.fromkeys(re.findall(r"`([^`\n]+)`", text))
+
+
 def names() -> Iterator[tuple[bool, str]]:
     there = defined() | coded() | WORDS
     files = [str(path.relative_to(ROOT)) for crate in CRATES for suffix in (".antt", ".rt") for path in sources(crate, suffix)]
-    quoted = dict.fromkeys(re.findall(r"`([^`\n]+)`", text_of(DEFINITIONS)))
+    text = text_of(DEFINITIONS)
+    quoted = quoted_in(text)
     for name in quoted:
         if re.fullmatch(r"[\w/]+\.(?:antt|rt)", name):
             yield any(f"/{file}".endswith(f"/{name}") for file in files), f"docs/DEFINITIONS.md names {name}, which is not there"
         elif re.fullmatch(r"[A-Za-z_][\w-]*", name):
             yield name in there, f"docs/DEFINITIONS.md names {name}, which is not there"
-    for name, function in sorted(cited().items()):
+    sections = {head: quoted_in(body) for head, body in re.findall(r"^## (bd_\w+)(.*?)(?=^## |\Z)", text, re.M | re.S)}
+    for (crate, name), function in sorted(cited().items()):
         if name not in CONSTRUCTORS:
-            yield name in quoted, f"docs/DEFINITIONS.md does not name {name}, which a contract cites ({function})"
+            yield name in sections.get(crate, ()), f"docs/DEFINITIONS.md does not name {name} of {crate}, which a contract cites ({function})"
+    for crate in CRATES:
+        folder = crate / "specs"
+        for path in sorted(folder.rglob("*.antt")):
+            name = str(path.relative_to(folder))
+            if re.search(r"^(?!pub mod |--|\s*$)", text_of(path), re.M):
+                yield name in sections.get(crate.name, ()), f"docs/DEFINITIONS.md does not name the file {name} of {crate.name}"
 
 
 def main() -> int:

@@ -2,13 +2,14 @@
 """Runs what the documents show with ./bsonfind: README.md up to its first heading, the recipes of docs/GUIDE.md, the examples of
 the man page.
 
-usage: tests/guide.py     The last line is 'N passed, M failed'. It needs jq.
+usage: tests/docs/guide.py     The last line is 'N passed, M failed'. It needs jq; recipes with pv and node are run where these are there.
 
 - Of README.md and the guide what is printed is compared, line by line in any order.
 - The status is 0, unless the lines show a fault.
 - Each command that reads a file is also run where this file is damaged, and where it is missing. Its status is then not 0, and no
   script prints a traceback.
 - The first command of a document is `set -o pipefail`, and none throws standard error away.
+- No block of the guide has more than 15 lines of commands or of a script.
 """
 
 import gzip
@@ -21,14 +22,22 @@ import tempfile
 from pathlib import Path
 from typing import NamedTuple
 
-ROOT = Path(__file__).resolve().parent.parent
+sys.path.insert(0, str(Path(__file__).resolve().parents[1]))
+
+from support import ROOT
+
 # What a command writes, and a word of it that may name a file.
-WRITTEN = re.compile(r"\d?>>?\s*\S+|\bmv \S+ \S+|\bof=\S+")
+WRITTEN = re.compile(r"\d?>>?\s*\S+|\bmv \S+ \S+|\btee \S+|\bof=\S+|--(?:good|bad) \S+")
 WORD = re.compile(r"(?<![\w./$*-])(?<!bsonfind )\w[\w./*-]*")
 FUNCTION = re.compile(r"(\w+)\(\) \{")
 # Programs that see a damaged file; cp, head and others take it as it is.
-JUDGES = re.compile(r"\b(?:bsonfind|python3|bash)\b")
-FAULT = re.compile(r"\bbsonfind: |^\w+\.(?:py|sh): |, [1-9]\d* faulty$", re.MULTILINE)
+JUDGES = re.compile(r"\b(?:bsonfind|python3|bash|node)\b")
+FAULT = re.compile(r"\bbsonfind: |^\w+\.(?:py|sh|mjs): |, [1-9]\d* faulty$|, [1-9]\d* to bad\.|, [1-9]\d* bytes left out$", re.MULTILINE)
+# A program that a machine may not have, where a command begins with it or pipes to it.
+OPTIONAL = re.compile(r"(?:^|\| )(node|pv)\b")
+SCRIPTS = (".py", ".sh", ".mjs", ".jq")
+# The lines of a block, without what its commands print.
+MOST_LINES = 15
 
 
 class Step(NamedTuple):
@@ -44,7 +53,8 @@ class Shell:
     LOOP = 'while IFS= read -rd "" command; do eval "$command" </dev/null >"$0" 2>&1; echo $?; done'
 
     def __init__(self, room: Path, printed: Path) -> None:
-        env = {**os.environ, "PATH": f"{ROOT}:{os.environ['PATH']}", "LC_ALL": "C"}
+        env = {**os.environ, "PATH": f"{ROOT}:{os.environ['PATH']}", "PYTHONPATH": f"{ROOT}/python", "LC_ALL": "C"}
+        env["PYTHONDONTWRITEBYTECODE"] = "1"
         self.printed = printed
         pipe = subprocess.PIPE
         self.bash = subprocess.Popen(["bash", "-c", self.LOOP, printed], cwd=room, env=env, stdin=pipe, stdout=pipe, text=True)
@@ -74,7 +84,8 @@ class Counts:
 
 
 def recipes(text: str, room: Path) -> list[Step]:
-    """The commands of a document. Lines without one are a file, which the paragraph before them names, and are written as that."""
+    """The commands of a document. Lines without one are a file, if the paragraph before them says `This is` and its name, and else
+    something that is not run here."""
     steps: list[Step] = []
     ended = 0
     for block in re.finditer(r"(?:^    .*\n|^\n(?=    ))+", text, re.MULTILINE):
@@ -82,13 +93,20 @@ def recipes(text: str, room: Path) -> list[Step]:
         ended = block.end()
         lines = re.sub("^    ", "", block[0].strip("\n"), flags=re.MULTILINE)
         content, *commands = re.split(r"^\$ ", lines, flags=re.MULTILINE)
-        name = re.search(r"`(\w+\.(?:py|sh|json|log))`", paragraph)
+        name = re.search(r"This is\s+(?:an?\s+)?`([\w.]+)`:$", paragraph)
         if content and name:
             Path(room, name[1]).write_text(content.strip("\n") + "\n", encoding="utf-8")
         for command in commands:
             line, _, wanted = command.partition("\n")
             steps.append(Step(line, wanted))
     return steps
+
+
+def long_blocks(text: str) -> list[str]:
+    """The first lines of the blocks of a document that have too many lines, of commands or of a script."""
+    blocks = [it[0].splitlines() for it in re.finditer(r"(?:^    .*\n|^\n(?=    \S))+", text, re.MULTILINE)]
+    own = [[line for line in lines if line.startswith("    $ ")] or [line for line in lines if line.strip()] for lines in blocks]
+    return [lines[0].strip() for lines in own if len(lines) > MOST_LINES]
 
 
 def examples(text: str) -> list[Step]:
@@ -110,7 +128,7 @@ def inputs(command: str, room: Path) -> dict[str, list[Path]]:
     found = {}
     for word in dict.fromkeys(it for it in WORD.findall(command) if it not in written):
         files = [below for it in room.glob(word) for below in (it.rglob("*") if it.is_dir() else [it]) if below.is_file()]
-        if files := [it.relative_to(room) for it in files if it.suffix not in (".py", ".sh")]:
+        if files := [it.relative_to(room) for it in files if it.suffix not in SCRIPTS]:
             found[word] = files
     return found
 
@@ -145,6 +163,10 @@ def run(steps: list[Step], room: Path, counts: Counts) -> None:
     with tempfile.TemporaryDirectory() as folder:
         shell = Shell(room, Path(folder, "printed"))
         for command, wanted in steps:
+            program = OPTIONAL.search(command)
+            if program and not shutil.which(program[1]):
+                print(f"not run, since there is no {program[1]}: {command}")
+                continue
             if name := FUNCTION.match(command):
                 functions[name[1]] = command
             else:
@@ -172,6 +194,8 @@ def main() -> int:
                 steps = recipes(text.partition("\n## ")[0] if name == "README.md" else text, room)
             counts.want(steps[0].command == "set -o pipefail", f"the first command of {name}", steps[0].command)
             counts.want(not re.search(r"[2&]> *&?/dev/null", text), f"{name} throws no standard error away", "")
+            if name == "docs/GUIDE.md":
+                counts.want(not (long := long_blocks(text)), f"the blocks of {name} have at most {MOST_LINES} lines", "\n".join(long))
             run(steps, room, counts)
     print(f"{counts.passed} passed, {counts.failed} failed")
     return 1 if counts.failed else 0

@@ -1,9 +1,9 @@
 #!/usr/bin/env python3
 """Runs ./bsonfind over damaged dumps, texts and commands, and over random requests, and looks for a crash, a hang or a wrong answer.
 
-usage: tests/hostile.py SECONDS [SEED]
+usage: tests/hostile/hostile.py SECONDS [SEED]
 
-What is packed, found and replied is compared with what Python makes of the same input (tests/dumps.py, texts.py, answers.py, sessions.py).
+What is packed, found and replied is compared with what Python makes of the same input (tests/model/dumps.py, texts.py, answers.py, sessions.py).
 Each run has a stack of 1 MiB, and some have little memory. An input that fails is kept, in a directory that is named,
 with the command and the reason.
 The last line is 'N passed, M failed', which counts inputs.
@@ -19,14 +19,15 @@ import time
 from pathlib import Path
 from typing import NamedTuple
 
-from answers import Dump, Value, encoded, obj, written
-from dumps import read_dump
-from inputs import Inputs
-from sessions import Find, Session, packed
-from texts import WRAPPERS, read_document
+sys.path.insert(0, str(Path(__file__).resolve().parents[1]))
 
-ROOT = Path(__file__).resolve().parent.parent
-PROGRAM = ROOT / "bsonfind"
+from model.answers import Dump, Value, encoded, obj, written
+from model.dumps import read_dump
+from model.inputs import Inputs
+from model.sessions import Find, Session, packed
+from model.texts import WRAPPERS, read_document
+from support import PROGRAM, ROOT
+
 STACK = 1 << 20
 TIMEOUT = 60
 SHALLOW = 300  # documents of the examples to begin with, which stand before others

@@ -1,7 +1,7 @@
 #!/usr/bin/env python3
 """Rows over the built program: what goes in, and what comes out, a row a line of tests/rows/KIND-SUBJECT.jsonl.
 
-usage: tests/rows.py [--program PATH].. [FILE..]     The last line is 'N passed, M failed'.
+usage: tests/rows/rows.py [--program PATH].. [FILE..]     The last line is 'N passed, M failed'.
 
 Without --program each row runs over ./bsonfind. A failure names its file and line. The kinds are the functions of KINDS.
 A row is JSON whose names may stand twice and in any order that matters; where the form of a text matters it is a string.
@@ -18,10 +18,12 @@ from collections.abc import Callable, Iterator
 from concurrent.futures import ThreadPoolExecutor
 from pathlib import Path
 
-from answers import digest, token_of
-from sessions import request_text
+sys.path.insert(0, str(Path(__file__).resolve().parents[1]))
 
-ROOT = Path(__file__).resolve().parent.parent
+from model.answers import digest, token_of
+from model.sessions import request_text
+from support import PROGRAM, ROOT
+
 ROWS = ROOT / "tests/rows"
 # How many seconds a run may take.
 PATIENCE = 60
@@ -400,7 +402,7 @@ def main(words: list[str]) -> int:
         word = words.pop(0)
         programs.append(Path(words.pop(0)).resolve()) if word == "--program" else files.append(Path(word))
     passed = failed = 0
-    for path in programs or [ROOT / "bsonfind"]:
+    for path in programs or [PROGRAM]:
         for file in sorted(files or ROWS.glob("*.jsonl")):
             kind = KINDS[re.match(r"[a-z]+", file.name)[0]]
             tried = 0

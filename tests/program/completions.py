@@ -1,7 +1,7 @@
 #!/usr/bin/env python3
 """Asks bash, zsh and fish, as they run, what they offer after a line: commands, options that the line has not, and files.
 
-usage: tests/completions.py     The last line is 'N passed, M failed'; bash, zsh and fish are wanted, and not the program.
+usage: tests/program/completions.py     The last line is 'N passed, M failed'; bash, zsh and fish are wanted, and not the program.
 """
 
 import os
@@ -15,7 +15,11 @@ import tempfile
 from collections.abc import Callable
 from pathlib import Path
 
-COMPLETIONS = Path(__file__).resolve().parent.parent / "completions"
+sys.path.insert(0, str(Path(__file__).resolve().parents[1]))
+
+from support import ROOT
+
+COMPLETIONS = ROOT / "completions"
 COMMANDS = {"dump", "check", "pack", "find", "serve"}
 OPTIONS = {"--query", "--sort", "--skip", "--limit", "--batch", "--index", "--after"}
 DUMPS = {"one.bson", "two.bson", "room/"}

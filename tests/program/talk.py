@@ -1,14 +1,15 @@
 #!/usr/bin/env python3
 """Talks with ./bsonfind serve over pipes: each command is sent when the reply to the one before it has come.
 
-usage: tests/talk.py     The last line is 'N passed, M failed'.
+usage: tests/program/talk.py     The last line is 'N passed, M failed'.
 
-The dump is examples/people.bson. The replies that are wanted are made by Python: see tests/sessions.py.
+The dump is examples/people.bson. The replies that are wanted are made by Python: see tests/model/sessions.py.
 
 - Pages of some requests by one run, their cursors in turn, with and without indexes.
 - An answer that a second run goes on with, by the token that the first one gave.
 - What is told of indexes and plans.
 - Commands in pieces, several at once, and without their newline; what no longer reads or can be read.
+- The greatest batches in little memory.
 """
 
 import json
@@ -17,11 +18,14 @@ import select
 import subprocess
 import sys
 import time
+from pathlib import Path
 
-from pages import DUMP, PEOPLE, REQUESTS, ROOT, Tests
-from sessions import Find, Session
+sys.path.insert(0, str(Path(__file__).resolve().parents[1]))
 
-PROGRAM = ROOT / "bsonfind"
+from model.sessions import Find, Session
+from pages import DUMP, PEOPLE, REQUESTS
+from support import PROGRAM, ROOT, Tests
+
 # How many seconds a reply may take.
 PATIENCE = 60.0
 
@@ -207,9 +211,21 @@ def test_devices(tests: Tests) -> None:
         tests.want("a reply that no one reads ends the run", (talk.run.wait(PATIENCE), told) == (1, b"bsonfind: cannot write\n"), told)
 
 
+def test_greatest(tests: Tests) -> None:
+    """In 64 MiB of memory: a batch without a size, and one of the greatest, take memory for the documents that they have."""
+    limited = ["sh", "-c", 'ulimit -v 65536 && exec "$0" "$@"', PROGRAM]
+    ran = subprocess.run([*limited, "find", DUMP], stdin=subprocess.DEVNULL, capture_output=True)
+    tests.want("find without --batch", (ran.returncode, ran.stdout, ran.stderr.decode()) == Find().shown(PEOPLE), ran)
+    commands = [b'{"find":{}}', b'{"getMore":1,"batch":2147483647}']
+    session = Session(PEOPLE)
+    wanted = "".join(session.reply(command) + "\n" for command in commands)
+    ran = subprocess.run([*limited, "serve", DUMP], input=b"".join(it + b"\n" for it in commands), capture_output=True)
+    tests.want("getMore of the greatest batch", (ran.returncode, ran.stdout.decode(), ran.stderr) == (0, wanted, b""), ran)
+
+
 def main() -> int:
     tests = Tests()
-    for test in (test_pages, test_resumed, test_indexes, test_pieces, test_devices):
+    for test in (test_pages, test_resumed, test_indexes, test_pieces, test_devices, test_greatest):
         try:
             test(tests)
         except Silence as silence:

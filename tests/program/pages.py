@@ -1,13 +1,13 @@
 #!/usr/bin/env python3
 """Tests of ./bsonfind find page by page over examples/people.bson, each page by a run of its own from the token before.
 
-usage: tests/pages.py     The last line is 'N passed, M failed'.
+usage: tests/program/pages.py     The last line is 'N passed, M failed'.
 
-The answers come from examples/people.jsonl by Python: see tests/answers.py.
+The answers come from examples/people.jsonl by Python: see tests/model/answers.py.
 
 - Of some requests the pages of each size from 1 to 7, and all that the program tells of them.
 - The digests of their tokens, by sha256sum.
-- The tokens of tests/tokens.txt, with what follows them. `tests/pages.py --write` makes this file.
+- The tokens of tests/program/tokens.txt, with what follows them. `tests/program/pages.py --write` makes this file.
 """
 
 import base64
@@ -16,15 +16,17 @@ import sys
 from concurrent.futures import ThreadPoolExecutor
 from pathlib import Path
 
-from answers import Dump, Token
-from sessions import Find
-from texts import read_document
+sys.path.insert(0, str(Path(__file__).resolve().parents[1]))
 
-ROOT = Path(__file__).resolve().parent.parent
+from model.answers import Dump, Token
+from model.sessions import Find
+from model.texts import read_document
+from support import PROGRAM, ROOT, Tests
+
 DUMP = ROOT / "examples/people.bson"
 LINES = (ROOT / "examples/people.jsonl").read_bytes().splitlines(keepends=True)
 PEOPLE = Dump(list(map(read_document, LINES)), DUMP.read_bytes())
-VECTORS = ROOT / "tests/tokens.txt"
+VECTORS = ROOT / "tests/program/tokens.txt"
 SIZES = range(1, 8)
 
 REQUESTS = {
@@ -37,7 +39,7 @@ REQUESTS = {
     "a filter and a sort": Find('{"note":{"$exists":true}}', '{"name":-1}'),
 }
 
-# Of which tests/tokens.txt has the token after so many documents; of the last two another count or place than those of the answer.
+# Of which tests/program/tokens.txt has the token after so many documents; of the last two another count or place than those of the answer.
 TOKENS = [
     (Find(limit=5), 2, 1),
     *((Find(sort=f'{{"{path}":{way}}}', limit=9), 4, None) for path in ("age", "name", "scores", "address.city") for way in (1, -1)),
@@ -49,23 +51,9 @@ TOKENS = [
 ]
 
 
-class Tests:
-    """Counts what passed."""
-
-    def __init__(self) -> None:
-        self.passed = self.failed = 0
-
-    def want(self, name: str, is_so: bool, said: object = "") -> None:
-        if is_so:
-            self.passed += 1
-        else:
-            self.failed += 1
-            print(f"FAILED: {name}: {said}")
-
-
 def run(find: Find) -> tuple[int, bytes, str]:
     """How a run ends, and what it writes."""
-    ran = subprocess.run([ROOT / "bsonfind", "find", DUMP, *find.words()], stdin=subprocess.DEVNULL, capture_output=True)
+    ran = subprocess.run([PROGRAM, "find", DUMP, *find.words()], stdin=subprocess.DEVNULL, capture_output=True)
     return ran.returncode, ran.stdout, ran.stderr.decode()
 
 

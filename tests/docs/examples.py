@@ -1,14 +1,14 @@
 #!/usr/bin/env python3
 """Looks whether the example in the root of each library is the one that its crate of tests proves and runs.
 
-usage: tests/examples.py
+usage: tests/docs/examples.py
 """
 import glob
 import os
 import re
 import sys
 
-ROOT = os.path.dirname(os.path.dirname(os.path.realpath(__file__)))
+ROOT = os.path.dirname(os.path.dirname(os.path.dirname(os.path.realpath(__file__))))
 SHOWN = re.compile(r"//! An example, which `(\w+)` proves and runs as `examples::(\w+)`:\n//!\n//! ```\n(.*?)//! ```\n", re.S)
 
 

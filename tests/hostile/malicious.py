@@ -1,7 +1,7 @@
 #!/usr/bin/env python3
 """Runs ./bsonfind over inputs that are made to cost much, each in two sizes, and looks at the times beside the sizes.
 
-usage: tests/malicious.py [full]     The last line is 'N passed, M failed'.
+usage: tests/hostile/malicious.py [full]     The last line is 'N passed, M failed'.
 
 A run has a stack of 1 MiB. It may not end by a signal, has to answer as it is stated here, and its processor time and its
 memory may grow as the input does: one of eight times the size may take sixteen times as much, which leaves room for sorts, for
@@ -19,11 +19,12 @@ from collections.abc import Callable, Iterator
 from pathlib import Path
 from typing import NamedTuple
 
-from answers import LEVELS, BadFilter, check_filter
-from texts import read_document
+sys.path.insert(0, str(Path(__file__).resolve().parents[1]))
 
-ROOT = Path(__file__).resolve().parent.parent
-PROGRAM = ROOT / "bsonfind"
+from model.answers import LEVELS, BadFilter, check_filter
+from model.texts import read_document
+from support import PROGRAM, ROOT
+
 STACK = 1 << 20
 SECONDS = 300  # of processor time; then a signal ends the run
 MARGIN = 2.0

@@ -1,6 +1,6 @@
-"""Runs ./bsonfind over tests/failing.c, by which growths of memory, reads and writes fail.
+"""Runs ./bsonfind over tests/faults/failing.c, by which growths of memory, reads and writes fail.
 
-For tests/growths.py and tests/devices.py. Where there is no C compiler there is no library, and their tests are passed over.
+For tests/faults/growths.py and tests/faults/devices.py. Where there is no C compiler there is no library, and their tests are passed over.
 """
 
 import fcntl
@@ -19,10 +19,9 @@ from contextlib import ExitStack, contextmanager
 from pathlib import Path
 from typing import NamedTuple, TypeVar
 
-from pages import ROOT, Tests
+from support import PROGRAM, ROOT, Tests
 
-PROGRAM = ROOT / "bsonfind"
-SOURCE = ROOT / "tests/failing.c"
+SOURCE = ROOT / "tests/faults/failing.c"
 # How many seconds a run may take.
 PATIENCE = 60.0
 # So many runs side by side.

@@ -8,7 +8,7 @@ import re
 from collections.abc import Callable, Iterator
 from typing import NamedTuple
 
-from answers import INT32, INT64, UNDEFINED, Value
+from model.answers import INT32, INT64, UNDEFINED, Value
 
 BRACKETS, LEVELS = 203, 200
 SYNTAX, NOT_A_DOCUMENT, TOO_DEEP, BAD_WRAPPER, NOT_IN_PROFILE, NUMBER_RANGE, NUL_IN_NAME, TRAILING_TEXT = range(1, 9)

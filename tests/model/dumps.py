@@ -2,7 +2,7 @@
 
 from typing import NamedTuple
 
-from answers import KINDS, Value, written
+from model.answers import KINDS, Value, written
 
 LONGEST, LEVELS = 16793600, 200
 (

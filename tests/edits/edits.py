@@ -30,8 +30,11 @@ from pathlib import Path
 from types import ModuleType
 from typing import NamedTuple
 
+sys.path.insert(0, str(Path(__file__).resolve().parents[1]))
+
+from support import ROOT
+
 sys.dont_write_bytecode = True
-ROOT = Path(__file__).resolve().parent.parent
 # How long --round may take, and how many edits it takes at most, since it mostly runs where no work is kept.
 SECONDS, AT_MOST = 330, 8
 ITEM = re.compile(r" *(?:pub(?:\([^)]*\))? )?(?:(?:const|unsafe|extern \"C\") )*(fn|impl|trait|mod)\b(.*)")

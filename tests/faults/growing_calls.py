@@ -1,10 +1,10 @@
 #!/usr/bin/env python3
 """Runs the tests of crates/bd_growth_tests with each growth of their memory refused in turn, one a run.
 
-usage: tests/growing_calls.py [PROGRAM]   The last line is 'N passed, M failed'.
+usage: tests/faults/growing_calls.py [PROGRAM]   The last line is 'N passed, M failed'.
 
 PROGRAM is the tests as the gate, or `rt test` in that crate, proved and built them. Of each test the first growth is refused, then
-the second, and so on until a run meets no refusal; that run passes too. They run over tests/failing.c; without a C compiler, `cc`,
+the second, and so on until a run meets no refusal; that run passes too. They run over tests/faults/failing.c; without a C compiler, `cc`,
 nothing is tested.
 """
 
@@ -15,9 +15,11 @@ import sys
 import tempfile
 from pathlib import Path
 
-from failing import LAYOUT, PATIENCE, SOURCE
+sys.path.insert(0, str(Path(__file__).resolve().parents[1]))
 
-ROOT = Path(__file__).resolve().parent.parent
+from failing import LAYOUT, PATIENCE, SOURCE
+from support import ROOT
+
 PROGRAM = ROOT / "crates/bd_growth_tests/out/bd_growth_tests_tests"
 # No test has so many growths.
 MOST = 100_000
