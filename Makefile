@@ -1,14 +1,17 @@
-# make            builds the program, ./bsonfind
+# make            builds the program, ./bsonfind; with ANEW=1 from nothing, whatever was proved before
 # make look       prints the documents of FILE, examples/shop.bson without it, by the program as it stands, with no proof
 # make test       passes all tests
 # make edits      tries wrong bodies, of CRATE alone where it is given: the proofs must refuse each
 # make bench      times the commands over a dump of MB megabytes, 20 without it, of documents of a KIND, mixed without it; of several MB how cost grows
 # make install    puts the program, its man page, completions, licence, documents and package of Python below PREFIX
 # make uninstall  takes them away
-# make clean      removes the program, and the proofs and builds that rt keeps
+# make deb        builds the program, and puts the same files in a package of Debian, below dist
+# make dist       builds the program, and puts the same files in a tar.gz, below dist
+# make clean      removes the program, the packages, and the proofs and builds that rt keeps
 #
 # Nothing but rt is wanted on PATH, and python3, which rt wants too.
 
+VERSION := $(shell cat VERSION)
 PYTHON = python3
 FILE = examples/shop.bson
 MB = 20
@@ -23,14 +26,15 @@ ZSH = $(SHARE)/zsh/site-functions
 FISH = $(SHARE)/fish/vendor_completions.d
 # Where the Python at hand looks for packages below PREFIX.
 PACKAGE = $(DESTDIR)$(shell $(PYTHON) tools/packages.py "$(PREFIX)")/bsonfind
+MODULES = python/bsonfind/*.py python/bsonfind/py.typed VERSION
 
-.PHONY: all build look test edits bench install uninstall clean
+.PHONY: all build look test edits bench install uninstall deb dist clean
 
 all: build
 
 # Proves what has changed, as many crates side by side as there are processors and memory, and leaves ./bsonfind.
 build:
-	@$(PYTHON) tools/build.py
+	@$(PYTHON) tools/build.py $(if $(ANEW),--anew)
 
 look:
 	@echo 'make look: the program is run as it stands, and nothing of it is proved; make proves and builds it' >&2
@@ -50,22 +54,29 @@ bench: bsonfind
 	$(PYTHON) bench/bench.py $(MB) --kind $(KIND)
 
 install: bsonfind
-	install -d "$(BIN)" "$(DOC)" "$(MAN)" "$(BASH)" "$(ZSH)" "$(FISH)"
+	install -d "$(BIN)" "$(DOC)/examples" "$(MAN)" "$(BASH)" "$(ZSH)" "$(FISH)"
 	install -m 755 bsonfind "$(BIN)/bsonfind"
-	install -m 644 LICENSE README.md docs/GUIDE.md "$(DOC)"
+	install -m 644 LICENSE CHANGELOG.md README.md docs/GUIDE.md "$(DOC)"
+	install -m 644 examples/* "$(DOC)/examples"
 	install -m 644 docs/bsonfind.1 "$(MAN)/bsonfind.1"
+	sed -i 's/^\.Os$$/.Os bsonfind $(VERSION)/' "$(MAN)/bsonfind.1"
 	install -m 644 completions/bsonfind.bash "$(BASH)/bsonfind"
 	install -m 644 completions/_bsonfind "$(ZSH)/_bsonfind"
 	install -m 644 completions/bsonfind.fish "$(FISH)/bsonfind.fish"
-	if command -v $(PYTHON) >/dev/null; then install -d "$(PACKAGE)" && install -m 644 python/bsonfind/*.py python/bsonfind/py.typed "$(PACKAGE)"; fi
+	if command -v $(PYTHON) >/dev/null; then install -d "$(PACKAGE)" && install -m 644 $(MODULES) "$(PACKAGE)"; fi
 
 uninstall:
 	rm -f "$(BIN)/bsonfind" "$(MAN)/bsonfind.1"
 	rm -f "$(BASH)/bsonfind" "$(ZSH)/_bsonfind" "$(FISH)/bsonfind.fish"
-	rm -f "$(DOC)/LICENSE" "$(DOC)/README.md" "$(DOC)/GUIDE.md"
+	rm -f "$(DOC)/LICENSE" "$(DOC)/CHANGELOG.md" "$(DOC)/README.md" "$(DOC)/GUIDE.md"
+	rm -rf "$(DOC)/examples"
 	rmdir "$(DOC)" 2>/dev/null || true
 	if command -v $(PYTHON) >/dev/null; then rm -rf "$(PACKAGE)"; fi
 
+# Both are made from what make install puts below /usr.
+deb dist: build
+	@$(PYTHON) tools/dist.py $@
+
 clean:
 	rm -f bsonfind
-	rm -rf crates/*/out
+	rm -rf crates/*/out dist

@@ -1,9 +1,13 @@
 #!/usr/bin/env python3
 """Proves every crate that the program stands on, and builds the program.
 
+usage: tools/build.py [--anew]     With --anew everything is proved and built, whatever is kept.
+
 The crates are proved by the gate itself, `rt ci`, over a copy that has them alone: without crates of tests and without edits that
 the proofs must refuse. Of a library below `rt ci` loads what is stated, and not how it is proved, and it keeps each crate that is
 proved beside the toolchain: a build that was cut off, a later build and the gate take it from there.
+
+Each build that ends adds a line to .build-times: when, how long, on what, and what it proved. The next one begins with this line.
 """
 
 import os
@@ -20,6 +24,9 @@ from meter import Meter
 
 ROOT = Path(__file__).resolve().parent.parent
 PROGRAM = "bsonfind"
+TIMES = ROOT / ".build-times"
+CUT_OFF = "cut off: each crate that is proved is kept, and make resumes with the others"
+NEXT = "type ./bsonfind dump examples/shop.bson, or make install, make deb, make test"
 # Of a crate, what its proof reads, and what its program is run on.
 PARTS = ("src", "specs", "proofs", "args", "stdin", "stdout")
 
@@ -62,36 +69,63 @@ def copy_crates(crates: dict[str, str], room: str) -> None:
     shutil.copyfile(ROOT / "HANDLES", Path(room, "HANDLES"))
 
 
-def prove(room: str, count: int) -> int:
+def machine() -> str:
+    """Return the processors that this process may use: how many, and their name where the system tells it."""
+    try:
+        found = re.search(r"^model name\s*: (.*)$", Path("/proc/cpuinfo").read_text(errors="replace"), re.MULTILINE)
+    except OSError:
+        found = None
+    return f"{len(os.sched_getaffinity(0))} processors{f' ({found[1]})' if found else ''}"
+
+
+def last_time() -> str:
+    """Return how long the last build took, and on what."""
+    lines = TIMES.read_text(encoding="utf-8").splitlines() if TIMES.is_file() else []
+    return f"the last build here: {lines[-1]}" if lines else "no build has ended here; the first takes 20 to 30 minutes on four idle cores"
+
+
+def prove(room: str, count: int, anew: bool) -> int:
     """Prove the crates of a repository and build its program; print a line a crate; return the status."""
-    started, done, said = time.monotonic(), 0, []
+    started, done, proved, said = time.monotonic(), 0, 0, []
     how = {"stdin": subprocess.DEVNULL, "stdout": subprocess.PIPE, "stderr": subprocess.STDOUT}
-    with subprocess.Popen(["rt", "ci"], cwd=room, text=True, errors="replace", **how) as run:
+    with subprocess.Popen(["rt", "ci", *(["--anew"] if anew else [])], cwd=room, text=True, errors="replace", **how) as run:
         meter = Meter(run.pid)
-        for line in run.stdout or ():
-            said.append(line)
-            found = re.match(r"rt: (\w+) (proved$|is kept)", line)
-            if found:
-                done += 1
-                seconds = meter.seconds()[found[1]]["proof"]
-                took = f"{seconds:.0f} seconds of processor time" if found[2] == "proved" else "proved before"
-                minutes = (time.monotonic() - started) / 60
-                print(f"{found[1]} is proved ({done} of {count}): {took}; {minutes:.1f} minutes so far", flush=True)
-    if run.returncode:
+        try:
+            for line in run.stdout or ():
+                said.append(line)
+                found = re.match(r"rt: (\w+) (proved$|is kept)", line)
+                if found:
+                    done += 1
+                    proved += found[2] == "proved"
+                    seconds = meter.seconds()[found[1]]["proof"]
+                    took = f"{seconds:.0f} seconds of processor time" if found[2] == "proved" else "proved before"
+                    minutes = (time.monotonic() - started) / 60
+                    print(f"{found[1]} is proved ({done} of {count}): {took}; {minutes:.1f} minutes so far", flush=True)
+        except KeyboardInterrupt:
+            # A terminal sends the signal to rt too, which then ends its own processes.
+            try:
+                run.wait(timeout=5)
+            except subprocess.TimeoutExpired:
+                run.terminate()
+            raise
+    if run.returncode < 0:
+        print(CUT_OFF)
+    elif run.returncode:
         print("".join(said)[-8000:])
         print("not every crate is proved, so the program is not built")
+    else:
+        minutes = (time.monotonic() - started) / 60
+        line = f"{time.strftime('%Y-%m-%d')}, {minutes:.1f} minutes on {machine()}; {proved} of {count} crates were proved, the others kept"
+        with TIMES.open("a", encoding="utf-8") as times:
+            print(line, file=times)
     return run.returncode
 
 
-def main() -> int:
-    """Build the program, unless it is built."""
-    crates = lines_of_crates()
-    if is_built(crates):
-        return 0
-    print(f"proving {len(crates)} crates, each function of them, before the program is built", flush=True)
+def build(crates: dict[str, str], anew: bool) -> int:
+    """Prove the crates and leave the program; return the status."""
     with tempfile.TemporaryDirectory(prefix="bsonfind-build-") as room:
         copy_crates(crates, room)
-        status = prove(room, len(crates))
+        status = prove(room, len(crates), anew)
         if status == 0:
             made = Path(room, "crates", PROGRAM, "out", PROGRAM)
             shutil.copyfile(made, ROOT / f"{PROGRAM}.new")
@@ -100,5 +134,27 @@ def main() -> int:
     return status
 
 
+def main(anew: bool) -> int:
+    """Build the program, unless it is built."""
+    crates = lines_of_crates()
+    if is_built(crates) and not anew:
+        print(f"{ROOT / PROGRAM} is built, and nothing that it is made from has changed")
+        return 0
+    if not shutil.which("rt"):
+        print("there is no rt on PATH: the Rattle kit has it, and only a build needs it, not an archive of a release")
+        return 1
+    print(f"proving {len(crates)} crates, each function of them, before the program is built")
+    print(last_time())
+    print("make look shows the program in about a minute, with no proof; a build that is cut off resumes", flush=True)
+    try:
+        status = build(crates, anew)
+    except KeyboardInterrupt:
+        print(CUT_OFF)
+        return 130
+    if status == 0:
+        print(f"built: {ROOT / PROGRAM}\nnext: {NEXT}")
+    return status
+
+
 if __name__ == "__main__":
-    sys.exit(main())
+    sys.exit(main("--anew" in sys.argv[1:]))

@@ -10,12 +10,27 @@
 `find_parts`, `count_parts` and `check_parts` make one answer. `python3 -m bsonfind` has the commands `audit` and `salvage`.
 """
 
+from importlib import metadata
+from pathlib import Path
+
 from .answers import Answer, find
 from .errors import BsonfindError, CommandError, DumpError, PartError, ProgramError, SessionEnded
 from .faults import Fault
 from .merge import Check, check_parts, count_parts, find_parts
 from .parts import Part, plan
 from .sessions import Cursor, Session
+
+
+def _version() -> str:
+    """Tell the version: `VERSION` at the top of a clone has it, and a copy of that beside the modules that `make install` puts."""
+    here = Path(__file__).resolve().parent
+    for file in (here / "VERSION", here.parents[1] / "VERSION"):
+        if file.is_file():
+            return file.read_text(encoding="ascii").strip()
+    return metadata.version("bsonfind")
+
+
+__version__ = _version()
 
 __all__ = [
     "Answer",

@@ -55,7 +55,7 @@ def run_audit(words: argparse.Namespace) -> int:
         raise Refused("no dump is named")
     if words.jobs < 1:
         raise Refused("--jobs is 1 or more")
-    expected = read_log(_lines(words.expect)) if words.expect else {}
+    expected = read_log(_lines(words.expect)) if words.expect else None
     console = Console()
     done = audit(files, expected, None if words.json else console, words.jobs, words.program)
     if words.json:
@@ -72,10 +72,11 @@ def _lines(name: str) -> list[str]:
 
 def _print_audit(done: Audit, console: Console) -> None:
     for report in done.miscounted:
-        count = done.expected[report.namespace]
-        console.line(f"{report.name}: {report.documents} documents in place of {count}")
+        console.line(f"{report.name}: {report.documents} documents in place of {done.told(report)}")
+    for report in done.untold:
+        console.line(f"{report.name}: not in the log")
     for namespace in done.missing:
-        console.line(f"{namespace}: missing, with {done.expected[namespace]} documents")
+        console.line(f"{namespace}: missing, with {(done.expected or {})[namespace]} documents")
     rows = done.rows()
     wide = max(len(name) for name, _ in rows)
     for name, count in rows:

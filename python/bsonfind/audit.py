@@ -24,6 +24,7 @@ from .runs import Group, Run
 
 _PIECE = 1 << 20
 _ENDINGS = (".bson", ".bson.gz")
+_OPLOG = re.compile(r"(^|/)oplog\.bson(\.gz)?$")
 _DUMPED = re.compile(r"done dumping (\S.*) \((\d+) documents?\)")
 
 
@@ -49,10 +50,10 @@ class Report(NamedTuple):
 
 
 class Audit(NamedTuple):
-    """The reports of all files, and how many documents mongodump told of each namespace."""
+    """The reports of all files, and how many documents mongodump told of each namespace, where its log is there."""
 
     reports: list[Report]
-    expected: dict[str, int]
+    expected: dict[str, int] | None
 
     @property
     def kinds(self) -> Counter[str]:
@@ -67,23 +68,37 @@ class Audit(NamedTuple):
     @property
     def miscounted(self) -> list[Report]:
         """The files that have another number of documents than mongodump told."""
-        return [it for it in self.reports if self.expected.get(it.namespace, it.documents) != it.documents]
+        return [it for it in self.reports if self.told(it) not in (None, it.documents)]
+
+    @property
+    def untold(self) -> list[Report]:
+        """The files of which the log says nothing, as one that was cut off leaves them. The oplog never stands there."""
+        return [it for it in self.reports if self.expected is not None and self.told(it) is None and not _OPLOG.search(it.name)]
 
     @property
     def missing(self) -> list[str]:
         """The namespaces of which there is no file."""
         there = {it.namespace for it in self.reports}
-        return [namespace for namespace in self.expected if namespace not in there]
+        return [namespace for namespace in self.expected or () if namespace not in there]
+
+    def told(self, report: Report) -> int | None:
+        """How many documents mongodump told of a file."""
+        return (self.expected or {}).get(report.namespace)
 
     @property
     def is_good(self) -> bool:
         """Whether all files are there, whole and without faults."""
-        return not (self.kinds or self.unread or self.miscounted or self.missing)
+        return not (self.kinds or self.unread or self.miscounted or self.untold or self.missing)
 
     def rows(self) -> list[tuple[str, int]]:
         """The table."""
         kinds = [(f"  {kind}", count) for kind, count in self.kinds.most_common()]
-        told = (("not read", self.unread), ("other counts than expected", self.miscounted), ("missing", self.missing))
+        told = (
+            ("not read", self.unread),
+            ("other counts than expected", self.miscounted),
+            ("not in the log", self.untold),
+            ("missing", self.missing),
+        )
         return [
             ("files", len(self.reports)),
             ("documents", sum(it.documents for it in self.reports)),
@@ -100,7 +115,8 @@ class Audit(NamedTuple):
                 "documents": sum(it.documents for it in self.reports),
                 "faulty": sum(self.kinds.values()),
                 "kinds": self.kinds,
-                "missing": {namespace: self.expected[namespace] for namespace in self.missing},
+                "untold": [it.name for it in self.untold],
+                "missing": {namespace: (self.expected or {})[namespace] for namespace in self.missing},
             }
         )
 
@@ -111,7 +127,7 @@ class Audit(NamedTuple):
             "faulty": report.faulty,
             "kinds": report.kinds,
             "error": report.error,
-            "expected": self.expected.get(report.namespace),
+            "expected": self.told(report),
         }
 
 
@@ -132,7 +148,7 @@ def read_log(lines: Iterable[str]) -> dict[str, int]:
     return {it.group(1).replace("`", ""): int(it.group(2)) for it in found if it}
 
 
-def audit(files: Sequence[str], expected: dict[str, int], console: Console | None, jobs: int, program: str) -> Audit:
+def audit(files: Sequence[str], expected: dict[str, int] | None, console: Console | None, jobs: int, program: str) -> Audit:
     """Checks files side by side; faults and counts go to the console where there is one, the names in front, as they come."""
     with Run([program, "check", "-"]) as run:
         finish_check(run)  # A program that cannot be started is reported once, not for each file.

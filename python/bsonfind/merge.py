@@ -8,8 +8,8 @@ An engine runs the parts by its `map`: a function that applies another one to ea
 parts. The built-in does so one after the other, that of an executor side by side, and that of an engine over many machines wherever
 the files, this package and the program are: `lambda ask, parts: client.gather(client.map(ask, parts))` for Dask.
 
-What is found goes from the parts to the whole as lines. So a document that is written like another value, as that of the one field
-"$oid" is, ends in a `PartError` or is taken for that value.
+What is found goes from the parts to the whole as lines. So no document of a part may begin with a name such as "$oid", alone or inside
+another: its text is that of another value. `find_parts` looks for such names in all bytes, and raises a `PartError` with the byte.
 """
 
 from __future__ import annotations
@@ -25,6 +25,7 @@ from .documents import decoder
 from .errors import BsonfindError, DumpError, PartError, ProgramError
 from .faults import Fault
 from .parts import Part
+from .plain import plain_pieces
 from .requests import Filter, Request, Sort
 from .runs import Group, Run
 
@@ -114,7 +115,7 @@ def _asked(ask: Callable[[Group, Part], T], group: Group, part: Part) -> tuple[P
 
 def _packed_answer(request: Request, program: str, group: Group, part: Part) -> bytes:
     """The documents of a part that are found, as a dump."""
-    with Run([program, "find", "-", *request.words()], part.pieces(), group=group) as found:
+    with Run([program, "find", "-", *request.words()], plain_pieces(part), group=group) as found:
         with Run([program, "pack", "-"], stdin=found.stdout, group=group) as packed:
             found.stdout.close()
             data = packed.stdout.read()

@@ -74,7 +74,7 @@ class Audits(Room):
         console = mock.Mock(line=lines.append)
         limits = (mock.patch(f"bsonfind.{module}.LARGEST_INPUT", 30_000) for module in ("audit", "lengths"))
         with next(limits), next(limits):
-            done = audit([str(whole), str(wrong)], {}, console, 1, PROGRAM)
+            done = audit([str(whole), str(wrong)], None, console, 1, PROGRAM)
         self.assertEqual(
             lines,
             [
@@ -97,6 +97,15 @@ class Audits(Room):
         rows = ("files", 3), ("documents", 900), ("faulty", 0), ("other counts than expected", 1), ("missing", 1)
         self.assertEqual(lines[5:], self.table(*rows))
 
+    def test_files_that_the_log_does_not_name(self) -> None:
+        log = self.file("\n".join(LOG.split("\n")[:2]).encode(), "log")
+        self.file(b"", "backup/oplog.bson")
+        lines = self.audit(self.backup, "--expect", str(log), status=1)
+        self.assertEqual(lines[3], f"{self.people}: not in the log")
+        self.assertEqual(lines[4:], self.table(("files", 3), ("documents", 900), ("faulty", 0), ("not in the log", 1)))
+        log.write_text("")
+        self.assertIn(f"{self.orders}: not in the log", self.audit(self.backup, "--expect", str(log), status=1))
+
     def test_json(self) -> None:
         cut = self.file(PEOPLE.read_bytes()[:50_000], "backup/club/old.bson")
         log = self.file(LOG.encode(), "log")
@@ -108,7 +117,7 @@ class Audits(Room):
         ]
         none = str(self.room / "none.bson")
         files.append({"name": none, "documents": 0, "faulty": 0, "kinds": {}, "error": f"cannot open {none}", "expected": None})
-        wanted = {"files": files, "documents": 1174, "faulty": 1, "kinds": {"bad length": 1}, "missing": {}}
+        wanted = {"files": files, "documents": 1174, "faulty": 1, "kinds": {"bad length": 1}, "untold": [str(cut), none], "missing": {}}
         self.assertEqual(json.loads(line), wanted)
 
     def test_what_cannot_be_read(self) -> None:
