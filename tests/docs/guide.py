@@ -93,7 +93,7 @@ def recipes(text: str, room: Path) -> list[Step]:
         ended = block.end()
         lines = re.sub("^    ", "", block[0].strip("\n"), flags=re.MULTILINE)
         content, *commands = re.split(r"^\$ ", lines, flags=re.MULTILINE)
-        name = re.search(r"This is\s+(?:an?\s+)?`([\w.]+)`:$", paragraph)
+        name = re.search(r"This\s+is\s+(?:an?\s+)?`([\w.]+)`:$", paragraph)
         if content and name:
             Path(room, name[1]).write_text(content.strip("\n") + "\n", encoding="utf-8")
         for command in commands:
