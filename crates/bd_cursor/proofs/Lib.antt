@@ -1,5 +1,10 @@
+pub mod AccessChoiceLemmas
+pub mod AccessLemmas
 pub mod CursorLemmas
+pub mod ExplainingLemmas
+pub mod IndexesLemmas
 pub mod PlaceListLemmas
 pub mod ScanPositionLemmas
+pub mod ServingLemmas
 pub mod SessionLemmas
 pub mod UnsortedScanLemmas

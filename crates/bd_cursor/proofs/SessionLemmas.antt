@@ -6,7 +6,7 @@ use Rattle.bd_answer.specs.Answer.{rest}
 use Rattle.bd_answer.specs.Session.{IndexMark, MarkedToken, Query, State, foreign_token, has_index, is_full, is_on, no_index, open_reply, open_state, opened}
 use Rattle.bd_answer.specs.Session.{reply, resume_call, state_after, token_place, too_many_cursors, with_open, without_index}
 use Rattle.bd_index.specs.declared.index.Index.{Index}
-use Rattle.bd_plan.specs.Explanation.{index_mark}
+use Rattle.bd_cursor.specs.Explanation.{index_mark}
 
 pub with_marks : (s : State) (is js : List IndexMark) → is ≡ js → record s { indexes = is } ≡ record s { indexes = js }
 with_marks s is js e = ap (λ (xs : List IndexMark). (let t : State = record s { indexes = xs } in t)) e

@@ -1,1 +1,4 @@
+pub mod AccessPath
+pub mod AccessView
+pub mod Explanation
 pub mod SessionView

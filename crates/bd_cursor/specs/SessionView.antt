@@ -12,9 +12,9 @@ use Rattle.bd_filter.specs.declared.filter.Filter.{Filter}
 use Rattle.bd_sort.specs.Selection.{hits_of, query_of}
 use Rattle.bd_sort.specs.Sorting.{with_first}
 use Rattle.bd_cursor.specs.declared.scan_position.ScanPosition.{ScanPosition}
-use Rattle.bd_plan.specs.Explanation.{explanation_of, index_counts, index_mark}
-use Rattle.bd_plan.specs.declared.choice.Choice.{Choice}
-use Rattle.bd_plan.specs.declared.choice.Choice.TheVariants as choices
+use Rattle.bd_cursor.specs.Explanation.{explanation_of, index_counts, index_mark}
+use Rattle.bd_cursor.specs.declared.choice.Choice.{Choice}
+use Rattle.bd_cursor.specs.declared.choice.Choice.TheVariants as choices
 use Rattle.bd_path.specs.declared.path.Path.{Path}
 use Rattle.bd_request.specs.declared.request.Request.{Request}
 use Rattle.bd_request.specs.declared.results.Batch.{Batch}

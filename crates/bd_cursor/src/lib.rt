@@ -15,25 +15,52 @@
 //! assert!(rt; batch.places.len() == 1 && batch.end);
 //! ```
 //!
+//! Documents are looked at one by one, or reached by an index. An index serves a request by the bounds that the filter gives it,
+//! or by its order, which may be that of the sort (MongoDB manual, "Use Indexes to Sort Query Results"). A sparse one serves only
+//! where no field that is missing may match. Whatever way is taken, the answer is the same. `bd_service_tests` proves and runs
+//! this as `examples::two_cheapest_by_index`:
+//!
+//! ```
+//! let path = Path::parse(alloc, "price")?;
+//! let indexes = [Index::build(alloc, &dump, path)?];
+//! let access = Access::of(alloc, &dump, &indexes, &request, &Choice::Auto)?;
+//! let places = access.places(alloc, &dump, &request, None, Some(2))?;
+//! assert!(rt; places.as_slice() == [2, 0].as_slice());
+//! ```
+//!
 //! - `session`: `Session` and its calls: `specs/SessionView.antt`.
 //! - `cursor`: the open cursors; `digested_dump`: the digest of a dump, taken once.
 //! - `remainder`: the places that a cursor has left: `scan_position`, where each document is looked at and there is no sort, and
 //!   `place_list`, where all are known.
+//! - `choice`: `Choice`, which index is to be used; `indexes`: the index on a path.
+//! - `access`: `Access`, how documents are reached: `specs/AccessPath.antt`, and `specs/AccessView.antt`, that it leads to the
+//!   answer.
+//! - `serving`, `access_choice`: whether an index serves a request, and the one that is taken.
+//! - `bounded_places`: the places inside bounds as a source.
+//! - `explaining`: what is told of an access path: `specs/Explanation.antt`.
 //! - `laws`: that the laws of sessions hold of each request.
 #![tactic(auto)]
 
+mod access;
+mod access_choice;
+mod bounded_places;
+mod choice;
 mod cursor;
 mod digested_dump;
+mod explaining;
+mod indexes;
 mod laws;
 mod place_list;
 mod remainder;
 mod scan_position;
+mod serving;
 mod session;
 
+pub use access::Access;
 pub use bd_answer::PlaceSource;
-pub use bd_plan::Choice;
 pub use bd_request::{
     Batch, Explain, Made, Plan, Refused, Request, Token, dump_digest, request_digest,
 };
+pub use choice::Choice;
 pub use laws::requests_are_fair;
 pub use session::Session;

@@ -4,11 +4,11 @@ ghost use Rattle.std.specs.Prelude.{◌≡◌, ◌≤◌, ◌<◌, IfOk, IfSome,
 ghost use Rattle.bd_answer.specs.Answer.{answer, at_most, is_empty, rest};
 ghost use Rattle.bd_answer.specs.Source.{places_after};
 ghost use Rattle.bd_bson.specs.Collection.{documents};
-ghost use Rattle.bd_plan.specs.AccessView.{IsAccessOf};
+ghost use Rattle.bd_cursor.specs.AccessView.{IsAccessOf};
 ghost use Rattle.bd_sort.specs.Selection.{selection_of, hits_of};
 
+use crate::access::Access;
 use bd_bson::Dump;
-use bd_plan::Access;
 use bd_request::Request;
 use bd_value::NoMemory;
 use std::alloc::Global;

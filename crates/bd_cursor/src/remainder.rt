@@ -7,11 +7,12 @@ ghost use Rattle.bd_index.specs.IndexView.{AreIndexesOf};
 ghost use Rattle.bd_sort.specs.Selection.{selection_of};
 ghost use Rattle.bd_cursor.specs.SessionView.{mark_of, places_left};
 
+use crate::access::Access;
+use crate::choice::Choice;
 use crate::place_list::PlaceList;
 use crate::scan_position::ScanPosition;
 use bd_bson::Dump;
 use bd_index::Index;
-use bd_plan::{Access, Choice};
 use bd_request::{Request, Token};
 use bd_value::NoMemory;
 use std::alloc::Global;

@@ -2,13 +2,15 @@
 
 ghost use Rattle.bd_index.specs.IndexView.{AreIndexesOf, AreIndexesOf-prop};
 
+use crate::choice::Choice;
 use crate::cursor::{Cursor, close, place_of};
 use crate::digested_dump::DigestedDump;
+use crate::explaining::explain;
+use crate::indexes::index_on;
 use crate::remainder::Remainder;
 use bd_bson::Dump;
 use bd_index::Index;
 use bd_path::Path;
-use bd_plan::{Choice, explain, index_on};
 use bd_request::{Batch, Explain, Made, Refused, Request, Token, request_digest};
 use bd_value::NoMemory;
 use std::alloc::Global;
@@ -44,7 +46,7 @@ impl Session {
     ghost use Rattle.bd_answer.specs.SessionLaws.{new_state};
     ghost use Rattle.bd_bson.specs.Collection.{documents};
     ghost use Rattle.bd_index.specs.IndexView.{IsIndexOf};
-    ghost use Rattle.bd_plan.specs.Explanation.{index_counts, index_mark};
+    ghost use Rattle.bd_cursor.specs.Explanation.{index_counts, index_mark};
     ghost use Rattle.bd_sort.specs.Selection.{query_of};
     ghost use Rattle.bd_cursor.specs.SessionView.{IsGranted, dump_of, given_batch, mark_of, marked_token, path_mark, places_left, state_of, with_index};
     ghost use Rattle.bd_cursor.specs.SessionView.{IsRefusedCall, explain_request, find_request, hint_of, make_index, resume_request};

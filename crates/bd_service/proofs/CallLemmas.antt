@@ -12,8 +12,8 @@ use Rattle.bd_command.specs.declared.fault.CommandFault.{CommandFault}
 use Rattle.bd_cursor.specs.SessionView.{hint_of, marked_token}
 use Rattle.bd_extjson.specs.TextDocument.{ReadsAs}
 use Rattle.bd_path.specs.Sort.{sort_paths}
-use Rattle.bd_plan.specs.declared.choice.Choice.{Choice}
-use Rattle.bd_plan.specs.declared.choice.Choice.TheVariants as choices
+use Rattle.bd_cursor.specs.declared.choice.Choice.{Choice}
+use Rattle.bd_cursor.specs.declared.choice.Choice.TheVariants as choices
 use Rattle.bd_filter.specs.FilterView.{filter_tree}
 use Rattle.bd_request.specs.Request.{greatest_count, request_text}
 use Rattle.bd_request.specs.Token.{token_of}

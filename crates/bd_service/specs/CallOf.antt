@@ -16,8 +16,8 @@ use Rattle.bd_request.specs.Token.{token_of}
 use Rattle.bd_request.specs.declared.refused.Refused.TheVariants as reasons
 use Rattle.bd_request.specs.declared.token.Token.{Token}
 use Rattle.bd_sort.specs.Selection.{selection_for, query_to}
-use Rattle.bd_plan.specs.AccessPath.{AccessPath, access_on, first_bounded, first_walked, scanned}
-use Rattle.bd_plan.specs.Explanation.{explained_access, index_counts}
+use Rattle.bd_cursor.specs.AccessPath.{AccessPath, access_on, first_bounded, first_walked, scanned}
+use Rattle.bd_cursor.specs.Explanation.{explained_access, index_counts}
 use Rattle.bd_cursor.specs.SessionView.{marked_token}
 use Rattle.bd_command.specs.Command.{Command, FindCommand, Hint, any_way, by_index, by_scan, creates_index, drops_index, explains, finds, gets_more, kills_cursor, resumes}
 use Rattle.bd_command.specs.CommandOf.{command_of}

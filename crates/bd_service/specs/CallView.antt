@@ -5,8 +5,8 @@ use Rattle.bd_answer.specs.Session.{drop_call, find_call, kill_call, next_call, 
 use Rattle.bd_bson.specs.Collection.{bytes_of, documents}
 use Rattle.bd_bson.specs.declared.collection.Dump.{Dump}
 use Rattle.bd_sort.specs.Selection.{query_of}
-use Rattle.bd_plan.specs.declared.choice.Choice.{Choice}
-use Rattle.bd_plan.specs.declared.choice.Choice.TheVariants as choices
+use Rattle.bd_cursor.specs.declared.choice.Choice.{Choice}
+use Rattle.bd_cursor.specs.declared.choice.Choice.TheVariants as choices
 use Rattle.bd_cursor.specs.SessionView.{explain_request, hint_of, make_index, marked_token}
 use Rattle.bd_request.specs.Request.{AsksFor}
 use Rattle.bd_request.specs.declared.request.Request.{Request}

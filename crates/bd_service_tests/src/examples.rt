@@ -1,13 +1,12 @@
-//! The examples of use in the roots of `bd_answer`, `bd_command`, `bd_cursor`, `bd_plan`, `bd_reply`, `bd_request`, `bd_service` and `bd_sort`.
+//! The examples of use in the roots of `bd_answer`, `bd_command`, `bd_cursor`, `bd_reply`, `bd_request`, `bd_service` and `bd_sort`.
 use crate::samples::{five, read_documents, read_request, three};
 use bd_answer::{PlaceSource, Scan};
 use bd_command::{Command, CommandFault, read_command};
-use bd_cursor::{Choice, Request, Session};
+use bd_cursor::{Access, Choice, Request, Session};
 use bd_extjson::read_doc;
 use bd_index::Index;
 use bd_lines::Replier;
 use bd_path::Path;
-use bd_plan::Access;
 use bd_reply::{LineRefusal, Reply, write_reply};
 use bd_service::Service;
 use bd_sort::sorted_places;

@@ -1,6 +1,6 @@
 use Rattle.std.proofs.lemmas.Result.{err_from_is_err_and}
 use Rattle.bd_bson.specs.Collection.{documents}
-use Rattle.bd_plan.specs.Explanation.{index_counts}
+use Rattle.bd_cursor.specs.Explanation.{index_counts}
 use Rattle.bd_cursor.specs.SessionView.{dump_of, path_mark}
 use Rattle.bd_cursor.proofs.session.Session.make.Goals as goal
 

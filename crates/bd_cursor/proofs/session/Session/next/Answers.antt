@@ -1,7 +1,7 @@
 use Rattle.std.proofs.Common.{◌≡◌, ◌≤◌, ◌<◌, ap, sym, ◌∙◌, Some, List, length, map, get_or, slice_get, slice_set, arith, drop}
 use Rattle.bd_answer.specs.Answer.{is_empty}
 use Rattle.bd_answer.specs.Session.{GivenBatch, OpenCursor, State, cursor_of, gave, moved, with_cursor, without}
-use Rattle.bd_plan.specs.Explanation.{index_mark}
+use Rattle.bd_cursor.specs.Explanation.{index_mark}
 use Rattle.bd_cursor.specs.SessionView.{open_cursor, state_of}
 use Rattle.bd_cursor.specs.declared.cursor.Cursor.{Cursor}
 use Rattle.bd_cursor.proofs.CursorLemmas.{after_ended, after_going, gave_batch, get_some, map_set}

@@ -1,0 +1,39 @@
+use Rattle.std.proofs.Common.{◌≡◌, ◌<◌, false, length, map, ap, sym, ◌∙◌, subst}
+use Rattle.std.specs.Prelude.{string_bytes}
+use Rattle.std.specs.List.{list_any}
+use Rattle.bd_answer.specs.Session.{is_on}
+use Rattle.bd_bson.specs.Collection.{documents}
+use Rattle.bd_path.specs.Sort.{sort_paths}
+use Rattle.bd_filter.specs.FilterView.{filter_tree}
+use Rattle.bd_index.specs.IndexView.{IsIndexOf}
+use Rattle.bd_cursor.specs.AccessPath.{access_of}
+use Rattle.bd_cursor.specs.Explanation.{index_mark}
+use Rattle.bd_cursor.proofs.AccessChoiceLemmas.{if_ok}
+use Rattle.bd_cursor.proofs.IndexesLemmas.{access_elsewhere, access_named, found_below}
+use Rattle.bd_cursor.proofs.access.Access.of.Goals as goal
+
+pub returns-in-Some-clause-path : goal.returns-in-Some-clause-path
+returns-in-Some-clause-path c =
+    let dump = c.args.dump.now in
+    let ds = documents dump in
+    let f = filter_tree c.args.request.now.filter in
+    let ss = sort_paths c.args.request.now.sort.items in
+    let is = c.args.indexes.now in
+    let i = c.index-indexes-position.result in
+    let k = c.in-Some.position in
+    let path = string_bytes c.in-Index.path.text in
+    let lt : k < length is = found_below path is k i c.in-Some.ensures.found in
+    let of_dump : IsIndexOf dump i = subst (IsIndexOf dump) (sym c.index-indexes-position.is) (c.requires k i lt) in
+    if_ok c.named_access.result
+    (λ a every. (every dump of_dump).is ∙ access_named ds f ss path is k i c.in-Some.ensures.found c.index-indexes-position.is ∙ ap (λ ch. access_of ds f ss ch (map index_mark is)) (sym c.in-Index.is))
+    c.named_access.ensures
+
+pub returns-in-None-clause-path : goal.returns-in-None-clause-path
+returns-in-None-clause-path c =
+    let ds = documents c.args.dump.now in
+    let f = filter_tree c.args.request.now.filter in
+    let ss = sort_paths c.args.request.now.sort.items in
+    let marks = map index_mark c.args.indexes.now in
+    let path = string_bytes c.in-Index.path.text in
+    let none : list_any (is_on path) marks ≡ false = sym c.in-None.ensures.there in
+    sym (access_elsewhere ds f ss path marks none) ∙ ap (λ ch. access_of ds f ss ch marks) (sym c.in-Index.is)

@@ -1,0 +1,12 @@
+use Rattle.std.proofs.Common.{◌≡◌, ◌≤◌, count_by}
+use Rattle.std.specs.List.{range_with_len}
+use Rattle.bd_bson.specs.Collection.{documents}
+use Rattle.bd_filter.specs.FilterView.{filter_tree}
+use Rattle.bd_sort.specs.Selection.{hits_of}
+use Rattle.bd_cursor.proofs.explaining.count_matches.Given as goal
+
+abbrev pub invariant-loop-place : goal.invariant-loop-place
+invariant-loop-place l = record {
+  counted : l.count ≡ count_by (hits_of (documents l.dump) (filter_tree l.filter)) (range_with_len 0 l.place);
+  few : l.count ≤ l.place;
+}

@@ -1,0 +1,103 @@
+//! What is read on an access path.
+
+ghost use Rattle.std.specs.Prelude.{◌≡◌, ◌<◌, All, IfOk, count_by, length, map};
+ghost use Rattle.std.specs.List.{range_with_len};
+ghost use Rattle.bd_answer.specs.Answer.{matching};
+ghost use Rattle.bd_bson.specs.Collection.{documents};
+ghost use Rattle.bd_filter.specs.FilterView.{filter_tree};
+ghost use Rattle.bd_sort.specs.Selection.{selection_of, hits_of};
+ghost use Rattle.bd_index.specs.IndexView.{AreIndexesOf};
+ghost use Rattle.bd_cursor.specs.AccessView.{IsAccessOf, access_path};
+ghost use Rattle.bd_cursor.specs.Explanation.{explained_access, explanation_of, index_mark};
+ghost use Rattle.bd_request.specs.Results.{told};
+
+use crate::access::Access;
+use crate::choice::Choice;
+use bd_bson::Dump;
+use bd_filter::Filter;
+use bd_index::Index;
+use bd_request::{Explain, Plan, Request};
+use bd_sort::is_match;
+use bd_value::NoMemory;
+use std::alloc::Global;
+
+/// Which plan a request has, and what is read by it. It fails for want of memory alone.
+pub(crate) fn explain(
+    alloc: Global,
+    dump: &Dump,
+    indexes: &[Index],
+    request: &Request,
+    choice: &Choice,
+) -> Result<Explain, NoMemory>
+    requires { AreIndexesOf dump.now indexes.now }
+    ensures { IfOk result (λ e. told e ≡ explanation_of (documents dump.now) request.now choice.now (map index_mark indexes.now)) }
+{
+    let access = Access::of(alloc, dump, indexes, request, choice)?;
+    explain_access(alloc, dump, request, &access)
+}
+
+/// What is read on an access path.
+fn explain_access(
+    alloc: Global,
+    dump: &Dump,
+    request: &Request,
+    access: &Access<'_>,
+) -> Result<Explain, NoMemory>
+    requires { IsAccessOf dump.now request.now access.now }
+    ensures { IfOk result (λ e. told e
+        ≡ explained_access (documents dump.now) (length (matching (selection_of (documents dump.now) request.now))) (access_path access.now)) }
+{
+    match access {
+        Access::Scan => Ok(Explain {
+            plan: Plan::Scan,
+            index: None,
+            entries: 0,
+            documents: u64::from(dump.len()),
+            matches: count_matches(dump, &request.filter),
+        }),
+        Access::Bounded { index, bounds } => {
+            let found = index.places(alloc, dump, bounds.as_ref())?;
+            Ok(Explain {
+                plan: Plan::Index,
+                index: Some(String::from_str(alloc, index.path().as_str())?),
+                entries: found.entries,
+                documents: found.places.len() as u64,
+                matches: count_among(dump, &request.filter, &found.places),
+            })
+        }
+        Access::Walk { index, .. } => Ok(Explain {
+            plan: Plan::Walk,
+            index: Some(String::from_str(alloc, index.path().as_str())?),
+            entries: index.entries(),
+            documents: u64::from(dump.len()),
+            matches: count_matches(dump, &request.filter),
+        }),
+    }
+}
+
+/// How many documents match.
+fn count_matches(dump: &Dump, filter: &Filter) -> u64
+    ensures { result ≡ count_by (hits_of (documents dump.now) (filter_tree filter.now)) (range_with_len 0 (length (documents dump.now))) }
+{
+    let mut count = 0;
+    for place in 0..dump.len() {
+        if is_match(dump, filter, place) {
+            count += 1;
+        }
+    }
+    count
+}
+
+/// How many of the documents at these places match.
+fn count_among(dump: &Dump, filter: &Filter, places: &[u32]) -> u64
+    requires { All (λ p. p < length (documents dump.now)) places.now }
+    ensures { result ≡ count_by (hits_of (documents dump.now) (filter_tree filter.now)) places.now }
+{
+    let mut count = 0;
+    for place in places {
+        if is_match(dump, filter, *place) {
+            count += 1;
+        }
+    }
+    count
+}

@@ -1,5 +1,0 @@
-pub mod AccessChoiceLemmas
-pub mod AccessLemmas
-pub mod IndexesLemmas
-pub mod ReadingLemmas
-pub mod ServingLemmas

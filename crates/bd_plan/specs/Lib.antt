@@ -1,3 +1,0 @@
-pub mod AccessPath
-pub mod AccessView
-pub mod Explanation
