@@ -192,7 +192,7 @@ def main() -> int:
                 steps = examples(text)
             else:
                 steps = recipes(text.partition("\n## ")[0] if name == "README.md" else text, room)
-            counts.want(steps[0].command == "set -o pipefail", f"the first command of {name}", steps[0].command)
+            counts.want(steps[0].command.partition("  #")[0].rstrip() == "set -o pipefail", f"the first command of {name}", steps[0].command)
             counts.want(not re.search(r"[2&]> *&?/dev/null", text), f"{name} throws no standard error away", "")
             if name == "docs/GUIDE.md":
                 counts.want(not (long := long_blocks(text)), f"the blocks of {name} have at most {MOST_LINES} lines", "\n".join(long))
