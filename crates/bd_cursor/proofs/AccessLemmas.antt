@@ -56,6 +56,9 @@ pub unsorted_ascends : (ds : List Doc) (ps : List ℕ) → IsStrictlyIncreasing 
 unsorted_ascends ds ps h i j d low high =
     ap (λ b. is_lt (cond b Less (cond (get_or ps i d == get_or ps j d) Equal Greater))) (lt-ltb (get_or ps i d) (get_or ps j d) (AllPairs-from_increasing ps h i j d low high))
 
+pub ascends_unsorted : (ds : List Doc) (ss : List SortPath) (ps : List ℕ) → ss ≡ [] → IsStrictlyIncreasing ps → IsAscending (before (order_of_keys ds ss)) ps
+ascends_unsorted ds ss ps none h = subst (λ ss. IsAscending (before (order_of_keys ds ss)) ps) (sym none) (unsorted_ascends ds ps h)
+
 -- ---- the entries of each document
 
 any_at : (test : Tree → Bool) (s p : ℕ) (ks : List Tree) → list_any (λ (e : KeyAt). test e.0 && (e.1 == p)) (keys_at s ks) ≡ (list_any test ks && (s == p))

@@ -62,11 +62,16 @@ cursor_id id (b ∷ bs) c h = go (cursor_id id bs c) (b.id == id) refl h
     go more false f k = more k
 
 -- the list after a batch that ends the cursor, and after another
-pub after_ended : (id n : ℕ) (cs : List OpenCursor) (c : OpenCursor) → cursor_of id cs ≡ Some c → n ≤ greatest_size → is_empty (drop n c.left) ≡ true → without id (with_cursor id (moved c n) cs) ≡ next_cursors id (cursor_of id cs) n cs
+after_ended : (id n : ℕ) (cs : List OpenCursor) (c : OpenCursor) → cursor_of id cs ≡ Some c → n ≤ greatest_size → is_empty (drop n c.left) ≡ true → without id (with_cursor id (moved c n) cs) ≡ next_cursors id (cursor_of id cs) n cs
 after_ended id n cs c h l e = without_with id (moved c n) cs (cursor_id id cs c h) ∙ sym (rw (h, le-ltb greatest_size n l, e) refl)
 
-pub after_going : (id n : ℕ) (cs : List OpenCursor) (c : OpenCursor) → cursor_of id cs ≡ Some c → n ≤ greatest_size → is_empty (drop n c.left) ≡ false → with_cursor id (moved c n) cs ≡ next_cursors id (cursor_of id cs) n cs
+after_going : (id n : ℕ) (cs : List OpenCursor) (c : OpenCursor) → cursor_of id cs ≡ Some c → n ≤ greatest_size → is_empty (drop n c.left) ≡ false → with_cursor id (moved c n) cs ≡ next_cursors id (cursor_of id cs) n cs
 after_going id n cs c h l e = sym (rw (h, le-ltb greatest_size n l, e) refl)
+
+-- the list after a batch, by whether it ends the cursor
+pub after_batch : (id n : ℕ) (cs : List OpenCursor) (c : OpenCursor) (end : Bool) → cursor_of id cs ≡ Some c → n ≤ greatest_size → end ≡ is_empty (drop n c.left) → cond end (without id (with_cursor id (moved c n) cs)) (with_cursor id (moved c n) cs) ≡ next_cursors id (cursor_of id cs) n cs
+after_batch id n cs c true h l e = after_ended id n cs c h l (sym e)
+after_batch id n cs c false h l e = after_going id n cs c h l (sym e)
 
 pub gave_batch : (id n : ℕ) (cs : List OpenCursor) (c : OpenCursor) → cursor_of id cs ≡ Some c → n ≤ greatest_size → next_reply (cursor_of id cs) n ≡ gave (batch_of c n)
 gave_batch id n cs c h l = rw (h, le-ltb greatest_size n l) refl

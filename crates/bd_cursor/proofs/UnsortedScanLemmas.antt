@@ -1,11 +1,10 @@
 -- What a cursor without a sort has left when it is opened.
-use Rattle.std.proofs.Common.{◌≡◌, ◌+◌, ◌-◌, ℕ, List, [], length, take, drop, sym, ap, ◌∙◌, filter, arith, cond}
+use Rattle.std.proofs.Common.{◌≡◌, ◌+◌, ◌-◌, ℕ, List, [], length, drop, sym, ap, ◌∙◌, filter, arith}
 use Rattle.std.specs.Cmp.{IsTotalOrder}
 use Rattle.std.specs.List.{range_with_len}
-use Rattle.std.proofs.lemmas.Bool.{eq-eqb, ne_eqb}
 use Rattle.std.proofs.lemmas.Cmp.{on_total}
 use Rattle.bd_value.specs.Tree.{Doc}
-use Rattle.bd_answer.specs.Answer.{Mark, answer, ordered, rest}
+use Rattle.bd_answer.specs.Answer.{Mark, answer, cut, ordered, rest}
 use Rattle.bd_answer.proofs.UnsortedLemmas.{IsUnsorted, unsorted_after, unsorted_ordered}
 use Rattle.bd_path.specs.Earliest.{sort_cmp}
 use Rattle.bd_path.specs.Sort.{sort_paths}
@@ -28,31 +27,18 @@ module _ (ds : List Doc) (r : Request) (none : r.sort.items ≡ []) where
       ap (λ n. filter (hits_of ds (filter_tree r.filter)) (range_with_len 0 n)) (let e : length ds - 0 ≡ length ds = omega arith in e)
       ∙ sym (unsorted_ordered (selection_of ds r) (asked_total ds r) (unsorted ds r none))
 
-  pub answer_whole : (skip limit : ℕ) → r.skip ≡ skip → r.limit ≡ limit → limit ≡ 0 →
-      drop skip (unseen (length ds) (hits_of ds (filter_tree r.filter)) 0) ≡ answer (selection_of ds r)
-  answer_whole skip limit s l zero_limit =
-      ap (λ k. drop k (unseen (length ds) (hits_of ds (filter_tree r.filter)) 0)) (sym s) ∙ ap (drop r.skip) all_in_order
-      ∙ sym (ap (λ b. cond b (drop r.skip (ordered (selection_of ds r))) (take (r.limit - 0) (drop r.skip (ordered (selection_of ds r))))) (eq-eqb r.limit 0 (l ∙ zero_limit)))
-
-  pub answer_limited : (skip limit : ℕ) → r.skip ≡ skip → r.limit ≡ limit → (limit ≡ 0 → ⊥) →
-      take limit (drop skip (unseen (length ds) (hits_of ds (filter_tree r.filter)) 0)) ≡ answer (selection_of ds r)
-  answer_limited skip limit s l some =
-      ap (λ k. take limit (drop k (unseen (length ds) (hits_of ds (filter_tree r.filter)) 0))) (sym s) ∙ ap (λ ps. take limit (drop r.skip ps)) all_in_order
-      ∙ ap (λ n. take n (drop r.skip (ordered (selection_of ds r)))) (let e : limit ≡ r.limit - 0 = omega arith in e)
-      ∙ sym (ap (λ b. cond b (drop r.skip (ordered (selection_of ds r))) (take (r.limit - 0) (drop r.skip (ordered (selection_of ds r))))) (ne_eqb r.limit 0 (λ e. some (sym l ∙ e))))
+  pub answer_cut : (skip limit : ℕ) → r.skip ≡ skip → r.limit ≡ limit →
+      cut limit 0 (drop skip (unseen (length ds) (hits_of ds (filter_tree r.filter)) 0)) ≡ answer (selection_of ds r)
+  answer_cut skip limit s l =
+      ap (λ k. cut limit 0 (drop k (unseen (length ds) (hits_of ds (filter_tree r.filter)) 0))) (sym s)
+      ∙ ap (λ ps. cut limit 0 (drop r.skip ps)) all_in_order
+      ∙ ap (λ n. cut n 0 (drop r.skip (ordered (selection_of ds r)))) (sym l)
 
   rest_in_order : (last : ℕ) → unseen (length ds) (hits_of ds (filter_tree r.filter)) (last + 1) ≡ filter (Rattle.bd_answer.specs.Answer.before (selection_of ds r).by last) (ordered (selection_of ds r))
   rest_in_order last = sym (unsorted_after (selection_of ds r) (asked_total ds r) (unsorted ds r none) last)
 
-  pub rest_whole : (limit : ℕ) (m : Mark) → r.limit ≡ limit → limit ≡ 0 →
-      unseen (length ds) (hits_of ds (filter_tree r.filter)) (m.last + 1) ≡ rest (selection_of ds r) m
-  rest_whole limit m l zero_limit =
-      let after = filter (Rattle.bd_answer.specs.Answer.before (selection_of ds r).by m.last) (ordered (selection_of ds r)) in
-      rest_in_order m.last ∙ sym (ap (λ b. cond b after (take (r.limit - m.given) after)) (eq-eqb r.limit 0 (l ∙ zero_limit)))
-
-  pub rest_limited : (limit : ℕ) (m : Mark) → r.limit ≡ limit → (limit ≡ 0 → ⊥) →
-      take (limit - m.given) (unseen (length ds) (hits_of ds (filter_tree r.filter)) (m.last + 1)) ≡ rest (selection_of ds r) m
-  rest_limited limit m l some =
-      let after = filter (Rattle.bd_answer.specs.Answer.before (selection_of ds r).by m.last) (ordered (selection_of ds r)) in
-      ap (take (limit - m.given)) (rest_in_order m.last) ∙ ap (λ n. take (n - m.given) after) (sym l)
-      ∙ sym (ap (λ b. cond b after (take (r.limit - m.given) after)) (ne_eqb r.limit 0 (λ e. some (sym l ∙ e))))
+  pub rest_cut : (limit : ℕ) (m : Mark) → r.limit ≡ limit →
+      cut limit m.given (unseen (length ds) (hits_of ds (filter_tree r.filter)) (m.last + 1)) ≡ rest (selection_of ds r) m
+  rest_cut limit m l =
+      ap (cut limit m.given) (rest_in_order m.last)
+      ∙ ap (λ n. cut n m.given (filter (Rattle.bd_answer.specs.Answer.before (selection_of ds r).by m.last) (ordered (selection_of ds r)))) (sym l)

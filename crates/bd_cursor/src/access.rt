@@ -1,6 +1,6 @@
 //! How documents are reached.
 
-ghost use Rattle.std.specs.Prelude.{◌≡◌, ◌<◌, ◌↔◌, IfOk, IfSome, IsTrue, length, map};
+ghost use Rattle.std.specs.Prelude.{◌≡◌, ◌<◌, ◌↔◌, [], IfOk, IfSome, IsTrue, length, map};
 ghost use Rattle.std.specs.List.Sorted.{IsStrictlyIncreasing};
 ghost use Rattle.bd_answer.specs.Answer.{at_most};
 ghost use Rattle.bd_answer.specs.Source.{places_after};
@@ -131,9 +131,16 @@ fn ascending_places<P: PlaceSource + Drop>(
     requires there { IfSome last (λ p. p < length (documents dump.now)) }
     ensures { IfOk result (λ v. v.items ≡ at_most most (places_after (selection_of (documents dump.now) request.now) last)) }
 {
-    if request.sort.is_empty() {
+    if is_unsorted(request) {
         places_in_order(alloc, dump, request, source, last, most)
     } else {
         sorted_places(alloc, dump, request, source, last, most)
     }
+}
+
+/// Whether a request has no sort.
+fn is_unsorted(request: &Request) -> bool
+    ensures { IsTrue result → sort_paths request.now.sort.items ≡ [] }
+{
+    request.sort.is_empty()
 }

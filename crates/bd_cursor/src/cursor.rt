@@ -1,6 +1,6 @@
 //! An open cursor, and the batches that it gives.
 
-ghost use Rattle.std.specs.Prelude.{◌≡◌, ◌<◌, IfNone, IfOk, IfSome, None, OnErr, OnOk, length, map, option_map, slice_get, slice_set};
+ghost use Rattle.std.specs.Prelude.{◌≡◌, ◌<◌, IfNone, IfOk, IfSome, None, OnErr, OnOk, if◌then◌else◌, length, map, option_map, slice_get, slice_set};
 ghost use Rattle.bd_answer.specs.Session.{OpenCursor, batch_of, cursor_of, digest_after, given_by, moved, token_after, with_cursor, without};
 ghost use Rattle.bd_bson.specs.declared.collection.Dump.{Dump};
 ghost use Rattle.bd_sort.specs.Selection.{query_of};
@@ -112,4 +112,14 @@ pub(crate) fn close(cursors: &mut Vec<Cursor>, id: u64)
     ensures { (dump : Dump) → map (open_cursor dump) cursors.new.items ≡ without id (map (open_cursor dump) cursors.old.items) }
 {
     cursors.retain(|cursor| cursor.id != id);
+}
+
+/// Takes a cursor out that is at its end.
+pub(crate) fn close_at_end(cursors: &mut Vec<Cursor>, id: u64, end: bool)
+    ensures { (dump : Dump) → map (open_cursor dump) cursors.new.items
+        ≡ (if end then without id (map (open_cursor dump) cursors.old.items) else map (open_cursor dump) cursors.old.items) }
+{
+    if end {
+        close(cursors, id);
+    }
 }

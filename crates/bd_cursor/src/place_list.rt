@@ -8,6 +8,7 @@ ghost use Rattle.bd_cursor.specs.AccessView.{IsAccessOf};
 ghost use Rattle.bd_sort.specs.Selection.{selection_of, hits_of};
 
 use crate::access::Access;
+use crate::scan_position::most_left;
 use bd_bson::Dump;
 use bd_request::Request;
 use bd_value::NoMemory;
@@ -63,11 +64,7 @@ impl PlaceList {
         requires there { last < length (documents dump.now) }
         ensures { IfOk result (λ left. left ≡ rest (selection_of (documents dump.now) request.now) (record { given = given; last = last })) }
     {
-        let most = if request.limit == 0 {
-            None
-        } else {
-            Some(request.limit.saturating_sub(given))
-        };
+        let most = most_left(request.limit, given);
         let places = access.places(alloc, dump, request, Some(last), most)?;
         Ok(PlaceList { places, at: 0 })
     }

@@ -1,8 +1,8 @@
 //! The places that a cursor without a sort has left: it goes on where it stands, and looks at no document twice.
 
-ghost use Rattle.std.specs.Prelude.{◌≡◌, ◌<◌, IfOk, OnOk, List, None, [], drop, length, take};
+ghost use Rattle.std.specs.Prelude.{◌≡◌, ◌<◌, ℕ, IfOk, OnOk, List, None, [], drop, length, take};
 ghost use Rattle.bd_value.specs.Tree.{Doc};
-ghost use Rattle.bd_answer.specs.Answer.{answer, is_empty, rest};
+ghost use Rattle.bd_answer.specs.Answer.{answer, at_most, cut, is_empty, rest};
 ghost use Rattle.bd_answer.specs.Source.{HandsOut};
 ghost use Rattle.bd_filter.specs.FilterView.{filter_tree};
 ghost use Rattle.bd_sort.specs.Selection.{selection_of, hits_of};
@@ -28,18 +28,28 @@ pub(crate) struct ScanPosition {
     pub most: Option<u64>,
 }
 
+/// How many places may still be given where so many were; without a limit all.
+pub(crate) fn most_left(limit: u64, given: u64) -> Option<u64>
+    ensures { (ps : List ℕ) → at_most result ps ≡ cut limit given ps }
+{
+    if limit == 0 {
+        None
+    } else {
+        Some(limit.saturating_sub(given))
+    }
+}
+
 impl ScanPosition {
     /// The answer of a request without a sort.
     pub(crate) fn of_answer(skip: u64, limit: u64) -> ScanPosition
         ensures { (ds : List Doc) (r : Request) → r.sort.items ≡ [] → r.skip ≡ skip → r.limit ≡ limit →
             scan_left (length ds) (hits_of ds (filter_tree r.filter)) result ≡ answer (selection_of ds r) }
     {
-        let most = if limit == 0 { None } else { Some(limit) };
         ScanPosition {
             found: None,
             next: 0,
             skip,
-            most,
+            most: most_left(limit, 0),
         }
     }
 
@@ -50,16 +60,11 @@ impl ScanPosition {
             scan_left (length ds) (hits_of ds (filter_tree r.filter)) result
             ≡ rest (selection_of ds r) (record { given = given; last = last }) }
     {
-        let most = if limit == 0 {
-            None
-        } else {
-            Some(limit.saturating_sub(given))
-        };
         ScanPosition {
             found: None,
             next: last + 1,
             skip: 0,
-            most,
+            most: most_left(limit, given),
         }
     }
 

@@ -3,7 +3,7 @@
 ghost use Rattle.bd_index.specs.IndexView.{AreIndexesOf, AreIndexesOf-prop};
 
 use crate::choice::Choice;
-use crate::cursor::{Cursor, close, place_of};
+use crate::cursor::{Cursor, close, close_at_end, place_of};
 use crate::digested_dump::DigestedDump;
 use crate::explaining::explain;
 use crate::indexes::index_on;
@@ -229,9 +229,7 @@ impl Session {
         let Ok(batch) = self.cursors[place].next(self.alloc, &mut self.documents, n) else {
             return Err(Refused::NoMemory);
         };
-        if batch.end {
-            close(&mut self.cursors, id);
-        }
+        close_at_end(&mut self.cursors, id, batch.end);
         Ok(batch)
     }
 

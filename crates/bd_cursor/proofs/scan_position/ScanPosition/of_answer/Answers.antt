@@ -1,8 +1,11 @@
-use Rattle.bd_cursor.proofs.UnsortedScanLemmas.{answer_limited, answer_whole}
+use Rattle.std.proofs.Common.{◌∙◌, drop, length}
+use Rattle.bd_filter.specs.FilterView.{filter_tree}
+use Rattle.bd_sort.specs.Selection.{hits_of}
+use Rattle.bd_cursor.proofs.ScanPositionLemmas.{unseen}
+use Rattle.bd_cursor.proofs.UnsortedScanLemmas.{answer_cut}
 use Rattle.bd_cursor.proofs.scan_position.ScanPosition.of_answer.Goals as goal
 
-pub returns-then-limit-eq0 : goal.returns-then-limit-eq0
-returns-then-limit-eq0 c = λ ds r none s l. answer_whole ds r none c.args.skip c.args.limit s l c.if-limit-eq0.true
-
-pub returns-else-limit-eq0 : goal.returns-else-limit-eq0
-returns-else-limit-eq0 c = λ ds r none s l. answer_limited ds r none c.args.skip c.args.limit s l c.if-limit-eq0.false
+pub returns : goal.returns
+returns c = λ ds r none s l.
+    c.most_left.ensures (drop c.args.skip (unseen (length ds) (hits_of ds (filter_tree r.filter)) 0))
+    ∙ answer_cut ds r none c.args.skip c.args.limit s l

@@ -1,12 +1,11 @@
-use Rattle.std.proofs.Common.{◌≡◌, ◌≤◌, ◌<◌, ap, sym, ◌∙◌, Some, List, length, map, get_or, slice_get, slice_set, arith, drop}
+use Rattle.std.proofs.Common.{◌≡◌, ◌≤◌, ◌<◌, ap, sym, ◌∙◌, Some, List, cond, length, map, get_or, slice_get, slice_set, arith, drop}
 use Rattle.bd_answer.specs.Answer.{is_empty}
 use Rattle.bd_answer.specs.Session.{GivenBatch, OpenCursor, State, cursor_of, gave, moved, with_cursor, without}
 use Rattle.bd_cursor.specs.Explanation.{index_mark}
-use Rattle.bd_cursor.specs.SessionView.{open_cursor, state_of}
+use Rattle.bd_cursor.specs.SessionView.{open_cursor}
 use Rattle.bd_cursor.specs.declared.cursor.Cursor.{Cursor}
-use Rattle.bd_cursor.proofs.CursorLemmas.{after_ended, after_going, gave_batch, get_some, map_set}
+use Rattle.bd_cursor.proofs.CursorLemmas.{after_batch, gave_batch, get_some, map_set}
 use Rattle.bd_cursor.proofs.session.Session.next.Goals as goal
-use Rattle.bd_cursor.proofs.session.Session.next.Goals.{then-batch, else-batch}
 
 pub returns-clause-batch : goal.returns-clause-batch
 returns-clause-batch c =
@@ -38,9 +37,6 @@ returns-clause-after c =
     map_set dump cs c.in-Some.place c.next.new.self ∙ ap (slice_set os c.in-Some.place) c.in-Ok.ensures.moved ∙ sym (changed (moved (open_cursor dump k) c.args.n)) in
     let same : c.next.new.documents.dump ≡ dump = c.in-Ok.ensures.dump in
     let whole = λ (xs : List OpenCursor). (let s : State = record { indexes = map index_mark c.args.self.now.indexes.items; next_id = c.args.self.now.next_id; cursors = xs } in s) in
-    elim c.if-batch.branch [
-      | then-batch w ↦ ap state_of w.self-is ∙ ap (λ d. whole (map (open_cursor d) w.close.new.cursors.items)) same
-          ∙ ap whole (w.close.ensures dump ∙ ap (without c.args.id) now ∙ after_ended c.args.id c.args.n os (open_cursor dump k) found few (sym ends ∙ w.if-batch.true))
-      | else-batch w ↦ ap state_of w.self-is ∙ ap (λ d. whole (map (open_cursor d) (slice_set cs c.in-Some.place c.next.new.self))) same
-          ∙ ap whole (now ∙ after_going c.args.id c.args.n os (open_cursor dump k) found few (sym ends ∙ w.if-batch.false))
-    ]
+    ap (λ d. whole (map (open_cursor d) c.close_at_end.new.cursors.items)) same
+    ∙ ap whole (c.close_at_end.ensures dump ∙ ap (λ xs. cond c.in-Ok.batch.end (without c.args.id xs) xs) now
+    ∙ after_batch c.args.id c.args.n os (open_cursor dump k) c.in-Ok.batch.end found few ends)
