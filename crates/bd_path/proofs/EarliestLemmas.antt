@@ -1,25 +1,33 @@
 -- The earliest of some keys, by parts.
-use Rattle.std.proofs.Common.{◌≡◌, ◌∷◌, ◌++◌, List, [], Bool, true, false, cond, Option, Some, None, ◌⊎◌, inl, inr, refl, sym, ap, ◌∙◌, subst, Ordering, Less, Equal, Greater}
+use Rattle.std.proofs.Common.{◌≡◌, ◌∷◌, ◌++◌, ℕ, List, [], Bool, true, false, cond, Option, Some, None, ◌⊎◌, inl, inr, refl, sym, ap, ◌∙◌, subst, append-nil, Ordering, Less, Equal, Greater}
 use Rattle.std.specs.Prelude.{◌||◌, IfSome}
 use Rattle.std.specs.Cmp.{IsTotalOrder}
-use Rattle.std.specs.List.{list_any}
+use Rattle.std.specs.List.{flat_map, list_any}
+use Rattle.std.proofs.lemmas.Grind.{flat_map-append}
 use Rattle.std.specs.Ordering.{is_eq, is_lt, ordering_reverse}
 use Rattle.std.proofs.lemmas.Cmp.{tied_itself}
 use Rattle.bd_value.specs.Order.{cmp, equal}
 use Rattle.bd_value.specs.Kind.{kind_of}
 use Rattle.bd_value.specs.Parts.{elements_in}
 use Rattle.bd_value.specs.Tree as trees
-use Rattle.bd_value.specs.Tree.{Tree, Items, leaf, doc, array, code_scope, item, items_of}
+use Rattle.bd_value.specs.Tree.{Tree, leaf, doc, array, code_scope}
 use Rattle.bd_value.specs.declared.kind.Kind.TheVariants as kinds
 use Rattle.bd_value.proofs.OrderLemmas.LawsLemmas.{cmp_total}
-use Rattle.bd_path.specs.Names.{Names}
-use Rattle.bd_path.specs.Reach.{Gathering, gathering, each_gathering, is_document}
+use Rattle.bd_path.specs.AddedKeys.{stop_keys}
 use Rattle.bd_path.specs.Earliest.{dir_cmp, earlier_key, earliest_key}
-use Rattle.bd_path.specs.EarliestKeys.{is_earlier}
-use Rattle.bd_path.specs.KeyList.{distinct, end_keys, or_else, with_key, with_keys}
+use Rattle.bd_path.specs.EarliestKeys.{IsEarliest, IsEarliestFrom, gives_earlier, is_earlier, key_option}
+use Rattle.bd_path.specs.Key.{IsKeyAt, IsKeyOf}
+use Rattle.bd_path.specs.KeyList.{all_keys, distinct, end_keys, keys, or_else, with_key, with_keys}
+use Rattle.bd_path.specs.Names.{Names}
+use Rattle.bd_path.specs.Stop.{Stops, stops}
+use Rattle.bd_path.specs.Walk.{Takes, TakesOrEnds}
+use Rattle.bd_path.proofs.StopLemmas as stop
+use Rattle.bd_path.proofs.KeyLemmas.{at_last, at_more}
 use Rattle.bd_path.proofs.ReachLemmas.{scalar_is_no_array}
 use Rattle.bd_path.specs.declared.dir.Dir.{Dir}
 use Rattle.bd_path.specs.declared.dir.Dir.TheVariants.{Up, Down}
+use Rattle.bd_path.specs.declared.key.Key.{Key}
+use Rattle.bd_path.specs.declared.stop.Stop.{Stop}
 
 reversed_less : (o : Ordering) → ordering_reverse o ≡ Less → o ≡ Greater
 reversed_less Less is = absurd cc
@@ -177,6 +185,20 @@ module _ (dir : Dir) where
   or_none [] missing is = refl
   or_none (x ∷ xs) missing is = absurd (some_key x (earliest_key dir xs) is)
 
+  pub no_earliest : (ks : List Tree) → None ≡ earliest_key dir ks → ks ≡ []
+  no_earliest [] is = refl
+  no_earliest (k ∷ ks) is = absurd (some_key k (earliest_key dir ks) is)
+
+  -- on each path there is one
+  pub earliest_there : (t : Tree) (p : Names) → None ≡ earliest_key dir (flat_map (stop_keys false) (stops t p)) → ⊥
+  earliest_there t p is =
+      let none = no_earliest (flat_map (stop_keys false) (stops t p)) is in
+      let some = ap (λ (ks : List Tree). or_else ks (leaf trees.null ∷ [])) (sym none) ∙ stop.some_key t p (leaf trees.null ∷ []) ∙ none in
+      let f : ⊥ = cc in f
+
+  pub earliest_is : (t : Tree) (p : Names) (e : Option Tree) → e ≡ earliest_key dir (flat_map (stop_keys false) (stops t p)) → e ≡ earliest_key dir (keys t p)
+  earliest_is t p e is = is ∙ ap (earliest_key dir) (sym (stop.keys_are false t p)) ∙ sym (of_distinct (all_keys false t p))
+
 -- what holds of both holds of either
 pub of_either : {A : Type 0} (P : A → Type 0) (r a b : Option A) → (r ≡ a) ⊎ (r ≡ b) → IfSome a P → IfSome b P → IfSome r P
 of_either P r a b (inl is) first second = subst (λ x. IfSome x P) (sym is) first
@@ -259,24 +281,49 @@ module _ (dir : Dir) where
       go true h rest = let s = one_still (earlier_key dir e (Some k)) (earliest_key dir ks) k (one_taken e k) in absurd cc
       go false h rest = rest
 
-pub keeps_keys : (f : Tree → Bool) (missing : List Tree) (xs : List Tree) → list_any f (or_else xs missing) ≡ false → list_any f xs ≡ false
-keeps_keys f missing [] h = refl
-keeps_keys f missing (x ∷ xs) h = h
+-- ---- the keys of one more stop
 
--- one more element of an array
-pub document_taken : (dir : Dir) (g : Gathering Tree) (names : Names) (e f : Option Tree) (u : Tree) (ts us : List Tree) (all : Option Tree)
-    → earlier_key dir e (earliest_key dir (each_gathering g (items_of ts) names)) ≡ all → ts ≡ u ∷ us → is_document u ≡ true
-    → f ≡ earlier_key dir e (earliest_key dir (gathering g u names)) → earlier_key dir f (earliest_key dir (each_gathering g (items_of us) names)) ≡ all
-document_taken dir g names e f u ts us all so_far is d taken =
-    let rest = each_gathering g (items_of us) names in
-    ap (λ (x : Option Tree). earlier_key dir x (earliest_key dir rest)) taken
-    ∙ sym (in_turn dir e (earliest_key dir (gathering g u names)) (earliest_key dir rest))
-    ∙ ap (earlier_key dir e) (sym (of_both dir (gathering g u names) rest) ∙ ap (λ (b : Bool). earliest_key dir (cond b (gathering g u names) [] ++ rest)) (sym d))
-    ∙ ap (λ (xs : List Tree). earlier_key dir e (earliest_key dir (each_gathering g (items_of xs) names))) (sym is) ∙ so_far
+flat_more : (dir : Dir) (ss : Stops) (s : Stop Tree) → earliest_key dir (flat_map (stop_keys false) (ss ++ s ∷ []))
+    ≡ earlier_key dir (earliest_key dir (flat_map (stop_keys false) ss)) (earliest_key dir (stop_keys false s))
+flat_more dir ss s =
+    ap (earliest_key dir) (flat_map-append (stop_keys false) ss (s ∷ []) ∙ ap (λ (ks : List Tree). flat_map (stop_keys false) ss ++ ks) (append-nil (stop_keys false s)))
+    ∙ of_both dir (flat_map (stop_keys false) ss) (stop_keys false s)
 
-pub other_passed : (dir : Dir) (g : Gathering Tree) (names : Names) (e : Option Tree) (u : Tree) (ts us : List Tree) (all : Option Tree)
-    → earlier_key dir e (earliest_key dir (each_gathering g (items_of ts) names)) ≡ all → ts ≡ u ∷ us → is_document u ≡ false
-    → earlier_key dir e (earliest_key dir (each_gathering g (items_of us) names)) ≡ all
-other_passed dir g names e u ts us all so_far is d =
-    ap (λ (b : Bool). earlier_key dir e (earliest_key dir (cond b (gathering g u names) [] ++ each_gathering g (items_of us) names))) (sym d)
-    ∙ ap (λ (xs : List Tree). earlier_key dir e (earliest_key dir (each_gathering g (items_of xs) names))) (sym is) ∙ so_far
+if_some : {A : Type 0} (P Q : A → Type 0) (o : Option A) → ((x : A) → P x → Q x) → IfSome o P → IfSome o Q
+if_some P Q None f h = tt
+if_some P Q (Some x) f h = f x h
+
+no_ends : (ss : Stops) → list_any (λ _. false) ss ≡ false
+no_ends [] = refl
+no_ends (s ∷ ss) = no_ends ss
+
+module _ {N : Type 0} (tree : N → Tree) (source : N → List ℕ) (dir : Dir) where
+  pub known_earliest : (key : Option (Key N)) (bytes : List ℕ) (ss : Stops) (s : Stop Tree) → gives_earlier dir (key_option tree key) s ≡ false → IsEarliestFrom tree source dir key bytes ss
+      → IsEarliestFrom tree source dir key bytes (ss ++ s ∷ [])
+  known_earliest key bytes ss s none is = record {
+    earliest = sym (flat_more dir ss s ∙ ap (λ e. earlier_key dir e (earliest_key dir (stop_keys false s))) (sym is.earliest) ∙ none_taken dir (key_option tree key) (stop_keys false s) none);
+    kept = is.kept;
+    there = if_some (IsKeyAt false ss) (IsKeyAt false (ss ++ s ∷ [])) key (at_more false ss (s ∷ [])) is.there;
+  }
+
+  pub takes_earliest : (bytes : List ℕ) (before after : Option (Key N)) (k : Key N) (s : Stop Tree) → IsEarliest dir tree (Some k) (stop_keys false s)
+      → IsKeyOf source bytes k → IsKeyAt false (s ∷ []) k → key_option tree after ≡ earlier_key dir (key_option tree before) (key_option tree (Some k)) → (after ≡ before) ⊎ (after ≡ Some k)
+      → Takes (IsEarliestFrom tree source dir) (λ f. gives_earlier dir (key_option tree f)) bytes before after (s ∷ [])
+  takes_earliest bytes before after k s is kept there taken either =
+      let more = stop_keys false s in
+      let old = key_option tree before in
+      let told : key_option tree after ≡ earlier_key dir old (earliest_key dir more) = taken ∙ ap (earlier_key dir old) is in
+      record {
+        adds = λ ss are. record {
+          earliest = told ∙ ap (λ e. earlier_key dir e (earliest_key dir more)) are.earliest ∙ sym (flat_more dir ss s);
+          kept = of_either (IsKeyOf source bytes) after before (Some k) either are.kept kept;
+          there = of_either (IsKeyAt false (ss ++ s ∷ [])) after before (Some k) either (if_some (IsKeyAt false ss) (IsKeyAt false (ss ++ s ∷ [])) before (at_more false ss (s ∷ [])) are.there) (at_last false ss (s ∷ []) k there);
+        };
+        none_new = ap (λ e. list_any (is_earlier dir e) more || false) told ∙ ap (λ (b : Bool). b || false) (all_taken dir old more);
+        still = λ z h. ap (λ e. list_any (is_earlier dir e) (stop_keys false z)) told ∙ none_still dir old (earliest_key dir more) (stop_keys false z) h;
+      }
+
+  pub whole : (bytes : List ℕ) (key : Option (Key N)) (t : Tree) (names p : Names) (b : Bool) → names ≡ p
+      → TakesOrEnds (IsEarliestFrom tree source dir) (λ f. gives_earlier dir (key_option tree f)) (λ _. false) b bytes None key (stops t names) → IsEarliestFrom tree source dir key bytes (stops t p)
+  whole bytes key t names p true is h = subst (λ ns. IsEarliestFrom tree source dir key bytes (stops t ns)) is (h.adds [] (record { earliest = refl; kept = tt; there = tt }))
+  whole bytes key t names p false is h = let none = no_ends (stops t names) in absurd cc

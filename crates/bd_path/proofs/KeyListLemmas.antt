@@ -1,16 +1,24 @@
 -- What was appended to the keys.
-use Rattle.std.proofs.Common.{◌≡◌, ◌<◌, ℕ, List, [], ◌∷◌, ◌++◌, ◌+◌, Bool, true, false, cond, not, length, map, get_or, take, refl, sym, ap, ◌∙◌}
-use Rattle.std.specs.Prelude.{Result, Ok, Err, OnOk, ◌||◌}
-use Rattle.std.specs.List.{list_any}
+use Rattle.std.proofs.Common.{◌≡◌, ◌<◌, ℕ, List, [], ◌∷◌, ◌++◌, ◌+◌, Bool, true, false, cond, not, length, map, get_or, take, refl, sym, ap, subst, ◌∙◌, append-nil, append_assoc, length-append, arith}
+use Rattle.std.specs.Prelude.{Result, Ok, Err, OnOk, is_ok, ◌||◌, slice_index_or}
+use Rattle.std.specs.List.{flat_map, list_any}
+use Rattle.std.proofs.lemmas.Grind.{flat_map-append}
 use Rattle.std.proofs.lemmas.Bool.{or_left, or_right}
-use Rattle.std.proofs.lemmas.List.{map-append, map_more}
+use Rattle.std.proofs.lemmas.List.Elements.{All-nil}
+use Rattle.std.proofs.lemmas.List.{length-map, map-append, map_more}
 use Rattle.std.proofs.lemmas.List.Folds.{list_any-append}
 use Rattle.bd_value.specs.Order.{equal}
-use Rattle.bd_value.specs.Tree.{Tree, items_of}
-use Rattle.bd_path.specs.AddedKeys.{is_new}
-use Rattle.bd_path.specs.KeyList.{distinct, with_key, with_keys}
+use Rattle.bd_value.specs.Tree.{Tree}
+use Rattle.bd_path.specs.AddedKeys.{AppendsKeys, AreKeysFrom, gives_new, is_new, stop_keys}
+use Rattle.bd_path.specs.Key.{AreKeysAt, AreKeysOf, key_trees}
+use Rattle.bd_path.specs.KeyList.{distinct, indexed_keys, with_key, with_keys}
 use Rattle.bd_path.specs.Names.{Names}
-use Rattle.bd_path.specs.Reach.{Gathering, each_gathering, gathering, is_document}
+use Rattle.bd_path.specs.Stop.{Stops, stops}
+use Rattle.bd_path.specs.Walk.{Takes, TakesOrEnds}
+use Rattle.bd_path.proofs.StopLemmas.{keys_are}
+use Rattle.bd_path.specs.declared.key.Key.{Key}
+use Rattle.bd_path.specs.declared.stop.Stop.{Stop}
+use Rattle.bd_path.proofs.KeyLemmas.{at_more}
 use Rattle.bd_path.proofs.LawsLemmas.{equal_itself}
 use Rattle.bd_path.proofs.VisitsLemmas.{left_false, right_false}
 
@@ -95,19 +103,74 @@ all_added ks (x ∷ xs) =
     ap (λ (b : Bool). not b || list_any (is_new (with_keys (with_key ks x) xs)) xs) (any_still (λ y. equal y x) (with_key ks x) xs (one_added ks x))
     ∙ all_added (with_key ks x) xs
 
--- one more element of an array
-pub document_added : (g : Gathering Tree) (names : Names) (ks ls : List Tree) (u : Tree) (ts us all : List Tree)
-    → with_keys ks (each_gathering g (items_of ts) names) ≡ all → ts ≡ u ∷ us → is_document u ≡ true
-    → ls ≡ with_keys ks (gathering g u names) → with_keys ls (each_gathering g (items_of us) names) ≡ all
-document_added g names ks ls u ts us all so_far is d added =
-    let rest = each_gathering g (items_of us) names in
-    ap (λ (x : List Tree). with_keys x rest) added ∙ sym (with_append ks (gathering g u names) rest)
-    ∙ ap (λ (b : Bool). with_keys ks (cond b (gathering g u names) [] ++ rest)) (sym d)
-    ∙ ap (λ (xs : List Tree). with_keys ks (each_gathering g (items_of xs) names)) (sym is) ∙ so_far
+-- ---- the keys of one more stop
 
-pub other_passed : (g : Gathering Tree) (names : Names) (ks : List Tree) (u : Tree) (ts us all : List Tree)
-    → with_keys ks (each_gathering g (items_of ts) names) ≡ all → ts ≡ u ∷ us → is_document u ≡ false
-    → with_keys ks (each_gathering g (items_of us) names) ≡ all
-other_passed g names ks u ts us all so_far is d =
-    ap (λ (b : Bool). with_keys ks (cond b (gathering g u names) [] ++ each_gathering g (items_of us) names)) (sym d)
-    ∙ ap (λ (xs : List Tree). with_keys ks (each_gathering g (items_of xs) names)) (sym is) ∙ so_far
+flat_more : (sparse : Bool) (ss : Stops) (s : Stop Tree) → distinct (flat_map (stop_keys sparse) (ss ++ s ∷ [])) ≡ with_keys (distinct (flat_map (stop_keys sparse) ss)) (stop_keys sparse s)
+flat_more sparse ss s =
+    appended (flat_map (stop_keys sparse) ss) (flat_map (stop_keys sparse) (ss ++ s ∷ [])) (stop_keys sparse s)
+    (flat_map-append (stop_keys sparse) ss (s ∷ []) ∙ ap (λ (ks : List Tree). flat_map (stop_keys sparse) ss ++ ks) (append-nil (stop_keys sparse s)))
+
+all_at_more : {N : Type 0} (sparse : Bool) (ss more : Stops) (ks : List (Key N)) → AreKeysAt sparse ss ks → AreKeysAt sparse (ss ++ more) ks
+all_at_more {N} sparse ss more ks h = λ i d l. at_more sparse ss more (slice_index_or ks i d) (h i d l)
+
+module _ {N : Type 0} (tree : N → Tree) (source : N → List ℕ) (sparse : Bool) where
+  pub known_keys : (keys : List (Key N)) (bytes : List ℕ) (ss : Stops) (s : Stop Tree) → gives_new sparse (key_trees tree keys) s ≡ false → AreKeysFrom tree source sparse keys bytes ss
+      → AreKeysFrom tree source sparse keys bytes (ss ++ s ∷ [])
+  known_keys keys bytes ss s none are = record {
+    distinct = sym (flat_more sparse ss s ∙ ap (λ (ks : List Tree). with_keys ks (stop_keys sparse s)) (sym are.distinct) ∙ none_added (distinct (key_trees tree keys)) (stop_keys sparse s) none);
+    kept = are.kept;
+    there = all_at_more sparse ss (s ∷ []) keys are.there;
+  }
+
+  pub takes_keys : {F : Type 0} (items : F → List (Key N)) (bytes : List ℕ) (before after : F) (s : Stop Tree) → AppendsKeys tree (items before) (items after) (stop_keys sparse s)
+      → (AreKeysOf source bytes (items before) → AreKeysOf source bytes (items after)) → ((ss : Stops) → AreKeysAt sparse (ss ++ s ∷ []) (items before) → AreKeysAt sparse (ss ++ s ∷ []) (items after))
+      → Takes (λ f. AreKeysFrom tree source sparse (items f)) (λ f. gives_new sparse (key_trees tree (items f))) bytes before after (s ∷ [])
+  takes_keys items bytes before after s is kept there =
+      let more = stop_keys sparse s in
+      let old = distinct (key_trees tree (items before)) in
+      let told : distinct (key_trees tree (items after)) ≡ with_keys old more = appended (key_trees tree (items before)) (key_trees tree (items after)) more is in
+      record {
+        adds = λ ss are. record {
+          distinct = told ∙ ap (λ (ks : List Tree). with_keys ks more) are.distinct ∙ sym (flat_more sparse ss s);
+          kept = kept are.kept;
+          there = there ss (all_at_more sparse ss (s ∷ []) (items before) are.there);
+        };
+        none_new = ap (λ (ks : List Tree). list_any (is_new ks) more || false) told ∙ ap (λ (b : Bool). b || false) (all_added old more);
+        still = λ z h. ap (λ (ks : List Tree). list_any (is_new ks) (stop_keys sparse z)) told ∙ none_still old more (stop_keys sparse z) h;
+      }
+
+  pub took : {F E : Type 0} (items : F → List (Key N)) (r : Result (Unit {0}) E) (b : Bool) (bytes : List ℕ) (before after : F) (s : Stop Tree) → b ≡ is_ok r
+      → OnOk r (AppendsKeys tree (items before) (items after) (stop_keys sparse s)) → (AreKeysOf source bytes (items before) → AreKeysOf source bytes (items after))
+      → OnOk r ((ss : Stops) → AreKeysAt sparse (ss ++ s ∷ []) (items before) → AreKeysAt sparse (ss ++ s ∷ []) (items after))
+      → TakesOrEnds (λ f. AreKeysFrom tree source sparse (items f)) (λ f. gives_new sparse (key_trees tree (items f))) (λ _. true) b bytes before after (s ∷ [])
+  took items (Ok x) true bytes before after s is appends kept there = takes_keys items bytes before after s appends kept there
+  took items (Ok x) false bytes before after s is appends kept there = refl
+  took items (Err e) true bytes before after s is appends kept there = absurd cc
+  took items (Err e) false bytes before after s is appends kept there = refl
+
+  pub whole : {F : Type 0} (items : F → List (Key N)) (bytes : List ℕ) (before after : F) (t : Tree) (names p : Names) (b : Bool) → items before ≡ [] → names ≡ p
+      → TakesOrEnds (λ f. AreKeysFrom tree source sparse (items f)) (λ f. gives_new sparse (key_trees tree (items f))) (λ _. true) b bytes before after (stops t names) → b ≡ true
+      → AreKeysFrom tree source sparse (items after) bytes (stops t p)
+  whole items bytes before after t names p true none is h e =
+      let first : AreKeysFrom tree source sparse (items before) bytes [] =
+      subst (λ ks. AreKeysFrom tree source sparse ks bytes []) (sym none) (record { distinct = refl; kept = All-nil _; there = All-nil _ }) in
+      subst (λ ns. AreKeysFrom tree source sparse (items after) bytes (stops t ns)) is (h.adds [] first)
+  whole items bytes before after t names p false none is h e = absurd cc
+
+pub indexed : (sparse : Bool) (t : Tree) (p : Names) → distinct (flat_map (stop_keys sparse) (stops t p)) ≡ indexed_keys sparse t p
+indexed true t p = ap distinct (sym (keys_are true t p))
+indexed false t p = ap distinct (sym (keys_are false t p))
+
+-- ---- the elements of an array
+
+pub one_pushed : {A : Type 0} (f : A → Tree) (ks ls : List A) (k : A) (us vs all : List Tree) → ls ≡ ks ++ k ∷ [] → us ≡ f k ∷ vs → map f ks ++ us ≡ all → map f ls ++ vs ≡ all
+one_pushed {A} f ks ls k us vs all is e so_far =
+    ap (λ (xs : List A). map f xs ++ vs) is ∙ ap (λ (xs : List Tree). xs ++ vs) (map-append f ks (k ∷ [])) ∙ append_assoc (map f ks) (f k ∷ []) vs
+    ∙ ap (λ (xs : List Tree). map f ks ++ xs) (sym e) ∙ so_far
+
+pub none_pushed : {A : Type 0} (f : A → Tree) (ks ls : List A) (us es : List Tree) → us ≡ [] → map f ks ++ us ≡ map f ls ++ es → length ks ≡ length ls → es ≡ []
+none_pushed f ks ls us [] none h same = refl
+none_pushed f ks ls us (e ∷ es) none h same =
+    let a = ap length h in
+    let b = ap length none in
+    absurd (omega (arith, a, b, same, length-append (map f ks) us, length-append (map f ls) (e ∷ es), length-map ks f, length-map ls f))

@@ -1,22 +1,25 @@
 -- The keys of a path and what it reaches; the order of a sort.
-use Rattle.std.proofs.Common.{◌≡◌, ◌≢◌, ℕ, zero, suc, Bool, true, false, cond, List, [], ◌∷◌, ◌++◌, Option, Some, None, ◌⊎◌, inl, inr, refl, sym, ap, ◌∙◌, subst, Ordering, Less, Equal, Greater}
+use Rattle.std.proofs.Common.{◌≡◌, ◌≢◌, Bool, true, false, cond, List, [], ◌∷◌, ◌++◌, Some, None, ◌⊎◌, inl, inr, refl, sym, ap, ◌∙◌, subst, Ordering, Less, Equal, Greater}
 use Rattle.std.specs.Prelude.{is_some}
-use Rattle.std.specs.Str.{bytes_eq}
-use Rattle.std.specs.List.{list_any}
+use Rattle.std.specs.List.{flat_map, list_any}
 use Rattle.std.specs.Cmp.{IsTotalOrder}
 use Rattle.std.specs.Ordering.{is_eq}
 use Rattle.std.proofs.lemmas.Cmp.{on_total, then_total, tied_itself, tied_back}
 use Rattle.bd_value.specs.Order.{cmp, equal}
 use Rattle.bd_value.specs.Tree as trees
-use Rattle.bd_value.specs.Tree.{Scalar, Tree, leaf, doc, array, code_scope, Items, no_items, item, Fields, no_fields, field, list_of}
+use Rattle.bd_value.specs.Tree.{Scalar, Tree, leaf, doc, array, code_scope, no_items, item}
 use Rattle.bd_value.proofs.OrderLemmas.LawsLemmas.{cmp_total}
-use Rattle.bd_path.specs.Component.{index_of}
+use Rattle.bd_path.specs.AddedKeys.{stop_keys}
 use Rattle.bd_path.specs.Earliest.{SortPath, sort_cmp, sort_key}
-use Rattle.bd_path.specs.KeyList.{all_keys, key_gathering, keys, or_else, sparse_keys, with_key, with_keys}
+use Rattle.bd_path.specs.KeyList.{all_keys, end_keys, keys, sparse_keys, with_key, with_keys}
 use Rattle.bd_path.specs.Names.{Names}
-use Rattle.bd_path.specs.Reach.{End, ends, gathering_at, each_gathering, first_gathering, is_document, reach}
+use Rattle.bd_path.specs.Reach.{End, reach}
+use Rattle.bd_path.specs.Stop.{Stops, or_stop, stops}
+use Rattle.bd_path.specs.declared.stop.Stop.{Stop}
+use Rattle.bd_path.specs.declared.stop.Stop.TheVariants.{Value, Missing, NoBranch}
 use Rattle.bd_path.proofs.EarliestLemmas.{dir_total}
-use Rattle.bd_path.proofs.MemberLemmas.{In, in_left, in_right, in_cases, in_either, any_at, found_from}
+use Rattle.bd_path.proofs.MemberLemmas.{In, in_left, in_right, in_cases, any_at, found_from}
+use Rattle.bd_path.proofs.StopLemmas.{ends_are, keys_are, some_stop, stop_ends}
 
 abbrev null : Tree
 null = leaf trees.null
@@ -24,109 +27,29 @@ null = leaf trees.null
 abbrev nulls : List Tree
 nulls = null ∷ []
 
-in_or_else : (k : Tree) (ks other : List Tree) → In k ks → In k (or_else ks other)
-in_or_else k [] other h = absurd h
-in_or_else k (x ∷ xs) other h = h
+-- a null is gathered at each stop that is no value
+missing_at : (ss : Stops) → In None (flat_map stop_ends ss) → In null (flat_map (stop_keys false) ss)
+missing_at [] h = absurd h
+missing_at (Value t ∷ ss) h = elim h [ inl e ↦ cc | inr r ↦ in_right null (end_keys t) (flat_map (stop_keys false) ss) (missing_at ss r) ]
+missing_at (Missing ∷ ss) h = inl refl
+missing_at (NoBranch ∷ ss) h = inl refl
 
-no_none : (t : Tree) → In None (Some t ∷ []) → ⊥
-no_none t h = elim h [ inl e ↦ cc | inr e ↦ absurd e ]
+nowhere_at : (ss : Stops) → or_stop ss ≡ ss → flat_map stop_ends ss ≡ [] → In null (flat_map (stop_keys false) ss)
+nowhere_at [] o e = absurd (let f : ⊥ = cc in f)
+nowhere_at (Value t ∷ ss) o e = absurd (let f : ⊥ = cc in f)
+nowhere_at (Missing ∷ ss) o e = inl refl
+nowhere_at (NoBranch ∷ ss) o e = inl refl
 
-mutual
-  -- where the path misses a field, null is a key
-  missing : (t : Tree) (p : Names) → In None (reach t p) → In null (all_keys false t p)
-  missing (leaf s) [] h = absurd (no_none (leaf s) h)
-  missing (doc fs) [] h = absurd (no_none (doc fs) h)
-  missing (array ts) [] h = absurd (no_none (array ts) h)
-  missing (code_scope s fs) [] h = absurd (no_none (code_scope s fs) h)
-  missing (leaf s) (c ∷ r) h = inl refl
-  missing (code_scope s fs) (c ∷ r) h = inl refl
-  missing (doc fs) (c ∷ r) h = missing_first fs c r h
-  missing (array ts) (c ∷ r) h =
-      let ks = each_gathering (key_gathering nulls) ts (c ∷ r) in
-      let ls = gathering_at (key_gathering nulls) ts (index_of c) r in
-      in_or_else null (ks ++ ls) nulls (elim (in_cases None (each_gathering ends ts (c ∷ r)) (gathering_at ends ts (index_of c) r) h) [
-        | inl a ↦ in_left null ks ls (missing_each ts (c ∷ r) a)
-        | inr b ↦ in_right null ks ls (missing_at ts (index_of c) r b)
-      ])
+null_of_stops : (t : Tree) (p : Names) → In null (flat_map (stop_keys false) (stops t p)) → In null (all_keys false t p)
+null_of_stops t p h = subst (λ ks. In null ks) (sym (keys_are false t p)) h
 
-  missing_first : (fs : Fields) (c : List ℕ) (r : Names) → In None (first_gathering ends fs c r) → In null (first_gathering (key_gathering nulls) fs c r)
-  missing_first no_fields c r h = inl refl
-  missing_first (field n t fs) c r h =
-      in_either (bytes_eq n c) None null (reach t r) (first_gathering ends fs c r) (all_keys false t r) (first_gathering (key_gathering nulls) fs c r) (λ a. missing t r a) (λ a. missing_first fs c r a) h
+-- where the path misses a field, null is a key
+missing : (t : Tree) (p : Names) → In None (reach t p) → In null (all_keys false t p)
+missing t p h = null_of_stops t p (missing_at (stops t p) (subst (λ es. In None es) (ends_are t p) h))
 
-  missing_each : (ts : Items) (p : Names) → In None (each_gathering ends ts p) → In null (each_gathering (key_gathering nulls) ts p)
-  missing_each no_items p h = absurd h
-  missing_each (item t ts) p h =
-      let ks = cond (is_document t) (all_keys false t p) [] in
-      let ls = each_gathering (key_gathering nulls) ts p in
-      elim (in_cases None (cond (is_document t) (reach t p) []) (each_gathering ends ts p) h) [
-        | inl a ↦ in_left null ks ls (in_either (is_document t) None null (reach t p) [] (all_keys false t p) [] (λ b. missing t p b) (λ b. absurd b) a)
-        | inr b ↦ in_right null ks ls (missing_each ts p b)
-      ]
-
-  missing_at : (ts : Items) (i : Option ℕ) (r : Names) → In None (gathering_at ends ts i r) → In null (gathering_at (key_gathering nulls) ts i r)
-  missing_at no_items i r h = absurd h
-  missing_at (item t ts) None r h = absurd h
-  missing_at (item t ts) (Some zero) r h = missing t r h
-  missing_at (item t ts) (Some (suc n)) r h = missing_at ts (Some n) r h
-
--- nothing, or null among it
-abbrev EmptyOrNull : List Tree → Type 0
-EmptyOrNull ks = (ks ≡ []) ⊎ In null ks
-
-both_empty : {A : Type 0} (xs ys : List A) → xs ++ ys ≡ [] → (xs ≡ []) × (ys ≡ [])
-both_empty [] ys e = (refl, e)
-both_empty (x ∷ xs) ys e = absurd (let f : ⊥ = cc in f)
-
-joined : (ks ls : List Tree) → EmptyOrNull ks → EmptyOrNull ls → EmptyOrNull (ks ++ ls)
-joined ks ls (inl a) (inl b) = inl (ap (λ xs. xs ++ ls) a ∙ b)
-joined ks ls (inl a) (inr b) = inr (in_right null ks ls b)
-joined ks ls (inr a) b = inr (in_left null ks ls a)
-
-null_at_last : (ks : List Tree) → EmptyOrNull ks → In null (or_else ks nulls)
-null_at_last ks (inl a) = subst (λ xs. In null (or_else xs nulls)) (sym a) (inl refl)
-null_at_last ks (inr a) = in_or_else null ks nulls a
-
-if_document : (t : Bool) (es : List End) (ks : List Tree) → (es ≡ [] → In null ks) → cond t es [] ≡ [] → EmptyOrNull (cond t ks [])
-if_document true es ks f e = inr (f e)
-if_document false es ks f e = inl refl
-
-in_chosen : (t : Bool) (es fs : List End) (ks ls : List Tree) → (es ≡ [] → In null ks) → (fs ≡ [] → In null ls) → cond t es fs ≡ [] → In null (cond t ks ls)
-in_chosen true es fs ks ls f g e = f e
-in_chosen false es fs ks ls f g e = g e
-
-mutual
-  -- where the path reaches nothing at all, null is a key
-  nowhere : (t : Tree) (p : Names) → reach t p ≡ [] → In null (all_keys false t p)
-  nowhere (leaf s) [] e = absurd (let f : ⊥ = cc in f)
-  nowhere (doc fs) [] e = absurd (let f : ⊥ = cc in f)
-  nowhere (array ts) [] e = absurd (let f : ⊥ = cc in f)
-  nowhere (code_scope s fs) [] e = absurd (let f : ⊥ = cc in f)
-  nowhere (leaf s) (c ∷ r) e = inl refl
-  nowhere (code_scope s fs) (c ∷ r) e = inl refl
-  nowhere (doc fs) (c ∷ r) e = nowhere_first fs c r e
-  nowhere (array ts) (c ∷ r) e =
-      let parts = both_empty (each_gathering ends ts (c ∷ r)) (gathering_at ends ts (index_of c) r) e in
-      let ks = each_gathering (key_gathering nulls) ts (c ∷ r) in
-      let ls = gathering_at (key_gathering nulls) ts (index_of c) r in
-      null_at_last (ks ++ ls) (joined ks ls (nowhere_each ts (c ∷ r) parts.0) (nowhere_at ts (index_of c) r parts.1))
-
-  nowhere_first : (fs : Fields) (c : List ℕ) (r : Names) → first_gathering ends fs c r ≡ [] → In null (first_gathering (key_gathering nulls) fs c r)
-  nowhere_first no_fields c r e = inl refl
-  nowhere_first (field n t fs) c r e =
-      in_chosen (bytes_eq n c) (reach t r) (first_gathering ends fs c r) (all_keys false t r) (first_gathering (key_gathering nulls) fs c r) (λ a. nowhere t r a) (λ a. nowhere_first fs c r a) e
-
-  nowhere_each : (ts : Items) (p : Names) → each_gathering ends ts p ≡ [] → EmptyOrNull (each_gathering (key_gathering nulls) ts p)
-  nowhere_each no_items p e = inl refl
-  nowhere_each (item t ts) p e =
-      let parts = both_empty (cond (is_document t) (reach t p) []) (each_gathering ends ts p) e in
-      joined (cond (is_document t) (all_keys false t p) []) (each_gathering (key_gathering nulls) ts p) (if_document (is_document t) (reach t p) (all_keys false t p) (λ a. nowhere t p a) parts.0) (nowhere_each ts p parts.1)
-
-  nowhere_at : (ts : Items) (i : Option ℕ) (r : Names) → gathering_at ends ts i r ≡ [] → EmptyOrNull (gathering_at (key_gathering nulls) ts i r)
-  nowhere_at no_items i r e = inl refl
-  nowhere_at (item t ts) None r e = inl refl
-  nowhere_at (item t ts) (Some zero) r e = inr (nowhere t r e)
-  nowhere_at (item t ts) (Some (suc n)) r e = nowhere_at ts (Some n) r e
+-- where the path reaches nothing at all, null is a key
+nowhere : (t : Tree) (p : Names) → reach t p ≡ [] → In null (all_keys false t p)
+nowhere t p e = null_of_stops t p (nowhere_at (stops t p) (some_stop t p) (sym (ends_are t p) ∙ e))
 
 no_values : (es : List End) → list_any is_some es ≡ false → (es ≡ []) ⊎ In None es
 no_values [] h = inl refl
@@ -142,28 +65,21 @@ pub record HasSome (ks : List Tree) : Type 0 where
   pub it : Tree
   pub is_in : In it ks
 
-or_else_some : (ks : List Tree) (k : Tree) → HasSome (or_else ks (k ∷ []))
-or_else_some [] k = record { it = k; is_in = inl refl }
-or_else_some (x ∷ xs) k = record { it = x; is_in = inl refl }
+first_key : (s : Stop Tree) (ks : List Tree) → HasSome (stop_keys false s ++ ks)
+first_key Missing ks = record { it = null; is_in = inl refl }
+first_key NoBranch ks = record { it = null; is_in = inl refl }
+first_key (Value (leaf s)) ks = record { it = leaf s; is_in = inl refl }
+first_key (Value (doc fs)) ks = record { it = doc fs; is_in = inl refl }
+first_key (Value (code_scope s fs)) ks = record { it = code_scope s fs; is_in = inl refl }
+first_key (Value (array no_items)) ks = record { it = leaf trees.undefined; is_in = inl refl }
+first_key (Value (array (item t ts))) ks = record { it = t; is_in = inl refl }
 
-chosen_some : (t : Bool) (ks ls : List Tree) → HasSome ks → HasSome ls → HasSome (cond t ks ls)
-chosen_some true ks ls f g = f
-chosen_some false ks ls f g = g
-
-mutual
-  pub some_key : (t : Tree) (p : Names) → HasSome (all_keys false t p)
-  some_key (leaf s) [] = record { it = leaf s; is_in = inl refl }
-  some_key (doc fs) [] = record { it = doc fs; is_in = inl refl }
-  some_key (code_scope s fs) [] = record { it = code_scope s fs; is_in = inl refl }
-  some_key (array ts) [] = or_else_some (list_of ts) (leaf trees.undefined)
-  some_key (leaf s) (c ∷ r) = record { it = null; is_in = inl refl }
-  some_key (code_scope s fs) (c ∷ r) = record { it = null; is_in = inl refl }
-  some_key (doc fs) (c ∷ r) = some_key_first fs c r
-  some_key (array ts) (c ∷ r) = or_else_some (each_gathering (key_gathering nulls) ts (c ∷ r) ++ gathering_at (key_gathering nulls) ts (index_of c) r) null
-
-  some_key_first : (fs : Fields) (c : List ℕ) (r : Names) → HasSome (first_gathering (key_gathering nulls) fs c r)
-  some_key_first no_fields c r = record { it = null; is_in = inl refl }
-  some_key_first (field n t fs) c r = chosen_some (bytes_eq n c) (all_keys false t r) (first_gathering (key_gathering nulls) fs c r) (some_key t r) (some_key_first fs c r)
+some_key : (t : Tree) (p : Names) → HasSome (all_keys false t p)
+some_key t p = subst HasSome (sym (keys_are false t p)) (go (stops t p) (some_stop t p))
+  where
+    go : (ss : Stops) → or_stop ss ≡ ss → HasSome (flat_map (stop_keys false) ss)
+    go [] o = absurd (let f : ⊥ = cc in f)
+    go (s ∷ ss) o = first_key s (flat_map (stop_keys false) ss)
 
 -- ---- equal values
 
@@ -256,43 +172,14 @@ thin_append thin_none u = u
 thin_append (thin_kept t) u = thin_kept (thin_append t u)
 thin_append (thin_out t) u = thin_out (thin_append t u)
 
-thin_or_else : {xs ys : List Tree} → Thinned xs ys → Thinned (or_else xs []) (or_else ys nulls)
-thin_or_else thin_none = thin_out thin_none
-thin_or_else (thin_kept t) = thin_kept t
-thin_or_else (thin_out {xs = xs} {ys = ys} t) = go xs t
-  where
-    go : (zs : List Tree) → Thinned zs ys → Thinned (or_else zs []) (null ∷ ys)
-    go [] u = thin_out u
-    go (z ∷ zs) u = thin_out u
+thin_at : (ss : Stops) → Thinned (flat_map (stop_keys true) ss) (flat_map (stop_keys false) ss)
+thin_at [] = thin_none
+thin_at (Value t ∷ ss) = thin_append (thin_same (end_keys t)) (thin_at ss)
+thin_at (Missing ∷ ss) = thin_out (thin_at ss)
+thin_at (NoBranch ∷ ss) = thin_out (thin_at ss)
 
-thin_chosen : (t : Bool) {xs ys zs ws : List Tree} → Thinned xs ys → Thinned zs ws → Thinned (cond t xs zs) (cond t ys ws)
-thin_chosen true a b = a
-thin_chosen false a b = b
-
-mutual
-  thin : (t : Tree) (p : Names) → Thinned (all_keys true t p) (all_keys false t p)
-  thin (leaf s) [] = thin_same (leaf s ∷ [])
-  thin (doc fs) [] = thin_same (doc fs ∷ [])
-  thin (code_scope s fs) [] = thin_same (code_scope s fs ∷ [])
-  thin (array ts) [] = thin_same (or_else (list_of ts) (leaf trees.undefined ∷ []))
-  thin (leaf s) (c ∷ r) = thin_out thin_none
-  thin (code_scope s fs) (c ∷ r) = thin_out thin_none
-  thin (doc fs) (c ∷ r) = thin_first fs c r
-  thin (array ts) (c ∷ r) = thin_or_else (thin_append (thin_each ts (c ∷ r)) (thin_at ts (index_of c) r))
-
-  thin_first : (fs : Fields) (c : List ℕ) (r : Names) → Thinned (first_gathering (key_gathering []) fs c r) (first_gathering (key_gathering nulls) fs c r)
-  thin_first no_fields c r = thin_out thin_none
-  thin_first (field n t fs) c r = thin_chosen (bytes_eq n c) (thin t r) (thin_first fs c r)
-
-  thin_each : (ts : Items) (p : Names) → Thinned (each_gathering (key_gathering []) ts p) (each_gathering (key_gathering nulls) ts p)
-  thin_each no_items p = thin_none
-  thin_each (item t ts) p = thin_append (thin_chosen (is_document t) (thin t p) thin_none) (thin_each ts p)
-
-  thin_at : (ts : Items) (i : Option ℕ) (r : Names) → Thinned (gathering_at (key_gathering []) ts i r) (gathering_at (key_gathering nulls) ts i r)
-  thin_at no_items i r = thin_none
-  thin_at (item t ts) None r = thin_none
-  thin_at (item t ts) (Some zero) r = thin t r
-  thin_at (item t ts) (Some (suc n)) r = thin_at ts (Some n) r
+thin : (t : Tree) (p : Names) → Thinned (all_keys true t p) (all_keys false t p)
+thin t p = rw (keys_are true t p, keys_are false t p) (thin_at (stops t p))
 
 -- the same members but for nulls
 abbrev AlikeButNull : List Tree → List Tree → Type 0

@@ -1,10 +1,12 @@
-pub mod BranchLemmas
 pub mod ComponentLemmas
 pub mod EarliestLemmas
 pub mod EndsLemmas
+pub mod KeyLemmas
 pub mod KeyListLemmas
 pub mod LawsLemmas
 pub mod MemberLemmas
 pub mod PositionsLemmas
 pub mod ReachLemmas
+pub mod StopLemmas
 pub mod VisitsLemmas
+pub mod WalkLemmas

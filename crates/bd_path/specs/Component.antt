@@ -1,5 +1,5 @@
 -- The index that a component of a path is.
-use Rattle.std.specs.Prelude.{ℕ, List, [], ◌∷◌, Bool, false, ◌==◌, min, if◌then◌else◌, Option, Some, None, option_map}
+use Rattle.std.specs.Prelude.{ℕ, List, [], ◌∷◌, Bool, false, ◌==◌, min, nat_lt, if◌then◌else◌, Option, Some, None, option_map}
 use Rattle.std.specs.Char.{is_ascii_digit}
 use Rattle.std.specs.Str.{all_ascii_digits}
 use Rattle.std.specs.Str.Parse.{digits_value}
@@ -16,3 +16,8 @@ index_of name = if is_index name then Some (digits_value 10 name) else None
 -- the same, where an index past every array is told as the greatest number of 64 bits
 abbrev pub held_index : List ℕ → Option ℕ
 held_index name = option_map (λ i. min i 18446744073709551615) (index_of name)
+
+-- an index is below a length
+abbrev pub is_below : Option ℕ → ℕ → Bool
+is_below None n = false
+is_below (Some i) n = nat_lt i n

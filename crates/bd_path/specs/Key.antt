@@ -1,9 +1,13 @@
 -- What a key stands for.
-use Rattle.std.specs.Prelude.{◌≡◌, ℕ, List, map, All}
+use Rattle.std.specs.Prelude.{◌≡◌, ℕ, List, Bool, true, false, map, All}
+use Rattle.std.specs.List.{list_any}
 use Rattle.bd_value.specs.Tree as trees
-use Rattle.bd_value.specs.Tree.{Tree, leaf}
+use Rattle.bd_value.specs.Tree.{Tree, leaf, doc, array, code_scope, no_items, item}
+use Rattle.bd_path.specs.Stop.{Stops}
 use Rattle.bd_path.specs.declared.key.Key.{Key}
 use Rattle.bd_path.specs.declared.key.Key.TheVariants.{Node, Null, Undefined}
+use Rattle.bd_path.specs.declared.stop.Stop.{Stop}
+use Rattle.bd_path.specs.declared.stop.Stop.TheVariants.{Value, Missing, NoBranch}
 
 abbrev pub key_tree : {N : Type 0} → (N → Tree) → Key N → Tree
 key_tree tree (Node n) = tree n
@@ -21,3 +25,28 @@ key_trees tree keys = map (key_tree tree) keys
 
 abbrev pub AreKeysOf : {N : Type 0} → (N → List ℕ) → List ℕ → List (Key N) → Type 0
 AreKeysOf source bytes keys = All (IsKeyOf source bytes) keys
+
+-- no value stands there
+abbrev pub is_no_value : Stop Tree → Bool
+is_no_value (Value t) = false
+is_no_value Missing = true
+is_no_value NoBranch = true
+
+abbrev pub is_empty_array : Stop Tree → Bool
+is_empty_array (Value (leaf s)) = false
+is_empty_array (Value (doc fs)) = false
+is_empty_array (Value (array no_items)) = true
+is_empty_array (Value (array (item t ts))) = false
+is_empty_array (Value (code_scope s fs)) = false
+is_empty_array Missing = false
+is_empty_array NoBranch = false
+
+-- A key is a node where a value stands: null is for a value that is not there, and for none in a sparse index; undefined is for
+-- an empty array.
+abbrev pub IsKeyAt : {N : Type 0} → Bool → Stops → Key N → Type 0
+IsKeyAt sparse ss (Node n) = Unit {0}
+IsKeyAt sparse ss Null = (sparse ≡ false) × (list_any is_no_value ss ≡ true)
+IsKeyAt sparse ss Undefined = list_any is_empty_array ss ≡ true
+
+abbrev pub AreKeysAt : {N : Type 0} → Bool → Stops → List (Key N) → Type 0
+AreKeysAt sparse ss keys = All (IsKeyAt sparse ss) keys

@@ -1,5 +1,4 @@
 pub mod AddedKeys
-pub mod Branch
 pub mod Component
 pub mod Earliest
 pub mod EarliestKeys
@@ -13,4 +12,6 @@ pub mod PathNames
 pub mod Positions
 pub mod Reach
 pub mod Sort
+pub mod Stop
 pub mod Visits
+pub mod Walk

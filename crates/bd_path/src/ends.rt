@@ -1,21 +1,18 @@
 //! What a path reaches.
 
-ghost use Rattle.std.specs.Prelude.{◌≡◌, ◌≤◌, ◌<◌, Bool, false, Option, drop, length, option_map};
+ghost use Rattle.std.specs.Prelude.{◌≡◌, ◌∷◌, [], List, ℕ, Bool, Option, option_map};
 ghost use Rattle.std.specs.List.{list_any};
-ghost use Rattle.bd_value.specs.Kind.{kind_of};
 ghost use Rattle.bd_value.specs.Tree as trees;
-ghost use Rattle.bd_value.specs.declared.kind.Kind.TheVariants as kinds;
-ghost use Rattle.bd_path.specs.Names.{component_names};
 ghost use Rattle.bd_path.specs.PathNames.{names_of};
-ghost use Rattle.bd_path.specs.Reach.{document_ends, ends, index_ends, reach};
-ghost use Rattle.bd_path.specs.Visits.{GathersNone};
+ghost use Rattle.bd_path.specs.Reach.{reach};
+ghost use Rattle.bd_path.specs.Stop.{IsStopOf, is_passed, stop_tree};
+ghost use Rattle.bd_path.specs.Walk.{TakesOrEnds};
 
-use crate::branch::is_document;
-use crate::component::Component;
 use crate::path::Path;
-use crate::positions::{index_at, name_at};
+use crate::stop::Stop;
 use crate::visits::Visits;
-use bd_value::{Kind, Reading};
+use crate::walk::{Gatherer, walk};
+use bd_value::Reading;
 
 /// What an end of a path is asked.
 pub trait EndTest {
@@ -34,122 +31,39 @@ pub trait EndTest {
 pub fn any_end<N: Reading, T: EndTest>(node: N, path: &Path, test: &T) -> bool
     ensures { result ≡ list_any (T.passes test.now) (reach (N.tree node) (names_of path.now)) }
 {
-    any_end_from(node, path.components(), 0, &Visits::Nowhere, test)
+    let gatherer = EndGatherer { test };
+    !walk(
+        &gatherer,
+        &mut (),
+        node,
+        path.components(),
+        0,
+        &Visits::Nowhere,
+    )
 }
 
-/// Whether some end of the rest of a path passes, from a component on.
-///
-/// A value is gone into once from each position of the path: where it was walked before, it was in vain.
-#[cycle(ends)]
-fn any_end_from<N: Reading, T: EndTest>(
-    node: N,
-    path: &[Component],
-    k: usize,
-    walked: &Visits,
-    test: &T,
-) -> bool
-    requires few { length path.now ≤ 100 }
-    requires at { k ≤ length path.now }
-    requires vain { GathersNone (T.passes test.now) ends (N.tree node) (component_names path.now) walked.now }
-    ensures { result ≡ list_any (T.passes test.now) (reach (N.tree node) (drop k (component_names path.now))) }
-{
-    if walked.has(k) {
-        return false;
-    }
-    if k == path.len() {
-        return test.test(Some(node));
-    }
-    match node.kind() {
-        Kind::Doc => any_end_in_field(node, path, k, walked, test),
-        Kind::Array => {
-            any_end_in_documents(node, path, k, walked, test)
-                || any_end_at_index(node, path, k, walked, test)
-        }
-        _ => test.test(None::<N>),
-    }
+/// Looks for an end that passes, and ends the walk at the first.
+#[derive(Drop)]
+struct EndGatherer<'a, T> {
+    test: &'a T,
 }
 
-/// The same in the field of a document.
-#[cycle(ends)]
-fn any_end_in_field<N: Reading, T: EndTest>(
-    node: N,
-    path: &[Component],
-    k: usize,
-    walked: &Visits,
-    test: &T,
-) -> bool
-    requires few { length path.now ≤ 100 }
-    requires at { k < length path.now }
-    requires kind { kind_of (N.tree node) ≡ kinds.Doc }
-    requires vain { GathersNone (T.passes test.now) ends (N.tree node) (component_names path.now) walked.now }
-    ensures { result ≡ list_any (T.passes test.now) (reach (N.tree node) (drop k (component_names path.now))) }
-{
-    let name = name_at(path, k);
-    match node.first(name) {
-        Some(value) => {
-            let inside = walked.at_field(path, name);
-            any_end_from(value, path, k + 1, &inside, test)
-        }
-        None => test.test(None::<N>),
-    }
-}
+impl<N: Reading, T: EndTest> Gatherer<N> for EndGatherer<'_, T> {
+    type Found = ();
 
-/// The same in the documents of an array.
-#[cycle(ends)]
-fn any_end_in_documents<N: Reading, T: EndTest>(
-    node: N,
-    path: &[Component],
-    k: usize,
-    walked: &Visits,
-    test: &T,
-) -> bool
-    requires few { length path.now ≤ 100 }
-    requires at { k < length path.now }
-    requires kind { kind_of (N.tree node) ≡ kinds.Array }
-    requires vain { GathersNone (T.passes test.now) ends (N.tree node) (component_names path.now) walked.now }
-    ensures { result ≡ list_any (T.passes test.now) (document_ends (N.tree node) (drop k (component_names path.now))) }
-{
-    let mut left = node.parts();
-    for i in 0..usize::MAX {
-        let Some(next) = N::next(&left) else {
-            return false;
-        };
-        if is_document(next.1) {
-            let inside = walked.at_document(path, i);
-            if any_end_from(next.1, path, k, &inside, test) {
-                return true;
-            }
-        }
-        left = next.2;
-    }
-    // Nothing is left: an array has no more elements than can be counted.
-    let _count = node.len();
-    false
-}
+    ghost amounts = { λ _ _ _ _. Unit {0} };
 
-/// The same in the element of an array whose index the component is, where there is one, after its documents.
-#[cycle(ends)]
-fn any_end_at_index<N: Reading, T: EndTest>(
-    node: N,
-    path: &[Component],
-    k: usize,
-    walked: &Visits,
-    test: &T,
-) -> bool
-    requires few { length path.now ≤ 100 }
-    requires at { k < length path.now }
-    requires kind { kind_of (N.tree node) ≡ kinds.Array }
-    requires vain { GathersNone (T.passes test.now) ends (N.tree node) (component_names path.now) walked.now }
-    requires documents { list_any (T.passes test.now) (document_ends (N.tree node) (drop k (component_names path.now))) ≡ false }
-    ensures { result ≡ list_any (T.passes test.now) (index_ends (N.tree node) (drop k (component_names path.now))) }
-{
-    let index = index_at(path, k);
-    match index {
-        Some(i) if i < node.len() => {
-            let element = node.element(i);
-            let inside = walked.at_index(path, k, i, is_document(element));
-            any_end_from(element, path, k + 1, &inside, test)
+    ghost is_new = { λ s _ stop. is_passed (T.passes s.test.now) stop };
+
+    ghost ends = { λ s stop. is_passed (T.passes s.test.now) stop };
+
+    fn take(&self, _found: &mut (), stop: Stop<N>) -> bool
+        ensures { (bytes : List ℕ) → IsStopOf N.source bytes stop → TakesOrEnds (λ _ _ _. Unit {0}) (λ _. is_passed (T.passes self.now.test.now)) (is_passed (T.passes self.now.test.now)) result bytes _found.old _found.new (stop_tree N.tree stop ∷ []) }
+    {
+        match stop {
+            Stop::Value(node) => !self.test.test(Some(node)),
+            Stop::Missing => !self.test.test(None::<N>),
+            Stop::NoBranch => true,
         }
-        _ => false,
     }
 }

@@ -16,15 +16,14 @@
 //! - `path`, `path_fault`, `component`: `Path`, a text cut into its components: `specs/Path.antt`.
 //! - `positions`, `visits`: where a value was walked before, so that each walk down a path goes into it once from each position of
 //!   the path: `specs/Visits.antt`.
+//! - `stop`, `walk`: the one walk down a path, for whatever gathers what it leads to: `specs/Stop.antt`.
 //! - `ends`: `any_end`, whether a value that the path reaches passes a test: `specs/Reach.antt`.
-//! - `branch`: whether a path goes on below an array: `specs/Branch.antt`.
 //! - `key`, `key_list`: the keys of a document on a path, as nodes of the document: `specs/KeyList.antt`.
 //! - `dir`, `earliest`, `sort`: the key of a document in a sort, found with no list of keys, and the order of two documents by
 //!   several paths: `specs/Earliest.antt`.
 //! - `laws`: keys are always there; a sparse index leaves out nulls alone; a sort is total.
 #![tactic(auto)]
 
-mod branch;
 mod component;
 mod dir;
 mod earliest;
@@ -36,9 +35,10 @@ mod path;
 mod path_fault;
 mod positions;
 mod sort;
+mod stop;
 mod visits;
+mod walk;
 
-pub use branch::is_document;
 pub use component::Component;
 pub use dir::Dir;
 pub use earliest::{compare_in, sort_key, sort_key_node};
@@ -50,3 +50,4 @@ pub use path::Path;
 pub use path_fault::PathFault;
 pub use sort::compare_sort;
 pub use visits::Visits;
+pub use walk::is_document;

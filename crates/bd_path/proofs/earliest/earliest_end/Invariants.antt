@@ -1,8 +1,9 @@
-use Rattle.std.proofs.Common.{◌≡◌, length, option_map}
+use Rattle.std.proofs.Common.{◌≡◌, false, [], ◌∷◌, length, option_map}
 use Rattle.std.specs.Prelude.{IfSome}
 use Rattle.bd_value.specs.Parts.{values_of, elements_in}
 use Rattle.bd_path.specs.Earliest.{earlier_key, earliest_key}
-use Rattle.bd_path.specs.Key.{IsKeyOf, key_tree}
+use Rattle.bd_path.specs.Key.{IsKeyAt, IsKeyOf, key_tree}
+use Rattle.bd_path.specs.declared.stop.Stop.TheVariants.{Value}
 use Rattle.bd_path.proofs.earliest.earliest_end.Given as goal
 
 -- the earliest so far, and of those that are left, is that of all
@@ -11,6 +12,7 @@ invariant-loop-next g l = record {
   so_far : earlier_key l.dir (option_map (key_tree g.N.Reading.tree) l.earliest) (earliest_key l.dir (values_of (g.N.Reading.left l.left)))
       ≡ earliest_key l.dir (elements_in (g.N.Reading.tree l.fn.node));
   kept : IfSome l.earliest (λ k. IsKeyOf g.N.Reading.source (g.N.Reading.source l.fn.node) k);
+  there : IfSome l.earliest (IsKeyAt false (Value (g.N.Reading.tree l.fn.node) ∷ []));
   source : g.N.Reading.rest_source l.left ≡ g.N.Reading.source l.fn.node;
 }
 
