@@ -1,11 +1,9 @@
 //! A dump from its bytes.
 
-ghost use Rattle.std.specs.Prelude.{◌≡◌, ◌≤◌, IfOk, IfErr, [], List, Option, length};
-ghost use Rattle.bd_value.specs.Tree.{Doc};
+ghost use Rattle.std.specs.Prelude.{◌≡◌, ◌≤◌, IfOk, IfErr, [], length};
 ghost use Rattle.bd_bson.specs.Collection.{documents, bytes_of, IsUnread};
-ghost use Rattle.bd_check.specs.Dump.{IsDump, IsWalk};
+ghost use Rattle.bd_check.specs.Dump.{IsDump};
 ghost use Rattle.bd_bson.specs.Starts.{StandAt, documents_starting_at};
-ghost use Rattle.bd_check.specs.Fault.{Fault as Where};
 
 use crate::collection::Dump;
 use bd_check::{Fault, FaultKind, next_document, want_of_memory};
@@ -33,7 +31,6 @@ fn starts_in(alloc: Global, bytes: &[u8]) -> Result<Vec<u32>, Fault>
     ensures dump { IfOk result (λ starts. (all : StandAt bytes.now starts.items) × IsDump (documents_starting_at bytes.now starts.items all) bytes.now) }
     ensures few { IfOk result (λ starts. length starts.items ≤ length bytes.now) }
     ensures fault { IfErr result (IsUnread bytes.now) }
-    ensures walk { (ds : List Doc) × (end : Option Where) × IsWalk ds end bytes.now }
 {
     let mut starts = Vec::new(alloc);
     let mut at = 0;
@@ -58,8 +55,6 @@ pub fn read_dump(alloc: Global, bytes: Vec<u8>) -> Result<Dump, Fault>
     ensures dump { IfOk result (λ dump. IsDump (documents dump) bytes.items) }
     ensures bytes { IfOk result (λ dump. bytes_of dump ≡ bytes.items) }
     ensures fault { IfErr result (IsUnread bytes.items) }
-    // Whatever was answered, the bytes are documents in turn and then end, or fail after these.
-    ensures walk { length bytes.items ≤ 4294967295 → (ds : List Doc) × (end : Option Where) × IsWalk ds end bytes.items }
 {
     if bytes.len() > 4_294_967_295 {
         return Err(too_long(alloc));

@@ -34,27 +34,27 @@ module _ (old new : Reader) (out_old out_new : Writer) (err_old err_new : Writer
   abbrev pub Shows : Type 0
   Shows = DumpsInput (between old new) (between out_old out_new) (between err_old err_new) status
 
-  -- standard error was told this, or where no read failed that memory ran out
+  -- standard error was told this, or where no read failed and no limit was passed that memory ran out
   abbrev Tells : List ℕ → Status → Type 0
   Tells text wanted =
       TellsMessage (between err_old err_new) text wanted status
-      ⊎ ((new.failures ≡ old.failures) × TellsMessage (between err_old err_new) (error_line (codes "no memory")) Failed status)
+      ⊎ (TakesAtMost 4294967295 (between old new) × (new.failures ≡ old.failures) × TellsMessage (between err_old err_new) (error_line (codes "no memory")) Failed status)
 
   all_of : (bytes : List ℕ) (fault : Option ReadFault) (shown : Transcript) (ds : List Doc) (given rest : List ℕ) → StreamsInput (between old new) bytes fault → EndsWithinLimit bytes fault → IsShownByDump bytes fault shown
       → AreJoined ds given → bytes ≡ given ++ rest → shown.out ≡ lines ds → TakesText (between out_old out_new) (lines ds) → Tells shown.err shown.status → Shows
   all_of bytes fault shown ds given rest was within is joined cut same wrote (inl t) =
       inl (bytes, fault, shown, was, within, is, subst (λ (x : List ℕ). TakesText (between out_old out_new) x) (sym same) wrote, t)
   all_of bytes fault shown ds given rest was within is joined cut same wrote (inr t) =
-      inr (inr ((ds, given, joined, streamed_front old new bytes given rest fault was cut, t.0, wrote), t.1))
+      inr (inr ((ds, given, joined, streamed_front old new bytes given rest fault was cut, t.0, t.1, wrote), t.2))
 
   numbered : (count : ℕ) (f : told.Fault) (ds : List Doc) → count ≡ length ds → f.document ≡ length ds
       → error_line (fault_text f.document (fault_view f)) ++ dump_count_line count ≡ dump_message (length ds) (Some (fault_view f))
   numbered count f ds same is = ap₂ (λ (n m : ℕ). error_line (fault_text n (fault_view f)) ++ dump_count_line m) is same
 
-  told_of : (text : List ℕ) (wanted : Status) (ending : Ending) → (IsFaulty ending → new.failures ≡ old.failures)
+  told_of : (text : List ℕ) (wanted : Status) (ending : Ending) → (IsFaulty ending → TakesAtMost 4294967295 (between old new) × (new.failures ≡ old.failures))
       → TellsMessage (between err_old err_new) text wanted status ⊎ (IsFaulty ending × TellsMessage (between err_old err_new) (error_line (codes "no memory")) Failed status) → Tells text wanted
   told_of text wanted ending well (inl t) = inl t
-  told_of text wanted ending well (inr t) = inr (well t.0, t.1)
+  told_of text wanted ending well (inr t) = let w = well t.0 in inr (w.0, w.1, t.1)
 
   pub shows_walk : (walk : Walk) → WalksDocuments (between old new) (between out_old out_new) walk
       → TellsMessage (between err_old err_new) (walk_message walk.count walk.ending) (ending_status walk.ending) status
@@ -69,7 +69,7 @@ module _ (old new : Reader) (out_old out_new : Writer) (err_old err_new : Writer
           (subst (λ n. Tells (dump_count_line n) Done) same (told_of (dump_count_line count) Done endings.Whole (λ f. absurd f) told))
       by_ending (endings.Faulty f) count same (bytes, was, within, fails, number) told =
           all_of bytes None (shown_dump ds (Some (fault_view f))) ds fails.0 fails.1 was within (ds, Some (fault_view f), fails, refl) fails.2 fails.3 refl wrote
-          (subst (λ x. Tells x Failed) (numbered count f ds same number) (told_of (walk_message count (endings.Faulty f)) Failed (endings.Faulty f) (λ u. was.2) told))
+          (subst (λ x. Tells x Failed) (numbered count f ds same number) (told_of (walk_message count (endings.Faulty f)) Failed (endings.Faulty f) (λ u. (was.1, was.2)) told))
       by_ending (endings.Unread f) count same (front, part, was, joined, cut) told =
           all_of (front ++ part) (Some f) (shown_unread (lines ds) f (dump_count_line (length ds))) ds front part was tt (ds, front, part, joined, cut, refl, refl) joined refl refl wrote
           (subst (λ n. Tells (error_line (read_words f) ++ dump_count_line n) Failed) same (told_of (walk_message count (endings.Unread f)) Failed (endings.Unread f) (λ u. absurd u) told))

@@ -4,7 +4,7 @@ use Rattle.std.specs.Prelude.{◌≡◌, ◌≤◌, ◌⊎◌, ℕ, List, [], �
 use Rattle.std.specs.Io.{StartsWith}
 use Rattle.std.specs.Io.KnownBytes.{Consumes}
 use Rattle.bd_value.specs.Tree.{Doc}
-use Rattle.bd_device.specs.Devices.{BreaksAfter, Over, Reader, TakesText, Writer}
+use Rattle.bd_device.specs.Devices.{BreaksAfter, Over, Reader, TakesAtMost, TakesText, Writer}
 use Rattle.bd_device.specs.declared.reading.ReadFault.{ReadFault}
 use Rattle.bd_check.specs.Fault.{Fault}
 use Rattle.bd_check.specs.Dump.{AreJoined, IsWalk, frame_fault}
@@ -67,11 +67,12 @@ BreaksAtDocument file out =
     × Consumes file.before.left file.after.left given × (file.after.failures ≡ file.before.failures)
     × BreaksAfter out (lines ds) (lines (d ∷ []))
 
--- memory ran out after the lines of these documents: the reader's bytes begin with them, and no read failed
+-- memory ran out after the lines of these documents: the reader's bytes begin with them, no read failed, and no more bytes were
+-- read than may be
 abbrev pub StarvesAfterDocuments : Over Reader → Over Writer → Type 0
 StarvesAfterDocuments file out =
     (ds : List Doc) × (given : List ℕ) × AreJoined ds given
-    × IfSome file.before.left (λ xs. StartsWith xs given)
+    × IfSome file.before.left (λ xs. StartsWith xs given) × TakesAtMost 4294967295 file
     × (file.after.failures ≡ file.before.failures) × TakesText out (lines ds)
 
 -- all was shown; or standard output broke, or memory ran out, and standard error tells so

@@ -1,8 +1,7 @@
 -- The lines of documents that were found, and the ends of a run of `find`.
-use Rattle.std.proofs.Common.{◌≡◌, ◌≤◌, ◌<◌, ◌+◌, ◌-◌, ℕ, List, [], ◌∷◌, ◌++◌, length, get_or, take, drop, Option, Some, None, refl, sym, ap, ◌∙◌, subst, append_assoc, append-nil, arith, inl, inr, zero, suc, Bool, true, false, cond, ◌⊎◌, codes, Ok, Err}
-use Rattle.std.specs.Prelude.{slice_get, MatchOption}
-use Rattle.std.specs.List.{All}
-use Rattle.std.proofs.lemmas.List.{take-append-drop, take_more, take_all, drop_all}
+use Rattle.std.proofs.Common.{◌≡◌, ◌≤◌, ◌<◌, ◌+◌, ℕ, List, [], ◌∷◌, ◌++◌, length, get_or, take, drop, Some, refl, sym, ap, ◌∙◌, subst, arith, inl, inr, ◌⊎◌, codes, Err}
+use Rattle.std.specs.Prelude.{slice_get}
+use Rattle.std.proofs.lemmas.List.{take-append-drop, take_more}
 use Rattle.std.proofs.lemmas.List.Elements.{filter_map-append}
 use Rattle.bd_value.specs.Tree.{Doc, doc, fields_of}
 use Rattle.bd_text.specs.Text.{text}
@@ -11,21 +10,19 @@ use Rattle.bd_bson.specs.Collection.{IsUnread}
 use Rattle.bd_check.specs.AnsweredFault.{fault_view}
 use Rattle.bd_check.specs.declared.fault.Fault as declared
 use Rattle.bd_check.specs.declared.fault.FaultKind.TheVariants as kinds
-use Rattle.bd_check.specs.Fault.{Fault}
-use Rattle.bd_check.specs.Dump.{IsWalk}
 use Rattle.bd_files.specs.declared.status.Status.{Status}
 use Rattle.bd_files.specs.declared.status.Status.TheVariants.{Failed}
 use Rattle.bd_request.specs.declared.refused.Refused.{Refused}
 use Rattle.bd_request.specs.declared.refused.Refused.TheVariants as reasons
 use Rattle.bd_find.specs.Asking.{PageRequest, refused_text}
 use Rattle.bd_find.specs.Batch.{places_from, query_for}
-use Rattle.bd_find.proofs.UniqueLemmas.{bytes_show, dump_shows}
+use Rattle.bd_find.proofs.UniqueLemmas.{dump_shows}
 use Rattle.bd_files.proofs.OutputLemmas.LinesLemmas.{lines-append}
 use Rattle.bd_bson.specs.Documents.{documents_at}
 use Rattle.bd_find.specs.Find.{IsShownOfBytes, IsShownOfDump}
 use Rattle.bd_files.specs.Outcome.{PrintsOrStarves, TellsMessage}
 use Rattle.bd_files.specs.Transcript.{Transcript, error_line, fault_text, lines, shown_refusal}
-use Rattle.bd_device.specs.Devices.{TakesFront, TakesText, Writer, between}
+use Rattle.bd_device.specs.Devices.{Writer, between}
 
 -- the lines of the documents at the first places
 abbrev pub lines_to : List Doc → List ℕ → ℕ → List ℕ
@@ -90,9 +87,3 @@ module _ (out_old out_new : Writer) (err_old err_new : Writer) (status : Status)
       either (inr t) = t
   refused_shown bytes ds w refused (inr led) told =
       (shown_refusal (refused_text refused), inl (refused_text refused, sym led, refl), refusal_shown (refused_text refused) told)
-
-  pub starved_shown : (w : PageRequest) (bytes : List ℕ) → (ds : List Doc) × (end : Option Fault) × IsWalk ds end bytes → TellsMessage (between err_old err_new) (error_line (codes "no memory")) Failed status
-      → (shown : Transcript) × IsShownOfBytes w bytes shown × PrintsOrStarves (between out_old out_old) (between err_old err_new) shown status
-  starved_shown w bytes (ds, end, walk) told =
-      let shows = bytes_show w bytes ds end walk in
-      (shows.0, shows.1, nothing_shown shows.0 told)

@@ -4,7 +4,7 @@
 ghost use Rattle.std.specs.Prelude.{◌≡◌, ◌≤◌, length, true};
 ghost use Rattle.bd_command_line.specs.FindWords.{find_words_of};
 ghost use Rattle.bd_find.specs.Find.{FindsDocuments, IsShownOfBytes};
-ghost use Rattle.bd_find.specs.Asking.{AsksNothing, fits_batch, page_request_of};
+ghost use Rattle.bd_find.specs.Asking.{AsksNothing, PageRequest, fits_batch, page_request_of};
 ghost use Rattle.bd_files.specs.Outcome.{PrintsOrStarves};
 ghost use Rattle.bd_files.specs.Transcript.{Transcript};
 ghost use Rattle.bd_device.specs.Devices.{over};
@@ -56,6 +56,7 @@ fn find_in<O: Output, E: Output>(
     ensures { (shown : Transcript) × IsShownOfBytes (page_request_of asking) bytes.items shown
         × PrintsOrStarves (over O.state out.old out.new) (over E.state err.old err.new) shown result }
 {
+    something_is_shown(&bytes);
     match read_dump(alloc, bytes) {
         Ok(dump) => show_found(alloc, dump, asking, out, err),
         Err(fault) => {
@@ -66,3 +67,8 @@ fn find_in<O: Output, E: Output>(
         }
     }
 }
+
+/// Of any bytes there is something to be shown, whatever is asked for. It does nothing.
+fn something_is_shown(bytes: &[u8])
+    ensures { (w : PageRequest) → (shown : Transcript) × IsShownOfBytes w bytes.now shown }
+{}

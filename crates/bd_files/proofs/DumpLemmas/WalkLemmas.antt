@@ -118,20 +118,20 @@ module _ (old : Reader) (out_old : Writer) where
       breaks_after out_old out_mid out_new (lines s.done) (lines (d ∷ [])) s.wrote broke,
     )
 
-    -- memory ran out
-    pub starves : (new : Reader) → new.failures ≡ mid.failures → StarvesAfterDocuments (between old new) (between out_old out_mid)
-    starves new well = (s.done, s.given, s.joined, front_known old.left mid.left s.given s.gave, well ∙ s.well, s.wrote)
-
-    -- printing a document was stopped
-    pub stops_by : (new : Reader) (out_new : Writer) (frame : List ℕ) (st : OutputFault) → Consumes mid.left new.left frame → new.failures ≡ mid.failures
-        → (was_stopped st NoMemory → out_new ≡ out_mid) → (was_stopped st Unwritten → (d : Doc) × IsDocument d frame × BreaksWithin (between out_mid out_new) (lines (d ∷ [])))
-        → StopsWalk (between old new) (between out_old out_new) st
-    stops_by new out_new frame NoMemory gave well starved broke = rw (starved refl) (starves new well)
-    stops_by new out_new frame Unwritten gave well starved broke = let b = broke refl in breaks new out_new frame b.0 b.1 gave well b.2
-
     took : (new : Reader) (part : List ℕ) → Consumes mid.left new.left part → length part ≤ room → TakesAtMost 4294967295 (between old new)
     took new part gave fits =
         (s.given ++ part, Consumes-trans old.left mid.left new.left s.given part s.gave gave, let f = s.fits in let p = s.placed in omega (arith, length-append s.given part))
+
+    -- memory ran out
+    pub starves : (new : Reader) (part : List ℕ) → Consumes mid.left new.left part → length part ≤ room → new.failures ≡ mid.failures → StarvesAfterDocuments (between old new) (between out_old out_mid)
+    starves new part gave short well = (s.done, s.given, s.joined, front_known old.left mid.left s.given s.gave, took new part gave short, well ∙ s.well, s.wrote)
+
+    -- printing a document was stopped
+    pub stops_by : (new : Reader) (out_new : Writer) (frame : List ℕ) (st : OutputFault) → Consumes mid.left new.left frame → length frame ≤ room → new.failures ≡ mid.failures
+        → (was_stopped st NoMemory → out_new ≡ out_mid) → (was_stopped st Unwritten → (d : Doc) × IsDocument d frame × BreaksWithin (between out_mid out_new) (lines (d ∷ [])))
+        → StopsWalk (between old new) (between out_old out_new) st
+    stops_by new out_new frame NoMemory gave short well starved broke = rw (starved refl) (starves new frame gave short well)
+    stops_by new out_new frame Unwritten gave short well starved broke = let b = broke refl in breaks new out_new frame b.0 b.1 gave well b.2
 
     -- the input is at its end
     pub ends_whole : (new : Reader) (count : ℕ) → count ≡ number → IsAtEnd new.left → Consumes mid.left new.left [] → new.failures ≡ mid.failures
@@ -183,5 +183,5 @@ module _ (old : Reader) (out_old : Writer) where
     ends_by count given (faults.Read reads.TooLong) r same by gave reason = rw by (unread_ends count given reads.TooLong same (λ e. absurd cc) gave reason)
     ends_by count given (faults.Read reads.TooManyTurns) r same by gave reason = rw by (unread_ends count given reads.TooManyTurns same (λ e. absurd cc) gave reason)
     ends_by count given (faults.Read reads.NoMemory) r same by gave reason =
-        rw by (starves (state m) out_mid documents.place documents.number documents.left.bytes documents.left.turns s (state n) reason.2)
+        rw by (starves (state m) out_mid documents.place documents.number documents.left.bytes documents.left.turns s (state n) given gave reason.1 reason.2)
     ends_by count given faults.Failed r same by gave reason = absurd reason

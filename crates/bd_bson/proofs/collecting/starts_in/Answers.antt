@@ -1,15 +1,7 @@
-use Rattle.std.proofs.Common.{arith, rules, refl, ℕ, List, [], Option}
+use Rattle.std.proofs.Common.{arith, rules}
 use Rattle.std.proofs.lemmas.Result.{err_from_is_err_and}
-use Rattle.bd_value.specs.Tree.{Doc}
-use Rattle.bd_check.specs.Dump.{IsWalk}
-use Rattle.bd_check.specs.Fault.{Fault as Where}
-use Rattle.bd_check.proofs.DumpLemmas.{walk_on}
-use Rattle.bd_check.proofs.FirstFaultLemmas.{IsBytes}
 use Rattle.bd_bson.proofs.CollectionLemmas.{goes_on, ended, failed}
 use Rattle.bd_bson.proofs.collecting.starts_in.Goals as goal
-
-walk_there : (bytes : List ℕ) → IsBytes bytes → (ds : List Doc) × (end : Option Where) × IsWalk ds end bytes
-walk_there bytes fits = let w = walk_on [] [] bytes fits refl in (w.more, w.end, w.walk)
 
 pub returns-in_err-after-clause-fault : goal.returns-in_err-after-clause-fault
 returns-in_err-after-clause-fault c =
@@ -24,12 +16,3 @@ loop-starts-preserved c =
 pub returns-clause-dump : goal.returns-clause-dump
 returns-clause-dump c =
     ended c.args.bytes.now c.loop-starts.starts.items c.loop-starts.at c.loop-starts.invariant.0 (rw c.in_default.is at c.in_ok-after.ensures.next) c.loop-starts.invariant.1
-
-pub returns-in_err-after-clause-walk : goal.returns-in_err-after-clause-walk
-returns-in_err-after-clause-walk c = walk_there c.args.bytes.now (λ i. omega (arith, c.type_inv.bytes i))
-
-pub returns-then-is_err-clause-walk : goal.returns-then-is_err-clause-walk
-returns-then-is_err-clause-walk c = walk_there c.args.bytes.now (λ i. omega (arith, c.type_inv.bytes i))
-
-pub returns-clause-walk : goal.returns-clause-walk
-returns-clause-walk c = walk_there c.args.bytes.now (λ i. omega (arith, c.type_inv.bytes i))

@@ -3,7 +3,7 @@ use Rattle.bd_bson.specs.Collection.{documents}
 use Rattle.bd_find.proofs.FindLemmas as finds
 use Rattle.bd_find.proofs.BatchLemmas.{five_each}
 use Rattle.bd_find.proofs.find.find_in.Goals as goal
-use Rattle.bd_find.specs.Find.{IsShownOfDump}
+use Rattle.bd_find.specs.Find.{IsShownOfBytes, IsShownOfDump}
 use Rattle.bd_find.specs.Asking.{page_request_of}
 
 pub show_found-requires-clause-few : goal.show_found-requires-clause-few
@@ -21,7 +21,12 @@ returns-in-Ok g c =
 
 pub returns-then-is_want_of_memory : goal.returns-then-is_want_of_memory
 returns-then-is_want_of_memory g c =
-    finds.starved_shown (g.O.Output.state c.args.out.now) (g.O.Output.state c.args.out.now) (g.E.Output.state c.args.err.now) (g.E.Output.state c.tell_no_memory.new.err) _ (page_request_of c.args.asking) c.args.bytes.items (c.read_dump.ensures.walk c.requires.short) c.tell_no_memory.ensures
+    let w = page_request_of c.args.asking in
+    let shows = c.something_is_shown.ensures w in (
+      shows.0,
+      subst (λ bytes. IsShownOfBytes w bytes shows.0) c.deref.ensures.value shows.1,
+      finds.nothing_shown (g.O.Output.state c.args.out.now) (g.O.Output.state c.args.out.now) (g.E.Output.state c.args.err.now) (g.E.Output.state c.tell_no_memory.new.err) _ shows.0 c.tell_no_memory.ensures,
+    )
 
 pub returns-else-is_want_of_memory : goal.returns-else-is_want_of_memory
 returns-else-is_want_of_memory g c =

@@ -1,4 +1,4 @@
-use Rattle.std.proofs.Common.{◌≡◌, ◌+◌, ◌++◌, ◌∷◌, [], List, ℕ, ap, drop, get_or, refl, subst, sym, take, ◌∙◌, append_assoc}
+use Rattle.std.proofs.Common.{◌≡◌, ◌+◌, ◌++◌, ◌∷◌, [], List, ℕ, ap, drop, get_or, refl, subst, sym, ◌∙◌, append_assoc}
 use Rattle.std.proofs.lemmas.Result.{err_from_is_err_and}
 use Rattle.bd_value.specs.Tree.{doc, fields_of, pairs_in}
 use Rattle.bd_device.specs.Devices.{BreaksWithin, TakesText, between, over}

@@ -1,4 +1,4 @@
-use Rattle.std.proofs.Common.{rules, ◌≡◌, Ok, None, ap, ◌∙◌}
+use Rattle.std.proofs.Common.{rules, ◌≡◌, Ok, Err, None, ap, ◌∙◌}
 use Rattle.std.proofs.lemmas.Result.{err_from_is_err_and}
 use Rattle.bd_files.proofs.OutcomeLemmas.{document_read}
 use Rattle.bd_files.proofs.DumpLemmas.WalkLemmas as walking
@@ -13,7 +13,7 @@ returns-in_err-fault-in-Ok-true-clause-stops g c =
     let stopped = c.in_err-fault-in-Ok-true in
     rw (p.1, p.2) (walking.stops_by (g.R.Input.state c.args.input.now) (g.O.Output.state c.args.out.now) (g.R.Input.state l.input) (g.O.Output.state l.out)
     l.documents.place l.documents.number l.documents.left.bytes l.documents.left.turns l.invariant.so_far (g.R.Input.state c.read_next.new.reader) (g.O.Output.state c.print_document.new.out) c.bytes-bytes.result.now stopped.field-0.0
-    read.gave d.well (λ h. ap g.O.Output.state (stopped.ensures.starved h)) stopped.ensures.broke)
+    read.gave read.short d.well (λ h. ap g.O.Output.state (stopped.ensures.starved h)) stopped.ensures.broke)
 
 pub returns-in-Some-clause-walks : goal.returns-in-Some-clause-walks
 returns-in-Some-clause-walks g c =
@@ -48,3 +48,13 @@ returns-in-Err-clause-walks g c =
     let fails = e.fails l.invariant.works in
     rw was at (walking.ends_by (g.R.Input.state c.args.input.now) (g.O.Output.state c.args.out.now) g.R.Input.state g.R.Input.read_gives l.documents l.input c.read_next.new.reader (g.O.Output.state l.out)
     l.invariant.so_far c.number-count.result fails.given c.in-Err.fault c.ending_of.result c.number-count.ensures c.ending_of.ensures fails.gave fails.reason)
+
+pub returns-in_err-ending-in-Err-clause-stops : goal.returns-in_err-ending-in-Err-clause-stops
+returns-in_err-ending-in-Err-clause-stops g c =
+    let l = c.loop-documents in
+    let fails = c.in-Err.ensures.fails l.invariant.works in
+    let r = c.from_residual-in_err-ending-in-Err in
+    let p = err_from_is_err_and r.result r.ensures.1 in
+    let stopped = c.in_err-ending-in-Err in
+    rw (p.1, p.2) (walking.ends_by (g.R.Input.state c.args.input.now) (g.O.Output.state c.args.out.now) g.R.Input.state g.R.Input.read_gives l.documents l.input c.read_next.new.reader (g.O.Output.state l.out)
+    l.invariant.so_far c.number-count.result fails.given c.in-Err.fault (Err stopped.field-0.0) c.number-count.ensures stopped.ensures fails.gave fails.reason)
