@@ -85,37 +85,14 @@ some_mapped : {X Y : Type 0} (f : X → Y) (o : Option X) → is_some o ≡ true
 some_mapped f None e = let bad : ⊥ = cc in absurd bad
 some_mapped f (Some x) e = refl
 
--- the command `dump`, as it is built
-abbrev dump_shape : Shape
-dump_shape = built_leaf (inherited (on_top with_leaf_noted (on_top marked_built line_app)).top (file_app (codes "dump")).top)
+-- a command that takes a file alone, as it is built
+abbrev pub file_shape : Text → Shape
+file_shape name = built_leaf (inherited (on_top with_leaf_noted (on_top marked_built line_app)).top (file_app name).top)
 
-dump_orders : HasOrders dump_shape
-dump_orders words e =
-    some_mapped dump (first_of (codes "file") (rows_after dump_shape.rules [] words)) (file_there dump_shape words refl (λ rows c. file_given _ _ c) e)
-
--- the command `check`, likewise
-abbrev check_shape : Shape
-check_shape = built_leaf (inherited (on_top with_leaf_noted (on_top marked_built line_app)).top (file_app (codes "check")).top)
-
-check_orders : HasOrders check_shape
-check_orders words e =
-    some_mapped check (first_of (codes "file") (rows_after check_shape.rules [] words)) (file_there check_shape words refl (λ rows c. file_given _ _ c) e)
-
--- the command `pack`, likewise
-abbrev pack_shape : Shape
-pack_shape = built_leaf (inherited (on_top with_leaf_noted (on_top marked_built line_app)).top (file_app (codes "pack")).top)
-
-pack_orders : HasOrders pack_shape
-pack_orders words e =
-    some_mapped pack (first_of (codes "file") (rows_after pack_shape.rules [] words)) (file_there pack_shape words refl (λ rows c. file_given _ _ c) e)
-
--- the command `serve`, likewise
-abbrev serve_shape : Shape
-serve_shape = built_leaf (inherited (on_top with_leaf_noted (on_top marked_built line_app)).top (file_app (codes "serve")).top)
-
-serve_orders : HasOrders serve_shape
-serve_orders words e =
-    some_mapped serve (first_of (codes "file") (rows_after serve_shape.rules [] words)) (file_there serve_shape words refl (λ rows c. file_given _ _ c) e)
+file_orders : (name : Text) (order : Text → OrderView) → ((rows : List Row) → ordered_by name rows ≡ option_map order (first_of (codes "file") rows)) → HasOrders (file_shape name)
+file_orders name order is words e =
+    let rows = rows_after (file_shape name).rules [] words in
+    ap is_some (is rows) ∙ some_mapped order (first_of (codes "file") rows) (file_there (file_shape name) words refl (λ rows c. file_given _ _ c) e)
 
 -- the command `find`, likewise
 abbrev pub find_shape : Shape
@@ -129,7 +106,13 @@ find_orders words e =
 
 commands_order : EachShape HasOrders (built line_app).subs
 unfolding EachShape
-commands_order = (dump_orders, (check_orders, (pack_orders, (serve_orders, (find_orders, tt)))))
+commands_order = (
+  file_orders (codes "dump") dump (λ rows. refl),
+  (
+    file_orders (codes "check") check (λ rows. refl),
+    (file_orders (codes "pack") pack (λ rows. refl), (file_orders (codes "serve") serve (λ rows. refl), (find_orders, tt))),
+  ),
+)
 
 -- words that have no fault have an order
 pub order_there : (words : List Text) → fault_of line_app words ≡ [] → is_some (order_of words) ≡ true

@@ -57,7 +57,8 @@ fn device(rt: HostRuntime) -> Result<(), Fail> {
 #[test]
 fn gathered(rt: HostRuntime) {
     let alloc = rt.alloc();
-    let gathering = RefCell::new(Gathering::new(alloc, Vec::new(alloc)));
+    let system = SystemOutput::new(Vec::new(alloc));
+    let gathering = RefCell::new(Gathering::new(alloc, system));
     let mut out = SystemOutput::new(GatheredOutput {
         gathering: &gathering,
     });

@@ -1,9 +1,13 @@
 //! Standard output in large writes, tied to what is read and to standard error.
 //!
+//! What was written, what of it a device has, and what waits: `specs/Gathering.antt`; how a device took bytes:
+//! `specs/Handing.antt`.
+//!
 //! An example, which `bd_device_tests` proves and runs as `examples::gathered`:
 //!
 //! ```
-//! let gathering = RefCell::new(Gathering::new(alloc, Vec::new(alloc)));
+//! let system = SystemOutput::new(Vec::new(alloc));
+//! let gathering = RefCell::new(Gathering::new(alloc, system));
 //! let mut out = SystemOutput::new(GatheredOutput {
 //!     gathering: &gathering,
 //! });
@@ -11,9 +15,12 @@
 //! assert!(rt; hand_on(&gathering) == Fate::Kept);
 //! ```
 //!
-//! - `gathering`: `Gathering`, what waits to be written; `GatheredOutput`, `TiedInput` and `TiedError` over one.
+//! - `gathering`: `Gathering`, what waits to be written.
+//! - `tied`: `GatheredOutput`, `TiedInput` and `TiedError` over one.
 #![tactic(auto)]
 
 mod gathering;
+mod tied;
 
-pub use gathering::{Fate, GatheredOutput, Gathering, TiedError, TiedInput, hand_on};
+pub use gathering::{Fate, Gathering};
+pub use tied::{GatheredOutput, TiedError, TiedInput, hand_on};

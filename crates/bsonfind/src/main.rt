@@ -29,7 +29,7 @@ fn order(rt: &HostRuntime) -> Result<Order, WordsFault> {
 const BUFFER: usize = 65_536;
 
 /// What waits to be written to standard output.
-type Waiting = RefCell<Gathering<Stdout>>;
+type Waiting = RefCell<Gathering<SystemOutput<Stdout>>>;
 
 /// Tells why there is no order to be carried out.
 fn refuse(rt: &HostRuntime, fault: &WordsFault, gathering: &Waiting) -> Status {
@@ -102,7 +102,8 @@ fn obey(rt: &HostRuntime, gathering: &Waiting) -> Status {
 /// Does what the process's words say, up to the last byte of standard output. A loss of which the run did not learn is told
 /// here; nothing else was told then.
 fn status(rt: &HostRuntime) -> Status {
-    let gathering = RefCell::new(Gathering::new(rt.alloc(), rt.stdout()));
+    let system = SystemOutput::new(rt.stdout());
+    let gathering = RefCell::new(Gathering::new(rt.alloc(), system));
     let status = obey(rt, &gathering);
     if hand_on(&gathering) == Fate::Lost {
         return tell_error(rt, "cannot write", "");

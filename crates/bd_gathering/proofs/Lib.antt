@@ -1,0 +1,2 @@
+pub mod HandingLemmas
+pub mod GatheringLemmas
