@@ -10,7 +10,6 @@ use Rattle.bd_bson.specs.Collection.{documents}
 use Rattle.bd_filter.specs.FilterView.{filter_tree}
 use Rattle.bd_filter.specs.declared.filter.Filter.{Filter}
 use Rattle.bd_sort.specs.Selection.{hits_of, query_of}
-use Rattle.bd_sort.specs.Sorting.{with_first}
 use Rattle.bd_cursor.specs.declared.scan_position.ScanPosition.{ScanPosition}
 use Rattle.bd_cursor.specs.Explanation.{explanation_of, index_counts, index_mark}
 use Rattle.bd_cursor.specs.declared.choice.Choice.{Choice}
@@ -31,6 +30,11 @@ mark_of t = record { given = t.given; last = t.last }
 
 abbrev pub marked_token : Token → MarkedToken
 marked_token t = record { mark = mark_of t; digest = t.digest }
+
+-- a place, where there is one, and after it others
+abbrev pub with_first : Option ℕ → List ℕ → List ℕ
+with_first None ps = ps
+with_first (Some p) ps = p ∷ ps
 
 -- what a cursor that goes on where it stands has left: the match that it found, and those among the documents that it did
 -- not look at

@@ -3,7 +3,7 @@ use Rattle.bd_answer.specs.Answer.{at_most}
 use Rattle.bd_bson.specs.Collection.{documents}
 use Rattle.bd_filter.specs.FilterView.{filter_tree}
 use Rattle.bd_sort.specs.Selection.{hits_of}
-use Rattle.bd_sort.specs.Sorting.{with_first}
+use Rattle.bd_cursor.specs.SessionView.{with_first}
 use Rattle.bd_cursor.proofs.ScanPositionLemmas.{all_seen, at_most_none, met, missed, passed_over, unseen}
 use Rattle.bd_cursor.proofs.scan_position.ScanPosition.look.Goals as goal
 
