@@ -1,3 +1,5 @@
+pub mod KeptLemmas
+pub mod MarkLemmas
 pub mod OrderedSourceLemmas
 pub mod SortTableLemmas
 pub mod SortingLemmas

@@ -1,10 +1,15 @@
--- Places with one before them, and at most so many of them.
-use Rattle.std.specs.Prelude.{ℕ, nat_lt, not, Bool, false, List, ◌∷◌, Option, Some, None}
+-- At most so many places, and places that are before another one or have one before them.
+use Rattle.std.specs.Prelude.{ℕ, nat_lt, not, Bool, true, false, List, ◌∷◌, Option, Some, None}
 
 -- a place, where there is one, and after it others
 abbrev pub with_first : Option ℕ → List ℕ → List ℕ
 with_first None ps = ps
 with_first (Some p) ps = p ∷ ps
+
+-- p comes before a place, where there is one
+abbrev pub is_before : (ℕ → ℕ → Bool) → Option ℕ → ℕ → Bool
+is_before lt None p = true
+is_before lt (Some q) p = lt p q
 
 -- so many are as many as are wanted at most
 abbrev pub has_enough : Option ℕ → ℕ → Bool

@@ -83,7 +83,7 @@ impl<'d> Column<'d> {
 }
 
 /// The order of two values in a direction.
-fn in_direction(dir: Dir, order: Ordering) -> Ordering
+pub(crate) fn in_direction(dir: Dir, order: Ordering) -> Ordering
     ensures { (x y : Tree) → order ≡ cmp x y → result ≡ dir_cmp dir x y }
 {
     match dir {
@@ -93,7 +93,7 @@ fn in_direction(dir: Dir, order: Ordering) -> Ordering
 }
 
 /// The sort key of the document at a place.
-fn key_of<'d>(dump: &'d Dump, place: u32, path: &Path, dir: Dir) -> Key<RawValue<'d>>
+pub(crate) fn key_of<'d>(dump: &'d Dump, place: u32, path: &Path, dir: Dir) -> Key<RawValue<'d>>
     requires { place < length (documents dump.now) }
     ensures { kept_key result ≡ sort_key dir (document_at (documents dump.now) place) (names_of path.now) }
 {

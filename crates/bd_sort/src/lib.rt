@@ -1,7 +1,8 @@
 //! The documents of a dump that a request asks for, in their order.
 //!
 //! A source hands out places of documents, among which those of all matches are. They are put in the order of the sort, at most
-//! so many, by keys that are found once and not copied; where a source hands them out in that order, nothing is sorted.
+//! so many, by keys that are not copied. Where a source hands them out in that order, nothing is sorted. Where few are wanted, few
+//! are kept: a document that comes after the last of as many is left out by one comparison.
 //!
 //! An example, which `bd_service_tests` proves and runs as `examples::two_cheapest`:
 //!
@@ -14,12 +15,16 @@
 //! - `matching`: which documents match: `specs/Selection.antt`, what a request selects of a dump.
 //! - `sorting`: the places of any source, put in order: `specs/Sorting.antt`; `ordered_source`, those of a source that has the
 //!   order.
+//! - `first`: the first of some places, in order: `specs/First.antt`; `mark`, a document that others are compared with:
+//!   `specs/Mark.antt`.
 //! - `sort_table`, `columns`, `column`: the sort keys that are kept for it, which compare by their fronts first (`bd_front`):
 //!   `specs/SortTable.antt`, `specs/Column.antt`.
 #![tactic(auto)]
 
 mod column;
 mod columns;
+mod first;
+mod mark;
 mod matching;
 mod ordered_source;
 mod sort_table;

@@ -1,24 +1,34 @@
 //! The places of a sorted cursor.
 
-ghost use Rattle.std.specs.Prelude.{◌≡◌, ◌<◌, ◌≤◌, ℕ, All, IfOk, IfSome, List, length, take};
-ghost use Rattle.std.specs.List.{filter};
-ghost use Rattle.bd_answer.specs.Answer.{at_most};
-ghost use Rattle.bd_answer.specs.Source.{places_after};
+ghost use Rattle.std.specs.Prelude.{◌≡◌, ◌&&◌, ◌<◌, ◌≤◌, ℕ, All, IfOk, IfSome, List, length, take};
+ghost use Rattle.bd_answer.specs.Answer.{at_most, before};
+ghost use Rattle.bd_answer.specs.Source.{is_after, passes, places_after};
 ghost use Rattle.bd_bson.specs.Collection.{documents};
 ghost use Rattle.bd_filter.specs.FilterView.{filter_tree};
-ghost use Rattle.bd_sort.specs.Selection.{selection_of, hits_of};
-ghost use Rattle.bd_sort.specs.Sorting.{with_first};
+ghost use Rattle.bd_path.specs.Earliest.{SortPath};
+ghost use Rattle.bd_path.specs.Sort.{sort_paths};
+ghost use Rattle.bd_sort.specs.Mark.{IsMark, mark_place};
+ghost use Rattle.bd_sort.specs.Selection.{hits_of, order_of_keys, selection_of};
+ghost use Rattle.bd_sort.specs.Sorting.{is_before};
 
+use crate::first::{first_in_order, keep_first};
+use crate::mark::Mark;
 use crate::matching::is_match;
-use crate::sort_table::SortTable;
 use bd_answer::PlaceSource;
 use bd_bson::Dump;
+use bd_path::{Dir, Path};
 use bd_request::Request;
 use bd_value::NoMemory;
 use std::alloc::Global;
 
-/// The places of the documents that match and come after the last one given, in the order of the sort, at most so many. Each
-/// sort key is found once, and no value is copied. It fails for want of memory alone.
+/// Places that are kept at least before they are put in order, so that few are not put in order often.
+const FEWEST: usize = 256;
+
+/// How many times as many places as are wanted are kept before they are put in order.
+const TIMES: usize = 4;
+
+/// The places of the documents that match and come after the last one given, in the order of the sort, at most so many. It
+/// takes memory for some more places than are wanted, and not for all that match. It fails for want of memory alone.
 pub fn sorted_places<P: PlaceSource + Drop>(
     alloc: Global,
     dump: &Dump,
@@ -31,15 +41,13 @@ pub fn sorted_places<P: PlaceSource + Drop>(
     requires there { IfSome last (λ p. p < length (documents dump.now)) }
     ensures { IfOk result (λ v. v.items ≡ at_most most (places_after (selection_of (documents dump.now) request.now) last)) }
 {
-    if most == Some(0) {
+    let limit = limit_of(most, dump.len() as usize);
+    if limit == 0 {
         return Ok(Vec::new(alloc));
     }
-    let places = matching_places(alloc, dump, request, source, last)?;
-    let limit = limit_of(most, places.len());
-    let table = SortTable::new(alloc, dump, &request.sort, places)?;
-    let slots = table.first_slots(alloc, last.is_some(), limit)?;
-    let found = table.places_of(alloc, &slots)?;
-    Ok(found)
+    let last = last_mark(alloc, dump, &request.sort, last)?;
+    let places = first_places(alloc, dump, request, source, &last, limit)?;
+    Ok(places)
 }
 
 /// How many of so many places are given at most.
@@ -52,26 +60,94 @@ fn limit_of(most: Option<u64>, count: usize) -> usize
     }
 }
 
-/// The places of a source that match, as it hands them out, after the last one given.
-fn matching_places<P: PlaceSource + Drop>(
+/// The mark of the last document given, where there is one.
+fn last_mark<'d>(
+    alloc: Global,
+    dump: &'d Dump,
+    sort: &'d [(Path, Dir)],
+    last: Option<u32>,
+) -> Result<Option<Mark<'d>>, NoMemory>
+    requires { IfSome last (λ p. p < length (documents dump.now)) }
+    ensures place { IfOk result (λ m. mark_place m ≡ last) }
+    ensures keys { IfOk result (λ m. IfSome m (IsMark (documents dump.now) (sort_paths sort.now))) }
+{
+    match last {
+        Some(place) => Ok(Some(Mark::new(alloc, dump, sort, place)?)),
+        None => Ok(None),
+    }
+}
+
+/// The first so many places of the documents that match and come after the last one given. A document is compared with the last
+/// of the first so many so far, and mostly left out.
+fn first_places<P: PlaceSource + Drop>(
     alloc: Global,
     dump: &Dump,
     request: &Request,
     mut source: P,
-    last: Option<u32>,
+    last: &Option<Mark<'_>>,
+    most: usize,
 ) -> Result<Vec<u32>, NoMemory>
-    requires { All (λ p. p < length (documents dump.now)) (P.left source) }
+    requires serves { P.serves source (length (documents dump.now)) (hits_of (documents dump.now) (filter_tree request.now.filter)) }
+    requires last { IfSome last.now (IsMark (documents dump.now) (sort_paths request.now.sort.items)) }
+    requires some { 0 < most }
     ensures { IfOk result (λ v. v.items
-        ≡ with_first last (filter (hits_of (documents dump.now) (filter_tree request.now.filter)) (P.left source))) }
+        ≡ take most (places_after (selection_of (documents dump.now) request.now) (mark_place last.now))) }
 {
+    let room = most.saturating_mul(TIMES).max(FEWEST);
     let mut places = Vec::new(alloc);
-    if let Some(place) = last {
-        places.push(place)?;
-    }
+    let mut end = None;
     while let Some(place) = source.next_place() {
-        if is_match(dump, &request.filter, place) {
+        if may_be_first(dump, request, last, &end, place) {
+            if places.len() >= room {
+                end = keep_first(alloc, dump, &request.sort, &mut places, most)?;
+            }
             places.push(place)?;
         }
     }
-    Ok(places)
+    let first = first_in_order(alloc, dump, &request.sort, &places, most)?;
+    Ok(first)
+}
+
+/// Whether the document at a place matches, comes after the last one given, and comes before the end of the first ones.
+fn may_be_first(
+    dump: &Dump,
+    request: &Request,
+    last: &Option<Mark<'_>>,
+    end: &Option<Mark<'_>>,
+    place: u32,
+) -> bool
+    requires last { IfSome last.now (IsMark (documents dump.now) (sort_paths request.now.sort.items)) }
+    requires end { IfSome end.now (IsMark (documents dump.now) (sort_paths request.now.sort.items)) }
+    requires below { place < length (documents dump.now) }
+    ensures { let by = order_of_keys (documents dump.now) (sort_paths request.now.sort.items) in
+        result ≡ (passes (hits_of (documents dump.now) (filter_tree request.now.filter)) by (mark_place last.now) place
+        && is_before (before by) (mark_place end.now) place) }
+{
+    is_match(dump, &request.filter, place)
+        && is_past(dump, last, place)
+        && is_ahead(dump, end, place)
+}
+
+/// Whether the document at a place comes after that of a mark.
+fn is_past(dump: &Dump, mark: &Option<Mark<'_>>, place: u32) -> bool
+    requires { place < length (documents dump.now) }
+    ensures { (ss : List SortPath) → IfSome mark.now (IsMark (documents dump.now) ss) →
+        result ≡ is_after (before (order_of_keys (documents dump.now) ss)) (mark_place mark.now) place }
+{
+    match mark {
+        Some(mark) => mark.compare(dump, place).is_gt(),
+        None => true,
+    }
+}
+
+/// Whether it comes before that of a mark.
+fn is_ahead(dump: &Dump, mark: &Option<Mark<'_>>, place: u32) -> bool
+    requires { place < length (documents dump.now) }
+    ensures { (ss : List SortPath) → IfSome mark.now (IsMark (documents dump.now) ss) →
+        result ≡ is_before (before (order_of_keys (documents dump.now) ss)) (mark_place mark.now) place }
+{
+    match mark {
+        Some(mark) => mark.compare(dump, place).is_lt(),
+        None => true,
+    }
 }

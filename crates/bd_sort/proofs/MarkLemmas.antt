@@ -1,0 +1,44 @@
+-- How documents stand to a mark.
+use Rattle.std.proofs.Common.{◌≡◌, ℕ, List, [], ◌∷◌, refl, ap, ◌∙◌, Ordering}
+use Rattle.std.specs.Cmp.{IsStrictWeakOrder, IsTotalOrder}
+use Rattle.std.specs.Ordering.{is_gt, is_lt, nat_cmp, ordering_reverse, ordering_then}
+use Rattle.std.specs.declared.cmp.Ordering.TheVariants.{Less, Equal, Greater}
+use Rattle.std.proofs.lemmas.Cmp.{nat_cmp_total, on_total, then_total}
+use Rattle.std.proofs.lemmas.List.Sorted.{ranks_by}
+use Rattle.bd_value.specs.Tree.{Doc}
+use Rattle.bd_path.specs.Earliest.{SortPath, dir_cmp, sort_key}
+use Rattle.bd_path.proofs.LawsLemmas.{sort_total}
+use Rattle.bd_answer.specs.Answer.{before}
+use Rattle.bd_answer.specs.AnswerLaws.{IsStrictOrder}
+use Rattle.bd_answer.proofs.AnswerLemmas.{before_strict}
+use Rattle.bd_bson.specs.Documents.{document_at}
+use Rattle.bd_sort.specs.Mark.{marked_cmp, marked_keys}
+use Rattle.bd_sort.specs.Selection.{order_of_keys}
+
+pub keys_total : (ds : List Doc) (ss : List SortPath) → IsTotalOrder (order_of_keys ds ss)
+keys_total ds ss = on_total (document_at ds) (sort_total ss)
+
+pub keys_strict : (ds : List Doc) (ss : List SortPath) → IsStrictOrder (before (order_of_keys ds ss))
+keys_strict ds ss = before_strict (order_of_keys ds ss) (keys_total ds ss)
+
+places_total : (ds : List Doc) (ss : List SortPath) → IsTotalOrder (λ p q. ordering_then (order_of_keys ds ss p q) (nat_cmp p q))
+places_total ds ss = then_total (keys_total ds ss) nat_cmp_total
+
+pub keys_weak : (ds : List Doc) (ss : List SortPath) → IsStrictWeakOrder (before (order_of_keys ds ss))
+keys_weak ds ss = ranks_by (places_total ds ss) (λ (x : ℕ). x)
+
+-- the keys of the document at q stand as that document does
+pub marked_order : (ds : List Doc) (ss : List SortPath) (p q : ℕ) → marked_cmp (marked_keys ds q ss) (document_at ds p) ≡ order_of_keys ds ss p q
+marked_order ds [] p q = refl
+marked_order ds (s ∷ ss) p q =
+    ap (ordering_then (dir_cmp s.dir (sort_key s.dir (document_at ds p) s.path) (sort_key s.dir (document_at ds q) s.path))) (marked_order ds ss p q)
+
+gt_of_reverse : (o : Ordering) → is_gt (ordering_reverse o) ≡ is_lt o
+gt_of_reverse Less = refl
+gt_of_reverse Equal = refl
+gt_of_reverse Greater = refl
+
+-- what comes after q is what q comes before
+pub after_is_before : (ds : List Doc) (ss : List SortPath) (p q : ℕ) → is_gt (ordering_then (order_of_keys ds ss p q) (nat_cmp p q)) ≡ before (order_of_keys ds ss) q p
+after_is_before ds ss p q =
+    ap is_gt ((places_total ds ss).antisymm p q) ∙ gt_of_reverse (ordering_then (order_of_keys ds ss q p) (nat_cmp q p))
