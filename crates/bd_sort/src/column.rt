@@ -1,17 +1,15 @@
 //! The sort keys of some documents, found once and kept side by side.
 
 ghost use Rattle.std.specs.Prelude.{◌≡◌, ◌<◌, length, map};
-ghost use Rattle.bd_value.specs.Order.{cmp};
-ghost use Rattle.bd_value.specs.Tree.{Tree};
 ghost use Rattle.bd_bson.specs.Collection.{documents};
-ghost use Rattle.bd_path.specs.Earliest.{dir_cmp, sort_key};
+ghost use Rattle.bd_path.specs.Earliest.{dir_cmp};
 ghost use Rattle.bd_path.specs.PathNames.{names_of};
-ghost use Rattle.bd_bson.specs.Documents.{document_at};
 ghost use Rattle.bd_front.specs.Front.{front_of, kept_key};
 
+use crate::sort_key::{in_direction, key_of};
 use bd_bson::Dump;
 use bd_front::{Front, compare_fronts};
-use bd_path::{Dir, Key, Path, compare_in, sort_key_node};
+use bd_path::{Dir, Key, Path, compare_in};
 use bd_raw::RawValue;
 use bd_value::NoMemory;
 use std::alloc::Global;
@@ -80,22 +78,4 @@ impl<'d> Column<'d> {
             None => compare_in(self.dir, self.key(a), self.key(b)),
         }
     }
-}
-
-/// The order of two values in a direction.
-pub(crate) fn in_direction(dir: Dir, order: Ordering) -> Ordering
-    ensures { (x y : Tree) → order ≡ cmp x y → result ≡ dir_cmp dir x y }
-{
-    match dir {
-        Dir::Up => order,
-        Dir::Down => order.reverse(),
-    }
-}
-
-/// The sort key of the document at a place.
-pub(crate) fn key_of<'d>(dump: &'d Dump, place: u32, path: &Path, dir: Dir) -> Key<RawValue<'d>>
-    requires { place < length (documents dump.now) }
-    ensures { kept_key result ≡ sort_key dir (document_at (documents dump.now) place) (names_of path.now) }
-{
-    sort_key_node(dump.document(place).value(), path, dir)
 }

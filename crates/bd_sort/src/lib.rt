@@ -15,6 +15,7 @@
 //! - `matching`: which documents match: `specs/Selection.antt`, what a request selects of a dump.
 //! - `sorting`: the places of any source, put in order: `specs/Sorting.antt`; `ordered_source`, those of a source that has the
 //!   order.
+//! - `sort_key`: the key of a document on a path.
 //! - `first`: the first of some places, in order: `specs/First.antt`; `mark`, a document that others are compared with:
 //!   `specs/Mark.antt`.
 //! - `sort_table`, `columns`, `column`: the sort keys that are kept for it, which compare by their fronts first (`bd_front`):
@@ -27,6 +28,7 @@ mod first;
 mod mark;
 mod matching;
 mod ordered_source;
+mod sort_key;
 mod sort_table;
 mod sorting;
 

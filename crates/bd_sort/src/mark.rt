@@ -9,7 +9,7 @@ ghost use Rattle.bd_path.specs.Earliest.{SortPath, dir_cmp, sort_key};
 ghost use Rattle.bd_path.specs.PathNames.{names_of};
 ghost use Rattle.bd_path.specs.Sort.{sort_paths};
 
-use crate::column::{in_direction, key_of};
+use crate::sort_key::{in_direction, key_of};
 use bd_bson::Dump;
 use bd_front::{Front, compare_fronts};
 use bd_path::{Dir, Key, Path, compare_in};

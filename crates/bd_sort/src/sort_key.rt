@@ -1,0 +1,66 @@
+//! The sort key of a document on one path.
+
+ghost use Rattle.std.specs.Prelude.{◌≡◌, ◌≢◌, ◌<◌, ◌∷◌, [], false, IfSome, length};
+ghost use Rattle.bd_value.specs.Kind.{kind_of};
+ghost use Rattle.bd_value.specs.declared.kind.Kind.TheVariants as kinds;
+ghost use Rattle.bd_raw.specs.Sound.{stands};
+ghost use Rattle.bd_path.specs.KeyList.{all_keys};
+ghost use Rattle.bd_value.specs.Order.{cmp};
+ghost use Rattle.bd_value.specs.Tree.{Tree};
+ghost use Rattle.bd_bson.specs.Collection.{documents};
+ghost use Rattle.bd_bson.specs.Documents.{document_at};
+ghost use Rattle.bd_front.specs.Front.{kept_key};
+ghost use Rattle.bd_path.specs.Earliest.{dir_cmp, sort_key};
+ghost use Rattle.bd_path.specs.PathNames.{names_of};
+
+use bd_bson::Dump;
+use bd_path::{Dir, Key, Path, sort_key_node};
+use bd_raw::RawValue;
+use bd_value::{Kind, Reading};
+use std::cmp::Ordering;
+
+/// The sort key of the document at a place.
+pub(crate) fn key_of<'d>(dump: &'d Dump, place: u32, path: &Path, dir: Dir) -> Key<RawValue<'d>>
+    requires { place < length (documents dump.now) }
+    ensures { kept_key result ≡ sort_key dir (document_at (documents dump.now) place) (names_of path.now) }
+{
+    let document = dump.document(place).value();
+    match plain_key(document, path) {
+        Some(key) => key,
+        None => sort_key_node(document, path, dir),
+    }
+}
+
+/// The key of a document on a path that meets no array: the one value that it leads to, or null.
+fn plain_key<'d>(document: RawValue<'d>, path: &Path) -> Option<Key<RawValue<'d>>>
+    ensures { IfSome result (λ k. all_keys false (stands document.entry.sound) (names_of path.now) ≡ kept_key k ∷ []) }
+{
+    let mut value = document;
+    for i in 0..path.len() {
+        match value.first(path.component(i)) {
+            Some(next) => value = next,
+            None => return unless_array(value, Key::Null),
+        }
+    }
+    unless_array(value, Key::Node(value))
+}
+
+/// A key, unless a value is an array.
+fn unless_array<'d>(value: RawValue<'d>, key: Key<RawValue<'d>>) -> Option<Key<RawValue<'d>>>
+    ensures { IfSome result (λ k. (k ≡ key.entry) × (kind_of (stands value.entry.sound) ≢ kinds.Array)) }
+{
+    match value.kind() {
+        Kind::Array => None,
+        _ => Some(key),
+    }
+}
+
+/// The order of two values in a direction.
+pub(crate) fn in_direction(dir: Dir, order: Ordering) -> Ordering
+    ensures { (x y : Tree) → order ≡ cmp x y → result ≡ dir_cmp dir x y }
+{
+    match dir {
+        Dir::Up => order,
+        Dir::Down => order.reverse(),
+    }
+}
