@@ -1,6 +1,6 @@
 pub mod KeptLemmas
 pub mod MarkLemmas
 pub mod OrderedSourceLemmas
+pub mod RowLemmas
 pub mod SortKeyLemmas
-pub mod SortTableLemmas
 pub mod SortingLemmas

@@ -1,6 +1,5 @@
-pub mod Column
 pub mod First
 pub mod Mark
+pub mod Row
 pub mod Selection
-pub mod SortTable
 pub mod Sorting

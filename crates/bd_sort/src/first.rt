@@ -9,14 +9,14 @@ ghost use Rattle.bd_sort.specs.Mark.{IsMark, mark_place};
 ghost use Rattle.bd_sort.specs.Selection.{order_of_keys};
 
 use crate::mark::Mark;
-use crate::sort_table::SortTable;
+use crate::ranking::{first_places_of, ranked_by, unranked};
 use bd_bson::Dump;
 use bd_path::{Dir, Path};
 use bd_value::NoMemory;
 use std::alloc::Global;
 
-/// The places of the first so many of the documents at some places, in order. Each sort key is found once, and no value is
-/// copied.
+/// The places of the first so many of the documents at some places, in order. They are put in the order of one path after the
+/// other, so that the keys on one path alone are kept at a time. No value is copied.
 pub(crate) fn first_in_order(
     alloc: Global,
     dump: &Dump,
@@ -27,11 +27,11 @@ pub(crate) fn first_in_order(
     requires { All (λ p. p < length (documents dump.now)) places.now }
     ensures { IfOk result (λ v. AreFirst (before (order_of_keys (documents dump.now) (sort_paths sort.now))) most places.now v.items) }
 {
-    let table = SortTable::new(alloc, dump, sort, places)?;
-    let mut slots = table.slots(alloc)?;
-    table.sort_slots(&mut slots);
-    slots.truncate(most);
-    let first = table.places_of(alloc, &slots)?;
+    let mut ranked = unranked(alloc, places)?;
+    for (path, dir) in sort {
+        ranked = ranked_by(alloc, dump, path, *dir, &ranked)?;
+    }
+    let first = first_places_of(alloc, &ranked, most)?;
     Ok(first)
 }
 

@@ -18,18 +18,17 @@
 //! - `sort_key`: the key of a document on a path.
 //! - `first`: the first of some places, in order: `specs/First.antt`; `mark`, a document that others are compared with:
 //!   `specs/Mark.antt`.
-//! - `sort_table`, `columns`, `column`: the sort keys that are kept for it, which compare by their fronts first (`bd_front`):
-//!   `specs/SortTable.antt`, `specs/Column.antt`.
+//! - `ranking`, `row`: documents put in order by one path after the other, by the fronts of their keys first (`bd_front`):
+//!   `specs/Row.antt`.
 #![tactic(auto)]
 
-mod column;
-mod columns;
 mod first;
 mod mark;
 mod matching;
 mod ordered_source;
+mod ranking;
+mod row;
 mod sort_key;
-mod sort_table;
 mod sorting;
 
 pub use matching::is_match;
