@@ -1,5 +1,5 @@
--- At most so many places, and places that are before another one or have one before them.
-use Rattle.std.specs.Prelude.{ℕ, nat_lt, not, Bool, true, false, List, ◌∷◌, Option, Some, None}
+-- At most so many places, and places that are before another one.
+use Rattle.std.specs.Prelude.{ℕ, nat_lt, not, Bool, true, false, Option, Some, None}
 
 -- p comes before a place, where there is one
 abbrev pub is_before : (ℕ → ℕ → Bool) → Option ℕ → ℕ → Bool
