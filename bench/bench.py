@@ -5,8 +5,8 @@ usage: bench/bench.py [MEGABYTES ..] [--kind KIND] [--runs N] [--seed N] [--only
 
 Of one size, 20 megabytes without it: a row a task, with its time, how many times that of `check` of the same dump it is, its memory, and
 how many times as long each other program (bench/peers.py) takes. `dump`, `check` and `pack` are over documents of a KIND
-(bench/make_dump.py; mixed without it), `find` and `serve` over orders. Of several sizes: for each of them a column of times of
-`check`, and one of memory, all over orders.
+(bench/make_dump.py; mixed without it), `find` and `serve` over orders, and sorts over orders and, of the kind link, over texts that
+begin alike. Of several sizes: for each of them a column of times of `check`, and one of memory, all over orders.
 
 A time is that of the processor in all processes of a task, the least of N runs (5 without it), between which all other tasks are run;
 what takes above 5 seconds is run twice. Memory, in megabytes, is the greatest resident set, where GNU time is installed to tell it.
@@ -34,6 +34,14 @@ from peers import OWN
 
 SLOW = 5.0
 FOUND = 1_000
+# The sorts of orders and of links, and for some the path of an index.
+SORTS = {
+    "by number": ('{"order_no":1}', "order_no"),
+    "by date, the latest first": ('{"placed":-1}', ""),
+    "by name": ('{"customer.name":1}', "customer.name"),
+    "by four paths": ('{"customer.referrer":1,"customer.name":1,"placed":-1,"order_no":1}', ""),
+}
+LINKS = {"by texts that begin alike": ('{"url":1}', "url")}
 
 
 class Task(NamedTuple):
@@ -117,6 +125,19 @@ def find_tasks(program: str, dump: str, order: dict) -> list[Task]:
     return tasks
 
 
+def sort_tasks(program: str, dump: str, sorts: dict[str, tuple[str, str]]) -> list[Task]:
+    """Sorts of all and of the first 20, beside the search alone; and with an index on a path, made anew. Nothing is given."""
+    find = [program, "find", dump, "--batch", "0"]
+    tasks = [Task("find, --batch 0", {OWN: find})]
+    for name, (sort, path) in sorts.items():
+        words = [*find, "--sort", sort]
+        tasks.append(Task(f"sort {name}, the first 20", {OWN: [*words, "--limit", "20"]}))
+        tasks.append(Task(f"sort {name}", {OWN: words}))
+        if path:
+            tasks.append(Task(f"sort {name}, --index", {OWN: [*words, "--index", path]}))
+    return tasks
+
+
 def serve_tasks(program: str, dump: str, count: int) -> list[Task]:
     """Sessions: an index alone, documents that are found by it and given, and all documents, a page each."""
     made = '{"createIndex":"order_no"}\n'
@@ -131,7 +152,8 @@ def order_tasks(program: str, name: str) -> list[Task]:
         count = sum(1 for _ in lines)
         lines.seek(0)
         order = json.loads(next(itertools.islice(lines, count * 7 // 10, None)))
-    return [*find_tasks(program, f"{name}.bson", order), *serve_tasks(program, f"{name}.bson", count)]
+    dump = f"{name}.bson"
+    return [*find_tasks(program, dump, order), *sort_tasks(program, dump, SORTS), *serve_tasks(program, dump, count)]
 
 
 # ---- the table
@@ -188,6 +210,7 @@ def main() -> int:
             make(name, size * 1_000_000, words.seed, kind)
             tasks = file_tasks(words.program, name, room)[: None if kind == kinds[0] else 1]
             tasks += order_tasks(words.program, name) if kind == "order" else []
+            tasks += sort_tasks(words.program, f"{name}.bson", LINKS) if kind == "link" else []
             groups.append([task for task in tasks if words.only in task.name or task.name == "check"])
         # Of several sizes the first alone is looked at.
         for task in itertools.chain(*groups[: len(kinds)]):

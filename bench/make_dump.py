@@ -3,7 +3,7 @@
 
 usage: bench/make_dump.py NAME MEGABYTES [SEED [KIND]]     writes NAME.bson of so many megabytes, and NAME.jsonl
 
-KIND is counter, person, order, article, thread, numbers or wide; without it the first five are mixed. Parts of it are made side by
+KIND is counter, person, order, article, thread, numbers, wide or link; without it the first five are mixed. Parts of it are made side by
 side, each of its own numbers, so that one of a gigabyte takes minutes.
 """
 
@@ -145,7 +145,12 @@ def wide(rng: random.Random, number: int) -> dict[str, Any]:
 
 
 Kind = Callable[[random.Random, int], dict[str, Any]]
-KINDS: dict[str, Kind] = {kind.__name__: kind for kind in (counter, person, order, article, thread, numbers, wide)}
+def link(rng: random.Random, number: int) -> dict[str, Any]:
+    """Texts that begin alike, for 30 bytes."""
+    return {"_id": Id(rng.randbytes(12)), "url": f"https://example.com/orders/of/{rng.randrange(1 << 48):012x}"}
+
+
+KINDS: dict[str, Kind] = {kind.__name__: kind for kind in (counter, person, order, article, thread, numbers, wide, link)}
 # Of a hundred documents, where kinds are mixed.
 SHARES: dict[Kind, int] = {counter: 30, person: 35, order: 25, article: 2, thread: 8}
 
