@@ -50,9 +50,6 @@ name_again kind e name rest h = ap (λ (o : Option ℕ). name_up_to kind o e (na
 front_of : (s rest : List ℕ) (k : ℕ) → length s + 1 ≡ k + 1 → take k (s ++ 0 ∷ rest) ≡ s
 front_of s rest k is = take_at s (0 ∷ rest) k (omega arith)
 
-after_front : (s rest : List ℕ) (k : ℕ) → length s ≡ k → drop k (s ++ 0 ∷ rest) ≡ 0 ∷ rest
-after_front s rest k is = drop_at s (0 ∷ rest) k is
-
 string_tests : (n m : ℕ) → 0 < n → n ≤ m → (eqb n 0 || ltb m n) ≡ false
 string_tests n m pos le = grind (arith, nat_tests)
 

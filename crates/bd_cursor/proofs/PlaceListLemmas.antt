@@ -1,8 +1,8 @@
 -- The places that a cursor with a sort has left.
-use Rattle.std.proofs.Common.{◌≡◌, ◌+◌, ◌-◌, ◌<◌, ◌≤◌, ℕ, List, [], ◌∷◌, length, take, drop, inl, inr, refl, sym, ap, ◌∙◌, subst, ◌⊎◌, arith, zero, suc, min, Some, None, eqb}
+use Rattle.std.proofs.Common.{◌≡◌, ◌+◌, ◌-◌, ◌<◌, ◌≤◌, ℕ, List, [], ◌∷◌, length, take, drop, inl, inr, refl, sym, ap, ◌∙◌, subst, ◌⊎◌, arith, zero, suc, min, None, eqb}
 use Rattle.std.proofs.lemmas.List.{drop-take, take_all, drop_min, length-drop, length-take}
 use Rattle.std.proofs.lemmas.Bool.{cases_lt, cases_eq, eq-eqb, ne_eqb}
-use Rattle.bd_answer.specs.Answer.{Selection, Mark, answer, is_empty, ordered, rest}
+use Rattle.bd_answer.specs.Answer.{Selection, answer, is_empty, ordered}
 use Rattle.bd_answer.specs.Source.{places_after}
 use Rattle.bd_answer.proofs.UnsortedLemmas.{all_places}
 
@@ -38,9 +38,3 @@ some_left a xs most greatest some few m first = drop_min a.skip xs ∙ rw (ne_eq
         let f = all_of most xs (places_after a None) first (omega arith) ∙ all_places a in
         let n : length (ordered a) < greatest = subst (λ ys. length ys < greatest) f few in
         ap (drop a.skip) f ∙ sym (take_all (a.limit - 0) (drop a.skip (ordered a)) (omega (arith, length-drop a.skip (ordered a))))
-
-pub rest_all : (a : Selection) (m : Mark) (xs : List ℕ) → a.limit ≡ 0 → xs ≡ places_after a (Some m.last) → xs ≡ rest a m
-rest_all a m xs e f = f ∙ sym (rw e refl)
-
-pub rest_some : (a : Selection) (m : Mark) (xs : List ℕ) → (a.limit ≡ 0 → ⊥) → xs ≡ take (a.limit - m.given) (places_after a (Some m.last)) → xs ≡ rest a m
-rest_some a m xs some f = f ∙ sym (rw (ne_eqb a.limit 0 some) refl)

@@ -18,7 +18,7 @@ IsFresh documents =
     × (documents.left.bytes ≡ 4294967295) × (documents.left.turns ≡ 4294967296)
 
 -- the fault of a dump that a fault of a length is
-pub record IsFaultOf (frame : FrameFault) (fault : Fault) : Type 0 where
+pub record IsFaultOfFrame (frame : FrameFault) (fault : Fault) : Type 0 where
   pub kind : fault.kind ≡ frame.kind
   pub document : fault.document ≡ frame.document
   pub offset : fault.offset ≡ frame.offset
@@ -26,7 +26,7 @@ pub record IsFaultOf (frame : FrameFault) (fault : Fault) : Type 0 where
 
 -- what a fault of reading is for the documents before it
 abbrev pub IsEndingOf : DocFault → Result Ending OutputFault → Type 0
-IsEndingOf (faults.Frame f) r = (fault : Fault) × (r ≡ Ok (endings.Faulty fault)) × IsFaultOf f fault
+IsEndingOf (faults.Frame f) r = (fault : Fault) × (r ≡ Ok (endings.Faulty fault)) × IsFaultOfFrame f fault
 IsEndingOf (faults.Read reads.NoMemory) r = r ≡ Err NoMemory
 IsEndingOf (faults.Read f) r = r ≡ Ok (endings.Unread f)
 IsEndingOf faults.Failed r = Unit {0}

@@ -3,11 +3,11 @@ use Rattle.std.proofs.Common.{◌≡◌, ℕ, List, [], ◌++◌, sym, ap, ◌�
 use Rattle.std.specs.Prelude.{Result, Ok, Err, OnErr, OnOk, true, false}
 use Rattle.std.specs.Result.{is_err}
 use Rattle.bd_device.specs.declared.output.Output.{Ghosts as Output}
-use Rattle.bd_gathering.specs.Handing.{Breaks, Takes}
+use Rattle.bd_gathering.specs.Handing.{Breaks, TakesAllBytes}
 use Rattle.bd_gathering.specs.Gathering.{Gathers, HandsOn}
 use Rattle.bd_gathering.specs.declared.gathering.Fate.TheVariants.{Kept, Lost}
 use Rattle.bd_gathering.specs.declared.gathering.Gathering.{Gathering}
-use Rattle.bd_gathering.proofs.HandingLemmas.{Breaks-after, Breaks-more, Takes-nil, Takes-trans}
+use Rattle.bd_gathering.proofs.HandingLemmas.{Breaks-after, Breaks-more, TakesAllBytes-nil, TakesAllBytes-trans}
 
 pub on_ok : {X E : Type 0} (r : Result X E) (P Q R : Type 0) → OnOk r P → OnOk r Q → (P → Q → R) → OnOk r R
 on_ok (Ok x) P Q R p q f = f p q
@@ -29,7 +29,7 @@ module _ {D : Type 0} (o : Output D) where
   -- the bytes wait
   pub gathers_held : (old new : Gathering D o) (bytes : List ℕ) → new.device ≡ old.device → new.waiting.items ≡ old.waiting.items ++ bytes → Gathers o old bytes new
   gathers_held old new bytes device waiting =
-      let same : Takes o old.device [] new.device = subst (λ d. Takes o old.device [] d) (sym device) (Takes-nil o old.device) in
+      let same : TakesAllBytes o old.device [] new.device = subst (λ d. TakesAllBytes o old.device [] d) (sym device) (TakesAllBytes-nil o old.device) in
       ([], sym waiting, same)
 
   -- nothing was written
@@ -37,7 +37,7 @@ module _ {D : Type 0} (o : Output D) where
   gathers_none old new device waiting = gathers_held old new [] device (waiting ∙ sym (append-nil old.waiting.items))
 
   -- the device took them
-  pub gathers_written : (old new : Gathering D o) (bytes : List ℕ) → old.waiting.items ≡ [] → new.waiting.items ≡ [] → Takes o old.device bytes new.device
+  pub gathers_written : (old new : Gathering D o) (bytes : List ℕ) → old.waiting.items ≡ [] → new.waiting.items ≡ [] → TakesAllBytes o old.device bytes new.device
       → Gathers o old bytes new
   gathers_written old new bytes before after taken =
       (bytes, ap (λ l. l ++ bytes) before ∙ (sym (append-nil bytes) ∙ ap (λ l. bytes ++ l) (sym after)), taken)
@@ -46,17 +46,17 @@ module _ {D : Type 0} (o : Output D) where
   gathers_after old mid new bytes (first, split, a) (second, rest, b) =
       let start : old.waiting.items ≡ first ++ mid.waiting.items = sym (append-nil old.waiting.items) ∙ split in
       let joined = ap (λ l. l ++ bytes) start ∙ (append_assoc first mid.waiting.items bytes ∙ (ap (λ l. first ++ l) rest ∙ sym (append_assoc first second new.waiting.items))) in
-      (first ++ second, joined, Takes-trans o old.device mid.device new.device first second a b)
+      (first ++ second, joined, TakesAllBytes-trans o old.device mid.device new.device first second a b)
 
   -- what was not held was handed on
   pub gathers_handed : (old held handed : Gathering D o) → held.device ≡ old.device → held.waiting.items ≡ old.waiting.items → Gathers o held [] handed → Gathers o old [] handed
   gathers_handed old held handed device waiting rest = gathers_after old held handed [] (gathers_none old held device waiting) rest
 
   -- the device took all that waited
-  pub takes_all : (old new : Gathering D o) → Gathers o old [] new → new.waiting.items ≡ [] → Takes o old.device old.waiting.items new.device
+  pub takes_all : (old new : Gathering D o) → Gathers o old [] new → new.waiting.items ≡ [] → TakesAllBytes o old.device old.waiting.items new.device
   takes_all old new (handed, split, taken) none =
       let is : old.waiting.items ≡ handed = sym (append-nil old.waiting.items) ∙ (split ∙ (ap (λ l. handed ++ l) none ∙ append-nil handed)) in
-      subst (λ l. Takes o old.device l new.device) (sym is) taken
+      subst (λ l. TakesAllBytes o old.device l new.device) (sym is) taken
 
   -- nothing waited
   pub hands_none : (old new : Gathering D o) → new.fate ≡ old.fate → new.device ≡ old.device → new.waiting.items ≡ old.waiting.items → HandsOn o old new
@@ -66,7 +66,7 @@ module _ {D : Type 0} (o : Output D) where
     after_loss = λ _. (fate, device);
   }
 
-  pub hands_all : (old new : Gathering D o) → old.fate ≡ Kept → new.fate ≡ Kept → new.waiting.items ≡ [] → Takes o old.device old.waiting.items new.device
+  pub hands_all : (old new : Gathering D o) → old.fate ≡ Kept → new.fate ≡ Kept → new.waiting.items ≡ [] → TakesAllBytes o old.device old.waiting.items new.device
       → HandsOn o old new
   hands_all old new before after none taken = record {
     kept = λ _. (before, (old.waiting.items, append-nil old.waiting.items ∙ (sym (append-nil old.waiting.items) ∙ ap (λ l. old.waiting.items ++ l) (sym none)), taken));

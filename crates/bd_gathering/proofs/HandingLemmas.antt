@@ -4,7 +4,7 @@ use Rattle.std.specs.Prelude.{◌≢◌}
 use Rattle.std.proofs.KnownBytes.{Appends-nil, Appends-trans}
 use Rattle.bd_device.specs.Devices.{AreWrites, BreaksWithin, TakesText, no_write, more_writes, over}
 use Rattle.bd_device.specs.declared.output.Output.{Ghosts as Output}
-use Rattle.bd_gathering.specs.Handing.{AreTaken, Breaks, Takes, none_taken, more_taken}
+use Rattle.bd_gathering.specs.Handing.{AreTaken, Breaks, TakesAllBytes, none_taken, more_taken}
 use Rattle.bd_gathering.specs.declared.gathering.Fate.{Fate}
 use Rattle.bd_gathering.specs.declared.gathering.Fate.TheVariants.{Kept, Lost, Told}
 
@@ -31,17 +31,17 @@ taken_append {S} {takes} s t u first second a (more_taken v w x taken text n all
     subst P (append_assoc first taken (take n text)) one
 
 module _ {D : Type 0} (o : Output D) where
-  pub Takes-nil : (s : D) → Takes o s [] s
-  Takes-nil s = record { held = (Appends-nil _, refl); writes = none_taken s }
+  pub TakesAllBytes-nil : (s : D) → TakesAllBytes o s [] s
+  TakesAllBytes-nil s = record { held = (Appends-nil _, refl); writes = none_taken s }
 
-  pub Takes-writes : (s t : D) (bytes : List ℕ) → TakesText (over o.state s t) bytes → AreWrites o.write_takes bytes s [] t → Takes o s bytes t
-  Takes-writes s t bytes held writes =
+  pub TakesAllBytes-writes : (s t : D) (bytes : List ℕ) → TakesText (over o.state s t) bytes → AreWrites o.write_takes bytes s [] t → TakesAllBytes o s bytes t
+  TakesAllBytes-writes s t bytes held writes =
       let (taken, split, all) = taken_of s t [] writes in
       let P : List ℕ → Type 0 = λ l. AreTaken o.write_takes s l t in
       record { held = held; writes = subst P (sym (split ∙ append-nil taken)) all }
 
-  pub Takes-trans : (s t u : D) (first second : List ℕ) → Takes o s first t → Takes o t second u → Takes o s (first ++ second) u
-  Takes-trans s t u first second a b = record {
+  pub TakesAllBytes-trans : (s t u : D) (first second : List ℕ) → TakesAllBytes o s first t → TakesAllBytes o t second u → TakesAllBytes o s (first ++ second) u
+  TakesAllBytes-trans s t u first second a b = record {
     held = (Appends-trans _ _ _ first second a.held.0 b.held.0, b.held.1 ∙ a.held.1);
     writes = taken_append s t u first second a.writes b.writes;
   }
@@ -64,7 +64,7 @@ module _ {D : Type 0} (o : Output D) where
       }
 
   -- bytes before them that the device took
-  pub Breaks-after : (s t u : D) (first bytes : List ℕ) → Takes o s first t → Breaks o t bytes u → Breaks o s (first ++ bytes) u
+  pub Breaks-after : (s t u : D) (first bytes : List ℕ) → TakesAllBytes o s first t → Breaks o t bytes u → Breaks o s (first ++ bytes) u
   Breaks-after s t u first bytes a b =
       let (front, rest, split, held) = b.held.0 in
       let (taken, text, later, last, is, all, some, failed) = b.writes in

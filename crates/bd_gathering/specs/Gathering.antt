@@ -1,7 +1,7 @@
 -- What was written, what of it a device has, and what waits.
 use Rattle.std.specs.Prelude.{◌≡◌, ◌≢◌, ℕ, List, [], ◌++◌}
 use Rattle.bd_device.specs.declared.output.Output.{Ghosts as Output}
-use Rattle.bd_gathering.specs.Handing.{Breaks, Takes}
+use Rattle.bd_gathering.specs.Handing.{Breaks, TakesAllBytes}
 use Rattle.bd_gathering.specs.declared.gathering.Fate.TheVariants.{Kept, Lost}
 use Rattle.bd_gathering.specs.declared.gathering.Gathering.{Gathering}
 
@@ -10,7 +10,7 @@ use Rattle.bd_gathering.specs.declared.gathering.Gathering.{Gathering}
 abbrev pub Gathers : {D : Type 0} (o : Output D) → Gathering D o → List ℕ → Gathering D o → Type 0
 Gathers o old bytes new =
     (handed : List ℕ) × (old.waiting.items ++ bytes ≡ handed ++ new.waiting.items)
-    × Takes o old.device handed new.device
+    × TakesAllBytes o old.device handed new.device
 
 -- bytes that waited were handed on, or a write of them failed; after a loss there is no write
 pub record HandsOn {D : Type 0} (o : Output D) (old new : Gathering D o) : Type 0 where

@@ -11,7 +11,7 @@ pub data AreTaken {S : Type 0} (takes : S → List ℕ → Option ℕ → S → 
       → AreTaken takes s (taken ++ take n text) u
 
 -- the device took all of these bytes, in order, and no write failed
-pub record Takes {D : Type 0} (o : Output D) (old : D) (bytes : List ℕ) (new : D) : Type 0 where
+pub record TakesAllBytes {D : Type 0} (o : Output D) (old : D) (bytes : List ℕ) (new : D) : Type 0 where
   pub held : TakesText (over o.state old new) bytes
   pub writes : AreTaken o.write_takes old bytes new
 

@@ -18,7 +18,7 @@ use Rattle.bd_value.specs.Tree.{Scalar, Tree, leaf, doc, array, code_scope, Item
 use Rattle.bd_value.specs.Zeros.{has_zero, zero_in_scalar, zero_in, zero_in_fields, zero_in_items}
 use Rattle.bd_raw.specs.Spelling.{element, string}
 use Rattle.bd_write.specs.TreeBytes.{bytes_of}
-use Rattle.bd_wrapper.specs.Wrappers.{wrappers, named_in, wrapper_of}
+use Rattle.bd_wrapper.specs.Wrappers.{wrappers, wrapper_in, wrapper_of}
 use Rattle.bd_wrapper.specs.declared.wrapper.Wrapper.{Wrapper}
 use Rattle.bd_extjson.specs.Plain.{IsPlainFirst, ArePlainFields, ArePlainItems}
 use Rattle.bd_text.specs.Text.{needs_escape, escape_byte, escaped, quoted, hex_text, base64_text, scalar_text, member, text, items_text, fields_text, object}
@@ -195,12 +195,12 @@ differs (c ∷ cs) (d ∷ ds) p q = one (c == d) refl
     one true e = let same : c ≡ d = grind arith in let no : true ≡ false = sym q ∙ ap (λ x. x == 36) (sym same) ∙ p in absurd cc
     one false e = refl
 
-none_of : (b : Bool) (ws : List (List ℕ × Wrapper)) (name other : List ℕ) (w : Wrapper) → begins other ≡ b → cond b (begin_so ws) false ≡ true → begins name ≡ false → (begin_so ws ≡ true → named_in ws name ≡ None)
-    → named_in ((other, w) ∷ ws) name ≡ None
+none_of : (b : Bool) (ws : List (List ℕ × Wrapper)) (name other : List ℕ) (w : Wrapper) → begins other ≡ b → cond b (begin_so ws) false ≡ true → begins name ≡ false → (begin_so ws ≡ true → wrapper_in ws name ≡ None)
+    → wrapper_in ((other, w) ∷ ws) name ≡ None
 none_of true ws name other w e so p rest = rw (differs name other p e) (rest so)
 none_of false ws name other w e so p rest = absurd cc
 
-named_none : (ws : List (List ℕ × Wrapper)) (name : List ℕ) → begin_so ws ≡ true → begins name ≡ false → named_in ws name ≡ None
+named_none : (ws : List (List ℕ × Wrapper)) (name : List ℕ) → begin_so ws ≡ true → begins name ≡ false → wrapper_in ws name ≡ None
 named_none [] name so p = refl
 named_none (w ∷ ws) name so p = none_of (begins w.0) ws name w.0 w.1 refl so p (λ s. named_none ws name s p)
 

@@ -20,7 +20,7 @@ use Rattle.bd_path.specs.Key.{IsKeyAt, IsKeyOf}
 use Rattle.bd_path.specs.KeyList.{all_keys, distinct, end_keys, keys, or_else, with_key, with_keys}
 use Rattle.bd_path.specs.Names.{Names}
 use Rattle.bd_path.specs.Stop.{Stops, stops}
-use Rattle.bd_path.specs.Walk.{Takes, TakesOrEnds}
+use Rattle.bd_path.specs.Walk.{TakesStops, TakesOrEnds}
 use Rattle.bd_path.proofs.StopLemmas as stop
 use Rattle.bd_path.proofs.KeyLemmas.{at_last, at_more}
 use Rattle.bd_path.proofs.ReachLemmas.{scalar_is_no_array}
@@ -308,7 +308,7 @@ module _ {N : Type 0} (tree : N → Tree) (source : N → List ℕ) (dir : Dir) 
 
   pub takes_earliest : (bytes : List ℕ) (before after : Option (Key N)) (k : Key N) (s : Stop Tree) → IsEarliest dir tree (Some k) (stop_keys false s)
       → IsKeyOf source bytes k → IsKeyAt false (s ∷ []) k → key_option tree after ≡ earlier_key dir (key_option tree before) (key_option tree (Some k)) → (after ≡ before) ⊎ (after ≡ Some k)
-      → Takes (IsEarliestFrom tree source dir) (λ f. gives_earlier dir (key_option tree f)) bytes before after (s ∷ [])
+      → TakesStops (IsEarliestFrom tree source dir) (λ f. gives_earlier dir (key_option tree f)) bytes before after (s ∷ [])
   takes_earliest bytes before after k s is kept there taken either =
       let more = stop_keys false s in
       let old = key_option tree before in

@@ -14,7 +14,7 @@ use Rattle.bd_path.specs.Key.{AreKeysAt, AreKeysOf, key_trees}
 use Rattle.bd_path.specs.KeyList.{distinct, indexed_keys, with_key, with_keys}
 use Rattle.bd_path.specs.Names.{Names}
 use Rattle.bd_path.specs.Stop.{Stops, stops}
-use Rattle.bd_path.specs.Walk.{Takes, TakesOrEnds}
+use Rattle.bd_path.specs.Walk.{TakesStops, TakesOrEnds}
 use Rattle.bd_path.proofs.StopLemmas.{keys_are}
 use Rattle.bd_path.specs.declared.key.Key.{Key}
 use Rattle.bd_path.specs.declared.stop.Stop.{Stop}
@@ -124,7 +124,7 @@ module _ {N : Type 0} (tree : N → Tree) (source : N → List ℕ) (sparse : Bo
 
   pub takes_keys : {F : Type 0} (items : F → List (Key N)) (bytes : List ℕ) (before after : F) (s : Stop Tree) → AppendsKeys tree (items before) (items after) (stop_keys sparse s)
       → (AreKeysOf source bytes (items before) → AreKeysOf source bytes (items after)) → ((ss : Stops) → AreKeysAt sparse (ss ++ s ∷ []) (items before) → AreKeysAt sparse (ss ++ s ∷ []) (items after))
-      → Takes (λ f. AreKeysFrom tree source sparse (items f)) (λ f. gives_new sparse (key_trees tree (items f))) bytes before after (s ∷ [])
+      → TakesStops (λ f. AreKeysFrom tree source sparse (items f)) (λ f. gives_new sparse (key_trees tree (items f))) bytes before after (s ∷ [])
   takes_keys items bytes before after s is kept there =
       let more = stop_keys sparse s in
       let old = distinct (key_trees tree (items before)) in

@@ -9,7 +9,7 @@ use Rattle.bd_path.specs.Names.{Names}
 use Rattle.bd_path.specs.Reach.{each_gathering, is_document}
 use Rattle.bd_path.specs.Stop.{Stops, stopping, stops}
 use Rattle.bd_path.specs.Visits.{GathersNone}
-use Rattle.bd_path.specs.Walk.{KeepsKnown, Takes, TakesOrEnds}
+use Rattle.bd_path.specs.Walk.{KeepsKnown, TakesStops, TakesOrEnds}
 use Rattle.bd_path.specs.declared.stop.Stop.{Stop}
 use Rattle.bd_path.specs.declared.visits.Visits.{Visits}
 use Rattle.bd_path.proofs.StopLemmas.{each_more}
@@ -36,12 +36,12 @@ module _ {F : Type 0} (amounts : F → List ℕ → Stops → Type 0) (is_new : 
   still_vain before after t path w still vain k o = any_still (is_new before) (is_new after) still (stops t (drop k path)) (vain k o)
 
   -- nothing was taken in
-  pub none_taken : (found : F) (bytes : List ℕ) → Takes amounts is_new bytes found found []
+  pub none_taken : (found : F) (bytes : List ℕ) → TakesStops amounts is_new bytes found found []
   none_taken found bytes = record { adds = λ ss h. subst (amounts found bytes) (sym (append-nil ss)) h; none_new = refl; still = λ s h. h }
 
   -- one part after another
-  pub both_taken : (bytes : List ℕ) (before between after : F) (xs ys : Stops) → Takes amounts is_new bytes before between xs → Takes amounts is_new bytes between after ys
-      → Takes amounts is_new bytes before after (xs ++ ys)
+  pub both_taken : (bytes : List ℕ) (before between after : F) (xs ys : Stops) → TakesStops amounts is_new bytes before between xs → TakesStops amounts is_new bytes between after ys
+      → TakesStops amounts is_new bytes before after (xs ++ ys)
   both_taken bytes before between after xs ys first second = record {
     adds = λ ss h. subst (amounts after bytes) (append_assoc ss xs ys) (second.adds (ss ++ xs) (first.adds ss h));
     none_new = list_any-append (is_new after) xs ys
@@ -49,7 +49,7 @@ module _ {F : Type 0} (amounts : F → List ℕ → Stops → Type 0) (is_new : 
     still = λ s h. second.still s (first.still s h);
   }
 
-  pub then_taken : (b : Bool) (bytes : List ℕ) (before between after : F) (xs ys : Stops) → Takes amounts is_new bytes before between xs → TakesOrEnds amounts is_new ends b bytes between after ys
+  pub then_taken : (b : Bool) (bytes : List ℕ) (before between after : F) (xs ys : Stops) → TakesStops amounts is_new bytes before between xs → TakesOrEnds amounts is_new ends b bytes between after ys
       → TakesOrEnds amounts is_new ends b bytes before after (xs ++ ys)
   then_taken true bytes before between after xs ys first second = both_taken bytes before between after xs ys first second
   then_taken false bytes before between after xs ys first second = list_any-append ends xs ys ∙ or_right (list_any ends xs) (list_any ends ys) second
@@ -63,7 +63,7 @@ module _ {F : Type 0} (amounts : F → List ℕ → Stops → Type 0) (is_new : 
   same_taken b bytes others before after xs ys e f h =
       subst (λ (ss : Stops). TakesOrEnds amounts is_new ends b others before after ss) f (subst (λ (bs : List ℕ). TakesOrEnds amounts is_new ends b bs before after xs) e h)
 
-  pub taken : (b : Bool) (bytes : List ℕ) (before after : F) (xs : Stops) → TakesOrEnds amounts is_new ends b bytes before after xs → b ≡ true → Takes amounts is_new bytes before after xs
+  pub taken : (b : Bool) (bytes : List ℕ) (before after : F) (xs : Stops) → TakesOrEnds amounts is_new ends b bytes before after xs → b ≡ true → TakesStops amounts is_new bytes before after xs
   taken true bytes before after xs h e = h
   taken false bytes before after xs h e = absurd cc
 
@@ -71,28 +71,28 @@ module _ {F : Type 0} (amounts : F → List ℕ → Stops → Type 0) (is_new : 
   ended true bytes before after xs h e = absurd cc
   ended false bytes before after xs h e = h
 
-  took : (b : Bool) (bytes : List ℕ) (before after : F) (xs : Stops) → Takes amounts is_new bytes before after xs → b ≡ true → TakesOrEnds amounts is_new ends b bytes before after xs
+  took : (b : Bool) (bytes : List ℕ) (before after : F) (xs : Stops) → TakesStops amounts is_new bytes before after xs → b ≡ true → TakesOrEnds amounts is_new ends b bytes before after xs
   took true bytes before after xs h e = h
   took false bytes before after xs h e = absurd cc
 
   -- nothing was there to be taken in
   pub none_took : (b : Bool) (bytes : List ℕ) (found : F) (xs : Stops) → b ≡ true → xs ≡ [] → TakesOrEnds amounts is_new ends b bytes found found xs
-  none_took b bytes found xs e f = took b bytes found found xs (subst (λ (ss : Stops). Takes amounts is_new bytes found found ss) (sym f) (none_taken found bytes)) e
+  none_took b bytes found xs e f = took b bytes found found xs (subst (λ (ss : Stops). TakesStops amounts is_new bytes found found ss) (sym f) (none_taken found bytes)) e
 
   -- one more element of an array
   pub document_taken : (b : Bool) (bytes others : List ℕ) (before between after : F) (es : List Tree) (i : ℕ) (u : Tree) (p : Names) → slice_get es i ≡ Some u → is_document u ≡ true → others ≡ bytes
-      → Takes amounts is_new bytes before between (each_gathering stopping (items_of (take i es)) p) → TakesOrEnds amounts is_new ends b others between after (stops u p) → b ≡ true
-      → Takes amounts is_new bytes before after (each_gathering stopping (items_of (take (i + 1) es)) p)
+      → TakesStops amounts is_new bytes before between (each_gathering stopping (items_of (take i es)) p) → TakesOrEnds amounts is_new ends b others between after (stops u p) → b ≡ true
+      → TakesStops amounts is_new bytes before after (each_gathering stopping (items_of (take (i + 1) es)) p)
   document_taken b bytes others before between after es i u p e d same first second went =
-      subst (λ (ss : Stops). Takes amounts is_new bytes before after ss)
+      subst (λ (ss : Stops). TakesStops amounts is_new bytes before after ss)
       (sym (each_more es i u p e ∙ ap (λ (c : Bool). each_gathering stopping (items_of (take i es)) p ++ cond c (stops u p) []) d))
       (both_taken bytes before between after (each_gathering stopping (items_of (take i es)) p) (stops u p) first
       (taken b bytes between after (stops u p) (same_taken b others bytes between after (stops u p) (stops u p) same refl second) went))
 
   pub other_taken : (bytes : List ℕ) (before between : F) (es : List Tree) (i : ℕ) (u : Tree) (p : Names) → slice_get es i ≡ Some u → is_document u ≡ false
-      → Takes amounts is_new bytes before between (each_gathering stopping (items_of (take i es)) p) → Takes amounts is_new bytes before between (each_gathering stopping (items_of (take (i + 1) es)) p)
+      → TakesStops amounts is_new bytes before between (each_gathering stopping (items_of (take i es)) p) → TakesStops amounts is_new bytes before between (each_gathering stopping (items_of (take (i + 1) es)) p)
   other_taken bytes before between es i u p e d first =
-      subst (λ (ss : Stops). Takes amounts is_new bytes before between ss)
+      subst (λ (ss : Stops). TakesStops amounts is_new bytes before between ss)
       (sym (each_more es i u p e ∙ ap (λ (c : Bool). each_gathering stopping (items_of (take i es)) p ++ cond c (stops u p) []) d ∙ append-nil (each_gathering stopping (items_of (take i es)) p)))
       first
 
@@ -104,5 +104,5 @@ module _ {F : Type 0} (amounts : F → List ℕ → Stops → Type 0) (is_new : 
         (all_known found bytes (ss ++ s ∷ []) more (right_false (is_new found s) (list_any (is_new found) more) none) (known found bytes ss s (left_false (is_new found s) (list_any (is_new found) more) none) h))
 
     -- nothing is new
-    pub vain_taken : (found : F) (bytes : List ℕ) (more : Stops) → list_any (is_new found) more ≡ false → Takes amounts is_new bytes found found more
+    pub vain_taken : (found : F) (bytes : List ℕ) (more : Stops) → list_any (is_new found) more ≡ false → TakesStops amounts is_new bytes found found more
     vain_taken found bytes more none = record { adds = λ ss h. all_known found bytes ss more none h; none_new = none; still = λ s h. h }

@@ -16,17 +16,17 @@ use Rattle.bd_value.specs.Tree.{Doc}
 use Rattle.bd_sort.specs.First.{AreFirst, IsEnd}
 use Rattle.bd_sort.specs.Mark.{IsMark, mark_place}
 use Rattle.bd_sort.specs.Selection.{order_of_keys}
-use Rattle.bd_sort.specs.Sorting.{is_before}
+use Rattle.bd_sort.specs.Sorting.{is_before_mark}
 use Rattle.bd_sort.specs.declared.mark.Mark.{Mark}
 use Rattle.bd_sort.proofs.KeptLemmas.{AreKept, EndsAt, ends_first, ends_on, kept_end, kept_first, kept_none, kept_refused, kept_taken}
 use Rattle.bd_sort.proofs.MarkLemmas.{keys_strict, keys_total, keys_weak}
 
 -- a place is left out that does not match, or that is not before the end of the first ones
-pub left_out : {lt : ℕ → ℕ → Bool} → IsStrictWeakOrder lt → (most : ℕ) (pass : ℕ → Bool) (end : Option ℕ) (kept old new all : List ℕ) (p : ℕ) → old ≡ p ∷ new → IfSome end (EndsAt lt most kept) → (pass p && is_before lt end p) ≡ false
+pub left_out : {lt : ℕ → ℕ → Bool} → IsStrictWeakOrder lt → (most : ℕ) (pass : ℕ → Bool) (end : Option ℕ) (kept old new all : List ℕ) (p : ℕ) → old ≡ p ∷ new → IfSome end (EndsAt lt most kept) → (pass p && is_before_mark lt end p) ≡ false
     → AreKept lt most kept (filter pass old) all → AreKept lt most kept (filter pass new) all
 left_out {lt = lt} w most pass end kept old new all p e ends late h = go (pass p) end ends late (subst (λ ps. AreKept lt most kept (filter pass ps) all) e h)
   where
-    go : (b : Bool) (end : Option ℕ) → IfSome end (EndsAt lt most kept) → (b && is_before lt end p) ≡ false → AreKept lt most kept (cond b (p ∷ filter pass new) (filter pass new)) all → AreKept lt most kept (filter pass new) all
+    go : (b : Bool) (end : Option ℕ) → IfSome end (EndsAt lt most kept) → (b && is_before_mark lt end p) ≡ false → AreKept lt most kept (cond b (p ∷ filter pass new) (filter pass new)) all → AreKept lt most kept (filter pass new) all
     go false end ends late h = h
     go true None ends late h = let f : ⊥ = cc late in absurd f
     go true (Some q) ends late h = kept_refused w most q p kept (filter pass new) all ends late h
@@ -86,7 +86,7 @@ state_none ds ss most hits pass left source = record {
   ends = tt;
 }
 
-pub state_left_out : (ds : List Doc) (ss : List SortPath) (most : ℕ) (pass : ℕ → Bool) (old new all kept : List ℕ) (end : Option Mark) (p : ℕ) → old ≡ p ∷ new → (pass p && is_before (before (order_of_keys ds ss)) (mark_place end) p) ≡ false
+pub state_left_out : (ds : List Doc) (ss : List SortPath) (most : ℕ) (pass : ℕ → Bool) (old new all kept : List ℕ) (end : Option Mark) (p : ℕ) → old ≡ p ∷ new → (pass p && is_before_mark (before (order_of_keys ds ss)) (mark_place end) p) ≡ false
     → IsState ds ss most pass old all kept end → IsState ds ss most pass new all kept end
 state_left_out ds ss most pass old new all kept end p e late h = record {
   kept = left_out (keys_weak ds ss) most pass (mark_place end) kept old new (filter pass all) p e h.ends late h.kept;

@@ -9,7 +9,7 @@ ghost use Rattle.bd_path.specs.Earliest.{SortPath};
 ghost use Rattle.bd_path.specs.Sort.{sort_paths};
 ghost use Rattle.bd_sort.specs.Mark.{IsMark, mark_place};
 ghost use Rattle.bd_sort.specs.Selection.{hits_of, order_of_keys, selection_of};
-ghost use Rattle.bd_sort.specs.Sorting.{is_before};
+ghost use Rattle.bd_sort.specs.Sorting.{is_before_mark};
 
 use crate::first::{first_in_order, keep_first};
 use crate::mark::Mark;
@@ -121,7 +121,7 @@ fn may_be_first(
     requires below { place < length (documents dump.now) }
     ensures { let by = order_of_keys (documents dump.now) (sort_paths request.now.sort.items) in
         result ≡ (passes (hits_of (documents dump.now) (filter_tree request.now.filter)) by (mark_place last.now) place
-        && is_before (before by) (mark_place end.now) place) }
+        && is_before_mark (before by) (mark_place end.now) place) }
 {
     is_match(dump, &request.filter, place)
         && is_past(dump, last, place)
@@ -144,7 +144,7 @@ fn is_past(dump: &Dump, mark: &Option<Mark<'_>>, place: u32) -> bool
 fn is_ahead(dump: &Dump, mark: &Option<Mark<'_>>, place: u32) -> bool
     requires { place < length (documents dump.now) }
     ensures { (ss : List SortPath) → IfSome mark.now (IsMark (documents dump.now) ss) →
-        result ≡ is_before (before (order_of_keys (documents dump.now) ss)) (mark_place mark.now) place }
+        result ≡ is_before_mark (before (order_of_keys (documents dump.now) ss)) (mark_place mark.now) place }
 {
     match mark {
         Some(mark) => mark.compare(dump, place).is_lt(),

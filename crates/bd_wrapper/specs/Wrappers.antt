@@ -22,13 +22,13 @@ wrappers =
     ∷ (codes "$timestamp", kinds.Timestamp) ∷ (codes "$regularExpression", kinds.RegularExpression) ∷ (codes "$dbPointer", kinds.DbPointer) ∷ (codes "$date", kinds.Date)
     ∷ (codes "$minKey", kinds.MinKey) ∷ (codes "$maxKey", kinds.MaxKey) ∷ (codes "$undefined", kinds.Undefined) ∷ []
 
-abbrev pub named_in : List (List ℕ × Wrapper) → List ℕ → Option Wrapper
-named_in [] name = None
-named_in (w ∷ ws) name = if bytes_eq name w.0 then Some w.1 else named_in ws name
+abbrev pub wrapper_in : List (List ℕ × Wrapper) → List ℕ → Option Wrapper
+wrapper_in [] name = None
+wrapper_in (w ∷ ws) name = if bytes_eq name w.0 then Some w.1 else wrapper_in ws name
 
 -- the wrapper of a name
 unfoldable pub wrapper_of : List ℕ → Option Wrapper
-wrapper_of name = named_in wrappers name
+wrapper_of name = wrapper_in wrappers name
 
 -- ---- parts of an object
 

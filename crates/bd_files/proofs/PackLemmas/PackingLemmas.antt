@@ -35,9 +35,6 @@ packed-append : (ds es : List Doc) → packed_bytes (ds ++ es) ≡ packed_bytes 
 packed-append [] es = refl
 packed-append (d ∷ ds) es = ap (λ x. plain d ++ x) (packed-append ds es) ∙ sym (append_assoc (plain d) (packed_bytes ds) (packed_bytes es))
 
-packed-one : (d : Doc) → packed_bytes (d ∷ []) ≡ plain d
-packed-one d = append-nil (plain d)
-
 -- ---- any lines are packed in some way
 
 -- lines, the first of which has that number, are packed in some way

@@ -7,7 +7,7 @@ use Rattle.bd_value.proofs.PartsLemmas as parted
 use Rattle.bd_path.specs.Names.{component_names}
 use Rattle.bd_path.specs.Reach.{each_gathering, is_document}
 use Rattle.bd_path.specs.Stop.{document_stops, stopping}
-use Rattle.bd_path.specs.Walk.{Takes}
+use Rattle.bd_path.specs.Walk.{TakesStops}
 use Rattle.bd_path.proofs.PositionsLemmas as at
 use Rattle.bd_path.proofs.ReachLemmas as down
 use Rattle.bd_path.proofs.StopLemmas as stop
@@ -106,7 +106,7 @@ walk_array-walk_index-requires g t c κs within =
     let bytes = g.N.Reading.source c.args.node in
     let names = component_names c.args.path.now in
     let d = c.decreases in
-    let told : Takes (g.G.Gatherer.amounts c.args.gatherer.now) (g.G.Gatherer.is_new c.args.gatherer.now) bytes c.args.found.now c.walk_documents.new.found (document_stops n (drop c.args.k names)) = c.in-Some.ensures.taken in (
+    let told : TakesStops (g.G.Gatherer.amounts c.args.gatherer.now) (g.G.Gatherer.is_new c.args.gatherer.now) bytes c.args.found.now c.walk_documents.new.found (document_stops n (drop c.args.k names)) = c.in-Some.ensures.taken in (
       omega arith,
       (
         within.0,
@@ -166,7 +166,7 @@ walk_documents-returns-in_default g t c =
     let names = component_names c.args.path.now in
     let all : take c.loop-i.i (elements_in n) ≡ elements_in n = stop.all_of (elements_in n) c.loop-i.i (sym c.loop-i.invariant.left ∙ ap values_of c.in_default.ensures.none) in
     record {
-      taken = subst (λ (es : List Tree). Takes (g.G.Gatherer.amounts c.args.gatherer.now) (g.G.Gatherer.is_new c.args.gatherer.now) bytes c.args.found.now c.loop-i.found (each_gathering stopping (items_of es) (drop c.args.k names))) all c.loop-i.invariant.so_far;
+      taken = subst (λ (es : List Tree). TakesStops (g.G.Gatherer.amounts c.args.gatherer.now) (g.G.Gatherer.is_new c.args.gatherer.now) bytes c.args.found.now c.loop-i.found (each_gathering stopping (items_of es) (drop c.args.k names))) all c.loop-i.invariant.so_far;
       has = c.loop-i.invariant.has ∙ ap (list_any is_document) all;
     }
 
@@ -177,7 +177,7 @@ walk_documents-returns g t c =
     let names = component_names c.args.path.now in
     let all : take c.loop-i.i (elements_in n) ≡ elements_in n = stop.all_of (elements_in n) c.loop-i.i ((let len = down.length_elements n c.requires.kind in walked.drop_all (elements_in n) c.loop-i.i (omega (arith, c.len-count.type_inv, c.len-count.ensures, len, c.loop-i-test.false)))) in
     record {
-      taken = subst (λ (es : List Tree). Takes (g.G.Gatherer.amounts c.args.gatherer.now) (g.G.Gatherer.is_new c.args.gatherer.now) bytes c.args.found.now c.loop-i.found (each_gathering stopping (items_of es) (drop c.args.k names))) all c.loop-i.invariant.so_far;
+      taken = subst (λ (es : List Tree). TakesStops (g.G.Gatherer.amounts c.args.gatherer.now) (g.G.Gatherer.is_new c.args.gatherer.now) bytes c.args.found.now c.loop-i.found (each_gathering stopping (items_of es) (drop c.args.k names))) all c.loop-i.invariant.so_far;
       has = c.loop-i.invariant.has ∙ ap (list_any is_document) all;
     }
 
@@ -247,11 +247,11 @@ walk_documents-loop-i-preserved g t c =
       left = at.left_after (elements_in n) c.loop-i.i u us left;
       so_far = elim c.if-is_document.branch [
         | walk_documents-then-is_document+else-not-walk w ↦
-            subst (λ f. Takes (g.G.Gatherer.amounts c.args.gatherer.now) (g.G.Gatherer.is_new c.args.gatherer.now) bytes c.args.found.now f (each_gathering stopping (items_of (take (c.loop-i.i + 1) (elements_in n))) rest)) (sym w.found-is)
+            subst (λ f. TakesStops (g.G.Gatherer.amounts c.args.gatherer.now) (g.G.Gatherer.is_new c.args.gatherer.now) bytes c.args.found.now f (each_gathering stopping (items_of (take (c.loop-i.i + 1) (elements_in n))) rest)) (sym w.found-is)
             (taken.document_taken (g.G.Gatherer.amounts c.args.gatherer.now) (g.G.Gatherer.is_new c.args.gatherer.now) (g.G.Gatherer.ends c.args.gatherer.now) w.walk.result bytes _ c.args.found.now c.loop-i.found _ (elements_in n) c.loop-i.i u rest here (sym c.is_document.ensures ∙ w.if-is_document.true) source
             c.loop-i.invariant.so_far w.walk.ensures w.if-not-walk.false)
         | walk_documents-else-is_document w ↦
-            subst (λ f. Takes (g.G.Gatherer.amounts c.args.gatherer.now) (g.G.Gatherer.is_new c.args.gatherer.now) bytes c.args.found.now f (each_gathering stopping (items_of (take (c.loop-i.i + 1) (elements_in n))) rest)) (sym w.found-is)
+            subst (λ f. TakesStops (g.G.Gatherer.amounts c.args.gatherer.now) (g.G.Gatherer.is_new c.args.gatherer.now) bytes c.args.found.now f (each_gathering stopping (items_of (take (c.loop-i.i + 1) (elements_in n))) rest)) (sym w.found-is)
             (taken.other_taken (g.G.Gatherer.amounts c.args.gatherer.now) (g.G.Gatherer.is_new c.args.gatherer.now) (g.G.Gatherer.ends c.args.gatherer.now) bytes c.args.found.now c.loop-i.found (elements_in n) c.loop-i.i u rest here (sym c.is_document.ensures ∙ w.if-is_document.false) c.loop-i.invariant.so_far)
       ];
       has = elim c.if-is_document.branch [

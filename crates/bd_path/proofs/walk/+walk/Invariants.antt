@@ -5,7 +5,7 @@ use Rattle.bd_value.specs.Parts.{values_of, elements_in}
 use Rattle.bd_path.specs.Names.{component_names}
 use Rattle.bd_path.specs.Reach.{each_gathering, is_document}
 use Rattle.bd_path.specs.Stop.{stopping}
-use Rattle.bd_path.specs.Walk.{Takes}
+use Rattle.bd_path.specs.Walk.{TakesStops}
 use Rattle.bd_path.proofs.walk.+walk.Given as goal
 
 abbrev pub decreases-walk : goal.decreases-walk
@@ -27,7 +27,7 @@ decreases-walk_index g l = 3 * tree_size (g.N.Reading.tree l.node)
 abbrev pub invariant-walk_documents-loop-i : goal.invariant-walk_documents-loop-i
 invariant-walk_documents-loop-i g l = record {
   left : values_of (g.N.Reading.left l.left) ≡ drop l.i (elements_in (g.N.Reading.tree l.fn.node));
-  so_far : Takes (g.G.Gatherer.amounts l.gatherer) (g.G.Gatherer.is_new l.gatherer) (g.N.Reading.source l.fn.node) l.fn.found l.found
+  so_far : TakesStops (g.G.Gatherer.amounts l.gatherer) (g.G.Gatherer.is_new l.gatherer) (g.N.Reading.source l.fn.node) l.fn.found l.found
       (each_gathering stopping (items_of (take l.i (elements_in (g.N.Reading.tree l.fn.node)))) (drop l.k (component_names l.path)));
   has : l.has_document ≡ list_any is_document (take l.i (elements_in (g.N.Reading.tree l.fn.node)));
   source : g.N.Reading.rest_source l.left ≡ g.N.Reading.source l.fn.node;

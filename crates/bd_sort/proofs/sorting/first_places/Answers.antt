@@ -8,7 +8,7 @@ use Rattle.bd_filter.specs.FilterView.{filter_tree}
 use Rattle.bd_sort.specs.First.{AreFirst}
 use Rattle.bd_sort.specs.Mark.{IsMark, mark_place}
 use Rattle.bd_sort.specs.Selection.{hits_of, order_of_keys, selection_of}
-use Rattle.bd_sort.specs.Sorting.{is_before}
+use Rattle.bd_sort.specs.Sorting.{is_before_mark}
 use Rattle.bd_sort.proofs.SortingLemmas.{IsState, state_cut, state_end, state_left_out, state_none, state_taken}
 use Rattle.bd_sort.proofs.sorting.first_places.Goals as goal
 use Rattle.bd_sort.proofs.sorting.first_places.Goals.{then-len-room+in_ok-end, else-len-room}
@@ -32,7 +32,7 @@ loop-place-preserved-in-Continue-branch-2 g c =
     let old = g.P.PlaceSource.left c.loop-place.source in
     let new = g.P.PlaceSource.left c.next_place.new.self in
     let all = g.P.PlaceSource.left c.args.source in
-    let both = and_parts (pass p) (is_before (before (order_of_keys ds ss)) (mark_place c.loop-place.end) p) (sym c.may_be_first.ensures ∙ c.if-may_be_first.true) in
+    let both = and_parts (pass p) (is_before_mark (before (order_of_keys ds ss)) (mark_place c.loop-place.end) p) (sym c.may_be_first.ensures ∙ c.if-may_be_first.true) in
     let here : IsState ds ss most pass old all c.if-len-room.places.items c.if-len-room.end = elim c.if-len-room.branch [
       | then-len-room+in_ok-end w ↦ rw (w.places-is, w.end-is)
           (state_cut ds ss most pass old all c.loop-place.places.items w.keep_first.new.places.items c.loop-place.end _ c.requires.some

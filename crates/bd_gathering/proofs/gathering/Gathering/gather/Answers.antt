@@ -1,7 +1,7 @@
 use Rattle.std.proofs.Common.{rules, ◌≡◌, sym, ◌∙◌, []}
 use Rattle.std.specs.Prelude.{◌≢◌}
 use Rattle.bd_gathering.specs.declared.gathering.Fate.TheVariants.{Kept}
-use Rattle.bd_gathering.proofs.HandingLemmas.{Breaks-writes, Takes-writes}
+use Rattle.bd_gathering.proofs.HandingLemmas.{Breaks-writes, TakesAllBytes-writes}
 use Rattle.bd_gathering.proofs.GatheringLemmas.{breaks_first, breaks_later, gathers_after, gathers_handed, gathers_held, gathers_none, gathers_written, on_err, on_ok}
 use Rattle.bd_gathering.proofs.gathering.Gathering.gather.Goals as goal
 
@@ -48,7 +48,7 @@ returns-clause-gathered g c =
       sym h.fate ∙ handed.0,
       h2.fate ∙ going,
       gathers_after g.D.Output old mid new c.args.bytes.now all
-          (gathers_written g.D.Output mid new c.args.bytes.now empty empty (Takes-writes g.D.Output _ _ _ held writes)),
+          (gathers_written g.D.Output mid new c.args.bytes.now empty empty (TakesAllBytes-writes g.D.Output _ _ _ held writes)),
     ))
 
 pub returns-clause-broken : goal.returns-clause-broken

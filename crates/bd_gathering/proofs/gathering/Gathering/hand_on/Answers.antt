@@ -1,6 +1,6 @@
 use Rattle.std.proofs.Common.{refl, rules, ◌≡◌, sym, ◌∙◌}
 use Rattle.bd_gathering.specs.declared.gathering.Fate.TheVariants.{Kept}
-use Rattle.bd_gathering.proofs.HandingLemmas.{Breaks-writes, Takes-writes, is_kept}
+use Rattle.bd_gathering.proofs.HandingLemmas.{Breaks-writes, TakesAllBytes-writes, is_kept}
 use Rattle.bd_gathering.proofs.GatheringLemmas.{hands_all, hands_broken, hands_none, in_err, in_ok}
 use Rattle.bd_gathering.proofs.gathering.Gathering.hand_on.Goals as goal
 
@@ -20,5 +20,5 @@ returns-clause-handed g c =
     let e = c.write_all-written.ensures in
     let well = sym c.is_err.ensures.value ∙ c.if-is_err.false in
     let kept : c.args.self.now.fate ≡ Kept = is_kept _ (λ not. let none = c.args.self.now.lost not in search (rules, none)) in
-    let takes = Takes-writes g.D.Output _ _ _ (in_ok _ _ well e.written) (in_ok _ _ well e.writes) in
+    let takes = TakesAllBytes-writes g.D.Output _ _ _ (in_ok _ _ well e.written) (in_ok _ _ well e.writes) in
     hands_all g.D.Output _ _ kept kept c.clear.ensures.items (rw c.deref.ensures.value at takes)
