@@ -50,22 +50,7 @@ FIVE_DUMP = b"".join(document for document, _ in FIVE)
 SEVERAL = bytes.fromhex("22000000 04 6100 1a000000 10 3000 05000000 10 3100 07000000 10 3200 05000000 00 00 0c000000 10 6100 05000000 00")
 
 # Each command, and below it the reply.
-TALK = """\
-{"createIndex":"a"}
-{"ok":true,"entries":{"$numberLong":"3"},"multikey":true}
-{"explain":{"a":{"$gte":5}}}
-{"ok":true,"plan":"index","index":"a","entries":{"$numberLong":"3"},"documents":{"$numberLong":"2"},"matches":{"$numberLong":"2"}}
-{"find":{"a":{"$gte":5}}}
-{"ok":true,"cursor":{"$numberLong":"1"}}
-{"getMore":1,"batch":0}
-{"ok":true,"documents":[],"end":false,"token":null}
-{"getMore":2,"batch":1}
-{"ok":false,"layer":"session","number":{"$numberInt":"6"},"text":"no such cursor"}
-{"getMore":1}
-{"ok":false,"layer":"command","number":{"$numberInt":"2"},"text":"missing field"}
-{"killCursor":1}
-{"ok":true}
-"""
+TALK = (ROOT / "tests/program/talk.txt").read_text()
 
 # Over the five documents. The tokens are those after two of them and after all.
 RESUMED = """\

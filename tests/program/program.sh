@@ -757,24 +757,34 @@ expect 'find in a dump of a length cut short' 1 '' 'bsonfind: document 0, byte 0
 run find one_bad.bson --query '{"a":1}'
 expect 'find in a dump with a bad document' 1 '' 'bsonfind: document 1, byte 19, path "s": bad string length'
 
-# The query is read before the dump, which has a fault.
+# The query and the sort are read before the dump, which has a fault.
+for part in query sort; do
+	while read -r text told; do
+		run find bad.bson "--$part" "$text"
+		expect "a $part that is refused: $text" 1 '' "bsonfind: $part: $told"
+	done <<'END'
+{"a":1.5} byte 5: not in the profile
+{"a":1 byte 6: not JSON
+{"a":1}x byte 7: text after the document
+{"a":9223372036854775808} byte 5: number out of range
+{"a\u0000":1} byte 1: zero in a name
+[1] not a document
+1 not a document
+END
+	run find bad.bson "--$part" ''
+	expect "a $part of no text" 1 '' "bsonfind: $part: byte 0: not JSON"
+done
+
 while read -r query told; do
 	run find bad.bson --query "$query"
 	expect "a query that is refused: $query" 1 '' "bsonfind: query: $told"
 done <<'END'
-{"a":1.5} byte 5: not in the profile
 {"a":01} byte 6: not JSON
 {"a":+1} byte 5: not JSON
 {"a":} byte 5: not JSON
 {"a":-} byte 6: not JSON
-{"a":1 byte 6: not JSON
 {a:1} byte 1: not JSON
-{"a":1}x byte 7: text after the document
-{"a":9223372036854775808} byte 5: number out of range
 {"x":{"$oid":"00"}} byte 5: bad wrapper
-{"a\u0000":1} byte 1: zero in a name
-[1] not a document
-1 not a document
 {"":1} place "": bad path
 {"a..b":1} place "a..b": bad path
 {"a\".":1} place "a\".": bad path
@@ -787,9 +797,6 @@ done <<'END'
 {"a":{"$in":[1,{"$regularExpression":{"pattern":"x","options":""}}]}} place "a.$in.1": not in the profile
 END
 
-run find bad.bson --query ''
-expect 'a query of no text' 1 '' 'bsonfind: query: byte 0: not JSON'
-
 # shellcheck disable=SC2016 # names again
 for levels in 50 51; do
 	run find bad.bson --query "$(copies "$levels" '{"$and":[')$(copies "$levels" ']}')"
@@ -798,19 +805,11 @@ for levels in 50 51; do
 	expect "a query of $levels levels" 1 '' "bsonfind: query: place $told"
 done
 
-# The sort is read before the dump, too.
 while read -r sort told_of; do
 	run find bad.bson --sort "$sort"
 	expect "a sort that is refused: $sort" 1 '' "bsonfind: sort: $told_of"
 done <<'END'
-{"a":1.5} byte 5: not in the profile
-{"a":1 byte 6: not JSON
-{"a":1}x byte 7: text after the document
-{"a":9223372036854775808} byte 5: number out of range
 {"a":{"$oid":"00"}} byte 5: bad wrapper
-{"a\u0000":1} byte 1: zero in a name
-[1] not a document
-1 not a document
 {"a":2} not a sort
 {"a":0} not a sort
 {"a":true} not a sort
@@ -824,9 +823,6 @@ done <<'END'
 {"":1} not a sort
 {"a":1,"b.":1} not a sort
 END
-
-run find bad.bson --sort ''
-expect 'a sort of no text' 1 '' 'bsonfind: sort: byte 0: not JSON'
 
 # And so is the path of an index, of 100 names at most.
 for path in '' . .a a. a..b a.b..c; do
@@ -979,24 +975,9 @@ expect 'a large check in little memory' 0 '' '819200 documents, 0 faulty'
 # A session. A command is a line of standard input, and its reply one of standard output. tests/program/talk.py talks with one.
 
 # Each command, and below it the reply.
-cat >talk.txt <<'END'
-{"createIndex":"a"}
-{"ok":true,"entries":{"$numberLong":"3"},"multikey":true}
-{"explain":{"a":{"$gte":5}}}
-{"ok":true,"plan":"index","index":"a","entries":{"$numberLong":"3"},"documents":{"$numberLong":"2"},"matches":{"$numberLong":"2"}}
-{"find":{"a":{"$gte":5}}}
-{"ok":true,"cursor":{"$numberLong":"1"}}
-{"getMore":1,"batch":0}
-{"ok":true,"documents":[],"end":false,"token":null}
-{"getMore":2,"batch":1}
-{"ok":false,"layer":"session","number":{"$numberInt":"6"},"text":"no such cursor"}
-{"getMore":1}
-{"ok":false,"layer":"command","number":{"$numberInt":"2"},"text":"missing field"}
-{"killCursor":1}
-{"ok":true}
-END
-sed -n 'p;n' talk.txt >commands
-sed -n 'n;p' talk.txt >replies
+talk=$root/tests/program/talk.txt
+sed -n 'p;n' "$talk" >commands
+sed -n 'n;p' "$talk" >replies
 printf '{"a":[5,7,5]}\n{"a":5}\n' | "$program" pack - >several.bson 2>err
 
 run serve several.bson <commands
