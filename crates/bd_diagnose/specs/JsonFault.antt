@@ -17,6 +17,18 @@ json_fault_words kinds.NulInName = codes "zero in a name"
 json_fault_words kinds.TrailingText = codes "text after the document"
 json_fault_words kinds.NoMemory = codes "no memory"
 
+-- the number by which a reply tells it
+abbrev pub json_fault_number : JsonFaultKind → ℕ
+json_fault_number kinds.Syntax = 1
+json_fault_number kinds.NotADocument = 2
+json_fault_number kinds.TooDeep = 3
+json_fault_number kinds.BadWrapper = 4
+json_fault_number kinds.NotInProfile = 5
+json_fault_number kinds.NumberRange = 6
+json_fault_number kinds.NulInName = 7
+json_fault_number kinds.TrailingText = 8
+json_fault_number kinds.NoMemory = 9
+
 -- The byte that a fault tells is in its text, which has that many bytes, or at the text's end. A fault of the whole, and want
 -- of memory, are told at byte 0.
 pub record IsPlaced (size : ℕ) (fault : JsonFault) : Type 0 where

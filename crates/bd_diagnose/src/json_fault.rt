@@ -1,6 +1,6 @@
 //! Why a text is no document, and where.
 ghost use Rattle.std.specs.Prelude.{◌≡◌};
-ghost use Rattle.bd_diagnose.specs.JsonFault.{json_fault_words};
+ghost use Rattle.bd_diagnose.specs.JsonFault.{json_fault_number, json_fault_words};
 
 use thiserror::Error;
 
@@ -9,23 +9,23 @@ use thiserror::Error;
 #[error("{}", self.words())]
 pub enum JsonFaultKind {
     /// It is no JSON, or it is not UTF-8.
-    Syntax = 1,
+    Syntax,
     /// It is a value that is no document.
-    NotADocument = 2,
+    NotADocument,
     /// Brackets stand deeper than 203 in one another, or documents and arrays deeper than 200.
-    TooDeep = 3,
+    TooDeep,
     /// An object begins with a wrapper's name and is not exactly that wrapper.
-    BadWrapper = 4,
+    BadWrapper,
     /// A double, a decimal128, a UUID, a text as date, or another form that is not read.
-    NotInProfile = 5,
+    NotInProfile,
     /// A whole number that does not fit its type.
-    NumberRange = 6,
+    NumberRange,
     /// A zero in a name, or in a text of a regular expression.
-    NulInName = 7,
+    NulInName,
     /// Text after the document.
-    TrailingText = 8,
+    TrailingText,
     /// No memory was given.
-    NoMemory = 9,
+    NoMemory,
 }
 
 impl JsonFaultKind {
@@ -43,6 +43,23 @@ impl JsonFaultKind {
             JsonFaultKind::NulInName => "zero in a name",
             JsonFaultKind::TrailingText => "text after the document",
             JsonFaultKind::NoMemory => "no memory",
+        }
+    }
+
+    /// The number by which a reply tells it, 1 to 8; 9 for want of memory.
+    pub fn number(self) -> u32
+        ensures { result ≡ json_fault_number self }
+    {
+        match self {
+            JsonFaultKind::Syntax => 1,
+            JsonFaultKind::NotADocument => 2,
+            JsonFaultKind::TooDeep => 3,
+            JsonFaultKind::BadWrapper => 4,
+            JsonFaultKind::NotInProfile => 5,
+            JsonFaultKind::NumberRange => 6,
+            JsonFaultKind::NulInName => 7,
+            JsonFaultKind::TrailingText => 8,
+            JsonFaultKind::NoMemory => 9,
         }
     }
 }

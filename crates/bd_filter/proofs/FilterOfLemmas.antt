@@ -1,5 +1,6 @@
 -- Parts that are read in turn.
-use Rattle.std.proofs.Common.{◌≡◌, ◌≢◌, ◌⊎◌, inl, inr, ℕ, zero, suc, ◌-◌, Bool, true, false, length, Option, Some, None, if◌then◌else◌, List, [], ◌∷◌, ◌++◌, Result, Ok, Err, map, refl, sym, ap, ◌∙◌, append_assoc, append-nil}
+use Rattle.std.proofs.Common.{◌≡◌, ◌≢◌, ◌⊎◌, inl, inr, ℕ, zero, suc, ◌-◌, Bool, true, false, length, Option, Some, None, if◌then◌else◌, List, [], ◌∷◌, ◌++◌}
+use Rattle.std.proofs.Common.{Result, Ok, Err, map, refl, sym, ap, ◌∙◌, append_assoc, append-nil}
 use Rattle.std.proofs.lemmas.List.{map_push}
 use Rattle.bd_value.specs.Kind.{kind_of}
 use Rattle.bd_value.specs.Parts.{AreParts, length_of, values_of}
@@ -11,7 +12,8 @@ use Rattle.bd_filter.specs.Fault.{IsAnswerTo, IsStarved, Refusal, refusal_of, St
 use Rattle.bd_filter.specs.declared.fault.FilterFault.{FilterFault}
 use Rattle.bd_filter.specs.declared.fault.Stop.{Stop}
 use Rattle.bd_filter.specs.declared.fault.Stop.TheVariants as stops
-use Rattle.bd_filter.specs.FilterOf.{all_kinds, both_kinds, element_operator, filter_of, filters_of, has_operators, has_value_form, member_filter, member_filters, member_values, members_of, ordered_value}
+use Rattle.bd_filter.specs.FilterOf.{all_kinds, both_kinds, element_operator, filter_of, filters_of, has_operators, has_value_form, member_filter}
+use Rattle.bd_filter.specs.FilterOf.{member_filters, member_values, members_of, ordered_value}
 use Rattle.bd_filter.specs.FilterOf.{inner_part, not_operator, operand_filters, operand_kinds, operators_of, path_operators, read_as, read_first, type_kinds}
 use Rattle.bd_filter.specs.Filter.{all_of, filters_from, has_document, has_element, negates, operators_from}
 

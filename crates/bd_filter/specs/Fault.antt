@@ -32,6 +32,16 @@ filter_fault_words kinds.Path = codes "bad path"
 filter_fault_words kinds.TooDeep = codes "too deep"
 filter_fault_words kinds.NoMemory = codes "no memory"
 
+-- the number by which a reply tells it
+abbrev pub filter_fault_number : FilterFaultKind → ℕ
+filter_fault_number kinds.UnknownOperator = 1
+filter_fault_number kinds.NotInProfile = 2
+filter_fault_number kinds.BadOperand = 3
+filter_fault_number kinds.MixedOperators = 4
+filter_fault_number kinds.Path = 5
+filter_fault_number kinds.TooDeep = 6
+filter_fault_number kinds.NoMemory = 7
+
 -- The code keeps the names from the pair or member up.
 abbrev pub misfit_refusal : Misfit → Refusal
 misfit_refusal m = record { kind = m.kind; place = reverse (map string_bytes m.place.items) }

@@ -1,7 +1,7 @@
 //! Why a document is no filter, and where.
 
 ghost use Rattle.std.specs.Prelude.{◌≡◌, [], IfOk};
-ghost use Rattle.bd_filter.specs.Fault.{Refusal, IsAnswerTo, TellsMisfit, deeper, filter_fault_words};
+ghost use Rattle.bd_filter.specs.Fault.{Refusal, IsAnswerTo, TellsMisfit, deeper, filter_fault_number, filter_fault_words};
 ghost use Rattle.bd_filter.specs.declared.fault.Stop.TheVariants.{NoMemory};
 
 use bd_value::NoMemory;
@@ -13,19 +13,19 @@ use thiserror::Error;
 #[error("{}", self.words())]
 pub enum FilterFaultKind {
     /// A name with a dollar sign that is no operator, or an operator that may not stand there.
-    UnknownOperator = 1,
+    UnknownOperator,
     /// An operator of the manual that is left out, or an operand that is.
-    NotInProfile = 2,
+    NotInProfile,
     /// An operand of another kind than the operator takes.
-    BadOperand = 3,
+    BadOperand,
     /// A name without a dollar sign among operators.
-    MixedOperators = 4,
+    MixedOperators,
     /// A name that is no path.
-    Path = 5,
+    Path,
     /// A filter at level 51.
-    TooDeep = 6,
+    TooDeep,
     /// No memory was given.
-    NoMemory = 7,
+    NoMemory,
 }
 
 impl FilterFaultKind {
@@ -41,6 +41,21 @@ impl FilterFaultKind {
             FilterFaultKind::Path => "bad path",
             FilterFaultKind::TooDeep => "too deep",
             FilterFaultKind::NoMemory => "no memory",
+        }
+    }
+
+    /// The number by which a reply tells it, 1 to 6; 7 for want of memory.
+    pub fn number(self) -> u32
+        ensures { result ≡ filter_fault_number self }
+    {
+        match self {
+            FilterFaultKind::UnknownOperator => 1,
+            FilterFaultKind::NotInProfile => 2,
+            FilterFaultKind::BadOperand => 3,
+            FilterFaultKind::MixedOperators => 4,
+            FilterFaultKind::Path => 5,
+            FilterFaultKind::TooDeep => 6,
+            FilterFaultKind::NoMemory => 7,
         }
     }
 }

@@ -37,7 +37,8 @@ least_within v h = grind arith
 least_past : (v : ℕ) → ¬ (v < 18446744073709551616) → 18446744073709551615 ≡ min v 18446744073709551615
 least_past v h = grind arith
 
-least_of : {E : Type 0} (r : Result ℕ E) (P : Type 0) (v : ℕ) → (v < 18446744073709551616 → P) → (P → v < 18446744073709551616) → OkIff r P v → result_unwrap_or r 18446744073709551615 ≡ min v 18446744073709551615
+least_of : {E : Type 0} (r : Result ℕ E) (P : Type 0) (v : ℕ) → (v < 18446744073709551616 → P) → (P → v < 18446744073709551616) → OkIff r P v
+    → result_unwrap_or r 18446744073709551615 ≡ min v 18446744073709551615
 least_of (Ok x) P v f g h = h.1 ∙ least_within v (g h.0)
 least_of (Err e) P v f g h = least_past v (λ lt. h (f lt))
 

@@ -277,7 +277,8 @@ module _ (dir : Dir) where
       ∙ go (is_earlier dir (earlier_key dir (earlier_key dir e (Some k)) (earliest_key dir ks)) k) refl (all_taken (earlier_key dir e (Some k)) ks)
     where
       go : (b : Bool) → is_earlier dir (earlier_key dir (earlier_key dir e (Some k)) (earliest_key dir ks)) k ≡ b
-          → list_any (is_earlier dir (earlier_key dir (earlier_key dir e (Some k)) (earliest_key dir ks))) ks ≡ false → (b || list_any (is_earlier dir (earlier_key dir (earlier_key dir e (Some k)) (earliest_key dir ks))) ks) ≡ false
+          → list_any (is_earlier dir (earlier_key dir (earlier_key dir e (Some k)) (earliest_key dir ks))) ks ≡ false
+              → (b || list_any (is_earlier dir (earlier_key dir (earlier_key dir e (Some k)) (earliest_key dir ks))) ks) ≡ false
       go true h rest = let s = one_still (earlier_key dir e (Some k)) (earliest_key dir ks) k (one_taken e k) in absurd cc
       go false h rest = rest
 
@@ -317,7 +318,8 @@ module _ {N : Type 0} (tree : N → Tree) (source : N → List ℕ) (dir : Dir) 
         adds = λ ss are. record {
           earliest = told ∙ ap (λ e. earlier_key dir e (earliest_key dir more)) are.earliest ∙ sym (flat_more dir ss s);
           kept = of_either (IsKeyOf source bytes) after before (Some k) either are.kept kept;
-          there = of_either (IsKeyAt false (ss ++ s ∷ [])) after before (Some k) either (if_some (IsKeyAt false ss) (IsKeyAt false (ss ++ s ∷ [])) before (at_more false ss (s ∷ [])) are.there) (at_last false ss (s ∷ []) k there);
+          there = of_either (IsKeyAt false (ss ++ s ∷ [])) after before (Some k) either
+              (if_some (IsKeyAt false ss) (IsKeyAt false (ss ++ s ∷ [])) before (at_more false ss (s ∷ [])) are.there) (at_last false ss (s ∷ []) k there);
         };
         none_new = ap (λ e. list_any (is_earlier dir e) more || false) told ∙ ap (λ (b : Bool). b || false) (all_taken dir old more);
         still = λ z h. ap (λ e. list_any (is_earlier dir e) (stop_keys false z)) told ∙ none_still dir old (earliest_key dir more) (stop_keys false z) h;

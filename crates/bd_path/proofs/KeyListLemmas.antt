@@ -30,7 +30,8 @@ with_last : (ks ts : List Tree) (t : Tree) → with_keys ks (ts ++ t ∷ []) ≡
 with_last ks [] t = refl
 with_last ks (u ∷ ts) t = with_last (with_key ks u) ts t
 
-pub one_more : {A : Type 0} (f : A → Tree) (xs : List A) (i : ℕ) (x : A) (old new : List Tree) → i < length xs → x ≡ get_or xs i x → new ≡ with_key old (f x) → old ≡ distinct (map f (take i xs)) → new ≡ distinct (map f (take (i + 1) xs))
+pub one_more : {A : Type 0} (f : A → Tree) (xs : List A) (i : ℕ) (x : A) (old new : List Tree) → i < length xs → x ≡ get_or xs i x
+    → new ≡ with_key old (f x) → old ≡ distinct (map f (take i xs)) → new ≡ distinct (map f (take (i + 1) xs))
 one_more {A} f xs i x old new lt is added so_far =
     added ∙ ap (λ (l : List Tree). with_key l (f x)) so_far ∙ sym (with_last [] (map f (take i xs)) (f x))
     ∙ ap distinct (sym (map_more f xs i x lt ∙ ap (λ (y : A). map f (take i xs) ++ f y ∷ []) (sym is)))
@@ -44,7 +45,8 @@ equal_there {A} f xs ys k r is same e =
     let any : list_any (λ x. equal x (f k)) (map f xs) ≡ true = any_map (λ x. equal x (f k)) f xs ∙ ap (λ (l : List A). list_any (λ x. equal (f x) (f k)) l) (sym same) ∙ sym is ∙ e in
     rw any refl
 
-pub no_equal : {A : Type 0} (f : A → Tree) (xs ys zs : List A) (k : A) (r : Bool) → r ≡ list_any (λ x. equal (f x) (f k)) ys → ys ≡ xs → r ≡ false → zs ≡ xs ++ k ∷ [] → map f zs ≡ with_key (map f xs) (f k)
+pub no_equal : {A : Type 0} (f : A → Tree) (xs ys zs : List A) (k : A) (r : Bool) → r ≡ list_any (λ x. equal (f x) (f k)) ys → ys ≡ xs → r ≡ false
+    → zs ≡ xs ++ k ∷ [] → map f zs ≡ with_key (map f xs) (f k)
 no_equal {A} f xs ys zs k r is same e z =
     let any : list_any (λ x. equal x (f k)) (map f xs) ≡ false = any_map (λ x. equal x (f k)) f xs ∙ ap (λ (l : List A). list_any (λ x. equal (f x) (f k)) l) (sym same) ∙ sym is ∙ e in
     rw any (ap (map f) z ∙ map-append f xs (k ∷ []))

@@ -3,7 +3,8 @@ use Rattle.std.proofs.Common.{◌≡◌, ◌+◌, ◌<◌, ◌≤◌, ◌⊎◌,
 use Rattle.std.specs.Prelude.{slice_get}
 use Rattle.std.specs.Str.{bytes_eq}
 use Rattle.bd_value.specs.Tree as trees
-use Rattle.bd_value.specs.Tree.{Scalar, Tree, Doc, leaf, doc, array, code_scope, Items, no_items, item, Fields, no_fields, field, pairs_in, pairs_of, list_of, items_of, items_of-list_of, tree_size, items_size, fields_size}
+use Rattle.bd_value.specs.Tree.{Scalar, Tree, Doc, leaf, doc, array, code_scope, Items, no_items, item, Fields, no_fields, field, pairs_in, pairs_of, list_of}
+use Rattle.bd_value.specs.Tree.{items_of, items_of-list_of, tree_size, items_size, fields_size}
 use Rattle.bd_value.specs.Parts.{values_of, elements_in, length_of, AreParts}
 use Rattle.bd_value.specs.Lookup.{first_of}
 use Rattle.bd_value.specs.Kind.{kind_of, scalar_kind}
@@ -78,7 +79,9 @@ module _ {A : Type 0} (g : Gathering A) where
   found_in no_fields name r u e = absurd cc
   found_in (field n t fs) name r u e = go (bytes_eq n name) e (found_in fs name r u)
     where
-      go : (b : Bool) → cond b (Some t) (first_of name (pairs_of fs)) ≡ Some u → (first_of name (pairs_of fs) ≡ Some u → first_gathering g fs name r ≡ gathering g u r) → cond b (gathering g t r) (first_gathering g fs name r) ≡ gathering g u r
+      go : (b : Bool) → cond b (Some t) (first_of name (pairs_of fs)) ≡ Some u
+          → (first_of name (pairs_of fs) ≡ Some u → first_gathering g fs name r ≡ gathering g u r)
+          → cond b (gathering g t r) (first_gathering g fs name r) ≡ gathering g u r
       go true h rest = let same : t ≡ u = cc in ap (λ (x : Tree). gathering g x r) same
       go false h rest = rest h
 
@@ -86,7 +89,8 @@ module _ {A : Type 0} (g : Gathering A) where
   lost_in no_fields name r e = refl
   lost_in (field n t fs) name r e = go (bytes_eq n name) e (lost_in fs name r)
     where
-      go : (b : Bool) → cond b (Some t) (first_of name (pairs_of fs)) ≡ None → (first_of name (pairs_of fs) ≡ None → first_gathering g fs name r ≡ g.missing) → cond b (gathering g t r) (first_gathering g fs name r) ≡ g.missing
+      go : (b : Bool) → cond b (Some t) (first_of name (pairs_of fs)) ≡ None
+          → (first_of name (pairs_of fs) ≡ None → first_gathering g fs name r ≡ g.missing) → cond b (gathering g t r) (first_gathering g fs name r) ≡ g.missing
       go true h rest = absurd cc
       go false h rest = rest h
 

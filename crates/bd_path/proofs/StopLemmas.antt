@@ -1,5 +1,6 @@
 -- The stops of a walk down a path, and what is gathered at them.
-use Rattle.std.proofs.Common.{◌≡◌, ◌+◌, ◌≤◌, ℕ, zero, suc, min, Bool, true, false, ◌||◌, not, cond, List, [], ◌∷◌, ◌++◌, Option, Some, None, length, option_map, drop, take, refl, sym, ap, ap₂, ◌∙◌, add-one, append-nil, append_assoc, arith}
+use Rattle.std.proofs.Common.{◌≡◌, ◌+◌, ◌≤◌, ℕ, zero, suc, min, Bool, true, false, ◌||◌, not, cond, List, [], ◌∷◌, ◌++◌, Option, Some, None, length, option_map}
+use Rattle.std.proofs.Common.{drop, take, refl, sym, ap, ap₂, ◌∙◌, add-one, append-nil, append_assoc, arith}
 use Rattle.std.specs.Prelude.{slice_get}
 use Rattle.std.specs.List.{flat_map, list_any}
 use Rattle.std.specs.Str.{bytes_eq}
@@ -89,7 +90,8 @@ one_more {A} xs i x e = rw add-one (go xs i e)
 
 each_append : (xs ys : List Tree) (p : Names) → each_gathering stopping (items_of (xs ++ ys)) p ≡ each_gathering stopping (items_of xs) p ++ each_gathering stopping (items_of ys) p
 each_append [] ys p = refl
-each_append (x ∷ xs) ys p = ap (λ (ss : Stops). cond (is_document x) (stops x p) [] ++ ss) (each_append xs ys p) ∙ sym (append_assoc (cond (is_document x) (stops x p) []) (each_gathering stopping (items_of xs) p) (each_gathering stopping (items_of ys) p))
+each_append (x ∷ xs) ys p = ap (λ (ss : Stops). cond (is_document x) (stops x p) [] ++ ss) (each_append xs ys p)
+    ∙ sym (append_assoc (cond (is_document x) (stops x p) []) (each_gathering stopping (items_of xs) p) (each_gathering stopping (items_of ys) p))
 
 -- one more element
 pub each_more : (es : List Tree) (i : ℕ) (u : Tree) (p : Names) → slice_get es i ≡ Some u
@@ -125,7 +127,8 @@ module _ (t : Tree) (path : Names) (k : ℕ) (n : List ℕ) (at : slice_get path
   pub array_is : (b : Bool) → kind_of t ≡ kinds.Array → b ≡ list_any is_document (elements_in t) → stops t (drop k path) ≡ document_stops t (drop k path) ++ later_stops b t (drop k path)
   array_is b a e = parts_are stopping t path k n a at ∙ go b e
     where
-      go : (b : Bool) → b ≡ list_any is_document (elements_in t) → or_stop (document_stops t (drop k path) ++ index_gathering stopping t (drop k path)) ≡ document_stops t (drop k path) ++ later_stops b t (drop k path)
+      go : (b : Bool) → b ≡ list_any is_document (elements_in t) → or_stop
+          (document_stops t (drop k path) ++ index_gathering stopping t (drop k path)) ≡ document_stops t (drop k path) ++ later_stops b t (drop k path)
       go true e = more_stops (document_stops t (drop k path)) (index_gathering stopping t (drop k path)) (some_documents (elements_in t) (drop k path) (sym e))
       go false e =
           let none : document_stops t (drop k path) ≡ [] = no_documents (elements_in t) (drop k path) (sym e) in
@@ -135,7 +138,8 @@ module _ (t : Tree) (path : Names) (k : ℕ) (n : List ℕ) (at : slice_get path
   element_is b i u o e = go b
     where
       is : index_gathering stopping t (drop k path) ≡ stops u (drop (k + 1) path)
-      is = rw add-one (first_is stopping t path k n at ∙ ap (λ (o : Option ℕ). gathering_at stopping (items_of (elements_in t)) o (drop (suc k) path)) o ∙ down.at_index stopping (elements_in t) i u (drop (suc k) path) e)
+      is = rw add-one (first_is stopping t path k n at ∙ ap (λ (o : Option ℕ). gathering_at stopping (items_of (elements_in t)) o
+          (drop (suc k) path)) o ∙ down.at_index stopping (elements_in t) i u (drop (suc k) path) e)
 
       go : (b : Bool) → later_stops b t (drop k path) ≡ stops u (drop (k + 1) path)
       go true = is

@@ -1,5 +1,6 @@
 -- A walk that goes into a value once from each position of a path.
-use Rattle.std.proofs.Common.{◌≡◌, ◌+◌, ◌<◌, ◌≤◌, ◌⊎◌, inl, inr, ℕ, zero, suc, min, Bool, true, false, ◌||◌, cond, Bor, List, [], ◌∷◌, ◌++◌, Option, Some, None, length, option_map, get_or, drop, string_bytes, refl, sym, ap, ◌∙◌, subst, add-one, arith}
+use Rattle.std.proofs.Common.{◌≡◌, ◌+◌, ◌<◌, ◌≤◌, ◌⊎◌, inl, inr, ℕ, zero, suc, min, Bool, true, false, ◌||◌, cond, Bor, List, [], ◌∷◌, ◌++◌, Option, Some, None}
+use Rattle.std.proofs.Common.{length, option_map, get_or, drop, string_bytes, refl, sym, ap, ◌∙◌, subst, add-one, arith}
 use Rattle.std.specs.Prelude.{slice_get}
 use Rattle.std.specs.List.{list_any}
 use Rattle.std.proofs.lemmas.List.Folds.{list_any-append}
@@ -99,7 +100,8 @@ module _ {A : Type 0} (g : Gathering A) (t : Tree) (path : Names) (k : ℕ) wher
   pub first_is : (n : List ℕ) → slice_get path k ≡ Some n → index_gathering g t (drop k path) ≡ at_name n
   first_is n at = ap (index_gathering g t) (drop_at path k n at)
 
-  pub parts_are : (n : List ℕ) → kind_of t ≡ kinds.Array → slice_get path k ≡ Some n → gathering g t (drop k path) ≡ g.of_array (document_gathering g t (drop k path) ++ index_gathering g t (drop k path))
+  pub parts_are : (n : List ℕ) → kind_of t ≡ kinds.Array → slice_get path k ≡ Some n
+      → gathering g t (drop k path) ≡ g.of_array (document_gathering g t (drop k path) ++ index_gathering g t (drop k path))
   parts_are n a at =
       ap (gathering g t) (drop_at path k n at) ∙ down.of_elements g t n (drop (suc k) path) a
       ∙ ap (λ (p : Names). g.of_array (document_gathering g t p ++ index_gathering g t p)) (sym (drop_at path k n at))
@@ -112,7 +114,8 @@ module _ {A : Type 0} (g : Gathering A) (t : Tree) (path : Names) (k : ℕ) wher
 -- ---- what was walked before
 
 module _ {A : Type 0} (f : A → Bool) (g : Gathering A) where
-  pub each_left : (es : List Tree) (i : ℕ) (u : Tree) (p : Names) → slice_get es i ≡ Some u → is_document u ≡ true → list_any f (each_gathering g (items_of es) p) ≡ false → list_any f (gathering g u p) ≡ false
+  pub each_left : (es : List Tree) (i : ℕ) (u : Tree) (p : Names) → slice_get es i ≡ Some u → is_document u ≡ true
+      → list_any f (each_gathering g (items_of es) p) ≡ false → list_any f (gathering g u p) ≡ false
   each_left [] i u p e d h = absurd cc
   each_left (x ∷ es) zero u p e d h =
       let same : x ≡ u = cc in
@@ -124,7 +127,8 @@ module _ {A : Type 0} (f : A → Bool) (g : Gathering A) where
       each_left es i u p e d (right_false _ _ (sym (list_any-append f (cond (is_document x) (gathering g x p) []) (each_gathering g (items_of es) p)) ∙ h))
 
   module _ (keeps : KeepsParts f g) (t : Tree) (cs : List Component) (w : Visits) (before : GathersNone f g t (component_names cs) w) where
-    pub field_inside : (s : Bor (List ℕ)) (u : Tree) (v : Visits) → kind_of t ≡ kinds.Doc → first_of s.now (pairs_in t) ≡ Some u → ((j : ℕ) → IsWalked v j → IsStepOf (Field s) (component_names cs) w j) → GathersNone f g u (component_names cs) v
+    pub field_inside : (s : Bor (List ℕ)) (u : Tree) (v : Visits) → kind_of t ≡ kinds.Doc → first_of s.now (pairs_in t) ≡ Some u
+        → ((j : ℕ) → IsWalked v j → IsStepOf (Field s) (component_names cs) w j) → GathersNone f g u (component_names cs) v
     field_inside s u v d e only j o =
         let by = only j o in
         let there : slice_get (component_names cs) by.before ≡ Some s.now = by.is_there ∙ ap some_name by.takes in
@@ -132,24 +136,29 @@ module _ {A : Type 0} (f : A → Bool) (g : Gathering A) where
         ∙ ap (list_any f) (sym (field_is g t (component_names cs) by.before s.now u d there e)) ∙ before by.before by.here
 
     module _ (a : kind_of t ≡ kinds.Array) where
-      parts_none : (k : ℕ) (n : List ℕ) → slice_get (component_names cs) k ≡ Some n → list_any f (gathering g t (drop k (component_names cs))) ≡ false → list_any f (in_documents g t (component_names cs) k ++ at_name g t (component_names cs) k n) ≡ false
+      parts_none : (k : ℕ) (n : List ℕ) → slice_get (component_names cs) k ≡ Some n
+          → list_any f (gathering g t (drop k (component_names cs))) ≡ false
+          → list_any f (in_documents g t (component_names cs) k ++ at_name g t (component_names cs) k n) ≡ false
       parts_none k n at h = keeps (in_documents g t (component_names cs) k ++ at_name g t (component_names cs) k n) (ap (list_any f) (sym (array_is g t (component_names cs) k n a at)) ∙ h)
 
       -- a document in it, from a position that was walked
-      document_none : (k i : ℕ) (u : Tree) → slice_get (elements_in t) i ≡ Some u → is_document u ≡ true → k < length cs → IsWalked w k → list_any f (gathering g u (drop k (component_names cs))) ≡ false
+      document_none : (k i : ℕ) (u : Tree) → slice_get (elements_in t) i ≡ Some u → is_document u ≡ true → k < length cs → IsWalked w k
+          → list_any f (gathering g u (drop k (component_names cs))) ≡ false
       document_none k i u e d l o =
           let n = named (component_names cs) k (let many = as_many cs in omega (arith, many, l)) in
           each_left (elements_in t) i u (drop k (component_names cs)) e d
           (left_false _ _ (sym (list_any-append f (in_documents g t (component_names cs) k) (at_name g t (component_names cs) k n.name)) ∙ parts_none k n.name n.is_there (before k o)))
 
       -- the element at an index
-      element_none : (i : ℕ) (u : Tree) (j : ℕ) → slice_get (elements_in t) i ≡ Some u → i < 18446744073709551615 → IsStepOf (Element i) (component_names cs) w j → list_any f (gathering g u (drop j (component_names cs))) ≡ false
+      element_none : (i : ℕ) (u : Tree) (j : ℕ) → slice_get (elements_in t) i ≡ Some u → i < 18446744073709551615
+          → IsStepOf (Element i) (component_names cs) w j → list_any f (gathering g u (drop j (component_names cs))) ≡ false
       element_none i u j e l by =
           let n = by.name in
           let k = by.before in
           let index : index_of n ≡ Some i = held_is n i by.takes l in
           ap (λ (x : ℕ). list_any f (gathering g u (drop x (component_names cs)))) by.after
-          ∙ ap (list_any f) (sym (ap (λ (o : Option ℕ). gathering_at g (items_of (elements_in t)) o (drop (suc k) (component_names cs))) index ∙ down.at_index g (elements_in t) i u (drop (suc k) (component_names cs)) e))
+          ∙ ap (list_any f) (sym (ap (λ (o : Option ℕ). gathering_at g (items_of (elements_in t)) o (drop (suc k) (component_names cs))) index
+              ∙ down.at_index g (elements_in t) i u (drop (suc k) (component_names cs)) e))
           ∙ right_false _ _ (sym (list_any-append f (in_documents g t (component_names cs) k) (at_name g t (component_names cs) k n)) ∙ parts_none k n by.is_there (before k by.here))
 
       pub document_inside : (i : ℕ) (u : Tree) (v : Visits) → slice_get (elements_in t) i ≡ Some u → i < 18446744073709551615 → is_document u ≡ true

@@ -1,7 +1,7 @@
 //! Why a text is no path.
 
 ghost use Rattle.std.specs.Prelude.{◌≡◌};
-ghost use Rattle.bd_path.specs.PathFault.{path_fault_words};
+ghost use Rattle.bd_path.specs.PathFault.{path_fault_number, path_fault_words};
 ghost use Rattle.bd_path.specs.declared.path_fault.PathFault.TheVariants.{NoMemory};
 
 use std::alloc::{AllocError, AllocFailed};
@@ -12,11 +12,11 @@ use thiserror::Error;
 #[error("{}", self.words())]
 pub enum PathFault {
     /// A full stop stands first, last or after another, or the text is empty.
-    EmptyComponent = 1,
+    EmptyComponent,
     /// There are more than 100 components, an empty one among them or not.
-    TooLong = 2,
+    TooLong,
     /// No memory was given.
-    NoMemory = 3,
+    NoMemory,
 }
 
 impl PathFault {
@@ -28,6 +28,17 @@ impl PathFault {
             PathFault::EmptyComponent => "empty component",
             PathFault::TooLong => "too many components",
             PathFault::NoMemory => "no memory",
+        }
+    }
+
+    /// The number by which a reply tells it, 1 or 2; 3 for want of memory.
+    pub fn number(self) -> u32
+        ensures { result ≡ path_fault_number self }
+    {
+        match self {
+            PathFault::EmptyComponent => 1,
+            PathFault::TooLong => 2,
+            PathFault::NoMemory => 3,
         }
     }
 }

@@ -3,16 +3,13 @@ use Rattle.std.specs.Prelude.{ℕ, [], ◌∷◌, codes}
 use Rattle.std.specs.List.{join_with_byte}
 use Rattle.bd_value.specs.Tree as trees
 use Rattle.bd_value.specs.Tree.{Tree, leaf}
-use Rattle.bd_diagnose.specs.JsonFault.{json_fault_words}
+use Rattle.bd_diagnose.specs.JsonFault.{json_fault_number, json_fault_words}
 use Rattle.bd_diagnose.specs.declared.json_fault.JsonFault.{JsonFault}
 use Rattle.bd_diagnose.specs.declared.json_fault.JsonFaultKind.{JsonFaultKind}
 use Rattle.bd_diagnose.specs.declared.json_fault.JsonFaultKind.TheVariants as json
-use Rattle.bd_path.specs.PathFault.{path_fault_words}
+use Rattle.bd_path.specs.PathFault.{path_fault_number, path_fault_words}
 use Rattle.bd_path.specs.declared.path_fault.PathFault.{PathFault}
-use Rattle.bd_path.specs.declared.path_fault.PathFault.TheVariants as paths
-use Rattle.bd_filter.specs.Fault.{Refusal, filter_fault_words, refusal_of}
-use Rattle.bd_filter.specs.declared.fault.FilterFaultKind.{FilterFaultKind}
-use Rattle.bd_filter.specs.declared.fault.FilterFaultKind.TheVariants as filters
+use Rattle.bd_filter.specs.Fault.{Refusal, filter_fault_number, filter_fault_words, refusal_of}
 use Rattle.bd_request.specs.Refused.{refused_number, refused_words}
 use Rattle.bd_request.specs.declared.refused.Refused.{Refused}
 use Rattle.bd_request.specs.declared.refused.Refused.TheVariants as reasons
@@ -21,17 +18,6 @@ use Rattle.bd_command.specs.declared.fault.CommandFault.{CommandFault}
 use Rattle.bd_reply.specs.Reply.{ToldRefusal, count_value, text_value}
 
 -- ---- a text that is no document
-
-abbrev pub json_fault_number : JsonFaultKind → ℕ
-json_fault_number json.Syntax = 1
-json_fault_number json.NotADocument = 2
-json_fault_number json.TooDeep = 3
-json_fault_number json.BadWrapper = 4
-json_fault_number json.NotInProfile = 5
-json_fault_number json.NumberRange = 6
-json_fault_number json.NulInName = 7
-json_fault_number json.TrailingText = 8
-json_fault_number json.NoMemory = 9
 
 -- the byte, which a text as a whole has not
 abbrev pub json_fault_byte : JsonFaultKind → ℕ → Tree
@@ -54,15 +40,6 @@ command_refusal f =
 
 -- ---- a command that is no call
 
-abbrev pub filter_fault_number : FilterFaultKind → ℕ
-filter_fault_number filters.UnknownOperator = 1
-filter_fault_number filters.NotInProfile = 2
-filter_fault_number filters.BadOperand = 3
-filter_fault_number filters.MixedOperators = 4
-filter_fault_number filters.Path = 5
-filter_fault_number filters.TooDeep = 6
-filter_fault_number filters.NoMemory = 7
-
 -- where it is: the names down to the pair or member, joined by dots
 abbrev pub filter_refusal : Refusal → ToldRefusal
 filter_refusal r = record {
@@ -71,11 +48,6 @@ filter_refusal r = record {
   words = filter_fault_words r.kind;
   place = (codes "place", text_value (join_with_byte 46 r.place)) ∷ [];
 }
-
-abbrev pub path_fault_number : PathFault → ℕ
-path_fault_number paths.EmptyComponent = 1
-path_fault_number paths.TooLong = 2
-path_fault_number paths.NoMemory = 3
 
 abbrev pub path_refusal : PathFault → ToldRefusal
 path_refusal f = record { layer = codes "path"; number = path_fault_number f; words = path_fault_words f; place = [] }

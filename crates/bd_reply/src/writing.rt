@@ -12,7 +12,7 @@ ghost use Rattle.bd_reply.specs.Reply.{explains, makes, plan_name, refuses, repl
 ghost use Rattle.bd_reply.specs.ReplyView.{given_reply, line_reply, told_refusal};
 
 use crate::member::{Field, write_members};
-use crate::refusal::{LineRefusal, filter_number, json_number, path_number};
+use crate::refusal::LineRefusal;
 use crate::reply::Reply;
 use bd_bson::Dump;
 use bd_diagnose::{JsonFault, JsonFaultKind};
@@ -148,7 +148,7 @@ fn append_refusal(refusal: &LineRefusal, out: &mut Vec<u8>) -> Result<(), NoMemo
     match refusal {
         LineRefusal::Json(fault) => append_json_fault(*fault, out),
         LineRefusal::Command(fault) => append_reason("command", fault.number(), fault.words(), out),
-        LineRefusal::Path(fault) => append_reason("path", path_number(*fault), fault.words(), out),
+        LineRefusal::Path(fault) => append_reason("path", fault.number(), fault.words(), out),
         LineRefusal::Session(Refused::BadFilter(fault)) => append_filter_fault(fault, out),
         LineRefusal::Session(refused) => {
             append_reason("session", refused.number(), refused.words(), out)
@@ -183,7 +183,7 @@ fn append_json_fault(fault: JsonFault, out: &mut Vec<u8>) -> Result<(), NoMemory
 {
     let members = [
         ("layer", Field::Text("json")),
-        ("number", Field::Number(json_number(fault.kind))),
+        ("number", Field::Number(fault.kind.number())),
         ("text", Field::Text(fault.kind.words())),
         ("at", json_byte(fault)),
     ];
@@ -208,7 +208,7 @@ fn append_filter_fault(fault: &FilterFault, out: &mut Vec<u8>) -> Result<(), NoM
 {
     let members = [
         ("layer", Field::Text("filter")),
-        ("number", Field::Number(filter_number(fault.kind))),
+        ("number", Field::Number(fault.kind.number())),
         ("text", Field::Text(fault.kind.words())),
         ("place", Field::Names(&fault.place)),
     ];

@@ -36,7 +36,8 @@ returns-in-Some-earliest-clause-there g c = subst (λ k. IfSome k (IsKeyAt false
 
 pub loop-next-preserved : goal.loop-next-preserved
 loop-next-preserved g c = record {
-  so_far = first.end_on c.args.dir _ _ (g.N.Reading.tree c.in-Some.next.1) _ (values_of (g.N.Reading.left c.in-Some.next.2)) _ c.loop-next.invariant.so_far (ap values_of c.in-Some.ensures.some) c.earlier-earliest.ensures.tree;
+  so_far = first.end_on c.args.dir _ _ (g.N.Reading.tree c.in-Some.next.1) _ (values_of (g.N.Reading.left c.in-Some.next.2)) _
+      c.loop-next.invariant.so_far (ap values_of c.in-Some.ensures.some) c.earlier-earliest.ensures.tree;
   kept = first.of_either _ _ _ _ c.earlier-earliest.ensures.either c.loop-next.invariant.kept (c.in-Some.ensures.kept ∙ c.loop-next.invariant.source);
   there = first.of_either _ _ _ _ c.earlier-earliest.ensures.either c.loop-next.invariant.there tt;
   source = c.in-Some.ensures.rest ∙ c.loop-next.invariant.source;

@@ -18,7 +18,8 @@ use Rattle.bd_path.proofs.walk.+walk.Goals as goal
 
 pub walk-returns-then-has : goal.walk-returns-then-has
 walk-returns-then-has g t c =
-    taken.vain_taken (g.G.Gatherer.amounts c.args.gatherer.now) (g.G.Gatherer.is_new c.args.gatherer.now) (g.G.Gatherer.ends c.args.gatherer.now) c.requires.known c.args.found.now (g.N.Reading.source c.args.node) _
+    taken.vain_taken (g.G.Gatherer.amounts c.args.gatherer.now) (g.G.Gatherer.is_new c.args.gatherer.now) (g.G.Gatherer.ends c.args.gatherer.now)
+        c.requires.known c.args.found.now (g.N.Reading.source c.args.node) _
     (c.requires.vain c.args.k (sym c.has.ensures ∙ c.if-has.true))
 
 pub walk-returns-then-k-path : goal.walk-returns-then-k-path
@@ -36,7 +37,8 @@ walk-returns-in_default g t c =
     let names = component_names c.args.path.now in
     let many = at.as_many c.args.path.now in
     taken.same_taken (g.G.Gatherer.amounts c.args.gatherer.now) (g.G.Gatherer.is_new c.args.gatherer.now) (g.G.Gatherer.ends c.args.gatherer.now) c.take-in_default.result bytes bytes _ _ _ _ refl
-    (sym (walked.other_is stopping n names c.args.k (λ e. c.in_default.not-Doc (c.kind.ensures ∙ e)) (λ e. c.in_default.not-Array (c.kind.ensures ∙ e)) (omega (arith, many, c.requires.at, c.if-k-path.false))))
+    (sym (walked.other_is stopping n names c.args.k (λ e. c.in_default.not-Doc (c.kind.ensures ∙ e))
+        (λ e. c.in_default.not-Array (c.kind.ensures ∙ e)) (omega (arith, many, c.requires.at, c.if-k-path.false))))
     (c.take-in_default.ensures bytes tt)
 
 pub walk_field-walk-requires : goal.walk_field-walk-requires
@@ -98,7 +100,8 @@ walk_array-returns-in-None g t c =
     let names = component_names c.args.path.now in
     let m = at.named names c.args.k (let many = at.as_many c.args.path.now in omega (arith, many, c.requires.at)) in
     ap (list_any (g.G.Gatherer.ends c.args.gatherer.now)) (stop.array_is n names c.args.k m.name m.is_there _ c.requires.kind refl)
-    ∙ taken.ended_before (g.G.Gatherer.amounts c.args.gatherer.now) (g.G.Gatherer.is_new c.args.gatherer.now) (g.G.Gatherer.ends c.args.gatherer.now) (document_stops n (drop c.args.k names)) _ c.in-None.ensures.taken
+    ∙ taken.ended_before (g.G.Gatherer.amounts c.args.gatherer.now) (g.G.Gatherer.is_new c.args.gatherer.now) (g.G.Gatherer.ends c.args.gatherer.now)
+        (document_stops n (drop c.args.k names)) _ c.in-None.ensures.taken
 
 pub walk_array-walk_index-requires : goal.walk_array-walk_index-requires
 walk_array-walk_index-requires g t c κs within =
@@ -106,7 +109,8 @@ walk_array-walk_index-requires g t c κs within =
     let bytes = g.N.Reading.source c.args.node in
     let names = component_names c.args.path.now in
     let d = c.decreases in
-    let told : TakesStops (g.G.Gatherer.amounts c.args.gatherer.now) (g.G.Gatherer.is_new c.args.gatherer.now) bytes c.args.found.now c.walk_documents.new.found (document_stops n (drop c.args.k names)) = c.in-Some.ensures.taken in (
+    let told : TakesStops (g.G.Gatherer.amounts c.args.gatherer.now) (g.G.Gatherer.is_new c.args.gatherer.now) bytes c.args.found.now
+        c.walk_documents.new.found (document_stops n (drop c.args.k names)) = c.in-Some.ensures.taken in (
       omega arith,
       (
         within.0,
@@ -125,7 +129,8 @@ walk_array-walk_index-requires g t c κs within =
                     (
                       c.requires.known,
                       (
-                        taken.still_vain (g.G.Gatherer.amounts c.args.gatherer.now) (g.G.Gatherer.is_new c.args.gatherer.now) (g.G.Gatherer.ends c.args.gatherer.now) c.args.found.now c.walk_documents.new.found n names c.args.walked.now told.still c.requires.vain,
+                        taken.still_vain (g.G.Gatherer.amounts c.args.gatherer.now) (g.G.Gatherer.is_new c.args.gatherer.now)
+                            (g.G.Gatherer.ends c.args.gatherer.now) c.args.found.now c.walk_documents.new.found n names c.args.walked.now told.still c.requires.vain,
                         told.none_new,
                       ),
                     ),
@@ -144,8 +149,10 @@ walk_array-returns-in-Some g t c =
     let bytes = g.N.Reading.source c.args.node in
     let names = component_names c.args.path.now in
     let m = at.named names c.args.k (let many = at.as_many c.args.path.now in omega (arith, many, c.requires.at)) in
-    taken.same_taken (g.G.Gatherer.amounts c.args.gatherer.now) (g.G.Gatherer.is_new c.args.gatherer.now) (g.G.Gatherer.ends c.args.gatherer.now) c.walk_index.result bytes bytes _ _ _ _ refl (sym (stop.array_is n names c.args.k m.name m.is_there c.in-Some.has_document c.requires.kind c.in-Some.ensures.has))
-    (taken.then_taken (g.G.Gatherer.amounts c.args.gatherer.now) (g.G.Gatherer.is_new c.args.gatherer.now) (g.G.Gatherer.ends c.args.gatherer.now) c.walk_index.result bytes _ _ _ _ _ c.in-Some.ensures.taken c.walk_index.ensures)
+    taken.same_taken (g.G.Gatherer.amounts c.args.gatherer.now) (g.G.Gatherer.is_new c.args.gatherer.now) (g.G.Gatherer.ends c.args.gatherer.now)
+        c.walk_index.result bytes bytes _ _ _ _ refl (sym (stop.array_is n names c.args.k m.name m.is_there c.in-Some.has_document c.requires.kind c.in-Some.ensures.has))
+    (taken.then_taken (g.G.Gatherer.amounts c.args.gatherer.now) (g.G.Gatherer.is_new c.args.gatherer.now) (g.G.Gatherer.ends c.args.gatherer.now)
+        c.walk_index.result bytes _ _ _ _ _ c.in-Some.ensures.taken c.walk_index.ensures)
 
 pub walk_documents-loop-i-init : goal.walk_documents-loop-i-init
 walk_documents-loop-i-init g t c =
@@ -153,7 +160,8 @@ walk_documents-loop-i-init g t c =
     let ps = g.N.Reading.left c.parts-left.result in
     record {
       left = down.parts_are n ps c.requires.kind c.parts-left.ensures.parts;
-      so_far = taken.none_taken (g.G.Gatherer.amounts c.args.gatherer.now) (g.G.Gatherer.is_new c.args.gatherer.now) (g.G.Gatherer.ends c.args.gatherer.now) c.args.found.now (g.N.Reading.source c.args.node);
+      so_far = taken.none_taken (g.G.Gatherer.amounts c.args.gatherer.now) (g.G.Gatherer.is_new c.args.gatherer.now)
+          (g.G.Gatherer.ends c.args.gatherer.now) c.args.found.now (g.N.Reading.source c.args.node);
       has = refl;
       source = c.parts-left.ensures.kept;
       smaller = parted.parts_smaller n ps c.parts-left.ensures.parts;
@@ -166,7 +174,8 @@ walk_documents-returns-in_default g t c =
     let names = component_names c.args.path.now in
     let all : take c.loop-i.i (elements_in n) ≡ elements_in n = stop.all_of (elements_in n) c.loop-i.i (sym c.loop-i.invariant.left ∙ ap values_of c.in_default.ensures.none) in
     record {
-      taken = subst (λ (es : List Tree). TakesStops (g.G.Gatherer.amounts c.args.gatherer.now) (g.G.Gatherer.is_new c.args.gatherer.now) bytes c.args.found.now c.loop-i.found (each_gathering stopping (items_of es) (drop c.args.k names))) all c.loop-i.invariant.so_far;
+      taken = subst (λ (es : List Tree). TakesStops (g.G.Gatherer.amounts c.args.gatherer.now) (g.G.Gatherer.is_new c.args.gatherer.now) bytes
+          c.args.found.now c.loop-i.found (each_gathering stopping (items_of es) (drop c.args.k names))) all c.loop-i.invariant.so_far;
       has = c.loop-i.invariant.has ∙ ap (list_any is_document) all;
     }
 
@@ -175,9 +184,12 @@ walk_documents-returns g t c =
     let n = g.N.Reading.tree c.args.node in
     let bytes = g.N.Reading.source c.args.node in
     let names = component_names c.args.path.now in
-    let all : take c.loop-i.i (elements_in n) ≡ elements_in n = stop.all_of (elements_in n) c.loop-i.i ((let len = down.length_elements n c.requires.kind in walked.drop_all (elements_in n) c.loop-i.i (omega (arith, c.len-count.type_inv, c.len-count.ensures, len, c.loop-i-test.false)))) in
+    let all : take c.loop-i.i (elements_in n) ≡ elements_in n = stop.all_of (elements_in n) c.loop-i.i
+        ((let len = down.length_elements n c.requires.kind in walked.drop_all (elements_in n) c.loop-i.i
+        (omega (arith, c.len-count.type_inv, c.len-count.ensures, len, c.loop-i-test.false)))) in
     record {
-      taken = subst (λ (es : List Tree). TakesStops (g.G.Gatherer.amounts c.args.gatherer.now) (g.G.Gatherer.is_new c.args.gatherer.now) bytes c.args.found.now c.loop-i.found (each_gathering stopping (items_of es) (drop c.args.k names))) all c.loop-i.invariant.so_far;
+      taken = subst (λ (es : List Tree). TakesStops (g.G.Gatherer.amounts c.args.gatherer.now) (g.G.Gatherer.is_new c.args.gatherer.now) bytes
+          c.args.found.now c.loop-i.found (each_gathering stopping (items_of es) (drop c.args.k names))) all c.loop-i.invariant.so_far;
       has = c.loop-i.invariant.has ∙ ap (list_any is_document) all;
     }
 
@@ -189,7 +201,9 @@ walk_documents-walk-requires g t c κs within =
     let left = sym (ap values_of c.in-Some.ensures.some) ∙ c.loop-i.invariant.left in
     let here = at.next_is (elements_in n) c.loop-i.i u us left in
     let f = g.G.Gatherer.is_new c.args.gatherer.now c.loop-i.found in
-    let vain = taken.still_vain (g.G.Gatherer.amounts c.args.gatherer.now) (g.G.Gatherer.is_new c.args.gatherer.now) (g.G.Gatherer.ends c.args.gatherer.now) c.args.found.now c.loop-i.found n (component_names c.args.path.now) c.args.walked.now c.loop-i.invariant.so_far.still c.requires.vain in
+    let vain = taken.still_vain (g.G.Gatherer.amounts c.args.gatherer.now) (g.G.Gatherer.is_new c.args.gatherer.now)
+        (g.G.Gatherer.ends c.args.gatherer.now) c.args.found.now c.loop-i.found n (component_names c.args.path.now) c.args.walked.now
+        c.loop-i.invariant.so_far.still c.requires.vain in
     let small = down.element_smaller n c.loop-i.i u here in
     let d = c.decreases in (
       omega arith,
@@ -207,7 +221,9 @@ walk_documents-walk-requires g t c κs within =
                   omega (arith, c.requires.at),
                   (
                     c.requires.known,
-                    walked.document_inside f stopping (stop.keeps_stops f) n c.args.path.now c.args.walked.now vain c.requires.kind c.loop-i.i u c.at_document-inside.result here (omega (arith, c.loop-i-test.true)) (sym c.is_document.ensures ∙ c.if-is_document.true) c.at_document-inside.ensures,
+                    walked.document_inside f stopping (stop.keeps_stops f) n c.args.path.now c.args.walked.now vain c.requires.kind c.loop-i.i u
+                        c.at_document-inside.result here (omega (arith, c.loop-i-test.true)) (sym c.is_document.ensures ∙ c.if-is_document.true)
+                        c.at_document-inside.ensures,
                   ),
                 ),
               ),
@@ -226,7 +242,9 @@ walk_documents-returns-then-not-walk g t c =
     let left = sym (ap values_of c.in-Some.ensures.some) ∙ c.loop-i.invariant.left in
     let here = at.next_is (elements_in n) c.loop-i.i u _ left in
     record {
-      taken = taken.ended_in (g.G.Gatherer.ends c.args.gatherer.now) (elements_in n) c.loop-i.i u (drop c.args.k names) here (sym c.is_document.ensures ∙ c.if-is_document.true) (taken.ended (g.G.Gatherer.amounts c.args.gatherer.now) (g.G.Gatherer.is_new c.args.gatherer.now) (g.G.Gatherer.ends c.args.gatherer.now) c.walk.result _ _ _ _ c.walk.ensures c.if-not-walk.true);
+      taken = taken.ended_in (g.G.Gatherer.ends c.args.gatherer.now) (elements_in n) c.loop-i.i u (drop c.args.k names) here
+          (sym c.is_document.ensures ∙ c.if-is_document.true) (taken.ended (g.G.Gatherer.amounts c.args.gatherer.now)
+          (g.G.Gatherer.is_new c.args.gatherer.now) (g.G.Gatherer.ends c.args.gatherer.now) c.walk.result _ _ _ _ c.walk.ensures c.if-not-walk.true);
       has = tt;
     }
 
@@ -247,12 +265,18 @@ walk_documents-loop-i-preserved g t c =
       left = at.left_after (elements_in n) c.loop-i.i u us left;
       so_far = elim c.if-is_document.branch [
         | walk_documents-then-is_document+else-not-walk w ↦
-            subst (λ f. TakesStops (g.G.Gatherer.amounts c.args.gatherer.now) (g.G.Gatherer.is_new c.args.gatherer.now) bytes c.args.found.now f (each_gathering stopping (items_of (take (c.loop-i.i + 1) (elements_in n))) rest)) (sym w.found-is)
-            (taken.document_taken (g.G.Gatherer.amounts c.args.gatherer.now) (g.G.Gatherer.is_new c.args.gatherer.now) (g.G.Gatherer.ends c.args.gatherer.now) w.walk.result bytes _ c.args.found.now c.loop-i.found _ (elements_in n) c.loop-i.i u rest here (sym c.is_document.ensures ∙ w.if-is_document.true) source
+            subst (λ f. TakesStops (g.G.Gatherer.amounts c.args.gatherer.now) (g.G.Gatherer.is_new c.args.gatherer.now) bytes c.args.found.now f
+                (each_gathering stopping (items_of (take (c.loop-i.i + 1) (elements_in n))) rest)) (sym w.found-is)
+            (taken.document_taken (g.G.Gatherer.amounts c.args.gatherer.now) (g.G.Gatherer.is_new c.args.gatherer.now)
+                (g.G.Gatherer.ends c.args.gatherer.now) w.walk.result bytes _ c.args.found.now c.loop-i.found _ (elements_in n) c.loop-i.i u rest
+                here (sym c.is_document.ensures ∙ w.if-is_document.true) source
             c.loop-i.invariant.so_far w.walk.ensures w.if-not-walk.false)
         | walk_documents-else-is_document w ↦
-            subst (λ f. TakesStops (g.G.Gatherer.amounts c.args.gatherer.now) (g.G.Gatherer.is_new c.args.gatherer.now) bytes c.args.found.now f (each_gathering stopping (items_of (take (c.loop-i.i + 1) (elements_in n))) rest)) (sym w.found-is)
-            (taken.other_taken (g.G.Gatherer.amounts c.args.gatherer.now) (g.G.Gatherer.is_new c.args.gatherer.now) (g.G.Gatherer.ends c.args.gatherer.now) bytes c.args.found.now c.loop-i.found (elements_in n) c.loop-i.i u rest here (sym c.is_document.ensures ∙ w.if-is_document.false) c.loop-i.invariant.so_far)
+            subst (λ f. TakesStops (g.G.Gatherer.amounts c.args.gatherer.now) (g.G.Gatherer.is_new c.args.gatherer.now) bytes c.args.found.now f
+                (each_gathering stopping (items_of (take (c.loop-i.i + 1) (elements_in n))) rest)) (sym w.found-is)
+            (taken.other_taken (g.G.Gatherer.amounts c.args.gatherer.now) (g.G.Gatherer.is_new c.args.gatherer.now)
+                (g.G.Gatherer.ends c.args.gatherer.now) bytes c.args.found.now c.loop-i.found (elements_in n) c.loop-i.i u rest here
+                (sym c.is_document.ensures ∙ w.if-is_document.false) c.loop-i.invariant.so_far)
       ];
       has = elim c.if-is_document.branch [
         | walk_documents-then-is_document+else-not-walk w ↦ w.has_document-is ∙ stop.has_one (elements_in n) c.loop-i.i u here (sym c.is_document.ensures ∙ w.if-is_document.true)
@@ -286,7 +310,9 @@ walk_index-walk-requires g t c κs within =
                   omega (arith, c.requires.at),
                   (
                     c.requires.known,
-                    walked.index_inside f stopping (stop.keeps_stops f) n c.args.path.now c.args.walked.now c.requires.vain c.requires.kind c.args.k i u c.at_index-inside.result c.in-Some.ensures.element (c.in-Some.ensures.index.0) c.is_document.result c.is_document.ensures c.requires.documents c.at_index-inside.ensures,
+                    walked.index_inside f stopping (stop.keeps_stops f) n c.args.path.now c.args.walked.now c.requires.vain c.requires.kind c.args.k
+                        i u c.at_index-inside.result c.in-Some.ensures.element (c.in-Some.ensures.index.0) c.is_document.result c.is_document.ensures
+                        c.requires.documents c.at_index-inside.ensures,
                   ),
                 ),
               ),
@@ -311,7 +337,9 @@ walk_index-returns-then-has_document g t c =
     let bytes = g.N.Reading.source c.args.node in
     let names = component_names c.args.path.now in
     let there = at.name_at c.args.path.now c.args.k c.index-path-k.result c.requires.at c.index-path-k.is in
-    taken.none_took (g.G.Gatherer.amounts c.args.gatherer.now) (g.G.Gatherer.is_new c.args.gatherer.now) (g.G.Gatherer.ends c.args.gatherer.now) c.args.has_document bytes c.args.found.now _ c.if-has_document.true (stop.documents_alone n names c.args.k _ there c.args.has_document c.in-None.ensures.none c.if-has_document.true)
+    taken.none_took (g.G.Gatherer.amounts c.args.gatherer.now) (g.G.Gatherer.is_new c.args.gatherer.now) (g.G.Gatherer.ends c.args.gatherer.now)
+        c.args.has_document bytes c.args.found.now _ c.if-has_document.true
+        (stop.documents_alone n names c.args.k _ there c.args.has_document c.in-None.ensures.none c.if-has_document.true)
 
 pub walk_index-returns-else-has_document : goal.walk_index-returns-else-has_document
 walk_index-returns-else-has_document g t c =
@@ -319,5 +347,6 @@ walk_index-returns-else-has_document g t c =
     let bytes = g.N.Reading.source c.args.node in
     let names = component_names c.args.path.now in
     let there = at.name_at c.args.path.now c.args.k c.index-path-k.result c.requires.at c.index-path-k.is in
-    taken.same_taken (g.G.Gatherer.amounts c.args.gatherer.now) (g.G.Gatherer.is_new c.args.gatherer.now) (g.G.Gatherer.ends c.args.gatherer.now) c.take.result bytes bytes _ _ _ _ refl (sym (stop.no_branch n names c.args.k _ there c.args.has_document c.in-None.ensures.none c.if-has_document.false))
+    taken.same_taken (g.G.Gatherer.amounts c.args.gatherer.now) (g.G.Gatherer.is_new c.args.gatherer.now) (g.G.Gatherer.ends c.args.gatherer.now)
+        c.take.result bytes bytes _ _ _ _ refl (sym (stop.no_branch n names c.args.k _ there c.args.has_document c.in-None.ensures.none c.if-has_document.false))
     (c.take.ensures bytes tt)
