@@ -18,7 +18,9 @@ use Rattle.bd_filter.specs.Filter.{Operator, equals, compares, is_in, has_all, h
 use Rattle.bd_filter.specs.Filter.{Operators, no_operators, operator}
 use Rattle.bd_filter.specs.FilterMatch.{is_array, is_related, relates}
 use Rattle.bd_filter.specs.declared.relation.Relation.{Relation}
-use Rattle.bd_bounds.specs.Bounds.{KeyBounds, KeySet, all_bounds, all_element_bounds, bounds, bounds_below, bounds_here, conjunction, disjunction, element_bounds, first_or_undefined, is_among, is_listed, is_of_class, keys_equal_to, keys_of_each, keys_of_equal, keys_of_types, intersection, union, operator_bounds, rest_after, rest_bounds, some_bounds}
+use Rattle.bd_bounds.specs.Bounds.{KeyBounds, KeySet, all_bounds, all_element_bounds, bounds, bounds_below, bounds_here, conjunction, disjunction}
+use Rattle.bd_bounds.specs.Bounds.{element_bounds, first_or_undefined, is_among, is_listed, is_of_class, keys_equal_to, keys_of_each, keys_of_equal}
+use Rattle.bd_bounds.specs.Bounds.{keys_of_types, intersection, union, operator_bounds, rest_after, rest_bounds, some_bounds}
 
 pub equal_is : (o : Ordering) → is_eq o ≡ true → o ≡ Equal
 equal_is Equal e = refl

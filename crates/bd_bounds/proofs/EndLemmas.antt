@@ -23,7 +23,8 @@ use Rattle.bd_filter.specs.FilterMatch.{accepts, all_accept, any_candidate, any_
 use Rattle.bd_filter.specs.Types.{is_kind, kind_place}
 use Rattle.bd_filter.specs.declared.relation.Relation.{Relation}
 use Rattle.bd_filter.proofs.MembersLemmas.{any_mapped}
-use Rattle.bd_bounds.specs.Bounds.{KeyBounds, KeySet, all_element_bounds, bounds_here, conjunction, element_bounds, first_or_undefined, is_among, is_listed, is_of_class, keys_of_types, keys_of_each, intersection, union, keys_equal_to, keys_of_equal}
+use Rattle.bd_bounds.specs.Bounds.{KeyBounds, KeySet, all_element_bounds, bounds_here, conjunction, element_bounds, first_or_undefined, is_among, is_listed}
+use Rattle.bd_bounds.specs.Bounds.{is_of_class, keys_of_types, keys_of_each, intersection, union, keys_equal_to, keys_of_equal}
 use Rattle.bd_bounds.proofs.AlikeLemmas.{equal_is, equals_class, first_ties, one_class}
 use Rattle.bd_bounds.proofs.KeyLemmas.{element_of_end, end_is_key, everywhere, keys_of, missing, null}
 

@@ -15,7 +15,8 @@ use Rattle.bd_filter.specs.Filter.{Filter, all_of, some_of, none_of, at_path, Fi
 use Rattle.bd_filter.specs.Filter.{Operator, equals, compares, is_in, has_all, has_type, has_size, exists, negates, has_element, has_document}
 use Rattle.bd_filter.specs.Filter.{Operators, no_operators, operator}
 use Rattle.bd_filter.specs.FilterMatch.{all_hold, all_match, any_equal, holds, is_nonempty, matches, some_match}
-use Rattle.bd_bounds.specs.Bounds.{KeyBounds, all_bounds, bounds, bounds_below, bounds_here, conjunction, disjunction, is_among, is_inside, keys_of_each, keys_of_equal, union, operator_bounds, rest_after, rest_bounds, some_bounds}
+use Rattle.bd_bounds.specs.Bounds.{KeyBounds, all_bounds, bounds, bounds_below, bounds_here, conjunction, disjunction, is_among, is_inside, keys_of_each}
+use Rattle.bd_bounds.specs.Bounds.{keys_of_equal, union, operator_bounds, rest_after, rest_bounds, some_bounds}
 use Rattle.bd_bounds.specs.Laws.{is_fit}
 use Rattle.bd_bounds.proofs.AlikeLemmas.{same_all, same_bounds, same_keys_of_equal, same_operators}
 use Rattle.bd_bounds.proofs.EndLemmas.{document_class, element_found, in_each, in_union, sound_compares, sound_element, sound_equal, sound_exists, sound_size, sound_type}
@@ -62,7 +63,8 @@ sound_in t p vs h =
     let k = sound_equal t p f.it f.passes in
     record { it = k.it; is_in = k.is_in; passes = in_union keys_of_equal vs k.it f.it f.is_in k.passes }
 
-all_inside : (t : Tree) (p : Names) (vs : List Tree) (x : Tree) → Fine false (keys_of t p) → In x (keys_of t p) → list_all (any_equal (reach t p)) vs ≡ true → list_all (λ w. keys_of_equal w x) vs ≡ true
+all_inside : (t : Tree) (p : Names) (vs : List Tree) (x : Tree) → Fine false (keys_of t p) → In x (keys_of t p)
+    → list_all (any_equal (reach t p)) vs ≡ true → list_all (λ w. keys_of_equal w x) vs ≡ true
 all_inside t p [] x fine h e = refl
 all_inside t p (v ∷ vs) x fine h e =
     let b = and_parts (any_equal (reach t p) v) (list_all (any_equal (reach t p)) vs) e in

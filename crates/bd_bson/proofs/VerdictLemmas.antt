@@ -1,5 +1,6 @@
 -- Verdicts on the documents of a dump.
-use Rattle.std.proofs.Common.{◌≡◌, ◌≤◌, ℕ, zero, suc, ◌+◌, List, [], ◌∷◌, ◌++◌, length, take, drop, map, Option, Some, None, Result, Ok, Err, refl, sym, ap, ◌∙◌, subst, arith, append-nil, append_assoc, length-drop, length-append}
+use Rattle.std.proofs.Common.{◌≡◌, ◌≤◌, ℕ, zero, suc, ◌+◌, List, [], ◌∷◌, ◌++◌, length, take, drop, map, Option, Some, None, Result, Ok, Err, refl, sym, ap}
+use Rattle.std.proofs.Common.{◌∙◌, subst, arith, append-nil, append_assoc, length-drop, length-append}
 use Rattle.std.proofs.lemmas.List.{nil_from_length, take_at, drop_at}
 use Rattle.std.specs.List.{AllByRecursion}
 use Rattle.bd_value.specs.Tree.{Doc}

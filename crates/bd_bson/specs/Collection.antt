@@ -1,5 +1,6 @@
 -- The documents of a dump that was read, and why one was not.
 use Rattle.std.specs.Prelude.{◌≡◌, ◌<◌, ◌≤◌, ◌⊎◌, ℕ, List, [], length}
+use Rattle.bd_value.specs.Limits.{longest_input}
 use Rattle.bd_value.specs.Tree.{Doc}
 use Rattle.bd_check.specs.Dump.{FailsAfter}
 use Rattle.bd_bson.specs.Starts.{documents_starting_at}
@@ -18,7 +19,7 @@ bytes_of dump = dump.bytes.items
 
 -- the bytes are too many for a dump: the fault has no place
 pub record IsTooLong (bytes : List ℕ) (e : declared.Fault) : Type 0 where
-  pub more : 4294967295 < length bytes
+  pub more : longest_input < length bytes
   pub kind : e.kind ≡ DumpTooLong
   pub document : e.document ≡ 0
   pub offset : e.offset ≡ 0
@@ -33,4 +34,4 @@ pub record IsFirstFault (bytes : List ℕ) (e : declared.Fault) : Type 0 where
 -- why the bytes were not read as a dump: their number, tried first, or want of memory, or the first document with a fault
 abbrev pub IsUnread : List ℕ → declared.Fault → Type 0
 IsUnread bytes e =
-    IsTooLong bytes e ⊎ ((length bytes ≤ 4294967295) × (IsWantOfMemory e ⊎ IsFirstFault bytes e))
+    IsTooLong bytes e ⊎ ((length bytes ≤ longest_input) × (IsWantOfMemory e ⊎ IsFirstFault bytes e))

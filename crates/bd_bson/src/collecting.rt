@@ -1,12 +1,14 @@
 //! A dump from its bytes.
 
 ghost use Rattle.std.specs.Prelude.{◌≡◌, ◌≤◌, IfOk, IfErr, [], length};
+ghost use Rattle.bd_value.specs.Limits.{longest_input};
 ghost use Rattle.bd_bson.specs.Collection.{documents, bytes_of, IsUnread};
 ghost use Rattle.bd_check.specs.Dump.{IsDump};
 ghost use Rattle.bd_bson.specs.Starts.{StandAt, documents_starting_at};
 
 use crate::collection::Dump;
 use bd_check::{Fault, FaultKind, next_document, want_of_memory};
+use bd_value::LONGEST_INPUT;
 use std::alloc::Global;
 use std::cell::Cell;
 
@@ -27,7 +29,7 @@ fn too_long(alloc: Global) -> Fault
 
 /// Where the documents start that bytes which are not too many are a dump of.
 fn starts_in(alloc: Global, bytes: &[u8]) -> Result<Vec<u32>, Fault>
-    requires { length bytes.now ≤ 4294967295 }
+    requires { length bytes.now ≤ longest_input }
     ensures dump { IfOk result (λ starts. (all : StandAt bytes.now starts.items) × IsDump (documents_starting_at bytes.now starts.items all) bytes.now) }
     ensures few { IfOk result (λ starts. length starts.items ≤ length bytes.now) }
     ensures fault { IfErr result (IsUnread bytes.now) }
@@ -56,7 +58,7 @@ pub fn read_dump(alloc: Global, bytes: Vec<u8>) -> Result<Dump, Fault>
     ensures bytes { IfOk result (λ dump. bytes_of dump ≡ bytes.items) }
     ensures fault { IfErr result (IsUnread bytes.items) }
 {
-    if bytes.len() > 4_294_967_295 {
+    if bytes.len() as u64 > LONGEST_INPUT {
         return Err(too_long(alloc));
     }
     let starts = starts_in(alloc, &bytes)?;

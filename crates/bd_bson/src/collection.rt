@@ -1,6 +1,7 @@
 //! A dump: all documents of a collection, in their bytes.
 
 ghost use Rattle.std.specs.Prelude.{◌≡◌, ◌≤◌, ◌<◌, Some, length, slice_get};
+ghost use Rattle.bd_value.specs.Limits.{longest_input};
 ghost use Rattle.bd_value.specs.Tree.{Tree, pairs_in};
 ghost use Rattle.bd_raw.specs.At.{StandsAt, IsPlace};
 ghost use Rattle.bd_raw.specs.Sound.{stands};
@@ -19,8 +20,8 @@ pub struct Dump {
     pub(crate) reads: Cell<u64>,
     /// How often a value was asked for by where it stands.
     pub(crate) value_reads: Cell<u64>,
-    ghost few: { length starts.items ≤ 4294967295 },
-    ghost short: { length bytes.items ≤ 4294967295 },
+    ghost few: { length starts.items ≤ longest_input },
+    ghost short: { length bytes.items ≤ longest_input },
     ghost stand: { StandAt bytes.items starts.items } by { StandAt-prop bytes.items starts.items },
 }
 

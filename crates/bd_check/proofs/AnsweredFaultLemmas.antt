@@ -15,7 +15,8 @@ pub told_fails : {A : Type 0} (r : Stop) (f : Fault) (read : Result A Fault) →
 told_fails stops.NoMemory f read told is = tt
 told_fails (stops.Found g) f read told is = is ∙ ap err told
 
-pub fails_within : {A : Type 0} (error r : Stop) (name : List ℕ) (read : Result A Fault) → ((f : Fault) → TellsStop error f → TellsStop r (longer name f)) → FailsAtItem error read → FailsAtItem r (within name read)
+pub fails_within : {A : Type 0} (error r : Stop) (name : List ℕ) (read : Result A Fault)
+    → ((f : Fault) → TellsStop error f → TellsStop r (longer name f)) → FailsAtItem error read → FailsAtItem r (within name read)
 fails_within stops.NoMemory stops.NoMemory name read told fails = tt
 fails_within stops.NoMemory (stops.Found g) name (Ok x) told fails =
     let zero_at : 0 ≡ g.offset = ap (λ (f : Fault). f.offset) (told (record { kind = TooDeep; offset = 0; path = [] }) tt) in

@@ -20,7 +20,8 @@ none_beyond xs e = λ i. elim (cases_lt i (length xs)) [
 ]
 
 -- of bytes at most twice as many the first and the last are all
-pub both_ends : (size : ℕ) (xs first last : List ℕ) → size ≤ length xs → length xs ≤ size + size → first ≡ take size xs → last ≡ drop (length xs - size) xs → list_any beyond first ≡ false → list_any beyond last ≡ false → IsAscii xs
+pub both_ends : (size : ℕ) (xs first last : List ℕ) → size ≤ length xs → length xs ≤ size + size → first ≡ take size xs
+    → last ≡ drop (length xs - size) xs → list_any beyond first ≡ false → list_any beyond last ≡ false → IsAscii xs
 both_ends size xs first last fits near front back one two = λ i. elim (cases_lt i size) [
   | inl lt ↦ subst (λ (b : ℕ). b < 128) (ap (λ (l : List ℕ). get_or l i 0) front ∙ get_or-take size xs i 0 lt) (none_beyond first one i)
   | inr high ↦

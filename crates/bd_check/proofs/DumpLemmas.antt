@@ -1,10 +1,12 @@
 -- Documents one after the other.
-use Rattle.std.proofs.Common.{◌≡◌, ℕ, zero, suc, ◌+◌, ◌≤◌, Bool, true, false, cond, ltb, List, [], ◌∷◌, ◌++◌, length, take, drop, Option, Some, None, Result, Ok, Err, refl, sym, ap, ap₂, ◌∙◌, subst, append_assoc, arith}
+use Rattle.std.proofs.Common.{◌≡◌, ℕ, zero, suc, ◌+◌, ◌≤◌, Bool, true, false, cond, ltb, List, [], ◌∷◌, ◌++◌, length, take, drop, Option, Some, None, Result}
+use Rattle.std.proofs.Common.{Ok, Err, refl, sym, ap, ap₂, ◌∙◌, subst, append_assoc, arith}
 use Rattle.std.specs.Prelude.{◌||◌}
 use Rattle.std.proofs.lemmas.Bool.{ltb-false, le-ltb}
 use Rattle.std.proofs.lemmas.Bool.Decides.{nat_tests}
 use Rattle.std.proofs.lemmas.List.{take_at, drop_at, length-append, length-drop, take-append-drop, append-nil, nil_from_length}
 use Rattle.std.specs.Int.{w32, from_le_bytes}
+use Rattle.bd_value.specs.Limits.{longest_document}
 use Rattle.bd_value.specs.Tree.{Doc}
 use Rattle.bd_check.specs.declared.fault.FaultKind.{FaultKind}
 use Rattle.bd_check.specs.declared.fault.FaultKind.TheVariants.{ShortLength, BadLength}
@@ -23,15 +25,16 @@ use Rattle.bd_raw.proofs.SoundLemmas.{document_unique}
 framed_size : (body : List ℕ) → length (framed body) ≡ length body + 5
 framed_size body = omega (arith, length-append (number (length body + 5)) (body ++ 0 ∷ []), number_length (length body + 5), length-append body (0 ∷ []))
 
-told : (body rest : List ℕ) → length (framed body) ≤ 16793600 → length_told (framed body ++ rest) ≡ length (framed body)
+told : (body rest : List ℕ) → length (framed body) ≤ longest_document → length_told (framed body ++ rest) ≡ length (framed body)
 told body rest short =
     let size = framed_size body in
-    ap length_told (framed_after body rest) ∙ ap (from_le_bytes w32) (take_at (number (length body + 5)) (body ++ 0 ∷ rest) 4 (number_length (length body + 5))) ∙ number_value (length body + 5) (omega arith) ∙ sym size
+    ap length_told (framed_after body rest) ∙ ap (from_le_bytes w32) (take_at (number (length body + 5)) (body ++ 0 ∷ rest) 4
+        (number_length (length body + 5))) ∙ number_value (length body + 5) (omega arith) ∙ sym size
 
-tests : (n m : ℕ) → 5 ≤ n → n ≤ 16793600 → n ≤ m → (ltb n 5 || ltb 16793600 n || ltb m n) ≡ false
+tests : (n m : ℕ) → 5 ≤ n → n ≤ longest_document → n ≤ m → (ltb n 5 || ltb longest_document n || ltb m n) ≡ false
 tests n m low high le = grind (arith, nat_tests)
 
-pub frame_good : (bytes : List ℕ) (n : ℕ) → length_told bytes ≡ n → 5 ≤ n → n ≤ 16793600 → n ≤ length bytes → frame_length bytes ≡ Ok (Some n)
+pub frame_good : (bytes : List ℕ) (n : ℕ) → length_told bytes ≡ n → 5 ≤ n → n ≤ longest_document → n ≤ length bytes → frame_length bytes ≡ Ok (Some n)
 frame_good [] n is low high le = absurd (omega arith)
 frame_good (b ∷ bytes) n is low high le =
     let long : ltb (length (b ∷ bytes)) 4 ≡ false = le-ltb _ _ (omega arith) in
@@ -40,7 +43,7 @@ frame_good (b ∷ bytes) n is low high le =
 pub document_frame : (d : Doc) (front rest : List ℕ) → IsDocument d front → frame_length (front ++ rest) ≡ Ok (Some (length front))
 document_frame d front rest h =
     let s = h.spells in
-    let short : length (framed s.0) ≤ 16793600 = let m = h.short in omega (arith, ap length s.2) in
+    let short : length (framed s.0) ≤ longest_document = let m = h.short in omega (arith, ap length s.2) in
     let t : length_told (front ++ rest) ≡ length front = ap (λ (x : List ℕ). length_told (x ++ rest)) s.2 ∙ told s.0 rest short ∙ sym (ap length s.2) in
     frame_good (front ++ rest) (length front) t (omega (arith, ap length s.2, framed_size s.0)) h.short (omega (arith, length-append front rest))
 
@@ -143,7 +146,9 @@ neither false b e = (refl, e)
 
 no_frame : (bytes : List ℕ) → frame_length bytes ≡ Ok None → bytes ≡ []
 no_frame [] is = refl
-no_frame (b ∷ bytes) is = absurd (no_none (ltb (length (b ∷ bytes)) 4) (ltb (length_told (b ∷ bytes)) 5 || ltb 16793600 (length_told (b ∷ bytes)) || ltb (length (b ∷ bytes)) (length_told (b ∷ bytes))) (length_told (b ∷ bytes)) is)
+no_frame (b ∷ bytes) is = absurd (no_none (ltb (length (b ∷ bytes)) 4)
+    (ltb (length_told (b ∷ bytes)) 5 || ltb longest_document (length_told (b ∷ bytes)) || ltb (length (b ∷ bytes)) (length_told (b ∷ bytes)))
+    (length_told (b ∷ bytes)) is)
   where
     no_none : (s t : Bool) (n : ℕ) → cond s (Err ShortLength) (cond t (Err BadLength) (Ok (Some n))) ≡ Ok None → ⊥
     no_none true t n is = absurd cc
@@ -151,18 +156,20 @@ no_frame (b ∷ bytes) is = absurd (no_none (ltb (length (b ∷ bytes)) 4) (ltb 
     no_none false false n is = absurd cc
 
 -- a frame takes bytes, and not more than there are
-pub frame_inside : (bytes : List ℕ) (n : ℕ) → frame_length bytes ≡ Ok (Some n) → (5 ≤ n) × (n ≤ length bytes) × (n ≤ 16793600)
+pub frame_inside : (bytes : List ℕ) (n : ℕ) → frame_length bytes ≡ Ok (Some n) → (5 ≤ n) × (n ≤ length bytes) × (n ≤ longest_document)
 frame_inside [] n is = absurd cc
 frame_inside (b ∷ bytes) n is =
-    inside (ltb (length (b ∷ bytes)) 4) (ltb (length_told (b ∷ bytes)) 5 || ltb 16793600 (length_told (b ∷ bytes)) || ltb (length (b ∷ bytes)) (length_told (b ∷ bytes))) (b ∷ bytes) n refl is
+    inside (ltb (length (b ∷ bytes)) 4) (ltb (length_told (b ∷ bytes)) 5 || ltb longest_document (length_told (b ∷ bytes)) || ltb (length (b ∷ bytes)) (length_told (b ∷ bytes))) (b ∷ bytes) n refl is
   where
-    inside : (s t : Bool) (bytes : List ℕ) (n : ℕ) → (ltb (length_told bytes) 5 || ltb 16793600 (length_told bytes) || ltb (length bytes) (length_told bytes)) ≡ t → cond s (Err ShortLength) (cond t (Err BadLength) (Ok (Some (length_told bytes)))) ≡ Ok (Some n) → (5 ≤ n) × (n ≤ length bytes) × (n ≤ 16793600)
+    inside : (s t : Bool) (bytes : List ℕ) (n : ℕ) → (ltb (length_told bytes) 5 || ltb longest_document (length_told bytes)
+        || ltb (length bytes) (length_told bytes)) ≡ t → cond s (Err ShortLength) (cond t (Err BadLength) (Ok (Some (length_told bytes))))
+        ≡ Ok (Some n) → (5 ≤ n) × (n ≤ length bytes) × (n ≤ longest_document)
     inside true t bytes n e is = absurd cc
     inside false true bytes n e is = absurd cc
     inside false false bytes n e is =
         let k : length_told bytes ≡ n = cc in
-        let a = neither (ltb (length_told bytes) 5 || ltb 16793600 (length_told bytes)) (ltb (length bytes) (length_told bytes)) e in
-        let c = neither (ltb (length_told bytes) 5) (ltb 16793600 (length_told bytes)) a.0 in
+        let a = neither (ltb (length_told bytes) 5 || ltb longest_document (length_told bytes)) (ltb (length bytes) (length_told bytes)) e in
+        let c = neither (ltb (length_told bytes) 5) (ltb longest_document (length_told bytes)) a.0 in
         let low = ltb-false _ _ c.0 in
         let high = ltb-false _ _ c.1 in
         let le = ltb-false _ _ a.1 in
@@ -181,16 +188,19 @@ found_document base bytes fits is = document_found (base + length bytes) bytes f
 abbrev Walker : ℕ → Type 0
 Walker turns = (done : List Doc) (front rest : List ℕ) → length rest ≤ turns → IsBytes rest → AreJoined done front → Walked done front rest
 
-walk_document : (turns : ℕ) → Walker turns → (done : List Doc) (front rest : List ℕ) (n : ℕ) (first : Option Fault) → length rest ≤ suc turns → IsBytes rest → AreJoined done front → frame_length rest ≡ Ok (Some n) → first_fault (length front) (take n rest) ≡ first
+walk_document : (turns : ℕ) → Walker turns → (done : List Doc) (front rest : List ℕ) (n : ℕ) (first : Option Fault) → length rest ≤ suc turns
+    → IsBytes rest → AreJoined done front → frame_length rest ≡ Ok (Some n) → first_fault (length front) (take n rest) ≡ first
     → Walked done front rest
 walk_document turns walk done front rest n (Some f) le fits j is first_is = stops_at done front rest f j (ap (framed_fault (length front) rest) is ∙ first_is)
 walk_document turns walk done front rest n None le fits j is first_is =
     let d = found_document (length front) (take n rest) (IsBytes-take n rest fits) first_is in
     let size = frame_inside rest n is in
     goes_on done d.0 front (take n rest) (drop n rest) rest (take-append-drop n rest)
-    (walk (done ++ d.0 ∷ []) (front ++ take n rest) (drop n rest) (omega (arith, length-drop n rest, size.0, size.1)) (IsBytes-drop n rest fits) (joined_append done (d.0 ∷ []) front (take n rest) j (joined_one d.0 (take n rest) d.1)))
+    (walk (done ++ d.0 ∷ []) (front ++ take n rest) (drop n rest) (omega (arith, length-drop n rest, size.0, size.1)) (IsBytes-drop n rest fits)
+        (joined_append done (d.0 ∷ []) front (take n rest) j (joined_one d.0 (take n rest) d.1)))
 
-walk_frame : (turns : ℕ) → Walker turns → (done : List Doc) (front rest : List ℕ) (frame : Result (Option ℕ) FaultKind) → length rest ≤ suc turns → IsBytes rest → AreJoined done front → frame_length rest ≡ frame → Walked done front rest
+walk_frame : (turns : ℕ) → Walker turns → (done : List Doc) (front rest : List ℕ) (frame : Result (Option ℕ) FaultKind) → length rest ≤ suc turns
+    → IsBytes rest → AreJoined done front → frame_length rest ≡ frame → Walked done front rest
 walk_frame turns walk done front rest (Err kind) le fits j is = stops_at done front rest (record { kind = kind; offset = length front; path = [] }) j (ap (framed_fault (length front) rest) is)
 walk_frame turns walk done front rest (Ok None) le fits j is = ends_at done front rest j (no_frame rest is)
 walk_frame turns walk done front rest (Ok (Some n)) le fits j is = walk_document turns walk done front rest n (first_fault (length front) (take n rest)) le fits j is refl

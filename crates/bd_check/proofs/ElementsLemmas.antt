@@ -18,7 +18,8 @@ same_others nested place n m e (Ok x) h = h x refl
 same_others nested place n m e (Err f) h = refl
 
 -- any number of turns from the count of the bytes on is as good
-enough : (room : ℕ) (nested : Nested) (place : Option ℕ) (n m e : ℕ) (bytes : List ℕ) → NestedTakes room nested → IsBytes bytes → length bytes ≤ n → length bytes ≤ m → past_elements nested place n e bytes ≡ past_elements nested place m e bytes
+enough : (room : ℕ) (nested : Nested) (place : Option ℕ) (n m e : ℕ) (bytes : List ℕ) → NestedTakes room nested → IsBytes bytes → length bytes ≤ n
+    → length bytes ≤ m → past_elements nested place n e bytes ≡ past_elements nested place m e bytes
 unfolding past_elements
 enough room nested place zero zero e bytes below fits p q = refl
 enough room nested place zero (suc m) e [] below fits p q = refl
@@ -41,7 +42,8 @@ first_of_all place room e (b ∷ bytes) after fits is less after_fits =
     let k = enough room (past_nested room) (option_map suc place) (length bytes) (length after) e after (nested_takes room) after_fits (omega arith) (omega arith) in
     rw (is, k) refl
 
-no_first : (r : Stop) (place : Option ℕ) (room e : ℕ) (bytes : List ℕ) → 0 < length bytes → FailsAtItem r (past_element (past_nested room) place e bytes) → FailsAtItem r (past_elements (past_nested room) place (length bytes) e bytes)
+no_first : (r : Stop) (place : Option ℕ) (room e : ℕ) (bytes : List ℕ) → 0 < length bytes
+    → FailsAtItem r (past_element (past_nested room) place e bytes) → FailsAtItem r (past_elements (past_nested room) place (length bytes) e bytes)
 unfolding past_elements
 no_first r place room e [] lt h = absurd (omega arith)
 no_first stops.NoMemory place room e (b ∷ bytes) lt h = tt

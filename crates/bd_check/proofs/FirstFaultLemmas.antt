@@ -1,5 +1,6 @@
 -- What is gone past without a fault is spelled by a tree.
-use Rattle.std.proofs.Common.{◌≡◌, ◌≢◌, ℕ, zero, suc, ◌+◌, ◌-◌, ◌^◌, ◌<◌, ◌≤◌, max, ℤ, Bool, true, false, cond, ltb, eqb, List, [], ◌∷◌, ◌++◌, length, get_or, take, drop, Option, Some, None, Result, Ok, Err, refl, sym, ap, ap₂, subst, ◌∙◌, append_assoc, arith, inl, inr, add-one}
+use Rattle.std.proofs.Common.{◌≡◌, ◌≢◌, ℕ, zero, suc, ◌+◌, ◌-◌, ◌^◌, ◌<◌, ◌≤◌, max, ℤ, Bool, true, false, cond, ltb, eqb, List, [], ◌∷◌, ◌++◌, length, get_or}
+use Rattle.std.proofs.Common.{take, drop, Option, Some, None, Result, Ok, Err, refl, sym, ap, ap₂, subst, ◌∙◌, append_assoc, arith, inl, inr, add-one}
 use Rattle.std.specs.Prelude.{IsUtf8, FitsSigned, ◌||◌, ◌&&◌, not, ◌==◌, codes, option_map}
 use Rattle.std.specs.List.{AllByRecursion, position}
 use Rattle.std.specs.Str.{is_utf8}
@@ -12,6 +13,7 @@ use Rattle.std.proofs.lemmas.List.Quantifiers.{position-Some}
 use Rattle.std.proofs.lemmas.Nat.{le_bytes_4, le_bytes_8}
 use Rattle.std.proofs.lemmas.Int.{of_z-to_z, ints}
 use Rattle.std.proofs.lemmas.Str.{IsUtf8-from_is_utf8}
+use Rattle.bd_value.specs.Limits.{longest_document, most_levels}
 use Rattle.bd_value.specs.Tree as trees
 use Rattle.bd_value.specs.Tree.{Scalar, Tree, leaf, doc, array, code_scope, Fields, no_fields, field, Items, no_items, item, Doc, pairs_of, fields_of-pairs_of}
 use Rattle.bd_value.specs.Kind.{scalar_kind, kind_of}
@@ -28,7 +30,9 @@ use Rattle.bd_raw.specs.Types as table
 use Rattle.bd_raw.specs.Types.{type_byte, type_in, type_at}
 use Rattle.bd_raw.specs.Sizes.{number_of}
 use Rattle.bd_raw.specs.Scalars.{number_length, chosen, other}
-use Rattle.bd_check.specs.FirstFault.{within, label, start, ◌>>=◌, fault, past_number, past_zero, text_at, name_up_to, past_name, past_string, past_frame, past_fixed, past_boolean, past_data, past_binary, past_regex, past_code_frame, past_scope_end, known, past_value, past_typed, past_element, past_elements, past_body, past_code_scope, past_holder, past_nested, past_document, Nested}
+use Rattle.bd_check.specs.FirstFault.{within, label, start, ◌>>=◌, fault, past_number, past_zero, text_at, name_up_to, past_name, past_string, past_frame}
+use Rattle.bd_check.specs.FirstFault.{past_fixed, past_boolean, past_data, past_binary, past_regex, past_code_frame, past_scope_end, known, past_value}
+use Rattle.bd_check.specs.FirstFault.{past_typed, past_element, past_elements, past_body, past_code_scope, past_holder, past_nested, past_document, Nested}
 use Rattle.bd_raw.specs.Spelling.{number, long, string, data_of, scoped, IsName, IsText, IsScalar, framed, element, IsValue, AreItems, AreFields, depth, items_depth, fields_depth, IsDocument}
 
 abbrev pub IsBytes : List ℕ → Type 0
@@ -115,7 +119,8 @@ text_takes at bytes s is =
 none_zero : (bytes : List ℕ) (k : ℕ) → k ≤ length bytes → ((i : ℕ) → i < k → eqb (get_or bytes i 0) 0 ≡ false) → AllByRecursion (λ b. b ≢ 0) (take k bytes)
 none_zero bytes zero le h = tt
 none_zero [] (suc k) le h = absurd (omega arith)
-none_zero (b ∷ bytes) (suc k) le h = (λ z. let f : eqb b 0 ≡ false = h 0 (omega arith) in absurd (let t : eqb b 0 ≡ true = rw z refl in cc), none_zero bytes k (omega arith) (λ i lt. h (suc i) (omega arith)))
+none_zero (b ∷ bytes) (suc k) le h = (λ z. let f : eqb b 0 ≡ false = h 0 (omega arith) in absurd (let t : eqb b 0 ≡ true = rw z refl in cc),
+    none_zero bytes k (omega arith) (λ i lt. h (suc i) (omega arith)))
 
 name_split : (e : ℕ) (bytes : List ℕ) (k : ℕ) (name rest : List ℕ) → IsBytes bytes → position (λ b. b == 0) bytes ≡ Some k
     → (text_at (e - length bytes) (take k bytes) >>= λ s. both s (drop (k + 1) bytes)) ≡ Ok (name, rest) → Takes bytes (name ++ 0 ∷ []) rest × IsName name
@@ -126,12 +131,15 @@ name_split e bytes k name rest fits at is =
     let pair = ok_is (a.0, drop (k + 1) bytes) (name, rest) a.2 in
     let z : get_or bytes k 0 ≡ 0 = eqb-true _ _ p.1 in
     let cut : bytes ≡ take k bytes ++ 0 ∷ drop (k + 1) bytes = sym (take-append-drop k bytes) ∙ ap (λ (x : List ℕ). take k bytes ++ x) (rw (add-one, drop-cons bytes k 0 p.0, z) refl) in
-    let made : Takes bytes (take k bytes ++ 0 ∷ []) (drop (k + 1) bytes) = record { parts = cut ∙ sym (append_assoc (take k bytes) (0 ∷ []) (drop (k + 1) bytes)); rest_fits = IsBytes-drop (k + 1) bytes fits } in
+    let made : Takes bytes (take k bytes ++ 0 ∷ []) (drop (k + 1) bytes) = record { parts = cut
+        ∙ sym (append_assoc (take k bytes) (0 ∷ []) (drop (k + 1) bytes)); rest_fits = IsBytes-drop (k + 1) bytes fits } in
     let nz : AllByRecursion (λ b. b ≢ 0) (take k bytes) = none_zero bytes k (omega (arith, p.0)) p.2 in
-    let first : Takes bytes (a.0 ++ 0 ∷ []) (drop (k + 1) bytes) × IsName a.0 = subst (λ (s : List ℕ). Takes bytes (s ++ 0 ∷ []) (drop (k + 1) bytes) × (IsUtf8 s × AllByRecursion (λ b. b ≢ 0) s)) t.0 (made, (subst IsUtf8 (sym t.0) t.1, nz)) in
+    let first : Takes bytes (a.0 ++ 0 ∷ []) (drop (k + 1) bytes) × IsName a.0 = subst (λ (s : List ℕ). Takes bytes (s ++ 0 ∷ []) (drop (k + 1) bytes)
+        × (IsUtf8 s × AllByRecursion (λ b. b ≢ 0) s)) t.0 (made, (subst IsUtf8 (sym t.0) t.1, nz)) in
     subst (λ (y : List ℕ × List ℕ). Takes bytes (y.0 ++ 0 ∷ []) y.1 × IsName y.0) pair first
 
-name_cases : (kind : FaultKind) (o : Option ℕ) (e : ℕ) (bytes name rest : List ℕ) → IsBytes bytes → position (λ b. b == 0) bytes ≡ o → name_up_to kind o e bytes ≡ Ok (name, rest) → Takes bytes (name ++ 0 ∷ []) rest × IsName name
+name_cases : (kind : FaultKind) (o : Option ℕ) (e : ℕ) (bytes name rest : List ℕ) → IsBytes bytes → position (λ b. b == 0) bytes ≡ o
+    → name_up_to kind o e bytes ≡ Ok (name, rest) → Takes bytes (name ++ 0 ∷ []) rest × IsName name
 name_cases kind None e bytes name rest fits at is = absurd cc
 name_cases kind (Some k) e bytes name rest fits at is = name_split e bytes k name rest fits at is
 
@@ -175,7 +183,8 @@ string_body e n bytes more rest t lt pos le is =
     subst (TakesString bytes) (ok_is a.0 rest b.2) made
 
 string_rest : (e n : ℕ) (bytes more rest : List ℕ) → IsBytes bytes → past_number ValueShort e bytes ≡ Ok (n, more)
-    → cond (eqb n 0 || ltb (length more) n) (fault BadStringLength (e - length bytes)) (past_zero StringUnended e (drop (n - 1) more) >>= λ r. text_at (e - length more) (take (n - 1) more) >>= λ s. after r) ≡ Ok rest
+    → cond (eqb n 0 || ltb (length more) n) (fault BadStringLength (e - length bytes))
+        (past_zero StringUnended e (drop (n - 1) more) >>= λ r. text_at (e - length more) (take (n - 1) more) >>= λ s. after r) ≡ Ok rest
     → TakesString bytes rest
 string_rest e n bytes more rest fits one is =
     let t = number_takes ValueShort e bytes n more fits one in
@@ -200,10 +209,10 @@ frame_of a b c = Ok (a, b, c)
 pub record Frames (top : Bool) (bytes body rest : List ℕ) : Type 0 where
   pub takes : Takes bytes (framed body) rest
   pub body_fits : IsBytes body
-  pub short : length (framed body) ≤ 16793600
+  pub short : length (framed body) ≤ longest_document
   pub whole : top ≡ true → rest ≡ []
 
-frame_body : (top : Bool) (e n : ℕ) (bytes more : List ℕ) (f : List ℕ × ℕ × List ℕ) → Takes bytes (number n) more → 5 ≤ n → n ≤ 16793600 → n ≤ length bytes → (top ≡ true → n ≡ length bytes)
+frame_body : (top : Bool) (e n : ℕ) (bytes more : List ℕ) (f : List ℕ × ℕ × List ℕ) → Takes bytes (number n) more → 5 ≤ n → n ≤ longest_document → n ≤ length bytes → (top ≡ true → n ≡ length bytes)
     → (past_zero NoTerminator e (drop (n - 5) more) >>= λ r. frame_of (take (n - 5) more) (e - length (drop (n - 5) more)) r) ≡ Ok f
     → Frames top bytes f.0 f.2
 frame_body top e n bytes more f t low high le all is =
@@ -213,7 +222,8 @@ frame_body top e n bytes more f t low high le all is =
     let joined : Takes bytes (number n ++ (take (n - 5) more ++ 0 ∷ [])) a.0 = Takes-then bytes (number n) more (take (n - 5) more ++ 0 ∷ []) a.0 t c.0 in
     let n-is : n ≡ length (take (n - 5) more) + 5 = omega (arith, c.1) in
     let made : Takes bytes (framed (take (n - 5) more)) a.0 = subst (λ (k : ℕ). Takes bytes (number k ++ (take (n - 5) more ++ 0 ∷ [])) a.0) n-is joined in
-    let size : length (framed (take (n - 5) more)) ≡ n = omega (arith, length-append (number (length (take (n - 5) more) + 5)) (take (n - 5) more ++ 0 ∷ []), number_length (length (take (n - 5) more) + 5), length-append (take (n - 5) more) (0 ∷ []), c.1) in
+    let size : length (framed (take (n - 5) more)) ≡ n = omega (arith, length-append (number (length (take (n - 5) more) + 5))
+        (take (n - 5) more ++ 0 ∷ []), number_length (length (take (n - 5) more) + 5), length-append (take (n - 5) more) (0 ∷ []), c.1) in
     let total : length bytes ≡ length (framed (take (n - 5) more)) + length a.0 = ap length made.parts ∙ length-append (framed (take (n - 5) more)) a.0 in
     let first : Frames top bytes (take (n - 5) more) a.0 = record {
       takes = made;
@@ -228,15 +238,15 @@ not_other true n m h is = grind (arith, nat_tests, h)
 not_other false n m h is = absurd cc
 
 frame_rest : (top : Bool) (short : FaultKind) (e n : ℕ) (bytes more : List ℕ) (f : List ℕ × ℕ × List ℕ) → IsBytes bytes → past_number short e bytes ≡ Ok (n, more)
-    → cond (ltb n 5 || ltb 16793600 n || ltb (length bytes) n || (top && not (eqb n (length bytes)))) (fault BadLength (e - length bytes))
+    → cond (ltb n 5 || ltb longest_document n || ltb (length bytes) n || (top && not (eqb n (length bytes)))) (fault BadLength (e - length bytes))
     (past_zero NoTerminator e (drop (n - 5) more) >>= λ r. frame_of (take (n - 5) more) (e - length (drop (n - 5) more)) r) ≡ Ok f
     → Frames top bytes f.0 f.2
 frame_rest top short e n bytes more f fits one is =
     let t = number_takes short e bytes n more fits one in
-    let g = guard_ok (ltb n 5 || ltb 16793600 n || ltb (length bytes) n || (top && not (eqb n (length bytes)))) _ _ f is in
-    let h = neither (ltb n 5 || ltb 16793600 n || ltb (length bytes) n) (top && not (eqb n (length bytes))) g.0 in
-    let i = neither (ltb n 5 || ltb 16793600 n) (ltb (length bytes) n) h.0 in
-    let j = neither (ltb n 5) (ltb 16793600 n) i.0 in
+    let g = guard_ok (ltb n 5 || ltb longest_document n || ltb (length bytes) n || (top && not (eqb n (length bytes)))) _ _ f is in
+    let h = neither (ltb n 5 || ltb longest_document n || ltb (length bytes) n) (top && not (eqb n (length bytes))) g.0 in
+    let i = neither (ltb n 5 || ltb longest_document n) (ltb (length bytes) n) h.0 in
+    let j = neither (ltb n 5) (ltb longest_document n) i.0 in
     frame_body top e n bytes more f t.0 (ltb-false _ _ j.0) (ltb-false _ _ j.1) (ltb-false _ _ i.1) (not_other top n (length bytes) h.1) g.1
 
 pub frame_takes : (top : Bool) (e : ℕ) (bytes : List ℕ) (f : List ℕ × ℕ × List ℕ) → IsBytes bytes → past_frame top e bytes ≡ Ok f → Frames top bytes f.0 f.2
@@ -255,7 +265,8 @@ record TakesFixed (n : ℕ) (bytes rest : List ℕ) : Type 0 where
   pub fits : IsBytes front
 
 abbrev cut_at : (n : ℕ) (bytes : List ℕ) → IsBytes bytes → n ≤ length bytes → TakesFixed n bytes (drop n bytes)
-cut_at n bytes fits le = record { front = take n bytes; takes = record { parts = sym (take-append-drop n bytes); rest_fits = IsBytes-drop n bytes fits }; size = omega (arith, length-take n bytes); fits = IsBytes-take n bytes fits }
+cut_at n bytes fits le = record { front = take n bytes; takes = record
+    { parts = sym (take-append-drop n bytes); rest_fits = IsBytes-drop n bytes fits }; size = omega (arith, length-take n bytes); fits = IsBytes-take n bytes fits }
 
 fixed_takes : (n e : ℕ) (bytes rest : List ℕ) → IsBytes bytes → past_fixed n e bytes ≡ Ok rest → TakesFixed n bytes rest
 fixed_takes n e bytes rest fits is =
@@ -284,7 +295,8 @@ int_takes : (e : ℕ) (bytes rest : List ℕ) → IsBytes bytes → past_fixed 4
 int_takes e bytes rest fits is =
     let f = fixed_takes 4 e bytes rest fits is in
     let n = from_le_bytes w32 f.front in
-    let back : number (cast_unsigned w32 (cast_signed w32 (from_le_bytes w32 f.front))) ≡ f.front = ap number (of_z-to_z w32 (from_le_bytes w32 f.front) (number_below f.front f.fits)) ∙ number_back f.front f.size f.fits in
+    let back : number (cast_unsigned w32 (cast_signed w32 (from_le_bytes w32 f.front)))
+        ≡ f.front = ap number (of_z-to_z w32 (from_le_bytes w32 f.front) (number_below f.front f.fits)) ∙ number_back f.front f.size f.fits in
     record { scalar = trees.int32 (cast_signed w32 (from_le_bytes w32 f.front)); value = f.front; spells = (search (arith, ints), sym back); takes = f.takes; kinded = refl }
 
 record TakesLong (bytes rest : List ℕ) : Type 0 where
@@ -297,7 +309,8 @@ record TakesLong (bytes rest : List ℕ) : Type 0 where
 long_takes : (e : ℕ) (bytes rest : List ℕ) → IsBytes bytes → past_fixed 8 e bytes ≡ Ok rest → TakesLong bytes rest
 long_takes e bytes rest fits is =
     let f = fixed_takes 8 e bytes rest fits is in
-    let back : long (cast_unsigned w64 (cast_signed w64 (from_le_bytes w64 f.front))) ≡ f.front = ap long (of_z-to_z w64 (from_le_bytes w64 f.front) (long_below f.front f.fits)) ∙ long_again f.front f.size f.fits in
+    let back : long (cast_unsigned w64 (cast_signed w64 (from_le_bytes w64 f.front)))
+        ≡ f.front = ap long (of_z-to_z w64 (from_le_bytes w64 f.front) (long_below f.front f.fits)) ∙ long_again f.front f.size f.fits in
     record { front = f.front; takes = f.takes; number = cast_signed w64 (from_le_bytes w64 f.front); number_fits = search (arith, ints); is = sym back }
 
 timestamp_takes : (e : ℕ) (bytes rest : List ℕ) → IsBytes bytes → past_fixed 8 e bytes ≡ Ok rest → TakesScalar kinds.Timestamp bytes rest
@@ -309,17 +322,21 @@ timestamp_takes e bytes rest fits is =
     let high_size : length (drop 4 f.front) ≡ 4 = omega (arith, length-drop 4 f.front, f.size) in
     let first : number (from_le_bytes w32 (take 4 f.front)) ≡ take 4 f.front = number_back (take 4 f.front) low_size low in
     let second : number (from_le_bytes w32 (drop 4 f.front)) ≡ drop 4 f.front = number_back (drop 4 f.front) high_size high in
-    let whole : f.front ≡ number (from_le_bytes w32 (take 4 f.front)) ++ number (from_le_bytes w32 (drop 4 f.front)) = sym (take-append-drop 4 f.front) ∙ ap₂ (λ (x y : List ℕ). x ++ y) (sym first) (sym second) in
-    record { scalar = trees.timestamp (from_le_bytes w32 (drop 4 f.front)) (from_le_bytes w32 (take 4 f.front)); value = f.front; spells = (number_below (drop 4 f.front) high, number_below (take 4 f.front) low, whole); takes = f.takes; kinded = refl }
+    let whole : f.front ≡ number (from_le_bytes w32 (take 4 f.front))
+        ++ number (from_le_bytes w32 (drop 4 f.front)) = sym (take-append-drop 4 f.front) ∙ ap₂ (λ (x y : List ℕ). x ++ y) (sym first) (sym second) in
+    record { scalar = trees.timestamp (from_le_bytes w32 (drop 4 f.front)) (from_le_bytes w32 (take 4 f.front)); value = f.front; spells =
+        (number_below (drop 4 f.front) high, number_below (take 4 f.front) low, whole); takes = f.takes; kinded = refl }
 
 boolean_takes : (e : ℕ) (bytes rest : List ℕ) → IsBytes bytes → past_boolean e bytes ≡ Ok rest → TakesScalar kinds.Bool bytes rest
 boolean_takes e [] rest fits is = absurd cc
 boolean_takes e (zero ∷ bs) rest fits is =
     let same = ok_is bs rest is in
-    record { scalar = trees.boolean false; value = 0 ∷ []; spells = refl; takes = record { parts = ap (λ (x : List ℕ). 0 ∷ x) same; rest_fits = subst IsBytes same (IsBytes-rest 0 bs fits) }; kinded = refl }
+    record { scalar = trees.boolean false; value = 0 ∷ []; spells = refl; takes = record
+        { parts = ap (λ (x : List ℕ). 0 ∷ x) same; rest_fits = subst IsBytes same (IsBytes-rest 0 bs fits) }; kinded = refl }
 boolean_takes e (suc zero ∷ bs) rest fits is =
     let same = ok_is bs rest is in
-    record { scalar = trees.boolean true; value = 1 ∷ []; spells = refl; takes = record { parts = ap (λ (x : List ℕ). 1 ∷ x) same; rest_fits = subst IsBytes same (IsBytes-rest 1 bs fits) }; kinded = refl }
+    record { scalar = trees.boolean true; value = 1 ∷ []; spells = refl; takes = record
+        { parts = ap (λ (x : List ℕ). 1 ∷ x) same; rest_fits = subst IsBytes same (IsBytes-rest 1 bs fits) }; kinded = refl }
 boolean_takes e (suc (suc b) ∷ bs) rest fits is = absurd (let g = guard_ok (ltb 1 (suc (suc b))) _ (done bs) rest is in let le = ltb-false 1 (suc (suc b)) g.0 in omega arith)
 
 pointer_takes : (e : ℕ) (bytes rest : List ℕ) → IsBytes bytes → (past_string e bytes >>= λ more. past_fixed 12 e more) ≡ Ok rest → TakesScalar kinds.DbPointer bytes rest
@@ -327,7 +344,8 @@ pointer_takes e bytes rest fits is =
     let a = bind_ok (past_string e bytes) _ rest is in
     let s = string_takes e bytes a.0 fits a.1 in
     let f = fixed_takes 12 e a.0 rest s.takes.rest_fits a.2 in
-    record { scalar = trees.db_pointer s.text_bytes f.front; value = string s.text_bytes ++ f.front; spells = ((s.utf8, s.short), f.size, refl); takes = Takes-then bytes (string s.text_bytes) a.0 f.front rest s.takes f.takes; kinded = refl }
+    record { scalar = trees.db_pointer s.text_bytes f.front; value = string s.text_bytes
+        ++ f.front; spells = ((s.utf8, s.short), f.size, refl); takes = Takes-then bytes (string s.text_bytes) a.0 f.front rest s.takes f.takes; kinded = refl }
 
 regex_takes : (e : ℕ) (bytes rest : List ℕ) → IsBytes bytes → past_regex e bytes ≡ Ok rest → TakesScalar kinds.Regex bytes rest
 regex_takes e bytes rest fits is =
@@ -337,7 +355,8 @@ regex_takes e bytes rest fits is =
     let o = name_takes StringUnended e a.0.1 b.0.0 b.0.1 p.0.rest_fits b.1 in
     let joined = Takes-then bytes (a.0.0 ++ 0 ∷ []) a.0.1 (b.0.0 ++ 0 ∷ []) b.0.1 p.0 o.0 in
     let made : Takes bytes (a.0.0 ++ 0 ∷ (b.0.0 ++ 0 ∷ [])) b.0.1 = subst (λ (x : List ℕ). Takes bytes x b.0.1) (append_assoc a.0.0 (0 ∷ []) (b.0.0 ++ 0 ∷ [])) joined in
-    record { scalar = trees.regex a.0.0 b.0.0; value = a.0.0 ++ 0 ∷ (b.0.0 ++ 0 ∷ []); spells = (p.1, o.1, refl); takes = subst (Takes bytes (a.0.0 ++ 0 ∷ (b.0.0 ++ 0 ∷ []))) (ok_is b.0.1 rest b.2) made; kinded = refl }
+    record { scalar = trees.regex a.0.0 b.0.0; value = a.0.0 ++ 0 ∷ (b.0.0 ++ 0 ∷ []); spells = (p.1, o.1, refl); takes =
+        subst (Takes bytes (a.0.0 ++ 0 ∷ (b.0.0 ++ 0 ∷ []))) (ok_is b.0.1 rest b.2) made; kinded = refl }
 
 -- ---- binary
 
@@ -347,7 +366,8 @@ record TakesData (subtype count : ℕ) (bytes rest : List ℕ) : Type 0 where
   pub takes : Takes bytes (data_of subtype payload) rest
   pub size : length (data_of subtype payload) ≡ count
 
-data_after_count : (subtype count : ℕ) (bytes : List ℕ) → IsBytes bytes → (subtype == 2) ≡ true → 4 ≤ count → count ≤ length bytes → number_of bytes ≡ count - 4 → TakesData subtype count bytes (drop count bytes)
+data_after_count : (subtype count : ℕ) (bytes : List ℕ) → IsBytes bytes → (subtype == 2) ≡ true → 4 ≤ count → count ≤ length bytes
+    → number_of bytes ≡ count - 4 → TakesData subtype count bytes (drop count bytes)
 data_after_count subtype count bytes fits two least le inner =
     let f = cut_at count bytes fits le in
     let head = cut_at 4 f.front f.fits (omega (arith, f.size)) in
@@ -365,7 +385,8 @@ data_alone subtype count bytes fits two le =
     record { payload = f.front; takes = subst (λ (x : List ℕ). Takes bytes x (drop count bytes)) (sym is) f.takes; size = ap length is ∙ f.size }
 
 data_cases : (two : Bool) (at subtype count : ℕ) (bytes rest : List ℕ) → IsBytes bytes → (subtype == 2) ≡ two → count ≤ length bytes
-    → cond (two && ltb count 4) (fault BadBinaryLength at) (cond (two && not (eqb (number_of bytes) (count - 4))) (fault BadBinaryLength (at + 5)) (done (drop count bytes))) ≡ Ok rest → TakesData subtype count bytes rest
+    → cond (two && ltb count 4) (fault BadBinaryLength at) (cond (two && not (eqb (number_of bytes) (count - 4))) (fault BadBinaryLength (at + 5))
+        (done (drop count bytes))) ≡ Ok rest → TakesData subtype count bytes rest
 data_cases true at subtype count bytes rest fits two le is =
     let g = guard_ok (ltb count 4) _ _ rest is in
     let h = guard_ok (not (eqb (number_of bytes) (count - 4))) _ (done (drop count bytes)) rest g.1 in
@@ -385,10 +406,14 @@ binary_rest : (e : ℕ) (bytes rest : List ℕ) → IsBytes bytes → 5 ≤ leng
 binary_rest e bytes rest fits least few le is =
     let k = get_or bytes 4 0 in
     let d = data_takes (e - length bytes) (get_or bytes 4 0) (number_of bytes) (drop 5 bytes) rest (IsBytes-drop 5 bytes fits) (omega (arith, length-drop 5 bytes)) is in
-    let front : number (length (data_of (get_or bytes 4 0) d.payload)) ≡ take 4 bytes = ap number d.size ∙ number_back (take 4 bytes) (omega (arith, length-take 4 bytes)) (IsBytes-take 4 bytes fits) in
+    let front : number (length (data_of (get_or bytes 4 0) d.payload)) ≡ take 4 bytes = ap number d.size
+        ∙ number_back (take 4 bytes) (omega (arith, length-take 4 bytes)) (IsBytes-take 4 bytes fits) in
     let whole : bytes ≡ (number (length (data_of (get_or bytes 4 0) d.payload)) ++ get_or bytes 4 0 ∷ data_of (get_or bytes 4 0) d.payload) ++ rest =
-    five_split bytes least ∙ ap₂ (λ (x y : List ℕ). x ++ get_or bytes 4 0 ∷ y) (sym front) d.takes.parts ∙ sym (append_assoc (number (length (data_of (get_or bytes 4 0) d.payload))) (get_or bytes 4 0 ∷ data_of (get_or bytes 4 0) d.payload) rest) in
-    record { scalar = trees.binary (get_or bytes 4 0) d.payload; value = number (length (data_of (get_or bytes 4 0) d.payload)) ++ get_or bytes 4 0 ∷ data_of (get_or bytes 4 0) d.payload; spells = (fits 4, omega (arith, d.size), refl); takes = record { parts = whole; rest_fits = d.takes.rest_fits }; kinded = refl }
+    five_split bytes least ∙ ap₂ (λ (x y : List ℕ). x ++ get_or bytes 4 0 ∷ y) (sym front) d.takes.parts
+        ∙ sym (append_assoc (number (length (data_of (get_or bytes 4 0) d.payload))) (get_or bytes 4 0 ∷ data_of (get_or bytes 4 0) d.payload) rest) in
+    record { scalar = trees.binary (get_or bytes 4 0) d.payload; value = number (length (data_of (get_or bytes 4 0) d.payload)) ++ get_or bytes 4 0
+        ∷ data_of (get_or bytes 4 0) d.payload; spells = (fits 4, omega (arith, d.size), refl); takes = record
+        { parts = whole; rest_fits = d.takes.rest_fits }; kinded = refl }
 
 binary_takes : (e : ℕ) (bytes rest : List ℕ) → IsBytes bytes → past_binary e bytes ≡ Ok rest → TakesScalar kinds.Binary bytes rest
 unfolding past_binary
@@ -453,7 +478,8 @@ scalar_value room kind bytes rest s = record { tree = leaf s.scalar; value = s.v
 no_bytes : (s : Scalar) (room : ℕ) (bytes rest : List ℕ) → IsBytes bytes → IsScalar s [] → done bytes ≡ done rest → TakesValue room (scalar_kind s) bytes rest
 no_bytes s room bytes rest fits spells is = record { tree = leaf s; value = []; spells = spells; takes = nothing_takes bytes rest fits is; kinded = refl; shallow = omega arith }
 
-pub value_takes : (room : ℕ) (nested : Nested) (kind : Kind) (q e : ℕ) (bytes rest : List ℕ) → NestedTakes room nested → IsBytes bytes → past_value nested kind q e bytes ≡ Ok rest → TakesValue room kind bytes rest
+pub value_takes : (room : ℕ) (nested : Nested) (kind : Kind) (q e : ℕ) (bytes rest : List ℕ) → NestedTakes room nested → IsBytes bytes
+    → past_value nested kind q e bytes ≡ Ok rest → TakesValue room kind bytes rest
 value_takes room nested kinds.MinKey q e bytes rest below fits is = no_bytes trees.min_key room bytes rest fits refl is
 value_takes room nested kinds.Undefined q e bytes rest below fits is = no_bytes trees.undefined room bytes rest fits refl is
 value_takes room nested kinds.Null q e bytes rest below fits is = no_bytes trees.null room bytes rest fits refl is
@@ -487,10 +513,12 @@ value_takes room nested kinds.Doc q e bytes rest below fits is =
     record { tree = doc d.fields; value = framed d.body; spells = (d.body, d.spell, refl); takes = d.takes; kinded = refl; shallow = let lt = d.shallow in omega arith }
 value_takes room nested kinds.Array q e bytes rest below fits is =
     let d = below holders.Array q e bytes rest fits is in
-    record { tree = array (items_in d.fields); value = framed d.body; spells = (d.body, items_from_fields d.fields d.body d.spell, refl); takes = d.takes; kinded = refl; shallow = let lt = d.shallow in omega (arith, items_depth_is d.fields) }
+    record { tree = array (items_in d.fields); value = framed d.body; spells = (d.body, items_from_fields d.fields d.body d.spell, refl); takes =
+        d.takes; kinded = refl; shallow = let lt = d.shallow in omega (arith, items_depth_is d.fields) }
 value_takes room nested kinds.CodeScope q e bytes rest below fits is =
     let d = below holders.CodeScope q e bytes rest fits is in
-    record { tree = code_scope d.text_bytes d.fields; value = scoped d.text_bytes (framed d.body); spells = (d.body, d.spell, refl, d.text_fits); takes = d.takes; kinded = refl; shallow = let lt = d.shallow in omega arith }
+    record { tree = code_scope d.text_bytes d.fields; value = scoped d.text_bytes (framed d.body); spells = (d.body, d.spell, refl, d.text_fits);
+        takes = d.takes; kinded = refl; shallow = let lt = d.shallow in omega arith }
 
 -- ---- types
 
@@ -516,7 +544,8 @@ known_ok (Some f) q type is = cc
 
 pub type_takes : (q b : ℕ) (type : ElementType) → known q (type_at b) ≡ Ok type → b ≡ byte_told type
 type_takes q b type is =
-    in_table table.types b type (refl, (refl, (refl, (refl, (refl, (refl, (refl, (refl, (refl, (refl, (refl, (refl, (refl, (refl, (refl, (refl, (refl, (refl, (refl, (refl, (refl, tt))))))))))))))))))))) (known_ok (type_at b) q type is)
+    in_table table.types b type (refl, (refl, (refl, (refl, (refl, (refl,
+        (refl, (refl, (refl, (refl, (refl, (refl, (refl, (refl, (refl, (refl, (refl, (refl, (refl, (refl, (refl, tt))))))))))))))))))))) (known_ok (type_at b) q type is)
 
 -- a value of a type that is read
 record TakesTyped (room : ℕ) (type : ElementType) (bytes rest : List ℕ) : Type 0 where
@@ -524,7 +553,8 @@ record TakesTyped (room : ℕ) (type : ElementType) (bytes rest : List ℕ) : Ty
   pub is : type ≡ types.Kept kind
   pub value : TakesValue room kind bytes rest
 
-typed_takes : (room : ℕ) (nested : Nested) (type : ElementType) (q e : ℕ) (bytes rest : List ℕ) → NestedTakes room nested → IsBytes bytes → past_typed nested type q e bytes ≡ Ok rest → TakesTyped room type bytes rest
+typed_takes : (room : ℕ) (nested : Nested) (type : ElementType) (q e : ℕ) (bytes rest : List ℕ) → NestedTakes room nested → IsBytes bytes
+    → past_typed nested type q e bytes ≡ Ok rest → TakesTyped room type bytes rest
 typed_takes room nested types.Double q e bytes rest below fits is = absurd cc
 typed_takes room nested types.Decimal128 q e bytes rest below fits is = absurd cc
 typed_takes room nested (types.Kept kind) q e bytes rest below fits is = record { kind = kind; is = refl; value = value_takes room nested kind q e bytes rest below fits is }
@@ -555,7 +585,8 @@ within_ok : {A : Type 0} (name : List ℕ) (r : Result A Fault) (x : A) → with
 within_ok name (Ok y) x is = is
 within_ok name (Err f) x is = absurd cc
 
-pub element_takes : (room : ℕ) (nested : Nested) (place : Option ℕ) (e : ℕ) (bytes rest : List ℕ) → NestedTakes room nested → IsBytes bytes → past_element nested place e bytes ≡ Ok rest → TakesElement room bytes rest
+pub element_takes : (room : ℕ) (nested : Nested) (place : Option ℕ) (e : ℕ) (bytes rest : List ℕ) → NestedTakes room nested → IsBytes bytes
+    → past_element nested place e bytes ≡ Ok rest → TakesElement room bytes rest
 unfolding past_element
 element_takes room nested place e [] rest below fits is = absurd cc
 element_takes room nested place e (b ∷ bytes) rest below fits is =
@@ -577,7 +608,8 @@ pub record TakesElements (room : ℕ) (bytes : List ℕ) : Type 0 where
   pub spell : AreFields fields bytes
   pub shallow : fields_depth fields ≤ room
 
-pub elements_take : (room : ℕ) (nested : Nested) (place : Option ℕ) (n e : ℕ) (bytes : List ℕ) → NestedTakes room nested → IsBytes bytes → length bytes ≤ n → past_elements nested place n e bytes ≡ Ok tt → TakesElements room bytes
+pub elements_take : (room : ℕ) (nested : Nested) (place : Option ℕ) (n e : ℕ) (bytes : List ℕ) → NestedTakes room nested → IsBytes bytes
+    → length bytes ≤ n → past_elements nested place n e bytes ≡ Ok tt → TakesElements room bytes
 unfolding past_elements
 elements_take room nested place zero e [] below fits le is = record { fields = no_fields; spell = refl; shallow = omega arith }
 elements_take room nested place zero e (b ∷ bytes) below fits le is = absurd (omega arith)
@@ -589,7 +621,8 @@ elements_take room nested place (suc n) e (b ∷ bytes) below fits le is =
     let rec = elements_take room nested (option_map suc place) n e a.0 below r.takes.rest_fits (omega (arith, less)) a.2 in
     record { fields = field r.name r.tree rec.fields; spell = (r.value, a.0, r.named, r.spells, rec.spell, r.takes.parts); shallow = let x = r.shallow in let y = rec.shallow in omega arith }
 
-body_takes : (room : ℕ) (nested : Nested) (in_array : Bool) (e : ℕ) (bytes rest : List ℕ) → NestedTakes room nested → IsBytes bytes → past_body nested in_array e bytes ≡ Ok rest → TakesBody (suc room) bytes rest
+body_takes : (room : ℕ) (nested : Nested) (in_array : Bool) (e : ℕ) (bytes rest : List ℕ) → NestedTakes room nested → IsBytes bytes
+    → past_body nested in_array e bytes ≡ Ok rest → TakesBody (suc room) bytes rest
 body_takes room nested in_array e bytes rest below fits is =
     let f = bind_ok (past_frame false e bytes) _ rest is in
     let o = bind_ok (past_elements nested (start in_array) (length f.0.0) f.0.1 f.0.0) _ rest f.2 in
@@ -607,7 +640,8 @@ abbrev code_frame_of : List ℕ → ℕ → List ℕ → Result (List ℕ × ℕ
 code_frame_of a b c = Ok (a, b, c)
 
 code_frame_rest : (e n : ℕ) (bytes more : List ℕ) (f : List ℕ × ℕ × List ℕ) → IsBytes bytes → past_number ValueShort e bytes ≡ Ok (n, more)
-    → cond (ltb n 14 || ltb (length bytes) n) (fault BadScopeLength (e - length bytes)) (code_frame_of (take (n - 4) more) (e - length (drop (n - 4) more)) (drop (n - 4) more)) ≡ Ok f → TakesCodeFrame bytes f.0 f.2
+    → cond (ltb n 14 || ltb (length bytes) n) (fault BadScopeLength (e - length bytes))
+        (code_frame_of (take (n - 4) more) (e - length (drop (n - 4) more)) (drop (n - 4) more)) ≡ Ok f → TakesCodeFrame bytes f.0 f.2
 code_frame_rest e n bytes more f fits one is =
     let t = number_takes ValueShort e bytes n more fits one in
     let g = guard_ok (ltb n 14 || ltb (length bytes) n) _ (code_frame_of (take (n - 4) more) (e - length (drop (n - 4) more)) (drop (n - 4) more)) f is in
@@ -644,7 +678,9 @@ code_takes room nested q e bytes rest below fits is =
     let code = string_takes f.0.1 f.0.0 s.0 frame.parts_fit s.1 in
     let scope = below holders.Document q f.0.1 s.0 d.0 code.takes.rest_fits (within_ok (codes "$scope") (nested holders.Document q f.0.1 s.0) d.0 d.1) in
     let both_parts = Takes-then f.0.0 (string code.text_bytes) s.0 (framed scope.body) d.0 code.takes scope.takes in
-    let whole : f.0.0 ≡ string code.text_bytes ++ framed scope.body = both_parts.parts ∙ ap (λ (x : List ℕ). (string code.text_bytes ++ framed scope.body) ++ x) (scope_ends (e - length bytes) d.0 z.1) ∙ append-nil (string code.text_bytes ++ framed scope.body) in
+    let whole : f.0.0 ≡ string code.text_bytes ++ framed scope.body = both_parts.parts
+        ∙ ap (λ (x : List ℕ). (string code.text_bytes ++ framed scope.body) ++ x) (scope_ends (e - length bytes) d.0 z.1)
+        ∙ append-nil (string code.text_bytes ++ framed scope.body) in
     let made : TakesCode (suc room) bytes f.0.2 = record {
       text_bytes = code.text_bytes;
       fields = scope.fields;
@@ -656,7 +692,8 @@ code_takes room nested q e bytes rest below fits is =
     } in
     subst (TakesCode (suc room) bytes) (ok_is f.0.2 rest z.2) made
 
-holder_takes : (room : ℕ) (nested : Nested) (holder : Holder) (q e : ℕ) (bytes rest : List ℕ) → NestedTakes room nested → IsBytes bytes → past_holder nested room holder q e bytes ≡ Ok rest → TakesHolder holder (suc room) bytes rest
+holder_takes : (room : ℕ) (nested : Nested) (holder : Holder) (q e : ℕ) (bytes rest : List ℕ) → NestedTakes room nested → IsBytes bytes
+    → past_holder nested room holder q e bytes ≡ Ok rest → TakesHolder holder (suc room) bytes rest
 holder_takes room nested holders.Document q e bytes rest below fits is = body_takes room nested false e bytes rest below fits is
 holder_takes room nested holders.Array q e bytes rest below fits is = body_takes room nested true e bytes rest below fits is
 holder_takes zero nested holders.CodeScope q e bytes rest below fits is = absurd cc
@@ -675,7 +712,7 @@ unfolding past_document
 document_found e bytes fits is =
     let f = bind_ok (past_frame true e bytes) _ tt is in
     let r = frame_takes true e bytes f.0 fits f.1 in
-    let all = elements_take 199 (past_nested 199) None (length f.0.0) f.0.1 f.0.0 (nested_takes 199) r.body_fits (omega arith) f.2 in
+    let all = elements_take (most_levels - 1) (past_nested (most_levels - 1)) None (length f.0.0) f.0.1 f.0.0 (nested_takes (most_levels - 1)) r.body_fits (omega arith) f.2 in
     let whole : bytes ≡ framed f.0.0 = r.takes.parts ∙ ap (λ (x : List ℕ). framed f.0.0 ++ x) (r.whole refl) ∙ append-nil (framed f.0.0) in
     let same = fields_of-pairs_of all.fields in (
       pairs_of all.fields,

@@ -10,7 +10,8 @@ use Rattle.bd_raw.specs.declared.element.Holder.{Holder}
 use Rattle.bd_raw.specs.declared.element.Holder.TheVariants as holders
 use Rattle.bd_check.specs.ItemFault.{GivesItem, FailsAtItem}
 use Rattle.bd_raw.specs.Types.{type_at}
-use Rattle.bd_check.specs.FirstFault.{◌>>=◌, known, past_name, past_string, past_code_frame, within, label, fault, Nested, past_typed, past_element, past_body, past_code_scope, past_holder, past_nested}
+use Rattle.bd_check.specs.FirstFault.{◌>>=◌, known, past_name, past_string, past_code_frame, within, label, fault, Nested, past_typed, past_element, past_body}
+use Rattle.bd_check.specs.FirstFault.{past_code_scope, past_holder, past_nested}
 
 pub too_deep : (holder : Holder) (room q e : ℕ) (bytes : List ℕ) → room ≡ 0 → past_nested room holder q e bytes ≡ fault TooDeep q
 unfolding past_nested
@@ -60,8 +61,10 @@ pub scope_fails : (r : Stop) (nested : Nested) (q e : ℕ) (bytes parts : List �
     → FailsAtItem r (within (codes "$scope") (nested holders.Document q end scope)) → FailsAtItem r (past_code_scope nested q e bytes)
 scope_fails r nested q e bytes parts end rest scope one two h = rw (one, two) (falls r (within (codes "$scope") (nested holders.Document q end scope)) _ h)
 
-pub element_fails : (r : Stop) (nested : Nested) (place : Option ℕ) (e : ℕ) (bytes : List ℕ) (type : ElementType) (more name rest : List ℕ) → 0 < length bytes → known (e - length bytes) (type_at (get_or bytes 0 0)) ≡ Ok type
-    → drop 1 bytes ≡ more → past_name NameUnended e more ≡ Ok (name, rest) → FailsAtItem r (within (label place name) (past_typed nested type (e - length bytes) e rest)) → FailsAtItem r (past_element nested place e bytes)
+pub element_fails : (r : Stop) (nested : Nested) (place : Option ℕ) (e : ℕ) (bytes : List ℕ) (type : ElementType) (more name rest : List ℕ)
+    → 0 < length bytes → known (e - length bytes) (type_at (get_or bytes 0 0)) ≡ Ok type
+    → drop 1 bytes ≡ more → past_name NameUnended e more ≡ Ok (name, rest)
+        → FailsAtItem r (within (label place name) (past_typed nested type (e - length bytes) e rest)) → FailsAtItem r (past_element nested place e bytes)
 unfolding past_element
 element_fails r nested place e [] type more name rest lt one cut two fails = absurd (omega arith)
 element_fails stops.NoMemory nested place e (first ∷ bytes) type more name rest lt one cut two fails = tt

@@ -1,6 +1,7 @@
 -- Documents one after the other with nothing between, as mongodump writes a collection.
 use Rattle.std.specs.Prelude.{◌≡◌, ◌≤◌, ℕ, List, [], ◌∷◌, ◌++◌, length, take, Option, Some, None, Result, Ok, Err, nat_lt, ◌||◌, if◌then◌else◌}
 use Rattle.std.specs.Int.{w32, from_le_bytes}
+use Rattle.bd_value.specs.Limits.{longest_document, longest_input}
 use Rattle.bd_value.specs.Tree.{Doc}
 use Rattle.bd_raw.specs.Spelling.{IsDocument}
 use Rattle.bd_check.specs.Fault.{Fault}
@@ -16,7 +17,7 @@ length_told bytes = from_le_bytes w32 (take 4 bytes)
 abbrev pub frame_length : List ℕ → Result (Option ℕ) FaultKind
 frame_length [] = Ok None
 frame_length (b ∷ bytes) =
-    if nat_lt (length (b ∷ bytes)) 4 then Err ShortLength else (if nat_lt (length_told (b ∷ bytes)) 5 || nat_lt 16793600 (length_told (b ∷ bytes)) || nat_lt (length (b ∷ bytes)) (length_told (b ∷ bytes)) then Err BadLength else Ok (Some (length_told (b ∷ bytes))))
+    if nat_lt (length (b ∷ bytes)) 4 then Err ShortLength else (if nat_lt (length_told (b ∷ bytes)) 5 || nat_lt longest_document (length_told (b ∷ bytes)) || nat_lt (length (b ∷ bytes)) (length_told (b ∷ bytes)) then Err BadLength else Ok (Some (length_told (b ∷ bytes))))
 
 -- the bytes are spellings of the documents
 abbrev pub AreJoined : List Doc → List ℕ → Type 0
@@ -27,7 +28,7 @@ AreJoined (d ∷ ds) bytes =
 
 -- the bytes are a dump of the documents
 abbrev pub IsDump : List Doc → List ℕ → Type 0
-IsDump ds bytes = AreJoined ds bytes × (length bytes ≤ 4294967295)
+IsDump ds bytes = AreJoined ds bytes × (length bytes ≤ longest_input)
 
 abbrev pub framed_fault : ℕ → List ℕ → Result (Option ℕ) FaultKind → Option Fault
 framed_fault base bytes (Ok None) = None

@@ -6,6 +6,7 @@ use Rattle.std.specs.List.{position}
 use Rattle.std.specs.Str.{is_utf8}
 use Rattle.std.specs.Str.Lossy.{utf8_valid_len}
 use Rattle.std.specs.Int.{w32, from_le_bytes}
+use Rattle.bd_value.specs.Limits.{longest_document, most_levels}
 use Rattle.bd_value.specs.declared.kind.Kind.{Kind}
 use Rattle.bd_value.specs.declared.kind.Kind.TheVariants as kinds
 use Rattle.bd_check.specs.Fault.{Fault, longer}
@@ -61,7 +62,7 @@ past_string e bytes = do
 unfoldable pub past_frame : Bool → ℕ → List ℕ → Result (List ℕ × ℕ × List ℕ) Fault
 past_frame top e bytes = do
   n ← past_number (if top then ShortLength else ValueShort) e bytes
-  if nat_lt n.0 5 || nat_lt 16793600 n.0 || nat_lt (length bytes) n.0 || (top && not (n.0 == length bytes)) then fault BadLength (e - length bytes) else (past_zero NoTerminator e (drop (n.0 - 5) n.1) >>= λ rest. Ok (take (n.0 - 5) n.1, e - length (drop (n.0 - 5) n.1), rest))
+  if nat_lt n.0 5 || nat_lt longest_document n.0 || nat_lt (length bytes) n.0 || (top && not (n.0 == length bytes)) then fault BadLength (e - length bytes) else (past_zero NoTerminator e (drop (n.0 - 5) n.1) >>= λ rest. Ok (take (n.0 - 5) n.1, e - length (drop (n.0 - 5) n.1), rest))
 
 -- so many bytes
 abbrev pub past_fixed : ℕ → ℕ → List ℕ → Result (List ℕ) Fault
@@ -199,7 +200,7 @@ past_nested (suc room) = λ holder q e bytes. past_holder (past_nested room) roo
 unfoldable pub past_document : ℕ → List ℕ → Result (Unit {0}) Fault
 past_document e bytes = do
   f ← past_frame true e bytes
-  past_elements (past_nested 199) None (length f.0) f.1 f.0
+  past_elements (past_nested (most_levels - 1)) None (length f.0) f.1 f.0
 
 abbrev pub fault_in : Result (Unit {0}) Fault → Option Fault
 fault_in (Ok u) = None

@@ -1,6 +1,7 @@
 //! The first fault of a document's bytes, from left to right, without a tree.
 
 ghost use Rattle.std.specs.Prelude.{◌≡◌, ◌≤◌, ◌<◌, ◌+◌, length, IfOk, IfSome, option_map, Option, Some, suc};
+ghost use Rattle.bd_value.specs.Limits.{longest_input};
 ghost use Rattle.bd_check.specs.ItemFault.{GivesItem};
 ghost use Rattle.bd_check.specs.FirstFault.{past_value, past_typed, past_element, past_elements, past_body, past_code_scope, past_nested, past_document, start, first_fault};
 ghost use Rattle.bd_check.specs.AnsweredFault.{FindsFault};
@@ -14,7 +15,7 @@ use crate::parts::{
     binary, boolean, code_frame, fixed, frame, known_type, name, regex, scope_end, string,
 };
 use bd_raw::{ElementType, Holder, RawDoc};
-use bd_value::Kind;
+use bd_value::{Kind, MOST_LEVELS};
 use std::alloc::Global;
 
 /// The place of the next element: an element of a document has none.
@@ -185,7 +186,7 @@ fn document(alloc: Global, e: u64, bytes: &[u8]) -> Result<(), Stop>
     ensures { GivesItem (λ x. tt) result (past_document e bytes.now) }
 {
     let (body, end, _) = frame(alloc, true, e, bytes)?;
-    elements(alloc, 199, false, end, body)
+    elements(alloc, MOST_LEVELS as u32 - 1, false, end, body)
 }
 
 /// Checks that all of the bytes are one document, which begins at the offset `base` of a dump and has that number in
@@ -200,7 +201,7 @@ pub fn check_document<'a>(
     base: u64,
     number: u32,
 ) -> Result<RawDoc<'a>, Fault>
-    requires { base + length bytes.now ≤ 4294967295 }
+    requires { base + length bytes.now ≤ longest_input }
     ensures spelled { IfOk result (λ d. IsDocument (pairs_in (stands d.sound)) bytes.now) }
     ensures kept { IfOk result (λ d. d.bytes.now ≡ bytes.now) }
     ensures first { FindsFault number (first_fault base bytes.now) result }

@@ -12,6 +12,7 @@ ghost use Rattle.bd_raw.specs.Types.{type_at};
 
 use crate::fault::{FaultKind, Stop, fault_at};
 use bd_raw::{ElementType, element_type, raw_parts as raw};
+use bd_value::LONGEST_DOCUMENT;
 use std::alloc::Global;
 
 /// A number of four bytes, and the bytes after it.
@@ -163,7 +164,7 @@ pub fn frame(alloc: Global, top: bool, e: u64, bytes: &[u8]) -> Result<(&[u8], u
     };
     let (n, rest) = number(alloc, short, e, bytes)?;
     let n = n as usize;
-    if n < 5 || n > 16_793_600 || n > bytes.len() || (top && n != bytes.len()) {
+    if n < 5 || n > LONGEST_DOCUMENT || n > bytes.len() || (top && n != bytes.len()) {
         return Err(fault_at(alloc, FaultKind::BadLength, e - bytes.len() as u64));
     }
     let (body, after) = rest.split_at(n - 5);

@@ -1,6 +1,7 @@
 //! Documents from the bytes of a dump.
 
 ghost use Rattle.std.specs.Prelude.{◌≡◌, ◌≤◌, ◌+◌, length, drop, slice_range, IfOk, IfErr, IfSome, MatchResult, MatchOption, Ok, Err, Some, None, [], option_map};
+ghost use Rattle.bd_value.specs.Limits.{longest_input};
 ghost use Rattle.bd_value.specs.Tree.{Doc};
 ghost use Rattle.bd_value.specs.View.{pairs};
 ghost use Rattle.bd_raw.specs.Spelling.{IsDocument};
@@ -12,7 +13,7 @@ ghost use Rattle.bd_check.specs.DocumentAt.{IsNext};
 use crate::check::check_document;
 use crate::fault::{Fault, FaultKind, want_of_memory};
 use bd_raw::RawDoc;
-use bd_value::Document;
+use bd_value::{Document, LONGEST_DOCUMENT};
 use std::alloc::Global;
 
 /// Where a document stands in a dump.
@@ -29,7 +30,7 @@ pub struct Frame {
 /// The fault is the first from left to right, or `FaultKind::NoMemory`, which has no place: BSON 1.1, `document`, with
 /// at most 16,793,600 bytes and 200 levels.
 pub fn read_document(alloc: Global, bytes: &[u8], base: u64, number: u32) -> Result<Document, Fault>
-    requires { base + length bytes.now ≤ 4294967295 }
+    requires { base + length bytes.now ≤ longest_input }
     // What is read is what the bytes spell.
     ensures found { IfOk result (λ d. IsDocument (pairs d) bytes.now) }
     // What the bytes spell is read, unless memory runs out.
@@ -68,7 +69,7 @@ pub fn next_frame(
         return Err(frame_fault(alloc, FaultKind::ShortLength, at, number));
     }
     let length = u32::from_le_bytes([rest[0], rest[1], rest[2], rest[3]]) as usize;
-    if length < 5 || length > 16_793_600 || length > rest.len() {
+    if length < 5 || length > LONGEST_DOCUMENT || length > rest.len() {
         return Err(frame_fault(alloc, FaultKind::BadLength, at, number));
     }
     Ok(Some(Frame { start: at, length }))
@@ -85,7 +86,7 @@ pub fn next_document<'a>(
     number: u32,
 ) -> Result<Option<(RawDoc<'a>, usize)>, Fault>
     requires inside { at ≤ length bytes.now }
-    requires short { length bytes.now ≤ 4294967295 }
+    requires short { length bytes.now ≤ longest_input }
     ensures next { IfOk result (IsNext bytes.now at) }
     ensures kept { IfOk result (λ o. IfSome o (λ p. p.0.bytes.now ≡ slice_range bytes.now at p.1)) }
     ensures fault { IfErr result (TellsFault number (frame_fault at (drop at bytes.now))) }

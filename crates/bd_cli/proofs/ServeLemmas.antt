@@ -1,6 +1,7 @@
 -- What was served in memory is what the machine serves.
 use Rattle.std.proofs.Common.{◌≡◌, ◌≤◌, ◌⊎◌, ℕ, List, Option, ap, arith, inl, inr, length, refl, subst}
 use Rattle.std.specs.Prelude.{codes}
+use Rattle.bd_value.specs.Limits.{longest_input}
 use Rattle.bd_answer.specs.Session.{State}
 use Rattle.bd_answer.specs.SessionLaws.{new_state}
 use Rattle.bd_bson.specs.Collection.{IsUnread, bytes_of, documents}
@@ -45,7 +46,7 @@ to_a_fault state gives dump old new out err s t fault status is_new is_over stop
 
 -- an input that is no dump
 pub fault_told : {C : Type 0} (state : C → Reader) (gives : C → Option (List ℕ) → C → Type 0) (bytes : List ℕ) (fault : declared.Fault) (old : C)
-    (out err : Over Writer) (status : Status) → length bytes ≤ 4294967295 → IsUnread bytes fault → ¬ (fault.kind ≡ kinds.NoMemory) → out.after ≡ out.before
+    (out err : Over Writer) (status : Status) → length bytes ≤ longest_input → IsUnread bytes fault → ¬ (fault.kind ≡ kinds.NoMemory) → out.after ≡ out.before
     → TellsMessage err (error_line (fault_text fault.document (fault_view fault))) Failed status ⊎ TellsMessage err (error_line (codes "no memory")) Failed status
     → ServesNothing old old out err status (codes "no memory")
     ⊎ IsRefusedOr (ServesNothing old old out err status) (ReadsDump bytes) (λ ds.

@@ -1,5 +1,6 @@
 -- What a run of `serve` did: the replies to the commands over a dump, or why there are none.
 use Rattle.std.specs.Prelude.{◌≡◌, ◌⊎◌, ℕ, List, codes, Option, Result}
+use Rattle.bd_value.specs.Limits.{longest_input, most_reads}
 use Rattle.bd_value.specs.Tree.{Doc}
 use Rattle.bd_answer.specs.Session.{State}
 use Rattle.bd_answer.specs.SessionLaws.{new_state}
@@ -19,7 +20,7 @@ use Rattle.bd_files.specs.declared.status.Status.TheVariants.{Done, Failed}
 
 -- as much of the commands is read as of an input
 abbrev pub command_limits : Limits
-command_limits = record { bytes = 4294967295; turns = 4294967296 }
+command_limits = record { bytes = longest_input; turns = most_reads }
 
 -- why the commands were not answered to their end
 abbrev pub serve_words : ServeFault → List ℕ

@@ -1,6 +1,7 @@
 //! `serve`: a session over an input, with a reply to each command.
 
 ghost use Rattle.std.specs.Prelude.{◌≡◌, ◌≤◌, ◌⊎◌, codes, length};
+ghost use Rattle.bd_value.specs.Limits.{longest_input};
 ghost use Rattle.bd_bson.specs.Collection.{bytes_of, documents};
 ghost use Rattle.bd_find.specs.Chain.{IsRefusedOr};
 ghost use Rattle.bd_find.specs.Find.{ReadsDump};
@@ -44,7 +45,7 @@ fn serve_bytes<C: Input, O: Output, E: Output>(
     out: &mut O,
     err: &mut E,
 ) -> Status
-    requires { length bytes.items ≤ 4294967295 }
+    requires { length bytes.items ≤ longest_input }
     ensures { ServesNothing commands.old commands.new (over O.state out.old out.new) (over E.state err.old err.new) result (codes "no memory")
         ⊎ IsRefusedOr (ServesNothing commands.old commands.new (over O.state out.old out.new) (over E.state err.old err.new) result)
         (ReadsDump bytes.items) (λ ds. ServesToTheEnd C.state C.read_gives bytes.items ds commands.old commands.new

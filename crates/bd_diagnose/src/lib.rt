@@ -15,12 +15,10 @@
 //! - `findings`: what was found in a part of a text, and what is sought in the rest.
 //! - `member_name`, `wrapper_faults`: what a name says, and what is wrong with an object that begins with a wrapper's.
 //! - `skip`, `skip_string`: the tokens of JSON, passed one by one.
-//! - `limits`: how deep a text may nest.
 #![tactic(auto)]
 
 mod findings;
 mod json_fault;
-mod limits;
 mod member_name;
 mod second_pass;
 mod skip;
@@ -29,5 +27,4 @@ mod walk;
 mod wrapper_faults;
 
 pub use json_fault::{JsonFault, JsonFaultKind};
-pub use limits::{BRACKETS, LEVELS};
 pub use second_pass::diagnose;

@@ -9,9 +9,9 @@ ghost use Rattle.bd_diagnose.specs.declared.json_fault.JsonFaultKind.TheVariants
 
 use crate::findings::{Form, Target};
 use crate::json_fault::{JsonFault, JsonFaultKind};
-use crate::limits::{BRACKETS, LEVELS};
 use crate::skip::{Stop, skip_white};
 use crate::walk;
+use bd_value::{MOST_BRACKETS, MOST_LEVELS};
 use std::alloc::Global;
 
 /// The text as UTF-8, as JSON, as a tree and as a document.
@@ -22,7 +22,7 @@ fn check(alloc: Global, text: &[u8]) -> Result<(), Stop>
     if let Err(error) = str::from_utf8(text) {
         return Err(Stop::syntax(&text[error.valid_up_to()..]));
     }
-    let walked = walk::value(alloc, text, BRACKETS, Target::Tree(LEVELS))?;
+    let walked = walk::value(alloc, text, MOST_BRACKETS, Target::Tree(MOST_LEVELS))?;
     let after = skip_white(walked.rest);
     if !after.is_empty() {
         return Err(Stop::at(after, JsonFaultKind::TrailingText));

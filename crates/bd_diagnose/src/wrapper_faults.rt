@@ -1,6 +1,6 @@
 //! What is wrong with an object that begins with the name of a wrapper.
 use crate::json_fault::JsonFaultKind;
-use crate::limits::BRACKETS;
+use bd_value::MOST_BRACKETS;
 use bd_wrapper::{Trouble, Wrapper, is_whole_number, number_of, only, pair, unwrap_single};
 use json::{Error, Reader, Scratch, Value};
 use std::alloc::Global;
@@ -87,7 +87,7 @@ pub(crate) fn check_wrapper(
     let text = str::from_utf8(object).map_err(|_| JsonFaultKind::Syntax)?;
     let mut scratch = Scratch::new(alloc);
     let mut reader = Reader::new(text, &mut scratch).map_err(|_| JsonFaultKind::NoMemory)?;
-    match Value::read(alloc, &mut reader, BRACKETS) {
+    match Value::read(alloc, &mut reader, MOST_BRACKETS) {
         Ok(Value::Object(members)) => check_members(alloc, wrapper, members.as_slice()),
         Ok(_) => Err(JsonFaultKind::Syntax),
         Err(Error::OutOfMemory) => Err(JsonFaultKind::NoMemory),

@@ -1,5 +1,6 @@
 -- What is read of a text fits its types, and its texts and names are UTF-8.
-use Rattle.std.proofs.Common.{◌≡◌, ◌<◌, ℕ, zero, suc, ◌+◌, ◌*◌, ◌-◌, ◌^◌, ℤ, pos, negsuc, List, [], ◌∷◌, Bool, true, false, cond, Option, Some, None, Result, Ok, Err, refl, sym, ap, ◌∙◌, subst, arith, ltb-true, leb-true}
+use Rattle.std.proofs.Common.{◌≡◌, ◌<◌, ℕ, zero, suc, ◌+◌, ◌*◌, ◌-◌, ◌^◌, ℤ, pos, negsuc, List, [], ◌∷◌, Bool, true, false, cond, Option, Some, None, Result}
+use Rattle.std.proofs.Common.{Ok, Err, refl, sym, ap, ◌∙◌, subst, arith, ltb-true, leb-true}
 use Rattle.std.specs.Prelude.{IsUtf8, FitsSigned, codes, nat_lt, nat_le, option_map, option_and_then, ◌&&◌}
 use Rattle.std.specs.Int.{w32, w64}
 use Rattle.std.specs.Str.{bytes_eq}
@@ -7,6 +8,7 @@ use Rattle.base64.specs.Engines.{standard}
 use Rattle.base64.specs.GeneralPurpose.{decode_of}
 use Rattle.hex.specs.Hex.{decode_sized, hex_digit_value}
 use Rattle.std.proofs.lemmas.Bool.{and_parts}
+use Rattle.bd_value.specs.Limits.{most_levels}
 use Rattle.hex.proofs.HexLemmas.{decode_of-ok, decode_sized-ok, decode_sized-twice}
 use Rattle.json.specs.Json as json
 use Rattle.json.specs.Json.{Json}
@@ -16,10 +18,12 @@ use Rattle.bd_value.specs.Tree as trees
 use Rattle.bd_value.specs.Tree.{Scalar, Tree, leaf, doc, array, code_scope, Items, Fields, field, no_fields, Doc, fields_of, pairs_of, fields_of-pairs_of}
 use Rattle.bd_value.specs.Zeros.{has_zero}
 use Rattle.bd_wrapper.specs.Whole.{fits_bits, if_fits, whole, whole_64, whole_32}
-use Rattle.bd_wrapper.specs.Wrappers.{wrapper_of, single, ok_of, both, pair_members, only_member, only, pair, id_of, data_in, digits_in, subtype_in, number_in, if_word, word_in, if_no_zero, name_in, both_in, one, if_true, is_true, long_in}
+use Rattle.bd_wrapper.specs.Wrappers.{wrapper_of, single, ok_of, both, pair_members, only_member, only, pair, id_of, data_in, digits_in, subtype_in, number_in}
+use Rattle.bd_wrapper.specs.Wrappers.{if_word, word_in, if_no_zero, name_in, both_in, one, if_true, is_true, long_in}
 use Rattle.bd_wrapper.specs.declared.wrapper.Wrapper.{Wrapper}
 use Rattle.bd_wrapper.specs.declared.wrapper.Wrapper.TheVariants as kinds
-use Rattle.bd_extjson.specs.Meaning.{bare_number, nested, add_item, add_field, AfterName, nothing, one_more, several, with_scope, two, wrapper_tree, either, after_one, wrap, wrap_items, wrap_object, after, wrap_fields}
+use Rattle.bd_extjson.specs.Meaning.{bare_number, nested, add_item, add_field, AfterName, nothing, one_more, several, with_scope, two, wrapper_tree, either}
+use Rattle.bd_extjson.specs.Meaning.{after_one, wrap, wrap_items, wrap_object, after, wrap_fields}
 use Rattle.bd_extjson.specs.TextDocument.{ReadsAs, document}
 use Rattle.bd_extjson.specs.TextDocument as reads
 use Rattle.bd_extjson.proofs.Base64Lemmas.{decoded_are_bytes}
@@ -134,7 +138,8 @@ id_fits j is = then (List ℕ) (List ℕ) IsUtf8 IsId (λ s. ok_of (decode_sized
         (omega (arith, size, all.2), all.3)
 
 data_fits : (j : Json) → IsTextJson j → Holds (List ℕ) AreBytes (data_in j)
-data_fits j is = then (List ℕ) (List ℕ) IsUtf8 AreBytes (λ s. ok_of (decode_of standard s)) (λ s p. ok_holds _ _ AreBytes (decode_of standard s) (λ bytes e. decoded_are_bytes s bytes p e)) (as_str j) (string_in j is)
+data_fits j is = then (List ℕ) (List ℕ) IsUtf8 AreBytes (λ s. ok_of (decode_of standard s))
+    (λ s p. ok_holds _ _ AreBytes (decode_of standard s) (λ bytes e. decoded_are_bytes s bytes p e)) (as_str j) (string_in j is)
 
 digit_fits : (c : ℕ) → Holds ℕ (λ v. v < 16) (hex_digit_value c)
 digit_fits c = go (nat_le 65 c && nat_le c 70) (nat_le 97 c && nat_le c 102) (nat_le 48 c && nat_le c 57) refl refl refl
@@ -193,10 +198,12 @@ if_true_fits : (b : Bool) (s : Scalar) → IsSoundScalar s → Holds Scalar IsSo
 if_true_fits true s h = h
 if_true_fits false s h = tt
 
-pair_holds : (A B : Type 0) (P : A → Type 0) (Q : B → Type 0) (f : Json → Option A) (g : Json → Option B) → ((j : Json) → IsTextJson j → Holds A P (f j)) → ((j : Json) → IsTextJson j → Holds B Q (g j))
+pair_holds : (A B : Type 0) (P : A → Type 0) (Q : B → Type 0) (f : Json → Option A) (g : Json → Option B)
+    → ((j : Json) → IsTextJson j → Holds A P (f j)) → ((j : Json) → IsTextJson j → Holds B Q (g j))
     → (a b : List ℕ) (j : Json) → IsTextJson j → Holds (A × B) (λ x. P x.0 × Q x.1) (option_and_then (both_in f g) (pair a b j))
 pair_holds A B P Q f g p q a b j is =
-    then (Json × Json) (A × B) (λ x. IsTextJson x.0 × IsTextJson x.1) (λ x. P x.0 × Q x.1) (both_in f g) (λ x h. both_hold A B P Q (f x.0) (g x.1) (p x.0 h.0) (q x.1 h.1)) (pair a b j) (pair_text a b j is)
+    then (Json × Json) (A × B) (λ x. IsTextJson x.0 × IsTextJson x.1) (λ x. P x.0 × Q x.1) (both_in f g)
+        (λ x h. both_hold A B P Q (f x.0) (g x.1) (p x.0 h.0) (q x.1 h.1)) (pair a b j) (pair_text a b j is)
 
 long_fits : (o : Option Json) → Holds ℤ (FitsSigned w64) (long_in o)
 long_fits None = tt
@@ -207,24 +214,30 @@ long_fits (Some j) = go (as_str j)
     go (Some s) = whole_64_fits s
 
 single_fits : (w : Wrapper) (j : Json) → IsTextJson j → Holds Scalar IsSoundScalar (single w j)
-single_fits kinds.NumberInt j is = mapped ℤ Scalar (FitsSigned w32) IsSoundScalar (λ z. trees.int32 z) (λ z h. (h, tt)) (option_and_then whole_32 (as_str j)) (then (List ℕ) ℤ IsUtf8 (FitsSigned w32) whole_32 (λ s p. whole_32_fits s) (as_str j) (string_in j is))
-single_fits kinds.NumberLong j is = mapped ℤ Scalar (FitsSigned w64) IsSoundScalar (λ z. trees.int64 z) (λ z h. (h, tt)) (option_and_then whole_64 (as_str j)) (then (List ℕ) ℤ IsUtf8 (FitsSigned w64) whole_64 (λ s p. whole_64_fits s) (as_str j) (string_in j is))
+single_fits kinds.NumberInt j is = mapped ℤ Scalar (FitsSigned w32) IsSoundScalar (λ z. trees.int32 z) (λ z h. (h, tt))
+    (option_and_then whole_32 (as_str j)) (then (List ℕ) ℤ IsUtf8 (FitsSigned w32) whole_32 (λ s p. whole_32_fits s) (as_str j) (string_in j is))
+single_fits kinds.NumberLong j is = mapped ℤ Scalar (FitsSigned w64) IsSoundScalar (λ z. trees.int64 z) (λ z h. (h, tt))
+    (option_and_then whole_64 (as_str j)) (then (List ℕ) ℤ IsUtf8 (FitsSigned w64) whole_64 (λ s p. whole_64_fits s) (as_str j) (string_in j is))
 single_fits kinds.NumberDouble j is = tt
 single_fits kinds.NumberDecimal j is = tt
 single_fits kinds.Oid j is = mapped (List ℕ) Scalar IsId IsSoundScalar (λ b. trees.object_id b) (λ b h. (h, tt)) (id_of j) (id_fits j is)
 single_fits kinds.Symbol j is = mapped (List ℕ) Scalar IsUtf8 IsSoundScalar (λ s. trees.symbol s) (λ s h. (tt, h)) (as_str j) (string_in j is)
 single_fits kinds.Binary j is = mapped (List ℕ × ℕ) Scalar (λ x. AreBytes x.0 × (x.1 < 256)) IsSoundScalar (λ (p : List ℕ × ℕ). trees.binary p.1 p.0) (λ x h. ((h.1, h.0), tt))
-    (option_and_then (both_in data_in subtype_in) (pair (codes "base64") (codes "subType") j)) (pair_holds (List ℕ) ℕ AreBytes (λ v. v < 256) data_in subtype_in data_fits subtype_fits (codes "base64") (codes "subType") j is)
+    (option_and_then (both_in data_in subtype_in) (pair (codes "base64") (codes "subType") j))
+        (pair_holds (List ℕ) ℕ AreBytes (λ v. v < 256) data_in subtype_in data_fits subtype_fits (codes "base64") (codes "subType") j is)
 single_fits kinds.Uuid j is = tt
 single_fits kinds.Code j is = mapped (List ℕ) Scalar IsUtf8 IsSoundScalar (λ s. trees.code s) (λ s h. (tt, h)) (as_str j) (string_in j is)
 single_fits kinds.Scope j is = tt
 single_fits kinds.Timestamp j is = mapped (ℕ × ℕ) Scalar (λ x. (x.0 < 2 ^ 32) × (x.1 < 2 ^ 32)) IsSoundScalar (λ (p : ℕ × ℕ). trees.timestamp p.0 p.1) (λ x h. (h, tt))
-    (option_and_then (both_in word_in word_in) (pair (codes "t") (codes "i") j)) (pair_holds ℕ ℕ (λ n. n < 2 ^ 32) (λ n. n < 2 ^ 32) word_in word_in (λ i p. word_fits i) (λ i p. word_fits i) (codes "t") (codes "i") j is)
+    (option_and_then (both_in word_in word_in) (pair (codes "t") (codes "i") j))
+        (pair_holds ℕ ℕ (λ n. n < 2 ^ 32) (λ n. n < 2 ^ 32) word_in word_in (λ i p. word_fits i) (λ i p. word_fits i) (codes "t") (codes "i") j is)
 single_fits kinds.RegularExpression j is = mapped (List ℕ × List ℕ) Scalar (λ x. IsUtf8 x.0 × IsUtf8 x.1) IsSoundScalar (λ (p : List ℕ × List ℕ). trees.regex p.0 p.1) (λ x h. (tt, h))
-    (option_and_then (both_in name_in name_in) (pair (codes "pattern") (codes "options") j)) (pair_holds (List ℕ) (List ℕ) IsUtf8 IsUtf8 name_in name_in name_text name_text (codes "pattern") (codes "options") j is)
+    (option_and_then (both_in name_in name_in) (pair (codes "pattern") (codes "options") j))
+        (pair_holds (List ℕ) (List ℕ) IsUtf8 IsUtf8 name_in name_in name_text name_text (codes "pattern") (codes "options") j is)
 single_fits kinds.DbPointer j is = mapped (List ℕ × List ℕ) Scalar (λ x. IsUtf8 x.0 × IsId x.1) IsSoundScalar (λ (p : List ℕ × List ℕ). trees.db_pointer p.0 p.1) (λ x h. (h.1, h.0))
     (option_and_then (both_in as_str (λ i. option_and_then id_of (only (codes "$oid") i))) (pair (codes "$ref") (codes "$id") j))
-    (pair_holds (List ℕ) (List ℕ) IsUtf8 IsId as_str (λ i. option_and_then id_of (only (codes "$oid") i)) string_in (λ i p. then Json (List ℕ) IsTextJson IsId id_of id_fits (only (codes "$oid") i) (only_text (codes "$oid") i p)) (codes "$ref") (codes "$id") j is)
+    (pair_holds (List ℕ) (List ℕ) IsUtf8 IsId as_str (λ i. option_and_then id_of (only (codes "$oid") i)) string_in
+        (λ i p. then Json (List ℕ) IsTextJson IsId id_of id_fits (only (codes "$oid") i) (only_text (codes "$oid") i p)) (codes "$ref") (codes "$id") j is)
 single_fits kinds.Date j is = mapped ℤ Scalar (FitsSigned w64) IsSoundScalar (λ z. trees.date z) (λ z h. (h, tt)) (long_in (only (codes "$numberLong") j)) (long_fits (only (codes "$numberLong") j))
 single_fits kinds.MinKey j is = if_true_fits (one j) trees.min_key (tt, tt)
 single_fits kinds.MaxKey j is = if_true_fits (one j) trees.max_key (tt, tt)
@@ -280,7 +293,8 @@ scope_sound (Some s) (Some (doc fs)) p q = (q.0, (p, q.1))
 scope_sound (Some s) (Some (array ts)) p q = tt
 scope_sound (Some s) (Some (code_scope c fs)) p q = tt
 
-two_sound : (w : Wrapper) (j : Json) (t : Option Tree) (v : Wrapper) (i : Json) (u : Option Tree) → IsTextJson j → Holds Tree IsSound t → IsTextJson i → Holds Tree IsSound u → Holds Tree IsSound (two w j t v i u)
+two_sound : (w : Wrapper) (j : Json) (t : Option Tree) (v : Wrapper) (i : Json) (u : Option Tree) → IsTextJson j → Holds Tree IsSound t
+    → IsTextJson i → Holds Tree IsSound u → Holds Tree IsSound (two w j t v i u)
 two_sound kinds.Code j t kinds.Scope i u is p are q = scope_sound (as_str j) u (string_in j is) q
 two_sound kinds.Scope j t kinds.Code i u is p are q = scope_sound (as_str i) t (string_in i are) p
 two_sound _ j t _ i u is p are q = tt
@@ -291,7 +305,8 @@ wrapped_sound room w j t (one_more None i u) is p q = tt
 wrapped_sound room w j t (one_more (Some v) i u) is p q = nest Tree IsSound room (two w j t v i u) (two_sound w j t v i u is p q.0 q.1)
 wrapped_sound room w j t several is p q = tt
 
-either_sound : (room : ℕ) (o : Option Wrapper) (j : Json) (t : Option Tree) (b : AfterName) (d : Option Tree) → IsTextJson j → Holds Tree IsSound t → IsSoundAfter b → Holds Tree IsSound d → Holds Tree IsSound (either room o j t b d)
+either_sound : (room : ℕ) (o : Option Wrapper) (j : Json) (t : Option Tree) (b : AfterName) (d : Option Tree) → IsTextJson j → Holds Tree IsSound t
+    → IsSoundAfter b → Holds Tree IsSound d → Holds Tree IsSound (either room o j t b d)
 either_sound room None j t b d is p q r = r
 either_sound room (Some w) j t b d is p q r = wrapped_sound room w j t b is p q
 
@@ -305,7 +320,8 @@ mutual
   wrap_sound room (json.boolean b) is = (tt, tt)
   wrap_sound room (json.number s) is = number_sound (whole_64 s) (whole_64_fits s)
   wrap_sound room (json.string s) is = (tt, is)
-  wrap_sound room (json.array js) is = nest Tree IsSound room (option_map array (wrap_items (room - 1) js)) (mapped Items Tree AreSoundItems IsSound array (λ ts h. h) (wrap_items (room - 1) js) (items_sound (room - 1) js is))
+  wrap_sound room (json.array js) is = nest Tree IsSound room (option_map array (wrap_items (room - 1) js))
+      (mapped Items Tree AreSoundItems IsSound array (λ ts h. h) (wrap_items (room - 1) js) (items_sound (room - 1) js is))
   wrap_sound room (json.object ms) is = object_sound room ms is
 
   items_sound : (room : ℕ) (js : json.Items) → AreTextItems js → Holds Items AreSoundItems (wrap_items room js)
@@ -344,6 +360,6 @@ document_sound (Some (code_scope s fs)) d p e = absurd cc
 pub reads_sound : (text : List ℕ) (d : Doc) → ReadsAs text d → IsSound (doc (fields_of d))
 reads_sound text d = go (reads.json text) (json_texts text)
   where
-    go : (o : Option Json) → IsTextJsonIfAny o → option_map pairs_of (option_and_then document (option_and_then (wrap 200) o)) ≡ Some d → IsSound (doc (fields_of d))
+    go : (o : Option Json) → IsTextJsonIfAny o → option_map pairs_of (option_and_then document (option_and_then (wrap most_levels) o)) ≡ Some d → IsSound (doc (fields_of d))
     go None is e = absurd cc
-    go (Some j) is e = document_sound (wrap 200 j) d (wrap_sound 200 j is) e
+    go (Some j) is e = document_sound (wrap most_levels j) d (wrap_sound most_levels j is) e

@@ -12,7 +12,8 @@ use Rattle.bd_value.specs.Tree.{Tree}
 use Rattle.bd_text.specs.Text.{escape_byte, escaped, quoted, text}
 use Rattle.bd_text.proofs.EscapeLemmas.{escaped-digits}
 use Rattle.bd_text.proofs.PieceLemmas.{before}
-use Rattle.bd_extjson.proofs.JsonLemmas.{AreWell, AreWellMembers, Elements, IsWell, Json, Members, Word, array, element, member, no, no_elements, no_members, nothing, number, object, string, word, yes}
+use Rattle.bd_extjson.proofs.JsonLemmas.{AreWell, AreWellMembers, Elements, IsWell, Json, Members, Word, array, element, member, no, no_elements, no_members}
+use Rattle.bd_extjson.proofs.JsonLemmas.{nothing, number, object, string, word, yes}
 use Rattle.bd_extjson.proofs.JsonLemmas.{print, print_elements, print_members, print_word}
 use Rattle.bd_extjson.proofs.TreeJsonLemmas.{json, print-json, well-json}
 

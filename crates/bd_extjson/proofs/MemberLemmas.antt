@@ -23,7 +23,8 @@ never f h (Some q) = ap (option_map (λ a. (a, q.1))) (h q.0)
 pub unreadable : {A : Type 0} (f : json.Members → Option A) (k : List ℕ) (depth n : ℕ) (ts : List Token) → value depth ts ≡ None → through f (after_key depth n (Some k) ts) ≡ None
 unreadable f k depth n ts e = ap (λ v. through f (option_and_then (λ p. parse_map (json.member k p.0) (members (value depth) n p.1)) v)) e
 
-member_in : {A : Type 0} (f : json.Members → Option A) (k : List ℕ) (j : Json) (r : Option (json.Members × List Token)) → through f (parse_map (json.member k j) r) ≡ through (λ ms. f (json.member k j ms)) r
+member_in : {A : Type 0} (f : json.Members → Option A) (k : List ℕ) (j : Json) (r : Option (json.Members × List Token))
+    → through f (parse_map (json.member k j) r) ≡ through (λ ms. f (json.member k j ms)) r
 member_in f k j None = refl
 member_in f k j (Some q) = refl
 
@@ -149,7 +150,8 @@ no_two kinds.MinKey v j i t u e f = refl
 no_two kinds.MaxKey v j i t u e f = refl
 no_two kinds.Undefined v j i t u e f = refl
 
-pub one_name_alone : (w : Wrapper) (room : ℕ) (j : Json) (t : Option Tree) (k : List ℕ) (i : Json) (ms : json.Members) → is_code w ≡ false → is_scope w ≡ false → wrapping room w j t (json.member k i ms) ≡ None
+pub one_name_alone : (w : Wrapper) (room : ℕ) (j : Json) (t : Option Tree) (k : List ℕ) (i : Json) (ms : json.Members) → is_code w ≡ false
+    → is_scope w ≡ false → wrapping room w j t (json.member k i ms) ≡ None
 one_name_alone w room j t k i json.no_members e f = go (wrapper_of k)
   where
     go : (v : Option Wrapper) → wrapper_tree room w j t (one_more v i (wrap (room - 1) i)) ≡ None
@@ -178,7 +180,8 @@ code_with kinds.MinKey j i t u e = refl
 code_with kinds.MaxKey j i t u e = refl
 code_with kinds.Undefined j i t u e = refl
 
-pub code_no_scope : (room : ℕ) (j : Json) (t : Option Tree) (k : List ℕ) (i : Json) (ms : json.Members) → is_scope_name (wrapper_of k) ≡ false → wrapping room kinds.Code j t (json.member k i ms) ≡ None
+pub code_no_scope : (room : ℕ) (j : Json) (t : Option Tree) (k : List ℕ) (i : Json) (ms : json.Members) → is_scope_name (wrapper_of k) ≡ false
+    → wrapping room kinds.Code j t (json.member k i ms) ≡ None
 code_no_scope room j t k i json.no_members e = go (wrapper_of k) e
   where
     go : (v : Option Wrapper) → is_scope_name v ≡ false → wrapper_tree room kinds.Code j t (one_more v i (wrap (room - 1) i)) ≡ None
@@ -221,7 +224,8 @@ is_scope_is (Some kinds.Undefined) e = absurd cc
 pub no_room_second : (w : Wrapper) (k : List ℕ) (room depth n : ℕ) (ts : List Token) (j : Json) (t : Option Tree) → room ≡ 0 → through (wrapping room w j t) (after_key depth n (Some k) ts) ≡ None
 no_room_second w k room depth n ts j t e = ap (λ r. through (wrapping r w j t) (after_key depth n (Some k) ts)) e ∙ refused_member (wrapping 0 w j t) k depth n ts (no_room w j t k)
 
-pub code_without_scope : (k : List ℕ) (room depth n : ℕ) (ts : List Token) (j : Json) (t : Option Tree) → is_scope_name (wrapper_of k) ≡ false → through (wrapping room kinds.Code j t) (after_key depth n (Some k) ts) ≡ None
+pub code_without_scope : (k : List ℕ) (room depth n : ℕ) (ts : List Token) (j : Json) (t : Option Tree) → is_scope_name (wrapper_of k) ≡ false
+    → through (wrapping room kinds.Code j t) (after_key depth n (Some k) ts) ≡ None
 code_without_scope k room depth n ts j t e = refused_member (wrapping room kinds.Code j t) k depth n ts (λ i ms. code_no_scope room j t k i ms e)
 
 code_after : (k : List ℕ) (room : ℕ) (j i : Json) (t u : Option Tree) (ms : json.Members) → is_scope_name (wrapper_of k) ≡ true → wrap (room - 1) i ≡ u
@@ -236,7 +240,8 @@ pub scope_unread : (k : List ℕ) (room depth n : ℕ) (ts : List Token) (j : Js
     → through (wrapping room kinds.Code j t) (after_key depth n (Some k) ts) ≡ None
 scope_unread k room depth n ts j t e f = go (was_not_read (wrap (room - 1)) (value depth ts) f)
   where
-    go : (value depth ts ≡ None) ⊎ ((i : Json) × (r : List Token) × (value depth ts ≡ Some (i, r)) × (wrap (room - 1) i ≡ None)) → through (wrapping room kinds.Code j t) (after_key depth n (Some k) ts) ≡ None
+    go : (value depth ts ≡ None) ⊎ ((i : Json) × (r : List Token) × (value depth ts ≡ Some (i, r)) × (wrap (room - 1) i ≡ None))
+        → through (wrapping room kinds.Code j t) (after_key depth n (Some k) ts) ≡ None
     go (inl none) = unreadable (wrapping room kinds.Code j t) k depth n ts none
     go (inr p) = member_is (wrapping room kinds.Code j t) k depth n ts p.1 p.0 p.2
         ∙ never (λ ms. wrapping room kinds.Code j t (json.member k p.0 ms)) (λ ms. code_after k room j p.0 t None ms e p.3 ∙ scope_fails room j p.0 t ms) (members (value depth) n p.1)
@@ -246,19 +251,24 @@ same f g h None = refl
 same f g h (Some q) = ap (option_map (λ a. (a, q.1))) (h q.0)
 
 -- what follows a scope
-pub scope_read : (k : List ℕ) (room depth n : ℕ) (ts r : List Token) (j : Json) (t : Option Tree) (u : Tree) → is_scope_name (wrapper_of k) ≡ true → through (wrap (room - 1)) (value depth ts) ≡ Some (u, r)
-    → (i : Json) × (through (wrapping room kinds.Code j t) (after_key depth n (Some k) ts) ≡ through (λ ms. wrapper_tree room kinds.Code j t (after_one (Some kinds.Scope) i (Some u) ms)) (members (value depth) n r))
+pub scope_read : (k : List ℕ) (room depth n : ℕ) (ts r : List Token) (j : Json) (t : Option Tree) (u : Tree) → is_scope_name (wrapper_of k) ≡ true
+    → through (wrap (room - 1)) (value depth ts) ≡ Some (u, r)
+    → (i : Json) × (through (wrapping room kinds.Code j t) (after_key depth n (Some k) ts)
+        ≡ through (λ ms. wrapper_tree room kinds.Code j t (after_one (Some kinds.Scope) i (Some u) ms)) (members (value depth) n r))
 scope_read k room depth n ts r j t u e f =
     let p = was_read (wrap (room - 1)) (value depth ts) u r f in
-    (p.0, member_is (wrapping room kinds.Code j t) k depth n ts r p.0 p.1 ∙ same (λ ms. wrapping room kinds.Code j t (json.member k p.0 ms)) _ (λ ms. code_after k room j p.0 t (Some u) ms e p.2) (members (value depth) n r))
+    (p.0, member_is (wrapping room kinds.Code j t) k depth n ts r p.0 p.1
+        ∙ same (λ ms. wrapping room kinds.Code j t (json.member k p.0 ms)) _ (λ ms. code_after k room j p.0 t (Some u) ms e p.2) (members (value depth) n r))
 
-pub scope_unended : (k : List ℕ) (room depth n : ℕ) (ts r : List Token) (j : Json) (t : Option Tree) (u : Tree) → is_scope_name (wrapper_of k) ≡ true → through (wrap (room - 1)) (value depth ts) ≡ Some (u, r)
+pub scope_unended : (k : List ℕ) (room depth n : ℕ) (ts r : List Token) (j : Json) (t : Option Tree) (u : Tree) → is_scope_name (wrapper_of k) ≡ true
+    → through (wrap (room - 1)) (value depth ts) ≡ Some (u, r)
     → length r ≤ n → closing r ≡ None → through (wrapping room kinds.Code j t) (after_key depth n (Some k) ts) ≡ None
 scope_unended k room depth n ts r j t u e f le g =
     let p = scope_read k room depth n ts r j t u e f in
     p.1 ∙ not_closed _ depth n r le g (λ l h ms. refl)
 
-pub scope_ended : (k : List ℕ) (room depth n : ℕ) (ts r s : List Token) (j : Json) (t : Option Tree) (u : Tree) → is_scope_name (wrapper_of k) ≡ true → through (wrap (room - 1)) (value depth ts) ≡ Some (u, r)
+pub scope_ended : (k : List ℕ) (room depth n : ℕ) (ts r s : List Token) (j : Json) (t : Option Tree) (u : Tree) → is_scope_name (wrapper_of k) ≡ true
+    → through (wrap (room - 1)) (value depth ts) ≡ Some (u, r)
     → length r ≤ n → closing r ≡ Some (tt, s) → 0 < room → through (wrapping room kinds.Code j t) (after_key depth n (Some k) ts) ≡ option_map (λ (a : Tree). (a, s)) (with_scope (as_str j) (Some u))
 scope_ended k room depth n ts r s j t u e f le g h =
     let p = scope_read k room depth n ts r j t u e f in
@@ -304,7 +314,8 @@ first_unread k room depth n ts e f = go (was_not_read (wrap (room - 1)) (value d
     go : (value depth ts ≡ None) ⊎ ((i : Json) × (r : List Token) × (value depth ts ≡ Some (i, r)) × (wrap (room - 1) i ≡ None)) → through (wrap_object room) (after_key depth n (Some k) ts) ≡ None
     go (inl none) = unreadable (wrap_object room) k depth n ts none
     go (inr p) = first_part kinds.Scope k room depth n ts p.1 p.0 e p.2
-        ∙ never (wrapping room kinds.Scope p.0 (wrap (room - 1) p.0)) (λ ms. ap (λ t. wrapping room kinds.Scope p.0 t ms) p.3 ∙ scope_first_fails room p.0 (after (room - 1) ms)) (members (value depth) n p.1)
+        ∙ never (wrapping room kinds.Scope p.0 (wrap (room - 1) p.0)) (λ ms. ap (λ t. wrapping room kinds.Scope p.0 t ms) p.3
+            ∙ scope_first_fails room p.0 (after (room - 1) ms)) (members (value depth) n p.1)
 
 pub first_read : (k : List ℕ) (room depth n : ℕ) (ts r : List Token) (u : Tree) → wrapper_of k ≡ Some kinds.Scope → through (wrap (room - 1)) (value depth ts) ≡ Some (u, r)
     → (j : Json) × (through (wrap_object room) (after_key depth n (Some k) ts) ≡ through (wrapping room kinds.Scope j (Some u)) (members (value depth) n r))
@@ -341,7 +352,8 @@ scope_no_code room j t k i (json.member l h ms) e = refl
 
 pub scope_without_code : (k : List ℕ) (room depth n : ℕ) (ts r : List Token) (j : Json) (t : Option Tree) → length ts ≤ n → read_key ts ≡ Some (Some k, r) → is_code_name (wrapper_of k) ≡ false
     → through (wrapping room kinds.Scope j t) (members (value depth) n ts) ≡ None
-scope_without_code k room depth n ts r j t le e f = named (wrapping room kinds.Scope j t) k depth n ts r le e ∙ refused_member (wrapping room kinds.Scope j t) k depth (n - 1) r (λ i ms. scope_no_code room j t k i ms f)
+scope_without_code k room depth n ts r j t le e f = named (wrapping room kinds.Scope j t) k depth n ts r le e
+    ∙ refused_member (wrapping room kinds.Scope j t) k depth (n - 1) r (λ i ms. scope_no_code room j t k i ms f)
 
 pub code_unread : (k : List ℕ) (room depth n : ℕ) (ts r : List Token) (j : Json) (t : Option Tree) → length ts ≤ n → read_key ts ≡ Some (Some k, r) → value depth r ≡ None
     → through (wrapping room kinds.Scope j t) (members (value depth) n ts) ≡ None
@@ -370,12 +382,14 @@ is_code_is : (v : Option Wrapper) → is_code_name v ≡ true → v ≡ Some kin
 is_code_is None e = absurd cc
 is_code_is (Some w) e = ap Some (code_is w e)
 
-pub code_unended : (k : List ℕ) (room depth n : ℕ) (ts r s : List Token) (j i : Json) (t : Option Tree) → length ts ≤ n → read_key ts ≡ Some (Some k, r) → value depth r ≡ Some (i, s) → length s ≤ n - 1 → closing s ≡ None
+pub code_unended : (k : List ℕ) (room depth n : ℕ) (ts r s : List Token) (j i : Json) (t : Option Tree) → length ts ≤ n
+    → read_key ts ≡ Some (Some k, r) → value depth r ≡ Some (i, s) → length s ≤ n - 1 → closing s ≡ None
     → through (wrapping room kinds.Scope j t) (members (value depth) n ts) ≡ None
 code_unended k room depth n ts r s j i t le e f less g =
     named (wrapping room kinds.Scope j t) k depth n ts r le e ∙ member_is (wrapping room kinds.Scope j t) k depth (n - 1) r s i f ∙ not_closed _ depth (n - 1) s less g (λ l h ms. refl)
 
-pub code_ended : (k : List ℕ) (room depth n : ℕ) (ts r s q : List Token) (j i : Json) (u : Tree) → length ts ≤ n → read_key ts ≡ Some (Some k, r) → is_code_name (wrapper_of k) ≡ true → value depth r ≡ Some (i, s)
+pub code_ended : (k : List ℕ) (room depth n : ℕ) (ts r s q : List Token) (j i : Json) (u : Tree) → length ts ≤ n → read_key ts ≡ Some (Some k, r)
+    → is_code_name (wrapper_of k) ≡ true → value depth r ≡ Some (i, s)
     → length s ≤ n - 1 → closing s ≡ Some (tt, q) → 0 < room
     → through (wrapping room kinds.Scope j (Some u)) (members (value depth) n ts) ≡ option_map (λ (a : Tree). (a, q)) (with_scope (as_str i) (Some u))
 code_ended k room depth n ts r s q j i u le e is f less g h =

@@ -2,6 +2,7 @@
 use Rattle.std.proofs.Common.{◌≡◌, ◌≤◌, ℕ, true, false, List, [], ◌++◌, Some, option_map, option_and_then, refl, sym, ap, ◌∙◌, arith, append-nil}
 use Rattle.std.specs.Str.{is_utf8}
 use Rattle.std.proofs.lemmas.Str.{is_utf8-from_IsUtf8}
+use Rattle.bd_value.specs.Limits.{most_brackets, most_levels}
 use Rattle.json.specs.Json.{value, if_last}
 use Rattle.json.specs.Lex.{tokens}
 use Rattle.json.specs.Tree.{json_tokens}
@@ -21,21 +22,22 @@ use Rattle.bd_extjson.proofs.TreeJsonLemmas.{json, print-json}
 use Rattle.bd_extjson.proofs.TreeInverseLemmas.{tree_back}
 use Rattle.bd_extjson.proofs.TextUtf8Lemmas.{utf8-text}
 
-json_in-utf8 : (s : List ℕ) → is_utf8 s ≡ true → json_in s ≡ option_and_then (λ p. if_last p.0 p.1) (value 203 (tokens s))
+json_in-utf8 : (s : List ℕ) → is_utf8 s ≡ true → json_in s ≡ option_and_then (λ p. if_last p.0 p.1) (value most_brackets (tokens s))
 json_in-utf8 s is = rw is refl
 
-json_back : (t : Tree) → FitsTypes t → HasUtf8 t → depth t ≤ 200 → json_in (text t) ≡ Some (kit_json (json t))
+json_back : (t : Tree) → FitsTypes t → HasUtf8 t → depth t ≤ most_levels → json_in (text t) ≡ Some (kit_json (json t))
 json_back t fits utf8 deep =
     let j = kit_json (json t) in
     let all : tokens (text t) ≡ json_tokens j ++ [] =
     ap tokens (sym (print-json t) ∙ print-kit_json (json t)) ∙ tokens-print (json_tokens j) (ArePrintable-json_tokens j (numbers t fits)) ∙ sym (append-nil (json_tokens j)) in
     json_in-utf8 (text t) (is_utf8-from_IsUtf8 (text t) (utf8-text t fits utf8))
-    ∙ ap (option_and_then (λ p. if_last p.0 p.1)) (ap (value 203) all ∙ value-json_tokens j 203 [] (omega (arith, shallow t)))
+    ∙ ap (option_and_then (λ p. if_last p.0 p.1)) (ap (value most_brackets) all ∙ value-json_tokens j most_brackets [] (omega (arith, shallow t)))
 
-pub document_back : (d : Doc) → FitsTypes (doc (fields_of d)) → HasUtf8 (doc (fields_of d)) → IsPlain (doc (fields_of d)) → zero_in (doc (fields_of d)) ≡ false → depth (doc (fields_of d)) ≤ 200
+pub document_back : (d : Doc) → FitsTypes (doc (fields_of d)) → HasUtf8 (doc (fields_of d)) → IsPlain (doc (fields_of d))
+    → zero_in (doc (fields_of d)) ≡ false → depth (doc (fields_of d)) ≤ most_levels
     → ReadsAs (text (doc (fields_of d))) d
 document_back d fits utf8 plain none deep =
     let t : Tree = doc (fields_of d) in
-    ap (λ o. option_map pairs_of (option_and_then document (option_and_then (wrap 200) o))) (json_back t fits utf8 deep)
-    ∙ ap (λ o. option_map pairs_of (option_and_then document o)) (tree_back t 200 deep fits plain none)
+    ap (λ o. option_map pairs_of (option_and_then document (option_and_then (wrap most_levels) o))) (json_back t fits utf8 deep)
+    ∙ ap (λ o. option_map pairs_of (option_and_then document o)) (tree_back t most_levels deep fits plain none)
     ∙ ap Some (pairs_of-fields_of d)

@@ -63,7 +63,9 @@ abbrev pub then : {A B : Type 0} → Option (A × List Token) → (A → List To
 then None k = None
 then (Some p) k = k p.0 p.1
 
-item_joined : (o : Option Tree) (ts : List Token) (q : Option Items) (more : List Token) → option_map (λ (a : Items). (a, more)) (add_item o q) ≡ then (option_map (λ (t : Tree). (t, ts)) o) (λ t s. parse_map (item t) (option_map (λ (a : Items). (a, more)) q))
+item_joined : (o : Option Tree) (ts : List Token) (q : Option Items) (more : List Token)
+    → option_map (λ (a : Items). (a, more)) (add_item o q) ≡ then (option_map (λ (t : Tree). (t, ts)) o)
+    (λ t s. parse_map (item t) (option_map (λ (a : Items). (a, more)) q))
 item_joined None ts q more = refl
 item_joined (Some t) ts None more = refl
 item_joined (Some t) ts (Some x) more = refl
@@ -72,7 +74,8 @@ item_none : (o : Option Tree) (ts : List Token) → None ≡ then (option_map (�
 item_none None ts = refl
 item_none (Some t) ts = refl
 
-item_after : (room : ℕ) (j : Json) (ts : List Token) (r : Option (json.Items × List Token)) → through (wrap_items room) (parse_map (json.item j) r) ≡ then (through (wrap room) (Some (j, ts))) (λ t s. parse_map (item t) (through (wrap_items room) r))
+item_after : (room : ℕ) (j : Json) (ts : List Token) (r : Option (json.Items × List Token))
+    → through (wrap_items room) (parse_map (json.item j) r) ≡ then (through (wrap room) (Some (j, ts))) (λ t s. parse_map (item t) (through (wrap_items room) r))
 item_after room j ts None = item_none (wrap room j) ts
 item_after room j ts (Some q) = item_joined (wrap room j) ts (wrap_items room q.0) q.1
 
@@ -81,7 +84,8 @@ item_turn : (room : ℕ) (more : Parse json.Items) (v : Option (Json × List Tok
 item_turn room more None = refl
 item_turn room more (Some p) = item_after room p.0 p.1 (more p.1) ∙ moved (wrap room p.0)
   where
-    moved : (o : Option Tree) → then (option_map (λ (t : Tree). (t, p.1)) o) (λ t s. parse_map (item t) (through (wrap_items room) (more p.1))) ≡ then (option_map (λ (t : Tree). (t, p.1)) o) (λ t s. parse_map (item t) (through (wrap_items room) (more s)))
+    moved : (o : Option Tree) → then (option_map (λ (t : Tree). (t, p.1)) o) (λ t s. parse_map (item t) (through (wrap_items room) (more p.1)))
+        ≡ then (option_map (λ (t : Tree). (t, p.1)) o) (λ t s. parse_map (item t) (through (wrap_items room) (more s)))
     moved None = refl
     moved (Some t) = refl
 
@@ -136,7 +140,8 @@ pub field_turn : (k : List ℕ) (room : ℕ) (more : Parse json.Members) (v : Op
 field_turn k room more None = refl
 field_turn k room more (Some p) = field_after k room p.0 p.1 (more p.1) ∙ moved (wrap room p.0)
   where
-    moved : (o : Option Tree) → then (option_map (λ (t : Tree). (t, p.1)) o) (λ t s. with_field k t (through (wrap_fields room) (more p.1))) ≡ then (option_map (λ (t : Tree). (t, p.1)) o) (λ t s. with_field k t (through (wrap_fields room) (more s)))
+    moved : (o : Option Tree) → then (option_map (λ (t : Tree). (t, p.1)) o) (λ t s. with_field k t (through (wrap_fields room) (more p.1)))
+        ≡ then (option_map (λ (t : Tree). (t, p.1)) o) (λ t s. with_field k t (through (wrap_fields room) (more s)))
     moved None = refl
     moved (Some t) = refl
 
@@ -186,7 +191,8 @@ plain_after k room j (Some q) h e =
     ap (option_map (λ (a : Tree). (a, q.1))) (no ∙ nested_is room _ h) ∙ doc_inside q.1 _
 
 plain_turn : (k : List ℕ) (room : ℕ) (more : Parse json.Members) (v : Option (Json × List Token)) → 0 < room → wrapper_of k ≡ None
-    → through (wrap_object room) (option_and_then (λ p. parse_map (json.member k p.0) (more p.1)) v) ≡ parse_map doc (through (wrap_fields (room - 1)) (option_and_then (λ p. parse_map (json.member k p.0) (more p.1)) v))
+    → through (wrap_object room) (option_and_then (λ p. parse_map (json.member k p.0) (more p.1)) v)
+        ≡ parse_map doc (through (wrap_fields (room - 1)) (option_and_then (λ p. parse_map (json.member k p.0) (more p.1)) v))
 plain_turn k room more None h e = refl
 plain_turn k room more (Some p) h e = plain_after k room p.0 (more p.1) h e
 
@@ -194,14 +200,16 @@ pub plain_object : (k : List ℕ) (room depth n : ℕ) (ts : List Token) → 0 <
     → through (wrap_object room) (after_key depth n (Some k) ts) ≡ parse_map doc (through (wrap_fields (room - 1)) (after_key depth n (Some k) ts))
 plain_object k room depth n ts h e = plain_turn k room (members (value depth) n) (value depth ts) h e
 
-pub empty_object : (room depth n : ℕ) (ts : List Token) → 0 < room → through (wrap_object room) (after_key depth n None ts) ≡ parse_map doc (through (wrap_fields (room - 1)) (after_key depth n None ts))
+pub empty_object : (room depth n : ℕ) (ts : List Token) → 0 < room → through (wrap_object room) (after_key depth n None ts)
+    ≡ parse_map doc (through (wrap_fields (room - 1)) (after_key depth n None ts))
 empty_object room depth n ts h = ap (option_map (λ (a : Tree). (a, ts))) (nested_is room (Some (doc no_fields)) h)
 
 no_room_after : (k : List ℕ) (j : Json) (r : Option (json.Members × List Token)) → wrapper_of k ≡ None → through (wrap_object 0) (parse_map (json.member k j) r) ≡ None
 no_room_after k j None e = refl
 no_room_after k j (Some q) e = rw e refl
 
-no_room_turn : (k : List ℕ) (more : Parse json.Members) (v : Option (Json × List Token)) → wrapper_of k ≡ None → through (wrap_object 0) (option_and_then (λ p. parse_map (json.member k p.0) (more p.1)) v) ≡ None
+no_room_turn : (k : List ℕ) (more : Parse json.Members) (v : Option (Json × List Token)) → wrapper_of k ≡ None
+    → through (wrap_object 0) (option_and_then (λ p. parse_map (json.member k p.0) (more p.1)) v) ≡ None
 no_room_turn k more None e = refl
 no_room_turn k more (Some p) e = no_room_after k p.0 (more p.1) e
 
@@ -238,8 +246,10 @@ first_name depth ts r key e =
     let less : length ts - 1 ≡ length r = omega (arith, one) in
     next_name depth (length ts) ts r key (omega arith) e ∙ ap (λ m. after_key depth m key r) less
 
-pub object_is_wrapper : {X : Type 0} (view : X → Tree) (result : Result X Trouble) (rest : List Token) (w : Wrapper) (room depth n : ℕ) (ts : List Token) (key : Option (List ℕ)) → option_and_then wrapper_of key ≡ Some w
-    → ((name : List ℕ) → wrapper_of name ≡ Some w → GivesTokens view result rest (through (wrap_object room) (after_key depth n (Some name) ts))) → GivesTokens view result rest (through (wrap_object room) (after_key depth n key ts))
+pub object_is_wrapper : {X : Type 0} (view : X → Tree) (result : Result X Trouble) (rest : List Token) (w : Wrapper) (room depth n : ℕ)
+    (ts : List Token) (key : Option (List ℕ)) → option_and_then wrapper_of key ≡ Some w
+    → ((name : List ℕ) → wrapper_of name ≡ Some w → GivesTokens view result rest (through (wrap_object room) (after_key depth n (Some name) ts)))
+        → GivesTokens view result rest (through (wrap_object room) (after_key depth n key ts))
 object_is_wrapper view result rest w room depth n ts None e f = absurd cc
 object_is_wrapper view result rest w room depth n ts (Some name) e f = f name e
 
@@ -276,11 +286,13 @@ bare_told : {X A : Type 0} (view : X → A) (rest : List Token) (b : Option X) �
 bare_told view rest None = refl
 bare_told view rest (Some x) = refl
 
-pub number_told : {X A : Type 0} (view : X → A) (rest : List Token) (b : Option X) (result : Result X Trouble) (o : Option A) (read : Option (A × List Token)) → option_map view b ≡ o → result ≡ ok_or b troubles.Refused → read ≡ option_map (λ (a : A). (a, rest)) o
+pub number_told : {X A : Type 0} (view : X → A) (rest : List Token) (b : Option X) (result : Result X Trouble) (o : Option A)
+    (read : Option (A × List Token)) → option_map view b ≡ o → result ≡ ok_or b troubles.Refused → read ≡ option_map (λ (a : A). (a, rest)) o
     → GivesTokens view result rest read
 number_told view rest b result o read e r s = rw (s, r, ← e) (bare_told view rest b)
 
-pub told : {X A : Type 0} (view : X → A) (result : Result X Trouble) (rest : List Token) (o : Option A) (read : Option (A × List Token)) → read ≡ option_map (λ (a : A). (a, rest)) o → GivesValue view result o → GivesTokens view result rest read
+pub told : {X A : Type 0} (view : X → A) (result : Result X Trouble) (rest : List Token) (o : Option A) (read : Option (A × List Token))
+    → read ≡ option_map (λ (a : A). (a, rest)) o → GivesValue view result o → GivesTokens view result rest read
 told view (Ok x) rest o read e t = e ∙ ap (option_map (λ a. (a, rest))) t
 told view (Err troubles.Memory) rest o read e t = tt
 told view (Err troubles.Refused) rest o read e t = e ∙ ap (option_map (λ a. (a, rest))) t

@@ -1,15 +1,19 @@
 -- Each string and each name in the JSON of a text that is UTF-8 is UTF-8.
-use Rattle.std.proofs.Common.{◌≡◌, ◌≤◌, ◌<◌, ℕ, zero, suc, ◌+◌, ◌-◌, Bool, true, false, cond, ◌&&◌, List, [], ◌∷◌, length, take, drop, get_or, Option, Some, None, inl, inr, refl, sym, ap, ◌∙◌, subst, arith}
+use Rattle.std.proofs.Common.{◌≡◌, ◌≤◌, ◌<◌, ℕ, zero, suc, ◌+◌, ◌-◌, Bool, true, false, cond, ◌&&◌, List, [], ◌∷◌, length, take, drop, get_or, Option, Some}
+use Rattle.std.proofs.Common.{None, inl, inr, refl, sym, ap, ◌∙◌, subst, arith}
 use Rattle.std.specs.Prelude.{IsUtf8, option_and_then, ◌==◌, nat_eq}
 use Rattle.std.specs.List.{starts_with}
 use Rattle.std.specs.Str.{is_utf8}
 use Rattle.std.proofs.lemmas.Bool.{cases_lt, eqb-true}
 use Rattle.std.proofs.lemmas.List.{drop_more, drop_all}
 use Rattle.std.proofs.lemmas.Str.{IsUtf8-drop, IsUtf8-from_is_utf8, IsCharBoundary-after_ascii}
+use Rattle.bd_value.specs.Limits.{most_brackets}
 use Rattle.json.specs.Token as token
 use Rattle.json.specs.Token.{Token}
 use Rattle.json.specs.Text.{content, plain}
-use Rattle.json.specs.Lex.{Lexeme, comma, colon, Class, quote, backslash, operator, space, other, class, operator_lexeme, string_token, Mode, between, in_word, in_string, in_escape, lex_byte, lex, Place, fresh, after_value, after_comma, after_key, may_begin, may_close, begins_colon, if_allowed, place_token, punctuate, tokens}
+use Rattle.json.specs.Lex.{Lexeme, comma, colon, Class, quote, backslash, operator, space, other, class, operator_lexeme, string_token, Mode, between, in_word}
+use Rattle.json.specs.Lex.{in_string, in_escape, lex_byte, lex, Place, fresh, after_value, after_comma, after_key, may_begin, may_close, begins_colon}
+use Rattle.json.specs.Lex.{if_allowed, place_token, punctuate, tokens}
 use Rattle.json.specs.Lex as lexing
 use Rattle.json.specs.Word.{is_operator, is_space, head, ends_word, number_before, after_number, word}
 use Rattle.json.specs.Ascii as ascii
@@ -62,7 +66,8 @@ word_text t = go (head t == 116) (head t == 102) (head t == 110) (is_literal asc
     is_literal : List ℕ → Bool
     is_literal name = starts_with nat_eq t name && ends_word (drop (length name) t)
 
-    go : (a b c d e f : Bool) → IsTextToken (cond a (cond d (token.boolean true) token.bad) (cond b (cond e (token.boolean false) token.bad) (cond c (cond f token.null token.bad) (number_before t (after_number t)))))
+    go : (a b c d e f : Bool) → IsTextToken (cond a (cond d (token.boolean true) token.bad)
+        (cond b (cond e (token.boolean false) token.bad) (cond c (cond f token.null token.bad) (number_before t (after_number t)))))
     go true b c true e f = tt
     go true b c false e f = tt
     go false true c d true f = tt
@@ -74,7 +79,8 @@ word_text t = go (head t == 116) (head t == 102) (head t == 110) (is_literal asc
 operator_text : (x : ℕ) → IsTextLexeme (operator_lexeme x)
 operator_text x = go (x == 123) (x == 125) (x == 91) (x == 93) (x == 44)
   where
-    go : (a b c d e : Bool) → IsTextLexeme (cond a (lexing.token token.begin_object) (cond b (lexing.token token.end_object) (cond c (lexing.token token.begin_array) (cond d (lexing.token token.end_array) (cond e comma colon)))))
+    go : (a b c d e : Bool) → IsTextLexeme (cond a (lexing.token token.begin_object)
+        (cond b (lexing.token token.end_object) (cond c (lexing.token token.begin_array) (cond d (lexing.token token.end_array) (cond e comma colon)))))
     go true b c d e = tt
     go false true c d e = tt
     go false false true d e = tt
@@ -99,9 +105,11 @@ is_quote x e = go (x == 34) refl
   where
     go : (b : Bool) → (x == 34) ≡ b → x ≡ 34
     go true is = eqb-true x 34 is
-    go false is = absurd (no_quote (x == 92) (is_operator x) (is_space x) (ap (λ (b : Bool). cond b quote (cond (x == 92) backslash (cond (is_operator x) operator (cond (is_space x) space other)))) (sym is) ∙ e))
+    go false is = absurd (no_quote (x == 92) (is_operator x) (is_space x)
+        (ap (λ (b : Bool). cond b quote (cond (x == 92) backslash (cond (is_operator x) operator (cond (is_space x) space other)))) (sym is) ∙ e))
 
-byte_texts : (m : Mode) (c : Class) (x : ℕ) (xs : List ℕ) (k : Mode → List Lexeme) → (c ≡ quote → IsTextIfAny (content plain xs)) → ((next : Mode) → AreTextLexemes (k next)) → AreTextLexemes (lex_byte m c x xs k)
+byte_texts : (m : Mode) (c : Class) (x : ℕ) (xs : List ℕ) (k : Mode → List Lexeme) → (c ≡ quote → IsTextIfAny (content plain xs))
+    → ((next : Mode) → AreTextLexemes (k next)) → AreTextLexemes (lex_byte m c x xs k)
 byte_texts between quote x xs k text all = (string_text (content plain xs) (text refl), all in_string)
 byte_texts between backslash x xs k text all = (tt, all in_word)
 byte_texts between operator x xs k text all = (operator_text x, all between)
@@ -243,7 +251,8 @@ key_texts (token.null ∷ ts) all = tt
 key_texts (token.bad ∷ ts) all = tt
 
 module _ (read : Parse Json) (reads : IsReader Json IsTextJson read) where
-  step_items : (more : Parse kit.Items) → IsReader kit.Items AreTextItems more → (ts : List Token) → AreTextTokens ts → (o : Option (List Token)) → IsRest o → IsRead kit.Items AreTextItems (items_step read more ts o)
+  step_items : (more : Parse kit.Items) → IsReader kit.Items AreTextItems more → (ts : List Token) → AreTextTokens ts → (o : Option (List Token))
+      → IsRest o → IsRead kit.Items AreTextItems (items_step read more ts o)
   step_items more rest ts all (Some after) p = (tt, p)
   step_items more rest ts all None p = go (read ts) (reads ts all)
     where
@@ -256,7 +265,8 @@ module _ (read : Parse Json) (reads : IsReader Json IsTextJson read) where
   items_texts zero ts all = tt
   items_texts (suc n) ts all = step_items (items read n) (items_texts n) ts all (after_end_array ts) (end_texts ts all)
 
-  step_members : (more : Parse kit.Members) → IsReader kit.Members AreTextMembers more → (o : Option (List ℕ)) → IsTextIfAny o → (ts : List Token) → AreTextTokens ts → IsRead kit.Members AreTextMembers (members_step read more o ts)
+  step_members : (more : Parse kit.Members) → IsReader kit.Members AreTextMembers more → (o : Option (List ℕ)) → IsTextIfAny o → (ts : List Token)
+      → AreTextTokens ts → IsRead kit.Members AreTextMembers (members_step read more o ts)
   step_members more rest None p ts all = (tt, all)
   step_members more rest (Some name) p ts all = go (read ts) (reads ts all)
     where
@@ -269,7 +279,8 @@ module _ (read : Parse Json) (reads : IsReader Json IsTextJson read) where
   members_texts zero ts all = tt
   members_texts (suc n) ts all = go (members_texts n) (read_key ts) (key_texts ts all)
     where
-      go : IsReader kit.Members AreTextMembers (members read n) → (r : Option (Option (List ℕ) × List Token)) → IsRead (Option (List ℕ)) IsTextIfAny r → IsRead kit.Members AreTextMembers (option_and_then (λ x. members_step read (members read n) x.0 x.1) r)
+      go : IsReader kit.Members AreTextMembers (members read n) → (r : Option (Option (List ℕ) × List Token))
+          → IsRead (Option (List ℕ)) IsTextIfAny r → IsRead kit.Members AreTextMembers (option_and_then (λ x. members_step read (members read n) x.0 x.1) r)
       go more None q = tt
       go more (Some x) q = step_members (members read n) more x.0 q.0 x.1 q.1
 
@@ -310,6 +321,6 @@ json_texts text = go (is_utf8 text) refl
     one None p = tt
     one (Some x) p = last x.0 x.1 p.0
 
-    go : (b : Bool) → is_utf8 text ≡ b → IsTextJsonIfAny (cond b (option_and_then (λ p. if_last p.0 p.1) (value 203 (tokens text))) None)
-    go true is = one (value 203 (tokens text)) (value_texts 203 (tokens text) (tokens_texts text (IsUtf8-from_is_utf8 text is)))
+    go : (b : Bool) → is_utf8 text ≡ b → IsTextJsonIfAny (cond b (option_and_then (λ p. if_last p.0 p.1) (value most_brackets (tokens text))) None)
+    go true is = one (value most_brackets (tokens text)) (value_texts most_brackets (tokens text) (tokens_texts text (IsUtf8-from_is_utf8 text is)))
     go false is = tt

@@ -25,7 +25,8 @@ no_zeros n t fs none =
     let parts = or_parts (zero_in t) (zero_in_fields fs) name.1 in
     (name.0, parts.0, parts.1)
 
-scope_back : (s : List ℕ) (fs : Fields) (room : ℕ) → wrap_object (suc room - 1) (kit_members (members_json fs)) ≡ Some (doc fs) → wrap (suc room) (kit_json (json (code_scope s fs))) ≡ Some (code_scope s fs)
+scope_back : (s : List ℕ) (fs : Fields) (room : ℕ) → wrap_object (suc room - 1) (kit_members (members_json fs)) ≡ Some (doc fs)
+    → wrap (suc room) (kit_json (json (code_scope s fs))) ≡ Some (code_scope s fs)
 unfolding wrapper_of
 scope_back s fs room same = ap (with_scope (Some s)) same
 
@@ -38,7 +39,8 @@ mutual
   tree_back (code_scope s fs) zero deep fits plain none = absurd (omega arith)
   tree_back (code_scope s fs) (suc room) deep fits plain none = scope_back s fs room (object_back fs (suc room - 1) (omega arith) fits plain none)
 
-  object_back : (fs : Fields) (room : ℕ) → suc (fields_depth fs) ≤ room → FieldsFitTypes fs → IsPlainFirst fs × ArePlainFields fs → zero_in_fields fs ≡ false → wrap_object room (kit_members (members_json fs)) ≡ Some (doc fs)
+  object_back : (fs : Fields) (room : ℕ) → suc (fields_depth fs) ≤ room → FieldsFitTypes fs → IsPlainFirst fs × ArePlainFields fs
+      → zero_in_fields fs ≡ false → wrap_object room (kit_members (members_json fs)) ≡ Some (doc fs)
   object_back fs zero deep fits plain none = absurd (omega arith)
   object_back no_fields (suc room) deep fits plain none = refl
   object_back (field n t fs) (suc room) deep fits plain none =

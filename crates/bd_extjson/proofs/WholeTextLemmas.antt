@@ -2,6 +2,7 @@
 use Rattle.std.proofs.Common.{◌≡◌, ℕ, Bool, true, false, List, [], ◌∷◌, Option, Some, None, option_map, option_and_then, refl, sym, ap, ◌∙◌}
 use Rattle.std.specs.Str.{is_utf8, IsUtf8}
 use Rattle.std.proofs.lemmas.Str.{is_utf8-from_IsUtf8, IsUtf8-from_is_utf8}
+use Rattle.bd_value.specs.Limits.{most_brackets, most_levels}
 use Rattle.json.specs.Token.{Token}
 use Rattle.json.specs.Lex.{tokens}
 use Rattle.json.specs.Json.{Json, value, if_last}
@@ -20,17 +21,19 @@ not_all (Some u) t x ts e =
     let f : Some (x ∷ ts) ≡ Some [] = ap (λ (x : Option (Tree × List Token)). option_map (λ (p : Tree × List Token). p.1) x) e in
     absurd cc
 
-last : (v : Option (Json × List Token)) (t : Tree) → through (wrap 200) v ≡ Some (t, []) → option_and_then (wrap 200) (option_and_then (λ p. if_last p.0 p.1) v) ≡ Some t
+last : (v : Option (Json × List Token)) (t : Tree) → through (wrap most_levels) v ≡ Some (t, []) → option_and_then (wrap most_levels) (option_and_then (λ p. if_last p.0 p.1) v) ≡ Some t
 last None t e = absurd cc
-last (Some (j, [])) t e = kept (wrap 200 j) t [] e
-last (Some (j, x ∷ ts)) t e = not_all (wrap 200 j) t x ts e
+last (Some (j, [])) t e = kept (wrap most_levels j) t [] e
+last (Some (j, x ∷ ts)) t e = not_all (wrap most_levels j) t x ts e
 
-pub json_is : (text : List ℕ) → is_utf8 text ≡ true → json text ≡ option_and_then (λ p. if_last p.0 p.1) (value 203 (tokens text))
+pub json_is : (text : List ℕ) → is_utf8 text ≡ true → json text ≡ option_and_then (λ p. if_last p.0 p.1) (value most_brackets (tokens text))
 json_is text e = rw e refl
 
-pub whole_text : (text : List ℕ) (ts rest : List Token) (t : Tree) → IsUtf8 text → ts ≡ tokens text → through (wrap 200) (value 203 ts) ≡ Some (t, rest) → rest ≡ [] → option_and_then (wrap 200) (json text) ≡ Some t
+pub whole_text : (text : List ℕ) (ts rest : List Token) (t : Tree) → IsUtf8 text → ts ≡ tokens text
+    → through (wrap most_levels) (value most_brackets ts) ≡ Some (t, rest) → rest ≡ [] → option_and_then (wrap most_levels) (json text) ≡ Some t
 whole_text text ts rest t u e r n =
-    ap (option_and_then (wrap 200)) (json_is text (is_utf8-from_IsUtf8 text u)) ∙ last (value 203 (tokens text)) t (ap (λ k. through (wrap 200) (value 203 k)) (sym e) ∙ r ∙ ap (λ l. Some (t, l)) n)
+    ap (option_and_then (wrap most_levels)) (json_is text (is_utf8-from_IsUtf8 text u))
+        ∙ last (value most_brackets (tokens text)) t (ap (λ k. through (wrap most_levels) (value most_brackets k)) (sym e) ∙ r ∙ ap (λ l. Some (t, l)) n)
 
 not_true : (b : Bool) → (b ≡ true → ⊥) → b ≡ false
 not_true true h = absurd (h refl)
@@ -40,4 +43,4 @@ pub no_text : (text : List ℕ) → ¬ (IsUtf8 text) → reading text ≡ None
 no_text text h =
     let b : is_utf8 text ≡ false = not_true (is_utf8 text) (λ e. h (IsUtf8-from_is_utf8 text e)) in
     let j : json text ≡ None = rw b refl in
-    ap (λ o. option_map pairs_of (option_and_then document (option_and_then (wrap 200) o))) j
+    ap (λ o. option_map pairs_of (option_and_then document (option_and_then (wrap most_levels) o))) j

@@ -1,5 +1,6 @@
 //! What the texts determine, and that they are read back.
 ghost use Rattle.std.specs.Prelude.{◌≡◌, ◌==◌, ◌≤◌, ℕ, List, All, false};
+ghost use Rattle.bd_value.specs.Limits.{most_levels};
 ghost use Rattle.bd_value.specs.Depth.{depth};
 ghost use Rattle.bd_value.specs.Fits.{FitsTypes, HasUtf8};
 ghost use Rattle.bd_value.specs.Tree.{Doc, Tree, doc, fields_of};
@@ -24,7 +25,7 @@ pub fn text_determines_document()
 /// and it is at most 200 deep.
 pub fn reads_back()
     ensures { (d : Doc) → FitsTypes (doc (fields_of d)) → HasUtf8 (doc (fields_of d)) → IsPlain (doc (fields_of d))
-        → zero_in (doc (fields_of d)) ≡ false → depth (doc (fields_of d)) ≤ 200 → ReadsAs (text (doc (fields_of d))) d }
+        → zero_in (doc (fields_of d)) ≡ false → depth (doc (fields_of d)) ≤ most_levels → ReadsAs (text (doc (fields_of d))) d }
 {}
 
 /// The same of a document in memory, whose numbers, texts and names are as that law wants them, since it exists.
@@ -37,7 +38,7 @@ pub fn reads_back()
 #[tactic(auto, using(crate::proofs::ReadBackLemmas::document_back))]
 pub fn document_reads_back(document: &Document)
     ensures { IsPlain (doc (fields_of (pairs document.now))) → zero_in (doc (fields_of (pairs document.now))) ≡ false
-        → depth (doc (fields_of (pairs document.now))) ≤ 200
+        → depth (doc (fields_of (pairs document.now))) ≤ most_levels
         → ReadsAs (text (doc (fields_of (pairs document.now)))) (pairs document.now) }
 {
     document_fits(document);

@@ -21,7 +21,7 @@ mod laws;
 mod read;
 mod reading;
 
-pub use bd_diagnose::{BRACKETS, JsonFault, JsonFaultKind, LEVELS};
+pub use bd_diagnose::{JsonFault, JsonFaultKind};
 pub use bd_text::{
     LineRoom, write_doc, write_node, write_number, write_number32, write_path, write_string,
     write_value,

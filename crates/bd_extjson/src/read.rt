@@ -1,6 +1,7 @@
 //! The document that a text is.
 ghost use Rattle.std.specs.Prelude.{◌≡◌, ◌≢◌, Err, IfOk, IfErr, length, option_and_then};
 ghost use Rattle.std.specs.Str.{IsUtf8};
+ghost use Rattle.bd_value.specs.Limits.{most_levels};
 ghost use Rattle.bd_value.specs.Tree.{Doc};
 ghost use Rattle.bd_value.specs.View.{tree_of, pairs};
 ghost use Rattle.bd_wrapper.specs.Progress.{GivesValue};
@@ -11,17 +12,17 @@ ghost use Rattle.bd_diagnose.specs.declared.json_fault.JsonFaultKind.TheVariants
 ghost use Rattle.bd_wrapper.specs.declared.trouble.Trouble.TheVariants as troubles;
 
 use crate::reading::{document_of, read_value};
-use bd_diagnose::{BRACKETS, JsonFault, JsonFaultKind, LEVELS, diagnose};
-use bd_value::{Document, Value};
+use bd_diagnose::{JsonFault, JsonFaultKind, diagnose};
+use bd_value::{Document, MOST_BRACKETS, MOST_LEVELS, Value};
 use bd_wrapper::Trouble;
 use json::{Reader, Scratch};
 use std::alloc::Global;
 
 fn read_text(alloc: Global, text: &str, scratch: &mut Scratch) -> Result<Value, Trouble>
-    ensures { GivesValue tree_of result (option_and_then (wrap 200) (json text.now)) }
+    ensures { GivesValue tree_of result (option_and_then (wrap most_levels) (json text.now)) }
 {
     let mut reader = Reader::new(text, scratch)?;
-    let value = read_value(alloc, &mut reader, LEVELS, BRACKETS)?;
+    let value = read_value(alloc, &mut reader, MOST_LEVELS, MOST_BRACKETS)?;
     if reader.next().is_some() {
         return Err(Trouble::Refused);
     }

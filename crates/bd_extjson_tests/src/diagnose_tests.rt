@@ -1,5 +1,6 @@
 //! What is told of texts, where the program does not show it.
-use bd_diagnose::{BRACKETS, JsonFaultKind, LEVELS, diagnose};
+use bd_diagnose::{JsonFaultKind, diagnose};
+use bd_value::{MOST_BRACKETS, MOST_LEVELS};
 use std::test::Fail;
 
 /// Of a document no fault is told, at the text's end. These are the deepest.
@@ -22,7 +23,7 @@ fn takes_the_deepest_documents(rt: HostRuntime) -> Result<(), Fail> {
 
 #[test]
 fn has_limits_and_words(rt: HostRuntime) {
-    assert!(rt; BRACKETS == 203 && LEVELS == 200);
+    assert!(rt; MOST_BRACKETS == 203 && MOST_LEVELS == 200);
     assert!(rt; JsonFaultKind::TooDeep.words() == "too deep");
     // It has no place.
     let told = diagnose(rt.alloc(), b" [1]");

@@ -1,5 +1,6 @@
 //! The calls that reading is made of, once each.
-use bd_extjson::{BRACKETS, LEVELS, bare_number, read_wrapper, wrapper_named};
+use bd_extjson::{bare_number, read_wrapper, wrapper_named};
+use bd_value::{MOST_BRACKETS, MOST_LEVELS};
 use bd_value::Value;
 use bd_wrapper::{
     Wrapper, is_whole_number, names_code, names_scope, number_of, only, pair, unwrap_single, whole,
@@ -52,6 +53,6 @@ fn reads_a_wrapper(rt: HostRuntime) {
     let _ = reader.next();
     let name = reader.next_key().expect(&rt, "a name");
     let wrapper = wrapper_named(name).expect(&rt, "a wrapper");
-    let least = read_wrapper(rt.alloc(), &mut reader, wrapper, LEVELS, BRACKETS);
+    let least = read_wrapper(rt.alloc(), &mut reader, wrapper, MOST_LEVELS, MOST_BRACKETS);
     assert!(rt; matches!(least, Ok(Value::MinKey)));
 }

@@ -4,6 +4,7 @@ use Rattle.std.proofs.Common.{◌≡◌, ◌<◌, ◌+◌, ℕ, List, [], ◌++�
 use Rattle.std.specs.Prelude.{◌⊎◌, codes}
 use Rattle.std.proofs.lemmas.List.{get_or-append-add}
 use Rattle.std.proofs.KnownBytes.{Appends-nil}
+use Rattle.bd_value.specs.Limits.{longest_input, most_reads}
 use Rattle.bd_value.specs.Tree.{Doc}
 use Rattle.bd_device.specs.Counts.{after_more}
 use Rattle.bd_device.specs.Devices.{LosesAtLeast, Reader, Writer, between}
@@ -38,9 +39,10 @@ module _ (old new : Reader) (out_old out_new : Writer) (err_old err_new : Writer
   abbrev Tells : List ℕ → Status → Type 0
   Tells text wanted =
       TellsMessage (between err_old err_new) text wanted status
-      ⊎ (TakesAtMost 4294967295 (between old new) × (new.failures ≡ old.failures) × TellsMessage (between err_old err_new) (error_line (codes "no memory")) Failed status)
+      ⊎ (TakesAtMost longest_input (between old new) × (new.failures ≡ old.failures) × TellsMessage (between err_old err_new) (error_line (codes "no memory")) Failed status)
 
-  all_of : (bytes : List ℕ) (fault : Option ReadFault) (shown : Transcript) (ds : List Doc) (given rest : List ℕ) → StreamsInput (between old new) bytes fault → EndsWithinLimit bytes fault → IsShownByDump bytes fault shown
+  all_of : (bytes : List ℕ) (fault : Option ReadFault) (shown : Transcript) (ds : List Doc) (given rest : List ℕ)
+      → StreamsInput (between old new) bytes fault → EndsWithinLimit bytes fault → IsShownByDump bytes fault shown
       → AreJoined ds given → bytes ≡ given ++ rest → shown.out ≡ lines ds → TakesText (between out_old out_new) (lines ds) → Tells shown.err shown.status → Shows
   all_of bytes fault shown ds given rest was within is joined cut same wrote (inl t) =
       inl (bytes, fault, shown, was, within, is, subst (λ (x : List ℕ). TakesText (between out_old out_new) x) (sym same) wrote, t)
@@ -51,7 +53,7 @@ module _ (old new : Reader) (out_old out_new : Writer) (err_old err_new : Writer
       → error_line (fault_text f.document (fault_view f)) ++ dump_count_line count ≡ dump_message (length ds) (Some (fault_view f))
   numbered count f ds same is = ap₂ (λ (n m : ℕ). error_line (fault_text n (fault_view f)) ++ dump_count_line m) is same
 
-  told_of : (text : List ℕ) (wanted : Status) (ending : Ending) → (IsFaulty ending → TakesAtMost 4294967295 (between old new) × (new.failures ≡ old.failures))
+  told_of : (text : List ℕ) (wanted : Status) (ending : Ending) → (IsFaulty ending → TakesAtMost longest_input (between old new) × (new.failures ≡ old.failures))
       → TellsMessage (between err_old err_new) text wanted status ⊎ (IsFaulty ending × TellsMessage (between err_old err_new) (error_line (codes "no memory")) Failed status) → Tells text wanted
   told_of text wanted ending well (inl t) = inl t
   told_of text wanted ending well (inr t) = let w = well t.0 in inr (w.0, w.1, t.1)
@@ -85,10 +87,10 @@ failed_as f = Err f
 pub was_refused : {A : Type 0} (old new : Reader) (fault : ReadFault)
     → (failed_as {A = A} fault ≡ failed_as reads.Device → new.failures ≡ after_more old.failures 1)
     → (¬ (failed_as {A = A} fault ≡ failed_as reads.Device) → new.failures ≡ old.failures)
-    → (failed_as {A = A} fault ≡ failed_as reads.TooLong → IfSome old.left (λ xs. 4294967295 < length xs))
-    → (failed_as {A = A} fault ≡ failed_as reads.TooManyTurns → LosesAtLeast 4294967296 old.left new.left)
-    → (failed_as {A = A} fault ≡ failed_as reads.TooManyTurns → new.calls ≡ after_more old.calls 4294967296)
-    → (failed_as {A = A} fault ≡ failed_as reads.NoMemory → TakesAtMost 4294967295 (between old new))
+    → (failed_as {A = A} fault ≡ failed_as reads.TooLong → IfSome old.left (λ xs. longest_input < length xs))
+    → (failed_as {A = A} fault ≡ failed_as reads.TooManyTurns → LosesAtLeast most_reads old.left new.left)
+    → (failed_as {A = A} fault ≡ failed_as reads.TooManyTurns → new.calls ≡ after_more old.calls most_reads)
+    → (failed_as {A = A} fault ≡ failed_as reads.NoMemory → TakesAtMost longest_input (between old new))
     → ReadsInput (between old new) (Err fault)
 was_refused old new reads.Device failed well long turns made few = failed refl
 was_refused old new reads.TooLong failed well long turns made few = (long refl, well (λ e. absurd cc))

@@ -1,11 +1,13 @@
 -- Inputs that are read document by document.
-use Rattle.std.proofs.Common.{rules, ◌≡◌, ◌≤◌, ℕ, ◌+◌, ◌-◌, List, [], ◌++◌, length, length-take-le, map, Option, Some, None, Err, refl, sym, ap, ap₂, ◌∙◌, subst, append_assoc, append-nil, arith, length-append}
+use Rattle.std.proofs.Common.{rules, ◌≡◌, ◌≤◌, ℕ, ◌+◌, ◌-◌, List, [], ◌++◌, length, length-take-le, map, Option, Some, None, Err, refl, sym, ap, ap₂, ◌∙◌}
+use Rattle.std.proofs.Common.{subst, append_assoc, append-nil, arith, length-append}
 use Rattle.std.specs.Prelude.{IfSome, string_bytes}
 use Rattle.std.specs.Io.{StartsWith}
 use Rattle.std.specs.Io.KnownBytes.{Consumes, IsAtEnd}
 use Rattle.std.proofs.KnownBytes.{Consumes-trans}
 use Rattle.std.proofs.lemmas.List.{take_at}
 use Rattle.std.proofs.Transfers.{starts_with_of_append}
+use Rattle.bd_value.specs.Limits.{longest_input, most_reads}
 use Rattle.bd_device.specs.Counts.{after_more}
 use Rattle.bd_device.specs.declared.reading.ReadFault.{ReadFault}
 use Rattle.bd_device.specs.declared.reading.ReadFault.TheVariants as reads
@@ -75,10 +77,10 @@ front_after None new bytes given rest gave cut = _
 front_after (Some xs) None bytes given rest gave cut = absurd gave
 front_after (Some xs) (Some ys) bytes given rest gave cut = starts_with_of_append xs given (rest ++ ys) (gave ∙ ap (λ z. z ++ ys) cut ∙ append_assoc given rest ys)
 
-pub more_called : (a b c turns fewer : ℕ) → turns ≤ 4294967296 → fewer ≤ turns → b ≡ after_more a (4294967296 - turns) → c ≡ after_more b (turns - fewer) → c ≡ after_more a (4294967296 - fewer)
+pub more_called : (a b c turns fewer : ℕ) → turns ≤ most_reads → fewer ≤ turns → b ≡ after_more a (most_reads - turns) → c ≡ after_more b (turns - fewer) → c ≡ after_more a (most_reads - fewer)
 more_called a b c turns fewer le less first second = search rules
 
-pub all_called : (a b c turns : ℕ) → turns ≤ 4294967296 → b ≡ after_more a (4294967296 - turns) → c ≡ after_more b turns → c ≡ after_more a 4294967296
+pub all_called : (a b c turns : ℕ) → turns ≤ most_reads → b ≡ after_more a (most_reads - turns) → c ≡ after_more b turns → c ≡ after_more a most_reads
 all_called a b c turns le first second = search rules
 
 -- the fault that is in a document of which all bytes were given
@@ -97,9 +99,9 @@ fault_of_length place given bytes f at is offset path =
 -- ---- a read that failed
 
 module _ (old : Reader) (given : List ℕ) {R : Type 0} (state : R → Reader) (gives : R → Option (List ℕ) → R → Type 0) (documents : DocBuffer) (m n : R)
-    (gave : Consumes old.left (state m).left given) (fits : documents.left.bytes + length given ≡ 4294967295) (turned : documents.left.turns ≤ 4294967296)
-    (called : (state m).calls ≡ after_more old.calls (4294967296 - documents.left.turns)) (well : (state m).failures ≡ old.failures)
-    (frames : List (List ℕ)) (framed : AreFrames frames given) (many : 4294967296 - documents.left.turns ≤ length given) where
+    (gave : Consumes old.left (state m).left given) (fits : documents.left.bytes + length given ≡ longest_input) (turned : documents.left.turns ≤ most_reads)
+    (called : (state m).calls ≡ after_more old.calls (most_reads - documents.left.turns)) (well : (state m).failures ≡ old.failures)
+    (frames : List (List ℕ)) (framed : AreFrames frames given) (many : most_reads - documents.left.turns ≤ length given) where
   -- the bytes of the document that were given, and what is known then
   abbrev pub Unread : ReadFault → Type 0
   Unread f = (part : List ℕ) × StreamsInput (between old (state n)) (given ++ part) (Some f) × IsCut part
@@ -107,7 +109,7 @@ module _ (old : Reader) (given : List ℕ) {R : Type 0} (state : R → Reader) (
   moved : (part : List ℕ) → Consumes (state m).left (state n).left part → Consumes old.left (state n).left (given ++ part)
   moved part more = Consumes-trans old.left (state m).left (state n).left given part gave more
 
-  short : (part : List ℕ) → length part ≤ documents.left.bytes → length (given ++ part) ≤ 4294967295
+  short : (part : List ℕ) → length part ≤ documents.left.bytes → length (given ++ part) ≤ longest_input
   short part le = omega (arith, fits, le, length-append given part)
 
   pub unread : (part : List ℕ) (f : ReadFault) → ¬ (f ≡ reads.NoMemory) → Consumes (state m).left (state n).left part
@@ -118,13 +120,15 @@ module _ (old : Reader) (given : List ℕ) {R : Type 0} (state : R → Reader) (
       let all : Consumes old.left (state n).left (given ++ (reason.0 ++ reason.1)) = subst (λ (x : List ℕ). Consumes old.left (state n).left (given ++ x)) reason.2 (moved part more) in
       let after : Consumes old.left (state n).left ((given ++ reason.0) ++ reason.1) = subst (Consumes old.left (state n).left) (sym (append_assoc given reason.0 reason.1)) all in (
         reason.0,
-        (reason.1, after, short reason.0 reason.4, let r = reason.5 in omega (arith, fits, r, length-append given reason.0), (frames, given, reason.0, framed, refl, subst IsWithinOne reason.2 reason.6), reason.7 ∙ well),
+        (reason.1, after, short reason.0 reason.4, let r = reason.5 in omega (arith, fits, r, length-append given reason.0),
+            (frames, given, reason.0, framed, refl, subst IsWithinOne reason.2 reason.6), reason.7 ∙ well),
         reason.3,
       )
   unread part reads.TooManyTurns other more reason =
       let each = reads_at_least documents.left.turns m n part reason.2 in
-      let all : 4294967296 ≤ length (given ++ part) = omega (arith, many, turned, each, length-append given part) in
-      (part, (moved part more, short part reason.1, (given ++ part, moved part more, all), all_called old.calls (state m).calls (state n).calls documents.left.turns turned called reason.3, reason.4 ∙ well), reason.0)
+      let all : most_reads ≤ length (given ++ part) = omega (arith, many, turned, each, length-append given part) in
+      (part, (moved part more, short part reason.1, (given ++ part, moved part more, all), all_called old.calls (state m).calls (state n).calls
+          documents.left.turns turned called reason.3, reason.4 ∙ well), reason.0)
   unread part reads.NoMemory other more reason = absurd (other refl)
 
 -- what stands in front of an input's bytes stands in front of the reader's

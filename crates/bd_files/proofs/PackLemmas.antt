@@ -1,6 +1,7 @@
 -- What `pack` shows is determined, but for the kind and the place of a fault.
 pub mod PackingLemmas
 use Rattle.std.proofs.Common.{◌≡◌, ◌<◌, ℕ, suc, List, [], ◌∷◌, length, Option, Some, None, Result, Ok, Err, refl, sym, ap, ap₂, ◌∙◌, subst, arith, inl, inr, true, false, true≢false}
+use Rattle.bd_value.specs.Limits.{longest_document}
 use Rattle.bd_value.specs.Tree.{Doc}
 use Rattle.bd_device.specs.declared.reading.ReadFault.{ReadFault}
 use Rattle.bd_extjson.specs.TextDocument.{ReadsAs}
@@ -22,7 +23,7 @@ good_or_bad : (line : List ℕ) (d : Doc) (fault : LineFault) → IsPackable lin
 good_or_bad line d (faults.Unread f) good bad = bad.1 d good.0
 good_or_bad line d faults.TooLong good (e, is, long) =
     let same = read_once line e d is good.0 in
-    let longer : 16793600 < length (plain d) = subst (λ (x : Doc). 16793600 < length (plain x)) same long in
+    let longer : longest_document < length (plain d) = subst (λ (x : Doc). longest_document < length (plain x)) same long in
     let short = good.1 in omega arith
 
 alike_faults : (line : List ℕ) (f g : LineFault) → IsBad line f → IsBad line g → AreAlikeFaults f g
@@ -37,7 +38,8 @@ alike_ends bad other same there p q a = subst (λ (b : Option BadLine). AreAlike
 blank_or_not : {A : Type 0} (b : _) → b ≡ true → b ≡ false → A
 blank_or_not b p q = absurd (true≢false (sym p ∙ q))
 
-pub packs_once : (number : ℕ) (lines : List (List ℕ)) (ds es : List Doc) (bad other : Option BadLine) → PacksLines number lines ds bad → PacksLines number lines es other → (ds ≡ es) × AreAlike bad other
+pub packs_once : (number : ℕ) (lines : List (List ℕ)) (ds es : List Doc) (bad other : Option BadLine) → PacksLines number lines ds bad
+    → PacksLines number lines es other → (ds ≡ es) × AreAlike bad other
 packs_once number [] ds es bad other p q = (p.0 ∙ sym q.0, alike_ends bad other None None p.1 q.1 tt)
 packs_once number (line ∷ lines) ds es bad other (inl p) (inl q) = packs_once (suc number) lines ds es bad other p.1 q.1
 packs_once number (line ∷ lines) ds es bad other (inl p) (inr (inl q)) = blank_or_not _ p.0 q.0

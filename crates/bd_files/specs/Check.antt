@@ -3,6 +3,7 @@ pub mod Judging
 use Rattle.std.specs.Prelude.{◌≡◌, ◌≤◌, ◌⊎◌, ℕ, zero, suc, List, [], ◌∷◌, ◌++◌, length, codes, decimal, Option, Some, None, Err, is_some}
 use Rattle.std.specs.Io.KnownBytes.{Consumes}
 use Rattle.std.specs.List.{count_by}
+use Rattle.bd_value.specs.Limits.{longest_input}
 use Rattle.bd_device.specs.Devices.{BreaksAfter, BreaksWithin, Over, Reader, TakesFront, TakesText, Writer}
 use Rattle.bd_device.specs.declared.reading.ReadFault.{ReadFault}
 use Rattle.bd_check.specs.Fault.{Fault}
@@ -61,10 +62,10 @@ IsShownByCheck bytes (Some fault) shown =
 -- no more than 4,294,967,295 bytes were judged: there are no more, or no more stand before a faulty length
 abbrev pub JudgesWithinLimit : List ℕ → Option ReadFault → Type 0
 JudgesWithinLimit bytes None =
-    (length bytes ≤ 4294967295)
+    (length bytes ≤ longest_input)
     ⊎ ((frames : List (List ℕ)) × (front : List ℕ) × (rest : List ℕ) × (kind : FaultKind)
     × AreFrames frames front
-    × (bytes ≡ front ++ rest) × (frame_length rest ≡ Err kind) × (length front ≤ 4294967295))
+    × (bytes ≡ front ++ rest) × (frame_length rest ≡ Err kind) × (length front ≤ longest_input))
 JudgesWithinLimit bytes (Some f) = Unit {0}
 
 -- the reader gave these documents and no byte after them, and standard output broke in the line of the last of them

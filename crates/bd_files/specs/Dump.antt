@@ -3,6 +3,7 @@ pub mod Walk
 use Rattle.std.specs.Prelude.{◌≡◌, ◌≤◌, ◌⊎◌, ℕ, List, [], ◌∷◌, ◌++◌, length, codes, decimal, Option, Some, None, IfSome, slice_index, ◌<◌}
 use Rattle.std.specs.Io.{StartsWith}
 use Rattle.std.specs.Io.KnownBytes.{Consumes}
+use Rattle.bd_value.specs.Limits.{longest_input}
 use Rattle.bd_value.specs.Tree.{Doc}
 use Rattle.bd_device.specs.Devices.{BreaksAfter, Over, Reader, TakesAtMost, TakesText, Writer}
 use Rattle.bd_device.specs.declared.reading.ReadFault.{ReadFault}
@@ -43,10 +44,10 @@ IsShownByDump bytes (Some fault) shown =
 -- no more than 4,294,967,295 bytes were walked over: there are no more, or no more stand before the first fault
 abbrev pub EndsWithinLimit : List ℕ → Option ReadFault → Type 0
 EndsWithinLimit bytes None =
-    (length bytes ≤ 4294967295)
+    (length bytes ≤ longest_input)
     ⊎ ((ds : List Doc) × (f : Fault) × (front : List ℕ) × (rest : List ℕ) × AreJoined ds front
     × (bytes ≡ front ++ rest)
-    × (frame_fault (length front) rest ≡ Some f) × (length front ≤ 4294967295))
+    × (frame_fault (length front) rest ≡ Some f) × (length front ≤ longest_input))
 EndsWithinLimit bytes (Some f) = Unit {0}
 
 -- the text begins with this front
@@ -72,7 +73,7 @@ BreaksAtDocument file out =
 abbrev pub StarvesAfterDocuments : Over Reader → Over Writer → Type 0
 StarvesAfterDocuments file out =
     (ds : List Doc) × (given : List ℕ) × AreJoined ds given
-    × IfSome file.before.left (λ xs. StartsWith xs given) × TakesAtMost 4294967295 file
+    × IfSome file.before.left (λ xs. StartsWith xs given) × TakesAtMost longest_input file
     × (file.after.failures ≡ file.before.failures) × TakesText out (lines ds)
 
 -- all was shown; or standard output broke, or memory ran out, and standard error tells so

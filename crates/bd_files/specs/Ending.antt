@@ -1,5 +1,6 @@
 -- What comes after the documents of an input.
 use Rattle.std.specs.Prelude.{◌≡◌, [], Result, Ok, Err, false}
+use Rattle.bd_value.specs.Limits.{longest_input, most_reads}
 use Rattle.bd_device.specs.declared.reading.ReadFault.TheVariants as reads
 use Rattle.bd_stream.specs.declared.doc_buffer.DocBuffer.{DocBuffer}
 use Rattle.bd_check.specs.declared.fault.Fault.{Fault}
@@ -15,7 +16,7 @@ use Rattle.bd_files.specs.declared.output.lines.OutputFault.TheVariants.{NoMemor
 abbrev pub IsFresh : DocBuffer → Type 0
 IsFresh documents =
     (documents.place ≡ 0) × (documents.number ≡ 0) × (documents.failed ≡ false)
-    × (documents.left.bytes ≡ 4294967295) × (documents.left.turns ≡ 4294967296)
+    × (documents.left.bytes ≡ longest_input) × (documents.left.turns ≡ most_reads)
 
 -- the fault of a dump that a fault of a length is
 pub record IsFaultOfFrame (frame : FrameFault) (fault : Fault) : Type 0 where

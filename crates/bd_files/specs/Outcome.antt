@@ -1,6 +1,7 @@
 -- What a run read of its input, and what it told of itself.
 use Rattle.std.specs.Prelude.{◌≡◌, ◌≤◌, ◌<◌, ◌⊎◌, ◌+◌, ℕ, List, ◌++◌, length, codes, Option, Some, None, IfSome, Result, Ok, Err}
 use Rattle.std.specs.Io.KnownBytes.{Consumes, IsAtEnd}
+use Rattle.bd_value.specs.Limits.{longest_input, most_reads}
 use Rattle.bd_device.specs.Counts.{after_more}
 use Rattle.bd_device.specs.Devices.{BreaksWithin, LosesAtLeast, Over, Reader, TakesAtMost, TakesFront, TakesText, Writer}
 use Rattle.bd_device.specs.declared.reading.ReadFault.{ReadFault}
@@ -15,35 +16,35 @@ use Rattle.bd_files.specs.declared.status.Status.TheVariants.{Failed}
 -- the reader's bytes are these, or it was not read whole for this reason
 abbrev pub ReadsInput : Over Reader → Result (List ℕ) ReadFault → Type 0
 ReadsInput file (Ok bytes) =
-    IfSome file.before.left (λ xs. bytes ≡ xs) × IsAtEnd file.after.left × (length bytes ≤ 4294967295)
+    IfSome file.before.left (λ xs. bytes ≡ xs) × IsAtEnd file.after.left × (length bytes ≤ longest_input)
     × (file.after.failures ≡ file.before.failures)
 ReadsInput file (Err reads.Device) = file.after.failures ≡ after_more file.before.failures 1
 ReadsInput file (Err reads.TooLong) =
-    IfSome file.before.left (λ xs. 4294967295 < length xs) × (file.after.failures ≡ file.before.failures)
+    IfSome file.before.left (λ xs. longest_input < length xs) × (file.after.failures ≡ file.before.failures)
 ReadsInput file (Err reads.TooManyTurns) =
-    LosesAtLeast 4294967296 file.before.left file.after.left
-    × (file.after.calls ≡ after_more file.before.calls 4294967296)
+    LosesAtLeast most_reads file.before.left file.after.left
+    × (file.after.calls ≡ after_more file.before.calls most_reads)
     × (file.after.failures ≡ file.before.failures)
 ReadsInput file (Err reads.NoMemory) =
-    TakesAtMost 4294967295 file × (file.after.failures ≡ file.before.failures)
+    TakesAtMost longest_input file × (file.after.failures ≡ file.before.failures)
 
 -- The reader's bytes are these, and no more than the limit were taken; or it gave these, and no more of them were read for this
 -- reason. A read that went past the limit gave no more than was missing of the document that it was in.
 abbrev pub StreamsInput : Over Reader → List ℕ → Option ReadFault → Type 0
 StreamsInput file bytes None =
-    IfSome file.before.left (λ xs. bytes ≡ xs) × TakesAtMost 4294967295 file
+    IfSome file.before.left (λ xs. bytes ≡ xs) × TakesAtMost longest_input file
     × (file.after.failures ≡ file.before.failures)
 StreamsInput file bytes (Some reads.Device) =
-    Consumes file.before.left file.after.left bytes × (length bytes ≤ 4294967295)
+    Consumes file.before.left file.after.left bytes × (length bytes ≤ longest_input)
     × (file.after.failures ≡ after_more file.before.failures 1)
 StreamsInput file bytes (Some reads.TooLong) =
     (last : List ℕ) × Consumes file.before.left file.after.left (bytes ++ last)
-    × (length bytes ≤ 4294967295) × (4294967295 < length bytes + length last) × EndsWithinOne bytes last
+    × (length bytes ≤ longest_input) × (longest_input < length bytes + length last) × EndsWithinOne bytes last
     × (file.after.failures ≡ file.before.failures)
 StreamsInput file bytes (Some reads.TooManyTurns) =
-    Consumes file.before.left file.after.left bytes × (length bytes ≤ 4294967295)
-    × LosesAtLeast 4294967296 file.before.left file.after.left
-    × (file.after.calls ≡ after_more file.before.calls 4294967296)
+    Consumes file.before.left file.after.left bytes × (length bytes ≤ longest_input)
+    × LosesAtLeast most_reads file.before.left file.after.left
+    × (file.after.calls ≡ after_more file.before.calls most_reads)
     × (file.after.failures ≡ file.before.failures)
 StreamsInput file bytes (Some reads.NoMemory) = ⊥
 

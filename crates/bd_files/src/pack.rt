@@ -5,6 +5,7 @@
 mod packing;
 
 ghost use Rattle.std.specs.Prelude.{◌≡◌, ◌≤◌, ◌⊎◌, ◌++◌, IfOk, OnOk, Ok, Err, length, codes};
+ghost use Rattle.bd_value.specs.Limits.{longest_input};
 ghost use Rattle.bd_files.specs.declared.status.Status.TheVariants.{Failed};
 ghost use Rattle.bd_files.specs.Outcome.{PrintsOrStarves, TellsMessage};
 ghost use Rattle.bd_files.specs.Pack.{IsShownByPack, PacksInput, bad_line_line, bad_line_text, line_fault_text, pack_message, pack_status};
@@ -111,7 +112,7 @@ fn tell_packing<E: Output>(alloc: Global, packing: &Packing, err: &mut E) -> Sta
 
 /// Shows what a text is packed as.
 fn pack_text<O: Output, E: Output>(alloc: Global, text: &[u8], out: &mut O, err: &mut E) -> Status
-    requires { length text.now ≤ 4294967295 }
+    requires { length text.now ≤ longest_input }
     ensures { (shown : Transcript) × IsShownByPack (Ok text.now) shown
         × PrintsOrStarves (over O.state out.old out.new) (over E.state err.old err.new) shown result }
 {

@@ -2,6 +2,7 @@
 use Rattle.std.proofs.Common.{◌≡◌, ◌⊎◌, inl, inr, ℕ, zero, suc, ◌+◌, ◌-◌, pos, Bool, true, false, not, ◌||◌, if◌then◌else◌}
 use Rattle.std.proofs.Common.{List, [], ◌∷◌, Option, Some, None, Result, Ok, Err, refl, subst}
 use Rattle.std.specs.Prelude.{IsTrue, IsFalse, decimal, is_none, is_err}
+use Rattle.bd_value.specs.Limits.{most_filter_levels}
 use Rattle.bd_value.specs.Tree as trees
 use Rattle.bd_value.specs.Tree.{Tree, leaf, doc, array, code_scope, Doc, Fields, no_fields, field, Items, no_items, item, fields_of}
 use Rattle.bd_path.specs.Names.{Names}
@@ -259,7 +260,7 @@ mutual
 document_agrees : (d : Doc) → Agrees (filter_of d) (IsBadAt d)
 document_agrees d =
     let fs = fields_of d in
-    as_agrees (λ xs. all_of (filters_from xs)) (filters_of 49 fs) (HasBadPair 49 fs) (pairs_agree 49 fs)
+    as_agrees (λ xs. all_of (filters_from xs)) (filters_of (most_filter_levels - 1) fs) (HasBadPair (most_filter_levels - 1) fs) (pairs_agree (most_filter_levels - 1) fs)
 
 where_taken : {A : Type 0} (part : Result A Refusal) (IsBad : Refusals) (x : A) → Agrees part IsBad → part ≡ Ok x → (r : Refusal) → IsBad r → ⊥
 where_taken (Ok y) IsBad x h is = h

@@ -2,6 +2,7 @@
 use Rattle.std.proofs.Common.{◌≡◌, ◌≢◌, ◌⊎◌, inl, inr, ℕ, zero, suc, ◌-◌, Bool, true, false, length, Option, Some, None, if◌then◌else◌, List, [], ◌∷◌, ◌++◌}
 use Rattle.std.proofs.Common.{Result, Ok, Err, map, refl, sym, ap, ◌∙◌, append_assoc, append-nil}
 use Rattle.std.proofs.lemmas.List.{map_push}
+use Rattle.bd_value.specs.Limits.{most_filter_levels}
 use Rattle.bd_value.specs.Kind.{kind_of}
 use Rattle.bd_value.specs.Parts.{AreParts, length_of, values_of}
 use Rattle.bd_value.specs.Tree.{Tree, leaf, doc, array, code_scope, Doc, Fields, Items, no_items, item, fields_of, items_of, list_of, fields_of-pairs_of, pairs_of, items_of-list_of}
@@ -167,9 +168,9 @@ some_types (code_scope s fs) ps is are some = absurd are
 
 -- ---- a whole document
 
-pub whole_is : (d ps : Doc) → ps ≡ pairs_of (fields_of d) → filter_of d ≡ read_as (λ xs. all_of (filters_from xs)) (filters_of 49 (fields_of ps))
+pub whole_is : (d ps : Doc) → ps ≡ pairs_of (fields_of d) → filter_of d ≡ read_as (λ xs. all_of (filters_from xs)) (filters_of (most_filter_levels - 1) (fields_of ps))
 whole_is d ps is =
-    ap (λ fs. read_as (λ xs. all_of (filters_from xs)) (filters_of 49 fs)) (sym (fields_of-pairs_of (fields_of d)) ∙ ap fields_of (sym is))
+    ap (λ fs. read_as (λ xs. all_of (filters_from xs)) (filters_of (most_filter_levels - 1) fs)) (sym (fields_of-pairs_of (fields_of d)) ∙ ap fields_of (sym is))
 
 pub answer_is : {A : Type 0} (stop : Stop) (whole : Result A Refusal) (f : FilterFault) → StopsAt stop whole → IsAnswerTo stop f
     → IsStarved f ⊎ (whole ≡ Err (refusal_of f))

@@ -2,6 +2,7 @@
 -- rule each breaks, and where it stands. Nothing is read in turn: each is bad or not, whatever stands before it.
 use Rattle.std.specs.Prelude.{◌≡◌, ◌⊎◌, ℕ, zero, ◌+◌, ◌-◌, pos, Bool, true, false, not, ◌||◌, List, [], decimal}
 use Rattle.std.specs.Prelude.{IsTrue, IsFalse, is_err, is_none}
+use Rattle.bd_value.specs.Limits.{most_filter_levels}
 use Rattle.bd_value.specs.Tree as trees
 use Rattle.bd_value.specs.Tree.{Tree, leaf, doc, array, code_scope, Items, no_items, item}
 use Rattle.bd_value.specs.Tree.{Fields, no_fields, field, Doc, fields_of}
@@ -160,4 +161,4 @@ abbrev mutual
 
 -- a pair or a member breaks the rule at the place: a filter has fifty levels at most, and its top is one
 abbrev pub IsBadAt : Doc → Refusal → Type 0
-IsBadAt d r = HasBadPair 49 (fields_of d) r
+IsBadAt d r = HasBadPair (most_filter_levels - 1) (fields_of d) r

@@ -1,6 +1,7 @@
 -- Which filter a document is (MongoDB manual, "Query and Projection Operators"), and which pair or member of another document
 -- is the first that is no part of one.
 use Rattle.std.specs.Prelude.{ℕ, zero, ◌+◌, ◌-◌, ◌==◌, ℤ, pos, negsuc, Bool, true, false, not, ◌||◌, List, [], ◌∷◌, ◌++◌, Option, Some, None, Result, Ok, Err, if◌then◌else◌, decimal}
+use Rattle.bd_value.specs.Limits.{most_filter_levels}
 use Rattle.bd_value.specs.Tree as trees
 use Rattle.bd_value.specs.Tree.{Scalar, Tree, leaf, doc, array, code_scope, Items, no_items, item, Fields, no_fields, field, Doc, fields_of}
 use Rattle.bd_value.specs.declared.kind.Kind.{Kind}
@@ -238,4 +239,4 @@ abbrev mutual
 
 -- a filter has fifty levels at most, and its top is one
 abbrev pub filter_of : Doc → Result Filter Refusal
-filter_of d = read_as (λ xs. all_of (filters_from xs)) (filters_of 49 (fields_of d))
+filter_of d = read_as (λ xs. all_of (filters_from xs)) (filters_of (most_filter_levels - 1) (fields_of d))

@@ -19,11 +19,8 @@ use crate::operand::{has_operators, plain_value, under_index};
 use crate::plain::plain_operator;
 use crate::word::{LogicalOperator, Word};
 use bd_path::{Path, PathFault};
-use bd_value::{Document, Kind, Reading, Tree};
+use bd_value::{Document, Kind, MOST_FILTER_LEVELS, Reading, Tree};
 use std::alloc::Global;
-
-/// The most levels that stand inside the top of a filter.
-const LEVELS: u32 = 49;
 
 /// The filter that a document is.
 ///
@@ -39,7 +36,7 @@ pub fn parse(alloc: Global, document: &Document) -> Result<Filter, FilterFault>
     ensures fault { IfErr result (λ f. IsStarved f ⊎ (filter_of (pairs document.now) ≡ Err (refusal_of f))) }
     ensures bad { IfErr result (λ f. IsStarved f ⊎ IsBadAt (pairs document.now) (refusal_of f)) }
 {
-    match read_filters::<Tree<'_>>(alloc, LEVELS, Tree::Doc(document).parts()) {
+    match read_filters::<Tree<'_>>(alloc, MOST_FILTER_LEVELS - 1, Tree::Doc(document).parts()) {
         Ok(filters) => Ok(Filter::And(filters)),
         Err(stop) => Err(fault_of(alloc, stop)),
     }

@@ -6,7 +6,8 @@ use Rattle.bd_value.specs.Tree.{Doc}
 use Rattle.bd_path.specs.Sort.{sort_paths}
 use Rattle.bd_filter.specs.Fault.{refusal_of}
 use Rattle.bd_filter.specs.FilterView.{filter_tree}
-use Rattle.bd_request.specs.Request.{AsksFor, RefusesRequest, greatest_count}
+use Rattle.bd_request.specs.Request.{AsksFor, RefusesRequest}
+use Rattle.bd_value.specs.Limits.{greatest_count}
 use Rattle.bd_request.specs.declared.refused.Refused.{Refused}
 use Rattle.bd_request.specs.declared.refused.Refused.TheVariants as reasons
 use Rattle.bd_request.specs.declared.request.Request.{Request}

@@ -6,6 +6,7 @@ use Rattle.std.proofs.lemmas.List.Elements.{filter_map-append}
 use Rattle.bd_value.specs.Tree.{Doc, doc, fields_of}
 use Rattle.bd_text.specs.Text.{text}
 use Rattle.std.proofs.KnownBytes.{Appends-nil}
+use Rattle.bd_value.specs.Limits.{longest_input}
 use Rattle.bd_bson.specs.Collection.{IsUnread}
 use Rattle.bd_check.specs.AnsweredFault.{fault_view}
 use Rattle.bd_check.specs.declared.fault.Fault as declared
@@ -60,7 +61,7 @@ module _ (out_old out_new : Writer) (err_old err_new : Writer) (status : Status)
   refusal_shown words (inr told) = nothing_shown (shown_refusal words) told
 
   -- what is shown of a dump with a fault
-  pub fault_shown : (w : PageRequest) (bytes : List ℕ) (fault : declared.Fault) → length bytes ≤ 4294967295 → IsUnread bytes fault → ¬ (fault.kind ≡ kinds.NoMemory)
+  pub fault_shown : (w : PageRequest) (bytes : List ℕ) (fault : declared.Fault) → length bytes ≤ longest_input → IsUnread bytes fault → ¬ (fault.kind ≡ kinds.NoMemory)
       → TellsMessage (between err_old err_new) (error_line (fault_text fault.document (fault_view fault))) Failed status ⊎ TellsMessage (between err_old err_new) (error_line (codes "no memory")) Failed status
       → (shown : Transcript) × IsShownOfBytes w bytes shown × PrintsOrStarves (between out_old out_old) (between err_old err_new) shown status
   fault_shown w bytes fault le (inl long) other told = absurd (let more = long.more in omega arith)

@@ -19,7 +19,8 @@ use Rattle.bd_filter.specs.Filter.{Filter}
 use Rattle.bd_filter.specs.FilterOf.{filter_of}
 use Rattle.bd_filter.specs.FilterView.{filter_tree}
 use Rattle.bd_request.specs.Refused.{refused_words}
-use Rattle.bd_request.specs.Request.{greatest_count, request_text}
+use Rattle.bd_request.specs.Request.{request_text}
+use Rattle.bd_value.specs.Limits.{greatest_count}
 use Rattle.bd_request.specs.Sort.{sort_of}
 use Rattle.bd_request.specs.Token.{token_of}
 use Rattle.bd_request.specs.declared.refused.Refused.{Refused}

@@ -61,4 +61,4 @@ pub record IsReady (s : State) (id : ℕ) (count : ℕ) : Type 0 where
   pub cursor : OpenCursor
   pub is_there : cursor_of id s.cursors ≡ Some cursor
   pub inside : All (λ p. p < count) cursor.left
-  pub few : length cursor.left ≤ 2147483647
+  pub few : length cursor.left ≤ greatest_count

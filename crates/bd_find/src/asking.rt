@@ -13,11 +13,8 @@ use bd_diagnose::{JsonFault, JsonFaultKind};
 use bd_extjson::{read_doc, write_number, write_path};
 use bd_filter::FilterFault;
 use bd_path::{Path, PathFault};
-use bd_value::{Document, NoMemory};
+use bd_value::{Document, GREATEST_COUNT, NoMemory};
 use std::alloc::{AllocError, Global};
-
-/// The greatest size of a batch.
-const GREATEST: u32 = 2_147_483_647;
 
 /// What is asked for.
 #[derive(Drop)]
@@ -136,7 +133,7 @@ fn is_batch(size: Option<u32>) -> bool
     ensures { result ≡ fits_batch size }
 {
     match size {
-        Some(size) => size <= GREATEST,
+        Some(size) => u64::from(size) <= GREATEST_COUNT,
         None => true,
     }
 }

@@ -24,11 +24,8 @@ use bd_files::Status;
 use bd_files::output::lines::OutputFault;
 use bd_files::output::messages::{status_of, tell_error, tell_no_memory, tell_unwritten};
 use bd_path::Path;
-use bd_value::NoMemory;
+use bd_value::{GREATEST_COUNT, NoMemory};
 use std::alloc::Global;
-
-/// The greatest size of a batch.
-const GREATEST: u64 = 2_147_483_647;
 
 /// Shows the first batch of what is asked for of a dump.
 pub(crate) fn show_found<O: Output, E: Output>(
@@ -38,7 +35,7 @@ pub(crate) fn show_found<O: Output, E: Output>(
     out: &mut O,
     err: &mut E,
 ) -> Status
-    requires few { length (documents dump) ≤ 2147483647 }
+    requires few { length (documents dump) ≤ greatest_count }
     requires fits { fits_batch asking.size ≡ true }
     ensures { (shown : Transcript) × IsShownOfDump (bytes_of dump) (documents dump) (page_request_of asking) shown
         × PrintsOrStarves (over O.state out.old out.new) (over E.state err.old err.new) shown result }
@@ -107,11 +104,11 @@ fn show_batch<O: Output, E: Output>(
 
 /// How many documents a size asks for; without one, as many as a batch may have.
 fn most_of(size: Option<u32>) -> u64
-    ensures { MatchOption size (result ≡ 2147483647) (λ n. result ≡ n) }
+    ensures { MatchOption size (result ≡ greatest_count) (λ n. result ≡ n) }
 {
     match size {
         Some(size) => u64::from(size),
-        None => GREATEST,
+        None => GREATEST_COUNT,
     }
 }
 

@@ -2,6 +2,7 @@
 //! nothing that is shown.
 
 ghost use Rattle.std.specs.Prelude.{◌≡◌, ◌≤◌, length, true};
+ghost use Rattle.bd_value.specs.Limits.{longest_input};
 ghost use Rattle.bd_command_line.specs.FindWords.{find_words_of};
 ghost use Rattle.bd_find.specs.Find.{FindsDocuments, IsShownOfBytes};
 ghost use Rattle.bd_find.specs.Asking.{AsksNothing, PageRequest, fits_batch, page_request_of};
@@ -51,7 +52,7 @@ fn find_in<O: Output, E: Output>(
     out: &mut O,
     err: &mut E,
 ) -> Status
-    requires short { length bytes.items ≤ 4294967295 }
+    requires short { length bytes.items ≤ longest_input }
     requires fits { fits_batch asking.size ≡ true }
     ensures { (shown : Transcript) × IsShownOfBytes (page_request_of asking) bytes.items shown
         × PrintsOrStarves (over O.state out.old out.new) (over E.state err.old err.new) shown result }

@@ -1,5 +1,6 @@
 -- What the fronts of two texts tell of their order.
-use Rattle.std.proofs.Common.{◌≡◌, ◌≢◌, ◌<◌, ◌≤◌, ℕ, ℤ, List, [], ◌∷◌, ◌++◌, length, min, take, drop, zero, suc, refl, sym, ap, ap₂, ◌∙◌, arith, Bool, true, false, not, nat_lt, ◌&&◌, ◌||◌, ◌==◌, Ordering, ◌⊎◌, inl, inr}
+use Rattle.std.proofs.Common.{◌≡◌, ◌≢◌, ◌<◌, ◌≤◌, ℕ, ℤ, List, [], ◌∷◌, ◌++◌, length, min, take, drop, zero, suc, refl, sym, ap, ap₂, ◌∙◌, arith, Bool, true}
+use Rattle.std.proofs.Common.{false, not, nat_lt, ◌&&◌, ◌||◌, ◌==◌, Ordering, ◌⊎◌, inl, inr}
 use Rattle.std.specs.Cmp.Lexicographic.{slice_cmp}
 use Rattle.std.specs.Ordering.{int_cmp, is_eq, nat_cmp, ordering_then}
 use Rattle.std.specs.declared.cmp.Ordering.TheVariants.{Less, Equal, Greater}
@@ -120,13 +121,15 @@ decided o Less q r is first then_so = is ∙ first
 decided o Equal q r is first then_so = is ∙ then_so refl is
 decided o Greater q r is first then_so = is ∙ first
 
-texts_decided : (o : Ordering) (s t : List ℕ) → o ≡ ordering_then (slice_cmp nat_cmp (padded 15 s) (padded 15 t)) (nat_cmp (min (length s) 16) (min (length t) 16)) → (o ≡ Equal → min (length s) 16 < 16) → o ≡ bytes_cmp s t
+texts_decided : (o : Ordering) (s t : List ℕ) → o ≡ ordering_then (slice_cmp nat_cmp (padded 15 s) (padded 15 t))
+    (nat_cmp (min (length s) 16) (min (length t) 16)) → (o ≡ Equal → min (length s) 16 < 16) → o ≡ bytes_cmp s t
 texts_decided o s t is short =
     decided o (slice_cmp nat_cmp (padded 15 s) (padded 15 t)) (nat_cmp (min (length s) 16) (min (length t) 16)) (bytes_cmp s t) is (padded_first 15 s t) (λ e f.
     let few : min (length s) (length t) ≤ 15 = one_short (length s) (length t) (λ g. short (f ∙ g)) in
     capped (length s) (length t) few ∙ sym (padded_then 15 s t e few))
 
-pub fronts_told : (a b : TextFront) (o : Ordering) → o ≡ ordering_then (slice_cmp nat_cmp a.bytes b.bytes) (nat_cmp a.length b.length) → (o ≡ Equal → a.length < 16) → (s t : List ℕ) → a ≡ front_of_text s → b ≡ front_of_text t → o ≡ bytes_cmp s t
+pub fronts_told : (a b : TextFront) (o : Ordering) → o ≡ ordering_then (slice_cmp nat_cmp a.bytes b.bytes) (nat_cmp a.length b.length)
+    → (o ≡ Equal → a.length < 16) → (s t : List ℕ) → a ≡ front_of_text s → b ≡ front_of_text t → o ≡ bytes_cmp s t
 fronts_told a b o is short s t e f =
     let long : a.length ≡ min (length s) 16 = ap (λ (g : TextFront). g.length) e in
     let order : o ≡ ordering_then (slice_cmp nat_cmp (padded 15 s) (padded 15 t)) (nat_cmp (min (length s) 16) (min (length t) 16)) =

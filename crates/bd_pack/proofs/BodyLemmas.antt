@@ -96,7 +96,8 @@ pub if_ok : {A E : Type 0} (r : Result A E) (x : A) (P : A → Type 0) → Some 
 if_ok (Ok y) x P e p = let is : x ≡ y = cc in rw is p
 if_ok (Err f) x P e p = absurd cc
 
-pub gave : {X A : Type 0} (view : X → A) (r : Result X Trouble) (x : X) (rest : List Token) (read : Option (A × List Token)) → Some x ≡ result_ok r → GivesTokens view r rest read → read ≡ Some (view x, rest)
+pub gave : {X A : Type 0} (view : X → A) (r : Result X Trouble) (x : X) (rest : List Token) (read : Option (A × List Token)) → Some x ≡ result_ok r
+    → GivesTokens view r rest read → read ≡ Some (view x, rest)
 gave view (Ok y) x rest read e g = let is : x ≡ y = cc in g ∙ ap (λ z. Some (view z, rest)) (sym is)
 gave view (Err f) x rest read e g = absurd cc
 

@@ -1,5 +1,7 @@
 -- Canonical text, read from its front.
-use Rattle.std.proofs.Common.{◌≡◌, ◌<◌, ◌≤◌, ℕ, suc, ℤ, List, [], ◌∷◌, ◌++◌, eqb, get_or, Bor, option_map, length, take, drop, Bool, true, false, cond, Option, Some, None, refl, sym, ap, ap₂, ◌∙◌, arith, append_assoc, append-nil, length-append, take-append-drop, Result, Ok, Err, is_ok}
+use Rattle.std.proofs.Common.{◌-◌, ◌≡◌, ◌<◌, ◌≤◌, ℕ, suc, ℤ, List, [], ◌∷◌, ◌++◌, eqb, get_or, Bor, option_map, length, take, drop, Bool, true, false, cond}
+use Rattle.std.proofs.Common.{Option, Some, None, refl, sym, ap, ap₂, ◌∙◌, arith, append_assoc, append-nil, length-append, take-append-drop, Result, Ok, Err}
+use Rattle.std.proofs.Common.{is_ok}
 use Rattle.std.specs.Prelude.{codes, ◌||◌, ◌&&◌, ◌==◌, ◌/◌, ◌%◌, nat_lt, IfSome, IsUtf8}
 use Rattle.std.specs.List.{list_any, join_with_byte}
 use Rattle.std.specs.Char.{digit_char}
@@ -11,6 +13,7 @@ use Rattle.std.specs.Int.RustNames.{FitsSigned}
 use Rattle.std.specs.Bool.{then_some}
 use Rattle.std.specs.Result.{result_ok}
 use Rattle.std.specs.Str.{bytes_eq}
+use Rattle.bd_value.specs.Limits.{longest_document, most_levels}
 use Rattle.bd_value.specs.Depth.{fields_depth, items_depth}
 use Rattle.bd_value.specs.Fits.{AreBytes, ScalarFitsType, ScalarHasUtf8, FieldsFitTypes, ItemsFitTypes, FieldsHaveUtf8, ItemsHaveUtf8}
 use Rattle.bd_value.specs.Tree as trees
@@ -134,9 +137,9 @@ doc_known room d a =
     let low = r.4 in
     record { fits = r.0; utf8 = r.1; determined = (first_plain room d a, r.2); no_zero = r.3; shallow = omega arith }
 
-pub reads_canonical : (line rest : List ℕ) (d : Doc) → line ≡ text (doc (fields_of d)) ++ rest → length rest ≡ 0 → AreCanonicalFields 199 d → ReadsAs line d
+pub reads_canonical : (line rest : List ℕ) (d : Doc) → line ≡ text (doc (fields_of d)) ++ rest → length rest ≡ 0 → AreCanonicalFields (most_levels - 1) d → ReadsAs line d
 reads_canonical line [] d is none a =
-    let c = doc_known 199 d a in
+    let c = doc_known (most_levels - 1) d a in
     let whole : line ≡ text (doc (fields_of d)) = is ∙ append-nil (text (doc (fields_of d))) in
     rw whole (document_back d c.fits c.utf8 c.determined c.no_zero c.shallow)
 reads_canonical line (x ∷ rest) d is none a = absurd cc
@@ -167,12 +170,14 @@ abbrev pub IsReadTo : ℕ → List ℕ → List (List ℕ) → List ℕ → Opti
 IsReadTo bracket whole pieces rest None = whole ≡ bracket ∷ (join_with_byte 44 pieces ++ rest)
 IsReadTo bracket whole pieces rest (Some at) = whole ≡ bracket ∷ (led pieces ++ at)
 
-pub goes_on : (bracket : ℕ) (whole : List ℕ) (pieces : List (List ℕ)) (piece at rest : List ℕ) (next : Option (List ℕ)) → whole ≡ bracket ∷ (led pieces ++ at) → at ≡ piece ++ rest → IfSome next (λ n. rest ≡ 44 ∷ n)
+pub goes_on : (bracket : ℕ) (whole : List ℕ) (pieces : List (List ℕ)) (piece at rest : List ℕ) (next : Option (List ℕ))
+    → whole ≡ bracket ∷ (led pieces ++ at) → at ≡ piece ++ rest → IfSome next (λ n. rest ≡ 44 ∷ n)
     → IsReadTo bracket whole (pieces ++ piece ∷ []) rest next
 goes_on bracket whole pieces piece at rest None is read none =
     is ∙ ap (λ x. bracket ∷ x) (ap (λ x. led pieces ++ x) read ∙ sym (append_assoc (led pieces) piece rest) ∙ ap (λ x. x ++ rest) (sym (joined_end pieces piece)))
 goes_on bracket whole pieces piece at rest (Some n) is read comma =
-    is ∙ ap (λ x. bracket ∷ x) (ap (λ x. led pieces ++ x) (read ∙ ap (λ x. piece ++ x) comma ∙ sym (append_assoc piece (44 ∷ []) n)) ∙ sym (append_assoc (led pieces) (piece ++ 44 ∷ []) n) ∙ ap (λ x. x ++ n) (sym (led_one_more pieces piece)))
+    is ∙ ap (λ x. bracket ∷ x) (ap (λ x. led pieces ++ x) (read ∙ ap (λ x. piece ++ x) comma ∙ sym (append_assoc piece (44 ∷ []) n))
+        ∙ sym (append_assoc (led pieces) (piece ++ 44 ∷ []) n) ∙ ap (λ x. x ++ n) (sym (led_one_more pieces piece)))
 
 -- ---- names
 
@@ -195,7 +200,8 @@ differs (c ∷ cs) (d ∷ ds) p q = one (c == d) refl
     one true e = let same : c ≡ d = grind arith in let no : true ≡ false = sym q ∙ ap (λ x. x == 36) (sym same) ∙ p in absurd cc
     one false e = refl
 
-none_of : (b : Bool) (ws : List (List ℕ × Wrapper)) (name other : List ℕ) (w : Wrapper) → begins other ≡ b → cond b (begin_so ws) false ≡ true → begins name ≡ false → (begin_so ws ≡ true → wrapper_in ws name ≡ None)
+none_of : (b : Bool) (ws : List (List ℕ × Wrapper)) (name other : List ℕ) (w : Wrapper) → begins other ≡ b → cond b (begin_so ws) false ≡ true
+    → begins name ≡ false → (begin_so ws ≡ true → wrapper_in ws name ≡ None)
     → wrapper_in ((other, w) ∷ ws) name ≡ None
 none_of true ws name other w e so p rest = rw (differs name other p e) (rest so)
 none_of false ws name other w e so p rest = absurd cc
@@ -217,17 +223,21 @@ wrapped front value back text inside after rest whole a b c same =
 pub int32_read : (text inside after rest : List ℕ) (z y : ℤ) → text ≡ codes "{\"$numberInt\":" ++ inside → inside ≡ quoted (signed_decimal z) ++ after → after ≡ codes "}" ++ rest → z ≡ y
     → text ≡ scalar_text (trees.int32 y) ++ rest
 unfolding scalar_text quoted escape_byte
-int32_read text inside after rest z y a b c same = wrapped (codes "{\"$numberInt\":") (quoted (signed_decimal z)) (codes "}") text inside after rest _ a b c refl ∙ ap (λ k. scalar_text (trees.int32 k) ++ rest) same
+int32_read text inside after rest z y a b c same = wrapped (codes "{\"$numberInt\":") (quoted (signed_decimal z)) (codes "}") text inside after rest
+    _ a b c refl ∙ ap (λ k. scalar_text (trees.int32 k) ++ rest) same
 
 pub int64_read : (text inside after rest : List ℕ) (z y : ℤ) → text ≡ codes "{\"$numberLong\":" ++ inside → inside ≡ quoted (signed_decimal z) ++ after → after ≡ codes "}" ++ rest → z ≡ y
     → text ≡ scalar_text (trees.int64 y) ++ rest
 unfolding scalar_text quoted escape_byte
-int64_read text inside after rest z y a b c same = wrapped (codes "{\"$numberLong\":") (quoted (signed_decimal z)) (codes "}") text inside after rest _ a b c refl ∙ ap (λ k. scalar_text (trees.int64 k) ++ rest) same
+int64_read text inside after rest z y a b c same = wrapped (codes "{\"$numberLong\":") (quoted (signed_decimal z)) (codes "}") text inside after rest
+    _ a b c refl ∙ ap (λ k. scalar_text (trees.int64 k) ++ rest) same
 
 pub date_read : (text inside after rest : List ℕ) (z y : ℤ) → text ≡ codes "{\"$date\":{\"$numberLong\":" ++ inside → inside ≡ quoted (signed_decimal z) ++ after → after ≡ codes "}}" ++ rest → z ≡ y
     → text ≡ scalar_text (trees.date y) ++ rest
 unfolding scalar_text quoted escape_byte
-date_read text inside after rest z y a b c same = wrapped (codes "{\"$date\":{\"$numberLong\":") (quoted (signed_decimal z)) (codes "}}") text inside after rest _ a b c (sym (ap (λ x. codes "{\"$date\":{\"$numberLong\":" ++ x) (append_assoc (quoted (signed_decimal z)) (125 ∷ []) (125 ∷ [])))) ∙ ap (λ k. scalar_text (trees.date k) ++ rest) same
+date_read text inside after rest z y a b c same = wrapped (codes "{\"$date\":{\"$numberLong\":") (quoted (signed_decimal z)) (codes "}}") text inside
+    after rest _ a b c (sym (ap (λ x. codes "{\"$date\":{\"$numberLong\":" ++ x) (append_assoc (quoted (signed_decimal z)) (125 ∷ []) (125 ∷ []))))
+    ∙ ap (λ k. scalar_text (trees.date k) ++ rest) same
 
 pub object_id_read : (text inside after rest id : List ℕ) → text ≡ codes "{\"$oid\":" ++ inside → inside ≡ quoted (hex_text id) ++ after → after ≡ codes "}" ++ rest
     → text ≡ scalar_text (trees.object_id id) ++ rest
@@ -316,7 +326,8 @@ no_wrapper_first name bytes same other = no_wrapper name (go name (ap (λ x. eqb
     go [] e = refl
     go (c ∷ cs) e = e
 
-pub goes_on_at : (bracket : ℕ) (whole : List ℕ) (pieces : List (List ℕ)) (piece at old rest : List ℕ) (o next : Option (Bor (List ℕ))) → option_map (λ s. s.now) o ≡ Some at → IsReadTo bracket whole pieces old (option_map (λ s. s.now) o)
+pub goes_on_at : (bracket : ℕ) (whole : List ℕ) (pieces : List (List ℕ)) (piece at old rest : List ℕ) (o next : Option (Bor (List ℕ)))
+    → option_map (λ s. s.now) o ≡ Some at → IsReadTo bracket whole pieces old (option_map (λ s. s.now) o)
     → at ≡ piece ++ rest → IfSome next (λ n. rest ≡ 44 ∷ n.now) → IsReadTo bracket whole (pieces ++ piece ∷ []) rest (option_map (λ s. s.now) next)
 goes_on_at bracket whole pieces piece at old rest None next is read e comma = absurd cc
 goes_on_at bracket whole pieces piece at old rest (Some x) None is read e comma =
@@ -330,7 +341,8 @@ pub within_rest : (rest : List ℕ) (next : Option (Bor (List ℕ))) → IfSome 
 within_rest rest None comma = tt
 within_rest rest (Some n) comma = omega (arith, ap (λ x. length x) comma)
 
-pub begun_at : (bracket : ℕ) (whole rest : List ℕ) (next : Option (Bor (List ℕ))) → whole ≡ bracket ∷ rest → IfSome next (λ at. at.now ≡ rest) → IsReadTo bracket whole [] rest (option_map (λ s. s.now) next)
+pub begun_at : (bracket : ℕ) (whole rest : List ℕ) (next : Option (Bor (List ℕ))) → whole ≡ bracket ∷ rest → IfSome next (λ at. at.now ≡ rest)
+    → IsReadTo bracket whole [] rest (option_map (λ s. s.now) next)
 begun_at bracket whole rest None is same = is
 begun_at bracket whole rest (Some at) is same = is ∙ ap (λ x. bracket ∷ x) (sym same)
 
@@ -339,12 +351,14 @@ within_begun rest None same = tt
 within_begun rest (Some at) same = omega (arith, ap (λ x. length x) same)
 
 -- the bracket after the last piece
-pub ended_at : (bracket last : ℕ) (whole : List ℕ) (pieces : List (List ℕ)) (old : List ℕ) (o : Option (Bor (List ℕ))) → o ≡ None → IsReadTo bracket whole pieces old (option_map (λ s. s.now) o) → (rest : List ℕ) → old ≡ last ∷ rest
+pub ended_at : (bracket last : ℕ) (whole : List ℕ) (pieces : List (List ℕ)) (old : List ℕ) (o : Option (Bor (List ℕ))) → o ≡ None
+    → IsReadTo bracket whole pieces old (option_map (λ s. s.now) o) → (rest : List ℕ) → old ≡ last ∷ rest
     → whole ≡ bracket ∷ ((join_with_byte 44 pieces ++ last ∷ []) ++ rest)
 ended_at bracket last whole pieces old None is read rest e = read ∙ ap (λ x. bracket ∷ x) (ap (λ x. join_with_byte 44 pieces ++ x) e ∙ sym (append_assoc (join_with_byte 44 pieces) (last ∷ []) rest))
 ended_at bracket last whole pieces old (Some x) is read rest e = absurd cc
 
-pub less_at : (o : Option (Bor (List ℕ))) (x : Bor (List ℕ)) (old rest : List ℕ) (t : Tree) (value : List ℕ) → o ≡ Some x → IfSome o (λ n. length n.now ≤ length old) → value ≡ text t ++ rest → length value ≤ length x.now → length rest < length old
+pub less_at : (o : Option (Bor (List ℕ))) (x : Bor (List ℕ)) (old rest : List ℕ) (t : Tree) (value : List ℕ) → o ≡ Some x
+    → IfSome o (λ n. length n.now ≤ length old) → value ≡ text t ++ rest → length value ≤ length x.now → length rest < length old
 less_at None x old rest t value is le read inside = absurd cc
 less_at (Some y) x old rest t value is le read inside =
     let same : y ≡ x = cc in
@@ -353,7 +367,8 @@ less_at (Some y) x old rest t value is le read inside =
 pub member_read : (at value name : List ℕ) (t : Tree) (rest : List ℕ) → at ≡ quoted name ++ (58 ∷ value) → value ≡ text t ++ rest → at ≡ member name (text t) ++ rest
 member_read at value name t rest a b = a ∙ ap (λ x. quoted name ++ (58 ∷ x)) b ∙ sym (append_assoc (quoted name) (58 ∷ text t) rest)
 
-pub as_members : (bracket : ℕ) (whole : List ℕ) (ps : Doc) (name : List ℕ) (t : Tree) (rest : List ℕ) (o : Option (List ℕ)) → IsReadTo bracket whole (fields_text (fields_of ps) ++ member name (text t) ∷ []) rest o
+pub as_members : (bracket : ℕ) (whole : List ℕ) (ps : Doc) (name : List ℕ) (t : Tree) (rest : List ℕ) (o : Option (List ℕ))
+    → IsReadTo bracket whole (fields_text (fields_of ps) ++ member name (text t) ∷ []) rest o
     → IsReadTo bracket whole (fields_text (fields_of (ps ++ (name, t) ∷ []))) rest o
 as_members bracket whole ps name t rest o read = rw (members_end ps name t) read
 
@@ -365,7 +380,8 @@ pub if_some_rest : {P : Bor (List ℕ) → Type 0} (o : Option (Bor (List ℕ)))
 if_some_rest None Q p f = tt
 if_some_rest (Some x) Q p f = f x p
 
-pub packs_canonical : (line rest : List ℕ) (new old : List ℕ) (d : Doc) (e : Bool) (r : Option (Unit {0})) → line ≡ text (doc (fields_of d)) ++ rest → AreCanonicalFields 199 d → length new ≤ 16793600 → new ≡ old ++ plain d
+pub packs_canonical : (line rest : List ℕ) (new old : List ℕ) (d : Doc) (e : Bool) (r : Option (Unit {0})) → line ≡ text (doc (fields_of d)) ++ rest
+    → AreCanonicalFields (most_levels - 1) d → length new ≤ longest_document → new ≡ old ++ plain d
     → e ≡ (length rest == 0) → r ≡ then_some e tt → IfSome r (λ u. (d : Doc) × IsPackable line d × (new ≡ old ++ plain d))
 packs_canonical line rest new old d true r is known short put empty then =
     let none : length rest ≡ 0 = grind arith in
@@ -374,7 +390,8 @@ packs_canonical line rest new old d false r is known short put empty then = rw t
 
 -- ---- strings with escapes
 
-pub run_read : (text : List ℕ) (n : ℕ) (o : Option (Bor (List ℕ) × Bor (List ℕ))) → IfSome o (λ x. x.0.now ≡ take n text) → IfSome o (λ x. x.1.now ≡ drop n text) → list_any needs_escape (take n text) ≡ false
+pub run_read : (text : List ℕ) (n : ℕ) (o : Option (Bor (List ℕ) × Bor (List ℕ))) → IfSome o (λ x. x.0.now ≡ take n text)
+    → IfSome o (λ x. x.1.now ≡ drop n text) → list_any needs_escape (take n text) ≡ false
     → IfSome o (λ p. text ≡ escaped p.0.now ++ p.1.now)
 run_read text n None front back none = tt
 run_read text n (Some p) front back none =
@@ -388,7 +405,8 @@ pub run_begins : (text after run rest : List ℕ) → text ≡ 34 ∷ after → 
 run_begins text after run rest a b = a ∙ ap (λ x. 34 ∷ x) b
 
 -- an escape and the run after it
-pub run_goes_on : (text held old after run rest : List ℕ) (byte : ℕ) → text ≡ 34 ∷ (escaped held ++ old) → old ≡ escape_byte byte ++ after → after ≡ escaped run ++ rest → text ≡ 34 ∷ (escaped (held ++ (byte ∷ run)) ++ rest)
+pub run_goes_on : (text held old after run rest : List ℕ) (byte : ℕ) → text ≡ 34 ∷ (escaped held ++ old) → old ≡ escape_byte byte ++ after
+    → after ≡ escaped run ++ rest → text ≡ 34 ∷ (escaped (held ++ (byte ∷ run)) ++ rest)
 run_goes_on text held old after run rest byte a b c =
     a ∙ ap (λ x. 34 ∷ x) (ap (λ x. escaped held ++ x) (b ∙ ap (λ x. escape_byte byte ++ x) c ∙ sym (append_assoc (escape_byte byte) (escaped run) rest))
     ∙ sym (append_assoc (escaped held) (escaped (byte ∷ run)) rest) ∙ ap (λ x. x ++ rest) (sym (escaped-append held (byte ∷ run))))
@@ -398,7 +416,9 @@ unfolding escape_byte
 escape_some byte = go (byte == 34 || byte == 92) (byte == 8) (byte == 12) (byte == 10) (byte == 13) (byte == 9) (nat_lt byte 32)
   where
     go : (a b c d e f g : Bool)
-        → 0 < length (cond a (92 ∷ byte ∷ []) (cond b (codes "\\b") (cond c (codes "\\f") (cond d (codes "\\n") (cond e (codes "\\r") (cond f (codes "\\t") (cond g (codes "\\u00" ++ (digit_char (byte / 16) ∷ digit_char (byte % 16) ∷ [])) (byte ∷ []))))))))
+        → 0 < length (cond a (92 ∷ byte ∷ []) (cond b (codes "\\b") (cond c (codes "\\f")
+            (cond d (codes "\\n") (cond e (codes "\\r") (cond f (codes "\\t")
+            (cond g (codes "\\u00" ++ (digit_char (byte / 16) ∷ digit_char (byte % 16) ∷ [])) (byte ∷ []))))))))
     go true b c d e f g = omega arith
     go false true c d e f g = omega arith
     go false false true d e f g = omega arith
@@ -428,15 +448,19 @@ binary_text : (digits subtype : List ℕ) → codes "{\"$binary\":{\"base64\":" 
 unfolding quoted escape_byte
 binary_text digits subtype = ap (λ x. codes "{\"$binary\":{\"base64\":" ++ x) (sym (nested (quoted digits) (codes ",\"subType\":") (quoted subtype) (125 ∷ []) (125 ∷ [])))
 
-pub binary_read : (text inside after subtype_at closing rest digits payload : List ℕ) (subtype : ℕ) → text ≡ codes "{\"$binary\":{\"base64\":" ++ inside → inside ≡ quoted digits ++ after → after ≡ codes ",\"subType\":" ++ subtype_at
+pub binary_read : (text inside after subtype_at closing rest digits payload : List ℕ) (subtype : ℕ)
+    → text ≡ codes "{\"$binary\":{\"base64\":" ++ inside → inside ≡ quoted digits ++ after → after ≡ codes ",\"subType\":" ++ subtype_at
     → subtype_at ≡ quoted (hex_text (subtype ∷ [])) ++ closing → closing ≡ codes "}}" ++ rest → digits ≡ encode_of standard payload → text ≡ scalar_text (trees.binary subtype payload) ++ rest
 unfolding scalar_text base64_text
 binary_read text inside after subtype_at closing rest digits payload subtype a b c d e f =
     let s = quoted (hex_text (subtype ∷ [])) in
     let q = quoted digits in
-    let tail : after ≡ (codes ",\"subType\":" ++ (s ++ codes "}}")) ++ rest = c ∙ ap (λ x. codes ",\"subType\":" ++ x) (d ∙ ap (λ x. s ++ x) e ∙ sym (append_assoc s (codes "}}") rest)) ∙ sym (append_assoc (codes ",\"subType\":") (s ++ codes "}}") rest) in
+    let tail : after ≡ (codes ",\"subType\":" ++ (s ++ codes "}}")) ++ rest = c
+        ∙ ap (λ x. codes ",\"subType\":" ++ x) (d ∙ ap (λ x. s ++ x) e ∙ sym (append_assoc s (codes "}}") rest))
+        ∙ sym (append_assoc (codes ",\"subType\":") (s ++ codes "}}") rest) in
     a ∙ ap (λ x. codes "{\"$binary\":{\"base64\":" ++ x) (b ∙ ap (λ x. q ++ x) tail ∙ sym (append_assoc q (codes ",\"subType\":" ++ (s ++ codes "}}")) rest))
-    ∙ sym (append_assoc (codes "{\"$binary\":{\"base64\":") (q ++ (codes ",\"subType\":" ++ (s ++ codes "}}"))) rest) ∙ ap (λ x. x ++ rest) (binary_text digits (hex_text (subtype ∷ [])) ∙ ap (λ k. scalar_text_of k) f)
+    ∙ sym (append_assoc (codes "{\"$binary\":{\"base64\":") (q ++ (codes ",\"subType\":" ++ (s ++ codes "}}"))) rest)
+        ∙ ap (λ x. x ++ rest) (binary_text digits (hex_text (subtype ∷ [])) ∙ ap (λ k. scalar_text_of k) f)
   where
     scalar_text_of : List ℕ → List ℕ
     scalar_text_of k = object (member (codes "$binary") (object (member (codes "base64") (quoted k) ∷ member (codes "subType") (quoted (hex_text (subtype ∷ []))) ∷ [])) ∷ [])
@@ -447,14 +471,18 @@ pub pushed : {A E : Type 0} (r : Result A E) (x : A) (new a b : List ℕ) → So
 pushed (Ok y) x new a b is e = e
 pushed (Err f) x new a b is e = absurd cc
 
-pub pieces_put : (into old held plain one new encoded : List ℕ) (byte : ℕ) → old ≡ into ++ held → one ≡ old ++ encoded → encoded ≡ byte ∷ [] → new ≡ one ++ plain → new ≡ into ++ (held ++ (byte ∷ plain))
+pub pieces_put : (into old held plain one new encoded : List ℕ) (byte : ℕ) → old ≡ into ++ held → one ≡ old ++ encoded → encoded ≡ byte ∷ []
+    → new ≡ one ++ plain → new ≡ into ++ (held ++ (byte ∷ plain))
 pieces_put into old held plain one new encoded byte a b c d =
     d ∙ ap (λ x. x ++ plain) (b ∙ ap₂ (λ (x y : List ℕ). x ++ y) a c) ∙ append_assoc (into ++ held) (byte ∷ []) plain ∙ append_assoc into held (byte ∷ plain)
 
-pub binary_element : (whole rest name old new payload : List ℕ) (subtype : ℕ) → whole ≡ text (leaf (trees.binary subtype payload)) ++ rest → subtype < 256 → AreBytes payload → (given : List ℕ) → given ≡ payload
-    → new ≡ old ++ element (leaf (trees.binary subtype given)) name (bytes_of (leaf (trees.binary subtype given))) → (t : Tree) × (whole ≡ text t ++ rest) × IsCanonical 0 t × (new ≡ old ++ element t name (bytes_of t))
+pub binary_element : (whole rest name old new payload : List ℕ) (subtype : ℕ) → whole ≡ text (leaf (trees.binary subtype payload)) ++ rest
+    → subtype < 256 → AreBytes payload → (given : List ℕ) → given ≡ payload
+    → new ≡ old ++ element (leaf (trees.binary subtype given)) name (bytes_of (leaf (trees.binary subtype given))) → (t : Tree)
+        × (whole ≡ text t ++ rest) × IsCanonical 0 t × (new ≡ old ++ element t name (bytes_of t))
 binary_element whole rest name old new payload subtype is fits bytes given same put =
-    (leaf (trees.binary subtype payload), is, leaf_canonical (trees.binary subtype payload) (fits, bytes) tt refl, put ∙ ap (λ k. old ++ element (leaf (trees.binary subtype k)) name (bytes_of (leaf (trees.binary subtype k)))) same)
+    (leaf (trees.binary subtype payload), is, leaf_canonical (trees.binary subtype payload) (fits, bytes) tt refl, put
+        ∙ ap (λ k. old ++ element (leaf (trees.binary subtype k)) name (bytes_of (leaf (trees.binary subtype k)))) same)
 
 pub held_is : (given final empty held whole rest : List ℕ) → given ≡ final → final ≡ empty ++ held → empty ≡ [] → whole ≡ quoted held ++ rest → whole ≡ quoted given ++ rest
 held_is given final empty held whole rest a b c is = is ∙ ap (λ x. quoted x ++ rest) (sym (a ∙ b ∙ ap (λ x. x ++ held) c))

@@ -2,7 +2,8 @@
 use Rattle.bd_text.proofs.EscapeLemmas.{escaped-digits}
 use Rattle.std.proofs.lemmas.Str.{digit_value_digit}
 use Rattle.std.proofs.lemmas.Int.Digits.{digits_value_more}
-use Rattle.std.proofs.Common.{◌≡◌, ℕ, zero, suc, ◌^◌, ◌<◌, ℤ, pos, neg_ℤ, true, false, List, [], ◌∷◌, ◌++◌, length, get_or, Some, Result, Ok, Err, decimal, refl, sym, ap, ap₂, ◌∙◌, arith, inl, inr, ◌⊎◌, drop, take-append-drop, ◌≤◌, ◌+◌, ◌*◌, ◌-◌, take, append_assoc}
+use Rattle.std.proofs.Common.{◌≡◌, ℕ, zero, suc, ◌^◌, ◌<◌, ℤ, pos, neg_ℤ, true, false, List, [], ◌∷◌, ◌++◌, length, get_or, Some, Result, Ok, Err, decimal}
+use Rattle.std.proofs.Common.{refl, sym, ap, ap₂, ◌∙◌, arith, inl, inr, ◌⊎◌, drop, take-append-drop, ◌≤◌, ◌+◌, ◌*◌, ◌-◌, take, append_assoc}
 use Rattle.std.specs.Fmt.{signed_decimal}
 use Rattle.std.specs.Char.{is_ascii_digit}
 use Rattle.std.specs.Prelude.{OnOk}
@@ -64,7 +65,8 @@ digits_read text rest bytes n count same within value all small some lead left =
         go (inr few) = omega (arith, g)
 
 -- one more digit
-pub digit_more : (bs : List ℕ) (i n m d next : ℕ) → i < length bs → digits_value 10 (take i bs) ≡ n → all_ascii_digits (take i bs) ≡ true → is_ascii_digit (get_or bs i 0) ≡ true → m ≡ n * 10 → d ≡ get_or bs i 0 - 48 → next ≡ m + d
+pub digit_more : (bs : List ℕ) (i n m d next : ℕ) → i < length bs → digits_value 10 (take i bs) ≡ n → all_ascii_digits (take i bs) ≡ true
+    → is_ascii_digit (get_or bs i 0) ≡ true → m ≡ n * 10 → d ≡ get_or bs i 0 - 48 → next ≡ m + d
     → (i + 1 ≤ length bs) × (digits_value 10 (take (i + 1) bs) ≡ next) × (all_ascii_digits (take (i + 1) bs) ≡ true)
 digit_more bs i n m d next lt value all one times digit sum =
     let low : 48 ≤ get_or bs i 0 = grind arith in
@@ -80,14 +82,18 @@ digit_more bs i n m d next lt value all one times digit sum =
 escaped-decimal : (n : ℕ) → n < 2 ^ 64 → escaped (decimal n) ≡ decimal n
 escaped-decimal n small = escaped-digits (decimal n) (decimal_is_IsNumeral n small).0.1
 
-pub positive_read : (text inside rest after : List ℕ) (n : ℕ) (z : ℤ) → text ≡ 34 ∷ inside → inside ≡ decimal n ++ rest → n < 2 ^ 64 → rest ≡ 34 ∷ after → pos n ≡ z → text ≡ quoted (signed_decimal z) ++ after
+pub positive_read : (text inside rest after : List ℕ) (n : ℕ) (z : ℤ) → text ≡ 34 ∷ inside → inside ≡ decimal n ++ rest → n < 2 ^ 64
+    → rest ≡ 34 ∷ after → pos n ≡ z → text ≡ quoted (signed_decimal z) ++ after
 unfolding quoted
 positive_read text inside rest after n z a b small c same =
-    a ∙ ap (λ x. 34 ∷ x) (b ∙ ap (λ x. decimal n ++ x) c ∙ sym (append_assoc (decimal n) (34 ∷ []) after) ∙ ap (λ x. (x ++ 34 ∷ []) ++ after) (sym (escaped-decimal n small))) ∙ ap (λ k. quoted (signed_decimal k) ++ after) same
+    a ∙ ap (λ x. 34 ∷ x) (b ∙ ap (λ x. decimal n ++ x) c ∙ sym (append_assoc (decimal n) (34 ∷ []) after)
+        ∙ ap (λ x. (x ++ 34 ∷ []) ++ after) (sym (escaped-decimal n small))) ∙ ap (λ k. quoted (signed_decimal k) ++ after) same
 
-pub negative_read : (text inside digits rest after : List ℕ) (n : ℕ) (z : ℤ) → text ≡ 34 ∷ inside → inside ≡ 45 ∷ digits → digits ≡ decimal n ++ rest → n < 2 ^ 64 → rest ≡ 34 ∷ after → 0 < n → neg_ℤ (pos n) ≡ z
+pub negative_read : (text inside digits rest after : List ℕ) (n : ℕ) (z : ℤ) → text ≡ 34 ∷ inside → inside ≡ 45 ∷ digits → digits ≡ decimal n ++ rest
+    → n < 2 ^ 64 → rest ≡ 34 ∷ after → 0 < n → neg_ℤ (pos n) ≡ z
     → text ≡ quoted (signed_decimal z) ++ after
 unfolding quoted escape_byte
 negative_read text inside digits rest after zero z a m b small c some same = absurd (omega arith)
 negative_read text inside digits rest after (suc n) z a m b small c some same =
-    a ∙ ap (λ x. 34 ∷ x) (m ∙ ap (λ x. 45 ∷ x) (b ∙ ap (λ x. decimal (suc n) ++ x) c ∙ sym (append_assoc (decimal (suc n)) (34 ∷ []) after) ∙ ap (λ x. (x ++ 34 ∷ []) ++ after) (sym (escaped-decimal (suc n) small)))) ∙ ap (λ k. quoted (signed_decimal k) ++ after) same
+    a ∙ ap (λ x. 34 ∷ x) (m ∙ ap (λ x. 45 ∷ x) (b ∙ ap (λ x. decimal (suc n) ++ x) c ∙ sym (append_assoc (decimal (suc n)) (34 ∷ []) after)
+        ∙ ap (λ x. (x ++ 34 ∷ []) ++ after) (sym (escaped-decimal (suc n) small)))) ∙ ap (λ k. quoted (signed_decimal k) ++ after) same

@@ -2,6 +2,7 @@
 -- a zero.
 use Rattle.std.proofs.Common.{◌≡◌, ◌≤◌, ℕ, zero, suc, ◌-◌, ℤ, List, Bool, true, false, ◌||◌, cond, Option, Some, None, refl, sym, ap, ◌∙◌, arith}
 use Rattle.std.specs.Prelude.{codes, option_map, option_and_then}
+use Rattle.bd_value.specs.Limits.{most_levels}
 use Rattle.json.specs.Token.{Token}
 use Rattle.json.specs.Json as json
 use Rattle.json.specs.Json.{Json}
@@ -12,7 +13,8 @@ use Rattle.bd_value.specs.Depth.{depth, fields_depth, items_depth}
 use Rattle.bd_value.specs.Zeros.{has_zero, zero_in, zero_in_scalar, zero_in_fields, zero_in_items}
 use Rattle.bd_wrapper.specs.Whole.{fits_bits, whole_64, whole_32}
 use Rattle.bd_wrapper.specs.Wrappers.{wrapper_of, single, name_in, both, both_in, pair, id_of, data_in, subtype_in, word_in, only, long_in, one, is_true, if_no_zero, if_true}
-use Rattle.bd_extjson.specs.Meaning.{wrap, wrap_items, wrap_object, wrap_fields, after, after_one, AfterName, nothing, one_more, several, bare_number, nested, add_item, add_field, with_scope, two, wrapper_tree, either}
+use Rattle.bd_extjson.specs.Meaning.{wrap, wrap_items, wrap_object, wrap_fields, after, after_one, AfterName, nothing, one_more, several, bare_number, nested}
+use Rattle.bd_extjson.specs.Meaning.{add_item, add_field, with_scope, two, wrapper_tree, either}
 use Rattle.bd_wrapper.specs.Progress.{through}
 use Rattle.bd_extjson.specs.TextDocument.{ReadsAs, document}
 use Rattle.bd_extjson.specs.TextDocument as reads
@@ -94,7 +96,8 @@ single_plain kinds.Code j = mapped (λ s. trees.code s) (λ s. refl) (as_str j)
 single_plain kinds.Scope j = tt
 single_plain kinds.Timestamp j = mapped (λ (p : ℕ × ℕ). trees.timestamp p.0 p.1) (λ p. refl) (option_and_then (both_in word_in word_in) (pair (codes "t") (codes "i") j))
 single_plain kinds.RegularExpression j = pair_plain (pair (codes "pattern") (codes "options") j)
-single_plain kinds.DbPointer j = mapped (λ (p : List ℕ × List ℕ). trees.db_pointer p.0 p.1) (λ p. refl) (option_and_then (both_in as_str (λ i. option_and_then id_of (only (codes "$oid") i))) (pair (codes "$ref") (codes "$id") j))
+single_plain kinds.DbPointer j = mapped (λ (p : List ℕ × List ℕ). trees.db_pointer p.0 p.1) (λ p. refl)
+    (option_and_then (both_in as_str (λ i. option_and_then id_of (only (codes "$oid") i))) (pair (codes "$ref") (codes "$id") j))
 single_plain kinds.Date j = mapped (λ z. trees.date z) (λ z. refl) (long_in (only (codes "$numberLong") j))
 single_plain kinds.MinKey j = true_plain (one j) trees.min_key refl
 single_plain kinds.MaxKey j = true_plain (one j) trees.max_key refl
@@ -167,7 +170,8 @@ wrapped_plain room w j t (one_more None i u) p q = tt
 wrapped_plain room w j t (one_more (Some v) i u) p q = two_plain room w j t v i u p q
 wrapped_plain room w j t several p q = tt
 
-either_plain : (room : ℕ) (o : Option Wrapper) (j : Json) (t : Option Tree) (b : AfterName) (d : Option Tree) → IsTree (room - 1) t → IsAfter (room - 1) b → IsTree room d → IsTree room (either room o j t b d)
+either_plain : (room : ℕ) (o : Option Wrapper) (j : Json) (t : Option Tree) (b : AfterName) (d : Option Tree) → IsTree (room - 1) t
+    → IsAfter (room - 1) b → IsTree room d → IsTree room (either room o j t b d)
 either_plain room None j t b d p q r = r
 either_plain room (Some w) j t b d p q r = wrapped_plain room w j t b p q
 
@@ -195,7 +199,8 @@ mutual
   wrap_object_plain room (json.member name j ms) =
       either_plain room (wrapper_of name) j (wrap (room - 1) j) (after (room - 1) ms) (nested room (option_map doc (add_field name (wrap (room - 1) j) (wrap_fields (room - 1) ms))))
       (wrap_plain (room - 1) j) (after_plain (room - 1) ms)
-      (doc_plain room (add_field name (wrap (room - 1) j) (wrap_fields (room - 1) ms)) (field_plain (room - 1) name (wrap (room - 1) j) (wrap_fields (room - 1) ms) (wrap_plain (room - 1) j) (wrap_fields_plain (room - 1) ms)))
+      (doc_plain room (add_field name (wrap (room - 1) j) (wrap_fields (room - 1) ms))
+          (field_plain (room - 1) name (wrap (room - 1) j) (wrap_fields (room - 1) ms) (wrap_plain (room - 1) j) (wrap_fields_plain (room - 1) ms)))
 
   after_plain : (room : ℕ) (ms : json.Members) → IsAfter room (after room ms)
   after_plain room json.no_members = tt
@@ -208,9 +213,9 @@ mutual
 -- ---- documents
 
 abbrev IsPlain : Doc → Type 0
-IsPlain d = (depth (doc (fields_of d)) ≤ 200) × (zero_in (doc (fields_of d)) ≡ false)
+IsPlain d = (depth (doc (fields_of d)) ≤ most_levels) × (zero_in (doc (fields_of d)) ≡ false)
 
-of_tree : (t : Option Tree) (d : Doc) → IsTree 200 t → option_map pairs_of (option_and_then document t) ≡ Some d → IsPlain d
+of_tree : (t : Option Tree) (d : Doc) → IsTree most_levels t → option_map pairs_of (option_and_then document t) ≡ Some d → IsPlain d
 of_tree None d p e = absurd cc
 of_tree (Some (leaf s)) d p e = absurd cc
 of_tree (Some (doc fs)) d p e =
@@ -223,9 +228,9 @@ of_tree (Some (code_scope s fs)) d p e = absurd cc
 pub reads_plain : (text : List ℕ) (d : Doc) → ReadsAs text d → IsPlain d
 reads_plain text d = of_json (reads.json text)
   where
-    of_json : (o : Option Json) → option_map pairs_of (option_and_then document (option_and_then (wrap 200) o)) ≡ Some d → IsPlain d
+    of_json : (o : Option Json) → option_map pairs_of (option_and_then document (option_and_then (wrap most_levels) o)) ≡ Some d → IsPlain d
     of_json None e = absurd cc
-    of_json (Some j) e = of_tree (wrap 200 j) d (wrap_plain 200 j) e
+    of_json (Some j) e = of_tree (wrap most_levels j) d (wrap_plain most_levels j) e
 
 -- ---- parts
 

@@ -1,5 +1,6 @@
 -- Wrappers of one string, from their tokens.
-use Rattle.std.proofs.Common.{◌≡◌, ℕ, ◌-◌, ◌<◌, ◌≤◌, ◌^◌, ℤ, pos, negsuc, Bool, true, false, cond, List, ◌∷◌, ◌++◌, length, Option, Some, None, option_map, option_and_then, to_z, of_z, refl, sym, ap, ◌∙◌, arith}
+use Rattle.std.proofs.Common.{◌≡◌, ℕ, ◌-◌, ◌<◌, ◌≤◌, ◌^◌, ℤ, pos, negsuc, Bool, true, false, cond, List, ◌∷◌, ◌++◌, length, Option, Some, None, option_map}
+use Rattle.std.proofs.Common.{option_and_then, to_z, of_z, refl, sym, ap, ◌∙◌, arith}
 use Rattle.std.specs.Prelude.{codes}
 use Rattle.std.specs.Int.{w32, w64}
 use Rattle.std.specs.Int.RustNames.{FitsSigned}
@@ -29,7 +30,8 @@ unwrapped room depth first w j ts rest named read less =
     ∙ ended (λ ms. wrap_object room (json.member first j ms)) depth (length ts) (Token.end_object ∷ rest) rest less refl
     ∙ rw named refl
 
-pub string_gives : (room depth : ℕ) (first : List ℕ) (w v : Wrapper) (s : List ℕ) (x : Scalar) (ts rest : List Token) → wrapper_of first ≡ Some w → w ≡ v → ts ≡ Token.string s ∷ Token.end_object ∷ rest
+pub string_gives : (room depth : ℕ) (first : List ℕ) (w v : Wrapper) (s : List ℕ) (x : Scalar) (ts rest : List Token) → wrapper_of first ≡ Some w
+    → w ≡ v → ts ≡ Token.string s ∷ Token.end_object ∷ rest
     → single v (json.string s) ≡ Some x → through (wrap_object room) (after_key depth (length ts) (Some first) ts) ≡ Some (leaf x, rest)
 string_gives room depth first w v s x ts rest named same is stands =
     rw is
@@ -58,7 +60,8 @@ date_gives room depth first w s x ts rest some named same is stands =
     let name = codes "$numberLong" in
     let whole : List Token = Token.begin_object ∷ Token.key name ∷ Token.string s ∷ Token.end_object ∷ Token.end_object ∷ rest in
     rw is
-    (unwrapped room depth first kinds.Date (json.object (json.member name (json.string s) json.no_members)) whole rest (named ∙ ap Some same) (inner depth name s (Token.end_object ∷ rest) some) (omega arith)
+    (unwrapped room depth first kinds.Date (json.object (json.member name (json.string s) json.no_members)) whole rest (named ∙ ap Some same)
+        (inner depth name s (Token.end_object ∷ rest) some) (omega arith)
     ∙ ap (λ o. option_map (λ (a : Tree). (a, rest)) (option_map leaf o)) (dated s ∙ stands))
 
 -- ---- a number of a signed type, by its bits

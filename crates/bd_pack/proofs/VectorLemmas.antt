@@ -1,5 +1,6 @@
 -- Bytes that stand for themselves in a string, seen a vector at a time.
-use Rattle.std.proofs.Common.{◌≡◌, ℕ, suc, ◌+◌, ◌%◌, ◌^◌, ◌<◌, ◌≤◌, ltb, eqb, Bool, true, false, not, cond, bit_or, List, [], ◌∷◌, map, length, get_or, take, replicate, refl, sym, ap, ap₂, ◌∙◌, arith, inl, inr, ◌⊎◌}
+use Rattle.std.proofs.Common.{◌≡◌, ℕ, suc, ◌+◌, ◌%◌, ◌^◌, ◌<◌, ◌≤◌, ltb, eqb, Bool, true, false, not, cond, bit_or, List, [], ◌∷◌, map, length, get_or, take}
+use Rattle.std.proofs.Common.{replicate, refl, sym, ap, ap₂, ◌∙◌, arith, inl, inr, ◌⊎◌}
 use Rattle.std.specs.Prelude.{◌||◌}
 use Rattle.std.specs.List.{list_any, prefix_len}
 use Rattle.std.proofs.lemmas.Bool.{cases_lt}
@@ -35,7 +36,8 @@ equal a b = cond (eqb a b) 255 0
 abbrev below : ℕ → ℕ → ℕ
 below a b = cond (ltb a b) 255 0
 
-pub stops_mask : (v : List ℕ) → length v ≡ 32 → mask_l (map (top 7) (zip2 bit_or (zip2 bit_or (zip2 equal v (replicate 32 34)) (zip2 equal v (replicate 32 92))) (zip2 below v (replicate 32 32)))) % 2 ^ 64 ≡ mask_l (map needs_escape v)
+pub stops_mask : (v : List ℕ) → length v ≡ 32 → mask_l (map (top 7) (zip2 bit_or
+    (zip2 bit_or (zip2 equal v (replicate 32 34)) (zip2 equal v (replicate 32 92))) (zip2 below v (replicate 32 32)))) % 2 ^ 64 ≡ mask_l (map needs_escape v)
 stops_mask v long =
     let quotes = zip2_splat equal v 32 34 long in
     let slashes = zip2_splat equal v 32 92 long in

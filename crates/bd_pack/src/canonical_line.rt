@@ -1,6 +1,7 @@
 //! The bytes of a document straight from its canonical text, as `dump` writes it. Where a line is spelled in another way, or is no
 //! document, nothing is told but None.
 ghost use Rattle.std.specs.Prelude.{◌≡◌, ◌<◌, ◌≤◌, ◌++◌, ◌∷◌, [], ℕ, List, length, false, None, IfSome};
+ghost use Rattle.bd_value.specs.Limits.{longest_document};
 ghost use Rattle.bd_value.specs.Tree.{Tree, Doc, leaf, doc, array, fields_of, items_of};
 ghost use Rattle.bd_raw.specs.Spelling.{element};
 ghost use Rattle.bd_write.specs.TreeBytes.{bytes_of};
@@ -16,8 +17,7 @@ use crate::scalars::{
     append_binary, append_bool, append_date, append_id, append_int32, append_int64, append_null,
     append_text,
 };
-use bd_diagnose::LEVELS;
-use bd_value::Kind;
+use bd_value::{Kind, MOST_LEVELS};
 use bd_write::{append_label, begin_body, end_body};
 use std::alloc::Global;
 
@@ -204,7 +204,7 @@ fn append_fields<'a>(
 ) -> Option<&'a str>
     ensures gives { IfSome result (λ rest. (d : Doc) × (text.now ≡ text_of (doc (fields_of d)) ++ rest.now) × AreCanonicalFields room d
         × (out.new.items ≡ out.old.items ++ bytes_of (doc (fields_of d)))) }
-    ensures within { IfSome result (λ rest. length out.new.items ≤ 16793600) }
+    ensures within { IfSome result (λ rest. length out.new.items ≤ longest_document) }
 {
     let start = begin_body(out).ok()?;
     let mut rest = after_word(text, b"{")?;
@@ -225,6 +225,6 @@ fn append_fields<'a>(
 pub(crate) fn append_canonical(alloc: Global, text: &str, out: &mut Vec<u8>) -> Option<()>
     ensures { IfSome result (λ u. (d : Doc) × IsPackable text.now d × (out.new.items ≡ out.old.items ++ plain d)) }
 {
-    let rest = append_fields(alloc, text, LEVELS - 1, out)?;
+    let rest = append_fields(alloc, text, MOST_LEVELS - 1, out)?;
     rest.is_empty().then_some(())
 }

@@ -1,5 +1,6 @@
 //! Laws of what is packed. The body of each is empty: its contract is the law.
 ghost use Rattle.std.specs.Prelude.{◌≡◌, ◌≤◌, ℕ, List, false};
+ghost use Rattle.bd_value.specs.Limits.{most_levels};
 ghost use Rattle.bd_value.specs.Depth.{depth};
 ghost use Rattle.bd_value.specs.Tree.{Doc, doc, fields_of};
 ghost use Rattle.bd_value.specs.Zeros.{zero_in};
@@ -11,7 +12,7 @@ ghost use Rattle.bd_pack.specs.Packable.{plain, IsPackable};
 /// A document that is read from a line can be written but for its length: it is at most 200 deep, and no name and no part of a
 /// regular expression holds U+0000.
 pub fn reads_within_limits()
-    ensures deep { (line : List ℕ) (d : Doc) → ReadsAs line d → depth (doc (fields_of d)) ≤ 200 }
+    ensures deep { (line : List ℕ) (d : Doc) → ReadsAs line d → depth (doc (fields_of d)) ≤ most_levels }
     ensures zeros { (line : List ℕ) (d : Doc) → ReadsAs line d → zero_in (doc (fields_of d)) ≡ false }
 {}
 

@@ -4,10 +4,7 @@ ghost use Rattle.bd_raw.specs.Spelling.{number, long, string};
 ghost use Rattle.bd_raw.specs.Types.{type_byte as byte_of};
 
 use bd_raw::type_byte;
-use bd_value::Kind;
-
-/// A document has at most so many bytes.
-pub(crate) const LONGEST: usize = 16_793_600;
+use bd_value::{Kind, LONGEST_DOCUMENT};
 
 /// Appends four bytes, least first.
 #[inline(always)]
@@ -49,7 +46,7 @@ fn push_name(name: &str, out: &mut Vec<u8>) -> Option<()>
 pub(crate) fn push_label(kind: Kind, name: &str, out: &mut Vec<u8>) -> Option<()>
     ensures { IfSome result (λ u. out.new.items ≡ out.old.items ++ (byte_of kind ∷ (name.now ++ 0 ∷ []))) }
 {
-    if out.len() > LONGEST {
+    if out.len() > LONGEST_DOCUMENT {
         return None;
     }
     push_byte(type_byte(kind), out)?;
@@ -61,7 +58,7 @@ pub(crate) fn push_label(kind: Kind, name: &str, out: &mut Vec<u8>) -> Option<()
 pub(crate) fn push_string(text: &str, out: &mut Vec<u8>) -> Option<()>
     ensures { IfSome result (λ u. out.new.items ≡ out.old.items ++ string text.now) }
 {
-    if text.len() > LONGEST {
+    if text.len() > LONGEST_DOCUMENT {
         return None;
     }
     push_number(text.len() as u32 + 1, out)?;

@@ -5,8 +5,8 @@ ghost use Rattle.bd_value.specs.Tree.{leaf};
 ghost use Rattle.bd_raw.specs.Spelling.{element, string};
 ghost use Rattle.bd_write.specs.TreeBytes.{bytes_of};
 
-use crate::put::{LONGEST, push_byte, push_label, push_long, push_number, push_string};
-use bd_value::Kind;
+use crate::put::{push_byte, push_label, push_long, push_number, push_string};
+use bd_value::{Kind, LONGEST_DOCUMENT};
 
 /// Appends an element of a text.
 #[inline(always)]
@@ -81,7 +81,7 @@ pub(crate) fn append_binary(
     requires { (subtype == 2) ≡ false }
     ensures { IfSome result (λ u. out.new.items ≡ out.old.items ++ element (leaf (trees.binary subtype payload.now)) name.now (bytes_of (leaf (trees.binary subtype payload.now)))) }
 {
-    if payload.len() > LONGEST {
+    if payload.len() > LONGEST_DOCUMENT {
         return None;
     }
     push_label(Kind::Binary, name, out)?;

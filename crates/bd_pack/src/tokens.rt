@@ -1,5 +1,6 @@
 //! The bytes of a document straight from the tokens of its text, without a tree. What is refused here is not told why.
 ghost use Rattle.std.specs.Prelude.{◌≡◌, ◌<◌, ◌≤◌, ◌++◌, ℕ, List, length, Some, IfSome, option_map, option_and_then, false};
+ghost use Rattle.bd_value.specs.Limits.{longest_document, most_levels};
 ghost use Rattle.json.specs.Json.{value, items, members};
 ghost use Rattle.bd_value.specs.Tree as trees;
 ghost use Rattle.bd_value.specs.Tree.{Items, Fields, Doc, leaf, doc, array};
@@ -18,9 +19,8 @@ use crate::canonical_line::append_canonical;
 use crate::put::push_label;
 use crate::scalars::{append_bool, append_text};
 use crate::short::{append_short, is_short};
-use bd_diagnose::{BRACKETS, LEVELS};
 use bd_extjson::{bare_number, read_wrapper, wrapper_named};
-use bd_value::{Kind, Tree, Value, has_zero};
+use bd_value::{Kind, MOST_BRACKETS, MOST_LEVELS, Tree, Value, has_zero};
 use bd_wrapper::Wrapper;
 use bd_write::{append_label, append_value, begin_body, end_body};
 use json::{Reader, Scratch, Token};
@@ -176,7 +176,7 @@ fn append_fields<'a>(
     ensures gives { IfSome result (λ u. (fs : Fields) × (through (wrap_fields room) (after_key depth (length reader.old) (option_map (λ s. s.now) first.entry) reader.old) ≡ Some (fs, reader.new))
         × (out.new.items ≡ out.old.items ++ bytes_of (doc fs))) }
     ensures shorter { IfSome result (λ u. length reader.new ≤ length reader.old) }
-    ensures within { IfSome result (λ u. length out.new.items ≤ 16793600) }
+    ensures within { IfSome result (λ u. length out.new.items ≤ longest_document) }
 {
     let at = begin_body(out).ok()?;
     let mut next = first;
@@ -197,9 +197,9 @@ fn append_document(
     scratch: &mut Scratch,
     out: &mut Vec<u8>,
 ) -> Option<()>
-    ensures gives { IfSome result (λ u. (fs : Fields) × (option_and_then (wrap 200) (json text.now) ≡ Some (doc fs))
+    ensures gives { IfSome result (λ u. (fs : Fields) × (option_and_then (wrap most_levels) (json text.now) ≡ Some (doc fs))
         × (out.new.items ≡ out.old.items ++ bytes_of (doc fs))) }
-    ensures within { IfSome result (λ u. length out.new.items ≤ 16793600) }
+    ensures within { IfSome result (λ u. length out.new.items ≤ longest_document) }
 {
     let mut reader = Reader::new(text, scratch).ok()?;
     let Some(Token::BeginObject) = reader.next() else {
@@ -209,7 +209,7 @@ fn append_document(
     if wrapper_named(first).is_some() {
         return None;
     }
-    append_fields(alloc, &mut reader, first, LEVELS - 1, BRACKETS - 1, out)?;
+    append_fields(alloc, &mut reader, first, MOST_LEVELS - 1, MOST_BRACKETS - 1, out)?;
     if reader.next().is_some() {
         return None;
     }

@@ -3,15 +3,13 @@
 ghost use Rattle.std.specs.Prelude.{◌≡◌, ◌<◌, ◌≤◌, length, slice_get, Some, Ok, IfOk, map, string_bytes};
 ghost use Rattle.bd_path.specs.Names.{component_names, components_of};
 ghost use Rattle.std.specs.List.{list_any};
+ghost use Rattle.bd_value.specs.Limits.{most_names};
 ghost use Rattle.bd_path.specs.Path.{is_empty_name};
 
 use crate::component::Component;
 use crate::path_fault::PathFault;
-use bd_value::NoMemory;
+use bd_value::{MOST_NAMES, NoMemory};
 use std::alloc::Global;
-
-/// The most components of a path.
-const MOST: usize = 100;
 
 /// A path: one to a hundred names, none empty, with a full stop between each and the next.
 #[derive(Drop)]
@@ -20,7 +18,7 @@ pub struct Path {
     components: Vec<Component>,
 
     ghost cut: { component_names components.items ≡ components_of (string_bytes text) },
-    ghost few: { length components.items ≤ 100 },
+    ghost few: { length components.items ≤ most_names },
 }
 
 impl Path {
@@ -35,7 +33,7 @@ impl Path {
         ensures fault { RefusesOrStarves result (path_of text.now) }
     {
         let names = cut(alloc, text)?;
-        if names.len() > MOST {
+        if names.len() > MOST_NAMES {
             return Err(PathFault::TooLong);
         }
         if has_empty(&names) {

@@ -1,6 +1,7 @@
 //! Positions of a path.
 
 ghost use Rattle.std.specs.Prelude.{◌≡◌, ℕ, List, suc, ◌<◌, ◌≤◌, ◌⊎◌, true, false, Some, length, slice_get, IsTrue, IsFalse, string_bytes};
+ghost use Rattle.bd_value.specs.Limits.{most_names};
 ghost use Rattle.bd_path.specs.Component.{held_index};
 ghost use Rattle.bd_path.specs.Names.{component_names};
 ghost use Rattle.bd_path.specs.Positions.{IsOpen, Leads, LedTo, Takes, is_open};
@@ -50,7 +51,7 @@ impl Positions {
 
     /// Opens one more.
     pub fn open_at(&mut self, k: usize)
-        requires { k ≤ 100 }
+        requires { k ≤ most_names }
         ensures here { IsOpen self.new k }
         ensures kept { (j : ℕ) → IsOpen self.old j → IsOpen self.new j }
         ensures only { (j : ℕ) → IsOpen self.new j → (j ≡ k) ⊎ IsOpen self.old j }
@@ -60,7 +61,7 @@ impl Positions {
 
     /// Whether a position is open.
     pub fn has(&self, k: usize) -> bool
-        requires { k ≤ 100 }
+        requires { k ≤ most_names }
         ensures { result ≡ is_open self.now k }
     {
         self.are_open[k]
@@ -68,7 +69,7 @@ impl Positions {
 
     /// Whether a position is open and its component takes the step.
     fn leads(&self, path: &[Component], k: usize, step: Step) -> bool
-        requires few { length path.now ≤ 100 }
+        requires few { length path.now ≤ most_names }
         requires at { k < length path.now }
         ensures yes { IsTrue result → Leads step.entry (component_names path.now) self.now k }
         ensures no { IsFalse result → Leads step.entry (component_names path.now) self.now k → ⊥ }
@@ -78,7 +79,7 @@ impl Positions {
 
     /// Those after a step.
     fn after(&self, path: &[Component], step: Step) -> Positions
-        requires { length path.now ≤ 100 }
+        requires { length path.now ≤ most_names }
         ensures all { (k : ℕ) → Leads step.entry (component_names path.now) self.now k → IsOpen result (suc k) }
         ensures only { (k : ℕ) → IsOpen result k → LedTo step.entry (component_names path.now) self.now k }
     {
@@ -93,7 +94,7 @@ impl Positions {
 
     /// Opens those of others that are before an end.
     fn open_before(&mut self, others: &Positions, end: usize)
-        requires { end ≤ 100 }
+        requires { end ≤ most_names }
         ensures kept { (j : ℕ) → IsOpen self.old j → IsOpen self.new j }
         ensures all { (j : ℕ) → j < end → IsOpen others.now j → IsOpen self.new j }
         ensures only { (j : ℕ) → IsOpen self.new j → IsOpen self.old j ⊎ (j < end) × IsOpen others.now j }
@@ -107,7 +108,7 @@ impl Positions {
 
     /// Those at the first field of a name.
     pub fn at_field(&self, path: &[Component], name: &str) -> Positions
-        requires { length path.now ≤ 100 }
+        requires { length path.now ≤ most_names }
         ensures all { (k : ℕ) → Leads (Step.Field name.entry) (component_names path.now) self.now k → IsOpen result (suc k) }
         ensures only { (k : ℕ) → IsOpen result k → LedTo (Step.Field name.entry) (component_names path.now) self.now k }
     {
@@ -116,7 +117,7 @@ impl Positions {
 
     /// Those at an element of an array. A document in an array is gone into from the same positions too.
     pub fn at_element(&self, path: &[Component], index: usize, is_document: bool) -> Positions
-        requires { length path.now ≤ 100 }
+        requires { length path.now ≤ most_names }
         ensures stays { is_document ≡ true → (k : ℕ) → k < length path.now → IsOpen self.now k → IsOpen result k }
         ensures all { (k : ℕ) → Leads (Step.Element index) (component_names path.now) self.now k → IsOpen result (suc k) }
         ensures only { (k : ℕ) → IsOpen result k → LedTo (Step.Element index) (component_names path.now) self.now k ⊎ (is_document ≡ true) × (k < length path.now) × IsOpen self.now k }
@@ -137,7 +138,7 @@ impl Positions {
         index: usize,
         is_document: bool,
     ) -> Positions
-        requires few { length path.now ≤ 100 }
+        requires few { length path.now ≤ most_names }
         requires at { k < length path.now }
         ensures { (j : ℕ) → IsOpen result j → LedTo (Step.Element index) (component_names path.now) self.now j ⊎ (is_document ≡ true) × ((j ≡ k) ⊎ (j < length path.now) × IsOpen self.now j) }
     {

@@ -1,6 +1,7 @@
 //! Where a value was walked before.
 
 ghost use Rattle.std.specs.Prelude.{◌≡◌, ◌<◌, ◌≤◌, ◌⊎◌, ℕ, true, length};
+ghost use Rattle.bd_value.specs.Limits.{most_names};
 ghost use Rattle.bd_path.specs.Names.{component_names};
 ghost use Rattle.bd_path.specs.Visits.{IsStepOf, IsWalked, is_walked};
 ghost use Rattle.bd_path.specs.declared.positions.Step.TheVariants as steps;
@@ -22,7 +23,7 @@ pub enum Visits {
 impl Visits {
     /// Whether it was walked from a position.
     pub fn has(&self, k: usize) -> bool
-        requires { k ≤ 100 }
+        requires { k ≤ most_names }
         ensures { result ≡ is_walked self.now k }
     {
         match self {
@@ -33,7 +34,7 @@ impl Visits {
 
     /// Where the first field of a name was walked, when the document was.
     pub fn at_field(&self, path: &[Component], name: &str) -> Visits
-        requires { length path.now ≤ 100 }
+        requires { length path.now ≤ most_names }
         ensures { (j : ℕ) → IsWalked result j → IsStepOf (steps.Field name.entry) (component_names path.now) self.now j }
     {
         match self {
@@ -44,7 +45,7 @@ impl Visits {
 
     /// Where a document in an array was walked, when the array was.
     pub fn at_document(&self, path: &[Component], index: usize) -> Visits
-        requires { length path.now ≤ 100 }
+        requires { length path.now ≤ most_names }
         ensures { (j : ℕ) → IsWalked result j → IsStepOf (steps.Element index) (component_names path.now) self.now j ⊎ (j < length path.now) × IsWalked self.now j }
     {
         match self {
@@ -55,7 +56,7 @@ impl Visits {
 
     /// Where the element of an array at an index was walked, when the array was, and its documents from one position more.
     pub fn at_index(&self, path: &[Component], k: usize, index: usize, is_document: bool) -> Visits
-        requires few { length path.now ≤ 100 }
+        requires few { length path.now ≤ most_names }
         requires at { k < length path.now }
         ensures { (j : ℕ) → IsWalked result j → IsStepOf (steps.Element index) (component_names path.now) self.now j ⊎ (is_document ≡ true) × ((j ≡ k) ⊎ (j < length path.now) × IsWalked self.now j) }
     {

@@ -2,6 +2,7 @@
 
 ghost use Rattle.std.specs.Prelude.{◌≡◌, ◌≤◌, ◌<◌, ◌++◌, ◌∷◌, [], ℕ, Bool, false, List, Some, drop, length, slice_get, string_bytes, IfSome, IfNone, is_some};
 ghost use Rattle.std.specs.List.{list_any};
+ghost use Rattle.bd_value.specs.Limits.{most_names};
 ghost use Rattle.bd_value.specs.Kind.{kind_of};
 ghost use Rattle.bd_value.specs.Parts.{elements_in};
 ghost use Rattle.bd_value.specs.Tree as trees;
@@ -51,7 +52,7 @@ pub(crate) fn walk<N: Reading, G: Gatherer<N>>(
     k: usize,
     walked: &Visits,
 ) -> bool
-    requires few { length path.now ≤ 100 }
+    requires few { length path.now ≤ most_names }
     requires at { k ≤ length path.now }
     requires known { KeepsKnown (G.amounts gatherer.now) (G.is_new gatherer.now) }
     requires vain { GathersNone (G.is_new gatherer.now found.old) stopping (N.tree node) (component_names path.now) walked.now }
@@ -81,7 +82,7 @@ fn walk_field<N: Reading, G: Gatherer<N>>(
     k: usize,
     walked: &Visits,
 ) -> bool
-    requires few { length path.now ≤ 100 }
+    requires few { length path.now ≤ most_names }
     requires at { k < length path.now }
     requires kind { kind_of (N.tree node) ≡ kinds.Doc }
     requires known { KeepsKnown (G.amounts gatherer.now) (G.is_new gatherer.now) }
@@ -109,7 +110,7 @@ fn walk_array<N: Reading, G: Gatherer<N>>(
     k: usize,
     walked: &Visits,
 ) -> bool
-    requires few { length path.now ≤ 100 }
+    requires few { length path.now ≤ most_names }
     requires at { k < length path.now }
     requires kind { kind_of (N.tree node) ≡ kinds.Array }
     requires known { KeepsKnown (G.amounts gatherer.now) (G.is_new gatherer.now) }
@@ -133,7 +134,7 @@ fn walk_documents<N: Reading, G: Gatherer<N>>(
     k: usize,
     walked: &Visits,
 ) -> Option<bool>
-    requires few { length path.now ≤ 100 }
+    requires few { length path.now ≤ most_names }
     requires at { k < length path.now }
     requires kind { kind_of (N.tree node) ≡ kinds.Array }
     requires known { KeepsKnown (G.amounts gatherer.now) (G.is_new gatherer.now) }
@@ -173,7 +174,7 @@ fn walk_index<N: Reading, G: Gatherer<N>>(
     walked: &Visits,
     has_document: bool,
 ) -> bool
-    requires few { length path.now ≤ 100 }
+    requires few { length path.now ≤ most_names }
     requires at { k < length path.now }
     requires kind { kind_of (N.tree node) ≡ kinds.Array }
     requires known { KeepsKnown (G.amounts gatherer.now) (G.is_new gatherer.now) }

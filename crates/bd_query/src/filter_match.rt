@@ -2,6 +2,7 @@
 
 ghost use Rattle.std.specs.Prelude.{◌≡◌, ◌<◌, ◌≤◌, false, drop, length, map};
 ghost use Rattle.std.specs.List.{list_any};
+ghost use Rattle.bd_value.specs.Limits.{most_names};
 ghost use Rattle.bd_value.specs.Kind.{kind_of};
 ghost use Rattle.bd_value.specs.Parts.{elements_in};
 ghost use Rattle.bd_value.specs.declared.kind.Kind.TheVariants as kinds;
@@ -122,7 +123,7 @@ fn any_end_suits<N: Reading>(
     walked: &Visits,
     body: &Body,
 ) -> bool
-    requires few { length path.now ≤ 100 }
+    requires few { length path.now ≤ most_names }
     requires at { k ≤ length path.now }
     requires vain { GathersNone (is_suited body.now) ends (N.tree node) (component_names path.now) walked.now }
     ensures { result ≡ list_any (is_suited body.now) (reach (N.tree node) (drop k (component_names path.now))) }
@@ -152,7 +153,7 @@ fn any_end_suits_in_field<N: Reading>(
     walked: &Visits,
     body: &Body,
 ) -> bool
-    requires few { length path.now ≤ 100 }
+    requires few { length path.now ≤ most_names }
     requires at { k < length path.now }
     requires kind { kind_of (N.tree node) ≡ kinds.Doc }
     requires vain { GathersNone (is_suited body.now) ends (N.tree node) (component_names path.now) walked.now }
@@ -177,7 +178,7 @@ fn any_end_suits_in_documents<N: Reading>(
     walked: &Visits,
     body: &Body,
 ) -> bool
-    requires few { length path.now ≤ 100 }
+    requires few { length path.now ≤ most_names }
     requires at { k < length path.now }
     requires kind { kind_of (N.tree node) ≡ kinds.Array }
     requires vain { GathersNone (is_suited body.now) ends (N.tree node) (component_names path.now) walked.now }
@@ -210,7 +211,7 @@ fn any_end_suits_at_index<N: Reading>(
     walked: &Visits,
     body: &Body,
 ) -> bool
-    requires few { length path.now ≤ 100 }
+    requires few { length path.now ≤ most_names }
     requires at { k < length path.now }
     requires kind { kind_of (N.tree node) ≡ kinds.Array }
     requires vain { GathersNone (is_suited body.now) ends (N.tree node) (component_names path.now) walked.now }

@@ -11,7 +11,8 @@ use Rattle.bd_raw.specs.declared.at.At.{At}
 use Rattle.bd_raw.specs.declared.element.ElementType.TheVariants.{Kept}
 
 -- where a view stands
-pub placed : (bytes : List ℕ) (start byte : ℕ) (kind : Kind) (s : Sound kind (drop start bytes)) → start ≤ length bytes → byte ≡ type_byte kind → StandsAt bytes (record { kind = byte; start = start }) (stands s)
+pub placed : (bytes : List ℕ) (start byte : ℕ) (kind : Kind) (s : Sound kind (drop start bytes)) → start ≤ length bytes → byte ≡ type_byte kind
+    → StandsAt bytes (record { kind = byte; start = start }) (stands s)
 unfolding stands
 placed bytes start byte kind s inside is = record { typed = s.kinded ∙ sym is; inside = inside; value = s.value; after = s.after; spells = s.spells; cut = s.cut; short = s.short }
 

@@ -1,8 +1,10 @@
 -- What a value that stays in its bytes holds.
 use Rattle.std.proofs.Common.{◌≡◌, ℕ, ◌+◌, ◌≤◌, false, List, ◌∷◌, ◌++◌, length, drop, refl, sym, ap, ap₂, ◌∙◌, subst, append_assoc, arith}
 use Rattle.std.proofs.lemmas.List.{drop_at, length-append, length-drop, drop-drop}
+use Rattle.bd_value.specs.Limits.{longest_document}
 use Rattle.bd_value.specs.Tree as trees
-use Rattle.bd_value.specs.Tree.{Tree, leaf, doc, array, code_scope, Items, no_items, item, Fields, no_fields, field, Doc, pairs_of, pairs_in, fields_of, items_of, list_of, fields_of-pairs_of, items_of-list_of}
+use Rattle.bd_value.specs.Tree.{Tree, leaf, doc, array, code_scope, Items, no_items, item, Fields, no_fields, field, Doc, pairs_of, pairs_in, fields_of}
+use Rattle.bd_value.specs.Tree.{items_of, list_of, fields_of-pairs_of, items_of-list_of}
 use Rattle.bd_value.specs.Kind.{kind_of}
 use Rattle.bd_value.specs.declared.kind.Kind.{Kind}
 use Rattle.bd_value.specs.declared.kind.Kind.TheVariants as kinds
@@ -113,8 +115,9 @@ module _ (bytes : List ℕ) (start : ℕ) (kind : Kind) (s : Sound kind (drop st
   framed_left =
       let whole : drop start bytes ≡ number (length f.body + 5) ++ (f.body ++ 0 ∷ s.after) = s.cut ∙ ap (λ (x : List ℕ). x ++ s.after) f.frame ∙ framed_after f.body s.after in
       let size : length s.value ≡ length f.body + 5 = ap length f.frame ∙ framed_length f.body in
-      let short : length f.body ≤ 16793600 = let m = s.short in omega (arith, size) in
-      record { fields = f.fields; body = f.body; after = s.after; spell = f.spell; cut = sym (drop-drop 4 start bytes) ∙ ap (drop 4) whole ∙ number_after (length f.body + 5) (f.body ++ 0 ∷ s.after); short = short }
+      let short : length f.body ≤ longest_document = let m = s.short in omega (arith, size) in
+      record { fields = f.fields; body = f.body; after = s.after; spell = f.spell; cut = sym (drop-drop 4 start bytes) ∙ ap (drop 4) whole
+          ∙ number_after (length f.body + 5) (f.body ++ 0 ∷ s.after); short = short }
 
   framed_is : (g : Left (drop (start + 4) bytes)) → stands s ≡ made (elements_left g)
   unfolding framed_left
@@ -140,7 +143,8 @@ module _ (bytes : List ℕ) (start : ℕ) (kind : Kind) (s : Sound kind (drop st
   code_after =
       let whole : drop start bytes ≡ number (length (string c.code ++ framed c.body) + 4) ++ ((string c.code ++ framed c.body) ++ s.after) =
       s.cut ∙ ap (λ (x : List ℕ). x ++ s.after) c.whole ∙ append_assoc (number (length (string c.code ++ framed c.body) + 4)) (string c.code ++ framed c.body) s.after in
-      sym (drop-drop 4 start bytes) ∙ ap (drop 4) whole ∙ number_after (length (string c.code ++ framed c.body) + 4) ((string c.code ++ framed c.body) ++ s.after) ∙ append_assoc (string c.code) (framed c.body) s.after
+      sym (drop-drop 4 start bytes) ∙ ap (drop 4) whole ∙ number_after (length (string c.code ++ framed c.body) + 4)
+          ((string c.code ++ framed c.body) ++ s.after) ∙ append_assoc (string c.code) (framed c.body) s.after
 
   code_size : number_of (drop (start + 4) bytes) ≡ length c.code + 1
   code_size = ap number_of code_after ∙ string_number c.code (framed c.body ++ s.after) c.text_fits.1
@@ -188,7 +192,8 @@ module _ (bytes : List ℕ) (start : ℕ) (kind : Kind) (s : Sound kind (drop st
   pub scope_sound : (n : ℕ) → n ≡ number_of (drop (start + 4) bytes) → Sound kinds.Doc (drop (start + 8 + n) bytes)
   scope_sound n is = scope_here bytes start kind s code_of n is
 
-  pub code_is : (n : ℕ) (code : List ℕ) (g : Sound kinds.Doc (drop (start + 8 + n) bytes)) → n ≡ number_of (drop (start + 4) bytes) → code ≡ text_of (drop (start + 4) bytes) → stands s ≡ code_scope code (fields_of (pairs_in (stands g)))
+  pub code_is : (n : ℕ) (code : List ℕ) (g : Sound kinds.Doc (drop (start + 8 + n) bytes)) → n ≡ number_of (drop (start + 4) bytes)
+      → code ≡ text_of (drop (start + 4) bytes) → stands s ≡ code_scope code (fields_of (pairs_in (stands g)))
   code_is n code g is text =
       let scope : pairs_in (stands g) ≡ pairs_of code_of.fields = ap pairs_in (stands_is g (scope_here bytes start kind s code_of n is)) in
       stands_is s s ∙ code_of.is ∙ ap₂ code_scope (sym (text ∙ code_text bytes start kind s code_of)) (sym (ap fields_of scope ∙ fields_of-pairs_of code_of.fields))

@@ -2,6 +2,7 @@
 use Rattle.std.proofs.Common.{◌≡◌, ℕ, zero, suc, ◌+◌, ◌≤◌, List, [], ◌∷◌, length, drop, Some, sym, ap, ◌∙◌, arith}
 use Rattle.std.specs.Prelude.{slice_get}
 use Rattle.std.proofs.lemmas.List.{length-append, length-drop, drop-drop}
+use Rattle.bd_value.specs.Limits.{longest_document}
 use Rattle.bd_value.specs.Tree.{Fields, no_fields, field, Doc, pairs_of}
 use Rattle.bd_raw.specs.Spelling.{AreFields, element}
 use Rattle.bd_raw.specs.Sound.{Left, elements_left, left_is}
@@ -10,7 +11,7 @@ few_fields : (fs : Fields) (b : List ℕ) → AreFields fs b → length (pairs_o
 few_fields no_fields b h = omega arith
 few_fields (field n t fs) b h = omega (arith, few_fields fs h.1 h.4, ap length h.5, length-append (element t n h.0) h.1)
 
-pub few : (bytes : List ℕ) (l : Left bytes) → length (elements_left l) ≤ 16793600
+pub few : (bytes : List ℕ) (l : Left bytes) → length (elements_left l) ≤ longest_document
 few bytes l =
     let e = ap (λ (ps : Doc). length ps) (left_is l l) in
     let f = few_fields l.fields l.body l.spell in

@@ -2,6 +2,7 @@
 use Rattle.std.proofs.Common.{◌≡◌, ◌≢◌, ℕ, ◌+◌, ◌<◌, ◌≤◌, List, [], ◌∷◌, ◌++◌, length, drop, get_or, Option, Some, None, refl, sym, ap, ap₂, subst, ◌∙◌, append_assoc, arith}
 use Rattle.std.specs.Prelude.{slice_index_or}
 use Rattle.std.proofs.lemmas.List.{drop_at, length-append, length-drop, get_or-drop, drop-drop}
+use Rattle.bd_value.specs.Limits.{longest_document}
 use Rattle.bd_value.specs.Tree.{Tree, Fields, no_fields, field, Pair, Doc, pairs_of}
 use Rattle.bd_value.specs.Kind.{kind_of}
 use Rattle.bd_value.specs.declared.kind.Kind.{Kind}
@@ -44,10 +45,11 @@ pub record Next (bytes : List ℕ) (at : ℕ) (left : Fields) : Type 0 where
   pub more : AreFields others rest
   pub cut : drop at bytes ≡ type_byte (kind_of tree) ∷ (name ++ 0 ∷ (value ++ (rest ++ 0 ∷ after)))
   pub name_short : IsShort name
-  pub value_short : length value ≤ 16793600
-  pub rest_short : length rest ≤ 16793600
+  pub value_short : length value ≤ longest_document
+  pub rest_short : length rest ≤ longest_document
 
-split : (bytes : List ℕ) (at : ℕ) (fs : Fields) (body after : List ℕ) → AreFields fs body → drop at bytes ≡ body ++ 0 ∷ after → length body ≤ 16793600 → slice_index_or bytes at 0 ≢ 0 → Next bytes at fs
+split : (bytes : List ℕ) (at : ℕ) (fs : Fields) (body after : List ℕ) → AreFields fs body → drop at bytes ≡ body ++ 0 ∷ after
+    → length body ≤ longest_document → slice_index_or bytes at 0 ≢ 0 → Next bytes at fs
 split bytes at no_fields body after h cut short not_zero =
     absurd (not_zero (head_at bytes at 0 after (cut ∙ ap (λ (y : List ℕ). y ++ 0 ∷ after) h)))
 split bytes at (field n t fs) body after h cut short not_zero =
@@ -110,7 +112,8 @@ module _ (bytes : List ℕ) (at : ℕ) (left : Fields) (s : Next bytes at left) 
   value_cut k p =
       let e : at + k + 2 ≡ (at + 1) + (k + 1) = omega arith in
       let len : length (s.name ++ 0 ∷ []) ≡ k + 1 = omega (arith, length-append s.name (0 ∷ [])) in
-      let whole : s.name ++ 0 ∷ (s.value ++ (s.rest ++ 0 ∷ s.after)) ≡ (s.name ++ 0 ∷ []) ++ (s.value ++ (s.rest ++ 0 ∷ s.after)) = sym (append_assoc s.name (0 ∷ []) (s.value ++ (s.rest ++ 0 ∷ s.after))) in
+      let whole : s.name ++ 0 ∷ (s.value ++ (s.rest ++ 0 ∷ s.after)) ≡ (s.name ++ 0 ∷ [])
+          ++ (s.value ++ (s.rest ++ 0 ∷ s.after)) = sym (append_assoc s.name (0 ∷ []) (s.value ++ (s.rest ++ 0 ∷ s.after))) in
       ap (λ (n : ℕ). drop n bytes) e ∙ sym (drop-drop (k + 1) (at + 1) bytes) ∙ ap (drop (k + 1)) (tail_is ∙ whole) ∙ drop_at (s.name ++ 0 ∷ []) (s.value ++ (s.rest ++ 0 ∷ s.after)) (k + 1) len
 
   pub value_inside : (k : ℕ) → k ≡ length s.name → at + k + 2 ≤ length bytes
@@ -133,7 +136,8 @@ module _ (bytes : List ℕ) (at : ℕ) (left : Fields) (s : Next bytes at left) 
     abbrev pub after_sound : (k e : ℕ) (g : Sound kind (drop (at + k + 2) bytes)) → k ≡ length s.name → e ≡ (at + k + 2) + extent g → Left (drop e bytes)
     after_sound k e g p q = record { fields = s.others; body = s.rest; after = s.after; spell = s.more; cut = after_cut k e g p q; short = s.rest_short }
 
-    pub shown : (k e : ℕ) (n : List ℕ) (l : Left (drop at bytes)) (g f : Sound kind (drop (at + k + 2) bytes)) (h : Left (drop e bytes)) → left ≡ l.fields → k ≡ length s.name → n ≡ s.name → e ≡ (at + k + 2) + extent f → elements_left l ≡ (n, stands g) ∷ elements_left h
+    pub shown : (k e : ℕ) (n : List ℕ) (l : Left (drop at bytes)) (g f : Sound kind (drop (at + k + 2) bytes)) (h : Left (drop e bytes))
+        → left ≡ l.fields → k ≡ length s.name → n ≡ s.name → e ≡ (at + k + 2) + extent f → elements_left l ≡ (n, stands g) ∷ elements_left h
     shown k e n l g f h same p named q =
         let value = stands_is g (value_sound k p) in
         let others = left_is h (after_sound k e f p q) in

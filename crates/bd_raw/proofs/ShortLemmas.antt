@@ -1,6 +1,7 @@
 -- A text of a value is shorter than the bytes of the value.
 use Rattle.std.proofs.Common.{◌≡◌, ◌≤◌, ℕ, List, [], ◌∷◌, ◌++◌, Bool, true, false, length, Some, sym, ap, ◌∙◌, subst, arith, length-append, ◌+◌, refl}
 use Rattle.std.specs.Prelude.{◌==◌}
+use Rattle.bd_value.specs.Limits.{longest_document}
 use Rattle.bd_value.specs.Tree as trees
 use Rattle.bd_value.specs.Tree.{Scalar, Tree, leaf, doc, array, code_scope}
 use Rattle.bd_value.specs.OwnPart.{Own, own, own_code, own_of}
@@ -15,7 +16,7 @@ payload_short : (k : ℕ) (s : List ℕ) (b : Bool) → (k == 2) ≡ b → lengt
 payload_short k s true is = rw is (omega (arith, length-append (number (length s)) s))
 payload_short k s false is = rw is (omega arith)
 
-scalar_short : (a : Scalar) (v : List ℕ) → IsScalar a v → length v ≤ 16793600 → ScalarIsShort a
+scalar_short : (a : Scalar) (v : List ℕ) → IsScalar a v → length v ≤ longest_document → ScalarIsShort a
 scalar_short trees.min_key v h short = tt
 scalar_short trees.undefined v h short = tt
 scalar_short trees.null v h short = tt
@@ -36,7 +37,7 @@ scalar_short (trees.regex p o) v h short =
 scalar_short (trees.binary k s) v h short =
     omega (arith, payload_short k s (k == 2) refl, ap length h.2, length-append (number (length (data_of k s))) (k ∷ data_of k s))
 
-value_short : (t : Tree) (v : List ℕ) → IsValue t v → length v ≤ 16793600 → (o : Own) → own_of t ≡ Some o → OwnIsShort o
+value_short : (t : Tree) (v : List ℕ) → IsValue t v → length v ≤ longest_document → (o : Own) → own_of t ≡ Some o → OwnIsShort o
 value_short (leaf a) v h short o is = let same : own a ≡ o = cc in subst OwnIsShort same (scalar_short a v h short)
 value_short (doc fs) v h short o is = absurd cc
 value_short (array ts) v h short o is = absurd cc

@@ -3,6 +3,7 @@ use Rattle.std.proofs.Common.{◌≡◌, ℕ, ◌+◌, ◌≤◌, ◌<◌, ◌^�
 use Rattle.std.specs.Prelude.{IsUtf8, ◌==◌}
 use Rattle.std.proofs.lemmas.List.{length-append}
 use Rattle.std.proofs.lemmas.Bool.Decides.{nat_tests}
+use Rattle.bd_value.specs.Limits.{longest_document}
 use Rattle.bd_value.specs.Tree as trees
 use Rattle.bd_value.specs.Tree.{Scalar, Tree, leaf, doc, array, code_scope}
 use Rattle.bd_value.specs.Kind.{scalar_kind, kind_of}
@@ -10,7 +11,8 @@ use Rattle.bd_value.specs.declared.kind.Kind.{Kind}
 use Rattle.bd_raw.specs.Spelling.{number, string, data_of, scoped, framed, IsName, IsText, IsScalar, IsValue}
 use Rattle.bd_raw.specs.Sizes.{number_of, after_name, size_of}
 use Rattle.bd_raw.specs.ValueAt.{TextAt, NameAt, BinaryAt, HasBytesOf}
-use Rattle.bd_raw.specs.Scalars.{number_length, number_front, zero_place, name_front, name_after, string_length, string_number, string_text, data_length, binary_count, binary_subtype, regex_whole, scalar_size}
+use Rattle.bd_raw.specs.Scalars.{number_length, number_front, zero_place, name_front, name_after, string_length, string_number, string_text, data_length}
+use Rattle.bd_raw.specs.Scalars.{binary_count, binary_subtype, regex_whole, scalar_size}
 use Rattle.bd_raw.specs.Unique.{same_kind, framed_after}
 use Rattle.bd_raw.specs.Sound.{Sound, extent, extent_is}
 
@@ -30,7 +32,9 @@ name_reads name rest h = record {
 binary_reads : (k : ℕ) (s r : List ℕ) → length (data_of k s) < 2 ^ 31 → BinaryAt ((number (length (data_of k s)) ++ k ∷ data_of k s) ++ r)
 binary_reads k s r lt =
     let count = binary_count k (data_of k s) r lt in
-    let size : length ((number (length (data_of k s)) ++ k ∷ data_of k s) ++ r) ≡ 5 + length (data_of k s) + length r = omega (arith, length-append (number (length (data_of k s)) ++ k ∷ data_of k s) r, length-append (number (length (data_of k s))) (k ∷ data_of k s), number_length (length (data_of k s))) in
+    let size : length ((number (length (data_of k s)) ++ k ∷ data_of k s) ++ r)
+        ≡ 5 + length (data_of k s) + length r = omega (arith, length-append (number (length (data_of k s)) ++ k ∷ data_of k s) r, length-append
+        (number (length (data_of k s))) (k ∷ data_of k s), number_length (length (data_of k s))) in
     record {
       inside = omega (arith, count, size);
       inner = λ is. let two : (k == 2) ≡ true = let e = sym (binary_subtype k (data_of k s) r) ∙ is in grind (arith, nat_tests) in omega (arith, count, data_length k s two);
@@ -70,18 +74,19 @@ framed_length body = omega (arith, length-append (number (length body + 5)) (bod
 pub scoped_length : (s d : List ℕ) → length (scoped s d) ≡ length (string s ++ d) + 4
 scoped_length s d = omega (arith, length-append (number (length (string s ++ d) + 4)) (string s ++ d), number_length (length (string s ++ d) + 4))
 
-framed_size : (body v r : List ℕ) → v ≡ framed body → length v ≤ 16793600 → number_of (v ++ r) ≡ length v
+framed_size : (body v r : List ℕ) → v ≡ framed body → length v ≤ longest_document → number_of (v ++ r) ≡ length v
 framed_size body v r e short =
     let len : length v ≡ length body + 5 = ap length e ∙ framed_length body in
     ap (λ (x : List ℕ). number_of (x ++ r)) e ∙ ap number_of (framed_after body r) ∙ number_front (length body + 5) (body ++ 0 ∷ r) (omega arith) ∙ sym len
 
-scoped_size : (s d v r : List ℕ) → v ≡ scoped s d → length v ≤ 16793600 → number_of (v ++ r) ≡ length v
+scoped_size : (s d v r : List ℕ) → v ≡ scoped s d → length v ≤ longest_document → number_of (v ++ r) ≡ length v
 scoped_size s d v r e short =
     let n = length (string s ++ d) + 4 in
     let len : length v ≡ length (string s ++ d) + 4 = ap (λ (x : List ℕ). length x) e ∙ scoped_length s d in
-    ap (λ (x : List ℕ). number_of (x ++ r)) e ∙ ap number_of (append_assoc (number (length (string s ++ d) + 4)) (string s ++ d) r) ∙ number_front (length (string s ++ d) + 4) ((string s ++ d) ++ r) (omega arith) ∙ sym len
+    ap (λ (x : List ℕ). number_of (x ++ r)) e ∙ ap number_of (append_assoc (number (length (string s ++ d) + 4)) (string s ++ d) r)
+        ∙ number_front (length (string s ++ d) + 4) ((string s ++ d) ++ r) (omega arith) ∙ sym len
 
-size_is : (t : Tree) (v r : List ℕ) → IsValue t v → length v ≤ 16793600 → size_of (kind_of t) (v ++ r) ≡ length v
+size_is : (t : Tree) (v r : List ℕ) → IsValue t v → length v ≤ longest_document → size_of (kind_of t) (v ++ r) ≡ length v
 size_is (leaf a) v r h short = scalar_size a v r h
 size_is (doc fs) v r h short = framed_size h.0 v r h.2 short
 size_is (array ts) v r h short = framed_size h.0 v r h.2 short

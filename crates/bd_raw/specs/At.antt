@@ -2,6 +2,7 @@
 use Rattle.std.specs.Prelude.{◌≡◌, ◌≤◌, ◌++◌, ℕ, List, length, drop}
 use Rattle.std.proofs.Common.{sym, ◌∙◌}
 use Rattle.std.specs.Coded.{Coded-set, coded_ℕ, le_prop}
+use Rattle.bd_value.specs.Limits.{longest_document}
 use mathlib.Core.HLevel.{is_prop→PathP}
 use Rattle.bd_value.specs.Tree.{Tree}
 use Rattle.bd_value.specs.Kind.{kind_of}
@@ -18,7 +19,7 @@ pub record StandsAt (bytes : List ℕ) (at : At) (tree : Tree) : Type 0 where
   pub after : List ℕ
   pub spells : IsValue tree value
   pub cut : drop at.start bytes ≡ value ++ after
-  pub short : length value ≤ 16793600
+  pub short : length value ≤ longest_document
 
 -- a value of that type stands there
 abbrev pub IsPlace : List ℕ → At → Type 0
@@ -43,5 +44,5 @@ StandsAt-prop bytes at t p q =
       after = a i;
       spells = is_prop→PathP (λ k. IsValue t (v k)) (λ k. value_prop t (v k)) p.spells q.spells i;
       cut = is_prop→PathP (λ k. drop at.start bytes ≡ v k ++ a k) (λ k. same_bytes (drop at.start bytes) (v k ++ a k)) p.cut q.cut i;
-      short = is_prop→PathP (λ k. length (v k) ≤ 16793600) (λ k. le_prop) p.short q.short i;
+      short = is_prop→PathP (λ k. length (v k) ≤ longest_document) (λ k. le_prop) p.short q.short i;
     }

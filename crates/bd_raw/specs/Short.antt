@@ -1,11 +1,12 @@
 -- Texts that are no longer than a document may be.
 use Rattle.std.specs.Prelude.{◌≤◌, ℕ, List, length}
+use Rattle.bd_value.specs.Limits.{longest_document}
 use Rattle.bd_value.specs.Tree as trees
 use Rattle.bd_value.specs.Tree.{Scalar}
 use Rattle.bd_value.specs.OwnPart.{Own, own, own_code}
 
 abbrev pub IsShort : List ℕ → Type 0
-IsShort text = length text ≤ 16793600
+IsShort text = length text ≤ longest_document
 
 abbrev pub ScalarIsShort : Scalar → Type 0
 ScalarIsShort trees.min_key = Unit {0}

@@ -2,6 +2,7 @@
 use Rattle.std.specs.Prelude.{◌≡◌, ◌≤◌, length, ℕ, List, ◌∷◌, ◌++◌}
 use Rattle.std.proofs.Common.{sym, ap, ◌∙◌}
 use Rattle.std.specs.Coded.{Coded-set, coded_ℕ, le_prop}
+use Rattle.bd_value.specs.Limits.{longest_document}
 use mathlib.Core.HLevel.{is_prop→PathP}
 use Rattle.bd_value.specs.Tree.{Tree, Fields, Doc, pairs_of}
 use Rattle.bd_value.specs.Kind.{kind_of}
@@ -18,7 +19,7 @@ pub record Sound (kind : Kind) (bytes : List ℕ) : Type 0 where
   pub spells : IsValue tree value
   pub kinded : type_byte (kind_of tree) ≡ type_byte kind
   pub cut : bytes ≡ value ++ after
-  pub short : length value ≤ 16793600
+  pub short : length value ≤ longest_document
 
 pub Sound-prop : (kind : Kind) (bytes : List ℕ) → IsProp (Sound kind bytes)
 Sound-prop kind bytes p q =
@@ -36,7 +37,7 @@ Sound-prop kind bytes p q =
       kinded =
           is_prop→PathP (λ k. type_byte (kind_of (t k)) ≡ type_byte kind) (λ k. Coded-set coded_ℕ (type_byte (kind_of (t k))) (type_byte kind)) p.kinded q.kinded i;
       cut = is_prop→PathP (λ k. bytes ≡ v k ++ a k) (λ k. same_bytes bytes (v k ++ a k)) p.cut q.cut i;
-      short = is_prop→PathP (λ k. length (v k) ≤ 16793600) (λ k. le_prop) p.short q.short i;
+      short = is_prop→PathP (λ k. length (v k) ≤ longest_document) (λ k. le_prop) p.short q.short i;
     }
 
 -- the elements that are left, their bytes, and the bytes after the zero
@@ -46,7 +47,7 @@ pub record Left (bytes : List ℕ) : Type 0 where
   pub after : List ℕ
   pub spell : AreFields fields body
   pub cut : bytes ≡ body ++ 0 ∷ after
-  pub short : length body ≤ 16793600
+  pub short : length body ≤ longest_document
 
 pub Left-prop : (bytes : List ℕ) → IsProp (Left bytes)
 Left-prop bytes p q =
@@ -64,7 +65,7 @@ Left-prop bytes p q =
       cut =
           is_prop→PathP (λ k. bytes ≡ b k
           ++ 0 ∷ a k) (λ k. same_bytes bytes (b k ++ 0 ∷ a k)) p.cut q.cut i;
-      short = is_prop→PathP (λ k. length (b k) ≤ 16793600) (λ k. le_prop) p.short q.short i;
+      short = is_prop→PathP (λ k. length (b k) ≤ longest_document) (λ k. le_prop) p.short q.short i;
     }
 
 -- the tree that stands there. It does not unfold, so that a proof may leave the value to be found

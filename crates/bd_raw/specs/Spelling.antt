@@ -2,6 +2,7 @@
 use Rattle.std.specs.Prelude.{◌≡◌, ◌≢◌, ◌≤◌, ◌<◌, ◌^◌, ℕ, ◌+◌, List, [], ◌∷◌, ◌++◌, length, IsUtf8, FitsSigned, ◌==◌, if◌then◌else◌}
 use Rattle.std.specs.List.{AllByRecursion}
 use Rattle.std.specs.Int.{w32, w64, to_le_bytes, cast_unsigned}
+use Rattle.bd_value.specs.Limits.{longest_document, most_levels}
 use Rattle.bd_value.specs.Tree as trees
 use Rattle.bd_value.specs.Tree.{Scalar, Tree, leaf, doc, array, code_scope, Items, no_items, item, Fields, no_fields, field, Doc, fields_of}
 use Rattle.bd_value.specs.Kind.{kind_of}
@@ -92,5 +93,5 @@ abbrev mutual
 -- the bytes are the document, within the limits of length and depth
 pub record IsDocument (d : Doc) (bytes : List ℕ) : Type 0 where
   pub spells : IsValue (doc (fields_of d)) bytes
-  pub short : length bytes ≤ 16793600
-  pub shallow : depth (doc (fields_of d)) ≤ 200
+  pub short : length bytes ≤ longest_document
+  pub shallow : depth (doc (fields_of d)) ≤ most_levels

@@ -1,6 +1,7 @@
 //! Where a value stands in its bytes. No call takes memory.
 
 ghost use Rattle.std.specs.Prelude.{◌≡◌, ◌≤◌, List, ℕ, length};
+ghost use Rattle.bd_value.specs.Limits.{longest_input};
 ghost use Rattle.bd_value.specs.Tree.{Tree, leaf, null, undefined};
 ghost use Rattle.bd_raw.specs.Sound.{stands};
 ghost use Rattle.bd_raw.specs.At.{StandsAt, IsPlace};
@@ -40,7 +41,7 @@ impl At {
 
     /// The value of that type which stands there in the bytes.
     pub fn value_in(self, bytes: &[u8]) -> RawValue<'_>
-        requires short { length bytes.now ≤ 4294967295 }
+        requires short { length bytes.now ≤ longest_input }
         requires place { IsPlace bytes.now self }
         ensures value { (tree : Tree) → StandsAt bytes.now self tree → stands result.sound ≡ tree }
         ensures kept { result.bytes.now ≡ bytes.now }

@@ -1,6 +1,7 @@
 //! Values that stay in their bytes.
 
 ghost use Rattle.std.specs.Prelude.{◌≡◌, ◌≤◌, ◌+◌, length, drop, IfSome, IfNone, [], ◌∷◌};
+ghost use Rattle.bd_value.specs.Limits.{longest_input};
 ghost use Rattle.bd_value.specs.Tree.{Doc, doc, fields_of, pairs_in};
 ghost use Rattle.bd_value.specs.Kind.{kind_of};
 ghost use Rattle.bd_value.specs.declared.kind.Kind.TheVariants as kinds;
@@ -18,7 +19,7 @@ pub struct RawValue<'a> {
     pub(crate) start: usize,
     pub(crate) kind: Kind,
     ghost inside: { start ≤ length bytes.now },
-    ghost short: { length bytes.now ≤ 4294967295 },
+    ghost short: { length bytes.now ≤ longest_input },
     ghost sound: { Sound kind (drop start bytes.now) } by { Sound-prop kind (drop start bytes.now) },
 }
 
@@ -28,7 +29,7 @@ pub struct RawDoc<'a> {
     pub(crate) bytes: &'a [u8],
     pub(crate) start: usize,
     ghost inside: { start ≤ length bytes.now },
-    ghost short: { length bytes.now ≤ 4294967295 },
+    ghost short: { length bytes.now ≤ longest_input },
     ghost sound: { Sound kinds.Doc (drop start bytes.now) } by { Sound-prop kinds.Doc (drop start bytes.now) },
 }
 
@@ -37,7 +38,7 @@ pub struct RawDoc<'a> {
 pub struct Elements<'a> {
     pub(crate) bytes: &'a [u8],
     pub(crate) at: usize,
-    ghost short: { length bytes.now ≤ 4294967295 },
+    ghost short: { length bytes.now ≤ longest_input },
     ghost left: { Left (drop at bytes.now) } by { Left-prop (drop at bytes.now) },
 }
 
@@ -53,7 +54,7 @@ impl<'a> RawDoc<'a> {
 
     /// The document that stands at that place of the bytes, which are known to spell one there.
     pub fn at(bytes: &'a [u8], start: usize) -> RawDoc<'a>
-        requires short { length bytes.now ≤ 4294967295 }
+        requires short { length bytes.now ≤ longest_input }
         requires inside { start ≤ length bytes.now }
         requires sound { Sound kinds.Doc (drop start bytes.now) }
         ensures stands { (sound : Sound kinds.Doc (drop start bytes.now)) → stands result.sound ≡ stands sound }

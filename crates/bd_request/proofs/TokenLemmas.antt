@@ -1,5 +1,6 @@
 -- Tokens and their bytes.
-use Rattle.std.proofs.Common.{◌≡◌, ◌≤◌, ◌<◌, ◌^◌, ◌+◌, ◌++◌, replicate, ◌==◌, ◌&&◌, ℕ, Bool, true, false, cond, List, [], ◌∷◌, Option, Some, None, Result, Ok, Err, length, take, drop, refl, sym, ap, ap₂, ◌∙◌, arith}
+use Rattle.std.proofs.Common.{◌≡◌, ◌≤◌, ◌<◌, ◌^◌, ◌+◌, ◌++◌, replicate, ◌==◌, ◌&&◌, ℕ, Bool, true, false, cond, List, [], ◌∷◌, Option, Some, None, Result, Ok}
+use Rattle.std.proofs.Common.{Err, length, take, drop, refl, sym, ap, ap₂, ◌∙◌, arith}
 use Rattle.std.specs.Int.{from_le_bytes, to_le_bytes, w32, w64}
 use Rattle.std.proofs.lemmas.Bool.{eqb-true}
 use Rattle.std.proofs.Math.Seq.{drop-append_seam, take-append_seam}
@@ -93,7 +94,8 @@ token_back t g l d =
     let second : take 4 (drop 8 rest) ≡ last = ap (take 4) after ∙ take-append_seam last t.digest in
     let third : drop 4 (drop 8 rest) ≡ t.digest = ap (drop 4) after ∙ drop-append_seam last t.digest in
     sym (read_whole rest size)
-    ∙ ap₂ (λ (n m : ℕ). token_with n m (drop 4 (drop 8 rest))) (ap (from_le_bytes w64) first ∙ from_le_bytes-to_le_bytes_8 t.given g) (ap (from_le_bytes w32) second ∙ from_le_bytes-to_le_bytes_4 t.last l)
+    ∙ ap₂ (λ (n m : ℕ). token_with n m (drop 4 (drop 8 rest))) (ap (from_le_bytes w64) first ∙ from_le_bytes-to_le_bytes_8 t.given g)
+        (ap (from_le_bytes w32) second ∙ from_le_bytes-to_le_bytes_4 t.last l)
     ∙ ap (token_with t.given t.last) third
 
 pub text_back : (t : Token) (text : List ℕ) → t.given < 2 ^ 64 → t.last < 2 ^ 32 → length t.digest ≡ 32 → text ≡ token_text t → decode_of standard text ≡ Ok (token_bytes t)

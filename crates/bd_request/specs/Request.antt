@@ -1,5 +1,6 @@
 -- What is asked of a dump, and the text that its tokens are tied to.
 use Rattle.std.specs.Prelude.{◌≡◌, ◌<◌, ◌≤◌, ◌⊎◌, ℕ, ℤ, pos, negsuc, List, ◌++◌, codes, decimal, map, Option, Some, None, Ok, Err}
+use Rattle.bd_value.specs.Limits.{greatest_count}
 use Rattle.bd_value.specs.Tree as trees
 use Rattle.bd_value.specs.Tree.{Tree, Doc, doc, fields_of, leaf}
 use Rattle.bd_text.specs.Text.{text}
@@ -30,9 +31,6 @@ abbrev pub request_text : Doc → Doc → ℕ → ℕ → List ℕ
 request_text filter sort skip limit =
     codes "{\"filter\":" ++ (text (doc (fields_of filter)) ++ (codes ",\"sort\":" ++ (text (doc (fields_of (sort_written sort)))
     ++ (codes ",\"skip\":" ++ (decimal skip ++ (codes ",\"limit\":" ++ (decimal limit ++ codes "}")))))))
-
-abbrev pub greatest_count : ℕ
-greatest_count = 2147483647
 
 -- a request is asked for
 pub record AsksFor (filter sort : Doc) (skip limit : ℕ) (request : Request) : Type 0 where

@@ -14,11 +14,8 @@ use crate::sort::{direction_of, read_sort};
 use bd_filter::{Filter, FilterFaultKind, parse};
 use bd_path::{Dir, Path};
 use bd_text::{write_doc, write_number};
-use bd_value::{Document, NoMemory, Reading, Tree, Value};
+use bd_value::{Document, GREATEST_COUNT, NoMemory, Reading, Tree, Value};
 use std::alloc::Global;
-
-/// The greatest number of documents that are passed over, and of those that are given.
-const GREATEST: u64 = 2_147_483_647;
 
 /// What is asked of a dump: which documents, in which order, how many of them to pass over, and how many at most.
 #[derive(Drop)]
@@ -54,7 +51,7 @@ impl Request {
     {
         let parsed = read_filter(alloc, &filter)?;
         let pairs = read_sort(alloc, &sort)?;
-        if skip > GREATEST || limit > GREATEST {
+        if skip > GREATEST_COUNT || limit > GREATEST_COUNT {
             return Err(Refused::Range);
         }
         let text = text_of(alloc, &filter, &sort, skip, limit)?;

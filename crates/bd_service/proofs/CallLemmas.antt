@@ -15,7 +15,8 @@ use Rattle.bd_path.specs.Sort.{sort_paths}
 use Rattle.bd_cursor.specs.declared.choice.Choice.{Choice}
 use Rattle.bd_cursor.specs.declared.choice.Choice.TheVariants as choices
 use Rattle.bd_filter.specs.FilterView.{filter_tree}
-use Rattle.bd_request.specs.Request.{greatest_count, request_text}
+use Rattle.bd_request.specs.Request.{request_text}
+use Rattle.bd_value.specs.Limits.{greatest_count}
 use Rattle.bd_request.specs.Token.{token_of}
 use Rattle.bd_request.specs.declared.request.Request.{Request}
 use Rattle.bd_request.specs.declared.token.Token.{Token}

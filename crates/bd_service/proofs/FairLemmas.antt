@@ -15,7 +15,7 @@ use Rattle.bd_filter.specs.FilterOf.{filter_of}
 use Rattle.bd_path.specs.Earliest.{SortPath}
 use Rattle.bd_path.specs.Path.{path_of}
 use Rattle.bd_path.proofs.LawsLemmas.{sort_total}
-use Rattle.bd_request.specs.Request.{greatest_count}
+use Rattle.bd_value.specs.Limits.{greatest_count}
 use Rattle.bd_request.specs.Sort.{sort_of}
 use Rattle.bd_request.specs.Token.{token_of}
 use Rattle.bd_request.specs.declared.refused.Refused.TheVariants as reasons

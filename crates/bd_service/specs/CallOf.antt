@@ -10,7 +10,8 @@ use Rattle.bd_path.specs.declared.path_fault.PathFault.{PathFault}
 use Rattle.bd_filter.specs.Fault.{Refusal}
 use Rattle.bd_filter.specs.Filter.{Filter}
 use Rattle.bd_filter.specs.FilterOf.{filter_of}
-use Rattle.bd_request.specs.Request.{greatest_count, request_text}
+use Rattle.bd_request.specs.Request.{request_text}
+use Rattle.bd_value.specs.Limits.{greatest_count}
 use Rattle.bd_request.specs.Sort.{sort_of}
 use Rattle.bd_request.specs.Token.{token_of}
 use Rattle.bd_request.specs.declared.refused.Refused.TheVariants as reasons

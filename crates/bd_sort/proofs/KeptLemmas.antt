@@ -93,7 +93,8 @@ EndsAt lt most kept e = Stays lt most e (insert_all lt [] kept)
 pub kept_none : (lt : ℕ → ℕ → Bool) (most : ℕ) (all : List ℕ) → Apart all → AreKept lt most [] all all
 kept_none lt most all apart = record { firsts = refl; apart = apart }
 
-pub kept_refused : {lt : ℕ → ℕ → Bool} → IsStrictWeakOrder lt → (most e p : ℕ) (kept rest all : List ℕ) → EndsAt lt most kept e → lt p e ≡ false → AreKept lt most kept (p ∷ rest) all → AreKept lt most kept rest all
+pub kept_refused : {lt : ℕ → ℕ → Bool} → IsStrictWeakOrder lt → (most e p : ℕ) (kept rest all : List ℕ) → EndsAt lt most kept e → lt p e ≡ false
+    → AreKept lt most kept (p ∷ rest) all → AreKept lt most kept rest all
 kept_refused {lt = lt} w most e p kept rest all ends late h = record {
   firsts = ap (take most) (insert_all_append lt [] kept rest)
       ∙ same_firsts lt most (insert_all lt [] kept) (insert lt p (insert_all lt [] kept)) rest (sym (refused_insert w most e p (insert_all lt [] kept) ends late))
@@ -114,14 +115,16 @@ pub ends_on : {lt : ℕ → ℕ → Bool} → IsStrictOrder lt → (most p e : �
 ends_on {lt = lt} o most p e kept h = subst (Stays lt most e) (sym (insert_all_append lt [] kept (p ∷ []))) (stays_insert o most e p (insert_all lt [] kept) h)
 
 -- once they are put in order, and the first so many kept
-pub kept_first : {lt : ℕ → ℕ → Bool} → IsStrictOrder lt → IsStrictWeakOrder lt → (most : ℕ) (kept first rest all : List ℕ) → AreFirst lt most kept first → AreKept lt most kept rest all → AreKept lt most first rest all
+pub kept_first : {lt : ℕ → ℕ → Bool} → IsStrictOrder lt → IsStrictWeakOrder lt → (most : ℕ) (kept first rest all : List ℕ)
+    → AreFirst lt most kept first → AreKept lt most kept rest all → AreKept lt most first rest all
 kept_first {lt = lt} o w most kept first rest all are h =
     subst (λ ys. AreKept lt most ys rest all) (sym are.is) (record {
       firsts = firsts_on o w most kept are.sorted rest are.same are.rises h.apart ∙ h.firsts;
       apart = apart_on most kept are.sorted rest are.same h.apart;
     })
 
-pub ends_first : {lt : ℕ → ℕ → Bool} → IsStrictOrder lt → IsStrictWeakOrder lt → (most : ℕ) (kept first rest : List ℕ) → AreFirst lt most kept first → Apart (kept ++ rest) → 0 < most → most ≤ length first → EndsAt lt most first (get_or first (most - 1) 0)
+pub ends_first : {lt : ℕ → ℕ → Bool} → IsStrictOrder lt → IsStrictWeakOrder lt → (most : ℕ) (kept first rest : List ℕ) → AreFirst lt most kept first
+    → Apart (kept ++ rest) → 0 < most → most ≤ length first → EndsAt lt most first (get_or first (most - 1) 0)
 ends_first {lt = lt} o w most kept first rest are apart some long =
     let last = get_or first (most - 1) 0 in
     let alone : Apart are.sorted = permuted_apart kept are.sorted are.same (apart_left kept rest apart) in
@@ -131,6 +134,7 @@ ends_first {lt = lt} o w most kept first rest are apart some long =
     let l : most - 1 < length first = omega arith in
     subst (Stays lt most last) (sym (itself o first each up)) (subst (λ k. Stays lt k last first) e (rises_stays o first (most - 1) 0 up l))
 
-pub kept_end : {lt : ℕ → ℕ → Bool} → IsStrictOrder lt → IsStrictWeakOrder lt → (most : ℕ) (kept first all : List ℕ) → AreFirst lt most kept first → AreKept lt most kept [] all → first ≡ take most (insert_all lt [] all)
+pub kept_end : {lt : ℕ → ℕ → Bool} → IsStrictOrder lt → IsStrictWeakOrder lt → (most : ℕ) (kept first all : List ℕ) → AreFirst lt most kept first
+    → AreKept lt most kept [] all → first ≡ take most (insert_all lt [] all)
 kept_end {lt = lt} o w most kept first all are h =
     are.is ∙ firsts_end o w most kept are.sorted are.same are.rises h.apart ∙ h.firsts

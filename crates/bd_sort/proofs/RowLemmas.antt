@@ -1,5 +1,6 @@
 -- Ranks say how documents stand.
-use Rattle.std.proofs.Common.{◌≡◌, ◌+◌, ◌<◌, ◌≤◌, ℕ, Bool, true, false, cond, List, [], ◌∷◌, ◌++◌, length, map, get_or, drop, take, refl, sym, ap, ap₂, ◌∙◌, subst, arith, zero, suc, Option, Some, None, Ordering, append_assoc, drop-cons}
+use Rattle.std.proofs.Common.{◌≡◌, ◌+◌, ◌<◌, ◌≤◌, ℕ, Bool, true, false, cond, List, [], ◌∷◌, ◌++◌, length, map, get_or, drop, take, refl, sym, ap, ap₂, ◌∙◌}
+use Rattle.std.proofs.Common.{subst, arith, zero, suc, Option, Some, None, Ordering, append_assoc, drop-cons}
 use Rattle.std.specs.Cmp.{IsStrictWeakOrder, IsTotalOrder}
 use Rattle.std.specs.List.{All}
 use Rattle.std.specs.List.Sorted.{IsPermutation, IsSortedBy}
@@ -74,7 +75,8 @@ each_from : {by : ℕ → ℕ → Ordering} → IsTotalOrder by → (dir : Dir) 
 each_from o dir rank x [] h = tt
 each_from {by = by} o dir rank x (y ∷ ys) h = go (λ q. each_from o dir q y ys h.2) (keyed_cmp dir x y) h.0
   where
-    go : ((q : ℕ) → Each by q y.place (ranks_from dir q (Some y) ys)) → (r : Ordering) → r ≡ by x.place y.place → Each by rank x.place (record { rank = cond (is_lt r) (rank + 1) rank; place = y.place } ∷ ranks_from dir (cond (is_lt r) (rank + 1) rank) (Some y) ys)
+    go : ((q : ℕ) → Each by q y.place (ranks_from dir q (Some y) ys)) → (r : Ordering) → r ≡ by x.place y.place
+        → Each by rank x.place (record { rank = cond (is_lt r) (rank + 1) rank; place = y.place } ∷ ranks_from dir (cond (is_lt r) (rank + 1) rank) (Some y) ys)
     go rest Less e =
         let l : rank < rank + 1 = omega arith in
         let m : rank ≤ rank + 1 = omega arith in
@@ -93,7 +95,8 @@ stand_from o dir rank x (y ∷ ys) h =
     let q = next_rank dir rank (Some x) y in
     (each_from o dir q y ys h.2, stand_from o dir q y ys h.2)
 
-each_at : (by : ℕ → ℕ → Ordering) (rank place : ℕ) (rs : List Ranked) → Each by rank place rs → (j : ℕ) (d : Ranked) → j < length rs → nat_cmp rank (get_or rs j d).rank ≡ by place (get_or rs j d).place
+each_at : (by : ℕ → ℕ → Ordering) (rank place : ℕ) (rs : List Ranked) → Each by rank place rs → (j : ℕ) (d : Ranked) → j < length rs
+    → nat_cmp rank (get_or rs j d).rank ≡ by place (get_or rs j d).place
 each_at by rank place [] h j d l = absurd (omega arith)
 each_at by rank place (b ∷ rs) h zero d l = h.0
 each_at by rank place (b ∷ rs) h (suc j) d l = each_at by rank place rs h.2 j d (omega arith)
@@ -128,14 +131,17 @@ then_assoc Less b c = refl
 then_assoc Equal b c = refl
 then_assoc Greater b c = refl
 
-order_append : (ds : List Doc) (ss : List SortPath) (s : SortPath) (p q : ℕ) → order_of_keys ds (ss ++ s ∷ []) p q ≡ ordering_then (order_of_keys ds ss p q) (dir_cmp s.dir (sort_key s.dir (document_at ds p) s.path) (sort_key s.dir (document_at ds q) s.path))
+order_append : (ds : List Doc) (ss : List SortPath) (s : SortPath) (p q : ℕ)
+    → order_of_keys ds (ss ++ s ∷ []) p q ≡ ordering_then (order_of_keys ds ss p q)
+    (dir_cmp s.dir (sort_key s.dir (document_at ds p) s.path) (sort_key s.dir (document_at ds q) s.path))
 order_append ds [] s p q = then_equal (dir_cmp s.dir (sort_key s.dir (document_at ds p) s.path) (sort_key s.dir (document_at ds q) s.path))
 order_append ds (r ∷ ss) s p q =
     let one = dir_cmp r.dir (sort_key r.dir (document_at ds p) r.path) (sort_key r.dir (document_at ds q) r.path) in
     ap (ordering_then one) (order_append ds ss s p q)
     ∙ then_assoc one (order_of_keys ds ss p q) (dir_cmp s.dir (sort_key s.dir (document_at ds p) s.path) (sort_key s.dir (document_at ds q) s.path))
 
-keyed_stand : (ds : List Doc) (ss : List SortPath) (s : SortPath) (a b : Ranked) → nat_cmp a.rank b.rank ≡ order_of_keys ds ss a.place b.place → keyed_cmp s.dir (keyed ds s a) (keyed ds s b) ≡ order_of_keys ds (ss ++ s ∷ []) a.place b.place
+keyed_stand : (ds : List Doc) (ss : List SortPath) (s : SortPath) (a b : Ranked) → nat_cmp a.rank b.rank ≡ order_of_keys ds ss a.place b.place
+    → keyed_cmp s.dir (keyed ds s a) (keyed ds s b) ≡ order_of_keys ds (ss ++ s ∷ []) a.place b.place
 keyed_stand ds ss s a b e =
     ap (λ o. ordering_then o (dir_cmp s.dir (sort_key s.dir (document_at ds a.place) s.path) (sort_key s.dir (document_at ds b.place) s.path))) e
     ∙ sym (order_append ds ss s a.place b.place)
@@ -144,7 +150,8 @@ keyed_stand ds ss s a b e =
 no_one : Ranked
 no_one = record { rank = 0; place = 0 }
 
-of_some : (ds : List Doc) (s : SortPath) (rs : List Ranked) (rows : List Keyed) → IsPermutation (map (keyed ds s) rs) rows → (i : ℕ) (d : Keyed) → i < length rows → (k : ℕ) × (k < length rs) × (keyed ds s (get_or rs k no_one) ≡ get_or rows i d)
+of_some : (ds : List Doc) (s : SortPath) (rs : List Ranked) (rows : List Keyed) → IsPermutation (map (keyed ds s) rs) rows → (i : ℕ) (d : Keyed)
+    → i < length rows → (k : ℕ) × (k < length rs) × (keyed ds s (get_or rs k no_one) ≡ get_or rows i d)
 of_some ds s rs rows moved i d l =
     let x = get_or rows i d in
     let c = Contains-permutation rows (map (keyed ds s) rs) x (IsPermutation-sym (map (keyed ds s) rs) rows moved) (Contains-get_or rows i d l) in
@@ -171,7 +178,9 @@ less_stays Less p e = let g : ⊥ = cc e in absurd g
 less_stays Equal p e = refl
 less_stays Greater p e = refl
 
-steps_of : (by : ℕ → ℕ → Ordering) (dir : Dir) (x : Keyed) (ys : List Keyed) → ((i j : ℕ) (d : Keyed) → i < length (x ∷ ys) → j < length (x ∷ ys) → keyed_cmp dir (get_or (x ∷ ys) i d) (get_or (x ∷ ys) j d) ≡ by (get_or (x ∷ ys) i d).place (get_or (x ∷ ys) j d).place)
+steps_of : (by : ℕ → ℕ → Ordering) (dir : Dir) (x : Keyed) (ys : List Keyed)
+    → ((i j : ℕ) (d : Keyed) → i < length (x ∷ ys) → j < length (x ∷ ys)
+    → keyed_cmp dir (get_or (x ∷ ys) i d) (get_or (x ∷ ys) j d) ≡ by (get_or (x ∷ ys) i d).place (get_or (x ∷ ys) j d).place)
     → ((k : ℕ) (d : Keyed) → k + 1 < length (x ∷ ys) → is_lt (rows_cmp dir (get_or (x ∷ ys) (suc k) d) (get_or (x ∷ ys) k d)) ≡ false) → Steps by dir x ys
 steps_of by dir x [] stand up = tt
 steps_of by dir x (y ∷ ys) stand up = (
@@ -180,14 +189,16 @@ steps_of by dir x (y ∷ ys) stand up = (
   steps_of by dir y ys (λ i j d a b. stand (suc i) (suc j) d (omega arith) (omega arith)) (λ k d a. up (suc k) d (omega arith)),
 )
 
-stand_all : {by : ℕ → ℕ → Ordering} → IsTotalOrder by → (dir : Dir) (ys : List Keyed) → ((i j : ℕ) (d : Keyed) → i < length ys → j < length ys → keyed_cmp dir (get_or ys i d) (get_or ys j d) ≡ by (get_or ys i d).place (get_or ys j d).place)
+stand_all : {by : ℕ → ℕ → Ordering} → IsTotalOrder by → (dir : Dir) (ys : List Keyed)
+    → ((i j : ℕ) (d : Keyed) → i < length ys → j < length ys → keyed_cmp dir (get_or ys i d) (get_or ys j d) ≡ by (get_or ys i d).place (get_or ys j d).place)
     → ((k : ℕ) (d : Keyed) → k + 1 < length ys → is_lt (rows_cmp dir (get_or ys (suc k) d) (get_or ys k d)) ≡ false) → Stand by (ranks_from dir 0 None ys)
 stand_all o dir [] stand up = tt
 stand_all {by = by} o dir (y ∷ ys) stand up =
     let steps = steps_of by dir y ys stand up in
     (each_from o dir 0 y ys steps, stand_from o dir 0 y ys steps)
 
-pub ranked_more : (ds : List Doc) (ss : List SortPath) (s : SortPath) (ps : List ℕ) (rs : List Ranked) (rows : List Keyed) → AreRanked ds ss ps rs → IsPermutation (map (keyed ds s) rs) rows → IsSortedBy (λ a b. is_lt (rows_cmp s.dir a b)) rows
+pub ranked_more : (ds : List Doc) (ss : List SortPath) (s : SortPath) (ps : List ℕ) (rs : List Ranked) (rows : List Keyed) → AreRanked ds ss ps rs
+    → IsPermutation (map (keyed ds s) rs) rows → IsSortedBy (λ a b. is_lt (rows_cmp s.dir a b)) rows
     → AreRanked ds (ss ++ s ∷ []) ps (ranks_from s.dir 0 None rows)
 ranked_more ds ss s ps rs rows are moved up =
     let dir = s.dir in
@@ -208,7 +219,9 @@ ranked_more ds ss s ps rs rows are moved up =
     same_places ds s [] = refl
     same_places ds s (r ∷ rs) = ap (λ ps. r.place ∷ ps) (same_places ds s rs)
 
-    sorted_places : (by : ℕ → ℕ → Ordering) (dir : Dir) (rows : List Keyed) → ((i j : ℕ) (d : Keyed) → i < length rows → j < length rows → keyed_cmp dir (get_or rows i d) (get_or rows j d) ≡ by (get_or rows i d).place (get_or rows j d).place)
+    sorted_places : (by : ℕ → ℕ → Ordering) (dir : Dir) (rows : List Keyed)
+        → ((i j : ℕ) (d : Keyed) → i < length rows → j < length rows → keyed_cmp dir (get_or rows i d) (get_or rows j d)
+        ≡ by (get_or rows i d).place (get_or rows j d).place)
         → ((k : ℕ) (d : Keyed) → k + 1 < length rows → is_lt (rows_cmp dir (get_or rows (suc k) d) (get_or rows k d)) ≡ false) → IsSortedBy (before by) (map (λ (k : Keyed). k.place) rows)
     sorted_places by dir rows stand next k d a b =
         let none : Keyed = record { rank = 0; place = 0; key = leaf trees.null } in
@@ -245,7 +258,8 @@ none_ranked ds ps sorted rs moved up e = subst (AreRanked ds [] ps) (sym e) (rec
         get_or-map of_rank_0 xs i 0 d m
 
 -- after the last
-pub first_of_ranked : (ds : List Doc) (ss : List SortPath) (ps : List ℕ) (rs : List Ranked) → AreRanked ds ss ps rs → (most : ℕ) (new : List ℕ) → new ≡ map place_of (take most rs) → AreFirst (before (order_of_keys ds ss)) most ps new
+pub first_of_ranked : (ds : List Doc) (ss : List SortPath) (ps : List ℕ) (rs : List Ranked) → AreRanked ds ss ps rs → (most : ℕ) (new : List ℕ)
+    → new ≡ map place_of (take most rs) → AreFirst (before (order_of_keys ds ss)) most ps new
 first_of_ranked ds ss ps rs are most new e = record {
   sorted = map place_of rs;
   same = are.same;
@@ -284,12 +298,14 @@ sorted_keyed dir (x ∷ xs) up k d a b =
 pub rows_long : (ds : List Doc) (s : SortPath) (rs : List Ranked) (rows new : List Row) → map keyed_row rows ≡ map (keyed ds s) rs → IsPermutation rows new → length new ≡ length rs
 rows_long ds s rs rows new e moved = length_permutation rows new moved ∙ sym (length-map rows keyed_row) ∙ ap length e ∙ length-map rs (keyed ds s)
 
-pub ranked_in_hand : (ds : List Doc) (ss : List SortPath) (s : SortPath) (ps : List ℕ) (rs : List Ranked) (rows new : List Row) → AreRanked ds ss ps rs → map keyed_row rows ≡ map (keyed ds s) rs → IsPermutation rows new
+pub ranked_in_hand : (ds : List Doc) (ss : List SortPath) (s : SortPath) (ps : List ℕ) (rs : List Ranked) (rows new : List Row)
+    → AreRanked ds ss ps rs → map keyed_row rows ≡ map (keyed ds s) rs → IsPermutation rows new
     → IsSortedBy (λ a b. is_lt (rows_cmp s.dir (keyed_row a) (keyed_row b))) new → AreRanked ds (ss ++ s ∷ []) ps (ranks_from s.dir 0 None (map keyed_row new))
 ranked_in_hand ds ss s ps rs rows new are e moved up =
     ranked_more ds ss s ps rs (map keyed_row new) are (subst (λ zs. IsPermutation zs (map keyed_row new)) e (IsPermutation-map keyed_row rows new moved)) (sorted_keyed s.dir new up)
 
-pub rank_more : (dir : Dir) (ranked new : List Ranked) (rank q : ℕ) (last : Option Keyed) (x : Row) (rows : List Row) (i : ℕ) (all : List Ranked) → i < length rows → x ≡ get_or rows i x → q ≡ next_rank dir rank last (keyed_row x) → new ≡ ranked ++ record { rank = q; place = x.place } ∷ []
+pub rank_more : (dir : Dir) (ranked new : List Ranked) (rank q : ℕ) (last : Option Keyed) (x : Row) (rows : List Row) (i : ℕ) (all : List Ranked)
+    → i < length rows → x ≡ get_or rows i x → q ≡ next_rank dir rank last (keyed_row x) → new ≡ ranked ++ record { rank = q; place = x.place } ∷ []
     → ranked ++ ranks_from dir rank last (map keyed_row (drop i rows)) ≡ all → new ++ ranks_from dir q (Some (keyed_row x)) (map keyed_row (drop (i + 1) rows)) ≡ all
 rank_more dir ranked new rank q last x rows i all l is next e told =
     let rest = map keyed_row (drop (suc i) rows) in

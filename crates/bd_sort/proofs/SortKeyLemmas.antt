@@ -21,7 +21,8 @@ first_field : {A : Type 0} (g : Gathering A) (fs : Fields) (name : List ℕ) (re
 first_field g no_fields name rest u e = let f : ⊥ = cc e in absurd f
 first_field {A} g (field n t fs) name rest u e = go (first_field g fs name rest u) (bytes_eq n name) e
   where
-    go : (first_of name (pairs_of fs) ≡ Some u → first_gathering g fs name rest ≡ gathering g u rest) → (b : Bool) → cond b (Some t) (first_of name (pairs_of fs)) ≡ Some u → cond b (gathering g t rest) (first_gathering g fs name rest) ≡ gathering g u rest
+    go : (first_of name (pairs_of fs) ≡ Some u → first_gathering g fs name rest ≡ gathering g u rest) → (b : Bool)
+        → cond b (Some t) (first_of name (pairs_of fs)) ≡ Some u → cond b (gathering g t rest) (first_gathering g fs name rest) ≡ gathering g u rest
     go more true e = ap (λ (x : Option Tree). gathering g (or_null x) rest) e
     go more false e = more e
 
@@ -29,7 +30,8 @@ no_field : {A : Type 0} (g : Gathering A) (fs : Fields) (name : List ℕ) (rest 
 no_field g no_fields name rest e = refl
 no_field {A} g (field n t fs) name rest e = go (no_field g fs name rest) (bytes_eq n name) e
   where
-    go : (first_of name (pairs_of fs) ≡ None → first_gathering g fs name rest ≡ g.missing) → (b : Bool) → cond b (Some t) (first_of name (pairs_of fs)) ≡ None → cond b (gathering g t rest) (first_gathering g fs name rest) ≡ g.missing
+    go : (first_of name (pairs_of fs) ≡ None → first_gathering g fs name rest ≡ g.missing) → (b : Bool)
+        → cond b (Some t) (first_of name (pairs_of fs)) ≡ None → cond b (gathering g t rest) (first_gathering g fs name rest) ≡ g.missing
     go more true e = let f : ⊥ = cc e in absurd f
     go more false e = more e
 
@@ -61,11 +63,13 @@ next_name (n ∷ names) zero name e = ap (λ (x : Option (List ℕ)). from x ∷
     from (Some x) = x
 next_name (n ∷ names) (suc i) name e = next_name names i name e
 
-pub goes_on : (root t u : Tree) (names : Names) (i : ℕ) (name : List ℕ) → slice_get names i ≡ Some name → Some u ≡ first_of name (pairs_in t) → all_keys false root names ≡ all_keys false t (drop i names) → all_keys false root names ≡ all_keys false u (drop (i + 1) names)
+pub goes_on : (root t u : Tree) (names : Names) (i : ℕ) (name : List ℕ) → slice_get names i ≡ Some name → Some u ≡ first_of name (pairs_in t)
+    → all_keys false root names ≡ all_keys false t (drop i names) → all_keys false root names ≡ all_keys false u (drop (i + 1) names)
 goes_on root t u names i name there is h =
     rw add-one (h ∙ ap (all_keys false t) (next_name names i name there) ∙ through_field (key_gathering (missing_key false)) t name (drop (suc i) names) u (sym is))
 
-pub ends_there : (root t : Tree) (names : Names) (i : ℕ) (name : List ℕ) → slice_get names i ≡ Some name → None ≡ first_of name (pairs_in t) → kind_of t ≢ kinds.Array → all_keys false root names ≡ all_keys false t (drop i names) → all_keys false root names ≡ leaf trees.null ∷ []
+pub ends_there : (root t : Tree) (names : Names) (i : ℕ) (name : List ℕ) → slice_get names i ≡ Some name → None ≡ first_of name (pairs_in t)
+    → kind_of t ≢ kinds.Array → all_keys false root names ≡ all_keys false t (drop i names) → all_keys false root names ≡ leaf trees.null ∷ []
 ends_there root t names i name there is kind h =
     h ∙ ap (all_keys false t) (next_name names i name there) ∙ no_value (key_gathering (missing_key false)) t name (drop (suc i) names) (sym is) kind
 

@@ -1,5 +1,6 @@
 -- The places that match, kept while they come.
-use Rattle.std.proofs.Common.{◌≡◌, ◌<◌, ◌≤◌, ◌&&◌, ◌++◌, ℕ, Bool, true, false, cond, List, [], ◌∷◌, length, get_or, take, inl, inr, sym, ap, ◌∙◌, subst, filter, arith, zero, suc, Option, Some, None, IfSome}
+use Rattle.std.proofs.Common.{◌≡◌, ◌<◌, ◌≤◌, ◌&&◌, ◌++◌, ℕ, Bool, true, false, cond, List, [], ◌∷◌, length, get_or, take, inl, inr, sym, ap, ◌∙◌, subst, filter}
+use Rattle.std.proofs.Common.{arith, zero, suc, Option, Some, None, IfSome}
 use Rattle.std.specs.Cmp.{IsStrictWeakOrder, IsTotalOrder}
 use Rattle.std.specs.List.{All, range_with_len}
 use Rattle.std.proofs.lemmas.List.Elements.{All-append, All-cons, All-head, All-nil}
@@ -22,16 +23,19 @@ use Rattle.bd_sort.proofs.KeptLemmas.{AreKept, EndsAt, ends_first, ends_on, kept
 use Rattle.bd_sort.proofs.MarkLemmas.{keys_strict, keys_total, keys_weak}
 
 -- a place is left out that does not match, or that is not before the end of the first ones
-pub left_out : {lt : ℕ → ℕ → Bool} → IsStrictWeakOrder lt → (most : ℕ) (pass : ℕ → Bool) (end : Option ℕ) (kept old new all : List ℕ) (p : ℕ) → old ≡ p ∷ new → IfSome end (EndsAt lt most kept) → (pass p && is_before_mark lt end p) ≡ false
+pub left_out : {lt : ℕ → ℕ → Bool} → IsStrictWeakOrder lt → (most : ℕ) (pass : ℕ → Bool) (end : Option ℕ) (kept old new all : List ℕ) (p : ℕ)
+    → old ≡ p ∷ new → IfSome end (EndsAt lt most kept) → (pass p && is_before_mark lt end p) ≡ false
     → AreKept lt most kept (filter pass old) all → AreKept lt most kept (filter pass new) all
 left_out {lt = lt} w most pass end kept old new all p e ends late h = go (pass p) end ends late (subst (λ ps. AreKept lt most kept (filter pass ps) all) e h)
   where
-    go : (b : Bool) (end : Option ℕ) → IfSome end (EndsAt lt most kept) → (b && is_before_mark lt end p) ≡ false → AreKept lt most kept (cond b (p ∷ filter pass new) (filter pass new)) all → AreKept lt most kept (filter pass new) all
+    go : (b : Bool) (end : Option ℕ) → IfSome end (EndsAt lt most kept) → (b && is_before_mark lt end p) ≡ false
+        → AreKept lt most kept (cond b (p ∷ filter pass new) (filter pass new)) all → AreKept lt most kept (filter pass new) all
     go false end ends late h = h
     go true None ends late h = let f : ⊥ = cc late in absurd f
     go true (Some q) ends late h = kept_refused w most q p kept (filter pass new) all ends late h
 
-pub taken : (lt : ℕ → ℕ → Bool) (most : ℕ) (pass : ℕ → Bool) (kept old new all : List ℕ) (p : ℕ) → old ≡ p ∷ new → pass p ≡ true → AreKept lt most kept (filter pass old) all → AreKept lt most (kept ++ p ∷ []) (filter pass new) all
+pub taken : (lt : ℕ → ℕ → Bool) (most : ℕ) (pass : ℕ → Bool) (kept old new all : List ℕ) (p : ℕ) → old ≡ p ∷ new → pass p ≡ true
+    → AreKept lt most kept (filter pass old) all → AreKept lt most (kept ++ p ∷ []) (filter pass new) all
 taken lt most pass kept old new all p e is h =
     kept_taken lt most p kept (filter pass new) all
     (subst (λ b. AreKept lt most kept (cond b (p ∷ filter pass new) (filter pass new)) all) is (subst (λ ps. AreKept lt most kept (filter pass ps) all) e h))
@@ -86,7 +90,8 @@ state_none ds ss most hits pass left source = record {
   ends = tt;
 }
 
-pub state_left_out : (ds : List Doc) (ss : List SortPath) (most : ℕ) (pass : ℕ → Bool) (old new all kept : List ℕ) (end : Option Mark) (p : ℕ) → old ≡ p ∷ new → (pass p && is_before_mark (before (order_of_keys ds ss)) (mark_place end) p) ≡ false
+pub state_left_out : (ds : List Doc) (ss : List SortPath) (most : ℕ) (pass : ℕ → Bool) (old new all kept : List ℕ) (end : Option Mark) (p : ℕ)
+    → old ≡ p ∷ new → (pass p && is_before_mark (before (order_of_keys ds ss)) (mark_place end) p) ≡ false
     → IsState ds ss most pass old all kept end → IsState ds ss most pass new all kept end
 state_left_out ds ss most pass old new all kept end p e late h = record {
   kept = left_out (keys_weak ds ss) most pass (mark_place end) kept old new (filter pass all) p e h.ends late h.kept;
@@ -110,7 +115,8 @@ state_taken ds ss most pass old new all kept end p e is h = record {
     go None f = tt
     go (Some q) f = ends_on (keys_strict ds ss) most p q kept f
 
-pub state_cut : (ds : List Doc) (ss : List SortPath) (most : ℕ) (pass : ℕ → Bool) (left all kept first : List ℕ) (old end : Option Mark) → 0 < most → AreFirst (before (order_of_keys ds ss)) most kept first → IfSome end (IsMark ds ss) → IsEnd most first (mark_place end)
+pub state_cut : (ds : List Doc) (ss : List SortPath) (most : ℕ) (pass : ℕ → Bool) (left all kept first : List ℕ) (old end : Option Mark) → 0 < most
+    → AreFirst (before (order_of_keys ds ss)) most kept first → IfSome end (IsMark ds ss) → IsEnd most first (mark_place end)
     → IsState ds ss most pass left all kept old → IsState ds ss most pass left all first end
 state_cut ds ss most pass left all kept first old end some are mark is h = record {
   kept = kept_first (keys_strict ds ss) (keys_weak ds ss) most kept first (filter pass left) (filter pass all) are h.kept;
@@ -127,7 +133,8 @@ state_cut ds ss most pass left all kept first old end some are mark is h = recor
         (ends_first (keys_strict ds ss) (keys_weak ds ss) most kept first (filter pass left) are h.kept.apart some f.0)
 
 -- all that come after a place, in order
-pub all_in_order : (a : Selection) → IsTotalOrder a.by → (left : List ℕ) → IsSource a.count a.hits left → (last : Option ℕ) → insert_all (before a.by) [] (filter (passes a.hits a.by last) left) ≡ places_after a last
+pub all_in_order : (a : Selection) → IsTotalOrder a.by → (left : List ℕ) → IsSource a.count a.hits left → (last : Option ℕ)
+    → insert_all (before a.by) [] (filter (passes a.hits a.by last) left) ≡ places_after a last
 all_in_order a o left source last =
     let ws = filter (passes a.hits a.by last) left in
     batch_sorted a o left source last (insert_all (before a.by) [] ws) (inserted_permutes (before a.by) ws)
@@ -151,10 +158,12 @@ places_few a last =
     omega arith
 
 -- once nothing is left
-pub state_end : (a : Selection) (ds : List Doc) (ss : List SortPath) (last : Option ℕ) (most : ℕ) (left all kept first : List ℕ) (end : Option Mark) → a.count ≡ length ds → a.by ≡ order_of_keys ds ss → IsSource a.count a.hits all → left ≡ []
+pub state_end : (a : Selection) (ds : List Doc) (ss : List SortPath) (last : Option ℕ) (most : ℕ) (left all kept first : List ℕ) (end : Option Mark)
+    → a.count ≡ length ds → a.by ≡ order_of_keys ds ss → IsSource a.count a.hits all → left ≡ []
     → AreFirst (before (order_of_keys ds ss)) most kept first → IsState ds ss most (passes a.hits (order_of_keys ds ss) last) left all kept end → first ≡ take most (places_after a last)
 state_end a ds ss last most left all kept first end count by source none are h =
     let pass = passes a.hits (order_of_keys ds ss) last in
     let lt = before (order_of_keys ds ss) in
     kept_end (keys_strict ds ss) (keys_weak ds ss) most kept first (filter pass all) are (subst (λ ps. AreKept lt most kept (filter pass ps) (filter pass all)) none h.kept)
-    ∙ ap (take most) (subst (λ r. insert_all (before r) [] (filter (passes a.hits r last) all) ≡ places_after a last) by (all_in_order a (subst IsTotalOrder (sym by) (keys_total ds ss)) all source last))
+    ∙ ap (take most) (subst (λ r. insert_all (before r) [] (filter (passes a.hits r last) all) ≡ places_after a last) by
+        (all_in_order a (subst IsTotalOrder (sym by) (keys_total ds ss)) all source last))

@@ -1,9 +1,11 @@
 -- Documents that a device gives one at a time.
-use Rattle.std.proofs.Common.{◌≡◌, ◌≤◌, ◌<◌, ◌⊎◌, inl, inr, ltb, ℕ, ◌+◌, ◌-◌, List, [], ◌∷◌, ◌++◌, length, take, drop, take_at, drop_at, Bool, cond, true, false, Option, Some, None, Ok, Err, refl, sym, ap, ap₂, ◌∙◌, subst, arith, append-nil, append_assoc, length-append}
+use Rattle.std.proofs.Common.{◌≡◌, ◌≤◌, ◌<◌, ◌⊎◌, inl, inr, ltb, ℕ, ◌+◌, ◌-◌, List, [], ◌∷◌, ◌++◌, length, take, drop, take_at, drop_at, Bool, cond, true}
+use Rattle.std.proofs.Common.{false, Option, Some, None, Ok, Err, refl, sym, ap, ap₂, ◌∙◌, subst, arith, append-nil, append_assoc, length-append}
 use Rattle.std.proofs.lemmas.Bool.{le-ltb, lt-ltb}
 use Rattle.std.proofs.lemmas.Bool.Decides.{nat_tests}
 use Rattle.std.specs.Prelude.{IfSome, ◌||◌}
 use Rattle.std.specs.Io.KnownBytes.{Consumes, IsAtEnd, prepend_known}
+use Rattle.bd_value.specs.Limits.{longest_document}
 use lib.Seq.{take-append-le}
 use Rattle.bd_check.specs.declared.fault.FaultKind.{FaultKind}
 use Rattle.bd_check.specs.declared.fault.FaultKind.TheVariants.{ShortLength, BadLength}
@@ -22,9 +24,9 @@ frame_short (b ∷ bytes) some few = rw (lt-ltb _ _ few) refl
 
 -- a length that can't be that of a document at the front of so many bytes
 abbrev IsBad : ℕ → ℕ → Type 0
-IsBad told size = (told < 5) ⊎ (16793600 < told) ⊎ (size < told)
+IsBad told size = (told < 5) ⊎ (longest_document < told) ⊎ (size < told)
 
-bad : (told size : ℕ) → IsBad told size → (ltb told 5 || ltb 16793600 told || ltb size told) ≡ true
+bad : (told size : ℕ) → IsBad told size → (ltb told 5 || ltb longest_document told || ltb size told) ≡ true
 bad told size (inl low) = grind (arith, nat_tests)
 bad told size (inr (inl high)) = grind (arith, nat_tests)
 bad told size (inr (inr less)) = grind (arith, nat_tests)
@@ -56,10 +58,11 @@ has_short_length old (Some ys) given gave end some few =
     let alone = frame_short (given ++ []) (omega (arith, length-append given [])) (omega (arith, length-append given [])) in
     no_frame old (Some ys) given ShortLength gave (λ rest is. rw (is ∙ end) alone) alone
 
-pub has_bad_length : (old new : Option (List ℕ)) (given : List ℕ) → Consumes old new given → length given ≡ 4 → (length_told given < 5) ⊎ (16793600 < length_told given) → HasNoFrame [] old BadLength
+pub has_bad_length : (old new : Option (List ℕ)) (given : List ℕ) → Consumes old new given → length given ≡ 4 → (length_told given < 5)
+    ⊎ (longest_document < length_told given) → HasNoFrame [] old BadLength
 has_bad_length old new given gave size is = no_frame old new given BadLength gave (λ rest known. after rest) (after [])
   where
-    out : (told size : ℕ) → (told < 5) ⊎ (16793600 < told) → IsBad told size
+    out : (told size : ℕ) → (told < 5) ⊎ (longest_document < told) → IsBad told size
     out told size (inl low) = inl low
     out told size (inr high) = inr (inl high)
 
@@ -68,17 +71,17 @@ has_bad_length old new given gave size is = no_frame old new given BadLength gav
         let told = told_kept given rest (omega arith) in
         frame_bad (given ++ rest) (omega (arith, length-append given rest)) (rw told (out (length_told given) (length (given ++ rest)) is))
 
-pub frame_out : (given : List ℕ) → length given ≡ 4 → (length_told given < 5) ⊎ (16793600 < length_told given) → frame_length given ≡ Err BadLength
+pub frame_out : (given : List ℕ) → length given ≡ 4 → (length_told given < 5) ⊎ (longest_document < length_told given) → frame_length given ≡ Err BadLength
 frame_out given size is = frame_bad given (omega arith) (out_of (length_told given) (length given) is)
   where
-    out_of : (told size : ℕ) → (told < 5) ⊎ (16793600 < told) → IsBad told size
+    out_of : (told size : ℕ) → (told < 5) ⊎ (longest_document < told) → IsBad told size
     out_of told size (inl low) = inl low
     out_of told size (inr high) = inr (inl high)
 
 -- ---- after the four bytes of a length
 
 abbrev pub IsHead : List ℕ → Type 0
-IsHead head = (length head ≡ 4) × (5 ≤ length_told head) × (length_told head ≤ 16793600)
+IsHead head = (length head ≡ 4) × (5 ≤ length_told head) × (length_told head ≤ longest_document)
 
 pub frame_cut : (head given : List ℕ) → IsHead head → length given + 4 < length_told head → frame_length (head ++ given) ≡ Err BadLength
 frame_cut head given is less =
@@ -131,7 +134,8 @@ joined_no_frame (Some xs) (Some ys) head kind gave h = (h.0, h.1 ∙ sym gave, h
 frame_told : (bytes : List ℕ) (n : ℕ) → frame_length bytes ≡ Ok (Some n) → length_told bytes ≡ n
 frame_told [] n is = absurd cc
 frame_told (b ∷ bytes) n is =
-    told_of (ltb (length (b ∷ bytes)) 4) (ltb (length_told (b ∷ bytes)) 5 || ltb 16793600 (length_told (b ∷ bytes)) || ltb (length (b ∷ bytes)) (length_told (b ∷ bytes))) (length_told (b ∷ bytes)) n is
+    told_of (ltb (length (b ∷ bytes)) 4) (ltb (length_told (b ∷ bytes)) 5 || ltb longest_document (length_told (b ∷ bytes))
+        || ltb (length (b ∷ bytes)) (length_told (b ∷ bytes))) (length_told (b ∷ bytes)) n is
   where
     told_of : (s t : Bool) (m n : ℕ) → cond s (Err ShortLength) (cond t (Err BadLength) (Ok (Some m))) ≡ Ok (Some n) → m ≡ n
     told_of true t m n is = absurd cc

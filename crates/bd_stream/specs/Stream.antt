@@ -1,5 +1,6 @@
 -- Documents that a device gives one after the other, by the lengths that they begin with.
 use Rattle.std.specs.Prelude.{◌≡◌, ◌<◌, ◌≤◌, ◌⊎◌, ℕ, List, [], ◌∷◌, ◌++◌, length, Option, Some, Ok, Err, IfSome}
+use Rattle.bd_value.specs.Limits.{longest_document}
 use Rattle.bd_check.specs.Dump.{frame_length, length_told}
 use Rattle.bd_check.specs.declared.fault.FaultKind.{FaultKind}
 
@@ -17,13 +18,13 @@ AreFrames (frame ∷ frames) bytes =
 abbrev pub IsCut : List ℕ → Type 0
 IsCut bytes =
     (length bytes < 4)
-    ⊎ ((5 ≤ length_told bytes) × (length_told bytes ≤ 16793600) × (length bytes < length_told bytes))
+    ⊎ ((5 ≤ length_told bytes) × (length_told bytes ≤ longest_document) × (length bytes < length_told bytes))
 
 -- the bytes are no more than a document has: too few to go past its length, or no more than this counts
 abbrev pub IsWithinOne : List ℕ → Type 0
 IsWithinOne bytes =
     (length bytes ≤ 4)
-    ⊎ ((5 ≤ length_told bytes) × (length_told bytes ≤ 16793600) × (length bytes ≤ length_told bytes))
+    ⊎ ((5 ≤ length_told bytes) × (length_told bytes ≤ longest_document) × (length bytes ≤ length_told bytes))
 
 -- the bytes are documents by their lengths and a part of one more, and the last ones are no more than are missing of it
 abbrev pub EndsWithinOne : List ℕ → List ℕ → Type 0

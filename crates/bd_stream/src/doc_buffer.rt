@@ -1,5 +1,6 @@
 //! The next document of a device, in a buffer that the documents share.
 ghost use Rattle.std.specs.Prelude.{◌≡◌, [], true, false, IfErr, OnErr, OnOk, length, take, ◌+◌, ◌*◌, ◌<◌, ◌≤◌, ◌⊎◌};
+ghost use Rattle.bd_value.specs.Limits.{longest_document, longest_input};
 ghost use Rattle.bd_stream.specs.declared.doc_buffer.FrameFault.{FrameFault};
 ghost use Rattle.bd_stream.specs.declared.doc_buffer.DocFault.TheVariants.{Frame as framed, Read as unread};
 
@@ -80,9 +81,9 @@ pub struct DocBuffer {
     /// The number of the next document.
     number: u32,
     failed: bool,
-    ghost held: { length buffer.items ≤ 16793600 },
+    ghost held: { length buffer.items ≤ longest_document },
     ghost inside: { size ≤ length buffer.items },
-    ghost short: { place + left.bytes ≤ 4294967295 },
+    ghost short: { place + left.bytes ≤ longest_input },
     ghost counted: { number * 5 ≤ place },
     ghost emptied: { failed ≡ true → size ≡ 0 },
 }
@@ -90,7 +91,7 @@ pub struct DocBuffer {
 impl DocBuffer {
     /// No document yet. No memory is taken. `limits.bytes` is at most 4,294,967,295.
     pub fn new(alloc: Global, limits: Limits) -> DocBuffer
-        requires { limits.bytes ≤ 4294967295 }
+        requires { limits.bytes ≤ longest_input }
         ensures left { result.left ≡ limits }
         ensures place { result.place ≡ 0 }
         ensures number { result.number ≡ 0 }
@@ -109,7 +110,7 @@ impl DocBuffer {
 
     /// How many bytes are held, at most 16,793,600.
     pub fn held(&self) -> usize
-        ensures { (result ≡ length self.now.buffer.items) × (result ≤ 16793600) }
+        ensures { (result ≡ length self.now.buffer.items) × (result ≤ longest_document) }
     {
         self.buffer.len()
     }

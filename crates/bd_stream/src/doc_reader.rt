@@ -4,6 +4,7 @@ ghost use Rattle.std.specs.Io.{StartsWith};
 ghost use Rattle.std.specs.Io.KnownBytes.{IsAtEnd};
 ghost use Rattle.std.specs.Io.BufRead.{Rests};
 ghost use Rattle.std.specs.Borrow.{sem};
+ghost use Rattle.bd_value.specs.Limits.{longest_document, longest_input};
 ghost use Rattle.bd_stream.specs.Lending.{Leaves};
 ghost use Rattle.bd_stream.specs.NextDocument.{FailsToRead, FindsEnd, HoldsNone, ReadsDocument, held_bytes};
 ghost use Rattle.bd_stream.specs.Stream.{IsFrame};
@@ -36,7 +37,7 @@ impl<R: Input + Drop> DocReader<R> {
 
     /// The documents of this device from its next byte on. No memory is taken. `limits.bytes` is at most 4,294,967,295.
     pub fn new(alloc: Global, reader: R, limits: Limits) -> DocReader<R>
-        requires { limits.bytes ≤ 4294967295 }
+        requires { limits.bytes ≤ longest_input }
         ensures reader { result.reader ≡ reader }
         ensures left { result.documents.left ≡ limits }
         ensures place { (result.documents.place ≡ 0) × (result.documents.number ≡ 0) }
@@ -51,7 +52,7 @@ impl<R: Input + Drop> DocReader<R> {
 
     /// How many bytes are held, at most 16,793,600.
     pub fn held(&self) -> usize
-        ensures { (result ≡ length self.now.documents.buffer.items) × (result ≤ 16793600) }
+        ensures { (result ≡ length self.now.documents.buffer.items) × (result ≤ longest_document) }
     {
         self.documents.held()
     }

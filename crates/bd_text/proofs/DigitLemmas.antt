@@ -1,5 +1,6 @@
 -- Two digits for each byte, looked up and written sixteen at a time.
-use Rattle.std.proofs.Common.{◌≡◌, ℕ, zero, suc, ◌+◌, ◌/◌, ◌%◌, ◌^◌, ◌<◌, ◌≤◌, List, [], ◌∷◌, ◌++◌, map, length, take, get_or, replicate, slice_index, bit_and, refl, sym, ap, ap₂, ◌∙◌, arith, w8, Fits}
+use Rattle.std.proofs.Common.{◌≡◌, ℕ, zero, suc, ◌+◌, ◌/◌, ◌%◌, ◌^◌, ◌<◌, ◌≤◌, List, [], ◌∷◌, ◌++◌, map, length, take, get_or, replicate, slice_index, bit_and}
+use Rattle.std.proofs.Common.{refl, sym, ap, ap₂, ◌∙◌, arith, w8, Fits}
 use Rattle.std.proofs.lemmas.List.{get_or-map, length-map, ext_get_or, length-take-le, take-take}
 use Rattle.std.proofs.Math.Seq.{take-append-add}
 use Rattle.std.proofs.lemmas.Nat.{and_le_r, and_mask}
@@ -70,7 +71,8 @@ unfolding hex_text
 pairs_of bytes high low long first second =
     let highs : high ≡ map (λ b. digit (b / 16)) bytes = first ∙ ap (map digit) (zip2_splat down bytes 16 4 long) ∙ map-map digit (λ b. down b 4) bytes in
     let lows : low ≡ map (λ b. digit (b % 16)) bytes =
-    second ∙ ap (map digit) (zip2_splat bit_and bytes 16 15 long) ∙ map-map digit (λ b. bit_and b 15) bytes ∙ map_same (λ b. digit (bit_and b 15)) (λ b. digit (b % 16)) (λ b. ap digit (and_mask b 4)) bytes in
+    second ∙ ap (map digit) (zip2_splat bit_and bytes 16 15 long) ∙ map-map digit (λ b. bit_and b 15) bytes
+        ∙ map_same (λ b. digit (bit_and b 15)) (λ b. digit (b % 16)) (λ b. ap digit (and_mask b 4)) bytes in
     ap₂ (λ (a b : List ℕ). in_turn (a ++ b)) highs lows ∙ in_turn-digits bytes long
 
 -- the digits of an id stand before those of what follows it

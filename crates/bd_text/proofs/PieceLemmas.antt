@@ -46,7 +46,8 @@ name_step later x pieces xs out total is so_far =
     simp append_assoc (ap (λ (l : List ℕ). out ++ l) (sym cut) ∙ whole)
 
 -- the same of what was written
-pub name_written : (later : Bool) (given x : List ℕ) (pieces xs : List (List ℕ)) (old separated out total : List ℕ) → separated ≡ old ++ before later 46 → out ≡ separated ++ escaped given → given ≡ x → pieces ≡ x ∷ xs
+pub name_written : (later : Bool) (given x : List ℕ) (pieces xs : List (List ℕ)) (old separated out total : List ℕ)
+    → separated ≡ old ++ before later 46 → out ≡ separated ++ escaped given → given ≡ x → pieces ≡ x ∷ xs
     → old ++ escaped (to_come later 46 pieces) ≡ total → out ++ escaped (to_come true 46 xs) ≡ total
 name_written later given x pieces xs old separated out total dot put same is so_far = rw (put, dot, same) (name_step later x pieces xs old total is so_far)
 

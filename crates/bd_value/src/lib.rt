@@ -18,6 +18,7 @@
 //! - `node`: `Reading` and `Node`, a value wherever it lies; `tree`, one in memory.
 //! - `order`: the comparison order, of any two readings, and its laws: `specs/Order.antt`.
 //! - `copying`: any of them copied into memory.
+//! - `limits`: the limits of documents, inputs, paths, filters and requests, cited by all that keeps to them.
 //! - `fits`: what the types of a value in hand promise.
 #![tactic(auto)]
 
@@ -25,6 +26,7 @@ mod copying;
 mod document;
 mod fits;
 mod kind;
+mod limits;
 mod lookup;
 mod nesting;
 mod node;
@@ -37,6 +39,10 @@ pub use copying::{to_document, to_value, try_copy};
 pub use document::{Document, NoMemory, Value};
 pub use fits::{document_fits, node_fits, value_fits};
 pub use kind::Kind;
+pub use limits::{
+    GREATEST_COUNT, LONGEST_DOCUMENT, LONGEST_INPUT, MOST_BRACKETS, MOST_FILTER_LEVELS, MOST_LEVELS,
+    MOST_NAMES, MOST_READS,
+};
 pub use nesting::{depth, depth_of};
 pub use node::{Node, Reading};
 pub use order::{

@@ -1,5 +1,6 @@
 -- Whole numbers, as `parse` reads them.
-use Rattle.std.proofs.Common.{◌≡◌, ℕ, zero, suc, ◌^◌, ◌<◌, ◌≤◌, ℤ, pos, neg_ℤ, Bool, true, false, cond, ◌==◌, nat_lt, List, [], ◌∷◌, length, drop, get_or, Option, Some, None, Result, Ok, Err, refl, sym, ap, ◌∙◌, arith}
+use Rattle.std.proofs.Common.{◌≡◌, ℕ, zero, suc, ◌^◌, ◌<◌, ◌≤◌, ℤ, pos, neg_ℤ, Bool, true, false, cond, ◌==◌, nat_lt, List, [], ◌∷◌, length, drop, get_or}
+use Rattle.std.proofs.Common.{Option, Some, None, Result, Ok, Err, refl, sym, ap, ◌∙◌, arith}
 use Rattle.std.specs.Int.{w64}
 use Rattle.std.specs.Result.{OkIff, result_ok}
 use Rattle.std.specs.Char.{is_ascii_digit}
@@ -41,7 +42,8 @@ is_below : (n m : ℕ) → n < m → nat_lt n m ≡ true
 is_below n m h = grind arith
 
 -- the same where the form is looked at first
-told : {E : Type 0} (d : Bool) (r : Result ℤ E) (P : Type 0) (v : ℤ) (b : Bool) → (d ≡ true → b ≡ true → P) → (P → (d ≡ true) × (b ≡ true)) → OkIff r P v → result_ok r ≡ cond d (cond b (Some v) None) None
+told : {E : Type 0} (d : Bool) (r : Result ℤ E) (P : Type 0) (v : ℤ) (b : Bool) → (d ≡ true → b ≡ true → P) → (P → (d ≡ true) × (b ≡ true))
+    → OkIff r P v → result_ok r ≡ cond d (cond b (Some v) None) None
 told true r P v b f g h = decided r P v b (f refl) (λ p. (g p).1) h
 told false (Ok x) P v b f g h = let e = (g h.0).0 in absurd cc
 told false (Err e) P v b f g h = refl
@@ -49,7 +51,8 @@ told false (Err e) P v b f g h = refl
 minus_first : {E : Type 0} (bs : List ℕ) (r : Result ℤ E) → get_or bs 0 0 ≡ 45 → begins_digits (drop 1 bs) ≡ true → ParsesSigned w64 10 bs r
     → result_ok r ≡ cond (are_digits (drop 1 bs)) (cond (fits_bits 63 (neg_ℤ (pos (digits_value 10 (drop 1 bs))))) (Some (neg_ℤ (pos (digits_value 10 (drop 1 bs))))) None) None
 minus_first bs r e w h =
-    told (are_digits (drop 1 bs)) r _ _ _ (λ d t. let a = all_of (drop 1 bs) d in (a.0, a.1, negative_fits _ t)) (λ p. (digits_from (drop 1 bs) w p.0, fits_negative _ p.2)) (parse_signed_minus own w64 bs r h e)
+    told (are_digits (drop 1 bs)) r _ _ _ (λ d t. let a = all_of (drop 1 bs) d in (a.0, a.1, negative_fits _ t))
+        (λ p. (digits_from (drop 1 bs) w p.0, fits_negative _ p.2)) (parse_signed_minus own w64 bs r h e)
 
 plain_first : {E : Type 0} (bs : List ℕ) (r : Result ℤ E) → (get_or bs 0 0 ≡ 43 → ⊥) → (get_or bs 0 0 ≡ 45 → ⊥) → begins_digits bs ≡ true → ParsesSigned w64 10 bs r
     → result_ok r ≡ cond (are_digits bs) (cond (nat_lt (digits_value 10 bs) (2 ^ 63)) (Some (pos (digits_value 10 bs))) None) None
@@ -68,7 +71,8 @@ positive_told : (d : Option ℕ) (b : Bool) (n : ℕ) → d ≡ cond b (Some n) 
 positive_told d true n e = rw e refl
 positive_told d false n e = rw e refl
 
-whole_cases : {E : Type 0} (b : Bool) (c : ℕ) (cs : List ℕ) (r : Result ℤ E) → (c == 45) ≡ b → begins_digits (cond b cs (c ∷ cs)) ≡ true → ParsesSigned w64 10 (c ∷ cs) r → result_ok r ≡ whole_64 (c ∷ cs)
+whole_cases : {E : Type 0} (b : Bool) (c : ℕ) (cs : List ℕ) (r : Result ℤ E) → (c == 45) ≡ b → begins_digits (cond b cs (c ∷ cs)) ≡ true
+    → ParsesSigned w64 10 (c ∷ cs) r → result_ok r ≡ whole_64 (c ∷ cs)
 unfolding whole
 whole_cases true c cs r e w h = rw e (minus_first (c ∷ cs) r (grind arith) w h ∙ sym (negative_told (digits_number cs) (are_digits cs) (digits_value 10 cs) refl))
 whole_cases false c cs r e w h =

@@ -1,5 +1,6 @@
 -- Values written as bytes.
-use Rattle.std.proofs.Common.{◌≡◌, ◌≢◌, ◌<◌, ◌≤◌, ◌+◌, ◌-◌, ℕ, zero, suc, List, [], ◌∷◌, ◌++◌, length, take, drop, take_at, drop_at, Bool, true, false, ◌||◌, Result, Ok, Err, Some, refl, sym, ap, ap₂, ◌∙◌, arith, true≢false, append_assoc, append-nil, length-append}
+use Rattle.std.proofs.Common.{◌≡◌, ◌≢◌, ◌<◌, ◌≤◌, ◌+◌, ◌-◌, ℕ, zero, suc, List, [], ◌∷◌, ◌++◌, length, take, drop, take_at, drop_at, Bool, true, false, ◌||◌}
+use Rattle.std.proofs.Common.{Result, Ok, Err, Some, refl, sym, ap, ap₂, ◌∙◌, arith, true≢false, append_assoc, append-nil, length-append}
 use Rattle.std.specs.Prelude.{◌==◌, ◌^◌, IsUtf8, OnOk, IfErr, decimal}
 use Rattle.std.proofs.lemmas.Bool.Decides.{nat_tests}
 use Rattle.std.specs.Char.{digit_value}
@@ -81,7 +82,8 @@ frame_total old body out is = omega (arith, sealed_size old (body ++ 0 ∷ []) o
 -- an element that is to come is within the frame
 pub element_within : (old body out piece rest : List ℕ) → out ++ (piece ++ rest) ≡ (old ++ number 0) ++ body → length out + length piece ≤ length old + length (framed body)
 element_within old body out piece rest whole =
-    omega (arith, ap (λ xs. length xs) whole, length-append out (piece ++ rest), length-append piece rest, length-append (old ++ number 0) body, length-append old (number 0), number_length 0, framed_size body)
+    omega (arith, ap (λ xs. length xs) whole, length-append out (piece ++ rest), length-append piece rest, length-append (old ++ number 0) body,
+        length-append old (number 0), number_length 0, framed_size body)
 
 -- ---- code with scope
 
@@ -91,11 +93,13 @@ code_parts (doc fs) u o own scope = absurd cc
 code_parts (array ts) u o own scope = absurd cc
 code_parts (code_scope s fs) u o own scope = (s, fs, refl, cc, cc)
 
-pub scoped_ok : (old code scope out : List ℕ) (at : ℕ) → out ≡ (old ++ number 0) ++ (string code ++ scope) → at ≡ length old → take at out ++ (number (length out - at) ++ drop (at + 4) out) ≡ old ++ scoped code scope
+pub scoped_ok : (old code scope out : List ℕ) (at : ℕ) → out ≡ (old ++ number 0) ++ (string code ++ scope) → at ≡ length old
+    → take at out ++ (number (length out - at) ++ drop (at + 4) out) ≡ old ++ scoped code scope
 scoped_ok old code scope out at is here = sealed old (string code ++ scope) out at is here
 
 pub scoped_size : (code scope : List ℕ) → length (scoped code scope) ≡ 4 + (length (string code) + length scope)
-scoped_size code scope = omega (arith, length-append (number (length (string code ++ scope) + 4)) (string code ++ scope), number_length (length (string code ++ scope) + 4), length-append (string code) scope)
+scoped_size code scope = omega (arith, length-append (number (length (string code ++ scope) + 4)) (string code ++ scope), number_length
+    (length (string code ++ scope) + 4), length-append (string code) scope)
 
 pub zero_doc : (t : Tree) (ps : Doc) → t ≡ doc (fields_of ps) → zero_in t ≡ false → zero_in_fields (fields_of ps) ≡ false
 zero_doc t ps is z = sym (ap zero_in is) ∙ z

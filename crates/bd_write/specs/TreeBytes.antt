@@ -1,6 +1,7 @@
 -- The spelling that is written: the names of an array's elements are their places from 0.
 use Rattle.std.specs.Prelude.{◌≡◌, ◌≤◌, ◌<◌, ℕ, suc, List, [], ◌∷◌, ◌++◌, length, decimal, false, if◌then◌else◌}
 use Rattle.std.specs.Int.{w32, w64, cast_unsigned}
+use Rattle.bd_value.specs.Limits.{longest_document, most_levels}
 use Rattle.bd_value.specs.Tree as trees
 use Rattle.bd_value.specs.Tree.{Scalar, Tree, leaf, doc, array, code_scope, Items, no_items, item, Fields, no_fields, field, Doc, fields_of}
 use Rattle.bd_value.specs.Depth.{depth}
@@ -58,12 +59,12 @@ OwnSpells (own_code s) = IsText s
 pub record SpellsPlainly (d : Doc) (bytes : List ℕ) : Type 0 where
   pub spelled : bytes ≡ bytes_of (doc (fields_of d))
   pub no_zero : zero_in (doc (fields_of d)) ≡ false
-  pub short : length bytes ≤ 16793600
-  pub shallow : depth (doc (fields_of d)) ≤ 200
+  pub short : length bytes ≤ longest_document
+  pub shallow : depth (doc (fields_of d)) ≤ most_levels
 
 -- so many bytes are more than a document has, or memory ran out
 abbrev pub OverrunsLimit : ℕ → WriteFault → Type 0
 OverrunsLimit total faults.TooDeep = ⊥
 OverrunsLimit total faults.NulInName = ⊥
-OverrunsLimit total faults.TooLong = 16793600 < total
+OverrunsLimit total faults.TooLong = longest_document < total
 OverrunsLimit total faults.NoMemory = Unit {0}

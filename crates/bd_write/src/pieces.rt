@@ -2,6 +2,7 @@
 //! was there as it was.
 
 ghost use Rattle.std.specs.Prelude.{◌≡◌, ◌≤◌, ◌+◌, ◌++◌, ◌∷◌, [], take, drop, vec_len, IfOk, IfErr, OnErr, OnOk, false, length};
+ghost use Rattle.bd_value.specs.Limits.{longest_document};
 ghost use Rattle.bd_value.specs.Zeros.{zero_in};
 ghost use Rattle.bd_raw.specs.Types.{type_byte as byte_of};
 ghost use Rattle.bd_raw.specs.Spelling.{number, string, framed, IsValue};
@@ -32,7 +33,7 @@ pub fn begin_body(out: &mut Vec<u8>) -> Result<usize, NoMemory>
 /// was.
 #[inline(always)]
 pub fn append_label(kind: Kind, name: &str, out: &mut Vec<u8>) -> Result<(), WriteFault>
-    ensures ok { OnOk result ((out.new.items ≡ out.old.items ++ (byte_of kind ∷ (name.now ++ 0 ∷ []))) × (length out.old.items ≤ 16793600)) }
+    ensures ok { OnOk result ((out.new.items ≡ out.old.items ++ (byte_of kind ∷ (name.now ++ 0 ∷ []))) × (length out.old.items ≤ longest_document)) }
     ensures err { IfErr result (OverrunsLimit (length out.old.items)) }
     ensures kept { OnErr result (out.new.items ≡ out.old.items) }
 {
@@ -50,7 +51,7 @@ pub fn append_label(kind: Kind, name: &str, out: &mut Vec<u8>) -> Result<(), Wri
 /// `WriteFault::TooLong` where the text has more than 16,793,600 bytes; `WriteFault::NoMemory`. Both leave `out` as it was.
 #[inline(always)]
 pub fn write_text(text: &str, out: &mut Vec<u8>) -> Result<(), WriteFault>
-    ensures ok { OnOk result ((out.new.items ≡ out.old.items ++ string text.now) × (length text.now ≤ 16793600)) }
+    ensures ok { OnOk result ((out.new.items ≡ out.old.items ++ string text.now) × (length text.now ≤ longest_document)) }
     ensures err { IfErr result (OverrunsLimit (length out.old.items + length (string text.now))) }
     ensures kept { OnErr result (out.new.items ≡ out.old.items) }
 {
@@ -91,7 +92,7 @@ pub fn append_value<N: Reading>(node: N, out: &mut Vec<u8>) -> Result<(), WriteF
 pub fn end_body(at: usize, out: &mut Vec<u8>) -> Result<(), WriteFault>
     requires { at + 4 ≤ vec_len out.old }
     ensures ok { OnOk result (out.new.items ≡ take at out.old.items ++ framed (drop (at + 4) out.old.items)) }
-    ensures within { OnOk result (length out.new.items ≤ 16793600) }
+    ensures within { OnOk result (length out.new.items ≤ longest_document) }
     ensures err { IfErr result (OverrunsLimit (length out.old.items + 1)) }
     ensures kept { OnErr result (out.new.items ≡ out.old.items) }
 {

@@ -1,6 +1,7 @@
 //! A document written as bytes.
 
 ghost use Rattle.std.specs.Prelude.{◌≡◌, ◌≤◌, ◌<◌, ◌↔◌, IfOk, IsErrOf, true, false, length, Err};
+ghost use Rattle.bd_value.specs.Limits.{longest_document, most_levels};
 ghost use Rattle.bd_value.specs.Depth.{depth as depth_in};
 ghost use Rattle.bd_value.specs.Tree.{doc, fields_of};
 ghost use Rattle.bd_value.specs.View.{pairs};
@@ -8,10 +9,10 @@ ghost use Rattle.bd_value.specs.Zeros.{zero_in};
 ghost use Rattle.bd_raw.specs.Spelling.{IsDocument};
 ghost use Rattle.bd_write.specs.TreeBytes.{SpellsPlainly, bytes_of};
 
-use crate::writing::{LONGEST, WriteFault};
+use crate::writing::WriteFault;
 use crate::writing_values::put_value;
 use crate::zeros::holds_zero;
-use bd_value::{Document, Tree, depth};
+use bd_value::{Document, LONGEST_DOCUMENT, MOST_LEVELS, Tree, depth};
 use std::alloc::Global;
 
 /// The bytes of a document: BSON 1.1, `document`. The names of an array's elements are their places from 0.
@@ -25,13 +26,13 @@ use std::alloc::Global;
 pub fn write_document(alloc: Global, document: &Document) -> Result<Vec<u8>, WriteFault>
     ensures written { IfOk result (λ v. SpellsPlainly (pairs document.now) v.items) }
     ensures spelled { IfOk result (λ v. IsDocument (pairs document.now) v.items) }
-    ensures too_deep { IsErrOf result WriteFault.TooDeep ↔ (200 < depth_in (doc (fields_of (pairs document.now)))) }
-    ensures zero { IsErrOf result WriteFault.NulInName ↔ ((depth_in (doc (fields_of (pairs document.now))) ≤ 200)
+    ensures too_deep { IsErrOf result WriteFault.TooDeep ↔ (most_levels < depth_in (doc (fields_of (pairs document.now)))) }
+    ensures zero { IsErrOf result WriteFault.NulInName ↔ ((depth_in (doc (fields_of (pairs document.now))) ≤ most_levels)
         × (zero_in (doc (fields_of (pairs document.now))) ≡ true)) }
-    ensures too_long { IsErrOf result WriteFault.TooLong → (depth_in (doc (fields_of (pairs document.now))) ≤ 200)
-        × (zero_in (doc (fields_of (pairs document.now))) ≡ false) × (16793600 < length (bytes_of (doc (fields_of (pairs document.now))))) }
+    ensures too_long { IsErrOf result WriteFault.TooLong → (depth_in (doc (fields_of (pairs document.now))) ≤ most_levels)
+        × (zero_in (doc (fields_of (pairs document.now))) ≡ false) × (longest_document < length (bytes_of (doc (fields_of (pairs document.now))))) }
 {
-    if depth(document) > 200 {
+    if depth(document) > MOST_LEVELS as u64 {
         return Err(WriteFault::TooDeep);
     }
     if holds_zero(Tree::Doc(document)) {
@@ -39,7 +40,7 @@ pub fn write_document(alloc: Global, document: &Document) -> Result<Vec<u8>, Wri
     }
     let mut bytes = Vec::new(alloc);
     put_value(Tree::Doc(document), &mut bytes)?;
-    if bytes.len() > LONGEST {
+    if bytes.len() > LONGEST_DOCUMENT {
         return Err(WriteFault::TooLong);
     }
     Ok(bytes)

@@ -2,15 +2,13 @@
 
 ghost use Rattle.std.specs.Prelude.{◌≡◌, ◌≤◌, ◌+◌, ◌++◌, ◌∷◌, [], IfErr, OnErr, OnOk, length};
 ghost use Rattle.std.specs.Io.{StartsWith};
+ghost use Rattle.bd_value.specs.Limits.{longest_document};
 ghost use Rattle.bd_raw.specs.Spelling.{number, long, string, data_of};
 ghost use Rattle.bd_write.specs.TreeBytes.{OverrunsLimit};
 
-use bd_value::NoMemory;
+use bd_value::{LONGEST_DOCUMENT, NoMemory};
 use std::alloc::AllocError;
 use thiserror::Error;
-
-/// A document has at most so many bytes.
-pub const LONGEST: usize = 16_793_600;
 
 /// Why a document was not written.
 #[derive(Debug, Clone, Copy, Drop, PartialEq, Eq, Error)]
@@ -72,11 +70,11 @@ pub(crate) fn write_name(name: &str, out: &mut Vec<u8>) -> Result<(), NoMemory>
 #[tactic(auto, using(bd_value::proofs::FrontLemmas::fronts))]
 #[inline(always)]
 pub(crate) fn put_text(text: &str, out: &mut Vec<u8>) -> Result<(), WriteFault>
-    ensures ok { OnOk result ((out.new.items ≡ out.old.items ++ string text.now) × (length text.now ≤ 16793600)) }
+    ensures ok { OnOk result ((out.new.items ≡ out.old.items ++ string text.now) × (length text.now ≤ longest_document)) }
     ensures err { IfErr result (OverrunsLimit (length out.old.items + length (string text.now))) }
     ensures front { OnErr result (StartsWith out.new.items out.old.items) }
 {
-    if text.len() > LONGEST {
+    if text.len() > LONGEST_DOCUMENT {
         return Err(WriteFault::TooLong);
     }
     write_number(text.len() as u32 + 1, out)?;
@@ -98,7 +96,7 @@ pub(crate) fn write_regex(pattern: &str, options: &str, out: &mut Vec<u8>) -> Re
 /// How many bytes the data of `binary` has: of subtype 02 four more, the count of those after them.
 #[tactic(auto, using(bd_raw::specs::Scalars::number_length))]
 fn data_length(subtype: u8, payload: &[u8]) -> u32
-    requires { length payload.now ≤ 16793600 }
+    requires { length payload.now ≤ longest_document }
     ensures { (result ≡ length (data_of subtype payload.now)) × (result ≤ 16793604) }
 {
     let length = payload.len() as u32;
@@ -108,7 +106,7 @@ fn data_length(subtype: u8, payload: &[u8]) -> u32
 /// The data of `binary`.
 #[tactic(auto, using(bd_value::proofs::FrontLemmas::fronts))]
 fn write_data(subtype: u8, payload: &[u8], out: &mut Vec<u8>) -> Result<(), NoMemory>
-    requires { length payload.now ≤ 16793600 }
+    requires { length payload.now ≤ longest_document }
     ensures ok { OnOk result (out.new.items ≡ out.old.items ++ data_of subtype payload.now) }
     ensures front { OnErr result (StartsWith out.new.items out.old.items) }
 {
@@ -127,7 +125,7 @@ pub(crate) fn write_binary(subtype: u8, payload: &[u8], out: &mut Vec<u8>) -> Re
     ensures err { IfErr result (OverrunsLimit (length out.old.items + length (number (length (data_of subtype payload.now)) ++ subtype ∷ data_of subtype payload.now))) }
     ensures front { OnErr result (StartsWith out.new.items out.old.items) }
 {
-    if payload.len() > LONGEST {
+    if payload.len() > LONGEST_DOCUMENT {
         return Err(WriteFault::TooLong);
     }
     write_number(data_length(subtype, payload), out)?;

@@ -2,6 +2,7 @@
 
 ghost use Rattle.std.specs.Prelude.{◌≡◌, ◌≤◌, ◌+◌, ◌++◌, IfErr, OnErr, OnOk, false, length};
 ghost use Rattle.std.specs.Io.{StartsWith};
+ghost use Rattle.bd_value.specs.Limits.{longest_document};
 ghost use Rattle.bd_value.specs.OwnPart.{seen};
 ghost use Rattle.bd_value.specs.Zeros.{zero_in_own};
 ghost use Rattle.bd_raw.specs.Spelling.{string};
@@ -13,7 +14,7 @@ use bd_value::Scalar;
 /// A `string` and the 12 bytes of an id.
 #[tactic(auto, using(bd_value::proofs::FrontLemmas::fronts))]
 fn write_pointer(space: &str, id: &[u8; 12], out: &mut Vec<u8>) -> Result<(), WriteFault>
-    ensures ok { OnOk result ((out.new.items ≡ out.old.items ++ (string space.now ++ id.now)) × (length space.now ≤ 16793600)) }
+    ensures ok { OnOk result ((out.new.items ≡ out.old.items ++ (string space.now ++ id.now)) × (length space.now ≤ longest_document)) }
     ensures err { IfErr result (OverrunsLimit (length out.old.items + length (string space.now ++ id.now))) }
     ensures front { OnErr result (StartsWith out.new.items out.old.items) }
 {

@@ -2,6 +2,7 @@
 
 ghost use Rattle.std.specs.Prelude.{◌≡◌, ◌≤◌, ◌+◌, ◌-◌, ◌++◌, ◌∷◌, [], take, drop, vec_len, decimal, IfErr, OnErr, OnOk, false, length};
 ghost use Rattle.std.specs.Io.{StartsWith};
+ghost use Rattle.bd_value.specs.Limits.{longest_document};
 ghost use Rattle.bd_value.specs.Tree.{fields_of, items_of};
 ghost use Rattle.bd_value.specs.Parts.{values_of, HoldsNoParts};
 ghost use Rattle.bd_value.specs.Zeros.{has_zero, zero_in, zero_in_fields, zero_in_items};
@@ -9,21 +10,21 @@ ghost use Rattle.bd_raw.specs.Types.{type_byte as byte_of};
 ghost use Rattle.bd_raw.specs.Spelling.{number, framed, element, IsName, IsValue, AreFields, AreItems};
 ghost use Rattle.bd_write.specs.TreeBytes.{bytes_of, fields_bytes, items_bytes, OverrunsLimit};
 
-use crate::writing::{LONGEST, WriteFault, write_name, write_number};
+use crate::writing::{WriteFault, write_name, write_number};
 use crate::writing_scalars::write_scalar;
 use bd_raw::type_byte;
-use bd_value::{Kind, Reading};
+use bd_value::{Kind, LONGEST_DOCUMENT, Reading};
 
 /// Puts the count of the bytes from a place on into the four bytes at that place.
 #[tactic(auto, unfolding(bd_raw::specs::Spelling::number))]
 pub(crate) fn seal(at: usize, out: &mut Vec<u8>) -> Result<(), WriteFault>
     requires { at + 4 ≤ vec_len out.old }
     ensures ok { OnOk result (out.new.items ≡ take at out.old.items ++ (number (length out.old.items - at) ++ drop (at + 4) out.old.items)) }
-    ensures within { OnOk result (length out.new.items ≤ 16793600) }
+    ensures within { OnOk result (length out.new.items ≤ longest_document) }
     ensures err { IfErr result (OverrunsLimit (length out.old.items)) }
     ensures kept { OnErr result (out.new.items ≡ out.old.items) }
 {
-    if out.len() > LONGEST {
+    if out.len() > LONGEST_DOCUMENT {
         return Err(WriteFault::TooLong);
     }
     let length = (out.len() - at) as u32;
@@ -36,11 +37,11 @@ pub(crate) fn seal(at: usize, out: &mut Vec<u8>) -> Result<(), WriteFault>
 #[tactic(auto, using(bd_value::proofs::FrontLemmas::fronts))]
 #[inline(always)]
 pub(crate) fn put_label(kind: Kind, name: &str, out: &mut Vec<u8>) -> Result<(), WriteFault>
-    ensures ok { OnOk result ((out.new.items ≡ out.old.items ++ (byte_of kind ∷ (name.now ++ 0 ∷ []))) × (length out.old.items ≤ 16793600)) }
+    ensures ok { OnOk result ((out.new.items ≡ out.old.items ++ (byte_of kind ∷ (name.now ++ 0 ∷ []))) × (length out.old.items ≤ longest_document)) }
     ensures err { IfErr result (OverrunsLimit (length out.old.items)) }
     ensures front { OnErr result (StartsWith out.new.items out.old.items) }
 {
-    if out.len() > LONGEST {
+    if out.len() > LONGEST_DOCUMENT {
         return Err(WriteFault::TooLong);
     }
     out.extend_from_slice(&[type_byte(kind)])?;
@@ -95,7 +96,7 @@ fn append_leaf<N: Reading>(node: N, out: &mut Vec<u8>) -> Result<(), WriteFault>
 fn append_element<N: Reading>(name: &str, node: N, out: &mut Vec<u8>) -> Result<(), WriteFault>
     requires name { has_zero name.now ≡ false }
     requires zero { zero_in (N.tree node) ≡ false }
-    ensures ok { OnOk result ((out.new.items ≡ out.old.items ++ element (N.tree node) name.now (bytes_of (N.tree node))) × (length out.old.items ≤ 16793600)) }
+    ensures ok { OnOk result ((out.new.items ≡ out.old.items ++ element (N.tree node) name.now (bytes_of (N.tree node))) × (length out.old.items ≤ longest_document)) }
     ensures spells { OnOk result (IsName name.now × IsValue (N.tree node) (bytes_of (N.tree node))) }
     ensures err { IfErr result (OverrunsLimit (length out.old.items + length (element (N.tree node) name.now (bytes_of (N.tree node))))) }
     ensures front { OnErr result (StartsWith out.new.items out.old.items) }

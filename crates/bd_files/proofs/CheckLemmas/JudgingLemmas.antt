@@ -1,10 +1,12 @@
 -- The judging of `check`, step by step.
-use Rattle.std.proofs.Common.{le_refl, ◌≡◌, ◌≤◌, ℕ, suc, ◌+◌, ◌-◌, List, [], ◌∷◌, ◌++◌, length, take, drop, map, cond, Option, Some, None, Result, Ok, Err, refl, sym, ap, ap₂, ◌∙◌, subst, inl, inr, ◌⊎◌, codes, append_assoc, append-nil, arith, length-append}
+use Rattle.std.proofs.Common.{le_refl, ◌≡◌, ◌≤◌, ℕ, suc, ◌+◌, ◌-◌, List, [], ◌∷◌, ◌++◌, length, take, drop, map, cond, Option, Some, None, Result, Ok, Err}
+use Rattle.std.proofs.Common.{refl, sym, ap, ap₂, ◌∙◌, subst, inl, inr, ◌⊎◌, codes, append_assoc, append-nil, arith, length-append}
 use Rattle.std.specs.Prelude.{IfSome, IfOk, IfErr, option_map, is_some, string_bytes, MatchResult}
 use Rattle.std.specs.Io.KnownBytes.{Appends, Consumes, IsAtEnd}
 use Rattle.std.proofs.KnownBytes.{Appends-trans, Appends-nil, Consumes-trans, Consumes-nil}
 use Rattle.std.proofs.lemmas.List.{take_at, drop_at, take_all, drop_all}
 use Rattle.std.proofs.lemmas.List.Sums.{sum_by-append}
+use Rattle.bd_value.specs.Limits.{longest_input, most_reads}
 use Rattle.bd_device.specs.Counts.{after_more}
 use Rattle.bd_device.specs.declared.reading.ReadFault.{ReadFault}
 use Rattle.bd_device.specs.declared.reading.ReadFault.TheVariants as reads
@@ -104,10 +106,10 @@ pub record SoFar (old new : Reader) (out_old out_new : Writer)
   pub counted : number ≡ length done
   pub bad_counted : bad ≡ faulty_count done
   pub few : bad ≤ number
-  pub fits : room + place ≡ 4294967295
-  pub turned : turns ≤ 4294967296
-  pub called : new.calls ≡ after_more old.calls (4294967296 - turns)
-  pub many : 4294967296 - turns ≤ length given
+  pub fits : room + place ≡ longest_input
+  pub turned : turns ≤ most_reads
+  pub called : new.calls ≡ after_more old.calls (most_reads - turns)
+  pub many : most_reads - turns ≤ length given
   pub well : new.failures ≡ old.failures
   pub wrote : TakesText (between out_old out_new) (verdict_lines 0 done)
 
@@ -115,7 +117,7 @@ module _ (old : Reader) (out_old : Writer) where
   abbrev pub Kept : Reader → Writer → ℕ → ℕ → ℕ → ℕ → ℕ → Type 0
   Kept new out place number bad room turns = SoFar old new out_old out place number bad room turns
 
-  pub begins : (place number bad room turns : ℕ) → place ≡ 0 → number ≡ 0 → bad ≡ 0 → room ≡ 4294967295 → turns ≡ 4294967296 → old.calls ≡ after_more old.calls (4294967296 - turns)
+  pub begins : (place number bad room turns : ℕ) → place ≡ 0 → number ≡ 0 → bad ≡ 0 → room ≡ longest_input → turns ≡ most_reads → old.calls ≡ after_more old.calls (most_reads - turns)
       → Kept old out_old place number bad room turns
   begins place number bad room turns p n b r t called = record {
     done = [];
@@ -141,12 +143,15 @@ module _ (old : Reader) (out_old : Writer) where
     abbrev seen : Option told.Fault → Seen
     seen o = option_map fault_view o
 
-    here : (frame rest : List ℕ) (o : Option told.Fault) → IsFrame frame → first_fault place frame ≡ seen o → verdicts (s.given ++ (frame ++ rest)) ≡ (s.done ++ seen o ∷ []) ++ verdicts_at (place + length frame) rest
+    here : (frame rest : List ℕ) (o : Option told.Fault) → IsFrame frame → first_fault place frame ≡ seen o
+        → verdicts (s.given ++ (frame ++ rest)) ≡ (s.done ++ seen o ∷ []) ++ verdicts_at (place + length frame) rest
     here frame rest o is first =
         let turn = turn_at place (length frame) (frame ++ rest) (frame_on frame rest is) in
         let one : first_fault place (take (length frame) (frame ++ rest)) ≡ seen o = ap (first_fault place) (take_at frame rest (length frame) refl) ∙ first in
-        let others : verdicts_at (place + length frame) (drop (length frame) (frame ++ rest)) ≡ verdicts_at (place + length frame) rest = ap (verdicts_at (place + length frame)) (drop_at frame rest (length frame) refl) in
-        s.all (frame ++ rest) ∙ ap (λ vs. s.done ++ vs) (turn ∙ ap₂ (λ (v : Seen) (vs : List Seen). v ∷ vs) one others) ∙ sym (append_assoc s.done (seen o ∷ []) (verdicts_at (place + length frame) rest))
+        let others : verdicts_at (place + length frame) (drop (length frame) (frame ++ rest))
+            ≡ verdicts_at (place + length frame) rest = ap (verdicts_at (place + length frame)) (drop_at frame rest (length frame) refl) in
+        s.all (frame ++ rest) ∙ ap (λ vs. s.done ++ vs) (turn ∙ ap₂ (λ (v : Seen) (vs : List Seen). v ∷ vs) one others)
+            ∙ sym (append_assoc s.done (seen o ∷ []) (verdicts_at (place + length frame) rest))
 
     -- a document was judged, and its line taken
     pub goes_on : (new : Reader) (out_new : Writer) (frame : List ℕ) (o : Option told.Fault) (size next count worse less fewer : ℕ) → IsFrame frame → first_fault place frame ≡ seen o
@@ -177,7 +182,7 @@ module _ (old : Reader) (out_old : Writer) where
     cut_at : (rest : List ℕ) → verdict_lines 0 (verdicts (s.given ++ rest)) ≡ verdict_lines 0 s.done ++ verdict_lines (0 + length s.done) (verdicts_at place rest)
     cut_at rest = ap (verdict_lines 0) (s.all rest) ∙ lines_append 0 s.done (verdicts_at place rest)
 
-    took : (new : Reader) (part : List ℕ) → Consumes mid.left new.left part → length part ≤ room → TakesAtMost 4294967295 (between old new)
+    took : (new : Reader) (part : List ℕ) → Consumes mid.left new.left part → length part ≤ room → TakesAtMost longest_input (between old new)
     took new part gave fits =
         (s.given ++ part, Consumes-trans old.left mid.left new.left s.given part s.gave gave, let f = s.fits in let p = s.placed in omega (arith, length-append s.given part))
 
@@ -206,7 +211,8 @@ module _ (old : Reader) (out_old : Writer) where
         ∙ ap (λ n. verdict_lines 0 s.done ++ (verdict_line n v ++ verdict_lines (suc (0 + length s.done)) more)) (let c = s.counted in omega arith) in (
           s.given ++ rest,
           (known_after old.left mid.left s.given rest s.gave is, took new part gave short, well ∙ s.well),
-          broke_after out_old out_mid out_new (verdict_lines 0 s.done) (verdict_line number v) (verdict_lines (suc (0 + length s.done)) more) (verdict_lines 0 (verdicts (s.given ++ rest))) s.wrote (broke refl) lines,
+          broke_after out_old out_mid out_new (verdict_lines 0 s.done) (verdict_line number v) (verdict_lines (suc (0 + length s.done)) more)
+              (verdict_lines 0 (verdicts (s.given ++ rest))) s.wrote (broke refl) lines,
           (
             s.done,
             f,
@@ -224,24 +230,29 @@ module _ (old : Reader) (out_old : Writer) where
     alone frame f is first =
         let turn = turn_at place (length frame) frame is in
         let one : first_fault place (take (length frame) frame) ≡ Some f = ap (first_fault place) (take_all (length frame) frame (le_refl (length frame))) ∙ first in
-        let others : verdicts_at (place + length frame) (drop (length frame) frame) ≡ [] = ap (verdicts_at (place + length frame)) (drop_all (length frame) frame (le_refl (length frame))) ∙ none_at (place + length frame) in
+        let others : verdicts_at (place + length frame) (drop (length frame) frame)
+            ≡ [] = ap (verdicts_at (place + length frame)) (drop_all (length frame) frame (le_refl (length frame))) ∙ none_at (place + length frame) in
         turn ∙ ap₂ (λ (v : Seen) (vs : List Seen). v ∷ vs) one others
 
-    pub stops_by : (new : Reader) (out_new : Writer) (frame : List ℕ) (f : told.Fault) (st : OutputFault) → IsFrame frame → length frame ≤ room → first_fault place frame ≡ Some (fault_view f) → f.document ≡ number
+    pub stops_by : (new : Reader) (out_new : Writer) (frame : List ℕ) (f : told.Fault) (st : OutputFault) → IsFrame frame → length frame ≤ room
+        → first_fault place frame ≡ Some (fault_view f) → f.document ≡ number
         → Consumes mid.left new.left frame → new.failures ≡ mid.failures → (was_stopped st NoMemory → out_new ≡ out_mid)
         → (was_stopped st Unwritten → BreaksWithin (between out_mid out_new) (verdict_line f.document (Some (fault_view f)))) → StopsJudging (between old new) (between out_old out_new) st
     stops_by new out_new frame f st is short first numbered gave well starved broke =
         let rest = rest_of new.left in
-        let turn = turn_at place (length frame) (frame ++ rest) (frame_on frame rest is) ∙ ap (λ (v : Seen). v ∷ verdicts_at (place + length frame) (drop (length frame) (frame ++ rest))) (ap (first_fault place) (take_at frame rest (length frame) refl) ∙ first) in
+        let turn = turn_at place (length frame) (frame ++ rest) (frame_on frame rest is)
+            ∙ ap (λ (v : Seen). v ∷ verdicts_at (place + length frame) (drop (length frame) (frame ++ rest)))
+            (ap (first_fault place) (take_at frame rest (length frame) refl) ∙ first) in
         stops_in new out_new frame (frame ++ rest) (fault_view f) _ st gave short (known_whole mid.left new.left frame gave) well (alone frame (fault_view f) is first) turn starved
         (λ e. subst (λ n. BreaksWithin (between out_mid out_new) (verdict_line n (Some (fault_view f)))) numbered (broke e))
 
-    pub starves_after : (new : Reader) (part : List ℕ) → Consumes mid.left new.left part → length part ≤ room → new.failures ≡ mid.failures → StopsJudging (between old new) (between out_old out_mid) NoMemory
+    pub starves_after : (new : Reader) (part : List ℕ) → Consumes mid.left new.left part → length part ≤ room → new.failures ≡ mid.failures
+        → StopsJudging (between old new) (between out_old out_mid) NoMemory
     starves_after new part gave short well = starves new part (part ++ rest_of new.left) gave short (known_whole mid.left new.left part gave) well
 
     -- ---- the last document
 
-    within_given : length s.given ≤ 4294967295
+    within_given : length s.given ≤ longest_input
     within_given = let f = s.fits in let p = s.placed in omega arith
 
     done_alone : verdicts s.given ≡ s.done
@@ -253,14 +264,16 @@ module _ (old : Reader) (out_old : Writer) where
     pub ends_whole : (new : Reader) (out_new : Writer) (r : Result Findings OutputFault) → IsAtEnd new.left → Consumes mid.left new.left [] → new.failures ≡ mid.failures
         → JudgesLast endings.Whole number bad (between out_mid out_new) r → Last new out_new r
     ends_whole new out_new r end gave well found =
-        rw (found.0, found.1) (s.given, s.done, (known_end old.left mid.left new.left s.given s.gave gave end, took new [] gave (omega arith), well ∙ s.well), inl within_given, sym done_alone, s.counted, s.bad_counted, s.wrote)
+        rw (found.0, found.1) (s.given, s.done, (known_end old.left mid.left new.left s.given s.gave gave end, took new [] gave (omega arith), well
+            ∙ s.well), inl within_given, sym done_alone, s.counted, s.bad_counted, s.wrote)
 
     faulty_ends : (new : Reader) (out_new : Writer) (f : told.Fault) (r : Result Findings OutputFault) (part bytes : List ℕ) → Consumes mid.left new.left part → length part ≤ room
         → IfSome mid.left (λ xs. bytes ≡ xs) → new.failures ≡ mid.failures → frame_length bytes ≡ Err f.kind → verdicts_at place part ≡ Some (fault_view f) ∷ []
         → verdicts_at place bytes ≡ Some (fault_view f) ∷ [] → f.document ≡ number → JudgesLast (endings.Faulty f) number bad (between out_mid out_new) r → Last new out_new r
     faulty_ends new out_new f (Ok findings) part bytes gave short is well bad_length given last numbered found =
         let all : verdicts (s.given ++ bytes) ≡ s.done ++ Some (fault_view f) ∷ [] = s.all bytes ∙ ap (λ vs. s.done ++ vs) last in
-        let line : TakesText (between out_mid out_new) (verdict_line number (Some (fault_view f))) = subst (λ n. TakesText (between out_mid out_new) (verdict_line n (Some (fault_view f)))) numbered found.1 in
+        let line : TakesText (between out_mid out_new) (verdict_line number (Some (fault_view f))) =
+            subst (λ n. TakesText (between out_mid out_new) (verdict_line n (Some (fault_view f)))) numbered found.1 in
         rw found.0 (
           s.given ++ bytes,
           s.done ++ Some (fault_view f) ∷ [],
@@ -274,14 +287,16 @@ module _ (old : Reader) (out_old : Writer) where
         )
     faulty_ends new out_new f (Err NoMemory) part bytes gave short is well bad_length given last numbered found = rw found (starves new part bytes gave short is well)
     faulty_ends new out_new f (Err Unwritten) part bytes gave short is well bad_length given last numbered found =
-        stops_in new out_new part bytes (fault_view f) [] Unwritten gave short is well given last (λ e. absurd cc) (λ e. subst (λ n. BreaksWithin (between out_mid out_new) (verdict_line n (Some (fault_view f)))) numbered found)
+        stops_in new out_new part bytes (fault_view f) [] Unwritten gave short is well given last (λ e. absurd cc)
+            (λ e. subst (λ n. BreaksWithin (between out_mid out_new) (verdict_line n (Some (fault_view f)))) numbered found)
 
     seen_at : (f : told.Fault) (bytes : List ℕ) → frame_length bytes ≡ Err f.kind → f.offset ≡ place → f.path.items ≡ [] → verdicts_at place bytes ≡ Some (fault_view f) ∷ []
     seen_at f bytes is offset path =
         last_at place bytes f.kind is
         ∙ ap₂ (λ (o : ℕ) (p : List (List ℕ)). Some (record { kind = f.kind; offset = o; path = p }) ∷ []) (sym offset) (sym (ap (map string_bytes) path))
 
-    pub framed_ends : (new : Reader) (out_new : Writer) (f : told.Fault) (r : Result Findings OutputFault) (part : List ℕ) → Consumes mid.left new.left part → length part ≤ room → new.failures ≡ mid.failures
+    pub framed_ends : (new : Reader) (out_new : Writer) (f : told.Fault) (r : Result Findings OutputFault) (part : List ℕ)
+        → Consumes mid.left new.left part → length part ≤ room → new.failures ≡ mid.failures
         → HasNoFrame [] mid.left f.kind → frame_length part ≡ Err f.kind → f.offset ≡ place → f.document ≡ number → f.path.items ≡ []
         → JudgesLast (endings.Faulty f) number bad (between out_mid out_new) r → Last new out_new r
     framed_ends new out_new f r part gave short well none given offset numbered path found =
@@ -296,7 +311,7 @@ module _ (old : Reader) (out_old : Writer) where
     unread_ends : (out_new : Writer) (given : List ℕ) (f : ReadFault) (r : Result Findings OutputFault) → ¬ (f ≡ reads.NoMemory) → Consumes (state m).left (state n).left given
         → IsReason state gives documents m n [] given (faults.Read f) → JudgesLast (endings.Unread f) documents.number bad (between out_mid out_new) r → Ended out_new r
     unread_ends out_new given f r other gave reason found =
-        let fits : documents.left.bytes + length s.given ≡ 4294967295 = let p = s.placed in let q = s.fits in omega arith in
+        let fits : documents.left.bytes + length s.given ≡ longest_input = let p = s.placed in let q = s.fits in omega arith in
         let u = unread old s.given state gives documents m n s.gave fits s.turned s.called s.well s.frames s.framed s.many given f other gave reason in
         let done = done_alone (state m) out_mid documents.place documents.number bad documents.left.bytes documents.left.turns s in
         rw (found.0, found.1) (s.given ++ u.0, s.done, u.1, tt, (s.frames, s.given, u.0, s.framed, u.2, refl, sym done), s.counted, s.bad_counted, s.wrote)
@@ -305,7 +320,8 @@ module _ (old : Reader) (out_old : Writer) where
         → IsReason state gives documents m n [] given d → JudgesLast e documents.number bad (between out_mid out_new) r → Ended out_new r
     ends_by out_new given (faults.Frame f) e r (fault, by, alike) gave reason found =
         let is : e ≡ endings.Faulty fault = same_ending e (endings.Faulty fault) by in
-        framed_ends (state m) out_mid documents.place documents.number bad documents.left.bytes documents.left.turns s (state n) out_new fault r given gave reason.4 reason.5 (rw alike.kind reason.2) (rw alike.kind reason.3)
+        framed_ends (state m) out_mid documents.place documents.number bad documents.left.bytes documents.left.turns s (state n) out_new fault r
+            given gave reason.4 reason.5 (rw alike.kind reason.2) (rw alike.kind reason.3)
         (alike.offset ∙ reason.0) (alike.document ∙ reason.1) alike.path (rw is at found)
     ends_by out_new given (faults.Read reads.Device) e r by gave reason found =
         unread_ends out_new given reads.Device r (λ x. absurd cc) gave reason (rw (same_ending e (endings.Unread reads.Device) by) at found)
@@ -336,7 +352,8 @@ module _ (old new : Reader) (out_old out_new : Writer) (err_old err_new : Writer
   abbrev Ends : Type 0 → Option ReadFault → Transcript → Type 0
   Ends within fault shown =
       (within × TakesText (between out_old out_new) shown.out × TellsMessage (between err_old err_new) shown.err shown.status status)
-      ⊎ (BreaksWithin (between out_old out_new) shown.out × BreaksAtVerdict (between old new) (between out_old out_new) × TellsMessage (between err_old err_new) (error_line (codes "cannot write")) Failed status)
+      ⊎ (BreaksWithin (between out_old out_new) shown.out × BreaksAtVerdict (between old new) (between out_old out_new)
+          × TellsMessage (between err_old err_new) (error_line (codes "cannot write")) Failed status)
       ⊎ ((fault ≡ None) × TakesFront (between out_old out_new) shown.out × TellsMessage (between err_old err_new) (error_line (codes "no memory")) Failed status)
 
   abbrev Told : ℕ → ℕ → Option ReadFault → Type 0
@@ -347,7 +364,8 @@ module _ (old new : Reader) (out_old out_new : Writer) (err_old err_new : Writer
   shows_findings findings (bytes, vs, was, within, are, documents, bad, wrote) told =
       by_unread findings.unread was within are (subst (λ n. Told (length vs) n findings.unread) bad (subst (λ n. Told n findings.faulty findings.unread) documents told))
     where
-      by_unread : (unread : Option ReadFault) → StreamsInput (between old new) bytes unread → JudgesWithinLimit bytes unread → AreVerdicts bytes unread vs → Told (length vs) (faulty_count vs) unread → Shows
+      by_unread : (unread : Option ReadFault) → StreamsInput (between old new) bytes unread → JudgesWithinLimit bytes unread
+          → AreVerdicts bytes unread vs → Told (length vs) (faulty_count vs) unread → Shows
       by_unread None was within are told = (bytes, None, shown_check vs, was, ap shown_check are, inl (within, wrote, told))
       by_unread (Some f) was within (frames, front, part, framed, cut, is, are) told =
           (bytes, Some f, shown_check_unread vs f, was, (frames, front, part, framed, cut, is, ap (λ (ws : List Seen). shown_check_unread ws f) are), inl (tt, wrote, told))

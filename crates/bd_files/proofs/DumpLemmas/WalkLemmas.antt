@@ -3,6 +3,7 @@ use Rattle.std.proofs.Common.{inl, inr, ◌≡◌, ◌≤◌, ℕ, ◌+◌, ◌-
 use Rattle.std.specs.Prelude.{IfSome, Result, MatchResult}
 use Rattle.std.specs.Io.KnownBytes.{Consumes, IsAtEnd}
 use Rattle.std.proofs.KnownBytes.{Appends-trans, Appends-nil, Consumes-trans, Consumes-nil}
+use Rattle.bd_value.specs.Limits.{longest_input, most_reads}
 use Rattle.bd_value.specs.Tree.{Doc}
 use Rattle.bd_device.specs.Counts.{after_more, greatest}
 use Rattle.bd_device.specs.declared.reading.ReadFault.{ReadFault}
@@ -53,10 +54,10 @@ pub record SoFar (old new : Reader) (out_old out_new : Writer)
   pub gave : Consumes old.left new.left given
   pub placed : place ≡ length given
   pub counted : number ≡ length done
-  pub fits : room + place ≡ 4294967295
-  pub turned : turns ≤ 4294967296
-  pub called : new.calls ≡ after_more old.calls (4294967296 - turns)
-  pub many : 4294967296 - turns ≤ length given
+  pub fits : room + place ≡ longest_input
+  pub turned : turns ≤ most_reads
+  pub called : new.calls ≡ after_more old.calls (most_reads - turns)
+  pub many : most_reads - turns ≤ length given
   pub well : new.failures ≡ old.failures
   pub wrote : TakesText (between out_old out_new) (lines done)
 
@@ -64,7 +65,7 @@ module _ (old : Reader) (out_old : Writer) where
   abbrev pub Kept : Reader → Writer → ℕ → ℕ → ℕ → ℕ → Type 0
   Kept new out place number room turns = SoFar old new out_old out place number room turns
 
-  pub begins : old.calls ≤ greatest → (room turns : ℕ) → room ≡ 4294967295 → turns ≡ 4294967296 → Kept old out_old 0 0 room turns
+  pub begins : old.calls ≤ greatest → (room turns : ℕ) → room ≡ longest_input → turns ≡ most_reads → Kept old out_old 0 0 room turns
   begins within room turns r t = record {
     done = [];
     given = [];
@@ -81,7 +82,7 @@ module _ (old : Reader) (out_old : Writer) where
   }
 
   module _ (mid : Reader) (out_mid : Writer) (place number room turns : ℕ) (s : Kept mid out_mid place number room turns) where
-    within_given : length s.given ≤ 4294967295
+    within_given : length s.given ≤ longest_input
     within_given = let f = s.fits in let p = s.placed in omega arith
 
     -- a document was printed
@@ -118,12 +119,13 @@ module _ (old : Reader) (out_old : Writer) where
       breaks_after out_old out_mid out_new (lines s.done) (lines (d ∷ [])) s.wrote broke,
     )
 
-    took : (new : Reader) (part : List ℕ) → Consumes mid.left new.left part → length part ≤ room → TakesAtMost 4294967295 (between old new)
+    took : (new : Reader) (part : List ℕ) → Consumes mid.left new.left part → length part ≤ room → TakesAtMost longest_input (between old new)
     took new part gave fits =
         (s.given ++ part, Consumes-trans old.left mid.left new.left s.given part s.gave gave, let f = s.fits in let p = s.placed in omega (arith, length-append s.given part))
 
     -- memory ran out
-    pub starves : (new : Reader) (part : List ℕ) → Consumes mid.left new.left part → length part ≤ room → new.failures ≡ mid.failures → StarvesAfterDocuments (between old new) (between out_old out_mid)
+    pub starves : (new : Reader) (part : List ℕ) → Consumes mid.left new.left part → length part ≤ room → new.failures ≡ mid.failures
+        → StarvesAfterDocuments (between old new) (between out_old out_mid)
     starves new part gave short well = (s.done, s.given, s.joined, front_known old.left mid.left s.given s.gave, took new part gave short, well ∙ s.well, s.wrote)
 
     -- printing a document was stopped
@@ -140,14 +142,17 @@ module _ (old : Reader) (out_old : Writer) where
         (s.done, same ∙ s.counted, (s.given, (known_end old.left mid.left new.left s.given s.gave gave end, took new [] gave (omega arith), well ∙ s.well), inl within_given, s.joined), s.wrote)
 
     -- a document has a fault inside
-    pub ends_faulty : (new : Reader) (count : ℕ) (frame : List ℕ) (f : told.Fault) → count ≡ number → IsFrame frame → Consumes mid.left new.left frame → length frame ≤ room → new.failures ≡ mid.failures
+    pub ends_faulty : (new : Reader) (count : ℕ) (frame : List ℕ) (f : told.Fault) → count ≡ number → IsFrame frame
+        → Consumes mid.left new.left frame → length frame ≤ room → new.failures ≡ mid.failures
         → first_fault place frame ≡ Some (fault_view f) → f.document ≡ number
         → WalksDocuments (between old new) (between out_old out_mid) (record { count = count; ending = endings.Faulty f })
     ends_faulty new count frame f same is gave short well first numbered =
         let rest = rest_of new.left in
         let all : IfSome old.left (λ xs. s.given ++ (frame ++ rest) ≡ xs) = known_after old.left mid.left s.given (frame ++ rest) s.gave (known_whole mid.left new.left frame gave) in
         let fails = fault_inside place s.given frame rest (fault_view f) s.placed is first in
-        (s.done, same ∙ s.counted, (s.given ++ (frame ++ rest), (all, took new frame gave short, well ∙ s.well), inr (s.done, fault_view f, s.given, frame ++ rest, s.joined, refl, fails, within_given), (s.given, frame ++ rest, s.joined, refl, fails), numbered ∙ s.counted), s.wrote)
+        (s.done, same ∙ s.counted, (s.given ++ (frame ++ rest), (all, took new frame gave short, well ∙ s.well), inr
+            (s.done, fault_view f, s.given, frame ++ rest, s.joined, refl, fails, within_given), (s.given, frame ++ rest, s.joined, refl, fails),
+            numbered ∙ s.counted), s.wrote)
 
     -- a length is faulty
     ends_framed : (new : Reader) (count : ℕ) (part : List ℕ) (f : told.Fault) → count ≡ number → Consumes mid.left new.left part → length part ≤ room → new.failures ≡ mid.failures
@@ -157,19 +162,21 @@ module _ (old : Reader) (out_old : Writer) where
         let bytes = none.0 in
         let fails = fault_of_length place s.given bytes f s.placed none.2 offset path in
         let all : IfSome old.left (λ xs. s.given ++ bytes ≡ xs) = known_after old.left mid.left s.given bytes s.gave none.1 in
-        (s.done, same ∙ s.counted, (s.given ++ bytes, (all, took new part gave short, well ∙ s.well), inr (s.done, fault_view f, s.given, bytes, s.joined, refl, fails, within_given), (s.given, bytes, s.joined, refl, fails), numbered ∙ s.counted), s.wrote)
+        (s.done, same ∙ s.counted, (s.given ++ bytes, (all, took new part gave short, well ∙ s.well), inr
+            (s.done, fault_view f, s.given, bytes, s.joined, refl, fails, within_given), (s.given, bytes, s.joined, refl, fails), numbered ∙ s.counted), s.wrote)
 
   -- no document was given
   module _ {R : Type 0} (state : R → Reader) (gives : R → Option (List ℕ) → R → Type 0) (documents : DocBuffer) (m n : R) (out_mid : Writer)
       (s : Kept (state m) out_mid documents.place documents.number documents.left.bytes documents.left.turns) where
     abbrev Ended : ℕ → Result Ending OutputFault → Type 0
     Ended count r =
-        MatchResult r (λ e. WalksDocuments (between old (state n)) (between out_old out_mid) (record { count = count; ending = e })) (λ st. StopsWalk (between old (state n)) (between out_old out_mid) st)
+        MatchResult r (λ e. WalksDocuments (between old (state n)) (between out_old out_mid) (record { count = count; ending = e }))
+            (λ st. StopsWalk (between old (state n)) (between out_old out_mid) st)
 
     unread_ends : (count : ℕ) (given : List ℕ) (f : ReadFault) → count ≡ documents.number → ¬ (f ≡ reads.NoMemory) → Consumes (state m).left (state n).left given
         → IsReason state gives documents m n [] given (faults.Read f) → WalksDocuments (between old (state n)) (between out_old out_mid) (record { count = count; ending = endings.Unread f })
     unread_ends count given f same other gave reason =
-        let fits : documents.left.bytes + length s.given ≡ 4294967295 = let p = s.placed in let q = s.fits in omega arith in
+        let fits : documents.left.bytes + length s.given ≡ longest_input = let p = s.placed in let q = s.fits in omega arith in
         let frames = joined_frames s.done s.given s.joined in
         let u = unread old s.given state gives documents m n s.gave fits s.turned s.called s.well frames.0 frames.1 s.many given f other gave reason in
         (s.done, same ∙ s.counted, (s.given, u.0, u.1, s.joined, u.2), s.wrote)

@@ -1,5 +1,6 @@
 -- The lines of a text packed, step by step.
-use Rattle.std.proofs.Common.{◌≡◌, ◌≤◌, ◌<◌, ℕ, suc, ◌+◌, List, [], ◌∷◌, ◌++◌, length, take, drop, get_or, Bool, true, false, Option, Some, None, refl, sym, ap, ◌∙◌, subst, append_assoc, append-nil, arith, inl, inr, codes, Ok, length-append, length-take-le, rules, add-one}
+use Rattle.std.proofs.Common.{◌≡◌, ◌≤◌, ◌<◌, ℕ, suc, ◌+◌, List, [], ◌∷◌, ◌++◌, length, take, drop, get_or, Bool, true, false, Option, Some, None, refl, sym, ap}
+use Rattle.std.proofs.Common.{◌∙◌, subst, append_assoc, append-nil, arith, inl, inr, codes, Ok, length-append, length-take-le, rules, add-one}
 use Rattle.std.specs.Prelude.{◌⊎◌, ◌==◌}
 use Rattle.std.specs.List.{All}
 use Rattle.std.proofs.KnownBytes.{Appends-nil}
@@ -8,6 +9,7 @@ use Rattle.std.proofs.lemmas.Bool.Decides.{nat_tests}
 use Rattle.std.proofs.lemmas.List.{get_or-take, get_or_default, take-append-drop}
 use Rattle.std.proofs.lemmas.List.Splits.{slice_split_at, slice_split_none}
 use Rattle.std.proofs.Math.Seq.{drop-cons}
+use Rattle.bd_value.specs.Limits.{longest_document, longest_input, most_reads}
 use Rattle.memchr.specs.Find.{IsFirstByte, is_byte}
 use Rattle.bd_value.specs.Tree.{Doc}
 use Rattle.bd_extjson.specs.TextDocument.{ReadsAs, reading}
@@ -45,7 +47,8 @@ pub packs_some : (number : ℕ) (lines : List (List ℕ)) → HasPacking number 
 packs_some number [] = ([], None, (refl, refl))
 packs_some number (line ∷ lines) = by_blank (is_empty_line line) refl (packs_some (suc number) lines)
   where
-    short : (d : Doc) → is_empty_line line ≡ false → ReadsAs line d → HasPacking (suc number) lines → (16793600 < length (plain d)) ⊎ (length (plain d) ≤ 16793600) → HasPacking number (line ∷ lines)
+    short : (d : Doc) → is_empty_line line ≡ false → ReadsAs line d → HasPacking (suc number) lines → (longest_document < length (plain d))
+        ⊎ (length (plain d) ≤ longest_document) → HasPacking number (line ∷ lines)
     short d full is rest (inl long) = ([], Some (record { number = number; fault = faults.TooLong }), inr (inr (full, (faults.TooLong, (d, is, long), refl, refl))))
     short d full is rest (inr le) = (d ∷ rest.0, rest.1, inr (inl (full, (d, rest.0, (is, le), refl, rest.2))))
 
@@ -54,7 +57,7 @@ packs_some number (line ∷ lines) = by_blank (is_empty_line line) refl (packs_s
         let fault : JsonFault = record { kind = kinds.Syntax; at = 0 } in
         let placed : IsPlaced (length line) fault = record { inside = omega arith; whole = λ e. refl; memory = λ e. refl } in
         ([], Some (record { number = number; fault = faults.Unread fault }), inr (inr (full, (faults.Unread fault, (λ e. cc, λ d is. cc, placed), refl, refl))))
-    by_reading (Some d) is full rest = short d full is rest (cases_lt 16793600 (length (plain d)))
+    by_reading (Some d) is full rest = short d full is rest (cases_lt longest_document (length (plain d)))
 
     by_blank : (b : Bool) → is_empty_line line ≡ b → HasPacking (suc number) lines → HasPacking number (line ∷ lines)
     by_blank true blank rest = (rest.0, rest.1, inl (blank, rest.2))
@@ -121,14 +124,14 @@ pub record SoFar (text : List ℕ) (old new : Writer) (left : Option (List ℕ))
   pub goes : (es : List Doc) (bad : Option BadLine) → PacksLines (suc number) (lines_left left) es bad → PacksLines 1 (text_lines text) (done ++ es) bad
   pub counted : count ≡ length done
   pub few : count ≤ number
-  pub fits : number + left_size left ≤ 4294967296
+  pub fits : number + left_size left ≤ most_reads
   pub wrote : TakesText (between old new) (packed_bytes done)
 
 module _ (text : List ℕ) (old : Writer) where
   abbrev pub Kept : Writer → Option (List ℕ) → ℕ → ℕ → Type 0
   Kept new left number count = SoFar text old new left number count
 
-  pub begins : length text ≤ 4294967295 → Kept old (Some text) 0 0
+  pub begins : length text ≤ longest_input → Kept old (Some text) 0 0
   begins short = record {
     done = [];
     goes = λ es bad p. p;
@@ -161,7 +164,8 @@ module _ (text : List ℕ) (old : Writer) where
     with_one d es = packed-append s.done (d ∷ es)
 
     -- a line with a document, whose bytes were taken
-    pub packed : (end : Writer) (next more : ℕ) (d : Doc) → next ≡ suc number → more ≡ suc count → is_empty_line line ≡ false → IsPackable line d → TakesText (between new end) (plain d) → Kept end after next more
+    pub packed : (end : Writer) (next more : ℕ) (d : Doc) → next ≡ suc number → more ≡ suc count → is_empty_line line ≡ false → IsPackable line d
+        → TakesText (between new end) (plain d) → Kept end after next more
     packed end next more d same counted full is wrote = record {
       done = s.done ++ d ∷ [];
       goes = λ es bad p. subst (λ (ds : List Doc). PacksLines 1 (text_lines text) ds bad) (sym (append_assoc s.done (d ∷ []) es))

@@ -1,6 +1,7 @@
 //! The documents of an input judged, with a line for each that has a fault.
 
 ghost use Rattle.std.specs.Prelude.{◌≡◌, ◌≤◌, ◌<◌, ◌+◌, IfOk, IfErr, OnOk, Some, None, Err, IfSome, option_map, length};
+ghost use Rattle.bd_value.specs.Limits.{longest_input};
 ghost use Rattle.bd_check.specs.FirstFault.{first_fault};
 ghost use Rattle.bd_check.specs.AnsweredFault.{fault_view};
 ghost use Rattle.bd_files.specs.Check.{verdict_line};
@@ -32,7 +33,7 @@ pub struct Findings {
 /// The first fault of the document that all of the bytes are to be. It begins at the place `base` of the input and has
 /// that number in it.
 fn judge(alloc: Global, bytes: &[u8], base: u64, number: u32) -> Result<Option<Fault>, NoMemory>
-    requires { base + length bytes.now ≤ 4294967295 }
+    requires { base + length bytes.now ≤ longest_input }
     ensures first { IfOk result (λ o. first_fault base bytes.now ≡ option_map fault_view o) }
     ensures number { IfOk result (λ o. IfSome o (λ f. f.document ≡ number)) }
 {
@@ -72,7 +73,7 @@ fn finish<O: Output>(
     line: &mut Vec<u8>,
     out: &mut O,
 ) -> Result<Findings, OutputFault>
-    requires few { (documents < 4294967295) × (faulty ≤ documents) }
+    requires few { (documents < longest_input) × (faulty ≤ documents) }
     ensures { JudgesLast ending documents faulty (over O.state out.old out.new) result }
 {
     match ending {

@@ -1,6 +1,7 @@
 //! The documents of an input, one a line.
 
 ghost use Rattle.std.specs.Prelude.{◌≡◌, ◌≤◌, ◌+◌, [], ◌∷◌, IfOk, IfErr, IfSome, Some, None, Ok, Err, length};
+ghost use Rattle.bd_value.specs.Limits.{longest_input};
 ghost use Rattle.bd_value.specs.Tree.{Doc};
 ghost use Rattle.bd_check.specs.FirstFault.{first_fault};
 ghost use Rattle.bd_raw.specs.Spelling.{IsDocument};
@@ -40,7 +41,7 @@ fn print_document<O: Output>(
     room: &mut LineRoom,
     out: &mut O,
 ) -> Result<Option<Fault>, OutputFault>
-    requires { base + length bytes.now ≤ 4294967295 }
+    requires { base + length bytes.now ≤ longest_input }
     ensures printed { result ≡ Ok None → (d : Doc) × IsDocument d bytes.now × TakesText (over O.state out.old out.new) (lines (d ∷ [])) }
     ensures faulty { IfOk result (λ o. IfSome o (λ f. (first_fault base bytes.now ≡ Some (fault_view f)) × (f.document ≡ number) × (out.new ≡ out.old))) }
     ensures starved { result ≡ Err OutputFault.NoMemory → out.new ≡ out.old }

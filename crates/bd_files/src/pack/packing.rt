@@ -1,5 +1,6 @@
 //! The documents of a text of lines, as bytes.
 ghost use Rattle.std.specs.Prelude.{◌≡◌, ◌++◌, ◌∷◌, ◌≤◌, IfOk, IfErr, IfSome, None, Ok, length};
+ghost use Rattle.bd_value.specs.Limits.{longest_input};
 ghost use Rattle.bd_lines.specs.Lines.{text_lines};
 ghost use Rattle.bd_files.specs.Pack.Packing.{IsPacking, StopsPacking, bytes_after, left_size, lines_left};
 ghost use Rattle.bd_device.specs.Devices.{over};
@@ -47,7 +48,7 @@ pub(crate) fn write_lines<O: Output>(
     text: &[u8],
     out: &mut O,
 ) -> Result<Packing, OutputFault>
-    requires { length text.now ≤ 4294967295 }
+    requires { length text.now ≤ longest_input }
     ensures packs { IfOk result (IsPacking text.now (over O.state out.old out.new)) }
     ensures stops { IfErr result (StopsPacking text.now (over O.state out.old out.new)) }
 {
@@ -63,7 +64,7 @@ fn write_packed<O: Output>(
     bytes: &mut Vec<u8>,
     out: &mut O,
 ) -> Result<Packing, OutputFault>
-    requires { length text.now ≤ 4294967295 }
+    requires { length text.now ≤ longest_input }
     ensures packs { IfOk result (IsPacking text.now (over O.state out.old out.new)) }
     ensures stops { IfErr result (StopsPacking text.now (over O.state out.old out.new)) }
 {

@@ -3,6 +3,7 @@
 //! It stands apart from the buffer since its clauses speak of the buffer's type.
 ghost use Rattle.std.specs.Prelude.{◌≡◌, [], None, Ok, Err, true, false, IfOk, IfErr, IfSome, IsTrue, List, OnErr, OnOk, ℕ, length, ◌++◌, ◌+◌, ◌-◌, ◌≤◌, ◌↔◌};
 ghost use Rattle.std.specs.Io.KnownBytes.{Consumes, prepend_known};
+ghost use Rattle.bd_value.specs.Limits.{longest_document};
 ghost use Rattle.bd_device.specs.Devices.{AreReads, over};
 ghost use Rattle.bd_check.specs.Dump.{length_told};
 ghost use Rattle.bd_stream.specs.NextDocument.{CountsReads, FailsToRead, FindsEnd, HoldsAsMuch, HoldsNone, ReadsDocument, held_bytes};
@@ -11,6 +12,7 @@ ghost use Rattle.bd_stream.specs.Stream.{IsFrame};
 use crate::doc_buffer::{DocBuffer, DocFault, make_room};
 use bd_check::FaultKind;
 use bd_device::{Input, Limits, fill, fill_after};
+use bd_value::LONGEST_DOCUMENT;
 
 impl DocBuffer {
     /// Takes the next document of a device into the buffer; false at the end.
@@ -65,7 +67,7 @@ impl DocBuffer {
     fn read_length<R: Input>(&mut self, reader: &mut R) -> Result<Option<[u8; 4]>, DocFault>
         requires empty { self.old.size ≡ 0 }
         ensures kept { HoldsNone self.old self.new × (self.new.failed ≡ self.old.failed) × (self.new.buffer ≡ self.old.buffer) }
-        ensures length { IfOk result (λ o. IfSome o (λ head. (5 ≤ length_told head) × (length_told head ≤ 16793600)
+        ensures length { IfOk result (λ o. IfSome o (λ head. (5 ≤ length_told head) × (length_told head ≤ longest_document)
             × (4 ≤ self.old.left.bytes) × Consumes (R.state reader.old).left (R.state reader.new).left head)) }
         ensures reads { IfOk result (λ o. IfSome o (λ head.
             AreReads R.read_gives (self.old.left.turns - self.new.left.turns) reader.old head reader.new)) }
@@ -84,7 +86,7 @@ impl DocBuffer {
             return Err(self.fault(FaultKind::ShortLength));
         }
         let length = u32::from_le_bytes(head);
-        if length < 5 || length > 16_793_600 {
+        if length < 5 || length as usize > LONGEST_DOCUMENT {
             return Err(self.fault(FaultKind::BadLength));
         }
         Ok(Some(head))
@@ -94,7 +96,7 @@ impl DocBuffer {
     fn read_rest<R: Input>(&mut self, reader: &mut R, head: [u8; 4]) -> Result<(), DocFault>
         requires works { self.old.failed ≡ false }
         requires empty { self.old.size ≡ 0 }
-        requires length { (5 ≤ length_told head) × (length_told head ≤ 16793600) × (4 ≤ self.old.left.bytes) }
+        requires length { (5 ≤ length_told head) × (length_told head ≤ longest_document) × (4 ≤ self.old.left.bytes) }
         ensures frame { OnOk result (IsFrame (held_bytes self.new)) }
         ensures gives { OnOk result (Consumes (prepend_known head (R.state reader.old).left) (R.state reader.new).left (held_bytes self.new)) }
         ensures reads { OnOk result ((given : List ℕ) × (held_bytes self.new ≡ head ++ given)

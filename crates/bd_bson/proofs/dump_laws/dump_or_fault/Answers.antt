@@ -1,11 +1,13 @@
 use Rattle.std.proofs.Common.{◌≤◌, ◌⊎◌, ℕ, List, [], length, Option, Some, None, refl, inl, inr, unwrap_or, ap}
+use Rattle.bd_value.specs.Limits.{longest_input}
 use Rattle.bd_value.specs.Tree.{Doc}
 use Rattle.bd_check.specs.Fault.{Fault}
 use Rattle.bd_check.specs.Dump.{IsDump, IsWalk, FailsAfter}
 use Rattle.bd_check.proofs.DumpLemmas.{walk_once, walk_on}
 use Rattle.bd_bson.proofs.dump_laws.dump_or_fault.Goals as goal
 
-of_walk : (ds : List Doc) (end : Option Fault) (bytes : List ℕ) → length bytes ≤ 4294967295 → IsWalk ds end bytes → ((ds : List Doc) × IsDump ds bytes) ⊎ ((ds : List Doc) × (f : Fault) × FailsAfter ds f bytes)
+of_walk : (ds : List Doc) (end : Option Fault) (bytes : List ℕ) → length bytes ≤ longest_input → IsWalk ds end bytes
+    → ((ds : List Doc) × IsDump ds bytes) ⊎ ((ds : List Doc) × (f : Fault) × FailsAfter ds f bytes)
 of_walk ds None bytes short w = inl (ds, (w, short))
 of_walk ds (Some f) bytes short w = inr (ds, f, w)
 

@@ -1,4 +1,5 @@
 use Rattle.std.proofs.Common.{Ok, Err, ◌≤◌, arith, inl, inr, length, refl}
+use Rattle.bd_value.specs.Limits.{longest_input}
 use Rattle.bd_files.proofs.DumpLemmas as runs
 use Rattle.bd_cli.proofs.serve.serve.Goals as goal
 use Rattle.bd_files.specs.Transcript.{read_words}
@@ -6,7 +7,7 @@ use Rattle.bd_files.specs.Transcript.{read_words}
 pub returns-in-Ok : goal.returns-in-Ok
 returns-in-Ok g c =
     let e = c.in-Ok.ensures in
-    let short : length c.in-Ok.bytes.items ≤ 4294967295 = omega (arith, e.short) in (
+    let short : length c.in-Ok.bytes.items ≤ longest_input = omega (arith, e.short) in (
       Ok c.in-Ok.bytes.items,
       (e.bytes, e.end, short, e.well (λ x. absurd cc)),
       inr (c.in-Ok.bytes.items, refl, c.serve_bytes.ensures),

@@ -4,7 +4,8 @@ use Rattle.std.proofs.Math.Seq.{take-length}
 use Rattle.bd_device.specs.Devices.{no_read}
 use Rattle.bd_device.proofs.DevicesLemmas.{Consumes-more, reads_more}
 use Rattle.bd_device.proofs.FillingLemmas.{grown}
-use Rattle.bd_device.proofs.filling.fill.Goals.{else-limits-gt0-via-then-limits-gt0+then-size-limits+else-read_held, else-limits-gt0-via-then-limits-gt0+else-size-limits, else-limits-gt0-via-else-limits-gt0}
+use Rattle.bd_device.proofs.filling.fill.Goals.{else-limits-gt0-via-then-limits-gt0+then-size-limits+else-read_held}
+use Rattle.bd_device.proofs.filling.fill.Goals.{else-limits-gt0-via-then-limits-gt0+else-size-limits, else-limits-gt0-via-else-limits-gt0}
 use Rattle.bd_device.proofs.filling.fill.Goals as goal
 
 pub returns-then-read_held-clause-reads : goal.returns-then-read_held-clause-reads

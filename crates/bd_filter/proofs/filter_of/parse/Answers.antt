@@ -1,4 +1,5 @@
-use Rattle.std.proofs.Common.{Ok, sym, ap, ◌∙◌}
+use Rattle.std.proofs.Common.{◌-◌, Ok, sym, ap, ◌∙◌}
+use Rattle.bd_value.specs.Limits.{most_filter_levels}
 use Rattle.bd_value.specs.NodeTree.{parts_held}
 use Rattle.bd_value.specs.Tree.{fields_of}
 use Rattle.bd_value.specs.View.{pairs}
@@ -18,7 +19,7 @@ pub returns-in-Err-clause-fault : goal.returns-in-Err-clause-fault
 returns-in-Err-clause-fault c =
     let ps = parts_held c.parts.result in
     answer_is c.in-Err.stop (filter_of (pairs c.args.document.now)) c.fault_of.result
-    (stops_as (λ xs. all_of (filters_from xs)) (filters_of 49 (fields_of ps)) (filter_of (pairs c.args.document.now)) c.in-Err.stop
+    (stops_as (λ xs. all_of (filters_from xs)) (filters_of (most_filter_levels - 1) (fields_of ps)) (filter_of (pairs c.args.document.now)) c.in-Err.stop
         (whole_is (pairs c.args.document.now) ps c.parts.ensures.parts) c.in-Err.ensures)
     c.fault_of.ensures
 

@@ -1,4 +1,5 @@
 use Rattle.std.proofs.Common.{◌≤◌, Ok, Err, [], List, ℕ, refl, inl, inr, length, arith, subst}
+use Rattle.bd_value.specs.Limits.{longest_input}
 use Rattle.bd_files.proofs.DumpLemmas as runs
 use Rattle.bd_find.proofs.MessageLemmas as messages
 use Rattle.bd_find.proofs.find.find.Goals as goal
@@ -22,7 +23,7 @@ returns-in-Ok-read_all-clause-found g c =
     let e = c.in-Ok-read_all.ensures in
     let s = c.find_in.ensures in
     let w = page_request_of c.in-Ok.asking in
-    let short : length c.in-Ok-read_all.bytes.items ≤ 4294967295 = omega (arith, e.short) in
+    let short : length c.in-Ok-read_all.bytes.items ≤ longest_input = omega (arith, e.short) in
     inr (Ok c.in-Ok-read_all.bytes.items, s.0, inr (w, c.in-Ok.ensures.asking, (e.bytes, e.end, short, e.well (λ x. absurd cc))), inr (w, c.in-Ok.ensures.asking, inr (c.in-Ok-read_all.bytes.items, refl, s.1)), s.2)
 
 pub returns-in-Ok-read_all-clause-unread : goal.returns-in-Ok-read_all-clause-unread

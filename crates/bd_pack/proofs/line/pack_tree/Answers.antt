@@ -1,4 +1,5 @@
 use Rattle.std.proofs.Common.{◌<◌, Err, true≢false, ap, sym, ◌∙◌, arith}
+use Rattle.bd_value.specs.Limits.{most_levels}
 use Rattle.bd_value.specs.Depth.{depth}
 use Rattle.bd_value.specs.Tree.{doc, fields_of}
 use Rattle.bd_value.specs.View.{pairs}
@@ -8,7 +9,7 @@ use Rattle.bd_pack.proofs.line.pack_tree.Goals as goal
 pub unreachable-requires : goal.unreachable-requires
 unreachable-requires c =
     let p = reads_plain c.args.line.now (pairs c.in-Ok.document) c.in-Ok.ensures.found in
-    let deep : 200 < depth (doc (fields_of (pairs c.in-Ok.document))) = c.write_document.ensures.too_deep.0 (c.in-Err-TooDeep.is ∙ ap Err c.in-Err-TooDeep.field-0-is) in
+    let deep : most_levels < depth (doc (fields_of (pairs c.in-Ok.document))) = c.write_document.ensures.too_deep.0 (c.in-Err-TooDeep.is ∙ ap Err c.in-Err-TooDeep.field-0-is) in
     let shallow = p.0 in omega arith
 
 pub unreachable-requires-in-Err-NulInName : goal.unreachable-requires-in-Err-NulInName

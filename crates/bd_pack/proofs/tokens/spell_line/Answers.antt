@@ -1,5 +1,6 @@
 use Rattle.std.proofs.Common.{◌≡◌, length, option_map, option_and_then, sym, ap, ◌∙◌, arith}
 use Rattle.std.proofs.lemmas.Result.{MatchResult-at_ok}
+use Rattle.bd_value.specs.Limits.{most_levels}
 use Rattle.bd_value.specs.Tree.{doc, pairs_of, fields_of, fields_of-pairs_of}
 use Rattle.bd_write.specs.TreeBytes.{bytes_of}
 use Rattle.bd_extjson.specs.Meaning.{wrap}
@@ -15,6 +16,6 @@ returns c =
     let fs = g.0.0 in
     let back : bytes_of (doc fs) ≡ bytes_of (doc (fields_of (pairs_of fs))) = ap (λ x. bytes_of (doc x)) (sym (fields_of-pairs_of fs)) in
     let out : c.append_document.new.out.items ≡ bytes_of (doc fs) = rw c.clear-2.ensures.items at g.0.2 in
-    let reads = ap (λ x. option_map pairs_of (option_and_then document (option_and_then (wrap 200) (json x)))) (sym same) ∙ ap (λ o. option_map pairs_of (option_and_then document o)) g.0.1 in
+    let reads = ap (λ x. option_map pairs_of (option_and_then document (option_and_then (wrap most_levels) (json x)))) (sym same) ∙ ap (λ o. option_map pairs_of (option_and_then document o)) g.0.1 in
     let within = g.1 in
     (pairs_of fs, (reads, omega (arith, within, ap (λ x. length x) (out ∙ back))), out ∙ back))

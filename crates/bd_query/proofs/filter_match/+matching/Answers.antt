@@ -34,7 +34,8 @@ any_end_suits-returns-then-any_end_suits_in_documents g t c =
     let cs = c.args.path.now in
     let many = at.as_many cs in
     let m = at.named (component_names cs) c.args.k (omega (arith, many, c.requires.at, c.if-k-path.false)) in
-    some_end.in_first (is_suited c.args.body.now) c.any_end_suits_in_documents.result _ (index_ends n (drop c.args.k (component_names cs))) _ c.any_end_suits_in_documents.ensures c.if-any_end_suits_in_documents.true
+    some_end.in_first (is_suited c.args.body.now) c.any_end_suits_in_documents.result _ (index_ends n (drop c.args.k (component_names cs))) _
+        c.any_end_suits_in_documents.ensures c.if-any_end_suits_in_documents.true
     (walked.parts_are ends n (component_names cs) c.args.k m.name (sym c.kind.ensures ∙ c.in-Array.is) m.is_there)
 
 pub any_end_suits-returns-else-any_end_suits_in_documents : goal.any_end_suits-returns-else-any_end_suits_in_documents
@@ -43,7 +44,9 @@ any_end_suits-returns-else-any_end_suits_in_documents g t c =
     let cs = c.args.path.now in
     let many = at.as_many cs in
     let m = at.named (component_names cs) c.args.k (omega (arith, many, c.requires.at, c.if-k-path.false)) in
-    some_end.in_second (is_suited c.args.body.now) c.any_end_suits_in_documents.result c.any_end_suits_at_index.result (document_ends n (drop c.args.k (component_names cs))) (index_ends n (drop c.args.k (component_names cs))) _ c.any_end_suits_in_documents.ensures c.if-any_end_suits_in_documents.false c.any_end_suits_at_index.ensures
+    some_end.in_second (is_suited c.args.body.now) c.any_end_suits_in_documents.result c.any_end_suits_at_index.result
+        (document_ends n (drop c.args.k (component_names cs))) (index_ends n (drop c.args.k (component_names cs))) _
+        c.any_end_suits_in_documents.ensures c.if-any_end_suits_in_documents.false c.any_end_suits_at_index.ensures
     (walked.parts_are ends n (component_names cs) c.args.k m.name (sym c.kind.ensures ∙ c.in-Array.is) m.is_there)
 
 pub any_end_suits-returns-in_default : goal.any_end_suits-returns-in_default
@@ -52,7 +55,8 @@ any_end_suits-returns-in_default g t c =
     let cs = c.args.path.now in
     let many = at.as_many cs in
     some_end.one (is_suited c.args.body.now) None false _ refl
-    (walked.other_is ends n (component_names cs) c.args.k (λ e. c.in_default.not-Doc (c.kind.ensures ∙ e)) (λ e. c.in_default.not-Array (c.kind.ensures ∙ e)) (omega (arith, many, c.requires.at, c.if-k-path.false)))
+    (walked.other_is ends n (component_names cs) c.args.k (λ e. c.in_default.not-Doc (c.kind.ensures ∙ e))
+        (λ e. c.in_default.not-Array (c.kind.ensures ∙ e)) (omega (arith, many, c.requires.at, c.if-k-path.false)))
 
 pub any_end_suits_in_field-any_end_suits-requires : goal.any_end_suits_in_field-any_end_suits-requires
 any_end_suits_in_field-any_end_suits-requires g t c κs within =
@@ -85,7 +89,8 @@ any_end_suits_in_field-returns-in-Some g t c =
     let u = g.N.Reading.tree c.in-Some.value in
     let cs = c.args.path.now in
     let s = c.as_str-name.result in
-    let there : slice_get (component_names cs) c.args.k ≡ Some s.now = at.name_at cs c.args.k c.index-path-k.result c.requires.at c.index-path-k.is ∙ ap (λ (x : Component). at.some_name (string_bytes x.name)) c.index-path-k.is ∙ ap at.some_name (sym c.as_str-name.ensures.value) in
+    let there : slice_get (component_names cs) c.args.k ≡ Some s.now = at.name_at cs c.args.k c.index-path-k.result c.requires.at c.index-path-k.is
+        ∙ ap (λ (x : Component). at.some_name (string_bytes x.name)) c.index-path-k.is ∙ ap at.some_name (sym c.as_str-name.ensures.value) in
     let e : first_of s.now (pairs_in n) ≡ Some u = sym c.in-Some.ensures.first in
     c.any_end_suits.ensures ∙ ap (list_any (is_suited c.args.body.now)) (sym (walked.field_is ends n (component_names cs) c.args.k s.now u c.requires.kind there e))
 
@@ -94,7 +99,8 @@ any_end_suits_in_field-returns-in-None g t c =
     let n = g.N.Reading.tree c.args.node in
     let cs = c.args.path.now in
     let s = c.as_str-name.result in
-    let there : slice_get (component_names cs) c.args.k ≡ Some s.now = at.name_at cs c.args.k c.index-path-k.result c.requires.at c.index-path-k.is ∙ ap (λ (x : Component). at.some_name (string_bytes x.name)) c.index-path-k.is ∙ ap at.some_name (sym c.as_str-name.ensures.value) in
+    let there : slice_get (component_names cs) c.args.k ≡ Some s.now = at.name_at cs c.args.k c.index-path-k.result c.requires.at c.index-path-k.is
+        ∙ ap (λ (x : Component). at.some_name (string_bytes x.name)) c.index-path-k.is ∙ ap at.some_name (sym c.as_str-name.ensures.value) in
     let e : first_of s.now (pairs_in n) ≡ None = sym c.in-None.ensures.first in
     some_end.one (is_suited c.args.body.now) None false _ refl (walked.lost_is ends n (component_names cs) c.args.k s.now c.requires.kind there e)
 
@@ -128,7 +134,8 @@ any_end_suits_in_documents-any_end_suits-requires g t c κs within =
             c.requires.few,
             (
               omega (arith, c.requires.at),
-              walked.document_inside f ends (some_end.keeps_ends f) n c.args.path.now c.args.walked.now c.requires.vain c.requires.kind c.loop-i.i u c.at_document-inside.result here (omega (arith, c.loop-i-test.true))
+              walked.document_inside f ends (some_end.keeps_ends f) n c.args.path.now c.args.walked.now c.requires.vain c.requires.kind c.loop-i.i u
+                  c.at_document-inside.result here (omega (arith, c.loop-i-test.true))
                   (sym c.is_document.ensures ∙ c.if-is_document.true) c.at_document-inside.ensures,
             ),
           ),
@@ -172,7 +179,8 @@ any_end_suits_at_index-any_end_suits-requires g t c κs within =
             c.requires.few,
             (
               omega (arith, c.requires.at),
-              walked.index_inside f ends (some_end.keeps_ends f) n c.args.path.now c.args.walked.now c.requires.vain c.requires.kind c.args.k c.in-Some.i u c.at_index-inside.result c.element-element.ensures.element
+              walked.index_inside f ends (some_end.keeps_ends f) n c.args.path.now c.args.walked.now c.requires.vain c.requires.kind c.args.k
+                  c.in-Some.i u c.at_index-inside.result c.element-element.ensures.element
                   (omega (arith, c.len.type_inv, c.if-i-len.true)) c.is_document.result c.is_document.ensures c.requires.documents c.at_index-inside.ensures,
             ),
           ),
@@ -191,7 +199,8 @@ any_end_suits_at_index-returns-in-Some g t c =
     let held : held_index m ≡ Some c.in-Some.i = walked.index_at cs c.args.k c.index-path-k.result _ _ c.requires.at c.index-path-k.is c.in-Some.is in
     c.any_end_suits.ensures
     ∙ ap (list_any (is_suited c.args.body.now))
-    (sym (walked.first_is ends n names c.args.k m there ∙ walked.element_at ends (elements_in n) m names c.args.k c.in-Some.i u held (omega (arith, c.len.type_inv, c.if-i-len.true)) c.element-element.ensures.element))
+    (sym (walked.first_is ends n names c.args.k m there ∙ walked.element_at ends (elements_in n) m names c.args.k c.in-Some.i u held
+        (omega (arith, c.len.type_inv, c.if-i-len.true)) c.element-element.ensures.element))
 
 pub any_end_suits_at_index-returns-in_default : goal.any_end_suits_at_index-returns-in_default
 any_end_suits_at_index-returns-in_default g t c =

@@ -33,7 +33,8 @@ append_fields-returns-in_err-at-2-clause-err g t c =
     let l = c.loop-name in
     let i = l.invariant in
     let named = c.in_ok-at.ensures.ok ∙ append_assoc (take l.at l.out.items) _ _ in
-    when_err _ _ (still_kept c.args.end l.at c.args.out.now.items l.out.items i.after i.inside i.kept c.in_ok-at.at c.append_name.new.out.items c.append_node.new.out.items _ named c.in_err-at-2.ensures.err)
+    when_err _ _ (still_kept c.args.end l.at c.args.out.now.items l.out.items i.after i.inside i.kept c.in_ok-at.at c.append_name.new.out.items
+        c.append_node.new.out.items _ named c.in_err-at-2.ensures.err)
 
 pub append_fields-loop-name-preserved : goal.append_fields-loop-name-preserved
 append_fields-loop-name-preserved g t c =
@@ -42,7 +43,8 @@ append_fields-loop-name-preserved g t c =
     let old = c.args.out.now.items in
     let named = c.in_ok-at.ensures.ok in
     let written = c.in_ok-at-2.ensures.ok in
-    let on = goes_on c.args.end l.at old l.out.items i.after i.inside i.kept c.in_ok-at.at c.in_ok-at-2.at c.append_name.new.out.items c.append_node.new.out.items _ _ (named ∙ append_assoc (take l.at l.out.items) _ _) written in
+    let on = goes_on c.args.end l.at old l.out.items i.after i.inside i.kept c.in_ok-at.at c.in_ok-at-2.at c.append_name.new.out.items
+        c.append_node.new.out.items _ _ (named ∙ append_assoc (take l.at l.out.items) _ _) written in
     let less = rest_smaller _ _ _ _ c.in-Some.ensures.some in
     record {
       whole = field_step l.later _ _ _ _ (take l.at l.out.items) _ _ (125 ∷ []) (take c.args.end old ++ text (doc (fields_of (g.N.Reading.left c.args.fields)))) named written (search rules) i.whole;
@@ -78,7 +80,8 @@ pub append_items-returns-in_err-at-2-clause-err : goal.append_items-returns-in_e
 append_items-returns-in_err-at-2-clause-err g t c =
     let l = c.loop-node in
     let i = l.invariant in
-    when_err _ _ (still_kept c.args.end l.at c.args.out.now.items l.out.items i.after i.inside i.kept c.in_ok-at.at c.append_separator.new.out.items c.append_node.new.out.items _ c.in_ok-at.ensures.ok c.in_err-at-2.ensures.err)
+    when_err _ _ (still_kept c.args.end l.at c.args.out.now.items l.out.items i.after i.inside i.kept c.in_ok-at.at c.append_separator.new.out.items
+        c.append_node.new.out.items _ c.in_ok-at.ensures.ok c.in_err-at-2.ensures.err)
 
 pub append_items-loop-node-preserved : goal.append_items-loop-node-preserved
 append_items-loop-node-preserved g t c =
@@ -90,7 +93,8 @@ append_items-loop-node-preserved g t c =
     let on = goes_on c.args.end l.at old l.out.items i.after i.inside i.kept c.in_ok-at.at c.in_ok-at-2.at c.append_separator.new.out.items c.append_node.new.out.items _ _ separated written in
     let less = rest_smaller _ _ _ _ c.in-Some.ensures.some in
     record {
-      whole = item_step l.later _ _ _ (take l.at l.out.items) _ _ (93 ∷ []) (take c.args.end old ++ text (array (items_of (values_of (g.N.Reading.left c.args.items))))) separated written (search rules) i.whole;
+      whole = item_step l.later _ _ _ (take l.at l.out.items) _ _ (93 ∷ [])
+          (take c.args.end old ++ text (array (items_of (values_of (g.N.Reading.left c.args.items))))) separated written (search rules) i.whole;
       kept = on.0;
       inside = c.in_ok-at-2.ensures.within;
       after = on.1;

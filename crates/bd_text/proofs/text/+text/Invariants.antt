@@ -21,7 +21,8 @@ decreases-append_items g l = 2 * fields_size (fields_of (g.N.Reading.left l.item
 -- what is written, and what is still to come, is the whole text
 abbrev pub invariant-append_fields-loop-name : goal.invariant-append_fields-loop-name
 invariant-append_fields-loop-name g l = record {
-  whole : take l.at l.out.items ++ (to_come l.later 44 (fields_text (fields_of (g.N.Reading.left l.rest))) ++ 125 ∷ []) ≡ take l.end l.fn.out.items ++ text (doc (fields_of (g.N.Reading.left l.fn.fields)));
+  whole : take l.at l.out.items ++ (to_come l.later 44 (fields_text (fields_of (g.N.Reading.left l.rest))) ++ 125 ∷ []) ≡ take l.end l.fn.out.items
+      ++ text (doc (fields_of (g.N.Reading.left l.fn.fields)));
   kept : take l.end l.out.items ≡ take l.end l.fn.out.items;
   inside : l.at ≤ length l.out.items;
   after : l.end ≤ l.at;
@@ -33,7 +34,8 @@ decreases-append_fields-loop-name g l = length (g.N.Reading.left l.rest)
 
 abbrev pub invariant-append_items-loop-node : goal.invariant-append_items-loop-node
 invariant-append_items-loop-node g l = record {
-  whole : take l.at l.out.items ++ (to_come l.later 44 (items_text (items_of (values_of (g.N.Reading.left l.rest)))) ++ 93 ∷ []) ≡ take l.end l.fn.out.items ++ text (array (items_of (values_of (g.N.Reading.left l.fn.items))));
+  whole : take l.at l.out.items ++ (to_come l.later 44 (items_text (items_of (values_of (g.N.Reading.left l.rest)))) ++ 93 ∷ [])
+      ≡ take l.end l.fn.out.items ++ text (array (items_of (values_of (g.N.Reading.left l.fn.items))));
   kept : take l.end l.out.items ≡ take l.end l.fn.out.items;
   inside : l.at ≤ length l.out.items;
   after : l.end ≤ l.at;

@@ -26,7 +26,8 @@ decreases-append_items g l = 4 * fields_size (fields_of (g.N.Reading.left l.item
 abbrev pub invariant-append_fields-loop-next : goal.invariant-append_fields-loop-next
 invariant-append_fields-loop-next g l = record {
   whole : l.out.items ++ fields_bytes (fields_of (g.N.Reading.left l.rest)) ≡ (l.fn.out.items ++ number 0) ++ fields_bytes (fields_of (g.N.Reading.left l.fn.fields));
-  spelled : AreFields (fields_of (g.N.Reading.left l.rest)) (fields_bytes (fields_of (g.N.Reading.left l.rest))) → AreFields (fields_of (g.N.Reading.left l.fn.fields)) (fields_bytes (fields_of (g.N.Reading.left l.fn.fields)));
+  spelled : AreFields (fields_of (g.N.Reading.left l.rest)) (fields_bytes (fields_of (g.N.Reading.left l.rest)))
+      → AreFields (fields_of (g.N.Reading.left l.fn.fields)) (fields_bytes (fields_of (g.N.Reading.left l.fn.fields)));
   front : StartsWith l.out.items l.fn.out.items;
   zero : zero_in_fields (fields_of (g.N.Reading.left l.rest)) ≡ false;
   fewer : fields_size (fields_of (g.N.Reading.left l.rest)) ≤ fields_size (fields_of (g.N.Reading.left l.fn.fields));
@@ -38,7 +39,8 @@ decreases-append_fields-loop-next g l = length (g.N.Reading.left l.rest)
 abbrev pub invariant-append_items-loop-next : goal.invariant-append_items-loop-next
 invariant-append_items-loop-next g l = record {
   whole : l.out.items ++ items_bytes l.place (items_of (values_of (g.N.Reading.left l.rest))) ≡ (l.fn.out.items ++ number 0) ++ items_bytes 0 (items_of (values_of (g.N.Reading.left l.fn.items)));
-  spelled : AreItems (items_of (values_of (g.N.Reading.left l.rest))) (items_bytes l.place (items_of (values_of (g.N.Reading.left l.rest)))) → AreItems (items_of (values_of (g.N.Reading.left l.fn.items))) (items_bytes 0 (items_of (values_of (g.N.Reading.left l.fn.items))));
+  spelled : AreItems (items_of (values_of (g.N.Reading.left l.rest))) (items_bytes l.place (items_of (values_of (g.N.Reading.left l.rest))))
+      → AreItems (items_of (values_of (g.N.Reading.left l.fn.items))) (items_bytes 0 (items_of (values_of (g.N.Reading.left l.fn.items))));
   front : StartsWith l.out.items l.fn.out.items;
   zero : zero_in_items (items_of (values_of (g.N.Reading.left l.rest))) ≡ false;
   fewer : fields_size (fields_of (g.N.Reading.left l.rest)) ≤ fields_size (fields_of (g.N.Reading.left l.fn.items));

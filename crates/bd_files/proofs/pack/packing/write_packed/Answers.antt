@@ -30,7 +30,8 @@ returns-in_err-write_all-clause-stops g c =
     let d = c.pack_line.ensures.packed none in
     let bytes : c.deref.result.now ≡ plain d.0 = c.deref.ensures.value ∙ rw c.clear.ensures.items at d.2 in
     let broke : BreaksWithin (over g.O.Output.state l.out c.write_all.new.writer) (plain d.0) = rw bytes at c.in_err-write_all.ensures.broken in
-    rw (p.1, p.2) (packs.breaks c.args.text.now (g.O.Output.state c.args.out.now) (g.O.Output.state l.out) c.in-Some.rest.now c.cut_line.result.0.now (bytes_after c.cut_line.result.1) l.number l.count s
+    rw (p.1, p.2) (packs.breaks c.args.text.now (g.O.Output.state c.args.out.now) (g.O.Output.state l.out) c.in-Some.rest.now c.cut_line.result.0.now
+        (bytes_after c.cut_line.result.1) l.number l.count s
     c.cut_line.ensures.line c.cut_line.ensures.shorter (g.O.Output.state c.write_all.new.writer) d.0 (sym c.is_empty_line.ensures ∙ c.if-is_empty_line.false) d.1 broke)
 
 pub loop-left-preserved : goal.loop-left-preserved
@@ -42,7 +43,8 @@ loop-left-preserved g c =
     let bytes : c.deref.result.now ≡ plain d.0 = c.deref.ensures.value ∙ rw c.clear.ensures.items at d.2 in
     let wrote : TakesText (over g.O.Output.state l.out c.write_all.new.writer) (plain d.0) = rw bytes at c.in_ok-write_all.ensures.written in
     packs.packed c.args.text.now (g.O.Output.state c.args.out.now) (g.O.Output.state l.out) c.in-Some.rest.now c.cut_line.result.0.now (bytes_after c.cut_line.result.1) l.number l.count s
-    c.cut_line.ensures.line c.cut_line.ensures.shorter (g.O.Output.state c.write_all.new.writer) (l.number + 1) (l.count + 1) d.0 (omega arith) (omega arith) (sym c.is_empty_line.ensures ∙ c.if-is_empty_line.false) d.1 wrote
+    c.cut_line.ensures.line c.cut_line.ensures.shorter (g.O.Output.state c.write_all.new.writer) (l.number + 1) (l.count + 1) d.0 (omega arith)
+        (omega arith) (sym c.is_empty_line.ensures ∙ c.if-is_empty_line.false) d.1 wrote
 
 pub returns-clause-packs : goal.returns-clause-packs
 returns-clause-packs g c =

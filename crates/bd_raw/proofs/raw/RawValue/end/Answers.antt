@@ -14,4 +14,5 @@ pub size-requires : goal.size-requires
 size-requires c = rw c.split_at.ensures.back (reads_at c.args.self.kind (drop c.args.self.start c.args.self.bytes.now) c.args.self.sound)
 
 pub returns : goal.returns
-returns c = ap (λ (n : ℕ). c.args.self.start + n) (c.size.ensures ∙ ap (size_of c.args.self.kind) c.split_at.ensures.back ∙ size_at c.args.self.kind (drop c.args.self.start c.args.self.bytes.now) c.args.self.sound)
+returns c = ap (λ (n : ℕ). c.args.self.start + n) (c.size.ensures ∙ ap (size_of c.args.self.kind) c.split_at.ensures.back
+    ∙ size_at c.args.self.kind (drop c.args.self.start c.args.self.bytes.now) c.args.self.sound)

@@ -1,6 +1,7 @@
 use Rattle.std.proofs.Common.{rules, ◌⊎◌, ◌≡◌, ◌<◌, ◌≤◌, length, take, length-take-le, inl, inr, refl}
 use Rattle.std.proofs.lemmas.List.{take_all}
 use Rattle.std.specs.Io.KnownBytes.{Consumes}
+use Rattle.bd_value.specs.Limits.{longest_document}
 use Rattle.bd_check.specs.Dump.{length_told}
 use Rattle.bd_stream.proofs.FrameLemmas.{frame_out, frame_short, has_short_length, has_bad_length}
 use Rattle.bd_stream.proofs.doc_buffer.DocBuffer.read_length.Goals as goal
@@ -36,7 +37,7 @@ returns-then-length-lt5-clause-fails g c =
     let size : length c.fill.new.room ≡ 4 = search rules in
     let all : take c.in_ok-filled.filled.bytes c.fill.new.room ≡ c.fill.new.room = take_all c.in_ok-filled.filled.bytes c.fill.new.room (search rules) in
     let gave : Consumes (g.R.Input.state c.args.reader.now).left (g.R.Input.state c.fill.new.reader).left c.fill.new.room = rw all at e.bytes in
-    let out : (length_told c.fill.new.room < 5) ⊎ (16793600 < length_told c.fill.new.room) = elim c.then-length-lt5.branch [
+    let out : (length_told c.fill.new.room < 5) ⊎ (longest_document < length_told c.fill.new.room) = elim c.then-length-lt5.branch [
       | then-length-lt5-via-then-length-lt5 w ↦ inl (search rules)
       | then-length-lt5-via-else-length-lt5+then-length-gt16793600 w ↦ inr (search rules)
     ] in

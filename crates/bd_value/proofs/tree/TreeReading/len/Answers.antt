@@ -8,7 +8,8 @@ pub returns-in-Doc : goal.returns-in-Doc
 returns-in-Doc c = c.len.ensures ∙ sym (m.doc_length (held c.args.self) (pairs c.in-Doc.document.now) (ap held c.in-Doc.is))
 
 pub returns-in-Doc-value : goal.returns-in-Doc-value
-returns-in-Doc-value c = c.len-in-Doc-value.ensures ∙ sym (m.doc_length (held c.args.self) (pairs c.in-Doc-value.document) (m.is_doc c.args.self c.in-Value.value c.in-Doc-value.document c.in-Value.is c.in-Doc-value.is))
+returns-in-Doc-value c = c.len-in-Doc-value.ensures ∙ sym (m.doc_length (held c.args.self) (pairs c.in-Doc-value.document)
+    (m.is_doc c.args.self c.in-Value.value c.in-Doc-value.document c.in-Value.is c.in-Doc-value.is))
 
 pub returns-in-Array : goal.returns-in-Array
 returns-in-Array c =
