@@ -1,5 +1,7 @@
 -- Entries as an index keeps them.
-use Rattle.std.proofs.Common.{◌≡◌, ◌+◌, ◌<◌, ℕ, zero, suc, Bool, true, false, cond, List, [], ◌∷◌, ◌++◌, Option, Some, None, length, get_or, map, drop, refl, sym, ap, ◌∙◌, subst, arith, add-one, append_assoc, drop-cons}
+use Rattle.std.proofs.Common.{◌≡◌, ◌+◌, ◌<◌, ℕ, zero, suc, Bool, true, false, cond, List, [], ◌∷◌, ◌++◌, Option, Some, None, length, get_or, map, take, drop, refl, sym, ap, ◌∙◌, subst, arith, add-one, append_assoc, append-nil, drop-cons}
+use Rattle.std.proofs.lemmas.List.Elements.{All-push}
+use Rattle.std.proofs.lemmas.List.{map-append, map_more}
 use Rattle.std.specs.List.{AllZip}
 use Rattle.bd_raw.specs.Sound.{stands}
 use Rattle.bd_raw.specs.At.{StandsAt}
@@ -36,54 +38,53 @@ as_many_kept bytes kept es all = zip_length (KeepsEntry bytes) kept es all
 pub key_there : (bytes : List ℕ) (kept : List Entry) (es : List KeyAt) (i : ℕ) (k : Entry) (d : KeyAt) → KeepsEntries bytes kept es → i < length kept → k ≡ get_or kept i k → StandsAt bytes k.key (get_or es i d).0
 key_there bytes kept es i k d all lt is = subst (λ (x : Entry). StandsAt bytes x.key (get_or es i d).0) (sym is) (zip_at (KeepsEntry bytes) kept es i k d all lt).0
 
--- ---- the loop that drops repeats: what is kept, and what is to come
+-- the entries of some keys, and one more
+pub one_entry : (bytes : List ℕ) (kept new : List Entry) (xs : List FoundKey) (i : ℕ) (x : FoundKey) (at : At) → i < length xs → x ≡ get_or xs i x → AreFoundIn bytes xs → StandsAt x.key.bytes.now at (stands x.key.sound)
+    → new ≡ kept ++ record { key = at; place = x.place } ∷ [] → KeepsEntries bytes kept (map found_entry (take i xs)) → KeepsEntries bytes new (map found_entry (take (i + 1) xs))
+one_entry bytes kept new xs i x at lt is all there pushed so =
+    let here : x.key.bytes.now ≡ bytes = subst (λ (f : FoundKey). IsFoundIn bytes f) (sym is) (all i x lt) in
+    let stands_there : StandsAt bytes at (stands x.key.sound) = subst (λ (b : List ℕ). StandsAt b at (stands x.key.sound)) here there in
+    let more : map found_entry (take (i + 1) xs) ≡ map found_entry (take i xs) ++ found_entry x ∷ [] = map_more found_entry xs i x lt ∙ ap (λ (f : FoundKey). map found_entry (take i xs) ++ found_entry f ∷ []) (sym is) in
+    subst (KeepsEntries bytes new) (sym more) (subst (λ (l : List Entry). KeepsEntries bytes l (map found_entry (take i xs) ++ found_entry x ∷ [])) (sym pushed)
+    (zip_push (KeepsEntry bytes) kept (map found_entry (take i xs)) (record { key = at; place = x.place }) (found_entry x) so (stands_there, refl)))
 
-pub record KeepsSoFar (bytes : List ℕ) (kept : List Entry) (last : Option FoundKey) (left all : List FoundKey) : Type 0 where
-  pub before : List KeyAt
-  pub stand : KeepsEntries bytes kept before
-  pub rest : before ++ without_repeats (last_entry last) (map found_entry left) ≡ without_repeats None (map found_entry all)
+-- ---- the loop that drops repeats: what was appended, and what is to come
+
+pub record OnceSoFar (found : List FoundKey) (last : Option FoundKey) (left own before : List FoundKey) : Type 0 where
+  pub once : map found_entry found ++ without_repeats (last_entry last) (map found_entry left) ≡ map found_entry before ++ without_repeats None (map found_entry own)
+  pub kept : (bytes : List ℕ) → AreFoundIn bytes own → AreFoundIn bytes before → AreFoundIn bytes found
 
 next_left : (xs : List FoundKey) (i : ℕ) (x : FoundKey) → i < length xs → x ≡ get_or xs i x → map found_entry (drop i xs) ≡ found_entry x ∷ map found_entry (drop (i + 1) xs)
 next_left xs i x lt is =
     ap (map found_entry) (drop-cons xs i x lt) ∙ ap (λ (f : FoundKey). found_entry f ∷ map found_entry (drop (suc i) xs)) (sym is)
     ∙ ap (λ (n : ℕ). found_entry x ∷ map found_entry (drop n xs)) (sym (add-one i))
 
-pub repeat_passed : (bytes : List ℕ) (kept : List Entry) (last : Option FoundKey) (xs : List FoundKey) (i : ℕ) (x : FoundKey) → i < length xs → x ≡ get_or xs i x → is_repeat (last_entry last) (found_entry x) ≡ true
-    → KeepsSoFar bytes kept last (drop i xs) xs → KeepsSoFar bytes kept last (drop (i + 1) xs) xs
-repeat_passed bytes kept last xs i x lt is again so = record {
-  before = so.before;
-  stand = so.stand;
-  rest =
-      ap (λ (b : Bool). so.before ++ cond b (without_repeats (last_entry last) (map found_entry (drop (i + 1) xs))) (found_entry x ∷ without_repeats (Some (found_entry x)) (map found_entry (drop (i + 1) xs)))) (sym again)
-      ∙ ap (λ (l : List KeyAt). so.before ++ without_repeats (last_entry last) l) (sym (next_left xs i x lt is)) ∙ so.rest;
-}
+module _ (found before : List FoundKey) (last : Option FoundKey) (xs : List FoundKey) (i : ℕ) (x : FoundKey) (lt : i < length xs) (is : x ≡ get_or xs i x) (so : OnceSoFar found last (drop i xs) xs before) where
+  abbrev tail : Option KeyAt → List KeyAt
+  tail l = without_repeats l (map found_entry (drop (i + 1) xs))
 
-pub one_kept : (bytes : List ℕ) (kept new : List Entry) (last : Option FoundKey) (xs : List FoundKey) (i : ℕ) (x : FoundKey) (at : At) → i < length xs → x ≡ get_or xs i x → is_repeat (last_entry last) (found_entry x) ≡ false
-    → AreFoundIn bytes xs → StandsAt x.key.bytes.now at (stands x.key.sound) → new ≡ kept ++ record { key = at; place = x.place } ∷ []
-    → KeepsSoFar bytes kept last (drop i xs) xs → KeepsSoFar bytes new (Some x) (drop (i + 1) xs) xs
-one_kept bytes kept new last xs i x at lt is fresh all there pushed so =
-    let here : x.key.bytes.now ≡ bytes = subst (λ (f : FoundKey). IsFoundIn bytes f) (sym is) (all i x lt) in
-    let stands_there : StandsAt bytes at (stands x.key.sound) = subst (λ (b : List ℕ). StandsAt b at (stands x.key.sound)) here there in
-    let tail = without_repeats (Some (found_entry x)) (map found_entry (drop (i + 1) xs)) in
-    record {
-      before = so.before ++ found_entry x ∷ [];
-      stand = subst (λ (l : List Entry). KeepsEntries bytes l (so.before ++ found_entry x ∷ [])) (sym pushed)
-          (zip_push (KeepsEntry bytes) kept so.before (record { key = at; place = x.place }) (found_entry x) so.stand (stands_there, refl));
-      rest =
-          append_assoc so.before (found_entry x ∷ []) tail
-          ∙ ap (λ (b : Bool). so.before ++ cond b (without_repeats (last_entry last) (map found_entry (drop (i + 1) xs))) (found_entry x ∷ tail)) (sym fresh)
-          ∙ ap (λ (l : List KeyAt). so.before ++ without_repeats (last_entry last) l) (sym (next_left xs i x lt is)) ∙ so.rest;
-    }
+  whole : map found_entry found ++ cond (is_repeat (last_entry last) (found_entry x)) (tail (last_entry last)) (found_entry x ∷ tail (Some (found_entry x))) ≡ map found_entry before ++ without_repeats None (map found_entry xs)
+  whole = ap (λ (l : List KeyAt). map found_entry found ++ without_repeats (last_entry last) l) (sym (next_left xs i x lt is)) ∙ so.once
 
-pub all_kept : (bytes : List ℕ) (kept : List Entry) (last : Option FoundKey) (left xs : List FoundKey) → left ≡ [] → KeepsSoFar bytes kept last left xs → KeepsEntries bytes kept (without_repeats None (map found_entry xs))
-all_kept bytes kept last left xs none so =
-    subst (KeepsEntries bytes kept) (sym (append_nothing so.before) ∙ ap (λ (l : List FoundKey). so.before ++ without_repeats (last_entry last) (map found_entry l)) (sym none) ∙ so.rest) so.stand
-  where
-    append_nothing : (l : List KeyAt) → l ++ [] ≡ l
-    append_nothing [] = refl
-    append_nothing (k ∷ ks) = ap (λ (m : List KeyAt). k ∷ m) (append_nothing ks)
+  abbrev choice : Bool → List KeyAt
+  choice b = map found_entry found ++ cond b (tail (last_entry last)) (found_entry x ∷ tail (Some (found_entry x)))
+
+  pub repeat_passed : is_repeat (last_entry last) (found_entry x) ≡ true → OnceSoFar found last (drop (i + 1) xs) xs before
+  repeat_passed again = record { once = ap choice (sym again) ∙ whole; kept = so.kept }
+
+  pub one_kept : (new : List FoundKey) → is_repeat (last_entry last) (found_entry x) ≡ false → new ≡ found ++ x ∷ [] → OnceSoFar new (Some x) (drop (i + 1) xs) xs before
+  one_kept new fresh pushed = record {
+    once =
+        ap (λ (l : List FoundKey). map found_entry l ++ tail (Some (found_entry x))) pushed ∙ ap (λ (l : List KeyAt). l ++ tail (Some (found_entry x))) (map-append found_entry found (x ∷ []))
+        ∙ append_assoc (map found_entry found) (found_entry x ∷ []) (tail (Some (found_entry x))) ∙ ap choice (sym fresh) ∙ whole;
+    kept = λ bytes own old. subst (AreFoundIn bytes) (sym pushed) (All-push (IsFoundIn bytes) found x (so.kept bytes own old) (subst (IsFoundIn bytes) (sym is) (own i x lt)));
+  }
+
+pub all_once : (found before : List FoundKey) (last : Option FoundKey) (left xs : List FoundKey) → left ≡ [] → OnceSoFar found last left xs before → map found_entry found ≡ map found_entry before ++ without_repeats None (map found_entry xs)
+all_once found before last left xs none so =
+    sym (append-nil (map found_entry found)) ∙ ap (λ (l : List FoundKey). map found_entry found ++ without_repeats (last_entry last) (map found_entry l)) (sym none) ∙ so.once
 
 -- after the two ways of the loop's body
-pub joined_so_far : (bytes : List ℕ) (left xs : List FoundKey) (kept new : List Entry) (last next : Option FoundKey) → kept ≡ new → last ≡ next → KeepsSoFar bytes new next left xs → KeepsSoFar bytes kept last left xs
-joined_so_far bytes left xs kept new last next e f so =
-    subst (λ (l : Option FoundKey). KeepsSoFar bytes kept l left xs) (sym f) (subst (λ (k : List Entry). KeepsSoFar bytes k next left xs) (sym e) so)
+pub joined_so_far : (left xs before found new : List FoundKey) (last next : Option FoundKey) → found ≡ new → last ≡ next → OnceSoFar new next left xs before → OnceSoFar found last left xs before
+joined_so_far left xs before found new last next e f so =
+    subst (λ (l : Option FoundKey). OnceSoFar found l left xs before) (sym f) (subst (λ (k : List FoundKey). OnceSoFar k next left xs before) (sym e) so)

@@ -1,8 +1,11 @@
 -- Keys that were found and sorted.
-use Rattle.std.proofs.Common.{◌≡◌, Bool, true, false, cond, List, [], ◌∷◌, ◌⊎◌, inl, inr, map, filter, refl, sym, ap, ◌∙◌, subst}
-use Rattle.std.specs.List.Sorted.{IsStableBy, ties}
+use Rattle.std.proofs.Common.{◌≡◌, ◌+◌, ℕ, Bool, true, false, cond, List, [], ◌∷◌, ◌⊎◌, inl, inr, map, filter, refl, sym, ap, ◌∙◌, subst}
+use Rattle.std.specs.List.{count_by}
+use Rattle.std.specs.List.Sorted.{IsPermutation, IsStableBy, ties}
 use Rattle.std.specs.Ordering.{is_lt}
 use Rattle.std.proofs.lemmas.List.Elements.{filter_agree}
+use Rattle.std.proofs.lemmas.List.Sorted.{sum_by-IsPermutation}
+use Rattle.std.proofs.lemmas.List.Sums.{sum_by-cons}
 use Rattle.bd_path.proofs.MemberLemmas.{In}
 use Rattle.bd_index.specs.Entries.{KeyAt, entry_cmp, is_same_entry}
 use Rattle.bd_index.specs.FoundKeyView.{found_entry}
@@ -43,3 +46,14 @@ as_they_came xs ys raw is stable e h =
     found : In e (map found_entry ys) ⊎ In e raw → (f : FoundKey) × (found_entry f ≡ e)
     found (inl i) = in_view e ys i
     found (inr i) = in_view e xs (subst (λ (l : List KeyAt). In e l) (sym is) i)
+
+count_view : (test : KeyAt → Bool) (fs : List FoundKey) → count_by test (map found_entry fs) ≡ count_by (λ f. test (found_entry f)) fs
+count_view test [] = refl
+count_view test (f ∷ fs) =
+    sum_by-cons (λ (e : KeyAt). cond (test e) 1 0) (found_entry f) (map found_entry fs)
+    ∙ ap (λ (n : ℕ). cond (test (found_entry f)) 1 0 + n) (count_view test fs)
+    ∙ sym (sum_by-cons (λ (g : FoundKey). cond (test (found_entry g)) 1 0) f fs)
+
+-- a sort keeps how many pass
+pub as_many_found : (test : KeyAt → Bool) (xs ys : List FoundKey) → IsPermutation xs ys → count_by test (map found_entry ys) ≡ count_by test (map found_entry xs)
+as_many_found test xs ys h = count_view test ys ∙ sum_by-IsPermutation (λ (f : FoundKey). cond (test (found_entry f)) 1 0) xs ys h ∙ sym (count_view test xs)

@@ -1,6 +1,6 @@
 -- Entries that were sorted, without repeats, are the entries of the documents.
-use Rattle.std.proofs.Common.{◌≡◌, ◌+◌, ◌<◌, ◌≤◌, ℕ, zero, suc, Bool, true, false, cond, List, [], ◌∷◌, ◌++◌, Option, Some, None, ◌⊎◌, inl, inr, filter, length, get_or, drop, refl, sym, ap, ap₂, ◌∙◌, subst, arith, add-one, append_assoc, append-nil, eq-eqb}
-use Rattle.std.specs.Prelude.{◌==◌, ◌&&◌, ◌||◌, slice_get}
+use Rattle.std.proofs.Common.{◌≡◌, ◌+◌, ◌<◌, ◌≤◌, ℕ, suc, Bool, true, false, cond, List, [], ◌∷◌, ◌++◌, Option, Some, None, ◌⊎◌, inl, inr, filter, length, get_or, drop, refl, sym, ap, ap₂, ◌∙◌, subst, arith, eq-eqb}
+use Rattle.std.specs.Prelude.{◌&&◌, ◌||◌, slice_get}
 use Rattle.std.specs.List.{AllByRecursion, count_by, list_any}
 use Rattle.std.specs.List.Sorted.{IsSortedBy}
 use Rattle.std.specs.Ordering.{is_lt}
@@ -9,7 +9,7 @@ use Rattle.std.proofs.lemmas.List.Sorted.{ranks_by, sorted_far}
 use Rattle.std.proofs.lemmas.List.Sums.{sum_by-cons, sum_by-append}
 use Rattle.bd_value.specs.Order.{equal}
 use Rattle.bd_value.specs.Tree.{Tree, Doc, doc, fields_of}
-use Rattle.bd_path.specs.KeyList.{all_keys, distinct, indexed_keys, with_keys}
+use Rattle.bd_path.specs.KeyList.{distinct, indexed_keys, with_keys}
 use Rattle.bd_path.specs.Names.{Names}
 use Rattle.bd_path.proofs.MemberLemmas.{In, in_left, in_right, in_cases}
 use Rattle.bd_index.specs.Entries.{KeyAt, entries_from, entry_cmp, is_same_entry, keys_at}
@@ -316,74 +316,24 @@ as_many test (x ∷ xs) ys a b to from =
 
 -- ---- each entry once is the entries of the documents
 
-once_append : (kept xs ys : List KeyAt) → each_once kept (xs ++ ys) ≡ each_once (each_once kept xs) ys
-once_append kept [] ys = refl
-once_append kept (x ∷ xs) ys = once_append (cond (has_same kept x) kept (kept ++ x ∷ [])) xs ys
-
-elsewhere : (kept : List KeyAt) (place : ℕ) (k : Tree) → AllByRecursion (λ y. y.1 < place) kept → has_same kept (k, place) ≡ false
-elsewhere [] place k h = refl
-elsewhere (x ∷ xs) place k h = rw (other (x.1 == place) refl) (elsewhere xs place k h.1)
-  where
-    other : (b : Bool) → (x.1 == place) ≡ b → (b && equal x.0 k) ≡ false
-    other true e = let lt = h.0 in absurd (let f : ⊥ = grind arith in f)
-    other false e = refl
-
 same_keys : (place : ℕ) (ks : List Tree) (k : Tree) → has_same (keys_at place ks) (k, place) ≡ list_any (λ x. equal x k) ks
 same_keys place [] k = refl
 same_keys place (x ∷ xs) k = ap₂ (λ (a b : Bool). (a && equal x k) || b) (eq-eqb place place refl) (same_keys place xs k)
-
-same_append : (xs ys : List KeyAt) (e : KeyAt) → has_same (xs ++ ys) e ≡ (has_same xs e || has_same ys e)
-same_append [] ys e = refl
-same_append (x ∷ xs) ys e = ap (λ (b : Bool). is_same_entry x e || b) (same_append xs ys e) ∙ go (is_same_entry x e) (has_same xs e) (has_same ys e)
-  where
-    go : (a b c : Bool) → (a || (b || c)) ≡ ((a || b) || c)
-    go true b c = refl
-    go false b c = refl
 
 keys_append : (place : ℕ) (ks ls : List Tree) → keys_at place (ks ++ ls) ≡ keys_at place ks ++ keys_at place ls
 keys_append place [] ls = refl
 keys_append place (k ∷ ks) ls = ap (λ (l : List KeyAt). (k, place) ∷ l) (keys_append place ks ls)
 
-once_keys : (kept : List KeyAt) (place : ℕ) (ks ls : List Tree) → AllByRecursion (λ y. y.1 < place) kept → each_once (kept ++ keys_at place ks) (keys_at place ls) ≡ kept ++ keys_at place (with_keys ks ls)
-once_keys kept place ks [] low = refl
-once_keys kept place ks (l ∷ ls) low =
-    ap (λ (b : Bool). each_once (cond b (kept ++ keys_at place ks) ((kept ++ keys_at place ks) ++ (l, place) ∷ [])) (keys_at place ls))
-    (same_append kept (keys_at place ks) (l, place) ∙ ap₂ (λ (a b : Bool). a || b) (elsewhere kept place l low) (same_keys place ks l))
-    ∙ go (list_any (λ x. equal x l) ks) (once_keys kept place ks ls low) (once_keys kept place (ks ++ l ∷ []) ls low)
+once_keys : (place : ℕ) (ks ls : List Tree) → each_once (keys_at place ks) (keys_at place ls) ≡ keys_at place (with_keys ks ls)
+once_keys place ks [] = refl
+once_keys place ks (l ∷ ls) =
+    ap (λ (b : Bool). each_once (cond b (keys_at place ks) (keys_at place ks ++ (l, place) ∷ [])) (keys_at place ls)) (same_keys place ks l)
+    ∙ go (list_any (λ x. equal x l) ks) (once_keys place ks ls) (once_keys place (ks ++ l ∷ []) ls)
   where
-    go : (b : Bool) → each_once (kept ++ keys_at place ks) (keys_at place ls) ≡ kept ++ keys_at place (with_keys ks ls) → each_once (kept ++ keys_at place (ks ++ l ∷ [])) (keys_at place ls) ≡ kept ++ keys_at place (with_keys (ks ++ l ∷ []) ls)
-        → each_once (cond b (kept ++ keys_at place ks) ((kept ++ keys_at place ks) ++ (l, place) ∷ [])) (keys_at place ls) ≡ kept ++ keys_at place (with_keys (cond b ks (ks ++ l ∷ [])) ls)
+    go : (b : Bool) → each_once (keys_at place ks) (keys_at place ls) ≡ keys_at place (with_keys ks ls) → each_once (keys_at place (ks ++ l ∷ [])) (keys_at place ls) ≡ keys_at place (with_keys (ks ++ l ∷ []) ls)
+        → each_once (cond b (keys_at place ks) (keys_at place ks ++ (l, place) ∷ [])) (keys_at place ls) ≡ keys_at place (with_keys (cond b ks (ks ++ l ∷ [])) ls)
     go true on after = on
-    go false on after =
-        ap (λ (k : List KeyAt). each_once k (keys_at place ls)) (append_assoc kept (keys_at place ks) ((l, place) ∷ []) ∙ ap (λ (k : List KeyAt). kept ++ k) (sym (keys_append place ks (l ∷ []))))
-        ∙ after
-
-low_next : (place : ℕ) (kept : List KeyAt) (ks : List Tree) → AllByRecursion (λ y. y.1 < place) kept → AllByRecursion (λ y. y.1 < place + 1) (kept ++ keys_at place ks)
-low_next place [] [] h = tt
-low_next place [] (k ∷ ks) h = (omega arith, low_next place [] ks tt)
-low_next place (x ∷ xs) ks h = (let lt = h.0 in omega arith, low_next place xs ks h.1)
-
--- a loop's step: the keys of one document more, those that equal an earlier one counting for nothing
-module _ (sparse : Bool) (path : Names) (n : ℕ) (ds : List Doc) (d : Doc) (t : Tree) (old new : List KeyAt) (ks : List Tree)
-    (is : slice_get ds n ≡ Some d) (tree : t ≡ doc (fields_of d)) (listed : distinct ks ≡ indexed_keys sparse t path) (added : new ≡ old ++ keys_at n ks)
-    (low : AllByRecursion (λ y. y.1 < n) (each_once [] old)) where
-  now : each_once [] new ≡ each_once [] old ++ keys_at n (indexed_keys sparse (doc (fields_of d)) path)
-  now =
-      ap (each_once []) added ∙ once_append [] old (keys_at n ks)
-      ∙ ap (λ (k : List KeyAt). each_once k (keys_at n ks)) (sym (append-nil (each_once [] old)))
-      ∙ once_keys (each_once [] old) n [] ks low
-      ∙ ap (λ (x : List Tree). each_once [] old ++ keys_at n x) (listed ∙ ap (λ (x : Tree). indexed_keys sparse x path) tree)
-
-  pub one_more : (all : List KeyAt) → each_once [] old ++ entries_from sparse path n (drop n ds) ≡ all → each_once [] new ++ entries_from sparse path (n + 1) (drop (n + 1) ds) ≡ all
-  one_more all so_far =
-      let rest = entries_from sparse path (n + 1) (drop (n + 1) ds) in
-      ap (λ (x : List KeyAt). x ++ rest) now
-      ∙ append_assoc (each_once [] old) (keys_at n (indexed_keys sparse (doc (fields_of d)) path)) rest
-      ∙ ap (λ (l : List Doc). each_once [] old ++ entries_from sparse path n l) (sym (next_at ds n d is))
-      ∙ so_far
-
-  pub low_more : AllByRecursion (λ y. y.1 < n + 1) (each_once [] new)
-  low_more = subst (λ (x : List KeyAt). AllByRecursion (λ y. y.1 < n + 1) x) (sym now) (low_next n (each_once [] old) (indexed_keys sparse (doc (fields_of d)) path) low)
+    go false on after = ap (λ (k : List KeyAt). each_once k (keys_at place ls)) (sym (keys_append place ks (l ∷ []))) ∙ after
 
 first_in : (e y : KeyAt) (xs : List KeyAt) → first_same e xs ≡ Some y → In y xs
 first_in e y [] h = absurd (let f : ⊥ = cc in f)
@@ -408,32 +358,33 @@ once_sorted raw ys up stable test =
     back e (inl n) = absurd n
     back e (inr f) = record { new = refl; is = first_as_filter e raw ys (stable e (inr (first_in e e raw f.is))) ∙ f.is }
 
--- ---- in their order
+-- the keys of a document, sorted and without repeats
+pub own_once : (place : ℕ) (ks : List Tree) (raw ys : List KeyAt) → raw ≡ keys_at place ks → Ascend ys → AsTheyCame raw ys → (test : KeyAt → Bool) → count_by test (without_repeats None ys) ≡ count_by test (keys_at place (distinct ks))
+own_once place ks raw ys is up stable test =
+    once_sorted raw ys up stable test ∙ ap (λ (l : List KeyAt). count_by test (each_once [] l)) is ∙ ap (count_by test) (once_keys place [] ks)
 
-all_repeats : (P : KeyAt → Type 0) (last : Option KeyAt) (xs : List KeyAt) → AllByRecursion P xs → AllByRecursion P (without_repeats last xs)
-all_repeats P last [] h = tt
-all_repeats P last (x ∷ xs) h = go (is_repeat last x) (all_repeats P last xs h.1) (all_repeats P (Some x) xs h.1)
-  where
-    go : (b : Bool) → AllByRecursion P (without_repeats last xs) → AllByRecursion P (without_repeats (Some x) xs) → AllByRecursion P (cond b (without_repeats last xs) (x ∷ without_repeats (Some x) xs))
-    go true on after = on
-    go false on after = (h.0, after)
+pub count-append : (test : KeyAt → Bool) (xs ys : List KeyAt) → count_by test (xs ++ ys) ≡ count_by test xs + count_by test ys
+count-append test xs ys = sum_by-append (λ (e : KeyAt). cond (test e) 1 0) xs ys
 
-pub repeats_ascend : (last : Option KeyAt) (xs : List KeyAt) → Ascend xs → Ascend (without_repeats last xs)
-repeats_ascend last [] h = tt
-repeats_ascend last (x ∷ xs) h = go (is_repeat last x) (repeats_ascend last xs h.1) (repeats_ascend (Some x) xs h.1)
-  where
-    go : (b : Bool) → Ascend (without_repeats last xs) → Ascend (without_repeats (Some x) xs) → Ascend (cond b (without_repeats last xs) (x ∷ without_repeats (Some x) xs))
-    go true on after = on
-    go false on after = (all_repeats (λ y. is_lt (entry_cmp y x) ≡ false) (Some x) xs h.0, after)
+pub counted_own : (test : KeyAt → Bool) (old new own ks : List KeyAt) → new ≡ old ++ own → count_by test own ≡ count_by test ks → count_by test new ≡ count_by test (old ++ ks)
+counted_own test old new own ks is h =
+    ap (count_by test) is ∙ count-append test old own ∙ ap (λ (n : ℕ). count_by test old + n) h ∙ sym (count-append test old ks)
 
-next_sorted : (xs : List KeyAt) → Ascend xs → (k : ℕ) (d : KeyAt) → suc k < length xs → is_lt (entry_cmp (get_or xs (suc k) d) (get_or xs k d)) ≡ false
-next_sorted [] h k d lt = absurd (omega arith)
-next_sorted (x ∷ []) h k d lt = absurd (omega arith)
-next_sorted (x ∷ y ∷ ys) h zero d lt = h.0.0
-next_sorted (x ∷ y ∷ ys) h (suc k) d lt = next_sorted (y ∷ ys) h.1 k d (omega arith)
+-- the entries of one document more
+pub one_more : (sparse : Bool) (path : Names) (n : ℕ) (ds : List Doc) (d : Doc) (t : Tree) (ks : List Tree) → slice_get ds n ≡ Some d → t ≡ doc (fields_of d) → distinct ks ≡ indexed_keys sparse t path
+    → entries_from sparse path n (drop n ds) ≡ keys_at n (distinct ks) ++ entries_from sparse path (n + 1) (drop (n + 1) ds)
+one_more sparse path n ds d t ks is tree listed =
+    ap (entries_from sparse path n) (next_at ds n d is)
+    ∙ ap (λ (x : List Tree). keys_at n x ++ entries_from sparse path (n + 1) (drop (n + 1) ds)) (sym (listed ∙ ap (λ (x : Tree). indexed_keys sparse x path) tree))
 
-pub sorted_from_ascend : (xs : List KeyAt) → Ascend xs → IsSortedBy (λ a b. is_lt (entry_cmp a b)) xs
-sorted_from_ascend xs h k d low high = rw (add-one k) (next_sorted xs h k d (omega arith))
+pub counted_more : (test : KeyAt → Bool) (old new own rest from : List KeyAt) (all : ℕ) → count_by test new ≡ count_by test (old ++ own) → from ≡ own ++ rest → count_by test (old ++ from) ≡ all → count_by test (new ++ rest) ≡ all
+counted_more test old new own rest from all added is so_far =
+    let a = count-append test new rest in
+    let b = count-append test old own in
+    let c = count-append test own rest in
+    let d = count-append test old (own ++ rest) in
+    let e = ap (λ (l : List KeyAt). count_by test (old ++ l)) (sym is) ∙ so_far in
+    omega (arith, a, b, c, d, e, added)
 
 pub ascend_from_sorted : (xs : List KeyAt) → IsSortedBy (λ a b. is_lt (entry_cmp a b)) xs → Ascend xs
 ascend_from_sorted xs h = go xs (λ i j d le lt. sorted_far (λ x y. is_lt (entry_cmp x y)) (ranks_by entry_total (λ x. x)) xs h i j d le lt)

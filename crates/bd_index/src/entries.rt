@@ -1,15 +1,16 @@
 //! The keys of all documents, while they are put in order.
 
-ghost use Rattle.std.specs.Prelude.{◌≡◌, ◌++◌, List, [], ℕ, None, map, IfOk, OnOk};
+ghost use Rattle.std.specs.Prelude.{◌≡◌, ◌++◌, List, ℕ, Bool, None, map, count_by, IfOk, OnOk};
 ghost use Rattle.bd_raw.specs.Sound.{stands};
 ghost use Rattle.bd_bson.specs.Collection.{documents, bytes_of};
 ghost use Rattle.bd_path.specs.Key.{AreKeysOf, IsKeyOf, key_tree, key_trees};
+ghost use Rattle.bd_path.specs.KeyList.{distinct};
 ghost use Rattle.bd_path.specs.PathNames.{names_of};
-ghost use Rattle.bd_index.specs.Entries.{entries_of, entry_cmp, keys_at};
+ghost use Rattle.bd_index.specs.Entries.{KeyAt, entries_of, entry_cmp, keys_at};
 ghost use Rattle.bd_index.specs.FoundKeyView.{AreFoundIn, found_entry, last_entry, raw_source, raw_tree};
 ghost use Rattle.bd_index.specs.IndexView.{KeepsDump};
 ghost use Rattle.bd_index.specs.EntryView.{KeepsEntries};
-ghost use Rattle.bd_index.specs.Repeats.{each_once, is_repeat, without_repeats};
+ghost use Rattle.bd_index.specs.Repeats.{is_repeat, without_repeats};
 
 use crate::entry::Entry;
 use crate::found_key::FoundKey;
@@ -22,9 +23,6 @@ use std::cmp::Ordering;
 
 /// The entries of the documents on a path, in their order; without a null for a field that is missing where the index is
 /// sparse. It fails for want of memory alone.
-///
-/// Equal keys of a document are side by side after the sort, where one of them is kept: so that an array takes no time in the
-/// square of its length.
 pub(crate) fn entries_of(
     alloc: Global,
     dump: &Dump,
@@ -35,29 +33,50 @@ pub(crate) fn entries_of(
 {
     let mut found = find_all(alloc, dump, path, sparse)?;
     found.sort_by(compare_found)?;
-    let entries = entries_once(alloc, &found)?;
+    let entries = kept_entries(alloc, &found)?;
     Ok(entries)
 }
 
-/// The keys of all documents, some equal ones too, in the order of the documents.
+/// The keys of all documents, each once for a document.
 fn find_all<'a>(
     alloc: Global,
     dump: &'a Dump,
     path: &Path,
     sparse: bool,
 ) -> Result<Vec<FoundKey<'a>>, NoMemory>
-    ensures found { IfOk result (λ v. each_once [] (map found_entry v.items) ≡ entries_of sparse (names_of path.now) (documents dump.now)) }
+    ensures found { IfOk result (λ v. (test : KeyAt → Bool) → count_by test (map found_entry v.items) ≡ count_by test (entries_of sparse (names_of path.now) (documents dump.now))) }
     ensures kept { IfOk result (λ v. AreFoundIn (bytes_of dump.now) v.items) }
 {
     let mut found = Vec::new(alloc);
+    let mut own = Vec::new(alloc);
     for place in 0..dump.len() {
         let keys = all_key_nodes(alloc, dump.document(place).value(), path, sparse)?;
-        add_found(dump, &keys, place, &mut found)?;
+        add_document(dump, &keys, place, &mut own, &mut found)?;
     }
     Ok(found)
 }
 
-/// Appends the keys of one document.
+/// Appends the keys of one document, each once. They are sorted in a room of their own, so that equal ones are side by side: an
+/// array takes no time in the square of its length, and of equal elements the memory of one.
+fn add_document<'a>(
+    dump: &'a Dump,
+    keys: &[Key<RawValue<'a>>],
+    place: u32,
+    own: &mut Vec<FoundKey<'a>>,
+    found: &mut Vec<FoundKey<'a>>,
+) -> Result<(), NoMemory>
+    requires { AreKeysOf raw_source (bytes_of dump.now) keys.now }
+    ensures added { OnOk result ((test : KeyAt → Bool) → count_by test (map found_entry found.new.items) ≡ count_by test (map found_entry found.old.items ++ keys_at place (distinct (key_trees raw_tree keys.now)))) }
+    ensures kept { OnOk result (AreFoundIn (bytes_of dump.now) found.old.items → AreFoundIn (bytes_of dump.now) found.new.items) }
+{
+    own.clear();
+    add_found(dump, keys, place, own)?;
+    own.sort_by(compare_found)?;
+    add_once(own, found)?;
+    Ok(())
+}
+
+/// Appends keys of one document.
 fn add_found<'a>(
     dump: &'a Dump,
     keys: &[Key<RawValue<'a>>],
@@ -103,23 +122,19 @@ fn compare_found(a: &FoundKey<'_>, b: &FoundKey<'_>) -> Ordering
     order.then(a.place.cmp(&b.place))
 }
 
-/// Where they stand, without one that repeats the one before.
-fn entries_once(alloc: Global, found: &[FoundKey<'_>]) -> Result<Vec<Entry>, NoMemory>
-    ensures { (bytes : List ℕ) → AreFoundIn bytes found.now →
-        IfOk result (λ v. KeepsEntries bytes v.items (without_repeats None (map found_entry found.now))) }
+/// Appends keys in their order, without one that repeats the one before.
+fn add_once<'a>(own: &[FoundKey<'a>], found: &mut Vec<FoundKey<'a>>) -> Result<(), NoMemory>
+    ensures added { OnOk result (map found_entry found.new.items ≡ map found_entry found.old.items ++ without_repeats None (map found_entry own.now)) }
+    ensures kept { OnOk result ((bytes : List ℕ) → AreFoundIn bytes own.now → AreFoundIn bytes found.old.items → AreFoundIn bytes found.new.items) }
 {
-    let mut entries = Vec::with_capacity(alloc, found.len())?;
     let mut last = None;
-    for one in found {
+    for one in own {
         if !repeats(last, one) {
-            entries.push(Entry {
-                key: one.key.at(),
-                place: one.place,
-            })?;
+            found.push(*one)?;
             last = Some(*one);
         }
     }
-    Ok(entries)
+    Ok(())
 }
 
 /// Whether it is an equal key of the same document.
@@ -130,4 +145,18 @@ fn repeats(last: Option<FoundKey<'_>>, next: &FoundKey<'_>) -> bool
         Some(last) => last.place == next.place && compare_nodes(last.key, next.key).is_eq(),
         None => false,
     }
+}
+
+/// Where the keys stand.
+fn kept_entries(alloc: Global, found: &[FoundKey<'_>]) -> Result<Vec<Entry>, NoMemory>
+    ensures { (bytes : List ℕ) → AreFoundIn bytes found.now → IfOk result (λ v. KeepsEntries bytes v.items (map found_entry found.now)) }
+{
+    let mut entries = Vec::with_capacity(alloc, found.len())?;
+    for one in found {
+        entries.push(Entry {
+            key: one.key.at(),
+            place: one.place,
+        })?;
+    }
+    Ok(entries)
 }

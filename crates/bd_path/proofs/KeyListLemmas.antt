@@ -1,17 +1,20 @@
 -- What was appended to the keys.
-use Rattle.std.proofs.Common.{◌≡◌, ◌<◌, ℕ, List, [], ◌∷◌, ◌++◌, ◌+◌, Bool, true, false, cond, not, length, map, get_or, take, refl, sym, ap, subst, ◌∙◌, append-nil, append_assoc, length-append, arith}
-use Rattle.std.specs.Prelude.{Result, Ok, Err, OnOk, is_ok, ◌||◌, slice_index_or}
+use Rattle.std.proofs.Common.{◌≡◌, ◌<◌, ℕ, List, [], ◌∷◌, ◌++◌, ◌+◌, inl, inr, Bool, true, false, cond, not, length, map, get_or, take, refl, sym, ap, subst, ◌∙◌, append-nil, append_assoc}
+use Rattle.std.specs.Prelude.{Result, Ok, Err, OnOk, Some, is_ok, ◌||◌, slice_get, slice_index_or}
 use Rattle.std.specs.List.{flat_map, list_any}
 use Rattle.std.proofs.lemmas.Grind.{flat_map-append}
-use Rattle.std.proofs.lemmas.Bool.{or_left, or_right}
+use Rattle.std.proofs.lemmas.Bool.{or_cases, or_left, or_right}
 use Rattle.std.proofs.lemmas.List.Elements.{All-nil}
-use Rattle.std.proofs.lemmas.List.{length-map, map-append, map_more}
+use Rattle.std.proofs.lemmas.List.{map-append, map_more}
 use Rattle.std.proofs.lemmas.List.Folds.{list_any-append}
+use Rattle.std.proofs.lemmas.Map.Keys.{any_passes_from_place}
+use Rattle.bd_value.specs.Kind.{kind_of}
 use Rattle.bd_value.specs.Order.{equal}
-use Rattle.bd_value.specs.Tree.{Tree}
-use Rattle.bd_path.specs.AddedKeys.{AppendsKeys, AreKeysFrom, gives_new, is_new, stop_keys}
+use Rattle.bd_value.specs.Tree.{Tree, leaf, doc, array, code_scope}
+use Rattle.bd_value.specs.declared.kind.Kind.TheVariants as kinds
+use Rattle.bd_path.specs.AddedKeys.{AddsKeys, AreKeysFrom, gives_new, is_new, stop_keys}
 use Rattle.bd_path.specs.Key.{AreKeysAt, AreKeysOf, key_trees}
-use Rattle.bd_path.specs.KeyList.{distinct, indexed_keys, with_key, with_keys}
+use Rattle.bd_path.specs.KeyList.{distinct, end_keys, indexed_keys, with_key, with_keys}
 use Rattle.bd_path.specs.Names.{Names}
 use Rattle.bd_path.specs.Stop.{Stops, stops}
 use Rattle.bd_path.specs.Walk.{TakesStops, TakesOrEnds}
@@ -19,12 +22,16 @@ use Rattle.bd_path.proofs.StopLemmas.{keys_are}
 use Rattle.bd_path.specs.declared.key.Key.{Key}
 use Rattle.bd_path.specs.declared.stop.Stop.{Stop}
 use Rattle.bd_path.proofs.KeyLemmas.{at_more}
-use Rattle.bd_path.proofs.LawsLemmas.{equal_itself}
+use Rattle.bd_path.proofs.LawsLemmas.{equal_itself, equal_on}
 use Rattle.bd_path.proofs.VisitsLemmas.{left_false, right_false}
 
 pub on_ok : {T E P Q : Type 0} (r : Result T E) → (P → Q) → OnOk r P → OnOk r Q
 on_ok (Ok x) f h = f h
 on_ok (Err e) f h = tt
+
+pub on_ok_always : {T E Q : Type 0} (r : Result T E) → Q → OnOk r Q
+on_ok_always (Ok x) h = h
+on_ok_always (Err e) h = tt
 
 with_last : (ks ts : List Tree) (t : Tree) → with_keys ks (ts ++ t ∷ []) ≡ with_key (with_keys ks ts) t
 with_last ks [] t = refl
@@ -57,8 +64,8 @@ pub with_append : (ks xs ys : List Tree) → with_keys ks (xs ++ ys) ≡ with_ke
 with_append ks [] ys = refl
 with_append ks (x ∷ xs) ys = with_append (with_key ks x) xs ys
 
-pub appended : (before after more : List Tree) → after ≡ before ++ more → distinct after ≡ with_keys (distinct before) more
-appended before after more is = ap distinct is ∙ with_append [] before more
+pub appended : (before after more : List Tree) → distinct after ≡ distinct (before ++ more) → distinct after ≡ with_keys (distinct before) more
+appended before after more is = is ∙ with_append [] before more
 
 -- none new: they change nothing
 pub none_added : (ks xs : List Tree) → list_any (is_new ks) xs ≡ false → with_keys ks xs ≡ ks
@@ -110,7 +117,7 @@ all_added ks (x ∷ xs) =
 flat_more : (sparse : Bool) (ss : Stops) (s : Stop Tree) → distinct (flat_map (stop_keys sparse) (ss ++ s ∷ [])) ≡ with_keys (distinct (flat_map (stop_keys sparse) ss)) (stop_keys sparse s)
 flat_more sparse ss s =
     appended (flat_map (stop_keys sparse) ss) (flat_map (stop_keys sparse) (ss ++ s ∷ [])) (stop_keys sparse s)
-    (flat_map-append (stop_keys sparse) ss (s ∷ []) ∙ ap (λ (ks : List Tree). flat_map (stop_keys sparse) ss ++ ks) (append-nil (stop_keys sparse s)))
+    (ap distinct (flat_map-append (stop_keys sparse) ss (s ∷ []) ∙ ap (λ (ks : List Tree). flat_map (stop_keys sparse) ss ++ ks) (append-nil (stop_keys sparse s))))
 
 all_at_more : {N : Type 0} (sparse : Bool) (ss more : Stops) (ks : List (Key N)) → AreKeysAt sparse ss ks → AreKeysAt sparse (ss ++ more) ks
 all_at_more {N} sparse ss more ks h = λ i d l. at_more sparse ss more (slice_index_or ks i d) (h i d l)
@@ -124,7 +131,7 @@ module _ {N : Type 0} (tree : N → Tree) (source : N → List ℕ) (sparse : Bo
     there = all_at_more sparse ss (s ∷ []) keys are.there;
   }
 
-  pub takes_keys : {F : Type 0} (items : F → List (Key N)) (bytes : List ℕ) (before after : F) (s : Stop Tree) → AppendsKeys tree (items before) (items after) (stop_keys sparse s)
+  pub takes_keys : {F : Type 0} (items : F → List (Key N)) (bytes : List ℕ) (before after : F) (s : Stop Tree) → AddsKeys tree (items before) (items after) (stop_keys sparse s)
       → (AreKeysOf source bytes (items before) → AreKeysOf source bytes (items after)) → ((ss : Stops) → AreKeysAt sparse (ss ++ s ∷ []) (items before) → AreKeysAt sparse (ss ++ s ∷ []) (items after))
       → TakesStops (λ f. AreKeysFrom tree source sparse (items f)) (λ f. gives_new sparse (key_trees tree (items f))) bytes before after (s ∷ [])
   takes_keys items bytes before after s is kept there =
@@ -142,7 +149,7 @@ module _ {N : Type 0} (tree : N → Tree) (source : N → List ℕ) (sparse : Bo
       }
 
   pub took : {F E : Type 0} (items : F → List (Key N)) (r : Result (Unit {0}) E) (b : Bool) (bytes : List ℕ) (before after : F) (s : Stop Tree) → b ≡ is_ok r
-      → OnOk r (AppendsKeys tree (items before) (items after) (stop_keys sparse s)) → (AreKeysOf source bytes (items before) → AreKeysOf source bytes (items after))
+      → OnOk r (AddsKeys tree (items before) (items after) (stop_keys sparse s)) → (AreKeysOf source bytes (items before) → AreKeysOf source bytes (items after))
       → OnOk r ((ss : Stops) → AreKeysAt sparse (ss ++ s ∷ []) (items before) → AreKeysAt sparse (ss ++ s ∷ []) (items after))
       → TakesOrEnds (λ f. AreKeysFrom tree source sparse (items f)) (λ f. gives_new sparse (key_trees tree (items f))) (λ _. true) b bytes before after (s ∷ [])
   took items (Ok x) true bytes before after s is appends kept there = takes_keys items bytes before after s appends kept there
@@ -163,16 +170,44 @@ pub indexed : (sparse : Bool) (t : Tree) (p : Names) → distinct (flat_map (sto
 indexed true t p = ap distinct (sym (keys_are true t p))
 indexed false t p = ap distinct (sym (keys_are false t p))
 
+-- ---- one key more, where it does not equal the last
+
+any_on : (ks : List Tree) (x k : Tree) → equal x k ≡ true → list_any (λ y. equal y x) ks ≡ true → list_any (λ y. equal y k) ks ≡ true
+any_on [] x k e h = absurd cc
+any_on (y ∷ ys) x k e h = elim (or_cases (equal y x) (list_any (λ z. equal z x) ys) h) [
+  | inl f ↦ or_left (equal y k) (list_any (λ z. equal z k) ys) (equal_on y x k f e)
+  | inr f ↦ or_right (equal y k) (list_any (λ z. equal z k) ys) (any_on ys x k e f)
+]
+
+-- an equal one is kept of what one equals
+equal_kept : (ks xs : List Tree) (k : Tree) → list_any (λ y. equal y k) xs ≡ true → list_any (λ y. equal y k) (with_keys ks xs) ≡ true
+equal_kept ks [] k h = absurd cc
+equal_kept ks (x ∷ xs) k h = elim (or_cases (equal x k) (list_any (λ y. equal y k) xs) h) [
+  | inl e ↦ any_still (λ y. equal y k) (with_key ks x) xs (any_on (with_key ks x) x k e (one_added ks x))
+  | inr f ↦ equal_kept (with_key ks x) xs k f
+]
+
+pub equals_last : {A : Type 0} (f : A → Tree) (xs : List A) (i : ℕ) (x k : A) → slice_get xs i ≡ Some x → equal (f x) (f k) ≡ true → distinct (map f xs) ≡ distinct (map f xs ++ f k ∷ [])
+equals_last {A} f xs i x k at e =
+    let any = any_map (λ y. equal y (f k)) f xs ∙ any_passes_from_place (λ y. equal (f y) (f k)) xs i x at e in
+    sym (with_append [] (map f xs) (f k ∷ []) ∙ rw (equal_kept [] (map f xs) (f k) any) refl)
+
+pub one_appended : {A : Type 0} (f : A → Tree) (xs zs : List A) (k : A) → zs ≡ xs ++ k ∷ [] → distinct (map f zs) ≡ distinct (map f xs ++ f k ∷ [])
+one_appended f xs zs k is = ap distinct (ap (map f) is ∙ map-append f xs (k ∷ []))
+
 -- ---- the elements of an array
 
-pub one_pushed : {A : Type 0} (f : A → Tree) (ks ls : List A) (k : A) (us vs all : List Tree) → ls ≡ ks ++ k ∷ [] → us ≡ f k ∷ vs → map f ks ++ us ≡ all → map f ls ++ vs ≡ all
-one_pushed {A} f ks ls k us vs all is e so_far =
-    ap (λ (xs : List A). map f xs ++ vs) is ∙ ap (λ (xs : List Tree). xs ++ vs) (map-append f ks (k ∷ [])) ∙ append_assoc (map f ks) (f k ∷ []) vs
-    ∙ ap (λ (xs : List Tree). map f ks ++ xs) (sym e) ∙ so_far
+pub one_passed : (old new : List Tree) (t : Tree) (us vs all : List Tree) → distinct new ≡ distinct (old ++ t ∷ []) → us ≡ t ∷ vs → distinct (old ++ us) ≡ all → distinct (new ++ vs) ≡ all
+one_passed old new t us vs all is e so_far =
+    with_append [] new vs ∙ ap (λ (ks : List Tree). with_keys ks vs) is ∙ sym (with_append [] (old ++ t ∷ []) vs)
+    ∙ ap distinct (append_assoc old (t ∷ []) vs ∙ ap (λ (xs : List Tree). old ++ xs) (sym e)) ∙ so_far
 
-pub none_pushed : {A : Type 0} (f : A → Tree) (ks ls : List A) (us es : List Tree) → us ≡ [] → map f ks ++ us ≡ map f ls ++ es → length ks ≡ length ls → es ≡ []
-none_pushed f ks ls us [] none h same = refl
-none_pushed f ks ls us (e ∷ es) none h same =
-    let a = ap length h in
-    let b = ap length none in
-    absurd (omega (arith, a, b, same, length-append (map f ks) us, length-append (map f ls) (e ∷ es), length-map ks f, length-map ls f))
+pub all_passed : (ks us all : List Tree) → us ≡ [] → distinct (ks ++ us) ≡ all → distinct ks ≡ all
+all_passed ks us all none h = ap distinct (sym (append-nil ks) ∙ ap (λ (xs : List Tree). ks ++ xs) (sym none)) ∙ h
+
+-- what a value gives that is no array
+pub own_key : (t : Tree) → (kind_of t ≡ kinds.Array → ⊥) → end_keys t ≡ t ∷ []
+own_key (leaf s) n = refl
+own_key (doc fs) n = refl
+own_key (array ts) n = absurd (n refl)
+own_key (code_scope s fs) n = refl

@@ -16,9 +16,9 @@ stop_keys sparse (Value t) = end_keys t
 stop_keys sparse Missing = missing_key sparse
 stop_keys sparse NoBranch = missing_key sparse
 
--- to the keys that were there, these were added
-abbrev pub AppendsKeys : {N : Type 0} → (N → Tree) → List (Key N) → List (Key N) → List Tree → Type 0
-AppendsKeys tree before after more = key_trees tree after ≡ key_trees tree before ++ more
+-- to the keys that were there, these were added, but for equal ones
+abbrev pub AddsKeys : {N : Type 0} → (N → Tree) → List (Key N) → List (Key N) → List Tree → Type 0
+AddsKeys tree before after more = distinct_of (key_trees tree after) ≡ distinct_of (key_trees tree before ++ more)
 
 -- a key equals none of some
 abbrev pub is_new : List Tree → Tree → Bool

@@ -2,9 +2,12 @@
 
 ghost use Rattle.std.specs.Prelude.{◌≡◌, ◌∷◌, [], List, ℕ, Bool, true, false, map, IfOk, OnOk};
 ghost use Rattle.std.specs.List.{list_any};
+ghost use Rattle.bd_value.specs.Kind.{kind_of};
 ghost use Rattle.bd_value.specs.Order.{equal};
+ghost use Rattle.bd_value.specs.Parts.{elements_in};
 ghost use Rattle.bd_value.specs.View.{tree_of};
-ghost use Rattle.bd_path.specs.AddedKeys.{AppendsKeys, AreKeysFrom, gives_new};
+ghost use Rattle.bd_value.specs.declared.kind.Kind.TheVariants as kinds;
+ghost use Rattle.bd_path.specs.AddedKeys.{AddsKeys, AreKeysFrom, gives_new};
 ghost use Rattle.bd_path.specs.Key.{AreKeysAt, AreKeysOf, IsKeyAt, IsKeyOf, is_empty_array, is_no_value, key_tree, key_trees};
 ghost use Rattle.bd_path.specs.KeyList.{distinct, end_keys, indexed_keys, keys, missing_key, sparse_keys as sparse_keys_of, with_key};
 ghost use Rattle.bd_path.specs.PathNames.{names_of};
@@ -82,8 +85,8 @@ pub fn keys<N: Reading>(alloc: Global, doc: N, path: &Path) -> Result<Vec<Value>
     Ok(values)
 }
 
-/// Gathers the keys. A value that is met again gives none that is not there, so equal keys are there as often as equal values
-/// are met, and not as often as the ways to them.
+/// Gathers the keys. One that equals the last is not appended: a path that repeats an index comes to a value, or to a field that is
+/// missing, once from each of its positions.
 #[derive(Clone, Copy)]
 struct KeyGatherer {
     sparse: bool,
@@ -111,37 +114,59 @@ impl<N: Reading> Gatherer<N> for KeyGatherer {
 
 /// Appends what stands for a field that is missing.
 fn add_missing<N: Reading>(sparse: bool, keys: &mut Vec<Key<N>>) -> Result<(), NoMemory>
-    ensures added { OnOk result (AppendsKeys N.tree keys.old.items keys.new.items (missing_key sparse)) }
+    ensures added { OnOk result (AddsKeys N.tree keys.old.items keys.new.items (missing_key sparse)) }
     ensures kept { (bytes : List ℕ) → AreKeysOf N.source bytes keys.old.items → AreKeysOf N.source bytes keys.new.items }
     ensures there { OnOk result ((ss : Stops) → list_any is_no_value ss ≡ true → AreKeysAt sparse ss keys.old.items → AreKeysAt sparse ss keys.new.items) }
 {
-    if !sparse {
-        keys.push(Key::Null)?;
+    if sparse {
+        return Ok(());
     }
-    Ok(())
+    add_next(keys, Key::Null)
 }
 
 /// Appends a value, or the elements of an array.
 fn add_end<N: Reading>(node: N, keys: &mut Vec<Key<N>>) -> Result<(), NoMemory>
-    ensures added { OnOk result (AppendsKeys N.tree keys.old.items keys.new.items (end_keys (N.tree node))) }
+    ensures added { OnOk result (AddsKeys N.tree keys.old.items keys.new.items (end_keys (N.tree node))) }
     ensures kept { AreKeysOf N.source (N.source node) keys.old.items → AreKeysOf N.source (N.source node) keys.new.items }
     ensures there { OnOk result ((sparse : Bool) (ss : Stops) → (is_empty_array (Stop.Value (N.tree node)) ≡ true → list_any is_empty_array ss ≡ true) → AreKeysAt sparse ss keys.old.items → AreKeysAt sparse ss keys.new.items) }
 {
     let Kind::Array = node.kind() else {
-        keys.push(Key::Node(node))?;
-        return Ok(());
+        return add_next(keys, Key::Node(node));
     };
-    let before = keys.len();
+    let Some(_) = N::next(&node.parts()) else {
+        return add_next(keys, Key::Undefined);
+    };
+    add_elements(node, keys)
+}
+
+/// Appends the elements of an array.
+fn add_elements<N: Reading>(node: N, keys: &mut Vec<Key<N>>) -> Result<(), NoMemory>
+    requires { kind_of (N.tree node) ≡ kinds.Array }
+    ensures added { OnOk result (AddsKeys N.tree keys.old.items keys.new.items (elements_in (N.tree node))) }
+    ensures kept { AreKeysOf N.source (N.source node) keys.old.items → AreKeysOf N.source (N.source node) keys.new.items }
+    ensures there { (sparse : Bool) (ss : Stops) → AreKeysAt sparse ss keys.old.items → AreKeysAt sparse ss keys.new.items }
+{
     let mut left = node.parts();
     while let Some(next) = N::next(&left) {
-        keys.push(Key::Node(next.1))?;
+        add_next(keys, Key::Node(next.1))?;
         left = next.2;
     }
-    if keys.len() != before {
-        return Ok(());
-    }
-    keys.push(Key::Undefined)?;
     Ok(())
+}
+
+/// Appends a key, where it does not equal the last.
+fn add_next<N: Reading>(keys: &mut Vec<Key<N>>, key: Key<N>) -> Result<(), NoMemory>
+    ensures added { OnOk result (AddsKeys N.tree keys.old.items keys.new.items (key_tree N.tree key ∷ [])) }
+    ensures kept { (bytes : List ℕ) → AreKeysOf N.source bytes keys.old.items → IsKeyOf N.source bytes key → AreKeysOf N.source bytes keys.new.items }
+    ensures there { (sparse : Bool) (ss : Stops) → AreKeysAt sparse ss keys.old.items → IsKeyAt sparse ss key → AreKeysAt sparse ss keys.new.items }
+{
+    match keys.last() {
+        Some(last) if compare_keys(*last, key).is_eq() => Ok(()),
+        _ => {
+            keys.push(key)?;
+            Ok(())
+        }
+    }
 }
 
 /// The keys, without one that equals an earlier one. Each is compared with those before it.

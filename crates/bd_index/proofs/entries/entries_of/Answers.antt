@@ -1,18 +1,14 @@
-use Rattle.std.proofs.Common.{Bool, List, None, map, rules, refl, sym, subst, ap, ◌∙◌}
-use Rattle.std.specs.List.{count_by}
+use Rattle.std.proofs.Common.{Bool, List, map, rules, sym, subst, ◌∙◌}
 use Rattle.std.specs.Ordering.{is_lt}
 use Rattle.std.proofs.lemmas.Fn.{always_returns_same}
 use Rattle.std.proofs.lemmas.List.Sorted.{All-permutation, ranks_by}
-use Rattle.bd_bson.specs.Collection.{bytes_of, documents}
-use Rattle.bd_path.specs.PathNames.{names_of}
+use Rattle.bd_bson.specs.Collection.{bytes_of}
 use Rattle.bd_index.specs.Entries.{entry_cmp}
 use Rattle.bd_index.specs.FoundKeyView.{AreFoundIn, IsFoundIn, found_entry}
 use Rattle.bd_index.specs.EntryView.{KeepsEntries}
-use Rattle.bd_index.specs.Repeats.{without_repeats}
 use Rattle.bd_index.specs.declared.found_key.FoundKey.{FoundKey}
 use Rattle.bd_index.proofs.EntryLemmas.{entry_total, sorted_map}
-use Rattle.bd_index.proofs.FoundKeyLemmas.{as_they_came, found_lt}
-use Rattle.bd_index.proofs.RepeatLemmas.{ascend_from_sorted, once_sorted, repeats_ascend, sorted_from_ascend}
+use Rattle.bd_index.proofs.FoundKeyLemmas.{as_many_found, found_lt}
 use Rattle.bd_index.proofs.entries.entries_of.Goals as goal
 
 pub returns : goal.returns
@@ -21,15 +17,13 @@ returns c =
     let sorted = c.sort_by.new.self.items in
     let bytes = bytes_of c.args.dump.now in
     let lt : FoundKey → FoundKey → Bool = found_lt in
-    let weak = ranks_by entry_total found_entry in
     let answers = always_returns_same _ _ _ (λ a r h k. search rules) in
-    let up = ascend_from_sorted (map found_entry sorted) (sorted_map found_entry (λ a b. is_lt (entry_cmp a b)) sorted (c.in_ok-sort_by.ensures.sorted lt weak answers)) in
     let kept : AreFoundIn bytes c.deref.result.now = subst (AreFoundIn bytes) (sym c.deref.ensures.value) (All-permutation (IsFoundIn bytes) found sorted c.sort_by.ensures.permutation c.in_ok-found.ensures.kept) in
     record {
-      entries = without_repeats None (map found_entry sorted);
-      stand = subst (λ (l : List FoundKey). KeepsEntries bytes c.in_ok-entries.entries.items (without_repeats None (map found_entry l))) c.deref.ensures.value (c.in_ok-entries.ensures bytes kept);
+      entries = map found_entry sorted;
+      stand = subst (λ (l : List FoundKey). KeepsEntries bytes c.in_ok-entries.entries.items (map found_entry l)) c.deref.ensures.value (c.in_ok-entries.ensures bytes kept);
       are = record {
-        same = λ test. once_sorted (map found_entry found) (map found_entry sorted) up (as_they_came found sorted (map found_entry found) refl (c.sort_by.ensures.stable lt weak answers)) test ∙ ap (count_by test) c.in_ok-found.ensures.found;
-        sorted = sorted_from_ascend (without_repeats None (map found_entry sorted)) (repeats_ascend None (map found_entry sorted) up);
+        same = λ test. as_many_found test found sorted c.sort_by.ensures.permutation ∙ c.in_ok-found.ensures.found test;
+        sorted = sorted_map found_entry (λ a b. is_lt (entry_cmp a b)) sorted (c.in_ok-sort_by.ensures.sorted lt (ranks_by entry_total found_entry) answers);
       };
     }

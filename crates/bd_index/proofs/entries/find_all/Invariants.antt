@@ -1,15 +1,13 @@
-use Rattle.std.proofs.Common.{◌≡◌, ◌<◌, ◌++◌, [], drop, map}
-use Rattle.std.specs.List.{AllByRecursion}
+use Rattle.std.proofs.Common.{◌≡◌, ◌++◌, Bool, drop, map}
+use Rattle.std.specs.List.{count_by}
 use Rattle.bd_bson.specs.Collection.{documents, bytes_of}
 use Rattle.bd_path.specs.PathNames.{names_of}
-use Rattle.bd_index.specs.Entries.{entries_from, entries_of}
+use Rattle.bd_index.specs.Entries.{KeyAt, entries_from, entries_of}
 use Rattle.bd_index.specs.FoundKeyView.{AreFoundIn, found_entry}
-use Rattle.bd_index.specs.Repeats.{each_once}
 use Rattle.bd_index.proofs.entries.find_all.Given as goal
 
 abbrev pub invariant-loop-place : goal.invariant-loop-place
 invariant-loop-place l = record {
-  so_far : each_once [] (map found_entry l.found.items) ++ entries_from l.sparse (names_of l.path) l.place (drop l.place (documents l.dump)) ≡ entries_of l.sparse (names_of l.path) (documents l.dump);
-  low : AllByRecursion (λ y. y.1 < l.place) (each_once [] (map found_entry l.found.items));
+  so_far : (test : KeyAt → Bool) → count_by test (map found_entry l.found.items ++ entries_from l.sparse (names_of l.path) l.place (drop l.place (documents l.dump))) ≡ count_by test (entries_of l.sparse (names_of l.path) (documents l.dump));
   kept : AreFoundIn (bytes_of l.dump) l.found.items;
 }

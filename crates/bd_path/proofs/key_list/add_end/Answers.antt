@@ -1,29 +1,30 @@
-use Rattle.std.proofs.Common.{All, sym, subst, ap, ◌∙◌}
-use Rattle.std.proofs.lemmas.List.Elements.{All-push}
-use Rattle.bd_value.specs.Parts.{values_of, elements_in}
-use Rattle.bd_path.specs.Key.{AreKeysAt, IsKeyAt, IsKeyOf, key_tree}
+use Rattle.std.proofs.Common.{refl, sym, ap, subst, ◌∙◌}
+use Rattle.bd_value.specs.Parts.{values_of}
+use Rattle.bd_path.specs.AddedKeys.{AddsKeys}
 use Rattle.bd_path.proofs.KeyLemmas as key
 use Rattle.bd_path.proofs.KeyListLemmas as added
+use Rattle.bd_path.proofs.ReachLemmas.{parts_are}
 use Rattle.bd_path.proofs.key_list.add_end.Goals as goal
 
-pub loop-next-preserved : goal.loop-next-preserved
-loop-next-preserved g c =
-    let P = IsKeyOf g.N.Reading.source (g.N.Reading.source c.args.node) in
-    let is = c.in_ok-push-2.ensures.items in
+pub returns-in_default : goal.returns-in_default
+returns-in_default g c =
+    let tree = g.N.Reading.tree in
+    let own = added.own_key (tree c.args.node) (λ k. c.in_default.not-Array (c.kind.ensures ∙ k)) in
     record {
-      so_far = added.one_pushed (key_tree g.N.Reading.tree) _ _ _ (values_of (g.N.Reading.left c.loop-next.left)) _ _ is (ap values_of c.in-Some.ensures.some) c.loop-next.invariant.so_far;
-      kept = λ h. subst (All P) (sym is) (All-push P _ _ (c.loop-next.invariant.kept h) (c.in-Some.ensures.kept ∙ c.loop-next.invariant.source));
-      there = λ sparse ss h. subst (AreKeysAt sparse ss) (sym is) (All-push (IsKeyAt sparse ss) _ _ (c.loop-next.invariant.there sparse ss h) tt);
-      source = c.in-Some.ensures.rest ∙ c.loop-next.invariant.source;
+      added = added.on_ok c.add_next.result (subst (AddsKeys tree c.args.keys.now.items c.add_next.new.keys.items) (sym own)) c.add_next.ensures.added;
+      kept = λ h. c.add_next.ensures.kept (g.N.Reading.source c.args.node) h refl;
+      there = added.on_ok_always c.add_next.result (λ sparse ss _ h. c.add_next.ensures.there sparse ss h tt);
     }
 
-pub returns-then-len-before-clause-there : goal.returns-then-len-before-clause-there
-returns-then-len-before-clause-there g c = λ sparse ss e h. c.loop-next.invariant.there sparse ss h
+pub returns-in_default-next-clause-kept : goal.returns-in_default-next-clause-kept
+returns-in_default-next-clause-kept g c = λ h. c.add_next-in_default-next.ensures.kept (g.N.Reading.source c.args.node) h tt
+
+pub returns-in_default-next-clause-there : goal.returns-in_default-next-clause-there
+returns-in_default-next-clause-there g c =
+    let n = g.N.Reading.tree c.args.node in
+    let array = sym c.kind.ensures ∙ c.in-Array.is in
+    let none = sym (parts_are n (g.N.Reading.left c.parts.result) array c.parts.ensures.parts) ∙ ap values_of c.in_default-next.ensures.none in
+    added.on_ok_always c.add_next-in_default-next.result (λ sparse ss e h. c.add_next-in_default-next.ensures.there sparse ss h (e (key.empty_array n array none)))
 
 pub returns-clause-there : goal.returns-clause-there
-returns-clause-there g c =
-    let n = g.N.Reading.tree c.args.node in
-    let none = added.none_pushed (key_tree g.N.Reading.tree) c.loop-next.keys.items c.args.keys.now.items (values_of (g.N.Reading.left c.loop-next.left)) (elements_in n)
-    (ap values_of c.in_default-next.ensures.none) c.loop-next.invariant.so_far (sym c.loop-next.keys.ok.0 ∙ sym c.len.ensures ∙ c.if-len-before.false ∙ c.len-before.ensures ∙ c.args.keys.now.ok.0) in
-    λ sparse ss e h. subst (AreKeysAt sparse ss) (sym c.in_ok-push-3.ensures.items)
-    (All-push (IsKeyAt sparse ss) _ _ (c.loop-next.invariant.there sparse ss h) (e (key.empty_array n (sym c.kind.ensures ∙ c.in-Array.is) none)))
+returns-clause-there g c = added.on_ok_always c.add_elements.result (λ sparse ss _ h. c.add_elements.ensures.there sparse ss h)

@@ -1,6 +1,5 @@
-use Rattle.std.proofs.Common.{◌++◌, ◌∷◌, [], List, true, sym, ap, subst, ◌∙◌}
-use Rattle.bd_value.specs.Tree.{Tree}
-use Rattle.bd_path.specs.AddedKeys.{AreKeysFrom, gives_new}
+use Rattle.std.proofs.Common.{◌++◌, ◌∷◌, [], true, sym, subst}
+use Rattle.bd_path.specs.AddedKeys.{AddsKeys, AreKeysFrom, gives_new}
 use Rattle.bd_path.specs.Key.{AreKeysOf, is_empty_array, is_no_value, key_trees}
 use Rattle.bd_path.specs.Stop.{IsStopOf, stop_tree}
 use Rattle.bd_path.specs.Walk.{TakesOrEnds}
@@ -29,6 +28,6 @@ returns-in_default g c = λ bytes at.
     let sparse = c.args.self.now.sparse in
     let none = key.no_value g.N.Reading.tree c.args.stop c.in_default.not-Value in
     added.took g.N.Reading.tree g.N.Reading.source sparse (λ v. v.items) c.add_missing.result c.is_ok-in_default.result bytes old c.add_missing.new.keys s c.is_ok-in_default.ensures.value
-    (added.on_ok c.add_missing.result (λ h. h ∙ ap (λ (ks : List Tree). key_trees g.N.Reading.tree old.items ++ ks) (sym (key.no_value_keys sparse s none))) c.add_missing.ensures.added)
+    (added.on_ok c.add_missing.result (subst (AddsKeys g.N.Reading.tree old.items c.add_missing.new.keys.items) (sym (key.no_value_keys sparse s none))) c.add_missing.ensures.added)
     (c.add_missing.ensures.kept bytes)
     (added.on_ok c.add_missing.result (λ f ss. f (ss ++ s ∷ []) (key.among is_no_value ss s none)) c.add_missing.ensures.there)
