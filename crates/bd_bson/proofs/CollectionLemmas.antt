@@ -64,14 +64,14 @@ document_in bytes [] all i start g is = absurd cc
 document_in bytes (s ∷ ss) all zero start g is =
     let e : s ≡ start = cc in
     subst (λ (n : ℕ). (y : Sound kinds.Doc (drop n bytes)) → some (pairs_in (stands all.0)) ≡ some (pairs_in (stands y))) e
-        (λ y. ap (λ (t : Tree). some (pairs_in t)) (stands_is all.0 y ∙ sym (stands_is y y))) g
+    (λ y. ap (λ (t : Tree). some (pairs_in t)) (stands_is all.0 y ∙ sym (stands_is y y))) g
 document_in bytes (s ∷ ss) all (suc i) start g is = document_in bytes ss all.1 i start g is
 
 pub document_of : (bytes starts : List ℕ) (all : StandAt bytes starts) (i start : ℕ) (here : List ℕ) (g : Sound kinds.Doc (drop start here))
     → slice_get starts i ≡ Some start → bytes ≡ here → slice_get (documents_starting_at bytes starts all) i ≡ Some (pairs_in (stands g))
 document_of bytes starts all i start here g is same =
     subst (λ (x : List ℕ). (y : Sound kinds.Doc (drop start x)) → slice_get (documents_starting_at bytes starts all) i ≡ Some (pairs_in (stands y)))
-        same (λ y. document_in bytes starts all i start y is) g
+    same (λ y. document_in bytes starts all i start y is) g
 
 pub start_at : (starts : List ℕ) (n start : ℕ) → n < length starts → start ≡ get_or starts n start → slice_get starts n ≡ Some start
 start_at starts n start lt is = slice_get-get_or starts n start lt ∙ ap (λ (s : ℕ). Some s) (sym is)
@@ -105,7 +105,7 @@ module _ (bytes : List ℕ) where
       → at + length front ≡ after → take after bytes ≡ take at bytes ++ front
   taken_more front at after le in_bytes cut size =
       let whole : bytes ≡ (take at bytes ++ front) ++ drop after bytes = sym (take-append-drop at bytes) ∙ ap (λ x. take at bytes ++ x) cut
-          ∙ sym (append_assoc (take at bytes) front (drop after bytes)) in
+      ∙ sym (append_assoc (take at bytes) front (drop after bytes)) in
       ap (take after) whole ∙ take_at (take at bytes ++ front) (drop after bytes) after (omega (arith, length-append (take at bytes) front, length-take at bytes))
 
   front_size : (d : Doc) (front : List ℕ) → IsDocument d front → 5 ≤ length front
@@ -118,14 +118,14 @@ module _ (bytes : List ℕ) where
       let here = document_sound bytes at (pairs_in (stands raw.sound)) next.0 (drop after bytes) next.1 next.2 in
       let all = s.collected.0 in
       let same : documents_starting_at bytes (starts ++ at ∷ []) (stand_more bytes starts at s.collected.0 here)
-          ≡ documents_starting_at bytes starts s.collected.0 ++ pairs_in (stands raw.sound) ∷ [] =
+      ≡ documents_starting_at bytes starts s.collected.0 ++ pairs_in (stands raw.sound) ∷ [] =
       documents_more bytes starts at s.collected.0 here ∙ ap (λ (x : Doc). documents_starting_at bytes starts s.collected.0 ++ x ∷ [])
-          (document_there bytes at (pairs_in (stands raw.sound)) next.0 (drop after bytes) next.1 next.2 here) in
+      (document_there bytes at (pairs_in (stands raw.sound)) next.0 (drop after bytes) next.1 next.2 here) in
       let joined : AreJoined (documents_starting_at bytes starts s.collected.0 ++ pairs_in (stands raw.sound) ∷ []) (take after bytes) =
       subst (AreJoined (documents_starting_at bytes starts s.collected.0 ++ pairs_in (stands raw.sound) ∷ []))
-          (sym (taken_more next.0 at after s.inside next.4 next.2 next.3))
-          (joined_append (documents_starting_at bytes starts s.collected.0) (pairs_in (stands raw.sound) ∷ []) (take at bytes) next.0 s.collected.1
-          (joined_one (pairs_in (stands raw.sound)) next.0 next.1)) in
+      (sym (taken_more next.0 at after s.inside next.4 next.2 next.3))
+      (joined_append (documents_starting_at bytes starts s.collected.0) (pairs_in (stands raw.sound) ∷ []) (take at bytes) next.0 s.collected.1
+      (joined_one (pairs_in (stands raw.sound)) next.0 next.1)) in
       record {
         collected = subst (λ (ss : List ℕ). Collected bytes ss after) (sym is)
             (stand_more bytes starts at s.collected.0 here, subst (λ (ds : List Doc). AreJoined ds (take after bytes)) (sym same) joined);

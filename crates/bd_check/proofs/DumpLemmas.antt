@@ -29,7 +29,7 @@ told : (body rest : List ℕ) → length (framed body) ≤ longest_document → 
 told body rest short =
     let size = framed_size body in
     ap length_told (framed_after body rest) ∙ ap (from_le_bytes w32) (take_at (number (length body + 5)) (body ++ 0 ∷ rest) 4
-        (number_length (length body + 5))) ∙ number_value (length body + 5) (omega arith) ∙ sym size
+    (number_length (length body + 5))) ∙ number_value (length body + 5) (omega arith) ∙ sym size
 
 tests : (n m : ℕ) → 5 ≤ n → n ≤ longest_document → n ≤ m → (ltb n 5 || ltb longest_document n || ltb m n) ≡ false
 tests n m low high le = grind (arith, nat_tests)
@@ -197,7 +197,7 @@ walk_document turns walk done front rest n None le fits j is first_is =
     let size = frame_inside rest n is in
     goes_on done d.0 front (take n rest) (drop n rest) rest (take-append-drop n rest)
     (walk (done ++ d.0 ∷ []) (front ++ take n rest) (drop n rest) (omega (arith, length-drop n rest, size.0, size.1)) (IsBytes-drop n rest fits)
-        (joined_append done (d.0 ∷ []) front (take n rest) j (joined_one d.0 (take n rest) d.1)))
+    (joined_append done (d.0 ∷ []) front (take n rest) j (joined_one d.0 (take n rest) d.1)))
 
 walk_frame : (turns : ℕ) → Walker turns → (done : List Doc) (front rest : List ℕ) (frame : Result (Option ℕ) FaultKind) → length rest ≤ suc turns
     → IsBytes rest → AreJoined done front → frame_length rest ≡ frame → Walked done front rest

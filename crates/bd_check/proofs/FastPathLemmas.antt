@@ -52,15 +52,15 @@ module _ (bytes : List ℕ) (k : ℕ) where
 element : (nested : Nested) (place : Option ℕ) (e : ℕ) (bytes named value after : List ℕ) (kind : Kind) (k : ℕ) → 0 < length bytes
     → drop 1 bytes ≡ named → type_at (get_or bytes 0 0) ≡ Some (Kept kind)
     → position is_zero named ≡ Some k → is_utf8 (take k named) ≡ true → drop (k + 1) named ≡ value
-        → ((q : ℕ) → past_value nested kind q e value ≡ Ok after) → past_element nested place e bytes ≡ Ok after
+    → ((q : ℕ) → past_value nested kind q e value ≡ Ok after) → past_element nested place e bytes ≡ Ok after
 unfolding past_element
 element nested place e [] named value after kind k lt cut type first text following past = absurd (omega arith)
 element nested place e (b ∷ bytes) named value after kind k lt cut type first text following past =
     let z : position is_zero bytes ≡ Some k = subst (λ (l : List ℕ). position is_zero l ≡ Some k) (sym cut) first in
     let t : is_utf8 (take k bytes) ≡ true = subst (λ (l : List ℕ). is_utf8 (take k l) ≡ true) (sym cut) text in
     let v : past_value nested kind (e - suc (length bytes)) e (drop (k + 1) bytes)
-        ≡ Ok after = subst (λ (l : List ℕ). past_value nested kind (e - suc (length bytes)) e (drop (k + 1) l) ≡ Ok after) (sym cut)
-        (rw following (past (e - suc (length bytes)))) in
+    ≡ Ok after = subst (λ (l : List ℕ). past_value nested kind (e - suc (length bytes)) e (drop (k + 1) l) ≡ Ok after) (sym cut)
+    (rw following (past (e - suc (length bytes)))) in
     rw (type, z, t, v) refl
 
 pub element_gives : (bytes named value : List ℕ) (kind : Kind) (r : Option (Bor (List ℕ))) → 0 < length bytes → drop 1 bytes ≡ named → type_at (get_or bytes 0 0) ≡ Some (Kept kind)

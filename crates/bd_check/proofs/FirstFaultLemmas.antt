@@ -119,8 +119,10 @@ text_takes at bytes s is =
 none_zero : (bytes : List ℕ) (k : ℕ) → k ≤ length bytes → ((i : ℕ) → i < k → eqb (get_or bytes i 0) 0 ≡ false) → AllByRecursion (λ b. b ≢ 0) (take k bytes)
 none_zero bytes zero le h = tt
 none_zero [] (suc k) le h = absurd (omega arith)
-none_zero (b ∷ bytes) (suc k) le h = (λ z. let f : eqb b 0 ≡ false = h 0 (omega arith) in absurd (let t : eqb b 0 ≡ true = rw z refl in cc),
-    none_zero bytes k (omega arith) (λ i lt. h (suc i) (omega arith)))
+none_zero (b ∷ bytes) (suc k) le h = (
+  λ z. let f : eqb b 0 ≡ false = h 0 (omega arith) in absurd (let t : eqb b 0 ≡ true = rw z refl in cc),
+  none_zero bytes k (omega arith) (λ i lt. h (suc i) (omega arith)),
+)
 
 name_split : (e : ℕ) (bytes : List ℕ) (k : ℕ) (name rest : List ℕ) → IsBytes bytes → position (λ b. b == 0) bytes ≡ Some k
     → (text_at (e - length bytes) (take k bytes) >>= λ s. both s (drop (k + 1) bytes)) ≡ Ok (name, rest) → Takes bytes (name ++ 0 ∷ []) rest × IsName name
@@ -131,11 +133,14 @@ name_split e bytes k name rest fits at is =
     let pair = ok_is (a.0, drop (k + 1) bytes) (name, rest) a.2 in
     let z : get_or bytes k 0 ≡ 0 = eqb-true _ _ p.1 in
     let cut : bytes ≡ take k bytes ++ 0 ∷ drop (k + 1) bytes = sym (take-append-drop k bytes) ∙ ap (λ (x : List ℕ). take k bytes ++ x) (rw (add-one, drop-cons bytes k 0 p.0, z) refl) in
-    let made : Takes bytes (take k bytes ++ 0 ∷ []) (drop (k + 1) bytes) = record { parts = cut
-        ∙ sym (append_assoc (take k bytes) (0 ∷ []) (drop (k + 1) bytes)); rest_fits = IsBytes-drop (k + 1) bytes fits } in
+    let made : Takes bytes (take k bytes ++ 0 ∷ []) (drop (k + 1) bytes) = record {
+      parts = cut
+          ∙ sym (append_assoc (take k bytes) (0 ∷ []) (drop (k + 1) bytes));
+      rest_fits = IsBytes-drop (k + 1) bytes fits;
+    } in
     let nz : AllByRecursion (λ b. b ≢ 0) (take k bytes) = none_zero bytes k (omega (arith, p.0)) p.2 in
     let first : Takes bytes (a.0 ++ 0 ∷ []) (drop (k + 1) bytes) × IsName a.0 = subst (λ (s : List ℕ). Takes bytes (s ++ 0 ∷ []) (drop (k + 1) bytes)
-        × (IsUtf8 s × AllByRecursion (λ b. b ≢ 0) s)) t.0 (made, (subst IsUtf8 (sym t.0) t.1, nz)) in
+    × (IsUtf8 s × AllByRecursion (λ b. b ≢ 0) s)) t.0 (made, (subst IsUtf8 (sym t.0) t.1, nz)) in
     subst (λ (y : List ℕ × List ℕ). Takes bytes (y.0 ++ 0 ∷ []) y.1 × IsName y.0) pair first
 
 name_cases : (kind : FaultKind) (o : Option ℕ) (e : ℕ) (bytes name rest : List ℕ) → IsBytes bytes → position (λ b. b == 0) bytes ≡ o
@@ -184,7 +189,7 @@ string_body e n bytes more rest t lt pos le is =
 
 string_rest : (e n : ℕ) (bytes more rest : List ℕ) → IsBytes bytes → past_number ValueShort e bytes ≡ Ok (n, more)
     → cond (eqb n 0 || ltb (length more) n) (fault BadStringLength (e - length bytes))
-        (past_zero StringUnended e (drop (n - 1) more) >>= λ r. text_at (e - length more) (take (n - 1) more) >>= λ s. after r) ≡ Ok rest
+    (past_zero StringUnended e (drop (n - 1) more) >>= λ r. text_at (e - length more) (take (n - 1) more) >>= λ s. after r) ≡ Ok rest
     → TakesString bytes rest
 string_rest e n bytes more rest fits one is =
     let t = number_takes ValueShort e bytes n more fits one in
@@ -222,8 +227,14 @@ frame_body top e n bytes more f t low high le all is =
     let joined : Takes bytes (number n ++ (take (n - 5) more ++ 0 ∷ [])) a.0 = Takes-then bytes (number n) more (take (n - 5) more ++ 0 ∷ []) a.0 t c.0 in
     let n-is : n ≡ length (take (n - 5) more) + 5 = omega (arith, c.1) in
     let made : Takes bytes (framed (take (n - 5) more)) a.0 = subst (λ (k : ℕ). Takes bytes (number k ++ (take (n - 5) more ++ 0 ∷ [])) a.0) n-is joined in
-    let size : length (framed (take (n - 5) more)) ≡ n = omega (arith, length-append (number (length (take (n - 5) more) + 5))
-        (take (n - 5) more ++ 0 ∷ []), number_length (length (take (n - 5) more) + 5), length-append (take (n - 5) more) (0 ∷ []), c.1) in
+    let size : length (framed (take (n - 5) more)) ≡ n = omega (
+      arith,
+      length-append (number (length (take (n - 5) more) + 5))
+          (take (n - 5) more ++ 0 ∷ []),
+      number_length (length (take (n - 5) more) + 5),
+      length-append (take (n - 5) more) (0 ∷ []),
+      c.1,
+    ) in
     let total : length bytes ≡ length (framed (take (n - 5) more)) + length a.0 = ap length made.parts ∙ length-append (framed (take (n - 5) more)) a.0 in
     let first : Frames top bytes (take (n - 5) more) a.0 = record {
       takes = made;
@@ -265,8 +276,13 @@ record TakesFixed (n : ℕ) (bytes rest : List ℕ) : Type 0 where
   pub fits : IsBytes front
 
 abbrev cut_at : (n : ℕ) (bytes : List ℕ) → IsBytes bytes → n ≤ length bytes → TakesFixed n bytes (drop n bytes)
-cut_at n bytes fits le = record { front = take n bytes; takes = record
-    { parts = sym (take-append-drop n bytes); rest_fits = IsBytes-drop n bytes fits }; size = omega (arith, length-take n bytes); fits = IsBytes-take n bytes fits }
+cut_at n bytes fits le = record {
+  front = take n bytes;
+  takes = record
+      { parts = sym (take-append-drop n bytes); rest_fits = IsBytes-drop n bytes fits };
+  size = omega (arith, length-take n bytes);
+  fits = IsBytes-take n bytes fits;
+}
 
 fixed_takes : (n e : ℕ) (bytes rest : List ℕ) → IsBytes bytes → past_fixed n e bytes ≡ Ok rest → TakesFixed n bytes rest
 fixed_takes n e bytes rest fits is =
@@ -296,7 +312,7 @@ int_takes e bytes rest fits is =
     let f = fixed_takes 4 e bytes rest fits is in
     let n = from_le_bytes w32 f.front in
     let back : number (cast_unsigned w32 (cast_signed w32 (from_le_bytes w32 f.front)))
-        ≡ f.front = ap number (of_z-to_z w32 (from_le_bytes w32 f.front) (number_below f.front f.fits)) ∙ number_back f.front f.size f.fits in
+    ≡ f.front = ap number (of_z-to_z w32 (from_le_bytes w32 f.front) (number_below f.front f.fits)) ∙ number_back f.front f.size f.fits in
     record { scalar = trees.int32 (cast_signed w32 (from_le_bytes w32 f.front)); value = f.front; spells = (search (arith, ints), sym back); takes = f.takes; kinded = refl }
 
 record TakesLong (bytes rest : List ℕ) : Type 0 where
@@ -310,7 +326,7 @@ long_takes : (e : ℕ) (bytes rest : List ℕ) → IsBytes bytes → past_fixed 
 long_takes e bytes rest fits is =
     let f = fixed_takes 8 e bytes rest fits is in
     let back : long (cast_unsigned w64 (cast_signed w64 (from_le_bytes w64 f.front)))
-        ≡ f.front = ap long (of_z-to_z w64 (from_le_bytes w64 f.front) (long_below f.front f.fits)) ∙ long_again f.front f.size f.fits in
+    ≡ f.front = ap long (of_z-to_z w64 (from_le_bytes w64 f.front) (long_below f.front f.fits)) ∙ long_again f.front f.size f.fits in
     record { front = f.front; takes = f.takes; number = cast_signed w64 (from_le_bytes w64 f.front); number_fits = search (arith, ints); is = sym back }
 
 timestamp_takes : (e : ℕ) (bytes rest : List ℕ) → IsBytes bytes → past_fixed 8 e bytes ≡ Ok rest → TakesScalar kinds.Timestamp bytes rest
@@ -323,20 +339,38 @@ timestamp_takes e bytes rest fits is =
     let first : number (from_le_bytes w32 (take 4 f.front)) ≡ take 4 f.front = number_back (take 4 f.front) low_size low in
     let second : number (from_le_bytes w32 (drop 4 f.front)) ≡ drop 4 f.front = number_back (drop 4 f.front) high_size high in
     let whole : f.front ≡ number (from_le_bytes w32 (take 4 f.front))
-        ++ number (from_le_bytes w32 (drop 4 f.front)) = sym (take-append-drop 4 f.front) ∙ ap₂ (λ (x y : List ℕ). x ++ y) (sym first) (sym second) in
-    record { scalar = trees.timestamp (from_le_bytes w32 (drop 4 f.front)) (from_le_bytes w32 (take 4 f.front)); value = f.front; spells =
-        (number_below (drop 4 f.front) high, number_below (take 4 f.front) low, whole); takes = f.takes; kinded = refl }
+    ++ number (from_le_bytes w32 (drop 4 f.front)) = sym (take-append-drop 4 f.front) ∙ ap₂ (λ (x y : List ℕ). x ++ y) (sym first) (sym second) in
+    record {
+      scalar = trees.timestamp (from_le_bytes w32 (drop 4 f.front)) (from_le_bytes w32 (take 4 f.front));
+      value = f.front;
+      spells =
+          (number_below (drop 4 f.front) high, number_below (take 4 f.front) low, whole);
+      takes = f.takes;
+      kinded = refl;
+    }
 
 boolean_takes : (e : ℕ) (bytes rest : List ℕ) → IsBytes bytes → past_boolean e bytes ≡ Ok rest → TakesScalar kinds.Bool bytes rest
 boolean_takes e [] rest fits is = absurd cc
 boolean_takes e (zero ∷ bs) rest fits is =
     let same = ok_is bs rest is in
-    record { scalar = trees.boolean false; value = 0 ∷ []; spells = refl; takes = record
-        { parts = ap (λ (x : List ℕ). 0 ∷ x) same; rest_fits = subst IsBytes same (IsBytes-rest 0 bs fits) }; kinded = refl }
+    record {
+      scalar = trees.boolean false;
+      value = 0 ∷ [];
+      spells = refl;
+      takes = record
+          { parts = ap (λ (x : List ℕ). 0 ∷ x) same; rest_fits = subst IsBytes same (IsBytes-rest 0 bs fits) };
+      kinded = refl;
+    }
 boolean_takes e (suc zero ∷ bs) rest fits is =
     let same = ok_is bs rest is in
-    record { scalar = trees.boolean true; value = 1 ∷ []; spells = refl; takes = record
-        { parts = ap (λ (x : List ℕ). 1 ∷ x) same; rest_fits = subst IsBytes same (IsBytes-rest 1 bs fits) }; kinded = refl }
+    record {
+      scalar = trees.boolean true;
+      value = 1 ∷ [];
+      spells = refl;
+      takes = record
+          { parts = ap (λ (x : List ℕ). 1 ∷ x) same; rest_fits = subst IsBytes same (IsBytes-rest 1 bs fits) };
+      kinded = refl;
+    }
 boolean_takes e (suc (suc b) ∷ bs) rest fits is = absurd (let g = guard_ok (ltb 1 (suc (suc b))) _ (done bs) rest is in let le = ltb-false 1 (suc (suc b)) g.0 in omega arith)
 
 pointer_takes : (e : ℕ) (bytes rest : List ℕ) → IsBytes bytes → (past_string e bytes >>= λ more. past_fixed 12 e more) ≡ Ok rest → TakesScalar kinds.DbPointer bytes rest
@@ -344,8 +378,14 @@ pointer_takes e bytes rest fits is =
     let a = bind_ok (past_string e bytes) _ rest is in
     let s = string_takes e bytes a.0 fits a.1 in
     let f = fixed_takes 12 e a.0 rest s.takes.rest_fits a.2 in
-    record { scalar = trees.db_pointer s.text_bytes f.front; value = string s.text_bytes
-        ++ f.front; spells = ((s.utf8, s.short), f.size, refl); takes = Takes-then bytes (string s.text_bytes) a.0 f.front rest s.takes f.takes; kinded = refl }
+    record {
+      scalar = trees.db_pointer s.text_bytes f.front;
+      value = string s.text_bytes
+          ++ f.front;
+      spells = ((s.utf8, s.short), f.size, refl);
+      takes = Takes-then bytes (string s.text_bytes) a.0 f.front rest s.takes f.takes;
+      kinded = refl;
+    }
 
 regex_takes : (e : ℕ) (bytes rest : List ℕ) → IsBytes bytes → past_regex e bytes ≡ Ok rest → TakesScalar kinds.Regex bytes rest
 regex_takes e bytes rest fits is =
@@ -355,8 +395,14 @@ regex_takes e bytes rest fits is =
     let o = name_takes StringUnended e a.0.1 b.0.0 b.0.1 p.0.rest_fits b.1 in
     let joined = Takes-then bytes (a.0.0 ++ 0 ∷ []) a.0.1 (b.0.0 ++ 0 ∷ []) b.0.1 p.0 o.0 in
     let made : Takes bytes (a.0.0 ++ 0 ∷ (b.0.0 ++ 0 ∷ [])) b.0.1 = subst (λ (x : List ℕ). Takes bytes x b.0.1) (append_assoc a.0.0 (0 ∷ []) (b.0.0 ++ 0 ∷ [])) joined in
-    record { scalar = trees.regex a.0.0 b.0.0; value = a.0.0 ++ 0 ∷ (b.0.0 ++ 0 ∷ []); spells = (p.1, o.1, refl); takes =
-        subst (Takes bytes (a.0.0 ++ 0 ∷ (b.0.0 ++ 0 ∷ []))) (ok_is b.0.1 rest b.2) made; kinded = refl }
+    record {
+      scalar = trees.regex a.0.0 b.0.0;
+      value = a.0.0 ++ 0 ∷ (b.0.0 ++ 0 ∷ []);
+      spells = (p.1, o.1, refl);
+      takes =
+          subst (Takes bytes (a.0.0 ++ 0 ∷ (b.0.0 ++ 0 ∷ []))) (ok_is b.0.1 rest b.2) made;
+      kinded = refl;
+    }
 
 -- ---- binary
 
@@ -386,7 +432,7 @@ data_alone subtype count bytes fits two le =
 
 data_cases : (two : Bool) (at subtype count : ℕ) (bytes rest : List ℕ) → IsBytes bytes → (subtype == 2) ≡ two → count ≤ length bytes
     → cond (two && ltb count 4) (fault BadBinaryLength at) (cond (two && not (eqb (number_of bytes) (count - 4))) (fault BadBinaryLength (at + 5))
-        (done (drop count bytes))) ≡ Ok rest → TakesData subtype count bytes rest
+    (done (drop count bytes))) ≡ Ok rest → TakesData subtype count bytes rest
 data_cases true at subtype count bytes rest fits two le is =
     let g = guard_ok (ltb count 4) _ _ rest is in
     let h = guard_ok (not (eqb (number_of bytes) (count - 4))) _ (done (drop count bytes)) rest g.1 in
@@ -407,13 +453,19 @@ binary_rest e bytes rest fits least few le is =
     let k = get_or bytes 4 0 in
     let d = data_takes (e - length bytes) (get_or bytes 4 0) (number_of bytes) (drop 5 bytes) rest (IsBytes-drop 5 bytes fits) (omega (arith, length-drop 5 bytes)) is in
     let front : number (length (data_of (get_or bytes 4 0) d.payload)) ≡ take 4 bytes = ap number d.size
-        ∙ number_back (take 4 bytes) (omega (arith, length-take 4 bytes)) (IsBytes-take 4 bytes fits) in
+    ∙ number_back (take 4 bytes) (omega (arith, length-take 4 bytes)) (IsBytes-take 4 bytes fits) in
     let whole : bytes ≡ (number (length (data_of (get_or bytes 4 0) d.payload)) ++ get_or bytes 4 0 ∷ data_of (get_or bytes 4 0) d.payload) ++ rest =
     five_split bytes least ∙ ap₂ (λ (x y : List ℕ). x ++ get_or bytes 4 0 ∷ y) (sym front) d.takes.parts
-        ∙ sym (append_assoc (number (length (data_of (get_or bytes 4 0) d.payload))) (get_or bytes 4 0 ∷ data_of (get_or bytes 4 0) d.payload) rest) in
-    record { scalar = trees.binary (get_or bytes 4 0) d.payload; value = number (length (data_of (get_or bytes 4 0) d.payload)) ++ get_or bytes 4 0
-        ∷ data_of (get_or bytes 4 0) d.payload; spells = (fits 4, omega (arith, d.size), refl); takes = record
-        { parts = whole; rest_fits = d.takes.rest_fits }; kinded = refl }
+    ∙ sym (append_assoc (number (length (data_of (get_or bytes 4 0) d.payload))) (get_or bytes 4 0 ∷ data_of (get_or bytes 4 0) d.payload) rest) in
+    record {
+      scalar = trees.binary (get_or bytes 4 0) d.payload;
+      value = number (length (data_of (get_or bytes 4 0) d.payload)) ++ get_or bytes 4 0
+          ∷ data_of (get_or bytes 4 0) d.payload;
+      spells = (fits 4, omega (arith, d.size), refl);
+      takes = record
+          { parts = whole; rest_fits = d.takes.rest_fits };
+      kinded = refl;
+    }
 
 binary_takes : (e : ℕ) (bytes rest : List ℕ) → IsBytes bytes → past_binary e bytes ≡ Ok rest → TakesScalar kinds.Binary bytes rest
 unfolding past_binary
@@ -513,12 +565,25 @@ value_takes room nested kinds.Doc q e bytes rest below fits is =
     record { tree = doc d.fields; value = framed d.body; spells = (d.body, d.spell, refl); takes = d.takes; kinded = refl; shallow = let lt = d.shallow in omega arith }
 value_takes room nested kinds.Array q e bytes rest below fits is =
     let d = below holders.Array q e bytes rest fits is in
-    record { tree = array (items_in d.fields); value = framed d.body; spells = (d.body, items_from_fields d.fields d.body d.spell, refl); takes =
-        d.takes; kinded = refl; shallow = let lt = d.shallow in omega (arith, items_depth_is d.fields) }
+    record {
+      tree = array (items_in d.fields);
+      value = framed d.body;
+      spells = (d.body, items_from_fields d.fields d.body d.spell, refl);
+      takes =
+          d.takes;
+      kinded = refl;
+      shallow = let lt = d.shallow in omega (arith, items_depth_is d.fields);
+    }
 value_takes room nested kinds.CodeScope q e bytes rest below fits is =
     let d = below holders.CodeScope q e bytes rest fits is in
-    record { tree = code_scope d.text_bytes d.fields; value = scoped d.text_bytes (framed d.body); spells = (d.body, d.spell, refl, d.text_fits);
-        takes = d.takes; kinded = refl; shallow = let lt = d.shallow in omega arith }
+    record {
+      tree = code_scope d.text_bytes d.fields;
+      value = scoped d.text_bytes (framed d.body);
+      spells = (d.body, d.spell, refl, d.text_fits);
+      takes = d.takes;
+      kinded = refl;
+      shallow = let lt = d.shallow in omega arith;
+    }
 
 -- ---- types
 
@@ -544,8 +609,25 @@ known_ok (Some f) q type is = cc
 
 pub type_takes : (q b : ℕ) (type : ElementType) → known q (type_at b) ≡ Ok type → b ≡ byte_told type
 type_takes q b type is =
-    in_table table.types b type (refl, (refl, (refl, (refl, (refl, (refl,
-        (refl, (refl, (refl, (refl, (refl, (refl, (refl, (refl, (refl, (refl, (refl, (refl, (refl, (refl, (refl, tt))))))))))))))))))))) (known_ok (type_at b) q type is)
+    in_table table.types b type (
+      refl,
+      (
+        refl,
+        (
+          refl,
+          (
+            refl,
+            (
+              refl,
+              (
+                refl,
+                (refl, (refl, (refl, (refl, (refl, (refl, (refl, (refl, (refl, (refl, (refl, (refl, (refl, (refl, (refl, tt))))))))))))))),
+              ),
+            ),
+          ),
+        ),
+      ),
+    ) (known_ok (type_at b) q type is)
 
 -- a value of a type that is read
 record TakesTyped (room : ℕ) (type : ElementType) (bytes rest : List ℕ) : Type 0 where
@@ -641,7 +723,7 @@ code_frame_of a b c = Ok (a, b, c)
 
 code_frame_rest : (e n : ℕ) (bytes more : List ℕ) (f : List ℕ × ℕ × List ℕ) → IsBytes bytes → past_number ValueShort e bytes ≡ Ok (n, more)
     → cond (ltb n 14 || ltb (length bytes) n) (fault BadScopeLength (e - length bytes))
-        (code_frame_of (take (n - 4) more) (e - length (drop (n - 4) more)) (drop (n - 4) more)) ≡ Ok f → TakesCodeFrame bytes f.0 f.2
+    (code_frame_of (take (n - 4) more) (e - length (drop (n - 4) more)) (drop (n - 4) more)) ≡ Ok f → TakesCodeFrame bytes f.0 f.2
 code_frame_rest e n bytes more f fits one is =
     let t = number_takes ValueShort e bytes n more fits one in
     let g = guard_ok (ltb n 14 || ltb (length bytes) n) _ (code_frame_of (take (n - 4) more) (e - length (drop (n - 4) more)) (drop (n - 4) more)) f is in
@@ -679,8 +761,8 @@ code_takes room nested q e bytes rest below fits is =
     let scope = below holders.Document q f.0.1 s.0 d.0 code.takes.rest_fits (within_ok (codes "$scope") (nested holders.Document q f.0.1 s.0) d.0 d.1) in
     let both_parts = Takes-then f.0.0 (string code.text_bytes) s.0 (framed scope.body) d.0 code.takes scope.takes in
     let whole : f.0.0 ≡ string code.text_bytes ++ framed scope.body = both_parts.parts
-        ∙ ap (λ (x : List ℕ). (string code.text_bytes ++ framed scope.body) ++ x) (scope_ends (e - length bytes) d.0 z.1)
-        ∙ append-nil (string code.text_bytes ++ framed scope.body) in
+    ∙ ap (λ (x : List ℕ). (string code.text_bytes ++ framed scope.body) ++ x) (scope_ends (e - length bytes) d.0 z.1)
+    ∙ append-nil (string code.text_bytes ++ framed scope.body) in
     let made : TakesCode (suc room) bytes f.0.2 = record {
       text_bytes = code.text_bytes;
       fields = scope.fields;

@@ -64,7 +64,7 @@ scope_fails r nested q e bytes parts end rest scope one two h = rw (one, two) (f
 pub element_fails : (r : Stop) (nested : Nested) (place : Option ℕ) (e : ℕ) (bytes : List ℕ) (type : ElementType) (more name rest : List ℕ)
     → 0 < length bytes → known (e - length bytes) (type_at (get_or bytes 0 0)) ≡ Ok type
     → drop 1 bytes ≡ more → past_name NameUnended e more ≡ Ok (name, rest)
-        → FailsAtItem r (within (label place name) (past_typed nested type (e - length bytes) e rest)) → FailsAtItem r (past_element nested place e bytes)
+    → FailsAtItem r (within (label place name) (past_typed nested type (e - length bytes) e rest)) → FailsAtItem r (past_element nested place e bytes)
 unfolding past_element
 element_fails r nested place e [] type more name rest lt one cut two fails = absurd (omega arith)
 element_fails stops.NoMemory nested place e (first ∷ bytes) type more name rest lt one cut two fails = tt

@@ -66,8 +66,15 @@ string_again e s rest h =
     let lt = h.1 in
     let k : (length s + 1) - 1 ≡ length s = omega arith in
     let tests = string_tests (length s + 1) (length (s ++ 0 ∷ rest)) (omega arith) (omega (arith, length-append s (0 ∷ rest))) in
-    ap (past_string e) (string_after s rest) ∙ rw (number_again ValueShort e (length s + 1) (s ++ 0 ∷ rest) lt, tests, k, drop_at s (0 ∷ rest)
-        (length s) refl, take_at s (0 ∷ rest) (length s) refl, text_again (e - length (s ++ 0 ∷ rest)) s utf8) refl
+    ap (past_string e) (string_after s rest) ∙ rw (
+      number_again ValueShort e (length s + 1) (s ++ 0 ∷ rest) lt,
+      tests,
+      k,
+      drop_at s (0 ∷ rest)
+          (length s) refl,
+      take_at s (0 ∷ rest) (length s) refl,
+      text_again (e - length (s ++ 0 ∷ rest)) s utf8,
+    ) refl
 
 frame_tests : (top : Bool) (n m : ℕ) → 5 ≤ n → n ≤ longest_document → n ≤ m → (top ≡ true → n ≡ m) → (ltb n 5 || ltb longest_document n || ltb m n || (top && not (eqb n m))) ≡ false
 frame_tests true n m low high le all = let same = all refl in grind (arith, nat_tests)
@@ -79,16 +86,26 @@ unfolding past_frame
 frame_again top e body rest short all =
     let n = length body + 5 in
     let whole : framed body ++ rest ≡ number (length body + 5) ++ (body ++ 0 ∷ rest) = append_assoc (number (length body + 5)) (body ++ 0 ∷ []) rest
-        ∙ ap (λ (x : List ℕ). number (length body + 5) ++ x) (append_assoc body (0 ∷ []) rest) in
+    ∙ ap (λ (x : List ℕ). number (length body + 5) ++ x) (append_assoc body (0 ∷ []) rest) in
     let k : (length body + 5) - 5 ≡ length body = omega arith in
     let size : length (number (length body + 5) ++ (body ++ 0 ∷ rest))
-        ≡ length body + 5 + length rest = omega (arith, length-append (number (length body + 5)) (body ++ 0 ∷ rest), number_length (length body + 5),
-        length-append body (0 ∷ rest)) in
+    ≡ length body + 5 + length rest = omega (
+      arith,
+      length-append (number (length body + 5)) (body ++ 0 ∷ rest),
+      number_length (length body + 5),
+      length-append body (0 ∷ rest),
+    ) in
     let total : length (framed body) ≡ length body + 5 = omega (arith, length-append (number (length body + 5)) (body ++ 0 ∷ []), number_length (length body + 5), length-append body (0 ∷ [])) in
     let tests = frame_tests top (length body + 5) (length (number (length body + 5) ++ (body ++ 0 ∷ rest))) (omega arith)
-        (omega (arith, total, short)) (omega (arith, size)) (λ is. omega (arith, size, ap length (all is))) in
-    ap (past_frame top e) whole ∙ rw (number_again (cond top ShortLength ValueShort) e (length body + 5) (body ++ 0 ∷ rest)
-        (omega (arith, total, short)), tests, k, drop_at body (0 ∷ rest) (length body) refl, take_at body (0 ∷ rest) (length body) refl) refl
+    (omega (arith, total, short)) (omega (arith, size)) (λ is. omega (arith, size, ap length (all is))) in
+    ap (past_frame top e) whole ∙ rw (
+      number_again (cond top ShortLength ValueShort) e (length body + 5) (body ++ 0 ∷ rest)
+          (omega (arith, total, short)),
+      tests,
+      k,
+      drop_at body (0 ∷ rest) (length body) refl,
+      take_at body (0 ∷ rest) (length body) refl,
+    ) refl
 
 pub type_again : (q : ℕ) (k : Kind) → known q (type_at (type_byte k)) ≡ Ok (types.Kept k)
 type_again q k = ap (known q) (type_is k)
@@ -159,7 +176,7 @@ data_again at k s rest lt =
     let inner : (k == 2) ≡ true → number_of (data_of k s ++ rest) ≡ length (data_of k s) - 4 = λ two.
     let n : length s < 2 ^ 32 = omega (arith, data_length k s two) in
     ap (λ (x : List ℕ). number_of (x ++ rest)) (chosen (k == 2) (number (length s) ++ s) s two)
-        ∙ ap number_of (append_assoc (number (length s)) s rest) ∙ number_front (length s) (s ++ rest) n ∙ omega (arith, data_length k s two) in
+    ∙ ap number_of (append_assoc (number (length s)) s rest) ∙ number_front (length s) (s ++ rest) n ∙ omega (arith, data_length k s two) in
     let t = data_tests (k == 2) (length (data_of k s)) (number_of (data_of k s ++ rest)) least inner in
     guards _ _ _ _ (drop (length (data_of k s)) (data_of k s ++ rest)) t.0 t.1 ∙ ap given (drop_at (data_of k s) rest (length (data_of k s)) refl)
 
@@ -171,9 +188,13 @@ unfolding past_binary
 binary_again e k s rest lt =
     let v = (number (length (data_of k s)) ++ k ∷ data_of k s) ++ rest in
     let n = binary_count k (data_of k s) rest lt in
-    let size : length v ≡ 5 + length (data_of k s) + length rest = omega
-        (arith, length-append (number (length (data_of k s)) ++ k ∷ data_of k s) rest, length-append (number (length (data_of k s)))
-        (k ∷ data_of k s), number_length (length (data_of k s))) in
+    let size : length v ≡ 5 + length (data_of k s) + length rest = omega (
+      arith,
+      length-append (number (length (data_of k s)) ++ k ∷ data_of k s) rest,
+      length-append (number (length (data_of k s)))
+          (k ∷ data_of k s),
+      number_length (length (data_of k s)),
+    ) in
     let long : ltb (length v) 5 ≡ false = le-ltb _ _ (omega (arith, size)) in
     let tests : (ltb 2147483647 (number_of v) || ltb (length v) (5 + number_of v)) ≡ false = binary_tests (number_of v) (length v) (omega (arith, n)) (omega (arith, n, size)) in
     let after : drop 5 v ≡ data_of k s ++ rest = ap (drop 5) (binary_whole k (data_of k s) rest) ∙ after_five (length (data_of k s)) k (data_of k s ++ rest) in
@@ -211,10 +232,16 @@ code_frame_again e parts rest least short =
     let whole : (number (length parts + 4) ++ parts) ++ rest ≡ number (length parts + 4) ++ (parts ++ rest) = append_assoc (number (length parts + 4)) parts rest in
     let k : (length parts + 4) - 4 ≡ length parts = omega arith in
     let size : length (number (length parts + 4) ++ (parts ++ rest)) ≡ length parts + 4 + length rest = omega
-        (arith, length-append (number (length parts + 4)) (parts ++ rest), number_length (length parts + 4), length-append parts rest) in
+    (arith, length-append (number (length parts + 4)) (parts ++ rest), number_length (length parts + 4), length-append parts rest) in
     let tests = code_tests (length parts + 4) (length (number (length parts + 4) ++ (parts ++ rest))) (omega arith) (omega (arith, size)) in
-    ap (past_code_frame e) whole ∙ rw (number_again ValueShort e (length parts + 4) (parts ++ rest) (omega arith), tests, k, drop_at parts rest
-        (length parts) refl, take_at parts rest (length parts) refl) refl
+    ap (past_code_frame e) whole ∙ rw (
+      number_again ValueShort e (length parts + 4) (parts ++ rest) (omega arith),
+      tests,
+      k,
+      drop_at parts rest
+          (length parts) refl,
+      take_at parts rest (length parts) refl,
+    ) refl
 
 code_nested : (r q e : ℕ) (s body rest : List ℕ) → IsText s → length (string s ++ framed body) ≤ longest_document → ((e : ℕ) → past_elements (past_nested r) None (length body) e body ≡ Ok tt)
     → past_nested (suc (suc r)) holders.CodeScope q e (scoped s (framed body) ++ rest) ≡ Ok rest
@@ -267,9 +294,9 @@ mutual
   fields_again (field name t fs) place room (suc n) e bytes h deep short turns =
       let size = parts_length t name h.0 h.1 bytes h.5 in
       let first : past_element (past_nested room) place e bytes ≡ Ok h.1 = rw h.5
-          (element_again (past_nested room) place e t name h.0 h.1 h.2 (λ q. value_again t room q e h.0 h.1 h.3 (omega arith) (omega (arith, size)))) in
+      (element_again (past_nested room) place e t name h.0 h.1 h.2 (λ q. value_again t room q e h.0 h.1 h.3 (omega arith) (omega (arith, size)))) in
       elements_cons (past_nested room) place n e bytes h.1 (omega (arith, size)) first
-          (fields_again fs (option_map suc place) room n e h.1 h.4 (omega arith) (omega (arith, size)) (omega (arith, size)))
+      (fields_again fs (option_map suc place) room n e h.1 h.4 (omega arith) (omega (arith, size)) (omega (arith, size)))
 
   pub items_again : (ts : Items) (place : Option ℕ) (room n e : ℕ) (bytes : List ℕ) → AreItems ts bytes → items_depth ts ≤ room
       → length bytes ≤ longest_document → length bytes ≤ n → past_elements (past_nested room) place n e bytes ≡ Ok tt
@@ -278,9 +305,9 @@ mutual
   items_again (item t ts) place room (suc n) e bytes h deep short turns =
       let size = parts_length t h.0 h.1 h.2 bytes h.6 in
       let first : past_element (past_nested room) place e bytes ≡ Ok h.2 = rw h.6
-          (element_again (past_nested room) place e t h.0 h.1 h.2 h.3 (λ q. value_again t room q e h.1 h.2 h.4 (omega arith) (omega (arith, size)))) in
+      (element_again (past_nested room) place e t h.0 h.1 h.2 h.3 (λ q. value_again t room q e h.1 h.2 h.4 (omega arith) (omega (arith, size)))) in
       elements_cons (past_nested room) place n e bytes h.2 (omega (arith, size)) first
-          (items_again ts (option_map suc place) room n e h.2 h.5 (omega arith) (omega (arith, size)) (omega (arith, size)))
+      (items_again ts (option_map suc place) room n e h.2 h.5 (omega arith) (omega (arith, size)) (omega (arith, size)))
 
 -- a document's bytes have no fault
 pub document_again : (e : ℕ) (bytes : List ℕ) (d : Doc) → IsDocument d bytes → past_document e bytes ≡ Ok tt
@@ -290,5 +317,9 @@ document_again e bytes d h =
     let size : length (framed s.0) ≤ longest_document = let m = h.short in omega (arith, ap length s.2) in
     let deep : fields_depth (fields_of d) ≤ most_levels - 1 = let m = h.shallow in omega arith in
     let whole : bytes ≡ framed s.0 ++ [] = s.2 ∙ sym (append-nil (framed s.0)) in
-    rw (whole, frame_again true e s.0 [] size (λ is. refl), fields_again (fields_of d) None (most_levels - 1) (length s.0)
-        (e - length {A = ℕ} (0 ∷ [])) s.0 s.1 deep (omega (arith, size, framed_length s.0)) (omega arith)) refl
+    rw (
+      whole,
+      frame_again true e s.0 [] size (λ is. refl),
+      fields_again (fields_of d) None (most_levels - 1) (length s.0)
+          (e - length {A = ℕ} (0 ∷ [])) s.0 s.1 deep (omega (arith, size, framed_length s.0)) (omega arith),
+    ) refl

@@ -10,7 +10,7 @@ ghost use Rattle.bd_device.specs.Devices.{over};
 
 use bd_bson::{Dump, read_dump};
 use bd_device::{Input, Output, read_all};
-use bd_files::output::lines::is_want_of_memory;
+use bd_files::output::fault::is_want_of_memory;
 use bd_files::output::messages::{
     tell_dump_fault, tell_no_memory, tell_read_fault, tell_unwritten,
 };

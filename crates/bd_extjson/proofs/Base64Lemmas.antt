@@ -49,8 +49,8 @@ char_bytes c top = go (nat_lt c 128) (nat_lt c 2048) (nat_lt c 65536) refl refl 
 
     go : (x y z : Bool) → nat_lt c 128 ≡ x → nat_lt c 2048 ≡ y → nat_lt c 65536 ≡ z
         → AreBytes (cond x (c ∷ []) (cond y ((192 + c / 64) ∷ (128 + c % 64) ∷ [])
-            (cond z ((224 + c / 4096) ∷ (128 + c / 64 % 64) ∷ (128 + c % 64) ∷ [])
-            ((240 + c / 262144) ∷ (128 + c / 4096 % 64) ∷ (128 + c / 64 % 64) ∷ (128 + c % 64) ∷ []))))
+        (cond z ((224 + c / 4096) ∷ (128 + c / 64 % 64) ∷ (128 + c % 64) ∷ [])
+        ((240 + c / 262144) ∷ (128 + c / 4096 % 64) ∷ (128 + c / 64 % 64) ∷ (128 + c % 64) ∷ []))))
     go true y z p q r = let e = ltb-true c 128 p in one c (omega arith)
     go false true z p q r = let e = ltb-true c 2048 q in more (192 + c / 64) ((128 + c % 64) ∷ []) (omega arith) (one (128 + c % 64) (omega arith))
     go false false true p q r =

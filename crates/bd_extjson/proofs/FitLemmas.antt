@@ -203,7 +203,7 @@ pair_holds : (A B : Type 0) (P : A → Type 0) (Q : B → Type 0) (f : Json → 
     → (a b : List ℕ) (j : Json) → IsTextJson j → Holds (A × B) (λ x. P x.0 × Q x.1) (option_and_then (both_in f g) (pair a b j))
 pair_holds A B P Q f g p q a b j is =
     then (Json × Json) (A × B) (λ x. IsTextJson x.0 × IsTextJson x.1) (λ x. P x.0 × Q x.1) (both_in f g)
-        (λ x h. both_hold A B P Q (f x.0) (g x.1) (p x.0 h.0) (q x.1 h.1)) (pair a b j) (pair_text a b j is)
+    (λ x h. both_hold A B P Q (f x.0) (g x.1) (p x.0 h.0) (q x.1 h.1)) (pair a b j) (pair_text a b j is)
 
 long_fits : (o : Option Json) → Holds ℤ (FitsSigned w64) (long_in o)
 long_fits None = tt
@@ -224,20 +224,20 @@ single_fits kinds.Oid j is = mapped (List ℕ) Scalar IsId IsSoundScalar (λ b. 
 single_fits kinds.Symbol j is = mapped (List ℕ) Scalar IsUtf8 IsSoundScalar (λ s. trees.symbol s) (λ s h. (tt, h)) (as_str j) (string_in j is)
 single_fits kinds.Binary j is = mapped (List ℕ × ℕ) Scalar (λ x. AreBytes x.0 × (x.1 < 256)) IsSoundScalar (λ (p : List ℕ × ℕ). trees.binary p.1 p.0) (λ x h. ((h.1, h.0), tt))
     (option_and_then (both_in data_in subtype_in) (pair (codes "base64") (codes "subType") j))
-        (pair_holds (List ℕ) ℕ AreBytes (λ v. v < 256) data_in subtype_in data_fits subtype_fits (codes "base64") (codes "subType") j is)
+    (pair_holds (List ℕ) ℕ AreBytes (λ v. v < 256) data_in subtype_in data_fits subtype_fits (codes "base64") (codes "subType") j is)
 single_fits kinds.Uuid j is = tt
 single_fits kinds.Code j is = mapped (List ℕ) Scalar IsUtf8 IsSoundScalar (λ s. trees.code s) (λ s h. (tt, h)) (as_str j) (string_in j is)
 single_fits kinds.Scope j is = tt
 single_fits kinds.Timestamp j is = mapped (ℕ × ℕ) Scalar (λ x. (x.0 < 2 ^ 32) × (x.1 < 2 ^ 32)) IsSoundScalar (λ (p : ℕ × ℕ). trees.timestamp p.0 p.1) (λ x h. (h, tt))
     (option_and_then (both_in word_in word_in) (pair (codes "t") (codes "i") j))
-        (pair_holds ℕ ℕ (λ n. n < 2 ^ 32) (λ n. n < 2 ^ 32) word_in word_in (λ i p. word_fits i) (λ i p. word_fits i) (codes "t") (codes "i") j is)
+    (pair_holds ℕ ℕ (λ n. n < 2 ^ 32) (λ n. n < 2 ^ 32) word_in word_in (λ i p. word_fits i) (λ i p. word_fits i) (codes "t") (codes "i") j is)
 single_fits kinds.RegularExpression j is = mapped (List ℕ × List ℕ) Scalar (λ x. IsUtf8 x.0 × IsUtf8 x.1) IsSoundScalar (λ (p : List ℕ × List ℕ). trees.regex p.0 p.1) (λ x h. (tt, h))
     (option_and_then (both_in name_in name_in) (pair (codes "pattern") (codes "options") j))
-        (pair_holds (List ℕ) (List ℕ) IsUtf8 IsUtf8 name_in name_in name_text name_text (codes "pattern") (codes "options") j is)
+    (pair_holds (List ℕ) (List ℕ) IsUtf8 IsUtf8 name_in name_in name_text name_text (codes "pattern") (codes "options") j is)
 single_fits kinds.DbPointer j is = mapped (List ℕ × List ℕ) Scalar (λ x. IsUtf8 x.0 × IsId x.1) IsSoundScalar (λ (p : List ℕ × List ℕ). trees.db_pointer p.0 p.1) (λ x h. (h.1, h.0))
     (option_and_then (both_in as_str (λ i. option_and_then id_of (only (codes "$oid") i))) (pair (codes "$ref") (codes "$id") j))
     (pair_holds (List ℕ) (List ℕ) IsUtf8 IsId as_str (λ i. option_and_then id_of (only (codes "$oid") i)) string_in
-        (λ i p. then Json (List ℕ) IsTextJson IsId id_of id_fits (only (codes "$oid") i) (only_text (codes "$oid") i p)) (codes "$ref") (codes "$id") j is)
+    (λ i p. then Json (List ℕ) IsTextJson IsId id_of id_fits (only (codes "$oid") i) (only_text (codes "$oid") i p)) (codes "$ref") (codes "$id") j is)
 single_fits kinds.Date j is = mapped ℤ Scalar (FitsSigned w64) IsSoundScalar (λ z. trees.date z) (λ z h. (h, tt)) (long_in (only (codes "$numberLong") j)) (long_fits (only (codes "$numberLong") j))
 single_fits kinds.MinKey j is = if_true_fits (one j) trees.min_key (tt, tt)
 single_fits kinds.MaxKey j is = if_true_fits (one j) trees.max_key (tt, tt)

@@ -254,11 +254,13 @@ same f g h (Some q) = ap (option_map (λ a. (a, q.1))) (h q.0)
 pub scope_read : (k : List ℕ) (room depth n : ℕ) (ts r : List Token) (j : Json) (t : Option Tree) (u : Tree) → is_scope_name (wrapper_of k) ≡ true
     → through (wrap (room - 1)) (value depth ts) ≡ Some (u, r)
     → (i : Json) × (through (wrapping room kinds.Code j t) (after_key depth n (Some k) ts)
-        ≡ through (λ ms. wrapper_tree room kinds.Code j t (after_one (Some kinds.Scope) i (Some u) ms)) (members (value depth) n r))
+    ≡ through (λ ms. wrapper_tree room kinds.Code j t (after_one (Some kinds.Scope) i (Some u) ms)) (members (value depth) n r))
 scope_read k room depth n ts r j t u e f =
-    let p = was_read (wrap (room - 1)) (value depth ts) u r f in
-    (p.0, member_is (wrapping room kinds.Code j t) k depth n ts r p.0 p.1
-        ∙ same (λ ms. wrapping room kinds.Code j t (json.member k p.0 ms)) _ (λ ms. code_after k room j p.0 t (Some u) ms e p.2) (members (value depth) n r))
+    let p = was_read (wrap (room - 1)) (value depth ts) u r f in (
+      p.0,
+      member_is (wrapping room kinds.Code j t) k depth n ts r p.0 p.1
+          ∙ same (λ ms. wrapping room kinds.Code j t (json.member k p.0 ms)) _ (λ ms. code_after k room j p.0 t (Some u) ms e p.2) (members (value depth) n r),
+    )
 
 pub scope_unended : (k : List ℕ) (room depth n : ℕ) (ts r : List Token) (j : Json) (t : Option Tree) (u : Tree) → is_scope_name (wrapper_of k) ≡ true
     → through (wrap (room - 1)) (value depth ts) ≡ Some (u, r)
@@ -315,7 +317,7 @@ first_unread k room depth n ts e f = go (was_not_read (wrap (room - 1)) (value d
     go (inl none) = unreadable (wrap_object room) k depth n ts none
     go (inr p) = first_part kinds.Scope k room depth n ts p.1 p.0 e p.2
         ∙ never (wrapping room kinds.Scope p.0 (wrap (room - 1) p.0)) (λ ms. ap (λ t. wrapping room kinds.Scope p.0 t ms) p.3
-            ∙ scope_first_fails room p.0 (after (room - 1) ms)) (members (value depth) n p.1)
+        ∙ scope_first_fails room p.0 (after (room - 1) ms)) (members (value depth) n p.1)
 
 pub first_read : (k : List ℕ) (room depth n : ℕ) (ts r : List Token) (u : Tree) → wrapper_of k ≡ Some kinds.Scope → through (wrap (room - 1)) (value depth ts) ≡ Some (u, r)
     → (j : Json) × (through (wrap_object room) (after_key depth n (Some k) ts) ≡ through (wrapping room kinds.Scope j (Some u)) (members (value depth) n r))

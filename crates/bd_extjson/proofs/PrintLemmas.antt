@@ -86,7 +86,7 @@ mutual
   printed-members (member n x ms) later rest =
       ap (λ (l : List Token). print_from later (Token.key n ∷ l)) (append_assoc (json_tokens (kit_json x)) (members_tokens (kit_members ms)) rest)
       ∙ ap₂ (λ (a b : List ℕ). a ++ ((kit_print.quoted n ++ 58 ∷ []) ++ b)) (comma later) (printed x false (members_tokens (kit_members ms) ++ rest)
-          ∙ ap (λ (l : List ℕ). print x ++ l) (printed-members ms true rest))
+      ∙ ap (λ (l : List ℕ). print x ++ l) (printed-members ms true rest))
       ∙ ap (λ (q : List ℕ). before later 44 ++ ((q ++ 58 ∷ []) ++ (print x ++ (print_members true ms ++ print_from true rest)))) (quoted-kit n) ∙ simp append_assoc
 
 pub print-kit_json : (x : Json) → print x ≡ kit_print.print (json_tokens (kit_json x))

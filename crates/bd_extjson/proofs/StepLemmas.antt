@@ -192,7 +192,7 @@ plain_after k room j (Some q) h e =
 
 plain_turn : (k : List ℕ) (room : ℕ) (more : Parse json.Members) (v : Option (Json × List Token)) → 0 < room → wrapper_of k ≡ None
     → through (wrap_object room) (option_and_then (λ p. parse_map (json.member k p.0) (more p.1)) v)
-        ≡ parse_map doc (through (wrap_fields (room - 1)) (option_and_then (λ p. parse_map (json.member k p.0) (more p.1)) v))
+    ≡ parse_map doc (through (wrap_fields (room - 1)) (option_and_then (λ p. parse_map (json.member k p.0) (more p.1)) v))
 plain_turn k room more None h e = refl
 plain_turn k room more (Some p) h e = plain_after k room p.0 (more p.1) h e
 
@@ -249,7 +249,7 @@ first_name depth ts r key e =
 pub object_is_wrapper : {X : Type 0} (view : X → Tree) (result : Result X Trouble) (rest : List Token) (w : Wrapper) (room depth n : ℕ)
     (ts : List Token) (key : Option (List ℕ)) → option_and_then wrapper_of key ≡ Some w
     → ((name : List ℕ) → wrapper_of name ≡ Some w → GivesTokens view result rest (through (wrap_object room) (after_key depth n (Some name) ts)))
-        → GivesTokens view result rest (through (wrap_object room) (after_key depth n key ts))
+    → GivesTokens view result rest (through (wrap_object room) (after_key depth n key ts))
 object_is_wrapper view result rest w room depth n ts None e f = absurd cc
 object_is_wrapper view result rest w room depth n ts (Some name) e f = f name e
 

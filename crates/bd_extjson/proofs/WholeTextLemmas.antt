@@ -33,7 +33,7 @@ pub whole_text : (text : List ℕ) (ts rest : List Token) (t : Tree) → IsUtf8 
     → through (wrap most_levels) (value most_brackets ts) ≡ Some (t, rest) → rest ≡ [] → option_and_then (wrap most_levels) (json text) ≡ Some t
 whole_text text ts rest t u e r n =
     ap (option_and_then (wrap most_levels)) (json_is text (is_utf8-from_IsUtf8 text u))
-        ∙ last (value most_brackets (tokens text)) t (ap (λ k. through (wrap most_levels) (value most_brackets k)) (sym e) ∙ r ∙ ap (λ l. Some (t, l)) n)
+    ∙ last (value most_brackets (tokens text)) t (ap (λ k. through (wrap most_levels) (value most_brackets k)) (sym e) ∙ r ∙ ap (λ l. Some (t, l)) n)
 
 not_true : (b : Bool) → (b ≡ true → ⊥) → b ≡ false
 not_true true h = absurd (h refl)

@@ -1,7 +1,6 @@
 //! The calls that reading is made of, once each.
 use bd_extjson::{bare_number, read_wrapper, wrapper_named};
-use bd_value::{MOST_BRACKETS, MOST_LEVELS};
-use bd_value::Value;
+use bd_value::{MOST_BRACKETS, MOST_LEVELS, Value};
 use bd_wrapper::{
     Wrapper, is_whole_number, names_code, names_scope, number_of, only, pair, unwrap_single, whole,
 };

@@ -42,7 +42,7 @@ walk_judged : (ds : List Doc) (end : Option Fault) (vs : List (Option Fault)) �
 walk_judged ds None vs is = sym (ap (λ ws. check_status (faulty_count ws)) is ∙ ap check_status (none_faulty ds))
 walk_judged ds (Some f) vs is =
     let count : faulty_count vs ≡ 1 + faulty_count is.0 = ap faulty_count is.1 ∙ faulty_append (whole ds) (Some f ∷ is.0)
-        ∙ ap (λ n. n + faulty_count (Some f ∷ is.0)) (none_faulty ds) ∙ omega (arith, faulty_append (Some f ∷ []) is.0) in
+    ∙ ap (λ n. n + faulty_count (Some f ∷ is.0)) (none_faulty ds) ∙ omega (arith, faulty_append (Some f ∷ []) is.0) in
     sym (ap check_status count ∙ failed_status (faulty_count is.0))
 
 abbrev status_of : Transcript → Status

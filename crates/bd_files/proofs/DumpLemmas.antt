@@ -23,7 +23,7 @@ use Rattle.bd_files.specs.declared.dump.walk.Walk.{Walk}
 use Rattle.bd_files.specs.declared.status.Status.{Status}
 use Rattle.bd_files.specs.declared.status.Status.TheVariants.{Done, Failed}
 use Rattle.bd_files.proofs.OutcomeLemmas.{streamed_front}
-use Rattle.bd_files.proofs.OutputLemmas.LinesLemmas.{lines-append}
+use Rattle.bd_files.proofs.OutputLemmas.FaultLemmas.{lines-append}
 use Rattle.bd_files.specs.Dump.{DumpsInput, EndsWithinLimit, IsFrontOf, IsShownByDump, dump_count_line, dump_message, shown_dump}
 use Rattle.bd_files.specs.Outcome.{PrintsShown, ReadsInput, StreamsInput, TellsMessage}
 use Rattle.bd_files.specs.Transcript.{Transcript, error_line, fault_text, lines, read_words, shown_refusal, shown_unread}

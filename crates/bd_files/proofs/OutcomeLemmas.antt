@@ -120,15 +120,30 @@ module _ (old : Reader) (given : List ℕ) {R : Type 0} (state : R → Reader) (
       let all : Consumes old.left (state n).left (given ++ (reason.0 ++ reason.1)) = subst (λ (x : List ℕ). Consumes old.left (state n).left (given ++ x)) reason.2 (moved part more) in
       let after : Consumes old.left (state n).left ((given ++ reason.0) ++ reason.1) = subst (Consumes old.left (state n).left) (sym (append_assoc given reason.0 reason.1)) all in (
         reason.0,
-        (reason.1, after, short reason.0 reason.4, let r = reason.5 in omega (arith, fits, r, length-append given reason.0),
-            (frames, given, reason.0, framed, refl, subst IsWithinOne reason.2 reason.6), reason.7 ∙ well),
+        (
+          reason.1,
+          after,
+          short reason.0 reason.4,
+          let r = reason.5 in omega (arith, fits, r, length-append given reason.0),
+          (frames, given, reason.0, framed, refl, subst IsWithinOne reason.2 reason.6),
+          reason.7 ∙ well,
+        ),
         reason.3,
       )
   unread part reads.TooManyTurns other more reason =
       let each = reads_at_least documents.left.turns m n part reason.2 in
-      let all : most_reads ≤ length (given ++ part) = omega (arith, many, turned, each, length-append given part) in
-      (part, (moved part more, short part reason.1, (given ++ part, moved part more, all), all_called old.calls (state m).calls (state n).calls
-          documents.left.turns turned called reason.3, reason.4 ∙ well), reason.0)
+      let all : most_reads ≤ length (given ++ part) = omega (arith, many, turned, each, length-append given part) in (
+        part,
+        (
+          moved part more,
+          short part reason.1,
+          (given ++ part, moved part more, all),
+          all_called old.calls (state m).calls (state n).calls
+              documents.left.turns turned called reason.3,
+          reason.4 ∙ well,
+        ),
+        reason.0,
+      )
   unread part reads.NoMemory other more reason = absurd (other refl)
 
 -- what stands in front of an input's bytes stands in front of the reader's

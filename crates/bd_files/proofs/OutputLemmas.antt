@@ -1,2 +1,2 @@
 -- Lemmas on what a run writes.
-pub mod LinesLemmas
+pub mod FaultLemmas

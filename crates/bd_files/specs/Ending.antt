@@ -9,8 +9,8 @@ use Rattle.bd_stream.specs.declared.doc_buffer.FrameFault.{FrameFault}
 use Rattle.bd_stream.specs.declared.doc_buffer.DocFault.TheVariants as faults
 use Rattle.bd_files.specs.declared.ending.Ending.{Ending}
 use Rattle.bd_files.specs.declared.ending.Ending.TheVariants as endings
-use Rattle.bd_files.specs.declared.output.lines.OutputFault.{OutputFault}
-use Rattle.bd_files.specs.declared.output.lines.OutputFault.TheVariants.{NoMemory}
+use Rattle.bd_files.specs.declared.output.fault.OutputFault.{OutputFault}
+use Rattle.bd_files.specs.declared.output.fault.OutputFault.TheVariants.{NoMemory}
 
 -- no document was read yet, and as much may be read as an input has
 abbrev pub IsFresh : DocBuffer → Type 0

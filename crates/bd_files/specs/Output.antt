@@ -1,2 +1,2 @@
 -- What a run writes.
-pub mod Lines
+pub mod Fault

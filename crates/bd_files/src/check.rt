@@ -11,7 +11,7 @@ ghost use Rattle.bd_files.specs.Check.Judging.{findings_message, findings_status
 ghost use Rattle.bd_files.specs.Outcome.{TellsMessage};
 
 use crate::check::judging::{Findings, write_verdicts};
-use crate::output::lines::OutputFault;
+use crate::output::fault::OutputFault;
 use crate::output::messages::{
     status_of, tell_no_memory, tell_unwritten, write_count, write_read_fault,
 };

@@ -14,7 +14,7 @@ ghost use Rattle.bd_files.specs.declared.status.Status.TheVariants.{Failed};
 
 use crate::dump::walk::{Walk, documents};
 use crate::ending::Ending;
-use crate::output::lines::OutputFault;
+use crate::output::fault::OutputFault;
 use crate::output::messages::{
     fault_message, tell_no_memory, tell_unwritten, write_count, write_error, write_read_fault,
 };

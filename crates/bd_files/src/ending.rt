@@ -2,7 +2,7 @@
 ghost use Rattle.std.specs.Prelude.{◌≡◌};
 ghost use Rattle.bd_files.specs.Ending.{IsEndingOf};
 
-use crate::output::lines::OutputFault;
+use crate::output::fault::OutputFault;
 use bd_check::Fault;
 use bd_device::ReadFault;
 use bd_stream::DocFault;

@@ -1,4 +1,4 @@
-//! What a run writes: `lines`, why those of documents end early, and `messages`, what it tells of itself.
+//! What a run writes: `fault`, why it stops, and `messages`, what it tells of itself.
 
-pub mod lines;
+pub mod fault;
 pub mod messages;

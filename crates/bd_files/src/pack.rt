@@ -13,7 +13,7 @@ ghost use Rattle.bd_files.specs.Transcript.{Transcript, error_line};
 ghost use Rattle.bd_device.specs.Devices.{BreaksWithin, TakesText, over};
 
 use crate::limits::LIMITS;
-use crate::output::lines::OutputFault;
+use crate::output::fault::OutputFault;
 use crate::output::messages::{
     tell_no_memory, tell_read_fault, tell_unwritten, write_count, write_error,
 };

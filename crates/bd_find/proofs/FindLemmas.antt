@@ -18,7 +18,7 @@ use Rattle.bd_request.specs.declared.refused.Refused.TheVariants as reasons
 use Rattle.bd_find.specs.Asking.{PageRequest, refused_text}
 use Rattle.bd_find.specs.Batch.{places_from, query_for}
 use Rattle.bd_find.proofs.UniqueLemmas.{dump_shows}
-use Rattle.bd_files.proofs.OutputLemmas.LinesLemmas.{lines-append}
+use Rattle.bd_files.proofs.OutputLemmas.FaultLemmas.{lines-append}
 use Rattle.bd_bson.specs.Documents.{documents_at}
 use Rattle.bd_find.specs.Find.{IsShownOfBytes, IsShownOfDump}
 use Rattle.bd_files.specs.Outcome.{PrintsOrStarves, TellsMessage}

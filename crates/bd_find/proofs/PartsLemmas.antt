@@ -28,7 +28,7 @@ use Rattle.bd_pack.specs.Packable.{plain}
 use Rattle.bd_pack.proofs.PlainLemmas.{reads_plain}
 use Rattle.bd_files.specs.Pack.{PacksLines, packed_bytes}
 use Rattle.bd_files.specs.Transcript.{lines}
-use Rattle.bd_files.proofs.OutputLemmas.LinesLemmas.{lines-append}
+use Rattle.bd_files.proofs.OutputLemmas.FaultLemmas.{lines-append}
 use Rattle.bd_find.specs.Parts.{IsReadBack, LinesArePacked, PartsAreJoined, PartsShowTheWhole, document_request, documents_shown, parts_shown}
 
 -- ---- the documents shown are those that answer the request

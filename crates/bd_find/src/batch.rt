@@ -21,7 +21,7 @@ use bd_cursor::{Batch, Choice, Refused, Session, Token};
 use bd_device::{Output, write_all};
 use bd_extjson::write_number;
 use bd_files::Status;
-use bd_files::output::lines::OutputFault;
+use bd_files::output::fault::OutputFault;
 use bd_files::output::messages::{status_of, tell_error, tell_no_memory, tell_unwritten};
 use bd_path::Path;
 use bd_value::{GREATEST_COUNT, NoMemory};

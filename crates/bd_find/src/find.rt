@@ -15,7 +15,7 @@ use crate::batch::show_found;
 use bd_bson::read_dump;
 use bd_command_line::FindOptions;
 use bd_device::{Input, Output, read_all};
-use bd_files::output::lines::is_want_of_memory;
+use bd_files::output::fault::is_want_of_memory;
 use bd_files::output::messages::{tell_dump_fault, tell_error, tell_no_memory, tell_read_fault};
 use bd_files::{LIMITS, Status};
 use std::alloc::Global;

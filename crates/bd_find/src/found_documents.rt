@@ -3,14 +3,14 @@ ghost use Rattle.std.specs.Prelude.{◌≡◌, ◌<◌, OnOk, IfErr, length};
 ghost use Rattle.std.specs.List.{All};
 ghost use Rattle.bd_bson.specs.Collection.{documents};
 ghost use Rattle.bd_bson.specs.Documents.{documents_at};
-ghost use Rattle.bd_files.specs.Output.Lines.{StopsWithin};
+ghost use Rattle.bd_files.specs.Output.Fault.{StopsWithin};
 ghost use Rattle.bd_files.specs.Transcript.{lines};
 ghost use Rattle.bd_device.specs.Devices.{TakesText, over};
 
 use bd_bson::Dump;
 use bd_device::{Output, write_all};
 use bd_extjson::LineRoom;
-use bd_files::output::lines::OutputFault;
+use bd_files::output::fault::OutputFault;
 use std::alloc::Global;
 
 /// Writes the documents with these numbers, one a line. Where memory runs out, what was written is a front of the lines.

@@ -69,7 +69,15 @@ module _ {D : Type 0} (o : Output D) where
       let (front, rest, split, held) = b.held.0 in
       let (taken, text, later, last, is, all, some, failed) = b.writes in
       record {
-        held = ((first ++ front, rest, ap (λ l. first ++ l) split ∙ sym (append_assoc first front rest), Appends-trans _ _ _ first front a.held.0
-            held), b.held.1 ∙ ap (λ n. Rattle.bd_device.specs.Counts.after_more n 1) a.held.1);
+        held = (
+          (
+            first ++ front,
+            rest,
+            ap (λ l. first ++ l) split ∙ sym (append_assoc first front rest),
+            Appends-trans _ _ _ first front a.held.0
+                held,
+          ),
+          b.held.1 ∙ ap (λ n. Rattle.bd_device.specs.Counts.after_more n 1) a.held.1,
+        );
         writes = (first ++ taken, text, later, last, ap (λ l. first ++ l) is ∙ sym (append_assoc first taken (text ++ later)), taken_append s t last first taken a.writes all, some, failed);
       }

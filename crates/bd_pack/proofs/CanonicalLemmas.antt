@@ -177,7 +177,7 @@ goes_on bracket whole pieces piece at rest None is read none =
     is ∙ ap (λ x. bracket ∷ x) (ap (λ x. led pieces ++ x) read ∙ sym (append_assoc (led pieces) piece rest) ∙ ap (λ x. x ++ rest) (sym (joined_end pieces piece)))
 goes_on bracket whole pieces piece at rest (Some n) is read comma =
     is ∙ ap (λ x. bracket ∷ x) (ap (λ x. led pieces ++ x) (read ∙ ap (λ x. piece ++ x) comma ∙ sym (append_assoc piece (44 ∷ []) n))
-        ∙ sym (append_assoc (led pieces) (piece ++ 44 ∷ []) n) ∙ ap (λ x. x ++ n) (sym (led_one_more pieces piece)))
+    ∙ sym (append_assoc (led pieces) (piece ++ 44 ∷ []) n) ∙ ap (λ x. x ++ n) (sym (led_one_more pieces piece)))
 
 -- ---- names
 
@@ -417,8 +417,8 @@ escape_some byte = go (byte == 34 || byte == 92) (byte == 8) (byte == 12) (byte 
   where
     go : (a b c d e f g : Bool)
         → 0 < length (cond a (92 ∷ byte ∷ []) (cond b (codes "\\b") (cond c (codes "\\f")
-            (cond d (codes "\\n") (cond e (codes "\\r") (cond f (codes "\\t")
-            (cond g (codes "\\u00" ++ (digit_char (byte / 16) ∷ digit_char (byte % 16) ∷ [])) (byte ∷ []))))))))
+        (cond d (codes "\\n") (cond e (codes "\\r") (cond f (codes "\\t")
+        (cond g (codes "\\u00" ++ (digit_char (byte / 16) ∷ digit_char (byte % 16) ∷ [])) (byte ∷ []))))))))
     go true b c d e f g = omega arith
     go false true c d e f g = omega arith
     go false false true d e f g = omega arith
@@ -456,11 +456,11 @@ binary_read text inside after subtype_at closing rest digits payload subtype a b
     let s = quoted (hex_text (subtype ∷ [])) in
     let q = quoted digits in
     let tail : after ≡ (codes ",\"subType\":" ++ (s ++ codes "}}")) ++ rest = c
-        ∙ ap (λ x. codes ",\"subType\":" ++ x) (d ∙ ap (λ x. s ++ x) e ∙ sym (append_assoc s (codes "}}") rest))
-        ∙ sym (append_assoc (codes ",\"subType\":") (s ++ codes "}}") rest) in
+    ∙ ap (λ x. codes ",\"subType\":" ++ x) (d ∙ ap (λ x. s ++ x) e ∙ sym (append_assoc s (codes "}}") rest))
+    ∙ sym (append_assoc (codes ",\"subType\":") (s ++ codes "}}") rest) in
     a ∙ ap (λ x. codes "{\"$binary\":{\"base64\":" ++ x) (b ∙ ap (λ x. q ++ x) tail ∙ sym (append_assoc q (codes ",\"subType\":" ++ (s ++ codes "}}")) rest))
     ∙ sym (append_assoc (codes "{\"$binary\":{\"base64\":") (q ++ (codes ",\"subType\":" ++ (s ++ codes "}}"))) rest)
-        ∙ ap (λ x. x ++ rest) (binary_text digits (hex_text (subtype ∷ [])) ∙ ap (λ k. scalar_text_of k) f)
+    ∙ ap (λ x. x ++ rest) (binary_text digits (hex_text (subtype ∷ [])) ∙ ap (λ k. scalar_text_of k) f)
   where
     scalar_text_of : List ℕ → List ℕ
     scalar_text_of k = object (member (codes "$binary") (object (member (codes "base64") (quoted k) ∷ member (codes "subType") (quoted (hex_text (subtype ∷ []))) ∷ [])) ∷ [])
@@ -479,10 +479,14 @@ pieces_put into old held plain one new encoded byte a b c d =
 pub binary_element : (whole rest name old new payload : List ℕ) (subtype : ℕ) → whole ≡ text (leaf (trees.binary subtype payload)) ++ rest
     → subtype < 256 → AreBytes payload → (given : List ℕ) → given ≡ payload
     → new ≡ old ++ element (leaf (trees.binary subtype given)) name (bytes_of (leaf (trees.binary subtype given))) → (t : Tree)
-        × (whole ≡ text t ++ rest) × IsCanonical 0 t × (new ≡ old ++ element t name (bytes_of t))
-binary_element whole rest name old new payload subtype is fits bytes given same put =
-    (leaf (trees.binary subtype payload), is, leaf_canonical (trees.binary subtype payload) (fits, bytes) tt refl, put
-        ∙ ap (λ k. old ++ element (leaf (trees.binary subtype k)) name (bytes_of (leaf (trees.binary subtype k)))) same)
+    × (whole ≡ text t ++ rest) × IsCanonical 0 t × (new ≡ old ++ element t name (bytes_of t))
+binary_element whole rest name old new payload subtype is fits bytes given same put = (
+  leaf (trees.binary subtype payload),
+  is,
+  leaf_canonical (trees.binary subtype payload) (fits, bytes) tt refl,
+  put
+      ∙ ap (λ k. old ++ element (leaf (trees.binary subtype k)) name (bytes_of (leaf (trees.binary subtype k)))) same,
+)
 
 pub held_is : (given final empty held whole rest : List ℕ) → given ≡ final → final ≡ empty ++ held → empty ≡ [] → whole ≡ quoted held ++ rest → whole ≡ quoted given ++ rest
 held_is given final empty held whole rest a b c is = is ∙ ap (λ x. quoted x ++ rest) (sym (a ∙ b ∙ ap (λ x. x ++ held) c))

@@ -200,7 +200,7 @@ mutual
       either_plain room (wrapper_of name) j (wrap (room - 1) j) (after (room - 1) ms) (nested room (option_map doc (add_field name (wrap (room - 1) j) (wrap_fields (room - 1) ms))))
       (wrap_plain (room - 1) j) (after_plain (room - 1) ms)
       (doc_plain room (add_field name (wrap (room - 1) j) (wrap_fields (room - 1) ms))
-          (field_plain (room - 1) name (wrap (room - 1) j) (wrap_fields (room - 1) ms) (wrap_plain (room - 1) j) (wrap_fields_plain (room - 1) ms)))
+      (field_plain (room - 1) name (wrap (room - 1) j) (wrap_fields (room - 1) ms) (wrap_plain (room - 1) j) (wrap_fields_plain (room - 1) ms)))
 
   after_plain : (room : ℕ) (ms : json.Members) → IsAfter room (after room ms)
   after_plain room json.no_members = tt

@@ -61,7 +61,7 @@ date_gives room depth first w s x ts rest some named same is stands =
     let whole : List Token = Token.begin_object ∷ Token.key name ∷ Token.string s ∷ Token.end_object ∷ Token.end_object ∷ rest in
     rw is
     (unwrapped room depth first kinds.Date (json.object (json.member name (json.string s) json.no_members)) whole rest (named ∙ ap Some same)
-        (inner depth name s (Token.end_object ∷ rest) some) (omega arith)
+    (inner depth name s (Token.end_object ∷ rest) some) (omega arith)
     ∙ ap (λ o. option_map (λ (a : Tree). (a, rest)) (option_map leaf o)) (dated s ∙ stands))
 
 -- ---- a number of a signed type, by its bits

@@ -209,7 +209,14 @@ fn append_document(
     if wrapper_named(first).is_some() {
         return None;
     }
-    append_fields(alloc, &mut reader, first, MOST_LEVELS - 1, MOST_BRACKETS - 1, out)?;
+    append_fields(
+        alloc,
+        &mut reader,
+        first,
+        MOST_LEVELS - 1,
+        MOST_BRACKETS - 1,
+        out,
+    )?;
     if reader.next().is_some() {
         return None;
     }

@@ -278,7 +278,7 @@ module _ (dir : Dir) where
     where
       go : (b : Bool) → is_earlier dir (earlier_key dir (earlier_key dir e (Some k)) (earliest_key dir ks)) k ≡ b
           → list_any (is_earlier dir (earlier_key dir (earlier_key dir e (Some k)) (earliest_key dir ks))) ks ≡ false
-              → (b || list_any (is_earlier dir (earlier_key dir (earlier_key dir e (Some k)) (earliest_key dir ks))) ks) ≡ false
+          → (b || list_any (is_earlier dir (earlier_key dir (earlier_key dir e (Some k)) (earliest_key dir ks))) ks) ≡ false
       go true h rest = let s = one_still (earlier_key dir e (Some k)) (earliest_key dir ks) k (one_taken e k) in absurd cc
       go false h rest = rest
 

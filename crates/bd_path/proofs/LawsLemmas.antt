@@ -216,8 +216,11 @@ both_kept ks ls k alike other = go (list_any (λ y. equal y k) ks) (list_any (λ
 -- a null more changes no other member
 null_more : (b : Bool) (ks : List Tree) (k : Tree) → equal k null ≡ true → AlikeButNull ks (cond b ks (ks ++ k ∷ []))
 null_more true ks k is x other = ((λ h. h), (λ h. h))
-null_more false ks k is x other = ((λ h. in_left x ks (k ∷ []) h), (λ h. elim (in_cases x ks (k ∷ []) h)
-    [ inl a ↦ a | inr b ↦ elim b [ inl e ↦ let f : ⊥ = cc (ap (λ y. equal y null) e, is, other) in absurd f | inr n ↦ absurd n ] ]))
+null_more false ks k is x other = (
+  (λ h. in_left x ks (k ∷ []) h),
+  (λ h. elim (in_cases x ks (k ∷ []) h)
+      [ inl a ↦ a | inr b ↦ elim b [ inl e ↦ let f : ⊥ = cc (ap (λ y. equal y null) e, is, other) in absurd f | inr n ↦ absurd n ] ]),
+)
 
 alike_on : (ks ls ms : List Tree) → AlikeButNull ks ls → AlikeButNull ls ms → AlikeButNull ks ms
 alike_on ks ls ms f g x other = let a = f x other in let b = g x other in ((λ h. b.0 (a.0 h)), (λ h. a.1 (b.1 h)))

@@ -158,7 +158,7 @@ module _ {A : Type 0} (f : A → Bool) (g : Gathering A) where
           let index : index_of n ≡ Some i = held_is n i by.takes l in
           ap (λ (x : ℕ). list_any f (gathering g u (drop x (component_names cs)))) by.after
           ∙ ap (list_any f) (sym (ap (λ (o : Option ℕ). gathering_at g (items_of (elements_in t)) o (drop (suc k) (component_names cs))) index
-              ∙ down.at_index g (elements_in t) i u (drop (suc k) (component_names cs)) e))
+          ∙ down.at_index g (elements_in t) i u (drop (suc k) (component_names cs)) e))
           ∙ right_false _ _ (sym (list_any-append f (in_documents g t (component_names cs) k) (at_name g t (component_names cs) k n)) ∙ parts_none k n by.is_there (before k by.here))
 
       pub document_inside : (i : ℕ) (u : Tree) (v : Visits) → slice_get (elements_in t) i ≡ Some u → i < 18446744073709551615 → is_document u ≡ true

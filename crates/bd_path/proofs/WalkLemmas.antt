@@ -91,7 +91,7 @@ module _ {F : Type 0} (amounts : F → List ℕ → Stops → Type 0) (is_new : 
 
   pub other_taken : (bytes : List ℕ) (before between : F) (es : List Tree) (i : ℕ) (u : Tree) (p : Names) → slice_get es i ≡ Some u → is_document u ≡ false
       → TakesStops amounts is_new bytes before between (each_gathering stopping (items_of (take i es)) p)
-          → TakesStops amounts is_new bytes before between (each_gathering stopping (items_of (take (i + 1) es)) p)
+      → TakesStops amounts is_new bytes before between (each_gathering stopping (items_of (take (i + 1) es)) p)
   other_taken bytes before between es i u p e d first =
       subst (λ (ss : Stops). TakesStops amounts is_new bytes before between ss)
       (sym (each_more es i u p e ∙ ap (λ (c : Bool). each_gathering stopping (items_of (take i es)) p ++ cond c (stops u p) []) d ∙ append-nil (each_gathering stopping (items_of (take i es)) p)))
@@ -103,7 +103,7 @@ module _ {F : Type 0} (amounts : F → List ℕ → Stops → Type 0) (is_new : 
     all_known found bytes ss (s ∷ more) none h =
         subst (amounts found bytes) (append_assoc ss (s ∷ []) more)
         (all_known found bytes (ss ++ s ∷ []) more (right_false (is_new found s) (list_any (is_new found) more) none)
-            (known found bytes ss s (left_false (is_new found s) (list_any (is_new found) more) none) h))
+        (known found bytes ss s (left_false (is_new found s) (list_any (is_new found) more) none) h))
 
     -- nothing is new
     pub vain_taken : (found : F) (bytes : List ℕ) (more : Stops) → list_any (is_new found) more ≡ false → TakesStops amounts is_new bytes found found more

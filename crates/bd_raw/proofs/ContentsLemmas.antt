@@ -116,8 +116,15 @@ module _ (bytes : List ℕ) (start : ℕ) (kind : Kind) (s : Sound kind (drop st
       let whole : drop start bytes ≡ number (length f.body + 5) ++ (f.body ++ 0 ∷ s.after) = s.cut ∙ ap (λ (x : List ℕ). x ++ s.after) f.frame ∙ framed_after f.body s.after in
       let size : length s.value ≡ length f.body + 5 = ap length f.frame ∙ framed_length f.body in
       let short : length f.body ≤ longest_document = let m = s.short in omega (arith, size) in
-      record { fields = f.fields; body = f.body; after = s.after; spell = f.spell; cut = sym (drop-drop 4 start bytes) ∙ ap (drop 4) whole
-          ∙ number_after (length f.body + 5) (f.body ++ 0 ∷ s.after); short = short }
+      record {
+        fields = f.fields;
+        body = f.body;
+        after = s.after;
+        spell = f.spell;
+        cut = sym (drop-drop 4 start bytes) ∙ ap (drop 4) whole
+            ∙ number_after (length f.body + 5) (f.body ++ 0 ∷ s.after);
+        short = short;
+      }
 
   framed_is : (g : Left (drop (start + 4) bytes)) → stands s ≡ made (elements_left g)
   unfolding framed_left
@@ -144,7 +151,7 @@ module _ (bytes : List ℕ) (start : ℕ) (kind : Kind) (s : Sound kind (drop st
       let whole : drop start bytes ≡ number (length (string c.code ++ framed c.body) + 4) ++ ((string c.code ++ framed c.body) ++ s.after) =
       s.cut ∙ ap (λ (x : List ℕ). x ++ s.after) c.whole ∙ append_assoc (number (length (string c.code ++ framed c.body) + 4)) (string c.code ++ framed c.body) s.after in
       sym (drop-drop 4 start bytes) ∙ ap (drop 4) whole ∙ number_after (length (string c.code ++ framed c.body) + 4)
-          ((string c.code ++ framed c.body) ++ s.after) ∙ append_assoc (string c.code) (framed c.body) s.after
+      ((string c.code ++ framed c.body) ++ s.after) ∙ append_assoc (string c.code) (framed c.body) s.after
 
   code_size : number_of (drop (start + 4) bytes) ≡ length c.code + 1
   code_size = ap number_of code_after ∙ string_number c.code (framed c.body ++ s.after) c.text_fits.1

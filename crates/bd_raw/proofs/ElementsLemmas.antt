@@ -113,7 +113,7 @@ module _ (bytes : List ℕ) (at : ℕ) (left : Fields) (s : Next bytes at left) 
       let e : at + k + 2 ≡ (at + 1) + (k + 1) = omega arith in
       let len : length (s.name ++ 0 ∷ []) ≡ k + 1 = omega (arith, length-append s.name (0 ∷ [])) in
       let whole : s.name ++ 0 ∷ (s.value ++ (s.rest ++ 0 ∷ s.after)) ≡ (s.name ++ 0 ∷ [])
-          ++ (s.value ++ (s.rest ++ 0 ∷ s.after)) = sym (append_assoc s.name (0 ∷ []) (s.value ++ (s.rest ++ 0 ∷ s.after))) in
+      ++ (s.value ++ (s.rest ++ 0 ∷ s.after)) = sym (append_assoc s.name (0 ∷ []) (s.value ++ (s.rest ++ 0 ∷ s.after))) in
       ap (λ (n : ℕ). drop n bytes) e ∙ sym (drop-drop (k + 1) (at + 1) bytes) ∙ ap (drop (k + 1)) (tail_is ∙ whole) ∙ drop_at (s.name ++ 0 ∷ []) (s.value ++ (s.rest ++ 0 ∷ s.after)) (k + 1) len
 
   pub value_inside : (k : ℕ) → k ≡ length s.name → at + k + 2 ≤ length bytes

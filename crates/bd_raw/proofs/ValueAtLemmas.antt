@@ -33,8 +33,13 @@ binary_reads : (k : ℕ) (s r : List ℕ) → length (data_of k s) < 2 ^ 31 → 
 binary_reads k s r lt =
     let count = binary_count k (data_of k s) r lt in
     let size : length ((number (length (data_of k s)) ++ k ∷ data_of k s) ++ r)
-        ≡ 5 + length (data_of k s) + length r = omega (arith, length-append (number (length (data_of k s)) ++ k ∷ data_of k s) r, length-append
-        (number (length (data_of k s))) (k ∷ data_of k s), number_length (length (data_of k s))) in
+    ≡ 5 + length (data_of k s) + length r = omega (
+      arith,
+      length-append (number (length (data_of k s)) ++ k ∷ data_of k s) r,
+      length-append
+          (number (length (data_of k s))) (k ∷ data_of k s),
+      number_length (length (data_of k s)),
+    ) in
     record {
       inside = omega (arith, count, size);
       inner = λ is. let two : (k == 2) ≡ true = let e = sym (binary_subtype k (data_of k s) r) ∙ is in grind (arith, nat_tests) in omega (arith, count, data_length k s two);
@@ -84,7 +89,7 @@ scoped_size s d v r e short =
     let n = length (string s ++ d) + 4 in
     let len : length v ≡ length (string s ++ d) + 4 = ap (λ (x : List ℕ). length x) e ∙ scoped_length s d in
     ap (λ (x : List ℕ). number_of (x ++ r)) e ∙ ap number_of (append_assoc (number (length (string s ++ d) + 4)) (string s ++ d) r)
-        ∙ number_front (length (string s ++ d) + 4) ((string s ++ d) ++ r) (omega arith) ∙ sym len
+    ∙ number_front (length (string s ++ d) + 4) ((string s ++ d) ++ r) (omega arith) ∙ sym len
 
 size_is : (t : Tree) (v r : List ℕ) → IsValue t v → length v ≤ longest_document → size_of (kind_of t) (v ++ r) ≡ length v
 size_is (leaf a) v r h short = scalar_size a v r h

@@ -95,7 +95,7 @@ token_back t g l d =
     let third : drop 4 (drop 8 rest) ≡ t.digest = ap (drop 4) after ∙ drop-append_seam last t.digest in
     sym (read_whole rest size)
     ∙ ap₂ (λ (n m : ℕ). token_with n m (drop 4 (drop 8 rest))) (ap (from_le_bytes w64) first ∙ from_le_bytes-to_le_bytes_8 t.given g)
-        (ap (from_le_bytes w32) second ∙ from_le_bytes-to_le_bytes_4 t.last l)
+    (ap (from_le_bytes w32) second ∙ from_le_bytes-to_le_bytes_4 t.last l)
     ∙ ap (token_with t.given t.last) third
 
 pub text_back : (t : Token) (text : List ℕ) → t.given < 2 ^ 64 → t.last < 2 ^ 32 → length t.digest ≡ 32 → text ≡ token_text t → decode_of standard text ≡ Ok (token_bytes t)

@@ -166,4 +166,4 @@ state_end a ds ss last most left all kept first end count by source none are h =
     let lt = before (order_of_keys ds ss) in
     kept_end (keys_strict ds ss) (keys_weak ds ss) most kept first (filter pass all) are (subst (λ ps. AreKept lt most kept (filter pass ps) (filter pass all)) none h.kept)
     ∙ ap (take most) (subst (λ r. insert_all (before r) [] (filter (passes a.hits r last) all) ≡ places_after a last) by
-        (all_in_order a (subst IsTotalOrder (sym by) (keys_total ds ss)) all source last))
+    (all_in_order a (subst IsTotalOrder (sym by) (keys_total ds ss)) all source last))

@@ -135,7 +135,7 @@ frame_told : (bytes : List ℕ) (n : ℕ) → frame_length bytes ≡ Ok (Some n)
 frame_told [] n is = absurd cc
 frame_told (b ∷ bytes) n is =
     told_of (ltb (length (b ∷ bytes)) 4) (ltb (length_told (b ∷ bytes)) 5 || ltb longest_document (length_told (b ∷ bytes))
-        || ltb (length (b ∷ bytes)) (length_told (b ∷ bytes))) (length_told (b ∷ bytes)) n is
+    || ltb (length (b ∷ bytes)) (length_told (b ∷ bytes))) (length_told (b ∷ bytes)) n is
   where
     told_of : (s t : Bool) (m n : ℕ) → cond s (Err ShortLength) (cond t (Err BadLength) (Ok (Some m))) ≡ Ok (Some n) → m ≡ n
     told_of true t m n is = absurd cc

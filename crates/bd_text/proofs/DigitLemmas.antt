@@ -72,7 +72,7 @@ pairs_of bytes high low long first second =
     let highs : high ≡ map (λ b. digit (b / 16)) bytes = first ∙ ap (map digit) (zip2_splat down bytes 16 4 long) ∙ map-map digit (λ b. down b 4) bytes in
     let lows : low ≡ map (λ b. digit (b % 16)) bytes =
     second ∙ ap (map digit) (zip2_splat bit_and bytes 16 15 long) ∙ map-map digit (λ b. bit_and b 15) bytes
-        ∙ map_same (λ b. digit (bit_and b 15)) (λ b. digit (b % 16)) (λ b. ap digit (and_mask b 4)) bytes in
+    ∙ map_same (λ b. digit (bit_and b 15)) (λ b. digit (b % 16)) (λ b. ap digit (and_mask b 4)) bytes in
     ap₂ (λ (a b : List ℕ). in_turn (a ++ b)) highs lows ∙ in_turn-digits bytes long
 
 -- the digits of an id stand before those of what follows it

@@ -45,6 +45,6 @@ module _ (p : ℕ → Bool) where
             let there : passed + i ≡ k = omega arith in
             let inside : i < length (take n (drop passed text)) = omega (arith, length-take n (drop passed text), length-drop passed text) in
             let same_byte : get_or (take n (drop passed text)) i 0 ≡ get_or text k 0 = get_or-take n (drop passed text) i 0 (omega arith)
-                ∙ get_or-drop passed text i 0 ∙ ap (λ j. get_or text j 0) there in
+            ∙ get_or-drop passed text i 0 ∙ ap (λ j. get_or text j 0) there in
             ap p (sym same_byte) ∙ none_of (take n (drop passed text)) i inside none
       ]

@@ -40,8 +40,8 @@ pub use document::{Document, NoMemory, Value};
 pub use fits::{document_fits, node_fits, value_fits};
 pub use kind::Kind;
 pub use limits::{
-    GREATEST_COUNT, LONGEST_DOCUMENT, LONGEST_INPUT, MOST_BRACKETS, MOST_FILTER_LEVELS, MOST_LEVELS,
-    MOST_NAMES, MOST_READS,
+    GREATEST_COUNT, LONGEST_DOCUMENT, LONGEST_INPUT, MOST_BRACKETS, MOST_FILTER_LEVELS,
+    MOST_LEVELS, MOST_NAMES, MOST_READS,
 };
 pub use nesting::{depth, depth_of};
 pub use node::{Node, Reading};

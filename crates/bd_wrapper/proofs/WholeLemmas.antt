@@ -52,7 +52,7 @@ minus_first : {E : Type 0} (bs : List ℕ) (r : Result ℤ E) → get_or bs 0 0 
     → result_ok r ≡ cond (are_digits (drop 1 bs)) (cond (fits_bits 63 (neg_ℤ (pos (digits_value 10 (drop 1 bs))))) (Some (neg_ℤ (pos (digits_value 10 (drop 1 bs))))) None) None
 minus_first bs r e w h =
     told (are_digits (drop 1 bs)) r _ _ _ (λ d t. let a = all_of (drop 1 bs) d in (a.0, a.1, negative_fits _ t))
-        (λ p. (digits_from (drop 1 bs) w p.0, fits_negative _ p.2)) (parse_signed_minus own w64 bs r h e)
+    (λ p. (digits_from (drop 1 bs) w p.0, fits_negative _ p.2)) (parse_signed_minus own w64 bs r h e)
 
 plain_first : {E : Type 0} (bs : List ℕ) (r : Result ℤ E) → (get_or bs 0 0 ≡ 43 → ⊥) → (get_or bs 0 0 ≡ 45 → ⊥) → begins_digits bs ≡ true → ParsesSigned w64 10 bs r
     → result_ok r ≡ cond (are_digits bs) (cond (nat_lt (digits_value 10 bs) (2 ^ 63)) (Some (pos (digits_value 10 bs))) None) None

@@ -82,8 +82,16 @@ frame_total old body out is = omega (arith, sealed_size old (body ++ 0 ∷ []) o
 -- an element that is to come is within the frame
 pub element_within : (old body out piece rest : List ℕ) → out ++ (piece ++ rest) ≡ (old ++ number 0) ++ body → length out + length piece ≤ length old + length (framed body)
 element_within old body out piece rest whole =
-    omega (arith, ap (λ xs. length xs) whole, length-append out (piece ++ rest), length-append piece rest, length-append (old ++ number 0) body,
-        length-append old (number 0), number_length 0, framed_size body)
+    omega (
+      arith,
+      ap (λ xs. length xs) whole,
+      length-append out (piece ++ rest),
+      length-append piece rest,
+      length-append (old ++ number 0) body,
+      length-append old (number 0),
+      number_length 0,
+      framed_size body,
+    )
 
 -- ---- code with scope
 
@@ -98,8 +106,13 @@ pub scoped_ok : (old code scope out : List ℕ) (at : ℕ) → out ≡ (old ++ n
 scoped_ok old code scope out at is here = sealed old (string code ++ scope) out at is here
 
 pub scoped_size : (code scope : List ℕ) → length (scoped code scope) ≡ 4 + (length (string code) + length scope)
-scoped_size code scope = omega (arith, length-append (number (length (string code ++ scope) + 4)) (string code ++ scope), number_length
-    (length (string code ++ scope) + 4), length-append (string code) scope)
+scoped_size code scope = omega (
+  arith,
+  length-append (number (length (string code ++ scope) + 4)) (string code ++ scope),
+  number_length
+      (length (string code ++ scope) + 4),
+  length-append (string code) scope,
+)
 
 pub zero_doc : (t : Tree) (ps : Doc) → t ≡ doc (fields_of ps) → zero_in t ≡ false → zero_in_fields (fields_of ps) ≡ false
 zero_doc t ps is z = sym (ap zero_in is) ∙ z

@@ -26,11 +26,11 @@ use Rattle.bd_bson.proofs.VerdictLemmas.{none_at, turn_at, last_at}
 use Rattle.bd_files.specs.declared.check.judging.Findings.{Findings}
 use Rattle.bd_files.specs.declared.ending.Ending.{Ending}
 use Rattle.bd_files.specs.declared.ending.Ending.TheVariants as endings
-use Rattle.bd_files.specs.declared.output.lines.OutputFault.{OutputFault}
-use Rattle.bd_files.specs.declared.output.lines.OutputFault.TheVariants.{NoMemory, Unwritten}
+use Rattle.bd_files.specs.declared.output.fault.OutputFault.{OutputFault}
+use Rattle.bd_files.specs.declared.output.fault.OutputFault.TheVariants.{NoMemory, Unwritten}
 use Rattle.bd_files.specs.declared.status.Status.{Status}
 use Rattle.bd_files.specs.declared.status.Status.TheVariants.{Failed}
-use Rattle.bd_files.proofs.OutputLemmas.LinesLemmas.{breaks_after}
+use Rattle.bd_files.proofs.OutputLemmas.FaultLemmas.{breaks_after}
 use Rattle.bd_files.proofs.OutcomeLemmas.{rest_of, known_whole, known_end, known_after, more_called, unread}
 use Rattle.bd_files.specs.Check.{BreaksAtVerdict, ChecksInput, JudgesWithinLimit, faulty_count, shown_check, shown_check_unread, verdict_line, verdict_lines}
 use Rattle.bd_files.specs.Check.Judging.{AreVerdicts, JudgesDocuments, JudgesLast, StopsJudging, findings_message, findings_status}
@@ -149,9 +149,9 @@ module _ (old : Reader) (out_old : Writer) where
         let turn = turn_at place (length frame) (frame ++ rest) (frame_on frame rest is) in
         let one : first_fault place (take (length frame) (frame ++ rest)) ≡ seen o = ap (first_fault place) (take_at frame rest (length frame) refl) ∙ first in
         let others : verdicts_at (place + length frame) (drop (length frame) (frame ++ rest))
-            ≡ verdicts_at (place + length frame) rest = ap (verdicts_at (place + length frame)) (drop_at frame rest (length frame) refl) in
+        ≡ verdicts_at (place + length frame) rest = ap (verdicts_at (place + length frame)) (drop_at frame rest (length frame) refl) in
         s.all (frame ++ rest) ∙ ap (λ vs. s.done ++ vs) (turn ∙ ap₂ (λ (v : Seen) (vs : List Seen). v ∷ vs) one others)
-            ∙ sym (append_assoc s.done (seen o ∷ []) (verdicts_at (place + length frame) rest))
+        ∙ sym (append_assoc s.done (seen o ∷ []) (verdicts_at (place + length frame) rest))
 
     -- a document was judged, and its line taken
     pub goes_on : (new : Reader) (out_new : Writer) (frame : List ℕ) (o : Option told.Fault) (size next count worse less fewer : ℕ) → IsFrame frame → first_fault place frame ≡ seen o
@@ -231,7 +231,7 @@ module _ (old : Reader) (out_old : Writer) where
         let turn = turn_at place (length frame) frame is in
         let one : first_fault place (take (length frame) frame) ≡ Some f = ap (first_fault place) (take_all (length frame) frame (le_refl (length frame))) ∙ first in
         let others : verdicts_at (place + length frame) (drop (length frame) frame)
-            ≡ [] = ap (verdicts_at (place + length frame)) (drop_all (length frame) frame (le_refl (length frame))) ∙ none_at (place + length frame) in
+        ≡ [] = ap (verdicts_at (place + length frame)) (drop_all (length frame) frame (le_refl (length frame))) ∙ none_at (place + length frame) in
         turn ∙ ap₂ (λ (v : Seen) (vs : List Seen). v ∷ vs) one others
 
     pub stops_by : (new : Reader) (out_new : Writer) (frame : List ℕ) (f : told.Fault) (st : OutputFault) → IsFrame frame → length frame ≤ room
@@ -241,8 +241,8 @@ module _ (old : Reader) (out_old : Writer) where
     stops_by new out_new frame f st is short first numbered gave well starved broke =
         let rest = rest_of new.left in
         let turn = turn_at place (length frame) (frame ++ rest) (frame_on frame rest is)
-            ∙ ap (λ (v : Seen). v ∷ verdicts_at (place + length frame) (drop (length frame) (frame ++ rest)))
-            (ap (first_fault place) (take_at frame rest (length frame) refl) ∙ first) in
+        ∙ ap (λ (v : Seen). v ∷ verdicts_at (place + length frame) (drop (length frame) (frame ++ rest)))
+        (ap (first_fault place) (take_at frame rest (length frame) refl) ∙ first) in
         stops_in new out_new frame (frame ++ rest) (fault_view f) _ st gave short (known_whole mid.left new.left frame gave) well (alone frame (fault_view f) is first) turn starved
         (λ e. subst (λ n. BreaksWithin (between out_mid out_new) (verdict_line n (Some (fault_view f)))) numbered (broke e))
 
@@ -264,8 +264,21 @@ module _ (old : Reader) (out_old : Writer) where
     pub ends_whole : (new : Reader) (out_new : Writer) (r : Result Findings OutputFault) → IsAtEnd new.left → Consumes mid.left new.left [] → new.failures ≡ mid.failures
         → JudgesLast endings.Whole number bad (between out_mid out_new) r → Last new out_new r
     ends_whole new out_new r end gave well found =
-        rw (found.0, found.1) (s.given, s.done, (known_end old.left mid.left new.left s.given s.gave gave end, took new [] gave (omega arith), well
-            ∙ s.well), inl within_given, sym done_alone, s.counted, s.bad_counted, s.wrote)
+        rw (found.0, found.1) (
+          s.given,
+          s.done,
+          (
+            known_end old.left mid.left new.left s.given s.gave gave end,
+            took new [] gave (omega arith),
+            well
+                ∙ s.well,
+          ),
+          inl within_given,
+          sym done_alone,
+          s.counted,
+          s.bad_counted,
+          s.wrote,
+        )
 
     faulty_ends : (new : Reader) (out_new : Writer) (f : told.Fault) (r : Result Findings OutputFault) (part bytes : List ℕ) → Consumes mid.left new.left part → length part ≤ room
         → IfSome mid.left (λ xs. bytes ≡ xs) → new.failures ≡ mid.failures → frame_length bytes ≡ Err f.kind → verdicts_at place part ≡ Some (fault_view f) ∷ []
@@ -273,7 +286,7 @@ module _ (old : Reader) (out_old : Writer) where
     faulty_ends new out_new f (Ok findings) part bytes gave short is well bad_length given last numbered found =
         let all : verdicts (s.given ++ bytes) ≡ s.done ++ Some (fault_view f) ∷ [] = s.all bytes ∙ ap (λ vs. s.done ++ vs) last in
         let line : TakesText (between out_mid out_new) (verdict_line number (Some (fault_view f))) =
-            subst (λ n. TakesText (between out_mid out_new) (verdict_line n (Some (fault_view f)))) numbered found.1 in
+        subst (λ n. TakesText (between out_mid out_new) (verdict_line n (Some (fault_view f)))) numbered found.1 in
         rw found.0 (
           s.given ++ bytes,
           s.done ++ Some (fault_view f) ∷ [],
@@ -288,7 +301,7 @@ module _ (old : Reader) (out_old : Writer) where
     faulty_ends new out_new f (Err NoMemory) part bytes gave short is well bad_length given last numbered found = rw found (starves new part bytes gave short is well)
     faulty_ends new out_new f (Err Unwritten) part bytes gave short is well bad_length given last numbered found =
         stops_in new out_new part bytes (fault_view f) [] Unwritten gave short is well given last (λ e. absurd cc)
-            (λ e. subst (λ n. BreaksWithin (between out_mid out_new) (verdict_line n (Some (fault_view f)))) numbered found)
+        (λ e. subst (λ n. BreaksWithin (between out_mid out_new) (verdict_line n (Some (fault_view f)))) numbered found)
 
     seen_at : (f : told.Fault) (bytes : List ℕ) → frame_length bytes ≡ Err f.kind → f.offset ≡ place → f.path.items ≡ [] → verdicts_at place bytes ≡ Some (fault_view f) ∷ []
     seen_at f bytes is offset path =
@@ -321,7 +334,7 @@ module _ (old : Reader) (out_old : Writer) where
     ends_by out_new given (faults.Frame f) e r (fault, by, alike) gave reason found =
         let is : e ≡ endings.Faulty fault = same_ending e (endings.Faulty fault) by in
         framed_ends (state m) out_mid documents.place documents.number bad documents.left.bytes documents.left.turns s (state n) out_new fault r
-            given gave reason.4 reason.5 (rw alike.kind reason.2) (rw alike.kind reason.3)
+        given gave reason.4 reason.5 (rw alike.kind reason.2) (rw alike.kind reason.3)
         (alike.offset ∙ reason.0) (alike.document ∙ reason.1) alike.path (rw is at found)
     ends_by out_new given (faults.Read reads.Device) e r by gave reason found =
         unread_ends out_new given reads.Device r (λ x. absurd cc) gave reason (rw (same_ending e (endings.Unread reads.Device) by) at found)
@@ -353,7 +366,7 @@ module _ (old new : Reader) (out_old out_new : Writer) (err_old err_new : Writer
   Ends within fault shown =
       (within × TakesText (between out_old out_new) shown.out × TellsMessage (between err_old err_new) shown.err shown.status status)
       ⊎ (BreaksWithin (between out_old out_new) shown.out × BreaksAtVerdict (between old new) (between out_old out_new)
-          × TellsMessage (between err_old err_new) (error_line (codes "cannot write")) Failed status)
+      × TellsMessage (between err_old err_new) (error_line (codes "cannot write")) Failed status)
       ⊎ ((fault ≡ None) × TakesFront (between out_old out_new) shown.out × TellsMessage (between err_old err_new) (error_line (codes "no memory")) Failed status)
 
   abbrev Told : ℕ → ℕ → Option ReadFault → Type 0

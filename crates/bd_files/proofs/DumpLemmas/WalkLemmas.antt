@@ -21,9 +21,9 @@ use Rattle.bd_stream.specs.declared.doc_buffer.DocFault.{DocFault}
 use Rattle.bd_stream.specs.declared.doc_buffer.DocFault.TheVariants as faults
 use Rattle.bd_files.specs.declared.ending.Ending.{Ending}
 use Rattle.bd_files.specs.declared.ending.Ending.TheVariants as endings
-use Rattle.bd_files.specs.declared.output.lines.OutputFault.{OutputFault}
-use Rattle.bd_files.specs.declared.output.lines.OutputFault.TheVariants.{NoMemory, Unwritten}
-use Rattle.bd_files.proofs.OutputLemmas.LinesLemmas.{breaks_after, lines-append}
+use Rattle.bd_files.specs.declared.output.fault.OutputFault.{OutputFault}
+use Rattle.bd_files.specs.declared.output.fault.OutputFault.TheVariants.{NoMemory, Unwritten}
+use Rattle.bd_files.proofs.OutputLemmas.FaultLemmas.{breaks_after, lines-append}
 use Rattle.bd_files.proofs.OutcomeLemmas.{rest_of, known_whole, known_end, known_after, front_known, more_called, fault_inside, fault_of_length, unread}
 use Rattle.bd_files.specs.Dump.{BreaksAtDocument, StarvesAfterDocuments}
 use Rattle.bd_files.specs.Transcript.{lines}
@@ -149,10 +149,19 @@ module _ (old : Reader) (out_old : Writer) where
     ends_faulty new count frame f same is gave short well first numbered =
         let rest = rest_of new.left in
         let all : IfSome old.left (λ xs. s.given ++ (frame ++ rest) ≡ xs) = known_after old.left mid.left s.given (frame ++ rest) s.gave (known_whole mid.left new.left frame gave) in
-        let fails = fault_inside place s.given frame rest (fault_view f) s.placed is first in
-        (s.done, same ∙ s.counted, (s.given ++ (frame ++ rest), (all, took new frame gave short, well ∙ s.well), inr
-            (s.done, fault_view f, s.given, frame ++ rest, s.joined, refl, fails, within_given), (s.given, frame ++ rest, s.joined, refl, fails),
-            numbered ∙ s.counted), s.wrote)
+        let fails = fault_inside place s.given frame rest (fault_view f) s.placed is first in (
+          s.done,
+          same ∙ s.counted,
+          (
+            s.given ++ (frame ++ rest),
+            (all, took new frame gave short, well ∙ s.well),
+            inr
+                (s.done, fault_view f, s.given, frame ++ rest, s.joined, refl, fails, within_given),
+            (s.given, frame ++ rest, s.joined, refl, fails),
+            numbered ∙ s.counted,
+          ),
+          s.wrote,
+        )
 
     -- a length is faulty
     ends_framed : (new : Reader) (count : ℕ) (part : List ℕ) (f : told.Fault) → count ≡ number → Consumes mid.left new.left part → length part ≤ room → new.failures ≡ mid.failures
@@ -161,9 +170,19 @@ module _ (old : Reader) (out_old : Writer) where
     ends_framed new count part f same gave short well none offset numbered path =
         let bytes = none.0 in
         let fails = fault_of_length place s.given bytes f s.placed none.2 offset path in
-        let all : IfSome old.left (λ xs. s.given ++ bytes ≡ xs) = known_after old.left mid.left s.given bytes s.gave none.1 in
-        (s.done, same ∙ s.counted, (s.given ++ bytes, (all, took new part gave short, well ∙ s.well), inr
-            (s.done, fault_view f, s.given, bytes, s.joined, refl, fails, within_given), (s.given, bytes, s.joined, refl, fails), numbered ∙ s.counted), s.wrote)
+        let all : IfSome old.left (λ xs. s.given ++ bytes ≡ xs) = known_after old.left mid.left s.given bytes s.gave none.1 in (
+          s.done,
+          same ∙ s.counted,
+          (
+            s.given ++ bytes,
+            (all, took new part gave short, well ∙ s.well),
+            inr
+                (s.done, fault_view f, s.given, bytes, s.joined, refl, fails, within_given),
+            (s.given, bytes, s.joined, refl, fails),
+            numbered ∙ s.counted,
+          ),
+          s.wrote,
+        )
 
   -- no document was given
   module _ {R : Type 0} (state : R → Reader) (gives : R → Option (List ℕ) → R → Type 0) (documents : DocBuffer) (m n : R) (out_mid : Writer)
@@ -171,7 +190,7 @@ module _ (old : Reader) (out_old : Writer) where
     abbrev Ended : ℕ → Result Ending OutputFault → Type 0
     Ended count r =
         MatchResult r (λ e. WalksDocuments (between old (state n)) (between out_old out_mid) (record { count = count; ending = e }))
-            (λ st. StopsWalk (between old (state n)) (between out_old out_mid) st)
+        (λ st. StopsWalk (between old (state n)) (between out_old out_mid) st)
 
     unread_ends : (count : ℕ) (given : List ℕ) (f : ReadFault) → count ≡ documents.number → ¬ (f ≡ reads.NoMemory) → Consumes (state m).left (state n).left given
         → IsReason state gives documents m n [] given (faults.Read f) → WalksDocuments (between old (state n)) (between out_old out_mid) (record { count = count; ending = endings.Unread f })

@@ -17,7 +17,7 @@ use Rattle.bd_diagnose.specs.JsonFault.{IsPlaced}
 use Rattle.bd_diagnose.specs.declared.json_fault.JsonFault.{JsonFault}
 use Rattle.bd_diagnose.specs.declared.json_fault.JsonFaultKind.TheVariants as kinds
 use Rattle.bd_pack.specs.Packable.{plain, IsPackable, IsBad}
-use Rattle.bd_files.specs.declared.output.lines.OutputFault.TheVariants.{NoMemory, Unwritten}
+use Rattle.bd_files.specs.declared.output.fault.OutputFault.TheVariants.{NoMemory, Unwritten}
 use Rattle.bd_files.specs.declared.pack.packing.BadLine.{BadLine}
 use Rattle.bd_pack.specs.declared.line.LineFault.{LineFault}
 use Rattle.bd_pack.specs.declared.line.LineFault.TheVariants as faults
@@ -25,7 +25,7 @@ use Rattle.bd_files.specs.declared.pack.packing.Packing.{Packing}
 use Rattle.bd_files.specs.declared.status.Status.{Status}
 use Rattle.bd_files.specs.declared.status.Status.TheVariants.{Failed}
 use Rattle.bd_files.proofs.TranscriptLemmas.{all_shown}
-use Rattle.bd_files.proofs.OutputLemmas.LinesLemmas.{breaks_piece, front_taken, takes_both}
+use Rattle.bd_files.proofs.OutputLemmas.FaultLemmas.{breaks_piece, front_taken, takes_both}
 use Rattle.bd_files.specs.Outcome.{PrintsOrStarves, TellsMessage}
 use Rattle.bd_files.specs.Pack.{IsShownByPack, PacksLines, pack_message, pack_status, packed_bytes, shown_pack}
 use Rattle.bd_lines.specs.Lines.{is_empty_line, text_lines}

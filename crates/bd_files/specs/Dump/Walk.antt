@@ -11,8 +11,8 @@ use Rattle.bd_files.specs.Transcript.{error_line, fault_text, lines, read_words}
 use Rattle.bd_files.specs.declared.ending.Ending.{Ending}
 use Rattle.bd_files.specs.declared.ending.Ending.TheVariants as endings
 use Rattle.bd_files.specs.declared.dump.walk.Walk.{Walk}
-use Rattle.bd_files.specs.declared.output.lines.OutputFault.{OutputFault}
-use Rattle.bd_files.specs.declared.output.lines.OutputFault.TheVariants.{NoMemory, Unwritten}
+use Rattle.bd_files.specs.declared.output.fault.OutputFault.{OutputFault}
+use Rattle.bd_files.specs.declared.output.fault.OutputFault.TheVariants.{NoMemory, Unwritten}
 use Rattle.bd_files.specs.declared.status.Status.{Status}
 use Rattle.bd_files.specs.declared.status.Status.TheVariants.{Done, Failed}
 

@@ -5,8 +5,8 @@ use Rattle.bd_value.specs.Tree.{Doc}
 use Rattle.bd_device.specs.Devices.{Over, TakesText, Writer}
 use Rattle.bd_files.specs.Pack.{packed_bytes, PacksLines}
 use Rattle.bd_lines.specs.Lines.{text_lines}
-use Rattle.bd_files.specs.Output.Lines.{StopsWithin}
-use Rattle.bd_files.specs.declared.output.lines.OutputFault.{OutputFault}
+use Rattle.bd_files.specs.Output.Fault.{StopsWithin}
+use Rattle.bd_files.specs.declared.output.fault.OutputFault.{OutputFault}
 use Rattle.bd_files.specs.declared.pack.packing.BadLine.{BadLine}
 use Rattle.bd_files.specs.declared.pack.packing.Packing.{Packing}
 

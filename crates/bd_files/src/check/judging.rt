@@ -11,7 +11,7 @@ ghost use Rattle.bd_device.specs.Devices.{BreaksWithin, TakesText, over};
 
 use crate::ending::{Ending, ending_of};
 use crate::limits::LIMITS;
-use crate::output::lines::{OutputFault, is_want_of_memory};
+use crate::output::fault::{OutputFault, is_want_of_memory};
 use crate::output::messages::write_fault;
 use bd_check::{Fault, check_document};
 use bd_device::{Input, Output, ReadFault, write_all};

@@ -6,7 +6,7 @@ ghost use Rattle.bd_value.specs.Tree.{Doc};
 ghost use Rattle.bd_check.specs.FirstFault.{first_fault};
 ghost use Rattle.bd_raw.specs.Spelling.{IsDocument};
 ghost use Rattle.bd_check.specs.AnsweredFault.{fault_view};
-ghost use Rattle.bd_files.specs.declared.output.lines.OutputFault.TheVariants.{Unwritten};
+ghost use Rattle.bd_files.specs.declared.output.fault.OutputFault.TheVariants.{Unwritten};
 ghost use Rattle.bd_files.specs.Transcript.{lines};
 ghost use Rattle.bd_files.specs.Dump.Walk.{StopsWalk, WalksDocuments};
 ghost use Rattle.bd_files.specs.Ending.{IsFresh};
@@ -14,7 +14,7 @@ ghost use Rattle.bd_device.specs.Devices.{BreaksWithin, TakesText, over};
 
 use crate::ending::{Ending, ending_of};
 use crate::limits::LIMITS;
-use crate::output::lines::{OutputFault, is_want_of_memory};
+use crate::output::fault::{OutputFault, is_want_of_memory};
 use bd_check::{Fault, check_document};
 use bd_device::{Input, Output, write_all};
 use bd_extjson::LineRoom;

@@ -5,7 +5,7 @@ ghost use Rattle.bd_lines.specs.Lines.{text_lines};
 ghost use Rattle.bd_files.specs.Pack.Packing.{IsPacking, StopsPacking, bytes_after, left_size, lines_left};
 ghost use Rattle.bd_device.specs.Devices.{over};
 
-use crate::output::lines::OutputFault;
+use crate::output::fault::OutputFault;
 use bd_device::{Output, write_all};
 use bd_lines::is_empty_line;
 use bd_pack::{LineFault, Packer};

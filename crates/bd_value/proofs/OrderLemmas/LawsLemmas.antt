@@ -113,7 +113,7 @@ mutual
   agree (code_scope s fs) (suc n) (array us) h = refl
   agree (code_scope s fs) (suc n) (code_scope u gs) h =
       ap (ordering_then (rank_cmp (rank_in (code_scope s fs)) (rank_in (code_scope u gs)))) (agree_fields fs n gs (omega arith)
-          ∙ then_equal (slice_cmp (pair_cmp (cmp_to n)) (pairs_of fs) (pairs_of gs)))
+      ∙ then_equal (slice_cmp (pair_cmp (cmp_to n)) (pairs_of fs) (pairs_of gs)))
 
   agree_items : (ts : Items) (n : ℕ) (us : Items) → height_items ts ≤ n → items_cmp ts us ≡ slice_cmp (cmp_to n) (list_of ts) (list_of us)
   agree_items no_items n no_items h = refl

@@ -12,4 +12,4 @@ returns c =
     let moved = map (λ (x : ℕ). (x + 128) % 256) v in
     rw (zip2_splat (λ (a b : ℕ). (a + b) % 256) v 16 128 long)
     (bitmask_splat w8 leb moved 16 128 (length-map v (λ (x : ℕ). (x + 128) % 256) ∙ long) (omega arith)
-        ∙ ap mask_l (map-map (λ (x : ℕ). leb x 128) (λ (x : ℕ). (x + 128) % 256) v ∙ each_further v c.fits-bytes.1))
+    ∙ ap mask_l (map-map (λ (x : ℕ). leb x 128) (λ (x : ℕ). (x + 128) % 256) v ∙ each_further v c.fits-bytes.1))

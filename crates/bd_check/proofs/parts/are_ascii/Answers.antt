@@ -12,4 +12,4 @@ pub returns : goal.returns
 returns c = λ t.
     let none = neither c.any_beyond_ascii.result c.any_beyond_ascii-2.result t in
     both_ends c.args.size c.args.bytes.now _ _ (omega arith) (omega arith) c.split_at.ensures.front c.split_at-2.ensures.back
-        (sym c.any_beyond_ascii.ensures ∙ none.0) (sym c.any_beyond_ascii-2.ensures ∙ none.1)
+    (sym c.any_beyond_ascii.ensures ∙ none.0) (sym c.any_beyond_ascii-2.ensures ∙ none.1)

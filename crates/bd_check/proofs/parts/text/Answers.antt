@@ -11,7 +11,7 @@ returns-in-Ok c = rw (is_utf8-from_IsUtf8 c.args.bytes.now c.in-Ok.ensures.cases
 pub returns-in-Err : goal.returns-in-Err
 returns-in-Err c =
     told_fails c.fault_at.result _ (text_at c.args.at c.args.bytes.now) c.fault_at.ensures
-        (rw (is_no_text c.args.bytes.now c.in-Err.ensures.cases.0, c.valid_up_to.ensures, c.in-Err.ensures.valid_len) refl)
+    (rw (is_no_text c.args.bytes.now c.in-Err.ensures.cases.0, c.valid_up_to.ensures, c.in-Err.ensures.valid_len) refl)
 
 pub from_utf8_unchecked-requires : goal.from_utf8_unchecked-requires
 from_utf8_unchecked-requires c = IsUtf8-from_ascii c.args.bytes.now (c.is_short_ascii.ensures c.if-is_short_ascii.true)

@@ -45,7 +45,7 @@ read_fields-returns-in_err-next-clause-gives t c =
     let n = l.invariant.0 in
     let named = ap (λ k. through (wrap_fields c.args.room) (after_key c.args.depth n (option_map (λ s. s.now) k) l.reader)) c.in-Some.is in
     let turn = steps.field_goes_on c.in-Some.name.now c.args.room c.args.depth n l.reader c.read_value.new.reader (tree_of c.in_ok-value.value)
-        (sym c.if-has_zero.ensures) c.in_ok-value.ensures.gives in
+    (sym c.if-has_zero.ensures) c.in_ok-value.ensures.gives in
     let none = ap (through (wrap_fields c.args.room)) (members_no_key (value c.args.depth) n c.read_value.new.reader c.in_err-next.ensures.value) in
     rw (p.1, p.2) (l.invariant.2 ∙ ap (parse_map (fields_before (pairs l.read))) (named ∙ turn ∙ ap (parse_map (field c.in-Some.name.now (tree_of c.in_ok-value.value))) none))
 
@@ -111,7 +111,7 @@ read_items-returns-clause-gives t c =
     let l = c.loop-alloc in
     let r = c.take_end_array.new.self in
     l.invariant.2 ∙ ap (λ x. parse_map (items_before (map tree_of l.found.items)) (through (wrap_items c.args.room) x))
-        (items_end (value c.args.depth) l.invariant.0 l.reader r l.invariant.1 (grind arith))
+    (items_end (value c.args.depth) l.invariant.0 l.reader r l.invariant.1 (grind arith))
     ∙ ap (λ x. Some (x, r)) (steps.items_before-none (map tree_of l.found.items))
 
 -- ---- read_object
@@ -151,7 +151,7 @@ read_object-returns-clause-gives t c =
     let key = option_map (λ s. s.now) c.in_ok-first.first in
     let start = ap (through (wrap_object c.args.room)) (steps.first_name c.args.depth c.args.reader.now c.next_key.new.self key c.in_ok-first.ensures.value) in
     start ∙ steps.object_is_plain c.args.room c.args.depth _ c.next_key.new.self key (omega arith) (sym c.wrapper_named.ensures ∙ c.in_default.is)
-        ∙ ap (parse_map doc) c.in_ok-read_fields.ensures.gives
+    ∙ ap (parse_map doc) c.in_ok-read_fields.ensures.gives
     ∙ ap (λ x. Some (x, c.read_fields.new.reader)) (sym (tree_of-Doc c.in_ok-read_fields.field-0))
 
 -- ---- read_value
@@ -178,7 +178,7 @@ read_value-returns-in_err-read_items-in-BeginArray-clause-gives t c =
     let p = err_from_is_err_and e.result e.ensures.1 in
     let first : c.args.reader.now ≡ token_of c.in_ok-token.token ∷ c.next.new.self = grind arith in
     let opened = ap (through (wrap c.args.room)) (ap (value c.args.depth) (first ∙ ap (λ k. token_of k ∷ c.next.new.self) c.in-BeginArray.is))
-        ∙ steps.array_read c.args.room c.args.depth c.next.new.self (omega arith) (omega arith) in
+    ∙ steps.array_read c.args.room c.args.depth c.next.new.self (omega arith) (omega arith) in
     rw (p.1, p.2) (steps.fails_by c.in_err-read_items-in-BeginArray.field-0.0 _ _ (λ none. opened ∙ ap (parse_map array) none) c.in_err-read_items-in-BeginArray.ensures.gives)
 
 pub read_value-returns-in_ok-read_items-in-BeginArray-clause-gives :
@@ -186,7 +186,7 @@ pub read_value-returns-in_ok-read_items-in-BeginArray-clause-gives :
 read_value-returns-in_ok-read_items-in-BeginArray-clause-gives t c =
     let first : c.args.reader.now ≡ token_of c.in_ok-token.token ∷ c.next.new.self = grind arith in
     let opened = ap (through (wrap c.args.room)) (ap (value c.args.depth) (first ∙ ap (λ k. token_of k ∷ c.next.new.self) c.in-BeginArray.is))
-        ∙ steps.array_read c.args.room c.args.depth c.next.new.self (omega arith) (omega arith) in
+    ∙ steps.array_read c.args.room c.args.depth c.next.new.self (omega arith) (omega arith) in
     opened ∙ ap (parse_map array) c.in_ok-read_items-in-BeginArray.ensures.gives ∙ ap (λ x. Some (x, c.read_items.new.reader)) (sym (tree_of-Array c.in_ok-read_items-in-BeginArray.field-0))
 
 pub read_value-returns-else-depth-eq0-2-clause-gives :
@@ -194,7 +194,7 @@ pub read_value-returns-else-depth-eq0-2-clause-gives :
 read_value-returns-else-depth-eq0-2-clause-gives t c =
     let first : c.args.reader.now ≡ token_of c.in_ok-token.token ∷ c.next.new.self = grind arith in
     let opened = ap (through (wrap c.args.room)) (ap (value c.args.depth) (first ∙ ap (λ k. token_of k ∷ c.next.new.self) c.in-BeginObject.is))
-        ∙ steps.object_read c.args.room c.args.depth c.next.new.self (omega arith) in
+    ∙ steps.object_read c.args.room c.args.depth c.next.new.self (omega arith) in
     rw opened c.read_object.ensures.gives
 
 pub read_value-returns-in_ok-from_str-in-String-clause-gives :
@@ -203,7 +203,7 @@ read_value-returns-in_ok-from_str-in-String-clause-gives t c =
     let first : c.args.reader.now ≡ token_of c.in_ok-token.token ∷ c.next.new.self = grind arith in
     let s = c.in_ok-from_str-in-String.field-0 in
     ap (through (wrap c.args.room)) (ap (value c.args.depth) (first ∙ ap (λ k. token_of k ∷ c.next.new.self) c.in-String.is))
-        ∙ steps.read_string c.args.room c.args.depth c.in-String.text.now c.next.new.self
+    ∙ steps.read_string c.args.room c.args.depth c.in-String.text.now c.next.new.self
     ∙ ap (λ x. Some (leaf (tree.text x), c.next.new.self)) (sym c.in_ok-from_str-in-String.ensures.ok) ∙ ap (λ x. Some (x, c.next.new.self)) (sym (text_is s))
 
 pub read_value-returns-in-Number-clause-gives : goal.read_value-returns-in-Number-clause-gives
@@ -211,19 +211,19 @@ read_value-returns-in-Number-clause-gives t c =
     let first : c.args.reader.now ≡ token_of c.in_ok-token.token ∷ c.next.new.self = grind arith in
     steps.number_told tree_of c.next.new.self c.bare_number.result c.ok_or-in-Number.result _ _ c.bare_number.ensures c.ok_or-in-Number.ensures.value
     (ap (through (wrap c.args.room)) (ap (value c.args.depth) (first ∙ ap (λ k. token_of k ∷ c.next.new.self) c.in-Number.is))
-        ∙ steps.read_number c.args.room c.args.depth c.in-Number.text.now c.next.new.self)
+    ∙ steps.read_number c.args.room c.args.depth c.in-Number.text.now c.next.new.self)
 
 pub read_value-returns-in-Bool-clause-gives : goal.read_value-returns-in-Bool-clause-gives
 read_value-returns-in-Bool-clause-gives t c =
     let first : c.args.reader.now ≡ token_of c.in_ok-token.token ∷ c.next.new.self = grind arith in
     ap (through (wrap c.args.room)) (ap (value c.args.depth) (first ∙ ap (λ k. token_of k ∷ c.next.new.self) c.in-Bool.is))
-        ∙ steps.read_boolean c.args.room c.args.depth c.in-Bool.b c.next.new.self ∙ ap (λ x. Some (x, c.next.new.self)) (sym (bool_is c.in-Bool.b))
+    ∙ steps.read_boolean c.args.room c.args.depth c.in-Bool.b c.next.new.self ∙ ap (λ x. Some (x, c.next.new.self)) (sym (bool_is c.in-Bool.b))
 
 pub read_value-returns-in-Null-clause-gives : goal.read_value-returns-in-Null-clause-gives
 read_value-returns-in-Null-clause-gives t c =
     let first : c.args.reader.now ≡ token_of c.in_ok-token.token ∷ c.next.new.self = grind arith in
     ap (through (wrap c.args.room)) (ap (value c.args.depth) (first ∙ ap (λ k. token_of k ∷ c.next.new.self) c.in-Null.is))
-        ∙ steps.read_null c.args.room c.args.depth c.next.new.self ∙ ap (λ x. Some (x, c.next.new.self)) (sym null_is)
+    ∙ steps.read_null c.args.room c.args.depth c.next.new.self ∙ ap (λ x. Some (x, c.next.new.self)) (sym null_is)
 
 pub read_value-returns-in-EndObject-clause-gives :
     goal.read_value-returns-in-EndObject-clause-gives
@@ -243,7 +243,7 @@ pub read_value-returns-then-room-eq0-clause-gives :
 read_value-returns-then-room-eq0-clause-gives t c =
     let first : c.args.reader.now ≡ token_of c.in_ok-token.token ∷ c.next.new.self = grind arith in
     ap (through (wrap c.args.room)) (ap (value c.args.depth) (first ∙ ap (λ k. token_of k ∷ c.next.new.self) c.in-BeginArray.is))
-        ∙ steps.array_refused c.args.room c.args.depth c.next.new.self (omega arith) (omega arith)
+    ∙ steps.array_refused c.args.room c.args.depth c.next.new.self (omega arith) (omega arith)
 
 -- ---- read_wrapper
 
@@ -328,7 +328,7 @@ read_scope_second-returns-in_err-end_object-clause-gives t c = λ n u le.
     let less : length r ≤ n = omega (arith, le, c.in_ok-scope.ensures.shorter) in
     rw (p.1, p.2) (steps.fails_by c.in_err-end_object.field-0.0 (closing r) _
     (λ none. seconds.scope_unended c.args.second.now c.args.room c.args.depth n c.args.reader.now r (value_view c.args.code.now) u
-        (tree_of c.in_ok-scope.scope) (sym c.if-not-names_scope.ensures) c.in_ok-scope.ensures.gives less none)
+    (tree_of c.in_ok-scope.scope) (sym c.if-not-names_scope.ensures) c.in_ok-scope.ensures.gives less none)
     c.in_err-end_object.ensures.gives)
 
 pub read_scope_second-returns-clause-gives :
@@ -339,7 +339,7 @@ read_scope_second-returns-clause-gives t c = λ n u le.
     let less : length r ≤ n = omega (arith, le, c.in_ok-scope.ensures.shorter) in
     steps.told tree_of c.code_with_scope.result s _ _
     (seconds.scope_ended c.args.second.now c.args.room c.args.depth n c.args.reader.now r s (value_view c.args.code.now) u
-        (tree_of c.in_ok-scope.scope) (sym c.if-not-names_scope.ensures) c.in_ok-scope.ensures.gives less
+    (tree_of c.in_ok-scope.scope) (sym c.if-not-names_scope.ensures) c.in_ok-scope.ensures.gives less
     c.in_ok-end_object.ensures.gives (omega arith))
     c.code_with_scope.ensures
 

@@ -15,4 +15,4 @@ returns c =
     let s = c.in_ok-from_str.field-0 in
     let d = c.in_ok-scope.scope in
     scoped _ (tree_of c.args.scope) c.in_ok-text.text.now (pairs d) text scope
-        ∙ ap (λ x. Some (code_scope x (fields_of (pairs d)))) (sym c.in_ok-from_str.ensures.ok) ∙ ap Some (sym (tree_of-CodeScope s d))
+    ∙ ap (λ x. Some (code_scope x (fields_of (pairs d)))) (sym c.in_ok-from_str.ensures.ok) ∙ ap Some (sym (tree_of-CodeScope s d))

@@ -1,5 +1,5 @@
 use Rattle.std.proofs.Common.{rules, ◌≡◌, ◌++◌, codes, decimal}
-use Rattle.bd_files.proofs.OutputLemmas.LinesLemmas.{breaks_first, on_err, second_err, second_ok}
+use Rattle.bd_files.proofs.OutputLemmas.FaultLemmas.{breaks_first, on_err, second_err, second_ok}
 use Rattle.bd_files.proofs.check.write_counts.Goals as goal
 
 pub returns-in_err-write_count-clause-err : goal.returns-in_err-write_count-clause-err

@@ -1,6 +1,6 @@
 use Rattle.bd_files.specs.Check.{check_count_line}
 use Rattle.bd_files.specs.Check.Judging.{unread_message}
-use Rattle.bd_files.proofs.OutputLemmas.LinesLemmas.{breaks_first, on_err, second_err}
+use Rattle.bd_files.proofs.OutputLemmas.FaultLemmas.{breaks_first, on_err, second_err}
 use Rattle.bd_files.proofs.check.write_findings.Goals as goal
 
 pub returns-in_err-write_unread-clause-err : goal.returns-in_err-write_unread-clause-err

@@ -2,7 +2,7 @@ use Rattle.std.proofs.Common.{rules, ◌≡◌}
 use Rattle.std.proofs.lemmas.Result.{err_from_is_err_and}
 use Rattle.bd_files.specs.Dump.{dump_count_line}
 use Rattle.bd_files.specs.Dump.Walk.{ending_message}
-use Rattle.bd_files.proofs.OutputLemmas.LinesLemmas.{breaks_first, breaks_second}
+use Rattle.bd_files.proofs.OutputLemmas.FaultLemmas.{breaks_first, breaks_second}
 use Rattle.bd_files.proofs.dump.write_walk.Goals as goal
 
 pub returns-in_err-write_ending-clause-broke : goal.returns-in_err-write_ending-clause-broke

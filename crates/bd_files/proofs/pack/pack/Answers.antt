@@ -13,7 +13,11 @@ returns-in-Ok g c =
 
 pub returns-in-Err : goal.returns-in-Err
 returns-in-Err g c =
-    let e = c.in-Err.ensures in
-    (Err c.in-Err.fault, shown_refusal (read_words c.in-Err.fault), runs.was_refused (g.R.Input.state c.args.input.now)
-        (g.R.Input.state c.read_all.new.reader) c.in-Err.fault e.failed e.well e.too_long_known e.too_many_known e.too_many_calls e.memory_known,
-        refl, runs.refused (g.O.Output.state c.args.out.now) (g.E.Output.state c.args.err.now) (g.E.Output.state c.tell_read_fault.new.err) _ _ c.tell_read_fault.ensures)
+    let e = c.in-Err.ensures in (
+      Err c.in-Err.fault,
+      shown_refusal (read_words c.in-Err.fault),
+      runs.was_refused (g.R.Input.state c.args.input.now)
+          (g.R.Input.state c.read_all.new.reader) c.in-Err.fault e.failed e.well e.too_long_known e.too_many_known e.too_many_calls e.memory_known,
+      refl,
+      runs.refused (g.O.Output.state c.args.out.now) (g.E.Output.state c.args.err.now) (g.E.Output.state c.tell_read_fault.new.err) _ _ c.tell_read_fault.ensures,
+    )

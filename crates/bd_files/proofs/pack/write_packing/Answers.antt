@@ -1,6 +1,6 @@
 use Rattle.std.proofs.lemmas.Result.{err_from_is_err_and}
 use Rattle.bd_files.specs.Pack.{bad_line_line, pack_count_line}
-use Rattle.bd_files.proofs.OutputLemmas.LinesLemmas.{breaks_first, breaks_second, takes_both}
+use Rattle.bd_files.proofs.OutputLemmas.FaultLemmas.{breaks_first, breaks_second, takes_both}
 use Rattle.bd_files.proofs.pack.write_packing.Goals as goal
 
 pub returns-in_err-write_bad_line-clause-broke : goal.returns-in_err-write_bad_line-clause-broke

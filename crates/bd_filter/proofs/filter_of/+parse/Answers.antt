@@ -19,7 +19,7 @@ read_elem_match-returns-in_err-operators g t c =
     let p = err_from_is_err_and c.from_residual.result c.from_residual.ensures.1 in
     rw (p.1, p.2) (stops_as (λ xs. has_element (operators_from xs)) (operators_of (c.args.room - 1) (fields_of ps)) (element_operator c.args.room n) c.in_err-operators.field-0.0
     (element_is c.args.room n ps true (sym c.kind.ensures ∙ c.in-Doc.is) c.parts-parts.ensures.parts (sym c.is_value_form.ensures
-        ∙ c.if-is_value_form.true) c.if-room-eq0.false) c.in_err-operators.ensures)
+    ∙ c.if-is_value_form.true) c.if-room-eq0.false) c.in_err-operators.ensures)
 
 pub read_elem_match-returns-then-is_value_form : goal.read_elem_match-returns-then-is_value_form
 read_elem_match-returns-then-is_value_form g t c =
@@ -35,7 +35,7 @@ read_elem_match-returns-in_err-filters g t c =
     let p = err_from_is_err_and c.from_residual-in_err-filters.result c.from_residual-in_err-filters.ensures.1 in
     rw (p.1, p.2) (stops_as (λ xs. has_document (filters_from xs)) (filters_of (c.args.room - 1) (fields_of ps)) (element_operator c.args.room n) c.in_err-filters.field-0.0
     (element_is c.args.room n ps false (sym c.kind.ensures ∙ c.in-Doc.is) c.parts-parts.ensures.parts (sym c.is_value_form.ensures
-        ∙ c.if-is_value_form.false) c.if-room-eq0.false) c.in_err-filters.ensures)
+    ∙ c.if-is_value_form.false) c.if-room-eq0.false) c.in_err-filters.ensures)
 
 pub read_elem_match-returns : goal.read_elem_match-returns
 read_elem_match-returns g t c =
@@ -75,10 +75,10 @@ read_members-returns-in-Err g t c =
     let i = length c.loop-next.filters.items in
     let part = member_filter c.args.room (g.N.Reading.tree c.in-Some.next.1) in
     refused xs (under (decimal i) part) (member_filters c.args.room (i + 1) (items_of (values_of (g.N.Reading.left c.in-Some.next.2))))
-        (member_filters c.args.room 0 (items_of (values_of (g.N.Reading.left c.args.members)))) c.under_index.result
+    (member_filters c.args.room 0 (items_of (values_of (g.N.Reading.left c.args.members)))) c.under_index.result
     (ap (λ ps. joined xs (member_filters c.args.room i (items_of (values_of ps)))) (sym c.in-Some.ensures.some) ∙ c.loop-next.invariant)
     (subst (λ n. StopsAt c.under_index.result (under (decimal n) part)) (c.len.ensures ∙ c.loop-next.filters.ok.0)
-        (seen_above (decimal c.len.result) c.in-Err.stop c.under_index.result part c.under_index.ensures.tells c.under_index.ensures.starved c.in-Err.ensures))
+    (seen_above (decimal c.len.result) c.in-Err.stop c.under_index.result part c.under_index.ensures.tells c.under_index.ensures.starved c.in-Err.ensures))
 
 pub read_not-returns-in_err-operators : goal.read_not-returns-in_err-operators
 read_not-returns-in_err-operators g t c =
@@ -116,7 +116,7 @@ pub read_value-returns-then-has_operators : goal.read_value-returns-then-has_ope
 read_value-returns-then-has_operators g t c =
     subst (λ part. ReadsPart (λ os. map operator_tree os.items) c.read_operators.result part)
     (sym (operators_are c.args.room (g.N.Reading.tree c.args.value) (g.N.Reading.left c.parts.result) (sym c.has_operators.ensures
-        ∙ c.if-has_operators.true) c.parts.ensures.parts)) c.read_operators.ensures
+    ∙ c.if-has_operators.true) c.parts.ensures.parts)) c.read_operators.ensures
 
 pub read_filters-loop-next-init : goal.read_filters-loop-next-init
 read_filters-loop-next-init g t c = none_read filter_tree c.new-filters.result.items _ c.new-filters.ensures.items
@@ -157,7 +157,7 @@ read_operators-returns g t c =
 pub read_members-loop-next-init : goal.read_members-loop-next-init
 read_members-loop-next-init g t c =
     ap (λ n. joined (map filter_tree c.new-filters.result.items) (member_filters c.args.room n
-        (items_of (values_of (g.N.Reading.left c.args.members))))) (ap (λ xs. length xs) c.new-filters.ensures.items)
+    (items_of (values_of (g.N.Reading.left c.args.members))))) (ap (λ xs. length xs) c.new-filters.ensures.items)
     ∙ none_read filter_tree c.new-filters.result.items _ c.new-filters.ensures.items
 
 pub read_members-loop-next-preserved : goal.read_members-loop-next-preserved

@@ -20,7 +20,7 @@ returns-in-Err-clause-fault c =
     let ps = parts_held c.parts.result in
     answer_is c.in-Err.stop (filter_of (pairs c.args.document.now)) c.fault_of.result
     (stops_as (λ xs. all_of (filters_from xs)) (filters_of (most_filter_levels - 1) (fields_of ps)) (filter_of (pairs c.args.document.now)) c.in-Err.stop
-        (whole_is (pairs c.args.document.now) ps c.parts.ensures.parts) c.in-Err.ensures)
+    (whole_is (pairs c.args.document.now) ps c.parts.ensures.parts) c.in-Err.ensures)
     c.fault_of.ensures
 
 pub returns-in-Err-clause-bad : goal.returns-in-Err-clause-bad

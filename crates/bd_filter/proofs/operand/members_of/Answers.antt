@@ -19,7 +19,7 @@ returns-in-Err g c =
     refused xs (under (decimal i) part) (member_values (i + 1) (items_of (values_of (g.N.Reading.left c.in-Some.next.2)))) (members_of (g.N.Reading.tree c.args.operand)) c.under_index.result
     (ap (λ ps. joined xs (member_values i (items_of (values_of ps)))) (sym c.in-Some.ensures.some) ∙ c.loop-next.invariant)
     (subst (λ n. StopsAt c.under_index.result (under (decimal n) part)) (c.len.ensures ∙ c.loop-next.members.ok.0)
-        (seen_above (decimal c.len.result) c.in-Err.stop c.under_index.result part c.under_index.ensures.tells c.under_index.ensures.starved c.in-Err.ensures))
+    (seen_above (decimal c.len.result) c.in-Err.stop c.under_index.result part c.under_index.ensures.tells c.under_index.ensures.starved c.in-Err.ensures))
 
 pub loop-next-preserved : goal.loop-next-preserved
 loop-next-preserved g c =

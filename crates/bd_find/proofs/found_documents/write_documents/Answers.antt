@@ -8,7 +8,7 @@ use Rattle.bd_text.specs.Text.{text}
 use Rattle.bd_bson.specs.Documents.{documents_at}
 use Rattle.bd_files.specs.Transcript.{lines}
 use Rattle.bd_find.proofs.FindLemmas as finds
-use Rattle.bd_files.proofs.OutputLemmas.LinesLemmas.{breaks_piece, front_taken, takes_both}
+use Rattle.bd_files.proofs.OutputLemmas.FaultLemmas.{breaks_piece, front_taken, takes_both}
 use Rattle.bd_find.proofs.found_documents.write_documents.Goals as goal
 
 pub returns-in_err-line-clause-stops : goal.returns-in_err-line-clause-stops

@@ -24,7 +24,7 @@ append_fields-loop-next-preserved t c =
     let one = element v k (bytes_of v) in
     let next = c.after_word-next.result in
     let turn = pieces.goes_on_at 123 whole (fields_text (fields_of ps)) (member k (text v)) c.in-Some.at.now l.rest.now rest l.next next is
-        l.invariant.2 (pieces.member_read c.in-Some.at.now c.in_ok-name.value.now k v rest read.0 g.1) c.after_word-next.ensures in (
+    l.invariant.2 (pieces.member_read c.in-Some.at.now c.in_ok-name.value.now k v rest read.0 g.1) c.after_word-next.ensures in (
       ps ++ (k, v) ∷ [],
       pieces.one_more_canonical_field c.args.room ps k v l.invariant.1 (search rules, read.1, c.may_name_wrapper.ensures c.if-may_name_wrapper.false) g.2,
       pieces.as_members 123 whole ps k v rest _ turn,
@@ -48,8 +48,13 @@ append_fields-returns-clause-gives t c =
     let at = bodies.if_ok c.begin_body.result c.in_ok-start.start _ c.in_ok-start.ensures.value c.begin_body.ensures.place in
     let put = bodies.on_ok _ _ _ c.in_ok-ok.ensures.value c.end_body.ensures.ok ∙ bodies.ended c.args.out.now.items (fields_bytes (fields_of ps)) l.out.items c.in_ok-start.start at l.invariant.5 in
     pieces.if_some_rest c.after_word-2.result _ c.after_word-2.ensures
-        (λ rest e. (ps, pieces.ended_at 123 125 c.args.text.now (fields_text (fields_of ps)) l.rest.now l.next c.in_default.is l.invariant.2 rest.now
-        e, l.invariant.1, put))
+    (λ rest e. (
+      ps,
+      pieces.ended_at 123 125 c.args.text.now (fields_text (fields_of ps)) l.rest.now l.next c.in_default.is l.invariant.2 rest.now
+          e,
+      l.invariant.1,
+      put,
+    ))
 
 -- ---- append_items
 
@@ -97,7 +102,7 @@ append_items-returns t c =
     let at = bodies.if_ok c.begin_body.result c.in_ok-start.start _ c.in_ok-start.ensures.value c.begin_body.ensures.place in
     let put = bodies.on_ok _ _ _ c.in_ok-ok.ensures.value c.end_body.ensures.ok ∙ bodies.ended c.args.out.now.items (items_bytes 0 (items_of ts)) l.out.items c.in_ok-start.start at l.invariant.5 in
     pieces.if_some_rest c.after_word-2.result _ c.after_word-2.ensures
-        (λ rest e. (ts, pieces.ended_at 91 93 c.args.text.now (items_text (items_of ts)) l.rest.now l.next c.in_default.is l.invariant.2 rest.now e, l.invariant.1, put))
+    (λ rest e. (ts, pieces.ended_at 91 93 c.args.text.now (items_text (items_of ts)) l.rest.now l.next c.in_default.is l.invariant.2 rest.now e, l.invariant.1, put))
 
 -- ---- append_next
 
@@ -107,9 +112,13 @@ append_next-returns-in_ok-ok-in-123-2 t c =
     pieces.if_some_rest c.append_fields.result _ c.append_fields.ensures.gives
     (λ rest g.
     let d = g.0 in
-    let t = doc (fields_of d) in
-    (t, g.1, pieces.roomier (suc (c.args.room - 1)) c.args.room t (omega arith) (pieces.doc_known (c.args.room - 1) d g.2), g.3
-        ∙ ap (λ x. x ++ bytes_of t) label ∙ bodies.labelled c.args.out.now.items c.args.name.now (bytes_of t) _))
+    let t = doc (fields_of d) in (
+      t,
+      g.1,
+      pieces.roomier (suc (c.args.room - 1)) c.args.room t (omega arith) (pieces.doc_known (c.args.room - 1) d g.2),
+      g.3
+          ∙ ap (λ x. x ++ bytes_of t) label ∙ bodies.labelled c.args.out.now.items c.args.name.now (bytes_of t) _,
+    ))
 
 pub append_next-returns-in_ok-ok-in-91 : goal.append_next-returns-in_ok-ok-in-91
 append_next-returns-in_ok-ok-in-91 t c =
@@ -117,6 +126,10 @@ append_next-returns-in_ok-ok-in-91 t c =
     pieces.if_some_rest c.append_items.result _ c.append_items.ensures
     (λ rest g.
     let ts = g.0 in
-    let t = array (items_of ts) in
-    (t, g.1, pieces.roomier (suc (c.args.room - 1)) c.args.room t (omega arith) (pieces.array_known (c.args.room - 1) ts g.2), g.3
-        ∙ ap (λ x. x ++ bytes_of t) label ∙ bodies.labelled c.args.out.now.items c.args.name.now (bytes_of t) _))
+    let t = array (items_of ts) in (
+      t,
+      g.1,
+      pieces.roomier (suc (c.args.room - 1)) c.args.room t (omega arith) (pieces.array_known (c.args.room - 1) ts g.2),
+      g.3
+          ∙ ap (λ x. x ++ bytes_of t) label ∙ bodies.labelled c.args.out.now.items c.args.name.now (bytes_of t) _,
+    ))

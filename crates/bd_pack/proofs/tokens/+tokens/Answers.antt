@@ -78,7 +78,7 @@ append_fields-returns-clause-gives t c =
     let named = ap (λ k. through (wrap_fields c.args.room) (after_key c.args.depth l.invariant.0 (option_map (λ s. s.now) k) l.reader)) c.in_default.is in
     let read = l.invariant.3 ∙ ap (parse_map (fields_before ps)) named ∙ ap (λ x. Some (x, l.reader)) (steps.fields_before-none ps) in
     bodies.some_ok c.ok-2.result c.end_body.result _ _ c.ok-2.ensures.value c.end_body.ensures.ok
-        (λ e. (fields_of ps, read, e ∙ bodies.ended c.args.out.now.items (fields_bytes (fields_of ps)) l.out.items c.in_ok-at.at at l.invariant.5))
+    (λ e. (fields_of ps, read, e ∙ bodies.ended c.args.out.now.items (fields_bytes (fields_of ps)) l.out.items c.in_ok-at.at at l.invariant.5))
 
 -- ---- append_items
 
@@ -131,9 +131,9 @@ append_items-returns-clause-gives t c =
     let r = c.take_end_array.new.self in
     let at = bodies.if_ok c.begin_body.result c.in_ok-at.at _ c.in_ok-at.ensures.value c.begin_body.ensures.place in
     let read = l.invariant.3 ∙ ap (λ x. parse_map (items_before ts) (through (wrap_items c.args.room) x))
-        (items_end (value c.args.depth) l.invariant.0 l.reader r l.invariant.2 (grind arith)) ∙ ap (λ x. Some (x, r)) (steps.items_before-none ts) in
+    (items_end (value c.args.depth) l.invariant.0 l.reader r l.invariant.2 (grind arith)) ∙ ap (λ x. Some (x, r)) (steps.items_before-none ts) in
     bodies.some_ok c.ok-2.result c.end_body.result _ _ c.ok-2.ensures.value c.end_body.ensures.ok
-        (λ e. (items_of ts, read, e ∙ bodies.ended c.args.out.now.items (items_bytes 0 (items_of ts)) l.out.items c.in_ok-at.at at l.invariant.5))
+    (λ e. (items_of ts, read, e ∙ bodies.ended c.args.out.now.items (items_bytes 0 (items_of ts)) l.out.items c.in_ok-at.at at l.invariant.5))
 
 -- ---- append_next
 
@@ -142,7 +142,7 @@ append_next-returns-in-String-clause-gives t c =
     let first : c.args.reader.now ≡ token_of c.in_ok-text.field-0 ∷ c.next.new.self = grind arith in
     let s = c.in-String.text.now in
     let read = ap (through (wrap c.args.room)) (ap (value c.args.depth) (first ∙ ap (λ k. token_of k ∷ c.next.new.self) c.in-String.is))
-        ∙ steps.read_string c.args.room c.args.depth s c.next.new.self in
+    ∙ steps.read_string c.args.room c.args.depth s c.next.new.self in
     bodies.if_some c.append_text.result _ _ c.append_text.ensures (λ e. (leaf (trees.text s), read, e))
 
 pub append_next-returns-in-Number-clause-gives : goal.append_next-returns-in-Number-clause-gives
@@ -150,7 +150,7 @@ append_next-returns-in-Number-clause-gives t c =
     let first : c.args.reader.now ≡ token_of c.in_ok-text.field-0 ∷ c.next.new.self = grind arith in
     let s = c.in-Number.text.now in
     let read = ap (through (wrap c.args.room)) (ap (value c.args.depth) (first ∙ ap (λ k. token_of k ∷ c.next.new.self) c.in-Number.is))
-        ∙ steps.read_number c.args.room c.args.depth s c.next.new.self in
+    ∙ steps.read_number c.args.room c.args.depth s c.next.new.self in
     bodies.if_some c.append_number.result _ _ c.append_number.ensures (λ g. (g.0, read ∙ ap (option_map (λ (a : Tree). (a, c.next.new.self))) g.1, g.2))
 
 pub append_next-returns-in-Bool-clause-gives : goal.append_next-returns-in-Bool-clause-gives
@@ -158,7 +158,7 @@ append_next-returns-in-Bool-clause-gives t c =
     let first : c.args.reader.now ≡ token_of c.in_ok-text.field-0 ∷ c.next.new.self = grind arith in
     let b = c.in-Bool.b in
     let read = ap (through (wrap c.args.room)) (ap (value c.args.depth) (first ∙ ap (λ k. token_of k ∷ c.next.new.self) c.in-Bool.is))
-        ∙ steps.read_boolean c.args.room c.args.depth b c.next.new.self in
+    ∙ steps.read_boolean c.args.room c.args.depth b c.next.new.self in
     bodies.if_some c.append_bool.result _ _ c.append_bool.ensures (λ e. (leaf (trees.boolean b), read, e))
 
 pub append_next-returns-in-Null-clause-gives : goal.append_next-returns-in-Null-clause-gives
@@ -172,18 +172,22 @@ pub append_next-returns-in_ok-ok-in-BeginArray-clause-gives :
 append_next-returns-in_ok-ok-in-BeginArray-clause-gives t c =
     let first : c.args.reader.now ≡ token_of c.in_ok-text.field-0 ∷ c.next.new.self = grind arith in
     let opened = ap (through (wrap c.args.room)) (ap (value c.args.depth) (first ∙ ap (λ k. token_of k ∷ c.next.new.self) c.in-BeginArray.is))
-        ∙ steps.array_read c.args.room c.args.depth c.next.new.self (omega arith) (omega arith) in
+    ∙ steps.array_read c.args.room c.args.depth c.next.new.self (omega arith) (omega arith) in
     let label = bodies.on_ok c.append_label.result _ _ c.in_ok-ok-in-BeginArray.ensures.value c.append_label.ensures.ok in
     bodies.if_some c.append_items.result _ _ c.append_items.ensures.gives
-    (λ g. (array g.0, opened ∙ ap (parse_map array) g.1, g.2 ∙ ap (λ x. x ++ bytes_of (array g.0)) label.0
-        ∙ bodies.labelled c.args.out.now.items c.args.name.now (bytes_of (array g.0)) (type_byte kinds.Array)))
+    (λ g. (
+      array g.0,
+      opened ∙ ap (parse_map array) g.1,
+      g.2 ∙ ap (λ x. x ++ bytes_of (array g.0)) label.0
+          ∙ bodies.labelled c.args.out.now.items c.args.name.now (bytes_of (array g.0)) (type_byte kinds.Array),
+    ))
 
 pub append_next-returns-else-depth-eq0-2-clause-gives :
     goal.append_next-returns-else-depth-eq0-2-clause-gives
 append_next-returns-else-depth-eq0-2-clause-gives t c =
     let first : c.args.reader.now ≡ token_of c.in_ok-text.field-0 ∷ c.next.new.self = grind arith in
     let opened = ap (through (wrap c.args.room)) (ap (value c.args.depth) (first ∙ ap (λ k. token_of k ∷ c.next.new.self) c.in-BeginObject.is))
-        ∙ steps.object_read c.args.room c.args.depth c.next.new.self (omega arith) in
+    ∙ steps.object_read c.args.room c.args.depth c.next.new.self (omega arith) in
     bodies.if_some c.append_object.result _ _ c.append_object.ensures.gives (λ g. (g.0, opened ∙ g.1, g.2))
 
 -- ---- append_object
@@ -198,8 +202,12 @@ append_object-returns-then-is_short-clause-gives t c =
     let read = MatchResult-at_ok _ _ c.in_ok-first.first (bodies.ok_is c.next_key.result c.in_ok-first.first c.in_ok-first.ensures.value) c.next_key.ensures.value in
     let start = ap (through (wrap_object c.args.room)) (steps.first_name c.args.depth c.args.reader.now r key read) in
     bodies.if_some c.append_short.result _ _ c.append_short.ensures.gives
-    (λ g. (g.0, start ∙ steps.object_is_wrapper (λ (x : Tree). x) (Ok g.0) c.append_short.new.reader c.in-Some.wrapper c.args.room c.args.depth
-        (length r) r key (sym c.wrapper_named.ensures ∙ c.in-Some.is) (λ name is. g.1 c.args.room name is), g.2))
+    (λ g. (
+      g.0,
+      start ∙ steps.object_is_wrapper (λ (x : Tree). x) (Ok g.0) c.append_short.new.reader c.in-Some.wrapper c.args.room c.args.depth
+          (length r) r key (sym c.wrapper_named.ensures ∙ c.in-Some.is) (λ name is. g.1 c.args.room name is),
+      g.2,
+    ))
 
 pub append_object-returns-in-Some-clause-gives : goal.append_object-returns-in-Some-clause-gives
 append_object-returns-in-Some-clause-gives t c =
@@ -208,8 +216,12 @@ append_object-returns-in-Some-clause-gives t c =
     let read = MatchResult-at_ok _ _ c.in_ok-first.first (bodies.ok_is c.next_key.result c.in_ok-first.first c.in_ok-first.ensures.value) c.next_key.ensures.value in
     let start = ap (through (wrap_object c.args.room)) (steps.first_name c.args.depth c.args.reader.now r key read) in
     bodies.if_some c.append_wrapped.result _ _ c.append_wrapped.ensures.gives
-    (λ g. (g.0, start ∙ steps.object_is_wrapper (λ (x : Tree). x) (Ok g.0) c.append_wrapped.new.reader c.in-Some.wrapper c.args.room c.args.depth
-        (length r) r key (sym c.wrapper_named.ensures ∙ c.in-Some.is) (λ name is. g.1 name is), g.2))
+    (λ g. (
+      g.0,
+      start ∙ steps.object_is_wrapper (λ (x : Tree). x) (Ok g.0) c.append_wrapped.new.reader c.in-Some.wrapper c.args.room c.args.depth
+          (length r) r key (sym c.wrapper_named.ensures ∙ c.in-Some.is) (λ name is. g.1 name is),
+      g.2,
+    ))
 
 pub append_object-returns-clause-gives : goal.append_object-returns-clause-gives
 append_object-returns-clause-gives t c =
@@ -220,5 +232,9 @@ append_object-returns-clause-gives t c =
     let plain = steps.object_is_plain c.args.room c.args.depth (length r) r key (omega arith) (sym c.wrapper_named.ensures ∙ c.in_default.is) in
     let label = bodies.on_ok c.append_label.result _ _ c.in_ok-ok.ensures.value c.append_label.ensures.ok in
     bodies.if_some c.append_fields.result _ _ c.append_fields.ensures.gives
-    (λ g. (doc g.0, start ∙ plain ∙ ap (parse_map doc) g.1, g.2 ∙ ap (λ x. x ++ bytes_of (doc g.0)) label.0
-        ∙ bodies.labelled c.args.out.now.items c.args.name.now (bytes_of (doc g.0)) (type_byte kinds.Doc)))
+    (λ g. (
+      doc g.0,
+      start ∙ plain ∙ ap (parse_map doc) g.1,
+      g.2 ∙ ap (λ x. x ++ bytes_of (doc g.0)) label.0
+          ∙ bodies.labelled c.args.out.now.items c.args.name.now (bytes_of (doc g.0)) (type_byte kinds.Doc),
+    ))

@@ -23,7 +23,7 @@ returns-clause-gives c =
     let whole = bodies.if_ok c.new.result ts _ c.in_ok-reader.ensures.value c.new.ensures.ok in
     let first : ts ≡ token_of c.in-Some-BeginObject.field-0 ∷ s = grind arith in
     let opened = ap (through (wrap most_levels)) (ap (value most_brackets) (first ∙ ap (λ k. token_of k ∷ s) c.in-Some-BeginObject.field-0-is))
-        ∙ steps.object_read most_levels most_brackets s (omega arith) in
+    ∙ steps.object_read most_levels most_brackets s (omega arith) in
     let read = MatchResult-at_ok _ _ c.in_ok-first.first (bodies.ok_is c.next_key.result c.in_ok-first.first c.in_ok-first.ensures.value) c.next_key.ensures.value in
     let start = ap (through (wrap_object most_levels)) (steps.first_name (most_brackets - 1) s r key read) in
     let none : option_and_then wrapper_of key ≡ None = sym c.wrapper_named.ensures ∙ bodies.not_some c.wrapper_named.result (sym c.is_some.ensures ∙ c.if-is_some.false) in

@@ -21,7 +21,7 @@ returns-in-Some-clause-tree g c =
 pub returns-in-Some-clause-kept : goal.returns-in-Some-clause-kept
 returns-in-Some-clause-kept g c =
     let are = first.whole g.N.Reading.tree g.N.Reading.source c.args.dir _ c.walk-whole.new.found (g.N.Reading.tree c.args.doc) _
-        (names_of c.args.path.now) c.walk-whole.result c.components.ensures c.walk-whole.ensures in
+    (names_of c.args.path.now) c.walk-whole.result c.components.ensures c.walk-whole.ensures in
     subst (λ k. IfSome k (IsKeyOf g.N.Reading.source (g.N.Reading.source c.args.doc))) c.in-Some.is are.kept
 
 pub returns-in-Some-clause-there : goal.returns-in-Some-clause-there

@@ -9,4 +9,4 @@ returns-then-has_equal-clause-added g c =
 pub returns-clause-added : goal.returns-clause-added
 returns-clause-added g c =
     no_equal (key_tree g.N.Reading.tree) c.args.keys.now.items c.deref.result.now c.push.new.self.items c.args.key c.has_equal.result
-        c.has_equal.ensures c.deref.ensures.value c.if-has_equal.false c.in_ok-push.ensures.items
+    c.has_equal.ensures c.deref.ensures.value c.if-has_equal.false c.in_ok-push.ensures.items

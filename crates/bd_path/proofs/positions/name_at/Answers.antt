@@ -6,4 +6,4 @@ use Rattle.bd_path.proofs.positions.name_at.Goals as goal
 pub returns : goal.returns
 returns c =
     at.name_at c.args.path.now c.args.k c.index-path-k.result c.requires c.index-path-k.is
-        ∙ ap (λ (x : Component). at.some_name (string_bytes x.name)) c.index-path-k.is ∙ ap at.some_name (sym c.as_str.ensures.value)
+    ∙ ap (λ (x : Component). at.some_name (string_bytes x.name)) c.index-path-k.is ∙ ap at.some_name (sym c.as_str.ensures.value)

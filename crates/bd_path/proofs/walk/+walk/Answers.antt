@@ -19,7 +19,7 @@ use Rattle.bd_path.proofs.walk.+walk.Goals as goal
 pub walk-returns-then-has : goal.walk-returns-then-has
 walk-returns-then-has g t c =
     taken.vain_taken (g.G.Gatherer.amounts c.args.gatherer.now) (g.G.Gatherer.is_new c.args.gatherer.now) (g.G.Gatherer.ends c.args.gatherer.now)
-        c.requires.known c.args.found.now (g.N.Reading.source c.args.node) _
+    c.requires.known c.args.found.now (g.N.Reading.source c.args.node) _
     (c.requires.vain c.args.k (sym c.has.ensures ∙ c.if-has.true))
 
 pub walk-returns-then-k-path : goal.walk-returns-then-k-path
@@ -38,7 +38,7 @@ walk-returns-in_default g t c =
     let many = at.as_many c.args.path.now in
     taken.same_taken (g.G.Gatherer.amounts c.args.gatherer.now) (g.G.Gatherer.is_new c.args.gatherer.now) (g.G.Gatherer.ends c.args.gatherer.now) c.take-in_default.result bytes bytes _ _ _ _ refl
     (sym (walked.other_is stopping n names c.args.k (λ e. c.in_default.not-Doc (c.kind.ensures ∙ e))
-        (λ e. c.in_default.not-Array (c.kind.ensures ∙ e)) (omega (arith, many, c.requires.at, c.if-k-path.false))))
+    (λ e. c.in_default.not-Array (c.kind.ensures ∙ e)) (omega (arith, many, c.requires.at, c.if-k-path.false))))
     (c.take-in_default.ensures bytes tt)
 
 pub walk_field-walk-requires : goal.walk_field-walk-requires
@@ -101,7 +101,7 @@ walk_array-returns-in-None g t c =
     let m = at.named names c.args.k (let many = at.as_many c.args.path.now in omega (arith, many, c.requires.at)) in
     ap (list_any (g.G.Gatherer.ends c.args.gatherer.now)) (stop.array_is n names c.args.k m.name m.is_there _ c.requires.kind refl)
     ∙ taken.ended_before (g.G.Gatherer.amounts c.args.gatherer.now) (g.G.Gatherer.is_new c.args.gatherer.now) (g.G.Gatherer.ends c.args.gatherer.now)
-        (document_stops n (drop c.args.k names)) _ c.in-None.ensures.taken
+    (document_stops n (drop c.args.k names)) _ c.in-None.ensures.taken
 
 pub walk_array-walk_index-requires : goal.walk_array-walk_index-requires
 walk_array-walk_index-requires g t c κs within =
@@ -110,7 +110,7 @@ walk_array-walk_index-requires g t c κs within =
     let names = component_names c.args.path.now in
     let d = c.decreases in
     let told : TakesStops (g.G.Gatherer.amounts c.args.gatherer.now) (g.G.Gatherer.is_new c.args.gatherer.now) bytes c.args.found.now
-        c.walk_documents.new.found (document_stops n (drop c.args.k names)) = c.in-Some.ensures.taken in (
+    c.walk_documents.new.found (document_stops n (drop c.args.k names)) = c.in-Some.ensures.taken in (
       omega arith,
       (
         within.0,
@@ -150,9 +150,9 @@ walk_array-returns-in-Some g t c =
     let names = component_names c.args.path.now in
     let m = at.named names c.args.k (let many = at.as_many c.args.path.now in omega (arith, many, c.requires.at)) in
     taken.same_taken (g.G.Gatherer.amounts c.args.gatherer.now) (g.G.Gatherer.is_new c.args.gatherer.now) (g.G.Gatherer.ends c.args.gatherer.now)
-        c.walk_index.result bytes bytes _ _ _ _ refl (sym (stop.array_is n names c.args.k m.name m.is_there c.in-Some.has_document c.requires.kind c.in-Some.ensures.has))
+    c.walk_index.result bytes bytes _ _ _ _ refl (sym (stop.array_is n names c.args.k m.name m.is_there c.in-Some.has_document c.requires.kind c.in-Some.ensures.has))
     (taken.then_taken (g.G.Gatherer.amounts c.args.gatherer.now) (g.G.Gatherer.is_new c.args.gatherer.now) (g.G.Gatherer.ends c.args.gatherer.now)
-        c.walk_index.result bytes _ _ _ _ _ c.in-Some.ensures.taken c.walk_index.ensures)
+    c.walk_index.result bytes _ _ _ _ _ c.in-Some.ensures.taken c.walk_index.ensures)
 
 pub walk_documents-loop-i-init : goal.walk_documents-loop-i-init
 walk_documents-loop-i-init g t c =
@@ -185,8 +185,8 @@ walk_documents-returns g t c =
     let bytes = g.N.Reading.source c.args.node in
     let names = component_names c.args.path.now in
     let all : take c.loop-i.i (elements_in n) ≡ elements_in n = stop.all_of (elements_in n) c.loop-i.i
-        ((let len = down.length_elements n c.requires.kind in walked.drop_all (elements_in n) c.loop-i.i
-        (omega (arith, c.len-count.type_inv, c.len-count.ensures, len, c.loop-i-test.false)))) in
+    ((let len = down.length_elements n c.requires.kind in walked.drop_all (elements_in n) c.loop-i.i
+    (omega (arith, c.len-count.type_inv, c.len-count.ensures, len, c.loop-i-test.false)))) in
     record {
       taken = subst (λ (es : List Tree). TakesStops (g.G.Gatherer.amounts c.args.gatherer.now) (g.G.Gatherer.is_new c.args.gatherer.now) bytes
           c.args.found.now c.loop-i.found (each_gathering stopping (items_of es) (drop c.args.k names))) all c.loop-i.invariant.so_far;
@@ -202,8 +202,8 @@ walk_documents-walk-requires g t c κs within =
     let here = at.next_is (elements_in n) c.loop-i.i u us left in
     let f = g.G.Gatherer.is_new c.args.gatherer.now c.loop-i.found in
     let vain = taken.still_vain (g.G.Gatherer.amounts c.args.gatherer.now) (g.G.Gatherer.is_new c.args.gatherer.now)
-        (g.G.Gatherer.ends c.args.gatherer.now) c.args.found.now c.loop-i.found n (component_names c.args.path.now) c.args.walked.now
-        c.loop-i.invariant.so_far.still c.requires.vain in
+    (g.G.Gatherer.ends c.args.gatherer.now) c.args.found.now c.loop-i.found n (component_names c.args.path.now) c.args.walked.now
+    c.loop-i.invariant.so_far.still c.requires.vain in
     let small = down.element_smaller n c.loop-i.i u here in
     let d = c.decreases in (
       omega arith,
@@ -266,17 +266,17 @@ walk_documents-loop-i-preserved g t c =
       so_far = elim c.if-is_document.branch [
         | walk_documents-then-is_document+else-not-walk w ↦
             subst (λ f. TakesStops (g.G.Gatherer.amounts c.args.gatherer.now) (g.G.Gatherer.is_new c.args.gatherer.now) bytes c.args.found.now f
-                (each_gathering stopping (items_of (take (c.loop-i.i + 1) (elements_in n))) rest)) (sym w.found-is)
+            (each_gathering stopping (items_of (take (c.loop-i.i + 1) (elements_in n))) rest)) (sym w.found-is)
             (taken.document_taken (g.G.Gatherer.amounts c.args.gatherer.now) (g.G.Gatherer.is_new c.args.gatherer.now)
-                (g.G.Gatherer.ends c.args.gatherer.now) w.walk.result bytes _ c.args.found.now c.loop-i.found _ (elements_in n) c.loop-i.i u rest
-                here (sym c.is_document.ensures ∙ w.if-is_document.true) source
+            (g.G.Gatherer.ends c.args.gatherer.now) w.walk.result bytes _ c.args.found.now c.loop-i.found _ (elements_in n) c.loop-i.i u rest
+            here (sym c.is_document.ensures ∙ w.if-is_document.true) source
             c.loop-i.invariant.so_far w.walk.ensures w.if-not-walk.false)
         | walk_documents-else-is_document w ↦
             subst (λ f. TakesStops (g.G.Gatherer.amounts c.args.gatherer.now) (g.G.Gatherer.is_new c.args.gatherer.now) bytes c.args.found.now f
-                (each_gathering stopping (items_of (take (c.loop-i.i + 1) (elements_in n))) rest)) (sym w.found-is)
+            (each_gathering stopping (items_of (take (c.loop-i.i + 1) (elements_in n))) rest)) (sym w.found-is)
             (taken.other_taken (g.G.Gatherer.amounts c.args.gatherer.now) (g.G.Gatherer.is_new c.args.gatherer.now)
-                (g.G.Gatherer.ends c.args.gatherer.now) bytes c.args.found.now c.loop-i.found (elements_in n) c.loop-i.i u rest here
-                (sym c.is_document.ensures ∙ w.if-is_document.false) c.loop-i.invariant.so_far)
+            (g.G.Gatherer.ends c.args.gatherer.now) bytes c.args.found.now c.loop-i.found (elements_in n) c.loop-i.i u rest here
+            (sym c.is_document.ensures ∙ w.if-is_document.false) c.loop-i.invariant.so_far)
       ];
       has = elim c.if-is_document.branch [
         | walk_documents-then-is_document+else-not-walk w ↦ w.has_document-is ∙ stop.has_one (elements_in n) c.loop-i.i u here (sym c.is_document.ensures ∙ w.if-is_document.true)
@@ -338,8 +338,8 @@ walk_index-returns-then-has_document g t c =
     let names = component_names c.args.path.now in
     let there = at.name_at c.args.path.now c.args.k c.index-path-k.result c.requires.at c.index-path-k.is in
     taken.none_took (g.G.Gatherer.amounts c.args.gatherer.now) (g.G.Gatherer.is_new c.args.gatherer.now) (g.G.Gatherer.ends c.args.gatherer.now)
-        c.args.has_document bytes c.args.found.now _ c.if-has_document.true
-        (stop.documents_alone n names c.args.k _ there c.args.has_document c.in-None.ensures.none c.if-has_document.true)
+    c.args.has_document bytes c.args.found.now _ c.if-has_document.true
+    (stop.documents_alone n names c.args.k _ there c.args.has_document c.in-None.ensures.none c.if-has_document.true)
 
 pub walk_index-returns-else-has_document : goal.walk_index-returns-else-has_document
 walk_index-returns-else-has_document g t c =
@@ -348,5 +348,5 @@ walk_index-returns-else-has_document g t c =
     let names = component_names c.args.path.now in
     let there = at.name_at c.args.path.now c.args.k c.index-path-k.result c.requires.at c.index-path-k.is in
     taken.same_taken (g.G.Gatherer.amounts c.args.gatherer.now) (g.G.Gatherer.is_new c.args.gatherer.now) (g.G.Gatherer.ends c.args.gatherer.now)
-        c.take.result bytes bytes _ _ _ _ refl (sym (stop.no_branch n names c.args.k _ there c.args.has_document c.in-None.ensures.none c.if-has_document.false))
+    c.take.result bytes bytes _ _ _ _ refl (sym (stop.no_branch n names c.args.k _ there c.args.has_document c.in-None.ensures.none c.if-has_document.false))
     (c.take.ensures bytes tt)

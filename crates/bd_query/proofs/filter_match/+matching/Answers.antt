@@ -35,7 +35,7 @@ any_end_suits-returns-then-any_end_suits_in_documents g t c =
     let many = at.as_many cs in
     let m = at.named (component_names cs) c.args.k (omega (arith, many, c.requires.at, c.if-k-path.false)) in
     some_end.in_first (is_suited c.args.body.now) c.any_end_suits_in_documents.result _ (index_ends n (drop c.args.k (component_names cs))) _
-        c.any_end_suits_in_documents.ensures c.if-any_end_suits_in_documents.true
+    c.any_end_suits_in_documents.ensures c.if-any_end_suits_in_documents.true
     (walked.parts_are ends n (component_names cs) c.args.k m.name (sym c.kind.ensures ∙ c.in-Array.is) m.is_there)
 
 pub any_end_suits-returns-else-any_end_suits_in_documents : goal.any_end_suits-returns-else-any_end_suits_in_documents
@@ -45,8 +45,8 @@ any_end_suits-returns-else-any_end_suits_in_documents g t c =
     let many = at.as_many cs in
     let m = at.named (component_names cs) c.args.k (omega (arith, many, c.requires.at, c.if-k-path.false)) in
     some_end.in_second (is_suited c.args.body.now) c.any_end_suits_in_documents.result c.any_end_suits_at_index.result
-        (document_ends n (drop c.args.k (component_names cs))) (index_ends n (drop c.args.k (component_names cs))) _
-        c.any_end_suits_in_documents.ensures c.if-any_end_suits_in_documents.false c.any_end_suits_at_index.ensures
+    (document_ends n (drop c.args.k (component_names cs))) (index_ends n (drop c.args.k (component_names cs))) _
+    c.any_end_suits_in_documents.ensures c.if-any_end_suits_in_documents.false c.any_end_suits_at_index.ensures
     (walked.parts_are ends n (component_names cs) c.args.k m.name (sym c.kind.ensures ∙ c.in-Array.is) m.is_there)
 
 pub any_end_suits-returns-in_default : goal.any_end_suits-returns-in_default
@@ -56,7 +56,7 @@ any_end_suits-returns-in_default g t c =
     let many = at.as_many cs in
     some_end.one (is_suited c.args.body.now) None false _ refl
     (walked.other_is ends n (component_names cs) c.args.k (λ e. c.in_default.not-Doc (c.kind.ensures ∙ e))
-        (λ e. c.in_default.not-Array (c.kind.ensures ∙ e)) (omega (arith, many, c.requires.at, c.if-k-path.false)))
+    (λ e. c.in_default.not-Array (c.kind.ensures ∙ e)) (omega (arith, many, c.requires.at, c.if-k-path.false)))
 
 pub any_end_suits_in_field-any_end_suits-requires : goal.any_end_suits_in_field-any_end_suits-requires
 any_end_suits_in_field-any_end_suits-requires g t c κs within =
@@ -90,7 +90,7 @@ any_end_suits_in_field-returns-in-Some g t c =
     let cs = c.args.path.now in
     let s = c.as_str-name.result in
     let there : slice_get (component_names cs) c.args.k ≡ Some s.now = at.name_at cs c.args.k c.index-path-k.result c.requires.at c.index-path-k.is
-        ∙ ap (λ (x : Component). at.some_name (string_bytes x.name)) c.index-path-k.is ∙ ap at.some_name (sym c.as_str-name.ensures.value) in
+    ∙ ap (λ (x : Component). at.some_name (string_bytes x.name)) c.index-path-k.is ∙ ap at.some_name (sym c.as_str-name.ensures.value) in
     let e : first_of s.now (pairs_in n) ≡ Some u = sym c.in-Some.ensures.first in
     c.any_end_suits.ensures ∙ ap (list_any (is_suited c.args.body.now)) (sym (walked.field_is ends n (component_names cs) c.args.k s.now u c.requires.kind there e))
 
@@ -100,7 +100,7 @@ any_end_suits_in_field-returns-in-None g t c =
     let cs = c.args.path.now in
     let s = c.as_str-name.result in
     let there : slice_get (component_names cs) c.args.k ≡ Some s.now = at.name_at cs c.args.k c.index-path-k.result c.requires.at c.index-path-k.is
-        ∙ ap (λ (x : Component). at.some_name (string_bytes x.name)) c.index-path-k.is ∙ ap at.some_name (sym c.as_str-name.ensures.value) in
+    ∙ ap (λ (x : Component). at.some_name (string_bytes x.name)) c.index-path-k.is ∙ ap at.some_name (sym c.as_str-name.ensures.value) in
     let e : first_of s.now (pairs_in n) ≡ None = sym c.in-None.ensures.first in
     some_end.one (is_suited c.args.body.now) None false _ refl (walked.lost_is ends n (component_names cs) c.args.k s.now c.requires.kind there e)
 
@@ -200,7 +200,7 @@ any_end_suits_at_index-returns-in-Some g t c =
     c.any_end_suits.ensures
     ∙ ap (list_any (is_suited c.args.body.now))
     (sym (walked.first_is ends n names c.args.k m there ∙ walked.element_at ends (elements_in n) m names c.args.k c.in-Some.i u held
-        (omega (arith, c.len.type_inv, c.if-i-len.true)) c.element-element.ensures.element))
+    (omega (arith, c.len.type_inv, c.if-i-len.true)) c.element-element.ensures.element))
 
 pub any_end_suits_at_index-returns-in_default : goal.any_end_suits_at_index-returns-in_default
 any_end_suits_at_index-returns-in_default g t c =

@@ -14,5 +14,5 @@ loop-next-init c =
 pub loop-next-preserved : goal.loop-next-preserved
 loop-next-preserved c =
     written_on (pairs c.loop-next.written) (parts_held c.loop-next.left) (parts_held c.in-Some.next.2) (sort_written (pairs c.args.sort.now))
-        (pairs c.push.new.self) c.in-Some.next.0.now (string_bytes c.in_ok-name.name)
+    (pairs c.push.new.self) c.in-Some.next.0.now (string_bytes c.in_ok-name.name)
     (held c.in-Some.next.1) (tree_of c.written_direction.result) c.loop-next.invariant c.in-Some.ensures.some c.in_ok-push.ensures.ok c.in_ok-name.ensures.ok c.written_direction.ensures

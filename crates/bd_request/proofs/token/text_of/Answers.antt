@@ -10,11 +10,11 @@ returns-clause-size c =
     let t : Token = record { given = c.args.given; last = c.args.last; digest = c.args.digest } in
     let bytes = c.deref.ensures.value ∙ c.in_ok-bytes.ensures in
     (text_back t (string_bytes c.in_ok-text.text) c.ranges.given.fits c.ranges.last.fits (search rules) (c.in_ok-text.ensures.text
-        ∙ ap (encode_of standard) bytes) (c.in_ok-text.ensures.decoded ∙ ap (λ xs. Ok xs) bytes)).0
+    ∙ ap (encode_of standard) bytes) (c.in_ok-text.ensures.decoded ∙ ap (λ xs. Ok xs) bytes)).0
 
 pub returns-clause-read_back : goal.returns-clause-read_back
 returns-clause-read_back c =
     let t : Token = record { given = c.args.given; last = c.args.last; digest = c.args.digest } in
     let bytes = c.deref.ensures.value ∙ c.in_ok-bytes.ensures in
     (text_back t (string_bytes c.in_ok-text.text) c.ranges.given.fits c.ranges.last.fits (search rules) (c.in_ok-text.ensures.text
-        ∙ ap (encode_of standard) bytes) (c.in_ok-text.ensures.decoded ∙ ap (λ xs. Ok xs) bytes)).1
+    ∙ ap (encode_of standard) bytes) (c.in_ok-text.ensures.decoded ∙ ap (λ xs. Ok xs) bytes)).1

@@ -11,10 +11,10 @@ returns-in-None c =
     let names = names_of c.args.path.now in
     if_some c.unless_array.result
     (λ k h. ends_there root (stands c.loop-i.value.sound) names c.loop-i.i c.component.result.now c.component.ensures c.in-None.ensures.first h.1
-        c.loop-i.invariant ∙ ap (λ j. kept_key j ∷ []) (sym h.0))
+    c.loop-i.invariant ∙ ap (λ j. kept_key j ∷ []) (sym h.0))
     c.unless_array.ensures
 
 pub loop-i-preserved : goal.loop-i-preserved
 loop-i-preserved c =
     goes_on (stands c.args.document.sound) (stands c.loop-i.value.sound) (stands c.in-Some.next.sound) (names_of c.args.path.now) c.loop-i.i
-        c.component.result.now c.component.ensures c.in-Some.ensures.first c.loop-i.invariant
+    c.component.result.now c.component.ensures c.in-Some.ensures.first c.loop-i.invariant

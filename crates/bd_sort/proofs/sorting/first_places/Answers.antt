@@ -20,7 +20,7 @@ loop-place-init g c =
     let hits = hits_of ds (filter_tree r.filter) in
     let left = g.P.PlaceSource.left c.args.source in
     rw c.new-places.ensures.items (state_none ds (sort_paths r.sort.items) c.args.most hits
-        (passes hits (order_of_keys ds (sort_paths r.sort.items)) (mark_place c.args.last.now)) left (g.met.P.PlaceSource.law c.args.source _ hits c.requires.serves))
+    (passes hits (order_of_keys ds (sort_paths r.sort.items)) (mark_place c.args.last.now)) left (g.met.P.PlaceSource.law c.args.source _ hits c.requires.serves))
 
 pub loop-place-preserved-in-Continue-branch-2 : goal.loop-place-preserved-in-Continue-branch-2
 loop-place-preserved-in-Continue-branch-2 g c =
@@ -50,7 +50,7 @@ loop-place-preserved g c =
     let ss = sort_paths r.sort.items in
     let pass = passes (hits_of ds (filter_tree r.filter)) (order_of_keys ds ss) (mark_place c.args.last.now) in
     state_left_out ds ss c.args.most pass (g.P.PlaceSource.left c.loop-place.source) (g.P.PlaceSource.left c.next_place.new.self)
-        (g.P.PlaceSource.left c.args.source) c.loop-place.places.items c.loop-place.end
+    (g.P.PlaceSource.left c.args.source) c.loop-place.places.items c.loop-place.end
     c.in-Some.place c.in-Some.ensures (sym c.may_be_first.ensures ∙ c.if-may_be_first.false) c.loop-place.invariant
 
 pub returns : goal.returns

@@ -18,15 +18,15 @@ loop-run-preserved c =
     let i = c.loop-run.invariant in
     let step =
     run_step c.loop-run.rest.now (take c.loop-run.at c.loop-run.out.items) (take c.args.end c.args.out.now.items ++ escaped c.args.text.now)
-        c.in-Some.run' (length c.loop-run.rest.now) e refl i.whole in
+    c.in-Some.run' (length c.loop-run.rest.now) e refl i.whole in
     let room = c.put_escape-at.new.room in
     let items = c.make_room.new.out.items in
     let same : length room ≡ length items = omega (arith, c.put_escape-at.auto.room, c.put-at.auto.room, c.as_mut_slice-room.ensures.len, c.make_room.new.out.ok.0) in
     let back = lent c.make_room.new.out.len room items same c.make_room.new.out.ok.0 in
     let lead : take c.loop-run.at c.as_mut_slice-room.result.now ≡ take c.loop-run.at c.loop-run.out.items =
-        ap (λ (l : List ℕ). take c.loop-run.at l) c.as_mut_slice-room.ensures.value ∙ c.make_room.ensures.kept in
+    ap (λ (l : List ℕ). take c.loop-run.at l) c.as_mut_slice-room.ensures.value ∙ c.make_room.ensures.kept in
     let put = chained c.loop-run.at c.put-at.result c.put_escape-at.result c.loop-run.out.items c.put-at.new.room room _ _ (c.put-at.ensures.put
-        ∙ ap (λ (l : List ℕ). l ++ take c.in-Some.run' c.loop-run.rest.now) lead) c.put_escape-at.ensures.put in
+    ∙ ap (λ (l : List ℕ). l ++ take c.in-Some.run' c.loop-run.rest.now) lead) c.put_escape-at.ensures.put in
     record {
       inside = rw back (omega (arith, same, c.put_escape-at.ensures.end, c.put-at.ensures.end, c.in_ok-make_room.ensures.room, length-take c.in-Some.run' c.loop-run.rest.now));
       whole = rw (back, c.put_escape-at.ensures.put, c.put-at.ensures.put, lead) step;
@@ -44,6 +44,6 @@ returns-clause-ok c =
     let same : length room ≡ length items = omega (arith, c.put.auto.room, c.as_mut_slice.ensures.len, c.make_room-2.new.out.ok.0) in
     let back = lent c.make_room-2.new.out.len room items same c.make_room-2.new.out.ok.0 in
     let lead : take c.loop-run.at c.as_mut_slice.result.now ≡ take c.loop-run.at c.loop-run.out.items = ap (λ (l : List ℕ). take c.loop-run.at l)
-        c.as_mut_slice.ensures.value ∙ c.make_room-2.ensures.kept in
+    c.as_mut_slice.ensures.value ∙ c.make_room-2.ensures.kept in
     ap (λ (l : List ℕ). take c.put.result l) back ∙ c.put.ensures.put ∙ ap (λ (l : List ℕ). l ++ c.loop-run.rest.now) lead
     ∙ ap (λ (l : List ℕ). take c.loop-run.at c.loop-run.out.items ++ l) (sym (escaped-to_end c.loop-run.rest.now e)) ∙ i.whole

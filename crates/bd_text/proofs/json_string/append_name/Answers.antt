@@ -16,8 +16,15 @@ returns-then-copy_plain-clause-ok c =
     let old : List ℕ = take c.args.end c.args.out.now.items in
     let comma : List ℕ = if c.args.later then 44 ∷ [] else [] in
     let name = c.as_bytes-bytes.result.now in
-    let same : length room ≡ length made.items = omega (arith, c.put_known.auto.room, c.copy_plain.auto.room, c.put_byte-at.auto.room,
-        c.put_separator-at.auto.room, c.as_mut_slice-room.ensures.len, made.ok.0) in
+    let same : length room ≡ length made.items = omega (
+      arith,
+      c.put_known.auto.room,
+      c.copy_plain.auto.room,
+      c.put_byte-at.auto.room,
+      c.put_separator-at.auto.room,
+      c.as_mut_slice-room.ensures.len,
+      made.ok.0,
+    ) in
     let lead : take c.args.end c.as_mut_slice-room.result.now ≡ old = ap (λ (l : List ℕ). take c.args.end l) c.as_mut_slice-room.ensures.value ∙ c.make_room.ensures.kept in
     let quote = c.put_byte-at.ensures.put ∙ ap (λ (l : List ℕ). l ++ 34 ∷ []) (c.put_separator-at.ensures.put ∙ ap (λ (l : List ℕ). l ++ comma) lead) in
     let written = c.copy_plain.ensures.copied c.if-copy_plain.true ∙ ap (λ (l : List ℕ). l ++ name) quote in

@@ -28,7 +28,7 @@ returns-in_err-at-2-clause-err c =
     let l = c.loop-name in
     let i = l.invariant in
     when_err _ _ (still_kept c.args.end l.at c.args.out.now.items l.out.items i.after (omega (arith, i.inside)) i.kept c.in_ok-at.at
-        c.append_separator.new.out.items c.append_text.new.out.items _ c.in_ok-at.ensures.ok c.in_err-at-2.ensures.err)
+    c.append_separator.new.out.items c.append_text.new.out.items _ c.in_ok-at.ensures.ok c.in_err-at-2.ensures.err)
 
 pub loop-name-preserved : goal.loop-name-preserved
 loop-name-preserved c =
@@ -37,14 +37,14 @@ loop-name-preserved c =
     let i = l.invariant in
     let old = c.args.out.now.items in
     let on = goes_on c.args.end l.at old l.out.items i.after (omega (arith, i.inside)) i.kept c.in_ok-at.at c.in_ok-at-2.at
-        c.append_separator.new.out.items c.append_text.new.out.items _ _ c.in_ok-at.ensures.ok c.in_ok-at-2.ensures.ok in
+    c.append_separator.new.out.items c.append_text.new.out.items _ _ c.in_ok-at.ensures.ok c.in_ok-at-2.ensures.ok in
     let next = drop-map string_bytes c.args.path.now l.name-index c.name-item.result c.loop-name-test.true c.name-item.is in
     record {
       inside = omega (arith, c.in_ok-at-2.ensures.room);
       whole = name_written l.later c.as_bytes.result.now (string_bytes c.name-item.result) (drop l.name-index names) (drop (l.name-index + 1) names)
           (take l.at l.out.items) (take c.in_ok-at.at c.append_separator.new.out.items)
           (take c.in_ok-at-2.at c.append_text.new.out.items) (take c.args.end old ++ 34 ∷ escaped (join_with_byte 46 names)) c.in_ok-at.ensures.ok
-              c.in_ok-at-2.ensures.ok c.as_bytes.ensures.value next i.whole;
+          c.in_ok-at-2.ensures.ok c.as_bytes.ensures.value next i.whole;
       kept = on.0;
       after = on.1;
     }

@@ -11,7 +11,7 @@ returns-clause-ok c =
     let scope = codes ",\"$scope\":" in
     if_ok _ (λ e. take e c.append_few.new.out.items ≡ old ++ (codes "{\"$code\":" ++ (code ++ scope))) c.append_few.result
     (λ e put. put ∙ ap (λ (l : List ℕ). l ++ scope) c.in_ok-at.ensures.ok
-        ∙ append_assoc old (codes "{\"$code\":" ++ code) scope ∙ ap (λ (l : List ℕ). old ++ l) (append_assoc (codes "{\"$code\":") code scope)) c.append_few.ensures.ok
+    ∙ append_assoc old (codes "{\"$code\":" ++ code) scope ∙ ap (λ (l : List ℕ). old ++ l) (append_assoc (codes "{\"$code\":") code scope)) c.append_few.ensures.ok
 
 pub returns-clause-err : goal.returns-clause-err
 returns-clause-err c =

@@ -34,7 +34,7 @@ append_fields-returns-in_err-at-2-clause-err g t c =
     let i = l.invariant in
     let named = c.in_ok-at.ensures.ok ∙ append_assoc (take l.at l.out.items) _ _ in
     when_err _ _ (still_kept c.args.end l.at c.args.out.now.items l.out.items i.after i.inside i.kept c.in_ok-at.at c.append_name.new.out.items
-        c.append_node.new.out.items _ named c.in_err-at-2.ensures.err)
+    c.append_node.new.out.items _ named c.in_err-at-2.ensures.err)
 
 pub append_fields-loop-name-preserved : goal.append_fields-loop-name-preserved
 append_fields-loop-name-preserved g t c =
@@ -44,7 +44,7 @@ append_fields-loop-name-preserved g t c =
     let named = c.in_ok-at.ensures.ok in
     let written = c.in_ok-at-2.ensures.ok in
     let on = goes_on c.args.end l.at old l.out.items i.after i.inside i.kept c.in_ok-at.at c.in_ok-at-2.at c.append_name.new.out.items
-        c.append_node.new.out.items _ _ (named ∙ append_assoc (take l.at l.out.items) _ _) written in
+    c.append_node.new.out.items _ _ (named ∙ append_assoc (take l.at l.out.items) _ _) written in
     let less = rest_smaller _ _ _ _ c.in-Some.ensures.some in
     record {
       whole = field_step l.later _ _ _ _ (take l.at l.out.items) _ _ (125 ∷ []) (take c.args.end old ++ text (doc (fields_of (g.N.Reading.left c.args.fields)))) named written (search rules) i.whole;
@@ -81,7 +81,7 @@ append_items-returns-in_err-at-2-clause-err g t c =
     let l = c.loop-node in
     let i = l.invariant in
     when_err _ _ (still_kept c.args.end l.at c.args.out.now.items l.out.items i.after i.inside i.kept c.in_ok-at.at c.append_separator.new.out.items
-        c.append_node.new.out.items _ c.in_ok-at.ensures.ok c.in_err-at-2.ensures.err)
+    c.append_node.new.out.items _ c.in_ok-at.ensures.ok c.in_err-at-2.ensures.err)
 
 pub append_items-loop-node-preserved : goal.append_items-loop-node-preserved
 append_items-loop-node-preserved g t c =

@@ -24,15 +24,15 @@ append_fields-returns-in_err-append_element-clause-err g t c =
     let p = err_from_is_err_and r.result r.ensures.1 in
     let whole = rw c.in-Some.ensures.some at c.loop-next.invariant.whole in
     let le = writes.element_within c.args.out.now.items (fields_bytes (fields_of (g.N.Reading.left c.args.fields))) c.loop-next.out.items
-        (element (g.N.Reading.tree c.in-Some.next.1) c.in-Some.next.0.now (bytes_of (g.N.Reading.tree c.in-Some.next.1)))
-        (fields_bytes (fields_of (g.N.Reading.left c.in-Some.next.2))) whole in
+    (element (g.N.Reading.tree c.in-Some.next.1) c.in-Some.next.0.now (bytes_of (g.N.Reading.tree c.in-Some.next.1)))
+    (fields_bytes (fields_of (g.N.Reading.left c.in-Some.next.2))) whole in
     rw (p.1, p.2) (writes.overruns_more _ _ c.in_err-append_element.field-0.0 le c.in_err-append_element.ensures.err)
 
 pub append_fields-seal-requires : goal.append_fields-seal-requires
 append_fields-seal-requires g t c =
     let none : g.N.Reading.left c.loop-next.rest ≡ [] = search rules in
     let out = writes.ended c.args.out.now.items (fields_bytes (fields_of (g.N.Reading.left c.args.fields))) c.loop-next.out.items _
-        c.extend_from_slice.new.self.items c.loop-next.invariant.whole (ap (λ ps. fields_bytes (fields_of ps)) none) c.in_ok-extend_from_slice.ensures.items in
+    c.extend_from_slice.new.self.items c.loop-next.invariant.whole (ap (λ ps. fields_bytes (fields_of ps)) none) c.in_ok-extend_from_slice.ensures.items in
     let size = writes.sealed_size c.args.out.now.items _ c.extend_from_slice.new.self.items out in
     let at : c.len-at.result ≡ length c.args.out.now.items = search rules in
     search rules
@@ -41,16 +41,16 @@ pub append_fields-returns-clause-ok : goal.append_fields-returns-clause-ok
 append_fields-returns-clause-ok g t c =
     let none : g.N.Reading.left c.loop-next.rest ≡ [] = search rules in
     let out = writes.ended c.args.out.now.items (fields_bytes (fields_of (g.N.Reading.left c.args.fields))) c.loop-next.out.items _
-        c.extend_from_slice.new.self.items c.loop-next.invariant.whole (ap (λ ps. fields_bytes (fields_of ps)) none) c.in_ok-extend_from_slice.ensures.items in
+    c.extend_from_slice.new.self.items c.loop-next.invariant.whole (ap (λ ps. fields_bytes (fields_of ps)) none) c.in_ok-extend_from_slice.ensures.items in
     let at : c.len-at.result ≡ length c.args.out.now.items = search rules in
     writes.ok_on c.seal.result _ _ c.seal.ensures.ok (λ e. e ∙ writes.frame_ok c.args.out.now.items
-        (fields_bytes (fields_of (g.N.Reading.left c.args.fields))) c.extend_from_slice.new.self.items c.len-at.result out at)
+    (fields_bytes (fields_of (g.N.Reading.left c.args.fields))) c.extend_from_slice.new.self.items c.len-at.result out at)
 
 pub append_fields-returns-clause-err : goal.append_fields-returns-clause-err
 append_fields-returns-clause-err g t c =
     let none : g.N.Reading.left c.loop-next.rest ≡ [] = search rules in
     let out = writes.ended c.args.out.now.items (fields_bytes (fields_of (g.N.Reading.left c.args.fields))) c.loop-next.out.items _
-        c.extend_from_slice.new.self.items c.loop-next.invariant.whole (ap (λ ps. fields_bytes (fields_of ps)) none) c.in_ok-extend_from_slice.ensures.items in
+    c.extend_from_slice.new.self.items c.loop-next.invariant.whole (ap (λ ps. fields_bytes (fields_of ps)) none) c.in_ok-extend_from_slice.ensures.items in
     let total = writes.frame_total c.args.out.now.items (fields_bytes (fields_of (g.N.Reading.left c.args.fields))) c.extend_from_slice.new.self.items out in
     writes.err_more c.seal.result _ _ c.seal.ensures.err (omega (arith, total))
 
@@ -122,7 +122,7 @@ append_items-returns-in_err-append_element-clause-err g t c =
     let whole = rw c.in-Some.ensures.some at c.loop-next.invariant.whole in
     let piece = element (g.N.Reading.tree c.in-Some.next.1) (decimal c.loop-next.place) (bytes_of (g.N.Reading.tree c.in-Some.next.1)) in
     let le = writes.element_within c.args.out.now.items (items_bytes 0 (items_of (values_of (g.N.Reading.left c.args.items)))) c.loop-next.out.items
-        piece (items_bytes (suc c.loop-next.place) (items_of (values_of (g.N.Reading.left c.in-Some.next.2)))) whole in
+    piece (items_bytes (suc c.loop-next.place) (items_of (values_of (g.N.Reading.left c.in-Some.next.2)))) whole in
     rw (p.1, p.2) (writes.overruns_more _ _ c.in_err-append_element.field-0.0 le (rw name at c.in_err-append_element.ensures.err))
 
 pub append_items-loop-next-preserved : goal.append_items-loop-next-preserved
@@ -153,8 +153,8 @@ pub append_items-seal-requires : goal.append_items-seal-requires
 append_items-seal-requires g t c =
     let none : g.N.Reading.left c.loop-next.rest ≡ [] = search rules in
     let out = writes.ended c.args.out.now.items (items_bytes 0 (items_of (values_of (g.N.Reading.left c.args.items)))) c.loop-next.out.items _
-        c.extend_from_slice.new.self.items c.loop-next.invariant.whole (ap (λ ps. items_bytes c.loop-next.place (items_of (values_of ps))) none)
-        c.in_ok-extend_from_slice.ensures.items in
+    c.extend_from_slice.new.self.items c.loop-next.invariant.whole (ap (λ ps. items_bytes c.loop-next.place (items_of (values_of ps))) none)
+    c.in_ok-extend_from_slice.ensures.items in
     let size = writes.sealed_size c.args.out.now.items _ c.extend_from_slice.new.self.items out in
     let at : c.len-at.result ≡ length c.args.out.now.items = search rules in
     search rules
@@ -163,18 +163,18 @@ pub append_items-returns-clause-ok : goal.append_items-returns-clause-ok
 append_items-returns-clause-ok g t c =
     let none : g.N.Reading.left c.loop-next.rest ≡ [] = search rules in
     let out = writes.ended c.args.out.now.items (items_bytes 0 (items_of (values_of (g.N.Reading.left c.args.items)))) c.loop-next.out.items _
-        c.extend_from_slice.new.self.items c.loop-next.invariant.whole (ap (λ ps. items_bytes c.loop-next.place (items_of (values_of ps))) none)
-        c.in_ok-extend_from_slice.ensures.items in
+    c.extend_from_slice.new.self.items c.loop-next.invariant.whole (ap (λ ps. items_bytes c.loop-next.place (items_of (values_of ps))) none)
+    c.in_ok-extend_from_slice.ensures.items in
     let at : c.len-at.result ≡ length c.args.out.now.items = search rules in
     writes.ok_on c.seal.result _ _ c.seal.ensures.ok (λ e. e ∙ writes.frame_ok c.args.out.now.items
-        (items_bytes 0 (items_of (values_of (g.N.Reading.left c.args.items)))) c.extend_from_slice.new.self.items c.len-at.result out at)
+    (items_bytes 0 (items_of (values_of (g.N.Reading.left c.args.items)))) c.extend_from_slice.new.self.items c.len-at.result out at)
 
 pub append_items-returns-clause-err : goal.append_items-returns-clause-err
 append_items-returns-clause-err g t c =
     let none : g.N.Reading.left c.loop-next.rest ≡ [] = search rules in
     let out = writes.ended c.args.out.now.items (items_bytes 0 (items_of (values_of (g.N.Reading.left c.args.items)))) c.loop-next.out.items _
-        c.extend_from_slice.new.self.items c.loop-next.invariant.whole (ap (λ ps. items_bytes c.loop-next.place (items_of (values_of ps))) none)
-        c.in_ok-extend_from_slice.ensures.items in
+    c.extend_from_slice.new.self.items c.loop-next.invariant.whole (ap (λ ps. items_bytes c.loop-next.place (items_of (values_of ps))) none)
+    c.in_ok-extend_from_slice.ensures.items in
     let total = writes.frame_total c.args.out.now.items (items_bytes 0 (items_of (values_of (g.N.Reading.left c.args.items)))) c.extend_from_slice.new.self.items out in
     writes.err_more c.seal.result _ _ c.seal.ensures.err (omega (arith, total))
 
@@ -201,8 +201,15 @@ append_leaf-returns-in_err-put_value-clause-err g t c =
     let one = ap (λ xs. length xs) c.in_ok-write_number.ensures.ok in
     let two = ap (λ xs. length xs) own in
     let le : length c.write_scalar-2.new.out.items + length (bytes_of (doc code.1)) ≤ length c.args.out.now.items + length (scoped code.0 (bytes_of (doc code.1))) =
-    omega (arith, one, two, writes.scoped_size code.0 (bytes_of (doc code.1)), length-append c.args.out.now.items (number 0), number_length 0,
-        length-append c.write_number.new.out.items (string code.0)) in
+    omega (
+      arith,
+      one,
+      two,
+      writes.scoped_size code.0 (bytes_of (doc code.1)),
+      length-append c.args.out.now.items (number 0),
+      number_length 0,
+      length-append c.write_number.new.out.items (string code.0),
+    ) in
     rw (p.1, p.2, code.2) (writes.overruns_more _ _ c.in_err-put_value.field-0.0 le inside)
 
 pub append_leaf-seal-requires : goal.append_leaf-seal-requires
@@ -212,7 +219,7 @@ append_leaf-seal-requires g t c =
     let own = rw code.3 at c.in_ok-write_scalar.ensures.ok in
     let inside = rw code.4 at c.in_ok-put_value.ensures.ok in
     let out = writes.code_out c.args.out.now.items c.write_number.new.out.items c.write_scalar-2.new.out.items c.put_value.new.out.items code.0
-        (bytes_of (doc code.1)) c.in_ok-write_number.ensures.ok own inside in
+    (bytes_of (doc code.1)) c.in_ok-write_number.ensures.ok own inside in
     let at : c.len-at.result ≡ length c.args.out.now.items = search rules in
     let size = writes.sealed_size c.args.out.now.items _ c.put_value.new.out.items out in
     search rules
@@ -224,7 +231,7 @@ append_leaf-returns-clause-ok g t c =
     let own = rw code.3 at c.in_ok-write_scalar.ensures.ok in
     let inside = rw code.4 at c.in_ok-put_value.ensures.ok in
     let out = writes.code_out c.args.out.now.items c.write_number.new.out.items c.write_scalar-2.new.out.items c.put_value.new.out.items code.0
-        (bytes_of (doc code.1)) c.in_ok-write_number.ensures.ok own inside in
+    (bytes_of (doc code.1)) c.in_ok-write_number.ensures.ok own inside in
     let at : c.len-at.result ≡ length c.args.out.now.items = search rules in
     subst (λ (x : Tree). OnOk c.seal.result (c.seal.new.out.items ≡ c.args.out.now.items ++ bytes_of x)) (sym code.2)
     (writes.ok_on c.seal.result _ _ c.seal.ensures.ok (λ e. e ∙ writes.scoped_ok c.args.out.now.items code.0 (bytes_of (doc code.1)) c.put_value.new.out.items c.len-at.result out at))
@@ -236,12 +243,12 @@ append_leaf-returns-clause-err g t c =
     let own = rw code.3 at c.in_ok-write_scalar.ensures.ok in
     let inside = rw code.4 at c.in_ok-put_value.ensures.ok in
     let out = writes.code_out c.args.out.now.items c.write_number.new.out.items c.write_scalar-2.new.out.items c.put_value.new.out.items code.0
-        (bytes_of (doc code.1)) c.in_ok-write_number.ensures.ok own inside in
+    (bytes_of (doc code.1)) c.in_ok-write_number.ensures.ok own inside in
     let at : c.len-at.result ≡ length c.args.out.now.items = search rules in
     let size = writes.sealed_size c.args.out.now.items _ c.put_value.new.out.items out in
     let total = writes.scoped_size code.0 (bytes_of (doc code.1)) in
     subst (λ (x : Tree). IfErr c.seal.result (OverrunsLimit (length c.args.out.now.items + length (bytes_of x)))) (sym code.2)
-        (writes.err_more c.seal.result _ _ c.seal.ensures.err (omega (arith, size, total, length-append (string code.0) (bytes_of (doc code.1)))))
+    (writes.err_more c.seal.result _ _ c.seal.ensures.err (omega (arith, size, total, length-append (string code.0) (bytes_of (doc code.1)))))
 
 pub append_leaf-returns-in_err-write_scalar-clause-front : goal.append_leaf-returns-in_err-write_scalar-clause-front
 append_leaf-returns-in_err-write_scalar-clause-front g t c =

@@ -13,9 +13,13 @@ pub at-requires : goal.at-requires
 at-requires c =
     let at = start_at c.args.self.now.starts.items c.args.n c.index.result.now (omega (arith, documents_length c.args.self.now)) c.index.ensures in
     let sound = stands_there c.args.self.now.bytes.items c.args.self.now.starts.items c.args.self.now.stand c.args.n c.index.result.now at in
-    record { short = rw c.deref.ensures.value c.args.self.now.short; inside = rw c.deref.ensures.value
-        (start_inside c.args.self.now.bytes.items c.index.result.now sound); sound =
-        subst (λ (x : List ℕ). Sound kinds.Doc (drop c.index.result.now x)) (sym c.deref.ensures.value) sound }
+    record {
+      short = rw c.deref.ensures.value c.args.self.now.short;
+      inside = rw c.deref.ensures.value
+          (start_inside c.args.self.now.bytes.items c.index.result.now sound);
+      sound =
+          subst (λ (x : List ℕ). Sound kinds.Doc (drop c.index.result.now x)) (sym c.deref.ensures.value) sound;
+    }
 
 pub returns-clause-document : goal.returns-clause-document
 unfolding documents

@@ -22,7 +22,7 @@ returns-in_err-fault-in-Ok-true-clause-stops g c =
     let p = err_from_is_err_and c.from_residual.result c.from_residual.ensures.1 in
     rw (p.1, p.2) (judges.starves_after (g.R.Input.state c.args.input.now) (g.O.Output.state c.args.out.now) (g.R.Input.state l.input) (g.O.Output.state l.out)
     l.documents.place l.documents.number l.faulty l.documents.left.bytes l.documents.left.turns l.invariant.so_far
-        (g.R.Input.state c.read_next.new.reader) c.bytes.result.now read.gave read.short d.well)
+    (g.R.Input.state c.read_next.new.reader) c.bytes.result.now read.gave read.short d.well)
 
 pub returns-in_err-write_verdict-in-Ok-true-clause-stops : goal.returns-in_err-write_verdict-in-Ok-true-clause-stops
 returns-in_err-write_verdict-in-Ok-true-clause-stops g c =
@@ -35,9 +35,9 @@ returns-in_err-write_verdict-in-Ok-true-clause-stops g c =
     let stopped = c.in_err-write_verdict-in-Ok-true in
     rw (p.1, p.2) (judges.stops_by (g.R.Input.state c.args.input.now) (g.O.Output.state c.args.out.now) (g.R.Input.state l.input) (g.O.Output.state l.out)
     l.documents.place l.documents.number l.faulty l.documents.left.bytes l.documents.left.turns l.invariant.so_far
-        (g.R.Input.state c.read_next.new.reader) (g.O.Output.state c.write_verdict.new.out) c.bytes.result.now c.in-Some.fault stopped.field-0.0
+    (g.R.Input.state c.read_next.new.reader) (g.O.Output.state c.write_verdict.new.out) c.bytes.result.now c.in-Some.fault stopped.field-0.0
     read.frame read.short (rw (c.place-base.ensures, c.in-Some.is) at judged.first) (rw c.in-Some.is at judged.number ∙ c.number-count.ensures)
-        read.gave d.well (λ h. ap g.O.Output.state (stopped.ensures.starved h)) stopped.ensures.broke)
+    read.gave d.well (λ h. ap g.O.Output.state (stopped.ensures.starved h)) stopped.ensures.broke)
 
 pub loop-alloc-preserved-in-Some : goal.loop-alloc-preserved-in-Some
 loop-alloc-preserved-in-Some g c =
@@ -50,7 +50,7 @@ loop-alloc-preserved-in-Some g c =
     record {
       so_far = judges.goes_on (g.R.Input.state c.args.input.now) (g.O.Output.state c.args.out.now) (g.R.Input.state l.input) (g.O.Output.state l.out)
           l.documents.place l.documents.number l.faulty l.documents.left.bytes l.documents.left.turns l.invariant.so_far
-              (g.R.Input.state c.read_next.new.reader) (g.O.Output.state c.write_verdict.new.out) c.bytes.result.now (Some c.in-Some.fault)
+          (g.R.Input.state c.read_next.new.reader) (g.O.Output.state c.write_verdict.new.out) c.bytes.result.now (Some c.in-Some.fault)
           c.read_next.new.self.size c.read_next.new.self.place c.read_next.new.self.number (l.faulty + 1) c.read_next.new.self.left.bytes c.read_next.new.self.left.turns
           read.frame (rw (c.place-base.ensures, c.in-Some.is) at judged.first) read.gave read.size (d.offset, d.number, d.room) (omega arith) d.counted read.many d.well
           (subst (λ n. TakesText (over g.O.Output.state l.out c.write_verdict.new.out) (verdict_line n (Some (fault_view c.in-Some.fault)))) numbered wrote);
@@ -66,7 +66,7 @@ loop-alloc-preserved g c =
     record {
       so_far = judges.goes_on (g.R.Input.state c.args.input.now) (g.O.Output.state c.args.out.now) (g.R.Input.state l.input) (g.O.Output.state l.out)
           l.documents.place l.documents.number l.faulty l.documents.left.bytes l.documents.left.turns l.invariant.so_far
-              (g.R.Input.state c.read_next.new.reader) (g.O.Output.state l.out) c.bytes.result.now None
+          (g.R.Input.state c.read_next.new.reader) (g.O.Output.state l.out) c.bytes.result.now None
           c.read_next.new.self.size c.read_next.new.self.place c.read_next.new.self.number l.faulty c.read_next.new.self.left.bytes c.read_next.new.self.left.turns
           read.frame (rw (c.place-base.ensures, c.in_default.is) at judged.first) read.gave read.size (d.offset, d.number, d.room) (omega arith) d.counted read.many d.well
           (Appends-nil (g.O.Output.state l.out).held, refl);
@@ -80,7 +80,7 @@ returns-in-Ok-false-clause-judges g c =
     let is : c.read_next.result ≡ Ok false = search rules in
     judges.ok_of c.finish.result _ _ (judges.ends_whole (g.R.Input.state c.args.input.now) (g.O.Output.state c.args.out.now) (g.R.Input.state l.input) (g.O.Output.state l.out)
     l.documents.place l.documents.number l.faulty l.documents.left.bytes l.documents.left.turns l.invariant.so_far
-        (g.R.Input.state c.read_next.new.reader) (g.O.Output.state c.finish.new.out) c.finish.result (e.end is).end (e.end is).gave (e.end is).well
+    (g.R.Input.state c.read_next.new.reader) (g.O.Output.state c.finish.new.out) c.finish.result (e.end is).end (e.end is).gave (e.end is).well
     (rw c.number-count.ensures at c.finish.ensures))
 
 pub returns-in_err-ending_of-in-Err-clause-stops : goal.returns-in_err-ending_of-in-Err-clause-stops
@@ -97,7 +97,7 @@ returns-in-Err-clause-judges g c =
     let l = c.loop-alloc in
     let fails = c.in-Err.ensures.fails l.invariant.works in
     judges.ok_of c.finish-in-Err.result _ _ (judges.ends_by (g.R.Input.state c.args.input.now) (g.O.Output.state c.args.out.now) g.R.Input.state
-        g.R.Input.read_gives l.documents l.input c.read_next.new.reader
+    g.R.Input.read_gives l.documents l.input c.read_next.new.reader
     (g.O.Output.state l.out) l.faulty l.invariant.so_far (g.O.Output.state c.finish-in-Err.new.out) fails.given c.in-Err.fault c.in_ok-ending_of-in-Err.field-0 c.finish-in-Err.result
     c.in_ok-ending_of-in-Err.ensures fails.gave fails.reason (rw c.number-count.ensures at c.finish-in-Err.ensures))
 
@@ -106,6 +106,6 @@ returns-in-Err-clause-stops g c =
     let l = c.loop-alloc in
     let fails = c.in-Err.ensures.fails l.invariant.works in
     judges.err_of c.finish-in-Err.result _ _ (judges.ends_by (g.R.Input.state c.args.input.now) (g.O.Output.state c.args.out.now) g.R.Input.state
-        g.R.Input.read_gives l.documents l.input c.read_next.new.reader
+    g.R.Input.read_gives l.documents l.input c.read_next.new.reader
     (g.O.Output.state l.out) l.faulty l.invariant.so_far (g.O.Output.state c.finish-in-Err.new.out) fails.given c.in-Err.fault c.in_ok-ending_of-in-Err.field-0 c.finish-in-Err.result
     c.in_ok-ending_of-in-Err.ensures fails.gave fails.reason (rw c.number-count.ensures at c.finish-in-Err.ensures))

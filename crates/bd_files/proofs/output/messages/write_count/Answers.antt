@@ -1,5 +1,5 @@
 use Rattle.std.proofs.Common.{rules, ◌≡◌, decimal}
-use Rattle.bd_files.proofs.OutputLemmas.LinesLemmas.{breaks_first, on_err, second_err}
+use Rattle.bd_files.proofs.OutputLemmas.FaultLemmas.{breaks_first, on_err, second_err}
 use Rattle.bd_files.proofs.output.messages.write_count.Goals as goal
 
 pub returns-in_err-write_all-clause-err : goal.returns-in_err-write_all-clause-err

@@ -1,5 +1,5 @@
 use Rattle.std.proofs.Common.{◌++◌, ◌∷◌, [], codes}
-use Rattle.bd_files.proofs.OutputLemmas.LinesLemmas.{breaks_first, breaks_second, on_err, on_err_map}
+use Rattle.bd_files.proofs.OutputLemmas.FaultLemmas.{breaks_first, breaks_second, on_err, on_err_map}
 use Rattle.bd_files.proofs.output.messages.write_error.Goals as goal
 
 pub returns-in_err-write_all-clause-err : goal.returns-in_err-write_all-clause-err

@@ -31,7 +31,7 @@ returns-in_err-write_all-clause-stops g c =
     let bytes : c.deref.result.now ≡ plain d.0 = c.deref.ensures.value ∙ rw c.clear.ensures.items at d.2 in
     let broke : BreaksWithin (over g.O.Output.state l.out c.write_all.new.writer) (plain d.0) = rw bytes at c.in_err-write_all.ensures.broken in
     rw (p.1, p.2) (packs.breaks c.args.text.now (g.O.Output.state c.args.out.now) (g.O.Output.state l.out) c.in-Some.rest.now c.cut_line.result.0.now
-        (bytes_after c.cut_line.result.1) l.number l.count s
+    (bytes_after c.cut_line.result.1) l.number l.count s
     c.cut_line.ensures.line c.cut_line.ensures.shorter (g.O.Output.state c.write_all.new.writer) d.0 (sym c.is_empty_line.ensures ∙ c.if-is_empty_line.false) d.1 broke)
 
 pub loop-left-preserved : goal.loop-left-preserved
@@ -44,7 +44,7 @@ loop-left-preserved g c =
     let wrote : TakesText (over g.O.Output.state l.out c.write_all.new.writer) (plain d.0) = rw bytes at c.in_ok-write_all.ensures.written in
     packs.packed c.args.text.now (g.O.Output.state c.args.out.now) (g.O.Output.state l.out) c.in-Some.rest.now c.cut_line.result.0.now (bytes_after c.cut_line.result.1) l.number l.count s
     c.cut_line.ensures.line c.cut_line.ensures.shorter (g.O.Output.state c.write_all.new.writer) (l.number + 1) (l.count + 1) d.0 (omega arith)
-        (omega arith) (sym c.is_empty_line.ensures ∙ c.if-is_empty_line.false) d.1 wrote
+    (omega arith) (sym c.is_empty_line.ensures ∙ c.if-is_empty_line.false) d.1 wrote
 
 pub returns-clause-packs : goal.returns-clause-packs
 returns-clause-packs g c =

@@ -22,7 +22,7 @@ returns-in_err-take_part-clause-fails g c =
     let e = c.in_err-take_part.ensures in
     let going : l.self.ended ≡ false = search rules in
     let so = next.runs c.args.self.now.left l.self.left l.self.ended (held_after c.args.self.now) l.self.line.items (held_after l.self)
-        c.args.reader.now l.reader going (l.invariant.so_far (l.invariant.still going)) in
+    c.args.reader.now l.reader going (l.invariant.so_far (l.invariant.still going)) in
     let p = err_from_is_err_and c.from_residual.result c.from_residual.ensures.1 in
     rw (p.1, p.2) (next.line_stops c.args.self.now.left l.self.left (held_after c.args.self.now) l.self.line.items (held_after l.self) c.args.reader.now l.reader so l.invariant.line
     c.in_err-take_part.field-0.0 e.fault (λ h. e.long (ap Err h)))
@@ -32,7 +32,7 @@ returns-then-branch-clause-reads g c _ =
     let l = c.loop-self in
     let going : l.self.ended ≡ false = search rules in
     let so = next.runs c.args.self.now.left l.self.left l.self.ended (held_after c.args.self.now) l.self.line.items (held_after l.self)
-        c.args.reader.now l.reader going (l.invariant.so_far (l.invariant.still going)) in
+    c.args.reader.now l.reader going (l.invariant.so_far (l.invariant.still going)) in
     let is : c.take_part.result ≡ Ok true = search rules in
     let f = c.take_part.ensures.found is in
     let after = c.take_part.new.self in
@@ -76,7 +76,7 @@ returns-in_err-fetch-clause-fails g c =
     let l = c.loop-self in
     let going : l.self.ended ≡ false = search rules in
     let so = next.runs c.args.self.now.left l.self.left l.self.ended (held_after c.args.self.now) l.self.line.items (held_after l.self)
-        c.args.reader.now l.reader going (l.invariant.so_far (l.invariant.still going)) in
+    c.args.reader.now l.reader going (l.invariant.so_far (l.invariant.still going)) in
     let is : c.take_part.result ≡ Ok false = search rules in
     let n = c.take_part.ensures.none is in
     let left : c.take_part.new.self.left ≡ l.self.left = c.take_part.ensures.kept.0 in
@@ -89,7 +89,7 @@ returns-in_err-fetch-clause-whole g c not =
     let l = c.loop-self in
     let going : l.self.ended ≡ false = search rules in
     let so = next.runs c.args.self.now.left l.self.left l.self.ended (held_after c.args.self.now) l.self.line.items (held_after l.self)
-        c.args.reader.now l.reader going (l.invariant.so_far (l.invariant.still going)) in
+    c.args.reader.now l.reader going (l.invariant.so_far (l.invariant.still going)) in
     let is : c.take_part.result ≡ Ok false = search rules in
     let n = c.take_part.ensures.none is in
     absurd (not (next.head_line c.args.self.now.left l.self.left (held_after c.args.self.now) l.self.line.items (held_after l.self) c.args.reader.now l.reader so l.invariant.line

@@ -23,7 +23,7 @@ returns g c = λ bytes.
     let dir = c.args.self.now.dir in
     let n = g.N.Reading.tree c.in-Value.node in
     subst (λ st. IsStopOf g.N.Reading.source bytes st → TakesStops (IsEarliestFrom g.N.Reading.tree g.N.Reading.source dir)
-        (λ k. gives_earlier dir (key_option g.N.Reading.tree k)) bytes c.args.earliest.now c.earlier-2.result (stop_tree g.N.Reading.tree st ∷ []))
+    (λ k. gives_earlier dir (key_option g.N.Reading.tree k)) bytes c.args.earliest.now c.earlier-2.result (stop_tree g.N.Reading.tree st ∷ []))
     (sym c.in-Value.is)
     (λ at. first.takes_earliest g.N.Reading.tree g.N.Reading.source dir bytes c.args.earliest.now c.earlier-2.result c.earliest_end-key.result (Value n) c.earliest_end-key.ensures.tree
     (subst (λ b. IsKeyOf g.N.Reading.source b c.earliest_end-key.result) at c.earliest_end-key.ensures.kept) c.earliest_end-key.ensures.there c.earlier-2.ensures.tree c.earlier-2.ensures.either)

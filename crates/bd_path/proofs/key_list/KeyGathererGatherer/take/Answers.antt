@@ -15,8 +15,8 @@ returns-in-Value g c = λ bytes.
     let new = c.add_end.new.keys in
     let sparse = c.args.self.now.sparse in
     subst (λ st. IsStopOf g.N.Reading.source bytes st → TakesOrEnds (λ ks. AreKeysFrom g.N.Reading.tree g.N.Reading.source c.args.self.now.sparse
-        ks.items) (λ ks. gives_new c.args.self.now.sparse (key_trees g.N.Reading.tree ks.items)) (λ _. true) c.is_ok.result bytes old new
-        (stop_tree g.N.Reading.tree st ∷ [])) (sym c.in-Value.is)
+    ks.items) (λ ks. gives_new c.args.self.now.sparse (key_trees g.N.Reading.tree ks.items)) (λ _. true) c.is_ok.result bytes old new
+    (stop_tree g.N.Reading.tree st ∷ [])) (sym c.in-Value.is)
     (λ at. added.took g.N.Reading.tree g.N.Reading.source sparse (λ v. v.items) c.add_end.result c.is_ok.result bytes old new s c.is_ok.ensures.value c.add_end.ensures.added
     (subst (λ b. AreKeysOf g.N.Reading.source b old.items → AreKeysOf g.N.Reading.source b new.items) at c.add_end.ensures.kept)
     (added.on_ok c.add_end.result (λ f ss. f sparse (ss ++ s ∷ []) (key.among is_empty_array ss s)) c.add_end.ensures.there))

@@ -28,7 +28,7 @@ split_at-requires-in-CodeScope c =
 pub number-requires : goal.number-requires
 number-requires c =
     let after : c.split_at-in-CodeScope.result.1.now ≡ drop (c.args.self.start + 4) c.args.self.bytes.now = c.split_at-in-CodeScope.ensures.back
-        ∙ ap (drop 4) c.split_at.ensures.back ∙ drop-drop 4 c.args.self.start c.args.self.bytes.now in
+    ∙ ap (drop 4) c.split_at.ensures.back ∙ drop-drop 4 c.args.self.start c.args.self.bytes.now in
     let t = v.code_reads c.args.self.bytes.now c.args.self.start c.args.self.kind c.args.self.sound c.in-CodeScope.is in
     let i = t.inside in
     let e = ap (λ (x : List ℕ). length x) after in
@@ -37,22 +37,26 @@ number-requires c =
 pub text-requires : goal.text-requires
 text-requires c =
     let after : c.split_at-in-CodeScope.result.1.now ≡ drop (c.args.self.start + 4) c.args.self.bytes.now = c.split_at-in-CodeScope.ensures.back
-        ∙ ap (drop 4) c.split_at.ensures.back ∙ drop-drop 4 c.args.self.start c.args.self.bytes.now in
+    ∙ ap (drop 4) c.split_at.ensures.back ∙ drop-drop 4 c.args.self.start c.args.self.bytes.now in
     subst TextAt (sym after) (v.code_reads c.args.self.bytes.now c.args.self.start c.args.self.kind c.args.self.sound c.in-CodeScope.is)
 
 pub invariant_of-scope : goal.invariant_of-scope
 invariant_of-scope c =
     let after : c.split_at-in-CodeScope.result.1.now ≡ drop (c.args.self.start + 4) c.args.self.bytes.now = c.split_at-in-CodeScope.ensures.back
-        ∙ ap (drop 4) c.split_at.ensures.back ∙ drop-drop 4 c.args.self.start c.args.self.bytes.now in
+    ∙ ap (drop 4) c.split_at.ensures.back ∙ drop-drop 4 c.args.self.start c.args.self.bytes.now in
     let n = c.number.ensures ∙ ap number_of after in
-    record { short = c.args.self.short; inside = v.scope_inside c.args.self.bytes.now c.args.self.start c.args.self.kind c.args.self.sound
-        c.in-CodeScope.is c.number.result n; sound = v.scope_sound c.args.self.bytes.now c.args.self.start c.args.self.kind c.args.self.sound
-        c.in-CodeScope.is c.number.result n }
+    record {
+      short = c.args.self.short;
+      inside = v.scope_inside c.args.self.bytes.now c.args.self.start c.args.self.kind c.args.self.sound
+          c.in-CodeScope.is c.number.result n;
+      sound = v.scope_sound c.args.self.bytes.now c.args.self.start c.args.self.kind c.args.self.sound
+          c.in-CodeScope.is c.number.result n;
+    }
 
 pub returns-in-CodeScope-clause-holds : goal.returns-in-CodeScope-clause-holds
 returns-in-CodeScope-clause-holds c =
     let after : c.split_at-in-CodeScope.result.1.now ≡ drop (c.args.self.start + 4) c.args.self.bytes.now = c.split_at-in-CodeScope.ensures.back
-        ∙ ap (drop 4) c.split_at.ensures.back ∙ drop-drop 4 c.args.self.start c.args.self.bytes.now in
+    ∙ ap (drop 4) c.split_at.ensures.back ∙ drop-drop 4 c.args.self.start c.args.self.bytes.now in
     let n = c.number.ensures ∙ ap number_of after in
     let t = c.text.ensures.text ∙ ap text_of after in
     v.code_is c.args.self.bytes.now c.args.self.start c.args.self.kind c.args.self.sound c.in-CodeScope.is c.number.result c.text.result.now _ n t

@@ -12,4 +12,4 @@ returns c = λ ss is.
     let doc = document_at ds c.args.place in
     c.then.ensures
     ∙ ap₂ ordering_then (c.compare_keys.ensures ∙ ap (λ ks. marked_cmp (marks_in ks) doc) c.deref.ensures.value ∙ ap (λ ms. marked_cmp ms doc) is
-        ∙ marked_order ds ss c.args.place c.args.self.now.place) c.cmp.ensures
+    ∙ marked_order ds ss c.args.place c.args.self.now.place) c.cmp.ensures

@@ -35,7 +35,7 @@ returns-then-filled-length-clause-fails g c =
       counted = search rules;
       grown = grown_for _ _ c.from_le_bytes-length.result c.args.head e.gives.0 (size, c.requires.length.0, c.requires.length.1) known
           (subst (λ (n : ℕ). HoldsAsMuch (length c.args.self.now.buffer.items) n c.from_le_bytes-length.result)
-              (sym (kept_room _ c.fill_after.new.room _ (search rules) ∙ room)) (c.in_ok-make_room.ensures.room).1);
+          (sym (kept_room _ c.fill_after.new.room _ (search rules) ∙ room)) (c.in_ok-make_room.ensures.room).1);
       reason = (
         told.3,
         told.4,
@@ -55,4 +55,4 @@ returns-clause-frame g c =
     let whole : 4 + c.in_ok-filled.filled.bytes ≡ c.from_le_bytes-length.result = let s = e.gives.2 in omega (arith, given, told, s) in
     let front : take c.from_le_bytes-length.result c.fill_after.new.room ≡ c.args.head ++ e.gives.0 = rw whole at e.gives.3 in
     rw (c.pass.ensures.held, c.pass.ensures.kept.0) (is_frame _ c.args.head e.gives.0
-        (whole_room c.from_le_bytes-length.result _ c.fill_after.new.room _ _ front (search rules)) (size, c.requires.length.0, c.requires.length.1) given)
+    (whole_room c.from_le_bytes-length.result _ c.fill_after.new.room _ _ front (search rules)) (size, c.requires.length.0, c.requires.length.1) given)

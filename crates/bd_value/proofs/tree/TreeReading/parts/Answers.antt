@@ -16,4 +16,4 @@ returns-in-Doc-value-clause-parts c = subst (AreParts (held c.args.self)) c.as_p
 pub returns-in-Array-clause-parts : goal.returns-in-Array-clause-parts
 returns-in-Array-clause-parts c =
     subst (λ (vs : List Value). AreParts (held c.args.self) (map (λ (v : Value). ([], tree_of v)) vs)) (sym c.deref.ensures.value)
-        (m.array_parts (held c.args.self) c.in-Array.items.items (m.is_array c.args.self c.in-Value.value c.in-Array.items c.in-Value.is c.in-Array.is))
+    (m.array_parts (held c.args.self) c.in-Array.items.items (m.is_array c.args.self c.in-Value.value c.in-Array.items c.in-Value.is c.in-Array.is))

@@ -1,14 +1,14 @@
-//! Why the lines on standard output end early.
+//! Why a text is not written to its end.
 
 ghost use Rattle.std.specs.Prelude.{◌≡◌, IsTrue, ◌↔◌};
 ghost use Rattle.bd_check.specs.declared.fault.FaultKind.TheVariants as kinds;
-ghost use Rattle.bd_files.specs.declared.output.lines.OutputFault.TheVariants.{NoMemory as no_memory, Unwritten};
+ghost use Rattle.bd_files.specs.declared.output.fault.OutputFault.TheVariants.{NoMemory as no_memory, Unwritten};
 
 use bd_check::{Fault, FaultKind};
 use bd_device::DeviceFault;
 use std::alloc::AllocError;
 
-/// Why writing lines did not come to its end.
+/// Why writing did not come to its end.
 #[derive(Debug, Clone, Copy, PartialEq, Eq)]
 pub enum OutputFault {
     /// Memory ran out.
