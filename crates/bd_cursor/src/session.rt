@@ -260,7 +260,7 @@ impl Session {
         Ok(())
     }
 
-    /// Puts in an index of the dump, and tells what it has.
+    /// Puts in an index of the dump that may be made, and tells what it has.
     fn add(&mut self, index: Index) -> Result<Made, Refused>
         requires index { IsIndexOf (dump_of self.old) index }
         requires granted { IsGranted self.old (index_mark index) }
