@@ -13,6 +13,17 @@ use Rattle.bd_index.specs.Entries.{is_multikey}
 use Rattle.bd_cursor.specs.declared.choice.Choice.{Choice}
 use Rattle.bd_cursor.specs.declared.choice.Choice.TheVariants as choices
 
+-- which index is to be used: any that serves, none, or the one on a path
+pub data Way : Type 0 where
+  by_any : Way
+  by_none : Way
+  by_one : List ℕ → Way
+
+abbrev pub way_of : Choice → Way
+way_of choices.Scan = by_none
+way_of choices.Auto = by_any
+way_of (choices.Index path) = by_one (string_bytes path.text)
+
 -- the documents are looked at in turn, or those with an entry inside bounds of an index, or all in the order of one
 pub data AccessPath : Type 0 where
   scanned : AccessPath
@@ -73,7 +84,7 @@ access_on ds f ss path [] = scanned
 access_on ds f ss path (i ∷ is) = if is_on path i then named_access ds f ss i else access_on ds f ss path is
 
 -- indexes are taken in the order in which they were made
-abbrev pub access_of : List Doc → Filter → List SortPath → Choice → List IndexMark → AccessPath
-access_of ds f ss choices.Scan is = scanned
-access_of ds f ss choices.Auto is = first_bounded ds f is (first_walked ss is scanned)
-access_of ds f ss (choices.Index path) is = access_on ds f ss (string_bytes path.text) is
+abbrev pub access_of : List Doc → Filter → List SortPath → Way → List IndexMark → AccessPath
+access_of ds f ss by_none is = scanned
+access_of ds f ss by_any is = first_bounded ds f is (first_walked ss is scanned)
+access_of ds f ss (by_one path) is = access_on ds f ss path is

@@ -1,8 +1,9 @@
 -- A session as the state of the machine.
-use Rattle.std.specs.Prelude.{◌≡◌, ◌-◌, ◌++◌, ℕ, nat_lt, Bool, false, true, List, [], ◌∷◌, drop, length, map, option_map, string_bytes, Option, Some, None}
+use Rattle.std.specs.Prelude.{◌≡◌, ◌-◌, ℕ, Bool, List, ◌∷◌, drop, length, map, option_map, string_bytes, Option, Some, None, Result, Ok, Err}
 use Rattle.std.specs.List.{filter, range_with_len}
+use Rattle.bd_value.specs.Tree.{Doc}
 use Rattle.bd_answer.specs.Answer.{Selection, Mark, at_most}
-use Rattle.bd_answer.specs.Session.{Call, GivenBatch, IndexMark, MarkedToken, OpenCursor, Reply, State, explain_call, find_call, has_index, make_call, most_indexes, resume_call}
+use Rattle.bd_answer.specs.Session.{Call, GivenBatch, IndexMark, MarkedToken, OpenCursor, Reply, State, changed_by, explain_call, find_call, make_call, reply, resume_call, state_after, with_open}
 use Rattle.bd_answer.specs.Session.{explained, foreign_token, gave, index_there, made, no_cursor, no_index, opened, out_of_range, token_place}
 use Rattle.bd_answer.specs.Session.{too_many_cursors, too_many_indexes}
 use Rattle.bd_bson.specs.declared.collection.Dump.{Dump}
@@ -11,9 +12,9 @@ use Rattle.bd_filter.specs.FilterView.{filter_tree}
 use Rattle.bd_filter.specs.declared.filter.Filter.{Filter}
 use Rattle.bd_sort.specs.Selection.{hits_of, query_of}
 use Rattle.bd_cursor.specs.declared.scan_position.ScanPosition.{ScanPosition}
+use Rattle.bd_cursor.specs.AccessPath.{Way, by_one, way_of}
 use Rattle.bd_cursor.specs.Explanation.{explanation_of, index_counts, index_mark}
 use Rattle.bd_cursor.specs.declared.choice.Choice.{Choice}
-use Rattle.bd_cursor.specs.declared.choice.Choice.TheVariants as choices
 use Rattle.bd_path.specs.declared.path.Path.{Path}
 use Rattle.bd_request.specs.declared.request.Request.{Request}
 use Rattle.bd_request.specs.declared.results.Batch.{Batch}
@@ -69,27 +70,23 @@ state_of s = record {
 -- ---- calls
 
 -- the path of the index that is to be used
+abbrev pub path_named : Way → Option (List ℕ)
+path_named (by_one path) = Some path
+path_named _ = None
+
 abbrev pub hint_of : Choice → Option (List ℕ)
-hint_of choices.Scan = None
-hint_of choices.Auto = None
-hint_of (choices.Index path) = Some (string_bytes path.text)
+hint_of choice = path_named (way_of choice)
 
 abbrev pub path_mark : Bool → Path → IndexMark
 path_mark sparse path = record { path = string_bytes path.text; is_sparse = sparse }
 
--- to make an index of a dump, sparse or not
+-- to make an index of documents
+abbrev pub make_of : List Doc → IndexMark → Call
+make_of ds i = make_call i (index_counts ds i)
+
+-- of a dump, sparse or not
 abbrev pub make_index : Bool → Dump → Path → Call
-make_index sparse dump path =
-    make_call (path_mark sparse path) (index_counts (documents dump) (path_mark sparse path))
-
--- there is none on the path, and fewer than sixteen
-pub record IsGranted (indexes : List IndexMark) (i : IndexMark) : Type 0 where
-  pub none : has_index indexes (Some i.path) ≡ false
-  pub room : nat_lt (length indexes) most_indexes ≡ true
-
--- an index more
-abbrev pub with_index : State → IndexMark → State
-with_index s i = record s { indexes = s.indexes ++ i ∷ [] }
+make_index sparse dump path = make_of (documents dump) (path_mark sparse path)
 
 -- to explain a request to a dump
 abbrev pub explain_request : Dump → Request → Choice → Call
@@ -131,3 +128,32 @@ given_batch b = record { places = b.places.items; token = option_map marked_toke
 -- the dump that a session is over
 abbrev pub dump_of : Session → Dump
 dump_of s = s.documents.dump
+
+-- ---- steps
+
+-- a call that has a value steps as the machine does, whose reply the value tells
+pub record IsStep (r : Reply) (call : Call) (old new : Session) : Type 0 where
+  pub replies : reply (state_of old) call ≡ r
+  pub moves : state_of new ≡ state_after (state_of old) call
+  pub dump : dump_of new ≡ dump_of old
+
+-- and one that is refused changes nothing, also where memory ran out
+pub record IsRefused (why : Refused) (call : Call) (old new : Session) : Type 0 where
+  pub because : IsRefusedCall (reply (state_of old) call) why
+  pub stays : state_of new ≡ state_of old
+  pub dump : dump_of new ≡ dump_of old
+
+-- a call on a session, with the reply that its value tells
+abbrev pub Steps : {A : Type 0} → (A → Reply) → Call → Session → Result A Refused → Session → Type 0
+Steps told call old (Ok v) new = IsStep (told v) call old new
+Steps told call old (Err why) new = IsRefused why call old new
+
+-- an index may be made
+abbrev pub IsGranted : Session → IndexMark → Type 0
+IsGranted s i = reply (state_of s) (make_of (documents (dump_of s)) i) ≡ made (index_counts (documents (dump_of s)) i)
+
+-- a cursor may be opened, and it is one of this request, with this token, and with these places left
+pub record IsOpening (call : Call) (s : Session) (request : Request) (token : Option Token) (left : Remainder) : Type 0 where
+  pub granted : reply (state_of s) call ≡ opened s.next_id
+  pub opens : changed_by (opened s.next_id) call (state_of s) ≡ with_open (state_of s) (query_of (dump_of s) request).digest
+      (option_map marked_token token) (places_left (query_of (dump_of s) request).selection left)

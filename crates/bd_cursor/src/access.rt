@@ -9,7 +9,7 @@ ghost use Rattle.bd_path.specs.Sort.{sort_paths};
 ghost use Rattle.bd_filter.specs.FilterView.{filter_tree};
 ghost use Rattle.bd_sort.specs.Selection.{selection_of, hits_of};
 ghost use Rattle.bd_index.specs.IndexView.{AreIndexesOf};
-ghost use Rattle.bd_cursor.specs.AccessPath.{access_of, scanned};
+ghost use Rattle.bd_cursor.specs.AccessPath.{access_of, scanned, way_of};
 ghost use Rattle.bd_cursor.specs.AccessView.{IsAccessOf, access_path};
 ghost use Rattle.bd_cursor.specs.Explanation.{index_mark};
 
@@ -57,7 +57,7 @@ impl<'a> Access<'a> {
     ) -> Result<Access<'a>, NoMemory>
         requires { AreIndexesOf dump.now indexes.now }
         ensures path { IfOk result (λ a. access_path a ≡ access_of (documents dump.now) (filter_tree request.now.filter)
-            (sort_paths request.now.sort.items) choice.now (map index_mark indexes.now)) }
+            (sort_paths request.now.sort.items) (way_of choice.now) (map index_mark indexes.now)) }
         ensures leads { IfOk result (IsAccessOf dump.now request.now) }
     {
         match choice {

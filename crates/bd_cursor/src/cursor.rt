@@ -1,7 +1,7 @@
 //! An open cursor, and the batches that it gives.
 
-ghost use Rattle.std.specs.Prelude.{◌≡◌, ◌<◌, IfNone, IfOk, IfSome, None, OnErr, OnOk, if◌then◌else◌, length, map, option_map, slice_get, slice_set};
-ghost use Rattle.bd_answer.specs.Session.{OpenCursor, batch_of, cursor_of, digest_after, given_by, moved, token_after, with_cursor, without};
+ghost use Rattle.std.specs.Prelude.{◌≡◌, ◌<◌, IfNone, IfOk, IfSome, None, OnErr, OnOk, Some, ℕ, if◌then◌else◌, length, map, option_map, slice_get, slice_set};
+ghost use Rattle.bd_answer.specs.Session.{OpenCursor, batch_of, cursor_of, digest_after, given_by, moved, token_after, with_moved, without};
 ghost use Rattle.bd_bson.specs.declared.collection.Dump.{Dump};
 ghost use Rattle.bd_sort.specs.Selection.{query_of};
 ghost use Rattle.bd_cursor.specs.SessionView.{given_batch, marked_token, open_cursor};
@@ -96,8 +96,9 @@ pub(crate) fn place_of(cursors: &[Cursor], id: u64) -> Option<usize>
     ensures none { (dump : Dump) → IfNone result (cursor_of id (map (open_cursor dump) cursors.now) ≡ None) }
     ensures below { IfSome result (λ i. i < length cursors.now) }
     ensures it { (dump : Dump) → IfSome result (λ i. cursor_of id (map (open_cursor dump) cursors.now) ≡ slice_get (map (open_cursor dump) cursors.now) i) }
-    ensures changed { (dump : Dump) → IfSome result (λ i. (d : OpenCursor) →
-        with_cursor id d (map (open_cursor dump) cursors.now) ≡ slice_set (map (open_cursor dump) cursors.now) i d) }
+    ensures moved { (dump : Dump) → IfSome result (λ i. (c : OpenCursor) (n : ℕ) →
+        cursor_of id (map (open_cursor dump) cursors.now) ≡ Some c →
+        with_moved id n (map (open_cursor dump) cursors.now) ≡ slice_set (map (open_cursor dump) cursors.now) i (moved c n)) }
 {
     for i in 0..cursors.len() {
         if cursors[i].id == id {

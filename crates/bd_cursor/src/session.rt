@@ -39,17 +39,15 @@ pub struct Session {
 }
 
 impl Session {
-    ghost use Rattle.std.specs.Prelude.{◌≡◌, ◌≤◌, Bool, IfErr, IfOk, IsFalse, IsTrue, OnErr, OnOk, false, option_map, string_bytes, true};
-    ghost use Rattle.bd_answer.specs.Answer.{answer, rest};
-    ghost use Rattle.bd_answer.specs.Session.{IndexCounts, MarkedToken, dropped, explained, gave, has_index, is_full, killed, made, opened, state_after, with_open};
-    ghost use Rattle.bd_answer.specs.Session.{drop_call, kill_call, make_reply, next_call, open_reply, reply};
+    ghost use Rattle.std.specs.Prelude.{◌≡◌, ◌≤◌, IfErr, IfOk, IsFalse, IsTrue, None, OnOk, Some, false, string_bytes, true};
+    ghost use Rattle.bd_answer.specs.Session.{Call, dropped, explained, gave, has_index, killed, made, opened};
+    ghost use Rattle.bd_answer.specs.Session.{drop_call, kill_call, next_call, open_reply, reply};
     ghost use Rattle.bd_answer.specs.SessionLaws.{new_state};
     ghost use Rattle.bd_bson.specs.Collection.{documents};
     ghost use Rattle.bd_index.specs.IndexView.{IsIndexOf};
-    ghost use Rattle.bd_cursor.specs.Explanation.{index_counts, index_mark};
-    ghost use Rattle.bd_sort.specs.Selection.{query_of};
-    ghost use Rattle.bd_cursor.specs.SessionView.{IsGranted, dump_of, given_batch, mark_of, marked_token, path_mark, places_left, state_of, with_index};
-    ghost use Rattle.bd_cursor.specs.SessionView.{IsRefusedCall, explain_request, find_request, hint_of, make_index, resume_request};
+    ghost use Rattle.bd_cursor.specs.Explanation.{index_mark};
+    ghost use Rattle.bd_cursor.specs.SessionView.{IsGranted, IsOpening, IsRefusedCall, Steps, dump_of, given_batch, path_mark, state_of};
+    ghost use Rattle.bd_cursor.specs.SessionView.{explain_request, find_request, hint_of, make_index, make_of, resume_request};
     ghost use Rattle.bd_request.specs.Results.{made_counts, told};
 
     /// A session with no index and no cursor. It takes no memory.
@@ -80,14 +78,8 @@ impl Session {
     /// In this order: `IndexThere` where the path has an index, sparse or not, `TooManyIndexes` where there are 16. `NoMemory`
     /// where no memory was given.
     pub fn create_index(&mut self, path: Path) -> Result<Made, Refused>
-        ensures made { IfOk result
-            (λ m. reply (state_of self.old) (make_index false (dump_of self.old) path) ≡ made (made_counts m)) }
-        ensures after { OnOk result
-            (state_of self.new ≡ state_after (state_of self.old) (make_index false (dump_of self.old) path)) }
-        ensures refused { IfErr result
-            (IsRefusedCall (reply (state_of self.old) (make_index false (dump_of self.old) path))) }
-        ensures unchanged { OnErr result (state_of self.new ≡ state_of self.old) }
-        ensures dump { dump_of self.new ≡ dump_of self.old }
+        ensures steps { Steps (λ m. made (made_counts m)) (make_index false (dump_of self.old) path)
+            self.old result self.new }
     {
         self.make(path, false)
     }
@@ -99,14 +91,8 @@ impl Session {
     ///
     /// Those of `create_index`.
     pub fn create_sparse_index(&mut self, path: Path) -> Result<Made, Refused>
-        ensures made { IfOk result
-            (λ m. reply (state_of self.old) (make_index true (dump_of self.old) path) ≡ made (made_counts m)) }
-        ensures after { OnOk result
-            (state_of self.new ≡ state_after (state_of self.old) (make_index true (dump_of self.old) path)) }
-        ensures refused { IfErr result
-            (IsRefusedCall (reply (state_of self.old) (make_index true (dump_of self.old) path))) }
-        ensures unchanged { OnErr result (state_of self.new ≡ state_of self.old) }
-        ensures dump { dump_of self.new ≡ dump_of self.old }
+        ensures steps { Steps (λ m. made (made_counts m)) (make_index true (dump_of self.old) path)
+            self.old result self.new }
     {
         self.make(path, true)
     }
@@ -117,14 +103,8 @@ impl Session {
     ///
     /// `NoIndex` where the path has none.
     pub fn drop_index(&mut self, path: &Path) -> Result<(), Refused>
-        ensures dropped { OnOk result
-            (reply (state_of self.old) (drop_call (string_bytes path.now.text)) ≡ dropped) }
-        ensures after { OnOk result
-            (state_of self.new ≡ state_after (state_of self.old) (drop_call (string_bytes path.now.text))) }
-        ensures refused { IfErr result
-            (IsRefusedCall (reply (state_of self.old) (drop_call (string_bytes path.now.text)))) }
-        ensures unchanged { OnErr result (state_of self.new ≡ state_of self.old) }
-        ensures dump { dump_of self.new ≡ dump_of self.old }
+        ensures steps { Steps (λ _. dropped) (drop_call (string_bytes path.now.text))
+            self.old result self.new }
     {
         if index_on(&self.indexes, path).is_none() {
             return Err(Refused::NoIndex);
@@ -140,11 +120,8 @@ impl Session {
     ///
     /// `NoIndex` where an index is asked for that is not there. `NoMemory` where no memory was given.
     pub fn explain(&self, request: &Request, choice: &Choice) -> Result<Explain, Refused>
-        ensures explained { IfOk result
-            (λ e. reply (state_of self.now) (explain_request (dump_of self.now) request.now choice.now)
-            ≡ explained (told e)) }
-        ensures refused { IfErr result
-            (IsRefusedCall (reply (state_of self.now) (explain_request (dump_of self.now) request.now choice.now))) }
+        ensures steps { Steps (λ e. explained (told e)) (explain_request (dump_of self.now) request.now choice.now)
+            self.now result self.now }
     {
         self.has_choice(choice)?;
         let explanation = explain(
@@ -165,14 +142,8 @@ impl Session {
     /// In this order: `NoIndex` where an index is asked for that is not there, `TooManyCursors` where 64 are open. `NoMemory`
     /// where no memory was given.
     pub fn find(&mut self, request: Request, choice: Choice) -> Result<u64, Refused>
-        ensures opened { IfOk result
-            (λ id. reply (state_of self.old) (find_request (dump_of self.old) request choice) ≡ opened id) }
-        ensures after { OnOk result (state_of self.new
-            ≡ state_after (state_of self.old) (find_request (dump_of self.old) request choice)) }
-        ensures refused { IfErr result
-            (IsRefusedCall (reply (state_of self.old) (find_request (dump_of self.old) request choice))) }
-        ensures unchanged { OnErr result (state_of self.new ≡ state_of self.old) }
-        ensures dump { dump_of self.new ≡ dump_of self.old }
+        ensures steps { Steps opened (find_request (dump_of self.old) request choice)
+            self.old result self.new }
     {
         let left = self.answer_to(&request, &choice)?;
         self.open(request, None, left)
@@ -190,15 +161,8 @@ impl Session {
         choice: Choice,
         token: &Token,
     ) -> Result<u64, Refused>
-        ensures opened { IfOk result
-            (λ id. reply (state_of self.old) (resume_request (dump_of self.old) request choice token.now)
-            ≡ opened id) }
-        ensures after { OnOk result (state_of self.new
-            ≡ state_after (state_of self.old) (resume_request (dump_of self.old) request choice token.now)) }
-        ensures refused { IfErr result
-            (IsRefusedCall (reply (state_of self.old) (resume_request (dump_of self.old) request choice token.now))) }
-        ensures unchanged { OnErr result (state_of self.new ≡ state_of self.old) }
-        ensures dump { dump_of self.new ≡ dump_of self.old }
+        ensures steps { Steps opened (resume_request (dump_of self.old) request choice token.now)
+            self.old result self.new }
     {
         let token = *token;
         let left = self.rest_after(&request, &choice, token)?;
@@ -213,12 +177,8 @@ impl Session {
     /// In this order: `NoCursor` where none has the number, `Range` where `n` is above 2,147,483,647. `NoMemory` where no memory
     /// was given.
     pub fn next(&mut self, id: u64, n: u64) -> Result<Batch, Refused>
-        ensures batch { IfOk result
-            (λ batch. reply (state_of self.old) (next_call id n) ≡ gave (given_batch batch)) }
-        ensures after { OnOk result (state_of self.new ≡ state_after (state_of self.old) (next_call id n)) }
-        ensures refused { IfErr result (IsRefusedCall (reply (state_of self.old) (next_call id n))) }
-        ensures unchanged { OnErr result (state_of self.new ≡ state_of self.old) }
-        ensures dump { dump_of self.new ≡ dump_of self.old }
+        ensures steps { Steps (λ batch. gave (given_batch batch)) (next_call id n)
+            self.old result self.new }
     {
         let Some(place) = place_of(&self.cursors, id) else {
             return Err(Refused::NoCursor);
@@ -239,11 +199,7 @@ impl Session {
     ///
     /// `NoCursor` where none has the number.
     pub fn kill(&mut self, id: u64) -> Result<(), Refused>
-        ensures killed { OnOk result (reply (state_of self.old) (kill_call id) ≡ killed) }
-        ensures after { OnOk result (state_of self.new ≡ state_after (state_of self.old) (kill_call id)) }
-        ensures refused { IfErr result (IsRefusedCall (reply (state_of self.old) (kill_call id))) }
-        ensures unchanged { OnErr result (state_of self.new ≡ state_of self.old) }
-        ensures dump { dump_of self.new ≡ dump_of self.old }
+        ensures steps { Steps (λ _. killed) (kill_call id) self.old result self.new }
     {
         let Some(_place) = place_of(&self.cursors, id) else {
             return Err(Refused::NoCursor);
@@ -269,14 +225,8 @@ impl Session {
 
     /// Makes an index, sparse or not.
     fn make(&mut self, path: Path, sparse: bool) -> Result<Made, Refused>
-        ensures made { IfOk result
-            (λ m. reply (state_of self.old) (make_index sparse (dump_of self.old) path) ≡ made (made_counts m)) }
-        ensures after { OnOk result
-            (state_of self.new ≡ state_after (state_of self.old) (make_index sparse (dump_of self.old) path)) }
-        ensures refused { IfErr result
-            (IsRefusedCall (reply (state_of self.old) (make_index sparse (dump_of self.old) path))) }
-        ensures unchanged { OnErr result (state_of self.new ≡ state_of self.old) }
-        ensures dump { dump_of self.new ≡ dump_of self.old }
+        ensures steps { Steps (λ m. made (made_counts m)) (make_index sparse (dump_of self.old) path)
+            self.old result self.new }
     {
         self.may_make(&path, sparse)?;
         let index = self.build(path, sparse)?;
@@ -297,9 +247,9 @@ impl Session {
 
     /// Whether an index may be made, and why not.
     fn may_make(&self, path: &Path, sparse: bool) -> Result<(), Refused>
-        ensures granted { OnOk result (IsGranted (state_of self.now).indexes (path_mark sparse path.now)) }
-        ensures refused { (counts : IndexCounts) →
-            IfErr result (IsRefusedCall (make_reply (state_of self.now).indexes (path_mark sparse path.now) counts)) }
+        ensures granted { OnOk result (IsGranted self.now (path_mark sparse path.now)) }
+        ensures refused { IfErr result
+            (IsRefusedCall (reply (state_of self.now) (make_index sparse (dump_of self.now) path.now))) }
     {
         if index_on(&self.indexes, path).is_some() {
             return Err(Refused::IndexThere);
@@ -310,15 +260,12 @@ impl Session {
         Ok(())
     }
 
-    /// Puts in an index of the dump, and tells what it has.
+    /// Puts in an index of the dump that may be made, and tells what it has.
     fn add(&mut self, index: Index) -> Result<Made, Refused>
-        requires { IsIndexOf (dump_of self.old) index }
-        ensures made { IfOk result
-            (λ m. made_counts m ≡ index_counts (documents (dump_of self.old)) (index_mark index)) }
-        ensures after { OnOk result (state_of self.new ≡ with_index (state_of self.old) (index_mark index)) }
-        ensures refused { IfErr result (λ r. r ≡ Refused.NoMemory) }
-        ensures unchanged { OnErr result (state_of self.new ≡ state_of self.old) }
-        ensures dump { dump_of self.new ≡ dump_of self.old }
+        requires index { IsIndexOf (dump_of self.old) index }
+        requires granted { IsGranted self.old (index_mark index) }
+        ensures steps { Steps (λ m. made (made_counts m)) (make_of (documents (dump_of self.old)) (index_mark index))
+            self.old result self.new }
     {
         let made = Made {
             entries: index.entries(),
@@ -330,12 +277,9 @@ impl Session {
 
     /// The answer of a request, where a cursor may be opened on it.
     fn answer_to(&self, request: &Request, choice: &Choice) -> Result<Remainder, Refused>
-        ensures opened { OnOk result
-            (open_reply (state_of self.now) (hint_of choice.now) ≡ opened self.now.next_id) }
+        ensures opens { IfOk result
+            (IsOpening (find_request (dump_of self.now) request.now choice.now) self.now request.now None) }
         ensures number { OnOk result (self.now.next_id ≤ 9223372036854775807) }
-        ensures left { IfOk result
-            (λ left. places_left (query_of (dump_of self.now) request.now).selection left
-            ≡ answer (query_of (dump_of self.now) request.now).selection) }
         ensures refused { IfErr result (IsRefusedCall (open_reply (state_of self.now) (hint_of choice.now))) }
     {
         self.may_open(choice)?;
@@ -357,13 +301,9 @@ impl Session {
         choice: &Choice,
         token: Token,
     ) -> Result<Remainder, Refused>
-        ensures opened { OnOk result
-            (reply (state_of self.old) (resume_request (dump_of self.old) request.now choice.now token)
-            ≡ opened self.new.next_id) }
+        ensures opens { IfOk result
+            (IsOpening (resume_request (dump_of self.old) request.now choice.now token) self.new request.now (Some token)) }
         ensures number { OnOk result (self.new.next_id ≤ 9223372036854775807) }
-        ensures left { IfOk result
-            (λ left. places_left (query_of (dump_of self.old) request.now).selection left
-            ≡ rest (query_of (dump_of self.old) request.now).selection (mark_of token)) }
         ensures refused { IfErr result
             (IsRefusedCall (reply (state_of self.old) (resume_request (dump_of self.old) request.now choice.now token))) }
         ensures same { state_of self.new ≡ state_of self.old }
@@ -412,13 +352,8 @@ impl Session {
         left: Remainder,
     ) -> Result<u64, Refused>
         requires { self.now.next_id ≤ 9223372036854775807 }
-        ensures id { IfOk result (λ id. id ≡ self.old.next_id) }
-        ensures after { OnOk result
-            (state_of self.new ≡ with_open (state_of self.old) (query_of (dump_of self.old) request).digest
-            (option_map marked_token token) (places_left (query_of (dump_of self.old) request).selection left)) }
-        ensures refused { IfErr result (λ r. r ≡ Refused.NoMemory) }
-        ensures unchanged { OnErr result (state_of self.new ≡ state_of self.old) }
-        ensures dump { dump_of self.new ≡ dump_of self.old }
+        ensures steps { (call : Call) → IsOpening call self.old request token left →
+            Steps opened call self.old result self.new }
     {
         let id = self.next_id;
         self.cursors.push(Cursor {

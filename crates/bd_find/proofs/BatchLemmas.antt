@@ -1,6 +1,6 @@
 -- The places that are asked for, and the batch that a session gives of them.
-use Rattle.std.proofs.Common.{◌≡◌, ◌≤◌, ◌<◌, ◌+◌, ◌-◌, ◌*◌, ℕ, zero, suc, Bool, true, false, cond, List, [], ◌∷◌, ◌++◌, length, get_or, take, drop, Option, Some, None, Result, Ok, Err, filter, refl, sym, ap, ◌∙◌, subst, arith, inl, inr, ◌⊎◌, ◌==◌}
-use Rattle.std.specs.Prelude.{MatchOption, IfErr, IfOk, OnOk, nat_lt, option_map}
+use Rattle.std.proofs.Common.{◌≡◌, ◌≤◌, ◌<◌, ◌+◌, ◌-◌, ◌*◌, ℕ, zero, suc, Bool, true, false, cond, List, [], ◌∷◌, ◌++◌, length, get_or, take, drop, Option, Some, None, Result, Ok, Err, filter, refl, sym, ap, ◌∙◌, subst, arith, inl, inr, ◌==◌}
+use Rattle.std.specs.Prelude.{MatchOption, nat_lt, option_map}
 use Rattle.std.specs.List.{All, range_with_len}
 use Rattle.std.specs.Str.{bytes_eq}
 use Rattle.std.proofs.lemmas.Bool.{leb-true, le-ltb}
@@ -8,13 +8,14 @@ use Rattle.std.proofs.lemmas.List.{drop_all, take_all, length-append}
 use Rattle.std.proofs.lemmas.List.FromFn.{length-range_with_len}
 use Rattle.bd_value.specs.Tree.{Doc}
 use Rattle.bd_answer.specs.Answer.{Selection, Mark, answer, at_most, before, cut, insert, insert_all, is_empty, matching, ordered, rest}
-use Rattle.bd_answer.specs.Session.{GivenBatch, IndexMark, OpenCursor, Query, State, batch_of, cursor_of, find_call, foreign_token, gave, has_index, next_call, no_index, opened, reply, resume_call, state_after, token_after, token_place, with_open}
+use Rattle.bd_answer.specs.Session.{Call, GivenBatch, OpenCursor, Query, Reply, State, batch_of, changed_by, cursor_of, find_call, foreign_token, gave, next_call, opened, reply, resume_call, token_after, token_place, with_open}
 use Rattle.bd_answer.proofs.AnswerLemmas.{ordered_in}
 use Rattle.bd_answer.proofs.BatchLemmas.{cut_length}
 use Rattle.bd_answer.proofs.OrderLemmas.{In, filter_in, in_at}
 use Rattle.bd_check.specs.Dump.{AreJoined}
 use Rattle.bd_check.proofs.DumpLemmas.{document_frame, frame_inside}
-use Rattle.bd_cursor.specs.SessionView.{IsRefusedCall, mark_of, marked_token}
+use Rattle.bd_cursor.specs.SessionView.{IsRefusedCall, Steps, mark_of, marked_token, state_of}
+use Rattle.bd_cursor.specs.declared.session.Session.{Session}
 use Rattle.bd_request.specs.declared.refused.Refused.{Refused}
 use Rattle.bd_request.specs.declared.refused.Refused.TheVariants as reasons
 use Rattle.bd_request.specs.declared.token.Token.{Token}
@@ -115,108 +116,56 @@ led_few q (Some t) ps e = go (bytes_eq t.digest q.digest) (nat_lt t.last q.selec
 
 -- ---- the cursor that is opened first
 
-only_memory : (id : ℕ) (r : Refused) → IsRefusedCall (opened id) r → r ≡ reasons.NoMemory
-only_memory id reasons.BadSort h = absurd h
-only_memory id reasons.NoIndex h = absurd cc
-only_memory id reasons.IndexThere h = absurd cc
-only_memory id reasons.TooManyIndexes h = absurd cc
-only_memory id reasons.TooManyCursors h = absurd cc
-only_memory id reasons.NoCursor h = absurd cc
-only_memory id reasons.BadToken h = absurd h
-only_memory id reasons.ForeignToken h = absurd cc
-only_memory id reasons.TokenPlace h = absurd cc
-only_memory id reasons.Range h = absurd cc
+only_memory : (id : ℕ) (why : Refused) → IsRefusedCall (opened id) why → why ≡ reasons.NoMemory
 only_memory id reasons.NoMemory h = refl
-only_memory id (reasons.BadFilter fault) h = absurd h
+only_memory id why h = absurd (let f : ⊥ = first_of (cc, assumption) in f)
 
-only_foreign : (r : Refused) → IsRefusedCall foreign_token r → r ≡ reasons.ForeignToken
-only_foreign reasons.BadSort h = absurd h
-only_foreign reasons.NoIndex h = absurd cc
-only_foreign reasons.IndexThere h = absurd cc
-only_foreign reasons.TooManyIndexes h = absurd cc
-only_foreign reasons.TooManyCursors h = absurd cc
-only_foreign reasons.NoCursor h = absurd cc
-only_foreign reasons.BadToken h = absurd h
+only_foreign : (why : Refused) → IsRefusedCall foreign_token why → why ≡ reasons.ForeignToken
 only_foreign reasons.ForeignToken h = refl
-only_foreign reasons.TokenPlace h = absurd cc
-only_foreign reasons.Range h = absurd cc
-only_foreign reasons.NoMemory h = absurd h
-only_foreign (reasons.BadFilter fault) h = absurd h
+only_foreign why h = absurd (let f : ⊥ = first_of (cc, assumption) in f)
 
-only_place : (r : Refused) → IsRefusedCall token_place r → r ≡ reasons.TokenPlace
-only_place reasons.BadSort h = absurd h
-only_place reasons.NoIndex h = absurd cc
-only_place reasons.IndexThere h = absurd cc
-only_place reasons.TooManyIndexes h = absurd cc
-only_place reasons.TooManyCursors h = absurd cc
-only_place reasons.NoCursor h = absurd cc
-only_place reasons.BadToken h = absurd h
-only_place reasons.ForeignToken h = absurd cc
+only_place : (why : Refused) → IsRefusedCall token_place why → why ≡ reasons.TokenPlace
 only_place reasons.TokenPlace h = refl
-only_place reasons.Range h = absurd cc
-only_place reasons.NoMemory h = absurd h
-only_place (reasons.BadFilter fault) h = absurd h
+only_place why h = absurd (let f : ⊥ = first_of (cc, assumption) in f)
 
-module _ (q : Query) (s : State) (hint : Option (List ℕ)) where
-  put_in : (marks : List IndexMark) (token : Option Token) (ps : List ℕ) (id : ℕ) → opened 1 ≡ opened id
-      → s ≡ with_open (before_first marks) q.digest (option_map marked_token token) ps
-      → cursor_of id s.cursors ≡ Some (cursor_for id q token ps)
-  put_in marks token ps id r e = let one : 1 ≡ id = cc in rw (e, sym one) refl
+module _ (q : Query) (hint : Option (List ℕ)) (old new : Session) (first : AwaitsFirst (state_of old) hint) where
+  -- the machine's reply, which it gives in the first state too
+  first_reply : (call : Call) (r : Reply) → reply (before_first first.marks) call ≡ r → reply (state_of old) call ≡ r
+  first_reply call r is = ap (λ s. reply s call) first.is_unopened ∙ is
 
-  find_opens_first : (marks : List IndexMark) → has_index marks hint ≡ true → (result : Result ℕ Refused)
-      → IfOk result (λ id. reply (before_first marks) (find_call q hint) ≡ opened id)
-      → OnOk result (s ≡ state_after (before_first marks) (find_call q hint))
-      → IfErr result (IsRefusedCall (reply (before_first marks) (find_call q hint))) → IsOpenedOn q None s result
-  find_opens_first marks there (Ok id) r e f = go (has_index marks hint) there r e
+  -- a call that is granted opens the first cursor
+  opens : (token : Option Token) (ps : List ℕ) (call : Call) → places_from q token ≡ Ok ps → reply (state_of old) call ≡ opened 1
+      → ((s : State) → changed_by (opened 1) call s ≡ with_open s q.digest (option_map marked_token token) ps)
+      → (result : Result ℕ Refused) → Steps opened call old result new → IsOpenedOn q token (state_of new) result
+  opens token ps call led is opening (Ok id) step =
+      let one : opened 1 ≡ opened id = sym is ∙ step.replies in
+      let same : 1 ≡ id = cc in
+      let state : state_of new ≡ with_open (before_first first.marks) q.digest (option_map marked_token token) ps =
+      step.moves ∙ ap (λ r. changed_by r call (state_of old)) is ∙ opening (state_of old) ∙ ap (λ s. with_open s q.digest (option_map marked_token token) ps) first.is_unopened in
+      let there = subst (λ i. cursor_of i (with_open (before_first first.marks) q.digest (option_map marked_token token) ps).cursors ≡ Some (cursor_for i q token ps)) same refl in
+      (ps, led, ap (λ (s : State). cursor_of id s.cursors) state ∙ there)
+  opens token ps call led is opening (Err why) step = inl (only_memory 1 why (subst (λ r. IsRefusedCall r why) is step.because))
+
+  pub find_opens : (result : Result ℕ Refused) → Steps opened (find_call q hint) old result new → IsOpenedOn q None (state_of new) result
+  find_opens = opens None (answer q.selection) (find_call q hint) refl (first_reply (find_call q hint) (opened 1) (rw first.is_there refl)) (λ s. refl)
+
+  pub resume_opens : (t : Token) (result : Result ℕ Refused) → Steps opened (resume_call q hint (marked_token t)) old result new → IsOpenedOn q (Some t) (state_of new) result
+  resume_opens t = go (bytes_eq t.digest q.digest) refl (nat_lt t.last q.selection.count) refl
     where
-      go : (has : Bool) → has ≡ true → cond has (opened 1) no_index ≡ opened id
-          → s ≡ cond has (with_open (before_first marks) q.digest None (answer q.selection)) (before_first marks)
-          → (xs : List ℕ) × (places_from q None ≡ Ok xs) × (cursor_of id s.cursors ≡ Some (cursor_for id q None xs))
-      go true there r e = (answer q.selection, refl, put_in marks None (answer q.selection) id r e)
-      go false there r e = absurd cc
-  find_opens_first marks there (Err refused) r e f = go (has_index marks hint) there f
-    where
-      go : (has : Bool) → has ≡ true → IsRefusedCall (cond has (opened 1) no_index) refused
-          → (refused ≡ reasons.NoMemory) ⊎ (places_from q None ≡ Err (refused_text refused))
-      go true there f = inl (only_memory 1 refused f)
-      go false there f = absurd cc
+      call : Call
+      call = resume_call q hint (marked_token t)
 
-  resume_opens_first : (marks : List IndexMark) → has_index marks hint ≡ true → (t : Token) (result : Result ℕ Refused)
-      → IfOk result (λ id. reply (before_first marks) (resume_call q hint (marked_token t)) ≡ opened id)
-      → OnOk result (s ≡ state_after (before_first marks) (resume_call q hint (marked_token t)))
-      → IfErr result (IsRefusedCall (reply (before_first marks) (resume_call q hint (marked_token t)))) → IsOpenedOn q (Some t) s result
-  resume_opens_first marks there t (Ok id) r e f = go (has_index marks hint) there (bytes_eq t.digest q.digest) (nat_lt t.last q.selection.count) r e
-    where
-      go : (has : Bool) → has ≡ true → (same place : Bool) → cond same (cond place (cond has (opened 1) no_index) token_place) foreign_token ≡ opened id
-          → s ≡ cond same (cond place (cond has (with_open (before_first marks) q.digest (Some (marked_token t)) (rest q.selection (mark_of t))) (before_first marks)) (before_first marks)) (before_first marks)
-          → (xs : List ℕ) × (cond same (cond place (Ok (rest q.selection (mark_of t))) (Err (refused_text reasons.TokenPlace))) (Err (refused_text reasons.ForeignToken)) ≡ Ok xs)
-          × (cursor_of id s.cursors ≡ Some (cursor_for id q (Some t) xs))
-      go true there true true r e = (rest q.selection (mark_of t), refl, put_in marks (Some t) (rest q.selection (mark_of t)) id r e)
-      go true there true false r e = absurd cc
-      go true there false place r e = absurd cc
-      go false there same place r e = absurd cc
-  resume_opens_first marks there t (Err refused) r e f = go (has_index marks hint) there (bytes_eq t.digest q.digest) (nat_lt t.last q.selection.count) f
-    where
-      go : (has : Bool) → has ≡ true → (same place : Bool) → IsRefusedCall (cond same (cond place (cond has (opened 1) no_index) token_place) foreign_token) refused
-          → (refused ≡ reasons.NoMemory) ⊎ (cond same (cond place (Ok (rest q.selection (mark_of t))) (Err (refused_text reasons.TokenPlace))) (Err (refused_text reasons.ForeignToken)) ≡ Err (refused_text refused))
-      go true there true true f = inl (only_memory 1 refused f)
-      go true there true false f = inr (ap (λ r. Err (refused_text r)) (sym (only_place refused f)))
-      go true there false place f = inr (ap (λ r. Err (refused_text r)) (sym (only_foreign refused f)))
-      go false there same place f = absurd cc
+      -- the token is refused
+      turned_away : (r : Reply) (why : Refused) → ((other : Refused) → IsRefusedCall r other → other ≡ why) → ((id : ℕ) → r ≡ opened id → ⊥) → places_from q (Some t) ≡ Err (refused_text why)
+          → reply (state_of old) call ≡ r → (result : Result ℕ Refused) → Steps opened call old result new → IsOpenedOn q (Some t) (state_of new) result
+      turned_away r why only none led is (Ok id) step = absurd (none id (sym is ∙ step.replies))
+      turned_away r why only none led is (Err other) step = inr (led ∙ ap (λ w. Err (refused_text w)) (sym (only other (subst (λ x. IsRefusedCall x other) is step.because))))
 
-  pub find_opens : (old : State) → AwaitsFirst old hint → (result : Result ℕ Refused) → IfOk result (λ id. reply old (find_call q hint) ≡ opened id)
-      → OnOk result (s ≡ state_after old (find_call q hint)) → IfErr result (IsRefusedCall (reply old (find_call q hint))) → IsOpenedOn q None s result
-  find_opens old first result r e f =
-      find_opens_first first.marks first.is_there result (subst (λ (o : State). IfOk result (λ id. reply o (find_call q hint) ≡ opened id)) first.is_unopened r)
-      (subst (λ (o : State). OnOk result (s ≡ state_after o (find_call q hint))) first.is_unopened e)
-      (subst (λ (o : State). IfErr result (IsRefusedCall (reply o (find_call q hint)))) first.is_unopened f)
-
-  pub resume_opens : (old : State) → AwaitsFirst old hint → (t : Token) (result : Result ℕ Refused) → IfOk result (λ id. reply old (resume_call q hint (marked_token t)) ≡ opened id)
-      → OnOk result (s ≡ state_after old (resume_call q hint (marked_token t))) → IfErr result (IsRefusedCall (reply old (resume_call q hint (marked_token t)))) → IsOpenedOn q (Some t) s result
-  resume_opens old first t result r e f =
-      resume_opens_first first.marks first.is_there t result (subst (λ (o : State). IfOk result (λ id. reply o (resume_call q hint (marked_token t)) ≡ opened id)) first.is_unopened r)
-      (subst (λ (o : State). OnOk result (s ≡ state_after o (resume_call q hint (marked_token t)))) first.is_unopened e)
-      (subst (λ (o : State). IfErr result (IsRefusedCall (reply o (resume_call q hint (marked_token t))))) first.is_unopened f)
+      go : (same : Bool) → bytes_eq t.digest q.digest ≡ same → (place : Bool) → nat_lt t.last q.selection.count ≡ place
+          → (result : Result ℕ Refused) → Steps opened call old result new → IsOpenedOn q (Some t) (state_of new) result
+      go true e true f = opens (Some t) (rest q.selection (mark_of t)) call (rw (e, f) refl) (first_reply call (opened 1) (rw (e, f, first.is_there) refl)) (λ s. refl)
+      go true e false f = turned_away token_place reasons.TokenPlace only_place (λ id k. let g : ⊥ = cc in g) (rw (e, f) refl) (first_reply call token_place (rw (e, f) refl))
+      go false e place f = turned_away foreign_token reasons.ForeignToken only_foreign (λ id k. let g : ⊥ = cc in g) (rw e refl) (first_reply call foreign_token (rw e refl))
 
 -- it is ready to give a batch
 pub opened_ready : (q : Query) (token : Option Token) (s : State) (id : ℕ) → q.selection.count ≤ 2147483647 → IsOpenedOn q token s (Ok id) → IsReady s id q.selection.count

@@ -10,12 +10,12 @@ use Rattle.bd_reply.specs.Reply.{refuses}
 use Rattle.bd_reply.specs.ReplyView.{line_reply, told_refusal}
 use Rattle.bd_reply.specs.declared.refusal.LineRefusal.{LineRefusal}
 use Rattle.bd_reply.specs.declared.reply.Reply.{Reply}
-use Rattle.bd_service.specs.ServiceView.{Performs, LeavesStarved, service_dump, service_state}
+use Rattle.bd_service.specs.ServiceView.{IsPerformed, LeavesStarved, service_dump, service_state}
 use Rattle.bd_service.specs.Talk.{Answers, IsCallIn}
 use Rattle.bd_service.specs.declared.service.Service.{Service}
 
 pub answered : (old new : Session) (line : List ℕ) (call : machine.Call) (result : Result Reply AllocError)
-    → IsCallIn (bytes_of (dump_of old)) (documents (dump_of old)) line (Ok call) → IfOk result (λ r. Performs old call r new)
+    → IsCallIn (bytes_of (dump_of old)) (documents (dump_of old)) line (Ok call) → IsPerformed call old result new
     → IfOk result (λ r. Answers (bytes_of (dump_of old)) (documents (dump_of old)) (state_of old) line (line_reply (documents (dump_of old)) r) (state_of new))
 answered old new line call (Ok r) reads p = record { part = Ok call; reads = reads; tells = p.tells; moves = p.moves }
 answered old new line call (Err e) reads p = tt

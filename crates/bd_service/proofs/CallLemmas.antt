@@ -13,7 +13,6 @@ use Rattle.bd_cursor.specs.SessionView.{hint_of, marked_token}
 use Rattle.bd_extjson.specs.TextDocument.{ReadsAs}
 use Rattle.bd_path.specs.Sort.{sort_paths}
 use Rattle.bd_cursor.specs.declared.choice.Choice.{Choice}
-use Rattle.bd_cursor.specs.declared.choice.Choice.TheVariants as choices
 use Rattle.bd_filter.specs.FilterView.{filter_tree}
 use Rattle.bd_request.specs.Request.{request_text}
 use Rattle.bd_value.specs.Limits.{greatest_count}
@@ -21,8 +20,8 @@ use Rattle.bd_request.specs.Token.{token_of}
 use Rattle.bd_request.specs.declared.request.Request.{Request}
 use Rattle.bd_request.specs.declared.token.Token.{Token}
 use Rattle.bd_sort.specs.Selection.{query_of, query_to}
-use Rattle.bd_service.specs.CallOf.{call_of, command_part, hint_path, search_of, search_query, search_with, then_part, token_part}
-use Rattle.bd_service.specs.CallView.{IsSearch, RefusesLine, RefusesPart, choice_hint, session_call}
+use Rattle.bd_service.specs.CallOf.{call_of, command_part, search_of, search_query, search_with, then_part, token_part}
+use Rattle.bd_service.specs.CallView.{IsSearch, RefusesLine, RefusesPart, session_call}
 use Rattle.bd_service.specs.Talk.{IsCallIn}
 use Rattle.bd_service.specs.declared.call.Call.{Call}
 use Rattle.bd_service.specs.declared.call_fault.CallFault.{CallFault}
@@ -34,11 +33,6 @@ search_found : (f : FindCommand) (request : Request) (choice : Choice) → IsSea
     → search_of f ≡ Ok (search_with f (filter_tree request.filter) (sort_paths request.sort.items))
 search_found f request choice s =
     rw (s.asks.filter_is, s.asks.sort_is, le-leb f.skip greatest_count s.asks.skip_is.1, le-leb f.limit greatest_count s.asks.limit_is.1, s.is_there) refl
-
-hint_same : (choice : Choice) → hint_path (choice_hint choice) ≡ hint_of choice
-hint_same choices.Scan = refl
-hint_same choices.Auto = refl
-hint_same (choices.Index path) = refl
 
 query_same : (dump : Dump) (f : FindCommand) (request : Request) (choice : Choice) → IsSearch f request choice
     → search_query (bytes_of dump) (documents dump) (search_with f (filter_tree request.filter) (sort_paths request.sort.items)) ≡ query_of dump request
@@ -56,7 +50,7 @@ pub resume_found : (dump : Dump) (token : List ℕ) (f : FindCommand) (t : Token
     → token_part (token_of token) ≡ Ok (marked_token t) → IsSearch f request choice
     → call_of (bytes_of dump) (documents dump) (resumes token f) ≡ Ok (resume_call (query_of dump request) (hint_of choice) (marked_token t))
 resume_found dump token f t request choice is s =
-    rw (is, search_found f request choice s, query_same dump f request choice s, ← s.hint_is, hint_same choice) refl
+    rw (is, search_found f request choice s, query_same dump f request choice s, ← s.way_is) refl
 
 -- ---- lines
 

@@ -1,11 +1,11 @@
 -- What a line asks for has a total order and a limit that can be counted.
-use Rattle.std.proofs.Common.{◌≡◌, ◌≤◌, ℕ, Bool, true, false, cond, List, Option, Some, None, Result, Ok, Err, refl, ap, subst, sym, arith}
+use Rattle.std.proofs.Common.{◌≡◌, ◌≤◌, ℕ, Bool, true, false, cond, List, Option, Some, None, Result, Ok, Err, refl, ap, subst, arith}
 use Rattle.std.specs.Prelude.{◌&&◌, nat_le, option_and_then, unwrap_or}
 use Rattle.std.specs.Result.{result_ok}
 use Rattle.std.proofs.lemmas.Bool.Decides.{nat_tests}
 use Rattle.std.proofs.lemmas.Cmp.{on_total}
 use Rattle.bd_value.specs.Tree.{Doc}
-use Rattle.bd_answer.specs.Session.{Call, MarkedToken, drop_call, explain_call, find_call, kill_call, make_call, most_given, next_call, resume_call}
+use Rattle.bd_answer.specs.Session.{Call, MarkedToken, drop_call, explain_call, find_call, kill_call, most_given, next_call, resume_call}
 use Rattle.bd_answer.specs.SessionLaws.{IsFair}
 use Rattle.bd_bson.specs.Documents.{document_at}
 use Rattle.bd_command.specs.Command.{Command, FindCommand, creates_index, drops_index, explains, finds, gets_more, kills_cursor, resumes}
@@ -21,8 +21,8 @@ use Rattle.bd_request.specs.Token.{token_of}
 use Rattle.bd_request.specs.declared.refused.Refused.TheVariants as reasons
 use Rattle.bd_reply.specs.Refusal.{session_refusal}
 use Rattle.bd_reply.specs.Reply.{ToldRefusal}
-use Rattle.bd_service.specs.CallOf.{Search, call_of, command_part, document_call, filter_part, hint_part, hint_path, make_of, path_part, range_part, request_part, search_explanation, search_of, search_query, search_with, sort_part, then_part, token_part}
-use Rattle.bd_service.specs.TalkLaws.{line_call}
+use Rattle.bd_cursor.specs.SessionView.{make_of}
+use Rattle.bd_service.specs.CallOf.{Search, call_of, command_part, document_call, filter_part, hint_part, hint_path, path_part, range_part, request_part, search_explanation, search_of, search_query, search_with, sort_part, then_part, token_part}
 
 -- a part that is not refused, and those after it
 ok_part : {A B : Type 0} (part : Result A ToldRefusal) (next : A → Result B ToldRefusal) (y : B) → then_part part next ≡ Ok y
@@ -64,8 +64,9 @@ query_fair bytes ds f w e = (on_total (document_at ds) (sort_total w.sorts), sea
 
 call_fair : (bytes : List ℕ) (ds : List Doc) (c : Command) (call : Call) → call_of bytes ds c ≡ Ok call → AsksFairly call
 call_fair bytes ds (creates_index path sparse) call e =
-    let part = ok_part {A = Unit {0}} (path_part (path_of path)) (λ _. Ok (make_of ds path sparse)) call e in
-    subst AsksFairly (same_ok (make_of ds path sparse) call part.2) tt
+    let make = make_of ds (record { path = path; is_sparse = sparse }) in
+    let part = ok_part {A = Unit {0}} (path_part (path_of path)) (λ _. Ok make) call e in
+    subst AsksFairly (same_ok make call part.2) tt
 call_fair bytes ds (drops_index path) call e =
     let part = ok_part {A = Unit {0}} (path_part (path_of path)) (λ _. Ok (drop_call path)) call e in
     subst AsksFairly (same_ok (drop_call path) call part.2) tt

@@ -1,5 +1,3 @@
-pub mod RefusedLemmas
-pub mod PerformingLemmas
 pub mod CallLemmas
 pub mod AnswerLemmas
 pub mod FairLemmas

@@ -1,8 +1,7 @@
 -- Which call of a session a command is, and why one is none.
-use Rattle.std.specs.Prelude.{ℕ, nat_le, ◌&&◌, Bool, List, length, Option, Some, None, Result, Ok, Err, if◌then◌else◌}
+use Rattle.std.specs.Prelude.{ℕ, nat_le, ◌&&◌, List, Option, Some, None, Result, Ok, Err, if◌then◌else◌}
 use Rattle.bd_value.specs.Tree.{Doc}
-use Rattle.bd_answer.specs.Answer.{matching}
-use Rattle.bd_answer.specs.Session.{Call, Explanation, IndexMark, MarkedToken, Query, drop_call, explain_call, find_call, kill_call, make_call, next_call, resume_call}
+use Rattle.bd_answer.specs.Session.{Call, Explanation, IndexMark, MarkedToken, Query, drop_call, explain_call, find_call, kill_call, next_call, resume_call}
 use Rattle.bd_path.specs.Earliest.{SortPath}
 use Rattle.bd_path.specs.Names.{Names}
 use Rattle.bd_path.specs.Path.{path_of}
@@ -16,10 +15,10 @@ use Rattle.bd_request.specs.Sort.{sort_of}
 use Rattle.bd_request.specs.Token.{token_of}
 use Rattle.bd_request.specs.declared.refused.Refused.TheVariants as reasons
 use Rattle.bd_request.specs.declared.token.Token.{Token}
-use Rattle.bd_sort.specs.Selection.{selection_for, query_to}
-use Rattle.bd_cursor.specs.AccessPath.{AccessPath, access_on, first_bounded, first_walked, scanned}
-use Rattle.bd_cursor.specs.Explanation.{explained_access, index_counts}
-use Rattle.bd_cursor.specs.SessionView.{marked_token}
+use Rattle.bd_sort.specs.Selection.{query_to}
+use Rattle.bd_cursor.specs.AccessPath.{Way, by_any, by_none, by_one}
+use Rattle.bd_cursor.specs.Explanation.{explanation_for}
+use Rattle.bd_cursor.specs.SessionView.{make_of, marked_token, path_named}
 use Rattle.bd_command.specs.Command.{Command, FindCommand, Hint, any_way, by_index, by_scan, creates_index, drops_index, explains, finds, gets_more, kills_cursor, resumes}
 use Rattle.bd_command.specs.CommandOf.{command_of}
 use Rattle.bd_command.specs.declared.fault.CommandFault.{CommandFault}
@@ -96,31 +95,23 @@ search_of f =
 abbrev pub search_query : List ℕ → List Doc → Search → Query
 search_query bytes ds w = query_to bytes ds w.filter w.sorts w.skip w.limit w.text
 
--- the path of the index that is to be used
-abbrev pub hint_path : Hint → Option (List ℕ)
-hint_path any_way = None
-hint_path by_scan = None
-hint_path (by_index path) = Some path
+-- which index is to be used
+abbrev pub way_by : Hint → Way
+way_by any_way = by_any
+way_by by_scan = by_none
+way_by (by_index path) = by_one path
 
--- how the documents are reached
-abbrev pub access_by : List Doc → Filter → List SortPath → Hint → List IndexMark → AccessPath
-access_by ds f ss any_way is = first_bounded ds f is (first_walked ss is scanned)
-access_by ds f ss by_scan is = scanned
-access_by ds f ss (by_index path) is = access_on ds f ss path is
+abbrev pub hint_path : Hint → Option (List ℕ)
+hint_path hint = path_named (way_by hint)
 
 abbrev pub search_explanation : List Doc → Search → List IndexMark → Explanation
-search_explanation ds w is =
-    explained_access ds (length (matching (selection_for ds w.filter w.sorts w.skip w.limit)))
-    (access_by ds w.filter w.sorts w.hint is)
+search_explanation ds w = explanation_for ds w.filter w.sorts w.skip w.limit (way_by w.hint)
 
 -- ---- the call
 
-abbrev pub make_of : List Doc → List ℕ → Bool → Call
-make_of ds path sparse = let mark : IndexMark = record { path = path; is_sparse = sparse } in make_call mark (index_counts ds mark)
-
 -- the call that a command is, or the first thing in it that is refused: of `resume` the text of the token is looked at first
 abbrev pub call_of : List ℕ → List Doc → Command → Result Call ToldRefusal
-call_of bytes ds (creates_index path sparse) = then_part (path_part (path_of path)) (λ _. Ok (make_of ds path sparse))
+call_of bytes ds (creates_index path sparse) = then_part (path_part (path_of path)) (λ _. Ok (make_of ds (record { path = path; is_sparse = sparse })))
 call_of bytes ds (drops_index path) = then_part (path_part (path_of path)) (λ _. Ok (drop_call path))
 call_of bytes ds (finds f) = then_part (search_of f) (λ w. Ok (find_call (search_query bytes ds w) (hint_path w.hint)))
 call_of bytes ds (resumes token f) =

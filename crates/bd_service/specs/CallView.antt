@@ -5,15 +5,15 @@ use Rattle.bd_answer.specs.Session.{drop_call, find_call, kill_call, next_call, 
 use Rattle.bd_bson.specs.Collection.{bytes_of, documents}
 use Rattle.bd_bson.specs.declared.collection.Dump.{Dump}
 use Rattle.bd_sort.specs.Selection.{query_of}
+use Rattle.bd_cursor.specs.AccessPath.{way_of}
 use Rattle.bd_cursor.specs.declared.choice.Choice.{Choice}
-use Rattle.bd_cursor.specs.declared.choice.Choice.TheVariants as choices
 use Rattle.bd_cursor.specs.SessionView.{explain_request, hint_of, make_index, marked_token}
 use Rattle.bd_request.specs.Request.{AsksFor}
 use Rattle.bd_request.specs.declared.request.Request.{Request}
-use Rattle.bd_command.specs.Command.{FindCommand, Hint, any_way, by_index, by_scan}
+use Rattle.bd_command.specs.Command.{FindCommand}
 use Rattle.bd_reply.specs.Reply.{ToldRefusal}
 use Rattle.bd_reply.specs.ReplyView.{told_refusal}
-use Rattle.bd_service.specs.CallOf.{hint_part}
+use Rattle.bd_service.specs.CallOf.{hint_part, way_by}
 use Rattle.bd_service.specs.Talk.{IsCallIn}
 use Rattle.bd_service.specs.declared.call.Call.{Call}
 use Rattle.bd_service.specs.declared.call.Call.TheVariants as calls
@@ -30,11 +30,6 @@ session_call dump (calls.GetMore id batch) = next_call id batch
 session_call dump (calls.KillCursor id) = kill_call id
 session_call dump (calls.Explain request choice) = explain_request dump request choice
 
-abbrev pub choice_hint : Choice → Hint
-choice_hint choices.Scan = by_scan
-choice_hint choices.Auto = any_way
-choice_hint (choices.Index path) = by_index (string_bytes path.text)
-
 -- a part of a command is refused for this reason, unless memory ran out
 abbrev pub RefusesPart : {A : Type 0} → Result A ToldRefusal → CallFault → Type 0
 RefusesPart part faults.NoMemory = Unit {0}
@@ -43,7 +38,7 @@ RefusesPart part (faults.Refused why) = part ≡ Err (told_refusal why)
 -- a request and a choice are those of what is to be found
 pub record IsSearch (f : FindCommand) (request : Request) (choice : Choice) : Type 0 where
   pub asks : AsksFor f.filter f.sort f.skip f.limit request
-  pub hint_is : choice_hint choice ≡ f.hint
+  pub way_is : way_of choice ≡ way_by f.hint
   pub is_there : hint_part f.hint ≡ Ok tt
 
 -- the line is no call for this reason, unless memory ran out

@@ -1,5 +1,6 @@
 -- What a session in memory does at a call, and at a line.
-use Rattle.std.specs.Prelude.{◌≡◌, ◌≢◌, List, ℕ}
+use Rattle.std.specs.Prelude.{◌≡◌, ◌≢◌, List, ℕ, Result, Ok, Err}
+use Rattle.std.specs.declared.alloc.AllocError.{AllocError}
 use Rattle.bd_answer.specs.Session as machine
 use Rattle.bd_answer.specs.Session.{State, state_after}
 use Rattle.bd_bson.specs.Collection.{bytes_of, documents}
@@ -18,14 +19,26 @@ use Rattle.bd_service.specs.Talk.{Answers, shown_reply}
 use Rattle.bd_service.specs.declared.service.Service.{Service}
 
 -- a call was made: its reply and the state after it are those of the machine
-pub record Performs (old : Session) (call : machine.Call) (r : Reply) (new : Session) : Type 0 where
+pub record Performs (call : machine.Call) (old : Session) (r : Reply) (new : Session) : Type 0 where
   pub tells : line_reply (documents (dump_of old)) r ≡ shown_reply (documents (dump_of old)) (machine.reply (state_of old) call)
   pub moves : state_of new ≡ state_after (state_of old) call
   pub kept : dump_of new ≡ dump_of old
 
--- the reply tells this refusal, which is no want of memory
-abbrev pub IsRefusalOf : Refused → Reply → Type 0
-IsRefusalOf why r = (r ≡ replies.Refused (refusals.Session why)) × (why ≢ reasons.NoMemory)
+-- or it was not, for want of memory, and the session is as it was
+abbrev pub IsPerformed : machine.Call → Session → Result Reply AllocError → Session → Type 0
+IsPerformed call old (Ok r) new = Performs call old r new
+IsPerformed call old (Err e) new = (state_of new ≡ state_of old) × (dump_of new ≡ dump_of old)
+
+-- the reply tells this refusal; want of memory has none
+abbrev pub TellsRefusal : Refused → Result Reply AllocError → Type 0
+TellsRefusal why (Ok r) = (r ≡ replies.Refused (refusals.Session why)) × (why ≢ reasons.NoMemory)
+TellsRefusal why (Err e) = why ≡ reasons.NoMemory
+
+-- the reply tells what a call gave, or why it was refused
+abbrev pub Tells : {A : Type 0} → (A → Reply) → Result A Refused → Result Reply AllocError → Type 0
+Tells told (Ok v) (Ok r) = r ≡ told v
+Tells told (Ok v) (Err e) = ⊥
+Tells told (Err why) result = TellsRefusal why result
 
 abbrev pub service_state : Service → State
 service_state s = state_of s.session

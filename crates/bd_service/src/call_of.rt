@@ -5,12 +5,13 @@ ghost use Rattle.bd_value.specs.View.{pairs};
 ghost use Rattle.bd_bson.specs.Collection.{bytes_of, documents};
 ghost use Rattle.bd_bson.specs.declared.collection.Dump.{Dump};
 ghost use Rattle.bd_command.specs.CommandView.{command_tree, find_tree, hint_tree};
+ghost use Rattle.bd_cursor.specs.AccessPath.{way_of};
 ghost use Rattle.bd_cursor.specs.SessionView.{marked_token};
 ghost use Rattle.bd_path.specs.Path.{path_of};
 ghost use Rattle.bd_request.specs.Request.{AsksFor};
 ghost use Rattle.bd_request.specs.Token.{token_of};
-ghost use Rattle.bd_service.specs.CallOf.{call_of, hint_part, path_part, request_part, search_of, token_part};
-ghost use Rattle.bd_service.specs.CallView.{IsSearch, RefusesPart, choice_hint, session_call};
+ghost use Rattle.bd_service.specs.CallOf.{call_of, hint_part, path_part, request_part, search_of, token_part, way_by};
+ghost use Rattle.bd_service.specs.CallView.{IsSearch, RefusesPart, session_call};
 
 use crate::call::Call;
 use crate::call_fault::CallFault;
@@ -91,7 +92,7 @@ fn read_request(
 
 /// How documents are to be found.
 fn read_choice(alloc: Global, hint: Hint) -> Result<Choice, CallFault>
-    ensures choice { IfOk result (λ choice. choice_hint choice ≡ hint_tree hint) }
+    ensures choice { IfOk result (λ choice. way_of choice ≡ way_by (hint_tree hint)) }
     ensures there { OnOk result (hint_part (hint_tree hint) ≡ Ok tt) }
     ensures fault { IfErr result (RefusesPart (hint_part (hint_tree hint))) }
 {

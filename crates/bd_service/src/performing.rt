@@ -1,9 +1,8 @@
 //! A call made on a session, and its reply.
 
-ghost use Rattle.std.specs.Prelude.{◌≡◌, IfErr, IfOk, IsErrOf, OnErr, OnOk};
 ghost use Rattle.bd_service.specs.CallView.{session_call};
-ghost use Rattle.bd_service.specs.ServiceView.{IsRefusalOf, Performs};
-ghost use Rattle.bd_cursor.specs.SessionView.{dump_of, state_of};
+ghost use Rattle.bd_service.specs.ServiceView.{IsPerformed, Tells, TellsRefusal};
+ghost use Rattle.bd_cursor.specs.SessionView.{dump_of};
 
 use crate::call::Call;
 use bd_cursor::{Made, Refused, Session};
@@ -13,9 +12,7 @@ use std::alloc::AllocError;
 
 /// Makes a call. It fails for want of memory alone, and then the session is as it was.
 pub(crate) fn perform(session: &mut Session, call: Call) -> Result<Reply, NoMemory>
-    ensures performs { IfOk result (λ r. Performs session.old (session_call (dump_of session.old) call) r session.new) }
-    ensures unchanged { OnErr result (state_of session.new ≡ state_of session.old) }
-    ensures dump { dump_of session.new ≡ dump_of session.old }
+    ensures performs { IsPerformed (session_call (dump_of session.old) call) session.old result session.new }
 {
     match call {
         Call::CreateIndex {
@@ -40,9 +37,7 @@ pub(crate) fn perform(session: &mut Session, call: Call) -> Result<Reply, NoMemo
 
 /// The reply of a call that makes an index.
 fn made(made: Result<Made, Refused>) -> Result<Reply, NoMemory>
-    ensures ok { IfOk made (λ m. IfOk result (λ r. r ≡ Reply.Made m)) }
-    ensures refused { IfErr made (λ why. IfOk result (IsRefusalOf why)) }
-    ensures starved { OnErr result (IsErrOf made Refused.NoMemory) }
+    ensures { Tells Reply.Made made result }
 {
     match made {
         Ok(made) => Ok(Reply::Made(made)),
@@ -52,9 +47,7 @@ fn made(made: Result<Made, Refused>) -> Result<Reply, NoMemory>
 
 /// The reply of a call that opens a cursor.
 fn opened(opened: Result<u64, Refused>) -> Result<Reply, NoMemory>
-    ensures ok { IfOk opened (λ id. IfOk result (λ r. r ≡ Reply.Opened id)) }
-    ensures refused { IfErr opened (λ why. IfOk result (IsRefusalOf why)) }
-    ensures starved { OnErr result (IsErrOf opened Refused.NoMemory) }
+    ensures { Tells Reply.Opened opened result }
 {
     match opened {
         Ok(id) => Ok(Reply::Opened(id)),
@@ -64,9 +57,7 @@ fn opened(opened: Result<u64, Refused>) -> Result<Reply, NoMemory>
 
 /// The reply of a call that gives nothing.
 fn done(done: Result<(), Refused>) -> Result<Reply, NoMemory>
-    ensures ok { OnOk done (IfOk result (λ r. r ≡ Reply.Done)) }
-    ensures refused { IfErr done (λ why. IfOk result (IsRefusalOf why)) }
-    ensures starved { OnErr result (IsErrOf done Refused.NoMemory) }
+    ensures { Tells (λ _. Reply.Done) done result }
 {
     match done {
         Ok(()) => Ok(Reply::Done),
@@ -76,8 +67,7 @@ fn done(done: Result<(), Refused>) -> Result<Reply, NoMemory>
 
 /// The reply of a call that is refused; want of memory is no reply's.
 fn refuse(refused: Refused) -> Result<Reply, NoMemory>
-    ensures told { IfOk result (IsRefusalOf refused) }
-    ensures starved { OnErr result (refused ≡ Refused.NoMemory) }
+    ensures { TellsRefusal refused result }
 {
     match refused {
         Refused::NoMemory => Err(AllocError),

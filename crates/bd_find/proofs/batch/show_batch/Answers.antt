@@ -20,35 +20,35 @@ pub write_documents-requires : goal.write_documents-requires
 write_documents-requires g c =
     let n = c.most_of.result in
     let ready = c.requires.ready in
-    let is = given_is (state_of c.args.session.now) c.args.id n ready.cursor c.args.size (given_batch c.in-Ok.batch) c.most_of.ensures c.requires.fits ready.is_there c.in-Ok.ensures.batch in
+    let is = given_is (state_of c.args.session.now) c.args.id n ready.cursor c.args.size (given_batch c.in-Ok.batch) c.most_of.ensures c.requires.fits ready.is_there c.in-Ok.ensures.steps.replies in
     let places = c.deref.ensures.value ∙ ap (λ (b : GivenBatch). b.places) is in
-    rw (c.dump.ensures, c.next.ensures.dump) (taken_inside (length (documents (dump_of c.args.session.now))) n ready.cursor.left c.deref.result.now ready.inside places)
+    rw (c.dump.ensures, c.in-Ok.ensures.steps.dump) (taken_inside (length (documents (dump_of c.args.session.now))) n ready.cursor.left c.deref.result.now ready.inside places)
 
 pub returns-in-Ok-write_documents : goal.returns-in-Ok-write_documents
 returns-in-Ok-write_documents g c = λ cursor there.
     let ds = documents (dump_of c.args.session.now) in
     let b = given_batch c.in-Ok.batch in
-    let is = batch_given (state_of c.args.session.now) c.args.id c.most_of.result (length ds) c.args.size b c.requires.ready c.most_of.ensures c.requires.fits c.in-Ok.ensures.batch cursor there in
+    let is = batch_given (state_of c.args.session.now) c.args.id c.most_of.result (length ds) c.args.size b c.requires.ready c.most_of.ensures c.requires.fits c.in-Ok.ensures.steps.replies cursor there in
     let given : c.deref.result.now ≡ at_most c.args.size cursor.left = c.deref.ensures.value ∙ is.places in
-    let wrote : TakesText (over g.O.Output.state c.args.out.now c.write_documents.new.out) (lines (documents_at ds (at_most c.args.size cursor.left))) = rw (c.dump.ensures, c.next.ensures.dump, given) at c.in-Ok-write_documents.ensures.wrote in
+    let wrote : TakesText (over g.O.Output.state c.args.out.now c.write_documents.new.out) (lines (documents_at ds (at_most c.args.size cursor.left))) = rw (c.dump.ensures, c.in-Ok.ensures.steps.dump, given) at c.in-Ok-write_documents.ensures.wrote in
     all_shown (g.O.Output.state c.args.out.now) (g.O.Output.state c.write_documents.new.out) (g.E.Output.state c.args.err.now) (g.E.Output.state c.tell_batch.new.err) _ (shown_batch c.args.size ds cursor) wrote (rw (is.places, is.ends, is.token) at c.tell_batch.ensures)
 
 pub returns-in-Err-NoMemory : goal.returns-in-Err-NoMemory
 returns-in-Err-NoMemory g c = λ cursor there.
     let ds = documents (dump_of c.args.session.now) in
     let b = given_batch c.in-Ok.batch in
-    let is = batch_given (state_of c.args.session.now) c.args.id c.most_of.result (length ds) c.args.size b c.requires.ready c.most_of.ensures c.requires.fits c.in-Ok.ensures.batch cursor there in
+    let is = batch_given (state_of c.args.session.now) c.args.id c.most_of.result (length ds) c.args.size b c.requires.ready c.most_of.ensures c.requires.fits c.in-Ok.ensures.steps.replies cursor there in
     let given : c.deref.result.now ≡ at_most c.args.size cursor.left = c.deref.ensures.value ∙ is.places in
     let stops = rw c.in-Err-NoMemory.field-0-is at c.in-Err-NoMemory.ensures.stops in
-    let front : TakesFront (over g.O.Output.state c.args.out.now c.write_documents.new.out) (lines (documents_at ds (at_most c.args.size cursor.left))) = rw (c.dump.ensures, c.next.ensures.dump, given) at stops in
+    let front : TakesFront (over g.O.Output.state c.args.out.now c.write_documents.new.out) (lines (documents_at ds (at_most c.args.size cursor.left))) = rw (c.dump.ensures, c.in-Ok.ensures.steps.dump, given) at stops in
     inr (front, c.tell_no_memory-in-Err-NoMemory.ensures)
 
 pub returns : goal.returns
 returns g c = λ cursor there.
     let ds = documents (dump_of c.args.session.now) in
     let b = given_batch c.in-Ok.batch in
-    let is = batch_given (state_of c.args.session.now) c.args.id c.most_of.result (length ds) c.args.size b c.requires.ready c.most_of.ensures c.requires.fits c.in-Ok.ensures.batch cursor there in
+    let is = batch_given (state_of c.args.session.now) c.args.id c.most_of.result (length ds) c.args.size b c.requires.ready c.most_of.ensures c.requires.fits c.in-Ok.ensures.steps.replies cursor there in
     let given : c.deref.result.now ≡ at_most c.args.size cursor.left = c.deref.ensures.value ∙ is.places in
     let stops = rw c.in-Err-Unwritten.field-0-is at c.in-Err-Unwritten.ensures.stops in
-    let broke : BreaksWithin (over g.O.Output.state c.args.out.now c.write_documents.new.out) (lines (documents_at ds (at_most c.args.size cursor.left))) = rw (c.dump.ensures, c.next.ensures.dump, given) at stops in
+    let broke : BreaksWithin (over g.O.Output.state c.args.out.now c.write_documents.new.out) (lines (documents_at ds (at_most c.args.size cursor.left))) = rw (c.dump.ensures, c.in-Ok.ensures.steps.dump, given) at stops in
     inl (inr (broke, c.tell_unwritten.ensures))

@@ -6,7 +6,7 @@ use Rattle.bd_bson.specs.Collection.{documents}
 use Rattle.bd_path.specs.Sort.{sort_paths}
 use Rattle.bd_filter.specs.FilterView.{filter_tree}
 use Rattle.bd_index.specs.IndexView.{IsIndexOf}
-use Rattle.bd_cursor.specs.AccessPath.{access_of}
+use Rattle.bd_cursor.specs.AccessPath.{access_of, way_of}
 use Rattle.bd_cursor.specs.Explanation.{index_mark}
 use Rattle.bd_cursor.proofs.AccessChoiceLemmas.{if_ok}
 use Rattle.bd_cursor.proofs.IndexesLemmas.{access_elsewhere, access_named, found_below}
@@ -25,7 +25,7 @@ returns-in-Some-clause-path c =
     let lt : k < length is = found_below path is k i c.in-Some.ensures.found in
     let of_dump : IsIndexOf dump i = subst (IsIndexOf dump) (sym c.index-indexes-position.is) (c.requires k i lt) in
     if_ok c.named_access.result
-    (λ a every. (every dump of_dump).is ∙ access_named ds f ss path is k i c.in-Some.ensures.found c.index-indexes-position.is ∙ ap (λ ch. access_of ds f ss ch (map index_mark is)) (sym c.in-Index.is))
+    (λ a every. (every dump of_dump).is ∙ access_named ds f ss path is k i c.in-Some.ensures.found c.index-indexes-position.is ∙ ap (λ ch. access_of ds f ss (way_of ch) (map index_mark is)) (sym c.in-Index.is))
     c.named_access.ensures
 
 pub returns-in-None-clause-path : goal.returns-in-None-clause-path
@@ -36,4 +36,4 @@ returns-in-None-clause-path c =
     let marks = map index_mark c.args.indexes.now in
     let path = string_bytes c.in-Index.path.text in
     let none : list_any (is_on path) marks ≡ false = sym c.in-None.ensures.there in
-    sym (access_elsewhere ds f ss path marks none) ∙ ap (λ ch. access_of ds f ss ch marks) (sym c.in-Index.is)
+    sym (access_elsewhere ds f ss path marks none) ∙ ap (λ ch. access_of ds f ss (way_of ch) marks) (sym c.in-Index.is)

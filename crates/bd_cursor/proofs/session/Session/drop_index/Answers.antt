@@ -1,15 +1,23 @@
-use Rattle.std.proofs.Common.{rules, ◌≡◌, ◌∙◌, ap, filter, map, not, string_bytes}
+use Rattle.std.proofs.Common.{rules, ◌≡◌, ◌∙◌, ap, sym, filter, map, not, string_bytes}
 use Rattle.std.proofs.lemmas.Fn.{filter_same}
-use Rattle.bd_answer.specs.Session.{is_on}
+use Rattle.bd_answer.specs.Session.{changed_by, drop_call, dropped, is_on, reply}
 use Rattle.bd_index.specs.declared.index.Index.{Index}
 use Rattle.bd_cursor.specs.Explanation.{index_mark}
 use Rattle.bd_cursor.specs.SessionView.{state_of}
 use Rattle.bd_cursor.proofs.SessionLemmas.{marks_kept, with_marks}
 use Rattle.bd_cursor.proofs.session.Session.drop_index.Goals as goal
 
-pub returns-clause-after : goal.returns-clause-after
-returns-clause-after c =
+pub returns : goal.returns
+returns c =
     let path = string_bytes c.args.path.now.text in
+    let s = state_of c.args.self.now in
     let kept : c.retain.new.self.items ≡ filter (λ (i : Index). not (is_on path (index_mark i))) c.args.self.now.indexes.items =
     filter_same _ (λ (i : Index). not (is_on path (index_mark i))) _ (λ i b f r. search rules) _ _ c.retain.ensures.filtered in
-    with_marks (state_of c.args.self.now) _ _ (ap (map index_mark) kept ∙ marks_kept path c.args.self.now.indexes.items)
+    let replies : reply s (drop_call path) ≡ dropped = search rules in
+    record {
+      steps = record {
+        replies = replies;
+        moves = with_marks s _ _ (ap (map index_mark) kept ∙ marks_kept path c.args.self.now.indexes.items) ∙ ap (λ r. changed_by r (drop_call path) s) (sym replies);
+        dump = search rules;
+      };
+    }
