@@ -1,5 +1,6 @@
 -- What is found over documents: those that match, in their stable order, from skip on up to limit.
-use Rattle.std.proofs.Common.{◌≡◌, ◌==◌, ◌+◌, ◌-◌, ◌<◌, ℕ, Bool, true, false, cond, List, [], ◌∷◌, length, take, drop, map, inl, inr, refl, sym, ap, ◌∙◌, filter, arith, zero, suc, Option, Some, Ordering, nat_cmp, add-zero}
+use Rattle.std.proofs.Common.{◌≡◌, ◌==◌, ◌+◌, ◌-◌, ◌<◌, ℕ, Bool, true, false, cond, List, [], ◌∷◌, length, take, drop, map, inl, inr, refl, sym, ap, ◌∙◌}
+use Rattle.std.proofs.Common.{filter, arith, zero, suc, Option, Some, Ordering, nat_cmp, add-zero}
 use Rattle.std.specs.Prelude.{slice_get}
 use Rattle.std.specs.List.{range_with_len, filter_map}
 use Rattle.std.specs.Option.{option_cmp}
@@ -32,13 +33,16 @@ after_higher by p q l =
     go Greater = refl
 
 -- insertion of places is insertion of what stands there
-map_insert : {B : Type 0} (at : ℕ → B) (by : B → B → Ordering) (p : ℕ) (qs : List ℕ) → ((q : ℕ) → In q qs → q < p) → map at (insert (before (λ i j. by (at i) (at j))) p qs) ≡ put (earlier by) (at p) (map at qs)
+map_insert : {B : Type 0} (at : ℕ → B) (by : B → B → Ordering) (p : ℕ) (qs : List ℕ) → ((q : ℕ) → In q qs → q < p)
+    → map at (insert (before (λ i j. by (at i) (at j))) p qs) ≡ put (earlier by) (at p) (map at qs)
 map_insert at by p [] h = refl
 map_insert at by p (q ∷ qs) h =
     let e : before (λ i j. by (at i) (at j)) p q ≡ earlier by (at p) (at q) = after_higher (λ i j. by (at i) (at j)) p q (h q (inl refl)) in
     rw e (go (map_insert at by p qs (λ z i. h z (inr i))) (earlier by (at p) (at q)))
   where
-    go : map at (insert (before (λ i j. by (at i) (at j))) p qs) ≡ put (earlier by) (at p) (map at qs) → (b : Bool) → map at (cond b (p ∷ q ∷ qs) (q ∷ insert (before (λ i j. by (at i) (at j))) p qs)) ≡ cond b (at p ∷ at q ∷ map at qs) (at q ∷ put (earlier by) (at p) (map at qs))
+    go : map at (insert (before (λ i j. by (at i) (at j))) p qs) ≡ put (earlier by) (at p) (map at qs) → (b : Bool)
+        → map at (cond b (p ∷ q ∷ qs) (q ∷ insert (before (λ i j. by (at i) (at j))) p qs))
+        ≡ cond b (at p ∷ at q ∷ map at qs) (at q ∷ put (earlier by) (at p) (map at qs))
     go rest true = refl
     go rest false = ap (λ zs. at q ∷ zs) rest
 
@@ -52,9 +56,14 @@ map_insert_all at by test k (suc n) kept h =
     ∙ ap (λ zs. put_all (earlier by) zs (filter test (map at (range_with_len (k + 1) n)))) (map_insert at by k kept h))
     (map_insert_all at by test (k + 1) n kept (λ q i. let f = h q i in omega arith)) (test (at k))
   where
-    go : map at (insert_all (before (λ i j. by (at i) (at j))) (insert (before (λ i j. by (at i) (at j))) k kept) (filter (λ i. test (at i)) (range_with_len (k + 1) n))) ≡ put_all (earlier by) (put (earlier by) (at k) (map at kept)) (filter test (map at (range_with_len (k + 1) n)))
-        → map at (insert_all (before (λ i j. by (at i) (at j))) kept (filter (λ i. test (at i)) (range_with_len (k + 1) n))) ≡ put_all (earlier by) (map at kept) (filter test (map at (range_with_len (k + 1) n)))
-        → (b : Bool) → map at (insert_all (before (λ i j. by (at i) (at j))) kept (cond b (k ∷ filter (λ i. test (at i)) (range_with_len (k + 1) n)) (filter (λ i. test (at i)) (range_with_len (k + 1) n)))) ≡ put_all (earlier by) (map at kept) (cond b (at k ∷ filter test (map at (range_with_len (k + 1) n))) (filter test (map at (range_with_len (k + 1) n))))
+    go : map at (insert_all (before (λ i j. by (at i) (at j))) (insert (before (λ i j. by (at i) (at j))) k kept)
+        (filter (λ i. test (at i)) (range_with_len (k + 1) n))) ≡ put_all (earlier by) (put (earlier by) (at k) (map at kept))
+        (filter test (map at (range_with_len (k + 1) n)))
+        → map at (insert_all (before (λ i j. by (at i) (at j))) kept (filter (λ i. test (at i)) (range_with_len (k + 1) n)))
+        ≡ put_all (earlier by) (map at kept) (filter test (map at (range_with_len (k + 1) n)))
+        → (b : Bool) → map at (insert_all (before (λ i j. by (at i) (at j))) kept
+        (cond b (k ∷ filter (λ i. test (at i)) (range_with_len (k + 1) n)) (filter (λ i. test (at i)) (range_with_len (k + 1) n))))
+        ≡ put_all (earlier by) (map at kept) (cond b (at k ∷ filter test (map at (range_with_len (k + 1) n))) (filter test (map at (range_with_len (k + 1) n))))
     go kept_on left_out true = kept_on
     go kept_on left_out false = left_out
 
@@ -70,7 +79,9 @@ filter_somes : {A : Type 0} (test : A → Bool) (ds : List A) → filter (matche
 filter_somes test [] = refl
 filter_somes test (d ∷ ds) = go (filter_somes test ds) (test d)
   where
-    go : filter (matches_some test) (map (λ d. Some d) ds) ≡ map (λ d. Some d) (filter test ds) → (b : Bool) → cond b (Some d ∷ filter (matches_some test) (map (λ d. Some d) ds)) (filter (matches_some test) (map (λ d. Some d) ds)) ≡ map (λ d. Some d) (cond b (d ∷ filter test ds) (filter test ds))
+    go : filter (matches_some test) (map (λ d. Some d) ds) ≡ map (λ d. Some d) (filter test ds) → (b : Bool)
+        → cond b (Some d ∷ filter (matches_some test) (map (λ d. Some d) ds)) (filter (matches_some test) (map (λ d. Some d) ds))
+        ≡ map (λ d. Some d) (cond b (d ∷ filter test ds) (filter test ds))
     go rest true = ap (λ zs. Some d ∷ zs) rest
     go rest false = rest
 
@@ -78,11 +89,14 @@ put_somes : {A : Type 0} (by : A → A → Ordering) (x : A) (ys : List A) → p
 put_somes by x [] = refl
 put_somes by x (y ∷ ys) = go (put_somes by x ys) (earlier by x y)
   where
-    go : put (earlier (option_cmp by)) (Some x) (map (λ d. Some d) ys) ≡ map (λ d. Some d) (put (earlier by) x ys) → (b : Bool) → cond b (Some x ∷ Some y ∷ map (λ d. Some d) ys) (Some y ∷ put (earlier (option_cmp by)) (Some x) (map (λ d. Some d) ys)) ≡ map (λ d. Some d) (cond b (x ∷ y ∷ ys) (y ∷ put (earlier by) x ys))
+    go : put (earlier (option_cmp by)) (Some x) (map (λ d. Some d) ys) ≡ map (λ d. Some d) (put (earlier by) x ys) → (b : Bool)
+        → cond b (Some x ∷ Some y ∷ map (λ d. Some d) ys) (Some y ∷ put (earlier (option_cmp by)) (Some x) (map (λ d. Some d) ys))
+        ≡ map (λ d. Some d) (cond b (x ∷ y ∷ ys) (y ∷ put (earlier by) x ys))
     go rest true = refl
     go rest false = ap (λ zs. Some y ∷ zs) rest
 
-put_all_somes : {A : Type 0} (by : A → A → Ordering) (kept xs : List A) → put_all (earlier (option_cmp by)) (map (λ d. Some d) kept) (map (λ d. Some d) xs) ≡ map (λ d. Some d) (put_all (earlier by) kept xs)
+put_all_somes : {A : Type 0} (by : A → A → Ordering) (kept xs : List A)
+    → put_all (earlier (option_cmp by)) (map (λ d. Some d) kept) (map (λ d. Some d) xs) ≡ map (λ d. Some d) (put_all (earlier by) kept xs)
 put_all_somes by kept [] = refl
 put_all_somes by kept (x ∷ xs) = ap (λ zs. put_all (earlier (option_cmp by)) zs (map (λ d. Some d) xs)) (put_somes by x kept) ∙ put_all_somes by (put (earlier by) x kept) xs
 

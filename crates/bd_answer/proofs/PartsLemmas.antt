@@ -59,7 +59,8 @@ filter_three : {A : Type 0} (test : A → Bool) (xs ys zs : List A) → filter t
 filter_three test xs ys zs = filter-append test xs (ys ++ zs) ∙ ap (λ ws. filter test xs ++ ws) (filter-append test ys zs)
 
 -- what is found in three stretches
-found_three : {A : Type 0} (r : DocumentRequest A) (xs ys zs : List A) → found_in r (xs ++ (ys ++ zs)) ≡ window r.limit r.skip (stable (earlier r.by) (filter r.matches xs ++ (filter r.matches ys ++ filter r.matches zs)))
+found_three : {A : Type 0} (r : DocumentRequest A) (xs ys zs : List A)
+    → found_in r (xs ++ (ys ++ zs)) ≡ window r.limit r.skip (stable (earlier r.by) (filter r.matches xs ++ (filter r.matches ys ++ filter r.matches zs)))
 found_three r xs ys zs = found_is r (xs ++ (ys ++ zs)) ∙ ap (λ ws. window r.limit r.skip (stable (earlier r.by) ws)) (filter_three r.matches xs ys zs)
 
 -- what a part gives
@@ -77,14 +78,16 @@ of_part_some : {A : Type 0} (r : DocumentRequest A) (k : ℕ) (ds : List A) → 
 of_part_some r k ds = found_is (part_request r (suc k)) ds ∙ window_some k (stable (earlier r.by) (filter r.matches ds))
 
 with_part : {A : Type 0} (r : DocumentRequest A) (xs ys zs given : List A) → Pass r.matches given
-    → window r.limit r.skip (stable (earlier r.by) (filter r.matches xs ++ (filter r.matches ys ++ filter r.matches zs))) ≡ window r.limit r.skip (stable (earlier r.by) (filter r.matches xs ++ (given ++ filter r.matches zs)))
+    → window r.limit r.skip (stable (earlier r.by) (filter r.matches xs ++ (filter r.matches ys ++ filter r.matches zs)))
+    ≡ window r.limit r.skip (stable (earlier r.by) (filter r.matches xs ++ (given ++ filter r.matches zs)))
     → found_in r (xs ++ (ys ++ zs)) ≡ found_in r (xs ++ (given ++ zs))
 with_part r xs ys zs given h e =
     found_three r xs ys zs ∙ e
     ∙ ap (λ ws. window r.limit r.skip (stable (earlier r.by) (filter r.matches xs ++ (ws ++ filter r.matches zs)))) (sym (filter_pass r.matches given h))
     ∙ sym (found_three r xs given zs)
 
-pub stretch_gives : {A : Type 0} (r : DocumentRequest A) → IsTotalOrder r.by → (limit : ℕ) → IsEnough r limit → (xs ys zs : List A) → found_in r (xs ++ (ys ++ zs)) ≡ found_in r (xs ++ (found_in (part_request r limit) ys ++ zs))
+pub stretch_gives : {A : Type 0} (r : DocumentRequest A) → IsTotalOrder r.by → (limit : ℕ) → IsEnough r limit → (xs ys zs : List A)
+    → found_in r (xs ++ (ys ++ zs)) ≡ found_in r (xs ++ (found_in (part_request r limit) ys ++ zs))
 stretch_gives r o zero enough xs ys zs =
     let lt = earlier r.by in
     let w = ranks_by o (λ d. d) in

@@ -53,5 +53,6 @@ answer_gives r ds a h =
     (answer_alike a (selection_over r ds)
     (ordered_alike a (selection_over r ds) h.count
     (λ p l. let x = document_at ds p l in h.hits p x.0 x.1 ∙ ap (matches_some r.matches) (sym x.1))
-    (λ p q l m. let x = document_at ds p l in let y = document_at ds q m in h.by p q x.0 y.0 x.1 y.1 ∙ ap (λ o. option_cmp r.by o (Some y.0)) (sym x.1) ∙ ap (option_cmp r.by (slice_get ds p)) (sym y.1)))
+    (λ p q l m. let x = document_at ds p l in let y = document_at ds q m in h.by p q x.0 y.0 x.1 y.1
+    ∙ ap (λ o. option_cmp r.by o (Some y.0)) (sym x.1) ∙ ap (option_cmp r.by (slice_get ds p)) (sym y.1)))
     h.skip h.limit)

@@ -74,7 +74,8 @@ named_other ds f ss m h = ap (λ b. cond b (bounded m (mark_bounds ds f m)) (con
 
 -- ---- the first index that serves
 
-pub first_is : (ds : List Doc) (f : Filter) (m : IndexMark) (ms : List IndexMark) (other : AccessPath) (keys : KeySet) → ServesBy m (mark_bounds ds f m) keys → bounded m (Some keys) ≡ first_bounded ds f (m ∷ ms) other
+pub first_is : (ds : List Doc) (f : Filter) (m : IndexMark) (ms : List IndexMark) (other : AccessPath) (keys : KeySet)
+    → ServesBy m (mark_bounds ds f m) keys → bounded m (Some keys) ≡ first_bounded ds f (m ∷ ms) other
 first_is ds f m ms other keys s =
     ap (bounded m) (sym s.are) ∙ sym (ap (λ b. cond b (bounded m (mark_bounds ds f m)) (first_bounded ds f ms other)) s.passes)
 

@@ -110,7 +110,8 @@ from_place sparse path test (d ∷ ds) s (suc k) p e =
     let ks = indexed_keys sparse (doc (fields_of d)) path in
     let other : s ≢ p = omega arith in
     any_in (λ (x : KeyAt). test x.0 && (x.1 == p)) (keys_at s ks) (entries_from sparse path (s + 1) ds)
-    ∙ ap₂ (λ (a b : Bool). a || b) (any_at test s p ks ∙ ap (λ (b : Bool). list_any test ks && b) (ne_eqb s p other) ∙ and_false (list_any test ks)) (from_place sparse path test ds (s + 1) k p (omega arith))
+    ∙ ap₂ (λ (a b : Bool). a || b) (any_at test s p ks ∙ ap (λ (b : Bool). list_any test ks && b) (ne_eqb s p other) ∙ and_false (list_any test ks))
+    (from_place sparse path test ds (s + 1) k p (omega arith))
     ∙ ap (λ (b : Bool). b && list_any test (indexed_keys sparse (document_at ds k) path)) (next_lt k (length ds))
 
 -- ---- the keys of a document that matches
@@ -207,7 +208,8 @@ keeps : (f : Filter) (i : Index) (b : KeyBounds) → ServesFilter f i b → Keep
 keeps f i None h = h
 keeps f i (Some set) h = h
 
-pub index_source : (dump : Dump) (r : Request) (i : Index) (b : KeyBounds) (ps : List ℕ) (entries : ℕ) → HasMatchesWithin dump r i b → AreWithin i.sparse (names_of i.path) (documents dump) b ps entries
+pub index_source : (dump : Dump) (r : Request) (i : Index) (b : KeyBounds) (ps : List ℕ) (entries : ℕ) → HasMatchesWithin dump r i b
+    → AreWithin i.sparse (names_of i.path) (documents dump) b ps entries
     → IsSource (length (documents dump)) (hits_of (documents dump) (filter_tree r.filter)) ps
 index_source dump r i b ps entries h w =
     serving_source i.sparse (names_of i.path) i.multikey (documents dump) (filter_tree r.filter) b ps entries h.of_dump.many (keeps (filter_tree r.filter) i b h.serves) w

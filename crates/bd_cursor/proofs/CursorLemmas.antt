@@ -11,12 +11,14 @@ module _ (dump : Dump) where
   none_before id [] i l none = refl
   none_before id (c ∷ cs) i l none = rw (ne_eqb c.id id (none 0 c (omega arith))) (none_before id cs (i - 1) (omega arith) (λ k d m. none (suc k) d (omega arith)))
 
-  pub cursor_at : (id : ℕ) (cs : List Cursor) (i : ℕ) (e : Cursor) → i < length cs → ((k : ℕ) (d : Cursor) → k < i → (get_or cs k d).id ≡ id → ⊥) → (get_or cs i e).id ≡ id → cursor_of id (map (open_cursor dump) cs) ≡ slice_get (map (open_cursor dump) cs) i
+  pub cursor_at : (id : ℕ) (cs : List Cursor) (i : ℕ) (e : Cursor) → i < length cs → ((k : ℕ) (d : Cursor) → k < i → (get_or cs k d).id ≡ id → ⊥)
+      → (get_or cs i e).id ≡ id → cursor_of id (map (open_cursor dump) cs) ≡ slice_get (map (open_cursor dump) cs) i
   cursor_at id [] i e l none here = absurd (omega arith)
   cursor_at id (c ∷ cs) zero e l none here = rw (eq-eqb c.id id here) refl
   cursor_at id (c ∷ cs) (suc i) e l none here = rw (ne_eqb c.id id (none 0 c (omega arith))) (cursor_at id cs i e (omega arith) (λ k d m. none (suc k) d (omega arith)) here)
 
-  pub moved_at : (id n : ℕ) (cs : List Cursor) (i : ℕ) (e : Cursor) (d : OpenCursor) → i < length cs → ((k : ℕ) (d : Cursor) → k < i → (get_or cs k d).id ≡ id → ⊥) → (get_or cs i e).id ≡ id → cursor_of id (map (open_cursor dump) cs) ≡ Some d
+  pub moved_at : (id n : ℕ) (cs : List Cursor) (i : ℕ) (e : Cursor) (d : OpenCursor) → i < length cs
+      → ((k : ℕ) (d : Cursor) → k < i → (get_or cs k d).id ≡ id → ⊥) → (get_or cs i e).id ≡ id → cursor_of id (map (open_cursor dump) cs) ≡ Some d
       → with_moved id n (map (open_cursor dump) cs) ≡ slice_set (map (open_cursor dump) cs) i (moved d n)
   moved_at id n [] i e d l none here h = absurd (omega arith)
   moved_at id n (c ∷ cs) zero e d l none here h =
@@ -31,7 +33,9 @@ module _ (dump : Dump) where
   without_filter id [] = refl
   without_filter id (c ∷ cs) = go (without_filter id cs) (c.id == id)
     where
-      go : map (open_cursor dump) (filter (λ (c : Cursor). not (c.id == id)) cs) ≡ without id (map (open_cursor dump) cs) → (b : Bool) → map (open_cursor dump) (cond (not b) (c ∷ filter (λ (c : Cursor). not (c.id == id)) cs) (filter (λ (c : Cursor). not (c.id == id)) cs)) ≡ cond b (without id (map (open_cursor dump) cs)) (open_cursor dump c ∷ without id (map (open_cursor dump) cs))
+      go : map (open_cursor dump) (filter (λ (c : Cursor). not (c.id == id)) cs) ≡ without id (map (open_cursor dump) cs) → (b : Bool)
+          → map (open_cursor dump) (cond (not b) (c ∷ filter (λ (c : Cursor). not (c.id == id)) cs) (filter (λ (c : Cursor). not (c.id == id)) cs))
+          ≡ cond b (without id (map (open_cursor dump) cs)) (open_cursor dump c ∷ without id (map (open_cursor dump) cs))
       go h true = h
       go h false = ap (λ xs. open_cursor dump c ∷ xs) h
 

@@ -91,13 +91,15 @@ told_as k o p a b c d m n e f g h = λ i. record { plan = k; index = e i; entrie
 pub matches_of_all : (ds : List Doc) (r : Request) (n : ℕ) → n ≡ count_by (hits_of ds (filter_tree r.filter)) (range_with_len 0 (length ds)) → n ≡ length (matching (selection_of ds r))
 matches_of_all ds r n h = h ∙ sym (length-filter (hits_of ds (filter_tree r.filter)) (range_with_len 0 (length ds)))
 
-abbrev named : (i : Index) (ds : List Doc) (b : KeyBounds) (ps : List ℕ) (entries : ℕ) → AreWithin i.sparse (names_of i.path) ds b ps entries → AreWithin i.sparse (mark_names (index_mark i)) ds b ps entries
+abbrev named : (i : Index) (ds : List Doc) (b : KeyBounds) (ps : List ℕ) (entries : ℕ) → AreWithin i.sparse (names_of i.path) ds b ps entries
+    → AreWithin i.sparse (mark_names (index_mark i)) ds b ps entries
 named i ds b ps entries w = subst (λ (n : Names). AreWithin i.sparse n ds b ps entries) i.path.cut w
 
 pub entries_read : (i : Index) (ds : List Doc) (b : KeyBounds) (ps : List ℕ) (entries : ℕ) → AreWithin i.sparse (names_of i.path) ds b ps entries → entries ≡ entries_within ds (index_mark i) b
 entries_read i ds b ps entries w = (named i ds b ps entries w).counted
 
-pub places_read : (i : Index) (ds : List Doc) (b : KeyBounds) (ps : List ℕ) (entries : ℕ) → AreWithin i.sparse (names_of i.path) ds b ps entries → length ps ≡ length (places_within ds (index_mark i) b)
+pub places_read : (i : Index) (ds : List Doc) (b : KeyBounds) (ps : List ℕ) (entries : ℕ) → AreWithin i.sparse (names_of i.path) ds b ps entries
+    → length ps ≡ length (places_within ds (index_mark i) b)
 places_read i ds b ps entries w = ap (λ (l : List ℕ). length l) (all_within i.sparse (mark_names (index_mark i)) ds b ps entries (named i ds b ps entries w))
 
 pub entries_walked : (i : Index) (ds : List Doc) (n : ℕ) → n ≡ length (entries_of i.sparse (names_of i.path) ds) → n ≡ (index_counts ds (index_mark i)).entries

@@ -54,7 +54,8 @@ pub access_elsewhere : (ds : List Doc) (f : Filter) (ss : List SortPath) (path :
 access_elsewhere ds f ss path [] none = refl
 access_elsewhere ds f ss path (m ∷ ms) none = go (is_on path m) none (access_elsewhere ds f ss path ms)
   where
-    go : (b : Bool) → (b || list_any (is_on path) ms) ≡ false → (list_any (is_on path) ms ≡ false → access_on ds f ss path ms ≡ scanned) → cond b (named_access ds f ss m) (access_on ds f ss path ms) ≡ scanned
+    go : (b : Bool) → (b || list_any (is_on path) ms) ≡ false → (list_any (is_on path) ms ≡ false → access_on ds f ss path ms ≡ scanned)
+        → cond b (named_access ds f ss m) (access_on ds f ss path ms) ≡ scanned
     go true h rest = absurd (let e : true ≡ false = h in cc)
     go false h rest = rest h
 

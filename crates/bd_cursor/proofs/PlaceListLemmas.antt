@@ -25,14 +25,16 @@ all_of n xs ys e l =
 pub all_left : (a : Selection) (xs : List ℕ) → a.limit ≡ 0 → xs ≡ places_after a None → drop (min a.skip (length xs)) xs ≡ answer a
 all_left a xs e f = drop_min a.skip xs ∙ ap (drop a.skip) (f ∙ all_places a) ∙ sym (rw e refl)
 
-pub some_left : (a : Selection) (xs : List ℕ) (most greatest : ℕ) → (a.limit ≡ 0 → ⊥) → length xs < greatest → most ≡ min greatest (a.skip + a.limit) → xs ≡ take most (places_after a None) → drop (min a.skip (length xs)) xs ≡ answer a
+pub some_left : (a : Selection) (xs : List ℕ) (most greatest : ℕ) → (a.limit ≡ 0 → ⊥) → length xs < greatest → most ≡ min greatest (a.skip + a.limit)
+    → xs ≡ take most (places_after a None) → drop (min a.skip (length xs)) xs ≡ answer a
 some_left a xs most greatest some few m first = drop_min a.skip xs ∙ rw (ne_eqb a.limit 0 some) (go (cases_lt (a.skip + a.limit) greatest))
   where
     go : (a.skip + a.limit < greatest) ⊎ (greatest ≤ a.skip + a.limit) → drop a.skip xs ≡ take (a.limit - 0) (drop a.skip (ordered a))
     go (inl h) =
         let e : most ≡ a.skip + a.limit = omega arith in
         let z : a.limit - 0 ≡ a.limit = omega arith in
-        ap (drop a.skip) (first ∙ ap (λ n. take n (places_after a None)) e ∙ ap (take (a.skip + a.limit)) (all_places a)) ∙ drop-take a.skip a.limit (ordered a) ∙ ap (λ n. take n (drop a.skip (ordered a))) (sym z)
+        ap (drop a.skip) (first ∙ ap (λ n. take n (places_after a None)) e ∙ ap (take (a.skip + a.limit)) (all_places a))
+        ∙ drop-take a.skip a.limit (ordered a) ∙ ap (λ n. take n (drop a.skip (ordered a))) (sym z)
     go (inr h) =
         let e : most ≡ greatest = omega arith in
         let f = all_of most xs (places_after a None) first (omega arith) ∙ all_places a in

@@ -39,7 +39,8 @@ same_text a b = go (bytes_eq a b) refl (is_same_path (components_of a) (componen
   where
     go : (r : Bool) → bytes_eq a b ≡ r → (s : Bool) → is_same_path (components_of a) (components_of b) ≡ s → s ≡ r
     go true e s f =
-        let same : is_same_path (components_of a) (components_of b) ≡ true = subst (λ (z : List ℕ). is_same_path (components_of a) (components_of z) ≡ true) ((bytes_eq-Decides a b).0 e) (same_itself (components_of a)) in
+        let same : is_same_path (components_of a) (components_of b) ≡ true =
+        subst (λ (z : List ℕ). is_same_path (components_of a) (components_of z) ≡ true) ((bytes_eq-Decides a b).0 e) (same_itself (components_of a)) in
         sym f ∙ same
     go false e false f = refl
     go false e true f =
@@ -62,7 +63,8 @@ pub walk_of : (i : Index) (sort : List (Path × Dir)) (s : Path × Dir) (others 
     → walk_dir (index_mark i) (sort_paths sort) ≡ dir_if ((length others == 0) && (not i.sparse && bytes_eq (string_bytes s.0.text) (string_bytes i.path.text))) s.1
 walk_of i sort s others e = ap (λ (l : List (Path × Dir)). walk_dir (index_mark i) (sort_paths l)) e ∙ go others
   where
-    go : (others : List (Path × Dir)) → walk_dir (index_mark i) (sort_paths (s ∷ others)) ≡ dir_if ((length others == 0) && (not i.sparse && bytes_eq (string_bytes s.0.text) (string_bytes i.path.text))) s.1
+    go : (others : List (Path × Dir)) → walk_dir (index_mark i) (sort_paths (s ∷ others))
+        ≡ dir_if ((length others == 0) && (not i.sparse && bytes_eq (string_bytes s.0.text) (string_bytes i.path.text))) s.1
     go [] = walk_of_one i s
     go (t ∷ ts) = ap (λ (b : Bool). dir_if (b && (not i.sparse && bytes_eq (string_bytes s.0.text) (string_bytes i.path.text))) s.1) (sym (ne_eqb (suc (length ts)) 0 (λ e. absurd (omega arith))))
 

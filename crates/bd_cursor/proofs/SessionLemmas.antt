@@ -15,7 +15,9 @@ marks_kept path [] = refl
 marks_kept path (i ∷ is) = go (is_on path (index_mark i)) (marks_kept path is)
   where
     go : (b : Bool) → map index_mark (filter (λ (i : Index). not (is_on path (index_mark i))) is) ≡ without_index path (map index_mark is)
-        → map index_mark (cond (not b) (i ∷ filter (λ (i : Index). not (is_on path (index_mark i))) is) (filter (λ (i : Index). not (is_on path (index_mark i))) is)) ≡ cond (not b) (index_mark i ∷ without_index path (map index_mark is)) (without_index path (map index_mark is))
+        → map index_mark (cond (not b) (i ∷ filter (λ (i : Index). not (is_on path (index_mark i))) is)
+        (filter (λ (i : Index). not (is_on path (index_mark i))) is))
+        ≡ cond (not b) (index_mark i ∷ without_index path (map index_mark is)) (without_index path (map index_mark is))
     go true h = h
     go false h = ap (λ xs. index_mark i ∷ xs) h
 

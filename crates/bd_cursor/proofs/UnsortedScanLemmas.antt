@@ -34,7 +34,8 @@ module _ (ds : List Doc) (r : Request) (none : r.sort.items ≡ []) where
       ∙ ap (λ ps. cut limit 0 (drop r.skip ps)) all_in_order
       ∙ ap (λ n. cut n 0 (drop r.skip (ordered (selection_of ds r)))) (sym l)
 
-  rest_in_order : (last : ℕ) → unseen (length ds) (hits_of ds (filter_tree r.filter)) (last + 1) ≡ filter (Rattle.bd_answer.specs.Answer.before (selection_of ds r).by last) (ordered (selection_of ds r))
+  rest_in_order : (last : ℕ) → unseen (length ds) (hits_of ds (filter_tree r.filter)) (last + 1)
+      ≡ filter (Rattle.bd_answer.specs.Answer.before (selection_of ds r).by last) (ordered (selection_of ds r))
   rest_in_order last = sym (unsorted_after (selection_of ds r) (asked_total ds r) (unsorted ds r none) last)
 
   pub rest_cut : (limit : ℕ) (m : Mark) → r.limit ≡ limit →

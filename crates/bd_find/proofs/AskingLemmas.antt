@@ -36,11 +36,25 @@ too_many : (n : ℕ) → greatest_count < n → nat_le n greatest_count ≡ true
 too_many n more e = let le = leb-true n greatest_count e in omega arith
 
 module _ (words : FindWords) (query sort : Doc) where
-  documents_ask : (r : Request) (token : Option Token) → AsksFor query sort words.skip words.limit r → fits_batch words.batch ≡ true → NamesIndex words.index (Ok tt) → ReadsToken words.after (Ok token)
+  documents_ask : (r : Request) (token : Option Token) → AsksFor query sort words.skip words.limit r → fits_batch words.batch ≡ true
+      → NamesIndex words.index (Ok tt) → ReadsToken words.after (Ok token)
       → AsksInDocuments words query sort (Ok (asked_by r words.batch token))
   documents_ask r token for fits named read =
       let same : asked_by r words.batch token ≡ page_request words query sort (filter_tree r.filter) (sort_paths r.sort.items) token = rw (for.skip_is.0, for.limit_is.0, for.text_is) refl in
-      inr (filter_tree r.filter, for.filter_is, inr (sort_paths r.sort.items, for.sort_is, inr (tt, both_fit words for.skip_is.1 for.limit_is.1 ∙ fits, inr (tt, named, inr (token, read, ap (λ w. Ok w) same)))))
+      inr (
+        filter_tree r.filter,
+        for.filter_is,
+        inr (
+          sort_paths r.sort.items,
+          for.sort_is,
+          inr (
+            tt,
+            both_fit words for.skip_is.1 for.limit_is.1
+                ∙ fits,
+            inr (tt, named, inr (token, read, ap (λ w. Ok w) same)),
+          ),
+        ),
+      )
 
   pub words_ask : (r : Request) (token : Option Token) → ReadsText (codes "query") words.query (Ok query) → ReadsText (codes "sort") words.sort (Ok sort)
       → AsksFor query sort words.skip words.limit r → fits_batch words.batch ≡ true → NamesIndex words.index (Ok tt) → ReadsToken words.after (Ok token)
@@ -53,14 +67,40 @@ module _ (words : FindWords) (query sort : Doc) where
       → AsksFor query sort words.skip words.limit r → fits_batch words.batch ≡ true → TellsAskingFault (NamesIndex words.index) fault → TellsAskingFault (AsksInWords words) fault
   index_refused r faults.NoMemory q s for fits none = tt
   index_refused r (faults.Message message) q s for fits none =
-      inr (query, q, inr (sort, s, inr (filter_tree r.filter, for.filter_is, inr (sort_paths r.sort.items, for.sort_is, inr (tt, both_fit words for.skip_is.1 for.limit_is.1 ∙ fits, inl (message.items, none, refl))))))
+      inr (
+        query,
+        q,
+        inr (
+          sort,
+          s,
+          inr (
+            filter_tree r.filter,
+            for.filter_is,
+            inr
+                (sort_paths r.sort.items, for.sort_is, inr (tt, both_fit words for.skip_is.1 for.limit_is.1 ∙ fits, inl (message.items, none, refl))),
+          ),
+        ),
+      )
 
   pub token_refused : (r : Request) (fault : AskingFault) → ReadsText (codes "query") words.query (Ok query) → ReadsText (codes "sort") words.sort (Ok sort)
       → AsksFor query sort words.skip words.limit r → fits_batch words.batch ≡ true → NamesIndex words.index (Ok tt) → TellsAskingFault (ReadsToken words.after) fault
       → TellsAskingFault (AsksInWords words) fault
   token_refused r faults.NoMemory q s for fits named none = tt
   token_refused r (faults.Message message) q s for fits named none =
-      inr (query, q, inr (sort, s, inr (filter_tree r.filter, for.filter_is, inr (sort_paths r.sort.items, for.sort_is, inr (tt, both_fit words for.skip_is.1 for.limit_is.1 ∙ fits, inr (tt, named, inl (message.items, none, refl)))))))
+      inr (
+        query,
+        q,
+        inr (
+          sort,
+          s,
+          inr (
+            filter_tree r.filter,
+            for.filter_is,
+            inr
+                (sort_paths r.sort.items, for.sort_is, inr (tt, both_fit words for.skip_is.1 for.limit_is.1 ∙ fits, inr (tt, named, inl (message.items, none, refl)))),
+          ),
+        ),
+      )
 
   pub documents_refused : (fault : AskingFault) → ReadsText (codes "query") words.query (Ok query) → ReadsText (codes "sort") words.sort (Ok sort)
       → TellsAskingFault (AsksInDocuments words query sort) fault → TellsAskingFault (AsksInWords words) fault

@@ -1,5 +1,6 @@
 -- The places that are asked for, and the batch that a session gives of them.
-use Rattle.std.proofs.Common.{◌≡◌, ◌≤◌, ◌<◌, ◌+◌, ◌-◌, ◌*◌, ℕ, zero, suc, Bool, true, false, cond, List, [], ◌∷◌, ◌++◌, length, get_or, take, drop, Option, Some, None, Result, Ok, Err, filter, refl, sym, ap, ◌∙◌, subst, arith, inl, inr, ◌==◌}
+use Rattle.std.proofs.Common.{◌≡◌, ◌≤◌, ◌<◌, ◌+◌, ◌-◌, ◌*◌, ℕ, zero, suc, Bool, true, false, cond, List, [], ◌∷◌, ◌++◌, length, get_or, take, drop, Option}
+use Rattle.std.proofs.Common.{Some, None, Result, Ok, Err, filter, refl, sym, ap, ◌∙◌, subst, arith, inl, inr, ◌==◌}
 use Rattle.std.specs.Prelude.{MatchOption, nat_lt, option_map}
 use Rattle.std.specs.List.{All, range_with_len}
 use Rattle.std.specs.Str.{bytes_eq}
@@ -8,7 +9,8 @@ use Rattle.std.proofs.lemmas.List.{drop_all, take_all, length-append}
 use Rattle.std.proofs.lemmas.List.FromFn.{length-range_with_len}
 use Rattle.bd_value.specs.Tree.{Doc}
 use Rattle.bd_answer.specs.Answer.{Selection, Mark, answer, at_most, before, cut, insert, insert_all, is_empty, matching, ordered, rest}
-use Rattle.bd_answer.specs.Session.{Call, GivenBatch, OpenCursor, Query, Reply, State, batch_of, changed_by, cursor_of, find_call, foreign_token, gave, next_call, opened, reply, resume_call, token_after, token_place, with_open}
+use Rattle.bd_answer.specs.Session.{Call, GivenBatch, OpenCursor, Query, Reply, State, batch_of, changed_by, cursor_of, find_call, foreign_token, gave}
+use Rattle.bd_answer.specs.Session.{next_call, opened, reply, resume_call, token_after, token_place, with_open}
 use Rattle.bd_answer.proofs.AnswerLemmas.{ordered_in}
 use Rattle.bd_answer.proofs.BatchLemmas.{cut_length}
 use Rattle.bd_answer.proofs.OrderLemmas.{In, filter_in, in_at}
@@ -109,7 +111,8 @@ pub led_few : (q : Query) (token : Option Token) (ps : List ℕ) → places_from
 led_few q None ps e = let same : answer q.selection ≡ ps = cc in subst (AreFew q.selection.count) same (answer_inside q.selection, answer_length q.selection)
 led_few q (Some t) ps e = go (bytes_eq t.digest q.digest) (nat_lt t.last q.selection.count) e
   where
-    go : (same place : Bool) → cond same (cond place (Ok (rest q.selection (mark_of t))) (Err (refused_text reasons.TokenPlace))) (Err (refused_text reasons.ForeignToken)) ≡ Ok ps → AreFew q.selection.count ps
+    go : (same place : Bool) → cond same (cond place (Ok (rest q.selection (mark_of t))) (Err (refused_text reasons.TokenPlace)))
+        (Err (refused_text reasons.ForeignToken)) ≡ Ok ps → AreFew q.selection.count ps
     go true true e = let is : rest q.selection (mark_of t) ≡ ps = cc in subst (AreFew q.selection.count) is (rest_inside q.selection (mark_of t), rest_length q.selection (mark_of t))
     go true false e = absurd cc
     go false place e = absurd cc

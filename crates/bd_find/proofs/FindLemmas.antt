@@ -51,7 +51,8 @@ module _ (ds : List Doc) (ps : List ℕ) where
 
 module _ (out_old out_new : Writer) (err_old err_new : Writer) (status : Status) where
   -- memory ran out before anything was written
-  pub nothing_shown : (shown : Transcript) → TellsMessage (between err_old err_new) (error_line (codes "no memory")) Failed status → PrintsOrStarves (between out_old out_old) (between err_old err_new) shown status
+  pub nothing_shown : (shown : Transcript) → TellsMessage (between err_old err_new) (error_line (codes "no memory")) Failed status
+      → PrintsOrStarves (between out_old out_old) (between err_old err_new) shown status
   nothing_shown shown told = inr ((([], shown.out, refl, Appends-nil out_old.held), refl), told)
 
   -- the line of a fault alone, or want of memory
@@ -62,7 +63,8 @@ module _ (out_old out_new : Writer) (err_old err_new : Writer) (status : Status)
 
   -- what is shown of a dump with a fault
   pub fault_shown : (w : PageRequest) (bytes : List ℕ) (fault : declared.Fault) → length bytes ≤ longest_input → IsUnread bytes fault → ¬ (fault.kind ≡ kinds.NoMemory)
-      → TellsMessage (between err_old err_new) (error_line (fault_text fault.document (fault_view fault))) Failed status ⊎ TellsMessage (between err_old err_new) (error_line (codes "no memory")) Failed status
+      → TellsMessage (between err_old err_new) (error_line (fault_text fault.document (fault_view fault))) Failed status
+      ⊎ TellsMessage (between err_old err_new) (error_line (codes "no memory")) Failed status
       → (shown : Transcript) × IsShownOfBytes w bytes shown × PrintsOrStarves (between out_old out_old) (between err_old err_new) shown status
   fault_shown w bytes fault le (inl long) other told = absurd (let more = long.more in omega arith)
   fault_shown w bytes fault le (inr (_, inl want)) other told = absurd (other want.kind)

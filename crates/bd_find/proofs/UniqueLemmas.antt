@@ -23,7 +23,8 @@ use Rattle.bd_request.specs.declared.refused.Refused.TheVariants as reasons
 use Rattle.bd_request.specs.declared.token.Token.{Token}
 use Rattle.bd_command_line.specs.FindWords.{FindWords}
 use Rattle.bd_find.specs.Chain.{IsRefusedOr}
-use Rattle.bd_find.specs.Asking.{AsksInDocuments, AsksInWords, FitsCounts, IsRefusedAsking, NamesIndex, ReadsFilter, ReadsSort, ReadsText, ReadsToken, PageRequest, fits_counts, index_fault_text, json_fault_text, refusal_text, refused_text, page_request}
+use Rattle.bd_find.specs.Asking.{AsksInDocuments, AsksInWords, FitsCounts, IsRefusedAsking, NamesIndex, ReadsFilter, ReadsSort, ReadsText, ReadsToken}
+use Rattle.bd_find.specs.Asking.{PageRequest, fits_counts, index_fault_text, json_fault_text, refusal_text, refused_text, page_request}
 use Rattle.bd_find.specs.Batch.{cursor_for, places_from, query_for}
 use Rattle.bd_find.specs.Find.{IsRefusal, IsShownByFind, IsShownOfBytes, IsShownOfDump, LeadsTo, ReadsBytes, ReadsDump, shown_batch}
 use Rattle.bd_files.specs.Transcript.{Transcript, fault_text, shown_refusal}
@@ -131,10 +132,20 @@ refuses message = Err message
 
 documents_once : (words : FindWords) (query sort : Doc) (a b : Result PageRequest (List ℕ)) → AsksInDocuments words query sort a → AsksInDocuments words query sort b → a ≡ b
 documents_once words query sort =
-    chain_once refuses (ReadsFilter query) (λ filter asked. IsRefusedOr (IsRefusedAsking asked) (ReadsSort sort) (λ sorts. IsRefusedOr (IsRefusedAsking asked) (FitsCounts words) (λ _. IsRefusedOr (IsRefusedAsking asked) (NamesIndex words.index) (λ _. IsRefusedOr (IsRefusedAsking asked) (ReadsToken words.after) (λ token. asked ≡ Ok (page_request words query sort filter sorts token)))))) (filter_line query) (λ filter.
-    chain_once refuses (ReadsSort sort) (λ sorts asked. IsRefusedOr (IsRefusedAsking asked) (FitsCounts words) (λ _. IsRefusedOr (IsRefusedAsking asked) (NamesIndex words.index) (λ _. IsRefusedOr (IsRefusedAsking asked) (ReadsToken words.after) (λ token. asked ≡ Ok (page_request words query sort filter sorts token))))) (sort_line sort) (λ sorts.
-    chain_once refuses (FitsCounts words) (λ _ asked. IsRefusedOr (IsRefusedAsking asked) (NamesIndex words.index) (λ _. IsRefusedOr (IsRefusedAsking asked) (ReadsToken words.after) (λ token. asked ≡ Ok (page_request words query sort filter sorts token)))) (counts_line words) (λ _.
-    chain_once refuses (NamesIndex words.index) (λ _ asked. IsRefusedOr (IsRefusedAsking asked) (ReadsToken words.after) (λ token. asked ≡ Ok (page_request words query sort filter sorts token))) (index_line words.index) (λ _.
+    chain_once refuses (ReadsFilter query) (λ filter asked. IsRefusedOr (IsRefusedAsking asked) (ReadsSort sort)
+    (λ sorts. IsRefusedOr (IsRefusedAsking asked) (FitsCounts words)
+    (λ _. IsRefusedOr (IsRefusedAsking asked) (NamesIndex words.index)
+    (λ _. IsRefusedOr (IsRefusedAsking asked) (ReadsToken words.after)
+    (λ token. asked ≡ Ok (page_request words query sort filter sorts token)))))) (filter_line query) (λ filter.
+    chain_once refuses (ReadsSort sort) (λ sorts asked. IsRefusedOr (IsRefusedAsking asked) (FitsCounts words)
+    (λ _. IsRefusedOr (IsRefusedAsking asked) (NamesIndex words.index)
+    (λ _. IsRefusedOr (IsRefusedAsking asked) (ReadsToken words.after)
+    (λ token. asked ≡ Ok (page_request words query sort filter sorts token))))) (sort_line sort) (λ sorts.
+    chain_once refuses (FitsCounts words) (λ _ asked. IsRefusedOr (IsRefusedAsking asked) (NamesIndex words.index)
+    (λ _. IsRefusedOr (IsRefusedAsking asked) (ReadsToken words.after) (λ token. asked ≡ Ok (page_request words query sort filter sorts token))))
+    (counts_line words) (λ _.
+    chain_once refuses (NamesIndex words.index) (λ _ asked. IsRefusedOr (IsRefusedAsking asked) (ReadsToken words.after)
+    (λ token. asked ≡ Ok (page_request words query sort filter sorts token))) (index_line words.index) (λ _.
     chain_once refuses (ReadsToken words.after) (λ token asked. asked ≡ Ok (page_request words query sort filter sorts token)) (token_line words.after) (λ token a b e f.
     e ∙ sym f)))))
 
@@ -270,18 +281,30 @@ token_some (Some text) = go (token_of text) refl
 
 words_some : (words : FindWords) → (a : Result PageRequest (List ℕ)) × AsksInWords words a
 words_some words =
-    chain_some refuses (ReadsText (codes "query") words.query) (λ query asked. IsRefusedOr (IsRefusedAsking asked) (ReadsText (codes "sort") words.sort) (λ sort. AsksInDocuments words query sort asked)) (text_some (codes "query") words.query) (λ query.
+    chain_some refuses (ReadsText (codes "query") words.query) (λ query asked. IsRefusedOr (IsRefusedAsking asked)
+    (ReadsText (codes "sort") words.sort) (λ sort. AsksInDocuments words query sort asked)) (text_some (codes "query") words.query) (λ query.
     chain_some refuses (ReadsText (codes "sort") words.sort) (λ sort asked. AsksInDocuments words query sort asked) (text_some (codes "sort") words.sort) (λ sort.
-    chain_some refuses (ReadsFilter query) (λ filter asked. IsRefusedOr (IsRefusedAsking asked) (ReadsSort sort) (λ sorts. IsRefusedOr (IsRefusedAsking asked) (FitsCounts words) (λ _. IsRefusedOr (IsRefusedAsking asked) (NamesIndex words.index) (λ _. IsRefusedOr (IsRefusedAsking asked) (ReadsToken words.after) (λ token. asked ≡ Ok (page_request words query sort filter sorts token)))))) (filter_some query) (λ filter.
-    chain_some refuses (ReadsSort sort) (λ sorts asked. IsRefusedOr (IsRefusedAsking asked) (FitsCounts words) (λ _. IsRefusedOr (IsRefusedAsking asked) (NamesIndex words.index) (λ _. IsRefusedOr (IsRefusedAsking asked) (ReadsToken words.after) (λ token. asked ≡ Ok (page_request words query sort filter sorts token))))) (sort_some sort) (λ sorts.
-    chain_some refuses (FitsCounts words) (λ _ asked. IsRefusedOr (IsRefusedAsking asked) (NamesIndex words.index) (λ _. IsRefusedOr (IsRefusedAsking asked) (ReadsToken words.after) (λ token. asked ≡ Ok (page_request words query sort filter sorts token)))) (counts_some words) (λ _.
-    chain_some refuses (NamesIndex words.index) (λ _ asked. IsRefusedOr (IsRefusedAsking asked) (ReadsToken words.after) (λ token. asked ≡ Ok (page_request words query sort filter sorts token))) (index_some words.index) (λ _.
+    chain_some refuses (ReadsFilter query) (λ filter asked. IsRefusedOr (IsRefusedAsking asked) (ReadsSort sort)
+    (λ sorts. IsRefusedOr (IsRefusedAsking asked) (FitsCounts words)
+    (λ _. IsRefusedOr (IsRefusedAsking asked) (NamesIndex words.index)
+    (λ _. IsRefusedOr (IsRefusedAsking asked) (ReadsToken words.after)
+    (λ token. asked ≡ Ok (page_request words query sort filter sorts token)))))) (filter_some query) (λ filter.
+    chain_some refuses (ReadsSort sort) (λ sorts asked. IsRefusedOr (IsRefusedAsking asked) (FitsCounts words)
+    (λ _. IsRefusedOr (IsRefusedAsking asked) (NamesIndex words.index)
+    (λ _. IsRefusedOr (IsRefusedAsking asked) (ReadsToken words.after)
+    (λ token. asked ≡ Ok (page_request words query sort filter sorts token))))) (sort_some sort) (λ sorts.
+    chain_some refuses (FitsCounts words) (λ _ asked. IsRefusedOr (IsRefusedAsking asked) (NamesIndex words.index)
+    (λ _. IsRefusedOr (IsRefusedAsking asked) (ReadsToken words.after) (λ token. asked ≡ Ok (page_request words query sort filter sorts token))))
+    (counts_some words) (λ _.
+    chain_some refuses (NamesIndex words.index) (λ _ asked. IsRefusedOr (IsRefusedAsking asked) (ReadsToken words.after)
+    (λ token. asked ≡ Ok (page_request words query sort filter sorts token))) (index_some words.index) (λ _.
     chain_some refuses (ReadsToken words.after) (λ token asked. asked ≡ Ok (page_request words query sort filter sorts token)) (token_some words.after) (λ token.
     (Ok (page_request words query sort filter sorts token), refl))))))))
 
 pub dump_shows : (bytes : List ℕ) (ds : List Doc) (w : PageRequest) → (shown : Transcript) × IsShownOfDump bytes ds w shown
 dump_shows bytes ds w =
-    chain_some shown_refusal (LeadsTo bytes ds w) (λ ps shown. shown ≡ shown_batch w.batch ds (cursor_for 1 (query_for bytes ds w) w.token ps)) (places_from (query_for bytes ds w) w.token, refl) (λ ps.
+    chain_some shown_refusal (LeadsTo bytes ds w) (λ ps shown. shown ≡ shown_batch w.batch ds (cursor_for 1 (query_for bytes ds w) w.token ps))
+    (places_from (query_for bytes ds w) w.token, refl) (λ ps.
     (shown_batch w.batch ds (cursor_for 1 (query_for bytes ds w) w.token ps), refl))
 
 pub bytes_show : (w : PageRequest) (bytes : List ℕ) (ds : List Doc) (end : Option Fault) → IsWalk ds end bytes → (shown : Transcript) × IsShownOfBytes w bytes shown

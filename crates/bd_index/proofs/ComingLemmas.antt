@@ -127,7 +127,8 @@ same_place n m e = subst (λ (k : ℕ). nat_cmp n k ≡ Equal) e (tied_itself na
 tie : (R : Tree → Tree → Ordering) (e : KeyAt) (k : Tree) → R e.0 k ≡ Equal → entry_by R e (k, e.1) ≡ Equal
 tie R e k s = rw s (same_place e.1 e.1 refl)
 
-before_of : (R : Tree → Tree → Ordering) → IsTotalOrder R → (lk : ℕ → Tree) (p : ℕ) (e : KeyAt) → is_lt (entry_by R e (lk p, p)) ≡ false → R e.0 (lk e.1) ≡ Equal → (p == e.1) ≡ false → place_by R lk p e.1 ≡ Less
+before_of : (R : Tree → Tree → Ordering) → IsTotalOrder R → (lk : ℕ → Tree) (p : ℕ) (e : KeyAt) → is_lt (entry_by R e (lk p, p)) ≡ false
+    → R e.0 (lk e.1) ≡ Equal → (p == e.1) ≡ false → place_by R lk p e.1 ≡ Less
 before_of R tot lk p e h s ne =
     let total = entry_total R tot in
     let moved : entry_by R e (lk p, p) ≡ entry_by R (lk e.1, e.1) (lk p, p) = total.congr e (lk e.1, e.1) (lk p, p) (tie R e (lk e.1) s) in
@@ -190,7 +191,8 @@ at_the_end R lk isp ps r = record {
     go q true e f = rw e refl
     go q false e f = let g : false ≡ true = f e in absurd (cc)
 
-came_already : (R : Tree → Tree → Ordering) (lk : ℕ → Tree) (isp : ℕ → Bool) (ps : List ℕ) (e : KeyAt) (es : List KeyAt) → list_any (λ m. m == e.1) ps ≡ true → Ready R lk isp ps (e ∷ es) → Ready R lk isp ps es
+came_already : (R : Tree → Tree → Ordering) (lk : ℕ → Tree) (isp : ℕ → Bool) (ps : List ℕ) (e : KeyAt) (es : List KeyAt)
+    → list_any (λ m. m == e.1) ps ≡ true → Ready R lk isp ps (e ∷ es) → Ready R lk isp ps es
 came_already R lk isp ps e es came r = record {
   settled = all_map (λ p h. h.1) ps r.settled;
   ahead = λ q h fresh. go q (e.1 == q) refl fresh (r.ahead q h fresh);
@@ -199,11 +201,14 @@ came_already R lk isp ps e es came r = record {
   places = r.places.1;
 }
   where
-    go : (q : ℕ) (b : Bool) → (e.1 == q) ≡ b → list_any (λ m. m == q) ps ≡ false → (((e.1 == q) && is_eq (R e.0 (lk q))) || list_any (λ x. (x.1 == q) && is_eq (R x.0 (lk q))) es) ≡ true → list_any (λ x. (x.1 == q) && is_eq (R x.0 (lk q))) es ≡ true
+    go : (q : ℕ) (b : Bool) → (e.1 == q) ≡ b → list_any (λ m. m == q) ps ≡ false
+        → (((e.1 == q) && is_eq (R e.0 (lk q))) || list_any (λ x. (x.1 == q) && is_eq (R x.0 (lk q))) es) ≡ true
+        → list_any (λ x. (x.1 == q) && is_eq (R x.0 (lk q))) es ≡ true
     go q true s fresh h = let f : true ≡ false = sym came ∙ ap (λ (n : ℕ). list_any (λ m. m == n) ps) (eqb-true e.1 q s) ∙ fresh in absurd (cc)
     go q false s fresh h = ap (λ (b : Bool). (b && is_eq (R e.0 (lk q))) || list_any (λ x. (x.1 == q) && is_eq (R x.0 (lk q))) es) (sym s) ∙ h
 
-comes_now : (R : Tree → Tree → Ordering) → IsTotalOrder R → (lk : ℕ → Tree) (isp : ℕ → Bool) (ps : List ℕ) (e : KeyAt) (es : List KeyAt) → R e.0 (lk e.1) ≡ Equal → Ready R lk isp ps (e ∷ es) → Ready R lk isp (ps ++ e.1 ∷ []) es
+comes_now : (R : Tree → Tree → Ordering) → IsTotalOrder R → (lk : ℕ → Tree) (isp : ℕ → Bool) (ps : List ℕ) (e : KeyAt) (es : List KeyAt)
+    → R e.0 (lk e.1) ≡ Equal → Ready R lk isp ps (e ∷ es) → Ready R lk isp (ps ++ e.1 ∷ []) es
 comes_now R tot lk isp ps e es s r = record {
   settled = all_append _ ps (e.1 ∷ []) (all_map (λ p h. h.1) ps r.settled) (all_map (λ x h. settled_by R tot (lk e.1) e x s h) es r.rises.0, tt);
   ahead = λ q h fresh.
@@ -214,13 +219,19 @@ comes_now R tot lk isp ps e es s r = record {
   places = r.places.1;
 }
   where
-    go : (q : ℕ) → (e.1 == q) ≡ false → (((e.1 == q) && is_eq (R e.0 (lk q))) || list_any (λ x. (x.1 == q) && is_eq (R x.0 (lk q))) es) ≡ true → list_any (λ x. (x.1 == q) && is_eq (R x.0 (lk q))) es ≡ true
+    go : (q : ℕ) → (e.1 == q) ≡ false → (((e.1 == q) && is_eq (R e.0 (lk q))) || list_any (λ x. (x.1 == q) && is_eq (R x.0 (lk q))) es) ≡ true
+        → list_any (λ x. (x.1 == q) && is_eq (R x.0 (lk q))) es ≡ true
     go q n h = ap (λ (b : Bool). (b && is_eq (R e.0 (lk q))) || list_any (λ x. (x.1 == q) && is_eq (R x.0 (lk q))) es) (sym n) ∙ h
 
-goes_on : (R : Tree → Tree → Ordering) → IsTotalOrder R → (lk : ℕ → Tree) (isp : ℕ → Bool) (ps : List ℕ) (e : KeyAt) (es : List KeyAt) (ls : List ℕ) → list_any (λ m. m == e.1) ps ≡ false → R e.0 (lk e.1) ≡ Equal → Ready R lk isp ps (e ∷ es) → Done R lk isp (ps ++ e.1 ∷ []) ls → Done R lk isp ps (e.1 ∷ ls)
+goes_on : (R : Tree → Tree → Ordering) → IsTotalOrder R → (lk : ℕ → Tree) (isp : ℕ → Bool) (ps : List ℕ) (e : KeyAt) (es : List KeyAt) (ls : List ℕ)
+    → list_any (λ m. m == e.1) ps ≡ false → R e.0 (lk e.1) ≡ Equal → Ready R lk isp ps (e ∷ es) → Done R lk isp (ps ++ e.1 ∷ []) ls → Done R lk isp ps (e.1 ∷ ls)
 goes_on R tot lk isp ps e es ls fresh s r d = record {
   order = (all_map (λ q h. all_last (λ p. place_by R lk p q ≡ Less) ps e.1 h) ls d.after, d.order);
-  after = (all_map (λ p h. before_of R tot lk p e h.0.0 s h.1) ps (all_both _ _ ps r.settled (none_passes (λ m. m == e.1) ps fresh)), all_map (λ q h. all_front (λ p. place_by R lk p q ≡ Less) ps (e.1 ∷ []) h) ls d.after);
+  after = (
+    all_map (λ p h. before_of R tot lk p e h.0.0 s h.1) ps (all_both _ _ ps r.settled (none_passes (λ m. m == e.1) ps fresh)),
+    all_map
+        (λ q h. all_front (λ p. place_by R lk p q ≡ Less) ps (e.1 ∷ []) h) ls d.after,
+  );
   all = λ q h. go (list_any (λ m. m == q) ps) (e.1 == q) (list_any (λ m. m == q) ls) (ap (λ (b : Bool). b || list_any (λ m. m == q) ls) (sym (any_append (λ m. m == q) ps e.1)) ∙ d.all q h);
   places = (r.places.0, d.places);
 }
@@ -233,9 +244,11 @@ pub in_turn : (R : Tree → Tree → Ordering) → IsTotalOrder R → (lk : ℕ 
 in_turn R tot lk isp ps [] r = at_the_end R lk isp ps r
 in_turn R tot lk isp ps (e ∷ es) r = go (list_any (λ m. m == e.1) ps) refl (in_turn R tot lk isp ps es) (in_turn R tot lk isp (ps ++ e.1 ∷ []) es)
   where
-    go : (b : Bool) → list_any (λ m. m == e.1) ps ≡ b → (Ready R lk isp ps es → Done R lk isp ps (first_places ps es)) → (Ready R lk isp (ps ++ e.1 ∷ []) es → Done R lk isp (ps ++ e.1 ∷ []) (first_places (ps ++ e.1 ∷ []) es))
+    go : (b : Bool) → list_any (λ m. m == e.1) ps ≡ b → (Ready R lk isp ps es → Done R lk isp ps (first_places ps es))
+        → (Ready R lk isp (ps ++ e.1 ∷ []) es → Done R lk isp (ps ++ e.1 ∷ []) (first_places (ps ++ e.1 ∷ []) es))
         → Done R lk isp ps (cond (list_any (λ m. m == e.1) ps) (first_places ps es) (e.1 ∷ first_places (ps ++ e.1 ∷ []) es))
     go true came same more = subst (λ (b : Bool). Done R lk isp ps (cond b (first_places ps es) (e.1 ∷ first_places (ps ++ e.1 ∷ []) es))) (sym came) (same (came_already R lk isp ps e es came r))
     go false fresh same more =
         let s = first_is R tot lk e es r.low.0 r.rises.0 (r.ahead e.1 r.places.0 fresh) in
-        subst (λ (b : Bool). Done R lk isp ps (cond b (first_places ps es) (e.1 ∷ first_places (ps ++ e.1 ∷ []) es))) (sym fresh) (goes_on R tot lk isp ps e es (first_places (ps ++ e.1 ∷ []) es) fresh s r (more (comes_now R tot lk isp ps e es s r)))
+        subst (λ (b : Bool). Done R lk isp ps (cond b (first_places ps es) (e.1 ∷ first_places (ps ++ e.1 ∷ []) es))) (sym fresh)
+        (goes_on R tot lk isp ps e es (first_places (ps ++ e.1 ∷ []) es) fresh s r (more (comes_now R tot lk isp ps e es s r)))

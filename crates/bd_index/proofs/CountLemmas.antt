@@ -29,7 +29,8 @@ some_keys t path = go (keys t path) (has_a_key t path)
     go (k ∷ ks) h = omega arith
 
 long : (path : Names) (n : ℕ) (d : Doc) (ds : List Doc) → length (entries_from false path n (d ∷ ds)) ≡ length (keys (doc (fields_of d)) path) + length (entries_from false path (n + 1) ds)
-long path n d ds = length-append (keys_at n (keys (doc (fields_of d)) path)) (entries_from false path (n + 1) ds) ∙ ap (λ (m : ℕ). m + length (entries_from false path (n + 1) ds)) (length-map (keys (doc (fields_of d)) path) (λ k. (k, n)))
+long path n d ds = length-append (keys_at n (keys (doc (fields_of d)) path)) (entries_from false path (n + 1) ds)
+    ∙ ap (λ (m : ℕ). m + length (entries_from false path (n + 1) ds)) (length-map (keys (doc (fields_of d)) path) (λ k. (k, n)))
 
 no_fewer : (path : Names) (n : ℕ) (ds : List Doc) → length ds ≤ length (entries_from false path n ds)
 no_fewer path n [] = omega arith
@@ -46,7 +47,9 @@ more s l e t r some le is total = go (nat_lt 1 l) refl r is
 pub many_by_count : (path : Names) (n : ℕ) (ds : List Doc) → nat_lt (length ds) (length (entries_from false path n ds)) ≡ is_multikey path ds
 many_by_count path n [] = refl
 many_by_count path n (d ∷ ds) =
-    more (length ds) (length (keys (doc (fields_of d)) path)) (length (entries_from false path (n + 1) ds)) (length (entries_from false path n (d ∷ ds))) (is_multikey path ds) (some_keys (doc (fields_of d)) path) (no_fewer path (n + 1) ds) (many_by_count path (n + 1) ds) (long path n d ds)
+    more (length ds) (length (keys (doc (fields_of d)) path)) (length (entries_from false path (n + 1) ds))
+    (length (entries_from false path n (d ∷ ds))) (is_multikey path ds) (some_keys (doc (fields_of d)) path) (no_fewer path (n + 1) ds)
+    (many_by_count path (n + 1) ds) (long path n d ds)
 
 -- ---- two keys, where one is not equal to the first
 

@@ -20,9 +20,11 @@ abbrev pub UnionSoFar : List KeyAt → List Span → List Bounds → ℕ → Typ
 UnionSoFar es all parts i = (k : ℕ) (d : KeyAt) → k < length es → (is_covered all k || union (map keys_within (drop i parts)) (get_or es k d).0) ≡ union (map keys_within parts) (get_or es k d).0
 
 abbrev pub GapsSoFar : List KeyAt → List Span → List Bounds → ℕ → Type 0
-GapsSoFar es gaps parts i = (k : ℕ) (d : KeyAt) → k < length es → (is_covered gaps k || not (intersection (map keys_within (drop i parts)) (get_or es k d).0)) ≡ not (intersection (map keys_within parts) (get_or es k d).0)
+GapsSoFar es gaps parts i = (k : ℕ) (d : KeyAt) → k < length es → (is_covered gaps k
+    || not (intersection (map keys_within (drop i parts)) (get_or es k d).0)) ≡ not (intersection (map keys_within parts) (get_or es k d).0)
 
-pub union_on : (es : List KeyAt) (all new spans : List Span) (parts : List Bounds) (i : ℕ) (part : Bounds) → i < length parts → part ≡ get_or parts i part → new ≡ all ++ spans → CoverKeys es (keys_within part) spans
+pub union_on : (es : List KeyAt) (all new spans : List Span) (parts : List Bounds) (i : ℕ) (part : Bounds) → i < length parts
+    → part ≡ get_or parts i part → new ≡ all ++ spans → CoverKeys es (keys_within part) spans
     → UnionSoFar es all parts i → UnionSoFar es new parts (i + 1)
 union_on es all new spans parts i part lt is added cover so_far k d low =
     let x = (get_or es k d).0 in
@@ -43,10 +45,12 @@ gaps_on es gaps new spans parts i part n size lt is added cover so_far k d low =
     let x = (get_or es k d).0 in
     ap (λ (b : Bool). b || not (intersection (map keys_within (drop (i + 1) parts)) x)) (added k (omega arith) ∙ ap (λ (b : Bool). is_covered gaps k || not b) (cover.cover k d low))
     ∙ or_in (is_covered gaps k) (not (keys_within part x)) (not (intersection (map keys_within (drop (i + 1) parts)) x))
-    ∙ ap (λ (b : Bool). is_covered gaps k || b) (not_both (keys_within part x) (intersection (map keys_within (drop (i + 1) parts)) x) ∙ ap not (sym (one_off (λ sets. intersection sets x) keys_within parts i part lt is)))
+    ∙ ap (λ (b : Bool). is_covered gaps k || b) (not_both (keys_within part x) (intersection (map keys_within (drop (i + 1) parts)) x)
+    ∙ ap not (sym (one_off (λ sets. intersection sets x) keys_within parts i part lt is)))
     ∙ so_far k d low
 
-pub union_whole : (es : List KeyAt) (all ordered : List Span) (parts : List Bounds) (i n : ℕ) → n ≡ length es → length parts ≤ i → AreInOrder 0 n ordered → ((k : ℕ) → is_covered ordered k ≡ is_covered all k)
+pub union_whole : (es : List KeyAt) (all ordered : List Span) (parts : List Bounds) (i n : ℕ) → n ≡ length es → length parts ≤ i
+    → AreInOrder 0 n ordered → ((k : ℕ) → is_covered ordered k ≡ is_covered all k)
     → UnionSoFar es all parts i → CoverKeys es (union (map keys_within parts)) ordered
 union_whole es all ordered parts i n size le order same so_far = record {
   order = subst (λ (m : ℕ). AreInOrder 0 m ordered) size order;
@@ -57,7 +61,8 @@ not_not : (a : Bool) → not (not a) ≡ a
 not_not true = refl
 not_not false = refl
 
-pub gaps_whole : (es : List KeyAt) (gaps spans : List Span) (parts : List Bounds) (i n : ℕ) → n ≡ length es → length parts ≤ i → AreInOrder 0 n spans → ((k : ℕ) → k < n → is_covered spans k ≡ not (is_covered gaps k))
+pub gaps_whole : (es : List KeyAt) (gaps spans : List Span) (parts : List Bounds) (i n : ℕ) → n ≡ length es → length parts ≤ i → AreInOrder 0 n spans
+    → ((k : ℕ) → k < n → is_covered spans k ≡ not (is_covered gaps k))
     → GapsSoFar es gaps parts i → CoverKeys es (intersection (map keys_within parts)) spans
 gaps_whole es gaps spans parts i n size le order others so_far = record {
   order = subst (λ (m : ℕ). AreInOrder 0 m spans) size order;
@@ -68,7 +73,8 @@ gaps_whole es gaps spans parts i n size le order others so_far = record {
 }
 
 -- a single span
-pub covers_one : (es : List KeyAt) (keys : KeySet) (spans : List Span) (s : Span) → spans ≡ s ∷ [] → s.from ≤ s.to → s.to ≤ length es → ((k : ℕ) (d : KeyAt) → k < length es → is_in_span k s ≡ keys (get_or es k d).0) → CoverKeys es keys spans
+pub covers_one : (es : List KeyAt) (keys : KeySet) (spans : List Span) (s : Span) → spans ≡ s ∷ [] → s.from ≤ s.to → s.to ≤ length es
+    → ((k : ℕ) (d : KeyAt) → k < length es → is_in_span k s ≡ keys (get_or es k d).0) → CoverKeys es keys spans
 covers_one es keys spans s is size le inside = subst (CoverKeys es keys) (sym is) (record { order = (omega arith, size, le); cover = λ k d lt. or_none (is_in_span k s) ∙ inside k d lt })
 
 pub covers_all : (es : List KeyAt) (spans : List Span) (s : Span) → spans ≡ s ∷ [] → s.from ≡ 0 → s.to ≡ length es → CoverKeys es (λ k. true) spans

@@ -102,7 +102,8 @@ module _ (es : List KeyAt) (start end : ℕ) (run : IsRun es start end) (le : en
       let some = run.some in
       let n : start + (end - start) ≡ end = omega arith in
       let cut : take end es ≡ take start es ++ slice_range es start end = ap (λ (m : ℕ). take m es) (sym n) ∙ take-add start (end - start) es in
-      ap downward cut ∙ run_first (take start es) (slice_range es start end) front_below (ties_from (slice_range es start end) (λ i j d a b. tied i j d (omega (arith, run_length)) (omega (arith, run_length))))
+      ap downward cut ∙ run_first (take start es) (slice_range es start end) front_below
+      (ties_from (slice_range es start end) (λ i j d a b. tied i j d (omega (arith, run_length)) (omega (arith, run_length))))
 
 -- ---- all entries are there
 
@@ -212,13 +213,15 @@ run_is_whole es start end a b d sorted some lt le first last other k low =
     go (is_lt (cmp x l)) refl down less
   where
     key_far : (i j : ℕ) → i ≤ j → j < length es → is_lt (cmp (get_or es j d).0 (get_or es i d).0) ≡ false
-    key_far i j h g = first_not_less (cmp (get_or es j d).0 (get_or es i d).0) (nat_cmp (get_or es j d).1 (get_or es i d).1) (sorted_far (λ x y. is_lt (entry_cmp x y)) (ranks_by entry_total (λ x. x)) es sorted i j d h g)
+    key_far i j h g = first_not_less (cmp (get_or es j d).0 (get_or es i d).0) (nat_cmp (get_or es j d).1 (get_or es i d).1)
+        (sorted_far (λ x y. is_lt (entry_cmp x y)) (ranks_by entry_total (λ x. x)) es sorted i j d h g)
 
     unequal : (o p : Ordering) → p ≡ ordering_reverse o → is_lt p ≡ false → is_eq o ≡ false → is_lt o ≡ true
     unequal Less p e h g = refl
     unequal Equal p e h g = absurd (cc)
     unequal Greater p e h g = let f : is_lt p ≡ true = ap is_lt e in absurd (cc)
 
-    go : (c : Bool) → is_lt (cmp (get_or es k d).0 (get_or es (end - 1) d).0) ≡ c → is_lt (cmp (get_or es (start - 1) d).0 (get_or es k d).0) ≡ false → is_lt (cmp (get_or es (start - 1) d).0 (get_or es (end - 1) d).0) ≡ true → c ≡ true
+    go : (c : Bool) → is_lt (cmp (get_or es k d).0 (get_or es (end - 1) d).0) ≡ c → is_lt (cmp (get_or es (start - 1) d).0 (get_or es k d).0) ≡ false
+        → is_lt (cmp (get_or es (start - 1) d).0 (get_or es (end - 1) d).0) ≡ true → c ≡ true
     go true e down less = refl
     go false e down less = let f = no_less_key (get_or es (start - 1) d).0 (get_or es k d).0 (get_or es (end - 1) d).0 down e in absurd (cc)

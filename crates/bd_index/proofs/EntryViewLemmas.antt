@@ -1,5 +1,6 @@
 -- Entries as an index keeps them.
-use Rattle.std.proofs.Common.{◌≡◌, ◌+◌, ◌<◌, ℕ, zero, suc, Bool, true, false, cond, List, [], ◌∷◌, ◌++◌, Option, Some, None, length, get_or, map, take, drop, refl, sym, ap, ◌∙◌, subst, arith, add-one, append_assoc, append-nil, drop-cons}
+use Rattle.std.proofs.Common.{◌≡◌, ◌+◌, ◌<◌, ℕ, zero, suc, Bool, true, false, cond, List, [], ◌∷◌, ◌++◌, Option, Some, None, length, get_or, map, take, drop}
+use Rattle.std.proofs.Common.{refl, sym, ap, ◌∙◌, subst, arith, add-one, append_assoc, append-nil, drop-cons}
 use Rattle.std.proofs.lemmas.List.Elements.{All-push}
 use Rattle.std.proofs.lemmas.List.{map-append, map_more}
 use Rattle.std.specs.List.{AllZip}
@@ -35,16 +36,19 @@ pub as_many_kept : (bytes : List ℕ) (kept : List Entry) (es : List KeyAt) → 
 as_many_kept bytes kept es all = zip_length (KeepsEntry bytes) kept es all
 
 -- the key of an entry stands where it says
-pub key_there : (bytes : List ℕ) (kept : List Entry) (es : List KeyAt) (i : ℕ) (k : Entry) (d : KeyAt) → KeepsEntries bytes kept es → i < length kept → k ≡ get_or kept i k → StandsAt bytes k.key (get_or es i d).0
+pub key_there : (bytes : List ℕ) (kept : List Entry) (es : List KeyAt) (i : ℕ) (k : Entry) (d : KeyAt) → KeepsEntries bytes kept es → i < length kept
+    → k ≡ get_or kept i k → StandsAt bytes k.key (get_or es i d).0
 key_there bytes kept es i k d all lt is = subst (λ (x : Entry). StandsAt bytes x.key (get_or es i d).0) (sym is) (zip_at (KeepsEntry bytes) kept es i k d all lt).0
 
 -- the entries of some keys, and one more
-pub one_entry : (bytes : List ℕ) (kept new : List Entry) (xs : List FoundKey) (i : ℕ) (x : FoundKey) (at : At) → i < length xs → x ≡ get_or xs i x → AreFoundIn bytes xs → StandsAt x.key.bytes.now at (stands x.key.sound)
+pub one_entry : (bytes : List ℕ) (kept new : List Entry) (xs : List FoundKey) (i : ℕ) (x : FoundKey) (at : At) → i < length xs → x ≡ get_or xs i x
+    → AreFoundIn bytes xs → StandsAt x.key.bytes.now at (stands x.key.sound)
     → new ≡ kept ++ record { key = at; place = x.place } ∷ [] → KeepsEntries bytes kept (map found_entry (take i xs)) → KeepsEntries bytes new (map found_entry (take (i + 1) xs))
 one_entry bytes kept new xs i x at lt is all there pushed so =
     let here : x.key.bytes.now ≡ bytes = subst (λ (f : FoundKey). IsFoundIn bytes f) (sym is) (all i x lt) in
     let stands_there : StandsAt bytes at (stands x.key.sound) = subst (λ (b : List ℕ). StandsAt b at (stands x.key.sound)) here there in
-    let more : map found_entry (take (i + 1) xs) ≡ map found_entry (take i xs) ++ found_entry x ∷ [] = map_more found_entry xs i x lt ∙ ap (λ (f : FoundKey). map found_entry (take i xs) ++ found_entry f ∷ []) (sym is) in
+    let more : map found_entry (take (i + 1) xs) ≡ map found_entry (take i xs) ++ found_entry x ∷ [] = map_more found_entry xs i x lt
+    ∙ ap (λ (f : FoundKey). map found_entry (take i xs) ++ found_entry f ∷ []) (sym is) in
     subst (KeepsEntries bytes new) (sym more) (subst (λ (l : List Entry). KeepsEntries bytes l (map found_entry (take i xs) ++ found_entry x ∷ [])) (sym pushed)
     (zip_push (KeepsEntry bytes) kept (map found_entry (take i xs)) (record { key = at; place = x.place }) (found_entry x) so (stands_there, refl)))
 
@@ -59,11 +63,13 @@ next_left xs i x lt is =
     ap (map found_entry) (drop-cons xs i x lt) ∙ ap (λ (f : FoundKey). found_entry f ∷ map found_entry (drop (suc i) xs)) (sym is)
     ∙ ap (λ (n : ℕ). found_entry x ∷ map found_entry (drop n xs)) (sym (add-one i))
 
-module _ (found before : List FoundKey) (last : Option FoundKey) (xs : List FoundKey) (i : ℕ) (x : FoundKey) (lt : i < length xs) (is : x ≡ get_or xs i x) (so : OnceSoFar found last (drop i xs) xs before) where
+module _ (found before : List FoundKey) (last : Option FoundKey) (xs : List FoundKey) (i : ℕ) (x : FoundKey) (lt : i < length xs)
+    (is : x ≡ get_or xs i x) (so : OnceSoFar found last (drop i xs) xs before) where
   abbrev tail : Option KeyAt → List KeyAt
   tail l = without_repeats l (map found_entry (drop (i + 1) xs))
 
-  whole : map found_entry found ++ cond (is_repeat (last_entry last) (found_entry x)) (tail (last_entry last)) (found_entry x ∷ tail (Some (found_entry x))) ≡ map found_entry before ++ without_repeats None (map found_entry xs)
+  whole : map found_entry found ++ cond (is_repeat (last_entry last) (found_entry x)) (tail (last_entry last))
+      (found_entry x ∷ tail (Some (found_entry x))) ≡ map found_entry before ++ without_repeats None (map found_entry xs)
   whole = ap (λ (l : List KeyAt). map found_entry found ++ without_repeats (last_entry last) l) (sym (next_left xs i x lt is)) ∙ so.once
 
   abbrev choice : Bool → List KeyAt
@@ -80,7 +86,8 @@ module _ (found before : List FoundKey) (last : Option FoundKey) (xs : List Foun
     kept = λ bytes own old. subst (AreFoundIn bytes) (sym pushed) (All-push (IsFoundIn bytes) found x (so.kept bytes own old) (subst (IsFoundIn bytes) (sym is) (own i x lt)));
   }
 
-pub all_once : (found before : List FoundKey) (last : Option FoundKey) (left xs : List FoundKey) → left ≡ [] → OnceSoFar found last left xs before → map found_entry found ≡ map found_entry before ++ without_repeats None (map found_entry xs)
+pub all_once : (found before : List FoundKey) (last : Option FoundKey) (left xs : List FoundKey) → left ≡ [] → OnceSoFar found last left xs before
+    → map found_entry found ≡ map found_entry before ++ without_repeats None (map found_entry xs)
 all_once found before last left xs none so =
     sym (append-nil (map found_entry found)) ∙ ap (λ (l : List FoundKey). map found_entry found ++ without_repeats (last_entry last) (map found_entry l)) (sym none) ∙ so.once
 

@@ -26,11 +26,13 @@ filter_view test [] = refl
 filter_view test (f ∷ fs) = go (test (found_entry f)) (filter_view test fs)
   where
     go : (b : Bool) → filter test (map found_entry fs) ≡ map found_entry (filter (λ g. test (found_entry g)) fs)
-        → cond b (found_entry f ∷ filter test (map found_entry fs)) (filter test (map found_entry fs)) ≡ map found_entry (cond b (f ∷ filter (λ g. test (found_entry g)) fs) (filter (λ g. test (found_entry g)) fs))
+        → cond b (found_entry f ∷ filter test (map found_entry fs)) (filter test (map found_entry fs))
+        ≡ map found_entry (cond b (f ∷ filter (λ g. test (found_entry g)) fs) (filter (λ g. test (found_entry g)) fs))
     go true h = ap (λ (l : List KeyAt). found_entry f ∷ l) h
     go false h = h
 
-stable_at : (xs ys : List FoundKey) → IsStableBy found_lt xs ys → (f : FoundKey) → filter (is_same_entry (found_entry f)) (map found_entry ys) ≡ filter (is_same_entry (found_entry f)) (map found_entry xs)
+stable_at : (xs ys : List FoundKey) → IsStableBy found_lt xs ys → (f : FoundKey)
+    → filter (is_same_entry (found_entry f)) (map found_entry ys) ≡ filter (is_same_entry (found_entry f)) (map found_entry xs)
 stable_at xs ys stable f =
     let same : FoundKey → Bool = λ g. is_same_entry (found_entry f) (found_entry g) in
     let agree = λ (g : FoundKey). sym (ties_are_same (found_entry f) (found_entry g)) in

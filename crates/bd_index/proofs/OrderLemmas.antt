@@ -29,10 +29,12 @@ whole es n le = take_all (n - 0) es (omega arith)
 nothing : (es : List KeyAt) (next end : ℕ) → end ≤ next → slice_range es next end ≡ []
 nothing es next end le = let z : end - next ≡ 0 = omega arith in ap (λ (n : ℕ). take n (drop next es)) z
 
-pub upward_ahead : (dump : Dump) (index : Index) (i h : IsIndexOf dump index) (n : ℕ) → n ≡ length index.entries.items → slice_range i.keeps.entries 0 n ++ downward (take 0 i.keeps.entries) ≡ h.keeps.entries
+pub upward_ahead : (dump : Dump) (index : Index) (i h : IsIndexOf dump index) (n : ℕ) → n ≡ length index.entries.items
+    → slice_range i.keeps.entries 0 n ++ downward (take 0 i.keeps.entries) ≡ h.keeps.entries
 upward_ahead dump index i h n is = append_nothing (slice_range i.keeps.entries 0 n) ∙ whole i.keeps.entries n (omega (arith, count_kept dump index i)) ∙ same_kept dump index i h
 
-pub downward_ahead : (dump : Dump) (index : Index) (i h : IsIndexOf dump index) (n : ℕ) → n ≡ length index.entries.items → slice_range i.keeps.entries 0 0 ++ downward (take n i.keeps.entries) ≡ downward h.keeps.entries
+pub downward_ahead : (dump : Dump) (index : Index) (i h : IsIndexOf dump index) (n : ℕ) → n ≡ length index.entries.items
+    → slice_range i.keeps.entries 0 0 ++ downward (take n i.keeps.entries) ≡ downward h.keeps.entries
 downward_ahead dump index i h n is =
     ap (λ (l : List KeyAt). l ++ downward (take n i.keeps.entries)) (nothing i.keeps.entries 0 0 (omega arith))
     ∙ ap downward (take_all n i.keeps.entries (omega (arith, count_kept dump index i)) ∙ same_kept dump index i h)
@@ -54,7 +56,8 @@ next_of es next end d lt le =
 
 -- the next entry of a run
 pub entry_taken : (dump : Dump) (index : Index) (i h : IsIndexOf dump index) (next end below : ℕ) (k : Entry) → next < end → end ≤ length index.entries.items → k ≡ get_or index.entries.items next k
-    → map (λ e. e.1) (slice_range h.keeps.entries next end ++ downward (take below h.keeps.entries)) ≡ k.place ∷ map (λ e. e.1) (slice_range i.keeps.entries (next + 1) end ++ downward (take below i.keeps.entries))
+    → map (λ e. e.1) (slice_range h.keeps.entries next end ++ downward (take below h.keeps.entries)) ≡ k.place
+    ∷ map (λ e. e.1) (slice_range i.keeps.entries (next + 1) end ++ downward (take below i.keeps.entries))
 entry_taken dump index i h next end below k lt le is =
     let es = h.keeps.entries in
     let d : KeyAt = first es (omega (arith, count_kept dump index h)) in

@@ -31,7 +31,8 @@ place_among : (p : KeyAt → Bool) (n : ℕ) (es : List KeyAt) → list_any (λ 
 place_among p n [] = refl
 place_among p n (e ∷ es) = go (p e) refl (place_among p n es)
   where
-    go : (b : Bool) → p e ≡ b → list_any (λ m. m == n) (map (λ k. k.1) (filter p es)) ≡ list_any (λ x. p x && (x.1 == n)) es → list_any (λ m. m == n) (map (λ k. k.1) (cond (p e) (e ∷ filter p es) (filter p es))) ≡ ((p e && (e.1 == n)) || list_any (λ x. p x && (x.1 == n)) es)
+    go : (b : Bool) → p e ≡ b → list_any (λ m. m == n) (map (λ k. k.1) (filter p es)) ≡ list_any (λ x. p x && (x.1 == n)) es
+        → list_any (λ m. m == n) (map (λ k. k.1) (cond (p e) (e ∷ filter p es) (filter p es))) ≡ ((p e && (e.1 == n)) || list_any (λ x. p x && (x.1 == n)) es)
     go true h rest = rw h (ap (λ (b : Bool). (e.1 == n) || b) rest)
     go false h rest = rw h rest
 
@@ -43,7 +44,8 @@ among_from : (n k : ℕ) (xs : List ℕ) → list_any (λ m. m == n) (dedup_from
 among_from n k [] = refl
 among_from n k (x ∷ xs) = go (eqb x k) refl (λ (j : ℕ). among_from n j xs)
   where
-    go : (b : Bool) → eqb x k ≡ b → ((j : ℕ) → list_any (λ m. m == n) (dedup_from eqb j xs) ≡ list_any (λ m. m == n) (j ∷ xs)) → list_any (λ m. m == n) (cond (eqb x k) (dedup_from eqb k xs) (k ∷ dedup_from eqb x xs)) ≡ ((k == n) || ((x == n) || list_any (λ m. m == n) xs))
+    go : (b : Bool) → eqb x k ≡ b → ((j : ℕ) → list_any (λ m. m == n) (dedup_from eqb j xs) ≡ list_any (λ m. m == n) (j ∷ xs))
+        → list_any (λ m. m == n) (cond (eqb x k) (dedup_from eqb k xs) (k ∷ dedup_from eqb x xs)) ≡ ((k == n) || ((x == n) || list_any (λ m. m == n) xs))
     go true h rest =
         let same : x ≡ k = eqb-true x k h in
         rw h (rest k ∙ sym (or_again (k == n) (list_any (λ m. m == n) xs)) ∙ ap (λ (y : ℕ). (k == n) || ((y == n) || list_any (λ m. m == n) xs)) (sym same))
@@ -63,10 +65,12 @@ inside dump index h bounds spans c =
     ∙ ap (map (λ e. e.1)) (pieces_pass (has_key_in bounds) h.keeps.entries 0 spans c.order (λ k d low lt. c.cover k d lt))
 
 pub members_within : (dump : Dump) (index : Index) (h : IsIndexOf dump index) (bounds : KeyBounds) (spans : List Span) → CoverKeys h.keeps.entries (is_among bounds) spans → (n : ℕ)
-    → list_any (λ m. m == n) (pieces (map (λ e. e.place) index.entries.items) spans) ≡ list_any (λ e. has_key_in bounds e && (e.1 == n)) (entries_of index.sparse (names_of index.path) (documents dump))
+    → list_any (λ m. m == n) (pieces (map (λ e. e.place) index.entries.items) spans)
+    ≡ list_any (λ e. has_key_in bounds e && (e.1 == n)) (entries_of index.sparse (names_of index.path) (documents dump))
 members_within dump index h bounds spans c n =
     ap (list_any (λ m. m == n)) (inside dump index h bounds spans c) ∙ place_among (has_key_in bounds) n h.keeps.entries
-    ∙ any_as_counts (λ e. has_key_in bounds e && (e.1 == n)) h.keeps.entries (entries_of index.sparse (names_of index.path) (documents dump)) (h.keeps.are.same (λ e. has_key_in bounds e && (e.1 == n)))
+    ∙ any_as_counts (λ e. has_key_in bounds e && (e.1 == n)) h.keeps.entries (entries_of index.sparse (names_of index.path) (documents dump))
+    (h.keeps.are.same (λ e. has_key_in bounds e && (e.1 == n)))
 
 pub counted_within : (dump : Dump) (index : Index) (h : IsIndexOf dump index) (bounds : KeyBounds) (spans : List Span) → CoverKeys h.keeps.entries (is_among bounds) spans
     → length (pieces (map (λ e. e.place) index.entries.items) spans) ≡ count_by (has_key_in bounds) (entries_of index.sparse (names_of index.path) (documents dump))
@@ -74,7 +78,8 @@ counted_within dump index h bounds spans c =
     ap (λ (l : List ℕ). length l) (inside dump index h bounds spans c) ∙ length-map (filter (has_key_in bounds) h.keeps.entries) (λ e. e.1)
     ∙ length-filter (has_key_in bounds) h.keeps.entries ∙ h.keeps.are.same (has_key_in bounds)
 
-pub piece_added : (kept : List Entry) (from to i : ℕ) (items : List Entry) (old new : List ℕ) → new ≡ old ++ map (λ e. e.place) (take i items) → items ≡ slice_range kept from to → length items ≤ i → new ≡ old ++ slice_range (map (λ e. e.place) kept) from to
+pub piece_added : (kept : List Entry) (from to i : ℕ) (items : List Entry) (old new : List ℕ) → new ≡ old ++ map (λ e. e.place) (take i items)
+    → items ≡ slice_range kept from to → length items ≤ i → new ≡ old ++ slice_range (map (λ e. e.place) kept) from to
 piece_added kept from to i items old new added is whole =
     added
     ∙ ap (λ (l : List Entry). old ++ map (λ e. e.place) l) (take_all i items whole ∙ is)

@@ -1,5 +1,6 @@
 -- Entries that were sorted, without repeats, are the entries of the documents.
-use Rattle.std.proofs.Common.{◌≡◌, ◌+◌, ◌<◌, ◌≤◌, ℕ, suc, Bool, true, false, cond, List, [], ◌∷◌, ◌++◌, Option, Some, None, ◌⊎◌, inl, inr, filter, length, get_or, drop, refl, sym, ap, ap₂, ◌∙◌, subst, arith, eq-eqb}
+use Rattle.std.proofs.Common.{◌≡◌, ◌+◌, ◌<◌, ◌≤◌, ℕ, suc, Bool, true, false, cond, List, [], ◌∷◌, ◌++◌, Option, Some, None, ◌⊎◌, inl, inr, filter, length}
+use Rattle.std.proofs.Common.{get_or, drop, refl, sym, ap, ap₂, ◌∙◌, subst, arith, eq-eqb}
 use Rattle.std.specs.Prelude.{◌&&◌, ◌||◌, slice_get}
 use Rattle.std.specs.List.{AllByRecursion, count_by, list_any}
 use Rattle.std.specs.List.Sorted.{IsSortedBy}
@@ -125,7 +126,8 @@ repeats_have last [] e f = let i = f.is in absurd (let g : ⊥ = cc in g)
 repeats_have last (x ∷ xs) e f = go (is_same_entry e x) refl (is_repeat last x) refl f.is (repeats_have last xs e) (repeats_have (Some x) xs e)
   where
     go : (b : Bool) → is_same_entry e x ≡ b → (c : Bool) → is_repeat last x ≡ c → cond b (Some x) (first_same e xs) ≡ Some e
-        → (IsFirst last xs e → In e (without_repeats last xs)) → (IsFirst (Some x) xs e → In e (without_repeats (Some x) xs)) → In e (cond c (without_repeats last xs) (x ∷ without_repeats (Some x) xs))
+        → (IsFirst last xs e → In e (without_repeats last xs)) → (IsFirst (Some x) xs e → In e (without_repeats (Some x) xs))
+        → In e (cond c (without_repeats last xs) (x ∷ without_repeats (Some x) xs))
     go true s true r i on after =
         let is : x ≡ e = cc in
         absurd (not_both (is_repeat last x) r (subst (λ (y : KeyAt). is_repeat last y ≡ false) (sym is) f.new))
@@ -276,7 +278,8 @@ apart_without (f ∷ fs) back x h = (all_without (λ y. is_same_entry f y ≡ fa
 apart_other : (front back : List KeyAt) (x e : KeyAt) → Apart (front ++ x ∷ back) → In e (front ++ back) → e ≡ x → ⊥
 apart_other [] back x e h i s = not_both (is_same_entry x e) (subst (λ (y : KeyAt). is_same_entry x y ≡ true) (sym s) (same_itself x)) (in_all (λ y. is_same_entry x y ≡ false) back e h.0 i)
 apart_other (f ∷ fs) back x e h (inl j) s =
-    not_both (is_same_entry f x) (subst (λ (y : KeyAt). is_same_entry f y ≡ true) (sym j ∙ s) (same_itself f)) (in_all (λ y. is_same_entry f y ≡ false) (fs ++ x ∷ back) x h.0 (in_right x fs (x ∷ back) (inl refl)))
+    not_both (is_same_entry f x) (subst (λ (y : KeyAt). is_same_entry f y ≡ true) (sym j ∙ s) (same_itself f))
+    (in_all (λ y. is_same_entry f y ≡ false) (fs ++ x ∷ back) x h.0 (in_right x fs (x ∷ back) (inl refl)))
 apart_other (f ∷ fs) back x e h (inr j) s = apart_other fs back x e h.1 j s
 
 in_without : (front back : List KeyAt) (x e : KeyAt) → In e (front ++ x ∷ back) → (e ≡ x → ⊥) → In e (front ++ back)
@@ -306,7 +309,9 @@ as_many test (x ∷ xs) ys a b to from =
     let cut : Apart (s.front ++ x ∷ s.back) = subst Apart s.is b in
     sum_by-cons (λ (e : KeyAt). cond (test e) 1 0) x xs
     ∙ ap (λ (n : ℕ). cond (test x) 1 0 + n) (as_many test xs (s.front ++ s.back) a.1 (apart_without s.front s.back x cut)
-    (λ e i. in_without s.front s.back x e (subst (λ (l : List KeyAt). In e l) s.is (to e (inr i))) (λ is. not_both (is_same_entry x e) (subst (λ (y : KeyAt). is_same_entry x y ≡ true) (sym is) (same_itself x)) (in_all (λ y. is_same_entry x y ≡ false) xs e a.0 i)))
+    (λ e i. in_without s.front s.back x e (subst (λ (l : List KeyAt). In e l) s.is (to e (inr i)))
+    (λ is. not_both (is_same_entry x e) (subst (λ (y : KeyAt). is_same_entry x y ≡ true) (sym is) (same_itself x))
+    (in_all (λ y. is_same_entry x y ≡ false) xs e a.0 i)))
     (λ e i. left s.front s.back e i (from e (subst (λ (l : List KeyAt). In e l) (sym s.is) (in_with s.front s.back x e i))) cut))
     ∙ sym (counted_out test s.front s.back x) ∙ ap (count_by test) (sym s.is)
   where
@@ -330,7 +335,8 @@ once_keys place ks (l ∷ ls) =
     ap (λ (b : Bool). each_once (cond b (keys_at place ks) (keys_at place ks ++ (l, place) ∷ [])) (keys_at place ls)) (same_keys place ks l)
     ∙ go (list_any (λ x. equal x l) ks) (once_keys place ks ls) (once_keys place (ks ++ l ∷ []) ls)
   where
-    go : (b : Bool) → each_once (keys_at place ks) (keys_at place ls) ≡ keys_at place (with_keys ks ls) → each_once (keys_at place (ks ++ l ∷ [])) (keys_at place ls) ≡ keys_at place (with_keys (ks ++ l ∷ []) ls)
+    go : (b : Bool) → each_once (keys_at place ks) (keys_at place ls) ≡ keys_at place (with_keys ks ls)
+        → each_once (keys_at place (ks ++ l ∷ [])) (keys_at place ls) ≡ keys_at place (with_keys (ks ++ l ∷ []) ls)
         → each_once (cond b (keys_at place ks) (keys_at place ks ++ (l, place) ∷ [])) (keys_at place ls) ≡ keys_at place (with_keys (cond b ks (ks ++ l ∷ [])) ls)
     go true on after = on
     go false on after = ap (λ (k : List KeyAt). each_once k (keys_at place ls)) (sym (keys_append place ks (l ∷ []))) ∙ after
@@ -359,7 +365,8 @@ once_sorted raw ys up stable test =
     back e (inr f) = record { new = refl; is = first_as_filter e raw ys (stable e (inr (first_in e e raw f.is))) ∙ f.is }
 
 -- the keys of a document, sorted and without repeats
-pub own_once : (place : ℕ) (ks : List Tree) (raw ys : List KeyAt) → raw ≡ keys_at place ks → Ascend ys → AsTheyCame raw ys → (test : KeyAt → Bool) → count_by test (without_repeats None ys) ≡ count_by test (keys_at place (distinct ks))
+pub own_once : (place : ℕ) (ks : List Tree) (raw ys : List KeyAt) → raw ≡ keys_at place ks → Ascend ys → AsTheyCame raw ys → (test : KeyAt → Bool)
+    → count_by test (without_repeats None ys) ≡ count_by test (keys_at place (distinct ks))
 own_once place ks raw ys is up stable test =
     once_sorted raw ys up stable test ∙ ap (λ (l : List KeyAt). count_by test (each_once [] l)) is ∙ ap (count_by test) (once_keys place [] ks)
 
@@ -377,7 +384,8 @@ one_more sparse path n ds d t ks is tree listed =
     ap (entries_from sparse path n) (next_at ds n d is)
     ∙ ap (λ (x : List Tree). keys_at n x ++ entries_from sparse path (n + 1) (drop (n + 1) ds)) (sym (listed ∙ ap (λ (x : Tree). indexed_keys sparse x path) tree))
 
-pub counted_more : (test : KeyAt → Bool) (old new own rest from : List KeyAt) (all : ℕ) → count_by test new ≡ count_by test (old ++ own) → from ≡ own ++ rest → count_by test (old ++ from) ≡ all → count_by test (new ++ rest) ≡ all
+pub counted_more : (test : KeyAt → Bool) (old new own rest from : List KeyAt) (all : ℕ) → count_by test new ≡ count_by test (old ++ own)
+    → from ≡ own ++ rest → count_by test (old ++ from) ≡ all → count_by test (new ++ rest) ≡ all
 counted_more test old new own rest from all added is so_far =
     let a = count-append test new rest in
     let b = count-append test old own in

@@ -21,7 +21,8 @@ use Rattle.bd_index.proofs.EntryLemmas.{entry_total, first_not_less}
 pub parted : (cut : Cut) (es : List KeyAt) → IsSortedBy (λ a b. is_lt (entry_cmp a b)) es → IsPartitionedBy (λ e. is_before cut e.0) es
 parted cut es sorted i j d le lt h =
     falls_once cut (get_or es i d).0 (get_or es j d).0
-    (first_not_less (cmp (get_or es j d).0 (get_or es i d).0) (nat_cmp (get_or es j d).1 (get_or es i d).1) (sorted_far (λ x y. is_lt (entry_cmp x y)) (ranks_by entry_total (λ x. x)) es sorted i j d le lt)) h
+    (first_not_less (cmp (get_or es j d).0 (get_or es i d).0) (nat_cmp (get_or es j d).1 (get_or es i d).1)
+    (sorted_far (λ x y. is_lt (entry_cmp x y)) (ranks_by entry_total (λ x. x)) es sorted i j d le lt)) h
 
 pub below_next : {A : Type 0} (p : A → Bool) (es : List A) (m : ℕ) → IsPartitionedBy p es → m < length es → ((d : A) → p (get_or es m d) ≡ true) → AllWithin (λ e. p e ≡ true) es 0 (m + 1)
 below_next p es m up lt here k d low high = up k m d (omega arith) lt (here d)

@@ -30,7 +30,8 @@ weak dir = ranks_by (dir_total dir) (λ x. x)
 itself : (dir : Dir) (k : Tree) → is_lt (dir_cmp dir k k) ≡ false
 itself dir k = ap is_lt (tied_itself (dir_total dir) k)
 
-all_after : (dir : Dir) (b k : Tree) (ks : List Tree) → is_lt (dir_cmp dir b k) ≡ false → AllByRecursion (λ x. is_lt (dir_cmp dir x b) ≡ false) ks → AllByRecursion (λ x. is_lt (dir_cmp dir x k) ≡ false) ks
+all_after : (dir : Dir) (b k : Tree) (ks : List Tree) → is_lt (dir_cmp dir b k) ≡ false → AllByRecursion (λ x. is_lt (dir_cmp dir x b) ≡ false) ks
+    → AllByRecursion (λ x. is_lt (dir_cmp dir x k) ≡ false) ks
 all_after dir b k [] h low = tt
 all_after dir b k (x ∷ xs) h low = ((weak dir).chain x b k low.0 h, all_after dir b k xs h low.1)
 

@@ -1,5 +1,6 @@
 -- Spans put in order, and the gaps between them.
-use Rattle.std.proofs.Common.{◌≡◌, ◌+◌, ◌-◌, ◌<◌, ◌≤◌, ℕ, zero, suc, Bool, true, false, List, [], ◌∷◌, ◌++◌, length, get_or, map, filter, take, drop, max, refl, sym, ap, ap₂, ◌∙◌, subst, arith, add-one, drop-cons, inl, inr, All}
+use Rattle.std.proofs.Common.{◌≡◌, ◌+◌, ◌-◌, ◌<◌, ◌≤◌, ℕ, zero, suc, Bool, true, false, List, [], ◌∷◌, ◌++◌, length, get_or, map, filter, take, drop, max, refl}
+use Rattle.std.proofs.Common.{sym, ap, ap₂, ◌∙◌, subst, arith, add-one, drop-cons, inl, inr, All}
 use Rattle.std.specs.Prelude.{◌&&◌, ◌||◌, not, nat_lt, slice_range}
 use Rattle.std.specs.List.Sorted.{IsNonDecreasingBy}
 use Rattle.std.proofs.lemmas.Bool.{cases_lt, lt-ltb, le-ltb}
@@ -99,7 +100,8 @@ orders_passed spans ordered i end s lt is short o = record {
           ]
         ]
 
-pub orders_one : (spans ordered new : List Span) (i end : ℕ) (s t : Span) → IsNonDecreasingBy (λ x. x.from) spans → i < length spans → s ≡ get_or spans i s → t.from ≡ max s.from end → t.to ≡ s.to → t.from < t.to
+pub orders_one : (spans ordered new : List Span) (i end : ℕ) (s t : Span) → IsNonDecreasingBy (λ x. x.from) spans → i < length spans
+    → s ≡ get_or spans i s → t.from ≡ max s.from end → t.to ≡ s.to → t.from < t.to
     → new ≡ ordered ++ t ∷ [] → Orders spans ordered i end → Orders spans new (i + 1) s.to
 orders_one spans ordered new i end s t sorted lt is begin until some pushed o =
     subst (λ (l : List Span). Orders spans l (i + 1) s.to) (sym pushed)
@@ -147,7 +149,8 @@ all_push P [] s all one (suc k) d lt = absurd (omega arith)
 all_push P (x ∷ xs) s all one zero d lt = all 0 x (omega arith)
 all_push P (x ∷ xs) s all one (suc k) d lt = all_push P xs s (λ j e low. all (suc j) e (omega arith)) one k d (omega arith)
 
-pub gaps_one : (count : ℕ) (old gaps new spans left : List Span) (end : ℕ) (s t : Span) → t.from ≡ end → t.to ≡ s.from → new ≡ gaps ++ t ∷ [] → Gaps count old gaps spans (s ∷ left) end → Gaps count old new spans left s.to
+pub gaps_one : (count : ℕ) (old gaps new spans left : List Span) (end : ℕ) (s t : Span) → t.from ≡ end → t.to ≡ s.from → new ≡ gaps ++ t ∷ []
+    → Gaps count old gaps spans (s ∷ left) end → Gaps count old new spans left s.to
 gaps_one count old gaps new spans left end s t begin until pushed g =
     let a = g.order.0 in
     let b = g.order.1 in
@@ -156,7 +159,8 @@ gaps_one count old gaps new spans left end s t begin until pushed g =
     (record {
       order = g.order.2;
       below = all_push (λ x. x.to ≤ count) gaps t g.below (omega arith);
-      added = λ k lt. ap (λ (x : Bool). x || (not (nat_lt k s.to) && not (is_covered left k))) (covered_push gaps t k) ∙ or_in (is_covered gaps k) (is_in_span k t) (not (nat_lt k s.to) && not (is_covered left k))
+      added = λ k lt. ap (λ (x : Bool). x || (not (nat_lt k s.to) && not (is_covered left k))) (covered_push gaps t k)
+          ∙ or_in (is_covered gaps k) (is_in_span k t) (not (nat_lt k s.to) && not (is_covered left k))
           ∙ ap (λ (x : Bool). is_covered gaps k || x) (inner k) ∙ g.added k lt;
     })
   where
@@ -165,7 +169,8 @@ gaps_one count old gaps new spans left end s t begin until pushed g =
         let a = g.order.0 in
         let b = g.order.1 in
         elim (cases_lt k end) [
-          | inl low ↦ ap₂ (λ (x y : Bool). x || (not y && not (is_covered left k))) (front_is k t (omega arith)) (lt-ltb k s.to (omega arith)) ∙ sym (ap (λ (x : Bool). not x && not (is_in_span k s || is_covered left k)) (lt-ltb k end low))
+          | inl low ↦ ap₂ (λ (x y : Bool). x || (not y && not (is_covered left k))) (front_is k t (omega arith)) (lt-ltb k s.to (omega arith))
+              ∙ sym (ap (λ (x : Bool). not x && not (is_in_span k s || is_covered left k)) (lt-ltb k end low))
           | inr le ↦ elim (cases_lt k s.from) [
             | inl high ↦ ap (λ (x : Bool). x || (not (nat_lt k s.to) && not (is_covered left k))) (in_is k t (omega arith) (omega arith))
                 ∙ sym (ap₂ (λ (x y : Bool). not x && not y) (le-ltb k end le) (ap₂ (λ (x y : Bool). x || y) (front_is k s high) (none_in_front s.to count left k g.order.2 (omega arith))))
@@ -201,7 +206,8 @@ all_pass p [] h = refl
 all_pass {A} p (x ∷ xs) h = rw (h 0 x (omega arith)) (ap (λ (l : List A). x ∷ l) (all_pass p xs (λ k d lt. h (suc k) d (omega arith))))
 
 -- of entries in spans that are in order, where the positions that are covered are those that pass
-pub pieces_pass : {A : Type 0} (p : A → Bool) (es : List A) (low : ℕ) (spans : List Span) → AreInOrder low (length es) spans → ((k : ℕ) (d : A) → low ≤ k → k < length es → is_covered spans k ≡ p (get_or es k d)) → pieces es spans ≡ filter p (drop low es)
+pub pieces_pass : {A : Type 0} (p : A → Bool) (es : List A) (low : ℕ) (spans : List Span) → AreInOrder low (length es) spans
+    → ((k : ℕ) (d : A) → low ≤ k → k < length es → is_covered spans k ≡ p (get_or es k d)) → pieces es spans ≡ filter p (drop low es)
 pieces_pass p es low [] order cover = sym (none_pass p (drop low es) (λ k d lt. let n = length-drop low es in ap p (get_or-drop low es k d) ∙ sym (cover (low + k) d (omega arith) (omega arith))))
 pieces_pass {A} p es low (s ∷ spans) order cover =
     let a = order.0 in
@@ -211,10 +217,12 @@ pieces_pass {A} p es low (s ∷ spans) order cover =
     let m = slice_range es s.from s.to in
     let front : filter p f ≡ [] = none_pass p f (λ k d lt.
     let n = in_piece es low s.from (omega arith) in
-    ap p (at_piece es low s.from k d (omega arith)) ∙ sym (cover (low + k) d (omega arith) (omega arith)) ∙ ap₂ (λ (x y : Bool). x || y) (front_is (low + k) s (omega arith)) (none_in_front s.to (length es) spans (low + k) order.2 (omega arith))) in
+    ap p (at_piece es low s.from k d (omega arith)) ∙ sym (cover (low + k) d (omega arith) (omega arith))
+    ∙ ap₂ (λ (x y : Bool). x || y) (front_is (low + k) s (omega arith)) (none_in_front s.to (length es) spans (low + k) order.2 (omega arith))) in
     let middle : filter p m ≡ m = all_pass p m (λ k d lt.
     let n = in_piece es s.from s.to (omega arith) in
-    ap p (at_piece es s.from s.to k d (omega arith)) ∙ sym (cover (s.from + k) d (omega arith) (omega arith)) ∙ ap (λ (x : Bool). x || is_covered spans (s.from + k)) (in_is (s.from + k) s (omega arith) (omega arith))) in
+    ap p (at_piece es s.from s.to k d (omega arith)) ∙ sym (cover (s.from + k) d (omega arith) (omega arith))
+    ∙ ap (λ (x : Bool). x || is_covered spans (s.from + k)) (in_is (s.from + k) s (omega arith) (omega arith))) in
     let rest = pieces_pass p es s.to spans order.2 (λ k d le lt. ap (λ (x : Bool). x || is_covered spans k) (sym (back_is k s le)) ∙ cover k d (omega arith) lt) in
     sym (ap (filter p) (cut_at es low s.from a ∙ ap (λ (l : List A). f ++ l) (cut_at es s.from s.to b))
     ∙ filter-append p f (m ++ drop s.to es) ∙ ap (λ (l : List A). l ++ filter p (m ++ drop s.to es)) front
@@ -227,7 +235,8 @@ pieces_pass {A} p es low (s ∷ spans) order cover =
     in_piece xs from to le = omega (arith, length-take (to - from) (drop from xs), length-drop from xs)
 
     cut_at : (xs : List A) (from to : ℕ) → from ≤ to → drop from xs ≡ slice_range xs from to ++ drop to xs
-    cut_at xs from to le = let n : from + (to - from) ≡ to = omega arith in sym (take-append-drop (to - from) (drop from xs)) ∙ ap (λ (l : List A). slice_range xs from to ++ l) (drop-drop (to - from) from xs ∙ ap (λ (j : ℕ). drop j xs) n)
+    cut_at xs from to le = let n : from + (to - from) ≡ to = omega arith in sym (take-append-drop (to - from) (drop from xs))
+        ∙ ap (λ (l : List A). slice_range xs from to ++ l) (drop-drop (to - from) from xs ∙ ap (λ (j : ℕ). drop j xs) n)
 
 -- what is seen of them
 pub pieces_map : {A B : Type 0} (f : A → B) (xs : List A) (spans : List Span) → map f (pieces xs spans) ≡ pieces (map f xs) spans

@@ -49,7 +49,8 @@ all_of_keys : (P : KeyAt → Type 0) (n : ℕ) (ks : List Tree) → AllByRecursi
 all_of_keys P n [] h = tt
 all_of_keys P n (k ∷ ks) h = (h.0, all_of_keys P n ks h.1)
 
-all_entries : (P : KeyAt → Type 0) (path : Names) (n : ℕ) (ds : List Doc) → ((i : ℕ) → i < length ds → AllByRecursion (λ k. P (k, n + i)) (keys_of path ds i)) → AllByRecursion P (entries_from false path n ds)
+all_entries : (P : KeyAt → Type 0) (path : Names) (n : ℕ) (ds : List Doc)
+    → ((i : ℕ) → i < length ds → AllByRecursion (λ k. P (k, n + i)) (keys_of path ds i)) → AllByRecursion P (entries_from false path n ds)
 all_entries P path n [] h = tt
 all_entries P path n (d ∷ ds) h =
     all_append P (keys_at n (keys (doc (fields_of d)) path)) (entries_from false path (n + 1) ds)
@@ -68,15 +69,18 @@ any_of_keys : (t : KeyAt → Bool) (n : ℕ) (ks : List Tree) → list_any t (ke
 any_of_keys t n [] = refl
 any_of_keys t n (k ∷ ks) = ap (λ (b : Bool). t (k, n) || b) (any_of_keys t n ks)
 
-some_entry : (t : KeyAt → Bool) (path : Names) (n : ℕ) (ds : List Doc) (i : ℕ) → i < length ds → list_any (λ k. t (k, n + i)) (keys_of path ds i) ≡ true → list_any t (entries_from false path n ds) ≡ true
+some_entry : (t : KeyAt → Bool) (path : Names) (n : ℕ) (ds : List Doc) (i : ℕ) → i < length ds
+    → list_any (λ k. t (k, n + i)) (keys_of path ds i) ≡ true → list_any t (entries_from false path n ds) ≡ true
 some_entry t path n [] i lt h = absurd (omega arith)
 some_entry t path n (d ∷ ds) zero lt h =
     any_in t (keys_at n (keys (doc (fields_of d)) path)) (entries_from false path (n + 1) ds)
-    ∙ ap (λ (b : Bool). b || list_any t (entries_from false path (n + 1) ds)) (any_of_keys t n (keys (doc (fields_of d)) path) ∙ subst (λ (m : ℕ). list_any (λ k. t (k, m)) (keys (doc (fields_of d)) path) ≡ true) (add-zero n) h)
+    ∙ ap (λ (b : Bool). b || list_any t (entries_from false path (n + 1) ds)) (any_of_keys t n (keys (doc (fields_of d)) path)
+    ∙ subst (λ (m : ℕ). list_any (λ k. t (k, m)) (keys (doc (fields_of d)) path) ≡ true) (add-zero n) h)
 some_entry t path n (d ∷ ds) (suc i) lt h =
     let e : n + suc i ≡ n + 1 + i = omega arith in
     any_in t (keys_at n (keys (doc (fields_of d)) path)) (entries_from false path (n + 1) ds)
-    ∙ later (list_any t (keys_at n (keys (doc (fields_of d)) path))) (list_any t (entries_from false path (n + 1) ds)) (some_entry t path (n + 1) ds i (omega arith) (subst (λ (m : ℕ). list_any (λ k. t (k, m)) (keys_of path ds i) ≡ true) e h))
+    ∙ later (list_any t (keys_at n (keys (doc (fields_of d)) path))) (list_any t (entries_from false path (n + 1) ds))
+    (some_entry t path (n + 1) ds i (omega arith) (subst (λ (m : ℕ). list_any (λ k. t (k, m)) (keys_of path ds i) ≡ true) e h))
   where
     later : (a b : Bool) → b ≡ true → (a || b) ≡ true
     later true b g = refl
@@ -87,11 +91,13 @@ none_of : (t : KeyAt → Bool) (es raw : List KeyAt) → count_by t es ≡ count
 none_of t es raw same h = none_passes t es (any_as_counts t es raw same ∙ none_any t raw h)
 
 -- each place is that of a document
-pub places_below : (path : Names) (ds : List Doc) (es : List KeyAt) → ((test : KeyAt → Bool) → count_by test es ≡ count_by test (entries_of false path ds)) → AllByRecursion (λ e. nat_lt e.1 (length ds) ≡ true) es
+pub places_below : (path : Names) (ds : List Doc) (es : List KeyAt) → ((test : KeyAt → Bool)
+    → count_by test es ≡ count_by test (entries_of false path ds)) → AllByRecursion (λ e. nat_lt e.1 (length ds) ≡ true) es
 places_below path ds es same =
     all_map (λ e h. flip (nat_lt e.1 (length ds)) h) es
     (none_of (λ e. not (nat_lt e.1 (length ds))) es (entries_of false path ds) (same (λ e. not (nat_lt e.1 (length ds))))
-    (all_entries (λ e. not (nat_lt e.1 (length ds)) ≡ false) path 0 ds (λ i lt. let l : 0 + i < length ds = omega arith in every (not (nat_lt (0 + i) (length ds))) (ap not (lt-ltb (0 + i) (length ds) l)) (keys_of path ds i))))
+    (all_entries (λ e. not (nat_lt e.1 (length ds)) ≡ false) path 0 ds
+    (λ i lt. let l : 0 + i < length ds = omega arith in every (not (nat_lt (0 + i) (length ds))) (ap not (lt-ltb (0 + i) (length ds) l)) (keys_of path ds i))))
   where
     flip : (b : Bool) → not b ≡ false → b ≡ true
     flip true h = refl
@@ -122,7 +128,8 @@ ready dir path ds es a = record {
       ap (λ (b : Bool). list_any (λ k. b && is_eq (dir_cmp dir k (key_of dir path ds q))) (keys_of path ds q)) (eq-eqb (0 + q) q z) ∙ (sort_key_best dir (document_at ds q) path).there);
   low = none_of (λ e. is_lt (dir_cmp dir e.0 (key_of dir path ds e.1))) es (entries_of false path ds) (a.same (λ e. is_lt (dir_cmp dir e.0 (key_of dir path ds e.1))))
       (all_entries (λ e. is_lt (dir_cmp dir e.0 (key_of dir path ds e.1)) ≡ false) path 0 ds
-      (λ i lt. let z : i ≡ 0 + i = omega arith in subst (λ (m : ℕ). AllByRecursion (λ k. is_lt (dir_cmp dir k (key_of dir path ds m)) ≡ false) (keys_of path ds i)) z (sort_key_best dir (document_at ds i) path).low));
+      (λ i lt. let z : i ≡ 0 + i = omega arith in subst (λ (m : ℕ). AllByRecursion (λ k. is_lt (dir_cmp dir k (key_of dir path ds m)) ≡ false)
+      (keys_of path ds i)) z (sort_key_best dir (document_at ds i) path).low));
   rises = a.rises;
   places = places_below path ds es a.same;
 }
@@ -145,11 +152,14 @@ walks dir path ds es ps a is =
     let d = in_turn (dir_cmp dir) (dir_total dir) (key_of dir path ds) (λ n. nat_lt n (length ds)) [] es (ready dir path ds es a) in
     subst (λ (l : List ℕ). WalksAll dir path ds l) (sym is)
     (record {
-      order = λ i j e low high. one_path (dir_cmp dir (key_of dir path ds (get_or (first_places [] es) i e)) (key_of dir path ds (get_or (first_places [] es) j e))) (nat_cmp (get_or (first_places [] es) i e) (get_or (first_places [] es) j e)) (pairs_from (place_by (dir_cmp dir) (key_of dir path ds)) (first_places [] es) d.order i j e low high);
+      order = λ i j e low high. one_path (dir_cmp dir (key_of dir path ds (get_or (first_places [] es) i e))
+          (key_of dir path ds (get_or (first_places [] es) j e))) (nat_cmp (get_or (first_places [] es) i e) (get_or (first_places [] es) j e))
+          (pairs_from (place_by (dir_cmp dir) (key_of dir path ds)) (first_places [] es) d.order i j e low high);
       all = λ n. go (first_places [] es) n (nat_lt n (length ds)) refl (d.all n) d.places;
     })
   where
-    go : (ls : List ℕ) (n : ℕ) (b : Bool) → nat_lt n (length ds) ≡ b → (nat_lt n (length ds) ≡ true → list_any (λ m. m == n) ls ≡ true) → AllByRecursion (λ q. nat_lt q (length ds) ≡ true) ls → list_any (λ m. m == n) ls ≡ nat_lt n (length ds)
+    go : (ls : List ℕ) (n : ℕ) (b : Bool) → nat_lt n (length ds) ≡ b → (nat_lt n (length ds) ≡ true → list_any (λ m. m == n) ls ≡ true)
+        → AllByRecursion (λ q. nat_lt q (length ds) ≡ true) ls → list_any (λ m. m == n) ls ≡ nat_lt n (length ds)
     go ls n true e f g = f e ∙ sym e
     go ls n false e f g = none_any (λ m. m == n) ls (all_map (λ q h. other q (q == n) refl h) ls g) ∙ sym e
       where
@@ -200,8 +210,11 @@ marked seen ps p lt marks k low =
     or_false false = refl
 
     go : (b : Bool) → (p == k) ≡ b → get_or seen k true ≡ list_any (λ m. m == k) ps → get_or (set seen p true) k true ≡ list_any (λ m. m == k) (ps ++ p ∷ [])
-    go true e h = let same : p ≡ k = eqb-true p k e in subst (λ (j : ℕ). get_or (set seen p true) j true ≡ true) same (get_or-set_same seen p true true lt) ∙ or_true (list_any (λ m. m == k) ps) ∙ ap (λ (b : Bool). list_any (λ m. m == k) ps || b) (sym e) ∙ sym (last (λ m. m == k) ps p)
-    go false e h = get_or-set_other seen p k true true (λ same. let f : true ≡ false = sym (eq-eqb p k (sym same)) ∙ e in cc) ∙ h ∙ or_false (list_any (λ m. m == k) ps) ∙ ap (λ (b : Bool). list_any (λ m. m == k) ps || b) (sym e) ∙ sym (last (λ m. m == k) ps p)
+    go true e h = let same : p ≡ k = eqb-true p k e in subst (λ (j : ℕ). get_or (set seen p true) j true ≡ true) same
+        (get_or-set_same seen p true true lt) ∙ or_true (list_any (λ m. m == k) ps) ∙ ap (λ (b : Bool). list_any (λ m. m == k) ps || b) (sym e)
+        ∙ sym (last (λ m. m == k) ps p)
+    go false e h = get_or-set_other seen p k true true (λ same. let f : true ≡ false = sym (eq-eqb p k (sym same)) ∙ e in cc) ∙ h
+        ∙ or_false (list_any (λ m. m == k) ps) ∙ ap (λ (b : Bool). list_any (λ m. m == k) ps || b) (sym e) ∙ sym (last (λ m. m == k) ps p)
 
 pub fresh_are_first : (seen : List Bool) (ps : List ℕ) (es : List KeyAt) → AllByRecursion (λ e. e.1 < length seen) es → AreMarks seen ps → fresh_places seen (map (λ e. e.1) es) ≡ first_places ps es
 fresh_are_first seen ps [] low marks = refl
@@ -217,13 +230,15 @@ fresh_are_first seen ps (e ∷ es) low marks =
     go false on after = ap (λ (l : List ℕ). e.1 ∷ l) after
 
 -- a walk from its start
-pub walks_fresh : (dir : Dir) (path : Names) (ds : List Doc) (es : List KeyAt) (seen : List Bool) → AreOrdered dir path ds es → length seen ≡ length ds → ((k : ℕ) (d : Bool) → k < length ds → get_or seen k d ≡ false)
+pub walks_fresh : (dir : Dir) (path : Names) (ds : List Doc) (es : List KeyAt) (seen : List Bool) → AreOrdered dir path ds es
+    → length seen ≡ length ds → ((k : ℕ) (d : Bool) → k < length ds → get_or seen k d ≡ false)
     → WalksAll dir path ds (fresh_places seen (map (λ e. e.1) es))
 walks_fresh dir path ds es seen a size none =
     let low : AllByRecursion (λ e. e.1 < length seen) es = all_map (λ e h. let lt : e.1 < length ds = ltb-true e.1 (length ds) h in omega arith) es (places_below path ds es a.same) in
     walks dir path ds es (fresh_places seen (map (λ e. e.1) es)) a (fresh_are_first seen [] es low (λ k lt. none k true (omega arith)))
 
-pub room_for : (path : Names) (ds : List Doc) (es : List KeyAt) (n : ℕ) → ((test : KeyAt → Bool) → count_by test es ≡ count_by test (entries_of false path ds)) → n ≡ length ds → All (λ p. p < n) (map (λ e. e.1) es)
+pub room_for : (path : Names) (ds : List Doc) (es : List KeyAt) (n : ℕ)
+    → ((test : KeyAt → Bool) → count_by test es ≡ count_by test (entries_of false path ds)) → n ≡ length ds → All (λ p. p < n) (map (λ e. e.1) es)
 room_for path ds es n same size = All-from_recursion (λ p. p < n) (map (λ e. e.1) es) (go es (places_below path ds es same))
   where
     go : (xs : List KeyAt) → AllByRecursion (λ e. nat_lt e.1 (length ds) ≡ true) xs → AllByRecursion (λ p. p < n) (map (λ e. e.1) xs)
@@ -237,12 +252,14 @@ any_default [] k d e lt = absurd (omega arith)
 any_default (x ∷ xs) zero d e lt = refl
 any_default (x ∷ xs) (suc k) d e lt = any_default xs k d e (omega arith)
 
-pub place_seen : (seen : List Bool) (ahead : List ℕ) (old : List ℕ) (p : ℕ) (r : Bool) → old ≡ p ∷ ahead → p < length seen → r ≡ get_or seen p r → r ≡ true → fresh_places seen ahead ≡ fresh_places seen old
+pub place_seen : (seen : List Bool) (ahead : List ℕ) (old : List ℕ) (p : ℕ) (r : Bool) → old ≡ p ∷ ahead → p < length seen → r ≡ get_or seen p r
+    → r ≡ true → fresh_places seen ahead ≡ fresh_places seen old
 place_seen seen ahead old p r is lt read was =
     let known : get_or seen p true ≡ true = any_default seen p true r lt ∙ sym read ∙ was in
     sym (ap (fresh_places seen) is ∙ ap (λ (b : Bool). cond b (fresh_places seen ahead) (p ∷ fresh_places (set seen p true) ahead)) known)
 
-pub place_fresh : (seen : List Bool) (ahead : List ℕ) (old : List ℕ) (p : ℕ) (r : Bool) → old ≡ p ∷ ahead → p < length seen → r ≡ get_or seen p r → r ≡ false → fresh_places seen old ≡ p ∷ fresh_places (set seen p true) ahead
+pub place_fresh : (seen : List Bool) (ahead : List ℕ) (old : List ℕ) (p : ℕ) (r : Bool) → old ≡ p ∷ ahead → p < length seen → r ≡ get_or seen p r
+    → r ≡ false → fresh_places seen old ≡ p ∷ fresh_places (set seen p true) ahead
 place_fresh seen ahead old p r is lt read was =
     let known : get_or seen p true ≡ false = any_default seen p true r lt ∙ sym read ∙ was in
     ap (fresh_places seen) is ∙ ap (λ (b : Bool). cond b (fresh_places seen ahead) (p ∷ fresh_places (set seen p true) ahead)) known

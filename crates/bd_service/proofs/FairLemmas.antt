@@ -22,7 +22,8 @@ use Rattle.bd_request.specs.declared.refused.Refused.TheVariants as reasons
 use Rattle.bd_reply.specs.Refusal.{session_refusal}
 use Rattle.bd_reply.specs.Reply.{ToldRefusal}
 use Rattle.bd_cursor.specs.SessionView.{make_of}
-use Rattle.bd_service.specs.CallOf.{Search, call_of, command_part, document_call, filter_part, hint_part, hint_path, path_part, range_part, request_part, search_explanation, search_of, search_query, search_with, sort_part, then_part, token_part}
+use Rattle.bd_service.specs.CallOf.{Search, call_of, command_part, document_call, filter_part, hint_part, hint_path, path_part, range_part, request_part}
+use Rattle.bd_service.specs.CallOf.{search_explanation, search_of, search_query, search_with, sort_part, then_part, token_part}
 
 -- a part that is not refused, and those after it
 ok_part : {A B : Type 0} (part : Result A ToldRefusal) (next : A → Result B ToldRefusal) (y : B) → then_part part next ≡ Ok y

@@ -20,6 +20,7 @@ returns-in-Some-walk_dir c dump h =
     let none : None ≡ serving_bounds m (mark_bounds (documents dump) f m) = ap seen_bounds (sym c.in_default.is) ∙ c.in_ok-bounds.ensures dump h in
     let whole : i.sparse ≡ false = sym c.sparse.ensures ∙ c.if-sparse.false in
     record {
-      is = sym (named_other (documents dump) f ss m none ∙ ap (λ b. cond b scanned (walk_or m (walk_dir m ss) (bounded m None))) whole ∙ ap (λ (d : Option Dir). walk_or m d (bounded m None)) (sym dir));
+      is = sym (named_other (documents dump) f ss m none ∙ ap (λ b. cond b scanned (walk_or m (walk_dir m ss) (bounded m None))) whole
+          ∙ ap (λ (d : Option Dir). walk_or m d (bounded m None)) (sym dir));
       leads = walk_leads dump r i c.in-Some-walk_dir.dir h dir;
     }

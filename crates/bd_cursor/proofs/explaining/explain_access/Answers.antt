@@ -27,7 +27,8 @@ pub returns-in-Scan : goal.returns-in-Scan
 returns-in-Scan c =
     let ds = documents c.args.dump.now in
     let r = c.args.request.now in
-    told_as by_scan None None 0 0 c.from.result (length ds) c.count_matches.result (length (matching (selection_of ds r))) refl refl (c.from.ensures ∙ c.len.ensures) (matches_of_all ds r c.count_matches.result c.count_matches.ensures)
+    told_as by_scan None None 0 0 c.from.result (length ds) c.count_matches.result (length (matching (selection_of ds r))) refl refl (c.from.ensures
+    ∙ c.len.ensures) (matches_of_all ds r c.count_matches.result c.count_matches.ensures)
     ∙ ap (λ a. explained_access ds (length (matching (selection_of ds r))) (access_path a)) (sym c.in-Scan.is)
 
 pub returns-in_ok-from_str-in-Bounded : goal.returns-in_ok-from_str-in-Bounded

@@ -10,7 +10,8 @@ use Rattle.bd_cursor.proofs.indexes.index_on.Goals as goal
 pub returns-clause-found : goal.returns-clause-found
 returns-clause-found c =
     let e : c.position.result ≡ position (λ i. is_on (string_bytes c.args.path.now.text) (index_mark i)) c.args.indexes.now =
-    position_from_yields_List (λ i. is_on (string_bytes c.args.path.now.text) (index_mark i)) _ _ c.position.result c.position.ensures.ran (YieldsList-from_slice c.args.indexes.now cc) (λ x b q k. search (rules, tests)) in
+    position_from_yields_List (λ i. is_on (string_bytes c.args.path.now.text) (index_mark i)) _ _ c.position.result c.position.ensures.ran
+    (YieldsList-from_slice c.args.indexes.now cc) (λ x b q k. search (rules, tests)) in
     e ∙ sym (position_seen (is_on (string_bytes c.args.path.now.text)) index_mark c.args.indexes.now)
 
 pub returns-clause-there : goal.returns-clause-there

@@ -30,7 +30,8 @@ returns-in_err-index-clause-fault c =
     let words = find_words_of c.args.options.now in
     let query : ReadsText (codes "query") words.query (Ok (pairs c.in_ok-query.query)) = rw c.as_deref.ensures.value at c.in_ok-query.ensures.document in
     let sort : ReadsText (codes "sort") words.sort (Ok (pairs c.in_ok-sort.sort)) = rw c.as_deref-2.ensures.value at c.in_ok-sort.ensures.document in
-    rw (p.1, p.2) (index_refused words (pairs c.in_ok-query.query) (pairs c.in_ok-sort.sort) c.in_ok-request.request _ query sort c.in_ok-request.ensures.request c.in_ok-request.ensures.fits (rw c.as_deref-3.ensures.value at c.in_err-index.ensures.fault))
+    rw (p.1, p.2) (index_refused words (pairs c.in_ok-query.query) (pairs c.in_ok-sort.sort) c.in_ok-request.request _ query sort
+    c.in_ok-request.ensures.request c.in_ok-request.ensures.fits (rw c.as_deref-3.ensures.value at c.in_err-index.ensures.fault))
 
 pub returns-in_err-token-clause-fault : goal.returns-in_err-token-clause-fault
 returns-in_err-token-clause-fault c =
@@ -40,7 +41,8 @@ returns-in_err-token-clause-fault c =
     let query : ReadsText (codes "query") words.query (Ok (pairs c.in_ok-query.query)) = rw c.as_deref.ensures.value at c.in_ok-query.ensures.document in
     let sort : ReadsText (codes "sort") words.sort (Ok (pairs c.in_ok-sort.sort)) = rw c.as_deref-2.ensures.value at c.in_ok-sort.ensures.document in
     let named : NamesIndex words.index (Ok tt) = rw c.as_deref-3.ensures.value at c.in_ok-index.ensures.path in
-    rw (p.1, p.2) (token_refused words (pairs c.in_ok-query.query) (pairs c.in_ok-sort.sort) c.in_ok-request.request _ query sort c.in_ok-request.ensures.request c.in_ok-request.ensures.fits named (rw c.as_deref-4.ensures.value at c.in_err-token.ensures.fault))
+    rw (p.1, p.2) (token_refused words (pairs c.in_ok-query.query) (pairs c.in_ok-sort.sort) c.in_ok-request.request _ query sort
+    c.in_ok-request.ensures.request c.in_ok-request.ensures.fits named (rw c.as_deref-4.ensures.value at c.in_err-token.ensures.fault))
 
 pub returns-clause-asking : goal.returns-clause-asking
 returns-clause-asking c =
@@ -48,4 +50,5 @@ returns-clause-asking c =
     let query : ReadsText (codes "query") words.query (Ok (pairs c.in_ok-query.query)) = rw c.as_deref.ensures.value at c.in_ok-query.ensures.document in
     let sort : ReadsText (codes "sort") words.sort (Ok (pairs c.in_ok-sort.sort)) = rw c.as_deref-2.ensures.value at c.in_ok-sort.ensures.document in
     let named : NamesIndex words.index (Ok tt) = rw c.as_deref-3.ensures.value at c.in_ok-index.ensures.path in
-    words_ask words (pairs c.in_ok-query.query) (pairs c.in_ok-sort.sort) c.in_ok-request.request c.in_ok-token.token query sort c.in_ok-request.ensures.request c.in_ok-request.ensures.fits named (rw c.as_deref-4.ensures.value at c.in_ok-token.ensures.token)
+    words_ask words (pairs c.in_ok-query.query) (pairs c.in_ok-sort.sort) c.in_ok-request.request c.in_ok-token.token query sort
+    c.in_ok-request.ensures.request c.in_ok-request.ensures.fits named (rw c.as_deref-4.ensures.value at c.in_ok-token.ensures.token)

@@ -14,7 +14,8 @@ use Rattle.bd_device.specs.Devices.{BreaksWithin, TakesFront, TakesText, over}
 
 pub returns-in_default : goal.returns-in_default
 returns-in_default g c =
-    λ cursor there. finds.nothing_shown (g.O.Output.state c.args.out.now) (g.O.Output.state c.args.out.now) (g.E.Output.state c.args.err.now) (g.E.Output.state c.tell_no_memory.new.err) _ _ c.tell_no_memory.ensures
+    λ cursor there. finds.nothing_shown (g.O.Output.state c.args.out.now) (g.O.Output.state c.args.out.now) (g.E.Output.state c.args.err.now)
+    (g.E.Output.state c.tell_no_memory.new.err) _ _ c.tell_no_memory.ensures
 
 pub write_documents-requires : goal.write_documents-requires
 write_documents-requires g c =
@@ -28,27 +29,34 @@ pub returns-in-Ok-write_documents : goal.returns-in-Ok-write_documents
 returns-in-Ok-write_documents g c = λ cursor there.
     let ds = documents (dump_of c.args.session.now) in
     let b = given_batch c.in-Ok.batch in
-    let is = batch_given (state_of c.args.session.now) c.args.id c.most_of.result (length ds) c.args.size b c.requires.ready c.most_of.ensures c.requires.fits c.in-Ok.ensures.steps.replies cursor there in
+    let is = batch_given (state_of c.args.session.now) c.args.id c.most_of.result (length ds) c.args.size b c.requires.ready c.most_of.ensures
+    c.requires.fits c.in-Ok.ensures.steps.replies cursor there in
     let given : c.deref.result.now ≡ at_most c.args.size cursor.left = c.deref.ensures.value ∙ is.places in
-    let wrote : TakesText (over g.O.Output.state c.args.out.now c.write_documents.new.out) (lines (documents_at ds (at_most c.args.size cursor.left))) = rw (c.dump.ensures, c.in-Ok.ensures.steps.dump, given) at c.in-Ok-write_documents.ensures.wrote in
-    all_shown (g.O.Output.state c.args.out.now) (g.O.Output.state c.write_documents.new.out) (g.E.Output.state c.args.err.now) (g.E.Output.state c.tell_batch.new.err) _ (shown_batch c.args.size ds cursor) wrote (rw (is.places, is.ends, is.token) at c.tell_batch.ensures)
+    let wrote : TakesText (over g.O.Output.state c.args.out.now c.write_documents.new.out)
+    (lines (documents_at ds (at_most c.args.size cursor.left))) = rw (c.dump.ensures, c.in-Ok.ensures.steps.dump, given) at c.in-Ok-write_documents.ensures.wrote in
+    all_shown (g.O.Output.state c.args.out.now) (g.O.Output.state c.write_documents.new.out) (g.E.Output.state c.args.err.now)
+    (g.E.Output.state c.tell_batch.new.err) _ (shown_batch c.args.size ds cursor) wrote (rw (is.places, is.ends, is.token) at c.tell_batch.ensures)
 
 pub returns-in-Err-NoMemory : goal.returns-in-Err-NoMemory
 returns-in-Err-NoMemory g c = λ cursor there.
     let ds = documents (dump_of c.args.session.now) in
     let b = given_batch c.in-Ok.batch in
-    let is = batch_given (state_of c.args.session.now) c.args.id c.most_of.result (length ds) c.args.size b c.requires.ready c.most_of.ensures c.requires.fits c.in-Ok.ensures.steps.replies cursor there in
+    let is = batch_given (state_of c.args.session.now) c.args.id c.most_of.result (length ds) c.args.size b c.requires.ready c.most_of.ensures
+    c.requires.fits c.in-Ok.ensures.steps.replies cursor there in
     let given : c.deref.result.now ≡ at_most c.args.size cursor.left = c.deref.ensures.value ∙ is.places in
     let stops = rw c.in-Err-NoMemory.field-0-is at c.in-Err-NoMemory.ensures.stops in
-    let front : TakesFront (over g.O.Output.state c.args.out.now c.write_documents.new.out) (lines (documents_at ds (at_most c.args.size cursor.left))) = rw (c.dump.ensures, c.in-Ok.ensures.steps.dump, given) at stops in
+    let front : TakesFront (over g.O.Output.state c.args.out.now c.write_documents.new.out)
+    (lines (documents_at ds (at_most c.args.size cursor.left))) = rw (c.dump.ensures, c.in-Ok.ensures.steps.dump, given) at stops in
     inr (front, c.tell_no_memory-in-Err-NoMemory.ensures)
 
 pub returns : goal.returns
 returns g c = λ cursor there.
     let ds = documents (dump_of c.args.session.now) in
     let b = given_batch c.in-Ok.batch in
-    let is = batch_given (state_of c.args.session.now) c.args.id c.most_of.result (length ds) c.args.size b c.requires.ready c.most_of.ensures c.requires.fits c.in-Ok.ensures.steps.replies cursor there in
+    let is = batch_given (state_of c.args.session.now) c.args.id c.most_of.result (length ds) c.args.size b c.requires.ready c.most_of.ensures
+    c.requires.fits c.in-Ok.ensures.steps.replies cursor there in
     let given : c.deref.result.now ≡ at_most c.args.size cursor.left = c.deref.ensures.value ∙ is.places in
     let stops = rw c.in-Err-Unwritten.field-0-is at c.in-Err-Unwritten.ensures.stops in
-    let broke : BreaksWithin (over g.O.Output.state c.args.out.now c.write_documents.new.out) (lines (documents_at ds (at_most c.args.size cursor.left))) = rw (c.dump.ensures, c.in-Ok.ensures.steps.dump, given) at stops in
+    let broke : BreaksWithin (over g.O.Output.state c.args.out.now c.write_documents.new.out)
+    (lines (documents_at ds (at_most c.args.size cursor.left))) = rw (c.dump.ensures, c.in-Ok.ensures.steps.dump, given) at stops in
     inl (inr (broke, c.tell_unwritten.ensures))

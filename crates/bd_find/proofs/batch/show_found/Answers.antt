@@ -29,7 +29,9 @@ returns-in-Ok g c =
     let shown = shown_batch c.args.asking.size (documents c.args.dump) (cursor_for 1 q token o.0) in (
       shown,
       inr (o.0, back, refl),
-      subst (λ (dump : Dump). PrintsOrStarves (over g.O.Output.state c.args.out.now c.show_batch.new.out) (over g.E.Output.state c.args.err.now c.show_batch.new.err) (shown_batch c.args.asking.size (documents dump) (cursor_for 1 q token o.0)) c.show_batch.result) (c.open_first.ensures.dump ∙ c.new-session.ensures.dump)
+      subst (λ (dump : Dump). PrintsOrStarves (over g.O.Output.state c.args.out.now c.show_batch.new.out)
+          (over g.E.Output.state c.args.err.now c.show_batch.new.err) (shown_batch c.args.asking.size (documents dump) (cursor_for 1 q token o.0))
+          c.show_batch.result) (c.open_first.ensures.dump ∙ c.new-session.ensures.dump)
           (c.show_batch.ensures (cursor_for c.in-Ok.id q token o.0) o.2),
     )
 
@@ -37,4 +39,6 @@ pub returns : goal.returns
 returns g c =
     let q = query_of c.args.dump c.args.asking.request in
     let o : IsOpenedOn q c.args.asking.token (state_of c.open_first.new.session) (Err c.in-Err.refused) = rw c.in-Err.is at (rw c.new-session.ensures.dump at c.open_first.ensures.opened) in
-    finds.refused_shown (g.O.Output.state c.args.out.now) (g.O.Output.state c.args.out.now) (g.E.Output.state c.args.err.now) (g.E.Output.state c.tell_refused.new.err) _ (bytes_of c.args.dump) (documents c.args.dump) (page_request_of c.args.asking) c.in-Err.refused o c.tell_refused.ensures
+    finds.refused_shown (g.O.Output.state c.args.out.now) (g.O.Output.state c.args.out.now) (g.E.Output.state c.args.err.now)
+    (g.E.Output.state c.tell_refused.new.err) _ (bytes_of c.args.dump) (documents c.args.dump) (page_request_of c.args.asking) c.in-Err.refused o
+    c.tell_refused.ensures

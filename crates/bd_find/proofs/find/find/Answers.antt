@@ -16,7 +16,14 @@ returns-in-Err-Message-clause-found g c =
     let text = rw c.in-Err-Message.field-0-is at c.deref.ensures.value in
     let told = subst (λ (text : List ℕ). TellsMessage (over g.E.Output.state c.args.err.now c.tell_error.new.err) (error_line text) Failed c.tell_error.result) text c.tell_error.ensures in
     let refused = messages.refused _ (over g.R.Input.state c.args.input.now c.args.input.now) message refl none in
-    inr (Ok [], shown_refusal message, refused.0, refused.1, inl (runs.refused (g.O.Output.state c.args.out.now) (g.E.Output.state c.args.err.now) (g.E.Output.state c.tell_error.new.err) message _ told))
+    inr (
+      Ok [],
+      shown_refusal message,
+      refused.0,
+      refused.1,
+      inl (runs.refused (g.O.Output.state c.args.out.now) (g.E.Output.state c.args.err.now)
+          (g.E.Output.state c.tell_error.new.err) message _ told),
+    )
 
 pub returns-in-Ok-read_all-clause-found : goal.returns-in-Ok-read_all-clause-found
 returns-in-Ok-read_all-clause-found g c =
@@ -24,7 +31,14 @@ returns-in-Ok-read_all-clause-found g c =
     let s = c.find_in.ensures in
     let w = page_request_of c.in-Ok.asking in
     let short : length c.in-Ok-read_all.bytes.items ≤ longest_input = omega (arith, e.short) in
-    inr (Ok c.in-Ok-read_all.bytes.items, s.0, inr (w, c.in-Ok.ensures.asking, (e.bytes, e.end, short, e.well (λ x. absurd cc))), inr (w, c.in-Ok.ensures.asking, inr (c.in-Ok-read_all.bytes.items, refl, s.1)), s.2)
+    inr (
+      Ok c.in-Ok-read_all.bytes.items,
+      s.0,
+      inr (w, c.in-Ok.ensures.asking, (e.bytes, e.end, short, e.well (λ x. absurd cc))),
+      inr
+          (w, c.in-Ok.ensures.asking, inr (c.in-Ok-read_all.bytes.items, refl, s.1)),
+      s.2,
+    )
 
 pub returns-in-Ok-read_all-clause-unread : goal.returns-in-Ok-read_all-clause-unread
 returns-in-Ok-read_all-clause-unread g c none = absurd (none (page_request_of c.in-Ok.asking) c.in-Ok.ensures.asking)
@@ -34,7 +48,19 @@ returns-in-Err-clause-found g c =
     let e = c.in-Err.ensures in
     let w = page_request_of c.in-Ok.asking in
     let words = read_words c.in-Err.fault in
-    inr (Err c.in-Err.fault, shown_refusal words, inr (w, c.in-Ok.ensures.asking, runs.was_refused (g.R.Input.state c.args.input.now) (g.R.Input.state c.read_all.new.reader) c.in-Err.fault e.failed e.well e.too_long_known e.too_many_known e.too_many_calls e.memory_known), inr (w, c.in-Ok.ensures.asking, inl (words, refl, refl)), runs.refused (g.O.Output.state c.args.out.now) (g.E.Output.state c.args.err.now) (g.E.Output.state c.tell_read_fault.new.err) _ _ c.tell_read_fault.ensures)
+    inr (
+      Err c.in-Err.fault,
+      shown_refusal words,
+      inr (
+        w,
+        c.in-Ok.ensures.asking,
+        runs.was_refused (g.R.Input.state c.args.input.now)
+            (g.R.Input.state c.read_all.new.reader) c.in-Err.fault e.failed e.well e.too_long_known e.too_many_known e.too_many_calls e.memory_known,
+      ),
+      inr (w, c.in-Ok.ensures.asking, inl (words, refl, refl)),
+      runs.refused (g.O.Output.state c.args.out.now) (g.E.Output.state c.args.err.now)
+          (g.E.Output.state c.tell_read_fault.new.err) _ _ c.tell_read_fault.ensures,
+    )
 
 pub returns-in-Err-clause-unread : goal.returns-in-Err-clause-unread
 returns-in-Err-clause-unread g c none = absurd (none (page_request_of c.in-Ok.asking) c.in-Ok.ensures.asking)

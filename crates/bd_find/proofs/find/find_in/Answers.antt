@@ -25,9 +25,12 @@ returns-then-is_want_of_memory g c =
     let shows = c.something_is_shown.ensures w in (
       shows.0,
       subst (λ bytes. IsShownOfBytes w bytes shows.0) c.deref.ensures.value shows.1,
-      finds.nothing_shown (g.O.Output.state c.args.out.now) (g.O.Output.state c.args.out.now) (g.E.Output.state c.args.err.now) (g.E.Output.state c.tell_no_memory.new.err) _ shows.0 c.tell_no_memory.ensures,
+      finds.nothing_shown (g.O.Output.state c.args.out.now) (g.O.Output.state c.args.out.now) (g.E.Output.state c.args.err.now)
+          (g.E.Output.state c.tell_no_memory.new.err) _ shows.0 c.tell_no_memory.ensures,
     )
 
 pub returns-else-is_want_of_memory : goal.returns-else-is_want_of_memory
 returns-else-is_want_of_memory g c =
-    finds.fault_shown (g.O.Output.state c.args.out.now) (g.O.Output.state c.args.out.now) (g.E.Output.state c.args.err.now) (g.E.Output.state c.tell_dump_fault.new.err) _ (page_request_of c.args.asking) c.args.bytes.items c.in-Err.fault c.requires.short c.in-Err.ensures.fault (λ e. cc (c.if-is_want_of_memory.ensures.1 e)) c.tell_dump_fault.ensures
+    finds.fault_shown (g.O.Output.state c.args.out.now) (g.O.Output.state c.args.out.now) (g.E.Output.state c.args.err.now)
+    (g.E.Output.state c.tell_dump_fault.new.err) _ (page_request_of c.args.asking) c.args.bytes.items c.in-Err.fault c.requires.short
+    c.in-Err.ensures.fault (λ e. cc (c.if-is_want_of_memory.ensures.1 e)) c.tell_dump_fault.ensures

@@ -17,7 +17,8 @@ returns-in_err-line-clause-stops g c =
     let ds = documents c.args.dump.now in
     let ps = c.args.places.now in
     let i = c.loop-place.place-index in
-    rw (p.1, p.2) (front_taken (g.O.Output.state c.args.out.now) (g.O.Output.state c.loop-place.out) (finds.lines_to ds ps i) (lines (documents_at ds (drop i ps))) (finds.all_lines ds ps) c.loop-place.invariant (finds.cut_at ds ps i))
+    rw (p.1, p.2) (front_taken (g.O.Output.state c.args.out.now) (g.O.Output.state c.loop-place.out) (finds.lines_to ds ps i)
+    (lines (documents_at ds (drop i ps))) (finds.all_lines ds ps) c.loop-place.invariant (finds.cut_at ds ps i))
 
 pub returns-in_err-write_all-clause-stops : goal.returns-in_err-write_all-clause-stops
 returns-in_err-write_all-clause-stops g c =
@@ -34,7 +35,8 @@ returns-in_err-write_all-clause-stops g c =
     finds.cut_at ds ps (i + 1) ∙ ap (λ (x : List ℕ). x ++ rest) more ∙ append_assoc (finds.lines_to ds ps i) line rest in
     let bytes : c.in_ok-line.line.now ≡ line = rw c.value.ensures.document at c.in_ok-line.ensures in
     let broke : BreaksWithin (over g.O.Output.state c.loop-place.out c.write_all.new.writer) line = rw bytes at c.in_err-write_all.ensures.broken in
-    rw (p.1, p.2) (breaks_piece (g.O.Output.state c.args.out.now) (g.O.Output.state c.loop-place.out) (g.O.Output.state c.write_all.new.writer) (finds.lines_to ds ps i) line rest (finds.all_lines ds ps) c.loop-place.invariant broke cut)
+    rw (p.1, p.2) (breaks_piece (g.O.Output.state c.args.out.now) (g.O.Output.state c.loop-place.out) (g.O.Output.state c.write_all.new.writer)
+    (finds.lines_to ds ps i) line rest (finds.all_lines ds ps) c.loop-place.invariant broke cut)
 
 pub loop-place-preserved : goal.loop-place-preserved
 loop-place-preserved g c =

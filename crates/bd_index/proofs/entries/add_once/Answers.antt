@@ -14,14 +14,16 @@ loop-one-preserved c =
     elim c.if-not-repeats.branch [
       | then-not-repeats+in_ok-push w ↦ (
           joined_so_far (drop (i + 1) xs) xs before c.if-not-repeats.found.items w.push.new.self.items c.if-not-repeats.last (Some x) (ap (λ v. v.items) w.found-is) w.last-is
-          (one_kept found before c.loop-one.last xs i x c.loop-one-test.true c.one-item.is c.loop-one.invariant w.push.new.self.items (sym c.repeats.ensures ∙ w.if-not-repeats.true) w.in_ok-push.ensures.items))
+          (one_kept found before c.loop-one.last xs i x c.loop-one-test.true c.one-item.is c.loop-one.invariant w.push.new.self.items
+          (sym c.repeats.ensures ∙ w.if-not-repeats.true) w.in_ok-push.ensures.items))
       | else-not-repeats w ↦ (
           joined_so_far (drop (i + 1) xs) xs before c.if-not-repeats.found.items found c.if-not-repeats.last c.loop-one.last (ap (λ v. v.items) w.found-is) w.last-is
           (repeat_passed found before c.loop-one.last xs i x c.loop-one-test.true c.one-item.is c.loop-one.invariant (sym c.repeats.ensures ∙ w.if-not-repeats.false)))
     ]
 
 pub returns-clause-added : goal.returns-clause-added
-returns-clause-added c = all_once c.loop-one.found.items c.args.found.now.items c.loop-one.last (drop c.loop-one.one-index c.args.own.now) c.args.own.now (drop_all c.loop-one.one-index c.args.own.now (omega arith)) c.loop-one.invariant
+returns-clause-added c = all_once c.loop-one.found.items c.args.found.now.items c.loop-one.last (drop c.loop-one.one-index c.args.own.now)
+    c.args.own.now (drop_all c.loop-one.one-index c.args.own.now (omega arith)) c.loop-one.invariant
 
 pub returns-clause-kept : goal.returns-clause-kept
 returns-clause-kept c = c.loop-one.invariant.kept

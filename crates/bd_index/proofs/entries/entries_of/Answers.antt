@@ -18,7 +18,8 @@ returns c =
     let bytes = bytes_of c.args.dump.now in
     let lt : FoundKey → FoundKey → Bool = found_lt in
     let answers = always_returns_same _ _ _ (λ a r h k. search rules) in
-    let kept : AreFoundIn bytes c.deref.result.now = subst (AreFoundIn bytes) (sym c.deref.ensures.value) (All-permutation (IsFoundIn bytes) found sorted c.sort_by.ensures.permutation c.in_ok-found.ensures.kept) in
+    let kept : AreFoundIn bytes c.deref.result.now = subst (AreFoundIn bytes) (sym c.deref.ensures.value)
+    (All-permutation (IsFoundIn bytes) found sorted c.sort_by.ensures.permutation c.in_ok-found.ensures.kept) in
     record {
       entries = map found_entry sorted;
       stand = subst (λ (l : List FoundKey). KeepsEntries bytes c.in_ok-entries.entries.items (map found_entry l)) c.deref.ensures.value (c.in_ok-entries.ensures bytes kept);

@@ -21,7 +21,8 @@ loop-place-preserved c =
     let more = one_more c.args.sparse path n ds (pairs_in (stands c.document.result.sound)) (stands c.value.result.sound) ks c.document.ensures.document c.value.ensures.document listed in
     record {
       so_far = λ test.
-          counted_more test (map found_entry c.loop-place.found.items) (map found_entry c.add_document.new.found.items) (keys_at n (distinct ks)) (entries_from c.args.sparse path (n + 1) (drop (n + 1) ds)) (entries_from c.args.sparse path n (drop n ds))
+          counted_more test (map found_entry c.loop-place.found.items) (map found_entry c.add_document.new.found.items) (keys_at n (distinct ks))
+          (entries_from c.args.sparse path (n + 1) (drop (n + 1) ds)) (entries_from c.args.sparse path n (drop n ds))
           (count_by test (entries_of c.args.sparse path ds)) (c.in_ok-add_document.ensures.added test) more (c.loop-place.invariant.so_far test);
       kept = c.in_ok-add_document.ensures.kept c.loop-place.invariant.kept;
     }

@@ -19,13 +19,17 @@ loop-span-preserved c =
     let b = c.loop-span.invariant.bound in
     let s : Span = get_or spans i (record { from = 0; to = 0 }) in
     let is : s ≡ get_or spans i s = any_default spans i (record { from = 0; to = 0 }) s lt in
-    let sorted : IsNonDecreasingBy (λ x. x.from) spans = subst (IsNonDecreasingBy (λ x. x.from)) (sym c.deref-span-items.ensures.value) (IsNonDecreasingBy-from_sort_by_key (λ x. x.from) _ c.sort_unstable_by_key.ensures.sorted (λ a r q k. search rules)) in
-    let all : All (λ x. x.to ≤ c.args.count) spans = subst (λ (l : List Span). All (λ x. x.to ≤ c.args.count) l) (sym c.deref-span-items.ensures.value) (All-permutation (λ x. x.to ≤ c.args.count) c.args.spans.items c.sort_unstable_by_key.new.self.items c.sort_unstable_by_key.ensures.permutation c.requires) in
+    let sorted : IsNonDecreasingBy (λ x. x.from) spans = subst (IsNonDecreasingBy (λ x. x.from)) (sym c.deref-span-items.ensures.value)
+    (IsNonDecreasingBy-from_sort_by_key (λ x. x.from) _ c.sort_unstable_by_key.ensures.sorted (λ a r q k. search rules)) in
+    let all : All (λ x. x.to ≤ c.args.count) spans = subst (λ (l : List Span). All (λ x. x.to ≤ c.args.count) l)
+    (sym c.deref-span-items.ensures.value) (All-permutation (λ x. x.to ≤ c.args.count) c.args.spans.items c.sort_unstable_by_key.new.self.items
+    c.sort_unstable_by_key.ensures.permutation c.requires) in
     let low : s.to ≤ c.args.count = all i (record { from = 0; to = 0 }) lt in
     elim c.if-from-span.branch [
       | then-from-span+in_ok-push w ↦ record {
         orders = orders_joined spans c.if-from-span.ordered.items w.push.new.self.items (i + 1) c.if-from-span.end s.to (ap (λ v. v.items) w.ordered-is) w.end-is
-            (orders_one spans c.loop-span.ordered.items w.push.new.self.items i end s (record { from = c.max-from.result; to = s.to }) sorted lt is c.max-from.ensures refl w.if-from-span.true w.in_ok-push.ensures.items o);
+            (orders_one spans c.loop-span.ordered.items w.push.new.self.items i end s (record { from = c.max-from.result; to = s.to }) sorted lt is
+            c.max-from.ensures refl w.if-from-span.true w.in_ok-push.ensures.items o);
         bound = (let e = w.end-is in omega arith);
       }
       | else-from-span w ↦ record {

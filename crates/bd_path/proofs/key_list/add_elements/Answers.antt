@@ -9,7 +9,8 @@ loop-next-preserved g c =
     let trees = key_trees g.N.Reading.tree in
     let bytes = g.N.Reading.source c.args.node in
     record {
-      so_far = added.one_passed (trees c.loop-next.keys.items) (trees c.add_next.new.keys.items) (g.N.Reading.tree c.in-Some.next.1) _ (values_of (g.N.Reading.left c.in-Some.next.2)) _ c.in_ok-add_next.ensures.added (ap values_of c.in-Some.ensures.some) c.loop-next.invariant.so_far;
+      so_far = added.one_passed (trees c.loop-next.keys.items) (trees c.add_next.new.keys.items) (g.N.Reading.tree c.in-Some.next.1) _
+          (values_of (g.N.Reading.left c.in-Some.next.2)) _ c.in_ok-add_next.ensures.added (ap values_of c.in-Some.ensures.some) c.loop-next.invariant.so_far;
       kept = λ h. c.in_ok-add_next.ensures.kept bytes (c.loop-next.invariant.kept h) (c.in-Some.ensures.kept ∙ c.loop-next.invariant.source);
       there = λ sparse ss h. c.in_ok-add_next.ensures.there sparse ss (c.loop-next.invariant.there sparse ss h) tt;
       source = c.in-Some.ensures.rest ∙ c.loop-next.invariant.source;

@@ -7,7 +7,8 @@ use Rattle.bd_path.proofs.key_list.add_elements.Given as goal
 
 abbrev pub invariant-loop-next : goal.invariant-loop-next
 invariant-loop-next g l = record {
-  so_far : distinct (map (key_tree g.N.Reading.tree) l.keys.items ++ values_of (g.N.Reading.left l.left)) ≡ distinct (map (key_tree g.N.Reading.tree) l.fn.keys.items ++ elements_in (g.N.Reading.tree l.fn.node));
+  so_far : distinct (map (key_tree g.N.Reading.tree) l.keys.items ++ values_of (g.N.Reading.left l.left))
+      ≡ distinct (map (key_tree g.N.Reading.tree) l.fn.keys.items ++ elements_in (g.N.Reading.tree l.fn.node));
   kept : All (IsKeyOf g.N.Reading.source (g.N.Reading.source l.fn.node)) l.fn.keys.items → All (IsKeyOf g.N.Reading.source (g.N.Reading.source l.fn.node)) l.keys.items;
   there : (sparse : Bool) (ss : Stops) → AreKeysAt sparse ss l.fn.keys.items → AreKeysAt sparse ss l.keys.items;
   source : g.N.Reading.rest_source l.left ≡ g.N.Reading.source l.fn.node;

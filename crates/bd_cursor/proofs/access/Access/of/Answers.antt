@@ -25,7 +25,8 @@ returns-in-Some-clause-path c =
     let lt : k < length is = found_below path is k i c.in-Some.ensures.found in
     let of_dump : IsIndexOf dump i = subst (IsIndexOf dump) (sym c.index-indexes-position.is) (c.requires k i lt) in
     if_ok c.named_access.result
-    (λ a every. (every dump of_dump).is ∙ access_named ds f ss path is k i c.in-Some.ensures.found c.index-indexes-position.is ∙ ap (λ ch. access_of ds f ss (way_of ch) (map index_mark is)) (sym c.in-Index.is))
+    (λ a every. (every dump of_dump).is ∙ access_named ds f ss path is k i c.in-Some.ensures.found c.index-indexes-position.is
+    ∙ ap (λ ch. access_of ds f ss (way_of ch) (map index_mark is)) (sym c.in-Index.is))
     c.named_access.ensures
 
 pub returns-in-None-clause-path : goal.returns-in-None-clause-path

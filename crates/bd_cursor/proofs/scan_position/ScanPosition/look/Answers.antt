@@ -14,7 +14,8 @@ loop-place-preserved-then-self-gt0 c =
     let hits = hits_of (documents c.args.dump.now) (filter_tree c.args.filter.now) in
     let below : s.next < n = omega arith in
     record {
-      left = ap (λ ys. at_most s.most (with_first s.found ys)) (sym (passed_over n s.next s.skip hits below (sym c.is_match.ensures ∙ c.if-is_match.true) c.if-self-gt0.true)) ∙ c.loop-place.invariant.left;
+      left = ap (λ ys. at_most s.most (with_first s.found ys)) (sym (passed_over n s.next s.skip hits below (sym c.is_match.ensures
+          ∙ c.if-is_match.true) c.if-self-gt0.true)) ∙ c.loop-place.invariant.left;
       most = c.loop-place.invariant.most;
     }
 
@@ -27,7 +28,8 @@ loop-place-preserved-else-self-gt0 c =
     let no_skip : s.skip ≡ 0 = omega arith in
     let none : s.found ≡ None = search rules in
     record {
-      left = ap (at_most s.most) (sym (met n s.next s.skip hits below (sym c.is_match.ensures ∙ c.if-is_match.true) no_skip)) ∙ ap (λ f. at_most s.most (with_first f (drop s.skip (unseen n hits s.next)))) (sym none) ∙ c.loop-place.invariant.left;
+      left = ap (at_most s.most) (sym (met n s.next s.skip hits below (sym c.is_match.ensures ∙ c.if-is_match.true) no_skip))
+          ∙ ap (λ f. at_most s.most (with_first f (drop s.skip (unseen n hits s.next)))) (sym none) ∙ c.loop-place.invariant.left;
       most = c.loop-place.invariant.most;
     }
 

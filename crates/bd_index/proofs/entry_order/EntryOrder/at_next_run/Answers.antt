@@ -11,7 +11,8 @@ invariant_of-result c =
 
 pub returns-clause-ahead : goal.returns-clause-ahead
 returns-clause-ahead c =
-    run_ahead c.args.self.dump.now c.args.self.index.now c.result-1.given.0 c.args.self.indexed c.args.self.next c.args.self.end c.run_start-start.result c.args.self.below c.requires.done c.args.self.under (c.run_start-start.ensures c.args.self.indexed)
+    run_ahead c.args.self.dump.now c.args.self.index.now c.result-1.given.0 c.args.self.indexed c.args.self.next c.args.self.end
+    c.run_start-start.result c.args.self.below c.requires.done c.args.self.under (c.run_start-start.ensures c.args.self.indexed)
 
 pub returns-clause-some : goal.returns-clause-some
 returns-clause-some c = (c.run_start-start.ensures c.args.self.indexed).some

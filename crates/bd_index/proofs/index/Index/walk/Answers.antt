@@ -17,16 +17,20 @@ ordered c =
     let order = entries_ahead c.match-dir.order in
     let are = subst (λ (sparse : Bool). AreEntries sparse path ds k.entries) c.requires.whole k.are in
     elim c.match-dir.branch [
-      | in-Up w ↦ subst (λ (dir : Dir). AreOrdered dir path ds order) (sym w.in-Up.is) (subst (AreOrdered Up path ds) (sym (ap entries_ahead w.order-is ∙ w.upward-order.ensures c.requires.index)) (upward path ds k.entries are))
-      | in-Down w ↦ subst (λ (dir : Dir). AreOrdered dir path ds order) (sym w.in-Down.is) (subst (AreOrdered Down path ds) (sym (ap entries_ahead w.order-is ∙ w.downward-order.ensures c.requires.index)) (from_above path ds k.entries are))
+      | in-Up w ↦ subst (λ (dir : Dir). AreOrdered dir path ds order) (sym w.in-Up.is)
+          (subst (AreOrdered Up path ds) (sym (ap entries_ahead w.order-is ∙ w.upward-order.ensures c.requires.index)) (upward path ds k.entries are))
+      | in-Down w ↦ subst (λ (dir : Dir). AreOrdered dir path ds order) (sym w.in-Down.is)
+          (subst (AreOrdered Down path ds) (sym (ap entries_ahead w.order-is ∙ w.downward-order.ensures c.requires.index)) (from_above path ds k.entries are))
     ]
 
 pub invariant_of-result : goal.invariant_of-result
 invariant_of-result c = record {
-  room = room_for (names_of c.args.self.now.path) (documents c.args.dump.now) (entries_ahead c.match-dir.order) (length c.in_ok-seen.seen.items) (ordered c).same (c.in_ok-seen.ensures.len ∙ c.len.ensures);
+  room = room_for (names_of c.args.self.now.path) (documents c.args.dump.now) (entries_ahead c.match-dir.order) (length c.in_ok-seen.seen.items)
+      (ordered c).same (c.in_ok-seen.ensures.len ∙ c.len.ensures);
 }
 
 pub returns : goal.returns
 returns c =
-    walks_fresh c.args.dir (names_of c.args.self.now.path) (documents c.args.dump.now) (entries_ahead c.match-dir.order) c.in_ok-seen.seen.items (ordered c.before) (c.in_ok-seen.ensures.len ∙ c.len.ensures)
+    walks_fresh c.args.dir (names_of c.args.self.now.path) (documents c.args.dump.now) (entries_ahead c.match-dir.order) c.in_ok-seen.seen.items
+    (ordered c.before) (c.in_ok-seen.ensures.len ∙ c.len.ensures)
     (λ k d lt. c.in_ok-seen.ensures.none k d (subst (λ n. k < n) (sym c.len.ensures) lt))
