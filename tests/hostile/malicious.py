@@ -382,13 +382,13 @@ def many_positions(size: int) -> bytes:
     return document(field(0x04, "0", value))
 
 
-def key_cases(sizes: tuple[int, int]) -> Iterator[Case]:
+def key_cases() -> Iterator[Case]:
     """Keys that a document gives many times. An index has each of them once, and building it takes memory for little more."""
     path = ".".join(["0"] * 98)
     few = document(field(0x04, "a", array(0x10, [int32(1), int32(2)] * 50)))
-    for name, where, make in (("from many positions", path, many_positions), ("of few values", "a", lambda size: few * (size // len(few)))):
+    for name, where, make, size in (("from many positions", path, many_positions, MIB), ("of few values", "a", lambda size: few * (size // len(few)), 8 * MIB)):
         words = ["find", "-", "--query", f'{{"{where}":8}}', "--index", where]
-        yield Case(f"an index of keys {name}", words, None, make, sizes, tells("0 documents, end\n"), None, 8 + 3 * (sizes[1] >> 20))
+        yield Case(f"an index of keys {name}", words, None, make, (size // 8, size), tells("0 documents, end\n"), None, 32 + 2 * (size >> 20))
 
 
 def session_cases(scale: int) -> Iterator[Case]:
@@ -477,7 +477,7 @@ def main() -> int:
             member_cases((1250 * scale, 10000 * scale), (50 * scale, 400 * scale)),
             path_cases(scale),
             session_cases(scale),
-            key_cases(large),
+            key_cases(),
             index_cases((12500 * scale, 100000 * scale)),
             known_cases(scale),
         ):

@@ -51,26 +51,28 @@ fn find_all<'a>(
     let mut own = Vec::new(alloc);
     for place in 0..dump.len() {
         let keys = all_key_nodes(alloc, dump.document(place).value(), path, sparse)?;
-        add_document(dump, &keys, place, &mut own, &mut found)?;
+        add_document(dump, keys, place, &mut own, &mut found)?;
     }
     Ok(found)
 }
 
 /// Appends the keys of one document, each once. They are sorted in a room of their own, so that equal ones are side by side: an
-/// array takes no time in the square of its length, and of equal elements the memory of one.
+/// array takes no time in the square of its length, and of equal elements the memory of one. The keys are let go before that, since
+/// one document may have nearly all keys of a dump.
 fn add_document<'a>(
     dump: &'a Dump,
-    keys: &[Key<RawValue<'a>>],
+    keys: Vec<Key<RawValue<'a>>>,
     place: u32,
     own: &mut Vec<FoundKey<'a>>,
     found: &mut Vec<FoundKey<'a>>,
 ) -> Result<(), NoMemory>
-    requires { AreKeysOf raw_source (bytes_of dump.now) keys.now }
-    ensures added { OnOk result ((test : KeyAt → Bool) → count_by test (map found_entry found.new.items) ≡ count_by test (map found_entry found.old.items ++ keys_at place (distinct (key_trees raw_tree keys.now)))) }
+    requires { AreKeysOf raw_source (bytes_of dump.now) keys.items }
+    ensures added { OnOk result ((test : KeyAt → Bool) → count_by test (map found_entry found.new.items) ≡ count_by test (map found_entry found.old.items ++ keys_at place (distinct (key_trees raw_tree keys.entry.items)))) }
     ensures kept { OnOk result (AreFoundIn (bytes_of dump.now) found.old.items → AreFoundIn (bytes_of dump.now) found.new.items) }
 {
     own.clear();
-    add_found(dump, keys, place, own)?;
+    add_found(dump, &keys, place, own)?;
+    drop(keys);
     own.sort_by(compare_found)?;
     add_once(own, found)?;
     Ok(())

@@ -19,19 +19,19 @@ pub returns-clause-added : goal.returns-clause-added
 returns-clause-added c test =
     let own = c.add_found.new.found.items in
     let sorted = c.sort_by.new.self.items in
-    let ks = key_trees raw_tree c.args.keys.now in
+    let ks = key_trees raw_tree c.args.keys.items in
     let lt : FoundKey → FoundKey → Bool = found_lt in
     let weak = ranks_by entry_total found_entry in
     let answers = always_returns_same _ _ _ (λ a r h k. search rules) in
     let up = ascend_from_sorted (map found_entry sorted) (sorted_map found_entry (λ a b. is_lt (entry_cmp a b)) sorted (c.in_ok-sort_by.ensures.sorted lt weak answers)) in
-    let raw : map found_entry own ≡ keys_at c.args.place ks = c.in_ok-add_found.ensures.added ∙ ap (λ (l : List FoundKey). map found_entry l ++ keys_at c.args.place ks) c.clear.ensures.items in
+    let raw : map found_entry own ≡ keys_at c.args.place ks = c.in_ok-add_found.ensures.added ∙ ap (λ l. map found_entry c.clear.new.self.items ++ keys_at c.args.place (key_trees raw_tree l)) c.deref.ensures.value ∙ ap (λ (l : List FoundKey). map found_entry l ++ keys_at c.args.place ks) c.clear.ensures.items in
     let once = own_once c.args.place ks (map found_entry own) (map found_entry sorted) raw up (as_they_came own sorted (map found_entry own) refl (c.sort_by.ensures.stable lt weak answers)) test in
     counted_own test (map found_entry c.args.found.now.items) (map found_entry c.add_once.new.found.items) (without_repeats None (map found_entry sorted)) (keys_at c.args.place (distinct ks))
-    (c.in_ok-add_once.ensures.added ∙ ap (λ (l : List FoundKey). map found_entry c.args.found.now.items ++ without_repeats None (map found_entry l)) c.deref.ensures.value) once
+    (c.in_ok-add_once.ensures.added ∙ ap (λ (l : List FoundKey). map found_entry c.args.found.now.items ++ without_repeats None (map found_entry l)) c.deref-2.ensures.value) once
 
 pub returns-clause-kept : goal.returns-clause-kept
 returns-clause-kept c old =
     let bytes = bytes_of c.args.dump.now in
     let none : AreFoundIn bytes c.clear.new.self.items = subst (AreFoundIn bytes) (sym c.clear.ensures.items) (All-nil (IsFoundIn bytes)) in
     let sorted = All-permutation (IsFoundIn bytes) c.add_found.new.found.items c.sort_by.new.self.items c.sort_by.ensures.permutation (c.in_ok-add_found.ensures.kept none) in
-    c.in_ok-add_once.ensures.kept bytes (subst (AreFoundIn bytes) (sym c.deref.ensures.value) sorted) old
+    c.in_ok-add_once.ensures.kept bytes (subst (AreFoundIn bytes) (sym c.deref-2.ensures.value) sorted) old

@@ -1,4 +1,4 @@
-use Rattle.std.proofs.Common.{◌+◌, drop, ap, ◌∙◌, map}
+use Rattle.std.proofs.Common.{◌+◌, drop, map}
 use Rattle.std.specs.List.{count_by}
 use Rattle.bd_value.specs.Tree.{pairs_in}
 use Rattle.bd_raw.specs.Sound.{stands}
@@ -16,8 +16,8 @@ loop-place-preserved c =
     let path = names_of c.args.path.now in
     let ds = documents c.args.dump.now in
     let n = c.loop-place.place in
-    let ks = key_trees raw_tree c.deref.result.now in
-    let listed = ap (λ l. distinct (key_trees raw_tree l)) c.deref.ensures.value ∙ c.in_ok-keys.ensures.distinct in
+    let ks = key_trees raw_tree c.in_ok-keys.keys.items in
+    let listed = c.in_ok-keys.ensures.distinct in
     let more = one_more c.args.sparse path n ds (pairs_in (stands c.document.result.sound)) (stands c.value.result.sound) ks c.document.ensures.document c.value.ensures.document listed in
     record {
       so_far = λ test.
