@@ -5,7 +5,7 @@ use Rattle.bd_value.specs.Limits.{longest_document}
 use Rattle.bd_check.specs.Dump.{length_told}
 use Rattle.bd_stream.proofs.FrameLemmas.{frame_out, frame_short, has_short_length, has_bad_length}
 use Rattle.bd_stream.proofs.doc_buffer.DocBuffer.read_length.Goals as goal
-use Rattle.bd_stream.proofs.doc_buffer.DocBuffer.read_length.Goals.{then-length-lt5-via-then-length-lt5, then-length-lt5-via-else-length-lt5+then-length-gt16793600}
+use Rattle.bd_stream.proofs.doc_buffer.DocBuffer.read_length.Goals.{then-length-lt5-via-then-length-lt5, then-length-lt5-via-else-length-lt5+then-length-gt-LONGEST_DOCUMENT}
 
 pub returns-then-filled-lt4-clause-fails : goal.returns-then-filled-lt4-clause-fails
 returns-then-filled-lt4-clause-fails g c =
@@ -39,7 +39,7 @@ returns-then-length-lt5-clause-fails g c =
     let gave : Consumes (g.R.Input.state c.args.reader.now).left (g.R.Input.state c.fill.new.reader).left c.fill.new.room = rw all at e.bytes in
     let out : (length_told c.fill.new.room < 5) ⊎ (longest_document < length_told c.fill.new.room) = elim c.then-length-lt5.branch [
       | then-length-lt5-via-then-length-lt5 w ↦ inl (search rules)
-      | then-length-lt5-via-else-length-lt5+then-length-gt16793600 w ↦ inr (search rules)
+      | then-length-lt5-via-else-length-lt5+then-length-gt-LONGEST_DOCUMENT w ↦ inr (search rules)
     ] in
     rw told.1 record {
       given = c.fill.new.room;
