@@ -31,7 +31,7 @@ fn write_unread<E: Output>(unread: Option<ReadFault>, err: &mut E) -> Result<(),
 }
 
 /// Writes how many documents there are, and how many of them have a fault.
-#[tactic(auto, using(crate::proofs::OutputLemmas::LinesLemmas::taking))]
+#[tactic(auto, using(crate::proofs::OutputLemmas::FaultLemmas::taking))]
 fn write_counts<E: Output>(findings: &Findings, err: &mut E) -> Result<(), DeviceFault>
     ensures ok { OnOk result (TakesText (over E.state err.old err.new) (check_count_line findings.now.documents findings.now.faulty)) }
     ensures err { OnErr result (BreaksWithin (over E.state err.old err.new) (check_count_line findings.now.documents findings.now.faulty)) }
@@ -41,7 +41,7 @@ fn write_counts<E: Output>(findings: &Findings, err: &mut E) -> Result<(), Devic
 }
 
 /// Writes what standard error is to tell.
-#[tactic(auto, using(crate::proofs::OutputLemmas::LinesLemmas::taking))]
+#[tactic(auto, using(crate::proofs::OutputLemmas::FaultLemmas::taking))]
 fn write_findings<E: Output>(findings: &Findings, err: &mut E) -> Result<(), DeviceFault>
     ensures ok { OnOk result (TakesText (over E.state err.old err.new)
         (findings_message findings.now.documents findings.now.faulty findings.now.unread)) }

@@ -40,7 +40,7 @@ fn write_ending<E: Output>(alloc: Global, ending: &Ending, err: &mut E) -> Resul
 }
 
 /// Writes what standard error is to tell of a walk: what comes after the documents, and how many they are.
-#[tactic(auto, using(crate::proofs::OutputLemmas::LinesLemmas::taking))]
+#[tactic(auto, using(crate::proofs::OutputLemmas::FaultLemmas::taking))]
 fn write_walk<E: Output>(alloc: Global, walk: &Walk, err: &mut E) -> Result<(), OutputFault>
     ensures ok { OnOk result (TakesText (over E.state err.old err.new) (walk_message walk.now.count walk.now.ending)) }
     ensures starved { result ≡ Err OutputFault.NoMemory → IsFaulty walk.now.ending × (err.new ≡ err.old) }

@@ -79,7 +79,7 @@ fn write_bad_line<E: Output>(
 }
 
 /// Writes what standard error is to tell: the bad line, where there is one, and how many documents were packed.
-#[tactic(auto, using(crate::proofs::OutputLemmas::LinesLemmas::taking))]
+#[tactic(auto, using(crate::proofs::OutputLemmas::FaultLemmas::taking))]
 fn write_packing<E: Output>(
     alloc: Global,
     packing: &Packing,

@@ -16,7 +16,7 @@ use itoa::Buffer;
 use std::alloc::Global;
 
 /// Writes the line of an error.
-#[tactic(auto, using(crate::proofs::OutputLemmas::LinesLemmas::taking))]
+#[tactic(auto, using(crate::proofs::OutputLemmas::FaultLemmas::taking))]
 pub fn write_error<E: Output>(message: &[u8], err: &mut E) -> Result<(), DeviceFault>
     ensures ok { OnOk result (TakesText (over E.state err.old err.new) (error_line message.now)) }
     ensures err { OnErr result (BreaksWithin (over E.state err.old err.new) (error_line message.now)) }
@@ -35,7 +35,7 @@ pub fn write_read_fault<E: Output>(fault: ReadFault, err: &mut E) -> Result<(), 
 }
 
 /// Writes a number and the words after it.
-#[tactic(auto, using(crate::proofs::OutputLemmas::LinesLemmas::taking))]
+#[tactic(auto, using(crate::proofs::OutputLemmas::FaultLemmas::taking))]
 pub fn write_count<E: Output>(count: u64, words: &[u8], err: &mut E) -> Result<(), DeviceFault>
     ensures ok { OnOk result (TakesText (over E.state err.old err.new) (decimal count ++ words.now)) }
     ensures err { OnErr result (BreaksWithin (over E.state err.old err.new) (decimal count ++ words.now)) }
