@@ -113,13 +113,19 @@ def indent_of(line: str) -> int:
 
 
 def name_of(line: str) -> str:
-    """Return the name that rattle gives an item: of an impl the type's, then the trait's and those of its arguments."""
+    """Return the name that rattle gives an item: of an impl the type's, then the trait's and those of its arguments.
+
+    An argument that is a parameter of the impl has no part in it.
+    """
     kind, rest = ITEM.match(line).groups()
     if kind != "impl":
         return NAME.search(rest)[1]
+    own = PARAMETERS.match(rest)
+    parameters = [name for it in (own[0] if own else "").split(",") for name in NAME.findall(it)[:1]]
     of_trait, _, of_type = PARAMETERS.sub("", rest).split(" where")[0].rpartition(" for ")
     outer, _, arguments = of_trait.partition("<")
-    return "".join(name for it in [of_type, outer, *arguments.split(",")] for name in NAME.findall(it)[:1])
+    given = [name for it in arguments.split(",") for name in NAME.findall(it)[:1] if name not in parameters]
+    return "".join([name for it in [of_type, outer] for name in NAME.findall(it)[:1]] + given)
 
 
 def cycle_above(lines: list[str], at: int) -> str:
