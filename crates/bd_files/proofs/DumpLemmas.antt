@@ -22,10 +22,9 @@ use Rattle.bd_files.specs.declared.ending.Ending.TheVariants as endings
 use Rattle.bd_files.specs.declared.dump.walk.Walk.{Walk}
 use Rattle.bd_files.specs.declared.status.Status.{Status}
 use Rattle.bd_files.specs.declared.status.Status.TheVariants.{Done, Failed}
-use Rattle.bd_files.proofs.OutcomeLemmas.{streamed_front}
 use Rattle.bd_files.proofs.OutputLemmas.FaultLemmas.{lines-append}
-use Rattle.bd_files.specs.Dump.{DumpsInput, EndsWithinLimit, IsFrontOf, IsShownByDump, dump_count_line, dump_message, shown_dump}
-use Rattle.bd_files.specs.Outcome.{PrintsShown, ReadsInput, StreamsInput, TellsMessage}
+use Rattle.bd_files.specs.Dump.{DumpsInput, IsFrontOf, IsShownByDump, StopsAtFault, dump_count_line, dump_message, shown_dump}
+use Rattle.bd_files.specs.Outcome.{PrintsShown, ReadsInput, StopsWithinOne, StreamsInput, TellsMessage}
 use Rattle.bd_files.specs.Transcript.{Transcript, error_line, fault_text, lines, read_words, shown_refusal, shown_unread}
 use Rattle.bd_files.specs.Dump.Walk.{EndsWalk, IsFaulty, WalksDocuments, ending_status, walk_message}
 use Rattle.bd_device.specs.Devices.{TakesAtMost, TakesText}
@@ -35,28 +34,27 @@ module _ (old new : Reader) (out_old out_new : Writer) (err_old err_new : Writer
   abbrev pub Shows : Type 0
   Shows = DumpsInput (between old new) (between out_old out_new) (between err_old err_new) status
 
-  -- standard error was told this, or where no read failed and no limit was passed that memory ran out
-  abbrev Tells : List ℕ → Status → Type 0
-  Tells text wanted =
+  -- standard error was told this, or where no read failed and none went past the document after these bytes that memory ran out
+  abbrev Tells : List ℕ → List ℕ → Status → Type 0
+  Tells given text wanted =
       TellsMessage (between err_old err_new) text wanted status
-      ⊎ (TakesAtMost longest_input (between old new) × (new.failures ≡ old.failures) × TellsMessage (between err_old err_new) (error_line (codes "no memory")) Failed status)
+      ⊎ (StopsWithinOne given (between old new) × (new.failures ≡ old.failures) × TellsMessage (between err_old err_new) (error_line (codes "no memory")) Failed status)
 
-  all_of : (bytes : List ℕ) (fault : Option ReadFault) (shown : Transcript) (ds : List Doc) (given rest : List ℕ)
-      → StreamsInput (between old new) bytes fault → EndsWithinLimit bytes fault → IsShownByDump bytes fault shown
-      → AreJoined ds given → bytes ≡ given ++ rest → shown.out ≡ lines ds → TakesText (between out_old out_new) (lines ds) → Tells shown.err shown.status → Shows
-  all_of bytes fault shown ds given rest was within is joined cut same wrote (inl t) =
+  all_of : (bytes : List ℕ) (fault : Option ReadFault) (shown : Transcript) (ds : List Doc) (given : List ℕ)
+      → StreamsInput (between old new) bytes fault → StopsAtFault (between old new) bytes fault → IsShownByDump bytes fault shown
+      → AreJoined ds given → shown.out ≡ lines ds → TakesText (between out_old out_new) (lines ds) → Tells given shown.err shown.status → Shows
+  all_of bytes fault shown ds given was within is joined same wrote (inl t) =
       inl (bytes, fault, shown, was, within, is, subst (λ (x : List ℕ). TakesText (between out_old out_new) x) (sym same) wrote, t)
-  all_of bytes fault shown ds given rest was within is joined cut same wrote (inr t) =
-      inr (inr ((ds, given, joined, streamed_front old new bytes given rest fault was cut, t.0, t.1, wrote), t.2))
+  all_of bytes fault shown ds given was within is joined same wrote (inr t) = inr (inr ((ds, given, joined, t.0, t.1, wrote), t.2))
 
   numbered : (count : ℕ) (f : told.Fault) (ds : List Doc) → count ≡ length ds → f.document ≡ length ds
       → error_line (fault_text f.document (fault_view f)) ++ dump_count_line count ≡ dump_message (length ds) (Some (fault_view f))
   numbered count f ds same is = ap₂ (λ (n m : ℕ). error_line (fault_text n (fault_view f)) ++ dump_count_line m) is same
 
-  told_of : (text : List ℕ) (wanted : Status) (ending : Ending) → (IsFaulty ending → TakesAtMost longest_input (between old new) × (new.failures ≡ old.failures))
-      → TellsMessage (between err_old err_new) text wanted status ⊎ (IsFaulty ending × TellsMessage (between err_old err_new) (error_line (codes "no memory")) Failed status) → Tells text wanted
-  told_of text wanted ending well (inl t) = inl t
-  told_of text wanted ending well (inr t) = let w = well t.0 in inr (w.0, w.1, t.1)
+  told_of : (given text : List ℕ) (wanted : Status) (ending : Ending) → (IsFaulty ending → StopsWithinOne given (between old new) × (new.failures ≡ old.failures))
+      → TellsMessage (between err_old err_new) text wanted status ⊎ (IsFaulty ending × TellsMessage (between err_old err_new) (error_line (codes "no memory")) Failed status) → Tells given text wanted
+  told_of given text wanted ending well (inl t) = inl t
+  told_of given text wanted ending well (inr t) = let w = well t.0 in inr (w.0, w.1, t.1)
 
   pub shows_walk : (walk : Walk) → WalksDocuments (between old new) (between out_old out_new) walk
       → TellsMessage (between err_old err_new) (walk_message walk.count walk.ending) (ending_status walk.ending) status
@@ -66,15 +64,16 @@ module _ (old new : Reader) (out_old out_new : Writer) (err_old err_new : Writer
       by_ending : (ending : Ending) (count : ℕ) → count ≡ length ds → EndsWalk (between old new) ds ending
           → TellsMessage (between err_old err_new) (walk_message count ending) (ending_status ending) status
           ⊎ (IsFaulty ending × TellsMessage (between err_old err_new) (error_line (codes "no memory")) Failed status) → Shows
-      by_ending endings.Whole count same (bytes, was, within, joined) told =
-          all_of bytes None (shown_dump ds None) ds bytes [] was within (ds, None, joined, refl) joined (sym (append-nil bytes)) refl wrote
-          (subst (λ n. Tells (dump_count_line n) Done) same (told_of (dump_count_line count) Done endings.Whole (λ f. absurd f) told))
-      by_ending (endings.Faulty f) count same (bytes, was, within, fails, number) told =
-          all_of bytes None (shown_dump ds (Some (fault_view f))) ds fails.0 fails.1 was within (ds, Some (fault_view f), fails, refl) fails.2 fails.3 refl wrote
-          (subst (λ x. Tells x Failed) (numbered count f ds same number) (told_of (walk_message count (endings.Faulty f)) Failed (endings.Faulty f) (λ u. (was.1, was.2)) told))
+      by_ending endings.Whole count same (bytes, was, joined, at) told =
+          all_of bytes None (shown_dump ds None) ds bytes was (ds, bytes, [], joined, sym (append-nil bytes), inl refl, at) (ds, None, joined, refl) joined refl wrote
+          (subst (λ n. Tells bytes (dump_count_line n) Done) same (told_of bytes (dump_count_line count) Done endings.Whole (λ f. absurd f) told))
+      by_ending (endings.Faulty f) count same (front, rest, was, joined, fails, at, number) told =
+          all_of (front ++ rest) None (shown_dump ds (Some (fault_view f))) ds front was (ds, front, rest, joined, refl, inr (fault_view f, fails), at)
+          (ds, Some (fault_view f), (front, rest, joined, refl, fails), refl) joined refl wrote
+          (subst (λ x. Tells front x Failed) (numbered count f ds same number) (told_of front (walk_message count (endings.Faulty f)) Failed (endings.Faulty f) (λ u. (at, was.2)) told))
       by_ending (endings.Unread f) count same (front, part, was, joined, cut) told =
-          all_of (front ++ part) (Some f) (shown_unread (lines ds) f (dump_count_line (length ds))) ds front part was tt (ds, front, part, joined, cut, refl, refl) joined refl refl wrote
-          (subst (λ n. Tells (error_line (read_words f) ++ dump_count_line n) Failed) same (told_of (walk_message count (endings.Unread f)) Failed (endings.Unread f) (λ u. absurd u) told))
+          all_of (front ++ part) (Some f) (shown_unread (lines ds) f (dump_count_line (length ds))) ds front was tt (ds, front, part, joined, cut, refl, refl) joined refl wrote
+          (subst (λ n. Tells front (error_line (read_words f) ++ dump_count_line n) Failed) same (told_of front (walk_message count (endings.Unread f)) Failed (endings.Unread f) (λ u. absurd u) told))
 
 -- nothing was written to standard output
 pub refused : (out : Writer) (err_old err_new : Writer) (words : List ℕ) (status : Status)

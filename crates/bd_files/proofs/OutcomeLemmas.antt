@@ -2,11 +2,9 @@
 use Rattle.std.proofs.Common.{rules, ◌≡◌, ◌≤◌, ℕ, ◌+◌, ◌-◌, List, [], ◌++◌, length, length-take-le, map, Option, Some, None, Err, refl, sym, ap, ap₂, ◌∙◌}
 use Rattle.std.proofs.Common.{subst, append_assoc, append-nil, arith, length-append}
 use Rattle.std.specs.Prelude.{IfSome, string_bytes}
-use Rattle.std.specs.Io.{StartsWith}
 use Rattle.std.specs.Io.KnownBytes.{Consumes, IsAtEnd}
 use Rattle.std.proofs.KnownBytes.{Consumes-trans}
 use Rattle.std.proofs.lemmas.List.{take_at}
-use Rattle.std.proofs.Transfers.{starts_with_of_append}
 use Rattle.bd_value.specs.Limits.{longest_input, most_reads}
 use Rattle.bd_device.specs.Counts.{after_more}
 use Rattle.bd_device.specs.declared.reading.ReadFault.{ReadFault}
@@ -66,16 +64,6 @@ pub known_after : (old mid : Option (List ℕ)) (given bytes : List ℕ) → Con
 known_after None mid given bytes gave is = _
 known_after (Some xs) None given bytes gave is = absurd gave
 known_after (Some xs) (Some ys) given bytes gave is = ap (λ z. given ++ z) is ∙ sym gave
-
-pub front_known : (old new : Option (List ℕ)) (given : List ℕ) → Consumes old new given → IfSome old (λ xs. StartsWith xs given)
-front_known None new given gave = _
-front_known (Some xs) None given gave = absurd gave
-front_known (Some xs) (Some ys) given gave = starts_with_of_append xs given ys gave
-
-front_after : (old new : Option (List ℕ)) (bytes given rest : List ℕ) → Consumes old new bytes → bytes ≡ given ++ rest → IfSome old (λ xs. StartsWith xs given)
-front_after None new bytes given rest gave cut = _
-front_after (Some xs) None bytes given rest gave cut = absurd gave
-front_after (Some xs) (Some ys) bytes given rest gave cut = starts_with_of_append xs given (rest ++ ys) (gave ∙ ap (λ z. z ++ ys) cut ∙ append_assoc given rest ys)
 
 pub more_called : (a b c turns fewer : ℕ) → turns ≤ most_reads → fewer ≤ turns → b ≡ after_more a (most_reads - turns) → c ≡ after_more b (turns - fewer) → c ≡ after_more a (most_reads - fewer)
 more_called a b c turns fewer le less first second = search rules
@@ -145,17 +133,3 @@ module _ (old : Reader) (given : List ℕ) {R : Type 0} (state : R → Reader) (
         reason.0,
       )
   unread part reads.NoMemory other more reason = absurd (other refl)
-
--- what stands in front of an input's bytes stands in front of the reader's
-pub streamed_front : (old new : Reader) (bytes given rest : List ℕ) (fault : Option ReadFault)
-    → StreamsInput (between old new) bytes fault → bytes ≡ given ++ rest → IfSome old.left (λ xs. StartsWith xs given)
-streamed_front old new bytes given rest None was cut = whole old.left was.0
-  where
-    whole : (o : Option (List ℕ)) → IfSome o (λ xs. bytes ≡ xs) → IfSome o (λ xs. StartsWith xs given)
-    whole None is = _
-    whole (Some xs) is = starts_with_of_append xs given rest (sym is ∙ cut)
-streamed_front old new bytes given rest (Some reads.Device) was cut = front_after old.left new.left bytes given rest was.0 cut
-streamed_front old new bytes given rest (Some reads.TooLong) was cut =
-    front_after old.left new.left (bytes ++ was.0) given (rest ++ was.0) was.1 (ap (λ xs. xs ++ was.0) cut ∙ append_assoc given rest was.0)
-streamed_front old new bytes given rest (Some reads.TooManyTurns) was cut = front_after old.left new.left bytes given rest was.0 cut
-streamed_front old new bytes given rest (Some reads.NoMemory) was cut = absurd was

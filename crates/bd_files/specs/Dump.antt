@@ -1,16 +1,14 @@
 -- What `dump` shows of an input, and what a run of it did.
 pub mod Walk
-use Rattle.std.specs.Prelude.{◌≡◌, ◌≤◌, ◌⊎◌, ℕ, List, [], ◌∷◌, ◌++◌, length, codes, decimal, Option, Some, None, IfSome, slice_index, ◌<◌}
-use Rattle.std.specs.Io.{StartsWith}
+use Rattle.std.specs.Prelude.{◌≡◌, ◌⊎◌, ℕ, List, [], ◌∷◌, ◌++◌, length, codes, decimal, Option, Some, None, slice_index, ◌<◌}
 use Rattle.std.specs.Io.KnownBytes.{Consumes}
-use Rattle.bd_value.specs.Limits.{longest_input}
 use Rattle.bd_value.specs.Tree.{Doc}
-use Rattle.bd_device.specs.Devices.{BreaksAfter, Over, Reader, TakesAtMost, TakesText, Writer}
+use Rattle.bd_device.specs.Devices.{BreaksAfter, Over, Reader, TakesText, Writer}
 use Rattle.bd_device.specs.declared.reading.ReadFault.{ReadFault}
 use Rattle.bd_check.specs.Fault.{Fault}
 use Rattle.bd_check.specs.Dump.{AreJoined, IsWalk, frame_fault}
 use Rattle.bd_stream.specs.Stream.{IsCut}
-use Rattle.bd_files.specs.Outcome.{StreamsInput, TellsMessage}
+use Rattle.bd_files.specs.Outcome.{StopsWithinOne, StreamsInput, TellsMessage}
 use Rattle.bd_files.specs.Transcript.{Transcript, error_line, fault_text, lines, shown_unread}
 use Rattle.bd_files.specs.declared.status.Status.{Status}
 use Rattle.bd_files.specs.declared.status.Status.TheVariants.{Done, Failed}
@@ -41,14 +39,13 @@ IsShownByDump bytes (Some fault) shown =
     × (bytes ≡ front ++ part)
     × (shown ≡ shown_unread (lines ds) fault (dump_count_line (length ds)))
 
--- no more than 4,294,967,295 bytes were walked over: there are no more, or no more stand before the first fault
-abbrev pub EndsWithinLimit : List ℕ → Option ReadFault → Type 0
-EndsWithinLimit bytes None =
-    (length bytes ≤ longest_input)
-    ⊎ ((ds : List Doc) × (f : Fault) × (front : List ℕ) × (rest : List ℕ) × AreJoined ds front
-    × (bytes ≡ front ++ rest)
-    × (frame_fault (length front) rest ≡ Some f) × (length front ≤ longest_input))
-EndsWithinLimit bytes (Some f) = Unit {0}
+-- no byte was read past the end, or past the document that has the first fault
+abbrev pub StopsAtFault : Over Reader → List ℕ → Option ReadFault → Type 0
+StopsAtFault file bytes None =
+    (ds : List Doc) × (front : List ℕ) × (rest : List ℕ) × AreJoined ds front × (bytes ≡ front ++ rest)
+    × ((rest ≡ []) ⊎ ((f : Fault) × (frame_fault (length front) rest ≡ Some f)))
+    × StopsWithinOne front file
+StopsAtFault file bytes (Some f) = Unit {0}
 
 -- the text begins with this front
 abbrev pub IsFrontOf : List ℕ → List ℕ → Type 0
@@ -58,7 +55,7 @@ IsFrontOf front text = (rest : List ℕ) × (text ≡ front ++ rest)
 abbrev pub DumpsWhole : Over Reader → Over Writer → Over Writer → Status → Type 0
 DumpsWhole file out err status =
     (bytes : List ℕ) × (fault : Option ReadFault) × (shown : Transcript) × StreamsInput file bytes fault
-    × EndsWithinLimit bytes fault × IsShownByDump bytes fault shown
+    × StopsAtFault file bytes fault × IsShownByDump bytes fault shown
     × TakesText out shown.out × TellsMessage err shown.err shown.status status
 
 -- the reader gave these documents and no byte after them, and standard output broke in the line of the last of them
@@ -68,12 +65,10 @@ BreaksAtDocument file out =
     × Consumes file.before.left file.after.left given × (file.after.failures ≡ file.before.failures)
     × BreaksAfter out (lines ds) (lines (d ∷ []))
 
--- memory ran out after the lines of these documents: the reader's bytes begin with them, no read failed, and no more bytes were
--- read than may be
+-- memory ran out after the lines of these documents: the reader gave them and no byte past the next one, and no read failed
 abbrev pub StarvesAfterDocuments : Over Reader → Over Writer → Type 0
 StarvesAfterDocuments file out =
-    (ds : List Doc) × (given : List ℕ) × AreJoined ds given
-    × IfSome file.before.left (λ xs. StartsWith xs given) × TakesAtMost longest_input file
+    (ds : List Doc) × (given : List ℕ) × AreJoined ds given × StopsWithinOne given file
     × (file.after.failures ≡ file.before.failures) × TakesText out (lines ds)
 
 -- all was shown; or standard output broke, or memory ran out, and standard error tells so

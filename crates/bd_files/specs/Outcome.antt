@@ -6,7 +6,7 @@ use Rattle.bd_device.specs.Counts.{after_more}
 use Rattle.bd_device.specs.Devices.{BreaksWithin, LosesAtLeast, Over, Reader, TakesAtMost, TakesFront, TakesText, Writer}
 use Rattle.bd_device.specs.declared.reading.ReadFault.{ReadFault}
 use Rattle.bd_device.specs.declared.reading.ReadFault.TheVariants as reads
-use Rattle.bd_stream.specs.Stream.{EndsWithinOne}
+use Rattle.bd_stream.specs.Stream.{AreFrames, EndsWithinOne, IsWithinOne}
 use Rattle.bd_files.specs.Transcript.{Transcript, error_line}
 use Rattle.bd_files.specs.declared.status.Status.{Status}
 use Rattle.bd_files.specs.declared.status.Status.TheVariants.{Failed}
@@ -28,11 +28,22 @@ ReadsInput file (Err reads.TooManyTurns) =
 ReadsInput file (Err reads.NoMemory) =
     TakesAtMost longest_input file × (file.after.failures ≡ file.before.failures)
 
--- The reader's bytes are these, and no more than the limit were taken; or it gave these, and no more of them were read for this
--- reason. A read that went past the limit gave no more than was missing of the document that it was in.
+-- the reader gave these bytes, and of a document after them no byte past its end; no more than the limit in all
+abbrev pub StopsWithinOne : List ℕ → Over Reader → Type 0
+StopsWithinOne front file =
+    (part : List ℕ) × Consumes file.before.left file.after.left (front ++ part)
+    × (length (front ++ part) ≤ longest_input) × IsWithinOne part
+
+-- the reader gave documents by their lengths, and of one more no byte past its end
+abbrev pub TakesFrames : Over Reader → Type 0
+TakesFrames file =
+    (frames : List (List ℕ)) × (front : List ℕ) × AreFrames frames front × StopsWithinOne front file
+
+-- The reader's bytes are these, and none was read past the document whose length is faulty; or it gave these, and no more of
+-- them were read for this reason. A read that went past the limit gave no more than was missing of the document that it was in.
 abbrev pub StreamsInput : Over Reader → List ℕ → Option ReadFault → Type 0
 StreamsInput file bytes None =
-    IfSome file.before.left (λ xs. bytes ≡ xs) × TakesAtMost longest_input file
+    IfSome file.before.left (λ xs. bytes ≡ xs) × TakesFrames file
     × (file.after.failures ≡ file.before.failures)
 StreamsInput file bytes (Some reads.Device) =
     Consumes file.before.left file.after.left bytes × (length bytes ≤ longest_input)

@@ -10,7 +10,7 @@ use lib.Seq.{take-append-le}
 use Rattle.bd_check.specs.declared.fault.FaultKind.{FaultKind}
 use Rattle.bd_check.specs.declared.fault.FaultKind.TheVariants.{ShortLength, BadLength}
 use Rattle.bd_check.specs.Dump.{length_told, frame_length}
-use Rattle.bd_stream.specs.Stream.{IsFrame, AreFrames, IsCut, HasNoFrame}
+use Rattle.bd_stream.specs.Stream.{IsFrame, AreFrames, IsCut, IsWithinOne, HasNoFrame}
 use Rattle.bd_check.proofs.DumpLemmas.{frame_good, frame_inside, document_frame, Stuck}
 
 -- ---- what a length tells
@@ -147,6 +147,17 @@ frame_on frame rest is =
     let inside = frame_inside frame (length frame) is in
     let told : length_told (frame ++ rest) ≡ length frame = told_kept frame rest (omega (arith, inside.0)) ∙ frame_told frame (length frame) is in
     frame_good (frame ++ rest) (length frame) told inside.0 inside.2 (omega (arith, length-append frame rest))
+
+-- a document, and a part of one, go not past its end
+pub frame_within : (bytes : List ℕ) → IsFrame bytes → IsWithinOne bytes
+frame_within bytes is =
+    let inside = frame_inside bytes (length bytes) is in
+    let told = frame_told bytes (length bytes) is in
+    inr (omega (arith, told, inside.0), omega (arith, told, inside.2), omega (arith, told))
+
+pub cut_within : (bytes : List ℕ) → IsCut bytes → IsWithinOne bytes
+cut_within bytes (inl few) = inl (omega (arith, few))
+cut_within bytes (inr cut) = inr (cut.0, cut.1, let c = cut.2 in omega (arith, c))
 
 -- no document stands in front of a part of one
 pub cut_stuck : (part : List ℕ) → IsCut part → Stuck part

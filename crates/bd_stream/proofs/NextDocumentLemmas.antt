@@ -52,6 +52,7 @@ module _ {R : Type 0} (state : R → Reader) (gives : R → Option (List ℕ) �
       is.3,
       rw kept.room at is.4,
       is.5 ∙ well,
+      is.6,
     )
     reason_after given (faults.Read reads.Device) is = (is.0, rw kept.room at is.1, is.2 ∙ ap (λ n. after_more n 1) well)
     reason_after given (faults.Read reads.TooLong) is = (

@@ -61,13 +61,14 @@ pub record FindsEnd {R : Type 0} (state : R → Reader) (before after : DocBuffe
   pub grown : length after.buffer.items ≡ length before.buffer.items
 
 -- why a document was not read, of which the reader gave these bytes after its head; memory is wanted once the four bytes
--- of its length were read, and none is read after them
+-- of its length were read, and none is read after them; of a length that is none no byte is read past what it counts
 abbrev pub IsReason : {R : Type 0} → (R → Reader) → (R → Option (List ℕ) → R → Type 0) → DocBuffer → R → R
     → List ℕ → List ℕ → DocFault → Type 0
 IsReason state gives before old new head given (faults.Frame f) =
     (f.offset ≡ before.place) × (f.document ≡ before.number)
     × HasNoFrame head (state old).left f.kind × (frame_length (head ++ given) ≡ Err f.kind)
     × (length (head ++ given) ≤ before.left.bytes) × ((state new).failures ≡ (state old).failures)
+    × IsWithinOne (head ++ given)
 IsReason state gives before old new head given (faults.Read reads.Device) =
     IsCut (head ++ given) × (length (head ++ given) ≤ before.left.bytes)
     × ((state new).failures ≡ after_more (state old).failures 1)

@@ -17,11 +17,11 @@ use Rattle.bd_stream.specs.declared.doc_buffer.DocFault.TheVariants as faults
 use Rattle.bd_check.specs.Dump.{frame_length}
 use Rattle.bd_check.specs.FirstFault.{first_fault}
 use Rattle.bd_stream.specs.NextDocument.{IsReason}
-use Rattle.bd_stream.specs.Stream.{AreFrames, HasNoFrame, IsFrame}
+use Rattle.bd_stream.specs.Stream.{AreFrames, HasNoFrame, IsFrame, IsWithinOne}
 use Rattle.bd_stream.specs.declared.doc_buffer.DocBuffer.{DocBuffer}
 use Rattle.bd_check.specs.AnsweredFault.{fault_view}
 use Rattle.bd_bson.specs.Verdicts.{verdicts_at, verdicts}
-use Rattle.bd_stream.proofs.FrameLemmas.{frame_on, frames_more}
+use Rattle.bd_stream.proofs.FrameLemmas.{cut_within, frame_on, frame_within, frames_more}
 use Rattle.bd_bson.proofs.VerdictLemmas.{none_at, turn_at, last_at}
 use Rattle.bd_files.specs.declared.check.judging.Findings.{Findings}
 use Rattle.bd_files.specs.declared.ending.Ending.{Ending}
@@ -34,10 +34,10 @@ use Rattle.bd_files.proofs.OutputLemmas.FaultLemmas.{breaks_after}
 use Rattle.bd_files.proofs.OutcomeLemmas.{rest_of, known_whole, known_end, known_after, more_called, unread}
 use Rattle.bd_files.specs.Check.{BreaksAtVerdict, ChecksInput, JudgesWithinLimit, faulty_count, shown_check, shown_check_unread, verdict_line, verdict_lines}
 use Rattle.bd_files.specs.Check.Judging.{AreVerdicts, JudgesDocuments, JudgesLast, StopsJudging, findings_message, findings_status}
-use Rattle.bd_files.specs.Outcome.{StreamsInput, TellsMessage}
+use Rattle.bd_files.specs.Outcome.{StreamsInput, TakesFrames, TellsMessage}
 use Rattle.bd_files.specs.Transcript.{Transcript, error_line}
 use Rattle.bd_files.specs.Ending.{IsEndingOf}
-use Rattle.bd_device.specs.Devices.{BreaksWithin, Reader, TakesAtMost, TakesFront, TakesText, Writer, between}
+use Rattle.bd_device.specs.Devices.{BreaksWithin, Reader, TakesFront, TakesText, Writer, between}
 
 -- the verdicts, as contracts see them
 abbrev Seen : Type 0
@@ -182,16 +182,26 @@ module _ (old : Reader) (out_old : Writer) where
     cut_at : (rest : List ℕ) → verdict_lines 0 (verdicts (s.given ++ rest)) ≡ verdict_lines 0 s.done ++ verdict_lines (0 + length s.done) (verdicts_at place rest)
     cut_at rest = ap (verdict_lines 0) (s.all rest) ∙ lines_append 0 s.done (verdicts_at place rest)
 
-    took : (new : Reader) (part : List ℕ) → Consumes mid.left new.left part → length part ≤ room → TakesAtMost longest_input (between old new)
-    took new part gave fits =
-        (s.given ++ part, Consumes-trans old.left mid.left new.left s.given part s.gave gave, let f = s.fits in let p = s.placed in omega (arith, length-append s.given part))
+    took : (new : Reader) (part : List ℕ) → Consumes mid.left new.left part → length part ≤ room → IsWithinOne part → TakesFrames (between old new)
+    took new part gave fits within = (
+      s.frames,
+      s.given,
+      s.framed,
+      (
+        part,
+        Consumes-trans old.left mid.left new.left s.given part s.gave gave,
+        let f = s.fits in
+            let p = s.placed in omega (arith, length-append s.given part),
+        within,
+      ),
+    )
 
     -- memory ran out; this part of the rest was given
-    pub starves : (new : Reader) (part rest : List ℕ) → Consumes mid.left new.left part → length part ≤ room → IfSome mid.left (λ xs. rest ≡ xs) → new.failures ≡ mid.failures
+    pub starves : (new : Reader) (part rest : List ℕ) → Consumes mid.left new.left part → length part ≤ room → IsWithinOne part → IfSome mid.left (λ xs. rest ≡ xs) → new.failures ≡ mid.failures
         → StopsJudging (between old new) (between out_old out_mid) NoMemory
-    starves new part rest gave short is well = (
+    starves new part rest gave short within is well = (
       s.given ++ rest,
-      (known_after old.left mid.left s.given rest s.gave is, took new part gave short, well ∙ s.well),
+      (known_after old.left mid.left s.given rest s.gave is, took new part gave short within, well ∙ s.well),
       front_of out_old out_mid (verdict_lines 0 s.done) (verdict_lines (0 + length s.done) (verdicts_at place rest)) (verdict_lines 0 (verdicts (s.given ++ rest))) s.wrote (cut_at rest),
     )
 
@@ -199,18 +209,18 @@ module _ (old : Reader) (out_old : Writer) where
     was_stopped st want = Path (Result (Unit {0}) OutputFault) (Err st) (Err want)
 
     -- the line of a fault was stopped
-    stops_in : (new : Reader) (out_new : Writer) (part rest : List ℕ) (f : Fault) (more : List Seen) (st : OutputFault) → Consumes mid.left new.left part → length part ≤ room
+    stops_in : (new : Reader) (out_new : Writer) (part rest : List ℕ) (f : Fault) (more : List Seen) (st : OutputFault) → Consumes mid.left new.left part → length part ≤ room → IsWithinOne part
         → IfSome mid.left (λ xs. rest ≡ xs) → new.failures ≡ mid.failures → verdicts_at place part ≡ Some f ∷ [] → verdicts_at place rest ≡ Some f ∷ more
         → (was_stopped st NoMemory → out_new ≡ out_mid) → (was_stopped st Unwritten → BreaksWithin (between out_mid out_new) (verdict_line number (Some f)))
         → StopsJudging (between old new) (between out_old out_new) st
-    stops_in new out_new part rest f more NoMemory gave short is well last turn starved broke = rw (starved refl) (starves new part rest gave short is well)
-    stops_in new out_new part rest f more Unwritten gave short is well last turn starved broke =
+    stops_in new out_new part rest f more NoMemory gave short within is well last turn starved broke = rw (starved refl) (starves new part rest gave short within is well)
+    stops_in new out_new part rest f more Unwritten gave short within is well last turn starved broke =
         let v : Seen = Some f in
         let lines : verdict_lines 0 (verdicts (s.given ++ rest)) ≡ verdict_lines 0 s.done ++ (verdict_line number v ++ verdict_lines (suc (0 + length s.done)) more) =
         cut_at rest ∙ ap (λ vs. verdict_lines 0 s.done ++ verdict_lines (0 + length s.done) vs) turn
         ∙ ap (λ n. verdict_lines 0 s.done ++ (verdict_line n v ++ verdict_lines (suc (0 + length s.done)) more)) (let c = s.counted in omega arith) in (
           s.given ++ rest,
-          (known_after old.left mid.left s.given rest s.gave is, took new part gave short, well ∙ s.well),
+          (known_after old.left mid.left s.given rest s.gave is, took new part gave short within, well ∙ s.well),
           broke_after out_old out_mid out_new (verdict_lines 0 s.done) (verdict_line number v) (verdict_lines (suc (0 + length s.done)) more)
               (verdict_lines 0 (verdicts (s.given ++ rest))) s.wrote (broke refl) lines,
           (
@@ -243,12 +253,13 @@ module _ (old : Reader) (out_old : Writer) where
         let turn = turn_at place (length frame) (frame ++ rest) (frame_on frame rest is)
         ∙ ap (λ (v : Seen). v ∷ verdicts_at (place + length frame) (drop (length frame) (frame ++ rest)))
         (ap (first_fault place) (take_at frame rest (length frame) refl) ∙ first) in
-        stops_in new out_new frame (frame ++ rest) (fault_view f) _ st gave short (known_whole mid.left new.left frame gave) well (alone frame (fault_view f) is first) turn starved
+        stops_in new out_new frame (frame ++ rest) (fault_view f) _ st gave short (frame_within frame is) (known_whole mid.left new.left frame gave)
+        well (alone frame (fault_view f) is first) turn starved
         (λ e. subst (λ n. BreaksWithin (between out_mid out_new) (verdict_line n (Some (fault_view f)))) numbered (broke e))
 
-    pub starves_after : (new : Reader) (part : List ℕ) → Consumes mid.left new.left part → length part ≤ room → new.failures ≡ mid.failures
-        → StopsJudging (between old new) (between out_old out_mid) NoMemory
-    starves_after new part gave short well = starves new part (part ++ rest_of new.left) gave short (known_whole mid.left new.left part gave) well
+    pub starves_after : (new : Reader) (part : List ℕ) → Consumes mid.left new.left part → length part ≤ room → IsWithinOne part
+        → new.failures ≡ mid.failures → StopsJudging (between old new) (between out_old out_mid) NoMemory
+    starves_after new part gave short within well = starves new part (part ++ rest_of new.left) gave short within (known_whole mid.left new.left part gave) well
 
     -- ---- the last document
 
@@ -269,9 +280,9 @@ module _ (old : Reader) (out_old : Writer) where
           s.done,
           (
             known_end old.left mid.left new.left s.given s.gave gave end,
-            took new [] gave (omega arith),
-            well
-                ∙ s.well,
+            took new [] gave (omega arith)
+                (inl (omega arith)),
+            well ∙ s.well,
           ),
           inl within_given,
           sym done_alone,
@@ -280,17 +291,17 @@ module _ (old : Reader) (out_old : Writer) where
           s.wrote,
         )
 
-    faulty_ends : (new : Reader) (out_new : Writer) (f : told.Fault) (r : Result Findings OutputFault) (part bytes : List ℕ) → Consumes mid.left new.left part → length part ≤ room
+    faulty_ends : (new : Reader) (out_new : Writer) (f : told.Fault) (r : Result Findings OutputFault) (part bytes : List ℕ) → Consumes mid.left new.left part → length part ≤ room → IsWithinOne part
         → IfSome mid.left (λ xs. bytes ≡ xs) → new.failures ≡ mid.failures → frame_length bytes ≡ Err f.kind → verdicts_at place part ≡ Some (fault_view f) ∷ []
         → verdicts_at place bytes ≡ Some (fault_view f) ∷ [] → f.document ≡ number → JudgesLast (endings.Faulty f) number bad (between out_mid out_new) r → Last new out_new r
-    faulty_ends new out_new f (Ok findings) part bytes gave short is well bad_length given last numbered found =
+    faulty_ends new out_new f (Ok findings) part bytes gave short within is well bad_length given last numbered found =
         let all : verdicts (s.given ++ bytes) ≡ s.done ++ Some (fault_view f) ∷ [] = s.all bytes ∙ ap (λ vs. s.done ++ vs) last in
         let line : TakesText (between out_mid out_new) (verdict_line number (Some (fault_view f))) =
         subst (λ n. TakesText (between out_mid out_new) (verdict_line n (Some (fault_view f)))) numbered found.1 in
         rw found.0 (
           s.given ++ bytes,
           s.done ++ Some (fault_view f) ∷ [],
-          (known_after old.left mid.left s.given bytes s.gave is, took new part gave short, well ∙ s.well),
+          (known_after old.left mid.left s.given bytes s.gave is, took new part gave short within, well ∙ s.well),
           inr (s.frames, s.given, bytes, f.kind, s.framed, refl, bad_length, within_given),
           sym all,
           (let c = s.counted in omega (arith, length-append s.done (Some (fault_view f) ∷ []))),
@@ -298,9 +309,9 @@ module _ (old : Reader) (out_old : Writer) where
           wrote_after out_old out_mid out_new (verdict_lines 0 s.done) (verdict_line number (Some (fault_view f))) [] (verdict_lines 0 (s.done ++ Some (fault_view f) ∷ [])) s.wrote line
               (lines_more s.done (Some (fault_view f)) ∙ ap (λ n. verdict_lines 0 s.done ++ verdict_line n (Some (fault_view f))) (sym s.counted)),
         )
-    faulty_ends new out_new f (Err NoMemory) part bytes gave short is well bad_length given last numbered found = rw found (starves new part bytes gave short is well)
-    faulty_ends new out_new f (Err Unwritten) part bytes gave short is well bad_length given last numbered found =
-        stops_in new out_new part bytes (fault_view f) [] Unwritten gave short is well given last (λ e. absurd cc)
+    faulty_ends new out_new f (Err NoMemory) part bytes gave short within is well bad_length given last numbered found = rw found (starves new part bytes gave short within is well)
+    faulty_ends new out_new f (Err Unwritten) part bytes gave short within is well bad_length given last numbered found =
+        stops_in new out_new part bytes (fault_view f) [] Unwritten gave short within is well given last (λ e. absurd cc)
         (λ e. subst (λ n. BreaksWithin (between out_mid out_new) (verdict_line n (Some (fault_view f)))) numbered found)
 
     seen_at : (f : told.Fault) (bytes : List ℕ) → frame_length bytes ≡ Err f.kind → f.offset ≡ place → f.path.items ≡ [] → verdicts_at place bytes ≡ Some (fault_view f) ∷ []
@@ -309,11 +320,11 @@ module _ (old : Reader) (out_old : Writer) where
         ∙ ap₂ (λ (o : ℕ) (p : List (List ℕ)). Some (record { kind = f.kind; offset = o; path = p }) ∷ []) (sym offset) (sym (ap (map string_bytes) path))
 
     pub framed_ends : (new : Reader) (out_new : Writer) (f : told.Fault) (r : Result Findings OutputFault) (part : List ℕ)
-        → Consumes mid.left new.left part → length part ≤ room → new.failures ≡ mid.failures
+        → Consumes mid.left new.left part → length part ≤ room → IsWithinOne part → new.failures ≡ mid.failures
         → HasNoFrame [] mid.left f.kind → frame_length part ≡ Err f.kind → f.offset ≡ place → f.document ≡ number → f.path.items ≡ []
         → JudgesLast (endings.Faulty f) number bad (between out_mid out_new) r → Last new out_new r
-    framed_ends new out_new f r part gave short well none given offset numbered path found =
-        faulty_ends new out_new f r part none.0 gave short none.1 well none.2 (seen_at f part given offset path) (seen_at f none.0 none.2 offset path) numbered found
+    framed_ends new out_new f r part gave short within well none given offset numbered path found =
+        faulty_ends new out_new f r part none.0 gave short within none.1 well none.2 (seen_at f part given offset path) (seen_at f none.0 none.2 offset path) numbered found
 
   -- no document was given
   module _ {R : Type 0} (state : R → Reader) (gives : R → Option (List ℕ) → R → Type 0) (documents : DocBuffer) (m n : R) (out_mid : Writer) (bad : ℕ)
@@ -334,7 +345,7 @@ module _ (old : Reader) (out_old : Writer) where
     ends_by out_new given (faults.Frame f) e r (fault, by, alike) gave reason found =
         let is : e ≡ endings.Faulty fault = same_ending e (endings.Faulty fault) by in
         framed_ends (state m) out_mid documents.place documents.number bad documents.left.bytes documents.left.turns s (state n) out_new fault r
-        given gave reason.4 reason.5 (rw alike.kind reason.2) (rw alike.kind reason.3)
+        given gave reason.4 reason.6 reason.5 (rw alike.kind reason.2) (rw alike.kind reason.3)
         (alike.offset ∙ reason.0) (alike.document ∙ reason.1) alike.path (rw is at found)
     ends_by out_new given (faults.Read reads.Device) e r by gave reason found =
         unread_ends out_new given reads.Device r (λ x. absurd cc) gave reason (rw (same_ending e (endings.Unread reads.Device) by) at found)
@@ -352,7 +363,8 @@ module _ (old : Reader) (out_old : Writer) where
     starves_by given (faults.Read reads.TooLong) st by gave reason = absurd cc
     starves_by given (faults.Read reads.TooManyTurns) st by gave reason = absurd cc
     starves_by given (faults.Read reads.NoMemory) st by gave reason =
-        rw (same_stop st NoMemory by) (starves_after (state m) out_mid documents.place documents.number bad documents.left.bytes documents.left.turns s (state n) given gave reason.1 reason.2)
+        rw (same_stop st NoMemory by) (starves_after (state m) out_mid documents.place documents.number bad documents.left.bytes documents.left.turns
+        s (state n) given gave reason.1 (cut_within given reason.0) reason.2)
     starves_by given faults.Failed st by gave reason = absurd reason
 
 -- ---- the end of a run

@@ -1,5 +1,5 @@
 -- The walk of `dump` over the documents of an input, step by step.
-use Rattle.std.proofs.Common.{inl, inr, ◌≡◌, ◌≤◌, ℕ, ◌+◌, ◌-◌, List, [], ◌∷◌, ◌++◌, length, append-nil, Option, Some, Ok, Err, refl, sym, ◌∙◌, subst, arith, length-append}
+use Rattle.std.proofs.Common.{inl, ◌≡◌, ◌≤◌, ℕ, ◌+◌, ◌-◌, List, [], ◌∷◌, ◌++◌, length, append-nil, Option, Some, Ok, Err, refl, sym, ◌∙◌, subst, arith, length-append}
 use Rattle.std.specs.Prelude.{IfSome, Result, MatchResult}
 use Rattle.std.specs.Io.KnownBytes.{Consumes, IsAtEnd}
 use Rattle.std.proofs.KnownBytes.{Appends-trans, Appends-nil, Consumes-trans, Consumes-nil}
@@ -12,11 +12,12 @@ use Rattle.bd_raw.specs.Spelling.{IsDocument}
 use Rattle.bd_check.specs.FirstFault.{first_fault}
 use Rattle.bd_check.specs.Dump.{AreJoined, frame_length}
 use Rattle.bd_stream.specs.NextDocument.{IsReason}
-use Rattle.bd_stream.specs.Stream.{AreFrames, HasNoFrame, IsFrame}
+use Rattle.bd_stream.specs.Stream.{AreFrames, HasNoFrame, IsFrame, IsWithinOne}
 use Rattle.bd_stream.specs.declared.doc_buffer.DocBuffer.{DocBuffer}
 use Rattle.bd_check.specs.AnsweredFault.{fault_view}
 use Rattle.bd_check.specs.declared.fault.Fault as told
 use Rattle.bd_check.proofs.DumpLemmas.{document_frame, joined_append, joined_one}
+use Rattle.bd_stream.proofs.FrameLemmas.{cut_within, frame_within}
 use Rattle.bd_stream.specs.declared.doc_buffer.DocFault.{DocFault}
 use Rattle.bd_stream.specs.declared.doc_buffer.DocFault.TheVariants as faults
 use Rattle.bd_files.specs.declared.ending.Ending.{Ending}
@@ -24,12 +25,13 @@ use Rattle.bd_files.specs.declared.ending.Ending.TheVariants as endings
 use Rattle.bd_files.specs.declared.output.fault.OutputFault.{OutputFault}
 use Rattle.bd_files.specs.declared.output.fault.OutputFault.TheVariants.{NoMemory, Unwritten}
 use Rattle.bd_files.proofs.OutputLemmas.FaultLemmas.{breaks_after, lines-append}
-use Rattle.bd_files.proofs.OutcomeLemmas.{rest_of, known_whole, known_end, known_after, front_known, more_called, fault_inside, fault_of_length, unread}
+use Rattle.bd_files.proofs.OutcomeLemmas.{rest_of, known_whole, known_end, known_after, more_called, fault_inside, fault_of_length, unread}
 use Rattle.bd_files.specs.Dump.{BreaksAtDocument, StarvesAfterDocuments}
 use Rattle.bd_files.specs.Transcript.{lines}
 use Rattle.bd_files.specs.Ending.{IsEndingOf}
 use Rattle.bd_files.specs.Dump.Walk.{StopsWalk, WalksDocuments}
-use Rattle.bd_device.specs.Devices.{BreaksWithin, Reader, TakesAtMost, TakesText, Writer, between}
+use Rattle.bd_files.specs.Outcome.{StopsWithinOne, TakesFrames}
+use Rattle.bd_device.specs.Devices.{BreaksWithin, Reader, TakesText, Writer, between}
 
 -- documents that were joined are documents by their lengths
 joined_frames : (ds : List Doc) (bytes : List ℕ) → AreJoined ds bytes → (frames : List (List ℕ)) × AreFrames frames bytes
@@ -82,9 +84,6 @@ module _ (old : Reader) (out_old : Writer) where
   }
 
   module _ (mid : Reader) (out_mid : Writer) (place number room turns : ℕ) (s : Kept mid out_mid place number room turns) where
-    within_given : length s.given ≤ longest_input
-    within_given = let f = s.fits in let p = s.placed in omega arith
-
     -- a document was printed
     pub goes_on : (new : Reader) (out_new : Writer) (frame : List ℕ) (size next count less fewer : ℕ) (d : Doc) → IsDocument d frame → Consumes mid.left new.left frame
         → length frame ≡ size → (next ≡ place + size) × (count ≡ number + 1) × (less + size ≡ room)
@@ -119,27 +118,31 @@ module _ (old : Reader) (out_old : Writer) where
       breaks_after out_old out_mid out_new (lines s.done) (lines (d ∷ [])) s.wrote broke,
     )
 
-    took : (new : Reader) (part : List ℕ) → Consumes mid.left new.left part → length part ≤ room → TakesAtMost longest_input (between old new)
-    took new part gave fits =
-        (s.given ++ part, Consumes-trans old.left mid.left new.left s.given part s.gave gave, let f = s.fits in let p = s.placed in omega (arith, length-append s.given part))
+    stopped : (new : Reader) (part : List ℕ) → Consumes mid.left new.left part → length part ≤ room → IsWithinOne part → StopsWithinOne s.given (between old new)
+    stopped new part gave fits within =
+        (part, Consumes-trans old.left mid.left new.left s.given part s.gave gave, let f = s.fits in let p = s.placed in omega (arith, length-append s.given part), within)
+
+    in_frames : (new : Reader) → StopsWithinOne s.given (between old new) → TakesFrames (between old new)
+    in_frames new at = let frames = joined_frames s.done s.given s.joined in (frames.0, s.given, frames.1, at)
 
     -- memory ran out
-    pub starves : (new : Reader) (part : List ℕ) → Consumes mid.left new.left part → length part ≤ room → new.failures ≡ mid.failures
-        → StarvesAfterDocuments (between old new) (between out_old out_mid)
-    starves new part gave short well = (s.done, s.given, s.joined, front_known old.left mid.left s.given s.gave, took new part gave short, well ∙ s.well, s.wrote)
+    pub starves : (new : Reader) (part : List ℕ) → Consumes mid.left new.left part → length part ≤ room → IsWithinOne part
+        → new.failures ≡ mid.failures → StarvesAfterDocuments (between old new) (between out_old out_mid)
+    starves new part gave short within well = (s.done, s.given, s.joined, stopped new part gave short within, well ∙ s.well, s.wrote)
 
     -- printing a document was stopped
-    pub stops_by : (new : Reader) (out_new : Writer) (frame : List ℕ) (st : OutputFault) → Consumes mid.left new.left frame → length frame ≤ room → new.failures ≡ mid.failures
+    pub stops_by : (new : Reader) (out_new : Writer) (frame : List ℕ) (st : OutputFault) → IsFrame frame → Consumes mid.left new.left frame → length frame ≤ room → new.failures ≡ mid.failures
         → (was_stopped st NoMemory → out_new ≡ out_mid) → (was_stopped st Unwritten → (d : Doc) × IsDocument d frame × BreaksWithin (between out_mid out_new) (lines (d ∷ [])))
         → StopsWalk (between old new) (between out_old out_new) st
-    stops_by new out_new frame NoMemory gave short well starved broke = rw (starved refl) (starves new frame gave short well)
-    stops_by new out_new frame Unwritten gave short well starved broke = let b = broke refl in breaks new out_new frame b.0 b.1 gave well b.2
+    stops_by new out_new frame NoMemory is gave short well starved broke = rw (starved refl) (starves new frame gave short (frame_within frame is) well)
+    stops_by new out_new frame Unwritten is gave short well starved broke = let b = broke refl in breaks new out_new frame b.0 b.1 gave well b.2
 
     -- the input is at its end
     pub ends_whole : (new : Reader) (count : ℕ) → count ≡ number → IsAtEnd new.left → Consumes mid.left new.left [] → new.failures ≡ mid.failures
         → WalksDocuments (between old new) (between out_old out_mid) (record { count = count; ending = endings.Whole })
     ends_whole new count same end gave well =
-        (s.done, same ∙ s.counted, (s.given, (known_end old.left mid.left new.left s.given s.gave gave end, took new [] gave (omega arith), well ∙ s.well), inl within_given, s.joined), s.wrote)
+        let at = stopped new [] gave (omega arith) (inl (omega arith)) in
+        (s.done, same ∙ s.counted, (s.given, (known_end old.left mid.left new.left s.given s.gave gave end, in_frames new at, well ∙ s.well), s.joined, at), s.wrote)
 
     -- a document has a fault inside
     pub ends_faulty : (new : Reader) (count : ℕ) (frame : List ℕ) (f : told.Fault) → count ≡ number → IsFrame frame
@@ -149,40 +152,20 @@ module _ (old : Reader) (out_old : Writer) where
     ends_faulty new count frame f same is gave short well first numbered =
         let rest = rest_of new.left in
         let all : IfSome old.left (λ xs. s.given ++ (frame ++ rest) ≡ xs) = known_after old.left mid.left s.given (frame ++ rest) s.gave (known_whole mid.left new.left frame gave) in
-        let fails = fault_inside place s.given frame rest (fault_view f) s.placed is first in (
-          s.done,
-          same ∙ s.counted,
-          (
-            s.given ++ (frame ++ rest),
-            (all, took new frame gave short, well ∙ s.well),
-            inr
-                (s.done, fault_view f, s.given, frame ++ rest, s.joined, refl, fails, within_given),
-            (s.given, frame ++ rest, s.joined, refl, fails),
-            numbered ∙ s.counted,
-          ),
-          s.wrote,
-        )
+        let fails = fault_inside place s.given frame rest (fault_view f) s.placed is first in
+        let at = stopped new frame gave short (frame_within frame is) in
+        (s.done, same ∙ s.counted, (s.given, frame ++ rest, (all, in_frames new at, well ∙ s.well), s.joined, fails, at, numbered ∙ s.counted), s.wrote)
 
     -- a length is faulty
-    ends_framed : (new : Reader) (count : ℕ) (part : List ℕ) (f : told.Fault) → count ≡ number → Consumes mid.left new.left part → length part ≤ room → new.failures ≡ mid.failures
+    ends_framed : (new : Reader) (count : ℕ) (part : List ℕ) (f : told.Fault) → count ≡ number → Consumes mid.left new.left part → length part ≤ room → IsWithinOne part → new.failures ≡ mid.failures
         → HasNoFrame [] mid.left f.kind → f.offset ≡ place → f.document ≡ number → f.path.items ≡ []
         → WalksDocuments (between old new) (between out_old out_mid) (record { count = count; ending = endings.Faulty f })
-    ends_framed new count part f same gave short well none offset numbered path =
+    ends_framed new count part f same gave short within well none offset numbered path =
         let bytes = none.0 in
         let fails = fault_of_length place s.given bytes f s.placed none.2 offset path in
-        let all : IfSome old.left (λ xs. s.given ++ bytes ≡ xs) = known_after old.left mid.left s.given bytes s.gave none.1 in (
-          s.done,
-          same ∙ s.counted,
-          (
-            s.given ++ bytes,
-            (all, took new part gave short, well ∙ s.well),
-            inr
-                (s.done, fault_view f, s.given, bytes, s.joined, refl, fails, within_given),
-            (s.given, bytes, s.joined, refl, fails),
-            numbered ∙ s.counted,
-          ),
-          s.wrote,
-        )
+        let all : IfSome old.left (λ xs. s.given ++ bytes ≡ xs) = known_after old.left mid.left s.given bytes s.gave none.1 in
+        let at = stopped new part gave short within in
+        (s.done, same ∙ s.counted, (s.given, bytes, (all, in_frames new at, well ∙ s.well), s.joined, fails, at, numbered ∙ s.counted), s.wrote)
 
   -- no document was given
   module _ {R : Type 0} (state : R → Reader) (gives : R → Option (List ℕ) → R → Type 0) (documents : DocBuffer) (m n : R) (out_mid : Writer)
@@ -203,11 +186,12 @@ module _ (old : Reader) (out_old : Writer) where
     pub ends_by : (count : ℕ) (given : List ℕ) (d : DocFault) (r : Result Ending OutputFault) → count ≡ documents.number → IsEndingOf d r → Consumes (state m).left (state n).left given
         → IsReason state gives documents m n [] given d → Ended count r
     ends_by count given (faults.Frame f) r same (fault, by, is) gave reason =
-        rw by (ends_framed (state m) out_mid documents.place documents.number documents.left.bytes documents.left.turns s (state n) count given fault same gave reason.4 reason.5 (rw is.kind reason.2)
+        rw by (ends_framed (state m) out_mid documents.place documents.number documents.left.bytes documents.left.turns s (state n) count given fault
+        same gave reason.4 reason.6 reason.5 (rw is.kind reason.2)
         (is.offset ∙ reason.0) (is.document ∙ reason.1) is.path)
     ends_by count given (faults.Read reads.Device) r same by gave reason = rw by (unread_ends count given reads.Device same (λ e. absurd cc) gave reason)
     ends_by count given (faults.Read reads.TooLong) r same by gave reason = rw by (unread_ends count given reads.TooLong same (λ e. absurd cc) gave reason)
     ends_by count given (faults.Read reads.TooManyTurns) r same by gave reason = rw by (unread_ends count given reads.TooManyTurns same (λ e. absurd cc) gave reason)
     ends_by count given (faults.Read reads.NoMemory) r same by gave reason =
-        rw by (starves (state m) out_mid documents.place documents.number documents.left.bytes documents.left.turns s (state n) given gave reason.1 reason.2)
+        rw by (starves (state m) out_mid documents.place documents.number documents.left.bytes documents.left.turns s (state n) given gave reason.1 (cut_within given reason.0) reason.2)
     ends_by count given faults.Failed r same by gave reason = absurd reason

@@ -2,11 +2,11 @@
 use Rattle.std.specs.Prelude.{◌≡◌, ℕ, List, [], ◌++◌, length, Some, None}
 use Rattle.bd_value.specs.Tree.{Doc}
 use Rattle.bd_device.specs.Devices.{Over, Reader, TakesText, Writer}
-use Rattle.bd_check.specs.Dump.{AreJoined, IsWalk}
+use Rattle.bd_check.specs.Dump.{AreJoined, frame_fault}
 use Rattle.bd_check.specs.AnsweredFault.{fault_view}
 use Rattle.bd_stream.specs.Stream.{IsCut}
-use Rattle.bd_files.specs.Dump.{BreaksAtDocument, EndsWithinLimit, StarvesAfterDocuments, dump_count_line}
-use Rattle.bd_files.specs.Outcome.{StreamsInput}
+use Rattle.bd_files.specs.Dump.{BreaksAtDocument, StarvesAfterDocuments, dump_count_line}
+use Rattle.bd_files.specs.Outcome.{StopsWithinOne, StreamsInput}
 use Rattle.bd_files.specs.Transcript.{error_line, fault_text, lines, read_words}
 use Rattle.bd_files.specs.declared.ending.Ending.{Ending}
 use Rattle.bd_files.specs.declared.ending.Ending.TheVariants as endings
@@ -19,10 +19,10 @@ use Rattle.bd_files.specs.declared.status.Status.TheVariants.{Done, Failed}
 -- what comes after the documents
 abbrev pub EndsWalk : Over Reader → List Doc → Ending → Type 0
 EndsWalk file ds endings.Whole =
-    (bytes : List ℕ) × StreamsInput file bytes None × EndsWithinLimit bytes None × IsWalk ds None bytes
+    (bytes : List ℕ) × StreamsInput file bytes None × AreJoined ds bytes × StopsWithinOne bytes file
 EndsWalk file ds (endings.Faulty f) =
-    (bytes : List ℕ) × StreamsInput file bytes None × EndsWithinLimit bytes None
-    × IsWalk ds (Some (fault_view f)) bytes
+    (front : List ℕ) × (rest : List ℕ) × StreamsInput file (front ++ rest) None × AreJoined ds front
+    × (frame_fault (length front) rest ≡ Some (fault_view f)) × StopsWithinOne front file
     × (f.document ≡ length ds)
 EndsWalk file ds (endings.Unread f) =
     (front : List ℕ) × (part : List ℕ) × StreamsInput file (front ++ part) (Some f)

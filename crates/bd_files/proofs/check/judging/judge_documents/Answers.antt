@@ -2,6 +2,7 @@ use Rattle.std.proofs.Common.{rules, arith, ◌≡◌, ◌+◌, Ok, Some, None, 
 use Rattle.std.proofs.lemmas.Result.{err_from_is_err_and}
 use Rattle.std.proofs.KnownBytes.{Appends-nil}
 use Rattle.bd_check.specs.AnsweredFault.{fault_view}
+use Rattle.bd_stream.proofs.FrameLemmas.{frame_within}
 use Rattle.bd_files.proofs.OutcomeLemmas.{document_read}
 use Rattle.bd_files.proofs.CheckLemmas.JudgingLemmas as judges
 use Rattle.bd_files.proofs.check.judging.judge_documents.Goals as goal
@@ -22,7 +23,7 @@ returns-in_err-fault-in-Ok-true-clause-stops g c =
     let p = err_from_is_err_and c.from_residual.result c.from_residual.ensures.1 in
     rw (p.1, p.2) (judges.starves_after (g.R.Input.state c.args.input.now) (g.O.Output.state c.args.out.now) (g.R.Input.state l.input) (g.O.Output.state l.out)
     l.documents.place l.documents.number l.faulty l.documents.left.bytes l.documents.left.turns l.invariant.so_far
-    (g.R.Input.state c.read_next.new.reader) c.bytes.result.now read.gave read.short d.well)
+    (g.R.Input.state c.read_next.new.reader) c.bytes.result.now read.gave read.short (frame_within c.bytes.result.now read.frame) d.well)
 
 pub returns-in_err-write_verdict-in-Ok-true-clause-stops : goal.returns-in_err-write_verdict-in-Ok-true-clause-stops
 returns-in_err-write_verdict-in-Ok-true-clause-stops g c =

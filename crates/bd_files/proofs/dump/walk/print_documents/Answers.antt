@@ -1,4 +1,4 @@
-use Rattle.std.proofs.Common.{rules, ◌≡◌, Ok, Err, None, ap, ◌∙◌}
+use Rattle.std.proofs.Common.{rules, ◌≡◌, Ok, Err, None, false, ap, ◌∙◌}
 use Rattle.std.proofs.lemmas.Result.{err_from_is_err_and}
 use Rattle.bd_files.proofs.OutcomeLemmas.{document_read}
 use Rattle.bd_files.proofs.DumpLemmas.WalkLemmas as walking
@@ -15,7 +15,7 @@ returns-in_err-fault-in-Ok-true-clause-stops g c =
     rw (p.1, p.2) (walking.stops_by (g.R.Input.state c.args.input.now) (g.O.Output.state c.args.out.now) (g.R.Input.state l.input) (g.O.Output.state l.out)
     l.documents.place l.documents.number l.documents.left.bytes l.documents.left.turns l.invariant.so_far (g.R.Input.state c.read_next.new.reader)
     (g.O.Output.state c.print_document.new.out) c.bytes-bytes.result.now stopped.field-0.0
-    read.gave read.short d.well (λ h. ap g.O.Output.state (stopped.ensures.starved h)) stopped.ensures.broke)
+    read.frame read.gave read.short d.well (λ h. ap g.O.Output.state (stopped.ensures.starved h)) stopped.ensures.broke)
 
 pub returns-in-Some-clause-walks : goal.returns-in-Some-clause-walks
 returns-in-Some-clause-walks g c =
@@ -45,6 +45,15 @@ loop-documents-preserved g c =
           printed.0 printed.1 read.gave read.size (d.offset, d.number, d.room) d.counted read.many d.well printed.2;
       works = search rules;
     }
+
+pub returns-in-Ok-false-clause-walks : goal.returns-in-Ok-false-clause-walks
+returns-in-Ok-false-clause-walks g c =
+    let l = c.loop-documents in
+    let e = c.read_next.ensures in
+    let is : c.read_next.result ≡ Ok false = search rules in
+    walking.ends_whole (g.R.Input.state c.args.input.now) (g.O.Output.state c.args.out.now) (g.R.Input.state l.input) (g.O.Output.state l.out)
+    l.documents.place l.documents.number l.documents.left.bytes l.documents.left.turns l.invariant.so_far (g.R.Input.state c.read_next.new.reader) c.number-count.result
+    c.number-count.ensures (e.end is).end (e.end is).gave (e.end is).well
 
 pub returns-in-Err-clause-walks : goal.returns-in-Err-clause-walks
 returns-in-Err-clause-walks g c =

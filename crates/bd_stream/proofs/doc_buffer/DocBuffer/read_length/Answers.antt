@@ -27,6 +27,7 @@ returns-then-filled-lt4-clause-fails g c =
         rw told.2 (frame_short (take c.in_ok-filled.filled.bytes c.fill.new.room) (search rules) (search rules)),
         search rules,
         search rules,
+        inl (search rules),
       );
     }
 
@@ -54,5 +55,6 @@ returns-then-length-lt5-clause-fails g c =
         rw told.2 (frame_out c.fill.new.room size out),
         search rules,
         search rules,
+        inl (search rules),
       );
     }

@@ -2,7 +2,7 @@ use Rattle.std.proofs.Common.{rules, arith, ℕ, subst, sym, ◌∙◌, inl, ref
 use Rattle.std.proofs.lemmas.Result.{err_from_is_err_and}
 use Rattle.std.proofs.KnownBytes.{Consumes-nil}
 use Rattle.bd_check.specs.Dump.{length_told}
-use Rattle.bd_stream.proofs.FrameLemmas.{frame_cut, has_cut_length, is_cut, is_frame, whole_room}
+use Rattle.bd_stream.proofs.FrameLemmas.{cut_within, frame_cut, has_cut_length, is_cut, is_frame, whole_room}
 use Rattle.bd_stream.proofs.NextDocumentLemmas.{grown_for, kept_room}
 use Rattle.bd_stream.specs.NextDocument.{HoldsAsMuch}
 use Rattle.bd_stream.proofs.doc_buffer.DocBuffer.read_rest.Goals as goal
@@ -43,6 +43,7 @@ returns-then-filled-length-clause-fails g c =
         rw told.2 (frame_cut c.args.head e.gives.0 (size, c.requires.length.0, c.requires.length.1) less),
         search rules,
         search rules,
+        cut_within (c.args.head ++ e.gives.0) (is_cut c.args.head e.gives.0 (size, c.requires.length.0, c.requires.length.1) (omega (arith, less))),
       );
     }
 
