@@ -2,6 +2,7 @@
 use Rattle.std.specs.Prelude.{◌≡◌, ◌≤◌, ◌<◌, ◌⊎◌, ℕ, nat_lt, true, List, [], length, option_map, Option, Some, None, Result, Ok, Err, if◌then◌else◌}
 use Rattle.std.specs.List.{All}
 use Rattle.std.specs.Str.{bytes_eq}
+use Rattle.bd_value.specs.Limits.{greatest_count}
 use Rattle.bd_value.specs.Tree.{Doc}
 use Rattle.bd_answer.specs.Answer.{answer, rest}
 use Rattle.bd_answer.specs.Session.{IndexMark, OpenCursor, Query, State, cursor_of, has_index}

@@ -1,5 +1,6 @@
 //! The batch that is asked for, shown.
 ghost use Rattle.std.specs.Prelude.{◌≡◌, ◌++◌, ◌≤◌, ◌⊎◌, IfErr, IfOk, MatchOption, OnOk, Some, codes, length, option_map, true};
+ghost use Rattle.bd_value.specs.Limits.{greatest_count};
 ghost use Rattle.bd_answer.specs.Session.{OpenCursor, cursor_of};
 ghost use Rattle.bd_answer.specs.SessionLaws.{new_state};
 ghost use Rattle.bd_bson.specs.Collection.{bytes_of, documents};
