@@ -4,8 +4,8 @@
 usage: tools/build.py [--anew]     With --anew everything is proved and built, whatever is kept.
 
 The crates are proved by the gate itself, `rt ci`, over a copy that has them alone: without crates of tests and without edits that
-the proofs must refuse. Of a library below `rt ci` loads what is stated, and not how it is proved, and it keeps each crate that is
-proved beside the toolchain: a build that was cut off, a later build and the gate take it from there.
+the proofs must refuse. Of a library below `rt ci` loads what is stated, and not how it is proved. Where the kit keeps each crate that
+is proved beside the toolchain, a build that was cut off, a later build and the gate take it from there.
 
 Each build that ends adds a line to .build-times: when, how long, on what, and what it proved. The next one begins with this line.
 """
@@ -25,7 +25,8 @@ from meter import Meter
 ROOT = Path(__file__).resolve().parent.parent
 PROGRAM = "bsonfind"
 TIMES = ROOT / ".build-times"
-CUT_OFF = "cut off: each crate that is proved is kept, and make resumes with the others"
+CUT_OFF = "cut off: type make again"
+KEPT = "each crate that is proved is kept: a build that is cut off resumes"
 NEXT = "type ./bsonfind dump examples/shop.bson, or make install, make deb, make test"
 # Of a crate, what its proof reads, and what its program is run on.
 PARTS = ("src", "specs", "proofs", "args", "stdin", "stdout")
@@ -84,11 +85,17 @@ def last_time() -> str:
     return f"the last build here: {lines[-1]}" if lines else "no build has ended here; the first takes 20 to 30 minutes on four idle cores"
 
 
+def keeps() -> bool:
+    """Return whether the kit keeps what the gate proved: then its help knows a gate from nothing."""
+    shown = subprocess.run(["rt", "help"], stdin=subprocess.DEVNULL, capture_output=True, text=True, errors="replace")
+    return "--anew" in shown.stdout + shown.stderr
+
+
 def prove(room: str, count: int, anew: bool) -> int:
     """Prove the crates of a repository and build its program; print a line a crate; return the status."""
     started, done, proved, said = time.monotonic(), 0, 0, []
     how = {"stdin": subprocess.DEVNULL, "stdout": subprocess.PIPE, "stderr": subprocess.STDOUT}
-    with subprocess.Popen(["rt", "ci", *(["--anew"] if anew else [])], cwd=room, text=True, errors="replace", **how) as run:
+    with subprocess.Popen(["rt", "ci", *(["--anew"] if anew and keeps() else [])], cwd=room, text=True, errors="replace", **how) as run:
         meter = Meter(run.pid)
         try:
             for line in run.stdout or ():
@@ -145,7 +152,9 @@ def main(anew: bool) -> int:
         return 1
     print(f"proving {len(crates)} crates, each function of them, before the program is built")
     print(last_time())
-    print("make look shows the program in about a minute, with no proof; a build that is cut off resumes", flush=True)
+    print("make look shows the program in about a minute, with no proof", flush=True)
+    if keeps():
+        print(KEPT, flush=True)
     try:
         status = build(crates, anew)
     except KeyboardInterrupt:
