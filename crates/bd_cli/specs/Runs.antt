@@ -35,6 +35,12 @@ ReadsNoFile (orders.Pack path) = ⊥
 ReadsNoFile (orders.Find path options) = AsksNothing (find_words_of options)
 ReadsNoFile (orders.Serve path) = ⊥
 
+-- an order that holds its file whole before it shows anything
+abbrev pub HoldsFile : Order → Type 0
+HoldsFile (orders.Dump path) = ⊥
+HoldsFile (orders.Check path) = ⊥
+HoldsFile _ = Unit {0}
+
 -- an order that reads no commands
 abbrev pub ReadsNoCommands : Order → Type 0
 ReadsNoCommands (orders.Serve path) = ⊥

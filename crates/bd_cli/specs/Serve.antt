@@ -13,7 +13,8 @@ use Rattle.bd_lines.specs.declared.serving.ServeFault.TheVariants as faults
 use Rattle.bd_service.specs.Talk.{IsKept, RepliesInText}
 use Rattle.bd_find.specs.Chain.{IsRefusedOr}
 use Rattle.bd_find.specs.Find.{ReadsBytes, ReadsDump}
-use Rattle.bd_files.specs.Outcome.{ReadsInput, TellsMessage}
+use Rattle.bd_files.specs.Input.{ReadsInput}
+use Rattle.bd_files.specs.Outcome.{TellsMessage}
 use Rattle.bd_files.specs.Transcript.{error_line, read_words}
 use Rattle.bd_files.specs.declared.status.Status.{Status}
 use Rattle.bd_files.specs.declared.status.Status.TheVariants.{Done, Failed}

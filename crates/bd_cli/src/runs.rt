@@ -1,8 +1,9 @@
 //! An order carried out over devices, and words that are no order.
 
 ghost use Rattle.std.specs.Prelude.{◌≡◌};
+ghost use Rattle.bd_files.specs.Input.{ReadsNoFurther};
 ghost use Rattle.bd_files.specs.Outcome.{PrintsShown};
-ghost use Rattle.bd_cli.specs.Runs.{CarriesOut, DeviceFails, ReadsNoCommands, ReadsNoFile, WriteFails, shown_report};
+ghost use Rattle.bd_cli.specs.Runs.{CarriesOut, DeviceFails, HoldsFile, ReadsNoCommands, ReadsNoFile, WriteFails, shown_report};
 ghost use Rattle.bd_device.specs.Devices.{over};
 
 use crate::serve::serve;
@@ -31,6 +32,8 @@ pub fn run<F: Input, C: Input, O: Output, E: Output>(
 ) -> Status
     ensures ran { CarriesOut order.now C.state C.read_gives commands.old commands.new (over F.state file.old file.new)
         (over O.state out.old out.new) (over E.state err.old err.new) result }
+    // After a failed read, or at the end, an input that is held whole is read no more.
+    ensures further { HoldsFile order.now → ReadsNoFurther F.read_gives file.old file.new }
     // What is not wanted is not touched.
     ensures file { ReadsNoFile order.now → file.new ≡ file.old }
     ensures commands { ReadsNoCommands order.now → commands.new ≡ commands.old }

@@ -3,18 +3,19 @@
 ghost use Rattle.std.specs.Prelude.{◌≡◌, ◌≤◌, ◌⊎◌, codes, length};
 ghost use Rattle.bd_value.specs.Limits.{longest_input};
 ghost use Rattle.bd_bson.specs.Collection.{bytes_of, documents};
+ghost use Rattle.bd_files.specs.Input.{ReadsNoFurther};
 ghost use Rattle.bd_find.specs.Chain.{IsRefusedOr};
 ghost use Rattle.bd_find.specs.Find.{ReadsDump};
 ghost use Rattle.bd_cli.specs.Serve.{ServesInput, ServesNothing, ServesToAFault, ServesToTheEnd};
 ghost use Rattle.bd_device.specs.Devices.{over};
 
 use bd_bson::{Dump, read_dump};
-use bd_device::{Input, Output, read_all};
+use bd_device::{Input, Output};
 use bd_files::output::fault::is_want_of_memory;
 use bd_files::output::messages::{
     tell_dump_fault, tell_no_memory, tell_read_fault, tell_unwritten,
 };
-use bd_files::{LIMITS, Status};
+use bd_files::{LIMITS, Status, read_input};
 use bd_lines::ServeFault;
 use bd_service::Service;
 use std::alloc::Global;
@@ -28,10 +29,11 @@ pub(crate) fn serve<F: Input, C: Input, O: Output, E: Output>(
     out: &mut O,
     err: &mut E,
 ) -> Status
-    ensures { ServesInput C.state C.read_gives commands.old commands.new (over F.state file.old file.new)
+    ensures serves { ServesInput C.state C.read_gives commands.old commands.new (over F.state file.old file.new)
         (over O.state out.old out.new) (over E.state err.old err.new) result }
+    ensures further { ReadsNoFurther F.read_gives file.old file.new }
 {
-    match read_all(alloc, file, LIMITS) {
+    match read_input(alloc, file) {
         Ok(bytes) => serve_bytes(alloc, bytes, commands, out, err),
         Err(fault) => tell_read_fault(fault, err),
     }

@@ -24,7 +24,7 @@ use Rattle.bd_files.specs.declared.status.Status.{Status}
 use Rattle.bd_files.specs.declared.status.Status.TheVariants.{Done, Failed}
 use Rattle.bd_files.proofs.OutputLemmas.FaultLemmas.{lines-append}
 use Rattle.bd_files.specs.Dump.{DumpsInput, IsFrontOf, IsShownByDump, StopsAtFault, dump_count_line, dump_message, shown_dump}
-use Rattle.bd_files.specs.Outcome.{PrintsShown, ReadsInput, StopsWithinOne, StreamsInput, TellsMessage}
+use Rattle.bd_files.specs.Outcome.{PrintsShown, StopsWithinOne, StreamsInput, TellsMessage}
 use Rattle.bd_files.specs.Transcript.{Transcript, error_line, fault_text, lines, read_words, shown_refusal, shown_unread}
 use Rattle.bd_files.specs.Dump.Walk.{EndsWalk, IsFaulty, WalksDocuments, ending_status, walk_message}
 use Rattle.bd_device.specs.Devices.{TakesAtMost, TakesText}
@@ -79,22 +79,6 @@ module _ (old new : Reader) (out_old out_new : Writer) (err_old err_new : Writer
 pub refused : (out : Writer) (err_old err_new : Writer) (words : List ℕ) (status : Status)
     → TellsMessage (between err_old err_new) (error_line words) Failed status → PrintsShown (between out out) (between err_old err_new) (shown_refusal words) status
 refused out err_old err_new words status told = inl ((Appends-nil out.held, refl), told)
-
-abbrev failed_as : {A : Type 0} → ReadFault → Result A ReadFault
-failed_as f = Err f
-
-pub was_refused : {A : Type 0} (old new : Reader) (fault : ReadFault)
-    → (failed_as {A = A} fault ≡ failed_as reads.Device → new.failures ≡ after_more old.failures 1)
-    → (¬ (failed_as {A = A} fault ≡ failed_as reads.Device) → new.failures ≡ old.failures)
-    → (failed_as {A = A} fault ≡ failed_as reads.TooLong → IfSome old.left (λ xs. longest_input < length xs))
-    → (failed_as {A = A} fault ≡ failed_as reads.TooManyTurns → LosesAtLeast most_reads old.left new.left)
-    → (failed_as {A = A} fault ≡ failed_as reads.TooManyTurns → new.calls ≡ after_more old.calls most_reads)
-    → (failed_as {A = A} fault ≡ failed_as reads.NoMemory → TakesAtMost longest_input (between old new))
-    → ReadsInput (between old new) (Err fault)
-was_refused old new reads.Device failed well long turns made few = failed refl
-was_refused old new reads.TooLong failed well long turns made few = (long refl, well (λ e. absurd cc))
-was_refused old new reads.TooManyTurns failed well long turns made few = (turns refl, made refl, well (λ e. absurd cc))
-was_refused old new reads.NoMemory failed well long turns made few = (few refl, well (λ e. absurd cc))
 
 -- ---- what is shown is determined
 

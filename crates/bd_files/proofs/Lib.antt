@@ -1,5 +1,6 @@
 pub mod CheckLemmas
 pub mod DumpLemmas
+pub mod InputLemmas
 pub mod OutcomeLemmas
 pub mod OutputLemmas
 pub mod PackLemmas

@@ -13,21 +13,6 @@ use Rattle.bd_files.specs.declared.status.Status.TheVariants.{Failed}
 
 -- An input is read at most to 4,294,967,295 bytes, by at most 4,294,967,296 reads.
 
--- the reader's bytes are these, or it was not read whole for this reason
-abbrev pub ReadsInput : Over Reader → Result (List ℕ) ReadFault → Type 0
-ReadsInput file (Ok bytes) =
-    IfSome file.before.left (λ xs. bytes ≡ xs) × IsAtEnd file.after.left × (length bytes ≤ longest_input)
-    × (file.after.failures ≡ file.before.failures)
-ReadsInput file (Err reads.Device) = file.after.failures ≡ after_more file.before.failures 1
-ReadsInput file (Err reads.TooLong) =
-    IfSome file.before.left (λ xs. longest_input < length xs) × (file.after.failures ≡ file.before.failures)
-ReadsInput file (Err reads.TooManyTurns) =
-    LosesAtLeast most_reads file.before.left file.after.left
-    × (file.after.calls ≡ after_more file.before.calls most_reads)
-    × (file.after.failures ≡ file.before.failures)
-ReadsInput file (Err reads.NoMemory) =
-    TakesAtMost longest_input file × (file.after.failures ≡ file.before.failures)
-
 -- the reader gave these bytes, and of a document after them no byte past its end; no more than the limit in all
 abbrev pub StopsWithinOne : List ℕ → Over Reader → Type 0
 StopsWithinOne front file =

@@ -11,7 +11,8 @@ use Rattle.bd_pack.specs.Packable.{plain, IsPackable, IsBad}
 use Rattle.bd_pack.specs.declared.line.LineFault.{LineFault}
 use Rattle.bd_pack.specs.declared.line.LineFault.TheVariants as faults
 use Rattle.bd_lines.specs.Lines.{is_empty_line, text_lines}
-use Rattle.bd_files.specs.Outcome.{PrintsInput, ReadsInput}
+use Rattle.bd_files.specs.Input.{ReadsInput}
+use Rattle.bd_files.specs.Outcome.{PrintsInput}
 use Rattle.bd_files.specs.Transcript.{Transcript, error_line, read_words, shown_refusal}
 use Rattle.bd_files.specs.declared.pack.packing.BadLine.{BadLine}
 use Rattle.bd_files.specs.declared.status.Status.{Status}

@@ -13,17 +13,19 @@
 //! ```
 //!
 //! - `dump`, `check`, `pack`: a command each: `specs/Dump.antt`, `specs/Check.antt`, `specs/Pack.antt`.
-//! - `ending`: how a walk over the documents of a file ends.
+//! - `input`: an input that is read whole; `ending`: how a walk over the documents of a file ends.
 //! - `output`: what a run writes; `limits`, `status`: what a run reads at most, and how it ends.
 #![tactic(auto)]
 
 pub mod check;
 pub mod dump;
 mod ending;
+mod input;
 mod limits;
 pub mod output;
 pub mod pack;
 mod status;
 
+pub use input::read_input;
 pub use limits::LIMITS;
 pub use status::Status;

@@ -7,19 +7,20 @@ mod packing;
 ghost use Rattle.std.specs.Prelude.{◌≡◌, ◌≤◌, ◌⊎◌, ◌++◌, IfOk, OnOk, Ok, Err, length, codes};
 ghost use Rattle.bd_value.specs.Limits.{longest_input};
 ghost use Rattle.bd_files.specs.declared.status.Status.TheVariants.{Failed};
+ghost use Rattle.bd_files.specs.Input.{ReadsNoFurther};
 ghost use Rattle.bd_files.specs.Outcome.{PrintsOrStarves, TellsMessage};
 ghost use Rattle.bd_files.specs.Pack.{IsShownByPack, PacksInput, bad_line_line, bad_line_text, line_fault_text, pack_message, pack_status};
 ghost use Rattle.bd_files.specs.Transcript.{Transcript, error_line};
 ghost use Rattle.bd_device.specs.Devices.{BreaksWithin, TakesText, over};
 
-use crate::limits::LIMITS;
+use crate::input::read_input;
 use crate::output::fault::OutputFault;
 use crate::output::messages::{
     tell_no_memory, tell_read_fault, tell_unwritten, write_count, write_error,
 };
 use crate::pack::packing::{BadLine, Packing, write_lines};
 use crate::status::Status;
-use bd_device::{Input, Output, read_all};
+use bd_device::{Input, Output};
 use bd_diagnose::JsonFaultKind;
 use bd_extjson::write_number;
 use bd_pack::LineFault;
@@ -130,10 +131,11 @@ pub fn pack<R: Input, O: Output, E: Output>(
     out: &mut O,
     err: &mut E,
 ) -> Status
-    ensures { PacksInput (over R.state input.old input.new) (over O.state out.old out.new)
+    ensures packs { PacksInput (over R.state input.old input.new) (over O.state out.old out.new)
         (over E.state err.old err.new) result }
+    ensures further { ReadsNoFurther R.read_gives input.old input.new }
 {
-    match read_all(alloc, input, LIMITS) {
+    match read_input(alloc, input) {
         Ok(text) => pack_text(alloc, &text, out, err),
         Err(fault) => tell_read_fault(fault, err),
     }

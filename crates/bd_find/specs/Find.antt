@@ -13,7 +13,8 @@ use Rattle.bd_request.specs.Results.{marked_text}
 use Rattle.bd_find.specs.Chain.{IsRefusedOr}
 use Rattle.bd_find.specs.Asking.{AsksInWords, PageRequest}
 use Rattle.bd_find.specs.Batch.{cursor_for, places_from, query_for}
-use Rattle.bd_files.specs.Outcome.{PrintsInput, ReadsInput, TellsMessage}
+use Rattle.bd_files.specs.Input.{ReadsInput}
+use Rattle.bd_files.specs.Outcome.{PrintsInput, TellsMessage}
 use Rattle.bd_files.specs.Transcript.{Transcript, error_line, lines, fault_text, read_words, shown_refusal}
 use Rattle.bd_files.specs.declared.status.Status.{Status}
 use Rattle.bd_files.specs.declared.status.Status.TheVariants.{Done, Failed}

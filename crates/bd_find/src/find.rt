@@ -6,6 +6,7 @@ ghost use Rattle.bd_value.specs.Limits.{longest_input};
 ghost use Rattle.bd_command_line.specs.FindWords.{find_words_of};
 ghost use Rattle.bd_find.specs.Find.{FindsDocuments, IsShownOfBytes};
 ghost use Rattle.bd_find.specs.Asking.{AsksNothing, PageRequest, fits_batch, page_request_of};
+ghost use Rattle.bd_files.specs.Input.{ReadsNoFurther};
 ghost use Rattle.bd_files.specs.Outcome.{PrintsOrStarves};
 ghost use Rattle.bd_files.specs.Transcript.{Transcript};
 ghost use Rattle.bd_device.specs.Devices.{over};
@@ -14,10 +15,10 @@ use crate::asking::{Asking, AskingFault, read_asking};
 use crate::batch::show_found;
 use bd_bson::read_dump;
 use bd_command_line::FindOptions;
-use bd_device::{Input, Output, read_all};
+use bd_device::{Input, Output};
 use bd_files::output::fault::is_want_of_memory;
 use bd_files::output::messages::{tell_dump_fault, tell_error, tell_no_memory, tell_read_fault};
-use bd_files::{LIMITS, Status};
+use bd_files::{Status, read_input};
 use std::alloc::Global;
 
 /// Reads an input whole, where the words ask for something, and shows the first batch of the documents that are asked for;
@@ -31,6 +32,7 @@ pub fn find<R: Input, O: Output, E: Output>(
 ) -> Status
     ensures found { FindsDocuments (find_words_of options.now) (over R.state input.old input.new) (over O.state out.old out.new)
         (over E.state err.old err.new) result }
+    ensures further { ReadsNoFurther R.read_gives input.old input.new }
     ensures unread { AsksNothing (find_words_of options.now) → input.new ≡ input.old }
 {
     let asking = match read_asking(alloc, options) {
@@ -38,7 +40,7 @@ pub fn find<R: Input, O: Output, E: Output>(
         Err(AskingFault::NoMemory) => return tell_no_memory(err),
         Err(AskingFault::Message(message)) => return tell_error(&message, err),
     };
-    match read_all(alloc, input, LIMITS) {
+    match read_input(alloc, input) {
         Ok(bytes) => find_in(alloc, bytes, asking, out, err),
         Err(fault) => tell_read_fault(fault, err),
     }

@@ -1,5 +1,4 @@
-use Rattle.std.proofs.Common.{◌≤◌, Ok, Err, [], List, ℕ, refl, inl, inr, length, arith, subst}
-use Rattle.bd_value.specs.Limits.{longest_input}
+use Rattle.std.proofs.Common.{Ok, Err, [], List, ℕ, refl, inl, inr, subst}
 use Rattle.bd_files.proofs.DumpLemmas as runs
 use Rattle.bd_find.proofs.MessageLemmas as messages
 use Rattle.bd_find.proofs.find.find.Goals as goal
@@ -25,38 +24,29 @@ returns-in-Err-Message-clause-found g c =
           (g.E.Output.state c.tell_error.new.err) message _ told),
     )
 
-pub returns-in-Ok-read_all-clause-found : goal.returns-in-Ok-read_all-clause-found
-returns-in-Ok-read_all-clause-found g c =
-    let e = c.in-Ok-read_all.ensures in
+pub returns-in-Ok-read_input-clause-found : goal.returns-in-Ok-read_input-clause-found
+returns-in-Ok-read_input-clause-found g c =
     let s = c.find_in.ensures in
     let w = page_request_of c.in-Ok.asking in
-    let short : length c.in-Ok-read_all.bytes.items ≤ longest_input = omega (arith, e.short) in
     inr (
-      Ok c.in-Ok-read_all.bytes.items,
+      Ok c.in-Ok-read_input.bytes.items,
       s.0,
-      inr (w, c.in-Ok.ensures.asking, (e.bytes, e.end, short, e.well (λ x. absurd cc))),
-      inr
-          (w, c.in-Ok.ensures.asking, inr (c.in-Ok-read_all.bytes.items, refl, s.1)),
+      inr (w, c.in-Ok.ensures.asking, c.in-Ok-read_input.ensures.input),
+      inr (w, c.in-Ok.ensures.asking, inr (c.in-Ok-read_input.bytes.items, refl, s.1)),
       s.2,
     )
 
-pub returns-in-Ok-read_all-clause-unread : goal.returns-in-Ok-read_all-clause-unread
-returns-in-Ok-read_all-clause-unread g c none = absurd (none (page_request_of c.in-Ok.asking) c.in-Ok.ensures.asking)
+pub returns-in-Ok-read_input-clause-unread : goal.returns-in-Ok-read_input-clause-unread
+returns-in-Ok-read_input-clause-unread g c none = absurd (none (page_request_of c.in-Ok.asking) c.in-Ok.ensures.asking)
 
 pub returns-in-Err-clause-found : goal.returns-in-Err-clause-found
 returns-in-Err-clause-found g c =
-    let e = c.in-Err.ensures in
     let w = page_request_of c.in-Ok.asking in
     let words = read_words c.in-Err.fault in
     inr (
       Err c.in-Err.fault,
       shown_refusal words,
-      inr (
-        w,
-        c.in-Ok.ensures.asking,
-        runs.was_refused (g.R.Input.state c.args.input.now)
-            (g.R.Input.state c.read_all.new.reader) c.in-Err.fault e.failed e.well e.too_long_known e.too_many_known e.too_many_calls e.memory_known,
-      ),
+      inr (w, c.in-Ok.ensures.asking, c.in-Err.ensures.input),
       inr (w, c.in-Ok.ensures.asking, inl (words, refl, refl)),
       runs.refused (g.O.Output.state c.args.out.now) (g.E.Output.state c.args.err.now)
           (g.E.Output.state c.tell_read_fault.new.err) _ _ c.tell_read_fault.ensures,

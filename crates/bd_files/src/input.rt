@@ -1,0 +1,22 @@
+//! An input that is read whole.
+
+ghost use Rattle.std.specs.Prelude.{MatchResult, Ok, Err};
+ghost use Rattle.bd_device.specs.Devices.{over};
+ghost use Rattle.bd_files.specs.Input.{ReadsInput, ReadsNoFurther};
+
+use crate::limits::LIMITS;
+use bd_device::{Input, ReadFault, read_all};
+use std::alloc::Global;
+
+/// All bytes of an input, at most 4,294,967,295.
+///
+/// # Errors
+///
+/// `Device` after a failed read, and no read is made after it; `TooLong` if there is one byte more; `NoMemory`.
+pub fn read_input<R: Input>(alloc: Global, input: &mut R) -> Result<Vec<u8>, ReadFault>
+    ensures input { MatchResult result (λ bytes. ReadsInput (over R.state input.old input.new) (Ok bytes.items))
+        (λ fault. ReadsInput (over R.state input.old input.new) (Err fault)) }
+    ensures further { ReadsNoFurther R.read_gives input.old input.new }
+{
+    read_all(alloc, input, LIMITS)
+}
