@@ -6,7 +6,7 @@ use Rattle.bd_find.specs.Asking.{page_request_of}
 use Rattle.bd_files.specs.Outcome.{TellsMessage}
 use Rattle.bd_files.specs.Transcript.{error_line, read_words, shown_refusal}
 use Rattle.bd_files.specs.declared.status.Status.TheVariants.{Failed}
-use Rattle.bd_device.specs.Devices.{over}
+use Rattle.bd_device.specs.Devices.{no_read, over}
 
 pub returns-in-Err-Message-clause-found : goal.returns-in-Err-Message-clause-found
 returns-in-Err-Message-clause-found g c =
@@ -54,3 +54,9 @@ returns-in-Err-clause-found g c =
 
 pub returns-in-Err-clause-unread : goal.returns-in-Err-clause-unread
 returns-in-Err-clause-unread g c none = absurd (none (page_request_of c.in-Ok.asking) c.in-Ok.ensures.asking)
+
+pub returns-in-Err-NoMemory-clause-further : goal.returns-in-Err-NoMemory-clause-further
+returns-in-Err-NoMemory-clause-further g c = (0, [], c.args.input.now, no_read c.args.input.now, inl refl)
+
+pub returns-in-Err-Message-clause-further : goal.returns-in-Err-Message-clause-further
+returns-in-Err-Message-clause-further g c = (0, [], c.args.input.now, no_read c.args.input.now, inl refl)
