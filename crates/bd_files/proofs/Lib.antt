@@ -1,6 +1,6 @@
 pub mod CheckLemmas
 pub mod DumpLemmas
-pub mod OutcomeLemmas
 pub mod OutputLemmas
 pub mod PackLemmas
 pub mod TranscriptLemmas
+pub mod WalkLemmas

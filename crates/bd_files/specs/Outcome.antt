@@ -28,11 +28,15 @@ ReadsInput file (Err reads.TooManyTurns) =
 ReadsInput file (Err reads.NoMemory) =
     TakesAtMost longest_input file × (file.after.failures ≡ file.before.failures)
 
--- the reader gave these bytes, and of a document after them no byte past its end; no more than the limit in all
+-- the reader gave these bytes, and this part of a document after them, no byte past its end; no more than the limit in all
+abbrev pub StopsAt : List ℕ → List ℕ → Over Reader → Type 0
+StopsAt front part file =
+    Consumes file.before.left file.after.left (front ++ part) × (length (front ++ part) ≤ longest_input)
+    × IsWithinOne part
+
+-- the reader gave these bytes, and of a document after them no byte past its end
 abbrev pub StopsWithinOne : List ℕ → Over Reader → Type 0
-StopsWithinOne front file =
-    (part : List ℕ) × Consumes file.before.left file.after.left (front ++ part)
-    × (length (front ++ part) ≤ longest_input) × IsWithinOne part
+StopsWithinOne front file = (part : List ℕ) × StopsAt front part file
 
 -- the reader gave documents by their lengths, and of one more no byte past its end
 abbrev pub TakesFrames : Over Reader → Type 0

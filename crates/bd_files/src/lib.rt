@@ -13,7 +13,7 @@
 //! ```
 //!
 //! - `dump`, `check`, `pack`: a command each: `specs/Dump.antt`, `specs/Check.antt`, `specs/Pack.antt`.
-//! - `ending`: how a walk over the documents of a file ends.
+//! - `walk`: the documents of a file, one after the other; `ending`: what comes after them.
 //! - `output`: what a run writes; `limits`, `status`: what a run reads at most, and how it ends.
 #![tactic(auto)]
 
@@ -24,6 +24,7 @@ mod limits;
 pub mod output;
 pub mod pack;
 mod status;
+mod walk;
 
 pub use limits::LIMITS;
 pub use status::Status;
