@@ -1,79 +1,97 @@
 -- How a run ends.
-pub mod WalkLemmas
-use Rattle.std.proofs.Common.{◌≡◌, ◌<◌, ◌+◌, ℕ, List, [], ◌++◌, length, Option, Some, None, Result, Err, IfSome, refl, sym, ap, ap₂, ◌∙◌, subst, append-nil, append_assoc, inl, inr}
-use Rattle.std.specs.Prelude.{◌⊎◌, codes}
+use Rattle.std.proofs.Common.{◌≡◌, ◌<◌, ◌+◌, ℕ, List, [], ◌∷◌, ◌++◌, length, Option, Some, None, refl, sym, ap, ap₂, ◌∙◌, subst, append-nil, append_assoc, inl, inr, arith, length-append}
+use Rattle.std.specs.Prelude.{◌⊎◌, codes, option_map}
 use Rattle.std.proofs.lemmas.List.{get_or-append-add}
 use Rattle.std.proofs.KnownBytes.{Appends-nil}
-use Rattle.bd_value.specs.Limits.{longest_input, most_reads}
 use Rattle.bd_value.specs.Tree.{Doc}
-use Rattle.bd_device.specs.Counts.{after_more}
-use Rattle.bd_device.specs.Devices.{LosesAtLeast, Reader, Writer, between}
+use Rattle.bd_device.specs.Devices.{Reader, Writer, between}
 use Rattle.bd_device.specs.declared.reading.ReadFault.{ReadFault}
-use Rattle.bd_device.specs.declared.reading.ReadFault.TheVariants as reads
 use Rattle.bd_check.specs.Fault.{Fault}
 use Rattle.bd_check.specs.Dump.{AreJoined, IsWalk}
 use Rattle.bd_check.specs.AnsweredFault.{fault_view}
-use Rattle.bd_check.specs.declared.fault.Fault as told
 use Rattle.bd_check.proofs.FirstFaultLemmas.{IsBytes}
-use Rattle.bd_check.proofs.DumpLemmas.{walk_once, walk_on, joined_once}
+use Rattle.bd_check.proofs.DumpLemmas.{joined_append, joined_once, joined_one, walk_on, walk_once}
 use Rattle.bd_stream.proofs.FrameLemmas.{cut_stuck}
 use Rattle.bd_files.specs.declared.ending.Ending.{Ending}
 use Rattle.bd_files.specs.declared.ending.Ending.TheVariants as endings
-use Rattle.bd_files.specs.declared.dump.walk.Walk.{Walk}
+use Rattle.bd_files.specs.declared.output.fault.OutputFault.{OutputFault}
+use Rattle.bd_files.specs.declared.output.fault.OutputFault.TheVariants.{NoMemory, Unwritten}
 use Rattle.bd_files.specs.declared.status.Status.{Status}
-use Rattle.bd_files.specs.declared.status.Status.TheVariants.{Done, Failed}
+use Rattle.bd_files.specs.declared.status.Status.TheVariants.{Failed}
+use Rattle.bd_files.specs.declared.walk.Walk.{Walk}
 use Rattle.bd_files.proofs.OutputLemmas.FaultLemmas.{lines-append}
-use Rattle.bd_files.specs.Dump.{DumpsInput, IsFrontOf, IsShownByDump, StopsAtFault, dump_count_line, dump_message, shown_dump}
-use Rattle.bd_files.specs.Outcome.{PrintsShown, StopsWithinOne, StreamsInput, TellsMessage}
-use Rattle.bd_files.specs.Transcript.{Transcript, error_line, fault_text, lines, read_words, shown_refusal, shown_unread}
-use Rattle.bd_files.specs.Dump.Walk.{EndsWalk, IsFaulty, WalksDocuments, ending_status, walk_message}
-use Rattle.bd_device.specs.Devices.{TakesAtMost, TakesText}
+use Rattle.bd_files.specs.Dump.{DumpsInput, IsFrontOf, IsShownByDump, dump_count_line, shown_dump}
+use Rattle.bd_files.specs.Ending.{IsFaulty, ending_words}
+use Rattle.bd_files.specs.Outcome.{PrintsShown, TellsMessage}
+use Rattle.bd_files.specs.Output.Fault.{stop_words}
+use Rattle.bd_files.specs.Transcript.{Transcript, error_line, fault_text, lines, read_words, shown_refusal, wrong_line, wrong_status}
+use Rattle.bd_files.specs.Walk.{AreVisited, EndsWalk, StopsWalk, WalksDocuments, dump_texts, more_visited, none_visited}
+use Rattle.bd_device.specs.Devices.{BreaksAfter, TakesText}
+
+-- the documents that were gone over, and their lines
+printed : (vs : List (Option Fault)) (given text : List ℕ) → AreVisited dump_texts vs given text
+    → (ds : List Doc) × AreJoined ds given × (length ds ≡ length vs) × (text ≡ lines ds)
+printed vs given text none_visited = ([], refl, refl, refl)
+printed vs given text (more_visited us front before None frame piece visited is (d, spelled, line)) =
+    let h = printed us front before visited in (
+      h.0 ++ d ∷ [],
+      joined_append h.0 (d ∷ []) front frame h.1 (joined_one d frame spelled),
+      let e = h.2 in omega (arith, length-append h.0 (d ∷ []), length-append us (None ∷ [])),
+      ap₂ (λ (x y : List ℕ). x ++ y) h.3 line ∙ sym (lines-append h.0 (d ∷ [])),
+    )
+printed vs given text (more_visited us front before (Some f) frame piece visited is shows) = let e = shows.1 in absurd cc
 
 module _ (old new : Reader) (out_old out_new : Writer) (err_old err_new : Writer) (status : Status) where
   -- `dump` was carried out
   abbrev pub Shows : Type 0
   Shows = DumpsInput (between old new) (between out_old out_new) (between err_old err_new) status
 
-  -- standard error was told this, or where no read failed and none went past the document after these bytes that memory ran out
-  abbrev Tells : List ℕ → List ℕ → Status → Type 0
-  Tells given text wanted =
-      TellsMessage (between err_old err_new) text wanted status
-      ⊎ (StopsWithinOne given (between old new) × (new.failures ≡ old.failures) × TellsMessage (between err_old err_new) (error_line (codes "no memory")) Failed status)
+  abbrev Tells : List ℕ → Status → Type 0
+  Tells text wanted = TellsMessage (between err_old err_new) text wanted status
 
-  all_of : (bytes : List ℕ) (fault : Option ReadFault) (shown : Transcript) (ds : List Doc) (given : List ℕ)
-      → StreamsInput (between old new) bytes fault → StopsAtFault (between old new) bytes fault → IsShownByDump bytes fault shown
-      → AreJoined ds given → shown.out ≡ lines ds → TakesText (between out_old out_new) (lines ds) → Tells given shown.err shown.status → Shows
-  all_of bytes fault shown ds given was within is joined same wrote (inl t) =
-      inl (bytes, fault, shown, was, within, is, subst (λ (x : List ℕ). TakesText (between out_old out_new) x) (sym same) wrote, t)
-  all_of bytes fault shown ds given was within is joined same wrote (inr t) = inr (inr ((ds, given, joined, t.0, t.1, wrote), t.2))
+  -- what comes after so many documents was told, or memory ran out for it
+  abbrev TellsEnd : ℕ → Ending → Type 0
+  TellsEnd count ending =
+      Tells (wrong_line (ending_words ending) ++ dump_count_line count) (wrong_status (ending_words ending))
+      ⊎ (IsFaulty ending × Tells (error_line (codes "no memory")) Failed)
 
-  numbered : (count : ℕ) (f : told.Fault) (ds : List Doc) → count ≡ length ds → f.document ≡ length ds
-      → error_line (fault_text f.document (fault_view f)) ++ dump_count_line count ≡ dump_message (length ds) (Some (fault_view f))
-  numbered count f ds same is = ap₂ (λ (n m : ℕ). error_line (fault_text n (fault_view f)) ++ dump_count_line m) is same
+  module _ (ds : List Doc) (given : List ℕ) (joined : AreJoined ds given) (wrote : TakesText (between out_old out_new) (lines ds)) where
+    ends : (ending : Ending) → EndsWalk dump_texts (between old new) (length ds) given ending → TellsEnd (length ds) ending → Shows
+    ends endings.Whole (was, at) (inl told) =
+        inl (given, None, shown_dump ds None, was, (ds, given, [], joined, sym (append-nil given), inl refl, at), (ds, None, joined, refl), wrote, told)
+    ends (endings.Faulty f) (part, rest, was, at, numbered, fails, last) (inl told) =
+        let fault = fault_view f in
+        inl (
+          given ++ (part ++ rest),
+          None,
+          shown_dump ds (Some (fault_text (length ds) fault)),
+          was,
+          (ds, given, part ++ rest, joined, refl, inr (fault, fails), (part, at)),
+          (ds, Some fault, (given, part ++ rest, joined, refl, fails), refl),
+          wrote,
+          subst (λ n. Tells (error_line (fault_text n fault) ++ dump_count_line (length ds)) Failed) numbered told,
+        )
+    ends (endings.Unread f) (part, was, cut) (inl told) =
+        inl (given ++ part, Some f, shown_dump ds (Some (read_words f)), was, tt, (ds, given, part, joined, cut, refl, refl), wrote, told)
+    ends endings.Whole at (inr told) = absurd told.0
+    ends (endings.Faulty f) (part, rest, was, at, numbered, fails, last) (inr told) = inr (inr ((ds, given, joined, (part, at), was.2, wrote), told.1))
+    ends (endings.Unread f) at (inr told) = absurd told.0
 
-  told_of : (given text : List ℕ) (wanted : Status) (ending : Ending) → (IsFaulty ending → StopsWithinOne given (between old new) × (new.failures ≡ old.failures))
-      → TellsMessage (between err_old err_new) text wanted status ⊎ (IsFaulty ending × TellsMessage (between err_old err_new) (error_line (codes "no memory")) Failed status) → Tells given text wanted
-  told_of given text wanted ending well (inl t) = inl t
-  told_of given text wanted ending well (inr t) = let w = well t.0 in inr (w.0, w.1, t.1)
+  pub shows_walk : (walk : Walk) → WalksDocuments dump_texts (between old new) (between out_old out_new) walk → TellsEnd walk.count walk.ending → Shows
+  shows_walk walk (vs, given, text, visited, counted, bad, end, wrote) told =
+      let p = printed vs given text visited in
+      ends p.0 given p.1 (subst (λ (x : List ℕ). TakesText (between out_old out_new) x) p.3 wrote) walk.ending
+      (subst (λ n. EndsWalk dump_texts (between old new) n given walk.ending) (sym p.2) end) (subst (λ n. TellsEnd n walk.ending) (counted ∙ sym p.2) told)
 
-  pub shows_walk : (walk : Walk) → WalksDocuments (between old new) (between out_old out_new) walk
-      → TellsMessage (between err_old err_new) (walk_message walk.count walk.ending) (ending_status walk.ending) status
-      ⊎ (IsFaulty walk.ending × TellsMessage (between err_old err_new) (error_line (codes "no memory")) Failed status) → Shows
-  shows_walk walk (ds, counted, ends, wrote) told = by_ending walk.ending walk.count counted ends told
-    where
-      by_ending : (ending : Ending) (count : ℕ) → count ≡ length ds → EndsWalk (between old new) ds ending
-          → TellsMessage (between err_old err_new) (walk_message count ending) (ending_status ending) status
-          ⊎ (IsFaulty ending × TellsMessage (between err_old err_new) (error_line (codes "no memory")) Failed status) → Shows
-      by_ending endings.Whole count same (bytes, was, joined, at) told =
-          all_of bytes None (shown_dump ds None) ds bytes was (ds, bytes, [], joined, sym (append-nil bytes), inl refl, at) (ds, None, joined, refl) joined refl wrote
-          (subst (λ n. Tells bytes (dump_count_line n) Done) same (told_of bytes (dump_count_line count) Done endings.Whole (λ f. absurd f) told))
-      by_ending (endings.Faulty f) count same (front, rest, was, joined, fails, at, number) told =
-          all_of (front ++ rest) None (shown_dump ds (Some (fault_view f))) ds front was (ds, front, rest, joined, refl, inr (fault_view f, fails), at)
-          (ds, Some (fault_view f), (front, rest, joined, refl, fails), refl) joined refl wrote
-          (subst (λ x. Tells front x Failed) (numbered count f ds same number) (told_of front (walk_message count (endings.Faulty f)) Failed (endings.Faulty f) (λ u. (at, was.2)) told))
-      by_ending (endings.Unread f) count same (front, part, was, joined, cut) told =
-          all_of (front ++ part) (Some f) (shown_unread (lines ds) f (dump_count_line (length ds))) ds front was tt (ds, front, part, joined, cut, refl, refl) joined refl wrote
-          (subst (λ n. Tells front (error_line (read_words f) ++ dump_count_line n) Failed) same (told_of front (walk_message count (endings.Unread f)) Failed (endings.Unread f) (λ u. absurd u) told))
+  pub shows_stop : (stopped : OutputFault) → StopsWalk dump_texts (between old new) (between out_old out_new) stopped → Tells (error_line (stop_words stopped)) Failed → Shows
+  shows_stop NoMemory (vs, given, text, visited, at, well, wrote) told =
+      let p = printed vs given text visited in
+      inr (inr ((p.0, given, p.1, at, well, subst (λ (x : List ℕ). TakesText (between out_old out_new) x) p.3 wrote), told))
+  shows_stop Unwritten (vs, given, text, visited, (None, frame, piece, is, (d, spelled, line), at, well, broke, some)) told =
+      let p = printed vs given text visited in
+      let after : BreaksAfter (between out_old out_new) (lines p.0) (lines (d ∷ [])) = rw (sym p.3, sym line) broke in
+      inr (inl ((p.0, d, given ++ frame, joined_append p.0 (d ∷ []) given frame p.1 (joined_one d frame spelled), at.0, well, after), told))
+  shows_stop Unwritten (vs, given, text, visited, (Some f, frame, piece, is, shows, at, well, broke, some)) told = let e = shows.1 in absurd cc
 
 -- nothing was written to standard output
 pub refused : (out : Writer) (err_old err_new : Writer) (words : List ℕ) (status : Status)
@@ -85,19 +103,19 @@ refused out err_old err_new words status told = inl ((Appends-nil out.held, refl
 shown_bytes_once : (bytes : List ℕ) (s t : Transcript) → IsShownByDump bytes None s → IsShownByDump bytes None t → s ≡ t
 shown_bytes_once bytes s t (ds, end, is, shows) (es, other, was, showed) =
     let e = walk_once ds es end other bytes is was in
-    shows ∙ ap₂ (λ (x : List Doc) (o : Option Fault). shown_dump x o) e.0 e.1 ∙ sym showed
+    shows ∙ ap₂ (λ (x : List Doc) (o : Option Fault). shown_dump x (option_map (fault_text (length x)) o)) e.0 e.1 ∙ sym showed
 
 shown_part_once : (bytes : List ℕ) (fault : ReadFault) (s t : Transcript) → IsShownByDump bytes (Some fault) s → IsShownByDump bytes (Some fault) t → s ≡ t
 shown_part_once bytes fault s t (ds, front, part, joined, cut, is, shows) (es, begin, piece, joint, short, was, showed) =
     let e = joined_once ds es front begin part piece joined joint (cut_stuck part cut) (cut_stuck piece short) (sym is ∙ was) in
-    shows ∙ ap (λ (x : List Doc). shown_unread (lines x) fault (dump_count_line (length x))) e.0 ∙ sym showed
+    shows ∙ ap (λ (x : List Doc). shown_dump x (Some (read_words fault))) e.0 ∙ sym showed
 
 pub shown_once : (bytes : List ℕ) (fault : Option ReadFault) (s t : Transcript) → IsShownByDump bytes fault s → IsShownByDump bytes fault t → s ≡ t
 shown_once bytes None s t p q = shown_bytes_once bytes s t p q
 shown_once bytes (Some fault) s t p q = shown_part_once bytes fault s t p q
 
 pub shown_some : (bytes : List ℕ) → IsBytes bytes → (s : Transcript) × IsShownByDump bytes None s
-shown_some bytes fits = let w = walk_on [] [] bytes fits refl in (shown_dump w.more w.end, (w.more, w.end, w.walk, refl))
+shown_some bytes fits = let w = walk_on [] [] bytes fits refl in (shown_dump w.more (option_map (fault_text (length w.more)) w.end), (w.more, w.end, w.walk, refl))
 
 bytes_after : (given rest : List ℕ) → IsBytes (given ++ rest) → IsBytes rest
 bytes_after given rest h i = subst (λ n. n < 256) (get_or-append-add given rest i 0) (h (length given + i))

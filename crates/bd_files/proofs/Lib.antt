@@ -1,7 +1,7 @@
 pub mod CheckLemmas
 pub mod DumpLemmas
 pub mod InputLemmas
-pub mod OutcomeLemmas
 pub mod OutputLemmas
 pub mod PackLemmas
 pub mod TranscriptLemmas
+pub mod WalkLemmas

@@ -1,6 +1,7 @@
 -- What `pack` shows is determined, but for the kind and the place of a fault.
 pub mod PackingLemmas
 use Rattle.std.proofs.Common.{◌≡◌, ◌<◌, ℕ, suc, List, [], ◌∷◌, length, Option, Some, None, Result, Ok, Err, refl, sym, ap, ap₂, ◌∙◌, subst, arith, inl, inr, true, false, true≢false}
+use Rattle.std.specs.Prelude.{option_map}
 use Rattle.bd_value.specs.Limits.{longest_document}
 use Rattle.bd_value.specs.Tree.{Doc}
 use Rattle.bd_device.specs.declared.reading.ReadFault.{ReadFault}
@@ -10,9 +11,9 @@ use Rattle.bd_files.specs.declared.pack.packing.BadLine.{BadLine}
 use Rattle.bd_pack.specs.declared.line.LineFault.{LineFault}
 use Rattle.bd_pack.specs.declared.line.LineFault.TheVariants as faults
 use Rattle.bd_files.proofs.PackLemmas.PackingLemmas.{packs_some}
-use Rattle.bd_files.specs.Pack.{AreAlike, AreAlikeFaults, IsShownByPack, PacksLines, pack_status, packed_bytes, shown_pack}
+use Rattle.bd_files.specs.Pack.{AreAlike, AreAlikeFaults, IsShownByPack, PacksLines, bad_line_text, packed_bytes, shown_pack}
 use Rattle.bd_lines.specs.Lines.{text_lines}
-use Rattle.bd_files.specs.Transcript.{Transcript}
+use Rattle.bd_files.specs.Transcript.{Transcript, wrong_status}
 
 -- a line is one document
 read_once : (line : List ℕ) (d e : Doc) → ReadsAs line d → ReadsAs line e → d ≡ e
@@ -54,7 +55,7 @@ packs_once number (line ∷ lines) ds es bad other (inr (inr (full, (fault, is, 
 packs_once number (line ∷ lines) ds es bad other (inr (inr (full, (f, is, none, end)))) (inr (inr (also, (g, was, nothing, there)))) =
     (none ∙ sym nothing, alike_ends bad other (Some (record { number = number; fault = f })) (Some (record { number = number; fault = g })) end there (refl, alike_faults line f g is was))
 
-same_status : (bad other : Option BadLine) → AreAlike bad other → pack_status bad ≡ pack_status other
+same_status : (bad other : Option BadLine) → AreAlike bad other → wrong_status (option_map bad_line_text bad) ≡ wrong_status (option_map bad_line_text other)
 same_status None None a = refl
 same_status None (Some b) a = absurd a
 same_status (Some b) None a = absurd a

@@ -1,5 +1,5 @@
 -- A transcript that was written whole.
-use Rattle.std.proofs.Common.{◌≡◌, ◌⊎◌, List, [], refl, sym, append-nil, inl, inr, codes}
+use Rattle.std.proofs.Common.{◌⊎◌, [], sym, append-nil, inl, inr, codes}
 use Rattle.bd_device.specs.Devices.{TakesText, Writer, between}
 use Rattle.bd_files.specs.Outcome.{PrintsOrStarves, TellsMessage}
 use Rattle.bd_files.specs.Transcript.{Transcript, error_line}

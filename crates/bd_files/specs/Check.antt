@@ -1,6 +1,6 @@
 -- What `check` shows of an input, and what a run of it did.
 pub mod Judging
-use Rattle.std.specs.Prelude.{◌≡◌, ◌≤◌, ◌⊎◌, ℕ, zero, suc, List, [], ◌∷◌, ◌++◌, length, codes, decimal, Option, Some, None, Err, is_some}
+use Rattle.std.specs.Prelude.{◌≡◌, ◌≤◌, ◌⊎◌, ℕ, zero, suc, List, [], ◌∷◌, ◌++◌, length, codes, decimal, Option, Some, None, Err, is_some, option_map}
 use Rattle.std.specs.Io.KnownBytes.{Consumes}
 use Rattle.std.specs.List.{count_by}
 use Rattle.bd_value.specs.Limits.{longest_input}
@@ -12,7 +12,7 @@ use Rattle.bd_check.specs.declared.fault.FaultKind.{FaultKind}
 use Rattle.bd_stream.specs.Stream.{AreFrames, IsCut}
 use Rattle.bd_bson.specs.Verdicts.{verdicts}
 use Rattle.bd_files.specs.Outcome.{StreamsInput, TellsMessage}
-use Rattle.bd_files.specs.Transcript.{Transcript, error_line, fault_text, shown_unread}
+use Rattle.bd_files.specs.Transcript.{Transcript, error_line, fault_text, read_words, wrong_line}
 use Rattle.bd_files.specs.declared.status.Status.{Status}
 use Rattle.bd_files.specs.declared.status.Status.TheVariants.{Done, Failed}
 
@@ -34,30 +34,32 @@ abbrev pub check_count_line : ℕ → ℕ → List ℕ
 check_count_line documents faulty =
     (decimal documents ++ codes " documents, ") ++ (decimal faulty ++ codes " faulty\n")
 
-abbrev pub check_status : ℕ → Status
-check_status zero = Done
-check_status (suc n) = Failed
+abbrev pub check_status : Option ReadFault → ℕ → Status
+check_status None zero = Done
+check_status None (suc n) = Failed
+check_status (Some f) faulty = Failed
 
--- what is shown of the documents: a line for each that has a fault, and then how many there are of both
-abbrev pub shown_check : List (Option Fault) → Transcript
-shown_check vs = record {
+-- what is shown of the documents, or of those before a read that failed: a line for each that has a fault, why no more of the
+-- input was read, and then how many there are of both
+abbrev pub shown_check : List (Option Fault) → Option ReadFault → Transcript
+shown_check vs unread = record {
   out = verdict_lines 0 vs;
-  err = check_count_line (length vs) (faulty_count vs);
-  status = check_status (faulty_count vs);
+  err = wrong_line (option_map read_words unread) ++ check_count_line (length vs) (faulty_count vs);
+  status = check_status unread (faulty_count vs);
 }
 
--- the same of the documents before a read that failed
-abbrev pub shown_check_unread : List (Option Fault) → ReadFault → Transcript
-shown_check_unread vs fault =
-    shown_unread (verdict_lines 0 vs) fault (check_count_line (length vs) (faulty_count vs))
-
--- What `check` shows of the bytes of an input: of all of them, or of those before a read that failed. Then they are
--- documents by their lengths, and the beginning of one more.
-abbrev pub IsShownByCheck : List ℕ → Option ReadFault → Transcript → Type 0
-IsShownByCheck bytes None shown = shown ≡ shown_check (verdicts bytes)
-IsShownByCheck bytes (Some fault) shown =
+-- The verdicts on the bytes of an input: on all of them, or on those before a read that failed. Then they are documents by
+-- their lengths, and the beginning of one more.
+abbrev pub AreVerdicts : List ℕ → Option ReadFault → List (Option Fault) → Type 0
+AreVerdicts bytes None vs = vs ≡ verdicts bytes
+AreVerdicts bytes (Some fault) vs =
     (frames : List (List ℕ)) × (front : List ℕ) × (part : List ℕ) × AreFrames frames front × IsCut part
-    × (bytes ≡ front ++ part) × (shown ≡ shown_check_unread (verdicts front) fault)
+    × (bytes ≡ front ++ part) × (vs ≡ verdicts front)
+
+-- what `check` shows of them
+abbrev pub IsShownByCheck : List ℕ → Option ReadFault → Transcript → Type 0
+IsShownByCheck bytes fault shown =
+    (vs : List (Option Fault)) × AreVerdicts bytes fault vs × (shown ≡ shown_check vs fault)
 
 -- no more than 4,294,967,295 bytes were judged: there are no more, or no more stand before a faulty length
 abbrev pub JudgesWithinLimit : List ℕ → Option ReadFault → Type 0

@@ -1,6 +1,5 @@
 -- What `dump` shows of an input, and what a run of it did.
-pub mod Walk
-use Rattle.std.specs.Prelude.{◌≡◌, ◌⊎◌, ℕ, List, [], ◌∷◌, ◌++◌, length, codes, decimal, Option, Some, None, slice_index, ◌<◌}
+use Rattle.std.specs.Prelude.{◌≡◌, ◌⊎◌, ℕ, List, [], ◌∷◌, ◌++◌, length, codes, decimal, Option, Some, None, option_map, slice_index, ◌<◌}
 use Rattle.std.specs.Io.KnownBytes.{Consumes}
 use Rattle.bd_value.specs.Tree.{Doc}
 use Rattle.bd_device.specs.Devices.{BreaksAfter, Over, Reader, TakesText, Writer}
@@ -9,35 +8,26 @@ use Rattle.bd_check.specs.Fault.{Fault}
 use Rattle.bd_check.specs.Dump.{AreJoined, IsWalk, frame_fault}
 use Rattle.bd_stream.specs.Stream.{IsCut}
 use Rattle.bd_files.specs.Outcome.{StopsWithinOne, StreamsInput, TellsMessage}
-use Rattle.bd_files.specs.Transcript.{Transcript, error_line, fault_text, lines, shown_unread}
+use Rattle.bd_files.specs.Transcript.{Transcript, error_line, fault_text, lines, read_words, shown_before}
 use Rattle.bd_files.specs.declared.status.Status.{Status}
-use Rattle.bd_files.specs.declared.status.Status.TheVariants.{Done, Failed}
+use Rattle.bd_files.specs.declared.status.Status.TheVariants.{Failed}
 
 abbrev pub dump_count_line : ℕ → List ℕ
 dump_count_line n = decimal n ++ codes " objects found\n"
 
--- what standard error tells of a walk over a dump: the fault, and how many documents stand before it
-abbrev pub dump_message : ℕ → Option Fault → List ℕ
-dump_message count None = dump_count_line count
-dump_message count (Some f) = error_line (fault_text count f) ++ dump_count_line count
-
-abbrev pub dump_status : Option Fault → Status
-dump_status None = Done
-dump_status (Some f) = Failed
-
--- what is shown of the documents before the first fault, and of that fault
-abbrev pub shown_dump : List Doc → Option Fault → Transcript
-shown_dump ds end = record { out = lines ds; err = dump_message (length ds) end; status = dump_status end }
+-- what is shown of the documents before the first fault, or before a read that failed, and of that
+abbrev pub shown_dump : List Doc → Option (List ℕ) → Transcript
+shown_dump ds wrong = shown_before (lines ds) wrong (dump_count_line (length ds))
 
 -- What `dump` shows of the bytes of an input: of all of them, or of those before a read that failed. Then they are whole
 -- documents, and the beginning of one more.
 abbrev pub IsShownByDump : List ℕ → Option ReadFault → Transcript → Type 0
 IsShownByDump bytes None shown =
-    (ds : List Doc) × (end : Option Fault) × IsWalk ds end bytes × (shown ≡ shown_dump ds end)
+    (ds : List Doc) × (end : Option Fault) × IsWalk ds end bytes
+    × (shown ≡ shown_dump ds (option_map (fault_text (length ds)) end))
 IsShownByDump bytes (Some fault) shown =
     (ds : List Doc) × (front : List ℕ) × (part : List ℕ) × AreJoined ds front × IsCut part
-    × (bytes ≡ front ++ part)
-    × (shown ≡ shown_unread (lines ds) fault (dump_count_line (length ds)))
+    × (bytes ≡ front ++ part) × (shown ≡ shown_dump ds (Some (read_words fault)))
 
 -- no byte was read past the end, or past the document that has the first fault
 abbrev pub StopsAtFault : Over Reader → List ℕ → Option ReadFault → Type 0

@@ -7,8 +7,7 @@ use Rattle.bd_device.specs.Devices.{AreReads, Over, Reader, TakesAtMost}
 use Rattle.bd_device.specs.declared.reading.ReadFault.{ReadFault}
 use Rattle.bd_device.specs.declared.reading.ReadFault.TheVariants as reads
 
--- The reader's bytes are these, or it was not read whole for this reason. It is read at most to 4,294,967,295 bytes. As each read
--- but the last gives a byte, there are never too many reads.
+-- the reader's bytes are these, or it was not read whole for this reason
 abbrev pub ReadsInput : Over Reader → Result (List ℕ) ReadFault → Type 0
 ReadsInput file (Ok bytes) =
     IfSome file.before.left (λ xs. bytes ≡ xs) × IsAtEnd file.after.left × (length bytes ≤ longest_input)

@@ -6,3 +6,4 @@ pub mod Outcome
 pub mod Output
 pub mod Pack
 pub mod Transcript
+pub mod Walk

@@ -1,9 +1,9 @@
 -- What a run read of its input, and what it told of itself.
 use Rattle.std.specs.Prelude.{◌≡◌, ◌≤◌, ◌<◌, ◌⊎◌, ◌+◌, ℕ, List, ◌++◌, length, codes, Option, Some, None, IfSome, Result, Ok, Err}
-use Rattle.std.specs.Io.KnownBytes.{Consumes, IsAtEnd}
-use Rattle.bd_value.specs.Limits.{longest_input, most_reads}
+use Rattle.std.specs.Io.KnownBytes.{Consumes}
+use Rattle.bd_value.specs.Limits.{longest_input}
 use Rattle.bd_device.specs.Counts.{after_more}
-use Rattle.bd_device.specs.Devices.{BreaksWithin, LosesAtLeast, Over, Reader, TakesAtMost, TakesFront, TakesText, Writer}
+use Rattle.bd_device.specs.Devices.{BreaksWithin, Over, Reader, TakesFront, TakesText, Writer}
 use Rattle.bd_device.specs.declared.reading.ReadFault.{ReadFault}
 use Rattle.bd_device.specs.declared.reading.ReadFault.TheVariants as reads
 use Rattle.bd_stream.specs.Stream.{AreFrames, EndsWithinOne, IsWithinOne}
@@ -11,13 +11,17 @@ use Rattle.bd_files.specs.Transcript.{Transcript, error_line}
 use Rattle.bd_files.specs.declared.status.Status.{Status}
 use Rattle.bd_files.specs.declared.status.Status.TheVariants.{Failed}
 
--- An input is read at most to 4,294,967,295 bytes, by at most 4,294,967,296 reads.
+-- An input is read at most to 4,294,967,295 bytes. As each read but the last gives a byte, there are never too many reads.
 
--- the reader gave these bytes, and of a document after them no byte past its end; no more than the limit in all
+-- the reader gave these bytes, and this part of a document after them, no byte past its end; no more than the limit in all
+abbrev pub StopsAt : List ℕ → List ℕ → Over Reader → Type 0
+StopsAt front part file =
+    Consumes file.before.left file.after.left (front ++ part) × (length (front ++ part) ≤ longest_input)
+    × IsWithinOne part
+
+-- the reader gave these bytes, and of a document after them no byte past its end
 abbrev pub StopsWithinOne : List ℕ → Over Reader → Type 0
-StopsWithinOne front file =
-    (part : List ℕ) × Consumes file.before.left file.after.left (front ++ part)
-    × (length (front ++ part) ≤ longest_input) × IsWithinOne part
+StopsWithinOne front file = (part : List ℕ) × StopsAt front part file
 
 -- the reader gave documents by their lengths, and of one more no byte past its end
 abbrev pub TakesFrames : Over Reader → Type 0
@@ -37,11 +41,7 @@ StreamsInput file bytes (Some reads.TooLong) =
     (last : List ℕ) × Consumes file.before.left file.after.left (bytes ++ last)
     × (length bytes ≤ longest_input) × (longest_input < length bytes + length last) × EndsWithinOne bytes last
     × (file.after.failures ≡ file.before.failures)
-StreamsInput file bytes (Some reads.TooManyTurns) =
-    Consumes file.before.left file.after.left bytes × (length bytes ≤ longest_input)
-    × LosesAtLeast most_reads file.before.left file.after.left
-    × (file.after.calls ≡ after_more file.before.calls most_reads)
-    × (file.after.failures ≡ file.before.failures)
+StreamsInput file bytes (Some reads.TooManyTurns) = ⊥
 StreamsInput file bytes (Some reads.NoMemory) = ⊥
 
 -- the writer took the message, and the status is this; or a write failed, and the status is 1

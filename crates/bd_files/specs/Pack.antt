@@ -1,6 +1,6 @@
 -- What `pack` shows of an input, and what a run of it did.
 pub mod Packing
-use Rattle.std.specs.Prelude.{◌≡◌, ◌⊎◌, ℕ, suc, List, [], ◌∷◌, ◌++◌, length, codes, decimal, IsTrue, IsFalse, Option, Some, None, Result, Ok, Err}
+use Rattle.std.specs.Prelude.{◌≡◌, ◌⊎◌, ℕ, suc, List, [], ◌∷◌, ◌++◌, length, codes, decimal, IsTrue, IsFalse, Option, Some, None, Result, Ok, Err, option_map}
 use Rattle.bd_value.specs.Tree.{Doc}
 use Rattle.bd_device.specs.Devices.{Over, Reader, Writer}
 use Rattle.bd_device.specs.declared.reading.ReadFault.{ReadFault}
@@ -13,10 +13,9 @@ use Rattle.bd_pack.specs.declared.line.LineFault.TheVariants as faults
 use Rattle.bd_lines.specs.Lines.{is_empty_line, text_lines}
 use Rattle.bd_files.specs.Input.{ReadsInput}
 use Rattle.bd_files.specs.Outcome.{PrintsInput}
-use Rattle.bd_files.specs.Transcript.{Transcript, error_line, read_words, shown_refusal}
+use Rattle.bd_files.specs.Transcript.{Transcript, read_words, shown_before, shown_refusal}
 use Rattle.bd_files.specs.declared.pack.packing.BadLine.{BadLine}
 use Rattle.bd_files.specs.declared.status.Status.{Status}
-use Rattle.bd_files.specs.declared.status.Status.TheVariants.{Done, Failed}
 
 -- the bytes of documents one after the other
 abbrev pub packed_bytes : List Doc → List ℕ
@@ -53,20 +52,8 @@ bad_line_text bad = codes "line " ++ (decimal bad.number ++ line_fault_text bad.
 abbrev pub pack_count_line : ℕ → List ℕ
 pack_count_line n = decimal n ++ codes " objects packed\n"
 
--- what standard error tells of lines: the bad one, and how many documents stand before it
-abbrev pub bad_line_line : Option BadLine → List ℕ
-bad_line_line None = []
-bad_line_line (Some bad) = error_line (bad_line_text bad)
-
-abbrev pub pack_message : ℕ → Option BadLine → List ℕ
-pack_message count bad = bad_line_line bad ++ pack_count_line count
-
-abbrev pub pack_status : Option BadLine → Status
-pack_status None = Done
-pack_status (Some bad) = Failed
-
 abbrev pub shown_pack : List Doc → Option BadLine → Transcript
-shown_pack ds bad = record { out = packed_bytes ds; err = pack_message (length ds) bad; status = pack_status bad }
+shown_pack ds bad = shown_before (packed_bytes ds) (option_map bad_line_text bad) (pack_count_line (length ds))
 
 -- what is shown of a text, or of an input that was not read whole
 abbrev pub IsShownByPack : Result (List ℕ) ReadFault → Transcript → Type 0

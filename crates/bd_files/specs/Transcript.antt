@@ -1,5 +1,6 @@
 -- What a run shows.
-use Rattle.std.specs.Prelude.{ℕ, List, [], ◌∷◌, ◌++◌, codes, decimal}
+use Rattle.std.specs.Prelude.{ℕ, List, [], ◌∷◌, ◌++◌, codes, decimal, Option, Some, None}
+use Rattle.std.specs.Borrow.{Bor}
 use Rattle.std.specs.List.{join_with_byte}
 use Rattle.bd_value.specs.Tree.{Doc, doc, fields_of}
 use Rattle.bd_device.specs.declared.reading.ReadFault.{ReadFault}
@@ -7,7 +8,7 @@ use Rattle.bd_device.specs.declared.reading.ReadFault.TheVariants as reads
 use Rattle.bd_check.specs.Fault.{Fault, fault_words}
 use Rattle.bd_text.specs.Text.{text, quoted}
 use Rattle.bd_files.specs.declared.status.Status.{Status}
-use Rattle.bd_files.specs.declared.status.Status.TheVariants.{Failed}
+use Rattle.bd_files.specs.declared.status.Status.TheVariants.{Done, Failed}
 
 -- the text on standard output, the text on standard error, and the exit status
 pub record Transcript : Type 0 where
@@ -42,6 +43,20 @@ read_words reads.NoMemory = codes "no memory"
 abbrev pub shown_refusal : List ℕ → Transcript
 shown_refusal message = record { out = []; err = error_line message; status = Failed }
 
--- what is shown where an input was read to a read that failed: what stands before, the fault, and the counts
-abbrev pub shown_unread : List ℕ → ReadFault → List ℕ → Transcript
-shown_unread out fault counts = record { out = out; err = error_line (read_words fault) ++ counts; status = Failed }
+-- what standard error tells first, and the status, where a message tells what is wrong, or nothing is
+abbrev pub wrong_line : Option (List ℕ) → List ℕ
+wrong_line None = []
+wrong_line (Some message) = error_line message
+
+abbrev pub wrong_status : Option (List ℕ) → Status
+wrong_status None = Done
+wrong_status (Some message) = Failed
+
+-- what is shown up to the end of an input, or up to what is wrong in it: what stands before, that, and the counts
+abbrev pub shown_before : List ℕ → Option (List ℕ) → List ℕ → Transcript
+shown_before out wrong counts = record { out = out; err = wrong_line wrong ++ counts; status = wrong_status wrong }
+
+-- a text that is lent, where there is one
+abbrev pub told_bytes : Option (Bor (List ℕ)) → Option (List ℕ)
+told_bytes None = None
+told_bytes (Some text) = Some text.now

@@ -13,7 +13,7 @@
 //! ```
 //!
 //! - `dump`, `check`, `pack`: a command each: `specs/Dump.antt`, `specs/Check.antt`, `specs/Pack.antt`.
-//! - `input`: an input that is read whole; `ending`: how a walk over the documents of a file ends.
+//! - `walk`: the documents of a file, one after the other; `ending`: what comes after them; `input`: a file that is read whole.
 //! - `output`: what a run writes; `limits`, `status`: what a run reads at most, and how it ends.
 #![tactic(auto)]
 
@@ -25,6 +25,7 @@ mod limits;
 pub mod output;
 pub mod pack;
 mod status;
+mod walk;
 
 pub use input::read_input;
 pub use limits::LIMITS;

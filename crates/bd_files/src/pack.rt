@@ -4,26 +4,23 @@
 
 mod packing;
 
-ghost use Rattle.std.specs.Prelude.{◌≡◌, ◌≤◌, ◌⊎◌, ◌++◌, IfOk, OnOk, Ok, Err, length, codes};
+ghost use Rattle.std.specs.Prelude.{◌≡◌, ◌≤◌, ◌⊎◌, ◌++◌, IfOk, OnOk, Ok, length, codes, option_map};
 ghost use Rattle.bd_value.specs.Limits.{longest_input};
 ghost use Rattle.bd_files.specs.declared.status.Status.TheVariants.{Failed};
 ghost use Rattle.bd_files.specs.Input.{ReadsNoFurther};
 ghost use Rattle.bd_files.specs.Outcome.{PrintsOrStarves, TellsMessage};
-ghost use Rattle.bd_files.specs.Pack.{IsShownByPack, PacksInput, bad_line_line, bad_line_text, line_fault_text, pack_message, pack_status};
-ghost use Rattle.bd_files.specs.Transcript.{Transcript, error_line};
-ghost use Rattle.bd_device.specs.Devices.{BreaksWithin, TakesText, over};
+ghost use Rattle.bd_files.specs.Pack.{IsShownByPack, PacksInput, bad_line_text, line_fault_text, pack_count_line};
+ghost use Rattle.bd_files.specs.Transcript.{Transcript, error_line, wrong_line, wrong_status};
+ghost use Rattle.bd_device.specs.Devices.{over};
 
 use crate::input::read_input;
-use crate::output::fault::OutputFault;
-use crate::output::messages::{
-    tell_no_memory, tell_read_fault, tell_unwritten, write_count, write_error,
-};
+use crate::output::messages::{tell_end, tell_no_memory, tell_read_fault, tell_stop};
 use crate::pack::packing::{BadLine, Packing, write_lines};
 use crate::status::Status;
 use bd_device::{Input, Output};
 use bd_diagnose::JsonFaultKind;
 use bd_extjson::write_number;
-use bd_pack::LineFault;
+use bd_pack::{LineFault, Packer};
 use bd_value::NoMemory;
 use std::alloc::Global;
 
@@ -59,55 +56,19 @@ fn bad_line_message(alloc: Global, bad: &BadLine) -> Result<Vec<u8>, NoMemory>
     Ok(text)
 }
 
-/// Writes the line that tells of a bad line, where there is one.
-fn write_bad_line<E: Output>(
-    alloc: Global,
-    bad: &Option<BadLine>,
-    err: &mut E,
-) -> Result<(), OutputFault>
-    ensures ok { OnOk result (TakesText (over E.state err.old err.new) (bad_line_line bad.now)) }
-    ensures starved { result ≡ Err OutputFault.NoMemory → err.new ≡ err.old }
-    ensures broke { result ≡ Err OutputFault.Unwritten → BreaksWithin (over E.state err.old err.new) (bad_line_line bad.now) }
-{
-    match bad {
-        None => {}
-        Some(bad) => {
-            let message = bad_line_message(alloc, bad)?;
-            write_error(&message, err)?;
-        }
-    }
-    Ok(())
-}
-
-/// Writes what standard error is to tell: the bad line, where there is one, and how many documents were packed.
-#[tactic(auto, using(crate::proofs::OutputLemmas::FaultLemmas::taking))]
-fn write_packing<E: Output>(
-    alloc: Global,
-    packing: &Packing,
-    err: &mut E,
-) -> Result<(), OutputFault>
-    ensures ok { OnOk result (TakesText (over E.state err.old err.new) (pack_message packing.now.count packing.now.bad)) }
-    ensures starved { result ≡ Err OutputFault.NoMemory → err.new ≡ err.old }
-    ensures broke { result ≡ Err OutputFault.Unwritten → BreaksWithin (over E.state err.old err.new) (pack_message packing.now.count packing.now.bad) }
-{
-    write_bad_line(alloc, &packing.bad, err)?;
-    write_count(packing.count, b" objects packed\n", err)?;
-    Ok(())
-}
-
 /// Tells how lines were packed, after the bytes on standard output.
 fn tell_packing<E: Output>(alloc: Global, packing: &Packing, err: &mut E) -> Status
-    ensures { TellsMessage (over E.state err.old err.new) (pack_message packing.now.count packing.now.bad) (pack_status packing.now.bad) result
+    ensures { TellsMessage (over E.state err.old err.new) (wrong_line (option_map bad_line_text packing.now.bad) ++ pack_count_line packing.now.count)
+        (wrong_status (option_map bad_line_text packing.now.bad)) result
         ⊎ TellsMessage (over E.state err.old err.new) (error_line (codes "no memory")) Failed result }
 {
-    let wanted = match packing.bad {
-        None => Status::Done,
-        Some(_) => Status::Failed,
-    };
-    match write_packing(alloc, packing, err) {
-        Ok(()) => wanted,
-        Err(OutputFault::NoMemory) => tell_no_memory(err),
-        Err(OutputFault::Unwritten) => Status::Failed,
+    let words = b" objects packed\n";
+    match &packing.bad {
+        None => tell_end(None, packing.count, words, err),
+        Some(bad) => match bad_line_message(alloc, bad) {
+            Ok(message) => tell_end(Some(&message), packing.count, words, err),
+            Err(_) => tell_no_memory(err),
+        },
     }
 }
 
@@ -117,10 +78,10 @@ fn pack_text<O: Output, E: Output>(alloc: Global, text: &[u8], out: &mut O, err:
     ensures { (shown : Transcript) × IsShownByPack (Ok text.now) shown
         × PrintsOrStarves (over O.state out.old out.new) (over E.state err.old err.new) shown result }
 {
-    match write_lines(alloc, text, out) {
+    let written = write_lines(text, &mut Packer::new(alloc), &mut Vec::new(alloc), out);
+    match written {
         Ok(packing) => tell_packing(alloc, &packing, err),
-        Err(OutputFault::NoMemory) => tell_no_memory(err),
-        Err(OutputFault::Unwritten) => tell_unwritten(err),
+        Err(fault) => tell_stop(fault, err),
     }
 }
 

@@ -1,7 +1,7 @@
 -- The lines of a text packed, step by step.
 use Rattle.std.proofs.Common.{◌≡◌, ◌≤◌, ◌<◌, ℕ, suc, ◌+◌, List, [], ◌∷◌, ◌++◌, length, take, drop, get_or, Bool, true, false, Option, Some, None, refl, sym, ap}
 use Rattle.std.proofs.Common.{◌∙◌, subst, append_assoc, append-nil, arith, inl, inr, codes, Ok, length-append, length-take-le, rules, add-one}
-use Rattle.std.specs.Prelude.{◌⊎◌, ◌==◌}
+use Rattle.std.specs.Prelude.{◌⊎◌, ◌==◌, option_map}
 use Rattle.std.specs.List.{All}
 use Rattle.std.proofs.KnownBytes.{Appends-nil}
 use Rattle.std.proofs.lemmas.Bool.{cases_lt}
@@ -17,7 +17,9 @@ use Rattle.bd_diagnose.specs.JsonFault.{IsPlaced}
 use Rattle.bd_diagnose.specs.declared.json_fault.JsonFault.{JsonFault}
 use Rattle.bd_diagnose.specs.declared.json_fault.JsonFaultKind.TheVariants as kinds
 use Rattle.bd_pack.specs.Packable.{plain, IsPackable, IsBad}
+use Rattle.bd_files.specs.declared.output.fault.OutputFault.{OutputFault}
 use Rattle.bd_files.specs.declared.output.fault.OutputFault.TheVariants.{NoMemory, Unwritten}
+use Rattle.bd_files.specs.Output.Fault.{stop_words}
 use Rattle.bd_files.specs.declared.pack.packing.BadLine.{BadLine}
 use Rattle.bd_pack.specs.declared.line.LineFault.{LineFault}
 use Rattle.bd_pack.specs.declared.line.LineFault.TheVariants as faults
@@ -27,10 +29,10 @@ use Rattle.bd_files.specs.declared.status.Status.TheVariants.{Failed}
 use Rattle.bd_files.proofs.TranscriptLemmas.{all_shown}
 use Rattle.bd_files.proofs.OutputLemmas.FaultLemmas.{breaks_piece, front_taken, takes_both}
 use Rattle.bd_files.specs.Outcome.{PrintsOrStarves, TellsMessage}
-use Rattle.bd_files.specs.Pack.{IsShownByPack, PacksLines, pack_message, pack_status, packed_bytes, shown_pack}
+use Rattle.bd_files.specs.Pack.{IsShownByPack, PacksLines, bad_line_text, pack_count_line, packed_bytes, shown_pack}
 use Rattle.bd_lines.specs.Lines.{is_empty_line, text_lines}
 use Rattle.bd_files.specs.Pack.Packing.{IsPacking, StopsPacking, left_size, lines_left}
-use Rattle.bd_files.specs.Transcript.{Transcript, error_line}
+use Rattle.bd_files.specs.Transcript.{Transcript, error_line, wrong_line, wrong_status}
 use Rattle.bd_device.specs.Devices.{BreaksWithin, TakesText, Writer, between}
 
 packed-append : (ds es : List Doc) → packed_bytes (ds ++ es) ≡ packed_bytes ds ++ packed_bytes es
@@ -73,20 +75,18 @@ module _ (text : List ℕ) (out_old out_new : Writer) (err_old err_new : Writer)
   abbrev Tells : List ℕ → Status → Type 0
   Tells told wanted = TellsMessage (between err_old err_new) told wanted status ⊎ TellsMessage (between err_old err_new) (error_line (codes "no memory")) Failed status
 
-  pub shows_packing : (packing : Packing) → IsPacking text (between out_old out_new) packing → Tells (pack_message packing.count packing.bad) (pack_status packing.bad) → Shows
+  -- the bad line, where there is one, and this count
+  abbrev pub TellsPacking : ℕ → Option BadLine → Type 0
+  TellsPacking count bad = Tells (wrong_line (option_map bad_line_text bad) ++ pack_count_line count) (wrong_status (option_map bad_line_text bad))
+
+  pub shows_packing : (packing : Packing) → IsPacking text (between out_old out_new) packing → TellsPacking packing.count packing.bad → Shows
   shows_packing packing (ds, packs, counted, wrote) told =
-      let shown = shown_pack ds packing.bad in (
-        shown,
-        (ds, packing.bad, packs, refl),
-        all_shown out_old out_new err_old err_new status shown wrote
-            (subst (λ (n : ℕ). Tells (pack_message n packing.bad) (pack_status packing.bad)) counted told),
-      )
+      let shown = shown_pack ds packing.bad in
+      (shown, (ds, packing.bad, packs, refl), all_shown out_old out_new err_old err_new status shown wrote (subst (λ n. TellsPacking n packing.bad) counted told))
 
-  pub shows_starved : StopsPacking text (between out_old out_new) NoMemory → TellsMessage (between err_old err_new) (error_line (codes "no memory")) Failed status → Shows
-  shows_starved (ds, bad, packs, front) told = (shown_pack ds bad, (ds, bad, packs, refl), inr (front, told))
-
-  pub shows_broken : StopsPacking text (between out_old out_new) Unwritten → TellsMessage (between err_old err_new) (error_line (codes "cannot write")) Failed status → Shows
-  shows_broken (ds, bad, packs, broke) told = (shown_pack ds bad, (ds, bad, packs, refl), inl (inr (broke, told)))
+  pub shows_stop : (stopped : OutputFault) → StopsPacking text (between out_old out_new) stopped → TellsMessage (between err_old err_new) (error_line (stop_words stopped)) Failed status → Shows
+  shows_stop NoMemory (ds, bad, packs, front) told = (shown_pack ds bad, (ds, bad, packs, refl), inr (front, told))
+  shows_stop Unwritten (ds, bad, packs, broke) told = (shown_pack ds bad, (ds, bad, packs, refl), inl (inr (broke, told)))
 
 -- ---- lines cut off a text
 

@@ -1,6 +1,5 @@
 -- The lines of a text packed.
 use Rattle.std.specs.Prelude.{◌≡◌, ℕ, suc, List, [], length, Option, Some, None}
-use Rattle.std.specs.Borrow.{Bor}
 use Rattle.bd_value.specs.Tree.{Doc}
 use Rattle.bd_device.specs.Devices.{Over, TakesText, Writer}
 use Rattle.bd_files.specs.Pack.{packed_bytes, PacksLines}
@@ -9,11 +8,6 @@ use Rattle.bd_files.specs.Output.Fault.{StopsWithin}
 use Rattle.bd_files.specs.declared.output.fault.OutputFault.{OutputFault}
 use Rattle.bd_files.specs.declared.pack.packing.BadLine.{BadLine}
 use Rattle.bd_files.specs.declared.pack.packing.Packing.{Packing}
-
--- what is left of a text after a newline, where there was one
-abbrev pub bytes_after : Option (Bor (List ℕ)) → Option (List ℕ)
-bytes_after None = None
-bytes_after (Some rest) = Some rest.now
 
 abbrev pub lines_left : Option (List ℕ) → List (List ℕ)
 lines_left None = []

@@ -1,12 +1,14 @@
 //! The lines that tell how a run went. But for the path of a fault they take no memory.
 
-ghost use Rattle.std.specs.Prelude.{◌≡◌, ◌++◌, ◌⊎◌, IfOk, OnErr, OnOk, codes, decimal};
+ghost use Rattle.std.specs.Prelude.{◌≡◌, ◌++◌, ◌⊎◌, IfOk, OnErr, OnOk, codes, decimal, option_map};
 ghost use Rattle.bd_device.specs.Devices.{BreaksWithin, TakesText, over};
 ghost use Rattle.bd_check.specs.AnsweredFault.{fault_view};
 ghost use Rattle.bd_files.specs.Outcome.{TellsMessage};
-ghost use Rattle.bd_files.specs.Transcript.{error_line, fault_text, place_text, read_words};
+ghost use Rattle.bd_files.specs.Output.Fault.{stop_words};
+ghost use Rattle.bd_files.specs.Transcript.{error_line, fault_text, place_text, read_words, told_bytes, wrong_line, wrong_status};
 ghost use Rattle.bd_files.specs.declared.status.Status.TheVariants.{Failed};
 
+use crate::output::fault::OutputFault;
 use crate::status::Status;
 use bd_check::Fault;
 use bd_device::{DeviceFault, Output, ReadFault, write_all};
@@ -45,6 +47,36 @@ pub fn write_count<E: Output>(count: u64, words: &[u8], err: &mut E) -> Result<(
     write_all(err, words)
 }
 
+/// The words of a read fault, where there is one.
+pub(crate) fn words_of(unread: Option<ReadFault>) -> Option<&'static [u8]>
+    ensures { told_bytes result ≡ option_map read_words unread }
+{
+    match unread {
+        None => None,
+        Some(fault) => Some(fault.words().as_bytes()),
+    }
+}
+
+/// Writes what is wrong, where something is, and then a number and the words after it.
+#[tactic(auto, using(crate::proofs::OutputLemmas::FaultLemmas::taking))]
+pub(crate) fn write_end<E: Output>(
+    wrong: Option<&[u8]>,
+    count: u64,
+    words: &[u8],
+    err: &mut E,
+) -> Result<(), DeviceFault>
+    ensures ok { OnOk result (TakesText (over E.state err.old err.new) (wrong_line (told_bytes wrong.entry) ++ (decimal count ++ words.now))) }
+    ensures err { OnErr result (BreaksWithin (over E.state err.old err.new) (wrong_line (told_bytes wrong.entry) ++ (decimal count ++ words.now))) }
+{
+    match wrong {
+        None => write_count(count, words, err),
+        Some(message) => {
+            write_error(message, err)?;
+            write_count(count, words, err)
+        }
+    }
+}
+
 /// The status that is wanted where a message was written, and 1 where it was not.
 pub fn status_of(written: Result<(), DeviceFault>, wanted: Status) -> Status
     ensures ok { OnOk written (result ≡ wanted) }
@@ -54,6 +86,23 @@ pub fn status_of(written: Result<(), DeviceFault>, wanted: Status) -> Status
         Ok(()) => wanted,
         Err(_) => Status::Failed,
     }
+}
+
+/// Tells what is wrong, where something is, and a count. It takes no memory.
+pub(crate) fn tell_end<E: Output>(
+    wrong: Option<&[u8]>,
+    count: u64,
+    words: &[u8],
+    err: &mut E,
+) -> Status
+    ensures { TellsMessage (over E.state err.old err.new) (wrong_line (told_bytes wrong.entry) ++ (decimal count ++ words.now)) (wrong_status (told_bytes wrong.entry)) result }
+{
+    let wanted = match wrong {
+        None => Status::Done,
+        Some(_) => Status::Failed,
+    };
+    let written = write_end(wrong, count, words, err);
+    status_of(written, wanted)
 }
 
 /// Tells an error. It takes no memory.
@@ -76,6 +125,16 @@ pub fn tell_unwritten<E: Output>(err: &mut E) -> Status
     ensures { TellsMessage (over E.state err.old err.new) (error_line (codes "cannot write")) Failed result }
 {
     tell_error(b"cannot write", err)
+}
+
+/// Tells why standard output has not all that is to be shown.
+pub(crate) fn tell_stop<E: Output>(fault: OutputFault, err: &mut E) -> Status
+    ensures { TellsMessage (over E.state err.old err.new) (error_line (stop_words fault)) Failed result }
+{
+    match fault {
+        OutputFault::NoMemory => tell_no_memory(err),
+        OutputFault::Unwritten => tell_unwritten(err),
+    }
 }
 
 /// Tells why an input was not read whole. It takes no memory.

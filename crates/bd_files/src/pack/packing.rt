@@ -2,7 +2,8 @@
 ghost use Rattle.std.specs.Prelude.{◌≡◌, ◌++◌, ◌∷◌, ◌≤◌, IfOk, IfErr, IfSome, None, Ok, length};
 ghost use Rattle.bd_value.specs.Limits.{longest_input};
 ghost use Rattle.bd_lines.specs.Lines.{text_lines};
-ghost use Rattle.bd_files.specs.Pack.Packing.{IsPacking, StopsPacking, bytes_after, left_size, lines_left};
+ghost use Rattle.bd_files.specs.Pack.Packing.{IsPacking, StopsPacking, left_size, lines_left};
+ghost use Rattle.bd_files.specs.Transcript.{told_bytes};
 ghost use Rattle.bd_device.specs.Devices.{over};
 
 use crate::output::fault::OutputFault;
@@ -10,7 +11,6 @@ use bd_device::{Output, write_all};
 use bd_lines::is_empty_line;
 use bd_pack::{LineFault, Packer};
 use memchr::memchr;
-use std::alloc::Global;
 
 /// A line that is not packed.
 #[derive(Clone, Copy, Debug, Drop, PartialEq, Eq)]
@@ -32,8 +32,8 @@ pub struct Packing {
 
 /// The first line of a text, and what is after its newline, where there is one.
 fn cut_line(text: &[u8]) -> (&[u8], Option<&[u8]>)
-    ensures line { text_lines text.now ≡ result.0.now ∷ lines_left (bytes_after result.1) }
-    ensures shorter { left_size (bytes_after result.1) ≤ length text.now }
+    ensures line { text_lines text.now ≡ result.0.now ∷ lines_left (told_bytes result.1) }
+    ensures shorter { left_size (told_bytes result.1) ≤ length text.now }
 {
     match memchr(b'\n', text) {
         Some(end) => (&text[..end], Some(&text[end + 1..])),
@@ -41,24 +41,9 @@ fn cut_line(text: &[u8]) -> (&[u8], Option<&[u8]>)
     }
 }
 
-/// Writes the documents of the lines before the first bad one, each as soon as it is packed. Where memory runs out, what was
-/// written is a front of their bytes.
+/// Writes the documents of the lines before the first bad one, each as soon as it is packed into the buffer. Where memory runs
+/// out, what was written is a front of their bytes.
 pub(crate) fn write_lines<O: Output>(
-    alloc: Global,
-    text: &[u8],
-    out: &mut O,
-) -> Result<Packing, OutputFault>
-    requires { length text.now ≤ longest_input }
-    ensures packs { IfOk result (IsPacking text.now (over O.state out.old out.new)) }
-    ensures stops { IfErr result (StopsPacking text.now (over O.state out.old out.new)) }
-{
-    let mut packer = Packer::new(alloc);
-    let mut bytes = Vec::new(alloc);
-    write_packed(text, &mut packer, &mut bytes, out)
-}
-
-/// `write_lines`, by that packer, over room that the caller holds, so that no end of the loop lets it go.
-fn write_packed<O: Output>(
     text: &[u8],
     packer: &mut Packer,
     bytes: &mut Vec<u8>,

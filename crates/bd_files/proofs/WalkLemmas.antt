@@ -1,0 +1,317 @@
+-- A walk over the documents of an input, step by step.
+use Rattle.std.proofs.Common.{inl, inr, ◌≡◌, ◌≤◌, ℕ, ◌+◌, ◌-◌, List, [], ◌∷◌, ◌++◌, length, length-take-le, map, append-nil, append_assoc, Option, Some, None}
+use Rattle.std.proofs.Common.{Ok, Err, refl, sym, ap, ap₂, ◌∙◌, subst, arith, length-append}
+use Rattle.std.specs.Prelude.{◌⊎◌, IfSome, Result, is_some, cond, string_bytes, MatchResult}
+use Rattle.std.specs.Io.KnownBytes.{Consumes, IsAtEnd}
+use Rattle.std.proofs.KnownBytes.{Appends-nil, Consumes-trans, Consumes-nil}
+use Rattle.std.proofs.lemmas.List.{take_at}
+use Rattle.std.proofs.lemmas.List.Sums.{sum_by-append}
+use Rattle.bd_value.specs.Limits.{longest_input, most_reads}
+use Rattle.bd_device.specs.Counts.{after_more}
+use Rattle.bd_device.specs.Devices.{Reader, TakesText, Writer, between}
+use Rattle.bd_device.specs.declared.reading.ReadFault.{ReadFault}
+use Rattle.bd_device.specs.declared.reading.ReadFault.TheVariants as reads
+use Rattle.bd_device.proofs.DevicesLemmas.{reads_at_least}
+use Rattle.bd_check.specs.Dump.{frame_fault, frame_length, framed_fault}
+use Rattle.bd_check.specs.Fault.{Fault}
+use Rattle.bd_check.specs.FirstFault.{first_fault}
+use Rattle.bd_check.specs.AnsweredFault.{TellsFault, fault_view}
+use Rattle.bd_check.specs.declared.fault.Fault as told
+use Rattle.bd_check.specs.declared.fault.FaultKind.TheVariants as kinds
+use Rattle.bd_stream.specs.NextDocument.{IsReason, ReadsDocument, held_bytes}
+use Rattle.bd_stream.specs.Stream.{AreFrames, HasNoFrame, IsCut, IsFrame, IsWithinOne}
+use Rattle.bd_stream.specs.declared.doc_buffer.DocBuffer.{DocBuffer}
+use Rattle.bd_stream.specs.declared.doc_buffer.DocFault.{DocFault}
+use Rattle.bd_stream.specs.declared.doc_buffer.DocFault.TheVariants as faults
+use Rattle.bd_stream.proofs.FrameLemmas.{cut_within, frame_on, frame_within, frames_more}
+use Rattle.bd_files.specs.Check.{faulty_count}
+use Rattle.bd_files.specs.Ending.{IsEndingOf}
+use Rattle.bd_files.specs.Outcome.{StopsAt, StreamsInput}
+use Rattle.bd_files.specs.Output.Fault.{StopsWriting}
+use Rattle.bd_files.specs.Walk.{AreVisited, IsTextOf, StopsWalk, Texts, WalksDocuments, more_visited, none_visited}
+use Rattle.bd_files.specs.declared.ending.Ending.{Ending}
+use Rattle.bd_files.specs.declared.ending.Ending.TheVariants as endings
+use Rattle.bd_files.specs.declared.output.fault.OutputFault.{OutputFault}
+use Rattle.bd_files.specs.declared.output.fault.OutputFault.TheVariants.{NoMemory, Unwritten}
+use Rattle.bd_files.proofs.OutputLemmas.FaultLemmas.{breaks_after, takes_both}
+
+pub faulty_append : (us vs : List (Option Fault)) → faulty_count (us ++ vs) ≡ faulty_count us + faulty_count vs
+faulty_append us vs = sum_by-append (λ v. cond (is_some v) 1 0) us vs
+
+one_bad : (v : Option Fault) → faulty_count (v ∷ []) ≤ 1
+one_bad None = omega arith
+one_bad (Some f) = omega arith
+
+-- a fault that was answered, and is no want of memory
+pub found : (number : ℕ) (first : Option Fault) (f : told.Fault) → TellsFault number first f → ¬ (f.kind ≡ kinds.NoMemory) → (first ≡ Some (fault_view f)) × (f.document ≡ number)
+found number None f want other = absurd (other want.kind)
+found number (Some g) f (inl want) other = absurd (other want.kind)
+found number (Some g) f (inr is) other = (ap (λ (x : Fault). Some x) is.same, is.document)
+
+-- documents that were gone over are documents by their lengths
+pub visited_frames : {texts : Texts} (vs : List (Option Fault)) (given text : List ℕ) → AreVisited texts vs given text → (frames : List (List ℕ)) × AreFrames frames given
+visited_frames {texts} vs given text none_visited = ([], refl)
+visited_frames {texts} vs given text (more_visited us front before v frame piece visited is shows) =
+    let h = visited_frames us front before visited in
+    (h.0 ++ frame ∷ [], frames_more h.0 front frame h.1 is)
+
+-- ---- what is left, where it is known
+
+abbrev pub rest_of : Option (List ℕ) → List ℕ
+rest_of None = []
+rest_of (Some xs) = xs
+
+pub known_whole : (old new : Option (List ℕ)) (given : List ℕ) → Consumes old new given → IfSome old (λ xs. given ++ rest_of new ≡ xs)
+known_whole None new given gave = _
+known_whole (Some xs) None given gave = absurd gave
+known_whole (Some xs) (Some ys) given gave = sym gave
+
+known_end : (old new : Option (List ℕ)) (given : List ℕ) → Consumes old new given → IsAtEnd new → IfSome old (λ xs. given ≡ xs)
+known_end None new given gave end = _
+known_end (Some xs) None given gave end = absurd gave
+known_end (Some xs) (Some ys) given gave end = sym (gave ∙ ap (λ z. given ++ z) end ∙ append-nil given)
+
+known_after : (old mid : Option (List ℕ)) (given bytes : List ℕ) → Consumes old mid given → IfSome mid (λ xs. bytes ≡ xs) → IfSome old (λ xs. given ++ bytes ≡ xs)
+known_after None mid given bytes gave is = _
+known_after (Some xs) None given bytes gave is = absurd gave
+known_after (Some xs) (Some ys) given bytes gave is = ap (λ z. given ++ z) is ∙ sym gave
+
+-- a length that is bad by the bytes that were read is bad by all of them
+framed_rest : (old new : Option (List ℕ)) (part : List ℕ) (f : told.Fault) → Consumes old new part → HasNoFrame [] old f.kind → frame_length part ≡ Err f.kind
+    → (rest : List ℕ) × IfSome old (λ xs. part ++ rest ≡ xs) × (frame_length (part ++ rest) ≡ Err f.kind)
+framed_rest None new part f gave none is = ([], _, rw append-nil is)
+framed_rest (Some xs) None part f gave none is = absurd gave
+framed_rest (Some xs) (Some ys) part f gave none is = (ys, sym gave, subst (λ (x : List ℕ). frame_length x ≡ Err f.kind) (none.1 ∙ gave) none.2)
+
+-- the fault that is in a document of which all bytes were given
+fault_inside : (place : ℕ) (frame rest : List ℕ) (f : Fault) → IsFrame frame → first_fault place frame ≡ Some f → frame_fault place (frame ++ rest) ≡ Some f
+fault_inside place frame rest f is first =
+    ap (framed_fault place (frame ++ rest)) (frame_on frame rest is) ∙ ap (first_fault place) (take_at frame rest (length frame) refl) ∙ first
+
+-- ---- one step
+
+-- the reader gave this part of the next document, no byte past its end, and no read failed
+pub record Gives (old new : Reader) (room : ℕ) (part : List ℕ) : Type 0 where
+  pub gave : Consumes old.left new.left part
+  pub short : length part ≤ room
+  pub within : IsWithinOne part
+  pub well : new.failures ≡ old.failures
+
+-- the next document was read, of which the buffer shows these bytes
+pub record Read (old new : Reader) (before after : DocBuffer) (bytes : List ℕ) : Type 0 where
+  pub frame : IsFrame bytes
+  pub gives : Gives old new before.left.bytes bytes
+  pub place : after.place ≡ before.place + length bytes
+  pub number : after.number ≡ before.number + 1
+  pub room : after.left.bytes + length bytes ≡ before.left.bytes
+  pub fewer : after.left.turns ≤ before.left.turns
+  pub many : before.left.turns - after.left.turns ≤ length bytes
+
+pub document_read : {R : Type 0} (state : R → Reader) (gives : R → Option (List ℕ) → R → Type 0) (before after : DocBuffer) (old new : R) (bytes : List ℕ)
+    → bytes ≡ held_bytes after → after.size ≤ length after.buffer.items → ReadsDocument state gives before after old new
+    → Read (state old) (state new) before after bytes
+document_read state gives before after old new bytes shown inside read =
+    let size : length bytes ≡ after.size = ap (λ xs. length xs) shown ∙ length-take-le after.size after.buffer.items inside in
+    let frame : IsFrame bytes = rw shown read.frame in
+    let room = read.room in
+    let place = read.offset in record {
+      frame = frame;
+      gives = record { gave = rw shown read.gave; short = omega (arith, size, room); within = frame_within bytes frame; well = read.well };
+      place = omega (arith, size, place);
+      number = read.number;
+      room = omega (arith, size, room);
+      fewer = read.counted.0;
+      many = rw shown (reads_at_least (before.left.turns - after.left.turns) old new (held_bytes after) read.reads);
+    }
+
+-- ---- what the loop keeps: the verdicts so far, the bytes of their documents, and what was written of them
+
+pub record SoFar (texts : Texts) (old new : Reader) (out_old out_new : Writer) (buffer : DocBuffer) (bad : ℕ) : Type 0 where
+  pub done : List (Option Fault)
+  pub given : List ℕ
+  pub text : List ℕ
+  pub visited : AreVisited texts done given text
+  pub gave : Consumes old.left new.left given
+  pub placed : buffer.place ≡ length given
+  pub counted : buffer.number ≡ length done
+  pub bad_counted : bad ≡ faulty_count done
+  pub few : bad ≤ buffer.number
+  pub fits : buffer.left.bytes + buffer.place ≡ longest_input
+  pub turned : buffer.left.turns ≤ most_reads
+  pub many : most_reads - buffer.left.turns ≤ length given
+  pub well : new.failures ≡ old.failures
+  pub wrote : TakesText (between out_old out_new) text
+
+pub begins : (texts : Texts) (old : Reader) (out : Writer) (buffer : DocBuffer) → buffer.place ≡ 0 → buffer.number ≡ 0 → buffer.left.bytes ≡ longest_input
+    → buffer.left.turns ≡ most_reads → SoFar texts old old out out buffer 0
+begins texts old out buffer p n r t = record {
+  done = [];
+  given = [];
+  text = [];
+  visited = none_visited;
+  gave = Consumes-nil old.left;
+  placed = p;
+  counted = n;
+  bad_counted = refl;
+  few = omega arith;
+  fits = omega arith;
+  turned = omega arith;
+  many = omega arith;
+  well = refl;
+  wrote = (Appends-nil out.held, refl);
+}
+
+module _ {texts : Texts} {old mid : Reader} {out_old out_mid : Writer} {buffer : DocBuffer} {bad : ℕ} (s : SoFar texts old mid out_old out_mid buffer bad) where
+  next_of : (frame : List ℕ) (v : Option Fault) (piece : List ℕ) → IsTextOf texts buffer.number buffer.place frame v piece
+      → IsTextOf texts (length s.done) (length s.given) frame v piece
+  next_of frame v piece is =
+      subst (λ n. IsTextOf texts n (length s.given) frame v piece) s.counted (subst (λ p. IsTextOf texts buffer.number p frame v piece) s.placed is)
+
+  -- a document was gone over
+  pub goes_on : {new : Reader} {after : DocBuffer} {frame : List ℕ} (out_new : Writer) (v : Option Fault) (piece : List ℕ) (worse : ℕ) → Read mid new buffer after frame
+      → IsTextOf texts buffer.number buffer.place frame v piece → worse ≡ bad + faulty_count (v ∷ []) → TakesText (between out_mid out_new) piece
+      → SoFar texts old new out_old out_new after worse
+  goes_on {new} {after} {frame} out_new v piece worse r shows worse_is wrote = record {
+    done = s.done ++ v ∷ [];
+    given = s.given ++ frame;
+    text = s.text ++ piece;
+    visited = more_visited s.done s.given s.text v frame piece s.visited r.frame (next_of frame v piece shows);
+    gave = Consumes-trans old.left mid.left new.left s.given frame s.gave r.gives.gave;
+    placed = let p = s.placed in let m = r.place in omega (arith, length-append s.given frame);
+    counted = let c = s.counted in let m = r.number in omega (arith, length-append s.done (v ∷ []));
+    bad_counted = worse_is ∙ ap (λ n. n + faulty_count (v ∷ [])) s.bad_counted ∙ sym (faulty_append s.done (v ∷ []));
+    few = let f = s.few in let n = r.number in let one = one_bad v in omega arith;
+    fits = let f = s.fits in let m = r.place in let l = r.room in omega arith;
+    turned = let t = s.turned in let c = r.fewer in omega arith;
+    many = let h = s.many in let t = s.turned in let c = r.fewer in let m = r.many in omega (arith, length-append s.given frame);
+    well = r.gives.well ∙ s.well;
+    wrote = takes_both out_old out_mid out_new s.text piece s.wrote wrote;
+  }
+
+  within : (part : List ℕ) → length part ≤ buffer.left.bytes → length (s.given ++ part) ≤ longest_input
+  within part le = let f = s.fits in let p = s.placed in omega (arith, length-append s.given part)
+
+  -- the walk stands after its documents and a part of the next one
+  module _ {new : Reader} {part : List ℕ} (g : Gives mid new buffer.left.bytes part) where
+    at : StopsAt s.given part (between old new)
+    at = (Consumes-trans old.left mid.left new.left s.given part s.gave g.gave, within part g.short, g.within)
+
+    streams : (bytes : List ℕ) → IfSome old.left (λ xs. bytes ≡ xs) → StreamsInput (between old new) bytes None
+    streams bytes is = let frames = visited_frames s.done s.given s.text s.visited in (is, (frames.0, s.given, frames.1, (part, at)), g.well ∙ s.well)
+
+    -- memory ran out
+    pub starves : StopsWalk texts (between old new) (between out_old out_mid) NoMemory
+    starves = (s.done, s.given, s.text, s.visited, (part, at), g.well ∙ s.well, s.wrote)
+
+    -- what is to be written of the next document was not written
+    pub stops_by : (out_new : Writer) (v : Option Fault) (piece : List ℕ) (stopped : OutputFault) → IsFrame part → IsTextOf texts buffer.number buffer.place part v piece
+        → StopsWriting piece (between out_mid out_new) stopped → StopsWalk texts (between old new) (between out_old out_new) stopped
+    stops_by out_new v piece NoMemory is shows same = rw same starves
+    stops_by out_new v piece Unwritten is shows (broke, some) = (
+      s.done,
+      s.given,
+      s.text,
+      s.visited,
+      (v, part, piece, is, next_of part v piece shows, at, g.well ∙ s.well, breaks_after out_old out_mid out_new s.text piece s.wrote broke, some),
+    )
+
+    abbrev Ended : Ending → Type 0
+    Ended ending = WalksDocuments texts (between old new) (between out_old out_mid) (record { count = buffer.number; bad = bad; ending = ending })
+
+    -- the input is at its end
+    pub ends_whole : part ≡ [] → IsAtEnd new.left → Ended endings.Whole
+    ends_whole none end =
+        let all = subst (λ (x : List ℕ). Consumes old.left new.left x) (ap (λ x. s.given ++ x) none ∙ append-nil s.given) at.0 in
+        (s.done, s.given, s.text, s.visited, s.counted, s.bad_counted, (streams s.given (known_end old.left new.left s.given all end), (part, at)), s.wrote)
+
+    -- the next document has this fault: the walk ends at it, or its length is bad
+    ends_at : (rest : List ℕ) (f : told.Fault) → IfSome mid.left (λ xs. part ++ rest ≡ xs) → f.document ≡ buffer.number → frame_fault buffer.place (part ++ rest) ≡ Some (fault_view f)
+        → ((texts.bad buffer.number (fault_view f) ≡ None) ⊎ ((frame_length part ≡ Err f.kind) × (frame_length (part ++ rest) ≡ Err f.kind))) → Ended (endings.Faulty f)
+    ends_at rest f known numbered fails last =
+        let all = known_after old.left mid.left s.given (part ++ rest) s.gave known in (
+          s.done,
+          s.given,
+          s.text,
+          s.visited,
+          s.counted,
+          s.bad_counted,
+          (
+            part,
+            rest,
+            streams (s.given ++ (part ++ rest)) all,
+            at,
+            numbered ∙ s.counted,
+            subst (λ p. frame_fault p (part ++ rest) ≡ Some (fault_view f)) s.placed fails,
+            subst (λ n. (texts.bad n (fault_view f) ≡ None) ⊎ ((frame_length part ≡ Err f.kind) × (frame_length (part ++ rest) ≡ Err f.kind))) s.counted last,
+          ),
+          s.wrote,
+        )
+
+    pub ends_faulty : (f : told.Fault) → IsFrame part → first_fault buffer.place part ≡ Some (fault_view f) → f.document ≡ buffer.number
+        → texts.bad buffer.number (fault_view f) ≡ None → Ended (endings.Faulty f)
+    ends_faulty f is first numbered last =
+        let rest = rest_of new.left in
+        ends_at rest f (known_whole mid.left new.left part g.gave) numbered (fault_inside buffer.place part rest (fault_view f) is first) (inl last)
+
+    ends_framed : (f : told.Fault) → HasNoFrame [] mid.left f.kind → frame_length part ≡ Err f.kind → f.offset ≡ buffer.place → f.document ≡ buffer.number → f.path.items ≡ []
+        → Ended (endings.Faulty f)
+    ends_framed f none is offset numbered path =
+        let r = framed_rest mid.left new.left part f g.gave none is in
+        let fails = ap (framed_fault buffer.place (part ++ r.0)) r.2
+        ∙ ap₂ (λ (o : ℕ) (p : List (List ℕ)). Some (record { kind = f.kind; offset = o; path = p })) (sym offset) (sym (ap (map string_bytes) path)) in
+        ends_at r.0 f r.1 numbered fails (inr (is, r.2))
+
+-- no document was given
+module _ {texts : Texts} {R : Type 0} (state : R → Reader) (gives : R → Option (List ℕ) → R → Type 0) {old : Reader} (m n : R) {out_old out_mid : Writer}
+    {buffer : DocBuffer} {bad : ℕ} (s : SoFar texts old (state m) out_old out_mid buffer bad) where
+  -- the bytes of the document that were given, and what is known then
+  abbrev Unread : ReadFault → Type 0
+  Unread f = (part : List ℕ) × StreamsInput (between old (state n)) (s.given ++ part) (Some f) × IsCut part
+
+  unread : (part : List ℕ) (f : ReadFault) → ¬ (f ≡ reads.NoMemory) → Consumes (state m).left (state n).left part
+      → IsReason state gives buffer m n [] part (faults.Read f) → Unread f
+  unread part reads.Device other more reason =
+      let moved = Consumes-trans old.left (state m).left (state n).left s.given part s.gave more in
+      (part, (moved, within s part reason.1, reason.2 ∙ ap (λ k. after_more k 1) s.well), reason.0)
+  unread part reads.TooLong other more reason =
+      let moved = Consumes-trans old.left (state m).left (state n).left s.given part s.gave more in
+      let parts = ap (λ (x : List ℕ). s.given ++ x) reason.2 ∙ sym (append_assoc s.given reason.0 reason.1) in
+      let frames = visited_frames s.done s.given s.text s.visited in (
+        reason.0,
+        (
+          reason.1,
+          subst (Consumes old.left (state n).left) parts moved,
+          within s reason.0 reason.4,
+          let r = reason.5 in let f = s.fits in let p = s.placed in omega (arith, length-append s.given reason.0),
+          (frames.0, s.given, reason.0, frames.1, refl, subst IsWithinOne reason.2 reason.6),
+          reason.7 ∙ s.well,
+        ),
+        reason.3,
+      )
+  unread part reads.TooManyTurns other more reason =
+      let each = reads_at_least buffer.left.turns m n part reason.2 in
+      let short = within s part reason.1 in
+      let h = s.many in let t = s.turned in absurd (omega (arith, each, short, length-append s.given part))
+  unread part reads.NoMemory other more reason = absurd (other refl)
+
+  abbrev EndsBy : Result Ending OutputFault → Type 0
+  EndsBy r =
+      MatchResult r (λ e. WalksDocuments texts (between old (state n)) (between out_old out_mid) (record { count = buffer.number; bad = bad; ending = e }))
+      (StopsWalk texts (between old (state n)) (between out_old out_mid))
+
+  unread_ends : (part : List ℕ) (f : ReadFault) → ¬ (f ≡ reads.NoMemory) → Consumes (state m).left (state n).left part
+      → IsReason state gives buffer m n [] part (faults.Read f) → EndsBy (Ok (endings.Unread f))
+  unread_ends part f other gave reason = (s.done, s.given, s.text, s.visited, s.counted, s.bad_counted, unread part f other gave reason, s.wrote)
+
+  pub ends_by : (part : List ℕ) (d : DocFault) (r : Result Ending OutputFault) → IsEndingOf d r → Consumes (state m).left (state n).left part
+      → IsReason state gives buffer m n [] part d → EndsBy r
+  ends_by part (faults.Frame f) r (fault, by, is) gave reason =
+      let g : Gives (state m) (state n) buffer.left.bytes part = record { gave = gave; short = reason.4; within = reason.6; well = reason.5 } in
+      rw by (ends_framed s g fault (rw is.kind reason.2) (rw is.kind reason.3) (is.offset ∙ reason.0) (is.document ∙ reason.1) is.path)
+  ends_by part (faults.Read reads.Device) r by gave reason = rw by (unread_ends part reads.Device (λ e. absurd cc) gave reason)
+  ends_by part (faults.Read reads.TooLong) r by gave reason = rw by (unread_ends part reads.TooLong (λ e. absurd cc) gave reason)
+  ends_by part (faults.Read reads.TooManyTurns) r by gave reason = rw by (unread_ends part reads.TooManyTurns (λ e. absurd cc) gave reason)
+  ends_by part (faults.Read reads.NoMemory) r by gave reason =
+      let g : Gives (state m) (state n) buffer.left.bytes part = record { gave = gave; short = reason.1; within = cut_within part reason.0; well = reason.2 } in
+      rw by (starves s g)
+  ends_by part faults.Failed r by gave reason = absurd reason
