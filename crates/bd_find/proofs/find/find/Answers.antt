@@ -1,7 +1,6 @@
 use Rattle.std.proofs.Common.{◌≤◌, Ok, Err, [], List, ℕ, refl, inl, inr, length, arith, subst}
 use Rattle.bd_value.specs.Limits.{longest_input}
 use Rattle.bd_files.proofs.DumpLemmas as runs
-use Rattle.bd_find.proofs.MessageLemmas as messages
 use Rattle.bd_find.proofs.find.find.Goals as goal
 use Rattle.bd_find.specs.Asking.{page_request_of}
 use Rattle.bd_files.specs.Outcome.{TellsMessage}
@@ -15,12 +14,11 @@ returns-in-Err-Message-clause-found g c =
     let none = rw c.in-Err-Message.field-0-is at c.in-Err-Message.ensures.fault in
     let text = rw c.in-Err-Message.field-0-is at c.deref.ensures.value in
     let told = subst (λ (text : List ℕ). TellsMessage (over g.E.Output.state c.args.err.now c.tell_error.new.err) (error_line text) Failed c.tell_error.result) text c.tell_error.ensures in
-    let refused = messages.refused _ (over g.R.Input.state c.args.input.now c.args.input.now) message refl none in
     inr (
       Ok [],
       shown_refusal message,
-      refused.0,
-      refused.1,
+      inl (message, none, refl),
+      (Err message, none, refl),
       inl (runs.refused (g.O.Output.state c.args.out.now) (g.E.Output.state c.args.err.now)
           (g.E.Output.state c.tell_error.new.err) message _ told),
     )
@@ -35,8 +33,7 @@ returns-in-Ok-read_all-clause-found g c =
       Ok c.in-Ok-read_all.bytes.items,
       s.0,
       inr (w, c.in-Ok.ensures.asking, (e.bytes, e.end, short, e.well (λ x. absurd cc))),
-      inr
-          (w, c.in-Ok.ensures.asking, inr (c.in-Ok-read_all.bytes.items, refl, s.1)),
+      (Ok w, c.in-Ok.ensures.asking, s.1),
       s.2,
     )
 
@@ -57,7 +54,7 @@ returns-in-Err-clause-found g c =
         runs.was_refused (g.R.Input.state c.args.input.now)
             (g.R.Input.state c.read_all.new.reader) c.in-Err.fault e.failed e.well e.too_long_known e.too_many_known e.too_many_calls e.memory_known,
       ),
-      inr (w, c.in-Ok.ensures.asking, inl (words, refl, refl)),
+      (Ok w, c.in-Ok.ensures.asking, refl),
       runs.refused (g.O.Output.state c.args.out.now) (g.E.Output.state c.args.err.now)
           (g.E.Output.state c.tell_read_fault.new.err) _ _ c.tell_read_fault.ensures,
     )
