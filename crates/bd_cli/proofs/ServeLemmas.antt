@@ -2,7 +2,6 @@
 use Rattle.std.proofs.Common.{◌≡◌, ◌≤◌, ◌⊎◌, ℕ, List, Ok, Option, ap, arith, inl, inr, length, refl, subst}
 use Rattle.std.specs.Prelude.{codes}
 use Rattle.bd_value.specs.Limits.{longest_input}
-use Rattle.bd_answer.specs.Session.{State}
 use Rattle.bd_answer.specs.SessionLaws.{new_state}
 use Rattle.bd_bson.specs.Collection.{IsUnread, bytes_of, documents}
 use Rattle.bd_bson.specs.declared.collection.Dump.{Dump}
@@ -13,9 +12,8 @@ use Rattle.bd_device.specs.Devices.{Over, Reader, Writer}
 use Rattle.bd_lines.specs.Serving.{ServesAll, StopsServing}
 use Rattle.bd_lines.specs.declared.serving.ServeFault.{ServeFault}
 use Rattle.bd_service.specs.ServiceView.{KeepsState, RepliesTo, service_dump, service_state}
-use Rattle.bd_service.specs.Talk.{IsKept}
 use Rattle.bd_service.specs.declared.service.Service.{Service}
-use Rattle.bd_service.proofs.ServedLemmas.{RepliesOver, served, stopped}
+use Rattle.bd_service.proofs.ServedLemmas.{served, stopped}
 use Rattle.bd_files.specs.Outcome.{TellsMessage}
 use Rattle.bd_cli.specs.Serve.{ServesRead, ServesToAFault, ServesToTheEnd, command_limits, serve_words}
 use Rattle.bd_files.specs.Transcript.{error_line, fault_text}
