@@ -1,9 +1,11 @@
 -- What a run of `serve` did: the replies to the commands over a dump, or why there are none.
-use Rattle.std.specs.Prelude.{◌≡◌, ◌⊎◌, ℕ, List, codes, Option, Result}
+use Rattle.std.specs.Prelude.{◌≡◌, ◌⊎◌, ℕ, List, length, codes, Option, Some, None, Result, Ok, Err}
 use Rattle.bd_value.specs.Limits.{longest_input, most_reads}
 use Rattle.bd_value.specs.Tree.{Doc}
 use Rattle.bd_answer.specs.Session.{State}
 use Rattle.bd_answer.specs.SessionLaws.{new_state}
+use Rattle.bd_check.specs.Dump.{IsWalk}
+use Rattle.bd_check.specs.Fault.{Fault}
 use Rattle.bd_device.specs.Devices.{Over, Reader, Writer}
 use Rattle.bd_device.specs.declared.reading.Limits.{Limits}
 use Rattle.bd_device.specs.declared.reading.ReadFault.{ReadFault}
@@ -11,11 +13,9 @@ use Rattle.bd_lines.specs.Serving.{ServesAll, StopsServing}
 use Rattle.bd_lines.specs.declared.serving.ServeFault.{ServeFault}
 use Rattle.bd_lines.specs.declared.serving.ServeFault.TheVariants as faults
 use Rattle.bd_service.specs.Talk.{IsKept, RepliesInText}
-use Rattle.bd_find.specs.Chain.{IsRefusedOr}
-use Rattle.bd_find.specs.Find.{ReadsBytes, ReadsDump}
 use Rattle.bd_files.specs.Input.{ReadsInput}
 use Rattle.bd_files.specs.Outcome.{TellsMessage}
-use Rattle.bd_files.specs.Transcript.{error_line, read_words}
+use Rattle.bd_files.specs.Transcript.{error_line, fault_text, read_words}
 use Rattle.bd_files.specs.declared.status.Status.{Status}
 use Rattle.bd_files.specs.declared.status.Status.TheVariants.{Done, Failed}
 
@@ -52,13 +52,24 @@ pub record ServesNothing {C : Type 0} (old new : C) (out err : Over Writer) (sta
   pub silent : out.after ≡ out.before
   pub told : TellsMessage err (error_line message) Failed status
 
--- over an input: it was not read, or it was and is no dump, or the commands were served, or memory ran out before
+-- over a dump: to the end of the commands, or to a fault
+abbrev pub ServesDump : {C : Type 0} → (C → Reader) → (C → Option (List ℕ) → C → Type 0) → List ℕ → List Doc
+    → C → C → Over Writer → Over Writer → Status → Type 0
+ServesDump state gives bytes ds old new out err status =
+    ServesToTheEnd state gives bytes ds old new out err status
+    ⊎ ServesToAFault state gives bytes ds old new out err status
+
+-- over what was read: it was not read whole, or it is no dump, or the commands were served, or memory ran out before
+abbrev pub ServesRead : {C : Type 0} → (C → Reader) → (C → Option (List ℕ) → C → Type 0) → Result (List ℕ) ReadFault
+    → C → C → Over Writer → Over Writer → Status → Type 0
+ServesRead state gives (Err fault) old new out err status = ServesNothing old new out err status (read_words fault)
+ServesRead state gives (Ok bytes) old new out err status =
+    ServesNothing old new out err status (codes "no memory")
+    ⊎ (((ds : List Doc) × (fault : Fault) × IsWalk ds (Some fault) bytes
+    × ServesNothing old new out err status (fault_text (length ds) fault))
+    ⊎ ((ds : List Doc) × IsWalk ds None bytes × ServesDump state gives bytes ds old new out err status))
+
 abbrev pub ServesInput : {C : Type 0} → (C → Reader) → (C → Option (List ℕ) → C → Type 0) → C → C
     → Over Reader → Over Writer → Over Writer → Status → Type 0
 ServesInput state gives old new file out err status =
-    (input : Result (List ℕ) ReadFault) × ReadsInput file input
-    × IsRefusedOr (ServesNothing old new out err status) (ReadsBytes input) (λ bytes.
-    ServesNothing old new out err status (codes "no memory")
-    ⊎ IsRefusedOr (ServesNothing old new out err status) (ReadsDump bytes) (λ ds.
-    ServesToTheEnd state gives bytes ds old new out err status
-    ⊎ ServesToAFault state gives bytes ds old new out err status))
+    (input : Result (List ℕ) ReadFault) × ReadsInput file input × ServesRead state gives input old new out err status

@@ -1,12 +1,10 @@
 //! `serve`: a session over an input, with a reply to each command.
 
-ghost use Rattle.std.specs.Prelude.{◌≡◌, ◌≤◌, ◌⊎◌, codes, length};
+ghost use Rattle.std.specs.Prelude.{◌≤◌, Ok, length};
 ghost use Rattle.bd_value.specs.Limits.{longest_input};
 ghost use Rattle.bd_bson.specs.Collection.{bytes_of, documents};
 ghost use Rattle.bd_files.specs.Input.{ReadsNoFurther};
-ghost use Rattle.bd_find.specs.Chain.{IsRefusedOr};
-ghost use Rattle.bd_find.specs.Find.{ReadsDump};
-ghost use Rattle.bd_cli.specs.Serve.{ServesInput, ServesNothing, ServesToAFault, ServesToTheEnd};
+ghost use Rattle.bd_cli.specs.Serve.{ServesDump, ServesInput, ServesRead};
 ghost use Rattle.bd_device.specs.Devices.{over};
 
 use bd_bson::{Dump, read_dump};
@@ -48,12 +46,8 @@ fn serve_bytes<C: Input, O: Output, E: Output>(
     err: &mut E,
 ) -> Status
     requires { length bytes.items ≤ longest_input }
-    ensures { ServesNothing commands.old commands.new (over O.state out.old out.new) (over E.state err.old err.new) result (codes "no memory")
-        ⊎ IsRefusedOr (ServesNothing commands.old commands.new (over O.state out.old out.new) (over E.state err.old err.new) result)
-        (ReadsDump bytes.items) (λ ds. ServesToTheEnd C.state C.read_gives bytes.items ds commands.old commands.new
-        (over O.state out.old out.new) (over E.state err.old err.new) result
-        ⊎ ServesToAFault C.state C.read_gives bytes.items ds commands.old commands.new
-        (over O.state out.old out.new) (over E.state err.old err.new) result) }
+    ensures { ServesRead C.state C.read_gives (Ok bytes.items) commands.old commands.new (over O.state out.old out.new)
+        (over E.state err.old err.new) result }
 {
     match read_dump(alloc, bytes) {
         Ok(dump) => serve_dump(alloc, dump, commands, out, err),
@@ -74,9 +68,7 @@ fn serve_dump<C: Input, O: Output, E: Output>(
     out: &mut O,
     err: &mut E,
 ) -> Status
-    ensures { ServesToTheEnd C.state C.read_gives (bytes_of dump) (documents dump) commands.old commands.new
-        (over O.state out.old out.new) (over E.state err.old err.new) result
-        ⊎ ServesToAFault C.state C.read_gives (bytes_of dump) (documents dump) commands.old commands.new
+    ensures { ServesDump C.state C.read_gives (bytes_of dump) (documents dump) commands.old commands.new
         (over O.state out.old out.new) (over E.state err.old err.new) result }
 {
     let mut service = Service::new(alloc, dump);

@@ -1,28 +1,30 @@
 -- The places that are asked for, and the batch that a session gives of them.
-use Rattle.std.proofs.Common.{◌≡◌, ◌≤◌, ◌<◌, ◌+◌, ◌-◌, ◌*◌, ℕ, zero, suc, Bool, true, false, cond, List, [], ◌∷◌, ◌++◌, length, get_or, take, drop, Option}
+use Rattle.std.proofs.Common.{◌≡◌, ◌≤◌, ◌<◌, ◌+◌, ◌-◌, ◌*◌, ℕ, Bool, true, false, cond, List, [], ◌∷◌, ◌++◌, length, get_or, take, drop, Option}
 use Rattle.std.proofs.Common.{Some, None, Result, Ok, Err, filter, refl, sym, ap, ◌∙◌, subst, arith, inl, inr, ◌==◌}
 use Rattle.std.specs.Prelude.{MatchOption, nat_lt, option_map}
 use Rattle.std.specs.List.{All, range_with_len}
 use Rattle.std.specs.Str.{bytes_eq}
 use Rattle.std.proofs.lemmas.Bool.{leb-true, le-ltb}
-use Rattle.std.proofs.lemmas.List.{drop_all, take_all, length-append}
+use Rattle.std.proofs.lemmas.List.{drop_all, take_all, length-append, length-drop, length-take}
+use Rattle.std.proofs.lemmas.List.Elements.{All-drop, All-filter, All-take}
+use Rattle.std.proofs.lemmas.List.Sums.{count_by-le-length, length-filter}
 use Rattle.std.proofs.lemmas.List.FromFn.{length-range_with_len}
 use Rattle.bd_value.specs.Tree.{Doc}
 use Rattle.bd_answer.specs.Answer.{Selection, Mark, answer, at_most, before, cut, insert, insert_all, is_empty, matching, ordered, rest}
 use Rattle.bd_answer.specs.Session.{Call, GivenBatch, OpenCursor, Query, Reply, State, batch_of, changed_by, cursor_of, find_call, foreign_token, gave}
 use Rattle.bd_answer.specs.Session.{next_call, opened, reply, resume_call, token_after, token_place, with_open}
 use Rattle.bd_answer.proofs.AnswerLemmas.{ordered_in}
-use Rattle.bd_answer.proofs.BatchLemmas.{cut_length}
-use Rattle.bd_answer.proofs.OrderLemmas.{In, filter_in, in_at}
+use Rattle.bd_answer.proofs.OrderLemmas.{in_at}
 use Rattle.bd_check.specs.Dump.{AreJoined}
 use Rattle.bd_check.proofs.DumpLemmas.{document_frame, frame_inside}
 use Rattle.bd_cursor.specs.SessionView.{IsRefusedCall, Steps, mark_of, marked_token, state_of}
 use Rattle.bd_cursor.specs.declared.session.Session.{Session}
+use Rattle.bd_request.specs.Refused.{plain, reason_of}
 use Rattle.bd_request.specs.declared.refused.Refused.{Refused}
 use Rattle.bd_request.specs.declared.refused.Refused.TheVariants as reasons
 use Rattle.bd_request.specs.declared.token.Token.{Token}
 use Rattle.bd_find.specs.Find.{left_over}
-use Rattle.bd_find.specs.Asking.{fits_batch, refused_text}
+use Rattle.bd_find.specs.Asking.{fits_batch}
 use Rattle.bd_find.specs.Batch.{AwaitsFirst, IsOpenedOn, IsReady, before_first, cursor_for, places_from}
 
 -- ---- a dump has no more documents than a batch may have
@@ -48,72 +50,50 @@ insert_all_length : (lt : ℕ → ℕ → Bool) (kept ps : List ℕ) → length 
 insert_all_length lt kept [] = omega arith
 insert_all_length lt kept (p ∷ ps) = omega (arith, insert_all_length lt (insert lt p kept) ps, insert_length lt p kept)
 
-filter_length : (test : ℕ → Bool) (xs : List ℕ) → length (filter test xs) ≤ length xs
-filter_length test [] = omega arith
-filter_length test (x ∷ xs) = go (test x) (filter_length test xs)
-  where
-    go : (b : Bool) → length (filter test xs) ≤ length xs → length (cond b (x ∷ filter test xs) (filter test xs)) ≤ length (x ∷ xs)
-    go true h = omega (arith, h)
-    go false h = omega (arith, h)
-
-drop_length : (n : ℕ) (xs : List ℕ) → length (drop n xs) ≤ length xs
-drop_length zero xs = omega arith
-drop_length (suc n) [] = omega arith
-drop_length (suc n) (x ∷ xs) = omega (arith, drop_length n xs)
-
-ordered_length : (a : Selection) → length (ordered a) ≤ a.count
-ordered_length a =
-    omega (arith, insert_all_length (before a.by) [] (matching a), filter_length a.hits (range_with_len 0 a.count), length-range_with_len 0 a.count)
-
-drop_in : (n : ℕ) (xs : List ℕ) (x : ℕ) → In x (drop n xs) → In x xs
-drop_in zero xs x h = h
-drop_in (suc n) [] x h = h
-drop_in (suc n) (y ∷ xs) x h = inr (drop_in n xs x h)
-
-take_in : (n : ℕ) (xs : List ℕ) (x : ℕ) → In x (take n xs) → In x xs
-take_in zero xs x h = absurd h
-take_in (suc n) [] x h = h
-take_in (suc n) (y ∷ xs) x (inl e) = inl e
-take_in (suc n) (y ∷ xs) x (inr h) = inr (take_in n xs x h)
-
-cut_in : (limit given : ℕ) (xs : List ℕ) (x : ℕ) → In x (cut limit given xs) → In x xs
-cut_in limit given xs x = go (limit == 0)
-  where
-    go : (b : Bool) → In x (cond b xs (take (limit - given) xs)) → In x xs
-    go true h = h
-    go false h = take_in (limit - given) xs x h
-
-abbrev pub AreInside : ℕ → List ℕ → Type 0
-AreInside n xs = (x : ℕ) → In x xs → x < n
-
-answer_inside : (a : Selection) → AreInside a.count (answer a)
-answer_inside a x h = (ordered_in a x (drop_in a.skip (ordered a) x (cut_in a.limit 0 (drop a.skip (ordered a)) x h))).0
-
-rest_inside : (a : Selection) (m : Mark) → AreInside a.count (rest a m)
-rest_inside a m x h =
-    let later = filter (before a.by m.last) (ordered a) in
-    (ordered_in a x (filter_in (before a.by m.last) (ordered a) x (cut_in a.limit m.given later x h)).0).0
-
-answer_length : (a : Selection) → length (answer a) ≤ a.count
-answer_length a =
-    omega (arith, cut_length a.limit 0 (drop a.skip (ordered a)) (length (answer a)) (omega arith), drop_length a.skip (ordered a), ordered_length a)
-
-rest_length : (a : Selection) (m : Mark) → length (rest a m) ≤ a.count
-rest_length a m =
-    let later = filter (before a.by m.last) (ordered a) in
-    omega (arith, cut_length a.limit m.given later (length (rest a m)) (omega arith), filter_length (before a.by m.last) (ordered a), ordered_length a)
-
 -- the places that are asked for are places of documents, and no more than these
 abbrev pub AreFew : ℕ → List ℕ → Type 0
-AreFew n ps = AreInside n ps × (length ps ≤ n)
+AreFew n ps = All (λ p. p < n) ps × (length ps ≤ n)
+
+few_filtered : (n : ℕ) (test : ℕ → Bool) (ps : List ℕ) → AreFew n ps → AreFew n (filter test ps)
+few_filtered n test ps few =
+    (All-filter test (λ p. p < n) ps few.0, (let fewer = few.1 in omega (arith, fewer, length-filter test ps, count_by-le-length test ps)))
+
+few_dropped : (n k : ℕ) (ps : List ℕ) → AreFew n ps → AreFew n (drop k ps)
+few_dropped n k ps few = (All-drop (λ p. p < n) k ps few.0, (let fewer = few.1 in omega (arith, fewer, length-drop k ps)))
+
+few_cut : (n limit given : ℕ) (ps : List ℕ) → AreFew n ps → AreFew n (cut limit given ps)
+few_cut n limit given ps few = go (limit == 0)
+  where
+    go : (b : Bool) → AreFew n (cond b ps (take (limit - given) ps))
+    go true = few
+    go false = (All-take (λ p. p < n) (limit - given) ps few.0, (let fewer = few.1 in omega (arith, fewer, length-take (limit - given) ps)))
+
+few_ordered : (a : Selection) → AreFew a.count (ordered a)
+few_ordered a = (
+  λ k d lt. (ordered_in a (get_or (ordered a) k d) (in_at (ordered a) k d lt)).0,
+  omega (
+    arith,
+    insert_all_length (before a.by) [] (matching a),
+    length-filter a.hits (range_with_len 0 a.count),
+    count_by-le-length a.hits (range_with_len 0 a.count),
+    length-range_with_len 0 a.count,
+  ),
+)
+
+few_answered : (a : Selection) → AreFew a.count (answer a)
+few_answered a = few_cut a.count a.limit 0 (drop a.skip (ordered a)) (few_dropped a.count a.skip (ordered a) (few_ordered a))
+
+few_left : (a : Selection) (m : Mark) → AreFew a.count (rest a m)
+few_left a m =
+    few_cut a.count a.limit m.given (filter (before a.by m.last) (ordered a)) (few_filtered a.count (before a.by m.last) (ordered a) (few_ordered a))
 
 pub led_few : (q : Query) (token : Option Token) (ps : List ℕ) → places_from q token ≡ Ok ps → AreFew q.selection.count ps
-led_few q None ps e = let same : answer q.selection ≡ ps = cc in subst (AreFew q.selection.count) same (answer_inside q.selection, answer_length q.selection)
+led_few q None ps e = let same : answer q.selection ≡ ps = cc in subst (AreFew q.selection.count) same (few_answered q.selection)
 led_few q (Some t) ps e = go (bytes_eq t.digest q.digest) (nat_lt t.last q.selection.count) e
   where
-    go : (same place : Bool) → cond same (cond place (Ok (rest q.selection (mark_of t))) (Err (refused_text reasons.TokenPlace)))
-        (Err (refused_text reasons.ForeignToken)) ≡ Ok ps → AreFew q.selection.count ps
-    go true true e = let is : rest q.selection (mark_of t) ≡ ps = cc in subst (AreFew q.selection.count) is (rest_inside q.selection (mark_of t), rest_length q.selection (mark_of t))
+    go : (same place : Bool) → cond same (cond place (Ok (rest q.selection (mark_of t))) (Err (plain reasons.TokenPlace)))
+        (Err (plain reasons.ForeignToken)) ≡ Ok ps → AreFew q.selection.count ps
+    go true true e = let is : rest q.selection (mark_of t) ≡ ps = cc in subst (AreFew q.selection.count) is (few_left q.selection (mark_of t))
     go true false e = absurd cc
     go false place e = absurd cc
 
@@ -159,10 +139,10 @@ module _ (q : Query) (hint : Option (List ℕ)) (old new : Session) (first : Awa
       call = resume_call q hint (marked_token t)
 
       -- the token is refused
-      turned_away : (r : Reply) (why : Refused) → ((other : Refused) → IsRefusedCall r other → other ≡ why) → ((id : ℕ) → r ≡ opened id → ⊥) → places_from q (Some t) ≡ Err (refused_text why)
+      turned_away : (r : Reply) (why : Refused) → ((other : Refused) → IsRefusedCall r other → other ≡ why) → ((id : ℕ) → r ≡ opened id → ⊥) → places_from q (Some t) ≡ Err (reason_of why)
           → reply (state_of old) call ≡ r → (result : Result ℕ Refused) → Steps opened call old result new → IsOpenedOn q (Some t) (state_of new) result
       turned_away r why only none led is (Ok id) step = absurd (none id (sym is ∙ step.replies))
-      turned_away r why only none led is (Err other) step = inr (led ∙ ap (λ w. Err (refused_text w)) (sym (only other (subst (λ x. IsRefusedCall x other) is step.because))))
+      turned_away r why only none led is (Err other) step = inr (led ∙ ap (λ w. Err (reason_of w)) (sym (only other (subst (λ x. IsRefusedCall x other) is step.because))))
 
       go : (same : Bool) → bytes_eq t.digest q.digest ≡ same → (place : Bool) → nat_lt t.last q.selection.count ≡ place
           → (result : Result ℕ Refused) → Steps opened call old result new → IsOpenedOn q (Some t) (state_of new) result
@@ -177,7 +157,7 @@ opened_ready q token s id le (ps, led, there) =
     record {
       cursor = cursor_for id q token ps;
       is_there = there;
-      inside = λ k d lt. few.0 (get_or ps k d) (in_at ps k d lt);
+      inside = few.0;
       few = omega (arith, few.1);
     }
 
@@ -206,14 +186,7 @@ given_is s id n c size b most fits there r =
     cc
 
 pub taken_inside : (count n : ℕ) (ps xs : List ℕ) → All (λ p. p < count) ps → xs ≡ take n ps → All (λ p. p < count) xs
-taken_inside count n ps xs inside same k d lt =
-    let i : In (get_or xs k d) (take n ps) = subst (λ (ys : List ℕ). In (get_or xs k d) ys) same (in_at xs k d lt) in
-    inside_all ps inside (get_or xs k d) (take_in n ps (get_or xs k d) i)
-  where
-    inside_all : (ys : List ℕ) → All (λ p. p < count) ys → (x : ℕ) → In x ys → x < count
-    inside_all [] h x i = absurd i
-    inside_all (y ∷ ys) h x (inl e) = let z : y < count = h 0 0 (omega arith) in omega (arith, e, z)
-    inside_all (y ∷ ys) h x (inr i) = inside_all ys (λ k d lt. h (suc k) d (omega (arith, lt))) x i
+taken_inside count n ps xs inside same = subst (All (λ p. p < count)) (sym same) (All-take (λ p. p < count) n ps inside)
 
 -- what a session gives is the first batch of the cursor
 pub record IsBatchOf (size : Option ℕ) (c : OpenCursor) (b : GivenBatch) : Type 0 where

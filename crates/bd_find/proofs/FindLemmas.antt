@@ -1,5 +1,5 @@
 -- The lines of documents that were found, and the ends of a run of `find`.
-use Rattle.std.proofs.Common.{◌≡◌, ◌≤◌, ◌<◌, ◌+◌, ℕ, List, [], ◌∷◌, ◌++◌, length, get_or, take, drop, Some, refl, sym, ap, ◌∙◌, subst, arith, inl, inr, ◌⊎◌, codes, Err}
+use Rattle.std.proofs.Common.{◌≡◌, ◌≤◌, ◌<◌, ◌+◌, ℕ, List, [], ◌∷◌, ◌++◌, length, get_or, take, drop, Some, refl, sym, ap, ◌∙◌, subst, arith, inl, inr, ◌⊎◌, codes}
 use Rattle.std.specs.Prelude.{slice_get}
 use Rattle.std.proofs.lemmas.List.{take-append-drop, take_more}
 use Rattle.std.proofs.lemmas.List.Elements.{filter_map-append}
@@ -14,13 +14,12 @@ use Rattle.bd_check.specs.declared.fault.FaultKind.TheVariants as kinds
 use Rattle.bd_files.specs.declared.status.Status.{Status}
 use Rattle.bd_files.specs.declared.status.Status.TheVariants.{Failed}
 use Rattle.bd_request.specs.declared.refused.Refused.{Refused}
-use Rattle.bd_request.specs.declared.refused.Refused.TheVariants as reasons
+use Rattle.bd_request.specs.Refused.{IsRefusedPart, reason_of}
 use Rattle.bd_find.specs.Asking.{PageRequest, refused_text}
 use Rattle.bd_find.specs.Batch.{places_from, query_for}
-use Rattle.bd_find.proofs.UniqueLemmas.{dump_shows}
 use Rattle.bd_files.proofs.OutputLemmas.FaultLemmas.{lines-append}
 use Rattle.bd_bson.specs.Documents.{documents_at}
-use Rattle.bd_find.specs.Find.{IsShownOfBytes, IsShownOfDump}
+use Rattle.bd_find.specs.Find.{IsShownOfBytes, shown_of_dump}
 use Rattle.bd_files.specs.Outcome.{PrintsOrStarves, TellsMessage}
 use Rattle.bd_files.specs.Transcript.{Transcript, error_line, fault_text, lines, shown_refusal}
 use Rattle.bd_device.specs.Devices.{Writer, between}
@@ -72,21 +71,18 @@ module _ (out_old out_new : Writer) (err_old err_new : Writer) (status : Status)
       let words = fault_text (length first.before) (fault_view fault) in
       let line : error_line (fault_text fault.document (fault_view fault)) ≡ error_line words = ap (λ k. error_line (fault_text k (fault_view fault))) first.document in (
         shown_refusal words,
-        inl (words, (first.before, fault_view fault, first.fails, refl), refl),
+        (first.before, Some (fault_view fault), first.fails, refl),
         refusal_shown words (subst (λ t. TellsMessage (between err_old err_new) t Failed status ⊎ TellsMessage (between err_old err_new) (error_line (codes "no memory")) Failed status) line told),
       )
 
   -- what is shown where no cursor was opened
-  pub refused_shown : (bytes : List ℕ) (ds : List Doc) (w : PageRequest) (refused : Refused) → (refused ≡ reasons.NoMemory) ⊎ (places_from (query_for bytes ds w) w.token ≡ Err (refused_text refused))
-      → TellsMessage (between err_old err_new) (error_line (refused_text refused)) Failed status ⊎ TellsMessage (between err_old err_new) (error_line (codes "no memory")) Failed status
-      → (shown : Transcript) × IsShownOfDump bytes ds w shown × PrintsOrStarves (between out_old out_old) (between err_old err_new) shown status
-  refused_shown bytes ds w refused (inl want) told =
-      let shows = dump_shows bytes ds w in
-      (shows.0, shows.1, nothing_shown shows.0 (either (rw want at told)))
+  pub refused_shown : (bytes : List ℕ) (ds : List Doc) (w : PageRequest) (refused : Refused) → IsRefusedPart (places_from (query_for bytes ds w) w.token) refused
+      → TellsMessage (between err_old err_new) (error_line (refused_text (reason_of refused))) Failed status ⊎ TellsMessage (between err_old err_new) (error_line (codes "no memory")) Failed status
+      → PrintsOrStarves (between out_old out_old) (between err_old err_new) (shown_of_dump bytes ds w) status
+  refused_shown bytes ds w refused (inl want) told = nothing_shown (shown_of_dump bytes ds w) (either (rw want at told))
     where
       either : TellsMessage (between err_old err_new) (error_line (codes "no memory")) Failed status ⊎ TellsMessage (between err_old err_new) (error_line (codes "no memory")) Failed status
           → TellsMessage (between err_old err_new) (error_line (codes "no memory")) Failed status
       either (inl t) = t
       either (inr t) = t
-  refused_shown bytes ds w refused (inr led) told =
-      (shown_refusal (refused_text refused), inl (refused_text refused, sym led, refl), refusal_shown (refused_text refused) told)
+  refused_shown bytes ds w refused (inr led) told = rw led (refusal_shown (refused_text (reason_of refused)) told)

@@ -1,6 +1,5 @@
 pub mod AskingLemmas
 pub mod BatchLemmas
 pub mod FindLemmas
-pub mod MessageLemmas
 pub mod UniqueLemmas
 pub mod PartsLemmas

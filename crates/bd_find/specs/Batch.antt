@@ -1,5 +1,5 @@
 -- The places that are asked for, and the part of them that is given.
-use Rattle.std.specs.Prelude.{◌≡◌, ◌≤◌, ◌<◌, ◌⊎◌, ℕ, nat_lt, true, List, [], length, option_map, Option, Some, None, Result, Ok, Err, if◌then◌else◌}
+use Rattle.std.specs.Prelude.{◌≡◌, ◌≤◌, ◌<◌, ℕ, nat_lt, true, List, [], length, option_map, Option, Some, None, Result, Ok, Err, if◌then◌else◌}
 use Rattle.std.specs.List.{All}
 use Rattle.std.specs.Str.{bytes_eq}
 use Rattle.bd_value.specs.Limits.{greatest_count}
@@ -8,24 +8,25 @@ use Rattle.bd_answer.specs.Answer.{answer, rest}
 use Rattle.bd_answer.specs.Session.{IndexMark, OpenCursor, Query, State, cursor_of, has_index}
 use Rattle.bd_sort.specs.Selection.{query_to}
 use Rattle.bd_cursor.specs.SessionView.{mark_of, marked_token}
+use Rattle.bd_request.specs.Refused.{IsRefusedPart, Reason, plain}
 use Rattle.bd_request.specs.declared.refused.Refused.{Refused}
 use Rattle.bd_request.specs.declared.refused.Refused.TheVariants as reasons
 use Rattle.bd_request.specs.declared.token.Token.{Token}
-use Rattle.bd_find.specs.Asking.{PageRequest, refused_text}
+use Rattle.bd_find.specs.Asking.{PageRequest}
 
 -- what is wanted of a dump of these bytes, which are these documents
 abbrev pub query_for : List ℕ → List Doc → PageRequest → Query
-query_for bytes ds w = query_to bytes ds w.filter w.sorts w.skip w.limit w.text
+query_for bytes ds w = let r = w.request in query_to bytes ds r.filter r.sorts r.skip r.limit r.text
 
 -- the places after a token of this dump and this request: the digest is looked at first, then the place
-abbrev pub places_after_token : Query → Token → Result (List ℕ) (List ℕ)
+abbrev pub places_after_token : Query → Token → Result (List ℕ) Reason
 places_after_token q t =
     if bytes_eq t.digest q.digest
-    then (if nat_lt t.last q.selection.count then Ok (rest q.selection (mark_of t)) else Err (refused_text reasons.TokenPlace))
-    else Err (refused_text reasons.ForeignToken)
+    then (if nat_lt t.last q.selection.count then Ok (rest q.selection (mark_of t)) else Err (plain reasons.TokenPlace))
+    else Err (plain reasons.ForeignToken)
 
 -- the places that are asked for: without a token the whole answer
-abbrev pub places_from : Query → Option Token → Result (List ℕ) (List ℕ)
+abbrev pub places_from : Query → Option Token → Result (List ℕ) Reason
 places_from q None = Ok (answer q.selection)
 places_from q (Some t) = places_after_token q t
 
@@ -54,8 +55,7 @@ pub record AwaitsFirst (s : State) (hint : Option (List ℕ)) : Type 0 where
 abbrev pub IsOpenedOn : Query → Option Token → State → Result ℕ Refused → Type 0
 IsOpenedOn q token s (Ok id) =
     (ps : List ℕ) × (places_from q token ≡ Ok ps) × (cursor_of id s.cursors ≡ Some (cursor_for id q token ps))
-IsOpenedOn q token s (Err refused) =
-    (refused ≡ reasons.NoMemory) ⊎ (places_from q token ≡ Err (refused_text refused))
+IsOpenedOn q token s (Err refused) = IsRefusedPart (places_from q token) refused
 
 -- the cursor is open, and what it has left are places of these documents, no more than one batch may have
 pub record IsReady (s : State) (id : ℕ) (count : ℕ) : Type 0 where

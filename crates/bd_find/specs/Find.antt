@@ -10,8 +10,8 @@ use Rattle.bd_check.specs.Fault.{Fault}
 use Rattle.bd_check.specs.Dump.{IsWalk}
 use Rattle.bd_command_line.specs.FindWords.{FindWords}
 use Rattle.bd_request.specs.Results.{marked_text}
-use Rattle.bd_find.specs.Chain.{IsRefusedOr}
-use Rattle.bd_find.specs.Asking.{AsksInWords, PageRequest}
+use Rattle.bd_request.specs.Refused.{Reason}
+use Rattle.bd_find.specs.Asking.{AsksInWords, IsRefusedOr, PageRequest, refused_text}
 use Rattle.bd_find.specs.Batch.{cursor_for, places_from, query_for}
 use Rattle.bd_files.specs.Input.{ReadsInput}
 use Rattle.bd_files.specs.Outcome.{PrintsInput, TellsMessage}
@@ -44,43 +44,34 @@ shown_batch size ds c = let ps = at_most size c.left in record {
   status = Done;
 }
 
--- ---- the lines after those of the words: the bytes of an input, and the documents that they are
+-- what is shown of a dump: the first batch of what is asked for, or what is wrong with the token
+abbrev pub shown_places : List ℕ → List Doc → PageRequest → Result (List ℕ) Reason → Transcript
+shown_places bytes ds w (Ok ps) = shown_batch w.batch ds (cursor_for 1 (query_for bytes ds w) w.token ps)
+shown_places bytes ds w (Err why) = shown_refusal (refused_text why)
 
-abbrev pub ReadsBytes : Result (List ℕ) ReadFault → Result (List ℕ) (List ℕ) → Type 0
-ReadsBytes (Ok bytes) given = given ≡ Ok bytes
-ReadsBytes (Err fault) given = given ≡ Err (read_words fault)
+abbrev pub shown_of_dump : List ℕ → List Doc → PageRequest → Transcript
+shown_of_dump bytes ds w = shown_places bytes ds w (places_from (query_for bytes ds w) w.token)
 
-abbrev pub ReadsDump : List ℕ → Result (List Doc) (List ℕ) → Type 0
-ReadsDump bytes (Ok ds) = IsWalk ds None bytes
-ReadsDump bytes (Err message) =
-    (ds : List Doc) × (fault : Fault) × IsWalk ds (Some fault) bytes × (message ≡ fault_text (length ds) fault)
-
--- the places that are asked for of these documents, or what is wrong with the token
-abbrev pub LeadsTo : List ℕ → List Doc → PageRequest → Result (List ℕ) (List ℕ) → Type 0
-LeadsTo bytes ds w led = led ≡ places_from (query_for bytes ds w) w.token
-
--- ---- and the chain
-
-abbrev pub IsRefusal : Transcript → List ℕ → Type 0
-IsRefusal shown message = shown ≡ shown_refusal message
-
--- what is shown of a dump: the first batch of what is asked for
-abbrev pub IsShownOfDump : List ℕ → List Doc → PageRequest → Transcript → Type 0
-IsShownOfDump bytes ds w shown =
-    IsRefusedOr (IsRefusal shown) (LeadsTo bytes ds w) (λ ps.
-    shown ≡ shown_batch w.batch ds (cursor_for 1 (query_for bytes ds w) w.token ps))
+-- what is shown of bytes in which these documents end so
+abbrev pub shown_of_walk : List ℕ → List Doc → Option Fault → PageRequest → Transcript
+shown_of_walk bytes ds None w = shown_of_dump bytes ds w
+shown_of_walk bytes ds (Some fault) w = shown_refusal (fault_text (length ds) fault)
 
 -- what is shown of bytes that were read
 abbrev pub IsShownOfBytes : PageRequest → List ℕ → Transcript → Type 0
 IsShownOfBytes w bytes shown =
-    IsRefusedOr (IsRefusal shown) (ReadsDump bytes) (λ ds. IsShownOfDump bytes ds w shown)
+    (ds : List Doc) × (end : Option Fault) × IsWalk ds end bytes × (shown ≡ shown_of_walk bytes ds end w)
 
--- what is shown of the words and an input: the first refusal alone, or the first batch
+-- what is shown of what is asked for and an input: the first refusal alone, or the first batch
+abbrev pub IsShownOf : Result PageRequest (List ℕ) → Result (List ℕ) ReadFault → Transcript → Type 0
+IsShownOf (Err message) input shown = shown ≡ shown_refusal message
+IsShownOf (Ok w) (Err fault) shown = shown ≡ shown_refusal (read_words fault)
+IsShownOf (Ok w) (Ok bytes) shown = IsShownOfBytes w bytes shown
+
+-- what is shown of the words and an input
 abbrev pub IsShownByFind : FindWords → Result (List ℕ) ReadFault → Transcript → Type 0
 IsShownByFind words input shown =
-    IsRefusedOr (IsRefusal shown) (AsksInWords words) (λ w.
-    IsRefusedOr (IsRefusal shown) (ReadsBytes input) (λ bytes.
-    IsShownOfBytes w bytes shown))
+    (asked : Result PageRequest (List ℕ)) × AsksInWords words asked × IsShownOf asked input shown
 
 -- an input is read once no word is refused, and else left as it is
 abbrev pub ReadsInputFor : FindWords → Over Reader → Result (List ℕ) ReadFault → Type 0

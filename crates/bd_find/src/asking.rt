@@ -1,10 +1,12 @@
 //! What the words of `find` ask for.
-ghost use Rattle.std.specs.Prelude.{◌≡◌, IfErr, IfOk, Ok, OnOk, option_map, string_bytes, true};
+ghost use Rattle.std.specs.Prelude.{◌≡◌, ◌++◌, IfErr, IfOk, Ok, OnOk, option_map, string_bytes, true};
 ghost use Rattle.bd_value.specs.View.{pairs};
 ghost use Rattle.bd_filter.specs.Fault.{refusal_of};
-ghost use Rattle.bd_request.specs.Request.{AsksFor};
+ghost use Rattle.bd_request.specs.Refused.{reason_of, told_as};
+ghost use Rattle.bd_request.specs.Request.{named_index, request_of, request_view};
 ghost use Rattle.bd_command_line.specs.FindWords.{find_words_of};
-ghost use Rattle.bd_find.specs.Asking.{AsksInDocuments, AsksInWords, NamesIndex, ReadsText, ReadsToken, TellsAskingFault, TellsRefused, fits_batch, index_fault_text, json_fault_text, refusal_text, refused_text, page_request_of};
+ghost use Rattle.bd_find.specs.Asking.{AsksInWords, ReadsText, TellsAskingFault, TellsReason, TellsRefused, after_part, batch_part};
+ghost use Rattle.bd_find.specs.Asking.{fits_batch, index_fault_text, json_fault_text, page_of, page_request_of, refusal_text, refused_text};
 ghost use Rattle.bd_find.specs.declared.asking.AskingFault.TheVariants.{NoMemory as no_memory};
 
 use bd_command_line::FindOptions;
@@ -53,11 +55,27 @@ pub(crate) fn read_asking(alloc: Global, options: &FindOptions) -> Result<Asking
     ensures index { IfOk result (λ a. option_map (λ path. string_bytes path.text) a.index ≡ (find_words_of options.now).index) }
     ensures fault { IfErr result (TellsAskingFault (AsksInWords (find_words_of options.now))) }
 {
-    let query = read_text(alloc, "query", options.query.as_deref())?;
-    let sort = read_text(alloc, "sort", options.sort.as_deref())?;
+    let query = read_text(alloc, "query", &options.query)?;
+    let sort = read_text(alloc, "sort", &options.sort)?;
+    read_page(alloc, query, sort, options)
+}
+
+/// What a query and a sort ask for, with the other options.
+fn read_page(
+    alloc: Global,
+    query: Document,
+    sort: Document,
+    options: &FindOptions,
+) -> Result<Asking, AskingFault>
+    ensures page { IfOk result (λ a. page_of (find_words_of options.now) (pairs query) (pairs sort) ≡ Ok (page_request_of a)) }
+    ensures fits { IfOk result (λ a. fits_batch a.size ≡ true) }
+    ensures index { IfOk result (λ a. option_map (λ path. string_bytes path.text) a.index ≡ (find_words_of options.now).index) }
+    ensures fault { IfErr result (TellsAskingFault (λ told. page_of (find_words_of options.now) (pairs query) (pairs sort) ≡ told)) }
+{
     let request = read_request(alloc, query, sort, options)?;
-    let index = read_index(alloc, options.index.as_deref())?;
-    let token = read_token(alloc, options.after.as_deref())?;
+    check_batch(alloc, options.batch)?;
+    let index = read_index(alloc, &options.index)?;
+    let token = read_token(alloc, &options.after)?;
     Ok(Asking {
         request,
         size: options.batch,
@@ -67,9 +85,9 @@ pub(crate) fn read_asking(alloc: Global, options: &FindOptions) -> Result<Asking
 }
 
 /// The document of a query or a sort, as the name tells; without a text it has no pairs.
-fn read_text(alloc: Global, name: &str, text: Option<&str>) -> Result<Document, AskingFault>
-    ensures document { IfOk result (λ d. ReadsText name.now (option_map (λ t. t.now) text.entry) (Ok (pairs d))) }
-    ensures fault { IfErr result (TellsAskingFault (ReadsText name.now (option_map (λ t. t.now) text.entry))) }
+fn read_text(alloc: Global, name: &str, text: &Option<String>) -> Result<Document, AskingFault>
+    ensures document { IfOk result (λ d. ReadsText name.now (option_map string_bytes text.now) (Ok (pairs d))) }
+    ensures fault { IfErr result (TellsAskingFault (ReadsText name.now (option_map string_bytes text.now))) }
 {
     let Some(text) = text else {
         return Ok(Document::new(alloc));
@@ -112,37 +130,36 @@ fn read_request(
     sort: Document,
     options: &FindOptions,
 ) -> Result<Request, AskingFault>
-    ensures request { IfOk result (AsksFor (pairs query) (pairs sort) options.now.skip options.now.limit) }
-    ensures fits { OnOk result (fits_batch options.now.batch ≡ true) }
-    ensures fault { IfErr result (TellsAskingFault (AsksInDocuments (find_words_of options.now) (pairs query) (pairs sort))) }
+    ensures request { IfOk result (λ r. request_of (pairs query) (pairs sort) options.now.skip options.now.limit ≡ Ok (request_view r)) }
+    ensures fault { IfErr result (TellsReason (request_of (pairs query) (pairs sort) options.now.skip options.now.limit)) }
 {
     let (skip, limit) = (u64::from(options.skip), u64::from(options.limit));
-    let request = match Request::new(alloc, query, sort, skip, limit) {
-        Ok(request) => request,
-        Err(refused) => return Err(told(alloc, &refused)),
+    match Request::new(alloc, query, sort, skip, limit) {
+        Ok(request) => Ok(request),
+        Err(refused) => Err(told(alloc, &refused)),
+    }
+}
+
+/// Refuses a batch that may not have that size.
+fn check_batch(alloc: Global, size: Option<u32>) -> Result<(), AskingFault>
+    ensures fits { OnOk result (fits_batch size ≡ true) }
+    ensures fault { IfErr result (TellsReason (batch_part size)) }
+{
+    let Some(size) = size else {
+        return Ok(());
     };
-    if is_batch(options.batch) {
-        Ok(request)
+    if u64::from(size) <= GREATEST_COUNT {
+        Ok(())
     } else {
         Err(told(alloc, &Refused::Range))
     }
 }
 
-/// Whether a batch may have that size.
-fn is_batch(size: Option<u32>) -> bool
-    ensures { result ≡ fits_batch size }
-{
-    match size {
-        Some(size) => u64::from(size) <= GREATEST_COUNT,
-        None => true,
-    }
-}
-
 /// The path of an index's text, where there is one.
-fn read_index(alloc: Global, text: Option<&str>) -> Result<Option<Path>, AskingFault>
-    ensures path { OnOk result (NamesIndex (option_map (λ t. t.now) text.entry) (Ok tt)) }
-    ensures text { IfOk result (λ index. option_map (λ path. string_bytes path.text) index ≡ option_map (λ t. t.now) text.entry) }
-    ensures fault { IfErr result (TellsAskingFault (NamesIndex (option_map (λ t. t.now) text.entry))) }
+fn read_index(alloc: Global, text: &Option<String>) -> Result<Option<Path>, AskingFault>
+    ensures path { OnOk result (named_index (option_map string_bytes text.now) ≡ Ok tt) }
+    ensures text { IfOk result (λ index. option_map (λ path. string_bytes path.text) index ≡ option_map string_bytes text.now) }
+    ensures fault { IfErr result (TellsAskingFault (λ told. told_as index_fault_text (named_index (option_map string_bytes text.now)) ≡ told)) }
 {
     let Some(text) = text else {
         return Ok(None);
@@ -150,31 +167,24 @@ fn read_index(alloc: Global, text: Option<&str>) -> Result<Option<Path>, AskingF
     match Path::parse(alloc, text) {
         Ok(path) => Ok(Some(path)),
         Err(PathFault::NoMemory) => Err(AskingFault::NoMemory),
-        Err(fault) => Err(AskingFault::Message(index_message(alloc, fault)?)),
+        Err(fault) => {
+            let message = option_message(alloc, "index: ", fault.words())?;
+            Err(AskingFault::Message(message))
+        }
     }
 }
 
-/// The message of an index's text that is no path.
-fn index_message(alloc: Global, fault: PathFault) -> Result<Vec<u8>, NoMemory>
-    ensures { IfOk result (λ v. v.items ≡ index_fault_text fault) }
-{
-    let mut message = Vec::new(alloc);
-    message.extend_from_slice(b"index: ")?;
-    message.extend_from_slice(fault.words().as_bytes())?;
-    Ok(message)
-}
-
 /// The token of a text, where there is one.
-fn read_token(alloc: Global, text: Option<&str>) -> Result<Option<Token>, AskingFault>
-    ensures token { IfOk result (λ token. ReadsToken (option_map (λ t. t.now) text.entry) (Ok token)) }
-    ensures fault { IfErr result (TellsAskingFault (ReadsToken (option_map (λ t. t.now) text.entry))) }
+fn read_token(alloc: Global, text: &Option<String>) -> Result<Option<Token>, AskingFault>
+    ensures token { IfOk result (λ token. after_part (option_map string_bytes text.now) ≡ Ok token) }
+    ensures fault { IfErr result (TellsReason (after_part (option_map string_bytes text.now))) }
 {
     let Some(text) = text else {
         return Ok(None);
     };
     match Token::parse(text) {
         Ok(token) => Ok(Some(token)),
-        Err(refused) => Err(told(alloc, &refused)),
+        Err(refusal) => Err(told(alloc, &refusal)),
     }
 }
 
@@ -193,7 +203,7 @@ fn told(alloc: Global, refused: &Refused) -> AskingFault
 
 /// The message of a refusal.
 pub(crate) fn refused_message(alloc: Global, refused: &Refused) -> Result<Vec<u8>, NoMemory>
-    ensures { IfOk result (λ v. v.items ≡ refused_text refused.now) }
+    ensures { IfOk result (λ v. v.items ≡ refused_text (reason_of refused.now)) }
 {
     let option = match refused {
         Refused::BadFilter(fault) => return filter_message(alloc, fault),
@@ -201,9 +211,16 @@ pub(crate) fn refused_message(alloc: Global, refused: &Refused) -> Result<Vec<u8
         Refused::BadToken | Refused::ForeignToken | Refused::TokenPlace => "token: ",
         _ => "",
     };
+    option_message(alloc, option, refused.words())
+}
+
+/// The message of an option: its name, and what is wrong with it.
+fn option_message(alloc: Global, option: &str, words: &str) -> Result<Vec<u8>, NoMemory>
+    ensures { IfOk result (λ v. v.items ≡ option.now ++ words.now) }
+{
     let mut message = Vec::new(alloc);
     message.extend_from_slice(option.as_bytes())?;
-    message.extend_from_slice(refused.words().as_bytes())?;
+    message.extend_from_slice(words.as_bytes())?;
     Ok(message)
 }
 

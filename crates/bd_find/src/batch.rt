@@ -6,12 +6,13 @@ ghost use Rattle.bd_answer.specs.SessionLaws.{new_state};
 ghost use Rattle.bd_bson.specs.Collection.{bytes_of, documents};
 ghost use Rattle.bd_sort.specs.Selection.{query_of};
 ghost use Rattle.bd_cursor.specs.SessionView.{dump_of, hint_of, marked_token, state_of};
+ghost use Rattle.bd_request.specs.Refused.{reason_of};
 ghost use Rattle.bd_request.specs.declared.refused.Refused.TheVariants.{NoMemory as no_memory};
-ghost use Rattle.bd_find.specs.Find.{IsShownOfDump, end_words, find_count_line, shown_batch, token_words};
+ghost use Rattle.bd_find.specs.Find.{end_words, find_count_line, shown_batch, shown_of_dump, token_words};
 ghost use Rattle.bd_find.specs.Asking.{fits_batch, refused_text, page_request_of};
 ghost use Rattle.bd_find.specs.Batch.{AwaitsFirst, IsOpenedOn, IsReady};
 ghost use Rattle.bd_files.specs.Outcome.{PrintsOrStarves, TellsMessage};
-ghost use Rattle.bd_files.specs.Transcript.{Transcript, error_line};
+ghost use Rattle.bd_files.specs.Transcript.{error_line};
 ghost use Rattle.bd_files.specs.declared.status.Status.TheVariants.{Done, Failed};
 ghost use Rattle.bd_device.specs.Devices.{over};
 
@@ -38,8 +39,8 @@ pub(crate) fn show_found<O: Output, E: Output>(
 ) -> Status
     requires few { length (documents dump) ≤ greatest_count }
     requires fits { fits_batch asking.size ≡ true }
-    ensures { (shown : Transcript) × IsShownOfDump (bytes_of dump) (documents dump) (page_request_of asking) shown
-        × PrintsOrStarves (over O.state out.old out.new) (over E.state err.old err.new) shown result }
+    ensures { PrintsOrStarves (over O.state out.old out.new) (over E.state err.old err.new)
+        (shown_of_dump (bytes_of dump) (documents dump) (page_request_of asking)) result }
 {
     let size = asking.size;
     let mut session = Session::new(alloc, dump);
@@ -164,7 +165,7 @@ fn write_token(alloc: Global, token: Option<Token>, line: &mut Vec<u8>) -> Resul
 
 /// Tells why no cursor was opened.
 fn tell_refused<E: Output>(alloc: Global, refused: &Refused, err: &mut E) -> Status
-    ensures { TellsMessage (over E.state err.old err.new) (error_line (refused_text refused.now)) Failed result
+    ensures { TellsMessage (over E.state err.old err.new) (error_line (refused_text (reason_of refused.now))) Failed result
         ⊎ TellsMessage (over E.state err.old err.new) (error_line (codes "no memory")) Failed result }
 {
     match refused_message(alloc, refused) {

@@ -9,10 +9,8 @@ use Rattle.bd_diagnose.specs.declared.json_fault.JsonFaultKind.{JsonFaultKind}
 use Rattle.bd_diagnose.specs.declared.json_fault.JsonFaultKind.TheVariants as json
 use Rattle.bd_path.specs.PathFault.{path_fault_number, path_fault_words}
 use Rattle.bd_path.specs.declared.path_fault.PathFault.{PathFault}
-use Rattle.bd_filter.specs.Fault.{Refusal, filter_fault_number, filter_fault_words, refusal_of}
-use Rattle.bd_request.specs.Refused.{refused_number, refused_words}
-use Rattle.bd_request.specs.declared.refused.Refused.{Refused}
-use Rattle.bd_request.specs.declared.refused.Refused.TheVariants as reasons
+use Rattle.bd_filter.specs.Fault.{Refusal, filter_fault_number, filter_fault_words}
+use Rattle.bd_request.specs.Refused.{Reason, bad_filter, plain, refused_number, refused_words}
 use Rattle.bd_command.specs.Fault.{command_fault_number, command_fault_words}
 use Rattle.bd_command.specs.declared.fault.CommandFault.{CommandFault}
 use Rattle.bd_reply.specs.Reply.{ToldRefusal, count_value, text_value}
@@ -54,6 +52,6 @@ path_refusal f = record { layer = codes "path"; number = path_fault_number f; wo
 
 -- ---- a call that a session refuses, a request, or a text that is no token; of a filter its own fault is told
 
-abbrev pub session_refusal : Refused → ToldRefusal
-session_refusal (reasons.BadFilter fault) = filter_refusal (refusal_of fault)
-session_refusal r = record { layer = codes "session"; number = refused_number r; words = refused_words r; place = [] }
+abbrev pub session_refusal : Reason → ToldRefusal
+session_refusal (bad_filter r) = filter_refusal r
+session_refusal (plain r) = record { layer = codes "session"; number = refused_number r; words = refused_words r; place = [] }

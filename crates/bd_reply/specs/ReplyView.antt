@@ -1,6 +1,7 @@
 -- The reply that one in memory stands for.
 use Rattle.std.specs.Prelude.{List, option_map}
 use Rattle.bd_value.specs.Tree.{Doc}
+use Rattle.bd_request.specs.Refused.{reason_of}
 use Rattle.bd_request.specs.Results.{made_counts, told}
 use Rattle.bd_request.specs.Token.{token_text}
 use Rattle.bd_bson.specs.Documents.{documents_at}
@@ -16,7 +17,7 @@ abbrev pub told_refusal : LineRefusal → ToldRefusal
 told_refusal (refusals.Json fault) = json_refusal fault
 told_refusal (refusals.Command fault) = command_refusal fault
 told_refusal (refusals.Path fault) = path_refusal fault
-told_refusal (refusals.Session refused) = session_refusal refused
+told_refusal (refusals.Session refused) = session_refusal (reason_of refused)
 
 -- a batch of these documents
 abbrev pub given_reply : List Doc → Batch → LineReply

@@ -1,7 +1,7 @@
 -- Why a call is refused, in words and by its number.
-use Rattle.std.specs.Prelude.{◌≡◌, ◌⊎◌, ℕ, List, Result, Err, codes}
+use Rattle.std.specs.Prelude.{◌≡◌, ◌⊎◌, ℕ, List, Result, Ok, Err, codes}
+use Rattle.std.specs.Result.{result_map_both}
 use Rattle.bd_filter.specs.Fault.{Refusal, filter_fault_words, refusal_of}
-use Rattle.bd_filter.specs.Filter.{Filter}
 use Rattle.bd_request.specs.declared.refused.Refused.{Refused}
 use Rattle.bd_request.specs.declared.refused.Refused.TheVariants as reasons
 
@@ -33,12 +33,28 @@ refused_number reasons.Range = 10
 refused_number reasons.NoMemory = 11
 refused_number (reasons.BadFilter fault) = 12
 
+-- the reason of a refusal: that of a filter as its definition has it
+pub data Reason : Type 0 where
+  bad_filter : Refusal → Reason
+  plain : Refused → Reason
+
+abbrev pub reason_of : Refused → Reason
+reason_of (reasons.BadFilter fault) = bad_filter (refusal_of fault)
+reason_of refused = plain refused
+
+-- a part of what is asked for is what it stands for, or it is refused for a reason; the part after it counts where it is not
+abbrev pub then_part : {A B Why : Type 0} → Result A Why → (A → Result B Why) → Result B Why
+then_part (Ok x) next = next x
+then_part (Err why) next = Err why
+
+-- a part whose reason is told so
+abbrev pub told_as : {A Why Told : Type 0} → (Why → Told) → Result A Why → Result A Told
+told_as told part = result_map_both (λ x. x) told part
+
 -- it is refused for this, and that holds, unless memory ran out
 abbrev pub IsRefusedAs : Refused → Refused → Type 0 → Type 0
 IsRefusedAs refused reason Holds = (refused ≡ reasons.NoMemory) ⊎ ((refused ≡ reason) × Holds)
 
--- it is that of the filter, unless memory ran out
-abbrev pub TellsFilter : Result Filter Refusal → Refused → Type 0
-TellsFilter part (reasons.BadFilter fault) = part ≡ Err (refusal_of fault)
-TellsFilter part reasons.NoMemory = Unit {0}
-TellsFilter part _ = ⊥
+-- it is refused for this reason, unless memory ran out
+abbrev pub IsRefusedPart : {A : Type 0} → Result A Reason → Refused → Type 0
+IsRefusedPart part refused = (refused ≡ reasons.NoMemory) ⊎ (part ≡ Err (reason_of refused))

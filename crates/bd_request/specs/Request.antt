@@ -1,21 +1,25 @@
 -- What is asked of a dump, and the text that its tokens are tied to.
-use Rattle.std.specs.Prelude.{◌≡◌, ◌<◌, ◌≤◌, ◌⊎◌, ℕ, ℤ, pos, negsuc, List, ◌++◌, codes, decimal, map, Option, Some, None, Ok, Err}
+use Rattle.std.specs.Prelude.{ℕ, nat_le, ◌&&◌, ℤ, pos, negsuc, List, ◌++◌, codes, decimal, map, Option, Some, None, Result, Ok, Err, if◌then◌else◌}
+use Rattle.std.specs.Option.{ok_or}
 use Rattle.bd_value.specs.Limits.{greatest_count}
 use Rattle.bd_value.specs.Tree as trees
 use Rattle.bd_value.specs.Tree.{Tree, Doc, doc, fields_of, leaf}
 use Rattle.bd_text.specs.Text.{text}
 use Rattle.bd_path.specs.Earliest.{SortPath}
+use Rattle.bd_path.specs.Path.{path_of}
 use Rattle.bd_path.specs.Sort.{sort_paths}
 use Rattle.bd_path.specs.declared.dir.Dir.{Dir}
 use Rattle.bd_path.specs.declared.dir.Dir.TheVariants.{Up, Down}
-use Rattle.bd_filter.specs.Fault.{refusal_of}
+use Rattle.bd_path.specs.declared.path_fault.PathFault.{PathFault}
 use Rattle.bd_filter.specs.Filter.{Filter}
 use Rattle.bd_filter.specs.FilterOf.{filter_of}
 use Rattle.bd_filter.specs.FilterView.{filter_tree}
 use Rattle.bd_request.specs.Sort.{direction_of, sort_of}
-use Rattle.bd_request.specs.declared.refused.Refused.{Refused}
+use Rattle.bd_request.specs.Refused.{Reason, bad_filter, plain, then_part, told_as}
+use Rattle.bd_request.specs.Token.{token_of}
 use Rattle.bd_request.specs.declared.refused.Refused.TheVariants as reasons
-use Rattle.bd_request.specs.declared.request.Request.{Request}
+use Rattle.bd_request.specs.declared.request.Request as declared
+use Rattle.bd_request.specs.declared.token.Token.{Token}
 
 -- directions are written as numbers of 32 bits
 abbrev pub direction_number : Option Dir → ℤ
@@ -32,25 +36,40 @@ request_text filter sort skip limit =
     codes "{\"filter\":" ++ (text (doc (fields_of filter)) ++ (codes ",\"sort\":" ++ (text (doc (fields_of (sort_written sort)))
     ++ (codes ",\"skip\":" ++ (decimal skip ++ (codes ",\"limit\":" ++ (decimal limit ++ codes "}")))))))
 
--- a request is asked for
-pub record AsksFor (filter sort : Doc) (skip limit : ℕ) (request : Request) : Type 0 where
-  pub filter_is : filter_of filter ≡ Ok (filter_tree request.filter)
-  pub sort_is : sort_of sort ≡ Some (sort_paths request.sort.items)
-  pub skip_is : (request.skip ≡ skip) × (skip ≤ greatest_count)
-  pub limit_is : (request.limit ≡ limit) × (limit ≤ greatest_count)
-  pub text_is : request.text.items ≡ request_text filter sort skip limit
+pub record Request : Type 0 where
+  pub filter : Filter
+  pub sorts : List SortPath
+  pub skip : ℕ
+  pub limit : ℕ
+  pub text : List ℕ
 
-abbrev pub IsFilter : Doc → Type 0
-IsFilter d = (f : Filter) × (filter_of d ≡ Ok f)
+abbrev pub request_with : Doc → Doc → ℕ → ℕ → Filter → List SortPath → Request
+request_with filter sort skip limit f ss =
+    record { filter = f; sorts = ss; skip = skip; limit = limit; text = request_text filter sort skip limit }
 
-abbrev pub IsSort : Doc → Type 0
-IsSort d = (ss : List SortPath) × (sort_of d ≡ Some ss)
+-- What documents and counts ask for, or why they ask for nothing: the filter is looked at first, then the sort, then the counts.
+abbrev pub request_of : Doc → Doc → ℕ → ℕ → Result Request Reason
+request_of filter sort skip limit =
+    then_part (told_as bad_filter (filter_of filter)) (λ f.
+    then_part (ok_or (sort_of sort) (plain reasons.BadSort)) (λ ss.
+    if nat_le skip greatest_count && nat_le limit greatest_count
+    then Ok (request_with filter sort skip limit f ss) else Err (plain reasons.Range)))
 
--- why none is: the filter is looked at first, then the sort, then the numbers
-abbrev pub RefusesRequest : Doc → Doc → ℕ → ℕ → Refused → Type 0
-RefusesRequest filter sort skip limit (reasons.BadFilter fault) = filter_of filter ≡ Err (refusal_of fault)
-RefusesRequest filter sort skip limit reasons.BadSort = IsFilter filter × (sort_of sort ≡ None)
-RefusesRequest filter sort skip limit reasons.Range =
-    IsFilter filter × IsSort sort × ((greatest_count < skip) ⊎ (greatest_count < limit))
-RefusesRequest filter sort skip limit reasons.NoMemory = Unit {0}
-RefusesRequest filter sort skip limit _ = ⊥
+-- the text that names an index, where there is one, is a path
+abbrev pub named_index : Option (List ℕ) → Result (Unit {0}) PathFault
+named_index None = Ok tt
+named_index (Some text) = then_part (path_of text) (λ _. Ok tt)
+
+-- the token that a text is
+abbrev pub token_part : List ℕ → Result Token Reason
+token_part text = ok_or (token_of text) (plain reasons.BadToken)
+
+-- one in memory
+abbrev pub request_view : declared.Request → Request
+request_view r = record {
+  filter = filter_tree r.filter;
+  sorts = sort_paths r.sort.items;
+  skip = r.skip;
+  limit = r.limit;
+  text = r.text.items;
+}

@@ -5,8 +5,8 @@ ghost use Rattle.bd_value.specs.Tree.{int32, leaf};
 ghost use Rattle.bd_value.specs.View.{pairs, tree_of};
 ghost use Rattle.bd_filter.specs.FilterOf.{filter_of};
 ghost use Rattle.bd_filter.specs.FilterView.{filter_tree};
-ghost use Rattle.bd_request.specs.Request.{AsksFor, RefusesRequest, direction_number, request_text, sort_written};
-ghost use Rattle.bd_request.specs.Refused.{TellsFilter};
+ghost use Rattle.bd_request.specs.Request.{direction_number, request_of, request_text, request_view, sort_written};
+ghost use Rattle.bd_request.specs.Refused.{IsRefusedPart, bad_filter, told_as};
 ghost use Rattle.bd_request.specs.Sort.{direction_of};
 
 use crate::refused::Refused;
@@ -46,8 +46,8 @@ impl Request {
         skip: u64,
         limit: u64,
     ) -> Result<Request, Refused>
-        ensures request { IfOk result (AsksFor (pairs filter) (pairs sort) skip limit) }
-        ensures refused { IfErr result (RefusesRequest (pairs filter) (pairs sort) skip limit) }
+        ensures request { IfOk result (λ r. request_of (pairs filter) (pairs sort) skip limit ≡ Ok (request_view r)) }
+        ensures refused { IfErr result (IsRefusedPart (request_of (pairs filter) (pairs sort) skip limit)) }
     {
         let parsed = read_filter(alloc, &filter)?;
         let pairs = read_sort(alloc, &sort)?;
@@ -68,7 +68,7 @@ impl Request {
 /// The filter of a document.
 fn read_filter(alloc: Global, document: &Document) -> Result<Filter, Refused>
     ensures filter { IfOk result (λ f. filter_of (pairs document.now) ≡ Ok (filter_tree f)) }
-    ensures fault { IfErr result (TellsFilter (filter_of (pairs document.now))) }
+    ensures fault { IfErr result (IsRefusedPart (told_as bad_filter (filter_of (pairs document.now)))) }
 {
     match parse(alloc, document) {
         Ok(filter) => Ok(filter),

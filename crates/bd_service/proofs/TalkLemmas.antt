@@ -6,7 +6,7 @@ use Rattle.std.specs.Result.{result_ok}
 use Rattle.std.proofs.lemmas.List.{map-append}
 use Rattle.bd_value.specs.Tree.{Doc}
 use Rattle.bd_answer.specs.Session as machine
-use Rattle.bd_answer.specs.Session.{Call, GivenBatch, MarkedToken, Query, State, find_call, gave, next_call, resume_call, state_after, kill_call, make_call, drop_call, explain_call, opened}
+use Rattle.bd_answer.specs.Session.{Call, GivenBatch, MarkedToken, Query, State, find_call, gave, next_call, resume_call, state_after, opened}
 use Rattle.bd_answer.specs.SessionLaws.{batch_in, batch_to, batches_to, new_state, replies, state_after_all}
 use Rattle.bd_answer.proofs.SessionLemmas.{find_gives, resume_gives}
 use Rattle.bd_extjson.specs.TextDocument.{reading}
@@ -45,20 +45,8 @@ moved s (Ok call) = refl
 moved s (Err why) = refl
 
 given_shown : (ds : List Doc) (r : machine.Reply) → given_in (shown_reply ds r) ≡ map (shown_batch_reply ds) (batch_in r)
-given_shown ds (machine.opened id) = refl
 given_shown ds (machine.gave b) = refl
-given_shown ds machine.killed = refl
-given_shown ds (machine.made counts) = refl
-given_shown ds machine.dropped = refl
-given_shown ds (machine.explained e) = refl
-given_shown ds machine.no_index = refl
-given_shown ds machine.index_there = refl
-given_shown ds machine.too_many_indexes = refl
-given_shown ds machine.too_many_cursors = refl
-given_shown ds machine.no_cursor = refl
-given_shown ds machine.foreign_token = refl
-given_shown ds machine.token_place = refl
-given_shown ds machine.out_of_range = refl
+given_shown ds r = refl
 
 shown_to : (ds : List Doc) (id : ℕ) (b : Bool) (r : machine.Reply)
     → cond b (given_in (shown_reply ds r)) [] ≡ map (shown_batch_reply ds) (cond b (batch_in r) [])
@@ -67,13 +55,8 @@ shown_to ds id false r = refl
 
 call_shown : (ds : List Doc) (id : ℕ) (s : State) (call : Call)
     → batch_shown id (Some call) (shown_reply ds (machine.reply s call)) ≡ map (shown_batch_reply ds) (batch_to id call (machine.reply s call))
-call_shown ds id s (find_call q hint) = refl
-call_shown ds id s (resume_call q hint t) = refl
 call_shown ds id s (next_call i n) = shown_to ds id (i == id) (machine.reply s (next_call i n))
-call_shown ds id s (kill_call i) = refl
-call_shown ds id s (make_call i counts) = refl
-call_shown ds id s (drop_call path) = refl
-call_shown ds id s (explain_call hint explanation) = refl
+call_shown ds id s call = refl
 
 part_shown : (ds : List Doc) (id : ℕ) (s : State) (part : Result Call ToldRefusal)
     → batch_shown id (result_ok part) (reply_to ds s part) ≡ map (shown_batch_reply ds) (given_by_call id s (result_ok part))
@@ -135,19 +118,7 @@ opened_id _ = 0
 -- a reply of an opened cursor is the machine's
 opens_only : (ds : List Doc) (r : machine.Reply) (id : ℕ) → opens id ≡ shown_reply ds r → r ≡ opened id
 opens_only ds (machine.opened i) id e = ap (λ (r : LineReply). opened (opened_id r)) (sym e)
-opens_only ds (machine.gave b) id e = absurd (let h : ⊥ = cc in h)
-opens_only ds machine.killed id e = absurd (let h : ⊥ = cc in h)
-opens_only ds (machine.made counts) id e = absurd (let h : ⊥ = cc in h)
-opens_only ds machine.dropped id e = absurd (let h : ⊥ = cc in h)
-opens_only ds (machine.explained x) id e = absurd (let h : ⊥ = cc in h)
-opens_only ds machine.no_index id e = absurd (let h : ⊥ = cc in h)
-opens_only ds machine.index_there id e = absurd (let h : ⊥ = cc in h)
-opens_only ds machine.too_many_indexes id e = absurd (let h : ⊥ = cc in h)
-opens_only ds machine.too_many_cursors id e = absurd (let h : ⊥ = cc in h)
-opens_only ds machine.no_cursor id e = absurd (let h : ⊥ = cc in h)
-opens_only ds machine.foreign_token id e = absurd (let h : ⊥ = cc in h)
-opens_only ds machine.token_place id e = absurd (let h : ⊥ = cc in h)
-opens_only ds machine.out_of_range id e = absurd (let h : ⊥ = cc in h)
+opens_only ds r id e = absurd (let h : ⊥ = cc in h)
 
 ok_of : (part : Result Call ToldRefusal) (call : Call) → result_ok part ≡ Some call → part ≡ Ok call
 ok_of (Ok c) call e = ap (λ (o : Option Call). Ok (unwrap_or o c)) e

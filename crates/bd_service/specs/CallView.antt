@@ -1,19 +1,13 @@
 -- The call that one in memory stands for.
-use Rattle.std.specs.Prelude.{◌≡◌, ℕ, List, Result, Ok, Err, string_bytes}
+use Rattle.std.specs.Prelude.{◌≡◌, ℕ, List, Result, Err, string_bytes}
 use Rattle.bd_answer.specs.Session as machine
 use Rattle.bd_answer.specs.Session.{drop_call, find_call, kill_call, next_call, resume_call}
 use Rattle.bd_bson.specs.Collection.{bytes_of, documents}
 use Rattle.bd_bson.specs.declared.collection.Dump.{Dump}
 use Rattle.bd_sort.specs.Selection.{query_of}
-use Rattle.bd_cursor.specs.AccessPath.{way_of}
-use Rattle.bd_cursor.specs.declared.choice.Choice.{Choice}
 use Rattle.bd_cursor.specs.SessionView.{explain_request, hint_of, make_index, marked_token}
-use Rattle.bd_request.specs.Request.{AsksFor}
-use Rattle.bd_request.specs.declared.request.Request.{Request}
-use Rattle.bd_command.specs.Command.{FindCommand}
 use Rattle.bd_reply.specs.Reply.{ToldRefusal}
 use Rattle.bd_reply.specs.ReplyView.{told_refusal}
-use Rattle.bd_service.specs.CallOf.{hint_part, way_by}
 use Rattle.bd_service.specs.Talk.{IsCallIn}
 use Rattle.bd_service.specs.declared.call.Call.{Call}
 use Rattle.bd_service.specs.declared.call.Call.TheVariants as calls
@@ -34,12 +28,6 @@ session_call dump (calls.Explain request choice) = explain_request dump request 
 abbrev pub RefusesPart : {A : Type 0} → Result A ToldRefusal → CallFault → Type 0
 RefusesPart part faults.NoMemory = Unit {0}
 RefusesPart part (faults.Refused why) = part ≡ Err (told_refusal why)
-
--- a request and a choice are those of what is to be found
-pub record IsSearch (f : FindCommand) (request : Request) (choice : Choice) : Type 0 where
-  pub asks : AsksFor f.filter f.sort f.skip f.limit request
-  pub way_is : way_of choice ≡ way_by f.hint
-  pub is_there : hint_part f.hint ≡ Ok tt
 
 -- the line is no call for this reason, unless memory ran out
 abbrev pub RefusesLine : Dump → List ℕ → CallFault → Type 0

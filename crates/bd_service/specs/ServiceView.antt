@@ -1,20 +1,17 @@
 -- What a session in memory does at a call, and at a line.
-use Rattle.std.specs.Prelude.{◌≡◌, ◌≢◌, List, ℕ, Result, Ok, Err}
+use Rattle.std.specs.Prelude.{◌≡◌, List, ℕ, Result, Ok, Err}
 use Rattle.std.specs.declared.alloc.AllocError.{AllocError}
 use Rattle.bd_answer.specs.Session as machine
 use Rattle.bd_answer.specs.Session.{State, state_after}
 use Rattle.bd_bson.specs.Collection.{bytes_of, documents}
 use Rattle.bd_bson.specs.declared.collection.Dump.{Dump}
-use Rattle.bd_cursor.specs.SessionView.{dump_of, state_of}
+use Rattle.bd_cursor.specs.SessionView.{IsRefused, dump_of, state_of}
 use Rattle.bd_cursor.specs.declared.session.Session.{Session}
 use Rattle.bd_lines.specs.Serving as serving
 use Rattle.bd_request.specs.declared.refused.Refused.{Refused}
-use Rattle.bd_request.specs.declared.refused.Refused.TheVariants as reasons
 use Rattle.bd_reply.specs.Reply.{LineReply, reply_text}
 use Rattle.bd_reply.specs.ReplyView.{line_reply}
-use Rattle.bd_reply.specs.declared.refusal.LineRefusal.TheVariants as refusals
 use Rattle.bd_reply.specs.declared.reply.Reply.{Reply}
-use Rattle.bd_reply.specs.declared.reply.Reply.TheVariants as replies
 use Rattle.bd_service.specs.Talk.{Answers, shown_reply}
 use Rattle.bd_service.specs.declared.service.Service.{Service}
 
@@ -29,16 +26,10 @@ abbrev pub IsPerformed : machine.Call → Session → Result Reply AllocError �
 IsPerformed call old (Ok r) new = Performs call old r new
 IsPerformed call old (Err e) new = (state_of new ≡ state_of old) × (dump_of new ≡ dump_of old)
 
--- the reply tells this refusal; want of memory has none
-abbrev pub TellsRefusal : Refused → Result Reply AllocError → Type 0
-TellsRefusal why (Ok r) = (r ≡ replies.Refused (refusals.Session why)) × (why ≢ reasons.NoMemory)
-TellsRefusal why (Err e) = why ≡ reasons.NoMemory
-
--- the reply tells what a call gave, or why it was refused
-abbrev pub Tells : {A : Type 0} → (A → Reply) → Result A Refused → Result Reply AllocError → Type 0
-Tells told (Ok v) (Ok r) = r ≡ told v
-Tells told (Ok v) (Err e) = ⊥
-Tells told (Err why) result = TellsRefusal why result
+-- the reply of a call that was made, or why the session refuses it, and then nothing changes
+abbrev pub IsAnswered : machine.Call → Session → Result Reply Refused → Session → Type 0
+IsAnswered call old (Ok r) new = Performs call old r new
+IsAnswered call old (Err why) new = IsRefused why call old new
 
 abbrev pub service_state : Service → State
 service_state s = state_of s.session

@@ -8,6 +8,7 @@ use Rattle.bd_extjson.specs.TextDocument.{ReadsAs, reading}
 use Rattle.bd_answer.specs.Session as machine
 use Rattle.bd_answer.specs.Session.{Call, State, state_after}
 use Rattle.bd_bson.specs.Documents.{documents_at}
+use Rattle.bd_request.specs.Refused.{plain}
 use Rattle.bd_request.specs.Results.{marked_text}
 use Rattle.bd_request.specs.declared.refused.Refused.TheVariants as reasons
 use Rattle.bd_reply.specs.Refusal.{json_refusal, session_refusal}
@@ -22,14 +23,14 @@ shown_reply ds machine.killed = done
 shown_reply ds (machine.made counts) = makes counts
 shown_reply ds machine.dropped = done
 shown_reply ds (machine.explained e) = explains e
-shown_reply ds machine.no_index = refuses (session_refusal reasons.NoIndex)
-shown_reply ds machine.index_there = refuses (session_refusal reasons.IndexThere)
-shown_reply ds machine.too_many_indexes = refuses (session_refusal reasons.TooManyIndexes)
-shown_reply ds machine.too_many_cursors = refuses (session_refusal reasons.TooManyCursors)
-shown_reply ds machine.no_cursor = refuses (session_refusal reasons.NoCursor)
-shown_reply ds machine.foreign_token = refuses (session_refusal reasons.ForeignToken)
-shown_reply ds machine.token_place = refuses (session_refusal reasons.TokenPlace)
-shown_reply ds machine.out_of_range = refuses (session_refusal reasons.Range)
+shown_reply ds machine.no_index = refuses (session_refusal (plain reasons.NoIndex))
+shown_reply ds machine.index_there = refuses (session_refusal (plain reasons.IndexThere))
+shown_reply ds machine.too_many_indexes = refuses (session_refusal (plain reasons.TooManyIndexes))
+shown_reply ds machine.too_many_cursors = refuses (session_refusal (plain reasons.TooManyCursors))
+shown_reply ds machine.no_cursor = refuses (session_refusal (plain reasons.NoCursor))
+shown_reply ds machine.foreign_token = refuses (session_refusal (plain reasons.ForeignToken))
+shown_reply ds machine.token_place = refuses (session_refusal (plain reasons.TokenPlace))
+shown_reply ds machine.out_of_range = refuses (session_refusal (plain reasons.Range))
 
 -- ---- one line
 

@@ -6,12 +6,13 @@ ghost use Rattle.bd_bson.specs.Collection.{bytes_of, documents};
 ghost use Rattle.bd_bson.specs.declared.collection.Dump.{Dump};
 ghost use Rattle.bd_command.specs.CommandView.{command_tree, find_tree, hint_tree};
 ghost use Rattle.bd_cursor.specs.AccessPath.{way_of};
-ghost use Rattle.bd_cursor.specs.SessionView.{marked_token};
 ghost use Rattle.bd_path.specs.Path.{path_of};
-ghost use Rattle.bd_request.specs.Request.{AsksFor};
-ghost use Rattle.bd_request.specs.Token.{token_of};
-ghost use Rattle.bd_service.specs.CallOf.{call_of, hint_part, path_part, request_part, search_of, token_part, way_by};
-ghost use Rattle.bd_service.specs.CallView.{IsSearch, RefusesPart, session_call};
+ghost use Rattle.bd_path.specs.PathNames.{names_of};
+ghost use Rattle.bd_reply.specs.Refusal.{path_refusal, session_refusal};
+ghost use Rattle.bd_request.specs.Refused.{told_as};
+ghost use Rattle.bd_request.specs.Request.{named_index, request_of, request_view, token_part};
+ghost use Rattle.bd_service.specs.CallOf.{call_of, hint_path, search_of, way_by};
+ghost use Rattle.bd_service.specs.CallView.{RefusesPart, session_call};
 
 use crate::call::Call;
 use crate::call_fault::CallFault;
@@ -57,7 +58,8 @@ pub(crate) fn call_of(alloc: Global, command: Command) -> Result<Call, CallFault
 
 /// The request of what is to be found, and how.
 fn read_search(alloc: Global, find: FindCommand) -> Result<(Request, Choice), CallFault>
-    ensures search { IfOk result (λ found. IsSearch (find_tree find) found.0 found.1) }
+    ensures search { IfOk result (λ found. search_of (find_tree find) ≡ Ok (request_view found.0)) }
+    ensures way { IfOk result (λ found. way_of found.1 ≡ way_by (hint_tree find.hint)) }
     ensures fault { IfErr result (RefusesPart (search_of (find_tree find))) }
 {
     let FindCommand {
@@ -80,8 +82,8 @@ fn read_request(
     skip: u64,
     limit: u64,
 ) -> Result<Request, CallFault>
-    ensures request { IfOk result (AsksFor (pairs filter) (pairs sort) skip limit) }
-    ensures fault { IfErr result (RefusesPart (request_part (pairs filter) (pairs sort) skip limit)) }
+    ensures request { IfOk result (λ r. request_of (pairs filter) (pairs sort) skip limit ≡ Ok (request_view r)) }
+    ensures fault { IfErr result (RefusesPart (told_as session_refusal (request_of (pairs filter) (pairs sort) skip limit))) }
 {
     match Request::new(alloc, filter, sort, skip, limit) {
         Ok(request) => Ok(request),
@@ -93,8 +95,8 @@ fn read_request(
 /// How documents are to be found.
 fn read_choice(alloc: Global, hint: Hint) -> Result<Choice, CallFault>
     ensures choice { IfOk result (λ choice. way_of choice ≡ way_by (hint_tree hint)) }
-    ensures there { OnOk result (hint_part (hint_tree hint) ≡ Ok tt) }
-    ensures fault { IfErr result (RefusesPart (hint_part (hint_tree hint))) }
+    ensures there { OnOk result (named_index (hint_path (hint_tree hint)) ≡ Ok tt) }
+    ensures fault { IfErr result (RefusesPart (told_as path_refusal (named_index (hint_path (hint_tree hint))))) }
 {
     match hint {
         Hint::Auto => Ok(Choice::Auto),
@@ -108,9 +110,9 @@ fn read_choice(alloc: Global, hint: Hint) -> Result<Choice, CallFault>
 
 /// The path of an index.
 fn read_path(alloc: Global, text: &str) -> Result<Path, CallFault>
-    ensures path { OnOk result (path_part (path_of text.now) ≡ Ok tt) }
+    ensures path { IfOk result (λ path. path_of text.now ≡ Ok (names_of path)) }
     ensures text { IfOk result (λ path. string_bytes path.text ≡ text.now) }
-    ensures fault { IfErr result (RefusesPart (path_part (path_of text.now))) }
+    ensures fault { IfErr result (RefusesPart (told_as path_refusal (path_of text.now))) }
 {
     match Path::parse(alloc, text) {
         Ok(path) => Ok(path),
@@ -121,8 +123,8 @@ fn read_path(alloc: Global, text: &str) -> Result<Path, CallFault>
 
 /// The token of a text.
 fn read_token(text: &str) -> Result<Token, CallFault>
-    ensures token { IfOk result (λ t. token_part (token_of text.now) ≡ Ok (marked_token t)) }
-    ensures fault { IfErr result (RefusesPart (token_part (token_of text.now))) }
+    ensures token { IfOk result (λ t. token_part text.now ≡ Ok t) }
+    ensures fault { IfErr result (RefusesPart (told_as session_refusal (token_part text.now))) }
 {
     match Token::parse(text) {
         Ok(token) => Ok(token),

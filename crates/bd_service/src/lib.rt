@@ -14,15 +14,15 @@
 //! - `service`: `Service`, which replies to a line: `specs/ServiceView.antt`.
 //! - `call_of`: the call of a session that a command is: `specs/CallOf.antt`, and `specs/CallView.antt` for `call` and
 //!   `call_fault`.
-//! - `performing`: a call made.
+//! - `call_reply`: a call made, and its reply.
 //! - `laws`: what always holds of a talk: `specs/TalkLaws.antt`.
 #![tactic(auto)]
 
 mod call;
 mod call_fault;
 mod call_of;
+mod call_reply;
 mod laws;
-mod performing;
 mod service;
 
 pub use laws::{replies_go_on, talks_keep_to_the_answer, texts_are_talks};

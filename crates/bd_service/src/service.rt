@@ -8,8 +8,9 @@ ghost use Rattle.bd_value.specs.View.{pairs};
 ghost use Rattle.bd_command.specs.CommandOf.{command_of};
 ghost use Rattle.bd_command.specs.CommandView.{command_tree};
 ghost use Rattle.bd_extjson.specs.TextDocument.{ReadsAs};
+ghost use Rattle.bd_reply.specs.Refusal.{command_refusal};
 ghost use Rattle.bd_reply.specs.ReplyView.{line_reply};
-ghost use Rattle.bd_service.specs.CallOf.{command_part};
+ghost use Rattle.bd_request.specs.Refused.{told_as};
 ghost use Rattle.bd_service.specs.CallView.{RefusesLine, RefusesPart, session_call};
 ghost use Rattle.bd_service.specs.ServiceView.{KeepsState, RepliesTo, LeavesStarved, service_dump, service_state};
 ghost use Rattle.bd_service.specs.Talk.{Answers, IsCallIn};
@@ -17,7 +18,7 @@ ghost use Rattle.bd_service.specs.Talk.{Answers, IsCallIn};
 use crate::call::Call;
 use crate::call_fault::CallFault;
 use crate::call_of::call_of;
-use crate::performing::perform;
+use crate::call_reply::perform;
 use bd_bson::Dump;
 use bd_command::{Command, CommandFault, read_command};
 use bd_cursor::Session;
@@ -110,7 +111,7 @@ fn read_line(alloc: Global, line: &[u8]) -> Result<Document, CallFault>
 /// The command that a document is.
 fn command_in(alloc: Global, document: &Document) -> Result<Command, CallFault>
     ensures command { IfOk result (λ c. command_of (pairs document.now) ≡ Ok (command_tree c)) }
-    ensures fault { IfErr result (RefusesPart (command_part (command_of (pairs document.now)))) }
+    ensures fault { IfErr result (RefusesPart (told_as command_refusal (command_of (pairs document.now)))) }
 {
     match read_command(alloc, document) {
         Ok(command) => Ok(command),

@@ -1,7 +1,7 @@
-use Rattle.std.proofs.Common.{List, ℕ, inr, refl, subst, ◌⊎◌}
+use Rattle.std.proofs.Common.{List, ℕ, inr, refl, subst}
 use Rattle.bd_bson.specs.Collection.{documents}
 use Rattle.bd_device.specs.Devices.{over}
-use Rattle.bd_cli.specs.Serve.{ServesToAFault, ServesToTheEnd}
+use Rattle.bd_cli.specs.Serve.{ServesDump}
 use Rattle.bd_cli.proofs.ServeLemmas.{fault_told}
 use Rattle.bd_cli.proofs.serve.serve_bytes.Goals as goal
 
@@ -14,8 +14,7 @@ returns-in-Ok g c =
       ds,
       c.in-Ok.ensures.dump.0,
       subst (λ (bytes : List ℕ).
-          ServesToTheEnd g.C.Input.state g.C.Input.read_gives bytes ds c.args.commands.now c.serve_dump.new.commands out err c.serve_dump.result
-          ⊎ ServesToAFault g.C.Input.state g.C.Input.read_gives bytes ds c.args.commands.now c.serve_dump.new.commands out err c.serve_dump.result)
+          ServesDump g.C.Input.state g.C.Input.read_gives bytes ds c.args.commands.now c.serve_dump.new.commands out err c.serve_dump.result)
           c.in-Ok.ensures.bytes c.serve_dump.ensures,
     ))
 

@@ -1,4 +1,4 @@
-use Rattle.std.proofs.Common.{◌≡◌, Ok, Err, length, refl, sym, ◌∙◌, subst, inr}
+use Rattle.std.proofs.Common.{Ok, Err, length, sym, ◌∙◌, subst}
 use Rattle.bd_bson.specs.Collection.{bytes_of, documents}
 use Rattle.bd_bson.specs.declared.collection.Dump.{Dump}
 use Rattle.bd_sort.specs.Selection.{query_of}
@@ -8,7 +8,7 @@ use Rattle.bd_find.proofs.BatchLemmas.{opened_ready}
 use Rattle.bd_find.proofs.batch.show_found.Goals as goal
 use Rattle.bd_find.specs.Find.{shown_batch}
 use Rattle.bd_find.specs.Asking.{page_request_of}
-use Rattle.bd_find.specs.Batch.{IsOpenedOn, IsReady, cursor_for, places_from}
+use Rattle.bd_find.specs.Batch.{IsOpenedOn, IsReady, cursor_for}
 use Rattle.bd_files.specs.Outcome.{PrintsOrStarves}
 use Rattle.bd_device.specs.Devices.{over}
 
@@ -22,18 +22,11 @@ show_batch-requires-clause-ready g c =
 pub returns-in-Ok : goal.returns-in-Ok
 returns-in-Ok g c =
     let q = query_of c.args.dump c.args.asking.request in
-    let w = page_request_of c.args.asking in
     let token = c.args.asking.token in
     let o : IsOpenedOn q token (state_of c.open_first.new.session) (Ok c.in-Ok.id) = rw c.in-Ok.is at (rw c.new-session.ensures.dump at c.open_first.ensures.opened) in
-    let back : Ok o.0 ≡ places_from q token = sym {b = Ok o.0} o.1 in
-    let shown = shown_batch c.args.asking.size (documents c.args.dump) (cursor_for 1 q token o.0) in (
-      shown,
-      inr (o.0, back, refl),
-      subst (λ (dump : Dump). PrintsOrStarves (over g.O.Output.state c.args.out.now c.show_batch.new.out)
-          (over g.E.Output.state c.args.err.now c.show_batch.new.err) (shown_batch c.args.asking.size (documents dump) (cursor_for 1 q token o.0))
-          c.show_batch.result) (c.open_first.ensures.dump ∙ c.new-session.ensures.dump)
-          (c.show_batch.ensures (cursor_for c.in-Ok.id q token o.0) o.2),
-    )
+    rw o.1 (subst (λ (dump : Dump). PrintsOrStarves (over g.O.Output.state c.args.out.now c.show_batch.new.out)
+    (over g.E.Output.state c.args.err.now c.show_batch.new.err) (shown_batch c.args.asking.size (documents dump) (cursor_for 1 q token o.0))
+    c.show_batch.result) (c.open_first.ensures.dump ∙ c.new-session.ensures.dump) (c.show_batch.ensures (cursor_for c.in-Ok.id q token o.0) o.2))
 
 pub returns : goal.returns
 returns g c =

@@ -1,6 +1,5 @@
 use Rattle.std.proofs.Common.{Ok, Err, [], List, ℕ, refl, inl, inr, subst}
 use Rattle.bd_files.proofs.DumpLemmas as runs
-use Rattle.bd_find.proofs.MessageLemmas as messages
 use Rattle.bd_find.proofs.find.find.Goals as goal
 use Rattle.bd_find.specs.Asking.{page_request_of}
 use Rattle.bd_files.specs.Outcome.{TellsMessage}
@@ -14,12 +13,11 @@ returns-in-Err-Message-clause-found g c =
     let none = rw c.in-Err-Message.field-0-is at c.in-Err-Message.ensures.fault in
     let text = rw c.in-Err-Message.field-0-is at c.deref.ensures.value in
     let told = subst (λ (text : List ℕ). TellsMessage (over g.E.Output.state c.args.err.now c.tell_error.new.err) (error_line text) Failed c.tell_error.result) text c.tell_error.ensures in
-    let refused = messages.refused _ (over g.R.Input.state c.args.input.now c.args.input.now) message refl none in
     inr (
       Ok [],
       shown_refusal message,
-      refused.0,
-      refused.1,
+      inl (message, none, refl),
+      (Err message, none, refl),
       inl (runs.refused (g.O.Output.state c.args.out.now) (g.E.Output.state c.args.err.now)
           (g.E.Output.state c.tell_error.new.err) message _ told),
     )
@@ -32,7 +30,7 @@ returns-in-Ok-read_input-clause-found g c =
       Ok c.in-Ok-read_input.bytes.items,
       s.0,
       inr (w, c.in-Ok.ensures.asking, c.in-Ok-read_input.ensures.input),
-      inr (w, c.in-Ok.ensures.asking, inr (c.in-Ok-read_input.bytes.items, refl, s.1)),
+      (Ok w, c.in-Ok.ensures.asking, s.1),
       s.2,
     )
 
@@ -47,7 +45,7 @@ returns-in-Err-clause-found g c =
       Err c.in-Err.fault,
       shown_refusal words,
       inr (w, c.in-Ok.ensures.asking, c.in-Err.ensures.input),
-      inr (w, c.in-Ok.ensures.asking, inl (words, refl, refl)),
+      (Ok w, c.in-Ok.ensures.asking, refl),
       runs.refused (g.O.Output.state c.args.out.now) (g.E.Output.state c.args.err.now)
           (g.E.Output.state c.tell_read_fault.new.err) _ _ c.tell_read_fault.ensures,
     )

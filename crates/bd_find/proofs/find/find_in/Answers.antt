@@ -1,9 +1,9 @@
-use Rattle.std.proofs.Common.{inr, subst, arith}
-use Rattle.bd_bson.specs.Collection.{documents}
+use Rattle.std.proofs.Common.{List, None, ap, subst, arith, ℕ}
+use Rattle.bd_bson.specs.Collection.{bytes_of, documents}
 use Rattle.bd_find.proofs.FindLemmas as finds
 use Rattle.bd_find.proofs.BatchLemmas.{five_each}
 use Rattle.bd_find.proofs.find.find_in.Goals as goal
-use Rattle.bd_find.specs.Find.{IsShownOfBytes, IsShownOfDump}
+use Rattle.bd_find.specs.Find.{IsShownOfBytes, shown_of_dump}
 use Rattle.bd_find.specs.Asking.{page_request_of}
 
 pub show_found-requires-clause-few : goal.show_found-requires-clause-few
@@ -15,9 +15,11 @@ show_found-requires-clause-few g c =
 pub returns-in-Ok : goal.returns-in-Ok
 returns-in-Ok g c =
     let ds = documents c.in-Ok.dump in
-    let s = c.show_found.ensures in
-    let w = page_request_of c.args.asking in
-    (s.0, inr (ds, c.in-Ok.ensures.dump.0, subst (λ bytes. IsShownOfDump bytes ds w s.0) c.in-Ok.ensures.bytes s.1), s.2)
+    let w = page_request_of c.args.asking in (
+      shown_of_dump (bytes_of c.in-Ok.dump) ds w,
+      (ds, None, c.in-Ok.ensures.dump.0, ap (λ (bytes : List ℕ). shown_of_dump bytes ds w) c.in-Ok.ensures.bytes),
+      c.show_found.ensures,
+    )
 
 pub returns-then-is_want_of_memory : goal.returns-then-is_want_of_memory
 returns-then-is_want_of_memory g c =
