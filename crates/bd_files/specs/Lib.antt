@@ -1,6 +1,5 @@
 pub mod Check
 pub mod Dump
-pub mod Ending
 pub mod Outcome
 pub mod Output
 pub mod Pack

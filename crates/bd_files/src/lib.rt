@@ -13,13 +13,12 @@
 //! ```
 //!
 //! - `dump`, `check`, `pack`: a command each: `specs/Dump.antt`, `specs/Check.antt`, `specs/Pack.antt`.
-//! - `walk`: the documents of a file, one after the other; `ending`: what comes after them.
+//! - `walk`: the documents of a file, one after the other.
 //! - `output`: what a run writes; `limits`, `status`: what a run reads at most, and how it ends.
 #![tactic(auto)]
 
 pub mod check;
 pub mod dump;
-mod ending;
 mod limits;
 pub mod output;
 pub mod pack;
