@@ -12,8 +12,8 @@ use Rattle.bd_check.specs.AnsweredFault.{fault_view}
 use Rattle.bd_check.proofs.FirstFaultLemmas.{IsBytes}
 use Rattle.bd_check.proofs.DumpLemmas.{joined_append, joined_once, joined_one, walk_on, walk_once}
 use Rattle.bd_stream.proofs.FrameLemmas.{cut_stuck}
-use Rattle.bd_files.specs.declared.ending.Ending.{Ending}
-use Rattle.bd_files.specs.declared.ending.Ending.TheVariants as endings
+use Rattle.bd_files.specs.declared.walk.Ending.{Ending}
+use Rattle.bd_files.specs.declared.walk.Ending.TheVariants as endings
 use Rattle.bd_files.specs.declared.output.fault.OutputFault.{OutputFault}
 use Rattle.bd_files.specs.declared.output.fault.OutputFault.TheVariants.{NoMemory, Unwritten}
 use Rattle.bd_files.specs.declared.status.Status.{Status}
@@ -21,11 +21,10 @@ use Rattle.bd_files.specs.declared.status.Status.TheVariants.{Failed}
 use Rattle.bd_files.specs.declared.walk.Walk.{Walk}
 use Rattle.bd_files.proofs.OutputLemmas.FaultLemmas.{lines-append}
 use Rattle.bd_files.specs.Dump.{DumpsInput, IsFrontOf, IsShownByDump, dump_count_line, shown_dump}
-use Rattle.bd_files.specs.Ending.{IsFaulty, ending_words}
 use Rattle.bd_files.specs.Outcome.{PrintsShown, TellsMessage}
 use Rattle.bd_files.specs.Output.Fault.{stop_words}
 use Rattle.bd_files.specs.Transcript.{Transcript, error_line, fault_text, lines, read_words, shown_refusal, wrong_line, wrong_status}
-use Rattle.bd_files.specs.Walk.{AreVisited, EndsWalk, StopsWalk, WalksDocuments, dump_texts, more_visited, none_visited}
+use Rattle.bd_files.specs.Walk.{AreVisited, EndsWalk, IsFaulty, StopsWalk, WalksDocuments, dump_texts, ending_words, more_visited, none_visited}
 use Rattle.bd_device.specs.Devices.{BreaksAfter, TakesText}
 
 -- the documents that were gone over, and their lines

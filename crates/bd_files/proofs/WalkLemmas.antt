@@ -1,7 +1,7 @@
 -- A walk over the documents of an input, step by step.
-use Rattle.std.proofs.Common.{inl, inr, ◌≡◌, ◌≤◌, ℕ, ◌+◌, ◌-◌, List, [], ◌∷◌, ◌++◌, length, length-take-le, map, append-nil, append_assoc, Option, Some, None}
-use Rattle.std.proofs.Common.{Ok, Err, refl, sym, ap, ap₂, ◌∙◌, subst, arith, length-append}
-use Rattle.std.specs.Prelude.{◌⊎◌, IfSome, Result, is_some, cond, string_bytes, MatchResult}
+use Rattle.std.proofs.Common.{inl, inr, ◌≡◌, ◌≤◌, ◌<◌, ℕ, ◌+◌, ◌-◌, List, [], ◌∷◌, ◌++◌, length, length-take-le, map, append-nil, append_assoc, Option, Some, None}
+use Rattle.std.proofs.Common.{Err, refl, sym, ap, ap₂, ◌∙◌, subst, arith, length-append}
+use Rattle.std.specs.Prelude.{◌⊎◌, IfSome, is_some, cond, string_bytes}
 use Rattle.std.specs.Io.KnownBytes.{Consumes, IsAtEnd}
 use Rattle.std.proofs.KnownBytes.{Appends-nil, Consumes-trans, Consumes-nil}
 use Rattle.std.proofs.lemmas.List.{take_at}
@@ -18,19 +18,18 @@ use Rattle.bd_check.specs.FirstFault.{first_fault}
 use Rattle.bd_check.specs.AnsweredFault.{TellsFault, fault_view}
 use Rattle.bd_check.specs.declared.fault.Fault as told
 use Rattle.bd_check.specs.declared.fault.FaultKind.TheVariants as kinds
-use Rattle.bd_stream.specs.NextDocument.{IsReason, ReadsDocument, held_bytes}
-use Rattle.bd_stream.specs.Stream.{AreFrames, HasNoFrame, IsCut, IsFrame, IsWithinOne}
+use Rattle.bd_stream.specs.NextDocument.{FailsToRead, IsReason, ReadsDocument, held_bytes}
+use Rattle.bd_stream.specs.Stream.{AreFrames, EndsWithinOne, HasNoFrame, IsFrame, IsWithinOne}
 use Rattle.bd_stream.specs.declared.doc_buffer.DocBuffer.{DocBuffer}
-use Rattle.bd_stream.specs.declared.doc_buffer.DocFault.{DocFault}
+use Rattle.bd_stream.specs.declared.doc_buffer.FrameFault.{FrameFault}
 use Rattle.bd_stream.specs.declared.doc_buffer.DocFault.TheVariants as faults
 use Rattle.bd_stream.proofs.FrameLemmas.{cut_within, frame_on, frame_within, frames_more}
 use Rattle.bd_files.specs.Check.{faulty_count}
-use Rattle.bd_files.specs.Ending.{IsEndingOf}
 use Rattle.bd_files.specs.Outcome.{StopsAt, StreamsInput}
 use Rattle.bd_files.specs.Output.Fault.{StopsWriting}
-use Rattle.bd_files.specs.Walk.{AreVisited, IsTextOf, StopsWalk, Texts, WalksDocuments, more_visited, none_visited}
-use Rattle.bd_files.specs.declared.ending.Ending.{Ending}
-use Rattle.bd_files.specs.declared.ending.Ending.TheVariants as endings
+use Rattle.bd_files.specs.Walk.{AreVisited, EndsWalk, IsTextOf, StopsWalk, Texts, WalksDocuments, more_visited, none_visited}
+use Rattle.bd_files.specs.declared.walk.Ending.{Ending}
+use Rattle.bd_files.specs.declared.walk.Ending.TheVariants as endings
 use Rattle.bd_files.specs.declared.output.fault.OutputFault.{OutputFault}
 use Rattle.bd_files.specs.declared.output.fault.OutputFault.TheVariants.{NoMemory, Unwritten}
 use Rattle.bd_files.proofs.OutputLemmas.FaultLemmas.{breaks_after, takes_both}
@@ -107,10 +106,9 @@ pub record Read (old new : Reader) (before after : DocBuffer) (bytes : List ℕ)
   pub fewer : after.left.turns ≤ before.left.turns
   pub many : before.left.turns - after.left.turns ≤ length bytes
 
-pub document_read : {R : Type 0} (state : R → Reader) (gives : R → Option (List ℕ) → R → Type 0) (before after : DocBuffer) (old new : R) (bytes : List ℕ)
-    → bytes ≡ held_bytes after → after.size ≤ length after.buffer.items → ReadsDocument state gives before after old new
-    → Read (state old) (state new) before after bytes
-document_read state gives before after old new bytes shown inside read =
+pub document_read : {R : Type 0} {state : R → Reader} {gives : R → Option (List ℕ) → R → Type 0} {before after : DocBuffer} {old new : R} {bytes : List ℕ}
+    → ReadsDocument state gives before after old new → bytes ≡ held_bytes after → after.size ≤ length after.buffer.items → Read (state old) (state new) before after bytes
+document_read {R} {state} {gives} {before} {after} {old} {new} {bytes} read shown inside =
     let size : length bytes ≡ after.size = ap (λ xs. length xs) shown ∙ length-take-le after.size after.buffer.items inside in
     let frame : IsFrame bytes = rw shown read.frame in
     let room = read.room in
@@ -191,6 +189,12 @@ module _ {texts : Texts} {old mid : Reader} {out_old out_mid : Writer} {buffer :
   within : (part : List ℕ) → length part ≤ buffer.left.bytes → length (s.given ++ part) ≤ longest_input
   within part le = let f = s.fits in let p = s.placed in omega (arith, length-append s.given part)
 
+  abbrev Ended : Reader → Ending → Type 0
+  Ended new ending = WalksDocuments texts (between old new) (between out_old out_mid) (record { count = buffer.number; bad = bad; ending = ending })
+
+  ends : (new : Reader) (ending : Ending) → EndsWalk texts (between old new) (length s.done) s.given ending → Ended new ending
+  ends new ending end = (s.done, s.given, s.text, s.visited, s.counted, s.bad_counted, end, s.wrote)
+
   -- the walk stands after its documents and a part of the next one
   module _ {new : Reader} {part : List ℕ} (g : Gives mid new buffer.left.bytes part) where
     at : StopsAt s.given part (between old new)
@@ -207,111 +211,77 @@ module _ {texts : Texts} {old mid : Reader} {out_old out_mid : Writer} {buffer :
     pub stops_by : (out_new : Writer) (v : Option Fault) (piece : List ℕ) (stopped : OutputFault) → IsFrame part → IsTextOf texts buffer.number buffer.place part v piece
         → StopsWriting piece (between out_mid out_new) stopped → StopsWalk texts (between old new) (between out_old out_new) stopped
     stops_by out_new v piece NoMemory is shows same = rw same starves
-    stops_by out_new v piece Unwritten is shows (broke, some) = (
-      s.done,
-      s.given,
-      s.text,
-      s.visited,
-      (v, part, piece, is, next_of part v piece shows, at, g.well ∙ s.well, breaks_after out_old out_mid out_new s.text piece s.wrote broke, some),
-    )
-
-    abbrev Ended : Ending → Type 0
-    Ended ending = WalksDocuments texts (between old new) (between out_old out_mid) (record { count = buffer.number; bad = bad; ending = ending })
+    stops_by out_new v piece Unwritten is shows (broke, some) =
+        let after = breaks_after out_old out_mid out_new s.text piece s.wrote broke in
+        (s.done, s.given, s.text, s.visited, (v, part, piece, is, next_of part v piece shows, at, g.well ∙ s.well, after, some))
 
     -- the input is at its end
-    pub ends_whole : part ≡ [] → IsAtEnd new.left → Ended endings.Whole
+    pub ends_whole : part ≡ [] → IsAtEnd new.left → Ended new endings.Whole
     ends_whole none end =
         let all = subst (λ (x : List ℕ). Consumes old.left new.left x) (ap (λ x. s.given ++ x) none ∙ append-nil s.given) at.0 in
-        (s.done, s.given, s.text, s.visited, s.counted, s.bad_counted, (streams s.given (known_end old.left new.left s.given all end), (part, at)), s.wrote)
+        ends new endings.Whole (streams s.given (known_end old.left new.left s.given all end), (part, at))
 
-    -- the next document has this fault: the walk ends at it, or its length is bad
+    -- the walk ends at the fault, or the length of its document is bad
+    abbrev IsLast : ℕ → List ℕ → told.Fault → Type 0
+    IsLast number bytes f = (texts.bad number (fault_view f) ≡ None) ⊎ ((frame_length part ≡ Err f.kind) × (frame_length bytes ≡ Err f.kind))
+
     ends_at : (rest : List ℕ) (f : told.Fault) → IfSome mid.left (λ xs. part ++ rest ≡ xs) → f.document ≡ buffer.number → frame_fault buffer.place (part ++ rest) ≡ Some (fault_view f)
-        → ((texts.bad buffer.number (fault_view f) ≡ None) ⊎ ((frame_length part ≡ Err f.kind) × (frame_length (part ++ rest) ≡ Err f.kind))) → Ended (endings.Faulty f)
+        → IsLast buffer.number (part ++ rest) f → Ended new (endings.Faulty f)
     ends_at rest f known numbered fails last =
-        let all = known_after old.left mid.left s.given (part ++ rest) s.gave known in (
-          s.done,
-          s.given,
-          s.text,
-          s.visited,
-          s.counted,
-          s.bad_counted,
-          (
-            part,
-            rest,
-            streams (s.given ++ (part ++ rest)) all,
-            at,
-            numbered ∙ s.counted,
-            subst (λ p. frame_fault p (part ++ rest) ≡ Some (fault_view f)) s.placed fails,
-            subst (λ n. (texts.bad n (fault_view f) ≡ None) ⊎ ((frame_length part ≡ Err f.kind) × (frame_length (part ++ rest) ≡ Err f.kind))) s.counted last,
-          ),
-          s.wrote,
-        )
+        let all = streams (s.given ++ (part ++ rest)) (known_after old.left mid.left s.given (part ++ rest) s.gave known) in
+        let fault = subst (λ p. frame_fault p (part ++ rest) ≡ Some (fault_view f)) s.placed fails in
+        ends new (endings.Faulty f) (part, rest, all, at, numbered ∙ s.counted, fault, subst (λ n. IsLast n (part ++ rest) f) s.counted last)
 
     pub ends_faulty : (f : told.Fault) → IsFrame part → first_fault buffer.place part ≡ Some (fault_view f) → f.document ≡ buffer.number
-        → texts.bad buffer.number (fault_view f) ≡ None → Ended (endings.Faulty f)
+        → texts.bad buffer.number (fault_view f) ≡ None → Ended new (endings.Faulty f)
     ends_faulty f is first numbered last =
         let rest = rest_of new.left in
         ends_at rest f (known_whole mid.left new.left part g.gave) numbered (fault_inside buffer.place part rest (fault_view f) is first) (inl last)
 
-    ends_framed : (f : told.Fault) → HasNoFrame [] mid.left f.kind → frame_length part ≡ Err f.kind → f.offset ≡ buffer.place → f.document ≡ buffer.number → f.path.items ≡ []
-        → Ended (endings.Faulty f)
+    pub ends_framed : (f : told.Fault) → HasNoFrame [] mid.left f.kind → frame_length part ≡ Err f.kind → f.offset ≡ buffer.place → f.document ≡ buffer.number → f.path.items ≡ []
+        → Ended new (endings.Faulty f)
     ends_framed f none is offset numbered path =
         let r = framed_rest mid.left new.left part f g.gave none is in
         let fails = ap (framed_fault buffer.place (part ++ r.0)) r.2
         ∙ ap₂ (λ (o : ℕ) (p : List (List ℕ)). Some (record { kind = f.kind; offset = o; path = p })) (sym offset) (sym (ap (map string_bytes) path)) in
         ends_at r.0 f r.1 numbered fails (inr (is, r.2))
 
--- no document was given
-module _ {texts : Texts} {R : Type 0} (state : R → Reader) (gives : R → Option (List ℕ) → R → Type 0) {old : Reader} (m n : R) {out_old out_mid : Writer}
-    {buffer : DocBuffer} {bad : ℕ} (s : SoFar texts old (state m) out_old out_mid buffer bad) where
-  -- the bytes of the document that were given, and what is known then
-  abbrev Unread : ReadFault → Type 0
-  Unread f = (part : List ℕ) × StreamsInput (between old (state n)) (s.given ++ part) (Some f) × IsCut part
+-- the next document was not read
+module _ {texts : Texts} {R : Type 0} {state : R → Reader} {gives : R → Option (List ℕ) → R → Type 0} {old : Reader} {m n : R} {out_old out_mid : Writer}
+    {buffer after : DocBuffer} {bad : ℕ} (s : SoFar texts old (state m) out_old out_mid buffer bad) where
+  -- its length is bad
+  pub ends_by_length : (frame : FrameFault) (f : told.Fault) → (f.kind ≡ frame.kind) × (f.document ≡ frame.document) × (f.offset ≡ frame.offset) → f.path.items ≡ []
+      → FailsToRead state gives [] buffer after m n (faults.Frame frame) → Ended s (state n) (endings.Faulty f)
+  ends_by_length frame f same path fails =
+      let reason = fails.reason in
+      let g : Gives (state m) (state n) buffer.left.bytes fails.given = record { gave = fails.gave; short = reason.4; within = reason.6; well = reason.5 } in
+      ends_framed s g f (rw same.0 reason.2) (rw same.0 reason.3) (same.2 ∙ reason.0) (same.1 ∙ reason.1) path
 
-  unread : (part : List ℕ) (f : ReadFault) → ¬ (f ≡ reads.NoMemory) → Consumes (state m).left (state n).left part
-      → IsReason state gives buffer m n [] part (faults.Read f) → Unread f
-  unread part reads.Device other more reason =
-      let moved = Consumes-trans old.left (state m).left (state n).left s.given part s.gave more in
-      (part, (moved, within s part reason.1, reason.2 ∙ ap (λ k. after_more k 1) s.well), reason.0)
-  unread part reads.TooLong other more reason =
-      let moved = Consumes-trans old.left (state m).left (state n).left s.given part s.gave more in
-      let parts = ap (λ (x : List ℕ). s.given ++ x) reason.2 ∙ sym (append_assoc s.given reason.0 reason.1) in
-      let frames = visited_frames s.done s.given s.text s.visited in (
-        reason.0,
-        (
-          reason.1,
-          subst (Consumes old.left (state n).left) parts moved,
-          within s reason.0 reason.4,
-          let r = reason.5 in let f = s.fits in let p = s.placed in omega (arith, length-append s.given reason.0),
-          (frames.0, s.given, reason.0, frames.1, refl, subst IsWithinOne reason.2 reason.6),
-          reason.7 ∙ s.well,
-        ),
-        reason.3,
-      )
-  unread part reads.TooManyTurns other more reason =
-      let each = reads_at_least buffer.left.turns m n part reason.2 in
-      let short = within s part reason.1 in
-      let h = s.many in let t = s.turned in absurd (omega (arith, each, short, length-append s.given part))
-  unread part reads.NoMemory other more reason = absurd (other refl)
+  pub starves_by : FailsToRead state gives [] buffer after m n (faults.Read reads.NoMemory) → StopsWalk texts (between old (state n)) (between out_old out_mid) NoMemory
+  starves_by fails =
+      let reason = fails.reason in
+      let g : Gives (state m) (state n) buffer.left.bytes fails.given
+      = record { gave = fails.gave; short = reason.1; within = cut_within fails.given reason.0; well = reason.2 } in
+      starves s g
 
-  abbrev EndsBy : Result Ending OutputFault → Type 0
-  EndsBy r =
-      MatchResult r (λ e. WalksDocuments texts (between old (state n)) (between out_old out_mid) (record { count = buffer.number; bad = bad; ending = e }))
-      (StopsWalk texts (between old (state n)) (between out_old out_mid))
+  pub ends_unread : (f : ReadFault) → ¬ (f ≡ reads.NoMemory) → FailsToRead state gives [] buffer after m n (faults.Read f) → Ended s (state n) (endings.Unread f)
+  ends_unread f other fails = ends s (state n) (endings.Unread f) (by_fault f other fails.given moved fails.reason)
+    where
+      moved : Consumes old.left (state n).left (s.given ++ fails.given)
+      moved = Consumes-trans old.left (state m).left (state n).left s.given fails.given s.gave fails.gave
 
-  unread_ends : (part : List ℕ) (f : ReadFault) → ¬ (f ≡ reads.NoMemory) → Consumes (state m).left (state n).left part
-      → IsReason state gives buffer m n [] part (faults.Read f) → EndsBy (Ok (endings.Unread f))
-  unread_ends part f other gave reason = (s.done, s.given, s.text, s.visited, s.counted, s.bad_counted, unread part f other gave reason, s.wrote)
-
-  pub ends_by : (part : List ℕ) (d : DocFault) (r : Result Ending OutputFault) → IsEndingOf d r → Consumes (state m).left (state n).left part
-      → IsReason state gives buffer m n [] part d → EndsBy r
-  ends_by part (faults.Frame f) r (fault, by, is) gave reason =
-      let g : Gives (state m) (state n) buffer.left.bytes part = record { gave = gave; short = reason.4; within = reason.6; well = reason.5 } in
-      rw by (ends_framed s g fault (rw is.kind reason.2) (rw is.kind reason.3) (is.offset ∙ reason.0) (is.document ∙ reason.1) is.path)
-  ends_by part (faults.Read reads.Device) r by gave reason = rw by (unread_ends part reads.Device (λ e. absurd cc) gave reason)
-  ends_by part (faults.Read reads.TooLong) r by gave reason = rw by (unread_ends part reads.TooLong (λ e. absurd cc) gave reason)
-  ends_by part (faults.Read reads.TooManyTurns) r by gave reason = rw by (unread_ends part reads.TooManyTurns (λ e. absurd cc) gave reason)
-  ends_by part (faults.Read reads.NoMemory) r by gave reason =
-      let g : Gives (state m) (state n) buffer.left.bytes part = record { gave = gave; short = reason.1; within = cut_within part reason.0; well = reason.2 } in
-      rw by (starves s g)
-  ends_by part faults.Failed r by gave reason = absurd reason
+      by_fault : (f : ReadFault) → ¬ (f ≡ reads.NoMemory) → (part : List ℕ) → Consumes old.left (state n).left (s.given ++ part)
+          → IsReason state gives buffer m n [] part (faults.Read f) → EndsWalk texts (between old (state n)) (length s.done) s.given (endings.Unread f)
+      by_fault reads.Device other part gave reason = (part, (gave, within s part reason.1, reason.2 ∙ ap (λ k. after_more k 1) s.well), reason.0)
+      by_fault reads.TooLong other part gave reason =
+          let parts = ap (λ (x : List ℕ). s.given ++ x) reason.2 ∙ sym (append_assoc s.given reason.0 reason.1) in
+          let frames = visited_frames s.done s.given s.text s.visited in
+          let past : longest_input < length (s.given ++ reason.0) + length reason.1
+          = let r = reason.5 in let f = s.fits in let p = s.placed in omega (arith, length-append s.given reason.0) in
+          let ends_in : EndsWithinOne (s.given ++ reason.0) reason.1 = (frames.0, s.given, reason.0, frames.1, refl, subst IsWithinOne reason.2 reason.6) in
+          (reason.0, (reason.1, subst (Consumes old.left (state n).left) parts gave, within s reason.0 reason.4, past, ends_in, reason.7 ∙ s.well), reason.3)
+      by_fault reads.TooManyTurns other part gave reason =
+          let each = reads_at_least buffer.left.turns m n part reason.2 in
+          let short = within s part reason.1 in
+          let h = s.many in let t = s.turned in absurd (omega (arith, each, short, length-append s.given part))
+      by_fault reads.NoMemory other part gave reason = absurd (other refl)

@@ -1,6 +1,5 @@
 pub mod Check
 pub mod Dump
-pub mod Ending
 pub mod Input
 pub mod Outcome
 pub mod Output

@@ -11,9 +11,9 @@ use Rattle.bd_stream.specs.Stream.{IsCut, IsFrame}
 use Rattle.bd_files.specs.Check.{faulty_count, verdict_line}
 use Rattle.bd_files.specs.Outcome.{StopsAt, StopsWithinOne, StreamsInput}
 use Rattle.bd_files.specs.Output.Fault.{StopsWriting}
-use Rattle.bd_files.specs.Transcript.{lines}
-use Rattle.bd_files.specs.declared.ending.Ending.{Ending}
-use Rattle.bd_files.specs.declared.ending.Ending.TheVariants as endings
+use Rattle.bd_files.specs.Transcript.{fault_text, lines, read_words}
+use Rattle.bd_files.specs.declared.walk.Ending.{Ending}
+use Rattle.bd_files.specs.declared.walk.Ending.TheVariants as endings
 use Rattle.bd_files.specs.declared.output.fault.OutputFault.{OutputFault}
 use Rattle.bd_files.specs.declared.output.fault.OutputFault.TheVariants.{NoMemory, Unwritten}
 use Rattle.bd_files.specs.declared.walk.Walk.{Walk}
@@ -60,6 +60,18 @@ EndsWalk texts file number given (endings.Faulty f) =
     ⊎ ((frame_length part ≡ Err f.kind) × (frame_length (part ++ rest) ≡ Err f.kind)))
 EndsWalk texts file number given (endings.Unread f) =
     (part : List ℕ) × StreamsInput file (given ++ part) (Some f) × IsCut part
+
+-- what is told of it
+abbrev pub ending_words : Ending → Option (List ℕ)
+ending_words endings.Whole = None
+ending_words (endings.Faulty f) = Some (fault_text f.document (fault_view f))
+ending_words (endings.Unread f) = Some (read_words f)
+
+-- a document with a fault comes after the documents
+abbrev pub IsFaulty : Ending → Type 0
+IsFaulty endings.Whole = ⊥
+IsFaulty (endings.Faulty f) = Unit {0}
+IsFaulty (endings.Unread f) = ⊥
 
 -- the documents of the walk, and what the writer took of them
 abbrev pub WalksDocuments : Texts → Over Reader → Over Writer → Walk → Type 0

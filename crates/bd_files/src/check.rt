@@ -12,13 +12,12 @@ ghost use Rattle.bd_files.specs.Output.Fault.{Writes};
 ghost use Rattle.bd_files.specs.Transcript.{read_words, wrong_line};
 ghost use Rattle.bd_files.specs.Walk.{MeetsFault, check_texts};
 
-use crate::ending::Ending;
 use crate::output::fault::OutputFault;
 use crate::output::messages::{
     status_of, tell_stop, words_of, write_count, write_end, write_fault,
 };
 use crate::status::Status;
-use crate::walk::{Visitor, walk_documents};
+use crate::walk::{Ending, Visitor, walk_documents};
 use bd_check::Fault;
 use bd_device::{DeviceFault, Input, Output, ReadFault, write_all};
 use bd_raw::RawDoc;

@@ -13,13 +13,12 @@
 //! ```
 //!
 //! - `dump`, `check`, `pack`: a command each: `specs/Dump.antt`, `specs/Check.antt`, `specs/Pack.antt`.
-//! - `walk`: the documents of a file, one after the other; `ending`: what comes after them; `input`: a file that is read whole.
+//! - `walk`: the documents of a file, one after the other; `input`: a file that is read whole.
 //! - `output`: what a run writes; `limits`, `status`: what a run reads at most, and how it ends.
 #![tactic(auto)]
 
 pub mod check;
 pub mod dump;
-mod ending;
 mod input;
 mod limits;
 pub mod output;

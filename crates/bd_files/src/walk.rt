@@ -9,13 +9,12 @@ ghost use Rattle.bd_files.specs.Output.Fault.{Writes};
 ghost use Rattle.bd_files.specs.Walk.{MeetsFault, StopsWalk, Texts, WalksDocuments};
 ghost use Rattle.bd_raw.specs.Sound.{stands};
 
-use crate::ending::{Ending, ending_of};
 use crate::limits::LIMITS;
 use crate::output::fault::{OutputFault, is_want_of_memory};
 use bd_check::{Fault, check_document};
-use bd_device::{Input, Output};
+use bd_device::{Input, Output, ReadFault};
 use bd_raw::RawDoc;
-use bd_stream::DocBuffer;
+use bd_stream::{DocBuffer, DocFault};
 use std::alloc::Global;
 
 /// Who is shown the documents of an input, each before the next is read.
@@ -30,6 +29,17 @@ pub(crate) trait Visitor<O: Output> {
     /// Takes the fault of a document, and says whether the walk goes on.
     fn meet(&mut self, fault: &Fault, out: &mut O) -> Result<bool, OutputFault>
         ensures { MeetsFault (texts.bad fault.now.document (fault_view fault.now)) (over O.state out.old out.new) result };
+}
+
+/// What comes after the documents of an input.
+#[derive(Debug, Drop)]
+pub enum Ending {
+    /// Nothing.
+    Whole,
+    /// A document that has this fault.
+    Faulty(Fault),
+    /// A document that was not read to its end.
+    Unread(ReadFault),
 }
 
 /// The documents of an input that were gone over.
@@ -77,10 +87,16 @@ pub(crate) fn walk_documents<R: Input, O: Output, V: Visitor<O>>(
                 let ending = Ending::Whole;
                 return Ok(Walk { count, bad, ending });
             }
-            Err(fault) => {
-                let ending = ending_of(alloc, fault)?;
+            Err(DocFault::Frame(fault)) => {
+                let ending = Ending::Faulty(fault.to_fault(alloc));
                 return Ok(Walk { count, bad, ending });
             }
+            Err(DocFault::Read(ReadFault::NoMemory)) => return Err(OutputFault::NoMemory),
+            Err(DocFault::Read(fault)) => {
+                let ending = Ending::Unread(fault);
+                return Ok(Walk { count, bad, ending });
+            }
+            Err(DocFault::Failed) => unreachable!(),
         }
     }
 }

@@ -16,15 +16,15 @@ use Rattle.bd_stream.specs.Stream.{IsFrame}
 use Rattle.bd_stream.proofs.FrameLemmas.{frame_on}
 use Rattle.bd_bson.specs.Verdicts.{verdicts_at, verdicts}
 use Rattle.bd_bson.proofs.VerdictLemmas.{none_at, turn_at, last_at}
-use Rattle.bd_files.specs.Check.{ChecksInput, check_count_line, check_status, shown_check, verdict_line, verdict_lines}
+use Rattle.bd_files.specs.Check.{ChecksInput, JudgesWithinLimit, check_count_line, check_status, shown_check, verdict_line, verdict_lines}
 use Rattle.bd_files.specs.Check.Judging.{JudgesDocuments, StopsJudging}
 use Rattle.bd_files.specs.Outcome.{StopsAt, StreamsInput, TellsMessage}
 use Rattle.bd_files.specs.Output.Fault.{stop_words}
 use Rattle.bd_files.specs.Transcript.{error_line, read_words, wrong_line}
 use Rattle.bd_files.specs.Walk.{AreVisited, IsTextOf, MeetsFault, StopsWalk, WalksDocuments, check_texts, more_visited, none_visited}
 use Rattle.bd_files.specs.declared.check.Findings.{Findings}
-use Rattle.bd_files.specs.declared.ending.Ending.{Ending}
-use Rattle.bd_files.specs.declared.ending.Ending.TheVariants as endings
+use Rattle.bd_files.specs.declared.walk.Ending.{Ending}
+use Rattle.bd_files.specs.declared.walk.Ending.TheVariants as endings
 use Rattle.bd_files.specs.declared.output.fault.OutputFault.{OutputFault}
 use Rattle.bd_files.specs.declared.output.fault.OutputFault.TheVariants.{NoMemory, Unwritten}
 use Rattle.bd_files.specs.declared.status.Status.{Status}
@@ -86,17 +86,11 @@ verdict_on place bytes all f is long fails =
 
 -- a text that was taken whole and a front of the next are a front of both and more
 within_both : (old new : Writer) (whole piece more all : List ℕ) → BreaksAfter (between old new) whole piece → all ≡ whole ++ (piece ++ more) → BreaksWithin (between old new) all
-within_both old new whole piece more all (front, rest, cut, took, failed) parts = (
-  (
-    whole ++ front,
-    rest ++ more,
-    parts ∙ ap (λ x. whole ++ (x ++ more)) cut ∙ ap (λ x. whole ++ x) (append_assoc front rest more) ∙ sym (append_assoc whole front (rest ++ more)),
-    took,
-  ),
-  failed,
-)
+within_both old new whole piece more all (front, rest, cut, took, failed) parts =
+    let both = parts ∙ ap (λ x. whole ++ (x ++ more)) cut ∙ ap (λ x. whole ++ x) (append_assoc front rest more) ∙ sym (append_assoc whole front (rest ++ more)) in
+    ((whole ++ front, rest ++ more, both, took), failed)
 
-module _ (old new : Reader) (out_old : Writer) (vs : List Seen) (given text : List ℕ) (visited : AreVisited check_texts vs given text) where
+module _ {vs : List Seen} {given text : List ℕ} (visited : AreVisited check_texts vs given text) where
   seen_lines : (bytes : List ℕ) → verdict_lines 0 (verdicts (given ++ bytes)) ≡ text ++ verdict_lines (length vs) (verdicts_at (length given) bytes)
   seen_lines bytes =
       let j = judged vs given text visited in
@@ -104,64 +98,54 @@ module _ (old new : Reader) (out_old : Writer) (vs : List Seen) (given text : Li
       ∙ ap (λ x. x ++ verdict_lines (length vs) (verdicts_at (length given) bytes)) (sym j.0)
 
   -- all of the bytes are documents that were judged
-  all_judged : verdicts given ≡ vs
-  all_judged = ap verdicts (sym (append-nil given)) ∙ (judged vs given text visited).1 [] ∙ ap (λ (xs : List Seen). vs ++ xs) (none_at (length given)) ∙ append-nil vs
+  all_judged : vs ≡ verdicts given
+  all_judged =
+      let all = (judged vs given text visited).1 [] in
+      sym (ap verdicts (sym (append-nil given)) ∙ all ∙ ap (λ (xs : List Seen). vs ++ xs) (none_at (length given)) ∙ append-nil vs)
 
-  lines_taken : (out : Writer) → TakesText (between out_old out) text → TakesText (between out_old out) (verdict_lines 0 vs)
-  lines_taken out wrote = subst (λ (x : List ℕ). TakesText (between out_old out) x) (judged vs given text visited).0 wrote
+  lines_taken : (old new : Writer) → TakesText (between old new) text → TakesText (between old new) (verdict_lines 0 vs)
+  lines_taken old new wrote = subst (λ (x : List ℕ). TakesText (between old new) x) (judged vs given text visited).0 wrote
 
-  within : (part : List ℕ) → StopsAt given part (between old new) → length given ≤ longest_input
-  within part at = let short = at.1 in omega (arith, short, length-append given part)
+  module _ (old new : Reader) (out_old : Writer) where
+    streams : (part : List ℕ) → StopsAt given part (between old new) → new.failures ≡ old.failures → StreamsInput (between old new) (given ++ (part ++ rest_of new.left)) None
+    streams part at well =
+        let frames = visited_frames vs given text visited in
+        let known = known_whole old.left new.left (given ++ part) at.0 in
+        (subst (λ (x : List ℕ). IfSome old.left (λ xs. x ≡ xs)) (append_assoc given part (rest_of new.left)) known, (frames.0, given, frames.1, (part, at)), well)
 
-  streams : (part : List ℕ) → StopsAt given part (between old new) → new.failures ≡ old.failures → StreamsInput (between old new) (given ++ (part ++ rest_of new.left)) None
-  streams part at well =
-      let frames = visited_frames vs given text visited in
-      let known = known_whole old.left new.left (given ++ part) at.0 in
-      (subst (λ (x : List ℕ). IfSome old.left (λ xs. x ≡ xs)) (append_assoc given part (rest_of new.left)) known, (frames.0, given, frames.1, (part, at)), well)
+    -- memory ran out
+    starves : (out : Writer) (bytes : List ℕ) → StreamsInput (between old new) (given ++ bytes) None → TakesText (between out_old out) text
+        → StopsJudging (between old new) (between out_old out) NoMemory
+    starves out bytes was wrote =
+        let more = verdict_lines (length vs) (verdicts_at (length given) bytes) in
+        (given ++ bytes, was, front_taken out_old out text more (verdict_lines 0 (verdicts (given ++ bytes))) wrote (seen_lines bytes))
 
-  -- memory ran out
-  starves : (out : Writer) (bytes : List ℕ) → StreamsInput (between old new) (given ++ bytes) None → TakesText (between out_old out) text
-      → StopsJudging (between old new) (between out_old out) NoMemory
-  starves out bytes was wrote =
-      let more = verdict_lines (length vs) (verdicts_at (length given) bytes) in
-      (given ++ bytes, was, front_taken out_old out text more (verdict_lines 0 (verdicts (given ++ bytes))) wrote (seen_lines bytes))
-
-  -- standard output broke in the line of the next document, of which this part was read
-  breaks : (out : Writer) (part bytes : List ℕ) (f : Fault) (more : List Seen) → StreamsInput (between old new) (given ++ bytes) None → StopsAt given part (between old new)
-      → verdicts_at (length given) part ≡ Some f ∷ [] → verdicts_at (length given) bytes ≡ Some f ∷ more
-      → BreaksAfter (between out_old out) text (verdict_line (length vs) (Some f)) → StopsJudging (between old new) (between out_old out) Unwritten
-  breaks out part bytes f more was at last turn broke =
-      let line = verdict_line (length vs) (Some f) in
-      let j = judged vs given text visited in (
-        given ++ bytes,
-        was,
-        within_both out_old out text line (verdict_lines (suc (length vs)) more) (verdict_lines 0 (verdicts (given ++ bytes))) broke
-            (seen_lines bytes ∙ ap (λ (xs : List Seen). text ++ verdict_lines (length vs) xs) turn),
-        (
-          vs,
-          f,
-          given ++ part,
-          j.1 part ∙ ap (λ (xs : List Seen). vs ++ xs) last,
-          at.0,
-          was.2,
-          subst (λ (x : List ℕ). BreaksAfter (between out_old out) x line) j.0 broke,
-        ),
-      )
+    -- standard output broke in the line of the next document, of which this part was read
+    breaks : (out : Writer) (part bytes : List ℕ) (f : Fault) (more : List Seen) → StreamsInput (between old new) (given ++ bytes) None → StopsAt given part (between old new)
+        → verdicts_at (length given) part ≡ Some f ∷ [] → verdicts_at (length given) bytes ≡ Some f ∷ more
+        → BreaksAfter (between out_old out) text (verdict_line (length vs) (Some f)) → StopsJudging (between old new) (between out_old out) Unwritten
+    breaks out part bytes f more was at last turn broke =
+        let line = verdict_line (length vs) (Some f) in
+        let j = judged vs given text visited in
+        let cut = seen_lines bytes ∙ ap (λ (xs : List Seen). text ++ verdict_lines (length vs) xs) turn in
+        let front = within_both out_old out text line (verdict_lines (suc (length vs)) more) (verdict_lines 0 (verdicts (given ++ bytes))) broke cut in
+        let after = subst (λ (x : List ℕ). BreaksAfter (between out_old out) x line) j.0 broke in
+        (given ++ bytes, was, front, (vs, f, given ++ part, j.1 part ∙ ap (λ (xs : List Seen). vs ++ xs) last, at.0, was.2, after))
 
 -- ---- what the walk came to
 
 module _ (old new : Reader) (out_old out_mid : Writer) where
   pub stops : (stopped : OutputFault) → StopsWalk check_texts (between old new) (between out_old out_mid) stopped → StopsJudging (between old new) (between out_old out_mid) stopped
   stops NoMemory (vs, given, text, visited, (part, at), well, wrote) =
-      starves old new out_old vs given text visited out_mid (part ++ rest_of new.left) (streams old new out_old vs given text visited part at well) wrote
+      starves visited old new out_old out_mid (part ++ rest_of new.left) (streams visited old new out_old part at well) wrote
   stops Unwritten (vs, given, text, visited, (None, frame, piece, is, (d, spelled, line), at, well, broke, some)) = absurd (some line)
   stops Unwritten (vs, given, text, visited, (Some f, frame, piece, is, shows, at, well, broke, some)) =
       let line = line_of (length vs) (length given) frame (Some f) piece shows in
       let rest = rest_of new.left in
       let last : verdicts_at (length given) frame ≡ Some f ∷ [] = ap (verdicts_at (length given)) (sym (append-nil frame)) ∙ turn_on (length given) frame [] (Some f) is line.0
       ∙ ap (λ (xs : List Seen). Some f ∷ xs) (none_at (length given + length frame)) in
-      breaks old new out_old vs given text visited out_mid frame (frame ++ rest) f (verdicts_at (length given + length frame) rest)
-      (streams old new out_old vs given text visited frame at well) at last (turn_on (length given) frame rest (Some f) is line.0)
+      breaks visited old new out_old out_mid frame (frame ++ rest) f (verdicts_at (length given + length frame) rest)
+      (streams visited old new out_old frame at well) at last (turn_on (length given) frame rest (Some f) is line.0)
       (subst (λ (x : List ℕ). BreaksAfter (between out_old out_mid) text x) line.1 broke)
 
   abbrev Walked : ℕ → ℕ → Ending → Type 0
@@ -169,23 +153,15 @@ module _ (old new : Reader) (out_old out_mid : Writer) where
 
   pub judges_whole : (documents bad : ℕ) → Walked documents bad endings.Whole
       → JudgesDocuments (between old new) (between out_old out_mid) (record { documents = documents; faulty = bad; unread = None })
-  judges_whole documents bad (vs, given, text, visited, counted, faulty, (was, (part, at)), wrote) = (
-    given,
-    vs,
-    was,
-    inl (within old new out_old vs given text visited part at),
-    sym (all_judged old new out_old vs given text visited),
-    counted,
-    faulty,
-    lines_taken old new out_old vs given text visited out_mid wrote,
-  )
+  judges_whole documents bad (vs, given, text, visited, counted, faulty, (was, (part, at)), wrote) =
+      let short : length given ≤ longest_input = let all = at.1 in omega (arith, length-append given part) in
+      (given, vs, was, inl short, all_judged visited, counted, faulty, lines_taken visited out_old out_mid wrote)
 
   pub judges_unread : (documents bad : ℕ) (f : ReadFault) → Walked documents bad (endings.Unread f)
       → JudgesDocuments (between old new) (between out_old out_mid) (record { documents = documents; faulty = bad; unread = Some f })
   judges_unread documents bad f (vs, given, text, visited, counted, faulty, (part, was, cut), wrote) =
       let frames = visited_frames vs given text visited in
-      let all = sym (all_judged old new out_old vs given text visited) in
-      (given ++ part, vs, was, tt, (frames.0, given, part, frames.1, cut, refl, all), counted, faulty, lines_taken old new out_old vs given text visited out_mid wrote)
+      (given ++ part, vs, was, tt, (frames.0, given, part, frames.1, cut, refl, all_judged visited), counted, faulty, lines_taken visited out_old out_mid wrote)
 
   -- what comes of the line of the last document, whose length is bad
   abbrev Finished : ℕ → ℕ → Writer → Result Bool OutputFault → Type 0
@@ -206,24 +182,23 @@ module _ (old new : Reader) (out_old out_mid : Writer) where
       line_at : (text : List ℕ) → Path (Option (List ℕ)) (Some (verdict_line f.document v)) (Some text) → text ≡ verdict_line (length vs) v
       line_at text same = let e : text ≡ verdict_line f.document v = cc in e ∙ ap (λ n. verdict_line n v) numbered
 
+      short : length given ≤ longest_input
+      short = let all = at.1 in omega (arith, length-append given part)
+
       by_line : (r : Result Bool OutputFault) → MeetsFault (Some (verdict_line f.document v)) (between out_mid out) r → Finished documents bad out r
       by_line (Ok true) (line, same, wrote_line) =
           let j = judged vs given text visited in
           let frames = visited_frames vs given text visited in
-          let took = takes_both out_old out_mid out text line wrote wrote_line in (
-            given ++ (part ++ rest),
-            vs ++ v ∷ [],
-            was,
-            inr (frames.0, given, part ++ rest, f.kind, frames.1, refl, long, within old new out_old vs given text visited part at),
-            sym (j.1 (part ++ rest) ∙ ap (λ (xs : List Seen). vs ++ xs) turn),
-            omega (arith, length-append vs (v ∷ [])),
-            ap (λ n. n + 1) faulty ∙ sym (faulty_append vs (v ∷ [])),
-            subst (λ (x : List ℕ). TakesText (between out_old out) x) (ap₂ (λ (x y : List ℕ). x ++ y) j.0 (line_at line same) ∙ sym (lines_more vs v)) took,
-          )
+          let verdicts_are = sym (j.1 (part ++ rest) ∙ ap (λ (xs : List Seen). vs ++ xs) turn) in
+          let more : documents + 1 ≡ length (vs ++ v ∷ []) = omega (arith, length-append vs (v ∷ [])) in
+          let lines_are = ap₂ (λ (x y : List ℕ). x ++ y) j.0 (line_at line same) ∙ sym (lines_more vs v) in
+          let took = subst (λ (x : List ℕ). TakesText (between out_old out) x) lines_are (takes_both out_old out_mid out text line wrote wrote_line) in
+          let limit : JudgesWithinLimit (given ++ (part ++ rest)) None = inr (frames.0, given, part ++ rest, f.kind, frames.1, refl, long, short) in
+          (given ++ (part ++ rest), vs ++ v ∷ [], was, limit, verdicts_are, more, ap (λ n. n + 1) faulty ∙ sym (faulty_append vs (v ∷ [])), took)
       by_line (Ok false) (none, same) = absurd cc
-      by_line (Err NoMemory) (line, is_line, same) = rw same (starves old new out_old vs given text visited out_mid (part ++ rest) was wrote)
+      by_line (Err NoMemory) (line, is_line, same) = rw same (starves visited old new out_old out_mid (part ++ rest) was wrote)
       by_line (Err Unwritten) (line, same, (broke, some)) =
-          breaks old new out_old vs given text visited out part (part ++ rest) (fault_view f) [] was at (verdict_on (length given) part (part ++ rest) f is long fails) turn
+          breaks visited old new out_old out part (part ++ rest) (fault_view f) [] was at (verdict_on (length given) part (part ++ rest) f is long fails) turn
           (subst (λ (x : List ℕ). BreaksAfter (between out_old out) text x) (line_at line same) (breaks_after out_old out_mid out text line wrote broke))
 
 -- ---- the end of a run
