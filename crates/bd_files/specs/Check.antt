@@ -30,21 +30,22 @@ verdict_lines number (v ∷ vs) = verdict_line number v ++ verdict_lines (suc nu
 abbrev pub faulty_count : List (Option Fault) → ℕ
 faulty_count = count_by is_some
 
-abbrev pub check_count_line : ℕ → ℕ → List ℕ
-check_count_line documents faulty =
-    (decimal documents ++ codes " documents, ") ++ (decimal faulty ++ codes " faulty\n")
+-- why no more of the input was read, where that is so, and how many documents there are and how many of them have a fault
+abbrev pub check_message : Option ReadFault → ℕ → ℕ → List ℕ
+check_message unread documents faulty =
+    (wrong_line (option_map read_words unread) ++ (decimal documents ++ codes " documents, "))
+    ++ (decimal faulty ++ codes " faulty\n")
 
 abbrev pub check_status : Option ReadFault → ℕ → Status
 check_status None zero = Done
 check_status None (suc n) = Failed
 check_status (Some f) faulty = Failed
 
--- what is shown of the documents, or of those before a read that failed: a line for each that has a fault, why no more of the
--- input was read, and then how many there are of both
+-- what is shown of the documents, or of those before a read that failed: a line for each that has a fault, and the message
 abbrev pub shown_check : List (Option Fault) → Option ReadFault → Transcript
 shown_check vs unread = record {
   out = verdict_lines 0 vs;
-  err = wrong_line (option_map read_words unread) ++ check_count_line (length vs) (faulty_count vs);
+  err = check_message unread (length vs) (faulty_count vs);
   status = check_status unread (faulty_count vs);
 }
 

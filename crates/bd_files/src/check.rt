@@ -1,15 +1,14 @@
 //! `check`: a line for each document of an input that has a fault.
 
-ghost use Rattle.std.specs.Prelude.{◌≡◌, ◌++◌, [], Some, IfErr, IfOk, OnErr, OnOk, option_map};
+ghost use Rattle.std.specs.Prelude.{◌≡◌, ◌++◌, [], Some, IfErr, IfOk, OnErr, OnOk};
 ghost use Rattle.bd_value.specs.Tree.{pairs_in};
 ghost use Rattle.bd_check.specs.AnsweredFault.{fault_view};
 ghost use Rattle.bd_device.specs.Devices.{BreaksWithin, TakesText, over};
 ghost use Rattle.bd_raw.specs.Sound.{stands};
-ghost use Rattle.bd_files.specs.Check.{ChecksInput, check_count_line, check_status};
+ghost use Rattle.bd_files.specs.Check.{ChecksInput, check_message, check_status};
 ghost use Rattle.bd_files.specs.Check.Judging.{JudgesDocuments, StopsJudging};
 ghost use Rattle.bd_files.specs.Outcome.{TellsMessage};
 ghost use Rattle.bd_files.specs.Output.Fault.{Writes};
-ghost use Rattle.bd_files.specs.Transcript.{read_words, wrong_line};
 ghost use Rattle.bd_files.specs.Walk.{MeetsFault, check_texts};
 
 use crate::output::fault::OutputFault;
@@ -98,9 +97,9 @@ fn judge_documents<R: Input, O: Output>(
 #[tactic(auto, using(crate::proofs::OutputLemmas::FaultLemmas::taking))]
 fn write_findings<E: Output>(findings: &Findings, err: &mut E) -> Result<(), DeviceFault>
     ensures ok { OnOk result (TakesText (over E.state err.old err.new)
-        (wrong_line (option_map read_words findings.now.unread) ++ check_count_line findings.now.documents findings.now.faulty)) }
+        (check_message findings.now.unread findings.now.documents findings.now.faulty)) }
     ensures err { OnErr result (BreaksWithin (over E.state err.old err.new)
-        (wrong_line (option_map read_words findings.now.unread) ++ check_count_line findings.now.documents findings.now.faulty)) }
+        (check_message findings.now.unread findings.now.documents findings.now.faulty)) }
 {
     let wrong = words_of(findings.unread);
     write_end(wrong, u64::from(findings.documents), b" documents, ", err)?;
@@ -111,7 +110,7 @@ fn write_findings<E: Output>(findings: &Findings, err: &mut E) -> Result<(), Dev
 /// memory.
 fn tell_findings<E: Output>(findings: &Findings, err: &mut E) -> Status
     ensures { TellsMessage (over E.state err.old err.new)
-        (wrong_line (option_map read_words findings.now.unread) ++ check_count_line findings.now.documents findings.now.faulty)
+        (check_message findings.now.unread findings.now.documents findings.now.faulty)
         (check_status findings.now.unread findings.now.faulty) result }
 {
     let wanted = match (findings.faulty, findings.unread) {

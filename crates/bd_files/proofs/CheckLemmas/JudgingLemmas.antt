@@ -1,7 +1,7 @@
 -- The judging of `check`.
 use Rattle.std.proofs.Common.{◌≡◌, ◌≤◌, ℕ, suc, ◌+◌, List, [], ◌∷◌, ◌++◌, length, Option, Some, None, Result, Ok, Err, Bool, true, false}
 use Rattle.std.proofs.Common.{refl, sym, ap, ap₂, ◌∙◌, subst, inl, inr, append_assoc, append-nil, arith, length-append}
-use Rattle.std.specs.Prelude.{IfSome, option_map}
+use Rattle.std.specs.Prelude.{IfSome}
 use Rattle.std.proofs.lemmas.List.{take_at, drop_at}
 use Rattle.bd_value.specs.Limits.{longest_input}
 use Rattle.bd_device.specs.Devices.{BreaksAfter, BreaksWithin, Reader, TakesText, Writer, between}
@@ -16,11 +16,11 @@ use Rattle.bd_stream.specs.Stream.{IsFrame}
 use Rattle.bd_stream.proofs.FrameLemmas.{frame_on}
 use Rattle.bd_bson.specs.Verdicts.{verdicts_at, verdicts}
 use Rattle.bd_bson.proofs.VerdictLemmas.{none_at, turn_at, last_at}
-use Rattle.bd_files.specs.Check.{ChecksInput, JudgesWithinLimit, check_count_line, check_status, shown_check, verdict_line, verdict_lines}
+use Rattle.bd_files.specs.Check.{ChecksInput, JudgesWithinLimit, check_message, check_status, shown_check, verdict_line, verdict_lines}
 use Rattle.bd_files.specs.Check.Judging.{JudgesDocuments, StopsJudging}
 use Rattle.bd_files.specs.Outcome.{StopsAt, StreamsInput, TellsMessage}
 use Rattle.bd_files.specs.Output.Fault.{stop_words}
-use Rattle.bd_files.specs.Transcript.{error_line, read_words, wrong_line}
+use Rattle.bd_files.specs.Transcript.{error_line}
 use Rattle.bd_files.specs.Walk.{AreVisited, IsTextOf, MeetsFault, StopsWalk, WalksDocuments, check_texts, more_visited, none_visited}
 use Rattle.bd_files.specs.declared.check.Findings.{Findings}
 use Rattle.bd_files.specs.declared.walk.Ending.{Ending}
@@ -208,7 +208,7 @@ module _ (old new : Reader) (out_old out_new : Writer) (err_old err_new : Writer
   Shows = ChecksInput (between old new) (between out_old out_new) (between err_old err_new) status
 
   abbrev Told : ℕ → ℕ → Option ReadFault → Type 0
-  Told count worse unread = TellsMessage (between err_old err_new) (wrong_line (option_map read_words unread) ++ check_count_line count worse) (check_status unread worse) status
+  Told count worse unread = TellsMessage (between err_old err_new) (check_message unread count worse) (check_status unread worse) status
 
   pub shows_findings : (findings : Findings) → JudgesDocuments (between old new) (between out_old out_new) findings
       → Told findings.documents findings.faulty findings.unread → Shows

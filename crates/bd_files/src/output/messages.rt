@@ -95,7 +95,8 @@ pub(crate) fn tell_end<E: Output>(
     words: &[u8],
     err: &mut E,
 ) -> Status
-    ensures { TellsMessage (over E.state err.old err.new) (wrong_line (told_bytes wrong.entry) ++ (decimal count ++ words.now)) (wrong_status (told_bytes wrong.entry)) result }
+    ensures { TellsMessage (over E.state err.old err.new) (wrong_line (told_bytes wrong.entry) ++ (decimal count ++ words.now))
+        (wrong_status (told_bytes wrong.entry)) result }
 {
     let wanted = match wrong {
         None => Status::Done,
