@@ -5,11 +5,8 @@ use Rattle.bd_value.specs.Tree.{Doc}
 use Rattle.bd_answer.specs.Answer.{matching}
 use Rattle.bd_answer.specs.Session.{Explanation, IndexCounts, IndexMark, by_index, by_scan, by_walk}
 use Rattle.bd_path.specs.KeyList.{indexed_keys}
-use Rattle.bd_path.specs.Earliest.{SortPath}
-use Rattle.bd_path.specs.Sort.{sort_paths}
-use Rattle.bd_filter.specs.Filter.{Filter}
-use Rattle.bd_filter.specs.FilterView.{filter_tree}
-use Rattle.bd_request.specs.declared.request.Request.{Request}
+use Rattle.bd_request.specs.Request.{Request, request_view}
+use Rattle.bd_request.specs.declared.request.Request as declared
 use Rattle.bd_bson.specs.Documents.{document_at}
 use Rattle.bd_sort.specs.Selection.{selection_for}
 use Rattle.bd_bounds.specs.Bounds.{KeyBounds, is_among}
@@ -58,11 +55,10 @@ explained_access ds matches (walked i dir) = record {
   matches = matches;
 }
 
--- of what a filter, a sort, a skip and a limit select
-abbrev pub explanation_for : List Doc → Filter → List SortPath → ℕ → ℕ → Way → List IndexMark → Explanation
-explanation_for ds f ss skip limit way indexes =
-    explained_access ds (length (matching (selection_for ds f ss skip limit))) (access_of ds f ss way indexes)
+-- of what a request selects
+abbrev pub explanation_for : List Doc → Request → Way → List IndexMark → Explanation
+explanation_for ds r way indexes =
+    explained_access ds (length (matching (selection_for ds r.filter r.sorts r.skip r.limit))) (access_of ds r.filter r.sorts way indexes)
 
-abbrev pub explanation_of : List Doc → Request → Choice → List IndexMark → Explanation
-explanation_of ds r choice =
-    explanation_for ds (filter_tree r.filter) (sort_paths r.sort.items) r.skip r.limit (way_of choice)
+abbrev pub explanation_of : List Doc → declared.Request → Choice → List IndexMark → Explanation
+explanation_of ds r choice = explanation_for ds (request_view r) (way_of choice)

@@ -16,7 +16,8 @@ use Rattle.bd_files.specs.declared.status.Status.TheVariants.{Failed}
 use Rattle.bd_request.specs.declared.refused.Refused.{Refused}
 use Rattle.bd_request.specs.Refused.{IsRefusedPart, reason_of}
 use Rattle.bd_find.specs.Asking.{PageRequest, refused_text}
-use Rattle.bd_find.specs.Batch.{places_from, query_for}
+use Rattle.bd_sort.specs.Selection.{query_to}
+use Rattle.bd_find.specs.Batch.{places_from}
 use Rattle.bd_files.proofs.OutputLemmas.FaultLemmas.{lines-append}
 use Rattle.bd_bson.specs.Documents.{documents_at}
 use Rattle.bd_find.specs.Find.{IsShownOfBytes, shown_of_dump}
@@ -76,7 +77,7 @@ module _ (out_old out_new : Writer) (err_old err_new : Writer) (status : Status)
       )
 
   -- what is shown where no cursor was opened
-  pub refused_shown : (bytes : List ℕ) (ds : List Doc) (w : PageRequest) (refused : Refused) → IsRefusedPart (places_from (query_for bytes ds w) w.token) refused
+  pub refused_shown : (bytes : List ℕ) (ds : List Doc) (w : PageRequest) (refused : Refused) → IsRefusedPart (places_from (query_to bytes ds w.request) w.token) refused
       → TellsMessage (between err_old err_new) (error_line (refused_text (reason_of refused))) Failed status ⊎ TellsMessage (between err_old err_new) (error_line (codes "no memory")) Failed status
       → PrintsOrStarves (between out_old out_old) (between err_old err_new) (shown_of_dump bytes ds w) status
   refused_shown bytes ds w refused (inl want) told = nothing_shown (shown_of_dump bytes ds w) (either (rw want at told))

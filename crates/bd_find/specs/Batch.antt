@@ -6,17 +6,11 @@ use Rattle.bd_value.specs.Limits.{greatest_count}
 use Rattle.bd_value.specs.Tree.{Doc}
 use Rattle.bd_answer.specs.Answer.{answer, rest}
 use Rattle.bd_answer.specs.Session.{IndexMark, OpenCursor, Query, State, cursor_of, has_index}
-use Rattle.bd_sort.specs.Selection.{query_to}
 use Rattle.bd_cursor.specs.SessionView.{mark_of, marked_token}
 use Rattle.bd_request.specs.Refused.{IsRefusedPart, Reason, plain}
 use Rattle.bd_request.specs.declared.refused.Refused.{Refused}
 use Rattle.bd_request.specs.declared.refused.Refused.TheVariants as reasons
 use Rattle.bd_request.specs.declared.token.Token.{Token}
-use Rattle.bd_find.specs.Asking.{PageRequest}
-
--- what is wanted of a dump of these bytes, which are these documents
-abbrev pub query_for : List ℕ → List Doc → PageRequest → Query
-query_for bytes ds w = let r = w.request in query_to bytes ds r.filter r.sorts r.skip r.limit r.text
 
 -- the places after a token of this dump and this request: the digest is looked at first, then the place
 abbrev pub places_after_token : Query → Token → Result (List ℕ) Reason

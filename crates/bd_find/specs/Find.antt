@@ -12,7 +12,8 @@ use Rattle.bd_command_line.specs.FindWords.{FindWords}
 use Rattle.bd_request.specs.Results.{marked_text}
 use Rattle.bd_request.specs.Refused.{Reason}
 use Rattle.bd_find.specs.Asking.{AsksInWords, IsRefusedOr, PageRequest, refused_text}
-use Rattle.bd_find.specs.Batch.{cursor_for, places_from, query_for}
+use Rattle.bd_sort.specs.Selection.{query_to}
+use Rattle.bd_find.specs.Batch.{cursor_for, places_from}
 use Rattle.bd_files.specs.Input.{ReadsInput}
 use Rattle.bd_files.specs.Outcome.{PrintsInput, TellsMessage}
 use Rattle.bd_files.specs.Transcript.{Transcript, error_line, lines, fault_text, read_words, shown_refusal}
@@ -46,11 +47,11 @@ shown_batch size ds c = let ps = at_most size c.left in record {
 
 -- what is shown of a dump: the first batch of what is asked for, or what is wrong with the token
 abbrev pub shown_places : List ℕ → List Doc → PageRequest → Result (List ℕ) Reason → Transcript
-shown_places bytes ds w (Ok ps) = shown_batch w.batch ds (cursor_for 1 (query_for bytes ds w) w.token ps)
+shown_places bytes ds w (Ok ps) = shown_batch w.batch ds (cursor_for 1 (query_to bytes ds w.request) w.token ps)
 shown_places bytes ds w (Err why) = shown_refusal (refused_text why)
 
 abbrev pub shown_of_dump : List ℕ → List Doc → PageRequest → Transcript
-shown_of_dump bytes ds w = shown_places bytes ds w (places_from (query_for bytes ds w) w.token)
+shown_of_dump bytes ds w = shown_places bytes ds w (places_from (query_to bytes ds w.request) w.token)
 
 -- what is shown of bytes in which these documents end so
 abbrev pub shown_of_walk : List ℕ → List Doc → Option Fault → PageRequest → Transcript

@@ -16,15 +16,15 @@
 //!
 //! - `reply`: `Reply`, to match on: `specs/Reply.antt` has its document, and `specs/ReplyView.antt` what it stands for.
 //! - `refusal`: `LineRefusal`, why a line has no result: `specs/Refusal.antt`.
-//! - `writing`: `write_reply`, the text of a reply.
+//! - `reply_text`: `write_reply`, the text of a reply.
 //! - `member`: the pairs of a reply: `specs/MemberView.antt`.
 #![tactic(auto)]
 
 mod member;
 mod refusal;
 mod reply;
-mod writing;
+mod reply_text;
 
 pub use refusal::LineRefusal;
 pub use reply::Reply;
-pub use writing::write_reply;
+pub use reply_text::write_reply;

@@ -25,8 +25,10 @@ use Rattle.bd_request.specs.Sort.{sort_of}
 use Rattle.bd_request.specs.declared.refused.Refused.TheVariants as reasons
 use Rattle.bd_reply.specs.Refusal.{command_refusal, path_refusal, session_refusal}
 use Rattle.bd_reply.specs.Reply.{ToldRefusal}
+use Rattle.bd_sort.specs.Selection.{query_to}
+use Rattle.bd_cursor.specs.Explanation.{explanation_for}
 use Rattle.bd_cursor.specs.SessionView.{make_of, marked_token}
-use Rattle.bd_service.specs.CallOf.{call_of, document_call, hint_path, request_explanation, request_query, search_of}
+use Rattle.bd_service.specs.CallOf.{call_of, document_call, hint_path, search_of, way_by}
 
 -- a call that asks for documents asks fairly
 abbrev pub AsksFairly : Call → Type 0
@@ -57,21 +59,21 @@ after_search f call fair =
     go g ss a b is index = tt
 
 module _ (bytes : List ℕ) (ds : List Doc) where
-  query_fair : (r : Request) → r.limit ≤ most_given → IsFair (request_query bytes ds r)
+  query_fair : (r : Request) → r.limit ≤ most_given → IsFair (query_to bytes ds r)
   query_fair r counted = (on_total (document_at ds) (sort_total r.sorts), counted)
 
   call_fair : (c : Command) → IsFairPart (call_of bytes ds c)
   call_fair (creates_index path sparse) =
       after_any (told_as path_refusal (path_of path)) (λ _. Ok (make_of ds (record { path = path; is_sparse = sparse }))) (λ _. tt)
   call_fair (drops_index path) = after_any (told_as path_refusal (path_of path)) (λ _. Ok (drop_call path)) (λ _. tt)
-  call_fair (finds f) = after_search f (λ r. find_call (request_query bytes ds r) (hint_path f.hint)) query_fair
+  call_fair (finds f) = after_search f (λ r. find_call (query_to bytes ds r) (hint_path f.hint)) query_fair
   call_fair (resumes token f) =
       after_any (told_as session_refusal (token_part token))
-      (λ t. then_part (search_of f) (λ r. Ok (resume_call (request_query bytes ds r) (hint_path f.hint) (marked_token t))))
-      (λ t. after_search f (λ r. resume_call (request_query bytes ds r) (hint_path f.hint) (marked_token t)) query_fair)
+      (λ t. then_part (search_of f) (λ r. Ok (resume_call (query_to bytes ds r) (hint_path f.hint) (marked_token t))))
+      (λ t. after_search f (λ r. resume_call (query_to bytes ds r) (hint_path f.hint) (marked_token t)) query_fair)
   call_fair (gets_more id batch) = tt
   call_fair (kills_cursor id) = tt
-  call_fair (explains f) = after_search f (λ r. explain_call (hint_path f.hint) (request_explanation ds r f.hint)) (λ r counted. tt)
+  call_fair (explains f) = after_search f (λ r. explain_call (hint_path f.hint) (explanation_for ds r (way_by f.hint))) (λ r counted. tt)
 
   pub line_fair : (o : Option Doc) (call : Call) → option_and_then (λ d. result_ok (document_call bytes ds d)) o ≡ Some call → AsksFairly call
   line_fair (Some d) call e =

@@ -7,6 +7,7 @@ use Rattle.bd_diagnose.specs.declared.json_fault.JsonFault.{JsonFault}
 use Rattle.bd_diagnose.specs.declared.json_fault.JsonFaultKind.TheVariants as kinds
 use Rattle.bd_extjson.specs.TextDocument.{reading}
 use Rattle.bd_lines.specs.Serving.{RepliesInTurn}
+use Rattle.bd_lines.proofs.ServingLemmas.{replied_then}
 use Rattle.bd_reply.specs.Refusal.{json_refusal}
 use Rattle.bd_reply.specs.Reply.{reply_text}
 use Rattle.bd_service.specs.CallOf.{document_call}
@@ -53,20 +54,7 @@ module _ (bytes : List ℕ) (ds : List Doc) where
       let later = some_replies first.1 lines in
       (first.0 ++ 10 ∷ later.0, later.1, (first.0, first.1, later.0, first.2, later.2, refl))
 
-  replied_then : (s : State) (lines later : List (List ℕ)) (text rest : List ℕ) (t end : State)
-      → AreReplied s lines text t → AreReplied t later rest end → AreReplied s (lines ++ later) (text ++ rest) end
-  replied_then s [] later text rest t end (same, none) more =
-      subst (λ (x : List ℕ). AreReplied s later (x ++ rest) end) (sym none) (subst (λ (x : State). AreReplied x later rest end) same more)
-  replied_then s (line ∷ lines) later text rest t end (reply, mid, others, r, replied, is) more = (
-    reply,
-    mid,
-    others ++ rest,
-    r,
-    replied_then mid lines later others rest t end replied more,
-    ap (λ (x : List ℕ). x ++ rest) is ∙ append_assoc reply (10 ∷ others) rest,
-  )
-
 pub replies_on : RepliesGoOn
 replies_on bytes ds s lines later text t replied =
     let more = some_replies bytes ds t later in
-    (more.0, more.1, replied_then bytes ds s lines later text more.0 t more.1 replied more.2)
+    (more.0, more.1, replied_then (RepliesInText bytes ds) s t more.1 lines later text more.0 replied more.2)

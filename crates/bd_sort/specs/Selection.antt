@@ -13,7 +13,8 @@ use Rattle.bd_filter.specs.Filter.{Filter}
 use Rattle.bd_filter.specs.FilterMatch.{matches}
 use Rattle.bd_filter.specs.FilterView.{filter_tree}
 use Rattle.bd_request.specs.Digest.{token_digest}
-use Rattle.bd_request.specs.declared.request.Request.{Request}
+use Rattle.bd_request.specs.Request.{Request, request_view}
+use Rattle.bd_request.specs.declared.request.Request as declared
 
 -- which documents match
 abbrev pub hits_of : List Doc → Filter → ℕ → Bool
@@ -33,13 +34,14 @@ selection_for ds f ss skip limit = record {
   limit = limit;
 }
 
-abbrev pub selection_of : List Doc → Request → Selection
+abbrev pub selection_of : List Doc → declared.Request → Selection
 selection_of ds r = selection_for ds (filter_tree r.filter) (sort_paths r.sort.items) r.skip r.limit
 
--- the same to a dump of these bytes, which are these documents, with what ties its tokens to the bytes and to the text
-abbrev pub query_to : List ℕ → List Doc → Filter → List SortPath → ℕ → ℕ → List ℕ → Query
-query_to bytes ds f ss skip limit text = record { selection = selection_for ds f ss skip limit; digest = token_digest bytes text }
+-- a request to a dump of these bytes, which are these documents, with what ties its tokens to the bytes and to its text
+abbrev pub query_to : List ℕ → List Doc → Request → Query
+query_to bytes ds r =
+    record { selection = selection_for ds r.filter r.sorts r.skip r.limit; digest = token_digest bytes r.text }
 
--- a request to a dump
-abbrev pub query_of : Dump → Request → Query
-query_of dump r = record { selection = selection_of (documents dump) r; digest = token_digest (bytes_of dump) r.text.items }
+-- one in memory
+abbrev pub query_of : Dump → declared.Request → Query
+query_of dump r = query_to (bytes_of dump) (documents dump) (request_view r)
