@@ -1,4 +1,4 @@
-use Rattle.bd_extjson.proofs.LineLemmas.{text_line}
+use Rattle.bd_extjson.proofs.TextLemmas.{text_line}
 use Rattle.bd_extjson.proofs.laws.texts_are_lines.Goals as goal
 
 pub returns : goal.returns
