@@ -9,17 +9,25 @@ use Rattle.std.proofs.lemmas.Str.{IsUtf8-append, IsUtf8-nil, IsUtf8-encode, IsUt
 use lib.Utf8.{scalar, scalars, encode, encodes, low_scalar}
 use Rattle.json.specs.Text.{content, plain, after_backslash, after_u, after_high, prepend, code_unit, short_escape, is_high_surrogate, is_low_surrogate, surrogate_pair}
 
-abbrev pub IsTextIfAny : Option (List ℕ) → Type 0
-IsTextIfAny None = Unit {0}
-IsTextIfAny (Some s) = IsUtf8 s
+-- where there is a value, P holds of it
+abbrev pub Holds : {A : Type 0} → (A → Type 0) → Option A → Type 0
+Holds P None = Unit {0}
+Holds P (Some x) = P x
+
+pub then : {A B : Type 0} {P : A → Type 0} (Q : B → Type 0) (f : A → Option B) (o : Option A) → ((x : A) → P x → Holds Q (f x)) → Holds P o → Holds Q (option_and_then f o)
+then Q f None h p = tt
+then Q f (Some x) h p = h x p
+
+pub when : {A : Type 0} (P : A → Type 0) (b : Bool) (x y : A) → (b ≡ true → P x) → (b ≡ false → P y) → P (cond b x y)
+when P true x y p q = p refl
+when P false x y p q = q refl
+
+abbrev IsTextIfAny : Option (List ℕ) → Type 0
+IsTextIfAny = Holds IsUtf8
 
 prepended : (bs : List ℕ) (o : Option (List ℕ)) → IsUtf8 bs → IsTextIfAny o → IsTextIfAny (prepend bs o)
 prepended bs None p q = tt
 prepended bs (Some s) p q = IsUtf8-append bs s p q
-
-either : (b : Bool) (x y : Option (List ℕ)) → IsTextIfAny x → IsTextIfAny y → IsTextIfAny (cond b x y)
-either true x y p q = p
-either false x y p q = q
 
 prepend-prepend : (a b : List ℕ) (o : Option (List ℕ)) → prepend a (prepend b o) ≡ prepend (a ++ b) o
 prepend-prepend a b None = refl
@@ -146,67 +154,39 @@ short_high x high = grind (arith, nat_tests)
 abbrev Below : ℕ → Type 0
 Below n = (ys : List ℕ) → length ys < n → IsUtf8 ys → IsTextIfAny (content plain ys)
 
-after_high_text : (n h : ℕ) (xs : List ℕ) → Below n → length xs ≤ n → is_high_surrogate h ≡ true → IsUtf8 xs → IsTextIfAny (content (after_high h) xs)
-unfolding content
-after_high_text n h [] below le high utf8 = tt
-after_high_text n h (s ∷ []) below le high utf8 = tt
-after_high_text n h (s ∷ u ∷ []) below le high utf8 = tt
-after_high_text n h (s ∷ u ∷ a ∷ []) below le high utf8 = tt
-after_high_text n h (s ∷ u ∷ a ∷ b ∷ []) below le high utf8 = tt
-after_high_text n h (s ∷ u ∷ a ∷ b ∷ c ∷ []) below le high utf8 = tt
-after_high_text n h (s ∷ u ∷ a ∷ b ∷ c ∷ d ∷ xs) below le high utf8 = go ((s == 92) && (u == 117)) refl
+after_digits : (a b c d : ℕ) (xs : List ℕ) → a < 128 → b < 128 → c < 128 → d < 128 → IsUtf8 (a ∷ b ∷ c ∷ d ∷ xs) → IsUtf8 xs
+after_digits a b c d xs p q r s utf8 =
+    after_ascii d xs s (after_ascii c (d ∷ xs) r (after_ascii b (c ∷ d ∷ xs) q (after_ascii a (b ∷ c ∷ d ∷ xs) p utf8)))
+
+-- what four hexadecimal digits stand for, and the rest of the text after them
+unit_text : (a b c d : ℕ) (xs : List ℕ) (f : ℕ → Option (List ℕ)) → IsUtf8 (a ∷ b ∷ c ∷ d ∷ xs) → ((u : ℕ) → u < 65536 → IsUtf8 xs → IsTextIfAny (f u))
+    → IsTextIfAny (option_and_then f (code_unit a b c d))
+unit_text a b c d xs f utf8 h = unit (code_unit a b c d) refl
   where
-    low_half : (l : ℕ) (t : Bool) → is_low_surrogate l ≡ t → IsUtf8 xs → IsTextIfAny (cond t (prepend (encode_utf8 (surrogate_pair h l)) (content plain xs)) None)
-    low_half l false is rest = tt
-    low_half l true is rest = prepended (encode_utf8 (surrogate_pair h l)) (content plain xs) (IsUtf8-encode (surrogate_pair h l) (scalar_pair h l high is)) (below xs (omega arith) rest)
-
-    unit : (o : Option ℕ) → code_unit a b c d ≡ o → s < 128 → u < 128
-        → IsTextIfAny (option_and_then (λ l. cond (is_low_surrogate l) (prepend (encode_utf8 (surrogate_pair h l)) (content plain xs)) None) o)
-    unit None is p q = tt
-    unit (Some l) is p q =
-        let small = unit_small a b c d l is in
-        let one = after_ascii s (u ∷ a ∷ b ∷ c ∷ d ∷ xs) p utf8 in
-        let two = after_ascii u (a ∷ b ∷ c ∷ d ∷ xs) q one in
-        let three = after_ascii a (b ∷ c ∷ d ∷ xs) small.0 two in
-        let four = after_ascii b (c ∷ d ∷ xs) small.1 three in
-        let five = after_ascii c (d ∷ xs) small.2 four in
-        low_half l (is_low_surrogate l) refl (after_ascii d xs small.3 five)
-
-    go : (t : Bool) → ((s == 92) && (u == 117)) ≡ t
-        → IsTextIfAny (cond t (option_and_then (λ l. cond (is_low_surrogate l) (prepend (encode_utf8 (surrogate_pair h l)) (content plain xs)) None) (code_unit a b c d)) None)
-    go false is = tt
-    go true is =
-        let p = and_parts (s == 92) (u == 117) is in
-        let p0 = eqb-true s 92 p.0 in
-        let p1 = eqb-true u 117 p.1 in
-        unit (code_unit a b c d) refl (omega arith) (omega arith)
-
-after_u_text : (n : ℕ) (xs : List ℕ) → Below n → length xs ≤ n → IsUtf8 xs → IsTextIfAny (content after_u xs)
-unfolding content
-after_u_text n [] below le utf8 = tt
-after_u_text n (a ∷ []) below le utf8 = tt
-after_u_text n (a ∷ b ∷ []) below le utf8 = tt
-after_u_text n (a ∷ b ∷ c ∷ []) below le utf8 = tt
-after_u_text n (a ∷ b ∷ c ∷ d ∷ xs) below le utf8 = unit (code_unit a b c d) refl
-  where
-    last : (u : ℕ) (t : Bool) → is_low_surrogate u ≡ t → is_high_surrogate u ≡ false → u < 65536 → IsUtf8 xs → IsTextIfAny (cond t None (prepend (encode_utf8 u) (content plain xs)))
-    last u true is high small rest = tt
-    last u false is high small rest = prepended (encode_utf8 u) (content plain xs) (IsUtf8-encode u (scalar_unit u small high is)) (below xs (omega arith) rest)
-
-    first : (u : ℕ) (t : Bool) → is_high_surrogate u ≡ t → u < 65536 → IsUtf8 xs
-        → IsTextIfAny (cond t (content (after_high u) xs) (cond (is_low_surrogate u) None (prepend (encode_utf8 u) (content plain xs))))
-    first u true is small rest = after_high_text n u xs below (omega arith) is rest
-    first u false is small rest = last u (is_low_surrogate u) refl is small rest
-
-    unit : (o : Option ℕ) → code_unit a b c d ≡ o
-        → IsTextIfAny (option_and_then (λ u. cond (is_high_surrogate u) (content (after_high u) xs) (cond (is_low_surrogate u) None (prepend (encode_utf8 u) (content plain xs)))) o)
+    unit : (o : Option ℕ) → code_unit a b c d ≡ o → IsTextIfAny (option_and_then f o)
     unit None is = tt
     unit (Some u) is =
         let small = unit_small a b c d u is in
-        let one = after_ascii a (b ∷ c ∷ d ∷ xs) small.0 utf8 in
-        let two = after_ascii b (c ∷ d ∷ xs) small.1 one in
-        let three = after_ascii c (d ∷ xs) small.2 two in
-        first u (is_high_surrogate u) refl small.4 (after_ascii d xs small.3 three)
+        h u small.4 (after_digits a b c d xs small.0 small.1 small.2 small.3 utf8)
+
+after_high_text : (n h : ℕ) (xs : List ℕ) → Below n → length xs ≤ n → is_high_surrogate h ≡ true → IsUtf8 xs → IsTextIfAny (content (after_high h) xs)
+unfolding content
+after_high_text n h (s ∷ u ∷ a ∷ b ∷ c ∷ d ∷ xs) below le high utf8 =
+    when IsTextIfAny ((s == 92) && (u == 117)) _ None (λ is.
+    let p = and_parts (s == 92) (u == 117) is in
+    let one = after_ascii s (u ∷ a ∷ b ∷ c ∷ d ∷ xs) (omega (arith, eqb-true s 92 p.0)) utf8 in
+    let two = after_ascii u (a ∷ b ∷ c ∷ d ∷ xs) (omega (arith, eqb-true u 117 p.1)) one in
+    unit_text a b c d xs _ two (λ l small rest. when IsTextIfAny (is_low_surrogate l) _ None (λ low.
+    prepended (encode_utf8 (surrogate_pair h l)) (content plain xs) (IsUtf8-encode (surrogate_pair h l) (scalar_pair h l high low)) (below xs (omega arith) rest)) (λ e. tt))) (λ e. tt)
+after_high_text n h _ below le high utf8 = tt
+
+after_u_text : (n : ℕ) (xs : List ℕ) → Below n → length xs ≤ n → IsUtf8 xs → IsTextIfAny (content after_u xs)
+unfolding content
+after_u_text n (a ∷ b ∷ c ∷ d ∷ xs) below le utf8 =
+    unit_text a b c d xs _ utf8 (λ u small rest. when IsTextIfAny (is_high_surrogate u) _ _ (λ high. after_high_text n u xs below (omega arith) high rest) (λ not_high.
+    when IsTextIfAny (is_low_surrogate u) None _ (λ e. tt) (λ not_low.
+    prepended (encode_utf8 u) (content plain xs) (IsUtf8-encode u (scalar_unit u small not_high not_low)) (below xs (omega arith) rest))))
+after_u_text n _ below le utf8 = tt
 
 after_backslash_text : (n : ℕ) (xs : List ℕ) → Below n → length xs ≤ n → IsUtf8 xs → IsTextIfAny (content after_backslash xs)
 unfolding content
@@ -214,8 +194,7 @@ after_backslash_text n [] below le utf8 = tt
 after_backslash_text n (x ∷ xs) below le utf8 = elim (cases_lt x 128) [
   | inl small ↦
       let rest = after_ascii x xs small utf8 in
-      either (x == 117) (content after_u xs) (option_and_then (λ c. prepend (c ∷ []) (content plain xs)) (short_escape x)) (after_u_text n xs below (omega arith) rest)
-      (short (short_escape x) refl small rest)
+      when IsTextIfAny (x == 117) _ _ (λ e. after_u_text n xs below (omega arith) rest) (λ e. short (short_escape x) refl small rest)
   | inr high ↦ subst IsTextIfAny (sym (none high)) tt
 ]
   where
@@ -233,10 +212,10 @@ plain_text zero (x ∷ xs) le utf8 = absurd (omega arith)
 plain_text (suc n) (x ∷ xs) le utf8 = elim (cases_lt x 128) [
   | inl small ↦
       let rest = after_ascii x xs small utf8 in
-      either (x == 34) (Some []) (cond (x == 92) (content after_backslash xs) (cond (nat_lt x 32) None (prepend (x ∷ []) (content plain xs)))) IsUtf8-nil
-      (either (x == 92) (content after_backslash xs) (cond (nat_lt x 32) None (prepend (x ∷ []) (content plain xs)))
-      (after_backslash_text n xs (λ ys lt u. plain_text n ys (omega arith) u) (omega arith) rest)
-      (either (nat_lt x 32) None (prepend (x ∷ []) (content plain xs)) tt (prepended (x ∷ []) (content plain xs) (one_ascii x small) (plain_text n xs (omega arith) rest))))
+      when IsTextIfAny (x == 34) (Some []) _ (λ e. IsUtf8-nil) (λ e.
+      when IsTextIfAny (x == 92) _ _ (λ e. after_backslash_text n xs (λ ys lt u. plain_text n ys (omega arith) u) (omega arith) rest) (λ e.
+      when IsTextIfAny (nat_lt x 32) None _ (λ e. tt) (λ e.
+      prepended (x ∷ []) (content plain xs) (one_ascii x small) (plain_text n xs (omega arith) rest))))
   | inr high ↦
       let f = first_char x xs high utf8 in
       let size = ap (λ l. length l) f.parts in
