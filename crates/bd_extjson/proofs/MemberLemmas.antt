@@ -12,34 +12,17 @@ use Rattle.bd_extjson.specs.TextDocument.{document}
 use Rattle.bd_wrapper.specs.Progress.{through, after_key, if_no_name, closing, is_code, is_scope, is_code_name, is_scope_name}
 use Rattle.bd_wrapper.specs.declared.wrapper.Wrapper.{Wrapper}
 use Rattle.bd_wrapper.specs.declared.wrapper.Wrapper.TheVariants as kinds
-use Rattle.bd_extjson.proofs.StepLemmas.{nested_is, next_name}
+use Rattle.bd_extjson.proofs.StepLemmas.{nested_is, next_name, never, refused_member, through_made, through_same}
 
 -- ---- members, whatever is made of them
-
-pub never : {A : Type 0} (f : json.Members → Option A) → ((ms : json.Members) → f ms ≡ None) → (r : Option (json.Members × List Token)) → through f r ≡ None
-never f h None = refl
-never f h (Some q) = ap (option_map (λ a. (a, q.1))) (h q.0)
 
 pub unreadable : {A : Type 0} (f : json.Members → Option A) (k : List ℕ) (depth n : ℕ) (ts : List Token) → value depth ts ≡ None → through f (after_key depth n (Some k) ts) ≡ None
 unreadable f k depth n ts e = ap (λ v. through f (option_and_then (λ p. parse_map (json.member k p.0) (members (value depth) n p.1)) v)) e
 
-member_in : {A : Type 0} (f : json.Members → Option A) (k : List ℕ) (j : Json) (r : Option (json.Members × List Token))
-    → through f (parse_map (json.member k j) r) ≡ through (λ ms. f (json.member k j ms)) r
-member_in f k j None = refl
-member_in f k j (Some q) = refl
-
 pub member_is : {A : Type 0} (f : json.Members → Option A) (k : List ℕ) (depth n : ℕ) (ts s : List Token) (j : Json) → value depth ts ≡ Some (j, s)
     → through f (after_key depth n (Some k) ts) ≡ through (λ ms. f (json.member k j ms)) (members (value depth) n s)
 member_is f k depth n ts s j e =
-    ap (λ v. through f (option_and_then (λ p. parse_map (json.member k p.0) (members (value depth) n p.1)) v)) e ∙ member_in f k j (members (value depth) n s)
-
-pub refused_member : {A : Type 0} (f : json.Members → Option A) (k : List ℕ) (depth n : ℕ) (ts : List Token) → ((j : Json) (ms : json.Members) → f (json.member k j ms) ≡ None)
-    → through f (after_key depth n (Some k) ts) ≡ None
-refused_member f k depth n ts h = turn (value depth ts)
-  where
-    turn : (v : Option (Json × List Token)) → through f (option_and_then (λ p. parse_map (json.member k p.0) (members (value depth) n p.1)) v) ≡ None
-    turn None = refl
-    turn (Some p) = member_in f k p.0 (members (value depth) n p.1) ∙ never (λ ms. f (json.member k p.0 ms)) (h p.0) (members (value depth) n p.1)
+    ap (λ v. through f (option_and_then (λ p. parse_map (json.member k p.0) (members (value depth) n p.1)) v)) e ∙ through_made f (json.member k j) (members (value depth) n s)
 
 pub no_name : {A : Type 0} (f : json.Members → Option A) (depth n : ℕ) (ts : List Token) → read_key ts ≡ None → through f (members (value depth) n ts) ≡ None
 no_name f depth n ts e = ap (through f) (members_no_key (value depth) n ts e)
@@ -105,15 +88,11 @@ was_not_read {A = A} g (Some p) e = inr (p.0, p.1, refl, go (g p.0) e)
 abbrev pub wrapping : ℕ → Wrapper → Json → Option Tree → json.Members → Option Tree
 wrapping room w j t ms = wrapper_tree room w j t (after (room - 1) ms)
 
-first_after : (w : Wrapper) (k : List ℕ) (room : ℕ) (j : Json) (r : Option (json.Members × List Token)) → wrapper_of k ≡ Some w
-    → through (wrap_object room) (parse_map (json.member k j) r) ≡ through (wrapping room w j (wrap (room - 1) j)) r
-first_after w k room j None e = refl
-first_after w k room j (Some q) e = rw e refl
-
 pub first_part : (w : Wrapper) (k : List ℕ) (room depth n : ℕ) (ts s : List Token) (j : Json) → wrapper_of k ≡ Some w → value depth ts ≡ Some (j, s)
     → through (wrap_object room) (after_key depth n (Some k) ts) ≡ through (wrapping room w j (wrap (room - 1) j)) (members (value depth) n s)
 first_part w k room depth n ts s j e f =
-    ap (λ v. through (wrap_object room) (option_and_then (λ p. parse_map (json.member k p.0) (members (value depth) n p.1)) v)) f ∙ first_after w k room j (members (value depth) n s) e
+    member_is (wrap_object room) k depth n ts s j f
+    ∙ through_same (λ ms. wrap_object room (json.member k j ms)) (wrapping room w j (wrap (room - 1) j)) (λ ms. rw e refl) (members (value depth) n s)
 
 nested_none : {A : Type 0} (room : ℕ) (o : Option A) → o ≡ None → nested room o ≡ None
 nested_none zero o e = refl
@@ -187,10 +166,6 @@ scope_unread k room depth n ts j t e f = go (was_not_read (wrap (room - 1)) (val
     go (inr p) = member_is (wrapping room kinds.Code j t) k depth n ts p.1 p.0 p.2
         ∙ never (λ ms. wrapping room kinds.Code j t (json.member k p.0 ms)) (λ ms. code_after k room j p.0 t None ms e p.3 ∙ scope_fails room j p.0 t ms) (members (value depth) n p.1)
 
-same : {A : Type 0} (f g : json.Members → Option A) → ((ms : json.Members) → f ms ≡ g ms) → (r : Option (json.Members × List Token)) → through f r ≡ through g r
-same f g h None = refl
-same f g h (Some q) = ap (option_map (λ a. (a, q.1))) (h q.0)
-
 -- what follows a scope
 pub scope_read : (k : List ℕ) (room depth n : ℕ) (ts r : List Token) (j : Json) (t : Option Tree) (u : Tree) → is_scope_name (wrapper_of k) ≡ true
     → through (wrap (room - 1)) (value depth ts) ≡ Some (u, r)
@@ -200,7 +175,7 @@ scope_read k room depth n ts r j t u e f =
     let p = was_read (wrap (room - 1)) (value depth ts) u r f in (
       p.0,
       member_is (wrapping room kinds.Code j t) k depth n ts r p.0 p.1
-          ∙ same (λ ms. wrapping room kinds.Code j t (json.member k p.0 ms)) _ (λ ms. code_after k room j p.0 t (Some u) ms e p.2) (members (value depth) n r),
+          ∙ through_same (λ ms. wrapping room kinds.Code j t (json.member k p.0 ms)) _ (λ ms. code_after k room j p.0 t (Some u) ms e p.2) (members (value depth) n r),
     )
 
 pub scope_unended : (k : List ℕ) (room depth n : ℕ) (ts r : List Token) (j : Json) (t : Option Tree) (u : Tree) → is_scope_name (wrapper_of k) ≡ true

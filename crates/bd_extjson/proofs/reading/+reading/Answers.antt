@@ -280,7 +280,7 @@ read_wrapper-returns-then-not-is_code-clause-gives t c = λ name is.
     let key = c.in_ok-second.ensures.value ∙ ap (λ k. Some (option_map (λ (s : Bor (List ℕ)). s.now) k, c.next_key.new.self)) c.in-Some.is in
     seconds.first_part w name c.args.room c.args.depth (length c.args.reader.now) c.args.reader.now s j is c.in_ok-part.ensures.gives
     ∙ seconds.named f c.in-Some.second.now c.args.depth (length c.args.reader.now) s c.next_key.new.self le key
-    ∙ seconds.refused_member f c.in-Some.second.now c.args.depth (length c.args.reader.now - 1) c.next_key.new.self
+    ∙ steps.refused_member f c.in-Some.second.now c.args.depth (length c.args.reader.now - 1) c.next_key.new.self
     (λ i ms. seconds.one_name_alone w c.args.room j (wrap (c.args.room - 1) j) c.in-Some.second.now i ms (sym c.if-not-is_code.ensures) (sym c.if-is_scope.ensures))
 
 pub read_wrapper-returns-clause-gives : goal.read_wrapper-returns-clause-gives
