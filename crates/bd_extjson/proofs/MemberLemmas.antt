@@ -75,13 +75,21 @@ was_read {A = A} g (Some p) a r e = go (g p.0) refl e
         let same : Some p.1 ≡ Some r = ap (option_map (λ q. q.1)) e in
         (p.0, ap (option_map (λ (x : List Token). (p.0, x))) same, is ∙ ap (option_map (λ q. q.0)) e)
 
-pub was_not_read : {A : Type 0} (g : Json → Option A) (v : Option (Json × List Token)) → through g v ≡ None → (v ≡ None) ⊎ ((j : Json) × (r : List Token) × (v ≡ Some (j, r)) × (g j ≡ None))
-was_not_read g None e = inl refl
-was_not_read {A = A} g (Some p) e = inr (p.0, p.1, refl, go (g p.0) e)
+not_read : {A : Type 0} (r : List Token) (o : Option A) → with_rest r o ≡ None → o ≡ None
+not_read r None e = refl
+not_read r (Some a) e = absurd cc
+
+-- where g gives nothing of the value that follows a name, and f nothing without it, f gives nothing
+unread : {A B : Type 0} (f : json.Members → Option A) (g : Json → Option B) (k : List ℕ) (depth n : ℕ) (ts : List Token) → through g (value depth ts) ≡ None
+    → ((i : Json) (ms : json.Members) → g i ≡ None → f (json.member k i ms) ≡ None) → through f (after_key depth n (Some k) ts) ≡ None
+unread f g k depth n ts e h = turn (value depth ts) e
   where
-    go : (o : Option A) → with_rest p.1 o ≡ None → o ≡ None
-    go None e = refl
-    go (Some b) e = absurd cc
+    turn : (v : Option (Json × List Token)) → through g v ≡ None
+        → through f (option_and_then (λ p. parse_map (json.member k p.0) (members (value depth) n p.1)) v) ≡ None
+    turn None e = refl
+    turn (Some p) e =
+        let r = members (value depth) n p.1 in
+        through_made f (json.member k p.0) r ∙ never (λ ms. f (json.member k p.0 ms)) (λ ms. h p.0 ms (not_read p.1 (g p.0) e)) r
 
 -- ---- wrappers of one name
 
@@ -158,13 +166,8 @@ scope_fails room j i t (json.member l h ms) = refl
 
 pub scope_unread : (k : List ℕ) (room depth n : ℕ) (ts : List Token) (j : Json) (t : Option Tree) → is_scope_name (wrapper_of k) ≡ true → through (wrap (room - 1)) (value depth ts) ≡ None
     → through (wrapping room kinds.Code j t) (after_key depth n (Some k) ts) ≡ None
-scope_unread k room depth n ts j t e f = go (was_not_read (wrap (room - 1)) (value depth ts) f)
-  where
-    go : (value depth ts ≡ None) ⊎ ((i : Json) × (r : List Token) × (value depth ts ≡ Some (i, r)) × (wrap (room - 1) i ≡ None))
-        → through (wrapping room kinds.Code j t) (after_key depth n (Some k) ts) ≡ None
-    go (inl none) = unreadable (wrapping room kinds.Code j t) k depth n ts none
-    go (inr p) = member_is (wrapping room kinds.Code j t) k depth n ts p.1 p.0 p.2
-        ∙ never (λ ms. wrapping room kinds.Code j t (json.member k p.0 ms)) (λ ms. code_after k room j p.0 t None ms e p.3 ∙ scope_fails room j p.0 t ms) (members (value depth) n p.1)
+scope_unread k room depth n ts j t e f =
+    unread (wrapping room kinds.Code j t) (wrap (room - 1)) k depth n ts f (λ i ms none. code_after k room j i t None ms e none ∙ scope_fails room j i t ms)
 
 -- what follows a scope
 pub scope_read : (k : List ℕ) (room depth n : ℕ) (ts r : List Token) (j : Json) (t : Option Tree) (u : Tree) → is_scope_name (wrapper_of k) ≡ true
@@ -208,13 +211,8 @@ no_room_first k room depth n ts e z = refused_member (wrap_object room) k depth 
 
 pub first_unread : (k : List ℕ) (room depth n : ℕ) (ts : List Token) → wrapper_of k ≡ Some kinds.Scope → through (wrap (room - 1)) (value depth ts) ≡ None
     → through (wrap_object room) (after_key depth n (Some k) ts) ≡ None
-first_unread k room depth n ts e f = go (was_not_read (wrap (room - 1)) (value depth ts) f)
-  where
-    go : (value depth ts ≡ None) ⊎ ((i : Json) × (r : List Token) × (value depth ts ≡ Some (i, r)) × (wrap (room - 1) i ≡ None)) → through (wrap_object room) (after_key depth n (Some k) ts) ≡ None
-    go (inl none) = unreadable (wrap_object room) k depth n ts none
-    go (inr p) = first_part kinds.Scope k room depth n ts p.1 p.0 e p.2
-        ∙ never (wrapping room kinds.Scope p.0 (wrap (room - 1) p.0)) (λ ms. ap (λ t. wrapping room kinds.Scope p.0 t ms) p.3
-        ∙ scope_first_fails room p.0 (after (room - 1) ms)) (members (value depth) n p.1)
+first_unread k room depth n ts e f =
+    unread (wrap_object room) (wrap (room - 1)) k depth n ts f (λ i ms none. rw (e, none) (scope_first_fails room i (after (room - 1) ms)))
 
 pub first_read : (k : List ℕ) (room depth n : ℕ) (ts r : List Token) (u : Tree) → wrapper_of k ≡ Some kinds.Scope → through (wrap (room - 1)) (value depth ts) ≡ Some (u, r)
     → (j : Json) × (through (wrap_object room) (after_key depth n (Some k) ts) ≡ through (wrapping room kinds.Scope j (Some u)) (members (value depth) n r))

@@ -1,6 +1,7 @@
 -- A whole text.
-use Rattle.std.proofs.Common.{◌≡◌, ℕ, Bool, true, false, List, [], ◌∷◌, Option, Some, None, option_map, option_and_then, refl, sym, ap, ◌∙◌}
+use Rattle.std.proofs.Common.{◌≡◌, ℕ, Bool, true, false, List, [], ◌∷◌, Option, Some, None, option_map, option_and_then, refl, sym, ap, ◌∙◌, inl, inr}
 use Rattle.std.specs.Str.{is_utf8, IsUtf8}
+use Rattle.std.proofs.lemmas.Bool.{cases_Bool}
 use Rattle.std.proofs.lemmas.Str.{is_utf8-from_IsUtf8, IsUtf8-from_is_utf8}
 use Rattle.bd_value.specs.Limits.{most_brackets, most_levels}
 use Rattle.json.specs.Token.{Token}
@@ -35,12 +36,10 @@ whole_text text ts rest t u e r n =
     ap (option_and_then (wrap most_levels)) (json_is text (is_utf8-from_IsUtf8 text u))
     ∙ last (value most_brackets (tokens text)) t (ap (λ k. through (wrap most_levels) (value most_brackets k)) (sym e) ∙ r ∙ ap (λ l. Some (t, l)) n)
 
-not_true : (b : Bool) → (b ≡ true → ⊥) → b ≡ false
-not_true true h = absurd (h refl)
-not_true false h = refl
-
 pub no_text : (text : List ℕ) → ¬ (IsUtf8 text) → reading text ≡ None
-no_text text h =
-    let b : is_utf8 text ≡ false = not_true (is_utf8 text) (λ e. h (IsUtf8-from_is_utf8 text e)) in
-    let j : json text ≡ None = rw b refl in
-    ap (λ o. option_map pairs_of (option_and_then document (option_and_then (wrap most_levels) o))) j
+no_text text h = elim (cases_Bool (is_utf8 text)) [
+  | inl is ↦ absurd (h (IsUtf8-from_is_utf8 text is))
+  | inr not ↦
+      let none : json text ≡ None = rw not refl in
+      ap (λ o. option_map pairs_of (option_and_then document (option_and_then (wrap most_levels) o))) none
+]

@@ -166,10 +166,7 @@ read_value-returns-in_err-token-clause-gives t c =
 
 pub read_value-returns-then-depth-eq0-2-clause-gives :
     goal.read_value-returns-then-depth-eq0-2-clause-gives
-read_value-returns-then-depth-eq0-2-clause-gives t c =
-    let first : c.args.reader.now ≡ token_of c.in_ok-token.token ∷ c.next.new.self = grind arith in
-    let none : c.args.depth ≡ 0 = omega arith in
-    ap (through (wrap c.args.room)) (ap₂ value none (first ∙ ap (λ k. token_of k ∷ c.next.new.self) c.in-BeginObject.is)) ∙ steps.too_deep_object c.args.room c.next.new.self
+read_value-returns-then-depth-eq0-2-clause-gives t c = grind (arith, steps.too_deep_object)
 
 pub read_value-returns-in_err-read_items-in-BeginArray-clause-gives :
     goal.read_value-returns-in_err-read_items-in-BeginArray-clause-gives
@@ -183,28 +180,15 @@ read_value-returns-in_err-read_items-in-BeginArray-clause-gives t c =
 
 pub read_value-returns-in_ok-read_items-in-BeginArray-clause-gives :
     goal.read_value-returns-in_ok-read_items-in-BeginArray-clause-gives
-read_value-returns-in_ok-read_items-in-BeginArray-clause-gives t c =
-    let first : c.args.reader.now ≡ token_of c.in_ok-token.token ∷ c.next.new.self = grind arith in
-    let opened = ap (through (wrap c.args.room)) (ap (value c.args.depth) (first ∙ ap (λ k. token_of k ∷ c.next.new.self) c.in-BeginArray.is))
-    ∙ steps.array_read c.args.room c.args.depth c.next.new.self (omega arith) (omega arith) in
-    opened ∙ ap (parse_map array) c.in_ok-read_items-in-BeginArray.ensures.gives ∙ ap (λ x. Some (x, c.read_items.new.reader)) (sym (tree_of-Array c.in_ok-read_items-in-BeginArray.field-0))
+read_value-returns-in_ok-read_items-in-BeginArray-clause-gives t c = grind (arith, steps.array_read, tree_of-Array)
 
 pub read_value-returns-else-depth-eq0-2-clause-gives :
     goal.read_value-returns-else-depth-eq0-2-clause-gives
-read_value-returns-else-depth-eq0-2-clause-gives t c =
-    let first : c.args.reader.now ≡ token_of c.in_ok-token.token ∷ c.next.new.self = grind arith in
-    let opened = ap (through (wrap c.args.room)) (ap (value c.args.depth) (first ∙ ap (λ k. token_of k ∷ c.next.new.self) c.in-BeginObject.is))
-    ∙ steps.object_read c.args.room c.args.depth c.next.new.self (omega arith) in
-    rw opened c.read_object.ensures.gives
+read_value-returns-else-depth-eq0-2-clause-gives t c = grind (arith, steps.object_read)
 
 pub read_value-returns-in_ok-from_str-in-String-clause-gives :
     goal.read_value-returns-in_ok-from_str-in-String-clause-gives
-read_value-returns-in_ok-from_str-in-String-clause-gives t c =
-    let first : c.args.reader.now ≡ token_of c.in_ok-token.token ∷ c.next.new.self = grind arith in
-    let s = c.in_ok-from_str-in-String.field-0 in
-    ap (through (wrap c.args.room)) (ap (value c.args.depth) (first ∙ ap (λ k. token_of k ∷ c.next.new.self) c.in-String.is))
-    ∙ steps.read_string c.args.room c.args.depth c.in-String.text.now c.next.new.self
-    ∙ ap (λ x. Some (leaf (tree.text x), c.next.new.self)) (sym c.in_ok-from_str-in-String.ensures.ok) ∙ ap (λ x. Some (x, c.next.new.self)) (sym (text_is s))
+read_value-returns-in_ok-from_str-in-String-clause-gives t c = grind (arith, steps.read_string, text_is)
 
 pub read_value-returns-in-Number-clause-gives : goal.read_value-returns-in-Number-clause-gives
 read_value-returns-in-Number-clause-gives t c =
@@ -214,36 +198,22 @@ read_value-returns-in-Number-clause-gives t c =
     ∙ steps.read_number c.args.room c.args.depth c.in-Number.text.now c.next.new.self)
 
 pub read_value-returns-in-Bool-clause-gives : goal.read_value-returns-in-Bool-clause-gives
-read_value-returns-in-Bool-clause-gives t c =
-    let first : c.args.reader.now ≡ token_of c.in_ok-token.token ∷ c.next.new.self = grind arith in
-    ap (through (wrap c.args.room)) (ap (value c.args.depth) (first ∙ ap (λ k. token_of k ∷ c.next.new.self) c.in-Bool.is))
-    ∙ steps.read_boolean c.args.room c.args.depth c.in-Bool.b c.next.new.self ∙ ap (λ x. Some (x, c.next.new.self)) (sym (bool_is c.in-Bool.b))
+read_value-returns-in-Bool-clause-gives t c = grind (arith, steps.read_boolean, bool_is)
 
 pub read_value-returns-in-Null-clause-gives : goal.read_value-returns-in-Null-clause-gives
-read_value-returns-in-Null-clause-gives t c =
-    let first : c.args.reader.now ≡ token_of c.in_ok-token.token ∷ c.next.new.self = grind arith in
-    ap (through (wrap c.args.room)) (ap (value c.args.depth) (first ∙ ap (λ k. token_of k ∷ c.next.new.self) c.in-Null.is))
-    ∙ steps.read_null c.args.room c.args.depth c.next.new.self ∙ ap (λ x. Some (x, c.next.new.self)) (sym null_is)
+read_value-returns-in-Null-clause-gives t c = grind (arith, steps.read_null, null_is)
 
 pub read_value-returns-in-EndObject-clause-gives :
     goal.read_value-returns-in-EndObject-clause-gives
-read_value-returns-in-EndObject-clause-gives t c =
-    let first : c.args.reader.now ≡ token_of c.in_ok-token.token ∷ c.next.new.self = grind arith in
-    steps.read_none c.args.room c.args.depth c.args.reader.now (rw (value_is c.args.depth c.args.reader.now, first) (grind arith))
+read_value-returns-in-EndObject-clause-gives t c = grind (arith, value_is)
 
 pub read_value-returns-then-depth-eq0-clause-gives :
     goal.read_value-returns-then-depth-eq0-clause-gives
-read_value-returns-then-depth-eq0-clause-gives t c =
-    let first : c.args.reader.now ≡ token_of c.in_ok-token.token ∷ c.next.new.self = grind arith in
-    let none : c.args.depth ≡ 0 = omega arith in
-    ap (through (wrap c.args.room)) (ap₂ value none (first ∙ ap (λ k. token_of k ∷ c.next.new.self) c.in-BeginArray.is)) ∙ steps.too_deep c.args.room c.next.new.self
+read_value-returns-then-depth-eq0-clause-gives t c = grind (arith, steps.too_deep)
 
 pub read_value-returns-then-room-eq0-clause-gives :
     goal.read_value-returns-then-room-eq0-clause-gives
-read_value-returns-then-room-eq0-clause-gives t c =
-    let first : c.args.reader.now ≡ token_of c.in_ok-token.token ∷ c.next.new.self = grind arith in
-    ap (through (wrap c.args.room)) (ap (value c.args.depth) (first ∙ ap (λ k. token_of k ∷ c.next.new.self) c.in-BeginArray.is))
-    ∙ steps.array_refused c.args.room c.args.depth c.next.new.self (omega arith) (omega arith)
+read_value-returns-then-room-eq0-clause-gives t c = grind (arith, steps.array_refused)
 
 -- ---- read_wrapper
 
