@@ -24,7 +24,7 @@ use Rattle.bd_extjson.specs.Plain.{IsPlainFirst, IsPlain, ArePlainItems, ArePlai
 use Rattle.bd_extjson.specs.TextDocument.{json as json_in, document, ReadsAs}
 use Rattle.bd_extjson.proofs.DecimalLemmas.{whole_64-signed, whole_32-signed, whole_64-decimal}
 use Rattle.bd_extjson.proofs.TextLemmas.{utf8-text}
-use Rattle.bd_extjson.proofs.TreeJsonLemmas.{scalar_json, json, elements_json, members_json, shallow, value-text}
+use Rattle.bd_extjson.proofs.TreeJsonLemmas.{scalar_json, json, elements_json, members_json, well, value-text}
 use Rattle.bd_extjson.proofs.WholeTextLemmas.{json_is}
 
 -- ---- the parts of a scalar
@@ -124,7 +124,7 @@ mutual
 json_back : (t : Tree) → FitsTypes t → HasUtf8 t → depth t ≤ most_levels → json_in (text t) ≡ Some (json t)
 json_back t fits utf8 deep =
     json_is (text t) (is_utf8-from_IsUtf8 (text t) (utf8-text t fits utf8))
-    ∙ ap (option_and_then (λ p. if_last p.0 p.1)) (value-text t most_brackets fits (omega (arith, shallow t)))
+    ∙ ap (option_and_then (λ p. if_last p.0 p.1)) (value-text t most_brackets fits (omega (arith, (well t fits).0)))
 
 pub document_back : (d : Doc) → FitsTypes (doc (fields_of d)) → HasUtf8 (doc (fields_of d)) → IsPlain (doc (fields_of d))
     → zero_in (doc (fields_of d)) ≡ false → depth (doc (fields_of d)) ≤ most_levels

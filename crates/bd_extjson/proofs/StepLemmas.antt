@@ -1,5 +1,5 @@
 -- Reading and wrapping, a step at a time.
-use Rattle.std.proofs.Common.{◌≡◌, ℕ, zero, suc, ◌-◌, ◌<◌, ◌≤◌, Bool, false, List, [], ◌∷◌, ◌++◌, length, Option, Some, None, option_map, option_and_then, refl, sym, ap, ◌∙◌, arith}
+use Rattle.std.proofs.Common.{◌≡◌, ℕ, zero, suc, ◌-◌, ◌<◌, ◌≤◌, Bool, false, List, [], ◌∷◌, ◌++◌, length, Option, Some, None, option_map, option_and_then, refl, sym, ap, ◌∙◌, arith, rules}
 use Rattle.json.specs.Token.{Token}
 use Rattle.json.specs.Json as json
 use Rattle.json.specs.Json.{Json, Parse, parse_map, after_end_array, read_key, items_step, members_step, items, members, value}
@@ -10,7 +10,12 @@ use Rattle.bd_value.specs.Zeros.{has_zero}
 use Rattle.bd_extjson.specs.Meaning.{bare_number, nested, add_item, add_field, wrap, wrap_items, wrap_object, wrap_fields}
 use Rattle.bd_wrapper.specs.Wrappers.{wrapper_of}
 use Rattle.bd_wrapper.specs.declared.wrapper.Wrapper.{Wrapper}
-use Rattle.std.specs.Prelude.{ok_or, Result, Ok, Err}
+use Rattle.std.specs.Prelude.{ok_or, Result, Ok, Err, String, string_bytes}
+use Rattle.std.specs.declared.alloc.Global.{Global}
+use Rattle.bd_value.specs.View.{tree_of}
+use Rattle.bd_value.specs.declared.document.Value.TheVariants as values
+use Rattle.bd_value.specs.declared.document.Value.TheFolds as folds
+use Rattle.bd_value.proofs.ViewLemmas.{tree_of-Array}
 use Rattle.bd_wrapper.specs.Whole.{whole_64}
 use Rattle.bd_wrapper.specs.Progress.{through, after_key, FailsAtTokens, GivesValue, GivesTokens}
 use Rattle.bd_wrapper.specs.declared.trouble.Trouble.{Trouble}
@@ -268,3 +273,15 @@ pub told : {X A : Type 0} (view : X → A) (result : Result X Trouble) (rest : L
 told view (Ok x) rest o read e t = e ∙ ap (option_map (λ a. (a, rest))) t
 told view (Err troubles.Memory) rest o read e t = tt
 told view (Err troubles.Refused) rest o read e t = e ∙ ap (option_map (λ a. (a, rest))) t
+
+pub text_is : (s : String Global) → tree_of (values.Text s) ≡ leaf (tree.text (string_bytes s))
+text_is s = search (rules, folds.the_lemmas)
+
+pub bool_is : (b : Bool) → tree_of (values.Bool b) ≡ leaf (tree.boolean b)
+bool_is b = search (rules, folds.the_lemmas)
+
+pub null_is : tree_of values.Null ≡ leaf tree.null
+null_is = search (rules, folds.the_lemmas)
+
+-- what a value is by its first token
+pub ruleset value_steps = (read_string, read_boolean, read_null, too_deep, too_deep_object, array_refused, array_read, object_read, tree_of-Array, text_is, bool_is, null_is)

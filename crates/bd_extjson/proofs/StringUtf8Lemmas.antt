@@ -3,7 +3,7 @@ use Rattle.std.proofs.Common.{◌≡◌, ◌≤◌, ◌<◌, ℕ, zero, suc, ◌
 use Rattle.std.proofs.Common.{inl, inr, refl, sym, ap, ◌∙◌, subst, arith, length-append, append-nil, append_assoc, ltb-true, leb-true}
 use Rattle.std.specs.Prelude.{IsUtf8, nat_lt, nat_le, ◌==◌, option_and_then}
 use Rattle.std.specs.Char.{digit_value, is_digit, encode_utf8}
-use Rattle.std.proofs.lemmas.Bool.{and_parts, cases_lt, eqb-true}
+use Rattle.std.proofs.lemmas.Bool.{and_parts, cases_lt, cases_Bool, eqb-true}
 use Rattle.std.proofs.lemmas.Bool.Decides.{nat_tests}
 use Rattle.std.proofs.lemmas.Str.{IsUtf8-append, IsUtf8-nil, IsUtf8-encode, IsUtf8-past_char, encode_ascii, inside_one, length-encode, len_utf8_bounds}
 use lib.Utf8.{scalar, scalars, encode, encodes, low_scalar}
@@ -108,22 +108,19 @@ digit_small a is = let v = ltb-true (digit_value a) 16 is in elim (cases_lt a 12
 
 unit_small : (a b c d u : ℕ) → code_unit a b c d ≡ Some u → (a < 128) × (b < 128) × (c < 128) × (d < 128) × (u < 65536)
 unfolding code_unit
-unit_small a b c d u e = go (is_digit a 16 && is_digit b 16 && is_digit c 16 && is_digit d 16) refl e
-  where
-    go : (t : Bool) → (is_digit a 16 && is_digit b 16 && is_digit c 16 && is_digit d 16) ≡ t
-        → cond t (Some (digit_value a * 4096 + digit_value b * 256 + digit_value c * 16 + digit_value d)) None ≡ Some u
-        → (a < 128) × (b < 128) × (c < 128) × (d < 128) × (u < 65536)
-    go false t e = absurd cc
-    go true t e =
-        let abc = and_parts (is_digit a 16 && is_digit b 16 && is_digit c 16) (is_digit d 16) t in
-        let ab = and_parts (is_digit a 16 && is_digit b 16) (is_digit c 16) abc.0 in
-        let both = and_parts (is_digit a 16) (is_digit b 16) ab.0 in
-        let p = digit_small a both.0 in
-        let q = digit_small b both.1 in
-        let r = digit_small c ab.1 in
-        let s = digit_small d abc.1 in
-        let is : digit_value a * 4096 + digit_value b * 256 + digit_value c * 16 + digit_value d ≡ u = cc in
-        (p.0, q.0, r.0, s.0, omega (arith, is, p.1, q.1, r.1, s.1))
+unit_small a b c d u e = elim (cases_Bool (is_digit a 16 && is_digit b 16 && is_digit c 16 && is_digit d 16)) [
+  | inl all ↦
+      let abc = and_parts (is_digit a 16 && is_digit b 16 && is_digit c 16) (is_digit d 16) all in
+      let ab = and_parts (is_digit a 16 && is_digit b 16) (is_digit c 16) abc.0 in
+      let both = and_parts (is_digit a 16) (is_digit b 16) ab.0 in
+      let p = digit_small a both.0 in
+      let q = digit_small b both.1 in
+      let r = digit_small c ab.1 in
+      let s = digit_small d abc.1 in
+      let is : digit_value a * 4096 + digit_value b * 256 + digit_value c * 16 + digit_value d ≡ u = cc (rw all at e) in
+      (p.0, q.0, r.0, s.0, omega (arith, is, p.1, q.1, r.1, s.1))
+  | inr none ↦ cc (rw none at e)
+]
 
 scalar_unit : (u : ℕ) → u < 65536 → is_high_surrogate u ≡ false → is_low_surrogate u ≡ false → scalar u ≡ true
 scalar_unit u small high low = grind (arith, nat_tests, high, low)

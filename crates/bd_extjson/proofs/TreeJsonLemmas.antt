@@ -1,5 +1,5 @@
 -- The JSON value that a tree's text prints, and the tokens of that text.
-use Rattle.std.proofs.Common.{◌≡◌, ℕ, ◌+◌, ◌≤◌, ℤ, Bool, true, false, cond, ◌&&◌, List, [], ◌∷◌, ◌++◌, Some, refl, sym, ap, ap₂, ◌∙◌, subst, arith, append_assoc, append-nil}
+use Rattle.std.proofs.Common.{◌≡◌, ℕ, ◌+◌, ◌≤◌, ℤ, Bool, true, false, cond, ◌&&◌, List, [], ◌∷◌, ◌++◌, Some, refl, sym, ap, ap₂, ◌∙◌, subst, arith, append_assoc, append-nil, rules}
 use Rattle.std.specs.Prelude.{◌==◌, codes, decimal, if◌then◌else◌}
 use Rattle.std.specs.Fmt.{signed_decimal}
 use Rattle.std.specs.List.{join_with_byte}
@@ -185,21 +185,6 @@ shallow-scalar : (s : Scalar) → kit_tree.depth (scalar_json s) ≤ 3
 shallow-scalar min_key = omega arith
 shallow-scalar _ = omega arith
 
-mutual
-  pub shallow : (t : Tree) → kit_tree.depth (json t) ≤ depth t + 3
-  shallow (leaf s) = omega (arith, shallow-scalar s)
-  shallow (doc fs) = omega (arith, shallow-fields fs)
-  shallow (array ts) = omega (arith, shallow-items ts)
-  shallow (code_scope s fs) = omega (arith, shallow-fields fs)
-
-  shallow-items : (ts : Items) → kit_tree.items_depth (elements_json ts) ≤ items_depth ts + 3
-  shallow-items no_items = omega arith
-  shallow-items (item t ts) = omega (arith, shallow t, shallow-items ts)
-
-  shallow-fields : (fs : Fields) → kit_tree.members_depth (members_json fs) ≤ fields_depth fs + 3
-  shallow-fields no_fields = omega arith
-  shallow-fields (field n t fs) = omega (arith, shallow t, shallow-fields fs)
-
 one_number : IsNumber (codes "1")
 unfolding after_number
 one_number = refl
@@ -207,30 +192,29 @@ one_number = refl
 numbers-scalar : (s : Scalar) → ScalarFitsType s → HasNumbers (scalar_json s)
 numbers-scalar min_key fits = (one_number, tt)
 numbers-scalar max_key fits = (one_number, tt)
-numbers-scalar null fits = tt
-numbers-scalar (plain_text s) fits = tt
-numbers-scalar (boolean b) fits = tt
-numbers-scalar (binary k s) fits = ((tt, (tt, tt)), tt)
-numbers-scalar (date z) fits = ((tt, tt), tt)
 numbers-scalar (timestamp s i) fits = ((IsNumber-decimal s (omega arith), (IsNumber-decimal i (omega arith), tt)), tt)
-numbers-scalar (regex p o) fits = ((tt, (tt, tt)), tt)
-numbers-scalar (db_pointer s id) fits = ((tt, ((tt, tt), tt)), tt)
-numbers-scalar _ fits = (tt, tt)
+numbers-scalar _ fits = search rules
 
 mutual
-  numbers : (t : Tree) → FitsTypes t → HasNumbers (json t)
-  numbers (leaf s) fits = numbers-scalar s fits
-  numbers (doc fs) fits = numbers-fields fs fits
-  numbers (array ts) fits = numbers-items ts fits
-  numbers (code_scope s fs) fits = (tt, (numbers-fields fs fits, tt))
+  pub well : (t : Tree) → FitsTypes t → (kit_tree.depth (json t) ≤ depth t + 3) × HasNumbers (json t)
+  well (leaf s) fits = (omega (arith, shallow-scalar s), numbers-scalar s fits)
+  well (doc fs) fits = let p = well-fields fs fits in (omega (arith, p.0), p.1)
+  well (array ts) fits = let p = well-items ts fits in (omega (arith, p.0), p.1)
+  well (code_scope s fs) fits = let p = well-fields fs fits in (omega (arith, p.0), (tt, (p.1, tt)))
 
-  numbers-items : (ts : Items) → ItemsFitTypes ts → ItemsHaveNumbers (elements_json ts)
-  numbers-items no_items fits = tt
-  numbers-items (item t ts) fits = (numbers t fits.0, numbers-items ts fits.1)
+  well-items : (ts : Items) → ItemsFitTypes ts → (kit_tree.items_depth (elements_json ts) ≤ items_depth ts + 3) × ItemsHaveNumbers (elements_json ts)
+  well-items no_items fits = (omega arith, tt)
+  well-items (item t ts) fits =
+      let p = well t fits.0 in
+      let q = well-items ts fits.1 in
+      (omega (arith, p.0, q.0), (p.1, q.1))
 
-  numbers-fields : (fs : Fields) → FieldsFitTypes fs → MembersHaveNumbers (members_json fs)
-  numbers-fields no_fields fits = tt
-  numbers-fields (field n t fs) fits = (numbers t fits.0, numbers-fields fs fits.1)
+  well-fields : (fs : Fields) → FieldsFitTypes fs → (kit_tree.members_depth (members_json fs) ≤ fields_depth fs + 3) × MembersHaveNumbers (members_json fs)
+  well-fields no_fields fits = (omega arith, tt)
+  well-fields (field n t fs) fits =
+      let p = well t fits.0 in
+      let q = well-fields fs fits.1 in
+      (omega (arith, p.0, q.0), (p.1, q.1))
 
 -- ---- so the grammar reads the text as that value
 
@@ -238,5 +222,5 @@ pub value-text : (t : Tree) (n : ℕ) → FitsTypes t → kit_tree.depth (json t
 value-text t n fits deep =
     let j = json t in
     ap (λ (l : List ℕ). value n (tokens l)) (sym (print-json j ∙ text-json t))
-    ∙ ap (value n) (tokens-print (json_tokens j) (ArePrintable-json_tokens j (numbers t fits)) ∙ sym (append-nil (json_tokens j)))
+    ∙ ap (value n) (tokens-print (json_tokens j) (ArePrintable-json_tokens j (well t fits).1) ∙ sym (append-nil (json_tokens j)))
     ∙ value-json_tokens j n [] deep

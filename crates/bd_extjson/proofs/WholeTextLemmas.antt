@@ -12,20 +12,15 @@ use Rattle.bd_extjson.specs.Meaning.{wrap}
 use Rattle.bd_wrapper.specs.Progress.{through}
 use Rattle.bd_extjson.specs.TextDocument.{json, reading, document}
 
-kept : (o : Option Tree) (t : Tree) (ts : List Token) → option_map {U = Tree × List Token} (λ a. (a, ts)) o ≡ Some (t, []) → o ≡ Some t
-kept None t ts e = absurd cc
-kept (Some u) t ts e = ap (λ (x : Option (Tree × List Token)). option_map (λ (p : Tree × List Token). p.0) x) e
-
-not_all : (o : Option Tree) (t : Tree) (x : Token) (ts : List Token) {P : Type 0} → option_map {U = Tree × List Token} (λ a. (a, x ∷ ts)) o ≡ Some (t, []) → P
-not_all None t x ts e = absurd cc
-not_all (Some u) t x ts e =
-    let f : Some (x ∷ ts) ≡ Some [] = ap (λ (x : Option (Tree × List Token)). option_map (λ (p : Tree × List Token). p.1) x) e in
-    absurd cc
+whole : (o : Option Tree) (t : Tree) (ts : List Token) → option_map {U = Tree × List Token} (λ a. (a, ts)) o ≡ Some (t, []) → (o ≡ Some t) × (ts ≡ [])
+whole None t ts e = absurd cc
+whole (Some u) t ts e =
+    let rest : Some ts ≡ Some [] = ap (λ (x : Option (Tree × List Token)). option_map (λ (p : Tree × List Token). p.1) x) e in
+    (ap (λ (x : Option (Tree × List Token)). option_map (λ (p : Tree × List Token). p.0) x) e, cc)
 
 last : (v : Option (Json × List Token)) (t : Tree) → through (wrap most_levels) v ≡ Some (t, []) → option_and_then (wrap most_levels) (option_and_then (λ p. if_last p.0 p.1) v) ≡ Some t
 last None t e = absurd cc
-last (Some (j, [])) t e = kept (wrap most_levels j) t [] e
-last (Some (j, x ∷ ts)) t e = not_all (wrap most_levels j) t x ts e
+last (Some (j, ts)) t e = let p = whole (wrap most_levels j) t ts e in rw p.1 p.0
 
 pub json_is : (text : List ℕ) → is_utf8 text ≡ true → json text ≡ option_and_then (λ p. if_last p.0 p.1) (value most_brackets (tokens text))
 json_is text e = rw e refl

@@ -26,15 +26,6 @@ use Rattle.bd_extjson.proofs.StepLemmas.{items_before, fields_before}
 use Rattle.bd_extjson.proofs.MemberLemmas as seconds
 use Rattle.bd_extjson.proofs.reading.+reading.Goals as goal
 
-text_is : (s : String Global) → tree_of (values.Text s) ≡ leaf (tree.text (string_bytes s))
-text_is s = search (rules, folds.the_lemmas)
-
-bool_is : (b : Bool) → tree_of (values.Bool b) ≡ leaf (tree.boolean b)
-bool_is b = search (rules, folds.the_lemmas)
-
-null_is : tree_of values.Null ≡ leaf tree.null
-null_is = search (rules, folds.the_lemmas)
-
 -- ---- read_fields
 
 pub read_fields-returns-in_err-next-clause-gives :
@@ -164,10 +155,6 @@ read_value-returns-in_err-token-clause-gives t c =
     let refused : c.in_err-token.field-0.0 ≡ Refused = grind arith in
     rw (p.1, p.2, refused) (steps.read_none c.args.room c.args.depth c.args.reader.now (ap (value c.args.depth) empty ∙ value_is c.args.depth []))
 
-pub read_value-returns-then-depth-eq0-2-clause-gives :
-    goal.read_value-returns-then-depth-eq0-2-clause-gives
-read_value-returns-then-depth-eq0-2-clause-gives t c = grind (arith, steps.too_deep_object)
-
 pub read_value-returns-in_err-read_items-in-BeginArray-clause-gives :
     goal.read_value-returns-in_err-read_items-in-BeginArray-clause-gives
 read_value-returns-in_err-read_items-in-BeginArray-clause-gives t c =
@@ -178,18 +165,6 @@ read_value-returns-in_err-read_items-in-BeginArray-clause-gives t c =
     ∙ steps.array_read c.args.room c.args.depth c.next.new.self (omega arith) (omega arith) in
     rw (p.1, p.2) (steps.fails_by c.in_err-read_items-in-BeginArray.field-0.0 _ _ (λ none. opened ∙ ap (parse_map array) none) c.in_err-read_items-in-BeginArray.ensures.gives)
 
-pub read_value-returns-in_ok-read_items-in-BeginArray-clause-gives :
-    goal.read_value-returns-in_ok-read_items-in-BeginArray-clause-gives
-read_value-returns-in_ok-read_items-in-BeginArray-clause-gives t c = grind (arith, steps.array_read, tree_of-Array)
-
-pub read_value-returns-else-depth-eq0-2-clause-gives :
-    goal.read_value-returns-else-depth-eq0-2-clause-gives
-read_value-returns-else-depth-eq0-2-clause-gives t c = grind (arith, steps.object_read)
-
-pub read_value-returns-in_ok-from_str-in-String-clause-gives :
-    goal.read_value-returns-in_ok-from_str-in-String-clause-gives
-read_value-returns-in_ok-from_str-in-String-clause-gives t c = grind (arith, steps.read_string, text_is)
-
 pub read_value-returns-in-Number-clause-gives : goal.read_value-returns-in-Number-clause-gives
 read_value-returns-in-Number-clause-gives t c =
     let first : c.args.reader.now ≡ token_of c.in_ok-token.token ∷ c.next.new.self = grind arith in
@@ -197,23 +172,9 @@ read_value-returns-in-Number-clause-gives t c =
     (ap (through (wrap c.args.room)) (ap (value c.args.depth) (first ∙ ap (λ k. token_of k ∷ c.next.new.self) c.in-Number.is))
     ∙ steps.read_number c.args.room c.args.depth c.in-Number.text.now c.next.new.self)
 
-pub read_value-returns-in-Bool-clause-gives : goal.read_value-returns-in-Bool-clause-gives
-read_value-returns-in-Bool-clause-gives t c = grind (arith, steps.read_boolean, bool_is)
-
-pub read_value-returns-in-Null-clause-gives : goal.read_value-returns-in-Null-clause-gives
-read_value-returns-in-Null-clause-gives t c = grind (arith, steps.read_null, null_is)
-
 pub read_value-returns-in-EndObject-clause-gives :
     goal.read_value-returns-in-EndObject-clause-gives
 read_value-returns-in-EndObject-clause-gives t c = grind (arith, value_is)
-
-pub read_value-returns-then-depth-eq0-clause-gives :
-    goal.read_value-returns-then-depth-eq0-clause-gives
-read_value-returns-then-depth-eq0-clause-gives t c = grind (arith, steps.too_deep)
-
-pub read_value-returns-then-room-eq0-clause-gives :
-    goal.read_value-returns-then-room-eq0-clause-gives
-read_value-returns-then-room-eq0-clause-gives t c = grind (arith, steps.array_refused)
 
 -- ---- read_wrapper
 
