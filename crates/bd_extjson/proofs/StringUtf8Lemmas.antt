@@ -50,42 +50,11 @@ after_ascii x xs small utf8 = IsUtf8-past_char (x ∷ xs) xs x utf8 (sym (ap (λ
 abbrev AreHigh : List ℕ → Type 0
 AreHigh bs = (k : ℕ) → k < length bs → 128 ≤ get_or bs k 0
 
-record FirstChar (x : ℕ) (xs : List ℕ) : Type 0 where
-  char : List ℕ
-  rest : List ℕ
-  parts : x ∷ xs ≡ char ++ rest
-  first : IsUtf8 char
-  others : IsUtf8 rest
-  high : AreHigh char
-  some : 0 < length char
-
 encoded_high : (c : ℕ) → 128 ≤ c → AreHigh (encode c)
 encoded_high c big k below = elim (cases_lt (get_or (encode c) k 0) 128) [
   | inl low ↦ absurd (omega (arith, inside_one c [] (encode c) k (sym (append-nil (encode c))) below low))
   | inr h ↦ h
 ]
-
-first_char : (x : ℕ) (xs : List ℕ) → 128 ≤ x → IsUtf8 (x ∷ xs) → FirstChar x xs
-first_char x xs big utf8 = go utf8.0 utf8.1.0 utf8.1.1
-  where
-    go : (cs : List ℕ) → scalars cs ≡ true → encodes cs ≡ x ∷ xs → FirstChar x xs
-    go [] s e = absurd cc
-    go (c ∷ cs) s e = let p = and_parts (scalar c) (scalars cs) s in elim (cases_lt c 128) [
-      | inl small ↦
-          let same : c ∷ encodes cs ≡ x ∷ xs = ap (λ l. l ++ encodes cs) (sym (encode_ascii c small)) ∙ e in
-          let one : c ≡ x = cc in
-          absurd (omega (arith, one))
-      | inr far ↦
-          record {
-            char = encode c;
-            rest = encodes cs;
-            parts = sym e;
-            first = IsUtf8-encode c p.0;
-            others = (cs, (p.1, refl));
-            high = encoded_high c far;
-            some = omega (arith, length-encode c, (len_utf8_bounds c).0);
-          }
-    ]
 
 high_byte : (x : ℕ) (r : Option (List ℕ)) (escaped : Option (List ℕ)) → 128 ≤ x
     → cond (x == 34) (Some []) (cond (x == 92) escaped (cond (nat_lt x 32) None r)) ≡ r
@@ -202,20 +171,26 @@ after_backslash_text n (x ∷ xs) below le utf8 = elim (cases_lt x 128) [
     none : 128 ≤ x → cond (x == 117) (content after_u xs) (option_and_then (λ c. prepend (c ∷ []) (content plain xs)) (short_escape x)) ≡ None
     none high = rw (short_high x high) (grind (arith, nat_tests))
 
-pub plain_text : (n : ℕ) (xs : List ℕ) → length xs ≤ n → IsUtf8 xs → IsTextIfAny (content plain xs)
+plain_chars : (n : ℕ) (cs : List ℕ) → length (encodes cs) ≤ n → scalars cs ≡ true → IsTextIfAny (content plain (encodes cs))
 unfolding content
-plain_text n [] le utf8 = tt
-plain_text zero (x ∷ xs) le utf8 = absurd (omega arith)
-plain_text (suc n) (x ∷ xs) le utf8 = elim (cases_lt x 128) [
-  | inl small ↦
-      let rest = after_ascii x xs small utf8 in
-      when IsTextIfAny (x == 34) (Some []) _ (λ e. IsUtf8-nil) (λ e.
-      when IsTextIfAny (x == 92) _ _ (λ e. after_backslash_text n xs (λ ys lt u. plain_text n ys (omega arith) u) (omega arith) rest) (λ e.
-      when IsTextIfAny (nat_lt x 32) None _ (λ e. tt) (λ e.
-      prepended (x ∷ []) (content plain xs) (one_ascii x small) (plain_text n xs (omega arith) rest))))
-  | inr high ↦
-      let f = first_char x xs high utf8 in
-      let size = ap (λ l. length l) f.parts in
-      let same = ap (content plain) f.parts ∙ high_run f.char f.rest f.high in
-      subst IsTextIfAny (sym same) (prepended f.char (content plain f.rest) f.first (plain_text n f.rest (omega (arith, size, length-append f.char f.rest, f.some)) f.others))
-]
+plain_chars n [] le ok = tt
+plain_chars zero (c ∷ cs) le ok = absurd (omega (arith, length-append (encode c) (encodes cs), length-encode c, (len_utf8_bounds c).0))
+plain_chars (suc n) (c ∷ cs) le ok =
+    let xs = encodes cs in
+    let p = and_parts (scalar c) (scalars cs) ok in
+    let shorter : length xs ≤ n = omega (arith, length-append (encode c) xs, length-encode c, (len_utf8_bounds c).0) in
+    let more = plain_chars n cs shorter p.1 in
+    elim (cases_lt c 128) [
+      | inl small ↦
+          let same = ap (λ (l : List ℕ). l ++ xs) (encode_ascii c small) in
+          let below : Below n = λ ys lt u. subst (λ (l : List ℕ). IsTextIfAny (content plain l)) u.1.1 (plain_chars n u.0 (omega (arith, ap length u.1.1)) u.1.0) in
+          subst (λ (l : List ℕ). IsTextIfAny (content plain l)) (sym same)
+          (when IsTextIfAny (c == 34) (Some []) _ (λ e. IsUtf8-nil) (λ e.
+          when IsTextIfAny (c == 92) _ _ (λ e. after_backslash_text n xs below shorter (cs, (p.1, refl))) (λ e.
+          when IsTextIfAny (nat_lt c 32) None _ (λ e. tt) (λ e. prepended (c ∷ []) (content plain xs) (one_ascii c small) more))))
+      | inr high ↦
+          subst IsTextIfAny (sym (high_run (encode c) xs (encoded_high c high))) (prepended (encode c) (content plain xs) (IsUtf8-encode c p.0) more)
+    ]
+
+pub plain_text : (xs : List ℕ) → IsUtf8 xs → IsTextIfAny (content plain xs)
+plain_text xs utf8 = subst (λ (l : List ℕ). IsTextIfAny (content plain l)) utf8.1.1 (plain_chars (length (encodes utf8.0)) utf8.0 (omega arith) utf8.1.0)

@@ -76,7 +76,7 @@ module _ (text : List ℕ) (utf8 : IsUtf8 text) where
   text_after : (i : ℕ) → i < length text → get_or text i 0 ≡ 34 → Holds IsUtf8 (content plain (drop (i + 1) text))
   text_after i lt is =
       let bound = IsCharBoundary-after_ascii text i utf8 lt (omega (arith, is)) in
-      plain_text (length (drop (i + 1) text)) (drop (i + 1) text) (omega arith) (IsUtf8-drop text (i + 1) utf8 bound)
+      plain_text (drop (i + 1) text) (IsUtf8-drop text (i + 1) utf8 bound)
 
   lex_texts : (n i : ℕ) (m : Mode) → length text ≤ i + n → AreTextLexemes (lex m (drop i text))
   unfolding lex

@@ -63,10 +63,7 @@ read_fields-loop-next-preserved t c =
     )
 
 pub read_fields-returns-clause-gives : goal.read_fields-returns-clause-gives
-read_fields-returns-clause-gives t c =
-    let l = c.loop-next in
-    let named = ap (λ k. through (wrap_fields c.args.room) (after_key c.args.depth l.invariant.0 (option_map (λ s. s.now) k) l.reader)) c.in_default.is in
-    l.invariant.2 ∙ ap (parse_map (fields_before (pairs l.read))) named ∙ ap (λ x. Some (x, l.reader)) (steps.fields_before-none (pairs l.read))
+read_fields-returns-clause-gives t c = grind (arith, steps.fields_before-none)
 
 -- ---- read_items
 
@@ -98,12 +95,7 @@ read_items-loop-alloc-preserved t c =
     )
 
 pub read_items-returns-clause-gives : goal.read_items-returns-clause-gives
-read_items-returns-clause-gives t c =
-    let l = c.loop-alloc in
-    let r = c.take_end_array.new.self in
-    l.invariant.2 ∙ ap (λ x. parse_map (items_before (map tree_of l.found.items)) (through (wrap_items c.args.room) x))
-    (items_end (value c.args.depth) l.invariant.0 l.reader r l.invariant.1 (grind arith))
-    ∙ ap (λ x. Some (x, r)) (steps.items_before-none (map tree_of l.found.items))
+read_items-returns-clause-gives t c = grind (arith, items_end, steps.items_before-none)
 
 -- ---- read_object
 
@@ -138,39 +130,20 @@ read_object-returns-in_err-read_fields-clause-gives t c =
     c.in_err-read_fields.ensures.gives)
 
 pub read_object-returns-clause-gives : goal.read_object-returns-clause-gives
-read_object-returns-clause-gives t c =
-    let key = option_map (λ s. s.now) c.in_ok-first.first in
-    let start = ap (through (wrap_object c.args.room)) (steps.first_name c.args.depth c.args.reader.now c.next_key.new.self key c.in_ok-first.ensures.value) in
-    start ∙ steps.object_is_plain c.args.room c.args.depth _ c.next_key.new.self key (omega arith) (sym c.wrapper_named.ensures ∙ c.in_default.is)
-    ∙ ap (parse_map doc) c.in_ok-read_fields.ensures.gives
-    ∙ ap (λ x. Some (x, c.read_fields.new.reader)) (sym (tree_of-Doc c.in_ok-read_fields.field-0))
+read_object-returns-clause-gives t c = grind (arith, steps.first_name, steps.object_is_plain, tree_of-Doc)
 
 -- ---- read_value
 
 pub read_value-returns-in_err-token-clause-gives :
     goal.read_value-returns-in_err-token-clause-gives
-read_value-returns-in_err-token-clause-gives t c =
-    let p = err_from_is_err_and c.from_residual.result c.from_residual.ensures.1 in
-    let empty : c.args.reader.now ≡ [] = grind arith in
-    let refused : c.in_err-token.field-0.0 ≡ Refused = grind arith in
-    rw (p.1, p.2, refused) (steps.read_none c.args.room c.args.depth c.args.reader.now (ap (value c.args.depth) empty ∙ value_is c.args.depth []))
+read_value-returns-in_err-token-clause-gives t c = grind (arith, value_is)
 
 pub read_value-returns-in_err-read_items-in-BeginArray-clause-gives :
     goal.read_value-returns-in_err-read_items-in-BeginArray-clause-gives
-read_value-returns-in_err-read_items-in-BeginArray-clause-gives t c =
-    let e = c.from_residual-in_err-read_items-in-BeginArray in
-    let p = err_from_is_err_and e.result e.ensures.1 in
-    let first : c.args.reader.now ≡ token_of c.in_ok-token.token ∷ c.next.new.self = grind arith in
-    let opened = ap (through (wrap c.args.room)) (ap (value c.args.depth) (first ∙ ap (λ k. token_of k ∷ c.next.new.self) c.in-BeginArray.is))
-    ∙ steps.array_read c.args.room c.args.depth c.next.new.self (omega arith) (omega arith) in
-    rw (p.1, p.2) (steps.fails_by c.in_err-read_items-in-BeginArray.field-0.0 _ _ (λ none. opened ∙ ap (parse_map array) none) c.in_err-read_items-in-BeginArray.ensures.gives)
+read_value-returns-in_err-read_items-in-BeginArray-clause-gives t c = grind (arith, steps.array_read)
 
 pub read_value-returns-in-Number-clause-gives : goal.read_value-returns-in-Number-clause-gives
-read_value-returns-in-Number-clause-gives t c =
-    let first : c.args.reader.now ≡ token_of c.in_ok-token.token ∷ c.next.new.self = grind arith in
-    steps.number_told tree_of c.next.new.self c.bare_number.result c.ok_or-in-Number.result _ _ c.bare_number.ensures c.ok_or-in-Number.ensures.value
-    (ap (through (wrap c.args.room)) (ap (value c.args.depth) (first ∙ ap (λ k. token_of k ∷ c.next.new.self) c.in-Number.is))
-    ∙ steps.read_number c.args.room c.args.depth c.in-Number.text.now c.next.new.self)
+read_value-returns-in-Number-clause-gives t c = grind (arith, steps.read_number)
 
 pub read_value-returns-in-EndObject-clause-gives :
     goal.read_value-returns-in-EndObject-clause-gives
