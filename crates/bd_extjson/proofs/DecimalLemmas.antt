@@ -9,6 +9,7 @@ use Rattle.std.specs.Str.Parse.{digits_value}
 use Rattle.std.proofs.lemmas.Bool.{and_parts, lt-ltb, ltb-true}
 use Rattle.std.proofs.lemmas.Fmt.{digits_decimal, digits_value-decimal, first_decimal, decimal_digit}
 use Rattle.std.proofs.lemmas.Int.{ints}
+use Rattle.bd_text.proofs.EscapeLemmas.{wider}
 use Rattle.bd_wrapper.specs.Whole.{has_no_digits, are_digits, fits_bits, whole, whole_64, whole_32}
 use Rattle.bd_wrapper.proofs.WholeLemmas.{own, all_of}
 
@@ -56,15 +57,11 @@ bits_31 : (z : ℤ) → FitsSigned w32 z → fits_bits 31 z ≡ true
 bits_31 (pos n) fits = lt-ltb n (2 ^ 31) (omega (arith, ints))
 bits_31 (negsuc n) fits = lt-ltb n (2 ^ 31) (omega (arith, ints))
 
-bits_more : (z : ℤ) → fits_bits 31 z ≡ true → fits_bits 63 z ≡ true
-bits_more (pos n) fits = let small : n < 2 ^ 31 = ltb-true n (2 ^ 31) fits in lt-ltb n (2 ^ 63) (omega arith)
-bits_more (negsuc n) fits = let small : n < 2 ^ 31 = ltb-true n (2 ^ 31) fits in lt-ltb n (2 ^ 63) (omega arith)
-
 pub whole_64-signed : (z : ℤ) → FitsSigned w64 z → whole_64 (signed_decimal z) ≡ Some z
 whole_64-signed z fits = rw (whole-signed z (bits_63 z fits), bits_63 z fits) refl
 
 pub whole_32-signed : (z : ℤ) → FitsSigned w32 z → whole_32 (signed_decimal z) ≡ Some z
-whole_32-signed z fits = rw (whole-signed z (bits_more z (bits_31 z fits)), bits_31 z fits) refl
+whole_32-signed z fits = rw (whole-signed z (bits_63 z (wider z fits)), bits_31 z fits) refl
 
 pub whole_64-decimal : (n : ℕ) → n < 2 ^ 32 → whole_64 (decimal n) ≡ Some (pos n)
 whole_64-decimal n small =

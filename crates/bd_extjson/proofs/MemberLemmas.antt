@@ -12,34 +12,17 @@ use Rattle.bd_extjson.specs.TextDocument.{document}
 use Rattle.bd_wrapper.specs.Progress.{through, after_key, if_no_name, closing, is_code, is_scope, is_code_name, is_scope_name}
 use Rattle.bd_wrapper.specs.declared.wrapper.Wrapper.{Wrapper}
 use Rattle.bd_wrapper.specs.declared.wrapper.Wrapper.TheVariants as kinds
-use Rattle.bd_extjson.proofs.StepLemmas.{nested_is, next_name}
+use Rattle.bd_extjson.proofs.StepLemmas.{nested_is, next_name, never, refused_member, through_made, through_same}
 
 -- ---- members, whatever is made of them
-
-pub never : {A : Type 0} (f : json.Members → Option A) → ((ms : json.Members) → f ms ≡ None) → (r : Option (json.Members × List Token)) → through f r ≡ None
-never f h None = refl
-never f h (Some q) = ap (option_map (λ a. (a, q.1))) (h q.0)
 
 pub unreadable : {A : Type 0} (f : json.Members → Option A) (k : List ℕ) (depth n : ℕ) (ts : List Token) → value depth ts ≡ None → through f (after_key depth n (Some k) ts) ≡ None
 unreadable f k depth n ts e = ap (λ v. through f (option_and_then (λ p. parse_map (json.member k p.0) (members (value depth) n p.1)) v)) e
 
-member_in : {A : Type 0} (f : json.Members → Option A) (k : List ℕ) (j : Json) (r : Option (json.Members × List Token))
-    → through f (parse_map (json.member k j) r) ≡ through (λ ms. f (json.member k j ms)) r
-member_in f k j None = refl
-member_in f k j (Some q) = refl
-
 pub member_is : {A : Type 0} (f : json.Members → Option A) (k : List ℕ) (depth n : ℕ) (ts s : List Token) (j : Json) → value depth ts ≡ Some (j, s)
     → through f (after_key depth n (Some k) ts) ≡ through (λ ms. f (json.member k j ms)) (members (value depth) n s)
 member_is f k depth n ts s j e =
-    ap (λ v. through f (option_and_then (λ p. parse_map (json.member k p.0) (members (value depth) n p.1)) v)) e ∙ member_in f k j (members (value depth) n s)
-
-pub refused_member : {A : Type 0} (f : json.Members → Option A) (k : List ℕ) (depth n : ℕ) (ts : List Token) → ((j : Json) (ms : json.Members) → f (json.member k j ms) ≡ None)
-    → through f (after_key depth n (Some k) ts) ≡ None
-refused_member f k depth n ts h = turn (value depth ts)
-  where
-    turn : (v : Option (Json × List Token)) → through f (option_and_then (λ p. parse_map (json.member k p.0) (members (value depth) n p.1)) v) ≡ None
-    turn None = refl
-    turn (Some p) = member_in f k p.0 (members (value depth) n p.1) ∙ never (λ ms. f (json.member k p.0 ms)) (h p.0) (members (value depth) n p.1)
+    ap (λ v. through f (option_and_then (λ p. parse_map (json.member k p.0) (members (value depth) n p.1)) v)) e ∙ through_made f (json.member k j) (members (value depth) n s)
 
 pub no_name : {A : Type 0} (f : json.Members → Option A) (depth n : ℕ) (ts : List Token) → read_key ts ≡ None → through f (members (value depth) n ts) ≡ None
 no_name f depth n ts e = ap (through f) (members_no_key (value depth) n ts e)
@@ -54,23 +37,12 @@ named f k depth n ts r le e = ap (through f) (next_name depth n ts r (Some k) le
 
 -- ---- the end of an object
 
-abbrev IsSomething : {A : Type 0} → Option A → Type 0
-IsSomething None = ⊥
-IsSomething (Some a) = Unit {0}
-
 abbrev none_before : Unit {0} × List Token → Option (List ℕ) × List Token
 none_before q = (None, q.1)
 
-abbrev key_and : Option (List ℕ) → List Token → Option (Option (List ℕ) × List Token)
-key_and k ts = Some (k, ts)
-
 closed_key : (k : Option (Option (List ℕ) × List Token)) (r : List Token) → option_and_then (λ p. if_no_name p.0 p.1) k ≡ Some (tt, r) → k ≡ Some (None, r)
-closed_key None r e = absurd (subst IsSomething (sym e) tt)
-closed_key (Some p) r e = go p.0 p.1 e
-  where
-    go : (k : Option (List ℕ)) (ts : List Token) → if_no_name k ts ≡ Some (tt, r) → key_and k ts ≡ key_and None r
-    go None ts e = ap (λ o. option_map none_before o) e
-    go (Some k) ts e = absurd (subst IsSomething (sym e) tt)
+closed_key (Some (None, ts)) r e = ap (option_map none_before) e
+closed_key _ r e = absurd cc
 
 pub closed : {A : Type 0} (f : json.Members → Option A) (depth n : ℕ) (ts r : List Token) → length ts ≤ n → closing ts ≡ Some (tt, r)
     → through f (members (value depth) n ts) ≡ option_map (λ (a : A). (a, r)) (f json.no_members)
@@ -82,7 +54,7 @@ not_closed f depth n ts le e h = key (read_key ts) refl e
   where
     key : (o : Option (Option (List ℕ) × List Token)) → read_key ts ≡ o → option_and_then (λ p. if_no_name p.0 p.1) o ≡ None → through f (members (value depth) n ts) ≡ None
     key None is e = no_name f depth n ts is
-    key (Some (None, r)) is e = absurd (subst IsSomething e tt)
+    key (Some (None, r)) is e = absurd cc
     key (Some (Some k, r)) is e = named f k depth n ts r le is ∙ refused_member f k depth (n - 1) r (h k)
 
 -- ---- what a value was read from
@@ -94,132 +66,88 @@ abbrev pub WasRead : {A : Type 0} → (Json → Option A) → Option (Json × Li
 WasRead g v a r = (j : Json) × (v ≡ Some (j, r)) × (g j ≡ Some a)
 
 pub was_read : {A : Type 0} (g : Json → Option A) (v : Option (Json × List Token)) (a : A) (r : List Token) → through g v ≡ Some (a, r) → WasRead g v a r
-was_read g None a r e = absurd (subst IsSomething (sym e) tt)
+was_read g None a r e = absurd cc
 was_read {A = A} g (Some p) a r e = go (g p.0) refl e
   where
     go : (o : Option A) → g p.0 ≡ o → with_rest p.1 o ≡ with_rest r (Some a) → WasRead g (Some p) a r
-    go None is e = absurd (subst IsSomething (sym e) tt)
+    go None is e = absurd cc
     go (Some b) is e =
         let same : Some p.1 ≡ Some r = ap (option_map (λ q. q.1)) e in
         (p.0, ap (option_map (λ (x : List Token). (p.0, x))) same, is ∙ ap (option_map (λ q. q.0)) e)
 
-pub was_not_read : {A : Type 0} (g : Json → Option A) (v : Option (Json × List Token)) → through g v ≡ None → (v ≡ None) ⊎ ((j : Json) × (r : List Token) × (v ≡ Some (j, r)) × (g j ≡ None))
-was_not_read g None e = inl refl
-was_not_read {A = A} g (Some p) e = inr (p.0, p.1, refl, go (g p.0) e)
+not_read : {A : Type 0} (r : List Token) (o : Option A) → with_rest r o ≡ None → o ≡ None
+not_read r None e = refl
+not_read r (Some a) e = absurd cc
+
+-- where g gives nothing of the value that follows a name, and f nothing without it, f gives nothing
+unread : {A B : Type 0} (f : json.Members → Option A) (g : Json → Option B) (k : List ℕ) (depth n : ℕ) (ts : List Token) → through g (value depth ts) ≡ None
+    → ((i : Json) (ms : json.Members) → g i ≡ None → f (json.member k i ms) ≡ None) → through f (after_key depth n (Some k) ts) ≡ None
+unread f g k depth n ts e h = turn (value depth ts) e
   where
-    go : (o : Option A) → with_rest p.1 o ≡ None → o ≡ None
-    go None e = refl
-    go (Some b) e = absurd (subst IsSomething e tt)
+    turn : (v : Option (Json × List Token)) → through g v ≡ None
+        → through f (option_and_then (λ p. parse_map (json.member k p.0) (members (value depth) n p.1)) v) ≡ None
+    turn None e = refl
+    turn (Some p) e =
+        let r = members (value depth) n p.1 in
+        through_made f (json.member k p.0) r ∙ never (λ ms. f (json.member k p.0 ms)) (λ ms. h p.0 ms (not_read p.1 (g p.0) e)) r
 
 -- ---- wrappers of one name
 
 abbrev pub wrapping : ℕ → Wrapper → Json → Option Tree → json.Members → Option Tree
 wrapping room w j t ms = wrapper_tree room w j t (after (room - 1) ms)
 
-first_after : (w : Wrapper) (k : List ℕ) (room : ℕ) (j : Json) (r : Option (json.Members × List Token)) → wrapper_of k ≡ Some w
-    → through (wrap_object room) (parse_map (json.member k j) r) ≡ through (wrapping room w j (wrap (room - 1) j)) r
-first_after w k room j None e = refl
-first_after w k room j (Some q) e = rw e refl
-
 pub first_part : (w : Wrapper) (k : List ℕ) (room depth n : ℕ) (ts s : List Token) (j : Json) → wrapper_of k ≡ Some w → value depth ts ≡ Some (j, s)
     → through (wrap_object room) (after_key depth n (Some k) ts) ≡ through (wrapping room w j (wrap (room - 1) j)) (members (value depth) n s)
 first_part w k room depth n ts s j e f =
-    ap (λ v. through (wrap_object room) (option_and_then (λ p. parse_map (json.member k p.0) (members (value depth) n p.1)) v)) f ∙ first_after w k room j (members (value depth) n s) e
+    member_is (wrap_object room) k depth n ts s j f
+    ∙ through_same (λ ms. wrap_object room (json.member k j ms)) (wrapping room w j (wrap (room - 1) j)) (λ ms. rw e refl) (members (value depth) n s)
 
-nested_none : {A : Type 0} (room : ℕ) → nested {A = A} room None ≡ None
-nested_none zero = refl
-nested_none (suc room) = refl
+nested_none : {A : Type 0} (room : ℕ) (o : Option A) → o ≡ None → nested room o ≡ None
+nested_none zero o e = refl
+nested_none (suc room) o e = e
+
+-- a second name is refused where it makes nothing with the first
+two_refused : (w : Wrapper) (room : ℕ) (j : Json) (t : Option Tree) (k : List ℕ) (i : Json) (ms : json.Members)
+    → ((v : Wrapper) → wrapper_of k ≡ Some v → nested room (two w j t v i (wrap (room - 1) i)) ≡ None) → wrapping room w j t (json.member k i ms) ≡ None
+two_refused w room j t k i json.no_members none = go (wrapper_of k) none
+  where
+    go : (o : Option Wrapper) → ((v : Wrapper) → o ≡ Some v → nested room (two w j t v i (wrap (room - 1) i)) ≡ None)
+        → wrapper_tree room w j t (one_more o i (wrap (room - 1) i)) ≡ None
+    go None none = refl
+    go (Some v) none = none v refl
+two_refused w room j t k i (json.member l h ms) none = refl
 
 -- two names only where these are `$code` and `$scope`
 no_two : (w v : Wrapper) (j i : Json) (t u : Option Tree) → is_code w ≡ false → is_scope w ≡ false → two w j t v i u ≡ None
-no_two kinds.NumberInt v j i t u e f = refl
-no_two kinds.NumberLong v j i t u e f = refl
-no_two kinds.NumberDouble v j i t u e f = refl
-no_two kinds.NumberDecimal v j i t u e f = refl
-no_two kinds.Oid v j i t u e f = refl
-no_two kinds.Symbol v j i t u e f = refl
-no_two kinds.Binary v j i t u e f = refl
-no_two kinds.Uuid v j i t u e f = refl
 no_two kinds.Code v j i t u e f = absurd cc
 no_two kinds.Scope v j i t u e f = absurd cc
-no_two kinds.Timestamp v j i t u e f = refl
-no_two kinds.RegularExpression v j i t u e f = refl
-no_two kinds.DbPointer v j i t u e f = refl
-no_two kinds.Date v j i t u e f = refl
-no_two kinds.MinKey v j i t u e f = refl
-no_two kinds.MaxKey v j i t u e f = refl
-no_two kinds.Undefined v j i t u e f = refl
+no_two _ v j i t u e f = refl
 
 pub one_name_alone : (w : Wrapper) (room : ℕ) (j : Json) (t : Option Tree) (k : List ℕ) (i : Json) (ms : json.Members) → is_code w ≡ false
     → is_scope w ≡ false → wrapping room w j t (json.member k i ms) ≡ None
-one_name_alone w room j t k i json.no_members e f = go (wrapper_of k)
-  where
-    go : (v : Option Wrapper) → wrapper_tree room w j t (one_more v i (wrap (room - 1) i)) ≡ None
-    go None = refl
-    go (Some v) = ap (nested room) (no_two w v j i t (wrap (room - 1) i) e f) ∙ nested_none room
-one_name_alone w room j t k i (json.member l h ms) e f = refl
+one_name_alone w room j t k i ms e f = two_refused w room j t k i ms (λ v is. nested_none room _ (no_two w v j i t (wrap (room - 1) i) e f))
 
 -- ---- `$code`, then `$scope`
 
 code_with : (v : Wrapper) (j i : Json) (t u : Option Tree) → is_scope v ≡ false → two kinds.Code j t v i u ≡ None
-code_with kinds.NumberInt j i t u e = refl
-code_with kinds.NumberLong j i t u e = refl
-code_with kinds.NumberDouble j i t u e = refl
-code_with kinds.NumberDecimal j i t u e = refl
-code_with kinds.Oid j i t u e = refl
-code_with kinds.Symbol j i t u e = refl
-code_with kinds.Binary j i t u e = refl
-code_with kinds.Uuid j i t u e = refl
-code_with kinds.Code j i t u e = refl
 code_with kinds.Scope j i t u e = absurd cc
-code_with kinds.Timestamp j i t u e = refl
-code_with kinds.RegularExpression j i t u e = refl
-code_with kinds.DbPointer j i t u e = refl
-code_with kinds.Date j i t u e = refl
-code_with kinds.MinKey j i t u e = refl
-code_with kinds.MaxKey j i t u e = refl
-code_with kinds.Undefined j i t u e = refl
+code_with _ j i t u e = refl
 
-pub code_no_scope : (room : ℕ) (j : Json) (t : Option Tree) (k : List ℕ) (i : Json) (ms : json.Members) → is_scope_name (wrapper_of k) ≡ false
+code_no_scope : (room : ℕ) (j : Json) (t : Option Tree) (k : List ℕ) (i : Json) (ms : json.Members) → is_scope_name (wrapper_of k) ≡ false
     → wrapping room kinds.Code j t (json.member k i ms) ≡ None
-code_no_scope room j t k i json.no_members e = go (wrapper_of k) e
-  where
-    go : (v : Option Wrapper) → is_scope_name v ≡ false → wrapper_tree room kinds.Code j t (one_more v i (wrap (room - 1) i)) ≡ None
-    go None e = refl
-    go (Some v) e = ap (nested room) (code_with v j i t (wrap (room - 1) i) e) ∙ nested_none room
-code_no_scope room j t k i (json.member l h ms) e = refl
+code_no_scope room j t k i ms e =
+    two_refused kinds.Code room j t k i ms (λ v is. nested_none room _ (code_with v j i t (wrap (room - 1) i) (sym (ap is_scope_name is) ∙ e)))
 
-pub no_room : (w : Wrapper) (j : Json) (t : Option Tree) (k : List ℕ) (i : Json) (ms : json.Members) → wrapping 0 w j t (json.member k i ms) ≡ None
-no_room w j t k i json.no_members = go (wrapper_of k)
-  where
-    go : (v : Option Wrapper) → wrapper_tree 0 w j t (one_more v i (wrap (0 - 1) i)) ≡ None
-    go None = refl
-    go (Some v) = refl
-no_room w j t k i (json.member l h ms) = refl
+no_room : (w : Wrapper) (j : Json) (t : Option Tree) (k : List ℕ) (i : Json) (ms : json.Members) → wrapping 0 w j t (json.member k i ms) ≡ None
+no_room w j t k i ms = two_refused w 0 j t k i ms (λ v is. refl)
 
 no_scope : (s : Option (List ℕ)) → with_scope s None ≡ None
 no_scope None = refl
 no_scope (Some s) = refl
 
 is_scope_is : (v : Option Wrapper) → is_scope_name v ≡ true → v ≡ Some kinds.Scope
-is_scope_is None e = absurd cc
-is_scope_is (Some kinds.NumberInt) e = absurd cc
-is_scope_is (Some kinds.NumberLong) e = absurd cc
-is_scope_is (Some kinds.NumberDouble) e = absurd cc
-is_scope_is (Some kinds.NumberDecimal) e = absurd cc
-is_scope_is (Some kinds.Oid) e = absurd cc
-is_scope_is (Some kinds.Symbol) e = absurd cc
-is_scope_is (Some kinds.Binary) e = absurd cc
-is_scope_is (Some kinds.Uuid) e = absurd cc
-is_scope_is (Some kinds.Code) e = absurd cc
 is_scope_is (Some kinds.Scope) e = refl
-is_scope_is (Some kinds.Timestamp) e = absurd cc
-is_scope_is (Some kinds.RegularExpression) e = absurd cc
-is_scope_is (Some kinds.DbPointer) e = absurd cc
-is_scope_is (Some kinds.Date) e = absurd cc
-is_scope_is (Some kinds.MinKey) e = absurd cc
-is_scope_is (Some kinds.MaxKey) e = absurd cc
-is_scope_is (Some kinds.Undefined) e = absurd cc
+is_scope_is _ e = absurd cc
 
 pub no_room_second : (w : Wrapper) (k : List ℕ) (room depth n : ℕ) (ts : List Token) (j : Json) (t : Option Tree) → room ≡ 0 → through (wrapping room w j t) (after_key depth n (Some k) ts) ≡ None
 no_room_second w k room depth n ts j t e = ap (λ r. through (wrapping r w j t) (after_key depth n (Some k) ts)) e ∙ refused_member (wrapping 0 w j t) k depth n ts (no_room w j t k)
@@ -233,22 +161,13 @@ code_after : (k : List ℕ) (room : ℕ) (j i : Json) (t u : Option Tree) (ms : 
 code_after k room j i t u ms e f = rw (is_scope_is (wrapper_of k) e, f) refl
 
 scope_fails : (room : ℕ) (j i : Json) (t : Option Tree) (ms : json.Members) → wrapper_tree room kinds.Code j t (after_one (Some kinds.Scope) i None ms) ≡ None
-scope_fails room j i t json.no_members = ap (nested room) (no_scope (as_str j)) ∙ nested_none room
+scope_fails room j i t json.no_members = nested_none room _ (no_scope (as_str j))
 scope_fails room j i t (json.member l h ms) = refl
 
 pub scope_unread : (k : List ℕ) (room depth n : ℕ) (ts : List Token) (j : Json) (t : Option Tree) → is_scope_name (wrapper_of k) ≡ true → through (wrap (room - 1)) (value depth ts) ≡ None
     → through (wrapping room kinds.Code j t) (after_key depth n (Some k) ts) ≡ None
-scope_unread k room depth n ts j t e f = go (was_not_read (wrap (room - 1)) (value depth ts) f)
-  where
-    go : (value depth ts ≡ None) ⊎ ((i : Json) × (r : List Token) × (value depth ts ≡ Some (i, r)) × (wrap (room - 1) i ≡ None))
-        → through (wrapping room kinds.Code j t) (after_key depth n (Some k) ts) ≡ None
-    go (inl none) = unreadable (wrapping room kinds.Code j t) k depth n ts none
-    go (inr p) = member_is (wrapping room kinds.Code j t) k depth n ts p.1 p.0 p.2
-        ∙ never (λ ms. wrapping room kinds.Code j t (json.member k p.0 ms)) (λ ms. code_after k room j p.0 t None ms e p.3 ∙ scope_fails room j p.0 t ms) (members (value depth) n p.1)
-
-same : {A : Type 0} (f g : json.Members → Option A) → ((ms : json.Members) → f ms ≡ g ms) → (r : Option (json.Members × List Token)) → through f r ≡ through g r
-same f g h None = refl
-same f g h (Some q) = ap (option_map (λ a. (a, q.1))) (h q.0)
+scope_unread k room depth n ts j t e f =
+    unread (wrapping room kinds.Code j t) (wrap (room - 1)) k depth n ts f (λ i ms none. code_after k room j i t None ms e none ∙ scope_fails room j i t ms)
 
 -- what follows a scope
 pub scope_read : (k : List ℕ) (room depth n : ℕ) (ts r : List Token) (j : Json) (t : Option Tree) (u : Tree) → is_scope_name (wrapper_of k) ≡ true
@@ -259,7 +178,7 @@ scope_read k room depth n ts r j t u e f =
     let p = was_read (wrap (room - 1)) (value depth ts) u r f in (
       p.0,
       member_is (wrapping room kinds.Code j t) k depth n ts r p.0 p.1
-          ∙ same (λ ms. wrapping room kinds.Code j t (json.member k p.0 ms)) _ (λ ms. code_after k room j p.0 t (Some u) ms e p.2) (members (value depth) n r),
+          ∙ through_same (λ ms. wrapping room kinds.Code j t (json.member k p.0 ms)) _ (λ ms. code_after k room j p.0 t (Some u) ms e p.2) (members (value depth) n r),
     )
 
 pub scope_unended : (k : List ℕ) (room depth n : ℕ) (ts r : List Token) (j : Json) (t : Option Tree) (u : Tree) → is_scope_name (wrapper_of k) ≡ true
@@ -279,45 +198,21 @@ scope_ended k room depth n ts r s j t u e f le g h =
 -- ---- `$scope`, then `$code`
 
 no_room_scope : (j : Json) (t : Option Tree) (b : AfterName) → wrapper_tree 0 kinds.Scope j t b ≡ None
-no_room_scope j t nothing = refl
 no_room_scope j t (one_more None i u) = refl
-no_room_scope j t (one_more (Some v) i u) = refl
-no_room_scope j t several = refl
+no_room_scope j t _ = refl
 
 scope_first_fails : (room : ℕ) (j : Json) (b : AfterName) → wrapper_tree room kinds.Scope j None b ≡ None
-scope_first_fails room j nothing = refl
-scope_first_fails room j (one_more None i u) = refl
-scope_first_fails room j (one_more (Some kinds.NumberInt) i u) = nested_none room
-scope_first_fails room j (one_more (Some kinds.NumberLong) i u) = nested_none room
-scope_first_fails room j (one_more (Some kinds.NumberDouble) i u) = nested_none room
-scope_first_fails room j (one_more (Some kinds.NumberDecimal) i u) = nested_none room
-scope_first_fails room j (one_more (Some kinds.Oid) i u) = nested_none room
-scope_first_fails room j (one_more (Some kinds.Symbol) i u) = nested_none room
-scope_first_fails room j (one_more (Some kinds.Binary) i u) = nested_none room
-scope_first_fails room j (one_more (Some kinds.Uuid) i u) = nested_none room
-scope_first_fails room j (one_more (Some kinds.Code) i u) = ap (nested room) (no_scope (as_str i)) ∙ nested_none room
-scope_first_fails room j (one_more (Some kinds.Scope) i u) = nested_none room
-scope_first_fails room j (one_more (Some kinds.Timestamp) i u) = nested_none room
-scope_first_fails room j (one_more (Some kinds.RegularExpression) i u) = nested_none room
-scope_first_fails room j (one_more (Some kinds.DbPointer) i u) = nested_none room
-scope_first_fails room j (one_more (Some kinds.Date) i u) = nested_none room
-scope_first_fails room j (one_more (Some kinds.MinKey) i u) = nested_none room
-scope_first_fails room j (one_more (Some kinds.MaxKey) i u) = nested_none room
-scope_first_fails room j (one_more (Some kinds.Undefined) i u) = nested_none room
-scope_first_fails room j several = refl
+scope_first_fails room j (one_more (Some kinds.Code) i u) = nested_none room _ (no_scope (as_str i))
+scope_first_fails room j (one_more (Some v) i u) = nested_none room _ refl
+scope_first_fails room j _ = refl
 
 pub no_room_first : (k : List ℕ) (room depth n : ℕ) (ts : List Token) → wrapper_of k ≡ Some kinds.Scope → room ≡ 0 → through (wrap_object room) (after_key depth n (Some k) ts) ≡ None
 no_room_first k room depth n ts e z = refused_member (wrap_object room) k depth n ts (λ i ms. rw (e, z) (no_room_scope i (wrap (0 - 1) i) (after (0 - 1) ms)))
 
 pub first_unread : (k : List ℕ) (room depth n : ℕ) (ts : List Token) → wrapper_of k ≡ Some kinds.Scope → through (wrap (room - 1)) (value depth ts) ≡ None
     → through (wrap_object room) (after_key depth n (Some k) ts) ≡ None
-first_unread k room depth n ts e f = go (was_not_read (wrap (room - 1)) (value depth ts) f)
-  where
-    go : (value depth ts ≡ None) ⊎ ((i : Json) × (r : List Token) × (value depth ts ≡ Some (i, r)) × (wrap (room - 1) i ≡ None)) → through (wrap_object room) (after_key depth n (Some k) ts) ≡ None
-    go (inl none) = unreadable (wrap_object room) k depth n ts none
-    go (inr p) = first_part kinds.Scope k room depth n ts p.1 p.0 e p.2
-        ∙ never (wrapping room kinds.Scope p.0 (wrap (room - 1) p.0)) (λ ms. ap (λ t. wrapping room kinds.Scope p.0 t ms) p.3
-        ∙ scope_first_fails room p.0 (after (room - 1) ms)) (members (value depth) n p.1)
+first_unread k room depth n ts e f =
+    unread (wrap_object room) (wrap (room - 1)) k depth n ts f (λ i ms none. rw (e, none) (scope_first_fails room i (after (room - 1) ms)))
 
 pub first_read : (k : List ℕ) (room depth n : ℕ) (ts r : List Token) (u : Tree) → wrapper_of k ≡ Some kinds.Scope → through (wrap (room - 1)) (value depth ts) ≡ Some (u, r)
     → (j : Json) × (through (wrap_object room) (after_key depth n (Some k) ts) ≡ through (wrapping room kinds.Scope j (Some u)) (members (value depth) n r))
@@ -326,31 +221,12 @@ first_read k room depth n ts r u e f =
     (p.0, first_part kinds.Scope k room depth n ts r p.0 e p.1 ∙ ap (λ t. through (wrapping room kinds.Scope p.0 t) (members (value depth) n r)) p.2)
 
 scope_with : (v : Wrapper) (j i : Json) (t u : Option Tree) → is_code v ≡ false → two kinds.Scope j t v i u ≡ None
-scope_with kinds.NumberInt j i t u e = refl
-scope_with kinds.NumberLong j i t u e = refl
-scope_with kinds.NumberDouble j i t u e = refl
-scope_with kinds.NumberDecimal j i t u e = refl
-scope_with kinds.Oid j i t u e = refl
-scope_with kinds.Symbol j i t u e = refl
-scope_with kinds.Binary j i t u e = refl
-scope_with kinds.Uuid j i t u e = refl
 scope_with kinds.Code j i t u e = absurd cc
-scope_with kinds.Scope j i t u e = refl
-scope_with kinds.Timestamp j i t u e = refl
-scope_with kinds.RegularExpression j i t u e = refl
-scope_with kinds.DbPointer j i t u e = refl
-scope_with kinds.Date j i t u e = refl
-scope_with kinds.MinKey j i t u e = refl
-scope_with kinds.MaxKey j i t u e = refl
-scope_with kinds.Undefined j i t u e = refl
+scope_with _ j i t u e = refl
 
 scope_no_code : (room : ℕ) (j : Json) (t : Option Tree) (k : List ℕ) (i : Json) (ms : json.Members) → is_code_name (wrapper_of k) ≡ false → wrapping room kinds.Scope j t (json.member k i ms) ≡ None
-scope_no_code room j t k i json.no_members e = go (wrapper_of k) e
-  where
-    go : (v : Option Wrapper) → is_code_name v ≡ false → wrapper_tree room kinds.Scope j t (one_more v i (wrap (room - 1) i)) ≡ None
-    go None e = refl
-    go (Some v) e = ap (nested room) (scope_with v j i t (wrap (room - 1) i) e) ∙ nested_none room
-scope_no_code room j t k i (json.member l h ms) e = refl
+scope_no_code room j t k i ms e =
+    two_refused kinds.Scope room j t k i ms (λ v is. nested_none room _ (scope_with v j i t (wrap (room - 1) i) (sym (ap is_code_name is) ∙ e)))
 
 pub scope_without_code : (k : List ℕ) (room depth n : ℕ) (ts r : List Token) (j : Json) (t : Option Tree) → length ts ≤ n → read_key ts ≡ Some (Some k, r) → is_code_name (wrapper_of k) ≡ false
     → through (wrapping room kinds.Scope j t) (members (value depth) n ts) ≡ None
@@ -362,27 +238,12 @@ pub code_unread : (k : List ℕ) (room depth n : ℕ) (ts r : List Token) (j : J
 code_unread k room depth n ts r j t le e f = named (wrapping room kinds.Scope j t) k depth n ts r le e ∙ unreadable (wrapping room kinds.Scope j t) k depth (n - 1) r f
 
 pub code_is : (w : Wrapper) → is_code w ≡ true → w ≡ kinds.Code
-code_is kinds.NumberInt e = absurd cc
-code_is kinds.NumberLong e = absurd cc
-code_is kinds.NumberDouble e = absurd cc
-code_is kinds.NumberDecimal e = absurd cc
-code_is kinds.Oid e = absurd cc
-code_is kinds.Symbol e = absurd cc
-code_is kinds.Binary e = absurd cc
-code_is kinds.Uuid e = absurd cc
 code_is kinds.Code e = refl
-code_is kinds.Scope e = absurd cc
-code_is kinds.Timestamp e = absurd cc
-code_is kinds.RegularExpression e = absurd cc
-code_is kinds.DbPointer e = absurd cc
-code_is kinds.Date e = absurd cc
-code_is kinds.MinKey e = absurd cc
-code_is kinds.MaxKey e = absurd cc
-code_is kinds.Undefined e = absurd cc
+code_is _ e = absurd cc
 
 is_code_is : (v : Option Wrapper) → is_code_name v ≡ true → v ≡ Some kinds.Code
-is_code_is None e = absurd cc
-is_code_is (Some w) e = ap Some (code_is w e)
+is_code_is (Some kinds.Code) e = refl
+is_code_is _ e = absurd cc
 
 pub code_unended : (k : List ℕ) (room depth n : ℕ) (ts r s : List Token) (j i : Json) (t : Option Tree) → length ts ≤ n
     → read_key ts ≡ Some (Some k, r) → value depth r ≡ Some (i, s) → length s ≤ n - 1 → closing s ≡ None
@@ -402,10 +263,7 @@ code_ended k room depth n ts r s q j i u le e is f less g h =
 -- ---- code with scope
 
 pub scoped : (o : Option (List ℕ)) (t : Tree) (s : List ℕ) (d : Doc) → o ≡ Some s → option_map pairs_of (document t) ≡ Some d → with_scope o (Some t) ≡ Some (code_scope s (fields_of d))
-scoped None t s d e f = absurd (subst IsSomething (sym e) tt)
-scoped (Some a) (leaf x) s d e f = absurd (subst IsSomething (sym f) tt)
-scoped (Some a) (array x) s d e f = absurd (subst IsSomething (sym f) tt)
-scoped (Some a) (code_scope p x) s d e f = absurd (subst IsSomething (sym f) tt)
 scoped (Some a) (doc fs) s d e f =
     let inside : Some fs ≡ Some (fields_of d) = ap Some (sym (fields_of-pairs_of fs)) ∙ ap (option_map fields_of) f in
     ap (option_map (λ (x : Fields). code_scope a x)) inside ∙ ap (option_map (λ (x : List ℕ). code_scope x (fields_of d))) e
+scoped _ _ s d e f = absurd cc

@@ -1,37 +1,130 @@
 -- The canonical text of a plain document is read back as that document.
-use Rattle.std.proofs.Common.{◌≡◌, ◌≤◌, ℕ, true, false, List, [], ◌++◌, Some, option_map, option_and_then, refl, sym, ap, ◌∙◌, arith, append-nil}
-use Rattle.std.specs.Str.{is_utf8}
+use Rattle.std.proofs.Common.{◌≡◌, ℕ, zero, suc, ◌+◌, ◌*◌, ◌-◌, ◌/◌, ◌%◌, ◌<◌, ◌≤◌, ◌^◌, true, false, List, [], ◌∷◌, Option, Some, option_map, option_and_then, decimal}
+use Rattle.std.proofs.Common.{refl, ap, ap₂, ◌∙◌, arith}
+use Rattle.std.specs.Prelude.{◌||◌}
+use Rattle.std.proofs.lemmas.Bool.{or_parts, lt-ltb}
 use Rattle.std.proofs.lemmas.Str.{is_utf8-from_IsUtf8}
+use Rattle.base64.specs.Engines.{standard}
+use Rattle.base64.proofs.EngineFacts.{decode_of-encode_of}
+use Rattle.hex.specs.Hex.{IsBytes, encode_with}
+use Rattle.hex.proofs.HexLemmas.{IsDigits-lower_digits, decode_sized-encode_lower}
+use Rattle.json.specs.Json as kit
+use Rattle.json.specs.Json.{if_last}
+use Rattle.bd_value.specs.Depth.{depth, fields_depth, items_depth}
+use Rattle.bd_value.specs.Fits.{IsId, ScalarFitsType, FitsTypes, ItemsFitTypes, FieldsFitTypes, HasUtf8}
 use Rattle.bd_value.specs.Limits.{most_brackets, most_levels}
-use Rattle.json.specs.Json.{value, if_last}
-use Rattle.json.specs.Lex.{tokens}
-use Rattle.json.specs.Tree.{json_tokens}
-use Rattle.json.proofs.Printed.Tokens.{tokens-print}
-use Rattle.json.proofs.Printed.Trees.{value-json_tokens, ArePrintable-json_tokens}
-use Rattle.bd_value.specs.Depth.{depth}
-use Rattle.bd_value.specs.Tree.{Tree, doc, Doc, fields_of, pairs_of, pairs_of-fields_of}
-use Rattle.bd_value.specs.Zeros.{zero_in}
-use Rattle.bd_extjson.specs.Plain.{IsPlain}
-use Rattle.bd_value.specs.Fits.{FitsTypes, HasUtf8}
+use Rattle.bd_value.specs.Tree.{Scalar, min_key, undefined, null, int32, int64, text as plain_text, symbol, binary, object_id, boolean, date, timestamp, regex, db_pointer, code, max_key}
+use Rattle.bd_value.specs.Tree.{Tree, leaf, doc, array, code_scope, Items, no_items, item, Fields, no_fields, field, Doc, fields_of, pairs_of, pairs_of-fields_of}
+use Rattle.bd_value.specs.Zeros.{has_zero, zero_in_scalar, zero_in, zero_in_items, zero_in_fields}
+use Rattle.bd_text.specs.Text.{base64_text, hex_text, text}
+use Rattle.bd_wrapper.specs.Whole.{whole}
+use Rattle.bd_wrapper.specs.Wrappers.{wrapper_of, only, pair, both, ok_of, id_of, data_in, subtype_in, word_in, if_word, name_in}
+use Rattle.bd_extjson.specs.Meaning.{add_item, add_field, with_scope, wrap, wrap_items, wrap_object, wrap_fields}
+use Rattle.bd_extjson.specs.Plain.{IsPlainFirst, IsPlain, ArePlainItems, ArePlainFields}
 use Rattle.bd_extjson.specs.TextDocument.{json as json_in, document, ReadsAs}
-use Rattle.bd_text.specs.Text.{text}
-use Rattle.bd_extjson.specs.Meaning.{wrap}
-use Rattle.bd_extjson.proofs.PrintLemmas.{kit_json, print-kit_json}
-use Rattle.bd_extjson.proofs.TokenInverseLemmas.{shallow, numbers}
-use Rattle.bd_extjson.proofs.TreeJsonLemmas.{json, print-json}
-use Rattle.bd_extjson.proofs.TreeInverseLemmas.{tree_back}
-use Rattle.bd_extjson.proofs.TextUtf8Lemmas.{utf8-text}
+use Rattle.bd_extjson.proofs.DecimalLemmas.{whole_64-signed, whole_32-signed, whole_64-decimal}
+use Rattle.bd_extjson.proofs.TextLemmas.{utf8-text}
+use Rattle.bd_extjson.proofs.TreeJsonLemmas.{scalar_json, json, elements_json, members_json, well, value-text}
+use Rattle.bd_extjson.proofs.WholeTextLemmas.{json_is}
 
-json_in-utf8 : (s : List ℕ) → is_utf8 s ≡ true → json_in s ≡ option_and_then (λ p. if_last p.0 p.1) (value most_brackets (tokens s))
-json_in-utf8 s is = rw is refl
+-- ---- the parts of a scalar
 
-json_back : (t : Tree) → FitsTypes t → HasUtf8 t → depth t ≤ most_levels → json_in (text t) ≡ Some (kit_json (json t))
+id_back : (id : List ℕ) → IsId id → id_of (kit.string (hex_text id)) ≡ Some id
+unfolding hex_text
+id_back id is = ap ok_of (decode_sized-encode_lower id 12 is.0 is.1)
+
+data_back : (bytes : List ℕ) → IsBytes bytes → data_in (kit.string (base64_text bytes)) ≡ Some bytes
+unfolding base64_text
+data_back bytes are = ap ok_of (decode_of-encode_of standard bytes refl are)
+
+subtype_back : (k : ℕ) → k < 256 → subtype_in (kit.string (hex_text (k ∷ []))) ≡ Some k
+unfolding hex_text encode_with
+subtype_back k small =
+    let high = IsDigits-lower_digits (k / 16) (omega arith) in
+    let low = IsDigits-lower_digits (k % 16) (omega arith) in
+    let sum : k / 16 * 16 + k % 16 ≡ k = omega arith in
+    ap₂ (λ a b. option_map (λ p. p.0 * 16 + p.1) (both a b)) high low ∙ ap Some sum
+
+word_back : (n : ℕ) → n < 2 ^ 32 → word_in (kit.number (decimal n)) ≡ Some n
+word_back n small =
+    let less = lt-ltb n 4294967296 small in
+    ap (option_and_then if_word) (whole_64-decimal n small) ∙ rw less refl
+
+name_back : (s : List ℕ) → has_zero s ≡ false → name_in (kit.string s) ≡ Some s
+name_back s none = rw none refl
+
+pub scalar_back : (s : Scalar) (room : ℕ) → ScalarFitsType s → zero_in_scalar s ≡ false → wrap room (scalar_json s) ≡ Some (leaf s)
+unfolding wrapper_of only pair whole
+scalar_back (int32 z) room fits none = ap (λ o. option_map (λ s. leaf s) (option_map (λ y. int32 y) o)) (whole_32-signed z fits)
+scalar_back (int64 z) room fits none = ap (λ o. option_map (λ s. leaf s) (option_map (λ y. int64 y) o)) (whole_64-signed z fits)
+scalar_back (binary k s) room fits none =
+    ap₂ (λ a b. option_map (λ s. leaf s) (option_map (λ p. binary p.1 p.0) (both a b))) (data_back s fits.1) (subtype_back k fits.0)
+scalar_back (object_id id) room fits none = ap (λ o. option_map (λ s. leaf s) (option_map (λ b. object_id b) o)) (id_back id fits)
+scalar_back (date z) room fits none = ap (λ o. option_map (λ s. leaf s) (option_map (λ y. date y) o)) (whole_64-signed z fits)
+scalar_back (timestamp s i) room fits none =
+    ap₂ (λ a b. option_map (λ s. leaf s) (option_map (λ p. timestamp p.0 p.1) (both a b))) (word_back s fits.0) (word_back i fits.1)
+scalar_back (regex p o) room fits none =
+    let parts = or_parts (has_zero p) (has_zero o) none in
+    ap₂ (λ a b. option_map (λ s. leaf s) (option_map (λ p. regex p.0 p.1) (both a b))) (name_back p parts.0) (name_back o parts.1)
+scalar_back (db_pointer s id) room fits none =
+    ap (λ o. option_map (λ s. leaf s) (option_map (λ p. db_pointer p.0 p.1) (both (Some s) o))) (id_back id fits)
+scalar_back _ room fits none = refl
+
+-- ---- a tree
+
+add_field-some : (n : List ℕ) (t : Tree) (fs : Fields) → has_zero n ≡ false → add_field n (Some t) (Some fs) ≡ Some (field n t fs)
+add_field-some n t fs none = rw none refl
+
+field_back : (n : List ℕ) (t : Tree) (fs : Fields) {o : Option Tree} {p : Option Fields} → has_zero n ≡ false → o ≡ Some t → p ≡ Some fs → add_field n o p ≡ Some (field n t fs)
+field_back n t fs none first rest = ap₂ (add_field n) first rest ∙ add_field-some n t fs none
+
+no_zeros : (n : List ℕ) (t : Tree) (fs : Fields) → zero_in_fields (field n t fs) ≡ false → (has_zero n ≡ false) × (zero_in t ≡ false) × (zero_in_fields fs ≡ false)
+no_zeros n t fs none =
+    let name = or_parts (has_zero n) (zero_in t || zero_in_fields fs) none in
+    let parts = or_parts (zero_in t) (zero_in_fields fs) name.1 in
+    (name.0, parts.0, parts.1)
+
+scope_back : (s : List ℕ) (fs : Fields) (room : ℕ) → wrap_object (suc room - 1) (members_json fs) ≡ Some (doc fs)
+    → wrap (suc room) (json (code_scope s fs)) ≡ Some (code_scope s fs)
+unfolding wrapper_of
+scope_back s fs room same = ap (with_scope (Some s)) same
+
+mutual
+  pub tree_back : (t : Tree) (room : ℕ) → depth t ≤ room → FitsTypes t → IsPlain t → zero_in t ≡ false → wrap room (json t) ≡ Some t
+  tree_back (leaf s) room deep fits plain none = scalar_back s room fits none
+  tree_back (doc fs) room deep fits plain none = object_back fs room deep fits plain none
+  tree_back (array ts) zero deep fits plain none = absurd (omega arith)
+  tree_back (array ts) (suc room) deep fits plain none = ap (option_map array) (items_back ts (suc room - 1) (omega arith) fits plain none)
+  tree_back (code_scope s fs) zero deep fits plain none = absurd (omega arith)
+  tree_back (code_scope s fs) (suc room) deep fits plain none = scope_back s fs room (object_back fs (suc room - 1) (omega arith) fits plain none)
+
+  object_back : (fs : Fields) (room : ℕ) → suc (fields_depth fs) ≤ room → FieldsFitTypes fs → IsPlainFirst fs × ArePlainFields fs
+      → zero_in_fields fs ≡ false → wrap_object room (members_json fs) ≡ Some (doc fs)
+  object_back fs zero deep fits plain none = absurd (omega arith)
+  object_back no_fields (suc room) deep fits plain none = refl
+  object_back (field n t fs) (suc room) deep fits plain none =
+      let parts = no_zeros n t fs none in
+      rw plain.0
+      (ap (option_map doc) (field_back n t fs parts.0 (tree_back t (suc room - 1) (omega arith) fits.0 plain.1.0 parts.1) (fields_back fs (suc room - 1) (omega arith) fits.1 plain.1.1 parts.2)))
+
+  items_back : (ts : Items) (room : ℕ) → items_depth ts ≤ room → ItemsFitTypes ts → ArePlainItems ts → zero_in_items ts ≡ false → wrap_items room (elements_json ts) ≡ Some ts
+  items_back no_items room deep fits plain none = refl
+  items_back (item t ts) room deep fits plain none =
+      let parts = or_parts (zero_in t) (zero_in_items ts) none in
+      ap₂ add_item (tree_back t room (omega arith) fits.0 plain.0 parts.0) (items_back ts room (omega arith) fits.1 plain.1 parts.1)
+
+  fields_back : (fs : Fields) (room : ℕ) → fields_depth fs ≤ room → FieldsFitTypes fs → ArePlainFields fs → zero_in_fields fs ≡ false → wrap_fields room (members_json fs) ≡ Some fs
+  fields_back no_fields room deep fits plain none = refl
+  fields_back (field n t fs) room deep fits plain none =
+      let parts = no_zeros n t fs none in
+      field_back n t fs parts.0 (tree_back t room (omega arith) fits.0 plain.0 parts.1) (fields_back fs room (omega arith) fits.1 plain.1 parts.2)
+
+-- ---- a document
+
+json_back : (t : Tree) → FitsTypes t → HasUtf8 t → depth t ≤ most_levels → json_in (text t) ≡ Some (json t)
 json_back t fits utf8 deep =
-    let j = kit_json (json t) in
-    let all : tokens (text t) ≡ json_tokens j ++ [] =
-    ap tokens (sym (print-json t) ∙ print-kit_json (json t)) ∙ tokens-print (json_tokens j) (ArePrintable-json_tokens j (numbers t fits)) ∙ sym (append-nil (json_tokens j)) in
-    json_in-utf8 (text t) (is_utf8-from_IsUtf8 (text t) (utf8-text t fits utf8))
-    ∙ ap (option_and_then (λ p. if_last p.0 p.1)) (ap (value most_brackets) all ∙ value-json_tokens j most_brackets [] (omega (arith, shallow t)))
+    json_is (text t) (is_utf8-from_IsUtf8 (text t) (utf8-text t fits utf8))
+    ∙ ap (option_and_then (λ p. if_last p.0 p.1)) (value-text t most_brackets fits (omega (arith, (well t fits).0)))
 
 pub document_back : (d : Doc) → FitsTypes (doc (fields_of d)) → HasUtf8 (doc (fields_of d)) → IsPlain (doc (fields_of d))
     → zero_in (doc (fields_of d)) ≡ false → depth (doc (fields_of d)) ≤ most_levels

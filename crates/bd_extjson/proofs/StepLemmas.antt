@@ -1,5 +1,5 @@
 -- Reading and wrapping, a step at a time.
-use Rattle.std.proofs.Common.{◌≡◌, ℕ, zero, suc, ◌-◌, ◌<◌, ◌≤◌, Bool, false, List, [], ◌∷◌, ◌++◌, length, Option, Some, None, option_map, option_and_then, refl, ap, ◌∙◌, arith}
+use Rattle.std.proofs.Common.{◌≡◌, ℕ, zero, suc, ◌-◌, ◌<◌, ◌≤◌, Bool, false, List, [], ◌∷◌, ◌++◌, length, Option, Some, None, option_map, option_and_then, refl, sym, ap, ◌∙◌, arith, rules}
 use Rattle.json.specs.Token.{Token}
 use Rattle.json.specs.Json as json
 use Rattle.json.specs.Json.{Json, Parse, parse_map, after_end_array, read_key, items_step, members_step, items, members, value}
@@ -10,7 +10,12 @@ use Rattle.bd_value.specs.Zeros.{has_zero}
 use Rattle.bd_extjson.specs.Meaning.{bare_number, nested, add_item, add_field, wrap, wrap_items, wrap_object, wrap_fields}
 use Rattle.bd_wrapper.specs.Wrappers.{wrapper_of}
 use Rattle.bd_wrapper.specs.declared.wrapper.Wrapper.{Wrapper}
-use Rattle.std.specs.Prelude.{ok_or, Result, Ok, Err}
+use Rattle.std.specs.Prelude.{ok_or, Result, Ok, Err, String, string_bytes}
+use Rattle.std.specs.declared.alloc.Global.{Global}
+use Rattle.bd_value.specs.View.{tree_of}
+use Rattle.bd_value.specs.declared.document.Value.TheVariants as values
+use Rattle.bd_value.specs.declared.document.Value.TheFolds as folds
+use Rattle.bd_value.proofs.ViewLemmas.{tree_of-Array}
 use Rattle.bd_wrapper.specs.Whole.{whole_64}
 use Rattle.bd_wrapper.specs.Progress.{through, after_key, FailsAtTokens, GivesValue, GivesTokens}
 use Rattle.bd_wrapper.specs.declared.trouble.Trouble.{Trouble}
@@ -20,27 +25,61 @@ pub nested_is : {A : Type 0} (room : ℕ) (r : Option A) → 0 < room → nested
 nested_is zero r h = absurd (omega arith)
 nested_is (suc room) r h = refl
 
+-- ---- what is made of what was read
+
+pub never : {J A : Type 0} (f : J → Option A) → ((j : J) → f j ≡ None) → (r : Option (J × List Token)) → through f r ≡ None
+never f h None = refl
+never f h (Some q) = ap (option_map (λ a. (a, q.1))) (h q.0)
+
+pub through_same : {J A : Type 0} (f g : J → Option A) → ((j : J) → f j ≡ g j) → (r : Option (J × List Token)) → through f r ≡ through g r
+through_same f g h None = refl
+through_same f g h (Some q) = ap (option_map (λ a. (a, q.1))) (h q.0)
+
+pub through_made : {J K A : Type 0} (f : K → Option A) (make : J → K) (r : Option (J × List Token)) → through f (parse_map make r) ≡ through (λ j. f (make j)) r
+through_made f make None = refl
+through_made f make (Some q) = refl
+
+through_map : {J A B : Type 0} (f : J → Option A) (make : A → B) (r : Option (J × List Token)) → through (λ j. option_map make (f j)) r ≡ parse_map make (through f r)
+through_map f make None = refl
+through_map {A = A} {B = B} f make (Some q) = go (f q.0)
+  where
+    go : (o : Option A) → option_map (λ (b : B). (b, q.1)) (option_map make o) ≡ parse_map make (option_map (λ (a : A). (a, q.1)) o)
+    go None = refl
+    go (Some x) = refl
+
+-- the same of a first member and those after it
+member_same : {A : Type 0} (f g : json.Members → Option A) (k : List ℕ) (depth n : ℕ) (ts : List Token) → ((j : Json) (ms : json.Members) → f (json.member k j ms) ≡ g (json.member k j ms))
+    → through f (after_key depth n (Some k) ts) ≡ through g (after_key depth n (Some k) ts)
+member_same f g k depth n ts h = turn (value depth ts)
+  where
+    turn : (v : Option (Json × List Token)) → through f (option_and_then (λ p. parse_map (json.member k p.0) (members (value depth) n p.1)) v)
+        ≡ through g (option_and_then (λ p. parse_map (json.member k p.0) (members (value depth) n p.1)) v)
+    turn None = refl
+    turn (Some p) =
+        let r = members (value depth) n p.1 in
+        through_made f (json.member k p.0) r ∙ through_same (λ ms. f (json.member k p.0 ms)) (λ ms. g (json.member k p.0 ms)) (h p.0) r ∙ sym (through_made g (json.member k p.0) r)
+
+pub refused_member : {A : Type 0} (f : json.Members → Option A) (k : List ℕ) (depth n : ℕ) (ts : List Token) → ((j : Json) (ms : json.Members) → f (json.member k j ms) ≡ None)
+    → through f (after_key depth n (Some k) ts) ≡ None
+refused_member {A = A} f k depth n ts h =
+    let none : json.Members → Option A = λ ms. None in
+    member_same f none k depth n ts h ∙ never none (λ ms. refl) (after_key depth n (Some k) ts)
+
 -- ---- arrays
-
-array_inside : (ts : List Token) (o : Option Items) → option_map (λ (a : Tree). (a, ts)) (option_map array o) ≡ parse_map array (option_map (λ (a : Items). (a, ts)) o)
-array_inside ts None = refl
-array_inside ts (Some x) = refl
-
-array_through : (room : ℕ) (r : Option (json.Items × List Token)) → 0 < room → through (wrap room) (parse_map json.array r) ≡ parse_map array (through (wrap_items (room - 1)) r)
-array_through room None h = refl
-array_through room (Some p) h =
-    ap (option_map (λ (a : Tree). (a, p.1))) (nested_is room (option_map array (wrap_items (room - 1) p.0)) h) ∙ array_inside p.1 (wrap_items (room - 1) p.0)
 
 pub array_read : (room depth : ℕ) (ts : List Token) → 0 < room → 0 < depth
     → through (wrap room) (value depth (Token.begin_array ∷ ts)) ≡ parse_map array (through (wrap_items (room - 1)) (items (value (depth - 1)) (length ts) ts))
-array_read room depth ts h k = ap (through (wrap room)) (value-begin_array depth ts k) ∙ array_through room _ h
-
-no_room_for_array : (r : Option (json.Items × List Token)) → through (wrap 0) (parse_map json.array r) ≡ None
-no_room_for_array None = refl
-no_room_for_array (Some p) = refl
+array_read room depth ts h k =
+    let r = items (value (depth - 1)) (length ts) ts in
+    ap (through (wrap room)) (value-begin_array depth ts k) ∙ through_made (wrap room) json.array r
+    ∙ through_same (λ js. wrap room (json.array js)) (λ js. option_map array (wrap_items (room - 1) js)) (λ js. nested_is room _ h) r
+    ∙ through_map (wrap_items (room - 1)) array r
 
 pub array_refused : (room depth : ℕ) (ts : List Token) → 0 < depth → room ≡ 0 → through (wrap room) (value depth (Token.begin_array ∷ ts)) ≡ None
-array_refused room depth ts k e = ap (λ n. through (wrap n) (value depth (Token.begin_array ∷ ts))) e ∙ ap (through (wrap 0)) (value-begin_array depth ts k) ∙ no_room_for_array _
+array_refused room depth ts k e =
+    let r = items (value (depth - 1)) (length ts) ts in
+    ap (λ n. through (wrap n) (value depth (Token.begin_array ∷ ts))) e ∙ ap (through (wrap 0)) (value-begin_array depth ts k)
+    ∙ through_made (wrap 0) json.array r ∙ never (λ js. wrap 0 (json.array js)) (λ js. refl) r
 
 pub too_deep : (room : ℕ) (ts : List Token) → through (wrap room) (value 0 (Token.begin_array ∷ ts)) ≡ None
 unfolding value
@@ -50,12 +89,8 @@ pub too_deep_object : (room : ℕ) (ts : List Token) → through (wrap room) (va
 unfolding value
 too_deep_object room ts = refl
 
-object_through : (room : ℕ) (r : Option (json.Members × List Token)) → through (wrap room) (parse_map json.object r) ≡ through (wrap_object room) r
-object_through room None = refl
-object_through room (Some p) = refl
-
 pub object_read : (room depth : ℕ) (ts : List Token) → 0 < depth → through (wrap room) (value depth (Token.begin_object ∷ ts)) ≡ through (wrap_object room) (members (value (depth - 1)) (length ts) ts)
-object_read room depth ts k = ap (through (wrap room)) (value-begin_object depth ts k) ∙ object_through room _
+object_read room depth ts k = ap (through (wrap room)) (value-begin_object depth ts k) ∙ through_made (wrap room) json.object (members (value (depth - 1)) (length ts) ts)
 
 -- ---- what was read, and then more
 
@@ -63,40 +98,45 @@ abbrev pub then : {A B : Type 0} → Option (A × List Token) → (A → List To
 then None k = None
 then (Some p) k = k p.0 p.1
 
-item_joined : (o : Option Tree) (ts : List Token) (q : Option Items) (more : List Token)
-    → option_map (λ (a : Items). (a, more)) (add_item o q) ≡ then (option_map (λ (t : Tree). (t, ts)) o)
-    (λ t s. parse_map (item t) (option_map (λ (a : Items). (a, more)) q))
-item_joined None ts q more = refl
-item_joined (Some t) ts None more = refl
-item_joined (Some t) ts (Some x) more = refl
+-- one more in front, of the items or the fields that `add` makes
+abbrev with_one : {X : Type 0} → (Option Tree → Option X → Option X) → Tree → Option (X × List Token) → Option (X × List Token)
+with_one add t None = None
+with_one add t (Some q) = option_map (λ x. (x, q.1)) (add (Some t) (Some q.0))
 
-item_none : (o : Option Tree) (ts : List Token) → None ≡ then (option_map (λ (t : Tree). (t, ts)) o) (λ t s. parse_map (item t) None)
-item_none None ts = refl
-item_none (Some t) ts = refl
+module _ (J X : Type 0) (make : Json → J → J) (read : J → Option X) (add : Option Tree → Option X → Option X) (room : ℕ)
+    (made : (j : Json) (js : J) → read (make j js) ≡ add (wrap room j) (read js)) (none : (o : Option X) → add None o ≡ None)
+    (less : (t : Tree) → add (Some t) None ≡ None) where
+  pushed : (t : Tree) (r : Option (J × List Token)) → through (λ js. add (Some t) (read js)) r ≡ with_one add t (through read r)
+  pushed t None = refl
+  pushed t (Some q) = go (read q.0)
+    where
+      go : (o : Option X) → option_map (λ (x : X). (x, q.1)) (add (Some t) o) ≡ with_one add t (option_map (λ (x : X). (x, q.1)) o)
+      go None = ap (option_map (λ (x : X). (x, q.1))) (less t)
+      go (Some x) = refl
 
-item_after : (room : ℕ) (j : Json) (ts : List Token) (r : Option (json.Items × List Token))
-    → through (wrap_items room) (parse_map (json.item j) r) ≡ then (through (wrap room) (Some (j, ts))) (λ t s. parse_map (item t) (through (wrap_items room) r))
-item_after room j ts None = item_none (wrap room j) ts
-item_after room j ts (Some q) = item_joined (wrap room j) ts (wrap_items room q.0) q.1
+  turn : (more : Parse J) (v : Option (Json × List Token))
+      → through read (option_and_then (λ p. parse_map (make p.0) (more p.1)) v) ≡ then (through (wrap room) v) (λ t r. with_one add t (through read (more r)))
+  turn more None = refl
+  turn more (Some p) =
+      through_made read (make p.0) (more p.1) ∙ through_same (λ js. read (make p.0 js)) (λ js. add (wrap room p.0) (read js)) (made p.0) (more p.1) ∙ split (wrap room p.0)
+    where
+      split : (o : Option Tree) → through (λ js. add o (read js)) (more p.1) ≡ then (option_map (λ (t : Tree). (t, p.1)) o) (λ t s. with_one add t (through read (more s)))
+      split None = never (λ js. add None (read js)) (λ js. none (read js)) (more p.1)
+      split (Some t) = pushed t (more p.1)
 
-item_turn : (room : ℕ) (more : Parse json.Items) (v : Option (Json × List Token))
-    → through (wrap_items room) (option_and_then (λ p. parse_map (json.item p.0) (more p.1)) v) ≡ then (through (wrap room) v) (λ t r. parse_map (item t) (through (wrap_items room) (more r)))
-item_turn room more None = refl
-item_turn room more (Some p) = item_after room p.0 p.1 (more p.1) ∙ moved (wrap room p.0)
-  where
-    moved : (o : Option Tree) → then (option_map (λ (t : Tree). (t, p.1)) o) (λ t s. parse_map (item t) (through (wrap_items room) (more p.1)))
-        ≡ then (option_map (λ (t : Tree). (t, p.1)) o) (λ t s. parse_map (item t) (through (wrap_items room) (more s)))
-    moved None = refl
-    moved (Some t) = refl
-
-pub items_step_is : (room depth n : ℕ) (ts : List Token) → 0 < n → after_end_array ts ≡ None
-    → through (wrap_items room) (items (value depth) n ts) ≡ then (through (wrap room) (value depth ts)) (λ t r. parse_map (item t) (through (wrap_items room) (items (value depth) (n - 1) r)))
+items_step_is : (room depth n : ℕ) (ts : List Token) → 0 < n → after_end_array ts ≡ None
+    → through (wrap_items room) (items (value depth) n ts) ≡ then (through (wrap room) (value depth ts)) (λ t r. with_one add_item t (through (wrap_items room) (items (value depth) (n - 1) r)))
 unfolding items
 items_step_is room depth zero ts h e = absurd (omega arith)
 items_step_is room depth (suc n) ts h e =
     let k : n ≡ suc n - 1 = omega arith in
-    ap (λ o. through (wrap_items room) (items_step (value depth) (items (value depth) n) ts o)) e ∙ item_turn room (items (value depth) n) (value depth ts)
-    ∙ ap (λ m. then (through (wrap room) (value depth ts)) (λ t r. parse_map (item t) (through (wrap_items room) (items (value depth) m r)))) k
+    ap (λ o. through (wrap_items room) (items_step (value depth) (items (value depth) n) ts o)) e
+    ∙ turn json.Items Items json.item (wrap_items room) add_item room (λ j js. refl) (λ o. refl) (λ t. refl) (items (value depth) n) (value depth ts)
+    ∙ ap (λ m. then (through (wrap room) (value depth ts)) (λ t r. with_one add_item t (through (wrap_items room) (items (value depth) m r)))) k
+
+with_item_is : (t : Tree) (r : Option (Items × List Token)) → with_one add_item t r ≡ parse_map (item t) r
+with_item_is t None = refl
+with_item_is t (Some q) = refl
 
 abbrev pub items_before : List Tree → Items → Items
 items_before [] rest = rest
@@ -116,39 +156,11 @@ one_more_item ts t (Some p) = ap (λ x. Some (x, p.1)) (items_push ts t p.0)
 
 -- ---- objects
 
-abbrev pub with_field : List ℕ → Tree → Option (Fields × List Token) → Option (Fields × List Token)
-with_field k t None = None
-with_field k t (Some q) = option_map (λ fs. (fs, q.1)) (add_field k (Some t) (Some q.0))
-
-field_joined : (k : List ℕ) (o : Option Tree) (ts : List Token) (q : Option Fields) (more : List Token)
-    → option_map (λ (a : Fields). (a, more)) (add_field k o q) ≡ then (option_map (λ (t : Tree). (t, ts)) o) (λ t s. with_field k t (option_map (λ (a : Fields). (a, more)) q))
-field_joined k None ts q more = refl
-field_joined k (Some t) ts None more = refl
-field_joined k (Some t) ts (Some x) more = refl
-
-field_none : (k : List ℕ) (o : Option Tree) (ts : List Token) → None ≡ then (option_map (λ (t : Tree). (t, ts)) o) (λ t s. with_field k t None)
-field_none k None ts = refl
-field_none k (Some t) ts = refl
-
-field_after : (k : List ℕ) (room : ℕ) (j : Json) (ts : List Token) (r : Option (json.Members × List Token))
-    → through (wrap_fields room) (parse_map (json.member k j) r) ≡ then (through (wrap room) (Some (j, ts))) (λ t s. with_field k t (through (wrap_fields room) r))
-field_after k room j ts None = field_none k (wrap room j) ts
-field_after k room j ts (Some q) = field_joined k (wrap room j) ts (wrap_fields room q.0) q.1
-
-pub field_turn : (k : List ℕ) (room : ℕ) (more : Parse json.Members) (v : Option (Json × List Token))
-    → through (wrap_fields room) (option_and_then (λ p. parse_map (json.member k p.0) (more p.1)) v) ≡ then (through (wrap room) v) (λ t r. with_field k t (through (wrap_fields room) (more r)))
-field_turn k room more None = refl
-field_turn k room more (Some p) = field_after k room p.0 p.1 (more p.1) ∙ moved (wrap room p.0)
-  where
-    moved : (o : Option Tree) → then (option_map (λ (t : Tree). (t, p.1)) o) (λ t s. with_field k t (through (wrap_fields room) (more p.1)))
-        ≡ then (option_map (λ (t : Tree). (t, p.1)) o) (λ t s. with_field k t (through (wrap_fields room) (more s)))
-    moved None = refl
-    moved (Some t) = refl
-
 -- what stands after a name
-pub field_step : (k : List ℕ) (room depth n : ℕ) (ts : List Token)
-    → through (wrap_fields room) (after_key depth n (Some k) ts) ≡ then (through (wrap room) (value depth ts)) (λ t r. with_field k t (through (wrap_fields room) (members (value depth) n r)))
-field_step k room depth n ts = field_turn k room (members (value depth) n) (value depth ts)
+field_step : (k : List ℕ) (room depth n : ℕ) (ts : List Token)
+    → through (wrap_fields room) (after_key depth n (Some k) ts) ≡ then (through (wrap room) (value depth ts)) (λ t r. with_one (add_field k) t (through (wrap_fields room) (members (value depth) n r)))
+field_step k room depth n ts =
+    turn json.Members Fields (json.member k) (wrap_fields room) (add_field k) room (λ j ms. refl) (λ o. refl) (λ t. refl) (members (value depth) n) (value depth ts)
 
 -- the next name
 pub next_name : (depth n : ℕ) (ts r : List Token) (key : Option (List ℕ)) → length ts ≤ n → read_key ts ≡ Some (key, r) → members (value depth) n ts ≡ after_key depth (n - 1) key r
@@ -158,7 +170,7 @@ next_name depth (suc n) ts r key le e =
     let k : n ≡ suc n - 1 = omega arith in
     ap (option_and_then (λ q. members_step (value depth) (members (value depth) n) q.0 q.1)) e ∙ ap (λ m. after_key depth m key r) k
 
-pub with_field_is : (k : List ℕ) (t : Tree) (r : Option (Fields × List Token)) → has_zero k ≡ false → with_field k t r ≡ parse_map (field k t) r
+with_field_is : (k : List ℕ) (t : Tree) (r : Option (Fields × List Token)) → has_zero k ≡ false → with_one (add_field k) t r ≡ parse_map (field k t) r
 with_field_is k t None e = refl
 with_field_is k t (Some q) e = rw e refl
 
@@ -178,44 +190,6 @@ pub one_more_field : (ps : Doc) (k : List ℕ) (t : Tree) (r : Option (Fields ×
 one_more_field ps k t None = refl
 one_more_field ps k t (Some p) = ap (λ x. Some (x, p.1)) (fields_push ps k t p.0)
 
--- an object whose first name is no wrapper's
-doc_inside : (ts : List Token) (o : Option Fields) → option_map (λ (a : Tree). (a, ts)) (option_map doc o) ≡ parse_map doc (option_map (λ (a : Fields). (a, ts)) o)
-doc_inside ts None = refl
-doc_inside ts (Some x) = refl
-
-plain_after : (k : List ℕ) (room : ℕ) (j : Json) (r : Option (json.Members × List Token)) → 0 < room → wrapper_of k ≡ None
-    → through (wrap_object room) (parse_map (json.member k j) r) ≡ parse_map doc (through (wrap_fields (room - 1)) (parse_map (json.member k j) r))
-plain_after k room j None h e = refl
-plain_after k room j (Some q) h e =
-    let no : wrap_object room (json.member k j q.0) ≡ nested room (option_map doc (wrap_fields (room - 1) (json.member k j q.0))) = rw e refl in
-    ap (option_map (λ (a : Tree). (a, q.1))) (no ∙ nested_is room _ h) ∙ doc_inside q.1 _
-
-plain_turn : (k : List ℕ) (room : ℕ) (more : Parse json.Members) (v : Option (Json × List Token)) → 0 < room → wrapper_of k ≡ None
-    → through (wrap_object room) (option_and_then (λ p. parse_map (json.member k p.0) (more p.1)) v)
-    ≡ parse_map doc (through (wrap_fields (room - 1)) (option_and_then (λ p. parse_map (json.member k p.0) (more p.1)) v))
-plain_turn k room more None h e = refl
-plain_turn k room more (Some p) h e = plain_after k room p.0 (more p.1) h e
-
-pub plain_object : (k : List ℕ) (room depth n : ℕ) (ts : List Token) → 0 < room → wrapper_of k ≡ None
-    → through (wrap_object room) (after_key depth n (Some k) ts) ≡ parse_map doc (through (wrap_fields (room - 1)) (after_key depth n (Some k) ts))
-plain_object k room depth n ts h e = plain_turn k room (members (value depth) n) (value depth ts) h e
-
-pub empty_object : (room depth n : ℕ) (ts : List Token) → 0 < room → through (wrap_object room) (after_key depth n None ts)
-    ≡ parse_map doc (through (wrap_fields (room - 1)) (after_key depth n None ts))
-empty_object room depth n ts h = ap (option_map (λ (a : Tree). (a, ts))) (nested_is room (Some (doc no_fields)) h)
-
-no_room_after : (k : List ℕ) (j : Json) (r : Option (json.Members × List Token)) → wrapper_of k ≡ None → through (wrap_object 0) (parse_map (json.member k j) r) ≡ None
-no_room_after k j None e = refl
-no_room_after k j (Some q) e = rw e refl
-
-no_room_turn : (k : List ℕ) (more : Parse json.Members) (v : Option (Json × List Token)) → wrapper_of k ≡ None
-    → through (wrap_object 0) (option_and_then (λ p. parse_map (json.member k p.0) (more p.1)) v) ≡ None
-no_room_turn k more None e = refl
-no_room_turn k more (Some p) e = no_room_after k p.0 (more p.1) e
-
-pub no_room_for_object : (k : List ℕ) (depth n : ℕ) (ts : List Token) → wrapper_of k ≡ None → through (wrap_object 0) (after_key depth n (Some k) ts) ≡ None
-no_room_for_object k depth n ts e = no_room_turn k (members (value depth) n) (value depth ts) e
-
 -- ---- what fails
 
 pub fails_by : {A B : Type 0} (e : Trouble) (x : Option A) (y : Option B) → (x ≡ None → y ≡ None) → FailsAtTokens e x → FailsAtTokens e y
@@ -226,17 +200,18 @@ pub items_refused : (room depth n : ℕ) (ts : List Token) → after_end_array t
 unfolding items
 items_refused room depth zero ts e f = refl
 items_refused room depth (suc n) ts e f =
-    items_step_is room depth (suc n) ts (omega arith) e ∙ ap (λ o. then o (λ t r. parse_map (item t) (through (wrap_items room) (items (value depth) (suc n - 1) r)))) f
+    items_step_is room depth (suc n) ts (omega arith) e ∙ ap (λ o. then o (λ t r. with_one add_item t (through (wrap_items room) (items (value depth) (suc n - 1) r)))) f
 
 pub items_go_on : (room depth n : ℕ) (ts r : List Token) (t : Tree) → 0 < n → after_end_array ts ≡ None → through (wrap room) (value depth ts) ≡ Some (t, r)
     → through (wrap_items room) (items (value depth) n ts) ≡ parse_map (item t) (through (wrap_items room) (items (value depth) (n - 1) r))
 items_go_on room depth n ts r t h e f =
-    items_step_is room depth n ts h e ∙ ap (λ o. then o (λ t r. parse_map (item t) (through (wrap_items room) (items (value depth) (n - 1) r)))) f
+    items_step_is room depth n ts h e ∙ ap (λ o. then o (λ t r. with_one add_item t (through (wrap_items room) (items (value depth) (n - 1) r)))) f
+    ∙ with_item_is t (through (wrap_items room) (items (value depth) (n - 1) r))
 
 pub field_goes_on : (k : List ℕ) (room depth n : ℕ) (ts r : List Token) (t : Tree) → has_zero k ≡ false → through (wrap room) (value depth ts) ≡ Some (t, r)
     → through (wrap_fields room) (after_key depth n (Some k) ts) ≡ parse_map (field k t) (through (wrap_fields room) (members (value depth) n r))
 field_goes_on k room depth n ts r t z f =
-    field_step k room depth n ts ∙ ap (λ o. then o (λ t r. with_field k t (through (wrap_fields room) (members (value depth) n r)))) f ∙ with_field_is k t _ z
+    field_step k room depth n ts ∙ ap (λ o. then o (λ t r. with_one (add_field k) t (through (wrap_fields room) (members (value depth) n r)))) f ∙ with_field_is k t _ z
 
 -- ---- an object after its first name
 
@@ -255,12 +230,14 @@ object_is_wrapper view result rest w room depth n ts (Some name) e f = f name e
 
 pub object_is_plain : (room depth n : ℕ) (ts : List Token) (key : Option (List ℕ)) → 0 < room → option_and_then wrapper_of key ≡ None
     → through (wrap_object room) (after_key depth n key ts) ≡ parse_map doc (through (wrap_fields (room - 1)) (after_key depth n key ts))
-object_is_plain room depth n ts None h e = empty_object room depth n ts h
-object_is_plain room depth n ts (Some k) h e = plain_object k room depth n ts h e
+object_is_plain room depth n ts None h e = ap (option_map (λ (a : Tree). (a, ts))) (nested_is room (Some (doc no_fields)) h)
+object_is_plain room depth n ts (Some k) h e =
+    member_same (wrap_object room) (λ ms. option_map doc (wrap_fields (room - 1) ms)) k depth n ts (λ j ms. rw e (nested_is room _ h))
+    ∙ through_map (wrap_fields (room - 1)) doc (after_key depth n (Some k) ts)
 
 object_no_room : (depth n : ℕ) (ts : List Token) (key : Option (List ℕ)) → option_and_then wrapper_of key ≡ None → through (wrap_object 0) (after_key depth n key ts) ≡ None
 object_no_room depth n ts None e = refl
-object_no_room depth n ts (Some k) e = no_room_for_object k depth n ts e
+object_no_room depth n ts (Some k) e = refused_member (wrap_object 0) k depth n ts (λ j ms. rw e refl)
 
 pub object_refused : (room depth n : ℕ) (ts : List Token) (key : Option (List ℕ)) → room ≡ 0 → option_and_then wrapper_of key ≡ None → through (wrap_object room) (after_key depth n key ts) ≡ None
 object_refused room depth n ts key z e = ap (λ r. through (wrap_object r) (after_key depth n key ts)) z ∙ object_no_room depth n ts key e
@@ -296,3 +273,15 @@ pub told : {X A : Type 0} (view : X → A) (result : Result X Trouble) (rest : L
 told view (Ok x) rest o read e t = e ∙ ap (option_map (λ a. (a, rest))) t
 told view (Err troubles.Memory) rest o read e t = tt
 told view (Err troubles.Refused) rest o read e t = e ∙ ap (option_map (λ a. (a, rest))) t
+
+pub text_is : (s : String Global) → tree_of (values.Text s) ≡ leaf (tree.text (string_bytes s))
+text_is s = search (rules, folds.the_lemmas)
+
+pub bool_is : (b : Bool) → tree_of (values.Bool b) ≡ leaf (tree.boolean b)
+bool_is b = search (rules, folds.the_lemmas)
+
+pub null_is : tree_of values.Null ≡ leaf tree.null
+null_is = search (rules, folds.the_lemmas)
+
+-- what a value is by its first token
+pub ruleset value_steps = (read_string, read_boolean, read_null, too_deep, too_deep_object, array_refused, array_read, object_read, tree_of-Array, text_is, bool_is, null_is)

@@ -1,6 +1,7 @@
 -- A whole text.
-use Rattle.std.proofs.Common.{◌≡◌, ℕ, Bool, true, false, List, [], ◌∷◌, Option, Some, None, option_map, option_and_then, refl, sym, ap, ◌∙◌}
+use Rattle.std.proofs.Common.{◌≡◌, ℕ, Bool, true, false, List, [], ◌∷◌, Option, Some, None, option_map, option_and_then, refl, sym, ap, ◌∙◌, inl, inr}
 use Rattle.std.specs.Str.{is_utf8, IsUtf8}
+use Rattle.std.proofs.lemmas.Bool.{cases_Bool}
 use Rattle.std.proofs.lemmas.Str.{is_utf8-from_IsUtf8, IsUtf8-from_is_utf8}
 use Rattle.bd_value.specs.Limits.{most_brackets, most_levels}
 use Rattle.json.specs.Token.{Token}
@@ -11,20 +12,15 @@ use Rattle.bd_extjson.specs.Meaning.{wrap}
 use Rattle.bd_wrapper.specs.Progress.{through}
 use Rattle.bd_extjson.specs.TextDocument.{json, reading, document}
 
-kept : (o : Option Tree) (t : Tree) (ts : List Token) → option_map {U = Tree × List Token} (λ a. (a, ts)) o ≡ Some (t, []) → o ≡ Some t
-kept None t ts e = absurd cc
-kept (Some u) t ts e = ap (λ (x : Option (Tree × List Token)). option_map (λ (p : Tree × List Token). p.0) x) e
-
-not_all : (o : Option Tree) (t : Tree) (x : Token) (ts : List Token) {P : Type 0} → option_map {U = Tree × List Token} (λ a. (a, x ∷ ts)) o ≡ Some (t, []) → P
-not_all None t x ts e = absurd cc
-not_all (Some u) t x ts e =
-    let f : Some (x ∷ ts) ≡ Some [] = ap (λ (x : Option (Tree × List Token)). option_map (λ (p : Tree × List Token). p.1) x) e in
-    absurd cc
+whole : (o : Option Tree) (t : Tree) (ts : List Token) → option_map {U = Tree × List Token} (λ a. (a, ts)) o ≡ Some (t, []) → (o ≡ Some t) × (ts ≡ [])
+whole None t ts e = absurd cc
+whole (Some u) t ts e =
+    let rest : Some ts ≡ Some [] = ap (λ (x : Option (Tree × List Token)). option_map (λ (p : Tree × List Token). p.1) x) e in
+    (ap (λ (x : Option (Tree × List Token)). option_map (λ (p : Tree × List Token). p.0) x) e, cc)
 
 last : (v : Option (Json × List Token)) (t : Tree) → through (wrap most_levels) v ≡ Some (t, []) → option_and_then (wrap most_levels) (option_and_then (λ p. if_last p.0 p.1) v) ≡ Some t
 last None t e = absurd cc
-last (Some (j, [])) t e = kept (wrap most_levels j) t [] e
-last (Some (j, x ∷ ts)) t e = not_all (wrap most_levels j) t x ts e
+last (Some (j, ts)) t e = let p = whole (wrap most_levels j) t ts e in rw p.1 p.0
 
 pub json_is : (text : List ℕ) → is_utf8 text ≡ true → json text ≡ option_and_then (λ p. if_last p.0 p.1) (value most_brackets (tokens text))
 json_is text e = rw e refl
@@ -35,12 +31,10 @@ whole_text text ts rest t u e r n =
     ap (option_and_then (wrap most_levels)) (json_is text (is_utf8-from_IsUtf8 text u))
     ∙ last (value most_brackets (tokens text)) t (ap (λ k. through (wrap most_levels) (value most_brackets k)) (sym e) ∙ r ∙ ap (λ l. Some (t, l)) n)
 
-not_true : (b : Bool) → (b ≡ true → ⊥) → b ≡ false
-not_true true h = absurd (h refl)
-not_true false h = refl
-
 pub no_text : (text : List ℕ) → ¬ (IsUtf8 text) → reading text ≡ None
-no_text text h =
-    let b : is_utf8 text ≡ false = not_true (is_utf8 text) (λ e. h (IsUtf8-from_is_utf8 text e)) in
-    let j : json text ≡ None = rw b refl in
-    ap (λ o. option_map pairs_of (option_and_then document (option_and_then (wrap most_levels) o))) j
+no_text text h = elim (cases_Bool (is_utf8 text)) [
+  | inl is ↦ absurd (h (IsUtf8-from_is_utf8 text is))
+  | inr not ↦
+      let none : json text ≡ None = rw not refl in
+      ap (λ o. option_map pairs_of (option_and_then document (option_and_then (wrap most_levels) o))) none
+]

@@ -14,6 +14,7 @@ use bd_value::{Document, document_fits};
 
 /// What is printed determines the document, for plain documents: those in which no document has the name of a wrapper
 /// first. Without that, `{"a":{"$numberInt":"1"}}` is the text of a nested document and of an Int32.
+#[tactic(auto, using(crate::proofs::InjectiveLemmas::document_determined))]
 pub fn text_determines_document()
     ensures { (c d : Doc) → FitsTypes (doc (fields_of c)) → FitsTypes (doc (fields_of d))
         → IsPlain (doc (fields_of c)) → IsPlain (doc (fields_of d))
@@ -23,6 +24,7 @@ pub fn text_determines_document()
 /// What is printed of a plain document is read back as that document, whatever kinds of values it holds: where its numbers
 /// have the bits of their types, its texts and names are UTF-8, no name and no part of a regular expression holds U+0000,
 /// and it is at most 200 deep.
+#[tactic(auto, using(crate::proofs::ReadBackLemmas::document_back))]
 pub fn reads_back()
     ensures { (d : Doc) → FitsTypes (doc (fields_of d)) → HasUtf8 (doc (fields_of d)) → IsPlain (doc (fields_of d))
         → zero_in (doc (fields_of d)) ≡ false → depth (doc (fields_of d)) ≤ most_levels → ReadsAs (text (doc (fields_of d))) d }
@@ -45,12 +47,14 @@ pub fn document_reads_back(document: &Document)
 }
 
 /// A document that is read from a text fits too: its numbers have the bits of their types, and its texts and names are UTF-8.
+#[tactic(auto, using(crate::proofs::FitLemmas::reads_sound))]
 pub fn reads_what_fits()
     ensures types { (text : List ℕ) (d : Doc) → ReadsAs text d → FitsTypes (doc (fields_of d)) }
     ensures texts { (text : List ℕ) (d : Doc) → ReadsAs text d → HasUtf8 (doc (fields_of d)) }
 {}
 
 /// A text is one line: no byte of it is a newline.
+#[tactic(auto, using(crate::proofs::TextLemmas::text_line))]
 pub fn texts_are_lines()
     ensures { (t : Tree) → FitsTypes t → All (λ b. (b == 10) ≡ false) (text t) }
 {}

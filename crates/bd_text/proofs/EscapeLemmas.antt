@@ -1,6 +1,6 @@
--- Strings: what needs no escape stands for itself.
+-- Strings: what needs no escape stands for itself, as digits and the symbols of bytes do.
 use Rattle.std.proofs.Common.{◌≡◌, ℕ, suc, ◌+◌, ◌-◌, ◌<◌, ◌≤◌, Bool, true, false, cond, List, [], ◌∷◌, ◌++◌, length, take, drop, get_or, Some, None, refl, sym}
-use Rattle.std.proofs.Common.{ap, ◌∙◌, subst, arith, add-one, drop-cons, append-nil, append_assoc, length-drop, ◌^◌, ℤ, pos, negsuc, decimal}
+use Rattle.std.proofs.Common.{ap, ap₂, ◌∙◌, subst, arith, add-one, drop-cons, append-nil, append_assoc, length-drop, ◌^◌, ℤ, pos, negsuc, decimal, zero, ◌*◌, ◌/◌, ◌%◌, replicate, slice_index}
 use Rattle.std.specs.Prelude.{nat_lt, ◌||◌}
 use Rattle.std.specs.Fmt.{signed_decimal}
 use Rattle.std.specs.Int.{w32, w64}
@@ -14,8 +14,13 @@ use Rattle.std.proofs.lemmas.List.Quantifiers.{position-Some}
 use Rattle.std.proofs.lemmas.Str.Parse.{digit_from_value}
 use Rattle.std.proofs.lemmas.Fmt.{decimal_is_IsNumeral}
 use Rattle.std.proofs.lemmas.Int.{ints}
-use Rattle.std.proofs.lemmas.Grind.{common_steps}
-use Rattle.bd_text.specs.Text.{needs_escape, escape_byte, escaped}
+use Rattle.std.proofs.lemmas.Bool.{or_parts}
+use Rattle.std.proofs.lemmas.Bool.Decides.{nat_tests}
+use Rattle.std.proofs.lemmas.Grind.{common_steps, flat_map-append}
+use Rattle.base64.specs.Engines.{standard}
+use Rattle.base64.specs.Rfc4648.{encode_symbols, padding_len}
+use Rattle.hex.specs.Hex.{IsBytes, encode_with, lower_digits}
+use Rattle.bd_text.specs.Text.{needs_escape, escape_byte, escaped, base64_text, hex_text}
 
 pub escape_byte-plain : (b : ℕ) → needs_escape b ≡ false → escape_byte b ≡ b ∷ []
 unfolding escape_byte
@@ -28,14 +33,10 @@ escaped-digits (d ∷ ds) h =
     let plain : needs_escape d ≡ false = grind (arith, common_steps) in
     rw (escape_byte-plain d plain) (ap (λ (l : List ℕ). d ∷ l) (escaped-digits ds h.1))
 
-either_none : (a b : Bool) → (a || b) ≡ false → (a ≡ false) × (b ≡ false)
-either_none true b e = absurd cc
-either_none false b e = (refl, e)
-
 pub escaped-plain : (xs : List ℕ) → list_any needs_escape xs ≡ false → escaped xs ≡ xs
 escaped-plain [] h = refl
 escaped-plain (b ∷ bs) h =
-    let parts = either_none (needs_escape b) (list_any needs_escape bs) h in
+    let parts = or_parts (needs_escape b) (list_any needs_escape bs) h in
     rw (escape_byte-plain b parts.0) (ap (λ (l : List ℕ). b ∷ l) (escaped-plain bs parts.1))
 
 escaped-from_run : (xs : List ℕ) → escaped xs ≡ take (position_or_len needs_escape xs) xs ++ escaped (drop (position_or_len needs_escape xs) xs)
@@ -52,18 +53,10 @@ escaped-from_run (b ∷ bs) = one (needs_escape b) refl (escaped-from_run bs)
 -- ---- copying in runs
 
 found : (m n i : ℕ) → cond (nat_lt m n) (Some m) None ≡ Some i → m ≡ i
-found m n i e = one (nat_lt m n) e
-  where
-    one : (v : Bool) → cond v (Some m) None ≡ Some i → m ≡ i
-    one true h = cc
-    one false h = absurd cc
+found m n i e = grind (arith, nat_tests, e)
 
 not_found : (m n : ℕ) → cond (nat_lt m n) (Some m) None ≡ None → n ≤ m
-not_found m n e = one (nat_lt m n) refl e
-  where
-    one : (v : Bool) → nat_lt m n ≡ v → cond v (Some m) None ≡ None → n ≤ m
-    one true t h = absurd cc
-    one false t h = grind arith
+not_found m n e = grind (arith, nat_tests, e)
 
 pub escaped-to_end : (xs : List ℕ) → position needs_escape xs ≡ None → escaped xs ≡ xs
 escaped-to_end xs e =
@@ -102,3 +95,70 @@ pub escaped-signed_decimal : (z : ℤ) → mag z < 2 ^ 63 → escaped (signed_de
 unfolding escape_byte
 escaped-signed_decimal (pos n) small = escaped-decimal n (omega arith)
 escaped-signed_decimal (negsuc n) small = ap (λ (l : List ℕ). 45 ∷ l) (escaped-decimal (suc n) (omega arith))
+
+-- ---- the symbols of bytes
+
+-- a symbol of a table without bytes that need an escape
+symbol-plain : (t : List ℕ) (i : ℕ) → list_any needs_escape t ≡ false → i < length t → needs_escape (slice_index t i) ≡ false
+symbol-plain [] i plain inside = absurd (omega arith)
+symbol-plain (b ∷ bs) zero plain inside = (or_parts (needs_escape b) (list_any needs_escape bs) plain).0
+symbol-plain (b ∷ bs) (suc i) plain inside = symbol-plain bs i (or_parts (needs_escape b) (list_any needs_escape bs) plain).1 (omega arith)
+
+-- it stands for itself before any text that does
+symbol-escaped : (t : List ℕ) (i : ℕ) (xs : List ℕ) → list_any needs_escape t ≡ false → i < length t → escaped xs ≡ xs → escaped (slice_index t i ∷ xs) ≡ slice_index t i ∷ xs
+symbol-escaped t i xs plain inside more = rw (escape_byte-plain (slice_index t i) (symbol-plain t i plain inside), more) refl
+
+escaped-encode_with : (bs : List ℕ) → IsBytes bs → escaped (encode_with lower_digits bs) ≡ encode_with lower_digits bs
+unfolding encode_with
+escaped-encode_with [] fits = refl
+escaped-encode_with (b ∷ bs) fits =
+    let byte : b < 256 = fits 0 in
+    let high : b / 16 < 16 = omega arith in
+    let low : b % 16 < 16 = omega arith in
+    symbol-escaped lower_digits (b / 16) (slice_index lower_digits (b % 16) ∷ encode_with lower_digits bs) refl high
+    (symbol-escaped lower_digits (b % 16) (encode_with lower_digits bs) refl low (escaped-encode_with bs (λ i. fits (suc i))))
+
+pub escaped-hex_text : (bs : List ℕ) → IsBytes bs → escaped (hex_text bs) ≡ hex_text bs
+unfolding hex_text
+escaped-hex_text bs fits = escaped-encode_with bs fits
+
+abbrev table : List ℕ
+table = standard.encode_table
+
+one : (i : ℕ) (xs : List ℕ) → i < 64 → escaped xs ≡ xs → escaped (slice_index table i ∷ xs) ≡ slice_index table i ∷ xs
+one i xs inside more = symbol-escaped table i xs refl inside more
+
+two : (i j : ℕ) (xs : List ℕ) → i < 64 → j < 64 → escaped xs ≡ xs → escaped (slice_index table i ∷ slice_index table j ∷ xs) ≡ slice_index table i ∷ slice_index table j ∷ xs
+two i j xs first second more = one i (slice_index table j ∷ xs) first (one j xs second more)
+
+escaped-symbols : (bs : List ℕ) → IsBytes bs → escaped (encode_symbols table bs) ≡ encode_symbols table bs
+unfolding encode_symbols
+escaped-symbols [] fits = refl
+escaped-symbols (a ∷ []) fits =
+    let fa : a < 256 = fits 0 in
+    two (a / 4) (a % 4 * 16) [] (omega arith) (omega arith) refl
+escaped-symbols (a ∷ b ∷ []) fits =
+    let fa : a < 256 = fits 0 in
+    let fb : b < 256 = fits 1 in
+    two (a / 4) (a % 4 * 16 + b / 16) (slice_index table (b % 16 * 4) ∷ []) (omega arith) (omega arith) (one (b % 16 * 4) [] (omega arith) refl)
+escaped-symbols (a ∷ b ∷ c ∷ rest) fits =
+    let fa : a < 256 = fits 0 in
+    let fb : b < 256 = fits 1 in
+    let fc : c < 256 = fits 2 in
+    two (a / 4) (a % 4 * 16 + b / 16) (slice_index table (b % 16 * 4 + c / 64) ∷ slice_index table (c % 64) ∷ encode_symbols table rest) (omega arith) (omega arith)
+    (two (b % 16 * 4 + c / 64) (c % 64) (encode_symbols table rest) (omega arith) (omega arith) (escaped-symbols rest (λ i. fits (suc (suc (suc i))))))
+
+escaped-padding : (n : ℕ) → escaped (replicate n 61) ≡ replicate n 61
+unfolding escape_byte
+escaped-padding zero = refl
+escaped-padding (suc n) = ap (λ (l : List ℕ). 61 ∷ l) (escaped-padding n)
+
+pub escaped-base64_text : (bs : List ℕ) → IsBytes bs → escaped (base64_text bs) ≡ base64_text bs
+unfolding base64_text
+escaped-base64_text bs fits =
+    flat_map-append escape_byte (encode_symbols table bs) (replicate (padding_len (length bs)) 61)
+    ∙ ap₂ (λ (a b : List ℕ). a ++ b) (escaped-symbols bs fits) (escaped-padding (padding_len (length bs)))
+
+pub one_byte : (b : ℕ) → b < 256 → IsBytes (b ∷ [])
+one_byte b fits zero = fits
+one_byte b fits (suc i) = omega arith

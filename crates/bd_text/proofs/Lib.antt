@@ -1,9 +1,6 @@
 pub mod DigitLemmas
 pub mod EscapeLemmas
-pub mod PairLemmas
-pub mod PartLemmas
 pub mod PieceLemmas
 pub mod PlainByteLemmas
 pub mod RoomLemmas
-pub mod SymbolLemmas
 pub mod TextLemmas

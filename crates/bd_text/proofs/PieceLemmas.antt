@@ -5,7 +5,9 @@ use Rattle.std.specs.List.{join_with_byte}
 use Rattle.std.proofs.lemmas.Option.{slice_get-map, slice_get-get_or}
 use Rattle.bd_value.proofs.ViewLemmas.{next_at}
 use Rattle.std.proofs.lemmas.Grind.{flat_map-append}
-use Rattle.bd_text.specs.Text.{escape_byte, escaped}
+use Rattle.bd_value.specs.Tree.{Tree, Doc, fields_of, items_of}
+use Rattle.bd_value.specs.Parts.{values_of}
+use Rattle.bd_text.specs.Text.{escape_byte, escaped, quoted, member, text, items_text, fields_text}
 
 abbrev pub before : Bool → ℕ → List ℕ
 before later separator = if later then separator ∷ [] else []
@@ -54,3 +56,25 @@ name_written later given x pieces xs old separated out total dot put same is so_
 -- what a mapped list has at a place and after it
 pub drop-map : {A B : Type 0} (f : A → B) (xs : List A) (i : ℕ) (x : A) → i < length xs → x ≡ get_or xs i x → drop i (map f xs) ≡ f x ∷ drop (i + 1) (map f xs)
 drop-map f xs i x inside is = next_at (map f xs) i (f x) (slice_get-map f xs i ∙ rw (slice_get-get_or xs i x inside, ← is) refl)
+
+-- ---- a pair of a document is written
+
+regroup : (a n t : List ℕ) → (a ++ (n ++ 58 ∷ [])) ++ t ≡ a ++ (n ++ 58 ∷ t)
+regroup a n t = simp append_assoc
+
+pub field_step : (later : Bool) (n : List ℕ) (t : Tree) (ps rest : Doc) (old named out end total : List ℕ)
+    → named ≡ (old ++ before later 44) ++ (quoted n ++ 58 ∷ []) → out ≡ named ++ text t
+    → ps ≡ (n, t) ∷ rest → old ++ (to_come later 44 (fields_text (fields_of ps)) ++ end) ≡ total
+    → out ++ (to_come true 44 (fields_text (fields_of rest)) ++ end) ≡ total
+field_step later n t ps rest old named out end total m o is so_far =
+    let pieces = ap (λ (x : Doc). fields_text (fields_of x)) is in
+    let written : out ≡ (old ++ before later 44) ++ member n (text t) = o ∙ rw m (regroup (old ++ before later 44) (quoted n) (text t)) in
+    rw written (piece_step later 44 (member n (text t)) (fields_text (fields_of ps)) (fields_text (fields_of rest)) old end total pieces so_far)
+
+pub item_step : (later : Bool) (t : Tree) (ps rest : Doc) (old separated out end total : List ℕ) → separated ≡ old ++ before later 44 → out ≡ separated ++ text t
+    → values_of ps ≡ t ∷ values_of rest → old ++ (to_come later 44 (items_text (items_of (values_of ps))) ++ end) ≡ total
+    → out ++ (to_come true 44 (items_text (items_of (values_of rest))) ++ end) ≡ total
+item_step later t ps rest old separated out end total s o is so_far =
+    let pieces = ap (λ (x : List Tree). items_text (items_of x)) is in
+    let written : out ≡ (old ++ before later 44) ++ text t = o ∙ ap (λ (l : List ℕ). l ++ text t) s in
+    rw written (piece_step later 44 (text t) (items_text (items_of (values_of ps))) (items_text (items_of (values_of rest))) old end total pieces so_far)

@@ -1,5 +1,5 @@
 -- Text that is written into place: what the first bytes are after a write, and that those before it stay.
-use Rattle.std.proofs.Common.{◌≡◌, ℕ, ◌+◌, ◌-◌, ◌≤◌, Bool, true, false, List, [], ◌∷◌, ◌++◌, length, take, drop, sym, ap, ap₂, ◌∙◌, arith, append_assoc, append-nil}
+use Rattle.std.proofs.Common.{◌≡◌, ℕ, ◌+◌, ◌-◌, ◌≤◌, Bool, true, false, List, [], ◌∷◌, ◌++◌, length, take, drop, refl, sym, ap, ap₂, ◌∙◌, arith, append_assoc, append-nil}
 use Rattle.std.proofs.Math.Seq.{take-append-add, take-append_seam}
 use Rattle.std.proofs.lemmas.List.{take-take, take_all, drop_all, length-take, length-take-le, length-drop, length-append, take-append-drop}
 use Rattle.std.proofs.lemmas.Slice.{take-put_mid}
@@ -103,20 +103,6 @@ pub if_ok : {A E : Type 0} (P Q : A → Type 0) (r : Result A E) → ((a : A) �
 if_ok P Q (Ok a) f known = f a known
 if_ok P Q (Err e) f known = known
 
-module _ (p : ℕ → Bool) where
-  none_either : (a b : Bool) → a ≡ false → b ≡ false → (a || b) ≡ false
-  none_either a b e f = cc
-
-  first_none : (a b : Bool) → (a || b) ≡ false → a ≡ false
-  first_none true b e = absurd cc
-  first_none false b e = cc
-
-  -- none of two texts
-  pub none_of_two : (xs ys zs : List ℕ) → zs ≡ xs ++ ys → list_any p xs ≡ false → list_any p ys ≡ false → list_any p zs ≡ false
-  none_of_two xs ys zs is one two = ap (list_any p) is ∙ list_any-append p xs ys ∙ none_either (list_any p xs) (list_any p ys) one two
-
-  -- none of a front
-  pub none_of_front : (k : ℕ) (xs : List ℕ) → list_any p xs ≡ false → list_any p (take k xs) ≡ false
-  none_of_front k xs e =
-      let parts : list_any p (take k xs) || list_any p (drop k xs) ≡ false = sym (list_any-append p (take k xs) (drop k xs)) ∙ ap (list_any p) (take-append-drop k xs) ∙ e in
-      first_none (list_any p (take k xs)) (list_any p (drop k xs)) parts
+-- no byte of two texts passes
+pub none_of_two : (p : ℕ → Bool) (xs ys zs : List ℕ) → zs ≡ xs ++ ys → list_any p xs ≡ false → list_any p ys ≡ false → list_any p zs ≡ false
+none_of_two p xs ys zs is one two = ap (list_any p) is ∙ list_any-append p xs ys ∙ rw (one, two) refl

@@ -66,6 +66,7 @@ fn put_bool(truth: bool, room: &mut [u8], end: usize) -> usize
 
 /// ObjectId: 24 lower-case digits.
 #[inline(always)]
+#[tactic(auto, using(crate::proofs::TextLemmas::object_id_pieces))]
 fn put_object_id(id: &[u8; 12], room: &mut [u8], end: usize) -> usize
     requires { end + VALUE ≤ length room.old }
     ensures put { take result room.new ≡ take end room.old ++ scalar_text (object_id id.now) }
@@ -77,6 +78,7 @@ fn put_object_id(id: &[u8; 12], room: &mut [u8], end: usize) -> usize
 }
 
 /// Timestamp: the seconds and the increment as plain numbers.
+#[tactic(auto, using(crate::proofs::TextLemmas::timestamp_pieces))]
 fn put_timestamp(seconds: u32, increment: u32, room: &mut [u8], end: usize) -> usize
     requires { end + VALUE ≤ length room.old }
     ensures put { take result room.new ≡ take end room.old ++ scalar_text (timestamp seconds increment) }

@@ -26,15 +26,6 @@ use Rattle.bd_extjson.proofs.StepLemmas.{items_before, fields_before}
 use Rattle.bd_extjson.proofs.MemberLemmas as seconds
 use Rattle.bd_extjson.proofs.reading.+reading.Goals as goal
 
-text_is : (s : String Global) → tree_of (values.Text s) ≡ leaf (tree.text (string_bytes s))
-text_is s = search (rules, folds.the_lemmas)
-
-bool_is : (b : Bool) → tree_of (values.Bool b) ≡ leaf (tree.boolean b)
-bool_is b = search (rules, folds.the_lemmas)
-
-null_is : tree_of values.Null ≡ leaf tree.null
-null_is = search (rules, folds.the_lemmas)
-
 -- ---- read_fields
 
 pub read_fields-returns-in_err-next-clause-gives :
@@ -72,10 +63,7 @@ read_fields-loop-next-preserved t c =
     )
 
 pub read_fields-returns-clause-gives : goal.read_fields-returns-clause-gives
-read_fields-returns-clause-gives t c =
-    let l = c.loop-next in
-    let named = ap (λ k. through (wrap_fields c.args.room) (after_key c.args.depth l.invariant.0 (option_map (λ s. s.now) k) l.reader)) c.in_default.is in
-    l.invariant.2 ∙ ap (parse_map (fields_before (pairs l.read))) named ∙ ap (λ x. Some (x, l.reader)) (steps.fields_before-none (pairs l.read))
+read_fields-returns-clause-gives t c = grind (arith, steps.fields_before-none)
 
 -- ---- read_items
 
@@ -107,12 +95,7 @@ read_items-loop-alloc-preserved t c =
     )
 
 pub read_items-returns-clause-gives : goal.read_items-returns-clause-gives
-read_items-returns-clause-gives t c =
-    let l = c.loop-alloc in
-    let r = c.take_end_array.new.self in
-    l.invariant.2 ∙ ap (λ x. parse_map (items_before (map tree_of l.found.items)) (through (wrap_items c.args.room) x))
-    (items_end (value c.args.depth) l.invariant.0 l.reader r l.invariant.1 (grind arith))
-    ∙ ap (λ x. Some (x, r)) (steps.items_before-none (map tree_of l.found.items))
+read_items-returns-clause-gives t c = grind (arith, items_end, steps.items_before-none)
 
 -- ---- read_object
 
@@ -147,103 +130,24 @@ read_object-returns-in_err-read_fields-clause-gives t c =
     c.in_err-read_fields.ensures.gives)
 
 pub read_object-returns-clause-gives : goal.read_object-returns-clause-gives
-read_object-returns-clause-gives t c =
-    let key = option_map (λ s. s.now) c.in_ok-first.first in
-    let start = ap (through (wrap_object c.args.room)) (steps.first_name c.args.depth c.args.reader.now c.next_key.new.self key c.in_ok-first.ensures.value) in
-    start ∙ steps.object_is_plain c.args.room c.args.depth _ c.next_key.new.self key (omega arith) (sym c.wrapper_named.ensures ∙ c.in_default.is)
-    ∙ ap (parse_map doc) c.in_ok-read_fields.ensures.gives
-    ∙ ap (λ x. Some (x, c.read_fields.new.reader)) (sym (tree_of-Doc c.in_ok-read_fields.field-0))
+read_object-returns-clause-gives t c = grind (arith, steps.first_name, steps.object_is_plain, tree_of-Doc)
 
 -- ---- read_value
 
 pub read_value-returns-in_err-token-clause-gives :
     goal.read_value-returns-in_err-token-clause-gives
-read_value-returns-in_err-token-clause-gives t c =
-    let p = err_from_is_err_and c.from_residual.result c.from_residual.ensures.1 in
-    let empty : c.args.reader.now ≡ [] = grind arith in
-    let refused : c.in_err-token.field-0.0 ≡ Refused = grind arith in
-    rw (p.1, p.2, refused) (steps.read_none c.args.room c.args.depth c.args.reader.now (ap (value c.args.depth) empty ∙ value_is c.args.depth []))
-
-pub read_value-returns-then-depth-eq0-2-clause-gives :
-    goal.read_value-returns-then-depth-eq0-2-clause-gives
-read_value-returns-then-depth-eq0-2-clause-gives t c =
-    let first : c.args.reader.now ≡ token_of c.in_ok-token.token ∷ c.next.new.self = grind arith in
-    let none : c.args.depth ≡ 0 = omega arith in
-    ap (through (wrap c.args.room)) (ap₂ value none (first ∙ ap (λ k. token_of k ∷ c.next.new.self) c.in-BeginObject.is)) ∙ steps.too_deep_object c.args.room c.next.new.self
+read_value-returns-in_err-token-clause-gives t c = grind (arith, value_is)
 
 pub read_value-returns-in_err-read_items-in-BeginArray-clause-gives :
     goal.read_value-returns-in_err-read_items-in-BeginArray-clause-gives
-read_value-returns-in_err-read_items-in-BeginArray-clause-gives t c =
-    let e = c.from_residual-in_err-read_items-in-BeginArray in
-    let p = err_from_is_err_and e.result e.ensures.1 in
-    let first : c.args.reader.now ≡ token_of c.in_ok-token.token ∷ c.next.new.self = grind arith in
-    let opened = ap (through (wrap c.args.room)) (ap (value c.args.depth) (first ∙ ap (λ k. token_of k ∷ c.next.new.self) c.in-BeginArray.is))
-    ∙ steps.array_read c.args.room c.args.depth c.next.new.self (omega arith) (omega arith) in
-    rw (p.1, p.2) (steps.fails_by c.in_err-read_items-in-BeginArray.field-0.0 _ _ (λ none. opened ∙ ap (parse_map array) none) c.in_err-read_items-in-BeginArray.ensures.gives)
-
-pub read_value-returns-in_ok-read_items-in-BeginArray-clause-gives :
-    goal.read_value-returns-in_ok-read_items-in-BeginArray-clause-gives
-read_value-returns-in_ok-read_items-in-BeginArray-clause-gives t c =
-    let first : c.args.reader.now ≡ token_of c.in_ok-token.token ∷ c.next.new.self = grind arith in
-    let opened = ap (through (wrap c.args.room)) (ap (value c.args.depth) (first ∙ ap (λ k. token_of k ∷ c.next.new.self) c.in-BeginArray.is))
-    ∙ steps.array_read c.args.room c.args.depth c.next.new.self (omega arith) (omega arith) in
-    opened ∙ ap (parse_map array) c.in_ok-read_items-in-BeginArray.ensures.gives ∙ ap (λ x. Some (x, c.read_items.new.reader)) (sym (tree_of-Array c.in_ok-read_items-in-BeginArray.field-0))
-
-pub read_value-returns-else-depth-eq0-2-clause-gives :
-    goal.read_value-returns-else-depth-eq0-2-clause-gives
-read_value-returns-else-depth-eq0-2-clause-gives t c =
-    let first : c.args.reader.now ≡ token_of c.in_ok-token.token ∷ c.next.new.self = grind arith in
-    let opened = ap (through (wrap c.args.room)) (ap (value c.args.depth) (first ∙ ap (λ k. token_of k ∷ c.next.new.self) c.in-BeginObject.is))
-    ∙ steps.object_read c.args.room c.args.depth c.next.new.self (omega arith) in
-    rw opened c.read_object.ensures.gives
-
-pub read_value-returns-in_ok-from_str-in-String-clause-gives :
-    goal.read_value-returns-in_ok-from_str-in-String-clause-gives
-read_value-returns-in_ok-from_str-in-String-clause-gives t c =
-    let first : c.args.reader.now ≡ token_of c.in_ok-token.token ∷ c.next.new.self = grind arith in
-    let s = c.in_ok-from_str-in-String.field-0 in
-    ap (through (wrap c.args.room)) (ap (value c.args.depth) (first ∙ ap (λ k. token_of k ∷ c.next.new.self) c.in-String.is))
-    ∙ steps.read_string c.args.room c.args.depth c.in-String.text.now c.next.new.self
-    ∙ ap (λ x. Some (leaf (tree.text x), c.next.new.self)) (sym c.in_ok-from_str-in-String.ensures.ok) ∙ ap (λ x. Some (x, c.next.new.self)) (sym (text_is s))
+read_value-returns-in_err-read_items-in-BeginArray-clause-gives t c = grind (arith, steps.array_read)
 
 pub read_value-returns-in-Number-clause-gives : goal.read_value-returns-in-Number-clause-gives
-read_value-returns-in-Number-clause-gives t c =
-    let first : c.args.reader.now ≡ token_of c.in_ok-token.token ∷ c.next.new.self = grind arith in
-    steps.number_told tree_of c.next.new.self c.bare_number.result c.ok_or-in-Number.result _ _ c.bare_number.ensures c.ok_or-in-Number.ensures.value
-    (ap (through (wrap c.args.room)) (ap (value c.args.depth) (first ∙ ap (λ k. token_of k ∷ c.next.new.self) c.in-Number.is))
-    ∙ steps.read_number c.args.room c.args.depth c.in-Number.text.now c.next.new.self)
-
-pub read_value-returns-in-Bool-clause-gives : goal.read_value-returns-in-Bool-clause-gives
-read_value-returns-in-Bool-clause-gives t c =
-    let first : c.args.reader.now ≡ token_of c.in_ok-token.token ∷ c.next.new.self = grind arith in
-    ap (through (wrap c.args.room)) (ap (value c.args.depth) (first ∙ ap (λ k. token_of k ∷ c.next.new.self) c.in-Bool.is))
-    ∙ steps.read_boolean c.args.room c.args.depth c.in-Bool.b c.next.new.self ∙ ap (λ x. Some (x, c.next.new.self)) (sym (bool_is c.in-Bool.b))
-
-pub read_value-returns-in-Null-clause-gives : goal.read_value-returns-in-Null-clause-gives
-read_value-returns-in-Null-clause-gives t c =
-    let first : c.args.reader.now ≡ token_of c.in_ok-token.token ∷ c.next.new.self = grind arith in
-    ap (through (wrap c.args.room)) (ap (value c.args.depth) (first ∙ ap (λ k. token_of k ∷ c.next.new.self) c.in-Null.is))
-    ∙ steps.read_null c.args.room c.args.depth c.next.new.self ∙ ap (λ x. Some (x, c.next.new.self)) (sym null_is)
+read_value-returns-in-Number-clause-gives t c = grind (arith, steps.read_number)
 
 pub read_value-returns-in-EndObject-clause-gives :
     goal.read_value-returns-in-EndObject-clause-gives
-read_value-returns-in-EndObject-clause-gives t c =
-    let first : c.args.reader.now ≡ token_of c.in_ok-token.token ∷ c.next.new.self = grind arith in
-    steps.read_none c.args.room c.args.depth c.args.reader.now (rw (value_is c.args.depth c.args.reader.now, first) (grind arith))
-
-pub read_value-returns-then-depth-eq0-clause-gives :
-    goal.read_value-returns-then-depth-eq0-clause-gives
-read_value-returns-then-depth-eq0-clause-gives t c =
-    let first : c.args.reader.now ≡ token_of c.in_ok-token.token ∷ c.next.new.self = grind arith in
-    let none : c.args.depth ≡ 0 = omega arith in
-    ap (through (wrap c.args.room)) (ap₂ value none (first ∙ ap (λ k. token_of k ∷ c.next.new.self) c.in-BeginArray.is)) ∙ steps.too_deep c.args.room c.next.new.self
-
-pub read_value-returns-then-room-eq0-clause-gives :
-    goal.read_value-returns-then-room-eq0-clause-gives
-read_value-returns-then-room-eq0-clause-gives t c =
-    let first : c.args.reader.now ≡ token_of c.in_ok-token.token ∷ c.next.new.self = grind arith in
-    ap (through (wrap c.args.room)) (ap (value c.args.depth) (first ∙ ap (λ k. token_of k ∷ c.next.new.self) c.in-BeginArray.is))
-    ∙ steps.array_refused c.args.room c.args.depth c.next.new.self (omega arith) (omega arith)
+read_value-returns-in-EndObject-clause-gives t c = grind (arith, value_is)
 
 -- ---- read_wrapper
 
@@ -280,7 +184,7 @@ read_wrapper-returns-then-not-is_code-clause-gives t c = λ name is.
     let key = c.in_ok-second.ensures.value ∙ ap (λ k. Some (option_map (λ (s : Bor (List ℕ)). s.now) k, c.next_key.new.self)) c.in-Some.is in
     seconds.first_part w name c.args.room c.args.depth (length c.args.reader.now) c.args.reader.now s j is c.in_ok-part.ensures.gives
     ∙ seconds.named f c.in-Some.second.now c.args.depth (length c.args.reader.now) s c.next_key.new.self le key
-    ∙ seconds.refused_member f c.in-Some.second.now c.args.depth (length c.args.reader.now - 1) c.next_key.new.self
+    ∙ steps.refused_member f c.in-Some.second.now c.args.depth (length c.args.reader.now - 1) c.next_key.new.self
     (λ i ms. seconds.one_name_alone w c.args.room j (wrap (c.args.room - 1) j) c.in-Some.second.now i ms (sym c.if-not-is_code.ensures) (sym c.if-is_scope.ensures))
 
 pub read_wrapper-returns-clause-gives : goal.read_wrapper-returns-clause-gives

@@ -2,7 +2,7 @@ use Rattle.std.proofs.Common.{◌≡◌, ◌++◌, ◌∷◌, [], List, ℕ, len
 use Rattle.std.specs.Prelude.{codes}
 use Rattle.bd_text.specs.Text.{base64_text, hex_text}
 use Rattle.bd_text.proofs.RoomLemmas.{front, chained, lent_text, when_err}
-use Rattle.bd_text.proofs.SymbolLemmas.{one_byte}
+use Rattle.bd_text.proofs.EscapeLemmas.{one_byte}
 use Rattle.bd_text.proofs.TextLemmas.{written-binary}
 use Rattle.bd_text.proofs.scalar.append_binary.Goals as goal
 

@@ -2,7 +2,7 @@ use Rattle.std.proofs.Common.{◌≡◌, ◌++◌, ◌∷◌, [], List, ℕ, tak
 use Rattle.std.specs.Prelude.{codes}
 use Rattle.bd_value.specs.Tree.{regex}
 use Rattle.bd_text.specs.Text.{scalar_text, quoted}
-use Rattle.bd_text.proofs.RoomLemmas.{front, chained, if_ok, on_err, when_err}
+use Rattle.bd_text.proofs.RoomLemmas.{front, chained, on_err, when_err}
 use Rattle.bd_text.proofs.TextLemmas.{written-regex}
 use Rattle.bd_text.proofs.scalar.append_regex.Goals as goal
 
@@ -12,10 +12,8 @@ returns-in_err-at-2-clause-err c =
 
 pub returns-clause-ok : goal.returns-clause-ok
 returns-clause-ok c =
-    let old : List ℕ = take c.args.end c.args.out.now.items in
-    let both = c.in_ok-at-2.ensures.ok ∙ ap (λ (l : List ℕ). l ++ (codes ",\"options\":" ++ quoted c.args.options.now)) c.in_ok-at.ensures.ok in
-    if_ok _ (λ e. take e c.append_few.new.out.items ≡ old ++ scalar_text (regex c.args.pattern.now c.args.options.now)) c.append_few.result
-    (λ e put. put ∙ ap (λ (l : List ℕ). l ++ 125 ∷ 125 ∷ []) both ∙ written-regex old c.args.pattern.now c.args.options.now) c.append_few.ensures.ok
+    rw (← written-regex (take c.args.end c.args.out.now.items) c.args.pattern.now c.args.options.now, ← c.in_ok-at.ensures.ok, ← c.in_ok-at-2.ensures.ok)
+    c.append_few.ensures.ok
 
 pub returns-clause-err : goal.returns-clause-err
 returns-clause-err c =

@@ -1,32 +1,21 @@
-use Rattle.std.proofs.Common.{take, ◌∙◌}
-use Rattle.bd_text.specs.Text.{scalar_text}
-use Rattle.bd_text.proofs.PartLemmas.{short_text, text_put}
+use Rattle.std.proofs.Common.{◌∙◌}
+use Rattle.bd_text.proofs.TextLemmas.{short_text}
 use Rattle.bd_text.proofs.scalar.append_scalar.Goals as goal
 
 pub returns-in-Symbol-clause-ok : goal.returns-in-Symbol-clause-ok
-unfolding scalar_text
-returns-in-Symbol-clause-ok g c = text_put c.append_symbol.result (take c.args.end c.args.out.now.items) c.append_symbol.new.out.items
-    (g.N.Reading.tree c.args.node) _ c.symbol_of.ensures c.append_symbol.ensures.ok
+returns-in-Symbol-clause-ok g c = rw c.symbol_of.ensures c.append_symbol.ensures.ok
 
 pub returns-in-Code-clause-ok : goal.returns-in-Code-clause-ok
-unfolding scalar_text
-returns-in-Code-clause-ok g c = text_put c.append_code.result (take c.args.end c.args.out.now.items) c.append_code.new.out.items
-    (g.N.Reading.tree c.args.node) _ c.code_of.ensures c.append_code.ensures.ok
+returns-in-Code-clause-ok g c = rw c.code_of.ensures c.append_code.ensures.ok
 
 pub returns-in-Binary-clause-ok : goal.returns-in-Binary-clause-ok
-unfolding scalar_text
-returns-in-Binary-clause-ok g c = text_put c.append_binary.result (take c.args.end c.args.out.now.items) c.append_binary.new.out.items
-    (g.N.Reading.tree c.args.node) _ c.binary_of-subtype.ensures c.append_binary.ensures.ok
+returns-in-Binary-clause-ok g c = rw c.binary_of-subtype.ensures c.append_binary.ensures.ok
 
 pub returns-in-Regex-clause-ok : goal.returns-in-Regex-clause-ok
-unfolding scalar_text
-returns-in-Regex-clause-ok g c = text_put c.append_regex.result (take c.args.end c.args.out.now.items) c.append_regex.new.out.items
-    (g.N.Reading.tree c.args.node) _ c.regex_of.ensures c.append_regex.ensures.ok
+returns-in-Regex-clause-ok g c = rw c.regex_of.ensures c.append_regex.ensures.ok
 
 pub returns-in-DbPointer-clause-ok : goal.returns-in-DbPointer-clause-ok
-unfolding scalar_text
-returns-in-DbPointer-clause-ok g c = text_put c.append_pointer.result (take c.args.end c.args.out.now.items) c.append_pointer.new.out.items
-    (g.N.Reading.tree c.args.node) _ c.pointer_of.ensures c.append_pointer.ensures.ok
+returns-in-DbPointer-clause-ok g c = rw c.pointer_of.ensures c.append_pointer.ensures.ok
 
 pub put_short-requires-clause-short : goal.put_short-requires-clause-short
 put_short-requires-clause-short g c =

@@ -1,15 +1,12 @@
 use Rattle.std.proofs.Common.{◌≡◌, ◌++◌, ◌∷◌, [], List, ℕ, take, ap, ◌∙◌, arith}
 use Rattle.bd_value.specs.Tree.{symbol}
 use Rattle.bd_text.specs.Text.{scalar_text}
-use Rattle.bd_text.proofs.RoomLemmas.{front, if_ok, on_err}
+use Rattle.bd_text.proofs.RoomLemmas.{front, on_err}
 use Rattle.bd_text.proofs.TextLemmas.{written-symbol}
 use Rattle.bd_text.proofs.scalar.append_symbol.Goals as goal
 
 pub returns-clause-ok : goal.returns-clause-ok
-returns-clause-ok c =
-    let old : List ℕ = take c.args.end c.args.out.now.items in
-    if_ok _ (λ e. take e c.append_few.new.out.items ≡ old ++ scalar_text (symbol c.args.text.now)) c.append_few.result
-    (λ e put. put ∙ ap (λ (l : List ℕ). l ++ 125 ∷ []) c.in_ok-at.ensures.ok ∙ written-symbol old c.args.text.now) c.append_few.ensures.ok
+returns-clause-ok c = rw (← written-symbol (take c.args.end c.args.out.now.items) c.args.text.now, ← c.in_ok-at.ensures.ok) c.append_few.ensures.ok
 
 pub returns-clause-err : goal.returns-clause-err
 returns-clause-err c =

@@ -4,9 +4,8 @@ use Rattle.std.specs.List.{join_with_byte}
 use Rattle.bd_value.specs.Tree.{doc, array, fields_of, items_of}
 use Rattle.bd_value.specs.Parts.{values_of}
 use Rattle.bd_text.specs.Text.{text, scalar_text, fields_text, items_text}
-use Rattle.bd_text.proofs.PartLemmas.{parts_smaller, rest_smaller, scope_smaller, some_scalar, text_of-doc, text_of-array, text_of-scope, text_put}
-use Rattle.bd_text.proofs.PieceLemmas.{to_come-all}
-use Rattle.bd_text.proofs.PairLemmas.{field_step, item_step}
+use Rattle.bd_text.proofs.TextLemmas.{parts_smaller, rest_smaller, scope_smaller, some_scalar, text_of-doc, text_of-array, text_of-scope}
+use Rattle.bd_text.proofs.PieceLemmas.{to_come-all, field_step, item_step}
 use Rattle.bd_text.proofs.RoomLemmas.{begun, cut, front, chained, goes_on, still_kept, on_err, when_err, if_ok}
 use Rattle.bd_text.proofs.text.+text.Goals as goal
 
@@ -125,20 +124,17 @@ append_node-append_scalar-requires-clause-scalar g t c =
 
 pub append_node-returns-in-Doc-clause-ok : goal.append_node-returns-in-Doc-clause-ok
 append_node-returns-in-Doc-clause-ok g t c =
-    let tree = g.N.Reading.tree c.args.node in
-    let e = text_of-doc tree (g.N.Reading.left c.parts.result) (sym c.kind.ensures ∙ c.in-Doc.is) c.parts.ensures.parts in
-    subst (λ (x : List ℕ). IfOk c.append_fields.result (λ n. take n c.append_fields.new.out.items ≡ take c.args.end c.args.out.now.items ++ x)) e c.append_fields.ensures.ok
+    let e = text_of-doc (g.N.Reading.tree c.args.node) (g.N.Reading.left c.parts.result) (sym c.kind.ensures ∙ c.in-Doc.is) c.parts.ensures.parts in
+    rw (← e) c.append_fields.ensures.ok
 
 pub append_node-returns-in-Array-clause-ok : goal.append_node-returns-in-Array-clause-ok
 append_node-returns-in-Array-clause-ok g t c =
-    let tree = g.N.Reading.tree c.args.node in
-    let e = text_of-array tree (g.N.Reading.left c.parts-in-Array.result) (sym c.kind.ensures ∙ c.in-Array.is) c.parts-in-Array.ensures.parts in
-    subst (λ (x : List ℕ). IfOk c.append_items.result (λ n. take n c.append_items.new.out.items ≡ take c.args.end c.args.out.now.items ++ x)) e c.append_items.ensures.ok
+    let e = text_of-array (g.N.Reading.tree c.args.node) (g.N.Reading.left c.parts-in-Array.result) (sym c.kind.ensures ∙ c.in-Array.is) c.parts-in-Array.ensures.parts in
+    rw (← e) c.append_items.ensures.ok
 
 pub append_node-returns-in-Text-clause-ok : goal.append_node-returns-in-Text-clause-ok
 unfolding scalar_text
-append_node-returns-in-Text-clause-ok g t c =
-    text_put c.append_string.result (take c.args.end c.args.out.now.items) c.append_string.new.out.items (g.N.Reading.tree c.args.node) _ c.text_of.ensures c.append_string.ensures.ok
+append_node-returns-in-Text-clause-ok g t c = rw c.text_of.ensures c.append_string.ensures.ok
 
 pub append_scope-append_node-requires : goal.append_scope-append_node-requires
 append_scope-append_node-requires g t c κs within =
