@@ -1,5 +1,5 @@
 -- What an operator finds at the end of a path is a key, or an array whose elements are keys.
-use Rattle.std.proofs.Common.{◌≡◌, ℕ, ◌-◌, ◌==◌, Bool, true, false, cond, not, ◌&&◌, List, [], ◌∷◌, length, map, Some, None, ◌⊎◌, inl, inr, refl, sym, ap, ◌∙◌, subst, arith, is_eq, eqb-true}
+use Rattle.std.proofs.Common.{◌≡◌, ℕ, ◌-◌, ◌==◌, Bool, true, false, cond, not, ◌&&◌, List, [], ◌∷◌, length, map, Some, None, ◌⊎◌, inl, inr, refl, sym, ap, ◌∙◌, subst, arith, is_eq, eqb-true, eq-eqb}
 use Rattle.std.specs.Prelude.{is_some, nat_le}
 use Rattle.std.specs.List.{list_any, list_all}
 use Rattle.std.proofs.lemmas.Bool.{and_parts, and_from, not-true, or_left, or_right}
@@ -49,10 +49,8 @@ pub record ArrayEnd (t : Tree) (p : Names) (c : End) : Type 0 where
 
 end_cases : (t : Tree) (p : Names) (c : End) → In c (reach t p) → In (value_or_null c) (keys_of t p) ⊎ ArrayEnd t p c
 end_cases t p None h = inl (missing t p h)
-end_cases t p (Some (leaf s)) h = inl (end_is_key t (leaf s) (leaf s) p h (inl refl))
-end_cases t p (Some (doc fs)) h = inl (end_is_key t (doc fs) (doc fs) p h (inl refl))
-end_cases t p (Some (code_scope s fs)) h = inl (end_is_key t (code_scope s fs) (code_scope s fs) p h (inl refl))
 end_cases t p (Some (array ts)) h = inr (record { all = ts; is = refl; is_end = h })
+end_cases t p (Some x) h = inl (end_is_key t x x p h (inl refl))
 
 record Among (xs : List Tree) (c : End) : Type 0 where
   it : Tree
@@ -91,16 +89,13 @@ candidate test t p h =
 
 array_equals : (ts : Items) (v : Tree) → equal (array ts) v ≡ true → Found (keys_of_equal v) (keys_of (array ts) [])
 array_equals ts (leaf s) e = absurd ((plain s).not6 (sym (one_class (array ts) (leaf s) (equals_class (array ts) (leaf s) e))))
-array_equals ts (doc fs) e = absurd (let f : ⊥ = cc in f)
-array_equals ts (code_scope s fs) e = absurd (let f : ⊥ = cc in f)
 array_equals no_items (array no_items) e = record { it = leaf trees.undefined; is_in = inl refl; passes = refl }
-array_equals no_items (array (item u us)) e = let f : ⊥ = cc in absurd f
-array_equals (item t ts) (array no_items) e = let f : ⊥ = cc in absurd f
 array_equals (item t ts) (array (item u us)) e = record {
   it = t;
   is_in = inl refl;
   passes = or_right (equal t (array (item u us))) (equal t u) (ap is_eq (first_ties (cmp t u) (items_cmp ts us) (equal_is _ e)));
 }
+array_equals _ _ e = absurd cc
 
 pub sound_equal : (t : Tree) (p : Names) (v : Tree) → any_equal (reach t p) v ≡ true → Found (keys_of_equal v) (keys_of t p)
 sound_equal t p v h =
@@ -113,25 +108,27 @@ sound_equal t p v h =
 
 -- ---- values in an order
 
+-- a candidate that passes is inside, unless the bounds are left out, as they are where an array passes
+unless : (test : End → Bool) (set : KeySet) (t : Tree) (p : Names) (out : Bool) → ((c : End) → test c ≡ true → set (value_or_null c) ≡ true)
+    → ((ts : Items) → test (Some (array ts)) ≡ true → out ≡ true) → any_candidate test (reach t p) ≡ true → Found (is_among (cond out None (Some set))) (keys_of t p)
+unless test set t p true inside array_passes h = everywhere t p
+unless test set t p false inside array_passes h =
+    let c = candidate test t p h in
+    elim c.cases [
+      | inl k ↦ record { it = value_or_null c.it; is_in = k; passes = inside c.it c.passes }
+      | inr a ↦ (let out = array_passes a.all (rw a.is at c.passes) in absurd cc)
+    ]
+
 array_of_class : (ts : Items) (v : Tree) → is_eq (class_cmp (array ts) v) ≡ true → is_array v ≡ true
 array_of_class ts (array us) e = refl
 array_of_class ts (leaf s) e = absurd ((plain s).not6 (sym (one_class (array ts) (leaf s) e)))
-array_of_class ts (doc fs) e = let f : ⊥ = cc in absurd f
-array_of_class ts (code_scope s fs) e = let f : ⊥ = cc in absurd f
+array_of_class ts _ e = absurd cc
 
 pub sound_compares : (t : Tree) (p : Names) (m : Bool) (r : Relation) (v : Tree) → any_candidate (λ e. is_related r v (value_or_null e)) (reach t p) ≡ true
     → Found (is_among (bounds_here (compares r v) m)) (keys_of t p)
-sound_compares t p m r v h = go (is_array v) refl
-  where
-    go : (b : Bool) → is_array v ≡ b → Found (is_among (cond b None (Some (is_related r v)))) (keys_of t p)
-    go true is = everywhere (λ k. true) t p (λ k. refl)
-    go false is =
-        let c = candidate (λ e. is_related r v (value_or_null e)) t p h in
-        elim c.cases [
-          | inl k ↦ record { it = value_or_null c.it; is_in = k; passes = c.passes }
-          | inr a ↦ (let related : is_related r v (array a.all) ≡ true = subst (λ e. is_related r v (value_or_null e) ≡ true) a.is c.passes in
-              let f : ⊥ = cc (is, array_of_class a.all v (and_parts (is_eq (class_cmp (array a.all) v)) _ related).0) in absurd f)
-        ]
+sound_compares t p m r v h =
+    unless (λ e. is_related r v (value_or_null e)) (is_related r v) t p (is_array v) (λ c passes. passes)
+    (λ ts passes. array_of_class ts v (and_parts (is_eq (class_cmp (array ts) v)) _ passes).0) h
 
 -- ---- kinds
 
@@ -146,11 +143,7 @@ rank_is _ = refl
 same_kind_class : (k : Kind) (x : Tree) → is_kind k (kind_of x) ≡ true → is_of_class (class_of_kind k) x ≡ true
 same_kind_class k x e =
     let place : kind_place k ≡ kind_place (kind_of x) = eqb-true (kind_place k) (kind_place (kind_of x)) e in
-    let rank : class_rank (class_of x) ≡ class_rank (class_of_kind k) = rank_is (kind_of x) ∙ ap rank_at (sym place) ∙ sym (rank_is k) in
-    ap (λ n. n == class_rank (class_of_kind k)) rank ∙ itself (class_rank (class_of_kind k))
-  where
-    itself : (n : ℕ) → (n == n) ≡ true
-    itself n = grind arith
+    eq-eqb (class_rank (class_of x)) (class_rank (class_of_kind k)) (rank_is (kind_of x) ∙ ap rank_at (sym place) ∙ sym (rank_is k))
 
 pub types_inside : (ks : List Kind) (x : Tree) → is_of_type ks x ≡ true → keys_of_types ks x ≡ true
 types_inside ks x h =
@@ -158,22 +151,12 @@ types_inside ks x h =
     in_union (λ kind. is_of_class (class_of_kind kind)) ks x f.it f.is_in (same_kind_class f.it x f.passes)
 
 end_type : (ks : List Kind) (c : End) → is_value (is_of_type ks) c ≡ true → keys_of_types ks (value_or_null c) ≡ true
-end_type ks None e = let f : ⊥ = cc in absurd f
+end_type ks None e = absurd cc
 end_type ks (Some x) e = types_inside ks x e
 
 pub sound_type : (t : Tree) (p : Names) (m : Bool) (ks : List Kind) → any_candidate (is_value (is_of_type ks)) (reach t p) ≡ true
     → Found (is_among (bounds_here (has_type ks) m)) (keys_of t p)
-sound_type t p m ks h = go (is_listed kinds.Array ks) refl
-  where
-    go : (b : Bool) → is_listed kinds.Array ks ≡ b → Found (is_among (cond b None (Some (keys_of_types ks)))) (keys_of t p)
-    go true is = everywhere (λ k. true) t p (λ k. refl)
-    go false is =
-        let c = candidate (is_value (is_of_type ks)) t p h in
-        elim c.cases [
-          | inl k ↦ record { it = value_or_null c.it; is_in = k; passes = end_type ks c.it c.passes }
-          | inr a ↦ (let typed : is_value (is_of_type ks) (Some (array a.all)) ≡ true = subst (λ e. is_value (is_of_type ks) e ≡ true) a.is c.passes in
-              let f : ⊥ = cc (is, typed) in absurd f)
-        ]
+sound_type t p m ks h = unless (is_value (is_of_type ks)) (keys_of_types ks) t p (is_listed kinds.Array ks) (end_type ks) (λ ts passes. passes) h
 
 -- ---- ends
 
@@ -187,24 +170,22 @@ pub end_found : (test : Tree → Bool) (es : List End) → list_any (is_value te
 end_found test es h = let f = found_from (is_value test) es h in go f.it f.is_in f.passes
   where
     go : (c : End) → In c es → is_value test c ≡ true → EndFound test es
-    go None i e = let f : ⊥ = cc in absurd f
+    go None i e = absurd cc
     go (Some x) i e = record { it = x; is_in = i; passes = e }
 
 empty_array : (n : ℕ) (v : Tree) → is_of_size n v ≡ true → (n == 0) ≡ true → In (leaf trees.undefined) (keys_of v [])
-empty_array n (leaf s) e z = let f : ⊥ = cc in absurd f
-empty_array n (doc fs) e z = let f : ⊥ = cc in absurd f
-empty_array n (code_scope s fs) e z = let f : ⊥ = cc in absurd f
 empty_array n (array no_items) e z = inl refl
 empty_array n (array (item t ts)) e z =
     let a = eqb-true (length (t ∷ list_of ts)) n e in
     let b = eqb-true n 0 z in
     absurd (omega arith)
+empty_array n _ e z = absurd cc
 
 pub sound_size : (t : Tree) (p : Names) (m : Bool) (n : ℕ) → list_any (is_value (is_of_size n)) (reach t p) ≡ true → Found (is_among (bounds_here (has_size n) m)) (keys_of t p)
 sound_size t p m n h = go (n == 0) refl
   where
     go : (b : Bool) → (n == 0) ≡ b → Found (is_among (cond b (Some (keys_equal_to (leaf trees.undefined))) None)) (keys_of t p)
-    go false is = everywhere (λ k. true) t p (λ k. refl)
+    go false is = everywhere t p
     go true is =
         let f = end_found (is_of_size n) (reach t p) h in
         record { it = leaf trees.undefined; is_in = end_is_key t f.it (leaf trees.undefined) p f.is_in (empty_array n f.it f.passes is); passes = refl }
@@ -216,7 +197,7 @@ any_there (Some t ∷ es) = refl
 
 pub sound_exists : (t : Tree) (p : Names) (m : Bool) (b : Bool) → cond b (list_any is_there (reach t p)) (not (list_any is_there (reach t p))) ≡ true
     → Found (is_among (bounds_here (exists b) m)) (keys_of t p)
-sound_exists t p m true h = everywhere (λ k. true) t p (λ k. refl)
+sound_exists t p m true h = everywhere t p
 sound_exists t p m false h = record { it = null; is_in = absent t p (sym (any_there (reach t p)) ∙ not-true (list_any is_there (reach t p)) h); passes = refl }
 
 -- ---- elements taken by themselves
@@ -241,7 +222,7 @@ among_both (Some s) None k f g = f
 among_both (Some s) (Some u) k f g = and_from (s k) (u k) f g
 
 each_equal : (vs : List Tree) (x : Tree) → (is_nonempty vs && list_all (equal x) vs) ≡ true → keys_of_each false (map keys_equal_to vs) x ≡ true
-each_equal [] x h = let f : ⊥ = cc in absurd f
+each_equal [] x h = absurd cc
 each_equal (v ∷ vs) x h = in_each keys_equal_to (v ∷ vs) x h
 
 accepted : (o : Operator) (x : Tree) → accepts o x ≡ true → is_among (element_bounds o) x ≡ true
@@ -250,11 +231,7 @@ accepted (compares r v) x h = h
 accepted (is_in vs) x h = any_mapped (λ (set : KeySet). set x) keys_equal_to vs ∙ h
 accepted (has_all vs) x h = each_equal vs x h
 accepted (has_type ks) x h = types_inside ks x h
-accepted (has_size n) x h = refl
-accepted (exists b) x h = refl
-accepted (negates os) x h = refl
-accepted (has_element os) x h = refl
-accepted (has_document fs) x h = refl
+accepted _ x h = refl
 
 all_accepted : (os : Operators) (x : Tree) → all_accept os x ≡ true → is_among (all_element_bounds os) x ≡ true
 all_accepted no_operators x h = refl
@@ -270,6 +247,4 @@ sound_element t p os h =
 
 pub document_class : (x : Tree) → is_document x ≡ true → is_of_class classes.Doc x ≡ true
 document_class (doc fs) e = refl
-document_class (leaf s) e = let f : ⊥ = cc in absurd f
-document_class (array ts) e = let f : ⊥ = cc in absurd f
-document_class (code_scope s fs) e = let f : ⊥ = cc in absurd f
+document_class _ e = absurd cc
