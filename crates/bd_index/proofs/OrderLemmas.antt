@@ -46,9 +46,6 @@ run_ahead dump index i h next end start below done le run =
     ∙ sym (run_taken h.keeps.entries start below run (omega (arith, count_kept dump index h)))
     ∙ ap (λ (l : List KeyAt). l ++ downward (take below h.keeps.entries)) (sym (nothing h.keeps.entries next end done))
 
-pub none_ahead : (es : List KeyAt) (next end below : ℕ) → end ≤ next → below ≡ 0 → slice_range es next end ++ downward (take below es) ≡ []
-none_ahead es next end below done zero_is = ap₂ (λ (l m : List KeyAt). l ++ m) (nothing es next end done) (ap (λ (n : ℕ). downward (take n es)) zero_is)
-
 next_of : (es : List KeyAt) (next end : ℕ) (d : KeyAt) → next < end → end ≤ length es → slice_range es next end ≡ get_or es next d ∷ slice_range es (next + 1) end
 next_of es next end d lt le =
     let n : end - next ≡ suc (end - (next + 1)) = omega arith in

@@ -247,22 +247,5 @@ room_for path ds es n same size = All-from_recursion (λ p. p < n) (map (λ e. e
 
 -- ---- a step
 
-any_default : (xs : List Bool) (k : ℕ) (d e : Bool) → k < length xs → get_or xs k d ≡ get_or xs k e
-any_default [] k d e lt = absurd (omega arith)
-any_default (x ∷ xs) zero d e lt = refl
-any_default (x ∷ xs) (suc k) d e lt = any_default xs k d e (omega arith)
-
-pub place_seen : (seen : List Bool) (ahead : List ℕ) (old : List ℕ) (p : ℕ) (r : Bool) → old ≡ p ∷ ahead → p < length seen → r ≡ get_or seen p r
-    → r ≡ true → fresh_places seen ahead ≡ fresh_places seen old
-place_seen seen ahead old p r is lt read was =
-    let known : get_or seen p true ≡ true = any_default seen p true r lt ∙ sym read ∙ was in
-    sym (ap (fresh_places seen) is ∙ ap (λ (b : Bool). cond b (fresh_places seen ahead) (p ∷ fresh_places (set seen p true) ahead)) known)
-
-pub place_fresh : (seen : List Bool) (ahead : List ℕ) (old : List ℕ) (p : ℕ) (r : Bool) → old ≡ p ∷ ahead → p < length seen → r ≡ get_or seen p r
-    → r ≡ false → fresh_places seen old ≡ p ∷ fresh_places (set seen p true) ahead
-place_fresh seen ahead old p r is lt read was =
-    let known : get_or seen p true ≡ false = any_default seen p true r lt ∙ sym read ∙ was in
-    ap (fresh_places seen) is ∙ ap (λ (b : Bool). cond b (fresh_places seen ahead) (p ∷ fresh_places (set seen p true) ahead)) known
-
 pub room_after : (n : ℕ) (old after : List ℕ) (p : ℕ) → old ≡ p ∷ after → All (λ q. q < n) old → (m : ℕ) → m ≡ n → All (λ q. q < m) after
 room_after n old after p is all m same k d lt = let all_of : All (λ q. q < n) (p ∷ after) = subst (λ (l : List ℕ). All (λ q. q < n) l) is all in let low = all_of (suc k) d (omega arith) in omega arith

@@ -1,12 +1,12 @@
 use Rattle.std.proofs.Common.{◌≡◌, ◌≤◌, List, [], ◌∷◌, ◌++◌, All, length, arith, sym, ap, ◌∙◌, subst}
+use Rattle.std.proofs.lemmas.List.Elements.{All-append}
 use Rattle.bd_bounds.specs.Bounds.{KeySet}
 use Rattle.bd_bounds.specs.BoundsView.{keys_between, keys_within}
 use Rattle.bd_bounds.specs.declared.bounds.Bounds.{Bounds}
 use Rattle.bd_index.specs.Spans.{AreInOrder, CoverKeys}
 use Rattle.bd_index.specs.declared.span.Span.{Span}
-use Rattle.bd_index.proofs.CoverLemmas.{all_append, covers_one, gaps_on, gaps_whole, keys_within-Range, union_on, union_whole}
 use Rattle.bd_index.proofs.OrderLemmas.{count_kept}
-use Rattle.bd_index.proofs.SpanLemmas.{order_below}
+use Rattle.bd_index.proofs.SpanLemmas.{covers_one, gaps_on, gaps_whole, keys_within-Range, order_within, union_on, union_whole}
 use Rattle.bd_index.proofs.index.Index.+spanning.Goals as goal
 
 pub spans_within-returns-in_ok-push-in-Range : goal.spans_within-returns-in_ok-push-in-Range
@@ -29,8 +29,8 @@ spans_of_any-loop-part-preserved t c =
     let added = c.in_ok-extend_from_slice.ensures.items ∙ ap (λ (l : List Span). c.loop-part.all.items ++ l) c.deref.ensures.value in
     record {
       below = subst (All (λ s. s.to ≤ length c.args.self.now.entries.items)) (sym added)
-          (all_append (λ s. s.to ≤ length c.args.self.now.entries.items) c.loop-part.all.items c.in_ok-spans.spans.items c.loop-part.invariant.below
-          (λ k d lt. let b = order_below 0 (length c.requires.keeps.entries) c.in_ok-spans.spans.items cover.order k d lt in omega arith));
+          (All-append (λ s. s.to ≤ length c.args.self.now.entries.items) c.loop-part.all.items c.in_ok-spans.spans.items c.loop-part.invariant.below
+          (λ k d lt. let b = (order_within 0 (length c.requires.keeps.entries) c.in_ok-spans.spans.items cover.order k d lt).1 in omega arith));
       so_far = λ h. union_on h.keeps.entries c.loop-part.all.items c.extend_from_slice.new.self.items c.in_ok-spans.spans.items c.args.parts.now
           c.loop-part.part-index c.part-item.result c.loop-part-test.true c.part-item.is added (c.in_ok-spans.ensures h) (c.loop-part.invariant.so_far h);
     }
