@@ -1,7 +1,9 @@
 -- The order of entries, and which of them are the same.
-use Rattle.std.proofs.Common.{◌≡◌, ◌+◌, ◌<◌, ℕ, Bool, true, false, List, [], ◌∷◌, length, map, arith, sym, ap₂, ◌∙◌}
-use Rattle.std.specs.Prelude.{◌==◌, ◌&&◌, not}
+use Rattle.std.proofs.Common.{◌≡◌, ◌+◌, ◌<◌, ◌≤◌, ℕ, suc, Bool, true, false, List, [], ◌∷◌, length, get_or, cond, filter, map, refl, arith, sym, ap, ap₂, ◌∙◌}
+use Rattle.std.specs.Prelude.{◌==◌, ◌&&◌, ◌||◌, not}
 use Rattle.std.specs.declared.cmp.Ordering.{Ordering}
+use Rattle.std.specs.declared.cmp.Ordering.TheVariants.{Equal}
+use Rattle.std.specs.List.{AllByRecursion, list_any}
 use Rattle.std.specs.Cmp.{IsEquivalence, IsTotalOrder}
 use Rattle.std.specs.List.Sorted.{IsSortedBy, ties}
 use Rattle.std.specs.Ordering.{is_lt, is_eq, nat_cmp, ordering_then, ordering_reverse}
@@ -9,12 +11,30 @@ use Rattle.std.proofs.lemmas.Bool.{and_parts, not-true}
 use Rattle.std.proofs.lemmas.Bool.Decides.{nat_tests}
 use Rattle.std.proofs.lemmas.Cmp.{and_equiv, eq_by_cmp_equiv, nat_cmp_total, nat_eq_equiv, on_equiv, on_total, then_total}
 use Rattle.std.proofs.lemmas.List.{get_or-map, length-map}
-use Rattle.std.proofs.lemmas.List.Sorted.{ranks_by}
+use Rattle.std.proofs.lemmas.List.Elements.{recursion_from_All}
+use Rattle.std.proofs.lemmas.List.Sorted.{ranks_by, sorted_far}
+use Rattle.bd_value.specs.Order.{cmp}
+use Rattle.bd_value.specs.Tree.{Tree}
 use Rattle.bd_value.proofs.OrderLemmas.LawsLemmas.{cmp_total}
 use Rattle.bd_index.specs.Entries.{KeyAt, entry_cmp, is_same_entry}
 
+-- by key in an order, then by place
+abbrev pub entry_by : (Tree → Tree → Ordering) → KeyAt → KeyAt → Ordering
+entry_by by a b = ordering_then (by a.0 b.0) (nat_cmp a.1 b.1)
+
+-- no later one is before an earlier one
+abbrev pub Rises : (Tree → Tree → Ordering) → List KeyAt → Type 0
+Rises by [] = Unit {0}
+Rises by (e ∷ es) = AllByRecursion (λ x. is_lt (entry_by by x e) ≡ false) es × Rises by es
+
+pub by_total : {by : Tree → Tree → Ordering} → IsTotalOrder by → IsTotalOrder (entry_by by)
+by_total total = then_total (on_total (λ e. e.0) total) (on_total (λ e. e.1) nat_cmp_total)
+
 pub entry_total : IsTotalOrder entry_cmp
-entry_total = then_total (on_total (λ e. e.0) cmp_total) (on_total (λ e. e.1) nat_cmp_total)
+entry_total = by_total cmp_total
+
+pub neither_less : (o p : Ordering) → o ≡ ordering_reverse p → is_lt o ≡ false → is_lt p ≡ false → o ≡ Equal
+neither_less o p e h g = grind arith
 
 pub same_laws : IsEquivalence is_same_entry
 same_laws = and_equiv (on_equiv (λ e. e.1) nat_eq_equiv) (on_equiv (λ e. e.0) (eq_by_cmp_equiv cmp_total))
@@ -35,7 +55,29 @@ same_between k x e h low high =
     let first = (ranks_by entry_total (λ y. y)).chain k e x before high in
     sym (ties_are_same k x) ∙ ap₂ (λ (a b : Bool). not a && not b) first low
 
+pub ascend_from_sorted : (xs : List KeyAt) → IsSortedBy (λ a b. is_lt (entry_cmp a b)) xs → Rises cmp xs
+ascend_from_sorted xs h = go xs (sorted_far (λ x y. is_lt (entry_cmp x y)) (ranks_by entry_total (λ x. x)) xs h)
+  where
+    go : (ys : List KeyAt) → ((i j : ℕ) (d : KeyAt) → i ≤ j → j < length ys → is_lt (entry_cmp (get_or ys j d) (get_or ys i d)) ≡ false) → Rises cmp ys
+    go [] f = tt
+    go (y ∷ ys) f = (recursion_from_All _ ys (λ k d lt. f 0 (suc k) d (omega arith) (omega arith)), go ys (λ i j d le lt. f (suc i) (suc j) d (omega arith) (omega arith)))
+
+pub keys_rise : (es : List KeyAt) → IsSortedBy (λ a b. is_lt (entry_cmp a b)) es → (i j : ℕ) (d : KeyAt) → i ≤ j → j < length es → is_lt (cmp (get_or es j d).0 (get_or es i d).0) ≡ false
+keys_rise es sorted i j d le lt = first_not_less _ _ (sorted_far (λ x y. is_lt (entry_cmp x y)) (ranks_by entry_total (λ x. x)) es sorted i j d le lt)
+
 -- ---- entries seen through a view
+
+pub any_filter : {A : Type 0} (t p : A → Bool) (xs : List A) → list_any t (filter p xs) ≡ list_any (λ x. p x && t x) xs
+any_filter t p [] = refl
+any_filter {A} t p (x ∷ xs) = go (p x) (any_filter t p xs)
+  where
+    go : (b : Bool) → list_any t (filter p xs) ≡ list_any (λ y. p y && t y) xs → list_any t (cond b (x ∷ filter p xs) (filter p xs)) ≡ ((b && t x) || list_any (λ y. p y && t y) xs)
+    go true h = ap (λ (b : Bool). t x || b) h
+    go false h = h
+
+pub any_map : {A B : Type 0} (test : B → Bool) (f : A → B) (xs : List A) → list_any (λ x. test (f x)) xs ≡ list_any test (map f xs)
+any_map test f [] = refl
+any_map test f (x ∷ xs) = ap (λ (b : Bool). test (f x) || b) (any_map test f xs)
 
 pub sorted_map : {A B : Type 0} (f : A → B) (lt : B → B → Bool) (xs : List A) → IsSortedBy (λ a b. lt (f a) (f b)) xs → IsSortedBy lt (map f xs)
 sorted_map f lt [] s k d low high = absurd (omega arith)

@@ -1,12 +1,9 @@
-pub mod ComingLemmas
-pub mod CountLemmas
 pub mod DescentLemmas
-pub mod DocumentLemmas
+pub mod EntriesLemmas
 pub mod EntryLemmas
 pub mod EntryViewLemmas
 pub mod OrderLemmas
 pub mod PlacesLemmas
 pub mod RepeatLemmas
-pub mod SortKeyLemmas
 pub mod SpanLemmas
 pub mod WalkLemmas

@@ -13,7 +13,7 @@ use Rattle.std.proofs.lemmas.List.Elements.{All-cons, All-filter, All-from_recur
 use Rattle.std.proofs.lemmas.List.Folds.{fold-map, list_any-append}
 use Rattle.std.proofs.lemmas.List.Sorted.{ranks_by, sorted_far}
 use Rattle.std.proofs.lemmas.List.Sums.{length-filter, sum_by-cons, sum_by-append}
-use Rattle.bd_value.specs.Order.{equal}
+use Rattle.bd_value.specs.Order.{cmp, equal}
 use Rattle.bd_value.specs.Tree.{Tree, Doc, doc, fields_of}
 use Rattle.bd_value.proofs.OrderLemmas.LawsLemmas.{cmp_total}
 use Rattle.bd_path.specs.KeyList.{distinct, indexed_keys, with_keys}
@@ -22,13 +22,12 @@ use Rattle.bd_index.specs.Entries.{KeyAt, entries_from, entry_cmp, is_same_entry
 use Rattle.bd_index.specs.FoundKeyView.{found_entry}
 use Rattle.bd_index.specs.Repeats.{without_repeats}
 use Rattle.bd_index.specs.declared.found_key.FoundKey.{FoundKey}
-use Rattle.bd_index.proofs.DocumentLemmas.{next_at}
-use Rattle.bd_index.proofs.EntryLemmas.{entry_total, same_between, same_laws, ties_are_same}
+use Rattle.bd_index.proofs.EntryLemmas.{Rises, same_between, same_laws, ties_are_same}
 use Rattle.bd_index.proofs.SpanLemmas.{all_pass}
 
 -- ---- filters
 
-filter_both : {A : Type 0} (p q : A → Bool) (xs : List A) → filter p (filter q xs) ≡ filter (λ x. q x && p x) xs
+pub filter_both : {A : Type 0} (p q : A → Bool) (xs : List A) → filter p (filter q xs) ≡ filter (λ x. q x && p x) xs
 filter_both p q [] = refl
 filter_both {A} p q (x ∷ xs) = go (q x) (filter_both p q xs)
   where
@@ -71,12 +70,12 @@ abbrev pub firsts : {A : Type 0} → (A → A → Bool) → List A → List A
 firsts same [] = []
 firsts same (x ∷ xs) = x ∷ filter (λ y. not (same x y)) (firsts same xs)
 
-firsts_map : {A B : Type 0} (f : A → B) (same : B → B → Bool) (xs : List A) → map f (firsts (on f same) xs) ≡ firsts same (map f xs)
+pub firsts_map : {A B : Type 0} (f : A → B) (same : B → B → Bool) (xs : List A) → map f (firsts (on f same) xs) ≡ firsts same (map f xs)
 firsts_map f same [] = refl
 firsts_map {A} {B} f same (x ∷ xs) =
     ap (λ (l : List B). f x ∷ l) (sym (filter_view f (λ y. not (same (f x) y)) (firsts (on f same) xs)) ∙ ap (filter (λ y. not (same (f x) y))) (firsts_map f same xs))
 
-all_firsts : {A : Type 0} (same : A → A → Bool) (P : A → Type 0) (xs : List A) → All P xs → All P (firsts same xs)
+pub all_firsts : {A : Type 0} (same : A → A → Bool) (P : A → Type 0) (xs : List A) → All P xs → All P (firsts same xs)
 all_firsts same P [] all = all
 all_firsts same P (x ∷ xs) all = All-cons P x _ (All-head P x xs all) (All-filter _ P (firsts same xs) (all_firsts same P xs (All-tail P x xs all)))
 
@@ -132,11 +131,7 @@ module _ {A : Type 0} (same : A → A → Bool) (laws : IsEquivalence same) wher
 
 -- ---- of entries in their order those without repeats are the firsts
 
-abbrev pub Ascend : List KeyAt → Type 0
-Ascend [] = Unit {0}
-Ascend (x ∷ xs) = AllByRecursion (λ y. is_lt (entry_cmp y x) ≡ false) xs × Ascend xs
-
-after_one : (k : KeyAt) (xs : List KeyAt) → Ascend (k ∷ xs) → without_repeats (Some k) xs ≡ filter (λ y. not (is_same_entry k y)) (firsts is_same_entry xs)
+after_one : (k : KeyAt) (xs : List KeyAt) → Rises cmp (k ∷ xs) → without_repeats (Some k) xs ≡ filter (λ y. not (is_same_entry k y)) (firsts is_same_entry xs)
 after_one k [] up = refl
 after_one k (x ∷ xs) up = go (is_same_entry k x) refl (after_one k xs (up.0.1, up.1.1)) (after_one x xs up.1)
   where
@@ -159,7 +154,7 @@ after_one k (x ∷ xs) up = go (is_same_entry k x) refl (after_one k xs (up.0.1,
         (All-filter (λ y. not (is_same_entry x y)) (λ y. is_lt (entry_cmp y x) ≡ false) (firsts is_same_entry xs)
         (all_firsts is_same_entry (λ y. is_lt (entry_cmp y x) ≡ false) xs (All-from_recursion _ xs up.1.0)) i d lt))))
 
-once_sorted : (xs : List KeyAt) → Ascend xs → without_repeats None xs ≡ firsts is_same_entry xs
+once_sorted : (xs : List KeyAt) → Rises cmp xs → without_repeats None xs ≡ firsts is_same_entry xs
 once_sorted [] up = refl
 once_sorted (x ∷ xs) up = ap (λ (l : List KeyAt). x ∷ l) (after_one x xs up)
 
@@ -208,7 +203,7 @@ firsts_at place ks =
 abbrev pub found_lt : FoundKey → FoundKey → Bool
 found_lt a b = is_lt (entry_cmp (found_entry a) (found_entry b))
 
-pub own_once : (place : ℕ) (ks : List Tree) (own sorted : List FoundKey) → map found_entry own ≡ keys_at place ks → Ascend (map found_entry sorted) → IsStableBy found_lt own sorted
+pub own_once : (place : ℕ) (ks : List Tree) (own sorted : List FoundKey) → map found_entry own ≡ keys_at place ks → Rises cmp (map found_entry sorted) → IsStableBy found_lt own sorted
     → (test : KeyAt → Bool) → count_by test (without_repeats None (map found_entry sorted)) ≡ count_by test (keys_at place (distinct ks))
 own_once place ks own sorted is up stable test =
     let same = on found_entry is_same_entry in
@@ -223,34 +218,3 @@ own_once place ks own sorted is up stable test =
 
     classes : (f : FoundKey) (fs : List FoundKey) → filter (on found_entry is_same_entry f) fs ≡ filter (ties found_lt f) fs
     classes f fs = filter_agree _ _ (λ g. sym (ties_are_same (found_entry f) (found_entry g))) fs
-
-pub count-append : (test : KeyAt → Bool) (xs ys : List KeyAt) → count_by test (xs ++ ys) ≡ count_by test xs + count_by test ys
-count-append test xs ys = sum_by-append (λ (e : KeyAt). cond (test e) 1 0) xs ys
-
-pub counted_own : (test : KeyAt → Bool) (old new own ks : List KeyAt) → new ≡ old ++ own → count_by test own ≡ count_by test ks → count_by test new ≡ count_by test (old ++ ks)
-counted_own test old new own ks is h =
-    ap (count_by test) is ∙ count-append test old own ∙ ap (λ (n : ℕ). count_by test old + n) h ∙ sym (count-append test old ks)
-
--- the entries of one document more
-pub one_more : (sparse : Bool) (path : Names) (n : ℕ) (ds : List Doc) (d : Doc) (t : Tree) (ks : List Tree) → slice_get ds n ≡ Some d → t ≡ doc (fields_of d) → distinct ks ≡ indexed_keys sparse t path
-    → entries_from sparse path n (drop n ds) ≡ keys_at n (distinct ks) ++ entries_from sparse path (n + 1) (drop (n + 1) ds)
-one_more sparse path n ds d t ks is tree listed =
-    ap (entries_from sparse path n) (next_at ds n d is)
-    ∙ ap (λ (x : List Tree). keys_at n x ++ entries_from sparse path (n + 1) (drop (n + 1) ds)) (sym (listed ∙ ap (λ (x : Tree). indexed_keys sparse x path) tree))
-
-pub counted_more : (test : KeyAt → Bool) (old new own rest from : List KeyAt) (all : ℕ) → count_by test new ≡ count_by test (old ++ own)
-    → from ≡ own ++ rest → count_by test (old ++ from) ≡ all → count_by test (new ++ rest) ≡ all
-counted_more test old new own rest from all added is so_far =
-    let a = count-append test new rest in
-    let b = count-append test old own in
-    let c = count-append test own rest in
-    let d = count-append test old (own ++ rest) in
-    let e = ap (λ (l : List KeyAt). count_by test (old ++ l)) (sym is) ∙ so_far in
-    omega (arith, a, b, c, d, e, added)
-
-pub ascend_from_sorted : (xs : List KeyAt) → IsSortedBy (λ a b. is_lt (entry_cmp a b)) xs → Ascend xs
-ascend_from_sorted xs h = go xs (λ i j d le lt. sorted_far (λ x y. is_lt (entry_cmp x y)) (ranks_by entry_total (λ x. x)) xs h i j d le lt)
-  where
-    go : (ys : List KeyAt) → ((i j : ℕ) (d : KeyAt) → i ≤ j → j < length ys → is_lt (entry_cmp (get_or ys j d) (get_or ys i d)) ≡ false) → Ascend ys
-    go [] f = tt
-    go (y ∷ ys) f = (recursion_from_All _ ys (λ k d lt. f 0 (suc k) d (omega arith) (omega arith)), go ys (λ i j d le lt. f (suc i) (suc j) d (omega arith) (omega arith)))

@@ -10,7 +10,6 @@ use Rattle.std.proofs.lemmas.Bool.Decides.{nat_tests}
 use Rattle.std.proofs.lemmas.List.{at_drop_more, drop_all, drop-map, get_or_default, get_or-drop, get_or-take, length-take, length-drop, map-append, take-map}
 use Rattle.std.proofs.lemmas.List.Elements.{All-push, filter-append}
 use Rattle.std.proofs.lemmas.List.Folds.{drop_split, list_any-append}
-use Rattle.std.proofs.lemmas.List.Sorted.{ranks_by, sorted_far}
 use Rattle.bd_value.specs.Tree.{Tree}
 use Rattle.bd_bounds.specs.Bounds.{KeySet, intersection, union}
 use Rattle.bd_bounds.specs.BoundsView.{keys_between, keys_within}
@@ -24,15 +23,13 @@ use Rattle.bd_bounds.proofs.FilterBoundsLemmas.{one_off}
 use Rattle.bd_index.specs.Entries.{KeyAt, entry_cmp}
 use Rattle.bd_index.specs.Spans.{AreInOrder, CoverKeys, is_covered, is_in_span, pieces}
 use Rattle.bd_index.specs.declared.span.Span.{Span}
-use Rattle.bd_index.proofs.EntryLemmas.{entry_total, first_not_less}
+use Rattle.bd_index.proofs.EntryLemmas.{keys_rise}
 
 -- ---- the search for a cut
 
 -- the entries before a cut come before those that are not
 pub parted : (cut : Cut) (es : List KeyAt) → IsSortedBy (λ a b. is_lt (entry_cmp a b)) es → IsPartitionedBy (λ e. is_before cut e.0) es
-parted cut es sorted i j d le lt h =
-    falls_once cut (get_or es i d).0 (get_or es j d).0
-    (first_not_less _ _ (sorted_far (λ x y. is_lt (entry_cmp x y)) (ranks_by entry_total (λ x. x)) es sorted i j d le lt)) h
+parted cut es sorted i j d le lt h = falls_once cut (get_or es i d).0 (get_or es j d).0 (keys_rise es sorted i j d le lt) h
 
 pub below_next : {A : Type 0} (p : A → Bool) (es : List A) (m : ℕ) → IsPartitionedBy p es → m < length es → ((d : A) → p (get_or es m d) ≡ true) → AllWithin (λ e. p e ≡ true) es 0 (m + 1)
 below_next p es m up lt here k d low high = up k m d (omega arith) lt (here d)
@@ -147,12 +144,12 @@ pub all_pass : {A : Type 0} (p : A → Bool) (xs : List A) → All (λ x. p x �
 all_pass p [] h = refl
 all_pass {A} p (x ∷ xs) h = rw (h 0 x (omega arith)) (ap (λ (l : List A). x ∷ l) (all_pass p xs (λ k d lt. h (suc k) d (omega arith))))
 
-record InPiece {A : Type 0} (xs : List A) (from to k : ℕ) (d : A) : Type 0 where
-  below : from + k < to
-  inside : from + k < length xs
-  is : get_or (slice_range xs from to) k d ≡ get_or xs (from + k) d
+pub record InPiece {A : Type 0} (xs : List A) (from to k : ℕ) (d : A) : Type 0 where
+  pub below : from + k < to
+  pub inside : from + k < length xs
+  pub is : get_or (slice_range xs from to) k d ≡ get_or xs (from + k) d
 
-in_piece : {A : Type 0} (xs : List A) (from to k : ℕ) (d : A) → k < length (slice_range xs from to) → InPiece xs from to k d
+pub in_piece : {A : Type 0} (xs : List A) (from to k : ℕ) (d : A) → k < length (slice_range xs from to) → InPiece xs from to k d
 in_piece xs from to k d lt =
     let n = length-take (to - from) (drop from xs) in
     let m = length-drop from xs in

@@ -10,8 +10,9 @@ use Rattle.bd_index.specs.Entries.{entry_cmp, keys_at}
 use Rattle.bd_index.specs.FoundKeyView.{AreFoundIn, IsFoundIn, found_entry, raw_tree}
 use Rattle.bd_index.specs.Repeats.{without_repeats}
 use Rattle.bd_index.specs.declared.found_key.FoundKey.{FoundKey}
-use Rattle.bd_index.proofs.EntryLemmas.{entry_total, sorted_map}
-use Rattle.bd_index.proofs.RepeatLemmas.{ascend_from_sorted, counted_own, found_lt, own_once}
+use Rattle.bd_index.proofs.EntriesLemmas.{counted_own}
+use Rattle.bd_index.proofs.EntryLemmas.{ascend_from_sorted, entry_total, sorted_map}
+use Rattle.bd_index.proofs.RepeatLemmas.{found_lt, own_once}
 use Rattle.bd_index.proofs.entries.add_document.Goals as goal
 
 pub returns-clause-added : goal.returns-clause-added
