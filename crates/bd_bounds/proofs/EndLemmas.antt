@@ -2,7 +2,7 @@
 use Rattle.std.proofs.Common.{◌≡◌, ℕ, ◌-◌, ◌==◌, Bool, true, false, cond, not, ◌&&◌, List, [], ◌∷◌, length, map, Some, None, ◌⊎◌, inl, inr, refl, sym, ap, ◌∙◌, subst, arith, is_eq, eqb-true, eq-eqb}
 use Rattle.std.specs.Prelude.{is_some, nat_le}
 use Rattle.std.specs.List.{list_any, list_all}
-use Rattle.std.proofs.lemmas.Bool.{and_parts, and_from, not-true, or_left, or_right}
+use Rattle.std.proofs.lemmas.Bool.{and_parts, and_from, not-true, or_cases, or_left, or_right}
 use Rattle.bd_value.specs.Kind.{kind_of}
 use Rattle.bd_value.specs.Order.{class_cmp, cmp, equal, items_cmp}
 use Rattle.bd_value.specs.Order.Classes.{class_of, class_of_kind, class_rank}
@@ -41,49 +41,34 @@ in_each sets (x ∷ xs) k h =
 
 -- ---- candidates
 
--- a candidate that is an array at the end of the path
-pub record ArrayEnd (t : Tree) (p : Names) (c : End) : Type 0 where
-  pub all : Items
-  pub is : c ≡ Some (array all)
-  pub is_end : In (Some (array all)) (reach t p)
-
-end_cases : (t : Tree) (p : Names) (c : End) → In c (reach t p) → In (value_or_null c) (keys_of t p) ⊎ ArrayEnd t p c
-end_cases t p None h = inl (missing t p h)
-end_cases t p (Some (array ts)) h = inr (record { all = ts; is = refl; is_end = h })
-end_cases t p (Some x) h = inl (end_is_key t x x p h (inl refl))
-
-record Among (xs : List Tree) (c : End) : Type 0 where
-  it : Tree
-  is : c ≡ Some it
-  is_in : In it xs
-
-in_mapped : (xs : List Tree) (c : End) → In c (map Some xs) → Among xs c
-in_mapped [] c h = absurd h
-in_mapped (x ∷ xs) c (inl e) = record { it = x; is = e; is_in = inl refl }
-in_mapped (x ∷ xs) c (inr h) = let r = in_mapped xs c h in record { it = r.it; is = r.is; is_in = inr r.is_in }
-
-of_end : (t : Tree) (p : Names) (e c : End) → c ≡ e → In e (reach t p) → In (value_or_null c) (keys_of t p) ⊎ ArrayEnd t p c
-of_end t p e c is h = end_cases t p c (subst (λ x. In x (reach t p)) (sym is) h)
-
-candidate_cases : (t : Tree) (p : Names) (e c : End) → In e (reach t p) → In c (candidates e) → In (value_or_null c) (keys_of t p) ⊎ ArrayEnd t p c
-candidate_cases t p None c h (inl is) = of_end t p None c is h
-candidate_cases t p None c h (inr g) = absurd g
-candidate_cases t p (Some w) c h (inl is) = of_end t p (Some w) c is h
-candidate_cases t p (Some w) c h (inr g) =
-    let a = in_mapped (elements_in w) c g in
-    inl (subst (λ x. In (value_or_null x) (keys_of t p)) (sym a.is) (element_of_end t w a.it p h a.is_in))
-
--- a candidate that passes is a key, or an array at the end of the path
-pub record Candidate (test : End → Bool) (t : Tree) (p : Names) : Type 0 where
+-- a candidate that passes and is a key
+pub record PassingKey (test : End → Bool) (t : Tree) (p : Names) : Type 0 where
   pub it : End
-  pub cases : In (value_or_null it) (keys_of t p) ⊎ ArrayEnd t p it
+  pub is_in : In (value_or_null it) (keys_of t p)
   pub passes : test it ≡ true
 
-pub candidate : (test : End → Bool) (t : Tree) (p : Names) → any_candidate test (reach t p) ≡ true → Candidate test t p
-candidate test t p h =
-    let e = found_from (λ e. list_any test (candidates e)) (reach t p) h in
-    let c = found_from test (candidates e.it) e.passes in
-    record { it = c.it; cases = candidate_cases t p e.it c.it e.is_in c.is_in; passes = c.passes }
+-- a candidate that passes and is an array at the end of the path
+pub record PassingArray (test : End → Bool) (t : Tree) (p : Names) : Type 0 where
+  pub all : Items
+  pub is_end : In (Some (array all)) (reach t p)
+  pub passes : test (Some (array all)) ≡ true
+
+module _ (test : End → Bool) (t : Tree) (p : Names) where
+  at_end : (e : End) → In e (reach t p) → test e ≡ true → PassingKey test t p ⊎ PassingArray test t p
+  at_end None h passes = inl (record { it = None; is_in = missing t p h; passes = passes })
+  at_end (Some (array ts)) h passes = inr (record { all = ts; is_end = h; passes = passes })
+  at_end (Some x) h passes = inl (record { it = Some x; is_in = end_is_key t x x p h (inl refl); passes = passes })
+
+  of_end : (e : End) → In e (reach t p) → list_any test (candidates e) ≡ true → PassingKey test t p ⊎ PassingArray test t p
+  of_end None h e = elim (or_cases (test None) false e) [ inl a ↦ at_end None h a | inr b ↦ absurd cc ]
+  of_end (Some w) h e = elim (or_cases (test (Some w)) (list_any test (map Some (elements_in w))) e) [
+    | inl a ↦ at_end (Some w) h a
+    | inr b ↦ (let f = found_from (λ x. test (Some x)) (elements_in w) (sym (any_mapped test Some (elements_in w)) ∙ b) in
+        inl (record { it = Some f.it; is_in = element_of_end t w f.it p h f.is_in; passes = f.passes }))
+  ]
+
+  pub candidate : any_candidate test (reach t p) ≡ true → PassingKey test t p ⊎ PassingArray test t p
+  candidate h = let e = found_from (λ e. list_any test (candidates e)) (reach t p) h in of_end e.it e.is_in e.passes
 
 -- ---- equal values
 
@@ -99,11 +84,9 @@ array_equals _ _ e = absurd cc
 
 pub sound_equal : (t : Tree) (p : Names) (v : Tree) → any_equal (reach t p) v ≡ true → Found (keys_of_equal v) (keys_of t p)
 sound_equal t p v h =
-    let c = candidate (λ e. equal (value_or_null e) v) t p h in
-    elim c.cases [
-      | inl k ↦ record { it = value_or_null c.it; is_in = k; passes = or_left (equal (value_or_null c.it) v) (is_array v && equal (value_or_null c.it) (first_or_undefined (elements_in v))) c.passes }
-      | inr a ↦ (let f = array_equals a.all v (subst (λ e. equal (value_or_null e) v ≡ true) a.is c.passes) in
-          record { it = f.it; is_in = end_is_key t (array a.all) f.it p a.is_end f.is_in; passes = f.passes })
+    elim (candidate (λ e. equal (value_or_null e) v) t p h) [
+      | inl k ↦ record { it = value_or_null k.it; is_in = k.is_in; passes = or_left (equal (value_or_null k.it) v) _ k.passes }
+      | inr a ↦ (let f = array_equals a.all v a.passes in record { it = f.it; is_in = end_is_key t (array a.all) f.it p a.is_end f.is_in; passes = f.passes })
     ]
 
 -- ---- values in an order
@@ -113,10 +96,9 @@ unless : (test : End → Bool) (set : KeySet) (t : Tree) (p : Names) (out : Bool
     → ((ts : Items) → test (Some (array ts)) ≡ true → out ≡ true) → any_candidate test (reach t p) ≡ true → Found (is_among (cond out None (Some set))) (keys_of t p)
 unless test set t p true inside array_passes h = everywhere t p
 unless test set t p false inside array_passes h =
-    let c = candidate test t p h in
-    elim c.cases [
-      | inl k ↦ record { it = value_or_null c.it; is_in = k; passes = inside c.it c.passes }
-      | inr a ↦ (let out = array_passes a.all (rw a.is at c.passes) in absurd cc)
+    elim (candidate test t p h) [
+      | inl k ↦ record { it = value_or_null k.it; is_in = k.is_in; passes = inside k.it k.passes }
+      | inr a ↦ (let out = array_passes a.all a.passes in absurd cc)
     ]
 
 array_of_class : (ts : Items) (v : Tree) → is_eq (class_cmp (array ts) v) ≡ true → is_array v ≡ true

@@ -1,6 +1,7 @@
 -- Bounds of some members, and of those that are left.
-use Rattle.std.proofs.Common.{◌≡◌, ℕ, ◌<◌, ◌+◌, length, get_or, drop, Bool, true, false, ◌&&◌, ◌||◌, List, [], ◌∷◌, ◌++◌, map, arith, Some, None, refl, sym, ap, ◌∙◌}
+use Rattle.std.proofs.Common.{◌≡◌, ℕ, ◌<◌, ◌+◌, length, get_or, drop, Bool, true, false, ◌&&◌, ◌||◌, List, [], ◌∷◌, ◌++◌, map, arith, rules, Vec, Some, None, refl, sym, ap, ◌∙◌}
 use Rattle.std.proofs.Math.Path.{fun_ext}
+use Rattle.std.specs.declared.alloc.Global.{Global}
 use Rattle.std.proofs.lemmas.List.{at_drop_more, map-append}
 use Rattle.std.proofs.lemmas.List.Folds.{list_any-append}
 use Rattle.bd_value.specs.Tree.{Tree}
@@ -8,6 +9,8 @@ use Rattle.bd_filter.specs.Filter.{Operators, no_operators, operator}
 use Rattle.bd_bounds.specs.Bounds.{KeyBounds, KeySet, conjunction, disjunction, no_key, operator_bounds, union}
 use Rattle.bd_bounds.specs.BoundsView.{keys_within}
 use Rattle.bd_bounds.specs.declared.bounds.Bounds.{Bounds}
+use Rattle.bd_bounds.specs.declared.bounds.Bounds.TheFolds as folds
+use Rattle.bd_bounds.specs.declared.bounds.Bounds.TheVariants.{Or}
 
 -- ---- what is left of a list
 
@@ -60,6 +63,9 @@ one_wider F f xs i x next parts after first lt is added so_far =
 
 pub no_part_left : (parts : List Bounds) → disjunction (some_parts parts) (Some no_key) ≡ some_parts parts
 no_part_left parts = ap Some (fun_ext (λ k. grind arith))
+
+pub keys_within-Or : (v : Vec Bounds Global) → keys_within (Or v) ≡ union (map keys_within v.items)
+keys_within-Or v = search (rules, folds.the_lemmas)
 
 -- ---- another path
 

@@ -1,7 +1,8 @@
 -- Where a document matches, one of its keys is inside the bounds.
-use Rattle.std.proofs.Common.{◌≡◌, ℕ, ◌==◌, Bool, true, false, cond, ◌&&◌, List, [], ◌∷◌, ◌++◌, length, map, Option, Some, None, inl, inr, refl, sym, ap₂, ◌∙◌, subst, append-nil, eqb-true, arith}
+use Rattle.std.proofs.Common.{◌≡◌, ℕ, ◌==◌, Bool, true, false, cond, ◌&&◌, List, [], ◌∷◌, ◌++◌, length, map, Option, Some, None, ◌⊎◌, inl, inr, refl, sym, ap₂, ◌∙◌, subst, append-nil, eqb-true, arith}
 use Rattle.std.specs.List.{list_any, list_all}
 use Rattle.std.specs.Str.{bytes_eq}
+use Rattle.std.specs.Cmp.Lexicographic.{bytes_decides}
 use Rattle.std.proofs.lemmas.Bool.{and_parts, and_from, or_cases, or_left, or_right}
 use Rattle.bd_value.specs.Order.{equal}
 use Rattle.bd_value.specs.Parts.{elements_in}
@@ -45,15 +46,10 @@ both_found false (Some s) (Some u) ks fine same f g =
     record { it = f.it; is_in = f.is_in; passes = and_from (s f.it) (u f.it) f.passes (each_passes u ks same fine g f.it f.is_in) }
 
 -- one of a disjunction
-first_found : (b c : KeyBounds) (t : Tree) (p : Names) → Found (is_among b) (keys_of t p) → Found (is_among (disjunction b c)) (keys_of t p)
-first_found None c t p f = f
-first_found (Some s) None t p f = everywhere t p
-first_found (Some s) (Some u) t p f = record { it = f.it; is_in = f.is_in; passes = or_left (s f.it) (u f.it) f.passes }
-
-second_found : (b c : KeyBounds) (t : Tree) (p : Names) → Found (is_among c) (keys_of t p) → Found (is_among (disjunction b c)) (keys_of t p)
-second_found None c t p f = everywhere t p
-second_found (Some s) None t p f = f
-second_found (Some s) (Some u) t p f = record { it = f.it; is_in = f.is_in; passes = or_right (s f.it) (u f.it) f.passes }
+either_found : (b c : KeyBounds) (t : Tree) (p : Names) → Found (is_among b) (keys_of t p) ⊎ Found (is_among c) (keys_of t p) → Found (is_among (disjunction b c)) (keys_of t p)
+either_found (Some s) (Some u) t p (inl f) = record { it = f.it; is_in = f.is_in; passes = or_left (s f.it) (u f.it) f.passes }
+either_found (Some s) (Some u) t p (inr f) = record { it = f.it; is_in = f.is_in; passes = or_right (s f.it) (u f.it) f.passes }
+either_found _ _ t p f = everywhere t p
 
 -- ---- operators at the path of the index
 
@@ -75,9 +71,9 @@ all_inside t p (v ∷ vs) x fine h e =
 sound_has_all : (t : Tree) (p : Names) (m : Bool) (vs : List Tree) → Fine m (keys_of t p) → (is_nonempty vs && list_all (any_equal (reach t p)) vs) ≡ true
     → Found (keys_of_each m (map keys_of_equal vs)) (keys_of t p)
 sound_has_all t p m [] fine e = absurd cc
-sound_has_all t p true (v ∷ vs) fine e = sound_equal t p v (and_parts (any_equal (reach t p) v) (list_all (any_equal (reach t p)) vs) e).0
+sound_has_all t p true (v ∷ vs) fine e = sound_equal t p v (and_parts (any_equal (reach t p) v) _ e).0
 sound_has_all t p false (v ∷ vs) fine e =
-    let f = sound_equal t p v (and_parts (any_equal (reach t p) v) (list_all (any_equal (reach t p)) vs) e).0 in
+    let f = sound_equal t p v (and_parts (any_equal (reach t p) v) _ e).0 in
     record { it = f.it; is_in = f.is_in; passes = in_each keys_of_equal (v ∷ vs) f.it (all_inside t p (v ∷ vs) f.it fine f.is_in e) }
 
 sound_here : (o : Operator) (t : Tree) (p : Names) (m : Bool) → Fine m (keys_of t p) → holds o (reach t p) ≡ true → Found (is_among (bounds_here o m)) (keys_of t p)
@@ -97,20 +93,13 @@ sound_here (has_document fs) t p m fine h =
 
 -- ---- what is left of a path
 
-equal_bytes : (a b : List ℕ) → bytes_eq a b ≡ true → a ≡ b
-equal_bytes [] [] e = refl
-equal_bytes (x ∷ xs) (y ∷ ys) e =
-    let b = and_parts (x == y) (bytes_eq xs ys) e in
-    ap₂ ◌∷◌ (eqb-true x y b.0) (equal_bytes xs ys b.1)
-equal_bytes _ _ e = absurd cc
-
 rest_is : (r p s : Names) → rest_after r p ≡ Some s → p ≡ r ++ s
 rest_is [] p s e = cc
 rest_is (c ∷ r) [] s e = absurd cc
 rest_is (c ∷ r) (b ∷ p) s e = go (rest_is r p s) (bytes_eq c b) refl e
   where
     go : (rest_after r p ≡ Some s → p ≡ r ++ s) → (t : Bool) → bytes_eq c b ≡ t → cond t (rest_after r p) None ≡ Some s → b ∷ p ≡ c ∷ (r ++ s)
-    go rec true f g = ap₂ ◌∷◌ (sym (equal_bytes c b f)) (rec g)
+    go rec true f g = ap₂ ◌∷◌ (sym ((bytes_decides c b).0 f)) (rec g)
     go rec false f g = absurd cc
 
 -- the keys of an element that is a document, at the rest of the path, are keys of the whole
@@ -144,10 +133,9 @@ mutual
 
   sound_some : (fs : Filters) (p : Names) (m : Bool) (t : Tree) → Fine m (keys_of t p) → some_match fs t ≡ true → Found (is_among (some_bounds fs p m)) (keys_of t p)
   sound_some no_filters p m t fine h = absurd cc
-  sound_some (filter f fs) p m t fine h = elim (or_cases (matches f t) (some_match fs t) h) [
-    | inl a ↦ first_found (bounds f p m) (some_bounds fs p m) t p (sound f p m t fine a)
-    | inr b ↦ second_found (bounds f p m) (some_bounds fs p m) t p (sound_some fs p m t fine b)
-  ]
+  sound_some (filter f fs) p m t fine h =
+      either_found (bounds f p m) (some_bounds fs p m) t p
+      (elim (or_cases (matches f t) (some_match fs t) h) [ inl a ↦ inl (sound f p m t fine a) | inr b ↦ inr (sound_some fs p m t fine b) ])
 
   sound_operators : (os : Operators) (rest : Option Names) (r p : Names) (m : Bool) (t : Tree) → ((s : Names) → rest ≡ Some s → p ≡ r ++ s)
       → Fine m (keys_of t p) → all_hold os (reach t r) ≡ true → Found (is_among (operator_bounds os rest m)) (keys_of t p)

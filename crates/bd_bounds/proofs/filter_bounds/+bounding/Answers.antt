@@ -5,8 +5,7 @@ use Rattle.bd_filter.specs.Filter.{filters_from, operators_from}
 use Rattle.bd_filter.specs.FilterView.{filter_tree, operator_tree}
 use Rattle.bd_bounds.specs.Bounds.{all_bounds, bounds, bounds_at, conjunction, disjunction, operator_bounds, some_bounds}
 use Rattle.bd_bounds.specs.BoundsView.{parts_bounds, seen_bounds}
-use Rattle.bd_bounds.proofs.BoundsViewLemmas.{keys_within-Or}
-use Rattle.bd_bounds.proofs.FilterBoundsLemmas.{no_part_left, no_rest, one_narrower, one_wider, some_parts}
+use Rattle.bd_bounds.proofs.FilterBoundsLemmas.{keys_within-Or, no_part_left, no_rest, one_narrower, one_wider, some_parts}
 use Rattle.bd_bounds.proofs.filter_bounds.+bounding.Goals as goal
 
 pub all_bounds-loop-filter-preserved : goal.all_bounds-loop-filter-preserved
