@@ -2,15 +2,13 @@
 use Rattle.std.proofs.Common.{◌≡◌, ◌≢◌, ◌+◌, ◌<◌, ◌≤◌, ℕ, zero, suc, Bool, true, false, cond, List, [], ◌∷◌, ◌++◌, Some, drop, length, refl, sym, ap, ◌∙◌, arith, add-one, length-append}
 use Rattle.std.specs.Prelude.{◌||◌, nat_lt, not, slice_get}
 use Rattle.std.specs.List.{count_by, list_any}
-use Rattle.std.proofs.lemmas.Bool.{lt-ltb}
 use Rattle.std.proofs.lemmas.Bool.Decides.{nat_tests}
 use Rattle.std.proofs.lemmas.List.{length-map}
 use Rattle.std.proofs.lemmas.List.Sums.{length-filter, sum_by-append}
-use Rattle.bd_value.specs.Order.{equal}
 use Rattle.bd_value.specs.Tree.{Tree, Doc, doc, fields_of}
 use Rattle.bd_bson.specs.Collection.{bytes_of, documents}
 use Rattle.bd_bson.specs.declared.collection.Dump.{Dump}
-use Rattle.bd_path.specs.KeyList.{distinct, indexed_keys, keys, with_key, with_keys}
+use Rattle.bd_path.specs.KeyList.{distinct, indexed_keys, keys}
 use Rattle.bd_path.specs.Names.{Names}
 use Rattle.bd_path.proofs.LawsLemmas.{has_a_key}
 use Rattle.bd_index.specs.Entries.{KeyAt, entries_from, entries_of, is_multikey, keys_at}
@@ -93,25 +91,3 @@ many_by_count path n (d ∷ ds) =
     more (length ds) (length (keys (doc (fields_of d)) path)) (length (entries_from false path (n + 1) ds))
     (length (entries_from false path n (d ∷ ds))) (is_multikey path ds) (some_keys (doc (fields_of d)) path) (no_fewer path (n + 1) ds)
     (many_by_count path (n + 1) ds) (long path n d ds)
-
--- ---- two keys, where one is not equal to the first
-
-no_shorter : (ks ts : List Tree) → length ks ≤ length (with_keys ks ts)
-no_shorter ks [] = omega arith
-no_shorter ks (t ∷ ts) = let r = no_shorter (with_key ks t) ts in let s = kept (list_any (λ x. equal x t) ks) in omega arith
-  where
-    kept : (b : Bool) → length ks ≤ length (cond b ks (ks ++ t ∷ []))
-    kept true = omega arith
-    kept false = omega (arith, length-append ks (t ∷ []))
-
-two : (k : Tree) (ts : List Tree) → nat_lt 1 (length (with_keys (k ∷ []) ts)) ≡ list_any (λ t. not (equal k t)) ts
-two k [] = refl
-two k (t ∷ ts) = go (equal k t) (two k ts)
-  where
-    go : (b : Bool) → nat_lt 1 (length (with_keys (k ∷ []) ts)) ≡ list_any (λ x. not (equal k x)) ts
-        → nat_lt 1 (length (with_keys (cond (b || false) (k ∷ []) (k ∷ t ∷ [])) ts)) ≡ (not b || list_any (λ x. not (equal k x)) ts)
-    go true rest = rest
-    go false rest = let l = no_shorter (k ∷ t ∷ []) ts in lt-ltb 1 (length (with_keys (k ∷ t ∷ []) ts)) (omega arith)
-
-pub several : (ks : List Tree) (k : Tree) (ts : List Tree) → ks ≡ k ∷ ts → nat_lt 1 (length (distinct ks)) ≡ list_any (λ t. not (equal k t)) ts
-several ks k ts is = ap (λ (l : List Tree). nat_lt 1 (length (distinct l))) is ∙ two k ts

@@ -1,9 +1,9 @@
 -- The order of entries, and which of them are the same.
 use Rattle.std.proofs.Common.{◌≡◌, ◌+◌, ◌<◌, ◌≤◌, ℕ, suc, Bool, true, false, List, [], ◌∷◌, length, get_or, cond, filter, map, refl, arith, sym, ap, ap₂, ◌∙◌}
-use Rattle.std.specs.Prelude.{◌==◌, ◌&&◌, ◌||◌, not}
+use Rattle.std.specs.Prelude.{◌==◌, ◌&&◌, ◌||◌, nat_lt, not}
 use Rattle.std.specs.declared.cmp.Ordering.{Ordering}
 use Rattle.std.specs.declared.cmp.Ordering.TheVariants.{Equal}
-use Rattle.std.specs.List.{AllByRecursion, list_any}
+use Rattle.std.specs.List.{AllByRecursion, count_by, list_any}
 use Rattle.std.specs.Cmp.{IsEquivalence, IsTotalOrder}
 use Rattle.std.specs.List.Sorted.{IsSortedBy, ties}
 use Rattle.std.specs.Ordering.{is_lt, is_eq, nat_cmp, ordering_then, ordering_reverse}
@@ -13,6 +13,7 @@ use Rattle.std.proofs.lemmas.Cmp.{and_equiv, eq_by_cmp_equiv, nat_cmp_total, nat
 use Rattle.std.proofs.lemmas.List.{get_or-map, length-map}
 use Rattle.std.proofs.lemmas.List.Elements.{recursion_from_All}
 use Rattle.std.proofs.lemmas.List.Sorted.{ranks_by, sorted_far}
+use Rattle.std.proofs.lemmas.List.Sums.{sum_by-cons}
 use Rattle.bd_value.specs.Order.{cmp}
 use Rattle.bd_value.specs.Tree.{Tree}
 use Rattle.bd_value.proofs.OrderLemmas.LawsLemmas.{cmp_total}
@@ -69,11 +70,7 @@ keys_rise es sorted i j d le lt = first_not_less _ _ (sorted_far (λ x y. is_lt 
 
 pub any_filter : {A : Type 0} (t p : A → Bool) (xs : List A) → list_any t (filter p xs) ≡ list_any (λ x. p x && t x) xs
 any_filter t p [] = refl
-any_filter {A} t p (x ∷ xs) = go (p x) (any_filter t p xs)
-  where
-    go : (b : Bool) → list_any t (filter p xs) ≡ list_any (λ y. p y && t y) xs → list_any t (cond b (x ∷ filter p xs) (filter p xs)) ≡ ((b && t x) || list_any (λ y. p y && t y) xs)
-    go true h = ap (λ (b : Bool). t x || b) h
-    go false h = h
+any_filter t p (x ∷ xs) = grind (arith, any_filter t p xs)
 
 pub any_map : {A B : Type 0} (test : B → Bool) (f : A → B) (xs : List A) → list_any (λ x. test (f x)) xs ≡ list_any test (map f xs)
 any_map test f [] = refl
@@ -84,3 +81,15 @@ sorted_map f lt [] s k d low high = absurd (omega arith)
 sorted_map f lt (x ∷ xs) s k d low high =
     let n : length (map f (x ∷ xs)) ≡ length (x ∷ xs) = length-map (x ∷ xs) f in
     rw (get_or-map f (x ∷ xs) (k + 1) x d (omega arith), get_or-map f (x ∷ xs) k x d (omega arith)) (s k x low (omega arith))
+
+-- ---- whether some pass, by how many do
+
+pub any_by_count : {A : Type 0} (p : A → Bool) (xs : List A) → list_any p xs ≡ nat_lt 0 (count_by p xs)
+any_by_count p [] = refl
+any_by_count p (x ∷ xs) = positive (p x) (count_by p xs) (list_any p xs) (any_by_count p xs) ∙ ap (nat_lt 0) (sym (sum_by-cons (λ y. cond (p y) 1 0) x xs))
+  where
+    positive : (b : Bool) (c : ℕ) (r : Bool) → r ≡ nat_lt 0 c → (b || r) ≡ nat_lt 0 (cond b 1 0 + c)
+    positive b c r h = grind (arith, nat_tests)
+
+pub any_as_counts : {A : Type 0} (p : A → Bool) (xs ys : List A) → count_by p xs ≡ count_by p ys → list_any p xs ≡ list_any p ys
+any_as_counts p xs ys h = any_by_count p xs ∙ ap (nat_lt 0) h ∙ sym (any_by_count p ys)

@@ -17,15 +17,13 @@ use Rattle.bd_index.specs.BoundedPlaces.{has_key_in}
 use Rattle.bd_index.specs.declared.entry.Entry.{Entry}
 use Rattle.bd_index.specs.declared.index.Index.{Index}
 use Rattle.bd_index.specs.declared.span.Span.{Span}
-use Rattle.bd_index.proofs.EntryLemmas.{any_filter, any_map}
+use Rattle.bd_index.proofs.EntryLemmas.{any_as_counts, any_filter, any_map}
 use Rattle.bd_index.proofs.SpanLemmas.{pieces_map, pieces_pass}
-use Rattle.bd_index.proofs.WalkLemmas.{any_as_counts}
 
 places_kept : (bytes : List ℕ) (kept : List Entry) (es : List KeyAt) → KeepsEntries bytes kept es → map (λ e. e.place) kept ≡ map (λ e. e.1) es
 places_kept bytes [] [] h = refl
-places_kept bytes [] (e ∷ es) h = absurd h
-places_kept bytes (k ∷ ks) [] h = absurd h
 places_kept bytes (k ∷ ks) (e ∷ es) h = ap₂ (λ (x : ℕ) (xs : List ℕ). x ∷ xs) h.0.1 (places_kept bytes ks es h.1)
+places_kept bytes _ _ h = absurd h
 
 -- a place among those of what passes
 place_among : (p : KeyAt → Bool) (n : ℕ) (es : List KeyAt) → list_any (λ m. m == n) (map (λ e. e.1) (filter p es)) ≡ list_any (λ e. p e && (e.1 == n)) es

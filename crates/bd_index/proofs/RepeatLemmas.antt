@@ -2,12 +2,13 @@
 use Rattle.std.proofs.Common.{◌≡◌, ◌+◌, ◌<◌, ◌≤◌, ℕ, suc, Bool, true, false, cond, List, [], ◌∷◌, ◌++◌, Option, Some, None, filter, length, append_assoc, append-nil}
 use Rattle.std.proofs.Common.{get_or, drop, map, refl, sym, ap, ap₂, ◌∙◌, arith, eq-eqb}
 use Rattle.std.proofs.Math.Path.{fun_ext}
-use Rattle.std.specs.Prelude.{◌&&◌, ◌||◌, not, slice_get}
+use Rattle.std.specs.Prelude.{◌&&◌, ◌||◌, nat_lt, not}
 use Rattle.std.specs.Cmp.{IsEquivalence}
 use Rattle.std.specs.List.{All, AllByRecursion, count_by, list_any}
 use Rattle.std.specs.List.Sorted.{IsSortedBy, IsStableBy, ties}
 use Rattle.std.specs.Ordering.{is_lt, on}
-use Rattle.std.proofs.lemmas.Bool.{false_from_ne_true}
+use Rattle.std.proofs.lemmas.Bool.{false_from_ne_true, not-false}
+use Rattle.std.proofs.lemmas.Bool.Decides.{nat_tests}
 use Rattle.std.proofs.lemmas.Cmp.{eq_by_cmp_equiv, on_equiv}
 use Rattle.std.proofs.lemmas.List.Elements.{All-cons, All-filter, All-from_recursion, All-head, All-tail, filter-append, filter_agree, recursion_from_All}
 use Rattle.std.proofs.lemmas.List.Folds.{fold-map, list_any-append}
@@ -22,28 +23,18 @@ use Rattle.bd_index.specs.Entries.{KeyAt, entries_from, entry_cmp, is_same_entry
 use Rattle.bd_index.specs.FoundKeyView.{found_entry}
 use Rattle.bd_index.specs.Repeats.{without_repeats}
 use Rattle.bd_index.specs.declared.found_key.FoundKey.{FoundKey}
-use Rattle.bd_index.proofs.EntryLemmas.{Rises, same_between, same_laws, ties_are_same}
+use Rattle.bd_index.proofs.EntryLemmas.{Rises, any_by_count, any_filter, same_between, same_laws, ties_are_same}
 use Rattle.bd_index.proofs.SpanLemmas.{all_pass}
 
 -- ---- filters
 
 pub filter_both : {A : Type 0} (p q : A → Bool) (xs : List A) → filter p (filter q xs) ≡ filter (λ x. q x && p x) xs
 filter_both p q [] = refl
-filter_both {A} p q (x ∷ xs) = go (q x) (filter_both p q xs)
-  where
-    go : (b : Bool) → filter p (filter q xs) ≡ filter (λ y. q y && p y) xs
-        → filter p (cond b (x ∷ filter q xs) (filter q xs)) ≡ cond (b && p x) (x ∷ filter (λ y. q y && p y) xs) (filter (λ y. q y && p y) xs)
-    go true h = ap (λ (l : List A). cond (p x) (x ∷ l) l) h
-    go false h = h
+filter_both p q (x ∷ xs) = grind (arith, filter_both p q xs)
 
 filter_view : {A B : Type 0} (f : A → B) (p : B → Bool) (xs : List A) → filter p (map f xs) ≡ map f (filter (λ x. p (f x)) xs)
 filter_view f p [] = refl
-filter_view {A} {B} f p (x ∷ xs) = go (p (f x)) (filter_view f p xs)
-  where
-    go : (b : Bool) → filter p (map f xs) ≡ map f (filter (λ y. p (f y)) xs)
-        → cond b (f x ∷ filter p (map f xs)) (filter p (map f xs)) ≡ map f (cond b (x ∷ filter (λ y. p (f y)) xs) (filter (λ y. p (f y)) xs))
-    go true h = ap (λ (l : List B). f x ∷ l) h
-    go false h = h
+filter_view f p (x ∷ xs) = grind (arith, filter_view f p xs)
 
 count_filter : {A : Type 0} (t p : A → Bool) (xs : List A) → count_by t (filter p xs) ≡ count_by (λ x. p x && t x) xs
 count_filter t p xs = sym (length-filter t (filter p xs)) ∙ ap length (filter_both t p xs) ∙ length-filter (λ x. p x && t x) xs
@@ -78,6 +69,18 @@ firsts_map {A} {B} f same (x ∷ xs) =
 pub all_firsts : {A : Type 0} (same : A → A → Bool) (P : A → Type 0) (xs : List A) → All P xs → All P (firsts same xs)
 all_firsts same P [] all = all
 all_firsts same P (x ∷ xs) all = All-cons P x _ (All-head P x xs all) (All-filter _ P (firsts same xs) (all_firsts same P xs (All-tail P x xs all)))
+
+-- a test that x does not pass, and what is the same as x no more
+pub any_firsts : {A : Type 0} (same : A → A → Bool) (t : A → Bool) → ((x y : A) → t x ≡ false → (not (same x y) && t y) ≡ t y) → (xs : List A) → list_any t (firsts same xs) ≡ list_any t xs
+any_firsts same t apart [] = refl
+any_firsts {A} same t apart (x ∷ xs) = go (t x) refl (any_firsts same t apart xs)
+  where
+    go : (b : Bool) → t x ≡ b → list_any t (firsts same xs) ≡ list_any t xs → (b || list_any t (filter (λ y. not (same x y)) (firsts same xs))) ≡ (b || list_any t xs)
+    go true e h = refl
+    go false e h = any_filter t (λ y. not (same x y)) (firsts same xs) ∙ ap (λ (p : A → Bool). list_any p (firsts same xs)) (fun_ext (λ y. apart x y e)) ∙ h
+
+absorbed : (b c : Bool) → b ≡ c → (not c && not b) ≡ not b
+absorbed b c e = grind arith
 
 module _ {A : Type 0} (same : A → A → Bool) (laws : IsEquivalence same) where
   -- the first of its class counts by itself
@@ -138,9 +141,6 @@ after_one k (x ∷ xs) up = go (is_same_entry k x) refl (after_one k xs (up.0.1,
     rest : List KeyAt
     rest = filter (λ y. not (is_same_entry x y)) (firsts is_same_entry xs)
 
-    absorbed : (b c : Bool) → b ≡ c → (not c && not b) ≡ not b
-    absorbed b c e = grind arith
-
     other : (e : KeyAt) → is_same_entry k x ≡ false → is_lt (entry_cmp e x) ≡ false → not (is_same_entry k e) ≡ true
     other e n above = ap not (false_from_ne_true (is_same_entry k e) (λ h. let f = same_between k x e h up.0.0 above in cc))
 
@@ -192,11 +192,24 @@ distinct_after kept (t ∷ ts) = go (list_any (λ k. equal k t) kept) refl (dist
         (λ e. ap not (list_any-append (λ k. equal k e) kept (t ∷ [])) ∙ neither (list_any (λ k. equal k e) kept) (equal t e)) (firsts equal ts)
         ∙ sym (filter_both (new kept) (λ e. not (equal t e)) (firsts equal ts)))
 
+distinct_firsts : (ks : List Tree) → distinct ks ≡ firsts equal ks
+distinct_firsts ks = distinct_after [] ks ∙ all_pass (λ e. true) (firsts equal ks) (λ i d lt. refl)
+
 firsts_at : (place : ℕ) (ks : List Tree) → firsts is_same_entry (keys_at place ks) ≡ keys_at place (distinct ks)
 firsts_at place ks =
     sym (firsts_map (λ k. (k, place)) is_same_entry ks)
-    ∙ ap (keys_at place) (ap (λ (b : Bool). firsts (λ x y. b && equal x y) ks) (eq-eqb place place refl)
-    ∙ sym (distinct_after [] ks ∙ all_pass (λ e. true) (firsts equal ks) (λ i d lt. refl)))
+    ∙ ap (keys_at place) (ap (λ (b : Bool). firsts (λ x y. b && equal x y) ks) (eq-eqb place place refl) ∙ sym (distinct_firsts ks))
+
+-- there are two where one is not equal to the first
+pub several : (ks : List Tree) (k : Tree) (ts : List Tree) → ks ≡ k ∷ ts → nat_lt 1 (length (distinct ks)) ≡ list_any (λ t. not (equal k t)) ts
+several ks k ts is =
+    let others : Tree → Bool = λ t. not (equal k t) in
+    ap (λ (l : List Tree). nat_lt 1 (length l)) (ap distinct is ∙ distinct_firsts (k ∷ ts))
+    ∙ one_less (length (filter others (firsts equal ts))) ∙ ap (nat_lt 0) (length-filter others (firsts equal ts)) ∙ sym (any_by_count others (firsts equal ts))
+    ∙ any_firsts equal others (λ x y h. absorbed (equal k y) (equal x y) (equal_laws.congr k x y (not-false (equal k x) h))) ts
+  where
+    one_less : (n : ℕ) → nat_lt 1 (suc n) ≡ nat_lt 0 n
+    one_less n = grind (arith, nat_tests)
 
 -- ---- the keys of a document, sorted and without repeats
 

@@ -1,5 +1,5 @@
 -- Entries in the order of a direction give the walk.
-use Rattle.std.proofs.Common.{◌≡◌, ◌≢◌, ◌+◌, ◌<◌, ℕ, zero, suc, Bool, true, false, cond, List, [], ◌∷◌, ◌++◌, Option, Some, length, get_or, map, filter, refl, sym, ap, ◌∙◌, subst, arith, add-zero, eq-eqb, inl, inr}
+use Rattle.std.proofs.Common.{◌≡◌, ◌≢◌, ◌+◌, ◌<◌, ℕ, zero, suc, Bool, true, false, cond, List, [], ◌∷◌, ◌++◌, Option, Some, None, length, get_or, map, filter, refl, sym, ap, ◌∙◌, subst, arith, add-zero, eq-eqb, inl, inr}
 use Rattle.std.specs.Prelude.{◌==◌, ◌&&◌, ◌||◌, nat_lt, not}
 use Rattle.std.specs.declared.cmp.Ordering.{Ordering}
 use Rattle.std.specs.declared.cmp.Ordering.TheVariants.{Less, Equal, Greater}
@@ -31,8 +31,8 @@ use Rattle.bd_index.specs.Entries.{AreEntries, KeyAt, entries_from, entries_of, 
 use Rattle.bd_index.specs.EntriesAhead.{fresh_places}
 use Rattle.bd_index.specs.Walk.{WalksAll}
 use Rattle.bd_index.proofs.DescentLemmas.{count_downward, downward_rises}
-use Rattle.bd_index.proofs.EntryLemmas.{Rises, any_filter, any_map, ascend_from_sorted, by_total, entry_by, first_not_less, neither_less}
-use Rattle.bd_index.proofs.RepeatLemmas.{all_firsts, filter_both, firsts, firsts_map}
+use Rattle.bd_index.proofs.EntryLemmas.{Rises, any_as_counts, any_map, ascend_from_sorted, by_total, entry_by, first_not_less, neither_less}
+use Rattle.bd_index.proofs.RepeatLemmas.{all_firsts, any_firsts, filter_both, firsts, firsts_map}
 use Rattle.bd_index.proofs.SpanLemmas.{all_pass}
 
 -- ---- the sort key of a document among its keys
@@ -42,10 +42,9 @@ pub record IsBest (dir : Dir) (ks : List Tree) (best : Tree) : Type 0 where
   pub low : list_any (λ k. is_lt (dir_cmp dir k best)) ks ≡ false
   pub there : list_any (λ k. is_eq (dir_cmp dir k best)) ks ≡ true
 
-record HasBest (dir : Dir) (ks : List Tree) : Type 0 where
-  best : Tree
-  is : earliest_key dir ks ≡ Some best
-  among : IsBest dir ks best
+abbrev BestOf : Dir → List Tree → Option Tree → Type 0
+BestOf dir ks None = ⊥
+BestOf dir ks (Some best) = IsBest dir ks best
 
 weak : (dir : Dir) → IsStrictWeakOrder (λ x y. is_lt (dir_cmp dir x y))
 weak dir = ranks_by (dir_total dir) (λ x. x)
@@ -54,51 +53,36 @@ all_after : (dir : Dir) (b k : Tree) (ks : List Tree) → is_lt (dir_cmp dir b k
 all_after dir b k [] h low = refl
 all_after dir b k (x ∷ xs) h low = let p = or_parts _ _ low in or_from _ _ ((weak dir).chain x b k p.0 h) (all_after dir b k xs h p.1)
 
-has_best : (dir : Dir) (k : Tree) (ks : List Tree) → HasBest dir (k ∷ ks)
-has_best dir k [] = let tied = tied_itself (dir_total dir) k in record { best = k; is = refl; among = record { low = or_from _ _ (ap is_lt tied) refl; there = or_left _ _ (ap is_eq tied) } }
-has_best dir k (x ∷ xs) = go (has_best dir x xs)
+has_best : (dir : Dir) (k : Tree) (ks : List Tree) → BestOf dir (k ∷ ks) (earliest_key dir (k ∷ ks))
+has_best dir k [] = let tied = tied_itself (dir_total dir) k in record { low = or_from _ _ (ap is_lt tied) refl; there = or_left _ _ (ap is_eq tied) }
+has_best dir k (x ∷ xs) = go (earliest_key dir (x ∷ xs)) (has_best dir x xs)
   where
     tied : dir_cmp dir k k ≡ Equal
     tied = tied_itself (dir_total dir) k
 
-    choose : (b : Tree) (c : Bool) → is_lt (dir_cmp dir b k) ≡ c → earliest_key dir (x ∷ xs) ≡ Some b → IsBest dir (x ∷ xs) b → HasBest dir (k ∷ x ∷ xs)
-    choose b true less is among = record {
-      best = b;
-      is = ap (earlier_key dir (Some k)) is ∙ ap (λ (c : Bool). cond c (Some b) (Some k)) less;
-      among = record { low = or_from _ _ ((weak dir).one_way b k less) among.low; there = or_right _ _ among.there };
-    }
-    choose b false less is among = record {
-      best = k;
-      is = ap (earlier_key dir (Some k)) is ∙ ap (λ (c : Bool). cond c (Some b) (Some k)) less;
-      among = record { low = or_from _ _ (ap is_lt tied) (all_after dir b k (x ∷ xs) less among.low); there = or_left _ _ (ap is_eq tied) };
-    }
+    choose : (b : Tree) (c : Bool) → is_lt (dir_cmp dir b k) ≡ c → IsBest dir (x ∷ xs) b → BestOf dir (k ∷ x ∷ xs) (cond c (Some b) (Some k))
+    choose b true less among = record { low = or_from _ _ ((weak dir).one_way b k less) among.low; there = or_right _ _ among.there }
+    choose b false less among = record { low = or_from _ _ (ap is_lt tied) (all_after dir b k (x ∷ xs) less among.low); there = or_left _ _ (ap is_eq tied) }
 
-    go : HasBest dir (x ∷ xs) → HasBest dir (k ∷ x ∷ xs)
-    go h = choose h.best (is_lt (dir_cmp dir h.best k)) refl h.is h.among
+    go : (e : Option Tree) → BestOf dir (x ∷ xs) e → BestOf dir (k ∷ x ∷ xs) (earlier_key dir (Some k) e)
+    go None among = absurd among
+    go (Some b) among = choose b (is_lt (dir_cmp dir b k)) refl among
 
 sort_key_best : (dir : Dir) (t : Tree) (path : Names) → IsBest dir (keys t path) (sort_key dir t path)
 sort_key_best dir t path = go (keys t path) (has_a_key t path)
   where
+    best : (ks : List Tree) (e : Option Tree) → BestOf dir ks e → IsBest dir ks (or_null e)
+    best ks None among = absurd among
+    best ks (Some b) among = among
+
     go : (ks : List Tree) → ks ≢ [] → IsBest dir ks (or_null (earliest_key dir ks))
     go [] n = absurd (n refl)
-    go (k ∷ ks) n = let h = has_best dir k ks in subst (λ (o : Option Tree). IsBest dir (k ∷ ks) (or_null o)) (sym h.is) h.among
+    go (k ∷ ks) n = best (k ∷ ks) (earliest_key dir (k ∷ ks)) (has_best dir k ks)
 
--- ---- whether some pass, by how many do
-
-any_by_count : {A : Type 0} (p : A → Bool) (xs : List A) → list_any p xs ≡ nat_lt 0 (count_by p xs)
-any_by_count p [] = refl
-any_by_count p (x ∷ xs) = positive (p x) (count_by p xs) (list_any p xs) (any_by_count p xs) ∙ ap (nat_lt 0) (sym (sum_by-cons (λ y. cond (p y) 1 0) x xs))
-  where
-    positive : (b : Bool) (c : ℕ) (r : Bool) → r ≡ nat_lt 0 c → (b || r) ≡ nat_lt 0 (cond b 1 0 + c)
-    positive b c r h = grind (arith, nat_tests)
-
-pub any_as_counts : {A : Type 0} (p : A → Bool) (xs ys : List A) → count_by p xs ≡ count_by p ys → list_any p xs ≡ list_any p ys
-any_as_counts p xs ys h = any_by_count p xs ∙ ap (nat_lt 0) h ∙ sym (any_by_count p ys)
+-- ---- whether some entry of the documents passes
 
 pub any_in : {A : Type 0} (t : A → Bool) (xs ys : List A) → list_any t (xs ++ ys) ≡ (list_any t xs || list_any t ys)
 any_in t xs ys = list_any-append t xs ys
-
--- ---- whether some entry of the documents passes
 
 any_entry : (t : KeyAt → Bool) (path : Names) (n : ℕ) (d : Doc) (ds : List Doc)
     → list_any t (entries_from false path n (d ∷ ds)) ≡ (list_any (λ k. t (k, n)) (keys (doc (fields_of d)) path) || list_any t (entries_from false path (n + 1) ds))
@@ -145,19 +129,8 @@ place_there path n (d ∷ ds) p =
 abbrev at_one : KeyAt → KeyAt → Bool
 at_one = on (λ e. e.1) (λ n m. n == m)
 
-any_firsts : (p : ℕ) (es : List KeyAt) → list_any (λ e. e.1 == p) (firsts at_one es) ≡ list_any (λ e. e.1 == p) es
-any_firsts p [] = refl
-any_firsts p (e ∷ es) = go (e.1 == p) refl (any_firsts p es)
-  where
-    other : (n m : ℕ) → (n == p) ≡ false → (not (n == m) && (m == p)) ≡ (m == p)
-    other n m h = grind (arith, nat_tests)
-
-    rest : List KeyAt
-    rest = filter (λ x. not (at_one e x)) (firsts at_one es)
-
-    go : (b : Bool) → (e.1 == p) ≡ b → list_any (λ x. x.1 == p) (firsts at_one es) ≡ list_any (λ x. x.1 == p) es → (b || list_any (λ x. x.1 == p) rest) ≡ (b || list_any (λ x. x.1 == p) es)
-    go true s h = refl
-    go false s h = any_filter (λ x. x.1 == p) (λ x. not (at_one e x)) (firsts at_one es) ∙ ap (λ (t : KeyAt → Bool). list_any t (firsts at_one es)) (fun_ext (λ x. other e.1 x.1 s)) ∙ h
+other_place : (n m p : ℕ) → (n == p) ≡ false → (not (n == m) && (m == p)) ≡ (m == p)
+other_place n m p h = grind (arith, nat_tests)
 
 -- places by keys that they have, then in their own order
 abbrev place_by : (Tree → Tree → Ordering) → (ℕ → Tree) → ℕ → ℕ → Ordering
@@ -267,7 +240,7 @@ module _ (dir : Dir) (path : Names) (ds : List Doc) (es : List KeyAt) (a : AreOr
         rw (get_or-map (λ e. e.1) fs i none d (omega arith), get_or-map (λ e. e.1) fs j none d (omega arith))
         (one_path (dir_cmp dir (key x.1) (key y.1)) (nat_cmp x.1 y.1) (placed (dir_cmp dir) (dir_total dir) key x y (ordered (dir_cmp dir) (dir_total dir) key es a.rises i j none before (omega arith))
         (first i none (omega arith) (there x.1 (below i none (omega arith)))) (first j none (omega arith) (there y.1 (below j none (omega arith))))));
-    all = λ p. sym (any_map (λ q. q == p) (λ e. e.1) (firsts at_one es)) ∙ any_firsts p es ∙ places_are p;
+    all = λ p. sym (any_map (λ q. q == p) (λ e. e.1) (firsts at_one es)) ∙ any_firsts at_one (λ e. e.1 == p) (λ x y h. other_place x.1 y.1 p h) es ∙ places_are p;
   }
 
   pub room_for : (n : ℕ) → n ≡ length ds → All (λ p. p < n) (map (λ e. e.1) es)

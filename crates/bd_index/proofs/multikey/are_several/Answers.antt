@@ -4,8 +4,8 @@ use Rattle.std.specs.List.{list_any}
 use Rattle.bd_value.specs.Order.{equal}
 use Rattle.bd_value.specs.Tree.{Tree}
 use Rattle.bd_path.specs.Key.{key_tree, key_trees}
-use Rattle.bd_index.proofs.EntriesLemmas.{several}
 use Rattle.bd_index.proofs.EntryLemmas.{any_map}
+use Rattle.bd_index.proofs.RepeatLemmas.{several}
 use Rattle.bd_index.proofs.multikey.are_several.Goals as goal
 
 pub returns : goal.returns

@@ -9,5 +9,4 @@ use Rattle.bd_index.proofs.index.Index.spans.Goals as goal
 
 pub returns-in-None : goal.returns-in-None
 returns-in-None c =
-    subst (λ b. IfOk c.whole_span.result (λ v. (h : IsIndexOf c.args.dump.now c.args.self.now) → CoverKeys h.keeps.entries (is_among (lent_bounds b)) v.items)) (sym c.in-None.is)
-    (if_ok c.whole_span.result (λ v every h. every c.args.dump.now h) c.whole_span.ensures)
+    rw c.in-None.is (if_ok c.whole_span.result (λ v every h. every c.args.dump.now h) c.whole_span.ensures)
