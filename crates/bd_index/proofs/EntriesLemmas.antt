@@ -1,6 +1,6 @@
 -- The entries of documents, one document after the other, and how many there are.
 use Rattle.std.proofs.Common.{◌≡◌, ◌≢◌, ◌+◌, ◌<◌, ◌≤◌, ℕ, zero, suc, Bool, true, false, cond, List, [], ◌∷◌, ◌++◌, Some, drop, length, refl, sym, ap, ◌∙◌, arith, add-one, length-append}
-use Rattle.std.specs.Prelude.{◌||◌, nat_lt, not, slice_get}
+use Rattle.std.specs.Prelude.{◌||◌, nat_lt, slice_get}
 use Rattle.std.specs.List.{count_by, list_any}
 use Rattle.std.proofs.lemmas.Bool.Decides.{nat_tests}
 use Rattle.std.proofs.lemmas.List.{length-map}
@@ -39,8 +39,8 @@ counted_own test old new own ks is h =
     ap (count_by test) is ∙ count-append test old own ∙ ap (λ (n : ℕ). count_by test old + n) h ∙ sym (count-append test old ks)
 
 -- the entries of one document more
-pub one_more : (sparse : Bool) (path : Names) (n : ℕ) (ds : List Doc) (d : Doc) (t : Tree) (ks : List Tree) → slice_get ds n ≡ Some d → t ≡ doc (fields_of d) → distinct ks ≡ indexed_keys sparse t path
-    → entries_from sparse path n (drop n ds) ≡ keys_at n (distinct ks) ++ entries_from sparse path (n + 1) (drop (n + 1) ds)
+pub one_more : (sparse : Bool) (path : Names) (n : ℕ) (ds : List Doc) (d : Doc) (t : Tree) (ks : List Tree) → slice_get ds n ≡ Some d
+    → t ≡ doc (fields_of d) → distinct ks ≡ indexed_keys sparse t path → entries_from sparse path n (drop n ds) ≡ keys_at n (distinct ks) ++ entries_from sparse path (n + 1) (drop (n + 1) ds)
 one_more sparse path n ds d t ks is tree listed =
     ap (entries_from sparse path n) (next_at ds n d is)
     ∙ ap (λ (x : List Tree). keys_at n x ++ entries_from sparse path (n + 1) (drop (n + 1) ds)) (sym (listed ∙ ap (λ (x : Tree). indexed_keys sparse x path) tree))
@@ -74,7 +74,8 @@ some_keys t path = go (keys t path) (has_a_key t path)
     go [] h = absurd (h refl)
     go (k ∷ ks) h = omega arith
 
-long : (path : Names) (n : ℕ) (d : Doc) (ds : List Doc) → length (entries_from false path n (d ∷ ds)) ≡ length (keys (doc (fields_of d)) path) + length (entries_from false path (n + 1) ds)
+long : (path : Names) (n : ℕ) (d : Doc) (ds : List Doc)
+    → length (entries_from false path n (d ∷ ds)) ≡ length (keys (doc (fields_of d)) path) + length (entries_from false path (n + 1) ds)
 long path n d ds = length-append (keys_at n (keys (doc (fields_of d)) path)) (entries_from false path (n + 1) ds)
     ∙ ap (λ (m : ℕ). m + length (entries_from false path (n + 1) ds)) (length-map (keys (doc (fields_of d)) path) (λ k. (k, n)))
 

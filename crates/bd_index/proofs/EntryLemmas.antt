@@ -63,7 +63,8 @@ ascend_from_sorted xs h = go xs (sorted_far (λ x y. is_lt (entry_cmp x y)) (ran
     go [] f = tt
     go (y ∷ ys) f = (recursion_from_All _ ys (λ k d lt. f 0 (suc k) d (omega arith) (omega arith)), go ys (λ i j d le lt. f (suc i) (suc j) d (omega arith) (omega arith)))
 
-pub keys_rise : (es : List KeyAt) → IsSortedBy (λ a b. is_lt (entry_cmp a b)) es → (i j : ℕ) (d : KeyAt) → i ≤ j → j < length es → is_lt (cmp (get_or es j d).0 (get_or es i d).0) ≡ false
+pub keys_rise : (es : List KeyAt) → IsSortedBy (λ a b. is_lt (entry_cmp a b)) es → (i j : ℕ) (d : KeyAt) → i ≤ j → j < length es
+    → is_lt (cmp (get_or es j d).0 (get_or es i d).0) ≡ false
 keys_rise es sorted i j d le lt = first_not_less _ _ (sorted_far (λ x y. is_lt (entry_cmp x y)) (ranks_by entry_total (λ x. x)) es sorted i j d le lt)
 
 -- ---- entries seen through a view

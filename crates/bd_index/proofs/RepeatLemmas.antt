@@ -1,25 +1,23 @@
 -- Entries that were sorted, without repeats, are the entries of the documents.
-use Rattle.std.proofs.Common.{◌≡◌, ◌+◌, ◌<◌, ◌≤◌, ℕ, suc, Bool, true, false, cond, List, [], ◌∷◌, ◌++◌, Option, Some, None, filter, length, append_assoc, append-nil}
-use Rattle.std.proofs.Common.{get_or, drop, map, refl, sym, ap, ap₂, ◌∙◌, arith, eq-eqb}
+use Rattle.std.proofs.Common.{◌≡◌, ◌+◌, ℕ, suc, Bool, true, false, cond, List, [], ◌∷◌, ◌++◌, Some, None, filter, length, append_assoc, append-nil}
+use Rattle.std.proofs.Common.{get_or, map, refl, sym, ap, ap₂, ◌∙◌, arith, eq-eqb}
 use Rattle.std.proofs.Math.Path.{fun_ext}
 use Rattle.std.specs.Prelude.{◌&&◌, ◌||◌, nat_lt, not}
 use Rattle.std.specs.Cmp.{IsEquivalence}
-use Rattle.std.specs.List.{All, AllByRecursion, count_by, list_any}
-use Rattle.std.specs.List.Sorted.{IsSortedBy, IsStableBy, ties}
+use Rattle.std.specs.List.{All, count_by, list_any}
+use Rattle.std.specs.List.Sorted.{IsStableBy, ties}
 use Rattle.std.specs.Ordering.{is_lt, on}
 use Rattle.std.proofs.lemmas.Bool.{false_from_ne_true, not-false}
 use Rattle.std.proofs.lemmas.Bool.Decides.{nat_tests}
 use Rattle.std.proofs.lemmas.Cmp.{eq_by_cmp_equiv, on_equiv}
-use Rattle.std.proofs.lemmas.List.Elements.{All-cons, All-filter, All-from_recursion, All-head, All-tail, filter-append, filter_agree, recursion_from_All}
+use Rattle.std.proofs.lemmas.List.Elements.{All-cons, All-filter, All-from_recursion, All-head, All-tail, filter-append, filter_agree}
 use Rattle.std.proofs.lemmas.List.Folds.{fold-map, list_any-append}
-use Rattle.std.proofs.lemmas.List.Sorted.{ranks_by, sorted_far}
-use Rattle.std.proofs.lemmas.List.Sums.{length-filter, sum_by-cons, sum_by-append}
+use Rattle.std.proofs.lemmas.List.Sums.{length-filter, sum_by-cons}
 use Rattle.bd_value.specs.Order.{cmp, equal}
-use Rattle.bd_value.specs.Tree.{Tree, Doc, doc, fields_of}
+use Rattle.bd_value.specs.Tree.{Tree}
 use Rattle.bd_value.proofs.OrderLemmas.LawsLemmas.{cmp_total}
-use Rattle.bd_path.specs.KeyList.{distinct, indexed_keys, with_keys}
-use Rattle.bd_path.specs.Names.{Names}
-use Rattle.bd_index.specs.Entries.{KeyAt, entries_from, entry_cmp, is_same_entry, keys_at}
+use Rattle.bd_path.specs.KeyList.{distinct, with_keys}
+use Rattle.bd_index.specs.Entries.{KeyAt, entry_cmp, is_same_entry, keys_at}
 use Rattle.bd_index.specs.FoundKeyView.{found_entry}
 use Rattle.bd_index.specs.Repeats.{without_repeats}
 use Rattle.bd_index.specs.declared.found_key.FoundKey.{FoundKey}
@@ -86,7 +84,9 @@ module _ {A : Type 0} (same : A → A → Bool) (laws : IsEquivalence same) wher
   -- the first of its class counts by itself
   count_first : (front back : List A) (x : A) (t : A → Bool) → filter (same x) front ≡ []
       → count_by t (firsts same (front ++ x ∷ back)) ≡ cond (t x) 1 0 + count_by (λ y. not (same x y) && t y) (firsts same (front ++ back))
-  count_first [] back x t none = sum_by-cons (λ (y : A). cond (t y) 1 0) x (filter (λ y. not (same x y)) (firsts same back)) ∙ ap (λ (n : ℕ). cond (t x) 1 0 + n) (count_filter t (λ y. not (same x y)) (firsts same back))
+  count_first [] back x t none =
+      sum_by-cons (λ (y : A). cond (t y) 1 0) x (filter (λ y. not (same x y)) (firsts same back))
+      ∙ ap (λ (n : ℕ). cond (t x) 1 0 + n) (count_filter t (λ y. not (same x y)) (firsts same back))
   count_first (f ∷ front) back x t none = go (same x f) refl none (λ u n. count_first front back x u n)
     where
       all : List A
@@ -113,7 +113,8 @@ module _ {A : Type 0} (same : A → A → Bool) (laws : IsEquivalence same) wher
   one_class e x xs h = filter_agree (same e) (same x) (λ y. laws.congr e x y h) xs
 
   -- each class without its first
-  class_left : (x e : A) (xs ys : List A) (s : Taken (same x) x (filter (same x) xs) ys) → filter (same e) ys ≡ filter (same e) (x ∷ xs) → filter (same e) (s.front ++ s.back) ≡ filter (same e) xs
+  class_left : (x e : A) (xs ys : List A) (s : Taken (same x) x (filter (same x) xs) ys) → filter (same e) ys ≡ filter (same e) (x ∷ xs)
+      → filter (same e) (s.front ++ s.back) ≡ filter (same e) xs
   class_left x e xs ys s h = filter-append (same e) s.front s.back ∙ go (same e x) refl (sym (filter-append (same e) s.front (x ∷ s.back)) ∙ ap (filter (same e)) (sym s.is) ∙ h)
     where
       go : (b : Bool) → same e x ≡ b → filter (same e) s.front ++ cond b (x ∷ filter (same e) s.back) (filter (same e) s.back) ≡ cond b (x ∷ filter (same e) xs) (filter (same e) xs)
@@ -185,7 +186,8 @@ distinct_after kept (t ∷ ts) = go (list_any (λ k. equal k t) kept) refl (dist
         → with_keys (kept ++ t ∷ []) ts ≡ (kept ++ t ∷ []) ++ filter (new (kept ++ t ∷ [])) (firsts equal ts)
         → with_keys (cond b kept (kept ++ t ∷ [])) ts ≡ kept ++ cond (not b) (t ∷ filter (new kept) rest) (filter (new kept) rest)
     go true old on after =
-        on ∙ ap (λ (l : List Tree). kept ++ l) (sym (filter_both (new kept) (λ e. not (equal t e)) (firsts equal ts) ∙ filter_agree _ (new kept) (λ e. passed e (equal t e) refl old) (firsts equal ts)))
+        on ∙ ap (λ (l : List Tree). kept ++ l) (sym (filter_both (new kept) (λ e. not (equal t e)) (firsts equal ts)
+        ∙ filter_agree _ (new kept) (λ e. passed e (equal t e) refl old) (firsts equal ts)))
     go false old on after =
         after ∙ append_assoc kept (t ∷ []) (filter (new (kept ++ t ∷ [])) (firsts equal ts))
         ∙ ap (λ (l : List Tree). kept ++ t ∷ l) (filter_agree (new (kept ++ t ∷ [])) (λ e. not (equal t e) && new kept e)
@@ -216,8 +218,8 @@ several ks k ts is =
 abbrev pub found_lt : FoundKey → FoundKey → Bool
 found_lt a b = is_lt (entry_cmp (found_entry a) (found_entry b))
 
-pub own_once : (place : ℕ) (ks : List Tree) (own sorted : List FoundKey) → map found_entry own ≡ keys_at place ks → Rises cmp (map found_entry sorted) → IsStableBy found_lt own sorted
-    → (test : KeyAt → Bool) → count_by test (without_repeats None (map found_entry sorted)) ≡ count_by test (keys_at place (distinct ks))
+pub own_once : (place : ℕ) (ks : List Tree) (own sorted : List FoundKey) → map found_entry own ≡ keys_at place ks
+    → Rises cmp (map found_entry sorted) → IsStableBy found_lt own sorted → (test : KeyAt → Bool) → count_by test (without_repeats None (map found_entry sorted)) ≡ count_by test (keys_at place (distinct ks))
 own_once place ks own sorted is up stable test =
     let same = on found_entry is_same_entry in
     ap (count_by test) (once_sorted (map found_entry sorted) up ∙ sym (firsts_map found_entry is_same_entry sorted))

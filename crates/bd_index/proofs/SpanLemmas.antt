@@ -31,10 +31,12 @@ use Rattle.bd_index.proofs.EntryLemmas.{keys_rise}
 pub parted : (cut : Cut) (es : List KeyAt) → IsSortedBy (λ a b. is_lt (entry_cmp a b)) es → IsPartitionedBy (λ e. is_before cut e.0) es
 parted cut es sorted i j d le lt h = falls_once cut (get_or es i d).0 (get_or es j d).0 (keys_rise es sorted i j d le lt) h
 
-pub below_next : {A : Type 0} (p : A → Bool) (es : List A) (m : ℕ) → IsPartitionedBy p es → m < length es → ((d : A) → p (get_or es m d) ≡ true) → AllWithin (λ e. p e ≡ true) es 0 (m + 1)
+pub below_next : {A : Type 0} (p : A → Bool) (es : List A) (m : ℕ) → IsPartitionedBy p es → m < length es → ((d : A) → p (get_or es m d) ≡ true)
+    → AllWithin (λ e. p e ≡ true) es 0 (m + 1)
 below_next p es m up lt here k d low high = up k m d (omega arith) lt (here d)
 
-pub above_next : {A : Type 0} (p : A → Bool) (es : List A) (m : ℕ) → IsPartitionedBy p es → ((d : A) → p (get_or es m d) ≡ false) → AllWithin (λ e. p e ≡ false) es m (length es)
+pub above_next : {A : Type 0} (p : A → Bool) (es : List A) (m : ℕ) → IsPartitionedBy p es → ((d : A) → p (get_or es m d) ≡ false)
+    → AllWithin (λ e. p e ≡ false) es m (length es)
 above_next p es m up here k d low high = false_from_ne_true (p (get_or es k d)) (λ e. let f = up m k d low high e in let g = here d in cc)
 
 -- what the test of an entry tells
@@ -158,7 +160,8 @@ in_piece xs from to k d lt =
 -- of entries in spans that are in order, where the positions that are covered are those that pass
 pub pieces_pass : {A : Type 0} (p : A → Bool) (es : List A) (low : ℕ) (spans : List Span) → AreInOrder low (length es) spans
     → ((k : ℕ) (d : A) → low ≤ k → k < length es → is_covered spans k ≡ p (get_or es k d)) → pieces es spans ≡ filter p (drop low es)
-pieces_pass p es low [] order cover = sym (none_pass p (drop low es) (λ k d lt. let n = length-drop low es in ap p (get_or-drop low es k d) ∙ sym (cover (low + k) d (omega arith) (omega arith))))
+pieces_pass p es low [] order cover = sym (none_pass p (drop low es) (λ k d lt.
+    let n = length-drop low es in ap p (get_or-drop low es k d) ∙ sym (cover (low + k) d (omega arith) (omega arith))))
 pieces_pass {A} p es low (s ∷ spans) order cover =
     let a = order.0 in
     let b = order.1 in
@@ -183,7 +186,8 @@ pieces_map {A} {B} f xs (s ∷ spans) =
 
 -- what is covered, with the keys in the parts that are left, is what all parts have
 abbrev pub UnionSoFar : List KeyAt → List Span → List Bounds → ℕ → Type 0
-UnionSoFar es all parts i = (k : ℕ) (d : KeyAt) → k < length es → (is_covered all k || union (map keys_within (drop i parts)) (get_or es k d).0) ≡ union (map keys_within parts) (get_or es k d).0
+UnionSoFar es all parts i = (k : ℕ) (d : KeyAt) → k < length es → (is_covered all k
+    || union (map keys_within (drop i parts)) (get_or es k d).0) ≡ union (map keys_within parts) (get_or es k d).0
 
 abbrev pub GapsSoFar : List KeyAt → List Span → List Bounds → ℕ → Type 0
 GapsSoFar es gaps parts i = (k : ℕ) (d : KeyAt) → k < length es → (is_covered gaps k

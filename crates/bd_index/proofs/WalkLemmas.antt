@@ -1,14 +1,14 @@
 -- Entries in the order of a direction give the walk.
-use Rattle.std.proofs.Common.{◌≡◌, ◌≢◌, ◌+◌, ◌<◌, ℕ, zero, suc, Bool, true, false, cond, List, [], ◌∷◌, ◌++◌, Option, Some, None, length, get_or, map, filter, refl, sym, ap, ◌∙◌, subst, arith, add-zero, eq-eqb, inl, inr}
+use Rattle.std.proofs.Common.{◌≡◌, ◌≢◌, ◌+◌, ◌<◌, ℕ, zero, suc, Bool, true, false, cond, List, [], ◌∷◌, ◌++◌, Option, Some, None, length}
+use Rattle.std.proofs.Common.{get_or, map, filter, refl, sym, ap, ◌∙◌, subst, arith, add-zero, eq-eqb, inl, inr}
 use Rattle.std.specs.Prelude.{◌==◌, ◌&&◌, ◌||◌, nat_lt, not}
 use Rattle.std.specs.declared.cmp.Ordering.{Ordering}
-use Rattle.std.specs.declared.cmp.Ordering.TheVariants.{Less, Equal, Greater}
+use Rattle.std.specs.declared.cmp.Ordering.TheVariants.{Less, Equal}
 use Rattle.std.specs.Cmp.{IsStrictWeakOrder, IsTotalOrder}
 use Rattle.std.specs.Ordering.{is_lt, is_eq, nat_cmp, on, ordering_then, ordering_reverse}
 use Rattle.std.specs.List.{list_any, AllByRecursion, AllPairs, count_by, All}
 use Rattle.std.proofs.Math.ListN.{set, length-set}
-use Rattle.std.proofs.Math.Path.{fun_ext}
-use Rattle.std.proofs.lemmas.Bool.{and_parts, cases_eq, eqb-true, false_from_ne_true, ltb-true, not-true, or_from, or_left, or_parts, or_right}
+use Rattle.std.proofs.lemmas.Bool.{and_parts, cases_eq, false_from_ne_true, ltb-true, not-true, or_from, or_left, or_parts, or_right}
 use Rattle.std.proofs.lemmas.Bool.Decides.{nat_tests}
 use Rattle.std.proofs.lemmas.Cmp.{alike_right, tied_itself}
 use Rattle.std.proofs.lemmas.List.{get_or-map, get_or-set_same, get_or-set_other, length-map}
@@ -16,7 +16,6 @@ use Rattle.std.proofs.lemmas.List.Elements.{All-cons, All-filter, All-from_recur
 use Rattle.std.proofs.lemmas.List.Folds.{Any-from_list_any, list_any-append, list_any_at, list_any_none}
 use Rattle.std.proofs.lemmas.List.Kept.{AllPairs-cons, AllPairs-filter}
 use Rattle.std.proofs.lemmas.List.Sorted.{ranks_by}
-use Rattle.std.proofs.lemmas.List.Sums.{sum_by-cons}
 use Rattle.bd_value.specs.Tree.{Tree, Doc, doc, fields_of, leaf, null}
 use Rattle.bd_path.specs.Earliest.{dir_cmp, earlier_key, earliest_key, or_null, sort_key}
 use Rattle.bd_path.specs.KeyList.{keys}
@@ -49,7 +48,8 @@ BestOf dir ks (Some best) = IsBest dir ks best
 weak : (dir : Dir) → IsStrictWeakOrder (λ x y. is_lt (dir_cmp dir x y))
 weak dir = ranks_by (dir_total dir) (λ x. x)
 
-all_after : (dir : Dir) (b k : Tree) (ks : List Tree) → is_lt (dir_cmp dir b k) ≡ false → list_any (λ x. is_lt (dir_cmp dir x b)) ks ≡ false → list_any (λ x. is_lt (dir_cmp dir x k)) ks ≡ false
+all_after : (dir : Dir) (b k : Tree) (ks : List Tree) → is_lt (dir_cmp dir b k) ≡ false → list_any (λ x. is_lt (dir_cmp dir x b)) ks ≡ false
+    → list_any (λ x. is_lt (dir_cmp dir x k)) ks ≡ false
 all_after dir b k [] h low = refl
 all_after dir b k (x ∷ xs) h low = let p = or_parts _ _ low in or_from _ _ ((weak dir).chain x b k p.0 h) (all_after dir b k xs h p.1)
 
@@ -113,8 +113,9 @@ module _ (t : KeyAt → Bool) (path : Names) where
 place_there : (path : Names) (n : ℕ) (ds : List Doc) (p : ℕ) → list_any (λ e. e.1 == p) (entries_from false path n ds) ≡ (not (nat_lt p n) && nat_lt p (n + length ds))
 place_there path n [] p = grind (arith, nat_tests)
 place_there path n (d ∷ ds) p =
-    joined (list_any (λ e. e.1 == p) (entries_from false path (n + 1) ds)) (length ds) (place_there path (n + 1) ds p)
-    (any_entry (λ e. e.1 == p) path n d ds ∙ ap (λ (b : Bool). b || list_any (λ e. e.1 == p) (entries_from false path (n + 1) ds)) (every (n == p) (keys (doc (fields_of d)) path) (has_a_key (doc (fields_of d)) path)))
+    let rest = list_any (λ e. e.1 == p) (entries_from false path (n + 1) ds) in
+    let here = every (n == p) (keys (doc (fields_of d)) path) (has_a_key (doc (fields_of d)) path) in
+    joined rest (length ds) (place_there path (n + 1) ds p) (any_entry (λ e. e.1 == p) path n d ds ∙ ap (λ (b : Bool). b || rest) here)
   where
     every : (b : Bool) (ks : List Tree) → ks ≢ [] → list_any (λ k. b) ks ≡ b
     every b [] some = absurd (some refl)
@@ -156,13 +157,15 @@ module _ (R : Tree → Tree → Ordering) (total : IsTotalOrder R) (key : ℕ �
       let all : All (λ y. is_lt (entry_by R y e) ≡ false) (e ∷ es) = All-from_recursion _ (e ∷ es) (ap is_lt (tied_itself (by_total total) e), up) in
       let later : is_lt (entry_by R x e) ≡ false = subst (λ (y : KeyAt). is_lt (entry_by R y e) ≡ false) a.3 (all a.0 x a.2) in
       let tied : R x.0 (key e.1) ≡ Equal = equal_is (R x.0 (key e.1)) (and_parts (x.1 == e.1) _ a.4).1 in
-      neither_less (R e.0 (key e.1)) (R (key e.1) e.0) (total.antisymm e.0 (key e.1)) low (sym (ap is_lt (total.congr x.0 (key e.1) e.0 tied)) ∙ first_not_less (R x.0 e.0) (nat_cmp x.1 e.1) later)
+      neither_less (R e.0 (key e.1)) (R (key e.1) e.0) (total.antisymm e.0 (key e.1)) low
+      (sym (ap is_lt (total.congr x.0 (key e.1) e.0 tied)) ∙ first_not_less (R x.0 e.0) (nat_cmp x.1 e.1) later)
 
   keyed : (es : List KeyAt) → Rises R es → All (λ e. is_lt (R e.0 (key e.1)) ≡ false) es → All (λ f. There es f → R f.0 (key f.1) ≡ Equal) (firsts at_one es)
   keyed [] up low = All-nil _
   keyed (e ∷ es) up low =
       let low_after = All-tail (λ x. is_lt (R x.0 (key x.1)) ≡ false) e es low in
-      All-cons (λ f. There (e ∷ es) f → R f.0 (key f.1) ≡ Equal) e (filter (λ x. not (at_one e x)) (firsts at_one es)) (first_is e es (All-head (λ x. is_lt (R x.0 (key x.1)) ≡ false) e es low) up.0)
+      All-cons (λ f. There (e ∷ es) f → R f.0 (key f.1) ≡ Equal) e (filter (λ x. not (at_one e x)) (firsts at_one es))
+      (first_is e es (All-head (λ x. is_lt (R x.0 (key x.1)) ≡ false) e es low) up.0)
       (λ i d lt there. All-filter (λ x. not (at_one e x)) (λ f. There es f → R f.0 (key f.1) ≡ Equal) (firsts at_one es) (keyed es up.1 low_after) i d lt
       (rw (not-true _ (filter_passes (λ x. not (at_one e x)) (firsts at_one es) i d lt)) at there))
 
@@ -238,7 +241,8 @@ module _ (dir : Dir) (path : Names) (ds : List Doc) (es : List KeyAt) (a : AreOr
         let below = all_firsts at_one (λ e. e.1 < length ds) es places_below in
         let first = keyed (dir_cmp dir) (dir_total dir) key es a.rises low in
         rw (get_or-map (λ e. e.1) fs i none d (omega arith), get_or-map (λ e. e.1) fs j none d (omega arith))
-        (one_path (dir_cmp dir (key x.1) (key y.1)) (nat_cmp x.1 y.1) (placed (dir_cmp dir) (dir_total dir) key x y (ordered (dir_cmp dir) (dir_total dir) key es a.rises i j none before (omega arith))
+        (one_path (dir_cmp dir (key x.1) (key y.1)) (nat_cmp x.1 y.1)
+        (placed (dir_cmp dir) (dir_total dir) key x y (ordered (dir_cmp dir) (dir_total dir) key es a.rises i j none before (omega arith))
         (first i none (omega arith) (there x.1 (below i none (omega arith)))) (first j none (omega arith) (there y.1 (below j none (omega arith))))));
     all = λ p. sym (any_map (λ q. q == p) (λ e. e.1) (firsts at_one es)) ∙ any_firsts at_one (λ e. e.1 == p) (λ x y h. other_place x.1 y.1 p h) es ∙ places_are p;
   }
@@ -262,6 +266,9 @@ fresh_firsts seen (p ∷ ps) below =
     all : List ℕ
     all = firsts (λ n m. n == m) ps
 
+    others : List ℕ
+    others = filter (λ q. not (p == q)) all
+
     marked : (q : ℕ) → p < length seen → new (set seen p true) q ≡ (not (p == q) && new seen q)
     marked q lt = elim (cases_eq q p) [
       | inl e ↦ (let s = get_or-set_same seen p true true lt in grind (arith, nat_tests))
@@ -272,7 +279,7 @@ fresh_firsts seen (p ∷ ps) below =
     passed q e = grind (arith, nat_tests)
 
     go : (b : Bool) → get_or seen p true ≡ b → p < length seen → fresh_places seen ps ≡ filter (new seen) all → fresh_places (set seen p true) ps ≡ filter (new (set seen p true)) all
-        → cond b (fresh_places seen ps) (p ∷ fresh_places (set seen p true) ps) ≡ cond (not b) (p ∷ filter (new seen) (filter (λ q. not (p == q)) all)) (filter (new seen) (filter (λ q. not (p == q)) all))
+        → cond b (fresh_places seen ps) (p ∷ fresh_places (set seen p true) ps) ≡ cond (not b) (p ∷ filter (new seen) others) (filter (new seen) others)
     go true e lt on after = on ∙ sym (filter_both (new seen) (λ q. not (p == q)) all ∙ filter_agree _ (new seen) (λ q. passed q e) all)
     go false e lt on after = ap (λ (l : List ℕ). p ∷ l) (after ∙ filter_agree (new (set seen p true)) _ (λ q. marked q lt) all ∙ sym (filter_both (new seen) (λ q. not (p == q)) all))
 
@@ -283,6 +290,7 @@ pub walks_fresh : (dir : Dir) (path : Names) (ds : List Doc) (es : List KeyAt) (
 walks_fresh dir path ds es seen a size none =
     let ps = map (λ e. e.1) es in
     let below : All (λ p. p < length seen) ps = room_for dir path ds es a (length seen) size in
-    let fresh : filter (λ p. not (get_or seen p true)) (firsts (λ n m. n == m) ps) ≡ firsts (λ n m. n == m) ps =
-    all_pass (λ p. not (get_or seen p true)) (firsts (λ n m. n == m) ps) (λ i d lt. let low = all_firsts (λ n m. n == m) (λ p. p < length seen) ps below i d lt in ap not (none _ true (omega arith))) in
+    let all = firsts (λ n m. n == m) ps in
+    let fresh = all_pass (λ p. not (get_or seen p true)) all (λ i d lt.
+    let low = all_firsts (λ n m. n == m) (λ p. p < length seen) ps below i d lt in ap not (none (get_or all i d) true (omega arith))) in
     subst (WalksAll dir path ds) (firsts_map (λ e. e.1) (λ n m. n == m) es ∙ sym fresh ∙ sym (fresh_firsts seen ps below)) (walks dir path ds es a)

@@ -1,6 +1,6 @@
 -- A walk is a source of places: it has that of each document, and none twice.
-use Rattle.std.proofs.Common.{◌≡◌, ◌<◌, ℕ, zero, suc, Bool, true, false, List, [], ◌∷◌, length, get_or, refl, sym, ap, ◌∙◌, arith, subst, eq-eqb}
-use Rattle.std.specs.Prelude.{◌==◌, ◌||◌, Contains}
+use Rattle.std.proofs.Common.{◌≡◌, ◌<◌, ℕ, Bool, true, false, List, [], ◌∷◌, length, get_or, refl, sym, ◌∙◌, arith, subst, eq-eqb}
+use Rattle.std.specs.Prelude.{◌==◌, Contains}
 use Rattle.std.specs.Cmp.{IsTotalOrder}
 use Rattle.std.specs.List.{list_any}
 use Rattle.std.proofs.lemmas.Bool.{eqb-true, lt-ltb, ltb-true}
@@ -39,7 +39,8 @@ walk_law n hits ps w = record {
   distinct = λ i j d a b same.
       let by = walk_order w.dir w.path w.documents in
       let up : before by (get_or ps i d) (get_or ps j d) ≡ true = w.walks.order i j d a b in
-      let none : before by (get_or ps i d) (get_or ps j d) ≡ false = subst (λ (p : ℕ). before by (get_or ps i d) p ≡ false) same ((before_strict by (order_total w.dir w.path w.documents)).irreflexive (get_or ps i d)) in
+      let strict = before_strict by (order_total w.dir w.path w.documents) in
+      let none : before by (get_or ps i d) (get_or ps j d) ≡ false = subst (λ (p : ℕ). before by (get_or ps i d) p ≡ false) same (strict.irreflexive (get_or ps i d)) in
       let f : true ≡ false = sym up ∙ none in cc;
   complete = λ p lt hit. contained ps p (w.walks.all p ∙ lt-ltb p (length w.documents) (let c = w.count in omega arith));
 }

@@ -1,8 +1,6 @@
-use Rattle.std.proofs.Common.{◌≡◌, Bool, List, [], ◌∷◌, map, refl, sym, ap, ◌∙◌}
-use Rattle.std.specs.Prelude.{◌||◌, not}
-use Rattle.std.specs.List.{list_any}
+use Rattle.std.proofs.Common.{sym, ap, ◌∙◌}
+use Rattle.std.specs.Prelude.{not}
 use Rattle.bd_value.specs.Order.{equal}
-use Rattle.bd_value.specs.Tree.{Tree}
 use Rattle.bd_path.specs.Key.{key_tree, key_trees}
 use Rattle.bd_index.proofs.EntryLemmas.{any_map}
 use Rattle.bd_index.proofs.RepeatLemmas.{several}

@@ -1,8 +1,8 @@
-use Rattle.std.proofs.Common.{◌≡◌, ◌+◌, ◌≤◌, List, All, get_or, refl, rules, sym, ap, arith}
+use Rattle.std.proofs.Common.{◌≡◌, ◌≤◌, All, get_or, refl, rules, ap, arith}
 use Rattle.std.specs.List.Sorted.{IsNonDecreasingBy}
 use Rattle.std.proofs.lemmas.List.{drop_all, get_or_default}
 use Rattle.std.proofs.lemmas.List.Sorted.{All-permutation, IsNonDecreasingBy-from_sort_by_key, list_any-IsPermutation}
-use Rattle.bd_index.specs.Spans.{is_covered, is_in_span}
+use Rattle.bd_index.specs.Spans.{is_in_span}
 use Rattle.bd_index.specs.declared.span.Span.{Span}
 use Rattle.bd_index.proofs.SpanLemmas.{order_to, orders_one, orders_passed}
 use Rattle.bd_index.proofs.span.in_order.Goals.{then-from-span+in_ok-push, else-from-span}

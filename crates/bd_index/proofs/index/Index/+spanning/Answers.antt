@@ -1,10 +1,6 @@
-use Rattle.std.proofs.Common.{◌≡◌, ◌≤◌, List, [], ◌∷◌, ◌++◌, All, length, arith, sym, ap, ◌∙◌, subst}
+use Rattle.std.proofs.Common.{◌≡◌, ◌≤◌, length, arith}
 use Rattle.std.proofs.lemmas.List.Elements.{All-append}
-use Rattle.bd_bounds.specs.Bounds.{KeySet}
-use Rattle.bd_bounds.specs.BoundsView.{keys_between, keys_within}
-use Rattle.bd_bounds.specs.declared.bounds.Bounds.{Bounds}
-use Rattle.bd_index.specs.Spans.{AreInOrder, CoverKeys}
-use Rattle.bd_index.specs.declared.span.Span.{Span}
+use Rattle.bd_bounds.specs.BoundsView.{keys_between}
 use Rattle.bd_index.proofs.OrderLemmas.{count_kept}
 use Rattle.bd_index.proofs.SpanLemmas.{covers_one, gaps_on, gaps_whole, keys_within-Range, order_within, union_on, union_whole}
 use Rattle.bd_index.proofs.index.Index.+spanning.Goals as goal

@@ -1,4 +1,4 @@
-use Rattle.std.proofs.Common.{List, ℕ, length, subst, sym, ap, ◌∙◌, eqb, arith}
+use Rattle.std.proofs.Common.{List, ℕ, length, sym, ap, ◌∙◌, eqb, arith}
 use Rattle.std.specs.Prelude.{◌==◌}
 use Rattle.std.specs.List.{list_any}
 use Rattle.std.proofs.lemmas.List.Filters.{dedup_is}

@@ -7,10 +7,12 @@ use Rattle.bd_index.proofs.walk.WalkIterator.next.Goals as goal
 pub invariant_of-self : goal.invariant_of-self
 invariant_of-self c = record {
   room = rw (length-set c.loop-place.self.seen.items c.in-Some.place true)
-      (All-rest (λ p. p < length c.loop-place.self.seen.items) c.in-Some.place (places_ahead c.in-Some.after) (places_ahead c.loop-place.self.order) c.in-Some.ensures.some c.loop-place.self.room);
+      (All-rest (λ p. p < length c.loop-place.self.seen.items) c.in-Some.place (places_ahead c.in-Some.after) (places_ahead c.loop-place.self.order)
+      c.in-Some.ensures.some c.loop-place.self.room);
 }
 
 pub invariant_of-self-else-not-index : goal.invariant_of-self-else-not-index
 invariant_of-self-else-not-index c = record {
-  room = All-rest (λ p. p < length c.loop-place.self.seen.items) c.in-Some.place (places_ahead c.in-Some.after) (places_ahead c.loop-place.self.order) c.in-Some.ensures.some c.loop-place.self.room;
+  room = All-rest (λ p. p < length c.loop-place.self.seen.items) c.in-Some.place (places_ahead c.in-Some.after) (places_ahead c.loop-place.self.order)
+      c.in-Some.ensures.some c.loop-place.self.room;
 }
