@@ -1,5 +1,5 @@
 -- What an operator finds at the end of a path is a key, or an array whose elements are keys.
-use Rattle.std.proofs.Common.{◌≡◌, ℕ, ◌-◌, ◌==◌, Bool, true, false, cond, not, ◌&&◌, List, [], ◌∷◌, length, map, Some, None, ◌⊎◌, inl, inr, refl, sym, ap, ◌∙◌, subst, arith, is_eq, eqb-true, eq-eqb}
+use Rattle.std.proofs.Common.{◌≡◌, ℕ, ◌-◌, ◌==◌, Bool, true, false, cond, not, ◌&&◌, List, [], ◌∷◌, length, map, Some, None, ◌⊎◌, inl, inr, refl, sym, ap, ◌∙◌, arith, is_eq, eqb-true, eq-eqb}
 use Rattle.std.specs.Prelude.{is_some, nat_le}
 use Rattle.std.specs.List.{list_any, list_all}
 use Rattle.std.proofs.lemmas.Bool.{and_parts, and_from, not-true, or_cases, or_left, or_right}
@@ -17,13 +17,13 @@ use Rattle.bd_path.specs.Names.{Names}
 use Rattle.bd_path.specs.Reach.{End, is_document, reach}
 use Rattle.bd_path.proofs.LawsLemmas.{absent}
 use Rattle.bd_path.proofs.MemberLemmas.{In, Found, found_from, any_at}
-use Rattle.bd_filter.specs.Filter.{Operator, equals, compares, is_in, has_all, has_type, has_size, exists, negates, has_element, has_document}
+use Rattle.bd_filter.specs.Filter.{Operator, equals, compares, is_in, has_all, has_type, has_size, exists}
 use Rattle.bd_filter.specs.Filter.{Operators, no_operators, operator}
 use Rattle.bd_filter.specs.FilterMatch.{accepts, all_accept, any_candidate, any_equal, candidates, is_array, is_nonempty, is_of_size, is_of_type, is_related, is_there, is_value, value_or_null}
 use Rattle.bd_filter.specs.Types.{is_kind, kind_place}
 use Rattle.bd_filter.specs.declared.relation.Relation.{Relation}
 use Rattle.bd_filter.proofs.MembersLemmas.{any_mapped}
-use Rattle.bd_bounds.specs.Bounds.{KeyBounds, KeySet, all_element_bounds, bounds_here, conjunction, element_bounds, first_or_undefined, is_among, is_listed}
+use Rattle.bd_bounds.specs.Bounds.{KeyBounds, KeySet, all_element_bounds, bounds_here, conjunction, element_bounds, is_among, is_listed}
 use Rattle.bd_bounds.specs.Bounds.{is_of_class, keys_of_types, keys_of_each, intersection, union, keys_equal_to, keys_of_equal}
 use Rattle.bd_bounds.proofs.AlikeLemmas.{equal_is, equals_class, first_ties, one_class}
 use Rattle.bd_bounds.proofs.KeyLemmas.{element_of_end, end_is_key, everywhere, keys_of, missing, null}

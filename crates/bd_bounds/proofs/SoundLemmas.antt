@@ -1,12 +1,12 @@
 -- Where a document matches, one of its keys is inside the bounds.
-use Rattle.std.proofs.Common.{◌≡◌, ℕ, ◌==◌, Bool, true, false, cond, ◌&&◌, List, [], ◌∷◌, ◌++◌, length, map, Option, Some, None, ◌⊎◌, inl, inr, refl, sym, ap₂, ◌∙◌, subst, append-nil, eqb-true, arith}
+use Rattle.std.proofs.Common.{◌≡◌, ℕ, Bool, true, false, cond, ◌&&◌, List, [], ◌∷◌, ◌++◌, length, map, Option, Some, None, ◌⊎◌, inl, inr, refl, sym, ap₂, ◌∙◌, subst, append-nil, eqb-true, arith}
 use Rattle.std.specs.List.{list_any, list_all}
 use Rattle.std.specs.Str.{bytes_eq}
 use Rattle.std.specs.Cmp.Lexicographic.{bytes_decides}
 use Rattle.std.proofs.lemmas.Bool.{and_parts, and_from, or_cases, or_left, or_right}
 use Rattle.bd_value.specs.Order.{equal}
 use Rattle.bd_value.specs.Parts.{elements_in}
-use Rattle.bd_value.specs.Tree.{Tree, leaf, doc, array, code_scope}
+use Rattle.bd_value.specs.Tree.{Tree, array}
 use Rattle.bd_path.specs.KeyList.{keys, sparse_keys}
 use Rattle.bd_path.specs.Names.{Names}
 use Rattle.bd_path.specs.Reach.{is_document, reach}

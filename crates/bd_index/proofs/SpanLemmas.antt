@@ -1,7 +1,7 @@
 -- Spans: the search for them, their order, the gaps between them, and what they cover.
 use Rattle.std.proofs.Common.{◌≡◌, ◌+◌, ◌-◌, ◌<◌, ◌≤◌, ℕ, zero, suc, Bool, true, false, List, [], ◌∷◌, ◌++◌, length, get_or, map, filter, take, drop, max, refl, rules}
 use Rattle.std.proofs.Common.{sym, ap, ap₂, ◌∙◌, arith, All}
-use Rattle.std.specs.Prelude.{◌&&◌, ◌||◌, not, nat_lt, slice_range, Result, Ok, Err, IfOk}
+use Rattle.std.specs.Prelude.{◌&&◌, ◌||◌, not, nat_lt, slice_range}
 use Rattle.std.specs.List.{AllWithin}
 use Rattle.std.specs.List.Sorted.{IsNonDecreasingBy, IsSortedBy, IsPartitionedBy, IsPartitionPoint}
 use Rattle.std.specs.Ordering.{is_lt}
@@ -227,10 +227,6 @@ gaps_whole es gaps spans parts i n size le order others so_far = record {
 pub covers_one : (es : List KeyAt) (keys : KeySet) (spans : List Span) (s : Span) → spans ≡ s ∷ [] → s.from ≤ s.to → s.to ≤ length es
     → ((k : ℕ) (d : KeyAt) → k < length es → is_in_span k s ≡ keys (get_or es k d).0) → CoverKeys es keys spans
 covers_one es keys spans s is size le inside = rw is (record { order = (omega arith, size, le); cover = λ k d lt. let e = inside k d lt in grind arith })
-
-pub if_ok : {T E : Type 0} {P Q : T → Type 0} (r : Result T E) → ((x : T) → P x → Q x) → IfOk r P → IfOk r Q
-if_ok (Ok x) f h = f x h
-if_ok (Err e) f h = tt
 
 pub keys_within-Range : (from to : Cut) → keys_within (Range from to) ≡ keys_between from to
 keys_within-Range from to = search (rules, folds.the_lemmas)

@@ -16,12 +16,14 @@ use Rattle.bd_bounds.proofs.FilterBoundsLemmas.{keys_within-Or}
 use Rattle.bd_bounds.proofs.sets.equal_bounds.Goals as goal
 
 -- an array, or its first element
-array_keys : (elements : Vec Value Global) (sets : List KeySet) → sets ≡ keys_equal_to (tree_of (values.Array elements)) ∷ keys_equal_to (first_or_undefined (map tree_of elements.items)) ∷ []
+array_keys : (elements : Vec Value Global) (sets : List KeySet)
+    → sets ≡ keys_equal_to (tree_of (values.Array elements)) ∷ keys_equal_to (first_or_undefined (map tree_of elements.items)) ∷ []
     → union sets ≡ keys_of_equal (tree_of (values.Array elements))
 array_keys elements sets is =
     let whole : is_array (tree_of (values.Array elements)) ≡ true = ap is_array (tree_of-Array elements) in
     let first = ap (λ (t : Tree). first_or_undefined (elements_in t)) (tree_of-Array elements) ∙ ap first_or_undefined (list_of-items_of (map tree_of elements.items)) in
-    ap union is ∙ fun_ext (λ k. either (equal k (tree_of (values.Array elements))) (equal k (first_or_undefined (map tree_of elements.items))) _ _ whole (ap (equal k) first))
+    ap union is
+    ∙ fun_ext (λ k. either (equal k (tree_of (values.Array elements))) (equal k (first_or_undefined (map tree_of elements.items))) _ _ whole (ap (equal k) first))
   where
     either : (a b c d : Bool) → c ≡ true → d ≡ b → (a || (b || false)) ≡ (a || (c && d))
     either a b c d e f = grind arith
