@@ -1,8 +1,8 @@
 -- Equal keys are both inside, or both outside.
-use Rattle.std.proofs.Common.{◌≡◌, ℕ, ◌<◌, ◌==◌, Bool, true, false, cond, ◌&&◌, ◌||◌, List, [], ◌∷◌, map, Option, Some, None, refl, ap, ap₂, Ordering, Less, Equal, Greater, nat_cmp, is_eq}
+use Rattle.std.proofs.Common.{◌≡◌, ◌==◌, Bool, true, false, cond, ◌&&◌, ◌||◌, List, [], ◌∷◌, map, Option, Some, None, refl, sym, ap, ap₂, ◌∙◌, Ordering, Equal, nat_cmp, is_eq}
 use Rattle.std.specs.Prelude.{is_some}
-use Rattle.std.specs.Ordering.{ordering_then, MatchOrdering}
-use Rattle.std.proofs.lemmas.Cmp.{ranked}
+use Rattle.std.specs.Ordering.{ordering_then}
+use Rattle.std.proofs.lemmas.Map.Lookups.{exact_unsigned}
 use Rattle.bd_value.specs.Order.{class_cmp, cmp, equal}
 use Rattle.bd_value.specs.Order.Classes.{class_of, class_of_kind, class_rank}
 use Rattle.bd_value.specs.Parts.{elements_in}
@@ -10,7 +10,6 @@ use Rattle.bd_value.specs.Tree as trees
 use Rattle.bd_value.specs.Tree.{Tree, leaf}
 use Rattle.bd_value.specs.declared.kind.Kind.{Kind}
 use Rattle.bd_value.specs.declared.kind.Kind.TheVariants as kinds
-use Rattle.bd_value.specs.declared.order.classes.Class.{Class}
 use Rattle.bd_value.proofs.OrderLemmas.LawsLemmas.{cmp_total}
 use Rattle.bd_path.specs.Names.{Names}
 use Rattle.bd_filter.specs.Filter.{Filter, all_of, some_of, none_of, at_path, Filters, no_filters, filter}
@@ -20,29 +19,64 @@ use Rattle.bd_filter.specs.FilterMatch.{is_array, is_related, relates}
 use Rattle.bd_filter.specs.declared.relation.Relation.{Relation}
 use Rattle.bd_bounds.specs.Bounds.{KeyBounds, KeySet, all_bounds, all_element_bounds, bounds, bounds_below, bounds_here, conjunction, disjunction}
 use Rattle.bd_bounds.specs.Bounds.{element_bounds, first_or_undefined, is_among, is_listed, is_of_class, keys_equal_to, keys_of_each, keys_of_equal}
-use Rattle.bd_bounds.specs.Bounds.{keys_of_types, intersection, union, operator_bounds, rest_after, rest_bounds, some_bounds}
+use Rattle.bd_bounds.specs.Bounds.{keys_of_types, intersection, no_key, union, operator_bounds, rest_after, rest_bounds, some_bounds}
+
+-- ---- what holds of bounds that are put together holds of those of a filter
+
+-- a relation of the bounds in an index with m to those in one with n, which stays as bounds are put together
+pub record Stays (R : KeyBounds → KeyBounds → Type 0) (m n : Bool) : Type 0 where
+  pub none : R None None
+  pub nothing : R (Some no_key) (Some no_key)
+  pub both : (b c d e : KeyBounds) → R b c → R d e → R (conjunction m b d) (conjunction n c e)
+  pub either : (b c d e : KeyBounds) → R b c → R d e → R (disjunction b d) (disjunction c e)
+  pub here : (o : Operator) → R (bounds_here o m) (bounds_here o n)
+
+module _ (R : KeyBounds → KeyBounds → Type 0) (m n : Bool) (stays : Stays R m n) where
+  on_rest : (s : Option Names) (b c : KeyBounds) (f g : Names → KeyBounds) → R b c → ((q : Names) → R (f q) (g q)) → R (rest_bounds s b f) (rest_bounds s c g)
+  on_rest None b c f g h below = stays.none
+  on_rest (Some []) b c f g h below = h
+  on_rest (Some (name ∷ s)) b c f g h below = below (name ∷ s)
+
+  mutual
+    pub on_bounds : (f : Filter) (p : Names) → R (bounds f p m) (bounds f p n)
+    on_bounds (all_of fs) p = on_all fs p
+    on_bounds (some_of fs) p = on_some fs p
+    on_bounds (none_of fs) p = stays.none
+    on_bounds (at_path r os) p = on_operators os (rest_after r p)
+
+    pub on_all : (fs : Filters) (p : Names) → R (all_bounds fs p m) (all_bounds fs p n)
+    on_all no_filters p = stays.none
+    on_all (filter f fs) p = stays.both (bounds f p m) (bounds f p n) (all_bounds fs p m) (all_bounds fs p n) (on_bounds f p) (on_all fs p)
+
+    on_some : (fs : Filters) (p : Names) → R (some_bounds fs p m) (some_bounds fs p n)
+    on_some no_filters p = stays.nothing
+    on_some (filter f fs) p = stays.either (bounds f p m) (bounds f p n) (some_bounds fs p m) (some_bounds fs p n) (on_bounds f p) (on_some fs p)
+
+    pub on_operators : (os : Operators) (s : Option Names) → R (operator_bounds os s m) (operator_bounds os s n)
+    on_operators no_operators s = stays.none
+    on_operators (operator o os) s =
+        stays.both (rest_bounds s (bounds_here o m) (λ q. bounds_below o q m)) (rest_bounds s (bounds_here o n) (λ q. bounds_below o q n))
+        (operator_bounds os s m) (operator_bounds os s n)
+        (on_rest s (bounds_here o m) (bounds_here o n) (λ q. bounds_below o q m) (λ q. bounds_below o q n) (stays.here o) (λ q. on_below o q))
+        (on_operators os s)
+
+    on_below : (o : Operator) (s : Names) → R (bounds_below o s m) (bounds_below o s n)
+    on_below (has_document fs) s = on_all fs s
+    on_below _ s = stays.none
+
+-- ---- equal keys
 
 pub equal_is : (o : Ordering) → is_eq o ≡ true → o ≡ Equal
 equal_is Equal e = refl
-equal_is Less e = absurd (let f : ⊥ = cc in f)
-equal_is Greater e = absurd (let f : ⊥ = cc in f)
+equal_is _ e = absurd cc
 
 -- the first of two orders that tie
 pub first_ties : (o p : Ordering) → ordering_then o p ≡ Equal → o ≡ Equal
 first_ties Equal p e = refl
-first_ties Less p e = absurd (let f : ⊥ = cc in f)
-first_ties Greater p e = absurd (let f : ⊥ = cc in f)
-
-tied_numbers : (m n : ℕ) → nat_cmp m n ≡ Equal → m ≡ n
-tied_numbers m n e = go (nat_cmp m n) e (ranked m n (nat_cmp m n) refl)
-  where
-    go : (o : Ordering) → o ≡ Equal → MatchOrdering o (m < n) (m ≡ n) (n < m) → m ≡ n
-    go Equal f h = h
-    go Less f h = absurd (let g : ⊥ = cc in g)
-    go Greater f h = absurd (let g : ⊥ = cc in g)
+first_ties _ p e = absurd cc
 
 pub one_class : (x y : Tree) → is_eq (class_cmp x y) ≡ true → class_rank (class_of x) ≡ class_rank (class_of y)
-one_class x y e = tied_numbers (class_rank (class_of x)) (class_rank (class_of y)) (equal_is (class_cmp x y) e)
+one_class x y e = exact_unsigned (class_rank (class_of x)) (class_rank (class_of y)) (equal_is (class_cmp x y) e)
 
 pub equals_class : (x y : Tree) → equal x y ≡ true → is_eq (class_cmp x y) ≡ true
 equals_class x y e = ap is_eq (first_ties (class_cmp x y) _ (equal_is (cmp x y) e))
@@ -60,9 +94,6 @@ module _ (x y : Tree) (e : equal x y ≡ true) where
   same_related : (r : Relation) (v : Tree) → is_related r v x ≡ is_related r v y
   same_related r v = ap₂ (λ n o. is_eq (nat_cmp n (class_rank (class_of v))) && relates r o) same_class (one_order v)
 
-  same_of_class : (class : Class) → is_of_class class x ≡ is_of_class class y
-  same_of_class class = ap (λ n. n == class_rank class) same_class
-
   same_union : {A : Type 0} (sets : A → KeySet) (xs : List A) → ((a : A) → sets a x ≡ sets a y) → union (map sets xs) x ≡ union (map sets xs) y
   same_union sets [] h = refl
   same_union sets (a ∷ rest) h = ap₂ ◌||◌ (h a) (same_union sets rest h)
@@ -77,7 +108,7 @@ module _ (x y : Tree) (e : equal x y ≡ true) where
   same_each false sets (a ∷ rest) h = same_intersection sets (a ∷ rest) h
 
   same_types : (ks : List Kind) → keys_of_types ks x ≡ keys_of_types ks y
-  same_types ks = same_union (λ kind. is_of_class (class_of_kind kind)) ks (λ kind. same_of_class (class_of_kind kind))
+  same_types ks = same_union (λ kind. is_of_class (class_of_kind kind)) ks (λ kind. ap (λ n. n == class_rank (class_of_kind kind)) same_class)
 
   pub same_keys_of_equal : (v : Tree) → keys_of_equal v x ≡ keys_of_equal v y
   same_keys_of_equal v = ap₂ (λ a b. a || (is_array v && b)) (same_equal v) (same_equal (first_or_undefined (elements_in v)))
@@ -92,9 +123,8 @@ module _ (x y : Tree) (e : equal x y ≡ true) where
   same_conjunction false (Some s) (Some t) f g = ap₂ ◌&&◌ f g
 
   same_disjunction : (b c : KeyBounds) → Same b → Same c → Same (disjunction b c)
-  same_disjunction None c f g = refl
-  same_disjunction (Some s) None f g = refl
   same_disjunction (Some s) (Some t) f g = ap₂ ◌||◌ f g
+  same_disjunction _ _ f g = refl
 
   same_chosen : (t : Bool) (b c : KeyBounds) → Same b → Same c → Same (cond t b c)
   same_chosen true b c f g = f
@@ -106,11 +136,7 @@ module _ (x y : Tree) (e : equal x y ≡ true) where
   same_element (is_in vs) = same_union keys_equal_to vs same_equal
   same_element (has_all vs) = same_each false keys_equal_to vs same_equal
   same_element (has_type ks) = same_types ks
-  same_element (has_size n) = refl
-  same_element (exists b) = refl
-  same_element (negates os) = refl
-  same_element (has_element os) = refl
-  same_element (has_document fs) = refl
+  same_element _ = refl
 
   same_all_elements : (os : Operators) → Same (all_element_bounds os)
   same_all_elements no_operators = refl
@@ -128,115 +154,56 @@ module _ (x y : Tree) (e : equal x y ≡ true) where
   same_here (has_element os) m = same_all_elements os
   same_here (has_document fs) m = ap (λ n. n == 5) same_class
 
-  same_rest : (s : Option Names) (here : KeyBounds) (below : Names → KeyBounds) → Same here → ((q : Names) → Same (below q)) → Same (rest_bounds s here below)
-  same_rest None here below f g = refl
-  same_rest (Some []) here below f g = f
-  same_rest (Some (c ∷ s)) here below f g = g (c ∷ s)
+  -- one bounds in both places, the same for both keys
+  abbrev SameOne : KeyBounds → KeyBounds → Type 0
+  SameOne b c = (b ≡ c) × Same b
 
-  mutual
-    pub same_bounds : (f : Filter) (p : Names) (m : Bool) → Same (bounds f p m)
-    same_bounds (all_of fs) p m = same_all fs p m
-    same_bounds (some_of fs) p m = same_some fs p m
-    same_bounds (none_of fs) p m = refl
-    same_bounds (at_path r os) p m = same_operators os (rest_after r p) m
+  stays_same : (m : Bool) → Stays SameOne m m
+  stays_same m = record {
+    none = (refl, refl);
+    nothing = (refl, refl);
+    both = λ b c d e f g. (ap₂ (conjunction m) f.0 g.0, same_conjunction m b d f.1 g.1);
+    either = λ b c d e f g. (ap₂ disjunction f.0 g.0, same_disjunction b d f.1 g.1);
+    here = λ o. (refl, same_here o m);
+  }
 
-    pub same_all : (fs : Filters) (p : Names) (m : Bool) → Same (all_bounds fs p m)
-    same_all no_filters p m = refl
-    same_all (filter f fs) p m = same_conjunction m (bounds f p m) (all_bounds fs p m) (same_bounds f p m) (same_all fs p m)
+  pub same_bounds : (f : Filter) (p : Names) (m : Bool) → Same (bounds f p m)
+  same_bounds f p m = (on_bounds SameOne m m (stays_same m) f p).1
 
-    same_some : (fs : Filters) (p : Names) (m : Bool) → Same (some_bounds fs p m)
-    same_some no_filters p m = refl
-    same_some (filter f fs) p m = same_disjunction (bounds f p m) (some_bounds fs p m) (same_bounds f p m) (same_some fs p m)
+  pub same_all : (fs : Filters) (p : Names) (m : Bool) → Same (all_bounds fs p m)
+  same_all fs p m = (on_all SameOne m m (stays_same m) fs p).1
 
-    pub same_operators : (os : Operators) (s : Option Names) (m : Bool) → Same (operator_bounds os s m)
-    same_operators no_operators s m = refl
-    same_operators (operator o os) s m =
-        same_conjunction m (rest_bounds s (bounds_here o m) (λ q. bounds_below o q m)) (operator_bounds os s m)
-        (same_rest s (bounds_here o m) (λ q. bounds_below o q m) (same_here o m) (λ q. same_below o q m)) (same_operators os s m)
-
-    same_below : (o : Operator) (s : Names) (m : Bool) → Same (bounds_below o s m)
-    same_below (has_document fs) s m = same_all fs s m
-    same_below (equals v) s m = refl
-    same_below (compares r v) s m = refl
-    same_below (is_in vs) s m = refl
-    same_below (has_all vs) s m = refl
-    same_below (has_type ks) s m = refl
-    same_below (has_size n) s m = refl
-    same_below (exists b) s m = refl
-    same_below (negates os) s m = refl
-    same_below (has_element os) s m = refl
+  pub same_operators : (os : Operators) (s : Option Names) (m : Bool) → Same (operator_bounds os s m)
+  same_operators os s m = (on_operators SameOne m m (stays_same m) os s).1
 
 -- ---- several keys or one, the same filters are bounded
 
 abbrev Alike : KeyBounds → KeyBounds → Type 0
 Alike b c = is_some b ≡ is_some c
 
-alike_conjunction : (b c b' c' : KeyBounds) → Alike b b' → Alike c c' → Alike (conjunction true b c) (conjunction false b' c')
-alike_conjunction None c None c' f g = g
-alike_conjunction None c (Some s) c' f g = absurd (let h : ⊥ = cc in h)
-alike_conjunction (Some s) c None c' f g = absurd (let h : ⊥ = cc in h)
-alike_conjunction (Some s) None (Some t) None f g = refl
-alike_conjunction (Some s) None (Some t) (Some u) f g = refl
-alike_conjunction (Some s) (Some u) (Some t) None f g = refl
-alike_conjunction (Some s) (Some u) (Some t) (Some w) f g = refl
+some_conjunction : (m : Bool) (b c : KeyBounds) → is_some (conjunction m b c) ≡ (is_some b || is_some c)
+some_conjunction m None c = refl
+some_conjunction m (Some s) None = refl
+some_conjunction true (Some s) (Some t) = refl
+some_conjunction false (Some s) (Some t) = refl
 
-alike_disjunction : (b c b' c' : KeyBounds) → Alike b b' → Alike c c' → Alike (disjunction b c) (disjunction b' c')
-alike_disjunction None c None c' f g = refl
-alike_disjunction None c (Some s) c' f g = absurd (let h : ⊥ = cc in h)
-alike_disjunction (Some s) c None c' f g = absurd (let h : ⊥ = cc in h)
-alike_disjunction (Some s) None (Some t) None f g = refl
-alike_disjunction (Some s) None (Some t) (Some u) f g = absurd (let h : ⊥ = cc in h)
-alike_disjunction (Some s) (Some u) (Some t) None f g = absurd (let h : ⊥ = cc in h)
-alike_disjunction (Some s) (Some u) (Some t) (Some w) f g = refl
+some_disjunction : (b c : KeyBounds) → is_some (disjunction b c) ≡ (is_some b && is_some c)
+some_disjunction None c = refl
+some_disjunction (Some s) None = refl
+some_disjunction (Some s) (Some t) = refl
 
 alike_here : (o : Operator) → Alike (bounds_here o true) (bounds_here o false)
-alike_here (equals v) = refl
-alike_here (compares r v) = refl
-alike_here (is_in vs) = refl
 alike_here (has_all vs) = refl
-alike_here (has_type ks) = refl
-alike_here (has_size n) = refl
-alike_here (exists b) = refl
-alike_here (negates os) = refl
-alike_here (has_element os) = refl
-alike_here (has_document fs) = refl
+alike_here _ = refl
 
-alike_rest : (s : Option Names) (b c : KeyBounds) (f g : Names → KeyBounds) → Alike b c → ((q : Names) → Alike (f q) (g q)) → Alike (rest_bounds s b f) (rest_bounds s c g)
-alike_rest None b c f g h i = refl
-alike_rest (Some []) b c f g h i = h
-alike_rest (Some (n ∷ s)) b c f g h i = i (n ∷ s)
+stays_alike : Stays Alike true false
+stays_alike = record {
+  none = refl;
+  nothing = refl;
+  both = λ b c d e f g. some_conjunction true b d ∙ ap₂ ◌||◌ f g ∙ sym (some_conjunction false c e);
+  either = λ b c d e f g. some_disjunction b d ∙ ap₂ ◌&&◌ f g ∙ sym (some_disjunction c e);
+  here = alike_here;
+}
 
-mutual
-  pub alike_bounds : (f : Filter) (p : Names) → Alike (bounds f p true) (bounds f p false)
-  alike_bounds (all_of fs) p = alike_all fs p
-  alike_bounds (some_of fs) p = alike_some fs p
-  alike_bounds (none_of fs) p = refl
-  alike_bounds (at_path r os) p = alike_operators os (rest_after r p)
-
-  alike_all : (fs : Filters) (p : Names) → Alike (all_bounds fs p true) (all_bounds fs p false)
-  alike_all no_filters p = refl
-  alike_all (filter f fs) p = alike_conjunction (bounds f p true) (all_bounds fs p true) (bounds f p false) (all_bounds fs p false) (alike_bounds f p) (alike_all fs p)
-
-  alike_some : (fs : Filters) (p : Names) → Alike (some_bounds fs p true) (some_bounds fs p false)
-  alike_some no_filters p = refl
-  alike_some (filter f fs) p = alike_disjunction (bounds f p true) (some_bounds fs p true) (bounds f p false) (some_bounds fs p false) (alike_bounds f p) (alike_some fs p)
-
-  alike_operators : (os : Operators) (s : Option Names) → Alike (operator_bounds os s true) (operator_bounds os s false)
-  alike_operators no_operators s = refl
-  alike_operators (operator o os) s =
-      alike_conjunction (rest_bounds s (bounds_here o true) (λ q. bounds_below o q true)) (operator_bounds os s true)
-      (rest_bounds s (bounds_here o false) (λ q. bounds_below o q false)) (operator_bounds os s false)
-      (alike_rest s (bounds_here o true) (bounds_here o false) (λ q. bounds_below o q true) (λ q. bounds_below o q false) (alike_here o) (λ q. alike_below o q))
-      (alike_operators os s)
-
-  alike_below : (o : Operator) (s : Names) → Alike (bounds_below o s true) (bounds_below o s false)
-  alike_below (has_document fs) s = alike_all fs s
-  alike_below (equals v) s = refl
-  alike_below (compares r v) s = refl
-  alike_below (is_in vs) s = refl
-  alike_below (has_all vs) s = refl
-  alike_below (has_type ks) s = refl
-  alike_below (has_size n) s = refl
-  alike_below (exists b) s = refl
-  alike_below (negates os) s = refl
-  alike_below (has_element os) s = refl
+pub alike_bounds : (f : Filter) (p : Names) → Alike (bounds f p true) (bounds f p false)
+alike_bounds f p = on_bounds Alike true false stays_alike f p

@@ -1,5 +1,5 @@
 -- What is before a cut.
-use Rattle.std.proofs.Common.{◌≡◌, ◌≤◌, zero, suc, Bool, true, false, cond, [], ◌∷◌, refl, arith, Ordering, Less, Equal, Greater, nat_cmp}
+use Rattle.std.proofs.Common.{◌≡◌, ◌≤◌, zero, suc, Bool, true, false, cond, [], ◌∷◌, arith, Ordering, nat_cmp}
 use Rattle.std.specs.Cmp.{IsTotalOrder}
 use Rattle.std.specs.List.Sorted.{IsSortedBy}
 use Rattle.std.specs.Ordering.{is_le, is_lt, ordering_index, ordering_then}
@@ -19,23 +19,10 @@ abbrev precedes : Bool → Ordering → Bool
 precedes after o = cond after (is_le o) (is_lt o)
 
 lower : (after : Bool) (o p : Ordering) → ordering_index o ≤ ordering_index p → precedes after p ≡ true → precedes after o ≡ true
-lower true Less p le h = refl
-lower true Equal p le h = refl
-lower true Greater Less le h = absurd (omega arith)
-lower true Greater Equal le h = absurd (omega arith)
-lower true Greater Greater le h = h
-lower false Less p le h = refl
-lower false Equal Less le h = absurd (omega arith)
-lower false Equal Equal le h = h
-lower false Equal Greater le h = h
-lower false Greater Less le h = absurd (omega arith)
-lower false Greater Equal le h = h
-lower false Greater Greater le h = h
+lower after o p le h = grind arith
 
 first_not_less : (o p : Ordering) → is_lt (ordering_then o p) ≡ false → is_lt o ≡ false
-first_not_less Less p h = h
-first_not_less Equal p h = refl
-first_not_less Greater p h = refl
+first_not_less o p h = grind arith
 
 -- two of them, in order
 in_order : {A : Type 0} (by : A → A → Ordering) → IsTotalOrder by → (x y v : A) → is_lt (by y x) ≡ false → ordering_index (by x v) ≤ ordering_index (by y v)

@@ -1,8 +1,8 @@
 -- What an operator finds at the end of a path is a key, or an array whose elements are keys.
-use Rattle.std.proofs.Common.{◌≡◌, ℕ, ◌-◌, ◌==◌, Bool, true, false, cond, not, ◌&&◌, List, [], ◌∷◌, length, map, Some, None, ◌⊎◌, inl, inr, refl, sym, ap, ◌∙◌, subst, arith, is_eq, eqb-true}
+use Rattle.std.proofs.Common.{◌≡◌, ℕ, ◌-◌, ◌==◌, Bool, true, false, cond, not, ◌&&◌, List, [], ◌∷◌, length, map, Some, None, ◌⊎◌, inl, inr, refl, sym, ap, ◌∙◌, arith, is_eq, eqb-true, eq-eqb}
 use Rattle.std.specs.Prelude.{is_some, nat_le}
 use Rattle.std.specs.List.{list_any, list_all}
-use Rattle.std.proofs.lemmas.Bool.{and_parts, and_from, not-true, or_left, or_right}
+use Rattle.std.proofs.lemmas.Bool.{and_parts, and_from, not-true, or_cases, or_left, or_right}
 use Rattle.bd_value.specs.Kind.{kind_of}
 use Rattle.bd_value.specs.Order.{class_cmp, cmp, equal, items_cmp}
 use Rattle.bd_value.specs.Order.Classes.{class_of, class_of_kind, class_rank}
@@ -17,13 +17,13 @@ use Rattle.bd_path.specs.Names.{Names}
 use Rattle.bd_path.specs.Reach.{End, is_document, reach}
 use Rattle.bd_path.proofs.LawsLemmas.{absent}
 use Rattle.bd_path.proofs.MemberLemmas.{In, Found, found_from, any_at}
-use Rattle.bd_filter.specs.Filter.{Operator, equals, compares, is_in, has_all, has_type, has_size, exists, negates, has_element, has_document}
+use Rattle.bd_filter.specs.Filter.{Operator, equals, compares, is_in, has_all, has_type, has_size, exists}
 use Rattle.bd_filter.specs.Filter.{Operators, no_operators, operator}
 use Rattle.bd_filter.specs.FilterMatch.{accepts, all_accept, any_candidate, any_equal, candidates, is_array, is_nonempty, is_of_size, is_of_type, is_related, is_there, is_value, value_or_null}
 use Rattle.bd_filter.specs.Types.{is_kind, kind_place}
 use Rattle.bd_filter.specs.declared.relation.Relation.{Relation}
 use Rattle.bd_filter.proofs.MembersLemmas.{any_mapped}
-use Rattle.bd_bounds.specs.Bounds.{KeyBounds, KeySet, all_element_bounds, bounds_here, conjunction, element_bounds, first_or_undefined, is_among, is_listed}
+use Rattle.bd_bounds.specs.Bounds.{KeyBounds, KeySet, all_element_bounds, bounds_here, conjunction, element_bounds, is_among, is_listed}
 use Rattle.bd_bounds.specs.Bounds.{is_of_class, keys_of_types, keys_of_each, intersection, union, keys_equal_to, keys_of_equal}
 use Rattle.bd_bounds.proofs.AlikeLemmas.{equal_is, equals_class, first_ties, one_class}
 use Rattle.bd_bounds.proofs.KeyLemmas.{element_of_end, end_is_key, everywhere, keys_of, missing, null}
@@ -41,97 +41,76 @@ in_each sets (x ∷ xs) k h =
 
 -- ---- candidates
 
--- a candidate that is an array at the end of the path
-pub record ArrayEnd (t : Tree) (p : Names) (c : End) : Type 0 where
-  pub all : Items
-  pub is : c ≡ Some (array all)
-  pub is_end : In (Some (array all)) (reach t p)
-
-end_cases : (t : Tree) (p : Names) (c : End) → In c (reach t p) → In (value_or_null c) (keys_of t p) ⊎ ArrayEnd t p c
-end_cases t p None h = inl (missing t p h)
-end_cases t p (Some (leaf s)) h = inl (end_is_key t (leaf s) (leaf s) p h (inl refl))
-end_cases t p (Some (doc fs)) h = inl (end_is_key t (doc fs) (doc fs) p h (inl refl))
-end_cases t p (Some (code_scope s fs)) h = inl (end_is_key t (code_scope s fs) (code_scope s fs) p h (inl refl))
-end_cases t p (Some (array ts)) h = inr (record { all = ts; is = refl; is_end = h })
-
-record Among (xs : List Tree) (c : End) : Type 0 where
-  it : Tree
-  is : c ≡ Some it
-  is_in : In it xs
-
-in_mapped : (xs : List Tree) (c : End) → In c (map Some xs) → Among xs c
-in_mapped [] c h = absurd h
-in_mapped (x ∷ xs) c (inl e) = record { it = x; is = e; is_in = inl refl }
-in_mapped (x ∷ xs) c (inr h) = let r = in_mapped xs c h in record { it = r.it; is = r.is; is_in = inr r.is_in }
-
-of_end : (t : Tree) (p : Names) (e c : End) → c ≡ e → In e (reach t p) → In (value_or_null c) (keys_of t p) ⊎ ArrayEnd t p c
-of_end t p e c is h = end_cases t p c (subst (λ x. In x (reach t p)) (sym is) h)
-
-candidate_cases : (t : Tree) (p : Names) (e c : End) → In e (reach t p) → In c (candidates e) → In (value_or_null c) (keys_of t p) ⊎ ArrayEnd t p c
-candidate_cases t p None c h (inl is) = of_end t p None c is h
-candidate_cases t p None c h (inr g) = absurd g
-candidate_cases t p (Some w) c h (inl is) = of_end t p (Some w) c is h
-candidate_cases t p (Some w) c h (inr g) =
-    let a = in_mapped (elements_in w) c g in
-    inl (subst (λ x. In (value_or_null x) (keys_of t p)) (sym a.is) (element_of_end t w a.it p h a.is_in))
-
--- a candidate that passes is a key, or an array at the end of the path
-pub record Candidate (test : End → Bool) (t : Tree) (p : Names) : Type 0 where
+-- a candidate that passes and is a key
+pub record PassingKey (test : End → Bool) (t : Tree) (p : Names) : Type 0 where
   pub it : End
-  pub cases : In (value_or_null it) (keys_of t p) ⊎ ArrayEnd t p it
+  pub is_in : In (value_or_null it) (keys_of t p)
   pub passes : test it ≡ true
 
-pub candidate : (test : End → Bool) (t : Tree) (p : Names) → any_candidate test (reach t p) ≡ true → Candidate test t p
-candidate test t p h =
-    let e = found_from (λ e. list_any test (candidates e)) (reach t p) h in
-    let c = found_from test (candidates e.it) e.passes in
-    record { it = c.it; cases = candidate_cases t p e.it c.it e.is_in c.is_in; passes = c.passes }
+-- a candidate that passes and is an array at the end of the path
+pub record PassingArray (test : End → Bool) (t : Tree) (p : Names) : Type 0 where
+  pub all : Items
+  pub is_end : In (Some (array all)) (reach t p)
+  pub passes : test (Some (array all)) ≡ true
+
+module _ (test : End → Bool) (t : Tree) (p : Names) where
+  at_end : (e : End) → In e (reach t p) → test e ≡ true → PassingKey test t p ⊎ PassingArray test t p
+  at_end None h passes = inl (record { it = None; is_in = missing t p h; passes = passes })
+  at_end (Some (array ts)) h passes = inr (record { all = ts; is_end = h; passes = passes })
+  at_end (Some x) h passes = inl (record { it = Some x; is_in = end_is_key t x x p h (inl refl); passes = passes })
+
+  of_end : (e : End) → In e (reach t p) → list_any test (candidates e) ≡ true → PassingKey test t p ⊎ PassingArray test t p
+  of_end None h e = elim (or_cases (test None) false e) [ inl a ↦ at_end None h a | inr b ↦ absurd cc ]
+  of_end (Some w) h e = elim (or_cases (test (Some w)) (list_any test (map Some (elements_in w))) e) [
+    | inl a ↦ at_end (Some w) h a
+    | inr b ↦ (let f = found_from (λ x. test (Some x)) (elements_in w) (sym (any_mapped test Some (elements_in w)) ∙ b) in
+        inl (record { it = Some f.it; is_in = element_of_end t w f.it p h f.is_in; passes = f.passes }))
+  ]
+
+  pub candidate : any_candidate test (reach t p) ≡ true → PassingKey test t p ⊎ PassingArray test t p
+  candidate h = let e = found_from (λ e. list_any test (candidates e)) (reach t p) h in of_end e.it e.is_in e.passes
 
 -- ---- equal values
 
 array_equals : (ts : Items) (v : Tree) → equal (array ts) v ≡ true → Found (keys_of_equal v) (keys_of (array ts) [])
 array_equals ts (leaf s) e = absurd ((plain s).not6 (sym (one_class (array ts) (leaf s) (equals_class (array ts) (leaf s) e))))
-array_equals ts (doc fs) e = absurd (let f : ⊥ = cc in f)
-array_equals ts (code_scope s fs) e = absurd (let f : ⊥ = cc in f)
 array_equals no_items (array no_items) e = record { it = leaf trees.undefined; is_in = inl refl; passes = refl }
-array_equals no_items (array (item u us)) e = let f : ⊥ = cc in absurd f
-array_equals (item t ts) (array no_items) e = let f : ⊥ = cc in absurd f
 array_equals (item t ts) (array (item u us)) e = record {
   it = t;
   is_in = inl refl;
   passes = or_right (equal t (array (item u us))) (equal t u) (ap is_eq (first_ties (cmp t u) (items_cmp ts us) (equal_is _ e)));
 }
+array_equals _ _ e = absurd cc
 
 pub sound_equal : (t : Tree) (p : Names) (v : Tree) → any_equal (reach t p) v ≡ true → Found (keys_of_equal v) (keys_of t p)
 sound_equal t p v h =
-    let c = candidate (λ e. equal (value_or_null e) v) t p h in
-    elim c.cases [
-      | inl k ↦ record { it = value_or_null c.it; is_in = k; passes = or_left (equal (value_or_null c.it) v) (is_array v && equal (value_or_null c.it) (first_or_undefined (elements_in v))) c.passes }
-      | inr a ↦ (let f = array_equals a.all v (subst (λ e. equal (value_or_null e) v ≡ true) a.is c.passes) in
-          record { it = f.it; is_in = end_is_key t (array a.all) f.it p a.is_end f.is_in; passes = f.passes })
+    elim (candidate (λ e. equal (value_or_null e) v) t p h) [
+      | inl k ↦ record { it = value_or_null k.it; is_in = k.is_in; passes = or_left (equal (value_or_null k.it) v) _ k.passes }
+      | inr a ↦ (let f = array_equals a.all v a.passes in record { it = f.it; is_in = end_is_key t (array a.all) f.it p a.is_end f.is_in; passes = f.passes })
     ]
 
 -- ---- values in an order
 
+-- a candidate that passes is inside, unless the bounds are left out, as they are where an array passes
+unless : (test : End → Bool) (set : KeySet) (t : Tree) (p : Names) (out : Bool) → ((c : End) → test c ≡ true → set (value_or_null c) ≡ true)
+    → ((ts : Items) → test (Some (array ts)) ≡ true → out ≡ true) → any_candidate test (reach t p) ≡ true → Found (is_among (cond out None (Some set))) (keys_of t p)
+unless test set t p true inside array_passes h = everywhere t p
+unless test set t p false inside array_passes h =
+    elim (candidate test t p h) [
+      | inl k ↦ record { it = value_or_null k.it; is_in = k.is_in; passes = inside k.it k.passes }
+      | inr a ↦ (let out = array_passes a.all a.passes in absurd cc)
+    ]
+
 array_of_class : (ts : Items) (v : Tree) → is_eq (class_cmp (array ts) v) ≡ true → is_array v ≡ true
 array_of_class ts (array us) e = refl
 array_of_class ts (leaf s) e = absurd ((plain s).not6 (sym (one_class (array ts) (leaf s) e)))
-array_of_class ts (doc fs) e = let f : ⊥ = cc in absurd f
-array_of_class ts (code_scope s fs) e = let f : ⊥ = cc in absurd f
+array_of_class ts _ e = absurd cc
 
 pub sound_compares : (t : Tree) (p : Names) (m : Bool) (r : Relation) (v : Tree) → any_candidate (λ e. is_related r v (value_or_null e)) (reach t p) ≡ true
     → Found (is_among (bounds_here (compares r v) m)) (keys_of t p)
-sound_compares t p m r v h = go (is_array v) refl
-  where
-    go : (b : Bool) → is_array v ≡ b → Found (is_among (cond b None (Some (is_related r v)))) (keys_of t p)
-    go true is = everywhere (λ k. true) t p (λ k. refl)
-    go false is =
-        let c = candidate (λ e. is_related r v (value_or_null e)) t p h in
-        elim c.cases [
-          | inl k ↦ record { it = value_or_null c.it; is_in = k; passes = c.passes }
-          | inr a ↦ (let related : is_related r v (array a.all) ≡ true = subst (λ e. is_related r v (value_or_null e) ≡ true) a.is c.passes in
-              let f : ⊥ = cc (is, array_of_class a.all v (and_parts (is_eq (class_cmp (array a.all) v)) _ related).0) in absurd f)
-        ]
+sound_compares t p m r v h =
+    unless (λ e. is_related r v (value_or_null e)) (is_related r v) t p (is_array v) (λ c passes. passes)
+    (λ ts passes. array_of_class ts v (and_parts (is_eq (class_cmp (array ts) v)) _ passes).0) h
 
 -- ---- kinds
 
@@ -146,11 +125,7 @@ rank_is _ = refl
 same_kind_class : (k : Kind) (x : Tree) → is_kind k (kind_of x) ≡ true → is_of_class (class_of_kind k) x ≡ true
 same_kind_class k x e =
     let place : kind_place k ≡ kind_place (kind_of x) = eqb-true (kind_place k) (kind_place (kind_of x)) e in
-    let rank : class_rank (class_of x) ≡ class_rank (class_of_kind k) = rank_is (kind_of x) ∙ ap rank_at (sym place) ∙ sym (rank_is k) in
-    ap (λ n. n == class_rank (class_of_kind k)) rank ∙ itself (class_rank (class_of_kind k))
-  where
-    itself : (n : ℕ) → (n == n) ≡ true
-    itself n = grind arith
+    eq-eqb (class_rank (class_of x)) (class_rank (class_of_kind k)) (rank_is (kind_of x) ∙ ap rank_at (sym place) ∙ sym (rank_is k))
 
 pub types_inside : (ks : List Kind) (x : Tree) → is_of_type ks x ≡ true → keys_of_types ks x ≡ true
 types_inside ks x h =
@@ -158,22 +133,12 @@ types_inside ks x h =
     in_union (λ kind. is_of_class (class_of_kind kind)) ks x f.it f.is_in (same_kind_class f.it x f.passes)
 
 end_type : (ks : List Kind) (c : End) → is_value (is_of_type ks) c ≡ true → keys_of_types ks (value_or_null c) ≡ true
-end_type ks None e = let f : ⊥ = cc in absurd f
+end_type ks None e = absurd cc
 end_type ks (Some x) e = types_inside ks x e
 
 pub sound_type : (t : Tree) (p : Names) (m : Bool) (ks : List Kind) → any_candidate (is_value (is_of_type ks)) (reach t p) ≡ true
     → Found (is_among (bounds_here (has_type ks) m)) (keys_of t p)
-sound_type t p m ks h = go (is_listed kinds.Array ks) refl
-  where
-    go : (b : Bool) → is_listed kinds.Array ks ≡ b → Found (is_among (cond b None (Some (keys_of_types ks)))) (keys_of t p)
-    go true is = everywhere (λ k. true) t p (λ k. refl)
-    go false is =
-        let c = candidate (is_value (is_of_type ks)) t p h in
-        elim c.cases [
-          | inl k ↦ record { it = value_or_null c.it; is_in = k; passes = end_type ks c.it c.passes }
-          | inr a ↦ (let typed : is_value (is_of_type ks) (Some (array a.all)) ≡ true = subst (λ e. is_value (is_of_type ks) e ≡ true) a.is c.passes in
-              let f : ⊥ = cc (is, typed) in absurd f)
-        ]
+sound_type t p m ks h = unless (is_value (is_of_type ks)) (keys_of_types ks) t p (is_listed kinds.Array ks) (end_type ks) (λ ts passes. passes) h
 
 -- ---- ends
 
@@ -187,24 +152,22 @@ pub end_found : (test : Tree → Bool) (es : List End) → list_any (is_value te
 end_found test es h = let f = found_from (is_value test) es h in go f.it f.is_in f.passes
   where
     go : (c : End) → In c es → is_value test c ≡ true → EndFound test es
-    go None i e = let f : ⊥ = cc in absurd f
+    go None i e = absurd cc
     go (Some x) i e = record { it = x; is_in = i; passes = e }
 
 empty_array : (n : ℕ) (v : Tree) → is_of_size n v ≡ true → (n == 0) ≡ true → In (leaf trees.undefined) (keys_of v [])
-empty_array n (leaf s) e z = let f : ⊥ = cc in absurd f
-empty_array n (doc fs) e z = let f : ⊥ = cc in absurd f
-empty_array n (code_scope s fs) e z = let f : ⊥ = cc in absurd f
 empty_array n (array no_items) e z = inl refl
 empty_array n (array (item t ts)) e z =
     let a = eqb-true (length (t ∷ list_of ts)) n e in
     let b = eqb-true n 0 z in
     absurd (omega arith)
+empty_array n _ e z = absurd cc
 
 pub sound_size : (t : Tree) (p : Names) (m : Bool) (n : ℕ) → list_any (is_value (is_of_size n)) (reach t p) ≡ true → Found (is_among (bounds_here (has_size n) m)) (keys_of t p)
 sound_size t p m n h = go (n == 0) refl
   where
     go : (b : Bool) → (n == 0) ≡ b → Found (is_among (cond b (Some (keys_equal_to (leaf trees.undefined))) None)) (keys_of t p)
-    go false is = everywhere (λ k. true) t p (λ k. refl)
+    go false is = everywhere t p
     go true is =
         let f = end_found (is_of_size n) (reach t p) h in
         record { it = leaf trees.undefined; is_in = end_is_key t f.it (leaf trees.undefined) p f.is_in (empty_array n f.it f.passes is); passes = refl }
@@ -216,7 +179,7 @@ any_there (Some t ∷ es) = refl
 
 pub sound_exists : (t : Tree) (p : Names) (m : Bool) (b : Bool) → cond b (list_any is_there (reach t p)) (not (list_any is_there (reach t p))) ≡ true
     → Found (is_among (bounds_here (exists b) m)) (keys_of t p)
-sound_exists t p m true h = everywhere (λ k. true) t p (λ k. refl)
+sound_exists t p m true h = everywhere t p
 sound_exists t p m false h = record { it = null; is_in = absent t p (sym (any_there (reach t p)) ∙ not-true (list_any is_there (reach t p)) h); passes = refl }
 
 -- ---- elements taken by themselves
@@ -241,7 +204,7 @@ among_both (Some s) None k f g = f
 among_both (Some s) (Some u) k f g = and_from (s k) (u k) f g
 
 each_equal : (vs : List Tree) (x : Tree) → (is_nonempty vs && list_all (equal x) vs) ≡ true → keys_of_each false (map keys_equal_to vs) x ≡ true
-each_equal [] x h = let f : ⊥ = cc in absurd f
+each_equal [] x h = absurd cc
 each_equal (v ∷ vs) x h = in_each keys_equal_to (v ∷ vs) x h
 
 accepted : (o : Operator) (x : Tree) → accepts o x ≡ true → is_among (element_bounds o) x ≡ true
@@ -250,11 +213,7 @@ accepted (compares r v) x h = h
 accepted (is_in vs) x h = any_mapped (λ (set : KeySet). set x) keys_equal_to vs ∙ h
 accepted (has_all vs) x h = each_equal vs x h
 accepted (has_type ks) x h = types_inside ks x h
-accepted (has_size n) x h = refl
-accepted (exists b) x h = refl
-accepted (negates os) x h = refl
-accepted (has_element os) x h = refl
-accepted (has_document fs) x h = refl
+accepted _ x h = refl
 
 all_accepted : (os : Operators) (x : Tree) → all_accept os x ≡ true → is_among (all_element_bounds os) x ≡ true
 all_accepted no_operators x h = refl
@@ -270,6 +229,4 @@ sound_element t p os h =
 
 pub document_class : (x : Tree) → is_document x ≡ true → is_of_class classes.Doc x ≡ true
 document_class (doc fs) e = refl
-document_class (leaf s) e = let f : ⊥ = cc in absurd f
-document_class (array ts) e = let f : ⊥ = cc in absurd f
-document_class (code_scope s fs) e = let f : ⊥ = cc in absurd f
+document_class _ e = absurd cc

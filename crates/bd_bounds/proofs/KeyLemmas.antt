@@ -45,13 +45,13 @@ key_is_key t x p h = elim (among_all (keys_of t p) [] x h) [ inl a ↦ absurd a 
 pub missing : (t : Tree) (p : Names) → In None (reach t p) → In null (keys_of t p)
 missing t p h = key_is_key t null p (missing_gives_null t p h)
 
--- a test that every key passes
-first_passes : (test : Tree → Bool) (ks : List Tree) → ((k : Tree) → test k ≡ true) → distinct ks ≢ [] → Found test ks
-first_passes test [] h some = absurd (some refl)
-first_passes test (k ∷ ks) h some = record { it = k; is_in = inl refl; passes = h k }
-
-pub everywhere : (test : Tree → Bool) (t : Tree) (p : Names) → ((k : Tree) → test k ≡ true) → Found test (keys_of t p)
-everywhere test t p h = first_passes test (keys_of t p) h (has_a_key t p)
+-- where there are no bounds, some key is inside
+pub everywhere : (t : Tree) (p : Names) → Found (λ k. true) (keys_of t p)
+everywhere t p = go (keys_of t p) (has_a_key t p)
+  where
+    go : (ks : List Tree) → distinct ks ≢ [] → Found (λ k. true) ks
+    go [] some = absurd (some refl)
+    go (k ∷ ks) some = record { it = k; is_in = inl refl; passes = refl }
 
 -- ---- the keys of an end are keys of the whole
 
@@ -63,12 +63,6 @@ at_end t x k s h g = elim h [ inl e ↦ let same : x ≡ t = cc in subst (λ w. 
 
 mutual
   pub through : (t : Tree) (r s : Names) (x k : Tree) → In (Some x) (reach t r) → In k (keys_of x s) → In k (keys_of t (r ++ s))
-  through (leaf v) [] s x k h g = at_end (leaf v) x k s h g
-  through (doc fs) [] s x k h g = at_end (doc fs) x k s h g
-  through (array ts) [] s x k h g = at_end (array ts) x k s h g
-  through (code_scope v fs) [] s x k h g = at_end (code_scope v fs) x k s h g
-  through (leaf v) (c ∷ r) s x k h g = absurd (no_some x h)
-  through (code_scope v fs) (c ∷ r) s x k h g = absurd (no_some x h)
   through (doc fs) (c ∷ r) s x k h g = through_first fs c r s x k h g
   through (array ts) (c ∷ r) s x k h g =
       let ks = each_gathering (key_gathering nulls) ts (c ∷ (r ++ s)) in
@@ -77,6 +71,9 @@ mutual
         | inl a ↦ in_left k ks ls (through_each ts (c ∷ r) s x k a g)
         | inr b ↦ in_right k ks ls (through_at ts (index_of c) r s x k b g)
       ])
+  through (leaf v) [] s x k h g = at_end (leaf v) x k s h g
+  through t [] s x k h g = at_end t x k s h g
+  through t (c ∷ r) s x k h g = absurd (no_some x h)
 
   through_first : (fs : Fields) (c : List ℕ) (r s : Names) (x k : Tree) → In (Some x) (first_gathering ends fs c r) → In k (keys_of x s) → In k (first_gathering (key_gathering nulls) fs c (r ++ s))
   through_first no_fields c r s x k h g = absurd (no_some x h)
@@ -106,9 +103,7 @@ end_is_key t x k p h g = subst (λ q. In k (keys_of t q)) (append-nil p) (throug
 -- the elements of an array are its keys
 element_is_key : (w x : Tree) → In x (elements_in w) → In x (keys_of w [])
 element_is_key (array ts) x h = in_or_else x (list_of ts) (leaf trees.undefined ∷ []) h
-element_is_key (leaf s) x h = absurd h
-element_is_key (doc fs) x h = absurd h
-element_is_key (code_scope s fs) x h = absurd h
+element_is_key _ x h = absurd h
 
 pub element_of_end : (t w x : Tree) (p : Names) → In (Some w) (reach t p) → In x (elements_in w) → In x (keys_of t p)
 element_of_end t w x p h g = end_is_key t w x p h (element_is_key w x g)

@@ -1,10 +1,8 @@
 pub mod AlikeLemmas
-pub mod BoundsViewLemmas
 pub mod CutLemmas
 pub mod EndLemmas
 pub mod ExampleLemmas
 pub mod FilterBoundsLemmas
 pub mod KeyLemmas
 pub mod RangeLemmas
-pub mod SetsLemmas
 pub mod SoundLemmas

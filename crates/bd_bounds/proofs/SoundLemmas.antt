@@ -1,11 +1,12 @@
 -- Where a document matches, one of its keys is inside the bounds.
-use Rattle.std.proofs.Common.{◌≡◌, ℕ, ◌==◌, Bool, true, false, cond, ◌&&◌, List, [], ◌∷◌, ◌++◌, length, map, Option, Some, None, inl, inr, refl, sym, ap₂, ◌∙◌, subst, append-nil, eqb-true, arith}
+use Rattle.std.proofs.Common.{◌≡◌, ℕ, Bool, true, false, cond, ◌&&◌, List, [], ◌∷◌, ◌++◌, length, map, Option, Some, None, ◌⊎◌, inl, inr, refl, sym, ap₂, ◌∙◌, subst, append-nil, eqb-true, arith}
 use Rattle.std.specs.List.{list_any, list_all}
 use Rattle.std.specs.Str.{bytes_eq}
+use Rattle.std.specs.Cmp.Lexicographic.{bytes_decides}
 use Rattle.std.proofs.lemmas.Bool.{and_parts, and_from, or_cases, or_left, or_right}
 use Rattle.bd_value.specs.Order.{equal}
 use Rattle.bd_value.specs.Parts.{elements_in}
-use Rattle.bd_value.specs.Tree.{Tree, leaf, doc, array, code_scope}
+use Rattle.bd_value.specs.Tree.{Tree, array}
 use Rattle.bd_path.specs.KeyList.{keys, sparse_keys}
 use Rattle.bd_path.specs.Names.{Names}
 use Rattle.bd_path.specs.Reach.{is_document, reach}
@@ -45,15 +46,10 @@ both_found false (Some s) (Some u) ks fine same f g =
     record { it = f.it; is_in = f.is_in; passes = and_from (s f.it) (u f.it) f.passes (each_passes u ks same fine g f.it f.is_in) }
 
 -- one of a disjunction
-first_found : (b c : KeyBounds) (t : Tree) (p : Names) → Found (is_among b) (keys_of t p) → Found (is_among (disjunction b c)) (keys_of t p)
-first_found None c t p f = f
-first_found (Some s) None t p f = everywhere (λ k. true) t p (λ k. refl)
-first_found (Some s) (Some u) t p f = record { it = f.it; is_in = f.is_in; passes = or_left (s f.it) (u f.it) f.passes }
-
-second_found : (b c : KeyBounds) (t : Tree) (p : Names) → Found (is_among c) (keys_of t p) → Found (is_among (disjunction b c)) (keys_of t p)
-second_found None c t p f = everywhere (λ k. true) t p (λ k. refl)
-second_found (Some s) None t p f = f
-second_found (Some s) (Some u) t p f = record { it = f.it; is_in = f.is_in; passes = or_right (s f.it) (u f.it) f.passes }
+either_found : (b c : KeyBounds) (t : Tree) (p : Names) → Found (is_among b) (keys_of t p) ⊎ Found (is_among c) (keys_of t p) → Found (is_among (disjunction b c)) (keys_of t p)
+either_found (Some s) (Some u) t p (inl f) = record { it = f.it; is_in = f.is_in; passes = or_left (s f.it) (u f.it) f.passes }
+either_found (Some s) (Some u) t p (inr f) = record { it = f.it; is_in = f.is_in; passes = or_right (s f.it) (u f.it) f.passes }
+either_found _ _ t p f = everywhere t p
 
 -- ---- operators at the path of the index
 
@@ -74,10 +70,10 @@ all_inside t p (v ∷ vs) x fine h e =
 
 sound_has_all : (t : Tree) (p : Names) (m : Bool) (vs : List Tree) → Fine m (keys_of t p) → (is_nonempty vs && list_all (any_equal (reach t p)) vs) ≡ true
     → Found (keys_of_each m (map keys_of_equal vs)) (keys_of t p)
-sound_has_all t p m [] fine e = let f : ⊥ = cc in absurd f
-sound_has_all t p true (v ∷ vs) fine e = sound_equal t p v (and_parts (any_equal (reach t p) v) (list_all (any_equal (reach t p)) vs) e).0
+sound_has_all t p m [] fine e = absurd cc
+sound_has_all t p true (v ∷ vs) fine e = sound_equal t p v (and_parts (any_equal (reach t p) v) _ e).0
 sound_has_all t p false (v ∷ vs) fine e =
-    let f = sound_equal t p v (and_parts (any_equal (reach t p) v) (list_all (any_equal (reach t p)) vs) e).0 in
+    let f = sound_equal t p v (and_parts (any_equal (reach t p) v) _ e).0 in
     record { it = f.it; is_in = f.is_in; passes = in_each keys_of_equal (v ∷ vs) f.it (all_inside t p (v ∷ vs) f.it fine f.is_in e) }
 
 sound_here : (o : Operator) (t : Tree) (p : Names) (m : Bool) → Fine m (keys_of t p) → holds o (reach t p) ≡ true → Found (is_among (bounds_here o m)) (keys_of t p)
@@ -88,7 +84,7 @@ sound_here (has_all vs) t p m fine h = sound_has_all t p m vs fine h
 sound_here (has_type ks) t p m fine h = sound_type t p m ks h
 sound_here (has_size n) t p m fine h = sound_size t p m n h
 sound_here (exists b) t p m fine h = sound_exists t p m b h
-sound_here (negates os) t p m fine h = everywhere (λ k. true) t p (λ k. refl)
+sound_here (negates os) t p m fine h = everywhere t p
 sound_here (has_element os) t p m fine h = sound_element t p os h
 sound_here (has_document fs) t p m fine h =
     let e = element_found (λ x. is_document x && all_match fs x) t p h in
@@ -97,36 +93,26 @@ sound_here (has_document fs) t p m fine h =
 
 -- ---- what is left of a path
 
-equal_bytes : (a b : List ℕ) → bytes_eq a b ≡ true → a ≡ b
-equal_bytes [] [] e = refl
-equal_bytes [] (y ∷ ys) e = let f : ⊥ = cc in absurd f
-equal_bytes (x ∷ xs) [] e = let f : ⊥ = cc in absurd f
-equal_bytes (x ∷ xs) (y ∷ ys) e =
-    let b = and_parts (x == y) (bytes_eq xs ys) e in
-    ap₂ ◌∷◌ (eqb-true x y b.0) (equal_bytes xs ys b.1)
-
 rest_is : (r p s : Names) → rest_after r p ≡ Some s → p ≡ r ++ s
 rest_is [] p s e = cc
-rest_is (c ∷ r) [] s e = let f : ⊥ = cc in absurd f
+rest_is (c ∷ r) [] s e = absurd cc
 rest_is (c ∷ r) (b ∷ p) s e = go (rest_is r p s) (bytes_eq c b) refl e
   where
     go : (rest_after r p ≡ Some s → p ≡ r ++ s) → (t : Bool) → bytes_eq c b ≡ t → cond t (rest_after r p) None ≡ Some s → b ∷ p ≡ c ∷ (r ++ s)
-    go rec true f g = ap₂ ◌∷◌ (sym (equal_bytes c b f)) (rec g)
-    go rec false f g = let h : ⊥ = cc in absurd h
+    go rec true f g = ap₂ ◌∷◌ (sym ((bytes_decides c b).0 f)) (rec g)
+    go rec false f g = absurd cc
 
 -- the keys of an element that is a document, at the rest of the path, are keys of the whole
 inner : (t w x : Tree) (r p : Names) (c : List ℕ) (s : Names) → p ≡ r ++ (c ∷ s) → In (Some w) (reach t r) → In x (elements_in w) → is_document x ≡ true
     → (k : Tree) → In k (keys_of x (c ∷ s)) → In k (keys_of t p)
 inner t (array ts) x r p c s e h g i k a =
     subst (λ q. In k (keys_of t q)) (sym e) (through t r (c ∷ s) (array ts) k h (keys_of_element ts x k c s g i a))
-inner t (leaf v) x r p c s e h g i k a = absurd g
-inner t (doc fs) x r p c s e h g i k a = absurd g
-inner t (code_scope v fs) x r p c s e h g i k a = absurd g
+inner t _ x r p c s e h g i k a = absurd g
 
 rest_found : (rest : Option Names) (r p : Names) (t : Tree) (here : KeyBounds) (below : Names → KeyBounds) → ((s : Names) → rest ≡ Some s → p ≡ r ++ s)
     → (r ≡ p → Found (is_among here) (keys_of t p)) → ((c : List ℕ) (s : Names) → p ≡ r ++ (c ∷ s) → Found (is_among (below (c ∷ s))) (keys_of t p))
     → Found (is_among (rest_bounds rest here below)) (keys_of t p)
-rest_found None r p t here below w f g = everywhere (λ k. true) t p (λ k. refl)
+rest_found None r p t here below w f g = everywhere t p
 rest_found (Some []) r p t here below w f g = f (sym (w [] refl ∙ append-nil r))
 rest_found (Some (c ∷ s)) r p t here below w f g = g c s (w (c ∷ s) refl)
 
@@ -136,25 +122,24 @@ mutual
   pub sound : (f : Filter) (p : Names) (m : Bool) (t : Tree) → Fine m (keys_of t p) → matches f t ≡ true → Found (is_among (bounds f p m)) (keys_of t p)
   sound (all_of fs) p m t fine h = sound_all fs p m t fine h
   sound (some_of fs) p m t fine h = sound_some fs p m t fine h
-  sound (none_of fs) p m t fine h = everywhere (λ k. true) t p (λ k. refl)
+  sound (none_of fs) p m t fine h = everywhere t p
   sound (at_path r os) p m t fine h = sound_operators os (rest_after r p) r p m t (rest_is r p) fine h
 
   sound_all : (fs : Filters) (p : Names) (m : Bool) (t : Tree) → Fine m (keys_of t p) → all_match fs t ≡ true → Found (is_among (all_bounds fs p m)) (keys_of t p)
-  sound_all no_filters p m t fine h = everywhere (λ k. true) t p (λ k. refl)
+  sound_all no_filters p m t fine h = everywhere t p
   sound_all (filter f fs) p m t fine h =
       let b = and_parts (matches f t) (all_match fs t) h in
       both_found m (bounds f p m) (all_bounds fs p m) (keys_of t p) fine (λ x y e. same_all x y e fs p m) (sound f p m t fine b.0) (sound_all fs p m t fine b.1)
 
   sound_some : (fs : Filters) (p : Names) (m : Bool) (t : Tree) → Fine m (keys_of t p) → some_match fs t ≡ true → Found (is_among (some_bounds fs p m)) (keys_of t p)
-  sound_some no_filters p m t fine h = let f : ⊥ = cc in absurd f
-  sound_some (filter f fs) p m t fine h = elim (or_cases (matches f t) (some_match fs t) h) [
-    | inl a ↦ first_found (bounds f p m) (some_bounds fs p m) t p (sound f p m t fine a)
-    | inr b ↦ second_found (bounds f p m) (some_bounds fs p m) t p (sound_some fs p m t fine b)
-  ]
+  sound_some no_filters p m t fine h = absurd cc
+  sound_some (filter f fs) p m t fine h =
+      either_found (bounds f p m) (some_bounds fs p m) t p
+      (elim (or_cases (matches f t) (some_match fs t) h) [ inl a ↦ inl (sound f p m t fine a) | inr b ↦ inr (sound_some fs p m t fine b) ])
 
   sound_operators : (os : Operators) (rest : Option Names) (r p : Names) (m : Bool) (t : Tree) → ((s : Names) → rest ≡ Some s → p ≡ r ++ s)
       → Fine m (keys_of t p) → all_hold os (reach t r) ≡ true → Found (is_among (operator_bounds os rest m)) (keys_of t p)
-  sound_operators no_operators rest r p m t w fine h = everywhere (λ k. true) t p (λ k. refl)
+  sound_operators no_operators rest r p m t w fine h = everywhere t p
   sound_operators (operator o os) rest r p m t w fine h =
       let b = and_parts (holds o (reach t r)) (all_hold os (reach t r)) h in
       let here = λ (same : r ≡ p). subst (λ q. Found (is_among (bounds_here o m)) (keys_of t q)) same (sound_here o t r m (subst (λ q. Fine m (keys_of t q)) (sym same) fine) b.0) in
@@ -170,15 +155,7 @@ mutual
       let part = inner t e.whole e.it r p c s is e.is_end e.is_in b.0 in
       let k = sound_all fs (c ∷ s) m e.it (fine_part m (keys_of t p) (keys_of e.it (c ∷ s)) part fine) b.1 in
       record { it = k.it; is_in = part k.it k.is_in; passes = k.passes }
-  sound_below (equals v) c s r p m t is fine h = everywhere (λ k. true) t p (λ k. refl)
-  sound_below (compares q v) c s r p m t is fine h = everywhere (λ k. true) t p (λ k. refl)
-  sound_below (is_in vs) c s r p m t is fine h = everywhere (λ k. true) t p (λ k. refl)
-  sound_below (has_all vs) c s r p m t is fine h = everywhere (λ k. true) t p (λ k. refl)
-  sound_below (has_type ks) c s r p m t is fine h = everywhere (λ k. true) t p (λ k. refl)
-  sound_below (has_size n) c s r p m t is fine h = everywhere (λ k. true) t p (λ k. refl)
-  sound_below (exists b) c s r p m t is fine h = everywhere (λ k. true) t p (λ k. refl)
-  sound_below (negates os) c s r p m t is fine h = everywhere (λ k. true) t p (λ k. refl)
-  sound_below (has_element os) c s r p m t is fine h = everywhere (λ k. true) t p (λ k. refl)
+  sound_below _ c s r p m t is fine h = everywhere t p
 
 -- ---- the keys without equal ones
 

@@ -90,6 +90,7 @@ pub(crate) fn at_most(value: &Value) -> Bounds<'_>
 }
 
 /// Undefined, the one key of its class.
+#[tactic(auto, using(crate::proofs::RangeLemmas::undefined_alone))]
 pub(crate) fn undefined<'a>() -> Bounds<'a>
     ensures { keys_within result ≡ keys_equal_to (leaf trees.undefined) }
 {
@@ -97,6 +98,7 @@ pub(crate) fn undefined<'a>() -> Bounds<'a>
 }
 
 /// Null, the one key of its class.
+#[tactic(auto, using(crate::proofs::RangeLemmas::null_alone))]
 pub(crate) fn null<'a>() -> Bounds<'a>
     ensures { keys_within result ≡ keys_equal_to (leaf trees.null) }
 {

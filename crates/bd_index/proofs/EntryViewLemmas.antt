@@ -1,9 +1,10 @@
 -- Entries as an index keeps them.
 use Rattle.std.proofs.Common.{◌≡◌, ◌+◌, ◌<◌, ℕ, zero, suc, Bool, true, false, cond, List, [], ◌∷◌, ◌++◌, Option, Some, None, length, get_or, map, take, drop}
-use Rattle.std.proofs.Common.{refl, sym, ap, ◌∙◌, subst, arith, add-one, append_assoc, append-nil, drop-cons}
+use Rattle.std.proofs.Common.{refl, sym, ap, ◌∙◌, subst, arith, append_assoc, append-nil}
 use Rattle.std.proofs.lemmas.List.Elements.{All-push}
 use Rattle.std.proofs.lemmas.List.{map-append, map_more}
 use Rattle.std.specs.List.{AllZip}
+use Rattle.bd_bounds.proofs.FilterBoundsLemmas.{one_off}
 use Rattle.bd_raw.specs.Sound.{stands}
 use Rattle.bd_raw.specs.At.{StandsAt}
 use Rattle.bd_raw.specs.declared.at.At.{At}
@@ -16,9 +17,8 @@ use Rattle.bd_index.specs.declared.found_key.FoundKey.{FoundKey}
 
 pub zip_push : {A B : Type 0} (R : A → B → Type 0) (xs : List A) (ys : List B) (x : A) (y : B) → AllZip R xs ys → R x y → AllZip R (xs ++ x ∷ []) (ys ++ y ∷ [])
 zip_push R [] [] x y all one = (one, tt)
-zip_push R [] (b ∷ ys) x y all one = absurd all
-zip_push R (a ∷ xs) [] x y all one = absurd all
 zip_push R (a ∷ xs) (b ∷ ys) x y all one = (all.0, zip_push R xs ys x y all.1 one)
+zip_push R _ _ x y all one = absurd all
 
 pub zip_at : {A B : Type 0} (R : A → B → Type 0) (xs : List A) (ys : List B) (i : ℕ) (d : A) (e : B) → AllZip R xs ys → i < length xs → R (get_or xs i d) (get_or ys i e)
 zip_at R [] ys i d e all lt = absurd (omega arith)
@@ -28,9 +28,8 @@ zip_at R (a ∷ xs) (b ∷ ys) (suc i) d e all lt = zip_at R xs ys i d e all.1 (
 
 zip_length : {A B : Type 0} (R : A → B → Type 0) (xs : List A) (ys : List B) → AllZip R xs ys → length ys ≡ length xs
 zip_length R [] [] all = refl
-zip_length R [] (b ∷ ys) all = absurd all
-zip_length R (a ∷ xs) [] all = absurd all
 zip_length R (a ∷ xs) (b ∷ ys) all = ap suc (zip_length R xs ys all.1)
+zip_length R _ _ all = absurd all
 
 pub as_many_kept : (bytes : List ℕ) (kept : List Entry) (es : List KeyAt) → KeepsEntries bytes kept es → length es ≡ length kept
 as_many_kept bytes kept es all = zip_length (KeepsEntry bytes) kept es all
@@ -46,11 +45,10 @@ pub one_entry : (bytes : List ℕ) (kept new : List Entry) (xs : List FoundKey) 
     → new ≡ kept ++ record { key = at; place = x.place } ∷ [] → KeepsEntries bytes kept (map found_entry (take i xs)) → KeepsEntries bytes new (map found_entry (take (i + 1) xs))
 one_entry bytes kept new xs i x at lt is all there pushed so =
     let here : x.key.bytes.now ≡ bytes = subst (λ (f : FoundKey). IsFoundIn bytes f) (sym is) (all i x lt) in
-    let stands_there : StandsAt bytes at (stands x.key.sound) = subst (λ (b : List ℕ). StandsAt b at (stands x.key.sound)) here there in
     let more : map found_entry (take (i + 1) xs) ≡ map found_entry (take i xs) ++ found_entry x ∷ [] = map_more found_entry xs i x lt
     ∙ ap (λ (f : FoundKey). map found_entry (take i xs) ++ found_entry f ∷ []) (sym is) in
-    subst (KeepsEntries bytes new) (sym more) (subst (λ (l : List Entry). KeepsEntries bytes l (map found_entry (take i xs) ++ found_entry x ∷ [])) (sym pushed)
-    (zip_push (KeepsEntry bytes) kept (map found_entry (take i xs)) (record { key = at; place = x.place }) (found_entry x) so (stands_there, refl)))
+    rw (pushed, more) (zip_push (KeepsEntry bytes) kept (map found_entry (take i xs)) (record { key = at; place = x.place }) (found_entry x) so
+    (subst (λ (b : List ℕ). StandsAt b at (stands x.key.sound)) here there, refl))
 
 -- ---- the loop that drops repeats: what was appended, and what is to come
 
@@ -58,22 +56,16 @@ pub record OnceSoFar (found : List FoundKey) (last : Option FoundKey) (left own 
   pub once : map found_entry found ++ without_repeats (last_entry last) (map found_entry left) ≡ map found_entry before ++ without_repeats None (map found_entry own)
   pub kept : (bytes : List ℕ) → AreFoundIn bytes own → AreFoundIn bytes before → AreFoundIn bytes found
 
-next_left : (xs : List FoundKey) (i : ℕ) (x : FoundKey) → i < length xs → x ≡ get_or xs i x → map found_entry (drop i xs) ≡ found_entry x ∷ map found_entry (drop (i + 1) xs)
-next_left xs i x lt is =
-    ap (map found_entry) (drop-cons xs i x lt) ∙ ap (λ (f : FoundKey). found_entry f ∷ map found_entry (drop (suc i) xs)) (sym is)
-    ∙ ap (λ (n : ℕ). found_entry x ∷ map found_entry (drop n xs)) (sym (add-one i))
-
 module _ (found before : List FoundKey) (last : Option FoundKey) (xs : List FoundKey) (i : ℕ) (x : FoundKey) (lt : i < length xs)
     (is : x ≡ get_or xs i x) (so : OnceSoFar found last (drop i xs) xs before) where
   abbrev tail : Option KeyAt → List KeyAt
   tail l = without_repeats l (map found_entry (drop (i + 1) xs))
 
-  whole : map found_entry found ++ cond (is_repeat (last_entry last) (found_entry x)) (tail (last_entry last))
-      (found_entry x ∷ tail (Some (found_entry x))) ≡ map found_entry before ++ without_repeats None (map found_entry xs)
-  whole = ap (λ (l : List KeyAt). map found_entry found ++ without_repeats (last_entry last) l) (sym (next_left xs i x lt is)) ∙ so.once
-
   abbrev choice : Bool → List KeyAt
   choice b = map found_entry found ++ cond b (tail (last_entry last)) (found_entry x ∷ tail (Some (found_entry x)))
+
+  whole : choice (is_repeat (last_entry last) (found_entry x)) ≡ map found_entry before ++ without_repeats None (map found_entry xs)
+  whole = sym (one_off (λ es. map found_entry found ++ without_repeats (last_entry last) es) found_entry xs i x lt is) ∙ so.once
 
   pub repeat_passed : is_repeat (last_entry last) (found_entry x) ≡ true → OnceSoFar found last (drop (i + 1) xs) xs before
   repeat_passed again = record { once = ap choice (sym again) ∙ whole; kept = so.kept }
@@ -83,15 +75,9 @@ module _ (found before : List FoundKey) (last : Option FoundKey) (xs : List Foun
     once =
         ap (λ (l : List FoundKey). map found_entry l ++ tail (Some (found_entry x))) pushed ∙ ap (λ (l : List KeyAt). l ++ tail (Some (found_entry x))) (map-append found_entry found (x ∷ []))
         ∙ append_assoc (map found_entry found) (found_entry x ∷ []) (tail (Some (found_entry x))) ∙ ap choice (sym fresh) ∙ whole;
-    kept = λ bytes own old. subst (AreFoundIn bytes) (sym pushed) (All-push (IsFoundIn bytes) found x (so.kept bytes own old) (subst (IsFoundIn bytes) (sym is) (own i x lt)));
+    kept = λ bytes own old. rw pushed (All-push (IsFoundIn bytes) found x (so.kept bytes own old) (subst (IsFoundIn bytes) (sym is) (own i x lt)));
   }
 
 pub all_once : (found before : List FoundKey) (last : Option FoundKey) (left xs : List FoundKey) → left ≡ [] → OnceSoFar found last left xs before
     → map found_entry found ≡ map found_entry before ++ without_repeats None (map found_entry xs)
-all_once found before last left xs none so =
-    sym (append-nil (map found_entry found)) ∙ ap (λ (l : List FoundKey). map found_entry found ++ without_repeats (last_entry last) (map found_entry l)) (sym none) ∙ so.once
-
--- after the two ways of the loop's body
-pub joined_so_far : (left xs before found new : List FoundKey) (last next : Option FoundKey) → found ≡ new → last ≡ next → OnceSoFar new next left xs before → OnceSoFar found last left xs before
-joined_so_far left xs before found new last next e f so =
-    subst (λ (l : Option FoundKey). OnceSoFar found l left xs before) (sym f) (subst (λ (k : List FoundKey). OnceSoFar k next left xs before) (sym e) so)
+all_once found before last left xs none so = sym (append-nil (map found_entry found)) ∙ rw none at so.once

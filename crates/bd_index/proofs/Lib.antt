@@ -1,15 +1,9 @@
-pub mod ComingLemmas
-pub mod CountLemmas
-pub mod CoverLemmas
 pub mod DescentLemmas
-pub mod DocumentLemmas
+pub mod EntriesLemmas
 pub mod EntryLemmas
 pub mod EntryViewLemmas
-pub mod FoundKeyLemmas
 pub mod OrderLemmas
 pub mod PlacesLemmas
 pub mod RepeatLemmas
-pub mod SearchLemmas
-pub mod SortKeyLemmas
 pub mod SpanLemmas
 pub mod WalkLemmas

@@ -1,42 +1,59 @@
--- Spans put in order, and the gaps between them.
-use Rattle.std.proofs.Common.{◌≡◌, ◌+◌, ◌-◌, ◌<◌, ◌≤◌, ℕ, zero, suc, Bool, true, false, List, [], ◌∷◌, ◌++◌, length, get_or, map, filter, take, drop, max, refl}
-use Rattle.std.proofs.Common.{sym, ap, ap₂, ◌∙◌, subst, arith, add-one, drop-cons, inl, inr, All}
+-- Spans: the search for them, their order, the gaps between them, and what they cover.
+use Rattle.std.proofs.Common.{◌≡◌, ◌+◌, ◌-◌, ◌<◌, ◌≤◌, ℕ, zero, suc, Bool, true, false, List, [], ◌∷◌, ◌++◌, length, get_or, map, filter, take, drop, max, refl, rules}
+use Rattle.std.proofs.Common.{sym, ap, ap₂, ◌∙◌, arith, All}
 use Rattle.std.specs.Prelude.{◌&&◌, ◌||◌, not, nat_lt, slice_range}
-use Rattle.std.specs.List.Sorted.{IsNonDecreasingBy}
-use Rattle.std.proofs.lemmas.Bool.{cases_lt, lt-ltb, le-ltb}
-use Rattle.std.proofs.lemmas.List.{drop-drop, drop-map, get_or-drop, get_or-take, length-take, length-drop, map-append, take-append-drop, take-map}
-use Rattle.std.proofs.lemmas.List.Elements.{filter-append}
-use Rattle.bd_index.specs.Spans.{AreInOrder, is_covered, is_in_span, pieces}
+use Rattle.std.specs.List.{AllWithin}
+use Rattle.std.specs.List.Sorted.{IsNonDecreasingBy, IsSortedBy, IsPartitionedBy, IsPartitionPoint}
+use Rattle.std.specs.Ordering.{is_lt}
+use Rattle.std.proofs.lemmas.Bool.{false_from_ne_true}
+use Rattle.std.proofs.lemmas.Bool.Decides.{nat_tests}
+use Rattle.std.proofs.lemmas.List.{at_drop_more, drop_all, drop-map, get_or_default, get_or-drop, get_or-take, length-take, length-drop, map-append, take-map}
+use Rattle.std.proofs.lemmas.List.Elements.{All-push, filter-append}
+use Rattle.std.proofs.lemmas.List.Folds.{drop_split, list_any-append}
+use Rattle.bd_value.specs.Tree.{Tree}
+use Rattle.bd_bounds.specs.Bounds.{KeySet, intersection, union}
+use Rattle.bd_bounds.specs.BoundsView.{keys_between, keys_within}
+use Rattle.bd_bounds.specs.Cut.{is_before}
+use Rattle.bd_bounds.specs.declared.bounds.Bounds.{Bounds}
+use Rattle.bd_bounds.specs.declared.bounds.Bounds.TheFolds as folds
+use Rattle.bd_bounds.specs.declared.bounds.Bounds.TheVariants.{Range}
+use Rattle.bd_bounds.specs.declared.cut.Cut.{Cut}
+use Rattle.bd_bounds.proofs.CutLemmas.{falls_once}
+use Rattle.bd_bounds.proofs.FilterBoundsLemmas.{one_off}
+use Rattle.bd_index.specs.Entries.{KeyAt, entry_cmp}
+use Rattle.bd_index.specs.Spans.{AreInOrder, CoverKeys, is_covered, is_in_span, pieces}
 use Rattle.bd_index.specs.declared.span.Span.{Span}
-use Rattle.bd_index.proofs.SearchLemmas.{back_is, front_is, in_is}
+use Rattle.bd_index.proofs.EntryLemmas.{keys_rise}
 
-pub covered_append : (xs ys : List Span) (k : ℕ) → is_covered (xs ++ ys) k ≡ (is_covered xs k || is_covered ys k)
-covered_append [] ys k = refl
-covered_append (x ∷ xs) ys k = ap (λ (b : Bool). is_in_span k x || b) (covered_append xs ys k) ∙ go (is_in_span k x) (is_covered xs k) (is_covered ys k)
-  where
-    go : (a b c : Bool) → (a || (b || c)) ≡ ((a || b) || c)
-    go true b c = refl
-    go false b c = refl
+-- ---- the search for a cut
 
-pub or_none : (b : Bool) → (b || false) ≡ b
-or_none true = refl
-or_none false = refl
+-- the entries before a cut come before those that are not
+pub parted : (cut : Cut) (es : List KeyAt) → IsSortedBy (λ a b. is_lt (entry_cmp a b)) es → IsPartitionedBy (λ e. is_before cut e.0) es
+parted cut es sorted i j d le lt h = falls_once cut (get_or es i d).0 (get_or es j d).0 (keys_rise es sorted i j d le lt) h
 
-pub or_in : (a b c : Bool) → ((a || b) || c) ≡ (a || (b || c))
-or_in true b c = refl
-or_in false b c = refl
+pub below_next : {A : Type 0} (p : A → Bool) (es : List A) (m : ℕ) → IsPartitionedBy p es → m < length es → ((d : A) → p (get_or es m d) ≡ true)
+    → AllWithin (λ e. p e ≡ true) es 0 (m + 1)
+below_next p es m up lt here k d low high = up k m d (omega arith) lt (here d)
 
-pub covered_push : (xs : List Span) (s : Span) (k : ℕ) → is_covered (xs ++ s ∷ []) k ≡ (is_covered xs k || is_in_span k s)
-covered_push xs s k = covered_append xs (s ∷ []) k ∙ ap (λ (b : Bool). is_covered xs k || b) (or_none (is_in_span k s))
+pub above_next : {A : Type 0} (p : A → Bool) (es : List A) (m : ℕ) → IsPartitionedBy p es → ((d : A) → p (get_or es m d) ≡ false)
+    → AllWithin (λ e. p e ≡ false) es m (length es)
+above_next p es m up here k d low high = false_from_ne_true (p (get_or es k d)) (λ e. let f = up m k d low high e in let g = here d in cc)
 
-pub any_default : {A : Type 0} (xs : List A) (k : ℕ) (d e : A) → k < length xs → get_or xs k d ≡ get_or xs k e
-any_default [] k d e low = absurd (omega arith)
-any_default (x ∷ xs) zero d e low = refl
-any_default (x ∷ xs) (suc k) d e low = any_default xs k d e (omega arith)
+-- what the test of an entry tells
+pub told : (cut : Cut) (t : Tree) (e : KeyAt) (r b : Bool) → t ≡ e.0 → r ≡ is_before cut t → r ≡ b → is_before cut e.0 ≡ b
+told cut t e r b key is was = sym (ap (is_before cut) key) ∙ sym is ∙ was
+
+pub between : (from to : Cut) (es : List KeyAt) (start until : ℕ) (s : Span) → s.from ≡ start → s.to ≡ max until start
+    → IsPartitionPoint (λ e. is_before from e.0 ≡ true) (λ e. is_before from e.0 ≡ false) es start → IsPartitionPoint (λ e. is_before to e.0 ≡ true) (λ e. is_before to e.0 ≡ false) es until
+    → (k : ℕ) (d : KeyAt) → k < length es → is_in_span k s ≡ keys_between from to (get_or es k d).0
+between from to es start until s begin end a b k d lt = grind (arith, nat_tests, a.0 k d, a.1 k d, b.0 k d, b.1 k d)
 
 -- ---- spans in order
 
-pub order_push : (low mid : ℕ) (xs : List Span) (s : Span) → AreInOrder low mid xs → mid ≤ s.from → s.from ≤ s.to → AreInOrder low s.to (xs ++ s ∷ [])
+pub covered_push : (xs : List Span) (s : Span) (k : ℕ) → is_covered (xs ++ s ∷ []) k ≡ (is_covered xs k || is_in_span k s)
+covered_push xs s k = let both = list_any-append (is_in_span k) xs (s ∷ []) in grind arith
+
+order_push : (low mid : ℕ) (xs : List Span) (s : Span) → AreInOrder low mid xs → mid ≤ s.from → s.from ≤ s.to → AreInOrder low s.to (xs ++ s ∷ [])
 order_push low mid [] s h le size = ((omega arith, size, omega arith))
 order_push low mid (x ∷ xs) s h le size = (h.0, h.1, order_push x.to mid xs s h.2 le size)
 
@@ -44,21 +61,22 @@ pub order_to : (low mid high : ℕ) (xs : List Span) → AreInOrder low mid xs �
 order_to low mid high [] h le = omega arith
 order_to low mid high (x ∷ xs) h le = (h.0, h.1, order_to x.to mid high xs h.2 le)
 
-pub order_ends : (low high : ℕ) (xs : List Span) → AreInOrder low high xs → low ≤ high
+order_ends : (low high : ℕ) (xs : List Span) → AreInOrder low high xs → low ≤ high
 order_ends low high [] h = h
-order_ends low high (x ∷ xs) h = let a = h.0 in let b = h.1 in let c = order_ends x.to high xs h.2 in omega arith
+order_ends low high (x ∷ xs) h = omega (arith, h.0, h.1, order_ends x.to high xs h.2)
 
-pub order_below : (low high : ℕ) (xs : List Span) → AreInOrder low high xs → All (λ s. s.to ≤ high) xs
-order_below low high [] h k d lt = absurd (omega arith)
-order_below low high (x ∷ xs) h zero d lt = order_ends x.to high xs h.2
-order_below low high (x ∷ xs) h (suc k) d lt = order_below x.to high xs h.2 k d (omega arith)
+-- each is a span below the end
+pub order_within : (low high : ℕ) (xs : List Span) → AreInOrder low high xs → All (λ s. (s.from ≤ s.to) × (s.to ≤ high)) xs
+order_within low high [] h k d lt = absurd (omega arith)
+order_within low high (x ∷ xs) h zero d lt = (h.1, order_ends x.to high xs h.2)
+order_within low high (x ∷ xs) h (suc k) d lt = order_within x.to high xs h.2 k d (omega arith)
 
-pub none_in_front : (low high : ℕ) (xs : List Span) (k : ℕ) → AreInOrder low high xs → k < low → is_covered xs k ≡ false
+none_in_front : (low high : ℕ) (xs : List Span) (k : ℕ) → AreInOrder low high xs → k < low → is_covered xs k ≡ false
 none_in_front low high [] k h lt = refl
 none_in_front low high (x ∷ xs) k h lt =
     let a = h.0 in
     let b = h.1 in
-    ap₂ (λ (p q : Bool). p || q) (front_is k x (omega arith)) (none_in_front x.to high xs k h.2 (omega arith))
+    grind (arith, nat_tests, none_in_front x.to high xs k h.2 (omega arith))
 
 -- ---- the loop that puts spans in order
 
@@ -70,70 +88,33 @@ pub record Orders (spans ordered : List Span) (i end : ℕ) : Type 0 where
   pub reach : (k : ℕ) → last ≤ k → k < end → is_covered ordered k ≡ true
   pub later : (j : ℕ) (d : Span) → i ≤ j → j < length spans → last ≤ (get_or spans j d).from
 
-pub orders_none : (spans : List Span) → Orders spans [] 0 0
-orders_none spans = record { order = omega arith; same = λ k. refl; last = 0; reach = λ k low high. absurd (omega arith); later = λ j d low high. omega arith }
+module _ (spans ordered : List Span) (i end : ℕ) (s : Span) (lt : i < length spans) (is : s ≡ get_or spans i s) (o : Orders spans ordered i end) where
+  next_span : (k : ℕ) → is_covered (drop i spans) k ≡ (is_in_span k s || is_covered (drop (i + 1) spans) k)
+  next_span k = at_drop_more (λ l. is_covered l k) spans i s lt ∙ ap (λ (x : Span). is_in_span k x || is_covered (drop (i + 1) spans) k) (sym is)
 
-next_span : (spans : List Span) (i : ℕ) (s : Span) (k : ℕ) → i < length spans → s ≡ get_or spans i s → is_covered (drop i spans) k ≡ (is_in_span k s || is_covered (drop (i + 1) spans) k)
-next_span spans i s k lt is =
-    ap (λ (l : List Span). is_covered l k) (drop-cons spans i s lt) ∙ ap₂ (λ (x : Span) (n : ℕ). is_in_span k x || is_covered (drop n spans) k) (sym is) (sym (add-one i))
+  from_last : o.last ≤ s.from
+  from_last = let h = o.later i s (omega arith) lt in let e = ap (λ (x : Span). x.from) is in omega arith
 
--- a span that ends before what was put in order
-pub orders_passed : (spans ordered : List Span) (i end : ℕ) (s : Span) → i < length spans → s ≡ get_or spans i s → s.to ≤ max s.from end → Orders spans ordered i end → Orders spans ordered (i + 1) end
-orders_passed spans ordered i end s lt is short o = record {
-  order = o.order;
-  same = λ k. inner k (is_covered (drop (i + 1) spans) k) ∙ ap (λ (b : Bool). is_covered ordered k || b) (sym (next_span spans i s k lt is)) ∙ o.same k;
-  last = o.last;
-  reach = o.reach;
-  later = λ j d low high. o.later j d (omega arith) high;
-}
-  where
-    from_last : o.last ≤ s.from
-    from_last = let h = o.later i s (omega arith) lt in let e = ap (λ (x : Span). x.from) is in omega arith
+  -- a span that ends before what was put in order
+  pub orders_passed : s.to ≤ max s.from end → Orders spans ordered (i + 1) end
+  orders_passed short = record {
+    order = o.order;
+    same = λ k. grind (arith, nat_tests, next_span k, o.same k, o.reach k, from_last);
+    last = o.last;
+    reach = o.reach;
+    later = λ j d low high. o.later j d (omega arith) high;
+  }
 
-    inner : (k : ℕ) (rest : Bool) → (is_covered ordered k || rest) ≡ (is_covered ordered k || (is_in_span k s || rest))
-    inner k rest =
-        elim (cases_lt k s.from) [
-          | inl low ↦ ap (λ (b : Bool). is_covered ordered k || (b || rest)) (sym (front_is k s low))
-          | inr le ↦ elim (cases_lt k s.to) [
-            | inl high ↦ (let h = from_last in let c = o.reach k (omega arith) (omega arith) in ap (λ (b : Bool). b || rest) c ∙ sym (ap (λ (b : Bool). b || (is_in_span k s || rest)) c))
-            | inr past ↦ ap (λ (b : Bool). is_covered ordered k || (b || rest)) (sym (back_is k s past))
-          ]
-        ]
-
-pub orders_one : (spans ordered new : List Span) (i end : ℕ) (s t : Span) → IsNonDecreasingBy (λ x. x.from) spans → i < length spans
-    → s ≡ get_or spans i s → t.from ≡ max s.from end → t.to ≡ s.to → t.from < t.to
-    → new ≡ ordered ++ t ∷ [] → Orders spans ordered i end → Orders spans new (i + 1) s.to
-orders_one spans ordered new i end s t sorted lt is begin until some pushed o =
-    subst (λ (l : List Span). Orders spans l (i + 1) s.to) (sym pushed)
-    (record {
-      order = subst (λ (n : ℕ). AreInOrder 0 n (ordered ++ t ∷ [])) until (order_push 0 end ordered t o.order (omega arith) (omega arith));
-      same = λ k. ap (λ (b : Bool). b || is_covered (drop (i + 1) spans) k) (covered_push ordered t k ∙ inner k) ∙ or_in (is_covered ordered k) (is_in_span k s) (is_covered (drop (i + 1) spans) k)
-          ∙ ap (λ (b : Bool). is_covered ordered k || b) (sym (next_span spans i s k lt is)) ∙ o.same k;
-      last = s.from;
-      reach = λ k low high. covered_push ordered t k ∙ inner k ∙ ap (λ (b : Bool). is_covered ordered k || b) (in_is k s low high) ∙ or_true (is_covered ordered k);
-      later = λ j d low high. let e = ap (λ (x : Span). x.from) (is ∙ any_default spans i s d lt) in let h = sorted i j d (omega arith) high in omega arith;
-    })
-  where
-    or_true : (a : Bool) → (a || true) ≡ true
-    or_true true = refl
-    or_true false = refl
-
-    from_last : o.last ≤ s.from
-    from_last = let h = o.later i s (omega arith) lt in let e = ap (λ (x : Span). x.from) is in omega arith
-
-    -- a position that is cut off is covered
-    inner : (k : ℕ) → (is_covered ordered k || is_in_span k t) ≡ (is_covered ordered k || is_in_span k s)
-    inner k =
-        elim (cases_lt k s.from) [
-          | inl low ↦ ap (λ (b : Bool). is_covered ordered k || b) (front_is k t (omega arith) ∙ sym (front_is k s low))
-          | inr le ↦ elim (cases_lt k t.from) [
-            | inl low ↦ (let h = from_last in let c = o.reach k (omega arith) (omega arith) in ap (λ (b : Bool). b || is_in_span k t) c ∙ sym (ap (λ (b : Bool). b || is_in_span k s) c))
-            | inr in_it ↦ elim (cases_lt k s.to) [
-              | inl high ↦ ap (λ (b : Bool). is_covered ordered k || b) (in_is k t in_it (omega arith) ∙ sym (in_is k s le high))
-              | inr past ↦ ap (λ (b : Bool). is_covered ordered k || b) (back_is k t (omega arith) ∙ sym (back_is k s past))
-            ]
-          ]
-        ]
+  -- one more, without what it has of those before it
+  pub orders_one : (new : List Span) (t : Span) → IsNonDecreasingBy (λ x. x.from) spans → t.from ≡ max s.from end → t.to ≡ s.to → t.from < t.to
+      → new ≡ ordered ++ t ∷ [] → Orders spans new (i + 1) s.to
+  orders_one new t sorted begin until some pushed = record {
+    order = rw (pushed, ← until) (order_push 0 end ordered t o.order (omega arith) (omega arith));
+    same = λ k. grind (arith, nat_tests, covered_push ordered t k, next_span k, o.same k, o.reach k, from_last);
+    last = s.from;
+    reach = λ k low high. grind (arith, nat_tests, covered_push ordered t k, o.reach k, from_last);
+    later = λ j d low high. let e = ap (λ (x : Span). x.from) (is ∙ get_or_default spans i s d lt) in let h = sorted i j d (omega arith) high in omega arith;
+  }
 
 -- ---- the loop that finds the gaps
 
@@ -143,100 +124,56 @@ pub record Gaps (count : ℕ) (old gaps spans left : List Span) (end : ℕ) : Ty
   pub below : All (λ s. s.to ≤ count) gaps
   pub added : (k : ℕ) → k < count → (is_covered gaps k || (not (nat_lt k end) && not (is_covered left k))) ≡ (is_covered old k || not (is_covered spans k))
 
-pub all_push : (P : Span → Type 0) (xs : List Span) (s : Span) → All P xs → P s → All P (xs ++ s ∷ [])
-all_push P [] s all one zero d lt = one
-all_push P [] s all one (suc k) d lt = absurd (omega arith)
-all_push P (x ∷ xs) s all one zero d lt = all 0 x (omega arith)
-all_push P (x ∷ xs) s all one (suc k) d lt = all_push P xs s (λ j e low. all (suc j) e (omega arith)) one k d (omega arith)
-
 pub gaps_one : (count : ℕ) (old gaps new spans left : List Span) (end : ℕ) (s t : Span) → t.from ≡ end → t.to ≡ s.from → new ≡ gaps ++ t ∷ []
     → Gaps count old gaps spans (s ∷ left) end → Gaps count old new spans left s.to
 gaps_one count old gaps new spans left end s t begin until pushed g =
     let a = g.order.0 in
     let b = g.order.1 in
     let c = order_ends s.to count left g.order.2 in
-    subst (λ (l : List Span). Gaps count old l spans left s.to) (sym pushed)
-    (record {
+    record {
       order = g.order.2;
-      below = all_push (λ x. x.to ≤ count) gaps t g.below (omega arith);
-      added = λ k lt. ap (λ (x : Bool). x || (not (nat_lt k s.to) && not (is_covered left k))) (covered_push gaps t k)
-          ∙ or_in (is_covered gaps k) (is_in_span k t) (not (nat_lt k s.to) && not (is_covered left k))
-          ∙ ap (λ (x : Bool). is_covered gaps k || x) (inner k) ∙ g.added k lt;
-    })
-  where
-    inner : (k : ℕ) → (is_in_span k t || (not (nat_lt k s.to) && not (is_covered left k))) ≡ (not (nat_lt k end) && not (is_in_span k s || is_covered left k))
-    inner k =
-        let a = g.order.0 in
-        let b = g.order.1 in
-        elim (cases_lt k end) [
-          | inl low ↦ ap₂ (λ (x y : Bool). x || (not y && not (is_covered left k))) (front_is k t (omega arith)) (lt-ltb k s.to (omega arith))
-              ∙ sym (ap (λ (x : Bool). not x && not (is_in_span k s || is_covered left k)) (lt-ltb k end low))
-          | inr le ↦ elim (cases_lt k s.from) [
-            | inl high ↦ ap (λ (x : Bool). x || (not (nat_lt k s.to) && not (is_covered left k))) (in_is k t (omega arith) (omega arith))
-                ∙ sym (ap₂ (λ (x y : Bool). not x && not y) (le-ltb k end le) (ap₂ (λ (x y : Bool). x || y) (front_is k s high) (none_in_front s.to count left k g.order.2 (omega arith))))
-            | inr past ↦ elim (cases_lt k s.to) [
-              | inl in_it ↦ ap₂ (λ (x y : Bool). x || (not y && not (is_covered left k))) (back_is k t (omega arith)) (lt-ltb k s.to in_it)
-                  ∙ sym (ap₂ (λ (x y : Bool). not x && not (y || is_covered left k)) (le-ltb k end le) (in_is k s past in_it))
-              | inr beyond ↦ ap₂ (λ (x y : Bool). x || (not y && not (is_covered left k))) (back_is k t (omega arith)) (le-ltb k s.to beyond)
-                  ∙ sym (ap₂ (λ (x y : Bool). not x && not (y || is_covered left k)) (le-ltb k end le) (back_is k s beyond))
-            ]
-          ]
-        ]
-
-pub gaps_last : (count : ℕ) (old gaps new spans left : List Span) (end : ℕ) (t : Span) → t.from ≡ end → t.to ≡ count → new ≡ gaps ++ t ∷ [] → left ≡ [] → Gaps count old gaps spans left end
-    → (k : ℕ) → k < count → is_covered new k ≡ (is_covered old k || not (is_covered spans k))
-gaps_last count old gaps new spans left end t begin until pushed none g k lt =
-    ap (λ (l : List Span). is_covered l k) pushed ∙ covered_push gaps t k ∙ ap (λ (x : Bool). is_covered gaps k || x) inner
-    ∙ ap (λ (l : List Span). is_covered gaps k || (not (nat_lt k end) && not (is_covered l k))) (sym none) ∙ g.added k lt
-  where
-    inner : is_in_span k t ≡ (not (nat_lt k end) && true)
-    inner = elim (cases_lt k end) [
-      | inl low ↦ front_is k t (omega arith) ∙ sym (ap (λ (x : Bool). not x && true) (lt-ltb k end low))
-      | inr le ↦ in_is k t (omega arith) (omega arith) ∙ sym (ap (λ (x : Bool). not x && true) (le-ltb k end le))
-    ]
+      below = rw pushed (All-push (λ x. x.to ≤ count) gaps t g.below (omega arith));
+      added = λ k lt. grind (arith, nat_tests, covered_push gaps t k, none_in_front s.to count left k g.order.2, g.added k lt);
+    }
 
 -- ---- what stands in the spans is what passes
 
-none_pass : {A : Type 0} (p : A → Bool) (xs : List A) → ((k : ℕ) (d : A) → k < length xs → p (get_or xs k d) ≡ false) → filter p xs ≡ []
+none_pass : {A : Type 0} (p : A → Bool) (xs : List A) → All (λ x. p x ≡ false) xs → filter p xs ≡ []
 none_pass p [] h = refl
 none_pass p (x ∷ xs) h = rw (h 0 x (omega arith)) (none_pass p xs (λ k d lt. h (suc k) d (omega arith)))
 
-all_pass : {A : Type 0} (p : A → Bool) (xs : List A) → ((k : ℕ) (d : A) → k < length xs → p (get_or xs k d) ≡ true) → filter p xs ≡ xs
+pub all_pass : {A : Type 0} (p : A → Bool) (xs : List A) → All (λ x. p x ≡ true) xs → filter p xs ≡ xs
 all_pass p [] h = refl
 all_pass {A} p (x ∷ xs) h = rw (h 0 x (omega arith)) (ap (λ (l : List A). x ∷ l) (all_pass p xs (λ k d lt. h (suc k) d (omega arith))))
+
+pub record InPiece {A : Type 0} (xs : List A) (from to k : ℕ) (d : A) : Type 0 where
+  pub below : from + k < to
+  pub inside : from + k < length xs
+  pub is : get_or (slice_range xs from to) k d ≡ get_or xs (from + k) d
+
+pub in_piece : {A : Type 0} (xs : List A) (from to k : ℕ) (d : A) → k < length (slice_range xs from to) → InPiece xs from to k d
+in_piece xs from to k d lt =
+    let n = length-take (to - from) (drop from xs) in
+    let m = length-drop from xs in
+    record { below = omega arith; inside = omega arith; is = get_or-take (to - from) (drop from xs) k d (omega arith) ∙ get_or-drop from xs k d }
 
 -- of entries in spans that are in order, where the positions that are covered are those that pass
 pub pieces_pass : {A : Type 0} (p : A → Bool) (es : List A) (low : ℕ) (spans : List Span) → AreInOrder low (length es) spans
     → ((k : ℕ) (d : A) → low ≤ k → k < length es → is_covered spans k ≡ p (get_or es k d)) → pieces es spans ≡ filter p (drop low es)
-pieces_pass p es low [] order cover = sym (none_pass p (drop low es) (λ k d lt. let n = length-drop low es in ap p (get_or-drop low es k d) ∙ sym (cover (low + k) d (omega arith) (omega arith))))
+pieces_pass p es low [] order cover = sym (none_pass p (drop low es) (λ k d lt.
+    let n = length-drop low es in ap p (get_or-drop low es k d) ∙ sym (cover (low + k) d (omega arith) (omega arith))))
 pieces_pass {A} p es low (s ∷ spans) order cover =
     let a = order.0 in
     let b = order.1 in
-    let c = order_ends s.to (length es) spans order.2 in
     let f = slice_range es low s.from in
     let m = slice_range es s.from s.to in
-    let front : filter p f ≡ [] = none_pass p f (λ k d lt.
-    let n = in_piece es low s.from (omega arith) in
-    ap p (at_piece es low s.from k d (omega arith)) ∙ sym (cover (low + k) d (omega arith) (omega arith))
-    ∙ ap₂ (λ (x y : Bool). x || y) (front_is (low + k) s (omega arith)) (none_in_front s.to (length es) spans (low + k) order.2 (omega arith))) in
-    let middle : filter p m ≡ m = all_pass p m (λ k d lt.
-    let n = in_piece es s.from s.to (omega arith) in
-    ap p (at_piece es s.from s.to k d (omega arith)) ∙ sym (cover (s.from + k) d (omega arith) (omega arith))
-    ∙ ap (λ (x : Bool). x || is_covered spans (s.from + k)) (in_is (s.from + k) s (omega arith) (omega arith))) in
-    let rest = pieces_pass p es s.to spans order.2 (λ k d le lt. ap (λ (x : Bool). x || is_covered spans k) (sym (back_is k s le)) ∙ cover k d (omega arith) lt) in
-    sym (ap (filter p) (cut_at es low s.from a ∙ ap (λ (l : List A). f ++ l) (cut_at es s.from s.to b))
-    ∙ filter-append p f (m ++ drop s.to es) ∙ ap (λ (l : List A). l ++ filter p (m ++ drop s.to es)) front
-    ∙ filter-append p m (drop s.to es) ∙ ap₂ (λ (x y : List A). x ++ y) middle (sym rest))
-  where
-    at_piece : (xs : List A) (from to k : ℕ) (d : A) → k < to - from → get_or (slice_range xs from to) k d ≡ get_or xs (from + k) d
-    at_piece xs from to k d lt = get_or-take (to - from) (drop from xs) k d lt ∙ get_or-drop from xs k d
-
-    in_piece : (xs : List A) (from to : ℕ) → to ≤ length xs → length (slice_range xs from to) ≡ to - from
-    in_piece xs from to le = omega (arith, length-take (to - from) (drop from xs), length-drop from xs)
-
-    cut_at : (xs : List A) (from to : ℕ) → from ≤ to → drop from xs ≡ slice_range xs from to ++ drop to xs
-    cut_at xs from to le = let n : from + (to - from) ≡ to = omega arith in sym (take-append-drop (to - from) (drop from xs))
-        ∙ ap (λ (l : List A). slice_range xs from to ++ l) (drop-drop (to - from) from xs ∙ ap (λ (j : ℕ). drop j xs) n)
+    let front : filter p f ≡ [] = none_pass p f (λ k d lt. let at = in_piece es low s.from k d lt in
+    ap p at.is ∙ sym (cover (low + k) d (omega arith) at.inside) ∙ none_in_front s.from (length es) (s ∷ spans) (low + k) (omega arith, b, order.2) at.below) in
+    let middle : filter p m ≡ m = all_pass p m (λ k d lt. let at = in_piece es s.from s.to k d lt in
+    ap p at.is ∙ sym (cover (s.from + k) d (omega arith) at.inside) ∙ grind (arith, nat_tests)) in
+    let rest = pieces_pass p es s.to spans order.2 (λ k d le lt. let c = cover k d (omega arith) lt in grind (arith, nat_tests)) in
+    sym (ap (filter p) (drop_split es low s.from a) ∙ filter-append p f (drop s.from es)
+    ∙ ap₂ (λ (x y : List A). x ++ y) front (ap (filter p) (drop_split es s.from s.to b) ∙ filter-append p m (drop s.to es) ∙ ap₂ (λ (x y : List A). x ++ y) middle (sym rest)))
 
 -- what is seen of them
 pub pieces_map : {A B : Type 0} (f : A → B) (xs : List A) (spans : List Span) → map f (pieces xs spans) ≡ pieces (map f xs) spans
@@ -245,10 +182,51 @@ pieces_map {A} {B} f xs (s ∷ spans) =
     map-append f (slice_range xs s.from s.to) (pieces xs spans)
     ∙ ap₂ (λ (l m : List B). l ++ m) (sym (take-map f (s.to - s.from) (drop s.from xs)) ∙ ap (take (s.to - s.from)) (sym (drop-map f s.from xs))) (pieces_map f xs spans)
 
-pub orders_joined : (spans ordered new : List Span) (i end until : ℕ) → ordered ≡ new → end ≡ until → Orders spans new i until → Orders spans ordered i end
-orders_joined spans ordered new i end until e f o = subst (λ (n : ℕ). Orders spans ordered i n) (sym f) (subst (λ (l : List Span). Orders spans l i until) (sym e) o)
+-- ---- spans that cover the keys of bounds, part by part
 
-pub order_sizes : (low high : ℕ) (xs : List Span) → AreInOrder low high xs → All (λ s. s.from ≤ s.to) xs
-order_sizes low high [] h k d lt = absurd (omega arith)
-order_sizes low high (x ∷ xs) h zero d lt = h.1
-order_sizes low high (x ∷ xs) h (suc k) d lt = order_sizes x.to high xs h.2 k d (omega arith)
+-- what is covered, with the keys in the parts that are left, is what all parts have
+abbrev pub UnionSoFar : List KeyAt → List Span → List Bounds → ℕ → Type 0
+UnionSoFar es all parts i = (k : ℕ) (d : KeyAt) → k < length es → (is_covered all k
+    || union (map keys_within (drop i parts)) (get_or es k d).0) ≡ union (map keys_within parts) (get_or es k d).0
+
+abbrev pub GapsSoFar : List KeyAt → List Span → List Bounds → ℕ → Type 0
+GapsSoFar es gaps parts i = (k : ℕ) (d : KeyAt) → k < length es → (is_covered gaps k
+    || not (intersection (map keys_within (drop i parts)) (get_or es k d).0)) ≡ not (intersection (map keys_within parts) (get_or es k d).0)
+
+pub union_on : (es : List KeyAt) (all new spans : List Span) (parts : List Bounds) (i : ℕ) (part : Bounds) → i < length parts
+    → part ≡ get_or parts i part → new ≡ all ++ spans → CoverKeys es (keys_within part) spans
+    → UnionSoFar es all parts i → UnionSoFar es new parts (i + 1)
+union_on es all new spans parts i part lt is added cover so_far k d low =
+    let next = one_off (λ sets. union sets (get_or es k d).0) keys_within parts i part lt is in
+    rw added (grind (arith, list_any-append (is_in_span k) all spans, cover.cover k d low, next, so_far k d low))
+
+pub gaps_on : (es : List KeyAt) (gaps new spans : List Span) (parts : List Bounds) (i : ℕ) (part : Bounds) (n : ℕ) → n ≡ length es → i < length parts → part ≡ get_or parts i part
+    → ((k : ℕ) → k < n → is_covered new k ≡ (is_covered gaps k || not (is_covered spans k))) → CoverKeys es (keys_within part) spans
+    → GapsSoFar es gaps parts i → GapsSoFar es new parts (i + 1)
+gaps_on es gaps new spans parts i part n size lt is added cover so_far k d low =
+    let next = one_off (λ sets. intersection sets (get_or es k d).0) keys_within parts i part lt is in
+    grind (arith, added k (omega arith), cover.cover k d low, next, so_far k d low)
+
+pub union_whole : (es : List KeyAt) (all ordered : List Span) (parts : List Bounds) (i n : ℕ) → n ≡ length es → length parts ≤ i
+    → AreInOrder 0 n ordered → ((k : ℕ) → is_covered ordered k ≡ is_covered all k)
+    → UnionSoFar es all parts i → CoverKeys es (union (map keys_within parts)) ordered
+union_whole es all ordered parts i n size le order same so_far = record {
+  order = rw (← size) order;
+  cover = λ k d lt. let old = rw (drop_all i parts le) at (so_far k d lt) in grind (arith, same k);
+}
+
+pub gaps_whole : (es : List KeyAt) (gaps spans : List Span) (parts : List Bounds) (i n : ℕ) → n ≡ length es → length parts ≤ i → AreInOrder 0 n spans
+    → ((k : ℕ) → k < n → is_covered spans k ≡ not (is_covered gaps k))
+    → GapsSoFar es gaps parts i → CoverKeys es (intersection (map keys_within parts)) spans
+gaps_whole es gaps spans parts i n size le order others so_far = record {
+  order = rw (← size) order;
+  cover = λ k d lt. let old = rw (drop_all i parts le) at (so_far k d lt) in grind (arith, others k (omega arith));
+}
+
+-- a single span
+pub covers_one : (es : List KeyAt) (keys : KeySet) (spans : List Span) (s : Span) → spans ≡ s ∷ [] → s.from ≤ s.to → s.to ≤ length es
+    → ((k : ℕ) (d : KeyAt) → k < length es → is_in_span k s ≡ keys (get_or es k d).0) → CoverKeys es keys spans
+covers_one es keys spans s is size le inside = rw is (record { order = (omega arith, size, le); cover = λ k d lt. let e = inside k d lt in grind arith })
+
+pub keys_within-Range : (from to : Cut) → keys_within (Range from to) ≡ keys_between from to
+keys_within-Range from to = search (rules, folds.the_lemmas)

@@ -1,111 +1,191 @@
 -- Entries in the order of a direction give the walk.
-use Rattle.std.proofs.Common.{◌≡◌, ◌+◌, ◌<◌, ℕ, zero, suc, Bool, true, false, cond, List, [], ◌∷◌, ◌++◌, length, get_or, map, refl, sym, ap, ◌∙◌, subst, arith, add-zero, eq-eqb}
+use Rattle.std.proofs.Common.{◌≡◌, ◌≢◌, ◌+◌, ◌<◌, ℕ, zero, suc, Bool, true, false, cond, List, [], ◌∷◌, ◌++◌, Option, Some, None, length}
+use Rattle.std.proofs.Common.{get_or, map, filter, refl, sym, ap, ◌∙◌, subst, arith, add-zero, eq-eqb, inl, inr}
 use Rattle.std.specs.Prelude.{◌==◌, ◌&&◌, ◌||◌, nat_lt, not}
 use Rattle.std.specs.declared.cmp.Ordering.{Ordering}
-use Rattle.std.specs.declared.cmp.Ordering.TheVariants.{Less, Equal, Greater}
-use Rattle.std.specs.Ordering.{is_lt, is_eq, nat_cmp, ordering_then}
+use Rattle.std.specs.declared.cmp.Ordering.TheVariants.{Less, Equal}
+use Rattle.std.specs.Cmp.{IsStrictWeakOrder, IsTotalOrder}
+use Rattle.std.specs.Ordering.{is_lt, is_eq, nat_cmp, on, ordering_then, ordering_reverse}
 use Rattle.std.specs.List.{list_any, AllByRecursion, AllPairs, count_by, All}
 use Rattle.std.proofs.Math.ListN.{set, length-set}
-use Rattle.std.proofs.lemmas.List.{get_or-set_same, get_or-set_other}
-use Rattle.std.proofs.lemmas.Bool.{eqb-true, lt-ltb, ltb-true}
-use Rattle.std.proofs.lemmas.List.Elements.{All-from_recursion}
-use Rattle.std.proofs.lemmas.List.Sums.{sum_by-cons}
-use Rattle.bd_value.specs.Tree.{Tree, Doc, doc, fields_of}
-use Rattle.bd_path.specs.Earliest.{dir_cmp, sort_key}
+use Rattle.std.proofs.lemmas.Bool.{and_parts, cases_eq, false_from_ne_true, ltb-true, not-true, or_from, or_left, or_parts, or_right}
+use Rattle.std.proofs.lemmas.Bool.Decides.{nat_tests}
+use Rattle.std.proofs.lemmas.Cmp.{alike_right, tied_itself}
+use Rattle.std.proofs.lemmas.List.{get_or-map, get_or-set_same, get_or-set_other, length-map}
+use Rattle.std.proofs.lemmas.List.Elements.{All-cons, All-filter, All-from_recursion, All-head, All-map, All-nil, All-tail, filter_agree, filter_passes}
+use Rattle.std.proofs.lemmas.List.Folds.{Any-from_list_any, list_any-append, list_any_at, list_any_none}
+use Rattle.std.proofs.lemmas.List.Kept.{AllPairs-cons, AllPairs-filter}
+use Rattle.std.proofs.lemmas.List.Sorted.{ranks_by}
+use Rattle.bd_value.specs.Tree.{Tree, Doc, doc, fields_of, leaf, null}
+use Rattle.bd_path.specs.Earliest.{dir_cmp, earlier_key, earliest_key, or_null, sort_key}
 use Rattle.bd_path.specs.KeyList.{keys}
 use Rattle.bd_path.specs.Names.{Names}
 use Rattle.bd_path.specs.declared.dir.Dir.{Dir}
 use Rattle.bd_path.specs.declared.dir.Dir.TheVariants.{Up, Down}
 use Rattle.bd_path.proofs.EarliestLemmas.{dir_total}
-use Rattle.bd_index.specs.EntriesAhead.{fresh_places}
-use Rattle.bd_index.specs.Descent.{downward}
+use Rattle.bd_path.proofs.LawsLemmas.{has_a_key}
 use Rattle.bd_bson.specs.Documents.{document_at}
+use Rattle.bd_index.specs.Descent.{downward}
 use Rattle.bd_index.specs.Entries.{AreEntries, KeyAt, entries_from, entries_of, keys_at}
+use Rattle.bd_index.specs.EntriesAhead.{fresh_places}
 use Rattle.bd_index.specs.Walk.{WalksAll}
-use Rattle.bd_index.proofs.ComingLemmas.{Ascends, Ready, Rises, all_append, all_map, first_places, in_turn, none_any, none_passes, place_by}
 use Rattle.bd_index.proofs.DescentLemmas.{count_downward, downward_rises}
-use Rattle.bd_index.proofs.RepeatLemmas.{Ascend, ascend_from_sorted}
-use Rattle.bd_index.proofs.SortKeyLemmas.{sort_key_best}
+use Rattle.bd_index.proofs.EntryLemmas.{Rises, any_as_counts, any_map, ascend_from_sorted, by_total, entry_by, first_not_less, neither_less}
+use Rattle.bd_index.proofs.RepeatLemmas.{all_firsts, any_firsts, filter_both, firsts, firsts_map}
+use Rattle.bd_index.proofs.SpanLemmas.{all_pass}
 
--- ---- whether some pass, by how many do
+-- ---- the sort key of a document among its keys
 
-positive : (b : Bool) (c : ℕ) (r : Bool) → r ≡ nat_lt 0 c → (b || r) ≡ nat_lt 0 (cond b 1 0 + c)
-positive true c r h = let p : 0 < 1 + c = omega arith in grind arith
-positive false c r h = let p : 0 + c ≡ c = omega arith in h ∙ ap (nat_lt 0) (sym p)
+-- one of the keys is equal to it, and none is before it
+pub record IsBest (dir : Dir) (ks : List Tree) (best : Tree) : Type 0 where
+  pub low : list_any (λ k. is_lt (dir_cmp dir k best)) ks ≡ false
+  pub there : list_any (λ k. is_eq (dir_cmp dir k best)) ks ≡ true
 
-any_by_count : {A : Type 0} (p : A → Bool) (xs : List A) → list_any p xs ≡ nat_lt 0 (count_by p xs)
-any_by_count p [] = refl
-any_by_count p (x ∷ xs) = positive (p x) (count_by p xs) (list_any p xs) (any_by_count p xs) ∙ ap (nat_lt 0) (sym (sum_by-cons (λ y. cond (p y) 1 0) x xs))
+abbrev BestOf : Dir → List Tree → Option Tree → Type 0
+BestOf dir ks None = ⊥
+BestOf dir ks (Some best) = IsBest dir ks best
 
-pub any_as_counts : {A : Type 0} (p : A → Bool) (xs ys : List A) → count_by p xs ≡ count_by p ys → list_any p xs ≡ list_any p ys
-any_as_counts p xs ys h = any_by_count p xs ∙ ap (nat_lt 0) h ∙ sym (any_by_count p ys)
+weak : (dir : Dir) → IsStrictWeakOrder (λ x y. is_lt (dir_cmp dir x y))
+weak dir = ranks_by (dir_total dir) (λ x. x)
 
--- ---- of all entries
+all_after : (dir : Dir) (b k : Tree) (ks : List Tree) → is_lt (dir_cmp dir b k) ≡ false → list_any (λ x. is_lt (dir_cmp dir x b)) ks ≡ false
+    → list_any (λ x. is_lt (dir_cmp dir x k)) ks ≡ false
+all_after dir b k [] h low = refl
+all_after dir b k (x ∷ xs) h low = let p = or_parts _ _ low in or_from _ _ ((weak dir).chain x b k p.0 h) (all_after dir b k xs h p.1)
 
-abbrev keys_of : Names → List Doc → ℕ → List Tree
-keys_of path ds i = keys (document_at ds i) path
+has_best : (dir : Dir) (k : Tree) (ks : List Tree) → BestOf dir (k ∷ ks) (earliest_key dir (k ∷ ks))
+has_best dir k [] = let tied = tied_itself (dir_total dir) k in record { low = or_from _ _ (ap is_lt tied) refl; there = or_left _ _ (ap is_eq tied) }
+has_best dir k (x ∷ xs) = go (earliest_key dir (x ∷ xs)) (has_best dir x xs)
+  where
+    tied : dir_cmp dir k k ≡ Equal
+    tied = tied_itself (dir_total dir) k
 
-all_of_keys : (P : KeyAt → Type 0) (n : ℕ) (ks : List Tree) → AllByRecursion (λ k. P (k, n)) ks → AllByRecursion P (keys_at n ks)
-all_of_keys P n [] h = tt
-all_of_keys P n (k ∷ ks) h = (h.0, all_of_keys P n ks h.1)
+    choose : (b : Tree) (c : Bool) → is_lt (dir_cmp dir b k) ≡ c → IsBest dir (x ∷ xs) b → BestOf dir (k ∷ x ∷ xs) (cond c (Some b) (Some k))
+    choose b true less among = record { low = or_from _ _ ((weak dir).one_way b k less) among.low; there = or_right _ _ among.there }
+    choose b false less among = record { low = or_from _ _ (ap is_lt tied) (all_after dir b k (x ∷ xs) less among.low); there = or_left _ _ (ap is_eq tied) }
 
-all_entries : (P : KeyAt → Type 0) (path : Names) (n : ℕ) (ds : List Doc)
-    → ((i : ℕ) → i < length ds → AllByRecursion (λ k. P (k, n + i)) (keys_of path ds i)) → AllByRecursion P (entries_from false path n ds)
-all_entries P path n [] h = tt
-all_entries P path n (d ∷ ds) h =
-    all_append P (keys_at n (keys (doc (fields_of d)) path)) (entries_from false path (n + 1) ds)
-    (all_of_keys P n (keys (doc (fields_of d)) path) (subst (λ (m : ℕ). AllByRecursion (λ k. P (k, m)) (keys (doc (fields_of d)) path)) (add-zero n) (h 0 (omega arith))))
-    (all_entries P path (n + 1) ds (λ i lt. let e : n + suc i ≡ n + 1 + i = omega arith in subst (λ (m : ℕ). AllByRecursion (λ k. P (k, m)) (keys_of path ds i)) e (h (suc i) (omega arith))))
+    go : (e : Option Tree) → BestOf dir (x ∷ xs) e → BestOf dir (k ∷ x ∷ xs) (earlier_key dir (Some k) e)
+    go None among = absurd among
+    go (Some b) among = choose b (is_lt (dir_cmp dir b k)) refl among
+
+sort_key_best : (dir : Dir) (t : Tree) (path : Names) → IsBest dir (keys t path) (sort_key dir t path)
+sort_key_best dir t path = go (keys t path) (has_a_key t path)
+  where
+    best : (ks : List Tree) (e : Option Tree) → BestOf dir ks e → IsBest dir ks (or_null e)
+    best ks None among = absurd among
+    best ks (Some b) among = among
+
+    go : (ks : List Tree) → ks ≢ [] → IsBest dir ks (or_null (earliest_key dir ks))
+    go [] n = absurd (n refl)
+    go (k ∷ ks) n = best (k ∷ ks) (earliest_key dir (k ∷ ks)) (has_best dir k ks)
+
+-- ---- whether some entry of the documents passes
 
 pub any_in : {A : Type 0} (t : A → Bool) (xs ys : List A) → list_any t (xs ++ ys) ≡ (list_any t xs || list_any t ys)
-any_in t [] ys = refl
-any_in t (x ∷ xs) ys = ap (λ (b : Bool). t x || b) (any_in t xs ys) ∙ go (t x) (list_any t xs) (list_any t ys)
+any_in t xs ys = list_any-append t xs ys
+
+any_entry : (t : KeyAt → Bool) (path : Names) (n : ℕ) (d : Doc) (ds : List Doc)
+    → list_any t (entries_from false path n (d ∷ ds)) ≡ (list_any (λ k. t (k, n)) (keys (doc (fields_of d)) path) || list_any t (entries_from false path (n + 1) ds))
+any_entry t path n d ds =
+    let ks = keys (doc (fields_of d)) path in
+    let rest = entries_from false path (n + 1) ds in
+    list_any-append t (keys_at n ks) rest ∙ ap (λ (b : Bool). b || list_any t rest) (sym (any_map t (λ k. (k, n)) ks))
+
+module _ (t : KeyAt → Bool) (path : Names) where
+  abbrev passes : List Doc → ℕ → ℕ → Bool
+  passes ds n i = list_any (λ k. t (k, n)) (keys (document_at ds i) path)
+
+  some_entry : (n : ℕ) (ds : List Doc) (i : ℕ) → i < length ds → passes ds (n + i) i ≡ true → list_any t (entries_from false path n ds) ≡ true
+  some_entry n [] i lt h = absurd (omega arith)
+  some_entry n (d ∷ ds) zero lt h = any_entry t path n d ds ∙ or_left _ _ (subst (λ (m : ℕ). passes (d ∷ ds) m 0 ≡ true) (add-zero n) h)
+  some_entry n (d ∷ ds) (suc i) lt h =
+      let e : n + suc i ≡ n + 1 + i = omega arith in
+      any_entry t path n d ds ∙ or_right _ _ (some_entry (n + 1) ds i (omega arith) (subst (λ (m : ℕ). passes ds m i ≡ true) e h))
+
+  no_entry : (n : ℕ) (ds : List Doc) → ((i : ℕ) → i < length ds → passes ds (n + i) i ≡ false) → list_any t (entries_from false path n ds) ≡ false
+  no_entry n [] h = refl
+  no_entry n (d ∷ ds) h =
+      any_entry t path n d ds
+      ∙ or_from _ _ (subst (λ (m : ℕ). passes (d ∷ ds) m 0 ≡ false) (add-zero n) (h 0 (omega arith)))
+      (no_entry (n + 1) ds (λ i lt. let e : n + suc i ≡ n + 1 + i = omega arith in subst (λ (m : ℕ). passes ds m i ≡ false) e (h (suc i) (omega arith))))
+
+-- each document has an entry
+place_there : (path : Names) (n : ℕ) (ds : List Doc) (p : ℕ) → list_any (λ e. e.1 == p) (entries_from false path n ds) ≡ (not (nat_lt p n) && nat_lt p (n + length ds))
+place_there path n [] p = grind (arith, nat_tests)
+place_there path n (d ∷ ds) p =
+    let rest = list_any (λ e. e.1 == p) (entries_from false path (n + 1) ds) in
+    let here = every (n == p) (keys (doc (fields_of d)) path) (has_a_key (doc (fields_of d)) path) in
+    joined rest (length ds) (place_there path (n + 1) ds p) (any_entry (λ e. e.1 == p) path n d ds ∙ ap (λ (b : Bool). b || rest) here)
   where
-    go : (a b c : Bool) → (a || (b || c)) ≡ ((a || b) || c)
-    go true b c = refl
-    go false b c = refl
+    every : (b : Bool) (ks : List Tree) → ks ≢ [] → list_any (λ k. b) ks ≡ b
+    every b [] some = absurd (some refl)
+    every true (k ∷ ks) some = refl
+    every false (k ∷ ks) some = list_any_none (λ k. false) ks (λ i d lt. refl)
 
-any_of_keys : (t : KeyAt → Bool) (n : ℕ) (ks : List Tree) → list_any t (keys_at n ks) ≡ list_any (λ k. t (k, n)) ks
-any_of_keys t n [] = refl
-any_of_keys t n (k ∷ ks) = ap (λ (b : Bool). t (k, n) || b) (any_of_keys t n ks)
+    joined : {b : Bool} (r : Bool) (l : ℕ) → r ≡ (not (nat_lt p (n + 1)) && nat_lt p (n + 1 + l)) → b ≡ ((n == p) || r) → b ≡ (not (nat_lt p n) && nat_lt p (n + suc l))
+    joined r l h e = grind (arith, nat_tests)
 
-some_entry : (t : KeyAt → Bool) (path : Names) (n : ℕ) (ds : List Doc) (i : ℕ) → i < length ds
-    → list_any (λ k. t (k, n + i)) (keys_of path ds i) ≡ true → list_any t (entries_from false path n ds) ≡ true
-some_entry t path n [] i lt h = absurd (omega arith)
-some_entry t path n (d ∷ ds) zero lt h =
-    any_in t (keys_at n (keys (doc (fields_of d)) path)) (entries_from false path (n + 1) ds)
-    ∙ ap (λ (b : Bool). b || list_any t (entries_from false path (n + 1) ds)) (any_of_keys t n (keys (doc (fields_of d)) path)
-    ∙ subst (λ (m : ℕ). list_any (λ k. t (k, m)) (keys (doc (fields_of d)) path) ≡ true) (add-zero n) h)
-some_entry t path n (d ∷ ds) (suc i) lt h =
-    let e : n + suc i ≡ n + 1 + i = omega arith in
-    any_in t (keys_at n (keys (doc (fields_of d)) path)) (entries_from false path (n + 1) ds)
-    ∙ later (list_any t (keys_at n (keys (doc (fields_of d)) path))) (list_any t (entries_from false path (n + 1) ds))
-    (some_entry t path (n + 1) ds i (omega arith) (subst (λ (m : ℕ). list_any (λ k. t (k, m)) (keys_of path ds i) ≡ true) e h))
-  where
-    later : (a b : Bool) → b ≡ true → (a || b) ≡ true
-    later true b g = refl
-    later false b g = g
+-- ---- the first entry of each document
 
--- what no entry of the documents passes, none of these does
-none_of : (t : KeyAt → Bool) (es raw : List KeyAt) → count_by t es ≡ count_by t raw → AllByRecursion (λ e. t e ≡ false) raw → AllByRecursion (λ e. t e ≡ false) es
-none_of t es raw same h = none_passes t es (any_as_counts t es raw same ∙ none_any t raw h)
+abbrev at_one : KeyAt → KeyAt → Bool
+at_one = on (λ e. e.1) (λ n m. n == m)
 
--- each place is that of a document
-pub places_below : (path : Names) (ds : List Doc) (es : List KeyAt) → ((test : KeyAt → Bool)
-    → count_by test es ≡ count_by test (entries_of false path ds)) → AllByRecursion (λ e. nat_lt e.1 (length ds) ≡ true) es
-places_below path ds es same =
-    all_map (λ e h. flip (nat_lt e.1 (length ds)) h) es
-    (none_of (λ e. not (nat_lt e.1 (length ds))) es (entries_of false path ds) (same (λ e. not (nat_lt e.1 (length ds))))
-    (all_entries (λ e. not (nat_lt e.1 (length ds)) ≡ false) path 0 ds
-    (λ i lt. let l : 0 + i < length ds = omega arith in every (not (nat_lt (0 + i) (length ds))) (ap not (lt-ltb (0 + i) (length ds) l)) (keys_of path ds i))))
-  where
-    flip : (b : Bool) → not b ≡ false → b ≡ true
-    flip true h = refl
-    flip false h = absurd (cc)
+other_place : (n m p : ℕ) → (n == p) ≡ false → (not (n == m) && (m == p)) ≡ (m == p)
+other_place n m p h = grind (arith, nat_tests)
 
-    every : (b : Bool) → b ≡ false → (ks : List Tree) → AllByRecursion (λ (k : Tree). b ≡ false) ks
-    every b h [] = tt
-    every b h (k ∷ ks) = (h, every b h ks)
+-- places by keys that they have, then in their own order
+abbrev place_by : (Tree → Tree → Ordering) → (ℕ → Tree) → ℕ → ℕ → Ordering
+place_by by key i j = ordering_then (by (key i) (key j)) (nat_cmp i j)
+
+sorted_pair : (o p : Ordering) (n m : ℕ) → p ≡ ordering_reverse o → is_lt (ordering_then p (nat_cmp m n)) ≡ false → not (n == m) ≡ true → ordering_then o (nat_cmp n m) ≡ Less
+sorted_pair o p n m e later other = grind (arith, nat_tests)
+
+equal_is : (o : Ordering) → is_eq o ≡ true → o ≡ Equal
+equal_is Equal h = refl
+equal_is _ h = absurd cc
+
+module _ (R : Tree → Tree → Ordering) (total : IsTotalOrder R) (key : ℕ → Tree) where
+  -- some entry of the same place has its sort key
+  abbrev There : List KeyAt → KeyAt → Type 0
+  There es e = list_any (λ x. (x.1 == e.1) && is_eq (R x.0 (key e.1))) es ≡ true
+
+  -- of an entry that comes first of its document the key is the sort key
+  first_is : (e : KeyAt) (es : List KeyAt) → is_lt (R e.0 (key e.1)) ≡ false → AllByRecursion (λ x. is_lt (entry_by R x e) ≡ false) es → There (e ∷ es) e → R e.0 (key e.1) ≡ Equal
+  first_is e es low up there =
+      let a = Any-from_list_any (λ x. (x.1 == e.1) && is_eq (R x.0 (key e.1))) (e ∷ es) there in
+      let x : KeyAt = a.1 in
+      let all : All (λ y. is_lt (entry_by R y e) ≡ false) (e ∷ es) = All-from_recursion _ (e ∷ es) (ap is_lt (tied_itself (by_total total) e), up) in
+      let later : is_lt (entry_by R x e) ≡ false = subst (λ (y : KeyAt). is_lt (entry_by R y e) ≡ false) a.3 (all a.0 x a.2) in
+      let tied : R x.0 (key e.1) ≡ Equal = equal_is (R x.0 (key e.1)) (and_parts (x.1 == e.1) _ a.4).1 in
+      neither_less (R e.0 (key e.1)) (R (key e.1) e.0) (total.antisymm e.0 (key e.1)) low
+      (sym (ap is_lt (total.congr x.0 (key e.1) e.0 tied)) ∙ first_not_less (R x.0 e.0) (nat_cmp x.1 e.1) later)
+
+  keyed : (es : List KeyAt) → Rises R es → All (λ e. is_lt (R e.0 (key e.1)) ≡ false) es → All (λ f. There es f → R f.0 (key f.1) ≡ Equal) (firsts at_one es)
+  keyed [] up low = All-nil _
+  keyed (e ∷ es) up low =
+      let low_after = All-tail (λ x. is_lt (R x.0 (key x.1)) ≡ false) e es low in
+      All-cons (λ f. There (e ∷ es) f → R f.0 (key f.1) ≡ Equal) e (filter (λ x. not (at_one e x)) (firsts at_one es))
+      (first_is e es (All-head (λ x. is_lt (R x.0 (key x.1)) ≡ false) e es low) up.0)
+      (λ i d lt there. All-filter (λ x. not (at_one e x)) (λ f. There es f → R f.0 (key f.1) ≡ Equal) (firsts at_one es) (keyed es up.1 low_after) i d lt
+      (rw (not-true _ (filter_passes (λ x. not (at_one e x)) (firsts at_one es) i d lt)) at there))
+
+  -- f is not before e, and of another place
+  abbrev After : KeyAt → KeyAt → Type 0
+  After e f = (is_lt (entry_by R f e) ≡ false) × (not (e.1 == f.1) ≡ true)
+
+  ordered : (es : List KeyAt) → Rises R es → AllPairs After (firsts at_one es)
+  ordered [] up = λ i j d a b. absurd (omega arith)
+  ordered (e ∷ es) up =
+      let rest = firsts at_one es in
+      let above = all_firsts at_one (λ f. is_lt (entry_by R f e) ≡ false) es (All-from_recursion (λ f. is_lt (entry_by R f e) ≡ false) es up.0) in
+      AllPairs-cons After e (filter (λ x. not (at_one e x)) rest)
+      (λ i d lt. (All-filter (λ x. not (at_one e x)) (λ f. is_lt (entry_by R f e) ≡ false) rest above i d lt, filter_passes (λ x. not (at_one e x)) rest i d lt))
+      (AllPairs-filter After (λ x. not (at_one e x)) rest (ordered es up.1))
+
+  placed : (x y : KeyAt) → After x y → R x.0 (key x.1) ≡ Equal → R y.0 (key y.1) ≡ Equal → place_by R key x.1 y.1 ≡ Less
+  placed x y later ex ey =
+      let keys = total.congr x.0 (key x.1) y.0 ex ∙ alike_right total y.0 (key y.1) (key x.1) ey in
+      sorted_pair (R (key x.1) (key y.1)) (R y.0 x.0) x.1 y.1 (total.antisymm y.0 x.0 ∙ ap ordering_reverse keys) later.0 later.1
 
 -- ---- the places in turn
 
@@ -113,156 +193,104 @@ pub record AreOrdered (dir : Dir) (path : Names) (ds : List Doc) (es : List KeyA
   pub same : (test : KeyAt → Bool) → count_by test es ≡ count_by test (entries_of false path ds)
   pub rises : Rises (dir_cmp dir) es
 
-abbrev key_of : Dir → Names → List Doc → ℕ → Tree
-key_of dir path ds n = sort_key dir (document_at ds n) path
-
-ready : (dir : Dir) (path : Names) (ds : List Doc) (es : List KeyAt) → AreOrdered dir path ds es → Ready (dir_cmp dir) (key_of dir path ds) (λ n. nat_lt n (length ds)) [] es
-ready dir path ds es a = record {
-  settled = tt;
-  ahead = λ q h fresh.
-      let lt : q < length ds = ltb-true q (length ds) h in
-      let t : KeyAt → Bool = λ e. (e.1 == q) && is_eq (dir_cmp dir e.0 (key_of dir path ds q)) in
-      any_as_counts t es (entries_of false path ds) (a.same t)
-      ∙ some_entry t path 0 ds q lt
-      (let z : 0 + q ≡ q = omega arith in
-      ap (λ (b : Bool). list_any (λ k. b && is_eq (dir_cmp dir k (key_of dir path ds q))) (keys_of path ds q)) (eq-eqb (0 + q) q z) ∙ (sort_key_best dir (document_at ds q) path).there);
-  low = none_of (λ e. is_lt (dir_cmp dir e.0 (key_of dir path ds e.1))) es (entries_of false path ds) (a.same (λ e. is_lt (dir_cmp dir e.0 (key_of dir path ds e.1))))
-      (all_entries (λ e. is_lt (dir_cmp dir e.0 (key_of dir path ds e.1)) ≡ false) path 0 ds
-      (λ i lt. let z : i ≡ 0 + i = omega arith in subst (λ (m : ℕ). AllByRecursion (λ k. is_lt (dir_cmp dir k (key_of dir path ds m)) ≡ false)
-      (keys_of path ds i)) z (sort_key_best dir (document_at ds i) path).low));
-  rises = a.rises;
-  places = places_below path ds es a.same;
-}
-
--- a sort by one path
-one_path : (o r : Ordering) → ordering_then o r ≡ Less → is_lt (ordering_then (ordering_then o Equal) r) ≡ true
-one_path Less r h = refl
-one_path Equal r h = ap is_lt h
-one_path Greater r h = absurd (cc)
-
-pairs_from : (c : ℕ → ℕ → Ordering) (ps : List ℕ) → Ascends c ps → AllPairs (λ x y. c x y ≡ Less) ps
-pairs_from c [] h i j d a b = absurd (omega arith)
-pairs_from c (p ∷ ps) h zero zero d a b = absurd (omega arith)
-pairs_from c (p ∷ ps) h zero (suc j) d a b = All-from_recursion (λ q. c p q ≡ Less) ps h.0 j d (omega arith)
-pairs_from c (p ∷ ps) h (suc i) zero d a b = absurd (omega arith)
-pairs_from c (p ∷ ps) h (suc i) (suc j) d a b = pairs_from c ps h.1 i j d (omega arith) (omega arith)
-
-pub walks : (dir : Dir) (path : Names) (ds : List Doc) (es : List KeyAt) (ps : List ℕ) → AreOrdered dir path ds es → ps ≡ first_places [] es → WalksAll dir path ds ps
-walks dir path ds es ps a is =
-    let d = in_turn (dir_cmp dir) (dir_total dir) (key_of dir path ds) (λ n. nat_lt n (length ds)) [] es (ready dir path ds es a) in
-    subst (λ (l : List ℕ). WalksAll dir path ds l) (sym is)
-    (record {
-      order = λ i j e low high. one_path (dir_cmp dir (key_of dir path ds (get_or (first_places [] es) i e))
-          (key_of dir path ds (get_or (first_places [] es) j e))) (nat_cmp (get_or (first_places [] es) i e) (get_or (first_places [] es) j e))
-          (pairs_from (place_by (dir_cmp dir) (key_of dir path ds)) (first_places [] es) d.order i j e low high);
-      all = λ n. go (first_places [] es) n (nat_lt n (length ds)) refl (d.all n) d.places;
-    })
-  where
-    go : (ls : List ℕ) (n : ℕ) (b : Bool) → nat_lt n (length ds) ≡ b → (nat_lt n (length ds) ≡ true → list_any (λ m. m == n) ls ≡ true)
-        → AllByRecursion (λ q. nat_lt q (length ds) ≡ true) ls → list_any (λ m. m == n) ls ≡ nat_lt n (length ds)
-    go ls n true e f g = f e ∙ sym e
-    go ls n false e f g = none_any (λ m. m == n) ls (all_map (λ q h. other q (q == n) refl h) ls g) ∙ sym e
-      where
-        other : (q : ℕ) (b : Bool) → (q == n) ≡ b → nat_lt q (length ds) ≡ true → (q == n) ≡ false
-        other q false s h = s
-        other q true s h = let x : true ≡ false = sym h ∙ ap (λ (m : ℕ). nat_lt m (length ds)) (eqb-true q n s) ∙ e in absurd (cc)
-
--- ---- both directions
-
-upward_rises : (es : List KeyAt) → Ascend es → Rises (dir_cmp Up) es
-upward_rises [] h = tt
-upward_rises (e ∷ es) h = (h.0, upward_rises es h.1)
-
 pub upward : (path : Names) (ds : List Doc) (es : List KeyAt) → AreEntries false path ds es → AreOrdered Up path ds es
-upward path ds es a = record { same = a.same; rises = upward_rises es (ascend_from_sorted es a.sorted) }
+upward path ds es a = record { same = a.same; rises = ascend_from_sorted es a.sorted }
 
 pub from_above : (path : Names) (ds : List Doc) (es : List KeyAt) → AreEntries false path ds es → AreOrdered Down path ds (downward es)
 from_above path ds es a = record { same = λ test. count_downward test es ∙ a.same test; rises = downward_rises es (ascend_from_sorted es a.sorted) }
 
+module _ (dir : Dir) (path : Names) (ds : List Doc) (es : List KeyAt) (a : AreOrdered dir path ds es) where
+  abbrev key : ℕ → Tree
+  key n = sort_key dir (document_at ds n) path
+
+  any_same : (t : KeyAt → Bool) → list_any t es ≡ list_any t (entries_of false path ds)
+  any_same t = any_as_counts t es (entries_of false path ds) (a.same t)
+
+  places_are : (p : ℕ) → list_any (λ e. e.1 == p) es ≡ nat_lt p (length ds)
+  places_are p = any_same (λ e. e.1 == p) ∙ place_there path 0 ds p ∙ grind (arith, nat_tests)
+
+  places_below : All (λ e. e.1 < length ds) es
+  places_below i d lt = let p = (get_or es i d).1 in ltb-true p (length ds) (sym (places_are p) ∙ list_any_at (λ e. e.1 == p) es i d lt (eq-eqb p p refl))
+
+  low : All (λ e. is_lt (dir_cmp dir e.0 (key e.1)) ≡ false) es
+  low i d lt = false_from_ne_true _ (λ h.
+      let t : KeyAt → Bool = λ e. is_lt (dir_cmp dir e.0 (key e.1)) in
+      let some : list_any t (entries_of false path ds) ≡ true = sym (any_same t) ∙ list_any_at t es i d lt h in
+      let none : list_any t (entries_of false path ds) ≡ false = no_entry t path 0 ds (λ n below. let z : n ≡ 0 + n = omega arith in
+      subst (λ (m : ℕ). list_any (λ k. t (k, m)) (keys (document_at ds n) path) ≡ false) z (sort_key_best dir (document_at ds n) path).low) in cc)
+
+  there : (p : ℕ) → p < length ds → list_any (λ e. (e.1 == p) && is_eq (dir_cmp dir e.0 (key p))) es ≡ true
+  there p lt =
+      let z : 0 + p ≡ p = omega arith in
+      any_same (λ e. (e.1 == p) && is_eq (dir_cmp dir e.0 (key p)))
+      ∙ some_entry (λ e. (e.1 == p) && is_eq (dir_cmp dir e.0 (key p))) path 0 ds p lt
+      (ap (λ (b : Bool). list_any (λ k. b && is_eq (dir_cmp dir k (key p))) (keys (document_at ds p) path)) (eq-eqb (0 + p) p z) ∙ (sort_key_best dir (document_at ds p) path).there)
+
+  -- a sort by one path
+  one_path : (o r : Ordering) → ordering_then o r ≡ Less → is_lt (ordering_then (ordering_then o Equal) r) ≡ true
+  one_path o r h = grind arith
+
+  walks : WalksAll dir path ds (map (λ e. e.1) (firsts at_one es))
+  walks = record {
+    order = λ i j d before inside.
+        let fs = firsts at_one es in
+        let n = length-map fs (λ e. e.1) in
+        let none : KeyAt = (leaf null, 0) in
+        let x = get_or fs i none in
+        let y = get_or fs j none in
+        let below = all_firsts at_one (λ e. e.1 < length ds) es places_below in
+        let first = keyed (dir_cmp dir) (dir_total dir) key es a.rises low in
+        rw (get_or-map (λ e. e.1) fs i none d (omega arith), get_or-map (λ e. e.1) fs j none d (omega arith))
+        (one_path (dir_cmp dir (key x.1) (key y.1)) (nat_cmp x.1 y.1)
+        (placed (dir_cmp dir) (dir_total dir) key x y (ordered (dir_cmp dir) (dir_total dir) key es a.rises i j none before (omega arith))
+        (first i none (omega arith) (there x.1 (below i none (omega arith)))) (first j none (omega arith) (there y.1 (below j none (omega arith))))));
+    all = λ p. sym (any_map (λ q. q == p) (λ e. e.1) (firsts at_one es)) ∙ any_firsts at_one (λ e. e.1 == p) (λ x y h. other_place x.1 y.1 p h) es ∙ places_are p;
+  }
+
+  pub room_for : (n : ℕ) → n ≡ length ds → All (λ p. p < n) (map (λ e. e.1) es)
+  room_for n size = All-map (λ p. p < n) (λ e. e.1) es (λ i d lt. let low = places_below i d lt in omega arith)
+
 -- ---- marks in place of a list of what came
 
-abbrev AreMarks : List Bool → List ℕ → Type 0
-AreMarks seen ps = (k : ℕ) → k < length seen → get_or seen k true ≡ list_any (λ m. m == k) ps
-
-marked : (seen : List Bool) (ps : List ℕ) (p : ℕ) → p < length seen → AreMarks seen ps → AreMarks (set seen p true) (ps ++ p ∷ [])
-marked seen ps p lt marks k low =
+fresh_firsts : (seen : List Bool) (ps : List ℕ) → All (λ p. p < length seen) ps → fresh_places seen ps ≡ filter (λ p. not (get_or seen p true)) (firsts (λ n m. n == m) ps)
+fresh_firsts seen [] below = refl
+fresh_firsts seen (p ∷ ps) below =
     let n = length-set seen p true in
-    go (p == k) refl (marks k (omega arith))
+    let lt : p < length seen = All-head (λ q. q < length seen) p ps below in
+    let rest = All-tail (λ q. q < length seen) p ps below in
+    go (get_or seen p true) refl lt (fresh_firsts seen ps rest) (fresh_firsts (set seen p true) ps (λ k d low. let r = rest k d low in omega arith))
   where
-    last : (test : ℕ → Bool) (xs : List ℕ) (x : ℕ) → list_any test (xs ++ x ∷ []) ≡ (list_any test xs || test x)
-    last test [] x = one (test x)
-      where
-        one : (b : Bool) → (b || false) ≡ b
-        one true = refl
-        one false = refl
-    last test (y ∷ ys) x = ap (λ (b : Bool). test y || b) (last test ys x) ∙ regroup (test y) (list_any test ys) (test x)
-      where
-        regroup : (a b c : Bool) → (a || (b || c)) ≡ ((a || b) || c)
-        regroup true b c = refl
-        regroup false b c = refl
+    new : List Bool → ℕ → Bool
+    new s q = not (get_or s q true)
 
-    or_true : (a : Bool) → true ≡ (a || true)
-    or_true true = refl
-    or_true false = refl
+    all : List ℕ
+    all = firsts (λ n m. n == m) ps
 
-    or_false : (a : Bool) → a ≡ (a || false)
-    or_false true = refl
-    or_false false = refl
+    others : List ℕ
+    others = filter (λ q. not (p == q)) all
 
-    go : (b : Bool) → (p == k) ≡ b → get_or seen k true ≡ list_any (λ m. m == k) ps → get_or (set seen p true) k true ≡ list_any (λ m. m == k) (ps ++ p ∷ [])
-    go true e h = let same : p ≡ k = eqb-true p k e in subst (λ (j : ℕ). get_or (set seen p true) j true ≡ true) same
-        (get_or-set_same seen p true true lt) ∙ or_true (list_any (λ m. m == k) ps) ∙ ap (λ (b : Bool). list_any (λ m. m == k) ps || b) (sym e)
-        ∙ sym (last (λ m. m == k) ps p)
-    go false e h = get_or-set_other seen p k true true (λ same. let f : true ≡ false = sym (eq-eqb p k (sym same)) ∙ e in cc) ∙ h
-        ∙ or_false (list_any (λ m. m == k) ps) ∙ ap (λ (b : Bool). list_any (λ m. m == k) ps || b) (sym e) ∙ sym (last (λ m. m == k) ps p)
+    marked : (q : ℕ) → p < length seen → new (set seen p true) q ≡ (not (p == q) && new seen q)
+    marked q lt = elim (cases_eq q p) [
+      | inl e ↦ (let s = get_or-set_same seen p true true lt in grind (arith, nat_tests))
+      | inr n ↦ (let s = get_or-set_other seen p q true true n in grind (arith, nat_tests))
+    ]
 
-pub fresh_are_first : (seen : List Bool) (ps : List ℕ) (es : List KeyAt) → AllByRecursion (λ e. e.1 < length seen) es → AreMarks seen ps → fresh_places seen (map (λ e. e.1) es) ≡ first_places ps es
-fresh_are_first seen ps [] low marks = refl
-fresh_are_first seen ps (e ∷ es) low marks =
-    let n = length-set seen e.1 true in
-    ap (λ (b : Bool). cond b (fresh_places seen (map (λ x. x.1) es)) (e.1 ∷ fresh_places (set seen e.1 true) (map (λ x. x.1) es))) (marks e.1 low.0)
-    ∙ go (list_any (λ m. m == e.1) ps) (fresh_are_first seen ps es low.1 marks)
-    (fresh_are_first (set seen e.1 true) (ps ++ e.1 ∷ []) es (all_map (λ x lt. omega arith) es low.1) (marked seen ps e.1 low.0 marks))
-  where
-    go : (b : Bool) → fresh_places seen (map (λ x. x.1) es) ≡ first_places ps es → fresh_places (set seen e.1 true) (map (λ x. x.1) es) ≡ first_places (ps ++ e.1 ∷ []) es
-        → cond b (fresh_places seen (map (λ x. x.1) es)) (e.1 ∷ fresh_places (set seen e.1 true) (map (λ x. x.1) es)) ≡ cond b (first_places ps es) (e.1 ∷ first_places (ps ++ e.1 ∷ []) es)
-    go true on after = on
-    go false on after = ap (λ (l : List ℕ). e.1 ∷ l) after
+    passed : (q : ℕ) → get_or seen p true ≡ true → (not (p == q) && new seen q) ≡ new seen q
+    passed q e = grind (arith, nat_tests)
+
+    go : (b : Bool) → get_or seen p true ≡ b → p < length seen → fresh_places seen ps ≡ filter (new seen) all → fresh_places (set seen p true) ps ≡ filter (new (set seen p true)) all
+        → cond b (fresh_places seen ps) (p ∷ fresh_places (set seen p true) ps) ≡ cond (not b) (p ∷ filter (new seen) others) (filter (new seen) others)
+    go true e lt on after = on ∙ sym (filter_both (new seen) (λ q. not (p == q)) all ∙ filter_agree _ (new seen) (λ q. passed q e) all)
+    go false e lt on after = ap (λ (l : List ℕ). p ∷ l) (after ∙ filter_agree (new (set seen p true)) _ (λ q. marked q lt) all ∙ sym (filter_both (new seen) (λ q. not (p == q)) all))
 
 -- a walk from its start
 pub walks_fresh : (dir : Dir) (path : Names) (ds : List Doc) (es : List KeyAt) (seen : List Bool) → AreOrdered dir path ds es
     → length seen ≡ length ds → ((k : ℕ) (d : Bool) → k < length ds → get_or seen k d ≡ false)
     → WalksAll dir path ds (fresh_places seen (map (λ e. e.1) es))
 walks_fresh dir path ds es seen a size none =
-    let low : AllByRecursion (λ e. e.1 < length seen) es = all_map (λ e h. let lt : e.1 < length ds = ltb-true e.1 (length ds) h in omega arith) es (places_below path ds es a.same) in
-    walks dir path ds es (fresh_places seen (map (λ e. e.1) es)) a (fresh_are_first seen [] es low (λ k lt. none k true (omega arith)))
-
-pub room_for : (path : Names) (ds : List Doc) (es : List KeyAt) (n : ℕ)
-    → ((test : KeyAt → Bool) → count_by test es ≡ count_by test (entries_of false path ds)) → n ≡ length ds → All (λ p. p < n) (map (λ e. e.1) es)
-room_for path ds es n same size = All-from_recursion (λ p. p < n) (map (λ e. e.1) es) (go es (places_below path ds es same))
-  where
-    go : (xs : List KeyAt) → AllByRecursion (λ e. nat_lt e.1 (length ds) ≡ true) xs → AllByRecursion (λ p. p < n) (map (λ e. e.1) xs)
-    go [] h = tt
-    go (x ∷ xs) h = (let lt : x.1 < length ds = ltb-true x.1 (length ds) h.0 in omega arith, go xs h.1)
-
--- ---- a step
-
-any_default : (xs : List Bool) (k : ℕ) (d e : Bool) → k < length xs → get_or xs k d ≡ get_or xs k e
-any_default [] k d e lt = absurd (omega arith)
-any_default (x ∷ xs) zero d e lt = refl
-any_default (x ∷ xs) (suc k) d e lt = any_default xs k d e (omega arith)
-
-pub place_seen : (seen : List Bool) (ahead : List ℕ) (old : List ℕ) (p : ℕ) (r : Bool) → old ≡ p ∷ ahead → p < length seen → r ≡ get_or seen p r
-    → r ≡ true → fresh_places seen ahead ≡ fresh_places seen old
-place_seen seen ahead old p r is lt read was =
-    let known : get_or seen p true ≡ true = any_default seen p true r lt ∙ sym read ∙ was in
-    sym (ap (fresh_places seen) is ∙ ap (λ (b : Bool). cond b (fresh_places seen ahead) (p ∷ fresh_places (set seen p true) ahead)) known)
-
-pub place_fresh : (seen : List Bool) (ahead : List ℕ) (old : List ℕ) (p : ℕ) (r : Bool) → old ≡ p ∷ ahead → p < length seen → r ≡ get_or seen p r
-    → r ≡ false → fresh_places seen old ≡ p ∷ fresh_places (set seen p true) ahead
-place_fresh seen ahead old p r is lt read was =
-    let known : get_or seen p true ≡ false = any_default seen p true r lt ∙ sym read ∙ was in
-    ap (fresh_places seen) is ∙ ap (λ (b : Bool). cond b (fresh_places seen ahead) (p ∷ fresh_places (set seen p true) ahead)) known
-
-pub room_after : (n : ℕ) (old after : List ℕ) (p : ℕ) → old ≡ p ∷ after → All (λ q. q < n) old → (m : ℕ) → m ≡ n → All (λ q. q < m) after
-room_after n old after p is all m same k d lt = let all_of : All (λ q. q < n) (p ∷ after) = subst (λ (l : List ℕ). All (λ q. q < n) l) is all in let low = all_of (suc k) d (omega arith) in omega arith
+    let ps = map (λ e. e.1) es in
+    let below : All (λ p. p < length seen) ps = room_for dir path ds es a (length seen) size in
+    let all = firsts (λ n m. n == m) ps in
+    let fresh = all_pass (λ p. not (get_or seen p true)) all (λ i d lt.
+    let low = all_firsts (λ n m. n == m) (λ p. p < length seen) ps below i d lt in ap not (none (get_or all i d) true (omega arith))) in
+    subst (WalksAll dir path ds) (firsts_map (λ e. e.1) (λ n m. n == m) es ∙ sym fresh ∙ sym (fresh_firsts seen ps below)) (walks dir path ds es a)

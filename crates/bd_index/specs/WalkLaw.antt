@@ -1,10 +1,11 @@
 -- A walk is a source of places: it has that of each document, and none twice.
-use Rattle.std.proofs.Common.{◌≡◌, ◌<◌, ℕ, zero, suc, Bool, true, false, List, [], ◌∷◌, length, get_or, refl, sym, ap, ◌∙◌, arith, subst, eq-eqb}
-use Rattle.std.specs.Prelude.{◌==◌, ◌||◌, Contains}
+use Rattle.std.proofs.Common.{◌≡◌, ◌<◌, ℕ, Bool, true, false, List, [], ◌∷◌, length, get_or, refl, sym, ◌∙◌, arith, subst, eq-eqb}
+use Rattle.std.specs.Prelude.{◌==◌, Contains}
 use Rattle.std.specs.Cmp.{IsTotalOrder}
 use Rattle.std.specs.List.{list_any}
 use Rattle.std.proofs.lemmas.Bool.{eqb-true, lt-ltb, ltb-true}
 use Rattle.std.proofs.lemmas.Cmp.{on_total}
+use Rattle.std.proofs.lemmas.List.Folds.{Any-from_list_any, list_any_at}
 use Rattle.bd_value.specs.Tree.{Doc}
 use Rattle.bd_answer.specs.Answer.{before}
 use Rattle.bd_answer.specs.Source.{IsSource}
@@ -23,33 +24,23 @@ pub record WalksEach (n : ℕ) (places : List ℕ) : Type 0 where
   pub count : n ≡ length documents
   pub walks : WalksAll dir path documents places
 
-later : (a b : Bool) → b ≡ true → (a || b) ≡ true
-later true b h = refl
-later false b h = h
-
-member : (ps : List ℕ) (k d : ℕ) → k < length ps → list_any (λ m. m == get_or ps k d) ps ≡ true
-member [] k d lt = absurd (omega arith)
-member (p ∷ ps) zero d lt = rw (eq-eqb p p refl) refl
-member (p ∷ ps) (suc k) d lt = later (p == get_or ps k d) (list_any (λ m. m == get_or ps k d) ps) (member ps k d (omega arith))
-
 contained : (ps : List ℕ) (q : ℕ) → list_any (λ m. m == q) ps ≡ true → Contains ps q
-contained [] q h = absurd (let f : ⊥ = cc in f)
-contained (p ∷ ps) q h = go (p == q) refl (contained ps q)
-  where
-    go : (b : Bool) → (p == q) ≡ b → (list_any (λ m. m == q) ps ≡ true → Contains ps q) → Contains (p ∷ ps) q
-    go true e rest = (0, omega arith, eqb-true p q e)
-    go false e rest = let r = rest (ap (λ (b : Bool). b || list_any (λ m. m == q) ps) (sym e) ∙ h) in (suc r.0, omega (arith, r.1), r.2)
+contained ps q h = let a = Any-from_list_any (λ m. m == q) ps h in (a.0, a.2, subst (λ (m : ℕ). get_or ps a.0 m ≡ m) (eqb-true a.1 q a.4) a.3)
 
 order_total : (dir : Dir) (path : Names) (ds : List Doc) → IsTotalOrder (walk_order dir path ds)
 order_total dir path ds = on_total (document_at ds) (sort_total (record { path = path; dir = dir } ∷ []))
 
 pub walk_law : (n : ℕ) (hits : ℕ → Bool) (ps : List ℕ) → WalksEach n ps → IsSource n hits ps
 walk_law n hits ps w = record {
-  below = λ k d lt. let low : get_or ps k d < length w.documents = ltb-true (get_or ps k d) (length w.documents) (sym (w.walks.all (get_or ps k d)) ∙ member ps k d lt) in let c = w.count in omega arith;
+  below = λ k d lt.
+      let p = get_or ps k d in
+      let low : p < length w.documents = ltb-true p (length w.documents) (sym (w.walks.all p) ∙ list_any_at (λ m. m == p) ps k d lt (eq-eqb p p refl)) in
+      let c = w.count in omega arith;
   distinct = λ i j d a b same.
       let by = walk_order w.dir w.path w.documents in
       let up : before by (get_or ps i d) (get_or ps j d) ≡ true = w.walks.order i j d a b in
-      let none : before by (get_or ps i d) (get_or ps j d) ≡ false = subst (λ (p : ℕ). before by (get_or ps i d) p ≡ false) same ((before_strict by (order_total w.dir w.path w.documents)).irreflexive (get_or ps i d)) in
+      let strict = before_strict by (order_total w.dir w.path w.documents) in
+      let none : before by (get_or ps i d) (get_or ps j d) ≡ false = subst (λ (p : ℕ). before by (get_or ps i d) p ≡ false) same (strict.irreflexive (get_or ps i d)) in
       let f : true ≡ false = sym up ∙ none in cc;
   complete = λ p lt hit. contained ps p (w.walks.all p ∙ lt-ltb p (length w.documents) (let c = w.count in omega arith));
 }

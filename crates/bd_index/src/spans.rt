@@ -1,7 +1,6 @@
 //! The positions of the entries inside bounds.
 
-ghost use Rattle.std.specs.Prelude.{IfOk, map, true};
-ghost use Rattle.bd_bson.specs.declared.collection.Dump.{Dump};
+ghost use Rattle.std.specs.Prelude.{IfOk, map};
 ghost use Rattle.bd_bounds.specs.Bounds.{intersection, is_among, union};
 ghost use Rattle.bd_bounds.specs.BoundsView.{keys_within};
 ghost use Rattle.bd_index.specs.IndexView.{IsIndexOf};
@@ -29,20 +28,15 @@ impl Index {
     {
         match bounds {
             Some(bounds) => self.spans_within(alloc, dump, bounds),
-            None => self.whole_span(alloc),
+            None => {
+                let mut spans = Vec::new(alloc);
+                spans.push(Span {
+                    from: 0,
+                    to: self.entries.len(),
+                })?;
+                Ok(spans)
+            }
         }
-    }
-
-    /// All positions.
-    fn whole_span(&self, alloc: Global) -> Result<Vec<Span>, NoMemory>
-        ensures { IfOk result (λ v. (dump : Dump) (h : IsIndexOf dump self.now) → CoverKeys h.keeps.entries (λ k. true) v.items) }
-    {
-        let mut spans = Vec::new(alloc);
-        spans.push(Span {
-            from: 0,
-            to: self.entries.len(),
-        })?;
-        Ok(spans)
     }
 
     /// A range takes two searches. Of the members of an `$in` that are parts of two bounds none is tried with each of the others.

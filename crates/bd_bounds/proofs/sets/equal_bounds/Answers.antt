@@ -1,10 +1,32 @@
-use Rattle.std.proofs.Common.{◌≡◌, [], ◌∷◌, map, ap, ◌∙◌, sym, rules}
+use Rattle.std.proofs.Common.{◌≡◌, Bool, true, false, ◌&&◌, ◌||◌, List, [], ◌∷◌, map, Vec, arith, ap, ◌∙◌, sym, rules}
+use Rattle.std.proofs.Math.Path.{fun_ext}
+use Rattle.std.specs.declared.alloc.Global.{Global}
+use Rattle.bd_value.specs.Order.{equal}
+use Rattle.bd_value.specs.Parts.{elements_in}
+use Rattle.bd_value.specs.Tree.{Tree}
 use Rattle.bd_value.specs.View.{tree_of}
-use Rattle.bd_bounds.specs.Bounds.{first_or_undefined, keys_equal_to, keys_of_equal}
+use Rattle.bd_value.specs.declared.document.Value.{Value}
+use Rattle.bd_value.specs.declared.document.Value.TheVariants as values
+use Rattle.bd_value.proofs.NodeTreeLemmas.{list_of-items_of}
+use Rattle.bd_value.proofs.ViewLemmas.{tree_of-Array}
+use Rattle.bd_filter.specs.FilterMatch.{is_array}
+use Rattle.bd_bounds.specs.Bounds.{KeySet, first_or_undefined, keys_equal_to, keys_of_equal, union}
 use Rattle.bd_bounds.specs.BoundsView.{keys_within}
-use Rattle.bd_bounds.proofs.BoundsViewLemmas.{keys_within-Or}
-use Rattle.bd_bounds.proofs.SetsLemmas.{array_keys}
+use Rattle.bd_bounds.proofs.FilterBoundsLemmas.{keys_within-Or}
 use Rattle.bd_bounds.proofs.sets.equal_bounds.Goals as goal
+
+-- an array, or its first element
+array_keys : (elements : Vec Value Global) (sets : List KeySet)
+    → sets ≡ keys_equal_to (tree_of (values.Array elements)) ∷ keys_equal_to (first_or_undefined (map tree_of elements.items)) ∷ []
+    → union sets ≡ keys_of_equal (tree_of (values.Array elements))
+array_keys elements sets is =
+    let whole : is_array (tree_of (values.Array elements)) ≡ true = ap is_array (tree_of-Array elements) in
+    let first = ap (λ (t : Tree). first_or_undefined (elements_in t)) (tree_of-Array elements) ∙ ap first_or_undefined (list_of-items_of (map tree_of elements.items)) in
+    ap union is
+    ∙ fun_ext (λ k. either (equal k (tree_of (values.Array elements))) (equal k (first_or_undefined (map tree_of elements.items))) _ _ whole (ap (equal k) first))
+  where
+    either : (a b c d : Bool) → c ≡ true → d ≡ b → (a || (b || false)) ≡ (a || (c && d))
+    either a b c d e f = grind arith
 
 pub returns : goal.returns
 returns c =

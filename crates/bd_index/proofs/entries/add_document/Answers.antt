@@ -1,4 +1,4 @@
-use Rattle.std.proofs.Common.{◌≡◌, ◌++◌, Bool, List, None, map, rules, refl, sym, subst, ap, ◌∙◌}
+use Rattle.std.proofs.Common.{◌≡◌, Bool, None, map, rules}
 use Rattle.std.specs.Ordering.{is_lt}
 use Rattle.std.proofs.lemmas.Fn.{always_returns_same}
 use Rattle.std.proofs.lemmas.List.Elements.{All-nil}
@@ -10,9 +10,9 @@ use Rattle.bd_index.specs.Entries.{entry_cmp, keys_at}
 use Rattle.bd_index.specs.FoundKeyView.{AreFoundIn, IsFoundIn, found_entry, raw_tree}
 use Rattle.bd_index.specs.Repeats.{without_repeats}
 use Rattle.bd_index.specs.declared.found_key.FoundKey.{FoundKey}
-use Rattle.bd_index.proofs.EntryLemmas.{entry_total, sorted_map}
-use Rattle.bd_index.proofs.FoundKeyLemmas.{as_they_came, found_lt}
-use Rattle.bd_index.proofs.RepeatLemmas.{ascend_from_sorted, counted_own, own_once}
+use Rattle.bd_index.proofs.EntriesLemmas.{counted_own}
+use Rattle.bd_index.proofs.EntryLemmas.{ascend_from_sorted, entry_total, sorted_map}
+use Rattle.bd_index.proofs.RepeatLemmas.{found_lt, own_once}
 use Rattle.bd_index.proofs.entries.add_document.Goals as goal
 
 pub returns-clause-added : goal.returns-clause-added
@@ -24,14 +24,13 @@ returns-clause-added c test =
     let weak = ranks_by entry_total found_entry in
     let answers = always_returns_same _ _ _ (λ a r h k. search rules) in
     let up = ascend_from_sorted (map found_entry sorted) (sorted_map found_entry (λ a b. is_lt (entry_cmp a b)) sorted (c.in_ok-sort_by.ensures.sorted lt weak answers)) in
-    let raw : map found_entry own ≡ keys_at c.args.place ks = c.in_ok-add_found.ensures.added ∙ ap (λ l. map found_entry c.clear.new.self.items ++ keys_at c.args.place (key_trees raw_tree l)) c.deref.ensures.value ∙ ap (λ (l : List FoundKey). map found_entry l ++ keys_at c.args.place ks) c.clear.ensures.items in
-    let once = own_once c.args.place ks (map found_entry own) (map found_entry sorted) raw up (as_they_came own sorted (map found_entry own) refl (c.sort_by.ensures.stable lt weak answers)) test in
+    let raw : map found_entry own ≡ keys_at c.args.place ks = rw (c.deref.ensures.value, c.clear.ensures.items) at c.in_ok-add_found.ensures.added in
     counted_own test (map found_entry c.args.found.now.items) (map found_entry c.add_once.new.found.items) (without_repeats None (map found_entry sorted)) (keys_at c.args.place (distinct ks))
-    (c.in_ok-add_once.ensures.added ∙ ap (λ (l : List FoundKey). map found_entry c.args.found.now.items ++ without_repeats None (map found_entry l)) c.deref-2.ensures.value) once
+    (rw c.deref-2.ensures.value at c.in_ok-add_once.ensures.added) (own_once c.args.place ks own sorted raw up (c.sort_by.ensures.stable lt weak answers) test)
 
 pub returns-clause-kept : goal.returns-clause-kept
 returns-clause-kept c old =
     let bytes = bytes_of c.args.dump.now in
-    let none : AreFoundIn bytes c.clear.new.self.items = subst (AreFoundIn bytes) (sym c.clear.ensures.items) (All-nil (IsFoundIn bytes)) in
+    let none : AreFoundIn bytes c.clear.new.self.items = rw c.clear.ensures.items (All-nil (IsFoundIn bytes)) in
     let sorted = All-permutation (IsFoundIn bytes) c.add_found.new.found.items c.sort_by.new.self.items c.sort_by.ensures.permutation (c.in_ok-add_found.ensures.kept none) in
-    c.in_ok-add_once.ensures.kept bytes (subst (AreFoundIn bytes) (sym c.deref-2.ensures.value) sorted) old
+    c.in_ok-add_once.ensures.kept bytes (rw c.deref-2.ensures.value sorted) old

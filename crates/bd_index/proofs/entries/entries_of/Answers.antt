@@ -1,14 +1,14 @@
-use Rattle.std.proofs.Common.{Bool, List, map, rules, sym, subst, ◌∙◌}
+use Rattle.std.proofs.Common.{Bool, cond, List, map, rules, sym, subst, ◌∙◌}
 use Rattle.std.specs.Ordering.{is_lt}
 use Rattle.std.proofs.lemmas.Fn.{always_returns_same}
-use Rattle.std.proofs.lemmas.List.Sorted.{All-permutation, ranks_by}
+use Rattle.std.proofs.lemmas.List.Sorted.{All-permutation, IsPermutation-map, ranks_by, sum_by-IsPermutation}
 use Rattle.bd_bson.specs.Collection.{bytes_of}
 use Rattle.bd_index.specs.Entries.{entry_cmp}
 use Rattle.bd_index.specs.FoundKeyView.{AreFoundIn, IsFoundIn, found_entry}
 use Rattle.bd_index.specs.EntryView.{KeepsEntries}
 use Rattle.bd_index.specs.declared.found_key.FoundKey.{FoundKey}
 use Rattle.bd_index.proofs.EntryLemmas.{entry_total, sorted_map}
-use Rattle.bd_index.proofs.FoundKeyLemmas.{as_many_found, found_lt}
+use Rattle.bd_index.proofs.RepeatLemmas.{found_lt}
 use Rattle.bd_index.proofs.entries.entries_of.Goals as goal
 
 pub returns : goal.returns
@@ -24,7 +24,7 @@ returns c =
       entries = map found_entry sorted;
       stand = subst (λ (l : List FoundKey). KeepsEntries bytes c.in_ok-entries.entries.items (map found_entry l)) c.deref.ensures.value (c.in_ok-entries.ensures bytes kept);
       are = record {
-        same = λ test. as_many_found test found sorted c.sort_by.ensures.permutation ∙ c.in_ok-found.ensures.found test;
+        same = λ test. sum_by-IsPermutation (λ e. cond (test e) 1 0) _ _ (IsPermutation-map found_entry found sorted c.sort_by.ensures.permutation) ∙ c.in_ok-found.ensures.found test;
         sorted = sorted_map found_entry (λ a b. is_lt (entry_cmp a b)) sorted (c.in_ok-sort_by.ensures.sorted lt (ranks_by entry_total found_entry) answers);
       };
     }

@@ -8,7 +8,7 @@ use Rattle.bd_path.specs.KeyList.{distinct}
 use Rattle.bd_path.specs.PathNames.{names_of}
 use Rattle.bd_index.specs.Entries.{entries_from, entries_of, keys_at}
 use Rattle.bd_index.specs.FoundKeyView.{found_entry, raw_tree}
-use Rattle.bd_index.proofs.RepeatLemmas.{counted_more, one_more}
+use Rattle.bd_index.proofs.EntriesLemmas.{counted_more, one_more}
 use Rattle.bd_index.proofs.entries.find_all.Goals as goal
 
 pub loop-place-preserved : goal.loop-place-preserved

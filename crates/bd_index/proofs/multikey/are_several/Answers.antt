@@ -1,15 +1,10 @@
-use Rattle.std.proofs.Common.{◌≡◌, Bool, List, [], ◌∷◌, map, refl, sym, ap, ◌∙◌}
-use Rattle.std.specs.Prelude.{◌||◌, not}
-use Rattle.std.specs.List.{list_any}
+use Rattle.std.proofs.Common.{sym, ap, ◌∙◌}
+use Rattle.std.specs.Prelude.{not}
 use Rattle.bd_value.specs.Order.{equal}
-use Rattle.bd_value.specs.Tree.{Tree}
 use Rattle.bd_path.specs.Key.{key_tree, key_trees}
-use Rattle.bd_index.proofs.CountLemmas.{several}
+use Rattle.bd_index.proofs.EntryLemmas.{any_map}
+use Rattle.bd_index.proofs.RepeatLemmas.{several}
 use Rattle.bd_index.proofs.multikey.are_several.Goals as goal
-
-any_map : {A : Type 0} (test : Tree → Bool) (f : A → Tree) (xs : List A) → list_any (λ x. test (f x)) xs ≡ list_any test (map f xs)
-any_map test f [] = refl
-any_map test f (x ∷ xs) = ap (λ (b : Bool). test (f x) || b) (any_map test f xs)
 
 pub returns : goal.returns
 returns g c =

@@ -1,40 +1,39 @@
-use Rattle.std.proofs.Common.{◌≡◌, ◌+◌, ◌≤◌, List, All, get_or, refl, rules, subst, sym, ap, ◌∙◌, arith}
+use Rattle.std.proofs.Common.{◌≡◌, ◌≤◌, All, get_or, refl, rules, ap, arith}
 use Rattle.std.specs.List.Sorted.{IsNonDecreasingBy}
-use Rattle.std.proofs.lemmas.List.{drop_all}
+use Rattle.std.proofs.lemmas.List.{drop_all, get_or_default}
 use Rattle.std.proofs.lemmas.List.Sorted.{All-permutation, IsNonDecreasingBy-from_sort_by_key, list_any-IsPermutation}
-use Rattle.std.specs.Prelude.{◌||◌}
-use Rattle.bd_index.specs.Spans.{is_covered, is_in_span}
+use Rattle.bd_index.specs.Spans.{is_in_span}
 use Rattle.bd_index.specs.declared.span.Span.{Span}
-use Rattle.bd_index.proofs.SpanLemmas.{any_default, or_none, order_to, orders_joined, orders_one, orders_passed}
+use Rattle.bd_index.proofs.SpanLemmas.{order_to, orders_one, orders_passed}
 use Rattle.bd_index.proofs.span.in_order.Goals.{then-from-span+in_ok-push, else-from-span}
 use Rattle.bd_index.proofs.span.in_order.Goals as goal
 
 pub loop-span-preserved : goal.loop-span-preserved
 loop-span-preserved c =
     let spans = c.deref-span-items.result.now in
+    let ordered = c.loop-span.ordered.items in
     let i = c.loop-span.span-index in
     let end = c.loop-span.end in
     let lt = c.loop-span-test.true in
     let o = c.loop-span.invariant.orders in
     let b = c.loop-span.invariant.bound in
-    let s : Span = get_or spans i (record { from = 0; to = 0 }) in
-    let is : s ≡ get_or spans i s = any_default spans i (record { from = 0; to = 0 }) s lt in
-    let sorted : IsNonDecreasingBy (λ x. x.from) spans = subst (IsNonDecreasingBy (λ x. x.from)) (sym c.deref-span-items.ensures.value)
+    let d : Span = record { from = 0; to = 0 } in
+    let s : Span = get_or spans i d in
+    let is : s ≡ get_or spans i s = get_or_default spans i d s lt in
+    let sorted : IsNonDecreasingBy (λ x. x.from) spans = rw c.deref-span-items.ensures.value
     (IsNonDecreasingBy-from_sort_by_key (λ x. x.from) _ c.sort_unstable_by_key.ensures.sorted (λ a r q k. search rules)) in
-    let all : All (λ x. x.to ≤ c.args.count) spans = subst (λ (l : List Span). All (λ x. x.to ≤ c.args.count) l)
-    (sym c.deref-span-items.ensures.value) (All-permutation (λ x. x.to ≤ c.args.count) c.args.spans.items c.sort_unstable_by_key.new.self.items
-    c.sort_unstable_by_key.ensures.permutation c.requires) in
-    let low : s.to ≤ c.args.count = all i (record { from = 0; to = 0 }) lt in
+    let all : All (λ x. x.to ≤ c.args.count) spans = rw c.deref-span-items.ensures.value
+    (All-permutation (λ x. x.to ≤ c.args.count) c.args.spans.items c.sort_unstable_by_key.new.self.items c.sort_unstable_by_key.ensures.permutation c.requires) in
+    let low : s.to ≤ c.args.count = all i d lt in
     elim c.if-from-span.branch [
       | then-from-span+in_ok-push w ↦ record {
-        orders = orders_joined spans c.if-from-span.ordered.items w.push.new.self.items (i + 1) c.if-from-span.end s.to (ap (λ v. v.items) w.ordered-is) w.end-is
-            (orders_one spans c.loop-span.ordered.items w.push.new.self.items i end s (record { from = c.max-from.result; to = s.to }) sorted lt is
-            c.max-from.ensures refl w.if-from-span.true w.in_ok-push.ensures.items o);
+        orders = rw (ap (λ v. v.items) w.ordered-is, w.end-is) (orders_one spans ordered i end s lt is o w.push.new.self.items
+            (record { from = c.max-from.result; to = s.to }) sorted c.max-from.ensures refl w.if-from-span.true w.in_ok-push.ensures.items);
         bound = (let e = w.end-is in omega arith);
       }
       | else-from-span w ↦ record {
-        orders = orders_joined spans c.if-from-span.ordered.items c.loop-span.ordered.items (i + 1) c.if-from-span.end end (ap (λ v. v.items) w.ordered-is) w.end-is
-            (orders_passed spans c.loop-span.ordered.items i end s lt is (let f = w.if-from-span.false in let m = c.max-from.ensures in omega arith) o);
+        orders = rw (ap (λ v. v.items) w.ordered-is, w.end-is)
+            (orders_passed spans ordered i end s lt is o (let f = w.if-from-span.false in let m = c.max-from.ensures in omega arith));
         bound = (let e = w.end-is in omega arith);
       }
     ]
@@ -44,10 +43,6 @@ returns-clause-order c = order_to 0 c.loop-span.end c.args.count c.loop-span.ord
 
 pub returns-clause-same : goal.returns-clause-same
 returns-clause-same c k =
-    let spans = c.deref-span-items.result.now in
-    let i = c.loop-span.span-index in
-    sym (or_none (is_covered c.loop-span.ordered.items k))
-    ∙ ap (λ (l : List Span). is_covered c.loop-span.ordered.items k || is_covered l k) (sym (drop_all i spans (omega arith)))
-    ∙ c.loop-span.invariant.orders.same k
-    ∙ ap (λ (l : List Span). is_covered l k) c.deref-span-items.ensures.value
-    ∙ sym (list_any-IsPermutation (is_in_span k) c.args.spans.items c.sort_unstable_by_key.new.self.items c.sort_unstable_by_key.ensures.permutation)
+    let all = rw (drop_all c.loop-span.span-index c.deref-span-items.result.now (omega arith), c.deref-span-items.ensures.value) at (c.loop-span.invariant.orders.same k) in
+    let moved = list_any-IsPermutation (is_in_span k) c.args.spans.items c.sort_unstable_by_key.new.self.items c.sort_unstable_by_key.ensures.permutation in
+    grind (arith, all, moved)

@@ -1,23 +1,17 @@
-use Rattle.std.proofs.Common.{◌≡◌, ◌≤◌, List, [], ◌∷◌, ◌++◌, All, length, arith, sym, ap, ◌∙◌, subst}
-use Rattle.bd_bounds.specs.Bounds.{KeySet}
-use Rattle.bd_bounds.specs.BoundsView.{keys_between, keys_within}
-use Rattle.bd_bounds.specs.declared.bounds.Bounds.{Bounds}
-use Rattle.bd_index.specs.Spans.{AreInOrder, CoverKeys}
-use Rattle.bd_index.specs.declared.span.Span.{Span}
-use Rattle.bd_index.proofs.CoverLemmas.{all_append, covers_one, gaps_on, gaps_whole, keys_within-Range, union_on, union_whole}
+use Rattle.std.proofs.Common.{◌≡◌, ◌≤◌, length, arith}
+use Rattle.std.proofs.lemmas.List.Elements.{All-append}
+use Rattle.bd_bounds.specs.BoundsView.{keys_between}
 use Rattle.bd_index.proofs.OrderLemmas.{count_kept}
-use Rattle.bd_index.proofs.SpanLemmas.{order_below}
+use Rattle.bd_index.proofs.SpanLemmas.{covers_one, gaps_on, gaps_whole, keys_within-Range, order_within, union_on, union_whole}
 use Rattle.bd_index.proofs.index.Index.+spanning.Goals as goal
 
 pub spans_within-returns-in_ok-push-in-Range : goal.spans_within-returns-in_ok-push-in-Range
 spans_within-returns-in_ok-push-in-Range t c h =
-    let s = c.span_between.result in
     let n = count_kept c.args.dump.now c.args.self.now h in
-    subst (λ (b : Bounds). CoverKeys h.keeps.entries (keys_within b) c.push.new.self.items) (sym c.in-Range.is)
-    (subst (λ (keys : KeySet). CoverKeys h.keeps.entries keys c.push.new.self.items) (sym (keys_within-Range c.in-Range.from c.in-Range.to))
-    (covers_one h.keeps.entries (keys_between c.in-Range.from c.in-Range.to) c.push.new.self.items s (c.in_ok-push-in-Range.ensures.items
-    ∙ ap (λ (l : List Span). l ++ s ∷ []) c.new-spans.ensures.items)
-    c.span_between.ensures.order (let e = c.span_between.ensures.bound in omega arith) (λ k d lt. c.span_between.ensures.keys h k d lt)))
+    let e = c.span_between.ensures.bound in
+    rw (c.in-Range.is, keys_within-Range c.in-Range.from c.in-Range.to)
+    (covers_one h.keeps.entries (keys_between c.in-Range.from c.in-Range.to) c.push.new.self.items c.span_between.result
+    (rw c.new-spans.ensures.items at c.in_ok-push-in-Range.ensures.items) c.span_between.ensures.order (omega arith) (c.span_between.ensures.keys h))
 
 pub spans_of_any-in_order-requires : goal.spans_of_any-in_order-requires
 spans_of_any-in_order-requires t c = λ k d lt. let below = c.loop-part.invariant.below k d lt in let e = c.len.ensures in omega arith
@@ -26,11 +20,10 @@ pub spans_of_any-loop-part-preserved : goal.spans_of_any-loop-part-preserved
 spans_of_any-loop-part-preserved t c =
     let n = count_kept c.args.dump.now c.args.self.now c.requires in
     let cover = c.in_ok-spans.ensures c.requires in
-    let added = c.in_ok-extend_from_slice.ensures.items ∙ ap (λ (l : List Span). c.loop-part.all.items ++ l) c.deref.ensures.value in
+    let added = rw c.deref.ensures.value at c.in_ok-extend_from_slice.ensures.items in
     record {
-      below = subst (All (λ s. s.to ≤ length c.args.self.now.entries.items)) (sym added)
-          (all_append (λ s. s.to ≤ length c.args.self.now.entries.items) c.loop-part.all.items c.in_ok-spans.spans.items c.loop-part.invariant.below
-          (λ k d lt. let b = order_below 0 (length c.requires.keeps.entries) c.in_ok-spans.spans.items cover.order k d lt in omega arith));
+      below = rw added (All-append (λ s. s.to ≤ length c.args.self.now.entries.items) c.loop-part.all.items c.in_ok-spans.spans.items c.loop-part.invariant.below
+          (λ k d lt. let b = (order_within 0 (length c.requires.keeps.entries) c.in_ok-spans.spans.items cover.order k d lt).1 in omega arith));
       so_far = λ h. union_on h.keeps.entries c.loop-part.all.items c.extend_from_slice.new.self.items c.in_ok-spans.spans.items c.args.parts.now
           c.loop-part.part-index c.part-item.result c.loop-part-test.true c.part-item.is added (c.in_ok-spans.ensures h) (c.loop-part.invariant.so_far h);
     }
@@ -43,16 +36,15 @@ spans_of_any-returns t c h =
 
 pub spans_of_all-append_gaps-requires-clause-order : goal.spans_of_all-append_gaps-requires-clause-order
 spans_of_all-append_gaps-requires-clause-order t c =
-    let n : length c.requires.keeps.entries ≡ c.len-count.result = omega (arith, c.len-count.ensures, count_kept c.args.dump.now c.args.self.now c.requires) in
-    subst (λ (l : List Span). AreInOrder 0 c.len-count.result l) (sym c.deref.ensures.value) (subst (λ m. AreInOrder 0 m c.in_ok-spans.spans.items) n (c.in_ok-spans.ensures c.requires).order)
+    let n : c.len-count.result ≡ length c.requires.keeps.entries = omega (arith, c.len-count.ensures, count_kept c.args.dump.now c.args.self.now c.requires) in
+    rw (c.deref.ensures.value, n) (c.in_ok-spans.ensures c.requires).order
 
 pub spans_of_all-loop-part-preserved : goal.spans_of_all-loop-part-preserved
 spans_of_all-loop-part-preserved t c = record {
   below = c.in_ok-append_gaps.ensures.below;
   so_far = λ h. gaps_on h.keeps.entries c.loop-part.gaps.items c.append_gaps.new.gaps.items c.deref.result.now c.args.parts.now
       c.loop-part.part-index c.part-item.result c.len-count.result (omega (arith, c.len-count.ensures, count_kept c.args.dump.now c.args.self.now h))
-      c.loop-part-test.true c.part-item.is
-      c.in_ok-append_gaps.ensures.added (subst (CoverKeys h.keeps.entries (keys_within c.part-item.result)) (sym c.deref.ensures.value) (c.in_ok-spans.ensures h)) (c.loop-part.invariant.so_far h);
+      c.loop-part-test.true c.part-item.is c.in_ok-append_gaps.ensures.added (rw c.deref.ensures.value (c.in_ok-spans.ensures h)) (c.loop-part.invariant.so_far h);
 }
 
 pub spans_of_all-returns : goal.spans_of_all-returns

@@ -1,23 +1,18 @@
-use Rattle.std.proofs.Common.{List, ℕ, length, subst, sym, ap, ◌∙◌, eqb, arith}
+use Rattle.std.proofs.Common.{List, ℕ, length, sym, ap, ◌∙◌, eqb, arith}
 use Rattle.std.specs.Prelude.{◌==◌}
 use Rattle.std.specs.List.{list_any}
-use Rattle.std.specs.List.Sorted.{IsStrictlyIncreasing}
 use Rattle.std.proofs.lemmas.List.Filters.{dedup_is}
 use Rattle.std.proofs.lemmas.List.Sorted.{list_any-IsPermutation}
 use Rattle.std.proofs.lemmas.Map.Keys.{IsStrictlyIncreasing-dedup}
-use Rattle.bd_index.specs.Spans.{AreInOrder, CoverKeys}
+use Rattle.bd_index.specs.Spans.{CoverKeys}
 use Rattle.bd_index.specs.BoundedPlaces.{lent_bounds}
-use Rattle.bd_index.specs.declared.span.Span.{Span}
 use Rattle.bd_bounds.specs.Bounds.{is_among}
 use Rattle.bd_index.proofs.OrderLemmas.{count_kept}
 use Rattle.bd_index.proofs.PlacesLemmas.{among_once, counted_within, members_within}
 use Rattle.bd_index.proofs.index.Index.places.Goals as goal
 
 pub places_in-requires : goal.places_in-requires
-places_in-requires c =
-    let h = c.requires in
-    subst (λ (l : List Span). AreInOrder 0 (length c.args.self.now.entries.items) l) (sym c.deref.ensures.value)
-    (subst (λ n. AreInOrder 0 n c.in_ok-spans.spans.items) (count_kept c.args.dump.now c.args.self.now h) (c.in_ok-spans.ensures h).order)
+places_in-requires c = rw (c.deref.ensures.value, ← (count_kept c.args.dump.now c.args.self.now c.requires)) (c.in_ok-spans.ensures c.requires).order
 
 pub returns : goal.returns
 returns c =
@@ -25,11 +20,11 @@ returns c =
     let dump = c.args.dump.now in
     let index = c.args.self.now in
     let bounds = lent_bounds c.args.bounds in
-    let cover = subst (λ (l : List Span). CoverKeys h.keeps.entries (is_among bounds) l) (sym c.deref.ensures.value) (c.in_ok-spans.ensures h) in
+    let cover : CoverKeys h.keeps.entries (is_among bounds) c.deref.result.now = rw c.deref.ensures.value (c.in_ok-spans.ensures h) in
     let sorted = c.sort_unstable.new.self.items in
     let once = dedup_is eqb sorted c.dedup.new.self.items c.dedup.ensures.filtered in
     record {
-      ascend = subst IsStrictlyIncreasing (sym once) (IsStrictlyIncreasing-dedup sorted c.sort_unstable.ensures.sorted);
+      ascend = rw once (IsStrictlyIncreasing-dedup sorted c.sort_unstable.ensures.sorted);
       members = λ p.
           let is_p = λ (q : ℕ). q == p in
           ap (list_any is_p) once ∙ among_once p sorted

@@ -1,5 +1,5 @@
 use Rattle.std.proofs.Common.{refl}
-use Rattle.bd_index.proofs.SearchLemmas.{between}
+use Rattle.bd_index.proofs.SpanLemmas.{between}
 use Rattle.bd_index.proofs.index.Index.span_between.Goals as goal
 
 pub returns-clause-keys : goal.returns-clause-keys

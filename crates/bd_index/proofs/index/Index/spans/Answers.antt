@@ -1,13 +1,12 @@
-use Rattle.std.proofs.Common.{sym, subst}
-use Rattle.std.specs.Prelude.{IfOk}
-use Rattle.bd_bounds.specs.Bounds.{is_among}
-use Rattle.bd_index.specs.IndexView.{IsIndexOf}
-use Rattle.bd_index.specs.Spans.{CoverKeys}
-use Rattle.bd_index.specs.BoundedPlaces.{lent_bounds}
-use Rattle.bd_index.proofs.CoverLemmas.{if_ok}
+use Rattle.std.proofs.Common.{arith, true}
+use Rattle.std.proofs.lemmas.Bool.Decides.{nat_tests}
+use Rattle.bd_index.proofs.OrderLemmas.{count_kept}
+use Rattle.bd_index.proofs.SpanLemmas.{covers_one}
 use Rattle.bd_index.proofs.index.Index.spans.Goals as goal
 
-pub returns-in-None : goal.returns-in-None
-returns-in-None c =
-    subst (λ b. IfOk c.whole_span.result (λ v. (h : IsIndexOf c.args.dump.now c.args.self.now) → CoverKeys h.keeps.entries (is_among (lent_bounds b)) v.items)) (sym c.in-None.is)
-    (if_ok c.whole_span.result (λ v every h. every c.args.dump.now h) c.whole_span.ensures)
+pub returns-in_ok-push-in-None : goal.returns-in_ok-push-in-None
+returns-in_ok-push-in-None c h =
+    let n = count_kept c.args.dump.now c.args.self.now h in
+    let size = c.len.ensures in
+    rw c.in-None.is (covers_one h.keeps.entries (λ k. true) c.push.new.self.items (record { from = 0; to = c.len.result })
+    (rw c.new-spans.ensures.items at c.in_ok-push-in-None.ensures.items) (omega arith) (omega arith) (λ k d lt. grind (arith, nat_tests)))

@@ -1,10 +1,7 @@
-use Rattle.std.proofs.Common.{◌<◌, Bool, length, sym, ap, ◌∙◌, subst}
+use Rattle.std.proofs.Common.{◌<◌, length, sym, ap, ◌∙◌, subst}
 use Rattle.bd_bson.specs.Collection.{documents}
 use Rattle.bd_path.specs.PathNames.{names_of}
-use Rattle.bd_path.specs.declared.dir.Dir.{Dir}
-use Rattle.bd_path.specs.declared.dir.Dir.TheVariants.{Up, Down}
 use Rattle.bd_index.specs.EntriesAhead.{entries_ahead}
-use Rattle.bd_index.specs.Entries.{AreEntries}
 use Rattle.bd_index.proofs.WalkLemmas.{AreOrdered, from_above, room_for, upward, walks_fresh}
 use Rattle.bd_index.proofs.index.Index.walk.Goals.{in-Up, in-Down}
 use Rattle.bd_index.proofs.index.Index.walk.Goals as goal
@@ -14,19 +11,16 @@ ordered c =
     let k = c.requires.index.keeps in
     let path = names_of c.args.self.now.path in
     let ds = documents c.args.dump.now in
-    let order = entries_ahead c.match-dir.order in
-    let are = subst (λ (sparse : Bool). AreEntries sparse path ds k.entries) c.requires.whole k.are in
+    let are = rw c.requires.whole at k.are in
     elim c.match-dir.branch [
-      | in-Up w ↦ subst (λ (dir : Dir). AreOrdered dir path ds order) (sym w.in-Up.is)
-          (subst (AreOrdered Up path ds) (sym (ap entries_ahead w.order-is ∙ w.upward-order.ensures c.requires.index)) (upward path ds k.entries are))
-      | in-Down w ↦ subst (λ (dir : Dir). AreOrdered dir path ds order) (sym w.in-Down.is)
-          (subst (AreOrdered Down path ds) (sym (ap entries_ahead w.order-is ∙ w.downward-order.ensures c.requires.index)) (from_above path ds k.entries are))
+      | in-Up w ↦ rw (w.in-Up.is, ap entries_ahead w.order-is ∙ w.upward-order.ensures c.requires.index) (upward path ds k.entries are)
+      | in-Down w ↦ rw (w.in-Down.is, ap entries_ahead w.order-is ∙ w.downward-order.ensures c.requires.index) (from_above path ds k.entries are)
     ]
 
 pub invariant_of-result : goal.invariant_of-result
 invariant_of-result c = record {
-  room = room_for (names_of c.args.self.now.path) (documents c.args.dump.now) (entries_ahead c.match-dir.order) (length c.in_ok-seen.seen.items)
-      (ordered c).same (c.in_ok-seen.ensures.len ∙ c.len.ensures);
+  room = room_for c.args.dir (names_of c.args.self.now.path) (documents c.args.dump.now) (entries_ahead c.match-dir.order) (ordered c)
+      (length c.in_ok-seen.seen.items) (c.in_ok-seen.ensures.len ∙ c.len.ensures);
 }
 
 pub returns : goal.returns
