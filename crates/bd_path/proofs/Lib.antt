@@ -1,7 +1,6 @@
 pub mod ComponentLemmas
 pub mod EarliestLemmas
 pub mod EndsLemmas
-pub mod KeyLemmas
 pub mod KeyListLemmas
 pub mod LawsLemmas
 pub mod MemberLemmas
