@@ -4,7 +4,7 @@ use Rattle.std.specs.Prelude.{is_some}
 use Rattle.std.specs.List.{flat_map, list_any}
 use Rattle.std.specs.Cmp.{IsTotalOrder}
 use Rattle.std.specs.Ordering.{is_eq}
-use Rattle.std.proofs.lemmas.Bool.{not_from_false}
+use Rattle.std.proofs.lemmas.Bool.{cond_both, not_from_false}
 use Rattle.std.proofs.lemmas.Cmp.{on_total, then_total, tied_itself, tied_back}
 use Rattle.std.proofs.lemmas.List.Elements.{filter-append}
 use Rattle.std.proofs.lemmas.Map.Views.{any-filter_same}
@@ -83,13 +83,9 @@ pub record HasEqual (x : Tree) (ks : List Tree) : Type 0 where
   pub is_in : In it ks
   pub same : equal it x ≡ true
 
-kept : (b : Bool) (ks : List Tree) (k x : Tree) → In x ks → In x (cond b ks (ks ++ k ∷ []))
-kept true ks k x h = h
-kept false ks k x h = in_left x ks (k ∷ []) h
-
 still : (ts ks : List Tree) (x : Tree) → In x ks → In x (with_keys ks ts)
 still [] ks x h = h
-still (t ∷ ts) ks x h = still ts (with_key ks t) x (kept (list_any (λ y. equal y t) ks) ks t x h)
+still (t ∷ ts) ks x h = still ts (with_key ks t) x (cond_both (list_any (λ y. equal y t) ks) ks (ks ++ t ∷ []) (λ l. In x l) (λ e. h) (λ e. in_left x ks (t ∷ []) h))
 
 its_equal : (b : Bool) (ks : List Tree) (k : Tree) → list_any (λ y. equal y k) ks ≡ b → HasEqual k (cond b ks (ks ++ k ∷ []))
 its_equal true ks k e = let f = found_from (λ y. equal y k) ks e in record { it = f.it; is_in = f.is_in; same = f.passes }
@@ -137,11 +133,7 @@ others_at (_ ∷ ss) = others_at ss
 in_others : (x : Tree) (xs : List Tree) → In x xs → is_other x ≡ true → In x (filter is_other xs)
 in_others x [] h o = absurd h
 in_others x (y ∷ xs) (inl e) o = rw (← e, o) (inl refl)
-in_others x (y ∷ xs) (inr h) o = go (is_other y) (in_others x xs h o)
-  where
-    go : (b : Bool) → In x (filter is_other xs) → In x (cond b (y ∷ filter is_other xs) (filter is_other xs))
-    go true r = inr r
-    go false r = r
+in_others x (y ∷ xs) (inr h) o = cond_both (is_other y) (y ∷ filter is_other xs) (filter is_other xs) (λ zs. In x zs) (λ e. inr (in_others x xs h o)) (λ e. in_others x xs h o)
 
 from_others : (x : Tree) (xs : List Tree) → In x (filter is_other xs) → In x xs
 from_others x [] h = h

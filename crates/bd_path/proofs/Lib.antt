@@ -1,4 +1,3 @@
-pub mod ComponentLemmas
 pub mod EarliestLemmas
 pub mod EndsLemmas
 pub mod KeyListLemmas

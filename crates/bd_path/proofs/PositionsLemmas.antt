@@ -1,8 +1,9 @@
 -- Positions of a path, and the names at them.
-use Rattle.std.proofs.Common.{◌≡◌, ◌+◌, ◌<◌, ℕ, zero, suc, List, [], ◌∷◌, Option, Some, option_map, length, get_or, drop, string_bytes, refl, ap, ◌∙◌, add-one}
+use Rattle.std.proofs.Common.{◌≡◌, ◌+◌, ◌<◌, ℕ, List, [], ◌∷◌, Option, Some, option_map, length, get_or, drop, string_bytes, refl, ap, ◌∙◌, arith}
 use Rattle.std.specs.Prelude.{slice_get}
-use Rattle.std.proofs.lemmas.List.{length-map}
-use Rattle.std.proofs.lemmas.Option.{slice_get-get_or, slice_get-map, slice_get_read}
+use Rattle.std.proofs.lemmas.Grind.{common_steps}
+use Rattle.std.proofs.lemmas.List.{drop_more, length-map}
+use Rattle.std.proofs.lemmas.Option.{gets, slice_get-get_or, slice_get-map, slice_get_read, slice_get_within}
 use Rattle.bd_value.specs.Tree.{Tree}
 use Rattle.bd_path.specs.Names.{Names, component_names}
 use Rattle.bd_path.specs.declared.component.Component.{Component}
@@ -31,16 +32,7 @@ as_many cs = length-map cs name_of
 -- ---- the elements that are left
 
 pub next_is : (es : List Tree) (i : ℕ) (u : Tree) (us : List Tree) → u ∷ us ≡ drop i es → slice_get es i ≡ Some u
-next_is [] zero u us e = absurd cc
-next_is [] (suc i) u us e = absurd cc
-next_is (x ∷ es) zero u us e = cc
-next_is (x ∷ es) (suc i) u us e = next_is es i u us e
+next_is es i u us e = grind (arith, common_steps, gets)
 
 pub left_after : (es : List Tree) (i : ℕ) (u : Tree) (us : List Tree) → u ∷ us ≡ drop i es → us ≡ drop (i + 1) es
-left_after es i u us e = rw add-one (go es i e)
-  where
-    go : (es : List Tree) (i : ℕ) → u ∷ us ≡ drop i es → us ≡ drop (suc i) es
-    go [] zero e = absurd cc
-    go [] (suc i) e = absurd cc
-    go (x ∷ es) zero e = cc
-    go (x ∷ es) (suc i) e = go es i e
+left_after es i u us e = let more = drop_more es i u (slice_get_within es i u (next_is es i u us e)) in cc

@@ -5,6 +5,7 @@ use Rattle.std.specs.Prelude.{slice_get}
 use Rattle.std.specs.List.{flat_map, list_any}
 use Rattle.std.proofs.lemmas.Grind.{common_steps, flat_map-append}
 use Rattle.std.proofs.lemmas.Bool.{or_left, or_right}
+use Rattle.std.proofs.lemmas.List.{take-append-drop}
 use Rattle.std.proofs.lemmas.List.Folds.{list_any-append}
 use Rattle.std.proofs.lemmas.Option.{gets}
 use Rattle.bd_value.specs.Kind.{kind_of}
@@ -76,10 +77,7 @@ pub has_more : (es : List Tree) (i : ℕ) (u : Tree) (b has : Bool) → slice_ge
 has_more es i u b has e d h = grind (arith, common_steps, gets)
 
 pub all_of : {A : Type 0} (xs : List A) (i : ℕ) → drop i xs ≡ [] → take i xs ≡ xs
-all_of [] zero e = refl
-all_of [] (suc i) e = refl
-all_of (x ∷ xs) zero e = absurd cc
-all_of {A} (x ∷ xs) (suc i) e = ap (λ (ys : List A). x ∷ ys) (all_of xs i e)
+all_of xs i e = sym (append-nil (take i xs)) ∙ (rw e at (take-append-drop i xs))
 
 -- ---- an array, by its documents and its element at the index
 
@@ -94,14 +92,8 @@ module _ (t : Tree) (path : Names) (k : ℕ) (n : List ℕ) (at : slice_get path
   array_is false a e = parts_are stopping t path k n a at ∙ rw (no_documents (elements_in t) (drop k path) (sym e))
 
   pub element_is : (b : Bool) (i : ℕ) (u : Tree) → index_of n ≡ Some i → slice_get (elements_in t) i ≡ Some u → later_stops b t (drop k path) ≡ stops u (drop (k + 1) path)
-  element_is b i u o e = go b
-    where
-      is : index_gathering stopping t (drop k path) ≡ stops u (drop (k + 1) path)
-      is = rw (add-one, first_is stopping t path k n at, o) (down.at_index stopping (elements_in t) i u (drop (suc k) path) e)
-
-      go : (b : Bool) → later_stops b t (drop k path) ≡ stops u (drop (k + 1) path)
-      go true = is
-      go false = rw is (some_stop u (drop (k + 1) path))
+  element_is true i u o e = rw (add-one, first_is stopping t path k n at, o) (down.at_index stopping (elements_in t) i u (drop (suc k) path) e)
+  element_is false i u o e = rw (add-one, first_is stopping t path k n at, o, down.at_index stopping (elements_in t) i u (drop (suc k) path) e) (some_stop u (drop (suc k) path))
 
   pub no_element : is_below (index_of n) (length (elements_in t)) ≡ false → index_gathering stopping t (drop k path) ≡ []
   no_element h = first_is stopping t path k n at ∙ none_at (elements_in t) (index_of n) (drop (suc k) path) h
@@ -181,11 +173,8 @@ any_passed test (s ∷ ss) = grind (arith, any_passed test ss)
 -- a walk ended early where an end passed
 pub decided : (test : End → Bool) {F : Type 0} (amounts : F → List ℕ → Stops → Type 0) (bytes : List ℕ) (before after : F) (t : Tree) (names p : Names) (b : Bool) → names ≡ p
     → TakesOrEnds amounts (λ _. is_passed test) (is_passed test) b bytes before after (stops t names) → not b ≡ list_any test (reach t p)
-decided test amounts bytes before after t names p b is h = rw (← is, ends_are t names, ← any_passed test (stops t names)) (go b h)
-  where
-    go : (b : Bool) → TakesOrEnds amounts (λ _. is_passed test) (is_passed test) b bytes before after (stops t names) → not b ≡ list_any (is_passed test) (stops t names)
-    go true h = sym h.none_new
-    go false h = sym h
+decided test amounts bytes before after t names p true is h = rw (← is, ends_are t names, ← any_passed test (stops t names)) (sym h.none_new)
+decided test amounts bytes before after t names p false is h = rw (← is, ends_are t names, ← any_passed test (stops t names)) (sym h)
 
 -- ---- a key at the stops of a walk
 

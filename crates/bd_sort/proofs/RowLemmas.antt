@@ -5,7 +5,7 @@ use Rattle.std.specs.Cmp.{IsStrictWeakOrder, IsTotalOrder}
 use Rattle.std.specs.List.{All}
 use Rattle.std.specs.List.Sorted.{IsPermutation, IsSortedBy}
 use Rattle.std.specs.Ordering.{is_lt, nat_cmp, ordering_reverse, ordering_then}
-use Rattle.std.specs.declared.cmp.Ordering.TheVariants.{Less, Equal, Greater}
+use Rattle.std.specs.declared.cmp.Ordering.TheVariants.{Equal}
 use Rattle.std.proofs.lemmas.Bool.{cond_both}
 use Rattle.std.proofs.lemmas.Bool.Decides.{nat_tests}
 use Rattle.std.proofs.lemmas.Cmp.{alike_right, nat_cmp_total, on_total, then_total, tied_itself}
@@ -27,75 +27,46 @@ use Rattle.bd_sort.specs.declared.row.Ranked.{Ranked}
 use Rattle.bd_sort.specs.declared.row.Row.{Row}
 use Rattle.bd_sort.proofs.MarkLemmas.{keys_total}
 
--- numbers
-below_less : (a b : ℕ) → a < b → nat_cmp a b ≡ Less
-below_less a b l = grind (arith, nat_tests)
+-- the ranks of two documents stand as these do, and the first one's is no higher
+abbrev Agree : (ℕ → ℕ → Ordering) → Ranked → Ranked → Type 0
+Agree by a b = (nat_cmp a.rank b.rank ≡ by a.place b.place) × (a.rank ≤ b.rank)
 
--- a document of a rank and a place, and those after it
-abbrev Each : (ℕ → ℕ → Ordering) → ℕ → ℕ → List Ranked → Type 0
-Each by rank place [] = Unit {0}
-Each by rank place (b ∷ rs) = (nat_cmp rank b.rank ≡ by place b.place) × (rank ≤ b.rank) × Each by rank place rs
+-- so do those of a document and each after it, and of any two
+abbrev Each : (ℕ → ℕ → Ordering) → Ranked → List Ranked → Type 0
+Each by a [] = Unit {0}
+Each by a (b ∷ rs) = Agree by a b × Each by a rs
 
 abbrev Stand : (ℕ → ℕ → Ordering) → List Ranked → Type 0
 Stand by [] = Unit {0}
-Stand by (a ∷ rs) = Each by a.rank a.place rs × Stand by rs
+Stand by (a ∷ rs) = Each by a rs × Stand by rs
 
--- each document and the one after it
-abbrev Steps : (ℕ → ℕ → Ordering) → Dir → Keyed → List Keyed → Type 0
-Steps by dir x [] = Unit {0}
-Steps by dir x (y ∷ ys) = (keyed_cmp dir x y ≡ by x.place y.place) × (is_lt (by y.place x.place) ≡ false) × Steps by dir y ys
+agree_on : {by : ℕ → ℕ → Ordering} → IsTotalOrder by → (a b c : Ranked) → Agree by a b → Agree by b c → nat_cmp a.rank c.rank ≡ by a.place c.place
+agree_on o a b c ab bc = grind (arith, nat_tests, o.trans a.place b.place c.place, o.congr a.place b.place c.place, alike_right o b.place c.place a.place)
 
-tie_shifts : {by : ℕ → ℕ → Ordering} → IsTotalOrder by → (rank x y : ℕ) (rs : List Ranked) → by x y ≡ Equal → Each by rank y rs → Each by rank x rs
-tie_shifts o rank x y [] e h = tt
-tie_shifts o rank x y (z ∷ rs) e h = (h.0 ∙ sym (o.congr x y z.place e), h.1, tie_shifts o rank x y rs e h.2)
+each_on : {by : ℕ → ℕ → Ordering} → IsTotalOrder by → (a b : Ranked) (rs : List Ranked) → Agree by a b → Each by b rs → Each by a rs
+each_on o a b [] ab h = tt
+each_on o a b (c ∷ rs) ab h = ((agree_on o a b c ab h.0, omega (arith, ab.1, h.0.1)), each_on o a b rs ab h.1)
 
-less_goes_on : {by : ℕ → ℕ → Ordering} → IsTotalOrder by → (m n x y z : ℕ) → by x y ≡ Less → m ≤ n → nat_cmp m n ≡ by y z → by x z ≡ Less
-less_goes_on o m n x y z e l h = grind (arith, nat_tests, o.trans x y z, alike_right o y z x)
+step_agrees : {by : ℕ → ℕ → Ordering} → IsTotalOrder by → (rank x y : ℕ) (r : Ordering) → r ≡ by x y → is_lt (by y x) ≡ false → nat_cmp rank (cond (is_lt r) (rank + 1) rank) ≡ by x y
+step_agrees o rank x y r e f = grind (arith, nat_tests, o.antisymm y x)
 
-less_shifts : {by : ℕ → ℕ → Ordering} → IsTotalOrder by → (rank x y : ℕ) (rs : List Ranked) → by x y ≡ Less → Each by (rank + 1) y rs → Each by rank x rs
-less_shifts o rank x y [] e h = tt
-less_shifts o rank x y (z ∷ rs) e h =
-    (below_less rank z.rank (omega (arith, h.1)) ∙ sym (less_goes_on o (rank + 1) z.rank x y z.place e h.1 h.0), omega (arith, h.1), less_shifts o rank x y rs e h.2)
-
-each_from : {by : ℕ → ℕ → Ordering} → IsTotalOrder by → (dir : Dir) (rank : ℕ) (x : Keyed) (ys : List Keyed) → Steps by dir x ys → Each by rank x.place (ranks_from dir rank (Some x) ys)
-each_from o dir rank x [] h = tt
-each_from {by = by} o dir rank x (y ∷ ys) h = go (λ q. each_from o dir q y ys h.2) (keyed_cmp dir x y) h.0
-  where
-    go : ((q : ℕ) → Each by q y.place (ranks_from dir q (Some y) ys)) → (r : Ordering) → r ≡ by x.place y.place
-        → Each by rank x.place (record { rank = cond (is_lt r) (rank + 1) rank; place = y.place } ∷ ranks_from dir (cond (is_lt r) (rank + 1) rank) (Some y) ys)
-    go rest Less e =
-        (below_less rank (rank + 1) (omega arith) ∙ e, omega arith, less_shifts o rank x.place y.place (ranks_from dir (rank + 1) (Some y) ys) (sym e) (rest (rank + 1)))
-    go rest Equal e = (tied_itself nat_cmp_total rank ∙ e, omega arith, tie_shifts o rank x.place y.place (ranks_from dir rank (Some y) ys) (sym e) (rest rank))
-    go rest Greater e = let f = ap is_lt (o.antisymm y.place x.place ∙ ap ordering_reverse (sym e)) in absurd (cc (f, h.1))
-
-stand_from : {by : ℕ → ℕ → Ordering} → IsTotalOrder by → (dir : Dir) (rank : ℕ) (x : Keyed) (ys : List Keyed) → Steps by dir x ys → Stand by (ranks_from dir rank (Some x) ys)
-stand_from o dir rank x [] h = tt
-stand_from o dir rank x (y ∷ ys) h = let q = next_rank dir rank (Some x) y in (each_from o dir q y ys h.2, stand_from o dir q y ys h.2)
-
-each_at : (by : ℕ → ℕ → Ordering) (rank place : ℕ) (rs : List Ranked) → Each by rank place rs → (j : ℕ) (d : Ranked) → j < length rs
-    → nat_cmp rank (get_or rs j d).rank ≡ by place (get_or rs j d).place
-each_at by rank place [] h j d l = absurd (omega arith)
-each_at by rank place (b ∷ rs) h zero d l = h.0
-each_at by rank place (b ∷ rs) h (suc j) d l = each_at by rank place rs h.2 j d (omega arith)
+each_at : (by : ℕ → ℕ → Ordering) (a : Ranked) (rs : List Ranked) → Each by a rs → (j : ℕ) (d : Ranked) → j < length rs → nat_cmp a.rank (get_or rs j d).rank ≡ by a.place (get_or rs j d).place
+each_at by a [] h j d l = absurd (omega arith)
+each_at by a (b ∷ rs) h zero d l = h.0.0
+each_at by a (b ∷ rs) h (suc j) d l = each_at by a rs h.1 j d (omega arith)
 
 stand_at : {by : ℕ → ℕ → Ordering} → IsTotalOrder by → (rs : List Ranked) → Stand by rs → (i j : ℕ) (d : Ranked) → i < length rs → j < length rs
     → nat_cmp (get_or rs i d).rank (get_or rs j d).rank ≡ by (get_or rs i d).place (get_or rs j d).place
 stand_at o [] h i j d a b = absurd (omega arith)
 stand_at o (r ∷ rs) h zero zero d a b = tied_itself nat_cmp_total r.rank ∙ sym (tied_itself o r.place)
-stand_at {by = by} o (r ∷ rs) h zero (suc j) d a b = each_at by r.rank r.place rs h.0 j d (omega arith)
+stand_at {by = by} o (r ∷ rs) h zero (suc j) d a b = each_at by r rs h.0 j d (omega arith)
 stand_at {by = by} o (r ∷ rs) h (suc i) zero d a b =
-    nat_cmp_total.antisymm (get_or rs i d).rank r.rank
-    ∙ ap ordering_reverse (each_at by r.rank r.place rs h.0 i d (omega arith))
-    ∙ sym (o.antisymm (get_or rs i d).place r.place)
+    nat_cmp_total.antisymm (get_or rs i d).rank r.rank ∙ ap ordering_reverse (each_at by r rs h.0 i d (omega arith)) ∙ sym (o.antisymm (get_or rs i d).place r.place)
 stand_at o (r ∷ rs) h (suc i) (suc j) d a b = stand_at o rs h.1 i j d (omega arith) (omega arith)
 
-places_from : (dir : Dir) (rank : ℕ) (x : Keyed) (ys : List Keyed) → map place_of (ranks_from dir rank (Some x) ys) ≡ map (λ (k : Keyed). k.place) ys
-places_from dir rank x [] = refl
-places_from dir rank x (y ∷ ys) = ap (λ ps. y.place ∷ ps) (places_from dir (next_rank dir rank (Some x) y) y ys)
-
-all_places : (dir : Dir) (ys : List Keyed) → map place_of (ranks_from dir 0 None ys) ≡ map (λ (k : Keyed). k.place) ys
-all_places dir [] = refl
-all_places dir (y ∷ ys) = ap (λ ps. y.place ∷ ps) (places_from dir 0 y ys)
+all_places : (dir : Dir) (rank : ℕ) (last : Option Keyed) (ys : List Keyed) → map place_of (ranks_from dir rank last ys) ≡ map (λ (k : Keyed). k.place) ys
+all_places dir rank last [] = refl
+all_places dir rank last (y ∷ ys) = ap (λ ps. y.place ∷ ps) (all_places dir (next_rank dir rank last y) (Some y) ys)
 
 -- one path more
 then_equal : (o : Ordering) → ordering_then o Equal ≡ o
@@ -152,17 +123,22 @@ rows_stand ds ss s ps rs rows are moved i j d a b =
 less_stays : (o p : Ordering) → is_lt (ordering_then o p) ≡ false → is_lt o ≡ false
 less_stays o p e = grind arith
 
-steps_of : (by : ℕ → ℕ → Ordering) (dir : Dir) (x : Keyed) (ys : List Keyed) → KeysStand by dir (x ∷ ys) → RowsRise dir (x ∷ ys) → Steps by dir x ys
-steps_of by dir x [] stand up = tt
-steps_of by dir x (y ∷ ys) stand up = (
-  stand zero (suc zero) x (omega arith) (omega arith),
-  ap is_lt (sym (stand (suc zero) zero x (omega arith) (omega arith))) ∙ less_stays (keyed_cmp dir y x) (nat_cmp y.place x.place) (up zero x (omega arith)),
-  steps_of by dir y ys (λ i j d a b. stand (suc i) (suc j) d (omega arith) (omega arith)) (λ k d a. up (suc k) d (omega arith)),
-)
+stands : {by : ℕ → ℕ → Ordering} → IsTotalOrder by → (dir : Dir) (rank : ℕ) (x : Keyed) (ys : List Keyed) → KeysStand by dir (x ∷ ys) → RowsRise dir (x ∷ ys)
+    → Stand by (record { rank = rank; place = x.place } ∷ ranks_from dir rank (Some x) ys)
+stands o dir rank x [] stand up = (tt, tt)
+stands {by = by} o dir rank x (y ∷ ys) stand up =
+    let a : Ranked = record { rank = rank; place = x.place } in
+    let b : Ranked = record { rank = next_rank dir rank (Some x) y; place = y.place } in
+    let rest = stands o dir b.rank y ys (λ i j d k l. stand (suc i) (suc j) d (omega arith) (omega arith)) (λ k d l. up (suc k) d (omega arith)) in
+    let back : is_lt (by y.place x.place) ≡ false = ap is_lt (sym (stand (suc zero) zero x (omega arith) (omega arith)))
+    ∙ less_stays (keyed_cmp dir y x) (nat_cmp y.place x.place) (up zero x (omega arith)) in
+    let low : rank ≤ b.rank = cond_both (is_lt (keyed_cmp dir x y)) (rank + 1) rank (λ n. rank ≤ n) (λ e. omega arith) (λ e. omega arith) in
+    let agree : Agree by a b = (step_agrees o rank x.place y.place (keyed_cmp dir x y) (stand zero (suc zero) x (omega arith) (omega arith)) back, low) in
+    ((agree, each_on o a b (ranks_from dir b.rank (Some y) ys) agree rest.0), rest)
 
 stand_all : {by : ℕ → ℕ → Ordering} → IsTotalOrder by → (dir : Dir) (ys : List Keyed) → KeysStand by dir ys → RowsRise dir ys → Stand by (ranks_from dir 0 None ys)
 stand_all o dir [] stand up = tt
-stand_all {by = by} o dir (y ∷ ys) stand up = let steps = steps_of by dir y ys stand up in (each_from o dir 0 y ys steps, stand_from o dir 0 y ys steps)
+stand_all o dir (y ∷ ys) stand up = stands o dir 0 y ys stand up
 
 pub ranked_more : (ds : List Doc) (ss : List SortPath) (s : SortPath) (ps : List ℕ) (rs : List Ranked) (rows : List Keyed) → AreRanked ds ss ps rs
     → IsPermutation (map (keyed ds s) rs) rows → IsSortedBy (λ a b. is_lt (rows_cmp s.dir a b)) rows
@@ -173,9 +149,9 @@ ranked_more ds ss s ps rs rows are moved up =
     let stand = rows_stand ds ss s ps rs rows are moved in
     let next : RowsRise dir rows = λ k d a. rw add-one at (up k d (omega arith) a) in
     record {
-      same = rw (all_places dir rows) (IsPermutation-trans ps (map place_of rs) (map (λ (k : Keyed). k.place) rows) are.same
+      same = rw (all_places dir 0 None rows) (IsPermutation-trans ps (map place_of rs) (map (λ (k : Keyed). k.place) rows) are.same
           (rw map-map at (IsPermutation-map (λ (k : Keyed). k.place) (map (keyed ds s) rs) rows moved)));
-      rises = rw (all_places dir rows) (sorted_places by dir rows stand next);
+      rises = rw (all_places dir 0 None rows) (sorted_places by dir rows stand next);
       stand = stand_at (keys_total ds (ss ++ s ∷ [])) (ranks_from dir 0 None rows) (stand_all (keys_total ds (ss ++ s ∷ [])) dir rows stand next);
     }
   where
