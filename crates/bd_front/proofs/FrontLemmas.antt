@@ -1,16 +1,14 @@
 -- What the fronts of two texts tell of their order.
-use Rattle.std.proofs.Common.{◌≡◌, ◌≢◌, ◌<◌, ◌≤◌, ℕ, ℤ, List, [], ◌∷◌, ◌++◌, length, min, take, drop, zero, suc, refl, sym, ap, ap₂, ◌∙◌, arith, Bool, true}
-use Rattle.std.proofs.Common.{false, not, nat_lt, ◌&&◌, ◌||◌, ◌==◌, Ordering, ◌⊎◌, inl, inr}
+use Rattle.std.proofs.Common.{◌≡◌, ◌≢◌, ◌<◌, ◌≤◌, ℕ, ℤ, List, [], ◌∷◌, ◌++◌, length, min, take, drop, zero, suc, refl, sym, ap, ap₂, ◌∙◌, arith, true}
+use Rattle.std.proofs.Common.{nat_lt, ◌&&◌, ◌==◌, Ordering, ◌⊎◌, inl, inr}
 use Rattle.std.specs.Cmp.Lexicographic.{slice_cmp}
 use Rattle.std.specs.Ordering.{int_cmp, is_eq, nat_cmp, ordering_then}
 use Rattle.std.specs.declared.cmp.Ordering.TheVariants.{Less, Equal, Greater}
-use Rattle.std.proofs.lemmas.Bool.{cases_lt}
 use Rattle.std.proofs.lemmas.Bool.Decides.{nat_tests}
 use Rattle.std.proofs.lemmas.Map.Text.{is_eq-slice_cmp}
 use Rattle.bd_value.specs.Order.{bytes_cmp, cmp}
 use Rattle.bd_value.specs.Tree.{Tree, date, int32, int64, leaf, object_id, symbol, text}
 use Rattle.bd_front.specs.Front.{front_of, front_of_text, is_same_text_front, padded, texts_tell}
-use Rattle.bd_front.specs.declared.front.Front.{Front}
 use Rattle.bd_front.specs.declared.front.Front.TheVariants as fronts
 use Rattle.bd_front.specs.declared.front.TextFront.{TextFront}
 
@@ -43,9 +41,7 @@ none_after (suc n) (zero ∷ s) = none_after n s
 none_after (suc n) (suc x ∷ s) = rw (zero_greater x) refl
 
 step : (o p q : Ordering) → ordering_then p q ≡ q → ordering_then (ordering_then o p) (ordering_then o q) ≡ ordering_then o q
-step Less p q h = refl
-step Equal p q h = h
-step Greater p q h = refl
+step o p q h = grind arith
 
 pub padded_first : (n : ℕ) (s t : List ℕ) → ordering_then (slice_cmp nat_cmp (padded n s) (padded n t)) (bytes_cmp s t) ≡ bytes_cmp s t
 unfolding padded
@@ -57,9 +53,7 @@ padded_first (suc n) (x ∷ s) (y ∷ t) = step (nat_cmp x y) (slice_cmp nat_cmp
 
 -- where they are equal the lengths decide, unless both texts are longer
 both_equal : (o p : Ordering) → ordering_then o p ≡ Equal → (o ≡ Equal) × (p ≡ Equal)
-both_equal Less p e = absurd cc
-both_equal Equal p e = (refl, e)
-both_equal Greater p e = absurd cc
+both_equal o p e = (grind arith, grind arith)
 
 pub padded_then : (n : ℕ) (s t : List ℕ) → slice_cmp nat_cmp (padded n s) (padded n t) ≡ Equal → min (length s) (length t) ≤ n → bytes_cmp s t ≡ nat_cmp (length s) (length t)
 unfolding padded
@@ -84,42 +78,20 @@ no_bytes (suc n) = ap (λ ys. 0 ∷ ys) (no_bytes n)
 pub copied : (n k : ℕ) (s : List ℕ) → k ≡ min (length s) n → take k s ++ drop k (zeros n) ≡ padded n s
 unfolding padded
 copied zero zero s e = refl
-copied zero (suc k) s e = absurd (omega arith)
 copied (suc n) zero [] e = ap (λ ys. 0 ∷ ys) (no_bytes n)
-copied (suc n) zero (x ∷ s) e = absurd (omega arith)
-copied (suc n) (suc k) [] e = absurd (omega arith)
 copied (suc n) (suc k) (x ∷ s) e = ap (λ ys. x ∷ ys) (copied n k s (omega arith))
+copied _ _ _ e = absurd (omega arith)
 
 -- the lengths of two fronts stand as those of their texts, where one text is no longer than a front
-shorter : (m n : ℕ) → m < n → nat_cmp m n ≡ Less
-shorter m n l = grind (arith, nat_tests)
-
-longer : (m n : ℕ) → n < m → nat_cmp m n ≡ Greater
-longer m n l = grind (arith, nat_tests)
-
-same_length : (m n : ℕ) → m ≡ n → nat_cmp m n ≡ Equal
-same_length m n e = grind (arith, nat_tests)
-
 capped : (m n : ℕ) → min m n ≤ 15 → nat_cmp (min m 16) (min n 16) ≡ nat_cmp m n
-capped m n few = elim (cases_lt m n) [
-  | inl l ↦ shorter (min m 16) (min n 16) (omega arith) ∙ sym (shorter m n l)
-  | inr r ↦ elim (cases_lt n m) [
-    | inl g ↦ longer (min m 16) (min n 16) (omega arith) ∙ sym (longer m n g)
-    | inr k ↦ same_length (min m 16) (min n 16) (omega arith) ∙ sym (same_length m n (omega arith))
-  ]
-]
+capped m n few = grind (arith, nat_tests)
 
 -- where the fronts are not both of longer texts and equal
 one_short : (m n : ℕ) → (nat_cmp (min m 16) (min n 16) ≡ Equal → min m 16 < 16) → min m n ≤ 15
-one_short m n h = elim (cases_lt 15 (min m n)) [
-  | inl l ↦ let below : min m 16 < 16 = h (same_length (min m 16) (min n 16) (omega arith)) in absurd (omega arith)
-  | inr k ↦ k
-]
+one_short m n h = grind (arith, nat_tests)
 
 decided : (o p q r : Ordering) → o ≡ ordering_then p q → ordering_then p r ≡ r → (p ≡ Equal → o ≡ q → q ≡ r) → o ≡ r
-decided o Less q r is first then_so = is ∙ first
-decided o Equal q r is first then_so = is ∙ then_so refl is
-decided o Greater q r is first then_so = is ∙ first
+decided o p q r is first then_so = grind arith
 
 texts_decided : (o : Ordering) (s t : List ℕ) → o ≡ ordering_then (slice_cmp nat_cmp (padded 15 s) (padded 15 t))
     (nat_cmp (min (length s) 16) (min (length t) 16)) → (o ≡ Equal → min (length s) 16 < 16) → o ≡ bytes_cmp s t
@@ -138,9 +110,7 @@ fronts_told a b o is short s t e f =
 
 -- when two fronts of texts tell an order
 both_tied : (o p : Ordering) → is_eq (ordering_then o p) ≡ (is_eq o && is_eq p)
-both_tied Less p = refl
-both_tied Equal p = refl
-both_tied Greater p = refl
+both_tied o p = grind arith
 
 tied_numbers : (m n : ℕ) → is_eq (nat_cmp m n) ≡ (m == n)
 tied_numbers m n = grind (arith, nat_tests)
@@ -153,29 +123,14 @@ tied_fronts a b o is =
 
 pub tied_tell : (a b : TextFront) → Equal ≡ ordering_then (slice_cmp nat_cmp a.bytes b.bytes) (nat_cmp a.length b.length)
     → nat_lt a.length 16 ≡ texts_tell a b
-tied_tell a b is = or_not (nat_lt a.length 16) (is_same_text_front a b) (tied_fronts a b Equal is) where
-  or_not : (x y : Bool) → true ≡ y → x ≡ (x || not y)
-  or_not false true e = refl
-  or_not true true e = refl
-  or_not x false e = absurd cc
+tied_tell a b is = let same = tied_fronts a b Equal is in grind arith
 
 pub others_tell : (a b : TextFront) (o : Ordering) → o ≡ ordering_then (slice_cmp nat_cmp a.bytes b.bytes) (nat_cmp a.length b.length)
     → o ≢ Equal → true ≡ texts_tell a b
-others_tell a b o is unequal = or_true (nat_lt a.length 16) (is_same_text_front a b) (untied o unequal (tied_fronts a b o is)) where
-  or_true : (x y : Bool) → y ≡ false → true ≡ (x || not y)
-  or_true false false e = refl
-  or_true true y e = refl
-  or_true x true e = absurd cc
-
-  untied : (q : Ordering) {y : Bool} → q ≢ Equal → is_eq q ≡ y → y ≡ false
-  untied Less h e = sym e
-  untied Equal h e = absurd (h refl)
-  untied Greater h e = sym e
+others_tell a b o is unequal = let same = tied_fronts a b o is in grind arith
 
 then_equal : (o : Ordering) → ordering_then o Equal ≡ o
-then_equal Less = refl
-then_equal Equal = refl
-then_equal Greater = refl
+then_equal o = grind arith
 
 -- a value that has a front is of one of two kinds, or of one
 abbrev pub IsText : Tree → List ℕ → Type 0
@@ -186,20 +141,13 @@ pub record HasText (x : Tree) (a : TextFront) : Type 0 where
   pub is : IsText x bytes
   pub front : a ≡ front_of_text bytes
 
-abbrev text_in : Front → TextFront → TextFront
-text_in (fronts.Text a) other = a
-text_in _ other = other
-
 has_text : (x : Tree) (a : TextFront) → fronts.Text a ≡ front_of x → HasText x a
-has_text (leaf (text s)) a e = record { bytes = s; is = inl refl; front = ap (λ f. text_in f a) e }
-has_text (leaf (symbol s)) a e = record { bytes = s; is = inr refl; front = ap (λ f. text_in f a) e }
-has_text _ a e = let f : ⊥ = cc in absurd f
+has_text (leaf (text s)) a e = record { bytes = s; is = inl refl; front = cc }
+has_text (leaf (symbol s)) a e = record { bytes = s; is = inr refl; front = cc }
+has_text _ a e = absurd cc
 
 texts_order : (x y : Tree) (s t : List ℕ) → IsText x s → IsText y t → cmp x y ≡ bytes_cmp s t
-texts_order x y s t (inl e) (inl f) = rw (e, f) (then_equal (bytes_cmp s t))
-texts_order x y s t (inl e) (inr f) = rw (e, f) (then_equal (bytes_cmp s t))
-texts_order x y s t (inr e) (inl f) = rw (e, f) (then_equal (bytes_cmp s t))
-texts_order x y s t (inr e) (inr f) = rw (e, f) (then_equal (bytes_cmp s t))
+texts_order x y s t e f = grind (arith, then_equal (bytes_cmp s t))
 
 pub texts_told : (a b : TextFront) (o : Ordering) → ((s t : List ℕ) → a ≡ front_of_text s → b ≡ front_of_text t → o ≡ bytes_cmp s t)
     → (x y : Tree) → fronts.Text a ≡ front_of x → fronts.Text b ≡ front_of y → o ≡ cmp x y
@@ -211,42 +159,27 @@ texts_told a b o told x y e f =
 abbrev pub IsNumber : Tree → ℤ → Type 0
 IsNumber x z = (x ≡ leaf (int32 z)) ⊎ (x ≡ leaf (int64 z))
 
-abbrev number_in : Front → ℤ → ℤ
-number_in (fronts.Number z) other = z
-number_in _ other = other
-
 has_number : (x : Tree) (n : ℤ) → fronts.Number n ≡ front_of x → IsNumber x n
-has_number (leaf (int32 z)) n e = inl (ap (λ k. leaf (int32 k)) (sym (ap (λ f. number_in f n) e)))
-has_number (leaf (int64 z)) n e = inr (ap (λ k. leaf (int64 k)) (sym (ap (λ f. number_in f n) e)))
-has_number _ n e = let f : ⊥ = cc in absurd f
+has_number (leaf (int32 z)) n e = inl cc
+has_number (leaf (int64 z)) n e = inr cc
+has_number _ n e = absurd cc
 
 numbers_order : (x y : Tree) (m n : ℤ) → IsNumber x m → IsNumber y n → int_cmp m n ≡ cmp x y
-numbers_order x y m n (inl e) (inl f) = rw (e, f) (sym (then_equal (int_cmp m n)))
-numbers_order x y m n (inl e) (inr f) = rw (e, f) (sym (then_equal (int_cmp m n)))
-numbers_order x y m n (inr e) (inl f) = rw (e, f) (sym (then_equal (int_cmp m n)))
-numbers_order x y m n (inr e) (inr f) = rw (e, f) (sym (then_equal (int_cmp m n)))
+numbers_order x y m n e f = grind (arith, then_equal (int_cmp m n))
 
 pub numbers_told : (m n : ℤ) (x y : Tree) → fronts.Number m ≡ front_of x → fronts.Number n ≡ front_of y → int_cmp m n ≡ cmp x y
 numbers_told m n x y e f = numbers_order x y m n (has_number x m e) (has_number y n f)
 
-abbrev date_in : Front → ℤ → ℤ
-date_in (fronts.Date z) other = z
-date_in _ other = other
-
 has_date : (x : Tree) (n : ℤ) → fronts.Date n ≡ front_of x → x ≡ leaf (date n)
-has_date (leaf (date z)) n e = ap (λ k. leaf (date k)) (sym (ap (λ f. date_in f n) e))
-has_date _ n e = let f : ⊥ = cc in absurd f
+has_date (leaf (date z)) n e = cc
+has_date _ n e = absurd cc
 
 pub dates_told : (m n : ℤ) (x y : Tree) → fronts.Date m ≡ front_of x → fronts.Date n ≡ front_of y → int_cmp m n ≡ cmp x y
 dates_told m n x y e f = rw (has_date x m e, has_date y n f) (sym (then_equal (int_cmp m n)))
 
-abbrev id_in : Front → List ℕ → List ℕ
-id_in (fronts.Id s) other = s
-id_in _ other = other
-
 has_id : (x : Tree) (s : List ℕ) → fronts.Id s ≡ front_of x → x ≡ leaf (object_id s)
-has_id (leaf (object_id t)) s e = ap (λ k. leaf (object_id k)) (sym (ap (λ f. id_in f s) e))
-has_id _ s e = let f : ⊥ = cc in absurd f
+has_id (leaf (object_id t)) s e = cc
+has_id _ s e = absurd cc
 
 pub ids_told : (s t : List ℕ) (x y : Tree) → fronts.Id s ≡ front_of x → fronts.Id t ≡ front_of y → bytes_cmp s t ≡ cmp x y
 ids_told s t x y e f = rw (has_id x s e, has_id y t f) (sym (then_equal (bytes_cmp s t)))

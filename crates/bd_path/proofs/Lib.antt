@@ -1,7 +1,5 @@
-pub mod ComponentLemmas
 pub mod EarliestLemmas
 pub mod EndsLemmas
-pub mod KeyLemmas
 pub mod KeyListLemmas
 pub mod LawsLemmas
 pub mod MemberLemmas

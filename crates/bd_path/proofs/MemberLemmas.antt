@@ -2,7 +2,7 @@
 use Rattle.std.proofs.Common.{◌≡◌, ◌<◌, ℕ, zero, suc, Bool, true, false, cond, List, [], ◌∷◌, ◌++◌, ◌⊎◌, inl, inr, length, refl, sym, ap, ◌∙◌, arith}
 use Rattle.std.specs.Prelude.{Contains, slice_index_or}
 use Rattle.std.specs.List.{list_any}
-use Rattle.std.proofs.lemmas.Bool.{false≢true, or_cases, or_left, or_right}
+use Rattle.std.proofs.lemmas.Bool.{false≢true, or_cases, or_from, or_left, or_parts, or_right}
 
 abbrev pub In : {A : Type 0} → A → List A → Type 0
 In x [] = ⊥
@@ -31,6 +31,11 @@ pub any_at : {A : Type 0} (test : A → Bool) (xs : List A) (x : A) → In x xs 
 any_at test [] x h e = absurd h
 any_at test (y ∷ ys) x (inl p) e = or_left (test y) (list_any test ys) (ap test (sym p) ∙ e)
 any_at test (y ∷ ys) x (inr h) e = or_right (test y) (list_any test ys) (any_at test ys x h e)
+
+-- where what fails one test fails another
+pub any_still : {A : Type 0} (f g : A → Bool) → ((x : A) → f x ≡ false → g x ≡ false) → (xs : List A) → list_any f xs ≡ false → list_any g xs ≡ false
+any_still f g h [] none = refl
+any_still f g h (x ∷ xs) none = let both = or_parts (f x) (list_any f xs) none in or_from (g x) (list_any g xs) (h x both.0) (any_still f g h xs both.1)
 
 -- some member passes
 pub record Found {A : Type 0} (test : A → Bool) (xs : List A) : Type 0 where

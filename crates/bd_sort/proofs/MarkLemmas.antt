@@ -1,8 +1,7 @@
 -- How documents stand to a mark.
-use Rattle.std.proofs.Common.{◌≡◌, ℕ, List, [], ◌∷◌, refl, ap, ◌∙◌, Ordering}
+use Rattle.std.proofs.Common.{◌≡◌, ℕ, List, [], ◌∷◌, refl, ap, ◌∙◌, arith, Ordering}
 use Rattle.std.specs.Cmp.{IsStrictWeakOrder, IsTotalOrder}
 use Rattle.std.specs.Ordering.{is_gt, is_lt, nat_cmp, ordering_reverse, ordering_then}
-use Rattle.std.specs.declared.cmp.Ordering.TheVariants.{Less, Equal, Greater}
 use Rattle.std.proofs.lemmas.Cmp.{nat_cmp_total, on_total, then_total}
 use Rattle.std.proofs.lemmas.List.Sorted.{ranks_by}
 use Rattle.bd_value.specs.Tree.{Doc}
@@ -34,9 +33,7 @@ marked_order ds (s ∷ ss) p q =
     ap (ordering_then (dir_cmp s.dir (sort_key s.dir (document_at ds p) s.path) (sort_key s.dir (document_at ds q) s.path))) (marked_order ds ss p q)
 
 gt_of_reverse : (o : Ordering) → is_gt (ordering_reverse o) ≡ is_lt o
-gt_of_reverse Less = refl
-gt_of_reverse Equal = refl
-gt_of_reverse Greater = refl
+gt_of_reverse o = grind arith
 
 -- what comes after q is what q comes before
 pub after_is_before : (ds : List Doc) (ss : List SortPath) (p q : ℕ) → is_gt (ordering_then (order_of_keys ds ss p q) (nat_cmp p q)) ≡ before (order_of_keys ds ss) q p

@@ -1,6 +1,6 @@
 -- Taking the places of a source that has the order of the answer.
-use Rattle.std.proofs.Common.{◌≡◌, ◌<◌, ◌≤◌, ◌++◌, ◌+◌, ℕ, Bool, true, false, List, [], ◌∷◌, length, take, refl, sym, ap, ◌∙◌, arith, Option, Some, None, IfSome, filter, nat_lt, not}
-use Rattle.std.proofs.lemmas.Bool.{ltb-true, ltb-false}
+use Rattle.std.proofs.Common.{◌≡◌, ◌≤◌, ◌++◌, ◌+◌, ℕ, Bool, true, false, List, [], ◌∷◌, length, take, sym, ap, ◌∙◌, arith, Option, Some, None, IfSome, filter}
+use Rattle.std.proofs.lemmas.Bool.{ltb-false, ltb-true, not-false, not-true}
 use Rattle.std.proofs.lemmas.List.{append-nil, length-append, take_all}
 use Rattle.std.proofs.Math.Seq.{take-append_seam}
 use Rattle.std.proofs.lemmas.Cmp.{on_total}
@@ -24,38 +24,22 @@ wanted_in_order ds r left last source up = batch_in_order (selection_of ds r) (o
 
 -- where nothing is left, all was taken
 pub all_taken : (test : ℕ → Bool) (most : Option ℕ) (ps left all : List ℕ) → ps ++ filter test left ≡ all → left ≡ [] → IfSome most (λ n. length ps ≤ n) → ps ≡ at_most most all
-all_taken test None ps left all told none few = sym (append-nil ps) ∙ ap (λ xs. ps ++ filter test xs) (sym none) ∙ told
-all_taken test (Some n) ps left all told none few =
-    let is : ps ≡ all = sym (append-nil ps) ∙ ap (λ xs. ps ++ filter test xs) (sym none) ∙ told in
-    sym (take_all n ps few) ∙ ap (take n) is
+all_taken test None ps left all told none few = sym (append-nil ps) ∙ rw none at told
+all_taken test (Some n) ps left all told none few = sym (take_all n ps few) ∙ ap (take n) (sym (append-nil ps) ∙ rw none at told)
 
 -- where as many were taken as are wanted, they are the first
 pub first_taken : (most : Option ℕ) (ps xs all : List ℕ) (count : ℕ) → count ≡ length ps → ps ++ xs ≡ all → has_enough most count ≡ true → IfSome most (λ n. length ps ≤ n) → ps ≡ at_most most all
-first_taken None ps xs all count long told full few = let f : ⊥ = cc in absurd f
+first_taken None ps xs all count long told full few = absurd cc
 first_taken (Some n) ps xs all count long told full few =
-    let e : length ps ≡ n = omega (arith, few, at_least n count full) in
-    sym (take-append_seam ps xs) ∙ ap (λ k. take k (ps ++ xs)) e ∙ ap (take n) told
-  where
-    at_least : (n count : ℕ) → not (nat_lt count n) ≡ true → n ≤ count
-    at_least n count h = go (nat_lt count n) refl h
-      where
-        go : (b : Bool) → nat_lt count n ≡ b → not b ≡ true → n ≤ count
-        go true e h = let f : ⊥ = cc in absurd f
-        go false e h = ltb-false count n e
+    let e : length ps ≡ n = omega (arith, few, ltb-false count n (not-true _ full)) in
+    rw (← e, ← told) (sym (take-append_seam ps xs))
 
 -- where fewer were taken, there is room for one more
 pub has_room : (most : Option ℕ) (count : ℕ) → has_enough most count ≡ false → IfSome most (λ n. count + 1 ≤ n)
 has_room None count h = tt
-has_room (Some n) count h = go (nat_lt count n) refl h
-  where
-    go : (b : Bool) → nat_lt count n ≡ b → not b ≡ false → count + 1 ≤ n
-    go true e h = let l : count < n = ltb-true count n e in omega arith
-    go false e h = let f : ⊥ = cc in absurd f
+has_room (Some n) count h = omega (arith, ltb-true count n (not-false _ h))
 
 -- one more was taken
 pub few_more : (most : Option ℕ) (ps qs : List ℕ) (p count : ℕ) → count ≡ length ps → qs ≡ ps ++ p ∷ [] → has_enough most count ≡ false → IfSome most (λ n. length qs ≤ n)
 few_more None ps qs p count long e h = tt
-few_more (Some n) ps qs p count long e h =
-    let r : count + 1 ≤ n = has_room (Some n) count h in
-    let l : length qs ≡ length ps + 1 = ap length e ∙ length-append ps (p ∷ []) in
-    omega arith
+few_more (Some n) ps qs p count long e h = let l : length qs ≡ length ps + 1 = ap length e ∙ length-append ps (p ∷ []) in omega (arith, has_room (Some n) count h)

@@ -1,16 +1,18 @@
 -- Ranks say how documents stand.
-use Rattle.std.proofs.Common.{◌≡◌, ◌+◌, ◌<◌, ◌≤◌, ℕ, Bool, true, false, cond, List, [], ◌∷◌, ◌++◌, length, map, get_or, drop, take, refl, sym, ap, ap₂, ◌∙◌}
-use Rattle.std.proofs.Common.{subst, arith, zero, suc, Option, Some, None, Ordering, append_assoc, drop-cons}
+use Rattle.std.proofs.Common.{◌≡◌, ◌+◌, ◌<◌, ◌≤◌, ℕ, false, cond, List, [], ◌∷◌, ◌++◌, length, map, get_or, drop, take, refl, sym, ap, ap₂, ◌∙◌}
+use Rattle.std.proofs.Common.{subst, arith, zero, suc, Option, Some, None, Ordering, add-one, append_assoc, drop-cons}
 use Rattle.std.specs.Cmp.{IsStrictWeakOrder, IsTotalOrder}
 use Rattle.std.specs.List.{All}
 use Rattle.std.specs.List.Sorted.{IsPermutation, IsSortedBy}
 use Rattle.std.specs.Ordering.{is_lt, nat_cmp, ordering_reverse, ordering_then}
-use Rattle.std.specs.declared.cmp.Ordering.TheVariants.{Less, Equal, Greater}
-use Rattle.std.proofs.lemmas.Bool.{lt-ltb}
-use Rattle.std.proofs.lemmas.Cmp.{alike_right, nat_cmp_total, on_total, ranked, then_total, tied_itself}
+use Rattle.std.specs.declared.cmp.Ordering.TheVariants.{Equal}
+use Rattle.std.proofs.lemmas.Bool.{cond_both}
+use Rattle.std.proofs.lemmas.Bool.Decides.{nat_tests}
+use Rattle.std.proofs.lemmas.Cmp.{alike_right, nat_cmp_total, on_total, then_total, tied_itself}
 use Rattle.std.proofs.lemmas.List.{get_or-map, length-map, take-map}
 use Rattle.std.proofs.lemmas.List.Elements.{Contains-get_or}
 use Rattle.std.proofs.lemmas.List.Sorted.{All-permutation, Contains-permutation, IsPermutation-map, IsPermutation-sym, IsPermutation-trans, length_permutation, ranks_by}
+use Rattle.std.proofs.lemmas.Simd.{map-map}
 use Rattle.bd_value.specs.Tree as trees
 use Rattle.bd_value.specs.Tree.{Doc, leaf}
 use Rattle.bd_path.specs.Earliest.{SortPath, dir_cmp, sort_key}
@@ -25,111 +27,53 @@ use Rattle.bd_sort.specs.declared.row.Ranked.{Ranked}
 use Rattle.bd_sort.specs.declared.row.Row.{Row}
 use Rattle.bd_sort.proofs.MarkLemmas.{keys_total}
 
--- numbers
-below_less : (a b : ℕ) → a < b → nat_cmp a b ≡ Less
-below_less a b l = let e = lt-ltb a b l in rw e refl
+-- the ranks of two documents stand as these do, and the first one's is no higher
+abbrev Agree : (ℕ → ℕ → Ordering) → Ranked → Ranked → Type 0
+Agree by a b = (nat_cmp a.rank b.rank ≡ by a.place b.place) × (a.rank ≤ b.rank)
 
-not_greater : (a b : ℕ) → a ≤ b → nat_cmp a b ≡ Greater → ⊥
-not_greater a b l e = let m : b < a = ranked a b Greater (sym e) in absurd (omega arith)
-
--- a document of a rank and a place, and those after it
-abbrev Each : (ℕ → ℕ → Ordering) → ℕ → ℕ → List Ranked → Type 0
-Each by rank place [] = Unit {0}
-Each by rank place (b ∷ rs) = (nat_cmp rank b.rank ≡ by place b.place) × (rank ≤ b.rank) × Each by rank place rs
+-- so do those of a document and each after it, and of any two
+abbrev Each : (ℕ → ℕ → Ordering) → Ranked → List Ranked → Type 0
+Each by a [] = Unit {0}
+Each by a (b ∷ rs) = Agree by a b × Each by a rs
 
 abbrev Stand : (ℕ → ℕ → Ordering) → List Ranked → Type 0
 Stand by [] = Unit {0}
-Stand by (a ∷ rs) = Each by a.rank a.place rs × Stand by rs
+Stand by (a ∷ rs) = Each by a rs × Stand by rs
 
--- each document and the one after it
-abbrev Steps : (ℕ → ℕ → Ordering) → Dir → Keyed → List Keyed → Type 0
-Steps by dir x [] = Unit {0}
-Steps by dir x (y ∷ ys) = (keyed_cmp dir x y ≡ by x.place y.place) × (is_lt (by y.place x.place) ≡ false) × Steps by dir y ys
+agree_on : {by : ℕ → ℕ → Ordering} → IsTotalOrder by → (a b c : Ranked) → Agree by a b → Agree by b c → nat_cmp a.rank c.rank ≡ by a.place c.place
+agree_on o a b c ab bc = grind (arith, nat_tests, o.trans a.place b.place c.place, o.congr a.place b.place c.place, alike_right o b.place c.place a.place)
 
-tie_shifts : {by : ℕ → ℕ → Ordering} → IsTotalOrder by → (rank x y : ℕ) (rs : List Ranked) → by x y ≡ Equal → Each by rank y rs → Each by rank x rs
-tie_shifts o rank x y [] e h = tt
-tie_shifts o rank x y (z ∷ rs) e h = (h.0 ∙ sym (o.congr x y z.place e), h.1, tie_shifts o rank x y rs e h.2)
+each_on : {by : ℕ → ℕ → Ordering} → IsTotalOrder by → (a b : Ranked) (rs : List Ranked) → Agree by a b → Each by b rs → Each by a rs
+each_on o a b [] ab h = tt
+each_on o a b (c ∷ rs) ab h = ((agree_on o a b c ab h.0, omega (arith, ab.1, h.0.1)), each_on o a b rs ab h.1)
 
-less_goes_on : {by : ℕ → ℕ → Ordering} → IsTotalOrder by → (m n x y z : ℕ) → by x y ≡ Less → m ≤ n → nat_cmp m n ≡ by y z → by x z ≡ Less
-less_goes_on {by = by} o m n x y z e l h = go (by y z) refl
-  where
-    go : (r : Ordering) → by y z ≡ r → by x z ≡ Less
-    go Less f = o.trans x y z e f
-    go Equal f = sym (alike_right o y z x f) ∙ e
-    go Greater f = absurd (not_greater m n l (h ∙ f))
+step_agrees : {by : ℕ → ℕ → Ordering} → IsTotalOrder by → (rank x y : ℕ) (r : Ordering) → r ≡ by x y → is_lt (by y x) ≡ false → nat_cmp rank (cond (is_lt r) (rank + 1) rank) ≡ by x y
+step_agrees o rank x y r e f = grind (arith, nat_tests, o.antisymm y x)
 
-less_shifts : {by : ℕ → ℕ → Ordering} → IsTotalOrder by → (rank x y : ℕ) (rs : List Ranked) → by x y ≡ Less → Each by (rank + 1) y rs → Each by rank x rs
-less_shifts o rank x y [] e h = tt
-less_shifts o rank x y (z ∷ rs) e h =
-    let l : rank < z.rank = omega (arith, h.1) in
-    let m : rank ≤ z.rank = omega arith in
-    (below_less rank z.rank l ∙ sym (less_goes_on o (rank + 1) z.rank x y z.place e h.1 h.0), m, less_shifts o rank x y rs e h.2)
-
-lt_of : (o : Ordering) → o ≡ Less → is_lt o ≡ true
-lt_of o e = ap is_lt e
-
-turned : (o : Ordering) → Greater ≡ o → ordering_reverse o ≡ Less
-turned o e = ap ordering_reverse (sym e)
-
-each_from : {by : ℕ → ℕ → Ordering} → IsTotalOrder by → (dir : Dir) (rank : ℕ) (x : Keyed) (ys : List Keyed) → Steps by dir x ys → Each by rank x.place (ranks_from dir rank (Some x) ys)
-each_from o dir rank x [] h = tt
-each_from {by = by} o dir rank x (y ∷ ys) h = go (λ q. each_from o dir q y ys h.2) (keyed_cmp dir x y) h.0
-  where
-    go : ((q : ℕ) → Each by q y.place (ranks_from dir q (Some y) ys)) → (r : Ordering) → r ≡ by x.place y.place
-        → Each by rank x.place (record { rank = cond (is_lt r) (rank + 1) rank; place = y.place } ∷ ranks_from dir (cond (is_lt r) (rank + 1) rank) (Some y) ys)
-    go rest Less e =
-        let l : rank < rank + 1 = omega arith in
-        let m : rank ≤ rank + 1 = omega arith in
-        (below_less rank (rank + 1) l ∙ e, m, less_shifts o rank x.place y.place (ranks_from dir (rank + 1) (Some y) ys) (sym e) (rest (rank + 1)))
-    go rest Equal e =
-        let m : rank ≤ rank = omega arith in
-        (tied_itself nat_cmp_total rank ∙ e, m, tie_shifts o rank x.place y.place (ranks_from dir rank (Some y) ys) (sym e) (rest rank))
-    go rest Greater e =
-        let f : is_lt (by y.place x.place) ≡ true = ap is_lt (o.antisymm y.place x.place ∙ turned (by x.place y.place) e) in
-        let g : ⊥ = cc (f, h.1) in
-        absurd g
-
-stand_from : {by : ℕ → ℕ → Ordering} → IsTotalOrder by → (dir : Dir) (rank : ℕ) (x : Keyed) (ys : List Keyed) → Steps by dir x ys → Stand by (ranks_from dir rank (Some x) ys)
-stand_from o dir rank x [] h = tt
-stand_from o dir rank x (y ∷ ys) h =
-    let q = next_rank dir rank (Some x) y in
-    (each_from o dir q y ys h.2, stand_from o dir q y ys h.2)
-
-each_at : (by : ℕ → ℕ → Ordering) (rank place : ℕ) (rs : List Ranked) → Each by rank place rs → (j : ℕ) (d : Ranked) → j < length rs
-    → nat_cmp rank (get_or rs j d).rank ≡ by place (get_or rs j d).place
-each_at by rank place [] h j d l = absurd (omega arith)
-each_at by rank place (b ∷ rs) h zero d l = h.0
-each_at by rank place (b ∷ rs) h (suc j) d l = each_at by rank place rs h.2 j d (omega arith)
+each_at : (by : ℕ → ℕ → Ordering) (a : Ranked) (rs : List Ranked) → Each by a rs → (j : ℕ) (d : Ranked) → j < length rs → nat_cmp a.rank (get_or rs j d).rank ≡ by a.place (get_or rs j d).place
+each_at by a [] h j d l = absurd (omega arith)
+each_at by a (b ∷ rs) h zero d l = h.0.0
+each_at by a (b ∷ rs) h (suc j) d l = each_at by a rs h.1 j d (omega arith)
 
 stand_at : {by : ℕ → ℕ → Ordering} → IsTotalOrder by → (rs : List Ranked) → Stand by rs → (i j : ℕ) (d : Ranked) → i < length rs → j < length rs
     → nat_cmp (get_or rs i d).rank (get_or rs j d).rank ≡ by (get_or rs i d).place (get_or rs j d).place
 stand_at o [] h i j d a b = absurd (omega arith)
 stand_at o (r ∷ rs) h zero zero d a b = tied_itself nat_cmp_total r.rank ∙ sym (tied_itself o r.place)
-stand_at {by = by} o (r ∷ rs) h zero (suc j) d a b = each_at by r.rank r.place rs h.0 j d (omega arith)
+stand_at {by = by} o (r ∷ rs) h zero (suc j) d a b = each_at by r rs h.0 j d (omega arith)
 stand_at {by = by} o (r ∷ rs) h (suc i) zero d a b =
-    nat_cmp_total.antisymm (get_or rs i d).rank r.rank
-    ∙ ap ordering_reverse (each_at by r.rank r.place rs h.0 i d (omega arith))
-    ∙ sym (o.antisymm (get_or rs i d).place r.place)
+    nat_cmp_total.antisymm (get_or rs i d).rank r.rank ∙ ap ordering_reverse (each_at by r rs h.0 i d (omega arith)) ∙ sym (o.antisymm (get_or rs i d).place r.place)
 stand_at o (r ∷ rs) h (suc i) (suc j) d a b = stand_at o rs h.1 i j d (omega arith) (omega arith)
 
-places_from : (dir : Dir) (rank : ℕ) (x : Keyed) (ys : List Keyed) → map place_of (ranks_from dir rank (Some x) ys) ≡ map (λ (k : Keyed). k.place) ys
-places_from dir rank x [] = refl
-places_from dir rank x (y ∷ ys) = ap (λ ps. y.place ∷ ps) (places_from dir (next_rank dir rank (Some x) y) y ys)
-
-all_places : (dir : Dir) (ys : List Keyed) → map place_of (ranks_from dir 0 None ys) ≡ map (λ (k : Keyed). k.place) ys
-all_places dir [] = refl
-all_places dir (y ∷ ys) = ap (λ ps. y.place ∷ ps) (places_from dir 0 y ys)
+all_places : (dir : Dir) (rank : ℕ) (last : Option Keyed) (ys : List Keyed) → map place_of (ranks_from dir rank last ys) ≡ map (λ (k : Keyed). k.place) ys
+all_places dir rank last [] = refl
+all_places dir rank last (y ∷ ys) = ap (λ ps. y.place ∷ ps) (all_places dir (next_rank dir rank last y) (Some y) ys)
 
 -- one path more
 then_equal : (o : Ordering) → ordering_then o Equal ≡ o
-then_equal Less = refl
-then_equal Equal = refl
-then_equal Greater = refl
+then_equal o = grind arith
 
 then_assoc : (a b c : Ordering) → ordering_then a (ordering_then b c) ≡ ordering_then (ordering_then a b) c
-then_assoc Less b c = refl
-then_assoc Equal b c = refl
-then_assoc Greater b c = refl
+then_assoc a b c = grind arith
 
 order_append : (ds : List Doc) (ss : List SortPath) (s : SortPath) (p q : ℕ)
     → order_of_keys ds (ss ++ s ∷ []) p q ≡ ordering_then (order_of_keys ds ss p q)
@@ -155,14 +99,18 @@ of_some : (ds : List Doc) (s : SortPath) (rs : List Ranked) (rows : List Keyed) 
 of_some ds s rs rows moved i d l =
     let x = get_or rows i d in
     let c = Contains-permutation rows (map (keyed ds s) rs) x (IsPermutation-sym (map (keyed ds s) rs) rows moved) (Contains-get_or rows i d l) in
-    let k = c.0 in
-    let long : length (map (keyed ds s) rs) ≡ length rs = length-map rs (keyed ds s) in
-    let b : k < length (map (keyed ds s) rs) = c.1 in
-    let m : k < length rs = omega arith in
-    (k, m, sym (get_or-map (keyed ds s) rs k no_one x m) ∙ c.2)
+    let m : c.0 < length rs = rw length-map at c.1 in
+    (c.0, m, sym (get_or-map (keyed ds s) rs c.0 no_one x m) ∙ c.2)
+
+-- the keys stand as the documents do; each row comes after none of those before it
+abbrev KeysStand : (ℕ → ℕ → Ordering) → Dir → List Keyed → Type 0
+KeysStand by dir ys = (i j : ℕ) (d : Keyed) → i < length ys → j < length ys → keyed_cmp dir (get_or ys i d) (get_or ys j d) ≡ by (get_or ys i d).place (get_or ys j d).place
+
+abbrev RowsRise : Dir → List Keyed → Type 0
+RowsRise dir ys = (k : ℕ) (d : Keyed) → k + 1 < length ys → is_lt (rows_cmp dir (get_or ys (suc k) d) (get_or ys k d)) ≡ false
 
 rows_stand : (ds : List Doc) (ss : List SortPath) (s : SortPath) (ps : List ℕ) (rs : List Ranked) (rows : List Keyed) → AreRanked ds ss ps rs → IsPermutation (map (keyed ds s) rs) rows
-    → (i j : ℕ) (d : Keyed) → i < length rows → j < length rows → keyed_cmp s.dir (get_or rows i d) (get_or rows j d) ≡ order_of_keys ds (ss ++ s ∷ []) (get_or rows i d).place (get_or rows j d).place
+    → KeysStand (order_of_keys ds (ss ++ s ∷ [])) s.dir rows
 rows_stand ds ss s ps rs rows are moved i j d a b =
     let k = of_some ds s rs rows moved i d a in
     let m = of_some ds s rs rows moved j d b in
@@ -170,32 +118,27 @@ rows_stand ds ss s ps rs rows are moved i j d a b =
     let x = keyed ds s (get_or rs k.0 no_one) in
     let y = keyed ds s (get_or rs m.0 no_one) in
     let e : keyed_cmp s.dir x y ≡ by x.place y.place = keyed_stand ds ss s (get_or rs k.0 no_one) (get_or rs m.0 no_one) (are.stand k.0 m.0 no_one k.1 m.1) in
-    subst (λ z. keyed_cmp s.dir (get_or rows i d) z ≡ by (get_or rows i d).place z.place) m.2
-    (subst (λ z. keyed_cmp s.dir z y ≡ by z.place y.place) k.2 e)
+    subst (λ z. keyed_cmp s.dir (get_or rows i d) z ≡ by (get_or rows i d).place z.place) m.2 (subst (λ z. keyed_cmp s.dir z y ≡ by z.place y.place) k.2 e)
 
 less_stays : (o p : Ordering) → is_lt (ordering_then o p) ≡ false → is_lt o ≡ false
-less_stays Less p e = let g : ⊥ = cc e in absurd g
-less_stays Equal p e = refl
-less_stays Greater p e = refl
+less_stays o p e = grind arith
 
-steps_of : (by : ℕ → ℕ → Ordering) (dir : Dir) (x : Keyed) (ys : List Keyed)
-    → ((i j : ℕ) (d : Keyed) → i < length (x ∷ ys) → j < length (x ∷ ys)
-    → keyed_cmp dir (get_or (x ∷ ys) i d) (get_or (x ∷ ys) j d) ≡ by (get_or (x ∷ ys) i d).place (get_or (x ∷ ys) j d).place)
-    → ((k : ℕ) (d : Keyed) → k + 1 < length (x ∷ ys) → is_lt (rows_cmp dir (get_or (x ∷ ys) (suc k) d) (get_or (x ∷ ys) k d)) ≡ false) → Steps by dir x ys
-steps_of by dir x [] stand up = tt
-steps_of by dir x (y ∷ ys) stand up = (
-  stand zero (suc zero) x (omega arith) (omega arith),
-  ap is_lt (sym (stand (suc zero) zero x (omega arith) (omega arith))) ∙ less_stays (keyed_cmp dir y x) (nat_cmp y.place x.place) (up zero x (omega arith)),
-  steps_of by dir y ys (λ i j d a b. stand (suc i) (suc j) d (omega arith) (omega arith)) (λ k d a. up (suc k) d (omega arith)),
-)
+stands : {by : ℕ → ℕ → Ordering} → IsTotalOrder by → (dir : Dir) (rank : ℕ) (x : Keyed) (ys : List Keyed) → KeysStand by dir (x ∷ ys) → RowsRise dir (x ∷ ys)
+    → Stand by (record { rank = rank; place = x.place } ∷ ranks_from dir rank (Some x) ys)
+stands o dir rank x [] stand up = (tt, tt)
+stands {by = by} o dir rank x (y ∷ ys) stand up =
+    let a : Ranked = record { rank = rank; place = x.place } in
+    let b : Ranked = record { rank = next_rank dir rank (Some x) y; place = y.place } in
+    let rest = stands o dir b.rank y ys (λ i j d k l. stand (suc i) (suc j) d (omega arith) (omega arith)) (λ k d l. up (suc k) d (omega arith)) in
+    let back : is_lt (by y.place x.place) ≡ false = ap is_lt (sym (stand (suc zero) zero x (omega arith) (omega arith)))
+    ∙ less_stays (keyed_cmp dir y x) (nat_cmp y.place x.place) (up zero x (omega arith)) in
+    let low : rank ≤ b.rank = cond_both (is_lt (keyed_cmp dir x y)) (rank + 1) rank (λ n. rank ≤ n) (λ e. omega arith) (λ e. omega arith) in
+    let agree : Agree by a b = (step_agrees o rank x.place y.place (keyed_cmp dir x y) (stand zero (suc zero) x (omega arith) (omega arith)) back, low) in
+    ((agree, each_on o a b (ranks_from dir b.rank (Some y) ys) agree rest.0), rest)
 
-stand_all : {by : ℕ → ℕ → Ordering} → IsTotalOrder by → (dir : Dir) (ys : List Keyed)
-    → ((i j : ℕ) (d : Keyed) → i < length ys → j < length ys → keyed_cmp dir (get_or ys i d) (get_or ys j d) ≡ by (get_or ys i d).place (get_or ys j d).place)
-    → ((k : ℕ) (d : Keyed) → k + 1 < length ys → is_lt (rows_cmp dir (get_or ys (suc k) d) (get_or ys k d)) ≡ false) → Stand by (ranks_from dir 0 None ys)
+stand_all : {by : ℕ → ℕ → Ordering} → IsTotalOrder by → (dir : Dir) (ys : List Keyed) → KeysStand by dir ys → RowsRise dir ys → Stand by (ranks_from dir 0 None ys)
 stand_all o dir [] stand up = tt
-stand_all {by = by} o dir (y ∷ ys) stand up =
-    let steps = steps_of by dir y ys stand up in
-    (each_from o dir 0 y ys steps, stand_from o dir 0 y ys steps)
+stand_all o dir (y ∷ ys) stand up = stands o dir 0 y ys stand up
 
 pub ranked_more : (ds : List Doc) (ss : List SortPath) (s : SortPath) (ps : List ℕ) (rs : List Ranked) (rows : List Keyed) → AreRanked ds ss ps rs
     → IsPermutation (map (keyed ds s) rs) rows → IsSortedBy (λ a b. is_lt (rows_cmp s.dir a b)) rows
@@ -204,46 +147,31 @@ ranked_more ds ss s ps rs rows are moved up =
     let dir = s.dir in
     let by = order_of_keys ds (ss ++ s ∷ []) in
     let stand = rows_stand ds ss s ps rs rows are moved in
-    let next : (k : ℕ) (d : Keyed) → k + 1 < length rows → is_lt (rows_cmp dir (get_or rows (suc k) d) (get_or rows k d)) ≡ false =
-    λ k d a. let e : k + 1 ≡ suc k = omega arith in subst (λ n. is_lt (rows_cmp dir (get_or rows n d) (get_or rows k d)) ≡ false) e (up k d (omega arith) (omega arith)) in
-    let places : map (λ (k : Keyed). k.place) (map (keyed ds s) rs) ≡ map place_of rs = same_places ds s rs in
+    let next : RowsRise dir rows = λ k d a. rw add-one at (up k d (omega arith) a) in
     record {
-      same = subst (λ zs. IsPermutation ps zs) (sym (all_places dir rows))
-          (IsPermutation-trans ps (map place_of rs) (map (λ (k : Keyed). k.place) rows) are.same
-          (subst (λ zs. IsPermutation zs (map (λ (k : Keyed). k.place) rows)) places (IsPermutation-map (λ (k : Keyed). k.place) (map (keyed ds s) rs) rows moved)));
-      rises = subst (λ zs. IsSortedBy (before by) zs) (sym (all_places dir rows)) (sorted_places by dir rows stand next);
+      same = rw (all_places dir 0 None rows) (IsPermutation-trans ps (map place_of rs) (map (λ (k : Keyed). k.place) rows) are.same
+          (rw map-map at (IsPermutation-map (λ (k : Keyed). k.place) (map (keyed ds s) rs) rows moved)));
+      rises = rw (all_places dir 0 None rows) (sorted_places by dir rows stand next);
       stand = stand_at (keys_total ds (ss ++ s ∷ [])) (ranks_from dir 0 None rows) (stand_all (keys_total ds (ss ++ s ∷ [])) dir rows stand next);
     }
   where
-    same_places : (ds : List Doc) (s : SortPath) (rs : List Ranked) → map (λ (k : Keyed). k.place) (map (keyed ds s) rs) ≡ map place_of rs
-    same_places ds s [] = refl
-    same_places ds s (r ∷ rs) = ap (λ ps. r.place ∷ ps) (same_places ds s rs)
-
-    sorted_places : (by : ℕ → ℕ → Ordering) (dir : Dir) (rows : List Keyed)
-        → ((i j : ℕ) (d : Keyed) → i < length rows → j < length rows → keyed_cmp dir (get_or rows i d) (get_or rows j d)
-        ≡ by (get_or rows i d).place (get_or rows j d).place)
-        → ((k : ℕ) (d : Keyed) → k + 1 < length rows → is_lt (rows_cmp dir (get_or rows (suc k) d) (get_or rows k d)) ≡ false) → IsSortedBy (before by) (map (λ (k : Keyed). k.place) rows)
+    sorted_places : (by : ℕ → ℕ → Ordering) (dir : Dir) (rows : List Keyed) → KeysStand by dir rows → RowsRise dir rows → IsSortedBy (before by) (map (λ (k : Keyed). k.place) rows)
     sorted_places by dir rows stand next k d a b =
         let none : Keyed = record { rank = 0; place = 0; key = leaf trees.null } in
         let long : length (map (λ (k : Keyed). k.place) rows) ≡ length rows = length-map rows (λ (k : Keyed). k.place) in
-        let below : k + 1 < length rows = omega arith in
         let one : k < length rows = omega arith in
         let two : suc k < length rows = omega arith in
-        let e : k + 1 ≡ suc k = omega arith in
-        let x = get_or rows k none in
-        let y = get_or rows (suc k) none in
-        let c : is_lt (ordering_then (by y.place x.place) (nat_cmp y.place x.place)) ≡ false =
-        subst (λ o. is_lt (ordering_then o (nat_cmp y.place x.place)) ≡ false) (stand (suc k) k none two one) (next k none below) in
-        rw (e, get_or-map (λ (k : Keyed). k.place) rows (suc k) none d two, get_or-map (λ (k : Keyed). k.place) rows k none d one) c
+        rw (add-one, get_or-map (λ (k : Keyed). k.place) rows (suc k) none d two, get_or-map (λ (k : Keyed). k.place) rows k none d one, ← stand (suc k) k none two one)
+        (next k none (omega arith))
 
 -- before the first path
 abbrev pub of_rank_0 : ℕ → Ranked
 of_rank_0 p = record { rank = 0; place = p }
 
 pub none_ranked : (ds : List Doc) (ps sorted : List ℕ) (rs : List Ranked) → IsPermutation ps sorted → IsSortedBy (λ x y. is_lt (nat_cmp x y)) sorted → rs ≡ map of_rank_0 sorted → AreRanked ds [] ps rs
-none_ranked ds ps sorted rs moved up e = subst (AreRanked ds [] ps) (sym e) (record {
-  same = subst (IsPermutation ps) (sym (places sorted)) moved;
-  rises = subst (λ zs. IsSortedBy (before (order_of_keys ds [])) zs) (sym (places sorted)) up;
+none_ranked ds ps sorted rs moved up e = rw e (record {
+  same = rw (places sorted) moved;
+  rises = rw (places sorted) up;
   stand = λ i j d a b. ap₂ (λ (x y : Ranked). nat_cmp x.rank y.rank) (at sorted i d a) (at sorted j d b);
 })
   where
@@ -252,30 +180,23 @@ none_ranked ds ps sorted rs moved up e = subst (AreRanked ds [] ps) (sym e) (rec
     places (x ∷ xs) = ap (λ ys. x ∷ ys) (places xs)
 
     at : (xs : List ℕ) (i : ℕ) (d : Ranked) → i < length (map of_rank_0 xs) → get_or (map of_rank_0 xs) i d ≡ of_rank_0 (get_or xs i 0)
-    at xs i d l =
-        let long : length (map of_rank_0 xs) ≡ length xs = length-map xs of_rank_0 in
-        let m : i < length xs = omega arith in
-        get_or-map of_rank_0 xs i 0 d m
+    at xs i d l = get_or-map of_rank_0 xs i 0 d (rw length-map at l)
 
 -- after the last
-pub first_of_ranked : (ds : List Doc) (ss : List SortPath) (ps : List ℕ) (rs : List Ranked) → AreRanked ds ss ps rs → (most : ℕ) (new : List ℕ)
+pub first_of_ranked : {ds : List Doc} {ss : List SortPath} {ps : List ℕ} {rs : List Ranked} → AreRanked ds ss ps rs → (most : ℕ) (new : List ℕ)
     → new ≡ map place_of (take most rs) → AreFirst (before (order_of_keys ds ss)) most ps new
-first_of_ranked ds ss ps rs are most new e = record {
+first_of_ranked {rs = rs} are most new e = record {
   sorted = map place_of rs;
   same = are.same;
   rises = are.rises;
   is = e ∙ sym (take-map place_of most rs);
 }
 
-pub ranked_below : (ds : List Doc) (ss : List SortPath) (n : ℕ) (ps : List ℕ) (rs : List Ranked) → AreRanked ds ss ps rs → All (λ p. p < n) ps → All (λ (r : Ranked). r.place < n) rs
-ranked_below ds ss n ps rs are h i d l =
-    let long : length (map place_of rs) ≡ length rs = length-map rs place_of in
-    let m : i < length (map place_of rs) = omega arith in
-    let k : get_or (map place_of rs) i 0 < n = All-permutation (λ p. p < n) ps (map place_of rs) are.same h i 0 m in
-    subst (λ p. p < n) (get_or-map place_of rs i d 0 l) k
+pub ranked_below : {ds : List Doc} {ss : List SortPath} {ps : List ℕ} {rs : List Ranked} (n : ℕ) → AreRanked ds ss ps rs → All (λ p. p < n) ps → All (λ (r : Ranked). r.place < n) rs
+ranked_below {ps = ps} {rs = rs} n are h i d l = rw (get_or-map place_of rs i d 0 l) at (All-permutation (λ p. p < n) ps (map place_of rs) are.same h i 0 (rw length-map l))
 
-pub ranked_long : (ds : List Doc) (ss : List SortPath) (ps : List ℕ) (rs : List Ranked) → AreRanked ds ss ps rs → length rs ≡ length ps
-ranked_long ds ss ps rs are = sym (length-map rs place_of) ∙ length_permutation ps (map place_of rs) are.same
+pub ranked_long : {ds : List Doc} {ss : List SortPath} {ps : List ℕ} {rs : List Ranked} → AreRanked ds ss ps rs → length rs ≡ length ps
+ranked_long {ps = ps} {rs = rs} are = sym (length-map rs place_of) ∙ length_permutation ps (map place_of rs) are.same
 
 -- in hand
 keyed_total : (dir : Dir) → IsTotalOrder (keyed_cmp dir)
@@ -290,8 +211,7 @@ rows_weak dir = ranks_by (rows_total dir) keyed_row
 sorted_keyed : (dir : Dir) (rows : List Row) → IsSortedBy (λ a b. is_lt (rows_cmp dir (keyed_row a) (keyed_row b))) rows → IsSortedBy (λ a b. is_lt (rows_cmp dir a b)) (map keyed_row rows)
 sorted_keyed dir [] up k d a b = absurd (omega arith)
 sorted_keyed dir (x ∷ xs) up k d a b =
-    let long : length (map keyed_row (x ∷ xs)) ≡ length (x ∷ xs) = length-map (x ∷ xs) keyed_row in
-    let l : k + 1 < length (x ∷ xs) = omega arith in
+    let l : k + 1 < length (x ∷ xs) = rw length-map at b in
     let m : k < length (x ∷ xs) = omega arith in
     rw (get_or-map keyed_row (x ∷ xs) (k + 1) x d l, get_or-map keyed_row (x ∷ xs) k x d m) (up k x a l)
 
@@ -302,27 +222,15 @@ pub ranked_in_hand : (ds : List Doc) (ss : List SortPath) (s : SortPath) (ps : L
     → AreRanked ds ss ps rs → map keyed_row rows ≡ map (keyed ds s) rs → IsPermutation rows new
     → IsSortedBy (λ a b. is_lt (rows_cmp s.dir (keyed_row a) (keyed_row b))) new → AreRanked ds (ss ++ s ∷ []) ps (ranks_from s.dir 0 None (map keyed_row new))
 ranked_in_hand ds ss s ps rs rows new are e moved up =
-    ranked_more ds ss s ps rs (map keyed_row new) are (subst (λ zs. IsPermutation zs (map keyed_row new)) e (IsPermutation-map keyed_row rows new moved)) (sorted_keyed s.dir new up)
+    ranked_more ds ss s ps rs (map keyed_row new) are (rw e at (IsPermutation-map keyed_row rows new moved)) (sorted_keyed s.dir new up)
 
 pub rank_more : (dir : Dir) (ranked new : List Ranked) (rank q : ℕ) (last : Option Keyed) (x : Row) (rows : List Row) (i : ℕ) (all : List Ranked)
     → i < length rows → x ≡ get_or rows i x → q ≡ next_rank dir rank last (keyed_row x) → new ≡ ranked ++ record { rank = q; place = x.place } ∷ []
     → ranked ++ ranks_from dir rank last (map keyed_row (drop i rows)) ≡ all → new ++ ranks_from dir q (Some (keyed_row x)) (map keyed_row (drop (i + 1) rows)) ≡ all
 rank_more dir ranked new rank q last x rows i all l is next e told =
-    let rest = map keyed_row (drop (suc i) rows) in
     let step : drop i rows ≡ x ∷ drop (suc i) rows = drop-cons rows i x l ∙ ap (λ (y : Row). y ∷ drop (suc i) rows) (sym is) in
-    let one : Ranked = record { rank = q; place = x.place } in
-    let n : i + 1 ≡ suc i = omega arith in
-    ap (λ k. new ++ ranks_from dir q (Some (keyed_row x)) (map keyed_row (drop k rows))) n
-    ∙ ap (λ ys. ys ++ ranks_from dir q (Some (keyed_row x)) rest) e
-    ∙ append_assoc ranked (one ∷ []) (ranks_from dir q (Some (keyed_row x)) rest)
-    ∙ ap (λ (k : ℕ). ranked ++ (record { rank = k; place = x.place } ∷ ranks_from dir k (Some (keyed_row x)) rest)) next
-    ∙ ap (λ zs. ranked ++ ranks_from dir rank last (map keyed_row zs)) (sym step)
-    ∙ told
+    rw (add-one, e, append_assoc, next) (rw step at told)
 
 pub next_low : (dir : Dir) (rank : ℕ) (last : Option Keyed) (y : Keyed) → next_rank dir rank last y ≤ rank + 1
 next_low dir rank None y = omega arith
-next_low dir rank (Some x) y = go (is_lt (keyed_cmp dir x y))
-  where
-    go : (b : Bool) → cond b (rank + 1) rank ≤ rank + 1
-    go true = omega arith
-    go false = omega arith
+next_low dir rank (Some x) y = cond_both (is_lt (keyed_cmp dir x y)) (rank + 1) rank (λ n. n ≤ rank + 1) (λ e. omega arith) (λ e. omega arith)

@@ -1,4 +1,4 @@
-use Rattle.std.proofs.Common.{◌≡◌, ◌∙◌, ap₂, refl, sym, ℕ, List, Bool, true, false, Ordering, IfSome, is_some}
+use Rattle.std.proofs.Common.{◌≡◌, ◌∙◌, ap₂, arith, refl, sym, ℕ, List, Bool, true, false, Ordering, IfSome, is_some}
 use Rattle.std.specs.Bool.{then_some}
 use Rattle.std.specs.Cmp.Lexicographic.{slice_cmp}
 use Rattle.std.specs.Ordering.{nat_cmp, ordering_then}
@@ -15,8 +15,7 @@ told true P h = h refl
 told false P h = tt
 
 is_told : (b : Bool) → is_some (then_some b Equal) ≡ b
-is_told true = refl
-is_told false = refl
+is_told b = grind arith
 
 pub returns-in-Equal : goal.returns-in-Equal
 returns-in-Equal c =

@@ -1,38 +1,27 @@
-use Rattle.std.proofs.Common.{◌≡◌, false, ◌||◌, None, option_map, sym, ap, subst, ◌∙◌, [], ◌∷◌}
-use Rattle.std.specs.Prelude.{IfSome}
+use Rattle.std.proofs.Common.{◌≡◌, false, ◌||◌, None, sym, ap, ◌∙◌, [], ◌∷◌}
 use Rattle.bd_value.specs.Parts.{values_of, elements_in}
 use Rattle.bd_value.specs.Tree as trees
 use Rattle.bd_value.specs.Tree.{leaf}
-use Rattle.bd_path.specs.Earliest.{earlier_key, earliest_key}
-use Rattle.bd_path.specs.Key.{IsKeyAt, key_tree}
-use Rattle.bd_path.specs.declared.stop.Stop.TheVariants.{Value}
+use Rattle.bd_path.specs.Earliest.{earliest_key}
+use Rattle.bd_path.specs.KeyList.{or_else}
 use Rattle.bd_path.proofs.EarliestLemmas as first
-use Rattle.bd_path.proofs.KeyLemmas as key
+use Rattle.bd_path.proofs.StopLemmas as key
 use Rattle.bd_path.proofs.earliest.earliest_end.Goals as goal
 
-pub returns-in-None-clause-tree : goal.returns-in-None-clause-tree
-returns-in-None-clause-tree g c =
-    let dir = c.args.dir in
-    let l = c.loop-next in
+pub returns-in-None : goal.returns-in-None
+returns-in-None g c =
     let n = g.N.Reading.tree c.args.node in
-    let none : None ≡ earliest_key dir (elements_in n) =
-    sym (ap (λ e. earlier_key dir (option_map (key_tree g.N.Reading.tree) e) (earliest_key dir (values_of (g.N.Reading.left l.left)))) c.in-None.is
-    ∙ ap (λ ps. earliest_key dir (values_of ps)) c.in_default-next.ensures.none) ∙ l.invariant.so_far in
-    first.or_none dir (elements_in n) (leaf trees.undefined ∷ []) none
-    ∙ ap (earliest_key dir) (sym (first.ends_of_array n (sym c.kind.ensures ∙ c.in-Array.is)))
-
-pub returns-in-None-clause-there : goal.returns-in-None-clause-there
-returns-in-None-clause-there g c =
-    let dir = c.args.dir in
-    let l = c.loop-next in
-    let n = g.N.Reading.tree c.args.node in
-    let none : None ≡ earliest_key dir (elements_in n) =
-    sym (ap (λ e. earlier_key dir (option_map (key_tree g.N.Reading.tree) e) (earliest_key dir (values_of (g.N.Reading.left l.left)))) c.in-None.is
-    ∙ ap (λ ps. earliest_key dir (values_of ps)) c.in_default-next.ensures.none) ∙ l.invariant.so_far in
-    ap (λ b. b || false) (key.empty_array n (sym c.kind.ensures ∙ c.in-Array.is) (first.no_earliest dir (elements_in n) none))
+    let array = sym c.kind.ensures ∙ c.in-Array.is in
+    let none : None ≡ earliest_key c.args.dir (elements_in n) = rw (c.in-None.is, c.in_default-next.ensures.none) at c.loop-next.invariant.so_far in
+    let empty = first.no_earliest c.args.dir (elements_in n) none in
+    record {
+      tree = ap (earliest_key c.args.dir) (sym (first.ends_of_array n array ∙ ap (λ es. or_else es (leaf trees.undefined ∷ [])) empty));
+      kept = tt;
+      there = ap (λ b. b || false) (key.empty_array n array empty);
+    }
 
 pub returns-in-Some-earliest-clause-there : goal.returns-in-Some-earliest-clause-there
-returns-in-Some-earliest-clause-there g c = subst (λ k. IfSome k (IsKeyAt false (Value (g.N.Reading.tree c.args.node) ∷ []))) c.in-Some-earliest.is c.loop-next.invariant.there
+returns-in-Some-earliest-clause-there g c = rw c.in-Some-earliest.is at c.loop-next.invariant.there
 
 pub loop-next-preserved : goal.loop-next-preserved
 loop-next-preserved g c = record {

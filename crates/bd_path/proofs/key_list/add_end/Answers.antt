@@ -1,20 +1,16 @@
-use Rattle.std.proofs.Common.{refl, sym, ap, subst, ◌∙◌}
+use Rattle.std.proofs.Common.{refl, sym, ap, ◌∙◌}
 use Rattle.bd_value.specs.Parts.{values_of}
-use Rattle.bd_path.specs.AddedKeys.{AddsKeys}
-use Rattle.bd_path.proofs.KeyLemmas as key
 use Rattle.bd_path.proofs.KeyListLemmas as added
 use Rattle.bd_path.proofs.ReachLemmas.{parts_are}
+use Rattle.bd_path.proofs.StopLemmas as key
 use Rattle.bd_path.proofs.key_list.add_end.Goals as goal
 
 pub returns-in_default : goal.returns-in_default
-returns-in_default g c =
-    let tree = g.N.Reading.tree in
-    let own = added.own_key (tree c.args.node) (λ k. c.in_default.not-Array (c.kind.ensures ∙ k)) in
-    record {
-      added = added.on_ok c.add_next.result (subst (AddsKeys tree c.args.keys.now.items c.add_next.new.keys.items) (sym own)) c.add_next.ensures.added;
-      kept = λ h. c.add_next.ensures.kept (g.N.Reading.source c.args.node) h refl;
-      there = added.on_ok_always c.add_next.result (λ sparse ss _ h. c.add_next.ensures.there sparse ss h tt);
-    }
+returns-in_default g c = record {
+  added = rw (added.own_key (g.N.Reading.tree c.args.node) (λ k. c.in_default.not-Array (c.kind.ensures ∙ k))) c.add_next.ensures.added;
+  kept = λ h. c.add_next.ensures.kept (g.N.Reading.source c.args.node) h refl;
+  there = added.on_ok_always c.add_next.result (λ sparse ss _ h. c.add_next.ensures.there sparse ss h tt);
+}
 
 pub returns-in_default-next-clause-kept : goal.returns-in_default-next-clause-kept
 returns-in_default-next-clause-kept g c = λ h. c.add_next-in_default-next.ensures.kept (g.N.Reading.source c.args.node) h tt

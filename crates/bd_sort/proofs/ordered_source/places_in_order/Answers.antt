@@ -10,26 +10,18 @@ use Rattle.bd_sort.proofs.ordered_source.places_in_order.Goals as goal
 use Rattle.bd_sort.proofs.ordered_source.places_in_order.Goals.{else-loop-last-test, then-loop-last-test+in_default}
 
 pub loop-last-preserved-in-Continue-1 : goal.loop-last-preserved-in-Continue-1
-loop-last-preserved-in-Continue-1 g c =
-    let ds = documents c.args.dump.now in
-    let pass = passes (hits_of ds (filter_tree c.args.request.now.filter)) (order_of_keys ds (sort_paths c.args.request.now.sort.items)) c.args.last in
-    let p = c.in-Some.place in
-    record {
-      told = rw (c.in_ok-push.ensures.items) (taken_more pass c.loop-last.places.items _ _ _ p c.in-Some.ensures c.loop-last.invariant.told (sym c.is_wanted.ensures ∙ c.if-is_wanted.true));
-      below = below_more _ _ _ p c.in-Some.ensures c.loop-last.invariant.below;
-      few = few_more c.args.most c.loop-last.places.items _ p c.len.result (search rules) c.in_ok-push.ensures.items (sym c.is_full.ensures ∙ c.loop-last-test.true);
-    }
+loop-last-preserved-in-Continue-1 g c = record {
+  told = rw c.in_ok-push.ensures.items (taken_more _ _ _ _ _ c.in-Some.place c.in-Some.ensures c.loop-last.invariant.told (sym c.is_wanted.ensures ∙ c.if-is_wanted.true));
+  below = below_more _ _ _ _ c.in-Some.ensures c.loop-last.invariant.below;
+  few = few_more c.args.most c.loop-last.places.items _ c.in-Some.place c.len.result (search rules) c.in_ok-push.ensures.items (sym c.is_full.ensures ∙ c.loop-last-test.true);
+}
 
 pub loop-last-preserved : goal.loop-last-preserved
-loop-last-preserved g c =
-    let ds = documents c.args.dump.now in
-    let pass = passes (hits_of ds (filter_tree c.args.request.now.filter)) (order_of_keys ds (sort_paths c.args.request.now.sort.items)) c.args.last in
-    let p = c.in-Some.place in
-    record {
-      told = left_out_more pass c.loop-last.places.items _ _ _ p c.in-Some.ensures c.loop-last.invariant.told (sym c.is_wanted.ensures ∙ c.if-is_wanted.false);
-      below = below_more _ _ _ p c.in-Some.ensures c.loop-last.invariant.below;
-      few = c.loop-last.invariant.few;
-    }
+loop-last-preserved g c = record {
+  told = left_out_more _ _ _ _ _ c.in-Some.place c.in-Some.ensures c.loop-last.invariant.told (sym c.is_wanted.ensures ∙ c.if-is_wanted.false);
+  below = below_more _ _ _ _ c.in-Some.ensures c.loop-last.invariant.below;
+  few = c.loop-last.invariant.few;
+}
 
 pub returns : goal.returns
 returns g c =

@@ -1,5 +1,4 @@
-use Rattle.std.proofs.Common.{◌∙◌, ap, map, subst}
-use Rattle.std.specs.List.Sorted.{IsPermutation}
+use Rattle.std.proofs.Common.{◌∙◌, ap, map}
 use Rattle.std.proofs.lemmas.List.{take_all}
 use Rattle.bd_sort.proofs.RowLemmas.{none_ranked, of_rank_0}
 use Rattle.bd_sort.proofs.ranking.unranked.Goals as goal
@@ -9,6 +8,5 @@ returns-clause-ranked c = λ ds.
     let sorted = c.sort_unstable.new.self.items in
     let all = c.deref-all.result.now in
     none_ranked ds c.args.places.now sorted c.loop-place.ranked.items
-    (subst (λ ps. IsPermutation ps sorted) c.in_ok-sorted.ensures.items c.sort_unstable.ensures.permutation)
-    c.sort_unstable.ensures.sorted
+    (rw c.in_ok-sorted.ensures.items at c.sort_unstable.ensures.permutation) c.sort_unstable.ensures.sorted
     (c.loop-place.invariant ∙ ap (map of_rank_0) (take_all c.loop-place.place-index all c.loop-place-test.false ∙ c.deref-all.ensures.value))

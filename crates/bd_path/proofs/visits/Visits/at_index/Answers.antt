@@ -1,11 +1,6 @@
 use Rattle.std.proofs.Common.{inl, inr}
-use Rattle.bd_path.specs.Names.{component_names}
-use Rattle.bd_path.proofs.VisitsLemmas.{step_of, was_open}
-use Rattle.bd_path.specs.declared.positions.Step.TheVariants.{Element}
+use Rattle.bd_path.proofs.VisitsLemmas.{step_of}
 use Rattle.bd_path.proofs.visits.Visits.at_index.Goals as goal
 
 pub returns-in-From : goal.returns-in-From
-returns-in-From c j h = elim (c.at_index.ensures j h) [
-  | inl by ↦ inl (step_of (Element c.args.index) (component_names c.args.path.now) c.args.self.now c.in-From.positions j c.in-From.is by)
-  | inr d ↦ inr (d.0, elim d.1 [ inl s ↦ inl s | inr o ↦ inr (o.0, was_open c.args.self.now c.in-From.positions j c.in-From.is o.1) ])
-]
+returns-in-From c j h = rw c.in-From.is (elim (c.at_index.ensures j h) [ inl by ↦ inl (step_of by) | inr d ↦ inr d ])
