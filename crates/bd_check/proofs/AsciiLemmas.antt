@@ -1,21 +1,17 @@
 -- Texts whose bytes are all ASCII.
-use Rattle.std.proofs.Common.{◌≡◌, ℕ, ◌+◌, ◌-◌, ◌<◌, ◌≤◌, Bool, true, false, List, length, get_or, take, drop, refl, ap, ◌∙◌, subst, arith, inl, inr}
+use Rattle.std.proofs.Common.{◌≡◌, ℕ, ◌+◌, ◌-◌, ◌<◌, ◌≤◌, Bool, false, List, length, get_or, take, drop, ap, ◌∙◌, subst, arith, inl, inr}
 use Rattle.std.specs.Prelude.{nat_lt, IsAscii}
 use Rattle.std.specs.List.{list_any}
-use Rattle.std.proofs.lemmas.Bool.{cases_lt, ltb-false}
+use Rattle.std.proofs.lemmas.Bool.{cases_lt, ltb-false, false_from_ne_true}
 use Rattle.std.proofs.lemmas.List.{get_or-take, get_or-drop, get_or_past}
 use Rattle.std.proofs.lemmas.List.Folds.{list_any_at}
 
 abbrev beyond : ℕ → Bool
 beyond b = nat_lt 127 b
 
-not_true : (b : Bool) → (b ≡ true → ⊥) → b ≡ false
-not_true true h = absurd (h refl)
-not_true false h = refl
-
-pub none_beyond : (xs : List ℕ) → list_any beyond xs ≡ false → IsAscii xs
+none_beyond : (xs : List ℕ) → list_any beyond xs ≡ false → IsAscii xs
 none_beyond xs e = λ i. elim (cases_lt i (length xs)) [
-  | inl lt ↦ let le = ltb-false 127 (get_or xs i 0) (not_true (beyond (get_or xs i 0)) (λ t. let f = list_any_at beyond xs i 0 lt t in cc)) in omega (arith, le)
+  | inl lt ↦ let le = ltb-false 127 (get_or xs i 0) (false_from_ne_true (beyond (get_or xs i 0)) (λ t. let f = list_any_at beyond xs i 0 lt t in cc)) in omega (arith, le)
   | inr past ↦ rw (get_or_past xs i 0 past) (omega arith)
 ]
 
