@@ -1,7 +1,7 @@
 -- A document that is all of some bytes.
 use Rattle.std.proofs.Common.{◌≡◌, ℕ, List, [], refl, sym, ap, ◌∙◌, subst, ◌+◌, drop}
 use Rattle.std.proofs.lemmas.List.{append-nil}
-use Rattle.bd_value.specs.Tree.{Tree, leaf, doc, array, code_scope, Doc, fields_of, pairs_in, pairs_of-fields_of, fields_of-pairs_of}
+use Rattle.bd_value.specs.Tree.{Tree, leaf, doc, Doc, fields_of, pairs_in, pairs_of-fields_of, fields_of-pairs_of}
 use Rattle.bd_value.specs.Kind.{kind_of}
 use Rattle.bd_value.specs.declared.kind.Kind.{Kind}
 use Rattle.bd_value.specs.declared.kind.Kind.TheVariants as kinds
@@ -29,8 +29,7 @@ document_tree bytes s = as_pairs (stands s) (ap kind_of (stands_is s s) ∙ kind
     as_pairs : (t : Tree) → kind_of t ≡ kinds.Doc → t ≡ doc (fields_of (pairs_in t))
     as_pairs (leaf a) k = absurd (unique.no_holder a kinds.Doc k refl)
     as_pairs (doc fs) k = ap doc (sym (fields_of-pairs_of fs))
-    as_pairs (array ts) k = absurd cc
-    as_pairs (code_scope code fs) k = absurd cc
+    as_pairs _ k = absurd cc
 
 -- the bytes spell one document at most
 pub document_unique : (bytes : List ℕ) (c d : Doc) → IsDocument c bytes → IsDocument d bytes → c ≡ d
