@@ -85,15 +85,11 @@ escaped-decimal n small = escaped-digits (decimal n) (decimal_is_IsNumeral n sma
 pub positive_read : (text inside rest after : List ℕ) (n : ℕ) (z : ℤ) → text ≡ 34 ∷ inside → inside ≡ decimal n ++ rest → n < 2 ^ 64
     → rest ≡ 34 ∷ after → pos n ≡ z → text ≡ quoted (signed_decimal z) ++ after
 unfolding quoted
-positive_read text inside rest after n z a b small c same =
-    a ∙ ap (λ x. 34 ∷ x) (b ∙ ap (λ x. decimal n ++ x) c ∙ sym (append_assoc (decimal n) (34 ∷ []) after)
-    ∙ ap (λ x. (x ++ 34 ∷ []) ++ after) (sym (escaped-decimal n small))) ∙ ap (λ k. quoted (signed_decimal k) ++ after) same
+positive_read text inside rest after n z a b small c same = rw (a, b, c, ← same, escaped-decimal n small, append_assoc (decimal n) (34 ∷ []) after) refl
 
 pub negative_read : (text inside digits rest after : List ℕ) (n : ℕ) (z : ℤ) → text ≡ 34 ∷ inside → inside ≡ 45 ∷ digits → digits ≡ decimal n ++ rest
     → n < 2 ^ 64 → rest ≡ 34 ∷ after → 0 < n → neg_ℤ (pos n) ≡ z
     → text ≡ quoted (signed_decimal z) ++ after
 unfolding quoted escape_byte
 negative_read text inside digits rest after zero z a m b small c some same = absurd (omega arith)
-negative_read text inside digits rest after (suc n) z a m b small c some same =
-    a ∙ ap (λ x. 34 ∷ x) (m ∙ ap (λ x. 45 ∷ x) (b ∙ ap (λ x. decimal (suc n) ++ x) c ∙ sym (append_assoc (decimal (suc n)) (34 ∷ []) after)
-    ∙ ap (λ x. (x ++ 34 ∷ []) ++ after) (sym (escaped-decimal (suc n) small)))) ∙ ap (λ k. quoted (signed_decimal k) ++ after) same
+negative_read text inside digits rest after (suc n) z a m b small c some same = rw (a, m, b, c, ← same, escaped-decimal (suc n) small, append_assoc (decimal (suc n)) (34 ∷ []) after) refl
