@@ -15,7 +15,7 @@ use Rattle.bd_raw.specs.ValueAt.{TextAt}
 use Rattle.bd_raw.specs.Unique.{framed_after, no_holder}
 use Rattle.bd_raw.specs.Sound.{Sound, Left, stands, elements_left, stands_is, left_is}
 use Rattle.bd_value.specs.Parts.{values_of}
-use Rattle.bd_raw.proofs.ValueAtLemmas.{kind_is, text_reads, framed_length, scoped_length}
+use Rattle.bd_raw.proofs.ValueAtLemmas.{kind_is, reads_at, text_reads, framed_length, scoped_length}
 
 pub list_of-items_of : (ts : List Tree) → list_of (items_of ts) ≡ ts
 list_of-items_of [] = refl
@@ -91,38 +91,24 @@ leaf_is kind bytes s none =
 
 -- ---- the elements of a document and of an array
 
-module _ (bytes : List ℕ) (start : ℕ) (kind : Kind) (s : Sound kind (drop start bytes)) (made : Doc → Tree) (f : IsFramed s.tree s.value made) where
-  framed_left : Left (drop (start + 4) bytes)
-  framed_left =
-      let whole : drop start bytes ≡ number (length f.body + 5) ++ (f.body ++ 0 ∷ s.after) = s.cut ∙ ap (λ (x : List ℕ). x ++ s.after) f.frame ∙ framed_after f.body s.after in
-      let size : length s.value ≡ length f.body + 5 = ap length f.frame ∙ framed_length f.body in
-      let short : length f.body ≤ longest_document = let m = s.short in omega (arith, size) in
-      record {
-        fields = f.fields;
-        body = f.body;
-        after = s.after;
-        spell = f.spell;
-        cut = sym (drop-drop 4 start bytes) ∙ ap (drop 4) whole
-            ∙ number_after (length f.body + 5) (f.body ++ 0 ∷ s.after);
-        short = short;
-      }
-
-  framed_is : (g : Left (drop (start + 4) bytes)) → stands s ≡ made (elements_left g)
-  unfolding framed_left
-  framed_is g = stands_is s s ∙ f.is ∙ ap made (sym (left_is g framed_left))
-
 module _ (bytes : List ℕ) (start : ℕ) (kind : Kind) (s : Sound kind (drop start bytes)) where
-  pub document_left : kind ≡ kinds.Doc → Left (drop (start + 4) bytes)
-  document_left k = framed_left bytes start kind s as_document (is_document s.tree s.value s.spells (kind_is kind _ s ∙ k))
+  -- the elements, and that they make the value
+  abbrev pub Held : (Doc → Tree) → Type 0
+  Held made = Left (drop (start + 4) bytes) × ((g : Left (drop (start + 4) bytes)) → stands s ≡ made (elements_left g))
 
-  pub document_is : kind ≡ kinds.Doc → (g : Left (drop (start + 4) bytes)) → stands s ≡ doc (fields_of (elements_left g))
-  document_is k g = framed_is bytes start kind s as_document (is_document s.tree s.value s.spells (kind_is kind _ s ∙ k)) g
+  framed_held : (made : Doc → Tree) → IsFramed s.tree s.value made → Held made
+  framed_held made f =
+      let whole : drop start bytes ≡ number (length f.body + 5) ++ (f.body ++ 0 ∷ s.after) = s.cut ∙ ap (λ (x : List ℕ). x ++ s.after) f.frame ∙ framed_after f.body s.after in
+      let cut = sym (drop-drop 4 start bytes) ∙ ap (drop 4) whole ∙ number_after (length f.body + 5) (f.body ++ 0 ∷ s.after) in
+      let short : length f.body ≤ longest_document = omega (arith, s.short, ap length f.frame, framed_length f.body) in
+      let left : Left (drop (start + 4) bytes) = record { fields = f.fields; body = f.body; after = s.after; spell = f.spell; cut = cut; short = short } in
+      (left, λ g. stands_is s s ∙ f.is ∙ ap made (sym (left_is g left)))
 
-  pub array_left : kind ≡ kinds.Array → Left (drop (start + 4) bytes)
-  array_left k = framed_left bytes start kind s as_array (is_array s.tree s.value s.spells (kind_is kind _ s ∙ k))
+  pub document_held : kind ≡ kinds.Doc → Held as_document
+  document_held k = framed_held as_document (is_document s.tree s.value s.spells (kind_is kind _ s ∙ k))
 
-  pub array_is : kind ≡ kinds.Array → (g : Left (drop (start + 4) bytes)) → stands s ≡ array (items_of (values_of (elements_left g)))
-  array_is k g = framed_is bytes start kind s as_array (is_array s.tree s.value s.spells (kind_is kind _ s ∙ k)) g
+  pub array_held : kind ≡ kinds.Array → Held as_array
+  array_held k = framed_held as_array (is_array s.tree s.value s.spells (kind_is kind _ s ∙ k))
 
 -- ---- code with scope
 
@@ -162,9 +148,7 @@ module _ (bytes : List ℕ) (start : ℕ) (kind : Kind) (s : Sound kind (drop st
   code_of = is_code s.tree s.value s.spells (kind_is kind _ s ∙ k)
 
   pub code_long : 4 ≤ length (drop start bytes)
-  code_long =
-      let e = ap (λ (x : List ℕ). length x) (s.cut ∙ ap (λ (x : List ℕ). x ++ s.after) code_of.whole) in
-      omega (arith, e, length-append (scoped code_of.code (framed code_of.body)) s.after, scoped_length code_of.code (framed code_of.body))
+  code_long = rw k at (reads_at kind (drop start bytes) s)
 
   pub code_reads : TextAt (drop (start + 4) bytes)
   code_reads = subst TextAt (sym (code_after bytes start kind s code_of)) (text_reads code_of.code (framed code_of.body ++ s.after) code_of.text_fits)
@@ -172,10 +156,7 @@ module _ (bytes : List ℕ) (start : ℕ) (kind : Kind) (s : Sound kind (drop st
   pub scope_inside : (n : ℕ) → n ≡ number_of (drop (start + 4) bytes) → start + 8 + n ≤ length bytes
   scope_inside n is =
       let e = ap (λ (x : List ℕ). length x) (scope_cut bytes start kind s code_of n is) in
-      let a = length-append (framed code_of.body) s.after in
-      let b = framed_length code_of.body in
-      let d = length-drop (start + 8 + n) bytes in
-      omega arith
+      omega (arith, e, length-append (framed code_of.body) s.after, framed_length code_of.body, length-drop (start + 8 + n) bytes)
 
   pub scope_sound : (n : ℕ) → n ≡ number_of (drop (start + 4) bytes) → Sound kinds.Doc (drop (start + 8 + n) bytes)
   scope_sound n is = scope_here bytes start kind s code_of n is

@@ -9,7 +9,7 @@ use Rattle.bd_raw.specs.Spelling.{IsDocument}
 use Rattle.bd_raw.specs.Sound.{Sound, Left, stands, stands_is, elements_left}
 use Rattle.bd_raw.specs.Unique as unique
 use Rattle.bd_raw.proofs.ValueAtLemmas.{kind_is}
-use Rattle.bd_raw.proofs.ContentsLemmas.{document_is}
+use Rattle.bd_raw.proofs.ContentsLemmas.{document_held}
 
 abbrev pub whole_sound : (bytes : List ℕ) (d : Doc) → IsDocument d bytes → Sound kinds.Doc bytes
 whole_sound bytes d h = record { tree = doc (fields_of d); value = bytes; after = []; spells = h.spells; kinded = refl; cut = sym (append-nil bytes); short = h.short }
@@ -20,7 +20,7 @@ whole_is bytes d h s =
     subst (λ (c : Doc). IsDocument c bytes) e h
 
 pub document_elements : (bytes : List ℕ) (start : ℕ) (s : Sound kinds.Doc (drop start bytes)) (g : Left (drop (start + 4) bytes)) → elements_left g ≡ pairs_in (stands s)
-document_elements bytes start s g = sym (ap pairs_in (document_is bytes start kinds.Doc s refl g) ∙ pairs_of-fields_of (elements_left g))
+document_elements bytes start s g = sym (ap pairs_in ((document_held bytes start kinds.Doc s refl).1 g) ∙ pairs_of-fields_of (elements_left g))
 
 -- a document is the pairs in it
 pub document_tree : (bytes : List ℕ) (s : Sound kinds.Doc bytes) → stands s ≡ doc (fields_of (pairs_in (stands s)))

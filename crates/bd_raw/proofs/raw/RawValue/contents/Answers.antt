@@ -7,16 +7,16 @@ use Rattle.bd_raw.proofs.ContentsLemmas as v
 use Rattle.bd_raw.proofs.raw.RawValue.contents.Goals as goal
 
 pub invariant_of-result : goal.invariant_of-result
-invariant_of-result c = record { short = c.args.self.short; left = v.document_left c.args.self.bytes.now c.args.self.start c.args.self.kind c.args.self.sound c.in-Doc.is }
+invariant_of-result c = record { short = c.args.self.short; left = (v.document_held c.args.self.bytes.now c.args.self.start c.args.self.kind c.args.self.sound c.in-Doc.is).0 }
 
 pub returns-in-Doc-clause-holds : goal.returns-in-Doc-clause-holds
-returns-in-Doc-clause-holds c = v.document_is c.args.self.bytes.now c.args.self.start c.args.self.kind c.args.self.sound c.in-Doc.is _
+returns-in-Doc-clause-holds c = (v.document_held c.args.self.bytes.now c.args.self.start c.args.self.kind c.args.self.sound c.in-Doc.is).1 _
 
 pub invariant_of-result-in-Array : goal.invariant_of-result-in-Array
-invariant_of-result-in-Array c = record { short = c.args.self.short; left = v.array_left c.args.self.bytes.now c.args.self.start c.args.self.kind c.args.self.sound c.in-Array.is }
+invariant_of-result-in-Array c = record { short = c.args.self.short; left = (v.array_held c.args.self.bytes.now c.args.self.start c.args.self.kind c.args.self.sound c.in-Array.is).0 }
 
 pub returns-in-Array-clause-holds : goal.returns-in-Array-clause-holds
-returns-in-Array-clause-holds c = v.array_is c.args.self.bytes.now c.args.self.start c.args.self.kind c.args.self.sound c.in-Array.is _
+returns-in-Array-clause-holds c = (v.array_held c.args.self.bytes.now c.args.self.start c.args.self.kind c.args.self.sound c.in-Array.is).1 _
 
 pub split_at-requires-in-CodeScope : goal.split_at-requires-in-CodeScope
 split_at-requires-in-CodeScope c =
