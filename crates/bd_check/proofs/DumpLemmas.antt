@@ -14,7 +14,7 @@ use Rattle.bd_check.specs.Dump.{length_told, frame_length, framed_fault, frame_f
 use Rattle.bd_raw.specs.Scalars.{number_front}
 use Rattle.bd_raw.specs.Sizes.{number_of}
 use Rattle.bd_raw.proofs.ValueAtLemmas.{framed_length}
-use Rattle.bd_raw.specs.Unique.{framed_after}
+use Rattle.bd_raw.specs.Unique.{framed_after, cancel}
 use Rattle.bd_check.proofs.FirstFaultLemmas.{guard_ok, IsBytes, IsBytes-take, IsBytes-drop, document_found}
 use Rattle.bd_check.proofs.NoFaultLemmas.{document_again}
 use Rattle.bd_raw.proofs.SoundLemmas.{document_unique}
@@ -53,8 +53,7 @@ fronts : (c d : Doc) (a b x y : List ℕ) → IsDocument c a → IsDocument d b 
 fronts c d a b x y p q h =
     let m : length a ≡ length b = let e = sym (document_frame c a x p) ∙ ap frame_length h ∙ document_frame d b y q in cc in
     let same : a ≡ b = sym (take_at a x (length a) refl) ∙ ap (take (length a)) h ∙ take_at b y (length a) (sym m) in
-    let others : x ≡ y = sym (drop_at a x (length a) refl) ∙ ap (drop (length a)) h ∙ drop_at b y (length a) (sym m) in
-    (document_unique b c d (subst (λ (v : List ℕ). IsDocument c v) same p) q, same, others)
+    (document_unique b c d (rw same at p) q, same, cancel a b x y same h)
 
 -- no document stands at the front
 unfoldable pub Stuck : List ℕ → Type 0

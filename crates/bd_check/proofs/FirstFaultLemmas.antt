@@ -15,7 +15,7 @@ use Rattle.std.proofs.lemmas.Int.{of_z-to_z, ints}
 use Rattle.std.proofs.lemmas.Str.{IsUtf8-from_is_utf8}
 use Rattle.bd_value.specs.Limits.{longest_document, most_levels}
 use Rattle.bd_value.specs.Tree as trees
-use Rattle.bd_value.specs.Tree.{Scalar, Tree, leaf, doc, array, code_scope, Fields, no_fields, field, Items, no_items, item, Doc, pairs_of, fields_of-pairs_of}
+use Rattle.bd_value.specs.Tree.{Scalar, Tree, leaf, doc, array, code_scope, Fields, no_fields, field, Items, no_items, item, Doc, fields_of, pairs_of, fields_of-pairs_of}
 use Rattle.bd_value.specs.Kind.{scalar_kind, kind_of}
 use Rattle.bd_value.specs.declared.kind.Kind.{Kind}
 use Rattle.bd_value.specs.declared.kind.Kind.TheVariants as kinds
@@ -416,12 +416,6 @@ element_shrinks room bytes rest r =
     let f = length-append (element r.tree r.name r.value) rest in
     omega (arith, e, f)
 
--- all elements that were gone past
-record TakesElements (room : ℕ) (bytes : List ℕ) : Type 0 where
-  pub fields : Fields
-  pub spell : AreFields fields bytes
-  pub shallow : fields_depth fields ≤ room
-
 scope_ends : (at : ℕ) (after : List ℕ) → past_scope_end at after ≡ Ok tt → after ≡ []
 scope_ends at [] is = refl
 scope_ends at (b ∷ after) is = absurd cc
@@ -500,18 +494,17 @@ module _ (room : ℕ) (nested : Nested) (below : NestedTakes room nested) where
       let parts : b ∷ bytes ≡ element v.tree name v.value ++ rest = rw same (ap (λ (x : List ℕ). b ∷ x) (joined.parts ∙ ap (λ (x : List ℕ). x ++ rest) (append_assoc name (0 ∷ []) v.value))) in
       record { name = name; tree = v.tree; value = v.value; named = n.1; spells = v.spells; takes = record { parts = parts; rest_fits = v.takes.rest_fits }; shallow = v.shallow }
 
-  elements_take : (place : Option ℕ) (n e : ℕ) (bytes : List ℕ) → IsBytes bytes → length bytes ≤ n → past_elements nested place n e bytes ≡ Ok tt → TakesElements room bytes
+  elements_take : (place : Option ℕ) (n e : ℕ) (bytes : List ℕ) → IsBytes bytes → length bytes ≤ n → past_elements nested place n e bytes ≡ Ok tt
+      → (fields : Fields) × AreFields fields bytes × (fields_depth fields ≤ room)
   unfolding past_elements
-  elements_take place n e [] fits le is = record { fields = no_fields; spell = refl; shallow = omega arith }
+  elements_take place n e [] fits le is = (no_fields, refl, omega arith)
   elements_take place zero e (b ∷ bytes) fits le is = absurd (omega arith)
   elements_take place (suc n) e (b ∷ bytes) fits le is =
       let a = bind_ok (past_element nested place e (b ∷ bytes)) _ tt is in
       let r = element_takes place e (b ∷ bytes) a.0 fits a.1 in
       let less = element_shrinks room (b ∷ bytes) a.0 r in
       let rec = elements_take (option_map suc place) n e a.0 r.takes.rest_fits (omega (arith, less)) a.2 in
-      let x = r.shallow in
-      let y = rec.shallow in
-      record { fields = field r.name r.tree rec.fields; spell = (r.value, a.0, r.named, r.spells, rec.spell, r.takes.parts); shallow = omega arith }
+      (field r.name r.tree rec.0, (r.value, a.0, r.named, r.spells, rec.1, r.takes.parts), omega (arith, r.shallow, rec.2))
 
   body_takes : (in_array : Bool) (e : ℕ) (bytes rest : List ℕ) → IsBytes bytes → past_body nested in_array e bytes ≡ Ok rest → TakesBody (suc room) bytes rest
   body_takes in_array e bytes rest fits is =
@@ -519,8 +512,7 @@ module _ (room : ℕ) (nested : Nested) (below : NestedTakes room nested) where
       let o = bind_ok (past_elements nested (start in_array) (length f.0.0) f.0.1 f.0.0) _ rest f.2 in
       let r = frame_takes false e bytes f.0 fits f.1 in
       let all = elements_take (start in_array) (length f.0.0) f.0.1 f.0.0 r.body_fits (omega arith) o.1 in
-      let low = all.shallow in
-      rw (← ok_is f.0.2 rest o.2) (record { fields = all.fields; body = f.0.0; spell = all.spell; takes = r.takes; shallow = omega arith })
+      rw (← ok_is f.0.2 rest o.2) (record { fields = all.0; body = f.0.0; spell = all.1; takes = r.takes; shallow = omega (arith, all.2) })
 
   code_takes : (q e : ℕ) (bytes rest : List ℕ) → IsBytes bytes → past_code_scope nested q e bytes ≡ Ok rest → TakesCode (suc room) bytes rest
   code_takes q e bytes rest fits is =
@@ -562,11 +554,6 @@ document_found e bytes fits is =
     let levels = most_levels - 1 in
     let all = elements_take levels (past_nested levels) (nested_takes levels) None (length f.0.0) f.0.1 f.0.0 r.body_fits (omega arith) f.2 in
     let whole : bytes ≡ framed f.0.0 = r.takes.parts ∙ ap (λ (x : List ℕ). framed f.0.0 ++ x) (r.whole refl) ∙ append-nil (framed f.0.0) in
-    let same = fields_of-pairs_of all.fields in (
-      pairs_of all.fields,
-      record {
-        spells = (f.0.0, rw same all.spell, whole);
-        short = let x = ap length whole in let y = r.short in omega arith;
-        shallow = let x = all.shallow in let y = ap fields_depth same in omega arith;
-      },
-    )
+    let same = fields_of-pairs_of all.0 in
+    let spells : IsValue (doc (fields_of (pairs_of all.0))) bytes = (f.0.0, rw same all.1, whole) in
+    (pairs_of all.0, record { spells = spells; short = omega (arith, ap length whole, r.short); shallow = omega (arith, all.2, ap fields_depth same) })

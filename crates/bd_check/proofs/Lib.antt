@@ -1,6 +1,5 @@
 pub mod NoFaultLemmas
 pub mod FastPathLemmas
-pub mod AsciiLemmas
 pub mod DumpLemmas
 pub mod CheckingLemmas
 pub mod FirstFaultLemmas

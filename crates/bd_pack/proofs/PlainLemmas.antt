@@ -204,17 +204,10 @@ reads_plain text d = of_json (reads.json text)
 
 -- ---- parts
 
-of_some : (room : ℕ) (o : Option Tree) (t : Tree) → IsTree room o → o ≡ Some t → zero_in t ≡ false
-of_some room None t p e = absurd cc
-of_some room (Some u) t p e = let is : u ≡ t = cc in ap zero_in (sym is) ∙ p.1
-
-pub bare_plain : (z : Option ℤ) (t : Tree) → bare_number z ≡ Some t → zero_in t ≡ false
-bare_plain z t e = of_some 0 (bare_number z) t (number_plain 0 z) e
-
 kept : (o : Option Tree) (t : Tree) (ts rest : List Token) → option_map {U = Tree × List Token} (λ a. (a, ts)) o ≡ Some (t, rest) → o ≡ Some t
 kept None t ts rest e = absurd cc
 kept (Some u) t ts rest e = ap (λ (x : Option (Tree × List Token)). option_map (λ (p : Tree × List Token). p.0) x) e
 
 pub object_plain : (room : ℕ) (r : Option (json.Members × List Token)) (t : Tree) (rest : List Token) → through (wrap_object room) r ≡ Some (t, rest) → zero_in t ≡ false
 object_plain room None t rest e = absurd cc
-object_plain room (Some p) t rest e = of_some room (wrap_object room p.0) t (wrap_object_plain room p.0) (kept (wrap_object room p.0) t p.1 rest e)
+object_plain room (Some p) t rest e = (rw (kept (wrap_object room p.0) t p.1 rest e) at (wrap_object_plain room p.0)).1

@@ -2,6 +2,7 @@
 use Rattle.std.proofs.Common.{◌≡◌, ℕ, ◌-◌, ◌<◌, ◌≤◌, ◌^◌, ℤ, pos, negsuc, Bool, true, false, cond, List, ◌∷◌, length, Option, Some, None, option_map}
 use Rattle.std.proofs.Common.{option_and_then, to_z, of_z, refl, sym, ap, ◌∙◌, arith}
 use Rattle.std.specs.Prelude.{codes}
+use Rattle.std.proofs.lemmas.Option.{option_and_then_some, cond_some}
 use Rattle.std.specs.Int.{w32, w64}
 use Rattle.std.specs.Int.RustNames.{FitsSigned}
 use Rattle.std.proofs.lemmas.Int.{ints, to_z-of_z}
@@ -64,13 +65,8 @@ date_gives room depth first w s x ts rest some named same is stands =
 
 -- ---- a number of a signed type, by its bits
 
-kept : (k : ℕ) (x z : ℤ) (b : Bool) → fits_bits k x ≡ b → cond b (Some x) None ≡ Some z → fits_bits k z ≡ true
-kept k x z true fits is = let same : x ≡ z = cc in rw (← same) fits
-kept k x z false fits is = absurd cc
-
 whole_fits : (k : ℕ) (o : Option ℤ) (z : ℤ) → option_and_then (if_fits k) o ≡ Some z → fits_bits k z ≡ true
-whole_fits k None z is = absurd cc
-whole_fits k (Some x) z is = kept k x z (fits_bits k x) refl is
+whole_fits k o z is = option_and_then_some (if_fits k) o z is (λ x _ e. let p = cond_some (fits_bits k x) x z e in rw p.1 at p.0)
 
 fits_32 : (z : ℤ) → fits_bits 31 z ≡ true → FitsSigned w32 z
 fits_32 (pos n) e = let low : n < 2 ^ 31 = grind arith in record { sfits = omega (arith, ints) }
