@@ -83,22 +83,18 @@ joined_once (d ∷ ds) (e ∷ es) a b x y p q s t h =
     let others = joined_once ds es p.1 q.1 x y p.3 q.3 s t first.2 in
     (ap₂ (λ (u : Doc) (us : List Doc). u ∷ us) first.0 others.0, p.4 ∙ ap₂ (λ (u v : List ℕ). u ++ v) first.1 others.1 ∙ sym q.4, others.2)
 
-abbrev some : Fault → Option Fault
-some f = Some f
+-- what a walk ends in: no document stands there, and its fault, or none
+walk_ends : (ds : List Doc) (o : Option Fault) (bytes : List ℕ) → IsWalk ds o bytes
+    → (front : List ℕ) × (rest : List ℕ) × AreJoined ds front × (bytes ≡ front ++ rest) × Stuck rest × (frame_fault (length front) rest ≡ o)
+walk_ends ds None bytes v = (bytes, [], v, sym (append-nil bytes), nothing_stuck, refl)
+walk_ends ds (Some f) bytes v = (v.0, v.1, v.2, v.3, fault_stuck (length v.0) v.1 f v.4, v.4)
 
 pub walk_once : (ds es : List Doc) (o p : Option Fault) (bytes : List ℕ) → IsWalk ds o bytes → IsWalk es p bytes → (ds ≡ es) × (o ≡ p)
-walk_once ds es None None bytes v w =
-    let e = joined_once ds es bytes bytes [] [] v w nothing_stuck nothing_stuck refl in
-    (e.0, refl)
-walk_once ds es None (Some g) bytes v w =
-    let e = joined_once ds es bytes w.0 [] w.1 v w.2 nothing_stuck (fault_stuck (length w.0) w.1 g w.4) (append-nil bytes ∙ w.3) in
-    absurd (let x : None ≡ some g = ap (frame_fault (length w.0)) e.2 ∙ w.4 in cc)
-walk_once ds es (Some f) None bytes v w =
-    let e = joined_once ds es v.0 bytes v.1 [] v.2 w (fault_stuck (length v.0) v.1 f v.4) nothing_stuck (sym v.3 ∙ sym (append-nil bytes)) in
-    absurd (let x : some f ≡ None = sym v.4 ∙ ap (frame_fault (length v.0)) e.2 in cc)
-walk_once ds es (Some f) (Some g) bytes v w =
-    let e = joined_once ds es v.0 w.0 v.1 w.1 v.2 w.2 (fault_stuck (length v.0) v.1 f v.4) (fault_stuck (length w.0) w.1 g w.4) (sym v.3 ∙ w.3) in
-    (e.0, sym v.4 ∙ ap₂ (λ (a x : List ℕ). frame_fault (length a) x) e.1 e.2 ∙ w.4)
+walk_once ds es o p bytes v w =
+    let a = walk_ends ds o bytes v in
+    let b = walk_ends es p bytes w in
+    let e = joined_once ds es a.0 b.0 a.1 b.1 a.2 b.2 a.4 b.4 (sym a.3 ∙ b.3) in
+    (e.0, sym a.5 ∙ ap₂ (λ (x y : List ℕ). frame_fault (length x) y) e.1 e.2 ∙ b.5)
 
 -- ---- and it ends
 
@@ -160,26 +156,24 @@ found_document base bytes fits is = document_found (base + length bytes) bytes f
 abbrev Walker : ℕ → Type 0
 Walker turns = (done : List Doc) (front rest : List ℕ) → length rest ≤ turns → IsBytes rest → AreJoined done front → Walked done front rest
 
-walk_document : (turns : ℕ) → Walker turns → (done : List Doc) (front rest : List ℕ) (n : ℕ) (first : Option Fault) → length rest ≤ suc turns
-    → IsBytes rest → AreJoined done front → frame_length rest ≡ Ok (Some n) → first_fault (length front) (take n rest) ≡ first
-    → Walked done front rest
-walk_document turns walk done front rest n (Some f) le fits j is first_is = stops_at done front rest f j (ap (framed_fault (length front) rest) is ∙ first_is)
-walk_document turns walk done front rest n None le fits j is first_is =
-    let d = found_document (length front) (take n rest) (IsBytes-take n rest fits) first_is in
-    let size = frame_inside rest n is in
-    goes_on done d.0 front (take n rest) (drop n rest) rest (take-append-drop n rest)
-    (walk (done ++ d.0 ∷ []) (front ++ take n rest) (drop n rest) (omega (arith, length-drop n rest, size.0, size.1)) (IsBytes-drop n rest fits)
-    (joined_append done (d.0 ∷ []) front (take n rest) j (joined_one d.0 (take n rest) d.1)))
+module _ (turns : ℕ) (walk : Walker turns) (done : List Doc) (front rest : List ℕ) (le : length rest ≤ suc turns) (fits : IsBytes rest) (j : AreJoined done front) where
+  walk_document : (n : ℕ) (first : Option Fault) → frame_length rest ≡ Ok (Some n) → first_fault (length front) (take n rest) ≡ first → Walked done front rest
+  walk_document n (Some f) is first_is = stops_at done front rest f j (ap (framed_fault (length front) rest) is ∙ first_is)
+  walk_document n None is first_is =
+      let d = found_document (length front) (take n rest) (IsBytes-take n rest fits) first_is in
+      let size = frame_inside rest n is in
+      goes_on done d.0 front (take n rest) (drop n rest) rest (take-append-drop n rest)
+      (walk (done ++ d.0 ∷ []) (front ++ take n rest) (drop n rest) (omega (arith, length-drop n rest, size.0, size.1)) (IsBytes-drop n rest fits)
+      (joined_append done (d.0 ∷ []) front (take n rest) j (joined_one d.0 (take n rest) d.1)))
 
-walk_frame : (turns : ℕ) → Walker turns → (done : List Doc) (front rest : List ℕ) (frame : Result (Option ℕ) FaultKind) → length rest ≤ suc turns
-    → IsBytes rest → AreJoined done front → frame_length rest ≡ frame → Walked done front rest
-walk_frame turns walk done front rest (Err kind) le fits j is = stops_at done front rest (record { kind = kind; offset = length front; path = [] }) j (ap (framed_fault (length front) rest) is)
-walk_frame turns walk done front rest (Ok None) le fits j is = ends_at done front rest j (no_frame rest is)
-walk_frame turns walk done front rest (Ok (Some n)) le fits j is = walk_document turns walk done front rest n (first_fault (length front) (take n rest)) le fits j is refl
+  walk_frame : (frame : Result (Option ℕ) FaultKind) → frame_length rest ≡ frame → Walked done front rest
+  walk_frame (Err kind) is = stops_at done front rest (record { kind = kind; offset = length front; path = [] }) j (ap (framed_fault (length front) rest) is)
+  walk_frame (Ok None) is = ends_at done front rest j (no_frame rest is)
+  walk_frame (Ok (Some n)) is = walk_document n (first_fault (length front) (take n rest)) is refl
 
 walk : (turns : ℕ) → Walker turns
 walk zero done front rest le fits j = ends_at done front rest j (nil_from_length rest (omega arith))
-walk (suc turns) done front rest le fits j = walk_frame turns (walk turns) done front rest (frame_length rest) le fits j refl
+walk (suc turns) done front rest le fits j = walk_frame turns (walk turns) done front rest le fits j (frame_length rest) refl
 
 -- the walk goes on after any documents
 pub walk_on : (done : List Doc) (front rest : List ℕ) → IsBytes rest → AreJoined done front → Walked done front rest

@@ -310,44 +310,11 @@ module _ (room : ℕ) where
   none_takes : (s : Scalar) (bytes rest : List ℕ) → IsBytes bytes → IsScalar s [] → done bytes ≡ done rest → TakesValue room (scalar_kind s) bytes rest
   none_takes s bytes rest fits spells is = rw (← ok_is bytes rest is) (leaf_takes room s (cut_at 0 bytes fits (omega arith)).takes spells)
 
-  int_takes : (e : ℕ) (bytes rest : List ℕ) → IsBytes bytes → past_fixed 4 e bytes ≡ Ok rest → TakesValue room kinds.Int32 bytes rest
-  int_takes e bytes rest fits is =
-      let f = fixed_takes 4 e bytes rest fits is in
-      let n = from_le_bytes w32 f.front in
-      let back : number (cast_unsigned w32 (cast_signed w32 n)) ≡ f.front = ap number (of_z-to_z w32 n (number_below f.front f.fits)) ∙ number_back f.front f.size f.fits in
-      leaf_takes room (trees.int32 (cast_signed w32 n)) f.takes (search (arith, ints), sym back)
-
-  timestamp_takes : (e : ℕ) (bytes rest : List ℕ) → IsBytes bytes → past_fixed 8 e bytes ≡ Ok rest → TakesValue room kinds.Timestamp bytes rest
-  timestamp_takes e bytes rest fits is =
-      let f = fixed_takes 8 e bytes rest fits is in
-      let low = cut_at 4 f.front f.fits (omega (arith, f.size)) in
-      let high_fits = low.takes.rest_fits in
-      let high_size : length (drop 4 f.front) ≡ 4 = omega (arith, length-drop 4 f.front, f.size) in
-      let whole : number (from_le_bytes w32 (take 4 f.front)) ++ number (from_le_bytes w32 (drop 4 f.front)) ≡ f.front =
-      ap₂ (λ (x y : List ℕ). x ++ y) (number_back (take 4 f.front) low.size low.fits) (number_back (drop 4 f.front) high_size high_fits) ∙ take-append-drop 4 f.front in
-      leaf_takes room (trees.timestamp (from_le_bytes w32 (drop 4 f.front)) (from_le_bytes w32 (take 4 f.front))) f.takes
-      (number_below (drop 4 f.front) high_fits, number_below (take 4 f.front) low.fits, sym whole)
-
   boolean_takes : (e : ℕ) (bytes rest : List ℕ) → IsBytes bytes → past_boolean e bytes ≡ Ok rest → TakesValue room kinds.Bool bytes rest
   boolean_takes e [] rest fits is = absurd cc
   boolean_takes e (zero ∷ bs) rest fits is = rw (← ok_is bs rest is) (leaf_takes room (trees.boolean false) (cut_at 1 (0 ∷ bs) fits (omega arith)).takes refl)
   boolean_takes e (suc zero ∷ bs) rest fits is = rw (← ok_is bs rest is) (leaf_takes room (trees.boolean true) (cut_at 1 (1 ∷ bs) fits (omega arith)).takes refl)
   boolean_takes e (suc (suc b) ∷ bs) rest fits is = absurd (let le = ltb-false 1 (suc (suc b)) (guard_ok (ltb 1 (suc (suc b))) _ (done bs) rest is).0 in omega arith)
-
-  pointer_takes : (e : ℕ) (bytes rest : List ℕ) → IsBytes bytes → (past_string e bytes >>= λ more. past_fixed 12 e more) ≡ Ok rest → TakesValue room kinds.DbPointer bytes rest
-  pointer_takes e bytes rest fits is =
-      let a = bind_ok (past_string e bytes) _ rest is in
-      let s = string_takes e bytes a.0 fits a.1 in
-      let f = fixed_takes 12 e a.0 rest s.takes.rest_fits a.2 in
-      leaf_takes room (trees.db_pointer s.text_bytes f.front) (Takes-then s.takes f.takes) (s.fits, f.size, refl)
-
-  regex_takes : (e : ℕ) (bytes rest : List ℕ) → IsBytes bytes → past_regex e bytes ≡ Ok rest → TakesValue room kinds.Regex bytes rest
-  regex_takes e bytes rest fits is =
-      let a = bind_ok (past_name StringUnended e bytes) _ rest is in
-      let b = bind_ok (past_name StringUnended e a.0.1) _ rest a.2 in
-      let p = name_takes StringUnended e bytes a.0 fits a.1 in
-      let o = name_takes StringUnended e a.0.1 b.0 p.0.rest_fits b.1 in
-      rw (← ok_is b.0.1 rest b.2) (leaf_takes room (trees.regex a.0.0 b.0.0) (Takes-then p.0 o.0) (p.1, o.1, append_assoc a.0.0 (0 ∷ []) (b.0.0 ++ 0 ∷ [])))
 
   binary_takes : (e : ℕ) (bytes rest : List ℕ) → IsBytes bytes → past_binary e bytes ≡ Ok rest → TakesValue room kinds.Binary bytes rest
   unfolding past_binary
@@ -446,18 +413,39 @@ module _ (room : ℕ) (nested : Nested) (below : NestedTakes room nested) where
   value_takes kinds.Undefined q e bytes rest fits is = none_takes room trees.undefined bytes rest fits refl is
   value_takes kinds.Null q e bytes rest fits is = none_takes room trees.null bytes rest fits refl is
   value_takes kinds.MaxKey q e bytes rest fits is = none_takes room trees.max_key bytes rest fits refl is
-  value_takes kinds.Int32 q e bytes rest fits is = int_takes room e bytes rest fits is
+  value_takes kinds.Int32 q e bytes rest fits is =
+      let f = fixed_takes 4 e bytes rest fits is in
+      let n = from_le_bytes w32 f.front in
+      let back : number (cast_unsigned w32 (cast_signed w32 n)) ≡ f.front = ap number (of_z-to_z w32 n (number_below f.front f.fits)) ∙ number_back f.front f.size f.fits in
+      leaf_takes room (trees.int32 (cast_signed w32 n)) f.takes (search (arith, ints), sym back)
   value_takes kinds.Int64 q e bytes rest fits is = let l = long_takes e bytes rest fits is in leaf_takes room (trees.int64 l.0) l.2 (l.1, refl)
   value_takes kinds.Date q e bytes rest fits is = let l = long_takes e bytes rest fits is in leaf_takes room (trees.date l.0) l.2 (l.1, refl)
-  value_takes kinds.Timestamp q e bytes rest fits is = timestamp_takes room e bytes rest fits is
+  value_takes kinds.Timestamp q e bytes rest fits is =
+      let f = fixed_takes 8 e bytes rest fits is in
+      let low = cut_at 4 f.front f.fits (omega (arith, f.size)) in
+      let high_fits = low.takes.rest_fits in
+      let high_size : length (drop 4 f.front) ≡ 4 = omega (arith, length-drop 4 f.front, f.size) in
+      let whole : number (from_le_bytes w32 (take 4 f.front)) ++ number (from_le_bytes w32 (drop 4 f.front)) ≡ f.front =
+      ap₂ (λ (x y : List ℕ). x ++ y) (number_back (take 4 f.front) low.size low.fits) (number_back (drop 4 f.front) high_size high_fits) ∙ take-append-drop 4 f.front in
+      leaf_takes room (trees.timestamp (from_le_bytes w32 (drop 4 f.front)) (from_le_bytes w32 (take 4 f.front))) f.takes
+      (number_below (drop 4 f.front) high_fits, number_below (take 4 f.front) low.fits, sym whole)
   value_takes kinds.ObjectId q e bytes rest fits is = let f = fixed_takes 12 e bytes rest fits is in leaf_takes room (trees.object_id f.front) f.takes (f.size, refl)
   value_takes kinds.Bool q e bytes rest fits is = boolean_takes room e bytes rest fits is
   value_takes kinds.Text q e bytes rest fits is = let s = string_takes e bytes rest fits is in leaf_takes room (trees.text s.text_bytes) s.takes (s.fits, refl)
   value_takes kinds.Symbol q e bytes rest fits is = let s = string_takes e bytes rest fits is in leaf_takes room (trees.symbol s.text_bytes) s.takes (s.fits, refl)
   value_takes kinds.Code q e bytes rest fits is = let s = string_takes e bytes rest fits is in leaf_takes room (trees.code s.text_bytes) s.takes (s.fits, refl)
-  value_takes kinds.DbPointer q e bytes rest fits is = pointer_takes room e bytes rest fits is
+  value_takes kinds.DbPointer q e bytes rest fits is =
+      let a = bind_ok (past_string e bytes) _ rest is in
+      let s = string_takes e bytes a.0 fits a.1 in
+      let f = fixed_takes 12 e a.0 rest s.takes.rest_fits a.2 in
+      leaf_takes room (trees.db_pointer s.text_bytes f.front) (Takes-then s.takes f.takes) (s.fits, f.size, refl)
   value_takes kinds.Binary q e bytes rest fits is = binary_takes room e bytes rest fits is
-  value_takes kinds.Regex q e bytes rest fits is = regex_takes room e bytes rest fits is
+  value_takes kinds.Regex q e bytes rest fits is =
+      let a = bind_ok (past_name StringUnended e bytes) _ rest is in
+      let b = bind_ok (past_name StringUnended e a.0.1) _ rest a.2 in
+      let p = name_takes StringUnended e bytes a.0 fits a.1 in
+      let o = name_takes StringUnended e a.0.1 b.0 p.0.rest_fits b.1 in
+      rw (← ok_is b.0.1 rest b.2) (leaf_takes room (trees.regex a.0.0 b.0.0) (Takes-then p.0 o.0) (p.1, o.1, append_assoc a.0.0 (0 ∷ []) (b.0.0 ++ 0 ∷ [])))
   value_takes kinds.Doc q e bytes rest fits is =
       let d = below holders.Document q e bytes rest fits is in
       let low = d.shallow in

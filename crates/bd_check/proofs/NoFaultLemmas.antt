@@ -143,10 +143,6 @@ binary_again e k s rest lt =
     rw (long, tests, binary_subtype k (data_of k s) rest, n, after) (data_again (e - length v) k s rest lt)
 
 scalar_again : (nested : Nested) (s : Scalar) (q e : ℕ) (value rest : List ℕ) → IsScalar s value → past_value nested (scalar_kind s) q e (value ++ rest) ≡ Ok rest
-scalar_again nested trees.min_key q e value rest h = rw h refl
-scalar_again nested trees.undefined q e value rest h = rw h refl
-scalar_again nested trees.null q e value rest h = rw h refl
-scalar_again nested trees.max_key q e value rest h = rw h refl
 scalar_again nested (trees.int32 z) q e value rest h = fixed_again 4 e value rest (sym (scalar_size (trees.int32 z) value rest h))
 scalar_again nested (trees.int64 z) q e value rest h = fixed_again 8 e value rest (sym (scalar_size (trees.int64 z) value rest h))
 scalar_again nested (trees.date z) q e value rest h = fixed_again 8 e value rest (sym (scalar_size (trees.date z) value rest h))
@@ -160,6 +156,7 @@ scalar_again nested (trees.code s) q e value rest h = rw h.1 (string_again e s r
 scalar_again nested (trees.db_pointer s id) q e value rest h = rw h.2 (pointer_again e s id rest h.0 h.1)
 scalar_again nested (trees.regex p o) q e value rest h = rw h.2 (regex_again e p o rest h.0 h.1)
 scalar_again nested (trees.binary k s) q e value rest h = rw h.2 (binary_again e k s rest h.1)
+scalar_again nested _ q e value rest h = rw h refl
 
 -- ---- code with scope
 

@@ -80,35 +80,21 @@ items_known room [] a = (tt, tt, tt, refl, omega arith)
 items_known room (t ∷ ts) a =
     let c = a.0 in
     let r = items_known room ts a.1 in
-    let high = c.shallow in
-    let low = r.4 in (
-      (c.fits, r.0),
-      (c.utf8, r.1),
-      (c.determined, r.2),
-      or_from (zero_in t) (zero_in_items (items_of ts)) c.no_zero r.3,
-      omega arith,
-    )
+    ((c.fits, r.0), (c.utf8, r.1), (c.determined, r.2), or_from (zero_in t) (zero_in_items (items_of ts)) c.no_zero r.3, omega (arith, c.shallow, r.4))
 
 pub array_known : (room : ℕ) (ts : List Tree) → AreCanonical room ts → IsCanonical (suc room) (array (items_of ts))
 array_known room ts a =
     let r = items_known room ts a in
-    let low = r.4 in
-    record { fits = r.0; utf8 = r.1; determined = r.2; no_zero = r.3; shallow = omega arith }
+    record { fits = r.0; utf8 = r.1; determined = r.2; no_zero = r.3; shallow = omega (arith, r.4) }
 
 fields_known : (room : ℕ) (d : Doc) → AreCanonicalFields room d → AreFields room (fields_of d)
 fields_known room [] a = (tt, tt, tt, refl, omega arith)
 fields_known room (p ∷ ps) a =
-    let name = a.0 in
     let c = a.1 in
     let r = fields_known room ps a.2 in
-    let high = c.shallow in
-    let low = r.4 in (
-      (c.fits, r.0),
-      (name.0, (c.utf8, r.1)),
-      (c.determined, r.2),
-      or_from (has_zero p.0) (zero_in p.1 || zero_in_fields (fields_of ps)) name.1 (or_from (zero_in p.1) (zero_in_fields (fields_of ps)) c.no_zero r.3),
-      omega arith,
-    )
+    let others = or_from (zero_in p.1) (zero_in_fields (fields_of ps)) c.no_zero r.3 in
+    let zero = or_from (has_zero p.0) (zero_in p.1 || zero_in_fields (fields_of ps)) a.0.1 others in
+    ((c.fits, r.0), (a.0.0, (c.utf8, r.1)), (c.determined, r.2), zero, omega (arith, c.shallow, r.4))
 
 first_plain : (room : ℕ) (d : Doc) → AreCanonicalFields room d → IsPlainFirst (fields_of d)
 first_plain room [] a = tt
@@ -117,8 +103,7 @@ first_plain room (p ∷ ps) a = a.0.2
 pub doc_known : (room : ℕ) (d : Doc) → AreCanonicalFields room d → IsCanonical (suc room) (doc (fields_of d))
 doc_known room d a =
     let r = fields_known room d a in
-    let low = r.4 in
-    record { fits = r.0; utf8 = r.1; determined = (first_plain room d a, r.2); no_zero = r.3; shallow = omega arith }
+    record { fits = r.0; utf8 = r.1; determined = (first_plain room d a, r.2); no_zero = r.3; shallow = omega (arith, r.4) }
 
 pub reads_canonical : (line rest : List ℕ) (d : Doc) → line ≡ text (doc (fields_of d)) ++ rest → length rest ≡ 0 → AreCanonicalFields (most_levels - 1) d → ReadsAs line d
 reads_canonical line [] d is none a =

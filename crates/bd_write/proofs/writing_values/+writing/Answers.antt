@@ -182,10 +182,8 @@ append_leaf-returns-in_err-put_value-clause-err g t c =
 pub append_leaf-seal-requires : goal.append_leaf-seal-requires
 append_leaf-seal-requires g t c =
     let code = writes.code_parts (g.N.Reading.tree c.args.node) _ _ (sym c.in-Some.ensures) (sym c.in-Some-scope.ensures.scope) in
-    let own = rw code.3 at c.in_ok-write_scalar.ensures.ok in
-    let inside = rw code.4 at c.in_ok-put_value.ensures.ok in
-    let out = writes.code_out c.args.out.now.items c.write_number.new.out.items c.write_scalar-2.new.out.items c.put_value.new.out.items code.0
-    (bytes_of (doc code.1)) c.in_ok-write_number.ensures.ok own inside in
+    let out = writes.code_out c.args.out.now.items _ _ c.put_value.new.out.items code.0 (bytes_of (doc code.1)) c.in_ok-write_number.ensures.ok
+    (rw code.3 at c.in_ok-write_scalar.ensures.ok) (rw code.4 at c.in_ok-put_value.ensures.ok) in
     let at : c.len-at.result ≡ length c.args.out.now.items = search rules in
     let size = writes.sealed_size c.args.out.now.items _ c.put_value.new.out.items out in
     search rules
@@ -193,21 +191,16 @@ append_leaf-seal-requires g t c =
 pub append_leaf-returns-clause-ok : goal.append_leaf-returns-clause-ok
 append_leaf-returns-clause-ok g t c =
     let code = writes.code_parts (g.N.Reading.tree c.args.node) _ _ (sym c.in-Some.ensures) (sym c.in-Some-scope.ensures.scope) in
-    let own = rw code.3 at c.in_ok-write_scalar.ensures.ok in
-    let inside = rw code.4 at c.in_ok-put_value.ensures.ok in
-    let out = writes.code_out c.args.out.now.items c.write_number.new.out.items c.write_scalar-2.new.out.items c.put_value.new.out.items code.0
-    (bytes_of (doc code.1)) c.in_ok-write_number.ensures.ok own inside in
+    let out = writes.code_out c.args.out.now.items _ _ c.put_value.new.out.items code.0 (bytes_of (doc code.1)) c.in_ok-write_number.ensures.ok
+    (rw code.3 at c.in_ok-write_scalar.ensures.ok) (rw code.4 at c.in_ok-put_value.ensures.ok) in
     let at : c.len-at.result ≡ length c.args.out.now.items = search rules in
     rw code.2 (writes.ok_on c.seal.result _ _ c.seal.ensures.ok (λ e. e ∙ writes.scoped_ok c.args.out.now.items code.0 (bytes_of (doc code.1)) c.put_value.new.out.items c.len-at.result out at))
 
 pub append_leaf-returns-clause-err : goal.append_leaf-returns-clause-err
 append_leaf-returns-clause-err g t c =
     let code = writes.code_parts (g.N.Reading.tree c.args.node) _ _ (sym c.in-Some.ensures) (sym c.in-Some-scope.ensures.scope) in
-    let own = rw code.3 at c.in_ok-write_scalar.ensures.ok in
-    let inside = rw code.4 at c.in_ok-put_value.ensures.ok in
-    let out = writes.code_out c.args.out.now.items c.write_number.new.out.items c.write_scalar-2.new.out.items c.put_value.new.out.items code.0
-    (bytes_of (doc code.1)) c.in_ok-write_number.ensures.ok own inside in
-    let at : c.len-at.result ≡ length c.args.out.now.items = search rules in
+    let out = writes.code_out c.args.out.now.items _ _ c.put_value.new.out.items code.0 (bytes_of (doc code.1)) c.in_ok-write_number.ensures.ok
+    (rw code.3 at c.in_ok-write_scalar.ensures.ok) (rw code.4 at c.in_ok-put_value.ensures.ok) in
     let size = writes.sealed_size c.args.out.now.items _ c.put_value.new.out.items out in
     let total = writes.scoped_size code.0 (bytes_of (doc code.1)) in
     rw code.2 (writes.err_more c.seal.result _ _ c.seal.ensures.err (omega (arith, size, total, length-append (string code.0) (bytes_of (doc code.1)))))
