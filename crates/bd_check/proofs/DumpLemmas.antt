@@ -118,12 +118,9 @@ ends_at : (done : List Doc) (front rest : List ℕ) → AreJoined done front →
 ends_at done front rest j is = record { more = []; end = None; walk = subst (λ (v : List ℕ). AreJoined (done ++ []) (front ++ v)) (sym is) (joined_append done [] front [] j refl) }
 
 goes_on : (done : List Doc) (d : Doc) (front first rest bytes : List ℕ) → first ++ rest ≡ bytes → Walked (done ++ d ∷ []) (front ++ first) rest → Walked done front bytes
-goes_on done d front first rest bytes cut w = record {
-  more = d ∷ w.more;
-  end = w.end;
-  walk = subst (λ (v : List ℕ). IsWalk (done ++ d ∷ w.more) w.end v) (append_assoc front first rest ∙ ap (λ (v : List ℕ). front ++ v) cut)
-      (subst (λ (ds : List Doc). IsWalk ds w.end ((front ++ first) ++ rest)) (append_assoc done (d ∷ []) w.more) w.walk);
-}
+goes_on done d front first rest bytes cut w =
+    let walk : IsWalk (done ++ d ∷ w.more) w.end (front ++ bytes) = rw (← cut, ← append_assoc front first rest, ← append_assoc done (d ∷ []) w.more) w.walk in
+    record { more = d ∷ w.more; end = w.end; walk = walk }
 
 -- a frame takes bytes, and not more than there are
 pub frame_inside : (bytes : List ℕ) (n : ℕ) → frame_length bytes ≡ Ok (Some n) → (5 ≤ n) × (n ≤ length bytes) × (n ≤ longest_document)

@@ -3,7 +3,7 @@ use Rattle.std.proofs.Common.{◌≡◌, ◌≢◌, ℕ, zero, suc, ◌+◌, ◌
 use Rattle.std.proofs.Common.{Option, Some, None, Result, Ok, Err, refl, sym, ap, ◌∙◌, append_assoc, arith}
 use Rattle.std.specs.Prelude.{◌||◌, ◌&&◌, not, ◌==◌, option_map}
 use Rattle.std.specs.List.{AllByRecursion, position}
-use Rattle.std.proofs.lemmas.Bool.{le-ltb, ne_eqb, or_from}
+use Rattle.std.proofs.lemmas.Bool.{le-ltb, eq-eqb, ne_eqb, or_from}
 use Rattle.std.proofs.lemmas.Bool.Decides.{nat_tests}
 use Rattle.std.proofs.lemmas.List.{take_at, drop_at, drop-drop, length-append, append-nil}
 use Rattle.std.proofs.lemmas.Str.{is_utf8-from_IsUtf8}
@@ -109,26 +109,18 @@ regex_again : (e : ℕ) (p o rest : List ℕ) → IsName p → IsName o → past
 regex_again e p o rest hp ho =
     ap (past_regex e) (regex_whole p o rest) ∙ rw (name_again StringUnended e p (o ++ 0 ∷ rest) hp, name_again StringUnended e o rest ho) refl
 
-abbrev given : List ℕ → Result (List ℕ) Fault
-given r = Ok r
-
--- two tests that did not fail
-guards : (a b : Bool) (d f : Fault) (r : List ℕ) → a ≡ false → b ≡ false → cond a (Err d) (cond b (Err f) (given r)) ≡ given r
-guards a b d f r p q = rw (p, q) refl
-
-data_tests : (two : Bool) (count inner : ℕ) → (two ≡ true → 4 ≤ count) → (two ≡ true → inner ≡ count - 4) → ((two && ltb count 4) ≡ false) × ((two && not (eqb inner (count - 4))) ≡ false)
-data_tests true count inner least same = let l = least refl in let s = same refl in (le-ltb _ _ l, grind (arith, nat_tests))
-data_tests false count inner least same = (refl, refl)
-
 data_again : (at k : ℕ) (s rest : List ℕ) → length (data_of k s) < 2 ^ 31 → past_data at k (length (data_of k s)) (data_of k s ++ rest) ≡ Ok rest
-data_again at k s rest lt =
-    let least : (k == 2) ≡ true → 4 ≤ length (data_of k s) = λ two. omega (arith, data_length k s two) in
-    let inner : (k == 2) ≡ true → number_of (data_of k s ++ rest) ≡ length (data_of k s) - 4 = λ two.
-    let n : length s < 2 ^ 32 = omega (arith, data_length k s two) in
-    ap (λ (x : List ℕ). number_of (x ++ rest)) (chosen (k == 2) (number (length s) ++ s) s two)
-    ∙ ap number_of (append_assoc (number (length s)) s rest) ∙ number_front (length s) (s ++ rest) n ∙ omega (arith, data_length k s two) in
-    let t = data_tests (k == 2) (length (data_of k s)) (number_of (data_of k s ++ rest)) least inner in
-    guards _ _ _ _ (drop (length (data_of k s)) (data_of k s ++ rest)) t.0 t.1 ∙ ap given (drop_at (data_of k s) rest (length (data_of k s)) refl)
+data_again at k s rest lt = of (k == 2) refl
+  where
+    of : (two : Bool) → (k == 2) ≡ two → past_data at k (length (data_of k s)) (data_of k s ++ rest) ≡ Ok rest
+    of true is =
+        let held = number (length s) ++ s in
+        let size : length (number (length s) ++ s) ≡ 4 + length s = omega (arith, length-append (number (length s)) s, number_length (length s)) in
+        let few : length (number (length s) ++ s) < 2 ^ 31 = rw is at lt in
+        let long : ltb (length (number (length s) ++ s)) 4 ≡ false = le-ltb _ _ (omega (arith, size)) in
+        let inner : number_of (held ++ rest) ≡ length held - 4 = ap number_of (append_assoc (number (length s)) s rest) ∙ number_front (length s) (s ++ rest) (omega (arith, size, few)) ∙ omega (arith, size) in
+        rw (is, long, eq-eqb (number_of (held ++ rest)) (length held - 4) inner, drop_at held rest (length held) refl) refl
+    of false is = rw (is, drop_at s rest (length s) refl) refl
 
 binary_again : (e k : ℕ) (s rest : List ℕ) → length (data_of k s) < 2 ^ 31 → past_binary e ((number (length (data_of k s)) ++ k ∷ data_of k s) ++ rest) ≡ Ok rest
 unfolding past_binary

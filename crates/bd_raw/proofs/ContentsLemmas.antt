@@ -133,15 +133,9 @@ module _ (bytes : List ℕ) (start : ℕ) (kind : Kind) (s : Sound kind (drop st
       ap (λ (m : ℕ). drop m bytes) e ∙ sym (drop-drop (4 + n) (start + 4) bytes) ∙ ap (drop (4 + n)) code_after ∙ drop_at (string c.code) (framed c.body ++ s.after) (4 + n) len
 
   abbrev scope_here : (n : ℕ) → n ≡ number_of (drop (start + 4) bytes) → Sound kinds.Doc (drop (start + 8 + n) bytes)
-  scope_here n is = record {
-    tree = doc c.fields;
-    value = framed c.body;
-    after = s.after;
-    spells = (c.body, c.spell, refl);
-    kinded = refl;
-    cut = scope_cut n is;
-    short = let m = s.short in omega (arith, ap length c.whole, scoped_length c.code (framed c.body), length-append (string c.code) (framed c.body));
-  }
+  scope_here n is =
+      let short : length (framed c.body) ≤ longest_document = omega (arith, s.short, ap length c.whole, scoped_length c.code (framed c.body), length-append (string c.code) (framed c.body)) in
+      record { tree = doc c.fields; value = framed c.body; after = s.after; spells = (c.body, c.spell, refl); kinded = refl; cut = scope_cut n is; short = short }
 
 module _ (bytes : List ℕ) (start : ℕ) (kind : Kind) (s : Sound kind (drop start bytes)) (k : kind ≡ kinds.CodeScope) where
   code_of : IsCode s.tree s.value

@@ -56,15 +56,10 @@ mutual
       let a = or_parts (has_zero name) (zero_in t || zero_in_fields fs) zero in
       let b = or_parts (zero_in t) (zero_in_fields fs) a.1 in
       let size = length-append (element t name (bytes_of t)) (fields_bytes fs) in
-      let one = element_size t name (bytes_of t) in (
-        bytes_of t,
-        fields_bytes fs,
-        is_name name utf8.0 a.0,
-        spelled t fits.0 utf8.1.0 b.0 (omega (arith, short, size, one)),
-        fields_spelled fs
-            fits.1 utf8.1.1 b.1 (omega (arith, short, size, one)),
-        refl,
-      )
+      let one = element_size t name (bytes_of t) in
+      let first = spelled t fits.0 utf8.1.0 b.0 (omega (arith, short, size, one)) in
+      let others = fields_spelled fs fits.1 utf8.1.1 b.1 (omega (arith, short, size, one)) in
+      (bytes_of t, fields_bytes fs, is_name name utf8.0 a.0, first, others, refl)
 
   items_spelled : (place : ℕ) (ts : Items) → ItemsFitTypes ts → ItemsHaveUtf8 ts → zero_in_items ts ≡ false
       → place + length (items_bytes place ts) ≤ longest_document → AreItems ts (items_bytes place ts)
@@ -72,16 +67,10 @@ mutual
   items_spelled place (item t ts) fits utf8 zero short =
       let b = or_parts (zero_in t) (zero_in_items ts) zero in
       let size = length-append (element t (decimal place) (bytes_of t)) (items_bytes (suc place) ts) in
-      let one = element_size t (decimal place) (bytes_of t) in (
-        decimal place,
-        bytes_of t,
-        items_bytes (suc place) ts,
-        place_name place (omega (arith, short)),
-        spelled t fits.0 utf8.0 b.0
-            (omega (arith, short, size, one)),
-        items_spelled (suc place) ts fits.1 utf8.1 b.1 (omega (arith, short, size, one)),
-        refl,
-      )
+      let one = element_size t (decimal place) (bytes_of t) in
+      let first = spelled t fits.0 utf8.0 b.0 (omega (arith, short, size, one)) in
+      let others = items_spelled (suc place) ts fits.1 utf8.1 b.1 (omega (arith, short, size, one)) in
+      (decimal place, bytes_of t, items_bytes (suc place) ts, place_name place (omega (arith, short)), first, others, refl)
 
 pub plainly_spells : (d : Doc) (bytes : List ℕ) → FitsTypes (doc (fields_of d)) → HasUtf8 (doc (fields_of d)) → SpellsPlainly d bytes → IsDocument d bytes
 plainly_spells d bytes fits utf8 plain =
