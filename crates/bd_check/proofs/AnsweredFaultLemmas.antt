@@ -3,7 +3,7 @@ use Rattle.std.proofs.Common.{◌≡◌, ℕ, List, Result, Ok, Err, refl, ap, �
 use Rattle.bd_check.specs.declared.fault.FaultKind.TheVariants.{TooDeep}
 use Rattle.bd_check.specs.Fault.{Fault, found_fault, longer}
 use Rattle.bd_check.specs.AnsweredFault.{TellsStop}
-use Rattle.bd_check.specs.FirstFault.{within}
+use Rattle.bd_check.specs.FirstFault.{◌>>=◌, within}
 use Rattle.bd_check.specs.ItemFault.{FailsAtItem}
 use Rattle.bd_check.specs.declared.fault.Stop.{Stop}
 use Rattle.bd_check.specs.declared.fault.Stop.TheVariants as stops
@@ -24,3 +24,7 @@ fails_within stops.NoMemory (stops.Found g) name (Ok x) told fails =
     absurd (omega arith)
 fails_within stops.NoMemory (stops.Found g) name (Err f) told fails = ap err (told f tt)
 fails_within (stops.Found g) r name read told fails = told_fails r (longer name (found_fault g)) (within name read) (told (found_fault g) refl) (ap (within name) fails)
+
+pub fails_then : {A B : Type 0} (r : Stop) (x : Result A Fault) (f : A → Result B Fault) → FailsAtItem r x → FailsAtItem r (x >>= f)
+fails_then stops.NoMemory x f h = tt
+fails_then (stops.Found g) x f h = rw h refl

@@ -1,51 +1,44 @@
 -- Documents one after the other.
-use Rattle.std.proofs.Common.{◌≡◌, ℕ, zero, suc, ◌+◌, ◌≤◌, Bool, true, false, cond, ltb, List, [], ◌∷◌, ◌++◌, length, take, drop, Option, Some, None, Result}
+use Rattle.std.proofs.Common.{◌≡◌, ℕ, zero, suc, ◌+◌, ◌≤◌, false, ltb, List, [], ◌∷◌, ◌++◌, length, take, drop, Option, Some, None, Result}
 use Rattle.std.proofs.Common.{Ok, Err, refl, sym, ap, ap₂, ◌∙◌, subst, append_assoc, arith}
 use Rattle.std.specs.Prelude.{◌||◌}
-use Rattle.std.proofs.lemmas.Bool.{ltb-false, le-ltb}
-use Rattle.std.proofs.lemmas.Bool.Decides.{nat_tests}
+use Rattle.std.proofs.lemmas.Bool.{ltb-false, le-ltb, or_from, or_parts}
 use Rattle.std.proofs.lemmas.List.{take_at, drop_at, length-append, length-drop, take-append-drop, append-nil, nil_from_length}
-use Rattle.std.specs.Int.{w32, from_le_bytes}
 use Rattle.bd_value.specs.Limits.{longest_document}
 use Rattle.bd_value.specs.Tree.{Doc}
 use Rattle.bd_check.specs.declared.fault.FaultKind.{FaultKind}
-use Rattle.bd_check.specs.declared.fault.FaultKind.TheVariants.{ShortLength, BadLength}
 use Rattle.bd_check.specs.Fault.{Fault}
-use Rattle.bd_raw.specs.Spelling.{IsDocument, framed, number}
+use Rattle.bd_raw.specs.Spelling.{IsDocument, framed}
 use Rattle.bd_check.specs.FirstFault.{first_fault, past_document, fault_in}
 use Rattle.bd_check.specs.Dump.{length_told, frame_length, framed_fault, frame_fault, AreJoined, IsWalk}
-use Rattle.bd_raw.specs.Scalars.{number_length, number_value}
-use Rattle.bd_raw.specs.Unique.{framed_after}
-use Rattle.bd_check.proofs.FirstFaultLemmas.{IsBytes, IsBytes-take, IsBytes-drop, document_found}
+use Rattle.bd_raw.specs.Scalars.{number_front}
+use Rattle.bd_raw.specs.Sizes.{number_of}
+use Rattle.bd_raw.proofs.ValueAtLemmas.{framed_length}
+use Rattle.bd_raw.specs.Unique.{framed_after, cancel}
+use Rattle.bd_check.proofs.FirstFaultLemmas.{guard_ok, IsBytes, IsBytes-take, IsBytes-drop, document_found}
 use Rattle.bd_check.proofs.NoFaultLemmas.{document_again}
 use Rattle.bd_raw.proofs.SoundLemmas.{document_unique}
 
 -- ---- a document at the front tells its length
 
-framed_size : (body : List ℕ) → length (framed body) ≡ length body + 5
-framed_size body = omega (arith, length-append (number (length body + 5)) (body ++ 0 ∷ []), number_length (length body + 5), length-append body (0 ∷ []))
-
 told : (body rest : List ℕ) → length (framed body) ≤ longest_document → length_told (framed body ++ rest) ≡ length (framed body)
 told body rest short =
-    let size = framed_size body in
-    ap length_told (framed_after body rest) ∙ ap (from_le_bytes w32) (take_at (number (length body + 5)) (body ++ 0 ∷ rest) 4
-    (number_length (length body + 5))) ∙ number_value (length body + 5) (omega arith) ∙ sym size
-
-tests : (n m : ℕ) → 5 ≤ n → n ≤ longest_document → n ≤ m → (ltb n 5 || ltb longest_document n || ltb m n) ≡ false
-tests n m low high le = grind (arith, nat_tests)
+    let size = framed_length body in
+    ap number_of (framed_after body rest) ∙ number_front (length body + 5) (body ++ 0 ∷ rest) (omega arith) ∙ sym size
 
 pub frame_good : (bytes : List ℕ) (n : ℕ) → length_told bytes ≡ n → 5 ≤ n → n ≤ longest_document → n ≤ length bytes → frame_length bytes ≡ Ok (Some n)
 frame_good [] n is low high le = absurd (omega arith)
 frame_good (b ∷ bytes) n is low high le =
     let long : ltb (length (b ∷ bytes)) 4 ≡ false = le-ltb _ _ (omega arith) in
-    rw (long, is, tests n (length (b ∷ bytes)) low high le) refl
+    let tests = or_from (ltb n 5 || ltb longest_document n) (ltb (length (b ∷ bytes)) n) (or_from (ltb n 5) (ltb longest_document n) (le-ltb _ _ low) (le-ltb _ _ high)) (le-ltb _ _ le) in
+    rw (long, is, tests) refl
 
 pub document_frame : (d : Doc) (front rest : List ℕ) → IsDocument d front → frame_length (front ++ rest) ≡ Ok (Some (length front))
 document_frame d front rest h =
     let s = h.spells in
     let short : length (framed s.0) ≤ longest_document = let m = h.short in omega (arith, ap length s.2) in
     let t : length_told (front ++ rest) ≡ length front = ap (λ (x : List ℕ). length_told (x ++ rest)) s.2 ∙ told s.0 rest short ∙ sym (ap length s.2) in
-    frame_good (front ++ rest) (length front) t (omega (arith, ap length s.2, framed_size s.0)) h.short (omega (arith, length-append front rest))
+    frame_good (front ++ rest) (length front) t (omega (arith, ap length s.2, framed_length s.0)) h.short (omega (arith, length-append front rest))
 
 -- ---- the walk over a dump ends in one way
 
@@ -60,8 +53,7 @@ fronts : (c d : Doc) (a b x y : List ℕ) → IsDocument c a → IsDocument d b 
 fronts c d a b x y p q h =
     let m : length a ≡ length b = let e = sym (document_frame c a x p) ∙ ap frame_length h ∙ document_frame d b y q in cc in
     let same : a ≡ b = sym (take_at a x (length a) refl) ∙ ap (take (length a)) h ∙ take_at b y (length a) (sym m) in
-    let others : x ≡ y = sym (drop_at a x (length a) refl) ∙ ap (drop (length a)) h ∙ drop_at b y (length a) (sym m) in
-    (document_unique b c d (subst (λ (v : List ℕ). IsDocument c v) same p) q, same, others)
+    (document_unique b c d (rw same at p) q, same, cancel a b x y same h)
 
 -- no document stands at the front
 unfoldable pub Stuck : List ℕ → Type 0
@@ -91,25 +83,18 @@ joined_once (d ∷ ds) (e ∷ es) a b x y p q s t h =
     let others = joined_once ds es p.1 q.1 x y p.3 q.3 s t first.2 in
     (ap₂ (λ (u : Doc) (us : List Doc). u ∷ us) first.0 others.0, p.4 ∙ ap₂ (λ (u v : List ℕ). u ++ v) first.1 others.1 ∙ sym q.4, others.2)
 
-nothing_more : (a : List ℕ) → a ≡ a ++ []
-nothing_more a = sym (append-nil a)
-
-abbrev some : Fault → Option Fault
-some f = Some f
+-- what a walk ends in: no document stands there, and its fault, or none
+walk_ends : (ds : List Doc) (o : Option Fault) (bytes : List ℕ) → IsWalk ds o bytes
+    → (front : List ℕ) × (rest : List ℕ) × AreJoined ds front × (bytes ≡ front ++ rest) × Stuck rest × (frame_fault (length front) rest ≡ o)
+walk_ends ds None bytes v = (bytes, [], v, sym (append-nil bytes), nothing_stuck, refl)
+walk_ends ds (Some f) bytes v = (v.0, v.1, v.2, v.3, fault_stuck (length v.0) v.1 f v.4, v.4)
 
 pub walk_once : (ds es : List Doc) (o p : Option Fault) (bytes : List ℕ) → IsWalk ds o bytes → IsWalk es p bytes → (ds ≡ es) × (o ≡ p)
-walk_once ds es None None bytes v w =
-    let e = joined_once ds es bytes bytes [] [] v w nothing_stuck nothing_stuck refl in
-    (e.0, refl)
-walk_once ds es None (Some g) bytes v w =
-    let e = joined_once ds es bytes w.0 [] w.1 v w.2 nothing_stuck (fault_stuck (length w.0) w.1 g w.4) (append-nil bytes ∙ w.3) in
-    absurd (let x : None ≡ some g = ap (frame_fault (length w.0)) e.2 ∙ w.4 in cc)
-walk_once ds es (Some f) None bytes v w =
-    let e = joined_once ds es v.0 bytes v.1 [] v.2 w (fault_stuck (length v.0) v.1 f v.4) nothing_stuck (sym v.3 ∙ nothing_more bytes) in
-    absurd (let x : some f ≡ None = sym v.4 ∙ ap (frame_fault (length v.0)) e.2 in cc)
-walk_once ds es (Some f) (Some g) bytes v w =
-    let e = joined_once ds es v.0 w.0 v.1 w.1 v.2 w.2 (fault_stuck (length v.0) v.1 f v.4) (fault_stuck (length w.0) w.1 g w.4) (sym v.3 ∙ w.3) in
-    (e.0, sym v.4 ∙ ap₂ (λ (a x : List ℕ). frame_fault (length a) x) e.1 e.2 ∙ w.4)
+walk_once ds es o p bytes v w =
+    let a = walk_ends ds o bytes v in
+    let b = walk_ends es p bytes w in
+    let e = joined_once ds es a.0 b.0 a.1 b.1 a.2 b.2 a.4 b.4 (sym a.3 ∙ b.3) in
+    (e.0, sym a.5 ∙ ap₂ (λ (x y : List ℕ). frame_fault (length x) y) e.1 e.2 ∙ b.5)
 
 -- ---- and it ends
 
@@ -133,81 +118,59 @@ ends_at : (done : List Doc) (front rest : List ℕ) → AreJoined done front →
 ends_at done front rest j is = record { more = []; end = None; walk = subst (λ (v : List ℕ). AreJoined (done ++ []) (front ++ v)) (sym is) (joined_append done [] front [] j refl) }
 
 goes_on : (done : List Doc) (d : Doc) (front first rest bytes : List ℕ) → first ++ rest ≡ bytes → Walked (done ++ d ∷ []) (front ++ first) rest → Walked done front bytes
-goes_on done d front first rest bytes cut w = record {
-  more = d ∷ w.more;
-  end = w.end;
-  walk = subst (λ (v : List ℕ). IsWalk (done ++ d ∷ w.more) w.end v) (append_assoc front first rest ∙ ap (λ (v : List ℕ). front ++ v) cut)
-      (subst (λ (ds : List Doc). IsWalk ds w.end ((front ++ first) ++ rest)) (append_assoc done (d ∷ []) w.more) w.walk);
-}
-
-neither : (a b : Bool) → (a || b) ≡ false → (a ≡ false) × (b ≡ false)
-neither true b e = absurd cc
-neither false b e = (refl, e)
-
-no_frame : (bytes : List ℕ) → frame_length bytes ≡ Ok None → bytes ≡ []
-no_frame [] is = refl
-no_frame (b ∷ bytes) is = absurd (no_none (ltb (length (b ∷ bytes)) 4)
-    (ltb (length_told (b ∷ bytes)) 5 || ltb longest_document (length_told (b ∷ bytes)) || ltb (length (b ∷ bytes)) (length_told (b ∷ bytes)))
-    (length_told (b ∷ bytes)) is)
-  where
-    no_none : (s t : Bool) (n : ℕ) → cond s (Err ShortLength) (cond t (Err BadLength) (Ok (Some n))) ≡ Ok None → ⊥
-    no_none true t n is = absurd cc
-    no_none false true n is = absurd cc
-    no_none false false n is = absurd cc
+goes_on done d front first rest bytes cut w =
+    let walk : IsWalk (done ++ d ∷ w.more) w.end (front ++ bytes) = rw (← cut, ← append_assoc front first rest, ← append_assoc done (d ∷ []) w.more) w.walk in
+    record { more = d ∷ w.more; end = w.end; walk = walk }
 
 -- a frame takes bytes, and not more than there are
 pub frame_inside : (bytes : List ℕ) (n : ℕ) → frame_length bytes ≡ Ok (Some n) → (5 ≤ n) × (n ≤ length bytes) × (n ≤ longest_document)
 frame_inside [] n is = absurd cc
 frame_inside (b ∷ bytes) n is =
-    inside (ltb (length (b ∷ bytes)) 4) (ltb (length_told (b ∷ bytes)) 5 || ltb longest_document (length_told (b ∷ bytes)) || ltb (length (b ∷ bytes)) (length_told (b ∷ bytes))) (b ∷ bytes) n refl is
-  where
-    inside : (s t : Bool) (bytes : List ℕ) (n : ℕ) → (ltb (length_told bytes) 5 || ltb longest_document (length_told bytes)
-        || ltb (length bytes) (length_told bytes)) ≡ t → cond s (Err ShortLength) (cond t (Err BadLength) (Ok (Some (length_told bytes))))
-        ≡ Ok (Some n) → (5 ≤ n) × (n ≤ length bytes) × (n ≤ longest_document)
-    inside true t bytes n e is = absurd cc
-    inside false true bytes n e is = absurd cc
-    inside false false bytes n e is =
-        let k : length_told bytes ≡ n = cc in
-        let a = neither (ltb (length_told bytes) 5 || ltb longest_document (length_told bytes)) (ltb (length bytes) (length_told bytes)) e in
-        let c = neither (ltb (length_told bytes) 5) (ltb longest_document (length_told bytes)) a.0 in
-        let low = ltb-false _ _ c.0 in
-        let high = ltb-false _ _ c.1 in
-        let le = ltb-false _ _ a.1 in
-        (omega arith, omega arith, omega arith)
+    let size = length (b ∷ bytes) in
+    let told = length_told (b ∷ bytes) in
+    let g = guard_ok (ltb size 4) _ _ (Some n) is in
+    let h = guard_ok (ltb told 5 || ltb longest_document told || ltb size told) _ _ (Some n) g.1 in
+    let i = or_parts (ltb told 5 || ltb longest_document told) (ltb size told) h.0 in
+    let j = or_parts (ltb told 5) (ltb longest_document told) i.0 in
+    let same : told ≡ n = cc (h.1) in
+    rw (← same) (ltb-false _ _ j.0, ltb-false _ _ i.1, ltb-false _ _ j.1)
 
-fault_free : (base : ℕ) (bytes : List ℕ) → first_fault base bytes ≡ None → past_document (base + length bytes) bytes ≡ Ok tt
-fault_free base bytes is = free (past_document (base + length bytes) bytes) is
-  where
-    free : (r : Result (Unit {0}) Fault) → fault_in r ≡ None → r ≡ Ok tt
-    free (Ok u) is = refl
-    free (Err f) is = absurd cc
+no_frame : (bytes : List ℕ) → frame_length bytes ≡ Ok None → bytes ≡ []
+no_frame [] is = refl
+no_frame (b ∷ bytes) is =
+    let size = length (b ∷ bytes) in
+    let told = length_told (b ∷ bytes) in
+    let g = guard_ok (ltb size 4) _ _ None is in
+    absurd (cc ((guard_ok (ltb told 5 || ltb longest_document told || ltb size told) _ _ None g.1).1))
+
+no_fault : (r : Result (Unit {0}) Fault) → fault_in r ≡ None → r ≡ Ok tt
+no_fault (Ok u) is = refl
+no_fault (Err f) is = absurd cc
 
 pub found_document : (base : ℕ) (bytes : List ℕ) → IsBytes bytes → first_fault base bytes ≡ None → (d : Doc) × IsDocument d bytes
-found_document base bytes fits is = document_found (base + length bytes) bytes fits (fault_free base bytes is)
+found_document base bytes fits is = document_found (base + length bytes) bytes fits (no_fault (past_document (base + length bytes) bytes) is)
 
 abbrev Walker : ℕ → Type 0
 Walker turns = (done : List Doc) (front rest : List ℕ) → length rest ≤ turns → IsBytes rest → AreJoined done front → Walked done front rest
 
-walk_document : (turns : ℕ) → Walker turns → (done : List Doc) (front rest : List ℕ) (n : ℕ) (first : Option Fault) → length rest ≤ suc turns
-    → IsBytes rest → AreJoined done front → frame_length rest ≡ Ok (Some n) → first_fault (length front) (take n rest) ≡ first
-    → Walked done front rest
-walk_document turns walk done front rest n (Some f) le fits j is first_is = stops_at done front rest f j (ap (framed_fault (length front) rest) is ∙ first_is)
-walk_document turns walk done front rest n None le fits j is first_is =
-    let d = found_document (length front) (take n rest) (IsBytes-take n rest fits) first_is in
-    let size = frame_inside rest n is in
-    goes_on done d.0 front (take n rest) (drop n rest) rest (take-append-drop n rest)
-    (walk (done ++ d.0 ∷ []) (front ++ take n rest) (drop n rest) (omega (arith, length-drop n rest, size.0, size.1)) (IsBytes-drop n rest fits)
-    (joined_append done (d.0 ∷ []) front (take n rest) j (joined_one d.0 (take n rest) d.1)))
+module _ (turns : ℕ) (walk : Walker turns) (done : List Doc) (front rest : List ℕ) (le : length rest ≤ suc turns) (fits : IsBytes rest) (j : AreJoined done front) where
+  walk_document : (n : ℕ) (first : Option Fault) → frame_length rest ≡ Ok (Some n) → first_fault (length front) (take n rest) ≡ first → Walked done front rest
+  walk_document n (Some f) is first_is = stops_at done front rest f j (ap (framed_fault (length front) rest) is ∙ first_is)
+  walk_document n None is first_is =
+      let d = found_document (length front) (take n rest) (IsBytes-take n rest fits) first_is in
+      let size = frame_inside rest n is in
+      goes_on done d.0 front (take n rest) (drop n rest) rest (take-append-drop n rest)
+      (walk (done ++ d.0 ∷ []) (front ++ take n rest) (drop n rest) (omega (arith, length-drop n rest, size.0, size.1)) (IsBytes-drop n rest fits)
+      (joined_append done (d.0 ∷ []) front (take n rest) j (joined_one d.0 (take n rest) d.1)))
 
-walk_frame : (turns : ℕ) → Walker turns → (done : List Doc) (front rest : List ℕ) (frame : Result (Option ℕ) FaultKind) → length rest ≤ suc turns
-    → IsBytes rest → AreJoined done front → frame_length rest ≡ frame → Walked done front rest
-walk_frame turns walk done front rest (Err kind) le fits j is = stops_at done front rest (record { kind = kind; offset = length front; path = [] }) j (ap (framed_fault (length front) rest) is)
-walk_frame turns walk done front rest (Ok None) le fits j is = ends_at done front rest j (no_frame rest is)
-walk_frame turns walk done front rest (Ok (Some n)) le fits j is = walk_document turns walk done front rest n (first_fault (length front) (take n rest)) le fits j is refl
+  walk_frame : (frame : Result (Option ℕ) FaultKind) → frame_length rest ≡ frame → Walked done front rest
+  walk_frame (Err kind) is = stops_at done front rest (record { kind = kind; offset = length front; path = [] }) j (ap (framed_fault (length front) rest) is)
+  walk_frame (Ok None) is = ends_at done front rest j (no_frame rest is)
+  walk_frame (Ok (Some n)) is = walk_document n (first_fault (length front) (take n rest)) is refl
 
 walk : (turns : ℕ) → Walker turns
 walk zero done front rest le fits j = ends_at done front rest j (nil_from_length rest (omega arith))
-walk (suc turns) done front rest le fits j = walk_frame turns (walk turns) done front rest (frame_length rest) le fits j refl
+walk (suc turns) done front rest le fits j = walk_frame turns (walk turns) done front rest le fits j (frame_length rest) refl
 
 -- the walk goes on after any documents
 pub walk_on : (done : List Doc) (front rest : List ℕ) → IsBytes rest → AreJoined done front → Walked done front rest

@@ -1,11 +1,6 @@
 pub mod NoFaultLemmas
 pub mod FastPathLemmas
-pub mod VectorLemmas
-pub mod AsciiLemmas
 pub mod DumpLemmas
-pub mod ElementsLemmas
-pub mod HolderLemmas
+pub mod CheckingLemmas
 pub mod FirstFaultLemmas
 pub mod AnsweredFaultLemmas
-pub mod TextLemmas
-pub mod FrameLemmas

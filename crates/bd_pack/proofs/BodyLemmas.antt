@@ -1,16 +1,12 @@
 -- Bytes of elements, one after the other.
 use Rattle.std.proofs.Common.{◌≡◌, ◌≤◌, ◌+◌, ℕ, suc, List, [], ◌∷◌, ◌++◌, length, take, drop, take_at, drop_at, refl, sym, ap, ap₂, ◌∙◌, arith, append_assoc, append-nil, length-append}
-use Rattle.std.proofs.Common.{Bool, false, true≢false, Option, Some, None, Result, Ok, Err, rules}
+use Rattle.std.proofs.Common.{false, true≢false, Option, Some, None, Result, Ok, Err}
 use Rattle.std.specs.Option.{is_some}
-use Rattle.std.specs.Prelude.{decimal, IfSome, IfOk, OnOk}
+use Rattle.std.specs.Prelude.{decimal, IfSome, OnOk, MatchResult}
 use Rattle.std.specs.Result.{result_ok}
 use Rattle.json.specs.Token.{Token}
 use Rattle.json.specs.Json.{parse_map}
-use Rattle.bd_value.specs.Tree as trees
-use Rattle.bd_value.specs.Tree.{Tree, leaf, Items, Fields, Doc, fields_of, items_of}
-use Rattle.bd_value.specs.View.{tree_of}
-use Rattle.bd_value.specs.declared.document.Value.TheVariants as values
-use Rattle.bd_value.specs.declared.document.Value.TheFolds as folds
+use Rattle.bd_value.specs.Tree.{Tree, Items, Fields, Doc, fields_of, items_of}
 use Rattle.bd_raw.specs.Scalars.{number_length}
 use Rattle.bd_raw.specs.Spelling.{number, framed, element}
 use Rattle.bd_write.specs.TreeBytes.{bytes_of, fields_bytes, items_bytes}
@@ -39,10 +35,6 @@ one_more_item ts t =
     let here : 0 + length ts ≡ length ts = omega arith in
     more_items 0 ts t ∙ ap (λ n. items_bytes 0 (items_of ts) ++ element t (decimal n) (bytes_of t)) here
 
--- the bytes of elements after the count of a body that was begun
-pub one_more : (old body more out next : List ℕ) → out ≡ (old ++ number 0) ++ body → next ≡ out ++ more → next ≡ (old ++ number 0) ++ (body ++ more)
-one_more old body more out next is pushed = pushed ∙ ap (λ x. x ++ more) is ∙ append_assoc (old ++ number 0) body more
-
 pub body_size : (old body out : List ℕ) (at : ℕ) → at ≡ length old → out ≡ (old ++ number 0) ++ body → at + 4 ≤ length out
 body_size old body out at here is = omega (arith, here, ap (λ xs. length xs) is, length-append (old ++ number 0) body, length-append old (number 0), number_length 0)
 
@@ -56,21 +48,14 @@ ended old body out at here is =
 
 -- ---- results
 
-pub on_ok : {A E : Type 0} (r : Result A E) (x : A) (P : Type 0) → Some x ≡ result_ok r → OnOk r P → P
-on_ok (Ok y) x P e p = p
-on_ok (Err f) x P e p = absurd cc
-
-pub ok_is : {A E : Type 0} (r : Result A E) (x : A) → Some x ≡ result_ok r → r ≡ Ok x
-ok_is (Ok y) x e = let is : x ≡ y = cc in ap Ok (sym is)
-ok_is (Err f) x e = absurd cc
+-- what a clause says of a result of which ok() was taken
+pub if_ok : {A E : Type 0} (r : Result A E) (x : A) (P : A → Type 0) (Q : E → Type 0) → Some x ≡ result_ok r → MatchResult r P Q → P x
+if_ok (Ok y) x P Q e p = let is : x ≡ y = cc in rw is p
+if_ok (Err f) x P Q e p = absurd cc
 
 pub some_ok : {A E : Type 0} (o : Option A) (r : Result A E) (P Q : Type 0) → o ≡ result_ok r → OnOk r P → (P → Q) → IfSome o (λ u. Q)
 some_ok None r P Q e p f = tt
-some_ok (Some x) r P Q e p f = f (on_ok r x P e p)
-
-pub if_some : {A : Type 0} (o : Option A) (P Q : Type 0) → IfSome o (λ u. P) → (P → Q) → IfSome o (λ u. Q)
-if_some None P Q p f = tt
-if_some (Some x) P Q p f = f p
+some_ok (Some x) r P Q e p f = f (if_ok r x (λ _. P) _ e p)
 
 -- ---- what was read
 
@@ -81,20 +66,6 @@ no_fields_before (Some p) = refl
 pub no_items_before : (r : Option (Items × List Token)) → r ≡ parse_map (items_before []) r
 no_items_before None = refl
 no_items_before (Some p) = refl
-
--- a label and the value after it
-pub labelled : (old name value : List ℕ) (b : ℕ) → (old ++ (b ∷ (name ++ 0 ∷ []))) ++ value ≡ old ++ (b ∷ (name ++ 0 ∷ value))
-labelled old name value b = append_assoc old (b ∷ (name ++ 0 ∷ [])) value ∙ ap (λ x. old ++ (b ∷ x)) (append_assoc name (0 ∷ []) value)
-
-pub bool_is : (b : Bool) → tree_of (values.Bool b) ≡ leaf (trees.boolean b)
-bool_is b = search (rules, folds.the_lemmas)
-
-pub null_is : tree_of values.Null ≡ leaf trees.null
-null_is = search (rules, folds.the_lemmas)
-
-pub if_ok : {A E : Type 0} (r : Result A E) (x : A) (P : A → Type 0) → Some x ≡ result_ok r → IfOk r P → P x
-if_ok (Ok y) x P e p = let is : x ≡ y = cc in rw is p
-if_ok (Err f) x P e p = absurd cc
 
 pub gave : {X A : Type 0} (view : X → A) (r : Result X Trouble) (x : X) (rest : List Token) (read : Option (A × List Token)) → Some x ≡ result_ok r
     → GivesTokens view r rest read → read ≡ Some (view x, rest)

@@ -34,17 +34,16 @@ unfolding hex_text
 hex_is (Ok _) digits written bytes well hex same = (bytes_eq-Decides digits written).0 same ∙ hex
 hex_is (Err _) digits written bytes well hex same = absurd cc
 
+was_ok : (r : Result (List ℕ) FromHexError) (x : List ℕ) → Some x ≡ ok_of r → r ≡ Ok x
+was_ok (Ok y) x e = cc
+was_ok (Err f) x e = absurd cc
+
 pub id_fits : (s bytes : List ℕ) → Some bytes ≡ ok_of (decode_sized s 12) → IsId bytes
-id_fits s bytes e = go (decode_sized s 12) refl e
-  where
-    go : (r : Result (List ℕ) FromHexError) → decode_sized s 12 ≡ r → Some bytes ≡ ok_of r → IsId bytes
-    go (Ok x) is e =
-        let same : bytes ≡ x = cc in
-        let whole : decode_sized s 12 ≡ Ok bytes = is ∙ ap Ok (sym same) in
-        let size = decode_sized-ok s 12 bytes whole in
-        let all = decode_of-ok s bytes (sym (decode_sized-twice s 12 size) ∙ whole) in
-        (omega (arith, size, all.2), all.3)
-    go (Err f) is e = absurd cc
+id_fits s bytes e =
+    let whole = was_ok (decode_sized s 12) bytes e in
+    let size = decode_sized-ok s 12 bytes whole in
+    let all = decode_of-ok s bytes (sym (decode_sized-twice s 12 size) ∙ whole) in
+    (omega (arith, size, all.2), all.3)
 
 -- ---- digits
 
@@ -54,15 +53,12 @@ digits_read text rest bytes n count same within value all small some lead left =
     let d = take count bytes in
     let long : length d ≡ count = length-take-le count bytes within in
     let first : get_or d 0 0 ≡ get_or bytes 0 0 = get_or-take count bytes 0 0 (omega arith) in
-    let back = decimal-digits_value own d all (omega (arith, long)) (λ e. one e first long) (omega (arith, value)) in
+    let alone : get_or d 0 0 ≡ 48 → length d ≡ 1 = λ e. elim (cases_lt 1 count) [
+      | inl more ↦ absurd (lead more (sym first ∙ e))
+      | inr few ↦ omega (arith, long)
+    ] in
+    let back = decimal-digits_value own d all (omega (arith, long)) alone (omega (arith, value)) in
     sym (take-append-drop count text) ∙ ap₂ (λ (x y : List ℕ). x ++ y) (ap (take count) (sym same) ∙ sym back ∙ ap decimal value) (sym left)
-  where
-    one : get_or (take count bytes) 0 0 ≡ 48 → get_or (take count bytes) 0 0 ≡ get_or bytes 0 0 → length (take count bytes) ≡ count → length (take count bytes) ≡ 1
-    one e f g = go (cases_lt 1 count)
-      where
-        go : (1 < count) ⊎ (count ≤ 1) → length (take count bytes) ≡ 1
-        go (inl more) = absurd (lead more (sym f ∙ e))
-        go (inr few) = omega (arith, g)
 
 -- one more digit
 pub digit_more : (bs : List ℕ) (i n m d next : ℕ) → i < length bs → digits_value 10 (take i bs) ≡ n → all_ascii_digits (take i bs) ≡ true
@@ -85,15 +81,11 @@ escaped-decimal n small = escaped-digits (decimal n) (decimal_is_IsNumeral n sma
 pub positive_read : (text inside rest after : List ℕ) (n : ℕ) (z : ℤ) → text ≡ 34 ∷ inside → inside ≡ decimal n ++ rest → n < 2 ^ 64
     → rest ≡ 34 ∷ after → pos n ≡ z → text ≡ quoted (signed_decimal z) ++ after
 unfolding quoted
-positive_read text inside rest after n z a b small c same =
-    a ∙ ap (λ x. 34 ∷ x) (b ∙ ap (λ x. decimal n ++ x) c ∙ sym (append_assoc (decimal n) (34 ∷ []) after)
-    ∙ ap (λ x. (x ++ 34 ∷ []) ++ after) (sym (escaped-decimal n small))) ∙ ap (λ k. quoted (signed_decimal k) ++ after) same
+positive_read text inside rest after n z a b small c same = rw (a, b, c, ← same, escaped-decimal n small, append_assoc (decimal n) (34 ∷ []) after) refl
 
 pub negative_read : (text inside digits rest after : List ℕ) (n : ℕ) (z : ℤ) → text ≡ 34 ∷ inside → inside ≡ 45 ∷ digits → digits ≡ decimal n ++ rest
     → n < 2 ^ 64 → rest ≡ 34 ∷ after → 0 < n → neg_ℤ (pos n) ≡ z
     → text ≡ quoted (signed_decimal z) ++ after
 unfolding quoted escape_byte
 negative_read text inside digits rest after zero z a m b small c some same = absurd (omega arith)
-negative_read text inside digits rest after (suc n) z a m b small c some same =
-    a ∙ ap (λ x. 34 ∷ x) (m ∙ ap (λ x. 45 ∷ x) (b ∙ ap (λ x. decimal (suc n) ++ x) c ∙ sym (append_assoc (decimal (suc n)) (34 ∷ []) after)
-    ∙ ap (λ x. (x ++ 34 ∷ []) ++ after) (sym (escaped-decimal (suc n) small)))) ∙ ap (λ k. quoted (signed_decimal k) ++ after) same
+negative_read text inside digits rest after (suc n) z a m b small c some same = rw (a, m, b, c, ← same, escaped-decimal (suc n) small, append_assoc (decimal (suc n)) (34 ∷ []) after) refl

@@ -1,7 +1,8 @@
 -- What is read of a text can be written: it nests 200 levels at most, and no name and no text of a regular expression has
 -- a zero.
-use Rattle.std.proofs.Common.{◌≡◌, ◌≤◌, ℕ, zero, suc, ◌-◌, ℤ, List, Bool, true, false, ◌||◌, cond, Option, Some, None, refl, sym, ap, ◌∙◌, arith}
+use Rattle.std.proofs.Common.{◌≡◌, ◌≤◌, ℕ, zero, suc, ◌-◌, ℤ, List, Bool, true, false, ◌||◌, Option, Some, None, refl, sym, ap, ◌∙◌, arith}
 use Rattle.std.specs.Prelude.{codes, option_map, option_and_then}
+use Rattle.std.proofs.lemmas.Bool.{cond_both, or_from}
 use Rattle.bd_value.specs.Limits.{most_levels}
 use Rattle.json.specs.Token.{Token}
 use Rattle.json.specs.Json as json
@@ -54,11 +55,7 @@ HasNone None = Unit {0}
 HasNone (Some s) = has_zero s ≡ false
 
 none_in : (s : List ℕ) → HasNone (if_no_zero s)
-none_in s = go (has_zero s) refl
-  where
-    go : (b : Bool) → has_zero s ≡ b → HasNone (cond b None (Some s))
-    go true e = tt
-    go false e = e
+none_in s = cond_both (has_zero s) None (Some s) HasNone (λ e. tt) (λ e. e)
 
 name_plain : (j : Json) → HasNone (name_in j)
 name_plain j = go (as_str j)
@@ -67,13 +64,9 @@ name_plain j = go (as_str j)
     go None = tt
     go (Some s) = none_in s
 
-neither : (a b : Bool) → a ≡ false → b ≡ false → (a || b) ≡ false
-neither a b p q = rw (p, q) refl
-
 regex_plain : (a b : Option (List ℕ)) → HasNone a → HasNone b → IsScalar (option_map (λ p. trees.regex p.0 p.1) (both a b))
-regex_plain None b p q = tt
-regex_plain (Some s) None p q = tt
-regex_plain (Some s) (Some t) p q = neither (has_zero s) (has_zero t) p q
+regex_plain (Some s) (Some t) p q = or_from (has_zero s) (has_zero t) p q
+regex_plain _ _ p q = tt
 
 pair_plain : (o : Option (Json × Json)) → IsScalar (option_map (λ p. trees.regex p.0 p.1) (option_and_then (both_in name_in name_in) o))
 pair_plain None = tt
@@ -86,14 +79,10 @@ true_plain false s h = tt
 single_plain : (w : Wrapper) (j : Json) → IsScalar (single w j)
 single_plain kinds.NumberInt j = mapped (λ z. trees.int32 z) (λ z. refl) (option_and_then whole_32 (as_str j))
 single_plain kinds.NumberLong j = mapped (λ z. trees.int64 z) (λ z. refl) (option_and_then whole_64 (as_str j))
-single_plain kinds.NumberDouble j = tt
-single_plain kinds.NumberDecimal j = tt
 single_plain kinds.Oid j = mapped (λ b. trees.object_id b) (λ b. refl) (id_of j)
 single_plain kinds.Symbol j = mapped (λ s. trees.symbol s) (λ s. refl) (as_str j)
 single_plain kinds.Binary j = mapped (λ (p : List ℕ × ℕ). trees.binary p.1 p.0) (λ p. refl) (option_and_then (both_in data_in subtype_in) (pair (codes "base64") (codes "subType") j))
-single_plain kinds.Uuid j = tt
 single_plain kinds.Code j = mapped (λ s. trees.code s) (λ s. refl) (as_str j)
-single_plain kinds.Scope j = tt
 single_plain kinds.Timestamp j = mapped (λ (p : ℕ × ℕ). trees.timestamp p.0 p.1) (λ p. refl) (option_and_then (both_in word_in word_in) (pair (codes "t") (codes "i") j))
 single_plain kinds.RegularExpression j = pair_plain (pair (codes "pattern") (codes "options") j)
 single_plain kinds.DbPointer j = mapped (λ (p : List ℕ × List ℕ). trees.db_pointer p.0 p.1) (λ p. refl)
@@ -102,6 +91,7 @@ single_plain kinds.Date j = mapped (λ z. trees.date z) (λ z. refl) (long_in (o
 single_plain kinds.MinKey j = true_plain (one j) trees.min_key refl
 single_plain kinds.MaxKey j = true_plain (one j) trees.max_key refl
 single_plain kinds.Undefined j = true_plain (is_true j) trees.undefined refl
+single_plain _ j = tt
 
 leaf_plain : (room : ℕ) (o : Option Scalar) → IsScalar o → IsTree room (option_map leaf o)
 leaf_plain room None h = tt
@@ -109,51 +99,35 @@ leaf_plain room (Some s) h = (omega arith, h)
 
 number_plain : (room : ℕ) (o : Option ℤ) → IsTree room (bare_number o)
 number_plain room None = tt
-number_plain room (Some z) = go (fits_bits 31 z)
-  where
-    go : (b : Bool) → IsTree room (Some (leaf (cond b (trees.int32 z) (trees.int64 z))))
-    go true = (omega arith, refl)
-    go false = (omega arith, refl)
+number_plain room (Some z) = cond_both (fits_bits 31 z) (trees.int32 z) (trees.int64 z) (λ s. IsTree room (Some (leaf s))) (λ e. (omega arith, refl)) (λ e. (omega arith, refl))
 
 -- ---- lists
 
 item_plain : (room : ℕ) (t : Option Tree) (ts : Option Items) → IsTree room t → AreItems room ts → AreItems room (add_item t ts)
-item_plain room None ts p q = tt
-item_plain room (Some t) None p q = tt
-item_plain room (Some t) (Some ts) p q = (let a = p.0 in let b = q.0 in omega arith, neither (zero_in t) (zero_in_items ts) p.1 q.1)
+item_plain room (Some t) (Some ts) p q = (let a = p.0 in let b = q.0 in omega arith, or_from (zero_in t) (zero_in_items ts) p.1 q.1)
+item_plain room _ _ p q = tt
 
 field_plain : (room : ℕ) (name : List ℕ) (t : Option Tree) (fs : Option Fields) → IsTree room t → AreFields room fs → AreFields room (add_field name t fs)
-field_plain room name None fs p q = tt
-field_plain room name (Some t) None p q = tt
-field_plain room name (Some t) (Some fs) p q = go (has_zero name) refl
-  where
-    go : (b : Bool) → has_zero name ≡ b → AreFields room (cond b None (Some (field name t fs)))
-    go true e = tt
-    go false e = (
-      let a = p.0 in let b = q.0 in omega arith,
-      neither (has_zero name) (zero_in t || zero_in_fields fs) e (neither (zero_in t) (zero_in_fields fs) p.1 q.1),
-    )
+field_plain room name (Some t) (Some fs) p q =
+    let a = p.0 in
+    let b = q.0 in
+    cond_both (has_zero name) None (Some (field name t fs)) (AreFields room) (λ e. tt)
+    (λ e. (omega arith, or_from (has_zero name) (zero_in t || zero_in_fields fs) e (or_from (zero_in t) (zero_in_fields fs) p.1 q.1)))
+field_plain room name _ _ p q = tt
 
 array_plain : (room : ℕ) (ts : Option Items) → AreItems (room - 1) ts → IsTree room (nested room (option_map array ts))
-array_plain zero ts p = tt
-array_plain (suc room) None p = tt
 array_plain (suc room) (Some ts) p = (let a = p.0 in omega arith, p.1)
+array_plain _ _ p = tt
 
 doc_plain : (room : ℕ) (fs : Option Fields) → AreFields (room - 1) fs → IsTree room (nested room (option_map doc fs))
-doc_plain zero fs p = tt
-doc_plain (suc room) None p = tt
 doc_plain (suc room) (Some fs) p = (let a = p.0 in omega arith, p.1)
+doc_plain _ _ p = tt
 
 -- ---- objects that stand for values of other kinds
 
 scope_plain : (room : ℕ) (s : Option (List ℕ)) (t : Option Tree) → IsTree (room - 1) t → IsTree room (nested room (with_scope s t))
-scope_plain zero s t p = tt
-scope_plain (suc room) None t p = tt
-scope_plain (suc room) (Some s) None p = tt
-scope_plain (suc room) (Some s) (Some (leaf x)) p = tt
 scope_plain (suc room) (Some s) (Some (doc fs)) p = (let a = p.0 in omega arith, p.1)
-scope_plain (suc room) (Some s) (Some (array ts)) p = tt
-scope_plain (suc room) (Some s) (Some (code_scope q fs)) p = tt
+scope_plain _ _ _ p = tt
 
 none_plain : (room : ℕ) → IsTree room (nested room None)
 none_plain zero = tt
@@ -166,9 +140,8 @@ two_plain room _ j t _ i u p q = none_plain room
 
 wrapped_plain : (room : ℕ) (w : Wrapper) (j : Json) (t : Option Tree) (b : AfterName) → IsTree (room - 1) t → IsAfter (room - 1) b → IsTree room (wrapper_tree room w j t b)
 wrapped_plain room w j t nothing p q = leaf_plain room (single w j) (single_plain w j)
-wrapped_plain room w j t (one_more None i u) p q = tt
 wrapped_plain room w j t (one_more (Some v) i u) p q = two_plain room w j t v i u p q
-wrapped_plain room w j t several p q = tt
+wrapped_plain room w j t _ p q = tt
 
 either_plain : (room : ℕ) (o : Option Wrapper) (j : Json) (t : Option Tree) (b : AfterName) (d : Option Tree) → IsTree (room - 1) t
     → IsAfter (room - 1) b → IsTree room d → IsTree room (either room o j t b d)
@@ -216,14 +189,11 @@ abbrev IsPlain : Doc → Type 0
 IsPlain d = (depth (doc (fields_of d)) ≤ most_levels) × (zero_in (doc (fields_of d)) ≡ false)
 
 of_tree : (t : Option Tree) (d : Doc) → IsTree most_levels t → option_map pairs_of (option_and_then document t) ≡ Some d → IsPlain d
-of_tree None d p e = absurd cc
-of_tree (Some (leaf s)) d p e = absurd cc
 of_tree (Some (doc fs)) d p e =
     let is : pairs_of fs ≡ d = cc in
     let same : fields_of d ≡ fs = ap fields_of (sym is) ∙ fields_of-pairs_of fs in
     rw same p
-of_tree (Some (array ts)) d p e = absurd cc
-of_tree (Some (code_scope s fs)) d p e = absurd cc
+of_tree _ d p e = absurd cc
 
 pub reads_plain : (text : List ℕ) (d : Doc) → ReadsAs text d → IsPlain d
 reads_plain text d = of_json (reads.json text)
@@ -234,17 +204,10 @@ reads_plain text d = of_json (reads.json text)
 
 -- ---- parts
 
-of_some : (room : ℕ) (o : Option Tree) (t : Tree) → IsTree room o → o ≡ Some t → zero_in t ≡ false
-of_some room None t p e = absurd cc
-of_some room (Some u) t p e = let is : u ≡ t = cc in ap zero_in (sym is) ∙ p.1
-
-pub bare_plain : (z : Option ℤ) (t : Tree) → bare_number z ≡ Some t → zero_in t ≡ false
-bare_plain z t e = of_some 0 (bare_number z) t (number_plain 0 z) e
-
 kept : (o : Option Tree) (t : Tree) (ts rest : List Token) → option_map {U = Tree × List Token} (λ a. (a, ts)) o ≡ Some (t, rest) → o ≡ Some t
 kept None t ts rest e = absurd cc
 kept (Some u) t ts rest e = ap (λ (x : Option (Tree × List Token)). option_map (λ (p : Tree × List Token). p.0) x) e
 
 pub object_plain : (room : ℕ) (r : Option (json.Members × List Token)) (t : Tree) (rest : List Token) → through (wrap_object room) r ≡ Some (t, rest) → zero_in t ≡ false
 object_plain room None t rest e = absurd cc
-object_plain room (Some p) t rest e = of_some room (wrap_object room p.0) t (wrap_object_plain room p.0) (kept (wrap_object room p.0) t p.1 rest e)
+object_plain room (Some p) t rest e = (rw (kept (wrap_object room p.0) t p.1 rest e) at (wrap_object_plain room p.0)).1

@@ -1,7 +1,8 @@
 -- Wrappers of one string, from their tokens.
-use Rattle.std.proofs.Common.{◌≡◌, ℕ, ◌-◌, ◌<◌, ◌≤◌, ◌^◌, ℤ, pos, negsuc, Bool, true, false, cond, List, ◌∷◌, ◌++◌, length, Option, Some, None, option_map}
+use Rattle.std.proofs.Common.{◌≡◌, ℕ, ◌-◌, ◌<◌, ◌≤◌, ◌^◌, ℤ, pos, negsuc, Bool, true, false, cond, List, ◌∷◌, length, Option, Some, None, option_map}
 use Rattle.std.proofs.Common.{option_and_then, to_z, of_z, refl, sym, ap, ◌∙◌, arith}
 use Rattle.std.specs.Prelude.{codes}
+use Rattle.std.proofs.lemmas.Option.{option_and_then_some, cond_some}
 use Rattle.std.specs.Int.{w32, w64}
 use Rattle.std.specs.Int.RustNames.{FitsSigned}
 use Rattle.std.proofs.lemmas.Int.{ints, to_z-of_z}
@@ -14,8 +15,6 @@ use Rattle.bd_value.specs.Tree.{Scalar, Tree, leaf}
 use Rattle.bd_extjson.specs.Meaning.{wrap_object}
 use Rattle.bd_extjson.proofs.StepLemmas.{first_name}
 use Rattle.bd_extjson.proofs.MemberLemmas.{member_is, ended}
-use Rattle.bd_raw.specs.Spelling.{element}
-use Rattle.bd_write.specs.TreeBytes.{bytes_of}
 use Rattle.bd_wrapper.specs.Wrappers.{wrapper_of, single, only}
 use Rattle.bd_wrapper.specs.Progress.{through, after_key}
 use Rattle.bd_wrapper.specs.Whole.{fits_bits, if_fits, whole, whole_32, whole_64}
@@ -66,31 +65,19 @@ date_gives room depth first w s x ts rest some named same is stands =
 
 -- ---- a number of a signed type, by its bits
 
-kept : (k : ℕ) (x z : ℤ) (b : Bool) → fits_bits k x ≡ b → cond b (Some x) None ≡ Some z → fits_bits k z ≡ true
-kept k x z true fits is = let same : x ≡ z = cc in rw (← same) fits
-kept k x z false fits is = absurd cc
-
-pub whole_fits : (k : ℕ) (o : Option ℤ) (z : ℤ) → option_and_then (if_fits k) o ≡ Some z → fits_bits k z ≡ true
-whole_fits k None z is = absurd cc
-whole_fits k (Some x) z is = kept k x z (fits_bits k x) refl is
+whole_fits : (k : ℕ) (o : Option ℤ) (z : ℤ) → option_and_then (if_fits k) o ≡ Some z → fits_bits k z ≡ true
+whole_fits k o z is = option_and_then_some (if_fits k) o z is (λ x _ e. let p = cond_some (fits_bits k x) x z e in rw p.1 at p.0)
 
 fits_32 : (z : ℤ) → fits_bits 31 z ≡ true → FitsSigned w32 z
 fits_32 (pos n) e = let low : n < 2 ^ 31 = grind arith in record { sfits = omega (arith, ints) }
 fits_32 (negsuc n) e = let low : n < 2 ^ 31 = grind arith in record { sfits = omega (arith, ints) }
 
-pub fits_64 : (z : ℤ) → fits_bits 63 z ≡ true → FitsSigned w64 z
+fits_64 : (z : ℤ) → fits_bits 63 z ≡ true → FitsSigned w64 z
 fits_64 (pos n) e = let low : n < 2 ^ 63 = grind arith in record { sfits = omega (arith, ints) }
 fits_64 (negsuc n) e = let low : n < 2 ^ 63 = grind arith in record { sfits = omega (arith, ints) }
 
-module _ (s : List ℕ) (z : ℤ) (old name new : List ℕ) where
-  pub int32_put : Some z ≡ whole_32 s → new ≡ old ++ element (leaf (trees.int32 (to_z w32 (of_z w32 z)))) name (bytes_of (leaf (trees.int32 (to_z w32 (of_z w32 z)))))
-      → new ≡ old ++ element (leaf (trees.int32 z)) name (bytes_of (leaf (trees.int32 z)))
-  int32_put is put = put ∙ ap (λ k. old ++ element (leaf (trees.int32 k)) name (bytes_of (leaf (trees.int32 k)))) (to_z-of_z w32 z (fits_32 z (whole_fits 31 (whole s) z (sym is))))
+pub same_32 : (s : List ℕ) (z : ℤ) → Some z ≡ whole_32 s → to_z w32 (of_z w32 z) ≡ z
+same_32 s z is = to_z-of_z w32 z (fits_32 z (whole_fits 31 (whole s) z (sym is)))
 
-  pub int64_put : Some z ≡ whole_64 s → new ≡ old ++ element (leaf (trees.int64 (to_z w64 (of_z w64 z)))) name (bytes_of (leaf (trees.int64 (to_z w64 (of_z w64 z)))))
-      → new ≡ old ++ element (leaf (trees.int64 z)) name (bytes_of (leaf (trees.int64 z)))
-  int64_put is put = put ∙ ap (λ k. old ++ element (leaf (trees.int64 k)) name (bytes_of (leaf (trees.int64 k)))) (to_z-of_z w64 z (fits_64 z (whole_fits 63 (whole s) z (sym is))))
-
-  pub date_put : Some z ≡ whole_64 s → new ≡ old ++ element (leaf (trees.date (to_z w64 (of_z w64 z)))) name (bytes_of (leaf (trees.date (to_z w64 (of_z w64 z)))))
-      → new ≡ old ++ element (leaf (trees.date z)) name (bytes_of (leaf (trees.date z)))
-  date_put is put = put ∙ ap (λ k. old ++ element (leaf (trees.date k)) name (bytes_of (leaf (trees.date k)))) (to_z-of_z w64 z (fits_64 z (whole_fits 63 (whole s) z (sym is))))
+pub same_64 : (s : List ℕ) (z : ℤ) → Some z ≡ whole_64 s → to_z w64 (of_z w64 z) ≡ z
+same_64 s z is = to_z-of_z w64 z (fits_64 z (whole_fits 63 (whole s) z (sym is)))

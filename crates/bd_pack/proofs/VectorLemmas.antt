@@ -23,12 +23,9 @@ tested false true false = refl
 tested false false true = refl
 tested false false false = refl
 
-same : (b : ℕ) → ((eqb b 34 || eqb b 92) || ltb b 32) ≡ needs_escape b
-same b = refl
-
 each_tested : (v : List ℕ) → map (λ x. top 7 (bit_or (bit_or (cond (eqb x 34) 255 0) (cond (eqb x 92) 255 0)) (cond (ltb x 32) 255 0))) v ≡ map needs_escape v
 each_tested [] = refl
-each_tested (x ∷ v) = ap₂ (λ b bs. b ∷ bs) (tested (eqb x 34) (eqb x 92) (ltb x 32) ∙ same x) (each_tested v)
+each_tested (x ∷ v) = ap₂ (λ b bs. b ∷ bs) (tested (eqb x 34) (eqb x 92) (ltb x 32)) (each_tested v)
 
 abbrev equal : ℕ → ℕ → ℕ
 equal a b = cond (eqb a b) 255 0
@@ -55,37 +52,25 @@ none_any p (x ∷ xs) quiet = rw (quiet 0 (omega arith)) (none_any p xs (λ k lt
 abbrev pub IsQuiet : List ℕ → ℕ → Type 0
 IsQuiet text n = (k : ℕ) → k < n → needs_escape (get_or text k 0) ≡ false
 
-pub quiet_front : (text : List ℕ) (n : ℕ) → n ≤ length text → IsQuiet text n → list_any needs_escape (take n text) ≡ false
-quiet_front text n le quiet =
-    let long = length-take-le n text le in
-    none_any needs_escape (take n text) (λ k lt. ap needs_escape (get_or-take n text k 0 (omega (arith, long))) ∙ quiet k (omega (arith, long)))
+pub quiet_front : (text bytes : List ℕ) (n : ℕ) → bytes ≡ text → n ≤ length bytes → IsQuiet bytes n → list_any needs_escape (take n text) ≡ false
+quiet_front text bytes n same le quiet =
+    let long = length-take-le n bytes le in
+    rw (← same) (none_any needs_escape (take n bytes) (λ k lt. ap needs_escape (get_or-take n bytes k 0 (omega (arith, long))) ∙ quiet k (omega (arith, long))))
 
 module _ (text : List ℕ) (i : ℕ) (room : i + 32 ≤ length text) (before : IsQuiet text i) where
   pub all_quiet : mask_l (map needs_escape (chunk i 32 text)) ≡ 0 → IsQuiet text (i + 32)
-  all_quiet none k lt = one (cases_lt k i)
-    where
-      one : (k < i) ⊎ (i ≤ k) → needs_escape (get_or text k 0) ≡ false
-      one (inl less) = before k less
-      one (inr more) = none_from_empty_mask needs_escape text i 32 0 room none k (omega (arith, more)) lt
+  all_quiet none k lt = elim (cases_lt k i) [
+    | inl less ↦ before k less
+    | inr more ↦ none_from_empty_mask needs_escape text i 32 0 room none k (omega (arith, more)) lt
+  ]
 
-  pub first_within : (r : ℕ) → 0 < mask_l (map needs_escape (chunk i 32 text)) → r ≡ count_trailing_zeros 64 (mask_l (map needs_escape (chunk i 32 text))) → r ≤ 32
-  first_within r some counted =
+  -- the first byte that stops is one of the chunk, and those before it are quiet
+  pub stops_within : (r : ℕ) → 0 < mask_l (map needs_escape (chunk i 32 text)) → r ≡ count_trailing_zeros 64 (mask_l (map needs_escape (chunk i 32 text))) → (r ≤ 32) × IsQuiet text (i + r)
+  stops_within r some counted =
       let long = length-chunk i 32 text room in
-      omega (arith, counted, trailing_mask_l needs_escape 64 (chunk i 32 text) (omega (arith, long)) some, prefix_len-le-length (λ x. not (needs_escape x)) (chunk i 32 text), long)
-
-  pub quiet_to_first : (r : ℕ) → 0 < mask_l (map needs_escape (chunk i 32 text)) → r ≡ count_trailing_zeros 64 (mask_l (map needs_escape (chunk i 32 text))) → IsQuiet text (i + r)
-  quiet_to_first r some counted k lt = one (cases_lt k i)
-    where
-      first : r ≡ prefix_len (λ x. not (needs_escape x)) (chunk i 32 text)
-      first = counted ∙ trailing_mask_l needs_escape 64 (chunk i 32 text) (omega (arith, length-chunk i 32 text room)) some
-
-      one : (k < i) ⊎ (i ≤ k) → needs_escape (get_or text k 0) ≡ false
-      one (inl less) = before k less
-      one (inr more) = run_in_chunk_fails needs_escape text i 32 r 0 room first k (omega (arith, more)) lt
-
-pub one_more_quiet : (text : List ℕ) (n : ℕ) → IsQuiet text n → needs_escape (get_or text n 0) ≡ false → IsQuiet text (n + 1)
-one_more_quiet text n quiet next k lt = one (cases_lt k n)
-  where
-    one : (k < n) ⊎ (n ≤ k) → needs_escape (get_or text k 0) ≡ false
-    one (inl less) = quiet k less
-    one (inr more) = let here : n ≡ k = omega arith in ap (λ j. needs_escape (get_or text j 0)) (sym here) ∙ next
+      let first : r ≡ prefix_len (λ x. not (needs_escape x)) (chunk i 32 text) = counted ∙ trailing_mask_l needs_escape 64 (chunk i 32 text) (omega (arith, long)) some in
+      let quiet : IsQuiet text (i + r) = λ k lt. elim (cases_lt k i) [
+        | inl less ↦ before k less
+        | inr more ↦ run_in_chunk_fails needs_escape text i 32 r 0 room first k (omega (arith, more)) lt
+      ] in
+      (omega (arith, first, prefix_len-le-length (λ x. not (needs_escape x)) (chunk i 32 text), long), quiet)

@@ -1,8 +1,7 @@
 -- What a value that stays in its bytes holds.
-use Rattle.std.proofs.Common.{◌≡◌, ℕ, ◌+◌, ◌≤◌, false, List, ◌∷◌, ◌++◌, length, drop, refl, sym, ap, ap₂, ◌∙◌, subst, append_assoc, arith}
+use Rattle.std.proofs.Common.{◌≡◌, ℕ, ◌+◌, ◌≤◌, false, List, [], ◌∷◌, ◌++◌, length, drop, refl, sym, ap, ap₂, ◌∙◌, subst, append_assoc, arith}
 use Rattle.std.proofs.lemmas.List.{drop_at, length-append, length-drop, drop-drop}
 use Rattle.bd_value.specs.Limits.{longest_document}
-use Rattle.bd_value.specs.Tree as trees
 use Rattle.bd_value.specs.Tree.{Tree, leaf, doc, array, code_scope, Items, no_items, item, Fields, no_fields, field, Doc, pairs_of, pairs_in, fields_of}
 use Rattle.bd_value.specs.Tree.{items_of, list_of, fields_of-pairs_of, items_of-list_of}
 use Rattle.bd_value.specs.Kind.{kind_of}
@@ -16,7 +15,15 @@ use Rattle.bd_raw.specs.ValueAt.{TextAt}
 use Rattle.bd_raw.specs.Unique.{framed_after, no_holder}
 use Rattle.bd_raw.specs.Sound.{Sound, Left, stands, elements_left, stands_is, left_is}
 use Rattle.bd_value.specs.Parts.{values_of}
-use Rattle.bd_raw.proofs.ValueAtLemmas.{kind_is, text_reads, framed_length, scoped_length}
+use Rattle.bd_raw.proofs.ValueAtLemmas.{kind_is, reads_at, text_reads, framed_length, scoped_length}
+
+pub list_of-items_of : (ts : List Tree) → list_of (items_of ts) ≡ ts
+list_of-items_of [] = refl
+list_of-items_of (t ∷ ts) = ap (λ (x : List Tree). t ∷ x) (list_of-items_of ts)
+
+-- the bytes after four, cut off twice
+pub after_four : (bytes : List ℕ) (start : ℕ) (here tail : List ℕ) → here ≡ drop start bytes → tail ≡ drop 4 here → tail ≡ drop (start + 4) bytes
+after_four bytes start here tail a b = b ∙ ap (drop 4) a ∙ drop-drop 4 start bytes
 
 -- ---- what the kind tells of the tree
 
@@ -36,8 +43,7 @@ as_array ps = array (items_of (values_of ps))
 is_document : (t : Tree) (v : List ℕ) → IsValue t v → kind_of t ≡ kinds.Doc → IsFramed t v as_document
 is_document (leaf a) v h k = absurd (no_holder a kinds.Doc k refl)
 is_document (doc fs) v h k = record { fields = fs; body = h.0; spell = h.1; frame = h.2; is = ap doc (sym (fields_of-pairs_of fs)) }
-is_document (array ts) v h k = absurd cc
-is_document (code_scope s fs) v h k = absurd cc
+is_document _ v h k = absurd cc
 
 items_fields : (ts : Items) (b : List ℕ) → AreItems ts b → (fs : Fields) × AreFields fs b × (values_of (pairs_of fs) ≡ list_of ts)
 items_fields no_items b h = (no_fields, h, refl)
@@ -47,11 +53,10 @@ items_fields (item t ts) b h =
 
 is_array : (t : Tree) (v : List ℕ) → IsValue t v → kind_of t ≡ kinds.Array → IsFramed t v as_array
 is_array (leaf a) v h k = absurd (no_holder a kinds.Array k refl)
-is_array (doc fs) v h k = absurd cc
 is_array (array ts) v h k =
     let f = items_fields ts h.0 h.1 in
     record { fields = f.0; body = h.0; spell = f.1; frame = h.2; is = ap array (sym (ap items_of f.2 ∙ items_of-list_of ts)) }
-is_array (code_scope s fs) v h k = absurd cc
+is_array _ v h k = absurd cc
 
 record IsCode (t : Tree) (v : List ℕ) : Type 0 where
   pub code : List ℕ
@@ -64,20 +69,12 @@ record IsCode (t : Tree) (v : List ℕ) : Type 0 where
 
 is_code : (t : Tree) (v : List ℕ) → IsValue t v → kind_of t ≡ kinds.CodeScope → IsCode t v
 is_code (leaf a) v h k = absurd (no_holder a kinds.CodeScope k refl)
-is_code (doc fs) v h k = absurd cc
-is_code (array ts) v h k = absurd cc
 is_code (code_scope s fs) v h k = record { code = s; fields = fs; body = h.0; text_fits = h.3; spell = h.1; whole = h.2; is = refl }
+is_code _ v h k = absurd cc
 
-record IsLeaf (t : Tree) (v r : List ℕ) : Type 0 where
-  pub scalar : trees.Scalar
-  pub is : t ≡ leaf scalar
-  pub read : scalar_at (kind_of t) (v ++ r) ≡ scalar
-
-is_leaf : (t : Tree) (v r : List ℕ) → IsValue t v → holds (kind_of t) ≡ false → IsLeaf t v r
-is_leaf (leaf a) v r h k = record { scalar = a; is = refl; read = scalar_back a v r h }
-is_leaf (doc fs) v r h k = absurd cc
-is_leaf (array ts) v r h k = absurd cc
-is_leaf (code_scope s fs) v r h k = absurd cc
+is_leaf : (t : Tree) (v r : List ℕ) → IsValue t v → holds (kind_of t) ≡ false → t ≡ leaf (scalar_at (kind_of t) (v ++ r))
+is_leaf (leaf a) v r h k = ap leaf (sym (scalar_back a v r h))
+is_leaf _ v r h k = absurd cc
 
 -- ---- scalars
 
@@ -85,63 +82,33 @@ pub no_holder_left : (k : Kind) → (k ≡ kinds.Doc → ⊥) → (k ≡ kinds.A
 no_holder_left kinds.Doc d a c = absurd (d refl)
 no_holder_left kinds.Array d a c = absurd (a refl)
 no_holder_left kinds.CodeScope d a c = absurd (c refl)
-no_holder_left kinds.MinKey d a c = refl
-no_holder_left kinds.Undefined d a c = refl
-no_holder_left kinds.Null d a c = refl
-no_holder_left kinds.Int32 d a c = refl
-no_holder_left kinds.Int64 d a c = refl
-no_holder_left kinds.Text d a c = refl
-no_holder_left kinds.Symbol d a c = refl
-no_holder_left kinds.Binary d a c = refl
-no_holder_left kinds.ObjectId d a c = refl
-no_holder_left kinds.Bool d a c = refl
-no_holder_left kinds.Date d a c = refl
-no_holder_left kinds.Timestamp d a c = refl
-no_holder_left kinds.Regex d a c = refl
-no_holder_left kinds.DbPointer d a c = refl
-no_holder_left kinds.Code d a c = refl
-no_holder_left kinds.MaxKey d a c = refl
+no_holder_left _ d a c = refl
 
 pub leaf_is : (kind : Kind) (bytes : List ℕ) (s : Sound kind bytes) → holds kind ≡ false → stands s ≡ leaf (scalar_at kind bytes)
 leaf_is kind bytes s none =
     let k = kind_is kind bytes s in
-    let l = is_leaf s.tree s.value s.after s.spells (ap holds k ∙ none) in
-    stands_is s s ∙ l.is ∙ ap leaf (sym l.read ∙ ap (λ (x : Kind). scalar_at x (s.value ++ s.after)) k ∙ ap (scalar_at kind) (sym s.cut))
+    stands_is s s ∙ is_leaf s.tree s.value s.after s.spells (ap holds k ∙ none) ∙ ap leaf (ap₂ scalar_at k (sym s.cut))
 
 -- ---- the elements of a document and of an array
 
-module _ (bytes : List ℕ) (start : ℕ) (kind : Kind) (s : Sound kind (drop start bytes)) (made : Doc → Tree) (f : IsFramed s.tree s.value made) where
-  framed_left : Left (drop (start + 4) bytes)
-  framed_left =
-      let whole : drop start bytes ≡ number (length f.body + 5) ++ (f.body ++ 0 ∷ s.after) = s.cut ∙ ap (λ (x : List ℕ). x ++ s.after) f.frame ∙ framed_after f.body s.after in
-      let size : length s.value ≡ length f.body + 5 = ap length f.frame ∙ framed_length f.body in
-      let short : length f.body ≤ longest_document = let m = s.short in omega (arith, size) in
-      record {
-        fields = f.fields;
-        body = f.body;
-        after = s.after;
-        spell = f.spell;
-        cut = sym (drop-drop 4 start bytes) ∙ ap (drop 4) whole
-            ∙ number_after (length f.body + 5) (f.body ++ 0 ∷ s.after);
-        short = short;
-      }
-
-  framed_is : (g : Left (drop (start + 4) bytes)) → stands s ≡ made (elements_left g)
-  unfolding framed_left
-  framed_is g = stands_is s s ∙ f.is ∙ ap made (sym (left_is g framed_left))
-
 module _ (bytes : List ℕ) (start : ℕ) (kind : Kind) (s : Sound kind (drop start bytes)) where
-  pub document_left : kind ≡ kinds.Doc → Left (drop (start + 4) bytes)
-  document_left k = framed_left bytes start kind s as_document (is_document s.tree s.value s.spells (kind_is kind _ s ∙ k))
+  -- the elements, and that they make the value
+  abbrev pub Held : (Doc → Tree) → Type 0
+  Held made = Left (drop (start + 4) bytes) × ((g : Left (drop (start + 4) bytes)) → stands s ≡ made (elements_left g))
 
-  pub document_is : kind ≡ kinds.Doc → (g : Left (drop (start + 4) bytes)) → stands s ≡ doc (fields_of (elements_left g))
-  document_is k g = framed_is bytes start kind s as_document (is_document s.tree s.value s.spells (kind_is kind _ s ∙ k)) g
+  framed_held : (made : Doc → Tree) → IsFramed s.tree s.value made → Held made
+  framed_held made f =
+      let whole : drop start bytes ≡ number (length f.body + 5) ++ (f.body ++ 0 ∷ s.after) = s.cut ∙ ap (λ (x : List ℕ). x ++ s.after) f.frame ∙ framed_after f.body s.after in
+      let cut = sym (drop-drop 4 start bytes) ∙ ap (drop 4) whole ∙ number_after (length f.body + 5) (f.body ++ 0 ∷ s.after) in
+      let short : length f.body ≤ longest_document = omega (arith, s.short, ap length f.frame, framed_length f.body) in
+      let left : Left (drop (start + 4) bytes) = record { fields = f.fields; body = f.body; after = s.after; spell = f.spell; cut = cut; short = short } in
+      (left, λ g. stands_is s s ∙ f.is ∙ ap made (sym (left_is g left)))
 
-  pub array_left : kind ≡ kinds.Array → Left (drop (start + 4) bytes)
-  array_left k = framed_left bytes start kind s as_array (is_array s.tree s.value s.spells (kind_is kind _ s ∙ k))
+  pub document_held : kind ≡ kinds.Doc → Held as_document
+  document_held k = framed_held as_document (is_document s.tree s.value s.spells (kind_is kind _ s ∙ k))
 
-  pub array_is : kind ≡ kinds.Array → (g : Left (drop (start + 4) bytes)) → stands s ≡ array (items_of (values_of (elements_left g)))
-  array_is k g = framed_is bytes start kind s as_array (is_array s.tree s.value s.spells (kind_is kind _ s ∙ k)) g
+  pub array_held : kind ≡ kinds.Array → Held as_array
+  array_held k = framed_held as_array (is_array s.tree s.value s.spells (kind_is kind _ s ∙ k))
 
 -- ---- code with scope
 
@@ -166,24 +133,16 @@ module _ (bytes : List ℕ) (start : ℕ) (kind : Kind) (s : Sound kind (drop st
       ap (λ (m : ℕ). drop m bytes) e ∙ sym (drop-drop (4 + n) (start + 4) bytes) ∙ ap (drop (4 + n)) code_after ∙ drop_at (string c.code) (framed c.body ++ s.after) (4 + n) len
 
   abbrev scope_here : (n : ℕ) → n ≡ number_of (drop (start + 4) bytes) → Sound kinds.Doc (drop (start + 8 + n) bytes)
-  scope_here n is = record {
-    tree = doc c.fields;
-    value = framed c.body;
-    after = s.after;
-    spells = (c.body, c.spell, refl);
-    kinded = refl;
-    cut = scope_cut n is;
-    short = let m = s.short in omega (arith, ap length c.whole, scoped_length c.code (framed c.body), length-append (string c.code) (framed c.body));
-  }
+  scope_here n is =
+      let short : length (framed c.body) ≤ longest_document = omega (arith, s.short, ap length c.whole, scoped_length c.code (framed c.body), length-append (string c.code) (framed c.body)) in
+      record { tree = doc c.fields; value = framed c.body; after = s.after; spells = (c.body, c.spell, refl); kinded = refl; cut = scope_cut n is; short = short }
 
 module _ (bytes : List ℕ) (start : ℕ) (kind : Kind) (s : Sound kind (drop start bytes)) (k : kind ≡ kinds.CodeScope) where
   code_of : IsCode s.tree s.value
   code_of = is_code s.tree s.value s.spells (kind_is kind _ s ∙ k)
 
   pub code_long : 4 ≤ length (drop start bytes)
-  code_long =
-      let e = ap (λ (x : List ℕ). length x) (s.cut ∙ ap (λ (x : List ℕ). x ++ s.after) code_of.whole) in
-      omega (arith, e, length-append (scoped code_of.code (framed code_of.body)) s.after, scoped_length code_of.code (framed code_of.body))
+  code_long = rw k at (reads_at kind (drop start bytes) s)
 
   pub code_reads : TextAt (drop (start + 4) bytes)
   code_reads = subst TextAt (sym (code_after bytes start kind s code_of)) (text_reads code_of.code (framed code_of.body ++ s.after) code_of.text_fits)
@@ -191,10 +150,7 @@ module _ (bytes : List ℕ) (start : ℕ) (kind : Kind) (s : Sound kind (drop st
   pub scope_inside : (n : ℕ) → n ≡ number_of (drop (start + 4) bytes) → start + 8 + n ≤ length bytes
   scope_inside n is =
       let e = ap (λ (x : List ℕ). length x) (scope_cut bytes start kind s code_of n is) in
-      let a = length-append (framed code_of.body) s.after in
-      let b = framed_length code_of.body in
-      let d = length-drop (start + 8 + n) bytes in
-      omega arith
+      omega (arith, e, length-append (framed code_of.body) s.after, framed_length code_of.body, length-drop (start + 8 + n) bytes)
 
   pub scope_sound : (n : ℕ) → n ≡ number_of (drop (start + 4) bytes) → Sound kinds.Doc (drop (start + 8 + n) bytes)
   scope_sound n is = scope_here bytes start kind s code_of n is

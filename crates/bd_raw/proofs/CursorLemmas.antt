@@ -13,10 +13,7 @@ few_fields (field n t fs) b h = omega (arith, few_fields fs h.1 h.4, ap length h
 
 pub few : (bytes : List ℕ) (l : Left bytes) → length (elements_left l) ≤ longest_document
 few bytes l =
-    let e = ap (λ (ps : Doc). length ps) (left_is l l) in
-    let f = few_fields l.fields l.body l.spell in
-    let m = l.short in
-    omega arith
+    omega (arith, ap (λ (ps : Doc). length ps) (left_is l l), few_fields l.fields l.body l.spell, l.short)
 
 pub tail_is : {A : Type 0} (xs l : List A) (k : ℕ) (x : A) (ys : List A) → xs ≡ drop k l → xs ≡ x ∷ ys → ys ≡ drop (k + 1) l
 tail_is xs l k x ys a b = sym (ap (drop 1) b) ∙ ap (drop 1) a ∙ drop-drop 1 k l

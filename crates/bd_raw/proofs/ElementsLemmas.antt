@@ -26,10 +26,7 @@ head_at bytes at b x h =
 
 pub front_of_left : (bytes : List ℕ) (at : ℕ) (l : Left (drop at bytes)) → at < length bytes
 front_of_left bytes at l =
-    let e = ap (λ (y : List ℕ). length y) l.cut in
-    let a = length-append l.body (0 ∷ l.after) in
-    let d = length-drop at bytes in
-    omega arith
+    omega (arith, ap (λ (y : List ℕ). length y) l.cut, length-append l.body (0 ∷ l.after), length-drop at bytes)
 
 -- what the next element is
 pub record Next (bytes : List ℕ) (at : ℕ) (left : Fields) : Type 0 where
@@ -88,7 +85,7 @@ kept j k (Some Double) = j
 kept j k (Some Decimal128) = k
 kept j k None = j
 
-module _ (bytes : List ℕ) (at : ℕ) (left : Fields) (s : Next bytes at left) where
+module _ {bytes : List ℕ} {at : ℕ} {left : Fields} (s : Next bytes at left) where
   pub type_here : type_at (slice_index_or bytes at 0) ≡ Some (Kept (kind_of s.tree))
   type_here = ap type_at (head_at bytes at (type_byte (kind_of s.tree)) _ s.cut) ∙ type_is (kind_of s.tree)
 
@@ -110,19 +107,14 @@ module _ (bytes : List ℕ) (at : ℕ) (left : Fields) (s : Next bytes at left) 
 
   pub value_cut : (k : ℕ) → k ≡ length s.name → drop (at + k + 2) bytes ≡ s.value ++ (s.rest ++ 0 ∷ s.after)
   value_cut k p =
+      let others = s.value ++ (s.rest ++ 0 ∷ s.after) in
       let e : at + k + 2 ≡ (at + 1) + (k + 1) = omega arith in
       let len : length (s.name ++ 0 ∷ []) ≡ k + 1 = omega (arith, length-append s.name (0 ∷ [])) in
-      let whole : s.name ++ 0 ∷ (s.value ++ (s.rest ++ 0 ∷ s.after)) ≡ (s.name ++ 0 ∷ [])
-      ++ (s.value ++ (s.rest ++ 0 ∷ s.after)) = sym (append_assoc s.name (0 ∷ []) (s.value ++ (s.rest ++ 0 ∷ s.after))) in
-      ap (λ (n : ℕ). drop n bytes) e ∙ sym (drop-drop (k + 1) (at + 1) bytes) ∙ ap (drop (k + 1)) (tail_is ∙ whole) ∙ drop_at (s.name ++ 0 ∷ []) (s.value ++ (s.rest ++ 0 ∷ s.after)) (k + 1) len
+      rw (e, ← drop-drop (k + 1) (at + 1) bytes, tail_is, ← append_assoc s.name (0 ∷ []) others) (drop_at (s.name ++ 0 ∷ []) others (k + 1) len)
 
   pub value_inside : (k : ℕ) → k ≡ length s.name → at + k + 2 ≤ length bytes
   value_inside k p =
-      let e = ap (λ (x : List ℕ). length x) (value_cut k p) in
-      let d = length-drop (at + k + 2) bytes in
-      let a = length-append s.value (s.rest ++ 0 ∷ s.after) in
-      let b = length-append s.rest (0 ∷ s.after) in
-      omega arith
+      omega (arith, ap (λ (x : List ℕ). length x) (value_cut k p), length-drop (at + k + 2) bytes, length-append s.value (s.rest ++ 0 ∷ s.after), length-append s.rest (0 ∷ s.after))
 
   module _ (kind : Kind) (kinded : kind_of s.tree ≡ kind) where
     abbrev pub value_sound : (k : ℕ) → k ≡ length s.name → Sound kind (drop (at + k + 2) bytes)
@@ -147,8 +139,4 @@ module _ (bytes : List ℕ) (at : ℕ) (left : Fields) (s : Next bytes at left) 
 
 pub value_fits : (bytes : List ℕ) (start : ℕ) (kind : Kind) (s : Sound kind (drop start bytes)) → start ≤ length bytes → start + extent s ≤ length bytes
 value_fits bytes start kind s lt =
-    let l = ap (λ (x : List ℕ). length x) s.cut in
-    let a = length-append s.value s.after in
-    let d = length-drop start bytes in
-    let e = extent_is s s in
-    omega arith
+    omega (arith, ap (λ (x : List ℕ). length x) s.cut, length-append s.value s.after, length-drop start bytes, extent_is s s)

@@ -1,4 +1,3 @@
-pub mod LookupLemmas
 pub mod CursorLemmas
 pub mod ValueAtLemmas
 pub mod ShortLemmas

@@ -17,16 +17,6 @@ payload_short k s true is = rw is (omega (arith, length-append (number (length s
 payload_short k s false is = rw is (omega arith)
 
 scalar_short : (a : Scalar) (v : List ℕ) → IsScalar a v → length v ≤ longest_document → ScalarIsShort a
-scalar_short trees.min_key v h short = tt
-scalar_short trees.undefined v h short = tt
-scalar_short trees.null v h short = tt
-scalar_short trees.max_key v h short = tt
-scalar_short (trees.int32 z) v h short = tt
-scalar_short (trees.int64 z) v h short = tt
-scalar_short (trees.date z) v h short = tt
-scalar_short (trees.timestamp s i) v h short = tt
-scalar_short (trees.boolean b) v h short = tt
-scalar_short (trees.object_id id) v h short = tt
 scalar_short (trees.text s) v h short = omega (arith, ap length h.1, string_length s)
 scalar_short (trees.symbol s) v h short = omega (arith, ap length h.1, string_length s)
 scalar_short (trees.code s) v h short = omega (arith, ap length h.1, string_length s)
@@ -36,14 +26,14 @@ scalar_short (trees.regex p o) v h short =
     (omega (arith, size), omega (arith, size))
 scalar_short (trees.binary k s) v h short =
     omega (arith, payload_short k s (k == 2) refl, ap length h.2, length-append (number (length (data_of k s))) (k ∷ data_of k s))
+scalar_short _ v h short = tt
 
 value_short : (t : Tree) (v : List ℕ) → IsValue t v → length v ≤ longest_document → (o : Own) → own_of t ≡ Some o → OwnIsShort o
 value_short (leaf a) v h short o is = let same : own a ≡ o = cc in subst OwnIsShort same (scalar_short a v h short)
-value_short (doc fs) v h short o is = absurd cc
-value_short (array ts) v h short o is = absurd cc
 value_short (code_scope s fs) v h short o is =
     let same : own_code s ≡ o = cc in
     subst OwnIsShort same (omega (arith, ap length h.2, scoped_length s (framed h.0), length-append (string s) (framed h.0), string_length s))
+value_short _ v h short o is = absurd cc
 
 pub own_short : (kind : Kind) (bytes : List ℕ) (s : Sound kind bytes) (o : Own) → own_of (stands s) ≡ Some o → OwnIsShort o
 own_short kind bytes s o is = value_short s.tree s.value s.spells s.short o (sym (ap own_of (stands_is s s)) ∙ is)

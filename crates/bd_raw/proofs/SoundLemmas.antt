@@ -1,7 +1,7 @@
 -- A document that is all of some bytes.
 use Rattle.std.proofs.Common.{◌≡◌, ℕ, List, [], refl, sym, ap, ◌∙◌, subst, ◌+◌, drop}
 use Rattle.std.proofs.lemmas.List.{append-nil}
-use Rattle.bd_value.specs.Tree.{Tree, leaf, doc, array, code_scope, Doc, fields_of, pairs_in, pairs_of-fields_of, fields_of-pairs_of}
+use Rattle.bd_value.specs.Tree.{Tree, leaf, doc, Doc, fields_of, pairs_in, pairs_of-fields_of, fields_of-pairs_of}
 use Rattle.bd_value.specs.Kind.{kind_of}
 use Rattle.bd_value.specs.declared.kind.Kind.{Kind}
 use Rattle.bd_value.specs.declared.kind.Kind.TheVariants as kinds
@@ -9,7 +9,7 @@ use Rattle.bd_raw.specs.Spelling.{IsDocument}
 use Rattle.bd_raw.specs.Sound.{Sound, Left, stands, stands_is, elements_left}
 use Rattle.bd_raw.specs.Unique as unique
 use Rattle.bd_raw.proofs.ValueAtLemmas.{kind_is}
-use Rattle.bd_raw.proofs.ContentsLemmas.{document_is}
+use Rattle.bd_raw.proofs.ContentsLemmas.{document_held}
 
 abbrev pub whole_sound : (bytes : List ℕ) (d : Doc) → IsDocument d bytes → Sound kinds.Doc bytes
 whole_sound bytes d h = record { tree = doc (fields_of d); value = bytes; after = []; spells = h.spells; kinded = refl; cut = sym (append-nil bytes); short = h.short }
@@ -20,7 +20,7 @@ whole_is bytes d h s =
     subst (λ (c : Doc). IsDocument c bytes) e h
 
 pub document_elements : (bytes : List ℕ) (start : ℕ) (s : Sound kinds.Doc (drop start bytes)) (g : Left (drop (start + 4) bytes)) → elements_left g ≡ pairs_in (stands s)
-document_elements bytes start s g = sym (ap pairs_in (document_is bytes start kinds.Doc s refl g) ∙ pairs_of-fields_of (elements_left g))
+document_elements bytes start s g = sym (ap pairs_in ((document_held bytes start kinds.Doc s refl).1 g) ∙ pairs_of-fields_of (elements_left g))
 
 -- a document is the pairs in it
 pub document_tree : (bytes : List ℕ) (s : Sound kinds.Doc bytes) → stands s ≡ doc (fields_of (pairs_in (stands s)))
@@ -29,8 +29,7 @@ document_tree bytes s = as_pairs (stands s) (ap kind_of (stands_is s s) ∙ kind
     as_pairs : (t : Tree) → kind_of t ≡ kinds.Doc → t ≡ doc (fields_of (pairs_in t))
     as_pairs (leaf a) k = absurd (unique.no_holder a kinds.Doc k refl)
     as_pairs (doc fs) k = ap doc (sym (fields_of-pairs_of fs))
-    as_pairs (array ts) k = absurd cc
-    as_pairs (code_scope code fs) k = absurd cc
+    as_pairs _ k = absurd cc
 
 -- the bytes spell one document at most
 pub document_unique : (bytes : List ℕ) (c d : Doc) → IsDocument c bytes → IsDocument d bytes → c ≡ d

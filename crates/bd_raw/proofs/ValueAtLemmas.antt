@@ -32,44 +32,35 @@ name_reads name rest h = record {
 binary_reads : (k : ℕ) (s r : List ℕ) → length (data_of k s) < 2 ^ 31 → BinaryAt ((number (length (data_of k s)) ++ k ∷ data_of k s) ++ r)
 binary_reads k s r lt =
     let count = binary_count k (data_of k s) r lt in
-    let size : length ((number (length (data_of k s)) ++ k ∷ data_of k s) ++ r)
-    ≡ 5 + length (data_of k s) + length r = omega (
-      arith,
-      length-append (number (length (data_of k s)) ++ k ∷ data_of k s) r,
-      length-append
-          (number (length (data_of k s))) (k ∷ data_of k s),
-      number_length (length (data_of k s)),
-    ) in
+    let head = number (length (data_of k s)) in
     record {
-      inside = omega (arith, count, size);
+      inside = omega (arith, count, length-append (head ++ k ∷ data_of k s) r, length-append head (k ∷ data_of k s), number_length (length (data_of k s)));
       inner = λ is. let two : (k == 2) ≡ true = let e = sym (binary_subtype k (data_of k s) r) ∙ is in grind (arith, nat_tests) in omega (arith, count, data_length k s two);
     }
 
-long_enough : (n : ℕ) (v r : List ℕ) → length v ≡ n → n ≤ length (v ++ r)
-long_enough n v r e = omega (arith, length-append v r)
+-- as many bytes as its size tells
+sized : (a : Scalar) (v r : List ℕ) → IsScalar a v → size_of (scalar_kind a) (v ++ r) ≤ length (v ++ r)
+sized a v r h = omega (arith, scalar_size a v r h, length-append v r)
 
 pub scalar_reads : (a : Scalar) (v r : List ℕ) → IsScalar a v → HasBytesOf (scalar_kind a) (v ++ r)
-scalar_reads trees.min_key v r h = tt
-scalar_reads trees.undefined v r h = tt
-scalar_reads trees.null v r h = tt
-scalar_reads trees.max_key v r h = tt
-scalar_reads (trees.int32 z) v r h = long_enough 4 v r (sym (scalar_size (trees.int32 z) v r h))
-scalar_reads (trees.int64 z) v r h = long_enough 8 v r (sym (scalar_size (trees.int64 z) v r h))
-scalar_reads (trees.date z) v r h = long_enough 8 v r (sym (scalar_size (trees.date z) v r h))
-scalar_reads (trees.timestamp s i) v r h = long_enough 8 v r (sym (scalar_size (trees.timestamp s i) v r h))
-scalar_reads (trees.boolean b) v r h = long_enough 1 v r (sym (scalar_size (trees.boolean b) v r h))
-scalar_reads (trees.object_id id) v r h = long_enough 12 v r (sym (scalar_size (trees.object_id id) v r h))
+scalar_reads (trees.int32 z) v r h = sized (trees.int32 z) v r h
+scalar_reads (trees.int64 z) v r h = sized (trees.int64 z) v r h
+scalar_reads (trees.date z) v r h = sized (trees.date z) v r h
+scalar_reads (trees.timestamp s i) v r h = sized (trees.timestamp s i) v r h
+scalar_reads (trees.boolean b) v r h = sized (trees.boolean b) v r h
+scalar_reads (trees.object_id id) v r h = sized (trees.object_id id) v r h
 scalar_reads (trees.text s) v r h = subst (λ (x : List ℕ). TextAt (x ++ r)) (sym h.1) (text_reads s r h.0)
 scalar_reads (trees.symbol s) v r h = subst (λ (x : List ℕ). TextAt (x ++ r)) (sym h.1) (text_reads s r h.0)
 scalar_reads (trees.code s) v r h = subst (λ (x : List ℕ). TextAt (x ++ r)) (sym h.1) (text_reads s r h.0)
 scalar_reads (trees.db_pointer s id) v r h =
     let whole : v ++ r ≡ string s ++ (id ++ r) = ap (λ (x : List ℕ). x ++ r) h.2 ∙ append_assoc (string s) id r in
-    (subst TextAt (sym whole) (text_reads s (id ++ r) h.0), omega (arith, scalar_size (trees.db_pointer s id) v r h, length-append v r))
+    (subst TextAt (sym whole) (text_reads s (id ++ r) h.0), omega (arith, sized (trees.db_pointer s id) v r h))
 scalar_reads (trees.binary k s) v r h = subst (λ (x : List ℕ). BinaryAt (x ++ r)) (sym h.2) (binary_reads k s r h.1)
 scalar_reads (trees.regex p o) v r h =
     let whole : v ++ r ≡ p ++ 0 ∷ (o ++ 0 ∷ r) = ap (λ (x : List ℕ). x ++ r) h.2 ∙ regex_whole p o r in
     let after : after_name (v ++ r) ≡ o ++ 0 ∷ r = ap after_name whole ∙ name_after p (o ++ 0 ∷ r) h.0 in
     (subst NameAt (sym whole) (name_reads p (o ++ 0 ∷ r) h.0), subst NameAt (sym after) (name_reads o r h.1))
+scalar_reads _ v r h = tt
 
 -- ---- sizes
 
@@ -99,9 +90,9 @@ size_is (code_scope s fs) v r h short = scoped_size s (framed h.0) v r h.2 short
 
 value_reads : (t : Tree) (v r : List ℕ) → IsValue t v → HasBytesOf (kind_of t) (v ++ r)
 value_reads (leaf a) v r h = scalar_reads a v r h
+value_reads (code_scope s fs) v r h = omega (arith, length-append v r, ap (λ (x : List ℕ). length x) h.2, scoped_length s (framed h.0))
 value_reads (doc fs) v r h = omega (arith, length-append v r, ap (λ (x : List ℕ). length x) h.2, framed_length h.0)
 value_reads (array ts) v r h = omega (arith, length-append v r, ap (λ (x : List ℕ). length x) h.2, framed_length h.0)
-value_reads (code_scope s fs) v r h = omega (arith, length-append v r, ap (λ (x : List ℕ). length x) h.2, scoped_length s (framed h.0))
 
 pub kind_is : (kind : Kind) (bytes : List ℕ) (s : Sound kind bytes) → kind_of s.tree ≡ kind
 kind_is kind bytes s = same_kind (kind_of s.tree) kind s.kinded

@@ -3,6 +3,8 @@ use Rattle.std.proofs.Common.{◌≡◌, ◌≢◌, ◌<◌, ◌≤◌, ◌+◌,
 use Rattle.std.proofs.Common.{Result, Ok, Err, Some, refl, sym, ap, ap₂, ◌∙◌, arith, true≢false, append_assoc, append-nil, length-append}
 use Rattle.std.specs.Prelude.{◌==◌, ◌^◌, IsUtf8, OnOk, IfErr, decimal}
 use Rattle.std.proofs.lemmas.Bool.Decides.{nat_tests}
+use Rattle.std.proofs.lemmas.Bool.{or_parts}
+use Rattle.bd_raw.proofs.ValueAtLemmas.{framed_length, scoped_length}
 use Rattle.std.specs.Char.{digit_value}
 use Rattle.std.specs.Str.Parse.{AllDigits}
 use Rattle.std.proofs.lemmas.Fmt.{decimal_is_IsNumeral}
@@ -17,19 +19,15 @@ use Rattle.bd_write.specs.TreeBytes.{OverrunsLimit}
 use Rattle.bd_write.specs.declared.writing.WriteFault.{WriteFault}
 use Rattle.bd_write.specs.declared.writing.WriteFault.TheVariants as faults
 
-pub neither : (a b : Bool) → (a || b) ≡ false → (a ≡ false) × (b ≡ false)
-neither true b is = absurd (true≢false is)
-neither false b is = (refl, is)
-
 no_zeros : (bytes : List ℕ) → has_zero bytes ≡ false → AllByRecursion (λ b. b ≢ 0) bytes
 no_zeros [] is = _
-no_zeros (b ∷ bytes) is = let n = neither (b == 0) (has_zero bytes) is in ((λ e. true≢false (sym (ap (λ x. x == 0) e) ∙ n.0)), no_zeros bytes n.1)
+no_zeros (b ∷ bytes) is = let n = or_parts (b == 0) (has_zero bytes) is in ((λ e. true≢false (sym (ap (λ x. x == 0) e) ∙ n.0)), no_zeros bytes n.1)
 
 pub is_name : (bytes : List ℕ) → IsUtf8 bytes → has_zero bytes ≡ false → IsName bytes
 is_name bytes text is = (text, no_zeros bytes is)
 
 pub are_names : (a b : List ℕ) → IsUtf8 a → IsUtf8 b → (has_zero a || has_zero b) ≡ false → IsName a × IsName b
-are_names a b p q is = let n = neither (has_zero a) (has_zero b) is in (is_name a p n.0, is_name b q n.1)
+are_names a b p q is = let n = or_parts (has_zero a) (has_zero b) is in (is_name a p n.0, is_name b q n.1)
 
 -- ---- results
 
@@ -65,19 +63,17 @@ sealed_size old rest out is = omega (arith, ap (λ xs. length xs) is, length-app
 pub framed_is : (body : List ℕ) → number (length (body ++ 0 ∷ []) + 4) ++ (body ++ 0 ∷ []) ≡ framed body
 framed_is body = ap (λ n. number n ++ (body ++ 0 ∷ [])) (omega (arith, length-append body (0 ∷ [])))
 
-pub framed_size : (body : List ℕ) → length (framed body) ≡ length body + 5
-framed_size body = omega (arith, length-append (number (length body + 5)) (body ++ 0 ∷ []), number_length (length body + 5), length-append body (0 ∷ []))
-
 -- what a loop wrote, with nothing left to come, and the zero after it
 pub ended : (old body last none out : List ℕ) → last ++ none ≡ (old ++ number 0) ++ body → none ≡ [] → out ≡ last ++ 0 ∷ [] → out ≡ (old ++ number 0) ++ (body ++ 0 ∷ [])
 ended old body last none out whole is more =
-    more ∙ ap (λ x. x ++ 0 ∷ []) (sym (append-nil last) ∙ ap (λ x. last ++ x) (sym is) ∙ whole) ∙ append_assoc (old ++ number 0) body (0 ∷ [])
+    let all : last ≡ (old ++ number 0) ++ body = sym (append-nil last) ∙ ap (λ x. last ++ x) (sym is) ∙ whole in
+    rw (more, all) (simp append_assoc)
 
 pub frame_ok : (old body out : List ℕ) (at : ℕ) → out ≡ (old ++ number 0) ++ (body ++ 0 ∷ []) → at ≡ length old → take at out ++ (number (length out - at) ++ drop (at + 4) out) ≡ old ++ framed body
 frame_ok old body out at is here = sealed old (body ++ 0 ∷ []) out at is here ∙ ap (λ x. old ++ x) (framed_is body)
 
 pub frame_total : (old body out : List ℕ) → out ≡ (old ++ number 0) ++ (body ++ 0 ∷ []) → length out ≡ length old + length (framed body)
-frame_total old body out is = omega (arith, sealed_size old (body ++ 0 ∷ []) out is, length-append body (0 ∷ []), framed_size body)
+frame_total old body out is = omega (arith, sealed_size old (body ++ 0 ∷ []) out is, length-append body (0 ∷ []), framed_length body)
 
 -- an element that is to come is within the frame
 pub element_within : (old body out piece rest : List ℕ) → out ++ (piece ++ rest) ≡ (old ++ number 0) ++ body → length out + length piece ≤ length old + length (framed body)
@@ -90,41 +86,28 @@ element_within old body out piece rest whole =
       length-append (old ++ number 0) body,
       length-append old (number 0),
       number_length 0,
-      framed_size body,
+      framed_length body,
     )
 
 -- ---- code with scope
 
 pub code_parts : (t u : Tree) (o : Own) → own_of t ≡ Some o → scope_of t ≡ Some u → (s : List ℕ) × (fs : Fields) × (t ≡ code_scope s fs) × (o ≡ own_code s) × (u ≡ doc fs)
-code_parts (leaf s) u o own scope = absurd cc
-code_parts (doc fs) u o own scope = absurd cc
-code_parts (array ts) u o own scope = absurd cc
 code_parts (code_scope s fs) u o own scope = (s, fs, refl, cc, cc)
+code_parts _ u o own scope = absurd cc
 
 pub scoped_ok : (old code scope out : List ℕ) (at : ℕ) → out ≡ (old ++ number 0) ++ (string code ++ scope) → at ≡ length old
     → take at out ++ (number (length out - at) ++ drop (at + 4) out) ≡ old ++ scoped code scope
 scoped_ok old code scope out at is here = sealed old (string code ++ scope) out at is here
 
 pub scoped_size : (code scope : List ℕ) → length (scoped code scope) ≡ 4 + (length (string code) + length scope)
-scoped_size code scope = omega (
-  arith,
-  length-append (number (length (string code ++ scope) + 4)) (string code ++ scope),
-  number_length
-      (length (string code ++ scope) + 4),
-  length-append (string code) scope,
-)
-
-pub zero_doc : (t : Tree) (ps : Doc) → t ≡ doc (fields_of ps) → zero_in t ≡ false → zero_in_fields (fields_of ps) ≡ false
-zero_doc t ps is z = sym (ap zero_in is) ∙ z
-
-pub zero_array : (t : Tree) (ts : List Tree) → t ≡ array (items_of ts) → zero_in t ≡ false → zero_in_items (items_of ts) ≡ false
-zero_array t ts is z = sym (ap zero_in is) ∙ z
+scoped_size code scope = omega (arith, scoped_length code scope, length-append (string code) scope)
 
 pub code_out : (old one two out code scope : List ℕ) → one ≡ old ++ number 0 → two ≡ one ++ string code → out ≡ two ++ scope → out ≡ (old ++ number 0) ++ (string code ++ scope)
-code_out old one two out code scope p q r = r ∙ ap (λ x. x ++ scope) (q ∙ ap (λ x. x ++ string code) p) ∙ append_assoc (old ++ number 0) (string code) scope
+code_out old one two out code scope p q r = rw (r, q, p) (simp append_assoc)
 
-pub front_total : (old one piece : List ℕ) (total : ℕ) → one ≡ old ++ number 0 → length piece + 4 ≤ total → length one + length piece ≤ length old + total
-front_total old one piece total is le = omega (arith, ap (λ xs. length xs) is, length-append old (number 0), number_length 0)
+-- how many bytes stand before the scope
+pub opened : (old one two code : List ℕ) → one ≡ old ++ number 0 → two ≡ one ++ code → length two ≡ length old + 4 + length code
+opened old one two code p q = omega (arith, ap (λ xs. length xs) q, ap (λ xs. length xs) p, length-append one code, length-append old (number 0), number_length 0)
 
 -- ---- the digits of a place
 

@@ -1,9 +1,8 @@
 use Rattle.std.proofs.Common.{sym}
-use Rattle.bd_check.proofs.FastPathLemmas.{inside, first_zero, ascii_before}
+use Rattle.bd_check.proofs.FastPathLemmas.{named}
 use Rattle.bd_check.proofs.fast_path.after_name.Goals as goal
 
 pub returns : goal.returns
 returns c =
-    let here = sym c.in_ok-k.ensures in
-    let zero = first_zero c.args.bytes.now c.in_ok-k.k here c.if-bytes-k-ne0.false in
-    (c.in_ok-k.k, zero, ascii_before c.args.bytes.now c.in_ok-k.k here, inside c.args.bytes.now c.in_ok-k.k here, c.split_at.ensures.back)
+    let name = named c.args.bytes.now c.in_ok-k.k (sym c.in_ok-k.ensures) c.if-bytes-k-ne0.false in
+    (c.in_ok-k.k, name.0, name.1, name.2, c.split_at.ensures.back)

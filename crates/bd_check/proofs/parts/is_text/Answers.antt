@@ -1,6 +1,6 @@
 use Rattle.std.proofs.Common.{sym}
-use Rattle.std.proofs.lemmas.Str.{is_utf8-from_IsUtf8, IsUtf8-from_ascii}
-use Rattle.bd_check.proofs.TextLemmas.{is_no_text}
+use Rattle.std.proofs.lemmas.Str.{is_utf8-from_IsUtf8, IsUtf8-from_is_utf8, IsUtf8-from_ascii}
+use Rattle.std.proofs.lemmas.Bool.{false_from_ne_true}
 use Rattle.bd_check.proofs.parts.is_text.Goals as goal
 
 pub returns-then-is_short_ascii : goal.returns-then-is_short_ascii
@@ -10,4 +10,4 @@ pub returns-in-Ok : goal.returns-in-Ok
 returns-in-Ok c = sym (is_utf8-from_IsUtf8 c.args.bytes.now c.in-Ok.ensures.cases.1)
 
 pub returns-in-Err : goal.returns-in-Err
-returns-in-Err c = sym (is_no_text c.args.bytes.now c.in-Err.ensures.cases.0)
+returns-in-Err c = sym (false_from_ne_true _ (λ e. c.in-Err.ensures.cases.0 (IsUtf8-from_is_utf8 c.args.bytes.now e)))

@@ -1,8 +1,8 @@
 use Rattle.std.proofs.Common.{refl}
-use Rattle.std.proofs.lemmas.Str.{is_utf8-from_IsUtf8, IsUtf8-from_ascii}
+use Rattle.std.proofs.lemmas.Str.{is_utf8-from_IsUtf8, IsUtf8-from_is_utf8, IsUtf8-from_ascii}
 use Rattle.bd_check.specs.FirstFault.{text_at}
 use Rattle.bd_check.proofs.AnsweredFaultLemmas.{told_fails}
-use Rattle.bd_check.proofs.TextLemmas.{is_no_text}
+use Rattle.std.proofs.lemmas.Bool.{false_from_ne_true}
 use Rattle.bd_check.proofs.parts.text.Goals as goal
 
 pub returns-in-Ok : goal.returns-in-Ok
@@ -11,7 +11,7 @@ returns-in-Ok c = rw (is_utf8-from_IsUtf8 c.args.bytes.now c.in-Ok.ensures.cases
 pub returns-in-Err : goal.returns-in-Err
 returns-in-Err c =
     told_fails c.fault_at.result _ (text_at c.args.at c.args.bytes.now) c.fault_at.ensures
-    (rw (is_no_text c.args.bytes.now c.in-Err.ensures.cases.0, c.valid_up_to.ensures, c.in-Err.ensures.valid_len) refl)
+    (rw (false_from_ne_true _ (λ e. c.in-Err.ensures.cases.0 (IsUtf8-from_is_utf8 c.args.bytes.now e)), c.valid_up_to.ensures, c.in-Err.ensures.valid_len) refl)
 
 pub from_utf8_unchecked-requires : goal.from_utf8_unchecked-requires
 from_utf8_unchecked-requires c = IsUtf8-from_ascii c.args.bytes.now (c.is_short_ascii.ensures c.if-is_short_ascii.true)

@@ -1,4 +1,4 @@
-use Rattle.std.proofs.Common.{◌≡◌, ◌≤◌, ◌++◌, length, option_map, List, ◌+◌, ◌*◌}
+use Rattle.std.proofs.Common.{◌≡◌, ◌≤◌, ◌++◌, length, List, ◌+◌, ◌*◌}
 use Rattle.std.specs.Prelude.{IfSome}
 use denote.Shadow.{shadow}
 use denote.Text.{Utf8}
@@ -23,7 +23,7 @@ decreases-append_fields l = 2 * l.room + 1
 abbrev pub invariant-append_items-loop-next : goal.invariant-append_items-loop-next
 invariant-append_items-loop-next l =
     (ts : List Tree) × AreCanonical l.room ts
-    × IsReadTo 91 l.fn.text (items_text (items_of ts)) l.rest (option_map (λ s. s.now) l.next)
+    × IsReadTo 91 l.fn.text (items_text (items_of ts)) l.rest l.next
     × shadow (Utf8 l.rest) × IfSome l.next (λ at. length at.now ≤ length l.rest)
     × (l.out.items ≡ (l.fn.out.items ++ number 0) ++ items_bytes 0 (items_of ts))
     × (l.place ≡ length ts)
@@ -34,7 +34,7 @@ decreases-append_items-loop-next l = length l.rest
 abbrev pub invariant-append_fields-loop-next : goal.invariant-append_fields-loop-next
 invariant-append_fields-loop-next l =
     (ps : Doc) × AreCanonicalFields l.room ps
-    × IsReadTo 123 l.fn.text (fields_text (fields_of ps)) l.rest (option_map (λ s. s.now) l.next)
+    × IsReadTo 123 l.fn.text (fields_text (fields_of ps)) l.rest l.next
     × shadow (Utf8 l.rest) × IfSome l.next (λ at. length at.now ≤ length l.rest)
     × (l.out.items ≡ (l.fn.out.items ++ number 0) ++ fields_bytes (fields_of ps))
 

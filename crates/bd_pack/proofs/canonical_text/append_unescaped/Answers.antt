@@ -1,5 +1,5 @@
-use Rattle.std.proofs.Common.{rules, arith, ap, ◌∙◌, ◌++◌, ◌∷◌, []}
-use Rattle.bd_pack.proofs.CanonicalLemmas.{run_begins, run_goes_on, run_shorter, run_ends, pushed, pieces_put}
+use Rattle.std.proofs.Common.{refl, rules, arith, ap, ◌∙◌, ◌++◌, ◌∷◌, []}
+use Rattle.bd_pack.proofs.CanonicalLemmas.{run_goes_on, run_shorter, run_ends, pushed, pieces_put}
 use Rattle.bd_pack.proofs.canonical_text.append_unescaped.Goals as goal
 
 pub loop-byte-smaller : goal.loop-byte-smaller
@@ -9,7 +9,7 @@ loop-byte-smaller c =
 pub loop-byte-init : goal.loop-byte-init
 loop-byte-init c = (
   c.in_ok-plain.plain.now,
-  run_begins c.args.text.now c.in_ok-after_word.field-0.now c.in_ok-plain.plain.now c.in_ok-plain.rest.now c.in_ok-after_word.ensures c.in_ok-plain.ensures,
+  rw (c.in_ok-after_word.ensures, c.in_ok-plain.ensures) refl,
   search rules,
   pushed c.push_str.result c.in_ok-ok.field-0 _ _ _ c.in_ok-ok.ensures.value c.push_str.ensures.bytes,
 )

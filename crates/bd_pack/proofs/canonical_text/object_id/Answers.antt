@@ -1,9 +1,12 @@
-use Rattle.bd_pack.proofs.CanonicalLemmas.{object_id_read}
+use Rattle.std.proofs.Common.{refl}
+use Rattle.std.specs.Prelude.{codes}
+use Rattle.bd_value.specs.Tree as trees
+use Rattle.bd_text.specs.Text.{scalar_text, quoted, escape_byte, hex_text}
+use Rattle.bd_pack.proofs.CanonicalLemmas.{wrapped}
 use Rattle.bd_pack.proofs.canonical_text.object_id.Goals as goal
 
 pub returns : goal.returns
-returns c = (
-  object_id_read c.args.text.now c.in_ok-after_word.field-0.now c.in_ok-id.rest.now c.in_ok-after_word-2.field-0.now c.in_ok-id.id
-      c.in_ok-after_word.ensures c.in_ok-id.ensures.0 c.in_ok-after_word-2.ensures,
-  c.in_ok-id.ensures.1,
-)
+unfolding scalar_text quoted escape_byte
+returns c =
+    let id = c.in_ok-id.id in
+    (wrapped (codes "{\"$oid\":") (quoted (hex_text id)) (codes "}") (scalar_text (trees.object_id id)) _ _ _ _ c.in_ok-after_word.ensures c.in_ok-id.ensures.0 c.in_ok-after_word-2.ensures refl, c.in_ok-id.ensures.1)

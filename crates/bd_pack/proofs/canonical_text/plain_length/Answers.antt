@@ -1,23 +1,22 @@
 use Rattle.std.proofs.Common.{sym, ap, arith}
 use lib.Count.{count_trailing_zeros}
-use Rattle.bd_pack.proofs.VectorLemmas.{all_quiet, quiet_to_first, first_within}
+use Rattle.bd_pack.proofs.VectorLemmas.{all_quiet, stops_within}
 use Rattle.bd_pack.proofs.canonical_text.plain_length.Goals as goal
 
 pub returns-then-found-ne0-clause-within : goal.returns-then-found-ne0-clause-within
 returns-then-found-ne0-clause-within c =
-    let found = c.stops-found in
+    let found = c.stops-found.ensures in
     let l = c.loop-passed in
-    let le = first_within c.args.text.now l.passed (omega arith) l.invariant.1 _ (omega (arith, found.ensures)) (ap (count_trailing_zeros 64) found.ensures) in
-    omega (arith, le)
+    let stop = stops_within c.args.text.now l.passed (omega arith) l.invariant.1 _ (omega (arith, found)) (ap (count_trailing_zeros 64) found) in
+    omega (arith, stop.0)
 
 pub returns-then-found-ne0-clause-plain : goal.returns-then-found-ne0-clause-plain
 returns-then-found-ne0-clause-plain c =
-    let found = c.stops-found in
+    let found = c.stops-found.ensures in
     let l = c.loop-passed in
-    quiet_to_first c.args.text.now l.passed (omega arith) l.invariant.1 _ (omega (arith, found.ensures)) (ap (count_trailing_zeros 64) found.ensures)
+    (stops_within c.args.text.now l.passed (omega arith) l.invariant.1 _ (omega (arith, found)) (ap (count_trailing_zeros 64) found)).1
 
 pub loop-passed-preserved : goal.loop-passed-preserved
 loop-passed-preserved c =
     let l = c.loop-passed in
-    let none = sym c.stops-found.ensures in
-    (omega arith, all_quiet c.args.text.now l.passed (omega arith) l.invariant.1 (omega (arith, none)))
+    (omega arith, all_quiet c.args.text.now l.passed (omega arith) l.invariant.1 (omega (arith, sym c.stops-found.ensures)))

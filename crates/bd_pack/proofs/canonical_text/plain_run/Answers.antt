@@ -8,6 +8,5 @@ use Rattle.bd_pack.proofs.canonical_text.plain_run.Goals as goal
 pub returns : goal.returns
 returns c =
     let n = c.plain_length.result in
-    let same = sym c.as_bytes.ensures.value in
-    let plain = ap (λ x. list_any needs_escape (take n x)) same ∙ quiet_front c.as_bytes.result.now n c.plain_length.ensures.within c.plain_length.ensures.plain in
+    let plain = quiet_front c.args.text.now c.as_bytes.result.now n c.as_bytes.ensures.value c.plain_length.ensures.within c.plain_length.ensures.plain in
     run_read c.args.text.now n c.split_at_checked.result c.split_at_checked.ensures.front c.split_at_checked.ensures.back plain

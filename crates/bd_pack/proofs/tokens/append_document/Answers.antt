@@ -1,5 +1,4 @@
 use Rattle.std.proofs.Common.{◌-◌, ◌≡◌, ◌∷◌, [], None, length, option_map, option_and_then, sym, ap, ◌∙◌, arith}
-use Rattle.std.proofs.lemmas.Result.{MatchResult-at_ok}
 use Rattle.bd_value.specs.Limits.{most_brackets, most_levels}
 use Rattle.json.specs.Json.{value, parse_map}
 use Rattle.json.specs.Reads.{token_of}
@@ -20,11 +19,11 @@ returns-clause-gives c =
     let rest = c.append_fields.new.reader in
     let key = option_map (λ s. s.now) c.in_ok-first.first in
     let g = c.in_ok-append_fields.ensures.gives in
-    let whole = bodies.if_ok c.new.result ts _ c.in_ok-reader.ensures.value c.new.ensures.ok in
+    let whole = bodies.if_ok c.new.result ts _ _ c.in_ok-reader.ensures.value c.new.ensures.ok in
     let first : ts ≡ token_of c.in-Some-BeginObject.field-0 ∷ s = grind arith in
     let opened = ap (through (wrap most_levels)) (ap (value most_brackets) (first ∙ ap (λ k. token_of k ∷ s) c.in-Some-BeginObject.field-0-is))
     ∙ steps.object_read most_levels most_brackets s (omega arith) in
-    let read = MatchResult-at_ok _ _ c.in_ok-first.first (bodies.ok_is c.next_key.result c.in_ok-first.first c.in_ok-first.ensures.value) c.next_key.ensures.value in
+    let read = bodies.if_ok c.next_key.result c.in_ok-first.first _ _ c.in_ok-first.ensures.value c.next_key.ensures.value in
     let start = ap (through (wrap_object most_levels)) (steps.first_name (most_brackets - 1) s r key read) in
     let none : option_and_then wrapper_of key ≡ None = sym c.wrapper_named.ensures ∙ bodies.not_some c.wrapper_named.result (sym c.is_some.ensures ∙ c.if-is_some.false) in
     let plain = steps.object_is_plain most_levels (most_brackets - 1) (length r) r key (omega arith) none in

@@ -1,7 +1,8 @@
 use Rattle.std.proofs.Common.{Some, length}
 use Rattle.bd_value.specs.View.{tree_of}
 use Rattle.bd_wrapper.specs.Progress.{after_key}
-use Rattle.bd_pack.proofs.BodyLemmas.{gave, if_some}
+use Rattle.bd_pack.proofs.BodyLemmas.{gave}
+use Rattle.std.proofs.lemmas.Option.{IfSome_then}
 use Rattle.bd_pack.proofs.PlainLemmas.{object_plain}
 use Rattle.bd_pack.proofs.tokens.append_wrapped.Goals as goal
 
@@ -15,5 +16,5 @@ append_read-requires c =
 pub returns-clause-gives : goal.returns-clause-gives
 returns-clause-gives c =
     let v = c.in_ok-value.value in
-    if_some c.append_read.result _ _ c.append_read.ensures
-    (λ e. (tree_of v, (λ first named. gave tree_of c.read_wrapper.result v c.read_wrapper.new.reader _ c.in_ok-value.ensures.value (c.read_wrapper.ensures.gives first named)), e))
+    IfSome_then c.append_read.result c.append_read.ensures
+    (λ u e. (tree_of v, (λ first named. gave tree_of c.read_wrapper.result v c.read_wrapper.new.reader _ c.in_ok-value.ensures.value (c.read_wrapper.ensures.gives first named)), e))

@@ -1,5 +1,5 @@
 use Rattle.std.proofs.Common.{◌≡◌, length, option_map, option_and_then, sym, ap, ◌∙◌, arith}
-use Rattle.std.proofs.lemmas.Result.{MatchResult-at_ok}
+use Rattle.std.proofs.lemmas.Option.{IfSome_then}
 use Rattle.bd_value.specs.Limits.{most_levels}
 use Rattle.bd_value.specs.Tree.{doc, pairs_of, fields_of, fields_of-pairs_of}
 use Rattle.bd_write.specs.TreeBytes.{bytes_of}
@@ -10,9 +10,9 @@ use Rattle.bd_pack.proofs.tokens.spell_line.Goals as goal
 
 pub returns : goal.returns
 returns c =
-    let same = (MatchResult-at_ok _ _ c.in_ok-text.text (bodies.ok_is c.from_utf8.result c.in_ok-text.text c.in_ok-text.ensures.value) c.from_utf8.ensures.cases).0 in
-    bodies.if_some c.append_document.result _ _ (bodies.both_some c.append_document.result _ _ c.append_document.ensures.gives c.append_document.ensures.within)
-    (λ g.
+    let same = (bodies.if_ok c.from_utf8.result c.in_ok-text.text _ _ c.in_ok-text.ensures.value c.from_utf8.ensures.cases).0 in
+    IfSome_then c.append_document.result (bodies.both_some c.append_document.result _ _ c.append_document.ensures.gives c.append_document.ensures.within)
+    (λ u g.
     let fs = g.0.0 in
     let back : bytes_of (doc fs) ≡ bytes_of (doc (fields_of (pairs_of fs))) = ap (λ x. bytes_of (doc x)) (sym (fields_of-pairs_of fs)) in
     let out : c.append_document.new.out.items ≡ bytes_of (doc fs) = rw c.clear-2.ensures.items at g.0.2 in

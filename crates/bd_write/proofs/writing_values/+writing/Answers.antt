@@ -2,6 +2,7 @@ use Rattle.std.proofs.Common.{rules, arith, ◌≡◌, ◌≤◌, ◌+◌, ◌++
 use Rattle.std.specs.Io.{StartsWith}
 use Rattle.std.specs.Prelude.{OnOk, IfErr, decimal}
 use Rattle.std.proofs.lemmas.Result.{err_from_is_err_and}
+use Rattle.std.proofs.lemmas.Bool.{or_parts}
 use Rattle.bd_value.specs.Tree.{Tree, doc, fields_of, items_of}
 use Rattle.bd_value.specs.Parts.{values_of}
 use Rattle.bd_value.specs.OwnPart.{seen}
@@ -56,55 +57,29 @@ append_fields-returns-clause-err g t c =
 
 pub put_value-append_fields-requires : goal.put_value-append_fields-requires
 put_value-append_fields-requires g t c κs within =
-    let tree = g.N.Reading.tree c.args.node in
-    let ps = g.N.Reading.left c.parts.result in
-    let s = parted.parts_smaller tree ps c.parts.ensures.parts in
+    let is = parted.doc_is (g.N.Reading.tree c.args.node) (g.N.Reading.left c.parts.result) (sym c.kind.ensures ∙ c.in-Doc.is) c.parts.ensures.parts in
+    let s = parted.parts_smaller (g.N.Reading.tree c.args.node) (g.N.Reading.left c.parts.result) c.parts.ensures.parts in
     let e = c.decreases in
-    (omega arith, (within.0, (within.1, writes.zero_doc tree ps (parted.doc_is tree ps (sym c.kind.ensures ∙ c.in-Doc.is) c.parts.ensures.parts) c.requires)))
+    (omega arith, (within.0, (within.1, rw is at c.requires)))
 
 pub put_value-append_items-requires : goal.put_value-append_items-requires
 put_value-append_items-requires g t c κs within =
-    let tree = g.N.Reading.tree c.args.node in
-    let ps = g.N.Reading.left c.parts-in-Array.result in
-    let s = parted.parts_smaller tree ps c.parts-in-Array.ensures.parts in
+    let is = parted.array_is (g.N.Reading.tree c.args.node) (g.N.Reading.left c.parts-in-Array.result) (sym c.kind.ensures ∙ c.in-Array.is) c.parts-in-Array.ensures.parts in
+    let s = parted.parts_smaller (g.N.Reading.tree c.args.node) (g.N.Reading.left c.parts-in-Array.result) c.parts-in-Array.ensures.parts in
     let e = c.decreases in
-    (omega arith, (within.0, (within.1, writes.zero_array tree (values_of ps) (parted.array_is tree ps (sym c.kind.ensures ∙ c.in-Array.is) c.parts-in-Array.ensures.parts) c.requires)))
+    (omega arith, (within.0, (within.1, rw is at c.requires)))
 
-pub put_value-returns-in-Doc-clause-ok : goal.put_value-returns-in-Doc-clause-ok
-put_value-returns-in-Doc-clause-ok g t c =
-    let tree = g.N.Reading.tree c.args.node in
-    let e = parted.doc_is tree (g.N.Reading.left c.parts.result) (sym c.kind.ensures ∙ c.in-Doc.is) c.parts.ensures.parts in
-    subst (λ (x : Tree). OnOk c.append_fields.result (c.append_fields.new.out.items ≡ c.args.out.now.items ++ bytes_of x)) (sym e) c.append_fields.ensures.ok
+pub put_value-returns-in-Doc : goal.put_value-returns-in-Doc
+put_value-returns-in-Doc g t c =
+    let is = parted.doc_is (g.N.Reading.tree c.args.node) (g.N.Reading.left c.parts.result) (sym c.kind.ensures ∙ c.in-Doc.is) c.parts.ensures.parts in
+    let r = c.append_fields.ensures in
+    record { ok = rw is r.ok; spells = rw is (writes.ok_on c.append_fields.result _ _ r.spells (λ are. (_, are, refl))); err = rw is r.err; front = r.front }
 
-pub put_value-returns-in-Doc-clause-spells : goal.put_value-returns-in-Doc-clause-spells
-put_value-returns-in-Doc-clause-spells g t c =
-    let tree = g.N.Reading.tree c.args.node in
-    let e = parted.doc_is tree (g.N.Reading.left c.parts.result) (sym c.kind.ensures ∙ c.in-Doc.is) c.parts.ensures.parts in
-    subst (λ (x : Tree). OnOk c.append_fields.result (IsValue x (bytes_of x))) (sym e) (writes.ok_on c.append_fields.result _ _ c.append_fields.ensures.spells (λ are. (_, are, refl)))
-
-pub put_value-returns-in-Doc-clause-err : goal.put_value-returns-in-Doc-clause-err
-put_value-returns-in-Doc-clause-err g t c =
-    let tree = g.N.Reading.tree c.args.node in
-    let e = parted.doc_is tree (g.N.Reading.left c.parts.result) (sym c.kind.ensures ∙ c.in-Doc.is) c.parts.ensures.parts in
-    subst (λ (x : Tree). IfErr c.append_fields.result (OverrunsLimit (length c.args.out.now.items + length (bytes_of x)))) (sym e) c.append_fields.ensures.err
-
-pub put_value-returns-in-Array-clause-ok : goal.put_value-returns-in-Array-clause-ok
-put_value-returns-in-Array-clause-ok g t c =
-    let tree = g.N.Reading.tree c.args.node in
-    let e = parted.array_is tree (g.N.Reading.left c.parts-in-Array.result) (sym c.kind.ensures ∙ c.in-Array.is) c.parts-in-Array.ensures.parts in
-    subst (λ (x : Tree). OnOk c.append_items.result (c.append_items.new.out.items ≡ c.args.out.now.items ++ bytes_of x)) (sym e) c.append_items.ensures.ok
-
-pub put_value-returns-in-Array-clause-spells : goal.put_value-returns-in-Array-clause-spells
-put_value-returns-in-Array-clause-spells g t c =
-    let tree = g.N.Reading.tree c.args.node in
-    let e = parted.array_is tree (g.N.Reading.left c.parts-in-Array.result) (sym c.kind.ensures ∙ c.in-Array.is) c.parts-in-Array.ensures.parts in
-    subst (λ (x : Tree). OnOk c.append_items.result (IsValue x (bytes_of x))) (sym e) (writes.ok_on c.append_items.result _ _ c.append_items.ensures.spells (λ are. (_, are, refl)))
-
-pub put_value-returns-in-Array-clause-err : goal.put_value-returns-in-Array-clause-err
-put_value-returns-in-Array-clause-err g t c =
-    let tree = g.N.Reading.tree c.args.node in
-    let e = parted.array_is tree (g.N.Reading.left c.parts-in-Array.result) (sym c.kind.ensures ∙ c.in-Array.is) c.parts-in-Array.ensures.parts in
-    subst (λ (x : Tree). IfErr c.append_items.result (OverrunsLimit (length c.args.out.now.items + length (bytes_of x)))) (sym e) c.append_items.ensures.err
+pub put_value-returns-in-Array : goal.put_value-returns-in-Array
+put_value-returns-in-Array g t c =
+    let is = parted.array_is (g.N.Reading.tree c.args.node) (g.N.Reading.left c.parts-in-Array.result) (sym c.kind.ensures ∙ c.in-Array.is) c.parts-in-Array.ensures.parts in
+    let r = c.append_items.ensures in
+    record { ok = rw is r.ok; spells = rw is (writes.ok_on c.append_items.result _ _ r.spells (λ are. (_, are, refl))); err = rw is r.err; front = r.front }
 
 pub append_items-append_element-requires : goal.append_items-append_element-requires
 append_items-append_element-requires g t c κs within =
@@ -112,7 +87,7 @@ append_items-append_element-requires g t c κs within =
     let zero = rw c.in-Some.ensures.some at c.loop-next.invariant.zero in
     let e = c.decreases in
     let name : has_zero c.format.result.now ≡ false = rw c.format.ensures.text (writes.decimal_no_zero c.loop-next.place (search rules)) in
-    (omega (arith, less, e), (within.0, (within.1, (name, (writes.neither _ _ zero).0))))
+    (omega (arith, less, e), (within.0, (within.1, (name, (or_parts _ _ zero).0))))
 
 pub append_items-returns-in_err-append_element-clause-err : goal.append_items-returns-in_err-append_element-clause-err
 append_items-returns-in_err-append_element-clause-err g t c =
@@ -144,7 +119,7 @@ append_items-loop-next-preserved g t c =
       whole = ap₂ (λ (x : List ℕ) (n : ℕ). x ++ items_bytes n after) wrote next ∙ append_assoc l.out.items piece (items_bytes (suc place) after) ∙ whole;
       spelled = λ are. spelled (decimal place, _, _, spells.0, spells.1, subst (λ (n : ℕ). AreItems after (items_bytes n after)) next are, refl);
       front = front_more _ _ _ _ l.invariant.front wrote;
-      zero = (writes.neither _ _ zero).1;
+      zero = (or_parts _ _ zero).1;
       fewer = omega (arith, less);
       few = omega (arith, l.invariant.few, ap (λ (xs : List ℕ). length xs) wrote, length-append l.out.items piece);
     }
@@ -180,75 +155,55 @@ append_items-returns-clause-err g t c =
 
 pub append_leaf-returns-in_err-write_scalar-clause-err : goal.append_leaf-returns-in_err-write_scalar-clause-err
 append_leaf-returns-in_err-write_scalar-clause-err g t c =
-    let tree = g.N.Reading.tree c.args.node in
-    let code = writes.code_parts tree (g.N.Reading.tree c.in-Some-scope.scope) (seen c.in-Some.own) (sym c.in-Some.ensures) (sym c.in-Some-scope.ensures.scope) in
+    let code = writes.code_parts (g.N.Reading.tree c.args.node) _ _ (sym c.in-Some.ensures) (sym c.in-Some-scope.ensures.scope) in
     let r = c.from_residual-in_err-write_scalar in
     let p = err_from_is_err_and r.result r.ensures.1 in
     let own = rw code.3 at c.in_err-write_scalar.ensures.err in
     let total = writes.scoped_size code.0 (bytes_of (doc code.1)) in
     let le : length c.write_number.new.out.items + length (string code.0) ≤ length c.args.out.now.items + length (scoped code.0 (bytes_of (doc code.1))) =
-    writes.front_total c.args.out.now.items c.write_number.new.out.items (string code.0) (length (scoped code.0 (bytes_of (doc code.1)))) c.in_ok-write_number.ensures.ok (omega (arith, total)) in
+    omega (arith, total, ap (λ xs. length xs) c.in_ok-write_number.ensures.ok, length-append c.args.out.now.items (number 0), number_length 0) in
     rw (p.1, p.2, code.2) (writes.overruns_more _ _ c.in_err-write_scalar.field-0.0 le own)
 
 pub append_leaf-returns-in_err-put_value-clause-err : goal.append_leaf-returns-in_err-put_value-clause-err
 append_leaf-returns-in_err-put_value-clause-err g t c =
-    let tree = g.N.Reading.tree c.args.node in
-    let code = writes.code_parts tree (g.N.Reading.tree c.in-Some-scope.scope) (seen c.in-Some.own) (sym c.in-Some.ensures) (sym c.in-Some-scope.ensures.scope) in
+    let code = writes.code_parts (g.N.Reading.tree c.args.node) _ _ (sym c.in-Some.ensures) (sym c.in-Some-scope.ensures.scope) in
     let r = c.from_residual-in_err-put_value in
     let p = err_from_is_err_and r.result r.ensures.1 in
     let own = rw code.3 at c.in_ok-write_scalar.ensures.ok in
     let inside = rw code.4 at c.in_err-put_value.ensures.err in
-    let one = ap (λ xs. length xs) c.in_ok-write_number.ensures.ok in
-    let two = ap (λ xs. length xs) own in
     let le : length c.write_scalar-2.new.out.items + length (bytes_of (doc code.1)) ≤ length c.args.out.now.items + length (scoped code.0 (bytes_of (doc code.1))) =
     omega (
       arith,
-      one,
-      two,
+      writes.opened c.args.out.now.items c.write_number.new.out.items c.write_scalar-2.new.out.items (string code.0) c.in_ok-write_number.ensures.ok own,
       writes.scoped_size code.0 (bytes_of (doc code.1)),
-      length-append c.args.out.now.items (number 0),
-      number_length 0,
-      length-append c.write_number.new.out.items (string code.0),
     ) in
     rw (p.1, p.2, code.2) (writes.overruns_more _ _ c.in_err-put_value.field-0.0 le inside)
 
 pub append_leaf-seal-requires : goal.append_leaf-seal-requires
 append_leaf-seal-requires g t c =
-    let tree = g.N.Reading.tree c.args.node in
-    let code = writes.code_parts tree (g.N.Reading.tree c.in-Some-scope.scope) (seen c.in-Some.own) (sym c.in-Some.ensures) (sym c.in-Some-scope.ensures.scope) in
-    let own = rw code.3 at c.in_ok-write_scalar.ensures.ok in
-    let inside = rw code.4 at c.in_ok-put_value.ensures.ok in
-    let out = writes.code_out c.args.out.now.items c.write_number.new.out.items c.write_scalar-2.new.out.items c.put_value.new.out.items code.0
-    (bytes_of (doc code.1)) c.in_ok-write_number.ensures.ok own inside in
+    let code = writes.code_parts (g.N.Reading.tree c.args.node) _ _ (sym c.in-Some.ensures) (sym c.in-Some-scope.ensures.scope) in
+    let out = writes.code_out c.args.out.now.items _ _ c.put_value.new.out.items code.0 (bytes_of (doc code.1)) c.in_ok-write_number.ensures.ok
+    (rw code.3 at c.in_ok-write_scalar.ensures.ok) (rw code.4 at c.in_ok-put_value.ensures.ok) in
     let at : c.len-at.result ≡ length c.args.out.now.items = search rules in
     let size = writes.sealed_size c.args.out.now.items _ c.put_value.new.out.items out in
     search rules
 
 pub append_leaf-returns-clause-ok : goal.append_leaf-returns-clause-ok
 append_leaf-returns-clause-ok g t c =
-    let tree = g.N.Reading.tree c.args.node in
-    let code = writes.code_parts tree (g.N.Reading.tree c.in-Some-scope.scope) (seen c.in-Some.own) (sym c.in-Some.ensures) (sym c.in-Some-scope.ensures.scope) in
-    let own = rw code.3 at c.in_ok-write_scalar.ensures.ok in
-    let inside = rw code.4 at c.in_ok-put_value.ensures.ok in
-    let out = writes.code_out c.args.out.now.items c.write_number.new.out.items c.write_scalar-2.new.out.items c.put_value.new.out.items code.0
-    (bytes_of (doc code.1)) c.in_ok-write_number.ensures.ok own inside in
+    let code = writes.code_parts (g.N.Reading.tree c.args.node) _ _ (sym c.in-Some.ensures) (sym c.in-Some-scope.ensures.scope) in
+    let out = writes.code_out c.args.out.now.items _ _ c.put_value.new.out.items code.0 (bytes_of (doc code.1)) c.in_ok-write_number.ensures.ok
+    (rw code.3 at c.in_ok-write_scalar.ensures.ok) (rw code.4 at c.in_ok-put_value.ensures.ok) in
     let at : c.len-at.result ≡ length c.args.out.now.items = search rules in
-    subst (λ (x : Tree). OnOk c.seal.result (c.seal.new.out.items ≡ c.args.out.now.items ++ bytes_of x)) (sym code.2)
-    (writes.ok_on c.seal.result _ _ c.seal.ensures.ok (λ e. e ∙ writes.scoped_ok c.args.out.now.items code.0 (bytes_of (doc code.1)) c.put_value.new.out.items c.len-at.result out at))
+    rw code.2 (writes.ok_on c.seal.result _ _ c.seal.ensures.ok (λ e. e ∙ writes.scoped_ok c.args.out.now.items code.0 (bytes_of (doc code.1)) c.put_value.new.out.items c.len-at.result out at))
 
 pub append_leaf-returns-clause-err : goal.append_leaf-returns-clause-err
 append_leaf-returns-clause-err g t c =
-    let tree = g.N.Reading.tree c.args.node in
-    let code = writes.code_parts tree (g.N.Reading.tree c.in-Some-scope.scope) (seen c.in-Some.own) (sym c.in-Some.ensures) (sym c.in-Some-scope.ensures.scope) in
-    let own = rw code.3 at c.in_ok-write_scalar.ensures.ok in
-    let inside = rw code.4 at c.in_ok-put_value.ensures.ok in
-    let out = writes.code_out c.args.out.now.items c.write_number.new.out.items c.write_scalar-2.new.out.items c.put_value.new.out.items code.0
-    (bytes_of (doc code.1)) c.in_ok-write_number.ensures.ok own inside in
-    let at : c.len-at.result ≡ length c.args.out.now.items = search rules in
+    let code = writes.code_parts (g.N.Reading.tree c.args.node) _ _ (sym c.in-Some.ensures) (sym c.in-Some-scope.ensures.scope) in
+    let out = writes.code_out c.args.out.now.items _ _ c.put_value.new.out.items code.0 (bytes_of (doc code.1)) c.in_ok-write_number.ensures.ok
+    (rw code.3 at c.in_ok-write_scalar.ensures.ok) (rw code.4 at c.in_ok-put_value.ensures.ok) in
     let size = writes.sealed_size c.args.out.now.items _ c.put_value.new.out.items out in
     let total = writes.scoped_size code.0 (bytes_of (doc code.1)) in
-    subst (λ (x : Tree). IfErr c.seal.result (OverrunsLimit (length c.args.out.now.items + length (bytes_of x)))) (sym code.2)
-    (writes.err_more c.seal.result _ _ c.seal.ensures.err (omega (arith, size, total, length-append (string code.0) (bytes_of (doc code.1)))))
+    rw code.2 (writes.err_more c.seal.result _ _ c.seal.ensures.err (omega (arith, size, total, length-append (string code.0) (bytes_of (doc code.1)))))
 
 pub append_leaf-returns-in_err-write_scalar-clause-front : goal.append_leaf-returns-in_err-write_scalar-clause-front
 append_leaf-returns-in_err-write_scalar-clause-front g t c =

@@ -12,51 +12,37 @@ returns-then-byte-eq0-clause-none c = s.at_end c.args.self.bytes.now c.args.self
 pub name-requires : goal.name-requires
 name-requires c =
     let n = s.next_of c.args.self.bytes.now c.args.self.at c.args.self.left c.if-byte-eq0.false in
-    s.name_at c.args.self.bytes.now c.args.self.at c.args.self.left.fields n c.split_at.result.1.now c.split_at.ensures.back
+    s.name_at n _ c.split_at.ensures.back
 
 pub kept-requires : goal.kept-requires
 kept-requires c =
     let n = s.next_of c.args.self.bytes.now c.args.self.at c.args.self.left c.if-byte-eq0.false in
-    (kind_of n.tree, s.type_here c.args.self.bytes.now c.args.self.at c.args.self.left.fields n)
+    (kind_of n.tree, s.type_here n)
 
 pub invariant_of-value : goal.invariant_of-value
 invariant_of-value c =
     let n = s.next_of c.args.self.bytes.now c.args.self.at c.args.self.left c.if-byte-eq0.false in
-    let k : length c.name.result.0.now ≡ length n.name = c.name.ensures.size
-    ∙ s.name_ends c.args.self.bytes.now c.args.self.at c.args.self.left.fields n c.split_at.result.1.now c.split_at.ensures.back in
-    let kinded = s.kind_here c.args.self.bytes.now c.args.self.at c.args.self.left.fields n c.kept.result c.kept.ensures in
-    record {
-      short = c.args.self.short;
-      inside = s.value_inside c.args.self.bytes.now c.args.self.at c.args.self.left.fields n
-          (length c.name.result.0.now) k;
-      sound = s.value_sound c.args.self.bytes.now c.args.self.at c.args.self.left.fields n c.kept.result kinded
-          (length c.name.result.0.now) k;
-    }
+    let k = c.name.ensures.size ∙ s.name_ends n _ c.split_at.ensures.back in
+    let kinded = s.kind_here n c.kept.result c.kept.ensures in
+    record { short = c.args.self.short; inside = s.value_inside n _ k; sound = s.value_sound n c.kept.result kinded _ k }
 
 pub invariant_of-after : goal.invariant_of-after
 invariant_of-after c =
     let n = s.next_of c.args.self.bytes.now c.args.self.at c.args.self.left c.if-byte-eq0.false in
-    let k : length c.name.result.0.now ≡ length n.name = c.name.ensures.size
-    ∙ s.name_ends c.args.self.bytes.now c.args.self.at c.args.self.left.fields n c.split_at.result.1.now c.split_at.ensures.back in
-    let kinded = s.kind_here c.args.self.bytes.now c.args.self.at c.args.self.left.fields n c.kept.result c.kept.ensures in
-    record {
-      short = c.args.self.short;
-      left = s.after_sound c.args.self.bytes.now c.args.self.at c.args.self.left.fields n c.kept.result kinded
-          (length c.name.result.0.now) c.end.result _ k c.end.ensures;
-    }
+    let k = c.name.ensures.size ∙ s.name_ends n _ c.split_at.ensures.back in
+    let kinded = s.kind_here n c.kept.result c.kept.ensures in
+    record { short = c.args.self.short; left = s.after_sound n c.kept.result kinded _ c.end.result _ k c.end.ensures }
 
 pub returns-clause-some : goal.returns-clause-some
 returns-clause-some c =
     let n = s.next_of c.args.self.bytes.now c.args.self.at c.args.self.left c.if-byte-eq0.false in
-    let k : length c.name.result.0.now ≡ length n.name = c.name.ensures.size
-    ∙ s.name_ends c.args.self.bytes.now c.args.self.at c.args.self.left.fields n c.split_at.result.1.now c.split_at.ensures.back in
-    let kinded = s.kind_here c.args.self.bytes.now c.args.self.at c.args.self.left.fields n c.kept.result c.kept.ensures in
-    let named = c.name.ensures.text ∙ s.name_is c.args.self.bytes.now c.args.self.at c.args.self.left.fields n c.split_at.result.1.now c.split_at.ensures.back in
-    s.shown c.args.self.bytes.now c.args.self.at c.args.self.left.fields n c.kept.result kinded (length c.name.result.0.now) c.end.result
-    c.name.result.0.now c.args.self.left _ _ _ refl k named c.end.ensures
+    let k = c.name.ensures.size ∙ s.name_ends n _ c.split_at.ensures.back in
+    let kinded = s.kind_here n c.kept.result c.kept.ensures in
+    let named = c.name.ensures.text ∙ s.name_is n _ c.split_at.ensures.back in
+    s.shown n c.kept.result kinded _ c.end.result _ c.args.self.left _ _ _ refl k named c.end.ensures
 
 pub returns-clause-short : goal.returns-clause-short
 returns-clause-short c =
     let n = s.next_of c.args.self.bytes.now c.args.self.at c.args.self.left c.if-byte-eq0.false in
-    let named = c.name.ensures.text ∙ s.name_is c.args.self.bytes.now c.args.self.at c.args.self.left.fields n c.split_at.result.1.now c.split_at.ensures.back in
+    let named = c.name.ensures.text ∙ s.name_is n _ c.split_at.ensures.back in
     rw named n.name_short

@@ -1,5 +1,4 @@
-use Rattle.std.proofs.Common.{◌≡◌, ◌+◌, ◌∙◌, drop, length, List, ℕ, sym, ap, subst, arith}
-use Rattle.std.proofs.lemmas.List.{drop-drop}
+use Rattle.std.proofs.Common.{◌∙◌, length, List, ℕ, sym, ap, subst, arith}
 use Rattle.bd_value.specs.OwnPart.{own}
 use Rattle.bd_raw.specs.ValueAt.{TextAt, HasBytesOf}
 use Rattle.bd_raw.specs.Sizes.{number_of, text_of, scalar_at}
@@ -8,58 +7,45 @@ use Rattle.bd_raw.proofs.ContentsLemmas as v
 use Rattle.bd_raw.proofs.raw.RawValue.contents.Goals as goal
 
 pub invariant_of-result : goal.invariant_of-result
-invariant_of-result c = record { short = c.args.self.short; left = v.document_left c.args.self.bytes.now c.args.self.start c.args.self.kind c.args.self.sound c.in-Doc.is }
+invariant_of-result c = record { short = c.args.self.short; left = (v.document_held c.args.self.bytes.now c.args.self.start c.args.self.kind c.args.self.sound c.in-Doc.is).0 }
 
 pub returns-in-Doc-clause-holds : goal.returns-in-Doc-clause-holds
-returns-in-Doc-clause-holds c = v.document_is c.args.self.bytes.now c.args.self.start c.args.self.kind c.args.self.sound c.in-Doc.is _
+returns-in-Doc-clause-holds c = (v.document_held c.args.self.bytes.now c.args.self.start c.args.self.kind c.args.self.sound c.in-Doc.is).1 _
 
 pub invariant_of-result-in-Array : goal.invariant_of-result-in-Array
-invariant_of-result-in-Array c = record { short = c.args.self.short; left = v.array_left c.args.self.bytes.now c.args.self.start c.args.self.kind c.args.self.sound c.in-Array.is }
+invariant_of-result-in-Array c = record { short = c.args.self.short; left = (v.array_held c.args.self.bytes.now c.args.self.start c.args.self.kind c.args.self.sound c.in-Array.is).0 }
 
 pub returns-in-Array-clause-holds : goal.returns-in-Array-clause-holds
-returns-in-Array-clause-holds c = v.array_is c.args.self.bytes.now c.args.self.start c.args.self.kind c.args.self.sound c.in-Array.is _
+returns-in-Array-clause-holds c = (v.array_held c.args.self.bytes.now c.args.self.start c.args.self.kind c.args.self.sound c.in-Array.is).1 _
 
 pub split_at-requires-in-CodeScope : goal.split_at-requires-in-CodeScope
 split_at-requires-in-CodeScope c =
-    let l = v.code_long c.args.self.bytes.now c.args.self.start c.args.self.kind c.args.self.sound c.in-CodeScope.is in
-    let e = ap (λ (x : List ℕ). length x) c.split_at.ensures.back in
-    omega arith
+    omega (arith, v.code_long c.args.self.bytes.now c.args.self.start c.args.self.kind c.args.self.sound c.in-CodeScope.is, ap (λ (x : List ℕ). length x) c.split_at.ensures.back)
 
 pub number-requires : goal.number-requires
 number-requires c =
-    let after : c.split_at-in-CodeScope.result.1.now ≡ drop (c.args.self.start + 4) c.args.self.bytes.now = c.split_at-in-CodeScope.ensures.back
-    ∙ ap (drop 4) c.split_at.ensures.back ∙ drop-drop 4 c.args.self.start c.args.self.bytes.now in
+    let after = v.after_four c.args.self.bytes.now c.args.self.start _ _ c.split_at.ensures.back c.split_at-in-CodeScope.ensures.back in
     let t = v.code_reads c.args.self.bytes.now c.args.self.start c.args.self.kind c.args.self.sound c.in-CodeScope.is in
-    let i = t.inside in
-    let e = ap (λ (x : List ℕ). length x) after in
-    omega arith
+    omega (arith, t.inside, ap (λ (x : List ℕ). length x) after)
 
 pub text-requires : goal.text-requires
 text-requires c =
-    let after : c.split_at-in-CodeScope.result.1.now ≡ drop (c.args.self.start + 4) c.args.self.bytes.now = c.split_at-in-CodeScope.ensures.back
-    ∙ ap (drop 4) c.split_at.ensures.back ∙ drop-drop 4 c.args.self.start c.args.self.bytes.now in
+    let after = v.after_four c.args.self.bytes.now c.args.self.start _ _ c.split_at.ensures.back c.split_at-in-CodeScope.ensures.back in
     subst TextAt (sym after) (v.code_reads c.args.self.bytes.now c.args.self.start c.args.self.kind c.args.self.sound c.in-CodeScope.is)
 
 pub invariant_of-scope : goal.invariant_of-scope
 invariant_of-scope c =
-    let after : c.split_at-in-CodeScope.result.1.now ≡ drop (c.args.self.start + 4) c.args.self.bytes.now = c.split_at-in-CodeScope.ensures.back
-    ∙ ap (drop 4) c.split_at.ensures.back ∙ drop-drop 4 c.args.self.start c.args.self.bytes.now in
+    let after = v.after_four c.args.self.bytes.now c.args.self.start _ _ c.split_at.ensures.back c.split_at-in-CodeScope.ensures.back in
     let n = c.number.ensures ∙ ap number_of after in
-    record {
-      short = c.args.self.short;
-      inside = v.scope_inside c.args.self.bytes.now c.args.self.start c.args.self.kind c.args.self.sound
-          c.in-CodeScope.is c.number.result n;
-      sound = v.scope_sound c.args.self.bytes.now c.args.self.start c.args.self.kind c.args.self.sound
-          c.in-CodeScope.is c.number.result n;
-    }
+    let inside = v.scope_inside c.args.self.bytes.now c.args.self.start c.args.self.kind c.args.self.sound c.in-CodeScope.is c.number.result n in
+    let sound = v.scope_sound c.args.self.bytes.now c.args.self.start c.args.self.kind c.args.self.sound c.in-CodeScope.is c.number.result n in
+    record { short = c.args.self.short; inside = inside; sound = sound }
 
 pub returns-in-CodeScope-clause-holds : goal.returns-in-CodeScope-clause-holds
 returns-in-CodeScope-clause-holds c =
-    let after : c.split_at-in-CodeScope.result.1.now ≡ drop (c.args.self.start + 4) c.args.self.bytes.now = c.split_at-in-CodeScope.ensures.back
-    ∙ ap (drop 4) c.split_at.ensures.back ∙ drop-drop 4 c.args.self.start c.args.self.bytes.now in
-    let n = c.number.ensures ∙ ap number_of after in
-    let t = c.text.ensures.text ∙ ap text_of after in
-    v.code_is c.args.self.bytes.now c.args.self.start c.args.self.kind c.args.self.sound c.in-CodeScope.is c.number.result c.text.result.now _ n t
+    let after = v.after_four c.args.self.bytes.now c.args.self.start _ _ c.split_at.ensures.back c.split_at-in-CodeScope.ensures.back in
+    v.code_is c.args.self.bytes.now c.args.self.start c.args.self.kind c.args.self.sound c.in-CodeScope.is c.number.result c.text.result.now _
+    (c.number.ensures ∙ ap number_of after) (c.text.ensures.text ∙ ap text_of after)
 
 pub scalar-requires : goal.scalar-requires
 scalar-requires c =

@@ -1,9 +1,10 @@
-use Rattle.bd_raw.specs.Sound.{stands, elements_left}
-use Rattle.bd_raw.proofs.LookupLemmas.{document_elements, array_elements}
+use Rattle.std.proofs.Common.{sym}
+use Rattle.bd_value.specs.Tree.{pairs_of-fields_of}
+use Rattle.bd_raw.proofs.ContentsLemmas.{list_of-items_of}
 use Rattle.bd_raw.proofs.raw.RawValue.elements.Goals as goal
 
 pub returns-in-Document-clause-some : goal.returns-in-Document-clause-some
-returns-in-Document-clause-some c = document_elements (stands c.args.self.sound) (elements_left c.in-Document.elements.left) c.in-Document.ensures.holds
+returns-in-Document-clause-some c = rw c.in-Document.ensures.holds (sym (pairs_of-fields_of _))
 
 pub returns-in-Array-clause-some : goal.returns-in-Array-clause-some
-returns-in-Array-clause-some c = array_elements (stands c.args.self.sound) (elements_left c.in-Array.elements.left) c.in-Array.ensures.holds
+returns-in-Array-clause-some c = rw c.in-Array.ensures.holds (sym (list_of-items_of _))

@@ -1,9 +1,11 @@
-use Rattle.bd_raw.specs.Sound.{stands, elements_left}
-use Rattle.bd_raw.proofs.LookupLemmas.{element_inside, element_is}
+use Rattle.std.proofs.Common.{refl}
+use Rattle.std.proofs.lemmas.List.{length-map}
+use Rattle.std.proofs.lemmas.Option.{slice_get-map}
+use Rattle.bd_raw.proofs.ContentsLemmas.{list_of-items_of}
 use Rattle.bd_raw.proofs.views.RawValueReading.element.Goals as goal
 
 pub nth-requires : goal.nth-requires
-nth-requires c = element_inside (stands c.args.self.sound) (elements_left c.in-Array.elements.left) c.in-Array.ensures.holds c.args.i c.requires
+nth-requires c = rw (c.in-Array.ensures.holds, list_of-items_of, length-map) at c.requires
 
 pub returns-clause-element : goal.returns-clause-element
-returns-clause-element c = element_is (stands c.args.self.sound) (elements_left c.in-Array.elements.left) c.in-Array.ensures.holds c.args.i _ c.nth.ensures.pair
+returns-clause-element c = rw (c.in-Array.ensures.holds, list_of-items_of, slice_get-map, c.nth.ensures.pair) refl
