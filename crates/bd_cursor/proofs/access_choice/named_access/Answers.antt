@@ -6,7 +6,7 @@ use Rattle.bd_filter.specs.FilterView.{filter_tree}
 use Rattle.bd_bounds.specs.BoundsView.{seen_bounds}
 use Rattle.bd_cursor.specs.AccessPath.{bounded, mark_bounds, scanned, serving_bounds, walk_dir, walk_or}
 use Rattle.bd_cursor.specs.Explanation.{index_mark}
-use Rattle.bd_cursor.proofs.AccessChoiceLemmas.{named_other, walk_leads}
+use Rattle.bd_cursor.proofs.AccessPathLemmas.{named_other, walk_leads}
 use Rattle.bd_cursor.proofs.access_choice.named_access.Goals as goal
 
 pub returns-in-Some-walk_dir : goal.returns-in-Some-walk_dir

@@ -1,5 +1,5 @@
 use Rattle.std.proofs.Common.{arith, ◌≡◌, get_or}
-use Rattle.bd_cursor.proofs.CursorLemmas.{cursor_at, moved_at, none_before}
+use Rattle.bd_cursor.proofs.SessionLemmas.{cursor_at, moved_at, none_before}
 use Rattle.bd_cursor.proofs.cursor.place_of.Goals as goal
 
 pub returns-then-cursors-i-clause-it : goal.returns-then-cursors-i-clause-it

@@ -2,7 +2,7 @@ use Rattle.std.proofs.Common.{◌≡◌, ℕ, Bool, cond, ap, sym, ◌∙◌, ar
 use Rattle.bd_bson.specs.Collection.{documents}
 use Rattle.bd_filter.specs.FilterView.{filter_tree}
 use Rattle.bd_sort.specs.Selection.{hits_of}
-use Rattle.bd_cursor.proofs.ExplainingLemmas.{count_more}
+use Rattle.bd_cursor.proofs.AccessLemmas.{count_more}
 use Rattle.bd_cursor.proofs.explaining.count_matches.Goals.{then-is_match, else-is_match}
 use Rattle.bd_cursor.proofs.explaining.count_matches.Goals as goal
 

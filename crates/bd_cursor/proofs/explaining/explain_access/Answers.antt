@@ -10,8 +10,7 @@ use Rattle.bd_sort.specs.Selection.{selection_of, hits_of}
 use Rattle.bd_bounds.specs.BoundsView.{seen_bounds}
 use Rattle.bd_cursor.specs.AccessView.{IsAccessOf, access_path}
 use Rattle.bd_cursor.specs.Explanation.{entries_within, explained_access, index_counts, index_mark, places_within}
-use Rattle.bd_cursor.proofs.AccessLemmas.{index_source, lent_within}
-use Rattle.bd_cursor.proofs.ExplainingLemmas.{as_many, entries_read, entries_walked, matches_of_all, places_read, told_as}
+use Rattle.bd_cursor.proofs.AccessLemmas.{index_source, lent_within, as_many, entries_read, entries_walked, matches_of_all, places_read, told_as}
 use Rattle.bd_cursor.proofs.explaining.explain_access.Goals as goal
 
 pub count_among-requires : goal.count_among-requires

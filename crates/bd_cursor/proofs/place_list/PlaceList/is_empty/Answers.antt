@@ -1,6 +1,6 @@
 use Rattle.std.proofs.Common.{◌∙◌, ap, eqb, ◌≡◌, length, arith}
 use Rattle.bd_answer.specs.Answer.{is_empty}
-use Rattle.bd_cursor.proofs.PlaceListLemmas.{empty_drop}
+use Rattle.bd_cursor.proofs.RemainderLemmas.{empty_drop}
 use Rattle.bd_cursor.proofs.place_list.PlaceList.is_empty.Goals as goal
 
 pub returns : goal.returns

@@ -1,6 +1,7 @@
 use Rattle.std.proofs.Common.{◌≡◌, ◌∙◌, ap, sym, arith, drop, length}
+use Rattle.std.proofs.lemmas.List.{drop_at}
 use Rattle.bd_cursor.specs.SessionView.{scan_left_in}
-use Rattle.bd_cursor.proofs.ScanPositionLemmas.{drop_front, drop_past}
+use Rattle.bd_cursor.proofs.RemainderLemmas.{drop_past}
 use Rattle.bd_cursor.proofs.scan_position.ScanPosition.take.Goals as goal
 use Rattle.bd_cursor.proofs.scan_position.ScanPosition.take.Goals.{else-loop-self-test, then-loop-self-test+in-None}
 
@@ -13,7 +14,7 @@ returns-clause-left c =
     elim c.loop-self-test.branch [
       | else-loop-self-test w ↦
           let full : length ps ≡ c.args.n = let l = w.loop-self-test.false in omega (arith, l) in
-          ap remaining w.self-is ∙ sym (ap (drop c.args.n) (sym whole) ∙ drop_front c.args.n ps (remaining c.loop-self.self) full)
+          ap remaining w.self-is ∙ sym (ap (drop c.args.n) (sym whole) ∙ drop_at ps (remaining c.loop-self.self) c.args.n full)
       | then-loop-self-test+in-None w ↦
           ap remaining w.self-is ∙ w.in-None.ensures.1 ∙ sym (ap (drop c.args.n) (sym whole) ∙ drop_past c.args.n ps (remaining c.loop-self.self) few w.in-None.ensures.0)
     ]
