@@ -1,7 +1,6 @@
 use Rattle.std.proofs.Common.{sym, inr, true≢false, ◌∙◌}
 use Rattle.bd_command_line.specs.CommandLine.{words_of}
-use Rattle.bd_command_line.proofs.FileLineLemmas.{file_escaped_taken, file_taken, line_of_input}
-use Rattle.bd_command_line.proofs.LineLemmas.{answered, help_line_refused, help_line_told}
+use Rattle.bd_command_line.proofs.LineLemmas.{answered, file_escaped_taken, file_taken, help_line_refused, help_line_told, line_of_input}
 use Rattle.bd_command_line.proofs.command_line.parse_words.Goals as goal
 
 pub returns-then-begins_with_help-clause-fault : goal.returns-then-begins_with_help-clause-fault
