@@ -152,23 +152,48 @@ contained ps q h = let a = Any-from_list_any (λ m. m == q) ps h in (a.0, a.2, s
 abbrev pub has_key_at : Bool → Names → List Doc → KeyBounds → ℕ → Bool
 has_key_at sparse path ds b p = list_any (is_among b) (indexed_keys sparse (document_at ds p) path)
 
-pub among_places : (sparse : Bool) (path : Names) (ds : List Doc) (b : KeyBounds) (ps : List ℕ) (entries : ℕ) → AreWithin sparse path ds b ps entries → (p : ℕ)
-    → list_any (λ q. q == p) ps ≡ (nat_lt p (length ds) && has_key_at sparse path ds b p)
-among_places sparse path ds b ps entries w p = w.members p ∙ from_place sparse path (is_among b) ds 0 p p (omega arith)
+-- a test, and no order
+abbrev plainly : List Doc → (ℕ → Bool) → Selection
+plainly ds hits = record { count = length ds; hits = hits; by = order_of_keys ds []; skip = 0; limit = 0 }
 
-pub places_inside : (sparse : Bool) (path : Names) (ds : List Doc) (b : KeyBounds) (ps : List ℕ) (entries : ℕ) → AreWithin sparse path ds b ps entries → (k d : ℕ) → k < length ps
-    → (nat_lt (get_or ps k d) (length ds) ≡ true) × (has_key_at sparse path ds b (get_or ps k d) ≡ true)
-places_inside sparse path ds b ps entries w k d lt =
-    and_parts (nat_lt (get_or ps k d) (length ds)) (has_key_at sparse path ds b (get_or ps k d)) (sym (among_places sparse path ds b ps entries w (get_or ps k d)) ∙ list_any_at (λ m. m == get_or ps k d) ps k d lt (eq-eqb (get_or ps k d) (get_or ps k d) refl))
+plain_total : (ds : List Doc) → IsTotalOrder (order_of_keys ds [])
+plain_total ds = on_total (document_at ds) (sort_total [])
 
--- they are a source for each test that is passed only with a key inside
-pub within_source : (sparse : Bool) (path : Names) (ds : List Doc) (b : KeyBounds) (ps : List ℕ) (entries : ℕ) → AreWithin sparse path ds b ps entries
-    → (hits : ℕ → Bool) → ((p : ℕ) → p < length ds → hits p ≡ true → has_key_at sparse path ds b p ≡ true) → IsSource (length ds) hits ps
-within_source sparse path ds b ps entries w hits inside = record {
-  below = λ k d lt. ltb-true (get_or ps k d) (length ds) (places_inside sparse path ds b ps entries w k d lt).0;
-  distinct = λ i j d low high same. let l = AllPairs-from_increasing ps w.ascend i j d low high in absurd (omega arith);
-  complete = λ p lt hit. contained ps p (among_places sparse path ds b ps entries w p ∙ ap₂ (λ (x y : Bool). x && y) (lt-ltb p (length ds) lt) (inside p lt hit));
-}
+-- what passes of a source that ascends is what passes of all
+source_passes : (ds : List Doc) (hits : ℕ → Bool) (ps : List ℕ) → IsSource (length ds) hits ps → IsStrictlyIncreasing ps → filter hits ps ≡ filter hits (range_with_len 0 (length ds))
+source_passes ds hits ps s up =
+    let a = plainly ds hits in
+    filter_agree hits (passes hits (order_of_keys ds []) None) (λ x. sym (and-true (hits x))) ps
+    ∙ batch_in_order a (plain_total ds) ps s (unsorted_ascends ds ps up) None
+    ∙ all_places a
+    ∙ unsorted_ordered a (plain_total ds) (λ p q. refl)
+
+pub as_many : (ds : List Doc) (hits : ℕ → Bool) (ps : List ℕ) → IsSource (length ds) hits ps → IsStrictlyIncreasing ps → count_by hits ps ≡ length (filter hits (range_with_len 0 (length ds)))
+as_many ds hits ps s up = sym (length-filter hits ps) ∙ ap (λ (l : List ℕ). length l) (source_passes ds hits ps s up)
+
+module _ {sparse : Bool} {path : Names} {ds : List Doc} {b : KeyBounds} {ps : List ℕ} {entries : ℕ} (w : AreWithin sparse path ds b ps entries) where
+  among_places : (p : ℕ) → list_any (λ q. q == p) ps ≡ (nat_lt p (length ds) && has_key_at sparse path ds b p)
+  among_places p = w.members p ∙ from_place sparse path (is_among b) ds 0 p p (omega arith)
+
+  places_inside : (k d : ℕ) → k < length ps → (nat_lt (get_or ps k d) (length ds) ≡ true) × (has_key_at sparse path ds b (get_or ps k d) ≡ true)
+  places_inside k d lt =
+      and_parts (nat_lt (get_or ps k d) (length ds)) (has_key_at sparse path ds b (get_or ps k d))
+      (sym (among_places (get_or ps k d)) ∙ list_any_at (λ m. m == get_or ps k d) ps k d lt (eq-eqb (get_or ps k d) (get_or ps k d) refl))
+
+  -- they are a source for each test that is passed only with a key inside
+  within_source : (hits : ℕ → Bool) → ((p : ℕ) → p < length ds → hits p ≡ true → has_key_at sparse path ds b p ≡ true) → IsSource (length ds) hits ps
+  within_source hits inside = record {
+    below = λ k d lt. ltb-true (get_or ps k d) (length ds) (places_inside k d lt).0;
+    distinct = λ i j d low high same. let l = AllPairs-from_increasing ps w.ascend i j d low high in absurd (omega arith);
+    complete = λ p lt hit. contained ps p (among_places p ∙ ap₂ (λ (x y : Bool). x && y) (lt-ltb p (length ds) lt) (inside p lt hit));
+  }
+
+  -- they are those of the documents with a key inside
+  all_within : ps ≡ filter (has_key_at sparse path ds b) (range_with_len 0 (length ds))
+  all_within =
+      let test = has_key_at sparse path ds b in
+      sym (filter_all test ps (λ x i. let r = in_contains ps x i in subst (λ z. test z ≡ true) r.2 (places_inside r.0 x r.1).1))
+      ∙ source_passes ds test ps (within_source test (λ p lt hit. hit)) w.ascend
 
 -- ---- bounds of an index in hand
 
@@ -176,13 +201,12 @@ keeps : (f : Filter) (i : Index) (b : KeyBounds) → ServesFilter f i b → Keep
 keeps f i None h = h
 keeps f i (Some set) h = h
 
-pub index_source : (dump : Dump) (r : Request) (i : Index) (b : KeyBounds) (ps : List ℕ) (entries : ℕ) → HasMatchesWithin dump r i b
-    → AreWithin i.sparse (names_of i.path) (documents dump) b ps entries
-    → IsSource (length (documents dump)) (hits_of (documents dump) (filter_tree r.filter)) ps
-index_source dump r i b ps entries h w =
+pub index_source : {dump : Dump} {r : Request} {i : Index} {b : KeyBounds} {ps : List ℕ} {entries : ℕ} → HasMatchesWithin dump r i b
+    → AreWithin i.sparse (names_of i.path) (documents dump) b ps entries → IsSource (length (documents dump)) (hits_of (documents dump) (filter_tree r.filter)) ps
+index_source {dump} {r} {i} {b} h w =
     let f = filter_tree r.filter in
-    within_source i.sparse (names_of i.path) (documents dump) b ps entries w (hits_of (documents dump) f) (λ p lt hit.
-    has_key f (names_of i.path) i.multikey i.sparse b (document_at (documents dump) p) (keeps f i b h.serves) (fits (names_of i.path) (documents dump) p i.multikey lt h.of_dump.many) hit)
+    within_source w (hits_of (documents dump) f) (λ p lt hit. has_key f (names_of i.path) i.multikey i.sparse b (document_at (documents dump) p)
+    (keeps f i b h.serves) (fits (names_of i.path) (documents dump) p i.multikey lt h.of_dump.many) hit)
 
 -- ---- what a call was given
 
@@ -194,63 +218,35 @@ lent_as : (r : Option (Bor Bounds)) → lent_bounds r ≡ seen_bounds (option_co
 lent_as None = refl
 lent_as (Some b) = refl
 
-pub lent_within : (i : Index) (ds : List Doc) (r : Option (Bor Bounds)) (b : Option Bounds) (ps : List ℕ) (entries : ℕ) → option_copied r ≡ b
-    → AreWithin i.sparse (names_of i.path) ds (lent_bounds r) ps entries → AreWithin i.sparse (names_of i.path) ds (seen_bounds b) ps entries
-lent_within i ds r b ps entries e w = subst (λ k. AreWithin i.sparse (names_of i.path) ds k ps entries) (lent_as r ∙ ap seen_bounds e) w
+pub lent_within : {sparse : Bool} {path : Names} {ds : List Doc} {b : Option Bounds} {ps : List ℕ} {entries : ℕ} (r : Option (Bor Bounds)) → option_copied r ≡ b
+    → AreWithin sparse path ds (lent_bounds r) ps entries → AreWithin sparse path ds (seen_bounds b) ps entries
+lent_within {sparse} {path} {ds} {b} {ps} {entries} r e w = subst (λ k. AreWithin sparse path ds k ps entries) (lent_as r ∙ ap seen_bounds e) w
 
 -- ---- what is read on an access path
 
--- a test, and no order
-abbrev plainly : List Doc → (ℕ → Bool) → Selection
-plainly ds hits = record { count = length ds; hits = hits; by = order_of_keys ds []; skip = 0; limit = 0 }
-
-plain_total : (ds : List Doc) → IsTotalOrder (order_of_keys ds [])
-plain_total ds = on_total (document_at ds) (sort_total [])
-
--- what passes of a source that ascends is what passes of all
-pub source_passes : (ds : List Doc) (hits : ℕ → Bool) (ps : List ℕ) → IsSource (length ds) hits ps → IsStrictlyIncreasing ps → filter hits ps ≡ filter hits (range_with_len 0 (length ds))
-source_passes ds hits ps s up =
-    let a = plainly ds hits in
-    filter_agree hits (passes hits (order_of_keys ds []) None) (λ x. sym (and-true (hits x))) ps
-    ∙ batch_in_order a (plain_total ds) ps s (unsorted_ascends ds ps up) None
-    ∙ all_places a
-    ∙ unsorted_ordered a (plain_total ds) (λ p q. refl)
-
-pub as_many : (ds : List Doc) (hits : ℕ → Bool) (ps : List ℕ) → IsSource (length ds) hits ps → IsStrictlyIncreasing ps → count_by hits ps ≡ length (filter hits (range_with_len 0 (length ds)))
-as_many ds hits ps s up = sym (length-filter hits ps) ∙ ap (λ (l : List ℕ). length l) (source_passes ds hits ps s up)
-
--- the places within bounds are those of the documents with a key inside
-pub all_within : (sparse : Bool) (path : Names) (ds : List Doc) (b : KeyBounds) (ps : List ℕ) (entries : ℕ) → AreWithin sparse path ds b ps entries
-    → ps ≡ filter (has_key_at sparse path ds b) (range_with_len 0 (length ds))
-all_within sparse path ds b ps entries w =
-    let test = has_key_at sparse path ds b in
-    sym (filter_all test ps (λ x i. let r = in_contains ps x i in subst (λ z. test z ≡ true) r.2 (places_inside sparse path ds b ps entries w r.0 x r.1).1))
-    ∙ source_passes ds test ps (within_source sparse path ds b ps entries w test (λ p lt hit. hit)) w.ascend
-
 -- ---- counts
 
-pub count_more : (hits : ℕ → Bool) (a n p : ℕ) → a + n ≡ p → count_by hits (range_with_len a (n + 1)) ≡ count_by hits (range_with_len a n) + cond (hits p) 1 0
-count_more hits a n p e = simp map-id at (sum_by-map-range_with_len_more (λ (y : ℕ). cond (hits y) 1 0) (λ (y : ℕ). y) a n p e)
+pub count_more : (hits : ℕ → Bool) (n : ℕ) → count_by hits (range_with_len 0 (n + 1)) ≡ count_by hits (range_with_len 0 n) + cond (hits n) 1 0
+count_more hits n = simp map-id at (sum_by-map-range_with_len_more (λ (y : ℕ). cond (hits y) 1 0) (λ (y : ℕ). y) 0 n n (omega arith))
 
 -- ---- what is told
 
-pub told_as : (k : PlanKind) (o p : Option (List ℕ)) (a b c d m n : ℕ) → o ≡ p → a ≡ b → c ≡ d → m ≡ n
+pub told_as : {o p : Option (List ℕ)} {a b c d m n : ℕ} (k : PlanKind) → o ≡ p → a ≡ b → c ≡ d → m ≡ n
     → (let x : Explanation = record { plan = k; index = o; entries = a; looked_at = c; matches = m } in x) ≡ (record { plan = k; index = p; entries = b; looked_at = d; matches = n })
-told_as k o p a b c d m n e f g h = λ i. record { plan = k; index = e i; entries = f i; looked_at = g i; matches = h i }
+told_as k e f g h = λ i. record { plan = k; index = e i; entries = f i; looked_at = g i; matches = h i }
 
 pub matches_of_all : (ds : List Doc) (r : Request) (n : ℕ) → n ≡ count_by (hits_of ds (filter_tree r.filter)) (range_with_len 0 (length ds)) → n ≡ length (matching (selection_of ds r))
 matches_of_all ds r n h = h ∙ sym (length-filter (hits_of ds (filter_tree r.filter)) (range_with_len 0 (length ds)))
 
-abbrev named : (i : Index) (ds : List Doc) (b : KeyBounds) (ps : List ℕ) (entries : ℕ) → AreWithin i.sparse (names_of i.path) ds b ps entries
-    → AreWithin i.sparse (mark_names (index_mark i)) ds b ps entries
-named i ds b ps entries w = subst (λ (n : Names). AreWithin i.sparse n ds b ps entries) i.path.cut w
+module _ (i : Index) {ds : List Doc} {b : KeyBounds} {ps : List ℕ} {entries : ℕ} (w : AreWithin i.sparse (names_of i.path) ds b ps entries) where
+  named : AreWithin i.sparse (mark_names (index_mark i)) ds b ps entries
+  named = subst (λ (n : Names). AreWithin i.sparse n ds b ps entries) i.path.cut w
 
-pub entries_read : (i : Index) (ds : List Doc) (b : KeyBounds) (ps : List ℕ) (entries : ℕ) → AreWithin i.sparse (names_of i.path) ds b ps entries → entries ≡ entries_within ds (index_mark i) b
-entries_read i ds b ps entries w = (named i ds b ps entries w).counted
+  pub entries_read : entries ≡ entries_within ds (index_mark i) b
+  entries_read = named.counted
 
-pub places_read : (i : Index) (ds : List Doc) (b : KeyBounds) (ps : List ℕ) (entries : ℕ) → AreWithin i.sparse (names_of i.path) ds b ps entries
-    → length ps ≡ length (places_within ds (index_mark i) b)
-places_read i ds b ps entries w = ap (λ (l : List ℕ). length l) (all_within i.sparse (mark_names (index_mark i)) ds b ps entries (named i ds b ps entries w))
+  pub places_read : length ps ≡ length (places_within ds (index_mark i) b)
+  places_read = ap (λ (l : List ℕ). length l) (all_within named)
 
 pub entries_walked : (i : Index) (ds : List Doc) (n : ℕ) → n ≡ length (entries_of i.sparse (names_of i.path) ds) → n ≡ (index_counts ds (index_mark i)).entries
 entries_walked i ds n h = h ∙ ap (λ (p : Names). length (entries_of i.sparse p ds)) i.path.cut
