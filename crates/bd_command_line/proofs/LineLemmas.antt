@@ -23,6 +23,7 @@ use Rattle.clap.specs.Takes.{is_given, takes}
 use Rattle.clap.specs.declared.error.kind.ErrorKind.{ErrorKind}
 use Rattle.clap.specs.declared.error.kind.ErrorKind.TheVariants.{OutOfMemory, MissingRequiredArgument, MissingSubcommand, UnknownArgument, InvalidSubcommand}
 use Rattle.clap.proofs.OnLiterals.{clap_on_literals}
+use Rattle.clap.proofs.WalkLemmas.{first_value-rows, one_text-rows}
 use Rattle.bd_command_line.specs.declared.order.Order.{Order}
 use Rattle.bd_command_line.specs.declared.order.WordsFault.{WordsFault}
 use Rattle.bd_command_line.specs.declared.order.WordsFault.TheVariants.{NoMemory, Usage}
@@ -220,6 +221,9 @@ pair_read (Some p) name rows n r =
     let n' : name ≡ p.0 = ap (λ o. unwrap_or o name) n in
     let r' : rows ≡ p.1 = ap (λ o. unwrap_or o rows) r in
     ap₂ (λ (a : Text) (b : List Row). Some (a, b)) (sym n') (sym r')
+
+-- what the getters read of the matches
+pub ruleset readings = (first_value-rows, one_text-rows)
 
 same_cond : {X : Type 0} (b : Bool) (x : X) → cond b x x ≡ x
 same_cond true x = refl
