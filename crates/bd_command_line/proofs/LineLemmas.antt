@@ -2,7 +2,6 @@
 use Rattle.std.proofs.Common.{ap₂, subst, ◌⊎◌, inl, inr, ◌≡◌, ◌∙◌, ◌||◌, Bool, cond, true, false, not, refl, sym, ap, List, [], ◌∷◌, codes, Option, Some, None}
 use Rattle.std.proofs.Common.{true≢false, ℕ}
 use Rattle.std.specs.Prelude.{Result, Ok, Err, IfOk, IfErr, ⊤, Box, find, slice_get, unwrap_or, IfSome, is_some, option_and_then, option_map, if◌then◌else◌, ◌==◌}
-use Rattle.std.specs.List.{list_all}
 use Rattle.std.specs.Option.{option_map_or, option_or}
 use Rattle.std.proofs.lemmas.Slice.Eq.{bytes_eq-Decides}
 use Rattle.std.specs.Box.{box_value}
@@ -15,10 +14,10 @@ use Rattle.clap.specs.declared.parser.matches.ArgMatches.TheViews.{out-ArgMatche
 use Rattle.clap.specs.declared.parser.matches.SubCommand.{SubCommand}
 use Rattle.clap.specs.declared.error.Error.{Error}
 use Rattle.clap.specs.declared.parser.matches.ArgMatches.{ArgMatches}
-use Rattle.clap.specs.Walk.{Row, rows_of, Text, answers_to, finished, first_of, nothing_held, rows_after, settled, walk, walk_from}
+use Rattle.clap.specs.Walk.{Row, rows_of, Text, answers_to, finished, first_of, nothing_held, rows_after, walk}
 use Rattle.clap.specs.Simple.{App, HasMatchesOf, Shape, built, built_leaf, entered, inherited, marked_built, on_top, subcommand_rows, with_leaf_noted, is_simple}
 use Rattle.clap.specs.Simple.{label_of, names_of, rows_at, subcommand_of, subcommand_rows_of}
-use Rattle.clap.specs.Faults.{check_fault, defaults_fault, entered_fault, fault_of, is_simple_and_free, level_fault, settle_fault, walk_fault}
+use Rattle.clap.specs.Faults.{check_fault, entered_fault, fault_of, is_simple_and_free, level_fault}
 use Rattle.clap.specs.Takes.{is_given, takes}
 use Rattle.clap.specs.declared.error.kind.ErrorKind.{ErrorKind}
 use Rattle.clap.specs.declared.error.kind.ErrorKind.TheVariants.{OutOfMemory, MissingRequiredArgument, MissingSubcommand, UnknownArgument, InvalidSubcommand}
@@ -30,8 +29,7 @@ use Rattle.bd_command_line.specs.declared.order.WordsFault.TheVariants.{NoMemory
 use Rattle.bd_command_line.specs.CommandLine.{OrderView, GivesOrder, meant, check, dump, pack, serve, fault_for, file_app, find_app, find_ordered, told_as}
 use Rattle.bd_command_line.specs.CommandLine.{is_help_line, is_serve_of_input, line_app, order_of, ordered_by, parser_refusal, serves_input, IsFileCommand}
 use Rattle.bd_command_line.specs.CommandLine.{is_file_word, is_serve_input_line}
-use Rattle.bd_command_line.proofs.FaultLemmas.{AllFilled, defaults-filled, fills, given_first, left_nil, right_nil, settled-filled, walk-filled, SameTold}
-use Rattle.bd_command_line.proofs.FaultLemmas.{same-fault}
+use Rattle.bd_command_line.proofs.FaultLemmas.{SameTold, given_first, is_plain, level-sound, same-entered, same-fault}
 
 refused : (k : ErrorKind) → k ∷ [] ≡ [] → ⊥
 refused k e = cc
@@ -41,25 +39,6 @@ line_simple = refl
 
 pub line_free : is_simple_and_free line_app ≡ true
 line_free = refl
-
--- a level without a fault, by its parts
-level_rows : (s : Shape) (words : List Text) → list_all fills s.rules ≡ true → level_fault s [] nothing_held words false [] ≡ []
-    → AllFilled (rows_after s.rules [] words)
-level_rows s words fill e =
-    let end = (walk s.rules [] nothing_held words).held in
-    let walked = left_nil (walk_fault s [] (walk_from nothing_held) words) _ e in
-    let after = right_nil (walk_fault s [] (walk_from nothing_held) words) _ e in
-    defaults-filled s.rules (settled s.rules end).rows
-    (settled-filled s.rules s.args_override_self fill end (left_nil _ _ after) (walk-filled s [] fill (walk_from nothing_held) words walked tt))
-
-level_checks : (s : Shape) (names : List (Text × List Text)) (words : List Text) (has : Bool) (below : Kinds) → level_fault s names nothing_held words has below ≡ []
-    → (below ≡ []) × (check_fault s (finished s.rules (walk s.rules names nothing_held words).held) has ≡ [])
-level_checks s names words has below e =
-    let end = (walk s.rules names nothing_held words).held in
-    let after = right_nil (walk_fault s names (walk_from nothing_held) words) _ e in
-    let settle = right_nil below _ after in
-    let defaults = right_nil (settle_fault s.rules s.args_override_self end) _ settle in
-    (left_nil below _ after, right_nil (defaults_fault (settled s.rules end).rows s.rules) _ defaults)
 
 -- what holds of each command
 EachShape : (Shape → Type 0) → List Shape → Type 0
@@ -80,12 +59,13 @@ file_given true rest e = refl
 file_given false rest e = absurd (refused MissingRequiredArgument e)
 
 -- a command that requires FILE has it
-file_there : (s : Shape) (words : List Text) → list_all fills s.rules ≡ true
+file_there : (s : Shape) (words : List Text) → is_plain s ≡ true
     → ((rows : List Row) → check_fault s rows false ≡ [] → is_given (codes "file") rows ≡ true)
     → level_fault s [] nothing_held words false [] ≡ [] → is_some (first_of (codes "file") (rows_after s.rules [] words)) ≡ true
-file_there s words fill given e =
+file_there s words plain given e =
     let rows = rows_after s.rules [] words in
-    given_first (codes "file") rows (level_rows s words fill e) (given rows (level_checks s [] words false [] e).1)
+    let level = (level-sound s [] words false [] plain tt).leaves e in
+    given_first (codes "file") rows level.0 (given rows level.2)
 
 some_mapped : {X Y : Type 0} (f : X → Y) (o : Option X) → is_some o ≡ true → is_some (option_map f o) ≡ true
 some_mapped f None e = let bad : ⊥ = cc in absurd bad
@@ -124,8 +104,9 @@ commands_order = (
 pub order_there : (words : List Text) → fault_of line_app words ≡ [] → is_some (order_of words) ≡ true
 order_there words e =
     let stop = (walk top.rules names nothing_held words).stopped in
-    let checks = level_checks top names words (is_some (entered (built line_app) stop)) (entered_fault (built line_app) stop) e in
-    at_stop stop checks.0 checks.1
+    let level = level-sound top names words (is_some (entered (built line_app) stop)) (entered_fault (built line_app) stop) refl (same-entered (built line_app) stop refl) in
+    let checks = level.leaves e in
+    at_stop stop checks.1 checks.2
   where
     top : Shape
     top = (built line_app).top
