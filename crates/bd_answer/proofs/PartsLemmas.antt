@@ -2,19 +2,15 @@
 use Rattle.std.proofs.Common.{◌≡◌, ◌≢◌, ◌==◌, ◌+◌, ◌-◌, ◌<◌, ◌≤◌, ℕ, Bool, true, false, cond, List, [], ◌∷◌, ◌++◌, length, take, drop, map, inl, inr, refl, sym}
 use Rattle.std.proofs.Common.{ap, ◌∙◌, filter, arith, zero, suc, Option, Some, Ordering, nat_cmp, add-zero, append_assoc, take-take}
 use Rattle.std.specs.Prelude.{slice_get}
-use Rattle.std.specs.Cmp.{IsTotalOrder}
-use Rattle.std.specs.List.{All, cons_option, filter_map, flat_map, range_with_len}
-use Rattle.std.specs.Option.{option_cmp}
-use Rattle.std.specs.Ordering.{ordering_then, is_lt}
-use Rattle.std.specs.declared.cmp.Ordering.TheVariants.{Less, Equal, Greater}
-use Rattle.std.proofs.lemmas.Bool.{cond_both, le-ltb, ne_eqb}
-use Rattle.std.proofs.lemmas.List.{drop-map, drop-take, take-map}
+use Rattle.std.specs.{Cmp.IsTotalOrder, List.All, List.cons_option, List.filter_map, List.flat_map, List.range_with_len, Option.option_cmp}
+use Rattle.std.specs.{Ordering.ordering_then, Ordering.is_lt, declared.cmp.Ordering.TheVariants.Less, declared.cmp.Ordering.TheVariants.Equal}
+use Rattle.std.specs.{declared.cmp.Ordering.TheVariants.Greater}
 use Rattle.std.proofs.lemmas.List.Elements.{All-cons, All-head, All-nil, All-tail, All-take, filter-append, filter_passes}
-use Rattle.std.proofs.lemmas.List.MinMax.{ranks_by}
-use Rattle.bd_answer.specs.Answer.{insert, insert_all, before, ordered, answer, cut}
+use Rattle.std.proofs.lemmas.{Bool.cond_both, Bool.le-ltb, Bool.ne_eqb, List.drop-map, List.drop-take, List.take-map, List.MinMax.ranks_by}
 use Rattle.bd_answer.specs.PartsLaw.{DocumentRequest, IsEnough, found_in, matches_some, part_request, selection_over}
-use Rattle.bd_answer.proofs.OrderLemmas.{In, insert_in}
-use Rattle.bd_answer.proofs.StableLemmas.{put, put_all, stable, stretch_all, stretch_take}
+use Rattle.bd_answer.specs.Answer.{insert, insert_all, before, ordered, answer, cut}
+use Rattle.bd_answer.proofs.{OrderLemmas.In, OrderLemmas.insert_in, StableLemmas.put, StableLemmas.put_all, StableLemmas.stable}
+use Rattle.bd_answer.proofs.{StableLemmas.stretch_all, StableLemmas.stretch_take}
 
 -- the test that an order makes
 abbrev earlier : {A : Type 0} → (A → A → Ordering) → A → A → Bool

@@ -1,14 +1,11 @@
 -- Selections that say the same of the places of a collection have the same answer.
 use Rattle.std.proofs.Common.{◌≡◌, ◌<◌, ℕ, Bool, cond, List, [], ◌∷◌, length, inl, inr, refl, sym, ap, ◌∙◌, subst, filter, arith, Some, nat_cmp}
 use Rattle.std.specs.Prelude.{slice_get}
-use Rattle.std.specs.List.{range_with_len, filter_map}
-use Rattle.std.specs.Option.{option_cmp}
-use Rattle.std.specs.Ordering.{ordering_then, is_lt}
+use Rattle.std.specs.{List.range_with_len, List.filter_map, Option.option_cmp, Ordering.ordering_then, Ordering.is_lt}
 use Rattle.std.proofs.lemmas.Option.{slice_get_cases}
-use Rattle.bd_answer.specs.Answer.{Selection, insert, insert_all, before, matching, ordered, answer}
-use Rattle.bd_answer.specs.PartsLaw.{DocumentRequest, matches_some, selection_over, found_in, IsSelectionOf}
-use Rattle.bd_answer.proofs.OrderLemmas.{In, filter_in, insert_in, range_in}
-use Rattle.bd_answer.proofs.UnsortedLemmas.{filter_same}
+use Rattle.bd_answer.specs.{Answer.Selection, Answer.insert, Answer.insert_all, Answer.before, Answer.matching, Answer.ordered, Answer.answer}
+use Rattle.bd_answer.specs.{PartsLaw.DocumentRequest, PartsLaw.matches_some, PartsLaw.selection_over, PartsLaw.found_in, PartsLaw.IsSelectionOf}
+use Rattle.bd_answer.proofs.{OrderLemmas.In, OrderLemmas.filter_in, OrderLemmas.insert_in, OrderLemmas.range_in, UnsortedLemmas.filter_same}
 
 -- tests that say the same of the places below n
 abbrev Alike : ℕ → (ℕ → ℕ → Bool) → (ℕ → ℕ → Bool) → Type 0

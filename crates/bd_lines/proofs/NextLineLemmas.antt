@@ -1,18 +1,15 @@
 -- Lemmas on reading the next line of a device.
 use Rattle.std.proofs.Common.{rules, ◌≡◌, ◌<◌, ◌≤◌, ◌+◌, ℕ, List, [], ◌∷◌, ◌++◌, length, Bool, true, false, Option, Some, None, refl, sym, ap, ◌∙◌, subst}
 use Rattle.std.proofs.Common.{append_assoc, append-nil, arith, inl, inr, length-append}
-use Rattle.std.proofs.Math.Nat.{add-suc}
-use Rattle.std.proofs.KnownBytes.{Consumes-trans, Consumes-nil, Consumes-kept}
+use Rattle.std.proofs.{Math.Nat.add-suc, KnownBytes.Consumes-trans, KnownBytes.Consumes-nil, KnownBytes.Consumes-kept}
 use Rattle.std.specs.Io.KnownBytes.{Consumes, IsAtEnd, Keeps}
-use Rattle.bd_device.specs.Counts.{after_more, greatest}
-use Rattle.bd_device.specs.Devices.{AreReads, no_read, Reader}
-use Rattle.bd_device.specs.declared.reading.Limits.{Limits}
-use Rattle.bd_device.specs.declared.reading.ReadFault.{ReadFault}
+use Rattle.bd_device.specs.{Counts.after_more, Counts.greatest, Devices.AreReads, Devices.no_read, Devices.Reader, declared.reading.Limits.Limits}
+use Rattle.bd_device.specs.{declared.reading.ReadFault.ReadFault}
 use Rattle.bd_device.specs.declared.reading.ReadFault.TheVariants as reads
 use Rattle.bd_device.proofs.DevicesLemmas.{reads_none, reads_more, reads_append}
-use Rattle.bd_lines.specs.Lines.{IsLine, IsPart}
-use Rattle.bd_lines.specs.NextLine.{EndsByOneRead, FailsToReadLine, FindsNoLine, ReadsLine, held_after, GivesBeforeLast, GivesBytes, IsCause, IsLazy, LastRead, ReadsTo, StopsReading}
-use Rattle.bd_lines.specs.declared.line_buffer.LineBuffer.{LineBuffer}
+use Rattle.bd_lines.specs.NextLine.{EndsByOneRead, FailsToReadLine, FindsNoLine, ReadsLine, held_after, GivesBeforeLast, GivesBytes, IsCause, IsLazy}
+use Rattle.bd_lines.specs.NextLine.{LastRead, ReadsTo, StopsReading}
+use Rattle.bd_lines.specs.{Lines.IsLine, Lines.IsPart, declared.line_buffer.LineBuffer.LineBuffer}
 use Rattle.std.specs.Prelude.{◌⊎◌}
 use Rattle.std.proofs.lemmas.Bool.{cases_Bool}
 use Rattle.bd_lines.proofs.LinesLemmas.{line_grows, line_front, both_empty}

@@ -2,18 +2,16 @@
 use Rattle.std.proofs.Common.{rules, ◌≡◌, ◌<◌, ◌≤◌, ◌+◌, ℕ, List, [], ◌∷◌, ◌++◌, length, Bool, true, false, cond, Option, refl, sym, ap, ◌∙◌, subst}
 use Rattle.std.proofs.Common.{append_assoc, append-nil, arith, inl, inr, length-append}
 use Rattle.std.proofs.KnownBytes.{Appends-nil, Appends-trans}
-use Rattle.bd_device.specs.Counts.{after_more, greatest}
-use Rattle.bd_device.specs.Devices.{AreReads, BreaksAfter, BreaksWithin, Reader, TakesText, Writer, between}
-use Rattle.bd_device.specs.declared.reading.Limits.{Limits}
-use Rattle.bd_device.specs.declared.reading.ReadFault.{ReadFault}
-use Rattle.bd_lines.specs.Lines.{AreShort, AreWhole, IsFirstLine, commands_of, is_empty_line, not_empty}
+use Rattle.bd_device.specs.{Counts.after_more, Counts.greatest, Devices.AreReads, Devices.BreaksAfter, Devices.BreaksWithin, Devices.Reader}
+use Rattle.bd_device.specs.{Devices.TakesText, Devices.Writer, Devices.between, declared.reading.Limits.Limits, declared.reading.ReadFault.ReadFault}
 use Rattle.bd_lines.specs.NextLine.{FailsToReadLine, FindsNoLine, GivesBeforeLast, GivesBytes, IsCause, IsLazy, ReadsLine, StopsReading, held_after}
 use Rattle.bd_lines.specs.Serving.{IsReadInTime, RepliesInTurn, ServesAll, ServesBefore, StarvesAt, StopsServing, StopsUnread}
-use Rattle.bd_lines.specs.declared.serving.ServeFault.{ServeFault}
+use Rattle.bd_lines.specs.{Lines.AreShort, Lines.AreWhole, Lines.IsFirstLine, Lines.commands_of, Lines.is_empty_line, Lines.not_empty}
+use Rattle.bd_lines.specs.{declared.serving.ServeFault.ServeFault, declared.line_buffer.LineBuffer.LineBuffer}
 use Rattle.bd_lines.specs.declared.serving.ServeFault.TheVariants as serves
 use Rattle.std.specs.Prelude.{◌⊎◌}
-use Rattle.bd_lines.specs.declared.line_buffer.LineBuffer.{LineBuffer}
-use Rattle.bd_lines.proofs.LinesLemmas.{commands_line, no_long_line, short_after, short_line, short_whole_line, commands_whole_line, newlines_more, newlines_of_line}
+use Rattle.bd_lines.proofs.LinesLemmas.{commands_line, no_long_line, short_after, short_line, short_whole_line, commands_whole_line, newlines_more}
+use Rattle.bd_lines.proofs.LinesLemmas.{newlines_of_line}
 use Rattle.bd_lines.proofs.NextLineLemmas.{before_last_then, cause_then, gives_none, gives_then, stops_then}
 
 -- ---- writers

@@ -1,9 +1,7 @@
 use Rattle.std.proofs.Common.{rules, ◌≡◌, ◌++◌, ap, ℕ, List, Ok, Err, true, false, [], length, sym, subst}
-use Rattle.std.proofs.lemmas.Result.{err_from_is_err_and}
-use Rattle.bd_lines.specs.Lines.{IsLine}
-use Rattle.bd_lines.specs.NextLine.{held_after}
+use Rattle.std.proofs.lemmas.{Result.err_from_is_err_and, List.nil_from_length}
+use Rattle.bd_lines.specs.{Lines.IsLine, NextLine.held_after}
 use Rattle.bd_lines.proofs.LinesLemmas.{line_grows}
-use Rattle.std.proofs.lemmas.List.{nil_from_length}
 use Rattle.bd_lines.proofs.NextLineLemmas as next
 use Rattle.bd_lines.proofs.line_buffer.LineBuffer.advance.Goals as goal
 
