@@ -2,33 +2,26 @@
 use Rattle.std.proofs.Common.{ap₂, subst, ◌⊎◌, inl, inr, ◌≡◌, ◌∙◌, ◌||◌, Bool, cond, true, false, not, refl, sym, ap, List, [], ◌∷◌, codes, Option, Some, None}
 use Rattle.std.proofs.Common.{true≢false, ℕ}
 use Rattle.std.specs.Prelude.{Result, Ok, Err, IfOk, IfErr, ⊤, Box, find, slice_get, unwrap_or, IfSome, is_some, option_and_then, option_map, if◌then◌else◌, ◌==◌}
-use Rattle.std.specs.Option.{option_map_or, option_or}
-use Rattle.std.proofs.lemmas.Slice.Eq.{bytes_eq-Decides}
-use Rattle.std.specs.Box.{box_value}
+use Rattle.std.specs.{Option.option_map_or, Option.option_or, Box.box_value}
+use Rattle.std.proofs.lemmas.{Slice.Eq.bytes_eq-Decides, Bool.and_parts}
 use Rattle.std.proofs.Math.Bool.{and-false}
-use Rattle.std.proofs.lemmas.Bool.{and_parts}
-use Rattle.clap.specs.Kinds.{HasKind, IsAmong, Kinds, check_kinds, or_else}
-use Rattle.clap.specs.Values.{kind_of}
-use Rattle.clap.specs.Matches.{found_of, subcommand_name_of}
-use Rattle.clap.specs.declared.parser.matches.ArgMatches.TheViews.{out-ArgMatches, out-SubCommand}
-use Rattle.clap.specs.declared.parser.matches.SubCommand.{SubCommand}
-use Rattle.clap.specs.declared.error.Error.{Error}
-use Rattle.clap.specs.declared.parser.matches.ArgMatches.{ArgMatches}
-use Rattle.clap.specs.Walk.{Row, rows_of, Text, answers_to, finished, first_of, nothing_held, rows_after, walk}
-use Rattle.clap.specs.Simple.{App, HasMatchesOf, Shape, built, built_leaf, entered, inherited, marked_built, on_top, subcommand_rows, with_leaf_noted, is_simple}
-use Rattle.clap.specs.Simple.{label_of, names_of, rows_at, subcommand_of, subcommand_rows_of}
-use Rattle.clap.specs.Faults.{check_fault, entered_fault, fault_of, is_simple_and_free, level_fault}
-use Rattle.clap.specs.Takes.{is_given, takes}
-use Rattle.clap.specs.declared.error.kind.ErrorKind.{ErrorKind}
-use Rattle.clap.specs.declared.error.kind.ErrorKind.TheVariants.{OutOfMemory, MissingRequiredArgument, MissingSubcommand, UnknownArgument, InvalidSubcommand}
-use Rattle.clap.proofs.OnLiterals.{clap_on_literals}
-use Rattle.clap.proofs.WalkLemmas.{first_value-rows, one_text-rows}
-use Rattle.bd_command_line.specs.declared.order.Order.{Order}
-use Rattle.bd_command_line.specs.declared.order.WordsFault.{WordsFault}
-use Rattle.bd_command_line.specs.declared.order.WordsFault.TheVariants.{NoMemory, Usage}
-use Rattle.bd_command_line.specs.CommandLine.{OrderView, GivesOrder, meant, check, dump, pack, serve, fault_for, file_app, find_app, find_ordered, told_as}
-use Rattle.bd_command_line.specs.CommandLine.{is_help_line, is_serve_of_input, line_app, order_of, ordered_by, parser_refusal, serves_input, IsFileCommand}
-use Rattle.bd_command_line.specs.CommandLine.{is_file_word, is_serve_input_line}
+use Rattle.clap.specs.Simple.{App, HasMatchesOf, Shape, built, built_leaf, entered, inherited, marked_built, on_top, subcommand_rows, with_leaf_noted}
+use Rattle.clap.specs.Simple.{is_simple, label_of, names_of, rows_at, subcommand_of, subcommand_rows_of}
+use Rattle.clap.specs.declared.error.kind.ErrorKind.TheVariants.{OutOfMemory, MissingRequiredArgument, MissingSubcommand, UnknownArgument}
+use Rattle.clap.specs.declared.error.kind.ErrorKind.TheVariants.{InvalidSubcommand}
+use Rattle.clap.specs.{Kinds.HasKind, Kinds.IsAmong, Kinds.Kinds, Kinds.check_kinds, Kinds.or_else, Values.kind_of, Matches.found_of}
+use Rattle.clap.specs.{Matches.subcommand_name_of, declared.parser.matches.ArgMatches.TheViews.out-ArgMatches}
+use Rattle.clap.specs.{declared.parser.matches.ArgMatches.TheViews.out-SubCommand, declared.parser.matches.SubCommand.SubCommand}
+use Rattle.clap.specs.{declared.error.Error.Error, declared.parser.matches.ArgMatches.ArgMatches, Walk.Row, Walk.rows_of, Walk.Text, Walk.answers_to}
+use Rattle.clap.specs.{Walk.finished, Walk.first_of, Walk.nothing_held, Walk.rows_after, Walk.walk, Faults.check_fault, Faults.entered_fault}
+use Rattle.clap.specs.{Faults.fault_of, Faults.is_simple_and_free, Faults.level_fault, Takes.is_given, Takes.takes}
+use Rattle.clap.specs.{declared.error.kind.ErrorKind.ErrorKind}
+use Rattle.clap.proofs.{OnLiterals.clap_on_literals, WalkLemmas.first_value-rows, WalkLemmas.one_text-rows}
+use Rattle.bd_command_line.specs.CommandLine.{OrderView, GivesOrder, meant, check, dump, pack, serve, fault_for, file_app, find_app, find_ordered}
+use Rattle.bd_command_line.specs.CommandLine.{told_as, is_help_line, is_serve_of_input, line_app, order_of, ordered_by, parser_refusal, serves_input}
+use Rattle.bd_command_line.specs.CommandLine.{IsFileCommand, is_file_word, is_serve_input_line}
+use Rattle.bd_command_line.specs.{declared.order.Order.Order, declared.order.WordsFault.WordsFault, declared.order.WordsFault.TheVariants.NoMemory}
+use Rattle.bd_command_line.specs.{declared.order.WordsFault.TheVariants.Usage}
 use Rattle.bd_command_line.proofs.FaultLemmas.{SameTold, given_first, is_plain, level-sound, same-entered, same-fault}
 
 refused : (k : ErrorKind) → k ∷ [] ≡ [] → ⊥

@@ -3,9 +3,7 @@ use Rattle.std.proofs.Common.{◌≡◌, ◌<◌, ◌^◌, ℕ, List, true, fals
 use Rattle.std.specs.Prelude.{option_and_then}
 use Rattle.std.proofs.lemmas.Bool.{cond_both}
 use Rattle.std.specs.Str.Parse.{ParsesUnsigned, digits_value, without_leading_plus, IsNumeral}
-use Rattle.clap.specs.Words.{ReadsOne}
-use Rattle.clap.specs.ValueTests.{is_unsigned_in}
-use Rattle.clap.specs.declared.builder.value_parser.ValueParser.TheVariants.{Unsigned}
+use Rattle.clap.specs.{Words.ReadsOne, ValueTests.is_unsigned_in, declared.builder.value_parser.ValueParser.TheVariants.Unsigned}
 use Rattle.clap.proofs.ValueTestLemmas.{accepts-Accepts, Accepts-accepts}
 use Rattle.bd_command_line.specs.CommandLine.{number_read}
 

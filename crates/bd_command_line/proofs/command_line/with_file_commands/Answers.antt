@@ -1,8 +1,6 @@
 use Rattle.std.proofs.Common.{◌∙◌, ◌≡◌, ◌+◌, sym, List, ℕ, Bor, drop, map, get_or, length, ◌<◌}
 use Rattle.std.proofs.lemmas.List.{at_drop_more}
-use Rattle.clap.specs.Simple.{App, with_subcommand}
-use Rattle.clap.specs.Walk.{Text}
-use Rattle.clap.specs.Words.{app_of}
+use Rattle.clap.specs.{Simple.App, Simple.with_subcommand, Walk.Text, Words.app_of}
 use Rattle.bd_command_line.specs.CommandLine.{file_app, with_file_commands}
 use Rattle.bd_command_line.proofs.command_line.with_file_commands.Goals as goal
 

@@ -1,8 +1,6 @@
 use Rattle.std.proofs.Common.{ap, ap₂, ◌∙◌, ◌||◌, ◌≡◌, ◌+◌, sym, List, ℕ, Bool, Bor, drop, map, get_or, length, ◌<◌}
 use Rattle.std.proofs.lemmas.List.{at_drop_more}
-use Rattle.clap.specs.Simple.{App, with_rule}
-use Rattle.clap.specs.Walk.{Text}
-use Rattle.clap.specs.Words.{app_of}
+use Rattle.clap.specs.{Simple.App, Simple.with_rule, Walk.Text, Words.app_of}
 use Rattle.bd_command_line.specs.CommandLine.{option_rule, with_options}
 use Rattle.bd_command_line.proofs.find_words.with_options.Goals as goal
 
