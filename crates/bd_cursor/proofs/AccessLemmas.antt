@@ -2,60 +2,34 @@
 use Rattle.std.proofs.Common.{◌≡◌, ◌≢◌, ◌+◌, ◌<◌, ℕ, zero, suc, Bool, true, false, cond, List, [], ◌∷◌, length, get_or, Option, Some, None, refl, sym, ap, ap₂, ◌∙◌}
 use Rattle.std.proofs.Common.{subst, arith, eq-eqb, filter}
 use Rattle.std.specs.Prelude.{◌==◌, ◌&&◌, ◌||◌, nat_lt, Contains, count_by}
-use Rattle.std.specs.Borrow.{Bor}
-use Rattle.std.specs.Option.{option_copied}
-use Rattle.std.specs.List.{list_any, range_with_len}
-use Rattle.std.specs.List.Sorted.{IsStrictlyIncreasing}
-use Rattle.std.specs.Ordering.{is_lt}
-use Rattle.std.specs.declared.cmp.Ordering.TheVariants.{Less, Equal, Greater}
+use Rattle.std.specs.{Borrow.Bor, Option.option_copied, List.list_any, List.range_with_len, List.Sorted.IsStrictlyIncreasing, Ordering.is_lt}
+use Rattle.std.specs.{declared.cmp.Ordering.TheVariants.Less, declared.cmp.Ordering.TheVariants.Equal, declared.cmp.Ordering.TheVariants.Greater}
+use Rattle.std.specs.{Cmp.IsTotalOrder}
 use Rattle.std.proofs.Math.Bool.{and-or_distrib_right, and-true, or-false}
 use Rattle.std.proofs.lemmas.Bool.{and_parts, and_right, eqb-true, le-ltb, lt-ltb, ltb-true, ne_eqb, or_parts, true≢false}
-use Rattle.std.proofs.lemmas.List.Folds.{Any-from_list_any, list_any_at}
 use Rattle.std.proofs.lemmas.List.FromFn.{get_or-range_with_len, length-range_with_len, sum_by-map-range_with_len_more}
-use Rattle.std.proofs.lemmas.List.Kept.{AllPairs-from_increasing}
+use Rattle.std.proofs.lemmas.{List.Folds.Any-from_list_any, List.Folds.list_any_at, List.Kept.AllPairs-from_increasing, Cmp.on_total, List.map-id}
+use Rattle.std.proofs.lemmas.{List.Elements.filter_agree, List.Sums.length-filter}
 use Rattle.bd_value.specs.Tree as trees
 use Rattle.bd_value.specs.Tree.{Doc, Tree, doc, fields_of, leaf}
-use Rattle.bd_answer.specs.Answer.{before, Selection, matching}
-use Rattle.bd_answer.specs.AnswerLaws.{IsAscending}
-use Rattle.bd_answer.specs.Source.{IsSource, passes}
-use Rattle.bd_bson.specs.Collection.{documents}
-use Rattle.bd_bson.specs.declared.collection.Dump.{Dump}
-use Rattle.bd_path.specs.Earliest.{SortPath}
-use Rattle.bd_path.specs.KeyList.{indexed_keys, keys, sparse_keys}
-use Rattle.bd_path.specs.Names.{Names}
-use Rattle.bd_path.specs.PathNames.{names_of}
-use Rattle.bd_path.specs.Sort.{sort_paths}
-use Rattle.bd_path.specs.declared.dir.Dir.{Dir}
-use Rattle.bd_path.specs.declared.path.Path.{Path}
+use Rattle.bd_answer.specs.{Answer.before, Answer.Selection, Answer.matching, AnswerLaws.IsAscending, Source.IsSource, Source.passes}
+use Rattle.bd_answer.specs.{Session.Explanation, Session.PlanKind}
+use Rattle.bd_bson.specs.{Collection.documents, declared.collection.Dump.Dump, Documents.document_at}
+use Rattle.bd_path.specs.{Earliest.SortPath, KeyList.indexed_keys, KeyList.keys, KeyList.sparse_keys, Names.Names, PathNames.names_of}
+use Rattle.bd_path.specs.{Sort.sort_paths, declared.dir.Dir.Dir, declared.path.Path.Path}
 use Rattle.bd_path.proofs.LawsLemmas.{has_a_key, sort_total}
-use Rattle.bd_filter.specs.Filter.{Filter}
-use Rattle.bd_filter.specs.FilterMatch.{matches}
-use Rattle.bd_filter.specs.FilterView.{filter_tree}
+use Rattle.bd_filter.specs.{Filter.Filter, FilterMatch.matches, FilterView.filter_tree}
 use Rattle.bd_request.specs.declared.request.Request.{Request}
-use Rattle.bd_bson.specs.Documents.{document_at}
 use Rattle.bd_sort.specs.Selection.{hits_of, order_of_keys, selection_of}
-use Rattle.bd_bounds.specs.Bounds.{KeyBounds, bounds, is_among}
-use Rattle.bd_bounds.specs.BoundsView.{seen_bounds}
-use Rattle.bd_bounds.specs.declared.bounds.Bounds.{Bounds}
-use Rattle.bd_bounds.specs.Laws.{is_fit}
+use Rattle.bd_bounds.specs.{Bounds.KeyBounds, Bounds.bounds, Bounds.is_among, BoundsView.seen_bounds, declared.bounds.Bounds.Bounds, Laws.is_fit}
 use Rattle.bd_bounds.proofs.SoundLemmas.{loses_no_match, sparse_loses_no_match}
-use Rattle.bd_index.specs.Entries.{KeyAt, entries_from, has_two_keys, is_multikey, keys_at, entries_of}
-use Rattle.bd_index.specs.BoundedPlaces.{AreWithin, lent_bounds}
-use Rattle.bd_index.specs.declared.index.Index.{Index}
+use Rattle.bd_index.specs.{Entries.KeyAt, Entries.entries_from, Entries.has_two_keys, Entries.is_multikey, Entries.keys_at, Entries.entries_of}
+use Rattle.bd_index.specs.{BoundedPlaces.AreWithin, BoundedPlaces.lent_bounds, declared.index.Index.Index}
 use Rattle.bd_index.proofs.WalkLemmas.{any_in}
-use Rattle.bd_cursor.specs.AccessView.{HasMatchesWithin, ServesFilter}
-use Rattle.std.specs.Cmp.{IsTotalOrder}
-use Rattle.std.proofs.lemmas.Cmp.{on_total}
-use Rattle.bd_answer.specs.Session.{Explanation, PlanKind}
-use Rattle.bd_answer.proofs.OrderLemmas.{filter_all}
-use Rattle.bd_answer.proofs.AnswerLemmas.{in_contains}
-use Rattle.bd_answer.proofs.SourceLemmas.{batch_in_order}
-use Rattle.bd_answer.proofs.UnsortedLemmas.{all_places, unsorted_ordered}
-use Rattle.bd_cursor.specs.AccessPath.{mark_names}
-use Rattle.bd_cursor.specs.Explanation.{entries_within, index_counts, index_mark, places_within}
-use Rattle.std.proofs.lemmas.List.{map-id}
-use Rattle.std.proofs.lemmas.List.Elements.{filter_agree}
-use Rattle.std.proofs.lemmas.List.Sums.{length-filter}
+use Rattle.bd_cursor.specs.{AccessView.HasMatchesWithin, AccessView.ServesFilter, AccessPath.mark_names, Explanation.entries_within}
+use Rattle.bd_cursor.specs.{Explanation.index_counts, Explanation.index_mark, Explanation.places_within}
+use Rattle.bd_answer.proofs.{OrderLemmas.filter_all, AnswerLemmas.in_contains, SourceLemmas.batch_in_order, UnsortedLemmas.all_places}
+use Rattle.bd_answer.proofs.{UnsortedLemmas.unsorted_ordered}
 
 -- ---- places that ascend
 

@@ -2,33 +2,22 @@
 use Rattle.std.proofs.Common.{◌≡◌, ℕ, Bool, true, false, cond, List, [], ◌∷◌, Option, Some, None, refl, sym, ap, ap₂, ◌∙◌, subst, suc, arith, ◌+◌, ◌<◌, zero, length}
 use Rattle.std.proofs.Common.{get_or, map}
 use Rattle.std.specs.Prelude.{◌==◌, ◌&&◌, not, string_bytes, is_some, nat_lt, ◌||◌}
-use Rattle.std.specs.Str.{bytes_eq}
-use Rattle.std.specs.List.{join_with_byte, list_any, position, prefix_len, position_or_len}
-use Rattle.std.proofs.lemmas.Bool.{and_from, and_parts, ne_eqb, lt-ltb, false_from_ne_true, not-true, or_parts}
-use Rattle.std.proofs.lemmas.List.Splits.{join_with_byte-slice_split}
-use Rattle.std.proofs.lemmas.Slice.Eq.{bytes_eq-Decides}
-use Rattle.bd_path.specs.Earliest.{SortPath}
-use Rattle.bd_path.specs.Names.{Names, components_of}
-use Rattle.bd_path.specs.PathNames.{names_of}
-use Rattle.bd_path.specs.Sort.{sort_paths}
-use Rattle.bd_path.specs.declared.dir.Dir.{Dir}
-use Rattle.bd_path.specs.declared.path.Path.{Path}
-use Rattle.bd_index.specs.declared.index.Index.{Index}
-use Rattle.bd_cursor.specs.AccessPath.{is_same_path, walk_dir, AccessPath, bounded, first_walked, mark_bounds, named_access, scanned}
-use Rattle.bd_cursor.specs.AccessPath.{serves_by, serving_bounds, walk_or, walked, access_on}
-use Rattle.bd_cursor.specs.Explanation.{index_mark}
+use Rattle.std.specs.{Str.bytes_eq, List.join_with_byte, List.list_any, List.position, List.prefix_len, List.position_or_len}
+use Rattle.std.proofs.lemmas.{Bool.and_from, Bool.and_parts, Bool.ne_eqb, Bool.lt-ltb, Bool.false_from_ne_true, Bool.not-true, Bool.or_parts}
+use Rattle.std.proofs.lemmas.{List.Splits.join_with_byte-slice_split, Slice.Eq.bytes_eq-Decides, List.get_or-map, List.length-map}
+use Rattle.std.proofs.lemmas.{List.Quantifiers.position-Some, Bool.Decides.same_from_decides, Option.cond_some, Option.none-some}
+use Rattle.bd_path.specs.{Earliest.SortPath, Names.Names, Names.components_of, PathNames.names_of, Sort.sort_paths, declared.dir.Dir.Dir}
+use Rattle.bd_path.specs.{declared.path.Path.Path}
+use Rattle.bd_index.specs.{declared.index.Index.Index, IndexView.IsIndexOf}
+use Rattle.bd_cursor.specs.AccessPath.{is_same_path, walk_dir, AccessPath, bounded, first_walked, mark_bounds, named_access, scanned, serves_by}
+use Rattle.bd_cursor.specs.AccessPath.{serving_bounds, walk_or, walked, access_on}
+use Rattle.bd_cursor.specs.{Explanation.index_mark, AccessView.HasSortOrder}
 use Rattle.bd_value.specs.Tree.{Doc}
 use Rattle.bd_answer.specs.Session.{IndexMark, is_on}
 use Rattle.bd_bson.specs.declared.collection.Dump.{Dump}
 use Rattle.bd_filter.specs.Filter.{Filter}
 use Rattle.bd_request.specs.declared.request.Request.{Request}
 use Rattle.bd_bounds.specs.Bounds.{KeyBounds}
-use Rattle.bd_index.specs.IndexView.{IsIndexOf}
-use Rattle.bd_cursor.specs.AccessView.{HasSortOrder}
-use Rattle.std.proofs.lemmas.List.{get_or-map, length-map}
-use Rattle.std.proofs.lemmas.List.Quantifiers.{position-Some}
-use Rattle.std.proofs.lemmas.Bool.Decides.{same_from_decides}
-use Rattle.std.proofs.lemmas.Option.{cond_some, none-some}
 
 -- ---- the same path
 

@@ -1,22 +1,19 @@
 -- The places that a cursor has left: one without a sort, which goes on where it stands, and one with the list of its places.
 use Rattle.std.proofs.Common.{◌≡◌, ◌+◌, ◌-◌, ◌<◌, ◌≤◌, ℕ, Bool, true, false, cond, List, [], ◌∷◌, ◌++◌, length, drop, refl, ap, ◌∙◌, filter, arith, zero, suc}
 use Rattle.std.proofs.Common.{Option, Some, None, sym, take, inl, inr, subst, ◌⊎◌, min, eqb}
-use Rattle.std.specs.List.{range_with_len}
-use Rattle.bd_answer.specs.Answer.{at_most, Mark, answer, before, cut, ordered, rest, Selection, is_empty}
-use Rattle.std.specs.Cmp.{IsTotalOrder}
-use Rattle.std.proofs.lemmas.Cmp.{on_total}
+use Rattle.std.specs.{List.range_with_len, Cmp.IsTotalOrder}
+use Rattle.bd_answer.specs.{Answer.at_most, Answer.Mark, Answer.answer, Answer.before, Answer.cut, Answer.ordered, Answer.rest, Answer.Selection}
+use Rattle.bd_answer.specs.{Answer.is_empty, Source.places_after}
+use Rattle.std.proofs.lemmas.List.{drop-take, take_all, drop_min, length-drop, length-take, append-nil, drop_all}
+use Rattle.std.proofs.lemmas.{Cmp.on_total, Bool.cases_lt, Bool.ne_eqb}
 use Rattle.bd_value.specs.Tree.{Doc}
 use Rattle.bd_answer.proofs.UnsortedLemmas.{IsUnsorted, unsorted_after, unsorted_ordered, all_places}
-use Rattle.bd_path.specs.Earliest.{sort_cmp}
-use Rattle.bd_path.specs.Sort.{sort_paths}
+use Rattle.bd_path.specs.{Earliest.sort_cmp, Sort.sort_paths}
 use Rattle.bd_path.proofs.LawsLemmas.{sort_total}
 use Rattle.bd_filter.specs.FilterView.{filter_tree}
 use Rattle.bd_bson.specs.Documents.{document_at}
 use Rattle.bd_sort.specs.Selection.{selection_of, hits_of}
 use Rattle.bd_request.specs.declared.request.Request.{Request}
-use Rattle.std.proofs.lemmas.List.{drop-take, take_all, drop_min, length-drop, length-take, append-nil, drop_all}
-use Rattle.std.proofs.lemmas.Bool.{cases_lt, ne_eqb}
-use Rattle.bd_answer.specs.Source.{places_after}
 
 abbrev pub unseen : ℕ → (ℕ → Bool) → ℕ → List ℕ
 unseen count hits next = filter hits (range_with_len next (count - next))

@@ -1,18 +1,15 @@
 -- The indexes of a session, and its cursors: how one is opened, found by its number, changed and taken out.
 use Rattle.std.proofs.Common.{◌≡◌, ℕ, Bool, true, false, not, cond, List, [], ◌∷◌, Result, Ok, Err, map, refl, sym, ap, ◌∙◌, subst, filter, ◌-◌, ◌<◌, ◌≤◌, ◌==◌}
 use Rattle.std.proofs.Common.{length, get_or, arith, zero, suc, Some, None, slice_get, slice_set}
-use Rattle.bd_answer.specs.Session.{Call, IndexMark, Reply, State, is_on, reply, state_after, without_index, OpenCursor, batch_of, cursor_of, gave, greatest_size}
-use Rattle.bd_answer.specs.Session.{moved, next_reply, with_moved, without}
+use Rattle.bd_answer.specs.Session.{Call, IndexMark, Reply, State, is_on, reply, state_after, without_index, OpenCursor, batch_of, cursor_of, gave}
+use Rattle.bd_answer.specs.Session.{greatest_size, moved, next_reply, with_moved, without}
 use Rattle.bd_index.specs.declared.index.Index.{Index}
 use Rattle.bd_request.specs.declared.refused.Refused.{Refused}
-use Rattle.bd_cursor.specs.Explanation.{index_mark}
-use Rattle.bd_cursor.specs.SessionView.{IsRefusedCall, Steps, dump_of, state_of, open_cursor}
-use Rattle.bd_cursor.specs.declared.session.Session.{Session}
-use Rattle.std.proofs.lemmas.Bool.{eq-eqb, ne_eqb, le-ltb, cond_both}
+use Rattle.bd_cursor.specs.{Explanation.index_mark, SessionView.IsRefusedCall, SessionView.Steps, SessionView.dump_of, SessionView.state_of}
+use Rattle.bd_cursor.specs.{SessionView.open_cursor, declared.session.Session.Session, declared.cursor.Cursor.Cursor}
+use Rattle.std.proofs.lemmas.{Bool.eq-eqb, Bool.ne_eqb, Bool.le-ltb, Bool.cond_both, Option.slice_get-map, Option.slice_get_read}
 use Rattle.bd_bson.specs.declared.collection.Dump.{Dump}
-use Rattle.bd_cursor.specs.declared.cursor.Cursor.{Cursor}
 use Rattle.std.specs.Prelude.{option_map}
-use Rattle.std.proofs.lemmas.Option.{slice_get-map, slice_get_read}
 
 pub with_marks : (s : State) (is js : List IndexMark) → is ≡ js → record s { indexes = is } ≡ record s { indexes = js }
 with_marks s is js e = ap (λ (xs : List IndexMark). (let t : State = record s { indexes = xs } in t)) e

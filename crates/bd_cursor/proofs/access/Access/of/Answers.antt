@@ -6,8 +6,7 @@ use Rattle.bd_bson.specs.Collection.{documents}
 use Rattle.bd_path.specs.Sort.{sort_paths}
 use Rattle.bd_filter.specs.FilterView.{filter_tree}
 use Rattle.bd_index.specs.IndexView.{IsIndexOf}
-use Rattle.bd_cursor.specs.AccessPath.{access_of, way_of}
-use Rattle.bd_cursor.specs.Explanation.{index_mark}
+use Rattle.bd_cursor.specs.{AccessPath.access_of, AccessPath.way_of, Explanation.index_mark}
 use Rattle.bd_cursor.proofs.AccessPathLemmas.{access_elsewhere, access_named, found_below}
 use Rattle.std.proofs.lemmas.Result.{IfOk-weaker}
 use Rattle.bd_cursor.proofs.access.Access.of.Goals as goal
