@@ -1,13 +1,10 @@
 pub mod OrderLemmas
 pub mod BatchLemmas
 pub mod AnswerLemmas
-pub mod RestLemmas
 pub mod SessionLemmas
-pub mod AttemptLemmas
 pub mod SourceLemmas
 pub mod UnsortedLemmas
 pub mod FirstsLemmas
 pub mod StableLemmas
-pub mod FoundLemmas
 pub mod PartsLemmas
 pub mod SelectionLemmas

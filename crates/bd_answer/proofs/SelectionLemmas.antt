@@ -1,13 +1,11 @@
 -- Selections that say the same of the places of a collection have the same answer.
-use Rattle.std.proofs.Common.{◌≡◌, ◌<◌, ℕ, Bool, cond, List, [], ◌∷◌, length, inl, inr, refl, sym, ap, ◌∙◌, subst, filter, arith, zero, suc, Some, nat_cmp}
+use Rattle.std.proofs.Common.{◌≡◌, ◌<◌, ℕ, Bool, cond, List, [], ◌∷◌, length, inl, inr, refl, sym, ap, ◌∙◌, subst, filter, arith, Some, nat_cmp}
 use Rattle.std.specs.Prelude.{slice_get}
-use Rattle.std.specs.List.{range_with_len, filter_map}
-use Rattle.std.specs.Option.{option_cmp}
-use Rattle.std.specs.Ordering.{ordering_then, is_lt}
-use Rattle.bd_answer.specs.Answer.{Selection, insert, insert_all, before, matching, ordered, answer}
-use Rattle.bd_answer.specs.PartsLaw.{DocumentRequest, matches_some, selection_over, found_in, IsSelectionOf}
-use Rattle.bd_answer.proofs.OrderLemmas.{In, filter_in, insert_in, range_in}
-use Rattle.bd_answer.proofs.UnsortedLemmas.{filter_same}
+use Rattle.std.specs.{List.range_with_len, List.filter_map, Option.option_cmp, Ordering.ordering_then, Ordering.is_lt}
+use Rattle.std.proofs.lemmas.Option.{slice_get_cases}
+use Rattle.bd_answer.specs.{Answer.Selection, Answer.insert, Answer.insert_all, Answer.before, Answer.matching, Answer.ordered, Answer.answer}
+use Rattle.bd_answer.specs.{PartsLaw.DocumentRequest, PartsLaw.matches_some, PartsLaw.selection_over, PartsLaw.found_in, PartsLaw.IsSelectionOf}
+use Rattle.bd_answer.proofs.{OrderLemmas.In, OrderLemmas.filter_in, OrderLemmas.insert_in, OrderLemmas.range_in, UnsortedLemmas.filter_same}
 
 -- tests that say the same of the places below n
 abbrev Alike : ℕ → (ℕ → ℕ → Bool) → (ℕ → ℕ → Bool) → Type 0
@@ -40,9 +38,7 @@ ordered_alike a b count hits by =
     (λ p i. let r = range_in 0 b.count p (filter_in b.hits (range_with_len 0 b.count) p i).0 in omega arith)
 
 document_at : {A : Type 0} (ds : List A) (i : ℕ) → i < length ds → (d : A) × (slice_get ds i ≡ Some d)
-document_at [] i l = absurd (omega arith)
-document_at (d ∷ ds) zero l = (d, refl)
-document_at (d ∷ ds) (suc i) l = document_at ds i (omega arith)
+document_at ds i l = elim (slice_get_cases ds i).1 [ inl x ↦ (x.0, x.2) | inr past ↦ absurd (omega (arith, past.0)) ]
 
 answer_alike : (a b : Selection) → ordered a ≡ ordered b → a.skip ≡ b.skip → a.limit ≡ b.limit → answer a ≡ answer b
 answer_alike a b e s l = rw (e, s, l) refl

@@ -4,6 +4,7 @@ ghost use Rattle.bd_answer.specs.PartsLaw.{AnswerGivesFound, PartsGiveTheWhole, 
 ghost use Rattle.bd_answer.specs.SessionLaws.{FindGivesTheAnswer, FindOutlastsWant, ResumeGivesTheRest, ResumeOutlastsWant};
 
 /// Of two places one comes before the other.
+#[tactic(auto, using(crate::proofs::AnswerLemmas::before_strict))]
 pub fn places_are_ordered()
     ensures { BeforeIsStrict }
 {}
@@ -16,11 +17,13 @@ pub fn answers_are_ordered()
 {}
 
 /// The batches of an answer, joined, are its first places, as many as the sizes ask for.
+#[tactic(auto, using(crate::proofs::BatchLemmas::batches_joined))]
 pub fn batches_are_the_first()
     ensures { BatchesAreTheFirst }
 {}
 
 /// A mark tells where an answer goes on: what follows it is what was not given.
+#[tactic(auto, using(crate::proofs::BatchLemmas::rest_of_answer, crate::proofs::BatchLemmas::rest_of_rest))]
 pub fn rests_follow()
     ensures answer { RestOfAnswer }
     ensures rest { RestOfRest }
@@ -38,6 +41,7 @@ pub fn sessions_keep_to_the_answer()
 /// A collection may be cut into parts, and each part asked by itself: the same request over what the parts gave, joined, gives
 /// the answer of the whole. So may any stretch of it. `T` is what documents are, and the answers over them are those over their
 /// places.
+#[tactic(auto, using(crate::proofs::PartsLemmas::parts_give, crate::proofs::PartsLemmas::stretch_gives, crate::proofs::SelectionLemmas::answer_gives))]
 pub fn parts_give_the_whole<T>()
     ensures parts { PartsGiveTheWhole T }
     ensures stretch { StretchGivesTheWhole T }

@@ -1,33 +1,28 @@
--- The lines that are taken have an order.
-use Rattle.std.proofs.Common.{ap₂, subst, ◌⊎◌, inl, inr, ◌≡◌, ◌∙◌, ◌&&◌, ◌||◌, Bool, cond, true, false, not, refl, sym, ap, List, [], ◌∷◌, codes, Option, Some, None, true≢false}
-use Rattle.std.specs.Prelude.{Result, Ok, Err, IfOk, IfErr, ⊤, Box, find, slice_get, unwrap_or, IfSome, is_some, option_and_then, option_map, if◌then◌else◌}
-use Rattle.std.specs.List.{list_all}
-use Rattle.std.specs.Option.{option_map_or, option_or}
-use Rattle.std.specs.Str.{bytes_eq}
-use Rattle.std.proofs.lemmas.Slice.Eq.{bytes_eq-Decides}
-use Rattle.clap.specs.Kinds.{HasKind, IsAmong, Kinds, check_kinds}
-use Rattle.clap.specs.Values.{kind_of}
-use Rattle.clap.specs.Matches.{found_of, subcommand_name_of}
-use Rattle.clap.specs.declared.parser.matches.ArgMatches.TheViews.{out-ArgMatches, out-SubCommand}
-use Rattle.clap.specs.declared.parser.matches.SubCommand.{SubCommand}
-use Rattle.std.specs.Box.{box_value}
-use Rattle.clap.specs.declared.error.Error.{Error}
-use Rattle.clap.specs.declared.parser.matches.ArgMatches.{ArgMatches}
-use Rattle.clap.specs.Walk.{Row, rows_of, Text, answers_to, finished, first_of, nothing_held, rows_after, settled, walk, walk_from}
+-- The lines that are taken have an order; those of a command that takes a file and nothing else are taken.
+use Rattle.std.proofs.Common.{ap₂, subst, ◌⊎◌, inl, inr, ◌≡◌, ◌∙◌, ◌||◌, Bool, cond, true, false, not, refl, sym, ap, List, [], ◌∷◌, codes, Option, Some, None}
+use Rattle.std.proofs.Common.{true≢false, ℕ}
+use Rattle.std.specs.Prelude.{Result, Ok, Err, IfOk, IfErr, ⊤, Box, find, slice_get, unwrap_or, IfSome, is_some, option_and_then, option_map, if◌then◌else◌, ◌==◌}
+use Rattle.std.specs.{Option.option_map_or, Option.option_or, Box.box_value}
+use Rattle.std.proofs.lemmas.{Slice.Eq.bytes_eq-Decides, Bool.and_parts}
+use Rattle.std.proofs.Math.Bool.{and-false}
 use Rattle.clap.specs.Simple.{App, HasMatchesOf, Shape, built, built_leaf, entered, inherited, marked_built, on_top, subcommand_rows, with_leaf_noted}
 use Rattle.clap.specs.Simple.{is_simple, label_of, names_of, rows_at, subcommand_of, subcommand_rows_of}
-use Rattle.clap.specs.Faults.{check_fault, defaults_fault, entered_fault, fault_of, is_simple_and_free, level_fault, settle_fault, walk_fault}
-use Rattle.clap.specs.Takes.{is_given, takes}
-use Rattle.clap.specs.declared.error.kind.ErrorKind.{ErrorKind}
-use Rattle.clap.specs.declared.error.kind.ErrorKind.TheVariants.{OutOfMemory, MissingRequiredArgument, MissingSubcommand, UnknownArgument, InvalidSubcommand}
-use Rattle.clap.proofs.OnLiterals.{clap_on_literals}
-use Rattle.bd_command_line.specs.declared.order.Order.{Order}
-use Rattle.bd_command_line.specs.declared.order.WordsFault.{WordsFault}
-use Rattle.bd_command_line.specs.declared.order.WordsFault.TheVariants.{NoMemory, Usage}
-use Rattle.bd_command_line.specs.CommandLine.{OrderView, GivesOrder, meant, check, dump, pack, serve, fault_for, file_app, find_app, find_ordered, told_as}
-use Rattle.bd_command_line.specs.CommandLine.{is_help_line, is_serve_of_input, line_app, order_of, ordered_by, parser_refusal, serves_input}
-use Rattle.bd_command_line.proofs.RowValueLemmas.{AllFilled, defaults-filled, fills, given_first, left_nil, right_nil, settled-filled, walk-filled}
-use Rattle.bd_command_line.proofs.FaultLemmas.{SameTold, same-fault}
+use Rattle.clap.specs.declared.error.kind.ErrorKind.TheVariants.{OutOfMemory, MissingRequiredArgument, MissingSubcommand, UnknownArgument}
+use Rattle.clap.specs.declared.error.kind.ErrorKind.TheVariants.{InvalidSubcommand}
+use Rattle.clap.specs.{Kinds.HasKind, Kinds.IsAmong, Kinds.Kinds, Kinds.check_kinds, Kinds.or_else, Values.kind_of, Matches.found_of}
+use Rattle.clap.specs.{Matches.subcommand_name_of, declared.parser.matches.ArgMatches.TheViews.out-ArgMatches}
+use Rattle.clap.specs.{declared.parser.matches.ArgMatches.TheViews.out-SubCommand, declared.parser.matches.SubCommand.SubCommand}
+use Rattle.clap.specs.{declared.error.Error.Error, declared.parser.matches.ArgMatches.ArgMatches, Walk.Row, Walk.rows_of, Walk.Text, Walk.answers_to}
+use Rattle.clap.specs.{Walk.finished, Walk.first_of, Walk.nothing_held, Walk.rows_after, Walk.walk, Faults.check_fault, Faults.entered_fault}
+use Rattle.clap.specs.{Faults.fault_of, Faults.is_simple_and_free, Faults.level_fault, Takes.is_given, Takes.takes}
+use Rattle.clap.specs.{declared.error.kind.ErrorKind.ErrorKind}
+use Rattle.clap.proofs.{OnLiterals.clap_on_literals, WalkLemmas.first_value-rows, WalkLemmas.one_text-rows}
+use Rattle.bd_command_line.specs.CommandLine.{OrderView, GivesOrder, meant, check, dump, pack, serve, fault_for, file_app, find_app, find_ordered}
+use Rattle.bd_command_line.specs.CommandLine.{told_as, is_help_line, is_serve_of_input, line_app, order_of, ordered_by, parser_refusal, serves_input}
+use Rattle.bd_command_line.specs.CommandLine.{IsFileCommand, is_file_word, is_serve_input_line}
+use Rattle.bd_command_line.specs.{declared.order.Order.Order, declared.order.WordsFault.WordsFault, declared.order.WordsFault.TheVariants.NoMemory}
+use Rattle.bd_command_line.specs.{declared.order.WordsFault.TheVariants.Usage}
+use Rattle.bd_command_line.proofs.FaultLemmas.{SameTold, given_first, is_plain, level-sound, same-entered, same-fault}
 
 refused : (k : ErrorKind) → k ∷ [] ≡ [] → ⊥
 refused k e = cc
@@ -37,25 +32,6 @@ line_simple = refl
 
 pub line_free : is_simple_and_free line_app ≡ true
 line_free = refl
-
--- a level without a fault, by its parts
-level_rows : (s : Shape) (words : List Text) → list_all fills s.rules ≡ true → level_fault s [] nothing_held words false [] ≡ []
-    → AllFilled (rows_after s.rules [] words)
-level_rows s words fill e =
-    let end = (walk s.rules [] nothing_held words).held in
-    let walked = left_nil (walk_fault s [] (walk_from nothing_held) words) _ e in
-    let after = right_nil (walk_fault s [] (walk_from nothing_held) words) _ e in
-    defaults-filled s.rules (settled s.rules end).rows
-    (settled-filled s.rules s.args_override_self fill end (left_nil _ _ after) (walk-filled s [] fill (walk_from nothing_held) words walked tt))
-
-level_checks : (s : Shape) (names : List (Text × List Text)) (words : List Text) (has : Bool) (below : Kinds) → level_fault s names nothing_held words has below ≡ []
-    → (below ≡ []) × (check_fault s (finished s.rules (walk s.rules names nothing_held words).held) has ≡ [])
-level_checks s names words has below e =
-    let end = (walk s.rules names nothing_held words).held in
-    let after = right_nil (walk_fault s names (walk_from nothing_held) words) _ e in
-    let settle = right_nil below _ after in
-    let defaults = right_nil (settle_fault s.rules s.args_override_self end) _ settle in
-    (left_nil below _ after, right_nil (defaults_fault (settled s.rules end).rows s.rules) _ defaults)
 
 -- what holds of each command
 EachShape : (Shape → Type 0) → List Shape → Type 0
@@ -76,12 +52,13 @@ file_given true rest e = refl
 file_given false rest e = absurd (refused MissingRequiredArgument e)
 
 -- a command that requires FILE has it
-file_there : (s : Shape) (words : List Text) → list_all fills s.rules ≡ true
+file_there : (s : Shape) (words : List Text) → is_plain s ≡ true
     → ((rows : List Row) → check_fault s rows false ≡ [] → is_given (codes "file") rows ≡ true)
     → level_fault s [] nothing_held words false [] ≡ [] → is_some (first_of (codes "file") (rows_after s.rules [] words)) ≡ true
-file_there s words fill given e =
+file_there s words plain given e =
     let rows = rows_after s.rules [] words in
-    given_first (codes "file") rows (level_rows s words fill e) (given rows (level_checks s [] words false [] e).1)
+    let level = (level-sound s [] words false [] plain tt).leaves e in
+    given_first (codes "file") rows level.0 (given rows level.2)
 
 some_mapped : {X Y : Type 0} (f : X → Y) (o : Option X) → is_some o ≡ true → is_some (option_map f o) ≡ true
 some_mapped f None e = let bad : ⊥ = cc in absurd bad
@@ -120,8 +97,9 @@ commands_order = (
 pub order_there : (words : List Text) → fault_of line_app words ≡ [] → is_some (order_of words) ≡ true
 order_there words e =
     let stop = (walk top.rules names nothing_held words).stopped in
-    let checks = level_checks top names words (is_some (entered (built line_app) stop)) (entered_fault (built line_app) stop) e in
-    at_stop stop checks.0 checks.1
+    let level = level-sound top names words (is_some (entered (built line_app) stop)) (entered_fault (built line_app) stop) refl (same-entered (built line_app) stop refl) in
+    let checks = level.leaves e in
+    at_stop stop checks.1 checks.2
   where
     top : Shape
     top = (built line_app).top
@@ -149,13 +127,9 @@ pub help_fault : (rest : List Text) → fault_of line_app (codes "help" ∷ rest
 unfolding clap_on_literals
 help_fault rest = refl
 
-and_false : (b : Bool) → (b && false) ≡ false
-and_false true = refl
-and_false false = refl
-
 help_not_taken : (rest : List Text) → takes line_app (codes "help" ∷ rest) ≡ false
 unfolding clap_on_literals
-help_not_taken rest = and_false _
+help_not_taken rest = and-false _
 
 help_words : (words : List Text) → is_help_line words ≡ true → (rest : List Text) × (words ≡ codes "help" ∷ rest)
 help_words [] e = let f : ⊥ = cc in absurd f
@@ -222,21 +196,16 @@ pair_read (Some p) name rows n r =
     let r' : rows ≡ p.1 = ap (λ o. unwrap_or o rows) r in
     ap₂ (λ (a : Text) (b : List Row). Some (a, b)) (sym n') (sym r')
 
+-- what the getters read of the matches
+pub ruleset readings = (first_value-rows, one_text-rows)
+
+same_cond : {X : Type 0} (b : Bool) (x : X) → cond b x x ≡ x
+same_cond true x = refl
+same_cond false x = refl
+
 -- a command without FILE has no order
 pub no_file : (name : Text) (rows : List Row) → first_of (codes "file") rows ≡ None → ordered_by name rows ≡ None
-no_file name rows e = go (bytes_eq name (codes "dump")) (bytes_eq name (codes "check")) (bytes_eq name (codes "pack")) (bytes_eq name (codes "find")) (bytes_eq name (codes "serve"))
-  where
-    go : (a b c d f : Bool) → cond a (option_map dump (first_of (codes "file") rows))
-        (cond b (option_map check (first_of (codes "file") rows))
-        (cond c (option_map pack (first_of (codes "file") rows))
-        (cond d (option_map (find_ordered rows) (first_of (codes "file") rows))
-        (cond f (option_map serve (first_of (codes "file") rows)) None)))) ≡ None
-    go true b c d f = ap (option_map dump) e
-    go false true c d f = ap (option_map check) e
-    go false false true d f = ap (option_map pack) e
-    go false false false true f = ap (option_map (find_ordered rows)) e
-    go false false false false true = ap (option_map serve) e
-    go false false false false false = refl
+no_file name rows e = rw e (simp same_cond)
 
 -- ---- the clauses of the parse, at the program's line
 
@@ -277,3 +246,90 @@ answered (Ok o) words line order is taken other ok err = orders_when (Ok o) word
 answered (Err f) words line order is taken other ok err =
     let refusal = refusal_none words (ap (fault_of line_app) is ∙ taken.0) in
     only_memory words f (told_by words None false refusal (served_as words order false (ap order_of is ∙ taken.1) other)) err
+
+-- ---- lines of a command that takes a file and nothing else
+
+-- the words of such a command give its file
+abbrev Takes : Text → List Text → Text → Type 0
+Takes name words file =
+    (level_fault (file_shape name) [] nothing_held words false [] ≡ [])
+    × (first_of (codes "file") (rows_after (file_shape name).rules [] words) ≡ Some file)
+
+file_short : (name : Text) (x : ℕ) (xs : List ℕ) → (x == 45) ≡ true → is_file_word (x ∷ xs) ≡ true → Takes name ((x ∷ xs) ∷ []) (x ∷ xs)
+unfolding clap_on_literals
+file_short name x [] is e = (simp is refl, simp is refl)
+file_short name x (y ∷ ys) is e = let f : ⊥ = true≢false (sym (rw is at e)) in absurd f
+
+file_word : (name : Text) (x : ℕ) (xs : List ℕ) (b : Bool) → (x == 45) ≡ b → is_file_word (x ∷ xs) ≡ true → Takes name ((x ∷ xs) ∷ []) (x ∷ xs)
+unfolding clap_on_literals
+file_word name x xs false is e = (simp is refl, simp is refl)
+file_word name x xs true is e = file_short name x xs is e
+
+file_plain : (name file : Text) → is_file_word file ≡ true → Takes name (file ∷ []) file
+unfolding clap_on_literals
+file_plain name [] e = (refl, refl)
+file_plain name (x ∷ xs) e = file_word name x xs (x == 45) refl e
+
+file_escaped : (name file : Text) → Takes name (codes "--" ∷ file ∷ []) file
+unfolding clap_on_literals
+file_escaped name file = (refl, refl)
+
+-- the words of a line after its first one go to the command
+abbrev Enters : Text → (Text → OrderView) → List Text → Type 0
+Enters name order words =
+    (fault_of line_app (name ∷ words) ≡ or_else (level_fault (file_shape name) [] nothing_held words false []) [])
+    × (order_of (name ∷ words) ≡ option_map order (first_of (codes "file") (rows_after (file_shape name).rules [] words)))
+
+enters_plain : (name : Text) (order : Text → OrderView) → IsFileCommand name order → (file : Text) → Enters name order (file ∷ [])
+unfolding clap_on_literals
+enters_plain name order (inl e) file = rw (e.0, e.1) (refl, refl)
+enters_plain name order (inr (inl e)) file = rw (e.0, e.1) (refl, refl)
+enters_plain name order (inr (inr (inl e))) file = rw (e.0, e.1) (refl, refl)
+enters_plain name order (inr (inr (inr e))) file = rw (e.0, e.1) (refl, refl)
+
+enters_escaped : (name : Text) (order : Text → OrderView) → IsFileCommand name order → (file : Text) → Enters name order (codes "--" ∷ file ∷ [])
+unfolding clap_on_literals
+enters_escaped name order (inl e) file = rw (e.0, e.1) (refl, refl)
+enters_escaped name order (inr (inl e)) file = rw (e.0, e.1) (refl, refl)
+enters_escaped name order (inr (inr (inl e))) file = rw (e.0, e.1) (refl, refl)
+enters_escaped name order (inr (inr (inr e))) file = rw (e.0, e.1) (refl, refl)
+
+taken : (name file : Text) (order : Text → OrderView) (words : List Text) → Enters name order words → Takes name words file → IsTaken (name ∷ words) (order file)
+taken name file order words enters takes = (enters.0 ∙ ap (λ ks. or_else ks []) takes.0, enters.1 ∙ ap (option_map order) takes.1)
+
+pub file_taken : (name file : Text) (order : Text → OrderView) → IsFileCommand name order → is_file_word file ≡ true
+    → IsTaken (name ∷ file ∷ []) (order file)
+file_taken name file order which plain = taken name file order (file ∷ []) (enters_plain name order which file) (file_plain name file plain)
+
+pub file_escaped_taken : (name file : Text) (order : Text → OrderView) → IsFileCommand name order
+    → IsTaken (name ∷ codes "--" ∷ file ∷ []) (order file)
+file_escaped_taken name file order which =
+    taken name file order (codes "--" ∷ file ∷ []) (enters_escaped name order which file) (file_escaped name file)
+
+-- ---- `serve` of the standard input
+
+-- what the words are answered with where the parser reads them so
+abbrev IsOfInput : List Text → Type 0
+IsOfInput words = (serves_input words ≡ true) × (fault_for words ≡ Some Usage)
+
+taken_of_input : (words : List Text) → IsTaken words (serve (codes "-")) → IsOfInput words
+taken_of_input words taken =
+    let served = served_as words (serve (codes "-")) true taken.1 refl in
+    (served, told_by words None true (refusal_none words taken.0) served)
+
+pub line_of_input : (words : List Text) → is_serve_input_line words ≡ true → IsOfInput words
+line_of_input (a ∷ b ∷ []) e =
+    let h = and_parts _ _ e in
+    let command = (bytes_eq-Decides a (codes "serve")).0 h.0 in
+    let file = (bytes_eq-Decides b (codes "-")).0 h.1 in
+    subst IsOfInput (sym (ap₂ (λ (x y : Text). x ∷ y ∷ []) command file))
+    (taken_of_input (codes "serve" ∷ codes "-" ∷ []) (file_taken (codes "serve") (codes "-") serve (inr (inr (inr (refl, refl)))) refl))
+line_of_input (a ∷ b ∷ c ∷ []) e =
+    let h = and_parts _ _ e in
+    let more = and_parts _ _ h.1 in
+    let command = (bytes_eq-Decides a (codes "serve")).0 h.0 in
+    let escape = (bytes_eq-Decides b (codes "--")).0 more.0 in
+    let file = (bytes_eq-Decides c (codes "-")).0 more.1 in
+    subst IsOfInput (sym (ap₂ (λ (x : Text) (rest : List Text). x ∷ rest) command (ap₂ (λ (x y : Text). x ∷ y ∷ []) escape file)))
+    (taken_of_input (codes "serve" ∷ codes "--" ∷ codes "-" ∷ []) (file_escaped_taken (codes "serve") (codes "-") serve (inr (inr (inr (refl, refl))))))
+line_of_input _ e = let bad : ⊥ = cc in absurd bad

@@ -1,10 +1,9 @@
 -- The number of an option, as the getter of the matches reads it.
-use Rattle.std.proofs.Common.{◌≡◌, ◌<◌, ◌^◌, ℕ, List, Bool, true, false, cond, Option, Some, None, Result, Ok, Err, refl, sym, ap, ◌∙◌, arith}
+use Rattle.std.proofs.Common.{◌≡◌, ◌<◌, ◌^◌, ℕ, List, true, false, Option, Some, None, Result, Ok, Err, refl, sym, ap, ◌∙◌, arith}
 use Rattle.std.specs.Prelude.{option_and_then}
+use Rattle.std.proofs.lemmas.Bool.{cond_both}
 use Rattle.std.specs.Str.Parse.{ParsesUnsigned, digits_value, without_leading_plus, IsNumeral}
-use Rattle.clap.specs.Words.{ReadsOne}
-use Rattle.clap.specs.ValueTests.{is_unsigned_in}
-use Rattle.clap.specs.declared.builder.value_parser.ValueParser.TheVariants.{Unsigned}
+use Rattle.clap.specs.{Words.ReadsOne, ValueTests.is_unsigned_in, declared.builder.value_parser.ValueParser.TheVariants.Unsigned}
 use Rattle.clap.proofs.ValueTestLemmas.{accepts-Accepts, Accepts-accepts}
 use Rattle.bd_command_line.specs.CommandLine.{number_read}
 
@@ -26,11 +25,8 @@ read_some t (Err e) n h is = absurd cc
 
 read_none : {E : Type 0} (t : List ℕ) (r : Result ℕ E) (e : E) → ParsesUnsigned 32 10 t r → r ≡ Err e → number_read t ≡ None
 read_none t (Ok k) e h is = absurd cc
-read_none t (Err d) e h is = go (is_unsigned_in 0 4294967295 t) refl
-  where
-    go : (b : Bool) → is_unsigned_in 0 4294967295 t ≡ b → cond b (Some (digits_value 10 (without_leading_plus t))) None ≡ None
-    go true fits = absurd (h (small_back t fits))
-    go false other = refl
+read_none t (Err d) e h is = cond_both (is_unsigned_in 0 4294967295 t) (Some (digits_value 10 (without_leading_plus t))) None (λ o. o ≡ None)
+    (λ fits. absurd (h (small_back t fits))) (λ other. refl)
 
 pub number_is : (E : Type 0) (gives : List ℕ → Result ℕ E → Type 0) → ((t : List ℕ) (r : Result ℕ E) → gives t r → ParsesUnsigned 32 10 t r) → (o : Option (List ℕ)) (r : Option ℕ)
     → (o ≡ None → r ≡ None) → ((t : List ℕ) → o ≡ Some t → ReadsOne gives t r) → option_and_then number_read o ≡ r

@@ -130,6 +130,7 @@ fn is_plain_serve_of_input(words: &[String]) -> bool
 }
 
 /// The order of the command `name` with these matches.
+#[tactic(auto, using(crate::proofs::LineLemmas::no_file, crate::proofs::LineLemmas::readings))]
 fn order_named(alloc: Global, name: &str, matches: &ArgMatches<'_>) -> Result<Order, WordsFault>
     requires { IsSome (ordered_by name.now (rows_of (found_of matches.now))) }
     ensures order { IfOk result (λ o.
@@ -206,6 +207,7 @@ fn order_taken(alloc: Global, words: &[String]) -> Result<Order, WordsFault>
 /// - `Help` where the words ask for help by a flag, as `--help` and `dump -h` do.
 /// - `Usage` where they are not taken otherwise. The word `help` in the first place is no command.
 /// - `NoMemory` where memory ran out. The word `help` in the first place, `serve -` and `serve -- -` need none.
+#[tactic(auto, using(crate::proofs::LineLemmas::help_line_told, crate::proofs::LineLemmas::help_line_refused, crate::proofs::LineLemmas::line_of_input))]
 pub fn parse_words(alloc: Global, words: &[String]) -> Result<Order, WordsFault>
     ensures order { IfOk result (λ o. order_of (words_of words.now) ≡ Some (meant o)) }
     ensures only_taken { IfOk result (λ _. fault_for (words_of words.now) ≡ None) }

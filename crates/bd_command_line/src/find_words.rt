@@ -68,6 +68,7 @@ pub fn find_command<'a>(alloc: Global) -> Result<Command<'a>, AllocError>
 }
 
 /// The text of an option, where it is given.
+#[tactic(auto, using(crate::proofs::LineLemmas::readings))]
 fn text_of(
     alloc: Global,
     matches: &ArgMatches<'_>,

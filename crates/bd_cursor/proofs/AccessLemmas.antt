@@ -1,47 +1,35 @@
--- The places within bounds are a source, and places that ascend have the order of no sort.
-use Rattle.std.proofs.Common.{◌≡◌, ◌≢◌, ◌+◌, ◌<◌, ℕ, zero, suc, Bool, true, false, cond, List, [], ◌∷◌, length, get_or, Option, Some, None, refl, sym, ap, ap₂, ◌∙◌, subst, arith, eq-eqb}
-use Rattle.std.specs.Prelude.{◌==◌, ◌&&◌, ◌||◌, nat_lt, Contains}
-use Rattle.std.specs.Borrow.{Bor}
-use Rattle.std.specs.Option.{option_copied}
-use Rattle.std.specs.List.{list_any, range_with_len}
-use Rattle.std.specs.List.Sorted.{IsStrictlyIncreasing}
-use Rattle.std.specs.Ordering.{is_lt}
-use Rattle.std.specs.declared.cmp.Ordering.TheVariants.{Less, Equal, Greater}
-use Rattle.std.proofs.lemmas.Bool.{and_parts, eqb-true, le-ltb, lt-ltb, ltb-true, ne_eqb}
-use Rattle.std.proofs.lemmas.List.FromFn.{get_or-range_with_len, length-range_with_len}
-use Rattle.std.proofs.lemmas.List.Kept.{AllPairs-from_increasing}
+-- The places within bounds are a source, places that ascend have the order of no sort, and what is read on an access path.
+use Rattle.std.proofs.Common.{◌≡◌, ◌≢◌, ◌+◌, ◌<◌, ℕ, zero, suc, Bool, true, false, cond, List, [], ◌∷◌, length, get_or, Option, Some, None, refl, sym, ap, ap₂, ◌∙◌}
+use Rattle.std.proofs.Common.{subst, arith, eq-eqb, filter}
+use Rattle.std.specs.Prelude.{◌==◌, ◌&&◌, ◌||◌, nat_lt, Contains, count_by}
+use Rattle.std.specs.{Borrow.Bor, Option.option_copied, List.list_any, List.range_with_len, List.Sorted.IsStrictlyIncreasing, Ordering.is_lt}
+use Rattle.std.specs.{declared.cmp.Ordering.TheVariants.Less, declared.cmp.Ordering.TheVariants.Equal, declared.cmp.Ordering.TheVariants.Greater}
+use Rattle.std.specs.{Cmp.IsTotalOrder}
+use Rattle.std.proofs.Math.Bool.{and-or_distrib_right, and-true, or-false}
+use Rattle.std.proofs.lemmas.Bool.{and_parts, and_right, eqb-true, le-ltb, lt-ltb, ltb-true, ne_eqb, or_parts, true≢false}
+use Rattle.std.proofs.lemmas.List.FromFn.{get_or-range_with_len, length-range_with_len, sum_by-map-range_with_len_more}
+use Rattle.std.proofs.lemmas.{List.Folds.Any-from_list_any, List.Folds.list_any_at, List.Kept.AllPairs-from_increasing, Cmp.on_total, List.map-id}
+use Rattle.std.proofs.lemmas.{List.Elements.filter_agree, List.Sums.length-filter}
 use Rattle.bd_value.specs.Tree as trees
 use Rattle.bd_value.specs.Tree.{Doc, Tree, doc, fields_of, leaf}
-use Rattle.bd_answer.specs.Answer.{before}
-use Rattle.bd_answer.specs.AnswerLaws.{IsAscending}
-use Rattle.bd_answer.specs.Source.{IsSource}
-use Rattle.bd_bson.specs.Collection.{documents}
-use Rattle.bd_bson.specs.declared.collection.Dump.{Dump}
-use Rattle.bd_path.specs.Earliest.{SortPath}
-use Rattle.bd_path.specs.KeyList.{indexed_keys, keys, sparse_keys}
-use Rattle.bd_path.specs.Names.{Names}
-use Rattle.bd_path.specs.PathNames.{names_of}
-use Rattle.bd_path.specs.Sort.{sort_paths}
-use Rattle.bd_path.specs.declared.dir.Dir.{Dir}
-use Rattle.bd_path.specs.declared.path.Path.{Path}
-use Rattle.bd_path.proofs.LawsLemmas.{has_a_key}
-use Rattle.bd_filter.specs.Filter.{Filter}
-use Rattle.bd_filter.specs.FilterMatch.{matches}
-use Rattle.bd_filter.specs.FilterView.{filter_tree}
+use Rattle.bd_answer.specs.{Answer.before, Answer.Selection, Answer.matching, AnswerLaws.IsAscending, Source.IsSource, Source.passes}
+use Rattle.bd_answer.specs.{Session.Explanation, Session.PlanKind}
+use Rattle.bd_bson.specs.{Collection.documents, declared.collection.Dump.Dump, Documents.document_at}
+use Rattle.bd_path.specs.{Earliest.SortPath, KeyList.indexed_keys, KeyList.keys, KeyList.sparse_keys, Names.Names, PathNames.names_of}
+use Rattle.bd_path.specs.{Sort.sort_paths, declared.dir.Dir.Dir, declared.path.Path.Path}
+use Rattle.bd_path.proofs.LawsLemmas.{has_a_key, sort_total}
+use Rattle.bd_filter.specs.{Filter.Filter, FilterMatch.matches, FilterView.filter_tree}
 use Rattle.bd_request.specs.declared.request.Request.{Request}
-use Rattle.bd_bson.specs.Documents.{document_at}
-use Rattle.bd_sort.specs.Selection.{hits_of, order_of_keys}
-use Rattle.bd_bounds.specs.Bounds.{KeyBounds, bounds, is_among}
-use Rattle.bd_bounds.specs.BoundsView.{seen_bounds}
-use Rattle.bd_bounds.specs.declared.bounds.Bounds.{Bounds}
-use Rattle.bd_bounds.specs.Laws.{is_fit}
+use Rattle.bd_sort.specs.Selection.{hits_of, order_of_keys, selection_of}
+use Rattle.bd_bounds.specs.{Bounds.KeyBounds, Bounds.bounds, Bounds.is_among, BoundsView.seen_bounds, declared.bounds.Bounds.Bounds, Laws.is_fit}
 use Rattle.bd_bounds.proofs.SoundLemmas.{loses_no_match, sparse_loses_no_match}
-use Rattle.bd_index.specs.Entries.{KeyAt, entries_from, has_two_keys, is_multikey, keys_at}
-use Rattle.bd_index.specs.Walk.{WalksAll}
-use Rattle.bd_index.specs.BoundedPlaces.{AreWithin, lent_bounds}
-use Rattle.bd_index.specs.declared.index.Index.{Index}
+use Rattle.bd_index.specs.{Entries.KeyAt, Entries.entries_from, Entries.has_two_keys, Entries.is_multikey, Entries.keys_at, Entries.entries_of}
+use Rattle.bd_index.specs.{BoundedPlaces.AreWithin, BoundedPlaces.lent_bounds, declared.index.Index.Index}
 use Rattle.bd_index.proofs.WalkLemmas.{any_in}
-use Rattle.bd_cursor.specs.AccessView.{HasMatchesWithin, HasSortOrder, ServesFilter}
+use Rattle.bd_cursor.specs.{AccessView.HasMatchesWithin, AccessView.ServesFilter, AccessPath.mark_names, Explanation.entries_within}
+use Rattle.bd_cursor.specs.{Explanation.index_counts, Explanation.index_mark, Explanation.places_within}
+use Rattle.bd_answer.proofs.{OrderLemmas.filter_all, AnswerLemmas.in_contains, SourceLemmas.batch_in_order, UnsortedLemmas.all_places}
+use Rattle.bd_answer.proofs.{UnsortedLemmas.unsorted_ordered}
 
 -- ---- places that ascend
 
@@ -63,26 +51,7 @@ ascends_unsorted ds ss ps none h = subst (λ ss. IsAscending (before (order_of_k
 
 any_at : (test : Tree → Bool) (s p : ℕ) (ks : List Tree) → list_any (λ (e : KeyAt). test e.0 && (e.1 == p)) (keys_at s ks) ≡ (list_any test ks && (s == p))
 any_at test s p [] = refl
-any_at test s p (k ∷ ks) = ap (λ (b : Bool). (test k && (s == p)) || b) (any_at test s p ks) ∙ go (test k) (list_any test ks) (s == p)
-  where
-    go : (a b c : Bool) → ((a && c) || (b && c)) ≡ ((a || b) && c)
-    go true true true = refl
-    go true true false = refl
-    go true false true = refl
-    go true false false = refl
-    go false b c = refl
-
-and_false : (b : Bool) → (b && false) ≡ false
-and_false true = refl
-and_false false = refl
-
-and_true : (b : Bool) → (b && true) ≡ b
-and_true true = refl
-and_true false = refl
-
-or_false : (b : Bool) → (b || false) ≡ b
-or_false true = refl
-or_false false = refl
+any_at test s p (k ∷ ks) = ap (λ (b : Bool). (test k && (s == p)) || b) (any_at test s p ks) ∙ sym (and-or_distrib_right (test k) (list_any test ks) (s == p))
 
 early : (sparse : Bool) (path : Names) (test : Tree → Bool) (ds : List Doc) (s p : ℕ) → p < s → list_any (λ (e : KeyAt). test e.0 && (e.1 == p)) (entries_from sparse path s ds) ≡ false
 early sparse path test [] s p lt = refl
@@ -90,7 +59,7 @@ early sparse path test (d ∷ ds) s p lt =
     let ks = indexed_keys sparse (doc (fields_of d)) path in
     let other : s ≢ p = omega arith in
     any_in (λ (e : KeyAt). test e.0 && (e.1 == p)) (keys_at s ks) (entries_from sparse path (s + 1) ds)
-    ∙ ap₂ (λ (a b : Bool). a || b) (any_at test s p ks ∙ ap (λ (b : Bool). list_any test ks && b) (ne_eqb s p other) ∙ and_false (list_any test ks)) (early sparse path test ds (s + 1) p (omega arith))
+    ∙ ap₂ (λ (a b : Bool). a || b) (any_at test s p ks ∙ and_right (list_any test ks) (s == p) (ne_eqb s p other)) (early sparse path test ds (s + 1) p (omega arith))
 
 next_lt : (n m : ℕ) → nat_lt n m ≡ nat_lt (suc n) (suc m)
 next_lt n m = grind arith
@@ -103,14 +72,14 @@ from_place sparse path test (d ∷ ds) s zero p e =
     let ks = indexed_keys sparse (doc (fields_of d)) path in
     let same : s ≡ p = omega arith in
     any_in (λ (x : KeyAt). test x.0 && (x.1 == p)) (keys_at s ks) (entries_from sparse path (s + 1) ds)
-    ∙ ap₂ (λ (a b : Bool). a || b) (any_at test s p ks ∙ ap (λ (b : Bool). list_any test ks && b) (eq-eqb s p same) ∙ and_true (list_any test ks)) (early sparse path test ds (s + 1) p (omega arith))
-    ∙ or_false (list_any test ks)
+    ∙ ap₂ (λ (a b : Bool). a || b) (any_at test s p ks ∙ ap (λ (b : Bool). list_any test ks && b) (eq-eqb s p same) ∙ and-true (list_any test ks)) (early sparse path test ds (s + 1) p (omega arith))
+    ∙ or-false (list_any test ks)
     ∙ ap (λ (b : Bool). b && list_any test ks) (sym (lt-ltb 0 (suc (length ds)) (omega arith)))
 from_place sparse path test (d ∷ ds) s (suc k) p e =
     let ks = indexed_keys sparse (doc (fields_of d)) path in
     let other : s ≢ p = omega arith in
     any_in (λ (x : KeyAt). test x.0 && (x.1 == p)) (keys_at s ks) (entries_from sparse path (s + 1) ds)
-    ∙ ap₂ (λ (a b : Bool). a || b) (any_at test s p ks ∙ ap (λ (b : Bool). list_any test ks && b) (ne_eqb s p other) ∙ and_false (list_any test ks))
+    ∙ ap₂ (λ (a b : Bool). a || b) (any_at test s p ks ∙ and_right (list_any test ks) (s == p) (ne_eqb s p other))
     (from_place sparse path test ds (s + 1) k p (omega arith))
     ∙ ap (λ (b : Bool). b && list_any test (indexed_keys sparse (document_at ds k) path)) (next_lt k (length ds))
 
@@ -118,21 +87,13 @@ from_place sparse path test (d ∷ ds) s (suc k) p e =
 
 one_key : (path : Names) (ds : List Doc) (k : ℕ) → k < length ds → is_multikey path ds ≡ false → has_two_keys path (document_at ds k) ≡ false
 one_key path [] k lt h = absurd (omega arith)
-one_key path (d ∷ ds) zero lt h = go (has_two_keys path (doc (fields_of d))) h
-  where
-    go : (b : Bool) → (b || is_multikey path ds) ≡ false → b ≡ false
-    go true e = absurd (let z : true ≡ false = e in cc)
-    go false e = refl
-one_key path (d ∷ ds) (suc k) lt h = one_key path ds k (omega arith) (go (has_two_keys path (doc (fields_of d))) h)
-  where
-    go : (b : Bool) → (b || is_multikey path ds) ≡ false → is_multikey path ds ≡ false
-    go true e = absurd (let z : true ≡ false = e in cc)
-    go false e = e
+one_key path (d ∷ ds) zero lt h = (or_parts (has_two_keys path (doc (fields_of d))) (is_multikey path ds) h).0
+one_key path (d ∷ ds) (suc k) lt h = one_key path ds k (omega arith) (or_parts (has_two_keys path (doc (fields_of d))) (is_multikey path ds) h).1
 
 counted_one : (ks : List Tree) → ks ≢ [] → nat_lt 1 (length ks) ≡ false → (length ks == 1) ≡ true
 counted_one [] some h = absurd (some refl)
 counted_one (k ∷ []) some h = refl
-counted_one (k ∷ (j ∷ ks)) some h = let t = lt-ltb 1 (suc (suc (length ks))) (omega arith) in absurd (let z : true ≡ false = sym t ∙ h in cc)
+counted_one (k ∷ (j ∷ ks)) some h = absurd (true≢false (sym (lt-ltb 1 (suc (suc (length ks))) (omega arith)) ∙ h))
 
 fits : (path : Names) (ds : List Doc) (k : ℕ) (m : Bool) → k < length ds → m ≡ is_multikey path ds → is_fit m path (document_at ds k) ≡ true
 fits path ds k true lt e = refl
@@ -158,49 +119,55 @@ has_key f path m true (Some set) t h fit hit =
 
 -- ---- the places
 
-member : (ps : List ℕ) (k d : ℕ) → k < length ps → list_any (λ m. m == get_or ps k d) ps ≡ true
-member [] k d lt = absurd (omega arith)
-member (p ∷ ps) zero d lt = ap (λ (b : Bool). b || list_any (λ m. m == p) ps) (eq-eqb p p refl)
-member (p ∷ ps) (suc k) d lt = later (p == get_or ps k d) (list_any (λ m. m == get_or ps k d) ps) (member ps k d (omega arith))
-  where
-    later : (a b : Bool) → b ≡ true → (a || b) ≡ true
-    later true b h = refl
-    later false b h = h
-
 contained : (ps : List ℕ) (q : ℕ) → list_any (λ m. m == q) ps ≡ true → Contains ps q
-contained [] q h = absurd (let z : false ≡ true = h in cc)
-contained (p ∷ ps) q h = go (p == q) refl h (contained ps q)
-  where
-    go : (b : Bool) → (p == q) ≡ b → (b || list_any (λ m. m == q) ps) ≡ true → (list_any (λ m. m == q) ps ≡ true → Contains ps q) → Contains (p ∷ ps) q
-    go true e f rest = (0, omega arith, eqb-true p q e)
-    go false e f rest = let r = rest f in (suc r.0, omega (arith, r.1), r.2)
+contained ps q h = let a = Any-from_list_any (λ m. m == q) ps h in (a.0, a.2, subst (λ z. get_or ps a.0 z ≡ z) (eqb-true a.1 q a.4) a.3)
 
 -- the documents with a key inside
 abbrev pub has_key_at : Bool → Names → List Doc → KeyBounds → ℕ → Bool
 has_key_at sparse path ds b p = list_any (is_among b) (indexed_keys sparse (document_at ds p) path)
 
-pub among_places : (sparse : Bool) (path : Names) (ds : List Doc) (b : KeyBounds) (ps : List ℕ) (entries : ℕ) → AreWithin sparse path ds b ps entries → (p : ℕ)
-    → list_any (λ q. q == p) ps ≡ (nat_lt p (length ds) && has_key_at sparse path ds b p)
-among_places sparse path ds b ps entries w p = w.members p ∙ from_place sparse path (is_among b) ds 0 p p (omega arith)
+-- a test, and no order
+abbrev plainly : List Doc → (ℕ → Bool) → Selection
+plainly ds hits = record { count = length ds; hits = hits; by = order_of_keys ds []; skip = 0; limit = 0 }
 
-pub places_inside : (sparse : Bool) (path : Names) (ds : List Doc) (b : KeyBounds) (ps : List ℕ) (entries : ℕ) → AreWithin sparse path ds b ps entries → (k d : ℕ) → k < length ps
-    → (nat_lt (get_or ps k d) (length ds) ≡ true) × (has_key_at sparse path ds b (get_or ps k d) ≡ true)
-places_inside sparse path ds b ps entries w k d lt =
-    and_parts (nat_lt (get_or ps k d) (length ds)) (has_key_at sparse path ds b (get_or ps k d)) (sym (among_places sparse path ds b ps entries w (get_or ps k d)) ∙ member ps k d lt)
+plain_total : (ds : List Doc) → IsTotalOrder (order_of_keys ds [])
+plain_total ds = on_total (document_at ds) (sort_total [])
 
--- they are a source for each test that is passed only with a key inside
-pub within_source : (sparse : Bool) (path : Names) (ds : List Doc) (b : KeyBounds) (ps : List ℕ) (entries : ℕ) → AreWithin sparse path ds b ps entries
-    → (hits : ℕ → Bool) → ((p : ℕ) → p < length ds → hits p ≡ true → has_key_at sparse path ds b p ≡ true) → IsSource (length ds) hits ps
-within_source sparse path ds b ps entries w hits inside = record {
-  below = λ k d lt. ltb-true (get_or ps k d) (length ds) (places_inside sparse path ds b ps entries w k d lt).0;
-  distinct = λ i j d low high same. let l = AllPairs-from_increasing ps w.ascend i j d low high in absurd (omega arith);
-  complete = λ p lt hit. contained ps p (among_places sparse path ds b ps entries w p ∙ ap₂ (λ (x y : Bool). x && y) (lt-ltb p (length ds) lt) (inside p lt hit));
-}
+-- what passes of a source that ascends is what passes of all
+source_passes : (ds : List Doc) (hits : ℕ → Bool) (ps : List ℕ) → IsSource (length ds) hits ps → IsStrictlyIncreasing ps → filter hits ps ≡ filter hits (range_with_len 0 (length ds))
+source_passes ds hits ps s up =
+    let a = plainly ds hits in
+    filter_agree hits (passes hits (order_of_keys ds []) None) (λ x. sym (and-true (hits x))) ps
+    ∙ batch_in_order a (plain_total ds) ps s (unsorted_ascends ds ps up) None
+    ∙ all_places a
+    ∙ unsorted_ordered a (plain_total ds) (λ p q. refl)
 
-pub serving_source : (sparse : Bool) (path : Names) (m : Bool) (ds : List Doc) (f : Filter) (b : KeyBounds) (ps : List ℕ) (entries : ℕ) → m ≡ is_multikey path ds → KeepsMatches f path m sparse b
-    → AreWithin sparse path ds b ps entries → IsSource (length ds) (hits_of ds f) ps
-serving_source sparse path m ds f b ps entries many serves w =
-    within_source sparse path ds b ps entries w (hits_of ds f) (λ p lt hit. has_key f path m sparse b (document_at ds p) serves (fits path ds p m lt many) hit)
+pub as_many : (ds : List Doc) (hits : ℕ → Bool) (ps : List ℕ) → IsSource (length ds) hits ps → IsStrictlyIncreasing ps → count_by hits ps ≡ length (filter hits (range_with_len 0 (length ds)))
+as_many ds hits ps s up = sym (length-filter hits ps) ∙ ap (λ (l : List ℕ). length l) (source_passes ds hits ps s up)
+
+module _ {sparse : Bool} {path : Names} {ds : List Doc} {b : KeyBounds} {ps : List ℕ} {entries : ℕ} (w : AreWithin sparse path ds b ps entries) where
+  among_places : (p : ℕ) → list_any (λ q. q == p) ps ≡ (nat_lt p (length ds) && has_key_at sparse path ds b p)
+  among_places p = w.members p ∙ from_place sparse path (is_among b) ds 0 p p (omega arith)
+
+  places_inside : (k d : ℕ) → k < length ps → (nat_lt (get_or ps k d) (length ds) ≡ true) × (has_key_at sparse path ds b (get_or ps k d) ≡ true)
+  places_inside k d lt =
+      and_parts (nat_lt (get_or ps k d) (length ds)) (has_key_at sparse path ds b (get_or ps k d))
+      (sym (among_places (get_or ps k d)) ∙ list_any_at (λ m. m == get_or ps k d) ps k d lt (eq-eqb (get_or ps k d) (get_or ps k d) refl))
+
+  -- they are a source for each test that is passed only with a key inside
+  within_source : (hits : ℕ → Bool) → ((p : ℕ) → p < length ds → hits p ≡ true → has_key_at sparse path ds b p ≡ true) → IsSource (length ds) hits ps
+  within_source hits inside = record {
+    below = λ k d lt. ltb-true (get_or ps k d) (length ds) (places_inside k d lt).0;
+    distinct = λ i j d low high same. let l = AllPairs-from_increasing ps w.ascend i j d low high in absurd (omega arith);
+    complete = λ p lt hit. contained ps p (among_places p ∙ ap₂ (λ (x y : Bool). x && y) (lt-ltb p (length ds) lt) (inside p lt hit));
+  }
+
+  -- they are those of the documents with a key inside
+  all_within : ps ≡ filter (has_key_at sparse path ds b) (range_with_len 0 (length ds))
+  all_within =
+      let test = has_key_at sparse path ds b in
+      sym (filter_all test ps (λ x i. let r = in_contains ps x i in subst (λ z. test z ≡ true) r.2 (places_inside r.0 x r.1).1))
+      ∙ source_passes ds test ps (within_source test (λ p lt hit. hit)) w.ascend
 
 -- ---- bounds of an index in hand
 
@@ -208,17 +175,12 @@ keeps : (f : Filter) (i : Index) (b : KeyBounds) → ServesFilter f i b → Keep
 keeps f i None h = h
 keeps f i (Some set) h = h
 
-pub index_source : (dump : Dump) (r : Request) (i : Index) (b : KeyBounds) (ps : List ℕ) (entries : ℕ) → HasMatchesWithin dump r i b
-    → AreWithin i.sparse (names_of i.path) (documents dump) b ps entries
-    → IsSource (length (documents dump)) (hits_of (documents dump) (filter_tree r.filter)) ps
-index_source dump r i b ps entries h w =
-    serving_source i.sparse (names_of i.path) i.multikey (documents dump) (filter_tree r.filter) b ps entries h.of_dump.many (keeps (filter_tree r.filter) i b h.serves) w
-
--- ---- walks
-
-pub walk_ascends : (dump : Dump) (r : Request) (i : Index) (dir : Dir) (ps : List ℕ) → HasSortOrder dump r i dir → WalksAll dir (names_of i.path) (documents dump) ps
-    → IsAscending (before (order_of_keys (documents dump) (sort_paths r.sort.items))) ps
-walk_ascends dump r i dir ps h w = subst (λ (ss : List SortPath). IsAscending (before (order_of_keys (documents dump) ss)) ps) (sym h.order) w.order
+pub index_source : {dump : Dump} {r : Request} {i : Index} {b : KeyBounds} {ps : List ℕ} {entries : ℕ} → HasMatchesWithin dump r i b
+    → AreWithin i.sparse (names_of i.path) (documents dump) b ps entries → IsSource (length (documents dump)) (hits_of (documents dump) (filter_tree r.filter)) ps
+index_source {dump} {r} {i} {b} h w =
+    let f = filter_tree r.filter in
+    within_source w (hits_of (documents dump) f) (λ p lt hit. has_key f (names_of i.path) i.multikey i.sparse b (document_at (documents dump) p)
+    (keeps f i b h.serves) (fits (names_of i.path) (documents dump) p i.multikey lt h.of_dump.many) hit)
 
 -- ---- what a call was given
 
@@ -230,6 +192,35 @@ lent_as : (r : Option (Bor Bounds)) → lent_bounds r ≡ seen_bounds (option_co
 lent_as None = refl
 lent_as (Some b) = refl
 
-pub lent_within : (i : Index) (ds : List Doc) (r : Option (Bor Bounds)) (b : Option Bounds) (ps : List ℕ) (entries : ℕ) → option_copied r ≡ b
-    → AreWithin i.sparse (names_of i.path) ds (lent_bounds r) ps entries → AreWithin i.sparse (names_of i.path) ds (seen_bounds b) ps entries
-lent_within i ds r b ps entries e w = subst (λ k. AreWithin i.sparse (names_of i.path) ds k ps entries) (lent_as r ∙ ap seen_bounds e) w
+pub lent_within : {sparse : Bool} {path : Names} {ds : List Doc} {b : Option Bounds} {ps : List ℕ} {entries : ℕ} (r : Option (Bor Bounds)) → option_copied r ≡ b
+    → AreWithin sparse path ds (lent_bounds r) ps entries → AreWithin sparse path ds (seen_bounds b) ps entries
+lent_within {sparse} {path} {ds} {b} {ps} {entries} r e w = subst (λ k. AreWithin sparse path ds k ps entries) (lent_as r ∙ ap seen_bounds e) w
+
+-- ---- what is read on an access path
+
+-- ---- counts
+
+pub count_more : (hits : ℕ → Bool) (n : ℕ) → count_by hits (range_with_len 0 (n + 1)) ≡ count_by hits (range_with_len 0 n) + cond (hits n) 1 0
+count_more hits n = simp map-id at (sum_by-map-range_with_len_more (λ (y : ℕ). cond (hits y) 1 0) (λ (y : ℕ). y) 0 n n (omega arith))
+
+-- ---- what is told
+
+pub told_as : {o p : Option (List ℕ)} {a b c d m n : ℕ} (k : PlanKind) → o ≡ p → a ≡ b → c ≡ d → m ≡ n
+    → (let x : Explanation = record { plan = k; index = o; entries = a; looked_at = c; matches = m } in x) ≡ (record { plan = k; index = p; entries = b; looked_at = d; matches = n })
+told_as k e f g h = λ i. record { plan = k; index = e i; entries = f i; looked_at = g i; matches = h i }
+
+pub matches_of_all : (ds : List Doc) (r : Request) (n : ℕ) → n ≡ count_by (hits_of ds (filter_tree r.filter)) (range_with_len 0 (length ds)) → n ≡ length (matching (selection_of ds r))
+matches_of_all ds r n h = h ∙ sym (length-filter (hits_of ds (filter_tree r.filter)) (range_with_len 0 (length ds)))
+
+module _ (i : Index) {ds : List Doc} {b : KeyBounds} {ps : List ℕ} {entries : ℕ} (w : AreWithin i.sparse (names_of i.path) ds b ps entries) where
+  named : AreWithin i.sparse (mark_names (index_mark i)) ds b ps entries
+  named = subst (λ (n : Names). AreWithin i.sparse n ds b ps entries) i.path.cut w
+
+  pub entries_read : entries ≡ entries_within ds (index_mark i) b
+  entries_read = named.counted
+
+  pub places_read : length ps ≡ length (places_within ds (index_mark i) b)
+  places_read = ap (λ (l : List ℕ). length l) (all_within named)
+
+pub entries_walked : (i : Index) (ds : List Doc) (n : ℕ) → n ≡ length (entries_of i.sparse (names_of i.path) ds) → n ≡ (index_counts ds (index_mark i)).entries
+entries_walked i ds n h = h ∙ ap (λ (p : Names). length (entries_of i.sparse p ds)) i.path.cut

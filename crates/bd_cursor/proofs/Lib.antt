@@ -1,10 +1,4 @@
-pub mod AccessChoiceLemmas
 pub mod AccessLemmas
-pub mod CursorLemmas
-pub mod ExplainingLemmas
-pub mod IndexesLemmas
-pub mod PlaceListLemmas
-pub mod ScanPositionLemmas
-pub mod ServingLemmas
+pub mod AccessPathLemmas
+pub mod RemainderLemmas
 pub mod SessionLemmas
-pub mod UnsortedScanLemmas

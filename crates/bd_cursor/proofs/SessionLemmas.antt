@@ -1,25 +1,28 @@
--- The indexes of a session, and the cursors that are opened.
-use Rattle.std.proofs.Common.{◌≡◌, ℕ, Bool, true, false, not, cond, List, [], ◌∷◌, Result, Ok, Err, map, refl, sym, ap, ◌∙◌, subst, filter}
-use Rattle.bd_answer.specs.Session.{Call, IndexMark, Reply, State, is_on, reply, state_after, without_index}
+-- The indexes of a session, and its cursors: how one is opened, found by its number, changed and taken out.
+use Rattle.std.proofs.Common.{◌≡◌, ℕ, Bool, true, false, not, cond, List, [], ◌∷◌, Result, Ok, Err, map, refl, sym, ap, ◌∙◌, subst, filter, ◌-◌, ◌<◌, ◌≤◌, ◌==◌}
+use Rattle.std.proofs.Common.{length, get_or, arith, zero, suc, Some, None, slice_get, slice_set}
+use Rattle.bd_answer.specs.Session.{Call, IndexMark, Reply, State, is_on, reply, state_after, without_index, OpenCursor, batch_of, cursor_of, gave}
+use Rattle.bd_answer.specs.Session.{greatest_size, moved, next_reply, with_moved, without}
 use Rattle.bd_index.specs.declared.index.Index.{Index}
 use Rattle.bd_request.specs.declared.refused.Refused.{Refused}
-use Rattle.bd_cursor.specs.Explanation.{index_mark}
-use Rattle.bd_cursor.specs.SessionView.{IsRefusedCall, Steps, dump_of, state_of}
-use Rattle.bd_cursor.specs.declared.session.Session.{Session}
+use Rattle.bd_cursor.specs.{Explanation.index_mark, SessionView.IsRefusedCall, SessionView.Steps, SessionView.dump_of, SessionView.state_of}
+use Rattle.bd_cursor.specs.{SessionView.open_cursor, declared.session.Session.Session, declared.cursor.Cursor.Cursor}
+use Rattle.std.proofs.lemmas.{Bool.eq-eqb, Bool.ne_eqb, Bool.le-ltb, Bool.cond_both, Option.slice_get-map, Option.slice_get_read}
+use Rattle.bd_bson.specs.declared.collection.Dump.{Dump}
+use Rattle.std.specs.Prelude.{option_map}
 
 pub with_marks : (s : State) (is js : List IndexMark) → is ≡ js → record s { indexes = is } ≡ record s { indexes = js }
 with_marks s is js e = ap (λ (xs : List IndexMark). (let t : State = record s { indexes = xs } in t)) e
 
 pub marks_kept : (path : List ℕ) (is : List Index) → map index_mark (filter (λ (i : Index). not (is_on path (index_mark i))) is) ≡ without_index path (map index_mark is)
 marks_kept path [] = refl
-marks_kept path (i ∷ is) = go (is_on path (index_mark i)) (marks_kept path is)
-  where
-    go : (b : Bool) → map index_mark (filter (λ (i : Index). not (is_on path (index_mark i))) is) ≡ without_index path (map index_mark is)
-        → map index_mark (cond (not b) (i ∷ filter (λ (i : Index). not (is_on path (index_mark i))) is)
-        (filter (λ (i : Index). not (is_on path (index_mark i))) is))
-        ≡ cond (not b) (index_mark i ∷ without_index path (map index_mark is)) (without_index path (map index_mark is))
-    go true h = h
-    go false h = ap (λ xs. index_mark i ∷ xs) h
+marks_kept path (i ∷ is) =
+    let kept = filter (λ (i : Index). not (is_on path (index_mark i))) is in
+    let marks = without_index path (map index_mark is) in
+    elim (is_on path (index_mark i)) as (λ b. map index_mark (cond (not b) (i ∷ kept) kept) ≡ cond (not b) (index_mark i ∷ marks) marks) [
+      | true ↦ marks_kept path is
+      | false ↦ ap (λ xs. index_mark i ∷ xs) (marks_kept path is)
+    ]
 
 -- a step from one session is one from another, over the same dump in the same state
 pub steps_from : {A : Type 0} (told : A → Reply) (call : Call) (a b : Session) (result : Result A Refused) (new : Session) → state_of a ≡ state_of b → dump_of a ≡ dump_of b
@@ -34,3 +37,54 @@ steps_from told call a b (Err why) new same dump step = record {
   stays = step.stays ∙ same;
   dump = step.dump ∙ dump;
 }
+
+-- ---- cursors
+
+module _ (dump : Dump) where
+  pub none_before : (id : ℕ) (cs : List Cursor) (i : ℕ) → length cs ≤ i → ((k : ℕ) (d : Cursor) → k < i → (get_or cs k d).id ≡ id → ⊥) → cursor_of id (map (open_cursor dump) cs) ≡ None
+  none_before id [] i l none = refl
+  none_before id (c ∷ cs) i l none = rw (ne_eqb c.id id (none 0 c (omega arith))) (none_before id cs (i - 1) (omega arith) (λ k d m. none (suc k) d (omega arith)))
+
+  pub cursor_at : (id : ℕ) (cs : List Cursor) (i : ℕ) (e : Cursor) → i < length cs → ((k : ℕ) (d : Cursor) → k < i → (get_or cs k d).id ≡ id → ⊥)
+      → (get_or cs i e).id ≡ id → cursor_of id (map (open_cursor dump) cs) ≡ slice_get (map (open_cursor dump) cs) i
+  cursor_at id [] i e l none here = absurd (omega arith)
+  cursor_at id (c ∷ cs) zero e l none here = rw (eq-eqb c.id id here) refl
+  cursor_at id (c ∷ cs) (suc i) e l none here = rw (ne_eqb c.id id (none 0 c (omega arith))) (cursor_at id cs i e (omega arith) (λ k d m. none (suc k) d (omega arith)) here)
+
+  pub moved_at : (id n : ℕ) (cs : List Cursor) (i : ℕ) (e : Cursor) (d : OpenCursor) → i < length cs
+      → ((k : ℕ) (d : Cursor) → k < i → (get_or cs k d).id ≡ id → ⊥) → (get_or cs i e).id ≡ id → cursor_of id (map (open_cursor dump) cs) ≡ Some d
+      → with_moved id n (map (open_cursor dump) cs) ≡ slice_set (map (open_cursor dump) cs) i (moved d n)
+  moved_at id n [] i e d l none here h = absurd (omega arith)
+  moved_at id n (c ∷ cs) zero e d l none here h =
+      let is : Some (open_cursor dump c) ≡ Some d = rw (eq-eqb c.id id here) at h in
+      let same : open_cursor dump c ≡ d = cc in
+      rw (eq-eqb c.id id here) (ap (λ (x : OpenCursor). moved x n ∷ map (open_cursor dump) cs) same)
+  moved_at id n (c ∷ cs) (suc i) e d l none here h =
+      let ne = ne_eqb c.id id (none 0 c (omega arith)) in
+      rw ne (ap (λ xs. open_cursor dump c ∷ xs) (moved_at id n cs i e d (omega arith) (λ k d m. none (suc k) d (omega arith)) here (rw ne at h)))
+
+  pub without_filter : (id : ℕ) (cs : List Cursor) → map (open_cursor dump) (filter (λ (c : Cursor). not (c.id == id)) cs) ≡ without id (map (open_cursor dump) cs)
+  without_filter id [] = refl
+  without_filter id (c ∷ cs) =
+      let kept = filter (λ (c : Cursor). not (c.id == id)) cs in
+      let there = without id (map (open_cursor dump) cs) in
+      elim (c.id == id) as (λ b. map (open_cursor dump) (cond (not b) (c ∷ kept) kept) ≡ cond b there (open_cursor dump c ∷ there)) [
+        | true ↦ without_filter id cs
+        | false ↦ ap (λ xs. open_cursor dump c ∷ xs) (without_filter id cs)
+      ]
+
+  pub get_some : (cs : List Cursor) (i : ℕ) (c : Cursor) → i < length cs → c ≡ get_or cs i c → slice_get (map (open_cursor dump) cs) i ≡ Some (open_cursor dump c)
+  get_some cs i c l e = slice_get-map (open_cursor dump) cs i ∙ ap (option_map (open_cursor dump)) (slice_get_read cs (length cs) i c refl l e)
+
+without_moved : (id n : ℕ) (cs : List OpenCursor) → without id (with_moved id n cs) ≡ without id cs
+without_moved id n [] = refl
+without_moved id n (c ∷ cs) = cond_both (c.id == id) (moved c n ∷ cs) (c ∷ with_moved id n cs) (λ ds. without id ds ≡ without id (c ∷ cs))
+    (λ f. rw f refl) (λ f. rw f (ap (λ xs. c ∷ xs) (without_moved id n cs)))
+
+-- the list after a batch, by whether it ends the cursor
+pub after_batch : (id n : ℕ) (cs : List OpenCursor) (end : Bool) → cond end (without id (with_moved id n cs)) (with_moved id n cs) ≡ cond end (without id cs) (with_moved id n cs)
+after_batch id n cs true = without_moved id n cs
+after_batch id n cs false = refl
+
+pub gave_batch : (id n : ℕ) (cs : List OpenCursor) (c : OpenCursor) → cursor_of id cs ≡ Some c → n ≤ greatest_size → next_reply (cursor_of id cs) n ≡ gave (batch_of c n)
+gave_batch id n cs c h l = rw (h, le-ltb greatest_size n l) refl

@@ -118,6 +118,7 @@ impl<'a> Access<'a> {
 }
 
 /// The places that a source gives which hands them out ascending: without a sort, they have its order.
+#[tactic(auto, using(crate::proofs::AccessLemmas::ascends_unsorted))]
 fn ascending_places<P: PlaceSource + Drop>(
     alloc: Global,
     dump: &Dump,
@@ -139,6 +140,7 @@ fn ascending_places<P: PlaceSource + Drop>(
 }
 
 /// Whether a request has no sort.
+#[tactic(auto, using(crate::proofs::AccessLemmas::not_sorted))]
 fn is_unsorted(request: &Request) -> bool
     ensures { IsTrue result → sort_paths request.now.sort.items ≡ [] }
 {

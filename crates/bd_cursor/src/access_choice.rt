@@ -18,6 +18,7 @@ use bd_value::NoMemory;
 use std::alloc::Global;
 
 /// The access path by an index that is named.
+#[tactic(auto, using(crate::proofs::AccessPathLemmas::named_other, crate::proofs::AccessPathLemmas::walk_leads))]
 pub(crate) fn named_access<'a>(
     alloc: Global,
     index: &'a Index,

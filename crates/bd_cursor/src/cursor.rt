@@ -92,6 +92,7 @@ fn digest_of(documents: &mut DigestedDump, request: &Request, token: Option<Toke
 }
 
 /// The index of a cursor among those that are open.
+#[tactic(auto, using(crate::proofs::SessionLemmas::cursor_at, crate::proofs::SessionLemmas::moved_at, crate::proofs::SessionLemmas::none_before))]
 pub(crate) fn place_of(cursors: &[Cursor], id: u64) -> Option<usize>
     ensures none { (dump : Dump) → IfNone result (cursor_of id (map (open_cursor dump) cursors.now) ≡ None) }
     ensures below { IfSome result (λ i. i < length cursors.now) }

@@ -76,6 +76,7 @@ fn explain_access(
 }
 
 /// How many documents match.
+#[tactic(auto, using(crate::proofs::AccessLemmas::count_more))]
 fn count_matches(dump: &Dump, filter: &Filter) -> u64
     ensures { result ≡ count_by (hits_of (documents dump.now) (filter_tree filter.now)) (range_with_len 0 (length (documents dump.now))) }
 {

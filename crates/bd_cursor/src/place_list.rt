@@ -82,6 +82,7 @@ impl PlaceList {
     }
 
     /// Whether nothing is left.
+    #[tactic(auto, using(crate::proofs::RemainderLemmas::empty_drop))]
     pub(crate) fn is_empty(&self) -> bool
         ensures { result ≡ is_empty self.now }
     {

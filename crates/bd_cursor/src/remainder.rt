@@ -48,6 +48,7 @@ impl Remainder {
     }
 
     /// The rest of it after a token.
+    #[tactic(auto, using(bd_bson::proofs::CollectionLemmas::documents_length))]
     pub(crate) fn of_rest(
         alloc: Global,
         dump: &Dump,

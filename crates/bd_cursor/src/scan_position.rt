@@ -41,6 +41,7 @@ pub(crate) fn most_left(limit: u64, given: u64) -> Option<u64>
 
 impl ScanPosition {
     /// The answer of a request without a sort.
+    #[tactic(auto, using(crate::proofs::RemainderLemmas::answer_cut))]
     pub(crate) fn of_answer(skip: u64, limit: u64) -> ScanPosition
         ensures { (ds : List Doc) (r : Request) → r.sort.items ≡ [] → r.skip ≡ skip → r.limit ≡ limit →
             scan_left (length ds) (hits_of ds (filter_tree r.filter)) result ≡ answer (selection_of ds r) }
@@ -70,6 +71,7 @@ impl ScanPosition {
 
     /// Takes the next places, as many as the number, as long as there are any left. Where memory runs out, where it stands
     /// says nothing.
+    #[tactic(auto, using(std::proofs::lemmas::List::drop_at, crate::proofs::RemainderLemmas::drop_past))]
     pub(crate) fn take(
         &mut self,
         alloc: Global,

@@ -155,6 +155,7 @@ impl Session {
     ///
     /// In this order: `ForeignToken` where the token is of another dump or request, `TokenPlace` where its document is after the
     /// last one, `NoIndex`, `TooManyCursors`. `NoMemory` where no memory was given.
+    #[tactic(auto, using(crate::proofs::SessionLemmas::steps_from))]
     pub fn resume(
         &mut self,
         request: Request,

@@ -1,10 +1,9 @@
 -- Lemmas on lines of a text.
 use Rattle.std.proofs.Common.{rules, ◌≡◌, ◌<◌, ◌≤◌, ◌+◌, ℕ, List, [], ◌∷◌, ◌++◌, length, Bool, cond, true, false, refl, sym, ap, ◌∙◌, subst, append_assoc, append-nil, arith, inl, inr, take_at}
-use Rattle.std.specs.Prelude.{◌⊎◌}
-use Rattle.std.proofs.lemmas.List.Sums.{sum_by-append}
-use Rattle.std.specs.List.{All, count_by, onto_first}
-use Rattle.std.proofs.lemmas.List.Elements.{All-append, All-cons, All-nil, All-take, All-head, All-tail}
 use Rattle.std.proofs.lemmas.List.Splits.{slice_split-cons_yes, slice_split-cons_no, slice_split_none, length-slice_split}
+use Rattle.std.proofs.lemmas.{List.Sums.sum_by-append, List.Elements.All-append, List.Elements.All-cons, List.Elements.All-nil}
+use Rattle.std.proofs.lemmas.{List.Elements.All-take}
+use Rattle.std.specs.List.{All, count_by, onto_first}
 use Rattle.bd_lines.specs.Lines.{AreShort, AreWhole, IsLine, IsPart, longest, commands_of, is_empty_line, is_newline, not_empty, text_lines}
 
 -- a line and more bytes of it
@@ -16,21 +15,9 @@ pub line_front : (line more : List ℕ) → IsLine (line ++ more) → IsLine lin
 line_front line more all =
     subst IsLine (take_at line more (length line) refl) (All-take (λ b. is_newline b ≡ false) (length line) (line ++ more) all)
 
-pub is_false : (b : Bool) → (b ≡ true → ⊥) → b ≡ false
-is_false true not = absurd (not refl)
-is_false false not = refl
-
-pub either : (b : Bool) → (b ≡ true) ⊎ (b ≡ false)
-either true = inl refl
-either false = inr refl
-
 pub both_empty : (xs ys : List ℕ) → xs ++ ys ≡ [] → (xs ≡ []) × (ys ≡ [])
 both_empty [] ys e = (refl, e)
 both_empty (x ∷ xs) ys e = absurd (search (rules, e))
-
-pub no_length : (xs : List ℕ) → length xs ≡ 0 → xs ≡ []
-no_length [] e = refl
-no_length (x ∷ xs) e = absurd (omega (arith, e))
 
 -- ---- commands
 
@@ -54,15 +41,13 @@ pub lines_apart : (front rest : List ℕ) → text_lines (front ++ 10 ∷ rest) 
 lines_apart [] rest = slice_split-cons_yes is_newline 10 rest refl
 lines_apart (b ∷ front) rest = lines_step b front rest (is_newline b) refl (lines_apart front rest)
 
-empty_step : (c : Bool) (line : List ℕ) (xs ys : List (List ℕ)) → cond c (xs ++ ys) (line ∷ (xs ++ ys)) ≡ cond c xs (line ∷ xs) ++ ys
-empty_step true line xs ys = refl
-empty_step false line xs ys = refl
-
 not_empty_apart : (xs ys : List (List ℕ)) → not_empty (xs ++ ys) ≡ not_empty xs ++ not_empty ys
 unfolding not_empty
 not_empty_apart [] ys = refl
 not_empty_apart (line ∷ xs) ys =
-    ap (λ l. cond (is_empty_line line) l (line ∷ l)) (not_empty_apart xs ys) ∙ empty_step (is_empty_line line) line (not_empty xs) (not_empty ys)
+    ap (λ l. cond (is_empty_line line) l (line ∷ l)) (not_empty_apart xs ys)
+    ∙ elim (is_empty_line line) as (λ c. cond c (not_empty xs ++ not_empty ys) (line ∷ (not_empty xs ++ not_empty ys)) ≡ cond c (not_empty xs) (line ∷ not_empty xs) ++ not_empty ys)
+    [ true ↦ refl | false ↦ refl ]
 
 no_commands : not_empty ([] ∷ []) ≡ []
 unfolding not_empty
@@ -77,11 +62,8 @@ commands_ended front = commands_apart front [] ∙ ap (λ x. commands_of front +
 
 -- commands after whole lines
 pub commands_after : (whole rest : List ℕ) → AreWhole whole → commands_of (whole ++ rest) ≡ commands_of whole ++ commands_of rest
-commands_after whole rest (inl none) =
-    ap (λ x. commands_of (x ++ rest)) none ∙ ap (λ x. x ++ commands_of rest) (sym no_commands) ∙ ap (λ x. commands_of x ++ commands_of rest) (sym none)
-commands_after whole rest (inr (front, is)) =
-    ap (λ x. commands_of (x ++ rest)) is ∙ ap commands_of (append_assoc front (10 ∷ []) rest) ∙ commands_apart front rest
-    ∙ ap (λ x. x ++ commands_of rest) (sym (commands_ended front)) ∙ ap (λ x. commands_of x ++ commands_of rest) (sym is)
+commands_after whole rest (inl none) = rw none (ap (λ x. x ++ commands_of rest) (sym no_commands))
+commands_after whole rest (inr (front, is)) = rw (is, append_assoc front (10 ∷ []) rest, commands_ended front) (commands_apart front rest)
 
 -- one more line
 pub commands_line : (whole line : List ℕ) → AreWhole whole → IsLine line → commands_of (whole ++ line) ≡ commands_of whole ++ not_empty (line ∷ [])
@@ -94,11 +76,8 @@ commands_whole_line whole line ends is =
 
 -- ---- long lines
 
-no_long_line : AreShort []
+pub no_long_line : AreShort []
 no_long_line = All-cons (λ line. length line ≤ longest) [] [] (omega arith) (All-nil (λ line. length line ≤ longest))
-
-pub short_none : (text : List ℕ) → text ≡ [] → AreShort text
-short_none text none = subst AreShort (sym none) no_long_line
 
 short_front : (front rest : List ℕ) → AreShort (front ++ 10 ∷ rest) → AreShort front
 short_front front rest all =
@@ -113,10 +92,9 @@ short_apart front rest first second =
     (All-append (λ line. length line ≤ longest) (text_lines front) (text_lines rest) first second)
 
 pub short_after : (whole rest : List ℕ) → AreWhole whole → AreShort whole → AreShort rest → AreShort (whole ++ rest)
-short_after whole rest (inl none) first second = subst (λ x. AreShort (x ++ rest)) (sym none) second
+short_after whole rest (inl none) first second = rw none second
 short_after whole rest (inr (front, is)) first second =
-    subst (λ x. AreShort (x ++ rest)) (sym is)
-    (subst AreShort (sym (append_assoc front (10 ∷ []) rest)) (short_apart front rest (short_front front [] (subst AreShort is first)) second))
+    rw (is, append_assoc front (10 ∷ []) rest) (short_apart front rest (short_front front [] (subst AreShort is first)) second)
 
 pub short_line : (line : List ℕ) → IsPart line → AreShort line
 short_line line part =
@@ -132,14 +110,9 @@ count_more : (xs ys : List ℕ) → count_by is_newline (xs ++ ys) ≡ count_by 
 count_more xs ys = sum_by-append (λ b. cond (is_newline b) 1 0) xs ys
 
 count_line : (line : List ℕ) → IsLine line → count_by is_newline line ≡ 0
-count_line [] is = refl
-count_line (b ∷ line) is =
-    let rest = count_line line (All-tail (λ x. is_newline x ≡ false) b line is) in
-    let here : is_newline b ≡ false = All-head (λ x. is_newline x ≡ false) b line is in
-    let n : Bool → ℕ = λ c. cond c 1 0 in
-    let one : count_by is_newline (b ∷ []) ≡ 0 = ap (λ c. 0 + n c) here in
-    let all : count_by is_newline (b ∷ line) ≡ count_by is_newline (b ∷ []) + count_by is_newline line = count_more (b ∷ []) line in
-    omega (arith, one, all, rest)
+count_line line is =
+    let one : length (text_lines line) ≡ 1 = ap (λ (l : List (List ℕ)). length l) (slice_split_none is_newline line is) in
+    let all = length-slice_split is_newline line in omega (arith, one, all)
 
 pub newlines_of_line : (whole line : List ℕ) → IsLine line → count_by is_newline (whole ++ line) ≤ count_by is_newline whole
 newlines_of_line whole line is = let e = count_more whole line in let f = count_line line is in omega (arith, e, f)

@@ -1,20 +1,18 @@
 -- Lemmas on reading the next line of a device.
 use Rattle.std.proofs.Common.{rules, ◌≡◌, ◌<◌, ◌≤◌, ◌+◌, ℕ, List, [], ◌∷◌, ◌++◌, length, Bool, true, false, Option, Some, None, refl, sym, ap, ◌∙◌, subst}
 use Rattle.std.proofs.Common.{append_assoc, append-nil, arith, inl, inr, length-append}
-use Rattle.std.proofs.Math.Nat.{add-suc}
-use Rattle.std.proofs.KnownBytes.{Consumes-trans, Consumes-nil, Consumes-kept}
+use Rattle.std.proofs.{Math.Nat.add-suc, KnownBytes.Consumes-trans, KnownBytes.Consumes-nil, KnownBytes.Consumes-kept}
 use Rattle.std.specs.Io.KnownBytes.{Consumes, IsAtEnd, Keeps}
-use Rattle.bd_device.specs.Counts.{after_more, greatest}
-use Rattle.bd_device.specs.Devices.{AreReads, no_read, Reader}
-use Rattle.bd_device.specs.declared.reading.Limits.{Limits}
-use Rattle.bd_device.specs.declared.reading.ReadFault.{ReadFault}
+use Rattle.bd_device.specs.{Counts.after_more, Counts.greatest, Devices.AreReads, Devices.no_read, Devices.Reader, declared.reading.Limits.Limits}
+use Rattle.bd_device.specs.{declared.reading.ReadFault.ReadFault}
 use Rattle.bd_device.specs.declared.reading.ReadFault.TheVariants as reads
 use Rattle.bd_device.proofs.DevicesLemmas.{reads_none, reads_more, reads_append}
-use Rattle.bd_lines.specs.Lines.{IsFirstLine, IsLine, IsPart, longest}
-use Rattle.bd_lines.specs.NextLine.{BeginsTooLong, EndsByOneRead, FailsToReadLine, FindsNoLine, ReadsLine, held_after, GivesBeforeLast, GivesBytes, IsCause, IsLazy, LastRead, ReadsTo, StopsReading}
-use Rattle.bd_lines.specs.declared.line_buffer.LineBuffer.{LineBuffer}
+use Rattle.bd_lines.specs.NextLine.{EndsByOneRead, FailsToReadLine, FindsNoLine, ReadsLine, held_after, GivesBeforeLast, GivesBytes, IsCause, IsLazy}
+use Rattle.bd_lines.specs.NextLine.{LastRead, ReadsTo, StopsReading}
+use Rattle.bd_lines.specs.{Lines.IsLine, Lines.IsPart, declared.line_buffer.LineBuffer.LineBuffer}
 use Rattle.std.specs.Prelude.{◌⊎◌}
-use Rattle.bd_lines.proofs.LinesLemmas.{line_grows, line_front, either, both_empty}
+use Rattle.std.proofs.lemmas.Bool.{cases_Bool}
+use Rattle.bd_lines.proofs.LinesLemmas.{line_grows, line_front, both_empty}
 
 -- one read, which gives nothing at the end and something before it
 pub reads_one : {R : Type 0} (gives : R → Option (List ℕ) → R → Type 0) (ended : Bool) (old new : R) (given : List ℕ) → gives old (Some given) new
@@ -38,37 +36,33 @@ pub one_read_then : {R : Type 0} {gives : R → Option (List ℕ) → R → Type
 one_read_then {R} {gives} n old mid new first front part are (turns, last, more, one) =
     (n + turns, last, reads_append n turns old mid last first front are more, one)
 
--- why the rest of a line was not read
-cause_then : {R : Type 0} {gives : R → Option (List ℕ) → R → Type 0} (limit middle n : ℕ) (old mid new : R) (head front rest line : List ℕ) (fault : ReadFault)
-    → AreReads gives n old front mid → middle + length front ≡ limit → head ++ front ≡ line
-    → IsCause gives middle (line ++ rest) rest mid new fault → IsCause gives limit (head ++ (front ++ rest)) (front ++ rest) old new fault
-cause_then {R} {gives} limit middle n old mid new head front rest line reads.Device are room e (part, fits) =
-    (subst IsPart (ap (λ x. x ++ rest) (sym e) ∙ append_assoc head front rest) part, omega (arith, room, fits, length-append front rest))
-cause_then {R} {gives} limit middle n old mid new head front rest line reads.TooLong are room e (inl (long, fits)) =
-    inl (subst BeginsTooLong (ap (λ x. x ++ rest) (sym e) ∙ append_assoc head front rest) long, omega (arith, room, fits, length-append front rest))
-cause_then {R} {gives} limit middle n old mid new head front rest line reads.TooLong are room e (inr (begun, before, part, split, is, cut, few, more, one)) =
+-- why a line was not read, of a reader that gave bytes before
+pub cause_then : {R : Type 0} {gives : R → Option (List ℕ) → R → Type 0} (limit left n : ℕ) (old mid new : R) (before bytes rest : List ℕ) (fault : ReadFault)
+    → AreReads gives n old before mid → left + length before ≡ limit → IsCause gives left bytes rest mid new fault
+    → IsCause gives limit bytes (before ++ rest) old new fault
+cause_then {R} {gives} limit left n old mid new before bytes rest reads.Device are room (part, fits) = (part, omega (arith, room, fits, length-append before rest))
+cause_then {R} {gives} limit left n old mid new before bytes rest reads.TooLong are room (inl (long, fits)) = inl (long, omega (arith, room, fits, length-append before rest))
+cause_then {R} {gives} limit left n old mid new before bytes rest reads.TooLong are room (inr (begun, front, part, split, is, cut, few, more, one)) =
     inr (
       begun,
-      front ++ before,
+      before ++ front,
       part,
-      (sym (append_assoc head front rest) ∙ ap (λ x. x ++ rest) e) ∙ split,
+      split,
       is,
-      ap (λ x. front ++ x) cut ∙ sym (append_assoc front before part),
-      omega (arith, room, few, length-append front before),
-      omega (arith, room, more, length-append front rest),
-      one_read_then n old mid new front before part are one,
+      ap (λ x. before ++ x) cut ∙ sym (append_assoc before front part),
+      omega (arith, room, few, length-append before front),
+      omega (arith, room, more, length-append before rest),
+      one_read_then n old mid new before front part are one,
     )
-cause_then {R} {gives} limit middle n old mid new head front rest line reads.TooManyTurns are room e (part, fits) =
-    (subst IsPart (ap (λ x. x ++ rest) (sym e) ∙ append_assoc head front rest) part, omega (arith, room, fits, length-append front rest))
-cause_then {R} {gives} limit middle n old mid new head front rest line reads.NoMemory are room e fits = omega (arith, room, fits, length-append front rest)
+cause_then {R} {gives} limit left n old mid new before bytes rest reads.TooManyTurns are room (part, fits) = (part, omega (arith, room, fits, length-append before rest))
+cause_then {R} {gives} limit left n old mid new before bytes rest reads.NoMemory are room fits = omega (arith, room, fits, length-append before rest)
 
 -- what the loop keeps: the bytes that were given are the line so far and what is held after it
-pub record SoFar {R : Type 0} (state : R → Reader) (gives : R → Option (List ℕ) → R → Type 0)
-    (limits left : Limits) (ended : Bool) (head line held : List ℕ) (old new : R) : Type 0 where
+pub record SoFar {R : Type 0} (state : R → Reader) (gives : R → Option (List ℕ) → R → Type 0) (before after : LineBuffer) (old new : R) : Type 0 where
   pub given : List ℕ
-  pub reads : GivesBytes state gives limits left ended given old new
-  pub same : head ++ given ≡ line ++ held
-  pub lazy : IsLazy gives head given old new
+  pub reads : GivesBytes state gives before.left after.left after.ended given old new
+  pub same : held_after before ++ given ≡ after.line.items ++ held_after after
+  pub lazy : IsLazy gives (held_after before) given old new
 
 -- the same of all that they gave
 pub before_last_then : {R : Type 0} {gives : R → Option (List ℕ) → R → Type 0} (n : ℕ) (old mid new : R) (first front given : List ℕ)
@@ -101,10 +95,10 @@ module _ {R : Type 0} {state : R → Reader} {gives : R → Option (List ℕ) �
     end = λ e. absurd (search (rules, e));
   }
 
-  pub gives_then : (limits middle left : Limits) (ended : Bool) (old mid new : R) (front rest : List ℕ)
+  pub gives_then : {limits middle left : Limits} {ended : Bool} {old mid new : R} {front rest : List ℕ}
       → GivesBytes state gives limits middle false front old mid → GivesBytes state gives middle left ended rest mid new
       → GivesBytes state gives limits left ended (front ++ rest) old new
-  gives_then limits middle left ended old mid new front rest a b = record {
+  gives_then {limits} {middle} {left} {ended} {old} {mid} {new} {front} {rest} a b = record {
     turns = a.turns + b.turns;
     gave = Consumes-trans (state old).left (state mid).left (state new).left front rest a.gave b.gave;
     reads = reads_then gives ended a.turns b.turns old mid new front rest a.reads b.reads;
@@ -132,10 +126,10 @@ module _ {R : Type 0} {state : R → Reader} {gives : R → Option (List ℕ) �
   last_then limits middle old mid new front rest reads.NoMemory g n a first turned calls (second, well) =
       (reads_append a n old mid new front rest first second, well ∙ g.well)
 
-  pub stops_then : (limits middle : Limits) (old mid new : R) (front rest : List ℕ) (fault : ReadFault)
+  pub stops_then : {limits middle : Limits} {old mid new : R} {front rest : List ℕ} {fault : ReadFault}
       → GivesBytes state gives limits middle false front old mid → StopsReading state gives middle rest mid new fault
       → StopsReading state gives limits (front ++ rest) old new fault
-  stops_then limits middle old mid new front rest fault a b = record {
+  stops_then {limits} {middle} {old} {mid} {new} {front} {rest} {fault} a b = record {
     turns = a.turns + b.turns;
     within = let x = a.turned in let y = b.within in omega (arith, x, y);
     gave = Consumes-trans (state old).left (state mid).left (state new).left front rest a.gave b.gave;
@@ -144,46 +138,21 @@ module _ {R : Type 0} {state : R → Reader} {gives : R → Option (List ℕ) �
   }
 
   -- after a part of a line the reader failed
-  pub fails_then : (limits middle : Limits) (old mid new : R) (head front line : List ℕ) (fault : ReadFault)
+  fails_then : {limits middle : Limits} {old mid new : R} {head front line : List ℕ} {fault : ReadFault}
       → GivesBytes state gives limits middle false front old mid → head ++ front ≡ line → IsLazy gives head front old mid
       → FailsToReadLine state gives middle line mid new fault → FailsToReadLine state gives limits head old new fault
-  fails_then limits middle old mid new head front line fault a e lazy b = record {
+  fails_then {limits} {middle} {old} {mid} {new} {head} {front} {line} {fault} a e lazy b = record {
     given = front ++ b.given;
-    stops = stops_then limits middle old mid new front b.given fault a b.stops;
-    cause = cause_then limits.bytes middle.bytes a.turns old mid new head front b.given line fault a.reads a.room e b.cause;
+    stops = stops_then a b.stops;
+    cause = cause_then limits.bytes middle.bytes a.turns old mid new front (head ++ (front ++ b.given)) b.given fault a.reads a.room
+        (subst (λ x. IsCause gives middle.bytes x b.given mid new fault) (sym (ap (λ x. x ++ b.given) e) ∙ append_assoc head front b.given) b.cause);
     lazy = lazy_then a.turns old mid new head front line b.given e a.reads lazy b.lazy;
   }
 
-  -- what the reader gave was not taken
-  pub fails_too_long : (limits left : Limits) (old new : R) (head given : List ℕ) → GivesBytes state gives limits left false given old new
-      → BeginsTooLong (head ++ given) → IsLazy gives head given old new → FailsToReadLine state gives limits head old new reads.TooLong
-  fails_too_long limits left old new head given a long lazy = record {
-    given = given;
-    stops = record {
-      turns = a.turns;
-      within = let x = a.turned in omega (arith, x);
-      gave = a.gave;
-      reads = (a.reads, a.well);
-      calls = let x = a.turned in let z = a.calls in search (rules, x, z);
-    };
-    cause = inl (long, let x = a.room in omega (arith, x));
-    lazy = lazy;
-  }
-
-  pub fails_memory : (limits left : Limits) (old new : R) (head given : List ℕ) → GivesBytes state gives limits left false given old new
-      → IsLazy gives head given old new → FailsToReadLine state gives limits head old new reads.NoMemory
-  fails_memory limits left old new head given a lazy = record {
-    given = given;
-    stops = record {
-      turns = a.turns;
-      within = let x = a.turned in omega (arith, x);
-      gave = a.gave;
-      reads = (a.reads, a.well);
-      calls = let x = a.turned in let z = a.calls in search (rules, x, z);
-    };
-    cause = let x = a.room in omega (arith, x);
-    lazy = lazy;
-  }
+  -- so many reads gave this, and no further one was made
+  stops_by : {limits : Limits} {old new : R} {given : List ℕ} {fault : ReadFault} (turns : ℕ) → turns ≤ limits.turns → Consumes (state old).left (state new).left given
+      → LastRead state gives limits turns old given new fault → (state new).calls ≡ after_more (state old).calls turns → StopsReading state gives limits given old new fault
+  stops_by turns within gave last calls = record { turns = turns; within = within; gave = gave; reads = last; calls = search (rules, within, calls) }
 
   -- no read may be made
   pub fails_turns : (limits : Limits) (old : R) (head : List ℕ) → limits.turns ≡ 0 → (state old).calls ≤ greatest → IsPart head
@@ -226,13 +195,7 @@ module _ {R : Type 0} {state : R → Reader} {gives : R → Option (List ℕ) �
       → limits.bytes < length last → FailsToReadLine state gives limits head old new reads.TooLong
   fails_limit limits old new head last some part took one calls well more = record {
     given = last;
-    stops = record {
-      turns = 1;
-      within = omega (arith, some);
-      gave = took;
-      reads = (reads_more 0 old old new [] last last (no_read old) one (omega (arith, more)) refl, well);
-      calls = search (rules, some, calls);
-    };
+    stops = stops_by 1 (omega (arith, some)) took (reads_more 0 old old new [] last last (no_read old) one (omega (arith, more)) refl, well) calls;
     cause = inr (head, [], last, refl, part, refl, omega arith, more, (0, old, no_read old, inl one));
     lazy = inr ([], subst IsLine (sym (append-nil head)) part.0, (last, refl, (0, old, no_read old, inl one)));
   }
@@ -243,13 +206,7 @@ module _ {R : Type 0} {state : R → Reader} {gives : R → Option (List ℕ) �
       → 0 < length last → length last ≤ limits.bytes → FailsToReadLine state gives limits head old new reads.NoMemory
   fails_room limits old new head last some part took one calls well more fits = record {
     given = last;
-    stops = record {
-      turns = 1;
-      within = omega (arith, some);
-      gave = took;
-      reads = (reads_more 0 old old new [] last last (no_read old) one more refl, well);
-      calls = search (rules, some, calls);
-    };
+    stops = stops_by 1 (omega (arith, some)) took (reads_more 0 old old new [] last last (no_read old) one more refl, well) calls;
     cause = fits;
     lazy = inr ([], subst IsLine (sym (append-nil head)) part, (last, refl, (0, old, no_read old, inl one)));
   }
@@ -270,110 +227,104 @@ module _ {R : Type 0} {state : R → Reader} {gives : R → Option (List ℕ) �
     end = end;
   }
 
-  module _ (limits left : Limits) (head line held : List ℕ) (old mid : R) (so_far : SoFar state gives limits left false head line held old mid) (whole : IsLine line) where
+  module _ {before lines : LineBuffer} {old mid : R} (so_far : SoFar state gives before lines old mid) (going : lines.ended ≡ false) (whole : IsLine lines.line.items) where
+    gave : GivesBytes state gives before.left lines.left false so_far.given old mid
+    gave = subst (λ b. GivesBytes state gives before.left lines.left b so_far.given old mid) going so_far.reads
+
     -- a newline ends the line
-    pub line_ends : (part rest all : List ℕ) → IsLine part → all ≡ line ++ part → held ≡ part ++ 10 ∷ rest → length all ≤ longest
-        → (given : List ℕ) × GivesBytes state gives limits left false given old mid × IsFirstLine (head ++ given) all rest false × IsLazy gives head given old mid
-    line_ends part rest all is grown split short = (
-      so_far.given,
-      so_far.reads,
-      (
-        (subst IsLine (sym grown) (line_grows line part whole is), short),
-        inl (so_far.same ∙ ap (λ x. line ++ x) split ∙ sym (append_assoc line part (10 ∷ rest)) ∙ ap (λ x. x ++ 10 ∷ rest) (sym grown)),
-      ),
-      so_far.lazy,
-    )
+    pub reads_line : (after : LineBuffer) (part : List ℕ) → IsLine part → after.line.items ≡ lines.line.items ++ part → held_after lines ≡ part ++ 10 ∷ held_after after
+        → after.left ≡ lines.left → after.ended ≡ false → ReadsLine state gives before after old mid
+    reads_line after part is grown split left ended = record {
+      given = so_far.given;
+      reads = subst (λ l. GivesBytes state gives before.left l after.ended so_far.given old mid) (sym left)
+          (subst (λ b. GivesBytes state gives before.left lines.left b so_far.given old mid) (sym ended) gave);
+      line = (
+        (subst IsLine (sym grown) (line_grows lines.line.items part whole is), after.short),
+        inl (so_far.same ∙ ap (λ x. lines.line.items ++ x) split ∙ sym (append_assoc lines.line.items part (10 ∷ held_after after))
+            ∙ ap (λ x. x ++ 10 ∷ held_after after) (sym grown)),
+      );
+      lazy = so_far.lazy;
+    }
 
     -- the line is too long
-    pub line_too_long : (part rest : List ℕ) → IsLine part → held ≡ part ++ rest → 16777216 < length line + length part
-        → FailsToReadLine state gives limits head old mid reads.TooLong
-    line_too_long part rest is split long =
-        fails_too_long limits left old mid head so_far.given so_far.reads (
-          line ++ part,
+    line_too_long : (part rest : List ℕ) → IsLine part → held_after lines ≡ part ++ rest → 16777216 < length lines.line.items + length part
+        → FailsToReadLine state gives before.left (held_after before) old mid reads.TooLong
+    line_too_long part rest is split long = record {
+      given = so_far.given;
+      stops = stops_by gave.turns (let x = gave.turned in omega (arith, x)) gave.gave (gave.reads, gave.well) gave.calls;
+      cause = inl (
+        (
+          lines.line.items ++ part,
           rest,
-          so_far.same ∙ ap (λ x. line ++ x) split ∙ sym (append_assoc line part rest),
-          line_grows line part whole is,
-          omega (arith, long, length-append line part),
-        ) so_far.lazy
+          so_far.same ∙ ap (λ x. lines.line.items ++ x) split ∙ sym (append_assoc lines.line.items part rest),
+          line_grows lines.line.items part whole is,
+          omega (arith, long, length-append lines.line.items part),
+        ),
+        let x = gave.room in omega (arith, x),
+      );
+      lazy = so_far.lazy;
+    }
 
-    pub line_no_memory : FailsToReadLine state gives limits head old mid reads.NoMemory
-    line_no_memory = fails_memory limits left old mid head so_far.given so_far.reads so_far.lazy
-
-    module _ (all : List ℕ) (grown : all ≡ line ++ held) (is : IsLine held) where
-      pub line_grown : IsLine all
-      line_grown = subst IsLine (sym grown) (line_grows line held whole is)
-
-      head_is : IsLine (head ++ so_far.given)
-      head_is = subst IsLine (sym (so_far.same ∙ sym grown)) line_grown
-
-      -- so no newline was held at first
-      pub head_line : IsLine head
-      head_line = line_front head so_far.given head_is
-
-      pub line_fails : (new : R) (fault : ReadFault) → FailsToReadLine state gives left all mid new fault → FailsToReadLine state gives limits head old new fault
-      line_fails new fault fails = fails_then limits left old mid new head so_far.given all fault so_far.reads (so_far.same ∙ sym grown) so_far.lazy fails
-
-      pub line_goes_on : (now : Limits) (ended : Bool) (more : List ℕ) (new : R) → GivesBytes state gives left now ended more mid new
-          → gives mid (Some more) new → SoFar state gives limits now ended head all more old new
-      line_goes_on now ended more new gave one = record {
-        given = so_far.given ++ more;
-        reads = gives_then limits left now ended old mid new so_far.given more so_far.reads gave;
-        same = sym (append_assoc head so_far.given more) ∙ ap (λ x. x ++ more) (so_far.same ∙ sym grown);
-        lazy = inr (so_far.given, head_is, (more, refl, (so_far.reads.turns, mid, so_far.reads.reads, inl one)));
-      }
+    line_no_memory : FailsToReadLine state gives before.left (held_after before) old mid reads.NoMemory
+    line_no_memory = record {
+      given = so_far.given;
+      stops = stops_by gave.turns (let x = gave.turned in omega (arith, x)) gave.gave (gave.reads, gave.well) gave.calls;
+      cause = let x = gave.room in omega (arith, x);
+      lazy = so_far.lazy;
+    }
 
     pub line_stops : (fault : ReadFault) → (fault ≡ reads.TooLong) ⊎ (fault ≡ reads.NoMemory)
-        → (fault ≡ reads.TooLong → (part : List ℕ) × (rest : List ℕ) × IsLine part × (held ≡ part ++ rest) × (16777216 < length line + length part))
-        → FailsToReadLine state gives limits head old mid fault
+        → (fault ≡ reads.TooLong → (part : List ℕ) × (rest : List ℕ) × IsLine part × (held_after lines ≡ part ++ rest) × (16777216 < length lines.line.items + length part))
+        → FailsToReadLine state gives before.left (held_after before) old mid fault
     line_stops fault (inl is) long =
-        let l = long is in subst (λ f. FailsToReadLine state gives limits head old mid f) (sym is) (line_too_long l.0 l.1 l.2 l.3 l.4)
-    line_stops fault (inr is) long = subst (λ f. FailsToReadLine state gives limits head old mid f) (sym is) line_no_memory
+        let l = long is in subst (λ f. FailsToReadLine state gives before.left (held_after before) old mid f) (sym is) (line_too_long l.0 l.1 l.2 l.3 l.4)
+    line_stops fault (inr is) long = subst (λ f. FailsToReadLine state gives before.left (held_after before) old mid f) (sym is) line_no_memory
 
-  pub starts : (limits : Limits) (ended : Bool) (head line : List ℕ) (old : R) → (state old).calls ≤ greatest → ended ≡ false → line ≡ []
-      → SoFar state gives limits limits ended head line head old old
-  starts limits ended head line old fit is empty = record {
+    module _ (is : IsLine (held_after lines)) where
+      head_is : IsLine (held_after before ++ so_far.given)
+      head_is = subst IsLine (sym so_far.same) (line_grows lines.line.items (held_after lines) whole is)
+
+      -- so no newline was held at first
+      pub head_line : IsLine (held_after before)
+      head_line = line_front (held_after before) so_far.given head_is
+
+      module _ (all : List ℕ) (grown : all ≡ lines.line.items ++ held_after lines) where
+        pub line_grown : IsLine all
+        line_grown = subst IsLine (sym grown) (line_grows lines.line.items (held_after lines) whole is)
+
+        pub line_fails : (new : R) (fault : ReadFault) → FailsToReadLine state gives lines.left all mid new fault
+            → FailsToReadLine state gives before.left (held_after before) old new fault
+        line_fails new fault fails = fails_then gave (so_far.same ∙ sym grown) so_far.lazy fails
+
+      pub line_goes_on : (after : LineBuffer) → after.line.items ≡ lines.line.items ++ held_after lines → (new : R)
+          → GivesBytes state gives lines.left after.left after.ended (held_after after) mid new → gives mid (Some (held_after after)) new → SoFar state gives before after old new
+      line_goes_on after grown new more one = record {
+        given = so_far.given ++ held_after after;
+        reads = gives_then gave more;
+        same = sym (append_assoc (held_after before) so_far.given (held_after after)) ∙ ap (λ x. x ++ held_after after) (so_far.same ∙ sym grown);
+        lazy = inr (so_far.given, head_is, (held_after after, refl, (gave.turns, mid, gave.reads, inl one)));
+      }
+
+  pub starts : (lines : LineBuffer) (old : R) → (state old).calls ≤ greatest → lines.ended ≡ false → lines.line.items ≡ [] → SoFar state gives lines lines old old
+  starts lines old fit is empty = record {
     given = [];
-    reads = subst (λ b. GivesBytes state gives limits limits b [] old old) (sym is) (gives_none limits old fit);
-    same = append-nil head ∙ ap (λ x. x ++ head) (sym empty);
+    reads = subst (λ b. GivesBytes state gives lines.left lines.left b [] old old) (sym is) (gives_none lines.left old fit);
+    same = append-nil (held_after lines) ∙ ap (λ x. x ++ held_after lines) (sym empty);
     lazy = inl (refl, refl);
   }
 
-  pub runs : (limits left : Limits) (ended : Bool) (head line held : List ℕ) (old new : R) → ended ≡ false
-      → SoFar state gives limits left ended head line held old new → SoFar state gives limits left false head line held old new
-  runs limits left ended head line held old new is so_far = subst (λ b. SoFar state gives limits left b head line held old new) is so_far
-
-  pub reads_line : (before after : LineBuffer) (left : Limits) (old new : R) → after.left ≡ left → after.ended ≡ false
-      → (given : List ℕ) × GivesBytes state gives before.left left false given old new
-      × IsFirstLine (held_after before ++ given) after.line.items (held_after after) false × IsLazy gives (held_after before) given old new
-      → ReadsLine state gives before after old new
-  reads_line before after left old new e is (given, gave, first, lazy) = record {
-    given = given;
-    reads = subst (λ l. GivesBytes state gives before.left l after.ended given old new) (sym e)
-        (subst (λ b. GivesBytes state gives before.left left b given old new) (sym is) gave);
-    line = subst (λ b. IsFirstLine (held_after before ++ given) after.line.items (held_after after) b) (sym is) first;
-    lazy = lazy;
-  }
-
-  finds_nothing : (before after : LineBuffer) (old new : R) → after.ended ≡ true → after.line.items ≡ []
-      → SoFar state gives before.left after.left after.ended (held_after before) after.line.items (held_after after) old new
+  finds_nothing : {before after : LineBuffer} {old new : R} → after.ended ≡ true → after.line.items ≡ [] → SoFar state gives before after old new
       → (held_after before ≡ []) × GivesBytes state gives before.left after.left true [] old new
-  finds_nothing before after old new is empty so_far =
+  finds_nothing {before} {after} {old} {new} is empty so_far =
       let none : held_after before ++ so_far.given ≡ [] = so_far.same ∙ ap (λ x. x ++ held_after after) empty ∙ after.drained is in
       let both = both_empty (held_after before) so_far.given none in
       let gave = subst (λ b. GivesBytes state gives before.left after.left b so_far.given old new) is so_far.reads in
       (both.0, subst (λ x. GivesBytes state gives before.left after.left true x old new) both.1 gave)
 
-  finds_by : (before after : LineBuffer) (old new : R) → after.ended ≡ true → after.line.items ≡ []
-      → (before.ended ≡ false → SoFar state gives before.left after.left after.ended (held_after before) after.line.items (held_after after) old new)
-      → (before.ended ≡ true) ⊎ (before.ended ≡ false) → held_after before ≡ []
-  finds_by before after old new is empty so_far (inl was) = before.drained was
-  finds_by before after old new is empty so_far (inr was) = (finds_nothing before after old new is empty (so_far was)).0
-
   pub finds_no_line : (before after : LineBuffer) (old new : R) → after.ended ≡ true → after.line.items ≡ []
-      → (before.ended ≡ false → SoFar state gives before.left after.left after.ended (held_after before) after.line.items (held_after after) old new)
-      → FindsNoLine state gives before after old new
+      → (before.ended ≡ false → SoFar state gives before after old new) → FindsNoLine state gives before after old new
   finds_no_line before after old new is empty so_far = record {
-    none = (finds_by before after old new is empty so_far (either before.ended), empty);
+    none = (elim (cases_Bool before.ended) [ inl was ↦ before.drained was | inr was ↦ (finds_nothing is empty (so_far was)).0 ], empty);
     ended = is;
-    reads = λ was. (finds_nothing before after old new is empty (so_far was)).1;
+    reads = λ was. (finds_nothing is empty (so_far was)).1;
   }

@@ -2,20 +2,17 @@
 use Rattle.std.proofs.Common.{rules, ◌≡◌, ◌<◌, ◌≤◌, ◌+◌, ℕ, List, [], ◌∷◌, ◌++◌, length, Bool, true, false, cond, Option, refl, sym, ap, ◌∙◌, subst}
 use Rattle.std.proofs.Common.{append_assoc, append-nil, arith, inl, inr, length-append}
 use Rattle.std.proofs.KnownBytes.{Appends-nil, Appends-trans}
-use Rattle.bd_device.specs.Counts.{after_more, greatest}
-use Rattle.bd_device.specs.Devices.{AreReads, BreaksAfter, BreaksWithin, Reader, TakesText, Writer, between}
-use Rattle.bd_device.specs.declared.reading.Limits.{Limits}
-use Rattle.bd_device.specs.declared.reading.ReadFault.{ReadFault}
-use Rattle.bd_device.specs.declared.reading.ReadFault.TheVariants as faults
-use Rattle.bd_lines.specs.Lines.{AreShort, AreWhole, IsFirstLine, commands_of, is_empty_line, not_empty}
+use Rattle.bd_device.specs.{Counts.after_more, Counts.greatest, Devices.AreReads, Devices.BreaksAfter, Devices.BreaksWithin, Devices.Reader}
+use Rattle.bd_device.specs.{Devices.TakesText, Devices.Writer, Devices.between, declared.reading.Limits.Limits, declared.reading.ReadFault.ReadFault}
 use Rattle.bd_lines.specs.NextLine.{FailsToReadLine, FindsNoLine, GivesBeforeLast, GivesBytes, IsCause, IsLazy, ReadsLine, StopsReading, held_after}
 use Rattle.bd_lines.specs.Serving.{IsReadInTime, RepliesInTurn, ServesAll, ServesBefore, StarvesAt, StopsServing, StopsUnread}
-use Rattle.bd_lines.specs.declared.serving.ServeFault.{ServeFault}
+use Rattle.bd_lines.specs.{Lines.AreShort, Lines.AreWhole, Lines.IsFirstLine, Lines.commands_of, Lines.is_empty_line, Lines.not_empty}
+use Rattle.bd_lines.specs.{declared.serving.ServeFault.ServeFault, declared.line_buffer.LineBuffer.LineBuffer}
 use Rattle.bd_lines.specs.declared.serving.ServeFault.TheVariants as serves
 use Rattle.std.specs.Prelude.{◌⊎◌}
-use Rattle.bd_lines.specs.declared.line_buffer.LineBuffer.{LineBuffer}
-use Rattle.bd_lines.proofs.LinesLemmas.{commands_line, short_after, short_line, short_none, short_whole_line, commands_whole_line, newlines_more, newlines_of_line}
-use Rattle.bd_lines.proofs.NextLineLemmas.{before_last_then, gives_none, gives_then, one_read_then, stops_then}
+use Rattle.bd_lines.proofs.LinesLemmas.{commands_line, no_long_line, short_after, short_line, short_whole_line, commands_whole_line, newlines_more}
+use Rattle.bd_lines.proofs.LinesLemmas.{newlines_of_line}
+use Rattle.bd_lines.proofs.NextLineLemmas.{before_last_then, cause_then, gives_none, gives_then, stops_then}
 
 -- ---- writers
 
@@ -70,15 +67,14 @@ replied_then {S} replies s t u (command ∷ done) more first second (reply, mid,
 -- ---- the loop
 
 -- what the loop keeps: whole lines that have their replies, and what is held after them
-pub record Serving {R S : Type 0} (state : R → Reader) (gives : R → Option (List ℕ) → R → Type 0)
-    (replies : S → List ℕ → List ℕ → S → Type 0) (limits left : Limits) (ended : Bool) (held : List ℕ)
-    (old new : R) (before after : Writer) (s t : S) : Type 0 where
+pub record Serving {R S : Type 0} (state : R → Reader) (gives : R → Option (List ℕ) → R → Type 0) (replies : S → List ℕ → List ℕ → S → Type 0)
+    (limits : Limits) (lines : LineBuffer) (old new : R) (before after : Writer) (s t : S) : Type 0 where
   pub whole : List ℕ
   pub text : List ℕ
-  pub ends : ended ≡ false → AreWhole whole
+  pub ends : lines.ended ≡ false → AreWhole whole
   pub short : AreShort whole
-  pub reads : GivesBytes state gives limits left ended (whole ++ held) old new
-  pub in_time : IsReadInTime gives whole (whole ++ held) old new
+  pub reads : GivesBytes state gives limits lines.left lines.ended (whole ++ held_after lines) old new
+  pub in_time : IsReadInTime gives whole (whole ++ held_after lines) old new
   pub replied : RepliesInTurn replies s (commands_of whole) text t
   pub written : TakesText (between before after) text
 
@@ -108,180 +104,135 @@ in_time_after : {R : Type 0} {gives : R → Option (List ℕ) → R → Type 0} 
 in_time_after {R} {gives} whole more given old new (inl none) = inl none
 in_time_after {R} {gives} whole more given old new (inr (front, few, last)) = inr (front, newlines_more front whole more few, last)
 
-cause_after : {R : Type 0} {gives : R → Option (List ℕ) → R → Type 0} (limit left n : ℕ) (old mid new : R) (before bytes rest : List ℕ) (fault : ReadFault)
-    → AreReads gives n old before mid → left + length before ≡ limit → IsCause gives left bytes rest mid new fault
-    → IsCause gives limit bytes (before ++ rest) old new fault
-cause_after {R} {gives} limit left n old mid new before bytes rest faults.Device are room (part, fits) = (part, omega (arith, room, fits, length-append before rest))
-cause_after {R} {gives} limit left n old mid new before bytes rest faults.TooLong are room (inl (long, fits)) = inl (long, omega (arith, room, fits, length-append before rest))
-cause_after {R} {gives} limit left n old mid new before bytes rest faults.TooLong are room (inr (begun, front, part, split, is, cut, few, more, one)) =
-    inr (
-      begun,
-      before ++ front,
-      part,
-      split,
-      is,
-      ap (λ x. before ++ x) cut ∙ sym (append_assoc before front part),
-      omega (arith, room, few, length-append before front),
-      omega (arith, room, more, length-append before rest),
-      one_read_then n old mid new before front part are one,
-    )
-cause_after {R} {gives} limit left n old mid new before bytes rest faults.TooManyTurns are room (part, fits) = (part, omega (arith, room, fits, length-append before rest))
-cause_after {R} {gives} limit left n old mid new before bytes rest faults.NoMemory are room fits = omega (arith, room, fits, length-append before rest)
-
 module _ {R S : Type 0} (state : R → Reader) (gives : R → Option (List ℕ) → R → Type 0) (replies : S → List ℕ → List ℕ → S → Type 0) where
-  pub begins : (limits : Limits) (ended : Bool) (held : List ℕ) (old : R) (before : Writer) (s : S) → (state old).calls ≤ greatest → ended ≡ false → held ≡ []
-      → Serving state gives replies limits limits ended held old old before before s s
-  begins limits ended held old before s fit is none = record {
+  pub begins : (lines : LineBuffer) (old : R) (before : Writer) (s : S) → (state old).calls ≤ greatest → lines.ended ≡ false → held_after lines ≡ []
+      → Serving state gives replies lines.left lines old old before before s s
+  begins lines old before s fit is none = record {
     whole = [];
     text = [];
     ends = λ _. inl refl;
-    short = short_none [] refl;
-    reads = subst (λ b. GivesBytes state gives limits limits b held old old) (sym is)
-        (subst (λ x. GivesBytes state gives limits limits false x old old) (sym none) (gives_none limits old fit));
+    short = no_long_line;
+    reads = subst (λ b. GivesBytes state gives lines.left lines.left b (held_after lines) old old) (sym is)
+        (subst (λ x. GivesBytes state gives lines.left lines.left false x old old) (sym none) (gives_none lines.left old fit));
     in_time = inl (none, refl);
     replied = nothing_replied replies s;
     written = takes_none before;
   }
 
-  module _ (limits : Limits) (lines : LineBuffer) (old mid : R) (before now : Writer) (s t : S)
-      (so_far : Serving state gives replies limits lines.left lines.ended (held_after lines) old mid before now s t) where
-    -- the end was found
-    pub serves_all : (next : LineBuffer) (new : R) → lines.ended ≡ false → FindsNoLine state gives lines next mid new
-        → ServesAll state gives replies limits old new (between before now) s t
-    serves_all next new going none =
-        let gave = subst (λ b. GivesBytes state gives limits lines.left b (so_far.whole ++ held_after lines) old mid) going so_far.reads in
-        record {
-          left = next.left;
-          given = so_far.whole;
-          text = so_far.text;
-          short = so_far.short;
-          reads = subst (λ x. GivesBytes state gives limits next.left true x old new)
-              (append-nil (so_far.whole ++ held_after lines) ∙ ap (λ x. so_far.whole ++ x) none.none.0 ∙ append-nil so_far.whole)
-              (gives_then limits lines.left next.left true old mid new (so_far.whole ++ held_after lines) [] gave (none.reads going));
-          replied = so_far.replied;
-          written = so_far.written;
-        }
+module _ {R S : Type 0} {state : R → Reader} {gives : R → Option (List ℕ) → R → Type 0} {replies : S → List ℕ → List ℕ → S → Type 0}
+    {limits : Limits} {lines : LineBuffer} {old mid : R} {before now : Writer} {s t : S} (so_far : Serving state gives replies limits lines old mid before now s t) where
+  gave : lines.ended ≡ false → GivesBytes state gives limits lines.left false (so_far.whole ++ held_after lines) old mid
+  gave going = subst (λ b. GivesBytes state gives limits lines.left b (so_far.whole ++ held_after lines) old mid) going so_far.reads
 
-    -- it was found before
-    pub served_all : (next : LineBuffer) (new : R) → lines.ended ≡ true → new ≡ mid → FindsNoLine state gives lines next mid new
-        → ServesAll state gives replies limits old new (between before now) s t
-    served_all next new over same none = record {
-      left = lines.left;
-      given = so_far.whole;
-      text = so_far.text;
-      short = so_far.short;
-      reads = subst (λ r. GivesBytes state gives limits lines.left true so_far.whole old r) (sym same)
-          (subst (λ x. GivesBytes state gives limits lines.left true x old mid) (ap (λ x. so_far.whole ++ x) none.none.0 ∙ append-nil so_far.whole)
-          (subst (λ b. GivesBytes state gives limits lines.left b (so_far.whole ++ held_after lines) old mid) over so_far.reads));
-      replied = so_far.replied;
-      written = so_far.written;
-    }
+  serves_by : (left : Limits) (new : R) → GivesBytes state gives limits left true so_far.whole old new → ServesAll state gives replies limits old new (between before now) s t
+  serves_by left new reads = record {
+    left = left;
+    given = so_far.whole;
+    text = so_far.text;
+    short = so_far.short;
+    reads = reads;
+    replied = so_far.replied;
+    written = so_far.written;
+  }
 
-    pub serves_end : (next : LineBuffer) (new : R) → (lines.ended ≡ true) ⊎ (lines.ended ≡ false) → (lines.ended ≡ true → new ≡ mid)
-        → FindsNoLine state gives lines next mid new → ServesAll state gives replies limits old new (between before now) s t
-    serves_end next new (inl over) same none = served_all next new over (same over) none
-    serves_end next new (inr going) same none = serves_all next new going none
+  -- the end was found before, or now
+  pub serves_end : (next : LineBuffer) (new : R) → (lines.ended ≡ true) ⊎ (lines.ended ≡ false) → (lines.ended ≡ true → new ≡ mid)
+      → FindsNoLine state gives lines next mid new → ServesAll state gives replies limits old new (between before now) s t
+  serves_end next new (inl over) same none = serves_by lines.left new (subst (λ r. GivesBytes state gives limits lines.left true so_far.whole old r) (sym (same over))
+      (subst (λ x. GivesBytes state gives limits lines.left true x old mid) (ap (λ x. so_far.whole ++ x) none.none.0 ∙ append-nil so_far.whole)
+      (subst (λ b. GivesBytes state gives limits lines.left b (so_far.whole ++ held_after lines) old mid) over so_far.reads)))
+  serves_end next new (inr going) same none = serves_by next.left new (subst (λ x. GivesBytes state gives limits next.left true x old new)
+      (append-nil (so_far.whole ++ held_after lines) ∙ ap (λ x. so_far.whole ++ x) none.none.0 ∙ append-nil so_far.whole) (gives_then (gave going) (none.reads going)))
 
-    -- a fault of reading came
-    pub stops_unread : (new : R) (fault : ReadFault) → lines.ended ≡ false → FailsToReadLine state gives lines.left (held_after lines) mid new fault
-        → StopsUnread state gives replies limits old new (between before now) s t fault
-    stops_unread new fault going fails =
-        let gave = subst (λ b. GivesBytes state gives limits lines.left b (so_far.whole ++ held_after lines) old mid) going so_far.reads in
-        let apart : (so_far.whole ++ held_after lines) ++ fails.given ≡ so_far.whole ++ (held_after lines ++ fails.given) =
-        append_assoc so_far.whole (held_after lines) fails.given in
-        record {
-          whole = so_far.whole;
-          rest = held_after lines ++ fails.given;
-          text = so_far.text;
-          ends = so_far.ends going;
-          short = so_far.short;
-          stops = subst (λ x. StopsReading state gives limits x old new fault) apart
-              (stops_then limits lines.left old mid new (so_far.whole ++ held_after lines) fails.given fault gave fails.stops);
-          cause = subst (λ x. IsCause gives limits.bytes (held_after lines ++ fails.given) x old new fault) apart
-              (cause_after limits.bytes lines.left.bytes gave.turns old mid new (so_far.whole ++ held_after lines) (held_after lines ++ fails.given) fails.given fault
-              gave.reads gave.room fails.cause);
-          in_time = in_time_now so_far.whole (held_after lines) fails.given gave.turns old mid new gave.reads so_far.in_time fails.lazy;
-          replied = so_far.replied;
-          written = so_far.written;
-        }
-
-    module _ (next : LineBuffer) (new : R) (going : lines.ended ≡ false) (reads : ReadsLine state gives lines next mid new) where
-      gave_before : GivesBytes state gives limits lines.left false (so_far.whole ++ held_after lines) old mid
-      gave_before = subst (λ b. GivesBytes state gives limits lines.left b (so_far.whole ++ held_after lines) old mid) going so_far.reads
-
-      gave_all : GivesBytes state gives limits next.left next.ended (so_far.whole ++ (held_after lines ++ reads.given)) old new
-      gave_all =
-          let gave = subst (λ b. GivesBytes state gives limits lines.left b (so_far.whole ++ held_after lines) old mid) going so_far.reads in
-          subst (λ x. GivesBytes state gives limits next.left next.ended x old new) (append_assoc so_far.whole (held_after lines) reads.given)
-          (gives_then limits lines.left next.left next.ended old mid new (so_far.whole ++ held_after lines) reads.given gave reads.reads)
-
-      -- the line is a command
-      pub serves_before : is_empty_line next.line.items ≡ false → ServesBefore state gives replies limits old new s next.line.items so_far.text t
-      serves_before is = record {
+  -- a fault of reading came
+  pub stops_unread : (new : R) (fault : ReadFault) → lines.ended ≡ false → FailsToReadLine state gives lines.left (held_after lines) mid new fault
+      → StopsUnread state gives replies limits old new (between before now) s t fault
+  stops_unread new fault going fails =
+      let first = gave going in
+      let apart : (so_far.whole ++ held_after lines) ++ fails.given ≡ so_far.whole ++ (held_after lines ++ fails.given) =
+      append_assoc so_far.whole (held_after lines) fails.given in
+      record {
         whole = so_far.whole;
-        rest = held_after lines ++ reads.given;
-        after = held_after next;
-        left = next.left;
-        ended = next.ended;
+        rest = held_after lines ++ fails.given;
+        text = so_far.text;
         ends = so_far.ends going;
         short = so_far.short;
-        reads = gave_all;
-        in_time = in_time_now so_far.whole (held_after lines) reads.given gave_before.turns old mid new gave_before.reads so_far.in_time reads.lazy;
-        line = reads.line;
-        is_command = is;
+        stops = subst (λ x. StopsReading state gives limits x old new fault) apart (stops_then first fails.stops);
+        cause = subst (λ x. IsCause gives limits.bytes (held_after lines ++ fails.given) x old new fault) apart
+            (cause_then limits.bytes lines.left.bytes first.turns old mid new (so_far.whole ++ held_after lines) (held_after lines ++ fails.given) fails.given fault
+            first.reads first.room fails.cause);
+        in_time = in_time_now so_far.whole (held_after lines) fails.given first.turns old mid new first.reads so_far.in_time fails.lazy;
         replied = so_far.replied;
+        written = so_far.written;
       }
 
-      grows_by : (new_whole more : List ℕ) → new_whole ≡ so_far.whole ++ more → held_after lines ++ reads.given ≡ more ++ held_after next
-          → (next.ended ≡ false → AreWhole new_whole) → AreShort more → commands_of new_whole ≡ commands_of so_far.whole ++ not_empty (next.line.items ∷ [])
-          → (later : Writer) (u : S) (text : List ℕ) → RepliesInTurn replies t (not_empty (next.line.items ∷ [])) text u → TakesText (between now later) text
-          → Serving state gives replies limits next.left next.ended (held_after next) old new before later s u
-      grows_by new_whole more grown split ends short commands later u text replied written =
-          let all : so_far.whole ++ (held_after lines ++ reads.given) ≡ new_whole ++ held_after next =
-          ap (λ x. so_far.whole ++ x) split ∙ sym (append_assoc so_far.whole more (held_after next)) ∙ ap (λ x. x ++ held_after next) (sym grown) in
-          let first = in_time_now so_far.whole (held_after lines) reads.given gave_before.turns old mid new gave_before.reads so_far.in_time reads.lazy in
+  module _ (going : lines.ended ≡ false) {next : LineBuffer} {new : R} (reads : ReadsLine state gives lines next mid new) where
+    gave_all : GivesBytes state gives limits next.left next.ended (so_far.whole ++ (held_after lines ++ reads.given)) old new
+    gave_all = subst (λ x. GivesBytes state gives limits next.left next.ended x old new) (append_assoc so_far.whole (held_after lines) reads.given)
+        (gives_then (gave going) reads.reads)
+
+    in_time_all : IsReadInTime gives so_far.whole (so_far.whole ++ (held_after lines ++ reads.given)) old new
+    in_time_all =
+        let first = gave going in in_time_now so_far.whole (held_after lines) reads.given first.turns old mid new first.reads so_far.in_time reads.lazy
+
+    -- the line is a command
+    serves_before : is_empty_line next.line.items ≡ false → ServesBefore state gives replies limits old new s next.line.items so_far.text t
+    serves_before is = record {
+      whole = so_far.whole;
+      rest = held_after lines ++ reads.given;
+      after = held_after next;
+      left = next.left;
+      ended = next.ended;
+      ends = so_far.ends going;
+      short = so_far.short;
+      reads = gave_all;
+      in_time = in_time_all;
+      line = reads.line;
+      is_command = is;
+      replied = so_far.replied;
+    }
+
+    module _ (later : Writer) (u : S) (text : List ℕ) (replied : RepliesInTurn replies t (not_empty (next.line.items ∷ [])) text u) (written : TakesText (between now later) text) where
+      grows_by : (more : List ℕ) → held_after lines ++ reads.given ≡ more ++ held_after next → (next.ended ≡ false → AreWhole (so_far.whole ++ more)) → AreShort more
+          → commands_of (so_far.whole ++ more) ≡ commands_of so_far.whole ++ not_empty (next.line.items ∷ []) → Serving state gives replies limits next old new before later s u
+      grows_by more split ends short commands =
+          let all : so_far.whole ++ (held_after lines ++ reads.given) ≡ (so_far.whole ++ more) ++ held_after next =
+          ap (λ x. so_far.whole ++ x) split ∙ sym (append_assoc so_far.whole more (held_after next)) in
           record {
-            whole = new_whole;
+            whole = so_far.whole ++ more;
             text = so_far.text ++ text;
             ends = ends;
-            short = subst AreShort (sym grown) (short_after so_far.whole more (so_far.ends going) so_far.short short);
+            short = short_after so_far.whole more (so_far.ends going) so_far.short short;
             reads = subst (λ x. GivesBytes state gives limits next.left next.ended x old new) all gave_all;
-            in_time = subst (λ x. IsReadInTime gives new_whole x old new) all
-                (subst (λ x. IsReadInTime gives x (so_far.whole ++ (held_after lines ++ reads.given)) old new) (sym grown)
-                (in_time_after so_far.whole more (so_far.whole ++ (held_after lines ++ reads.given)) old new first));
+            in_time = subst (λ x. IsReadInTime gives (so_far.whole ++ more) x old new) all
+                (in_time_after so_far.whole more (so_far.whole ++ (held_after lines ++ reads.given)) old new in_time_all);
             replied = subst (λ x. RepliesInTurn replies s x (so_far.text ++ text) u) (sym commands)
                 (replied_then replies s t u (commands_of so_far.whole) (not_empty (next.line.items ∷ [])) so_far.text text so_far.replied replied);
             written = takes_then before now later so_far.text text so_far.written written;
           }
 
-      goes_by : IsFirstLine (held_after lines ++ reads.given) next.line.items (held_after next) next.ended
-          → (later : Writer) (u : S) (text : List ℕ) → RepliesInTurn replies t (not_empty (next.line.items ∷ [])) text u → TakesText (between now later) text
-          → Serving state gives replies limits next.left next.ended (held_after next) old new before later s u
-      goes_by (part, inl split) later u text replied written =
-          grows_by (so_far.whole ++ (next.line.items ++ 10 ∷ [])) (next.line.items ++ 10 ∷ []) refl
-          (split ∙ sym (append_assoc next.line.items (10 ∷ []) (held_after next)))
+      goes_by : IsFirstLine (held_after lines ++ reads.given) next.line.items (held_after next) next.ended → Serving state gives replies limits next old new before later s u
+      goes_by (part, inl split) =
+          grows_by (next.line.items ++ 10 ∷ []) (split ∙ sym (append_assoc next.line.items (10 ∷ []) (held_after next)))
           (λ _. inr (so_far.whole ++ next.line.items, sym (append_assoc so_far.whole next.line.items (10 ∷ []))))
-          (short_whole_line next.line.items part) (commands_whole_line so_far.whole next.line.items (so_far.ends going) part.0) later u text replied written
-      goes_by (part, inr (is, some, none, end)) later u text replied written =
-          grows_by (so_far.whole ++ next.line.items) next.line.items refl
-          (is ∙ sym (append-nil next.line.items) ∙ ap (λ x. next.line.items ++ x) (sym none))
-          (λ not. absurd (search (rules, not, end)))
-          (short_line next.line.items part) (commands_line so_far.whole next.line.items (so_far.ends going) part.0) later u text replied written
+          (short_whole_line next.line.items part) (commands_whole_line so_far.whole next.line.items (so_far.ends going) part.0)
+      goes_by (part, inr (is, some, none, end)) =
+          grows_by next.line.items (is ∙ sym (append-nil next.line.items) ∙ ap (λ x. next.line.items ++ x) (sym none)) (λ not. absurd (search (rules, not, end)))
+          (short_line next.line.items part) (commands_line so_far.whole next.line.items (so_far.ends going) part.0)
 
-      pub goes_on : (later : Writer) (u : S) (text : List ℕ) → RepliesInTurn replies t (not_empty (next.line.items ∷ [])) text u → TakesText (between now later) text
-          → Serving state gives replies limits next.left next.ended (held_after next) old new before later s u
-      goes_on later u text replied written = goes_by reads.line later u text replied written
+      pub goes_on : Serving state gives replies limits next old new before later s u
+      goes_on = goes_by reads.line
 
-      pub stops_answer : (stays : S → S → Type 0) (later : Writer) (u : S) (fault : ServeFault) → (fault ≡ serves.NoMemory) ⊎ (fault ≡ serves.Unwritten)
-          → (fault ≡ serves.NoMemory → (is_empty_line next.line.items ≡ false) × (later ≡ now) × StarvesAt stays replies t next.line.items u)
-          → (fault ≡ serves.Unwritten → (is_empty_line next.line.items ≡ false)
-          × ((reply : List ℕ) × replies t next.line.items reply u × BreaksWithin (between now later) (reply ++ 10 ∷ [])))
-          → StopsServing state gives stays replies limits old new (between before later) s u fault
-      stops_answer stays later u fault (inl is) starved broke =
-          let e = starved is in
-          subst (λ f. StopsServing state gives stays replies limits old new (between before later) s u f) (sym is)
-          (next.line.items, so_far.text, t, serves_before e.0, subst (λ w. TakesText (between before w) so_far.text) (sym e.1) so_far.written, e.2)
-      stops_answer stays later u fault (inr is) starved broke =
-          let e = broke is in
-          subst (λ f. StopsServing state gives stays replies limits old new (between before later) s u f) (sym is)
-          (next.line.items, so_far.text, e.1.0, t, serves_before e.0, e.1.1, breaks_then before now later so_far.text (e.1.0 ++ 10 ∷ []) so_far.written e.1.2)
+    pub stops_answer : (stays : S → S → Type 0) (later : Writer) (u : S) (fault : ServeFault) → (fault ≡ serves.NoMemory) ⊎ (fault ≡ serves.Unwritten)
+        → (fault ≡ serves.NoMemory → (is_empty_line next.line.items ≡ false) × (later ≡ now) × StarvesAt stays replies t next.line.items u)
+        → (fault ≡ serves.Unwritten → (is_empty_line next.line.items ≡ false)
+        × ((reply : List ℕ) × replies t next.line.items reply u × BreaksWithin (between now later) (reply ++ 10 ∷ [])))
+        → StopsServing state gives stays replies limits old new (between before later) s u fault
+    stops_answer stays later u fault (inl is) starved broke =
+        let e = starved is in
+        subst (λ f. StopsServing state gives stays replies limits old new (between before later) s u f) (sym is)
+        (next.line.items, so_far.text, t, serves_before e.0, subst (λ w. TakesText (between before w) so_far.text) (sym e.1) so_far.written, e.2)
+    stops_answer stays later u fault (inr is) starved broke =
+        let e = broke is in
+        subst (λ f. StopsServing state gives stays replies limits old new (between before later) s u f) (sym is)
+        (next.line.items, so_far.text, e.1.0, t, serves_before e.0, e.1.1, breaks_then before now later so_far.text (e.1.0 ++ 10 ∷ []) so_far.written e.1.2)

@@ -67,6 +67,7 @@ impl From<DeviceFault> for ServeFault {
 }
 
 /// Writes the reply to a line, where it is a command. `text` is room that lines share.
+#[tactic(auto, using(crate::proofs::ServingLemmas::replied_none, crate::proofs::ServingLemmas::replied_one, crate::proofs::ServingLemmas::takes_none))]
 fn answer<O: Output, S: Replier>(
     line: &[u8],
     session: &mut S,

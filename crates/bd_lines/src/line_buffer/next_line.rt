@@ -123,6 +123,7 @@ impl LineBuffer {
     }
 
     /// Reads once, where a part of a line is held and nothing after it.
+    #[tactic(auto, using(crate::proofs::NextLineLemmas::fails_turns, crate::proofs::NextLineLemmas::fails_device))]
     fn fetch<R: Input>(&mut self, reader: &mut R) -> Result<(), ReadFault>
         requires drained { drop self.old.start self.old.block.items ≡ [] }
         requires part { IsLine self.old.line.items }

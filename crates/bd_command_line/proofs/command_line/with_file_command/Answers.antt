@@ -1,7 +1,6 @@
 use Rattle.std.proofs.Common.{ap, ◌∙◌}
 use Rattle.std.proofs.lemmas.Result.{IfOk-weaker}
-use Rattle.clap.specs.Simple.{App, with_subcommand}
-use Rattle.clap.specs.Words.{app_of}
+use Rattle.clap.specs.{Simple.App, Simple.with_subcommand, Words.app_of}
 use Rattle.bd_command_line.proofs.command_line.with_file_command.Goals as goal
 
 pub returns-clause-app : goal.returns-clause-app

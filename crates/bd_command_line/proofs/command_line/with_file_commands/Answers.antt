@@ -1,8 +1,6 @@
-use Rattle.std.proofs.Common.{ap, ◌∙◌, ◌≡◌, ◌+◌, sym, List, ℕ, Bor, drop, map, get_or, length, ◌<◌, add-one}
-use Rattle.std.proofs.Math.Seq.{drop-cons}
-use Rattle.clap.specs.Simple.{App, with_subcommand}
-use Rattle.clap.specs.Walk.{Text}
-use Rattle.clap.specs.Words.{app_of}
+use Rattle.std.proofs.Common.{◌∙◌, ◌≡◌, ◌+◌, sym, List, ℕ, Bor, drop, map, get_or, length, ◌<◌}
+use Rattle.std.proofs.lemmas.List.{at_drop_more}
+use Rattle.clap.specs.{Simple.App, Simple.with_subcommand, Walk.Text, Words.app_of}
 use Rattle.bd_command_line.specs.CommandLine.{file_app, with_file_commands}
 use Rattle.bd_command_line.proofs.command_line.with_file_commands.Goals as goal
 
@@ -12,7 +10,7 @@ added : (app more whole : App) (names : List (Bor Text)) (i : ℕ) (name : Bor T
     → with_file_commands app (map (λ name. name.now) (drop i names)) ≡ whole
     → with_file_commands more (map (λ name. name.now) (drop (i + 1) names)) ≡ whole
 added app more whole names i name inside e is =
-    rw (e, add-one) (sym (ap (λ (some : List (Bor Text)). with_file_commands app (map (λ name. name.now) some)) (drop-cons names i name inside)) ∙ is)
+    rw e (sym (at_drop_more (λ (some : List (Bor Text)). with_file_commands app (map (λ name. name.now) some)) names i name inside) ∙ is)
 
 pub loop-name-preserved : goal.loop-name-preserved
 loop-name-preserved c = record {

@@ -1,6 +1,5 @@
 use Rattle.std.proofs.Common.{◌≡◌, false, drop, map}
-use Rattle.clap.specs.Words.{app_of}
-use Rattle.clap.specs.declared.builder.command.Command.TheViews.{out-Command as fields_of}
+use Rattle.clap.specs.{Words.app_of, declared.builder.command.Command.TheViews.out-Command as fields_of}
 use Rattle.bd_command_line.specs.CommandLine.{with_file_commands}
 use Rattle.bd_command_line.proofs.command_line.with_file_commands.Given as goal
 

@@ -1,8 +1,7 @@
 use Rattle.std.proofs.Common.{sym, ◌∙◌}
-use Rattle.std.specs.Str.Parse.{ParsesUnsigned, ExplainsUnsignedError, HasUnsignedDigitsIfOk}
-use Rattle.std.specs.declared.num.ParseIntError.{ParseIntError}
-use Rattle.clap.specs.Words.{found_of, rows_of}
-use Rattle.clap.specs.Walk.{one_of}
+use Rattle.std.specs.{Str.Parse.ParsesUnsigned, Str.Parse.ExplainsUnsignedError, Str.Parse.HasUnsignedDigitsIfOk}
+use Rattle.std.specs.{declared.num.ParseIntError.ParseIntError}
+use Rattle.clap.specs.{Words.found_of, Words.rows_of, Walk.one_of}
 use Rattle.clap.proofs.WalkLemmas.{one_text-rows}
 use Rattle.bd_command_line.proofs.NumberLemmas.{number_is}
 use Rattle.bd_command_line.proofs.find_words.number_of.Goals as goal

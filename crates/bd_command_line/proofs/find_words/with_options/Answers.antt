@@ -1,8 +1,6 @@
-use Rattle.std.proofs.Common.{ap, ap₂, ◌∙◌, ◌||◌, ◌≡◌, ◌+◌, sym, List, ℕ, Bool, Bor, drop, map, get_or, length, ◌<◌, add-one}
-use Rattle.std.proofs.Math.Seq.{drop-cons}
-use Rattle.clap.specs.Simple.{App, with_rule}
-use Rattle.clap.specs.Walk.{Text}
-use Rattle.clap.specs.Words.{app_of}
+use Rattle.std.proofs.Common.{ap, ap₂, ◌∙◌, ◌||◌, ◌≡◌, ◌+◌, sym, List, ℕ, Bool, Bor, drop, map, get_or, length, ◌<◌}
+use Rattle.std.proofs.lemmas.List.{at_drop_more}
+use Rattle.clap.specs.{Simple.App, Simple.with_rule, Walk.Text, Words.app_of}
 use Rattle.bd_command_line.specs.CommandLine.{option_rule, with_options}
 use Rattle.bd_command_line.proofs.find_words.with_options.Goals as goal
 
@@ -12,7 +10,7 @@ added : (app more whole : App) (rows : List (Bor Text × Bool)) (i : ℕ) (row :
     → with_options app (map (λ o. (o.0.now, o.1)) (drop i rows)) ≡ whole
     → with_options more (map (λ o. (o.0.now, o.1)) (drop (i + 1) rows)) ≡ whole
 added app more whole rows i row inside e is =
-    rw (e, add-one) (sym (ap (λ (os : List (Bor Text × Bool)). with_options app (map (λ o. (o.0.now, o.1)) os)) (drop-cons rows i row inside)) ∙ is)
+    rw e (sym (at_drop_more (λ (os : List (Bor Text × Bool)). with_options app (map (λ o. (o.0.now, o.1)) os)) rows i row inside) ∙ is)
 
 pub loop-name-preserved : goal.loop-name-preserved
 loop-name-preserved c = record {

@@ -1,10 +1,8 @@
 use Rattle.std.proofs.Common.{◌≡◌, drop, map}
-use Rattle.bd_bson.specs.Collection.{documents}
-use Rattle.bd_bson.specs.declared.collection.Dump.{Dump}
+use Rattle.bd_bson.specs.{Collection.documents, declared.collection.Dump.Dump}
 use Rattle.bd_filter.specs.FilterView.{filter_tree}
 use Rattle.bd_index.specs.IndexView.{AreIndexesOf}
-use Rattle.bd_cursor.specs.AccessPath.{AccessPath, first_bounded}
-use Rattle.bd_cursor.specs.Explanation.{index_mark}
+use Rattle.bd_cursor.specs.{AccessPath.AccessPath, AccessPath.first_bounded, Explanation.index_mark}
 use Rattle.bd_cursor.proofs.access_choice.serving_access.Given as goal
 
 abbrev pub invariant-loop-index : goal.invariant-loop-index

@@ -2,9 +2,8 @@ use Rattle.std.proofs.Common.{◌≡◌, ◌+◌, ◌<◌, Some, drop, length, m
 use Rattle.bd_bounds.proofs.FilterBoundsLemmas.{one_off}
 use Rattle.bd_path.specs.Sort.{sort_paths}
 use Rattle.bd_index.specs.IndexView.{IsIndexOf}
-use Rattle.bd_cursor.specs.AccessPath.{first_walked, scanned, walk_dir}
-use Rattle.bd_cursor.specs.Explanation.{index_mark}
-use Rattle.bd_cursor.proofs.AccessChoiceLemmas.{walk_is_first, walk_leads}
+use Rattle.bd_cursor.specs.{AccessPath.first_walked, AccessPath.scanned, AccessPath.walk_dir, Explanation.index_mark}
+use Rattle.bd_cursor.proofs.AccessPathLemmas.{walk_is_first, walk_leads}
 use Rattle.bd_cursor.proofs.access_choice.walk_or_scan.Goals as goal
 
 pub returns-in-Some : goal.returns-in-Some

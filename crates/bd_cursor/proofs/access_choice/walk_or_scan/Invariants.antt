@@ -1,7 +1,6 @@
 use Rattle.std.proofs.Common.{◌≡◌, drop, map}
 use Rattle.bd_path.specs.Sort.{sort_paths}
-use Rattle.bd_cursor.specs.AccessPath.{first_walked, scanned}
-use Rattle.bd_cursor.specs.Explanation.{index_mark}
+use Rattle.bd_cursor.specs.{AccessPath.first_walked, AccessPath.scanned, Explanation.index_mark}
 use Rattle.bd_cursor.proofs.access_choice.walk_or_scan.Given as goal
 
 abbrev pub invariant-loop-index : goal.invariant-loop-index

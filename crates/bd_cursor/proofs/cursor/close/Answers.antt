@@ -1,8 +1,7 @@
 use Rattle.std.proofs.Common.{rules, ◌≡◌, ◌==◌, ◌∙◌, ap, filter, map, not}
 use Rattle.std.proofs.lemmas.Fn.{filter_same}
-use Rattle.bd_cursor.specs.SessionView.{open_cursor}
-use Rattle.bd_cursor.specs.declared.cursor.Cursor.{Cursor}
-use Rattle.bd_cursor.proofs.CursorLemmas.{without_filter}
+use Rattle.bd_cursor.specs.{SessionView.open_cursor, declared.cursor.Cursor.Cursor}
+use Rattle.bd_cursor.proofs.SessionLemmas.{without_filter}
 use Rattle.bd_cursor.proofs.cursor.close.Goals as goal
 
 pub returns : goal.returns

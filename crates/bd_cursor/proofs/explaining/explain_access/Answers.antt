@@ -1,34 +1,26 @@
 use Rattle.std.specs.Prelude.{count_by, string_bytes}
-use Rattle.std.proofs.Common.{ℕ, ◌≡◌, ◌<◌, List, length, Some, None, refl, ap, sym, ◌∙◌, subst, arith}
+use Rattle.std.proofs.Common.{ℕ, ◌≡◌, ◌<◌, List, length, Some, refl, ap, sym, ◌∙◌, subst, arith}
 use Rattle.std.specs.List.{All}
-use Rattle.bd_answer.specs.Answer.{matching}
-use Rattle.bd_answer.specs.Session.{by_index, by_scan, by_walk}
+use Rattle.bd_answer.specs.{Answer.matching, Session.by_index, Session.by_scan, Session.by_walk}
 use Rattle.bd_bson.specs.Collection.{documents}
 use Rattle.bd_path.specs.declared.path.Path.{Path}
 use Rattle.bd_filter.specs.FilterView.{filter_tree}
 use Rattle.bd_sort.specs.Selection.{selection_of, hits_of}
-use Rattle.bd_bounds.specs.BoundsView.{seen_bounds}
-use Rattle.bd_cursor.specs.AccessView.{IsAccessOf, access_path}
-use Rattle.bd_cursor.specs.Explanation.{entries_within, explained_access, index_counts, index_mark, places_within}
-use Rattle.bd_cursor.proofs.AccessLemmas.{index_source, lent_within}
-use Rattle.bd_cursor.proofs.ExplainingLemmas.{as_many, entries_read, entries_walked, matches_of_all, places_read, told_as}
+use Rattle.bd_cursor.specs.{AccessView.IsAccessOf, AccessView.access_path, Explanation.explained_access}
+use Rattle.bd_cursor.proofs.AccessLemmas.{index_source, lent_within, as_many, entries_read, entries_walked, matches_of_all, places_read, told_as}
 use Rattle.bd_cursor.proofs.explaining.explain_access.Goals as goal
 
 pub count_among-requires : goal.count_among-requires
 count_among-requires c =
     let lead = subst (IsAccessOf c.args.dump.now c.args.request.now) c.in-Bounded.is c.requires in
-    let found = c.in_ok-found-in-Bounded.found in
-    let i = c.in-Bounded.index.now in
-    let n = length (documents c.args.dump.now) in
-    let w = lent_within i (documents c.args.dump.now) c.as_ref.result c.in-Bounded.bounds found.places.items found.entries c.as_ref.ensures.value c.in_ok-found-in-Bounded.ensures in
-    subst (λ ps. All (λ p. p < n) ps) (sym c.deref.ensures.value) (index_source c.args.dump.now c.args.request.now i (seen_bounds c.in-Bounded.bounds) found.places.items found.entries lead w).below
+    let w = lent_within c.as_ref.result c.as_ref.ensures.value c.in_ok-found-in-Bounded.ensures in
+    subst (λ ps. All (λ p. p < length (documents c.args.dump.now)) ps) (sym c.deref.ensures.value) (index_source lead w).below
 
 pub returns-in-Scan : goal.returns-in-Scan
 returns-in-Scan c =
     let ds = documents c.args.dump.now in
     let r = c.args.request.now in
-    told_as by_scan None None 0 0 c.from.result (length ds) c.count_matches.result (length (matching (selection_of ds r))) refl refl (c.from.ensures
-    ∙ c.len.ensures) (matches_of_all ds r c.count_matches.result c.count_matches.ensures)
+    told_as by_scan refl refl (c.from.ensures ∙ c.len.ensures) (matches_of_all ds r c.count_matches.result c.count_matches.ensures)
     ∙ ap (λ a. explained_access ds (length (matching (selection_of ds r))) (access_path a)) (sym c.in-Scan.is)
 
 pub returns-in_ok-from_str-in-Bounded : goal.returns-in_ok-from_str-in-Bounded
@@ -36,32 +28,24 @@ returns-in_ok-from_str-in-Bounded c =
     let ds = documents c.args.dump.now in
     let r = c.args.request.now in
     let i = c.in-Bounded.index.now in
-    let b = seen_bounds c.in-Bounded.bounds in
     let found = c.in_ok-found-in-Bounded.found in
     let ps = found.places.items in
-    let n = length (matching (selection_of ds r)) in
     let hits = hits_of ds (filter_tree r.filter) in
     let lead = subst (IsAccessOf c.args.dump.now r) c.in-Bounded.is c.requires in
-    let w = lent_within i ds c.as_ref.result c.in-Bounded.bounds ps found.entries c.as_ref.ensures.value c.in_ok-found-in-Bounded.ensures in
-    let source = index_source c.args.dump.now r i b ps found.entries lead w in
+    let w = lent_within c.as_ref.result c.as_ref.ensures.value c.in_ok-found-in-Bounded.ensures in
     let path = c.in_ok-from_str-in-Bounded.ensures.ok ∙ c.as_str.ensures ∙ ap (λ (p : Path). string_bytes p.text) c.path.ensures in
     let long : c.len-in-Bounded.result ≡ length ps = omega (arith, c.len-in-Bounded.ensures, found.places.ok.0) in
-    told_as by_index (Some (string_bytes c.in_ok-from_str-in-Bounded.field-0)) (Some (string_bytes i.path.text)) found.entries (entries_within ds (index_mark i) b)
-    c.len-in-Bounded.result (length (places_within ds (index_mark i) b)) c.count_among.result n
-    (ap (λ (s : List ℕ). Some s) path) (entries_read i ds b ps found.entries w) (long ∙ places_read i ds b ps found.entries w)
-    (c.count_among.ensures ∙ ap (count_by hits) c.deref.ensures.value ∙ as_many ds hits ps source w.ascend)
-    ∙ ap (λ a. explained_access ds n (access_path a)) (sym c.in-Bounded.is)
+    told_as by_index (ap (λ (s : List ℕ). Some s) path) (entries_read i w) (long ∙ places_read i w)
+    (c.count_among.ensures ∙ ap (count_by hits) c.deref.ensures.value ∙ as_many ds hits ps (index_source lead w) w.ascend)
+    ∙ ap (λ a. explained_access ds (length (matching (selection_of ds r))) (access_path a)) (sym c.in-Bounded.is)
 
 pub returns-in_ok-from_str-in-Walk : goal.returns-in_ok-from_str-in-Walk
 returns-in_ok-from_str-in-Walk c =
     let ds = documents c.args.dump.now in
     let r = c.args.request.now in
     let i = c.in-Walk.index.now in
-    let n = length (matching (selection_of ds r)) in
     let lead = subst (IsAccessOf c.args.dump.now r) c.in-Walk.is c.requires in
     let path = c.in_ok-from_str-in-Walk.ensures.ok ∙ c.as_str-in-Walk.ensures ∙ ap (λ (p : Path). string_bytes p.text) c.path-in-Walk.ensures in
-    told_as by_walk (Some (string_bytes c.in_ok-from_str-in-Walk.field-0)) (Some (string_bytes i.path.text)) c.entries.result (index_counts ds (index_mark i)).entries
-    c.from-in-Walk.result (length ds) c.count_matches-in-Walk.result n
-    (ap (λ (s : List ℕ). Some s) path) (entries_walked i ds c.entries.result (c.entries.ensures c.args.dump.now lead.of_dump)) (c.from-in-Walk.ensures ∙ c.len-in-Walk.ensures)
-    (matches_of_all ds r c.count_matches-in-Walk.result c.count_matches-in-Walk.ensures)
-    ∙ ap (λ a. explained_access ds n (access_path a)) (sym c.in-Walk.is)
+    told_as by_walk (ap (λ (s : List ℕ). Some s) path) (entries_walked i ds c.entries.result (c.entries.ensures c.args.dump.now lead.of_dump))
+    (c.from-in-Walk.ensures ∙ c.len-in-Walk.ensures) (matches_of_all ds r c.count_matches-in-Walk.result c.count_matches-in-Walk.ensures)
+    ∙ ap (λ a. explained_access ds (length (matching (selection_of ds r))) (access_path a)) (sym c.in-Walk.is)

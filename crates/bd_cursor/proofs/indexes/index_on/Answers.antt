@@ -1,10 +1,9 @@
 use Rattle.std.proofs.Common.{◌≡◌, ap, map, sym, ◌∙◌, rules, tests}
 use Rattle.std.specs.Prelude.{is_some, position, string_bytes}
-use Rattle.std.proofs.lemmas.Iterator.{YieldsList-from_slice}
-use Rattle.std.proofs.lemmas.Iterator.Search.{position_from_yields_List}
+use Rattle.std.proofs.lemmas.{Iterator.YieldsList-from_slice, Iterator.Search.position_from_yields_List}
 use Rattle.bd_answer.specs.Session.{is_on}
 use Rattle.bd_cursor.specs.Explanation.{index_mark}
-use Rattle.bd_cursor.proofs.IndexesLemmas.{found_if_there, position_seen}
+use Rattle.bd_cursor.proofs.AccessPathLemmas.{found_if_there, position_seen}
 use Rattle.bd_cursor.proofs.indexes.index_on.Goals as goal
 
 pub returns-clause-found : goal.returns-clause-found

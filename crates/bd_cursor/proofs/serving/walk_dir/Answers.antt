@@ -2,7 +2,7 @@ use Rattle.std.proofs.Common.{◌≡◌, Bool, true, false, length, ap, ap₂, s
 use Rattle.std.specs.Prelude.{◌==◌, ◌&&◌, not, string_bytes}
 use Rattle.std.specs.Str.{bytes_eq}
 use Rattle.bd_path.specs.declared.path.Path.{Path}
-use Rattle.bd_cursor.proofs.ServingLemmas.{dir_if, walk_of}
+use Rattle.bd_cursor.proofs.AccessPathLemmas.{dir_if, walk_of}
 use Rattle.bd_cursor.proofs.serving.walk_dir.Goals.{else-is_empty-via-then-is_empty+then-not-sparse+else-eq, else-is_empty-via-then-is_empty+else-not-sparse, else-is_empty-via-else-is_empty}
 use Rattle.bd_cursor.proofs.serving.walk_dir.Goals as goal
 

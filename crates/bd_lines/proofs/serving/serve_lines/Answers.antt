@@ -1,14 +1,13 @@
 use Rattle.std.proofs.Common.{rules, ◌≡◌, Ok, Err, true, false, ap}
-use Rattle.std.proofs.lemmas.Result.{err_from_is_err_and}
+use Rattle.std.proofs.lemmas.{Result.err_from_is_err_and, Bool.cases_Bool, Bool.false_from_ne_true}
 use Rattle.bd_lines.specs.NextLine.{held_after}
-use Rattle.bd_lines.proofs.LinesLemmas.{either, is_false}
 use Rattle.bd_lines.proofs.ServingLemmas as serving
 use Rattle.bd_lines.proofs.serving.serve_lines.Goals as goal
 
 pub loop-lines-init : goal.loop-lines-init
 loop-lines-init g c = record {
-  so_far = serving.begins g.R.Input.state g.R.Input.read_gives g.S.Replier.replies c.args.lines.now.left c.args.lines.now.ended (held_after c.args.lines.now)
-      c.args.reader.now (g.O.Output.state c.args.out.now) c.args.session.now (search rules) c.requires.starts.0 (search rules);
+  so_far = serving.begins g.R.Input.state g.R.Input.read_gives g.S.Replier.replies c.args.lines.now c.args.reader.now (g.O.Output.state c.args.out.now)
+      c.args.session.now (search rules) c.requires.starts.0 (search rules);
   works = c.requires.starts.1;
 }
 
@@ -16,11 +15,9 @@ pub returns-in_err-read_next-clause-stops : goal.returns-in_err-read_next-clause
 returns-in_err-read_next-clause-stops g c =
     let l = c.loop-lines in
     let e = c.in_err-read_next.ensures in
-    let going : l.lines.ended ≡ false = is_false l.lines.ended (λ over. let x = e.ends over l.invariant.works in search (rules, x)) in
+    let going : l.lines.ended ≡ false = false_from_ne_true l.lines.ended (λ over. let x = e.ends over l.invariant.works in search (rules, x)) in
     let p = err_from_is_err_and c.from_residual.result c.from_residual.ensures.1 in
-    rw (p.1, p.2) (serving.stops_unread g.R.Input.state g.R.Input.read_gives g.S.Replier.replies c.args.lines.now.left l.lines
-    c.args.reader.now l.reader (g.O.Output.state c.args.out.now) (g.O.Output.state l.out) c.args.session.now l.session l.invariant.so_far
-    c.read_next.new.reader c.in_err-read_next.field-0.0 going (e.fails l.invariant.works))
+    rw (p.1, p.2) (serving.stops_unread l.invariant.so_far c.read_next.new.reader c.in_err-read_next.field-0.0 going (e.fails l.invariant.works))
 
 pub loop-lines-smaller : goal.loop-lines-smaller
 loop-lines-smaller g c =
@@ -34,13 +31,11 @@ pub loop-lines-preserved : goal.loop-lines-preserved
 loop-lines-preserved g c =
     let l = c.loop-lines in
     let was : c.read_next.result ≡ Ok true = search rules in
-    let going : l.lines.ended ≡ false = is_false l.lines.ended (λ over. let x = c.read_next.ensures.ends over l.invariant.works in search (rules, was, x)) in
+    let going : l.lines.ended ≡ false = false_from_ne_true l.lines.ended (λ over. let x = c.read_next.ensures.ends over l.invariant.works in search (rules, was, x)) in
     let r = c.read_next.ensures.reads was in
     let told = rw c.line.ensures.line at c.in_ok-answer.ensures.replied in
     record {
-      so_far = serving.goes_on g.R.Input.state g.R.Input.read_gives g.S.Replier.replies c.args.lines.now.left l.lines
-          c.args.reader.now l.reader (g.O.Output.state c.args.out.now) (g.O.Output.state l.out) c.args.session.now l.session l.invariant.so_far
-          c.read_next.new.self c.read_next.new.reader going r (g.O.Output.state c.answer.new.out) c.answer.new.session told.0 told.1 told.2;
+      so_far = serving.goes_on l.invariant.so_far going r (g.O.Output.state c.answer.new.out) c.answer.new.session told.0 told.1 told.2;
       works = search rules;
     }
 
@@ -48,21 +43,17 @@ pub returns-in_err-answer-clause-stops : goal.returns-in_err-answer-clause-stops
 returns-in_err-answer-clause-stops g c =
     let l = c.loop-lines in
     let was : c.read_next.result ≡ Ok true = search rules in
-    let going : l.lines.ended ≡ false = is_false l.lines.ended (λ over. let x = c.read_next.ensures.ends over l.invariant.works in search (rules, was, x)) in
+    let going : l.lines.ended ≡ false = false_from_ne_true l.lines.ended (λ over. let x = c.read_next.ensures.ends over l.invariant.works in search (rules, was, x)) in
     let r = c.read_next.ensures.reads was in
     let e = c.in_err-answer.ensures in
     let starved = rw c.line.ensures.line at e.starved in
     let broke = rw c.line.ensures.line at e.broke in
     let p = err_from_is_err_and c.from_residual-in_err-answer.result c.from_residual-in_err-answer.ensures.1 in
-    rw (p.1, p.2) (serving.stops_answer g.R.Input.state g.R.Input.read_gives g.S.Replier.replies c.args.lines.now.left l.lines
-    c.args.reader.now l.reader (g.O.Output.state c.args.out.now) (g.O.Output.state l.out) c.args.session.now l.session l.invariant.so_far
-    c.read_next.new.self c.read_next.new.reader going r g.S.Replier.stays (g.O.Output.state c.answer.new.out) c.answer.new.session
+    rw (p.1, p.2) (serving.stops_answer l.invariant.so_far going r g.S.Replier.stays (g.O.Output.state c.answer.new.out) c.answer.new.session
     c.in_err-answer.field-0.0 e.read (λ h. let x = starved (ap Err h) in (x.0, ap g.O.Output.state x.1, x.2)) (λ h. broke (ap Err h)))
 
 pub returns-clause-serves : goal.returns-clause-serves
 returns-clause-serves g c =
     let l = c.loop-lines in
     let was : c.read_next.result ≡ Ok false = search rules in
-    serving.serves_end g.R.Input.state g.R.Input.read_gives g.S.Replier.replies c.args.lines.now.left l.lines
-    c.args.reader.now l.reader (g.O.Output.state c.args.out.now) (g.O.Output.state l.out) c.args.session.now l.session l.invariant.so_far
-    c.read_next.new.self c.read_next.new.reader (either l.lines.ended) (λ over. (c.read_next.ensures.quiet over).0) (c.read_next.ensures.end was)
+    serving.serves_end l.invariant.so_far c.read_next.new.self c.read_next.new.reader (cases_Bool l.lines.ended) (λ over. (c.read_next.ensures.quiet over).0) (c.read_next.ensures.end was)

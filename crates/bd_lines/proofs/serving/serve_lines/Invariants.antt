@@ -4,8 +4,8 @@ use Rattle.bd_lines.proofs.serving.serve_lines.Given as goal
 
 abbrev pub invariant-loop-lines : goal.invariant-loop-lines
 invariant-loop-lines g l = record {
-  so_far : Serving g.R.Input.state g.R.Input.read_gives g.S.Replier.replies l.initial.lines.left l.lines.left l.lines.ended (drop l.lines.start l.lines.block.items)
-      l.initial.reader l.reader (g.O.Output.state l.initial.out) (g.O.Output.state l.out) l.initial.session l.session;
+  so_far : Serving g.R.Input.state g.R.Input.read_gives g.S.Replier.replies l.initial.lines.left l.lines l.initial.reader l.reader
+      (g.O.Output.state l.initial.out) (g.O.Output.state l.out) l.initial.session l.session;
   works : l.lines.failed ≡ None;
 }
 

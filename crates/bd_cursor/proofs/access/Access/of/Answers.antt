@@ -6,10 +6,9 @@ use Rattle.bd_bson.specs.Collection.{documents}
 use Rattle.bd_path.specs.Sort.{sort_paths}
 use Rattle.bd_filter.specs.FilterView.{filter_tree}
 use Rattle.bd_index.specs.IndexView.{IsIndexOf}
-use Rattle.bd_cursor.specs.AccessPath.{access_of, way_of}
-use Rattle.bd_cursor.specs.Explanation.{index_mark}
-use Rattle.bd_cursor.proofs.AccessChoiceLemmas.{if_ok}
-use Rattle.bd_cursor.proofs.IndexesLemmas.{access_elsewhere, access_named, found_below}
+use Rattle.bd_cursor.specs.{AccessPath.access_of, AccessPath.way_of, Explanation.index_mark}
+use Rattle.bd_cursor.proofs.AccessPathLemmas.{access_elsewhere, access_named, found_below}
+use Rattle.std.proofs.lemmas.Result.{IfOk-weaker}
 use Rattle.bd_cursor.proofs.access.Access.of.Goals as goal
 
 pub returns-in-Some-clause-path : goal.returns-in-Some-clause-path
@@ -24,7 +23,7 @@ returns-in-Some-clause-path c =
     let path = string_bytes c.in-Index.path.text in
     let lt : k < length is = found_below path is k i c.in-Some.ensures.found in
     let of_dump : IsIndexOf dump i = subst (IsIndexOf dump) (sym c.index-indexes-position.is) (c.requires k i lt) in
-    if_ok c.named_access.result
+    IfOk-weaker c.named_access.result _ _
     (λ a every. (every dump of_dump).is ∙ access_named ds f ss path is k i c.in-Some.ensures.found c.index-indexes-position.is
     ∙ ap (λ ch. access_of ds f ss (way_of ch) (map index_mark is)) (sym c.in-Index.is))
     c.named_access.ensures

@@ -1,5 +1,4 @@
 use Rattle.std.proofs.Common.{subst}
-use Rattle.bd_bson.specs.Collection.{documents}
 use Rattle.bd_cursor.specs.AccessView.{IsAccessOf}
 use Rattle.bd_cursor.proofs.AccessLemmas.{index_source, lent_within, range_increases}
 use Rattle.bd_cursor.proofs.access.Access.places.Goals as goal
@@ -10,7 +9,4 @@ ascending_places-requires-clause-ascends c = range_increases c.new.result.next _
 pub ascending_places-requires-in-Bounded-clause-serves : goal.ascending_places-requires-in-Bounded-clause-serves
 ascending_places-requires-in-Bounded-clause-serves c =
     let lead = subst (IsAccessOf c.args.dump.now c.args.request.now) c.in-Bounded.is c.requires.leads in
-    let found = c.in_ok-found-in-Bounded.found in
-    let i = c.in-Bounded.index.now in
-    let w = lent_within i (documents c.args.dump.now) c.as_ref.result c.in-Bounded.bounds found.places.items found.entries c.as_ref.ensures.value c.in_ok-found-in-Bounded.ensures in
-    index_source c.args.dump.now c.args.request.now i _ found.places.items found.entries lead w
+    index_source lead (lent_within c.as_ref.result c.as_ref.ensures.value c.in_ok-found-in-Bounded.ensures)

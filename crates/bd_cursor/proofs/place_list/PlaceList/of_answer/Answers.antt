@@ -1,9 +1,8 @@
 use Rattle.std.proofs.Common.{◌∙◌, ap, drop, min, length, arith, ◌≡◌, ◌<◌, ◌+◌, None}
-use Rattle.bd_answer.specs.Answer.{at_most}
-use Rattle.bd_answer.specs.Source.{places_after}
+use Rattle.bd_answer.specs.{Answer.at_most, Source.places_after}
 use Rattle.bd_bson.specs.Collection.{documents}
 use Rattle.bd_sort.specs.Selection.{selection_of}
-use Rattle.bd_cursor.proofs.PlaceListLemmas.{all_left, some_left}
+use Rattle.bd_cursor.proofs.RemainderLemmas.{all_left, some_left}
 use Rattle.bd_cursor.proofs.place_list.PlaceList.of_answer.Goals as goal
 use Rattle.bd_cursor.proofs.place_list.PlaceList.of_answer.Goals.{then-request-eq0, else-request-eq0}
 

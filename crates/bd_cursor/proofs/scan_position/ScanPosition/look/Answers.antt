@@ -4,7 +4,7 @@ use Rattle.bd_bson.specs.Collection.{documents}
 use Rattle.bd_filter.specs.FilterView.{filter_tree}
 use Rattle.bd_sort.specs.Selection.{hits_of}
 use Rattle.bd_cursor.specs.SessionView.{with_first}
-use Rattle.bd_cursor.proofs.ScanPositionLemmas.{all_seen, at_most_none, met, missed, passed_over, unseen}
+use Rattle.bd_cursor.proofs.RemainderLemmas.{all_seen, at_most_none, met, missed, passed_over, unseen}
 use Rattle.bd_cursor.proofs.scan_position.ScanPosition.look.Goals as goal
 
 pub loop-place-preserved-then-self-gt0 : goal.loop-place-preserved-then-self-gt0

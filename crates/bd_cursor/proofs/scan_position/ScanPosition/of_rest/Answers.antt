@@ -1,8 +1,7 @@
 use Rattle.std.proofs.Common.{◌+◌, ◌∙◌, length}
 use Rattle.bd_filter.specs.FilterView.{filter_tree}
 use Rattle.bd_sort.specs.Selection.{hits_of}
-use Rattle.bd_cursor.proofs.ScanPositionLemmas.{unseen}
-use Rattle.bd_cursor.proofs.UnsortedScanLemmas.{rest_cut}
+use Rattle.bd_cursor.proofs.RemainderLemmas.{unseen, rest_cut}
 use Rattle.bd_cursor.proofs.scan_position.ScanPosition.of_rest.Goals as goal
 
 pub returns : goal.returns

@@ -2,8 +2,7 @@ use Rattle.std.proofs.Common.{rules, ◌≡◌, ◌∙◌, ap, sym, filter, map,
 use Rattle.std.proofs.lemmas.Fn.{filter_same}
 use Rattle.bd_answer.specs.Session.{changed_by, drop_call, dropped, is_on, reply}
 use Rattle.bd_index.specs.declared.index.Index.{Index}
-use Rattle.bd_cursor.specs.Explanation.{index_mark}
-use Rattle.bd_cursor.specs.SessionView.{state_of}
+use Rattle.bd_cursor.specs.{Explanation.index_mark, SessionView.state_of}
 use Rattle.bd_cursor.proofs.SessionLemmas.{marks_kept, with_marks}
 use Rattle.bd_cursor.proofs.session.Session.drop_index.Goals as goal
 

@@ -5,8 +5,7 @@ use Rattle.bd_lines.proofs.line_buffer.LineBuffer.advance.Given as goal
 
 abbrev pub invariant-loop-self : goal.invariant-loop-self
 invariant-loop-self g l = record {
-  so_far : l.initial.self.ended ≡ false → SoFar g.R.Input.state g.R.Input.read_gives l.initial.self.left l.self.left l.self.ended
-      (drop l.initial.self.start l.initial.self.block.items) l.self.line.items (drop l.self.start l.self.block.items) l.initial.reader l.reader;
+  so_far : l.initial.self.ended ≡ false → SoFar g.R.Input.state g.R.Input.read_gives l.initial.self l.self l.initial.reader l.reader;
   line : IsLine l.self.line.items;
   still : l.self.ended ≡ false → l.initial.self.ended ≡ false;
   whole : (IsLine (drop l.initial.self.start l.initial.self.block.items) → ⊥) → l.reader ≡ l.initial.reader;

@@ -1,17 +1,7 @@
 use Rattle.std.proofs.Common.{rules, ◌≡◌, ◌<◌, ◌+◌, ◌≤◌, ◌-◌, [], true, false, length, take, nat_eq, length-take-le}
 use Rattle.std.specs.Io.KnownBytes.{IsAtEnd}
-use Rattle.bd_lines.proofs.NextLineLemmas.{fails_device, fails_limit, fails_room, fails_turns, gives_one}
+use Rattle.bd_lines.proofs.NextLineLemmas.{fails_limit, fails_room, gives_one}
 use Rattle.bd_lines.proofs.line_buffer.LineBuffer.fetch.Goals as goal
-
-pub returns-then-self-eq0-clause-fails : goal.returns-then-self-eq0-clause-fails
-returns-then-self-eq0-clause-fails g c =
-    fails_turns c.args.self.now.left c.args.reader.now c.args.self.now.line.items (search rules) (search rules) (c.requires.part, c.args.self.now.short)
-
-pub returns-in_default-clause-fails : goal.returns-in_default-clause-fails
-returns-in_default-clause-fails g c =
-    let e = c.in_default.ensures in
-    fails_device c.args.self.now.left c.args.reader.now c.read.new.self c.args.self.now.line.items (search rules) (c.requires.part, c.args.self.now.short)
-    e.bytes e.gives e.called e.failed
 
 pub returns-then-self-n-clause-fails : goal.returns-then-self-n-clause-fails
 returns-then-self-n-clause-fails g c =
@@ -42,8 +32,3 @@ returns-clause-gives g c =
     let some : nat_eq c.in-Ok.n 0 ≡ false → 0 < length (take c.in-Ok.n c.read.new.room) = search rules in
     rw is (gives_one c.args.self.now.left _ (nat_eq c.in-Ok.n 0) c.args.reader.now c.read.new.self (take c.in-Ok.n c.read.new.room)
     e.bytes.0 e.gives e.called e.well room turned end none some)
-
-pub returns-clause-one : goal.returns-clause-one
-returns-clause-one g c =
-    let is : c.extend_from_slice.new.self.items ≡ take c.in-Ok.n c.read.new.room = search rules in
-    rw is c.in-Ok.ensures.gives
