@@ -100,19 +100,13 @@ refused out err_old err_new words status told = inl ((Appends-nil out.held, refl
 
 -- ---- what is shown is determined
 
-shown_bytes_once : (bytes : List ℕ) (s t : Transcript) → IsShownByDump bytes None s → IsShownByDump bytes None t → s ≡ t
-shown_bytes_once bytes s t (ds, end, is, shows) (es, other, was, showed) =
+pub shown_once : (bytes : List ℕ) (fault : Option ReadFault) (s t : Transcript) → IsShownByDump bytes fault s → IsShownByDump bytes fault t → s ≡ t
+shown_once bytes None s t (ds, end, is, shows) (es, other, was, showed) =
     let e = walk_once ds es end other bytes is was in
     shows ∙ ap₂ (λ (x : List Doc) (o : Option Fault). shown_dump x (option_map (fault_text (length x)) o)) e.0 e.1 ∙ sym showed
-
-shown_part_once : (bytes : List ℕ) (fault : ReadFault) (s t : Transcript) → IsShownByDump bytes (Some fault) s → IsShownByDump bytes (Some fault) t → s ≡ t
-shown_part_once bytes fault s t (ds, front, part, joined, cut, is, shows) (es, begin, piece, joint, short, was, showed) =
+shown_once bytes (Some fault) s t (ds, front, part, joined, cut, is, shows) (es, begin, piece, joint, short, was, showed) =
     let e = joined_once ds es front begin part piece joined joint (cut_stuck part cut) (cut_stuck piece short) (sym is ∙ was) in
     shows ∙ ap (λ (x : List Doc). shown_dump x (Some (read_words fault))) e.0 ∙ sym showed
-
-pub shown_once : (bytes : List ℕ) (fault : Option ReadFault) (s t : Transcript) → IsShownByDump bytes fault s → IsShownByDump bytes fault t → s ≡ t
-shown_once bytes None s t p q = shown_bytes_once bytes s t p q
-shown_once bytes (Some fault) s t p q = shown_part_once bytes fault s t p q
 
 pub shown_some : (bytes : List ℕ) → IsBytes bytes → (s : Transcript) × IsShownByDump bytes None s
 shown_some bytes fits = let w = walk_on [] [] bytes fits refl in (shown_dump w.more (option_map (fault_text (length w.more)) w.end), (w.more, w.end, w.walk, refl))

@@ -3,13 +3,12 @@ use Rattle.std.proofs.Common.{◌≡◌, ◌≤◌, ◌<◌, ℕ, suc, ◌+◌, 
 use Rattle.std.proofs.Common.{◌∙◌, subst, append_assoc, append-nil, arith, inl, inr, codes, Ok, length-append, length-take-le, rules, add-one}
 use Rattle.std.specs.Prelude.{◌⊎◌, ◌==◌, option_map}
 use Rattle.std.specs.List.{All}
-use Rattle.std.proofs.KnownBytes.{Appends-nil}
 use Rattle.std.proofs.lemmas.Bool.{cases_lt}
 use Rattle.std.proofs.lemmas.Bool.Decides.{nat_tests}
 use Rattle.std.proofs.lemmas.List.{get_or-take, get_or_default, take-append-drop}
 use Rattle.std.proofs.lemmas.List.Splits.{slice_split_at, slice_split_none}
 use Rattle.std.proofs.Math.Seq.{drop-cons}
-use Rattle.bd_value.specs.Limits.{longest_document, longest_input, most_reads}
+use Rattle.bd_value.specs.Limits.{longest_document, most_reads}
 use Rattle.memchr.specs.Find.{IsFirstByte, is_byte}
 use Rattle.bd_value.specs.Tree.{Doc}
 use Rattle.bd_extjson.specs.TextDocument.{ReadsAs, reading}
@@ -127,91 +126,59 @@ pub record SoFar (text : List ℕ) (old new : Writer) (left : Option (List ℕ))
   pub fits : number + left_size left ≤ most_reads
   pub wrote : TakesText (between old new) (packed_bytes done)
 
-module _ (text : List ℕ) (old : Writer) where
-  abbrev pub Kept : Writer → Option (List ℕ) → ℕ → ℕ → Type 0
-  Kept new left number count = SoFar text old new left number count
+module _ {text : List ℕ} {old new : Writer} {rest : List ℕ} {number count : ℕ} (s : SoFar text old new (Some rest) number count)
+    (line : List ℕ) (after : Option (List ℕ)) (cut : text_lines rest ≡ line ∷ lines_left after) where
+  go_on : (es : List Doc) (bad : Option BadLine) → PacksLines (suc number) (line ∷ lines_left after) es bad → PacksLines 1 (text_lines text) (s.done ++ es) bad
+  go_on es bad p = s.goes es bad (subst (λ (ls : List (List ℕ)). PacksLines (suc number) ls es bad) (sym cut) p)
 
-  pub begins : length text ≤ longest_input → Kept old (Some text) 0 0
-  begins short = record {
-    done = [];
-    goes = λ es bad p. p;
-    counted = refl;
-    few = omega arith;
-    fits = omega arith;
-    wrote = (Appends-nil old.held, refl);
+  next : number + 1 ≡ suc number
+  next = omega arith
+
+  with_one : (d : Doc) (es : List Doc) → packed_bytes (s.done ++ d ∷ es) ≡ packed_bytes s.done ++ (plain d ++ packed_bytes es)
+  with_one d es = packed-append s.done (d ∷ es)
+
+  -- a line with a document, whose bytes were taken
+  pub packed : (end : Writer) (d : Doc) → left_size after ≤ length rest → is_empty_line line ≡ false → IsPackable line d → TakesText (between new end) (plain d)
+      → SoFar text old end after (number + 1) (count + 1)
+  packed end d smaller full is wrote = record {
+    done = s.done ++ d ∷ [];
+    goes = λ es bad p.
+        let tail = subst (λ (n : ℕ). PacksLines (suc n) (lines_left after) es bad) next p in
+        subst (λ (ds : List Doc). PacksLines 1 (text_lines text) ds bad) (sym (append_assoc s.done (d ∷ []) es))
+        (go_on (d ∷ es) bad (inr (inl (full, (d, es, is, refl, tail)))));
+    counted = let c = s.counted in omega (arith, length-append s.done (d ∷ []));
+    few = let f = s.few in omega arith;
+    fits = let f = s.fits in omega arith;
+    wrote = subst (λ (x : List ℕ). TakesText (between old end) x) (sym (with_one d [] ∙ ap (λ x. packed_bytes s.done ++ x) (append-nil (plain d))))
+        (takes_both old new end (packed_bytes s.done) (plain d) s.wrote wrote);
   }
 
-  module _ (new : Writer) (rest line : List ℕ) (after : Option (List ℕ)) (number count : ℕ) (s : Kept new (Some rest) number count)
-      (cut : text_lines rest ≡ line ∷ lines_left after) (smaller : left_size after ≤ length rest) where
-    go_on : (es : List Doc) (bad : Option BadLine) → PacksLines (suc number) (line ∷ lines_left after) es bad → PacksLines 1 (text_lines text) (s.done ++ es) bad
-    go_on es bad p = s.goes es bad (subst (λ (ls : List (List ℕ)). PacksLines (suc number) ls es bad) (sym cut) p)
+  -- standard output broke in its bytes
+  pub breaks : (end : Writer) (d : Doc) → is_empty_line line ≡ false → IsPackable line d → BreaksWithin (between new end) (plain d) → StopsPacking text (between old end) Unwritten
+  breaks end d full is broke =
+      let w = packs_some (suc (suc number)) (lines_left after) in
+      let all = packed_bytes (s.done ++ d ∷ w.0) in
+      let front = breaks_piece old new end (packed_bytes s.done) (plain d) (packed_bytes w.0) all s.wrote broke (with_one d w.0) in
+      (s.done ++ d ∷ w.0, w.1, go_on (d ∷ w.0) w.1 (inr (inl (full, (d, w.0, is, refl, w.2)))), front)
 
-    renumbered : (next : ℕ) (es : List Doc) (bad : Option BadLine) → next ≡ suc number → PacksLines (suc next) (lines_left after) es bad → PacksLines (suc (suc number)) (lines_left after) es bad
-    renumbered next es bad same p = subst (λ (n : ℕ). PacksLines (suc n) (lines_left after) es bad) same p
+  -- a bad line: the documents before it are all
+  pub ends_bad : (fault : LineFault) → is_empty_line line ≡ false → IsBad line fault
+      → IsPacking text (between old new) (record { count = count; bad = Some (record { number = number + 1; fault = fault }) })
+  ends_bad fault full is =
+      let packs : PacksLines 1 (text_lines text) (s.done ++ []) (Some (record { number = number + 1; fault = fault }))
+      = rw next (go_on [] (Some (record { number = suc number; fault = fault })) (inr (inr (full, (fault, is, refl, refl))))) in
+      (s.done, rw append-nil at packs, s.counted, s.wrote)
 
-    -- a line of white space
-    pub passed : (next : ℕ) → next ≡ suc number → is_empty_line line ≡ true → Kept new after next count
-    passed next same blank = record {
-      done = s.done;
-      goes = λ es bad p. go_on es bad (inl (blank, renumbered next es bad same p));
-      counted = s.counted;
-      few = let f = s.few in omega arith;
-      fits = let f = s.fits in omega arith;
-      wrote = s.wrote;
-    }
+module _ {text : List ℕ} {old new : Writer} {left : Option (List ℕ)} {number count : ℕ} (s : SoFar text old new left number count) where
+  -- memory ran out
+  pub starves : StopsPacking text (between old new) NoMemory
+  starves =
+      let w = packs_some (suc number) (lines_left left) in
+      let all = packed_bytes (s.done ++ w.0) in
+      (s.done ++ w.0, w.1, s.goes w.0 w.1 w.2, front_taken old new (packed_bytes s.done) (packed_bytes w.0) all s.wrote (packed-append s.done w.0))
 
-    with_one : (d : Doc) (es : List Doc) → packed_bytes (s.done ++ d ∷ es) ≡ packed_bytes s.done ++ (plain d ++ packed_bytes es)
-    with_one d es = packed-append s.done (d ∷ es)
-
-    -- a line with a document, whose bytes were taken
-    pub packed : (end : Writer) (next more : ℕ) (d : Doc) → next ≡ suc number → more ≡ suc count → is_empty_line line ≡ false → IsPackable line d
-        → TakesText (between new end) (plain d) → Kept end after next more
-    packed end next more d same counted full is wrote = record {
-      done = s.done ++ d ∷ [];
-      goes = λ es bad p. subst (λ (ds : List Doc). PacksLines 1 (text_lines text) ds bad) (sym (append_assoc s.done (d ∷ []) es))
-          (go_on (d ∷ es) bad (inr (inl (full, (d, es, is, refl, renumbered next es bad same p)))));
-      counted = let c = s.counted in omega (arith, length-append s.done (d ∷ []));
-      few = let f = s.few in omega arith;
-      fits = let f = s.fits in omega arith;
-      wrote = subst (λ (x : List ℕ). TakesText (between old end) x) (sym (with_one d [] ∙ ap (λ x. packed_bytes s.done ++ x) (append-nil (plain d))))
-          (takes_both old new end (packed_bytes s.done) (plain d) s.wrote wrote);
-    }
-
-    -- standard output broke in its bytes
-    pub breaks : (end : Writer) (d : Doc) → is_empty_line line ≡ false → IsPackable line d → BreaksWithin (between new end) (plain d) → StopsPacking text (between old end) Unwritten
-    breaks end d full is broke =
-        let w = packs_some (suc (suc number)) (lines_left after) in (
-          s.done ++ d ∷ w.0,
-          w.1,
-          go_on (d ∷ w.0) w.1 (inr (inl (full, (d, w.0, is, refl, w.2)))),
-          breaks_piece old new end (packed_bytes s.done) (plain d) (packed_bytes w.0) (packed_bytes (s.done ++ d ∷ w.0)) s.wrote broke (with_one d w.0),
-        )
-
-    -- a bad line: the documents before it are all
-    pub ends_bad : (next : ℕ) (fault : LineFault) → next ≡ suc number → is_empty_line line ≡ false → IsBad line fault
-        → IsPacking text (between old new) (record { count = count; bad = Some (record { number = next; fault = fault }) })
-    ends_bad next fault same full is = (
-      s.done,
-      subst (λ (n : ℕ). PacksLines 1 (text_lines text) s.done (Some (record { number = n; fault = fault }))) (sym same)
-          (subst (λ (ds : List Doc). PacksLines 1 (text_lines text) ds (Some (record { number = suc number; fault = fault }))) (append-nil s.done)
-          (go_on [] (Some (record { number = suc number; fault = fault })) (inr (inr (full, (fault, is, refl, refl)))))),
-      s.counted,
-      s.wrote,
-    )
-
-  module _ (new : Writer) (left : Option (List ℕ)) (number count : ℕ) (s : Kept new left number count) where
-    -- memory ran out
-    pub starves : StopsPacking text (between old new) NoMemory
-    starves =
-        let w = packs_some (suc number) (lines_left left) in
-        (s.done ++ w.0, w.1, s.goes w.0 w.1 w.2, front_taken old new (packed_bytes s.done) (packed_bytes w.0) (packed_bytes (s.done ++ w.0)) s.wrote (packed-append s.done w.0))
-
-    -- the text is at its end
-    pub ends : left ≡ None → IsPacking text (between old new) (record { count = count; bad = None })
-    ends none = (
-      s.done,
-      subst (λ (ds : List Doc). PacksLines 1 (text_lines text) ds None) (append-nil s.done)
-          (s.goes [] None (subst (λ (o : Option (List ℕ)). PacksLines (suc number) (lines_left o) [] None) (sym none) (refl, refl))),
-      s.counted,
-      s.wrote,
-    )
+  -- the text is at its end
+  pub ends : left ≡ None → IsPacking text (between old new) (record { count = count; bad = None })
+  ends none =
+      let last = subst (λ (o : Option (List ℕ)). PacksLines (suc number) (lines_left o) [] None) (sym none) (refl, refl) in
+      (s.done, subst (λ (ds : List Doc). PacksLines 1 (text_lines text) ds None) (append-nil s.done) (s.goes [] None last), s.counted, s.wrote)
