@@ -1,5 +1,5 @@
 -- Each line may have a reply, so a talk can go on.
-use Rattle.std.proofs.Common.{◌≡◌, ℕ, List, [], ◌∷◌, ◌++◌, Option, Some, None, Err, length, refl, ap, ◌∙◌, append_assoc, arith, inl, inr, subst, sym}
+use Rattle.std.proofs.Common.{◌≡◌, ℕ, List, [], ◌∷◌, ◌++◌, Option, Some, None, Err, length, refl, arith, inl, inr}
 use Rattle.bd_value.specs.Tree.{Doc}
 use Rattle.bd_answer.specs.Session.{State}
 use Rattle.bd_diagnose.specs.JsonFault.{IsPlaced}

@@ -9,6 +9,7 @@ use Rattle.bd_cursor.specs.SessionView.{IsRefused, dump_of, state_of}
 use Rattle.bd_cursor.specs.declared.session.Session.{Session}
 use Rattle.bd_lines.specs.Serving as serving
 use Rattle.bd_request.specs.declared.refused.Refused.{Refused}
+use Rattle.bd_request.specs.declared.refused.Refused.TheVariants as reasons
 use Rattle.bd_reply.specs.Reply.{LineReply, reply_text}
 use Rattle.bd_reply.specs.ReplyView.{line_reply}
 use Rattle.bd_reply.specs.declared.reply.Reply.{Reply}
@@ -21,15 +22,15 @@ pub record Performs (call : machine.Call) (old : Session) (r : Reply) (new : Ses
   pub moves : state_of new ≡ state_after (state_of old) call
   pub kept : dump_of new ≡ dump_of old
 
--- or it was not, for want of memory, and the session is as it was
-abbrev pub IsPerformed : machine.Call → Session → Result Reply AllocError → Session → Type 0
-IsPerformed call old (Ok r) new = Performs call old r new
-IsPerformed call old (Err e) new = (state_of new ≡ state_of old) × (dump_of new ≡ dump_of old)
-
--- the reply of a call that was made, or why the session refuses it, and then nothing changes
+-- or the session refuses it for this reason, and then nothing changes
 abbrev pub IsAnswered : machine.Call → Session → Result Reply Refused → Session → Type 0
 IsAnswered call old (Ok r) new = Performs call old r new
 IsAnswered call old (Err why) new = IsRefused why call old new
+
+-- a refusal has a reply too, but want of memory
+abbrev pub IsPerformed : machine.Call → Session → Result Reply AllocError → Session → Type 0
+IsPerformed call old (Ok r) new = Performs call old r new
+IsPerformed call old (Err e) new = IsRefused reasons.NoMemory call old new
 
 abbrev pub service_state : Service → State
 service_state s = state_of s.session
