@@ -1,5 +1,5 @@
 -- What is read of a text fits its types, and its texts and names are UTF-8.
-use Rattle.std.proofs.Common.{◌≡◌, ◌<◌, ℕ, zero, suc, ◌+◌, ◌*◌, ◌-◌, ◌^◌, ℤ, pos, negsuc, List, [], ◌∷◌, Bool, true, false, cond, Option, Some, None, Result}
+use Rattle.std.proofs.Common.{◌≡◌, ◌<◌, ℕ, zero, suc, ◌+◌, ◌*◌, ◌-◌, ◌^◌, ℤ, pos, negsuc, List, [], ◌∷◌, Bool, true, Option, Some, None, Result}
 use Rattle.std.proofs.Common.{Ok, Err, refl, sym, ap, ◌∙◌, subst, arith, ltb-true, leb-true}
 use Rattle.std.specs.Prelude.{IsUtf8, FitsSigned, codes, nat_lt, nat_le, option_map, option_and_then, ◌&&◌}
 use Rattle.std.specs.Int.{w32, w64}
@@ -18,7 +18,7 @@ use Rattle.bd_value.specs.Tree as trees
 use Rattle.bd_value.specs.Tree.{Scalar, Tree, leaf, doc, array, code_scope, Items, Fields, field, no_fields, Doc, fields_of, pairs_of, fields_of-pairs_of}
 use Rattle.bd_value.specs.Zeros.{has_zero}
 use Rattle.bd_wrapper.specs.Whole.{fits_bits, if_fits, whole, whole_64, whole_32}
-use Rattle.bd_wrapper.specs.Wrappers.{wrapper_of, single, ok_of, both, pair_members, only_member, only, pair, id_of, data_in, digits_in, subtype_in, number_in}
+use Rattle.bd_wrapper.specs.Wrappers.{wrapper_of, single, ok_of, both, pair_members, only_member, only, pair, id_of, data_in, digits_in, subtype_in}
 use Rattle.bd_wrapper.specs.Wrappers.{if_word, word_in, if_no_zero, name_in, both_in, one, if_true, is_true, long_in}
 use Rattle.bd_wrapper.specs.declared.wrapper.Wrapper.{Wrapper}
 use Rattle.bd_wrapper.specs.declared.wrapper.Wrapper.TheVariants as kinds

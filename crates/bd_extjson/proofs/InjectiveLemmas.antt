@@ -1,6 +1,6 @@
 -- What is printed determines a plain document: from its JSON value back to the tree. Unlike `wrap` the way back keeps U+0000
 -- in names and in regular expressions.
-use Rattle.std.proofs.Common.{◌≡◌, ℕ, ◌+◌, List, [], ◌∷◌, Option, Some, None, option_map, option_and_then, arith, refl, sym, ap, ap₂, ◌∙◌}
+use Rattle.std.proofs.Common.{◌≡◌, ℕ, ◌+◌, List, [], Option, Some, None, option_map, option_and_then, arith, refl, sym, ap, ap₂, ◌∙◌}
 use Rattle.std.specs.Prelude.{codes}
 use Rattle.json.specs.Json as kit
 use Rattle.json.specs.Json.{Json, value}
@@ -9,7 +9,7 @@ use Rattle.json.specs.Lex.{tokens}
 use Rattle.json.specs.Token.{Token}
 use Rattle.json.specs.Tree as kit_tree
 use Rattle.bd_value.specs.Fits.{ScalarFitsType, FitsTypes, ItemsFitTypes, FieldsFitTypes}
-use Rattle.bd_value.specs.Tree.{Scalar, min_key, undefined, null, int32, int64, text as plain_text, symbol, binary, object_id, boolean, date, timestamp, regex, db_pointer, code, max_key}
+use Rattle.bd_value.specs.Tree.{Scalar, null, text as plain_text, boolean, regex, code}
 use Rattle.bd_value.specs.Tree.{Tree, leaf, doc, array, code_scope, Items, no_items, item, Fields, no_fields, field, Doc, fields_of, pairs_in, pairs_of-fields_of}
 use Rattle.bd_text.specs.Text.{text}
 use Rattle.bd_wrapper.specs.Wrappers.{wrapper_of, single, pair, both_in}

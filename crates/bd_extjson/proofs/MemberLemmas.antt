@@ -1,12 +1,12 @@
 -- Objects that begin with a wrapper's name, a name at a time.
-use Rattle.std.proofs.Common.{◌≡◌, ◌⊎◌, inl, inr, ℕ, zero, suc, ◌-◌, ◌<◌, ◌≤◌, true, false, List, length, Option, Some, None, option_map, option_and_then, refl, sym, ap, ◌∙◌, subst}
+use Rattle.std.proofs.Common.{◌≡◌, ℕ, zero, suc, ◌-◌, ◌<◌, ◌≤◌, true, false, List, length, Option, Some, None, option_map, option_and_then, refl, sym, ap, ◌∙◌}
 use Rattle.json.specs.Token.{Token}
 use Rattle.json.specs.Json as json
 use Rattle.json.specs.Json.{Json, Parse, parse_map, read_key, members, value}
 use Rattle.json.specs.Find.{as_str}
 use Rattle.json.proofs.Grammar.{members_end, members_no_key}
-use Rattle.bd_value.specs.Tree.{Tree, leaf, doc, array, code_scope, Fields, Doc, pairs_of, fields_of, fields_of-pairs_of}
-use Rattle.bd_extjson.specs.Meaning.{AfterName, nothing, one_more, several, nested, with_scope, two, wrapper_tree, after_one, after, wrap, wrap_object}
+use Rattle.bd_value.specs.Tree.{Tree, doc, code_scope, Fields, Doc, pairs_of, fields_of, fields_of-pairs_of}
+use Rattle.bd_extjson.specs.Meaning.{AfterName, one_more, nested, with_scope, two, wrapper_tree, after_one, after, wrap, wrap_object}
 use Rattle.bd_wrapper.specs.Wrappers.{wrapper_of}
 use Rattle.bd_extjson.specs.TextDocument.{document}
 use Rattle.bd_wrapper.specs.Progress.{through, after_key, if_no_name, closing, is_code, is_scope, is_code_name, is_scope_name}

@@ -1,5 +1,5 @@
 -- The canonical text of a plain document is read back as that document.
-use Rattle.std.proofs.Common.{◌≡◌, ℕ, zero, suc, ◌+◌, ◌*◌, ◌-◌, ◌/◌, ◌%◌, ◌<◌, ◌≤◌, ◌^◌, true, false, List, [], ◌∷◌, Option, Some, option_map, option_and_then, decimal}
+use Rattle.std.proofs.Common.{◌≡◌, ℕ, zero, suc, ◌+◌, ◌*◌, ◌-◌, ◌/◌, ◌%◌, ◌<◌, ◌≤◌, ◌^◌, false, List, [], ◌∷◌, Option, Some, option_map, option_and_then, decimal}
 use Rattle.std.proofs.Common.{refl, ap, ap₂, ◌∙◌, arith}
 use Rattle.std.specs.Prelude.{◌||◌}
 use Rattle.std.proofs.lemmas.Bool.{or_parts, lt-ltb}
@@ -13,7 +13,7 @@ use Rattle.json.specs.Json.{if_last}
 use Rattle.bd_value.specs.Depth.{depth, fields_depth, items_depth}
 use Rattle.bd_value.specs.Fits.{IsId, ScalarFitsType, FitsTypes, ItemsFitTypes, FieldsFitTypes, HasUtf8}
 use Rattle.bd_value.specs.Limits.{most_brackets, most_levels}
-use Rattle.bd_value.specs.Tree.{Scalar, min_key, undefined, null, int32, int64, text as plain_text, symbol, binary, object_id, boolean, date, timestamp, regex, db_pointer, code, max_key}
+use Rattle.bd_value.specs.Tree.{Scalar, int32, int64, binary, object_id, date, timestamp, regex, db_pointer}
 use Rattle.bd_value.specs.Tree.{Tree, leaf, doc, array, code_scope, Items, no_items, item, Fields, no_fields, field, Doc, fields_of, pairs_of, pairs_of-fields_of}
 use Rattle.bd_value.specs.Zeros.{has_zero, zero_in_scalar, zero_in, zero_in_items, zero_in_fields}
 use Rattle.bd_text.specs.Text.{base64_text, hex_text, text}

@@ -1,6 +1,6 @@
 -- The text of a tree is UTF-8, since its texts and names are, and it is one line: no byte of it is a newline. Both are shown as
 -- what appending keeps, and what holds for the parts.
-use Rattle.std.proofs.Common.{◌≡◌, ◌==◌, ℕ, zero, suc, ◌+◌, ◌<◌, ◌≤◌, ◌^◌, ℤ, Bool, true, false, List, [], ◌∷◌, ◌++◌, refl, sym, ap, ◌∙◌, subst, arith, decimal, inl, inr}
+use Rattle.std.proofs.Common.{◌≡◌, ◌==◌, ℕ, zero, suc, ◌<◌, ◌^◌, ℤ, Bool, true, false, List, [], ◌∷◌, ◌++◌, refl, ◌∙◌, subst, arith, decimal, inl, inr}
 use Rattle.std.specs.Prelude.{codes, IsUtf8, nat_lt, ◌||◌}
 use Rattle.std.specs.Fmt.{signed_decimal}
 use Rattle.std.specs.Int.Signed.{mag}
@@ -22,7 +22,7 @@ use Rattle.json.proofs.Printed.Utf8.{IsUtf8-quoted, IsUtf8-are_ascii, are_ascii}
 use Rattle.bd_value.specs.Fits.{ScalarFitsType, FitsTypes, ItemsFitTypes, FieldsFitTypes, ScalarHasUtf8, HasUtf8, ItemsHaveUtf8, FieldsHaveUtf8}
 use Rattle.bd_value.specs.Tree.{Scalar, min_key, undefined, null, int32, int64, text as plain_text, symbol, binary, object_id, boolean, date, timestamp, regex, db_pointer, code, max_key}
 use Rattle.bd_value.specs.Tree.{Tree, leaf, doc, array, code_scope, Items, no_items, item, Fields, no_fields, field}
-use Rattle.bd_text.specs.Text.{escape_byte, escaped, quoted, object, member, listed, wrapper_text, base64_text, hex_text, scalar_text, text, items_text, fields_text, needs_escape}
+use Rattle.bd_text.specs.Text.{escape_byte, escaped, quoted, object, member, wrapper_text, base64_text, hex_text, scalar_text, text, items_text, fields_text, needs_escape}
 use Rattle.bd_text.proofs.EscapeLemmas.{fits_32, fits_64, escaped-digits, escape_byte-plain}
 use Rattle.bd_extjson.proofs.TreeJsonLemmas.{quoted-kit}
 

@@ -1,9 +1,9 @@
 -- Text that is written into place: what the first bytes are after a write, and that those before it stay.
-use Rattle.std.proofs.Common.{◌≡◌, ℕ, ◌+◌, ◌-◌, ◌≤◌, Bool, true, false, List, [], ◌∷◌, ◌++◌, length, take, drop, refl, sym, ap, ap₂, ◌∙◌, arith, append_assoc, append-nil}
+use Rattle.std.proofs.Common.{◌≡◌, ℕ, ◌+◌, ◌-◌, ◌≤◌, Bool, false, List, [], ◌∷◌, ◌++◌, length, take, drop, refl, sym, ap, ap₂, ◌∙◌, arith, append_assoc, append-nil}
 use Rattle.std.proofs.Math.Seq.{take-append-add, take-append_seam}
 use Rattle.std.proofs.lemmas.List.{take-take, take_all, drop_all, length-take, length-take-le, length-drop, length-append, take-append-drop}
 use Rattle.std.proofs.lemmas.Slice.{take-put_mid}
-use Rattle.std.specs.Prelude.{◌||◌, Result, Ok, Err, IfOk, OnErr}
+use Rattle.std.specs.Prelude.{Result, Ok, Err, OnErr}
 use Rattle.std.specs.List.{list_any}
 use Rattle.std.proofs.lemmas.List.Folds.{list_any-append}
 use borrow.Rule.Slice.PartMut.{put_mid}
@@ -90,7 +90,7 @@ both_ends end between size n e1 e2 text first last r0 r1 r2 inside near fits is 
     ap (λ k. take k r2) all ∙ put2 ∙ ap₂ (λ (a b : List ℕ). a ++ b) kept back ∙ append_assoc (take end r0) (take between text) (drop between text)
     ∙ ap (λ (l : List ℕ). take end r0 ++ l) (take-append-drop between text)
 
--- what follows for an error from what is known for it or whatever the result is, and for an end
+-- what follows for an error from what is known for it or whatever the result is
 pub on_err : {A E : Type 0} (P Q : Type 0) (r : Result A E) → (P → Q) → OnErr r P → OnErr r Q
 on_err P Q (Ok a) f known = known
 on_err P Q (Err e) f known = f known
@@ -98,10 +98,6 @@ on_err P Q (Err e) f known = f known
 pub when_err : {A E : Type 0} (P : Type 0) (r : Result A E) → P → OnErr r P
 when_err P (Ok a) known = tt
 when_err P (Err e) known = known
-
-pub if_ok : {A E : Type 0} (P Q : A → Type 0) (r : Result A E) → ((a : A) → P a → Q a) → IfOk r P → IfOk r Q
-if_ok P Q (Ok a) f known = f a known
-if_ok P Q (Err e) f known = known
 
 -- no byte of two texts passes
 pub none_of_two : (p : ℕ → Bool) (xs ys zs : List ℕ) → zs ≡ xs ++ ys → list_any p xs ≡ false → list_any p ys ≡ false → list_any p zs ≡ false

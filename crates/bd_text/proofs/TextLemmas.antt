@@ -1,8 +1,11 @@
 -- The texts of values in the pieces in which they are written, after what was there, and from their parts.
-use Rattle.std.proofs.Common.{◌≡◌, ℕ, ◌+◌, ◌<◌, ◌≤◌, ◌^◌, suc, ℤ, List, [], ◌∷◌, ◌++◌, refl, sym, ap, ◌∙◌, arith, append_assoc, append-nil}
+use Rattle.std.proofs.Common.{◌≡◌, ℕ, ◌+◌, ◌<◌, ◌≤◌, ◌^◌, suc, ℤ, List, [], ◌∷◌, ◌++◌, refl, ap, ◌∙◌, arith, rules, append_assoc}
 use Rattle.std.specs.Prelude.{codes, decimal}
 use Rattle.std.specs.Fmt.{signed_decimal}
+use Rattle.std.specs.Int.{w64}
+use Rattle.std.specs.Int.RustNames.{FitsSigned}
 use Rattle.std.specs.Int.Signed.{mag}
+use Rattle.std.proofs.lemmas.Int.{to_z-of_z}
 use Rattle.bd_value.specs.Kind.{kind_of}
 use Rattle.bd_value.specs.Parts.{values_of, AreParts}
 use Rattle.bd_value.specs.declared.kind.Kind.{Kind}
@@ -11,84 +14,21 @@ use Rattle.bd_value.specs.Tree as trees
 use Rattle.bd_value.specs.Tree.{Scalar, Tree, leaf, array, Doc, fields_of, items_of, fields_of-pairs_of, items_of-list_of, tree_size, fields_size, items_size}
 use Rattle.bd_value.specs.Tree.{Fields, doc, code_scope, int32, int64, symbol, binary, object_id, date, timestamp, regex, db_pointer, code}
 use Rattle.bd_text.specs.Short.{IsShortScalar, HasShortText}
-use Rattle.bd_text.specs.Text.{escaped, quoted, object, member, wrapper_text, base64_text, hex_text, scalar_text, text, escape_byte}
-use Rattle.bd_text.proofs.EscapeLemmas.{escaped-signed_decimal, escaped-base64_text, escaped-hex_text}
+use Rattle.bd_text.specs.Text.{quoted, object, member, wrapper_text, base64_text, hex_text, scalar_text, text, escape_byte}
+use Rattle.bd_text.proofs.EscapeLemmas.{fits_64, escaped-signed_decimal, escaped-base64_text, escaped-hex_text}
 use Rattle.hex.specs.Hex.{IsBytes}
 
-three : (old a b c : List ℕ) → ((old ++ a) ++ b) ++ c ≡ old ++ (a ++ (b ++ c))
-three old a b c = simp append_assoc
-
-five : (old a b c d e : List ℕ) → ((((old ++ a) ++ b) ++ c) ++ d) ++ e ≡ old ++ (a ++ (b ++ (c ++ (d ++ e))))
-five old a b c d e = simp append_assoc
-
-pointer : (old a b c d e : List ℕ) → (((old ++ (a ++ b)) ++ c) ++ d) ++ e ≡ old ++ (a ++ (b ++ (c ++ (d ++ e))))
-pointer old a b c d e = simp append_assoc
-
-scoped : (old a b c d e : List ℕ) → ((old ++ (a ++ (b ++ c))) ++ d) ++ e ≡ old ++ (a ++ (b ++ (c ++ (d ++ e))))
-scoped old a b c d e = simp append_assoc
-
--- ---- what is in quotation marks here needs no escape
-
-quoted-tail : (d end : List ℕ) → escaped d ≡ d → quoted d ++ end ≡ 34 ∷ (d ++ 34 ∷ end)
-unfolding quoted
-quoted-tail d end e = rw e (ap (λ (l : List ℕ). 34 ∷ l) (append_assoc d (34 ∷ []) end))
-
--- an object up to the value of its first member, and a later member up to its value
-abbrev first : List ℕ → List ℕ → List ℕ
-first name rest = 123 ∷ (quoted name ++ 58 ∷ rest)
-
-abbrev next : List ℕ → List ℕ → List ℕ
-next name rest = 44 ∷ (quoted name ++ 58 ∷ rest)
-
-wrapped-tail : (n v end : List ℕ) → wrapper_text n v ++ end ≡ first n (v ++ 125 ∷ end)
-wrapped-tail n v end = ap (λ (l : List ℕ). 123 ∷ l) (append_assoc (quoted n ++ 58 ∷ v) (125 ∷ []) end ∙ append_assoc (quoted n) (58 ∷ v) (125 ∷ end))
-
-wrapped-is : (n v : List ℕ) → wrapper_text n v ≡ first n (v ++ 125 ∷ [])
-wrapped-is n v = ap (λ (l : List ℕ). 123 ∷ l) (append_assoc (quoted n) (58 ∷ v) (125 ∷ []))
-
-two-tail : (a x b y end : List ℕ) → object (member a x ∷ member b y ∷ []) ++ end ≡ first a (x ++ next b (y ++ 125 ∷ end))
-two-tail a x b y end =
-    ap (λ (l : List ℕ). 123 ∷ l)
-    (append_assoc (member a x ++ 44 ∷ member b y) (125 ∷ []) end ∙ append_assoc (member a x) (44 ∷ member b y) (125 ∷ end)
-    ∙ append_assoc (quoted a) (58 ∷ x) (44 ∷ (member b y ++ 125 ∷ end))
-    ∙ ap (λ (l : List ℕ). quoted a ++ 58 ∷ (x ++ 44 ∷ l)) (append_assoc (quoted b) (58 ∷ y) (125 ∷ end)))
-
-wrapped_quoted : (n d : List ℕ) → escaped d ≡ d → wrapper_text n (quoted d) ≡ first n (34 ∷ (d ++ 34 ∷ 125 ∷ []))
-wrapped_quoted n d e = wrapped-is n (quoted d) ∙ ap (first n) (quoted-tail d (125 ∷ []) e)
-
-wrapped_twice : (n m d : List ℕ) → escaped d ≡ d → wrapper_text n (wrapper_text m (quoted d)) ≡ first n (first m (34 ∷ (d ++ 34 ∷ 125 ∷ 125 ∷ [])))
-wrapped_twice n m d e =
-    wrapped-is n (wrapper_text m (quoted d)) ∙ ap (first n) (wrapped-tail m (quoted d) (125 ∷ []) ∙ ap (first m) (quoted-tail d (125 ∷ 125 ∷ []) e))
-
-wrapped_two : (n a x b y : List ℕ) → wrapper_text n (object (member a x ∷ member b y ∷ [])) ≡ first n (first a (x ++ next b (y ++ 125 ∷ 125 ∷ [])))
-wrapped_two n a x b y = wrapped-is n (object (member a x ∷ member b y ∷ [])) ∙ ap (first n) (two-tail a x b y (125 ∷ []))
-
-two-is : (a x b y : List ℕ) → object (member a x ∷ member b y ∷ []) ≡ first a (x ++ next b (y ++ 125 ∷ []))
-two-is a x b y = sym (append-nil (object (member a x ∷ member b y ∷ []))) ∙ two-tail a x b y []
-
-after : (old : List ℕ) {x y : List ℕ} → x ≡ y → old ++ y ≡ old ++ x
-after old {x} {y} e = ap (λ (l : List ℕ). old ++ l) (sym e)
-
--- ---- the scalars
+-- ---- the scalars; what is in quotation marks here needs no escape
 
 pub written-int32 : (old : List ℕ) (z : ℤ) → mag z < 2 ^ 63
     → ((old ++ codes "{\"$numberInt\":\"") ++ signed_decimal z) ++ codes "\"}" ≡ old ++ scalar_text (int32 z)
 unfolding scalar_text quoted escape_byte
-written-int32 old z small =
-    three old (codes "{\"$numberInt\":\"") (signed_decimal z) (codes "\"}") ∙ after old (wrapped_quoted (codes "$numberInt") (signed_decimal z) (escaped-signed_decimal z small))
+written-int32 old z small = simp (append_assoc, escaped-signed_decimal z small)
 
 pub written-int64 : (old : List ℕ) (z : ℤ) → mag z < 2 ^ 63
     → ((old ++ codes "{\"$numberLong\":\"") ++ signed_decimal z) ++ codes "\"}" ≡ old ++ scalar_text (int64 z)
 unfolding scalar_text quoted escape_byte
-written-int64 old z small =
-    three old (codes "{\"$numberLong\":\"") (signed_decimal z) (codes "\"}") ∙ after old (wrapped_quoted (codes "$numberLong") (signed_decimal z) (escaped-signed_decimal z small))
-
-pub written-date : (old : List ℕ) (z : ℤ) → mag z < 2 ^ 63
-    → ((old ++ codes "{\"$date\":{\"$numberLong\":\"") ++ signed_decimal z) ++ codes "\"}}" ≡ old ++ scalar_text (date z)
-unfolding scalar_text quoted escape_byte
-written-date old z small =
-    three old (codes "{\"$date\":{\"$numberLong\":\"") (signed_decimal z) (codes "\"}}")
-    ∙ after old (wrapped_twice (codes "$date") (codes "$numberLong") (signed_decimal z) (escaped-signed_decimal z small))
+written-int64 old z small = simp (append_assoc, escaped-signed_decimal z small)
 
 pub written-symbol : (old s : List ℕ) → (old ++ (codes "{\"$symbol\":" ++ quoted s)) ++ codes "}" ≡ old ++ scalar_text (symbol s)
 unfolding scalar_text quoted escape_byte
@@ -101,25 +41,7 @@ written-code old s = simp append_assoc
 pub written-binary : (old bytes : List ℕ) (k : ℕ) → IsBytes bytes → IsBytes (k ∷ [])
     → ((((old ++ codes "{\"$binary\":{\"base64\":\"") ++ base64_text bytes) ++ codes "\",\"subType\":\"") ++ hex_text (k ∷ [])) ++ codes "\"}}" ≡ old ++ scalar_text (binary k bytes)
 unfolding scalar_text quoted escape_byte
-written-binary old bytes k fits byte =
-    let text = base64_text bytes in
-    let digits = hex_text (k ∷ []) in
-    let inner = quoted-tail text (next (codes "subType") (quoted digits ++ 125 ∷ 125 ∷ [])) (escaped-base64_text bytes fits)
-    ∙ ap (λ (l : List ℕ). 34 ∷ (text ++ 34 ∷ next (codes "subType") l)) (quoted-tail digits (125 ∷ 125 ∷ []) (escaped-hex_text (k ∷ []) byte)) in
-    five old (codes "{\"$binary\":{\"base64\":\"") text (codes "\",\"subType\":\"") digits (codes "\"}}")
-    ∙ after old (wrapped_two (codes "$binary") (codes "base64") (quoted text) (codes "subType") (quoted digits) ∙ ap (λ (l : List ℕ). first (codes "$binary") (first (codes "base64") l)) inner)
-
-pub object_id_pieces : (old id : List ℕ) → IsBytes id → old ++ scalar_text (object_id id) ≡ ((old ++ codes "{\"$oid\":\"") ++ hex_text id) ++ codes "\"}"
-unfolding scalar_text quoted escape_byte
-object_id_pieces old id fits =
-    sym (three old (codes "{\"$oid\":\"") (hex_text id) (codes "\"}") ∙ after old (wrapped_quoted (codes "$oid") (hex_text id) (escaped-hex_text id fits)))
-
-pub timestamp_pieces : (old : List ℕ) (s i : ℕ)
-    → old ++ scalar_text (timestamp s i) ≡ ((((old ++ codes "{\"$timestamp\":{\"t\":") ++ decimal s) ++ codes ",\"i\":") ++ decimal i) ++ codes "}}"
-unfolding scalar_text quoted escape_byte
-timestamp_pieces old s i =
-    sym (five old (codes "{\"$timestamp\":{\"t\":") (decimal s) (codes ",\"i\":") (decimal i) (codes "}}")
-    ∙ after old (wrapped_two (codes "$timestamp") (codes "t") (decimal s) (codes "i") (decimal i)))
+written-binary old bytes k fits byte = simp (append_assoc, escaped-base64_text bytes fits, escaped-hex_text (k ∷ []) byte)
 
 pub written-regex : (old p o : List ℕ)
     → ((old ++ (codes "{\"$regularExpression\":{\"pattern\":" ++ quoted p)) ++ (codes ",\"options\":" ++ quoted o)) ++ codes "}}" ≡ old ++ scalar_text (regex p o)
@@ -129,46 +51,62 @@ written-regex old p o = simp append_assoc
 pub written-db_pointer : (old s id : List ℕ) → IsBytes id
     → (((old ++ (codes "{\"$dbPointer\":{\"$ref\":" ++ quoted s)) ++ codes ",\"$id\":{\"$oid\":\"") ++ hex_text id) ++ codes "\"}}}" ≡ old ++ scalar_text (db_pointer s id)
 unfolding scalar_text quoted escape_byte
-written-db_pointer old s id fits =
-    let digits = hex_text id in
-    let inner = wrapped-tail (codes "$oid") (quoted digits) (125 ∷ 125 ∷ []) ∙ ap (first (codes "$oid")) (quoted-tail digits (125 ∷ 125 ∷ 125 ∷ []) (escaped-hex_text id fits)) in
-    pointer old (codes "{\"$dbPointer\":{\"$ref\":") (quoted s) (codes ",\"$id\":{\"$oid\":\"") digits (codes "\"}}}")
-    ∙ after old (wrapped_two (codes "$dbPointer") (codes "$ref") (quoted s) (codes "$id") (wrapper_text (codes "$oid") (quoted digits))
-    ∙ ap (λ (l : List ℕ). first (codes "$dbPointer") (first (codes "$ref") (quoted s ++ next (codes "$id") l))) inner)
+written-db_pointer old s id fits = simp (append_assoc, escaped-hex_text id fits)
 
-pub written-code_scope : (old s : List ℕ) (fs : Fields)
+-- these are named by their functions, and so begin with the whole text
+
+pub object_id_pieces : (old id : List ℕ) → IsBytes id → old ++ scalar_text (object_id id) ≡ ((old ++ codes "{\"$oid\":\"") ++ hex_text id) ++ codes "\"}"
+unfolding scalar_text quoted escape_byte
+object_id_pieces old id fits = simp (append_assoc, escaped-hex_text id fits)
+
+two_members : (old n a x b y : List ℕ) → old ++ wrapper_text n (object (member a x ∷ member b y ∷ []))
+    ≡ old ++ 123 ∷ (quoted n ++ 58 ∷ 123 ∷ (quoted a ++ 58 ∷ (x ++ 44 ∷ (quoted b ++ 58 ∷ (y ++ 125 ∷ 125 ∷ [])))))
+two_members old n a x b y =
+    let end : List ℕ = 125 ∷ [] in
+    let last = append_assoc (quoted b) (58 ∷ (y ++ end)) end ∙ ap (λ (l : List ℕ). quoted b ++ 58 ∷ l) (append_assoc y end end) in
+    simp append_assoc (ap (λ (l : List ℕ). old ++ 123 ∷ (quoted n ++ 58 ∷ 123 ∷ (quoted a ++ 58 ∷ l)))
+    (append_assoc x (44 ∷ (quoted b ++ 58 ∷ (y ++ end))) end ∙ ap (λ (l : List ℕ). x ++ 44 ∷ l) last))
+
+pub timestamp_pieces : (old : List ℕ) (s i : ℕ)
+    → old ++ scalar_text (timestamp s i) ≡ ((((old ++ codes "{\"$timestamp\":{\"t\":") ++ decimal s) ++ codes ",\"i\":") ++ decimal i) ++ codes "}}"
+unfolding scalar_text quoted escape_byte
+timestamp_pieces old s i = two_members old (codes "$timestamp") (codes "t") (decimal s) (codes "i") (decimal i) ∙ simp append_assoc
+
+pub date_pieces : (old : List ℕ) (z : ℤ) → FitsSigned w64 z
+    → old ++ scalar_text (date z) ≡ ((old ++ codes "{\"$date\":{\"$numberLong\":\"") ++ signed_decimal z) ++ codes "\"}}"
+unfolding scalar_text quoted escape_byte
+date_pieces old z fits = simp (append_assoc, escaped-signed_decimal z (fits_64 z fits))
+
+-- the number that `put_signed` is given, and the text around it
+pub ruleset date_steps = (date_pieces, to_z-of_z)
+
+written-code_scope : (old s : List ℕ) (fs : Fields)
     → ((old ++ (codes "{\"$code\":" ++ (quoted s ++ codes ",\"$scope\":"))) ++ text (doc fs)) ++ 125 ∷ [] ≡ old ++ text (code_scope s fs)
 unfolding quoted escape_byte
-written-code_scope old s fs =
-    scoped old (codes "{\"$code\":") (quoted s) (codes ",\"$scope\":") (text (doc fs)) (125 ∷ []) ∙ after old (two-is (codes "$code") (quoted s) (codes "$scope") (text (doc fs)))
+written-code_scope old s fs = simp append_assoc
 
 -- ---- the text and the size of a value from its parts
 
 pub text_of-doc : (t : Tree) (ps : Doc) → kind_of t ≡ kinds.Doc → AreParts t ps → text (doc (fields_of ps)) ≡ text t
-text_of-doc (leaf s) ps is are = absurd are
 text_of-doc (doc fs) ps is are = ap (λ (x : Doc). text (doc (fields_of x))) are ∙ ap (λ x. text (doc x)) (fields_of-pairs_of fs)
-text_of-doc (array ts) ps is are = absurd cc
-text_of-doc (code_scope s fs) ps is are = absurd are
+text_of-doc _ ps is are = absurd (search rules)
 
 pub text_of-array : (t : Tree) (ps : Doc) → kind_of t ≡ kinds.Array → AreParts t ps → text (array (items_of (values_of ps))) ≡ text t
-text_of-array (leaf s) ps is are = absurd are
-text_of-array (doc fs) ps is are = absurd cc
 text_of-array (array ts) ps is are = ap (λ (x : List Tree). text (array (items_of x))) are ∙ ap (λ x. text (array x)) (items_of-list_of ts)
-text_of-array (code_scope s fs) ps is are = absurd are
+text_of-array _ ps is are = absurd (search rules)
 
 values_size : (ps : Doc) → fields_size (fields_of ps) ≡ items_size (items_of (values_of ps))
 values_size [] = refl
 values_size (p ∷ ps) = ap (λ n. suc (tree_size p.1) + n) (values_size ps)
 
 pub parts_smaller : (t : Tree) (ps : Doc) → AreParts t ps → fields_size (fields_of ps) ≤ tree_size t
-parts_smaller (leaf s) ps are = absurd are
 parts_smaller (doc fs) ps are =
     let e = ap (λ (x : Doc). fields_size (fields_of x)) are ∙ ap fields_size (fields_of-pairs_of fs) in
     omega (arith, e)
 parts_smaller (array ts) ps are =
     let e = values_size ps ∙ ap (λ (x : List Tree). items_size (items_of x)) are ∙ ap items_size (items_of-list_of ts) in
     omega (arith, e)
-parts_smaller (code_scope s fs) ps are = absurd are
+parts_smaller _ ps are = absurd are
 
 pub rest_smaller : (ps rest : Doc) (n : List ℕ) (t : Tree) → ps ≡ (n, t) ∷ rest → fields_size (fields_of rest) ≤ fields_size (fields_of ps)
 rest_smaller ps rest n t is = let e = ap (λ (x : Doc). fields_size (fields_of x)) is in omega (arith, e)

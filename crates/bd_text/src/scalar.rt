@@ -39,6 +39,7 @@ fn put_int64(n: i64, room: &mut [u8], end: usize) -> usize
 
 /// Datetime: the milliseconds as an Int64 also before 1970 and after 9999.
 #[inline(always)]
+#[tactic(auto, using(crate::proofs::TextLemmas::date_steps))]
 fn put_date(milliseconds: i64, room: &mut [u8], end: usize) -> usize
     requires { end + VALUE ≤ length room.old }
     ensures put { take result room.new ≡ take end room.old ++ scalar_text (date milliseconds) }

@@ -1,7 +1,6 @@
-use Rattle.std.proofs.Common.{◌≡◌, ◌<◌, ◌≤◌, ◌-◌, ℕ, Some, None, length, map, option_map, sym, ap, ap₂, ◌∙◌, rules, arith, ◌++◌, ◌∷◌, [], List}
+use Rattle.std.proofs.Common.{◌≡◌, ◌<◌, ◌≤◌, ◌-◌, ℕ, Some, None, length, map, option_map, sym, ap, ◌∙◌, arith, ◌++◌, ◌∷◌, [], List}
 use Rattle.std.proofs.lemmas.Result.{err_from_is_err_and}
 use Rattle.std.proofs.lemmas.List.{map_push}
-use Rattle.std.specs.Prelude.{Bool, String, string_bytes}
 use Rattle.std.specs.Borrow.{Bor}
 use Rattle.json.specs.Value.{value_view}
 use Rattle.bd_wrapper.specs.Progress.{closing}
@@ -9,18 +8,12 @@ use Rattle.bd_wrapper.specs.Wrappers.{single}
 use Rattle.bd_wrapper.specs.declared.wrapper.Wrapper.TheVariants as kinds
 use Rattle.bd_extjson.proofs.MemberLemmas.{wrapping}
 use Rattle.json.specs.Json.{value, items, parse_map, after_end_array}
-use Rattle.json.specs.Reads.{token_of}
 use Rattle.json.proofs.Grammar.{value_is, items_end, read_key-shorter, members_no_key}
-use Rattle.bd_value.specs.Tree as tree
-use Rattle.bd_value.specs.Tree.{leaf, doc, array, item, field, items_of, fields_of, no_items, no_fields}
+use Rattle.bd_value.specs.Tree.{leaf, field}
 use Rattle.bd_value.specs.View.{tree_of, pairs}
-use Rattle.bd_value.proofs.ViewLemmas.{tree_of-Doc, tree_of-Array}
-use Rattle.bd_value.specs.declared.document.Value.TheVariants as values
-use Rattle.bd_value.specs.declared.document.Value.TheFolds as folds
-use Rattle.std.specs.declared.alloc.Global.{Global}
+use Rattle.bd_value.proofs.ViewLemmas.{tree_of-Doc}
 use Rattle.bd_extjson.specs.Meaning.{wrap, wrap_items, wrap_object, wrap_fields}
 use Rattle.bd_wrapper.specs.Progress.{through, after_key}
-use Rattle.bd_wrapper.specs.declared.trouble.Trouble.TheVariants.{Refused}
 use Rattle.bd_extjson.proofs.StepLemmas as steps
 use Rattle.bd_extjson.proofs.StepLemmas.{items_before, fields_before}
 use Rattle.bd_extjson.proofs.MemberLemmas as seconds
@@ -30,15 +23,7 @@ use Rattle.bd_extjson.proofs.reading.+reading.Goals as goal
 
 pub read_fields-returns-in_err-next-clause-gives :
     goal.read_fields-returns-in_err-next-clause-gives
-read_fields-returns-in_err-next-clause-gives t c =
-    let p = err_from_is_err_and c.from_residual-in_err-next.result c.from_residual-in_err-next.ensures.1 in
-    let l = c.loop-next in
-    let n = l.invariant.0 in
-    let named = ap (λ k. through (wrap_fields c.args.room) (after_key c.args.depth n (option_map (λ s. s.now) k) l.reader)) c.in-Some.is in
-    let turn = steps.field_goes_on c.in-Some.name.now c.args.room c.args.depth n l.reader c.read_value.new.reader (tree_of c.in_ok-value.value)
-    (sym c.if-has_zero.ensures) c.in_ok-value.ensures.gives in
-    let none = ap (through (wrap_fields c.args.room)) (members_no_key (value c.args.depth) n c.read_value.new.reader c.in_err-next.ensures.value) in
-    rw (p.1, p.2) (l.invariant.2 ∙ ap (parse_map (fields_before (pairs l.read))) (named ∙ turn ∙ ap (parse_map (field c.in-Some.name.now (tree_of c.in_ok-value.value))) none))
+read_fields-returns-in_err-next-clause-gives t c = grind (arith, steps.field_goes_on, members_no_key)
 
 pub read_fields-loop-next-preserved : goal.read_fields-loop-next-preserved
 read_fields-loop-next-preserved t c =
@@ -69,13 +54,7 @@ read_fields-returns-clause-gives t c = grind (arith, steps.fields_before-none)
 
 pub read_items-returns-in_err-value-clause-gives :
     goal.read_items-returns-in_err-value-clause-gives
-read_items-returns-in_err-value-clause-gives t c =
-    let p = err_from_is_err_and c.from_residual.result c.from_residual.ensures.1 in
-    let l = c.loop-alloc in
-    let going : (after_end_array l.reader ≡ None) × (c.take_end_array.new.self ≡ l.reader) = grind arith in
-    rw (p.1, p.2) (steps.fails_by c.in_err-value.field-0.0 (through (wrap c.args.room) (value c.args.depth c.take_end_array.new.self)) _
-    (λ none. l.invariant.2 ∙ ap (parse_map (items_before (map tree_of l.found.items))) (steps.items_refused c.args.room c.args.depth l.invariant.0 l.reader going.0 (rw (← going.1) none)))
-    c.in_err-value.ensures.gives)
+read_items-returns-in_err-value-clause-gives t c = grind (arith, steps.items_refused)
 
 pub read_items-loop-alloc-preserved : goal.read_items-loop-alloc-preserved
 read_items-loop-alloc-preserved t c =
@@ -101,9 +80,7 @@ read_items-returns-clause-gives t c = grind (arith, items_end, steps.items_befor
 
 pub read_object-returns-in_err-first-clause-gives :
     goal.read_object-returns-in_err-first-clause-gives
-read_object-returns-in_err-first-clause-gives t c =
-    let p = err_from_is_err_and c.from_residual.result c.from_residual.ensures.1 in
-    rw (p.1, p.2) (ap (through (wrap_object c.args.room)) (members_no_key (value c.args.depth) (length c.args.reader.now) c.args.reader.now c.in_err-first.ensures.value))
+read_object-returns-in_err-first-clause-gives t c = grind (arith, members_no_key)
 
 pub read_object-returns-in-Some-clause-gives : goal.read_object-returns-in-Some-clause-gives
 read_object-returns-in-Some-clause-gives t c =
@@ -121,13 +98,7 @@ read_object-returns-then-room-eq0-clause-gives t c =
 
 pub read_object-returns-in_err-read_fields-clause-gives :
     goal.read_object-returns-in_err-read_fields-clause-gives
-read_object-returns-in_err-read_fields-clause-gives t c =
-    let p = err_from_is_err_and c.from_residual-in_err-read_fields.result c.from_residual-in_err-read_fields.ensures.1 in
-    let key = option_map (λ s. s.now) c.in_ok-first.first in
-    let start = ap (through (wrap_object c.args.room)) (steps.first_name c.args.depth c.args.reader.now c.next_key.new.self key c.in_ok-first.ensures.value) in
-    rw (p.1, p.2) (steps.fails_by c.in_err-read_fields.field-0.0 _ _
-    (λ none. start ∙ steps.object_is_plain c.args.room c.args.depth _ c.next_key.new.self key (omega arith) (sym c.wrapper_named.ensures ∙ c.in_default.is) ∙ ap (parse_map doc) none)
-    c.in_err-read_fields.ensures.gives)
+read_object-returns-in_err-read_fields-clause-gives t c = grind (arith, steps.first_name, steps.object_is_plain)
 
 pub read_object-returns-clause-gives : goal.read_object-returns-clause-gives
 read_object-returns-clause-gives t c = grind (arith, steps.first_name, steps.object_is_plain, tree_of-Doc)
@@ -218,11 +189,7 @@ read_scope_second-returns-then-not-names_scope-clause-gives t c = λ n u le.
 
 pub read_scope_second-returns-in_err-scope-clause-gives :
     goal.read_scope_second-returns-in_err-scope-clause-gives
-read_scope_second-returns-in_err-scope-clause-gives t c = λ n u le.
-    let p = err_from_is_err_and c.from_residual.result c.from_residual.ensures.1 in
-    rw (p.1, p.2) (steps.fails_by c.in_err-scope.field-0.0 (through (wrap (c.args.room - 1)) (value c.args.depth c.args.reader.now)) _
-    (λ none. seconds.scope_unread c.args.second.now c.args.room c.args.depth n c.args.reader.now (value_view c.args.code.now) u (sym c.if-not-names_scope.ensures) none)
-    c.in_err-scope.ensures.gives)
+read_scope_second-returns-in_err-scope-clause-gives t c = λ n u le. grind (arith, seconds.scope_unread)
 
 pub read_scope_second-returns-in_err-end_object-clause-gives :
     goal.read_scope_second-returns-in_err-end_object-clause-gives
@@ -256,11 +223,7 @@ read_scope_first-returns-then-room-eq0-clause-gives t c = λ name is.
 
 pub read_scope_first-returns-in_err-scope-clause-gives :
     goal.read_scope_first-returns-in_err-scope-clause-gives
-read_scope_first-returns-in_err-scope-clause-gives t c = λ name is.
-    let p = err_from_is_err_and c.from_residual.result c.from_residual.ensures.1 in
-    rw (p.1, p.2) (steps.fails_by c.in_err-scope.field-0.0 (through (wrap (c.args.room - 1)) (value c.args.depth c.args.reader.now)) _
-    (λ none. seconds.first_unread name c.args.room c.args.depth (length c.args.reader.now) c.args.reader.now is none)
-    c.in_err-scope.ensures.gives)
+read_scope_first-returns-in_err-scope-clause-gives t c = λ name is. grind (arith, seconds.first_unread)
 
 pub read_scope_first-returns-clause-gives :
     goal.read_scope_first-returns-clause-gives

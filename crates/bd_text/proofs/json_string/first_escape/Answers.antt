@@ -1,4 +1,4 @@
-use Rattle.std.proofs.Common.{◌+◌, arith, sym}
+use Rattle.std.proofs.Common.{arith, sym}
 use Rattle.bd_text.specs.Text.{needs_escape}
 use Rattle.bd_text.proofs.PlainByteLemmas.{found_after, more}
 use Rattle.bd_text.proofs.json_string.first_escape.Goals as goal

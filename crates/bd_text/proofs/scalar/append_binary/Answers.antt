@@ -1,7 +1,5 @@
-use Rattle.std.proofs.Common.{◌≡◌, ◌++◌, ◌∷◌, [], List, ℕ, length, take, ap, ◌∙◌, arith}
-use Rattle.std.specs.Prelude.{codes}
-use Rattle.bd_text.specs.Text.{base64_text, hex_text}
-use Rattle.bd_text.proofs.RoomLemmas.{front, chained, lent_text, when_err}
+use Rattle.std.proofs.Common.{◌≡◌, length, take, ◌∙◌, arith}
+use Rattle.bd_text.proofs.RoomLemmas.{front, chained, lent, when_err}
 use Rattle.bd_text.proofs.EscapeLemmas.{one_byte}
 use Rattle.bd_text.proofs.TextLemmas.{written-binary}
 use Rattle.bd_text.proofs.scalar.append_binary.Goals as goal
@@ -19,12 +17,7 @@ pub returns-clause-ok : goal.returns-clause-ok
 returns-clause-ok c =
     let made = c.append_few-2.new.out in
     let room = c.put_known.new.room in
-    let bytes = c.args.bytes.now in
     let same : length room ≡ length made.items = omega (arith, c.put_known.auto.room, c.put_hex-at.auto.room, c.as_mut_slice-room.ensures.len, made.ok.0) in
-    let held = c.in_ok-at-2.ensures.ok ∙ ap (λ (l : List ℕ). l ++ base64_text bytes) c.in_ok-at.ensures.ok in
-    let lead = ap (λ (l : List ℕ). take c.in_ok-at-3.at l) c.as_mut_slice-room.ensures.value ∙ c.in_ok-at-3.ensures.ok ∙ ap (λ (l : List ℕ). l ++ codes "\",\"subType\":\"") held in
-    let subtype = c.put_hex-at.ensures.put ∙ ap (λ (l : List ℕ). l ++ hex_text (c.args.subtype ∷ [])) lead in
-    let all =
-    c.put_known.ensures.put ∙ ap (λ (l : List ℕ). l ++ codes "\"}}") subtype
-    ∙ written-binary (take c.args.end c.args.out.now.items) bytes c.args.subtype (λ i. (c.type_inv.bytes i).fits) (one_byte c.args.subtype c.ranges.subtype.fits) in
-    lent_text made.len c.put_known.result room made.items _ same made.ok.0 all
+    rw (lent made.len room made.items same made.ok.0, c.put_known.ensures.put, c.put_hex-at.ensures.put, c.as_mut_slice-room.ensures.value)
+    (rw (c.in_ok-at-3.ensures.ok, c.in_ok-at-2.ensures.ok, c.in_ok-at.ensures.ok)
+    (written-binary (take c.args.end c.args.out.now.items) c.args.bytes.now c.args.subtype (λ i. (c.type_inv.bytes i).fits) (one_byte c.args.subtype c.ranges.subtype.fits)))

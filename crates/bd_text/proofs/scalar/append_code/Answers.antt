@@ -1,6 +1,4 @@
-use Rattle.std.proofs.Common.{◌≡◌, ◌++◌, ◌∷◌, [], List, ℕ, take, ap, ◌∙◌, arith}
-use Rattle.bd_value.specs.Tree.{code}
-use Rattle.bd_text.specs.Text.{scalar_text}
+use Rattle.std.proofs.Common.{take, ◌∙◌, arith}
 use Rattle.bd_text.proofs.RoomLemmas.{front, on_err}
 use Rattle.bd_text.proofs.TextLemmas.{written-code}
 use Rattle.bd_text.proofs.scalar.append_code.Goals as goal

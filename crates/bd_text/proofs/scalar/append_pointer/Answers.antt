@@ -1,7 +1,5 @@
-use Rattle.std.proofs.Common.{◌≡◌, ◌++◌, List, ℕ, length, take, ap, ◌∙◌, arith}
-use Rattle.std.specs.Prelude.{codes}
-use Rattle.bd_text.specs.Text.{hex_text}
-use Rattle.bd_text.proofs.RoomLemmas.{front, lent_text, when_err}
+use Rattle.std.proofs.Common.{◌≡◌, length, take, ◌∙◌, arith}
+use Rattle.bd_text.proofs.RoomLemmas.{front, lent, when_err}
 use Rattle.bd_text.proofs.TextLemmas.{written-db_pointer}
 use Rattle.bd_text.proofs.scalar.append_pointer.Goals as goal
 
@@ -14,8 +12,5 @@ returns-clause-ok c =
     let made = c.append_few.new.out in
     let room = c.put_known.new.room in
     let same : length room ≡ length made.items = omega (arith, c.put_known.auto.room, c.put_id-at.auto.room, c.as_mut_slice-room.ensures.len, made.ok.0) in
-    let lead =
-    ap (λ (l : List ℕ). take c.in_ok-at-2.at l) c.as_mut_slice-room.ensures.value ∙ c.in_ok-at-2.ensures.ok ∙ ap (λ (l : List ℕ). l ++ codes ",\"$id\":{\"$oid\":\"") c.in_ok-at.ensures.ok in
-    let id = c.put_id-at.ensures.put ∙ ap (λ (l : List ℕ). l ++ hex_text c.args.id.now) lead in
-    let all = c.put_known.ensures.put ∙ ap (λ (l : List ℕ). l ++ codes "\"}}}") id ∙ written-db_pointer (take c.args.end c.args.out.now.items) c.args.space.now c.args.id.now c.fits-id in
-    lent_text made.len c.put_known.result room made.items _ same made.ok.0 all
+    rw (lent made.len room made.items same made.ok.0, c.put_known.ensures.put, c.put_id-at.ensures.put, c.as_mut_slice-room.ensures.value)
+    (rw (c.in_ok-at-2.ensures.ok, c.in_ok-at.ensures.ok) (written-db_pointer (take c.args.end c.args.out.now.items) c.args.space.now c.args.id.now c.fits-id))

@@ -1,7 +1,4 @@
-use Rattle.std.proofs.Common.{◌≡◌, ◌++◌, ◌∷◌, [], List, ℕ, take, ap, ◌∙◌, arith}
-use Rattle.std.specs.Prelude.{codes}
-use Rattle.bd_value.specs.Tree.{regex}
-use Rattle.bd_text.specs.Text.{scalar_text, quoted}
+use Rattle.std.proofs.Common.{take, ◌∙◌, arith}
 use Rattle.bd_text.proofs.RoomLemmas.{front, chained, on_err, when_err}
 use Rattle.bd_text.proofs.TextLemmas.{written-regex}
 use Rattle.bd_text.proofs.scalar.append_regex.Goals as goal

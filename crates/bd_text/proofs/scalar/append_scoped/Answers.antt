@@ -1,17 +1,15 @@
-use Rattle.std.proofs.Common.{◌≡◌, ◌++◌, List, ℕ, take, ap, ◌∙◌, arith, append_assoc}
+use Rattle.std.proofs.Common.{◌≡◌, ◌++◌, List, ℕ, take, ◌∙◌, arith, append_assoc}
 use Rattle.std.specs.Prelude.{codes}
 use Rattle.bd_text.specs.Text.{quoted}
-use Rattle.bd_text.proofs.RoomLemmas.{front, if_ok, on_err}
+use Rattle.bd_text.proofs.RoomLemmas.{front, on_err}
 use Rattle.bd_text.proofs.scalar.append_scoped.Goals as goal
 
 pub returns-clause-ok : goal.returns-clause-ok
 returns-clause-ok c =
     let old : List ℕ = take c.args.end c.args.out.now.items in
     let code = quoted c.args.code.now in
-    let scope = codes ",\"$scope\":" in
-    if_ok _ (λ e. take e c.append_few.new.out.items ≡ old ++ (codes "{\"$code\":" ++ (code ++ scope))) c.append_few.result
-    (λ e put. put ∙ ap (λ (l : List ℕ). l ++ scope) c.in_ok-at.ensures.ok
-    ∙ append_assoc old (codes "{\"$code\":" ++ code) scope ∙ ap (λ (l : List ℕ). old ++ l) (append_assoc (codes "{\"$code\":") code scope)) c.append_few.ensures.ok
+    let whole : (old ++ (codes "{\"$code\":" ++ code)) ++ codes ",\"$scope\":" ≡ old ++ (codes "{\"$code\":" ++ (code ++ codes ",\"$scope\":")) = simp append_assoc in
+    rw (← whole, ← c.in_ok-at.ensures.ok) c.append_few.ensures.ok
 
 pub returns-clause-err : goal.returns-clause-err
 returns-clause-err c =

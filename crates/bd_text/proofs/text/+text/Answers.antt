@@ -1,12 +1,11 @@
-use Rattle.std.proofs.Common.{rules, ◌≡◌, ◌++◌, ◌∷◌, [], List, ℕ, arith, take, ap, sym, ◌∙◌, subst, append_assoc}
-use Rattle.std.specs.Prelude.{IfOk}
+use Rattle.std.proofs.Common.{rules, ◌++◌, ◌∷◌, [], arith, take, sym, ◌∙◌, append_assoc}
 use Rattle.std.specs.List.{join_with_byte}
 use Rattle.bd_value.specs.Tree.{doc, array, fields_of, items_of}
 use Rattle.bd_value.specs.Parts.{values_of}
 use Rattle.bd_text.specs.Text.{text, scalar_text, fields_text, items_text}
 use Rattle.bd_text.proofs.TextLemmas.{parts_smaller, rest_smaller, scope_smaller, some_scalar, text_of-doc, text_of-array, text_of-scope}
 use Rattle.bd_text.proofs.PieceLemmas.{to_come-all, field_step, item_step}
-use Rattle.bd_text.proofs.RoomLemmas.{begun, cut, front, chained, goes_on, still_kept, on_err, when_err, if_ok}
+use Rattle.bd_text.proofs.RoomLemmas.{begun, cut, front, chained, goes_on, still_kept, on_err, when_err}
 use Rattle.bd_text.proofs.text.+text.Goals as goal
 
 pub append_fields-loop-name-init : goal.append_fields-loop-name-init
@@ -149,13 +148,9 @@ append_scope-returns-in_err-at-2-clause-err g t c =
 
 pub append_scope-returns-clause-ok : goal.append_scope-returns-clause-ok
 append_scope-returns-clause-ok g t c =
-    let tree = g.N.Reading.tree c.args.node in
-    let part = c.code_scope_of-scope.result.1 in
     let scope = c.code_scope_of-scope.ensures in
-    let old : List ℕ = take c.args.end c.args.out.now.items in
-    let both = c.in_ok-at-2.ensures.ok ∙ ap (λ (l : List ℕ). l ++ text (g.N.Reading.tree part)) c.in_ok-at.ensures.ok in
-    if_ok _ (λ e. take e c.append_few.new.out.items ≡ old ++ text tree) c.append_few.result
-    (λ e put. put ∙ ap (λ (l : List ℕ). l ++ 125 ∷ []) both ∙ text_of-scope old _ tree (g.N.Reading.tree part) scope.0 scope.1 scope.2) c.append_few.ensures.ok
+    let parts = text_of-scope (take c.args.end c.args.out.now.items) _ (g.N.Reading.tree c.args.node) (g.N.Reading.tree c.code_scope_of-scope.result.1) scope.0 scope.1 scope.2 in
+    rw (← parts, ← c.in_ok-at.ensures.ok, ← c.in_ok-at-2.ensures.ok) c.append_few.ensures.ok
 
 pub append_scope-returns-clause-err : goal.append_scope-returns-clause-err
 append_scope-returns-clause-err g t c =
