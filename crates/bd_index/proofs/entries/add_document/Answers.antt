@@ -1,4 +1,4 @@
-use Rattle.std.proofs.Common.{◌≡◌, ◌++◌, Bool, List, map, rules}
+use Rattle.std.proofs.Common.{◌≡◌, Bool, map, rules}
 use Rattle.std.specs.List.{dedup}
 use Rattle.std.proofs.lemmas.Fn.{always_returns_same, dedup_same}
 use Rattle.std.proofs.lemmas.List.Elements.{All-append, All-nil}
