@@ -1,9 +1,9 @@
 -- The entries of documents, one document after the other, and how many there are.
-use Rattle.std.proofs.Common.{◌≡◌, ◌≢◌, ◌+◌, ◌<◌, ◌≤◌, ℕ, zero, suc, Bool, true, false, cond, List, [], ◌∷◌, ◌++◌, Some, drop, length, refl, sym, ap, ◌∙◌, arith, add-one, length-append}
+use Rattle.std.proofs.Common.{◌≡◌, ◌≢◌, ◌+◌, ◌<◌, ◌≤◌, ℕ, zero, suc, Bool, true, false, cond, List, [], ◌∷◌, ◌++◌, Some, drop, length, map, refl, sym, ap, ◌∙◌, arith, add-one, length-append}
 use Rattle.std.specs.Prelude.{◌||◌, nat_lt, slice_get}
 use Rattle.std.specs.List.{count_by, list_any}
 use Rattle.std.proofs.lemmas.Bool.Decides.{nat_tests}
-use Rattle.std.proofs.lemmas.List.{length-map}
+use Rattle.std.proofs.lemmas.List.{length-map, map-append}
 use Rattle.std.proofs.lemmas.List.Sums.{length-filter, sum_by-append}
 use Rattle.bd_value.specs.Tree.{Tree, Doc, doc, fields_of}
 use Rattle.bd_bson.specs.Collection.{bytes_of, documents}
@@ -12,8 +12,10 @@ use Rattle.bd_path.specs.KeyList.{distinct, indexed_keys, keys}
 use Rattle.bd_path.specs.Names.{Names}
 use Rattle.bd_path.proofs.LawsLemmas.{has_a_key}
 use Rattle.bd_index.specs.Entries.{KeyAt, entries_from, entries_of, is_multikey, keys_at}
+use Rattle.bd_index.specs.FoundKeyView.{found_entry}
 use Rattle.bd_index.specs.IndexView.{KeepsDump}
 use Rattle.bd_index.specs.declared.entry.Entry.{Entry}
+use Rattle.bd_index.specs.declared.found_key.FoundKey.{FoundKey}
 use Rattle.bd_index.proofs.EntryViewLemmas.{as_many_kept}
 use Rattle.bd_index.proofs.SpanLemmas.{all_pass}
 
@@ -34,9 +36,11 @@ any_next test n ds d t r is tree told =
 pub count-append : (test : KeyAt → Bool) (xs ys : List KeyAt) → count_by test (xs ++ ys) ≡ count_by test xs + count_by test ys
 count-append test xs ys = sum_by-append (λ (e : KeyAt). cond (test e) 1 0) xs ys
 
-pub counted_own : (test : KeyAt → Bool) (old new own ks : List KeyAt) → new ≡ old ++ own → count_by test own ≡ count_by test ks → count_by test new ≡ count_by test (old ++ ks)
+pub counted_own : (test : KeyAt → Bool) (old new own : List FoundKey) (ks : List KeyAt) → new ≡ old ++ own
+    → count_by test (map found_entry own) ≡ count_by test ks → count_by test (map found_entry new) ≡ count_by test (map found_entry old ++ ks)
 counted_own test old new own ks is h =
-    ap (count_by test) is ∙ count-append test old own ∙ ap (λ (n : ℕ). count_by test old + n) h ∙ sym (count-append test old ks)
+    ap (count_by test) (ap (map found_entry) is ∙ map-append found_entry old own) ∙ count-append test (map found_entry old) (map found_entry own)
+    ∙ ap (λ (n : ℕ). count_by test (map found_entry old) + n) h ∙ sym (count-append test (map found_entry old) ks)
 
 -- the entries of one document more
 pub one_more : (sparse : Bool) (path : Names) (n : ℕ) (ds : List Doc) (d : Doc) (t : Tree) (ks : List Tree) → slice_get ds n ≡ Some d

@@ -4,7 +4,7 @@ use Rattle.std.specs.Prelude.{◌==◌, ◌&&◌, ◌||◌, nat_lt, not}
 use Rattle.std.specs.declared.cmp.Ordering.{Ordering}
 use Rattle.std.specs.declared.cmp.Ordering.TheVariants.{Equal}
 use Rattle.std.specs.List.{AllByRecursion, count_by, list_any}
-use Rattle.std.specs.Cmp.{IsEquivalence, IsTotalOrder}
+use Rattle.std.specs.Cmp.{IsEquivalence, IsStrictWeakOrder, IsTotalOrder}
 use Rattle.std.specs.List.Sorted.{IsSortedBy, ties}
 use Rattle.std.specs.Ordering.{is_lt, is_eq, nat_cmp, ordering_then, ordering_reverse}
 use Rattle.std.proofs.lemmas.Bool.{and_parts, not-true}
@@ -24,9 +24,12 @@ abbrev pub entry_by : (Tree → Tree → Ordering) → KeyAt → KeyAt → Order
 entry_by by a b = ordering_then (by a.0 b.0) (nat_cmp a.1 b.1)
 
 -- no later one is before an earlier one
+abbrev pub Ascends : {A : Type 0} → (A → A → Bool) → List A → Type 0
+Ascends lt [] = Unit {0}
+Ascends lt (x ∷ xs) = AllByRecursion (λ y. lt y x ≡ false) xs × Ascends lt xs
+
 abbrev pub Rises : (Tree → Tree → Ordering) → List KeyAt → Type 0
-Rises by [] = Unit {0}
-Rises by (e ∷ es) = AllByRecursion (λ x. is_lt (entry_by by x e) ≡ false) es × Rises by es
+Rises by es = Ascends (λ a b. is_lt (entry_by by a b)) es
 
 pub by_total : {by : Tree → Tree → Ordering} → IsTotalOrder by → IsTotalOrder (entry_by by)
 by_total total = then_total (on_total (λ e. e.0) total) (on_total (λ e. e.1) nat_cmp_total)
@@ -56,10 +59,10 @@ same_between k x e h low high =
     let first = (ranks_by entry_total (λ y. y)).chain k e x before high in
     sym (ties_are_same k x) ∙ ap₂ (λ (a b : Bool). not a && not b) first low
 
-pub ascend_from_sorted : (xs : List KeyAt) → IsSortedBy (λ a b. is_lt (entry_cmp a b)) xs → Rises cmp xs
-ascend_from_sorted xs h = go xs (sorted_far (λ x y. is_lt (entry_cmp x y)) (ranks_by entry_total (λ x. x)) xs h)
+pub ascends : {A : Type 0} (lt : A → A → Bool) → IsStrictWeakOrder lt → (xs : List A) → IsSortedBy lt xs → Ascends lt xs
+ascends {A} lt weak xs h = go xs (sorted_far lt weak xs h)
   where
-    go : (ys : List KeyAt) → ((i j : ℕ) (d : KeyAt) → i ≤ j → j < length ys → is_lt (entry_cmp (get_or ys j d) (get_or ys i d)) ≡ false) → Rises cmp ys
+    go : (ys : List A) → ((i j : ℕ) (d : A) → i ≤ j → j < length ys → lt (get_or ys j d) (get_or ys i d) ≡ false) → Ascends lt ys
     go [] f = tt
     go (y ∷ ys) f = (recursion_from_All _ ys (λ k d lt. f 0 (suc k) d (omega arith) (omega arith)), go ys (λ i j d le lt. f (suc i) (suc j) d (omega arith) (omega arith)))
 

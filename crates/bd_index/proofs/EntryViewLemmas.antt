@@ -1,17 +1,14 @@
 -- Entries as an index keeps them.
-use Rattle.std.proofs.Common.{◌≡◌, ◌+◌, ◌<◌, ℕ, zero, suc, Bool, true, false, cond, List, [], ◌∷◌, ◌++◌, Option, Some, None, length, get_or, map, take, drop}
-use Rattle.std.proofs.Common.{refl, sym, ap, ◌∙◌, subst, arith, append_assoc, append-nil}
-use Rattle.std.proofs.lemmas.List.Elements.{All-push}
-use Rattle.std.proofs.lemmas.List.{map-append, map_more}
+use Rattle.std.proofs.Common.{◌≡◌, ◌+◌, ◌<◌, ℕ, zero, suc, List, [], ◌∷◌, ◌++◌, length, get_or, map, take}
+use Rattle.std.proofs.Common.{refl, sym, ap, ◌∙◌, subst, arith}
+use Rattle.std.proofs.lemmas.List.{map_more}
 use Rattle.std.specs.List.{AllZip}
-use Rattle.bd_bounds.proofs.FilterBoundsLemmas.{one_off}
 use Rattle.bd_raw.specs.Sound.{stands}
 use Rattle.bd_raw.specs.At.{StandsAt}
 use Rattle.bd_raw.specs.declared.at.At.{At}
 use Rattle.bd_index.specs.Entries.{KeyAt}
-use Rattle.bd_index.specs.FoundKeyView.{AreFoundIn, IsFoundIn, found_entry, last_entry}
+use Rattle.bd_index.specs.FoundKeyView.{AreFoundIn, IsFoundIn, found_entry}
 use Rattle.bd_index.specs.EntryView.{KeepsEntries, KeepsEntry}
-use Rattle.bd_index.specs.Repeats.{is_repeat, without_repeats}
 use Rattle.bd_index.specs.declared.entry.Entry.{Entry}
 use Rattle.bd_index.specs.declared.found_key.FoundKey.{FoundKey}
 
@@ -49,35 +46,3 @@ one_entry bytes kept new xs i x at lt is all there pushed so =
     ∙ ap (λ (f : FoundKey). map found_entry (take i xs) ++ found_entry f ∷ []) (sym is) in
     rw (pushed, more) (zip_push (KeepsEntry bytes) kept (map found_entry (take i xs)) (record { key = at; place = x.place }) (found_entry x) so
     (subst (λ (b : List ℕ). StandsAt b at (stands x.key.sound)) here there, refl))
-
--- ---- the loop that drops repeats: what was appended, and what is to come
-
-pub record OnceSoFar (found : List FoundKey) (last : Option FoundKey) (left own before : List FoundKey) : Type 0 where
-  pub once : map found_entry found ++ without_repeats (last_entry last) (map found_entry left) ≡ map found_entry before ++ without_repeats None (map found_entry own)
-  pub kept : (bytes : List ℕ) → AreFoundIn bytes own → AreFoundIn bytes before → AreFoundIn bytes found
-
-module _ (found before : List FoundKey) (last : Option FoundKey) (xs : List FoundKey) (i : ℕ) (x : FoundKey) (lt : i < length xs)
-    (is : x ≡ get_or xs i x) (so : OnceSoFar found last (drop i xs) xs before) where
-  abbrev tail : Option KeyAt → List KeyAt
-  tail l = without_repeats l (map found_entry (drop (i + 1) xs))
-
-  abbrev choice : Bool → List KeyAt
-  choice b = map found_entry found ++ cond b (tail (last_entry last)) (found_entry x ∷ tail (Some (found_entry x)))
-
-  whole : choice (is_repeat (last_entry last) (found_entry x)) ≡ map found_entry before ++ without_repeats None (map found_entry xs)
-  whole = sym (one_off (λ es. map found_entry found ++ without_repeats (last_entry last) es) found_entry xs i x lt is) ∙ so.once
-
-  pub repeat_passed : is_repeat (last_entry last) (found_entry x) ≡ true → OnceSoFar found last (drop (i + 1) xs) xs before
-  repeat_passed again = record { once = ap choice (sym again) ∙ whole; kept = so.kept }
-
-  pub one_kept : (new : List FoundKey) → is_repeat (last_entry last) (found_entry x) ≡ false → new ≡ found ++ x ∷ [] → OnceSoFar new (Some x) (drop (i + 1) xs) xs before
-  one_kept new fresh pushed = record {
-    once =
-        ap (λ (l : List FoundKey). map found_entry l ++ tail (Some (found_entry x))) pushed ∙ ap (λ (l : List KeyAt). l ++ tail (Some (found_entry x))) (map-append found_entry found (x ∷ []))
-        ∙ append_assoc (map found_entry found) (found_entry x ∷ []) (tail (Some (found_entry x))) ∙ ap choice (sym fresh) ∙ whole;
-    kept = λ bytes own old. rw pushed (All-push (IsFoundIn bytes) found x (so.kept bytes own old) (subst (IsFoundIn bytes) (sym is) (own i x lt)));
-  }
-
-pub all_once : (found before : List FoundKey) (last : Option FoundKey) (left xs : List FoundKey) → left ≡ [] → OnceSoFar found last left xs before
-    → map found_entry found ≡ map found_entry before ++ without_repeats None (map found_entry xs)
-all_once found before last left xs none so = sym (append-nil (map found_entry found)) ∙ rw none at so.once

@@ -1,10 +1,10 @@
 -- Entries that were sorted, without repeats, are the entries of the documents.
-use Rattle.std.proofs.Common.{◌≡◌, ◌+◌, ℕ, suc, Bool, true, false, cond, List, [], ◌∷◌, ◌++◌, Some, None, filter, length, append_assoc, append-nil}
+use Rattle.std.proofs.Common.{◌≡◌, ◌+◌, ℕ, suc, Bool, true, false, cond, List, [], ◌∷◌, ◌++◌, filter, length, append_assoc, append-nil}
 use Rattle.std.proofs.Common.{get_or, map, refl, sym, ap, ap₂, ◌∙◌, arith, eq-eqb}
 use Rattle.std.proofs.Math.Path.{fun_ext}
 use Rattle.std.specs.Prelude.{◌&&◌, ◌||◌, nat_lt, not}
 use Rattle.std.specs.Cmp.{IsEquivalence}
-use Rattle.std.specs.List.{All, count_by, list_any}
+use Rattle.std.specs.List.{All, count_by, dedup, dedup_from, list_any}
 use Rattle.std.specs.List.Sorted.{IsStableBy, ties}
 use Rattle.std.specs.Ordering.{is_lt, on}
 use Rattle.std.proofs.lemmas.Bool.{false_from_ne_true, not-false}
@@ -13,15 +13,14 @@ use Rattle.std.proofs.lemmas.Cmp.{eq_by_cmp_equiv, on_equiv}
 use Rattle.std.proofs.lemmas.List.Elements.{All-cons, All-filter, All-from_recursion, All-head, All-tail, filter-append, filter_agree}
 use Rattle.std.proofs.lemmas.List.Folds.{fold-map, list_any-append}
 use Rattle.std.proofs.lemmas.List.Sums.{length-filter, sum_by-cons}
-use Rattle.bd_value.specs.Order.{cmp, equal}
+use Rattle.bd_value.specs.Order.{equal}
 use Rattle.bd_value.specs.Tree.{Tree}
 use Rattle.bd_value.proofs.OrderLemmas.LawsLemmas.{cmp_total}
 use Rattle.bd_path.specs.KeyList.{distinct, with_keys}
 use Rattle.bd_index.specs.Entries.{KeyAt, entry_cmp, is_same_entry, keys_at}
 use Rattle.bd_index.specs.FoundKeyView.{found_entry}
-use Rattle.bd_index.specs.Repeats.{without_repeats}
 use Rattle.bd_index.specs.declared.found_key.FoundKey.{FoundKey}
-use Rattle.bd_index.proofs.EntryLemmas.{Rises, any_by_count, any_filter, same_between, same_laws, ties_are_same}
+use Rattle.bd_index.proofs.EntryLemmas.{Ascends, any_by_count, any_filter, same_between, same_laws, ties_are_same}
 use Rattle.bd_index.proofs.SpanLemmas.{all_pass}
 
 -- ---- filters
@@ -133,31 +132,45 @@ module _ {A : Type 0} (same : A → A → Bool) (laws : IsEquivalence same) wher
       ∙ ap (λ (n : ℕ). cond (t x) 1 0 + n) (as_many_firsts xs (s.front ++ s.back) (λ e. class_left x e xs ys s (alike e)) u)
       ∙ sym (count_first [] xs x t refl)
 
--- ---- of entries in their order those without repeats are the firsts
+-- ---- of found keys in their order those without repeats are the firsts
 
-after_one : (k : KeyAt) (xs : List KeyAt) → Rises cmp (k ∷ xs) → without_repeats (Some k) xs ≡ filter (λ y. not (is_same_entry k y)) (firsts is_same_entry xs)
+abbrev pub found_lt : FoundKey → FoundKey → Bool
+found_lt a b = is_lt (entry_cmp (found_entry a) (found_entry b))
+
+abbrev pub found_same : FoundKey → FoundKey → Bool
+found_same = on found_entry is_same_entry
+
+abbrev pub repeats : FoundKey → FoundKey → Bool
+repeats next last = found_same last next
+
+found_laws : IsEquivalence found_same
+found_laws = on_equiv found_entry same_laws
+
+after_one : (k : FoundKey) (xs : List FoundKey) → Ascends found_lt (k ∷ xs) → dedup_from repeats k xs ≡ k ∷ filter (λ y. not (found_same k y)) (firsts found_same xs)
 after_one k [] up = refl
-after_one k (x ∷ xs) up = go (is_same_entry k x) refl (after_one k xs (up.0.1, up.1.1)) (after_one x xs up.1)
+after_one k (x ∷ xs) up = go (found_same k x) refl (after_one k xs (up.0.1, up.1.1)) (after_one x xs up.1)
   where
-    rest : List KeyAt
-    rest = filter (λ y. not (is_same_entry x y)) (firsts is_same_entry xs)
+    all : List FoundKey
+    all = firsts found_same xs
 
-    other : (e : KeyAt) → is_same_entry k x ≡ false → is_lt (entry_cmp e x) ≡ false → not (is_same_entry k e) ≡ true
-    other e n above = ap not (false_from_ne_true (is_same_entry k e) (λ h. let f = same_between k x e h up.0.0 above in cc))
+    rest : List FoundKey
+    rest = filter (λ y. not (found_same x y)) all
 
-    go : (b : Bool) → is_same_entry k x ≡ b → without_repeats (Some k) xs ≡ filter (λ y. not (is_same_entry k y)) (firsts is_same_entry xs) → without_repeats (Some x) xs ≡ rest
-        → cond b (without_repeats (Some k) xs) (x ∷ without_repeats (Some x) xs) ≡ cond (not b) (x ∷ filter (λ y. not (is_same_entry k y)) rest) (filter (λ y. not (is_same_entry k y)) rest)
+    other : (e : FoundKey) → found_same k x ≡ false → found_lt e x ≡ false → not (found_same k e) ≡ true
+    other e n above = ap not (false_from_ne_true (found_same k e) (λ h. let f = same_between (found_entry k) (found_entry x) (found_entry e) h up.0.0 above in cc))
+
+    go : (b : Bool) → found_same k x ≡ b → dedup_from repeats k xs ≡ k ∷ filter (λ y. not (found_same k y)) all → dedup_from repeats x xs ≡ x ∷ rest
+        → cond b (dedup_from repeats k xs) (k ∷ dedup_from repeats x xs) ≡ k ∷ cond (not b) (x ∷ filter (λ y. not (found_same k y)) rest) (filter (λ y. not (found_same k y)) rest)
     go true s on after =
-        on ∙ sym (filter_both _ (λ y. not (is_same_entry x y)) (firsts is_same_entry xs)
-        ∙ filter_agree _ _ (λ y. absorbed (is_same_entry k y) (is_same_entry x y) (same_laws.congr k x y s)) (firsts is_same_entry xs))
+        on ∙ ap (λ (l : List FoundKey). k ∷ l) (sym (filter_both _ (λ y. not (found_same x y)) all
+        ∙ filter_agree _ _ (λ y. absorbed (found_same k y) (found_same x y) (found_laws.congr k x y s)) all))
     go false s on after =
-        ap (λ (l : List KeyAt). x ∷ l) (after ∙ sym (all_pass (λ y. not (is_same_entry k y)) rest (λ i d lt. other (get_or rest i d) s
-        (All-filter (λ y. not (is_same_entry x y)) (λ y. is_lt (entry_cmp y x) ≡ false) (firsts is_same_entry xs)
-        (all_firsts is_same_entry (λ y. is_lt (entry_cmp y x) ≡ false) xs (All-from_recursion _ xs up.1.0)) i d lt))))
+        ap (λ (l : List FoundKey). k ∷ l) (after ∙ ap (λ (l : List FoundKey). x ∷ l) (sym (all_pass (λ y. not (found_same k y)) rest (λ i d lt. other (get_or rest i d) s
+        (All-filter (λ y. not (found_same x y)) (λ y. found_lt y x ≡ false) all (all_firsts found_same (λ y. found_lt y x ≡ false) xs (All-from_recursion _ xs up.1.0)) i d lt)))))
 
-once_sorted : (xs : List KeyAt) → Rises cmp xs → without_repeats None xs ≡ firsts is_same_entry xs
+once_sorted : (xs : List FoundKey) → Ascends found_lt xs → dedup repeats xs ≡ firsts found_same xs
 once_sorted [] up = refl
-once_sorted (x ∷ xs) up = ap (λ (l : List KeyAt). x ∷ l) (after_one x xs up)
+once_sorted (x ∷ xs) up = after_one x xs up
 
 -- ---- distinct keys are the firsts
 
@@ -215,21 +228,18 @@ several ks k ts is =
 
 -- ---- the keys of a document, sorted and without repeats
 
-abbrev pub found_lt : FoundKey → FoundKey → Bool
-found_lt a b = is_lt (entry_cmp (found_entry a) (found_entry b))
-
 pub own_once : (place : ℕ) (ks : List Tree) (own sorted : List FoundKey) → map found_entry own ≡ keys_at place ks
-    → Rises cmp (map found_entry sorted) → IsStableBy found_lt own sorted → (test : KeyAt → Bool) → count_by test (without_repeats None (map found_entry sorted)) ≡ count_by test (keys_at place (distinct ks))
+    → Ascends found_lt sorted → IsStableBy found_lt own sorted → (test : KeyAt → Bool)
+    → count_by test (map found_entry (dedup repeats sorted)) ≡ count_by test (keys_at place (distinct ks))
 own_once place ks own sorted is up stable test =
-    let same = on found_entry is_same_entry in
-    ap (count_by test) (once_sorted (map found_entry sorted) up ∙ sym (firsts_map found_entry is_same_entry sorted))
-    ∙ seen (firsts same sorted)
-    ∙ as_many_firsts same (on_equiv found_entry same_laws) own sorted (λ f. classes f sorted ∙ stable f ∙ sym (classes f own)) (λ f. test (found_entry f))
-    ∙ sym (seen (firsts same own))
+    ap (λ (fs : List FoundKey). count_by test (map found_entry fs)) (once_sorted sorted up)
+    ∙ seen (firsts found_same sorted)
+    ∙ as_many_firsts found_same found_laws own sorted (λ f. classes f sorted ∙ stable f ∙ sym (classes f own)) (λ f. test (found_entry f))
+    ∙ sym (seen (firsts found_same own))
     ∙ ap (count_by test) (firsts_map found_entry is_same_entry own ∙ ap (firsts is_same_entry) is ∙ firsts_at place ks)
   where
     seen : (fs : List FoundKey) → count_by test (map found_entry fs) ≡ count_by (λ f. test (found_entry f)) fs
     seen fs = fold-map (λ (n : ℕ) (e : KeyAt). n + cond (test e) 1 0) found_entry 0 fs
 
-    classes : (f : FoundKey) (fs : List FoundKey) → filter (on found_entry is_same_entry f) fs ≡ filter (ties found_lt f) fs
+    classes : (f : FoundKey) (fs : List FoundKey) → filter (found_same f) fs ≡ filter (ties found_lt f) fs
     classes f fs = filter_agree _ _ (λ g. sym (ties_are_same (found_entry f) (found_entry g))) fs

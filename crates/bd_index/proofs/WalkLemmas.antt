@@ -26,11 +26,11 @@ use Rattle.bd_path.proofs.EarliestLemmas.{dir_total}
 use Rattle.bd_path.proofs.LawsLemmas.{has_a_key}
 use Rattle.bd_bson.specs.Documents.{document_at}
 use Rattle.bd_index.specs.Descent.{downward}
-use Rattle.bd_index.specs.Entries.{AreEntries, KeyAt, entries_from, entries_of, keys_at}
+use Rattle.bd_index.specs.Entries.{AreEntries, KeyAt, entries_from, entries_of, entry_cmp, keys_at}
 use Rattle.bd_index.specs.EntriesAhead.{fresh_places}
 use Rattle.bd_index.specs.Walk.{WalksAll}
 use Rattle.bd_index.proofs.DescentLemmas.{count_downward, downward_rises}
-use Rattle.bd_index.proofs.EntryLemmas.{Rises, any_as_counts, any_map, ascend_from_sorted, by_total, entry_by, first_not_less, neither_less}
+use Rattle.bd_index.proofs.EntryLemmas.{Rises, any_as_counts, any_map, ascends, by_total, entry_by, entry_total, first_not_less, neither_less}
 use Rattle.bd_index.proofs.RepeatLemmas.{all_firsts, any_firsts, filter_both, firsts, firsts_map}
 use Rattle.bd_index.proofs.SpanLemmas.{all_pass}
 
@@ -194,10 +194,10 @@ pub record AreOrdered (dir : Dir) (path : Names) (ds : List Doc) (es : List KeyA
   pub rises : Rises (dir_cmp dir) es
 
 pub upward : (path : Names) (ds : List Doc) (es : List KeyAt) → AreEntries false path ds es → AreOrdered Up path ds es
-upward path ds es a = record { same = a.same; rises = ascend_from_sorted es a.sorted }
+upward path ds es a = record { same = a.same; rises = ascends (λ x y. is_lt (entry_cmp x y)) (ranks_by entry_total (λ x. x)) es a.sorted }
 
 pub from_above : (path : Names) (ds : List Doc) (es : List KeyAt) → AreEntries false path ds es → AreOrdered Down path ds (downward es)
-from_above path ds es a = record { same = λ test. count_downward test es ∙ a.same test; rises = downward_rises es (ascend_from_sorted es a.sorted) }
+from_above path ds es a = record { same = λ test. count_downward test es ∙ a.same test; rises = downward_rises es (ascends (λ x y. is_lt (entry_cmp x y)) (ranks_by entry_total (λ x. x)) es a.sorted) }
 
 module _ (dir : Dir) (path : Names) (ds : List Doc) (es : List KeyAt) (a : AreOrdered dir path ds es) where
   abbrev key : ℕ → Tree

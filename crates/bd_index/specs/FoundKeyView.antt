@@ -1,5 +1,5 @@
 -- What a key that was found stands for.
-use Rattle.std.specs.Prelude.{◌≡◌, ℕ, List, All, Option, option_map}
+use Rattle.std.specs.Prelude.{◌≡◌, ℕ, List, All}
 use Rattle.bd_value.specs.Tree.{Tree}
 use Rattle.bd_raw.specs.Sound.{stands}
 use Rattle.bd_raw.specs.declared.raw.RawValue.{RawValue}
@@ -14,9 +14,6 @@ raw_source v = v.bytes.now
 
 abbrev pub found_entry : FoundKey → KeyAt
 found_entry f = (stands f.key.sound, f.place)
-
-abbrev pub last_entry : Option FoundKey → Option KeyAt
-last_entry last = option_map found_entry last
 
 -- they are views into these bytes
 abbrev pub IsFoundIn : List ℕ → FoundKey → Type 0

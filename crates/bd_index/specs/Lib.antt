@@ -5,7 +5,6 @@ pub mod EntriesAhead
 pub mod EntryView
 pub mod FoundKeyView
 pub mod IndexView
-pub mod Repeats
 pub mod Spans
 pub mod Walk
 pub mod WalkLaw

@@ -1,16 +1,15 @@
 //! The keys of all documents, while they are put in order.
 
-ghost use Rattle.std.specs.Prelude.{◌≡◌, ◌++◌, List, ℕ, Bool, None, map, count_by, IfOk, OnOk};
+ghost use Rattle.std.specs.Prelude.{◌≡◌, ◌++◌, List, ℕ, Bool, map, count_by, IfOk, OnOk};
 ghost use Rattle.bd_raw.specs.Sound.{stands};
 ghost use Rattle.bd_bson.specs.Collection.{documents, bytes_of};
 ghost use Rattle.bd_path.specs.Key.{AreKeysOf, IsKeyOf, key_tree, key_trees};
 ghost use Rattle.bd_path.specs.KeyList.{distinct};
 ghost use Rattle.bd_path.specs.PathNames.{names_of};
-ghost use Rattle.bd_index.specs.Entries.{KeyAt, entries_of, entry_cmp, keys_at};
-ghost use Rattle.bd_index.specs.FoundKeyView.{AreFoundIn, found_entry, last_entry, raw_source, raw_tree};
+ghost use Rattle.bd_index.specs.Entries.{KeyAt, entries_of, entry_cmp, is_same_entry, keys_at};
+ghost use Rattle.bd_index.specs.FoundKeyView.{AreFoundIn, found_entry, raw_source, raw_tree};
 ghost use Rattle.bd_index.specs.IndexView.{KeepsDump};
 ghost use Rattle.bd_index.specs.EntryView.{KeepsEntries};
-ghost use Rattle.bd_index.specs.Repeats.{is_repeat, without_repeats};
 
 use crate::entry::Entry;
 use crate::found_key::FoundKey;
@@ -74,7 +73,8 @@ fn add_document<'a>(
     add_found(dump, &keys, place, own)?;
     drop(keys);
     own.sort_by(compare_found)?;
-    add_once(own, found)?;
+    own.dedup_by(|next, last| repeats(last, next));
+    found.extend_from_slice(own)?;
     Ok(())
 }
 
@@ -124,29 +124,11 @@ fn compare_found(a: &FoundKey<'_>, b: &FoundKey<'_>) -> Ordering
     order.then(a.place.cmp(&b.place))
 }
 
-/// Appends keys in their order, without one that repeats the one before.
-fn add_once<'a>(own: &[FoundKey<'a>], found: &mut Vec<FoundKey<'a>>) -> Result<(), NoMemory>
-    ensures added { OnOk result (map found_entry found.new.items ≡ map found_entry found.old.items ++ without_repeats None (map found_entry own.now)) }
-    ensures kept { OnOk result ((bytes : List ℕ) → AreFoundIn bytes own.now → AreFoundIn bytes found.old.items → AreFoundIn bytes found.new.items) }
-{
-    let mut last = None;
-    for one in own {
-        if !repeats(last, one) {
-            found.push(*one)?;
-            last = Some(*one);
-        }
-    }
-    Ok(())
-}
-
 /// Whether it is an equal key of the same document.
-fn repeats(last: Option<FoundKey<'_>>, next: &FoundKey<'_>) -> bool
-    ensures { result ≡ is_repeat (last_entry last.entry) (found_entry next.now) }
+fn repeats(last: &FoundKey<'_>, next: &FoundKey<'_>) -> bool
+    ensures { result ≡ is_same_entry (found_entry last.now) (found_entry next.now) }
 {
-    match last {
-        Some(last) => last.place == next.place && compare_nodes(last.key, next.key).is_eq(),
-        None => false,
-    }
+    last.place == next.place && compare_nodes(last.key, next.key).is_eq()
 }
 
 /// Where the keys stand.

@@ -1,18 +1,18 @@
-use Rattle.std.proofs.Common.{◌≡◌, Bool, None, map, rules}
-use Rattle.std.specs.Ordering.{is_lt}
-use Rattle.std.proofs.lemmas.Fn.{always_returns_same}
-use Rattle.std.proofs.lemmas.List.Elements.{All-nil}
+use Rattle.std.proofs.Common.{◌≡◌, Bool, map, rules}
+use Rattle.std.specs.List.{dedup}
+use Rattle.std.proofs.lemmas.Fn.{always_returns_same, dedup_same}
+use Rattle.std.proofs.lemmas.List.Elements.{All-append, All-nil}
+use Rattle.std.proofs.lemmas.List.Filters.{All-dedup}
 use Rattle.std.proofs.lemmas.List.Sorted.{All-permutation, ranks_by}
 use Rattle.bd_bson.specs.Collection.{bytes_of}
 use Rattle.bd_path.specs.Key.{key_trees}
 use Rattle.bd_path.specs.KeyList.{distinct}
-use Rattle.bd_index.specs.Entries.{entry_cmp, keys_at}
+use Rattle.bd_index.specs.Entries.{keys_at}
 use Rattle.bd_index.specs.FoundKeyView.{AreFoundIn, IsFoundIn, found_entry, raw_tree}
-use Rattle.bd_index.specs.Repeats.{without_repeats}
 use Rattle.bd_index.specs.declared.found_key.FoundKey.{FoundKey}
 use Rattle.bd_index.proofs.EntriesLemmas.{counted_own}
-use Rattle.bd_index.proofs.EntryLemmas.{ascend_from_sorted, entry_total, sorted_map}
-use Rattle.bd_index.proofs.RepeatLemmas.{found_lt, own_once}
+use Rattle.bd_index.proofs.EntryLemmas.{ascends, entry_total}
+use Rattle.bd_index.proofs.RepeatLemmas.{found_lt, own_once, repeats}
 use Rattle.bd_index.proofs.entries.add_document.Goals as goal
 
 pub returns-clause-added : goal.returns-clause-added
@@ -23,14 +23,17 @@ returns-clause-added c test =
     let lt : FoundKey → FoundKey → Bool = found_lt in
     let weak = ranks_by entry_total found_entry in
     let answers = always_returns_same _ _ _ (λ a r h k. search rules) in
-    let up = ascend_from_sorted (map found_entry sorted) (sorted_map found_entry (λ a b. is_lt (entry_cmp a b)) sorted (c.in_ok-sort_by.ensures.sorted lt weak answers)) in
     let raw : map found_entry own ≡ keys_at c.args.place ks = rw (c.deref.ensures.value, c.clear.ensures.items) at c.in_ok-add_found.ensures.added in
-    counted_own test (map found_entry c.args.found.now.items) (map found_entry c.add_once.new.found.items) (without_repeats None (map found_entry sorted)) (keys_at c.args.place (distinct ks))
-    (rw c.deref-2.ensures.value at c.in_ok-add_once.ensures.added) (own_once c.args.place ks own sorted raw up (c.sort_by.ensures.stable lt weak answers) test)
+    let once = dedup_same _ repeats _ (λ x y b f' x' y' k. search rules) _ _ c.dedup_by.ensures.filtered in
+    counted_own test c.args.found.now.items c.extend_from_slice.new.self.items (dedup repeats sorted) (keys_at c.args.place (distinct ks))
+    (rw (c.deref-2.ensures.value, once) at c.in_ok-extend_from_slice.ensures.items)
+    (own_once c.args.place ks own sorted raw (ascends lt weak sorted (c.in_ok-sort_by.ensures.sorted lt weak answers)) (c.sort_by.ensures.stable lt weak answers) test)
 
 pub returns-clause-kept : goal.returns-clause-kept
 returns-clause-kept c old =
     let bytes = bytes_of c.args.dump.now in
     let none : AreFoundIn bytes c.clear.new.self.items = rw c.clear.ensures.items (All-nil (IsFoundIn bytes)) in
     let sorted = All-permutation (IsFoundIn bytes) c.add_found.new.found.items c.sort_by.new.self.items c.sort_by.ensures.permutation (c.in_ok-add_found.ensures.kept none) in
-    c.in_ok-add_once.ensures.kept bytes (rw c.deref-2.ensures.value sorted) old
+    let once = dedup_same _ repeats _ (λ x y b f' x' y' k. search rules) _ _ c.dedup_by.ensures.filtered in
+    rw (c.in_ok-extend_from_slice.ensures.items, c.deref-2.ensures.value, once)
+    (All-append (IsFoundIn bytes) c.args.found.now.items (dedup repeats c.sort_by.new.self.items) old (All-dedup repeats (IsFoundIn bytes) c.sort_by.new.self.items sorted))
