@@ -1,5 +1,5 @@
 -- What is gathered on the way down, by what each value is.
-use Rattle.std.proofs.Common.{◌≡◌, ◌<◌, ◌≤◌, ℕ, zero, suc, min, List, [], ◌∷◌, ◌++◌, Option, Some, None, length, option_map, refl, ap, arith}
+use Rattle.std.proofs.Common.{◌≡◌, ◌<◌, ◌≤◌, ℕ, zero, suc, List, [], ◌∷◌, ◌++◌, Some, None, length, refl, ap, arith}
 use Rattle.std.specs.Prelude.{slice_get}
 use Rattle.bd_value.specs.Tree as trees
 use Rattle.bd_value.specs.Tree.{Scalar, Tree, Doc, leaf, doc, array, code_scope, Items, no_items, item, Fields, no_fields, field, pairs_in, pairs_of, list_of}
@@ -95,18 +95,3 @@ module _ {A : Type 0} (g : Gathering A) where
   at_index [] i u r e = absurd cc
   at_index (x ∷ es) zero u r e = let same : x ≡ u = cc in ap (λ (y : Tree). gathering g y r) same
   at_index (x ∷ es) (suc i) u r e = at_index es i u r e
-
-  -- the same by the index that is held, which is the greatest number for one past every array
-  pub held_at : (es : List Tree) (o : Option ℕ) (i : ℕ) (u : Tree) (r : Names) → option_map (λ (n : ℕ). min n 18446744073709551615) o ≡ Some i → i < 18446744073709551615
-      → slice_get es i ≡ Some u → gathering_at g (items_of es) o r ≡ gathering g u r
-  held_at es None i u r e l at = absurd cc
-  held_at es (Some n) i u r e l at = let m : min n 18446744073709551615 ≡ i = cc in let same : n ≡ i = omega arith in rw same (at_index es i u r at)
-
-  pub held_past : (es : List Tree) (o : Option ℕ) (i : ℕ) (r : Names) → option_map (λ (n : ℕ). min n 18446744073709551615) o ≡ Some i → length es ≤ i
-      → gathering_at g (items_of es) o r ≡ []
-  held_past es None i r e l = absurd cc
-  held_past es (Some n) i r e l = let m : min n 18446744073709551615 ≡ i = cc in past_index es n r (omega arith)
-
-  pub held_none : (es : List Tree) (o : Option ℕ) (r : Names) → option_map (λ (n : ℕ). min n 18446744073709551615) o ≡ None → gathering_at g (items_of es) o r ≡ []
-  held_none es None r e = no_index es r
-  held_none es (Some n) r e = absurd cc

@@ -45,13 +45,13 @@ step_of by = record { before = by.before; name = by.led.name; after = by.after; 
 
 module _ {A : Type 0} (g : Gathering A) (es : List Tree) (n : List ℕ) (r : Names) where
   pub element_is : (i : ℕ) (u : Tree) → held_index n ≡ Some i → i < 18446744073709551615 → slice_get es i ≡ Some u → gathering_at g (items_of es) (index_of n) r ≡ gathering g u r
-  element_is i u e l at = down.held_at g es (index_of n) i u r e l at
+  element_is i u e l at = grind (arith, down.at_index g es i u r at)
 
   pub none_there : (i : ℕ) → held_index n ≡ Some i → length es ≤ i → length es ≤ 18446744073709551615 → gathering_at g (items_of es) (index_of n) r ≡ []
-  none_there i e l long = down.held_past g es (index_of n) i r e l
+  none_there i e l long = grind (arith, down.past_index g es)
 
   pub no_index : held_index n ≡ None → gathering_at g (items_of es) (index_of n) r ≡ []
-  no_index e = down.held_none g es (index_of n) r e
+  no_index e = grind (arith, down.no_index g es r)
 
 -- the same on the rest of a path
 pub element_at : {A : Type 0} (g : Gathering A) (es : List Tree) (n : List ℕ) (path : Names) (k i : ℕ) (u : Tree) → held_index n ≡ Some i → i < 18446744073709551615 → slice_get es i ≡ Some u

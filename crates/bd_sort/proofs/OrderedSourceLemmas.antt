@@ -34,12 +34,7 @@ first_taken (Some n) ps xs all count long told full few =
     let e : length ps ≡ n = omega (arith, few, ltb-false count n (not-true _ full)) in
     rw (← e, ← told) (sym (take-append_seam ps xs))
 
--- where fewer were taken, there is room for one more
-pub has_room : (most : Option ℕ) (count : ℕ) → has_enough most count ≡ false → IfSome most (λ n. count + 1 ≤ n)
-has_room None count h = tt
-has_room (Some n) count h = omega (arith, ltb-true count n (not-false _ h))
-
--- one more was taken
+-- where fewer were taken than are wanted, there is room for one more
 pub few_more : (most : Option ℕ) (ps qs : List ℕ) (p count : ℕ) → count ≡ length ps → qs ≡ ps ++ p ∷ [] → has_enough most count ≡ false → IfSome most (λ n. length qs ≤ n)
 few_more None ps qs p count long e h = tt
-few_more (Some n) ps qs p count long e h = let l : length qs ≡ length ps + 1 = ap length e ∙ length-append ps (p ∷ []) in omega (arith, has_room (Some n) count h)
+few_more (Some n) ps qs p count long e h = let l : length qs ≡ length ps + 1 = ap length e ∙ length-append ps (p ∷ []) in omega (arith, ltb-true count n (not-false _ h))
