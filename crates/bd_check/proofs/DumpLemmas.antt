@@ -3,7 +3,7 @@ use Rattle.std.proofs.Common.{◌≡◌, ℕ, zero, suc, ◌+◌, ◌≤◌, fal
 use Rattle.std.proofs.Common.{Ok, Err, refl, sym, ap, ap₂, ◌∙◌, subst, append_assoc, arith}
 use Rattle.std.specs.Prelude.{◌||◌}
 use Rattle.std.proofs.lemmas.Bool.{ltb-false, le-ltb, or_from, or_parts}
-use Rattle.std.proofs.lemmas.List.{take_at, drop_at, length-append, length-drop, take-append-drop, append-nil, nil_from_length}
+use Rattle.std.proofs.lemmas.List.{take_at, length-append, length-drop, take-append-drop, append-nil, nil_from_length}
 use Rattle.bd_value.specs.Limits.{longest_document}
 use Rattle.bd_value.specs.Tree.{Doc}
 use Rattle.bd_check.specs.declared.fault.FaultKind.{FaultKind}

@@ -34,7 +34,7 @@ use Rattle.bd_raw.specs.Types.{type_byte, type_in, type_at}
 use Rattle.bd_raw.specs.Sizes.{number_of}
 use Rattle.bd_raw.specs.Scalars.{number_length, chosen, other}
 use Rattle.bd_check.specs.FirstFault.{within, label, start, ◌>>=◌, fault, past_number, past_zero, text_at, name_up_to, past_name, past_string, past_frame}
-use Rattle.bd_check.specs.FirstFault.{past_fixed, past_boolean, past_data, past_binary, past_regex, past_code_frame, past_scope_end, known, past_value}
+use Rattle.bd_check.specs.FirstFault.{past_fixed, past_boolean, past_data, past_binary, past_code_frame, past_scope_end, known, past_value}
 use Rattle.bd_check.specs.FirstFault.{past_typed, past_element, past_elements, past_body, past_code_scope, past_nested, past_document, Nested}
 use Rattle.bd_raw.specs.Spelling.{number, long, string, data_of, scoped, IsName, IsText, IsScalar, framed, element, IsValue, AreItems, AreFields, depth, items_depth, fields_depth, IsDocument}
 

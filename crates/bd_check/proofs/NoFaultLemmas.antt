@@ -1,6 +1,6 @@
 -- What a tree spells is gone past without a fault.
 use Rattle.std.proofs.Common.{◌≡◌, ◌≢◌, ℕ, zero, suc, ◌+◌, ◌-◌, ◌^◌, ◌<◌, ◌≤◌, Bool, true, false, cond, ltb, eqb, List, [], ◌∷◌, ◌++◌, length, drop}
-use Rattle.std.proofs.Common.{Option, Some, None, Result, Ok, Err, refl, sym, ap, ◌∙◌, append_assoc, arith}
+use Rattle.std.proofs.Common.{Option, Some, None, Ok, refl, sym, ap, ◌∙◌, append_assoc, arith}
 use Rattle.std.specs.Prelude.{◌||◌, ◌&&◌, not, ◌==◌, option_map}
 use Rattle.std.specs.List.{AllByRecursion, position}
 use Rattle.std.proofs.lemmas.Bool.{le-ltb, eq-eqb, ne_eqb, or_from}
@@ -11,7 +11,6 @@ use Rattle.bd_value.specs.Limits.{longest_document, most_levels}
 use Rattle.bd_value.specs.Tree as trees
 use Rattle.bd_value.specs.Tree.{Scalar, Tree, leaf, doc, array, code_scope, Items, no_items, item, Fields, no_fields, field, Doc, fields_of}
 use Rattle.bd_value.specs.Kind.{scalar_kind, kind_of}
-use Rattle.bd_check.specs.Fault.{Fault}
 use Rattle.bd_check.specs.declared.fault.FaultKind.{FaultKind}
 use Rattle.bd_check.specs.declared.fault.FaultKind.TheVariants.{ShortLength, ValueShort, NameUnended, StringUnended}
 use Rattle.bd_raw.specs.declared.element.Holder.TheVariants as holders
@@ -21,8 +20,8 @@ use Rattle.bd_check.specs.FirstFault.{◌>>=◌, start, past_number, name_up_to,
 use Rattle.bd_check.specs.FirstFault.{past_regex, past_code_frame, past_value, past_element, past_elements, past_body, past_nested, past_document}
 use Rattle.bd_check.specs.FirstFault.{Nested}
 use Rattle.bd_raw.specs.Spelling.{number, string, data_of, scoped, IsName, IsText, framed, IsScalar, element, IsValue, AreItems, AreFields, depth, items_depth, fields_depth, IsDocument}
-use Rattle.bd_raw.specs.Scalars.{number_length, number_value, number_front, zero_place, string_after, string_length, data_length, binary_whole}
-use Rattle.bd_raw.specs.Scalars.{binary_count, binary_subtype, after_five, regex_whole, chosen, scalar_size}
+use Rattle.bd_raw.specs.Scalars.{number_length, number_value, number_front, zero_place, string_after, string_length, binary_whole}
+use Rattle.bd_raw.specs.Scalars.{binary_count, binary_subtype, after_five, regex_whole, scalar_size}
 use Rattle.bd_raw.specs.Unique.{type_is, framed_after}
 use Rattle.bd_raw.proofs.ValueAtLemmas.{framed_length, scoped_length}
 

@@ -3,7 +3,7 @@ use Rattle.bd_text.proofs.EscapeLemmas.{escaped-digits}
 use Rattle.std.proofs.lemmas.Str.{digit_value_digit}
 use Rattle.std.proofs.lemmas.Int.Digits.{digits_value_more}
 use Rattle.std.proofs.Common.{◌≡◌, ℕ, zero, suc, ◌^◌, ◌<◌, ℤ, pos, neg_ℤ, true, false, List, [], ◌∷◌, ◌++◌, length, get_or, Some, Result, Ok, Err, decimal}
-use Rattle.std.proofs.Common.{refl, sym, ap, ap₂, ◌∙◌, arith, inl, inr, ◌⊎◌, drop, take-append-drop, ◌≤◌, ◌+◌, ◌*◌, ◌-◌, take, append_assoc}
+use Rattle.std.proofs.Common.{refl, sym, ap, ap₂, ◌∙◌, arith, inl, inr, drop, take-append-drop, ◌≤◌, ◌+◌, ◌*◌, ◌-◌, take, append_assoc}
 use Rattle.std.specs.Fmt.{signed_decimal}
 use Rattle.std.specs.Char.{is_ascii_digit}
 use Rattle.std.specs.Prelude.{OnOk}

@@ -1,5 +1,5 @@
 -- What is written of a tree that fits its types spells it.
-use Rattle.std.proofs.Common.{◌≡◌, ◌≤◌, ◌<◌, ℕ, suc, ◌+◌, false, List, [], ◌∷◌, ◌++◌, length, refl, ap, arith, length-append}
+use Rattle.std.proofs.Common.{◌≡◌, ◌≤◌, ◌<◌, ℕ, suc, ◌+◌, false, List, ◌∷◌, length, refl, ap, arith, length-append}
 use Rattle.std.specs.Prelude.{IsUtf8, decimal, ◌^◌, ◌||◌}
 use Rattle.std.proofs.lemmas.Fmt.{IsAscii-decimal}
 use Rattle.std.proofs.lemmas.Str.{IsUtf8-from_ascii}

@@ -9,7 +9,7 @@ use Rattle.std.specs.Char.{digit_value}
 use Rattle.std.specs.Str.Parse.{AllDigits}
 use Rattle.std.proofs.lemmas.Fmt.{decimal_is_IsNumeral}
 use Rattle.std.specs.List.{AllByRecursion}
-use Rattle.bd_value.specs.Tree.{Tree, leaf, doc, array, code_scope, Fields, Doc, fields_of, items_of}
+use Rattle.bd_value.specs.Tree.{Tree, doc, code_scope, Fields, Doc, fields_of, items_of}
 use Rattle.bd_value.specs.Parts.{scope_of, values_of}
 use Rattle.bd_value.specs.OwnPart.{Own, own_of, own_code}
 use Rattle.bd_value.specs.Zeros.{has_zero, zero_in, zero_in_fields, zero_in_items, zero_in_parts}

@@ -1,6 +1,3 @@
-use Rattle.std.proofs.Common.{sym, ap, ◌∙◌, take}
-use Rattle.std.specs.List.{list_any}
-use Rattle.bd_text.specs.Text.{needs_escape}
 use Rattle.bd_pack.proofs.CanonicalLemmas.{string_read}
 use Rattle.bd_pack.proofs.VectorLemmas.{quiet_front}
 use Rattle.bd_pack.proofs.canonical_text.string.Goals as goal

@@ -23,14 +23,9 @@ named_by (Some k) w e = (k, e)
 -- ---- append_fields
 
 pub append_fields-loop-next-init : goal.append_fields-loop-next-init
-append_fields-loop-next-init t c = (
-  length c.args.reader.now,
-  [],
-  omega arith,
-  bodies.no_fields_before _,
-  omega arith,
-  bodies.if_ok _ _ _ _ c.in_ok-at.ensures.value c.begin_body.ensures.begun ∙ sym (append-nil _),
-)
+append_fields-loop-next-init t c =
+    let begun = bodies.if_ok _ _ _ _ c.in_ok-at.ensures.value c.begin_body.ensures.begun ∙ sym (append-nil _) in
+    (length c.args.reader.now, [], omega arith, bodies.no_fields_before _, omega arith, begun)
 
 pub append_fields-loop-next-preserved : goal.append_fields-loop-next-preserved
 append_fields-loop-next-preserved t c =
@@ -78,15 +73,9 @@ append_fields-returns-clause-gives t c =
 -- ---- append_items
 
 pub append_items-loop-alloc-init : goal.append_items-loop-alloc-init
-append_items-loop-alloc-init t c = (
-  length c.args.reader.now,
-  [],
-  omega arith,
-  bodies.no_items_before _,
-  omega arith,
-  bodies.if_ok _ _ _ _ c.in_ok-at.ensures.value c.begin_body.ensures.begun ∙ sym (append-nil _),
-  refl,
-)
+append_items-loop-alloc-init t c =
+    let begun = bodies.if_ok _ _ _ _ c.in_ok-at.ensures.value c.begin_body.ensures.begun ∙ sym (append-nil _) in
+    (length c.args.reader.now, [], omega arith, bodies.no_items_before _, omega arith, begun, refl)
 
 pub append_items-loop-alloc-preserved : goal.append_items-loop-alloc-preserved
 append_items-loop-alloc-preserved t c =

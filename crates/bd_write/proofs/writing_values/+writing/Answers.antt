@@ -1,16 +1,15 @@
 use Rattle.std.proofs.Common.{rules, arith, ◌≡◌, ◌≤◌, ◌+◌, ◌++◌, [], ℕ, suc, List, false, length, refl, sym, ap, ap₂, ◌∙◌, subst, append_assoc, length-append}
 use Rattle.std.specs.Io.{StartsWith}
-use Rattle.std.specs.Prelude.{OnOk, IfErr, decimal}
+use Rattle.std.specs.Prelude.{decimal}
 use Rattle.std.proofs.lemmas.Result.{err_from_is_err_and}
 use Rattle.std.proofs.lemmas.Bool.{or_parts}
-use Rattle.bd_value.specs.Tree.{Tree, doc, fields_of, items_of}
+use Rattle.bd_value.specs.Tree.{doc, fields_of, items_of}
 use Rattle.bd_value.specs.Parts.{values_of}
-use Rattle.bd_value.specs.OwnPart.{seen}
 use Rattle.bd_value.specs.Zeros.{has_zero}
 use Rattle.bd_value.proofs.FrontLemmas.{front_all, front_more, front_then}
 use Rattle.bd_value.proofs.PartsLemmas as parted
-use Rattle.bd_raw.specs.Spelling.{number, string, scoped, element, IsValue, AreItems}
-use Rattle.bd_write.specs.TreeBytes.{bytes_of, fields_bytes, items_bytes, OverrunsLimit}
+use Rattle.bd_raw.specs.Spelling.{number, string, scoped, element, AreItems}
+use Rattle.bd_write.specs.TreeBytes.{bytes_of, fields_bytes, items_bytes}
 use Rattle.bd_raw.specs.Scalars.{number_length}
 use Rattle.bd_write.proofs.WritingLemmas as writes
 use Rattle.bd_write.proofs.writing_values.+writing.Goals as goal

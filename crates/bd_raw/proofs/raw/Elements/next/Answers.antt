@@ -1,4 +1,4 @@
-use Rattle.std.proofs.Common.{◌∙◌, length, ◌≡◌, refl}
+use Rattle.std.proofs.Common.{◌∙◌, refl}
 use Rattle.bd_value.specs.Kind.{kind_of}
 use Rattle.bd_raw.proofs.ElementsLemmas as s
 use Rattle.bd_raw.proofs.raw.Elements.next.Goals as goal
