@@ -9,7 +9,7 @@ use Rattle.std.proofs.lemmas.Option.{get_or_from_slice_get}
 use Rattle.bd_value.specs.Tree.{Doc, doc, fields_of}
 use Rattle.bd_text.specs.Text.{text}
 use Rattle.bd_extjson.proofs.FitLemmas.{reads_sound}
-use Rattle.bd_extjson.proofs.LineLemmas.{text_line}
+use Rattle.bd_extjson.proofs.TextLemmas.{text_line}
 use Rattle.bd_check.specs.Dump.{AreJoined}
 use Rattle.bd_raw.specs.Spelling.{IsDocument}
 use Rattle.bd_write.proofs.TreeBytesLemmas.{plainly_spells}
