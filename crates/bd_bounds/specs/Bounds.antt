@@ -85,11 +85,7 @@ element_bounds (compares r v) = Some (is_related r v)
 element_bounds (is_in vs) = Some (union (map keys_equal_to vs))
 element_bounds (has_all vs) = Some (keys_of_each false (map keys_equal_to vs))
 element_bounds (has_type types) = Some (keys_of_types types)
-element_bounds (has_size n) = None
-element_bounds (exists b) = None
-element_bounds (negates os) = None
-element_bounds (has_element os) = None
-element_bounds (has_document fs) = None
+element_bounds _ = None
 
 abbrev pub all_element_bounds : Operators → KeyBounds
 all_element_bounds no_operators = None
@@ -149,15 +145,7 @@ abbrev mutual
   -- further down, the filter of `$elemMatch` bounds the keys of documents in an array
   pub bounds_below : Operator → Names → Bool → KeyBounds
   bounds_below (has_document fs) path multikey = all_bounds fs path multikey
-  bounds_below (equals v) path multikey = None
-  bounds_below (compares r v) path multikey = None
-  bounds_below (is_in vs) path multikey = None
-  bounds_below (has_all vs) path multikey = None
-  bounds_below (has_type types) path multikey = None
-  bounds_below (has_size n) path multikey = None
-  bounds_below (exists b) path multikey = None
-  bounds_below (negates os) path multikey = None
-  bounds_below (has_element os) path multikey = None
+  bounds_below _ _ _ = None
 
 -- an operator, by what is left of the path of the index after its own
 abbrev pub bounds_at : Operator → Names → Bool → KeyBounds

@@ -29,11 +29,8 @@ CarriesOut (orders.Serve path) state gives old new file out err status = ServesI
 
 -- the order is refused for its texts, whatever the file has
 abbrev pub ReadsNoFile : Order → Type 0
-ReadsNoFile (orders.Dump path) = ⊥
-ReadsNoFile (orders.Check path) = ⊥
-ReadsNoFile (orders.Pack path) = ⊥
 ReadsNoFile (orders.Find path options) = AsksNothing (find_words_of options)
-ReadsNoFile (orders.Serve path) = ⊥
+ReadsNoFile _ = ⊥
 
 -- an order that holds its file whole before it shows anything
 abbrev pub HoldsFile : Order → Type 0

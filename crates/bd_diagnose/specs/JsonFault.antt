@@ -38,15 +38,9 @@ pub record IsPlaced (size : ℕ) (fault : JsonFault) : Type 0 where
 
 -- The byte that is told of a fault at a byte.
 abbrev pub byte_of : JsonFaultKind → ℕ → ℕ
-byte_of kinds.Syntax at = at
 byte_of kinds.NotADocument at = 0
-byte_of kinds.TooDeep at = at
-byte_of kinds.BadWrapper at = at
-byte_of kinds.NotInProfile at = at
-byte_of kinds.NumberRange at = at
-byte_of kinds.NulInName at = at
-byte_of kinds.TrailingText at = at
 byte_of kinds.NoMemory at = 0
+byte_of _ at = at
 
 -- A text that is not UTF-8 is told as no JSON, at its first byte that is none.
 pub record TellsBadUtf8 (text : List ℕ) (fault : JsonFault) : Type 0 where

@@ -39,12 +39,8 @@ pub data AfterName : Type 0 where
 
 -- code with scope, of the code's text and the scope's value
 abbrev pub with_scope : Option (List ℕ) → Option Tree → Option Tree
-with_scope None t = None
-with_scope (Some s) None = None
-with_scope (Some s) (Some (leaf x)) = None
 with_scope (Some s) (Some (doc fs)) = Some (code_scope s fs)
-with_scope (Some s) (Some (array ts)) = None
-with_scope (Some s) (Some (code_scope p fs)) = None
+with_scope _ _ = None
 
 -- an object of two members, the first of which is a wrapper's: `$code` and `$scope`, in either order
 abbrev pub two : Wrapper → Json → Option Tree → Wrapper → Json → Option Tree → Option Tree

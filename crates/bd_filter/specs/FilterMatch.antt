@@ -7,7 +7,7 @@ use Rattle.bd_value.specs.Kind.{kind_of}
 use Rattle.bd_value.specs.Order.{class_cmp, cmp, equal}
 use Rattle.bd_value.specs.Parts.{elements_in}
 use Rattle.bd_value.specs.Tree as trees
-use Rattle.bd_value.specs.Tree.{Tree, leaf, doc, array, code_scope}
+use Rattle.bd_value.specs.Tree.{Tree, leaf, array}
 use Rattle.bd_value.specs.declared.kind.Kind.{Kind}
 use Rattle.bd_path.specs.Reach.{End, is_document, reach}
 use Rattle.bd_filter.specs.Filter.{Filter, all_of, some_of, none_of, at_path, Filters, no_filters, filter}
@@ -18,10 +18,8 @@ use Rattle.bd_filter.specs.declared.relation.Relation.{Relation}
 use Rattle.bd_filter.specs.declared.relation.Relation.TheVariants as relation
 
 abbrev pub is_array : Tree → Bool
-is_array (leaf s) = false
-is_array (doc fs) = false
 is_array (array ts) = true
-is_array (code_scope s fs) = false
+is_array _ = false
 
 -- a value; a null for a field that is missing
 abbrev pub value_or_null : End → Tree

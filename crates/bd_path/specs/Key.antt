@@ -2,7 +2,7 @@
 use Rattle.std.specs.Prelude.{◌≡◌, ℕ, List, Bool, true, false, map, All}
 use Rattle.std.specs.List.{list_any}
 use Rattle.bd_value.specs.Tree as trees
-use Rattle.bd_value.specs.Tree.{Tree, leaf, doc, array, code_scope, no_items, item}
+use Rattle.bd_value.specs.Tree.{Tree, leaf, array, no_items}
 use Rattle.bd_path.specs.Stop.{Stops}
 use Rattle.bd_path.specs.declared.key.Key.{Key}
 use Rattle.bd_path.specs.declared.key.Key.TheVariants.{Node, Null, Undefined}
@@ -33,13 +33,8 @@ is_no_value Missing = true
 is_no_value NoBranch = true
 
 abbrev pub is_empty_array : Stop Tree → Bool
-is_empty_array (Value (leaf s)) = false
-is_empty_array (Value (doc fs)) = false
 is_empty_array (Value (array no_items)) = true
-is_empty_array (Value (array (item t ts))) = false
-is_empty_array (Value (code_scope s fs)) = false
-is_empty_array Missing = false
-is_empty_array NoBranch = false
+is_empty_array _ = false
 
 -- A key is a node where a value stands: null is for a value that is not there, and for none in a sparse index; undefined is for
 -- an empty array.

@@ -8,10 +8,8 @@ use Rattle.bd_path.specs.Component.{index_of}
 use Rattle.bd_path.specs.Names.{Names}
 
 abbrev pub is_document : Tree → Bool
-is_document (leaf s) = false
 is_document (doc fs) = true
-is_document (array ts) = false
-is_document (code_scope s fs) = false
+is_document _ = false
 
 -- What is gathered on the way down a path: from a value at its end, where a field is missing, and of what was gathered from
 -- the elements of an array.

@@ -9,22 +9,13 @@ abbrev pub IsShort : List ℕ → Type 0
 IsShort text = length text ≤ longest_document
 
 abbrev pub ScalarIsShort : Scalar → Type 0
-ScalarIsShort trees.min_key = Unit {0}
-ScalarIsShort trees.undefined = Unit {0}
-ScalarIsShort trees.null = Unit {0}
-ScalarIsShort (trees.int32 z) = Unit {0}
-ScalarIsShort (trees.int64 z) = Unit {0}
 ScalarIsShort (trees.text s) = IsShort s
 ScalarIsShort (trees.symbol s) = IsShort s
 ScalarIsShort (trees.binary subtype payload) = IsShort payload
-ScalarIsShort (trees.object_id id) = Unit {0}
-ScalarIsShort (trees.boolean b) = Unit {0}
-ScalarIsShort (trees.date z) = Unit {0}
-ScalarIsShort (trees.timestamp seconds increment) = Unit {0}
 ScalarIsShort (trees.regex pattern options) = IsShort pattern × IsShort options
 ScalarIsShort (trees.db_pointer space id) = IsShort space
 ScalarIsShort (trees.code s) = IsShort s
-ScalarIsShort trees.max_key = Unit {0}
+ScalarIsShort _ = Unit {0}
 
 -- the texts, and the bytes, of what a value holds besides other values
 abbrev pub OwnIsShort : Own → Type 0

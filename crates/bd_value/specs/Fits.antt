@@ -3,7 +3,7 @@ use Rattle.std.specs.Prelude.{◌≡◌, ◌<◌, ◌^◌, ℕ, List, length, sl
 use Rattle.std.specs.Int.{w32, w64}
 use Rattle.std.specs.Int.RustNames.{FitsSigned}
 use Rattle.bd_value.specs.OwnPart.{Own, own, own_code}
-use Rattle.bd_value.specs.Tree.{Scalar, min_key, undefined, null, int32, int64, text, symbol, binary, object_id, boolean, date, timestamp, regex, db_pointer, code, max_key}
+use Rattle.bd_value.specs.Tree.{Scalar, int32, int64, text, symbol, binary, object_id, date, timestamp, regex, db_pointer, code}
 use Rattle.bd_value.specs.Tree.{Tree, leaf, doc, array, code_scope, Items, no_items, item, Fields, no_fields, field}
 
 -- each of them is a byte
@@ -16,22 +16,14 @@ IsId id = (length id ≡ 12) × AreBytes id
 
 -- Each number has the bits of its BSON type, and what is no text is bytes.
 abbrev pub ScalarFitsType : Scalar → Type 0
-ScalarFitsType min_key = Unit {0}
-ScalarFitsType undefined = Unit {0}
-ScalarFitsType null = Unit {0}
 ScalarFitsType (int32 z) = FitsSigned w32 z
 ScalarFitsType (int64 z) = FitsSigned w64 z
-ScalarFitsType (text s) = Unit {0}
-ScalarFitsType (symbol s) = Unit {0}
 ScalarFitsType (binary subtype bytes) = (subtype < 256) × AreBytes bytes
 ScalarFitsType (object_id id) = IsId id
-ScalarFitsType (boolean b) = Unit {0}
 ScalarFitsType (date z) = FitsSigned w64 z
 ScalarFitsType (timestamp seconds increment) = (seconds < 2 ^ 32) × (increment < 2 ^ 32)
-ScalarFitsType (regex pattern options) = Unit {0}
 ScalarFitsType (db_pointer space id) = IsId id
-ScalarFitsType (code s) = Unit {0}
-ScalarFitsType max_key = Unit {0}
+ScalarFitsType _ = Unit {0}
 
 abbrev mutual
   pub FitsTypes : Tree → Type 0
@@ -49,22 +41,12 @@ abbrev mutual
   FieldsFitTypes (field n t fs) = FitsTypes t × FieldsFitTypes fs
 
 abbrev pub ScalarHasUtf8 : Scalar → Type 0
-ScalarHasUtf8 min_key = Unit {0}
-ScalarHasUtf8 undefined = Unit {0}
-ScalarHasUtf8 null = Unit {0}
-ScalarHasUtf8 (int32 z) = Unit {0}
-ScalarHasUtf8 (int64 z) = Unit {0}
 ScalarHasUtf8 (text s) = IsUtf8 s
 ScalarHasUtf8 (symbol s) = IsUtf8 s
-ScalarHasUtf8 (binary subtype bytes) = Unit {0}
-ScalarHasUtf8 (object_id id) = Unit {0}
-ScalarHasUtf8 (boolean b) = Unit {0}
-ScalarHasUtf8 (date z) = Unit {0}
-ScalarHasUtf8 (timestamp seconds increment) = Unit {0}
 ScalarHasUtf8 (regex pattern options) = IsUtf8 pattern × IsUtf8 options
 ScalarHasUtf8 (db_pointer space id) = IsUtf8 space
 ScalarHasUtf8 (code s) = IsUtf8 s
-ScalarHasUtf8 max_key = Unit {0}
+ScalarHasUtf8 _ = Unit {0}
 
 -- each text and each name in the tree is UTF-8
 abbrev mutual

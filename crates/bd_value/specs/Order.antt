@@ -43,10 +43,8 @@ fields_in (array ts) = no_fields
 fields_in (code_scope s fs) = fs
 
 abbrev pub items_in : Tree → Items
-items_in (leaf s) = no_items
-items_in (doc fs) = no_items
 items_in (array ts) = ts
-items_in (code_scope s fs) = no_items
+items_in _ = no_items
 
 abbrev mutual
   -- two values of one class: code with scope by its code, then by its scope

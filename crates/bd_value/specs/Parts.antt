@@ -4,10 +4,8 @@ use Rattle.bd_value.specs.Tree.{Tree, leaf, doc, array, code_scope, Doc, pairs_o
 
 -- the elements of an array; every other value has none
 abbrev pub elements_in : Tree → List Tree
-elements_in (leaf s) = []
-elements_in (doc fs) = []
 elements_in (array ts) = list_of ts
-elements_in (code_scope s fs) = []
+elements_in _ = []
 
 -- how many pairs a document has, or elements an array
 abbrev pub length_of : Tree → ℕ
@@ -18,10 +16,8 @@ length_of (code_scope s fs) = 0
 
 -- the scope of code with scope
 abbrev pub scope_of : Tree → Option Tree
-scope_of (leaf s) = None
-scope_of (doc fs) = None
-scope_of (array ts) = None
 scope_of (code_scope s fs) = Some (doc fs)
+scope_of _ = None
 
 -- the values alone, without the names that stand before them
 abbrev pub values_of : Doc → List Tree

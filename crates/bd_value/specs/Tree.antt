@@ -68,10 +68,8 @@ list_of (item t ts) = t ∷ list_of ts
 
 -- the pairs of a document; every other value has none
 abbrev pub pairs_in : Tree → Doc
-pairs_in (leaf s) = []
 pairs_in (doc fs) = pairs_of fs
-pairs_in (array ts) = []
-pairs_in (code_scope s fs) = []
+pairs_in _ = []
 
 pub items_of-list_of : (ts : Items) → items_of (list_of ts) ≡ ts
 items_of-list_of no_items = refl

@@ -46,10 +46,8 @@ either_way a b k j l i =
     if bytes_eq k a && bytes_eq l b then Some (j, i) else if bytes_eq k b && bytes_eq l a then Some (i, j) else None
 
 abbrev pub pair_members : List ℕ → List ℕ → json.Members → Option (Json × Json)
-pair_members a b json.no_members = None
-pair_members a b (json.member k j json.no_members) = None
 pair_members a b (json.member k j (json.member l i json.no_members)) = either_way a b k j l i
-pair_members a b (json.member k j (json.member l i (json.member m h ms))) = None
+pair_members _ _ _ = None
 
 -- the values of an object of these two names, in either order
 unfoldable pub pair : List ℕ → List ℕ → Json → Option (Json × Json)
@@ -85,12 +83,8 @@ abbrev pub subtype_in : Json → Option ℕ
 subtype_in j = option_and_then digits_in (as_str j)
 
 abbrev pub number_in : Json → Option (List ℕ)
-number_in json.null = None
-number_in (json.boolean b) = None
 number_in (json.number s) = Some s
-number_in (json.string s) = None
-number_in (json.array js) = None
-number_in (json.object ms) = None
+number_in _ = None
 
 abbrev pub if_word : ℤ → Option ℕ
 if_word (pos n) = if nat_lt n 4294967296 then Some n else None
@@ -125,12 +119,8 @@ abbrev pub if_true : {A : Type 0} → Bool → A → Option A
 if_true b x = if b then Some x else None
 
 abbrev pub is_true : Json → Bool
-is_true json.null = false
 is_true (json.boolean b) = b
-is_true (json.number s) = false
-is_true (json.string s) = false
-is_true (json.array js) = false
-is_true (json.object ms) = false
+is_true _ = false
 
 abbrev pub long_in : Option Json → Option ℤ
 long_in None = None
@@ -139,15 +129,11 @@ long_in (Some j) = option_and_then whole_64 (as_str j)
 abbrev pub single : Wrapper → Json → Option Scalar
 single kinds.NumberInt j = option_map (λ z. trees.int32 z) (option_and_then whole_32 (as_str j))
 single kinds.NumberLong j = option_map (λ z. trees.int64 z) (option_and_then whole_64 (as_str j))
-single kinds.NumberDouble j = None
-single kinds.NumberDecimal j = None
 single kinds.Oid j = option_map (λ b. trees.object_id b) (id_of j)
 single kinds.Symbol j = option_map (λ s. trees.symbol s) (as_str j)
 single kinds.Binary j =
     option_map (λ p. trees.binary p.1 p.0) (option_and_then (both_in data_in subtype_in) (pair (codes "base64") (codes "subType") j))
-single kinds.Uuid j = None
 single kinds.Code j = option_map (λ s. trees.code s) (as_str j)
-single kinds.Scope j = None
 single kinds.Timestamp j =
     option_map (λ p. trees.timestamp p.0 p.1) (option_and_then (both_in word_in word_in) (pair (codes "t") (codes "i") j))
 single kinds.RegularExpression j =
@@ -158,3 +144,4 @@ single kinds.Date j = option_map (λ z. trees.date z) (long_in (only (codes "$nu
 single kinds.MinKey j = if_true (one j) trees.min_key
 single kinds.MaxKey j = if_true (one j) trees.max_key
 single kinds.Undefined j = if_true (is_true j) trees.undefined
+single _ _ = None
