@@ -38,11 +38,6 @@ module _ (name : List ℕ) (d : Doc) (i n : ℕ) (p : Pair) (lt : i < n) (at : s
   pub name_found : true ≡ bytes_eq p.0 name → true ≡ is_some (first_of name (take n d))
   name_found same = sym (ap (λ (o : Option Tree). is_some o) (lookup.found name (take n d) i p _ (at_front d i n p lt at) so_far same))
 
-pub name_nowhere : (name : List ℕ) (d : Doc) (i n : ℕ) → length (take n d) ≤ i → first_of name (drop i (take n d)) ≡ first_of name (take n d)
-    → false ≡ is_some (first_of name (take n d))
-name_nowhere name d i n le so_far =
-    sym (ap (λ (o : Option Tree). is_some o) (lookup.nowhere name (take n d) i _ le so_far))
-
 -- ---- the first fault
 
 pub there : (d : Doc) (i : ℕ) → i < length d → (p : Pair) × (slice_get d i ≡ Some p)

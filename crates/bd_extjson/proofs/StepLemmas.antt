@@ -10,7 +10,7 @@ use Rattle.bd_value.specs.Zeros.{has_zero}
 use Rattle.bd_extjson.specs.Meaning.{bare_number, nested, add_item, add_field, wrap, wrap_items, wrap_object, wrap_fields}
 use Rattle.bd_wrapper.specs.Wrappers.{wrapper_of}
 use Rattle.bd_wrapper.specs.declared.wrapper.Wrapper.{Wrapper}
-use Rattle.std.specs.Prelude.{ok_or, Result, Ok, Err, String, string_bytes}
+use Rattle.std.specs.Prelude.{Result, Ok, Err, String, string_bytes}
 use Rattle.std.specs.declared.alloc.Global.{Global}
 use Rattle.bd_value.specs.View.{tree_of}
 use Rattle.bd_value.specs.declared.document.Value.TheVariants as values
@@ -258,15 +258,6 @@ read_null room depth rest = ap (through (wrap room)) (value_is depth (Token.null
 
 pub read_none : (room depth : ℕ) (ts : List Token) → value depth ts ≡ None → through (wrap room) (value depth ts) ≡ None
 read_none room depth ts e = ap (through (wrap room)) e
-
-bare_told : {X A : Type 0} (view : X → A) (rest : List Token) (b : Option X) → GivesTokens view (ok_or b troubles.Refused) rest (option_map (λ (a : A). (a, rest)) (option_map view b))
-bare_told view rest None = refl
-bare_told view rest (Some x) = refl
-
-pub number_told : {X A : Type 0} (view : X → A) (rest : List Token) (b : Option X) (result : Result X Trouble) (o : Option A)
-    (read : Option (A × List Token)) → option_map view b ≡ o → result ≡ ok_or b troubles.Refused → read ≡ option_map (λ (a : A). (a, rest)) o
-    → GivesTokens view result rest read
-number_told view rest b result o read e r s = rw (s, r, ← e) (bare_told view rest b)
 
 pub told : {X A : Type 0} (view : X → A) (result : Result X Trouble) (rest : List Token) (o : Option A) (read : Option (A × List Token))
     → read ≡ option_map (λ (a : A). (a, rest)) o → GivesValue view result o → GivesTokens view result rest read

@@ -15,7 +15,7 @@ use Rattle.bd_filter.specs.declared.fault.Stop.{Stop}
 use Rattle.bd_filter.specs.declared.fault.Stop.TheVariants as stops
 use Rattle.bd_filter.specs.FilterOf.{all_kinds, both_kinds, element_operator, filter_of, filters_of, has_operators, has_value_form, member_filter}
 use Rattle.bd_filter.specs.FilterOf.{member_filters, member_values, members_of, ordered_value}
-use Rattle.bd_filter.specs.FilterOf.{inner_part, not_operator, operand_filters, operand_kinds, operators_of, path_operators, read_as, read_first, type_kinds}
+use Rattle.bd_filter.specs.FilterOf.{inner_part, not_operator, operand_filters, operand_kinds, operators_of, path_operators, read_as, read_first}
 use Rattle.bd_filter.specs.Filter.{all_of, filters_from, has_document, has_element, negates, operators_from}
 
 -- parts that were read, and those after them
@@ -147,12 +147,6 @@ operand_is room (code_scope s fs) ps is are some = absurd are
 pub kinds_after_none : (kinds : Option (List Kind)) → both_kinds (Some []) kinds ≡ kinds
 kinds_after_none None = refl
 kinds_after_none (Some kinds) = refl
-
-pub one_type : (t : Tree) → kind_of t ≢ kinds.Array → operand_kinds t ≡ both_kinds (Some []) (type_kinds t)
-one_type (leaf s) other = sym (kinds_after_none (type_kinds (leaf s)))
-one_type (doc fs) other = refl
-one_type (array ts) other = absurd (other refl)
-one_type (code_scope s fs) other = refl
 
 some_types_of : (ts : Items) → length (list_of ts) ≢ 0 → operand_kinds (array ts) ≡ all_kinds ts
 some_types_of no_items some = absurd (some refl)

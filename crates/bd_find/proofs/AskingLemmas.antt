@@ -16,10 +16,6 @@ reason_told part refused (faults.Message m) (inl starved) told = absurd (told.0 
 reason_told part refused (faults.Message m) (inr is) told = rw (is, told.1) refl
 
 module _ (words : FindWords) (query : Doc) where
-  pub query_refused : (fault : AskingFault) → TellsAskingFault (ReadsText (codes "query") words.query) fault → TellsAskingFault (AsksInWords words) fault
-  query_refused faults.NoMemory none = tt
-  query_refused (faults.Message m) none = inl (m.items, none, refl)
-
   pub sort_refused : (fault : AskingFault) → ReadsText (codes "query") words.query (Ok query) → TellsAskingFault (ReadsText (codes "sort") words.sort) fault
       → TellsAskingFault (AsksInWords words) fault
   sort_refused faults.NoMemory q none = tt

@@ -1,13 +1,13 @@
 -- What the fronts of two texts tell of their order.
 use Rattle.std.proofs.Common.{◌≡◌, ◌≢◌, ◌<◌, ◌≤◌, ℕ, ℤ, List, [], ◌∷◌, ◌++◌, length, min, take, drop, zero, suc, refl, sym, ap, ap₂, ◌∙◌, arith, true}
-use Rattle.std.proofs.Common.{nat_lt, ◌&&◌, ◌==◌, Ordering, ◌⊎◌, inl, inr}
+use Rattle.std.proofs.Common.{nat_lt, ◌&&◌, ◌==◌, Ordering, ◌⊎◌}
 use Rattle.std.specs.Cmp.Lexicographic.{slice_cmp}
-use Rattle.std.specs.Ordering.{int_cmp, is_eq, nat_cmp, ordering_then}
+use Rattle.std.specs.Ordering.{is_eq, nat_cmp, ordering_then}
 use Rattle.std.specs.declared.cmp.Ordering.TheVariants.{Less, Equal, Greater}
 use Rattle.std.proofs.lemmas.Bool.Decides.{nat_tests}
 use Rattle.std.proofs.lemmas.Map.Text.{is_eq-slice_cmp}
-use Rattle.bd_value.specs.Order.{bytes_cmp, cmp}
-use Rattle.bd_value.specs.Tree.{Tree, date, int32, int64, leaf, object_id, symbol, text}
+use Rattle.bd_value.specs.Order.{bytes_cmp}
+use Rattle.bd_value.specs.Tree.{Tree, date, int32, int64, leaf, symbol, text}
 use Rattle.bd_front.specs.Front.{front_of, front_of_text, is_same_text_front, padded, texts_tell}
 use Rattle.bd_front.specs.declared.front.Front.TheVariants as fronts
 use Rattle.bd_front.specs.declared.front.TextFront.{TextFront}
@@ -136,50 +136,9 @@ then_equal o = grind arith
 abbrev pub IsText : Tree → List ℕ → Type 0
 IsText x s = (x ≡ leaf (text s)) ⊎ (x ≡ leaf (symbol s))
 
-pub record HasText (x : Tree) (a : TextFront) : Type 0 where
-  pub bytes : List ℕ
-  pub is : IsText x bytes
-  pub front : a ≡ front_of_text bytes
-
-has_text : (x : Tree) (a : TextFront) → fronts.Text a ≡ front_of x → HasText x a
-has_text (leaf (text s)) a e = record { bytes = s; is = inl refl; front = cc }
-has_text (leaf (symbol s)) a e = record { bytes = s; is = inr refl; front = cc }
-has_text _ a e = absurd cc
-
-texts_order : (x y : Tree) (s t : List ℕ) → IsText x s → IsText y t → cmp x y ≡ bytes_cmp s t
-texts_order x y s t e f = grind (arith, then_equal (bytes_cmp s t))
-
-pub texts_told : (a b : TextFront) (o : Ordering) → ((s t : List ℕ) → a ≡ front_of_text s → b ≡ front_of_text t → o ≡ bytes_cmp s t)
-    → (x y : Tree) → fronts.Text a ≡ front_of x → fronts.Text b ≡ front_of y → o ≡ cmp x y
-texts_told a b o told x y e f =
-    let first = has_text x a e in
-    let second = has_text y b f in
-    told first.bytes second.bytes first.front second.front ∙ sym (texts_order x y first.bytes second.bytes first.is second.is)
-
 abbrev pub IsNumber : Tree → ℤ → Type 0
 IsNumber x z = (x ≡ leaf (int32 z)) ⊎ (x ≡ leaf (int64 z))
-
-has_number : (x : Tree) (n : ℤ) → fronts.Number n ≡ front_of x → IsNumber x n
-has_number (leaf (int32 z)) n e = inl cc
-has_number (leaf (int64 z)) n e = inr cc
-has_number _ n e = absurd cc
-
-numbers_order : (x y : Tree) (m n : ℤ) → IsNumber x m → IsNumber y n → int_cmp m n ≡ cmp x y
-numbers_order x y m n e f = grind (arith, then_equal (int_cmp m n))
-
-pub numbers_told : (m n : ℤ) (x y : Tree) → fronts.Number m ≡ front_of x → fronts.Number n ≡ front_of y → int_cmp m n ≡ cmp x y
-numbers_told m n x y e f = numbers_order x y m n (has_number x m e) (has_number y n f)
 
 has_date : (x : Tree) (n : ℤ) → fronts.Date n ≡ front_of x → x ≡ leaf (date n)
 has_date (leaf (date z)) n e = cc
 has_date _ n e = absurd cc
-
-pub dates_told : (m n : ℤ) (x y : Tree) → fronts.Date m ≡ front_of x → fronts.Date n ≡ front_of y → int_cmp m n ≡ cmp x y
-dates_told m n x y e f = rw (has_date x m e, has_date y n f) (sym (then_equal (int_cmp m n)))
-
-has_id : (x : Tree) (s : List ℕ) → fronts.Id s ≡ front_of x → x ≡ leaf (object_id s)
-has_id (leaf (object_id t)) s e = cc
-has_id _ s e = absurd cc
-
-pub ids_told : (s t : List ℕ) (x y : Tree) → fronts.Id s ≡ front_of x → fronts.Id t ≡ front_of y → bytes_cmp s t ≡ cmp x y
-ids_told s t x y e f = rw (has_id x s e, has_id y t f) (sym (then_equal (bytes_cmp s t)))

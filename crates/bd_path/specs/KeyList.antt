@@ -3,9 +3,9 @@ use Rattle.std.specs.Prelude.{Bool, true, false, List, [], ◌∷◌, ◌++◌, 
 use Rattle.std.specs.List.{list_any}
 use Rattle.bd_value.specs.Order.{equal}
 use Rattle.bd_value.specs.Tree as trees
-use Rattle.bd_value.specs.Tree.{Tree, leaf, doc, array, code_scope, items_of, list_of}
+use Rattle.bd_value.specs.Tree.{Tree, leaf, doc, array, code_scope, list_of}
 use Rattle.bd_path.specs.Names.{Names}
-use Rattle.bd_path.specs.Reach.{Gathering, document_gathering, gathering, index_gathering}
+use Rattle.bd_path.specs.Reach.{Gathering, gathering}
 
 -- what stands for a field that is missing: a null, and in a sparse index nothing
 abbrev pub missing_key : Bool → List Tree
@@ -30,13 +30,6 @@ key_gathering missing = record { at_end = end_keys; missing = missing; of_array 
 -- the keys with equal ones
 abbrev pub all_keys : Bool → Tree → Names → List Tree
 all_keys sparse t path = gathering (key_gathering (missing_key sparse)) t path
-
--- of the documents in an array, and of the element whose index the first component is
-abbrev pub document_keys : Bool → Tree → Names → List Tree
-document_keys sparse t path = document_gathering (key_gathering (missing_key sparse)) t path
-
-abbrev pub index_keys : Bool → Tree → Names → List Tree
-index_keys sparse t path = index_gathering (key_gathering (missing_key sparse)) t path
 
 -- one key more, which is dropped where it equals an earlier one
 abbrev pub with_key : List Tree → Tree → List Tree

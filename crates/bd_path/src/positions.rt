@@ -2,7 +2,6 @@
 
 ghost use Rattle.std.specs.Prelude.{◌≡◌, ℕ, List, suc, ◌<◌, ◌≤◌, ◌⊎◌, true, false, Some, length, slice_get, IsTrue, IsFalse, string_bytes};
 ghost use Rattle.bd_value.specs.Limits.{most_names};
-ghost use Rattle.bd_path.specs.Component.{held_index};
 ghost use Rattle.bd_path.specs.Names.{component_names};
 ghost use Rattle.bd_path.specs.Positions.{IsOpen, Leads, LedTo, Takes, is_open};
 
@@ -157,13 +156,4 @@ pub(crate) fn name_at(path: &[Component], k: usize) -> &str
     ensures { slice_get (component_names path.now) k ≡ Some result.now }
 {
     path[k].name.as_str()
-}
-
-/// The index that the component at a position is.
-#[inline(always)]
-pub(crate) fn index_at(path: &[Component], k: usize) -> Option<usize>
-    requires { k < length path.now }
-    ensures { (name : List ℕ) × (slice_get (component_names path.now) k ≡ Some name) × (held_index name ≡ result) }
-{
-    path[k].index
 }

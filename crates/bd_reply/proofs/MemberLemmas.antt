@@ -4,7 +4,7 @@ use Rattle.std.specs.Prelude.{codes, slice_get}
 use Rattle.std.specs.List.{cons_option, join_with_byte}
 use Rattle.std.proofs.lemmas.Fmt.{decimal_is_IsNumeral}
 use Rattle.std.proofs.lemmas.Option.{slice_get-get_or, slice_get_past}
-use Rattle.bd_value.specs.Tree.{Doc, Tree, doc, fields_of, items_of}
+use Rattle.bd_value.specs.Tree.{Doc, doc, fields_of, items_of}
 use Rattle.bd_text.specs.Text.{escape_byte, fields_text, items_text, member, quoted, scalar_text, text}
 use Rattle.bd_text.proofs.EscapeLemmas.{escaped-digits}
 use Rattle.bd_text.proofs.PieceLemmas.{before, to_come, to_come-all, piece_step}
@@ -80,11 +80,3 @@ object_begins ok ps old begun out lead value =
     let first : List ℕ = member (codes "ok") truth in
     let whole : to_come false 44 (first ∷ members) ≡ join_with_byte 44 (first ∷ members) = to_come-all 44 (first ∷ members) in
     rw (value, lead, ← whole) (simp append_assoc)
-
--- a comma and a pair are written
-pub object_goes_on : (n : List ℕ) (t : Tree) (rest ps : Doc) (out new total : List ℕ) → ps ≡ (n, t) ∷ rest → new ≡ out ++ 44 ∷ member n (text t)
-    → out ++ rest_of_object ps ≡ total → new ++ rest_of_object rest ≡ total
-object_goes_on n t rest ps out new total cut written so_far =
-    let texts : fields_text (fields_of ps) ≡ member n (text t) ∷ fields_text (fields_of rest) = ap (λ (x : Doc). fields_text (fields_of x)) cut in
-    rw written (ap (λ (x : List ℕ). x ++ rest_of_object rest) (sym (append_assoc out (44 ∷ []) (member n (text t))))
-    ∙ piece_step true 44 (member n (text t)) (fields_text (fields_of ps)) (fields_text (fields_of rest)) out (125 ∷ []) total texts so_far)

@@ -1,6 +1,6 @@
 -- Tokens and their bytes.
 use Rattle.std.proofs.Common.{◌≡◌, ◌≤◌, ◌<◌, ◌^◌, ◌+◌, ◌++◌, replicate, ◌==◌, ◌&&◌, ℕ, Bool, true, false, cond, List, [], ◌∷◌, Option, Some, None, Result, Ok}
-use Rattle.std.proofs.Common.{Err, length, take, drop, refl, sym, ap, ap₂, ◌∙◌, arith}
+use Rattle.std.proofs.Common.{length, take, drop, refl, sym, ap, ap₂, ◌∙◌, arith}
 use Rattle.std.specs.Int.{from_le_bytes, to_le_bytes, w32, w64}
 use Rattle.std.proofs.lemmas.Bool.{eqb-true}
 use Rattle.std.proofs.Math.Seq.{drop-append_seam, take-append_seam}
@@ -60,9 +60,6 @@ none_of_size (version ∷ bytes) other = go (version == 1) (length bytes == 44) 
 pub token_of_another_size : (text new : List ℕ) (n : ℕ) → length text ≡ 60 → decode_of standard text ≡ Ok (take n new) → (n ≡ 45 → ⊥) → n ≤ length new → None ≡ token_of text
 token_of_another_size text new n size whole other le =
     none_of_size (take n new) (λ e. other (sym (length-take-le n new le) ∙ e)) ∙ decoded_as text (Ok (take n new)) size whole
-
-pub token_undecoded : (text : List ℕ) (e : DecodeError) → length text ≡ 60 → decode_of standard text ≡ Err e → None ≡ token_of text
-token_undecoded text e size is = decoded_as text (Err e) size is
 
 -- ---- and back
 

@@ -96,11 +96,6 @@ has_cut_length head (Some xs) (Some ys) given is gave end less =
     let all : xs ≡ given = gave ∙ ap (λ z. given ++ z) end ∙ append-nil given in
     (head ++ xs, refl, subst (λ z. frame_length (head ++ z) ≡ Err BadLength) (sym all) (frame_cut head given is less))
 
-pub gave_after : (head given : List ℕ) (old new : Option (List ℕ)) → Consumes old new given → Consumes (prepend_known head old) new (head ++ given)
-gave_after head given None new gave = _
-gave_after head given (Some xs) None gave = absurd gave
-gave_after head given (Some xs) (Some ys) gave = ap (λ z. head ++ z) gave ∙ sym (append_assoc head given ys)
-
 -- a room after which nothing is left
 pub whole_room : (n len : ℕ) (room rest all : List ℕ) → take n room ≡ all → length room ≡ len → take n (take len (room ++ rest)) ≡ all
 whole_room n len room rest all front size = ap (take n) (take_at room rest len size) ∙ front

@@ -8,7 +8,6 @@ use Rattle.base64.specs.Engines.{standard}
 use Rattle.base64.specs.GeneralPurpose.{encode_of}
 use Rattle.bd_value.specs.Tree.{Scalar, min_key, undefined, null, int32, int64, text as string, symbol, binary, object_id, boolean, date, timestamp, regex, db_pointer, code, max_key}
 use Rattle.bd_value.specs.Tree.{Tree, leaf, doc, array, code_scope, Items, no_items, item, Fields, no_fields, field}
-use Rattle.bd_value.specs.OwnPart.{Own, own, own_code}
 use Rattle.hex.specs.Hex.{encode_lower}
 
 -- RFC 8259, section 7: the quotation mark, the reverse solidus and the control characters may not stand for themselves.
@@ -103,8 +102,3 @@ abbrev mutual
   pub fields_text : Fields → List (List ℕ)
   fields_text no_fields = []
   fields_text (field n t fs) = member n (text t) ∷ fields_text fs
-
--- What a value holds besides other values. Of code with scope it is the code alone, as code.
-abbrev pub own_text : Own → List ℕ
-own_text (own s) = scalar_text s
-own_text (own_code s) = scalar_text (code s)

@@ -1,8 +1,7 @@
 -- Going down the pairs of a document in search of a name.
-use Rattle.std.proofs.Common.{◌≡◌, ◌≤◌, ◌+◌, ℕ, List, drop, length, Option, Some, None, false, true, refl, sym, ap, ◌∙◌}
+use Rattle.std.proofs.Common.{◌≡◌, ◌+◌, ℕ, List, drop, Option, Some, false, true, refl, sym, ap, ◌∙◌}
 use Rattle.std.specs.Prelude.{slice_get}
 use Rattle.std.specs.Str.{bytes_eq}
-use Rattle.std.proofs.lemmas.List.{drop_all}
 use Rattle.bd_value.specs.Tree.{Tree, Doc, Pair}
 use Rattle.bd_value.specs.Lookup.{first_of}
 use Rattle.bd_value.proofs.ViewLemmas.{next_at}
@@ -13,6 +12,3 @@ module _ (name : List ℕ) (ps : Doc) (i : ℕ) (p : Pair) (total : Option Tree)
 
   pub found : true ≡ bytes_eq p.0 name → total ≡ Some p.1
   found same = sym so_far ∙ ap (first_of name) (next_at ps i p at) ∙ rw (← same) refl
-
-pub nowhere : (name : List ℕ) (ps : Doc) (i : ℕ) (total : Option Tree) → length ps ≤ i → first_of name (drop i ps) ≡ total → total ≡ None
-nowhere name ps i total le so_far = sym so_far ∙ ap (first_of name) (drop_all i ps le)

@@ -1,9 +1,9 @@
 -- What a value is made of.
-use Rattle.std.proofs.Common.{◌≡◌, ℕ, ◌+◌, ◌<◌, suc, List, [], ◌∷◌, Some, None, max, refl, sym, ap, ap₂, ◌∙◌, subst, arith}
+use Rattle.std.proofs.Common.{◌≡◌, ℕ, ◌+◌, ◌<◌, suc, List, [], ◌∷◌, Some, max, refl, sym, ap, ap₂, ◌∙◌, arith}
 use Rattle.bd_value.specs.Tree.{Tree, leaf, doc, array, code_scope, Doc, fields_of, items_of, fields_of-pairs_of, items_of-list_of, tree_size, fields_size, items_size}
 use Rattle.bd_value.specs.Depth.{depth, fields_depth, items_depth}
 use Rattle.bd_value.specs.Kind.{kind_of}
-use Rattle.bd_value.specs.Parts.{values_of, scope_of, AreParts, HoldsParts, HoldsNoParts}
+use Rattle.bd_value.specs.Parts.{values_of, scope_of, AreParts}
 use Rattle.bd_value.specs.OwnPart.{own_code, own_of}
 use Rattle.bd_value.specs.declared.kind.Kind.TheVariants as kinds
 
@@ -30,12 +30,6 @@ code_is (code_scope s fs) u c ps own scope are =
     let same : doc fs ≡ doc (fields_of ps) = sym inside ∙ doc_is u ps kind are in
     let fields : fs ≡ fields_of ps = cc in
     ap₂ code_scope code fields
-
-pub scope_parts : (t u : Tree) → scope_of t ≡ Some u → HoldsParts u
-scope_parts (leaf s) u scope = absurd cc
-scope_parts (doc fs) u scope = absurd cc
-scope_parts (array ts) u scope = absurd cc
-scope_parts (code_scope s fs) u scope = let inside : doc fs ≡ u = cc in subst HoldsParts inside tt
 
 -- ---- the inside is smaller
 
@@ -71,15 +65,3 @@ parts_depth (doc fs) ps are = ap (λ n. suc n) (sym (ap (λ (x : Doc). fields_de
 parts_depth (array ts) ps are =
     ap (λ n. suc n) (sym (sym (values_depth ps) ∙ ap (λ (x : List Tree). items_depth (items_of x)) are ∙ ap items_depth (items_of-list_of ts)))
 parts_depth (code_scope s fs) ps are = absurd are
-
-pub scope_depth : (t u : Tree) → scope_of t ≡ Some u → depth t ≡ suc (depth u)
-scope_depth (leaf s) u scope = absurd cc
-scope_depth (doc fs) u scope = absurd cc
-scope_depth (array ts) u scope = absurd cc
-scope_depth (code_scope s fs) u scope = let inside : doc fs ≡ u = cc in ap (λ x. suc (depth x)) inside
-
-pub no_depth : (t : Tree) → HoldsNoParts t → scope_of t ≡ None → depth t ≡ 0
-no_depth (leaf s) none scope = refl
-no_depth (doc fs) none scope = absurd none
-no_depth (array ts) none scope = absurd none
-no_depth (code_scope s fs) none scope = absurd cc

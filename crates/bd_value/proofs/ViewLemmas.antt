@@ -8,7 +8,7 @@ use Rattle.bd_value.specs.declared.document.Value.{Value}
 use Rattle.bd_value.specs.declared.document.Value.TheVariants as values
 use Rattle.bd_value.specs.declared.document.Document.{Document}
 use Rattle.bd_value.specs.declared.document.Value.TheFolds as folds
-use Rattle.bd_value.specs.Tree.{tree_size, fields_size, items_size, Tree, leaf, doc, array, code_scope, Pair, fields_of, items_of}
+use Rattle.bd_value.specs.Tree.{Tree, doc, array, code_scope, fields_of, items_of}
 use Rattle.bd_value.specs.Tree as trees
 use Rattle.bd_value.specs.View.{tree_of, pair_of, pairs, pairs_step, tree_step}
 
@@ -42,16 +42,6 @@ pair_at d i p lt is =
     slice_get-map pair_of d.pairs.items i ∙ rw (slice_get-get_or d.pairs.items i p inside, ← is) refl
 
 -- ---- going down a document and an array
-
-pub field_smaller : (ps : trees.Doc) (i : ℕ) (p : Pair) → slice_get ps i ≡ Some p → tree_size p.1 < fields_size (fields_of ps)
-field_smaller [] i p is = absurd cc
-field_smaller (q ∷ ps) zero p is = let e : q ≡ p = cc in let s = ap (λ (x : Pair). tree_size x.1) e in omega (arith, s)
-field_smaller (q ∷ ps) (suc i) p is = omega (arith, field_smaller ps i p is)
-
-pub item_smaller : (ts : List Tree) (i : ℕ) (t : Tree) → slice_get ts i ≡ Some t → tree_size t < items_size (items_of ts)
-item_smaller [] i t is = absurd cc
-item_smaller (q ∷ ts) zero t is = let e : q ≡ t = cc in let s = ap tree_size e in omega (arith, s)
-item_smaller (q ∷ ts) (suc i) t is = omega (arith, item_smaller ts i t is)
 
 pub next_at : {A : Type 0} (xs : List A) (i : ℕ) (x : A) → slice_get xs i ≡ Some x → drop i xs ≡ x ∷ drop (i + 1) xs
 next_at [] i x is = absurd cc
