@@ -109,7 +109,7 @@ class Run(NamedTuple):
         return Ran(self.status, b"".join(self.pieces), self.err.encode())
 
     def is_cut(self, ran: Ran) -> bool:
-        """Whether it ended for want of memory as it should."""
+        """Whether it ended because memory ran out as it should."""
         is_front = self.whole().out.startswith(ran.out) and len(ran.out) in accumulate(map(len, self.pieces), initial=0)
         return is_front and (ran.status, ran.err) == (1, STARVED)
 

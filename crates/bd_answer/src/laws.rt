@@ -30,7 +30,7 @@ pub fn rests_follow()
 {}
 
 /// Over any calls on a session, a cursor gives its answer in batches, as many documents as the sizes ask for, and each token
-/// leads on to exactly the rest. Calls that are refused for want of memory, which change nothing, are as if they were not made.
+/// leads on to exactly the rest. Calls that are refused because memory ran out, which change nothing, are as if they were not made.
 pub fn sessions_keep_to_the_answer()
     ensures find { FindGivesTheAnswer }
     ensures resume { ResumeGivesTheRest }

@@ -17,7 +17,7 @@ use std::alloc::Global;
 
 impl<'a> Bounds<'a> {
     /// The bounds of a filter for an index on a path; None where it has none, so that each key may be that of a match. In a
-    /// multikey index some document has several keys. It fails for want of memory alone.
+    /// multikey index some document has several keys. It fails only if memory runs out.
     ///
     /// A document that matches has a key inside: see `bounds_lose_no_match`.
     pub fn of(

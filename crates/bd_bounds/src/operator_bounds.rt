@@ -19,7 +19,7 @@ use bd_value::{Class, Kind, NoMemory, Value};
 use std::alloc::Global;
 
 /// One more part of a conjunction, in the filter's order. In a multikey index the first part counts alone: a document may have
-/// a key in the one and another key in the other. It fails for want of memory alone.
+/// a key in the one and another key in the other. It fails only if memory runs out.
 pub(crate) fn narrow<'a>(
     parts: &mut Vec<Bounds<'a>>,
     next: Option<Bounds<'a>>,
@@ -57,7 +57,7 @@ fn unless_array<'a>(operand: &Value, bounds: Bounds<'a>) -> Option<Bounds<'a>>
     }
 }
 
-/// `$type`: unbounded where arrays are listed, since an array in a document is no key. It fails for want of memory alone.
+/// `$type`: unbounded where arrays are listed, since an array in a document is no key. It fails only if memory runs out.
 fn type_bounds<'a>(alloc: Global, kinds: &[Kind]) -> Result<Option<Bounds<'a>>, NoMemory>
     ensures { IfOk result (λ b. seen_bounds b ≡ (if is_listed kind.Array kinds.now then None else Some (keys_of_types kinds.now))) }
 {
@@ -73,7 +73,7 @@ fn lists_arrays(kinds: &[Kind]) -> bool
     kinds.iter().any(|kind| *kind == Kind::Array)
 }
 
-/// The bounds of an operator for an index on its path; None where there are none. It fails for want of memory alone.
+/// The bounds of an operator for an index on its path; None where there are none. It fails only if memory runs out.
 pub(crate) fn bounds_here<'a>(
     alloc: Global,
     operator: &'a Operator,
@@ -102,7 +102,7 @@ pub(crate) fn bounds_here<'a>(
     }
 }
 
-/// The bounds of operators that all hold of one element, which is a key. It fails for want of memory alone.
+/// The bounds of operators that all hold of one element, which is a key. It fails only if memory runs out.
 fn all_element_bounds<'a>(
     alloc: Global,
     operators: &'a [Operator],
@@ -116,7 +116,7 @@ fn all_element_bounds<'a>(
     Ok(conjoined(parts))
 }
 
-/// The bounds of an operator of one element, which is a key; None where there are none. It fails for want of memory alone.
+/// The bounds of an operator of one element, which is a key; None where there are none. It fails only if memory runs out.
 fn element_bounds<'a>(alloc: Global, operator: &'a Operator) -> Result<Option<Bounds<'a>>, NoMemory>
     ensures { IfOk result (λ b. seen_bounds b ≡ element_bounds (operator_tree operator.now)) }
 {

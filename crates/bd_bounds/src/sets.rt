@@ -11,7 +11,7 @@ use crate::range::{equal_to, of_class, undefined};
 use bd_value::{Kind, NoMemory, Value, class_of_kind};
 use std::alloc::Global;
 
-/// The keys of a document with a value that equals this one. It fails for want of memory alone.
+/// The keys of a document with a value that equals this one. It fails only if memory runs out.
 ///
 /// Those of an array are its elements, so an equal array is found by the first of them, or by undefined where it is empty. It
 /// may also stand in an array, and is then itself a key.
@@ -37,7 +37,7 @@ fn first_range(elements: &[Value]) -> Bounds<'_>
     }
 }
 
-/// Such keys of each value. It fails for want of memory alone.
+/// Such keys of each value. It fails only if memory runs out.
 pub(crate) fn bounds_of_equal<'a>(
     alloc: Global,
     values: &'a [Value],
@@ -51,7 +51,7 @@ pub(crate) fn bounds_of_equal<'a>(
     Ok(parts)
 }
 
-/// The keys that equal a value, for each of them. It fails for want of memory alone.
+/// The keys that equal a value, for each of them. It fails only if memory runs out.
 pub(crate) fn ranges_of_equal<'a>(
     alloc: Global,
     values: &'a [Value],
@@ -65,7 +65,7 @@ pub(crate) fn ranges_of_equal<'a>(
     Ok(parts)
 }
 
-/// The keys of the class of a kind, for each of them. It fails for want of memory alone.
+/// The keys of the class of a kind, for each of them. It fails only if memory runs out.
 pub(crate) fn ranges_of_kinds<'a>(
     alloc: Global,
     kinds: &[Kind],
@@ -79,7 +79,7 @@ pub(crate) fn ranges_of_kinds<'a>(
     Ok(parts)
 }
 
-/// `$all`: in a multikey index the first member bounds, else each; of no member, no key. It fails for want of memory alone.
+/// `$all`: in a multikey index the first member bounds, else each; of no member, no key. It fails only if memory runs out.
 pub(crate) fn bounds_of_all<'a>(
     alloc: Global,
     members: &'a [Value],
@@ -96,7 +96,7 @@ pub(crate) fn bounds_of_all<'a>(
     Ok(Bounds::And(bounds_of_equal(alloc, members)?))
 }
 
-/// `$all` of an element by itself: it equals each member; of no member, no key. It fails for want of memory alone.
+/// `$all` of an element by itself: it equals each member; of no member, no key. It fails only if memory runs out.
 pub(crate) fn ranges_of_all<'a>(alloc: Global, members: &'a [Value]) -> Result<Bounds<'a>, NoMemory>
     ensures { IfOk result (λ b. keys_within b ≡ keys_of_each false (map keys_equal_to (map tree_of members.now))) }
 {

@@ -31,7 +31,7 @@ pub record IsFirstFault (bytes : List ℕ) (e : declared.Fault) : Type 0 where
   pub fails : FailsAfter before (fault_view e) bytes
   pub document : e.document ≡ length before
 
--- why the bytes were not read as a dump: their number, tried first, or want of memory, or the first document with a fault
+-- why the bytes were not read as a dump: their number, tried first, or that memory ran out, or the first document with a fault
 abbrev pub IsUnread : List ℕ → declared.Fault → Type 0
 IsUnread bytes e =
     IsTooLong bytes e ⊎ ((length bytes ≤ longest_input) × (IsWantOfMemory e ⊎ IsFirstFault bytes e))

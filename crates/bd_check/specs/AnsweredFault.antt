@@ -31,7 +31,7 @@ abbrev pub IsOf : Stop → ℕ → declared.Fault → Type 0
 IsOf stops.NoMemory number e = IsWantOfMemory e
 IsOf (stops.Found g) number e = IsFault number (found_fault g) e
 
--- the fault that was answered is the one there is, or want of memory
+-- the fault that was answered is the one there is, or that memory ran out
 abbrev pub TellsFault : ℕ → Option Fault → declared.Fault → Type 0
 TellsFault number None e = IsWantOfMemory e
 TellsFault number (Some f) e = IsWantOfMemory e ⊎ IsFault number f e

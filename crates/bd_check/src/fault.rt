@@ -167,7 +167,7 @@ pub fn fault_of(alloc: Global, stop: Stop, document: u32) -> Fault
     }
 }
 
-/// The fault that stands for want of memory, which has no place.
+/// The fault that stands for out of memory, which has no place.
 pub fn want_of_memory(alloc: Global) -> Fault
     ensures { IsWantOfMemory result }
 {

@@ -18,7 +18,7 @@ use bd_find::find::find;
 use std::alloc::Global;
 
 /// Carries out an order, and gives the exit status: 0 where all was done, 1 after a fault of the input, of a query, a sort,
-/// the path of an index or a token, or of a device, or for want of memory.
+/// the path of an index or a token, or of a device, or if memory runs out.
 ///
 /// The file that the order names is read from `file`, the commands of a session from `commands`, the results go to
 /// `out`, and what is told of the run to `err`. A device that fails is not tried again.
@@ -53,7 +53,7 @@ pub fn run<F: Input, C: Input, O: Output, E: Output>(
 /// Tells why words are no order, and gives the exit status. It takes no memory.
 ///
 /// A request for help prints the usage on `out`, with status 0; words that are not taken print it on `err`, with
-/// status 2; want of memory is told on `err`, with status 1. A device that fails makes the status 1.
+/// status 2; out of memory is reported on `err`, with status 1. A device that fails makes the status 1.
 pub fn report<O: Output, E: Output>(fault: &WordsFault, out: &mut O, err: &mut E) -> Status
     ensures shown { PrintsShown (over O.state out.old out.new) (over E.state err.old err.new) (shown_report fault.now) result }
     ensures failed { WriteFails (over O.state out.old out.new) (over E.state err.old err.new) → result ≡ Status.Failed }

@@ -12,7 +12,7 @@ command_fault_words faults.RepeatedField = codes "repeated field"
 command_fault_words faults.BadField = codes "bad field"
 command_fault_words faults.NoMemory = codes "no memory"
 
--- as a reply tells it; want of memory is no reply's
+-- as a reply tells it; out of memory is no reply's
 abbrev pub command_fault_number : CommandFault → ℕ
 command_fault_number faults.UnknownCommand = 1
 command_fault_number faults.MissingField = 2

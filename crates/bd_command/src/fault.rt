@@ -40,7 +40,7 @@ impl CommandFault {
         }
     }
 
-    /// The number by which a reply tells it, 1 to 5; 6 for want of memory.
+    /// The number by which a reply tells it, 1 to 5; 6 for out of memory.
     pub fn number(self) -> u32
         ensures { result ≡ command_fault_number self }
     {

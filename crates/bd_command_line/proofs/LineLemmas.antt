@@ -176,7 +176,7 @@ kind_told words e (inr among) = inr (first_told (fault_of line_app words) (kind_
 pub refusal_none : (words : List Text) → fault_of line_app words ≡ [] → parser_refusal words ≡ None
 refusal_none words is = ap (λ ks. option_map told_as (slice_get ks 0)) is
 
--- words without a fault are refused for want of memory alone
+-- words without a fault are refused only if memory runs out
 pub only_memory : (words : List Text) (f : WordsFault) → fault_for words ≡ None → (f ≡ NoMemory) ⊎ (fault_for words ≡ Some f) → f ≡ NoMemory
 only_memory words f is (inl memory) = memory
 only_memory words f is (inr told) =

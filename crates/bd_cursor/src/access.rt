@@ -47,7 +47,7 @@ pub enum Access<'a> {
 impl<'a> Access<'a> {
     /// The access path of a request to the dump that the indexes are of, as it was chosen: each document is looked at; or by the
     /// index that is named, in the way in which it serves; or by the first index whose bounds serve, else by the first that has
-    /// the order of the sort. It reads no document, and fails for want of memory alone.
+    /// the order of the sort. It reads no document, and fails only if memory runs out.
     pub fn of(
         alloc: Global,
         dump: &Dump,

@@ -21,7 +21,7 @@ use bd_sort::is_match;
 use bd_value::NoMemory;
 use std::alloc::Global;
 
-/// Which plan a request has, and what is read by it. It fails for want of memory alone.
+/// Which plan a request has, and what is read by it. It fails only if memory runs out.
 pub(crate) fn explain(
     alloc: Global,
     dump: &Dump,

@@ -17,7 +17,7 @@ use bd_path::{Dir, Path};
 use bd_value::NoMemory;
 use std::alloc::Global;
 
-/// The bounds that a filter gives to an index, where it serves by them. It fails for want of memory alone.
+/// The bounds that a filter gives to an index, where it serves by them. It fails only if memory runs out.
 pub(crate) fn serving_bounds<'a>(
     alloc: Global,
     index: &Index,

@@ -46,7 +46,7 @@ impl JsonFaultKind {
         }
     }
 
-    /// The number by which a reply tells it, 1 to 8; 9 for want of memory.
+    /// The number by which a reply tells it, 1 to 8; 9 for out of memory.
     pub fn number(self) -> u32
         ensures { result ≡ json_fault_number self }
     {

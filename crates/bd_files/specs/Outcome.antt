@@ -62,7 +62,7 @@ PrintsOrStarves out err shown status =
     PrintsShown out err shown status
     ⊎ (TakesFront out shown.out × TellsMessage err (error_line (codes "no memory")) Failed status)
 
--- The same of an input. Why one was not read whole is told as it is, and never as want of memory.
+-- The same of an input. Why one was not read whole is told as it is, and never as out of memory.
 abbrev pub PrintsInput : Result (List ℕ) ReadFault → Over Writer → Over Writer → Transcript → Status → Type 0
 PrintsInput (Ok bytes) out err shown status = PrintsOrStarves out err shown status
 PrintsInput (Err fault) out err shown status = PrintsShown out err shown status

@@ -5,7 +5,7 @@
 pub enum Status {
     /// All was done.
     Done = 0,
-    /// A fault in the input, in a query, a sort, the path of an index or a token, or of a device, or want of memory.
+    /// A fault in the input, in a query, a sort, the path of an index or a token, or of a device, or out of memory.
     Failed = 1,
     /// The words of the line were not taken.
     Usage = 2,

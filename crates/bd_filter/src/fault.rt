@@ -44,7 +44,7 @@ impl FilterFaultKind {
         }
     }
 
-    /// The number by which a reply tells it, 1 to 6; 7 for want of memory.
+    /// The number by which a reply tells it, 1 to 6; 7 for out of memory.
     pub fn number(self) -> u32
         ensures { result ≡ filter_fault_number self }
     {

@@ -24,7 +24,7 @@ pub struct Members {
 impl Members {
     ghost use Rattle.bd_filter.specs.Members.{trees_in, values_in};
 
-    /// Members of these values, in their order. It fails for want of memory alone, and then drops them.
+    /// Members of these values, in their order. It fails only if memory runs out, and then drops them.
     pub fn new(alloc: Global, values: Vec<Value>) -> Result<Members, NoMemory>
         ensures { IfOk result (λ m. values_in m ≡ values.items) }
     {
@@ -49,7 +49,7 @@ impl Members {
     }
 }
 
-/// The index of each value, ascending by the value. It fails for want of memory alone.
+/// The index of each value, ascending by the value. It fails only if memory runs out.
 fn indexes_in_order(alloc: Global, values: &[Value]) -> Result<Vec<usize>, NoMemory>
     ensures all { IfOk result (λ v. IsPermutation (range_with_len 0 (length values.now)) v.items) }
     ensures ascending { IfOk result (λ v. IsSortedByKey (tree_at values.now) cmp v.items) }
@@ -59,7 +59,7 @@ fn indexes_in_order(alloc: Global, values: &[Value]) -> Result<Vec<usize>, NoMem
     Ok(indexes)
 }
 
-/// Each index below a number, ascending. It fails for want of memory alone.
+/// Each index below a number, ascending. It fails only if memory runs out.
 fn indexes_below(alloc: Global, end: usize) -> Result<Vec<usize>, NoMemory>
     ensures { IfOk result (λ v. v.items ≡ range_with_len 0 end) }
 {

@@ -55,7 +55,7 @@ module _ (out_old out_new : Writer) (err_old err_new : Writer) (status : Status)
       → PrintsOrStarves (between out_old out_old) (between err_old err_new) shown status
   nothing_shown shown told = inr ((([], shown.out, refl, Appends-nil out_old.held), refl), told)
 
-  -- the line of a fault alone, or want of memory
+  -- the line of a fault alone, or memory ran out
   pub refusal_shown : (words : List ℕ) → TellsMessage (between err_old err_new) (error_line words) Failed status ⊎ TellsMessage (between err_old err_new) (error_line (codes "no memory")) Failed status
       → PrintsOrStarves (between out_old out_old) (between err_old err_new) (shown_refusal words) status
   refusal_shown words (inl told) = inl (inl ((Appends-nil out_old.held, refl), told))

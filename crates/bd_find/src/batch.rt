@@ -63,8 +63,8 @@ fn open_first(alloc: Global, session: &mut Session, asking: Asking) -> Result<u6
     }
 }
 
-/// How the documents are looked for: by the index on that path, which is made, or without one each is looked at. It fails for
-/// want of memory alone.
+/// How the documents are looked for: by the index on that path, which is made, or without one each is looked at. It fails only
+/// if memory runs out.
 fn choose(alloc: Global, session: &mut Session, index: Option<Path>) -> Result<Choice, Refused>
     requires { state_of session.now ≡ new_state }
     ensures choice { IfOk result (λ choice. AwaitsFirst (state_of session.new) (hint_of choice)) }

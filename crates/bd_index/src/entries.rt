@@ -21,7 +21,7 @@ use std::alloc::Global;
 use std::cmp::Ordering;
 
 /// The entries of the documents on a path, in their order; without a null for a field that is missing where the index is
-/// sparse. It fails for want of memory alone.
+/// sparse. It fails only if memory runs out.
 pub(crate) fn entries_of(
     alloc: Global,
     dump: &Dump,

@@ -26,7 +26,7 @@ pub struct Index {
 }
 
 impl Index {
-    /// The index of a dump on a path: an entry for each key of each document. It fails for want of memory alone.
+    /// The index of a dump on a path: an entry for each key of each document. It fails only if memory runs out.
     pub fn build(alloc: Global, dump: &Dump, path: Path) -> Result<Index, NoMemory>
         ensures index { IfOk result (λ index. IsIndexOf dump.now index) }
         ensures path { IfOk result (λ index. index.path ≡ path) }

@@ -14,7 +14,7 @@ use bd_path::{Key, Path, all_key_nodes, compare_keys};
 use bd_value::{NoMemory, Reading};
 use std::alloc::Global;
 
-/// Whether some document has two keys on a path. It fails for want of memory alone.
+/// Whether some document has two keys on a path. It fails only if memory runs out.
 pub(crate) fn has_several(alloc: Global, dump: &Dump, path: &Path) -> Result<bool, NoMemory>
     ensures { IfOk result (λ b. b ≡ is_multikey (names_of path.now) (documents dump.now)) }
 {

@@ -25,7 +25,7 @@ pub struct Places {
 
 impl Index {
     /// The documents with an entry inside the bounds, and how many entries are inside; without bounds those with an entry. Each
-    /// range of the bounds is found by binary search. It fails for want of memory alone.
+    /// range of the bounds is found by binary search. It fails only if memory runs out.
     pub fn places(
         &self,
         alloc: Global,

@@ -38,7 +38,7 @@ pub(crate) fn in_order(
     Ok(ordered)
 }
 
-/// Appends the positions below a count that are in none of the spans, which are in order. It fails for want of memory alone.
+/// Appends the positions below a count that are in none of the spans, which are in order. It fails only if memory runs out.
 pub(crate) fn append_gaps(
     gaps: &mut Vec<Span>,
     spans: &[Span],
@@ -64,7 +64,7 @@ pub(crate) fn append_gaps(
     Ok(())
 }
 
-/// The positions below a count that are in no gap, one span after the other. It fails for want of memory alone.
+/// The positions below a count that are in no gap, one span after the other. It fails only if memory runs out.
 pub(crate) fn between_gaps(
     alloc: Global,
     gaps: Vec<Span>,

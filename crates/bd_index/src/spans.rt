@@ -15,7 +15,7 @@ use bd_value::NoMemory;
 use std::alloc::Global;
 
 impl Index {
-    /// The positions of the entries inside bounds, where there are any; else of all entries. It fails for want of memory alone.
+    /// The positions of the entries inside bounds, where there are any; else of all entries. It fails only if memory runs out.
     pub(crate) fn spans(
         &self,
         alloc: Global,

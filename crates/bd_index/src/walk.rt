@@ -68,7 +68,7 @@ impl Index {
     ghost use Rattle.bd_index.specs.WalkLeft.{walk_left};
 
     /// The places of all documents, each once, in the order of a sort by the path of the index; documents whose sort keys are
-    /// equal in the order of the dump, in both directions. It fails for want of memory alone.
+    /// equal in the order of the dump, in both directions. It fails only if memory runs out.
     pub fn walk<'a>(&'a self, alloc: Global, dump: &'a Dump, dir: Dir) -> Result<Walk<'a>, NoMemory>
         requires index { IsIndexOf dump.now self.now }
         requires whole { self.now.sparse ≡ false }

@@ -76,7 +76,7 @@ abbrev pub StarvesAt : {S : Type 0} → (S → S → Type 0) → (S → List ℕ
     → Type 0
 StarvesAt stays replies s command t = stays s t ⊎ ((reply : List ℕ) × replies s command reply t)
 
--- the reply to a command was not made, for want of memory, and those before it were written
+-- the reply to a command was not made, because memory ran out, and those before it were written
 abbrev pub StopsStarved : {R S : Type 0} → (R → Reader) → (R → Option (List ℕ) → R → Type 0) → (S → S → Type 0)
     → (S → List ℕ → List ℕ → S → Type 0) → Limits → R → R → Over Writer → S → S → Type 0
 StopsStarved {S = S} state gives stays replies limits old new out s t =

@@ -19,6 +19,6 @@ path_of_names names =
 abbrev pub path_of : List ℕ → Result Names PathFault
 path_of text = path_of_names (components_of text)
 
--- a refusal is that of the text, or for want of memory
+-- a refusal is that of the text, or that memory ran out
 abbrev pub RefusesOrStarves : {P : Type 0} → Result P PathFault → Result Names PathFault → Type 0
 RefusesOrStarves answer path = IfErr answer (λ fault. (fault ≡ NoMemory) ⊎ (path ≡ Err fault))

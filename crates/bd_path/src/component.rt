@@ -18,7 +18,7 @@ pub struct Component {
 }
 
 impl Component {
-    /// The component of this name. It fails for want of memory alone.
+    /// The component of this name. It fails only if memory runs out.
     pub(crate) fn new(alloc: Global, name: &str) -> Result<Self, NoMemory>
         ensures { IfOk result (λ c. string_bytes c.name ≡ name.now) }
     {
@@ -28,7 +28,7 @@ impl Component {
         })
     }
 
-    /// The same component once more. It fails for want of memory alone.
+    /// The same component once more. It fails only if memory runs out.
     pub(crate) fn try_copy(&self, alloc: Global) -> Result<Self, NoMemory>
         ensures { IfOk result (λ c. string_bytes c.name ≡ string_bytes self.now.name) }
     {

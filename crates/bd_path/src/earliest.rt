@@ -45,7 +45,7 @@ pub fn sort_key_node<N: Reading>(doc: N, path: &Path, dir: Dir) -> Key<N>
     }
 }
 
-/// The same key in memory. It fails for want of memory alone.
+/// The same key in memory. It fails only if memory runs out.
 pub fn sort_key<N: Reading>(alloc: Global, doc: N, path: &Path, dir: Dir) -> Result<Value, NoMemory>
     ensures { IfOk result (λ v. tree_of v ≡ sort_key dir (N.tree doc) (names_of path.now)) }
 {

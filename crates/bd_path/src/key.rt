@@ -41,7 +41,7 @@ pub fn compare_keys<M: Reading, N: Reading>(a: Key<M>, b: Key<N>) -> Ordering
     }
 }
 
-/// A key in memory. It fails for want of memory alone.
+/// A key in memory. It fails only if memory runs out.
 pub fn key_value<N: Reading>(alloc: Global, key: Key<N>) -> Result<Value, NoMemory>
     ensures { IfOk result (λ v. tree_of v ≡ key_tree N.tree key) }
 {

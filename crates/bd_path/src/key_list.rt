@@ -23,8 +23,8 @@ use bd_value::{Kind, NoMemory, Reading, Value};
 use std::alloc::{AllocError, Global};
 
 /// The keys of a document on a path, as nodes of the document: the elements of an array that the path reaches, every other
-/// value itself, a null for a field that is missing. A key that equals an earlier one is dropped. It fails for want of memory
-/// alone.
+/// value itself, a null for a field that is missing. A key that equals an earlier one is dropped. It fails only if memory
+/// runs out.
 pub fn key_nodes<N: Reading>(alloc: Global, doc: N, path: &Path) -> Result<Vec<Key<N>>, NoMemory>
     ensures trees { IfOk result (λ ks. key_trees N.tree ks.items ≡ keys (N.tree doc) (names_of path.now)) }
     ensures kept { IfOk result (λ ks. AreKeysOf N.source (N.source doc) ks.items) }
@@ -34,7 +34,7 @@ pub fn key_nodes<N: Reading>(alloc: Global, doc: N, path: &Path) -> Result<Vec<K
     distinct_keys(alloc, &all)
 }
 
-/// The same without a null for a field that is missing: what a sparse index has. It fails for want of memory alone.
+/// The same without a null for a field that is missing: what a sparse index has. It fails only if memory runs out.
 pub fn sparse_keys<N: Reading>(alloc: Global, doc: N, path: &Path) -> Result<Vec<Key<N>>, NoMemory>
     ensures trees { IfOk result (λ ks. key_trees N.tree ks.items ≡ sparse_keys_of (N.tree doc) (names_of path.now)) }
     ensures kept { IfOk result (λ ks. AreKeysOf N.source (N.source doc) ks.items) }
@@ -46,7 +46,7 @@ pub fn sparse_keys<N: Reading>(alloc: Global, doc: N, path: &Path) -> Result<Vec
 
 /// The keys in their order, some equal ones too, without a null for a field that is missing where the index is sparse. An index
 /// that sorts them finds equal ones side by side then, where `key_nodes` takes the square of their number to drop them. It fails
-/// for want of memory alone.
+/// only if memory runs out.
 pub fn all_key_nodes<N: Reading>(
     alloc: Global,
     doc: N,
@@ -73,7 +73,7 @@ pub fn all_key_nodes<N: Reading>(
     }
 }
 
-/// The keys in memory. It fails for want of memory alone.
+/// The keys in memory. It fails only if memory runs out.
 pub fn keys<N: Reading>(alloc: Global, doc: N, path: &Path) -> Result<Vec<Value>, NoMemory>
     ensures { IfOk result (λ ks. map tree_of ks.items ≡ keys (N.tree doc) (names_of path.now)) }
 {

@@ -44,7 +44,7 @@ impl Path {
         Ok(Path { text, components })
     }
 
-    /// The same path once more, with no text read again. It fails for want of memory alone.
+    /// The same path once more, with no text read again. It fails only if memory runs out.
     pub fn try_copy(&self, alloc: Global) -> Result<Path, NoMemory>
         ensures names { IfOk result (λ p. names_of p ≡ names_of self.now) }
         ensures text { IfOk result (λ p. string_bytes p.text ≡ string_bytes self.now.text) }
@@ -84,7 +84,7 @@ impl Path {
     }
 }
 
-/// The names between the full stops of a text. It fails for want of memory alone.
+/// The names between the full stops of a text. It fails only if memory runs out.
 fn cut(alloc: Global, text: &str) -> Result<Vec<&str>, NoMemory>
     ensures { IfOk result (λ v. map (λ name. name.now) v.items ≡ components_of text.now) }
 {
@@ -103,7 +103,7 @@ fn has_empty(names: &[&str]) -> bool
     false
 }
 
-/// The components of these names. It fails for want of memory alone.
+/// The components of these names. It fails only if memory runs out.
 fn named(alloc: Global, names: &[&str]) -> Result<Vec<Component>, NoMemory>
     ensures { IfOk result (λ v. component_names v.items ≡ map (λ name. name.now) names.now) }
 {
@@ -114,7 +114,7 @@ fn named(alloc: Global, names: &[&str]) -> Result<Vec<Component>, NoMemory>
     Ok(components)
 }
 
-/// The same components once more. It fails for want of memory alone.
+/// The same components once more. It fails only if memory runs out.
 fn copied(alloc: Global, components: &[Component]) -> Result<Vec<Component>, NoMemory>
     ensures { IfOk result (λ v. component_names v.items ≡ component_names components.now) }
 {

@@ -31,7 +31,7 @@ impl PathFault {
         }
     }
 
-    /// The number by which a reply tells it, 1 or 2; 3 for want of memory.
+    /// The number by which a reply tells it, 1 or 2; 3 for out of memory.
     pub fn number(self) -> u32
         ensures { result ≡ path_fault_number self }
     {

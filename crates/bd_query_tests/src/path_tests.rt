@@ -25,7 +25,7 @@ fn cuts_and_copies_a_path(rt: HostRuntime) -> Result<(), Fail> {
     Ok(())
 }
 
-/// No text is refused for want of memory here.
+/// No text is refused because memory runs out here.
 #[test]
 fn tells_why_a_text_is_no_path(rt: HostRuntime) -> Result<(), Fail> {
     let alloc = rt.alloc();

@@ -47,7 +47,7 @@ impl<'a> RawDoc<'a> {
         self.elements().find(name)
     }
 
-    /// The document in memory. It fails for want of memory alone.
+    /// The document in memory. It fails only if memory runs out.
     pub fn to_document(self, alloc: Global) -> Result<Document, NoMemory>
         ensures { IfOk result (λ d. pairs d ≡ pairs_in (stands self.entry.sound)) }
     {
@@ -70,7 +70,7 @@ impl<'a> RawValue<'a> {
         }
     }
 
-    /// The value in memory. It fails for want of memory alone.
+    /// The value in memory. It fails only if memory runs out.
     pub fn to_value(self, alloc: Global) -> Result<Value, NoMemory>
         ensures { IfOk result (λ v. tree_of v ≡ stands self.entry.sound) }
     {

@@ -31,7 +31,7 @@ pub struct Token {
 }
 
 impl Token {
-    /// Its text: 60 characters of base64. It fails for want of memory alone.
+    /// Its text: 60 characters of base64. It fails only if memory runs out.
     pub fn text(&self, alloc: Global) -> Result<String, NoMemory>
         ensures text { IfOk result (λ t. string_bytes t ≡ token_text self.now) }
         ensures size { IfOk result (λ t. length (string_bytes t) ≡ 60) }

@@ -10,7 +10,7 @@ use bd_reply::{LineRefusal, Reply};
 use bd_value::NoMemory;
 use std::alloc::AllocError;
 
-/// Makes a call. It fails for want of memory alone, and then the session is as it was.
+/// Makes a call. It fails only if memory runs out, and then the session is as it was.
 pub(crate) fn perform(session: &mut Session, call: Call) -> Result<Reply, NoMemory>
     ensures performs { IsPerformed (session_call (dump_of session.old) call) session.old result session.new }
 {

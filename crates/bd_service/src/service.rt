@@ -48,7 +48,7 @@ impl Service {
         }
     }
 
-    /// The reply to a line. It fails for want of memory alone, and then the session is as it was.
+    /// The reply to a line. It fails only if memory runs out, and then the session is as it was.
     fn answer(&mut self, line: &[u8]) -> Result<Reply, NoMemory>
         ensures answers { IfOk result (λ r. Answers (bytes_of (service_dump self.old)) (documents (service_dump self.old)) (service_state self.old)
             line.now (line_reply (documents (service_dump self.old)) r) (service_state self.new)) }

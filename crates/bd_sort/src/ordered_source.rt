@@ -19,7 +19,7 @@ use bd_value::NoMemory;
 use std::alloc::Global;
 
 /// The places of the documents that match and come after the last one given, at most so many, from a source that hands them out
-/// in the order of the sort. It stops where the last one is found, and sorts nothing. It fails for want of memory alone.
+/// in the order of the sort. It stops where the last one is found, and sorts nothing. It fails only if memory runs out.
 pub fn places_in_order<P: PlaceSource + Drop>(
     alloc: Global,
     dump: &Dump,

@@ -28,7 +28,7 @@ const FEWEST: usize = 256;
 const TIMES: usize = 4;
 
 /// The places of the documents that match and come after the last one given, in the order of the sort, at most so many. It
-/// takes memory for some more places than are wanted, and not for all that match. It fails for want of memory alone.
+/// takes memory for some more places than are wanted, and not for all that match. It fails only if memory runs out.
 pub fn sorted_places<P: PlaceSource + Drop>(
     alloc: Global,
     dump: &Dump,

@@ -12,7 +12,7 @@ use crate::scalar::Scalar;
 use crate::tree::Tree;
 use std::alloc::Global;
 
-/// What a node stands for, in memory. It fails for want of memory alone.
+/// What a node stands for, in memory. It fails only if memory runs out.
 #[cycle(copying)]
 pub fn to_value<N: Reading>(alloc: Global, node: N) -> Result<Value, NoMemory>
     ensures { IfOk result (λ v. tree_of v ≡ N.tree node) }
@@ -24,14 +24,14 @@ pub fn to_value<N: Reading>(alloc: Global, node: N) -> Result<Value, NoMemory>
     }
 }
 
-/// A copy of a value. It fails for want of memory alone.
+/// A copy of a value. It fails only if memory runs out.
 pub fn try_copy(alloc: Global, value: &Value) -> Result<Value, NoMemory>
     ensures { IfOk result (λ v. tree_of v ≡ tree_of value.now) }
 {
     to_value(alloc, Tree::Value(value))
 }
 
-/// The document of these pairs, in memory. It fails for want of memory alone.
+/// The document of these pairs, in memory. It fails only if memory runs out.
 #[cycle(copying)]
 pub fn to_document<N: Reading>(alloc: Global, fields: N::Rest) -> Result<Document, NoMemory>
     ensures { IfOk result (λ d. pairs d ≡ N.left fields) }

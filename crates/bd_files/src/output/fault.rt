@@ -33,7 +33,7 @@ impl From<DeviceFault> for OutputFault {
     }
 }
 
-/// Whether a fault is want of memory, which is no fault of the input.
+/// Whether a fault is that memory ran out, which is no fault of the input.
 pub fn is_want_of_memory(fault: &Fault) -> bool
     ensures { IsTrue result ↔ (fault.now.kind ≡ kinds.NoMemory) }
 {
