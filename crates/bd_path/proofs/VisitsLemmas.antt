@@ -31,6 +31,12 @@ use Rattle.bd_path.proofs.ReachLemmas as down
 pub drop_at : (path : Names) (k : ℕ) (n : List ℕ) → slice_get path k ≡ Some n → drop k path ≡ n ∷ drop (suc k) path
 drop_at path k n e = drop-cons path k n (slice_get_within path k n e) ∙ ap (λ (x : List ℕ). x ∷ drop (suc k) path) (get_or_from_slice_get path k n n e)
 
+-- the index of the component at a position
+pub index_at : (cs : List Component) (k : ℕ) (c d : Component) (o : Option ℕ) → k < length cs → c ≡ get_or cs k c → (get_or cs k d).index ≡ o → held_index (string_bytes c.name) ≡ o
+index_at cs k c d o l is e =
+    let here = get_or_from_slice_get cs k c d (slice_get_read cs (length cs) k c refl l is) in
+    sym c.known ∙ ap (λ (y : Component). y.index) (sym here) ∙ e
+
 -- the positions of a walk, when they are known
 pub step_of : {step : Step} {path : Names} {p : Positions} {k : ℕ} → LedTo step path p k → IsStepOf step path (From p) k
 step_of by = record { before = by.before; name = by.led.name; after = by.after; here = by.led.here; is_there = by.led.is_there; takes = by.led.takes }
