@@ -48,8 +48,8 @@ through_map {A = A} {B = B} f make (Some q) = go (f q.0)
     go (Some x) = refl
 
 -- the same of a first member and those after it
-member_same : {A : Type 0} (f g : json.Members → Option A) (k : List ℕ) (depth n : ℕ) (ts : List Token) → ((j : Json) (ms : json.Members) → f (json.member k j ms) ≡ g (json.member k j ms))
-    → through f (after_key depth n (Some k) ts) ≡ through g (after_key depth n (Some k) ts)
+member_same : {A : Type 0} (f g : json.Members → Option A) (k : List ℕ) (depth n : ℕ) (ts : List Token)
+    → ((j : Json) (ms : json.Members) → f (json.member k j ms) ≡ g (json.member k j ms)) → through f (after_key depth n (Some k) ts) ≡ through g (after_key depth n (Some k) ts)
 member_same f g k depth n ts h = turn (value depth ts)
   where
     turn : (v : Option (Json × List Token)) → through f (option_and_then (λ p. parse_map (json.member k p.0) (members (value depth) n p.1)) v)
@@ -158,7 +158,8 @@ one_more_item ts t (Some p) = ap (λ x. Some (x, p.1)) (items_push ts t p.0)
 
 -- what stands after a name
 field_step : (k : List ℕ) (room depth n : ℕ) (ts : List Token)
-    → through (wrap_fields room) (after_key depth n (Some k) ts) ≡ then (through (wrap room) (value depth ts)) (λ t r. with_one (add_field k) t (through (wrap_fields room) (members (value depth) n r)))
+    → through (wrap_fields room) (after_key depth n (Some k) ts)
+    ≡ then (through (wrap room) (value depth ts)) (λ t r. with_one (add_field k) t (through (wrap_fields room) (members (value depth) n r)))
 field_step k room depth n ts =
     turn json.Members Fields (json.member k) (wrap_fields room) (add_field k) room (λ j ms. refl) (λ o. refl) (λ t. refl) (members (value depth) n) (value depth ts)
 

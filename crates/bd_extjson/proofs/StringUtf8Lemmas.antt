@@ -14,10 +14,12 @@ abbrev pub Holds : {A : Type 0} → (A → Type 0) → Option A → Type 0
 Holds P None = Unit {0}
 Holds P (Some x) = P x
 
+-- and so of what f makes of it
 pub then : {A B : Type 0} {P : A → Type 0} (Q : B → Type 0) (f : A → Option B) (o : Option A) → ((x : A) → P x → Holds Q (f x)) → Holds P o → Holds Q (option_and_then f o)
 then Q f None h p = tt
 then Q f (Some x) h p = h x p
 
+-- P holds of a choice where it holds of the one that the test chooses
 pub when : {A : Type 0} (P : A → Type 0) (b : Bool) (x y : A) → (b ≡ true → P x) → (b ≡ false → P y) → P (cond b x y)
 when P true x y p q = p refl
 when P false x y p q = q refl
