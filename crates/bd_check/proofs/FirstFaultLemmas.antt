@@ -461,7 +461,8 @@ module _ (room : ℕ) (nested : Nested) (below : NestedTakes room nested) where
       let value = scoped d.text_bytes (framed d.body) in
       record { tree = code_scope d.text_bytes d.fields; value = value; spells = (d.body, d.spell, refl, d.text_fits); takes = d.takes; kinded = refl; shallow = omega arith }
 
-  typed_takes : (type : ElementType) (q e : ℕ) (bytes rest : List ℕ) → IsBytes bytes → past_typed nested type q e bytes ≡ Ok rest → (kind : Kind) × (type ≡ types.Kept kind) × TakesValue room kind bytes rest
+  typed_takes : (type : ElementType) (q e : ℕ) (bytes rest : List ℕ) → IsBytes bytes → past_typed nested type q e bytes ≡ Ok rest
+      → (kind : Kind) × (type ≡ types.Kept kind) × TakesValue room kind bytes rest
   typed_takes types.Double q e bytes rest fits is = absurd cc
   typed_takes types.Decimal128 q e bytes rest fits is = absurd cc
   typed_takes (types.Kept kind) q e bytes rest fits is = (kind, refl, value_takes kind q e bytes rest fits is)

@@ -117,7 +117,8 @@ data_again at k s rest lt = of (k == 2) refl
         let size : length (number (length s) ++ s) ≡ 4 + length s = omega (arith, length-append (number (length s)) s, number_length (length s)) in
         let few : length (number (length s) ++ s) < 2 ^ 31 = rw is at lt in
         let long : ltb (length (number (length s) ++ s)) 4 ≡ false = le-ltb _ _ (omega (arith, size)) in
-        let inner : number_of (held ++ rest) ≡ length held - 4 = ap number_of (append_assoc (number (length s)) s rest) ∙ number_front (length s) (s ++ rest) (omega (arith, size, few)) ∙ omega (arith, size) in
+        let inner : number_of (held ++ rest) ≡ length held - 4 =
+        ap number_of (append_assoc (number (length s)) s rest) ∙ number_front (length s) (s ++ rest) (omega (arith, size, few)) ∙ omega (arith, size) in
         rw (is, long, eq-eqb (number_of (held ++ rest)) (length held - 4) inner, drop_at held rest (length held) refl) refl
     of false is = rw (is, drop_at s rest (length s) refl) refl
 
@@ -126,8 +127,9 @@ unfolding past_binary
 binary_again e k s rest lt =
     let v = (number (length (data_of k s)) ++ k ∷ data_of k s) ++ rest in
     let n = binary_count k (data_of k s) rest lt in
+    let count = number_length (length (data_of k s)) in
     let size : length v ≡ 5 + length (data_of k s) + length rest =
-    omega (arith, ap length (binary_whole k (data_of k s) rest), length-append (number (length (data_of k s))) (k ∷ (data_of k s ++ rest)), number_length (length (data_of k s)), length-append (data_of k s) rest) in
+    omega (arith, ap length (binary_whole k (data_of k s) rest), length-append (number (length (data_of k s))) (k ∷ (data_of k s ++ rest)), count, length-append (data_of k s) rest) in
     let long : ltb (length v) 5 ≡ false = le-ltb _ _ (omega (arith, size)) in
     let tests = or_from (ltb 2147483647 (number_of v)) (ltb (length v) (5 + number_of v)) (le-ltb _ _ (omega (arith, n, lt))) (le-ltb _ _ (omega (arith, n, size))) in
     let after : drop 5 v ≡ data_of k s ++ rest = ap (drop 5) (binary_whole k (data_of k s) rest) ∙ after_five (length (data_of k s)) k (data_of k s ++ rest) in

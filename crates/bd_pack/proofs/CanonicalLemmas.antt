@@ -167,7 +167,8 @@ no_wrapper (c ∷ cs) p = rw p refl
 -- ---- scalars
 
 -- a wrapper in three pieces
-pub wrapped : (front value back whole text inside after rest : List ℕ) → text ≡ front ++ inside → inside ≡ value ++ after → after ≡ back ++ rest → whole ≡ front ++ (value ++ back) → text ≡ whole ++ rest
+pub wrapped : (front value back whole text inside after rest : List ℕ) → text ≡ front ++ inside → inside ≡ value ++ after → after ≡ back ++ rest
+    → whole ≡ front ++ (value ++ back) → text ≡ whole ++ rest
 wrapped front value back whole text inside after rest a b c spelled = rw (a, b, c, spelled) (simp append_assoc)
 
 pub number_read : (make : ℤ → Scalar) (front back text inside after rest : List ℕ) (z y : ℤ) → text ≡ front ++ inside → inside ≡ quoted (signed_decimal z) ++ after → after ≡ back ++ rest → z ≡ y
@@ -178,9 +179,12 @@ nested : (a b c d e : List ℕ) → ((a ++ (b ++ c)) ++ d) ++ e ≡ a ++ (b ++ (
 nested a b c d e = simp append_assoc
 
 pub binary_text : (payload : List ℕ) (subtype : ℕ)
-    → scalar_text (trees.binary subtype payload) ≡ codes "{\"$binary\":{\"base64\":" ++ (quoted (encode_of standard payload) ++ (codes ",\"subType\":" ++ (quoted (hex_text (subtype ∷ [])) ++ codes "}}")))
+    → scalar_text (trees.binary subtype payload) ≡ codes "{\"$binary\":{\"base64\":" ++ (quoted (encode_of standard payload)
+    ++ (codes ",\"subType\":" ++ (quoted (hex_text (subtype ∷ [])) ++ codes "}}")))
 unfolding scalar_text base64_text quoted escape_byte
-binary_text payload subtype = ap (λ x. codes "{\"$binary\":{\"base64\":" ++ x) (nested (quoted (encode_of standard payload)) (codes ",\"subType\":") (quoted (hex_text (subtype ∷ []))) (125 ∷ []) (125 ∷ []))
+binary_text payload subtype =
+    ap (λ x. codes "{\"$binary\":{\"base64\":" ++ x)
+    (nested (quoted (encode_of standard payload)) (codes ",\"subType\":") (quoted (hex_text (subtype ∷ []))) (125 ∷ []) (125 ∷ []))
 
 pub leaf_canonical : (s : Scalar) → ScalarFitsType s → ScalarHasUtf8 s → zero_in_scalar s ≡ false → IsCanonical 0 (leaf s)
 leaf_canonical s fits utf8 none = record { fits = fits; utf8 = utf8; determined = tt; no_zero = none; shallow = omega arith }

@@ -9,4 +9,5 @@ pub returns : goal.returns
 unfolding scalar_text quoted escape_byte
 returns c =
     let id = c.in_ok-id.id in
-    (wrapped (codes "{\"$oid\":") (quoted (hex_text id)) (codes "}") (scalar_text (trees.object_id id)) _ _ _ _ c.in_ok-after_word.ensures c.in_ok-id.ensures.0 c.in_ok-after_word-2.ensures refl, c.in_ok-id.ensures.1)
+    let whole = scalar_text (trees.object_id id) in
+    (wrapped (codes "{\"$oid\":") (quoted (hex_text id)) (codes "}") whole _ _ _ _ c.in_ok-after_word.ensures c.in_ok-id.ensures.0 c.in_ok-after_word-2.ensures refl, c.in_ok-id.ensures.1)
