@@ -15,7 +15,6 @@ use Rattle.std.specs.declared.alloc.Global.{Global}
 use Rattle.bd_value.specs.View.{tree_of}
 use Rattle.bd_value.specs.declared.document.Value.TheVariants as values
 use Rattle.bd_value.specs.declared.document.Value.TheFolds as folds
-use Rattle.bd_value.proofs.ViewLemmas.{tree_of-Array}
 use Rattle.bd_wrapper.specs.Whole.{whole_64}
 use Rattle.bd_wrapper.specs.Progress.{through, after_key, FailsAtTokens, GivesValue, GivesTokens}
 use Rattle.bd_wrapper.specs.declared.trouble.Trouble.{Trouble}
@@ -274,6 +273,3 @@ bool_is b = search (rules, folds.the_lemmas)
 
 pub null_is : tree_of values.Null ≡ leaf tree.null
 null_is = search (rules, folds.the_lemmas)
-
--- what a value is by its first token
-pub ruleset value_steps = (read_string, read_boolean, read_null, too_deep, too_deep_object, array_refused, array_read, object_read, tree_of-Array, text_is, bool_is, null_is)

@@ -93,7 +93,6 @@ fn end_object(reader: &mut Reader<'_>) -> Result<(), Trouble>
 
 /// One value. At most `room` documents and arrays stand in one another, and `depth` brackets.
 #[cycle(reading)]
-#[tactic(auto, using(crate::proofs::StepLemmas::value_steps))]
 pub(crate) fn read_value(
     alloc: Global,
     reader: &mut Reader<'_>,

@@ -11,7 +11,7 @@ use Rattle.json.specs.Json.{value, items, parse_map, after_end_array}
 use Rattle.json.proofs.Grammar.{value_is, items_end, read_key-shorter, members_no_key}
 use Rattle.bd_value.specs.Tree.{leaf, field}
 use Rattle.bd_value.specs.View.{tree_of, pairs}
-use Rattle.bd_value.proofs.ViewLemmas.{tree_of-Doc}
+use Rattle.bd_value.proofs.ViewLemmas.{tree_of-Doc, tree_of-Array}
 use Rattle.bd_extjson.specs.Meaning.{wrap, wrap_items, wrap_object, wrap_fields}
 use Rattle.bd_wrapper.specs.Progress.{through, after_key}
 use Rattle.bd_extjson.proofs.StepLemmas as steps
@@ -119,6 +119,36 @@ read_value-returns-in-Number-clause-gives t c = grind (arith, steps.read_number)
 pub read_value-returns-in-EndObject-clause-gives :
     goal.read_value-returns-in-EndObject-clause-gives
 read_value-returns-in-EndObject-clause-gives t c = grind (arith, value_is)
+
+pub read_value-returns-in_ok-read_items-in-BeginArray-clause-gives :
+    goal.read_value-returns-in_ok-read_items-in-BeginArray-clause-gives
+read_value-returns-in_ok-read_items-in-BeginArray-clause-gives t c = grind (arith, steps.array_read, tree_of-Array)
+
+pub read_value-returns-else-depth-eq0-2-clause-gives :
+    goal.read_value-returns-else-depth-eq0-2-clause-gives
+read_value-returns-else-depth-eq0-2-clause-gives t c = grind (arith, steps.object_read)
+
+pub read_value-returns-in_ok-from_str-in-String-clause-gives :
+    goal.read_value-returns-in_ok-from_str-in-String-clause-gives
+read_value-returns-in_ok-from_str-in-String-clause-gives t c = grind (arith, steps.read_string, steps.text_is)
+
+pub read_value-returns-in-Bool-clause-gives : goal.read_value-returns-in-Bool-clause-gives
+read_value-returns-in-Bool-clause-gives t c = grind (arith, steps.read_boolean, steps.bool_is)
+
+pub read_value-returns-in-Null-clause-gives : goal.read_value-returns-in-Null-clause-gives
+read_value-returns-in-Null-clause-gives t c = grind (arith, steps.read_null, steps.null_is)
+
+pub read_value-returns-then-depth-eq0-clause-gives :
+    goal.read_value-returns-then-depth-eq0-clause-gives
+read_value-returns-then-depth-eq0-clause-gives t c = grind (arith, steps.too_deep)
+
+pub read_value-returns-then-depth-eq0-2-clause-gives :
+    goal.read_value-returns-then-depth-eq0-2-clause-gives
+read_value-returns-then-depth-eq0-2-clause-gives t c = grind (arith, steps.too_deep_object)
+
+pub read_value-returns-then-room-eq0-clause-gives :
+    goal.read_value-returns-then-room-eq0-clause-gives
+read_value-returns-then-room-eq0-clause-gives t c = grind (arith, steps.array_refused)
 
 -- ---- read_wrapper
 
