@@ -270,6 +270,10 @@ unfolding clap_on_literals
 file_plain name [] e = (refl, refl)
 file_plain name (x ∷ xs) e = file_word name x xs (x == 45) refl e
 
+file_escaped : (name file : Text) → Takes name (codes "--" ∷ file ∷ []) file
+unfolding clap_on_literals
+file_escaped name file = (refl, refl)
+
 -- the words of a line after its first one go to the command
 abbrev Enters : Text → (Text → OrderView) → List Text → Type 0
 Enters name order words =
@@ -282,6 +286,13 @@ enters_plain name order (inl e) file = rw (e.0, e.1) (refl, refl)
 enters_plain name order (inr (inl e)) file = rw (e.0, e.1) (refl, refl)
 enters_plain name order (inr (inr (inl e))) file = rw (e.0, e.1) (refl, refl)
 enters_plain name order (inr (inr (inr e))) file = rw (e.0, e.1) (refl, refl)
+
+enters_escaped : (name : Text) (order : Text → OrderView) → IsFileCommand name order → (file : Text) → Enters name order (codes "--" ∷ file ∷ [])
+unfolding clap_on_literals
+enters_escaped name order (inl e) file = rw (e.0, e.1) (refl, refl)
+enters_escaped name order (inr (inl e)) file = rw (e.0, e.1) (refl, refl)
+enters_escaped name order (inr (inr (inl e))) file = rw (e.0, e.1) (refl, refl)
+enters_escaped name order (inr (inr (inr e))) file = rw (e.0, e.1) (refl, refl)
 
 taken : (name file : Text) (order : Text → OrderView) (words : List Text) → Enters name order words → Takes name words file → IsTaken (name ∷ words) (order file)
 taken name file order words enters takes = (enters.0 ∙ ap (λ ks. or_else ks []) takes.0, enters.1 ∙ ap (option_map order) takes.1)
