@@ -461,7 +461,7 @@ def fed(words: list[str], part: bytes, count: int, last: bytes) -> tuple[int, by
 
 
 def test_too_long(tests: Tests, failing: Failing) -> None:
-    """What reads as it goes takes 4,294,967,295 bytes, and tells one more with the count of all documents before it."""
+    """An input has at most 4,294,967,295 bytes. What reads as it goes reports one more with the count of all documents before it."""
     text = b"x" * 65524
     # A document of 65,537 bytes: 65,535 of them are as many bytes as an input may have.
     one = (65537).to_bytes(4, "little") + b"\2a\0" + (65525).to_bytes(4, "little") + text + b"\0\0"
@@ -471,6 +471,9 @@ def test_too_long(tests: Tests, failing: Failing) -> None:
         tests.want(f"{name} of the longest input", ran == (0, count), ran)
         ran = fed(words, part, 4369, b"\5")
         tests.want(f"{name} of an input of one byte more", ran == (1, b"bsonfind: input too long\n" + count), ran)
+    for name, words in (("find", ["find", "-"]), ("pack", ["pack", "-"]), ("serve", ["serve", "/dev/stdin"])):
+        ran = fed(words, part, 4369, b"\5")
+        tests.want(f"{name} of an input of one byte more", ran == (1, b"bsonfind: input too long\n"), ran)
 
 
 if __name__ == "__main__":

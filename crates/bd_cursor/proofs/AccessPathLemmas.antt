@@ -1,7 +1,7 @@
 -- Which indexes serve, and the access path that is taken.
 use Rattle.std.proofs.Common.{◌≡◌, ℕ, Bool, true, false, cond, List, [], ◌∷◌, Option, Some, None, refl, sym, ap, ap₂, ◌∙◌, subst, suc, arith, ◌+◌, ◌<◌, zero, length}
 use Rattle.std.proofs.Common.{get_or, map}
-use Rattle.std.specs.Prelude.{◌==◌, ◌&&◌, not, string_bytes, is_some, nat_lt, ◌||◌}
+use Rattle.std.specs.Prelude.{◌==◌, ◌&&◌, not, string_bytes, is_some, nat_lt, ◌||◌, if◌then◌else◌}
 use Rattle.std.specs.{Str.bytes_eq, List.join_with_byte, List.list_any, List.position, List.prefix_len, List.position_or_len}
 use Rattle.std.proofs.lemmas.{Bool.and_from, Bool.and_parts, Bool.ne_eqb, Bool.lt-ltb, Bool.false_from_ne_true, Bool.not-true, Bool.or_parts}
 use Rattle.std.proofs.lemmas.{List.Splits.join_with_byte-slice_split, Slice.Eq.bytes_eq-Decides, List.get_or-map, List.length-map}
@@ -10,14 +10,18 @@ use Rattle.bd_path.specs.{Earliest.SortPath, Names.Names, Names.components_of, P
 use Rattle.bd_path.specs.{declared.path.Path.Path}
 use Rattle.bd_index.specs.{declared.index.Index.Index, IndexView.IsIndexOf}
 use Rattle.bd_cursor.specs.AccessPath.{is_same_path, walk_dir, AccessPath, bounded, first_walked, mark_bounds, named_access, scanned, serves_by}
-use Rattle.bd_cursor.specs.AccessPath.{serving_bounds, walk_or, walked, access_on}
-use Rattle.bd_cursor.specs.{Explanation.index_mark, AccessView.HasSortOrder}
-use Rattle.bd_value.specs.Tree.{Doc}
+use Rattle.bd_cursor.specs.AccessPath.{first_bounded, serving_bounds, walk_or, walked, access_on}
+use Rattle.bd_cursor.specs.{AccessPath.mark_names, Explanation.index_mark, AccessView.HasMatchesWithin, AccessView.HasSortOrder}
+use Rattle.bd_value.specs.Tree as trees
+use Rattle.bd_value.specs.Tree.{Doc, Tree, leaf}
+use Rattle.bd_bson.specs.Collection.{documents}
+use Rattle.bd_filter.specs.FilterView.{filter_tree}
+use Rattle.bd_index.specs.Entries.{is_multikey}
 use Rattle.bd_answer.specs.Session.{IndexMark, is_on}
 use Rattle.bd_bson.specs.declared.collection.Dump.{Dump}
 use Rattle.bd_filter.specs.Filter.{Filter}
 use Rattle.bd_request.specs.declared.request.Request.{Request}
-use Rattle.bd_bounds.specs.Bounds.{KeyBounds}
+use Rattle.bd_bounds.specs.Bounds.{KeyBounds, bounds}
 
 -- ---- the same path
 
@@ -84,6 +88,57 @@ walk_leads dump r i dir h e = let w = walk_is i (sort_paths r.sort.items) dir e 
 pub named_other : (ds : List Doc) (f : Filter) (ss : List SortPath) (m : IndexMark) → None ≡ serving_bounds m (mark_bounds ds f m)
     → named_access ds f ss m ≡ cond m.is_sparse scanned (walk_or m (walk_dir m ss) (bounded m None))
 named_other ds f ss m h = ap (λ b. cond b (bounded m (mark_bounds ds f m)) (cond m.is_sparse scanned (walk_or m (walk_dir m ss) (bounded m None)))) (not_served m (mark_bounds ds f m) h)
+
+-- the first index is the one that serves by its bounds
+pub bounded_is_first : (ds : List Doc) (f : Filter) (m : IndexMark) (ms : List IndexMark) (other : AccessPath) (keys : Tree → Bool)
+    → Some keys ≡ serving_bounds m (mark_bounds ds f m) → bounded m (Some keys) ≡ first_bounded ds f (m ∷ ms) other
+bounded_is_first ds f m ms other keys = go (mark_bounds ds f m)
+  where
+    by_test : (t : Bool) (ks : Tree → Bool) → Some keys ≡ (if t then Some ks else None)
+        → bounded m (Some keys) ≡ (if t then bounded m (Some ks) else first_bounded ds f ms other)
+    by_test true ks e = ap (bounded m) e
+    by_test false ks e = absurd cc
+
+    go : (b : KeyBounds) → Some keys ≡ serving_bounds m b → bounded m (Some keys) ≡ (if serves_by m b then bounded m b else first_bounded ds f ms other)
+    go None e = absurd cc
+    go (Some ks) e = by_test (serves_by m (Some ks)) ks e
+
+-- its bounds are those of the filter, and it has what matches
+own_bounds : (dump : Dump) (i : Index) (f : Filter) → IsIndexOf dump i → mark_bounds (documents dump) f (index_mark i) ≡ bounds f (names_of i.path) i.multikey
+own_bounds dump i f h =
+    let names : mark_names (index_mark i) ≡ names_of i.path = sym i.path.cut in
+    ap (λ (n : Names). bounds f n (is_multikey n (documents dump))) names ∙ ap (bounds f (names_of i.path)) (sym h.many)
+
+pub bounds_lead : (dump : Dump) (r : Request) (i : Index) (keys : Tree → Bool) → IsIndexOf dump i
+    → Some keys ≡ serving_bounds (index_mark i) (mark_bounds (documents dump) (filter_tree r.filter) (index_mark i)) → HasMatchesWithin dump r i (Some keys)
+bounds_lead dump r i keys h e =
+    let s = serves (mark_bounds (documents dump) (filter_tree r.filter) (index_mark i)) e in
+    record { of_dump = h; serves = (sym (own_bounds dump i (filter_tree r.filter) h) ∙ s.0, s.1) }
+  where
+    by_test : (t : Bool) (set : Tree → Bool) → (i.sparse && set (leaf trees.null)) ≡ t → Some keys ≡ cond (not t) (Some set) None
+        → (Some set ≡ Some keys) × ((i.sparse && keys (leaf trees.null)) ≡ false)
+    by_test true set is e = absurd (let z : Some keys ≡ None = e in cc)
+    by_test false set is e =
+        let same : set ≡ keys = cc in
+        (ap Some same, ap (λ (k : Tree → Bool). i.sparse && k (leaf trees.null)) (sym same) ∙ is)
+
+    serves : (b : KeyBounds) → Some keys ≡ serving_bounds (index_mark i) b → (b ≡ Some keys) × ((i.sparse && keys (leaf trees.null)) ≡ false)
+    serves None e = absurd (let z : Some keys ≡ None = e in cc)
+    serves (Some set) e = by_test (i.sparse && set (leaf trees.null)) set refl e
+
+-- an index that does not is passed over
+pub bounded_passes : (ds : List Doc) (f : Filter) (m : IndexMark) (ms : List IndexMark) (other : AccessPath)
+    → None ≡ serving_bounds m (mark_bounds ds f m) → first_bounded ds f (m ∷ ms) other ≡ first_bounded ds f ms other
+bounded_passes ds f m ms other = go (mark_bounds ds f m)
+  where
+    by_test : (t : Bool) (ks : Tree → Bool) → None ≡ (if t then Some ks else None)
+        → (if t then bounded m (Some ks) else first_bounded ds f ms other) ≡ first_bounded ds f ms other
+    by_test true ks e = absurd cc
+    by_test false ks e = refl
+
+    go : (b : KeyBounds) → None ≡ serving_bounds m b → (if serves_by m b then bounded m b else first_bounded ds f ms other) ≡ first_bounded ds f ms other
+    go None e = refl
+    go (Some ks) e = by_test (serves_by m (Some ks)) ks e
 
 pub walk_is_first : (ss : List SortPath) (m : IndexMark) (ms : List IndexMark) (other : AccessPath) (dir : Dir) → Some dir ≡ walk_dir m ss → walked m dir ≡ first_walked ss (m ∷ ms) other
 walk_is_first ss m ms other dir e = ap (λ (d : Option Dir). walk_or m d (first_walked ss ms other)) e
