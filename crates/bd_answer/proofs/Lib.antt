@@ -1,10 +1,6 @@
 pub mod OrderLemmas
-pub mod BatchLemmas
 pub mod AnswerLemmas
 pub mod SessionLemmas
 pub mod SourceLemmas
-pub mod UnsortedLemmas
-pub mod FirstsLemmas
 pub mod StableLemmas
 pub mod PartsLemmas
-pub mod SelectionLemmas

@@ -1,7 +1,6 @@
 //! Laws of answers and sessions. The body of each is empty: its contract is the law.
-ghost use Rattle.bd_answer.specs.AnswerLaws.{AnswerAscends, BatchesAreTheFirst, BeforeIsStrict, OrderedAscends, OrderedHasTheMatches, RestOfAnswer, RestOfRest};
-ghost use Rattle.bd_answer.specs.PartsLaw.{AnswerGivesFound, PartsGiveTheWhole, StretchGivesTheWhole};
-ghost use Rattle.bd_answer.specs.SessionLaws.{FindGivesTheAnswer, FindOutlastsWant, ResumeGivesTheRest, ResumeOutlastsWant};
+ghost use Rattle.bd_answer.specs.Laws.{AnswerAscends, BatchesAreTheFirst, BeforeIsStrict, OrderedAscends, OrderedHasTheMatches, RestFollows};
+ghost use Rattle.bd_answer.specs.Laws.{AnswerGivesFound, PartsGiveTheWhole, StretchGivesTheWhole, FindGivesTheAnswer, ResumeGivesTheRest, StarvedLeaveNoTrace};
 
 /// Of two places one comes before the other.
 #[tactic(auto, using(crate::proofs::AnswerLemmas::before_strict))]
@@ -17,16 +16,15 @@ pub fn answers_are_ordered()
 {}
 
 /// The batches of an answer, joined, are its first places, as many as the sizes ask for.
-#[tactic(auto, using(crate::proofs::BatchLemmas::batches_joined))]
+#[tactic(auto, using(crate::proofs::AnswerLemmas::batches_joined))]
 pub fn batches_are_the_first()
     ensures { BatchesAreTheFirst }
 {}
 
 /// A mark tells where an answer goes on: what follows it is what was not given.
-#[tactic(auto, using(crate::proofs::BatchLemmas::rest_of_answer, crate::proofs::BatchLemmas::rest_of_rest))]
+#[tactic(auto, using(crate::proofs::AnswerLemmas::rest_follows))]
 pub fn rests_follow()
-    ensures answer { RestOfAnswer }
-    ensures rest { RestOfRest }
+    ensures { RestFollows }
 {}
 
 /// Over any calls on a session, a cursor gives its answer in batches, as many documents as the sizes ask for, and each token
@@ -34,14 +32,13 @@ pub fn rests_follow()
 pub fn sessions_keep_to_the_answer()
     ensures find { FindGivesTheAnswer }
     ensures resume { ResumeGivesTheRest }
-    ensures find_starved { FindOutlastsWant }
-    ensures resume_starved { ResumeOutlastsWant }
+    ensures starved { StarvedLeaveNoTrace }
 {}
 
 /// A collection may be cut into parts, and each part asked by itself: the same request over what the parts gave, joined, gives
 /// the answer of the whole. So may any stretch of it. `T` is what documents are, and the answers over them are those over their
 /// places.
-#[tactic(auto, using(crate::proofs::PartsLemmas::parts_give, crate::proofs::PartsLemmas::stretch_gives, crate::proofs::SelectionLemmas::answer_gives))]
+#[tactic(auto, using(crate::proofs::PartsLemmas::parts_give, crate::proofs::PartsLemmas::stretch_gives, crate::proofs::PartsLemmas::answer_gives))]
 pub fn parts_give_the_whole<T>()
     ensures parts { PartsGiveTheWhole T }
     ensures stretch { StretchGivesTheWhole T }

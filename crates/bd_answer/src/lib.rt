@@ -12,10 +12,11 @@
 //! assert!(rt; scan.next_place().is_none());
 //! ```
 //!
-//! - `specs/Answer.antt`: the answer of a request, its batches, and what follows a token; `laws` and `specs/AnswerLaws.antt`.
+//! - `specs/Answer.antt`: the answer of a request, its batches, and what follows a token.
 //! - `source`: `PlaceSource`, what hands out places, and `Scan`, which hands out all: `specs/Source.antt`.
-//! - `specs/Session.antt`: a session as a machine; what it always gives: `laws` and `specs/SessionLaws.antt`.
-//! - `specs/PartsLaw.antt`: answers over documents, and collections that are cut into parts, each asked by itself: `laws`.
+//! - `specs/Session.antt`: a session as a machine.
+//! - `laws`, `specs/Laws.antt`: what always holds of answers, of collections that are cut into parts, each asked by itself, and of
+//!   sessions.
 #![tactic(auto)]
 
 mod laws;

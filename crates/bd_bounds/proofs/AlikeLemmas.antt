@@ -3,20 +3,15 @@ use Rattle.std.proofs.Common.{◌≡◌, ◌==◌, Bool, true, false, cond, ◌&
 use Rattle.std.specs.Prelude.{is_some}
 use Rattle.std.specs.Ordering.{ordering_then}
 use Rattle.std.proofs.lemmas.Map.Lookups.{exact_unsigned}
-use Rattle.bd_value.specs.Order.{class_cmp, cmp, equal}
-use Rattle.bd_value.specs.Order.Classes.{class_of, class_of_kind, class_rank}
-use Rattle.bd_value.specs.Parts.{elements_in}
+use Rattle.bd_value.specs.{Order.class_cmp, Order.cmp, Order.equal, Order.class_of, Order.class_of_kind, Order.class_rank, Tree.elements_in}
+use Rattle.bd_value.specs.{Tree.Tree, Tree.leaf, declared.node.Kind.Kind}
 use Rattle.bd_value.specs.Tree as trees
-use Rattle.bd_value.specs.Tree.{Tree, leaf}
-use Rattle.bd_value.specs.declared.kind.Kind.{Kind}
-use Rattle.bd_value.specs.declared.kind.Kind.TheVariants as kinds
-use Rattle.bd_value.proofs.OrderLemmas.LawsLemmas.{cmp_total}
-use Rattle.bd_path.specs.Names.{Names}
-use Rattle.bd_filter.specs.Filter.{Filter, all_of, some_of, none_of, at_path, Filters, no_filters, filter}
-use Rattle.bd_filter.specs.Filter.{Operator, equals, compares, is_in, has_all, has_type, has_size, exists, negates, has_element, has_document}
-use Rattle.bd_filter.specs.Filter.{Operators, no_operators, operator}
-use Rattle.bd_filter.specs.FilterMatch.{is_array, is_related, relates}
-use Rattle.bd_filter.specs.declared.relation.Relation.{Relation}
+use Rattle.bd_value.specs.declared.node.Kind.TheVariants as kinds
+use Rattle.bd_value.proofs.OrderLemmas.{cmp_total}
+use Rattle.bd_path.specs.Reach.{Names}
+use Rattle.bd_filter.specs.Filter.{Filter, all_of, some_of, none_of, at_path, Filters, no_filters, filter, Operator, equals, compares, is_in, has_all, has_type, has_size}
+use Rattle.bd_filter.specs.Filter.{exists, negates, has_element, has_document, Operators, no_operators, operator}
+use Rattle.bd_filter.specs.{FilterMatch.is_array, FilterMatch.is_related, FilterMatch.relates, declared.operand.Relation.Relation}
 use Rattle.bd_bounds.specs.Bounds.{KeyBounds, KeySet, all_bounds, all_element_bounds, bounds, bounds_below, bounds_here, conjunction, disjunction}
 use Rattle.bd_bounds.specs.Bounds.{element_bounds, first_or_undefined, is_among, is_listed, is_of_class, keys_equal_to, keys_of_each, keys_of_equal}
 use Rattle.bd_bounds.specs.Bounds.{keys_of_types, intersection, no_key, union, operator_bounds, rest_after, rest_bounds, some_bounds}

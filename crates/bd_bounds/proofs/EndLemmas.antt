@@ -3,25 +3,20 @@ use Rattle.std.proofs.Common.{◌≡◌, ℕ, ◌-◌, ◌==◌, Bool, true, fal
 use Rattle.std.specs.Prelude.{is_some, nat_le}
 use Rattle.std.specs.List.{list_any, list_all}
 use Rattle.std.proofs.lemmas.Bool.{and_parts, and_from, not-true, or_cases, or_left, or_right}
-use Rattle.bd_value.specs.Kind.{kind_of}
+use Rattle.bd_value.specs.{View.kind_of, Order.class_of, Order.class_of_kind, Order.class_rank, Tree.elements_in, declared.node.Kind.Kind}
 use Rattle.bd_value.specs.Order.{class_cmp, cmp, equal, items_cmp}
-use Rattle.bd_value.specs.Order.Classes.{class_of, class_of_kind, class_rank}
-use Rattle.bd_value.specs.Parts.{elements_in}
-use Rattle.bd_value.specs.Tree as trees
 use Rattle.bd_value.specs.Tree.{Scalar, Tree, leaf, doc, array, code_scope, Items, no_items, item, list_of}
-use Rattle.bd_value.specs.declared.kind.Kind.{Kind}
-use Rattle.bd_value.specs.declared.kind.Kind.TheVariants as kinds
-use Rattle.bd_value.specs.declared.order.classes.Class.TheVariants as classes
-use Rattle.bd_value.proofs.OrderLemmas.LawsLemmas.{plain}
-use Rattle.bd_path.specs.Names.{Names}
-use Rattle.bd_path.specs.Reach.{End, is_document, reach}
-use Rattle.bd_path.proofs.LawsLemmas.{absent}
-use Rattle.bd_path.proofs.MemberLemmas.{In, Found, found_from, any_at}
-use Rattle.bd_filter.specs.Filter.{Operator, equals, compares, is_in, has_all, has_type, has_size, exists}
-use Rattle.bd_filter.specs.Filter.{Operators, no_operators, operator}
-use Rattle.bd_filter.specs.FilterMatch.{accepts, all_accept, any_candidate, any_equal, candidates, is_array, is_nonempty, is_of_size, is_of_type, is_related, is_there, is_value, value_or_null}
-use Rattle.bd_filter.specs.Types.{is_kind, kind_place}
-use Rattle.bd_filter.specs.declared.relation.Relation.{Relation}
+use Rattle.bd_value.specs.Tree as trees
+use Rattle.bd_value.specs.declared.node.Kind.TheVariants as kinds
+use Rattle.bd_value.specs.declared.node.Class.TheVariants as classes
+use Rattle.bd_value.proofs.OrderLemmas.{plain}
+use Rattle.bd_path.specs.{Reach.Names, Reach.End, Reach.is_document, Reach.reach}
+use Rattle.bd_path.proofs.SortLemmas.{absent}
+use Rattle.bd_path.proofs.ReachLemmas.{In, Found, found_from, any_at}
+use Rattle.bd_filter.specs.Filter.{Operator, equals, compares, is_in, has_all, has_type, has_size, exists, Operators, no_operators, operator}
+use Rattle.bd_filter.specs.FilterMatch.{accepts, all_accept, any_candidate, any_equal, candidates, is_array, is_nonempty, is_of_size, is_of_type, is_related, is_value, value_or_null}
+use Rattle.bd_filter.specs.Word.{is_kind, kind_place}
+use Rattle.bd_filter.specs.declared.operand.Relation.{Relation}
 use Rattle.bd_filter.proofs.MembersLemmas.{any_mapped}
 use Rattle.bd_bounds.specs.Bounds.{KeyBounds, KeySet, all_element_bounds, bounds_here, conjunction, element_bounds, is_among, is_listed}
 use Rattle.bd_bounds.specs.Bounds.{is_of_class, keys_of_types, keys_of_each, intersection, union, keys_equal_to, keys_of_equal}
@@ -172,15 +167,10 @@ sound_size t p m n h = go (n == 0) refl
         let f = end_found (is_of_size n) (reach t p) h in
         record { it = leaf trees.undefined; is_in = end_is_key t f.it (leaf trees.undefined) p f.is_in (empty_array n f.it f.passes is); passes = refl }
 
-any_there : (es : List End) → list_any is_there es ≡ list_any is_some es
-any_there [] = refl
-any_there (None ∷ es) = any_there es
-any_there (Some t ∷ es) = refl
-
-pub sound_exists : (t : Tree) (p : Names) (m : Bool) (b : Bool) → cond b (list_any is_there (reach t p)) (not (list_any is_there (reach t p))) ≡ true
+pub sound_exists : (t : Tree) (p : Names) (m : Bool) (b : Bool) → cond b (list_any is_some (reach t p)) (not (list_any is_some (reach t p))) ≡ true
     → Found (is_among (bounds_here (exists b) m)) (keys_of t p)
 sound_exists t p m true h = everywhere t p
-sound_exists t p m false h = record { it = null; is_in = absent t p (sym (any_there (reach t p)) ∙ not-true (list_any is_there (reach t p)) h); passes = refl }
+sound_exists t p m false h = record { it = null; is_in = absent t p (not-true (list_any is_some (reach t p)) h); passes = refl }
 
 -- ---- elements taken by themselves
 

@@ -1,11 +1,10 @@
 -- Bounds of filters, computed: which of some keys are inside.
 use Rattle.std.proofs.Common.{◌≡◌, ℕ, pos, Bool, true, false, List, [], ◌∷◌, map, refl, codes}
 use Rattle.bd_value.specs.Tree.{Tree, leaf, doc, array, int32, null, undefined, fields_of, items_of}
-use Rattle.bd_path.specs.KeyList.{keys}
-use Rattle.bd_path.specs.Names.{Names}
+use Rattle.bd_path.specs.{Key.keys, Reach.Names}
 use Rattle.bd_filter.specs.Filter.{Filter, all_of, some_of, at_path, filters_from, operators_from, negation_of}
 use Rattle.bd_filter.specs.Filter.{Operator, equals, compares, is_in, has_all, has_size, exists, has_element, has_document}
-use Rattle.bd_filter.specs.declared.relation.Relation.TheVariants.{Above, AtLeast, Below}
+use Rattle.bd_filter.specs.declared.operand.Relation.TheVariants.{Above, AtLeast, Below}
 use Rattle.bd_bounds.specs.Bounds.{is_bounded, is_inside}
 
 abbrev number : ℕ → Tree

@@ -1,16 +1,21 @@
 -- Bounds of some members, and of those that are left.
-use Rattle.std.proofs.Common.{◌≡◌, ℕ, ◌<◌, ◌+◌, length, get_or, drop, Bool, true, false, ◌||◌, List, [], ◌∷◌, ◌++◌, map, arith, rules, Vec, Some, None, refl, sym, ap, ◌∙◌}
-use Rattle.std.proofs.Math.Path.{fun_ext}
-use Rattle.std.specs.declared.alloc.Global.{Global}
-use Rattle.std.proofs.lemmas.List.{at_drop_more, map-append}
-use Rattle.std.proofs.lemmas.List.Folds.{list_any-append}
-use Rattle.bd_value.specs.Tree.{Tree}
+use Rattle.std.proofs.Common.{◌≡◌, ℕ, ◌<◌, ◌+◌, length, get_or, drop, Bool, true, false, ◌||◌, List, [], ◌∷◌, ◌++◌, map, arith, rules, Vec, Some, None, refl, sym, ap}
+use Rattle.std.proofs.Common.{◌∙◌, ◌≤◌, zero, suc, cond, Ordering, nat_cmp}
+use Rattle.std.proofs.{Math.Path.fun_ext, lemmas.List.at_drop_more, lemmas.List.map-append, lemmas.List.Folds.list_any-append, lemmas.Cmp.nat_cmp_total}
+use Rattle.std.proofs.{lemmas.List.Sorted.searchable_from_sorted}
+use Rattle.std.specs.{declared.alloc.Global.Global, Cmp.IsTotalOrder, List.Sorted.IsSortedBy}
+use Rattle.std.specs.Ordering.{is_le, is_lt, ordering_index, ordering_then}
+use Rattle.bd_value.specs.Tree.{Tree, Scalar, leaf, doc, array, code_scope}
+use Rattle.bd_value.specs.{Order.class_cmp, Order.cmp, Order.same_class_cmp, Order.class_of, Order.class_rank, View.tree_of}
 use Rattle.bd_filter.specs.Filter.{Operators, no_operators, operator}
-use Rattle.bd_bounds.specs.Bounds.{KeyBounds, KeySet, conjunction, disjunction, no_key, operator_bounds, union}
-use Rattle.bd_bounds.specs.BoundsView.{keys_within}
-use Rattle.bd_bounds.specs.declared.bounds.Bounds.{Bounds}
+use Rattle.bd_bounds.specs.Bounds.{KeyBounds, KeySet, conjunction, disjunction, no_key, operator_bounds, union, is_of_class, keys_equal_to}
+use Rattle.bd_bounds.specs.{BoundsView.keys_within, BoundsView.edge_cmp, BoundsView.is_before, declared.bounds.Bounds.Bounds, declared.bounds.Bounds.TheVariants.Or}
+use Rattle.bd_bounds.specs.{declared.bounds.Cut.Cut, declared.bounds.Edge.Edge}
 use Rattle.bd_bounds.specs.declared.bounds.Bounds.TheFolds as folds
-use Rattle.bd_bounds.specs.declared.bounds.Bounds.TheVariants.{Or}
+use Rattle.bd_value.specs.Tree as trees
+use Rattle.bd_value.specs.declared.node.Class.TheVariants as classes
+use Rattle.bd_value.proofs.OrderLemmas.{cmp_total}
+use Rattle.bd_bounds.specs.declared.bounds.Edge.TheVariants as edges
 
 -- ---- what is left of a list
 
@@ -72,3 +77,42 @@ keys_within-Or v = search (rules, folds.the_lemmas)
 pub no_rest : (os : Operators) (m : Bool) → operator_bounds os None m ≡ None
 no_rest no_operators m = refl
 no_rest (operator o os) m = no_rest os m
+
+undefined_key : (k : Tree) → is_of_class classes.Undefined k ≡ keys_equal_to (leaf trees.undefined) k
+undefined_key (leaf trees.undefined) = refl
+undefined_key _ = refl
+
+pub undefined_alone : is_of_class classes.Undefined ≡ keys_equal_to (leaf trees.undefined)
+undefined_alone = fun_ext undefined_key
+
+null_key : (k : Tree) → is_of_class classes.Null k ≡ keys_equal_to (leaf trees.null) k
+null_key (leaf trees.null) = refl
+null_key _ = refl
+
+pub null_alone : is_of_class classes.Null ≡ keys_equal_to (leaf trees.null)
+null_alone = fun_ext null_key
+
+abbrev precedes : Bool → Ordering → Bool
+precedes after o = cond after (is_le o) (is_lt o)
+
+lower : (after : Bool) (o p : Ordering) → ordering_index o ≤ ordering_index p → precedes after p ≡ true → precedes after o ≡ true
+lower after o p le h = grind arith
+
+first_not_less : (o p : Ordering) → is_lt (ordering_then o p) ≡ false → is_lt o ≡ false
+first_not_less o p h = grind arith
+
+-- two of them, in order
+in_order : {A : Type 0} (by : A → A → Ordering) → IsTotalOrder by → (x y v : A) → is_lt (by y x) ≡ false → ordering_index (by x v) ≤ ordering_index (by y v)
+in_order by total x y v h = searchable_from_sorted total (λ e. e) (x ∷ y ∷ []) v sorted 0 1 x (omega arith) (omega arith)
+  where
+    sorted : IsSortedBy (λ a b. is_lt (by a b)) (x ∷ y ∷ [])
+    sorted zero d low high = h
+    sorted (suc k) d low high = absurd (omega arith)
+
+edges_rise : (e : Edge) (j k : Tree) → is_lt (cmp k j) ≡ false → ordering_index (edge_cmp j e) ≤ ordering_index (edge_cmp k e)
+edges_rise (edges.Value v) j k h = in_order cmp cmp_total j k (tree_of v.now) h
+edges_rise (edges.Class class) j k h =
+    in_order nat_cmp nat_cmp_total (class_rank (class_of j)) (class_rank (class_of k)) (class_rank class) (first_not_less (class_cmp k j) (same_class_cmp k j) h)
+
+pub falls_once : (cut : Cut) (j k : Tree) → is_lt (cmp k j) ≡ false → is_before cut k ≡ true → is_before cut j ≡ true
+falls_once cut j k h b = lower cut.after (edge_cmp j cut.edge) (edge_cmp k cut.edge) (edges_rise cut.edge j k h) b

@@ -1,17 +1,14 @@
 -- The keys of a document, by what a path reaches in it.
 use Rattle.std.proofs.Common.{◌≡◌, ◌≢◌, ℕ, zero, suc, Bool, true, false, cond, List, [], ◌∷◌, ◌++◌, Option, Some, None, ◌⊎◌, inl, inr, refl, subst, append-nil}
-use Rattle.std.specs.Str.{bytes_eq}
-use Rattle.std.specs.List.{list_any}
-use Rattle.bd_value.specs.Order.{equal}
-use Rattle.bd_value.specs.Parts.{elements_in}
-use Rattle.bd_value.specs.Tree as trees
+use Rattle.std.specs.{Str.bytes_eq, List.list_any}
+use Rattle.bd_value.specs.{Order.equal, Tree.elements_in}
 use Rattle.bd_value.specs.Tree.{Tree, leaf, doc, array, code_scope, Items, no_items, item, Fields, no_fields, field, list_of}
-use Rattle.bd_path.specs.Component.{index_of}
-use Rattle.bd_path.specs.KeyList.{all_keys, distinct, key_gathering, keys, or_else, with_key, with_keys}
-use Rattle.bd_path.specs.Names.{Names}
+use Rattle.bd_value.specs.Tree as trees
+use Rattle.bd_path.specs.{Reach.index_of, Reach.Names}
+use Rattle.bd_path.specs.Key.{all_keys, distinct, key_gathering, keys, or_else, with_key, with_keys}
 use Rattle.bd_path.specs.Reach.{ends, gathering_at, each_gathering, first_gathering, is_document, reach}
-use Rattle.bd_path.proofs.LawsLemmas.{has_a_key, missing_gives_null}
-use Rattle.bd_path.proofs.MemberLemmas.{In, in_left, in_right, in_cases, in_either, Found}
+use Rattle.bd_path.proofs.SortLemmas.{has_a_key, missing_gives_null}
+use Rattle.bd_path.proofs.ReachLemmas.{In, in_left, in_right, in_cases, in_either, Found}
 
 abbrev pub null : Tree
 null = leaf trees.null

@@ -1,20 +1,13 @@
 -- Where a document matches, one of its keys is inside the bounds.
 use Rattle.std.proofs.Common.{◌≡◌, ℕ, Bool, true, false, cond, ◌&&◌, List, [], ◌∷◌, ◌++◌, length, map, Option, Some, None, ◌⊎◌, inl, inr, refl, sym, ap₂, ◌∙◌, subst, append-nil, eqb-true, arith}
-use Rattle.std.specs.List.{list_any, list_all}
-use Rattle.std.specs.Str.{bytes_eq}
-use Rattle.std.specs.Cmp.Lexicographic.{bytes_decides}
+use Rattle.std.specs.{List.list_any, List.list_all, Str.bytes_eq, Cmp.Lexicographic.bytes_decides}
 use Rattle.std.proofs.lemmas.Bool.{and_parts, and_from, or_cases, or_left, or_right}
-use Rattle.bd_value.specs.Order.{equal}
-use Rattle.bd_value.specs.Parts.{elements_in}
-use Rattle.bd_value.specs.Tree.{Tree, array}
-use Rattle.bd_path.specs.KeyList.{keys, sparse_keys}
-use Rattle.bd_path.specs.Names.{Names}
-use Rattle.bd_path.specs.Reach.{is_document, reach}
-use Rattle.bd_path.proofs.LawsLemmas.{distinct_has, equal_back, equal_on, sparse_has}
-use Rattle.bd_path.proofs.MemberLemmas.{In, Found, found_from, any_at}
-use Rattle.bd_filter.specs.Filter.{Filter, all_of, some_of, none_of, at_path, Filters, no_filters, filter}
-use Rattle.bd_filter.specs.Filter.{Operator, equals, compares, is_in, has_all, has_type, has_size, exists, negates, has_element, has_document}
-use Rattle.bd_filter.specs.Filter.{Operators, no_operators, operator}
+use Rattle.bd_value.specs.{Order.equal, Tree.elements_in, Tree.Tree, Tree.array}
+use Rattle.bd_path.specs.{Key.keys, Key.sparse_keys, Reach.Names, Reach.is_document, Reach.reach}
+use Rattle.bd_path.proofs.SortLemmas.{distinct_has, equal_back, equal_on, sparse_has}
+use Rattle.bd_path.proofs.ReachLemmas.{In, Found, found_from, any_at}
+use Rattle.bd_filter.specs.Filter.{Filter, all_of, some_of, none_of, at_path, Filters, no_filters, filter, Operator, equals, compares, is_in, has_all, has_type, has_size}
+use Rattle.bd_filter.specs.Filter.{exists, negates, has_element, has_document, Operators, no_operators, operator}
 use Rattle.bd_filter.specs.FilterMatch.{all_hold, all_match, any_equal, holds, is_nonempty, matches, some_match}
 use Rattle.bd_bounds.specs.Bounds.{KeyBounds, all_bounds, bounds, bounds_below, bounds_here, conjunction, disjunction, is_among, is_inside, keys_of_each}
 use Rattle.bd_bounds.specs.Bounds.{keys_of_equal, union, operator_bounds, rest_after, rest_bounds, some_bounds}

@@ -1,23 +1,16 @@
 -- The bounds that a filter gives to an index on a path: a set of keys, of which each document that matches has one. The keys of a
--- document are in `KeyList` of `bd_path`. (MongoDB manual, "Multikey Indexes", "Multikey Index Bounds".)
+-- document are in `Key` of `bd_path`. (MongoDB manual, "Multikey Indexes", "Multikey Index Bounds".)
 use Rattle.std.specs.Prelude.{◌==◌, Bool, true, false, ◌&&◌, ◌||◌, List, [], ◌∷◌, map, Option, Some, None, is_some, if◌then◌else◌}
-use Rattle.std.specs.List.{list_any, list_all}
-use Rattle.std.specs.Str.{bytes_eq}
-use Rattle.bd_value.specs.Order.{equal}
-use Rattle.bd_value.specs.Order.Classes.{class_of, class_of_kind, class_rank}
-use Rattle.bd_value.specs.Parts.{elements_in}
+use Rattle.std.specs.{List.list_any, List.list_all, Str.bytes_eq}
+use Rattle.bd_value.specs.{Order.equal, Order.class_of, Order.class_of_kind, Order.class_rank, Tree.elements_in, Tree.Tree, Tree.leaf}
+use Rattle.bd_value.specs.{declared.node.Kind.Kind, declared.node.Class.Class}
 use Rattle.bd_value.specs.Tree as trees
-use Rattle.bd_value.specs.Tree.{Tree, leaf}
-use Rattle.bd_value.specs.declared.kind.Kind.{Kind}
-use Rattle.bd_value.specs.declared.kind.Kind.TheVariants as kinds
-use Rattle.bd_value.specs.declared.order.classes.Class.{Class}
-use Rattle.bd_value.specs.declared.order.classes.Class.TheVariants as classes
-use Rattle.bd_path.specs.Names.{Names}
-use Rattle.bd_filter.specs.Filter.{Filter, all_of, some_of, none_of, at_path, Filters, no_filters, filter}
-use Rattle.bd_filter.specs.Filter.{Operator, equals, compares, is_in, has_all, has_type, has_size, exists, negates, has_element, has_document}
-use Rattle.bd_filter.specs.Filter.{Operators, no_operators, operator}
-use Rattle.bd_filter.specs.FilterMatch.{is_array, is_related}
-use Rattle.bd_filter.specs.Types.{is_kind}
+use Rattle.bd_value.specs.declared.node.Kind.TheVariants as kinds
+use Rattle.bd_value.specs.declared.node.Class.TheVariants as classes
+use Rattle.bd_path.specs.Reach.{Names}
+use Rattle.bd_filter.specs.Filter.{Filter, all_of, some_of, none_of, at_path, Filters, no_filters, filter, Operator, equals, compares, is_in, has_all, has_type, has_size}
+use Rattle.bd_filter.specs.Filter.{exists, negates, has_element, has_document, Operators, no_operators, operator}
+use Rattle.bd_filter.specs.{FilterMatch.is_array, FilterMatch.is_related, Word.is_kind}
 
 -- ---- sets of keys
 

@@ -1,14 +1,20 @@
 -- The keys in bounds in memory.
-use Rattle.std.specs.Prelude.{◌&&◌, not, List, [], ◌∷◌, map, Option, Some, None, option_map}
-use Rattle.std.specs.Borrow.{Bor}
-use Rattle.bd_path.specs.Names.{Names, component_names}
-use Rattle.bd_path.specs.declared.component.Component.{Component}
+use Rattle.std.specs.Prelude.{Bool, if◌then◌else◌, ◌&&◌, not, List, [], ◌∷◌, map, Option, Some, None, option_map}
+use Rattle.std.specs.{declared.cmp.Ordering.Ordering, Ordering.is_le, Ordering.is_lt, Ordering.nat_cmp, Borrow.Bor}
+use Rattle.bd_value.specs.{Order.cmp, Order.class_of, Order.class_rank, Tree.Tree, View.tree_of}
+use Rattle.bd_bounds.specs.{declared.bounds.Cut.Cut, declared.bounds.Edge.Edge, declared.bounds.Bounds.Bounds}
+use Rattle.bd_bounds.specs.{declared.bounds.Bounds.TheFolds.fold-Bounds, declared.bounds.Bounds.TheOpen.Bounds-F}
 use Rattle.bd_bounds.specs.Bounds.{KeyBounds, KeySet, intersection, union}
-use Rattle.bd_bounds.specs.Cut.{is_before}
-use Rattle.bd_bounds.specs.declared.bounds.Bounds.{Bounds}
-use Rattle.bd_bounds.specs.declared.bounds.Bounds.TheFolds.{fold-Bounds}
-use Rattle.bd_bounds.specs.declared.bounds.Bounds.TheOpen.{Bounds-F}
-use Rattle.bd_bounds.specs.declared.cut.Cut.{Cut}
+use Rattle.bd_bounds.specs.declared.bounds.Edge.TheVariants as edges
+use Rattle.bd_path.specs.{Reach.Names, Path.component_names, declared.component.Component.Component}
+
+-- how a key stands to a value, or to the keys of a class
+abbrev pub edge_cmp : Tree → Edge → Ordering
+edge_cmp k (edges.Value v) = cmp k (tree_of v.now)
+edge_cmp k (edges.Class class) = nat_cmp (class_rank (class_of k)) (class_rank class)
+
+abbrev pub is_before : Cut → Tree → Bool
+is_before cut k = if cut.after then is_le (edge_cmp k cut.edge) else is_lt (edge_cmp k cut.edge)
 
 abbrev pub keys_between : Cut → Cut → KeySet
 keys_between from to k = not (is_before from k) && is_before to k

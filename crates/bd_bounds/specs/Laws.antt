@@ -1,17 +1,11 @@
 -- What always holds of bounds.
 use Rattle.std.specs.Prelude.{◌≡◌, ◌==◌, Bool, true, false, ◌||◌, length, IsTrue, IsFalse}
-use Rattle.std.specs.List.{list_any}
-use Rattle.std.specs.Ordering.{is_lt}
-use Rattle.bd_value.specs.Order.{cmp, equal}
+use Rattle.std.specs.{List.list_any, Ordering.is_lt}
+use Rattle.bd_value.specs.{Order.cmp, Order.equal, Tree.Tree, Tree.leaf}
 use Rattle.bd_value.specs.Tree as trees
-use Rattle.bd_value.specs.Tree.{Tree, leaf}
-use Rattle.bd_path.specs.KeyList.{keys, sparse_keys}
-use Rattle.bd_path.specs.Names.{Names}
-use Rattle.bd_filter.specs.Filter.{Filter}
-use Rattle.bd_filter.specs.FilterMatch.{matches}
-use Rattle.bd_bounds.specs.Bounds.{is_bounded, is_inside}
-use Rattle.bd_bounds.specs.Cut.{is_before}
-use Rattle.bd_bounds.specs.declared.cut.Cut.{Cut}
+use Rattle.bd_path.specs.{Key.keys, Key.sparse_keys, Reach.Names}
+use Rattle.bd_filter.specs.{Filter.Filter, FilterMatch.matches}
+use Rattle.bd_bounds.specs.{Bounds.is_bounded, Bounds.is_inside, BoundsView.is_before, declared.bounds.Cut.Cut}
 
 -- the index is multikey, or the document has one key
 abbrev pub is_fit : Bool → Names → Tree → Bool

@@ -1,4 +1,3 @@
 pub mod Bounds
 pub mod BoundsView
-pub mod Cut
 pub mod Laws

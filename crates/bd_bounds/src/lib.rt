@@ -15,20 +15,16 @@
 //! assert!(rt; matches!(&bounds, Some(b) if !b.holds(Tree::Value(&Value::Int32(9)))));
 //! ```
 //!
-//! - `bounds`: `Bounds`, ranges put together as the filter has them: `specs/BoundsView.antt`.
-//! - `cut`, `range`, `sets`: a place in the order of keys, the keys between two, and those of several values: `specs/Cut.antt`.
-//! - `operator_bounds`, `filter_bounds`: `Bounds::of`, the bounds that a filter gives: `specs/Bounds.antt`.
-//! - `laws`: bounds lose no match, in a sparse index too where null is outside; a key before a cut has all lesser keys before it.
+//! - `bounds`: `Bounds`, ranges put together as the filter has them, each between two places in the order of keys:
+//!   `specs/BoundsView.antt`.
+//! - `filter_bounds`: `Bounds::of`, the bounds that a filter gives: `specs/Bounds.antt`. They lose no match, in a sparse index too
+//!   where null is outside; a key before a cut has all lesser keys before it: `specs/Laws.antt`.
+//! - `range`: the keys that equal a value, are of a class or stand to a value, and those of several values.
 #![tactic(auto)]
 
 mod bounds;
-mod cut;
 mod filter_bounds;
-mod laws;
-mod operator_bounds;
 mod range;
-mod sets;
 
-pub use bounds::Bounds;
-pub use cut::{Cut, Edge};
-pub use laws::{bounded_alike, bounds_lose_no_match, cuts_fall_once};
+pub use bounds::{Bounds, Cut, Edge};
+pub use filter_bounds::{bounded_alike, bounds_lose_no_match, cuts_fall_once};

@@ -1,25 +1,15 @@
 -- The documents of a dump, one by one.
-use Rattle.std.proofs.Common.{◌≡◌, ◌≤◌, ◌<◌, ℕ, zero, suc, ◌+◌, ◌*◌, List, [], ◌∷◌, ◌++◌, length, take, drop, get_or, Option, Some, None, refl, sym, ap, ◌∙◌}
-use Rattle.std.proofs.Common.{subst, append_assoc, append-nil, arith, inl, inr}
-use Rattle.std.specs.Prelude.{slice_get}
-use Rattle.std.proofs.lemmas.List.{take-append-drop, length-drop, length-take, length-append, take_at}
-use Rattle.std.proofs.lemmas.Option.{slice_get-get_or}
-use Rattle.bd_value.specs.Limits.{longest_input}
-use Rattle.bd_value.specs.Tree.{Tree, Doc, doc, fields_of, pairs_in, pairs_of-fields_of}
-use Rattle.bd_value.specs.declared.kind.Kind.TheVariants as kinds
-use Rattle.bd_check.specs.Fault.{Fault}
-use Rattle.bd_raw.specs.Spelling.{IsDocument}
-use Rattle.bd_check.specs.Dump.{AreJoined, IsDump, frame_fault}
-use Rattle.bd_check.specs.DocumentAt.{IsNext}
-use Rattle.bd_raw.specs.Sound.{Sound, stands, stands_is}
-use Rattle.bd_bson.specs.Starts.{StandAt, StandAt-prop, documents_starting_at}
-use Rattle.bd_check.specs.AnsweredFault.{TellsFault}
-use Rattle.bd_check.specs.declared.fault.Fault as told
-use Rattle.bd_raw.specs.declared.raw.RawDoc.{RawDoc}
-use Rattle.bd_bson.specs.Collection.{documents, IsUnread}
-use Rattle.bd_bson.specs.declared.collection.Dump.{Dump}
+use Rattle.std.proofs.Common.{◌≡◌, ◌≤◌, ◌<◌, ℕ, zero, suc, ◌+◌, ◌*◌, List, [], ◌∷◌, ◌++◌, length, take, drop, get_or, Option, Some, None, refl, sym, ap, ◌∙◌, subst}
+use Rattle.std.proofs.Common.{append_assoc, append-nil, arith, inl, inr, slice_get}
+use Rattle.std.proofs.lemmas.{List.take-append-drop, List.length-drop, List.length-take, List.length-append, List.take_at, Option.slice_get-get_or}
+use Rattle.bd_value.specs.{Limits.longest_input, Tree.Tree, Tree.Doc, Tree.doc, Tree.fields_of, Tree.pairs_in, Tree.pairs_of-fields_of}
+use Rattle.bd_check.specs.{Fault.Fault, Fault.TellsFault, Dump.AreJoined, Dump.IsDump, Dump.frame_fault, Dump.IsNext}
+use Rattle.bd_raw.specs.{Spelling.IsDocument, Sound.Sound, Sound.stands, Sound.stands_is, declared.raw.RawDoc.RawDoc}
+use Rattle.bd_bson.specs.{Starts.StandAt, Starts.StandAt-prop, Starts.documents_starting_at, Collection.documents, Collection.IsUnread, declared.collection.Dump.Dump}
 use Rattle.bd_raw.proofs.ValueAtLemmas.{reads_at}
 use Rattle.bd_check.proofs.DumpLemmas.{joined_append, joined_one, document_frame, frame_inside}
+use Rattle.bd_value.specs.declared.node.Kind.TheVariants as kinds
+use Rattle.bd_check.specs.declared.fault.Fault as told
 
 -- ---- the documents at some starts
 

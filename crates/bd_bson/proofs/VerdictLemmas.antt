@@ -1,17 +1,14 @@
 -- Verdicts on the documents of a dump.
-use Rattle.std.proofs.Common.{◌≡◌, ◌≤◌, ℕ, zero, suc, ◌+◌, List, [], ◌∷◌, ◌++◌, length, take, drop, map, Option, Some, None, Result, Ok, Err, refl, sym, ap}
-use Rattle.std.proofs.Common.{◌∙◌, subst, arith, append-nil, append_assoc, length-drop, length-append}
+use Rattle.std.proofs.Common.{◌≡◌, ◌≤◌, ℕ, zero, suc, ◌+◌, List, [], ◌∷◌, ◌++◌, length, take, drop, map, Option, Some, None, Result, Ok, Err, refl, sym, ap, ◌∙◌, subst}
+use Rattle.std.proofs.Common.{arith, append-nil, append_assoc, length-drop, length-append}
 use Rattle.std.proofs.lemmas.List.{nil_from_length, take_at, drop_at}
 use Rattle.std.specs.List.{AllByRecursion}
 use Rattle.bd_value.specs.Tree.{Doc}
-use Rattle.bd_check.specs.declared.fault.FaultKind.{FaultKind}
-use Rattle.bd_check.specs.Fault.{Fault}
-use Rattle.bd_check.specs.FirstFault.{first_fault}
-use Rattle.bd_raw.specs.Spelling.{IsDocument}
 use Rattle.bd_check.specs.Dump.{AreJoined, IsWalk, frame_length, framed_fault, frame_fault}
+use Rattle.bd_check.specs.{declared.fault.FaultKind.FaultKind, Fault.Fault, FirstFault.first_fault}
+use Rattle.bd_raw.specs.Spelling.{IsDocument}
 use Rattle.bd_bson.specs.Verdicts.{verdicts_by, verdicts_from, verdicts_at, verdicts, BeginAs}
-use Rattle.bd_check.proofs.FirstFaultLemmas.{IsBytes}
-use Rattle.bd_check.proofs.DumpLemmas.{document_faultless, document_frame, frame_inside, walk_on}
+use Rattle.bd_check.proofs.{FirstFaultLemmas.IsBytes, DumpLemmas.document_faultless, DumpLemmas.document_frame, DumpLemmas.frame_inside, DumpLemmas.walk_on}
 
 abbrev Verdicts : Type 0
 Verdicts = List (Option Fault)

@@ -1,13 +1,10 @@
 -- The documents of a dump that was read, and why one was not.
-use Rattle.std.specs.Prelude.{◌≡◌, ◌<◌, ◌≤◌, ◌⊎◌, ℕ, List, [], length}
-use Rattle.bd_value.specs.Limits.{longest_input}
-use Rattle.bd_value.specs.Tree.{Doc}
-use Rattle.bd_check.specs.Dump.{FailsAfter}
-use Rattle.bd_bson.specs.Starts.{documents_starting_at}
-use Rattle.bd_check.specs.AnsweredFault.{fault_view, IsWantOfMemory}
-use Rattle.bd_bson.specs.declared.collection.Dump.{Dump}
+use Rattle.std.specs.Prelude.{◌≡◌, ◌<◌, ◌≤◌, ◌⊎◌, ℕ, List, [], length, slice_get, slice_index_or}
+use Rattle.std.specs.List.{filter_map}
+use Rattle.bd_value.specs.{Limits.longest_input, Tree.Doc, Tree.Tree, Tree.doc, Tree.fields_of}
+use Rattle.bd_check.specs.{Dump.FailsAfter, Fault.fault_view, Fault.IsWantOfMemory, declared.fault.FaultKind.TheVariants.DumpTooLong}
+use Rattle.bd_bson.specs.{Starts.documents_starting_at, declared.collection.Dump.Dump}
 use Rattle.bd_check.specs.declared.fault.Fault as declared
-use Rattle.bd_check.specs.declared.fault.FaultKind.TheVariants.{DumpTooLong}
 
 -- the documents of a dump, in their order
 unfoldable pub documents : Dump → List Doc
@@ -33,5 +30,12 @@ pub record IsFirstFault (bytes : List ℕ) (e : declared.Fault) : Type 0 where
 
 -- why the bytes were not read as a dump: their number, tried first, or that memory ran out, or the first document with a fault
 abbrev pub IsUnread : List ℕ → declared.Fault → Type 0
-IsUnread bytes e =
-    IsTooLong bytes e ⊎ ((length bytes ≤ longest_input) × (IsWantOfMemory e ⊎ IsFirstFault bytes e))
+IsUnread bytes e = IsTooLong bytes e ⊎ ((length bytes ≤ longest_input) × (IsWantOfMemory e ⊎ IsFirstFault bytes e))
+
+-- of these documents the one at a place
+abbrev pub document_at : List Doc → ℕ → Tree
+document_at ds place = doc (fields_of (slice_index_or ds place []))
+
+-- and those at places; a place after the last document has none
+abbrev pub documents_at : List Doc → List ℕ → List Doc
+documents_at ds = filter_map (slice_get ds)

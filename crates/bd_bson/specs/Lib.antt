@@ -1,4 +1,3 @@
 pub mod Collection
-pub mod Documents
 pub mod Starts
 pub mod Verdicts

@@ -2,13 +2,10 @@
 -- its length counts. Only a fault of the length itself is the end, since nothing tells then where the next one stands.
 use Rattle.std.specs.Prelude.{ℕ, zero, suc, ◌+◌, List, [], ◌∷◌, ◌++◌, ◌≡◌, length, drop, map, Option, Some, None, Result, Ok, Err}
 use Rattle.bd_value.specs.Tree.{Doc}
-use Rattle.bd_check.specs.Fault.{Fault}
-use Rattle.bd_check.specs.Dump.{frame_length, frame_fault}
-use Rattle.bd_check.specs.declared.fault.FaultKind.{FaultKind}
+use Rattle.bd_check.specs.{Fault.Fault, Dump.frame_length, Dump.frame_fault, declared.fault.FaultKind.FaultKind}
 
 -- the verdict on a document, by what its length tells, and those after as many bytes
-abbrev pub verdicts_by : Option Fault → (ℕ → List (Option Fault)) → Result (Option ℕ) FaultKind
-    → List (Option Fault)
+abbrev pub verdicts_by : Option Fault → (ℕ → List (Option Fault)) → Result (Option ℕ) FaultKind → List (Option Fault)
 verdicts_by first after (Ok None) = []
 verdicts_by first after (Ok (Some n)) = first ∷ after n
 verdicts_by first after (Err kind) = first ∷ []

@@ -3,8 +3,7 @@
 ghost use Rattle.std.specs.Prelude.{◌≡◌, ◌≤◌, ◌<◌, Some, length, slice_get};
 ghost use Rattle.bd_value.specs.Limits.{longest_input};
 ghost use Rattle.bd_value.specs.Tree.{Tree, pairs_in};
-ghost use Rattle.bd_raw.specs.At.{StandsAt, IsPlace};
-ghost use Rattle.bd_raw.specs.Sound.{stands};
+ghost use Rattle.bd_raw.specs.Sound.{StandsAt, IsPlace, stands};
 ghost use Rattle.bd_bson.specs.Starts.{StandAt, StandAt-prop};
 
 use bd_raw::{At, RawDoc, RawValue};

@@ -11,15 +11,11 @@
 //! ```
 //!
 //! - `collection`: `Dump`, the documents of a collection in their bytes.
-//! - `collecting`: `read_dump`, which makes one.
-//! - `laws`, `dump_laws`, `verdict_laws`: laws of documents, of dumps, and of the verdicts on their documents.
+//! - `collecting`: `read_dump`, which makes one, and laws of documents, of dumps, and of the verdicts on their documents.
 #![tactic(auto)]
 
 mod collecting;
 mod collection;
-mod dump_laws;
-mod laws;
-mod verdict_laws;
 
 pub use bd_check::{
     Fault, FaultKind, Frame, check_document, next_document, next_frame, read_document,
@@ -33,10 +29,8 @@ pub use bd_stream::{DocBuffer, DocFault, DocReader, FrameFault, RawBytes};
 pub use bd_write::{
     WriteFault, append_label, append_value, begin_body, end_body, write_document, write_text,
 };
-pub use collecting::read_dump;
-pub use collection::Dump;
-pub use dump_laws::dump_or_fault;
-pub use laws::{
-    no_fault_where_spelled, one_value_stands, spells_one_document, walks_in_one_way, walks_on,
+pub use collecting::{
+    dump_or_fault, judges_as_the_walk, judges_in_turn, no_fault_where_spelled, one_value_stands,
+    read_dump, spells_one_document, walks_in_one_way, walks_on,
 };
-pub use verdict_laws::{judges_as_the_walk, judges_in_turn};
+pub use collection::Dump;

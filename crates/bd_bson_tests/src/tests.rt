@@ -2,7 +2,7 @@
 //! `tests/rows/check-*.jsonl` and `cut-kinds.jsonl`.
 use crate::samples::{every_kind, is_shown, joined};
 use bd_bson::{next_frame, read_document};
-use bd_check::{Fault, check_document};
+use bd_check::{Fault, FaultKind, check_document};
 use bd_value::{NoMemory, Tree};
 use std::alloc::Global;
 use std::process::Abort;
@@ -50,6 +50,9 @@ fn adds_an_offset_and_a_number(rt: HostRuntime) {
     let last = check_document(alloc, b"\x09\0\0\0\x08b\0\x02\0", base, 4_294_967_295);
     let want = "document 4294967295, byte 4294967293: bad boolean";
     assert!(rt; is_fault(alloc, last, want));
+    // No row shows these two.
+    let words = (FaultKind::DumpTooLong.words(), FaultKind::NoMemory.words());
+    assert!(rt; words.0 == "dump too long" && words.1 == "no memory");
 }
 
 /// Asserts that the bytes are a document or not, and no front of them is one.

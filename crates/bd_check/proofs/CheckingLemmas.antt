@@ -1,19 +1,39 @@
 -- Going past what holds values, and elements one after the other.
-use Rattle.std.proofs.Common.{◌≡◌, ℕ, zero, suc, ◌+◌, ◌-◌, ◌<◌, ◌≤◌, List, [], ◌∷◌, length, get_or, drop, Option, Some, None, Result, Ok, Err, refl, sym, ap, ◌∙◌, arith}
-use Rattle.std.specs.Prelude.{codes, option_map, IfSome}
-use Rattle.bd_check.specs.Fault.{Fault}
+use Rattle.std.proofs.Common.{◌≡◌, ℕ, List, Result, Ok, Err, refl, ap, ◌∙◌, [], arith, zero, suc, ◌+◌, ◌-◌, ◌<◌, ◌≤◌, ◌∷◌, length, get_or, drop, Option, Some, None, sym}
+use Rattle.std.proofs.Common.{Bool, true, false, Bor, take, inl, inr, codes, option_map, IfSome, ◌||◌, ◌==◌, nat_lt, IsAscii}
 use Rattle.bd_check.specs.declared.fault.FaultKind.TheVariants.{TooDeep, NameUnended}
-use Rattle.bd_check.specs.declared.fault.Stop.{Stop}
-use Rattle.bd_raw.specs.declared.element.ElementType.{ElementType}
-use Rattle.bd_raw.specs.declared.element.Holder.{Holder}
-use Rattle.bd_raw.specs.declared.element.Holder.TheVariants as holders
-use Rattle.bd_check.specs.ItemFault.{FailsAtItem}
-use Rattle.bd_raw.specs.Types.{type_at}
-use Rattle.bd_check.specs.FirstFault.{◌>>=◌, known, past_name, past_string, past_code_frame, within, label, fault, Nested, past_typed, past_element, past_elements}
-use Rattle.bd_check.specs.FirstFault.{past_code_scope, past_holder, past_nested}
-use Rattle.bd_check.proofs.AnsweredFaultLemmas.{fails_then}
-use Rattle.bd_check.proofs.FirstFaultLemmas.{IsBytes, NestedTakes, element_takes, element_shrinks, nested_takes}
-use Rattle.bd_check.proofs.NoFaultLemmas.{elements_nil}
+use Rattle.bd_check.specs.FirstFault.{◌>>=◌, within, past_name, past_string, past_code_frame, label, fault, Nested, past_typed, past_element, past_elements, past_body}
+use Rattle.bd_check.specs.FirstFault.{past_code_scope, past_nested, past_value}
+use Rattle.bd_check.specs.{Fault.Fault, Fault.found_fault, Fault.longer, Fault.TellsStop, Fault.FailsAtItem, declared.fault.Stop.Stop}
+use Rattle.bd_raw.specs.{declared.raw_parts.ElementType.ElementType, declared.raw_parts.Holder.Holder, Spelling.type_at, declared.raw_parts.ElementType.TheVariants.Kept}
+use Rattle.bd_check.proofs.FirstFaultLemmas.{IsBytes, NestedTakes, element_takes, element_shrinks, nested_takes, elements_nil}
+use Rattle.std.specs.{List.position, Str.is_utf8}
+use Rattle.std.proofs.lemmas.{Bool.cases_lt, Bool.ltb-false, Bool.or_parts, Bool.Decides.nat_tests, List.get_or-take, List.get_or_past, List.length-take}
+use Rattle.std.proofs.lemmas.{List.Quantifiers.position-Some, List.Sums.position_or_len_is, Str.is_utf8-from_IsUtf8, Str.IsUtf8-from_ascii}
+use Rattle.bd_value.specs.declared.node.Kind.{Kind}
+use Rattle.bd_check.specs.declared.fault.Stop.TheVariants as stops
+use Rattle.bd_raw.specs.declared.raw_parts.Holder.TheVariants as holders
+
+abbrev err : {A : Type 0} → Fault → Result A Fault
+err f = Err f
+
+pub told_fails : {A : Type 0} (r : Stop) (f : Fault) (read : Result A Fault) → TellsStop r f → read ≡ err f → FailsAtItem r read
+told_fails stops.NoMemory f read told is = tt
+told_fails (stops.Found g) f read told is = is ∙ ap err told
+
+pub fails_within : {A : Type 0} (error r : Stop) (name : List ℕ) (read : Result A Fault)
+    → ((f : Fault) → TellsStop error f → TellsStop r (longer name f)) → FailsAtItem error read → FailsAtItem r (within name read)
+fails_within stops.NoMemory stops.NoMemory name read told fails = tt
+fails_within stops.NoMemory (stops.Found g) name (Ok x) told fails =
+    let zero_at : 0 ≡ g.offset = ap (λ (f : Fault). f.offset) (told (record { kind = TooDeep; offset = 0; path = [] }) tt) in
+    let one_at : 1 ≡ g.offset = ap (λ (f : Fault). f.offset) (told (record { kind = TooDeep; offset = 1; path = [] }) tt) in
+    absurd (omega arith)
+fails_within stops.NoMemory (stops.Found g) name (Err f) told fails = ap err (told f tt)
+fails_within (stops.Found g) r name read told fails = told_fails r (longer name (found_fault g)) (within name read) (told (found_fault g) refl) (ap (within name) fails)
+
+pub fails_then : {A B : Type 0} (r : Stop) (x : Result A Fault) (f : A → Result B Fault) → FailsAtItem r x → FailsAtItem r (x >>= f)
+fails_then stops.NoMemory x f h = tt
+fails_then (stops.Found g) x f h = rw h refl
 
 -- ---- what holds values
 
@@ -25,10 +45,11 @@ pub code_too_deep : (holder : Holder) (room q e : ℕ) (bytes : List ℕ) → ho
 unfolding past_nested
 code_too_deep holder room q e bytes h is = rw (h, is) refl
 
-pub below : (holder : Holder) (room q e : ℕ) (bytes : List ℕ) → 0 < room → past_nested room holder q e bytes ≡ past_holder (past_nested (room - 1)) (room - 1) holder q e bytes
+pub below : (room q e : ℕ) (bytes : List ℕ) → 0 < room → (past_nested room holders.Document q e bytes ≡ past_body (past_nested (room - 1)) false e bytes)
+    × (past_nested room holders.Array q e bytes ≡ past_body (past_nested (room - 1)) true e bytes)
 unfolding past_nested
-below holder zero q e bytes lt = absurd (omega arith)
-below holder (suc r) q e bytes lt = let s : suc r - 1 ≡ r = omega arith in rw s refl
+below zero q e bytes lt = absurd (omega arith)
+below (suc r) q e bytes lt = let s : suc r - 1 ≡ r = omega arith in rw s (refl, refl)
 
 pub code_below : (room q e : ℕ) (bytes : List ℕ) → 1 < room → past_nested room holders.CodeScope q e bytes ≡ past_code_scope (past_nested (room - 1)) q e bytes
 unfolding past_nested
@@ -42,7 +63,7 @@ pub scope_fails : (r : Stop) (nested : Nested) (q e : ℕ) (bytes parts : List �
 scope_fails r nested q e bytes parts end rest scope one two h = rw (one, two) (fails_then r (within (codes "$scope") (nested holders.Document q end scope)) _ h)
 
 pub element_fails : (r : Stop) (nested : Nested) (place : Option ℕ) (e : ℕ) (bytes : List ℕ) (type : ElementType) (more name rest : List ℕ)
-    → 0 < length bytes → known (e - length bytes) (type_at (get_or bytes 0 0)) ≡ Ok type
+    → 0 < length bytes → type_at (get_or bytes 0 0) ≡ Some type
     → drop 1 bytes ≡ more → past_name NameUnended e more ≡ Ok (name, rest)
     → FailsAtItem r (within (label place name) (past_typed nested type (e - length bytes) e rest)) → FailsAtItem r (past_element nested place e bytes)
 unfolding past_element
@@ -91,3 +112,31 @@ no_first r place room e (b ∷ bytes) lt h = fails_then r (past_element (past_ne
 pub counted_on : (place : Option ℕ) (more less all : ℕ) → IfSome place (λ i. i + more ≤ all) → less < more → IfSome (option_map suc place) (λ i. i + less ≤ all)
 counted_on None more less all h lt = tt
 counted_on (Some i) more less all h lt = omega arith
+
+abbrev ends_ascii : ℕ → Bool
+ends_ascii b = b == 0 || nat_lt 127 b
+
+abbrev is_zero : ℕ → Bool
+is_zero b = b == 0
+
+-- where the first byte that is zero or not ASCII is zero, it is the first zero, and what stands before it is text
+pub named : (bytes : List ℕ) (k : ℕ) → position ends_ascii bytes ≡ Some k → get_or bytes k 0 ≡ 0 → (position is_zero bytes ≡ Some k) × (is_utf8 (take k bytes) ≡ true) × (k < length bytes)
+named bytes k is zero_here =
+    let at = position-Some ends_ascii bytes k 0 is in
+    let quiet : (i : ℕ) → i < k → (is_zero (get_or bytes i 0) ≡ false) × (nat_lt 127 (get_or bytes i 0) ≡ false) = λ i lt. or_parts _ _ (at.2 i lt) in
+    let here : is_zero (get_or bytes k 0) ≡ true = rw zero_here refl in
+    let e = position_or_len_is is_zero bytes k 0 (omega (arith, at.0)) (λ i lt. (quiet i lt).0) (λ _. here) in
+    let ascii : IsAscii (take k bytes) = λ i. elim (cases_lt i k) [
+      | inl lt ↦ rw (get_or-take k bytes i 0 lt) (let le = ltb-false 127 (get_or bytes i 0) (quiet i lt).1 in omega (arith, le))
+      | inr le ↦ rw (get_or_past (take k bytes) i 0 (omega (arith, length-take k bytes))) (omega arith)
+    ] in
+    (grind (arith, nat_tests, e, at.0), is_utf8-from_IsUtf8 (take k bytes) (IsUtf8-from_ascii (take k bytes) ascii), at.0)
+
+pub element_gives : (bytes named value : List ℕ) (kind : Kind) (r : Option (Bor (List ℕ))) → 0 < length bytes → drop 1 bytes ≡ named → type_at (get_or bytes 0 0) ≡ Some (Kept kind)
+    → (k : ℕ) × (position is_zero named ≡ Some k) × (is_utf8 (take k named) ≡ true) × (k < length named) × (value ≡ drop (k + 1) named)
+    → IfSome r (λ x. (nested : Nested) (q e : ℕ) → past_value nested kind q e value ≡ Ok x.now)
+    → IfSome r (λ x. (nested : Nested) (place : Option ℕ) (e : ℕ) → past_element nested place e bytes ≡ Ok x.now)
+unfolding past_element
+element_gives bytes named value kind None lt cut type name past = tt
+element_gives [] named value kind (Some x) lt cut type name past = absurd (omega arith)
+element_gives (b ∷ bytes) named value kind (Some x) lt cut type name past = λ nested place e. rw (cut, type, name.1, name.2, ← name.4, past nested (e - suc (length named)) e) refl

@@ -1,23 +1,15 @@
 -- Documents one after the other.
-use Rattle.std.proofs.Common.{◌≡◌, ℕ, zero, suc, ◌+◌, ◌≤◌, false, ltb, List, [], ◌∷◌, ◌++◌, length, take, drop, Option, Some, None, Result}
-use Rattle.std.proofs.Common.{Ok, Err, refl, sym, ap, ap₂, ◌∙◌, subst, append_assoc, arith}
-use Rattle.std.specs.Prelude.{◌||◌}
+use Rattle.std.proofs.Common.{◌≡◌, ℕ, zero, suc, ◌+◌, ◌≤◌, false, ltb, List, [], ◌∷◌, ◌++◌, length, take, drop, Option, Some, None, Result, Ok, Err, refl, sym, ap, ap₂}
+use Rattle.std.proofs.Common.{◌∙◌, subst, append_assoc, arith, ◌||◌}
+use Rattle.std.specs.Result.{result_err}
 use Rattle.std.proofs.lemmas.Bool.{ltb-false, le-ltb, or_from, or_parts}
 use Rattle.std.proofs.lemmas.List.{take_at, length-append, length-drop, take-append-drop, append-nil, nil_from_length}
-use Rattle.bd_value.specs.Limits.{longest_document}
-use Rattle.bd_value.specs.Tree.{Doc}
-use Rattle.bd_check.specs.declared.fault.FaultKind.{FaultKind}
-use Rattle.bd_check.specs.Fault.{Fault}
-use Rattle.bd_raw.specs.Spelling.{IsDocument, framed}
-use Rattle.bd_check.specs.FirstFault.{first_fault, past_document, fault_in}
+use Rattle.bd_value.specs.{Limits.longest_document, Tree.Doc}
 use Rattle.bd_check.specs.Dump.{length_told, frame_length, framed_fault, frame_fault, AreJoined, IsWalk}
-use Rattle.bd_raw.specs.Scalars.{number_front}
-use Rattle.bd_raw.specs.Sizes.{number_of}
-use Rattle.bd_raw.proofs.ValueAtLemmas.{framed_length}
-use Rattle.bd_raw.specs.Unique.{framed_after, cancel}
-use Rattle.bd_check.proofs.FirstFaultLemmas.{guard_ok, IsBytes, IsBytes-take, IsBytes-drop, document_found}
-use Rattle.bd_check.proofs.NoFaultLemmas.{document_again}
-use Rattle.bd_raw.proofs.SoundLemmas.{document_unique}
+use Rattle.bd_check.specs.{declared.fault.FaultKind.FaultKind, Fault.Fault, FirstFault.first_fault, FirstFault.past_document}
+use Rattle.bd_raw.specs.{Spelling.IsDocument, Spelling.framed, Unique.number_front, Sizes.number_of, Unique.framed_after, Unique.cancel}
+use Rattle.bd_raw.proofs.{ValueAtLemmas.framed_length, SoundLemmas.document_unique}
+use Rattle.bd_check.proofs.FirstFaultLemmas.{guard_ok, IsBytes, IsBytes-take, IsBytes-drop, document_found, document_again}
 
 -- ---- a document at the front tells its length
 
@@ -43,7 +35,7 @@ document_frame d front rest h =
 -- ---- the walk over a dump ends in one way
 
 pub document_faultless : (base : ℕ) (bytes : List ℕ) (d : Doc) → IsDocument d bytes → first_fault base bytes ≡ None
-document_faultless base bytes d h = ap fault_in (document_again (base + length bytes) bytes d h)
+document_faultless base bytes d h = ap result_err (document_again (base + length bytes) bytes d h)
 
 frame_faultless : (base : ℕ) (d : Doc) (front rest : List ℕ) → IsDocument d front → frame_fault base (front ++ rest) ≡ None
 frame_faultless base d front rest h =
@@ -143,7 +135,7 @@ no_frame (b ∷ bytes) is =
     let g = guard_ok (ltb size 4) _ _ None is in
     absurd (cc ((guard_ok (ltb told 5 || ltb longest_document told || ltb size told) _ _ None g.1).1))
 
-no_fault : (r : Result (Unit {0}) Fault) → fault_in r ≡ None → r ≡ Ok tt
+no_fault : (r : Result (Unit {0}) Fault) → result_err r ≡ None → r ≡ Ok tt
 no_fault (Ok u) is = refl
 no_fault (Err f) is = absurd cc
 

@@ -1,12 +1,10 @@
 //! Why bytes are no document, and where.
 
-ghost use Rattle.std.specs.Prelude.{◌≡◌, [], IfOk, string_bytes, codes};
-ghost use Rattle.bd_check.specs.Fault.{Fault as Where, longer, fault_words};
+ghost use Rattle.std.specs.Prelude.{◌≡◌, [], IfOk, string_bytes};
+ghost use Rattle.bd_check.specs.Fault.{Fault as Where, longer, fault_words, TellsStop, IsOf, IsWantOfMemory};
 ghost use Rattle.bd_check.specs.FirstFault.{label};
-ghost use Rattle.bd_check.specs.AnsweredFault.{TellsStop, IsOf, IsWantOfMemory};
-ghost use Rattle.bd_check.specs.declared.fault.Stop.TheVariants.{NoMemory};
 
-use std::alloc::{AllocError, AllocFailed, Global};
+use std::alloc::{AllocError, Global};
 use thiserror::Error;
 
 /// Which check failed first.
@@ -49,30 +47,34 @@ pub enum FaultKind {
     NoMemory = 17,
 }
 
+/// What went wrong, in words: by number, from 1 on.
+const WORDS: [&str; 17] = [
+    "length cut short",
+    "bad length",
+    "no terminator",
+    "unknown type",
+    "double",
+    "decimal128",
+    "name not ended",
+    "not UTF-8",
+    "bad string length",
+    "string not ended",
+    "bad boolean",
+    "bad binary length",
+    "bad scope length",
+    "too deep",
+    "value cut short",
+    "dump too long",
+    "no memory",
+];
+
 impl FaultKind {
     /// What went wrong, in words.
+    #[tactic(auto, unfolding(crate::specs::Fault::fault_words))]
     pub fn words(self) -> &'static str
         ensures { result.now ≡ fault_words self }
     {
-        match self {
-            FaultKind::ShortLength => "length cut short",
-            FaultKind::BadLength => "bad length",
-            FaultKind::NoTerminator => "no terminator",
-            FaultKind::UnknownType => "unknown type",
-            FaultKind::Double => "double",
-            FaultKind::Decimal128 => "decimal128",
-            FaultKind::NameUnended => "name not ended",
-            FaultKind::BadUtf8 => "not UTF-8",
-            FaultKind::BadStringLength => "bad string length",
-            FaultKind::StringUnended => "string not ended",
-            FaultKind::BadBoolean => "bad boolean",
-            FaultKind::BadBinaryLength => "bad binary length",
-            FaultKind::BadScopeLength => "bad scope length",
-            FaultKind::TooDeep => "too deep",
-            FaultKind::ValueShort => "value cut short",
-            FaultKind::DumpTooLong => "dump too long",
-            FaultKind::NoMemory => "no memory",
-        }
+        WORDS[self as usize - 1]
     }
 }
 
@@ -108,15 +110,15 @@ pub enum Stop {
     Found(Finding),
 }
 
+/// The bytes after an item, or why reading it stopped.
+pub type Past<'a> = Result<&'a [u8], Stop>;
+
 /// A fault at a place, with no path yet.
 pub fn fault_at(alloc: Global, kind: FaultKind, offset: u64) -> Stop
     ensures { TellsStop result (record { kind = kind; offset = offset; path = [] }) }
 {
-    Stop::Found(Finding {
-        kind,
-        offset,
-        path: Vec::new(alloc),
-    })
+    let path = Vec::new(alloc);
+    Stop::Found(Finding { kind, offset, path })
 }
 
 /// An element on a path: in an array its index, in a document its name.
@@ -133,18 +135,15 @@ fn label_of(alloc: Global, place: Option<usize>, name: &str) -> Result<String, A
 pub fn within(alloc: Global, place: Option<usize>, name: &str, stop: Stop) -> Stop
     ensures { (f : Where) → TellsStop stop f → TellsStop result (longer (label place name.now) f) }
 {
-    match stop {
-        Stop::NoMemory => Stop::NoMemory,
-        Stop::Found(found) => {
-            let mut found = found;
-            match label_of(alloc, place, name) {
-                Err(_) => Stop::NoMemory,
-                Ok(name) => match found.path.push(name) {
-                    Err(_) => Stop::NoMemory,
-                    Ok(()) => Stop::Found(found),
-                },
-            }
-        }
+    let Stop::Found(mut found) = stop else {
+        return Stop::NoMemory;
+    };
+    let Ok(label) = label_of(alloc, place, name) else {
+        return Stop::NoMemory;
+    };
+    match found.path.push(label) {
+        Ok(()) => Stop::Found(found),
+        Err(_) => Stop::NoMemory,
     }
 }
 
@@ -171,26 +170,20 @@ pub fn fault_of(alloc: Global, stop: Stop, document: u32) -> Fault
 pub fn want_of_memory(alloc: Global) -> Fault
     ensures { IsWantOfMemory result }
 {
+    frame_fault(alloc, FaultKind::NoMemory, 0, 0)
+}
+
+/// A fault of a document as a whole.
+pub fn frame_fault(alloc: Global, kind: FaultKind, at: usize, number: u32) -> Fault
+    ensures kind { result.kind ≡ kind }
+    ensures document { result.document ≡ number }
+    ensures offset { result.offset ≡ at }
+    ensures path { result.path.items ≡ [] }
+{
     Fault {
-        kind: FaultKind::NoMemory,
-        document: 0,
-        offset: 0,
+        kind,
+        document: number,
+        offset: at as u64,
         path: Vec::new(alloc),
-    }
-}
-
-impl From<AllocError> for Stop {
-    ghost from_gives = { λ _ e. e ≡ NoMemory };
-
-    fn from(_error: AllocError) -> Stop {
-        Stop::NoMemory
-    }
-}
-
-impl<T: Drop> From<AllocFailed<T>> for Stop {
-    ghost from_gives = { λ _ e. e ≡ NoMemory };
-
-    fn from(_error: AllocFailed<T>) -> Stop {
-        Stop::NoMemory
     }
 }

@@ -14,19 +14,14 @@
 //! }
 //! ```
 //!
+//! - `check`: `check_document`, down the values in values, and the documents of a dump in turn.
+//! - `parts`: what holds no other value, and the frames of documents; and elements that one look shows to have no fault.
 //! - `fault`: why bytes are no document, and where.
-//! - `check`: `check_document`, down the values in values.
-//! - `parts`: numbers, names, texts, and the frames of documents.
-//! - `fast_path`: elements that one look shows to have no fault, as most are.
-//! - `read`: the next document of a dump, and a document in memory.
 #![tactic(auto)]
 
 mod check;
-mod fast_path;
 mod fault;
 mod parts;
-mod read;
 
-pub use check::check_document;
-pub use fault::{Fault, FaultKind, want_of_memory};
-pub use read::{Frame, frame_fault, next_document, next_frame, read_document};
+pub use check::{Frame, check_document, next_document, next_frame, read_document};
+pub use fault::{Fault, FaultKind, frame_fault, want_of_memory};

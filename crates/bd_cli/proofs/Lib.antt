@@ -1,1 +1,1 @@
-pub mod ServeLemmas
+pub mod RunsLemmas

@@ -1,44 +1,87 @@
 -- What a run did.
-use Rattle.std.specs.Prelude.{◌<◌, ◌⊎◌, ℕ, List, [], Option, codes}
+use Rattle.std.specs.Prelude.{◌≡◌, ◌≢◌, ◌⊎◌, ℕ, List, length, codes, Option, Some, None, Result, Ok, Err, ◌<◌, []}
+use Rattle.bd_value.specs.{Limits.longest_input, Limits.most_reads, Tree.Doc}
+use Rattle.bd_answer.specs.{Session.State, Laws.new_state}
+use Rattle.bd_check.specs.{Dump.IsWalk, Fault.Fault}
+use Rattle.bd_device.specs.{declared.reading.Limits.Limits, declared.reading.ReadFault.ReadFault}
 use Rattle.bd_device.specs.Devices.{Over, Reader, Writer}
-use Rattle.bd_command_line.specs.FindWords.{find_words_of}
-use Rattle.bd_command_line.specs.declared.order.Order.{Order}
+use Rattle.bd_lines.specs.{Serving.ServesAll, Serving.StopsServing, declared.serving.ServeFault.ServeFault}
+use Rattle.bd_service.specs.Talk.{IsKept, RepliesInText}
+use Rattle.bd_files.specs.{Input.ReadsInput, declared.output.Status.Status, Pack.PacksInput, DumpAndCheck.ChecksInput, DumpAndCheck.DumpsInput}
+use Rattle.bd_files.specs.declared.output.Status.TheVariants.{Done, Failed, Usage}
+use Rattle.bd_files.specs.Output.{TellsMessage, error_line, fault_text, read_words, shown_refusal, Transcript}
+use Rattle.bd_command_line.specs.{FindWords.find_words_of, declared.order.Order.Order, declared.command_line.TheConstants.USAGE, declared.order.WordsFault.WordsFault}
+use Rattle.bd_find.specs.{Find.FindsDocuments, Asking.AsksNothing}
+use Rattle.bd_lines.specs.declared.serving.ServeFault.TheVariants as faults
 use Rattle.bd_command_line.specs.declared.order.Order.TheVariants as orders
-use Rattle.bd_command_line.specs.declared.command_line.TheConstants.{USAGE}
-use Rattle.bd_command_line.specs.declared.order.WordsFault.{WordsFault}
 use Rattle.bd_command_line.specs.declared.order.WordsFault.TheVariants as words
-use Rattle.bd_files.specs.Check.{ChecksInput}
-use Rattle.bd_files.specs.Dump.{DumpsInput}
-use Rattle.bd_find.specs.Find.{FindsDocuments}
-use Rattle.bd_files.specs.Pack.{PacksInput}
-use Rattle.bd_find.specs.Asking.{AsksNothing}
-use Rattle.bd_cli.specs.Serve.{ServesInput}
-use Rattle.bd_files.specs.Transcript.{Transcript, error_line}
-use Rattle.bd_files.specs.declared.status.Status.{Status}
-use Rattle.bd_files.specs.declared.status.Status.TheVariants as statuses
+use Rattle.bd_device.specs.declared.reading.ReadFault.TheVariants as reads
 
--- The order was carried out. What is told of the reader of commands, and which of its reads may give what, is handed to it.
-abbrev pub CarriesOut : {C : Type 0} → Order → (C → Reader) → (C → Option (List ℕ) → C → Type 0) → C → C
-    → Over Reader → Over Writer → Over Writer → Status → Type 0
-CarriesOut (orders.Dump path) state gives old new file out err status = DumpsInput file out err status
-CarriesOut (orders.Check path) state gives old new file out err status = ChecksInput file out err status
-CarriesOut (orders.Pack path) state gives old new file out err status = PacksInput file out err status
-CarriesOut (orders.Find path options) state gives old new file out err status =
-    FindsDocuments (find_words_of options) file out err status
-CarriesOut (orders.Serve path) state gives old new file out err status = ServesInput state gives old new file out err status
+-- as much of the commands is read as of an input
+abbrev pub command_limits : Limits
+command_limits = record { bytes = longest_input; turns = most_reads }
 
--- the order is refused for its texts, whatever the file has
+-- why the commands were not answered to their end
+abbrev pub serve_words : ServeFault → List ℕ
+serve_words (faults.Unread fault) = read_words fault
+serve_words faults.NoMemory = codes "no memory"
+serve_words faults.Unwritten = codes "cannot write"
+
+-- no command was read, nothing was replied, and this is told
+pub record ServesNothing {C : Type 0} (old new : C) (out err : Over Writer) (status : Status) (message : List ℕ) : Type 0 where
+  pub unread : new ≡ old
+  pub silent : out.after ≡ out.before
+  pub told : TellsMessage err (error_line message) Failed status
+
+-- of the reader of the commands, which of its reads may give what, its first state and its last one, and what was written
+module _ {C : Type 0} (state : C → Reader) (gives : C → Option (List ℕ) → C → Type 0) (old new : C)
+    (out err : Over Writer) (status : Status) where
+  -- over a dump of these bytes, which are these documents, each command had its reply, and nothing is told
+  abbrev pub ServesToTheEnd : List ℕ → List Doc → Type 0
+  ServesToTheEnd bytes ds =
+      (t : State) × ServesAll state gives (RepliesInText bytes ds) command_limits old new out new_state t
+      × (err.after ≡ err.before) × (status ≡ Done)
+
+  -- Or the commands before a fault had theirs, and the fault is told. There are never too many reads: each but the last gives a byte.
+  abbrev pub ServesToAFault : List ℕ → List Doc → Type 0
+  ServesToAFault bytes ds = (t : State) × (fault : ServeFault) × (fault ≢ faults.Unread reads.TooManyTurns)
+      × StopsServing state gives (RepliesInText bytes ds) command_limits old new out new_state t IsKept fault
+      × TellsMessage err (error_line (serve_words fault)) Failed status
+
+  abbrev pub ServesDump : List ℕ → List Doc → Type 0
+  ServesDump bytes ds = ServesToTheEnd bytes ds ⊎ ServesToAFault bytes ds
+
+  -- over what was read: it was not read whole, or it is no dump, or the commands were served, or memory ran out before
+  abbrev pub ServesRead : Result (List ℕ) ReadFault → Type 0
+  ServesRead (Err fault) = ServesNothing old new out err status (read_words fault)
+  ServesRead (Ok bytes) = ServesNothing old new out err status (codes "no memory")
+      ⊎ (((ds : List Doc) × (fault : Fault) × IsWalk ds (Some fault) bytes
+      × ServesNothing old new out err status (fault_text (length ds) fault))
+      ⊎ ((ds : List Doc) × IsWalk ds None bytes × ServesDump bytes ds))
+
+  abbrev pub ServesInput : Over Reader → Type 0
+  ServesInput file = (input : Result (List ℕ) ReadFault) × ReadsInput file input × ServesRead input
+
+  -- the command was carried out
+  abbrev pub CarriesOut : Over Reader → Order → Type 0
+  CarriesOut file (orders.Dump path) = DumpsInput file out err status
+  CarriesOut file (orders.Check path) = ChecksInput file out err status
+  CarriesOut file (orders.Pack path) = PacksInput file out err status
+  CarriesOut file (orders.Find path options) = FindsDocuments (find_words_of options) file out err status
+  CarriesOut file (orders.Serve path) = ServesInput file
+
+-- the command is refused for its texts, whatever the file has
 abbrev pub ReadsNoFile : Order → Type 0
 ReadsNoFile (orders.Find path options) = AsksNothing (find_words_of options)
 ReadsNoFile _ = ⊥
 
--- an order that holds its file whole before it shows anything
+-- a command that holds its file whole before it shows anything
 abbrev pub HoldsFile : Order → Type 0
 HoldsFile (orders.Dump path) = ⊥
 HoldsFile (orders.Check path) = ⊥
 HoldsFile _ = Unit {0}
 
--- an order that reads no commands
+-- a command that reads no commands
 abbrev pub ReadsNoCommands : Order → Type 0
 ReadsNoCommands (orders.Serve path) = ⊥
 ReadsNoCommands _ = Unit {0}
@@ -53,8 +96,8 @@ DeviceFails file commands out err =
     (file.before.failures < file.after.failures) ⊎ (commands.before.failures < commands.after.failures)
     ⊎ WriteFails out err
 
--- what is shown of words that are no order
+-- what is shown of arguments that are no command
 abbrev pub shown_report : WordsFault → Transcript
-shown_report words.Help = record { out = USAGE.now; err = []; status = statuses.Done }
-shown_report words.Usage = record { out = []; err = USAGE.now; status = statuses.Usage }
-shown_report words.NoMemory = record { out = []; err = error_line (codes "no memory"); status = statuses.Failed }
+shown_report words.Help = record { out = USAGE.now; err = []; status = Done }
+shown_report words.Usage = record { out = []; err = USAGE.now; status = Usage }
+shown_report words.NoMemory = shown_refusal (codes "no memory")

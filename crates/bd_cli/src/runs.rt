@@ -1,20 +1,30 @@
-//! An order carried out over devices, and words that are no order.
+//! A command carried out over devices, and arguments that are no command; and laws of what is shown.
 
-ghost use Rattle.std.specs.Prelude.{◌≡◌};
+ghost use Rattle.std.specs.Prelude.{◌≡◌, ◌<◌, ◌≤◌, ℕ, List, Option, None, Result, Ok, codes, length, slice_index};
+ghost use Rattle.bd_value.specs.{Limits.longest_input, Tree.Doc};
+ghost use Rattle.bd_device.specs.{Devices.over, declared.reading.ReadFault.ReadFault};
+ghost use Rattle.bd_bson.specs.Collection.{bytes_of, documents};
+ghost use Rattle.bd_command_line.specs.FindWords.{FindWords};
+ghost use Rattle.bd_lines.specs.Lines.{text_lines};
+ghost use Rattle.bd_files.specs.DumpAndCheck.{IsShownByCheck, IsShownByDump, ShowsFront};
 ghost use Rattle.bd_files.specs.Input.{ReadsNoFurther};
-ghost use Rattle.bd_files.specs.Outcome.{PrintsShown};
-ghost use Rattle.bd_cli.specs.Runs.{CarriesOut, DeviceFails, HoldsFile, ReadsNoCommands, ReadsNoFile, WriteFails, shown_report};
-ghost use Rattle.bd_device.specs.Devices.{over};
+ghost use Rattle.bd_files.specs.Output.{PrintsShown, Transcript};
+ghost use Rattle.bd_files.specs.Pack.{AreAlike, IsShownByPack, PacksLines};
+ghost use Rattle.bd_files.specs.declared.pack.BadLine.{BadLine};
+ghost use Rattle.bd_find.specs.{Asking.ReadsText, Find.IsShownByFind};
+ghost use Rattle.bd_cli.specs.Runs.{CarriesOut, DeviceFails, HoldsFile, ReadsNoCommands, ReadsNoFile, ServesDump, ServesInput, ServesRead, WriteFails, shown_report};
 
-use crate::serve::serve;
+use bd_bson::{Dump, read_dump};
 use bd_command_line::{Order, USAGE, WordsFault};
 use bd_device::{Input, Output, write_all};
-use bd_files::Status;
-use bd_files::check::check;
-use bd_files::dump::dump;
-use bd_files::output::messages::{status_of, tell_no_memory, tell_unwritten};
+use bd_files::output::{
+    is_want_of_memory, status_of, tell_dump_fault, tell_no_memory, tell_read_fault, tell_unwritten,
+};
 use bd_files::pack::pack;
+use bd_files::{LIMITS, Status, check, dump, read_input};
 use bd_find::find::find;
+use bd_lines::ServeFault;
+use bd_service::Service;
 use std::alloc::Global;
 
 /// Carries out an order, and gives the exit status: 0 where all was done, 1 after a fault of the input, of a query, a sort,
@@ -30,8 +40,8 @@ pub fn run<F: Input, C: Input, O: Output, E: Output>(
     out: &mut O,
     err: &mut E,
 ) -> Status
-    ensures ran { CarriesOut order.now C.state C.read_gives commands.old commands.new (over F.state file.old file.new)
-        (over O.state out.old out.new) (over E.state err.old err.new) result }
+    ensures ran { CarriesOut C.state C.read_gives commands.old commands.new (over O.state out.old out.new)
+        (over E.state err.old err.new) result (over F.state file.old file.new) order.now }
     // After a failed read, or at the end, an input that is held whole is read no more.
     ensures further { HoldsFile order.now → ReadsNoFurther F.read_gives file.old file.new }
     // What is not wanted is not touched.
@@ -50,6 +60,68 @@ pub fn run<F: Input, C: Input, O: Output, E: Output>(
     }
 }
 
+/// Reads an input whole, and writes the reply to each command, before a later read of the commands. No command is read where the
+/// input is no dump.
+fn serve<F: Input, C: Input, O: Output, E: Output>(
+    alloc: Global,
+    file: &mut F,
+    commands: &mut C,
+    out: &mut O,
+    err: &mut E,
+) -> Status
+    ensures serves { ServesInput C.state C.read_gives commands.old commands.new (over O.state out.old out.new)
+        (over E.state err.old err.new) result (over F.state file.old file.new) }
+    ensures further { ReadsNoFurther F.read_gives file.old file.new }
+{
+    match read_input(alloc, file) {
+        Ok(bytes) => serve_bytes(alloc, bytes, commands, out, err),
+        Err(fault) => tell_read_fault(fault, err),
+    }
+}
+
+/// Serves the commands over the bytes of an input.
+fn serve_bytes<C: Input, O: Output, E: Output>(
+    alloc: Global,
+    bytes: Vec<u8>,
+    commands: &mut C,
+    out: &mut O,
+    err: &mut E,
+) -> Status
+    requires { length bytes.items ≤ longest_input }
+    ensures { ServesRead C.state C.read_gives commands.old commands.new (over O.state out.old out.new)
+        (over E.state err.old err.new) result (Ok bytes.items) }
+{
+    match read_dump(alloc, bytes) {
+        Ok(dump) => serve_dump(alloc, dump, commands, out, err),
+        Err(fault) => {
+            if is_want_of_memory(&fault) {
+                return tell_no_memory(err);
+            }
+            tell_dump_fault(alloc, &fault, err)
+        }
+    }
+}
+
+/// Serves the commands over a dump.
+fn serve_dump<C: Input, O: Output, E: Output>(
+    alloc: Global,
+    dump: Dump,
+    commands: &mut C,
+    out: &mut O,
+    err: &mut E,
+) -> Status
+    ensures { ServesDump C.state C.read_gives commands.old commands.new (over O.state out.old out.new)
+        (over E.state err.old err.new) result (bytes_of dump) (documents dump) }
+{
+    let mut service = Service::new(alloc, dump);
+    match bd_lines::serve(alloc, LIMITS, commands, &mut service, out) {
+        Ok(()) => Status::Done,
+        Err(ServeFault::Unread(fault)) => tell_read_fault(fault, err),
+        Err(ServeFault::NoMemory) => tell_no_memory(err),
+        Err(ServeFault::Unwritten) => tell_unwritten(err),
+    }
+}
+
 /// Tells why words are no order, and gives the exit status. It takes no memory.
 ///
 /// A request for help prints the usage on `out`, with status 0; words that are not taken print it on `err`, with
@@ -63,10 +135,38 @@ pub fn report<O: Output, E: Output>(fault: &WordsFault, out: &mut O, err: &mut E
             Ok(()) => Status::Done,
             Err(_) => tell_unwritten(err),
         },
-        WordsFault::Usage => {
-            let written = write_all(err, USAGE.as_bytes());
-            status_of(written, Status::Usage)
-        }
+        WordsFault::Usage => status_of(write_all(err, USAGE.as_bytes()), Status::Usage),
         WordsFault::NoMemory => tell_no_memory(err),
     }
 }
+
+/// One thing is shown of each input, and of each list of bytes there is something to show; so also for `check`, and for
+/// `find`, of each words. For `pack` and `find` it is one thing but for the kind and the place of the fault of a line, or of a
+/// query or a sort, that is no document.
+pub fn shows_one_thing()
+    ensures one { (bytes : List ℕ) (fault : Option ReadFault) (shown other : Transcript) → IsShownByDump bytes fault shown → IsShownByDump bytes fault other → shown ≡ other }
+    ensures some { (bytes : List ℕ) → ((i : ℕ) → slice_index bytes i < 256) → (shown : Transcript) × IsShownByDump bytes None shown }
+    ensures judged_one { (bytes : List ℕ) (fault : Option ReadFault) (shown other : Transcript) → IsShownByCheck bytes fault shown → IsShownByCheck bytes fault other → shown ≡ other }
+    ensures judged_some { (bytes : List ℕ) → (shown : Transcript) × IsShownByCheck bytes None shown }
+    ensures found_one { (words : FindWords) (query sort : Doc) (input : Result (List ℕ) ReadFault) (shown other : Transcript) →
+        ReadsText (codes "query") words.query (Ok query) → ReadsText (codes "sort") words.sort (Ok sort) →
+        IsShownByFind words input shown → IsShownByFind words input other → shown ≡ other }
+    ensures found_alike { (words : FindWords) (input : Result (List ℕ) ReadFault) (shown other : Transcript) →
+        IsShownByFind words input shown → IsShownByFind words input other → (shown.out ≡ other.out) × (shown.status ≡ other.status) }
+    ensures found_some { (words : FindWords) (bytes : List ℕ) → ((i : ℕ) → slice_index bytes i < 256) →
+        (shown : Transcript) × IsShownByFind words (Ok bytes) shown }
+    ensures packed_one { (text : List ℕ) (ds es : List Doc) (bad other : Option BadLine) → PacksLines 1 (text_lines text) ds bad → PacksLines 1 (text_lines text) es other → (ds ≡ es) × AreAlike bad other }
+    ensures packed_alike { (input : Result (List ℕ) ReadFault) (shown other : Transcript) → IsShownByPack input shown → IsShownByPack input other → (shown.out ≡ other.out) × (shown.status ≡ other.status) }
+    ensures packed_some { (text : List ℕ) → (shown : Transcript) × IsShownByPack (Ok text) shown }
+{}
+
+/// Of each input `check` and `dump` give the same status: there is a document with a fault where there is a first fault.
+pub fn check_has_the_status_of_dump()
+    ensures { (bytes : List ℕ) (fault : Option ReadFault) (shown other : Transcript) → IsShownByDump bytes fault shown → IsShownByCheck bytes fault other → shown.status ≡ other.status }
+{}
+
+/// What `dump` wrote before a write failed, or before memory ran out, is a front of what is to be shown of the input, whatever
+/// bytes follow those that it read. For `check`, `pack` and `find` the clauses of `run` say so themselves.
+pub fn dump_shows_a_front()
+    ensures { ShowsFront }
+{}

@@ -2,7 +2,7 @@
 use bd_cli::{Status, run};
 use bd_command_line::{FindOptions, Order, parse_words};
 use bd_device::{MemoryInput, MemoryOutput};
-use bd_files::check::check;
+use bd_files::check;
 use bd_find::find::find;
 use std::test::Fail;
 

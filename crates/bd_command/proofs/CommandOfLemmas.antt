@@ -1,16 +1,17 @@
--- The fields of a document, a position at a time.
-use Rattle.std.proofs.Common.{◌≡◌, ◌≤◌, ◌<◌, ◌+◌, ℕ, zero, suc, List, [], ◌∷◌, ◌++◌, take, drop, length, Option, Some, None, true, false, refl, sym, ap, ap₂, ◌∙◌, arith, add-one}
-use Rattle.std.specs.Prelude.{slice_get, is_some}
-use Rattle.std.specs.Option.{option_or}
-use Rattle.std.specs.Str.{bytes_eq}
-use Rattle.std.proofs.lemmas.List.{drop_all, take_all}
-use Rattle.bd_value.specs.Lookup.{first_of}
-use Rattle.bd_value.specs.Tree.{Doc, Pair, Tree}
-use Rattle.bd_value.proofs.LookupLemmas as lookup
+-- Lemmas on the fields of a document, a position at a time, and on its first fault.
+use Rattle.std.proofs.Common.{◌≡◌, ◌≤◌, ◌<◌, ◌+◌, ℕ, zero, suc, List, [], ◌∷◌, ◌++◌, take, drop, length, Bool, true, false, cond, ltb, Option, Some, None, Ok, Err, inl, inr, refl, sym, ap, ap₂, subst}
+use Rattle.std.proofs.Common.{◌∙◌, arith, add-one}
+use Rattle.std.proofs.{lemmas.Bool.ltb-true, lemmas.Bool.ltb-false, lemmas.List.drop_all, lemmas.List.take_all, lemmas.Option.slice_get_within}
+use Rattle.std.specs.Prelude.{◌⊎◌, slice_get, is_some}
+use Rattle.std.specs.{List.list_all, Option.option_or, Str.bytes_eq}
+use Rattle.bd_value.specs.Tree.{first_of, Doc, Pair, Tree}
 use Rattle.bd_value.proofs.ViewLemmas.{next_at}
-use Rattle.bd_command.specs.CommandOf.{missing_fault, pair_fault, pairs_fault}
-use Rattle.bd_command.specs.declared.fault.CommandFault.{CommandFault}
-use Rattle.bd_command.specs.declared.name.CommandName.{CommandName}
+use Rattle.bd_command.specs.{Command.Command, declared.command.CommandFault.CommandFault, declared.field.CommandName.CommandName, declared.field.FieldKind.FieldKind}
+use Rattle.bd_command.specs.Field.{command_fields, entry_of, fits_field, required_fields}
+use Rattle.bd_command.specs.CommandOf.{CommandsKeepRules, FaultsBreakRules, FieldsKeepRules, FirstBreak, IsCommandDocument, IsFaultOf, IsFieldsFault, command_in, command_named, command_of}
+use Rattle.bd_command.specs.CommandOf.{first_command, missing_fault, pair_fault, pairs_fault, unless_fault, value_fault}
+use Rattle.bd_value.proofs.ViewLemmas as lookup
+use Rattle.bd_command.specs.declared.command.CommandFault.TheVariants as faults
 
 -- a pair of the front
 pub at_front : (d : Doc) (i n : ℕ) (p : Pair) → i < n → slice_get d i ≡ Some p → slice_get (take n d) i ≡ Some p
@@ -66,3 +67,174 @@ pub fault_of_all : (command : CommandName) (d : Doc) (i : ℕ) (total : Option C
     → missing_fault command d ≡ total
 fault_of_all command d i total le so_far =
     sym (ap₂ (pairs_fault command) (take_all i d le) (drop_all i d le)) ∙ so_far
+
+-- the pair at a position is one
+here_alone : (command : CommandName) (d : Doc) (i : ℕ) (p : Pair) → slice_get d i ≡ Some p → (q : Pair) → slice_get d i ≡ Some q
+    → pair_fault command (take i d) p ≡ pair_fault command (take i d) q
+here_alone command d i p at q also = let same : p ≡ q = cc in ap (pair_fault command (take i d)) same
+
+-- no document is refused for want of memory
+value_not_wanting : (kind : Option FieldKind) (t : Tree) → value_fault kind t ≡ Some faults.NoMemory → ⊥
+value_not_wanting None t is = cc
+value_not_wanting (Some kind) t is = go (fits_field kind t) is
+  where
+    go : (y : Bool) → cond y None (Some faults.BadField) ≡ Some faults.NoMemory → ⊥
+    go true e = cc
+    go false e = cc
+
+pub never_wanting : (command : CommandName) (before ps : Doc) → pairs_fault command before ps ≡ Some faults.NoMemory → ⊥
+never_wanting command before [] is = go (list_all (λ name. is_some (first_of name before)) (required_fields command)) is
+  where
+    go : (y : Bool) → cond y None (Some faults.MissingField) ≡ Some faults.NoMemory → ⊥
+    go true e = cc
+    go false e = cc
+never_wanting command before (p ∷ ps) is = go (never_wanting command (before ++ p ∷ []) ps) (first_of p.0 before) is
+  where
+    rest : (o : Option CommandFault) → (o ≡ Some faults.NoMemory → ⊥) → (pairs_fault command (before ++ p ∷ []) ps ≡ Some faults.NoMemory → ⊥)
+        → option_or o (pairs_fault command (before ++ p ∷ []) ps) ≡ Some faults.NoMemory → ⊥
+    rest None other later e = later e
+    rest (Some f) other later e = other e
+
+    go : (pairs_fault command (before ++ p ∷ []) ps ≡ Some faults.NoMemory → ⊥) → (o : Option Tree) → option_or (cond (is_some o) (Some faults.RepeatedField) (value_fault (entry_of p.0 (command_fields command)) p.1)) (pairs_fault command (before ++ p ∷ []) ps)
+        ≡ Some faults.NoMemory → ⊥
+    go later (Some t) e = cc
+    go later None e = rest (value_fault (entry_of p.0 (command_fields command)) p.1) (value_not_wanting (entry_of p.0 (command_fields command)) p.1) later e
+
+-- ---- the first fault is that of the first position that has one
+
+module _ (command : CommandName) (d : Doc) where
+  one_more_keeps : (i : ℕ) (p : Pair) → slice_get d i ≡ Some p → FieldsKeepRules command d i → pair_fault command (take i d) p ≡ None → FieldsKeepRules command d (i + 1)
+  one_more_keeps i p at good keeps j q lt is = go (ltb j i) refl
+    where
+      go : (y : Bool) → ltb j i ≡ y → pair_fault command (take j d) q ≡ None
+      go true e = good j q (ltb-true j i e) is
+      go false e =
+          let same : j ≡ i = omega (arith, lt, ltb-false j i e) in
+          let at_i : slice_get d i ≡ Some q = ap (slice_get d) (sym same) ∙ is in
+          ap (λ k. pair_fault command (take k d) q) same ∙ here_alone command d i q at_i p at ∙ keeps
+
+  -- the next field, where the fields before it have none
+  step : (i : ℕ) (total : Option CommandFault) → i < length d → FieldsKeepRules command d i → pairs_fault command (take i d) (drop i d) ≡ total
+      → (FieldsKeepRules command d (i + 1) × (pairs_fault command (take (i + 1) d) (drop (i + 1) d) ≡ total))
+      ⊎ ((f : CommandFault) × (Some f ≡ total) × FirstBreak command d f)
+  step i total lt good is = go (pair_fault command (take i d) p) refl
+    where
+      p : Pair
+      p = (there d i lt).0
+
+      at : slice_get d i ≡ Some p
+      at = (there d i lt).1
+
+      go : (o : Option CommandFault) → pair_fault command (take i d) p ≡ o
+          → (FieldsKeepRules command d (i + 1) × (pairs_fault command (take (i + 1) d) (drop (i + 1) d) ≡ total))
+          ⊎ ((f : CommandFault) × (Some f ≡ total) × FirstBreak command d f)
+      go None e = inl (one_more_keeps i p at good e, fault_later command d i total (pair_fault command (take i d) p) lt is (here_alone command d i p at) e)
+      go (Some f) e = inr (
+        f,
+        fault_here command d i total (pair_fault command (take i d) p) lt is (here_alone command d i p at) f e,
+        record { position = i; pair = p; stands = at; good = good; bad = e },
+      )
+
+  -- all fields keep the rules, and what is missing is the fault, or the first that breaks one is
+  abbrev Ends : Option CommandFault → Type 0
+  Ends total = (FieldsKeepRules command d (length d) × (missing_fault command d ≡ total)) ⊎ ((f : CommandFault) × (Some f ≡ total) × FirstBreak command d f)
+
+  found : (k i : ℕ) (total : Option CommandFault) → i + k ≡ length d → FieldsKeepRules command d i → pairs_fault command (take i d) (drop i d) ≡ total → Ends total
+  found zero i total size good is = inl ((λ j p lt at. good j p (omega (arith, lt, size)) at), fault_of_all command d i total (omega (arith, size)) is)
+  found (suc k) i total size good is = go (found k (i + 1) total (omega (arith, size))) (step i total (omega (arith, size)) good is)
+    where
+      go : (FieldsKeepRules command d (i + 1) → pairs_fault command (take (i + 1) d) (drop (i + 1) d) ≡ total → Ends total)
+          → (FieldsKeepRules command d (i + 1) × (pairs_fault command (take (i + 1) d) (drop (i + 1) d) ≡ total))
+          ⊎ ((f : CommandFault) × (Some f ≡ total) × FirstBreak command d f) → Ends total
+      go later (inl more) = later more.0 more.1
+      go later (inr broken) = inr broken
+
+  ends_so : (total : Option CommandFault) → pairs_fault command [] d ≡ total → Ends total
+  ends_so total is = found (length d) 0 total (omega arith) (λ i p lt at. let f : ⊥ = omega (arith, lt) in absurd f) is
+
+  -- fields that keep the rules are passed over
+  kept_passed : (i : ℕ) → i ≤ length d → FieldsKeepRules command d i → pairs_fault command (take i d) (drop i d) ≡ pairs_fault command [] d
+  kept_passed zero le good = refl
+  kept_passed (suc i) le good =
+      let lt : i < length d = omega (arith, le) in
+      let p = (there d i lt).0 in
+      let at = (there d i lt).1 in
+      let before = kept_passed i (omega (arith, le)) (λ j q less is. good j q (omega (arith, less)) is) in
+      ap (λ n. pairs_fault command (take n d) (drop n d)) (sym (add-one i))
+      ∙ fault_later command d i (pairs_fault command [] d) (pair_fault command (take i d) p) lt before (here_alone command d i p at) (good i p (omega arith) at)
+
+  all_kept : FieldsKeepRules command d (length d) → missing_fault command d ≡ pairs_fault command [] d
+  all_kept good = fault_of_all command d (length d) (pairs_fault command [] d) (omega arith) (kept_passed (length d) (omega arith) good)
+
+  fields_refused : (f : CommandFault) → IsFieldsFault command d f → pairs_fault command [] d ≡ Some f
+  fields_refused f (inl b) =
+      let lt = slice_get_within d b.position b.pair b.stands in
+      sym (fault_here command d b.position (pairs_fault command [] d) (pair_fault command (take b.position d) b.pair) lt
+      (kept_passed b.position (omega (arith, lt)) b.good) (here_alone command d b.position b.pair b.stands) f b.bad)
+  fields_refused f (inr (good, missing)) = sym (all_kept good) ∙ missing
+
+  fields_told : (f : CommandFault) → pairs_fault command [] d ≡ Some f → IsFieldsFault command d f
+  fields_told f is = go (ends_so (Some f) is)
+    where
+      go : Ends (Some f) → IsFieldsFault command d f
+      go (inl kept) = inr kept
+      go (inr (g, same, b)) = let e : g ≡ f = cc in inl (subst (FirstBreak command d) e b)
+
+  fields_kept : pairs_fault command [] d ≡ None → FieldsKeepRules command d (length d) × (missing_fault command d ≡ None)
+  fields_kept is = go (ends_so None is)
+    where
+      go : Ends None → FieldsKeepRules command d (length d) × (missing_fault command d ≡ None)
+      go (inl kept) = kept
+      go (inr (g, same, b)) = absurd cc
+
+-- ---- the document
+
+pub fields_taken_are : (command : CommandName) (d : Doc) → Some command ≡ first_command d → None ≡ pairs_fault command [] d → IsCommandDocument d
+fields_taken_are command d is none = let kept = fields_kept command d (sym none) in (command, sym is, kept.0, kept.1)
+
+-- the command of a document, or its fault, decides
+of_document : (d : Doc) → ((c : Command) × (command_of d ≡ Ok c) × IsCommandDocument d) ⊎ ((f : CommandFault) × (command_of d ≡ Err f) × IsFaultOf d f)
+of_document d = go (first_command d) refl
+  where
+    go : (o : Option CommandName) → first_command d ≡ o
+        → ((c : Command) × (command_of d ≡ Ok c) × IsCommandDocument d) ⊎ ((f : CommandFault) × (command_of d ≡ Err f) × IsFaultOf d f)
+    go None e = inr (faults.UnknownCommand, ap (λ o. command_named o d) e, inl (e, refl))
+    go (Some command) e = fields (pairs_fault command [] d) refl
+      where
+        named : (o : Option CommandFault) → pairs_fault command [] d ≡ o → command_of d ≡ unless_fault o (command_in command d)
+        named o a = ap (λ o. command_named o d) e ∙ ap (λ o. unless_fault o (command_in command d)) a
+
+        fields : (o : Option CommandFault) → pairs_fault command [] d ≡ o
+            → ((c : Command) × (command_of d ≡ Ok c) × IsCommandDocument d) ⊎ ((f : CommandFault) × (command_of d ≡ Err f) × IsFaultOf d f)
+        fields None a = inl (command_in command d, named None a, fields_taken_are command d (sym e) (sym a))
+        fields (Some f) a = inr (f, named (Some f) a, inr (command, e, fields_told command d f a))
+
+fault_refused : (d : Doc) (f : CommandFault) → IsFaultOf d f → command_of d ≡ Err f
+fault_refused d f (inl (none, is)) = ap (λ o. command_named o d) none ∙ ap Err (sym is)
+fault_refused d f (inr (command, is, h)) =
+    ap (λ o. command_named o d) is ∙ ap (λ o. unless_fault o (command_in command d)) (fields_refused command d f h)
+
+pub commands_keep_rules : CommandsKeepRules
+commands_keep_rules d = (kept, suffice)
+  where
+    kept : (c : Command) × (command_of d ≡ Ok c) → IsCommandDocument d
+    kept taken = go (of_document d)
+      where
+        go : ((c : Command) × (command_of d ≡ Ok c) × IsCommandDocument d) ⊎ ((f : CommandFault) × (command_of d ≡ Err f) × IsFaultOf d f) → IsCommandDocument d
+        go (inl (c, is, h)) = h
+        go (inr (f, is, h)) = let e = taken.1 in absurd cc
+
+    suffice : IsCommandDocument d → (c : Command) × (command_of d ≡ Ok c)
+    suffice h =
+        let none = sym (all_kept h.0 d h.2) ∙ h.3 in
+        (command_in h.0 d, ap (λ o. command_named o d) h.1 ∙ ap (λ o. unless_fault o (command_in h.0 d)) none)
+
+pub faults_break_rules : FaultsBreakRules
+faults_break_rules d f = (told, fault_refused d f)
+  where
+    told : command_of d ≡ Err f → IsFaultOf d f
+    told refused = go (of_document d)
+      where
+        go : ((c : Command) × (command_of d ≡ Ok c) × IsCommandDocument d) ⊎ ((g : CommandFault) × (command_of d ≡ Err g) × IsFaultOf d g) → IsFaultOf d f
+        go (inl (c, is, h)) = absurd cc
+        go (inr (g, is, h)) = let e : g ≡ f = cc in subst (IsFaultOf d) e h

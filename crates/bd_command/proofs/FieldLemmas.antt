@@ -1,13 +1,10 @@
 -- Documents as values of fields.
 use Rattle.std.proofs.Common.{◌≡◌, Some, sym, ap, ◌∙◌}
-use Rattle.bd_value.specs.Parts.{AreParts}
+use Rattle.bd_value.specs.{Tree.AreParts, View.pairs, View.tree_of, declared.document.Document.Document, declared.document.Value.Value}
 use Rattle.bd_value.specs.Tree.{Doc, doc, fields_of, pairs_of-fields_of}
-use Rattle.bd_value.specs.View.{pairs, tree_of}
-use Rattle.bd_value.specs.declared.document.Document.{Document}
-use Rattle.bd_value.specs.declared.document.Value.{Value}
-use Rattle.bd_value.specs.declared.document.Value.TheVariants as values
 use Rattle.bd_value.proofs.ViewLemmas.{tree_of-Doc}
 use Rattle.bd_command.specs.Field.{document_field}
+use Rattle.bd_value.specs.declared.document.Value.TheVariants as values
 
 pub document_is : (v : Value) (d : Document) → v ≡ values.Doc d → Some (pairs d) ≡ document_field (tree_of v)
 document_is v d is =

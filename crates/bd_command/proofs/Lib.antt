@@ -1,3 +1,2 @@
 pub mod CommandOfLemmas
 pub mod FieldLemmas
-pub mod RulesLemmas

@@ -1,6 +1,13 @@
--- What a command asks for, with texts as their bytes and documents as their pairs.
-use Rattle.std.specs.Prelude.{ℕ, Bool, List}
-use Rattle.bd_value.specs.Tree.{Doc}
+-- What a command asks for, with texts as their bytes and documents as their pairs; and why a document is no command.
+use Rattle.std.specs.Prelude.{ℕ, Bool, List, string_bytes, get_or, map, ◌-◌, []}
+use Rattle.bd_value.specs.{Tree.Doc, View.pairs}
+use Rattle.bd_command.specs.{declared.command.Hint.Hint as HeldHint, declared.field.HintForm.HintForm, declared.command.Command.Command as HeldCommand}
+use Rattle.bd_command.specs.{declared.command.CommandFault.CommandFault, declared.command.FindCommand.FindCommand as HeldFind}
+use Rattle.bd_command.specs.declared.command.TheConstants.{WORDS}
+use Rattle.bd_command.specs.declared.command.Command.TheVariants as commands
+use Rattle.bd_command.specs.declared.command.CommandFault.TheVariants as faults
+use Rattle.bd_command.specs.declared.command.Hint.TheVariants as hints
+use Rattle.bd_command.specs.declared.field.HintForm.TheVariants as forms
 
 -- by what documents are to be found: by what serves, by a look at each, or by the index on a path
 pub data Hint : Type 0 where
@@ -25,3 +32,42 @@ pub data Command : Type 0 where
   gets_more : ℕ → ℕ → Command
   kills_cursor : ℕ → Command
   explains : FindCommand → Command
+
+-- ---- one in memory
+
+abbrev pub hint_tree : HeldHint → Hint
+hint_tree hints.Auto = any_way
+hint_tree hints.Scan = by_scan
+hint_tree (hints.Index path) = by_index (string_bytes path)
+
+-- the same, with a path that is borrowed
+abbrev pub hint_read : HintForm → Hint
+hint_read forms.Auto = any_way
+hint_read forms.Scan = by_scan
+hint_read (forms.Index path) = by_index path.now
+
+abbrev pub find_tree : HeldFind → FindCommand
+find_tree f = record { filter = pairs f.filter; sort = pairs f.sort; skip = f.skip; limit = f.limit; hint = hint_tree f.hint }
+
+abbrev pub command_tree : HeldCommand → Command
+command_tree (commands.CreateIndex path sparse) = creates_index (string_bytes path) sparse
+command_tree (commands.DropIndex path) = drops_index (string_bytes path)
+command_tree (commands.Find find) = finds (find_tree find)
+command_tree (commands.Resume token find) = resumes (string_bytes token) (find_tree find)
+command_tree (commands.GetMore id batch) = gets_more id batch
+command_tree (commands.KillCursor id) = kills_cursor id
+command_tree (commands.Explain find) = explains (find_tree find)
+
+-- ---- why a document is none: the words, and the number that a reply has; no reply is out of memory
+
+abbrev pub command_fault_number : CommandFault → ℕ
+command_fault_number faults.UnknownCommand = 1
+command_fault_number faults.MissingField = 2
+command_fault_number faults.UnknownField = 3
+command_fault_number faults.RepeatedField = 4
+command_fault_number faults.BadField = 5
+command_fault_number faults.NoMemory = 6
+
+-- what went wrong, in words, which stand in the code by number
+unfoldable pub command_fault_words : CommandFault → List ℕ
+command_fault_words kind = get_or (map (λ text. text.now) WORDS) (command_fault_number kind - 1) []

@@ -1,13 +1,12 @@
 -- The fields of commands, and what the value of a field has to be.
 use Rattle.std.specs.Prelude.{ℕ, pos, Bool, List, [], ◌∷◌, Option, Some, None, codes, if◌then◌else◌, is_some, option_map}
 use Rattle.std.specs.Str.{bytes_eq}
-use Rattle.bd_value.specs.Tree as trees
 use Rattle.bd_value.specs.Tree.{Doc, Tree, leaf, doc, pairs_of}
+use Rattle.bd_command.specs.{declared.field.FieldKind.FieldKind, declared.field.CommandName.CommandName}
 use Rattle.bd_command.specs.Command.{Hint, any_way, by_scan, by_index}
-use Rattle.bd_command.specs.declared.field.FieldKind.{FieldKind}
+use Rattle.bd_value.specs.Tree as trees
 use Rattle.bd_command.specs.declared.field.FieldKind.TheVariants as kinds
-use Rattle.bd_command.specs.declared.name.CommandName.{CommandName}
-use Rattle.bd_command.specs.declared.name.CommandName.TheVariants as names
+use Rattle.bd_command.specs.declared.field.CommandName.TheVariants as names
 
 -- ---- the fields that a command may have, its first one included
 
@@ -25,8 +24,7 @@ command_names =
 
 -- the fields of all that find
 abbrev pub find_fields : List (List ℕ × FieldKind)
-find_fields =
-    (codes "sort", kinds.Document) ∷ (codes "skip", kinds.Count) ∷ (codes "limit", kinds.Count)
+find_fields = (codes "sort", kinds.Document) ∷ (codes "skip", kinds.Count) ∷ (codes "limit", kinds.Count)
     ∷ (codes "use", kinds.Hint) ∷ []
 
 -- each with what its value has to be
@@ -42,7 +40,7 @@ command_fields names.Explain = (codes "explain", kinds.Document) ∷ find_fields
 -- those that it must have besides the first
 abbrev pub required_fields : CommandName → List (List ℕ)
 required_fields names.GetMore = codes "batch" ∷ []
-required_fields command = []
+required_fields _ = []
 
 -- ---- the values of fields
 
@@ -51,12 +49,10 @@ abbrev pub text_field : Tree → Option (List ℕ)
 text_field (leaf (trees.text s)) = Some s
 text_field t = None
 
--- a boolean
 abbrev pub truth_field : Tree → Option Bool
 truth_field (leaf (trees.boolean b)) = Some b
 truth_field t = None
 
--- a document, as its pairs
 abbrev pub document_field : Tree → Option Doc
 document_field (doc fs) = Some (pairs_of fs)
 document_field t = None
@@ -72,14 +68,9 @@ abbrev pub index_field : Doc → Option (List ℕ)
 index_field (p ∷ []) = if bytes_eq p.0 (codes "index") then text_field p.1 else None
 index_field d = None
 
--- the texts of `use`
-abbrev pub hint_named : List ℕ → Option Hint
-hint_named s =
-    if bytes_eq s (codes "auto") then Some any_way else (if bytes_eq s (codes "scan") then Some by_scan else None)
-
 -- the forms of `use`
 abbrev pub hint_field : Tree → Option Hint
-hint_field (leaf (trees.text s)) = hint_named s
+hint_field (leaf (trees.text s)) = entry_of s ((codes "auto", any_way) ∷ (codes "scan", by_scan) ∷ [])
 hint_field (doc fs) = option_map by_index (index_field (pairs_of fs))
 hint_field t = None
 

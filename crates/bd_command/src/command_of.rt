@@ -1,20 +1,18 @@
-//! Documents read as commands.
+//! Documents read as commands: the command that a document is, or its first fault.
 
-ghost use Rattle.std.specs.Prelude.{◌≡◌, ◌<◌, ◌⊎◌, [], take, IfErr, IfOk, IsErrOf, OnOk, Some, Ok, Err, is_some, length, slice_get};
+ghost use Rattle.std.specs.Prelude.{◌≡◌, ◌<◌, ◌⊎◌, [], codes, false, take, IfErr, IfOk, IsErrOf, Some, Ok, Err, is_some, length, slice_get, string_bytes};
 ghost use Rattle.std.specs.Result.{result_err};
-ghost use Rattle.bd_value.specs.Lookup.{first_of};
-ghost use Rattle.bd_value.specs.Tree.{Doc, Pair};
+ghost use Rattle.bd_value.specs.Tree.{first_of, Doc, Pair};
 ghost use Rattle.bd_value.specs.View.{pairs};
-ghost use Rattle.bd_command.specs.CommandOf.{command_in, command_of, find_in, first_command, pair_fault, pairs_fault, missing_fault};
-ghost use Rattle.bd_command.specs.CommandView.{command_tree, find_tree};
-ghost use Rattle.bd_command.specs.Rules.{IsCommandDocument, IsFaultOf};
-ghost use Rattle.bd_command.specs.declared.fault.CommandFault.TheVariants.{NoMemory};
+ghost use Rattle.bd_command.specs.Command.{any_way, command_tree, find_tree, hint_tree};
+ghost use Rattle.bd_command.specs.CommandOf.{CommandsKeepRules, FaultsBreakRules, IsCommandDocument, command_in, command_of, field_value, find_in};
+ghost use Rattle.bd_command.specs.CommandOf.{first_command, missing_fault, pair_fault, pairs_fault};
+ghost use Rattle.bd_command.specs.Field.{count_field, document_field, hint_field, text_field, truth_field};
+ghost use Rattle.bd_command.specs.declared.command.CommandFault.TheVariants.{NoMemory};
 
-use crate::command::{Command, FindCommand};
-use crate::fault::CommandFault;
-use crate::lookup::{count_at, document_at, hint_at, text_at, truth_at};
-use crate::name::CommandName;
-use bd_value::{Document, NoMemory};
+use crate::command::{Command, CommandFault, FindCommand, Hint};
+use crate::field::{CommandName, HintForm, count_in, document_in, hint_in, text_in, truth_in};
+use bd_value::{Document, NoMemory, Reading, Tree, to_document};
 use std::alloc::Global;
 
 /// The command that a document is.
@@ -29,8 +27,6 @@ use std::alloc::Global;
 pub fn read_command(alloc: Global, document: &Document) -> Result<Command, CommandFault>
     ensures command { IfOk result (λ c. command_of (pairs document.now) ≡ Ok (command_tree c)) }
     ensures fault { IfErr result (λ f. (f ≡ NoMemory) ⊎ (command_of (pairs document.now) ≡ Err f)) }
-    ensures keeps { OnOk result (IsCommandDocument (pairs document.now)) }
-    ensures breaks { IfErr result (λ f. (f ≡ NoMemory) ⊎ IsFaultOf (pairs document.now) f) }
     // Want of memory hides no fault.
     ensures starved { IsErrOf result CommandFault.NoMemory → IsCommandDocument (pairs document.now) }
 {
@@ -72,13 +68,10 @@ fn check_field(command: CommandName, document: &Document, i: usize) -> Result<()
     if stands_before(document, i, name) {
         return Err(CommandFault::RepeatedField);
     }
-    let Some(kind) = command.field_kind(name) else {
-        return Err(CommandFault::UnknownField);
-    };
-    if kind.fits(value) {
-        Ok(())
-    } else {
-        Err(CommandFault::BadField)
+    match command.field_kind(name) {
+        None => Err(CommandFault::UnknownField),
+        Some(kind) if kind.fits(value) => Ok(()),
+        Some(_) => Err(CommandFault::BadField),
     }
 }
 
@@ -148,3 +141,60 @@ fn take_find(alloc: Global, filter: &str, document: &Document) -> Result<FindCom
         hint: hint_at(alloc, document)?,
     })
 }
+
+/// The text of a field; empty without one.
+fn text_at(alloc: Global, document: &Document, field: &str) -> Result<String, NoMemory>
+    ensures { IfOk result (λ s. string_bytes s ≡ field_value text_field [] field.now (pairs document.now)) }
+{
+    match document.first(field).and_then(text_in) {
+        Some(text) => String::from_str(alloc, text),
+        None => Ok(String::new(alloc)),
+    }
+}
+
+/// The boolean of a field; false without one.
+fn truth_at(document: &Document, field: &str) -> bool
+    ensures { result ≡ field_value truth_field false field.now (pairs document.now) }
+{
+    document.first(field).and_then(truth_in).unwrap_or(false)
+}
+
+/// A copy of the document of a field; `{}` without one.
+fn document_at(alloc: Global, document: &Document, field: &str) -> Result<Document, NoMemory>
+    ensures { IfOk result (λ d. pairs d ≡ field_value document_field [] field.now (pairs document.now)) }
+{
+    match document.first(field).and_then(document_in) {
+        Some(inner) => copied(alloc, inner),
+        None => Ok(Document::new(alloc)),
+    }
+}
+
+/// The number of a field; 0 without one.
+fn count_at(document: &Document, field: &str) -> u64
+    ensures { result ≡ field_value count_field 0 field.now (pairs document.now) }
+{
+    document.first(field).and_then(count_in).unwrap_or(0)
+}
+
+/// What `use` says; `Auto` without one.
+fn hint_at(alloc: Global, document: &Document) -> Result<Hint, NoMemory>
+    ensures { IfOk result (λ h. hint_tree h ≡ field_value hint_field any_way (codes "use") (pairs document.now)) }
+{
+    Ok(match document.first("use").and_then(hint_in) {
+        Some(HintForm::Scan) => Hint::Scan,
+        Some(HintForm::Index(path)) => Hint::Index(String::from_str(alloc, path)?),
+        _ => Hint::Auto,
+    })
+}
+
+fn copied(alloc: Global, document: &Document) -> Result<Document, NoMemory>
+    ensures { IfOk result (λ d. pairs d ≡ pairs document.now) }
+{
+    to_document::<Tree<'_>>(alloc, Tree::Doc(document).parts())
+}
+
+/// A document is a command exactly where its fields keep the rules, and is refused exactly for the first rule that it breaks.
+pub fn faulty_documents_alone_are_no_commands()
+    ensures commands { CommandsKeepRules }
+    ensures faults { FaultsBreakRules }
+{}

@@ -15,23 +15,14 @@
 //! );
 //! ```
 //!
-//! - `command`: `Command`, to match on: `specs/Command.antt`, and `specs/CommandView.antt` for what it stands for.
-//! - `fault`: `CommandFault`, why a document is no command: `specs/Fault.antt`.
+//! - `command`: `Command`, to match on, and `CommandFault`, why a document is none: `specs/Command.antt`.
 //! - `command_of`: `read_command`, the command that a document is, or its first fault: `specs/CommandOf.antt`.
-//! - `name`, `field`: the names of commands, their fields, and what the value of a field has to be: `specs/Field.antt`.
-//! - `lookup`: the value of a field, or what it is without one.
-//! - `laws`: a document is a command exactly where its fields keep the rules: `specs/Rules.antt`.
+//! - `field`: the names of commands, their fields, and what the value of a field has to be: `specs/Field.antt`.
 #![tactic(auto)]
 
 mod command;
 mod command_of;
-mod fault;
 mod field;
-mod laws;
-mod lookup;
-mod name;
 
-pub use command::{Command, FindCommand, Hint};
-pub use command_of::read_command;
-pub use fault::CommandFault;
-pub use laws::faulty_documents_alone_are_no_commands;
+pub use command::{Command, CommandFault, FindCommand, Hint};
+pub use command_of::{faulty_documents_alone_are_no_commands, read_command};

@@ -1,30 +1,27 @@
 -- What a parse that is refused is told as, and what one without a fault gives: each of its rows has a value. The word `help` names no subcommand.
-use Rattle.std.proofs.Common.{◌≡◌, ◌<◌, ◌+◌, ◌&&◌, ◌||◌, ℕ, Bool, cond, true, false, zero, suc, refl, arith, List, [], ◌∷◌, ◌++◌, length, drop, Option, Some}
-use Rattle.std.proofs.Common.{None, inl, inr, nat_lt, length-append, not, ap, codes}
-use Rattle.std.specs.Prelude.{⊤, find, fold, is_some, slice_get, encode_utf8, option_and_then, IfSome, min, ◌==◌}
+use Rattle.std.proofs.Common.{◌≡◌, ◌<◌, ◌+◌, ◌&&◌, ◌||◌, ℕ, Bool, cond, true, false, zero, suc, refl, arith, List, [], ◌∷◌, ◌++◌, length, drop, Option, Some, None, inl}
+use Rattle.std.proofs.Common.{inr, nat_lt, length-append, not, ap, codes, find, fold, is_some, slice_get, encode_utf8, option_and_then, IfSome, min, ◌==◌}
+use Rattle.std.specs.Prelude.{⊤}
 use Rattle.std.specs.{List.list_all, List.list_any, Option.option_map_or, Str.bytes_eq, Str.chars}
 use Rattle.std.proofs.lemmas.Bool.{and_parts}
 use Rattle.clap.specs.Kinds.{Kinds, or_else, range_kinds, IsAmong, check_kinds, request_kinds, value_kinds, values_kinds}
-use Rattle.clap.specs.Walk.{Held, Names, Outcome, Row, Rule, Step, Text, Waiting, Walk, done, waits, plain, refused, option, trailing, subcommand}
-use Rattle.clap.specs.Walk.{value, action_of, after_flag, after_step, arg_by_id, arg_by_index, arg_by_long, arg_by_short, at_row, attached_value}
-use Rattle.clap.specs.Walk.{bundle, bundle_met, bundle_step, count_of, default_rows, finished, first_of, flag_met, has_row, is_empty, is_pending}
-use Rattle.clap.specs.Walk.{long_met, long_or_other, more_values, most_values, new_count, nothing_held, option_met, option_word, plain_word, reacted}
-use Rattle.clap.specs.Walk.{reading_by, settled, short_met, short_or_plain, subcommand_met, subcommand_or_other, takes_several, takes_values}
-use Rattle.clap.specs.Walk.{to_positional, used, used_as, used_by_id, values_or_missing, walk, walk_from, walked, with_count, with_default}
-use Rattle.clap.specs.Walk.{with_values, without, word_met, answers_to, rows_after, settled_rows, walked_from}
-use Rattle.clap.specs.Faults.{bundle_fault, bundle_step_fault, flag_word_fault, flags_fault, long_fault, option_fault, other_fault, positional_fault}
-use Rattle.clap.specs.Faults.{react_fault, settle_fault, short_fault, step_fault, turn_fault, use_fault, walk_fault, word_fault, action_fault}
-use Rattle.clap.specs.Faults.{built_fault, check_fault, count_fault, default_fault, defaults_fault, entered_fault, given_default_fault, level_fault}
-use Rattle.clap.specs.Faults.{repeat_fault, set_fault, stray_fault, values_fault}
+use Rattle.clap.specs.Walk.{Held, Names, Outcome, Row, Rule, Step, Text, Waiting, Walk, done, waits, plain, refused, option, trailing, value, action_of}
+use Rattle.clap.specs.Walk.{after_flag, after_step, arg_by_id, arg_by_index, arg_by_long, arg_by_short, at_row, attached_value, bundle, bundle_met, bundle_step, count_of}
+use Rattle.clap.specs.Walk.{default_rows, finished, first_of, flag_met, has_row, is_empty, is_pending, long_met, long_or_other, more_values, most_values, new_count}
+use Rattle.clap.specs.Walk.{nothing_held, option_met, option_word, plain_word, reacted, reading_by, settled, short_met, short_or_plain, subcommand_met}
+use Rattle.clap.specs.Walk.{subcommand_or_other, takes_several, takes_values, to_positional, used, used_as, used_by_id, values_or_missing, walk, walk_from, walked}
+use Rattle.clap.specs.Walk.{with_count, with_default, with_values, without, word_met, answers_to, rows_after, settled_rows, walked_from}
+use Rattle.clap.specs.Faults.{bundle_fault, bundle_step_fault, flag_word_fault, flags_fault, long_fault, option_fault, other_fault, positional_fault, react_fault}
+use Rattle.clap.specs.Faults.{settle_fault, short_fault, step_fault, turn_fault, use_fault, walk_fault, word_fault, action_fault, built_fault, check_fault, count_fault}
+use Rattle.clap.specs.Faults.{default_fault, defaults_fault, entered_fault, given_default_fault, level_fault, repeat_fault, set_fault, stray_fault, values_fault}
 use Rattle.clap.specs.declared.builder.action.ArgAction.TheVariants.{Set, Append, SetTrue, SetFalse, Count, Help, HelpShort, HelpLong, Version}
-use Rattle.clap.specs.{Lexer.long_of, Lexer.short_of, Values.is_request, Values.refused_kind, Facts.unwrap_or_range, Facts.explicit_source}
-use Rattle.clap.specs.{Facts.parser_of_value, Matches.count_text, Takes.is_given, Simple.Shape, Simple.App, Simple.entered, Simple.label_of}
-use Rattle.clap.specs.{Simple.names_of, declared.builder.action.ArgAction.ArgAction, declared.builder.value_parser.Reading.Reading}
-use Rattle.clap.specs.{declared.parser.matches.ValueSource.ValueSource, declared.parser.matches.ValueSource.TheVariants.DefaultValue}
-use Rattle.clap.specs.{declared.parser.matches.ValueSource.TheVariants.CommandLine, ValueTests.accepts}
-use Rattle.clap.specs.{declared.builder.value_parser.ValueParser.ValueParser, declared.error.kind.ErrorKind.ErrorKind}
+use Rattle.clap.specs.declared.parser.matches.ValueSource.TheVariants.{DefaultValue, CommandLine}
+use Rattle.clap.specs.{Lexer.long_of, Lexer.short_of, Values.is_request, Values.refused_kind, Facts.unwrap_or_range, Facts.explicit_source, Facts.parser_of_value}
+use Rattle.clap.specs.{Matches.count_text, Takes.is_given, Simple.Shape, Simple.App, Simple.entered, Simple.label_of, Simple.names_of}
+use Rattle.clap.specs.{declared.builder.action.ArgAction.ArgAction, declared.builder.value_parser.Reading.Reading, declared.parser.matches.ValueSource.ValueSource}
+use Rattle.clap.specs.{ValueTests.accepts, declared.builder.value_parser.ValueParser.ValueParser, declared.error.kind.ErrorKind.ErrorKind}
+use Rattle.bd_command_line.specs.CommandLine.{refusal_told}
 use Rattle.clap.specs.declared.error.kind.ErrorKind.TheVariants as kind
-use Rattle.bd_command_line.specs.CommandLine.{told_as}
 
 left_nil : (a b : Kinds) → or_else a b ≡ [] → a ≡ []
 left_nil [] b e = refl
@@ -80,7 +77,7 @@ used_as-filled _ id how values rows some h = h
 -- the kinds are all told as the first
 abbrev pub SameTold : Kinds → Type 0
 SameTold [] = ⊤
-SameTold (k ∷ ks) = (x : ErrorKind) → IsAmong x ks → told_as x ≡ told_as k
+SameTold (k ∷ ks) = (x : ErrorKind) → IsAmong x ks → refusal_told x ≡ refusal_told k
 
 one : (k : ErrorKind) → SameTold (k ∷ [])
 one k x a = absurd a
@@ -187,7 +184,7 @@ used-sound again a values rows fill h = record { told = same-use again a values 
 
 same-stray : (s : Shape) → SameTold (stray_fault s)
 same-stray s = same-cond s.is_leaf (kind.UnknownArgument ∷ []) (kind.UnknownArgument ∷ kind.InvalidSubcommand ∷ []) (one kind.UnknownArgument)
-    (λ x a. elim a [ inl e ↦ ap told_as e | inr none ↦ absurd none ])
+    (λ x a. elim a [ inl e ↦ ap refusal_told e | inr none ↦ absurd none ])
 
 -- ---- the walk
 

@@ -1,3 +1,2 @@
 pub mod FaultLemmas
 pub mod LineLemmas
-pub mod NumberLemmas

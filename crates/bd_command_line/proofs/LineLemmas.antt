@@ -1,27 +1,28 @@
 -- The lines that are taken have an order; those of a command that takes a file and nothing else are taken.
 use Rattle.std.proofs.Common.{ap₂, subst, ◌⊎◌, inl, inr, ◌≡◌, ◌∙◌, ◌||◌, Bool, cond, true, false, not, refl, sym, ap, List, [], ◌∷◌, codes, Option, Some, None}
-use Rattle.std.proofs.Common.{true≢false, ℕ}
-use Rattle.std.specs.Prelude.{Result, Ok, Err, IfOk, IfErr, ⊤, Box, find, slice_get, unwrap_or, IfSome, is_some, option_and_then, option_map, if◌then◌else◌, ◌==◌}
+use Rattle.std.proofs.Common.{true≢false, ℕ, Result, Ok, Err, IfOk, IfErr, Box, find, slice_get, unwrap_or, IfSome, is_some, option_and_then, option_map, if◌then◌else◌}
+use Rattle.std.proofs.Common.{◌==◌, ◌<◌, ◌^◌, arith}
+use Rattle.std.specs.Prelude.{⊤}
+use Rattle.std.specs.Str.Parse.{ParsesUnsigned, digits_value, without_leading_plus, IsNumeral}
 use Rattle.std.specs.{Option.option_map_or, Option.option_or, Box.box_value}
-use Rattle.std.proofs.lemmas.{Slice.Eq.bytes_eq-Decides, Bool.and_parts}
+use Rattle.std.proofs.lemmas.{Slice.Eq.bytes_eq-Decides, Bool.and_parts, Bool.cond_both}
 use Rattle.std.proofs.Math.Bool.{and-false}
-use Rattle.clap.specs.Simple.{App, HasMatchesOf, Shape, built, built_leaf, entered, inherited, marked_built, on_top, subcommand_rows, with_leaf_noted}
-use Rattle.clap.specs.Simple.{is_simple, label_of, names_of, rows_at, subcommand_of, subcommand_rows_of}
-use Rattle.clap.specs.declared.error.kind.ErrorKind.TheVariants.{OutOfMemory, MissingRequiredArgument, MissingSubcommand, UnknownArgument}
-use Rattle.clap.specs.declared.error.kind.ErrorKind.TheVariants.{InvalidSubcommand}
-use Rattle.clap.specs.{Kinds.HasKind, Kinds.IsAmong, Kinds.Kinds, Kinds.check_kinds, Kinds.or_else, Values.kind_of, Matches.found_of}
-use Rattle.clap.specs.{Matches.subcommand_name_of, declared.parser.matches.ArgMatches.TheViews.out-ArgMatches}
-use Rattle.clap.specs.{declared.parser.matches.ArgMatches.TheViews.out-SubCommand, declared.parser.matches.SubCommand.SubCommand}
-use Rattle.clap.specs.{declared.error.Error.Error, declared.parser.matches.ArgMatches.ArgMatches, Walk.Row, Walk.rows_of, Walk.Text, Walk.answers_to}
-use Rattle.clap.specs.{Walk.finished, Walk.first_of, Walk.nothing_held, Walk.rows_after, Walk.walk, Faults.check_fault, Faults.entered_fault}
-use Rattle.clap.specs.{Faults.fault_of, Faults.is_simple_and_free, Faults.level_fault, Takes.is_given, Takes.takes}
-use Rattle.clap.specs.{declared.error.kind.ErrorKind.ErrorKind}
+use Rattle.clap.specs.Simple.{App, HasMatchesOf, Shape, built, built_leaf, entered, inherited, marked_built, on_top, subcommand_rows, with_leaf_noted, is_simple}
+use Rattle.clap.specs.Simple.{label_of, names_of, rows_at, subcommand_of, subcommand_rows_of}
+use Rattle.clap.specs.declared.error.kind.ErrorKind.TheVariants.{OutOfMemory, MissingRequiredArgument, MissingSubcommand, UnknownArgument, InvalidSubcommand}
+use Rattle.clap.specs.declared.parser.matches.ArgMatches.TheViews.{out-ArgMatches, out-SubCommand}
+use Rattle.clap.specs.{Kinds.HasKind, Kinds.IsAmong, Kinds.Kinds, Kinds.check_kinds, Kinds.or_else, Values.kind_of, Matches.found_of, Matches.subcommand_name_of}
+use Rattle.clap.specs.{declared.parser.matches.SubCommand.SubCommand, declared.error.Error.Error, declared.parser.matches.ArgMatches.ArgMatches, Walk.Row, Walk.rows_of}
+use Rattle.clap.specs.{Walk.Text, Walk.answers_to, Walk.finished, Walk.first_of, Walk.nothing_held, Walk.rows_after, Walk.walk, Faults.check_fault, Faults.entered_fault}
+use Rattle.clap.specs.{Faults.fault_of, Faults.is_simple_and_free, Faults.level_fault, Takes.is_given, Takes.takes, declared.error.kind.ErrorKind.ErrorKind}
+use Rattle.clap.specs.{Words.ReadsOne, ValueTests.is_unsigned_in, declared.builder.value_parser.ValueParser.TheVariants.Unsigned}
+use Rattle.clap.proofs.ValueTestLemmas.{accepts-Accepts, Accepts-accepts}
 use Rattle.clap.proofs.{OnLiterals.clap_on_literals, WalkLemmas.first_value-rows, WalkLemmas.one_text-rows}
-use Rattle.bd_command_line.specs.CommandLine.{OrderView, GivesOrder, meant, check, dump, pack, serve, fault_for, file_app, find_app, find_ordered}
-use Rattle.bd_command_line.specs.CommandLine.{told_as, is_help_line, is_serve_of_input, line_app, order_of, ordered_by, parser_refusal, serves_input}
-use Rattle.bd_command_line.specs.CommandLine.{IsFileCommand, is_file_word, is_serve_input_line}
-use Rattle.bd_command_line.specs.{declared.order.Order.Order, declared.order.WordsFault.WordsFault, declared.order.WordsFault.TheVariants.NoMemory}
-use Rattle.bd_command_line.specs.{declared.order.WordsFault.TheVariants.Usage}
+use Rattle.bd_command_line.specs.CommandLine.{OrderView, GivesOrder, meant, check, dump, pack, serve, fault_for, file_app, find_app, find_ordered, refusal_told}
+use Rattle.bd_command_line.specs.CommandLine.{is_help_line, is_serve_of_input, line_app, order_of, ordered_by, parser_refusal, serves_input, IsFileCommand, is_file_word}
+use Rattle.bd_command_line.specs.CommandLine.{is_serve_input_line, number_read}
+use Rattle.bd_command_line.specs.declared.order.WordsFault.TheVariants.{NoMemory, Usage}
+use Rattle.bd_command_line.specs.{declared.order.Order.Order, declared.order.WordsFault.WordsFault}
 use Rattle.bd_command_line.proofs.FaultLemmas.{SameTold, given_first, is_plain, level-sound, same-entered, same-fault}
 
 refused : (k : ErrorKind) → k ∷ [] ≡ [] → ⊥
@@ -149,7 +150,7 @@ pub help_line_told : (words : List Text) → is_help_line words ≡ true → fau
 help_line_told words e =
     let h = help_words words e in
     told_by words (Some Usage) (serves_input words)
-    (ap parser_refusal h.1 ∙ ap (λ ks. option_map told_as (slice_get ks 0)) (help_fault h.0)) refl
+    (ap parser_refusal h.1 ∙ ap (λ ks. option_map refusal_told (slice_get ks 0)) (help_fault h.0)) refl
 
 pub help_line_refused : (words : List Text) → is_help_line words ≡ true → takes line_app words ≡ true → ⊥
 help_line_refused words e taken =
@@ -163,18 +164,18 @@ IsTaken words order = (fault_of line_app words ≡ []) × (order_of words ≡ So
 
 -- ---- what a refusal is told as
 
-first_told : (kinds : Kinds) (k : ErrorKind) → SameTold kinds → IsAmong k kinds → option_map told_as (slice_get kinds 0) ≡ Some (told_as k)
+first_told : (kinds : Kinds) (k : ErrorKind) → SameTold kinds → IsAmong k kinds → option_map refusal_told (slice_get kinds 0) ≡ Some (refusal_told k)
 first_told [] k same a = absurd a
-first_told (x ∷ xs) k same (inl is) = ap (λ y. Some (told_as y)) (sym is)
+first_told (x ∷ xs) k same (inl is) = ap (λ y. Some (refusal_told y)) (sym is)
 first_told (x ∷ xs) k same (inr more) = ap (λ f. Some f) (sym (same k more))
 
 kind_told : (words : List Text) (e : Error) → HasKind (fault_of line_app words) e
-    → (told_as (kind_of e) ≡ NoMemory) ⊎ (parser_refusal words ≡ Some (told_as (kind_of e)))
-kind_told words e (inl memory) = inl (ap told_as memory)
+    → (refusal_told (kind_of e) ≡ NoMemory) ⊎ (parser_refusal words ≡ Some (refusal_told (kind_of e)))
+kind_told words e (inl memory) = inl (ap refusal_told memory)
 kind_told words e (inr among) = inr (first_told (fault_of line_app words) (kind_of e) (same-fault (built line_app) words refl) among)
 
 pub refusal_none : (words : List Text) → fault_of line_app words ≡ [] → parser_refusal words ≡ None
-refusal_none words is = ap (λ ks. option_map told_as (slice_get ks 0)) is
+refusal_none words is = ap (λ ks. option_map refusal_told (slice_get ks 0)) is
 
 -- words without a fault are refused only if memory runs out
 pub only_memory : (words : List Text) (f : WordsFault) → fault_for words ≡ None → (f ≡ NoMemory) ⊎ (fault_for words ≡ Some f) → f ≡ NoMemory
@@ -210,14 +211,14 @@ no_file name rows e = rw e (simp same_cond)
 -- ---- the clauses of the parse, at the program's line
 
 pub refused_as : (a : App) (words : List Text) (e : Error) (f : WordsFault) → a ≡ line_app → (is_simple_and_free a ≡ true → HasKind (fault_of a words) e)
-    → f ≡ told_as (kind_of e) → (f ≡ NoMemory) ⊎ (parser_refusal words ≡ Some f)
+    → f ≡ refusal_told (kind_of e) → (f ≡ NoMemory) ⊎ (parser_refusal words ≡ Some f)
 refused_as a words e f is h told =
     let kinds = subst (λ (x : App). is_simple_and_free x ≡ true → HasKind (fault_of x words) e) is h line_free in
     subst (λ (x : WordsFault). (x ≡ NoMemory) ⊎ (parser_refusal words ≡ Some x)) (sym told) (kind_told words e kinds)
 
 pub refused_taken : (a : App) (words : List Text) (e : Error) → a ≡ line_app → (takes a words ≡ true → kind_of e ≡ OutOfMemory) → takes line_app words ≡ true
-    → told_as (kind_of e) ≡ NoMemory
-refused_taken a words e is h taken = ap told_as (h (ap (λ (x : App). takes x words) is ∙ taken))
+    → refusal_told (kind_of e) ≡ NoMemory
+refused_taken a words e is h taken = ap refusal_told (h (ap (λ (x : App). takes x words) is ∙ taken))
 
 pub no_fault : (a : App) (words : List Text) → a ≡ line_app → (is_simple_and_free a ≡ true → fault_of a words ≡ []) → fault_of line_app words ≡ []
 no_fault a words is h = subst (λ (x : App). is_simple_and_free x ≡ true → fault_of x words ≡ []) is h line_free
@@ -280,31 +281,24 @@ Enters name order words =
     (fault_of line_app (name ∷ words) ≡ or_else (level_fault (file_shape name) [] nothing_held words false []) [])
     × (order_of (name ∷ words) ≡ option_map order (first_of (codes "file") (rows_after (file_shape name).rules [] words)))
 
-enters_plain : (name : Text) (order : Text → OrderView) → IsFileCommand name order → (file : Text) → Enters name order (file ∷ [])
+enters : (name : Text) (order : Text → OrderView) → IsFileCommand name order → (file : Text) → Enters name order (file ∷ []) × Enters name order (codes "--" ∷ file ∷ [])
 unfolding clap_on_literals
-enters_plain name order (inl e) file = rw (e.0, e.1) (refl, refl)
-enters_plain name order (inr (inl e)) file = rw (e.0, e.1) (refl, refl)
-enters_plain name order (inr (inr (inl e))) file = rw (e.0, e.1) (refl, refl)
-enters_plain name order (inr (inr (inr e))) file = rw (e.0, e.1) (refl, refl)
-
-enters_escaped : (name : Text) (order : Text → OrderView) → IsFileCommand name order → (file : Text) → Enters name order (codes "--" ∷ file ∷ [])
-unfolding clap_on_literals
-enters_escaped name order (inl e) file = rw (e.0, e.1) (refl, refl)
-enters_escaped name order (inr (inl e)) file = rw (e.0, e.1) (refl, refl)
-enters_escaped name order (inr (inr (inl e))) file = rw (e.0, e.1) (refl, refl)
-enters_escaped name order (inr (inr (inr e))) file = rw (e.0, e.1) (refl, refl)
+enters name order (inl e) file = rw (e.0, e.1) ((refl, refl), (refl, refl))
+enters name order (inr (inl e)) file = rw (e.0, e.1) ((refl, refl), (refl, refl))
+enters name order (inr (inr (inl e))) file = rw (e.0, e.1) ((refl, refl), (refl, refl))
+enters name order (inr (inr (inr e))) file = rw (e.0, e.1) ((refl, refl), (refl, refl))
 
 taken : (name file : Text) (order : Text → OrderView) (words : List Text) → Enters name order words → Takes name words file → IsTaken (name ∷ words) (order file)
 taken name file order words enters takes = (enters.0 ∙ ap (λ ks. or_else ks []) takes.0, enters.1 ∙ ap (option_map order) takes.1)
 
 pub file_taken : (name file : Text) (order : Text → OrderView) → IsFileCommand name order → is_file_word file ≡ true
     → IsTaken (name ∷ file ∷ []) (order file)
-file_taken name file order which plain = taken name file order (file ∷ []) (enters_plain name order which file) (file_plain name file plain)
+file_taken name file order which plain = taken name file order (file ∷ []) (enters name order which file).0 (file_plain name file plain)
 
 pub file_escaped_taken : (name file : Text) (order : Text → OrderView) → IsFileCommand name order
     → IsTaken (name ∷ codes "--" ∷ file ∷ []) (order file)
 file_escaped_taken name file order which =
-    taken name file order (codes "--" ∷ file ∷ []) (enters_escaped name order which file) (file_escaped name file)
+    taken name file order (codes "--" ∷ file ∷ []) (enters name order which file).1 (file_escaped name file)
 
 -- ---- `serve` of the standard input
 
@@ -333,3 +327,33 @@ line_of_input (a ∷ b ∷ c ∷ []) e =
     subst IsOfInput (sym (ap₂ (λ (x : Text) (rest : List Text). x ∷ rest) command (ap₂ (λ (x y : Text). x ∷ y ∷ []) escape file)))
     (taken_of_input (codes "serve" ∷ codes "--" ∷ codes "-" ∷ []) (file_escaped_taken (codes "serve") (codes "-") serve (inr (inr (inr (refl, refl))))))
 line_of_input _ e = let bad : ⊥ = cc in absurd bad
+
+-- the text is a number of 32 bits
+abbrev pub IsSmall : List ℕ → Type 0
+IsSmall t = IsNumeral 10 (without_leading_plus t) × (digits_value 10 (without_leading_plus t) < 2 ^ 32)
+
+pub small_yes : (t : List ℕ) → IsSmall t → is_unsigned_in 0 4294967295 t ≡ true
+small_yes t h = Accepts-accepts false (Unsigned 0 4294967295) t (h.0, omega (arith, h.1), omega arith, omega (arith, h.1))
+
+small_back : (t : List ℕ) → is_unsigned_in 0 4294967295 t ≡ true → IsSmall t
+small_back t e = let a = accepts-Accepts false (Unsigned 0 4294967295) t e in (a.0, omega (arith, a.3))
+
+read_some : {E : Type 0} (t : List ℕ) (r : Result ℕ E) (n : ℕ) → ParsesUnsigned 32 10 t r → r ≡ Ok n → number_read t ≡ Some n
+read_some t (Ok k) n h e =
+    let same : k ≡ n = cc in
+    rw (small_yes t h.0) (ap (λ m. Some m) (sym h.1 ∙ same))
+read_some t (Err e) n h is = absurd cc
+
+read_none : {E : Type 0} (t : List ℕ) (r : Result ℕ E) (e : E) → ParsesUnsigned 32 10 t r → r ≡ Err e → number_read t ≡ None
+read_none t (Ok k) e h is = absurd cc
+read_none t (Err d) e h is = cond_both (is_unsigned_in 0 4294967295 t) (Some (digits_value 10 (without_leading_plus t))) None (λ o. o ≡ None)
+    (λ fits. absurd (h (small_back t fits))) (λ other. refl)
+
+pub number_is : (E : Type 0) (gives : List ℕ → Result ℕ E → Type 0) → ((t : List ℕ) (r : Result ℕ E) → gives t r → ParsesUnsigned 32 10 t r) → (o : Option (List ℕ)) (r : Option ℕ)
+    → (o ≡ None → r ≡ None) → ((t : List ℕ) → o ≡ Some t → ReadsOne gives t r) → option_and_then number_read o ≡ r
+number_is E gives parses None r none value = sym (none refl)
+number_is E gives parses (Some t) (Some n) none value = let done : Result ℕ E = Ok n in read_some t done n (parses t done (value t refl)) refl
+number_is E gives parses (Some t) None none value =
+    let v = value t refl in
+    let failed : Result ℕ E = Err v.0 in
+    read_none t failed v.0 (parses t failed v.1) refl

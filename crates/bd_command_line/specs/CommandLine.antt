@@ -1,23 +1,14 @@
 -- What the words of a line order, by the parser's own definition of the lines that it takes.
-use Rattle.std.specs.Prelude.{ℕ, List, [], ◌∷◌, Bool, not, ◌&&◌, map, codes, Option, Some, None, true}
-use Rattle.std.specs.Prelude.{option_and_then, option_map, if◌then◌else◌, String, string_bytes}
-use Rattle.std.specs.Prelude.{◌≡◌, ◌==◌, ◌⊎◌, Result, MatchResult, false, slice_get, unwrap_or}
-use Rattle.std.specs.Str.{bytes_eq}
-use Rattle.std.specs.Option.{option_map_or, option_or}
-use Rattle.std.specs.Str.Parse.{digits_value, without_leading_plus}
-use Rattle.clap.specs.Walk.{Row, Rule, Text, first_of, one_of}
-use Rattle.clap.specs.ValueTests.{is_unsigned_in}
-use Rattle.clap.specs.declared.builder.value_parser.ValueParser.TheVariants.{Unsigned}
-use Rattle.clap.specs.Simple.{App, new_app, new_rule, on_top, subcommand_of, with_rule, with_subcommand}
-use Rattle.clap.specs.Faults.{fault_of}
-use Rattle.clap.specs.declared.builder.action.ArgAction.TheVariants.{Set}
-use Rattle.clap.specs.declared.error.kind.ErrorKind.{ErrorKind}
-use Rattle.clap.specs.declared.error.kind.ErrorKind.TheVariants as kind
-use Rattle.bd_command_line.specs.declared.order.Order.{Order}
+use Rattle.std.specs.Prelude.{◌≡◌, ◌==◌, ◌⊎◌, ◌&&◌, ℕ, List, [], ◌∷◌, Bool, true, false, not, if◌then◌else◌, map, slice_get, codes, String, string_bytes, Option, Some}
+use Rattle.std.specs.Prelude.{None, option_map, option_and_then, unwrap_or, Result, MatchResult}
+use Rattle.std.specs.{Str.bytes_eq, Str.Parse.digits_value, Str.Parse.without_leading_plus, Option.option_map_or, Option.option_or}
+use Rattle.clap.specs.{Walk.Row, Walk.Rule, Walk.Text, Walk.first_of, Walk.one_of, Simple.App, Simple.new_app, Simple.new_rule, Simple.on_top, Simple.subcommand_of}
+use Rattle.clap.specs.{Simple.with_rule, Simple.with_subcommand, Faults.fault_of, ValueTests.is_unsigned_in, declared.error.kind.ErrorKind.ErrorKind}
+use Rattle.clap.specs.{declared.builder.value_parser.ValueParser.TheVariants.Unsigned, declared.builder.action.ArgAction.TheVariants.Set}
 use Rattle.bd_command_line.specs.declared.order.Order.TheVariants.{Dump, Check, Pack, Find, Serve}
-use Rattle.bd_command_line.specs.declared.order.WordsFault.{WordsFault}
 use Rattle.bd_command_line.specs.declared.order.WordsFault.TheVariants.{Help, NoMemory, Usage}
-use Rattle.bd_command_line.specs.FindWords.{FindWords, find_words_of}
+use Rattle.bd_command_line.specs.{FindWords.FindWords, FindWords.find_words_of, declared.order.Order.Order, declared.order.WordsFault.WordsFault}
+use Rattle.clap.specs.declared.error.kind.ErrorKind.TheVariants as kind
 
 -- ---- the lines that are taken, as the parser has them
 
@@ -29,17 +20,13 @@ file_rule = record (new_rule (codes "file")) { required = true; action = Some Se
 abbrev pub file_app : Text → App
 file_app name = with_rule (new_app name) file_rule
 
--- an option of `find` that takes a text, and one that takes a number
-abbrev pub text_rule : Text → Rule
-text_rule name = record (new_rule name) { long = Some name; action = Some Set }
-
-abbrev pub number_rule : Text → Rule
-number_rule name =
-    record (new_rule name) { long = Some name; action = Some Set; parser = Some (Unsigned 0 2147483647) }
-
--- one or the other
+-- an option of `find`, which takes a number or a text
 abbrev pub option_rule : Text → Bool → Rule
-option_rule name takes_number = if takes_number then number_rule name else text_rule name
+option_rule name takes_number = record (new_rule name) {
+  long = Some name;
+  action = Some Set;
+  parser = if takes_number then Some (Unsigned 0 2147483647) else None;
+}
 
 -- a command with these options more, and whether each takes a number
 abbrev pub with_options : App → List (Text × Bool) → App
@@ -65,12 +52,9 @@ abbrev pub with_file_commands : App → List Text → App
 with_file_commands app [] = app
 with_file_commands app (name ∷ names) = with_file_commands (with_subcommand app (file_app name).top) names
 
--- the line with the commands that take a file alone
-abbrev pub files_app : App
-files_app = with_file_commands top_app (codes "dump" ∷ codes "check" ∷ codes "pack" ∷ codes "serve" ∷ [])
-
 abbrev pub line_app : App
-line_app = with_subcommand files_app find_app.top
+line_app = with_subcommand (with_file_commands top_app (codes "dump" ∷ codes "check" ∷ codes "pack" ∷ codes "serve" ∷ []))
+    find_app.top
 
 -- ---- what they order
 
@@ -83,8 +67,7 @@ pub data OrderView : Type 0 where
 
 -- a command that takes a file and nothing else, and its order
 abbrev pub IsFileCommand : Text → (Text → OrderView) → Type 0
-IsFileCommand name order =
-    ((name ≡ codes "dump") × (order ≡ dump)) ⊎ ((name ≡ codes "check") × (order ≡ check))
+IsFileCommand name order = ((name ≡ codes "dump") × (order ≡ dump)) ⊎ ((name ≡ codes "check") × (order ≡ check))
     ⊎ ((name ≡ codes "pack") × (order ≡ pack)) ⊎ ((name ≡ codes "serve") × (order ≡ serve))
 
 abbrev pub meant : Order → OrderView
@@ -99,8 +82,7 @@ words_of = map string_bytes
 
 -- the number of 32 bits that a text is read as
 abbrev pub number_read : Text → Option ℕ
-number_read text =
-    if is_unsigned_in 0 4294967295 text then Some (digits_value 10 (without_leading_plus text)) else None
+number_read text = if is_unsigned_in 0 4294967295 text then Some (digits_value 10 (without_leading_plus text)) else None
 
 -- the number of an option
 abbrev pub option_number : Text → List Row → Option ℕ
@@ -123,8 +105,7 @@ find_ordered rows file = find file (find_words_in rows)
 
 -- the order of a command's name and its matches
 abbrev pub ordered_by : Text → List Row → Option OrderView
-ordered_by name rows =
-    if bytes_eq name (codes "dump") then option_map dump (first_of (codes "file") rows)
+ordered_by name rows = if bytes_eq name (codes "dump") then option_map dump (first_of (codes "file") rows)
     else (if bytes_eq name (codes "check") then option_map check (first_of (codes "file") rows)
     else (if bytes_eq name (codes "pack") then option_map pack (first_of (codes "file") rows)
     else (if bytes_eq name (codes "find")
@@ -137,15 +118,15 @@ order_of words = option_and_then (λ p. ordered_by p.0 p.1) (subcommand_of line_
 
 -- ---- and how the others are answered
 
-abbrev pub told_as : ErrorKind → WordsFault
-told_as kind.DisplayHelp = Help
-told_as kind.OutOfMemory = NoMemory
-told_as _ = Usage
+abbrev pub refusal_told : ErrorKind → WordsFault
+refusal_told kind.DisplayHelp = Help
+refusal_told kind.OutOfMemory = NoMemory
+refusal_told _ = Usage
 
 -- the fault that the parser's refusal of the words is told as; none where it takes them. Where the
 -- parser may give one of several kinds, all of them are told as the first.
 abbrev pub parser_refusal : List Text → Option WordsFault
-parser_refusal words = option_map told_as (slice_get (fault_of line_app words) 0)
+parser_refusal words = option_map refusal_told (slice_get (fault_of line_app words) 0)
 
 -- `serve` of the standard input: the commands of a session come from there, so the dump can not
 abbrev pub is_serve_of_input : OrderView → Bool
@@ -175,7 +156,8 @@ is_serve_input_line (command ∷ escape ∷ file ∷ []) =
     bytes_eq command (codes "serve") && (bytes_eq escape (codes "--") && bytes_eq file (codes "-"))
 is_serve_input_line _ = false
 
--- a word that may stand as FILE, or as the text after `--index` or `--after`: none of two bytes and more that begins with a hyphen (45)
+-- a word that may stand as FILE, or as the text after `--index` or `--after`: none of two bytes and more that begins with a
+-- hyphen (45)
 abbrev pub is_file_word : Text → Bool
 is_file_word (x ∷ y ∷ rest) = not (x == 45)
 is_file_word _ = true

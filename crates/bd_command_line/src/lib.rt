@@ -16,11 +16,9 @@
 //!
 //! - `order`: what a line orders, or why it does not.
 //! - `command_line`: `parse_words`, by `clap`.
-//! - `find_words`: the words of `find`, which takes options.
 #![tactic(auto)]
 
 mod command_line;
-mod find_words;
 mod order;
 
 pub use command_line::{USAGE, parse_words};

@@ -1,35 +1,36 @@
--- The places within bounds are a source, places that ascend have the order of no sort, and what is read on an access path.
-use Rattle.std.proofs.Common.{◌≡◌, ◌≢◌, ◌+◌, ◌<◌, ℕ, zero, suc, Bool, true, false, cond, List, [], ◌∷◌, length, get_or, Option, Some, None, refl, sym, ap, ap₂, ◌∙◌}
-use Rattle.std.proofs.Common.{subst, arith, eq-eqb, filter}
-use Rattle.std.specs.Prelude.{◌==◌, ◌&&◌, ◌||◌, nat_lt, Contains, count_by}
-use Rattle.std.specs.{Borrow.Bor, Option.option_copied, List.list_any, List.range_with_len, List.Sorted.IsStrictlyIncreasing, Ordering.is_lt}
-use Rattle.std.specs.{declared.cmp.Ordering.TheVariants.Less, declared.cmp.Ordering.TheVariants.Equal, declared.cmp.Ordering.TheVariants.Greater}
-use Rattle.std.specs.{Cmp.IsTotalOrder}
-use Rattle.std.proofs.Math.Bool.{and-or_distrib_right, and-true, or-false}
-use Rattle.std.proofs.lemmas.Bool.{and_parts, and_right, eqb-true, le-ltb, lt-ltb, ltb-true, ne_eqb, or_parts, true≢false}
-use Rattle.std.proofs.lemmas.List.FromFn.{get_or-range_with_len, length-range_with_len, sum_by-map-range_with_len_more}
-use Rattle.std.proofs.lemmas.{List.Folds.Any-from_list_any, List.Folds.list_any_at, List.Kept.AllPairs-from_increasing, Cmp.on_total, List.map-id}
-use Rattle.std.proofs.lemmas.{List.Elements.filter_agree, List.Sums.length-filter}
-use Rattle.bd_value.specs.Tree as trees
+-- Which index is taken, that it leads to the documents that match, and what is read on an access path.
+use Rattle.std.proofs.Common.{◌≡◌, ◌≢◌, ◌+◌, ◌<◌, ℕ, zero, suc, Bool, true, false, cond, List, [], ◌∷◌, length, get_or, Option, Some, None, refl, sym, ap, ap₂, ◌∙◌, subst, arith, eq-eqb}
+use Rattle.std.proofs.Common.{filter, map}
+use Rattle.std.proofs.lemmas.Bool.{and_parts, and_right, eqb-true, le-ltb, lt-ltb, ltb-true, ne_eqb, or_parts, true≢false, not-true}
+use Rattle.std.proofs.{Math.Bool.and-or_distrib_right, Math.Bool.and-true, Math.Bool.or-false, lemmas.List.FromFn.get_or-range_with_len, lemmas.List.FromFn.length-range_with_len}
+use Rattle.std.proofs.{lemmas.List.FromFn.sum_by-map-range_with_len_more, lemmas.List.Folds.Any-from_list_any, lemmas.List.Folds.list_any_at, lemmas.List.Kept.AllPairs-from_increasing}
+use Rattle.std.proofs.{lemmas.Cmp.on_total, lemmas.List.map-id, lemmas.List.get_or-map, lemmas.List.length-map, lemmas.List.Elements.filter_agree, lemmas.List.Sums.length-filter}
+use Rattle.std.proofs.{lemmas.List.Splits.join_with_byte-slice_split, lemmas.Slice.Eq.bytes_eq-Decides, lemmas.Slice.Eq.slice_eq-Decides, lemmas.List.Quantifiers.position-Some}
+use Rattle.std.proofs.{lemmas.Bool.Decides.same_from_decides, lemmas.Option.cond_some}
+use Rattle.std.specs.Prelude.{◌==◌, ◌&&◌, ◌||◌, nat_lt, Contains, count_by, not, string_bytes, is_some}
+use Rattle.std.specs.List.{list_any, range_with_len, join_with_byte, position, prefix_len, position_or_len}
+use Rattle.std.specs.declared.cmp.Ordering.TheVariants.{Less, Equal, Greater}
+use Rattle.std.specs.{Bool.Decides, Cmp.Lexicographic.pointwise, Borrow.Bor, Option.option_copied, List.Sorted.IsStrictlyIncreasing, Ordering.is_lt, Cmp.IsTotalOrder, Str.bytes_eq}
 use Rattle.bd_value.specs.Tree.{Doc, Tree, doc, fields_of, leaf}
-use Rattle.bd_answer.specs.{Answer.before, Answer.Selection, Answer.matching, AnswerLaws.IsAscending, Source.IsSource, Source.passes}
-use Rattle.bd_answer.specs.{Session.Explanation, Session.PlanKind}
-use Rattle.bd_bson.specs.{Collection.documents, declared.collection.Dump.Dump, Documents.document_at}
-use Rattle.bd_path.specs.{Earliest.SortPath, KeyList.indexed_keys, KeyList.keys, KeyList.sparse_keys, Names.Names, PathNames.names_of}
-use Rattle.bd_path.specs.{Sort.sort_paths, declared.dir.Dir.Dir, declared.path.Path.Path}
-use Rattle.bd_path.proofs.LawsLemmas.{has_a_key, sort_total}
-use Rattle.bd_filter.specs.{Filter.Filter, FilterMatch.matches, FilterView.filter_tree}
+use Rattle.bd_answer.specs.Session.{Explanation, PlanKind, IndexMark, is_on}
+use Rattle.bd_answer.specs.{Answer.before, Answer.Selection, Answer.matching, Laws.IsAscending, Source.IsSource, Source.passes}
+use Rattle.bd_bson.specs.{Collection.documents, declared.collection.Dump.Dump, Collection.document_at}
+use Rattle.bd_path.specs.Key.{indexed_keys, keys, sparse_keys}
+use Rattle.bd_path.specs.{Sort.SortPath, Reach.Names, Path.components_of, PathNames.names_of, Sort.sort_paths, declared.sort.Dir.Dir, declared.path.Path.Path}
+use Rattle.bd_path.proofs.SortLemmas.{has_a_key, sort_total}
+use Rattle.bd_filter.specs.{Filter.Filter, FilterMatch.matches, Filter.filter_tree}
 use Rattle.bd_request.specs.declared.request.Request.{Request}
 use Rattle.bd_sort.specs.Selection.{hits_of, order_of_keys, selection_of}
 use Rattle.bd_bounds.specs.{Bounds.KeyBounds, Bounds.bounds, Bounds.is_among, BoundsView.seen_bounds, declared.bounds.Bounds.Bounds, Laws.is_fit}
 use Rattle.bd_bounds.proofs.SoundLemmas.{loses_no_match, sparse_loses_no_match}
-use Rattle.bd_index.specs.{Entries.KeyAt, Entries.entries_from, Entries.has_two_keys, Entries.is_multikey, Entries.keys_at, Entries.entries_of}
-use Rattle.bd_index.specs.{BoundedPlaces.AreWithin, BoundedPlaces.lent_bounds, declared.index.Index.Index}
+use Rattle.bd_index.specs.Entries.{KeyAt, entries_from, has_two_keys, is_multikey, keys_at, entries_of}
+use Rattle.bd_index.specs.{Places.AreWithin, Places.lent_bounds, declared.index.Index.Index, IndexView.IsIndexOf}
 use Rattle.bd_index.proofs.WalkLemmas.{any_in}
-use Rattle.bd_cursor.specs.{AccessView.HasMatchesWithin, AccessView.ServesFilter, AccessPath.mark_names, Explanation.entries_within}
-use Rattle.bd_cursor.specs.{Explanation.index_counts, Explanation.index_mark, Explanation.places_within}
-use Rattle.bd_answer.proofs.{OrderLemmas.filter_all, AnswerLemmas.in_contains, SourceLemmas.batch_in_order, UnsortedLemmas.all_places}
-use Rattle.bd_answer.proofs.{UnsortedLemmas.unsorted_ordered}
+use Rattle.bd_cursor.specs.Access.{bounded_or, HasMatchesWithin, ServesFilter, mark_names, index_mark, HasSortOrder, walk_dir, bounded, mark_bounds, named_access, scanned, serving_bounds, walk_or}
+use Rattle.bd_cursor.specs.Access.{access_on}
+use Rattle.bd_cursor.specs.Explanation.{entries_within, index_counts, places_within}
+use Rattle.bd_answer.proofs.{OrderLemmas.filter_all, AnswerLemmas.in_contains, SourceLemmas.batch_in_order, SourceLemmas.all_places, SourceLemmas.unsorted_ordered}
+use Rattle.bd_value.specs.Tree as trees
 
 -- ---- places that ascend
 
@@ -99,16 +100,11 @@ fits : (path : Names) (ds : List Doc) (k : ℕ) (m : Bool) → k < length ds →
 fits path ds k true lt e = refl
 fits path ds k false lt e = counted_one (keys (document_at ds k) path) (has_a_key (document_at ds k) path) (one_key path ds k lt (sym e))
 
--- where no bounds are given, or those of a filter, with null outside where the index is sparse
-abbrev pub KeepsMatches : Filter → Names → Bool → Bool → KeyBounds → Type 0
-KeepsMatches f path m sparse None = sparse ≡ false
-KeepsMatches f path m sparse (Some set) = (bounds f path m ≡ Some set) × ((sparse && set (leaf trees.null)) ≡ false)
-
 every_key : (ks : List Tree) → ks ≢ [] → list_any (is_among None) ks ≡ true
 every_key [] some = absurd (some refl)
 every_key (k ∷ ks) some = refl
 
-has_key : (f : Filter) (path : Names) (m sparse : Bool) (b : KeyBounds) (t : Tree) → KeepsMatches f path m sparse b → is_fit m path t ≡ true → matches f t ≡ true
+has_key : (f : Filter) (path : Names) (m sparse : Bool) (b : KeyBounds) (t : Tree) → ServesFilter f path m sparse b → is_fit m path t ≡ true → matches f t ≡ true
     → list_any (is_among b) (indexed_keys sparse t path) ≡ true
 has_key f path m true None t h fit hit = absurd (let z : true ≡ false = h in cc)
 has_key f path m false None t h fit hit = every_key (keys t path) (has_a_key t path)
@@ -171,22 +167,18 @@ module _ {sparse : Bool} {path : Names} {ds : List Doc} {b : KeyBounds} {ps : Li
 
 -- ---- bounds of an index in hand
 
-keeps : (f : Filter) (i : Index) (b : KeyBounds) → ServesFilter f i b → KeepsMatches f (names_of i.path) i.multikey i.sparse b
-keeps f i None h = h
-keeps f i (Some set) h = h
-
 pub index_source : {dump : Dump} {r : Request} {i : Index} {b : KeyBounds} {ps : List ℕ} {entries : ℕ} → HasMatchesWithin dump r i b
     → AreWithin i.sparse (names_of i.path) (documents dump) b ps entries → IsSource (length (documents dump)) (hits_of (documents dump) (filter_tree r.filter)) ps
 index_source {dump} {r} {i} {b} h w =
     let f = filter_tree r.filter in
     within_source w (hits_of (documents dump) f) (λ p lt hit. has_key f (names_of i.path) i.multikey i.sparse b (document_at (documents dump) p)
-    (keeps f i b h.serves) (fits (names_of i.path) (documents dump) p i.multikey lt h.of_dump.many) hit)
+    h.serves (fits (names_of i.path) (documents dump) p i.multikey lt h.of_dump.many) hit)
 
 -- ---- what a call was given
 
-pub not_sorted : (sort : List (Path × Dir)) → (length sort == 0) ≡ true → sort_paths sort ≡ []
+pub not_sorted : (sort : List (Path × Dir)) → length sort ≡ 0 → sort_paths sort ≡ []
 not_sorted [] h = refl
-not_sorted (s ∷ ss) h = let z : true ≡ false = sym h ∙ ne_eqb (suc (length ss)) 0 (λ e. absurd (omega arith)) in absurd (cc)
+not_sorted (s ∷ ss) h = absurd (omega arith)
 
 lent_as : (r : Option (Bor Bounds)) → lent_bounds r ≡ seen_bounds (option_copied r)
 lent_as None = refl
@@ -198,12 +190,8 @@ lent_within {sparse} {path} {ds} {b} {ps} {entries} r e w = subst (λ k. AreWith
 
 -- ---- what is read on an access path
 
--- ---- counts
-
 pub count_more : (hits : ℕ → Bool) (n : ℕ) → count_by hits (range_with_len 0 (n + 1)) ≡ count_by hits (range_with_len 0 n) + cond (hits n) 1 0
 count_more hits n = simp map-id at (sum_by-map-range_with_len_more (λ (y : ℕ). cond (hits y) 1 0) (λ (y : ℕ). y) 0 n n (omega arith))
-
--- ---- what is told
 
 pub told_as : {o p : Option (List ℕ)} {a b c d m n : ℕ} (k : PlanKind) → o ≡ p → a ≡ b → c ≡ d → m ≡ n
     → (let x : Explanation = record { plan = k; index = o; entries = a; looked_at = c; matches = m } in x) ≡ (record { plan = k; index = p; entries = b; looked_at = d; matches = n })
@@ -224,3 +212,136 @@ module _ (i : Index) {ds : List Doc} {b : KeyBounds} {ps : List ℕ} {entries : 
 
 pub entries_walked : (i : Index) (ds : List Doc) (n : ℕ) → n ≡ length (entries_of i.sparse (names_of i.path) ds) → n ≡ (index_counts ds (index_mark i)).entries
 entries_walked i ds n h = h ∙ ap (λ (p : Names). length (entries_of i.sparse p ds)) i.path.cut
+
+-- ---- the same path
+
+names_equal : (a b : Names) → Decides (pointwise bytes_eq a b) (a ≡ b)
+names_equal a b = slice_eq-Decides bytes_eq-Decides a b (pointwise bytes_eq a b) refl
+
+-- a text is told by its names
+text_is : (a b : List ℕ) → components_of a ≡ components_of b → a ≡ b
+text_is a b h = sym (join_with_byte-slice_split 46 a) ∙ ap (join_with_byte 46) h ∙ join_with_byte-slice_split 46 b
+
+pub same_text : (a b : List ℕ) → pointwise bytes_eq (components_of a) (components_of b) ≡ bytes_eq a b
+same_text a b = same_from_decides {P = a ≡ b} (pointwise bytes_eq (components_of a) (components_of b)) (bytes_eq a b) (
+  λ h. text_is a b ((names_equal (components_of a) (components_of b)).0 h),
+  λ e. (names_equal (components_of a) (components_of b)).1 (ap components_of e),
+) (bytes_eq-Decides a b)
+
+-- ---- the order of a sort
+
+abbrev pub dir_if : Bool → Dir → Option Dir
+dir_if b dir = cond b (Some dir) None
+
+walk_of_one : (i : Index) (s : Path × Dir) → walk_dir (index_mark i) (sort_paths (s ∷ [])) ≡ dir_if (not i.sparse && bytes_eq (string_bytes s.0.text) (string_bytes i.path.text)) s.1
+walk_of_one i s =
+    let names : names_of s.0 ≡ components_of (string_bytes s.0.text) = s.0.cut in
+    ap (λ (b : Bool). dir_if (not i.sparse && b) s.1)
+    (ap (λ (n : Names). pointwise bytes_eq n (components_of (string_bytes i.path.text))) names ∙ same_text (string_bytes s.0.text) (string_bytes i.path.text))
+
+-- by the first pair, and whether there are others
+pub walk_of : (i : Index) (sort : List (Path × Dir)) (s : Path × Dir) (others : List (Path × Dir)) → sort ≡ s ∷ others
+    → walk_dir (index_mark i) (sort_paths sort) ≡ dir_if ((length others == 0) && (not i.sparse && bytes_eq (string_bytes s.0.text) (string_bytes i.path.text))) s.1
+walk_of i sort s others e = ap (λ (l : List (Path × Dir)). walk_dir (index_mark i) (sort_paths l)) e ∙ go others
+  where
+    go : (others : List (Path × Dir)) → walk_dir (index_mark i) (sort_paths (s ∷ others))
+        ≡ dir_if ((length others == 0) && (not i.sparse && bytes_eq (string_bytes s.0.text) (string_bytes i.path.text))) s.1
+    go [] = walk_of_one i s
+    go (t ∷ ts) = ap (λ (b : Bool). dir_if (b && (not i.sparse && bytes_eq (string_bytes s.0.text) (string_bytes i.path.text))) s.1) (sym (ne_eqb (suc (length ts)) 0 (λ e. absurd (omega arith))))
+
+pub walk_is : (i : Index) (ss : List SortPath) (dir : Dir) → Some dir ≡ walk_dir (index_mark i) ss
+    → (i.sparse ≡ false) × (ss ≡ record { path = names_of i.path; dir = dir } ∷ [])
+walk_is i (s ∷ []) dir e =
+    let own = components_of (string_bytes i.path.text) in
+    let one = cond_some (not i.sparse && pointwise bytes_eq s.path own) s.dir dir (sym e) in
+    let both = and_parts (not i.sparse) (pointwise bytes_eq s.path own) one.0 in
+    (not-true i.sparse both.0, ap₂ (λ (n : Names) (d : Dir). record { path = n; dir = d } ∷ []) ((names_equal s.path own).0 both.1 ∙ sym i.path.cut) one.1)
+walk_is i _ dir e = absurd (let z : Some dir ≡ None = e in cc)
+
+-- ---- the index that is named, and the first in order
+
+pub walk_leads : (dump : Dump) (r : Request) (i : Index) (dir : Dir) → IsIndexOf dump i → Some dir ≡ walk_dir (index_mark i) (sort_paths r.sort.items) → HasSortOrder dump r i dir
+walk_leads dump r i dir h e = let w = walk_is i (sort_paths r.sort.items) dir e in record { of_dump = h; whole = w.0; order = w.1 }
+
+pub named_other : (ds : List Doc) (f : Filter) (ss : List SortPath) (m : IndexMark) → None ≡ serving_bounds m (mark_bounds ds f m)
+    → named_access ds f ss m ≡ cond m.is_sparse scanned (walk_or m (walk_dir m ss) (bounded m None))
+named_other ds f ss m h = ap (λ b. bounded_or m b (cond m.is_sparse scanned (walk_or m (walk_dir m ss) (bounded m None)))) (sym h)
+
+-- its bounds are those of the filter, and it has what matches
+own_bounds : (dump : Dump) (i : Index) (f : Filter) → IsIndexOf dump i → mark_bounds (documents dump) f (index_mark i) ≡ bounds f (names_of i.path) i.multikey
+own_bounds dump i f h =
+    let names : mark_names (index_mark i) ≡ names_of i.path = sym i.path.cut in
+    ap (λ (n : Names). bounds f n (is_multikey n (documents dump))) names ∙ ap (bounds f (names_of i.path)) (sym h.many)
+
+pub bounds_lead : (dump : Dump) (r : Request) (i : Index) (keys : Tree → Bool) → IsIndexOf dump i
+    → Some keys ≡ serving_bounds (index_mark i) (mark_bounds (documents dump) (filter_tree r.filter) (index_mark i)) → HasMatchesWithin dump r i (Some keys)
+bounds_lead dump r i keys h e =
+    let s = serves (mark_bounds (documents dump) (filter_tree r.filter) (index_mark i)) e in
+    record { of_dump = h; serves = (sym (own_bounds dump i (filter_tree r.filter) h) ∙ s.0, s.1) }
+  where
+    by_test : (t : Bool) (set : Tree → Bool) → (i.sparse && set (leaf trees.null)) ≡ t → Some keys ≡ cond t None (Some set)
+        → (Some set ≡ Some keys) × ((i.sparse && keys (leaf trees.null)) ≡ false)
+    by_test true set is e = absurd (let z : Some keys ≡ None = e in cc)
+    by_test false set is e =
+        let same : set ≡ keys = cc in
+        (ap Some same, ap (λ (k : Tree → Bool). i.sparse && k (leaf trees.null)) (sym same) ∙ is)
+
+    serves : (b : KeyBounds) → Some keys ≡ serving_bounds (index_mark i) b → (b ≡ Some keys) × ((i.sparse && keys (leaf trees.null)) ≡ false)
+    serves None e = absurd (let z : Some keys ≡ None = e in cc)
+    serves (Some set) e = by_test (i.sparse && set (leaf trees.null)) set refl e
+
+-- ---- the first index on a path
+
+prefix_seen : {A B : Type 0} (p : B → Bool) (f : A → B) (xs : List A) → prefix_len p (map f xs) ≡ prefix_len (λ x. p (f x)) xs
+prefix_seen p f [] = refl
+prefix_seen p f (x ∷ xs) = ap (λ n. cond (p (f x)) (1 + n) 0) (prefix_seen p f xs)
+
+pub position_seen : {A B : Type 0} (p : B → Bool) (f : A → B) (xs : List A) → position p (map f xs) ≡ position (λ x. p (f x)) xs
+position_seen p f xs = ap₂ (λ (n m : ℕ). cond (nat_lt n m) (Some n) None) (prefix_seen (λ x. not (p x)) f xs) (length-map xs f)
+
+later_lt : (n m : ℕ) (b : Bool) → nat_lt n m ≡ b → nat_lt (1 + n) (suc m) ≡ b
+later_lt n m b h = grind arith
+
+passes_before_end : {A : Type 0} (p : A → Bool) (xs : List A) → nat_lt (position_or_len p xs) (length xs) ≡ list_any p xs
+passes_before_end p [] = refl
+passes_before_end p (x ∷ xs) = elim (p x) as (λ b. nat_lt (cond (not b) (1 + position_or_len p xs) 0) (suc (length xs)) ≡ (b || list_any p xs)) [
+  | true ↦ lt-ltb 0 (suc (length xs)) (omega arith)
+  | false ↦ later_lt (position_or_len p xs) (length xs) (list_any p xs) (passes_before_end p xs)
+]
+
+pub found_if_there : {A : Type 0} (p : A → Bool) (xs : List A) → is_some (position p xs) ≡ list_any p xs
+found_if_there p xs =
+    (elim (nat_lt (position_or_len p xs) (length xs)) as (λ b. is_some (cond b (Some (position_or_len p xs)) None) ≡ b) [ true ↦ refl | false ↦ refl ]) ∙ passes_before_end p xs
+
+-- ---- the access path that the first index on a path has
+
+pub access_at : (ds : List Doc) (f : Filter) (ss : List SortPath) (path : List ℕ) (is : List IndexMark) (i : ℕ) (d : IndexMark)
+    → i < length is → is_on path (get_or is i d) ≡ true → ((k : ℕ) → k < i → is_on path (get_or is k d) ≡ false)
+    → access_on ds f ss path is ≡ named_access ds f ss (get_or is i d)
+access_at ds f ss path [] i d lt on before = absurd (omega arith)
+access_at ds f ss path (m ∷ ms) zero d lt on before = ap (λ b. cond b (named_access ds f ss m) (access_on ds f ss path ms)) on
+access_at ds f ss path (m ∷ ms) (suc i) d lt on before =
+    ap (λ b. cond b (named_access ds f ss m) (access_on ds f ss path ms)) (before 0 (omega arith))
+    ∙ access_at ds f ss path ms i d (omega arith) on (λ k l. before (suc k) (omega arith))
+
+pub access_elsewhere : (ds : List Doc) (f : Filter) (ss : List SortPath) (path : List ℕ) (is : List IndexMark) → list_any (is_on path) is ≡ false
+    → access_on ds f ss path is ≡ scanned
+access_elsewhere ds f ss path [] none = refl
+access_elsewhere ds f ss path (m ∷ ms) none =
+    let none = or_parts (is_on path m) (list_any (is_on path) ms) none in
+    ap (λ b. cond b (named_access ds f ss m) (access_on ds f ss path ms)) none.0 ∙ access_elsewhere ds f ss path ms none.1
+
+pub found_below : (path : List ℕ) (is : List Index) (k : ℕ) (i : Index) → Some k ≡ position (is_on path) (map index_mark is) → k < length is
+found_below path is k i found =
+    let first = position-Some (is_on path) (map index_mark is) k (index_mark i) (cc) in
+    omega (arith, first.0, length-map is index_mark)
+
+pub access_named : (ds : List Doc) (f : Filter) (ss : List SortPath) (path : List ℕ) (is : List Index) (k : ℕ) (i : Index) → Some k ≡ position (is_on path) (map index_mark is) → i ≡ get_or is k i
+    → named_access ds f ss (index_mark i) ≡ access_on ds f ss path (map index_mark is)
+access_named ds f ss path is k i found at =
+    let marks = map index_mark is in
+    let m = index_mark i in
+    let first = position-Some (is_on path) marks k m (sym found) in
+    let lt : k < length is = omega (arith, first.0, length-map is index_mark) in
+    let there : get_or marks k m ≡ m = get_or-map index_mark is k i m lt ∙ ap index_mark (sym at) in
+    sym (access_at ds f ss path marks k m first.0 first.1 (λ j l. first.2 j l) ∙ ap (named_access ds f ss) there)

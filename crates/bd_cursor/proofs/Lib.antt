@@ -1,4 +1,3 @@
 pub mod AccessLemmas
-pub mod AccessPathLemmas
-pub mod RemainderLemmas
+pub mod CursorLemmas
 pub mod SessionLemmas

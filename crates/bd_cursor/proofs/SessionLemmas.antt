@@ -1,27 +1,25 @@
--- The indexes of a session, and its cursors: how one is opened, found by its number, changed and taken out.
-use Rattle.std.proofs.Common.{◌≡◌, ℕ, Bool, true, false, not, cond, List, [], ◌∷◌, Result, Ok, Err, map, refl, sym, ap, ◌∙◌, subst, filter, ◌-◌, ◌<◌, ◌≤◌, ◌==◌}
-use Rattle.std.proofs.Common.{length, get_or, arith, zero, suc, Some, None, slice_get, slice_set}
-use Rattle.bd_answer.specs.Session.{Call, IndexMark, Reply, State, is_on, reply, state_after, without_index, OpenCursor, batch_of, cursor_of, gave}
-use Rattle.bd_answer.specs.Session.{greatest_size, moved, next_reply, with_moved, without}
-use Rattle.bd_index.specs.declared.index.Index.{Index}
-use Rattle.bd_request.specs.declared.refused.Refused.{Refused}
-use Rattle.bd_cursor.specs.{Explanation.index_mark, SessionView.IsRefusedCall, SessionView.Steps, SessionView.dump_of, SessionView.state_of}
-use Rattle.bd_cursor.specs.{SessionView.open_cursor, declared.session.Session.Session, declared.cursor.Cursor.Cursor}
-use Rattle.std.proofs.lemmas.{Bool.eq-eqb, Bool.ne_eqb, Bool.le-ltb, Bool.cond_both, Option.slice_get-map, Option.slice_get_read}
+-- The cursors of a session: how one is opened, found by its number, changed and taken out; its indexes.
+use Rattle.std.proofs.Common.{◌≡◌, ℕ, Bool, true, false, cond, List, [], ◌∷◌, Result, Ok, Err, map, refl, sym, ap, ◌∙◌, subst, filter, ◌-◌, ◌<◌, ◌≤◌, ◌==◌, length, get_or, arith, zero, suc}
+use Rattle.std.proofs.Common.{Some, None, slice_get, slice_set}
+use Rattle.std.proofs.{lemmas.Bool.eq-eqb, lemmas.Bool.ne_eqb, lemmas.Bool.le-ltb, lemmas.Bool.cond_both, lemmas.Option.slice_get-map, lemmas.Option.slice_get_read}
+use Rattle.bd_answer.specs.Session.{Call, IndexMark, Reply, State, reply, state_after, OpenCursor, batch_of, cursor_of, gave, greatest_size, moved, next_reply, with_moved, without}
+use Rattle.bd_request.specs.declared.results.Refused.{Refused}
+use Rattle.bd_cursor.specs.SessionView.{IsRefusedCall, Steps, dump_of, state_of, open_cursor}
+use Rattle.bd_cursor.specs.{declared.session.Session.Session, declared.cursor.Cursor.Cursor}
 use Rattle.bd_bson.specs.declared.collection.Dump.{Dump}
 use Rattle.std.specs.Prelude.{option_map}
 
 pub with_marks : (s : State) (is js : List IndexMark) → is ≡ js → record s { indexes = is } ≡ record s { indexes = js }
 with_marks s is js e = ap (λ (xs : List IndexMark). (let t : State = record s { indexes = xs } in t)) e
 
-pub marks_kept : (path : List ℕ) (is : List Index) → map index_mark (filter (λ (i : Index). not (is_on path (index_mark i))) is) ≡ without_index path (map index_mark is)
-marks_kept path [] = refl
-marks_kept path (i ∷ is) =
-    let kept = filter (λ (i : Index). not (is_on path (index_mark i))) is in
-    let marks = without_index path (map index_mark is) in
-    elim (is_on path (index_mark i)) as (λ b. map index_mark (cond (not b) (i ∷ kept) kept) ≡ cond (not b) (index_mark i ∷ marks) marks) [
-      | true ↦ marks_kept path is
-      | false ↦ ap (λ xs. index_mark i ∷ xs) (marks_kept path is)
+-- what is seen of those that are kept
+pub map_kept : {A B : Type 0} (f : A → B) (test : B → Bool) (xs : List A) → map f (filter (λ x. test (f x)) xs) ≡ filter test (map f xs)
+map_kept f test [] = refl
+map_kept f test (x ∷ xs) =
+    let kept = filter (λ x. test (f x)) xs in
+    elim (test (f x)) as (λ b. map f (cond b (x ∷ kept) kept) ≡ cond b (f x ∷ filter test (map f xs)) (filter test (map f xs))) [
+      | true ↦ ap (λ ys. f x ∷ ys) (map_kept f test xs)
+      | false ↦ map_kept f test xs
     ]
 
 -- a step from one session is one from another, over the same dump in the same state
@@ -62,16 +60,6 @@ module _ (dump : Dump) where
   moved_at id n (c ∷ cs) (suc i) e d l none here h =
       let ne = ne_eqb c.id id (none 0 c (omega arith)) in
       rw ne (ap (λ xs. open_cursor dump c ∷ xs) (moved_at id n cs i e d (omega arith) (λ k d m. none (suc k) d (omega arith)) here (rw ne at h)))
-
-  pub without_filter : (id : ℕ) (cs : List Cursor) → map (open_cursor dump) (filter (λ (c : Cursor). not (c.id == id)) cs) ≡ without id (map (open_cursor dump) cs)
-  without_filter id [] = refl
-  without_filter id (c ∷ cs) =
-      let kept = filter (λ (c : Cursor). not (c.id == id)) cs in
-      let there = without id (map (open_cursor dump) cs) in
-      elim (c.id == id) as (λ b. map (open_cursor dump) (cond (not b) (c ∷ kept) kept) ≡ cond b there (open_cursor dump c ∷ there)) [
-        | true ↦ without_filter id cs
-        | false ↦ ap (λ xs. open_cursor dump c ∷ xs) (without_filter id cs)
-      ]
 
   pub get_some : (cs : List Cursor) (i : ℕ) (c : Cursor) → i < length cs → c ≡ get_or cs i c → slice_get (map (open_cursor dump) cs) i ≡ Some (open_cursor dump c)
   get_some cs i c l e = slice_get-map (open_cursor dump) cs i ∙ ap (option_map (open_cursor dump)) (slice_get_read cs (length cs) i c refl l e)

@@ -1,4 +1,3 @@
-pub mod AccessPath
-pub mod AccessView
+pub mod Access
 pub mod Explanation
 pub mod SessionView

@@ -1,30 +1,21 @@
 -- A session as the state of the machine.
-use Rattle.std.specs.Prelude.{◌≡◌, ◌-◌, ℕ, Bool, List, ◌∷◌, drop, length, map, option_map, string_bytes, Option, Some, None, Result, Ok, Err}
-use Rattle.std.specs.List.{filter, range_with_len}
+use Rattle.std.specs.Prelude.{◌≡◌, ◌-◌, ℕ, Bool, List, drop, length, map, option_map, string_bytes, Option, Some, None, Result, Ok, Err}
+use Rattle.std.specs.List.{cons_option, filter, range_with_len}
 use Rattle.bd_value.specs.Tree.{Doc}
 use Rattle.bd_answer.specs.Answer.{Selection, Mark, at_most}
-use Rattle.bd_answer.specs.Session.{Call, GivenBatch, IndexMark, MarkedToken, OpenCursor, Reply, State, changed_by, explain_call, find_call, make_call, reply, resume_call, state_after, with_open}
-use Rattle.bd_answer.specs.Session.{explained, foreign_token, gave, index_there, made, no_cursor, no_index, opened, out_of_range, token_place}
-use Rattle.bd_answer.specs.Session.{too_many_cursors, too_many_indexes}
-use Rattle.bd_bson.specs.declared.collection.Dump.{Dump}
-use Rattle.bd_bson.specs.Collection.{documents}
-use Rattle.bd_filter.specs.FilterView.{filter_tree}
-use Rattle.bd_filter.specs.declared.filter.Filter.{Filter}
+use Rattle.bd_answer.specs.Session.{left_after, open_reply, Query, Call, GivenBatch, IndexMark, MarkedToken, OpenCursor, Reply, State, changed_by, explain_call}
+use Rattle.bd_answer.specs.Session.{make_call, reply, state_after, with_open, explained, foreign_token, gave, index_there, made, no_cursor, no_index, opened}
+use Rattle.bd_answer.specs.Session.{out_of_range, token_place, too_many_cursors, too_many_indexes}
+use Rattle.bd_bson.specs.{declared.collection.Dump.Dump, Collection.documents}
+use Rattle.bd_filter.specs.{Filter.filter_tree, declared.filter.Filter.Filter}
 use Rattle.bd_sort.specs.Selection.{hits_of, query_of}
-use Rattle.bd_cursor.specs.declared.scan_position.ScanPosition.{ScanPosition}
-use Rattle.bd_cursor.specs.AccessPath.{Way, by_one, way_of}
-use Rattle.bd_cursor.specs.Explanation.{explanation_of, index_counts, index_mark}
-use Rattle.bd_cursor.specs.declared.choice.Choice.{Choice}
+use Rattle.bd_cursor.specs.{declared.cursor.ScanPosition.ScanPosition, Access.Way, Access.by_one, Access.way_of, Access.index_mark}
+use Rattle.bd_cursor.specs.{Explanation.explanation_of, Explanation.index_counts, declared.access.Choice.Choice}
+use Rattle.bd_cursor.specs.{declared.cursor.Cursor.Cursor, declared.cursor.Remainder.Remainder, declared.session.Session.Session}
 use Rattle.bd_path.specs.declared.path.Path.{Path}
-use Rattle.bd_request.specs.declared.request.Request.{Request}
-use Rattle.bd_request.specs.declared.results.Batch.{Batch}
-use Rattle.bd_cursor.specs.declared.cursor.Cursor.{Cursor}
-use Rattle.bd_cursor.specs.declared.remainder.Remainder.{Remainder}
-use Rattle.bd_cursor.specs.declared.remainder.Remainder.TheVariants as remainders
-use Rattle.bd_request.specs.declared.refused.Refused.{Refused}
-use Rattle.bd_request.specs.declared.refused.Refused.TheVariants as reasons
-use Rattle.bd_cursor.specs.declared.session.Session.{Session}
-use Rattle.bd_request.specs.declared.token.Token.{Token}
+use Rattle.bd_request.specs.{declared.request.Request.Request, declared.results.Batch.Batch, declared.results.Refused.Refused, declared.token.Token.Token}
+use Rattle.bd_cursor.specs.declared.cursor.Remainder.TheVariants as remainders
+use Rattle.bd_request.specs.declared.results.Refused.TheVariants as reasons
 
 abbrev pub mark_of : Token → Mark
 mark_of t = record { given = t.given; last = t.last }
@@ -32,20 +23,14 @@ mark_of t = record { given = t.given; last = t.last }
 abbrev pub marked_token : Token → MarkedToken
 marked_token t = record { mark = mark_of t; digest = t.digest }
 
--- a place, where there is one, and after it others
-abbrev pub with_first : Option ℕ → List ℕ → List ℕ
-with_first None ps = ps
-with_first (Some p) ps = p ∷ ps
-
 -- what a cursor that goes on where it stands has left: the match that it found, and those among the documents that it did
 -- not look at
 abbrev pub scan_left : ℕ → (ℕ → Bool) → ScanPosition → List ℕ
 scan_left count hits a =
-    at_most a.most (with_first a.found (drop a.skip (filter hits (range_with_len a.next (count - a.next)))))
+    at_most a.most (cons_option a.found (drop a.skip (filter hits (range_with_len a.next (count - a.next)))))
 
 abbrev pub scan_left_in : Dump → Filter → ScanPosition → List ℕ
-scan_left_in dump filter a =
-    scan_left (length (documents dump)) (hits_of (documents dump) (filter_tree filter)) a
+scan_left_in dump filter a = scan_left (length (documents dump)) (hits_of (documents dump) (filter_tree filter)) a
 
 -- the places that a cursor has left
 abbrev pub places_left : Selection → Remainder → List ℕ
@@ -91,14 +76,6 @@ make_index sparse dump path = make_of (documents dump) (path_mark sparse path)
 -- to explain a request to a dump
 abbrev pub explain_request : Dump → Request → Choice → Call
 explain_request dump r choice = explain_call (hint_of choice) (explanation_of (documents dump) r choice)
-
--- to open a cursor on its answer
-abbrev pub find_request : Dump → Request → Choice → Call
-find_request dump r choice = find_call (query_of dump r) (hint_of choice)
-
--- to open one on what follows a token in it
-abbrev pub resume_request : Dump → Request → Choice → Token → Call
-resume_request dump r choice t = resume_call (query_of dump r) (hint_of choice) (marked_token t)
 
 -- a call that is granted and takes memory
 abbrev pub TakesMemory : Reply → Type 0
@@ -152,8 +129,7 @@ Steps told call old (Err why) new = IsRefused why call old new
 abbrev pub IsGranted : Session → IndexMark → Type 0
 IsGranted s i = reply (state_of s) (make_of (documents (dump_of s)) i) ≡ made (index_counts (documents (dump_of s)) i)
 
--- a cursor may be opened, and it is one of this request, with this token, and with these places left
-pub record IsOpening (call : Call) (s : Session) (request : Request) (token : Option Token) (left : Remainder) : Type 0 where
-  pub granted : reply (state_of s) call ≡ opened s.next_id
-  pub opens : changed_by (opened s.next_id) call (state_of s) ≡ with_open (state_of s) (query_of (dump_of s) request).digest
-      (option_map marked_token token) (places_left (query_of (dump_of s) request).selection left)
+-- a call opens a cursor on what a request has left after a token, where its index is there and one more may be open
+pub record IsOpening (call : Call) (s : State) (q : Query) (hint : Option (List ℕ)) (t : Option MarkedToken) : Type 0 where
+  pub replies : reply s call ≡ open_reply s hint
+  pub opens : changed_by (opened s.next_id) call s ≡ with_open s q.digest t (left_after q.selection t)

@@ -1,31 +1,42 @@
-//! How documents are reached.
+//! How documents are reached: by which index, or without one.
 
-ghost use Rattle.std.specs.Prelude.{◌≡◌, ◌<◌, ◌↔◌, [], IfOk, IfSome, IsTrue, length, map};
+ghost use Rattle.std.specs.Prelude.{◌≡◌, ◌≤◌, ◌<◌, ◌↔◌, IfOk, IfSome, IsTrue, List, OnErr, Some, drop, is_some, length, map, position, string_bytes, take, ℕ};
 ghost use Rattle.std.specs.List.Sorted.{IsStrictlyIncreasing};
-ghost use Rattle.bd_answer.specs.Answer.{at_most};
-ghost use Rattle.bd_answer.specs.Source.{places_after};
+ghost use Rattle.bd_answer.specs.Answer.{at_most, is_empty};
+ghost use Rattle.bd_answer.specs.Session.{has_index, is_on};
+ghost use Rattle.bd_answer.specs.Source.{IsSource, places_after};
+ghost use Rattle.bd_bounds.specs.BoundsView.{seen_bounds};
 ghost use Rattle.bd_bson.specs.Collection.{documents};
+ghost use Rattle.bd_bson.specs.declared.collection.Dump.{Dump};
+ghost use Rattle.bd_filter.specs.Filter.{filter_tree};
+ghost use Rattle.bd_index.specs.IndexView.{AreIndexesOf, IsIndexOf};
 ghost use Rattle.bd_path.specs.Sort.{sort_paths};
-ghost use Rattle.bd_filter.specs.FilterView.{filter_tree};
-ghost use Rattle.bd_sort.specs.Selection.{selection_of, hits_of};
-ghost use Rattle.bd_index.specs.IndexView.{AreIndexesOf};
-ghost use Rattle.bd_cursor.specs.AccessPath.{access_of, scanned, way_of};
-ghost use Rattle.bd_cursor.specs.AccessView.{IsAccessOf, access_path};
-ghost use Rattle.bd_cursor.specs.Explanation.{index_mark};
+ghost use Rattle.bd_sort.specs.Selection.{hits_of, selection_of};
+ghost use Rattle.bd_cursor.specs.Access.{IsAccessOf, Reaches, access_of, access_path, first_bounded, first_walked, index_mark};
+ghost use Rattle.bd_cursor.specs.Access.{mark_bounds, named_access, scanned, serving_bounds, walk_dir, way_of};
 
-use crate::access_choice::{named_access, serving_access};
-use crate::bounded_places::BoundedPlaces;
-use crate::choice::Choice;
-use crate::indexes::index_on;
 use bd_answer::{PlaceSource, Scan};
 use bd_bounds::Bounds;
 use bd_bson::Dump;
+use bd_filter::Filter;
 use bd_index::Index;
-use bd_path::Dir;
+use bd_path::{Dir, Path};
 use bd_request::Request;
 use bd_sort::{places_in_order, sorted_places};
 use bd_value::NoMemory;
 use std::alloc::Global;
+use std::marker::Model;
+
+/// How the documents of an answer are looked for. It never changes an answer.
+#[derive(Drop)]
+pub enum Choice {
+    /// Each document is looked at.
+    Scan,
+    /// By the index on that path, which has to be there.
+    Index(Path),
+    /// By an index that serves, where there is one.
+    Auto,
+}
 
 /// How the documents of an answer are reached: its access path.
 #[derive(Drop)]
@@ -93,20 +104,14 @@ impl<'a> Access<'a> {
         ensures { IfOk result (λ v. v.items ≡ at_most most (places_after (selection_of (documents dump.now) request.now) last)) }
     {
         match self {
-            Access::Scan => ascending_places(
-                alloc,
-                dump,
-                request,
-                Scan::new(dump.len()),
-                last,
-                most,
-            ),
+            Access::Scan => {
+                let scan = Scan::new(dump.len());
+                ascending_places(alloc, dump, request, scan, last, most)
+            }
             Access::Bounded { index, bounds } => {
                 let found = index.places(alloc, dump, bounds.as_ref())?;
-                let source = BoundedPlaces {
-                    places: found.places,
-                    next: 0,
-                };
+                let places = found.places;
+                let source = PlaceList { places, at: 0 };
                 ascending_places(alloc, dump, request, source, last, most)
             }
             Access::Walk { index, dir } => {
@@ -117,8 +122,106 @@ impl<'a> Access<'a> {
     }
 }
 
+/// The access path by an index that is named.
+#[tactic(auto, using(crate::proofs::AccessLemmas::named_other, crate::proofs::AccessLemmas::walk_leads))]
+fn named_access<'a>(
+    alloc: Global,
+    index: &'a Index,
+    request: &'a Request,
+) -> Result<Access<'a>, NoMemory>
+    ensures { IfOk result (λ a. (dump : Dump) → IsIndexOf dump index.now →
+        Reaches dump request.now
+        (named_access (documents dump) (filter_tree request.now.filter) (sort_paths request.now.sort.items) (index_mark index.now)) a) }
+{
+    if let Some(bounds) = serving_bounds(alloc, index, &request.filter)? {
+        let bounds = Some(bounds);
+        return Ok(Access::Bounded { index, bounds });
+    }
+    if index.sparse() {
+        return Ok(Access::Scan);
+    }
+    if let Some(dir) = walk_dir(index, &request.sort) {
+        return Ok(Access::Walk { index, dir });
+    }
+    let bounds = None;
+    Ok(Access::Bounded { index, bounds })
+}
+
+/// By the bounds of the first index that serves by them, else in the order of the first one that has that of the sort.
+fn serving_access<'a>(
+    alloc: Global,
+    indexes: &'a [Index],
+    request: &'a Request,
+) -> Result<Access<'a>, NoMemory>
+    ensures { IfOk result (λ a. (dump : Dump) → AreIndexesOf dump indexes.now →
+        let marks = map index_mark indexes.now in
+        Reaches dump request.now
+        (first_bounded (documents dump) (filter_tree request.now.filter) marks
+        (first_walked (sort_paths request.now.sort.items) marks scanned)) a) }
+{
+    for index in indexes {
+        if let Some(bounds) = serving_bounds(alloc, index, &request.filter)? {
+            let bounds = Some(bounds);
+            return Ok(Access::Bounded { index, bounds });
+        }
+    }
+    Ok(walk_or_scan(indexes, request))
+}
+
+/// In the order of the first index that has that of the sort, or without one.
+fn walk_or_scan<'a>(indexes: &'a [Index], request: &Request) -> Access<'a>
+    ensures { (dump : Dump) → AreIndexesOf dump indexes.now →
+        Reaches dump request.now (first_walked (sort_paths request.now.sort.items) (map index_mark indexes.now) scanned) result }
+{
+    for index in indexes {
+        if let Some(dir) = walk_dir(index, &request.sort) {
+            return Access::Walk { index, dir };
+        }
+    }
+    Access::Scan
+}
+
+/// Which index is on a path: the first of them, where there is one. It takes no memory.
+pub(crate) fn index_on(indexes: &[Index], path: &Path) -> Option<usize>
+    ensures found { result ≡ position (is_on (string_bytes path.now.text)) (map index_mark indexes.now) }
+    ensures there { is_some result ≡ has_index (map index_mark indexes.now) (Some (string_bytes path.now.text)) }
+{
+    indexes
+        .iter()
+        .position(|index| path.as_str() == index.path().as_str())
+}
+
+/// The bounds that a filter gives to an index, where it serves by them. It fails only if memory runs out.
+fn serving_bounds<'a>(
+    alloc: Global,
+    index: &Index,
+    filter: &'a Filter,
+) -> Result<Option<Bounds<'a>>, NoMemory>
+    ensures { IfOk result (λ b. (dump : Dump) → IsIndexOf dump index.now →
+        seen_bounds b ≡ serving_bounds (index_mark index.now) (mark_bounds (documents dump) (filter_tree filter.now) (index_mark index.now))) }
+{
+    let Some(bounds) = Bounds::of(alloc, filter, index.path(), index.multikey())? else {
+        return Ok(None);
+    };
+    if index.sparse() && bounds.has_null() {
+        return Ok(None);
+    }
+    Ok(Some(bounds))
+}
+
+/// The direction in which an index has the order of a sort, where it has. It takes no memory.
+fn walk_dir(index: &Index, sort: &[(Path, Dir)]) -> Option<Dir>
+    ensures { result ≡ walk_dir (index_mark index.now) (sort_paths sort.now) }
+{
+    let ((path, dir), others) = sort.split_first()?;
+    if others.is_empty() && !index.sparse() && path.as_str() == index.path().as_str() {
+        Some(*dir)
+    } else {
+        None
+    }
+}
+
 /// The places that a source gives which hands them out ascending: without a sort, they have its order.
-#[tactic(auto, using(crate::proofs::AccessLemmas::ascends_unsorted))]
 fn ascending_places<P: PlaceSource + Drop>(
     alloc: Global,
     dump: &Dump,
@@ -132,17 +235,69 @@ fn ascending_places<P: PlaceSource + Drop>(
     requires there { IfSome last (λ p. p < length (documents dump.now)) }
     ensures { IfOk result (λ v. v.items ≡ at_most most (places_after (selection_of (documents dump.now) request.now) last)) }
 {
-    if is_unsorted(request) {
+    if request.sort.is_empty() {
         places_in_order(alloc, dump, request, source, last, most)
     } else {
         sorted_places(alloc, dump, request, source, last, most)
     }
 }
 
-/// Whether a request has no sort.
-#[tactic(auto, using(crate::proofs::AccessLemmas::not_sorted))]
-fn is_unsorted(request: &Request) -> bool
-    ensures { IsTrue result → sort_paths request.now.sort.items ≡ [] }
-{
-    request.sort.is_empty()
+/// Places in order, of which those from an index on are left.
+#[derive(Drop)]
+pub(crate) struct PlaceList {
+    places: Vec<u32>,
+    at: usize,
+}
+
+impl Model for PlaceList {
+    ghost Value = { List ℕ };
+
+    ghost view = { λ a. drop a.at a.places.items };
+
+    ghost invariant = { λ a. a.at ≤ length a.places.items };
+}
+
+impl PlaceList {
+    /// All but the first so many.
+    #[tactic(auto, using(std::proofs::lemmas::List::drop_min))]
+    pub(crate) fn new(places: Vec<u32>, skip: u64) -> PlaceList
+        ensures { result ≡ drop skip places.items }
+    {
+        let at = (skip as usize).min(places.len());
+        PlaceList { places, at }
+    }
+
+    /// Takes the next places, as many as the number, as long as there are any left.
+    pub(crate) fn take(&mut self, alloc: Global, n: u64) -> Result<Vec<u32>, NoMemory>
+        ensures given { IfOk result (λ given. given.items ≡ take n self.old) }
+        ensures left { IfOk result (λ given. self.new ≡ drop n self.old) }
+        ensures err { OnErr result (self.new ≡ self.old) }
+    {
+        let end = self.at + (n as usize).min(self.places.len() - self.at);
+        let given = Vec::from_slice(alloc, &self.places[self.at..end])?;
+        self.at = end;
+        Ok(given)
+    }
+
+    /// Whether nothing is left.
+    #[tactic(auto, using(crate::proofs::CursorLemmas::empty_drop))]
+    pub(crate) fn is_empty(&self) -> bool
+        ensures { result ≡ is_empty self.now }
+    {
+        self.at == self.places.len()
+    }
+}
+
+impl PlaceSource for PlaceList {
+    ghost left = { λ s. s };
+
+    ghost serves = { λ s n hits. IsSource n hits s };
+
+    fn next_place(&mut self) -> Option<u32> {
+        let place = *self.places.get(self.at)?;
+        self.at += 1;
+        Some(place)
+    }
+
+    ghost law = { λ s n hits is. is };
 }

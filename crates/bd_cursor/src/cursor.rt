@@ -1,14 +1,24 @@
-//! An open cursor, and the batches that it gives.
+//! An open cursor, the batches that it gives, and the places that it has left.
 
-ghost use Rattle.std.specs.Prelude.{◌≡◌, ◌<◌, IfNone, IfOk, IfSome, None, OnErr, OnOk, Some, ℕ, if◌then◌else◌, length, map, option_map, slice_get, slice_set};
-ghost use Rattle.bd_answer.specs.Session.{OpenCursor, batch_of, cursor_of, digest_after, given_by, moved, token_after, with_moved, without};
+ghost use Rattle.std.specs.Prelude.{◌≡◌, ◌<◌, ℕ, IfNone, IfOk, IfSome, List, None, OnErr, OnOk, Some, [], drop, if◌then◌else◌, length, map, option_map, slice_get, slice_set, take};
+ghost use Rattle.bd_answer.specs.Answer.{at_most, cut, is_empty};
+ghost use Rattle.bd_answer.specs.Session.{OpenCursor, batch_of, cursor_of, digest_after, given_by, left_after, moved, token_after, with_moved, without};
+ghost use Rattle.bd_answer.specs.Source.{HandsOut};
+ghost use Rattle.bd_bson.specs.Collection.{documents};
 ghost use Rattle.bd_bson.specs.declared.collection.Dump.{Dump};
-ghost use Rattle.bd_sort.specs.Selection.{query_of};
-ghost use Rattle.bd_cursor.specs.SessionView.{given_batch, marked_token, open_cursor};
+ghost use Rattle.bd_filter.specs.Filter.{filter_tree};
+ghost use Rattle.bd_index.specs.IndexView.{AreIndexesOf};
+ghost use Rattle.bd_sort.specs.Selection.{hits_of, query_of, selection_of};
+ghost use Rattle.bd_value.specs.Tree.{Doc};
+ghost use Rattle.bd_cursor.specs.SessionView.{given_batch, marked_token, open_cursor, places_left, scan_left, scan_left_in};
 
-use crate::digested_dump::DigestedDump;
-use crate::remainder::Remainder;
+use crate::access::{Access, Choice, PlaceList};
+use crate::session::DigestedDump;
+use bd_bson::Dump;
+use bd_filter::Filter;
+use bd_index::Index;
 use bd_request::{Batch, Request, Token, request_digest};
+use bd_sort::is_match;
 use bd_value::NoMemory;
 use std::alloc::Global;
 
@@ -56,37 +66,34 @@ fn token_after(
     let Some(last) = places.last() else {
         return token;
     };
-    let digest = digest_of(documents, request, token);
+    let (given, digest) = given_before(documents, request, token);
     Some(Token {
-        given: given_by(token).saturating_add(places.len() as u64),
+        given: given.saturating_add(places.len() as u64),
         last: *last,
         digest,
     })
 }
 
-/// How many documents were given up to a token.
-fn given_by(token: Option<Token>) -> u64
-    ensures { result ≡ given_by (option_map marked_token token) }
-{
-    match token {
-        Some(token) => token.given,
-        None => 0,
-    }
-}
-
-/// The digest of the token after a token: its own, and for the first one that of the dump and the request.
-fn digest_of(documents: &mut DigestedDump, request: &Request, token: Option<Token>) -> [u8; 32]
-    ensures digest { result ≡ digest_after (query_of documents.old.dump request.now).digest (option_map marked_token token) }
+/// How many documents were given up to a token, and the digest of those after it: its own, and for the first one that of the dump
+/// and the request.
+fn given_before(
+    documents: &mut DigestedDump,
+    request: &Request,
+    token: Option<Token>,
+) -> (u64, [u8; 32])
+    ensures given { result.0 ≡ given_by (option_map marked_token token) }
+    ensures digest { result.1 ≡ digest_after (query_of documents.old.dump request.now).digest (option_map marked_token token) }
     ensures dump { documents.new.dump ≡ documents.old.dump }
 {
     match token {
         Some(token) => {
             let digest = token.digest;
-            digest
+            (token.given, digest)
         }
         None => {
             let dump = documents.digest();
-            request_digest(&dump, request)
+            let digest = request_digest(&dump, request);
+            (0, digest)
         }
     }
 }
@@ -123,5 +130,198 @@ pub(crate) fn close_at_end(cursors: &mut Vec<Cursor>, id: u64, end: bool)
 {
     if end {
         close(cursors, id);
+    }
+}
+
+/// The places that a cursor has left.
+#[derive(Drop)]
+pub(crate) enum Remainder {
+    /// Where each document is looked at and there is no sort, they are looked for as they are asked for.
+    Scanned(ScanPosition),
+    /// Else all of them are known.
+    Listed(PlaceList),
+}
+
+impl Remainder {
+    /// What a request has left: its answer, or the rest of it after a token.
+    #[tactic(auto, using(bd_bson::proofs::CollectionLemmas::documents_length))]
+    pub(crate) fn of(
+        alloc: Global,
+        dump: &Dump,
+        indexes: &[Index],
+        request: &Request,
+        choice: &Choice,
+        token: Option<Token>,
+    ) -> Result<Remainder, NoMemory>
+        requires indexes { AreIndexesOf dump.now indexes.now }
+        requires there { IfSome token (λ t. t.last < length (documents dump.now)) }
+        ensures { IfOk result (λ left. places_left (selection_of (documents dump.now) request.now) left
+            ≡ left_after (selection_of (documents dump.now) request.now) (option_map marked_token token)) }
+    {
+        let access = Access::of(alloc, dump, indexes, request, choice)?;
+        if access.is_scan() && request.sort.is_empty() {
+            return Ok(Remainder::Scanned(ScanPosition::of(request, token)));
+        }
+        if let Some(token) = token {
+            let most = most_left(request.limit, token.given);
+            let places = access.places(alloc, dump, request, Some(token.last), most)?;
+            return Ok(Remainder::Listed(PlaceList::new(places, 0)));
+        }
+        let most = most_needed(request);
+        let places = access.places(alloc, dump, request, None, most)?;
+        Ok(Remainder::Listed(PlaceList::new(places, request.skip)))
+    }
+
+    /// Takes the next places, as many as the number, as long as there are any left, and tells whether nothing is left then.
+    pub(crate) fn take(
+        &mut self,
+        alloc: Global,
+        dump: &Dump,
+        request: &Request,
+        n: u64,
+    ) -> Result<(Vec<u32>, bool), NoMemory>
+        ensures places { let a = selection_of (documents dump.now) request.now in IfOk result (λ r. r.0.items ≡ take n (places_left a self.old)) }
+        ensures end { let a = selection_of (documents dump.now) request.now in IfOk result (λ r. r.1 ≡ is_empty (drop n (places_left a self.old))) }
+        ensures left { let a = selection_of (documents dump.now) request.now in IfOk result (λ r. places_left a self.new ≡ drop n (places_left a self.old)) }
+        ensures err { OnErr result (self.new ≡ self.old) }
+    {
+        match self {
+            Remainder::Scanned(position) => {
+                let mut moved = *position;
+                let places = moved.take(alloc, dump, &request.filter, n)?;
+                let end = moved.is_empty(dump, &request.filter);
+                *position = moved;
+                Ok((places, end))
+            }
+            Remainder::Listed(listed) => {
+                let places = listed.take(alloc, n)?;
+                Ok((places, listed.is_empty()))
+            }
+        }
+    }
+}
+
+/// How many places may still be given where so many were; without a limit all.
+fn most_left(limit: u64, given: u64) -> Option<u64>
+    ensures { (ps : List ℕ) → at_most result ps ≡ cut limit given ps }
+{
+    if limit == 0 {
+        None
+    } else {
+        Some(limit.saturating_sub(given))
+    }
+}
+
+/// How many of the first places an answer needs, with those that it passes over; without a limit all.
+fn most_needed(request: &Request) -> Option<u64>
+    ensures { let skip = request.now.skip in (ps : List ℕ) → length (at_most result ps) < 18446744073709551615 →
+        drop skip (at_most result ps) ≡ cut request.now.limit 0 (drop skip ps) }
+{
+    if request.limit == 0 {
+        None
+    } else {
+        Some(request.skip.saturating_add(request.limit))
+    }
+}
+
+/// Where a cursor without a sort stands: it goes on from there, and looks at no document twice.
+#[derive(Clone, Copy)]
+pub(crate) struct ScanPosition {
+    /// The match that was found and not given yet.
+    pub found: Option<u32>,
+    /// The first document that was not looked at.
+    pub next: u32,
+    /// How many matches are still to be passed over.
+    pub skip: u64,
+    /// How many may still be given; without it all.
+    pub most: Option<u64>,
+}
+
+impl ScanPosition {
+    /// What a request without a sort has left: its answer, or the rest of it after a token.
+    fn of(request: &Request, token: Option<Token>) -> ScanPosition
+        requires { IfSome token (λ t. t.last < 4294967295) }
+        ensures { (ds : List Doc) → request.now.sort.items ≡ [] →
+            scan_left (length ds) (hits_of ds (filter_tree request.now.filter)) result
+            ≡ left_after (selection_of ds request.now) (option_map marked_token token) }
+    {
+        let (next, skip, given) = match token {
+            Some(token) => (token.last + 1, 0, token.given),
+            None => (0, request.skip, 0),
+        };
+        ScanPosition {
+            found: None,
+            next,
+            skip,
+            most: most_left(request.limit, given),
+        }
+    }
+
+    /// Takes the next places, as many as the number, as long as there are any left. Where memory runs out, where it stands
+    /// says nothing.
+    #[tactic(auto, using(std::proofs::lemmas::List::drop_at, crate::proofs::CursorLemmas::drop_past))]
+    fn take(
+        &mut self,
+        alloc: Global,
+        dump: &Dump,
+        filter: &Filter,
+        n: u64,
+    ) -> Result<Vec<u32>, NoMemory>
+        ensures places { IfOk result (λ v. v.items ≡ take n (scan_left_in dump.now filter.now self.old)) }
+        ensures left { OnOk result (scan_left_in dump.now filter.now self.new ≡ drop n (scan_left_in dump.now filter.now self.old)) }
+    {
+        let mut places = Vec::new(alloc);
+        while (places.len() as u64) < n {
+            match self.next_match(dump, filter) {
+                Some(place) => places.push(place)?,
+                None => break,
+            }
+        }
+        Ok(places)
+    }
+
+    /// Whether nothing is left.
+    fn is_empty(&mut self, dump: &Dump, filter: &Filter) -> bool
+        ensures empty { result ≡ is_empty (scan_left_in dump.now filter.now self.old) }
+        ensures left { scan_left_in dump.now filter.now self.new ≡ scan_left_in dump.now filter.now self.old }
+    {
+        if self.most == Some(0) {
+            return true;
+        }
+        self.look(dump, filter);
+        self.found.is_none()
+    }
+
+    /// Gives the next place, where one is left.
+    fn next_match(&mut self, dump: &Dump, filter: &Filter) -> Option<u32>
+        ensures { HandsOut result (scan_left_in dump.now filter.now self.old) (scan_left_in dump.now filter.now self.new) }
+    {
+        if self.most == Some(0) {
+            return None;
+        }
+        self.look(dump, filter);
+        let place = self.found?;
+        self.found = None;
+        self.most = self.most.map(|n| n.saturating_sub(1));
+        Some(place)
+    }
+
+    /// Looks for the next match, unless one was found.
+    fn look(&mut self, dump: &Dump, filter: &Filter)
+        ensures left { scan_left_in dump.now filter.now self.new ≡ scan_left_in dump.now filter.now self.old }
+        ensures most { self.new.most ≡ self.old.most }
+        ensures none { self.new.found ≡ None → scan_left_in dump.now filter.now self.new ≡ [] }
+    {
+        while self.found.is_none() && self.next < dump.len() {
+            let place = self.next;
+            self.next += 1;
+            if is_match(dump, filter, place) {
+                if self.skip > 0 {
+                    self.skip -= 1;
+                } else {
+                    self.found = Some(place);
+                }
+            }
+        }
     }
 }

@@ -4,15 +4,14 @@ ghost use Rattle.std.specs.Prelude.{◌≡◌, ◌<◌, All, IfOk, count_by, len
 ghost use Rattle.std.specs.List.{range_with_len};
 ghost use Rattle.bd_answer.specs.Answer.{matching};
 ghost use Rattle.bd_bson.specs.Collection.{documents};
-ghost use Rattle.bd_filter.specs.FilterView.{filter_tree};
+ghost use Rattle.bd_filter.specs.Filter.{filter_tree};
 ghost use Rattle.bd_sort.specs.Selection.{selection_of, hits_of};
 ghost use Rattle.bd_index.specs.IndexView.{AreIndexesOf};
-ghost use Rattle.bd_cursor.specs.AccessView.{IsAccessOf, access_path};
-ghost use Rattle.bd_cursor.specs.Explanation.{explained_access, explanation_of, index_mark};
+ghost use Rattle.bd_cursor.specs.Access.{IsAccessOf, access_path, index_mark};
+ghost use Rattle.bd_cursor.specs.Explanation.{explained_access, explanation_of};
 ghost use Rattle.bd_request.specs.Results.{told};
 
-use crate::access::Access;
-use crate::choice::Choice;
+use crate::access::{Access, Choice};
 use bd_bson::Dump;
 use bd_filter::Filter;
 use bd_index::Index;

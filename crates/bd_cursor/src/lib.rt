@@ -28,39 +28,20 @@
 //! assert!(rt; places.as_slice() == [2, 0].as_slice());
 //! ```
 //!
-//! - `session`: `Session` and its calls: `specs/SessionView.antt`.
-//! - `cursor`: the open cursors; `digested_dump`: the digest of a dump, taken once.
-//! - `remainder`: the places that a cursor has left: `scan_position`, where each document is looked at and there is no sort, and
-//!   `place_list`, where all are known.
-//! - `choice`: `Choice`, which index is to be used; `indexes`: the index on a path.
-//! - `access`: `Access`, how documents are reached: `specs/AccessPath.antt`, and `specs/AccessView.antt`, that it leads to the
-//!   answer.
-//! - `serving`, `access_choice`: whether an index serves a request, and the one that is taken.
-//! - `bounded_places`: the places inside bounds as a source.
+//! - `session`: `Session` and its calls, and the digest of a dump, taken once: `specs/SessionView.antt`.
+//! - `cursor`: the open cursors, and the places that each has left.
+//! - `access`: `Access`, how documents are reached, and `Choice`, which index is to be used: `specs/Access.antt`.
 //! - `explaining`: what is told of an access path: `specs/Explanation.antt`.
-//! - `laws`: that the laws of sessions hold of each request.
 #![tactic(auto)]
 
 mod access;
-mod access_choice;
-mod bounded_places;
-mod choice;
 mod cursor;
-mod digested_dump;
 mod explaining;
-mod indexes;
-mod laws;
-mod place_list;
-mod remainder;
-mod scan_position;
-mod serving;
 mod session;
 
-pub use access::Access;
+pub use access::{Access, Choice};
 pub use bd_answer::PlaceSource;
 pub use bd_request::{
     Batch, Explain, Made, Plan, Refused, Request, Token, dump_digest, request_digest,
 };
-pub use choice::Choice;
-pub use laws::requests_are_fair;
-pub use session::Session;
+pub use session::{Session, requests_are_fair};

@@ -1,17 +1,20 @@
 //! Cursors over a dump.
 
+ghost use Rattle.std.specs.Prelude.{◌≡◌};
+ghost use Rattle.std.specs.Option.{ForSome};
+ghost use Rattle.sha2.specs.Sha256.{sha256};
+ghost use Rattle.bd_answer.specs.Laws.{IsFair};
+ghost use Rattle.bd_bson.specs.Collection.{bytes_of};
 ghost use Rattle.bd_index.specs.IndexView.{AreIndexesOf, AreIndexesOf-prop};
+ghost use Rattle.bd_sort.specs.Selection.{query_of};
 
-use crate::choice::Choice;
-use crate::cursor::{Cursor, close, close_at_end, place_of};
-use crate::digested_dump::DigestedDump;
+use crate::access::{Choice, index_on};
+use crate::cursor::{Cursor, Remainder, close, close_at_end, place_of};
 use crate::explaining::explain;
-use crate::indexes::index_on;
-use crate::remainder::Remainder;
 use bd_bson::Dump;
 use bd_index::Index;
 use bd_path::Path;
-use bd_request::{Batch, Explain, Made, Refused, Request, Token, request_digest};
+use bd_request::{Batch, Explain, Made, Refused, Request, Token, dump_digest, request_digest};
 use bd_value::NoMemory;
 use std::alloc::Global;
 
@@ -39,15 +42,15 @@ pub struct Session {
 }
 
 impl Session {
-    ghost use Rattle.std.specs.Prelude.{◌≡◌, ◌≤◌, IfErr, IfOk, IsFalse, IsTrue, None, OnOk, Some, false, string_bytes, true};
-    ghost use Rattle.bd_answer.specs.Session.{Call, dropped, explained, gave, has_index, killed, made, opened};
-    ghost use Rattle.bd_answer.specs.Session.{drop_call, kill_call, next_call, open_reply, reply};
-    ghost use Rattle.bd_answer.specs.SessionLaws.{new_state};
+    ghost use Rattle.std.specs.Prelude.{◌≤◌, ◌<◌, IfErr, IfOk, IfSome, IsFalse, IsTrue, List, None, OnOk, Option, Some, ℕ, false, length, option_map, string_bytes, true};
+    ghost use Rattle.bd_answer.specs.Laws.{new_state};
+    ghost use Rattle.bd_answer.specs.Session.{Call, drop_call, dropped, explained, find_call, gave, has_index, kill_call, killed, made, next_call};
+    ghost use Rattle.bd_answer.specs.Session.{open_reply, opened, reply, resume_call};
     ghost use Rattle.bd_bson.specs.Collection.{documents};
     ghost use Rattle.bd_index.specs.IndexView.{IsIndexOf};
-    ghost use Rattle.bd_cursor.specs.Explanation.{index_mark};
-    ghost use Rattle.bd_cursor.specs.SessionView.{IsGranted, IsOpening, IsRefusedCall, Steps, dump_of, given_batch, path_mark, state_of};
-    ghost use Rattle.bd_cursor.specs.SessionView.{explain_request, find_request, hint_of, make_index, make_of, resume_request};
+    ghost use Rattle.bd_cursor.specs.Access.{index_mark};
+    ghost use Rattle.bd_cursor.specs.SessionView.{IsGranted, IsOpening, IsRefusedCall, Steps, dump_of, given_batch, marked_token, path_mark};
+    ghost use Rattle.bd_cursor.specs.SessionView.{explain_request, hint_of, make_index, make_of, state_of};
     ghost use Rattle.bd_request.specs.Results.{made_counts, told};
 
     /// A session with no index and no cursor. It takes no memory.
@@ -78,8 +81,7 @@ impl Session {
     /// In this order: `IndexThere` where the path has an index, sparse or not, `TooManyIndexes` where there are 16. `NoMemory`
     /// where no memory was given.
     pub fn create_index(&mut self, path: Path) -> Result<Made, Refused>
-        ensures steps { Steps (λ m. made (made_counts m)) (make_index false (dump_of self.old) path)
-            self.old result self.new }
+        ensures steps { Steps (λ m. made (made_counts m)) (make_index false (dump_of self.old) path) self.old result self.new }
     {
         self.make(path, false)
     }
@@ -91,8 +93,7 @@ impl Session {
     ///
     /// Those of `create_index`.
     pub fn create_sparse_index(&mut self, path: Path) -> Result<Made, Refused>
-        ensures steps { Steps (λ m. made (made_counts m)) (make_index true (dump_of self.old) path)
-            self.old result self.new }
+        ensures steps { Steps (λ m. made (made_counts m)) (make_index true (dump_of self.old) path) self.old result self.new }
     {
         self.make(path, true)
     }
@@ -103,8 +104,7 @@ impl Session {
     ///
     /// `NoIndex` where the path has none.
     pub fn drop_index(&mut self, path: &Path) -> Result<(), Refused>
-        ensures steps { Steps (λ _. dropped) (drop_call (string_bytes path.now.text))
-            self.old result self.new }
+        ensures steps { Steps (λ _. dropped) (drop_call (string_bytes path.now.text)) self.old result self.new }
     {
         if index_on(&self.indexes, path).is_none() {
             return Err(Refused::NoIndex);
@@ -120,17 +120,11 @@ impl Session {
     ///
     /// `NoIndex` where an index is asked for that is not there. `NoMemory` where no memory was given.
     pub fn explain(&self, request: &Request, choice: &Choice) -> Result<Explain, Refused>
-        ensures steps { Steps (λ e. explained (told e)) (explain_request (dump_of self.now) request.now choice.now)
-            self.now result self.now }
+        ensures steps { Steps (λ e. explained (told e)) (explain_request (dump_of self.now) request.now choice.now) self.now result self.now }
     {
         self.has_choice(choice)?;
-        let explanation = explain(
-            self.alloc,
-            &self.documents.dump,
-            &self.indexes,
-            request,
-            choice,
-        )?;
+        let dump = &self.documents.dump;
+        let explanation = explain(self.alloc, dump, &self.indexes, request, choice)?;
         Ok(explanation)
     }
 
@@ -142,11 +136,9 @@ impl Session {
     /// In this order: `NoIndex` where an index is asked for that is not there, `TooManyCursors` where 64 are open. `NoMemory`
     /// where no memory was given.
     pub fn find(&mut self, request: Request, choice: Choice) -> Result<u64, Refused>
-        ensures steps { Steps opened (find_request (dump_of self.old) request choice)
-            self.old result self.new }
+        ensures steps { Steps opened (find_call (query_of (dump_of self.old) request) (hint_of choice)) self.old result self.new }
     {
-        let left = self.answer_to(&request, &choice)?;
-        self.open(request, None, left)
+        self.open(request, &choice, None)
     }
 
     /// Opens a cursor on what follows a token in the answer of its request, and gives its number.
@@ -162,12 +154,13 @@ impl Session {
         choice: Choice,
         token: &Token,
     ) -> Result<u64, Refused>
-        ensures steps { Steps opened (resume_request (dump_of self.old) request choice token.now)
-            self.old result self.new }
+        ensures steps { Steps opened (resume_call (query_of (dump_of self.old) request) (hint_of choice) (marked_token token.now)) self.old result self.new }
     {
         let token = *token;
-        let left = self.rest_after(&request, &choice, token)?;
-        self.open(request, Some(token), left)
+        if let Err(why) = self.may_resume(&request, token) {
+            return Err(why);
+        }
+        self.open(request, &choice, Some(token))
     }
 
     /// The next documents of a cursor, as many as the number, 0 to 2,147,483,647, as long as there are any left. Where nothing is
@@ -178,8 +171,7 @@ impl Session {
     /// In this order: `NoCursor` where none has the number, `Range` where `n` is above 2,147,483,647. `NoMemory` where no memory
     /// was given.
     pub fn next(&mut self, id: u64, n: u64) -> Result<Batch, Refused>
-        ensures steps { Steps (λ batch. gave (given_batch batch)) (next_call id n)
-            self.old result self.new }
+        ensures steps { Steps (λ batch. gave (given_batch batch)) (next_call id n) self.old result self.new }
     {
         let Some(place) = place_of(&self.cursors, id) else {
             return Err(Refused::NoCursor);
@@ -226,8 +218,7 @@ impl Session {
 
     /// Makes an index, sparse or not.
     fn make(&mut self, path: Path, sparse: bool) -> Result<Made, Refused>
-        ensures steps { Steps (λ m. made (made_counts m)) (make_index sparse (dump_of self.old) path)
-            self.old result self.new }
+        ensures steps { Steps (λ m. made (made_counts m)) (make_index sparse (dump_of self.old) path) self.old result self.new }
     {
         self.may_make(&path, sparse)?;
         let index = self.build(path, sparse)?;
@@ -265,48 +256,22 @@ impl Session {
     fn add(&mut self, index: Index) -> Result<Made, Refused>
         requires index { IsIndexOf (dump_of self.old) index }
         requires granted { IsGranted self.old (index_mark index) }
-        ensures steps { Steps (λ m. made (made_counts m)) (make_of (documents (dump_of self.old)) (index_mark index))
-            self.old result self.new }
+        ensures steps { Steps (λ m. made (made_counts m)) (make_of (documents (dump_of self.old)) (index_mark index)) self.old result self.new }
     {
-        let made = Made {
-            entries: index.entries(),
-            multikey: index.multikey(),
-        };
+        let entries = index.entries();
+        let multikey = index.multikey();
         self.indexes.push(index)?;
-        Ok(made)
+        Ok(Made { entries, multikey })
     }
 
-    /// The answer of a request, where a cursor may be opened on it.
-    fn answer_to(&self, request: &Request, choice: &Choice) -> Result<Remainder, Refused>
-        ensures opens { IfOk result
-            (IsOpening (find_request (dump_of self.now) request.now choice.now) self.now request.now None) }
-        ensures number { OnOk result (self.now.next_id ≤ 9223372036854775807) }
-        ensures refused { IfErr result (IsRefusedCall (open_reply (state_of self.now) (hint_of choice.now))) }
-    {
-        self.may_open(choice)?;
-        let documents = &self.documents;
-        let left = Remainder::of_answer(
-            self.alloc,
-            &documents.dump,
-            &self.indexes,
-            request,
-            choice,
-        )?;
-        Ok(left)
-    }
-
-    /// What follows a token in the answer of its request, where a cursor may be opened on it.
-    fn rest_after(
-        &mut self,
-        request: &Request,
-        choice: &Choice,
-        token: Token,
-    ) -> Result<Remainder, Refused>
-        ensures opens { IfOk result
-            (IsOpening (resume_request (dump_of self.old) request.now choice.now token) self.new request.now (Some token)) }
-        ensures number { OnOk result (self.new.next_id ≤ 9223372036854775807) }
-        ensures refused { IfErr result
-            (IsRefusedCall (reply (state_of self.old) (resume_request (dump_of self.old) request.now choice.now token))) }
+    /// Whether a token is one of the request to this dump, and its document is there.
+    fn may_resume(&mut self, request: &Request, token: Token) -> Result<(), Refused>
+        ensures there { OnOk result (token.last < length (documents (dump_of self.new))) }
+        ensures opens { OnOk result ((hint : Option (List ℕ)) → IsOpening
+            (resume_call (query_of (dump_of self.old) request.now) hint (marked_token token)) (state_of self.new)
+            (query_of (dump_of self.new) request.now) hint (Some (marked_token token))) }
+        ensures refused { IfErr result (λ why. (hint : Option (List ℕ)) → IsRefusedCall
+            (reply (state_of self.old) (resume_call (query_of (dump_of self.old) request.now) hint (marked_token token))) why) }
         ensures same { state_of self.new ≡ state_of self.old }
         ensures dump { dump_of self.new ≡ dump_of self.old }
     {
@@ -318,17 +283,7 @@ impl Session {
         if token.last >= self.documents.dump.len() {
             return Err(Refused::TokenPlace);
         }
-        self.may_open(choice)?;
-        let documents = &self.documents;
-        let left = Remainder::of_rest(
-            self.alloc,
-            &documents.dump,
-            &self.indexes,
-            request,
-            choice,
-            token,
-        )?;
-        Ok(left)
+        Ok(())
     }
 
     /// Whether a cursor may be opened, and why not.
@@ -345,17 +300,15 @@ impl Session {
         Ok(())
     }
 
-    /// Puts in a cursor that may be opened.
-    fn open(
-        &mut self,
-        request: Request,
-        token: Option<Token>,
-        left: Remainder,
-    ) -> Result<u64, Refused>
-        requires { self.now.next_id ≤ 9223372036854775807 }
-        ensures steps { (call : Call) → IsOpening call self.old request token left →
-            Steps opened call self.old result self.new }
+    /// Opens a cursor on what a request has left.
+    fn open(&mut self, request: Request, by: &Choice, token: Option<Token>) -> Result<u64, Refused>
+        requires { IfSome token (λ t. t.last < length (documents (dump_of self.old))) }
+        ensures steps { (call : Call) → IsOpening call (state_of self.old) (query_of (dump_of self.old) request) (hint_of by.now)
+            (option_map marked_token token) → Steps opened call self.old result self.new }
     {
+        self.may_open(by)?;
+        let data = &self.documents;
+        let left = Remainder::of(self.alloc, &data.dump, &self.indexes, &request, by, token)?;
         let id = self.next_id;
         self.cursors.push(Cursor {
             id,
@@ -366,4 +319,43 @@ impl Session {
         self.next_id += 1;
         Ok(id)
     }
+}
+
+/// A dump, and the digest of its bytes once it was asked for.
+#[derive(Drop)]
+pub(crate) struct DigestedDump {
+    pub dump: Dump,
+    digest: Option<[u8; 32]>,
+    ghost is_digest: { ForSome digest (λ d. d ≡ sha256 (bytes_of dump)) },
+}
+
+impl DigestedDump {
+    /// A dump whose digest was not asked for.
+    pub(crate) fn new(dump: Dump) -> DigestedDump
+        ensures { result.dump ≡ dump }
+    {
+        DigestedDump { dump, digest: None }
+    }
+
+    /// The digest of its bytes. It takes no memory.
+    pub(crate) fn digest(&mut self) -> [u8; 32]
+        ensures digest { result ≡ sha256 (bytes_of self.old.dump) }
+        ensures dump { self.new.dump ≡ self.old.dump }
+    {
+        if let Some(digest) = self.digest {
+            return digest;
+        }
+        let digest = dump_digest(self.dump.bytes());
+        self.digest = Some(digest);
+        digest
+    }
+}
+
+/// A request puts the documents of a dump into one order, up to ties, and its limit can be counted. So the laws of sessions hold of
+/// it: a cursor gives the answer of its request in batches, and each token leads on to the rest.
+#[tactic(auto, using(crate::proofs::CursorLemmas::asked_total))]
+pub fn requests_are_fair(dump: &Dump, request: &Request)
+    ensures { IsFair (query_of dump.now request.now) }
+{
+    let _limit = request.limit;
 }

@@ -1,11 +1,11 @@
 -- Lemmas on runs of reads and of writes.
-use Rattle.std.proofs.Common.{◌≡◌, ℕ, suc, append-nil, ◌+◌, ◌-◌, ◌<◌, ◌≤◌, List, [], ◌++◌, length, take, drop, Option, Some, sym, ap, ◌∙◌, subst, add-one}
-use Rattle.std.proofs.Common.{arith, append_assoc, take-append-drop, length-append, length-take}
-use Rattle.std.proofs.Math.Nat.{add-suc, add-zero}
-use Rattle.std.proofs.lemmas.List.{take_rest}
-use Rattle.std.proofs.KnownBytes.{Consumes-trans}
-use Rattle.std.specs.Io.KnownBytes.{Consumes}
+use Rattle.std.proofs.Common.{◌≡◌, ℕ, suc, append-nil, ◌+◌, ◌-◌, ◌<◌, ◌≤◌, List, [], ◌++◌, length, take, drop, Option, Some, sym, ap, ◌∙◌, subst, add-one, arith}
+use Rattle.std.proofs.Common.{append_assoc, take-append-drop, length-append, length-take, Result, Ok, Err, le_refl, take_at, drop_at, length-take-le}
+use Rattle.std.proofs.{Math.Nat.add-suc, Math.Nat.add-zero, lemmas.List.take_rest, KnownBytes.Consumes-trans, lemmas.Slice.take-put_mid_below}
+use Rattle.std.specs.{Io.KnownBytes.Consumes, Prelude.IfOk}
 use Rattle.bd_device.specs.Devices.{AreReads, no_read, more_reads, AreWrites, more_writes}
+use borrow.Rule.Slice.PartMut.{put_mid, post_of}
+use lib.Seq.{take-add, take-append-le}
 
 pub reads_none : {S : Type 0} {gives : S → Option (List ℕ) → S → Type 0} (s : S) (bytes : List ℕ) → bytes ≡ [] → AreReads gives 0 s bytes s
 reads_none {S} {gives} s bytes e = let P : List ℕ → Type 0 = λ l. AreReads gives 0 s l s in subst P (sym e) (no_read s)
@@ -54,3 +54,25 @@ writes_more {S} {takes} {bytes} s t u rest n writes last some =
 pub append-moves : (all done rest : List ℕ) (n : ℕ) → all ≡ done ++ rest → all ≡ (done ++ take n rest) ++ take (length rest - n) (drop n rest)
 append-moves all done rest n e =
     e ∙ ap (λ l. done ++ l) (sym (take-append-drop n rest)) ∙ sym (append_assoc done (take n rest) (drop n rest)) ∙ ap (λ l. (done ++ take n rest) ++ l) (sym (take_rest rest n))
+
+-- what stands in front of a place in a room and what a read put after it
+pub grown : (a k n : ℕ) (xs ys : List ℕ) → a ≤ length xs → n ≤ length ys → take (a + n) (put_mid a k xs ys) ≡ take a xs ++ take n ys
+grown a k n xs ys within fits =
+    let all : List ℕ = put_mid a k xs ys in
+    let after : List ℕ = post_of a k xs in
+    let front : take a all ≡ take a xs = take-put_mid_below a k xs ys a (le_refl a) within in
+    let rest : drop a all ≡ ys ++ after = drop_at (take a xs) (ys ++ after) a (length-take-le a xs within) in
+    let part : take n (drop a all) ≡ take n ys = ap (take n) rest ∙ take-append-le n ys after fits in
+    let split : take (a + n) all ≡ take a all ++ take n (drop a all) = take-add a n all in
+    let one : take a all ++ take n (drop a all) ≡ take a xs ++ take n (drop a all) = ap (λ l. l ++ take n (drop a all)) front in
+    let two : take a xs ++ take n (drop a all) ≡ take a xs ++ take n ys = ap (λ l. take a xs ++ l) part in
+    split ∙ one ∙ two
+
+-- a room after four bytes at its front
+pub after_head : (k n : ℕ) (head rest ys : List ℕ) → length head ≡ 4 → n ≤ length ys → take (4 + n) (put_mid 4 k (head ++ rest) ys) ≡ head ++ take n ys
+after_head k n head rest ys size fits =
+    grown 4 k n (head ++ rest) ys (omega (arith, length-append head rest)) fits ∙ ap (λ xs. xs ++ take n ys) (take_at head rest 4 size)
+
+pub both_of : {X E : Type 0} (r : Result X E) (P Q R S : X → Type 0) → IfOk r P → IfOk r Q → IfOk r R → ((x : X) → P x → Q x → R x → S x) → IfOk r S
+both_of (Ok x) P Q R S p q r f = f x p q r
+both_of (Err e) P Q R S p q r f = _

@@ -1,2 +1,1 @@
 pub mod DevicesLemmas
-pub mod FillingLemmas

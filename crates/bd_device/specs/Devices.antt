@@ -1,7 +1,15 @@
--- Readers and writers before a run and after it, also where their bytes are not known.
-use Rattle.std.specs.Prelude.{◌≡◌, ℕ, suc, ◌<◌, ◌≤◌, List, [], ◌++◌, length, take, drop, Option, None, Some, Result, Ok, Err}
+-- Devices before calls and after them, also where their bytes are not known: what was read and what was written.
+use Rattle.std.specs.Prelude.{◌≡◌, ℕ, ◌+◌, ◌<◌, ◌⊎◌, min, suc, ◌≤◌, List, [], ◌++◌, length, take, drop, Option, None, Some, Result, Ok, Err}
 use Rattle.std.specs.Io.KnownBytes.{Appends, Consumes}
-use Rattle.bd_device.specs.Counts.{after_more}
+use Rattle.bd_device.specs.declared.reading.ReadFault.{ReadFault}
+use Rattle.bd_device.specs.declared.reading.ReadFault.TheVariants as reads
+
+-- the count after n more, which stays at the greatest of 64 bits
+abbrev pub greatest : ℕ
+greatest = 18446744073709551615
+
+abbrev pub after_more : ℕ → ℕ → ℕ
+after_more n more = min (n + more) greatest
 
 -- a reader: the bytes that it will still give, where they are known, how many reads were made, and how many failed
 pub record Reader : Type 0 where
@@ -38,34 +46,22 @@ AppendsFront before after bytes =
 
 -- the writer took a front of the text, and no write failed
 abbrev pub TakesFront : Over Writer → List ℕ → Type 0
-TakesFront out text =
-    AppendsFront out.before.held out.after.held text × (out.after.failures ≡ out.before.failures)
+TakesFront out text = AppendsFront out.before.held out.after.held text × (out.after.failures ≡ out.before.failures)
 
 -- the writer took a front of the text, and then a write failed
 abbrev pub BreaksWithin : Over Writer → List ℕ → Type 0
 BreaksWithin out text =
-    AppendsFront out.before.held out.after.held text
-    × (out.after.failures ≡ after_more out.before.failures 1)
+    AppendsFront out.before.held out.after.held text × (out.after.failures ≡ after_more out.before.failures 1)
 
 -- the writer took the first text whole and a front of the second, and then a write failed
 abbrev pub BreaksAfter : Over Writer → List ℕ → List ℕ → Type 0
-BreaksAfter out whole text =
-    (front : List ℕ) × (rest : List ℕ) × (text ≡ front ++ rest)
+BreaksAfter out whole text = (front : List ℕ) × (rest : List ℕ) × (text ≡ front ++ rest)
     × Appends out.before.held out.after.held (whole ++ front)
     × (out.after.failures ≡ after_more out.before.failures 1)
 
 -- the reader gave no more than so many bytes
 abbrev pub TakesAtMost : ℕ → Over Reader → Type 0
-TakesAtMost limit file =
-    (given : List ℕ) × Consumes file.before.left file.after.left given × (length given ≤ limit)
-
--- known bytes of a reader lost a front
-abbrev pub LosesFront : Option (List ℕ) → Option (List ℕ) → Type 0
-LosesFront before after = (front : List ℕ) × Consumes before after front
-
--- known bytes of a reader lost so many at least
-abbrev pub LosesAtLeast : ℕ → Option (List ℕ) → Option (List ℕ) → Type 0
-LosesAtLeast n before after = (front : List ℕ) × Consumes before after front × (n ≤ length front)
+TakesAtMost limit file = (given : List ℕ) × Consumes file.before.left file.after.left given × (length given ≤ limit)
 
 -- what a read into this room gave: its bytes, or none where it failed
 abbrev pub bytes_given : {E : Type 0} → Result ℕ E → List ℕ → Option (List ℕ)
@@ -81,12 +77,25 @@ count_taken (Err _) = None
 pub data AreReads {S : Type 0} (gives : S → Option (List ℕ) → S → Type 0) : ℕ → S → List ℕ → S → Type 0 where
   no_read : (s : S) → AreReads gives 0 s [] s
   more_reads : (n : ℕ) (s t u : S) (front part : List ℕ) → AreReads gives n s front t
-      → gives t (Some part) u → 0 < length part
-      → AreReads gives (suc n) s (front ++ part) u
+      → gives t (Some part) u → 0 < length part → AreReads gives (suc n) s (front ++ part) u
 
 -- writes in a row led from one device to the other; each was of all that was left of the bytes and took some of them
 pub data AreWrites {S : Type 0} (takes : S → List ℕ → Option ℕ → S → Type 0) (bytes : List ℕ) : S → List ℕ → S → Type 0 where
   no_write : (s : S) → AreWrites takes bytes s bytes s
   more_writes : (s t u : S) (rest : List ℕ) (n : ℕ) → AreWrites takes bytes s rest t
-      → takes t rest (Some n) u → 0 < n
-      → AreWrites takes bytes s (drop n rest) u
+      → takes t rest (Some n) u → 0 < n → AreWrites takes bytes s (drop n rest) u
+
+-- so many reads gave these bytes: they are as many as the room has, or one more read found the end
+abbrev pub FillsRoom : {S : Type 0} → (S → Option (List ℕ) → S → Type 0) → ℕ → ℕ → S → List ℕ → S → Type 0
+FillsRoom {S = S} gives size turns s bytes t = ((length bytes ≡ size) × AreReads gives turns s bytes t)
+    ⊎ ((length bytes < size) × (n : ℕ) × (last : S) × (turns ≡ suc n)
+    × AreReads gives n s bytes last × gives last (Some []) t)
+
+-- what a device gave before it failed to fill a room of that size, where it may give as many bytes as the limit
+abbrev pub FailsToFill : Over Reader → ℕ → ℕ → ReadFault → Type 0
+FailsToFill file size limit reads.TooLong =
+    (given : List ℕ) × (last : List ℕ) × Consumes file.before.left file.after.left (given ++ last)
+    × (length given ≤ limit) × (limit < length given + length last) × (length given + length last ≤ size)
+FailsToFill file size limit reads.NoMemory = Unit {0}
+FailsToFill file size limit _ =
+    (given : List ℕ) × Consumes file.before.left file.after.left given × (length given < size) × (length given ≤ limit)

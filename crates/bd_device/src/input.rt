@@ -3,10 +3,8 @@ ghost use Rattle.std.specs.Prelude.{◌≡◌, ℕ, List, Option, None, Some, fa
 ghost use Rattle.std.proofs.Common.{rules};
 ghost use Rattle.std.specs.Io.Buffered.{reader_remaining};
 ghost use Rattle.std.specs.Io.KnownBytes.{Consumes, ReadConsumes};
-ghost use Rattle.bd_device.specs.Counts.{after_more, greatest};
-ghost use Rattle.bd_device.specs.Devices.{Reader, bytes_given};
+ghost use Rattle.bd_device.specs.Devices.{Reader, after_more, bytes_given, greatest};
 
-use crate::tally::Tally;
 use std::io::{BufRead, BufReader, Read};
 use thiserror::Error;
 
@@ -17,7 +15,7 @@ pub struct DeviceFault;
 
 /// A device that gives bytes.
 ///
-/// Its two counts stay at the greatest number of 64 bits, and then count as risen.
+/// Its two counts stay at the greatest number of 64 bits.
 pub trait Input {
     /// The bytes that reads will still give, where they are known, how many reads were made, and how many failed.
     ghost state: { Self → Reader };
@@ -49,8 +47,6 @@ pub trait Input {
     }
 
     ghost calls_fit: { (s : Self) → (state s).calls ≤ greatest };
-
-    ghost failures_fit: { (s : Self) → (state s).failures ≤ greatest };
 }
 
 /// A reader of the system's, such as a file or standard input.
@@ -67,34 +63,23 @@ impl<R: Read + Drop> SystemInput<R> {
         ensures calls { (⟦<SystemInput<R> as Input>⟧.state result).calls ≡ 0 }
         ensures failures { (⟦<SystemInput<R> as Input>⟧.state result).failures ≡ 0 }
     {
-        SystemInput {
-            reader,
-            tally: Tally::new(),
-        }
+        let tally = Tally::default();
+        SystemInput { reader, tally }
     }
 }
 
 impl<R: Read + Drop> Input for SystemInput<R> {
     // `min`, since in a law a count is any number
-    ghost state = { λ s. record {
-      left = R.remaining s.reader;
-      calls = min s.tally.calls greatest;
-      failures = min s.tally.failures greatest;
-    } };
+    ghost state = { λ s. record { left = R.remaining s.reader; calls = min s.tally.calls greatest; failures = s.tally.failures } };
 
     ghost calls_fit = { λ s. Prim.search rules };
 
-    ghost failures_fit = { λ s. Prim.search rules };
-
     fn read(&mut self, room: &mut [u8]) -> Result<usize, DeviceFault> {
         self.tally.call();
-        match self.reader.read(room) {
-            Ok(n) => Ok(n),
-            Err(_) => {
-                self.tally.fail();
-                Err(DeviceFault)
-            }
-        }
+        let Ok(n) = self.reader.read(room) else {
+            return Err(self.tally.fail());
+        };
+        Ok(n)
     }
 }
 
@@ -111,9 +96,8 @@ impl<R: Read + Drop> BufferedInput<R> {
         ensures calls { (⟦<BufferedInput<R> as Input>⟧.state result).calls ≡ 0 }
         ensures failures { (⟦<BufferedInput<R> as Input>⟧.state result).failures ≡ 0 }
     {
-        BufferedInput {
-            device: SystemInput::new(reader),
-        }
+        let device = SystemInput::new(reader);
+        BufferedInput { device }
     }
 }
 
@@ -121,8 +105,6 @@ impl<R: Read + Drop> Input for BufferedInput<R> {
     ghost state = { λ s. ⟦<SystemInput<BufReader<R>> as Input>⟧.state s.device };
 
     ghost calls_fit = { λ s. Prim.search rules };
-
-    ghost failures_fit = { λ s. Prim.search rules };
 
     fn read(&mut self, room: &mut [u8]) -> Result<usize, DeviceFault> {
         self.device.read(room)
@@ -169,7 +151,7 @@ impl<'a> MemoryInput<'a> {
             most,
             failing,
             bytes,
-            tally: Tally::new(),
+            tally: Tally::default(),
         }
     }
 
@@ -190,11 +172,7 @@ impl<'a> MemoryInput<'a> {
 
 impl Input for MemoryInput<'_> {
     // `min`, since in a law a count is any number
-    ghost state = { λ s. record {
-      left = Some s.bytes.now;
-      calls = min s.tally.calls greatest;
-      failures = min s.tally.failures greatest;
-    } };
+    ghost state = { λ s. record { left = Some s.bytes.now; calls = min s.tally.calls greatest; failures = s.tally.failures } };
 
     ghost read_gives = { λ s answer t. (t.most ≡ s.most) × (t.failing ≡ s.failing) × MatchOption answer
         (s.failing ≡ Some (after_more s.tally.calls 1))
@@ -202,18 +180,41 @@ impl Input for MemoryInput<'_> {
 
     ghost calls_fit = { λ s. Prim.search rules };
 
-    ghost failures_fit = { λ s. Prim.search rules };
-
     fn read(&mut self, room: &mut [u8]) -> Result<usize, DeviceFault> {
         self.tally.call();
         if self.failing == Some(self.tally.calls) {
-            self.tally.fail();
-            return Err(DeviceFault);
+            return Err(self.tally.fail());
         }
         let n = self.bytes.len().min(room.len()).min(self.most);
         let (given, rest) = self.bytes.split_at(n);
         room[..n].copy_from_slice(given);
         self.bytes = rest;
         Ok(n)
+    }
+}
+
+/// How many calls a device took and how many of them failed, at first none. Both stay at the greatest number of 64 bits.
+#[derive(Default, Drop)]
+pub(crate) struct Tally {
+    pub(crate) calls: u64,
+    pub(crate) failures: u64,
+}
+
+impl Tally {
+    /// Counts a call.
+    pub(crate) fn call(&mut self)
+        ensures calls { self.new.calls ≡ after_more self.old.calls 1 }
+        ensures failures { self.new.failures ≡ self.old.failures }
+    {
+        self.calls = self.calls.saturating_add(1);
+    }
+
+    /// Counts a failure of a call that is counted already, and tells it.
+    pub(crate) fn fail(&mut self) -> DeviceFault
+        ensures calls { self.new.calls ≡ self.old.calls }
+        ensures failures { self.new.failures ≡ after_more self.old.failures 1 }
+    {
+        self.failures = self.failures.saturating_add(1);
+        DeviceFault
     }
 }

@@ -17,18 +17,13 @@
 //! ```
 //!
 //! - `input`, `output`: `Input` and `Output`, over the system's readers and writers and over memory; `write_all`.
-//! - `tally`: their two counts.
-//! - `reading`: `read_all`, all bytes of a device.
-//! - `filling`: `fill`, a room filled with its bytes.
+//! - `reading`: `read_all`, all bytes of a device; `fill`, as many as a room takes.
 #![tactic(auto)]
 
-mod filling;
 mod input;
 mod output;
 mod reading;
-mod tally;
 
-pub use filling::{FillCounts, fill, fill_after};
 pub use input::{BufferedInput, DeviceFault, Input, MemoryInput, SystemInput};
 pub use output::{FailingWrite, MemoryOutput, Output, SystemOutput, write_all};
-pub use reading::{Limits, ReadFault, read_all};
+pub use reading::{FillCounts, Limits, ReadFault, fill, fill_after, read_all};

@@ -1,18 +1,15 @@
 //! What takes bytes, with counts of calls and of failures.
-ghost use Rattle.std.specs.Prelude.{◌≡◌, ◌≢◌, ℕ, List, None, Some, Option, IfOk, OnOk, OnErr, length, take, ◌-◌, ◌<◌, ◌≤◌, min, MatchOption, ⊤, ◌⊎◌, []};
-ghost use Rattle.std.proofs.Common.{rules};
+ghost use Rattle.std.specs.Prelude.{◌≡◌, ◌≢◌, ℕ, List, None, Some, Option, IfOk, OnOk, OnErr, length, take, ◌-◌, ◌<◌, ◌≤◌, MatchOption, min, ⊤, ◌⊎◌, []};
 ghost use Rattle.std.specs.Io.KnownBytes.{WriteAppends, Appends};
-ghost use Rattle.bd_device.specs.Counts.{after_more, greatest, HasRisen};
+ghost use Rattle.bd_device.specs.Devices.{Writer, AreWrites, BreaksWithin, TakesText, after_more, count_taken, over};
 ghost use Rattle.bd_device.specs.declared.output.FailingWrite.TheVariants.{Error, Zero};
-ghost use Rattle.bd_device.specs.Devices.{Writer, AreWrites, BreaksWithin, TakesText, count_taken, over};
 
-use crate::input::DeviceFault;
-use crate::tally::Tally;
+use crate::input::{DeviceFault, Tally};
 use std::io::Write;
 
 /// A device that takes bytes.
 ///
-/// Its two counts stay at the greatest number of 64 bits, and then count as risen.
+/// Its two counts stay at the greatest number of 64 bits.
 pub trait Output {
     /// The bytes that it holds, where they are known, how many writes were made, and how many failed. One that took 0 bytes
     /// of some is a failure.
@@ -30,10 +27,6 @@ pub trait Output {
         ensures well { IfOk result (λ n. (0 < n) ⊎ (bytes.now ≡ []) → (state self.new).failures ≡ (state self.old).failures) }
         ensures none { IfOk result (λ n. n ≡ 0 → bytes.now ≢ [] → (state self.new).failures ≡ after_more (state self.old).failures 1) }
         ensures failed { OnErr result ((state self.new).failures ≡ after_more (state self.old).failures 1) };
-
-    ghost calls_fit: { (s : Self) → (state s).calls ≤ greatest };
-
-    ghost failures_fit: { (s : Self) → (state s).failures ≤ greatest };
 }
 
 /// A writer of the system's, such as a file or standard output.
@@ -50,39 +43,23 @@ impl<W: Write + Drop> SystemOutput<W> {
         ensures calls { (⟦<SystemOutput<W> as Output>⟧.state result).calls ≡ 0 }
         ensures failures { (⟦<SystemOutput<W> as Output>⟧.state result).failures ≡ 0 }
     {
-        SystemOutput {
-            writer,
-            tally: Tally::new(),
-        }
+        let tally = Tally::default();
+        SystemOutput { writer, tally }
     }
 }
 
 impl<W: Write + Drop> Output for SystemOutput<W> {
-    // `min`, since in a law a count is any number
-    ghost state = { λ s. record {
-      held = W.contents s.writer;
-      calls = min s.tally.calls greatest;
-      failures = min s.tally.failures greatest;
-    } };
-
-    ghost calls_fit = { λ s. Prim.search rules };
-
-    ghost failures_fit = { λ s. Prim.search rules };
+    ghost state = { λ s. record { held = W.contents s.writer; calls = s.tally.calls; failures = s.tally.failures } };
 
     fn write(&mut self, bytes: &[u8]) -> Result<usize, DeviceFault> {
         self.tally.call();
-        match self.writer.write(bytes) {
-            Ok(n) => {
-                if n == 0 && !bytes.is_empty() {
-                    self.tally.fail();
-                }
-                Ok(n)
-            }
-            Err(_) => {
-                self.tally.fail();
-                Err(DeviceFault)
-            }
+        let Ok(n) = self.writer.write(bytes) else {
+            return Err(self.tally.fail());
+        };
+        if n == 0 && !bytes.is_empty() {
+            self.tally.fail();
         }
+        Ok(n)
     }
 }
 
@@ -126,7 +103,7 @@ impl<'a> MemoryOutput<'a> {
             failing,
             room,
             filled: 0,
-            tally: Tally::new(),
+            tally: Tally::default(),
         }
     }
 
@@ -153,30 +130,18 @@ impl<'a> MemoryOutput<'a> {
 }
 
 impl Output for MemoryOutput<'_> {
-    // `min`, since in a law a count is any number
-    ghost state = { λ s. record {
-      held = Some (take s.filled s.room.now);
-      calls = min s.tally.calls greatest;
-      failures = min s.tally.failures greatest;
-    } };
+    ghost state = { λ s. record { held = Some (take s.filled s.room.now); calls = s.tally.calls; failures = s.tally.failures } };
 
     ghost write_takes = { λ s bytes answer t. (t.most ≡ s.most) × (t.failing ≡ s.failing)
-        × (length t.room.now ≡ length s.room.now) × MatchOption answer
-        (s.failing ≡ Some (Error (after_more s.tally.calls 1)))
+        × (length t.room.now ≡ length s.room.now) × MatchOption answer (s.failing ≡ Some (Error (after_more s.tally.calls 1)))
         (λ n. (s.failing ≢ Some (Error (after_more s.tally.calls 1))) × (n ≤ s.most)
-        × (s.failing ≡ Some (Zero (after_more s.tally.calls 1)) → n ≡ 0)
-        × (s.failing ≢ Some (Zero (after_more s.tally.calls 1)) →
+        × (s.failing ≡ Some (Zero (after_more s.tally.calls 1)) → n ≡ 0) × (s.failing ≢ Some (Zero (after_more s.tally.calls 1)) →
         n ≡ min (min (length bytes) (length s.room.now - s.filled)) s.most)) };
-
-    ghost calls_fit = { λ s. Prim.search rules };
-
-    ghost failures_fit = { λ s. Prim.search rules };
 
     fn write(&mut self, bytes: &[u8]) -> Result<usize, DeviceFault> {
         self.tally.call();
         if self.failing == Some(FailingWrite::Error(self.tally.calls)) {
-            self.tally.fail();
-            return Err(DeviceFault);
+            return Err(self.tally.fail());
         }
         let spare = self.room.len() - self.filled;
         let mut n = bytes.len().min(spare).min(self.most);
@@ -197,10 +162,9 @@ impl Output for MemoryOutput<'_> {
 /// No call is made again: an error ends it, and so does a call that takes 0 bytes. What the device took until then is a
 /// front of `bytes`.
 pub fn write_all<W: Output>(writer: &mut W, bytes: &[u8]) -> Result<(), DeviceFault>
-    // What the device holds, where that is known, and its count of failures, which rises exactly at an error.
+    // What the device holds, where that is known, and its count of failures, which rises by one exactly at an error.
     ensures written { OnOk result (TakesText (over W.state writer.old writer.new) bytes.now) }
     ensures broken { OnErr result (BreaksWithin (over W.state writer.old writer.new) bytes.now) }
-    ensures rose { OnErr result (HasRisen (W.state writer.old).failures (W.state writer.new).failures) }
 
     // The writes, also of an unknown device: each of all that was left, and none after a failure.
     ensures writes { OnOk result (AreWrites W.write_takes bytes.now writer.old [] writer.new) }
@@ -208,10 +172,7 @@ pub fn write_all<W: Output>(writer: &mut W, bytes: &[u8]) -> Result<(), DeviceFa
         × (rest ≢ []) × (W.write_takes last rest None writer.new ⊎ W.write_takes last rest (Some 0) writer.new)) }
 {
     let mut rest = bytes;
-    for _ in 0..bytes.len() {
-        if rest.is_empty() {
-            break;
-        }
+    while !rest.is_empty() {
         let n = writer.write(rest)?;
         if n == 0 {
             return Err(DeviceFault);

@@ -1,8 +1,7 @@
-//! All bytes of a device.
-ghost use Rattle.std.specs.Prelude.{◌≡◌, ℕ, List, [], Some, None, IfOk, IfSome, IsErrOf, OnErr, OnOk, length, vec_len, ◌+◌, ◌<◌, ◌≤◌, codes};
-ghost use Rattle.std.specs.Io.KnownBytes.{IsAtEnd};
-ghost use Rattle.bd_device.specs.Counts.{after_more, HasRisen};
-ghost use Rattle.bd_device.specs.Devices.{AreReads, LosesFront, LosesAtLeast, TakesAtMost, over};
+//! The bytes of a device: all of them, or as many as a room takes.
+ghost use Rattle.std.specs.Prelude.{◌≡◌, ℕ, List, [], Some, None, IfOk, IfSome, IsErrOf, OnErr, OnOk, length, vec_len, ◌+◌, ◌<◌, ◌≤◌, codes, ◌++◌, take, IfErr, ◌-◌};
+ghost use Rattle.std.specs.Io.KnownBytes.{IsAtEnd, Consumes};
+ghost use Rattle.bd_device.specs.Devices.{AreReads, FailsToFill, FillsRoom, TakesAtMost, after_more, over};
 
 use crate::input::Input;
 use std::alloc::Global;
@@ -64,23 +63,20 @@ pub fn read_all<R: Input>(
     ensures whole { IfOk result (λ v. (n : ℕ) × (last : R) × (n < limits.turns)
         × AreReads R.read_gives n reader.old v.items last × R.read_gives last (Some []) reader.new) }
     ensures short { IfOk result (λ v. vec_len v ≤ limits.bytes) }
-    ensures front { OnErr result (LosesFront (R.state reader.old).left (R.state reader.new).left) }
+    ensures front { OnErr result ((given : List ℕ) × Consumes (R.state reader.old).left (R.state reader.new).left given) }
     ensures turns { (R.state reader.new).calls ≤ after_more (R.state reader.old).calls limits.turns }
 
     // The last read went past the limit of bytes.
-    ensures too_long { IsErrOf result ReadFault.TooLong →
-        (n : ℕ) × (given : List ℕ) × (part : List ℕ) × (last : R) × (n < limits.turns)
+    ensures too_long { IsErrOf result ReadFault.TooLong → (n : ℕ) × (given : List ℕ) × (part : List ℕ) × (last : R) × (n < limits.turns)
         × (length given ≤ limits.bytes) × (limits.bytes < length given + length part)
         × AreReads R.read_gives n reader.old given last × R.read_gives last (Some part) reader.new }
-    ensures too_long_known { IsErrOf result ReadFault.TooLong →
-        IfSome (R.state reader.old).left (λ xs. limits.bytes < length xs) }
+    ensures too_long_known { IsErrOf result ReadFault.TooLong → IfSome (R.state reader.old).left (λ xs. limits.bytes < length xs) }
 
     // All reads were made, and each gave a byte at least.
-    ensures too_many { IsErrOf result ReadFault.TooManyTurns →
-        (given : List ℕ) × (length given ≤ limits.bytes)
+    ensures too_many { IsErrOf result ReadFault.TooManyTurns → (given : List ℕ) × (length given ≤ limits.bytes)
         × AreReads R.read_gives limits.turns reader.old given reader.new }
     ensures too_many_known { IsErrOf result ReadFault.TooManyTurns →
-        LosesAtLeast limits.turns (R.state reader.old).left (R.state reader.new).left }
+        (given : List ℕ) × Consumes (R.state reader.old).left (R.state reader.new).left given × (limits.turns ≤ length given) }
     ensures too_many_calls { IsErrOf result ReadFault.TooManyTurns →
         (R.state reader.new).calls ≡ after_more (R.state reader.old).calls limits.turns }
 
@@ -88,14 +84,11 @@ pub fn read_all<R: Input>(
     ensures device { IsErrOf result ReadFault.Device →
         (n : ℕ) × (given : List ℕ) × (last : R) × (n < limits.turns) × (length given ≤ limits.bytes)
         × AreReads R.read_gives n reader.old given last × R.read_gives last None reader.new }
-    ensures failed { IsErrOf result ReadFault.Device →
-        (R.state reader.new).failures ≡ after_more (R.state reader.old).failures 1 }
-    ensures rose { IsErrOf result ReadFault.Device → HasRisen (R.state reader.old).failures (R.state reader.new).failures }
+    ensures failed { IsErrOf result ReadFault.Device → (R.state reader.new).failures ≡ after_more (R.state reader.old).failures 1 }
     ensures well { ¬ (IsErrOf result ReadFault.Device) → (R.state reader.new).failures ≡ (R.state reader.old).failures }
 
     // The reads before a refusal of the allocator gave a byte each, and no more than the limit.
-    ensures memory { IsErrOf result ReadFault.NoMemory →
-        (n : ℕ) × (given : List ℕ) × (n ≤ limits.turns) × (length given ≤ limits.bytes)
+    ensures memory { IsErrOf result ReadFault.NoMemory → (n : ℕ) × (given : List ℕ) × (n ≤ limits.turns) × (length given ≤ limits.bytes)
         × AreReads R.read_gives n reader.old given reader.new }
     ensures memory_known { IsErrOf result ReadFault.NoMemory → TakesAtMost limits.bytes (over R.state reader.old reader.new) }
 {
@@ -116,4 +109,100 @@ pub fn read_all<R: Input>(
         }
     }
     Err(ReadFault::TooManyTurns)
+}
+
+/// What came of filling a room.
+#[derive(Clone, Copy)]
+pub struct FillCounts {
+    /// How many bytes came, the whole room unless the device is at its end.
+    pub bytes: usize,
+    /// How many reads were made.
+    pub turns: u64,
+}
+
+/// Reads until the room is full or the device is at its end, as long as the limits let it. No read is made again.
+#[inline(always)]
+pub fn fill<R: Input>(
+    reader: &mut R,
+    room: &mut [u8],
+    limits: Limits,
+) -> Result<FillCounts, ReadFault>
+    ensures fits { IfOk result (λ f. f.bytes ≤ length room.old) }
+    ensures bytes { IfOk result (λ f. Consumes (R.state reader.old).left (R.state reader.new).left (take f.bytes room.new)) }
+    ensures end { IfOk result (λ f. f.bytes < length room.old → IsAtEnd (R.state reader.new).left) }
+    ensures within { IfOk result (λ f. (f.bytes ≤ limits.bytes) × (f.turns ≤ limits.turns)) }
+    ensures called { IfOk result (λ f. (R.state reader.new).calls ≡ after_more (R.state reader.old).calls f.turns) }
+    ensures turns { (R.state reader.new).calls ≤ after_more (R.state reader.old).calls limits.turns }
+    ensures unfilled { IfErr result (FailsToFill (over R.state reader.old reader.new) (length room.old) limits.bytes) }
+    // The reads, also of an unknown device. Where too many would be wanted, all were made and each gave a byte at least.
+    ensures reads { IfOk result (λ f. FillsRoom R.read_gives (length room.old) f.turns reader.old (take f.bytes room.new) reader.new) }
+    ensures too_many { IsErrOf result ReadFault.TooManyTurns →
+        (given : List ℕ) × Consumes (R.state reader.old).left (R.state reader.new).left given
+        × (length given < length room.old) × (length given ≤ limits.bytes)
+        × AreReads R.read_gives limits.turns reader.old given reader.new }
+    ensures too_many_calls { IsErrOf result ReadFault.TooManyTurns →
+        (R.state reader.new).calls ≡ after_more (R.state reader.old).calls limits.turns }
+    // The last read failed, and it alone: exactly then the count of failures rises.
+    ensures failed { IsErrOf result ReadFault.Device → (R.state reader.new).failures ≡ after_more (R.state reader.old).failures 1 }
+    ensures well { ¬ (IsErrOf result ReadFault.Device) → (R.state reader.new).failures ≡ (R.state reader.old).failures }
+    ensures memory { ¬ (IsErrOf result ReadFault.NoMemory) }
+{
+    let size = room.len();
+    if 0 < limits.turns && size as u64 <= limits.bytes && reader.read_held(room) {
+        return Ok(FillCounts {
+            bytes: size,
+            turns: 1,
+        });
+    }
+    let mut bytes = 0;
+    let mut turns = 0;
+    while bytes < room.len() {
+        if turns == limits.turns {
+            return Err(ReadFault::TooManyTurns);
+        }
+        let Ok(n) = reader.read(&mut room[bytes..]) else {
+            return Err(ReadFault::Device);
+        };
+        turns += 1;
+        if n == 0 {
+            return Ok(FillCounts { bytes, turns });
+        }
+        if limits.bytes - (bytes as u64) < n as u64 {
+            return Err(ReadFault::TooLong);
+        }
+        bytes += n;
+    }
+    Ok(FillCounts { bytes, turns })
+}
+
+/// Puts four bytes at the front of a room, and fills it after them up to `size`, which is at least 4 and no more than the
+/// room's length.
+pub fn fill_after<R: Input>(
+    reader: &mut R,
+    room: &mut [u8],
+    head: [u8; 4],
+    size: usize,
+    limits: Limits,
+) -> Result<FillCounts, ReadFault>
+    requires { (4 ≤ size) × (size ≤ length room.old) }
+    ensures fits { IfOk result (λ f. f.bytes + 4 ≤ size) }
+    ensures gives { IfOk result (λ f. (given : List ℕ) × Consumes (R.state reader.old).left (R.state reader.new).left given
+        × (length given ≡ f.bytes) × (take (4 + f.bytes) room.new ≡ head ++ given)
+        × FillsRoom R.read_gives (size - 4) f.turns reader.old given reader.new) }
+    ensures end { IfOk result (λ f. f.bytes + 4 < size → IsAtEnd (R.state reader.new).left) }
+    ensures within { IfOk result (λ f. (f.bytes ≤ limits.bytes) × (f.turns ≤ limits.turns)) }
+    ensures called { IfOk result (λ f. (R.state reader.new).calls ≡ after_more (R.state reader.old).calls f.turns) }
+    ensures turns { (R.state reader.new).calls ≤ after_more (R.state reader.old).calls limits.turns }
+    ensures unfilled { IfErr result (FailsToFill (over R.state reader.old reader.new) (size - 4) limits.bytes) }
+    ensures too_many { IsErrOf result ReadFault.TooManyTurns →
+        (given : List ℕ) × Consumes (R.state reader.old).left (R.state reader.new).left given
+        × (length given < size - 4) × (length given ≤ limits.bytes) × AreReads R.read_gives limits.turns reader.old given reader.new }
+    ensures too_many_calls { IsErrOf result ReadFault.TooManyTurns →
+        (R.state reader.new).calls ≡ after_more (R.state reader.old).calls limits.turns }
+    ensures failed { IsErrOf result ReadFault.Device → (R.state reader.new).failures ≡ after_more (R.state reader.old).failures 1 }
+    ensures well { ¬ (IsErrOf result ReadFault.Device) → (R.state reader.new).failures ≡ (R.state reader.old).failures }
+    ensures memory { ¬ (IsErrOf result ReadFault.NoMemory) }
+{
+    room[..4].copy_from_slice(&head);
+    fill(reader, &mut room[4..size], limits)
 }

@@ -9,58 +9,52 @@ use thiserror::Error;
 #[error("{}", self.words())]
 pub enum JsonFaultKind {
     /// It is no JSON, or it is not UTF-8.
-    Syntax,
+    Syntax = 1,
     /// It is a value that is no document.
-    NotADocument,
+    NotADocument = 2,
     /// Brackets stand deeper than 203 in one another, or documents and arrays deeper than 200.
-    TooDeep,
+    TooDeep = 3,
     /// An object begins with a wrapper's name and is not exactly that wrapper.
-    BadWrapper,
+    BadWrapper = 4,
     /// A double, a decimal128, a UUID, a text as date, or another form that is not read.
-    NotInProfile,
+    NotInProfile = 5,
     /// A whole number that does not fit its type.
-    NumberRange,
+    NumberRange = 6,
     /// A zero in a name, or in a text of a regular expression.
-    NulInName,
+    NulInName = 7,
     /// Text after the document.
-    TrailingText,
+    TrailingText = 8,
     /// No memory was given.
-    NoMemory,
+    NoMemory = 9,
 }
+
+/// What went wrong, in words: by number, from 1 on.
+const WORDS: [&str; 9] = [
+    "not JSON",
+    "not a document",
+    "too deep",
+    "bad wrapper",
+    "not in the profile",
+    "number out of range",
+    "zero in a name",
+    "text after the document",
+    "no memory",
+];
 
 impl JsonFaultKind {
     /// What went wrong, in words.
+    #[tactic(auto, unfolding(crate::specs::JsonFault::json_fault_words))]
     pub fn words(self) -> &'static str
         ensures { result.now ≡ json_fault_words self }
     {
-        match self {
-            JsonFaultKind::Syntax => "not JSON",
-            JsonFaultKind::NotADocument => "not a document",
-            JsonFaultKind::TooDeep => "too deep",
-            JsonFaultKind::BadWrapper => "bad wrapper",
-            JsonFaultKind::NotInProfile => "not in the profile",
-            JsonFaultKind::NumberRange => "number out of range",
-            JsonFaultKind::NulInName => "zero in a name",
-            JsonFaultKind::TrailingText => "text after the document",
-            JsonFaultKind::NoMemory => "no memory",
-        }
+        WORDS[self as usize - 1]
     }
 
     /// The number by which a reply tells it, 1 to 8; 9 for out of memory.
     pub fn number(self) -> u32
         ensures { result ≡ json_fault_number self }
     {
-        match self {
-            JsonFaultKind::Syntax => 1,
-            JsonFaultKind::NotADocument => 2,
-            JsonFaultKind::TooDeep => 3,
-            JsonFaultKind::BadWrapper => 4,
-            JsonFaultKind::NotInProfile => 5,
-            JsonFaultKind::NumberRange => 6,
-            JsonFaultKind::NulInName => 7,
-            JsonFaultKind::TrailingText => 8,
-            JsonFaultKind::NoMemory => 9,
-        }
+        self as u32
     }
 }
 

@@ -1,13 +1,9 @@
-pub mod Base64Lemmas
-pub mod StringUtf8Lemmas
-pub mod DecimalLemmas
+pub mod Utf8Lemmas
 pub mod InjectiveLemmas
 pub mod ReadBackLemmas
 pub mod FitLemmas
 pub mod RowLemmas
 pub mod MemberLemmas
-pub mod TokenUtf8Lemmas
 pub mod TreeJsonLemmas
-pub mod StepLemmas
 pub mod TextLemmas
-pub mod WholeTextLemmas
+pub mod ReadLemmas

@@ -6,13 +6,12 @@ use Rattle.json.specs.Json.{Json, Parse, parse_map, read_key, members, value}
 use Rattle.json.specs.Find.{as_str}
 use Rattle.json.proofs.Grammar.{members_end, members_no_key}
 use Rattle.bd_value.specs.Tree.{Tree, doc, code_scope, Fields, Doc, pairs_of, fields_of, fields_of-pairs_of}
-use Rattle.bd_extjson.specs.Meaning.{AfterName, one_more, nested, with_scope, two, wrapper_tree, after_one, after, wrap, wrap_object}
-use Rattle.bd_wrapper.specs.Wrappers.{wrapper_of}
-use Rattle.bd_extjson.specs.TextDocument.{document}
-use Rattle.bd_wrapper.specs.Progress.{through, after_key, if_no_name, closing, is_code, is_scope, is_code_name, is_scope_name}
+use Rattle.bd_extjson.specs.Read.{AfterName, one_more, nested, with_scope, two, wrapper_tree, after_one, after, wrap, wrap_object, document}
+use Rattle.bd_wrapper.specs.Wrapper.{wrapper_of, through, after_key, if_no_name, closing, is_code_name, is_scope_name}
+use Rattle.bd_value.proofs.ViewLemmas.{tree_of-CodeScope}
 use Rattle.bd_wrapper.specs.declared.wrapper.Wrapper.{Wrapper}
 use Rattle.bd_wrapper.specs.declared.wrapper.Wrapper.TheVariants as kinds
-use Rattle.bd_extjson.proofs.StepLemmas.{nested_is, next_name, never, refused_member, through_made, through_same}
+use Rattle.bd_extjson.proofs.ReadLemmas.{nested_is, next_name, never, refused_member, through_made, through_same}
 
 -- ---- members, whatever is made of them
 
@@ -118,18 +117,18 @@ two_refused w room j t k i json.no_members none = go (wrapper_of k) none
 two_refused w room j t k i (json.member l h ms) none = refl
 
 -- two names only where these are `$code` and `$scope`
-no_two : (w v : Wrapper) (j i : Json) (t u : Option Tree) → is_code w ≡ false → is_scope w ≡ false → two w j t v i u ≡ None
+no_two : (w v : Wrapper) (j i : Json) (t u : Option Tree) → is_code_name (Some w) ≡ false → is_scope_name (Some w) ≡ false → two w j t v i u ≡ None
 no_two kinds.Code v j i t u e f = absurd cc
 no_two kinds.Scope v j i t u e f = absurd cc
 no_two _ v j i t u e f = refl
 
-pub one_name_alone : (w : Wrapper) (room : ℕ) (j : Json) (t : Option Tree) (k : List ℕ) (i : Json) (ms : json.Members) → is_code w ≡ false
-    → is_scope w ≡ false → wrapping room w j t (json.member k i ms) ≡ None
+pub one_name_alone : (w : Wrapper) (room : ℕ) (j : Json) (t : Option Tree) (k : List ℕ) (i : Json) (ms : json.Members) → is_code_name (Some w) ≡ false
+    → is_scope_name (Some w) ≡ false → wrapping room w j t (json.member k i ms) ≡ None
 one_name_alone w room j t k i ms e f = two_refused w room j t k i ms (λ v is. nested_none room _ (no_two w v j i t (wrap (room - 1) i) e f))
 
 -- ---- `$code`, then `$scope`
 
-code_with : (v : Wrapper) (j i : Json) (t u : Option Tree) → is_scope v ≡ false → two kinds.Code j t v i u ≡ None
+code_with : (v : Wrapper) (j i : Json) (t u : Option Tree) → is_scope_name (Some v) ≡ false → two kinds.Code j t v i u ≡ None
 code_with kinds.Scope j i t u e = absurd cc
 code_with _ j i t u e = refl
 
@@ -220,7 +219,7 @@ first_read k room depth n ts r u e f =
     let p = was_read (wrap (room - 1)) (value depth ts) u r f in
     (p.0, first_part kinds.Scope k room depth n ts r p.0 e p.1 ∙ ap (λ t. through (wrapping room kinds.Scope p.0 t) (members (value depth) n r)) p.2)
 
-scope_with : (v : Wrapper) (j i : Json) (t u : Option Tree) → is_code v ≡ false → two kinds.Scope j t v i u ≡ None
+scope_with : (v : Wrapper) (j i : Json) (t u : Option Tree) → is_code_name (Some v) ≡ false → two kinds.Scope j t v i u ≡ None
 scope_with kinds.Code j i t u e = absurd cc
 scope_with _ j i t u e = refl
 
@@ -237,7 +236,7 @@ pub code_unread : (k : List ℕ) (room depth n : ℕ) (ts r : List Token) (j : J
     → through (wrapping room kinds.Scope j t) (members (value depth) n ts) ≡ None
 code_unread k room depth n ts r j t le e f = named (wrapping room kinds.Scope j t) k depth n ts r le e ∙ unreadable (wrapping room kinds.Scope j t) k depth (n - 1) r f
 
-pub code_is : (w : Wrapper) → is_code w ≡ true → w ≡ kinds.Code
+pub code_is : (w : Wrapper) → is_code_name (Some w) ≡ true → w ≡ kinds.Code
 code_is kinds.Code e = refl
 code_is _ e = absurd cc
 
@@ -267,3 +266,5 @@ scoped (Some a) (doc fs) s d e f =
     let inside : Some fs ≡ Some (fields_of d) = ap Some (sym (fields_of-pairs_of fs)) ∙ ap (option_map fields_of) f in
     ap (option_map (λ (x : Fields). code_scope a x)) inside ∙ ap (option_map (λ (x : List ℕ). code_scope x (fields_of d))) e
 scoped _ _ s d e f = absurd cc
+
+pub ruleset scope_steps = (scoped, tree_of-CodeScope)

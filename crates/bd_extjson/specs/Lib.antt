@@ -1,3 +1,2 @@
-pub mod Plain
-pub mod TextDocument
-pub mod Meaning
+pub mod Laws
+pub mod Read

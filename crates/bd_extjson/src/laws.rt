@@ -1,13 +1,11 @@
 //! What the texts determine, and that they are read back.
 ghost use Rattle.std.specs.Prelude.{◌≡◌, ◌==◌, ◌≤◌, ℕ, List, All, false};
 ghost use Rattle.bd_value.specs.Limits.{most_levels};
-ghost use Rattle.bd_value.specs.Depth.{depth};
-ghost use Rattle.bd_value.specs.Fits.{FitsTypes, HasUtf8};
-ghost use Rattle.bd_value.specs.Tree.{Doc, Tree, doc, fields_of};
+ghost use Rattle.bd_value.specs.Tree.{depth, Doc, Tree, doc, fields_of};
+ghost use Rattle.bd_value.specs.Fits.{FitsTypes, HasUtf8, zero_in};
 ghost use Rattle.bd_value.specs.View.{pairs};
-ghost use Rattle.bd_value.specs.Zeros.{zero_in};
-ghost use Rattle.bd_extjson.specs.Plain.{IsPlain};
-ghost use Rattle.bd_extjson.specs.TextDocument.{ReadsAs};
+ghost use Rattle.bd_extjson.specs.Laws.{IsPlain};
+ghost use Rattle.bd_extjson.specs.Read.{ReadsAs};
 ghost use Rattle.bd_text.specs.Text.{text};
 
 use bd_value::{Document, document_fits};

@@ -1,6 +1,6 @@
 //! BSON values and documents as Extended JSON v2, canonical form: written without white space, and read.
 //!
-//! Which document a text is: `specs/TextDocument.antt`.
+//! Which document a text is: `specs/Read.antt`.
 //!
 //! An example, which `bd_extjson_tests` proves and runs as `examples::extjson`:
 //!
@@ -11,7 +11,7 @@
 //! assert!(rt; text.as_slice() == b"{\"a\":{\"$numberInt\":\"1\"}}".as_slice());
 //! ```
 //!
-//! - `read`: `read_doc`, over `reading`, one pass over the tokens of a text.
+//! - `read`: `read_doc`, one pass over the tokens of a text.
 //! - `laws`: what joins the two.
 //!
 //! The text of a value is written by `bd_text`, whose calls stand here too.
@@ -19,7 +19,6 @@
 
 mod laws;
 mod read;
-mod reading;
 
 pub use bd_diagnose::{JsonFault, JsonFaultKind};
 pub use bd_text::{
@@ -31,5 +30,4 @@ pub use json::Scratch;
 pub use laws::{
     document_reads_back, reads_back, reads_what_fits, text_determines_document, texts_are_lines,
 };
-pub use read::{read_doc, read_doc_with};
-pub use reading::{bare_number, read_wrapper, wrapper_named};
+pub use read::{bare_number, read_doc, read_doc_with, read_wrapper, wrapper_named};

@@ -1,45 +1,28 @@
-//! The document that a text is.
-ghost use Rattle.std.specs.Prelude.{◌≡◌, ◌≢◌, Err, IfOk, IfErr, length, option_and_then};
+//! The document that a text is: read from its tokens, in one pass.
+ghost use Rattle.std.specs.Prelude.{◌≡◌, ◌≢◌, ◌<◌, ◌≤◌, ◌-◌, ℕ, List, length, map, Option, Some, option_map, option_and_then, Err, IfOk, IfErr, OnOk};
 ghost use Rattle.std.specs.Str.{IsUtf8};
+ghost use Rattle.json.specs.Find.{as_str};
+ghost use Rattle.json.specs.Json.{Json, value, items, members};
+ghost use Rattle.json.specs.Value.{value_view};
 ghost use Rattle.bd_value.specs.Limits.{most_levels};
-ghost use Rattle.bd_value.specs.Tree.{Doc};
+ghost use Rattle.bd_value.specs.Tree.{Doc, Tree, pairs_of, fields_of, items_of};
 ghost use Rattle.bd_value.specs.View.{tree_of, pairs};
-ghost use Rattle.bd_wrapper.specs.Progress.{GivesValue};
 ghost use Rattle.bd_diagnose.specs.JsonFault.{IsPlaced, TellsBadUtf8};
-ghost use Rattle.bd_extjson.specs.TextDocument.{ReadsAs, json, reading};
-ghost use Rattle.bd_extjson.specs.Meaning.{wrap};
-ghost use Rattle.bd_diagnose.specs.declared.json_fault.JsonFaultKind.TheVariants as kinds;
-ghost use Rattle.bd_wrapper.specs.declared.trouble.Trouble.TheVariants as troubles;
+ghost use Rattle.bd_diagnose.specs.declared.json_fault.JsonFaultKind.TheVariants as faults;
+ghost use Rattle.bd_wrapper.specs.WholeNumber.{whole_64};
+ghost use Rattle.bd_wrapper.specs.Wrapper.{wrapper_of, through, after_key, closing, FailsAtTokens, GivesTokens, GivesValue};
+ghost use Rattle.bd_wrapper.specs.declared.wrapper.Trouble.TheVariants as troubles;
+ghost use Rattle.bd_wrapper.specs.declared.wrapper.Wrapper.TheVariants as kinds;
+ghost use Rattle.bd_extjson.specs.Read.{ReadsAs, json, reading, document, bare_number, with_scope, wrapper_tree, wrap, wrap_items, wrap_object, wrap_fields, after};
 
-use crate::reading::{document_of, read_value};
 use bd_diagnose::{JsonFault, JsonFaultKind, diagnose};
-use bd_value::{Document, MOST_BRACKETS, MOST_LEVELS, Value};
-use bd_wrapper::Trouble;
-use json::{Reader, Scratch};
+use bd_value::{Document, MOST_BRACKETS, MOST_LEVELS, Value, has_zero};
+use bd_wrapper::{Trouble, Wrapper, names_code, names_scope, unwrap_single, whole};
+use json::{Reader, Scratch, Token};
 use std::alloc::Global;
 
-fn read_text(alloc: Global, text: &str, scratch: &mut Scratch) -> Result<Value, Trouble>
-    ensures { GivesValue tree_of result (option_and_then (wrap most_levels) (json text.now)) }
-{
-    let mut reader = Reader::new(text, scratch)?;
-    let value = read_value(alloc, &mut reader, MOST_LEVELS, MOST_BRACKETS)?;
-    if reader.next().is_some() {
-        return Err(Trouble::Refused);
-    }
-    Ok(value)
-}
-
-fn read_bytes(alloc: Global, text: &[u8], scratch: &mut Scratch) -> Result<Document, Trouble>
-    ensures gives { GivesValue pairs result (reading text.now) }
-    ensures utf8 { ¬ (IsUtf8 text.now) → result ≡ Err troubles.Refused }
-{
-    let text = match simdutf8::compat::from_utf8(text) {
-        Ok(text) => text,
-        Err(_) => return Err(Trouble::Refused),
-    };
-    let value = read_text(alloc, text, scratch)?;
-    document_of(value).ok_or(Trouble::Refused)
-}
+/// What is read, or why it was not.
+type Read<T> = Result<T, Trouble>;
 
 /// The document that the text is: Extended JSON v2, canonical form, and bare whole numbers, with any white space and escapes
 /// of JSON.
@@ -51,7 +34,7 @@ pub fn read_doc(alloc: Global, text: &[u8]) -> Result<Document, JsonFault>
     // What is read is what the text is.
     ensures found { IfOk result (λ d. ReadsAs text.now (pairs d)) }
     // A text that is a document is read, unless memory runs out.
-    ensures none { IfErr result (λ f. f.kind ≢ kinds.NoMemory → (d : Doc) → ReadsAs text.now d → ⊥) }
+    ensures none { IfErr result (λ f. f.kind ≢ faults.NoMemory → (d : Doc) → ReadsAs text.now d → ⊥) }
     ensures place { IfErr result (IsPlaced (length text.now)) }
     ensures utf8 { IfErr result (TellsBadUtf8 text.now) }
 {
@@ -66,7 +49,7 @@ pub fn read_doc_with(
     scratch: &mut Scratch,
 ) -> Result<Document, JsonFault>
     ensures found { IfOk result (λ d. ReadsAs text.now (pairs d)) }
-    ensures none { IfErr result (λ f. f.kind ≢ kinds.NoMemory → (d : Doc) → ReadsAs text.now d → ⊥) }
+    ensures none { IfErr result (λ f. f.kind ≢ faults.NoMemory → (d : Doc) → ReadsAs text.now d → ⊥) }
     ensures place { IfErr result (IsPlaced (length text.now)) }
     ensures utf8 { IfErr result (TellsBadUtf8 text.now) }
 {
@@ -77,5 +60,280 @@ pub fn read_doc_with(
             at: 0,
         }),
         Err(Trouble::Refused) => Err(diagnose(alloc, text)),
+    }
+}
+
+fn read_bytes(alloc: Global, text: &[u8], scratch: &mut Scratch) -> Read<Document>
+    ensures gives { GivesValue pairs result (reading text.now) }
+    ensures utf8 { ¬ (IsUtf8 text.now) → result ≡ Err troubles.Refused }
+{
+    let text = match simdutf8::compat::from_utf8(text) {
+        Ok(text) => text,
+        Err(_) => return Err(Trouble::Refused),
+    };
+    let value = read_text(alloc, text, scratch)?;
+    document_of(value).ok_or(Trouble::Refused)
+}
+
+fn read_text(alloc: Global, text: &str, scratch: &mut Scratch) -> Read<Value>
+    ensures { GivesValue tree_of result (option_and_then (wrap most_levels) (json text.now)) }
+{
+    let mut reader = Reader::new(text, scratch)?;
+    let value = read_value(alloc, &mut reader, MOST_LEVELS, MOST_BRACKETS)?;
+    if reader.next().is_some() {
+        return Err(Trouble::Refused);
+    }
+    Ok(value)
+}
+
+/// The document that a value is.
+#[tactic(auto, using(crate::proofs::ReadLemmas::document_steps))]
+fn document_of(value: Value) -> Option<Document>
+    ensures { option_map pairs result ≡ option_map pairs_of (document (tree_of value)) }
+{
+    match value {
+        Value::Doc(document) => Some(document),
+        _ => None,
+    }
+}
+
+/// One value. At most `room` documents and arrays stand in one another, and `depth` brackets.
+#[cycle(reading)]
+#[tactic(auto, using(crate::proofs::ReadLemmas::value_steps))]
+fn read_value(alloc: Global, reader: &mut Reader<'_>, room: usize, depth: usize) -> Read<Value>
+    ensures gives { GivesTokens tree_of result reader.new (through (wrap room) (value depth reader.old)) }
+    ensures shorter { OnOk result (length reader.new < length reader.old) }
+{
+    let token = reader.next().ok_or(Trouble::Refused)?;
+    match token {
+        Token::String(text) => Ok(Value::Text(String::from_str(alloc, text)?)),
+        Token::Number(text) => bare_number(text).ok_or(Trouble::Refused),
+        Token::Bool(b) => Ok(Value::Bool(b)),
+        Token::Null => Ok(Value::Null),
+        Token::EndObject | Token::EndArray | Token::Key(_) | Token::Bad => Err(Trouble::Refused),
+        Token::BeginArray => {
+            if depth == 0 {
+                return Err(Trouble::Refused);
+            }
+            if room == 0 {
+                return Err(Trouble::Refused);
+            }
+            Ok(Value::Array(read_items(alloc, reader, room - 1, depth - 1)?))
+        }
+        Token::BeginObject => {
+            if depth == 0 {
+                return Err(Trouble::Refused);
+            }
+            read_object(alloc, reader, room, depth - 1)
+        }
+    }
+}
+
+#[cycle(reading)]
+#[tactic(auto, using(crate::proofs::ReadLemmas::items_steps))]
+fn read_items(alloc: Global, reader: &mut Reader<'_>, room: usize, depth: usize) -> Read<Vec<Value>>
+    ensures gives { GivesTokens (λ v. items_of (map tree_of v.items)) result reader.new
+        (through (wrap_items room) (items (value depth) (length reader.old) reader.old)) }
+    ensures shorter { OnOk result (length reader.new < length reader.old) }
+{
+    let mut found = Vec::new(alloc);
+    while !reader.take_end_array() {
+        let value = read_value(alloc, reader, room, depth)?;
+        found.push(value)?;
+    }
+    Ok(found)
+}
+
+/// What follows the brace of an object.
+#[cycle(reading)]
+#[tactic(auto, using(crate::proofs::ReadLemmas::object_steps))]
+fn read_object(alloc: Global, reader: &mut Reader<'_>, room: usize, depth: usize) -> Read<Value>
+    ensures gives { GivesTokens tree_of result reader.new
+        (through (wrap_object room) (members (value depth) (length reader.old) reader.old)) }
+    ensures shorter { OnOk result (length reader.new < length reader.old) }
+{
+    let first = reader.next_key()?;
+    if let Some(wrapper) = wrapper_named(first) {
+        return read_wrapper(alloc, reader, wrapper, room, depth);
+    }
+    if room == 0 {
+        return Err(Trouble::Refused);
+    }
+    Ok(Value::Doc(read_fields(alloc, reader, first, room - 1, depth)?))
+}
+
+/// What follows the first name of an object that is no wrapper.
+#[cycle(reading)]
+#[tactic(auto, using(crate::proofs::ReadLemmas::fields_steps))]
+fn read_fields<'a>(
+    alloc: Global,
+    reader: &mut Reader<'a>,
+    first: Option<&'a str>,
+    room: usize,
+    depth: usize,
+) -> Read<Document>
+    ensures gives { GivesTokens (λ d. fields_of (pairs d)) result reader.new
+        (through (wrap_fields room) (after_key depth (length reader.old) (option_map (λ s. s.now) first.entry) reader.old)) }
+    ensures shorter { OnOk result (length reader.new ≤ length reader.old) }
+{
+    let mut read = Document::new(alloc);
+    let mut next = first;
+    while let Some(name) = next {
+        let value = read_value(alloc, reader, room, depth)?;
+        if has_zero(name) {
+            return Err(Trouble::Refused);
+        }
+        read.push(String::from_str(alloc, name)?, value)?;
+        next = reader.next_key()?;
+    }
+    Ok(read)
+}
+
+/// The wrapper that the first name of an object says; none where the object is a document. An empty object has no first name.
+pub fn wrapper_named(first: Option<&str>) -> Option<Wrapper>
+    ensures { result ≡ option_and_then wrapper_of (option_map (λ s. s.now) first.entry) }
+{
+    Wrapper::from_name(first?)
+}
+
+/// Reads what follows the first name of an object, which is that wrapper's: the value that the object stands for. At most
+/// `room` documents and arrays stand in one another in it, and `depth` brackets.
+///
+/// # Errors
+/// `Trouble::Refused` where it stands for none; `Trouble::Memory`.
+#[cycle(reading)]
+pub fn read_wrapper(
+    alloc: Global,
+    reader: &mut Reader<'_>,
+    wrapper: Wrapper,
+    room: usize,
+    depth: usize,
+) -> Result<Value, Trouble>
+    ensures gives { (name : List ℕ) → wrapper_of name ≡ Some wrapper → GivesTokens tree_of result reader.new
+        (through (wrap_object room) (after_key depth (length reader.old) (Some name) reader.old)) }
+    ensures shorter { OnOk result (length reader.new < length reader.old) }
+{
+    if wrapper.is_scope() {
+        return read_scope_first(alloc, reader, room, depth);
+    }
+    let part = read_part(alloc, reader, depth)?;
+    let Some(second) = reader.next_key()? else {
+        return unwrap_single(alloc, wrapper, &part);
+    };
+    if !wrapper.is_code() {
+        return Err(Trouble::Refused);
+    }
+    read_scope_second(alloc, reader, &part, second, room, depth)
+}
+
+/// What follows the second name of an object that began with `$code`.
+#[cycle(reading)]
+fn read_scope_second(
+    alloc: Global,
+    reader: &mut Reader<'_>,
+    code: &json::Value<'_>,
+    second: &str,
+    room: usize,
+    depth: usize,
+) -> Read<Value>
+    ensures gives { (n : ℕ) (t : Option Tree) → length reader.old ≤ n → GivesTokens tree_of result reader.new
+        (through (λ ms. wrapper_tree room kinds.Code (value_view code.now) t (after (room - 1) ms)) (after_key depth n (Some second.now) reader.old)) }
+    ensures shorter { OnOk result (length reader.new < length reader.old) }
+{
+    if room == 0 {
+        return Err(Trouble::Refused);
+    }
+    if !names_scope(second) {
+        return Err(Trouble::Refused);
+    }
+    let scope = read_value(alloc, reader, room - 1, depth)?;
+    end_object(reader)?;
+    code_with_scope(alloc, code, scope)
+}
+
+/// What follows the first name of an object, `$scope`.
+#[cycle(reading)]
+fn read_scope_first(
+    alloc: Global,
+    reader: &mut Reader<'_>,
+    room: usize,
+    depth: usize,
+) -> Read<Value>
+    ensures gives { (name : List ℕ) → wrapper_of name ≡ Some kinds.Scope → GivesTokens tree_of result reader.new
+        (through (wrap_object room) (after_key depth (length reader.old) (Some name) reader.old)) }
+    ensures shorter { OnOk result (length reader.new < length reader.old) }
+{
+    if room == 0 {
+        return Err(Trouble::Refused);
+    }
+    let scope = read_value(alloc, reader, room - 1, depth)?;
+    // Nothing that can fail is asked by `?` here, since each would let the scope go.
+    match read_code(alloc, reader, depth) {
+        Ok(code) => code_with_scope(alloc, &code, scope),
+        Err(trouble) => Err(trouble),
+    }
+}
+
+/// The code that follows such a scope, and the brace that ends the object.
+fn read_code<'a>(alloc: Global, reader: &mut Reader<'a>, depth: usize) -> Read<json::Value<'a>>
+    ensures code { IfOk result (λ code. (n room : ℕ) (j : Json) (u : Tree) → length reader.old ≤ n → 0 < room →
+        through (λ ms. wrapper_tree room kinds.Scope j (Some u) (after (room - 1) ms)) (members (value depth) n reader.old)
+        ≡ option_map (λ t. (t, reader.new)) (with_scope (as_str (value_view code)) (Some u))) }
+    ensures none { IfErr result (λ e. (n room : ℕ) (j : Json) (t : Option Tree) → length reader.old ≤ n →
+        FailsAtTokens e (through (λ ms. wrapper_tree room kinds.Scope j t (after (room - 1) ms)) (members (value depth) n reader.old))) }
+    ensures shorter { OnOk result (length reader.new < length reader.old) }
+{
+    let Some(second) = reader.next_key()? else {
+        return Err(Trouble::Refused);
+    };
+    if !names_code(second) {
+        return Err(Trouble::Refused);
+    }
+    let code = read_part(alloc, reader, depth)?;
+    end_object(reader)?;
+    Ok(code)
+}
+
+/// Code with scope, of the JSON that stands after `$code` and the value that stands after `$scope`.
+#[tactic(auto, using(crate::proofs::MemberLemmas::scope_steps))]
+fn code_with_scope(alloc: Global, code: &json::Value<'_>, scope: Value) -> Read<Value>
+    ensures { GivesValue tree_of result (with_scope (as_str (value_view code.now)) (Some (tree_of scope))) }
+{
+    let text = code.as_str().ok_or(Trouble::Refused)?;
+    let scope = document_of(scope).ok_or(Trouble::Refused)?;
+    Ok(Value::CodeScope(String::from_str(alloc, text)?, scope))
+}
+
+/// One JSON value, as it stands in a wrapper.
+fn read_part<'a>(alloc: Global, reader: &mut Reader<'a>, depth: usize) -> Read<json::Value<'a>>
+    ensures gives { GivesTokens value_view result reader.new (value depth reader.old) }
+    ensures shorter { OnOk result (length reader.new < length reader.old) }
+{
+    match json::Value::read(alloc, reader, depth) {
+        Ok(part) => Ok(part),
+        Err(json::Error::OutOfMemory) => Err(Trouble::Memory),
+        Err(_) => Err(Trouble::Refused),
+    }
+}
+
+/// The brace that ends an object.
+fn end_object(reader: &mut Reader<'_>) -> Read<()>
+    ensures gives { GivesTokens (λ u. u) result reader.new (closing reader.old) }
+    ensures shorter { OnOk result (length reader.new < length reader.old) }
+{
+    match reader.next_key()? {
+        None => Ok(()),
+        Some(_) => Err(Trouble::Refused),
+    }
+}
+
+/// A bare whole number: an Int32 where it fits, else an Int64. None where it is no whole number of 64 bits.
+pub fn bare_number(text: &str) -> Option<Value>
+    ensures { option_map tree_of result ≡ bare_number (whole_64 text.now) }
+{
+    let number = whole(text)?;
+    match i32::try_from(number) {
+        Ok(small) => Some(Value::Int32(small)),
+        Err(_) => Some(Value::Int64(number)),
     }
 }

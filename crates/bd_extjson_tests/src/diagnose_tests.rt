@@ -24,7 +24,10 @@ fn takes_the_deepest_documents(rt: HostRuntime) -> Result<(), Fail> {
 #[test]
 fn has_limits_and_words(rt: HostRuntime) {
     assert!(rt; MOST_BRACKETS == 203 && MOST_LEVELS == 200);
-    assert!(rt; JsonFaultKind::TooDeep.words() == "too deep");
+    assert!(rt;
+        JsonFaultKind::TooDeep.words() == "too deep"
+            && JsonFaultKind::NoMemory.words() == "no memory"
+    );
     // It has no place.
     let told = diagnose(rt.alloc(), b" [1]");
     assert!(rt; told.kind == JsonFaultKind::NotADocument && told.at == 0);

@@ -1,19 +1,27 @@
 -- What `check` shows is determined, and its status is that of `dump`.
-pub mod JudgingLemmas
-use Rattle.std.proofs.Common.{◌≡◌, ℕ, suc, ◌+◌, List, [], ◌∷◌, length, map, Option, Some, None, refl, sym, ap, ◌∙◌, arith}
-use Rattle.std.specs.Prelude.{option_map}
-use Rattle.bd_value.specs.Tree.{Doc}
+use Rattle.std.proofs.Common.{◌≡◌, ◌≤◌, ℕ, suc, ◌+◌, List, [], ◌∷◌, ◌++◌, length, Option, Some, None, Result, Ok, Err, Bool, true, false, refl, sym, ap, ap₂, ◌∙◌, subst, inl, inr, append_assoc}
+use Rattle.std.proofs.Common.{append-nil, arith, length-append, map}
+use Rattle.std.proofs.lemmas.List.{take_at, drop_at}
+use Rattle.std.specs.Prelude.{IfSome, option_map}
+use Rattle.bd_value.specs.{Limits.longest_input, Tree.Doc}
+use Rattle.bd_device.specs.Devices.{BreaksAfter, BreaksWithin, Reader, TakesText, Writer, between}
 use Rattle.bd_device.specs.declared.reading.ReadFault.{ReadFault}
-use Rattle.bd_check.specs.Fault.{Fault}
-use Rattle.bd_bson.specs.Verdicts.{verdicts, BeginAs}
-use Rattle.bd_stream.proofs.FrameLemmas.{frames_once}
-use Rattle.bd_bson.proofs.VerdictLemmas.{as_walk}
-use Rattle.bd_files.specs.declared.status.Status.{Status}
-use Rattle.bd_files.specs.declared.status.Status.TheVariants.{Failed}
-use Rattle.bd_files.proofs.WalkLemmas.{faulty_append}
-use Rattle.bd_files.specs.Check.{AreVerdicts, IsShownByCheck, check_status, faulty_count, shown_check}
-use Rattle.bd_files.specs.Dump.{IsShownByDump}
-use Rattle.bd_files.specs.Transcript.{Transcript, fault_text, wrong_status}
+use Rattle.bd_check.specs.{Dump.frame_length, Dump.framed_fault, Fault.Fault, FirstFault.first_fault, Fault.fault_view}
+use Rattle.bd_check.proofs.DumpLemmas.{document_faultless}
+use Rattle.bd_stream.specs.Stream.{IsFrame}
+use Rattle.bd_stream.proofs.StreamLemmas.{frame_on, frames_once}
+use Rattle.bd_bson.specs.Verdicts.{verdicts_at, verdicts, BeginAs}
+use Rattle.bd_bson.proofs.VerdictLemmas.{none_at, turn_at, last_at, as_walk}
+use Rattle.bd_files.specs.{Input.StopsInside, Input.StreamsInput, declared.dump_and_check.Findings.Findings, declared.dump_and_check.Ending.Ending, declared.output.OutputFault.OutputFault}
+use Rattle.bd_files.specs.{declared.output.Status.Status, declared.output.Status.TheVariants.Failed}
+use Rattle.bd_files.specs.DumpAndCheck.{ChecksInput, JudgesWithinLimit, check_message, check_status, shown_check, verdict_line, verdict_lines, AreVisited, IsTextOf, MeetsFault, StopsWalk}
+use Rattle.bd_files.specs.DumpAndCheck.{WalksDocuments, check_texts, more_visited, none_visited, JudgesDocuments, StopsJudging, AreVerdicts, IsShownByCheck, faulty_count, IsShownByDump}
+use Rattle.bd_files.specs.Output.{TellsMessage, error_line, stop_words, Transcript, fault_text, wrong_status}
+use Rattle.bd_files.specs.declared.output.OutputFault.TheVariants.{NoMemory, Unwritten}
+use Rattle.bd_files.proofs.WalkLemmas.{faulty_append, known_whole, rest_of, visited_frames}
+use Rattle.bd_files.proofs.OutputLemmas.{breaks_after, front_taken, takes_both}
+use Rattle.bd_check.specs.declared.fault.Fault as told
+use Rattle.bd_files.specs.declared.dump_and_check.Ending.TheVariants as endings
 
 verdicts_once : (bytes : List ℕ) (fault : Option ReadFault) (vs ws : List (Option Fault)) → AreVerdicts bytes fault vs → AreVerdicts bytes fault ws → vs ≡ ws
 verdicts_once bytes None vs ws p q = p ∙ sym q
@@ -56,3 +64,192 @@ pub same_status : (bytes : List ℕ) (fault : Option ReadFault) (s t : Transcrip
 same_status bytes None s t p q =
     ap status_of p.3 ∙ walk_judged p.0 p.1 (verdicts bytes) (as_walk p.0 p.1 bytes p.2) ∙ ap (λ (vs : List (Option Fault)). check_status None (faulty_count vs)) (sym q.1) ∙ sym (ap status_of q.2)
 same_status bytes (Some fault) s t p q = ap status_of p.6 ∙ sym (ap status_of q.2)
+
+-- the verdicts, as contracts see them
+abbrev Seen : Type 0
+Seen = Option Fault
+
+lines_append : (number : ℕ) (us vs : List Seen) → verdict_lines number (us ++ vs) ≡ verdict_lines number us ++ verdict_lines (number + length us) vs
+lines_append number [] vs = ap (λ n. verdict_lines n vs) (omega arith)
+lines_append number (u ∷ us) vs =
+    let next : suc number + length us ≡ number + length (u ∷ us) = omega arith in
+    ap (λ x. verdict_line number u ++ x) (lines_append (suc number) us vs ∙ ap (λ n. verdict_lines (suc number) us ++ verdict_lines n vs) next)
+    ∙ sym (append_assoc (verdict_line number u) (verdict_lines (suc number) us) (verdict_lines (number + length (u ∷ us)) vs))
+
+-- the lines after some verdicts are those of the next ones
+lines_after : (us vs : List Seen) → verdict_lines 0 (us ++ vs) ≡ verdict_lines 0 us ++ verdict_lines (length us) vs
+lines_after us vs = let number : 0 + length us ≡ length us = omega arith in lines_append 0 us vs ∙ ap (λ n. verdict_lines 0 us ++ verdict_lines n vs) number
+
+lines_more : (us : List Seen) (v : Seen) → verdict_lines 0 (us ++ v ∷ []) ≡ verdict_lines 0 us ++ verdict_line (length us) v
+lines_more us v = lines_after us (v ∷ []) ∙ ap (λ x. verdict_lines 0 us ++ x) (append-nil (verdict_line (length us) v))
+
+-- the verdict on a document by its length, and those on what follows it
+turn_on : (place : ℕ) (frame rest : List ℕ) (v : Seen) → IsFrame frame → first_fault place frame ≡ v → verdicts_at place (frame ++ rest) ≡ v ∷ verdicts_at (place + length frame) rest
+turn_on place frame rest v is first =
+    turn_at place (length frame) (frame ++ rest) (frame_on frame rest is)
+    ∙ ap₂ (λ (x y : List ℕ). first_fault place x ∷ verdicts_at (place + length frame) y) (take_at frame rest (length frame) refl) (drop_at frame rest (length frame) refl)
+    ∙ ap (λ (x : Seen). x ∷ verdicts_at (place + length frame) rest) first
+
+-- what was written of a document is the line of its verdict
+line_of : (number place : ℕ) (frame : List ℕ) (v : Seen) (piece : List ℕ) → IsTextOf check_texts number place frame v piece
+    → (first_fault place frame ≡ v) × (piece ≡ verdict_line number v)
+line_of number place frame None piece (d, spelled, line) = (document_faultless place frame d spelled, line)
+line_of number place frame (Some f) piece (first, line) = (first, cc)
+
+-- what was written of documents are the lines of their verdicts, and these begin all verdicts
+judged : (vs : List Seen) (given text : List ℕ) → AreVisited check_texts vs given text
+    → (text ≡ verdict_lines 0 vs) × ((rest : List ℕ) → verdicts (given ++ rest) ≡ vs ++ verdicts_at (length given) rest)
+judged vs given text none_visited = (refl, λ rest. refl)
+judged vs given text (more_visited us front before v frame piece visited is shows) =
+    let h = judged us front before visited in
+    let line = line_of (length us) (length front) frame v piece shows in (
+      ap₂ (λ (x y : List ℕ). x ++ y) h.0 line.1 ∙ sym (lines_more us v),
+      λ rest.
+          let here : verdicts_at (length front) (frame ++ rest) ≡ v ∷ verdicts_at (length (front ++ frame)) rest
+          = turn_on (length front) frame rest v is line.0 ∙ ap (λ n. v ∷ verdicts_at n rest) (sym (length-append front frame)) in
+          ap verdicts (append_assoc front frame rest) ∙ h.1 (frame ++ rest) ∙ ap (λ (xs : List Seen). us ++ xs) here
+          ∙ sym (append_assoc us (v ∷ []) (verdicts_at (length (front ++ frame)) rest)),
+    )
+
+-- the one verdict on bytes whose length is bad
+verdict_on : (place : ℕ) (bytes all : List ℕ) (f : told.Fault) → frame_length bytes ≡ Err f.kind → frame_length all ≡ Err f.kind
+    → framed_fault place all (frame_length all) ≡ Some (fault_view f) → verdicts_at place bytes ≡ Some (fault_view f) ∷ []
+verdict_on place bytes all f is long fails =
+    last_at place bytes f.kind is ∙ ap (λ (v : Seen). v ∷ []) (sym (ap (framed_fault place all) long) ∙ fails)
+
+-- a text that was taken whole and a front of the next are a front of both and more
+within_both : (old new : Writer) (whole piece more all : List ℕ) → BreaksAfter (between old new) whole piece → all ≡ whole ++ (piece ++ more) → BreaksWithin (between old new) all
+within_both old new whole piece more all (front, rest, cut, took, failed) parts =
+    let both = parts ∙ ap (λ x. whole ++ (x ++ more)) cut ∙ ap (λ x. whole ++ x) (append_assoc front rest more) ∙ sym (append_assoc whole front (rest ++ more)) in
+    ((whole ++ front, rest ++ more, both, took), failed)
+
+module _ {vs : List Seen} {given text : List ℕ} (visited : AreVisited check_texts vs given text) where
+  seen_lines : (bytes : List ℕ) → verdict_lines 0 (verdicts (given ++ bytes)) ≡ text ++ verdict_lines (length vs) (verdicts_at (length given) bytes)
+  seen_lines bytes =
+      let j = judged vs given text visited in
+      ap (verdict_lines 0) (j.1 bytes) ∙ lines_after vs (verdicts_at (length given) bytes)
+      ∙ ap (λ x. x ++ verdict_lines (length vs) (verdicts_at (length given) bytes)) (sym j.0)
+
+  -- all of the bytes are documents that were judged
+  all_judged : vs ≡ verdicts given
+  all_judged =
+      let all = (judged vs given text visited).1 [] in
+      sym (ap verdicts (sym (append-nil given)) ∙ all ∙ ap (λ (xs : List Seen). vs ++ xs) (none_at (length given)) ∙ append-nil vs)
+
+  lines_taken : (old new : Writer) → TakesText (between old new) text → TakesText (between old new) (verdict_lines 0 vs)
+  lines_taken old new wrote = subst (λ (x : List ℕ). TakesText (between old new) x) (judged vs given text visited).0 wrote
+
+  module _ (old new : Reader) (out_old : Writer) where
+    streams : (part : List ℕ) → StopsInside given part (between old new) → new.failures ≡ old.failures → StreamsInput (between old new) (given ++ (part ++ rest_of new.left)) None
+    streams part at well =
+        let frames = visited_frames vs given text visited in
+        let known = known_whole old.left new.left (given ++ part) at.0 in
+        (subst (λ (x : List ℕ). IfSome old.left (λ xs. x ≡ xs)) (append_assoc given part (rest_of new.left)) known, (frames.0, given, frames.1, (part, at)), well)
+
+    -- memory ran out
+    starves : (out : Writer) (bytes : List ℕ) → StreamsInput (between old new) (given ++ bytes) None → TakesText (between out_old out) text
+        → StopsJudging (between old new) (between out_old out) NoMemory
+    starves out bytes was wrote =
+        let more = verdict_lines (length vs) (verdicts_at (length given) bytes) in
+        (given ++ bytes, was, front_taken out_old out text more (verdict_lines 0 (verdicts (given ++ bytes))) wrote (seen_lines bytes))
+
+    -- standard output broke in the line of the next document, of which this part was read
+    breaks : (out : Writer) (part bytes : List ℕ) (f : Fault) (more : List Seen) → StreamsInput (between old new) (given ++ bytes) None → StopsInside given part (between old new)
+        → verdicts_at (length given) part ≡ Some f ∷ [] → verdicts_at (length given) bytes ≡ Some f ∷ more
+        → BreaksAfter (between out_old out) text (verdict_line (length vs) (Some f)) → StopsJudging (between old new) (between out_old out) Unwritten
+    breaks out part bytes f more was at last turn broke =
+        let line = verdict_line (length vs) (Some f) in
+        let j = judged vs given text visited in
+        let cut = seen_lines bytes ∙ ap (λ (xs : List Seen). text ++ verdict_lines (length vs) xs) turn in
+        let front = within_both out_old out text line (verdict_lines (suc (length vs)) more) (verdict_lines 0 (verdicts (given ++ bytes))) broke cut in
+        let after = subst (λ (x : List ℕ). BreaksAfter (between out_old out) x line) j.0 broke in
+        (given ++ bytes, was, front, (vs, f, given ++ part, j.1 part ∙ ap (λ (xs : List Seen). vs ++ xs) last, at.0, was.2, after))
+
+-- ---- what the walk came to
+
+module _ (old new : Reader) (out_old out_mid : Writer) where
+  pub stops : (stopped : OutputFault) → StopsWalk check_texts (between old new) (between out_old out_mid) stopped → StopsJudging (between old new) (between out_old out_mid) stopped
+  stops NoMemory (vs, given, text, visited, (part, at), well, wrote) =
+      starves visited old new out_old out_mid (part ++ rest_of new.left) (streams visited old new out_old part at well) wrote
+  stops Unwritten (vs, given, text, visited, (None, frame, piece, is, (d, spelled, line), at, well, broke, some)) = absurd (some line)
+  stops Unwritten (vs, given, text, visited, (Some f, frame, piece, is, shows, at, well, broke, some)) =
+      let line = line_of (length vs) (length given) frame (Some f) piece shows in
+      let rest = rest_of new.left in
+      let last : verdicts_at (length given) frame ≡ Some f ∷ [] = ap (verdicts_at (length given)) (sym (append-nil frame)) ∙ turn_on (length given) frame [] (Some f) is line.0
+      ∙ ap (λ (xs : List Seen). Some f ∷ xs) (none_at (length given + length frame)) in
+      breaks visited old new out_old out_mid frame (frame ++ rest) f (verdicts_at (length given + length frame) rest)
+      (streams visited old new out_old frame at well) at last (turn_on (length given) frame rest (Some f) is line.0)
+      (subst (λ (x : List ℕ). BreaksAfter (between out_old out_mid) text x) line.1 broke)
+
+  abbrev Walked : ℕ → ℕ → Ending → Type 0
+  Walked documents bad ending = WalksDocuments check_texts (between old new) (between out_old out_mid) (record { count = documents; bad = bad; ending = ending })
+
+  pub judges_whole : (documents bad : ℕ) → Walked documents bad endings.Whole
+      → JudgesDocuments (between old new) (between out_old out_mid) (record { documents = documents; faulty = bad; unread = None })
+  judges_whole documents bad (vs, given, text, visited, counted, faulty, (was, (part, at)), wrote) =
+      let short : length given ≤ longest_input = let all = at.1 in omega (arith, length-append given part) in
+      (given, vs, was, inl short, all_judged visited, counted, faulty, lines_taken visited out_old out_mid wrote)
+
+  pub judges_unread : (documents bad : ℕ) (f : ReadFault) → Walked documents bad (endings.Unread f)
+      → JudgesDocuments (between old new) (between out_old out_mid) (record { documents = documents; faulty = bad; unread = Some f })
+  judges_unread documents bad f (vs, given, text, visited, counted, faulty, (part, was, cut), wrote) =
+      let frames = visited_frames vs given text visited in
+      (given ++ part, vs, was, tt, (frames.0, given, part, frames.1, cut, refl, all_judged visited), counted, faulty, lines_taken visited out_old out_mid wrote)
+
+  -- what comes of the line of the last document, whose length is bad
+  abbrev Finished : ℕ → ℕ → Writer → Result Bool OutputFault → Type 0
+  Finished documents bad out (Ok b) = JudgesDocuments (between old new) (between out_old out) (record { documents = documents + 1; faulty = bad + 1; unread = None })
+  Finished documents bad out (Err stopped) = StopsJudging (between old new) (between out_old out) stopped
+
+  pub finishes : (documents bad : ℕ) (f : told.Fault) (out : Writer) (r : Result Bool OutputFault) → Walked documents bad (endings.Faulty f)
+      → MeetsFault (Some (verdict_line f.document (Some (fault_view f)))) (between out_mid out) r → Finished documents bad out r
+  finishes documents bad f out r (vs, given, text, visited, counted, faulty, (part, rest, was, at, numbered, fails, inl none), wrote) met = absurd cc
+  finishes documents bad f out r (vs, given, text, visited, counted, faulty, (part, rest, was, at, numbered, fails, inr (is, long)), wrote) met = by_line r met
+    where
+      v : Seen
+      v = Some (fault_view f)
+
+      turn : verdicts_at (length given) (part ++ rest) ≡ v ∷ []
+      turn = verdict_on (length given) (part ++ rest) (part ++ rest) f long long fails
+
+      line_at : (text : List ℕ) → Path (Option (List ℕ)) (Some (verdict_line f.document v)) (Some text) → text ≡ verdict_line (length vs) v
+      line_at text same = let e : text ≡ verdict_line f.document v = cc in e ∙ ap (λ n. verdict_line n v) numbered
+
+      short : length given ≤ longest_input
+      short = let all = at.1 in omega (arith, length-append given part)
+
+      by_line : (r : Result Bool OutputFault) → MeetsFault (Some (verdict_line f.document v)) (between out_mid out) r → Finished documents bad out r
+      by_line (Ok true) (line, same, wrote_line) =
+          let j = judged vs given text visited in
+          let frames = visited_frames vs given text visited in
+          let verdicts_are = sym (j.1 (part ++ rest) ∙ ap (λ (xs : List Seen). vs ++ xs) turn) in
+          let more : documents + 1 ≡ length (vs ++ v ∷ []) = omega (arith, length-append vs (v ∷ [])) in
+          let lines_are = ap₂ (λ (x y : List ℕ). x ++ y) j.0 (line_at line same) ∙ sym (lines_more vs v) in
+          let took = subst (λ (x : List ℕ). TakesText (between out_old out) x) lines_are (takes_both out_old out_mid out text line wrote wrote_line) in
+          let limit : JudgesWithinLimit (given ++ (part ++ rest)) None = inr (frames.0, given, part ++ rest, f.kind, frames.1, refl, long, short) in
+          (given ++ (part ++ rest), vs ++ v ∷ [], was, limit, verdicts_are, more, ap (λ n. n + 1) faulty ∙ sym (faulty_append vs (v ∷ [])), took)
+      by_line (Ok false) (none, same) = absurd cc
+      by_line (Err NoMemory) (line, is_line, same) = rw same (starves visited old new out_old out_mid (part ++ rest) was wrote)
+      by_line (Err Unwritten) (line, same, (broke, some)) =
+          breaks visited old new out_old out part (part ++ rest) (fault_view f) [] was at (verdict_on (length given) part (part ++ rest) f is long fails) turn
+          (subst (λ (x : List ℕ). BreaksAfter (between out_old out) text x) (line_at line same) (breaks_after out_old out_mid out text line wrote broke))
+
+-- ---- the end of a run
+
+module _ (old new : Reader) (out_old out_new : Writer) (err_old err_new : Writer) (status : Status) where
+  abbrev pub Shows : Type 0
+  Shows = ChecksInput (between old new) (between out_old out_new) (between err_old err_new) status
+
+  abbrev Told : ℕ → ℕ → Option ReadFault → Type 0
+  Told count worse unread = TellsMessage (between err_old err_new) (check_message unread count worse) (check_status unread worse) status
+
+  pub shows_findings : (findings : Findings) → JudgesDocuments (between old new) (between out_old out_new) findings
+      → Told findings.documents findings.faulty findings.unread → Shows
+  shows_findings findings (bytes, vs, was, within, are, documents, bad, wrote) told =
+      let all = subst (λ n. Told (length vs) n findings.unread) bad (subst (λ n. Told n findings.faulty findings.unread) documents told) in
+      (bytes, findings.unread, shown_check vs findings.unread, was, (vs, are, refl), inl ((within, wrote), all))
+
+  pub shows_stop : (stopped : OutputFault) → StopsJudging (between old new) (between out_old out_new) stopped
+      → TellsMessage (between err_old err_new) (error_line (stop_words stopped)) Failed status → Shows
+  shows_stop NoMemory (bytes, was, front) told = (bytes, None, shown_check (verdicts bytes) None, was, (verdicts bytes, refl, refl), inr (inr ((refl, front), told)))
+  shows_stop Unwritten (bytes, was, broke, at) told = (bytes, None, shown_check (verdicts bytes) None, was, (verdicts bytes, refl, refl), inr (inl ((broke, at), told)))

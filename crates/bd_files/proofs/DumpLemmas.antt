@@ -1,32 +1,21 @@
 -- How a run ends.
-use Rattle.std.proofs.Common.{◌≡◌, ◌<◌, ◌+◌, ℕ, List, [], ◌∷◌, ◌++◌, length, Option, Some, None, refl, sym, ap}
-use Rattle.std.proofs.Common.{ap₂, ◌∙◌, subst, append-nil, append_assoc, inl, inr, arith, length-append}
+use Rattle.std.proofs.Common.{◌≡◌, ◌<◌, ◌+◌, ℕ, List, [], ◌∷◌, ◌++◌, length, Option, Some, None, refl, sym, ap, ap₂, ◌∙◌, subst, append-nil, append_assoc, inl, inr, arith, length-append}
+use Rattle.std.proofs.{lemmas.List.get_or-append-add, KnownBytes.Appends-nil}
 use Rattle.std.specs.Prelude.{◌⊎◌, codes, option_map}
-use Rattle.std.proofs.lemmas.List.{get_or-append-add}
-use Rattle.std.proofs.KnownBytes.{Appends-nil}
 use Rattle.bd_value.specs.Tree.{Doc}
-use Rattle.bd_device.specs.Devices.{Reader, Writer, between}
+use Rattle.bd_device.specs.Devices.{Reader, Writer, between, BreaksAfter, TakesText}
 use Rattle.bd_device.specs.declared.reading.ReadFault.{ReadFault}
-use Rattle.bd_check.specs.Fault.{Fault}
-use Rattle.bd_check.specs.Dump.{AreJoined, IsWalk}
-use Rattle.bd_check.specs.AnsweredFault.{fault_view}
+use Rattle.bd_check.specs.{Fault.Fault, Dump.AreJoined, Dump.IsWalk, Fault.fault_view}
 use Rattle.bd_check.proofs.FirstFaultLemmas.{IsBytes}
 use Rattle.bd_check.proofs.DumpLemmas.{joined_append, joined_once, joined_one, walk_on, walk_once}
-use Rattle.bd_stream.proofs.FrameLemmas.{cut_stuck}
-use Rattle.bd_files.specs.declared.walk.Ending.{Ending}
-use Rattle.bd_files.specs.declared.walk.Ending.TheVariants as endings
-use Rattle.bd_files.specs.declared.output.fault.OutputFault.{OutputFault}
-use Rattle.bd_files.specs.declared.output.fault.OutputFault.TheVariants.{NoMemory, Unwritten}
-use Rattle.bd_files.specs.declared.status.Status.{Status}
-use Rattle.bd_files.specs.declared.status.Status.TheVariants.{Failed}
-use Rattle.bd_files.specs.declared.walk.Walk.{Walk}
-use Rattle.bd_files.proofs.OutputLemmas.FaultLemmas.{lines-append}
-use Rattle.bd_files.specs.Dump.{DumpsInput, IsFrontOf, IsShownByDump, dump_count_line, shown_dump}
-use Rattle.bd_files.specs.Outcome.{PrintsShown, TellsMessage}
-use Rattle.bd_files.specs.Output.Fault.{stop_words}
-use Rattle.bd_files.specs.Transcript.{Transcript, error_line, fault_text, lines, read_words, shown_refusal, wrong_line, wrong_status}
-use Rattle.bd_files.specs.Walk.{AreVisited, EndsWalk, IsFaulty, StopsWalk, WalksDocuments, dump_texts, ending_words, more_visited, none_visited}
-use Rattle.bd_device.specs.Devices.{BreaksAfter, TakesText}
+use Rattle.bd_stream.proofs.StreamLemmas.{cut_stuck}
+use Rattle.bd_files.specs.{declared.dump_and_check.Ending.Ending, declared.output.OutputFault.OutputFault, declared.output.OutputFault.TheVariants.NoMemory}
+use Rattle.bd_files.specs.{declared.output.OutputFault.TheVariants.Unwritten, declared.output.Status.Status, declared.output.Status.TheVariants.Failed, declared.dump_and_check.Walk.Walk}
+use Rattle.bd_files.specs.DumpAndCheck.{DumpsInput, IsFrontOf, IsShownByDump, dump_count_line, shown_dump, AreVisited, EndsWalk, IsFaulty, StopsWalk, WalksDocuments, dump_texts, ending_words}
+use Rattle.bd_files.specs.DumpAndCheck.{more_visited, none_visited}
+use Rattle.bd_files.specs.Output.{PrintsShown, TellsMessage, Transcript, error_line, fault_text, lines, read_words, shown_refusal, wrong_line, wrong_status, stop_words}
+use Rattle.bd_files.proofs.OutputLemmas.{lines-append}
+use Rattle.bd_files.specs.declared.dump_and_check.Ending.TheVariants as endings
 
 -- the documents that were gone over, and their lines
 printed : (vs : List (Option Fault)) (given text : List ℕ) → AreVisited dump_texts vs given text
@@ -50,47 +39,42 @@ module _ (old new : Reader) (out_old out_new : Writer) (err_old err_new : Writer
   Tells text wanted = TellsMessage (between err_old err_new) text wanted status
 
   -- what comes after so many documents was told, or memory ran out for it
-  abbrev TellsEnd : ℕ → Ending → Type 0
-  TellsEnd count ending =
+  abbrev TellsEnding : ℕ → Ending → Type 0
+  TellsEnding count ending =
       Tells (wrong_line (ending_words ending) ++ dump_count_line count) (wrong_status (ending_words ending))
       ⊎ (IsFaulty ending × Tells (error_line (codes "no memory")) Failed)
 
   module _ (ds : List Doc) (given : List ℕ) (joined : AreJoined ds given) (wrote : TakesText (between out_old out_new) (lines ds)) where
-    ends : (ending : Ending) → EndsWalk dump_texts (between old new) (length ds) given ending → TellsEnd (length ds) ending → Shows
+    ends : (ending : Ending) → EndsWalk dump_texts (between old new) (length ds) given ending → TellsEnding (length ds) ending → Shows
     ends endings.Whole (was, at) (inl told) =
-        inl (given, None, shown_dump ds None, was, (ds, given, [], joined, sym (append-nil given), inl refl, at), (ds, None, joined, refl), wrote, told)
+        (shown_dump ds None, inl ((given, None, was, (ds, given, [], joined, sym (append-nil given), inl refl, at), (ds, None, joined, refl), wrote), told))
     ends (endings.Faulty f) (part, rest, was, at, numbered, fails, last) (inl told) =
         let fault = fault_view f in
-        inl (
-          given ++ (part ++ rest),
-          None,
+        let line = subst (λ n. Tells (error_line (fault_text n fault) ++ dump_count_line (length ds)) Failed) numbered told in (
           shown_dump ds (Some (fault_text (length ds) fault)),
-          was,
-          (ds, given, part ++ rest, joined, refl, inr (fault, fails), (part, at)),
-          (ds, Some fault, (given, part ++ rest, joined, refl, fails), refl),
-          wrote,
-          subst (λ n. Tells (error_line (fault_text n fault) ++ dump_count_line (length ds)) Failed) numbered told,
+          inl ((given ++ (part ++ rest), None, was, (ds, given, part ++ rest, joined, refl, inr (fault, fails), (part, at)), (ds, Some fault, (given, part ++ rest, joined, refl, fails), refl), wrote), line),
         )
     ends (endings.Unread f) (part, was, cut) (inl told) =
-        inl (given ++ part, Some f, shown_dump ds (Some (read_words f)), was, tt, (ds, given, part, joined, cut, refl, refl), wrote, told)
+        (shown_dump ds (Some (read_words f)), inl ((given ++ part, Some f, was, tt, (ds, given, part, joined, cut, refl, refl), wrote), told))
     ends endings.Whole at (inr told) = absurd told.0
-    ends (endings.Faulty f) (part, rest, was, at, numbered, fails, last) (inr told) = inr (inr ((ds, given, joined, (part, at), was.2, wrote), told.1))
+    ends (endings.Faulty f) (part, rest, was, at, numbered, fails, last) (inr told) =
+        (shown_dump ds None, inr (inr ((ds, given, joined, (part, at), was.2, wrote), told.1)))
     ends (endings.Unread f) at (inr told) = absurd told.0
 
-  pub shows_walk : (walk : Walk) → WalksDocuments dump_texts (between old new) (between out_old out_new) walk → TellsEnd walk.count walk.ending → Shows
+  pub shows_walk : (walk : Walk) → WalksDocuments dump_texts (between old new) (between out_old out_new) walk → TellsEnding walk.count walk.ending → Shows
   shows_walk walk (vs, given, text, visited, counted, bad, end, wrote) told =
       let p = printed vs given text visited in
       ends p.0 given p.1 (subst (λ (x : List ℕ). TakesText (between out_old out_new) x) p.3 wrote) walk.ending
-      (subst (λ n. EndsWalk dump_texts (between old new) n given walk.ending) (sym p.2) end) (subst (λ n. TellsEnd n walk.ending) (counted ∙ sym p.2) told)
+      (subst (λ n. EndsWalk dump_texts (between old new) n given walk.ending) (sym p.2) end) (subst (λ n. TellsEnding n walk.ending) (counted ∙ sym p.2) told)
 
   pub shows_stop : (stopped : OutputFault) → StopsWalk dump_texts (between old new) (between out_old out_new) stopped → Tells (error_line (stop_words stopped)) Failed → Shows
   shows_stop NoMemory (vs, given, text, visited, at, well, wrote) told =
       let p = printed vs given text visited in
-      inr (inr ((p.0, given, p.1, at, well, subst (λ (x : List ℕ). TakesText (between out_old out_new) x) p.3 wrote), told))
+      (shown_dump p.0 None, inr (inr ((p.0, given, p.1, at, well, subst (λ (x : List ℕ). TakesText (between out_old out_new) x) p.3 wrote), told)))
   shows_stop Unwritten (vs, given, text, visited, (None, frame, piece, is, (d, spelled, line), at, well, broke, some)) told =
       let p = printed vs given text visited in
       let after : BreaksAfter (between out_old out_new) (lines p.0) (lines (d ∷ [])) = rw (sym p.3, sym line) broke in
-      inr (inl ((p.0, d, given ++ frame, joined_append p.0 (d ∷ []) given frame p.1 (joined_one d frame spelled), at.0, well, after), told))
+      (shown_dump p.0 None, inr (inl ((p.0, d, given ++ frame, joined_append p.0 (d ∷ []) given frame p.1 (joined_one d frame spelled), at.0, well, after), told)))
   shows_stop Unwritten (vs, given, text, visited, (Some f, frame, piece, is, shows, at, well, broke, some)) told = let e = shows.1 in absurd cc
 
 -- nothing was written to standard output

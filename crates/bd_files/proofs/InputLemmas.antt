@@ -1,15 +1,13 @@
 -- An input that is read whole.
 use Rattle.std.proofs.Common.{◌≡◌, ◌<◌, ◌≤◌, ℕ, List, [], ◌+◌, length, Option, Some, None, Result, Ok, Err, IfSome, refl, inl, inr, arith}
 use Rattle.std.specs.Prelude.{IfOk, MatchResult, OnOk}
-use Rattle.std.specs.Result.{IsErrOf}
-use Rattle.std.specs.Io.KnownBytes.{IsAtEnd}
+use Rattle.std.specs.{Result.IsErrOf, Io.KnownBytes.IsAtEnd}
 use Rattle.bd_value.specs.Limits.{longest_input, most_reads}
-use Rattle.bd_device.specs.Counts.{after_more}
+use Rattle.bd_device.specs.{Devices.after_more, declared.reading.ReadFault.ReadFault}
 use Rattle.bd_device.specs.Devices.{AreReads, Reader, TakesAtMost, between}
-use Rattle.bd_device.specs.declared.reading.ReadFault.{ReadFault}
-use Rattle.bd_device.specs.declared.reading.ReadFault.TheVariants as reads
 use Rattle.bd_device.proofs.DevicesLemmas.{reads_at_least}
 use Rattle.bd_files.specs.Input.{ReadsInput, ReadsNoFurther}
+use Rattle.bd_device.specs.declared.reading.ReadFault.TheVariants as reads
 
 module _ {V R : Type 0} (bytes : V → List ℕ) (size : V → ℕ) (sized : (v : V) → size v ≡ length (bytes v)) (gives : R → Option (List ℕ) → R → Type 0) (old new : R) where
   -- as many reads as an input may take give one byte more than it may have

@@ -3,5 +3,4 @@ pub mod DumpLemmas
 pub mod InputLemmas
 pub mod OutputLemmas
 pub mod PackLemmas
-pub mod TranscriptLemmas
 pub mod WalkLemmas

@@ -1,2 +1,79 @@
 -- Lemmas on what a run writes.
-pub mod FaultLemmas
+use Rattle.std.proofs.Common.{subst, ◌≡◌, ℕ, List, [], ◌∷◌, ◌++◌, refl, sym, ap, ◌∙◌, append_assoc, ◌⊎◌, append-nil, inl, inr, codes}
+use Rattle.std.proofs.KnownBytes.{Appends-trans}
+use Rattle.std.specs.Prelude.{OnErr, OnOk, Result, Ok, Err}
+use Rattle.bd_value.specs.Tree.{Doc, doc, fields_of}
+use Rattle.bd_device.specs.Devices.{after_more, BreaksAfter, BreaksWithin, TakesFront, TakesText, Writer, between}
+use Rattle.bd_text.specs.Text.{text}
+use Rattle.bd_files.specs.{declared.output.OutputFault.OutputFault, declared.output.Status.Status, declared.output.Status.TheVariants.Failed}
+use Rattle.bd_files.specs.declared.output.OutputFault.TheVariants.{NoMemory, Unwritten}
+use Rattle.bd_files.specs.Output.{lines, PrintsOrStarves, StopsWithin, TellsMessage, Transcript, error_line, stop_words}
+
+pub lines-append : (ds es : List Doc) → lines (ds ++ es) ≡ lines ds ++ lines es
+lines-append [] es = refl
+lines-append (d ∷ ds) es = ap (λ x. text (doc (fields_of d)) ++ 10 ∷ x) (lines-append ds es) ∙ sym (append_assoc (text (doc (fields_of d))) (10 ∷ lines ds) (lines es))
+
+-- a text that was taken whole, and a front of the next
+pub breaks_after : (old mid new : Writer) (whole text : List ℕ) → TakesText (between old mid) whole → BreaksWithin (between mid new) text → BreaksAfter (between old new) whole text
+breaks_after old mid new whole text wrote broke =
+    (broke.0.0, broke.0.1, broke.0.2, Appends-trans old.held mid.held new.held whole broke.0.0 wrote.0 broke.0.3, broke.1 ∙ ap (λ n. after_more n 1) wrote.1)
+
+-- ---- one text after the other
+
+pub takes_both : (old mid new : Writer) (first second : List ℕ) → TakesText (between old mid) first → TakesText (between mid new) second → TakesText (between old new) (first ++ second)
+takes_both old mid new first second a b = (Appends-trans old.held mid.held new.held first second a.0 b.0, b.1 ∙ a.1)
+
+pub breaks_first : (old new : Writer) (first second : List ℕ) → BreaksWithin (between old new) first → BreaksWithin (between old new) (first ++ second)
+breaks_first old new first second broke =
+    ((broke.0.0, broke.0.1 ++ second, ap (λ x. x ++ second) broke.0.2 ∙ append_assoc broke.0.0 broke.0.1 second, broke.0.3), broke.1)
+
+pub breaks_second : (old mid new : Writer) (first second : List ℕ) → TakesText (between old mid) first → BreaksWithin (between mid new) second → BreaksWithin (between old new) (first ++ second)
+breaks_second old mid new first second a broke = (
+  (first ++ broke.0.0, broke.0.1, ap (λ x. first ++ x) broke.0.2 ∙ sym (append_assoc first broke.0.0 broke.0.1), Appends-trans old.held mid.held new.held first broke.0.0 a.0 broke.0.3),
+  broke.1 ∙ ap (λ n. after_more n 1) a.1,
+)
+
+pub on_err : {A E : Type 0} (r : Result A E) (P : Type 0) → P → OnErr r P
+on_err (Ok x) P h = _
+on_err (Err e) P h = h
+
+pub on_err_map : {A E : Type 0} (r : Result A E) (P Q : Type 0) → OnErr r P → (P → Q) → OnErr r Q
+on_err_map (Ok x) P Q h f = _
+on_err_map (Err e) P Q h f = f h
+
+-- an answer to the writing of the second of two texts
+pub second_err : {A E : Type 0} (r : Result A E) (old mid new : Writer) (first second : List ℕ) → TakesText (between old mid) first
+    → OnErr r (BreaksWithin (between mid new) second) → OnErr r (BreaksWithin (between old new) (first ++ second))
+second_err (Ok x) old mid new first second a h = _
+second_err (Err e) old mid new first second a h = breaks_second old mid new first second a h
+
+pub second_ok : {A E : Type 0} (r : Result A E) (old mid new : Writer) (first second : List ℕ) → TakesText (between old mid) first
+    → OnOk r (TakesText (between mid new) second) → OnOk r (TakesText (between old new) (first ++ second))
+second_ok (Ok x) old mid new first second a h = takes_both old mid new first second a h
+second_ok (Err e) old mid new first second a h = _
+
+pub ruleset taking = (takes_both, breaks_first, breaks_second)
+
+-- ---- a text of which a front was taken
+
+pub front_taken : (old new : Writer) (front rest all : List ℕ) → TakesText (between old new) front → all ≡ front ++ rest → TakesFront (between old new) all
+front_taken old new front rest all took cut = ((front, rest, cut, took.0), took.1)
+
+-- a write failed in the piece after what was taken
+pub breaks_piece : (old mid new : Writer) (front piece rest all : List ℕ) → TakesText (between old mid) front → BreaksWithin (between mid new) piece
+    → all ≡ front ++ (piece ++ rest) → BreaksWithin (between old new) all
+breaks_piece old mid new front piece rest all took broke cut =
+    let whole = breaks_first old new (front ++ piece) rest (breaks_second old mid new front piece took broke) in
+    subst (λ (x : List ℕ). BreaksWithin (between old new) x) (append_assoc front piece rest ∙ sym cut) whole
+
+pub all_shown : (out_old out_new err_old err_new : Writer) (status : Status) (shown : Transcript) → TakesText (between out_old out_new) shown.out
+    → TellsMessage (between err_old err_new) shown.err shown.status status ⊎ TellsMessage (between err_old err_new) (error_line (codes "no memory")) Failed status
+    → PrintsOrStarves (between out_old out_new) (between err_old err_new) shown status
+all_shown out_old out_new err_old err_new status shown wrote (inl told) = inl (wrote, told)
+all_shown out_old out_new err_old err_new status shown wrote (inr told) = inr (inr (((shown.out, [], sym (append-nil shown.out), wrote.0), wrote.1), told))
+
+-- standard output was stopped
+pub stop_shown : (out_old out_new err_old err_new : Writer) (status : Status) (shown : Transcript) (stopped : OutputFault) → StopsWithin (between out_old out_new) shown.out stopped
+    → TellsMessage (between err_old err_new) (error_line (stop_words stopped)) Failed status → PrintsOrStarves (between out_old out_new) (between err_old err_new) shown status
+stop_shown out_old out_new err_old err_new status shown NoMemory front told = inr (inr (front, told))
+stop_shown out_old out_new err_old err_new status shown Unwritten broke told = inr (inl (broke, told))

@@ -1,38 +1,28 @@
 -- A walk over the documents of an input, step by step.
-use Rattle.std.proofs.Common.{inl, inr, ◌≡◌, ◌≤◌, ◌<◌, ℕ, ◌+◌, ◌-◌, List, [], ◌∷◌, ◌++◌, length, length-take-le, map, append-nil, append_assoc, Option, Some, None}
-use Rattle.std.proofs.Common.{Err, refl, sym, ap, ap₂, ◌∙◌, subst, arith, length-append}
+use Rattle.std.proofs.Common.{inl, inr, ◌≡◌, ◌≤◌, ◌<◌, ℕ, ◌+◌, ◌-◌, List, [], ◌∷◌, ◌++◌, length, length-take-le, map, append-nil, append_assoc, Option, Some, None, Err, refl, sym, ap, ap₂, ◌∙◌, subst}
+use Rattle.std.proofs.Common.{arith, length-append}
+use Rattle.std.proofs.{lemmas.List.take_at, lemmas.List.Sums.sum_by-append}
+use Rattle.std.proofs.KnownBytes.{Appends-nil, Consumes-trans, Consumes-nil}
 use Rattle.std.specs.Prelude.{◌⊎◌, IfSome, is_some, cond, string_bytes}
 use Rattle.std.specs.Io.KnownBytes.{Consumes, IsAtEnd}
-use Rattle.std.proofs.KnownBytes.{Appends-nil, Consumes-trans, Consumes-nil}
-use Rattle.std.proofs.lemmas.List.{take_at}
-use Rattle.std.proofs.lemmas.List.Sums.{sum_by-append}
 use Rattle.bd_value.specs.Limits.{longest_input, most_reads}
-use Rattle.bd_device.specs.Counts.{after_more}
+use Rattle.bd_device.specs.{Devices.after_more, declared.reading.ReadFault.ReadFault}
 use Rattle.bd_device.specs.Devices.{Reader, TakesText, Writer, between}
-use Rattle.bd_device.specs.declared.reading.ReadFault.{ReadFault}
-use Rattle.bd_device.specs.declared.reading.ReadFault.TheVariants as reads
 use Rattle.bd_device.proofs.DevicesLemmas.{reads_at_least}
+use Rattle.bd_check.specs.{Fault.Fault, FirstFault.first_fault, Fault.TellsFault, Fault.fault_view}
 use Rattle.bd_check.specs.Dump.{frame_fault, frame_length, framed_fault}
-use Rattle.bd_check.specs.Fault.{Fault}
-use Rattle.bd_check.specs.FirstFault.{first_fault}
-use Rattle.bd_check.specs.AnsweredFault.{TellsFault, fault_view}
+use Rattle.bd_stream.specs.{declared.doc_buffer.DocBuffer.DocBuffer, declared.doc_buffer.FrameFault.FrameFault}
+use Rattle.bd_stream.specs.Stream.{FailsToRead, IsReason, ReadsDocument, held_bytes, AreFrames, EndsWithinOne, HasNoFrame, IsFrame, IsWithinOne}
+use Rattle.bd_stream.proofs.StreamLemmas.{cut_within, frame_on, frame_within, frames_more}
+use Rattle.bd_files.specs.{Input.StopsInside, Input.StreamsInput, Output.StopsWriting, declared.dump_and_check.Ending.Ending, declared.output.OutputFault.OutputFault}
+use Rattle.bd_files.specs.DumpAndCheck.{faulty_count, AreVisited, EndsWalk, IsTextOf, StopsWalk, Texts, WalksDocuments, more_visited, none_visited}
+use Rattle.bd_files.specs.declared.output.OutputFault.TheVariants.{NoMemory, Unwritten}
+use Rattle.bd_files.proofs.OutputLemmas.{breaks_after, takes_both}
+use Rattle.bd_device.specs.declared.reading.ReadFault.TheVariants as reads
 use Rattle.bd_check.specs.declared.fault.Fault as told
 use Rattle.bd_check.specs.declared.fault.FaultKind.TheVariants as kinds
-use Rattle.bd_stream.specs.NextDocument.{FailsToRead, IsReason, ReadsDocument, held_bytes}
-use Rattle.bd_stream.specs.Stream.{AreFrames, EndsWithinOne, HasNoFrame, IsFrame, IsWithinOne}
-use Rattle.bd_stream.specs.declared.doc_buffer.DocBuffer.{DocBuffer}
-use Rattle.bd_stream.specs.declared.doc_buffer.FrameFault.{FrameFault}
 use Rattle.bd_stream.specs.declared.doc_buffer.DocFault.TheVariants as faults
-use Rattle.bd_stream.proofs.FrameLemmas.{cut_within, frame_on, frame_within, frames_more}
-use Rattle.bd_files.specs.Check.{faulty_count}
-use Rattle.bd_files.specs.Outcome.{StopsAt, StreamsInput}
-use Rattle.bd_files.specs.Output.Fault.{StopsWriting}
-use Rattle.bd_files.specs.Walk.{AreVisited, EndsWalk, IsTextOf, StopsWalk, Texts, WalksDocuments, more_visited, none_visited}
-use Rattle.bd_files.specs.declared.walk.Ending.{Ending}
-use Rattle.bd_files.specs.declared.walk.Ending.TheVariants as endings
-use Rattle.bd_files.specs.declared.output.fault.OutputFault.{OutputFault}
-use Rattle.bd_files.specs.declared.output.fault.OutputFault.TheVariants.{NoMemory, Unwritten}
-use Rattle.bd_files.proofs.OutputLemmas.FaultLemmas.{breaks_after, takes_both}
+use Rattle.bd_files.specs.declared.dump_and_check.Ending.TheVariants as endings
 
 pub faulty_append : (us vs : List (Option Fault)) → faulty_count (us ++ vs) ≡ faulty_count us + faulty_count vs
 faulty_append us vs = sum_by-append (λ v. cond (is_some v) 1 0) us vs
@@ -197,7 +187,7 @@ module _ {texts : Texts} {old mid : Reader} {out_old out_mid : Writer} {buffer :
 
   -- the walk stands after its documents and a part of the next one
   module _ {new : Reader} {part : List ℕ} (g : Gives mid new buffer.left.bytes part) where
-    at : StopsAt s.given part (between old new)
+    at : StopsInside s.given part (between old new)
     at = (Consumes-trans old.left mid.left new.left s.given part s.gave g.gave, within part g.short, g.within)
 
     streams : (bytes : List ℕ) → IfSome old.left (λ xs. bytes ≡ xs) → StreamsInput (between old new) bytes None

@@ -1,21 +1,16 @@
 -- What `pack` shows of an input, and what a run of it did.
-pub mod Packing
 use Rattle.std.specs.Prelude.{◌≡◌, ◌⊎◌, ℕ, suc, List, [], ◌∷◌, ◌++◌, length, codes, decimal, IsTrue, IsFalse, Option, Some, None, Result, Ok, Err, option_map}
 use Rattle.bd_value.specs.Tree.{Doc}
-use Rattle.bd_device.specs.Devices.{Over, Reader, Writer}
+use Rattle.bd_device.specs.Devices.{Over, Reader, TakesText, Writer}
 use Rattle.bd_device.specs.declared.reading.ReadFault.{ReadFault}
-use Rattle.bd_diagnose.specs.JsonFault.{json_fault_words}
-use Rattle.bd_diagnose.specs.declared.json_fault.JsonFaultKind.{JsonFaultKind}
-use Rattle.bd_diagnose.specs.declared.json_fault.JsonFaultKind.TheVariants as kinds
-use Rattle.bd_pack.specs.Packable.{plain, IsPackable, IsBad}
-use Rattle.bd_pack.specs.declared.line.LineFault.{LineFault}
-use Rattle.bd_pack.specs.declared.line.LineFault.TheVariants as faults
+use Rattle.bd_diagnose.specs.{JsonFault.json_fault_words, declared.json_fault.JsonFaultKind.JsonFaultKind}
+use Rattle.bd_pack.specs.{Packable.plain, Packable.IsPackable, Packable.IsBad, declared.line.LineFault.LineFault}
 use Rattle.bd_lines.specs.Lines.{is_empty_line, text_lines}
-use Rattle.bd_files.specs.Input.{ReadsInput}
-use Rattle.bd_files.specs.Outcome.{PrintsInput}
-use Rattle.bd_files.specs.Transcript.{Transcript, read_words, shown_before, shown_refusal}
-use Rattle.bd_files.specs.declared.pack.packing.BadLine.{BadLine}
-use Rattle.bd_files.specs.declared.status.Status.{Status}
+use Rattle.bd_files.specs.{Input.ReadsInput, declared.output.Status.Status, declared.pack.BadLine.BadLine, declared.pack.Packing.Packing}
+use Rattle.bd_files.specs.declared.output.OutputFault.{OutputFault}
+use Rattle.bd_files.specs.Output.{PrintsInput, StopsWithin, Transcript, read_words, shown_before, shown_refusal}
+use Rattle.bd_diagnose.specs.declared.json_fault.JsonFaultKind.TheVariants as kinds
+use Rattle.bd_pack.specs.declared.line.LineFault.TheVariants as faults
 
 -- the bytes of documents one after the other
 abbrev pub packed_bytes : List Doc → List ℕ
@@ -26,16 +21,11 @@ packed_bytes (d ∷ ds) = plain d ++ packed_bytes ds
 -- Lines of white space are passed over.
 abbrev pub PacksLines : ℕ → List (List ℕ) → List Doc → Option BadLine → Type 0
 PacksLines number [] ds bad = (ds ≡ []) × (bad ≡ None)
-PacksLines number (line ∷ lines) ds bad =
-    (IsTrue (is_empty_line line) × PacksLines (suc number) lines ds bad)
+PacksLines number (line ∷ lines) ds bad = (IsTrue (is_empty_line line) × PacksLines (suc number) lines ds bad)
     ⊎ (IsFalse (is_empty_line line)
-    × ((d : Doc) × (es : List Doc) × IsPackable line d × (ds ≡ d ∷ es)
-    × PacksLines (suc number) lines es bad))
-    ⊎ (IsFalse (is_empty_line line) × ((fault : LineFault) × IsBad line fault × (ds ≡ []) × (bad ≡ Some (record {
-      number =
-          number;
-      fault = fault;
-    }))))
+    × ((d : Doc) × (es : List Doc) × IsPackable line d × (ds ≡ d ∷ es) × PacksLines (suc number) lines es bad))
+    ⊎ (IsFalse (is_empty_line line)
+    × ((fault : LineFault) × IsBad line fault × (ds ≡ []) × (bad ≡ Some (record { number = number; fault = fault }))))
 
 -- a document as a whole has no place
 abbrev pub byte_text : JsonFaultKind → ℕ → List ℕ
@@ -58,26 +48,42 @@ shown_pack ds bad = shown_before (packed_bytes ds) (option_map bad_line_text bad
 -- what is shown of a text, or of an input that was not read whole
 abbrev pub IsShownByPack : Result (List ℕ) ReadFault → Transcript → Type 0
 IsShownByPack (Ok text) shown =
-    (ds : List Doc) × (bad : Option BadLine) × PacksLines 1 (text_lines text) ds bad
-    × (shown ≡ shown_pack ds bad)
+    (ds : List Doc) × (bad : Option BadLine) × PacksLines 1 (text_lines text) ds bad × (shown ≡ shown_pack ds bad)
 IsShownByPack (Err fault) shown = shown ≡ shown_refusal (read_words fault)
 
--- Two tellings of where lines end are of one line, or both of none. Of a line that is no document, the kind and the place of
--- the fault may differ.
+-- Both name the same bad line, or none. Of a line that is no document, the kind and the place of the fault may differ.
 abbrev pub AreAlikeFaults : LineFault → LineFault → Type 0
 AreAlikeFaults (faults.Unread f) (faults.Unread g) = Unit {0}
-AreAlikeFaults (faults.Unread f) faults.TooLong = ⊥
-AreAlikeFaults faults.TooLong (faults.Unread g) = ⊥
 AreAlikeFaults faults.TooLong faults.TooLong = Unit {0}
+AreAlikeFaults _ _ = ⊥
 
 abbrev pub AreAlike : Option BadLine → Option BadLine → Type 0
 AreAlike None None = Unit {0}
-AreAlike None (Some b) = ⊥
-AreAlike (Some a) None = ⊥
 AreAlike (Some a) (Some b) = (a.number ≡ b.number) × AreAlikeFaults a.fault b.fault
+AreAlike _ _ = ⊥
 
 -- an input was read whole, or was not for a reason, and what is to be shown of it was shown
 abbrev pub PacksInput : Over Reader → Over Writer → Over Writer → Status → Type 0
 PacksInput file out err status =
     (input : Result (List ℕ) ReadFault) × (shown : Transcript) × ReadsInput file input × IsShownByPack input shown
     × PrintsInput input out err shown status
+
+-- ---- line by line
+
+abbrev pub lines_left : Option (List ℕ) → List (List ℕ)
+lines_left None = []
+lines_left (Some text) = text_lines text
+
+abbrev pub left_size : Option (List ℕ) → ℕ
+left_size None = 0
+left_size (Some text) = suc (length text)
+
+-- the documents before the first bad line, whose bytes the writer took
+abbrev pub IsPacking : List ℕ → Over Writer → Packing → Type 0
+IsPacking text out packing =
+    (ds : List Doc) × PacksLines 1 (text_lines text) ds packing.bad × (packing.count ≡ length ds) × TakesText out (packed_bytes ds)
+
+-- the writing of these bytes was stopped
+abbrev pub StopsPacking : List ℕ → Over Writer → OutputFault → Type 0
+StopsPacking text out stopped =
+    (ds : List Doc) × (bad : Option BadLine) × PacksLines 1 (text_lines text) ds bad × StopsWithin out (packed_bytes ds) stopped

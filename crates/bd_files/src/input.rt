@@ -1,12 +1,18 @@
-//! An input that is read whole.
+//! An input that is read whole, and how much of an input is read.
 
 ghost use Rattle.std.specs.Prelude.{MatchResult, Ok, Err};
 ghost use Rattle.bd_device.specs.Devices.{over};
 ghost use Rattle.bd_files.specs.Input.{ReadsInput, ReadsNoFurther};
 
-use crate::limits::LIMITS;
-use bd_device::{Input, ReadFault, read_all};
+use bd_device::{Input, Limits, ReadFault, read_all};
+use bd_value::{LONGEST_INPUT, MOST_READS};
 use std::alloc::Global;
+
+/// An input has at most 4,294,967,295 bytes, and takes at most 4,294,967,296 reads: one a byte, and the one that finds the end.
+pub const LIMITS: Limits = Limits {
+    bytes: LONGEST_INPUT,
+    turns: MOST_READS,
+};
 
 /// All bytes of an input, at most 4,294,967,295.
 ///

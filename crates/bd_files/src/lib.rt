@@ -12,20 +12,17 @@
 //! assert!(rt; err.bytes() == b"1 documents, 0 faulty\n".as_slice());
 //! ```
 //!
-//! - `dump`, `check`, `pack`: a command each: `specs/Dump.antt`, `specs/Check.antt`, `specs/Pack.antt`.
-//! - `walk`: the documents of a file, one after the other; `input`: a file that is read whole.
-//! - `output`: what a run writes; `limits`, `status`: what a run reads at most, and how it ends.
+//! - `dump_and_check`: `dump` and `check`, which go over a file document by document.
+//! - `pack`: `pack`, which holds its file whole.
+//! - `input`: a file that is read whole, and how much of a file is read.
+//! - `output`: what a run writes of itself, and its exit status.
 #![tactic(auto)]
 
-pub mod check;
-pub mod dump;
+mod dump_and_check;
 mod input;
-mod limits;
 pub mod output;
 pub mod pack;
-mod status;
-mod walk;
 
-pub use input::read_input;
-pub use limits::LIMITS;
-pub use status::Status;
+pub use dump_and_check::{check, dump};
+pub use input::{LIMITS, read_input};
+pub use output::Status;

@@ -1,28 +1,143 @@
 //! `pack`: the documents of lines of text, as bytes.
-//!
-//! `packing`: the lines of a text.
 
-mod packing;
-
-ghost use Rattle.std.specs.Prelude.{◌≡◌, ◌≤◌, ◌⊎◌, ◌++◌, IfOk, OnOk, Ok, length, codes, option_map};
+ghost use Rattle.std.specs.Prelude.{◌≡◌, ◌++◌, ◌∷◌, ◌≤◌, ◌⊎◌, IfErr, IfOk, OnOk, Ok, length, codes, option_map};
 ghost use Rattle.bd_value.specs.Limits.{longest_input};
-ghost use Rattle.bd_files.specs.declared.status.Status.TheVariants.{Failed};
-ghost use Rattle.bd_files.specs.Input.{ReadsNoFurther};
-ghost use Rattle.bd_files.specs.Outcome.{PrintsOrStarves, TellsMessage};
-ghost use Rattle.bd_files.specs.Pack.{IsShownByPack, PacksInput, bad_line_text, line_fault_text, pack_count_line};
-ghost use Rattle.bd_files.specs.Transcript.{Transcript, error_line, wrong_line, wrong_status};
 ghost use Rattle.bd_device.specs.Devices.{over};
+ghost use Rattle.bd_lines.specs.Lines.{text_lines};
+ghost use Rattle.bd_files.specs.Input.{ReadsNoFurther};
+ghost use Rattle.bd_files.specs.Output.{PrintsOrStarves, TellsMessage, Transcript, error_line, told_bytes, wrong_line, wrong_status};
+ghost use Rattle.bd_files.specs.Pack.{IsPacking, IsShownByPack, PacksInput, StopsPacking, bad_line_text, left_size, line_fault_text, lines_left};
+ghost use Rattle.bd_files.specs.Pack.{pack_count_line};
+ghost use Rattle.bd_files.specs.declared.output.Status.TheVariants.{Failed};
 
 use crate::input::read_input;
-use crate::output::messages::{tell_end, tell_no_memory, tell_read_fault, tell_stop};
-use crate::pack::packing::{BadLine, Packing, write_lines};
-use crate::status::Status;
-use bd_device::{Input, Output};
+use crate::output::{OutputFault, Status, tell_end, tell_no_memory, tell_read_fault, tell_stop};
+use bd_device::{Input, Output, write_all};
 use bd_diagnose::JsonFaultKind;
 use bd_extjson::write_number;
+use bd_lines::is_empty_line;
 use bd_pack::{LineFault, Packer};
 use bd_value::NoMemory;
+use memchr::memchr;
 use std::alloc::Global;
+
+/// Reads an input whole, and shows the bytes of its lines' documents, up to the first line that is none.
+pub fn pack<R: Input, O: Output, E: Output>(
+    alloc: Global,
+    input: &mut R,
+    out: &mut O,
+    err: &mut E,
+) -> Status
+    ensures packs { PacksInput (over R.state input.old input.new) (over O.state out.old out.new)
+        (over E.state err.old err.new) result }
+    ensures further { ReadsNoFurther R.read_gives input.old input.new }
+{
+    match read_input(alloc, input) {
+        Ok(text) => pack_text(alloc, &text, out, err),
+        Err(fault) => tell_read_fault(fault, err),
+    }
+}
+
+/// Shows what a text is packed as.
+fn pack_text<O: Output, E: Output>(alloc: Global, text: &[u8], out: &mut O, err: &mut E) -> Status
+    requires { length text.now ≤ longest_input }
+    ensures { (shown : Transcript) × IsShownByPack (Ok text.now) shown
+        × PrintsOrStarves (over O.state out.old out.new) (over E.state err.old err.new) shown result }
+{
+    match write_lines(text, &mut Packer::new(alloc), &mut Vec::new(alloc), out) {
+        Ok(packing) => tell_packing(alloc, &packing, err),
+        Err(fault) => tell_stop(fault, err),
+    }
+}
+
+/// The lines of a text that were packed.
+#[derive(Debug, Drop)]
+pub struct Packing {
+    /// How many documents they are.
+    pub count: u64,
+    /// The line after them.
+    pub bad: Option<BadLine>,
+}
+
+/// A line that is not packed.
+#[derive(Clone, Copy, Debug, Drop, PartialEq, Eq)]
+pub struct BadLine {
+    /// Its number, from 1.
+    pub number: u64,
+    /// Why it is not packed.
+    pub fault: LineFault,
+}
+
+/// Writes the documents of the lines before the first bad one, each as soon as it is packed into the buffer. Where memory runs
+/// out, what was written is a front of their bytes.
+fn write_lines<O: Output>(
+    text: &[u8],
+    packer: &mut Packer,
+    bytes: &mut Vec<u8>,
+    out: &mut O,
+) -> Result<Packing, OutputFault>
+    requires { length text.now ≤ longest_input }
+    ensures packs { IfOk result (IsPacking text.now (over O.state out.old out.new)) }
+    ensures stops { IfErr result (StopsPacking text.now (over O.state out.old out.new)) }
+{
+    let mut number = 0;
+    let mut count = 0;
+    let mut left = Some(text);
+    while let Some(rest) = left {
+        let (line, after) = cut_line(rest);
+        left = after;
+        number += 1;
+        if is_empty_line(line) {
+            continue;
+        }
+        bytes.clear();
+        if let Some(fault) = packer.pack_line(line, bytes)? {
+            let bad = Some(BadLine { number, fault });
+            return Ok(Packing { count, bad });
+        }
+        write_all(out, bytes)?;
+        count += 1;
+    }
+    Ok(Packing { count, bad: None })
+}
+
+/// The first line of a text, and what is after its newline, where there is one.
+fn cut_line(text: &[u8]) -> (&[u8], Option<&[u8]>)
+    ensures line { text_lines text.now ≡ result.0.now ∷ lines_left (told_bytes result.1) }
+    ensures shorter { left_size (told_bytes result.1) ≤ length text.now }
+{
+    match memchr(b'\n', text) {
+        Some(end) => (&text[..end], Some(&text[end + 1..])),
+        None => (text, None),
+    }
+}
+
+/// Tells how lines were packed, after the bytes on standard output.
+fn tell_packing<E: Output>(alloc: Global, packing: &Packing, err: &mut E) -> Status
+    ensures { TellsMessage (over E.state err.old err.new) (wrong_line (option_map bad_line_text packing.now.bad) ++ pack_count_line packing.now.count)
+        (wrong_status (option_map bad_line_text packing.now.bad)) result
+        ⊎ TellsMessage (over E.state err.old err.new) (error_line (codes "no memory")) Failed result }
+{
+    let words = b" objects packed\n";
+    match &packing.bad {
+        None => tell_end(None, packing.count, words, err),
+        Some(bad) => match bad_line_message(alloc, bad) {
+            Ok(message) => tell_end(Some(&message), packing.count, words, err),
+            Err(_) => tell_no_memory(err),
+        },
+    }
+}
+
+/// The message of a bad line.
+fn bad_line_message(alloc: Global, bad: &BadLine) -> Result<Vec<u8>, NoMemory>
+    ensures { IfOk result (λ v. v.items ≡ bad_line_text bad.now) }
+{
+    let mut text = Vec::new(alloc);
+    text.extend_from_slice(b"line ")?;
+    write_number(bad.number, &mut text)?;
+    write_line_fault(&bad.fault, &mut text)?;
+    Ok(text)
+}
 
 /// Appends why a line is bad, after its number.
 fn write_line_fault(fault: &LineFault, text: &mut Vec<u8>) -> Result<(), NoMemory>
@@ -42,62 +157,5 @@ fn write_line_fault(fault: &LineFault, text: &mut Vec<u8>) -> Result<(), NoMemor
             text.extend_from_slice(fault.kind.words().as_bytes())
         }
         LineFault::TooLong => text.extend_from_slice(b": document too long"),
-    }
-}
-
-/// The message of a bad line.
-fn bad_line_message(alloc: Global, bad: &BadLine) -> Result<Vec<u8>, NoMemory>
-    ensures { IfOk result (λ v. v.items ≡ bad_line_text bad.now) }
-{
-    let mut text = Vec::new(alloc);
-    text.extend_from_slice(b"line ")?;
-    write_number(bad.number, &mut text)?;
-    write_line_fault(&bad.fault, &mut text)?;
-    Ok(text)
-}
-
-/// Tells how lines were packed, after the bytes on standard output.
-fn tell_packing<E: Output>(alloc: Global, packing: &Packing, err: &mut E) -> Status
-    ensures { TellsMessage (over E.state err.old err.new) (wrong_line (option_map bad_line_text packing.now.bad) ++ pack_count_line packing.now.count)
-        (wrong_status (option_map bad_line_text packing.now.bad)) result
-        ⊎ TellsMessage (over E.state err.old err.new) (error_line (codes "no memory")) Failed result }
-{
-    let words = b" objects packed\n";
-    match &packing.bad {
-        None => tell_end(None, packing.count, words, err),
-        Some(bad) => match bad_line_message(alloc, bad) {
-            Ok(message) => tell_end(Some(&message), packing.count, words, err),
-            Err(_) => tell_no_memory(err),
-        },
-    }
-}
-
-/// Shows what a text is packed as.
-fn pack_text<O: Output, E: Output>(alloc: Global, text: &[u8], out: &mut O, err: &mut E) -> Status
-    requires { length text.now ≤ longest_input }
-    ensures { (shown : Transcript) × IsShownByPack (Ok text.now) shown
-        × PrintsOrStarves (over O.state out.old out.new) (over E.state err.old err.new) shown result }
-{
-    let written = write_lines(text, &mut Packer::new(alloc), &mut Vec::new(alloc), out);
-    match written {
-        Ok(packing) => tell_packing(alloc, &packing, err),
-        Err(fault) => tell_stop(fault, err),
-    }
-}
-
-/// Reads an input whole, and shows the bytes of its lines' documents, up to the first line that is none.
-pub fn pack<R: Input, O: Output, E: Output>(
-    alloc: Global,
-    input: &mut R,
-    out: &mut O,
-    err: &mut E,
-) -> Status
-    ensures packs { PacksInput (over R.state input.old input.new) (over O.state out.old out.new)
-        (over E.state err.old err.new) result }
-    ensures further { ReadsNoFurther R.read_gives input.old input.new }
-{
-    match read_input(alloc, input) {
-        Ok(text) => pack_text(alloc, &text, out, err),
-        Err(fault) => tell_read_fault(fault, err),
     }
 }

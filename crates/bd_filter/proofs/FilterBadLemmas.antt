@@ -1,32 +1,24 @@
 -- Where a part of a filter is refused, it breaks that rule there; where it is read, it breaks none.
-use Rattle.std.proofs.Common.{◌≡◌, ◌⊎◌, inl, inr, ℕ, zero, suc, ◌+◌, ◌-◌, pos, Bool, true, false, not, ◌||◌, if◌then◌else◌}
+use Rattle.std.proofs.Common.{◌≡◌, ◌⊎◌, inl, inr, ℕ, zero, suc, ◌+◌, ◌-◌, Bool, true, false, not, ◌||◌, if◌then◌else◌}
 use Rattle.std.proofs.Common.{List, [], ◌∷◌, Option, Some, None, Result, Ok, Err, refl, subst}
 use Rattle.std.specs.Prelude.{IsTrue, IsFalse, decimal, is_none, is_err}
 use Rattle.bd_value.specs.Limits.{most_filter_levels}
 use Rattle.bd_value.specs.Tree as trees
 use Rattle.bd_value.specs.Tree.{Tree, leaf, doc, array, code_scope, Doc, Fields, no_fields, field, Items, no_items, item, fields_of}
-use Rattle.bd_path.specs.Names.{Names}
-use Rattle.bd_path.specs.Path.{path_of}
-use Rattle.bd_path.specs.declared.path_fault.PathFault.{PathFault}
-use Rattle.bd_filter.specs.Fault.{IsStarved, Refusal, refusal_of, refuse, under}
-use Rattle.bd_filter.specs.Filter.{Filter, all_of, filters_from, operators_from}
-use Rattle.bd_filter.specs.Filter.{Operator, compares, equals, exists, has_all, has_document, has_element, has_size, has_type, is_in, negates, negation_of}
-use Rattle.bd_filter.specs.FilterBad.{BreaksHereIf, BreaksInside, BreaksUnder, IsBadAt, is_count, is_truth}
-use Rattle.bd_filter.specs.FilterBad.{AreBadFilters, HasBadElement, HasBadMember, HasBadOperator, HasBadPair, IsBadElemMatch, IsBadElement}
-use Rattle.bd_filter.specs.FilterBad.{IsBadList, IsBadMember, IsBadNot, IsBadOperator, IsBadPair, IsBadPlain, IsBadValue}
-use Rattle.bd_filter.specs.FilterOf.{element_operator, filter_of, filters_of, first_is_operator, has_operators, has_value_form, inner_part}
-use Rattle.bd_filter.specs.FilterOf.{is_bound, is_regex, logical_filter, member_filter, member_filters, member_value, member_values, members_of}
-use Rattle.bd_filter.specs.FilterOf.{not_operator, operand_filters, operand_kinds, operator_of, operators_of, or_bad_operand, pair_filter}
-use Rattle.bd_filter.specs.FilterOf.{path_names, path_operators, plain_operator, read_as, read_first, size_value, truth_value, with_path}
-use Rattle.bd_filter.specs.Word.{word_of}
-use Rattle.bd_filter.specs.declared.fault.FilterFault.{FilterFault}
-use Rattle.bd_filter.specs.declared.fault.FilterFaultKind.{FilterFaultKind}
+use Rattle.bd_path.specs.{Reach.Names, Path.path_of, declared.path.PathFault.PathFault}
+use Rattle.bd_filter.specs.{Fault.Refusal, Fault.refuse, Word.word_of, declared.fault.FilterFaultKind.FilterFaultKind}
+use Rattle.bd_filter.specs.{declared.filter_of.PlainOperator.PlainOperator, declared.filter_of.Word.Word}
+use Rattle.bd_filter.specs.Filter.{Filter, all_of, filters_from, operators_from, Operator, compares, equals, exists, has_all, has_document, has_element, has_size}
+use Rattle.bd_filter.specs.Filter.{has_type, is_in, negates, negation_of}
+use Rattle.bd_filter.specs.FilterBad.{AreBadFilters, BreaksHereIf, BreaksInside, BreaksUnder, HasBadElement, HasBadMember, HasBadOperator, HasBadPair, IsBadAt}
+use Rattle.bd_filter.specs.FilterBad.{IsBadElemMatch, IsBadList, IsBadMember, IsBadNot, IsBadOperator, IsBadPair, IsBadPlain, IsBadValue}
+use Rattle.bd_filter.specs.FilterOf.{element_operator, filter_of, filters_of, first_is_operator, has_operators, has_value_form, inner_part, is_bound, is_regex}
+use Rattle.bd_filter.specs.FilterOf.{logical_filter, member_filter, member_filters, member_values, members_of, unless_left_out, not_operator, operand_filters}
+use Rattle.bd_filter.specs.FilterOf.{operand_kinds, operator_of, operators_of, or_bad_operand, pair_filter, path_operators, plain_operator, read_as}
+use Rattle.bd_filter.specs.FilterOf.{read_at, size_value, truth_value, with_path}
 use Rattle.bd_filter.specs.declared.fault.FilterFaultKind.TheVariants as faults
-use Rattle.bd_filter.specs.declared.relation.Relation.TheVariants as relation
-use Rattle.bd_filter.specs.declared.word.PlainOperator.{PlainOperator}
-use Rattle.bd_filter.specs.declared.word.PlainOperator.TheVariants as plain
-use Rattle.bd_filter.specs.declared.word.Word.{Word}
-use Rattle.bd_filter.specs.declared.word.Word.TheVariants as words
+use Rattle.bd_filter.specs.declared.filter_of.PlainOperator.TheVariants as plain
+use Rattle.bd_filter.specs.declared.filter_of.Word.TheVariants as words
 
 -- which refusals are true of a part
 abbrev Refusals : Type 1
@@ -43,16 +35,12 @@ as_agrees : {A B : Type 0} (f : A → B) (part : Result A Refusal) (IsBad : Refu
 as_agrees f (Ok x) IsBad h = h
 as_agrees f (Err r) IsBad h = h
 
-first_agrees : {A : Type 0} (part : Result A Refusal) (rest : Result (List A) Refusal) (IsBad AreBad : Refusals)
-    → Agrees part IsBad → Agrees rest AreBad → Agrees (read_first part rest) (λ r. IsBad r ⊎ AreBad r)
-first_agrees (Ok x) (Ok xs) IsBad AreBad h k = λ r e. elim e [ inl a ↦ h r a | inr b ↦ k r b ]
-first_agrees (Ok x) (Err r) IsBad AreBad h k = inr k
-first_agrees (Err r) rest IsBad AreBad h k = inl h
-
-under_agrees : {A : Type 0} (name : List ℕ) (part : Result A Refusal) (IsBad : Refusals)
-    → Agrees part IsBad → Agrees (under name part) (BreaksUnder name IsBad)
-under_agrees name (Ok x) IsBad h = λ r e. h e.0 e.2
-under_agrees name (Err r) IsBad h = (r, refl, h)
+-- the parts of a list, each under a name
+each_agrees : {A : Type 0} (name : List ℕ) (part : Result A Refusal) (rest : Result (List A) Refusal) (IsBad AreBad : Refusals)
+    → Agrees part IsBad → Agrees rest AreBad → Agrees (read_at name part rest) (λ r. BreaksUnder name IsBad r ⊎ AreBad r)
+each_agrees name (Ok x) (Ok xs) IsBad AreBad h k = λ r e. elim e [ inl a ↦ h a.0 a.2 | inr b ↦ k r b ]
+each_agrees name (Ok x) (Err r) IsBad AreBad h k = inr k
+each_agrees name (Err r) rest IsBad AreBad h k = inl (r, refl, h)
 
 inside_agrees : {A : Type 0} (room : ℕ) (part : Result A Refusal) (IsBad : Refusals)
     → Agrees part IsBad → Agrees (inner_part room part) (BreaksInside room IsBad)
@@ -63,12 +51,6 @@ inside_agrees (suc room) part IsBad h = h
 level_agrees : {A B : Type 0} (room : ℕ) (f : A → B) (part : Result A Refusal) (IsBad : Refusals)
     → Agrees part IsBad → Agrees (inner_part room (read_as f part)) (BreaksInside room IsBad)
 level_agrees room f part IsBad h = inside_agrees room (read_as f part) IsBad (as_agrees f part IsBad h)
-
--- the parts of a list, each under a name
-each_agrees : {A : Type 0} (name : List ℕ) (part : Result A Refusal) (rest : Result (List A) Refusal) (IsBad AreBad : Refusals)
-    → Agrees part IsBad → Agrees rest AreBad → Agrees (read_first (under name part) rest) (λ r. BreaksUnder name IsBad r ⊎ AreBad r)
-each_agrees name part rest IsBad AreBad h k =
-    first_agrees (under name part) rest (BreaksUnder name IsBad) AreBad (under_agrees name part IsBad h) k
 
 -- ---- one rule, by a test
 
@@ -90,54 +72,39 @@ test_agrees false kind x = none_here x kind
 values_agree : (i : ℕ) (ts : Items) → Agrees (member_values i ts) (HasBadElement i ts)
 values_agree i no_items = λ r e. e
 values_agree i (item t ts) =
-    let one = test_agrees (is_regex t || has_operators t) faults.NotInProfile t in
-    each_agrees (decimal i) (member_value t) (member_values (i + 1) ts) (IsBadElement t) (HasBadElement (i + 1) ts) one (values_agree (i + 1) ts)
+    let b = is_regex t || has_operators t in
+    each_agrees (decimal i) (unless_left_out b t) (member_values (i + 1) ts) (BreaksHereIf b faults.NotInProfile) (HasBadElement (i + 1) ts)
+    (test_agrees b faults.NotInProfile t) (values_agree (i + 1) ts)
 
-list_agrees : (t : Tree) → Agrees (members_of t) (IsBadList t)
-list_agrees (leaf s) = refl
-list_agrees (doc fs) = refl
-list_agrees (array ts) = values_agree 0 ts
-list_agrees (code_scope s fs) = refl
+list_agrees : (f : List Tree → Operator) (t : Tree) → Agrees (read_as f (members_of t)) (IsBadList t)
+list_agrees f (leaf s) = refl
+list_agrees f (doc fs) = refl
+list_agrees f (array ts) = as_agrees f (member_values 0 ts) (HasBadElement 0 ts) (values_agree 0 ts)
+list_agrees f (code_scope s fs) = refl
 
-count_agrees : (t : Tree) → Agrees (size_value t) (BreaksHereIf (not (is_count t)) faults.BadOperand)
-count_agrees (leaf (trees.int32 (pos n))) = none_here n faults.BadOperand
-count_agrees (leaf (trees.int64 (pos n))) = none_here n faults.BadOperand
-count_agrees t = (refl, refl)
+-- a value that is not left out, and one of the right kind
+profile_agrees : {A : Type 0} (f : Tree → A) (b : Bool) (t : Tree) → Agrees (read_as f (unless_left_out b t)) (BreaksHereIf b faults.NotInProfile)
+profile_agrees f b t = as_agrees f (unless_left_out b t) (BreaksHereIf b faults.NotInProfile) (test_agrees b faults.NotInProfile t)
 
-truth_agrees : (t : Tree) → Agrees (truth_value t) (BreaksHereIf (not (is_truth t)) faults.BadOperand)
-truth_agrees (leaf (trees.boolean b)) = none_here b faults.BadOperand
-truth_agrees (leaf (trees.int32 z)) = none_here z faults.BadOperand
-truth_agrees (leaf (trees.int64 z)) = none_here z faults.BadOperand
-truth_agrees t = (refl, refl)
-
-kinds_agree : {A : Type 0} (kinds : Option A) → Agrees (or_bad_operand kinds) (BreaksHereIf (is_none kinds) faults.BadOperand)
-kinds_agree None = (refl, refl)
-kinds_agree (Some x) = none_here x faults.BadOperand
-
--- a value that is not left out
-profile_agrees : (f : Tree → Operator) (b : Bool) (t : Tree)
-    → Agrees (read_as f (if b then refuse faults.NotInProfile else Ok t)) (BreaksHereIf b faults.NotInProfile)
-profile_agrees f b t =
-    as_agrees f (if b then refuse faults.NotInProfile else Ok t) (BreaksHereIf b faults.NotInProfile) (test_agrees b faults.NotInProfile t)
+kind_agrees : {A : Type 0} (f : A → Operator) (o : Option A) → Agrees (read_as f (or_bad_operand o)) (BreaksHereIf (is_none o) faults.BadOperand)
+kind_agrees f None = (refl, refl)
+kind_agrees f (Some x) = none_here (f x) faults.BadOperand
 
 plain_agrees : (p : PlainOperator) (t : Tree) → Agrees (plain_operator p t) (IsBadPlain p t)
 plain_agrees plain.Equal t = λ r e. e
 plain_agrees plain.NotEqual t = profile_agrees (λ v. negation_of (equals v)) (is_regex t) t
-plain_agrees plain.Greater t = profile_agrees (compares relation.Above) (is_regex t || is_bound t) t
-plain_agrees plain.GreaterOrEqual t = profile_agrees (compares relation.AtLeast) (is_regex t || is_bound t) t
-plain_agrees plain.Less t = profile_agrees (compares relation.Below) (is_regex t || is_bound t) t
-plain_agrees plain.LessOrEqual t = profile_agrees (compares relation.AtMost) (is_regex t || is_bound t) t
-plain_agrees plain.In t = as_agrees is_in (members_of t) (IsBadList t) (list_agrees t)
-plain_agrees plain.NotIn t = as_agrees (λ vs. negation_of (is_in vs)) (members_of t) (IsBadList t) (list_agrees t)
-plain_agrees plain.All t = as_agrees has_all (members_of t) (IsBadList t) (list_agrees t)
-plain_agrees plain.Size t = as_agrees has_size (size_value t) (IsBadPlain plain.Size t) (count_agrees t)
-plain_agrees plain.Exists t = as_agrees exists (truth_value t) (IsBadPlain plain.Exists t) (truth_agrees t)
-plain_agrees plain.Type t = as_agrees has_type (or_bad_operand (operand_kinds t)) (IsBadPlain plain.Type t) (kinds_agree (operand_kinds t))
+plain_agrees (plain.Order relation) t = profile_agrees (compares relation) (is_regex t || is_bound t) t
+plain_agrees plain.In t = list_agrees is_in t
+plain_agrees plain.NotIn t = list_agrees (λ vs. negation_of (is_in vs)) t
+plain_agrees plain.All t = list_agrees has_all t
+plain_agrees plain.Size t = kind_agrees has_size (size_value t)
+plain_agrees plain.Exists t = kind_agrees exists (truth_value t)
+plain_agrees plain.Type t = kind_agrees has_type (operand_kinds t)
 
 -- ---- pairs, by what their names stand for
 
 path_agrees : (path : Result Names PathFault) (os : Result (List Operator) Refusal) (IsBad : Refusals) → Agrees os IsBad
-    → Agrees (with_path (path_names path) os) (λ r. BreaksHereIf (is_err path) faults.Path r ⊎ IsBad r)
+    → Agrees (with_path path os) (λ r. BreaksHereIf (is_err path) faults.Path r ⊎ IsBad r)
 path_agrees (Ok names) (Ok xs) IsBad h = λ r e. elim e [ inl a ↦ none_here names faults.Path r a | inr b ↦ h r b ]
 path_agrees (Ok names) (Err r) IsBad h = inr h
 path_agrees (Err fault) os IsBad h = inl (refl, refl)
@@ -146,21 +113,14 @@ pair_agrees : (w : Word) (name : List ℕ) (fs : Result (List Filter) Refusal) (
     → Agrees fs AreBad → Agrees os IsBad → Agrees (pair_filter w name fs os) (IsBadPair w name AreBad IsBad)
 pair_agrees (words.Logical l) name fs os AreBad IsBad h k = as_agrees (logical_filter l) fs AreBad h
 pair_agrees words.Field name fs os AreBad IsBad h k = path_agrees (path_of name) os IsBad k
-pair_agrees words.LeftOut name fs os AreBad IsBad h k = refl
-pair_agrees (words.Plain p) name fs os AreBad IsBad h k = refl
-pair_agrees words.Not name fs os AreBad IsBad h k = refl
-pair_agrees words.ElemMatch name fs os AreBad IsBad h k = refl
-pair_agrees words.Unknown name fs os AreBad IsBad h k = refl
+pair_agrees w name fs os AreBad IsBad h k = refl
 
 operator_agrees : (w : Word) (t : Tree) (inverse element : Result Operator Refusal) (InNot InElemMatch : Refusals)
     → Agrees inverse InNot → Agrees element InElemMatch → Agrees (operator_of w t inverse element) (IsBadOperator w t InNot InElemMatch)
 operator_agrees (words.Plain p) t inverse element InNot InElemMatch h k = plain_agrees p t
 operator_agrees words.Not t inverse element InNot InElemMatch h k = h
 operator_agrees words.ElemMatch t inverse element InNot InElemMatch h k = k
-operator_agrees words.LeftOut t inverse element InNot InElemMatch h k = refl
-operator_agrees words.Field t inverse element InNot InElemMatch h k = refl
-operator_agrees (words.Logical l) t inverse element InNot InElemMatch h k = refl
-operator_agrees words.Unknown t inverse element InNot InElemMatch h k = refl
+operator_agrees w t inverse element InNot InElemMatch h k = refl
 
 -- ---- documents, by how they begin
 
@@ -219,14 +179,11 @@ mutual
   member_agrees room (code_scope s fs) = refl
 
   value_agrees : (room : ℕ) (t : Tree) → Agrees (path_operators room t) (IsBadValue room t)
-  value_agrees room (leaf s) =
-      let b = is_regex (leaf s) in
-      as_agrees (λ v. equals v ∷ []) (if b then refuse faults.NotInProfile else Ok (leaf s)) (BreaksHereIf b faults.NotInProfile)
-      (test_agrees b faults.NotInProfile (leaf s))
+  value_agrees room (leaf s) = profile_agrees (λ v. equals v ∷ []) (is_regex (leaf s)) (leaf s)
   value_agrees room (doc fs) =
       value_form (first_is_operator fs) (operators_of room fs) (equals (doc fs) ∷ []) (HasBadOperator room fs) (operators_agree room fs)
-  value_agrees room (array ts) = λ r e. e
-  value_agrees room (code_scope s fs) = λ r e. e
+  value_agrees room (array ts) = none_here (equals (array ts) ∷ []) faults.NotInProfile
+  value_agrees room (code_scope s fs) = none_here (equals (code_scope s fs) ∷ []) faults.NotInProfile
 
   operators_agree : (room : ℕ) (fs : Fields) → Agrees (operators_of room fs) (HasBadOperator room fs)
   operators_agree room no_fields = λ r e. e
@@ -275,8 +232,3 @@ none_bad_where_taken d f is = where_taken (filter_of d) (IsBadAt d) f (document_
 
 pub bad_where_refused : (d : Doc) (r : Refusal) → filter_of d ≡ Err r → IsBadAt d r
 bad_where_refused d r is = where_refused (filter_of d) (IsBadAt d) r (document_agrees d) is
-
--- the fault that is told is one that stands
-pub bad_as_told : (d : Doc) (f : FilterFault) → IsStarved f ⊎ (filter_of d ≡ Err (refusal_of f)) → IsStarved f ⊎ IsBadAt d (refusal_of f)
-bad_as_told d f (inl starved) = inl starved
-bad_as_told d f (inr told) = inr (bad_where_refused d (refusal_of f) told)

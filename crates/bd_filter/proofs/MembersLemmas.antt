@@ -1,19 +1,11 @@
 -- The indexes of values in a list, and a binary search of them.
 use Rattle.std.proofs.Common.{◌≡◌, ◌≤◌, ◌<◌, ◌+◌, ℕ, zero, suc, Bool, false, ◌||◌, List, [], ◌∷◌, length, map, get_or, Result, Ok, Err, arith, refl, sym, ap, ◌∙◌, add-one}
-use Rattle.std.specs.Cmp.{IsTotalOrder}
-use Rattle.std.specs.List.{list_any, range_with_len}
+use Rattle.std.specs.{Cmp.IsTotalOrder, List.list_any, List.range_with_len, Ordering.is_eq, Ordering.ordering_reverse, Result.is_ok, declared.cmp.Ordering.Ordering}
 use Rattle.std.specs.List.Sorted.{IsBinarySearchResult, IsPermutation, IsSearchInRange, IsSortedByKey}
-use Rattle.std.specs.Ordering.{is_eq, ordering_reverse}
-use Rattle.std.specs.Result.{is_ok}
-use Rattle.std.specs.declared.cmp.Ordering.{Ordering}
-use Rattle.std.specs.declared.cmp.Ordering.TheVariants.{Less, Equal, Greater}
-use Rattle.std.proofs.Math.Bool.{Bool-set}
-use Rattle.std.proofs.Math.Logic.{∥∥₁_elim}
-use Rattle.std.proofs.lemmas.List.Folds.{list_any_at, list_any_none}
-use Rattle.std.proofs.lemmas.List.Sorted.{list_any-IsPermutation, searchable_from_sorted}
-use Rattle.bd_value.specs.Tree.{Tree}
-use Rattle.bd_value.specs.View.{tree_of}
-use Rattle.bd_value.specs.declared.document.Value.{Value}
+use Rattle.std.specs.{declared.cmp.Ordering.TheVariants.Less, declared.cmp.Ordering.TheVariants.Equal, declared.cmp.Ordering.TheVariants.Greater}
+use Rattle.std.proofs.{Math.Bool.Bool-set, Math.Logic.∥∥₁_elim, lemmas.List.Folds.list_any_at, lemmas.List.Folds.list_any_none, lemmas.List.Sorted.list_any-IsPermutation}
+use Rattle.std.proofs.{lemmas.List.Sorted.searchable_from_sorted}
+use Rattle.bd_value.specs.{Tree.Tree, View.tree_of, declared.document.Value.Value}
 use Rattle.bd_filter.specs.Indexes.{tree_at}
 
 pub any_mapped : {A B : Type 0} (f : B → Bool) (h : A → B) (xs : List A) → list_any f (map h xs) ≡ list_any (λ x. f (h x)) xs

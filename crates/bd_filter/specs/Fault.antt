@@ -1,10 +1,8 @@
 -- Why a document is no filter: which rule a pair or a member of it breaks, and the names from the top down to that.
-use Rattle.std.specs.Prelude.{◌≡◌, ℕ, List, [], ◌∷◌, Result, Ok, Err, map, reverse, string_bytes, codes}
-use Rattle.bd_filter.specs.declared.fault.FilterFault.{FilterFault}
-use Rattle.bd_filter.specs.declared.fault.FilterFaultKind.{FilterFaultKind}
+use Rattle.std.specs.Prelude.{◌≡◌, ℕ, List, [], ◌∷◌, Result, Ok, Err, map, string_bytes, get_or, ◌-◌}
+use Rattle.bd_filter.specs.{declared.fault.FilterFault.FilterFault, declared.fault.FilterFaultKind.FilterFaultKind}
+use Rattle.bd_filter.specs.{declared.fault.Stop.Stop, declared.fault.TheConstants.WORDS}
 use Rattle.bd_filter.specs.declared.fault.FilterFaultKind.TheVariants as kinds
-use Rattle.bd_filter.specs.declared.fault.Misfit.{Misfit}
-use Rattle.bd_filter.specs.declared.fault.Stop.{Stop}
 use Rattle.bd_filter.specs.declared.fault.Stop.TheVariants as stops
 
 pub record Refusal : Type 0 where
@@ -18,20 +16,6 @@ refuse kind = Err (record { kind = kind; place = [] })
 abbrev pub deeper : List ℕ → Refusal → Refusal
 deeper name r = record { kind = r.kind; place = name ∷ r.place }
 
-abbrev pub under : {A : Type 0} → List ℕ → Result A Refusal → Result A Refusal
-under name (Ok x) = Ok x
-under name (Err r) = Err (deeper name r)
-
--- what is wrong, in words
-abbrev pub filter_fault_words : FilterFaultKind → List ℕ
-filter_fault_words kinds.UnknownOperator = codes "unknown operator"
-filter_fault_words kinds.NotInProfile = codes "not in the profile"
-filter_fault_words kinds.BadOperand = codes "bad operand"
-filter_fault_words kinds.MixedOperators = codes "operators and fields mixed"
-filter_fault_words kinds.Path = codes "bad path"
-filter_fault_words kinds.TooDeep = codes "too deep"
-filter_fault_words kinds.NoMemory = codes "no memory"
-
 -- the number by which a reply tells it
 abbrev pub filter_fault_number : FilterFaultKind → ℕ
 filter_fault_number kinds.UnknownOperator = 1
@@ -42,24 +26,9 @@ filter_fault_number kinds.Path = 5
 filter_fault_number kinds.TooDeep = 6
 filter_fault_number kinds.NoMemory = 7
 
--- The code keeps the names from the pair or member up.
-abbrev pub misfit_refusal : Misfit → Refusal
-misfit_refusal m = record { kind = m.kind; place = reverse (map string_bytes m.place.items) }
-
--- which refusal reading stopped at, unless memory ran out
-abbrev pub TellsMisfit : Stop → Refusal → Type 0
-TellsMisfit stops.NoMemory r = Unit {0}
-TellsMisfit (stops.Misfit m) r = r ≡ misfit_refusal m
-
--- reading stopped at the refusal that a part of a filter is, unless memory ran out
-abbrev pub StopsAt : {B : Type 0} → Stop → Result B Refusal → Type 0
-StopsAt stops.NoMemory part = Unit {0}
-StopsAt (stops.Misfit m) part = part ≡ Err (misfit_refusal m)
-
--- a part of a filter is what was read, or reading stopped at its refusal
-abbrev pub ReadsPart : {A B : Type 0} → (A → B) → Result A Stop → Result B Refusal → Type 0
-ReadsPart view (Ok x) part = part ≡ Ok (view x)
-ReadsPart view (Err stop) part = StopsAt stop part
+-- what is wrong, in words, which stand in the code by number
+unfoldable pub filter_fault_words : FilterFaultKind → List ℕ
+filter_fault_words kind = get_or (map (λ text. text.now) WORDS) (filter_fault_number kind - 1) []
 
 abbrev pub refusal_of : FilterFault → Refusal
 refusal_of f = record { kind = f.kind; place = map string_bytes f.place.items }
@@ -68,6 +37,17 @@ refusal_of f = record { kind = f.kind; place = map string_bytes f.place.items }
 abbrev pub IsStarved : FilterFault → Type 0
 IsStarved f = (f.kind ≡ kinds.NoMemory) × (f.place.items ≡ [])
 
-abbrev pub IsAnswerTo : Stop → FilterFault → Type 0
-IsAnswerTo stops.NoMemory f = IsStarved f
-IsAnswerTo (stops.Misfit m) f = misfit_refusal m ≡ refusal_of f
+-- which refusal reading stopped at, unless memory ran out
+abbrev pub TellsMisfit : Stop → Refusal → Type 0
+TellsMisfit stops.NoMemory r = Unit {0}
+TellsMisfit (stops.Fault f) r = r ≡ refusal_of f
+
+-- reading stopped at the refusal that a part of a filter is, unless memory ran out
+abbrev pub StopsAt : {B : Type 0} → Stop → Result B Refusal → Type 0
+StopsAt stops.NoMemory part = Unit {0}
+StopsAt (stops.Fault f) part = part ≡ Err (refusal_of f)
+
+-- a part of a filter is what was read, or reading stopped at its refusal
+abbrev pub ReadsPart : {A B : Type 0} → (A → B) → Result A Stop → Result B Refusal → Type 0
+ReadsPart view (Ok x) part = part ≡ Ok (view x)
+ReadsPart view (Err stop) part = StopsAt stop part

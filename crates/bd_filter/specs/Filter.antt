@@ -1,9 +1,11 @@
--- Filters (MongoDB manual, "Query and Projection Operators").
-use Rattle.std.specs.Prelude.{ℕ, Bool, List, [], ◌∷◌}
-use Rattle.bd_value.specs.Tree.{Tree}
-use Rattle.bd_value.specs.declared.kind.Kind.{Kind}
-use Rattle.bd_path.specs.Names.{Names}
-use Rattle.bd_filter.specs.declared.relation.Relation.{Relation}
+-- Filters (MongoDB manual, "Query and Projection Operators"), and the filter that one in memory stands for.
+use Rattle.std.specs.Prelude.{ℕ, Bool, List, [], ◌∷◌, map}
+use Rattle.bd_value.specs.{Tree.Tree, View.tree_of, declared.document.Value.Value, declared.node.Kind.Kind}
+use Rattle.bd_path.specs.{Reach.Names, PathNames.names_of}
+use Rattle.bd_filter.specs.{declared.filter.Filter.Filter as FilterInMemory, declared.filter.Filter.TheFolds.fold-Filter, declared.filter.Filter.TheFolds.fold-Operator}
+use Rattle.bd_filter.specs.{declared.filter.Filter.TheOpen.Filter-F, declared.filter.Filter.TheOpen.Operator-F, declared.filter.Members.Members}
+use Rattle.bd_filter.specs.{declared.filter.Operator.Operator as OperatorInMemory, declared.operand.Relation.Relation}
+use Rattle.bd_filter.specs.declared.operand.Relation.TheVariants as relation
 
 -- A list inside a filter has to be a type of its own: `Filters` and `Operators` are lists of them.
 mutual
@@ -47,3 +49,42 @@ operators_from (o ∷ os) = operator o (operators_from os)
 -- what an operator is not
 abbrev pub negation_of : Operator → Operator
 negation_of o = negates (operator o no_operators)
+
+-- ---- in memory
+
+-- the members of `$in` and `$nin`, in the order of the query, and what they stand for
+abbrev pub values_in : Members → List Value
+values_in members = members.values.items
+
+abbrev pub trees_in : Members → List Tree
+trees_in members = map tree_of (values_in members)
+
+-- one level of a filter and of an operator, with each part inside already seen so
+abbrev pub filter_step : Filter-F Filter Operator → Filter
+filter_step (Filter-F.And fs) = all_of (filters_from fs.items)
+filter_step (Filter-F.Or fs) = some_of (filters_from fs.items)
+filter_step (Filter-F.Nor fs) = none_of (filters_from fs.items)
+filter_step (Filter-F.Field path os) = at_path (names_of path) (operators_from os.items)
+
+abbrev pub operator_step : Operator-F Filter Operator → Operator
+operator_step (Operator-F.Equal v) = equals (tree_of v)
+operator_step (Operator-F.NotEqual v) = negation_of (equals (tree_of v))
+operator_step (Operator-F.Greater v) = compares relation.Above (tree_of v)
+operator_step (Operator-F.GreaterOrEqual v) = compares relation.AtLeast (tree_of v)
+operator_step (Operator-F.Less v) = compares relation.Below (tree_of v)
+operator_step (Operator-F.LessOrEqual v) = compares relation.AtMost (tree_of v)
+operator_step (Operator-F.In members) = is_in (trees_in members)
+operator_step (Operator-F.NotIn members) = negation_of (is_in (trees_in members))
+operator_step (Operator-F.All vs) = has_all (map tree_of vs.items)
+operator_step (Operator-F.Size n) = has_size n
+operator_step (Operator-F.Exists b) = exists b
+operator_step (Operator-F.Type kinds) = has_type kinds.items
+operator_step (Operator-F.Not os) = negates (operators_from os.items)
+operator_step (Operator-F.ElemMatch os) = has_element (operators_from os.items)
+operator_step (Operator-F.ElemMatchDocument fs) = has_document (filters_from fs.items)
+
+abbrev pub filter_tree : FilterInMemory → Filter
+filter_tree = fold-Filter Filter Operator filter_step operator_step
+
+abbrev pub operator_tree : OperatorInMemory → Operator
+operator_tree = fold-Operator Filter Operator filter_step operator_step

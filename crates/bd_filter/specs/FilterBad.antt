@@ -1,21 +1,17 @@
 -- Which pairs and members of a document break a rule of filters (MongoDB manual, "Query and Projection Operators"), which
 -- rule each breaks, and where it stands. Nothing is read in turn: each is bad or not, whatever stands before it.
-use Rattle.std.specs.Prelude.{◌≡◌, ◌⊎◌, ℕ, zero, ◌+◌, ◌-◌, pos, Bool, true, false, not, ◌||◌, List, [], decimal}
-use Rattle.std.specs.Prelude.{IsTrue, IsFalse, is_err, is_none}
+use Rattle.std.specs.Prelude.{◌≡◌, ◌⊎◌, ℕ, zero, ◌+◌, ◌-◌, Bool, not, ◌||◌, List, [], Ok, Err, decimal, IsTrue, IsFalse}
+use Rattle.std.specs.Prelude.{is_err, is_none, if◌then◌else◌}
 use Rattle.bd_value.specs.Limits.{most_filter_levels}
-use Rattle.bd_value.specs.Tree as trees
-use Rattle.bd_value.specs.Tree.{Tree, leaf, doc, array, code_scope, Items, no_items, item}
-use Rattle.bd_value.specs.Tree.{Fields, no_fields, field, Doc, fields_of}
+use Rattle.bd_value.specs.Tree.{Tree, doc, array, Items, no_items, item, Fields, no_fields, field, Doc, fields_of}
 use Rattle.bd_path.specs.Path.{path_of}
-use Rattle.bd_filter.specs.Fault.{Refusal, deeper}
-use Rattle.bd_filter.specs.FilterOf.{first_is_operator, has_operators, has_value_form, is_bound, is_regex, operand_kinds}
-use Rattle.bd_filter.specs.Word.{word_of}
-use Rattle.bd_filter.specs.declared.fault.FilterFaultKind.{FilterFaultKind}
+use Rattle.bd_filter.specs.{Fault.Refusal, Fault.deeper, Filter.Filter, Word.word_of, FilterOf.operand_kinds}
+use Rattle.bd_filter.specs.{FilterOf.size_value, FilterOf.truth_value, declared.fault.FilterFaultKind.FilterFaultKind}
+use Rattle.bd_filter.specs.{declared.filter_of.PlainOperator.PlainOperator, declared.filter_of.Word.Word}
+use Rattle.bd_filter.specs.FilterOf.{filter_of, first_is_operator, has_operators, has_value_form, is_bound, is_regex}
 use Rattle.bd_filter.specs.declared.fault.FilterFaultKind.TheVariants as faults
-use Rattle.bd_filter.specs.declared.word.PlainOperator.{PlainOperator}
-use Rattle.bd_filter.specs.declared.word.PlainOperator.TheVariants as plain
-use Rattle.bd_filter.specs.declared.word.Word.{Word}
-use Rattle.bd_filter.specs.declared.word.Word.TheVariants as words
+use Rattle.bd_filter.specs.declared.filter_of.PlainOperator.TheVariants as plain
+use Rattle.bd_filter.specs.declared.filter_of.Word.TheVariants as words
 
 -- ---- where a rule is broken
 
@@ -37,45 +33,26 @@ BreaksInside room IsBad r = IsBad r
 
 -- ---- operands that are values
 
--- a member of the array of `$in`, `$nin` and `$all`
-abbrev pub IsBadElement : Tree → Refusal → Type 0
-IsBadElement t r = BreaksHereIf (is_regex t || has_operators t) faults.NotInProfile r
-
--- some member, from this position on
+-- some member of the array of `$in`, `$nin` and `$all`, from this position on
 abbrev pub HasBadElement : ℕ → Items → Refusal → Type 0
 HasBadElement i no_items r = ⊥
-HasBadElement i (item t ts) r = BreaksUnder (decimal i) (IsBadElement t) r ⊎ HasBadElement (i + 1) ts r
+HasBadElement i (item t ts) r =
+    BreaksUnder (decimal i) (BreaksHereIf (is_regex t || has_operators t) faults.NotInProfile) r ⊎ HasBadElement (i + 1) ts r
 
 abbrev pub IsBadList : Tree → Refusal → Type 0
 IsBadList (array ts) r = HasBadElement 0 ts r
 IsBadList t r = BreaksHere faults.BadOperand r
 
--- `$size` takes a whole number, not below zero
-abbrev pub is_count : Tree → Bool
-is_count (leaf (trees.int32 (pos n))) = true
-is_count (leaf (trees.int64 (pos n))) = true
-is_count t = false
-
--- `$exists` takes a truth value, or a whole number for one
-abbrev pub is_truth : Tree → Bool
-is_truth (leaf (trees.boolean b)) = true
-is_truth (leaf (trees.int32 z)) = true
-is_truth (leaf (trees.int64 z)) = true
-is_truth t = false
-
 -- `$eq` takes any value; no other takes a regular expression, and none that orders takes the bounds of the order
 abbrev pub IsBadPlain : PlainOperator → Tree → Refusal → Type 0
 IsBadPlain plain.Equal t r = ⊥
 IsBadPlain plain.NotEqual t r = BreaksHereIf (is_regex t) faults.NotInProfile r
-IsBadPlain plain.Greater t r = BreaksHereIf (is_regex t || is_bound t) faults.NotInProfile r
-IsBadPlain plain.GreaterOrEqual t r = BreaksHereIf (is_regex t || is_bound t) faults.NotInProfile r
-IsBadPlain plain.Less t r = BreaksHereIf (is_regex t || is_bound t) faults.NotInProfile r
-IsBadPlain plain.LessOrEqual t r = BreaksHereIf (is_regex t || is_bound t) faults.NotInProfile r
+IsBadPlain (plain.Order relation) t r = BreaksHereIf (is_regex t || is_bound t) faults.NotInProfile r
 IsBadPlain plain.In t r = IsBadList t r
 IsBadPlain plain.NotIn t r = IsBadList t r
 IsBadPlain plain.All t r = IsBadList t r
-IsBadPlain plain.Size t r = BreaksHereIf (not (is_count t)) faults.BadOperand r
-IsBadPlain plain.Exists t r = BreaksHereIf (not (is_truth t)) faults.BadOperand r
+IsBadPlain plain.Size t r = BreaksHereIf (is_none (size_value t)) faults.BadOperand r
+IsBadPlain plain.Exists t r = BreaksHereIf (is_none (truth_value t)) faults.BadOperand r
 IsBadPlain plain.Type t r = BreaksHereIf (is_none (operand_kinds t)) faults.BadOperand r
 
 -- ---- filters
@@ -86,10 +63,7 @@ abbrev pub IsBadPair : Word → List ℕ → (Refusal → Type 0) → (Refusal �
 IsBadPair (words.Logical l) name AreBad IsBad r = AreBad r
 IsBadPair words.Field name AreBad IsBad r = BreaksHereIf (is_err (path_of name)) faults.Path r ⊎ IsBad r
 IsBadPair words.LeftOut name AreBad IsBad r = BreaksHere faults.NotInProfile r
-IsBadPair (words.Plain p) name AreBad IsBad r = BreaksHere faults.UnknownOperator r
-IsBadPair words.Not name AreBad IsBad r = BreaksHere faults.UnknownOperator r
-IsBadPair words.ElemMatch name AreBad IsBad r = BreaksHere faults.UnknownOperator r
-IsBadPair words.Unknown name AreBad IsBad r = BreaksHere faults.UnknownOperator r
+IsBadPair w name AreBad IsBad r = BreaksHere faults.UnknownOperator r
 
 -- a pair among operators, by what its name stands for: `$not` and `$elemMatch` by their bodies
 abbrev pub IsBadOperator : Word → Tree → (Refusal → Type 0) → (Refusal → Type 0) → Refusal → Type 0
@@ -98,8 +72,7 @@ IsBadOperator words.Not t InNot InElemMatch r = InNot r
 IsBadOperator words.ElemMatch t InNot InElemMatch r = InElemMatch r
 IsBadOperator words.LeftOut t InNot InElemMatch r = BreaksHere faults.NotInProfile r
 IsBadOperator words.Field t InNot InElemMatch r = BreaksHere faults.MixedOperators r
-IsBadOperator (words.Logical l) t InNot InElemMatch r = BreaksHere faults.UnknownOperator r
-IsBadOperator words.Unknown t InNot InElemMatch r = BreaksHere faults.UnknownOperator r
+IsBadOperator w t InNot InElemMatch r = BreaksHere faults.UnknownOperator r
 
 abbrev mutual
   -- some pair of a document; so many levels more may stand inside
@@ -110,55 +83,48 @@ abbrev mutual
 
   -- `$and`, `$or` and `$nor` take an array, and one that is not empty
   pub AreBadFilters : ℕ → Tree → Refusal → Type 0
-  AreBadFilters room (array no_items) r = BreaksHere faults.BadOperand r
   AreBadFilters room (array (item t ts)) r = HasBadMember room 0 (item t ts) r
-  AreBadFilters room (leaf s) r = BreaksHere faults.BadOperand r
-  AreBadFilters room (doc fs) r = BreaksHere faults.BadOperand r
-  AreBadFilters room (code_scope s fs) r = BreaksHere faults.BadOperand r
+  AreBadFilters room t r = BreaksHere faults.BadOperand r
 
-  -- some member of it, from this position on
+  -- some member of it, from this position on: each is a document, which is a level more
   pub HasBadMember : ℕ → ℕ → Items → Refusal → Type 0
   HasBadMember room i no_items r = ⊥
   HasBadMember room i (item t ts) r = BreaksUnder (decimal i) (IsBadMember room t) r ⊎ HasBadMember room (i + 1) ts r
 
-  -- each member is a document, which is a level more
   pub IsBadMember : ℕ → Tree → Refusal → Type 0
   IsBadMember room (doc fs) r = BreaksInside room (HasBadPair (room - 1) fs) r
-  IsBadMember room (leaf s) r = BreaksHere faults.BadOperand r
-  IsBadMember room (array ts) r = BreaksHere faults.BadOperand r
-  IsBadMember room (code_scope s fs) r = BreaksHere faults.BadOperand r
+  IsBadMember room t r = BreaksHere faults.BadOperand r
 
   -- the value of a path: operators, or a value that is to be equalled, which is no regular expression
   pub IsBadValue : ℕ → Tree → Refusal → Type 0
-  IsBadValue room (leaf s) r = BreaksHereIf (is_regex (leaf s)) faults.NotInProfile r
-  IsBadValue room (array ts) r = ⊥
-  IsBadValue room (code_scope s fs) r = ⊥
   IsBadValue room (doc fs) r = IsTrue (first_is_operator fs) × HasBadOperator room fs r
+  IsBadValue room t r = BreaksHereIf (is_regex t) faults.NotInProfile r
 
   pub HasBadOperator : ℕ → Fields → Refusal → Type 0
   HasBadOperator room no_fields r = ⊥
   HasBadOperator room (field n t fs) r =
       BreaksUnder n (IsBadOperator (word_of n) t (IsBadNot room t) (IsBadElemMatch room t)) r ⊎ HasBadOperator room fs r
 
-  -- `$not` takes operators, which are a level more; the manual has a regular expression there too, which is left out
+  -- `$not` takes operators, which are a level more, and no regular expression, which is left out
   pub IsBadNot : ℕ → Tree → Refusal → Type 0
-  IsBadNot room (doc fs) r =
-      BreaksHereIf (not (first_is_operator fs)) faults.BadOperand r
+  IsBadNot room (doc fs) r = BreaksHereIf (not (first_is_operator fs)) faults.BadOperand r
       ⊎ (IsTrue (first_is_operator fs) × BreaksInside room (HasBadOperator (room - 1) fs) r)
-  IsBadNot room (leaf (trees.regex p o)) r = BreaksHere faults.NotInProfile r
-  IsBadNot room (leaf s) r = BreaksHere faults.BadOperand r
-  IsBadNot room (array ts) r = BreaksHere faults.BadOperand r
-  IsBadNot room (code_scope s fs) r = BreaksHere faults.BadOperand r
+  IsBadNot room t r = BreaksHere (if is_regex t then faults.NotInProfile else faults.BadOperand) r
 
   -- `$elemMatch` takes a document, which is a level more: operators for an element, or the pairs of a filter
   pub IsBadElemMatch : ℕ → Tree → Refusal → Type 0
-  IsBadElemMatch room (doc fs) r =
-      (IsTrue (has_value_form fs) × BreaksInside room (HasBadOperator (room - 1) fs) r)
+  IsBadElemMatch room (doc fs) r = (IsTrue (has_value_form fs) × BreaksInside room (HasBadOperator (room - 1) fs) r)
       ⊎ (IsFalse (has_value_form fs) × BreaksInside room (HasBadPair (room - 1) fs) r)
-  IsBadElemMatch room (leaf s) r = BreaksHere faults.BadOperand r
-  IsBadElemMatch room (array ts) r = BreaksHere faults.BadOperand r
-  IsBadElemMatch room (code_scope s fs) r = BreaksHere faults.BadOperand r
+  IsBadElemMatch room t r = BreaksHere faults.BadOperand r
 
 -- a pair or a member breaks the rule at the place: a filter has fifty levels at most, and its top is one
 abbrev pub IsBadAt : Doc → Refusal → Type 0
 IsBadAt d r = HasBadPair (most_filter_levels - 1) (fields_of d) r
+
+-- no pair and no member of a filter breaks a rule
+abbrev pub NoneBadWhereTaken : Type 0
+NoneBadWhereTaken = (d : Doc) (f : Filter) → filter_of d ≡ Ok f → (r : Refusal) → ¬ IsBadAt d r
+
+-- what has no filter breaks the rule that it is refused for, and at that place
+abbrev pub BadWhereRefused : Type 0
+BadWhereRefused = (d : Doc) (r : Refusal) → filter_of d ≡ Err r → IsBadAt d r

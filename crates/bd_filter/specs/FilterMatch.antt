@@ -1,21 +1,14 @@
 -- Which documents match a filter (MongoDB manual, "Query and Projection Operators").
-use Rattle.std.specs.Prelude.{ℕ, ◌==◌, Bool, true, false, ◌&&◌, ◌||◌, not, List, [], ◌∷◌, length, map, Some, None, if◌then◌else◌}
-use Rattle.std.specs.List.{list_any, list_all}
-use Rattle.std.specs.declared.cmp.Ordering.{Ordering}
+use Rattle.std.specs.Prelude.{ℕ, ◌==◌, Bool, true, false, ◌&&◌, ◌||◌, not, List, [], ◌∷◌, length, map, Some, None, is_some, unwrap_or, if◌then◌else◌}
+use Rattle.std.specs.{List.list_any, List.list_all, declared.cmp.Ordering.Ordering}
 use Rattle.std.specs.Ordering.{is_eq, is_ge, is_gt, is_le, is_lt}
-use Rattle.bd_value.specs.Kind.{kind_of}
-use Rattle.bd_value.specs.Order.{class_cmp, cmp, equal}
-use Rattle.bd_value.specs.Parts.{elements_in}
+use Rattle.bd_value.specs.{View.kind_of, Order.class_cmp, Order.cmp, Order.equal, Tree.elements_in, Tree.Tree, Tree.leaf, Tree.array, declared.node.Kind.Kind}
 use Rattle.bd_value.specs.Tree as trees
-use Rattle.bd_value.specs.Tree.{Tree, leaf, array}
-use Rattle.bd_value.specs.declared.kind.Kind.{Kind}
 use Rattle.bd_path.specs.Reach.{End, is_document, reach}
-use Rattle.bd_filter.specs.Filter.{Filter, all_of, some_of, none_of, at_path, Filters, no_filters, filter}
-use Rattle.bd_filter.specs.Filter.{Operator, equals, compares, is_in, has_all, has_type, has_size, exists, negates, has_element, has_document}
-use Rattle.bd_filter.specs.Filter.{Operators, no_operators, operator}
-use Rattle.bd_filter.specs.Types.{is_kind}
-use Rattle.bd_filter.specs.declared.relation.Relation.{Relation}
-use Rattle.bd_filter.specs.declared.relation.Relation.TheVariants as relation
+use Rattle.bd_filter.specs.Filter.{Filter, all_of, some_of, none_of, at_path, Filters, no_filters, filter, Operator, equals, compares, is_in, has_all, has_type, has_size}
+use Rattle.bd_filter.specs.Filter.{exists, negates, has_element, has_document, Operators, no_operators, operator}
+use Rattle.bd_filter.specs.{Word.is_kind, declared.operand.Relation.Relation}
+use Rattle.bd_filter.specs.declared.operand.Relation.TheVariants as relation
 
 abbrev pub is_array : Tree → Bool
 is_array (array ts) = true
@@ -23,8 +16,7 @@ is_array _ = false
 
 -- a value; a null for a field that is missing
 abbrev pub value_or_null : End → Tree
-value_or_null None = leaf trees.null
-value_or_null (Some t) = t
+value_or_null end = unwrap_or end (leaf trees.null)
 
 -- an end, and where it is an array each element
 abbrev pub candidates : End → List End
@@ -34,10 +26,6 @@ candidates (Some t) = Some t ∷ map Some (elements_in t)
 -- some end passes, and some candidate does
 abbrev pub any_candidate : (End → Bool) → List End → Bool
 any_candidate test ends = list_any (λ e. list_any test (candidates e)) ends
-
-abbrev pub is_there : End → Bool
-is_there None = false
-is_there (Some t) = true
 
 -- there is a value, and it passes
 abbrev pub is_value : (Tree → Bool) → End → Bool
@@ -92,7 +80,7 @@ abbrev mutual
   holds (has_all vs) ends = is_nonempty vs && list_all (any_equal ends) vs
   holds (has_type kinds) ends = any_candidate (is_value (is_of_type kinds)) ends
   holds (has_size n) ends = list_any (is_value (is_of_size n)) ends
-  holds (exists b) ends = if b then list_any is_there ends else not (list_any is_there ends)
+  holds (exists b) ends = if b then list_any is_some ends else not (list_any is_some ends)
   holds (negates os) ends = not (all_hold os ends)
   holds (has_element os) ends = list_any (is_value (λ t. list_any (all_accept os) (elements_in t))) ends
   holds (has_document fs) ends = list_any (is_value (λ t. list_any (λ x. is_document x && all_match fs x) (elements_in t))) ends

@@ -1,27 +1,20 @@
 -- Which filter a document is (MongoDB manual, "Query and Projection Operators"), and which pair or member of another document
 -- is the first that is no part of one.
-use Rattle.std.specs.Prelude.{ℕ, zero, ◌+◌, ◌-◌, ◌==◌, ℤ, pos, negsuc, Bool, true, false, not, ◌||◌, List, [], ◌∷◌, ◌++◌, Option, Some, None, Result, Ok, Err, if◌then◌else◌, decimal}
-use Rattle.bd_value.specs.Limits.{most_filter_levels}
+use Rattle.std.specs.Prelude.{ℕ, zero, ◌+◌, ◌-◌, ℤ, pos, Bool, true, false, not, ◌||◌, List, [], ◌∷◌, ◌++◌, Option, Some, None, Result, Ok, Err, if◌then◌else◌, decimal}
+use Rattle.std.specs.Ordering.{int_eq}
+use Rattle.bd_value.specs.{Limits.most_filter_levels, declared.node.Kind.Kind}
 use Rattle.bd_value.specs.Tree as trees
-use Rattle.bd_value.specs.Tree.{Scalar, Tree, leaf, doc, array, code_scope, Items, no_items, item, Fields, no_fields, field, Doc, fields_of}
-use Rattle.bd_value.specs.declared.kind.Kind.{Kind}
-use Rattle.bd_path.specs.Names.{Names}
-use Rattle.bd_path.specs.Path.{path_of}
-use Rattle.bd_path.specs.declared.path_fault.PathFault.{PathFault}
-use Rattle.bd_filter.specs.Fault.{Refusal, refuse, under}
-use Rattle.bd_filter.specs.Filter.{Filter, all_of, some_of, none_of, at_path, filters_from}
-use Rattle.bd_filter.specs.Filter.{Operator, equals, compares, is_in, has_all, has_type, has_size, exists, negates, has_element, has_document}
-use Rattle.bd_filter.specs.Filter.{negation_of, operators_from}
-use Rattle.bd_filter.specs.Types.{kinds_named, kinds_numbered}
-use Rattle.bd_filter.specs.Word.{begins_with_dollar, word_of}
+use Rattle.bd_value.specs.Tree.{Scalar, Tree, leaf, doc, array, Items, no_items, item, Fields, no_fields, field, Doc, fields_of}
+use Rattle.bd_path.specs.{Reach.Names, Path.path_of, declared.path.PathFault.PathFault}
+use Rattle.bd_filter.specs.{Fault.Refusal, Fault.deeper, Fault.refuse, declared.filter_of.LogicalOperator.LogicalOperator, declared.filter_of.PlainOperator.PlainOperator}
+use Rattle.bd_filter.specs.{declared.filter_of.Word.Word}
+use Rattle.bd_filter.specs.Filter.{Filter, all_of, some_of, none_of, at_path, filters_from, Operator, equals, compares, is_in, has_all, has_type, has_size, exists}
+use Rattle.bd_filter.specs.Filter.{negates, has_element, has_document, negation_of, operators_from}
+use Rattle.bd_filter.specs.Word.{begins_with_dollar, kinds_named, kinds_numbered, word_of}
 use Rattle.bd_filter.specs.declared.fault.FilterFaultKind.TheVariants as faults
-use Rattle.bd_filter.specs.declared.relation.Relation.TheVariants as relation
-use Rattle.bd_filter.specs.declared.word.LogicalOperator.{LogicalOperator}
-use Rattle.bd_filter.specs.declared.word.LogicalOperator.TheVariants as logical
-use Rattle.bd_filter.specs.declared.word.PlainOperator.{PlainOperator}
-use Rattle.bd_filter.specs.declared.word.PlainOperator.TheVariants as plain
-use Rattle.bd_filter.specs.declared.word.Word.{Word}
-use Rattle.bd_filter.specs.declared.word.Word.TheVariants as words
+use Rattle.bd_filter.specs.declared.filter_of.LogicalOperator.TheVariants as logical
+use Rattle.bd_filter.specs.declared.filter_of.PlainOperator.TheVariants as plain
+use Rattle.bd_filter.specs.declared.filter_of.Word.TheVariants as words
 
 -- ---- parts that are read in turn
 
@@ -29,11 +22,11 @@ abbrev pub read_as : {A B : Type 0} → (A → B) → Result A Refusal → Resul
 read_as f (Ok x) = Ok (f x)
 read_as f (Err r) = Err r
 
--- the first part and those after it; the first refusal counts
-abbrev pub read_first : {A : Type 0} → Result A Refusal → Result (List A) Refusal → Result (List A) Refusal
-read_first (Err r) rest = Err r
-read_first (Ok x) (Err r) = Err r
-read_first (Ok x) (Ok xs) = Ok (x ∷ xs)
+-- the part under a name, or at a position, and those after it; the first refusal counts
+abbrev pub read_at : {A : Type 0} → List ℕ → Result A Refusal → Result (List A) Refusal → Result (List A) Refusal
+read_at name (Err r) rest = Err (deeper name r)
+read_at name (Ok x) (Err r) = Err r
+read_at name (Ok x) (Ok xs) = Ok (x ∷ xs)
 
 -- ---- operands
 
@@ -56,43 +49,32 @@ abbrev pub has_operators : Tree → Bool
 has_operators (doc fs) = first_is_operator fs
 has_operators t = false
 
--- the operand of an operator that takes no regular expression, and of one that takes no bound either
-abbrev pub plain_value : Tree → Result Tree Refusal
-plain_value t = if is_regex t then refuse faults.NotInProfile else Ok t
+-- an operand, unless it is left out
+abbrev pub unless_left_out : Bool → Tree → Result Tree Refusal
+unless_left_out left_out t = if left_out then refuse faults.NotInProfile else Ok t
 
-abbrev pub ordered_value : Tree → Result Tree Refusal
-ordered_value t = if is_regex t || is_bound t then refuse faults.NotInProfile else Ok t
-
--- a member of the array of `$in`, `$nin` and `$all`
-abbrev pub member_value : Tree → Result Tree Refusal
-member_value t = if is_regex t || has_operators t then refuse faults.NotInProfile else Ok t
-
+-- the members of the array of `$in`, `$nin` and `$all`, from this position on
 abbrev pub member_values : ℕ → Items → Result (List Tree) Refusal
 member_values i no_items = Ok []
-member_values i (item t ts) = read_first (under (decimal i) (member_value t)) (member_values (i + 1) ts)
+member_values i (item t ts) =
+    read_at (decimal i) (unless_left_out (is_regex t || has_operators t) t) (member_values (i + 1) ts)
 
 abbrev pub members_of : Tree → Result (List Tree) Refusal
 members_of (array ts) = member_values 0 ts
 members_of t = refuse faults.BadOperand
 
-abbrev pub size_number : ℤ → Result ℕ Refusal
-size_number (pos n) = Ok n
-size_number (negsuc n) = refuse faults.BadOperand
+-- a whole number that is not below zero
+abbrev pub size_value : Tree → Option ℕ
+size_value (leaf (trees.int32 (pos n))) = Some n
+size_value (leaf (trees.int64 (pos n))) = Some n
+size_value t = None
 
-abbrev pub size_value : Tree → Result ℕ Refusal
-size_value (leaf (trees.int32 z)) = size_number z
-size_value (leaf (trees.int64 z)) = size_number z
-size_value t = refuse faults.BadOperand
-
-abbrev pub is_not_zero : ℤ → Bool
-is_not_zero (pos n) = not (n == 0)
-is_not_zero (negsuc n) = true
-
-abbrev pub truth_value : Tree → Result Bool Refusal
-truth_value (leaf (trees.boolean b)) = Ok b
-truth_value (leaf (trees.int32 z)) = Ok (is_not_zero z)
-truth_value (leaf (trees.int64 z)) = Ok (is_not_zero z)
-truth_value t = refuse faults.BadOperand
+-- a truth value, or a whole number for one
+abbrev pub truth_value : Tree → Option Bool
+truth_value (leaf (trees.boolean b)) = Some b
+truth_value (leaf (trees.int32 z)) = Some (not (int_eq z (pos 0)))
+truth_value (leaf (trees.int64 z)) = Some (not (int_eq z (pos 0)))
+truth_value t = None
 
 -- the kinds of one type, by its name or its number
 abbrev pub type_kinds : Tree → Option (List Kind)
@@ -112,28 +94,23 @@ all_kinds (item t ts) = both_kinds (type_kinds t) (all_kinds ts)
 
 -- one type, or some in an array
 abbrev pub operand_kinds : Tree → Option (List Kind)
-operand_kinds (array no_items) = None
 operand_kinds (array (item t ts)) = all_kinds (item t ts)
-operand_kinds (leaf s) = type_kinds (leaf s)
-operand_kinds (doc fs) = None
-operand_kinds (code_scope s fs) = None
+operand_kinds t = type_kinds t
 
 abbrev pub or_bad_operand : {A : Type 0} → Option A → Result A Refusal
 or_bad_operand None = refuse faults.BadOperand
 or_bad_operand (Some x) = Ok x
 
+-- `$eq` takes any value; no other takes a regular expression, and none that orders takes the bounds of the order
 abbrev pub plain_operator : PlainOperator → Tree → Result Operator Refusal
 plain_operator plain.Equal t = Ok (equals t)
-plain_operator plain.NotEqual t = read_as (λ v. negation_of (equals v)) (plain_value t)
-plain_operator plain.Greater t = read_as (compares relation.Above) (ordered_value t)
-plain_operator plain.GreaterOrEqual t = read_as (compares relation.AtLeast) (ordered_value t)
-plain_operator plain.Less t = read_as (compares relation.Below) (ordered_value t)
-plain_operator plain.LessOrEqual t = read_as (compares relation.AtMost) (ordered_value t)
+plain_operator plain.NotEqual t = read_as (λ v. negation_of (equals v)) (unless_left_out (is_regex t) t)
+plain_operator (plain.Order r) t = read_as (compares r) (unless_left_out (is_regex t || is_bound t) t)
 plain_operator plain.In t = read_as is_in (members_of t)
 plain_operator plain.NotIn t = read_as (λ vs. negation_of (is_in vs)) (members_of t)
 plain_operator plain.All t = read_as has_all (members_of t)
-plain_operator plain.Size t = read_as has_size (size_value t)
-plain_operator plain.Exists t = read_as exists (truth_value t)
+plain_operator plain.Size t = read_as has_size (or_bad_operand (size_value t))
+plain_operator plain.Exists t = read_as exists (or_bad_operand (truth_value t))
 plain_operator plain.Type t = read_as has_type (or_bad_operand (operand_kinds t))
 
 -- ---- filters
@@ -148,12 +125,8 @@ abbrev pub inner_part : {A : Type 0} → ℕ → Result A Refusal → Result A R
 inner_part zero part = refuse faults.TooDeep
 inner_part room part = part
 
-abbrev pub path_names : Result Names PathFault → Result Names Refusal
-path_names (Ok names) = Ok names
-path_names (Err fault) = refuse faults.Path
-
-abbrev pub with_path : Result Names Refusal → Result (List Operator) Refusal → Result Filter Refusal
-with_path (Err r) os = Err r
+abbrev pub with_path : Result Names PathFault → Result (List Operator) Refusal → Result Filter Refusal
+with_path (Err fault) os = refuse faults.Path
 with_path (Ok names) os = read_as (λ xs. at_path names (operators_from xs)) os
 
 -- operators for an element, and not a filter
@@ -169,12 +142,9 @@ has_value_form (field n t fs) = is_value_form (word_of n)
 -- a pair, by its name, of its value as filters and as what a path is asked
 abbrev pub pair_filter : Word → List ℕ → Result (List Filter) Refusal → Result (List Operator) Refusal → Result Filter Refusal
 pair_filter (words.Logical l) name filters operators = read_as (logical_filter l) filters
-pair_filter words.Field name filters operators = with_path (path_names (path_of name)) operators
+pair_filter words.Field name filters operators = with_path (path_of name) operators
 pair_filter words.LeftOut name filters operators = refuse faults.NotInProfile
-pair_filter (words.Plain p) name filters operators = refuse faults.UnknownOperator
-pair_filter words.Not name filters operators = refuse faults.UnknownOperator
-pair_filter words.ElemMatch name filters operators = refuse faults.UnknownOperator
-pair_filter words.Unknown name filters operators = refuse faults.UnknownOperator
+pair_filter w name filters operators = refuse faults.UnknownOperator
 
 -- a pair among operators, by its name, of its value, and of that as the body of `$not` and of `$elemMatch`
 abbrev pub operator_of : Word → Tree → Result Operator Refusal → Result Operator Refusal → Result Operator Refusal
@@ -183,59 +153,50 @@ operator_of words.Not t inverse element = inverse
 operator_of words.ElemMatch t inverse element = element
 operator_of words.LeftOut t inverse element = refuse faults.NotInProfile
 operator_of words.Field t inverse element = refuse faults.MixedOperators
-operator_of (words.Logical l) t inverse element = refuse faults.UnknownOperator
-operator_of words.Unknown t inverse element = refuse faults.UnknownOperator
+operator_of w t inverse element = refuse faults.UnknownOperator
 
 abbrev mutual
   -- the pairs of a document; so many levels more may stand inside
   pub filters_of : ℕ → Fields → Result (List Filter) Refusal
   filters_of room no_fields = Ok []
-  filters_of room (field n t fs) = read_first (under n (pair_filter (word_of n) n (operand_filters room t) (path_operators room t))) (filters_of room fs)
+  filters_of room (field n t fs) =
+      read_at n (pair_filter (word_of n) n (operand_filters room t) (path_operators room t)) (filters_of room fs)
 
   -- the filters of `$and`, `$or`, `$nor`: at least one
   pub operand_filters : ℕ → Tree → Result (List Filter) Refusal
-  operand_filters room (array no_items) = refuse faults.BadOperand
   operand_filters room (array (item t ts)) = member_filters room 0 (item t ts)
-  operand_filters room (leaf s) = refuse faults.BadOperand
-  operand_filters room (doc fs) = refuse faults.BadOperand
-  operand_filters room (code_scope s fs) = refuse faults.BadOperand
+  operand_filters room t = refuse faults.BadOperand
 
   pub member_filters : ℕ → ℕ → Items → Result (List Filter) Refusal
   member_filters room i no_items = Ok []
-  member_filters room i (item t ts) = read_first (under (decimal i) (member_filter room t)) (member_filters room (i + 1) ts)
+  member_filters room i (item t ts) = read_at (decimal i) (member_filter room t) (member_filters room (i + 1) ts)
 
   pub member_filter : ℕ → Tree → Result Filter Refusal
   member_filter room (doc fs) = inner_part room (read_as (λ xs. all_of (filters_from xs)) (filters_of (room - 1) fs))
-  member_filter room (leaf s) = refuse faults.BadOperand
-  member_filter room (array ts) = refuse faults.BadOperand
-  member_filter room (code_scope s fs) = refuse faults.BadOperand
+  member_filter room t = refuse faults.BadOperand
 
   -- the value of a path: operators, or a value that is to be equalled
   pub path_operators : ℕ → Tree → Result (List Operator) Refusal
-  path_operators room (leaf s) = read_as (λ v. equals v ∷ []) (plain_value (leaf s))
-  path_operators room (array ts) = Ok (equals (array ts) ∷ [])
-  path_operators room (code_scope s fs) = Ok (equals (code_scope s fs) ∷ [])
   path_operators room (doc fs) = if first_is_operator fs then operators_of room fs else Ok (equals (doc fs) ∷ [])
+  path_operators room t = read_as (λ v. equals v ∷ []) (unless_left_out (is_regex t) t)
 
   pub operators_of : ℕ → Fields → Result (List Operator) Refusal
   operators_of room no_fields = Ok []
-  operators_of room (field n t fs) = read_first (under n (operator_of (word_of n) t (not_operator room t) (element_operator room t))) (operators_of room fs)
+  operators_of room (field n t fs) =
+      read_at n (operator_of (word_of n) t (not_operator room t) (element_operator room t)) (operators_of room fs)
 
+  -- `$not` takes operators; the manual has a regular expression there too, which is left out
   pub not_operator : ℕ → Tree → Result Operator Refusal
   not_operator room (doc fs) =
       if first_is_operator fs then inner_part room (read_as (λ xs. negates (operators_from xs)) (operators_of (room - 1) fs))
       else refuse faults.BadOperand
-  not_operator room (leaf s) = if is_regex (leaf s) then refuse faults.NotInProfile else refuse faults.BadOperand
-  not_operator room (array ts) = refuse faults.BadOperand
-  not_operator room (code_scope s fs) = refuse faults.BadOperand
+  not_operator room t = if is_regex t then refuse faults.NotInProfile else refuse faults.BadOperand
 
   pub element_operator : ℕ → Tree → Result Operator Refusal
   element_operator room (doc fs) =
       if has_value_form fs then inner_part room (read_as (λ xs. has_element (operators_from xs)) (operators_of (room - 1) fs))
       else inner_part room (read_as (λ xs. has_document (filters_from xs)) (filters_of (room - 1) fs))
-  element_operator room (leaf s) = refuse faults.BadOperand
-  element_operator room (array ts) = refuse faults.BadOperand
-  element_operator room (code_scope s fs) = refuse faults.BadOperand
+  element_operator room t = refuse faults.BadOperand
 
 -- a filter has fifty levels at most, and its top is one
 abbrev pub filter_of : Doc → Result Filter Refusal

@@ -1,9 +1,7 @@
 -- The indexes of values in a list.
 use Rattle.std.specs.Prelude.{ℕ, List, slice_index_or}
-use Rattle.bd_value.specs.Tree.{Tree}
-use Rattle.bd_value.specs.View.{tree_of}
-use Rattle.bd_value.specs.declared.document.Value.{Value}
-use Rattle.bd_value.specs.declared.document.Value.TheVariants.{Null}
+use Rattle.bd_value.specs.{Tree.Tree, View.tree_of, declared.document.Value.Value}
+use Rattle.bd_value.specs.{declared.document.Value.TheVariants.Null}
 
 -- the tree of the value at an index, and a null's past the last
 abbrev pub tree_at : List Value → ℕ → Tree

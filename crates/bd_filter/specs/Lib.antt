@@ -3,10 +3,5 @@ pub mod Filter
 pub mod FilterBad
 pub mod FilterMatch
 pub mod FilterOf
-pub mod FilterView
 pub mod Indexes
-pub mod Laws
-pub mod Members
-pub mod Named
-pub mod Types
 pub mod Word

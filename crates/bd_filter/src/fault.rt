@@ -1,10 +1,9 @@
 //! Why a document is no filter, and where.
 
-ghost use Rattle.std.specs.Prelude.{◌≡◌, [], IfOk};
-ghost use Rattle.bd_filter.specs.Fault.{Refusal, IsAnswerTo, TellsMisfit, deeper, filter_fault_number, filter_fault_words};
+ghost use Rattle.std.specs.Prelude.{◌≡◌, []};
+ghost use Rattle.bd_filter.specs.Fault.{Refusal, TellsMisfit, deeper, filter_fault_number, filter_fault_words};
 ghost use Rattle.bd_filter.specs.declared.fault.Stop.TheVariants.{NoMemory};
 
-use bd_value::NoMemory;
 use std::alloc::{AllocError, AllocFailed, Global};
 use thiserror::Error;
 
@@ -13,50 +12,46 @@ use thiserror::Error;
 #[error("{}", self.words())]
 pub enum FilterFaultKind {
     /// A name with a dollar sign that is no operator, or an operator that may not stand there.
-    UnknownOperator,
+    UnknownOperator = 1,
     /// An operator of the manual that is left out, or an operand that is.
-    NotInProfile,
+    NotInProfile = 2,
     /// An operand of another kind than the operator takes.
-    BadOperand,
+    BadOperand = 3,
     /// A name without a dollar sign among operators.
-    MixedOperators,
+    MixedOperators = 4,
     /// A name that is no path.
-    Path,
+    Path = 5,
     /// A filter at level 51.
-    TooDeep,
+    TooDeep = 6,
     /// No memory was given.
-    NoMemory,
+    NoMemory = 7,
 }
+
+/// What is wrong, in words: by number, from 1 on.
+const WORDS: [&str; 7] = [
+    "unknown operator",
+    "not in the profile",
+    "bad operand",
+    "operators and fields mixed",
+    "bad path",
+    "too deep",
+    "no memory",
+];
 
 impl FilterFaultKind {
     /// What is wrong, in words.
+    #[tactic(auto, unfolding(crate::specs::Fault::filter_fault_words))]
     pub fn words(self) -> &'static str
         ensures { result.now ≡ filter_fault_words self }
     {
-        match self {
-            FilterFaultKind::UnknownOperator => "unknown operator",
-            FilterFaultKind::NotInProfile => "not in the profile",
-            FilterFaultKind::BadOperand => "bad operand",
-            FilterFaultKind::MixedOperators => "operators and fields mixed",
-            FilterFaultKind::Path => "bad path",
-            FilterFaultKind::TooDeep => "too deep",
-            FilterFaultKind::NoMemory => "no memory",
-        }
+        WORDS[self as usize - 1]
     }
 
     /// The number by which a reply tells it, 1 to 6; 7 for out of memory.
     pub fn number(self) -> u32
         ensures { result ≡ filter_fault_number self }
     {
-        match self {
-            FilterFaultKind::UnknownOperator => 1,
-            FilterFaultKind::NotInProfile => 2,
-            FilterFaultKind::BadOperand => 3,
-            FilterFaultKind::MixedOperators => 4,
-            FilterFaultKind::Path => 5,
-            FilterFaultKind::TooDeep => 6,
-            FilterFaultKind::NoMemory => 7,
-        }
+        self as u32
     }
 }
 
@@ -73,29 +68,20 @@ pub struct FilterFault {
     pub place: Vec<String>,
 }
 
-/// The same, as it is seen from the pair or member outwards.
-#[derive(Drop)]
-pub struct Misfit {
-    pub kind: FilterFaultKind,
-    /// From the pair or member up.
-    pub place: Vec<String>,
-}
-
 /// Why reading a filter stopped.
 #[derive(Drop)]
 pub enum Stop {
     NoMemory,
-    Misfit(Misfit),
+    /// Its place begins at the part that was read.
+    Fault(FilterFault),
 }
 
-/// A fault with no place yet.
+/// A fault of the part itself.
 pub(crate) fn stop_at(alloc: Global, kind: FilterFaultKind) -> Stop
     ensures { TellsMisfit result (record { kind = kind; place = [] }) }
 {
-    Stop::Misfit(Misfit {
-        kind,
-        place: Vec::new(alloc),
-    })
+    let place = Vec::new(alloc);
+    Stop::Fault(FilterFault { kind, place })
 }
 
 /// The stop as it is seen from one name up.
@@ -103,35 +89,15 @@ pub(crate) fn under(alloc: Global, name: &str, stop: Stop) -> Stop
     ensures tells { (r : Refusal) → TellsMisfit stop r → TellsMisfit result (deeper name.now r) }
     ensures starved { stop ≡ NoMemory → result ≡ NoMemory }
 {
-    match stop {
-        Stop::NoMemory => Stop::NoMemory,
-        Stop::Misfit(misfit) => {
-            let mut misfit = misfit;
-            match String::from_str(alloc, name) {
-                Err(_) => Stop::NoMemory,
-                Ok(name) => match misfit.place.push(name) {
-                    Err(_) => Stop::NoMemory,
-                    Ok(()) => Stop::Misfit(misfit),
-                },
-            }
-        }
-    }
-}
-
-/// The fault that reading stopped at, with its place from the top down.
-pub(crate) fn fault_of(alloc: Global, stop: Stop) -> FilterFault
-    ensures { IsAnswerTo stop result }
-{
-    match stop {
-        Stop::NoMemory => FilterFault {
-            kind: FilterFaultKind::NoMemory,
-            place: Vec::new(alloc),
-        },
-        Stop::Misfit(misfit) => {
-            let Misfit { kind, mut place } = misfit;
-            place.reverse();
-            FilterFault { kind, place }
-        }
+    let Stop::Fault(mut fault) = stop else {
+        return Stop::NoMemory;
+    };
+    let Ok(name) = String::from_str(alloc, name) else {
+        return Stop::NoMemory;
+    };
+    match fault.place.insert(0, name) {
+        Ok(()) => Stop::Fault(fault),
+        Err(_) => Stop::NoMemory,
     }
 }
 

@@ -1,23 +1,19 @@
 //! Documents read as filters.
 
-ghost use Rattle.std.specs.Prelude.{◌≡◌, ◌⊎◌, map, IfOk, IfErr, Ok, Err, string_bytes};
+ghost use Rattle.std.specs.Prelude.{◌≡◌, ◌⊎◌, map, IfOk, IfErr, Ok, Err};
+ghost use Rattle.std.specs.List.{list_any};
 ghost use Rattle.bd_value.specs.View.{pairs};
-ghost use Rattle.bd_value.specs.Tree.{fields_of, items_of};
-ghost use Rattle.bd_value.specs.Parts.{values_of};
-ghost use Rattle.bd_path.specs.Path.{path_of};
-ghost use Rattle.bd_path.specs.PathNames.{names_of};
+ghost use Rattle.bd_value.specs.Tree.{fields_of, items_of, values_of};
 ghost use Rattle.bd_filter.specs.Fault.{IsStarved, ReadsPart, refusal_of};
-ghost use Rattle.bd_filter.specs.FilterBad.{IsBadAt};
-ghost use Rattle.bd_filter.specs.FilterOf.{filter_of, filters_of, has_value_form, member_filter, member_filters, not_operator};
-ghost use Rattle.bd_filter.specs.FilterOf.{element_operator, operand_filters, operator_of, operators_of, pair_filter, path_names, path_operators};
-ghost use Rattle.bd_filter.specs.FilterView.{filter_tree, operator_tree};
-ghost use Rattle.bd_filter.specs.Word.{word_of};
+ghost use Rattle.bd_filter.specs.Filter.{filter_tree, operator_tree};
+ghost use Rattle.bd_filter.specs.FilterBad.{BadWhereRefused, IsBadAt, NoneBadWhereTaken};
+ghost use Rattle.bd_filter.specs.FilterOf.{element_operator, filter_of, filters_of, has_value_form, member_filter, member_filters, not_operator};
+ghost use Rattle.bd_filter.specs.FilterOf.{operand_filters, operator_of, operators_of, pair_filter, path_operators};
+ghost use Rattle.bd_filter.specs.Word.{begins_with_dollar, is_left_out, known_operator, word_of};
 
-use crate::fault::{FilterFault, FilterFaultKind, Stop, fault_of, stop_at, under};
+use crate::fault::{FilterFault, FilterFaultKind, Stop, stop_at, under};
 use crate::filter::{Filter, Operator};
-use crate::operand::{has_operators, plain_value, under_index};
-use crate::plain::plain_operator;
-use crate::word::{LogicalOperator, Word};
+use crate::operand::{Relation, has_operators, plain_operator, plain_value, under_index};
 use bd_path::{Path, PathFault};
 use bd_value::{Document, Kind, MOST_FILTER_LEVELS, Reading, Tree};
 use std::alloc::Global;
@@ -38,9 +34,19 @@ pub fn parse(alloc: Global, document: &Document) -> Result<Filter, FilterFault>
 {
     match read_filters::<Tree<'_>>(alloc, MOST_FILTER_LEVELS - 1, Tree::Doc(document).parts()) {
         Ok(filters) => Ok(Filter::And(filters)),
-        Err(stop) => Err(fault_of(alloc, stop)),
+        Err(Stop::Fault(fault)) => Err(fault),
+        Err(Stop::NoMemory) => Err(FilterFault {
+            kind: FilterFaultKind::NoMemory,
+            place: Vec::new(alloc),
+        }),
     }
 }
+
+/// A document has no filter exactly where some pair or member of it breaks a rule.
+pub fn bad_documents_alone_are_refused()
+    ensures taken { NoneBadWhereTaken }
+    ensures refused { BadWhereRefused }
+{}
 
 /// The filters of the pairs of a document.
 #[cycle(parse)]
@@ -72,24 +78,16 @@ fn read_pair<N: Reading>(alloc: Global, room: u32, name: &str, value: N) -> Resu
                 LogicalOperator::Nor => Filter::Nor(filters),
             })
         }
-        Word::Field => {
-            let path = read_path(alloc, name)?;
-            let operators = read_value(alloc, room, value)?;
-            Ok(Filter::Field { path, operators })
-        }
+        Word::Field => match Path::parse(alloc, name) {
+            Ok(path) => {
+                let operators = read_value(alloc, room, value)?;
+                Ok(Filter::Field { path, operators })
+            }
+            Err(PathFault::NoMemory) => Err(Stop::NoMemory),
+            Err(_) => Err(stop_at(alloc, FilterFaultKind::Path)),
+        },
         Word::LeftOut => Err(stop_at(alloc, FilterFaultKind::NotInProfile)),
         _ => Err(stop_at(alloc, FilterFaultKind::UnknownOperator)),
-    }
-}
-
-/// The path that a name is.
-fn read_path(alloc: Global, name: &str) -> Result<Path, Stop>
-    ensures { ReadsPart names_of result (path_names (path_of name.now)) }
-{
-    match Path::parse(alloc, name) {
-        Ok(path) => Ok(path),
-        Err(PathFault::NoMemory) => Err(Stop::NoMemory),
-        Err(_) => Err(stop_at(alloc, FilterFaultKind::Path)),
     }
 }
 
@@ -234,4 +232,131 @@ fn is_value_form<N: Reading>(pairs: &N::Rest) -> bool
         return false;
     };
     !matches!(Word::from_name(name), Word::Logical(_) | Word::Field)
+}
+
+/// What a name stands for in a filter.
+#[derive(Clone, Copy)]
+pub enum Word {
+    /// An operator whose operand is an array of filters.
+    Logical(LogicalOperator),
+    /// An operator whose operand is values.
+    Plain(PlainOperator),
+    /// `$not`
+    Not,
+    /// `$elemMatch`
+    ElemMatch,
+    /// An operator of the manual that is left out.
+    LeftOut,
+    /// Another name that begins with a dollar sign.
+    Unknown,
+    /// A path.
+    Field,
+}
+
+/// MongoDB manual, "Logical Query Operators", without `$not`.
+#[derive(Clone, Copy)]
+pub enum LogicalOperator {
+    And,
+    Or,
+    Nor,
+}
+
+/// The operators whose operand is values.
+#[derive(Clone, Copy)]
+pub enum PlainOperator {
+    Equal,
+    NotEqual,
+    Order(Relation),
+    In,
+    NotIn,
+    All,
+    Size,
+    Exists,
+    Type,
+}
+
+/// The operators that are known.
+const OPERATORS: [(&str, Word); 17] = [
+    ("$and", Word::Logical(LogicalOperator::And)),
+    ("$or", Word::Logical(LogicalOperator::Or)),
+    ("$nor", Word::Logical(LogicalOperator::Nor)),
+    ("$eq", Word::Plain(PlainOperator::Equal)),
+    ("$ne", Word::Plain(PlainOperator::NotEqual)),
+    ("$gt", Word::Plain(PlainOperator::Order(Relation::Above))),
+    ("$gte", Word::Plain(PlainOperator::Order(Relation::AtLeast))),
+    ("$lt", Word::Plain(PlainOperator::Order(Relation::Below))),
+    ("$lte", Word::Plain(PlainOperator::Order(Relation::AtMost))),
+    ("$in", Word::Plain(PlainOperator::In)),
+    ("$nin", Word::Plain(PlainOperator::NotIn)),
+    ("$all", Word::Plain(PlainOperator::All)),
+    ("$size", Word::Plain(PlainOperator::Size)),
+    ("$exists", Word::Plain(PlainOperator::Exists)),
+    ("$type", Word::Plain(PlainOperator::Type)),
+    ("$not", Word::Not),
+    ("$elemMatch", Word::ElemMatch),
+];
+
+impl Word {
+    /// What a name stands for.
+    #[tactic(auto, unfolding(crate::specs::Word::word_of))]
+    pub(crate) fn from_name(name: &str) -> Word
+        ensures { result ≡ word_of name.now }
+    {
+        if !begins_with_dollar(name) {
+            return Word::Field;
+        }
+        match known_operator(name) {
+            Some(word) => word,
+            None if is_left_out(name) => Word::LeftOut,
+            None => Word::Unknown,
+        }
+    }
+}
+
+/// What the name of a known operator stands for.
+fn known_operator(name: &str) -> Option<Word>
+    ensures { result ≡ known_operator name.now }
+{
+    OPERATORS.iter().find(|row| row.0 == name).map(|row| row.1)
+}
+
+/// Whether a name begins as an operator does.
+pub(crate) fn begins_with_dollar(name: &str) -> bool
+    ensures { result ≡ begins_with_dollar name.now }
+{
+    match name.as_bytes().first() {
+        Some(byte) => *byte == b'$',
+        None => false,
+    }
+}
+
+/// The operators of the manual that are left out, and the parts of a DBRef.
+const LEFT_OUT: [&str; 19] = [
+    "$regex",
+    "$options",
+    "$mod",
+    "$expr",
+    "$where",
+    "$text",
+    "$jsonSchema",
+    "$comment",
+    "$geoWithin",
+    "$geoIntersects",
+    "$near",
+    "$nearSphere",
+    "$bitsAllSet",
+    "$bitsAnySet",
+    "$bitsAllClear",
+    "$bitsAnyClear",
+    "$ref",
+    "$id",
+    "$db",
+];
+
+/// Whether it is the name of an operator of the manual that is left out, or a part of a DBRef.
+#[tactic(auto, unfolding(crate::specs::Word::is_left_out))]
+fn is_left_out(name: &str) -> bool
+    ensures { result ≡ is_left_out name.now }
+{
+    LEFT_OUT.contains(&name)
 }

@@ -15,30 +15,20 @@
 //! assert!(rt; is_mixed);
 //! ```
 //!
-//! - `filter`: `Filter` and `Operator`, to match on: `specs/Filter.antt`, and `specs/FilterView.antt` for what they stand for.
-//! - `members`: `Members`, those of `$in` and `$nin`, looked up by binary search: `specs/Members.antt`.
-//! - `relation`: how a value stands to an operand.
+//! - `filter`: `Filter` and `Operator`, to match on, and `Members`, those of `$in` and `$nin`, looked up by binary search:
+//!   `specs/Filter.antt`.
+//! - `filter_of`: `parse`, the filter that a document is, or its first fault: `specs/FilterOf.antt`. A document has no filter
+//!   exactly where a pair or member of it breaks a rule: `specs/FilterBad.antt`.
+//! - `operand`: operators that take values, the types of `$type`, and `Relation`, how a value stands to an operand.
 //! - `fault`: `FilterFault`, which pair or member is no part of a filter: `specs/Fault.antt`.
-//! - `filter_of`: `parse`, the filter that a document is, or its first fault: `specs/FilterOf.antt`.
-//! - `laws`: a document has no filter exactly where a pair or member of it breaks a rule: `specs/FilterBad.antt`.
-//! - `word`, `plain`, `operand`, `types`, `operand_types`: names that stand for something, and operands that are values.
 #![tactic(auto)]
 
 mod fault;
 mod filter;
 mod filter_of;
-mod laws;
-mod members;
 mod operand;
-mod operand_types;
-mod plain;
-mod relation;
-mod types;
-mod word;
 
 pub use fault::{FilterFault, FilterFaultKind};
-pub use filter::{Filter, Operator};
-pub use filter_of::parse;
-pub use laws::bad_documents_alone_are_refused;
-pub use members::Members;
-pub use relation::{Relation, relates};
+pub use filter::{Filter, Members, Operator};
+pub use filter_of::{bad_documents_alone_are_refused, parse};
+pub use operand::{Relation, relates};

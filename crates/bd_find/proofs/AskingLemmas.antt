@@ -1,8 +1,7 @@
 -- What the words of `find` ask for.
 use Rattle.std.proofs.Common.{◌≡◌, Result, Ok, codes, refl, inl, inr}
 use Rattle.bd_value.specs.Tree.{Doc}
-use Rattle.bd_request.specs.Refused.{IsRefusedPart, Reason}
-use Rattle.bd_request.specs.declared.refused.Refused.{Refused}
+use Rattle.bd_request.specs.{Refused.IsRefusedPart, Refused.Reason, declared.results.Refused.Refused}
 use Rattle.bd_command_line.specs.FindWords.{FindWords}
 use Rattle.bd_find.specs.Asking.{AsksInWords, ReadsText, TellsAskingFault, TellsReason, TellsRefused, page_of}
 use Rattle.bd_find.specs.declared.asking.AskingFault.{AskingFault}

@@ -1,31 +1,24 @@
 -- The places that are asked for, and the batch that a session gives of them.
-use Rattle.std.proofs.Common.{◌≡◌, ◌≤◌, ◌<◌, ◌+◌, ◌-◌, ◌*◌, ℕ, Bool, true, false, cond, List, [], ◌∷◌, ◌++◌, length, get_or, take, drop, Option}
-use Rattle.std.proofs.Common.{Some, None, Result, Ok, Err, filter, refl, sym, ap, ◌∙◌, subst, arith, inl, inr, ◌==◌}
-use Rattle.std.specs.Prelude.{MatchOption, nat_lt, option_map}
-use Rattle.std.specs.List.{All, range_with_len}
-use Rattle.std.specs.Str.{bytes_eq}
-use Rattle.std.proofs.lemmas.Bool.{leb-true, le-ltb}
+use Rattle.std.proofs.Common.{◌≡◌, ◌≤◌, ◌<◌, ◌+◌, ◌-◌, ◌*◌, ℕ, Bool, true, false, cond, List, [], ◌∷◌, ◌++◌, length, get_or, take, drop, Option, Some, None, Result, Ok, Err, filter, refl, sym, ap}
+use Rattle.std.proofs.Common.{◌∙◌, subst, arith, inl, inr, ◌==◌}
+use Rattle.std.proofs.{lemmas.Bool.leb-true, lemmas.Bool.le-ltb, lemmas.List.Sums.count_by-le-length, lemmas.List.Sums.length-filter, lemmas.List.FromFn.length-range_with_len}
 use Rattle.std.proofs.lemmas.List.{drop_all, take_all, length-append, length-drop, length-take}
 use Rattle.std.proofs.lemmas.List.Elements.{All-drop, All-filter, All-take}
-use Rattle.std.proofs.lemmas.List.Sums.{count_by-le-length, length-filter}
-use Rattle.std.proofs.lemmas.List.FromFn.{length-range_with_len}
+use Rattle.std.specs.Prelude.{MatchOption, nat_lt, option_map}
+use Rattle.std.specs.{List.All, List.range_with_len, Str.bytes_eq}
 use Rattle.bd_value.specs.Tree.{Doc}
 use Rattle.bd_answer.specs.Answer.{Selection, Mark, answer, at_most, before, cut, insert, insert_all, is_empty, matching, ordered, rest}
-use Rattle.bd_answer.specs.Session.{Call, GivenBatch, OpenCursor, Query, Reply, State, batch_of, changed_by, cursor_of, find_call, foreign_token, gave}
-use Rattle.bd_answer.specs.Session.{next_call, opened, reply, resume_call, token_after, token_place, with_open}
-use Rattle.bd_answer.proofs.AnswerLemmas.{ordered_in}
-use Rattle.bd_answer.proofs.OrderLemmas.{in_at}
+use Rattle.bd_answer.specs.Session.{Call, GivenBatch, OpenCursor, Query, Reply, State, batch_of, changed_by, cursor_of, find_call, foreign_token, gave, next_call, opened, reply, resume_call}
+use Rattle.bd_answer.specs.Session.{token_after, token_place, with_open}
+use Rattle.bd_answer.proofs.{AnswerLemmas.ordered_in, OrderLemmas.in_at}
 use Rattle.bd_check.specs.Dump.{AreJoined}
 use Rattle.bd_check.proofs.DumpLemmas.{document_frame, frame_inside}
 use Rattle.bd_cursor.specs.SessionView.{IsRefusedCall, Steps, mark_of, marked_token, state_of}
 use Rattle.bd_cursor.specs.declared.session.Session.{Session}
-use Rattle.bd_request.specs.Refused.{plain, reason_of}
-use Rattle.bd_request.specs.declared.refused.Refused.{Refused}
-use Rattle.bd_request.specs.declared.refused.Refused.TheVariants as reasons
-use Rattle.bd_request.specs.declared.token.Token.{Token}
-use Rattle.bd_find.specs.Find.{left_over}
+use Rattle.bd_request.specs.{Refused.plain, Refused.reason_of, declared.results.Refused.Refused, declared.token.Token.Token}
+use Rattle.bd_find.specs.Find.{left_over, AwaitsFirst, IsOpenedOn, IsReady, before_first, cursor_for, places_from}
 use Rattle.bd_find.specs.Asking.{fits_batch}
-use Rattle.bd_find.specs.Batch.{AwaitsFirst, IsOpenedOn, IsReady, before_first, cursor_for, places_from}
+use Rattle.bd_request.specs.declared.results.Refused.TheVariants as reasons
 
 -- ---- a dump has no more documents than a batch may have
 

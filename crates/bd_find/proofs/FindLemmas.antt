@@ -1,29 +1,22 @@
 -- The lines of documents that were found, and the ends of a run of `find`.
 use Rattle.std.proofs.Common.{◌≡◌, ◌≤◌, ◌<◌, ◌+◌, ℕ, List, [], ◌∷◌, ◌++◌, length, get_or, take, drop, Some, refl, sym, ap, ◌∙◌, subst, arith, inl, inr, ◌⊎◌, codes}
+use Rattle.std.proofs.{lemmas.List.take-append-drop, lemmas.List.take_more, lemmas.List.Elements.filter_map-append, KnownBytes.Appends-nil}
 use Rattle.std.specs.Prelude.{slice_get}
-use Rattle.std.proofs.lemmas.List.{take-append-drop, take_more}
-use Rattle.std.proofs.lemmas.List.Elements.{filter_map-append}
 use Rattle.bd_value.specs.Tree.{Doc, doc, fields_of}
-use Rattle.bd_text.specs.Text.{text}
-use Rattle.std.proofs.KnownBytes.{Appends-nil}
 use Rattle.bd_value.specs.Limits.{longest_input}
-use Rattle.bd_bson.specs.Collection.{IsUnread}
-use Rattle.bd_check.specs.AnsweredFault.{fault_view}
+use Rattle.bd_text.specs.Text.{text}
+use Rattle.bd_bson.specs.{Collection.IsUnread, Collection.documents_at}
+use Rattle.bd_check.specs.Fault.{fault_view}
+use Rattle.bd_files.specs.{declared.output.Status.Status, declared.output.Status.TheVariants.Failed}
+use Rattle.bd_files.specs.Output.{PrintsOrStarves, TellsMessage, Transcript, error_line, fault_text, lines, shown_refusal}
+use Rattle.bd_request.specs.{declared.results.Refused.Refused, Refused.IsRefusedPart, Refused.reason_of}
+use Rattle.bd_find.specs.Asking.{PageRequest, refused_text}
+use Rattle.bd_find.specs.Find.{places_from, IsShownOfBytes, shown_of_dump}
+use Rattle.bd_sort.specs.Selection.{query_to}
+use Rattle.bd_files.proofs.OutputLemmas.{lines-append}
+use Rattle.bd_device.specs.Devices.{Writer, between}
 use Rattle.bd_check.specs.declared.fault.Fault as declared
 use Rattle.bd_check.specs.declared.fault.FaultKind.TheVariants as kinds
-use Rattle.bd_files.specs.declared.status.Status.{Status}
-use Rattle.bd_files.specs.declared.status.Status.TheVariants.{Failed}
-use Rattle.bd_request.specs.declared.refused.Refused.{Refused}
-use Rattle.bd_request.specs.Refused.{IsRefusedPart, reason_of}
-use Rattle.bd_find.specs.Asking.{PageRequest, refused_text}
-use Rattle.bd_sort.specs.Selection.{query_to}
-use Rattle.bd_find.specs.Batch.{places_from}
-use Rattle.bd_files.proofs.OutputLemmas.FaultLemmas.{lines-append}
-use Rattle.bd_bson.specs.Documents.{documents_at}
-use Rattle.bd_find.specs.Find.{IsShownOfBytes, shown_of_dump}
-use Rattle.bd_files.specs.Outcome.{PrintsOrStarves, TellsMessage}
-use Rattle.bd_files.specs.Transcript.{Transcript, error_line, fault_text, lines, shown_refusal}
-use Rattle.bd_device.specs.Devices.{Writer, between}
 
 -- the lines of the documents at the first places
 abbrev pub lines_to : List Doc → List ℕ → ℕ → List ℕ
@@ -53,12 +46,12 @@ module _ (out_old out_new : Writer) (err_old err_new : Writer) (status : Status)
   -- memory ran out before anything was written
   pub nothing_shown : (shown : Transcript) → TellsMessage (between err_old err_new) (error_line (codes "no memory")) Failed status
       → PrintsOrStarves (between out_old out_old) (between err_old err_new) shown status
-  nothing_shown shown told = inr ((([], shown.out, refl, Appends-nil out_old.held), refl), told)
+  nothing_shown shown told = inr (inr ((([], shown.out, refl, Appends-nil out_old.held), refl), told))
 
   -- the line of a fault alone, or memory ran out
   pub refusal_shown : (words : List ℕ) → TellsMessage (between err_old err_new) (error_line words) Failed status ⊎ TellsMessage (between err_old err_new) (error_line (codes "no memory")) Failed status
       → PrintsOrStarves (between out_old out_old) (between err_old err_new) (shown_refusal words) status
-  refusal_shown words (inl told) = inl (inl ((Appends-nil out_old.held, refl), told))
+  refusal_shown words (inl told) = inl ((Appends-nil out_old.held, refl), told)
   refusal_shown words (inr told) = nothing_shown (shown_refusal words) told
 
   -- what is shown of a dump with a fault

@@ -1,35 +1,27 @@
 -- Parts of a collection that are asked by themselves.
 use Rattle.std.proofs.Common.{◌≡◌, ℕ, suc, List, [], ◌∷◌, ◌++◌, slice_get, Some, None, refl, sym, ap, ap₂, ◌∙◌, subst, inl, inr}
-use Rattle.std.specs.List.{All, flat_map}
-use Rattle.std.specs.Cmp.{IsTotalOrder}
-use Rattle.std.proofs.lemmas.Cmp.{on_total}
-use Rattle.std.proofs.lemmas.List.Elements.{All-head, All-tail}
-use Rattle.std.proofs.lemmas.List.Splits.{slice_split_none}
-use Rattle.std.proofs.lemmas.Option.{get_or_from_slice_get}
+use Rattle.std.proofs.{lemmas.Cmp.on_total, lemmas.List.Elements.All-head, lemmas.List.Elements.All-tail, lemmas.List.Splits.slice_split_none, lemmas.Option.get_or_from_slice_get}
+use Rattle.std.specs.{List.All, List.flat_map, Cmp.IsTotalOrder}
 use Rattle.bd_value.specs.Tree.{Doc, doc, fields_of}
 use Rattle.bd_text.specs.Text.{text}
-use Rattle.bd_extjson.proofs.FitLemmas.{reads_sound}
-use Rattle.bd_extjson.proofs.TextLemmas.{text_line}
+use Rattle.bd_extjson.proofs.{FitLemmas.reads_sound, TextLemmas.text_line}
 use Rattle.bd_check.specs.Dump.{AreJoined}
 use Rattle.bd_raw.specs.Spelling.{IsDocument}
-use Rattle.bd_write.proofs.TreeBytesLemmas.{plainly_spells}
-use Rattle.bd_bson.specs.Documents.{document_at}
-use Rattle.bd_path.specs.Earliest.{SortPath, sort_cmp}
-use Rattle.bd_path.proofs.LawsLemmas.{sort_total}
-use Rattle.bd_filter.specs.Filter.{Filter}
-use Rattle.bd_filter.specs.FilterMatch.{matches}
-use Rattle.bd_answer.specs.PartsLaw.{IsSelectionOf, found_in}
-use Rattle.bd_answer.proofs.PartsLemmas.{parts_give}
-use Rattle.bd_answer.proofs.SelectionLemmas.{answer_gives}
+use Rattle.bd_write.proofs.WritingLemmas.{plainly_spells}
+use Rattle.bd_bson.specs.Collection.{document_at}
+use Rattle.bd_path.specs.Sort.{SortPath, sort_cmp}
+use Rattle.bd_path.proofs.SortLemmas.{sort_total}
+use Rattle.bd_filter.specs.{Filter.Filter, FilterMatch.matches}
+use Rattle.bd_answer.specs.Laws.{IsSelectionOf, found_in}
+use Rattle.bd_answer.proofs.{PartsLemmas.parts_give, PartsLemmas.answer_gives}
 use Rattle.bd_sort.specs.Selection.{selection_for}
 use Rattle.bd_lines.specs.Lines.{is_newline, text_lines}
 use Rattle.bd_lines.proofs.LinesLemmas.{lines_apart}
 use Rattle.bd_pack.specs.Packable.{plain}
 use Rattle.bd_pack.proofs.PlainLemmas.{reads_plain}
-use Rattle.bd_files.specs.Pack.{PacksLines, packed_bytes}
-use Rattle.bd_files.specs.Transcript.{lines}
-use Rattle.bd_files.proofs.OutputLemmas.FaultLemmas.{lines-append}
-use Rattle.bd_find.specs.Parts.{IsReadBack, LinesArePacked, PartsAreJoined, PartsShowTheWhole, document_request, documents_shown, parts_shown}
+use Rattle.bd_files.specs.{Pack.PacksLines, Pack.packed_bytes, Output.lines}
+use Rattle.bd_files.proofs.OutputLemmas.{lines-append}
+use Rattle.bd_find.specs.Find.{IsReadBack, LinesArePacked, PartsAreJoined, PartsShowTheWhole, document_request, documents_shown, parts_shown}
 
 -- ---- the documents shown are those that answer the request
 

@@ -3,16 +3,14 @@ use Rattle.std.proofs.Common.{◌≡◌, ℕ, List, [], Option, Some, None, Resu
 use Rattle.bd_value.specs.Tree.{Doc}
 use Rattle.bd_device.specs.declared.reading.ReadFault.{ReadFault}
 use Rattle.bd_check.specs.Fault.{Fault}
-use Rattle.bd_check.proofs.FirstFaultLemmas.{IsBytes}
-use Rattle.bd_check.proofs.DumpLemmas.{walk_once, walk_on}
-use Rattle.bd_diagnose.specs.JsonFault.{IsPlaced}
-use Rattle.bd_diagnose.specs.declared.json_fault.JsonFault.{JsonFault}
-use Rattle.bd_diagnose.specs.declared.json_fault.JsonFaultKind.TheVariants as kinds
-use Rattle.bd_extjson.specs.TextDocument.{reading}
+use Rattle.bd_check.proofs.{FirstFaultLemmas.IsBytes, DumpLemmas.walk_once, DumpLemmas.walk_on}
+use Rattle.bd_diagnose.specs.{JsonFault.IsPlaced, declared.json_fault.JsonFault.JsonFault}
+use Rattle.bd_extjson.specs.Read.{reading}
 use Rattle.bd_command_line.specs.FindWords.{FindWords}
 use Rattle.bd_find.specs.Asking.{AsksInWords, PageRequest, ReadsText, json_fault_text, page_of}
 use Rattle.bd_find.specs.Find.{IsShownByFind, IsShownOf, IsShownOfBytes, shown_of_walk}
-use Rattle.bd_files.specs.Transcript.{Transcript, shown_refusal}
+use Rattle.bd_files.specs.Output.{Transcript, shown_refusal}
+use Rattle.bd_diagnose.specs.declared.json_fault.JsonFaultKind.TheVariants as kinds
 
 -- ---- what the words ask for
 

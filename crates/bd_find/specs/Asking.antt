@@ -1,25 +1,19 @@
 -- What the words of `find` ask for, or why they ask for nothing.
 use Rattle.std.specs.Prelude.{◌≡◌, ◌≢◌, ◌⊎◌, ℕ, nat_le, Bool, true, List, [], ◌++◌, length, codes, decimal, Option, Some, None, Result, Ok, Err, if◌then◌else◌}
 use Rattle.std.specs.List.{join_with_byte}
-use Rattle.bd_value.specs.Limits.{greatest_count}
-use Rattle.bd_value.specs.Tree.{Doc}
-use Rattle.bd_diagnose.specs.JsonFault.{IsPlaced, json_fault_words}
-use Rattle.bd_diagnose.specs.declared.json_fault.JsonFault.{JsonFault}
-use Rattle.bd_diagnose.specs.declared.json_fault.JsonFaultKind.{JsonFaultKind}
-use Rattle.bd_diagnose.specs.declared.json_fault.JsonFaultKind.TheVariants as kinds
+use Rattle.bd_value.specs.{Limits.greatest_count, Tree.Doc}
+use Rattle.bd_diagnose.specs.{JsonFault.IsPlaced, JsonFault.json_fault_words, declared.json_fault.JsonFault.JsonFault, declared.json_fault.JsonFaultKind.JsonFaultKind}
 use Rattle.bd_text.specs.Text.{quoted}
-use Rattle.bd_extjson.specs.TextDocument.{ReadsAs, reading}
-use Rattle.bd_path.specs.PathFault.{path_fault_words}
-use Rattle.bd_path.specs.declared.path_fault.PathFault.{PathFault}
+use Rattle.bd_extjson.specs.Read.{ReadsAs, reading}
+use Rattle.bd_path.specs.{Path.path_fault_words, declared.path.PathFault.PathFault}
 use Rattle.bd_filter.specs.Fault.{Refusal, filter_fault_words}
+use Rattle.bd_request.specs.{declared.results.Refused.Refused, declared.token.Token.Token}
 use Rattle.bd_request.specs.Refused.{Reason, bad_filter, plain, reason_of, refused_words, then_part, told_as}
 use Rattle.bd_request.specs.Request.{Request, named_index, request_of, request_view, token_part}
-use Rattle.bd_request.specs.declared.refused.Refused.{Refused}
-use Rattle.bd_request.specs.declared.refused.Refused.TheVariants as reasons
-use Rattle.bd_request.specs.declared.token.Token.{Token}
 use Rattle.bd_command_line.specs.FindWords.{FindWords}
-use Rattle.bd_find.specs.declared.asking.Asking.{Asking}
-use Rattle.bd_find.specs.declared.asking.AskingFault.{AskingFault}
+use Rattle.bd_find.specs.{declared.asking.Asking.Asking, declared.asking.AskingFault.AskingFault}
+use Rattle.bd_diagnose.specs.declared.json_fault.JsonFaultKind.TheVariants as kinds
+use Rattle.bd_request.specs.declared.results.Refused.TheVariants as reasons
 use Rattle.bd_find.specs.declared.asking.AskingFault.TheVariants as faults
 
 -- what is asked of a dump, how much of the answer is shown, and after which token it goes on
@@ -41,9 +35,7 @@ json_fault_text name f = name ++ (json_byte_text f.kind f.at ++ (codes ": " ++ j
 
 -- the names down to the pair or member, joined by dots, and which rule it breaks
 abbrev pub refusal_text : Refusal → List ℕ
-refusal_text r =
-    codes "query: place "
-    ++ (quoted (join_with_byte 46 r.place) ++ (codes ": " ++ filter_fault_words r.kind))
+refusal_text r = codes "query: place " ++ (quoted (join_with_byte 46 r.place) ++ (codes ": " ++ filter_fault_words r.kind))
 
 abbrev pub index_fault_text : PathFault → List ℕ
 index_fault_text fault = codes "index: " ++ path_fault_words fault
@@ -57,18 +49,14 @@ refused_text (plain reasons.ForeignToken) = codes "token: " ++ refused_words rea
 refused_text (plain reasons.TokenPlace) = codes "token: " ++ refused_words reasons.TokenPlace
 refused_text (plain refused) = refused_words refused
 
--- ---- what is asked for
-
 -- the document of a query or a sort; without a text it has no pairs. Of a text that is no document, one of its
 -- faults is told
 abbrev pub ReadsText : List ℕ → Option (List ℕ) → Result Doc (List ℕ) → Type 0
 ReadsText name None (Ok d) = d ≡ []
 ReadsText name None (Err message) = ⊥
 ReadsText name (Some text) (Ok d) = ReadsAs text d
-ReadsText name (Some text) (Err message) =
-    (reading text ≡ None)
-    × ((f : JsonFault) × IsPlaced (length text) f × (f.kind ≢ kinds.NoMemory)
-    × (message ≡ json_fault_text name f))
+ReadsText name (Some text) (Err message) = (reading text ≡ None)
+    × ((f : JsonFault) × IsPlaced (length text) f × (f.kind ≢ kinds.NoMemory) × (message ≡ json_fault_text name f))
 
 -- a batch has at most 2,147,483,647 documents
 abbrev pub fits_batch : Option ℕ → Bool
@@ -95,24 +83,17 @@ page_of words query sort =
 
 -- A part gives a value, for which what comes after it counts, or it is refused with a message, and then none of that counts.
 abbrev pub IsRefusedOr : {Given : Type 0} → (List ℕ → Type 0) → (Result Given (List ℕ) → Type 0) → (Given → Type 0) → Type 0
-IsRefusedOr {Given} IsRefused IsPart IsRest =
-    ((message : List ℕ) × IsPart (Err message) × IsRefused message)
+IsRefusedOr {Given} IsRefused IsPart IsRest = ((message : List ℕ) × IsPart (Err message) × IsRefused message)
     ⊎ ((given : Given) × IsPart (Ok given) × IsRest given)
-
-abbrev pub IsRefusedAsking : Result PageRequest (List ℕ) → List ℕ → Type 0
-IsRefusedAsking asked message = asked ≡ Err message
 
 -- what the words ask for, or the message of what is refused first: the text of the query, that of the sort, and then the rest
 abbrev pub AsksInWords : FindWords → Result PageRequest (List ℕ) → Type 0
-AsksInWords words asked =
-    IsRefusedOr (IsRefusedAsking asked) (ReadsText (codes "query") words.query) (λ query.
-    IsRefusedOr (IsRefusedAsking asked) (ReadsText (codes "sort") words.sort) (λ sort.
+AsksInWords words asked = IsRefusedOr (λ message. asked ≡ Err message) (ReadsText (codes "query") words.query) (λ query.
+    IsRefusedOr (λ message. asked ≡ Err message) (ReadsText (codes "sort") words.sort) (λ sort.
     page_of words query sort ≡ asked))
 
 abbrev pub AsksNothing : FindWords → Type 0
 AsksNothing words = (w : PageRequest) → ¬ (AsksInWords words (Ok w))
-
--- ---- as the code has it
 
 abbrev pub page_request_of : Asking → PageRequest
 page_request_of a = record { request = request_view a.request; batch = a.size; token = a.token }

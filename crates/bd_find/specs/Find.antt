@@ -1,24 +1,64 @@
 -- What `find` shows of its words and an input, and what a run of it did.
-use Rattle.std.specs.Prelude.{◌≡◌, ◌⊎◌, ℕ, Bool, List, [], ◌∷◌, ◌++◌, length, drop, codes, decimal, Option, Some, None, Result, Ok, Err, if◌then◌else◌}
-use Rattle.bd_value.specs.Tree.{Doc}
-use Rattle.bd_answer.specs.Answer.{at_most, is_empty}
-use Rattle.bd_answer.specs.Session.{MarkedToken, OpenCursor, token_after}
-use Rattle.bd_bson.specs.Documents.{documents_at}
-use Rattle.bd_device.specs.Devices.{Over, Reader, Writer}
-use Rattle.bd_device.specs.declared.reading.ReadFault.{ReadFault}
-use Rattle.bd_check.specs.Fault.{Fault}
-use Rattle.bd_check.specs.Dump.{IsWalk}
+use Rattle.std.specs.Prelude.{◌≡◌, ◌≤◌, ◌<◌, ℕ, nat_lt, true, List, [], length, option_map, Option, Some, None, Result, Ok, Err, if◌then◌else◌, ◌⊎◌, Bool, ◌∷◌, ◌++◌}
+use Rattle.std.specs.Prelude.{drop, codes, decimal}
+use Rattle.std.specs.{List.All, List.flat_map, Str.bytes_eq}
+use Rattle.bd_value.specs.{Limits.greatest_count, Tree.Doc, Tree.doc, Tree.fields_of}
+use Rattle.bd_answer.specs.Answer.{answer, rest, at_most, is_empty}
+use Rattle.bd_answer.specs.Session.{IndexMark, OpenCursor, Query, State, cursor_of, has_index, MarkedToken, token_after}
+use Rattle.bd_answer.specs.Laws.{DocumentRequest, IsEnough}
+use Rattle.bd_cursor.specs.SessionView.{mark_of, marked_token}
+use Rattle.bd_request.specs.{declared.results.Refused.Refused, declared.token.Token.Token, Results.marked_text}
+use Rattle.bd_request.specs.Refused.{IsRefusedPart, Reason, plain}
+use Rattle.bd_bson.specs.Collection.{documents_at}
+use Rattle.bd_device.specs.{Devices.Over, Devices.Reader, Devices.Writer, declared.reading.ReadFault.ReadFault}
+use Rattle.bd_check.specs.{Fault.Fault, Dump.IsWalk}
 use Rattle.bd_command_line.specs.FindWords.{FindWords}
-use Rattle.bd_request.specs.Results.{marked_text}
-use Rattle.bd_request.specs.Refused.{Reason}
 use Rattle.bd_find.specs.Asking.{AsksInWords, IsRefusedOr, PageRequest, refused_text}
-use Rattle.bd_sort.specs.Selection.{query_to}
-use Rattle.bd_find.specs.Batch.{cursor_for, places_from}
-use Rattle.bd_files.specs.Input.{ReadsInput}
-use Rattle.bd_files.specs.Outcome.{PrintsInput, TellsMessage}
-use Rattle.bd_files.specs.Transcript.{Transcript, error_line, lines, fault_text, read_words, shown_refusal}
-use Rattle.bd_files.specs.declared.status.Status.{Status}
-use Rattle.bd_files.specs.declared.status.Status.TheVariants.{Done, Failed}
+use Rattle.bd_sort.specs.Selection.{query_to, selection_for}
+use Rattle.bd_files.specs.{Input.ReadsInput, declared.output.Status.Status, Pack.PacksLines, Pack.packed_bytes}
+use Rattle.bd_files.specs.declared.output.Status.TheVariants.{Done, Failed}
+use Rattle.bd_files.specs.Output.{PrintsInput, TellsMessage, Transcript, error_line, lines, fault_text, read_words, shown_refusal}
+use Rattle.bd_text.specs.Text.{text}
+use Rattle.bd_path.specs.Sort.{SortPath, sort_cmp}
+use Rattle.bd_filter.specs.{Filter.Filter, FilterMatch.matches}
+use Rattle.bd_lines.specs.Lines.{text_lines}
+use Rattle.bd_pack.specs.Packable.{IsPackable}
+use Rattle.bd_request.specs.declared.results.Refused.TheVariants as reasons
+
+-- The places that are asked for: without a token the whole answer; or what follows a token of this dump and this request. The
+-- digest is looked at first, then the place.
+abbrev pub places_from : Query → Option Token → Result (List ℕ) Reason
+places_from q None = Ok (answer q.selection)
+places_from q (Some t) = if bytes_eq t.digest q.digest
+    then (if nat_lt t.last q.selection.count then Ok (rest q.selection (mark_of t)) else Err (plain reasons.TokenPlace))
+    else Err (plain reasons.ForeignToken)
+
+-- a cursor that has these places left
+abbrev pub cursor_for : ℕ → Query → Option Token → List ℕ → OpenCursor
+cursor_for id q token ps = record { id = id; digest = q.digest; token = option_map marked_token token; left = ps }
+
+-- a session that has opened no cursor
+abbrev pub before_first : List IndexMark → State
+before_first indexes = record { indexes = indexes; next_id = 1; cursors = [] }
+
+-- it has the index that is named
+pub record AwaitsFirst (s : State) (hint : Option (List ℕ)) : Type 0 where
+  pub marks : List IndexMark
+  pub is_unopened : s ≡ before_first marks
+  pub is_there : has_index marks hint ≡ true
+
+-- a cursor on the places that are asked for was opened, or why there are none, unless memory ran out
+abbrev pub IsOpenedOn : Query → Option Token → State → Result ℕ Refused → Type 0
+IsOpenedOn q token s (Ok id) =
+    (ps : List ℕ) × (places_from q token ≡ Ok ps) × (cursor_of id s.cursors ≡ Some (cursor_for id q token ps))
+IsOpenedOn q token s (Err refused) = IsRefusedPart (places_from q token) refused
+
+-- the cursor is open, and what it has left are places of these documents, no more than one batch may have
+pub record IsReady (s : State) (id : ℕ) (count : ℕ) : Type 0 where
+  pub cursor : OpenCursor
+  pub is_there : cursor_of id s.cursors ≡ Some cursor
+  pub inside : All (λ p. p < count) cursor.left
+  pub few : length cursor.left ≤ greatest_count
 
 -- what the first batch leaves; without a size it is the whole
 abbrev pub left_over : Option ℕ → List ℕ → List ℕ
@@ -74,21 +114,48 @@ abbrev pub IsShownByFind : FindWords → Result (List ℕ) ReadFault → Transcr
 IsShownByFind words input shown =
     (asked : Result PageRequest (List ℕ)) × AsksInWords words asked × IsShownOf asked input shown
 
--- an input is read once no word is refused, and else left as it is
-abbrev pub ReadsInputFor : FindWords → Over Reader → Result (List ℕ) ReadFault → Type 0
-ReadsInputFor words file input =
-    IsRefusedOr (λ message. file.after ≡ file.before) (AsksInWords words) (λ w. ReadsInput file input)
-
--- memory ran out before the input was read
-abbrev pub StarvesUnread : Over Reader → Over Writer → Over Writer → Status → Type 0
-StarvesUnread file out err status =
-    (file.after ≡ file.before) × (out.after ≡ out.before)
-    × TellsMessage err (error_line (codes "no memory")) Failed status
-
--- what is to be shown of the words and an input was shown, or memory ran out before
+-- Memory ran out before the input was read; or the input was read, once no word is refused, and what is to be shown of the words
+-- and of it was shown.
 abbrev pub FindsDocuments : FindWords → Over Reader → Over Writer → Over Writer → Status → Type 0
 FindsDocuments words file out err status =
-    StarvesUnread file out err status
-    ⊎ ((input : Result (List ℕ) ReadFault) × (shown : Transcript) × ReadsInputFor words file input
-    × IsShownByFind words input shown
-    × PrintsInput input out err shown status)
+    ((file.after ≡ file.before) × (out.after ≡ out.before) × TellsMessage err (error_line (codes "no memory")) Failed status)
+    ⊎ ((input : Result (List ℕ) ReadFault) × (shown : Transcript)
+    × IsRefusedOr (λ message. file.after ≡ file.before) (AsksInWords words) (λ w. ReadsInput file input)
+    × IsShownByFind words input shown × PrintsInput input out err shown status)
+
+abbrev pub document_request : Filter → List SortPath → ℕ → ℕ → DocumentRequest Doc
+document_request f ss skip limit = record {
+  matches = λ d. matches f (doc (fields_of d));
+  by = λ c d. sort_cmp ss (doc (fields_of c)) (doc (fields_of d));
+  skip = skip;
+  limit = limit;
+}
+
+-- the documents that `find` shows of these, by a filter, a sort, a skip and a limit
+abbrev pub documents_shown : Filter → List SortPath → ℕ → ℕ → List Doc → List Doc
+documents_shown f ss skip limit ds = documents_at ds (answer (selection_for ds f ss skip limit))
+
+-- those that it shows of each part, which is asked without a skip, one part after the other
+abbrev pub parts_shown : Filter → List SortPath → ℕ → List (List Doc) → List Doc
+parts_shown f ss limit parts = flat_map (documents_shown f ss 0 limit) parts
+
+-- Of the parts' documents `find` shows the same lines as of the whole collection, where each part's limit is enough.
+abbrev pub PartsShowTheWhole : Type 0
+PartsShowTheWhole = (f : Filter) (ss : List SortPath) (skip limit most : ℕ) (parts : List (List Doc))
+    → IsEnough (document_request f ss skip limit) most
+    → lines (documents_shown f ss skip limit (parts_shown f ss most parts))
+    ≡ lines (documents_shown f ss skip limit (flat_map (λ ds. ds) parts))
+
+-- The lines that `find` shows of each part, joined, are those of the parts' documents.
+abbrev pub PartsAreJoined : Type 0
+PartsAreJoined = (f : Filter) (ss : List SortPath) (most : ℕ) (parts : List (List Doc))
+    → flat_map (λ ds. lines (documents_shown f ss 0 most ds)) parts ≡ lines (parts_shown f ss most parts)
+
+-- the text of a document is read back as it, and it is not too long to be packed
+abbrev pub IsReadBack : Doc → Type 0
+IsReadBack d = IsPackable (text (doc (fields_of d))) d
+
+-- Lines of documents are packed as these documents, and the bytes are a dump of them.
+abbrev pub LinesArePacked : Type 0
+LinesArePacked =
+    (ds : List Doc) → All IsReadBack ds → PacksLines 1 (text_lines (lines ds)) ds None × IsWalk ds None (packed_bytes ds)

@@ -1,4 +1,2 @@
 pub mod Asking
-pub mod Batch
 pub mod Find
-pub mod Parts

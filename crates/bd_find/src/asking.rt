@@ -1,4 +1,5 @@
-//! What the words of `find` ask for.
+//! What the arguments of `find` ask for.
+
 ghost use Rattle.std.specs.Prelude.{◌≡◌, ◌++◌, IfErr, IfOk, Ok, OnOk, option_map, string_bytes, true};
 ghost use Rattle.bd_value.specs.View.{pairs};
 ghost use Rattle.bd_filter.specs.Fault.{refusal_of};
@@ -94,13 +95,10 @@ fn read_text(alloc: Global, name: &str, text: &Option<String>) -> Result<Documen
     };
     match read_doc(alloc, text.as_bytes()) {
         Ok(document) => Ok(document),
-        Err(
-            JsonFault {
-                kind: JsonFaultKind::NoMemory,
-                ..
-            },
-        ) => Err(AskingFault::NoMemory),
-        Err(fault) => Err(AskingFault::Message(json_message(alloc, name, fault)?)),
+        Err(fault) => match fault.kind {
+            JsonFaultKind::NoMemory => Err(AskingFault::NoMemory),
+            _ => Err(AskingFault::Message(json_message(alloc, name, fault)?)),
+        },
     }
 }
 
@@ -145,13 +143,9 @@ fn check_batch(alloc: Global, size: Option<u32>) -> Result<(), AskingFault>
     ensures fits { OnOk result (fits_batch size ≡ true) }
     ensures fault { IfErr result (TellsReason (batch_part size)) }
 {
-    let Some(size) = size else {
-        return Ok(());
-    };
-    if u64::from(size) <= GREATEST_COUNT {
-        Ok(())
-    } else {
-        Err(told(alloc, &Refused::Range))
+    match size {
+        Some(size) if u64::from(size) > GREATEST_COUNT => Err(told(alloc, &Refused::Range)),
+        _ => Ok(()),
     }
 }
 
@@ -167,10 +161,7 @@ fn read_index(alloc: Global, text: &Option<String>) -> Result<Option<Path>, Aski
     match Path::parse(alloc, text) {
         Ok(path) => Ok(Some(path)),
         Err(PathFault::NoMemory) => Err(AskingFault::NoMemory),
-        Err(fault) => {
-            let message = option_message(alloc, "index: ", fault.words())?;
-            Err(AskingFault::Message(message))
-        }
+        Err(fault) => Err(AskingFault::Message(option_message(alloc, "index: ", fault.words())?)),
     }
 }
 

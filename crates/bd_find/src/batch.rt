@@ -1,30 +1,27 @@
-//! The batch that is asked for, shown.
-ghost use Rattle.std.specs.Prelude.{◌≡◌, ◌++◌, ◌≤◌, ◌⊎◌, IfErr, IfOk, MatchOption, OnOk, Some, codes, length, option_map, true};
+//! The first batch of what is asked for, shown.
+
+ghost use Rattle.std.specs.Prelude.{◌≡◌, ◌++◌, ◌<◌, ◌≤◌, ◌⊎◌, IfErr, IfOk, MatchOption, OnOk, Some, codes, length, option_map, true};
+ghost use Rattle.std.specs.List.{All};
 ghost use Rattle.bd_value.specs.Limits.{greatest_count};
-ghost use Rattle.bd_answer.specs.Session.{OpenCursor, cursor_of};
-ghost use Rattle.bd_answer.specs.SessionLaws.{new_state};
-ghost use Rattle.bd_bson.specs.Collection.{bytes_of, documents};
+ghost use Rattle.bd_device.specs.Devices.{TakesText, over};
+ghost use Rattle.bd_answer.specs.{Session.OpenCursor, Session.cursor_of, Laws.new_state};
+ghost use Rattle.bd_bson.specs.{Collection.bytes_of, Collection.documents, Collection.documents_at};
 ghost use Rattle.bd_sort.specs.Selection.{query_of};
 ghost use Rattle.bd_cursor.specs.SessionView.{dump_of, hint_of, marked_token, state_of};
 ghost use Rattle.bd_request.specs.Refused.{reason_of};
-ghost use Rattle.bd_request.specs.declared.refused.Refused.TheVariants.{NoMemory as no_memory};
-ghost use Rattle.bd_find.specs.Find.{end_words, find_count_line, shown_batch, shown_of_dump, token_words};
-ghost use Rattle.bd_find.specs.Asking.{fits_batch, refused_text, page_request_of};
-ghost use Rattle.bd_find.specs.Batch.{AwaitsFirst, IsOpenedOn, IsReady};
-ghost use Rattle.bd_files.specs.Outcome.{PrintsOrStarves, TellsMessage};
-ghost use Rattle.bd_files.specs.Transcript.{error_line};
-ghost use Rattle.bd_files.specs.declared.status.Status.TheVariants.{Done, Failed};
-ghost use Rattle.bd_device.specs.Devices.{over};
+ghost use Rattle.bd_request.specs.declared.results.Refused.TheVariants.{NoMemory as no_memory};
+ghost use Rattle.bd_files.specs.Output.{PrintsOrStarves, StopsWithin, TellsMessage, error_line, lines};
+ghost use Rattle.bd_files.specs.declared.output.Status.TheVariants.{Done, Failed};
+ghost use Rattle.bd_find.specs.Asking.{fits_batch, page_request_of, refused_text};
+ghost use Rattle.bd_find.specs.Find.{AwaitsFirst, IsOpenedOn, IsReady, end_words, find_count_line, shown_batch, shown_of_dump, token_words};
 
 use crate::asking::{Asking, refused_message};
-use crate::found_documents::write_documents;
 use bd_bson::Dump;
 use bd_cursor::{Batch, Choice, Refused, Session, Token};
 use bd_device::{Output, write_all};
-use bd_extjson::write_number;
+use bd_extjson::{LineRoom, write_number};
 use bd_files::Status;
-use bd_files::output::fault::OutputFault;
-use bd_files::output::messages::{status_of, tell_error, tell_no_memory, tell_unwritten};
+use bd_files::output::{OutputFault, status_of, tell_error, tell_no_memory, tell_stop};
 use bd_path::Path;
 use bd_value::{GREATEST_COUNT, NoMemory};
 use std::alloc::Global;
@@ -99,8 +96,7 @@ fn show_batch<O: Output, E: Output>(
     };
     match write_documents(alloc, session.dump(), &batch.places, out) {
         Ok(()) => tell_batch(alloc, &batch, err),
-        Err(OutputFault::NoMemory) => tell_no_memory(err),
-        Err(OutputFault::Unwritten) => tell_unwritten(err),
+        Err(fault) => tell_stop(fault, err),
     }
 }
 
@@ -114,16 +110,32 @@ fn most_of(size: Option<u32>) -> u64
     }
 }
 
+/// Writes the documents with these numbers, one a line. Where memory runs out, what was written is a front of the lines.
+fn write_documents<O: Output>(
+    alloc: Global,
+    dump: &Dump,
+    places: &[u32],
+    out: &mut O,
+) -> Result<(), OutputFault>
+    requires { All (λ p. p < length (documents dump.now)) places.now }
+    ensures wrote { OnOk result (TakesText (over O.state out.old out.new) (lines (documents_at (documents dump.now) places.now))) }
+    ensures stops { IfErr result (StopsWithin (over O.state out.old out.new) (lines (documents_at (documents dump.now) places.now))) }
+{
+    let mut room = LineRoom::new(alloc);
+    for place in places {
+        let line = room.line(dump.document(*place).value())?;
+        write_all(out, line)?;
+    }
+    Ok(())
+}
+
 /// Tells how many documents a batch has, whether nothing is left, and the token that leads on.
 fn tell_batch<E: Output>(alloc: Global, batch: &Batch, err: &mut E) -> Status
     ensures { TellsMessage (over E.state err.old err.new) (find_count_line (length batch.now.places.items) batch.now.end (option_map marked_token batch.now.token)) Done result
         ⊎ TellsMessage (over E.state err.old err.new) (error_line (codes "no memory")) Failed result }
 {
     match count_line(alloc, batch) {
-        Ok(line) => {
-            let written = write_all(err, &line);
-            status_of(written, Status::Done)
-        }
+        Ok(line) => status_of(write_all(err, &line), Status::Done),
         Err(_) => tell_no_memory(err),
     }
 }

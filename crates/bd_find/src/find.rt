@@ -4,11 +4,10 @@
 ghost use Rattle.std.specs.Prelude.{◌≡◌, ◌≤◌, length, true};
 ghost use Rattle.bd_value.specs.Limits.{longest_input};
 ghost use Rattle.bd_command_line.specs.FindWords.{find_words_of};
-ghost use Rattle.bd_find.specs.Find.{FindsDocuments, IsShownOfBytes};
+ghost use Rattle.bd_find.specs.Find.{FindsDocuments, IsShownOfBytes, LinesArePacked, PartsAreJoined, PartsShowTheWhole};
 ghost use Rattle.bd_find.specs.Asking.{AsksNothing, PageRequest, fits_batch, page_request_of};
 ghost use Rattle.bd_files.specs.Input.{ReadsNoFurther};
-ghost use Rattle.bd_files.specs.Outcome.{PrintsOrStarves};
-ghost use Rattle.bd_files.specs.Transcript.{Transcript};
+ghost use Rattle.bd_files.specs.Output.{PrintsOrStarves, Transcript};
 ghost use Rattle.bd_device.specs.Devices.{over};
 
 use crate::asking::{Asking, AskingFault, read_asking};
@@ -16,8 +15,9 @@ use crate::batch::show_found;
 use bd_bson::read_dump;
 use bd_command_line::FindOptions;
 use bd_device::{Input, Output};
-use bd_files::output::fault::is_want_of_memory;
-use bd_files::output::messages::{tell_dump_fault, tell_error, tell_no_memory, tell_read_fault};
+use bd_files::output::{
+    is_want_of_memory, tell_dump_fault, tell_error, tell_no_memory, tell_read_fault,
+};
 use bd_files::{Status, read_input};
 use std::alloc::Global;
 
@@ -74,4 +74,13 @@ fn find_in<O: Output, E: Output>(
 /// Of any bytes there is something to be shown, whatever is asked for. It does nothing.
 fn something_is_shown(bytes: &[u8])
     ensures { (w : PageRequest) → (shown : Transcript) × IsShownOfBytes w bytes.now shown }
+{}
+
+/// A collection may be cut between documents, and `find` asked of each part: without a skip, and without a limit or with one of at
+/// least the skip and the limit together. The lines of the parts, joined and packed, are a dump of which `find` shows the same
+/// lines as of the whole, wherever the text of each document is read back as that document.
+pub fn parts_show_the_whole()
+    ensures shown { PartsShowTheWhole }
+    ensures joined { PartsAreJoined }
+    ensures packed { LinesArePacked }
 {}

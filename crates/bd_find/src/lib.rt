@@ -23,16 +23,13 @@
 //! assert!(rt; err.bytes() == b"0 documents, end\n".as_slice());
 //! ```
 //!
-//! - `find`: the command.
+//! - `find`: the command, and a collection that is asked in parts.
 //! - `asking`: what its arguments ask for: `specs/Asking.antt`.
-//! - `batch`: what is shown of a dump: `specs/Batch.antt`; `found_documents`: the lines.
-//! - `laws`: a collection that is asked in parts: `specs/Parts.antt`.
+//! - `batch`: the first batch of a dump, shown.
 #![tactic(auto)]
 
 mod asking;
 mod batch;
 pub mod find;
-mod found_documents;
-mod laws;
 
-pub use laws::parts_show_the_whole;
+pub use find::parts_show_the_whole;

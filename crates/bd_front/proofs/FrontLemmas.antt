@@ -1,16 +1,11 @@
 -- What the fronts of two texts tell of their order.
-use Rattle.std.proofs.Common.{◌≡◌, ◌≢◌, ◌<◌, ◌≤◌, ℕ, ℤ, List, [], ◌∷◌, ◌++◌, length, min, take, drop, zero, suc, refl, sym, ap, ap₂, ◌∙◌, arith, true}
-use Rattle.std.proofs.Common.{nat_lt, ◌&&◌, ◌==◌, Ordering, ◌⊎◌}
-use Rattle.std.specs.Cmp.Lexicographic.{slice_cmp}
-use Rattle.std.specs.Ordering.{is_eq, nat_cmp, ordering_then}
+use Rattle.std.proofs.Common.{◌≡◌, ◌≢◌, ◌<◌, ◌≤◌, ℕ, List, [], ◌∷◌, ◌++◌, length, min, take, drop, zero, suc, refl, sym, ap, ap₂, ◌∙◌, arith, true}
+use Rattle.std.proofs.Common.{nat_lt, ◌&&◌, ◌==◌, Ordering}
+use Rattle.std.specs.{Cmp.Lexicographic.slice_cmp, Ordering.is_eq, Ordering.nat_cmp, Ordering.ordering_then}
 use Rattle.std.specs.declared.cmp.Ordering.TheVariants.{Less, Equal, Greater}
-use Rattle.std.proofs.lemmas.Bool.Decides.{nat_tests}
-use Rattle.std.proofs.lemmas.Map.Text.{is_eq-slice_cmp}
+use Rattle.std.proofs.{lemmas.Bool.Decides.nat_tests, lemmas.Map.Text.is_eq-slice_cmp}
 use Rattle.bd_value.specs.Order.{bytes_cmp}
-use Rattle.bd_value.specs.Tree.{Tree, date, int32, int64, leaf, symbol, text}
-use Rattle.bd_front.specs.Front.{front_of, front_of_text, is_same_text_front, padded, texts_tell}
-use Rattle.bd_front.specs.declared.front.Front.TheVariants as fronts
-use Rattle.bd_front.specs.declared.front.TextFront.{TextFront}
+use Rattle.bd_front.specs.{Front.front_of_text, Front.is_same_text_front, Front.padded, Front.texts_tell, declared.front.TextFront.TextFront}
 
 -- the order of numbers
 nat_same : (n : ℕ) → nat_cmp n n ≡ Equal
@@ -128,17 +123,3 @@ tied_tell a b is = let same = tied_fronts a b Equal is in grind arith
 pub others_tell : (a b : TextFront) (o : Ordering) → o ≡ ordering_then (slice_cmp nat_cmp a.bytes b.bytes) (nat_cmp a.length b.length)
     → o ≢ Equal → true ≡ texts_tell a b
 others_tell a b o is unequal = let same = tied_fronts a b o is in grind arith
-
-then_equal : (o : Ordering) → ordering_then o Equal ≡ o
-then_equal o = grind arith
-
--- a value that has a front is of one of two kinds, or of one
-abbrev pub IsText : Tree → List ℕ → Type 0
-IsText x s = (x ≡ leaf (text s)) ⊎ (x ≡ leaf (symbol s))
-
-abbrev pub IsNumber : Tree → ℤ → Type 0
-IsNumber x z = (x ≡ leaf (int32 z)) ⊎ (x ≡ leaf (int64 z))
-
-has_date : (x : Tree) (n : ℤ) → fronts.Date n ≡ front_of x → x ≡ leaf (date n)
-has_date (leaf (date z)) n e = cc
-has_date _ n e = absurd cc

@@ -1,16 +1,12 @@
 -- The front of a key, by which most keys compare: of a text its first 15 bytes and its length, of a number,
 -- a date or an ObjectId all of it.
-use Rattle.std.specs.Prelude.{ℕ, zero, suc, nat_lt, Bool, true, false, not, ◌==◌, ◌&&◌, ◌||◌, List, [], ◌∷◌, length, min, Option, Some, None}
+use Rattle.std.specs.Prelude.{ℕ, zero, suc, nat_lt, Bool, true, false, not, ◌==◌, ◌&&◌, ◌||◌, List, [], ◌∷◌, length, min, Option, Some}
 use Rattle.std.specs.Str.{bytes_eq}
-use Rattle.bd_value.specs.OwnPart.{Own, own, own_code, own_of}
-use Rattle.bd_value.specs.Tree.{Scalar, Tree, date, int32, int64, object_id, symbol, text}
-use Rattle.bd_raw.specs.Sound.{stands}
-use Rattle.bd_raw.specs.declared.raw.RawValue.{RawValue}
-use Rattle.bd_path.specs.Key.{key_tree}
-use Rattle.bd_path.specs.declared.key.Key.{Key}
-use Rattle.bd_front.specs.declared.front.Front.{Front}
+use Rattle.bd_value.specs.Tree.{own_of, own, Own, Scalar, Tree, date, int32, int64, object_id, symbol, text}
+use Rattle.bd_raw.specs.{Sound.stands, declared.raw.RawValue.RawValue}
+use Rattle.bd_path.specs.{Key.key_tree, declared.key.Key.Key}
+use Rattle.bd_front.specs.{declared.front.Front.Front, declared.front.TextFront.TextFront}
 use Rattle.bd_front.specs.declared.front.Front.TheVariants as fronts
-use Rattle.bd_front.specs.declared.front.TextFront.{TextFront}
 
 -- what a key that is kept as a node stands for
 abbrev pub kept_key : Key RawValue → Tree
@@ -38,8 +34,7 @@ front_of_scalar _ = fronts.Other
 
 abbrev pub front_of_own : Option Own → Front
 front_of_own (Some (own s)) = front_of_scalar s
-front_of_own (Some (own_code s)) = fronts.Other
-front_of_own None = fronts.Other
+front_of_own _ = fronts.Other
 
 abbrev pub front_of : Tree → Front
 front_of t = front_of_own (own_of t)

@@ -2,7 +2,7 @@
 
 ghost use Rattle.std.specs.Prelude.{◌≡◌, IfSome, List, is_some, option_map, ℕ};
 ghost use Rattle.bd_value.specs.Order.{bytes_cmp, cmp};
-ghost use Rattle.bd_value.specs.OwnPart.{seen};
+ghost use Rattle.bd_value.specs.View.{seen};
 ghost use Rattle.bd_value.specs.Tree.{Tree};
 ghost use Rattle.bd_front.specs.Front.{front_of, front_of_own, front_of_text, kept_key, tells_order, texts_tell};
 

@@ -1,2 +1,1 @@
-pub mod HandingLemmas
 pub mod GatheringLemmas

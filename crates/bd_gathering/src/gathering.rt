@@ -6,11 +6,14 @@
 //!
 //! The device can so refuse bytes of a write that was answered as done. Then no input is read any more, and nothing is told
 //! on standard error, until a write is answered by that loss. Where none comes, the end has to tell it.
-ghost use Rattle.std.specs.Prelude.{◌≡◌, ◌≢◌, ◌≤◌, [], length};
+ghost use Rattle.std.specs.Prelude.{◌≡◌, ◌≢◌, ◌≤◌, [], length, IfOk, None};
+ghost use Rattle.std.specs.Io.{WritesAtMost};
+ghost use Rattle.std.specs.Io.KnownBytes.{WriteAppends};
 ghost use Rattle.bd_gathering.specs.declared.gathering.Fate.TheVariants.{Kept};
 
 use bd_device::{DeviceFault, Output, write_all};
 use std::alloc::Global;
+use std::cell::RefCell;
 use std::io;
 use std::io::{ErrorKind, Read, Write};
 
@@ -42,7 +45,7 @@ impl<D: Output + Drop> Gathering<D> {
     ghost use Rattle.std.specs.Prelude.{◌++◌, IsErr, OnErr, OnOk, false, true};
     ghost use Rattle.std.specs.Io.{ReadsAtMost, WritesAtMost};
     ghost use Rattle.std.specs.Io.KnownBytes.{ReadConsumes, WriteAppends};
-    ghost use Rattle.bd_gathering.specs.Handing.{Breaks};
+    ghost use Rattle.bd_gathering.specs.Gathering.{Breaks};
     ghost use Rattle.bd_gathering.specs.Gathering.{Gathers, HandsOn};
     ghost use Rattle.bd_gathering.specs.declared.gathering.Fate.TheVariants.{Lost, Told};
 
@@ -60,7 +63,7 @@ impl<D: Output + Drop> Gathering<D> {
     }
 
     /// Hands on what waits, and tells what became of the bytes so far. After a loss nothing waits.
-    pub(crate) fn hand_on(&mut self) -> Fate
+    fn hand_on(&mut self) -> Fate
         ensures fate { result ≡ self.new.fate }
         ensures handed { HandsOn D.Output self.old self.new }
         ensures empty { self.new.waiting.items ≡ [] }
@@ -117,7 +120,7 @@ impl<D: Output + Drop> Gathering<D> {
     }
 
     /// The same; an error answers the bytes by the loss.
-    pub(crate) fn take(&mut self, bytes: &[u8]) -> Result<(), DeviceFault>
+    fn take(&mut self, bytes: &[u8]) -> Result<(), DeviceFault>
         ensures taken { OnOk result ((self.old.fate ≡ Kept) × (self.new.fate ≡ Kept) × Gathers D.Output self.old bytes.now self.new) }
         ensures broken { OnErr result (self.old.fate ≡ Kept →
             Breaks D.Output self.old.device (self.old.waiting.items ++ bytes.now) self.new.device) }
@@ -133,11 +136,7 @@ impl<D: Output + Drop> Gathering<D> {
 
     /// Reads after all that waits was handed on. After a loss it fails and asks the reader for nothing, since that could wait
     /// for bytes that serve no one.
-    pub(crate) fn read_after<R: Read>(
-        &mut self,
-        reader: &mut R,
-        room: &mut [u8],
-    ) -> io::Result<usize>
+    fn read_after<R: Read>(&mut self, reader: &mut R, room: &mut [u8]) -> io::Result<usize>
         ensures handed { HandsOn D.Output self.old self.new }
         ensures lost { self.new.fate ≢ Kept → IsErr result × (reader.new ≡ reader.old) × (room.new ≡ room.old) }
         ensures bound { ReadsAtMost result room.new }
@@ -151,11 +150,7 @@ impl<D: Output + Drop> Gathering<D> {
 
     /// Writes to another writer after all that waits was handed on. It fails and writes nothing while a loss is untold, so that
     /// no count is shown of lines that did not arrive.
-    pub(crate) fn write_after<E: Write>(
-        &mut self,
-        writer: &mut E,
-        bytes: &[u8],
-    ) -> io::Result<usize>
+    fn write_after<E: Write>(&mut self, writer: &mut E, bytes: &[u8]) -> io::Result<usize>
         ensures handed { HandsOn D.Output self.old self.new }
         ensures untold { self.new.fate ≡ Lost → IsErr result × (writer.new ≡ writer.old) }
         ensures bound { WritesAtMost result bytes.now }
@@ -169,6 +164,86 @@ impl<D: Output + Drop> Gathering<D> {
 }
 
 /// The error of a call that is refused for a loss. Its kind is not looked at.
-pub(crate) fn refusal() -> io::Error {
+fn refusal() -> io::Error {
     io::Error::from(ErrorKind::Other)
+}
+
+// What goes over one `Gathering`, which they share in a cell. No contract knows what a cell holds, so what they do with it is
+// said of the methods of `Gathering`.
+
+/// Hands on what waits, and tells what became of the bytes so far.
+pub fn hand_on<D: Output + Drop>(gathering: &RefCell<Gathering<D>>) -> Fate {
+    match gathering.try_borrow_mut() {
+        Ok(mut gathering) => gathering.hand_on(),
+        Err(_) => Fate::Lost,
+    }
+}
+
+/// Standard output: what is written is gathered.
+#[derive(Drop)]
+pub struct GatheredOutput<'a, D: Output + Drop> {
+    pub gathering: &'a RefCell<Gathering<D>>,
+}
+
+impl<D: Output + Drop> Write for GatheredOutput<'_, D> {
+    /// All bytes are taken, or none.
+    fn write(&mut self, bytes: &[u8]) -> io::Result<usize>
+        ensures bound { WritesAtMost result bytes.now }
+        ensures bytes { WriteAppends None None result bytes.now }
+        ensures whole { IfOk result (λ n. n ≡ length bytes.now) }
+    {
+        let Ok(mut gathering) = self.gathering.try_borrow_mut() else {
+            return Err(refusal());
+        };
+        match gathering.take(bytes) {
+            Ok(()) => Ok(bytes.len()),
+            Err(_) => Err(refusal()),
+        }
+    }
+
+    fn flush(&mut self) -> io::Result<()> {
+        Ok(())
+    }
+}
+
+/// An input: what waits is handed on before a read. After a loss a read fails and asks the system for nothing.
+#[derive(Drop)]
+pub struct TiedInput<'a, R: Read + Drop, D: Output + Drop> {
+    pub reader: R,
+    pub gathering: &'a RefCell<Gathering<D>>,
+}
+
+impl<R: Read + Drop, D: Output + Drop> Read for TiedInput<'_, R, D> {
+    /// The bytes are those of the reader.
+    ghost remaining = { λ s. R.remaining s.reader };
+
+    fn read(&mut self, room: &mut [u8]) -> io::Result<usize> {
+        match self.gathering.try_borrow_mut() {
+            Ok(mut gathering) => gathering.read_after(&mut self.reader, room),
+            Err(_) => Err(refusal()),
+        }
+    }
+}
+
+/// Standard error: what waits is handed on before a write. A write fails while a loss is untold.
+#[derive(Drop)]
+pub struct TiedError<'a, E: Write + Drop, D: Output + Drop> {
+    pub writer: E,
+    pub gathering: &'a RefCell<Gathering<D>>,
+}
+
+impl<E: Write + Drop, D: Output + Drop> Write for TiedError<'_, E, D> {
+    /// The bytes are those of the writer.
+    ghost contents = { λ s. E.contents s.writer };
+
+    fn write(&mut self, bytes: &[u8]) -> io::Result<usize> {
+        match self.gathering.try_borrow_mut() {
+            Ok(mut gathering) => gathering.write_after(&mut self.writer, bytes),
+            Err(_) => Err(refusal()),
+        }
+    }
+
+    fn flush(&mut self) -> io::Result<()> {
+        Ok(())
+    }
 }

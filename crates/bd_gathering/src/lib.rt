@@ -1,7 +1,6 @@
 //! Standard output in large writes, tied to what is read and to standard error.
 //!
-//! What was written, what of it a device has, and what waits: `specs/Gathering.antt`; how a device took bytes:
-//! `specs/Handing.antt`.
+//! What was written, what of it a device has, and what waits: `specs/Gathering.antt`.
 //!
 //! An example, which `bd_device_tests` proves and runs as `examples::gathered`:
 //!
@@ -15,12 +14,9 @@
 //! assert!(rt; hand_on(&gathering) == Fate::Kept);
 //! ```
 //!
-//! - `gathering`: `Gathering`, what waits to be written.
-//! - `tied`: `GatheredOutput`, `TiedInput` and `TiedError` over one.
+//! - `gathering`: `Gathering`, what waits to be written; `GatheredOutput`, `TiedInput` and `TiedError` over one.
 #![tactic(auto)]
 
 mod gathering;
-mod tied;
 
-pub use gathering::{Fate, Gathering};
-pub use tied::{GatheredOutput, TiedError, TiedInput, hand_on};
+pub use gathering::{Fate, GatheredOutput, Gathering, TiedError, TiedInput, hand_on};

@@ -1,23 +1,22 @@
--- The order of entries, and which of them are the same.
-use Rattle.std.proofs.Common.{◌≡◌, ◌+◌, ◌<◌, ◌≤◌, ℕ, suc, Bool, true, false, List, [], ◌∷◌, length, get_or, cond, filter, map, refl, arith, sym, ap, ap₂, ◌∙◌}
-use Rattle.std.specs.Prelude.{◌==◌, ◌&&◌, ◌||◌, nat_lt, not}
-use Rattle.std.specs.declared.cmp.Ordering.{Ordering}
-use Rattle.std.specs.declared.cmp.Ordering.TheVariants.{Equal}
-use Rattle.std.specs.List.{AllByRecursion, count_by, list_any}
-use Rattle.std.specs.Cmp.{IsEquivalence, IsStrictWeakOrder, IsTotalOrder}
-use Rattle.std.specs.List.Sorted.{IsSortedBy, ties}
+-- Entries: their order, which of them are the same, how an index keeps them, and those of one document after the other.
+use Rattle.std.proofs.Common.{◌≡◌, ◌≢◌, ◌<◌, ◌≤◌, ◌+◌, ℕ, zero, suc, Bool, true, false, cond, List, [], ◌∷◌, ◌++◌, Some, length, get_or, map, filter, take, drop, refl, sym, ap, ap₂, ◌∙◌, subst, arith}
+use Rattle.std.proofs.{Common.length-append, lemmas.Bool.and_parts, lemmas.Bool.not-true, lemmas.Bool.Decides.nat_tests, lemmas.List.get_or-map, lemmas.List.length-map}
+use Rattle.std.proofs.{lemmas.List.map_more, lemmas.List.map-append, lemmas.List.Elements.recursion_from_All, lemmas.List.Sorted.ranks_by, lemmas.List.Sorted.sorted_far}
+use Rattle.std.proofs.{lemmas.List.Sums.length-filter, lemmas.List.Sums.sum_by-append, lemmas.List.Sums.sum_by-cons, lemmas.Slice.Zip.AllZip-long}
+use Rattle.std.specs.Prelude.{◌==◌, ◌&&◌, ◌||◌, nat_lt, not, slice_get}
+use Rattle.std.specs.{Cmp.IsEquivalence, Cmp.IsStrictWeakOrder, Cmp.IsTotalOrder, List.All, List.AllByRecursion, List.AllZip, List.count_by, List.list_any}
+use Rattle.std.specs.{List.Sorted.IsSortedBy, List.Sorted.ties, declared.cmp.Ordering.Ordering, declared.cmp.Ordering.TheVariants.Equal}
 use Rattle.std.specs.Ordering.{is_lt, is_eq, nat_cmp, ordering_then, ordering_reverse}
-use Rattle.std.proofs.lemmas.Bool.{and_parts, not-true}
-use Rattle.std.proofs.lemmas.Bool.Decides.{nat_tests}
 use Rattle.std.proofs.lemmas.Cmp.{and_equiv, eq_by_cmp_equiv, nat_cmp_total, nat_eq_equiv, on_equiv, on_total, then_total}
-use Rattle.std.proofs.lemmas.List.{get_or-map, length-map}
-use Rattle.std.proofs.lemmas.List.Elements.{recursion_from_All}
-use Rattle.std.proofs.lemmas.List.Sorted.{ranks_by, sorted_far}
-use Rattle.std.proofs.lemmas.List.Sums.{sum_by-cons}
-use Rattle.bd_value.specs.Order.{cmp}
-use Rattle.bd_value.specs.Tree.{Tree}
-use Rattle.bd_value.proofs.OrderLemmas.LawsLemmas.{cmp_total}
-use Rattle.bd_index.specs.Entries.{KeyAt, entry_cmp, is_same_entry}
+use Rattle.bd_value.specs.{Order.cmp, Tree.Tree, Tree.Doc, Tree.doc, Tree.fields_of}
+use Rattle.bd_value.proofs.{OrderLemmas.cmp_total, ViewLemmas.next_at}
+use Rattle.bd_raw.specs.{Sound.StandsAt, Sound.stands, declared.views.At.At}
+use Rattle.bd_bson.specs.{Collection.bytes_of, Collection.documents, declared.collection.Dump.Dump}
+use Rattle.bd_path.specs.{Key.distinct, Key.indexed_keys, Key.keys, Reach.Names}
+use Rattle.bd_path.proofs.SortLemmas.{has_a_key}
+use Rattle.bd_index.specs.Entries.{KeyAt, entries_from, entries_of, entry_cmp, is_multikey, is_same_entry, keys_at}
+use Rattle.bd_index.specs.IndexView.{AreFoundIn, IsFoundIn, IsIndexOf, KeepsDump, KeepsEntries, KeepsEntry, found_entry}
+use Rattle.bd_index.specs.{declared.entry.Entry.Entry, declared.entry.FoundKey.FoundKey, declared.index.Index.Index}
 
 -- by key in an order, then by place
 abbrev pub entry_by : (Tree → Tree → Ordering) → KeyAt → KeyAt → Ordering
@@ -97,3 +96,121 @@ any_by_count p (x ∷ xs) = positive (p x) (count_by p xs) (list_any p xs) (any_
 
 pub any_as_counts : {A : Type 0} (p : A → Bool) (xs ys : List A) → count_by p xs ≡ count_by p ys → list_any p xs ≡ list_any p ys
 any_as_counts p xs ys h = any_by_count p xs ∙ ap (nat_lt 0) h ∙ sym (any_by_count p ys)
+
+-- ---- what a filter keeps
+
+pub none_pass : {A : Type 0} (p : A → Bool) (xs : List A) → All (λ x. p x ≡ false) xs → filter p xs ≡ []
+none_pass p [] h = refl
+none_pass p (x ∷ xs) h = rw (h 0 x (omega arith)) (none_pass p xs (λ k d lt. h (suc k) d (omega arith)))
+
+pub all_pass : {A : Type 0} (p : A → Bool) (xs : List A) → All (λ x. p x ≡ true) xs → filter p xs ≡ xs
+all_pass p [] h = refl
+all_pass {A} p (x ∷ xs) h = rw (h 0 x (omega arith)) (ap (λ (l : List A). x ∷ l) (all_pass p xs (λ k d lt. h (suc k) d (omega arith))))
+
+-- ---- entries as an index keeps them
+
+pub zip_push : {A B : Type 0} (R : A → B → Type 0) (xs : List A) (ys : List B) (x : A) (y : B) → AllZip R xs ys → R x y → AllZip R (xs ++ x ∷ []) (ys ++ y ∷ [])
+zip_push R [] [] x y all one = (one, tt)
+zip_push R (a ∷ xs) (b ∷ ys) x y all one = (all.0, zip_push R xs ys x y all.1 one)
+zip_push R _ _ x y all one = absurd all
+
+pub zip_at : {A B : Type 0} (R : A → B → Type 0) (xs : List A) (ys : List B) (i : ℕ) (d : A) (e : B) → AllZip R xs ys → i < length xs → R (get_or xs i d) (get_or ys i e)
+zip_at R [] ys i d e all lt = absurd (omega arith)
+zip_at R (a ∷ xs) [] i d e all lt = absurd all
+zip_at R (a ∷ xs) (b ∷ ys) zero d e all lt = all.0
+zip_at R (a ∷ xs) (b ∷ ys) (suc i) d e all lt = zip_at R xs ys i d e all.1 (omega arith)
+
+pub as_many_kept : (bytes : List ℕ) (kept : List Entry) (es : List KeyAt) → KeepsEntries bytes kept es → length es ≡ length kept
+as_many_kept bytes kept es all = AllZip-long (KeepsEntry bytes) kept es all
+
+pub count_kept : (dump : Dump) (index : Index) (h : IsIndexOf dump index) → length h.keeps.entries ≡ length index.entries.items
+count_kept dump index h = as_many_kept (bytes_of dump) index.entries.items h.keeps.entries h.keeps.stand
+
+-- the key of an entry stands where it says
+pub key_there : (bytes : List ℕ) (kept : List Entry) (es : List KeyAt) (i : ℕ) (k : Entry) (d : KeyAt) → KeepsEntries bytes kept es → i < length kept
+    → k ≡ get_or kept i k → StandsAt bytes k.key (get_or es i d).0
+key_there bytes kept es i k d all lt is = subst (λ (x : Entry). StandsAt bytes x.key (get_or es i d).0) (sym is) (zip_at (KeepsEntry bytes) kept es i k d all lt).0
+
+-- the entries of some keys, and one more
+pub one_entry : (bytes : List ℕ) (kept new : List Entry) (xs : List FoundKey) (i : ℕ) (x : FoundKey) (at : At) → i < length xs → x ≡ get_or xs i x
+    → AreFoundIn bytes xs → StandsAt x.key.bytes.now at (stands x.key.sound)
+    → new ≡ kept ++ record { key = at; place = x.place } ∷ [] → KeepsEntries bytes kept (map found_entry (take i xs)) → KeepsEntries bytes new (map found_entry (take (i + 1) xs))
+one_entry bytes kept new xs i x at lt is all there pushed so =
+    let here : x.key.bytes.now ≡ bytes = subst (λ (f : FoundKey). IsFoundIn bytes f) (sym is) (all i x lt) in
+    let more : map found_entry (take (i + 1) xs) ≡ map found_entry (take i xs) ++ found_entry x ∷ [] = map_more found_entry xs i x lt
+    ∙ ap (λ (f : FoundKey). map found_entry (take i xs) ++ found_entry f ∷ []) (sym is) in
+    rw (pushed, more) (zip_push (KeepsEntry bytes) kept (map found_entry (take i xs)) (record { key = at; place = x.place }) (found_entry x) so
+    (subst (λ (b : List ℕ). StandsAt b at (stands x.key.sound)) here there, refl))
+
+-- ---- one document more
+
+-- whether a document passes, by this one and those after it
+pub any_next : (test : Tree → Bool) (n : ℕ) (ds : List Doc) (d : Doc) (t : Tree) (r : Bool) → slice_get ds n ≡ Some d → t ≡ doc (fields_of d) → r ≡ test t
+    → list_any (λ x. test (doc (fields_of x))) (drop n ds) ≡ (r || list_any (λ x. test (doc (fields_of x))) (drop (n + 1) ds))
+any_next test n ds d t r is tree told =
+    ap (list_any (λ x. test (doc (fields_of x)))) (next_at ds n d is)
+    ∙ ap (λ (b : Bool). b || list_any (λ x. test (doc (fields_of x))) (drop (n + 1) ds)) (ap test (sym tree) ∙ sym told)
+
+pub count-append : (test : KeyAt → Bool) (xs ys : List KeyAt) → count_by test (xs ++ ys) ≡ count_by test xs + count_by test ys
+count-append test xs ys = sum_by-append (λ (e : KeyAt). cond (test e) 1 0) xs ys
+
+pub counted_own : (test : KeyAt → Bool) (old new own : List FoundKey) (ks : List KeyAt) → new ≡ old ++ own
+    → count_by test (map found_entry own) ≡ count_by test ks → count_by test (map found_entry new) ≡ count_by test (map found_entry old ++ ks)
+counted_own test old new own ks is h =
+    ap (count_by test) (ap (map found_entry) is ∙ map-append found_entry old own) ∙ count-append test (map found_entry old) (map found_entry own)
+    ∙ ap (λ (n : ℕ). count_by test (map found_entry old) + n) h ∙ sym (count-append test (map found_entry old) ks)
+
+-- the entries of one document more
+pub one_more : (sparse : Bool) (path : Names) (n : ℕ) (ds : List Doc) (d : Doc) (t : Tree) (ks : List Tree) → slice_get ds n ≡ Some d
+    → t ≡ doc (fields_of d) → distinct ks ≡ indexed_keys sparse t path → entries_from sparse path n (drop n ds) ≡ keys_at n (distinct ks) ++ entries_from sparse path (n + 1) (drop (n + 1) ds)
+one_more sparse path n ds d t ks is tree listed =
+    ap (entries_from sparse path n) (next_at ds n d is)
+    ∙ ap (λ (x : List Tree). keys_at n x ++ entries_from sparse path (n + 1) (drop (n + 1) ds)) (sym (listed ∙ ap (λ (x : Tree). indexed_keys sparse x path) tree))
+
+pub counted_more : (test : KeyAt → Bool) (old new own rest from : List KeyAt) (all : ℕ) → count_by test new ≡ count_by test (old ++ own)
+    → from ≡ own ++ rest → count_by test (old ++ from) ≡ all → count_by test (new ++ rest) ≡ all
+counted_more test old new own rest from all added is so_far =
+    let a = count-append test new rest in
+    let b = count-append test old own in
+    let c = count-append test own rest in
+    let d = count-append test old (own ++ rest) in
+    let e = ap (λ (l : List KeyAt). count_by test (old ++ l)) (sym is) ∙ so_far in
+    omega (arith, a, b, c, d, e, added)
+
+-- ---- how many there are
+
+count_all : {A : Type 0} (xs : List A) → count_by (λ _. true) xs ≡ length xs
+count_all {A} xs = sym (length-filter (λ _. true) xs) ∙ ap (λ (l : List A). length l) (all_pass (λ _. true) xs (λ k d lt. refl))
+
+-- as many are kept as the documents have
+pub size_kept : (sparse : Bool) (path : Names) (dump : Dump) (kept : List Entry) → KeepsDump sparse path dump kept → length kept ≡ length (entries_of sparse path (documents dump))
+size_kept sparse path dump kept k =
+    sym (as_many_kept (bytes_of dump) kept k.entries k.stand) ∙ sym (count_all k.entries) ∙ k.are.same (λ _. true) ∙ count_all (entries_of sparse path (documents dump))
+
+-- ---- each document has a key, so there are more entries than documents where one has two
+
+some_keys : (t : Tree) (path : Names) → 0 < length (keys t path)
+some_keys t path = go (keys t path) (has_a_key t path)
+  where
+    go : (ks : List Tree) → ks ≢ [] → 0 < length ks
+    go [] h = absurd (h refl)
+    go (k ∷ ks) h = omega arith
+
+long : (path : Names) (n : ℕ) (d : Doc) (ds : List Doc)
+    → length (entries_from false path n (d ∷ ds)) ≡ length (keys (doc (fields_of d)) path) + length (entries_from false path (n + 1) ds)
+long path n d ds = length-append (keys_at n (keys (doc (fields_of d)) path)) (entries_from false path (n + 1) ds)
+    ∙ ap (λ (m : ℕ). m + length (entries_from false path (n + 1) ds)) (length-map (keys (doc (fields_of d)) path) (λ k. (k, n)))
+
+no_fewer : (path : Names) (n : ℕ) (ds : List Doc) → length ds ≤ length (entries_from false path n ds)
+no_fewer path n [] = omega arith
+no_fewer path n (d ∷ ds) = let r = no_fewer path (n + 1) ds in let l = long path n d ds in let s = some_keys (doc (fields_of d)) path in omega arith
+
+more : (s l e t : ℕ) (r : Bool) → 0 < l → s ≤ e → nat_lt s e ≡ r → t ≡ l + e → nat_lt (suc s) t ≡ (nat_lt 1 l || r)
+more s l e t r some le is total = grind (arith, nat_tests)
+
+pub many_by_count : (path : Names) (n : ℕ) (ds : List Doc) → nat_lt (length ds) (length (entries_from false path n ds)) ≡ is_multikey path ds
+many_by_count path n [] = refl
+many_by_count path n (d ∷ ds) =
+    more (length ds) (length (keys (doc (fields_of d)) path)) (length (entries_from false path (n + 1) ds))
+    (length (entries_from false path n (d ∷ ds))) (is_multikey path ds) (some_keys (doc (fields_of d)) path) (no_fewer path (n + 1) ds)
+    (many_by_count path (n + 1) ds) (long path n d ds)

@@ -1,9 +1,4 @@
-pub mod DescentLemmas
-pub mod EntriesLemmas
 pub mod EntryLemmas
-pub mod EntryViewLemmas
-pub mod OrderLemmas
 pub mod PlacesLemmas
 pub mod RepeatLemmas
-pub mod SpanLemmas
 pub mod WalkLemmas

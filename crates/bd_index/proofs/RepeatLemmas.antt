@@ -1,27 +1,17 @@
 -- Entries that were sorted, without repeats, are the entries of the documents.
 use Rattle.std.proofs.Common.{◌≡◌, ◌+◌, ℕ, suc, Bool, true, false, cond, List, [], ◌∷◌, ◌++◌, filter, length, append_assoc, append-nil}
 use Rattle.std.proofs.Common.{get_or, map, refl, sym, ap, ap₂, ◌∙◌, arith, eq-eqb}
-use Rattle.std.proofs.Math.Path.{fun_ext}
+use Rattle.std.proofs.{Math.Path.fun_ext, lemmas.Bool.false_from_ne_true, lemmas.Bool.not-false, lemmas.Bool.Decides.nat_tests, lemmas.Cmp.eq_by_cmp_equiv}
+use Rattle.std.proofs.{lemmas.Cmp.on_equiv, lemmas.List.Folds.fold-map, lemmas.List.Folds.list_any-append, lemmas.List.Sums.length-filter, lemmas.List.Sums.sum_by-cons}
 use Rattle.std.specs.Prelude.{◌&&◌, ◌||◌, nat_lt, not}
-use Rattle.std.specs.Cmp.{IsEquivalence}
+use Rattle.std.specs.{Cmp.IsEquivalence, List.Sorted.IsStableBy, List.Sorted.ties, Ordering.is_lt, Ordering.on}
 use Rattle.std.specs.List.{All, count_by, dedup, dedup_from, list_any}
-use Rattle.std.specs.List.Sorted.{IsStableBy, ties}
-use Rattle.std.specs.Ordering.{is_lt, on}
-use Rattle.std.proofs.lemmas.Bool.{false_from_ne_true, not-false}
-use Rattle.std.proofs.lemmas.Bool.Decides.{nat_tests}
-use Rattle.std.proofs.lemmas.Cmp.{eq_by_cmp_equiv, on_equiv}
 use Rattle.std.proofs.lemmas.List.Elements.{All-cons, All-filter, All-from_recursion, All-head, All-tail, filter-append, filter_agree}
-use Rattle.std.proofs.lemmas.List.Folds.{fold-map, list_any-append}
-use Rattle.std.proofs.lemmas.List.Sums.{length-filter, sum_by-cons}
-use Rattle.bd_value.specs.Order.{equal}
-use Rattle.bd_value.specs.Tree.{Tree}
-use Rattle.bd_value.proofs.OrderLemmas.LawsLemmas.{cmp_total}
-use Rattle.bd_path.specs.KeyList.{distinct, with_keys}
-use Rattle.bd_index.specs.Entries.{KeyAt, entry_cmp, is_same_entry, keys_at}
-use Rattle.bd_index.specs.FoundKeyView.{found_entry}
-use Rattle.bd_index.specs.declared.found_key.FoundKey.{FoundKey}
-use Rattle.bd_index.proofs.EntryLemmas.{Ascends, any_by_count, any_filter, same_between, same_laws, ties_are_same}
-use Rattle.bd_index.proofs.SpanLemmas.{all_pass}
+use Rattle.bd_value.specs.{Order.equal, Tree.Tree}
+use Rattle.bd_value.proofs.OrderLemmas.{cmp_total}
+use Rattle.bd_path.specs.Key.{distinct, with_keys}
+use Rattle.bd_index.specs.{Entries.KeyAt, Entries.entry_cmp, Entries.is_same_entry, Entries.keys_at, IndexView.found_entry, declared.entry.FoundKey.FoundKey}
+use Rattle.bd_index.proofs.EntryLemmas.{Ascends, all_pass, any_by_count, any_filter, same_between, same_laws, ties_are_same}
 
 -- ---- filters
 

@@ -1,13 +1,9 @@
 -- The entries of an index on a path: the keys of the documents of a dump, each with the place of its document.
-use Rattle.std.specs.Prelude.{◌≡◌, ◌==◌, ℕ, ◌+◌, Bool, ◌&&◌, List, [], ◌∷◌, ◌++◌, map, count_by, length, nat_lt}
-use Rattle.std.specs.List.{list_any}
-use Rattle.std.specs.List.Sorted.{IsSortedBy}
+use Rattle.std.specs.Prelude.{◌≡◌, ◌==◌, ◌<◌, ◌≤◌, ℕ, ◌+◌, ◌-◌, Bool, true, ◌&&◌, List, [], ◌∷◌, ◌++◌, map, count_by, length, nat_lt, if◌then◌else◌, slice_index_or}
+use Rattle.std.specs.{List.list_any, List.Sorted.IsSortedBy, declared.cmp.Ordering.Ordering}
 use Rattle.std.specs.Ordering.{is_lt, nat_cmp, ordering_then}
-use Rattle.std.specs.declared.cmp.Ordering.{Ordering}
-use Rattle.bd_value.specs.Order.{cmp, equal}
-use Rattle.bd_value.specs.Tree.{Tree, Doc, doc, fields_of}
-use Rattle.bd_path.specs.KeyList.{indexed_keys, keys}
-use Rattle.bd_path.specs.Names.{Names}
+use Rattle.bd_value.specs.{Order.cmp, Order.equal, Tree.Tree, Tree.Doc, Tree.doc, Tree.fields_of}
+use Rattle.bd_path.specs.{Key.indexed_keys, Key.keys, Reach.Names}
 
 -- a key, and the place of its document
 abbrev pub KeyAt : Type 0
@@ -44,3 +40,19 @@ is_same_entry a b = (a.1 == b.1) && equal a.0 b.0
 pub record AreEntries (sparse : Bool) (path : Names) (ds : List Doc) (es : List KeyAt) : Type 0 where
   pub same : (test : KeyAt → Bool) → count_by test es ≡ count_by test (entries_of sparse path ds)
   pub sorted : IsSortedBy (λ a b. is_lt (entry_cmp a b)) es
+
+-- an entry put after those with a greater key
+abbrev pub put_down : KeyAt → List KeyAt → List KeyAt
+put_down e [] = e ∷ []
+put_down e (x ∷ xs) = if is_lt (cmp e.0 x.0) then x ∷ put_down e xs else e ∷ (x ∷ xs)
+
+-- of entries in their order: the greatest key first, of equal keys the lowest place first
+abbrev pub downward : List KeyAt → List KeyAt
+downward [] = []
+downward (e ∷ es) = put_down e (downward es)
+
+-- these have the key of the last one before the end, and those before them a lesser one
+pub record IsRun (es : List KeyAt) (start end : ℕ) : Type 0 where
+  pub some : start < end
+  pub equals : (k : ℕ) (d : KeyAt) → start ≤ k → k < end → equal (slice_index_or es k d).0 (slice_index_or es (end - 1) d).0 ≡ true
+  pub below : (k : ℕ) (d : KeyAt) → k < start → is_lt (cmp (slice_index_or es k d).0 (slice_index_or es (end - 1) d).0) ≡ true

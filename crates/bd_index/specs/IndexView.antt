@@ -1,20 +1,22 @@
--- Which dump an index is of.
-use Rattle.std.specs.Prelude.{◌≡◌, ℕ, List, [], ◌∷◌, Bool}
-use Rattle.std.specs.List.{All}
-use Rattle.std.specs.Coded.{Coded-set, coded_ℕ}
+-- Which dump an index is of: where its entries stand in the bytes of one, as it keeps them and as they were found.
 use Rattle.std.proofs.Common.{ap₂, sym, ◌∙◌}
 use Rattle.std.proofs.Props.{props}
+use Rattle.std.specs.Prelude.{◌≡◌, ℕ, List, [], ◌∷◌, Bool}
+use Rattle.std.specs.{Coded.Coded-set, Coded.coded_ℕ, List.All, List.AllZip}
 use mathlib.Core.HLevel.{is_prop→PathP}
-use Rattle.bd_value.specs.Tree.{Doc}
-use Rattle.bd_raw.specs.At.{one_stands, StandsAt-prop}
-use Rattle.bd_bson.specs.Collection.{documents, bytes_of}
-use Rattle.bd_bson.specs.declared.collection.Dump.{Dump}
-use Rattle.bd_path.specs.Names.{Names}
-use Rattle.bd_path.specs.PathNames.{names_of}
+use Rattle.bd_value.specs.Tree.{Tree}
+use Rattle.bd_raw.specs.{Sound.StandsAt, Sound.StandsAt-prop, Sound.one_stands, Sound.stands, declared.raw.RawValue.RawValue}
+use Rattle.bd_bson.specs.{Collection.bytes_of, Collection.documents, declared.collection.Dump.Dump}
+use Rattle.bd_path.specs.{PathNames.names_of, Reach.Names}
 use Rattle.bd_index.specs.Entries.{AreEntries, KeyAt, is_multikey}
-use Rattle.bd_index.specs.EntryView.{KeepsEntries}
-use Rattle.bd_index.specs.declared.entry.Entry.{Entry}
-use Rattle.bd_index.specs.declared.index.Index.{Index}
+use Rattle.bd_index.specs.{declared.entry.Entry.Entry, declared.entry.FoundKey.FoundKey, declared.index.Index.Index}
+
+-- the key stands in the bytes where the entry says, and the place is that
+abbrev pub KeepsEntry : List ℕ → Entry → KeyAt → Type 0
+KeepsEntry bytes kept e = StandsAt bytes kept.key e.0 × (kept.place ≡ e.1)
+
+abbrev pub KeepsEntries : List ℕ → List Entry → List KeyAt → Type 0
+KeepsEntries bytes kept es = AllZip (KeepsEntry bytes) kept es
 
 -- these are kept for the entries of this dump's documents
 pub record KeepsDump (sparse : Bool) (path : Names) (dump : Dump) (kept : List Entry) : Type 0 where
@@ -49,16 +51,13 @@ KeepsEntries-prop bytes (k ∷ ks) [] p q = absurd p
 KeepsEntries-prop bytes (k ∷ ks) (e ∷ es) p q =
     λ i. ((StandsAt-prop bytes k.key e.0 p.0.0 q.0.0 i, Coded-set coded_ℕ k.place e.1 p.0.1 q.0.1 i), KeepsEntries-prop bytes ks es p.1 q.1 i)
 
-pub AreEntries-prop : (sparse : Bool) (path : Names) (ds : List Doc) (es : List KeyAt) → IsProp (AreEntries sparse path ds es)
-AreEntries-prop sparse path ds es = hlevel props
-
 pub KeepsDump-prop : (sparse : Bool) (path : Names) (dump : Dump) (kept : List Entry) → IsProp (KeepsDump sparse path dump kept)
 KeepsDump-prop sparse path dump kept p q =
     let e : p.entries ≡ q.entries = same_entries (bytes_of dump) kept p.entries q.entries p.stand q.stand in
     λ i. record {
       entries = e i;
       stand = is_prop→PathP (λ k. KeepsEntries (bytes_of dump) kept (e k)) (λ k. KeepsEntries-prop (bytes_of dump) kept (e k)) p.stand q.stand i;
-      are = is_prop→PathP (λ k. AreEntries sparse path (documents dump) (e k)) (λ k. AreEntries-prop sparse path (documents dump) (e k)) p.are q.are i;
+      are = is_prop→PathP (λ k. AreEntries sparse path (documents dump) (e k)) (λ k. hlevel props) p.are q.are i;
     }
 
 pub IsIndexOf-prop : (dump : Dump) (index : Index) → IsProp (IsIndexOf dump index)
@@ -75,3 +74,19 @@ AreIndexesOf dump indexes = All (IsIndexOf dump) indexes
 
 pub AreIndexesOf-prop : (dump : Dump) (indexes : List Index) → IsProp (AreIndexesOf dump indexes)
 AreIndexesOf-prop dump indexes p q = λ i k d low. IsIndexOf-prop dump _ (p k d low) (q k d low) i
+
+abbrev pub raw_tree : RawValue → Tree
+raw_tree v = stands v.sound
+
+abbrev pub raw_source : RawValue → List ℕ
+raw_source v = v.bytes.now
+
+abbrev pub found_entry : FoundKey → KeyAt
+found_entry f = (stands f.key.sound, f.place)
+
+-- they are views into these bytes
+abbrev pub IsFoundIn : List ℕ → FoundKey → Type 0
+IsFoundIn bytes f = f.key.bytes.now ≡ bytes
+
+abbrev pub AreFoundIn : List ℕ → List FoundKey → Type 0
+AreFoundIn bytes fs = All (IsFoundIn bytes) fs

@@ -1,11 +1,5 @@
-pub mod BoundedPlaces
-pub mod Descent
 pub mod Entries
-pub mod EntriesAhead
-pub mod EntryView
-pub mod FoundKeyView
 pub mod IndexView
-pub mod Spans
+pub mod Places
 pub mod Walk
-pub mod WalkLaw
 pub mod WalkLeft

@@ -1,14 +1,16 @@
 -- The order of a walk: that of a sort by the one path of the index.
-use Rattle.std.specs.Prelude.{◌≡◌, ◌==◌, ℕ, List, [], ◌∷◌, length, nat_lt}
-use Rattle.std.specs.List.{list_any}
-use Rattle.std.specs.declared.cmp.Ordering.{Ordering}
+use Rattle.std.proofs.Common.{◌<◌, false, get_or, refl, sym, ◌∙◌, arith, subst, eq-eqb}
+use Rattle.std.proofs.{lemmas.Bool.eqb-true, lemmas.Bool.lt-ltb, lemmas.Bool.ltb-true, lemmas.Cmp.on_total}
+use Rattle.std.proofs.lemmas.List.Folds.{Any-from_list_any, list_any_at}
+use Rattle.std.specs.Prelude.{◌≡◌, ◌==◌, ℕ, Bool, true, List, [], ◌∷◌, ◌++◌, map, take, length, nat_lt, slice_index_or, slice_range, slice_set, if◌then◌else◌, Contains}
+use Rattle.std.specs.{List.list_any, declared.cmp.Ordering.Ordering}
 use Rattle.bd_value.specs.Tree.{Doc}
-use Rattle.bd_answer.specs.Answer.{before}
-use Rattle.bd_answer.specs.AnswerLaws.{IsAscending}
-use Rattle.bd_path.specs.Earliest.{sort_cmp}
-use Rattle.bd_path.specs.Names.{Names}
-use Rattle.bd_path.specs.declared.dir.Dir.{Dir}
-use Rattle.bd_bson.specs.Documents.{document_at}
+use Rattle.bd_bson.specs.Collection.{document_at}
+use Rattle.bd_answer.specs.{Answer.before, Laws.IsAscending, Source.IsSource}
+use Rattle.bd_answer.proofs.AnswerLemmas.{before_strict}
+use Rattle.bd_path.specs.{Reach.Names, Sort.sort_cmp, declared.sort.Dir.Dir}
+use Rattle.bd_path.proofs.SortLemmas.{sort_total}
+use Rattle.bd_index.specs.{Entries.KeyAt, Entries.downward, declared.entry_order.EntryOrder.EntryOrder}
 
 -- how the sort keys of two documents stand
 abbrev pub walk_order : Dir → Names → List Doc → ℕ → ℕ → Ordering
@@ -18,3 +20,39 @@ walk_order dir path ds p q = sort_cmp (record { path = path; dir = dir } ∷ [])
 pub record WalksAll (dir : Dir) (path : Names) (ds : List Doc) (places : List ℕ) : Type 0 where
   pub order : IsAscending (before (walk_order dir path ds)) places
   pub all : (p : ℕ) → list_any (λ q. q == p) places ≡ nat_lt p (length ds)
+
+-- the walk of some documents, as many as the number
+pub record WalksEach (n : ℕ) (places : List ℕ) : Type 0 where
+  pub dir : Dir
+  pub path : Names
+  pub documents : List Doc
+  pub count : n ≡ length documents
+  pub walks : WalksAll dir path documents places
+
+contained : (ps : List ℕ) (q : ℕ) → list_any (λ m. m == q) ps ≡ true → Contains ps q
+contained ps q h = let a = Any-from_list_any (λ m. m == q) ps h in (a.0, a.2, subst (λ (m : ℕ). get_or ps a.0 m ≡ m) (eqb-true a.1 q a.4) a.3)
+
+pub walk_law : (n : ℕ) (hits : ℕ → Bool) (ps : List ℕ) → WalksEach n ps → IsSource n hits ps
+walk_law n hits ps w = record {
+  below = λ k d lt. let p = get_or ps k d in
+      let low : p < length w.documents = ltb-true p (length w.documents) (sym (w.walks.all p) ∙ list_any_at (λ m. m == p) ps k d lt (eq-eqb p p refl)) in
+      let c = w.count in omega arith;
+  distinct = λ i j d a b same. let by = walk_order w.dir w.path w.documents in
+      let up : before by (get_or ps i d) (get_or ps j d) ≡ true = w.walks.order i j d a b in
+      let strict = before_strict by (on_total (document_at w.documents) (sort_total (record { path = w.path; dir = w.dir } ∷ []))) in
+      let none : before by (get_or ps i d) (get_or ps j d) ≡ false = subst (λ (p : ℕ). before by (get_or ps i d) p ≡ false) same (strict.irreflexive (get_or ps i d)) in
+      let f : true ≡ false = sym up ∙ none in cc;
+  complete = λ p lt hit. contained ps p (w.walks.all p ∙ lt-ltb p (length w.documents) (let c = w.count in omega arith));
+}
+
+abbrev pub entries_ahead : EntryOrder → List KeyAt
+entries_ahead o = slice_range o.indexed.keeps.entries o.next o.end ++ downward (take o.below o.indexed.keeps.entries)
+
+abbrev pub places_ahead : EntryOrder → List ℕ
+places_ahead o = map (λ e. e.1) (entries_ahead o)
+
+-- those that are not marked, each once
+abbrev pub fresh_places : List Bool → List ℕ → List ℕ
+fresh_places seen [] = []
+fresh_places seen (p ∷ ps) =
+    if slice_index_or seen p true then fresh_places seen ps else p ∷ fresh_places (slice_set seen p true) ps

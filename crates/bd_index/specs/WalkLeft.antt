@@ -1,7 +1,6 @@
 -- The places that a walk has left.
 use Rattle.std.specs.Prelude.{ℕ, List}
-use Rattle.bd_index.specs.EntriesAhead.{fresh_places, places_ahead}
-use Rattle.bd_index.specs.declared.walk.Walk.{Walk}
+use Rattle.bd_index.specs.{Walk.fresh_places, Walk.places_ahead, declared.walk.Walk.Walk}
 
 abbrev pub walk_left : Walk → List ℕ
 walk_left w = fresh_places w.seen.items (places_ahead w.order)

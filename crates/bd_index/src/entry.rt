@@ -1,6 +1,11 @@
-//! An entry of an index.
+//! The entries of an index, as it keeps them and as they were found.
 
-use bd_bson::At;
+ghost use Rattle.std.specs.Prelude.{◌≡◌};
+ghost use Rattle.bd_raw.specs.Sound.{stands};
+ghost use Rattle.bd_front.specs.Front.{front_of};
+
+use bd_bson::{At, RawValue};
+use bd_front::Front;
 
 /// A key of a document, by where it stands in the dump, and the place of the document. A null or an undefined that stands for
 /// what is not there has the offset 0: it takes no byte, so that one stands there in any bytes.
@@ -8,4 +13,13 @@ use bd_bson::At;
 pub(crate) struct Entry {
     pub key: At,
     pub place: u32,
+}
+
+/// A key of a document, as the value that it is, the place of the document, and the front of the key, by which it mostly compares.
+#[derive(Clone, Copy)]
+pub(crate) struct FoundKey<'a> {
+    pub key: RawValue<'a>,
+    pub place: u32,
+    pub front: Front,
+    ghost fronted: { front ≡ front_of (stands key.sound) },
 }

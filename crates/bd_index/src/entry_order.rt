@@ -26,8 +26,8 @@ pub(crate) struct EntryOrder<'a> {
 
 impl<'a> EntryOrder<'a> {
     ghost use Rattle.std.specs.Prelude.{IfNone, IfSome, [], ◌∷◌};
-    ghost use Rattle.bd_index.specs.EntriesAhead.{entries_ahead, places_ahead};
-    ghost use Rattle.bd_index.specs.Descent.{downward};
+    ghost use Rattle.bd_index.specs.Walk.{entries_ahead, places_ahead};
+    ghost use Rattle.bd_index.specs.Entries.{downward};
 
     /// All entries in turn.
     pub(crate) fn upward(dump: &'a Dump, index: &'a Index) -> EntryOrder<'a>

@@ -1,19 +1,23 @@
-//! An index.
+//! An index, and how it is built: the keys of all documents, put in order.
 
-ghost use Rattle.std.specs.Prelude.{◌≡◌, IfOk, false, length, true};
-ghost use Rattle.bd_bson.specs.Collection.{documents};
+ghost use Rattle.std.specs.Prelude.{◌≡◌, ◌++◌, List, ℕ, Bool, true, false, not, map, length, nat_lt, count_by, IfOk, OnOk};
+ghost use Rattle.std.specs.List.{list_any};
+ghost use Rattle.bd_value.specs.Order.{equal};
+ghost use Rattle.bd_raw.specs.Sound.{stands};
+ghost use Rattle.bd_bson.specs.Collection.{bytes_of, documents};
 ghost use Rattle.bd_bson.specs.declared.collection.Dump.{Dump};
+ghost use Rattle.bd_path.specs.Key.{AreKeysOf, IsKeyOf, distinct, key_tree, key_trees};
 ghost use Rattle.bd_path.specs.PathNames.{names_of};
-ghost use Rattle.bd_index.specs.Entries.{entries_of, is_multikey};
-ghost use Rattle.bd_index.specs.IndexView.{IsIndexOf};
+ghost use Rattle.bd_index.specs.Entries.{KeyAt, entries_of, entry_cmp, is_multikey, is_same_entry, keys_at};
+ghost use Rattle.bd_index.specs.IndexView.{AreFoundIn, IsIndexOf, KeepsDump, KeepsEntries, found_entry, raw_source, raw_tree};
 
-use crate::entries::entries_of;
-use crate::entry::Entry;
-use crate::multikey::has_several;
-use bd_bson::Dump;
-use bd_path::Path;
-use bd_value::NoMemory;
+use crate::entry::{Entry, FoundKey};
+use bd_bson::{At, Dump, RawValue};
+use bd_front::{Front, compare_fronts};
+use bd_path::{Key, Path, all_key_nodes, compare_keys};
+use bd_value::{NoMemory, Reading, compare_nodes};
 use std::alloc::Global;
+use std::cmp::Ordering;
 
 /// The keys of the documents of a dump on a path, in their order, each by where it stands in the dump. It holds no key itself:
 /// it is read beside the dump that it was built from.
@@ -88,4 +92,150 @@ impl Index {
     {
         self.entries.len() as u64
     }
+}
+
+/// The entries of the documents on a path, in their order; without a null for a field that is missing where the index is
+/// sparse. It fails only if memory runs out.
+fn entries_of(alloc: Global, dump: &Dump, path: &Path, sparse: bool) -> Result<Vec<Entry>, NoMemory>
+    ensures { IfOk result (λ v. KeepsDump sparse (names_of path.now) dump.now v.items) }
+{
+    let mut found = find_all(alloc, dump, path, sparse)?;
+    found.sort_by(compare_found)?;
+    let entries = kept_entries(alloc, &found)?;
+    Ok(entries)
+}
+
+/// The keys of all documents, each once for a document.
+fn find_all<'a>(
+    alloc: Global,
+    dump: &'a Dump,
+    path: &Path,
+    sparse: bool,
+) -> Result<Vec<FoundKey<'a>>, NoMemory>
+    ensures found { IfOk result (λ v. (test : KeyAt → Bool) → count_by test (map found_entry v.items) ≡ count_by test (entries_of sparse (names_of path.now) (documents dump.now))) }
+    ensures kept { IfOk result (λ v. AreFoundIn (bytes_of dump.now) v.items) }
+{
+    let mut found = Vec::new(alloc);
+    let mut own = Vec::new(alloc);
+    for place in 0..dump.len() {
+        let keys = all_key_nodes(alloc, dump.document(place).value(), path, sparse)?;
+        add_document(dump, keys, place, &mut own, &mut found)?;
+    }
+    Ok(found)
+}
+
+/// Appends the keys of one document, each once. They are sorted in a room of their own, so that equal ones are side by side: an
+/// array takes no time in the square of its length, and of equal elements the memory of one. The keys are let go before that, since
+/// one document may have nearly all keys of a dump.
+fn add_document<'a>(
+    dump: &'a Dump,
+    keys: Vec<Key<RawValue<'a>>>,
+    place: u32,
+    own: &mut Vec<FoundKey<'a>>,
+    found: &mut Vec<FoundKey<'a>>,
+) -> Result<(), NoMemory>
+    requires { AreKeysOf raw_source (bytes_of dump.now) keys.items }
+    ensures added { OnOk result ((test : KeyAt → Bool) → count_by test (map found_entry found.new.items) ≡ count_by test (map found_entry found.old.items ++ keys_at place (distinct (key_trees raw_tree keys.entry.items)))) }
+    ensures kept { OnOk result (AreFoundIn (bytes_of dump.now) found.old.items → AreFoundIn (bytes_of dump.now) found.new.items) }
+{
+    own.clear();
+    add_found(dump, &keys, place, own)?;
+    drop(keys);
+    own.sort_by(compare_found)?;
+    own.dedup_by(|next, last| repeats(last, next));
+    found.extend_from_slice(own)?;
+    Ok(())
+}
+
+/// Appends keys of one document.
+fn add_found<'a>(
+    dump: &'a Dump,
+    keys: &[Key<RawValue<'a>>],
+    place: u32,
+    found: &mut Vec<FoundKey<'a>>,
+) -> Result<(), NoMemory>
+    requires { AreKeysOf raw_source (bytes_of dump.now) keys.now }
+    ensures added { OnOk result (map found_entry found.new.items ≡ map found_entry found.old.items ++ keys_at place (key_trees raw_tree keys.now)) }
+    ensures kept { AreFoundIn (bytes_of dump.now) found.old.items → AreFoundIn (bytes_of dump.now) found.new.items }
+{
+    for key in keys {
+        let key = in_dump(dump, *key);
+        let front = Front::of(Key::Node(key));
+        found.push(FoundKey { key, place, front })?;
+    }
+    Ok(())
+}
+
+/// The key as a value of the dump. One that is not there takes no byte, and stands everywhere.
+fn in_dump<'a>(dump: &'a Dump, key: Key<RawValue<'a>>) -> RawValue<'a>
+    requires { IsKeyOf raw_source (bytes_of dump.now) key }
+    ensures tree { stands result.sound ≡ key_tree raw_tree key.entry }
+    ensures kept { result.bytes.now ≡ bytes_of dump.now }
+{
+    match key {
+        Key::Node(value) => value,
+        Key::Null => dump.value_at(At::null()),
+        Key::Undefined => dump.value_at(At::undefined()),
+    }
+}
+
+/// The order of two: by key, then by place. The keys are read only where their fronts do not tell it.
+fn compare_found(a: &FoundKey<'_>, b: &FoundKey<'_>) -> Ordering
+    ensures { result ≡ entry_cmp (found_entry a.now) (found_entry b.now) }
+{
+    let order = match compare_fronts(a.front, b.front) {
+        Some(order) => order,
+        None => compare_nodes(a.key, b.key),
+    };
+    order.then(a.place.cmp(&b.place))
+}
+
+/// Whether it is an equal key of the same document.
+fn repeats(last: &FoundKey<'_>, next: &FoundKey<'_>) -> bool
+    ensures { result ≡ is_same_entry (found_entry last.now) (found_entry next.now) }
+{
+    last.place == next.place && compare_nodes(last.key, next.key).is_eq()
+}
+
+/// Where the keys stand.
+fn kept_entries(alloc: Global, found: &[FoundKey<'_>]) -> Result<Vec<Entry>, NoMemory>
+    ensures { (bytes : List ℕ) → AreFoundIn bytes found.now → IfOk result (λ v. KeepsEntries bytes v.items (map found_entry found.now)) }
+{
+    let mut entries = Vec::with_capacity(alloc, found.len())?;
+    for one in found {
+        let key = one.key.at();
+        let place = one.place;
+        entries.push(Entry { key, place })?;
+    }
+    Ok(entries)
+}
+
+/// Whether some document has two keys on a path. It fails only if memory runs out.
+fn has_several(alloc: Global, dump: &Dump, path: &Path) -> Result<bool, NoMemory>
+    ensures { IfOk result (λ b. b ≡ is_multikey (names_of path.now) (documents dump.now)) }
+{
+    for i in 0..dump.len() {
+        let keys = all_key_nodes(alloc, dump.document(i).value(), path, false)?;
+        if are_several(&keys) {
+            return Ok(true);
+        }
+    }
+    Ok(false)
+}
+
+/// Whether two of the keys are not equal: then one is not equal to the first.
+fn are_several<N: Reading>(keys: &[Key<N>]) -> bool
+    ensures { result ≡ nat_lt 1 (length (distinct (key_trees N.tree keys.now))) }
+{
+    let Some((first, others)) = keys.split_first() else {
+        return false;
+    };
+    differ(*first, others)
+}
+
+/// Whether one of the keys is not equal to the first.
+fn differ<N: Reading>(first: Key<N>, others: &[Key<N>]) -> bool
+    ensures { result ≡ list_any (λ k. not (equal (key_tree N.tree first) (key_tree N.tree k))) others.now }
+{
+    others.iter().any(|key| !compare_keys(first, *key).is_eq())
 }

@@ -15,22 +15,15 @@
 //! assert!(rt; found.entries == 2 && found.places.as_slice() == [2, 3].as_slice());
 //! ```
 //!
-//! - `index`: `Index`, its entries and how it is built: `specs/Entries.antt`.
-//! - `entry`, `found_key`, `entries`, `multikey`: the keys of all documents, put in order; whether a document has two.
-//! - `search`, `span`, `spans`, `places`: `Index::places`, the documents with an entry inside bounds: `specs/BoundedPlaces.antt`.
+//! - `index`, `entry`: `Index`, and how it is built: the keys of all documents, put in order: `specs/Entries.antt`.
+//! - `places`: `Index::places`, the documents with an entry inside bounds: `specs/Places.antt`.
 //! - `entry_order`, `walk`: `Index::walk`, all documents in the order of a sort: `specs/Walk.antt`.
 #![tactic(auto)]
 
-mod entries;
 mod entry;
 mod entry_order;
-mod found_key;
 mod index;
-mod multikey;
 mod places;
-mod search;
-mod span;
-mod spans;
 mod walk;
 
 pub use bd_bounds::Bounds;

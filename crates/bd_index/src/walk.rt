@@ -1,8 +1,8 @@
 //! The places of all documents, in the order of an index.
 
-ghost use Rattle.std.specs.Prelude.{◌≡◌, ◌<◌, All, Bool, IfOk, false, length, slice_index_or, ℕ};
+ghost use Rattle.std.specs.Prelude.{◌≡◌, ◌<◌, All, IfOk, false, length};
 ghost use Rattle.std.proofs.Props.{props};
-ghost use Rattle.bd_index.specs.EntriesAhead.{places_ahead};
+ghost use Rattle.bd_index.specs.Walk.{places_ahead};
 
 use crate::entry_order::EntryOrder;
 use crate::index::Index;
@@ -46,7 +46,7 @@ impl<'a> Iterator for Walk<'a> {
 }
 
 impl<'a> PlaceSource for Walk<'a> {
-    ghost use Rattle.bd_index.specs.WalkLaw.{WalksEach, walk_law};
+    ghost use Rattle.bd_index.specs.Walk.{WalksEach, walk_law};
     ghost use Rattle.bd_index.specs.WalkLeft.{walk_left};
 
     ghost left = { walk_left };
@@ -74,23 +74,11 @@ impl Index {
         requires whole { self.now.sparse ≡ false }
         ensures { IfOk result (λ walk. WalksAll dir (names_of self.now.path) (documents dump.now) (walk_left walk)) }
     {
-        let seen = unmarked(alloc, dump.len())?;
+        let seen = vec![in alloc; false; dump.len() as usize]?;
         let order = match dir {
             Dir::Up => EntryOrder::upward(dump, self),
             Dir::Down => EntryOrder::downward(dump, self),
         };
         Ok(Walk { order, seen })
     }
-}
-
-/// No mark for any of so many places.
-fn unmarked(alloc: Global, count: u32) -> Result<Vec<bool>, NoMemory>
-    ensures len { IfOk result (λ v. length v.items ≡ count) }
-    ensures none { IfOk result (λ v. (p : ℕ) (d : Bool) → p < count → slice_index_or v.items p d ≡ false) }
-{
-    let mut seen = Vec::with_capacity(alloc, count as usize)?;
-    for _ in 0..count {
-        seen.push(false)?;
-    }
-    Ok(seen)
 }

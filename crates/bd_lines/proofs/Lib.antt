@@ -1,3 +1,3 @@
 pub mod LinesLemmas
-pub mod NextLineLemmas
+pub mod LineBufferLemmas
 pub mod ServingLemmas

@@ -1,8 +1,8 @@
 -- Lemmas on lines of a text.
 use Rattle.std.proofs.Common.{rules, ◌≡◌, ◌<◌, ◌≤◌, ◌+◌, ℕ, List, [], ◌∷◌, ◌++◌, length, Bool, cond, true, false, refl, sym, ap, ◌∙◌, subst, append_assoc, append-nil, arith, inl, inr, take_at}
 use Rattle.std.proofs.lemmas.List.Splits.{slice_split-cons_yes, slice_split-cons_no, slice_split_none, length-slice_split}
-use Rattle.std.proofs.lemmas.{List.Sums.sum_by-append, List.Elements.All-append, List.Elements.All-cons, List.Elements.All-nil}
-use Rattle.std.proofs.lemmas.{List.Elements.All-take}
+use Rattle.std.proofs.lemmas.List.Sums.{sum_by-append}
+use Rattle.std.proofs.lemmas.List.Elements.{All-append, All-cons, All-nil, All-take}
 use Rattle.std.specs.List.{All, count_by, onto_first}
 use Rattle.bd_lines.specs.Lines.{AreShort, AreWhole, IsLine, IsPart, longest, commands_of, is_empty_line, is_newline, not_empty, text_lines}
 

@@ -1,18 +1,17 @@
 -- Lemmas on replies to the commands of a device.
-use Rattle.std.proofs.Common.{rules, ◌≡◌, ◌<◌, ◌≤◌, ◌+◌, ℕ, List, [], ◌∷◌, ◌++◌, length, Bool, true, false, cond, Option, refl, sym, ap, ◌∙◌, subst}
-use Rattle.std.proofs.Common.{append_assoc, append-nil, arith, inl, inr, length-append}
+use Rattle.std.proofs.Common.{rules, ◌≡◌, ◌<◌, ◌≤◌, ◌+◌, ℕ, List, [], ◌∷◌, ◌++◌, length, Bool, true, false, cond, Option, refl, sym, ap, ◌∙◌, subst, append_assoc, append-nil, arith, inl, inr}
+use Rattle.std.proofs.Common.{length-append}
 use Rattle.std.proofs.KnownBytes.{Appends-nil, Appends-trans}
-use Rattle.bd_device.specs.{Counts.after_more, Counts.greatest, Devices.AreReads, Devices.BreaksAfter, Devices.BreaksWithin, Devices.Reader}
-use Rattle.bd_device.specs.{Devices.TakesText, Devices.Writer, Devices.between, declared.reading.Limits.Limits, declared.reading.ReadFault.ReadFault}
-use Rattle.bd_lines.specs.NextLine.{FailsToReadLine, FindsNoLine, GivesBeforeLast, GivesBytes, IsCause, IsLazy, ReadsLine, StopsReading, held_after}
-use Rattle.bd_lines.specs.Serving.{IsReadInTime, RepliesInTurn, ServesAll, ServesBefore, StarvesAt, StopsServing, StopsUnread}
-use Rattle.bd_lines.specs.{Lines.AreShort, Lines.AreWhole, Lines.IsFirstLine, Lines.commands_of, Lines.is_empty_line, Lines.not_empty}
+use Rattle.bd_device.specs.{Devices.after_more, Devices.greatest, declared.reading.Limits.Limits, declared.reading.ReadFault.ReadFault}
+use Rattle.bd_device.specs.Devices.{AreReads, BreaksAfter, BreaksWithin, Reader, TakesText, Writer, between}
 use Rattle.bd_lines.specs.{declared.serving.ServeFault.ServeFault, declared.line_buffer.LineBuffer.LineBuffer}
-use Rattle.bd_lines.specs.declared.serving.ServeFault.TheVariants as serves
+use Rattle.bd_lines.specs.LineBuffer.{FailsToReadLine, FindsNoLine, GivesBeforeLast, GivesBytes, IsCause, IsLazy, ReadsLine, StopsReading, held_after}
+use Rattle.bd_lines.specs.Serving.{IsReadInTime, RepliesInTurn, ServesAll, ServesBefore, StarvesAt, StopsServing, StopsUnread}
+use Rattle.bd_lines.specs.Lines.{AreShort, AreWhole, IsFirstLine, commands_of, is_empty_line, not_empty}
 use Rattle.std.specs.Prelude.{◌⊎◌}
-use Rattle.bd_lines.proofs.LinesLemmas.{commands_line, no_long_line, short_after, short_line, short_whole_line, commands_whole_line, newlines_more}
-use Rattle.bd_lines.proofs.LinesLemmas.{newlines_of_line}
-use Rattle.bd_lines.proofs.NextLineLemmas.{before_last_then, cause_then, gives_none, gives_then, stops_then}
+use Rattle.bd_lines.proofs.LinesLemmas.{commands_line, no_long_line, short_after, short_line, short_whole_line, commands_whole_line, newlines_more, newlines_of_line}
+use Rattle.bd_lines.proofs.LineBufferLemmas.{before_last_then, cause_then, gives_none, gives_then, stops_then}
+use Rattle.bd_lines.specs.declared.serving.ServeFault.TheVariants as serves
 
 -- ---- writers
 
@@ -227,12 +226,12 @@ module _ {R S : Type 0} {state : R → Reader} {gives : R → Option (List ℕ) 
         → (fault ≡ serves.NoMemory → (is_empty_line next.line.items ≡ false) × (later ≡ now) × StarvesAt stays replies t next.line.items u)
         → (fault ≡ serves.Unwritten → (is_empty_line next.line.items ≡ false)
         × ((reply : List ℕ) × replies t next.line.items reply u × BreaksWithin (between now later) (reply ++ 10 ∷ [])))
-        → StopsServing state gives stays replies limits old new (between before later) s u fault
+        → StopsServing state gives replies limits old new (between before later) s u stays fault
     stops_answer stays later u fault (inl is) starved broke =
         let e = starved is in
-        subst (λ f. StopsServing state gives stays replies limits old new (between before later) s u f) (sym is)
+        subst (λ f. StopsServing state gives replies limits old new (between before later) s u stays f) (sym is)
         (next.line.items, so_far.text, t, serves_before e.0, subst (λ w. TakesText (between before w) so_far.text) (sym e.1) so_far.written, e.2)
     stops_answer stays later u fault (inr is) starved broke =
         let e = broke is in
-        subst (λ f. StopsServing state gives stays replies limits old new (between before later) s u f) (sym is)
+        subst (λ f. StopsServing state gives replies limits old new (between before later) s u stays f) (sym is)
         (next.line.items, so_far.text, e.1.0, t, serves_before e.0, e.1.1, breaks_then before now later so_far.text (e.1.0 ++ 10 ∷ []) so_far.written e.1.2)

@@ -1,3 +1,3 @@
 pub mod Lines
-pub mod NextLine
+pub mod LineBuffer
 pub mod Serving

@@ -9,11 +9,11 @@ is_newline b = b == 10
 abbrev pub IsLine : List ℕ → Type 0
 IsLine line = All (λ b. is_newline b ≡ false) line
 
--- the most bytes that a line may have, without its newline
+-- the most bytes of a line, without its newline
 abbrev pub longest : ℕ
 longest = 16777216
 
--- the bytes may be a line, or the first of one
+-- a line, or the first bytes of one
 abbrev pub IsPart : List ℕ → Type 0
 IsPart line = IsLine line × (length line ≤ longest)
 
@@ -25,20 +25,15 @@ text_lines text = slice_split is_newline text
 abbrev pub AreShort : List ℕ → Type 0
 AreShort text = All (λ line. length line ≤ longest) (text_lines text)
 
--- a space, a tab or a carriage return
-abbrev pub is_space : ℕ → Bool
-is_space b = (b == 32 || b == 9) || b == 13
-
--- the line is white space alone, or empty
+-- the line is empty, or white space alone: spaces, tabs and carriage returns
 abbrev pub is_empty_line : List ℕ → Bool
-is_empty_line line = list_all is_space line
+is_empty_line line = list_all (λ b. (b == 32 || b == 9) || b == 13) line
 
--- those of the lines that are not white space alone
+-- the commands of a text are those of its lines that are not white space alone
 unfoldable pub not_empty : List (List ℕ) → List (List ℕ)
 not_empty [] = []
 not_empty (line ∷ lines) = cond (is_empty_line line) (not_empty lines) (line ∷ not_empty lines)
 
--- the commands of a text are its lines that are not white space alone
 abbrev pub commands_of : List ℕ → List (List ℕ)
 commands_of text = not_empty (text_lines text)
 
@@ -46,9 +41,7 @@ commands_of text = not_empty (text_lines text)
 abbrev pub AreWhole : List ℕ → Type 0
 AreWhole text = (text ≡ []) ⊎ ((front : List ℕ) × (text ≡ front ++ 10 ∷ []))
 
--- The text is a line, its newline and the rest. Or it is the last line, which has no newline and is not empty, and the end
--- was found.
+-- The text is a line, its newline and the rest. Or it is the last line, which has no newline and is not empty, at the end.
 abbrev pub IsFirstLine : List ℕ → List ℕ → List ℕ → Bool → Type 0
 IsFirstLine text line rest ended =
-    IsPart line × ((text ≡ line ++ 10 ∷ rest)
-    ⊎ ((text ≡ line) × (0 < length line) × (rest ≡ []) × (ended ≡ true)))
+    IsPart line × ((text ≡ line ++ 10 ∷ rest) ⊎ ((text ≡ line) × (0 < length line) × (rest ≡ []) × (ended ≡ true)))

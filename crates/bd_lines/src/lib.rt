@@ -1,7 +1,6 @@
 //! The lines of a device, and a reply to each that is a command.
 //!
-//! The lines of a text, and those of them that are commands: `specs/Lines.antt`. What is replied to them:
-//! `specs/Serving.antt`.
+//! The lines of a text, and those of them that are commands: `specs/Lines.antt`.
 //!
 //! An example, which `bd_device_tests` proves and runs as `examples::lines`:
 //!
@@ -17,15 +16,12 @@
 //! assert!(rt; !lines.read_next(&mut input)?);
 //! ```
 //!
-//! - `lines`: `is_empty_line`, which tells the lines that are no commands.
-//! - `line_buffer`: `LineBuffer`, the next line of a device that is lent for the call.
-//! - `serving`: `serve`, which writes what a `Replier` replies to each command.
+//! - `line_buffer`: `LineBuffer`, the next line of a device.
+//! - `serving`: `serve`, which writes what a `Replier` replies to each command; `is_empty_line`, a line that is none.
 #![tactic(auto)]
 
 mod line_buffer;
-mod lines;
 mod serving;
 
 pub use line_buffer::LineBuffer;
-pub use lines::is_empty_line;
-pub use serving::{Replier, ServeFault, serve};
+pub use serving::{Replier, ServeFault, is_empty_line, serve};

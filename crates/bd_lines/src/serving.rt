@@ -1,4 +1,5 @@
 //! A reply to each command of a device, written before a later read.
+
 ghost use Rattle.std.specs.Prelude.{◌≡◌, ◌++◌, ◌∷◌, [], None, false, IfErr, OnErr, OnOk, IsErrOf, List, ℕ, ◌⊎◌};
 ghost use Rattle.bd_device.specs.Devices.{BreaksWithin, TakesText, over};
 ghost use Rattle.bd_lines.specs.Lines.{is_empty_line, not_empty};
@@ -6,7 +7,6 @@ ghost use Rattle.bd_lines.specs.Serving.{RepliesInTurn, ServesAll, StarvesAt, St
 ghost use Rattle.bd_lines.specs.declared.serving.ServeFault.TheVariants.{NoMemory as starved, Unread as unread, Unwritten as unwritten};
 
 use crate::line_buffer::LineBuffer;
-use crate::lines::is_empty_line;
 use bd_device::{DeviceFault, Input, Limits, Output, ReadFault, write_all};
 use std::alloc::{AllocError, Global};
 use thiserror::Error;
@@ -92,8 +92,7 @@ fn answer<O: Output, S: Replier>(
     if text.push(b'\n').is_err() {
         return Err(ServeFault::NoMemory);
     }
-    write_all(out, text)?;
-    Ok(())
+    Ok(write_all(out, text)?)
 }
 
 /// Writes a reply to each command of a device: to each line that is not white space alone, in their order.
@@ -114,8 +113,8 @@ pub fn serve<R: Input, O: Output, S: Replier>(
 ) -> Result<(), ServeFault>
     ensures serves { OnOk result (ServesAll R.state R.read_gives S.replies limits reader.old reader.new
         (over O.state out.old out.new) session.old session.new) }
-    ensures stops { IfErr result (StopsServing R.state R.read_gives S.stays S.replies limits reader.old reader.new
-        (over O.state out.old out.new) session.old session.new) }
+    ensures stops { IfErr result (StopsServing R.state R.read_gives S.replies limits reader.old reader.new
+        (over O.state out.old out.new) session.old session.new S.stays) }
 {
     let mut lines = LineBuffer::new(alloc, limits);
     let mut text = Vec::new(alloc);
@@ -134,11 +133,18 @@ fn serve_lines<R: Input, O: Output, S: Replier>(
     requires starts { (lines.old.ended ≡ false) × (lines.old.failed ≡ None) }
     ensures serves { OnOk result (ServesAll R.state R.read_gives S.replies lines.old.left reader.old reader.new
         (over O.state out.old out.new) session.old session.new) }
-    ensures stops { IfErr result (StopsServing R.state R.read_gives S.stays S.replies lines.old.left reader.old reader.new
-        (over O.state out.old out.new) session.old session.new) }
+    ensures stops { IfErr result (StopsServing R.state R.read_gives S.replies lines.old.left reader.old reader.new
+        (over O.state out.old out.new) session.old session.new S.stays) }
 {
     while lines.read_next(reader)? {
         answer(lines.line(), session, text, out)?;
     }
     Ok(())
+}
+
+/// Whether a line is empty, or white space alone: spaces, tabs and carriage returns. It takes no memory.
+pub fn is_empty_line(line: &[u8]) -> bool
+    ensures { result ≡ is_empty_line line.now }
+{
+    line.iter().all(|byte| matches!(byte, b' ' | b'\t' | b'\r'))
 }

@@ -3,23 +3,17 @@
 use Rattle.std.proofs.Common.{◌≡◌, ◌≤◌, ℕ, zero, suc, ◌-◌, ℤ, List, Bool, true, false, ◌||◌, Option, Some, None, refl, sym, ap, ◌∙◌, arith}
 use Rattle.std.specs.Prelude.{codes, option_map, option_and_then}
 use Rattle.std.proofs.lemmas.Bool.{cond_both, or_from}
-use Rattle.bd_value.specs.Limits.{most_levels}
-use Rattle.json.specs.Token.{Token}
-use Rattle.json.specs.Json as json
-use Rattle.json.specs.Json.{Json}
-use Rattle.json.specs.Find.{as_str}
-use Rattle.bd_value.specs.Tree as trees
+use Rattle.bd_value.specs.{Limits.most_levels, Fits.has_zero, Fits.zero_in, Fits.zero_in_scalar, Fits.zero_in_fields, Fits.zero_in_items}
+use Rattle.bd_value.specs.Tree.{depth, fields_depth, items_depth}
 use Rattle.bd_value.specs.Tree.{Scalar, Tree, leaf, doc, array, code_scope, Items, no_items, item, Fields, no_fields, field, Doc, fields_of, pairs_of, fields_of-pairs_of}
-use Rattle.bd_value.specs.Depth.{depth, fields_depth, items_depth}
-use Rattle.bd_value.specs.Zeros.{has_zero, zero_in, zero_in_scalar, zero_in_fields, zero_in_items}
-use Rattle.bd_wrapper.specs.Whole.{fits_bits, whole_64, whole_32}
-use Rattle.bd_wrapper.specs.Wrappers.{wrapper_of, single, name_in, both, both_in, pair, id_of, data_in, subtype_in, word_in, only, long_in, one, is_true, if_no_zero, if_true}
-use Rattle.bd_extjson.specs.Meaning.{wrap, wrap_items, wrap_object, wrap_fields, after, after_one, AfterName, nothing, one_more, several, bare_number, nested}
-use Rattle.bd_extjson.specs.Meaning.{add_item, add_field, with_scope, two, wrapper_tree, either}
-use Rattle.bd_wrapper.specs.Progress.{through}
-use Rattle.bd_extjson.specs.TextDocument.{ReadsAs, document}
-use Rattle.bd_extjson.specs.TextDocument as reads
-use Rattle.bd_wrapper.specs.declared.wrapper.Wrapper.{Wrapper}
+use Rattle.json.specs.{Token.Token, Json.Json, Find.as_str}
+use Rattle.json.specs.Json as json
+use Rattle.bd_value.specs.Tree as trees
+use Rattle.bd_wrapper.specs.{WholeNumber.fits_bits, WholeNumber.whole_64, WholeNumber.whole_32, Wrapper.through, declared.wrapper.Wrapper.Wrapper}
+use Rattle.bd_wrapper.specs.Wrapper.{wrapper_of, single, name_in, both, both_in, pair, id_of, data_in, subtype_in, word_in, only, long_in, one, is_true, if_no_zero, if_true}
+use Rattle.bd_extjson.specs.Read.{wrap, wrap_items, wrap_object, wrap_fields, after, after_one, AfterName, nothing, one_more, several, bare_number, nested, add_item}
+use Rattle.bd_extjson.specs.Read.{add_field, with_scope, two, wrapper_tree, either, ReadsAs, document}
+use Rattle.bd_extjson.specs.Read as reads
 use Rattle.bd_wrapper.specs.declared.wrapper.Wrapper.TheVariants as kinds
 
 -- what stands there nests so deep at most, and has no zero where there may be none

@@ -10,21 +10,15 @@
 //! assert!(rt; bytes.as_slice() == b"\x0c\0\0\0\x10a\0\x01\0\0\0\0".as_slice());
 //! ```
 //!
-//! - `line`: `Packer`, a line at a time.
-//! - `canonical_line`: the bytes straight from a line as `dump` writes it, over `canonical_text`, what a text begins with.
-//! - `tokens`: the bytes straight from the tokens of any other line; `short`, of the wrappers that hold one string, as most do.
-//! - `scalars`: elements of scalars; `put`, pieces of elements.
-//! - `laws`: what is packed spells the line's document.
+//! - `line`: `Packer`, a line at a time; laws, that what is packed spells the line's document.
+//! - `canonical_line`: the bytes straight from a line as `dump` writes it.
+//! - `tokens`: the bytes straight from the tokens of any other line.
+//! - `elements`: elements of scalars, and their pieces.
 #![tactic(auto)]
 
 mod canonical_line;
-mod canonical_text;
-mod laws;
+mod elements;
 mod line;
-mod put;
-mod scalars;
-mod short;
 mod tokens;
 
-pub use laws::{packs_documents, reads_within_limits};
-pub use line::{LineFault, Packer};
+pub use line::{LineFault, Packer, packs_documents, reads_within_limits};

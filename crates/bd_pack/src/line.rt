@@ -1,7 +1,12 @@
-//! A line as the bytes of the document that it is.
-ghost use Rattle.std.specs.Prelude.{◌≡◌, ◌++◌, IfOk, IfSome, OnErr, None, Ok};
-ghost use Rattle.bd_value.specs.Tree.{Doc};
+//! A line as the bytes of the document that it is, and laws of what is packed.
+ghost use Rattle.std.specs.Prelude.{◌≡◌, ◌++◌, IfOk, IfSome, OnErr, None, Ok, ◌≤◌, ℕ, List, false};
+ghost use Rattle.bd_value.specs.Tree.{Doc, doc, fields_of, depth};
 ghost use Rattle.bd_pack.specs.Packable.{plain, IsPackable, IsBad};
+ghost use Rattle.bd_value.specs.Limits.{most_levels};
+ghost use Rattle.bd_value.specs.Fits.{zero_in};
+ghost use Rattle.bd_raw.specs.Spelling.{IsDocument};
+ghost use Rattle.bd_write.specs.TreeBytes.{SpellsPlainly};
+ghost use Rattle.bd_extjson.specs.Read.{ReadsAs};
 
 use crate::tokens::spell_line;
 use bd_diagnose::{JsonFault, JsonFaultKind};
@@ -21,40 +26,6 @@ pub enum LineFault {
     /// Its document has more than 16,793,600 bytes.
     #[error("document too long")]
     TooLong,
-}
-
-/// Packs a line by a tree of its document, and tells what is wrong with it.
-#[cold]
-fn pack_tree(
-    alloc: Global,
-    line: &[u8],
-    scratch: &mut Scratch,
-    out: &mut Vec<u8>,
-) -> Result<Option<LineFault>, NoMemory>
-    ensures packed { result ≡ Ok None → (d : Doc) × IsPackable line.now d × (out.new.items ≡ out.old.items ++ plain d) }
-    ensures bad { IfOk result (λ o. IfSome o (λ f. IsBad line.now f × (out.new ≡ out.old))) }
-    ensures err { OnErr result (out.new.items ≡ out.old.items) }
-{
-    let document = match read_doc_with(alloc, line, scratch) {
-        Ok(document) => document,
-        Err(fault) => {
-            return match fault.kind {
-                JsonFaultKind::NoMemory => Err(AllocError),
-                _ => Ok(Some(LineFault::Unread(fault))),
-            };
-        }
-    };
-    match write_document(alloc, &document) {
-        Ok(bytes) => {
-            out.extend_from_slice(&bytes)?;
-            Ok(None)
-        }
-        Err(WriteFault::TooLong) => Ok(Some(LineFault::TooLong)),
-        Err(WriteFault::NoMemory) => Err(AllocError),
-        // No text is read as such a document.
-        Err(WriteFault::TooDeep) => unreachable!(),
-        Err(WriteFault::NulInName) => unreachable!(),
-    }
 }
 
 /// Packs lines. It keeps room from line to line, and nothing else.
@@ -100,3 +71,48 @@ impl Packer {
         }
     }
 }
+
+/// Packs a line by a tree of its document, and tells what is wrong with it.
+#[cold]
+fn pack_tree(
+    alloc: Global,
+    line: &[u8],
+    scratch: &mut Scratch,
+    out: &mut Vec<u8>,
+) -> Result<Option<LineFault>, NoMemory>
+    ensures packed { result ≡ Ok None → (d : Doc) × IsPackable line.now d × (out.new.items ≡ out.old.items ++ plain d) }
+    ensures bad { IfOk result (λ o. IfSome o (λ f. IsBad line.now f × (out.new ≡ out.old))) }
+    ensures err { OnErr result (out.new.items ≡ out.old.items) }
+{
+    let document = match read_doc_with(alloc, line, scratch) {
+        Ok(document) => document,
+        Err(fault) if fault.kind == JsonFaultKind::NoMemory => return Err(AllocError),
+        Err(fault) => return Ok(Some(LineFault::Unread(fault))),
+    };
+    match write_document(alloc, &document) {
+        Ok(bytes) => {
+            out.extend_from_slice(&bytes)?;
+            Ok(None)
+        }
+        Err(WriteFault::TooLong) => Ok(Some(LineFault::TooLong)),
+        Err(WriteFault::NoMemory) => Err(AllocError),
+        // No text is read as such a document.
+        Err(WriteFault::TooDeep) => unreachable!(),
+        Err(WriteFault::NulInName) => unreachable!(),
+    }
+}
+
+// The body of each of these is empty: its contract is the law.
+
+/// A document that is read from a line can be written but for its length: it is at most 200 deep, and no name and no part of a
+/// regular expression holds U+0000.
+pub fn reads_within_limits()
+    ensures deep { (line : List ℕ) (d : Doc) → ReadsAs line d → depth (doc (fields_of d)) ≤ most_levels }
+    ensures zeros { (line : List ℕ) (d : Doc) → ReadsAs line d → zero_in (doc (fields_of d)) ≡ false }
+{}
+
+/// So what is packed is the line's document, written within all limits, and spells it by the grammar of BSON.
+pub fn packs_documents()
+    ensures written { (line : List ℕ) (d : Doc) → IsPackable line d → SpellsPlainly d (plain d) }
+    ensures spelled { (line : List ℕ) (d : Doc) → IsPackable line d → IsDocument d (plain d) }
+{}

@@ -1,10 +1,4 @@
-pub mod EarliestLemmas
-pub mod EndsLemmas
-pub mod KeyListLemmas
-pub mod LawsLemmas
-pub mod MemberLemmas
-pub mod PositionsLemmas
+pub mod SortLemmas
+pub mod KeyLemmas
 pub mod ReachLemmas
-pub mod StopLemmas
-pub mod VisitsLemmas
 pub mod WalkLemmas

@@ -1,16 +1,14 @@
 -- What is gathered on the way down, by what each value is.
-use Rattle.std.proofs.Common.{◌≡◌, ◌<◌, ◌≤◌, ℕ, zero, suc, List, [], ◌∷◌, ◌++◌, Some, None, length, refl, ap, arith}
-use Rattle.std.specs.Prelude.{slice_get}
+use Rattle.std.proofs.Common.{◌≡◌, ◌<◌, ◌≤◌, ℕ, zero, suc, List, [], ◌∷◌, ◌++◌, Some, None, length, refl, ap, arith, Bool, true, false, cond, ◌⊎◌, inl, inr, sym, ◌∙◌}
+use Rattle.std.specs.{Prelude.slice_get, Prelude.Contains, Prelude.slice_index_or, List.list_any}
 use Rattle.bd_value.specs.Tree as trees
-use Rattle.bd_value.specs.Tree.{Scalar, Tree, Doc, leaf, doc, array, code_scope, Items, no_items, item, Fields, no_fields, field, pairs_in, pairs_of, list_of}
-use Rattle.bd_value.specs.Tree.{items_of, items_of-list_of, tree_size, items_size, fields_size}
-use Rattle.bd_value.specs.Parts.{values_of, elements_in, length_of, AreParts}
-use Rattle.bd_value.specs.Lookup.{first_of}
-use Rattle.bd_value.specs.Kind.{kind_of, scalar_kind}
-use Rattle.bd_value.specs.declared.kind.Kind.TheVariants as kinds
-use Rattle.bd_path.specs.Component.{index_of}
-use Rattle.bd_path.specs.Names.{Names}
-use Rattle.bd_path.specs.Reach.{Gathering, gathering, gathering_at, each_gathering, first_gathering}
+use Rattle.bd_value.specs.Tree.{Scalar, Tree, Doc, leaf, doc, array, Items, no_items, item, Fields, no_fields, field, pairs_in, pairs_of, list_of, items_of}
+use Rattle.bd_value.specs.Tree.{items_of-list_of, tree_size, items_size, fields_size}
+use Rattle.bd_value.specs.{Tree.values_of, Tree.elements_in, Tree.length_of, Tree.AreParts, Tree.first_of, View.kind_of, View.scalar_kind}
+use Rattle.bd_value.specs.declared.node.Kind.TheVariants as kinds
+use Rattle.bd_path.specs.Reach.{index_of, Names, Gathering, gathering, gathering_at, each_gathering, first_gathering, End, ends, is_document, reach}
+use Rattle.std.proofs.lemmas.Bool.{false≢true, or_cases, or_from, or_left, or_parts, or_right}
+use Rattle.std.proofs.lemmas.List.Folds.{list_any-append}
 
 pub scalar_is_no_array : (s : Scalar) → scalar_kind s ≡ kinds.Array → ⊥
 scalar_is_no_array trees.min_key k = cc
@@ -49,10 +47,6 @@ length_elements _ k = refl
 -- ---- what is gathered
 
 module _ {A : Type 0} (g : Gathering A) where
-  pub at_the_end : (t : Tree) → gathering g t [] ≡ g.at_end t
-  at_the_end (leaf s) = refl
-  at_the_end _ = refl
-
   found_in : (fs : Fields) (name : List ℕ) (r : Names) (u : Tree) → first_of name (pairs_of fs) ≡ Some u → first_gathering g fs name r ≡ gathering g u r
   found_in no_fields name r u e = absurd cc
   found_in (field n t fs) name r u e = grind (arith, found_in fs name r u)
@@ -95,3 +89,85 @@ module _ {A : Type 0} (g : Gathering A) where
   at_index [] i u r e = absurd cc
   at_index (x ∷ es) zero u r e = let same : x ≡ u = cc in ap (λ (y : Tree). gathering g y r) same
   at_index (x ∷ es) (suc i) u r e = at_index es i u r e
+
+abbrev pub In : {A : Type 0} → A → List A → Type 0
+In x [] = ⊥
+In x (y ∷ ys) = (x ≡ y) ⊎ In x ys
+
+pub in_left : {A : Type 0} (x : A) (xs ys : List A) → In x xs → In x (xs ++ ys)
+in_left x [] ys h = absurd h
+in_left x (z ∷ xs) ys (inl e) = inl e
+in_left x (z ∷ xs) ys (inr h) = inr (in_left x xs ys h)
+
+pub in_right : {A : Type 0} (x : A) (xs ys : List A) → In x ys → In x (xs ++ ys)
+in_right x [] ys h = h
+in_right x (z ∷ xs) ys h = inr (in_right x xs ys h)
+
+pub in_cases : {A : Type 0} (x : A) (xs ys : List A) → In x (xs ++ ys) → In x xs ⊎ In x ys
+in_cases x [] ys h = inr h
+in_cases x (z ∷ xs) ys (inl e) = inl (inl e)
+in_cases x (z ∷ xs) ys (inr h) = elim (in_cases x xs ys h) [ inl a ↦ inl (inr a) | inr b ↦ inr b ]
+
+-- of two lists that one test chooses
+pub in_either : {A B : Type 0} (t : Bool) (x : A) (y : B) (ws vs : List A) (bs cs : List B) → (In x ws → In y bs) → (In x vs → In y cs) → In x (cond t ws vs) → In y (cond t bs cs)
+in_either true x y ws vs bs cs f g h = f h
+in_either false x y ws vs bs cs f g h = g h
+
+pub any_at : {A : Type 0} (test : A → Bool) (xs : List A) (x : A) → In x xs → test x ≡ true → list_any test xs ≡ true
+any_at test [] x h e = absurd h
+any_at test (y ∷ ys) x (inl p) e = or_left (test y) (list_any test ys) (ap test (sym p) ∙ e)
+any_at test (y ∷ ys) x (inr h) e = or_right (test y) (list_any test ys) (any_at test ys x h e)
+
+-- where what fails one test fails another
+pub any_still : {A : Type 0} (f g : A → Bool) → ((x : A) → f x ≡ false → g x ≡ false) → (xs : List A) → list_any f xs ≡ false → list_any g xs ≡ false
+any_still f g h [] none = refl
+any_still f g h (x ∷ xs) none = let both = or_parts (f x) (list_any f xs) none in or_from (g x) (list_any g xs) (h x both.0) (any_still f g h xs both.1)
+
+-- some member passes
+pub record Found {A : Type 0} (test : A → Bool) (xs : List A) : Type 0 where
+  pub it : A
+  pub is_in : In it xs
+  pub passes : test it ≡ true
+
+pub found_from : {A : Type 0} (test : A → Bool) (xs : List A) → list_any test xs ≡ true → Found test xs
+found_from test [] h = absurd (false≢true h)
+found_from test (x ∷ xs) h = elim (or_cases (test x) (list_any test xs) h) [
+  | inl e ↦ record { it = x; is_in = inl refl; passes = e }
+  | inr e ↦ let r = found_from test xs e in record { it = r.it; is_in = inr r.is_in; passes = r.passes }
+]
+
+-- membership by index
+pub contains_from : {A : Type 0} (x : A) (xs : List A) → In x xs → Contains xs x
+contains_from x [] h = absurd h
+contains_from x (y ∷ ys) (inl e) = (0, omega arith, sym e)
+contains_from x (y ∷ ys) (inr h) = let r = contains_from x ys h in (suc r.0, omega (arith, r.1), r.2)
+
+pub in_from : {A : Type 0} (x : A) (xs : List A) → Contains xs x → In x xs
+in_from {A} x xs h = go xs h.0 h.1 h.2
+  where
+    go : (ys : List A) (k : ℕ) → k < length ys → slice_index_or ys k x ≡ x → In x ys
+    go [] k l e = absurd (omega arith)
+    go (y ∷ ys) zero l e = inl (sym e)
+    go (y ∷ ys) (suc k) l e = inr (go ys k (omega arith) e)
+
+pub one : (f : End → Bool) (e : End) (b : Bool) (es : List End) → b ≡ f e → es ≡ e ∷ [] → b ≡ list_any f es
+one f e b es h k = grind arith
+
+-- of two parts, the first has one, or has none
+pub in_first : (f : End → Bool) (b : Bool) (es fs all : List End) → b ≡ list_any f es → b ≡ true → all ≡ es ++ fs → b ≡ list_any f all
+in_first f b es fs all is passed joined = grind (arith, list_any-append f es fs)
+
+pub in_second : (f : End → Bool) (a b : Bool) (es fs all : List End) → a ≡ list_any f es → a ≡ false → b ≡ list_any f fs → all ≡ es ++ fs → b ≡ list_any f all
+in_second f a b es fs all is failed second joined = grind (arith, list_any-append f es fs)
+
+-- one more element of an array
+pub document_passed : (f : End → Bool) (p : Names) (u : Tree) (ts us : List Tree) (all : Bool) → list_any f (each_gathering ends (items_of ts) p) ≡ all → ts ≡ u ∷ us → is_document u ≡ true
+    → list_any f (reach u p) ≡ false → list_any f (each_gathering ends (items_of us) p) ≡ all
+document_passed f p u ts us all so_far is d none = rw (← so_far, is, d, list_any-append, none)
+
+pub other_passed : (f : End → Bool) (p : Names) (u : Tree) (ts us : List Tree) (all : Bool) → list_any f (each_gathering ends (items_of ts) p) ≡ all → ts ≡ u ∷ us → is_document u ≡ false
+    → list_any f (each_gathering ends (items_of us) p) ≡ all
+other_passed f p u ts us all so_far is d = rw (← so_far, is, d)
+
+pub keeps_ends : (f : End → Bool) (xs : List End) → list_any f xs ≡ false → list_any f xs ≡ false
+keeps_ends f xs h = h

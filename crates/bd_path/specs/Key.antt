@@ -1,36 +1,80 @@
--- What a key stands for.
-use Rattle.std.specs.Prelude.{◌≡◌, ℕ, List, Bool, true, false, map, All}
-use Rattle.std.specs.List.{list_any}
+-- The keys of a document on a path: what it is sorted by, and what an index has of it.
+use Rattle.std.specs.Prelude.{◌≡◌, ℕ, List, [], ◌∷◌, ◌++◌, Bool, true, false, not, map, All, if◌then◌else◌}
+use Rattle.std.specs.List.{flat_map, list_any}
+use Rattle.bd_value.specs.Order.{equal}
 use Rattle.bd_value.specs.Tree as trees
-use Rattle.bd_value.specs.Tree.{Tree, leaf, array, no_items}
-use Rattle.bd_path.specs.Stop.{Stops}
-use Rattle.bd_path.specs.declared.key.Key.{Key}
+use Rattle.bd_value.specs.Tree.{Tree, leaf, doc, array, no_items, code_scope, list_of}
+use Rattle.bd_path.specs.{Reach.Gathering, Reach.Names, Reach.gathering, Walk.Stops, declared.key.Key.Key}
+use Rattle.bd_path.specs.{declared.walk.Stop.Stop, declared.walk.Stop.TheVariants.Value}
 use Rattle.bd_path.specs.declared.key.Key.TheVariants.{Node, Null, Undefined}
-use Rattle.bd_path.specs.declared.stop.Stop.{Stop}
-use Rattle.bd_path.specs.declared.stop.Stop.TheVariants.{Value, Missing, NoBranch}
+
+-- what stands for a field that is missing: a null, and in a sparse index nothing
+abbrev pub missing_key : Bool → List Tree
+missing_key true = []
+missing_key false = leaf trees.null ∷ []
+
+abbrev pub or_else : List Tree → List Tree → List Tree
+or_else [] ys = ys
+or_else (x ∷ xs) ys = x ∷ xs
+
+-- the elements of an array, an undefined for an empty one; every other value itself
+abbrev pub end_keys : Tree → List Tree
+end_keys (leaf s) = leaf s ∷ []
+end_keys (doc fs) = doc fs ∷ []
+end_keys (array ts) = or_else (list_of ts) (leaf trees.undefined ∷ [])
+end_keys (code_scope s fs) = code_scope s fs ∷ []
+
+-- an array that gives no key has what stands for a missing field
+abbrev pub key_gathering : List Tree → Gathering Tree
+key_gathering missing = record { at_end = end_keys; missing = missing; of_array = λ ks. or_else ks missing }
+
+-- the keys with equal ones
+abbrev pub all_keys : Bool → Tree → Names → List Tree
+all_keys sparse t path = gathering (key_gathering (missing_key sparse)) t path
+
+-- one key more, which is dropped where it equals an earlier one
+abbrev pub with_key : List Tree → Tree → List Tree
+with_key ks k = if list_any (λ x. equal x k) ks then ks else ks ++ k ∷ []
+
+abbrev pub with_keys : List Tree → List Tree → List Tree
+with_keys ks [] = ks
+with_keys ks (t ∷ ts) = with_keys (with_key ks t) ts
+
+abbrev pub distinct : List Tree → List Tree
+distinct ks = with_keys [] ks
+
+-- those that an index has: in a sparse one without the nulls of missing fields
+abbrev pub indexed_keys : Bool → Tree → Names → List Tree
+indexed_keys sparse t path = distinct (all_keys sparse t path)
+
+abbrev pub keys : Tree → Names → List Tree
+keys t path = indexed_keys false t path
+
+abbrev pub sparse_keys : Tree → Names → List Tree
+sparse_keys t path = indexed_keys true t path
+
+-- ---- keys in memory
 
 abbrev pub key_tree : {N : Type 0} → (N → Tree) → Key N → Tree
 key_tree tree (Node n) = tree n
 key_tree tree Null = leaf trees.null
 key_tree tree Undefined = leaf trees.undefined
 
+abbrev pub key_trees : {N : Type 0} → (N → Tree) → List (Key N) → List Tree
+key_trees tree ks = map (key_tree tree) ks
+
 -- a node among the keys stands in these bytes
 abbrev pub IsKeyOf : {N : Type 0} → (N → List ℕ) → List ℕ → Key N → Type 0
 IsKeyOf source bytes (Node n) = source n ≡ bytes
-IsKeyOf source bytes Null = Unit {0}
-IsKeyOf source bytes Undefined = Unit {0}
-
-abbrev pub key_trees : {N : Type 0} → (N → Tree) → List (Key N) → List Tree
-key_trees tree keys = map (key_tree tree) keys
+IsKeyOf source bytes _ = Unit {0}
 
 abbrev pub AreKeysOf : {N : Type 0} → (N → List ℕ) → List ℕ → List (Key N) → Type 0
-AreKeysOf source bytes keys = All (IsKeyOf source bytes) keys
+AreKeysOf source bytes ks = All (IsKeyOf source bytes) ks
 
 -- no value stands there
 abbrev pub is_no_value : Stop Tree → Bool
 is_no_value (Value t) = false
-is_no_value Missing = true
-is_no_value NoBranch = true
+is_no_value _ = true
 
 abbrev pub is_empty_array : Stop Tree → Bool
 is_empty_array (Value (array no_items)) = true
@@ -44,4 +88,28 @@ IsKeyAt sparse ss Null = (sparse ≡ false) × (list_any is_no_value ss ≡ true
 IsKeyAt sparse ss Undefined = list_any is_empty_array ss ≡ true
 
 abbrev pub AreKeysAt : {N : Type 0} → Bool → Stops → List (Key N) → Type 0
-AreKeysAt sparse ss keys = All (IsKeyAt sparse ss) keys
+AreKeysAt sparse ss ks = All (IsKeyAt sparse ss) ks
+
+-- ---- keys found so far, of which those that equal an earlier one count for nothing
+
+-- the keys that a stop gives
+abbrev pub stop_keys : Bool → Stop Tree → List Tree
+stop_keys sparse (Value t) = end_keys t
+stop_keys sparse _ = missing_key sparse
+
+-- to the keys that were there, these were added
+abbrev pub AddsKeys : {N : Type 0} → (N → Tree) → List (Key N) → List (Key N) → List Tree → Type 0
+AddsKeys tree before after more = distinct (key_trees tree after) ≡ distinct (key_trees tree before ++ more)
+
+-- a key equals none of some
+abbrev pub is_new : List Tree → Tree → Bool
+is_new ks k = not (list_any (λ x. equal x k) ks)
+
+abbrev pub gives_new : Bool → List Tree → Stop Tree → Bool
+gives_new sparse ks s = list_any (is_new (distinct ks)) (stop_keys sparse s)
+
+-- the keys are those of some stops
+pub record AreKeysFrom {N : Type 0} (tree : N → Tree) (source : N → List ℕ) (sparse : Bool) (ks : List (Key N)) (bytes : List ℕ) (ss : Stops) : Type 0 where
+  pub listed : distinct (key_trees tree ks) ≡ distinct (flat_map (stop_keys sparse) ss)
+  pub kept : AreKeysOf source bytes ks
+  pub there : AreKeysAt sparse ss ks

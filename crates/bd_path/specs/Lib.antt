@@ -1,17 +1,6 @@
-pub mod AddedKeys
-pub mod Component
-pub mod Earliest
-pub mod EarliestKeys
 pub mod Key
-pub mod KeyList
-pub mod Laws
-pub mod Names
 pub mod Path
-pub mod PathFault
 pub mod PathNames
-pub mod Positions
 pub mod Reach
 pub mod Sort
-pub mod Stop
-pub mod Visits
 pub mod Walk

@@ -1,24 +1,37 @@
--- The path that a text is.
-use Rattle.std.specs.Prelude.{◌≡◌, ◌⊎◌, ℕ, List, Bool, ◌==◌, nat_lt, length, Result, Ok, Err, IfErr, if◌then◌else◌}
-use Rattle.std.specs.List.{list_any}
+-- The path that a text is: its names, or why it has none.
+use Rattle.std.specs.Prelude.{◌≡◌, ◌⊎◌, ℕ, List, Bool, ◌==◌, nat_lt, length, map, string_bytes, Result, Ok, Err, IfErr, if◌then◌else◌, get_or, ◌-◌, []}
+use Rattle.std.specs.List.{list_any, slice_split}
 use Rattle.bd_value.specs.Limits.{most_names}
-use Rattle.bd_path.specs.Names.{Names, components_of}
-use Rattle.bd_path.specs.declared.path_fault.PathFault.{PathFault}
-use Rattle.bd_path.specs.declared.path_fault.PathFault.TheVariants.{EmptyComponent, TooLong, NoMemory}
+use Rattle.bd_path.specs.{Reach.Names, declared.component.Component.Component, declared.path.PathFault.PathFault}
+use Rattle.bd_path.specs.declared.path.PathFault.TheVariants.{EmptyComponent, TooLong, NoMemory}
+use Rattle.bd_path.specs.declared.path.TheConstants.{FAULT_WORDS}
+
+abbrev pub components_of : List ℕ → Names
+components_of text = slice_split (λ c. c == 46) text
+
+abbrev pub component_names : List Component → Names
+component_names components = map (λ c. string_bytes c.name) components
 
 abbrev pub is_empty_name : List ℕ → Bool
 is_empty_name name = length name == 0
 
 -- more than 100 components are told before an empty one
-abbrev pub path_of_names : Names → Result Names PathFault
-path_of_names names =
+abbrev pub path_of : List ℕ → Result Names PathFault
+path_of text = let names = components_of text in
     if nat_lt most_names (length names) then Err TooLong
     else if list_any is_empty_name names then Err EmptyComponent
     else Ok names
 
-abbrev pub path_of : List ℕ → Result Names PathFault
-path_of text = path_of_names (components_of text)
-
 -- a refusal is that of the text, or that memory ran out
 abbrev pub RefusesOrStarves : {P : Type 0} → Result P PathFault → Result Names PathFault → Type 0
 RefusesOrStarves answer path = IfErr answer (λ fault. (fault ≡ NoMemory) ⊎ (path ≡ Err fault))
+
+-- the number by which a reply tells it
+abbrev pub path_fault_number : PathFault → ℕ
+path_fault_number EmptyComponent = 1
+path_fault_number TooLong = 2
+path_fault_number NoMemory = 3
+
+-- what went wrong, in words, which stand in the code by number
+unfoldable pub path_fault_words : PathFault → List ℕ
+path_fault_words kind = get_or (map (λ text. text.now) FAULT_WORDS) (path_fault_number kind - 1) []

@@ -1,6 +1,5 @@
 -- The names of a path in hand.
-use Rattle.bd_path.specs.Names.{Names, component_names}
-use Rattle.bd_path.specs.declared.path.Path.{Path}
+use Rattle.bd_path.specs.{Path.component_names, Reach.Names, declared.path.Path.Path}
 
 abbrev pub names_of : Path → Names
 names_of path = component_names path.components.items

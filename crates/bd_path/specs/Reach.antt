@@ -1,11 +1,29 @@
 -- What a path reaches (MongoDB manual, "Query on Embedded/Nested Documents" and "Query an Array").
-use Rattle.std.specs.Prelude.{ℕ, zero, suc, List, [], ◌∷◌, ◌++◌, Bool, true, false, Option, Some, None, if◌then◌else◌}
-use Rattle.std.specs.Str.{bytes_eq}
-use Rattle.bd_value.specs.Parts.{elements_in}
-use Rattle.bd_value.specs.Tree.{Tree, leaf, doc, array, code_scope}
-use Rattle.bd_value.specs.Tree.{Items, no_items, item, items_of, Fields, no_fields, field}
-use Rattle.bd_path.specs.Component.{index_of}
-use Rattle.bd_path.specs.Names.{Names}
+use Rattle.std.specs.Prelude.{ℕ, zero, suc, List, [], ◌∷◌, ◌++◌, Bool, true, false, ◌==◌, min, nat_lt, if◌then◌else◌, Option, Some, None, option_map}
+use Rattle.std.specs.{Char.is_ascii_digit, Str.all_ascii_digits, Str.bytes_eq, Str.Parse.digits_value}
+use Rattle.bd_value.specs.Tree.{elements_in, Tree, leaf, doc, array, code_scope, Items, no_items, item, items_of, Fields, no_fields, field}
+
+-- a path: a name for each of its components
+abbrev pub Names : Type 0
+Names = List (List ℕ)
+
+-- a name is `0`, or digits of which the first is not 0
+abbrev pub is_index : List ℕ → Bool
+is_index [] = false
+is_index (c ∷ []) = is_ascii_digit c
+is_index (c ∷ d ∷ cs) = if c == 48 then false else all_ascii_digits (c ∷ d ∷ cs)
+
+abbrev pub index_of : List ℕ → Option ℕ
+index_of name = if is_index name then Some (digits_value 10 name) else None
+
+-- the same, where an index past every array counts as the greatest number of 64 bits
+abbrev pub held_index : List ℕ → Option ℕ
+held_index name = option_map (λ i. min i 18446744073709551615) (index_of name)
+
+-- an index is below a length
+abbrev pub is_below : Option ℕ → ℕ → Bool
+is_below None n = false
+is_below (Some i) n = nat_lt i n
 
 abbrev pub is_document : Tree → Bool
 is_document (doc fs) = true
@@ -20,10 +38,7 @@ pub record Gathering (A : Type 0) : Type 0 where
 
 abbrev mutual
   pub gathering : {A : Type 0} → Gathering A → Tree → Names → List A
-  gathering g (leaf s) [] = g.at_end (leaf s)
-  gathering g (doc fs) [] = g.at_end (doc fs)
-  gathering g (array ts) [] = g.at_end (array ts)
-  gathering g (code_scope s fs) [] = g.at_end (code_scope s fs)
+  gathering g t [] = g.at_end t
   gathering g (leaf s) (name ∷ rest) = g.missing
   gathering g (doc fs) (name ∷ rest) = first_gathering g fs name rest
   gathering g (array ts) (name ∷ rest) = g.of_array (each_gathering g ts (name ∷ rest) ++ gathering_at g ts (index_of name) rest)

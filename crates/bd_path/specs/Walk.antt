@@ -1,9 +1,87 @@
--- What a walk down a path gathers, of the stops on its way.
-use Rattle.std.specs.Prelude.{◌≡◌, ◌++◌, ◌∷◌, [], ℕ, List, Bool, true, false}
+-- A walk down a path: from which positions of it a value was walked before, where it stops, and what it gathers there.
+use Rattle.std.specs.Prelude.{◌≡◌, ℕ, suc, List, [], ◌∷◌, ◌++◌, drop, Bool, true, false, Some, None, slice_get, slice_index_or}
 use Rattle.std.specs.List.{list_any}
 use Rattle.bd_value.specs.Tree.{Tree}
-use Rattle.bd_path.specs.Stop.{Stops}
-use Rattle.bd_path.specs.declared.stop.Stop.{Stop}
+use Rattle.bd_path.specs.Reach.{End, Gathering, Names, document_gathering, gathering, held_index, index_gathering}
+use Rattle.bd_path.specs.declared.walk.Positions.{Positions}
+use Rattle.bd_path.specs.{declared.walk.Step.Step, declared.walk.Stop.Stop, declared.walk.Visits.Visits}
+use Rattle.bd_path.specs.declared.walk.Step.TheVariants.{Field, Element}
+use Rattle.bd_path.specs.declared.walk.Stop.TheVariants.{Value, Missing, NoBranch}
+use Rattle.bd_path.specs.declared.walk.Visits.TheVariants.{Nowhere, From}
+
+abbrev pub is_open : Positions → ℕ → Bool
+is_open p k = slice_index_or p.are_open k false
+
+abbrev pub IsOpen : Positions → ℕ → Type 0
+IsOpen p k = is_open p k ≡ true
+
+-- a component takes a step
+abbrev pub Takes : Step → List ℕ → Type 0
+Takes (Field s) name = name ≡ s.now
+Takes (Element i) name = held_index name ≡ Some i
+
+-- a value was walked from a position of a path
+abbrev pub is_walked : Visits → ℕ → Bool
+is_walked Nowhere k = false
+is_walked (From p) k = is_open p k
+
+abbrev pub IsWalked : Visits → ℕ → Type 0
+IsWalked w k = is_walked w k ≡ true
+
+-- a value was walked from a position whose component takes the step
+pub record Leads (step : Step) (path : Names) (w : Visits) (k : ℕ) : Type 0 where
+  pub name : List ℕ
+  pub here : IsWalked w k
+  pub is_there : slice_get path k ≡ Some name
+  pub takes : Takes step name
+
+-- a position comes after one that leads
+pub record LedTo (step : Step) (path : Names) (w : Visits) (k : ℕ) : Type 0 where
+  pub before : ℕ
+  pub after : k ≡ suc before
+  pub led : Leads step path w before
+
+-- nothing that is gathered below it on the rest of the path, from any of these positions, passes a test
+abbrev pub GathersNone : {A : Type 0} → (A → Bool) → Gathering A → Tree → Names → Visits → Type 0
+GathersNone test g t path w = (k : ℕ) → IsWalked w k → list_any test (gathering g t (drop k path)) ≡ false
+
+abbrev pub Stops : Type 0
+Stops = List (Stop Tree)
+
+abbrev pub stop_tree : {N : Type 0} → (N → Tree) → Stop N → Stop Tree
+stop_tree tree (Value n) = Value (tree n)
+stop_tree tree Missing = Missing
+stop_tree tree NoBranch = NoBranch
+
+-- a value among the stops stands in these bytes
+abbrev pub IsStopOf : {N : Type 0} → (N → List ℕ) → List ℕ → Stop N → Type 0
+IsStopOf source bytes (Value n) = source n ≡ bytes
+IsStopOf source bytes _ = Unit {0}
+
+-- an array below which nothing is reached is a stop itself
+abbrev pub or_stop : Stops → Stops
+or_stop [] = NoBranch ∷ []
+or_stop (s ∷ ss) = s ∷ ss
+
+abbrev pub stopping : Gathering (Stop Tree)
+stopping = record { at_end = λ t. Value t ∷ []; missing = Missing ∷ []; of_array = or_stop }
+
+abbrev pub stops : Tree → Names → Stops
+stops t path = gathering stopping t path
+
+abbrev pub document_stops : Tree → Names → Stops
+document_stops t path = document_gathering stopping t path
+
+-- those of an array after those of its documents, by whether it has one
+abbrev pub later_stops : Bool → Tree → Names → Stops
+later_stops true t path = index_gathering stopping t path
+later_stops false t path = or_stop (index_gathering stopping t path)
+
+-- an end at a stop passes a test
+abbrev pub is_passed : (End → Bool) → Stop Tree → Bool
+is_passed test (Value t) = test (Some t)
+is_passed test Missing = test None
+is_passed test NoBranch = false
 
 -- Stops were taken in: what was found amounts to them too, none of them is new, nor is what was none before.
 pub record TakesStops {F : Type 0} (amounts : F → List ℕ → Stops → Type 0) (is_new : F → Stop Tree → Bool) (bytes : List ℕ) (before after : F) (more : Stops) : Type 0 where

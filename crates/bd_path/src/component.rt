@@ -2,7 +2,7 @@
 
 ghost use Rattle.std.specs.Prelude.{◌≡◌, IfOk, string_bytes};
 ghost use Rattle.std.specs.Str.{all_ascii_digits};
-ghost use Rattle.bd_path.specs.Component.{is_index, held_index};
+ghost use Rattle.bd_path.specs.Reach.{is_index, held_index};
 
 use bd_value::NoMemory;
 use std::alloc::Global;
@@ -22,32 +22,10 @@ impl Component {
     pub(crate) fn new(alloc: Global, name: &str) -> Result<Self, NoMemory>
         ensures { IfOk result (λ c. string_bytes c.name ≡ name.now) }
     {
-        Ok(Component {
-            name: String::from_str(alloc, name)?,
-            index: index_of(name),
-        })
+        let index = index_of(name);
+        let name = String::from_str(alloc, name)?;
+        Ok(Component { name, index })
     }
-
-    /// The same component once more. It fails only if memory runs out.
-    pub(crate) fn try_copy(&self, alloc: Global) -> Result<Self, NoMemory>
-        ensures { IfOk result (λ c. string_bytes c.name ≡ string_bytes self.now.name) }
-    {
-        Ok(Component {
-            name: String::from_str(alloc, self.name.as_str())?,
-            index: self.index,
-        })
-    }
-}
-
-fn are_digits(bytes: &[u8]) -> bool
-    ensures { result ≡ all_ascii_digits bytes.now }
-{
-    for byte in bytes {
-        if !byte.is_ascii_digit() {
-            return false;
-        }
-    }
-    true
 }
 
 /// Whether a name is `0`, or digits of which the first is none.
@@ -60,6 +38,17 @@ fn is_index(name: &[u8]) -> bool
         [b'0', ..] => false,
         _ => are_digits(name),
     }
+}
+
+fn are_digits(bytes: &[u8]) -> bool
+    ensures { result ≡ all_ascii_digits bytes.now }
+{
+    for byte in bytes {
+        if !byte.is_ascii_digit() {
+            return false;
+        }
+    }
+    true
 }
 
 /// The index that a name is; the greatest number for one past every array.

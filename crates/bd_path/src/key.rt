@@ -1,12 +1,22 @@
-//! A key of a document on a path.
+//! The keys of a document on a path, as nodes of the document.
 
-ghost use Rattle.std.specs.Prelude.{◌≡◌, IfOk};
-ghost use Rattle.bd_value.specs.Order.{cmp};
-ghost use Rattle.bd_value.specs.View.{tree_of};
-ghost use Rattle.bd_path.specs.Key.{key_tree};
+ghost use Rattle.std.specs.Prelude.{◌≡◌, ◌≢◌, ◌∷◌, [], List, ℕ, Bool, true, false, map, None, is_some, Contains, IfOk, OnOk};
+ghost use Rattle.std.specs.List.{list_any};
+ghost use Rattle.bd_value.specs.View.{kind_of, tree_of};
+ghost use Rattle.bd_value.specs.Order.{cmp, equal};
+ghost use Rattle.bd_value.specs.Tree.{elements_in};
+ghost use Rattle.bd_value.specs.Tree as trees;
+ghost use Rattle.bd_value.specs.declared.node.Kind.TheVariants as kinds;
+ghost use Rattle.bd_path.specs.Key.{AddsKeys, AreKeysAt, AreKeysFrom, AreKeysOf, IsKeyAt, IsKeyOf, distinct, end_keys, gives_new, indexed_keys};
+ghost use Rattle.bd_path.specs.Key.{is_empty_array, is_no_value, key_tree, key_trees, keys, missing_key, sparse_keys as sparse_keys_of, with_key};
+ghost use Rattle.bd_path.specs.PathNames.{names_of};
+ghost use Rattle.bd_path.specs.Reach.{Names, reach};
+ghost use Rattle.bd_path.specs.Walk.{IsStopOf, Stops, TakesOrEnds, stop_tree, stops};
 
-use bd_value::{NoMemory, Reading, Tree, Value, compare_nodes, to_value};
-use std::alloc::Global;
+use crate::path::Path;
+use crate::walk::{Gatherer, Stop, walk};
+use bd_value::{Kind, NoMemory, Reading, Tree, Value, compare_nodes, to_value};
+use std::alloc::{AllocError, Global};
 use std::cmp::Ordering;
 
 /// A node of the document, or what stands for a value that is not there.
@@ -19,15 +29,176 @@ pub enum Key<N> {
     Undefined,
 }
 
-/// The order of a key and a value.
-fn compare_to<M: Reading, N: Reading>(a: Key<M>, b: N) -> Ordering
-    ensures { result ≡ cmp (key_tree M.tree a) (N.tree b) }
+/// The keys of a document on a path, as nodes of the document: the elements of an array that the path reaches, every other
+/// value itself, a null for a field that is missing. A key that equals an earlier one is dropped. It fails only if memory
+/// runs out.
+pub fn key_nodes<N: Reading>(alloc: Global, doc: N, path: &Path) -> Result<Vec<Key<N>>, NoMemory>
+    ensures trees { IfOk result (λ ks. key_trees N.tree ks.items ≡ keys (N.tree doc) (names_of path.now)) }
+    ensures kept { IfOk result (λ ks. AreKeysOf N.source (N.source doc) ks.items) }
+    ensures there { IfOk result (λ ks. AreKeysAt false (stops (N.tree doc) (names_of path.now)) ks.items) }
 {
-    match a {
-        Key::Node(node) => compare_nodes(node, b),
-        Key::Null => compare_nodes(Tree::Value(&Value::Null), b),
-        Key::Undefined => compare_nodes(Tree::Value(&Value::Undefined), b),
+    let all = all_key_nodes(alloc, doc, path, false)?;
+    distinct_keys(alloc, &all)
+}
+
+/// The same without a null for a field that is missing: what a sparse index has. It fails only if memory runs out.
+pub fn sparse_keys<N: Reading>(alloc: Global, doc: N, path: &Path) -> Result<Vec<Key<N>>, NoMemory>
+    ensures trees { IfOk result (λ ks. key_trees N.tree ks.items ≡ sparse_keys_of (N.tree doc) (names_of path.now)) }
+    ensures kept { IfOk result (λ ks. AreKeysOf N.source (N.source doc) ks.items) }
+    ensures there { IfOk result (λ ks. AreKeysAt true (stops (N.tree doc) (names_of path.now)) ks.items) }
+{
+    let all = all_key_nodes(alloc, doc, path, true)?;
+    distinct_keys(alloc, &all)
+}
+
+/// The keys in their order, some equal ones too, without a null for a field that is missing where the index is sparse. An index
+/// that sorts them finds equal ones side by side then, where `key_nodes` takes the square of their number to drop them. It fails
+/// only if memory runs out.
+pub fn all_key_nodes<N: Reading>(
+    alloc: Global,
+    doc: N,
+    path: &Path,
+    sparse: bool,
+) -> Result<Vec<Key<N>>, NoMemory>
+    ensures distinct { IfOk result (λ ks. distinct (key_trees N.tree ks.items) ≡ indexed_keys sparse (N.tree doc) (names_of path.now)) }
+    ensures kept { IfOk result (λ ks. AreKeysOf N.source (N.source doc) ks.items) }
+    ensures there { IfOk result (λ ks. AreKeysAt sparse (stops (N.tree doc) (names_of path.now)) ks.items) }
+{
+    let mut all = Vec::new(alloc);
+    let gatherer = KeyGatherer { sparse };
+    if !walk(&gatherer, &mut all, doc, path) {
+        return Err(AllocError);
     }
+    Ok(all)
+}
+
+/// The keys in memory. It fails only if memory runs out.
+pub fn keys<N: Reading>(alloc: Global, doc: N, path: &Path) -> Result<Vec<Value>, NoMemory>
+    ensures { IfOk result (λ ks. map tree_of ks.items ≡ keys (N.tree doc) (names_of path.now)) }
+{
+    let nodes = key_nodes(alloc, doc, path)?;
+    let mut values = Vec::new(alloc);
+    for key in &nodes {
+        values.push(key_value(alloc, *key)?)?;
+    }
+    Ok(values)
+}
+
+/// Gathers the keys. One that equals the last is not appended: a path that repeats an index comes to a value, or to a field that is
+/// missing, once from each of its positions.
+#[derive(Clone, Copy)]
+struct KeyGatherer {
+    sparse: bool,
+}
+
+impl<N: Reading> Gatherer<N> for KeyGatherer {
+    type Found = Vec<Key<N>>;
+
+    ghost amounts = { λ s keys bytes ss. AreKeysFrom N.tree N.source s.sparse keys.items bytes ss };
+
+    ghost is_new = { λ s keys stop. gives_new s.sparse (key_trees N.tree keys.items) stop };
+
+    ghost ends = { λ _ _. true };
+
+    /// It goes on until memory runs out.
+    fn take(&self, keys: &mut Vec<Key<N>>, stop: Stop<N>) -> bool
+        ensures { (bytes : List ℕ) → IsStopOf N.source bytes stop → TakesOrEnds (λ ks. AreKeysFrom N.tree N.source self.now.sparse ks.items) (λ ks. gives_new self.now.sparse (key_trees N.tree ks.items)) (λ _. true) result bytes keys.old keys.new (stop_tree N.tree stop ∷ []) }
+    {
+        match stop {
+            Stop::Value(node) => add_end(node, keys).is_ok(),
+            _ => add_missing(self.sparse, keys).is_ok(),
+        }
+    }
+}
+
+/// Appends what stands for a field that is missing.
+fn add_missing<N: Reading>(sparse: bool, keys: &mut Vec<Key<N>>) -> Result<(), NoMemory>
+    ensures added { OnOk result (AddsKeys N.tree keys.old.items keys.new.items (missing_key sparse)) }
+    ensures kept { (bytes : List ℕ) → AreKeysOf N.source bytes keys.old.items → AreKeysOf N.source bytes keys.new.items }
+    ensures there { OnOk result ((ss : Stops) → list_any is_no_value ss ≡ true → AreKeysAt sparse ss keys.old.items → AreKeysAt sparse ss keys.new.items) }
+{
+    if sparse {
+        return Ok(());
+    }
+    add_next(keys, Key::Null)
+}
+
+/// Appends a value, or the elements of an array.
+fn add_end<N: Reading>(node: N, keys: &mut Vec<Key<N>>) -> Result<(), NoMemory>
+    ensures added { OnOk result (AddsKeys N.tree keys.old.items keys.new.items (end_keys (N.tree node))) }
+    ensures kept { AreKeysOf N.source (N.source node) keys.old.items → AreKeysOf N.source (N.source node) keys.new.items }
+    ensures there { OnOk result ((sparse : Bool) (ss : Stops) → (is_empty_array (Stop.Value (N.tree node)) ≡ true → list_any is_empty_array ss ≡ true) → AreKeysAt sparse ss keys.old.items → AreKeysAt sparse ss keys.new.items) }
+{
+    let Kind::Array = node.kind() else {
+        return add_next(keys, Key::Node(node));
+    };
+    let Some(_) = N::next(&node.parts()) else {
+        return add_next(keys, Key::Undefined);
+    };
+    add_elements(node, keys)
+}
+
+/// Appends the elements of an array.
+fn add_elements<N: Reading>(node: N, keys: &mut Vec<Key<N>>) -> Result<(), NoMemory>
+    requires { kind_of (N.tree node) ≡ kinds.Array }
+    ensures added { OnOk result (AddsKeys N.tree keys.old.items keys.new.items (elements_in (N.tree node))) }
+    ensures kept { AreKeysOf N.source (N.source node) keys.old.items → AreKeysOf N.source (N.source node) keys.new.items }
+    ensures there { (sparse : Bool) (ss : Stops) → AreKeysAt sparse ss keys.old.items → AreKeysAt sparse ss keys.new.items }
+{
+    let mut left = node.parts();
+    while let Some(next) = N::next(&left) {
+        add_next(keys, Key::Node(next.1))?;
+        left = next.2;
+    }
+    Ok(())
+}
+
+/// Appends a key, where it does not equal the last.
+fn add_next<N: Reading>(keys: &mut Vec<Key<N>>, key: Key<N>) -> Result<(), NoMemory>
+    ensures added { OnOk result (AddsKeys N.tree keys.old.items keys.new.items (key_tree N.tree key ∷ [])) }
+    ensures kept { (bytes : List ℕ) → AreKeysOf N.source bytes keys.old.items → IsKeyOf N.source bytes key → AreKeysOf N.source bytes keys.new.items }
+    ensures there { (sparse : Bool) (ss : Stops) → AreKeysAt sparse ss keys.old.items → IsKeyAt sparse ss key → AreKeysAt sparse ss keys.new.items }
+{
+    match keys.last() {
+        Some(last) if compare_keys(*last, key).is_eq() => Ok(()),
+        _ => {
+            keys.push(key)?;
+            Ok(())
+        }
+    }
+}
+
+/// The keys, without one that equals an earlier one. Each is compared with those before it.
+fn distinct_keys<N: Reading>(alloc: Global, all: &[Key<N>]) -> Result<Vec<Key<N>>, NoMemory>
+    ensures trees { IfOk result (λ ks. key_trees N.tree ks.items ≡ distinct (key_trees N.tree all.now)) }
+    ensures kept { (bytes : List ℕ) → AreKeysOf N.source bytes all.now → IfOk result (λ ks. AreKeysOf N.source bytes ks.items) }
+    ensures there { (sparse : Bool) (ss : Stops) → AreKeysAt sparse ss all.now → IfOk result (λ ks. AreKeysAt sparse ss ks.items) }
+{
+    let mut keys = Vec::new(alloc);
+    for key in all {
+        add_key(&mut keys, *key)?;
+    }
+    Ok(keys)
+}
+
+/// Appends a key, where it equals none before it.
+fn add_key<N: Reading>(keys: &mut Vec<Key<N>>, key: Key<N>) -> Result<(), NoMemory>
+    ensures added { OnOk result (key_trees N.tree keys.new.items ≡ with_key (key_trees N.tree keys.old.items) (key_tree N.tree key)) }
+    ensures kept { (bytes : List ℕ) → AreKeysOf N.source bytes keys.old.items → IsKeyOf N.source bytes key → AreKeysOf N.source bytes keys.new.items }
+    ensures there { (sparse : Bool) (ss : Stops) → AreKeysAt sparse ss keys.old.items → IsKeyAt sparse ss key → AreKeysAt sparse ss keys.new.items }
+{
+    if has_equal(keys, key) {
+        return Ok(());
+    }
+    keys.push(key)?;
+    Ok(())
+}
+
+/// Whether one of the keys equals the key.
+fn has_equal<N: Reading>(keys: &[Key<N>], key: Key<N>) -> bool
+    ensures { result ≡ list_any (λ k. equal (key_tree N.tree k) (key_tree N.tree key)) keys.now }
+{
+    keys.iter().any(|k| compare_keys(*k, key).is_eq())
 }
 
 /// The order of two keys. It takes no memory.
@@ -41,6 +212,17 @@ pub fn compare_keys<M: Reading, N: Reading>(a: Key<M>, b: Key<N>) -> Ordering
     }
 }
 
+/// The order of a key and a value.
+fn compare_to<M: Reading, N: Reading>(a: Key<M>, b: N) -> Ordering
+    ensures { result ≡ cmp (key_tree M.tree a) (N.tree b) }
+{
+    match a {
+        Key::Node(node) => compare_nodes(node, b),
+        Key::Null => compare_nodes(Tree::Value(&Value::Null), b),
+        Key::Undefined => compare_nodes(Tree::Value(&Value::Undefined), b),
+    }
+}
+
 /// A key in memory. It fails only if memory runs out.
 pub fn key_value<N: Reading>(alloc: Global, key: Key<N>) -> Result<Value, NoMemory>
     ensures { IfOk result (λ v. tree_of v ≡ key_tree N.tree key) }
@@ -51,3 +233,16 @@ pub fn key_value<N: Reading>(alloc: Global, key: Key<N>) -> Result<Value, NoMemo
         Key::Undefined => Ok(Value::Undefined),
     }
 }
+
+/// What always holds of keys, for a proof that calls it: a document has a key on each path, null where the path misses a field or
+/// reaches no value.
+pub fn keys_are_there()
+    ensures some { (t : trees.Tree) (path : Names) → keys t path ≢ [] }
+    ensures missing { (t : trees.Tree) (path : Names) → Contains (reach t path) None → Contains (keys t path) (trees.leaf trees.null) }
+    ensures nothing { (t : trees.Tree) (path : Names) → list_any is_some (reach t path) ≡ false → Contains (keys t path) (trees.leaf trees.null) }
+{}
+
+/// A sparse index leaves out nulls alone: a key that does not equal null is a sparse key.
+pub fn sparse_keys_are_the_rest()
+    ensures { (t : trees.Tree) (path : Names) (k : trees.Tree) → Contains (keys t path) k → equal k (trees.leaf trees.null) ≡ false → Contains (sparse_keys_of t path) k }
+{}

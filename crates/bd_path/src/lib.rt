@@ -13,41 +13,25 @@
 //! assert!(rt; matches!(key, Value::Int32(5)));
 //! ```
 //!
-//! - `path`, `path_fault`, `component`: `Path`, a text cut into its components: `specs/Path.antt`.
-//! - `positions`, `visits`: where a value was walked before, so that each walk down a path goes into it once from each position of
-//!   the path: `specs/Visits.antt`.
-//! - `stop`, `walk`: the one walk down a path, for whatever gathers what it leads to: `specs/Stop.antt`.
-//! - `ends`: `any_end`, whether a value that the path reaches passes a test: `specs/Reach.antt`.
-//! - `key`, `key_list`: the keys of a document on a path, as nodes of the document: `specs/KeyList.antt`.
-//! - `dir`, `earliest`, `sort`: the key of a document in a sort, found with no list of keys, and the order of two documents by
-//!   several paths: `specs/Earliest.antt`.
-//! - `laws`: keys are always there; a sparse index leaves out nulls alone; a sort is total.
+//! - `path`, `component`: `Path`, a text cut into its components: `specs/Path.antt`.
+//! - `walk`: `any_end`, whether a value that the path reaches passes a test: `specs/Reach.antt`; the one walk down a path, for
+//!   whatever gathers what it leads to, into each value once from each position of the path: `specs/Walk.antt`.
+//! - `key`: the keys of a document on a path, as nodes of the document; they are always there: `specs/Key.antt`.
+//! - `sort`: the key of a document in a sort, found with no list of keys, and the order of two documents by several paths, which
+//!   is total: `specs/Sort.antt`.
 #![tactic(auto)]
 
 mod component;
-mod dir;
-mod earliest;
-mod ends;
 mod key;
-mod key_list;
-mod laws;
 mod path;
-mod path_fault;
-mod positions;
 mod sort;
-mod stop;
-mod visits;
 mod walk;
 
 pub use component::Component;
-pub use dir::Dir;
-pub use earliest::{compare_in, sort_key, sort_key_node};
-pub use ends::{EndTest, any_end};
-pub use key::{Key, compare_keys, key_value};
-pub use key_list::{all_key_nodes, key_nodes, keys, sparse_keys};
-pub use laws::{keys_are_there, sorts_order_all_documents, sparse_keys_are_the_rest};
-pub use path::Path;
-pub use path_fault::PathFault;
-pub use sort::compare_sort;
-pub use visits::Visits;
-pub use walk::is_document;
+pub use key::{
+    Key, all_key_nodes, compare_keys, key_nodes, key_value, keys, keys_are_there, sparse_keys,
+    sparse_keys_are_the_rest,
+};
+pub use path::{Path, PathFault};
+pub use sort::{Dir, compare_in, compare_sort, sort_key, sort_key_node, sorts_order_all_documents};
+pub use walk::{EndTest, Visits, any_end, is_document};

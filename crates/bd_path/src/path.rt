@@ -1,15 +1,15 @@
-//! Paths.
+//! Paths, and why a text is none.
 
-ghost use Rattle.std.specs.Prelude.{◌≡◌, ◌<◌, ◌≤◌, length, slice_get, Some, Ok, IfOk, map, string_bytes};
-ghost use Rattle.bd_path.specs.Names.{component_names, components_of};
+ghost use Rattle.std.specs.Prelude.{◌≡◌, ◌<◌, ◌≤◌, length, map, slice_get, string_bytes, Some, Ok, IfOk};
 ghost use Rattle.std.specs.List.{list_any};
 ghost use Rattle.bd_value.specs.Limits.{most_names};
-ghost use Rattle.bd_path.specs.Path.{is_empty_name};
+ghost use Rattle.bd_path.specs.Path.{RefusesOrStarves, component_names, components_of, is_empty_name, path_fault_number, path_fault_words, path_of};
+ghost use Rattle.bd_path.specs.declared.path.PathFault.TheVariants as faults;
 
 use crate::component::Component;
-use crate::path_fault::PathFault;
 use bd_value::{MOST_NAMES, NoMemory};
-use std::alloc::Global;
+use std::alloc::{AllocError, AllocFailed, Global};
+use thiserror::Error;
 
 /// A path: one to a hundred names, none empty, with a full stop between each and the next.
 #[derive(Drop)]
@@ -22,7 +22,6 @@ pub struct Path {
 }
 
 impl Path {
-    ghost use Rattle.bd_path.specs.Path.{RefusesOrStarves, path_of};
     ghost use Rattle.bd_path.specs.PathNames.{names_of};
 
     /// The path that a text is. It fails where there are more than 100 components, else where one is empty, and for want of
@@ -120,7 +119,57 @@ fn copied(alloc: Global, components: &[Component]) -> Result<Vec<Component>, NoM
 {
     let mut copies = Vec::new(alloc);
     for component in components {
-        copies.push(component.try_copy(alloc)?)?;
+        let name = String::from_str(alloc, component.name.as_str())?;
+        let index = component.index;
+        copies.push(Component { name, index })?;
     }
     Ok(copies)
+}
+
+/// Why a text is no path.
+#[derive(Clone, Copy, Debug, Drop, PartialEq, Eq, Error)]
+#[error("{}", self.words())]
+pub enum PathFault {
+    /// A full stop stands first, last or after another, or the text is empty.
+    EmptyComponent = 1,
+    /// There are more than 100 components, an empty one among them or not.
+    TooLong = 2,
+    /// No memory was given.
+    NoMemory = 3,
+}
+
+/// What went wrong, in words: by number, from 1 on.
+const FAULT_WORDS: [&str; 3] = ["empty component", "too many components", "no memory"];
+
+impl PathFault {
+    /// What is wrong, in words.
+    #[tactic(auto, unfolding(crate::specs::Path::path_fault_words))]
+    pub fn words(self) -> &'static str
+        ensures { result.now ≡ path_fault_words self }
+    {
+        FAULT_WORDS[self as usize - 1]
+    }
+
+    /// The number by which a reply tells it, 1 or 2; 3 for out of memory.
+    pub fn number(self) -> u32
+        ensures { result ≡ path_fault_number self }
+    {
+        self as u32
+    }
+}
+
+impl From<AllocError> for PathFault {
+    ghost from_gives = { λ _ fault. fault ≡ faults.NoMemory };
+
+    fn from(_error: AllocError) -> PathFault {
+        PathFault::NoMemory
+    }
+}
+
+impl<T: Drop> From<AllocFailed<T>> for PathFault {
+    ghost from_gives = { λ _ fault. fault ≡ faults.NoMemory };
+
+    fn from(_error: AllocFailed<T>) -> PathFault {
+        PathFault::NoMemory
+    }
 }

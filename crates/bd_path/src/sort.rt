@@ -1,14 +1,28 @@
-//! Sorts by several paths.
+//! The key of a document in a sort, found with no list of keys, and the order of two documents by several paths.
 
-ghost use Rattle.std.specs.Prelude.{◌≡◌};
-ghost use Rattle.bd_path.specs.Earliest.{sort_cmp};
-ghost use Rattle.bd_path.specs.Sort.{sort_paths};
+ghost use Rattle.std.specs.Prelude.{◌≡◌, ◌⊎◌, ◌∷◌, [], List, ℕ, false, Some, IfOk};
+ghost use Rattle.std.specs.Cmp.{IsTotalOrder};
+ghost use Rattle.bd_value.specs.View.{tree_of};
+ghost use Rattle.bd_path.specs.Key.{IsKeyAt, IsKeyOf, end_keys, key_tree};
+ghost use Rattle.bd_path.specs.PathNames.{names_of};
+ghost use Rattle.bd_path.specs.Sort.{IsEarliest, IsEarliestFrom, SortPath, dir_cmp, earlier_key, gives_earlier, key_option, sort_cmp, sort_key, sort_paths};
+ghost use Rattle.bd_path.specs.Walk.{IsStopOf, TakesOrEnds, stop_tree, stops};
 
-use crate::dir::Dir;
-use crate::earliest::{compare_in, sort_key_node};
+use crate::key::{Key, compare_keys, key_value};
 use crate::path::Path;
-use bd_value::Reading;
+use crate::walk::{Gatherer, Stop, walk};
+use bd_value::{Kind, NoMemory, Reading, Value};
+use std::alloc::Global;
 use std::cmp::Ordering;
+
+/// The direction of a sort: 1 or -1 in the MongoDB manual.
+#[derive(Clone, Copy, Debug, PartialEq, Eq)]
+pub enum Dir {
+    /// The least key first.
+    Up,
+    /// The greatest key first.
+    Down,
+}
 
 /// The order of two documents in a sort: the first path decides whose sort keys differ. It takes no memory.
 pub fn compare_sort<M: Reading, N: Reading>(a: M, b: N, sort: &[(Path, Dir)]) -> Ordering
@@ -24,3 +38,104 @@ pub fn compare_sort<M: Reading, N: Reading>(a: M, b: N, sort: &[(Path, Dir)]) ->
     }
     Ordering::Equal
 }
+
+/// The key by which a document stands in a sort: the least of its keys on the path, for `Dir::Down` the greatest. It is a node
+/// of the document, or what stands for a value that is not there. It takes no memory.
+///
+/// MongoDB manual, "Sort by an array field".
+pub fn sort_key_node<N: Reading>(doc: N, path: &Path, dir: Dir) -> Key<N>
+    ensures tree { key_tree N.tree result ≡ sort_key dir (N.tree doc) (names_of path.now) }
+    ensures kept { IsKeyOf N.source (N.source doc) result }
+    ensures there { IsKeyAt false (stops (N.tree doc) (names_of path.now)) result }
+{
+    let mut earliest = None;
+    let gatherer = EarliestGatherer { dir };
+    let _whole = walk(&gatherer, &mut earliest, doc, path);
+    match earliest {
+        Some(key) => key,
+        None => Key::Null,
+    }
+}
+
+/// The same key in memory. It fails only if memory runs out.
+pub fn sort_key<N: Reading>(alloc: Global, doc: N, path: &Path, dir: Dir) -> Result<Value, NoMemory>
+    ensures { IfOk result (λ v. tree_of v ≡ sort_key dir (N.tree doc) (names_of path.now)) }
+{
+    key_value(alloc, sort_key_node(doc, path, dir))
+}
+
+/// The order of two keys in a direction. It takes no memory.
+pub fn compare_in<M: Reading, N: Reading>(dir: Dir, a: Key<M>, b: Key<N>) -> Ordering
+    ensures { result ≡ dir_cmp dir (key_tree M.tree a) (key_tree N.tree b) }
+{
+    let order = compare_keys(a, b);
+    match dir {
+        Dir::Up => order,
+        Dir::Down => order.reverse(),
+    }
+}
+
+/// Finds the earliest key; the first of equal ones.
+#[derive(Clone, Copy)]
+struct EarliestGatherer {
+    dir: Dir,
+}
+
+impl<N: Reading> Gatherer<N> for EarliestGatherer {
+    type Found = Option<Key<N>>;
+
+    ghost amounts = { λ s key bytes ss. IsEarliestFrom N.tree N.source s.dir key bytes ss };
+
+    ghost is_new = { λ s key stop. gives_earlier s.dir (key_option N.tree key) stop };
+
+    ghost ends = { λ _ _. false };
+
+    fn take(&self, earliest: &mut Option<Key<N>>, stop: Stop<N>) -> bool
+        ensures { (bytes : List ℕ) → IsStopOf N.source bytes stop → TakesOrEnds (IsEarliestFrom N.tree N.source self.now.dir) (λ key. gives_earlier self.now.dir (key_option N.tree key)) (λ _. false) result bytes earliest.old earliest.new (stop_tree N.tree stop ∷ []) }
+    {
+        let Stop::Value(node) = stop else {
+            *earliest = Some(earlier(self.dir, *earliest, Key::Null));
+            return true;
+        };
+        let key = earliest_end(node, self.dir);
+        *earliest = Some(earlier(self.dir, *earliest, key));
+        true
+    }
+}
+
+/// A value, or the earliest of the elements of an array.
+fn earliest_end<N: Reading>(node: N, dir: Dir) -> Key<N>
+    ensures tree { IsEarliest dir N.tree (Some result) (end_keys (N.tree node)) }
+    ensures kept { IsKeyOf N.source (N.source node) result }
+    ensures there { IsKeyAt false (Stop.Value (N.tree node) ∷ []) result }
+{
+    let Kind::Array = node.kind() else {
+        return Key::Node(node);
+    };
+    let mut earliest = None;
+    let mut left = node.parts();
+    while let Some(next) = N::next(&left) {
+        earliest = Some(earlier(dir, earliest, Key::Node(next.1)));
+        left = next.2;
+    }
+    match earliest {
+        Some(key) => key,
+        None => Key::Undefined,
+    }
+}
+
+/// The earlier of two keys; the first of two that are equal, the second where there is no first.
+fn earlier<N: Reading>(dir: Dir, first: Option<Key<N>>, second: Key<N>) -> Key<N>
+    ensures tree { Some (key_tree N.tree result) ≡ earlier_key dir (key_option N.tree first) (Some (key_tree N.tree second)) }
+    ensures either { (Some result ≡ first) ⊎ (result ≡ second) }
+{
+    match first {
+        Some(first) if !compare_in(dir, second, first).is_lt() => first,
+        _ => second,
+    }
+}
+
+/// A sort is total up to a tie, for any number of paths.
+pub fn sorts_order_all_documents()
+    ensures { (sort : List SortPath) → IsTotalOrder (sort_cmp sort) }
+{}

@@ -14,7 +14,7 @@
 //! | `sort` | `groups`, `by` | the same of documents, by the paths of `by`, each 1 for upward or -1 |
 ghost use Rattle.std.specs.Prelude.{is_none};
 ghost use Rattle.bd_value.specs.Order.{equal};
-ghost use Rattle.bd_path.specs.Earliest.{or_null};
+ghost use Rattle.bd_path.specs.Sort.{or_null};
 
 use crate::fault::RowFault;
 use crate::order::{By, ascending, sort_of};

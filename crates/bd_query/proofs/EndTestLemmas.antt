@@ -1,8 +1,7 @@
 -- Candidates of an end.
 use Rattle.std.proofs.Common.{◌≡◌, ◌≤◌, length, arith, Bool, true, false, ◌||◌, List, [], ◌∷◌, map, Some, refl, sym, ap, ◌∙◌}
 use Rattle.std.specs.List.{list_any}
-use Rattle.bd_value.specs.Parts.{elements_in}
-use Rattle.bd_value.specs.Tree.{Tree}
+use Rattle.bd_value.specs.{Tree.elements_in, Tree.Tree}
 use Rattle.bd_path.specs.Reach.{End}
 use Rattle.bd_filter.specs.FilterMatch.{candidates, is_nonempty}
 use Rattle.bd_filter.proofs.MembersLemmas.{any_alike, any_mapped}

@@ -1,13 +1,13 @@
 //! What an end of a path is asked.
 
-ghost use Rattle.std.specs.Prelude.{◌≡◌, ◌&&◌, ◌||◌, Bool, map};
+ghost use Rattle.std.specs.Prelude.{◌≡◌, ◌&&◌, ◌||◌, Bool, is_some, map};
 ghost use Rattle.std.specs.List.{list_all, list_any};
-ghost use Rattle.bd_value.specs.Parts.{elements_in};
+ghost use Rattle.bd_value.specs.Tree.{elements_in};
 ghost use Rattle.bd_value.specs.View.{tree_of};
 ghost use Rattle.bd_path.specs.PathNames.{names_of};
 ghost use Rattle.bd_path.specs.Reach.{reach};
-ghost use Rattle.bd_filter.specs.FilterMatch.{any_candidate, any_equal, candidates, is_nonempty, is_of_size, is_of_type, is_related, is_there, is_value, value_or_null};
-ghost use Rattle.bd_filter.specs.Members.{trees_in};
+ghost use Rattle.bd_filter.specs.FilterMatch.{any_candidate, any_equal, candidates, is_nonempty, is_of_size, is_of_type, is_related, is_value, value_or_null};
+ghost use Rattle.bd_filter.specs.Filter.{trees_in};
 
 use crate::value_test::{EqualityTest, KindTest, MemberTest, RelationTest, ValueTest, any_element};
 use bd_filter::{Members, Relation};
@@ -81,7 +81,7 @@ pub(crate) fn has_size<N: Reading>(node: N, size: u64) -> bool
 pub struct PresenceTest;
 
 impl EndTest for PresenceTest {
-    ghost passes = { λ _. is_there };
+    ghost passes = { λ _. is_some };
 
     fn test<N: Reading>(&self, end: Option<N>) -> bool {
         end.is_some()

@@ -3,24 +3,22 @@
 ghost use Rattle.std.specs.Prelude.{◌≡◌, ◌<◌, ◌≤◌, false, drop, length, map};
 ghost use Rattle.std.specs.List.{list_any};
 ghost use Rattle.bd_value.specs.Limits.{most_names};
-ghost use Rattle.bd_value.specs.Kind.{kind_of};
-ghost use Rattle.bd_value.specs.Parts.{elements_in};
-ghost use Rattle.bd_value.specs.declared.kind.Kind.TheVariants as kinds;
-ghost use Rattle.bd_path.specs.Names.{component_names};
+ghost use Rattle.bd_value.specs.View.{kind_of};
+ghost use Rattle.bd_value.specs.Tree.{elements_in};
+ghost use Rattle.bd_value.specs.declared.node.Kind.TheVariants as kinds;
+ghost use Rattle.bd_path.specs.Path.{component_names};
 ghost use Rattle.bd_path.specs.PathNames.{names_of};
 ghost use Rattle.bd_path.specs.Reach.{document_ends, ends, index_ends, reach};
-ghost use Rattle.bd_path.specs.Visits.{GathersNone};
-ghost use Rattle.bd_query.specs.Body.{is_suited, suits};
-ghost use Rattle.bd_filter.specs.Filter.{filters_from, operators_from};
+ghost use Rattle.bd_path.specs.Walk.{GathersNone};
+ghost use Rattle.bd_query.specs.FilterMatch.{is_suited, suits};
+ghost use Rattle.bd_filter.specs.Filter.{filters_from, operators_from, filter_tree, operator_tree};
 ghost use Rattle.bd_filter.specs.FilterMatch.{accepts, all_accept, all_hold, all_match, holds, matches, some_match};
-ghost use Rattle.bd_filter.specs.FilterView.{filter_tree, operator_tree};
 
-use crate::body::Body;
 use crate::end_test::{
     CandidateTest, PresenceTest, SizeTest, any_member, any_of_type, any_related, equals_all,
     has_size,
 };
-use crate::value_test::{EqualityTest, KindTest, ValueTest, equals_each, equals_some, is_related};
+use crate::value_test::{EqualityTest, KindTest, MemberTest, ValueTest, equals_each, is_related};
 use bd_filter::{Filter, Operator, Relation};
 use bd_path::{Component, Path, Visits, any_end, is_document};
 use bd_value::{Kind, Reading};
@@ -95,50 +93,42 @@ fn holds<N: Reading>(operator: &Operator, path: &Path, node: N) -> bool
         Operator::Exists(exists) => any_end(node, path, &PresenceTest) == *exists,
         Operator::Type(kinds) => any_of_type(kinds, path, node),
         Operator::Not(operators) => !all_hold(operators, path, node),
-        Operator::ElemMatch(operators) => any_end_suits(
-            node,
-            path.components(),
-            0,
-            &Visits::Nowhere,
-            &Body::Operators(operators),
-        ),
-        Operator::ElemMatchDocument(filters) => any_end_suits(
-            node,
-            path.components(),
-            0,
-            &Visits::Nowhere,
-            &Body::Filters(filters),
-        ),
+        Operator::ElemMatch(operators) => reaches_suited(node, path, &Body::Operators(operators)),
+        Operator::ElemMatchDocument(filters) => reaches_suited(node, path, &Body::Filters(filters)),
     }
+}
+
+/// Whether an element of an array that a path reaches suits the body of `$elemMatch`.
+#[cycle(matching)]
+fn reaches_suited<N: Reading>(node: N, path: &Path, body: &Body) -> bool
+    ensures { result ≡ list_any (is_suited body.now) (reach (N.tree node) (names_of path.now)) }
+{
+    let path = path.components();
+    any_end_suits(node, 0, &Visits::Nowhere, &Walk { path, body: &*body })
 }
 
 /// Whether an element of an array at an end of the rest of a path suits the body of `$elemMatch`, from a component on.
 ///
 /// It goes down as `any_end` does. A test of an end can't come back to the operators: it would be called by its own walk.
 #[cycle(matching)]
-fn any_end_suits<N: Reading>(
-    node: N,
-    path: &[Component],
-    k: usize,
-    walked: &Visits,
-    body: &Body,
-) -> bool
-    requires few { length path.now ≤ most_names }
-    requires at { k ≤ length path.now }
-    requires vain { GathersNone (is_suited body.now) ends (N.tree node) (component_names path.now) walked.now }
-    ensures { result ≡ list_any (is_suited body.now) (reach (N.tree node) (drop k (component_names path.now))) }
+fn any_end_suits<N: Reading>(node: N, k: usize, walked: &Visits, walk: &Walk) -> bool
+    requires few { length walk.now.path.now ≤ most_names }
+    requires at { k ≤ length walk.now.path.now }
+    requires vain { GathersNone (is_suited walk.now.body.now) ends (N.tree node) (component_names walk.now.path.now) walked.now }
+    ensures { result ≡ list_any (is_suited walk.now.body.now) (reach (N.tree node) (drop k (component_names walk.now.path.now))) }
 {
+    let path = walk.path;
     if walked.has(k) {
         return false;
     }
     if k == path.len() {
-        return any_suits(node, body);
+        return any_suits(node, walk.body);
     }
     match node.kind() {
-        Kind::Doc => any_end_suits_in_field(node, path, k, walked, body),
+        Kind::Doc => any_end_suits_in_field(node, k, walked, walk),
         Kind::Array => {
-            any_end_suits_in_documents(node, path, k, walked, body)
-                || any_end_suits_at_index(node, path, k, walked, body)
+            any_end_suits_in_documents(node, k, walked, walk)
+                || any_end_suits_at_index(node, k, walked, walk)
         }
         _ => false,
     }
@@ -146,24 +136,19 @@ fn any_end_suits<N: Reading>(
 
 /// The same in the field of a document.
 #[cycle(matching)]
-fn any_end_suits_in_field<N: Reading>(
-    node: N,
-    path: &[Component],
-    k: usize,
-    walked: &Visits,
-    body: &Body,
-) -> bool
-    requires few { length path.now ≤ most_names }
-    requires at { k < length path.now }
+fn any_end_suits_in_field<N: Reading>(node: N, k: usize, walked: &Visits, walk: &Walk) -> bool
+    requires few { length walk.now.path.now ≤ most_names }
+    requires at { k < length walk.now.path.now }
     requires kind { kind_of (N.tree node) ≡ kinds.Doc }
-    requires vain { GathersNone (is_suited body.now) ends (N.tree node) (component_names path.now) walked.now }
-    ensures { result ≡ list_any (is_suited body.now) (reach (N.tree node) (drop k (component_names path.now))) }
+    requires vain { GathersNone (is_suited walk.now.body.now) ends (N.tree node) (component_names walk.now.path.now) walked.now }
+    ensures { result ≡ list_any (is_suited walk.now.body.now) (reach (N.tree node) (drop k (component_names walk.now.path.now))) }
 {
+    let path = walk.path;
     let name = path[k].name.as_str();
     match node.first(name) {
         Some(value) => {
             let inside = walked.at_field(path, name);
-            any_end_suits(value, path, k + 1, &inside, body)
+            any_end_suits(value, k + 1, &inside, walk)
         }
         None => false,
     }
@@ -171,18 +156,12 @@ fn any_end_suits_in_field<N: Reading>(
 
 /// The same in the documents of an array.
 #[cycle(matching)]
-fn any_end_suits_in_documents<N: Reading>(
-    node: N,
-    path: &[Component],
-    k: usize,
-    walked: &Visits,
-    body: &Body,
-) -> bool
-    requires few { length path.now ≤ most_names }
-    requires at { k < length path.now }
+fn any_end_suits_in_documents<N: Reading>(node: N, k: usize, walked: &Visits, walk: &Walk) -> bool
+    requires few { length walk.now.path.now ≤ most_names }
+    requires at { k < length walk.now.path.now }
     requires kind { kind_of (N.tree node) ≡ kinds.Array }
-    requires vain { GathersNone (is_suited body.now) ends (N.tree node) (component_names path.now) walked.now }
-    ensures { result ≡ list_any (is_suited body.now) (document_ends (N.tree node) (drop k (component_names path.now))) }
+    requires vain { GathersNone (is_suited walk.now.body.now) ends (N.tree node) (component_names walk.now.path.now) walked.now }
+    ensures { result ≡ list_any (is_suited walk.now.body.now) (document_ends (N.tree node) (drop k (component_names walk.now.path.now))) }
 {
     let mut left = node.parts();
     for i in 0..usize::MAX {
@@ -190,8 +169,8 @@ fn any_end_suits_in_documents<N: Reading>(
             return false;
         };
         if is_document(next.1) {
-            let inside = walked.at_document(path, i);
-            if any_end_suits(next.1, path, k, &inside, body) {
+            let inside = walked.at_document(walk.path, i);
+            if any_end_suits(next.1, k, &inside, walk) {
                 return true;
             }
         }
@@ -204,25 +183,20 @@ fn any_end_suits_in_documents<N: Reading>(
 
 /// The same in the element of an array whose index the component is, where there is one, after its documents.
 #[cycle(matching)]
-fn any_end_suits_at_index<N: Reading>(
-    node: N,
-    path: &[Component],
-    k: usize,
-    walked: &Visits,
-    body: &Body,
-) -> bool
-    requires few { length path.now ≤ most_names }
-    requires at { k < length path.now }
+fn any_end_suits_at_index<N: Reading>(node: N, k: usize, walked: &Visits, walk: &Walk) -> bool
+    requires few { length walk.now.path.now ≤ most_names }
+    requires at { k < length walk.now.path.now }
     requires kind { kind_of (N.tree node) ≡ kinds.Array }
-    requires vain { GathersNone (is_suited body.now) ends (N.tree node) (component_names path.now) walked.now }
-    requires documents { list_any (is_suited body.now) (document_ends (N.tree node) (drop k (component_names path.now))) ≡ false }
-    ensures { result ≡ list_any (is_suited body.now) (index_ends (N.tree node) (drop k (component_names path.now))) }
+    requires vain { GathersNone (is_suited walk.now.body.now) ends (N.tree node) (component_names walk.now.path.now) walked.now }
+    requires documents { list_any (is_suited walk.now.body.now) (document_ends (N.tree node) (drop k (component_names walk.now.path.now))) ≡ false }
+    ensures { result ≡ list_any (is_suited walk.now.body.now) (index_ends (N.tree node) (drop k (component_names walk.now.path.now))) }
 {
+    let path = walk.path;
     match path[k].index {
         Some(i) if i < node.len() => {
             let element = node.element(i);
             let inside = walked.at_index(path, k, i, is_document(element));
-            any_end_suits(element, path, k + 1, &inside, body)
+            any_end_suits(element, k + 1, &inside, walk)
         }
         _ => false,
     }
@@ -280,8 +254,8 @@ fn accepts<N: Reading>(operator: &Operator, element: N) -> bool
         Operator::GreaterOrEqual(operand) => is_related(Relation::AtLeast, operand, element),
         Operator::Less(operand) => is_related(Relation::Below, operand, element),
         Operator::LessOrEqual(operand) => is_related(Relation::AtMost, operand, element),
-        Operator::In(members) => equals_some(members, element),
-        Operator::NotIn(members) => !equals_some(members, element),
+        Operator::In(members) => MemberTest(members).test(element),
+        Operator::NotIn(members) => !MemberTest(members).test(element),
         Operator::All(members) => equals_each(members, element),
         Operator::Size(size) => has_size(element, *size),
         Operator::Exists(exists) => *exists,
@@ -290,4 +264,20 @@ fn accepts<N: Reading>(operator: &Operator, element: N) -> bool
         Operator::ElemMatch(operators) => any_suits(element, &Body::Operators(operators)),
         Operator::ElemMatchDocument(filters) => any_suits(element, &Body::Filters(filters)),
     }
+}
+
+/// What `$elemMatch` asks of an element.
+#[derive(Clone, Copy)]
+pub(crate) enum Body<'a> {
+    /// They all hold of the element by itself.
+    Operators(&'a [Operator]),
+    /// The element is a document that matches each.
+    Filters(&'a [Filter]),
+}
+
+/// The components of a path, and what is asked of the elements of the arrays that it reaches.
+#[derive(Clone, Copy)]
+pub(crate) struct Walk<'a> {
+    path: &'a [Component],
+    body: &'a Body<'a>,
 }

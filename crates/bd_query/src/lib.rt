@@ -13,12 +13,11 @@
 //! ```
 //!
 //! - `filter_match`: `matches`, whether a value matches a filter.
-//! - `value_test`, `end_test`, `body`: what one value, an end of a path and an element for `$elemMatch` is asked.
+//! - `end_test`, `value_test`: what an end of a path and one value are asked.
 //!
 //! Filters themselves are those of `bd_filter`, whose calls stand here too.
 #![tactic(auto)]
 
-mod body;
 mod end_test;
 mod filter_match;
 mod value_test;

@@ -3,12 +3,12 @@
 ghost use Rattle.std.specs.Prelude.{◌≡◌, ◌&&◌, Bool, map};
 ghost use Rattle.std.specs.List.{list_all, list_any};
 ghost use Rattle.bd_value.specs.Order.{equal};
-ghost use Rattle.bd_value.specs.Parts.{elements_in};
+ghost use Rattle.bd_value.specs.Tree.{elements_in};
 ghost use Rattle.bd_value.specs.Tree as trees;
 ghost use Rattle.bd_value.specs.View.{tree_of};
 ghost use Rattle.bd_filter.specs.FilterMatch.{is_nonempty, is_of_type, is_related};
-ghost use Rattle.bd_filter.specs.Members.{trees_in};
-ghost use Rattle.bd_filter.specs.Types.{is_kind};
+ghost use Rattle.bd_filter.specs.Filter.{trees_in};
+ghost use Rattle.bd_filter.specs.Word.{is_kind};
 
 use bd_filter::{Members, Relation, relates};
 use bd_value::{Kind, Reading, Tree, Value, class_of_node, compare_nodes};
@@ -104,13 +104,6 @@ pub(crate) fn any_element<N: Reading, T: ValueTest>(node: N, test: &T) -> bool
         left = next.2;
     }
     false
-}
-
-/// Whether it equals a member.
-pub(crate) fn equals_some<N: Reading>(members: &Members, node: N) -> bool
-    ensures { result ≡ list_any (equal (N.tree node)) (trees_in members.now) }
-{
-    MemberTest(members).test(node)
 }
 
 /// Whether it equals each member, and there is one.

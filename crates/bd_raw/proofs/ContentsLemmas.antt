@@ -2,24 +2,16 @@
 use Rattle.std.proofs.Common.{◌≡◌, ℕ, ◌+◌, ◌≤◌, false, List, [], ◌∷◌, ◌++◌, length, drop, refl, sym, ap, ap₂, ◌∙◌, subst, append_assoc, arith}
 use Rattle.std.proofs.lemmas.List.{drop_at, length-append, length-drop, drop-drop}
 use Rattle.bd_value.specs.Limits.{longest_document}
-use Rattle.bd_value.specs.Tree.{Tree, leaf, doc, array, code_scope, Items, no_items, item, Fields, no_fields, field, Doc, pairs_of, pairs_in, fields_of}
-use Rattle.bd_value.specs.Tree.{items_of, list_of, fields_of-pairs_of, items_of-list_of}
-use Rattle.bd_value.specs.Kind.{kind_of}
-use Rattle.bd_value.specs.declared.kind.Kind.{Kind}
-use Rattle.bd_value.specs.declared.kind.Kind.TheVariants as kinds
-use Rattle.bd_raw.specs.Types.{holds}
-use Rattle.bd_raw.specs.Spelling.{number, string, scoped, IsText, IsValue, AreFields, AreItems, framed}
-use Rattle.bd_raw.specs.Scalars.{number_after, string_number, string_text, string_length, scalar_back}
-use Rattle.bd_raw.specs.Sizes.{number_of, text_of, scalar_at}
-use Rattle.bd_raw.specs.ValueAt.{TextAt}
-use Rattle.bd_raw.specs.Unique.{framed_after, no_holder}
+use Rattle.bd_value.specs.Tree.{Tree, leaf, doc, array, code_scope, Items, no_items, item, Fields, no_fields, field, Doc, pairs_of, pairs_in, fields_of, items_of}
+use Rattle.bd_value.specs.Tree.{list_of, fields_of-pairs_of, items_of-list_of, values_of}
+use Rattle.bd_value.specs.View.{kind_of}
+use Rattle.bd_value.specs.declared.node.Kind.{Kind}
+use Rattle.bd_value.specs.declared.node.Kind.TheVariants as kinds
+use Rattle.bd_raw.specs.Spelling.{holds, number, string, scoped, IsText, IsValue, AreFields, AreItems, framed}
+use Rattle.bd_raw.specs.Unique.{number_after, string_number, string_text, string_length, scalar_back, framed_after, no_holder}
+use Rattle.bd_raw.specs.Sizes.{number_of, text_of, scalar_at, TextAt}
 use Rattle.bd_raw.specs.Sound.{Sound, Left, stands, elements_left, stands_is, left_is}
-use Rattle.bd_value.specs.Parts.{values_of}
 use Rattle.bd_raw.proofs.ValueAtLemmas.{kind_is, reads_at, text_reads, framed_length, scoped_length}
-
-pub list_of-items_of : (ts : List Tree) → list_of (items_of ts) ≡ ts
-list_of-items_of [] = refl
-list_of-items_of (t ∷ ts) = ap (λ (x : List Tree). t ∷ x) (list_of-items_of ts)
 
 -- the bytes after four, cut off twice
 pub after_four : (bytes : List ℕ) (start : ℕ) (here tail : List ℕ) → here ≡ drop start bytes → tail ≡ drop 4 here → tail ≡ drop (start + 4) bytes

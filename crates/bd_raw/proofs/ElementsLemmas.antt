@@ -1,20 +1,15 @@
 -- One element after another.
-use Rattle.std.proofs.Common.{◌≡◌, ◌≢◌, ℕ, ◌+◌, ◌<◌, ◌≤◌, List, [], ◌∷◌, ◌++◌, length, drop, get_or, Option, Some, None, refl, sym, ap, ap₂, subst, ◌∙◌, append_assoc, arith}
-use Rattle.std.specs.Prelude.{slice_index_or}
+use Rattle.std.proofs.Common.{◌≡◌, ◌≢◌, ℕ, zero, suc, ◌+◌, ◌<◌, ◌≤◌, List, [], ◌∷◌, ◌++◌, length, drop, get_or, Some, refl, sym, ap, ap₂, subst, ◌∙◌, append_assoc, arith}
+use Rattle.std.specs.Prelude.{slice_index_or, slice_get}
 use Rattle.std.proofs.lemmas.List.{drop_at, length-append, length-drop, get_or-drop, drop-drop}
 use Rattle.bd_value.specs.Limits.{longest_document}
 use Rattle.bd_value.specs.Tree.{Tree, Fields, no_fields, field, Pair, Doc, pairs_of}
-use Rattle.bd_value.specs.Kind.{kind_of}
-use Rattle.bd_value.specs.declared.kind.Kind.{Kind}
-use Rattle.bd_raw.specs.declared.element.ElementType.{ElementType}
-use Rattle.bd_raw.specs.declared.element.ElementType.TheVariants.{Kept, Double, Decimal128}
-use Rattle.bd_raw.specs.Types.{type_byte, type_at}
-use Rattle.bd_raw.specs.Spelling.{IsName, IsValue, AreFields, element}
-use Rattle.bd_raw.specs.Scalars.{zero_place, name_front}
-use Rattle.bd_raw.specs.Sizes.{zero_at, name_of}
-use Rattle.bd_raw.specs.ValueAt.{NameAt}
-use Rattle.bd_raw.specs.Short.{IsShort}
-use Rattle.bd_raw.specs.Unique.{byte_is_not_zero, type_is, element_after}
+use Rattle.bd_value.specs.View.{kind_of}
+use Rattle.bd_value.specs.declared.node.Kind.{Kind}
+use Rattle.bd_raw.specs.declared.raw_parts.ElementType.TheVariants.{Kept}
+use Rattle.bd_raw.specs.Spelling.{type_byte, type_at, IsName, IsValue, AreFields, element, IsShort}
+use Rattle.bd_raw.specs.Sizes.{zero_at, name_of, NameAt}
+use Rattle.bd_raw.specs.Unique.{zero_place, name_front, byte_is_not_zero, type_is, element_after}
 use Rattle.bd_raw.specs.Sound.{Sound, Left, stands, extent, elements_left, stands_is, extent_is, left_is}
 use Rattle.bd_raw.proofs.ValueAtLemmas.{name_reads}
 
@@ -79,38 +74,31 @@ ended bytes at (field n t fs) body after h cut is_zero =
 pub at_end : (bytes : List ℕ) (at : ℕ) (l : Left (drop at bytes)) → slice_index_or bytes at 0 ≡ 0 → elements_left l ≡ []
 at_end bytes at l is_zero = left_is l l ∙ ended bytes at l.fields l.body l.after l.spell l.cut is_zero
 
-kept : Kind → Kind → Option ElementType → Kind
-kept j k (Some (Kept l)) = l
-kept j k (Some Double) = j
-kept j k (Some Decimal128) = k
-kept j k None = j
-
 module _ {bytes : List ℕ} {at : ℕ} {left : Fields} (s : Next bytes at left) where
   pub type_here : type_at (slice_index_or bytes at 0) ≡ Some (Kept (kind_of s.tree))
   type_here = ap type_at (head_at bytes at (type_byte (kind_of s.tree)) _ s.cut) ∙ type_is (kind_of s.tree)
 
   pub kind_here : (k : Kind) → type_at (slice_index_or bytes at 0) ≡ Some (Kept k) → kind_of s.tree ≡ k
-  unfolding kept
-  kind_here k is = ap (kept k k) (sym type_here ∙ is)
+  kind_here k is = let both = sym type_here ∙ is in cc
 
-  tail_is : drop (at + 1) bytes ≡ s.name ++ 0 ∷ (s.value ++ (s.rest ++ 0 ∷ s.after))
-  tail_is = sym (drop-drop 1 at bytes) ∙ ap (drop 1) s.cut
+  tail_cut : drop (at + 1) bytes ≡ s.name ++ 0 ∷ (s.value ++ (s.rest ++ 0 ∷ s.after))
+  tail_cut = sym (drop-drop 1 at bytes) ∙ ap (drop 1) s.cut
 
   pub name_at : (tail : List ℕ) → tail ≡ drop (at + 1) bytes → NameAt tail
-  name_at tail t = subst NameAt (sym (t ∙ tail_is)) (name_reads s.name (s.value ++ (s.rest ++ 0 ∷ s.after)) s.named)
+  name_at tail t = subst NameAt (sym (t ∙ tail_cut)) (name_reads s.name (s.value ++ (s.rest ++ 0 ∷ s.after)) s.named)
 
   pub name_is : (tail : List ℕ) → tail ≡ drop (at + 1) bytes → name_of tail ≡ s.name
-  name_is tail t = ap name_of (t ∙ tail_is) ∙ name_front s.name (s.value ++ (s.rest ++ 0 ∷ s.after)) s.named
+  name_is tail t = ap name_of (t ∙ tail_cut) ∙ name_front s.name (s.value ++ (s.rest ++ 0 ∷ s.after)) s.named
 
   pub name_ends : (tail : List ℕ) → tail ≡ drop (at + 1) bytes → zero_at tail ≡ length s.name
-  name_ends tail t = ap zero_at (t ∙ tail_is) ∙ zero_place s.name (s.value ++ (s.rest ++ 0 ∷ s.after)) s.named.1
+  name_ends tail t = ap zero_at (t ∙ tail_cut) ∙ zero_place s.name (s.value ++ (s.rest ++ 0 ∷ s.after)) s.named.1
 
   pub value_cut : (k : ℕ) → k ≡ length s.name → drop (at + k + 2) bytes ≡ s.value ++ (s.rest ++ 0 ∷ s.after)
   value_cut k p =
       let others = s.value ++ (s.rest ++ 0 ∷ s.after) in
       let e : at + k + 2 ≡ (at + 1) + (k + 1) = omega arith in
       let len : length (s.name ++ 0 ∷ []) ≡ k + 1 = omega (arith, length-append s.name (0 ∷ [])) in
-      rw (e, ← drop-drop (k + 1) (at + 1) bytes, tail_is, ← append_assoc s.name (0 ∷ []) others) (drop_at (s.name ++ 0 ∷ []) others (k + 1) len)
+      rw (e, ← drop-drop (k + 1) (at + 1) bytes, tail_cut, ← append_assoc s.name (0 ∷ []) others) (drop_at (s.name ++ 0 ∷ []) others (k + 1) len)
 
   pub value_inside : (k : ℕ) → k ≡ length s.name → at + k + 2 ≤ length bytes
   value_inside k p =
@@ -140,3 +128,28 @@ module _ {bytes : List ℕ} {at : ℕ} {left : Fields} (s : Next bytes at left) 
 pub value_fits : (bytes : List ℕ) (start : ℕ) (kind : Kind) (s : Sound kind (drop start bytes)) → start ≤ length bytes → start + extent s ≤ length bytes
 value_fits bytes start kind s lt =
     omega (arith, ap (λ (x : List ℕ). length x) s.cut, length-append s.value s.after, length-drop start bytes, extent_is s s)
+
+-- ---- going through them
+
+few_fields : (fs : Fields) (b : List ℕ) → AreFields fs b → length (pairs_of fs) ≤ length b
+few_fields no_fields b h = omega arith
+few_fields (field n t fs) b h = omega (arith, few_fields fs h.1 h.4, ap length h.5, length-append (element t n h.0) h.1)
+
+pub few : (bytes : List ℕ) (l : Left bytes) → length (elements_left l) ≤ longest_document
+few bytes l =
+    omega (arith, ap (λ (ps : Doc). length ps) (left_is l l), few_fields l.fields l.body l.spell, l.short)
+
+pub tail_is : {A : Type 0} (xs l : List A) (k : ℕ) (x : A) (ys : List A) → xs ≡ drop k l → xs ≡ x ∷ ys → ys ≡ drop (k + 1) l
+tail_is xs l k x ys a b = sym (ap (drop 1) b) ∙ ap (drop 1) a ∙ drop-drop 1 k l
+
+front_is : {A : Type 0} (l : List A) (k : ℕ) (x : A) (ys : List A) → drop k l ≡ x ∷ ys → slice_get l k ≡ Some x
+front_is [] zero x ys h = absurd cc
+front_is [] (suc k) x ys h = absurd cc
+front_is (y ∷ l) zero x ys h = cc
+front_is (y ∷ l) (suc k) x ys h = front_is l k x ys h
+
+pub get_is : {A : Type 0} (xs l : List A) (k i : ℕ) (x : A) (ys : List A) → xs ≡ drop k l → xs ≡ x ∷ ys → k ≡ i → slice_get l i ≡ Some x
+get_is xs l k i x ys a b e = ap (slice_get l) (sym e) ∙ front_is l k x ys (sym a ∙ b)
+
+pub not_past : {A : Type 0} (xs l : List A) (k : ℕ) → xs ≡ drop k l → xs ≡ [] → length l ≤ k
+not_past xs l k a b = let e = ap (λ (x : List _). length x) (sym a ∙ b) in let d = length-drop k l in omega arith

@@ -1,20 +1,18 @@
--- A value that is spelled at the front of bytes can be read there without a check.
-use Rattle.std.proofs.Common.{◌≡◌, ℕ, ◌+◌, ◌≤◌, ◌<◌, ◌^◌, true, List, [], ◌∷◌, ◌++◌, length, sym, ap, ◌∙◌, subst, append_assoc, arith}
+-- A value that is spelled at the front of bytes can be read there without a check, and no text in it is longer than its bytes.
+use Rattle.std.proofs.Common.{◌≡◌, ℕ, ◌+◌, ◌≤◌, ◌<◌, ◌^◌, true, List, [], ◌∷◌, ◌++◌, length, sym, ap, ◌∙◌, subst, append_assoc, arith, Bool, false, Some, refl}
 use Rattle.std.specs.Prelude.{IsUtf8, ◌==◌}
 use Rattle.std.proofs.lemmas.List.{length-append}
 use Rattle.std.proofs.lemmas.Bool.Decides.{nat_tests}
 use Rattle.bd_value.specs.Limits.{longest_document}
 use Rattle.bd_value.specs.Tree as trees
-use Rattle.bd_value.specs.Tree.{Scalar, Tree, leaf, doc, array, code_scope}
-use Rattle.bd_value.specs.Kind.{scalar_kind, kind_of}
-use Rattle.bd_value.specs.declared.kind.Kind.{Kind}
-use Rattle.bd_raw.specs.Spelling.{number, string, data_of, scoped, framed, IsName, IsText, IsScalar, IsValue}
-use Rattle.bd_raw.specs.Sizes.{number_of, after_name, size_of}
-use Rattle.bd_raw.specs.ValueAt.{TextAt, NameAt, BinaryAt, HasBytesOf}
-use Rattle.bd_raw.specs.Scalars.{number_length, number_front, zero_place, name_front, name_after, string_length, string_number, string_text, data_length}
-use Rattle.bd_raw.specs.Scalars.{binary_count, binary_subtype, regex_whole, scalar_size}
-use Rattle.bd_raw.specs.Unique.{same_kind, framed_after}
-use Rattle.bd_raw.specs.Sound.{Sound, extent, extent_is}
+use Rattle.bd_value.specs.Tree.{Scalar, Tree, leaf, doc, array, code_scope, Own, own, own_code, own_of}
+use Rattle.bd_value.specs.View.{scalar_kind, kind_of}
+use Rattle.bd_value.specs.declared.node.Kind.{Kind}
+use Rattle.bd_raw.specs.Spelling.{number, string, data_of, scoped, framed, IsName, IsText, IsScalar, IsValue, ScalarIsShort, OwnIsShort}
+use Rattle.bd_raw.specs.Sizes.{number_of, after_name, size_of, TextAt, NameAt, BinaryAt, HasBytesOf}
+use Rattle.bd_raw.specs.Unique.{number_length, number_front, zero_place, name_front, name_after, string_length, string_number, string_text, binary_count}
+use Rattle.bd_raw.specs.Unique.{binary_subtype, regex_whole, scalar_size, same_kind, framed_after}
+use Rattle.bd_raw.specs.Sound.{Sound, extent, extent_is, stands, stands_is}
 
 pub text_reads : (s rest : List ℕ) → IsText s → TextAt (string s ++ rest)
 text_reads s rest h = record {
@@ -28,6 +26,9 @@ name_reads name rest h = record {
   inside = omega (arith, zero_place name rest h.1, length-append name (0 ∷ rest));
   utf8 = subst IsUtf8 (sym (name_front name rest h)) h.0;
 }
+
+data_length : (k : ℕ) (s : List ℕ) → (k == 2) ≡ true → length (data_of k s) ≡ 4 + length s
+data_length k s two = rw two (omega (arith, length-append (number (length s)) s, number_length (length s)))
 
 binary_reads : (k : ℕ) (s r : List ℕ) → length (data_of k s) < 2 ^ 31 → BinaryAt ((number (length (data_of k s)) ++ k ∷ data_of k s) ++ r)
 binary_reads k s r lt =
@@ -43,12 +44,6 @@ sized : (a : Scalar) (v r : List ℕ) → IsScalar a v → size_of (scalar_kind 
 sized a v r h = omega (arith, scalar_size a v r h, length-append v r)
 
 pub scalar_reads : (a : Scalar) (v r : List ℕ) → IsScalar a v → HasBytesOf (scalar_kind a) (v ++ r)
-scalar_reads (trees.int32 z) v r h = sized (trees.int32 z) v r h
-scalar_reads (trees.int64 z) v r h = sized (trees.int64 z) v r h
-scalar_reads (trees.date z) v r h = sized (trees.date z) v r h
-scalar_reads (trees.timestamp s i) v r h = sized (trees.timestamp s i) v r h
-scalar_reads (trees.boolean b) v r h = sized (trees.boolean b) v r h
-scalar_reads (trees.object_id id) v r h = sized (trees.object_id id) v r h
 scalar_reads (trees.text s) v r h = subst (λ (x : List ℕ). TextAt (x ++ r)) (sym h.1) (text_reads s r h.0)
 scalar_reads (trees.symbol s) v r h = subst (λ (x : List ℕ). TextAt (x ++ r)) (sym h.1) (text_reads s r h.0)
 scalar_reads (trees.code s) v r h = subst (λ (x : List ℕ). TextAt (x ++ r)) (sym h.1) (text_reads s r h.0)
@@ -60,7 +55,7 @@ scalar_reads (trees.regex p o) v r h =
     let whole : v ++ r ≡ p ++ 0 ∷ (o ++ 0 ∷ r) = ap (λ (x : List ℕ). x ++ r) h.2 ∙ regex_whole p o r in
     let after : after_name (v ++ r) ≡ o ++ 0 ∷ r = ap after_name whole ∙ name_after p (o ++ 0 ∷ r) h.0 in
     (subst NameAt (sym whole) (name_reads p (o ++ 0 ∷ r) h.0), subst NameAt (sym after) (name_reads o r h.1))
-scalar_reads _ v r h = tt
+scalar_reads a v r h = sized a v r h
 
 -- ---- sizes
 
@@ -102,3 +97,31 @@ reads_at kind bytes s = subst (HasBytesOf kind) (sym s.cut) (subst (λ (k : Kind
 
 pub size_at : (kind : Kind) (bytes : List ℕ) (s : Sound kind bytes) → size_of kind bytes ≡ extent s
 size_at kind bytes s = ap (size_of kind) s.cut ∙ ap (λ (k : Kind). size_of k (s.value ++ s.after)) (sym (kind_is kind bytes s)) ∙ size_is s.tree s.value s.after s.spells s.short ∙ sym (extent_is s s)
+
+-- ---- texts and the bytes that they take
+
+payload_short : (k : ℕ) (s : List ℕ) (b : Bool) → (k == 2) ≡ b → length s ≤ length (data_of k s)
+payload_short k s true is = rw is (omega (arith, length-append (number (length s)) s))
+payload_short k s false is = rw is (omega arith)
+
+scalar_short : (a : Scalar) (v : List ℕ) → IsScalar a v → length v ≤ longest_document → ScalarIsShort a
+scalar_short (trees.text s) v h short = omega (arith, ap length h.1, string_length s)
+scalar_short (trees.symbol s) v h short = omega (arith, ap length h.1, string_length s)
+scalar_short (trees.code s) v h short = omega (arith, ap length h.1, string_length s)
+scalar_short (trees.db_pointer s id) v h short = omega (arith, ap length h.2, length-append (string s) id, string_length s)
+scalar_short (trees.regex p o) v h short =
+    let size : length v ≡ length p + (1 + (length o + 1)) = omega (arith, ap length h.2, length-append p (0 ∷ (o ++ 0 ∷ [])), length-append o (0 ∷ [])) in
+    (omega (arith, size), omega (arith, size))
+scalar_short (trees.binary k s) v h short =
+    omega (arith, payload_short k s (k == 2) refl, ap length h.2, length-append (number (length (data_of k s))) (k ∷ data_of k s))
+scalar_short _ v h short = tt
+
+value_short : (t : Tree) (v : List ℕ) → IsValue t v → length v ≤ longest_document → (o : Own) → own_of t ≡ Some o → OwnIsShort o
+value_short (leaf a) v h short o is = let same : own a ≡ o = cc in subst OwnIsShort same (scalar_short a v h short)
+value_short (code_scope s fs) v h short o is =
+    let same : own_code s ≡ o = cc in
+    subst OwnIsShort same (omega (arith, ap length h.2, scoped_length s (framed h.0), length-append (string s) (framed h.0), string_length s))
+value_short _ v h short o is = absurd cc
+
+pub own_short : (kind : Kind) (bytes : List ℕ) (s : Sound kind bytes) (o : Own) → own_of (stands s) ≡ Some o → OwnIsShort o
+own_short kind bytes s o is = value_short s.tree s.value s.spells s.short o (sym (ap own_of (stands_is s s)) ∙ is)

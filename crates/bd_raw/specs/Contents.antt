@@ -1,12 +1,10 @@
 -- What a value holds.
 use Rattle.std.specs.Prelude.{◌≡◌, ℕ, List}
 use Rattle.bd_value.specs.Tree as trees
-use Rattle.bd_value.specs.Tree.{Tree, leaf, doc, array, code_scope, fields_of, items_of, pairs_in}
-use Rattle.bd_value.specs.OwnPart.{seen, own}
-use Rattle.bd_value.specs.Parts.{values_of}
-use Rattle.bd_raw.specs.Sound.{stands, elements_left}
-use Rattle.bd_raw.specs.declared.contents.Contents.{Contents}
-use Rattle.bd_raw.specs.declared.contents.Contents.TheVariants.{Scalar, Document, Array, CodeScope}
+use Rattle.bd_value.specs.Tree.{Tree, leaf, doc, array, code_scope, fields_of, items_of, pairs_in, own, values_of}
+use Rattle.bd_value.specs.View.{seen}
+use Rattle.bd_raw.specs.{Sound.stands, Sound.elements_left, declared.views.Contents.Contents}
+use Rattle.bd_raw.specs.declared.views.Contents.TheVariants.{Scalar, Document, Array, CodeScope}
 
 abbrev pub HoldsContents : Tree → Contents → Type 0
 HoldsContents t (Scalar s) = (a : trees.Scalar) × (t ≡ leaf a) × (seen s ≡ own a)

@@ -1,10 +1,5 @@
-pub mod At
 pub mod Contents
-pub mod ValueAt
-pub mod Scalars
-pub mod Short
 pub mod Sizes
 pub mod Sound
 pub mod Spelling
-pub mod Types
 pub mod Unique

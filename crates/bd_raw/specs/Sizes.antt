@@ -1,10 +1,11 @@
--- What a value's bytes tell from their front, by its kind: how many they are, and which scalar they spell.
-use Rattle.std.specs.Prelude.{ℕ, ◌+◌, ◌-◌, ◌==◌, List, take, drop, slice_index_or, if◌then◌else◌}
+-- What a value's bytes tell from their front, by its kind: how many they are, and which scalar they spell; and what must
+-- stand there for a value to be read without a check.
+use Rattle.std.specs.Prelude.{◌≡◌, ◌<◌, ◌≤◌, ℕ, ◌+◌, ◌-◌, ◌==◌, List, length, take, drop, slice_index_or, if◌then◌else◌, IsUtf8}
 use Rattle.std.specs.List.{position_or_len}
 use Rattle.std.specs.Int.{w32, w64, from_le_bytes, cast_signed}
 use Rattle.bd_value.specs.Tree as trees
-use Rattle.bd_value.specs.declared.kind.Kind.{Kind}
-use Rattle.bd_value.specs.declared.kind.Kind.TheVariants as kinds
+use Rattle.bd_value.specs.declared.node.Kind.{Kind}
+use Rattle.bd_value.specs.declared.node.Kind.TheVariants as kinds
 
 abbrev pub number_of : List ℕ → ℕ
 number_of bytes = from_le_bytes w32 (take 4 bytes)
@@ -30,16 +31,14 @@ text_of bytes = take (number_of bytes - 1) (drop 4 bytes)
 abbrev pub after_string : List ℕ → List ℕ
 after_string bytes = drop (4 + number_of bytes) bytes
 
--- the count and the bytes of binary, after the inner count of subtype 02
+-- binary data, with the inner count of subtype 02, and without
+abbrev pub data_at : List ℕ → List ℕ
+data_at bytes = take (number_of bytes) (drop 5 bytes)
+
 abbrev pub payload_of : List ℕ → List ℕ
-payload_of bytes =
-    if slice_index_or bytes 4 0 == 2 then take (number_of bytes - 4) (drop 9 bytes) else take (number_of bytes) (drop 5 bytes)
+payload_of bytes = if slice_index_or bytes 4 0 == 2 then drop 4 (data_at bytes) else data_at bytes
 
 abbrev pub size_of : Kind → List ℕ → ℕ
-size_of kinds.MinKey bytes = 0
-size_of kinds.Undefined bytes = 0
-size_of kinds.Null bytes = 0
-size_of kinds.MaxKey bytes = 0
 size_of kinds.Int32 bytes = 4
 size_of kinds.Int64 bytes = 8
 size_of kinds.Date bytes = 8
@@ -55,12 +54,12 @@ size_of kinds.Regex bytes = zero_at bytes + 1 + (zero_at (after_name bytes) + 1)
 size_of kinds.Doc bytes = number_of bytes
 size_of kinds.Array bytes = number_of bytes
 size_of kinds.CodeScope bytes = number_of bytes
+size_of _ bytes = 0
 
 -- documents, arrays and code with scope are no scalars
 abbrev pub scalar_at : Kind → List ℕ → trees.Scalar
 scalar_at kinds.MinKey bytes = trees.min_key
 scalar_at kinds.Undefined bytes = trees.undefined
-scalar_at kinds.Null bytes = trees.null
 scalar_at kinds.MaxKey bytes = trees.max_key
 scalar_at kinds.Int32 bytes = trees.int32 (cast_signed w32 (number_of bytes))
 scalar_at kinds.Int64 bytes = trees.int64 (cast_signed w64 (long_of bytes))
@@ -74,6 +73,32 @@ scalar_at kinds.Code bytes = trees.code (text_of bytes)
 scalar_at kinds.DbPointer bytes = trees.db_pointer (text_of bytes) (take 12 (after_string bytes))
 scalar_at kinds.Binary bytes = trees.binary (slice_index_or bytes 4 0) (payload_of bytes)
 scalar_at kinds.Regex bytes = trees.regex (name_of bytes) (name_of (after_name bytes))
-scalar_at kinds.Doc bytes = trees.null
-scalar_at kinds.Array bytes = trees.null
-scalar_at kinds.CodeScope bytes = trees.null
+scalar_at _ bytes = trees.null
+
+-- a string
+pub record TextAt (bytes : List ℕ) : Type 0 where
+  pub some : 1 ≤ number_of bytes
+  pub inside : 4 + number_of bytes ≤ length bytes
+  pub utf8 : IsUtf8 (text_of bytes)
+
+-- a text and the zero after it
+pub record NameAt (bytes : List ℕ) : Type 0 where
+  pub inside : zero_at bytes < length bytes
+  pub utf8 : IsUtf8 (name_of bytes)
+
+-- binary data
+pub record BinaryAt (bytes : List ℕ) : Type 0 where
+  pub inside : 5 + number_of bytes ≤ length bytes
+  pub inner : slice_index_or bytes 4 0 ≡ 2 → 4 ≤ number_of bytes
+
+abbrev pub HasBytesOf : Kind → List ℕ → Type 0
+HasBytesOf kinds.Text bytes = TextAt bytes
+HasBytesOf kinds.Symbol bytes = TextAt bytes
+HasBytesOf kinds.Code bytes = TextAt bytes
+HasBytesOf kinds.DbPointer bytes = TextAt bytes × (16 + number_of bytes ≤ length bytes)
+HasBytesOf kinds.Binary bytes = BinaryAt bytes
+HasBytesOf kinds.Regex bytes = NameAt bytes × NameAt (after_name bytes)
+HasBytesOf kinds.Doc bytes = 4 ≤ length bytes
+HasBytesOf kinds.Array bytes = 4 ≤ length bytes
+HasBytesOf kinds.CodeScope bytes = 4 ≤ length bytes
+HasBytesOf kind bytes = size_of kind bytes ≤ length bytes

@@ -1,15 +1,12 @@
--- Bytes at whose front a value, or the elements of a document, stand.
-use Rattle.std.specs.Prelude.{◌≡◌, ◌≤◌, length, ℕ, List, ◌∷◌, ◌++◌}
+-- Bytes at whose front a value, or the elements of a document, stand; and where in bytes a value stands.
+use Rattle.std.specs.Prelude.{◌≡◌, ◌≤◌, ℕ, List, ◌∷◌, ◌++◌, length, drop}
 use Rattle.std.proofs.Common.{sym, ap, ◌∙◌}
 use Rattle.std.specs.Coded.{Coded-set, coded_ℕ, le_prop}
-use Rattle.bd_value.specs.Limits.{longest_document}
 use mathlib.Core.HLevel.{is_prop→PathP}
+use Rattle.bd_value.specs.{Limits.longest_document, View.kind_of, declared.node.Kind.Kind}
 use Rattle.bd_value.specs.Tree.{Tree, Fields, Doc, pairs_of}
-use Rattle.bd_value.specs.Kind.{kind_of}
-use Rattle.bd_value.specs.declared.kind.Kind.{Kind}
-use Rattle.bd_raw.specs.Types.{type_byte}
-use Rattle.bd_raw.specs.Spelling.{IsValue, AreFields}
-use Rattle.bd_raw.specs.Unique.{value_prop, fields_prop, values, fields, same_bytes, cancel, same_kind}
+use Rattle.bd_raw.specs.{declared.views.At.At, Spelling.type_byte, Spelling.IsValue, Spelling.AreFields}
+use Rattle.bd_raw.specs.Unique.{one_value, fields, value_prop, fields_prop, same_bytes, cancel, over_path}
 
 -- a tree, its bytes, and the bytes after it
 pub record Sound (kind : Kind) (bytes : List ℕ) : Type 0 where
@@ -23,21 +20,15 @@ pub record Sound (kind : Kind) (bytes : List ℕ) : Type 0 where
 
 pub Sound-prop : (kind : Kind) (bytes : List ℕ) → IsProp (Sound kind bytes)
 Sound-prop kind bytes p q =
-    let h : p.value ++ p.after ≡ q.value ++ q.after = sym p.cut ∙ q.cut in
-    let both =
-    values p.tree q.tree p.value q.value p.after q.after p.spells q.spells (same_kind (kind_of p.tree) (kind_of q.tree) (p.kinded ∙ sym q.kinded)) h in
-    let t : p.tree ≡ q.tree = both.0 in
-    let v : p.value ≡ q.value = both.1 in
-    let a : p.after ≡ q.after = cancel p.value q.value p.after q.after v h in
+    let e = one_value p.tree q.tree p.value q.value p.after q.after p.spells q.spells (p.kinded ∙ sym q.kinded) (sym p.cut ∙ q.cut) in
     λ i. record {
-      tree = t i;
-      value = v i;
-      after = a i;
-      spells = is_prop→PathP (λ k. IsValue (t k) (v k)) (λ k. value_prop (t k) (v k)) p.spells q.spells i;
-      kinded =
-          is_prop→PathP (λ k. type_byte (kind_of (t k)) ≡ type_byte kind) (λ k. Coded-set coded_ℕ (type_byte (kind_of (t k))) (type_byte kind)) p.kinded q.kinded i;
-      cut = is_prop→PathP (λ k. bytes ≡ v k ++ a k) (λ k. same_bytes bytes (v k ++ a k)) p.cut q.cut i;
-      short = is_prop→PathP (λ k. length (v k) ≤ longest_document) (λ k. le_prop) p.short q.short i;
+      tree = e.0 i;
+      value = e.1 i;
+      after = e.2 i;
+      spells = is_prop→PathP (λ k. IsValue (e.0 k) (e.1 k)) (λ k. value_prop (e.0 k) (e.1 k)) p.spells q.spells i;
+      kinded = over_path (λ (t : Tree). type_byte (kind_of t) ≡ type_byte kind) (λ t. Coded-set coded_ℕ (type_byte (kind_of t)) (type_byte kind)) e.0 p.kinded q.kinded i;
+      cut = is_prop→PathP (λ k. bytes ≡ e.1 k ++ e.2 k) (λ k. same_bytes bytes (e.1 k ++ e.2 k)) p.cut q.cut i;
+      short = over_path (λ (v : List ℕ). length v ≤ longest_document) (λ v. le_prop) e.1 p.short q.short i;
     }
 
 -- the elements that are left, their bytes, and the bytes after the zero
@@ -50,22 +41,17 @@ pub record Left (bytes : List ℕ) : Type 0 where
   pub short : length body ≤ longest_document
 
 pub Left-prop : (bytes : List ℕ) → IsProp (Left bytes)
-Left-prop bytes p q =
-    let h : p.body ++ 0 ∷ p.after ≡ q.body ++ 0 ∷ q.after = sym p.cut ∙ q.cut in
-    let both = fields p.fields q.fields p.body q.body p.after q.after p.spell q.spell h in
-    let f : p.fields ≡ q.fields = both.0 in
-    let b : p.body ≡ q.body = both.1 in
-    let zero_after : 0 ∷ p.after ≡ 0 ∷ q.after = cancel p.body q.body (0 ∷ p.after) (0 ∷ q.after) b h in
+Left-prop bytes p q = let h : p.body ++ 0 ∷ p.after ≡ q.body ++ 0 ∷ q.after = sym p.cut ∙ q.cut in
+    let e = fields p.fields q.fields p.body q.body p.after q.after p.spell q.spell h in
+    let zero_after : 0 ∷ p.after ≡ 0 ∷ q.after = cancel p.body q.body (0 ∷ p.after) (0 ∷ q.after) e.1 h in
     let a : p.after ≡ q.after = cc in
     λ i. record {
-      fields = f i;
-      body = b i;
+      fields = e.0 i;
+      body = e.1 i;
       after = a i;
-      spell = is_prop→PathP (λ k. AreFields (f k) (b k)) (λ k. fields_prop (f k) (b k)) p.spell q.spell i;
-      cut =
-          is_prop→PathP (λ k. bytes ≡ b k
-          ++ 0 ∷ a k) (λ k. same_bytes bytes (b k ++ 0 ∷ a k)) p.cut q.cut i;
-      short = is_prop→PathP (λ k. length (b k) ≤ longest_document) (λ k. le_prop) p.short q.short i;
+      spell = is_prop→PathP (λ k. AreFields (e.0 k) (e.1 k)) (λ k. fields_prop (e.0 k) (e.1 k)) p.spell q.spell i;
+      cut = is_prop→PathP (λ k. bytes ≡ e.1 k ++ 0 ∷ a k) (λ k. same_bytes bytes (e.1 k ++ 0 ∷ a k)) p.cut q.cut i;
+      short = over_path (λ (b : List ℕ). length b ≤ longest_document) (λ b. le_prop) e.1 p.short q.short i;
     }
 
 -- the tree that stands there. It does not unfold, so that a proof may leave the value to be found
@@ -91,3 +77,37 @@ extent_is {kind} {bytes} s t = ap (λ (x : Sound kind bytes). length x.value) (S
 pub left_is : {bytes : List ℕ} (s t : Left bytes) → elements_left s ≡ pairs_of t.fields
 unfolding elements_left
 left_is {bytes} s t = ap (λ (x : Left bytes). pairs_of x.fields) (Left-prop bytes s t)
+
+-- ---- places
+
+-- the tree is of that type, and bytes from that offset on spell it
+pub record StandsAt (bytes : List ℕ) (at : At) (tree : Tree) : Type 0 where
+  pub typed : type_byte (kind_of tree) ≡ at.kind
+  pub inside : at.start ≤ length bytes
+  pub value : List ℕ
+  pub after : List ℕ
+  pub spells : IsValue tree value
+  pub cut : drop at.start bytes ≡ value ++ after
+  pub short : length value ≤ longest_document
+
+-- a value of that type stands there
+abbrev pub IsPlace : List ℕ → At → Type 0
+IsPlace bytes at = (tree : Tree) × StandsAt bytes at tree
+
+-- one tree at most stands at a place, and in one way at most
+pub one_stands : (bytes : List ℕ) (at : At) (t u : Tree) → StandsAt bytes at t → StandsAt bytes at u → t ≡ u
+one_stands bytes at t u p q =
+    (one_value t u p.value q.value p.after q.after p.spells q.spells (p.typed ∙ sym q.typed) (sym p.cut ∙ q.cut)).0
+
+pub StandsAt-prop : (bytes : List ℕ) (at : At) (t : Tree) → IsProp (StandsAt bytes at t)
+StandsAt-prop bytes at t p q =
+    let e = one_value t t p.value q.value p.after q.after p.spells q.spells (p.typed ∙ sym q.typed) (sym p.cut ∙ q.cut) in
+    λ i. record {
+      typed = Coded-set coded_ℕ (type_byte (kind_of t)) at.kind p.typed q.typed i;
+      inside = le_prop p.inside q.inside i;
+      value = e.1 i;
+      after = e.2 i;
+      spells = over_path (IsValue t) (value_prop t) e.1 p.spells q.spells i;
+      cut = is_prop→PathP (λ k. drop at.start bytes ≡ e.1 k ++ e.2 k) (λ k. same_bytes (drop at.start bytes) (e.1 k ++ e.2 k)) p.cut q.cut i;
+      short = over_path (λ (v : List ℕ). length v ≤ longest_document) (λ v. le_prop) e.1 p.short q.short i;
+    }

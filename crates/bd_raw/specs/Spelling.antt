@@ -1,19 +1,66 @@
 -- Which bytes are which document (BSON 1.1, the grammar of `document`).
-use Rattle.std.specs.Prelude.{◌≡◌, ◌≢◌, ◌≤◌, ◌<◌, ◌^◌, ℕ, ◌+◌, List, [], ◌∷◌, ◌++◌, length, IsUtf8, FitsSigned, ◌==◌, if◌then◌else◌}
+use Rattle.std.specs.Prelude.{◌≡◌, ◌≢◌, ◌≤◌, ◌<◌, ◌^◌, ℕ, ◌+◌, Bool, true, false, Option, Some, None, List, [], ◌∷◌, ◌++◌, length}
+use Rattle.std.specs.Prelude.{IsUtf8, FitsSigned, ◌==◌, if◌then◌else◌}
 use Rattle.std.specs.List.{AllByRecursion}
 use Rattle.std.specs.Int.{w32, w64, to_le_bytes, cast_unsigned}
-use Rattle.bd_value.specs.Limits.{longest_document, most_levels}
+use Rattle.bd_value.specs.{Limits.longest_document, Limits.most_levels, View.kind_of, declared.node.Kind.Kind}
 use Rattle.bd_value.specs.Tree as trees
-use Rattle.bd_value.specs.Tree.{Scalar, Tree, leaf, doc, array, code_scope, Items, no_items, item, Fields, no_fields, field, Doc, fields_of}
-use Rattle.bd_value.specs.Kind.{kind_of}
-pub use Rattle.bd_value.specs.Depth.{depth, fields_depth, items_depth}
-use Rattle.bd_raw.specs.Types.{type_byte}
+use Rattle.bd_value.specs.Tree.{Scalar, Tree, leaf, doc, array, code_scope, Items, no_items, item, Fields, no_fields, field}
+use Rattle.bd_value.specs.Tree.{Doc, fields_of, Own, own, own_code}
+use Rattle.bd_value.specs.declared.node.Kind.TheVariants as kinds
+use Rattle.bd_raw.specs.declared.raw_parts.ElementType.{ElementType}
+use Rattle.bd_raw.specs.declared.raw_parts.ElementType.TheVariants.{Kept, Double, Decimal128}
+pub use Rattle.bd_value.specs.Tree.{depth, fields_depth, items_depth}
 
--- `int32`: four bytes, least first
+-- the byte before an element's name
+abbrev pub type_byte : Kind → ℕ
+type_byte kinds.Text = 2
+type_byte kinds.Doc = 3
+type_byte kinds.Array = 4
+type_byte kinds.Binary = 5
+type_byte kinds.Undefined = 6
+type_byte kinds.ObjectId = 7
+type_byte kinds.Bool = 8
+type_byte kinds.Date = 9
+type_byte kinds.Null = 10
+type_byte kinds.Regex = 11
+type_byte kinds.DbPointer = 12
+type_byte kinds.Code = 13
+type_byte kinds.Symbol = 14
+type_byte kinds.CodeScope = 15
+type_byte kinds.Int32 = 16
+type_byte kinds.Timestamp = 17
+type_byte kinds.Int64 = 18
+type_byte kinds.MaxKey = 127
+type_byte kinds.MinKey = 255
+
+-- every type, a double and a decimal128 too
+abbrev pub types : List (ℕ × ElementType)
+types =
+    (1, Double) ∷ (2, Kept kinds.Text) ∷ (3, Kept kinds.Doc) ∷ (4, Kept kinds.Array) ∷ (5, Kept kinds.Binary) ∷ (6, Kept kinds.Undefined)
+    ∷ (7, Kept kinds.ObjectId) ∷ (8, Kept kinds.Bool) ∷ (9, Kept kinds.Date) ∷ (10, Kept kinds.Null) ∷ (11, Kept kinds.Regex)
+    ∷ (12, Kept kinds.DbPointer) ∷ (13, Kept kinds.Code) ∷ (14, Kept kinds.Symbol) ∷ (15, Kept kinds.CodeScope) ∷ (16, Kept kinds.Int32)
+    ∷ (17, Kept kinds.Timestamp) ∷ (18, Kept kinds.Int64) ∷ (19, Decimal128) ∷ (127, Kept kinds.MaxKey) ∷ (255, Kept kinds.MinKey) ∷ []
+
+abbrev pub type_in : List (ℕ × ElementType) → ℕ → Option ElementType
+type_in [] b = None
+type_in (t ∷ ts) b = if b == t.0 then Some t.1 else type_in ts b
+
+-- what a type byte tells; none where BSON has no such type
+abbrev pub type_at : ℕ → Option ElementType
+type_at = type_in types
+
+-- what holds values: the others are scalars
+abbrev pub holds : Kind → Bool
+holds kinds.Doc = true
+holds kinds.Array = true
+holds kinds.CodeScope = true
+holds _ = false
+
+-- `int32`: four bytes, least first; `int64` and `uint64`: eight
 unfoldable pub number : ℕ → List ℕ
 number n = to_le_bytes w32 n
 
--- `int64` and `uint64`: eight bytes, least first
 unfoldable pub long : ℕ → List ℕ
 long n = to_le_bytes w64 n
 
@@ -46,10 +93,6 @@ abbrev pub IsText : List ℕ → Type 0
 IsText s = IsUtf8 s × (length s + 1 < 2 ^ 32)
 
 abbrev pub IsScalar : Scalar → List ℕ → Type 0
-IsScalar trees.min_key bytes = bytes ≡ []
-IsScalar trees.undefined bytes = bytes ≡ []
-IsScalar trees.null bytes = bytes ≡ []
-IsScalar trees.max_key bytes = bytes ≡ []
 IsScalar (trees.int32 z) bytes = FitsSigned w32 z × (bytes ≡ number (cast_unsigned w32 z))
 IsScalar (trees.int64 z) bytes = FitsSigned w64 z × (bytes ≡ long (cast_unsigned w64 z))
 IsScalar (trees.date z) bytes = FitsSigned w64 z × (bytes ≡ long (cast_unsigned w64 z))
@@ -63,9 +106,9 @@ IsScalar (trees.code s) bytes = IsText s × (bytes ≡ string s)
 IsScalar (trees.db_pointer s id) bytes = IsText s × (length id ≡ 12) × (bytes ≡ string s ++ id)
 IsScalar (trees.regex pattern options) bytes =
     IsName pattern × IsName options × (bytes ≡ pattern ++ 0 ∷ (options ++ 0 ∷ []))
-IsScalar (trees.binary subtype payload) bytes =
-    (subtype < 256) × (length (data_of subtype payload) < 2 ^ 31)
+IsScalar (trees.binary subtype payload) bytes = (subtype < 256) × (length (data_of subtype payload) < 2 ^ 31)
     × (bytes ≡ number (length (data_of subtype payload)) ++ subtype ∷ data_of subtype payload)
+IsScalar _ bytes = bytes ≡ []
 
 -- The bytes spell the value. An array is spelled as a document whose names are any names.
 abbrev mutual
@@ -73,8 +116,7 @@ abbrev mutual
   IsValue (leaf s) bytes = IsScalar s bytes
   IsValue (doc fs) bytes = (body : List ℕ) × AreFields fs body × (bytes ≡ framed body)
   IsValue (array ts) bytes = (body : List ℕ) × AreItems ts body × (bytes ≡ framed body)
-  IsValue (code_scope s fs) bytes =
-      (body : List ℕ) × AreFields fs body × (bytes ≡ scoped s (framed body)) × IsText s
+  IsValue (code_scope s fs) bytes = (body : List ℕ) × AreFields fs body × (bytes ≡ scoped s (framed body)) × IsText s
 
   -- `e_list` of a document
   pub AreFields : Fields → List ℕ → Type 0
@@ -86,8 +128,7 @@ abbrev mutual
   -- `e_list` of an array
   pub AreItems : Items → List ℕ → Type 0
   AreItems no_items bytes = bytes ≡ []
-  AreItems (item t ts) bytes =
-      (name : List ℕ) × (value : List ℕ) × (rest : List ℕ) × IsName name × IsValue t value
+  AreItems (item t ts) bytes = (name : List ℕ) × (value : List ℕ) × (rest : List ℕ) × IsName name × IsValue t value
       × AreItems ts rest × (bytes ≡ element t name value ++ rest)
 
 -- the bytes are the document, within the limits of length and depth
@@ -95,3 +136,20 @@ pub record IsDocument (d : Doc) (bytes : List ℕ) : Type 0 where
   pub spells : IsValue (doc (fields_of d)) bytes
   pub short : length bytes ≤ longest_document
   pub shallow : depth (doc (fields_of d)) ≤ most_levels
+
+abbrev pub IsShort : List ℕ → Type 0
+IsShort text = length text ≤ longest_document
+
+abbrev pub ScalarIsShort : Scalar → Type 0
+ScalarIsShort (trees.text s) = IsShort s
+ScalarIsShort (trees.symbol s) = IsShort s
+ScalarIsShort (trees.binary subtype payload) = IsShort payload
+ScalarIsShort (trees.regex pattern options) = IsShort pattern × IsShort options
+ScalarIsShort (trees.db_pointer space id) = IsShort space
+ScalarIsShort (trees.code s) = IsShort s
+ScalarIsShort _ = Unit {0}
+
+-- the texts, and the bytes, of what a value holds besides other values
+abbrev pub OwnIsShort : Own → Type 0
+OwnIsShort (own s) = ScalarIsShort s
+OwnIsShort (own_code s) = IsShort s

@@ -11,23 +11,15 @@
 //! assert!(rt; matches!(field.scalar(), Some(Scalar::Int32(1))));
 //! ```
 //!
-//! - `element`: the types of elements.
 //! - `raw`: the views, and where the next element stands.
-//! - `raw_parts`: numbers, names, texts and scalars at the front of bytes, read without a check.
-//! - `contents`: what a value holds.
-//! - `elements`: elements counted, taken by their index, and found by their name.
-//! - `at`: `At`, where a value stands in its bytes: `specs/At.antt`.
-//! - `views`: what is asked of a document and of a value, and their copies in memory.
+//! - `views`: what is asked of a document and of a value, what a value holds, its elements, and `At`, where it stands.
+//! - `raw_parts`: types of elements, and numbers, names, texts and scalars at the front of bytes, read without a check.
 #![tactic(auto)]
 
-mod at;
-mod contents;
-mod element;
-mod elements;
 mod raw;
 pub mod raw_parts;
 mod views;
 
-pub use at::At;
-pub use element::{ElementType, Holder, element_type, type_byte};
 pub use raw::{Elements, RawDoc, RawValue};
+pub use raw_parts::{ElementType, Holder, element_type, type_byte};
+pub use views::At;

@@ -3,10 +3,8 @@
 ghost use Rattle.std.specs.Prelude.{◌≡◌, ◌≤◌, ◌+◌, length, drop, IfSome, IfNone, [], ◌∷◌};
 ghost use Rattle.bd_value.specs.Limits.{longest_input};
 ghost use Rattle.bd_value.specs.Tree.{Doc, doc, fields_of, pairs_in};
-ghost use Rattle.bd_value.specs.Kind.{kind_of};
-ghost use Rattle.bd_value.specs.declared.kind.Kind.TheVariants as kinds;
-ghost use Rattle.bd_raw.specs.Short.{IsShort};
-ghost use Rattle.bd_raw.specs.Spelling.{IsDocument};
+ghost use Rattle.bd_value.specs.declared.node.Kind.TheVariants as kinds;
+ghost use Rattle.bd_raw.specs.Spelling.{IsShort, IsDocument};
 ghost use Rattle.bd_raw.specs.Sound.{Sound, Sound-prop, Left, Left-prop, stands, extent, elements_left};
 
 use crate::raw_parts as parts;
@@ -96,13 +94,6 @@ impl<'a> RawValue<'a> {
     {
         let (_, here) = self.bytes.split_at(self.start);
         self.start + parts::size(self.kind, here)
-    }
-
-    /// What it is.
-    pub(crate) fn kind_here(self) -> Kind
-        ensures { result ≡ kind_of (stands self.entry.sound) }
-    {
-        self.kind
     }
 }
 

@@ -1,17 +1,94 @@
-//! Parts of a value's bytes, which are known to spell one of its kind.
+//! The types of elements, and parts of a value's bytes, which are known to spell one of its kind.
 
-ghost use Rattle.std.specs.Prelude.{◌≡◌, ◌<◌, ◌≤◌, ◌+◌, ◌==◌, length, map, position, IfSome, Some, take, drop, false, slice_index_or};
+ghost use Rattle.std.specs.Prelude.{◌≡◌, ◌<◌, ◌≤◌, ◌+◌, ◌==◌, false, length, map, take, drop, position, slice_index_or, IfSome, Some};
 ghost use Rattle.std.specs.Simd.Lanes.{mask_l};
-ghost use Rattle.bd_value.specs.OwnPart.{seen, own};
-ghost use Rattle.bd_raw.specs.Sizes.{number_of, long_of, zero_at, name_of, text_of, payload_of, size_of, scalar_at};
-ghost use Rattle.bd_raw.specs.ValueAt.{TextAt, NameAt, BinaryAt, HasBytesOf};
-ghost use Rattle.bd_raw.specs.Types.{type_at, holds};
-ghost use Rattle.bd_value.specs.declared.kind.Kind as kinds;
-ghost use Rattle.bd_raw.specs.declared.element.ElementType.TheVariants.{Kept};
+ghost use Rattle.bd_value.specs.Tree.{own};
+ghost use Rattle.bd_value.specs.View.{seen};
+ghost use Rattle.bd_value.specs.declared.node.Kind as kinds;
+ghost use Rattle.bd_raw.specs.Spelling.{type_at, holds, type_byte as byte_of};
+ghost use Rattle.bd_raw.specs.Sizes.{number_of, long_of, zero_at, name_of, text_of, payload_of, size_of, scalar_at, TextAt, NameAt, BinaryAt, HasBytesOf};
+ghost use Rattle.bd_raw.specs.declared.raw_parts.ElementType.TheVariants.{Kept};
 
-use crate::element::{ElementType, element_type};
 use bd_value::{Kind, Scalar};
 use std::simd::prelude::*;
+
+/// What the type byte of an element tells.
+#[derive(Clone, Copy, Debug, PartialEq, Eq)]
+pub enum ElementType {
+    /// A value of this kind.
+    Kept(Kind),
+    /// A number that is not whole, which is not read.
+    Double,
+    /// A decimal number, which is not read.
+    Decimal128,
+}
+
+/// What holds values, by how its bytes are laid out.
+#[derive(Clone, Copy, Debug, PartialEq, Eq)]
+pub enum Holder {
+    Document,
+    Array,
+    CodeScope,
+}
+
+/// The byte before the name of an element of this kind: BSON 1.1, `element`.
+pub fn type_byte(kind: Kind) -> u8
+    ensures { result ≡ byte_of kind }
+{
+    match kind {
+        Kind::Text => 0x02,
+        Kind::Doc => 0x03,
+        Kind::Array => 0x04,
+        Kind::Binary => 0x05,
+        Kind::Undefined => 0x06,
+        Kind::ObjectId => 0x07,
+        Kind::Bool => 0x08,
+        Kind::Date => 0x09,
+        Kind::Null => 0x0A,
+        Kind::Regex => 0x0B,
+        Kind::DbPointer => 0x0C,
+        Kind::Code => 0x0D,
+        Kind::Symbol => 0x0E,
+        Kind::CodeScope => 0x0F,
+        Kind::Int32 => 0x10,
+        Kind::Timestamp => 0x11,
+        Kind::Int64 => 0x12,
+        Kind::MaxKey => 0x7F,
+        Kind::MinKey => 0xFF,
+    }
+}
+
+/// What a type byte tells; none where BSON 1.1 has no such type.
+#[inline(always)]
+pub fn element_type(byte: u8) -> Option<ElementType>
+    ensures { result ≡ type_at byte }
+{
+    let kind = match byte {
+        0x01 => return Some(ElementType::Double),
+        0x02 => Kind::Text,
+        0x03 => Kind::Doc,
+        0x04 => Kind::Array,
+        0x05 => Kind::Binary,
+        0x06 => Kind::Undefined,
+        0x07 => Kind::ObjectId,
+        0x08 => Kind::Bool,
+        0x09 => Kind::Date,
+        0x0A => Kind::Null,
+        0x0B => Kind::Regex,
+        0x0C => Kind::DbPointer,
+        0x0D => Kind::Code,
+        0x0E => Kind::Symbol,
+        0x0F => Kind::CodeScope,
+        0x10 => Kind::Int32,
+        0x11 => Kind::Timestamp,
+        0x12 => Kind::Int64,
+        0x13 => return Some(ElementType::Decimal128),
+        0x7F => Kind::MaxKey,
+        0xFF => Kind::MinKey,
+        _ => return None,
+    };
+    Some(ElementType::Kept(kind))
+}
 
 /// The kind that the type byte of an element tells.
 #[inline(always)]
@@ -90,9 +167,7 @@ pub fn text(bytes: &[u8]) -> &str
     ensures text { result.now ≡ text_of bytes.now }
     ensures size { length result.now + 1 ≡ number_of bytes.now }
 {
-    let n = number(bytes) as usize;
-    let (_, after) = bytes.split_at(4);
-    let (text, _) = after.split_at(n - 1);
+    let text = &bytes[4..3 + number(bytes) as usize];
     // These bytes were found to be UTF-8 when the document was checked.
     unsafe { std::str::from_utf8_unchecked(text) }
 }
@@ -119,16 +194,8 @@ fn payload(bytes: &[u8]) -> &[u8]
     requires { BinaryAt bytes.now }
     ensures { result.now ≡ payload_of bytes.now }
 {
-    let count = number(bytes) as usize;
-    if bytes[4] == 2 {
-        let (_, data) = bytes.split_at(9);
-        let (payload, _) = data.split_at(count - 4);
-        payload
-    } else {
-        let (_, data) = bytes.split_at(5);
-        let (payload, _) = data.split_at(count);
-        payload
-    }
+    let data = &bytes[5..5 + number(bytes) as usize];
+    if bytes[4] == 2 { &data[4..] } else { data }
 }
 
 /// The scalar that stands at the front.
@@ -146,25 +213,19 @@ pub fn scalar(kind: Kind, bytes: &[u8]) -> Scalar<'_>
         Kind::Int32 => Scalar::Int32(number(bytes).cast_signed()),
         Kind::Int64 => Scalar::Int64(long(bytes).cast_signed()),
         Kind::Date => Scalar::Date(long(bytes).cast_signed()),
-        Kind::Timestamp => {
-            let (_, high) = bytes.split_at(4);
-            Scalar::Timestamp {
-                seconds: number(high),
-                increment: number(bytes),
-            }
-        }
+        Kind::Timestamp => Scalar::Timestamp {
+            seconds: number(&bytes[4..]),
+            increment: number(bytes),
+        },
         Kind::ObjectId => Scalar::ObjectId(id(bytes)),
         Kind::Bool => Scalar::Bool(bytes[0] == 1),
         Kind::Text => Scalar::Text(text(bytes)),
         Kind::Symbol => Scalar::Symbol(text(bytes)),
         Kind::Code => Scalar::Code(text(bytes)),
-        Kind::DbPointer => {
-            let (_, after) = bytes.split_at(4 + number(bytes) as usize);
-            Scalar::DbPointer {
-                space: text(bytes),
-                id: id(after),
-            }
-        }
+        Kind::DbPointer => Scalar::DbPointer {
+            space: text(bytes),
+            id: id(&bytes[4 + number(bytes) as usize..]),
+        },
         Kind::Binary => Scalar::Binary {
             subtype: bytes[4],
             payload: payload(bytes),
@@ -195,8 +256,7 @@ pub fn size(kind: Kind, bytes: &[u8]) -> usize
         Kind::Binary => 5 + number(bytes) as usize,
         Kind::Regex => {
             let (pattern, after) = name(bytes);
-            let (options, _) = name(after);
-            pattern.len() + 1 + (options.len() + 1)
+            pattern.len() + 1 + (name(after).0.len() + 1)
         }
         Kind::Doc | Kind::Array | Kind::CodeScope => number(bytes) as usize,
     }

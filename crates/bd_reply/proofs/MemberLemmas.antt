@@ -1,14 +1,13 @@
 -- The texts of the values of a reply, and of the pairs that they stand in.
 use Rattle.std.proofs.Common.{◌≡◌, ◌^◌, ◌<◌, ◌≤◌, ℕ, Bool, true, false, List, [], ◌∷◌, ◌++◌, get_or, length, map, Option, Some, None, decimal, refl, sym, ap, ◌∙◌, append_assoc}
+use Rattle.std.proofs.{lemmas.Fmt.decimal_is_IsNumeral, lemmas.Option.slice_get-get_or, lemmas.Option.slice_get_past}
 use Rattle.std.specs.Prelude.{codes, slice_get}
 use Rattle.std.specs.List.{cons_option, join_with_byte}
-use Rattle.std.proofs.lemmas.Fmt.{decimal_is_IsNumeral}
-use Rattle.std.proofs.lemmas.Option.{slice_get-get_or, slice_get_past}
 use Rattle.bd_value.specs.Tree.{Doc, doc, fields_of, items_of}
 use Rattle.bd_text.specs.Text.{escape_byte, fields_text, items_text, member, quoted, scalar_text, text}
-use Rattle.bd_text.proofs.EscapeLemmas.{escaped-digits}
-use Rattle.bd_text.proofs.PieceLemmas.{before, to_come, to_come-all, piece_step}
-use Rattle.bd_bson.specs.Documents.{document_at, documents_at}
+use Rattle.bd_text.proofs.JsonStringLemmas.{escaped-digits}
+use Rattle.bd_text.proofs.TextLemmas.{before, to_come, to_come-all, piece_step}
+use Rattle.bd_bson.specs.Collection.{document_at, documents_at}
 use Rattle.bd_reply.specs.Reply.{count_value, documents_value, int_value, boolean_value}
 
 plain : (n : ℕ) → n < 2 ^ 64 → quoted (decimal n) ≡ 34 ∷ (decimal n ++ 34 ∷ [])

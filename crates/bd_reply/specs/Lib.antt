@@ -1,4 +1,2 @@
-pub mod MemberView
-pub mod Refusal
 pub mod Reply
 pub mod ReplyView

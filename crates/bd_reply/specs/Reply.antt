@@ -1,9 +1,17 @@
 -- The replies of a session, and the document that each is printed as.
 use Rattle.std.specs.Prelude.{ℕ, pos, Bool, true, false, List, [], ◌∷◌, Option, Some, None, codes, map}
-use Rattle.bd_value.specs.Tree as trees
+use Rattle.std.specs.List.{join_with_byte}
 use Rattle.bd_value.specs.Tree.{Doc, Tree, array, doc, fields_of, items_of, leaf}
 use Rattle.bd_text.specs.Text.{text}
 use Rattle.bd_answer.specs.Session.{Explanation, IndexCounts, PlanKind, by_index, by_scan, by_walk}
+use Rattle.bd_diagnose.specs.{declared.json_fault.JsonFault.JsonFault, declared.json_fault.JsonFaultKind.JsonFaultKind}
+use Rattle.bd_diagnose.specs.JsonFault.{json_fault_number, json_fault_words}
+use Rattle.bd_path.specs.{Path.path_fault_number, Path.path_fault_words, declared.path.PathFault.PathFault}
+use Rattle.bd_filter.specs.Fault.{Refusal, filter_fault_number, filter_fault_words}
+use Rattle.bd_request.specs.Refused.{Reason, bad_filter, plain, refused_number, refused_words}
+use Rattle.bd_command.specs.{Command.command_fault_number, Command.command_fault_words, declared.command.CommandFault.CommandFault}
+use Rattle.bd_value.specs.Tree as trees
+use Rattle.bd_diagnose.specs.declared.json_fault.JsonFaultKind.TheVariants as json
 
 -- why there is no result: the layer that refuses, the number and the words of its reason, and the pair that tells where, if any
 pub record ToldRefusal : Type 0 where
@@ -20,8 +28,6 @@ pub data LineReply : Type 0 where
   makes : IndexCounts → LineReply
   explains : Explanation → LineReply
   refuses : ToldRefusal → LineReply
-
--- ---- the values
 
 abbrev pub text_value : List ℕ → Tree
 text_value s = leaf (trees.text s)
@@ -48,8 +54,6 @@ plan_name by_scan = codes "scan"
 plan_name by_index = codes "index"
 plan_name by_walk = codes "walk"
 
--- ---- the document
-
 -- the pairs after the first one
 abbrev pub reply_pairs : LineReply → Doc
 reply_pairs done = []
@@ -57,8 +61,7 @@ reply_pairs (opens id) = (codes "cursor", count_value id) ∷ []
 reply_pairs (gives ds ends token) =
     (codes "documents", documents_value ds) ∷ (codes "end", boolean_value ends) ∷ (codes "token", text_or_null token) ∷ []
 reply_pairs (makes c) = (codes "entries", count_value c.entries) ∷ (codes "multikey", boolean_value c.is_multikey) ∷ []
-reply_pairs (explains e) =
-    (codes "plan", text_value (plan_name e.plan)) ∷ (codes "index", text_or_null e.index)
+reply_pairs (explains e) = (codes "plan", text_value (plan_name e.plan)) ∷ (codes "index", text_or_null e.index)
     ∷ (codes "entries", count_value e.entries) ∷ (codes "documents", count_value e.looked_at)
     ∷ (codes "matches", count_value e.matches) ∷ []
 reply_pairs (refuses r) =
@@ -75,3 +78,38 @@ reply_document r = (codes "ok", boolean_value (is_result r)) ∷ reply_pairs r
 -- canonical Extended JSON, without white space
 abbrev pub reply_text : LineReply → List ℕ
 reply_text r = text (doc (fields_of (reply_document r)))
+
+-- ---- why there is none
+
+-- the byte of a text that is no document; a text as a whole has none
+abbrev pub json_fault_byte : JsonFaultKind → ℕ → Tree
+json_fault_byte json.NotADocument at = leaf trees.null
+json_fault_byte _ at = count_value at
+
+abbrev pub json_refusal : JsonFault → ToldRefusal
+json_refusal f = record {
+  layer = codes "json";
+  number = json_fault_number f.kind;
+  words = json_fault_words f.kind;
+  place = (codes "at", json_fault_byte f.kind f.at) ∷ [];
+}
+
+abbrev pub command_refusal : CommandFault → ToldRefusal
+command_refusal f = record { layer = codes "command"; number = command_fault_number f; words = command_fault_words f; place = [] }
+
+-- where it is: the names down to the pair or member, joined by dots
+abbrev pub filter_refusal : Refusal → ToldRefusal
+filter_refusal r = record {
+  layer = codes "filter";
+  number = filter_fault_number r.kind;
+  words = filter_fault_words r.kind;
+  place = (codes "place", text_value (join_with_byte 46 r.place)) ∷ [];
+}
+
+abbrev pub path_refusal : PathFault → ToldRefusal
+path_refusal f = record { layer = codes "path"; number = path_fault_number f; words = path_fault_words f; place = [] }
+
+-- of a request, a token or a call of the session; of a filter its own fault is told
+abbrev pub session_refusal : Reason → ToldRefusal
+session_refusal (bad_filter r) = filter_refusal r
+session_refusal (plain r) = record { layer = codes "session"; number = refused_number r; words = refused_words r; place = [] }

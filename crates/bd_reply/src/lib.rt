@@ -14,17 +14,12 @@
 //! );
 //! ```
 //!
-//! - `reply`: `Reply`, to match on: `specs/Reply.antt` has its document, and `specs/ReplyView.antt` what it stands for.
-//! - `refusal`: `LineRefusal`, why a line has no result: `specs/Refusal.antt`.
-//! - `reply_text`: `write_reply`, the text of a reply.
-//! - `member`: the pairs of a reply: `specs/MemberView.antt`.
+//! - `reply`: `Reply` and `LineRefusal`, to match on; `write_reply`, the text of a reply: `specs/Reply.antt`, and
+//!   `specs/ReplyView.antt` for what one in memory stands for.
+//! - `member`: the pairs of a reply.
 #![tactic(auto)]
 
 mod member;
-mod refusal;
 mod reply;
-mod reply_text;
 
-pub use refusal::LineRefusal;
-pub use reply::Reply;
-pub use reply_text::write_reply;
+pub use reply::{LineRefusal, Reply, write_reply};

@@ -3,10 +3,9 @@
 ghost use Rattle.std.specs.Prelude.{◌≡◌, ◌<◌, ◌++◌, ◌∷◌, [], OnErr, OnOk, codes, decimal, if◌then◌else◌, length, map};
 ghost use Rattle.std.specs.Io.{StartsWith};
 ghost use Rattle.bd_value.specs.Tree.{doc, fields_of};
-ghost use Rattle.bd_bson.specs.Collection.{documents};
-ghost use Rattle.bd_bson.specs.Documents.{document_at, documents_at};
+ghost use Rattle.bd_bson.specs.Collection.{documents, document_at, documents_at};
 ghost use Rattle.bd_text.specs.Text.{member, quoted, text};
-ghost use Rattle.bd_reply.specs.MemberView.{member_pair, reply_value};
+ghost use Rattle.bd_reply.specs.ReplyView.{member_pair, reply_value};
 ghost use Rattle.bd_reply.specs.Reply.{boolean_value, documents_value};
 
 use bd_bson::Dump;

@@ -1,3 +1,2 @@
 pub mod RequestLemmas
-pub mod SortLemmas
 pub mod TokenLemmas

@@ -2,15 +2,12 @@
 use Rattle.std.proofs.Common.{◌≡◌, ◌≤◌, ◌<◌, ◌^◌, ◌+◌, ◌++◌, replicate, ◌==◌, ◌&&◌, ℕ, Bool, true, false, cond, List, [], ◌∷◌, Option, Some, None, Result, Ok}
 use Rattle.std.proofs.Common.{length, take, drop, refl, sym, ap, ap₂, ◌∙◌, arith}
 use Rattle.std.specs.Int.{from_le_bytes, to_le_bytes, w32, w64}
-use Rattle.std.proofs.lemmas.Bool.{eqb-true}
-use Rattle.std.proofs.Math.Seq.{drop-append_seam, take-append_seam}
+use Rattle.std.proofs.{lemmas.Bool.eqb-true, Math.Seq.drop-append_seam, Math.Seq.take-append_seam, lemmas.Nat.from_le_bytes-to_le_bytes_4}
 use Rattle.std.proofs.lemmas.List.{length-append, length-replicate, length-take-le, take_all}
-use Rattle.std.proofs.lemmas.Nat.{from_le_bytes-to_le_bytes_4, from_le_bytes-to_le_bytes_8}
+use Rattle.std.proofs.{lemmas.Nat.from_le_bytes-to_le_bytes_8}
 use Rattle.base64.proofs.RoundTrip.{length-encode_symbols}
-use Rattle.base64.specs.Rfc4648.{encode_symbols, padding_len}
-use Rattle.base64.specs.Engines.{standard}
-use Rattle.base64.specs.GeneralPurpose.{decode_of, encode_of}
-use Rattle.base64.specs.declared.decode.DecodeError.{DecodeError}
+use Rattle.base64.specs.{Rfc4648.encode_symbols, Rfc4648.padding_len, Engines.standard, GeneralPurpose.decode_of, GeneralPurpose.encode_of}
+use Rattle.base64.specs.{declared.decode.DecodeError.DecodeError}
 use Rattle.bd_request.specs.Token.{token_after_version, token_bytes, token_decoded, token_in, token_of, token_text}
 use Rattle.bd_request.specs.declared.token.Token.{Token}
 

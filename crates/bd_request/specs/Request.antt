@@ -1,25 +1,47 @@
 -- What is asked of a dump, and the text that its tokens are tied to.
-use Rattle.std.specs.Prelude.{ℕ, nat_le, ◌&&◌, ℤ, pos, negsuc, List, ◌++◌, codes, decimal, map, Option, Some, None, Result, Ok, Err, if◌then◌else◌}
-use Rattle.std.specs.Option.{ok_or}
-use Rattle.bd_value.specs.Limits.{greatest_count}
+use Rattle.std.specs.Prelude.{ℕ, ℤ, pos, negsuc, ◌==◌, nat_le, ◌&&◌, not, Bool, true, List, [], ◌∷◌, length, map}
+use Rattle.std.specs.Prelude.{Option, Some, None, Result, Ok, Err, if◌then◌else◌, ◌++◌, codes, decimal}
+use Rattle.std.specs.{List.list_any, Str.bytes_eq, Option.ok_or}
 use Rattle.bd_value.specs.Tree as trees
-use Rattle.bd_value.specs.Tree.{Tree, Doc, doc, fields_of, leaf}
+use Rattle.bd_value.specs.Tree.{Tree, Doc, leaf, doc, fields_of}
+use Rattle.bd_path.specs.{Sort.SortPath, Reach.Names, Path.path_of, declared.sort.Dir.Dir, declared.sort.Dir.TheVariants.Up, declared.sort.Dir.TheVariants.Down}
+use Rattle.bd_path.specs.{declared.path.PathFault.PathFault, Sort.sort_paths}
+use Rattle.bd_value.specs.Limits.{greatest_count}
 use Rattle.bd_text.specs.Text.{text}
-use Rattle.bd_path.specs.Earliest.{SortPath}
-use Rattle.bd_path.specs.Path.{path_of}
-use Rattle.bd_path.specs.Sort.{sort_paths}
-use Rattle.bd_path.specs.declared.dir.Dir.{Dir}
-use Rattle.bd_path.specs.declared.dir.Dir.TheVariants.{Up, Down}
-use Rattle.bd_path.specs.declared.path_fault.PathFault.{PathFault}
-use Rattle.bd_filter.specs.Filter.{Filter}
-use Rattle.bd_filter.specs.FilterOf.{filter_of}
-use Rattle.bd_filter.specs.FilterView.{filter_tree}
-use Rattle.bd_request.specs.Sort.{direction_of, sort_of}
+use Rattle.bd_filter.specs.{Filter.Filter, Filter.filter_tree, FilterOf.filter_of}
 use Rattle.bd_request.specs.Refused.{Reason, bad_filter, plain, then_part, told_as}
-use Rattle.bd_request.specs.Token.{token_of}
-use Rattle.bd_request.specs.declared.refused.Refused.TheVariants as reasons
+use Rattle.bd_request.specs.{Token.token_of, declared.token.Token.Token}
+use Rattle.bd_request.specs.declared.results.Refused.TheVariants as reasons
 use Rattle.bd_request.specs.declared.request.Request as declared
-use Rattle.bd_request.specs.declared.token.Token.{Token}
+
+abbrev pub direction_numbered : ℤ → Option Dir
+direction_numbered (pos n) = if n == 1 then Some Up else None
+direction_numbered (negsuc n) = if n == 0 then Some Down else None
+
+abbrev pub direction_of : Tree → Option Dir
+direction_of (leaf (trees.int32 z)) = direction_numbered z
+direction_of (leaf (trees.int64 z)) = direction_numbered z
+direction_of t = None
+
+abbrev pub sort_with : Result Names PathFault → Option Dir → Option (List SortPath) → Option (List SortPath)
+sort_with (Ok path) (Some dir) (Some ss) = Some (record { path = path; dir = dir } ∷ ss)
+sort_with _ _ _ = None
+
+-- each pair is a path and a direction
+abbrev pub sort_pairs : Doc → Option (List SortPath)
+sort_pairs [] = Some []
+sort_pairs (p ∷ ps) = sort_with (path_of p.0) (direction_of p.1) (sort_pairs ps)
+
+-- no name stands twice
+abbrev pub are_distinct : List (List ℕ) → Bool
+are_distinct [] = true
+are_distinct (name ∷ names) = not (list_any (bytes_eq name) names) && are_distinct names
+
+abbrev pub pair_names : Doc → List (List ℕ)
+pair_names d = map (λ p. p.0) d
+
+abbrev pub sort_of : Doc → Option (List SortPath)
+sort_of d = if nat_le (length d) 4 && are_distinct (pair_names d) then sort_pairs d else None
 
 -- directions are written as numbers of 32 bits
 abbrev pub direction_number : Option Dir → ℤ

@@ -1,11 +1,9 @@
 -- What the results of a session's calls stand for.
 use Rattle.std.specs.Prelude.{ℕ, List, option_map, string_bytes}
 use Rattle.bd_answer.specs.Session.{Explanation, IndexCounts, MarkedToken, PlanKind, by_index, by_scan, by_walk}
-use Rattle.bd_request.specs.declared.results.Explain.{Explain}
-use Rattle.bd_request.specs.declared.results.Made.{Made}
-use Rattle.bd_request.specs.declared.results.Plan.{Plan}
+use Rattle.bd_request.specs.{declared.results.Explain.Explain, declared.results.Made.Made, declared.results.Plan.Plan}
+use Rattle.bd_request.specs.{Token.token_text}
 use Rattle.bd_request.specs.declared.results.Plan.TheVariants as plans
-use Rattle.bd_request.specs.Token.{token_text}
 
 -- the text of a token
 abbrev pub marked_text : MarkedToken → List ℕ

@@ -14,23 +14,16 @@
 //! assert!(rt; request.sort.len() == 1 && request.limit == 10);
 //! ```
 //!
-//! - `request`: `Request`, and the text that its tokens are tied to: `specs/Request.antt`.
-//! - `sort`: the sort that a document asks for: `specs/Sort.antt`.
-//! - `token`: `Token`, to and from its text: `specs/Token.antt`.
-//! - `digest`: what ties a token to a dump and a request: `specs/Digest.antt`.
-//! - `refused`: `Refused`, why a request, a token or a call of a session is refused: `specs/Refused.antt`.
-//! - `results`: `Batch`, `Made`, `Explain`, what the calls of a session give: `specs/Results.antt`.
+//! - `request`: `Request`, the sort that a document asks for, and the text that tokens are tied to: `specs/Request.antt`.
+//! - `token`: `Token`, to and from its text, and what ties one to a dump and a request: `specs/Token.antt`.
+//! - `results`: `Batch`, `Made`, `Explain`, what the calls of a session give, and `Refused`, why one is refused:
+//!   `specs/Results.antt`, `specs/Refused.antt`.
 #![tactic(auto)]
 
-mod digest;
-mod refused;
 mod request;
 mod results;
-mod sort;
 mod token;
 
-pub use digest::{dump_digest, request_digest};
-pub use refused::Refused;
 pub use request::Request;
-pub use results::{Batch, Explain, Made, Plan};
-pub use token::Token;
+pub use results::{Batch, Explain, Made, Plan, Refused};
+pub use token::{Token, dump_digest, request_digest};

@@ -1,20 +1,23 @@
-//! What is asked of a dump.
+//! What is asked of a dump: a filter, a sort and counts.
 
-ghost use Rattle.std.specs.Prelude.{◌≡◌, ◌++◌, IfErr, IfOk, Ok, OnOk, codes, decimal};
+ghost use Rattle.std.specs.Prelude.{◌≡◌, ◌++◌, IfErr, IfOk, None, Ok, OnOk, Some, codes, decimal};
+ghost use Rattle.std.specs.List.{list_any};
+ghost use Rattle.std.specs.Str.{bytes_eq};
 ghost use Rattle.bd_value.specs.Tree.{int32, leaf};
 ghost use Rattle.bd_value.specs.View.{pairs, tree_of};
+ghost use Rattle.bd_path.specs.Sort.{sort_paths};
+ghost use Rattle.bd_filter.specs.Filter.{filter_tree};
 ghost use Rattle.bd_filter.specs.FilterOf.{filter_of};
-ghost use Rattle.bd_filter.specs.FilterView.{filter_tree};
-ghost use Rattle.bd_request.specs.Request.{direction_number, request_of, request_text, request_view, sort_written};
-ghost use Rattle.bd_request.specs.Refused.{IsRefusedPart, bad_filter, told_as};
-ghost use Rattle.bd_request.specs.Sort.{direction_of};
+ghost use Rattle.bd_request.specs.Refused.{IsRefusedAs, IsRefusedPart, bad_filter, told_as};
+ghost use Rattle.bd_request.specs.Request.{are_distinct, direction_number, direction_of, pair_names, request_of, request_text, request_view};
+ghost use Rattle.bd_request.specs.Request.{sort_of, sort_pairs, sort_written};
+ghost use Rattle.bd_request.specs.declared.results.Refused.TheVariants.{BadSort};
 
-use crate::refused::Refused;
-use crate::sort::{direction_of, read_sort};
+use crate::results::Refused;
 use bd_filter::{Filter, FilterFaultKind, parse};
-use bd_path::{Dir, Path};
+use bd_path::{Dir, Path, PathFault};
 use bd_text::{write_doc, write_number};
-use bd_value::{Document, GREATEST_COUNT, NoMemory, Reading, Tree, Value};
+use bd_value::{Document, GREATEST_COUNT, NoMemory, Reading, Scalar, Tree, Value};
 use std::alloc::Global;
 
 /// What is asked of a dump: which documents, in which order, how many of them to pass over, and how many at most.
@@ -133,5 +136,86 @@ fn written_direction<N: Reading>(value: N) -> Value
         Some(Dir::Up) => Value::Int32(1),
         Some(Dir::Down) => Value::Int32(-1),
         None => Value::Int32(0),
+    }
+}
+
+/// The most paths of a sort.
+const MOST: usize = 4;
+
+/// The sort that a document asks for. It fails with `BadSort` where it asks for none, and with `NoMemory`.
+fn read_sort(alloc: Global, document: &Document) -> Result<Vec<(Path, Dir)>, Refused>
+    ensures sort { IfOk result (λ v. sort_of (pairs document.now) ≡ Some (sort_paths v.items)) }
+    ensures fault { IfErr result (λ r. IsRefusedAs r BadSort (sort_of (pairs document.now) ≡ None)) }
+{
+    if document.len() > MOST {
+        return Err(Refused::BadSort);
+    }
+    let pairs = Tree::Doc(document).parts();
+    if !are_distinct::<Tree<'_>>(pairs) {
+        return Err(Refused::BadSort);
+    }
+    read_pairs::<Tree<'_>>(alloc, pairs)
+}
+
+/// Whether no name stands twice.
+fn are_distinct<N: Reading>(pairs: N::Rest) -> bool
+    ensures { result ≡ are_distinct (pair_names (N.left pairs)) }
+{
+    let mut left = pairs;
+    while let Some(next) = N::next(&left) {
+        if has_name::<N>(next.2, next.0) {
+            return false;
+        }
+        left = next.2;
+    }
+    true
+}
+
+fn has_name<N: Reading>(pairs: N::Rest, name: &str) -> bool
+    ensures { result ≡ list_any (bytes_eq name.now) (pair_names (N.left pairs)) }
+{
+    let mut left = pairs;
+    while let Some(next) = N::next(&left) {
+        if name == next.0 {
+            return true;
+        }
+        left = next.2;
+    }
+    false
+}
+
+fn read_pairs<N: Reading>(alloc: Global, pairs: N::Rest) -> Result<Vec<(Path, Dir)>, Refused>
+    ensures sort { IfOk result (λ v. sort_pairs (N.left pairs) ≡ Some (sort_paths v.items)) }
+    ensures fault { IfErr result (λ r. IsRefusedAs r BadSort (sort_pairs (N.left pairs) ≡ None)) }
+{
+    let mut sort = Vec::new(alloc);
+    let mut left = pairs;
+    while let Some(next) = N::next(&left) {
+        let Some(dir) = direction_of(next.1) else {
+            return Err(Refused::BadSort);
+        };
+        match Path::parse(alloc, next.0) {
+            Ok(path) => sort.push((path, dir))?,
+            Err(PathFault::NoMemory) => return Err(Refused::NoMemory),
+            Err(_) => return Err(Refused::BadSort),
+        }
+        left = next.2;
+    }
+    Ok(sort)
+}
+
+/// 1 is up, and -1 down.
+fn direction_of<N: Reading>(value: N) -> Option<Dir>
+    ensures { result ≡ direction_of (N.tree value) }
+{
+    let number = match value.leaf() {
+        Some(Scalar::Int32(number)) => i64::from(number),
+        Some(Scalar::Int64(number)) => number,
+        _ => return None,
+    };
+    match number {
+        1 => Some(Dir::Up),
+        -1 => Some(Dir::Down),
+        _ => None,
     }
 }

@@ -1,14 +1,17 @@
-//! Where the answer of a request goes on.
+//! Where the answer of a request goes on, and the digests (SHA-256, FIPS 180-4) that tie it to a dump and a request.
 
-ghost use Rattle.std.specs.Prelude.{◌≡◌, IfErr, IfOk, None, Ok, Some, length, string_bytes};
+ghost use Rattle.std.specs.Prelude.{◌≡◌, ◌++◌, IfErr, IfOk, List, None, Ok, Some, length, string_bytes, ℕ};
 ghost use Rattle.base64.specs.Engines.{standard};
 ghost use Rattle.base64.specs.GeneralPurpose.{decode_of, encode_of};
-ghost use Rattle.bd_request.specs.Token.{token_bytes, token_in, token_of, token_text};
-ghost use Rattle.bd_request.specs.declared.refused.Refused.TheVariants.{BadToken};
+ghost use Rattle.sha2.specs.Sha256.{sha256};
+ghost use Rattle.bd_request.specs.Token.{token_bytes, token_digest, token_in, token_of, token_text};
+ghost use Rattle.bd_request.specs.declared.results.Refused.TheVariants.{BadToken};
 
-use crate::refused::Refused;
+use crate::request::Request;
+use crate::results::Refused;
 use base64::engine::general_purpose::STANDARD;
 use bd_value::NoMemory;
+use sha2::{Digest, Sha256};
 use std::alloc::Global;
 
 /// How many bytes a token has, and how many characters its text.
@@ -116,4 +119,24 @@ fn token_in(bytes: &[u8; BYTES]) -> Option<Token>
         last: u32::from_le_bytes(*last),
         digest: *digest,
     })
+}
+
+/// The digest of the bytes of a dump. It takes no memory.
+pub fn dump_digest(bytes: &[u8]) -> [u8; 32]
+    ensures { result ≡ sha256 bytes.now }
+{
+    let mut hasher = Sha256::new();
+    hasher.update(bytes);
+    hasher.finalize()
+}
+
+/// The digest of the tokens of a request: that of the digest of the dump and the text of the request. It takes no memory.
+pub fn request_digest(dump: &[u8; 32], request: &Request) -> [u8; 32]
+    ensures digest { result ≡ sha256 (dump.now ++ request.now.text.items) }
+    ensures of_dump { (bytes : List ℕ) → dump.now ≡ sha256 bytes → result ≡ token_digest bytes request.now.text.items }
+{
+    let mut hasher = Sha256::new();
+    hasher.update(dump.as_slice());
+    hasher.update(request.text.as_slice());
+    hasher.finalize()
 }

@@ -2,17 +2,12 @@
 use Rattle.std.proofs.Common.{◌≡◌, ℕ, List, Result, Ok, Err, refl, inr}
 use Rattle.std.specs.Prelude.{IfOk, OnErr}
 use Rattle.std.specs.declared.alloc.AllocError.{AllocError}
-use Rattle.bd_answer.specs.Session as machine
 use Rattle.bd_bson.specs.Collection.{bytes_of, documents}
-use Rattle.bd_cursor.specs.SessionView.{dump_of, state_of}
-use Rattle.bd_cursor.specs.declared.session.Session.{Session}
-use Rattle.bd_reply.specs.Reply.{refuses}
-use Rattle.bd_reply.specs.ReplyView.{line_reply, told_refusal}
-use Rattle.bd_reply.specs.declared.refusal.LineRefusal.{LineRefusal}
-use Rattle.bd_reply.specs.declared.reply.Reply.{Reply}
+use Rattle.bd_cursor.specs.{SessionView.dump_of, SessionView.state_of, declared.session.Session.Session}
+use Rattle.bd_reply.specs.{Reply.refuses, ReplyView.line_reply, ReplyView.told_refusal, declared.reply.LineRefusal.LineRefusal, declared.reply.Reply.Reply}
+use Rattle.bd_service.specs.{Talk.Answers, Talk.IsCallIn, declared.service.Service.Service}
 use Rattle.bd_service.specs.ServiceView.{IsPerformed, LeavesStarved, service_dump, service_state}
-use Rattle.bd_service.specs.Talk.{Answers, IsCallIn}
-use Rattle.bd_service.specs.declared.service.Service.{Service}
+use Rattle.bd_answer.specs.Session as machine
 
 pub answered : (old new : Session) (line : List ℕ) (call : machine.Call) (result : Result Reply AllocError)
     → IsCallIn (bytes_of (dump_of old)) (documents (dump_of old)) line (Ok call) → IsPerformed call old result new

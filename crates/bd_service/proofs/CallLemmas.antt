@@ -2,17 +2,12 @@
 use Rattle.std.proofs.Common.{◌≡◌, ℕ, List, Result, Ok, Err, refl, sym, inl, Option, Some, None}
 use Rattle.std.specs.Prelude.{IfErr, IfOk}
 use Rattle.bd_value.specs.Tree.{Doc}
-use Rattle.bd_bson.specs.Collection.{bytes_of, documents}
-use Rattle.bd_bson.specs.declared.collection.Dump.{Dump}
-use Rattle.bd_command.specs.Command.{Command}
-use Rattle.bd_command.specs.CommandOf.{command_of}
-use Rattle.bd_extjson.specs.TextDocument.{ReadsAs}
-use Rattle.bd_service.specs.CallOf.{call_of}
-use Rattle.bd_service.specs.CallView.{RefusesLine, RefusesPart, session_call}
-use Rattle.bd_service.specs.Talk.{IsCallIn}
-use Rattle.bd_service.specs.declared.call.Call.{Call}
-use Rattle.bd_service.specs.declared.call_fault.CallFault.{CallFault}
-use Rattle.bd_service.specs.declared.call_fault.CallFault.TheVariants as faults
+use Rattle.bd_bson.specs.{Collection.bytes_of, Collection.documents, declared.collection.Dump.Dump}
+use Rattle.bd_command.specs.{Command.Command, CommandOf.command_of}
+use Rattle.bd_extjson.specs.Read.{ReadsAs}
+use Rattle.bd_service.specs.{Talk.call_of, Talk.IsCallIn, declared.call.Call.Call, declared.call.CallFault.CallFault}
+use Rattle.bd_service.specs.ServiceView.{RefusesLine, RefusesPart, session_call}
+use Rattle.bd_service.specs.declared.call.CallFault.TheVariants as faults
 
 pub call_in_line : (dump : Dump) (line : List ℕ) (d : Doc) (command : Command) (result : Result Call CallFault)
     → ReadsAs line d → command_of d ≡ Ok command

@@ -1,34 +1,24 @@
 -- What a line asks for has a total order and a limit that can be counted.
 use Rattle.std.proofs.Common.{◌≡◌, ◌≤◌, ℕ, Bool, true, cond, List, Option, Some, None, Result, Ok, Err, refl, subst, arith}
+use Rattle.std.proofs.{lemmas.Bool.leb-true, lemmas.Cmp.on_total}
 use Rattle.std.specs.Prelude.{◌&&◌, IfOk, nat_le, option_and_then}
-use Rattle.std.specs.Option.{ok_or}
-use Rattle.std.specs.Result.{result_ok}
-use Rattle.std.proofs.lemmas.Bool.{leb-true}
-use Rattle.std.proofs.lemmas.Cmp.{on_total}
-use Rattle.bd_value.specs.Limits.{greatest_count}
-use Rattle.bd_value.specs.Tree.{Doc}
+use Rattle.std.specs.{Option.ok_or, Result.result_ok}
+use Rattle.bd_value.specs.{Limits.greatest_count, Tree.Doc}
 use Rattle.bd_answer.specs.Session.{Call, drop_call, explain_call, find_call, most_given, resume_call}
-use Rattle.bd_answer.specs.SessionLaws.{IsFair}
-use Rattle.bd_bson.specs.Documents.{document_at}
+use Rattle.bd_answer.specs.Laws.{IsFair}
+use Rattle.bd_bson.specs.Collection.{document_at}
 use Rattle.bd_command.specs.Command.{Command, FindCommand, creates_index, drops_index, explains, finds, gets_more, kills_cursor, resumes}
 use Rattle.bd_command.specs.CommandOf.{command_of}
-use Rattle.bd_filter.specs.Fault.{Refusal}
-use Rattle.bd_filter.specs.Filter.{Filter}
-use Rattle.bd_filter.specs.FilterOf.{filter_of}
-use Rattle.bd_path.specs.Earliest.{SortPath}
-use Rattle.bd_path.specs.Path.{path_of}
-use Rattle.bd_path.specs.declared.path_fault.PathFault.{PathFault}
-use Rattle.bd_path.proofs.LawsLemmas.{sort_total}
+use Rattle.bd_filter.specs.{Fault.Refusal, Filter.Filter, FilterOf.filter_of}
+use Rattle.bd_path.specs.{Sort.SortPath, Path.path_of, declared.path.PathFault.PathFault}
+use Rattle.bd_path.proofs.SortLemmas.{sort_total}
 use Rattle.bd_request.specs.Refused.{bad_filter, plain, then_part, told_as}
-use Rattle.bd_request.specs.Request.{Request, named_index, request_with, token_part}
-use Rattle.bd_request.specs.Sort.{sort_of}
-use Rattle.bd_request.specs.declared.refused.Refused.TheVariants as reasons
-use Rattle.bd_reply.specs.Refusal.{command_refusal, path_refusal, session_refusal}
-use Rattle.bd_reply.specs.Reply.{ToldRefusal}
+use Rattle.bd_request.specs.Request.{Request, named_index, request_with, token_part, sort_of}
+use Rattle.bd_reply.specs.Reply.{command_refusal, path_refusal, session_refusal, ToldRefusal}
 use Rattle.bd_sort.specs.Selection.{query_to}
-use Rattle.bd_cursor.specs.Explanation.{explanation_for}
-use Rattle.bd_cursor.specs.SessionView.{make_of, marked_token}
-use Rattle.bd_service.specs.CallOf.{call_of, document_call, hint_path, search_of, way_by}
+use Rattle.bd_cursor.specs.{Explanation.explanation_for, SessionView.make_of, SessionView.marked_token}
+use Rattle.bd_service.specs.Talk.{call_of, document_call, hint_path, search_of, way_by}
+use Rattle.bd_request.specs.declared.results.Refused.TheVariants as reasons
 
 -- a call that asks for documents asks fairly
 abbrev pub AsksFairly : Call → Type 0

@@ -2,17 +2,13 @@
 use Rattle.std.proofs.Common.{◌≡◌, ℕ, List, [], ◌∷◌, ◌++◌, Option, Some, None, Err, length, refl, arith, inl, inr}
 use Rattle.bd_value.specs.Tree.{Doc}
 use Rattle.bd_answer.specs.Session.{State}
-use Rattle.bd_diagnose.specs.JsonFault.{IsPlaced}
-use Rattle.bd_diagnose.specs.declared.json_fault.JsonFault.{JsonFault}
-use Rattle.bd_diagnose.specs.declared.json_fault.JsonFaultKind.TheVariants as kinds
-use Rattle.bd_extjson.specs.TextDocument.{reading}
+use Rattle.bd_diagnose.specs.{JsonFault.IsPlaced, declared.json_fault.JsonFault.JsonFault}
+use Rattle.bd_extjson.specs.Read.{reading}
 use Rattle.bd_lines.specs.Serving.{RepliesInTurn}
 use Rattle.bd_lines.proofs.ServingLemmas.{replied_then}
-use Rattle.bd_reply.specs.Refusal.{json_refusal}
-use Rattle.bd_reply.specs.Reply.{reply_text}
-use Rattle.bd_service.specs.CallOf.{document_call}
-use Rattle.bd_service.specs.Talk.{IsCallIn, RepliesInText, reply_to, state_then}
-use Rattle.bd_service.specs.TalkLaws.{RepliesGoOn}
+use Rattle.bd_reply.specs.Reply.{json_refusal, reply_text}
+use Rattle.bd_service.specs.Talk.{document_call, IsCallIn, RepliesInText, reply_to, state_then, RepliesGoOn}
+use Rattle.bd_diagnose.specs.declared.json_fault.JsonFaultKind.TheVariants as kinds
 
 module _ (bytes : List ℕ) (ds : List Doc) where
   abbrev AreReplied : State → List (List ℕ) → List ℕ → State → Type 0

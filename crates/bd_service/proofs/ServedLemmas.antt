@@ -2,19 +2,17 @@
 use Rattle.std.proofs.Common.{◌≡◌, ℕ, List, [], ◌∷◌, ◌++◌, Option, ap, ap₂, ◌∙◌, inl, inr, subst}
 use Rattle.bd_value.specs.Tree.{Doc}
 use Rattle.bd_answer.specs.Session.{State}
-use Rattle.bd_bson.specs.Collection.{bytes_of, documents}
-use Rattle.bd_bson.specs.declared.collection.Dump.{Dump}
+use Rattle.bd_bson.specs.{Collection.bytes_of, Collection.documents, declared.collection.Dump.Dump}
 use Rattle.bd_device.specs.Devices.{Over, Reader, Writer}
 use Rattle.bd_device.specs.declared.reading.Limits.{Limits}
-use Rattle.bd_lines.specs.Serving as serving
 use Rattle.bd_lines.specs.Serving.{RepliesInTurn, ServesAll, ServesBefore, StopsServing}
 use Rattle.bd_lines.specs.declared.serving.ServeFault.{ServeFault}
-use Rattle.bd_lines.specs.declared.serving.ServeFault.TheVariants as faults
 use Rattle.bd_reply.specs.Reply.{LineReply}
 use Rattle.bd_service.specs.ServiceView.{KeepsState, RepliesTo, LeavesStarved, service_dump, service_state}
-use Rattle.bd_service.specs.Talk.{IsKept, RepliesInText}
-use Rattle.bd_service.specs.TalkLaws.{Talks, reply_lines}
+use Rattle.bd_service.specs.Talk.{IsKept, RepliesInText, Talks, reply_lines}
 use Rattle.bd_service.specs.declared.service.Service.{Service}
+use Rattle.bd_lines.specs.Serving as serving
+use Rattle.bd_lines.specs.declared.serving.ServeFault.TheVariants as faults
 
 -- the machine over the dump of a session
 abbrev pub RepliesOver : Dump → State → List ℕ → List ℕ → State → Type 0
@@ -77,8 +75,8 @@ before state gives limits old new s command text t b = record {
 }
 
 pub stopped : {R : Type 0} (state : R → Reader) (gives : R → Option (List ℕ) → R → Type 0) (limits : Limits) (old new : R) (out : Over Writer)
-    (s t : Service) (fault : ServeFault) → StopsServing state gives KeepsState RepliesTo limits old new out s t fault
-    → StopsServing state gives IsKept (RepliesOver (service_dump s)) limits old new out (service_state s) (service_state t) fault
+    (s t : Service) (fault : ServeFault) → StopsServing state gives RepliesTo limits old new out s t KeepsState fault
+    → StopsServing state gives (RepliesOver (service_dump s)) limits old new out (service_state s) (service_state t) IsKept fault
 stopped state gives limits old new out s t (faults.Unread fault) u = record {
   whole = u.whole;
   rest = u.rest;

@@ -1,20 +1,18 @@
 -- A talk is the calls among its lines, with their replies.
 use Rattle.std.proofs.Common.{◌≡◌, ◌==◌, ℕ, Bool, true, false, cond, List, [], ◌∷◌, ◌++◌, map, Option, Some, None, Result, Ok, Err, refl, sym, ap, ◌∙◌, inl, inr, ap₂}
-use Rattle.std.specs.Prelude.{option_and_then, unwrap_or}
-use Rattle.std.specs.List.{cons_option}
-use Rattle.std.specs.Result.{result_ok}
 use Rattle.std.proofs.lemmas.List.{map-append}
+use Rattle.std.specs.Prelude.{option_and_then, unwrap_or}
+use Rattle.std.specs.{List.cons_option, Result.result_ok}
 use Rattle.bd_value.specs.Tree.{Doc}
-use Rattle.bd_answer.specs.Session as machine
 use Rattle.bd_answer.specs.Session.{Call, GivenBatch, MarkedToken, Query, State, find_call, gave, next_call, resume_call, state_after, opened}
-use Rattle.bd_answer.specs.SessionLaws.{batch_in, batch_to, batches_to, new_state, replies, state_after_all}
+use Rattle.bd_answer.specs.Laws.{batch_in, batch_to, batches_to, new_state, replies, state_after_all}
 use Rattle.bd_answer.proofs.SessionLemmas.{find_gives, resume_gives}
-use Rattle.bd_extjson.specs.TextDocument.{reading}
+use Rattle.bd_extjson.specs.Read.{reading}
 use Rattle.bd_reply.specs.Reply.{LineReply, ToldRefusal, opens}
-use Rattle.bd_service.specs.CallOf.{document_call}
-use Rattle.bd_service.specs.Talk.{IsCallIn, reply_to, shown_reply, state_then}
+use Rattle.bd_service.specs.Talk.{document_call, IsCallIn, reply_to, shown_reply, state_then, OpensInTalk, Talks, TalksGiveTheAnswer, TalksGiveTheRest, batch_shown, batches_shown, calls_in, given_in}
+use Rattle.bd_service.specs.Talk.{line_call}
 use Rattle.bd_service.proofs.FairLemmas.{line_fair}
-use Rattle.bd_service.specs.TalkLaws.{OpensInTalk, Talks, TalksGiveTheAnswer, TalksGiveTheRest, batch_shown, batches_shown, calls_in, given_in, line_call}
+use Rattle.bd_answer.specs.Session as machine
 
 -- ---- the call of a line
 

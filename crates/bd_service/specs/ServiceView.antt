@@ -1,20 +1,21 @@
 -- What a session in memory does at a call, and at a line.
-use Rattle.std.specs.Prelude.{◌≡◌, List, ℕ, Result, Ok, Err}
+use Rattle.std.specs.Prelude.{◌≡◌, List, ℕ, Result, Ok, Err, string_bytes}
 use Rattle.std.specs.declared.alloc.AllocError.{AllocError}
-use Rattle.bd_answer.specs.Session as machine
-use Rattle.bd_answer.specs.Session.{State, state_after}
-use Rattle.bd_bson.specs.Collection.{bytes_of, documents}
-use Rattle.bd_bson.specs.declared.collection.Dump.{Dump}
-use Rattle.bd_cursor.specs.SessionView.{IsRefused, dump_of, state_of}
+use Rattle.bd_answer.specs.Session.{State, state_after, drop_call, find_call, kill_call, next_call, resume_call}
+use Rattle.bd_bson.specs.{Collection.bytes_of, Collection.documents, declared.collection.Dump.Dump}
+use Rattle.bd_cursor.specs.SessionView.{IsRefused, dump_of, state_of, explain_request, hint_of, make_index, marked_token}
 use Rattle.bd_cursor.specs.declared.session.Session.{Session}
+use Rattle.bd_request.specs.declared.results.Refused.{Refused}
+use Rattle.bd_reply.specs.{ReplyView.line_reply, ReplyView.told_refusal, declared.reply.Reply.Reply}
+use Rattle.bd_reply.specs.Reply.{LineReply, reply_text, ToldRefusal}
+use Rattle.bd_service.specs.{declared.service.Service.Service, declared.call.Call.Call, declared.call.CallFault.CallFault}
+use Rattle.bd_service.specs.Talk.{Answers, shown_reply, IsCallIn}
+use Rattle.bd_sort.specs.Selection.{query_of}
+use Rattle.bd_answer.specs.Session as machine
 use Rattle.bd_lines.specs.Serving as serving
-use Rattle.bd_request.specs.declared.refused.Refused.{Refused}
-use Rattle.bd_request.specs.declared.refused.Refused.TheVariants as reasons
-use Rattle.bd_reply.specs.Reply.{LineReply, reply_text}
-use Rattle.bd_reply.specs.ReplyView.{line_reply}
-use Rattle.bd_reply.specs.declared.reply.Reply.{Reply}
-use Rattle.bd_service.specs.Talk.{Answers, shown_reply}
-use Rattle.bd_service.specs.declared.service.Service.{Service}
+use Rattle.bd_request.specs.declared.results.Refused.TheVariants as reasons
+use Rattle.bd_service.specs.declared.call.Call.TheVariants as calls
+use Rattle.bd_service.specs.declared.call.CallFault.TheVariants as faults
 
 -- a call was made: its reply and the state after it are those of the machine
 pub record Performs (call : machine.Call) (old : Session) (r : Reply) (new : Session) : Type 0 where
@@ -52,3 +53,23 @@ KeepsState old new = service_state new ≡ service_state old
 -- memory ran out at the line: the session is as it was, or as the call left it whose reply was not made
 abbrev pub LeavesStarved : Service → List ℕ → Service → Type 0
 LeavesStarved old line new = serving.StarvesAt KeepsState RepliesTo old line new
+
+-- to a dump
+abbrev pub session_call : Dump → Call → machine.Call
+session_call dump (calls.CreateIndex path sparse) = make_index sparse dump path
+session_call dump (calls.DropIndex path) = drop_call (string_bytes path.text)
+session_call dump (calls.Find request choice) = find_call (query_of dump request) (hint_of choice)
+session_call dump (calls.Resume request choice token) = resume_call (query_of dump request) (hint_of choice) (marked_token token)
+session_call dump (calls.GetMore id batch) = next_call id batch
+session_call dump (calls.KillCursor id) = kill_call id
+session_call dump (calls.Explain request choice) = explain_request dump request choice
+
+-- a part of a command is refused for this reason, unless memory ran out
+abbrev pub RefusesPart : {A : Type 0} → Result A ToldRefusal → CallFault → Type 0
+RefusesPart part faults.NoMemory = Unit {0}
+RefusesPart part (faults.Refused why) = part ≡ Err (told_refusal why)
+
+-- the line is no call for this reason, unless memory ran out
+abbrev pub RefusesLine : Dump → List ℕ → CallFault → Type 0
+RefusesLine dump line faults.NoMemory = Unit {0}
+RefusesLine dump line (faults.Refused why) = IsCallIn (bytes_of dump) (documents dump) line (Err (told_refusal why))

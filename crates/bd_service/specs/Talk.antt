@@ -1,19 +1,62 @@
--- A talk with a session: lines and the replies to them.
-use Rattle.std.specs.Prelude.{◌≡◌, ◌≢◌, ◌⊎◌, ℕ, List, length, None, Result, Ok, Err, option_map}
+-- A talk with a session: the call that a line is, the replies to lines, and what always holds of them.
+use Rattle.std.specs.Prelude.{ℕ, List, Option, Result, Ok, ◌≡◌, ◌≢◌, ◌⊎◌, length, None, Err, option_map, ◌==◌, [], ◌∷◌, ◌++◌, map, option_and_then, Some, if◌then◌else◌}
+use Rattle.std.specs.{List.filter_map, Result.result_ok}
 use Rattle.bd_value.specs.Tree.{Doc}
-use Rattle.bd_diagnose.specs.JsonFault.{IsPlaced}
-use Rattle.bd_diagnose.specs.declared.json_fault.JsonFault.{JsonFault}
+use Rattle.bd_answer.specs.{Answer.answer, Answer.rest, Laws.GivesInTurn, Laws.new_state}
+use Rattle.bd_answer.specs.Session.{Call, drop_call, explain_call, find_call, kill_call, next_call, resume_call, State, state_after, GivenBatch, MarkedToken, Query, gave}
+use Rattle.bd_path.specs.Path.{path_of}
+use Rattle.bd_request.specs.{Refused.then_part, Refused.told_as, Refused.plain, Results.marked_text}
+use Rattle.bd_request.specs.Request.{Request, named_index, request_of, token_part}
+use Rattle.bd_sort.specs.Selection.{query_to}
+use Rattle.bd_cursor.specs.Access.{Way, by_any, by_none, by_one}
+use Rattle.bd_cursor.specs.Explanation.{explanation_for}
+use Rattle.bd_cursor.specs.SessionView.{make_of, marked_token, path_named}
+use Rattle.bd_command.specs.Command.{Command, FindCommand, Hint, any_way, by_index, by_scan, creates_index, drops_index, finds, gets_more, kills_cursor, resumes}
+use Rattle.bd_command.specs.CommandOf.{command_of}
+use Rattle.bd_reply.specs.Reply.{command_refusal, path_refusal, session_refusal, ToldRefusal, json_refusal, LineReply, done, explains, gives, makes, opens, refuses}
+use Rattle.bd_reply.specs.Reply.{reply_text}
+use Rattle.bd_diagnose.specs.{JsonFault.IsPlaced, declared.json_fault.JsonFault.JsonFault}
+use Rattle.bd_extjson.specs.Read.{ReadsAs, reading}
+use Rattle.bd_bson.specs.Collection.{documents_at}
+use Rattle.bd_lines.specs.Serving.{RepliesInTurn}
 use Rattle.bd_diagnose.specs.declared.json_fault.JsonFaultKind.TheVariants as json
-use Rattle.bd_extjson.specs.TextDocument.{ReadsAs, reading}
 use Rattle.bd_answer.specs.Session as machine
-use Rattle.bd_answer.specs.Session.{Call, State, state_after}
-use Rattle.bd_bson.specs.Documents.{documents_at}
-use Rattle.bd_request.specs.Refused.{plain}
-use Rattle.bd_request.specs.Results.{marked_text}
-use Rattle.bd_request.specs.declared.refused.Refused.TheVariants as reasons
-use Rattle.bd_reply.specs.Refusal.{json_refusal, session_refusal}
-use Rattle.bd_reply.specs.Reply.{LineReply, ToldRefusal, done, explains, gives, makes, opens, refuses, reply_text}
-use Rattle.bd_service.specs.CallOf.{document_call}
+use Rattle.bd_command.specs.Command as commands
+use Rattle.bd_request.specs.declared.results.Refused.TheVariants as reasons
+
+-- which index is to be used
+abbrev pub way_by : Hint → Way
+way_by any_way = by_any
+way_by by_scan = by_none
+way_by (by_index path) = by_one path
+
+abbrev pub hint_path : Hint → Option (List ℕ)
+hint_path hint = path_named (way_by hint)
+
+-- the request is looked at first, and then the path of the index
+abbrev pub search_of : FindCommand → Result Request ToldRefusal
+search_of f =
+    then_part (told_as session_refusal (request_of f.filter f.sort f.skip f.limit)) (λ request.
+    then_part (told_as path_refusal (named_index (hint_path f.hint))) (λ _. Ok request))
+
+-- Over a dump of these bytes, which are these documents, the call that a command is, or the first thing in it that is refused: of
+-- `resume` the text of the token is looked at first.
+abbrev pub call_of : List ℕ → List Doc → Command → Result Call ToldRefusal
+call_of bytes ds (creates_index path sparse) =
+    then_part (told_as path_refusal (path_of path)) (λ _. Ok (make_of ds (record { path = path; is_sparse = sparse })))
+call_of bytes ds (drops_index path) = then_part (told_as path_refusal (path_of path)) (λ _. Ok (drop_call path))
+call_of bytes ds (finds f) = then_part (search_of f) (λ r. Ok (find_call (query_to bytes ds r) (hint_path f.hint)))
+call_of bytes ds (resumes token f) =
+    then_part (told_as session_refusal (token_part token)) (λ t.
+    then_part (search_of f) (λ r. Ok (resume_call (query_to bytes ds r) (hint_path f.hint) (marked_token t))))
+call_of bytes ds (gets_more id batch) = Ok (next_call id batch)
+call_of bytes ds (kills_cursor id) = Ok (kill_call id)
+call_of bytes ds (commands.explains f) =
+    then_part (search_of f) (λ r. Ok (explain_call (hint_path f.hint) (explanation_for ds r (way_by f.hint))))
+
+-- the call that a document is
+abbrev pub document_call : List ℕ → List Doc → Doc → Result Call ToldRefusal
+document_call bytes ds d = then_part (told_as command_refusal (command_of d)) (call_of bytes ds)
 
 -- what is told of a session's reply, with the documents at the places that it gives
 abbrev pub shown_reply : List Doc → machine.Reply → LineReply
@@ -32,13 +75,9 @@ shown_reply ds machine.foreign_token = refuses (session_refusal (plain reasons.F
 shown_reply ds machine.token_place = refuses (session_refusal (plain reasons.TokenPlace))
 shown_reply ds machine.out_of_range = refuses (session_refusal (plain reasons.Range))
 
--- ---- one line
-
 -- the call that a line is, or why it is none. Of a text that is no document, one of its faults is told
 abbrev pub IsCallIn : List ℕ → List Doc → List ℕ → Result Call ToldRefusal → Type 0
-IsCallIn bytes ds line part =
-    ((d : Doc) × ReadsAs line d × (part ≡ document_call bytes ds d))
-    ⊎ ((reading line ≡ None)
+IsCallIn bytes ds line part = ((d : Doc) × ReadsAs line d × (part ≡ document_call bytes ds d)) ⊎ ((reading line ≡ None)
     × ((f : JsonFault) × IsPlaced (length line) f × (f.kind ≢ json.NoMemory) × (part ≡ Err (json_refusal f))))
 
 abbrev pub reply_to : List Doc → State → Result Call ToldRefusal → LineReply
@@ -64,3 +103,78 @@ IsKept s t = t ≡ s
 -- a reply as `Answers` tells it, with its text
 abbrev pub RepliesInText : List ℕ → List Doc → State → List ℕ → List ℕ → State → Type 0
 RepliesInText bytes ds s line text t = (r : LineReply) × Answers bytes ds s line r t × (text ≡ reply_text r)
+
+-- over a dump of these bytes, which are these documents, these lines may have these replies in turn, which lead from one state to
+-- the other
+abbrev pub Talks : List ℕ → List Doc → State → List (List ℕ) → List LineReply → State → Type 0
+Talks bytes ds s [] [] t = t ≡ s
+Talks bytes ds s [] (r ∷ rs) t = ⊥
+Talks bytes ds s (line ∷ lines) [] t = ⊥
+Talks bytes ds s (line ∷ lines) (r ∷ rs) t =
+    (mid : State) × Answers bytes ds s line r mid × Talks bytes ds mid lines rs t
+
+-- the replies as a text, each a line
+abbrev pub reply_lines : List LineReply → List ℕ
+reply_lines [] = []
+reply_lines (r ∷ rs) = reply_text r ++ 10 ∷ reply_lines rs
+
+-- the call that a line is, where it is one
+abbrev pub line_call : List ℕ → List Doc → List ℕ → Option Call
+line_call bytes ds line = option_and_then (λ d. result_ok (document_call bytes ds d)) (reading line)
+
+-- the calls among lines
+abbrev pub calls_in : List ℕ → List Doc → List (List ℕ) → List Call
+calls_in bytes ds lines = filter_map (line_call bytes ds) lines
+
+-- the reply to a line that asks a cursor for a batch, where it gives one
+abbrev pub given_in : LineReply → List LineReply
+given_in (gives ds ends token) = gives ds ends token ∷ []
+given_in _ = []
+
+abbrev pub batch_shown : ℕ → Option Call → LineReply → List LineReply
+batch_shown id (Some (next_call i n)) r = if i == id then given_in r else []
+batch_shown id _ r = []
+
+-- the batches of a cursor among the replies to lines
+abbrev pub batches_shown : List ℕ → List Doc → ℕ → List (List ℕ) → List LineReply → List LineReply
+batches_shown bytes ds id [] rs = []
+batches_shown bytes ds id (line ∷ lines) [] = []
+batches_shown bytes ds id (line ∷ lines) (r ∷ rs) =
+    batch_shown id (line_call bytes ds line) r ++ batches_shown bytes ds id lines rs
+
+-- these places are shown in batches of the sizes that the lines ask for, with tokens that lead on to what is left
+pub record ShowsInTurn (bytes : List ℕ) (ds : List Doc) (q : Query) (id : ℕ) (ps : List ℕ) (lines : List (List ℕ)) (rs : List LineReply)
+    : Type 0 where
+  pub given : List GivenBatch
+  pub in_turn : GivesInTurn q id ps (calls_in bytes ds lines) given
+  pub shown : batches_shown bytes ds id lines rs ≡ map (λ b. shown_reply ds (gave b)) given
+
+-- a line is this call and opens a cursor, after some lines and before others
+pub record OpensInTalk (bytes : List ℕ) (ds : List Doc) (call : Call) (id : ℕ) (lines : List (List ℕ)) (rs : List LineReply)
+    : Type 0 where
+  pub earlier : List (List ℕ)
+  pub replies : List LineReply
+  pub before : State
+  pub line : List ℕ
+  pub after : State
+  pub end : State
+  pub begins : Talks bytes ds new_state earlier replies before
+  pub asks : line_call bytes ds line ≡ Some call
+  pub opened : Answers bytes ds before line (opens id) after
+  pub goes_on : Talks bytes ds after lines rs end
+
+-- after a line that finds, the cursor gives the answer
+abbrev pub TalksGiveTheAnswer : Type 0
+TalksGiveTheAnswer = (bytes : List ℕ) (ds : List Doc) (q : Query) (hint : Option (List ℕ)) (id : ℕ) (lines : List (List ℕ)) (rs : List LineReply) →
+    OpensInTalk bytes ds (find_call q hint) id lines rs → ShowsInTurn bytes ds q id (answer q.selection) lines rs
+
+-- and after one that resumes, the rest
+abbrev pub TalksGiveTheRest : Type 0
+TalksGiveTheRest = (bytes : List ℕ) (ds : List Doc) (q : Query) (hint : Option (List ℕ)) (t : MarkedToken) (id : ℕ) (lines : List (List ℕ)) (rs : List LineReply) →
+    OpensInTalk bytes ds (resume_call q hint t) id lines rs → ShowsInTurn bytes ds q id (rest q.selection t.mark) lines rs
+
+-- What was replied to lines stands in front of what may be replied to them and to any lines after them.
+abbrev pub RepliesGoOn : Type 0
+RepliesGoOn = (bytes : List ℕ) (ds : List Doc) (s : State) (lines later : List (List ℕ)) (text : List ℕ) (t : State) →
+    RepliesInTurn (RepliesInText bytes ds) s lines text t →
+    (rest : List ℕ) × (end : State) × RepliesInTurn (RepliesInText bytes ds) s (lines ++ later) (text ++ rest) end

@@ -11,19 +11,11 @@
 //! assert!(rt; text.as_slice() == b"{\"ok\":true,\"cursor\":{\"$numberLong\":\"1\"}}".as_slice());
 //! ```
 //!
-//! - `service`: `Service`, which replies to a line: `specs/ServiceView.antt`.
-//! - `call_of`: the call of a session that a command is: `specs/CallOf.antt`, and `specs/CallView.antt` for `call` and
-//!   `call_fault`.
-//! - `call_reply`: a call made, and its reply.
-//! - `laws`: what always holds of a talk: `specs/TalkLaws.antt`.
+//! - `service`: `Service`, which replies to a line: `specs/ServiceView.antt`; and what always holds of a talk.
+//! - `call`: the call of a session that a command is.
 #![tactic(auto)]
 
 mod call;
-mod call_fault;
-mod call_of;
-mod call_reply;
-mod laws;
 mod service;
 
-pub use laws::{replies_go_on, talks_keep_to_the_answer, texts_are_talks};
-pub use service::Service;
+pub use service::{Service, replies_go_on, talks_keep_to_the_answer, texts_are_talks};

@@ -1,28 +1,25 @@
-//! A session that lines are sent to.
+//! A session that lines are sent to, and what always holds of a talk with it.
 
 ghost use Rattle.std.specs.Prelude.{◌≡◌, ◌++◌, IfErr, IfOk, OnErr, OnOk, List, ℕ};
-ghost use Rattle.bd_answer.specs.SessionLaws.{new_state};
+ghost use Rattle.bd_value.specs.{Tree.Doc, View.pairs};
+ghost use Rattle.bd_answer.specs.{Session.State, Laws.new_state};
 ghost use Rattle.bd_bson.specs.Collection.{bytes_of, documents};
 ghost use Rattle.bd_bson.specs.declared.collection.Dump.{Dump};
-ghost use Rattle.bd_value.specs.View.{pairs};
-ghost use Rattle.bd_command.specs.CommandOf.{command_of};
-ghost use Rattle.bd_command.specs.CommandView.{command_tree};
-ghost use Rattle.bd_extjson.specs.TextDocument.{ReadsAs};
-ghost use Rattle.bd_reply.specs.Refusal.{command_refusal};
-ghost use Rattle.bd_reply.specs.ReplyView.{line_reply};
+ghost use Rattle.bd_extjson.specs.Read.{ReadsAs};
 ghost use Rattle.bd_request.specs.Refused.{told_as};
-ghost use Rattle.bd_service.specs.CallView.{RefusesLine, RefusesPart, session_call};
-ghost use Rattle.bd_service.specs.ServiceView.{KeepsState, RepliesTo, LeavesStarved, service_dump, service_state};
-ghost use Rattle.bd_service.specs.Talk.{Answers, IsCallIn};
+ghost use Rattle.bd_cursor.specs.SessionView.{dump_of};
+ghost use Rattle.bd_lines.specs.Serving.{RepliesInTurn};
+ghost use Rattle.bd_command.specs.{Command.command_tree, CommandOf.command_of};
+ghost use Rattle.bd_reply.specs.{Reply.LineReply, Reply.command_refusal, ReplyView.line_reply};
+ghost use Rattle.bd_service.specs.ServiceView.{IsAnswered, IsPerformed, KeepsState, LeavesStarved, RefusesLine, RefusesPart, RepliesTo};
+ghost use Rattle.bd_service.specs.ServiceView.{service_dump, service_state, session_call};
+ghost use Rattle.bd_service.specs.Talk.{Answers, IsCallIn, RepliesGoOn, RepliesInText, Talks, TalksGiveTheAnswer, TalksGiveTheRest, reply_lines};
 
-use crate::call::Call;
-use crate::call_fault::CallFault;
-use crate::call_of::call_of;
-use crate::call_reply::perform;
+use crate::call::{Call, CallFault, call_of};
 use bd_bson::Dump;
 use bd_command::{Command, CommandFault, read_command};
-use bd_cursor::Session;
-use bd_diagnose::{JsonFault, JsonFaultKind};
+use bd_cursor::{Refused, Session};
+use bd_diagnose::JsonFaultKind;
 use bd_extjson::read_doc;
 use bd_lines::Replier;
 use bd_reply::{LineRefusal, Reply, write_reply};
@@ -98,13 +95,10 @@ fn read_line(alloc: Global, line: &[u8]) -> Result<Document, CallFault>
 {
     match read_doc(alloc, line) {
         Ok(document) => Ok(document),
-        Err(
-            JsonFault {
-                kind: JsonFaultKind::NoMemory,
-                ..
-            },
-        ) => Err(CallFault::NoMemory),
-        Err(fault) => Err(CallFault::Refused(LineRefusal::Json(fault))),
+        Err(fault) => match fault.kind {
+            JsonFaultKind::NoMemory => Err(CallFault::NoMemory),
+            _ => Err(CallFault::Refused(LineRefusal::Json(fault))),
+        },
     }
 }
 
@@ -119,3 +113,65 @@ fn command_in(alloc: Global, document: &Document) -> Result<Command, CallFault>
         Err(fault) => Err(CallFault::Refused(LineRefusal::Command(fault))),
     }
 }
+
+/// Makes a call. It fails only if memory runs out, and then the session is as it was.
+fn perform(session: &mut Session, call: Call) -> Result<Reply, NoMemory>
+    ensures performs { IsPerformed (session_call (dump_of session.old) call) session.old result session.new }
+{
+    match call_reply(session, call) {
+        Ok(reply) => Ok(reply),
+        Err(Refused::NoMemory) => Err(AllocError),
+        Err(refused) => Ok(Reply::Refused(LineRefusal::Session(refused))),
+    }
+}
+
+/// The reply of a call, or why the session refuses it.
+fn call_reply(session: &mut Session, call: Call) -> Result<Reply, Refused>
+    ensures answers { IsAnswered (session_call (dump_of session.old) call) session.old result session.new }
+{
+    match call {
+        Call::CreateIndex {
+            path,
+            sparse: false,
+        } => Ok(Reply::Made(session.create_index(path)?)),
+        Call::CreateIndex { path, sparse: true } => {
+            Ok(Reply::Made(session.create_sparse_index(path)?))
+        }
+        Call::DropIndex(path) => {
+            session.drop_index(&path)?;
+            Ok(Reply::Done)
+        }
+        Call::Find(request, choice) => Ok(Reply::Opened(session.find(request, choice)?)),
+        Call::Resume(request, choice, token) => {
+            Ok(Reply::Opened(session.resume(request, choice, &token)?))
+        }
+        Call::GetMore { id, batch } => Ok(Reply::Gave(session.next(id, batch)?)),
+        Call::KillCursor(id) => {
+            session.kill(id)?;
+            Ok(Reply::Done)
+        }
+        Call::Explain(request, choice) => {
+            Ok(Reply::Explained(session.explain(&request, &choice)?))
+        }
+    }
+}
+
+/// Over any lines, a cursor gives its answer in batches, as many documents as the lines ask for, and each token leads on to
+/// exactly the rest.
+pub fn talks_keep_to_the_answer()
+    ensures answer { TalksGiveTheAnswer }
+    ensures rest { TalksGiveTheRest }
+{}
+
+/// What is written in reply to lines is a talk, a line a reply.
+pub fn texts_are_talks()
+    ensures { (bytes : List ℕ) (ds : List Doc) (s : State) (lines : List (List ℕ)) (text : List ℕ) (t : State) →
+        RepliesInTurn (RepliesInText bytes ds) s lines text t →
+        (rs : List LineReply) × Talks bytes ds s lines rs t × (text ≡ reply_lines rs) }
+{}
+
+/// Each line may have a reply, in each state. So what was replied to some lines is a front of what may be replied to all of them:
+/// replies that were cut short are a front of a whole text.
+pub fn replies_go_on()
+    ensures { RepliesGoOn }
+{}

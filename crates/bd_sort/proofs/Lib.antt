@@ -1,6 +1,4 @@
-pub mod KeptLemmas
 pub mod MarkLemmas
-pub mod OrderedSourceLemmas
-pub mod RowLemmas
+pub mod RankingLemmas
 pub mod SortKeyLemmas
 pub mod SortingLemmas

@@ -1,18 +1,14 @@
 -- How documents stand to a mark.
 use Rattle.std.proofs.Common.{◌≡◌, ℕ, List, [], ◌∷◌, refl, ap, ◌∙◌, arith, Ordering}
-use Rattle.std.specs.Cmp.{IsStrictWeakOrder, IsTotalOrder}
-use Rattle.std.specs.Ordering.{is_gt, is_lt, nat_cmp, ordering_reverse, ordering_then}
-use Rattle.std.proofs.lemmas.Cmp.{nat_cmp_total, on_total, then_total}
-use Rattle.std.proofs.lemmas.List.Sorted.{ranks_by}
+use Rattle.std.proofs.{lemmas.Cmp.nat_cmp_total, lemmas.Cmp.on_total, lemmas.Cmp.then_total, lemmas.List.Sorted.ranks_by}
+use Rattle.std.specs.{Cmp.IsStrictWeakOrder, Cmp.IsTotalOrder, Ordering.is_gt, Ordering.is_lt, Ordering.nat_cmp, Ordering.ordering_reverse, Ordering.ordering_then}
 use Rattle.bd_value.specs.Tree.{Doc}
-use Rattle.bd_path.specs.Earliest.{SortPath, dir_cmp, sort_key}
-use Rattle.bd_path.proofs.LawsLemmas.{sort_total}
-use Rattle.bd_answer.specs.Answer.{before}
-use Rattle.bd_answer.specs.AnswerLaws.{IsStrictOrder}
+use Rattle.bd_path.specs.Sort.{SortPath, dir_cmp, sort_key}
+use Rattle.bd_path.proofs.SortLemmas.{sort_total}
+use Rattle.bd_answer.specs.{Answer.before, Laws.IsStrictOrder}
 use Rattle.bd_answer.proofs.AnswerLemmas.{before_strict}
-use Rattle.bd_bson.specs.Documents.{document_at}
-use Rattle.bd_sort.specs.Mark.{marked_cmp, marked_keys}
-use Rattle.bd_sort.specs.Selection.{order_of_keys}
+use Rattle.bd_bson.specs.Collection.{document_at}
+use Rattle.bd_sort.specs.{Mark.marked_cmp, Mark.marked_keys, Selection.order_of_keys}
 
 pub keys_total : (ds : List Doc) (ss : List SortPath) → IsTotalOrder (order_of_keys ds ss)
 keys_total ds ss = on_total (document_at ds) (sort_total ss)

@@ -1,16 +1,12 @@
 -- Keys on a path that meets no array.
 use Rattle.std.proofs.Common.{◌≡◌, ◌≢◌, ◌+◌, ℕ, false, List, [], ◌∷◌, drop, refl, sym, ap, ◌∙◌, suc, Some, None, add-one}
 use Rattle.std.specs.Prelude.{slice_get}
-use Rattle.bd_value.specs.Kind.{kind_of}
-use Rattle.bd_value.specs.Lookup.{first_of}
-use Rattle.bd_value.specs.Tree.{Tree, array, doc, leaf, pairs_in}
+use Rattle.bd_value.specs.{View.kind_of, Tree.first_of, Tree.Tree, Tree.array, Tree.doc, Tree.leaf, Tree.pairs_in}
+use Rattle.bd_path.specs.{Key.all_keys, Key.key_gathering, Key.missing_key, Reach.Names, Reach.Gathering, Reach.gathering}
+use Rattle.bd_path.proofs.WalkLemmas.{drop_at}
 use Rattle.bd_value.specs.Tree as trees
-use Rattle.bd_value.specs.declared.kind.Kind.TheVariants as kinds
-use Rattle.bd_path.specs.KeyList.{all_keys, key_gathering, missing_key}
-use Rattle.bd_path.specs.Names.{Names}
-use Rattle.bd_path.specs.Reach.{Gathering, gathering}
+use Rattle.bd_value.specs.declared.node.Kind.TheVariants as kinds
 use Rattle.bd_path.proofs.ReachLemmas as down
-use Rattle.bd_path.proofs.VisitsLemmas.{drop_at}
 
 through_field : {A : Type 0} (g : Gathering A) (t : Tree) (name : List ℕ) (rest : Names) (u : Tree) → first_of name (pairs_in t) ≡ Some u → gathering g t (name ∷ rest) ≡ gathering g u rest
 through_field g (doc fs) name rest u e = down.found g (doc fs) u name rest refl e

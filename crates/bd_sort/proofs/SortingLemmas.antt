@@ -1,29 +1,121 @@
 -- The places that match, kept while they come.
-use Rattle.std.proofs.Common.{◌≡◌, ◌<◌, ◌≤◌, ◌&&◌, ◌++◌, ℕ, Bool, true, false, cond, List, [], ◌∷◌, length, not, take, refl, ap, ◌∙◌, filter}
-use Rattle.std.proofs.Common.{arith, Option, Some, None, IfSome}
-use Rattle.std.specs.Cmp.{IsStrictWeakOrder, IsTotalOrder}
-use Rattle.std.specs.List.{All, range_with_len}
+use Rattle.std.proofs.Common.{◌≡◌, ◌-◌, ◌<◌, ◌≤◌, ℕ, Bool, true, false, List, [], ◌∷◌, ◌++◌, length, get_or, take, inl, inr, refl, sym, ap, ◌∙◌, subst, arith, zero, suc, append_assoc, ◌&&◌}
+use Rattle.std.proofs.Common.{cond, not, filter, Option, Some, None, IfSome, ◌+◌}
+use Rattle.std.proofs.lemmas.Bool.{cond_both, false_from_ne_true, ltb-false, ltb-true, not-false, not-true}
 use Rattle.std.proofs.lemmas.List.Elements.{All-head, All-nil, All-push, All-take}
-use Rattle.std.proofs.lemmas.List.FromFn.{length-range_with_len}
-use Rattle.std.proofs.lemmas.List.Sorted.{All-permutation, length_permutation}
-use Rattle.std.proofs.lemmas.List.Filters.{length-filter_both}
-use Rattle.std.proofs.lemmas.Option.{IfSome_then}
-use Rattle.bd_answer.specs.Answer.{Selection, before, insert_all, matching, ordered}
-use Rattle.bd_answer.specs.Source.{IsSource, is_after, passes, places_after}
-use Rattle.bd_answer.proofs.AnswerLemmas.{before_strict}
-use Rattle.bd_answer.proofs.FirstsLemmas.{inserted_permutes, inserted_sorted}
-use Rattle.bd_answer.proofs.OrderLemmas.{filter_apart}
-use Rattle.bd_answer.proofs.SourceLemmas.{batch_sorted, below_more, pairs_apart}
-use Rattle.bd_path.specs.Earliest.{SortPath}
+use Rattle.std.proofs.{lemmas.List.FromFn.length-range_with_len, lemmas.List.Sorted.All-permutation, lemmas.List.Sorted.length_permutation, lemmas.List.Filters.length-filter_both}
+use Rattle.std.proofs.{lemmas.Option.IfSome_then, lemmas.List.append-nil, lemmas.List.length-append, lemmas.List.take_all, Math.Seq.take-append_seam, lemmas.Cmp.on_total}
+use Rattle.std.specs.{Cmp.IsStrictWeakOrder, Cmp.IsTotalOrder, List.All, List.range_with_len}
+use Rattle.bd_answer.specs.Answer.{insert, insert_all, Selection, before, matching, ordered, at_most}
+use Rattle.bd_answer.specs.{Laws.IsStrictOrder, Laws.IsAscending, Source.IsSource, Source.is_after, Source.passes, Source.places_after}
+use Rattle.bd_answer.proofs.AnswerLemmas.{take_rises, before_strict}
+use Rattle.bd_answer.proofs.StableLemmas.{apart_left, insert_all_append, rising_is_inserted, apart_on, firsts_end, firsts_on, same_firsts, inserted_permutes, inserted_sorted}
+use Rattle.bd_answer.proofs.OrderLemmas.{Apart, In, Rises, in_at, not_both, filter_apart}
+use Rattle.bd_answer.proofs.SourceLemmas.{permuted_apart, sorted_rises, batch_sorted, below_more, pairs_apart, batch_in_order}
+use Rattle.bd_path.proofs.SortLemmas.{sort_total}
+use Rattle.bd_sort.specs.{Sorting.AreFirst, Sorting.IsEnd, Sorting.is_before_mark, Sorting.has_enough, Mark.IsMark, Mark.mark_place, Selection.hits_of, Selection.order_of_keys}
+use Rattle.bd_sort.specs.{Selection.selection_for, Selection.selection_of, declared.mark.Mark.Mark}
+use Rattle.bd_path.specs.{Sort.SortPath, Sort.sort_paths}
 use Rattle.bd_value.specs.Tree.{Doc}
-use Rattle.bd_sort.specs.First.{AreFirst, IsEnd}
-use Rattle.bd_sort.specs.Mark.{IsMark, mark_place}
-use Rattle.bd_filter.specs.Filter.{Filter}
-use Rattle.bd_sort.specs.Selection.{hits_of, order_of_keys, selection_for}
-use Rattle.bd_sort.specs.Sorting.{is_before_mark}
-use Rattle.bd_sort.specs.declared.mark.Mark.{Mark}
-use Rattle.bd_sort.proofs.KeptLemmas.{AreKept, EndsAt, ends_first, ends_on, kept_end, kept_first, kept_none, kept_refused, kept_taken}
+use Rattle.bd_filter.specs.{Filter.Filter, Filter.filter_tree}
 use Rattle.bd_sort.proofs.MarkLemmas.{keys_strict, keys_total, keys_weak}
+use Rattle.bd_request.specs.declared.request.Request.{Request}
+use Rattle.bd_bson.specs.Collection.{document_at}
+
+-- k places at the front of a list, none of which e comes before
+abbrev pub Stays : (ℕ → ℕ → Bool) → ℕ → ℕ → List ℕ → Type 0
+Stays lt zero e xs = Unit {0}
+Stays lt (suc k) e [] = ⊥
+Stays lt (suc k) e (x ∷ xs) = (lt e x ≡ false) × Stays lt k e xs
+
+stays_less : (lt : ℕ → ℕ → Bool) (k e : ℕ) (xs : List ℕ) → Stays lt (suc k) e xs → Stays lt k e xs
+stays_less lt zero e xs h = tt
+stays_less lt (suc k) e [] h = absurd h
+stays_less lt (suc k) e (x ∷ xs) h = (h.0, stays_less lt k e xs h.1)
+
+not_past : {lt : ℕ → ℕ → Bool} → IsStrictOrder lt → (e q x : ℕ) → lt q x ≡ true → lt e x ≡ false → lt e q ≡ false
+not_past {lt = lt} o e q x a b = false_from_ne_true (lt e q) (λ f. cc (o.transitive e q x f a, b))
+
+stays_insert : {lt : ℕ → ℕ → Bool} → IsStrictOrder lt → (k e q : ℕ) (xs : List ℕ) → Stays lt k e xs → Stays lt k e (insert lt q xs)
+stays_insert o zero e q xs h = tt
+stays_insert o (suc k) e q [] h = absurd h
+stays_insert {lt = lt} o (suc k) e q (x ∷ xs) h = cond_both (lt q x) (q ∷ x ∷ xs) (x ∷ insert lt q xs) (λ ys. Stays lt (suc k) e ys)
+    (λ f. (not_past o e q x f h.0, stays_less lt k e (x ∷ xs) h)) (λ f. (h.0, stays_insert o k e q xs h.1))
+
+-- what does not come before e is put in after them
+refused_insert : {lt : ℕ → ℕ → Bool} → IsStrictWeakOrder lt → (k e p : ℕ) (xs : List ℕ) → Stays lt k e xs → lt p e ≡ false → take k (insert lt p xs) ≡ take k xs
+refused_insert w zero e p xs h f = refl
+refused_insert w (suc k) e p [] h f = absurd h
+refused_insert {lt = lt} w (suc k) e p (x ∷ xs) h f =
+    rw (w.chain p e x f h.0) (ap (λ ys. x ∷ ys) (refused_insert w k e p xs h.1 f))
+
+-- in a rising list it is the last of so many
+rises_stays : {lt : ℕ → ℕ → Bool} → IsStrictOrder lt → (xs : List ℕ) (i d : ℕ) → Rises lt xs → i < length xs → Stays lt (suc i) (get_or xs i d) xs
+rises_stays o [] i d up l = absurd (omega arith)
+rises_stays o (x ∷ xs) zero d up l = (o.irreflexive x, tt)
+rises_stays {lt = lt} o (x ∷ xs) (suc i) d up l = (not_both o x (get_or xs i d) (up.0 (get_or xs i d) (in_at xs i d (omega arith))), rises_stays o xs i d up.1 (omega arith))
+
+-- lists without repeats
+in_with : (xs ys : List ℕ) (p x : ℕ) → In x (xs ++ ys) → In x (xs ++ p ∷ ys)
+in_with [] ys p x h = inr h
+in_with (z ∷ xs) ys p x (inl e) = inl e
+in_with (z ∷ xs) ys p x (inr h) = inr (in_with xs ys p x h)
+
+apart_without : (xs ys : List ℕ) (p : ℕ) → Apart (xs ++ p ∷ ys) → Apart (xs ++ ys)
+apart_without [] ys p h = h.1
+apart_without (x ∷ xs) ys p h = (λ i. h.0 (in_with xs ys p x i), apart_without xs ys p h.1)
+
+-- with those that are still to come, those that are kept have the same first ones as all
+pub record AreKept (lt : ℕ → ℕ → Bool) (most : ℕ) (kept rest all : List ℕ) : Type 0 where
+  pub firsts : take most (insert_all lt [] (kept ++ rest)) ≡ take most (insert_all lt [] all)
+  pub apart : Apart (kept ++ rest)
+
+-- a place is among the first so many of those that are kept only if it comes before e
+abbrev pub EndsAt : (ℕ → ℕ → Bool) → ℕ → List ℕ → ℕ → Type 0
+EndsAt lt most kept e = Stays lt most e (insert_all lt [] kept)
+
+pub kept_none : (lt : ℕ → ℕ → Bool) (most : ℕ) (all : List ℕ) → Apart all → AreKept lt most [] all all
+kept_none lt most all apart = record { firsts = refl; apart = apart }
+
+pub kept_refused : {lt : ℕ → ℕ → Bool} → IsStrictWeakOrder lt → (most e p : ℕ) (kept rest all : List ℕ) → EndsAt lt most kept e → lt p e ≡ false
+    → AreKept lt most kept (p ∷ rest) all → AreKept lt most kept rest all
+kept_refused {lt = lt} w most e p kept rest all ends late h = record {
+  firsts = ap (take most) (insert_all_append lt [] kept rest)
+      ∙ same_firsts lt most (insert_all lt [] kept) (insert lt p (insert_all lt [] kept)) rest (sym (refused_insert w most e p (insert_all lt [] kept) ends late))
+      ∙ ap (take most) (sym (insert_all_append lt [] kept (p ∷ rest)))
+      ∙ h.firsts;
+  apart = apart_without kept rest p h.apart;
+}
+
+pub kept_taken : (lt : ℕ → ℕ → Bool) (most p : ℕ) (kept rest all : List ℕ) → AreKept lt most kept (p ∷ rest) all → AreKept lt most (kept ++ p ∷ []) rest all
+kept_taken lt most p kept rest all h = record { firsts = rw append_assoc h.firsts; apart = rw append_assoc h.apart }
+
+pub ends_on : {lt : ℕ → ℕ → Bool} → IsStrictOrder lt → (most p e : ℕ) (kept : List ℕ) → EndsAt lt most kept e → EndsAt lt most (kept ++ p ∷ []) e
+ends_on {lt = lt} o most p e kept h = rw (insert_all_append lt [] kept (p ∷ [])) (stays_insert o most e p (insert_all lt [] kept) h)
+
+-- once they are put in order, and the first so many kept
+pub kept_first : {lt : ℕ → ℕ → Bool} → IsStrictOrder lt → IsStrictWeakOrder lt → (most : ℕ) (kept first rest all : List ℕ)
+    → AreFirst lt most kept first → AreKept lt most kept rest all → AreKept lt most first rest all
+kept_first {lt = lt} o w most kept first rest all are h =
+    rw are.is (record {
+      firsts = firsts_on o w most kept are.sorted rest are.same are.rises h.apart ∙ h.firsts;
+      apart = apart_on most kept are.sorted rest are.same h.apart;
+    })
+
+pub ends_first : {lt : ℕ → ℕ → Bool} → IsStrictOrder lt → IsStrictWeakOrder lt → (most : ℕ) (kept first rest : List ℕ) → AreFirst lt most kept first
+    → Apart (kept ++ rest) → 0 < most → most ≤ length first → EndsAt lt most first (get_or first (most - 1) 0)
+ends_first {lt = lt} o w most kept first rest are apart some long =
+    let last = get_or first (most - 1) 0 in
+    let alone : Apart are.sorted = permuted_apart kept are.sorted are.same (apart_left kept rest apart) in
+    let up : Rises lt first = rw are.is (take_rises lt most are.sorted (sorted_rises lt o w are.sorted are.rises alone)) in
+    let each : Apart first = apart_left first rest (rw are.is (apart_on most kept are.sorted rest are.same apart)) in
+    let e : suc (most - 1) ≡ most = omega arith in
+    rw (rising_is_inserted o first first each up (λ x i. i) (λ x i. i)) (subst (λ k. Stays lt k last first) e (rises_stays o first (most - 1) 0 up (omega arith)))
+
+pub kept_end : {lt : ℕ → ℕ → Bool} → IsStrictOrder lt → IsStrictWeakOrder lt → (most : ℕ) (kept first all : List ℕ) → AreFirst lt most kept first
+    → AreKept lt most kept [] all → first ≡ take most (insert_all lt [] all)
+kept_end {lt = lt} o w most kept first all are h =
+    are.is ∙ firsts_end o w most kept are.sorted are.same are.rises h.apart ∙ h.firsts
 
 -- a place is left out that does not match, or that is not before the end of the first ones
 pub left_out : {lt : ℕ → ℕ → Bool} → IsStrictWeakOrder lt → (most : ℕ) (pass : ℕ → Bool) (end : Option ℕ) (kept old new all : List ℕ) (p : ℕ)
@@ -119,3 +211,25 @@ pub state_end : {ds : List Doc} {ss : List SortPath} {most : ℕ} {left all kept
 state_end {ds = ds} {ss = ss} {most = most} {all = all} {kept = kept} {first = first} f skip limit last source none are h =
     kept_end (keys_strict ds ss) (keys_weak ds ss) most kept first (filter (passes (hits_of ds f) (order_of_keys ds ss) last) all) are (rw none at h.kept)
     ∙ ap (take most) (all_in_order (selection_for ds f ss skip limit) (keys_total ds ss) all source last)
+
+pub wanted_in_order : (ds : List Doc) (r : Request) (left : List ℕ) (last : Option ℕ) → IsSource (length ds) (hits_of ds (filter_tree r.filter)) left
+    → IsAscending (before (order_of_keys ds (sort_paths r.sort.items))) left
+    → filter (passes (hits_of ds (filter_tree r.filter)) (order_of_keys ds (sort_paths r.sort.items)) last) left ≡ places_after (selection_of ds r) last
+wanted_in_order ds r left last source up = batch_in_order (selection_of ds r) (on_total (document_at ds) (sort_total (sort_paths r.sort.items))) left source up last
+
+-- where nothing is left, all was taken
+pub all_taken : (test : ℕ → Bool) (most : Option ℕ) (ps left all : List ℕ) → ps ++ filter test left ≡ all → left ≡ [] → IfSome most (λ n. length ps ≤ n) → ps ≡ at_most most all
+all_taken test None ps left all told none few = sym (append-nil ps) ∙ rw none at told
+all_taken test (Some n) ps left all told none few = sym (take_all n ps few) ∙ ap (take n) (sym (append-nil ps) ∙ rw none at told)
+
+-- where as many were taken as are wanted, they are the first
+pub first_taken : (most : Option ℕ) (ps xs all : List ℕ) (count : ℕ) → count ≡ length ps → ps ++ xs ≡ all → has_enough most count ≡ true → IfSome most (λ n. length ps ≤ n) → ps ≡ at_most most all
+first_taken None ps xs all count long told full few = absurd cc
+first_taken (Some n) ps xs all count long told full few =
+    let e : length ps ≡ n = omega (arith, few, ltb-false count n (not-true _ full)) in
+    rw (← e, ← told) (sym (take-append_seam ps xs))
+
+-- where fewer were taken than are wanted, there is room for one more
+pub few_more : (most : Option ℕ) (ps qs : List ℕ) (p count : ℕ) → count ≡ length ps → qs ≡ ps ++ p ∷ [] → has_enough most count ≡ false → IfSome most (λ n. length qs ≤ n)
+few_more None ps qs p count long e h = tt
+few_more (Some n) ps qs p count long e h = let l : length qs ≡ length ps + 1 = ap length e ∙ length-append ps (p ∷ []) in omega (arith, ltb-true count n (not-false _ h))

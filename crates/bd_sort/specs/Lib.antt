@@ -1,5 +1,4 @@
-pub mod First
 pub mod Mark
-pub mod Row
+pub mod Ranking
 pub mod Selection
 pub mod Sorting

@@ -12,25 +12,16 @@
 //! assert!(rt; places.as_slice() == [2, 0].as_slice());
 //! ```
 //!
-//! - `matching`: which documents match: `specs/Selection.antt`, what a request selects of a dump.
-//! - `sorting`: the places of any source, put in order: `specs/Sorting.antt`; `ordered_source`, those of a source that has the
-//!   order.
-//! - `sort_key`: the key of a document on a path.
-//! - `first`: the first of some places, in order: `specs/First.antt`; `mark`, a document that others are compared with:
-//!   `specs/Mark.antt`.
-//! - `ranking`, `row`: documents put in order by one path after the other, by the fronts of their keys first (`bd_front`):
-//!   `specs/Row.antt`.
+//! - `sorting`: which documents match, and the places of any source, put in order: `specs/Selection.antt`, what a request selects
+//!   of a dump, and `specs/Sorting.antt`.
+//! - `ranking`: documents put in order by one path after the other: `specs/Ranking.antt`.
+//! - `mark`: a document that others are compared with: `specs/Mark.antt`.
+//! - `sort_key`: the key of a document on a path, compared by its front first (`bd_front`).
 #![tactic(auto)]
 
-mod first;
 mod mark;
-mod matching;
-mod ordered_source;
 mod ranking;
-mod row;
 mod sort_key;
 mod sorting;
 
-pub use matching::is_match;
-pub use ordered_source::places_in_order;
-pub use sorting::sorted_places;
+pub use sorting::{is_match, places_in_order, sorted_places};

@@ -1,37 +1,65 @@
-//! The sort key of a document on one path.
+//! The key of a document on one path of a sort.
 
 ghost use Rattle.std.specs.Prelude.{◌≡◌, ◌≢◌, ◌<◌, ◌∷◌, [], false, IfSome, length};
-ghost use Rattle.bd_value.specs.Kind.{kind_of};
-ghost use Rattle.bd_value.specs.declared.kind.Kind.TheVariants as kinds;
-ghost use Rattle.bd_raw.specs.Sound.{stands};
-ghost use Rattle.bd_path.specs.KeyList.{all_keys};
+ghost use Rattle.bd_value.specs.View.{kind_of};
+ghost use Rattle.bd_value.specs.declared.node.Kind.TheVariants as kinds;
 ghost use Rattle.bd_value.specs.Order.{cmp};
 ghost use Rattle.bd_value.specs.Tree.{Tree};
-ghost use Rattle.bd_bson.specs.Collection.{documents};
-ghost use Rattle.bd_bson.specs.Documents.{document_at};
-ghost use Rattle.bd_front.specs.Front.{kept_key};
-ghost use Rattle.bd_path.specs.Earliest.{dir_cmp, sort_key};
+ghost use Rattle.bd_raw.specs.Sound.{stands};
+ghost use Rattle.bd_bson.specs.Collection.{documents, document_at};
+ghost use Rattle.bd_front.specs.Front.{front_of, kept_key};
+ghost use Rattle.bd_path.specs.Sort.{dir_cmp, sort_key};
+ghost use Rattle.bd_path.specs.Key.{all_keys};
 ghost use Rattle.bd_path.specs.PathNames.{names_of};
 
 use bd_bson::Dump;
-use bd_path::{Dir, Key, Path, sort_key_node};
+use bd_front::{Front, compare_fronts};
+use bd_path::{Dir, Key, Path, compare_in, sort_key_node};
 use bd_raw::RawValue;
 use bd_value::{Kind, Reading};
 use std::cmp::Ordering;
 
-/// The sort key of the document at a place.
-pub(crate) fn key_of<'d>(dump: &'d Dump, place: u32, path: &Path, dir: Dir) -> Key<RawValue<'d>>
-    requires { place < length (documents dump.now) }
-    ensures { kept_key result ≡ sort_key dir (document_at (documents dump.now) place) (names_of path.now) }
+/// The key of a document on one path of a sort, and its front: a text is read only where two fronts do not tell the order.
+#[derive(Clone, Copy)]
+pub(crate) struct SortKey<'d> {
+    pub key: Key<RawValue<'d>>,
+    front: Front,
+    ghost fronted: { front ≡ front_of (kept_key key) },
+}
+
+impl<'d> SortKey<'d> {
+    /// That of the document at a place.
+    pub(crate) fn of(dump: &'d Dump, place: u32, path: &Path, dir: Dir) -> SortKey<'d>
+        requires { place < length (documents dump.now) }
+        ensures { kept_key result.key ≡ sort_key dir (document_at (documents dump.now) place) (names_of path.now) }
+    {
+        let key = key_of(dump.document(place).value(), path, dir);
+        SortKey {
+            key,
+            front: Front::of(key),
+        }
+    }
+
+    pub(crate) fn compare(&self, other: &SortKey<'_>, dir: Dir) -> Ordering
+        ensures { result ≡ dir_cmp dir (kept_key self.now.key) (kept_key other.now.key) }
+    {
+        match compare_fronts(self.front, other.front) {
+            Some(order) => in_direction(dir, order),
+            None => compare_in(dir, self.key, other.key),
+        }
+    }
+}
+
+fn key_of<'d>(document: RawValue<'d>, path: &Path, dir: Dir) -> Key<RawValue<'d>>
+    ensures { kept_key result ≡ sort_key dir (stands document.entry.sound) (names_of path.now) }
 {
-    let document = dump.document(place).value();
     match plain_key(document, path) {
         Some(key) => key,
         None => sort_key_node(document, path, dir),
     }
 }
 
-/// The key of a document on a path that meets no array: the one value that it leads to, or null.
+/// The key on a path that meets no array: the one value that it leads to, or null.
 fn plain_key<'d>(document: RawValue<'d>, path: &Path) -> Option<Key<RawValue<'d>>>
     ensures { IfSome result (λ k. all_keys false (stands document.entry.sound) (names_of path.now) ≡ kept_key k ∷ []) }
 {
@@ -56,7 +84,7 @@ fn unless_array<'d>(value: RawValue<'d>, key: Key<RawValue<'d>>) -> Option<Key<R
 }
 
 /// The order of two values in a direction.
-pub(crate) fn in_direction(dir: Dir, order: Ordering) -> Ordering
+fn in_direction(dir: Dir, order: Ordering) -> Ordering
     ensures { (x y : Tree) → order ≡ cmp x y → result ≡ dir_cmp dir x y }
 {
     match dir {

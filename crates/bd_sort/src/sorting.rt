@@ -1,22 +1,23 @@
-//! The places of a sorted cursor.
+//! The places of the documents that match and come after the last one given, in the order of a sort.
 
-ghost use Rattle.std.specs.Prelude.{◌≡◌, ◌&&◌, ◌<◌, ◌≤◌, ℕ, All, IfOk, IfSome, List, length, take};
+ghost use Rattle.std.specs.Prelude.{◌≡◌, ◌&&◌, ◌<◌, ◌≤◌, ℕ, All, IfOk, IfSome, List, OnOk, length, take};
 ghost use Rattle.bd_answer.specs.Answer.{at_most, before};
+ghost use Rattle.bd_answer.specs.Laws.{IsAscending};
 ghost use Rattle.bd_answer.specs.Source.{is_after, passes, places_after};
 ghost use Rattle.bd_bson.specs.Collection.{documents};
-ghost use Rattle.bd_filter.specs.FilterView.{filter_tree};
-ghost use Rattle.bd_path.specs.Earliest.{SortPath};
-ghost use Rattle.bd_path.specs.Sort.{sort_paths};
+ghost use Rattle.bd_filter.specs.Filter.{filter_tree};
+ghost use Rattle.bd_path.specs.Sort.{SortPath, sort_paths};
 ghost use Rattle.bd_sort.specs.Mark.{IsMark, mark_place};
 ghost use Rattle.bd_sort.specs.Selection.{hits_of, order_of_keys, selection_of};
-ghost use Rattle.bd_sort.specs.Sorting.{is_before_mark};
+ghost use Rattle.bd_sort.specs.Sorting.{AreFirst, IsEnd, has_enough, is_before_mark};
 
-use crate::first::{first_in_order, keep_first};
 use crate::mark::Mark;
-use crate::matching::is_match;
+use crate::ranking::first_in_order;
 use bd_answer::PlaceSource;
 use bd_bson::Dump;
+use bd_filter::Filter;
 use bd_path::{Dir, Path};
+use bd_query::matches;
 use bd_request::Request;
 use bd_value::NoMemory;
 use std::alloc::Global;
@@ -46,8 +47,44 @@ pub fn sorted_places<P: PlaceSource + Drop>(
         return Ok(Vec::new(alloc));
     }
     let last = last_mark(alloc, dump, &request.sort, last)?;
-    let places = first_places(alloc, dump, request, source, &last, limit)?;
-    Ok(places)
+    first_places(alloc, dump, request, source, &last, limit)
+}
+
+/// The same from a source that hands them out in the order of the sort: it stops where the last one is found, and sorts nothing.
+/// It fails only if memory runs out.
+pub fn places_in_order<P: PlaceSource + Drop>(
+    alloc: Global,
+    dump: &Dump,
+    request: &Request,
+    mut source: P,
+    last: Option<u32>,
+    most: Option<u64>,
+) -> Result<Vec<u32>, NoMemory>
+    requires serves { P.serves source (length (documents dump.now)) (hits_of (documents dump.now) (filter_tree request.now.filter)) }
+    requires order { IsAscending (before (order_of_keys (documents dump.now) (sort_paths request.now.sort.items))) (P.left source) }
+    requires there { IfSome last (λ p. p < length (documents dump.now)) }
+    ensures { IfOk result (λ v. v.items ≡ at_most most (places_after (selection_of (documents dump.now) request.now) last)) }
+{
+    let mark = last_mark(alloc, dump, &request.sort, last)?;
+    let last = &mark;
+    let mut found = Vec::new(alloc);
+    while !is_full(most, found.len()) {
+        let Some(place) = source.next_place() else {
+            break;
+        };
+        if is_wanted(dump, request, last, place) {
+            found.push(place)?;
+        }
+    }
+    Ok(found)
+}
+
+/// Whether the document at a place matches.
+pub fn is_match(dump: &Dump, filter: &Filter, place: u32) -> bool
+    requires { place < length (documents dump.now) }
+    ensures { result ≡ hits_of (documents dump.now) (filter_tree filter.now) place }
+{
+    matches(filter, dump.document(place).value())
 }
 
 /// How many of so many places are given at most.
@@ -57,6 +94,16 @@ fn limit_of(most: Option<u64>, count: usize) -> usize
     match most {
         Some(most) => (most as usize).min(count),
         None => count,
+    }
+}
+
+/// Whether there are as many places as are wanted at most.
+fn is_full(most: Option<u64>, count: usize) -> bool
+    ensures { result ≡ has_enough most count }
+{
+    match most {
+        Some(most) => count as u64 >= most,
+        None => false,
     }
 }
 
@@ -104,11 +151,35 @@ fn first_places<P: PlaceSource + Drop>(
             places.push(place)?;
         }
     }
-    let first = first_in_order(alloc, dump, &request.sort, &places, most)?;
-    Ok(first)
+    first_in_order(alloc, dump, &request.sort, &places, most)
 }
 
-/// Whether the document at a place matches, comes after the last one given, and comes before the end of the first ones.
+/// Puts places in order and keeps the first so many. Where there are as many, it gives the mark of the last one: no document
+/// after it is among the first so many.
+fn keep_first<'d>(
+    alloc: Global,
+    dump: &'d Dump,
+    sort: &'d [(Path, Dir)],
+    places: &mut Vec<u32>,
+    most: usize,
+) -> Result<Option<Mark<'d>>, NoMemory>
+    requires below { All (λ p. p < length (documents dump.now)) places.old.items }
+    requires some { 0 < most }
+    ensures first { OnOk result
+        (AreFirst (before (order_of_keys (documents dump.now) (sort_paths sort.now))) most places.old.items places.new.items) }
+    ensures mark { IfOk result (λ m. IfSome m (IsMark (documents dump.now) (sort_paths sort.now))) }
+    ensures end { IfOk result (λ m. IsEnd most places.new.items (mark_place m)) }
+{
+    let first = first_in_order(alloc, dump, sort, places, most)?;
+    *places = first;
+    if places.len() < most {
+        return Ok(None);
+    }
+    let mark = Mark::new(alloc, dump, sort, places[most - 1])?;
+    Ok(Some(mark))
+}
+
+/// Whether the document at a place is wanted, and comes before the end of the first ones.
 fn may_be_first(
     dump: &Dump,
     request: &Request,
@@ -123,9 +194,17 @@ fn may_be_first(
         result ≡ (passes (hits_of (documents dump.now) (filter_tree request.now.filter)) by (mark_place last.now) place
         && is_before_mark (before by) (mark_place end.now) place) }
 {
-    is_match(dump, &request.filter, place)
-        && is_past(dump, last, place)
-        && is_ahead(dump, end, place)
+    is_wanted(dump, request, last, place) && is_ahead(dump, end, place)
+}
+
+/// Whether the document at a place matches and comes after the last one given.
+fn is_wanted(dump: &Dump, request: &Request, last: &Option<Mark<'_>>, place: u32) -> bool
+    requires last { IfSome last.now (IsMark (documents dump.now) (sort_paths request.now.sort.items)) }
+    requires below { place < length (documents dump.now) }
+    ensures { result ≡ passes (hits_of (documents dump.now) (filter_tree request.now.filter))
+        (order_of_keys (documents dump.now) (sort_paths request.now.sort.items)) (mark_place last.now) place }
+{
+    is_match(dump, &request.filter, place) && is_past(dump, last, place)
 }
 
 /// Whether the document at a place comes after that of a mark.

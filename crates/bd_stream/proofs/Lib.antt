@@ -1,2 +1,1 @@
-pub mod FrameLemmas
-pub mod NextDocumentLemmas
+pub mod StreamLemmas

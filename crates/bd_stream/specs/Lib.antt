@@ -1,3 +1,1 @@
-pub mod Lending
-pub mod NextDocument
 pub mod Stream

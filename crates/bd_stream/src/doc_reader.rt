@@ -5,9 +5,7 @@ ghost use Rattle.std.specs.Io.KnownBytes.{IsAtEnd};
 ghost use Rattle.std.specs.Io.BufRead.{Rests};
 ghost use Rattle.std.specs.Borrow.{sem};
 ghost use Rattle.bd_value.specs.Limits.{longest_document, longest_input};
-ghost use Rattle.bd_stream.specs.Lending.{Leaves};
-ghost use Rattle.bd_stream.specs.NextDocument.{FailsToRead, FindsEnd, HoldsNone, ReadsDocument, held_bytes};
-ghost use Rattle.bd_stream.specs.Stream.{IsFrame};
+ghost use Rattle.bd_stream.specs.Stream.{Leaves, FailsToRead, FindsEnd, HoldsNone, ReadsDocument, held_bytes, IsFrame};
 ghost use Rattle.bd_stream.specs.declared.doc_buffer.DocBuffer.{DocBuffer};
 
 use crate::doc_buffer::{DocBuffer, DocFault};

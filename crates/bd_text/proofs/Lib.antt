@@ -1,6 +1,4 @@
-pub mod DigitLemmas
-pub mod EscapeLemmas
-pub mod PieceLemmas
-pub mod PlainByteLemmas
+pub mod ScalarLemmas
+pub mod JsonStringLemmas
 pub mod RoomLemmas
 pub mod TextLemmas

@@ -1,14 +1,11 @@
 -- Canonical Extended JSON v2: the text of a value and of a document, without white space.
 -- The first half is the grammar of JSON (RFC 8259), the second the conversion table of Extended JSON v2.
 use Rattle.std.specs.Prelude.{ℕ, ℤ, ◌/◌, ◌%◌, List, [], ◌∷◌, ◌++◌, Bool, ◌==◌, ◌||◌, nat_lt, if◌then◌else◌, codes, decimal}
-use Rattle.std.specs.Char.{digit_char}
-use Rattle.std.specs.Fmt.{signed_decimal}
-use Rattle.std.specs.List.{flat_map, join_with_byte}
-use Rattle.base64.specs.Engines.{standard}
-use Rattle.base64.specs.GeneralPurpose.{encode_of}
-use Rattle.bd_value.specs.Tree.{Scalar, min_key, undefined, null, int32, int64, text as string, symbol, binary, object_id, boolean, date, timestamp, regex, db_pointer, code, max_key}
-use Rattle.bd_value.specs.Tree.{Tree, leaf, doc, array, code_scope, Items, no_items, item, Fields, no_fields, field}
+use Rattle.std.specs.{Char.digit_char, Fmt.signed_decimal, List.flat_map, List.join_with_byte}
+use Rattle.base64.specs.{Engines.standard, GeneralPurpose.encode_of}
 use Rattle.hex.specs.Hex.{encode_lower}
+use Rattle.bd_value.specs.Tree.{Scalar, min_key, undefined, null, int32, int64, text as string, symbol, binary, object_id, boolean, date, timestamp, regex, db_pointer}
+use Rattle.bd_value.specs.Tree.{code, max_key, Tree, leaf, doc, array, code_scope, Items, no_items, item, Fields, no_fields, field}
 
 -- RFC 8259, section 7: the quotation mark, the reverse solidus and the control characters may not stand for themselves.
 abbrev pub needs_escape : ℕ → Bool
@@ -17,8 +14,7 @@ needs_escape b = b == 34 || b == 92 || nat_lt b 32
 -- RFC 8259, section 7: the short escape where there is one, else \u00 and two lower-case digits, else the byte itself.
 -- Bytes from 128 on, and so all characters beyond ASCII, stand for themselves.
 unfoldable pub escape_byte : ℕ → List ℕ
-escape_byte b =
-    if b == 34 || b == 92 then 92 ∷ b ∷ []
+escape_byte b = if b == 34 || b == 92 then 92 ∷ b ∷ []
     else (if b == 8 then codes "\\b"
     else (if b == 12 then codes "\\f"
     else (if b == 10 then codes "\\n"
@@ -102,3 +98,14 @@ abbrev mutual
   pub fields_text : Fields → List (List ℕ)
   fields_text no_fields = []
   fields_text (field n t fs) = member n (text t) ∷ fields_text fs
+
+-- A value whose text is short: it holds no other value, no text, and no bytes but an id.
+abbrev pub HasShortText : Tree → Type 0
+HasShortText (leaf (string s)) = ⊥
+HasShortText (leaf (symbol s)) = ⊥
+HasShortText (leaf (code s)) = ⊥
+HasShortText (leaf (binary k s)) = ⊥
+HasShortText (leaf (regex p o)) = ⊥
+HasShortText (leaf (db_pointer s i)) = ⊥
+HasShortText (leaf _) = Unit {0}
+HasShortText _ = ⊥

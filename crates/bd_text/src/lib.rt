@@ -10,24 +10,18 @@
 //! assert!(rt; text.as_slice() == b"{\"$numberInt\":\"5\"}".as_slice());
 //! ```
 //!
-//! - `text`: `write_node`, `write_value` and `write_doc`: a value wherever it lies, a value, a document.
-//! - `scalar`: a row of the conversion table each; `contents`: what a scalar of a known kind holds.
-//! - `json_string`, `number`, `encoded`: strings, numbers, base64 and hexadecimal digits.
-//! - `line`: `LineRoom`, the buffer of a line for one node after the other.
-//! - `room`: text that is written into a buffer whose space was made once; `plain_text`: texts without an escape, copied whole.
+//! - `text`: `write_node`, `write_value` and `write_doc`: a value wherever it lies, a value, a document; `LineRoom`, the buffer of
+//!   a line for one node after the other.
+//! - `scalar`: a row of the conversion table each, and numbers, base64 and hexadecimal digits.
+//! - `json_string`: strings, and the names of a path.
+//! - `room`: text that is written into a buffer whose space was made once.
 #![tactic(auto)]
 
-mod contents;
-mod encoded;
 mod json_string;
-mod line;
-mod number;
-mod plain_text;
 mod room;
 mod scalar;
 mod text;
 
 pub use json_string::{write_path, write_string};
-pub use line::LineRoom;
-pub use number::{write_number, write_number32};
-pub use text::{write_doc, write_node, write_value};
+pub use scalar::{write_number, write_number32};
+pub use text::{LineRoom, write_doc, write_node, write_value};

@@ -10,6 +10,9 @@ const SPARE: usize = 512;
 /// More room than the text of a value takes that holds neither text nor bytes.
 pub(crate) const VALUE: usize = 80;
 
+/// Where the text ends once more of it is written.
+pub(crate) type End = Result<usize, NoMemory>;
+
 /// Makes room for so many bytes after the text.
 #[inline(always)]
 pub(crate) fn make_room(out: &mut Vec<u8>, end: usize, size: usize) -> Result<(), NoMemory>
@@ -35,12 +38,7 @@ fn add_room(out: &mut Vec<u8>, end: usize, size: usize) -> Result<(), NoMemory>
     ensures within { end ≤ length out.new.items }
     ensures err { OnErr result (out.new.items ≡ out.old.items) }
 {
-    let Some(wanted) = size.checked_add(SPARE) else {
-        return Err(AllocError);
-    };
-    let Some(wanted) = wanted.checked_add(end) else {
-        return Err(AllocError);
-    };
+    let wanted = size.checked_add(end + SPARE).ok_or(AllocError)?;
     out.resize(wanted, 0)
 }
 
@@ -89,11 +87,7 @@ pub(crate) fn put_byte_in(byte: u8, out: &mut Vec<u8>, end: usize) -> usize
 }
 
 /// Lets go of what is no text: of all after its end, or where there is none, after what stood before.
-pub(crate) fn settle(
-    end: Result<usize, NoMemory>,
-    before: usize,
-    out: &mut Vec<u8>,
-) -> Result<(), NoMemory>
+pub(crate) fn settle(end: End, before: usize, out: &mut Vec<u8>) -> Result<(), NoMemory>
     ensures ok { OnOk result (IfOk end (λ e. out.new.items ≡ take e out.old.items)) }
     ensures err { OnErr result (out.new.items ≡ take before out.old.items) }
     ensures same { is_ok result ≡ is_ok end }

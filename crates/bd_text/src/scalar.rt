@@ -1,20 +1,94 @@
-//! The scalars, each by its row of the conversion table of Extended JSON v2.
-ghost use Rattle.std.specs.Prelude.{◌≡◌, ◌≢◌, ◌<◌, ◌≤◌, ◌+◌, ◌++◌, IfOk, OnErr, codes, length, take};
-ghost use Rattle.bd_value.specs.Tree.{Scalar, leaf, int32, int64, symbol, binary, object_id, boolean, date, timestamp, regex, db_pointer, code};
-ghost use Rattle.bd_value.specs.Kind.{kind_of};
-ghost use Rattle.bd_value.specs.declared.kind.Kind.TheVariants as kinds;
-ghost use Rattle.bd_text.specs.Short.{HasShortText};
-ghost use Rattle.bd_text.specs.Text.{quoted, scalar_text, text};
+//! The scalars, each by its row of the conversion table of Extended JSON v2: the numbers, base64 and the digits in them too.
+ghost use Rattle.std.specs.Prelude.{◌≡◌, ◌≢◌, ◌<◌, ◌≤◌, ◌+◌, ◌++◌, ◌∷◌, [], IfOk, OnOk, OnErr, decimal, length, map, slice_index, take};
+ghost use Rattle.std.specs.Fmt.{signed_decimal};
+ghost use Rattle.std.specs.Simd.Lanes.{Each1};
+ghost use Rattle.base64.specs.Engines.{standard};
+ghost use Rattle.base64.specs.GeneralPurpose.{encoded_size_of};
+ghost use Rattle.hex.specs.Hex.{lower_digits};
+ghost use Rattle.bd_value.specs.View.{kind_of};
+ghost use Rattle.bd_value.specs.Tree as trees;
+ghost use Rattle.bd_value.specs.Tree.{leaf, int32, int64, binary, object_id, boolean, date, timestamp, regex, db_pointer};
+ghost use Rattle.bd_value.specs.declared.node.Kind.TheVariants as kinds;
+ghost use Rattle.bd_text.specs.Text.{HasShortText, quoted, base64_text, hex_text, scalar_text, text};
 
-use crate::contents;
-use crate::encoded::{append_base64, put_hex, put_id};
 use crate::json_string::append_string;
-use crate::number::{put_digits, put_signed};
-use crate::room::{VALUE, make_room, put, put_known};
-use bd_value::{Kind, NoMemory, Reading};
+use crate::room::{End, VALUE, make_room, put, put_byte, put_known};
+use base64::encoded_len;
+use base64::engine::general_purpose::STANDARD;
+use bd_value::{Kind, NoMemory, Reading, Scalar};
+use std::alloc::AllocError;
+use std::simd::prelude::*;
+
+/// What is made of what a node holds, whose kind is known: so nothing is left of the look at it.
+macro_rules! held {
+    ($node:ident, $holds:pat => $made:expr) => {
+        match $node.leaf() {
+            Some($holds) => $made,
+            _ => unreachable!(),
+        }
+    };
+}
+
+/// Appends the text of a value that holds no other and is no string. There is room for one that is short.
+#[inline(never)]
+#[tactic(auto, unfolding(crate::specs::Text::scalar_text, crate::specs::Text::quoted, crate::specs::Text::escape_byte))]
+pub(crate) fn append_scalar<N: Reading>(node: N, out: &mut Vec<u8>, end: usize) -> End
+    requires scalar { (s : trees.Scalar) × (N.tree node ≡ leaf s) }
+    requires other { kind_of (N.tree node) ≢ kinds.Text }
+    requires room { end + VALUE ≤ length out.old.items }
+    ensures ok { IfOk result (λ e. take e out.new.items ≡ take end out.old.items ++ text (N.tree node)) }
+    ensures within { IfOk result (λ e. e ≤ length out.new.items) }
+    ensures err { OnErr result (take end out.new.items ≡ take end out.old.items) }
+{
+    match node.kind() {
+        Kind::Symbol => {
+            held!(node, Scalar::Symbol(text) => append_one(b"{\"$symbol\":", text, out, end))
+        }
+        Kind::Code => {
+            held!(node, Scalar::Code(text) => append_one(b"{\"$code\":", text, out, end))
+        }
+        Kind::Binary => {
+            held!(node, Scalar::Binary { subtype, payload } => append_binary(subtype, payload, out, end))
+        }
+        Kind::Regex => {
+            held!(node, Scalar::Regex { pattern, options } => append_regex(pattern, options, out, end))
+        }
+        Kind::DbPointer => {
+            held!(node, Scalar::DbPointer { space, id } => append_pointer(space, &id, out, end))
+        }
+        _ => Ok(put_short(node, out.as_mut_slice(), end)),
+    }
+}
+
+/// Writes the text of a value after the text, where it holds no text and no bytes but an id.
+#[inline(always)]
+#[tactic(auto, unfolding(crate::specs::Text::scalar_text, crate::specs::Text::quoted, crate::specs::Text::escape_byte))]
+fn put_short<N: Reading>(node: N, room: &mut [u8], end: usize) -> usize
+    requires short { HasShortText (N.tree node) }
+    requires room { end + VALUE ≤ length room.old }
+    ensures put { take result room.new ≡ take end room.old ++ text (N.tree node) }
+    ensures within { result ≤ end + VALUE }
+{
+    match node.kind() {
+        Kind::MinKey => put_known(*b"{\"$minKey\":1}", room, end),
+        Kind::Undefined => put_known(*b"{\"$undefined\":true}", room, end),
+        Kind::Null => put_known(*b"null", room, end),
+        Kind::Int32 => held!(node, Scalar::Int32(n) => put_int32(n, room, end)),
+        Kind::Int64 => held!(node, Scalar::Int64(n) => put_int64(n, room, end)),
+        Kind::ObjectId => held!(node, Scalar::ObjectId(id) => put_object_id(&id, room, end)),
+        Kind::Bool => held!(node, Scalar::Bool(truth) => put_bool(truth, room, end)),
+        Kind::Date => held!(node, Scalar::Date(time) => put_date(time, room, end)),
+        Kind::Timestamp => {
+            held!(node, Scalar::Timestamp { seconds, increment } => put_timestamp(seconds, increment, room, end))
+        }
+        Kind::MaxKey => put_known(*b"{\"$maxKey\":1}", room, end),
+        _ => unreachable!(),
+    }
+}
 
 /// Int32.
 #[inline(always)]
+#[tactic(auto, using(crate::proofs::TextLemmas::int32_steps))]
 fn put_int32(n: i32, room: &mut [u8], end: usize) -> usize
     requires { end + VALUE ≤ length room.old }
     ensures put { take result room.new ≡ take end room.old ++ scalar_text (int32 n) }
@@ -92,101 +166,8 @@ fn put_timestamp(seconds: u32, increment: u32, room: &mut [u8], end: usize) -> u
     put_known(*b"}}", room, at)
 }
 
-/// Writes the text of a value after the text, where it holds no text and no bytes but an id.
-#[inline(always)]
-#[tactic(auto, unfolding(crate::specs::Text::scalar_text, crate::specs::Text::quoted, crate::specs::Text::escape_byte))]
-fn put_short<N: Reading>(node: N, room: &mut [u8], end: usize) -> usize
-    requires short { HasShortText (N.tree node) }
-    requires room { end + VALUE ≤ length room.old }
-    ensures put { take result room.new ≡ take end room.old ++ text (N.tree node) }
-    ensures within { result ≤ end + VALUE }
-{
-    match node.kind() {
-        Kind::MinKey => put_known(*b"{\"$minKey\":1}", room, end),
-        Kind::Undefined => put_known(*b"{\"$undefined\":true}", room, end),
-        Kind::Null => put_known(*b"null", room, end),
-        Kind::Int32 => put_int32(contents::int32_of(node), room, end),
-        Kind::Int64 => put_int64(contents::int64_of(node), room, end),
-        Kind::ObjectId => put_object_id(&contents::id_of(node), room, end),
-        Kind::Bool => put_bool(contents::bool_of(node), room, end),
-        Kind::Date => put_date(contents::date_of(node), room, end),
-        Kind::Timestamp => {
-            let (seconds, increment) = contents::timestamp_of(node);
-            put_timestamp(seconds, increment, room, end)
-        }
-        Kind::MaxKey => put_known(*b"{\"$maxKey\":1}", room, end),
-        _ => unreachable!(),
-    }
-}
-
-/// Appends what leads to a string, and the string with its quotation marks.
-pub(crate) fn append_led(
-    lead: &[u8],
-    text: &str,
-    out: &mut Vec<u8>,
-    end: usize,
-) -> Result<usize, NoMemory>
-    requires { (end ≤ length out.old.items) × (length lead.now ≤ 1000) }
-    ensures ok { IfOk result (λ e. take e out.new.items ≡ take end out.old.items ++ (lead.now ++ quoted text.now)) }
-    ensures within { IfOk result (λ e. e ≤ length out.new.items) }
-    ensures err { OnErr result (take end out.new.items ≡ take end out.old.items) }
-{
-    make_room(out, end, lead.len() + 1)?;
-    let at = put(lead, out.as_mut_slice(), end);
-    append_string(text, out, at)
-}
-
-/// Appends bytes that are few.
-pub(crate) fn append_few(bytes: &[u8], out: &mut Vec<u8>, end: usize) -> Result<usize, NoMemory>
-    requires { end ≤ length out.old.items }
-    ensures ok { IfOk result (λ e. take e out.new.items ≡ take end out.old.items ++ bytes.now) }
-    ensures room { IfOk result (λ e. e + VALUE ≤ length out.new.items) }
-    ensures err { OnErr result (take end out.new.items ≡ take end out.old.items) }
-{
-    make_room(out, end, bytes.len() + VALUE)?;
-    Ok(put(bytes, out.as_mut_slice(), end))
-}
-
-/// Symbol.
-fn append_symbol(text: &str, out: &mut Vec<u8>, end: usize) -> Result<usize, NoMemory>
-    requires { end ≤ length out.old.items }
-    ensures ok { IfOk result (λ e. take e out.new.items ≡ take end out.old.items ++ scalar_text (symbol text.now)) }
-    ensures within { IfOk result (λ e. e ≤ length out.new.items) }
-    ensures err { OnErr result (take end out.new.items ≡ take end out.old.items) }
-{
-    let at = append_led(b"{\"$symbol\":", text, out, end)?;
-    append_few(b"}", out, at)
-}
-
-/// Code.
-fn append_code(text: &str, out: &mut Vec<u8>, end: usize) -> Result<usize, NoMemory>
-    requires { end ≤ length out.old.items }
-    ensures ok { IfOk result (λ e. take e out.new.items ≡ take end out.old.items ++ scalar_text (code text.now)) }
-    ensures within { IfOk result (λ e. e ≤ length out.new.items) }
-    ensures err { OnErr result (take end out.new.items ≡ take end out.old.items) }
-{
-    let at = append_led(b"{\"$code\":", text, out, end)?;
-    append_few(b"}", out, at)
-}
-
-/// Code with scope, up to the scope. There is room for a short one.
-pub(crate) fn append_scoped(code: &str, out: &mut Vec<u8>, end: usize) -> Result<usize, NoMemory>
-    requires { end ≤ length out.old.items }
-    ensures ok { IfOk result (λ e. take e out.new.items ≡ take end out.old.items ++ (codes "{\"$code\":" ++ (quoted code.now ++ codes ",\"$scope\":"))) }
-    ensures room { IfOk result (λ e. e + VALUE ≤ length out.new.items) }
-    ensures err { OnErr result (take end out.new.items ≡ take end out.old.items) }
-{
-    let at = append_led(b"{\"$code\":", code, out, end)?;
-    append_few(b",\"$scope\":", out, at)
-}
-
 /// Binary: base64 with padding, the subtype in two digits.
-fn append_binary(
-    subtype: u8,
-    bytes: &[u8],
-    out: &mut Vec<u8>,
-    end: usize,
-) -> Result<usize, NoMemory>
+fn append_binary(subtype: u8, bytes: &[u8], out: &mut Vec<u8>, end: usize) -> End
     requires { end ≤ length out.old.items }
     ensures ok { IfOk result (λ e. take e out.new.items ≡ take end out.old.items ++ scalar_text (binary subtype bytes.now)) }
     ensures within { IfOk result (λ e. e ≤ length out.new.items) }
@@ -201,12 +182,7 @@ fn append_binary(
 }
 
 /// Regular Expression: the options as they are stored.
-fn append_regex(
-    pattern: &str,
-    options: &str,
-    out: &mut Vec<u8>,
-    end: usize,
-) -> Result<usize, NoMemory>
+fn append_regex(pattern: &str, options: &str, out: &mut Vec<u8>, end: usize) -> End
     requires { end ≤ length out.old.items }
     ensures ok { IfOk result (λ e. take e out.new.items ≡ take end out.old.items ++ scalar_text (regex pattern.now options.now)) }
     ensures within { IfOk result (λ e. e ≤ length out.new.items) }
@@ -218,12 +194,7 @@ fn append_regex(
 }
 
 /// DBPointer.
-fn append_pointer(
-    space: &str,
-    id: &[u8; 12],
-    out: &mut Vec<u8>,
-    end: usize,
-) -> Result<usize, NoMemory>
+fn append_pointer(space: &str, id: &[u8; 12], out: &mut Vec<u8>, end: usize) -> End
     requires { end ≤ length out.old.items }
     ensures ok { IfOk result (λ e. take e out.new.items ≡ take end out.old.items ++ scalar_text (db_pointer space.now id.now)) }
     ensures within { IfOk result (λ e. e ≤ length out.new.items) }
@@ -236,35 +207,165 @@ fn append_pointer(
     Ok(put_known(*b"\"}}}", room, at))
 }
 
-/// Appends the text of a value that holds no other and is no string. There is room for one that is short.
-#[inline(never)]
-pub(crate) fn append_scalar<N: Reading>(
-    node: N,
-    out: &mut Vec<u8>,
-    end: usize,
-) -> Result<usize, NoMemory>
-    requires scalar { (s : Scalar) × (N.tree node ≡ leaf s) }
-    requires other { kind_of (N.tree node) ≢ kinds.Text }
-    requires room { end + VALUE ≤ length out.old.items }
-    ensures ok { IfOk result (λ e. take e out.new.items ≡ take end out.old.items ++ text (N.tree node)) }
+/// Appends an object of one string: what leads to the string, the string, and the brace after it.
+fn append_one(lead: &[u8], text: &str, out: &mut Vec<u8>, end: usize) -> End
+    requires { (end ≤ length out.old.items) × (length lead.now ≤ 1000) }
+    ensures ok { IfOk result (λ e. take e out.new.items ≡ take end out.old.items ++ (lead.now ++ (quoted text.now ++ 125 ∷ []))) }
     ensures within { IfOk result (λ e. e ≤ length out.new.items) }
     ensures err { OnErr result (take end out.new.items ≡ take end out.old.items) }
 {
-    match node.kind() {
-        Kind::Symbol => append_symbol(contents::symbol_of(&node), out, end),
-        Kind::Code => append_code(contents::code_of(&node), out, end),
-        Kind::Binary => {
-            let (subtype, payload) = contents::binary_of(&node);
-            append_binary(subtype, payload, out, end)
-        }
-        Kind::Regex => {
-            let (pattern, options) = contents::regex_of(&node);
-            append_regex(pattern, options, out, end)
-        }
-        Kind::DbPointer => {
-            let (space, id) = contents::pointer_of(&node);
-            append_pointer(space, &id, out, end)
-        }
-        _ => Ok(put_short(node, out.as_mut_slice(), end)),
+    let at = append_led(lead, text, out, end)?;
+    append_few(b"}", out, at)
+}
+
+/// Appends what leads to a string, and the string with its quotation marks.
+pub(crate) fn append_led(lead: &[u8], text: &str, out: &mut Vec<u8>, end: usize) -> End
+    requires { (end ≤ length out.old.items) × (length lead.now ≤ 1000) }
+    ensures ok { IfOk result (λ e. take e out.new.items ≡ take end out.old.items ++ (lead.now ++ quoted text.now)) }
+    ensures within { IfOk result (λ e. e ≤ length out.new.items) }
+    ensures err { OnErr result (take end out.new.items ≡ take end out.old.items) }
+{
+    make_room(out, end, lead.len() + 1)?;
+    let at = put(lead, out.as_mut_slice(), end);
+    append_string(text, out, at)
+}
+
+/// Appends bytes that are few.
+pub(crate) fn append_few(bytes: &[u8], out: &mut Vec<u8>, end: usize) -> End
+    requires { end ≤ length out.old.items }
+    ensures ok { IfOk result (λ e. take e out.new.items ≡ take end out.old.items ++ bytes.now) }
+    ensures room { IfOk result (λ e. e + VALUE ≤ length out.new.items) }
+    ensures err { OnErr result (take end out.new.items ≡ take end out.old.items) }
+{
+    make_room(out, end, bytes.len() + VALUE)?;
+    Ok(put(bytes, out.as_mut_slice(), end))
+}
+
+/// Writes the base64 text of bytes, of that size, after the text.
+fn put_base64(bytes: &[u8], size: usize, room: &mut [u8], end: usize) -> usize
+    requires size { size ≡ encoded_size_of standard (length bytes.now) }
+    requires room { end + size ≤ length room.old }
+    ensures put { take result room.new ≡ take end room.old ++ base64_text bytes.now }
+    ensures end { result ≡ end + size }
+{
+    let after = end + size;
+    let Ok(_) = STANDARD.encode_slice(bytes, &mut room[end..after]) else {
+        unreachable!();
+    };
+    after
+}
+
+/// Appends the base64 text of bytes. It is written into place, so that no text in between takes memory. A length that no
+/// vector can have is told as `NoMemory`.
+pub(crate) fn append_base64(bytes: &[u8], out: &mut Vec<u8>, end: usize) -> End
+    requires { end ≤ length out.old.items }
+    ensures ok { IfOk result (λ e. take e out.new.items ≡ take end out.old.items ++ base64_text bytes.now) }
+    ensures within { IfOk result (λ e. e ≤ length out.new.items) }
+    ensures err { OnErr result (take end out.new.items ≡ take end out.old.items) }
+{
+    let size = encoded_len(bytes.len(), true).ok_or(AllocError)?;
+    make_room(out, end, size)?;
+    Ok(put_base64(bytes, size, out.as_mut_slice(), end))
+}
+
+/// The digits that stand for these numbers.
+#[inline(always)]
+fn digits_of(numbers: u8x16) -> u8x16
+    requires { Each1 (λ n. n < 16) numbers }
+    ensures { result ≡ map (slice_index lower_digits) numbers }
+{
+    u8x16::from_array(*b"0123456789abcdef").swizzle_dyn(numbers)
+}
+
+/// The two digits of each byte, those of the first half and those of the second.
+#[inline(always)]
+fn digit_pairs(bytes: u8x16) -> (u8x16, u8x16)
+    ensures digits { result.0 ++ result.1 ≡ hex_text bytes }
+    ensures sizes { (length result.0 ≡ 16) × (length result.1 ≡ 16) }
+{
+    let high = digits_of(bytes >> u8x16::splat(4));
+    let low = digits_of(bytes & u8x16::splat(15));
+    high.interleave(low)
+}
+
+/// Writes the 24 digits of an id after the text. Those of 16 bytes are made and written at once, and the last of them are room.
+#[inline(always)]
+pub(crate) fn put_id(id: &[u8; 12], room: &mut [u8], end: usize) -> usize
+    requires { end + 32 ≤ length room.old }
+    ensures put { take result room.new ≡ take end room.old ++ hex_text id.now }
+    ensures end { result ≡ end + 24 }
+{
+    let mut bytes = [0; 16];
+    bytes[..12].copy_from_slice(id);
+    let (front, back) = digit_pairs(u8x16::from_array(bytes));
+    let after = put(front.as_array(), room, end);
+    put(back.as_array(), room, after);
+    end + 24
+}
+
+/// Writes the two digits of a byte after the text.
+#[tactic(auto, unfolding(crate::specs::Text::hex_text))]
+pub(crate) fn put_hex(byte: u8, room: &mut [u8], end: usize) -> usize
+    requires { end + 2 ≤ length room.old }
+    ensures put { take result room.new ≡ take end room.old ++ hex_text (byte ∷ []) }
+    ensures end { result ≡ end + 2 }
+{
+    let Ok(()) = hex::encode_to_slice([byte].as_slice(), &mut room[end..end + 2]) else {
+        unreachable!();
+    };
+    end + 2
+}
+
+// ---- numbers
+
+/// Appends a number of at most 64 bits in decimal.
+///
+/// `NoMemory` leaves `out` as it was.
+pub fn write_number(n: u64, out: &mut Vec<u8>) -> Result<(), NoMemory>
+    ensures ok { OnOk result (out.new.items ≡ out.old.items ++ decimal n) }
+    ensures err { OnErr result (out.new.items ≡ out.old.items) }
+{
+    let mut buffer = itoa::Buffer::new();
+    out.extend_from_slice(buffer.format(n).as_bytes())
+}
+
+/// Appends a number of at most 32 bits in decimal.
+///
+/// `NoMemory` leaves `out` as it was.
+pub fn write_number32(n: u32, out: &mut Vec<u8>) -> Result<(), NoMemory>
+    ensures ok { OnOk result (out.new.items ≡ out.old.items ++ decimal n) }
+    ensures err { OnErr result (out.new.items ≡ out.old.items) }
+{
+    write_number(u64::from(n), out)
+}
+
+/// The most digits of a number of 64 bits.
+const DIGITS: usize = 20;
+
+/// Writes a number of at most 64 bits in decimal after the text, and gives the end of both. Twenty bytes are copied, however many the
+/// digits are, so that the copy is of a known length.
+#[inline(always)]
+pub(crate) fn put_digits(n: u64, room: &mut [u8], end: usize) -> usize
+    requires { end + 20 ≤ length room.old }
+    ensures put { take result room.new ≡ take end room.old ++ decimal n }
+    ensures end { result ≤ end + 20 }
+{
+    let mut digits = [0; 2 * DIGITS];
+    let start = itoa::write_digits(n, &mut digits, DIGITS);
+    room[end..end + DIGITS].copy_from_slice(&digits[start..start + DIGITS]);
+    end + (DIGITS - start)
+}
+
+/// The same of a number with a sign.
+#[inline(always)]
+pub(crate) fn put_signed(n: i64, room: &mut [u8], end: usize) -> usize
+    requires { end + 21 ≤ length room.old }
+    ensures put { take result room.new ≡ take end room.old ++ signed_decimal n }
+    ensures end { result ≤ end + 21 }
+{
+    if n >= 0 {
+        return put_digits(n.unsigned_abs(), room, end);
     }
+    let end = put_byte(b'-', room, end);
+    put_digits(n.unsigned_abs(), room, end)
 }

@@ -1,17 +1,15 @@
-//! Values and documents as canonical Extended JSON.
-ghost use Rattle.std.specs.Prelude.{◌≡◌, ◌<◌, ◌≤◌, ◌+◌, ◌++◌, IfOk, OnOk, OnErr, length, take};
-ghost use Rattle.bd_value.specs.Tree.{doc, array, fields_of, items_of};
-ghost use Rattle.bd_value.specs.Kind.{kind_of};
-ghost use Rattle.bd_value.specs.declared.kind.Kind.TheVariants as kinds;
-ghost use Rattle.bd_value.specs.Parts.{values_of};
-ghost use Rattle.bd_value.specs.View.{tree_of, pairs};
+//! Values, documents and lines as canonical Extended JSON.
+ghost use Rattle.std.specs.Prelude.{◌≡◌, ◌<◌, ◌≤◌, ◌+◌, ◌++◌, ◌∷◌, [], IfOk, OnOk, OnErr, length, take};
+ghost use Rattle.bd_value.specs.View.{kind_of, tree_of, pairs};
+ghost use Rattle.bd_value.specs.Tree.{values_of, doc, array, fields_of, items_of};
+ghost use Rattle.bd_value.specs.declared.node.Kind.TheVariants as kinds;
 ghost use Rattle.bd_text.specs.Text.{text};
 
-use crate::contents;
 use crate::json_string::{append_name, append_separator, append_string};
-use crate::room::{VALUE, make_room, put_byte_in, settle};
-use crate::scalar::{append_few, append_scalar, append_scoped};
-use bd_value::{Document, Kind, NoMemory, Reading, Tree, Value};
+use crate::room::{End, VALUE, make_room, put_byte_in, settle};
+use crate::scalar::{append_few, append_led, append_scalar};
+use bd_value::{Document, Kind, NoMemory, Reading, Scalar, Tree, Value};
+use std::alloc::Global;
 
 /// Appends the text of what a node stands for: Extended JSON v2, canonical form, without white space.
 ///
@@ -46,14 +44,38 @@ pub fn write_doc(document: &Document, out: &mut Vec<u8>) -> Result<(), NoMemory>
     write_node(Tree::Doc(document), out)
 }
 
+/// Room for one line after the other, each over the one before. It is made once, and grows where a line is longer.
+#[derive(Debug, Drop)]
+pub struct LineRoom {
+    room: Vec<u8>,
+}
+
+impl LineRoom {
+    /// No room yet.
+    pub fn new(alloc: Global) -> LineRoom {
+        LineRoom {
+            room: Vec::new(alloc),
+        }
+    }
+
+    /// The line of what a node stands for: its text, Extended JSON v2, canonical form, without white space, and a newline.
+    ///
+    /// `NoMemory` where there is too little room and none can be had.
+    #[inline(always)]
+    pub fn line<N: Reading>(&mut self, node: N) -> Result<&[u8], NoMemory>
+        ensures { IfOk result (λ line. line.now ≡ text (N.tree node) ++ 10 ∷ []) }
+    {
+        make_room(&mut self.room, 0, VALUE)?;
+        let end = append_node(node, &mut self.room, 0)?;
+        let end = append_few(b"\n", &mut self.room, end)?;
+        Ok(&self.room[..end])
+    }
+}
+
 /// Appends the text of what a node stands for. There is room for a short one.
 #[cycle(text)]
 #[inline(always)]
-pub(crate) fn append_node<N: Reading>(
-    node: N,
-    out: &mut Vec<u8>,
-    end: usize,
-) -> Result<usize, NoMemory>
+fn append_node<N: Reading>(node: N, out: &mut Vec<u8>, end: usize) -> End
     requires { end + VALUE ≤ length out.old.items }
     ensures ok { IfOk result (λ e. take e out.new.items ≡ take end out.old.items ++ text (N.tree node)) }
     ensures within { IfOk result (λ e. e ≤ length out.new.items) }
@@ -63,22 +85,33 @@ pub(crate) fn append_node<N: Reading>(
         Kind::Doc => append_fields::<N>(node.parts(), out, end),
         Kind::Array => append_items::<N>(node.parts(), out, end),
         Kind::CodeScope => append_scope(node, out, end),
-        Kind::Text => append_string(contents::text_of(&node), out, end),
+        Kind::Text => {
+            let Some(Scalar::Text(text)) = node.leaf() else {
+                unreachable!()
+            };
+            append_string(text, out, end)
+        }
         _ => append_scalar(node, out, end),
     }
 }
 
 /// Appends the text of code with scope.
 #[cycle(text)]
-fn append_scope<N: Reading>(node: N, out: &mut Vec<u8>, end: usize) -> Result<usize, NoMemory>
+fn append_scope<N: Reading>(node: N, out: &mut Vec<u8>, end: usize) -> End
     requires kind { kind_of (N.tree node) ≡ kinds.CodeScope }
     requires room { end ≤ length out.old.items }
     ensures ok { IfOk result (λ e. take e out.new.items ≡ take end out.old.items ++ text (N.tree node)) }
     ensures within { IfOk result (λ e. e ≤ length out.new.items) }
     ensures err { OnErr result (take end out.new.items ≡ take end out.old.items) }
 {
-    let (code, scope) = contents::code_scope_of(&node);
-    let at = append_scoped(code, out, end)?;
+    let Some(Scalar::CodeScope(code)) = node.leaf() else {
+        unreachable!()
+    };
+    let Some(scope) = node.scope() else {
+        unreachable!()
+    };
+    let at = append_led(b"{\"$code\":", code, out, end)?;
+    let at = append_few(b",\"$scope\":", out, at)?;
     let at = append_node(scope, out, at)?;
     append_few(b"}", out, at)
 }
@@ -86,11 +119,7 @@ fn append_scope<N: Reading>(node: N, out: &mut Vec<u8>, end: usize) -> Result<us
 /// Appends the text of the document of these pairs. There is room for its first brace.
 #[cycle(text)]
 #[inline(never)]
-fn append_fields<N: Reading>(
-    fields: N::Rest,
-    out: &mut Vec<u8>,
-    end: usize,
-) -> Result<usize, NoMemory>
+fn append_fields<N: Reading>(fields: N::Rest, out: &mut Vec<u8>, end: usize) -> End
     requires { end < length out.old.items }
     ensures ok { IfOk result (λ e. take e out.new.items ≡ take end out.old.items ++ text (doc (fields_of (N.left fields)))) }
     ensures within { IfOk result (λ e. e ≤ length out.new.items) }
@@ -111,11 +140,7 @@ fn append_fields<N: Reading>(
 /// Appends the text of the array of these elements. There is room for its first bracket.
 #[cycle(text)]
 #[inline(never)]
-fn append_items<N: Reading>(
-    items: N::Rest,
-    out: &mut Vec<u8>,
-    end: usize,
-) -> Result<usize, NoMemory>
+fn append_items<N: Reading>(items: N::Rest, out: &mut Vec<u8>, end: usize) -> End
     requires { end < length out.old.items }
     ensures ok { IfOk result (λ e. take e out.new.items ≡ take end out.old.items ++ text (array (items_of (values_of (N.left items))))) }
     ensures within { IfOk result (λ e. e ≤ length out.new.items) }

@@ -1,28 +1,21 @@
 -- What a value is made of.
 use Rattle.std.proofs.Common.{◌≡◌, ℕ, ◌+◌, ◌<◌, suc, List, [], ◌∷◌, Some, max, refl, sym, ap, ap₂, ◌∙◌, arith}
 use Rattle.bd_value.specs.Tree.{Tree, leaf, doc, array, code_scope, Doc, fields_of, items_of, fields_of-pairs_of, items_of-list_of, tree_size, fields_size, items_size}
-use Rattle.bd_value.specs.Depth.{depth, fields_depth, items_depth}
-use Rattle.bd_value.specs.Kind.{kind_of}
-use Rattle.bd_value.specs.Parts.{values_of, scope_of, AreParts}
-use Rattle.bd_value.specs.OwnPart.{own_code, own_of}
-use Rattle.bd_value.specs.declared.kind.Kind.TheVariants as kinds
+use Rattle.bd_value.specs.Tree.{own_code, own_of, values_of, scope_of, AreParts, depth, fields_depth, items_depth}
+use Rattle.bd_value.specs.View.{kind_of}
+use Rattle.bd_value.specs.declared.node.Kind.TheVariants as kinds
 
 pub doc_is : (t : Tree) (ps : Doc) → kind_of t ≡ kinds.Doc → AreParts t ps → t ≡ doc (fields_of ps)
-doc_is (leaf s) ps is are = absurd are
 doc_is (doc fs) ps is are = ap doc (sym (ap fields_of are ∙ fields_of-pairs_of fs))
 doc_is (array ts) ps is are = absurd cc
-doc_is (code_scope s fs) ps is are = absurd are
+doc_is _ ps is are = absurd are
 
 pub array_is : (t : Tree) (ps : Doc) → kind_of t ≡ kinds.Array → AreParts t ps → t ≡ array (items_of (values_of ps))
-array_is (leaf s) ps is are = absurd are
-array_is (doc fs) ps is are = absurd cc
 array_is (array ts) ps is are = ap array (sym (ap items_of are ∙ items_of-list_of ts))
-array_is (code_scope s fs) ps is are = absurd are
+array_is (doc fs) ps is are = absurd cc
+array_is _ ps is are = absurd are
 
 pub code_is : (t u : Tree) (c : List ℕ) (ps : Doc) → own_of t ≡ Some (own_code c) → scope_of t ≡ Some u → AreParts u ps → t ≡ code_scope c (fields_of ps)
-code_is (leaf s) u c ps own scope are = absurd cc
-code_is (doc fs) u c ps own scope are = absurd cc
-code_is (array ts) u c ps own scope are = absurd cc
 code_is (code_scope s fs) u c ps own scope are =
     let code : s ≡ c = cc in
     let inside : u ≡ doc fs = cc in
@@ -30,6 +23,7 @@ code_is (code_scope s fs) u c ps own scope are =
     let same : doc fs ≡ doc (fields_of ps) = sym inside ∙ doc_is u ps kind are in
     let fields : fs ≡ fields_of ps = cc in
     ap₂ code_scope code fields
+code_is _ u c ps own scope are = absurd cc
 
 -- ---- the inside is smaller
 
@@ -38,20 +32,17 @@ values_size [] = refl
 values_size (p ∷ ps) = ap (λ n. suc (tree_size p.1) + n) (values_size ps)
 
 pub parts_smaller : (t : Tree) (ps : Doc) → AreParts t ps → fields_size (fields_of ps) < tree_size t
-parts_smaller (leaf s) ps are = absurd are
 parts_smaller (doc fs) ps are =
     let e = ap (λ (x : Doc). fields_size (fields_of x)) are ∙ ap fields_size (fields_of-pairs_of fs) in
     omega (arith, e)
 parts_smaller (array ts) ps are =
     let e = sym (values_size ps) ∙ ap (λ (x : List Tree). items_size (items_of x)) are ∙ ap items_size (items_of-list_of ts) in
     omega (arith, e)
-parts_smaller (code_scope s fs) ps are = absurd are
+parts_smaller _ ps are = absurd are
 
 pub scope_smaller : (t u : Tree) → scope_of t ≡ Some u → tree_size u < tree_size t
-scope_smaller (leaf s) u scope = absurd cc
-scope_smaller (doc fs) u scope = absurd cc
-scope_smaller (array ts) u scope = absurd cc
 scope_smaller (code_scope s fs) u scope = let inside : doc fs ≡ u = cc in let e = ap tree_size inside in omega arith
+scope_smaller _ u scope = absurd cc
 
 -- ---- the inside is less deep
 
@@ -60,8 +51,7 @@ values_depth [] = refl
 values_depth (p ∷ ps) = ap (λ n. max (depth p.1) n) (values_depth ps)
 
 pub parts_depth : (t : Tree) (ps : Doc) → AreParts t ps → depth t ≡ suc (fields_depth (fields_of ps))
-parts_depth (leaf s) ps are = absurd are
 parts_depth (doc fs) ps are = ap (λ n. suc n) (sym (ap (λ (x : Doc). fields_depth (fields_of x)) are ∙ ap fields_depth (fields_of-pairs_of fs)))
 parts_depth (array ts) ps are =
     ap (λ n. suc n) (sym (sym (values_depth ps) ∙ ap (λ (x : List Tree). items_depth (items_of x)) are ∙ ap items_depth (items_of-list_of ts)))
-parts_depth (code_scope s fs) ps are = absurd are
+parts_depth _ ps are = absurd are

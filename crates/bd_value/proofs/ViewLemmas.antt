@@ -1,28 +1,31 @@
--- What a document's pairs are, at each place.
-use Rattle.std.proofs.Common.{zero, suc, ◌+◌, drop, add-one, ◌≡◌, ℕ, ◌<◌, List, [], ◌∷◌, length, map, get_or, Some, rules, refl, ap, ◌∙◌, arith, Vec}
+-- What a document's pairs are, at each place, and what is read of a value in memory.
+use Rattle.std.proofs.Common.{◌≡◌, ℕ, zero, suc, ◌+◌, ◌<◌, List, [], ◌∷◌, length, map, drop, get_or, Option, Some, true, false, Vec, refl, sym, ap, subst, ◌∙◌, add-one, rules, arith}
 use Rattle.std.specs.Prelude.{String, string_bytes, slice_get}
+use Rattle.std.specs.Str.{bytes_eq}
+use Rattle.std.specs.Borrow.{Bor}
 use Rattle.std.specs.declared.alloc.Global.{Global}
 use Rattle.std.proofs.lemmas.Option.{slice_get-map, slice_get-get_or}
 use Rattle.std.proofs.lemmas.List.{length-map}
+use Rattle.bd_value.specs.Tree.{Tree, doc, array, code_scope, Doc, Pair, fields_of, items_of, list_of, pairs_of-fields_of, pairs_in, elements_in, length_of, scope_of, values_of, AreParts, first_of}
+use Rattle.bd_value.specs.View.{tree_of, pair_of, pairs, pairs_step, tree_step, held}
 use Rattle.bd_value.specs.declared.document.Value.{Value}
 use Rattle.bd_value.specs.declared.document.Value.TheVariants as values
-use Rattle.bd_value.specs.declared.document.Document.{Document}
 use Rattle.bd_value.specs.declared.document.Value.TheFolds as folds
-use Rattle.bd_value.specs.Tree.{Tree, doc, array, code_scope, fields_of, items_of}
-use Rattle.bd_value.specs.Tree as trees
-use Rattle.bd_value.specs.View.{tree_of, pair_of, pairs, pairs_step, tree_step}
+use Rattle.bd_value.specs.declared.document.Document.{Document}
+use Rattle.bd_value.specs.declared.node.Tree as node
+use Rattle.bd_value.specs.declared.node.Tree.TheVariants as nodes
 
 two_maps : (ps : List (String Global × Value)) → map (λ (p : String Global × Tree). (string_bytes p.0, p.1)) (map (λ (p : String Global × Value). (p.0, tree_of p.1)) ps) ≡ map pair_of ps
 two_maps [] = refl
-two_maps (p ∷ ps) = ap (λ (x : trees.Doc). pair_of p ∷ x) (two_maps ps)
+two_maps (p ∷ ps) = ap (λ (x : Doc). pair_of p ∷ x) (two_maps ps)
 
-pub pairs_fold : (d : Document) → folds.fold-Document Tree trees.Doc tree_step pairs_step d ≡ pairs d
-pairs_fold d = folds.fold_out-Document Tree trees.Doc tree_step pairs_step d ∙ two_maps d.pairs.items
+pub pairs_fold : (d : Document) → folds.fold-Document Tree Doc tree_step pairs_step d ≡ pairs d
+pairs_fold d = folds.fold_out-Document Tree Doc tree_step pairs_step d ∙ two_maps d.pairs.items
 
 pub tree_of-Doc : (d : Document) → tree_of (values.Doc d) ≡ doc (fields_of (pairs d))
 tree_of-Doc d =
-    let e : tree_of (values.Doc d) ≡ doc (fields_of (folds.fold-Document Tree trees.Doc tree_step pairs_step d)) = search (rules, folds.the_lemmas) in
-    e ∙ ap (λ (x : trees.Doc). doc (fields_of x)) (pairs_fold d)
+    let e : tree_of (values.Doc d) ≡ doc (fields_of (folds.fold-Document Tree Doc tree_step pairs_step d)) = search (rules, folds.the_lemmas) in
+    e ∙ ap (λ (x : Doc). doc (fields_of x)) (pairs_fold d)
 
 pub tree_of-Array : (v : Vec Value Global) → tree_of (values.Array v) ≡ array (items_of (map tree_of v.items))
 tree_of-Array v = search (rules, folds.the_lemmas)
@@ -32,8 +35,8 @@ pairs_length d = length-map d.pairs.items pair_of
 
 pub tree_of-CodeScope : (s : String Global) (d : Document) → tree_of (values.CodeScope s d) ≡ code_scope (string_bytes s) (fields_of (pairs d))
 tree_of-CodeScope s d =
-    let e : tree_of (values.CodeScope s d) ≡ code_scope (string_bytes s) (fields_of (folds.fold-Document Tree trees.Doc tree_step pairs_step d)) = search (rules, folds.the_lemmas) in
-    e ∙ ap (λ (x : trees.Doc). code_scope (string_bytes s) (fields_of x)) (pairs_fold d)
+    let e : tree_of (values.CodeScope s d) ≡ code_scope (string_bytes s) (fields_of (folds.fold-Document Tree Doc tree_step pairs_step d)) = search (rules, folds.the_lemmas) in
+    e ∙ ap (λ (x : Doc). code_scope (string_bytes s) (fields_of x)) (pairs_fold d)
 
 pub pair_at : (d : Document) (i : ℕ) (p : String Global × Value) → i < length (pairs d) → p ≡ get_or d.pairs.items i p → slice_get (pairs d) i ≡ Some (pair_of p)
 pair_at d i p lt is =
@@ -51,3 +54,70 @@ next_at (y ∷ xs) (suc i) x is = rw add-one (next_at xs i x is ∙ rw add-one r
 -- a value in a list, as a tree
 pub tree_at : (vs : List Value) (i : ℕ) (v : Value) → i < length vs → v ≡ get_or vs i v → slice_get (map tree_of vs) i ≡ Some (tree_of v)
 tree_at vs i v lt is = slice_get-map tree_of vs i ∙ rw (slice_get-get_or vs i v lt, ← is) refl
+
+-- ---- the first pair of a name
+
+module _ (name : List ℕ) (ps : Doc) (i : ℕ) (p : Pair) (total : Option Tree) (at : slice_get ps i ≡ Some p) (so_far : first_of name (drop i ps) ≡ total) where
+  pub skipped : false ≡ bytes_eq p.0 name → first_of name (drop (i + 1) ps) ≡ total
+  skipped other = sym (ap (first_of name) (next_at ps i p at) ∙ rw (← other) refl) ∙ so_far
+
+  pub found : true ≡ bytes_eq p.0 name → total ≡ Some p.1
+  found same = sym so_far ∙ ap (first_of name) (next_at ps i p at) ∙ rw (← same) refl
+
+-- ---- nodes
+
+pub list_of-items_of : (ts : List Tree) → list_of (items_of ts) ≡ ts
+list_of-items_of [] = refl
+list_of-items_of (t ∷ ts) = ap (λ (x : List Tree). t ∷ x) (list_of-items_of ts)
+
+pub is_doc : (s : node.Tree) (v : Bor Value) (d : Document) → s ≡ nodes.Value v → v.now ≡ values.Doc d → held s ≡ doc (fields_of (pairs d))
+is_doc s v d is e = ap held is ∙ ap tree_of e ∙ tree_of-Doc d
+
+pub is_array : (s : node.Tree) (v : Bor Value) (xs : Vec Value Global) → s ≡ nodes.Value v → v.now ≡ values.Array xs → held s ≡ array (items_of (map tree_of xs.items))
+is_array s v xs is e = ap held is ∙ ap tree_of e ∙ tree_of-Array xs
+
+pub scope_is : (s : node.Tree) (v : Bor Value) (code : String Global) (d : Document) → s ≡ nodes.Value v → v.now ≡ values.CodeScope code d → Some (doc (fields_of (pairs d))) ≡ scope_of (held s)
+scope_is s v code d is e = sym (ap (λ t. scope_of (held t)) is ∙ ap (λ x. scope_of (tree_of x)) e ∙ ap scope_of (tree_of-CodeScope code d))
+
+-- ---- a document
+
+module _ (t : Tree) (ps : Doc) (is : t ≡ doc (fields_of ps)) where
+  pub doc_pairs : pairs_in t ≡ ps
+  doc_pairs = ap pairs_in is ∙ pairs_of-fields_of ps
+
+  pub doc_length : length_of t ≡ length ps
+  doc_length = ap length_of is ∙ ap (λ (x : Doc). length x) (pairs_of-fields_of ps)
+
+  pub doc_parts : AreParts t ps
+  doc_parts = subst (λ (u : Tree). AreParts u ps) (sym is) (sym (pairs_of-fields_of ps))
+
+  pub inside : (i : ℕ) → i < length (pairs_in t) → i < length ps
+  inside i lt = let e = ap (λ (x : Doc). length x) doc_pairs in omega arith
+
+  pub pair_is : (i : ℕ) (p : Pair) → slice_get ps i ≡ Some p → slice_get (pairs_in t) i ≡ Some p
+  pair_is i p h = ap (λ (x : Doc). slice_get x i) doc_pairs ∙ h
+
+  pub first_is : (name : List ℕ) (o : Option Tree) → o ≡ first_of name ps → o ≡ first_of name (pairs_in t)
+  first_is name o h = h ∙ ap (first_of name) (sym doc_pairs)
+
+-- ---- an array
+
+values_named : (vs : List Value) → values_of (map (λ (v : Value). ([], tree_of v)) vs) ≡ map tree_of vs
+values_named [] = refl
+values_named (v ∷ vs) = ap (λ (x : List Tree). tree_of v ∷ x) (values_named vs)
+
+module _ (t : Tree) (vs : List Value) (is : t ≡ array (items_of (map tree_of vs))) where
+  array_elements : elements_in t ≡ map tree_of vs
+  array_elements = ap elements_in is ∙ list_of-items_of (map tree_of vs)
+
+  pub array_length : length_of t ≡ length vs
+  array_length = ap length_of is ∙ ap (λ (x : List Tree). length x) (list_of-items_of (map tree_of vs)) ∙ length-map vs tree_of
+
+  pub array_parts : AreParts t (map (λ (v : Value). ([], tree_of v)) vs)
+  array_parts = subst (λ (u : Tree). AreParts u (map (λ (v : Value). ([], tree_of v)) vs)) (sym is) (values_named vs ∙ sym (list_of-items_of (map tree_of vs)))
+
+  pub inside_array : (i : ℕ) → i < length (elements_in t) → i < length vs
+  inside_array i lt = let e = ap (λ (x : List Tree). length x) array_elements in let m = length-map vs tree_of in omega arith
+
+  pub element_is : (i : ℕ) (v : Value) → i < length vs → v ≡ get_or vs i v → slice_get (elements_in t) i ≡ Some (tree_of v)
+  element_is i v lt h = ap (λ (x : List Tree). slice_get x i) array_elements ∙ tree_at vs i v lt h

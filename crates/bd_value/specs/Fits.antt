@@ -1,16 +1,13 @@
 -- What the type of a value in memory says of its tree: each number fits, what is bytes is bytes, and what is text is UTF-8.
-use Rattle.std.specs.Prelude.{◌≡◌, ◌<◌, ◌^◌, ℕ, List, length, slice_index, IsUtf8}
-use Rattle.std.specs.Int.{w32, w64}
-use Rattle.std.specs.Int.RustNames.{FitsSigned}
-use Rattle.bd_value.specs.OwnPart.{Own, own, own_code}
-use Rattle.bd_value.specs.Tree.{Scalar, int32, int64, text, symbol, binary, object_id, date, timestamp, regex, db_pointer, code}
-use Rattle.bd_value.specs.Tree.{Tree, leaf, doc, array, code_scope, Items, no_items, item, Fields, no_fields, field}
+-- And whether a name, or a text of a regular expression, has a zero, which would end it.
+use Rattle.std.specs.Prelude.{◌≡◌, ◌<◌, ◌^◌, ℕ, List, length, slice_index, IsUtf8, [], ◌∷◌, Bool, false, ◌&&◌, ◌||◌, ◌==◌}
+use Rattle.std.specs.{Int.w32, Int.w64, Int.RustNames.FitsSigned}
+use Rattle.bd_value.specs.Tree.{own_code, own, Own, Scalar, int32, int64, text, symbol, binary, object_id, date, timestamp, regex, db_pointer, code, Tree, leaf, doc}
+use Rattle.bd_value.specs.Tree.{array, code_scope, Items, no_items, item, Fields, no_fields, field, Doc}
 
--- each of them is a byte
 abbrev pub AreBytes : List ℕ → Type 0
 AreBytes bytes = (i : ℕ) → slice_index bytes i < 256
 
--- An id is twelve bytes.
 abbrev pub IsId : List ℕ → Type 0
 IsId id = (length id ≡ 12) × AreBytes id
 
@@ -72,3 +69,36 @@ OwnFitsType (own_code s) = Unit {0}
 abbrev pub OwnHasUtf8 : Own → Type 0
 OwnHasUtf8 (own s) = ScalarHasUtf8 s
 OwnHasUtf8 (own_code s) = IsUtf8 s
+
+abbrev pub has_zero : List ℕ → Bool
+has_zero [] = false
+has_zero (b ∷ bs) = (b == 0) || has_zero bs
+
+abbrev pub zero_in_scalar : Scalar → Bool
+zero_in_scalar (regex pattern options) = has_zero pattern || has_zero options
+zero_in_scalar s = false
+
+abbrev mutual
+  pub zero_in : Tree → Bool
+  zero_in (leaf s) = zero_in_scalar s
+  zero_in (doc fs) = zero_in_fields fs
+  zero_in (array ts) = zero_in_items ts
+  zero_in (code_scope s fs) = zero_in_fields fs
+
+  pub zero_in_fields : Fields → Bool
+  zero_in_fields no_fields = false
+  zero_in_fields (field name t fs) = has_zero name || (zero_in t || zero_in_fields fs)
+
+  pub zero_in_items : Items → Bool
+  zero_in_items no_items = false
+  zero_in_items (item t ts) = zero_in t || zero_in_items ts
+
+-- of pairs, or of elements, whose names are passed over
+abbrev pub zero_in_parts : Bool → Doc → Bool
+zero_in_parts named [] = false
+zero_in_parts named (p ∷ ps) = (named && has_zero p.0) || (zero_in p.1 || zero_in_parts named ps)
+
+-- of what holds no other values
+abbrev pub zero_in_own : Own → Bool
+zero_in_own (own s) = zero_in_scalar s
+zero_in_own (own_code s) = false

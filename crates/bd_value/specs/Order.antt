@@ -1,30 +1,114 @@
 -- The comparison order of values (MongoDB manual, "Comparison/Sort Order"): by class, then within the class.
-pub mod Classes
-pub mod Laws
-pub mod Ranks
-pub mod RanksSeen
-use Rattle.std.specs.Prelude.{ℕ, pos, Bool, List, []}
-use Rattle.std.specs.declared.cmp.Ordering.{Ordering}
-use Rattle.std.specs.declared.cmp.Ordering.TheVariants.{Less, Equal, Greater}
+use Rattle.std.specs.Prelude.{◌≡◌, ◌⊎◌, ℕ, ℤ, pos, Bool, ◌+◌, ◌==◌, List, [], length, if◌then◌else◌}
+use Rattle.std.specs.{declared.cmp.Ordering.Ordering, declared.cmp.Ordering.TheVariants.Less}
+use Rattle.std.specs.{declared.cmp.Ordering.TheVariants.Equal, declared.cmp.Ordering.TheVariants.Greater}
+use Rattle.std.specs.{Cmp.IsTotalOrder, Cmp.Lexicographic.slice_cmp}
 use Rattle.std.specs.Ordering.{nat_cmp, int_cmp, ordering_then, is_eq}
-use Rattle.std.specs.Cmp.Lexicographic.{slice_cmp}
-use Rattle.bd_value.specs.Tree.{Tree, leaf, doc, array, code_scope}
-use Rattle.bd_value.specs.Tree.{Items, no_items, item, Fields, no_fields, field}
-use Rattle.bd_value.specs.Order.Classes.{class_of, class_rank}
-use Rattle.bd_value.specs.Order.Ranks.{Rank, by_bytes, by_number, scalar_rank}
+use Rattle.bd_value.specs.Tree.{Own, own, own_code, Scalar, int32, int64, text, symbol, binary, object_id, boolean, date, timestamp}
+use Rattle.bd_value.specs.Tree.{regex, db_pointer, code, Tree, leaf, doc, array, code_scope, Items, no_items, item, Fields, no_fields, field}
+use Rattle.bd_value.specs.{View.kind_of, declared.node.Kind.Kind, declared.node.Class.Class}
+use Rattle.bd_value.specs.declared.node.Kind.TheVariants as kinds
+use Rattle.bd_value.specs.declared.node.Class.TheVariants as classes
+use Rattle.bd_value.specs.declared.order.Rank as memory
+
+-- the seventeen classes of values
+abbrev pub class_of_kind : Kind → Class
+class_of_kind kinds.MinKey = classes.MinKey
+class_of_kind kinds.Undefined = classes.Undefined
+class_of_kind kinds.Null = classes.Null
+class_of_kind kinds.Int32 = classes.Number
+class_of_kind kinds.Int64 = classes.Number
+class_of_kind kinds.Text = classes.Text
+class_of_kind kinds.Symbol = classes.Text
+class_of_kind kinds.Doc = classes.Doc
+class_of_kind kinds.Array = classes.Array
+class_of_kind kinds.Binary = classes.Binary
+class_of_kind kinds.ObjectId = classes.ObjectId
+class_of_kind kinds.Bool = classes.Bool
+class_of_kind kinds.Date = classes.Date
+class_of_kind kinds.Timestamp = classes.Timestamp
+class_of_kind kinds.Regex = classes.Regex
+class_of_kind kinds.DbPointer = classes.DbPointer
+class_of_kind kinds.Code = classes.Code
+class_of_kind kinds.CodeScope = classes.CodeScope
+class_of_kind kinds.MaxKey = classes.MaxKey
+
+abbrev pub class_of : Tree → Class
+class_of t = class_of_kind (kind_of t)
+
+-- the place of a class among them, least first
+abbrev pub class_rank : Class → ℕ
+class_rank classes.MinKey = 0
+class_rank classes.Undefined = 1
+class_rank classes.Null = 2
+class_rank classes.Number = 3
+class_rank classes.Text = 4
+class_rank classes.Doc = 5
+class_rank classes.Array = 6
+class_rank classes.Binary = 7
+class_rank classes.ObjectId = 8
+class_rank classes.Bool = 9
+class_rank classes.Date = 10
+class_rank classes.Timestamp = 11
+class_rank classes.Regex = 12
+class_rank classes.DbPointer = 13
+class_rank classes.Code = 14
+class_rank classes.CodeScope = 15
+class_rank classes.MaxKey = 16
+
+-- What a scalar is compared by within its class: a number, a size, a lesser number, bytes, and more bytes, in turn.
+-- What its class has not is 0 or empty.
+pub record Rank : Type 0 where
+  pub number : ℤ
+  pub size : ℕ
+  pub lesser : ℕ
+  pub bytes : List ℕ
+  pub more : List ℕ
+
+abbrev pub by_number : ℤ → Rank
+by_number n = record { number = n; size = 0; lesser = 0; bytes = []; more = [] }
+
+abbrev pub by_bytes : List ℕ → List ℕ → Rank
+by_bytes first second = record { number = pos 0; size = 0; lesser = 0; bytes = first; more = second }
+
+-- the size that BSON writes: subtype 02 has four bytes more, which count the rest
+abbrev pub binary_size : ℕ → List ℕ → ℕ
+binary_size subtype payload = if subtype == 2 then length payload + 4 else length payload
+
+abbrev pub scalar_rank : Scalar → Rank
+scalar_rank (int32 n) = by_number n
+scalar_rank (int64 n) = by_number n
+scalar_rank (text s) = by_bytes s []
+scalar_rank (symbol s) = by_bytes s []
+scalar_rank (binary subtype payload) =
+    record { number = pos 0; size = binary_size subtype payload; lesser = subtype; bytes = payload; more = [] }
+scalar_rank (object_id id) = by_bytes id []
+scalar_rank (boolean b) = by_number (if b then pos 1 else pos 0)
+scalar_rank (date milliseconds) = by_number milliseconds
+scalar_rank (timestamp seconds increment) =
+    record { number = pos seconds; size = 0; lesser = increment; bytes = []; more = [] }
+scalar_rank (regex pattern options) = by_bytes pattern options
+scalar_rank (db_pointer space id) = by_bytes space id
+scalar_rank (code s) = by_bytes s []
+scalar_rank _ = by_number (pos 0)
+
+-- of a scalar, or of the code of code with scope
+abbrev pub own_rank : Own → Rank
+own_rank (own s) = scalar_rank s
+own_rank (own_code s) = by_bytes s []
+
+-- a rank of the code, without where its bytes lie
+abbrev pub rank_view : memory.Rank → Rank
+rank_view r = record { number = r.number; size = r.size; lesser = r.lesser; bytes = r.bytes.now; more = r.more.now }
 
 -- texts by their UTF-8 bytes, and bytes: a proper prefix is less
 abbrev pub bytes_cmp : List ℕ → List ℕ → Ordering
 bytes_cmp a b = slice_cmp nat_cmp a b
 
--- by their sizes, lesser numbers, bytes and more bytes
-abbrev pub size_cmp : Rank → Rank → Ordering
-size_cmp a b =
-    ordering_then (ordering_then (nat_cmp a.size b.size) (nat_cmp a.lesser b.lesser))
-    (ordering_then (bytes_cmp a.bytes b.bytes) (bytes_cmp a.more b.more))
-
 abbrev pub rank_cmp : Rank → Rank → Ordering
-rank_cmp a b = ordering_then (int_cmp a.number b.number) (size_cmp a b)
+rank_cmp a b =
+    ordering_then (int_cmp a.number b.number) (ordering_then (ordering_then (nat_cmp a.size b.size) (nat_cmp a.lesser b.lesser))
+    (ordering_then (bytes_cmp a.bytes b.bytes) (bytes_cmp a.more b.more)))
 
 abbrev pub class_cmp : Tree → Tree → Ordering
 class_cmp a b = nat_cmp (class_rank (class_of a)) (class_rank (class_of b))
@@ -32,15 +116,13 @@ class_cmp a b = nat_cmp (class_rank (class_of a)) (class_rank (class_of b))
 -- what a value of a class holds; of any other value nothing
 abbrev pub rank_in : Tree → Rank
 rank_in (leaf s) = scalar_rank s
-rank_in (doc fs) = by_number (pos 0)
-rank_in (array ts) = by_number (pos 0)
 rank_in (code_scope s fs) = by_bytes s []
+rank_in _ = by_number (pos 0)
 
 abbrev pub fields_in : Tree → Fields
-fields_in (leaf s) = no_fields
 fields_in (doc fs) = fs
-fields_in (array ts) = no_fields
 fields_in (code_scope s fs) = fs
+fields_in _ = no_fields
 
 abbrev pub items_in : Tree → Items
 items_in (array ts) = ts
@@ -76,10 +158,35 @@ abbrev mutual
 abbrev pub pair_cmp : List ℕ → Tree → List ℕ → Tree → Ordering
 pair_cmp m a n b = ordering_then (class_cmp a b) (ordering_then (bytes_cmp m n) (same_class_cmp a b))
 
--- by class, then within the class
 abbrev pub cmp : Tree → Tree → Ordering
 cmp a b = ordering_then (class_cmp a b) (same_class_cmp a b)
 
--- two values are equal where they compare as equal
 abbrev pub equal : Tree → Tree → Bool
 equal a b = is_eq (cmp a b)
+
+-- ---- what always holds
+
+-- any two values compare, one way round as the other, and equal values are one place in the order
+abbrev pub OrdersAllValues : Type 0
+OrdersAllValues = IsTotalOrder cmp
+
+abbrev pub EqualsHaveOneClass : Type 0
+EqualsHaveOneClass = (a b : Tree) → cmp a b ≡ Equal → class_of a ≡ class_of b
+
+-- a number of 32 or of 64 bits
+abbrev pub IsWholeNumber : Tree → ℤ → Type 0
+IsWholeNumber t n = (t ≡ leaf (int32 n)) ⊎ (t ≡ leaf (int64 n))
+
+abbrev pub NumbersAreOneLine : Type 0
+NumbersAreOneLine = (a b : Tree) (m n : ℤ) → IsWholeNumber a m → IsWholeNumber b n → cmp a b ≡ int_cmp m n
+
+-- a document that has no further pair is less
+abbrev pub ShorterDocumentsAreLess : Type 0
+ShorterDocumentsAreLess = (name : List ℕ) (t : Tree) (fs : Fields)
+    → (cmp (doc no_fields) (doc (field name t fs)) ≡ Less)
+    × (cmp (doc (field name t fs)) (doc no_fields) ≡ Greater)
+
+-- the class of the first value, then its name, then the value, then what is after it
+abbrev pub PairsCompareInTurn : Type 0
+PairsCompareInTurn = (m n : List ℕ) (a b : Tree) (fs gs : Fields) → cmp (doc (field m a fs)) (doc (field n b gs))
+    ≡ ordering_then (class_cmp a b) (ordering_then (bytes_cmp m n) (ordering_then (cmp a b) (cmp (doc fs) (doc gs))))

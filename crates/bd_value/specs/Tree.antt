@@ -1,7 +1,8 @@
 -- The tree that a BSON value stands for (BSON 1.1, `document`, `e_list` and `element`), without where it lies in memory.
 -- A text and a name are their UTF-8 bytes, a number is a whole number.
-use Rattle.std.specs.Prelude.{◌≡◌, ℕ, suc, ◌+◌, ℤ, Bool, List, [], ◌∷◌, refl}
+use Rattle.std.specs.Prelude.{◌≡◌, ℕ, suc, ◌+◌, ℤ, Bool, List, [], ◌∷◌, refl, Option, Some, None, length, map, if◌then◌else◌, max}
 use Rattle.std.proofs.Common.{ap}
+use Rattle.std.specs.Str.{bytes_eq}
 
 -- A value that holds no value: one case for each such type of element. An id and the data of binary are their bytes;
 -- of binary first the subtype, of a timestamp first the seconds, of a regular expression first the pattern.
@@ -58,26 +59,94 @@ abbrev pub pairs_of : Fields → Doc
 pairs_of no_fields = []
 pairs_of (field n t fs) = (n, t) ∷ pairs_of fs
 
-pub pairs_of-fields_of : (d : Doc) → pairs_of (fields_of d) ≡ d
-pairs_of-fields_of [] = refl
-pairs_of-fields_of (p ∷ ps) = ap (λ (x : Doc). p ∷ x) (pairs_of-fields_of ps)
-
 abbrev pub list_of : Items → List Tree
 list_of no_items = []
 list_of (item t ts) = t ∷ list_of ts
 
--- the pairs of a document; every other value has none
-abbrev pub pairs_in : Tree → Doc
-pairs_in (doc fs) = pairs_of fs
-pairs_in _ = []
+pub pairs_of-fields_of : (d : Doc) → pairs_of (fields_of d) ≡ d
+pairs_of-fields_of [] = refl
+pairs_of-fields_of (p ∷ ps) = ap (λ (x : Doc). p ∷ x) (pairs_of-fields_of ps)
+
+pub fields_of-pairs_of : (fs : Fields) → fields_of (pairs_of fs) ≡ fs
+fields_of-pairs_of no_fields = refl
+fields_of-pairs_of (field n t fs) = ap (field n t) (fields_of-pairs_of fs)
 
 pub items_of-list_of : (ts : Items) → items_of (list_of ts) ≡ ts
 items_of-list_of no_items = refl
 items_of-list_of (item t ts) = ap (item t) (items_of-list_of ts)
 
-pub fields_of-pairs_of : (fs : Fields) → fields_of (pairs_of fs) ≡ fs
-fields_of-pairs_of no_fields = refl
-fields_of-pairs_of (field n t fs) = ap (field n t) (fields_of-pairs_of fs)
+-- the pairs of a document, and the elements of an array; every other value has none
+abbrev pub pairs_in : Tree → Doc
+pairs_in (doc fs) = pairs_of fs
+pairs_in _ = []
+
+abbrev pub elements_in : Tree → List Tree
+elements_in (array ts) = list_of ts
+elements_in _ = []
+
+-- how many they are
+abbrev pub length_of : Tree → ℕ
+length_of (doc fs) = length (pairs_of fs)
+length_of (array ts) = length (list_of ts)
+length_of _ = 0
+
+-- the scope of code with scope
+abbrev pub scope_of : Tree → Option Tree
+scope_of (code_scope s fs) = Some (doc fs)
+scope_of _ = None
+
+-- what a value holds besides other values: a scalar, or the code of code with scope
+pub data Own : Type 0 where
+  own : Scalar → Own
+  own_code : List ℕ → Own
+
+abbrev pub own_of : Tree → Option Own
+own_of (leaf s) = Some (own s)
+own_of (code_scope s fs) = Some (own_code s)
+own_of _ = None
+
+-- the values alone, without the names that stand before them
+abbrev pub values_of : Doc → List Tree
+values_of ps = map (λ p. p.1) ps
+
+-- the pairs of a document, or the elements of an array under some names
+abbrev pub AreParts : Tree → Doc → Type 0
+AreParts (doc fs) ps = ps ≡ pairs_of fs
+AreParts (array ts) ps = values_of ps ≡ list_of ts
+AreParts _ ps = ⊥
+
+-- it is a document or an array, or it is neither
+abbrev pub HoldsParts : Tree → Type 0
+HoldsParts (leaf s) = ⊥
+HoldsParts (code_scope s fs) = ⊥
+HoldsParts _ = Unit {0}
+
+abbrev pub HoldsNoParts : Tree → Type 0
+HoldsNoParts (doc fs) = ⊥
+HoldsNoParts (array ts) = ⊥
+HoldsNoParts _ = Unit {0}
+
+-- the value of the first pair of that name
+abbrev pub first_of : List ℕ → Doc → Option Tree
+first_of name [] = None
+first_of name (p ∷ ps) = if bytes_eq p.0 name then Some p.1 else first_of name ps
+
+-- How deep documents and arrays nest: each is one deeper than the deepest value in it, and code with scope one deeper
+-- than its scope.
+abbrev mutual
+  pub depth : Tree → ℕ
+  depth (leaf s) = 0
+  depth (doc fs) = suc (fields_depth fs)
+  depth (array ts) = suc (items_depth ts)
+  depth (code_scope s fs) = suc (suc (fields_depth fs))
+
+  pub fields_depth : Fields → ℕ
+  fields_depth no_fields = 0
+  fields_depth (field n t fs) = max (depth t) (fields_depth fs)
+
+  pub items_depth : Items → ℕ
+  items_depth no_items = 0
+  items_depth (item t ts) = max (depth t) (items_depth ts)
 
 -- how many values stand in it
 abbrev mutual

@@ -1,7 +1,15 @@
 //! A value is a scalar, a document or an array; a document is a list of named values.
-ghost use Rattle.std.specs.Prelude.{◌≡◌, ◌<◌, [], ◌∷◌, ◌++◌, length, map, OnOk, OnErr, slice_get, Some, string_bytes, IsTrue, ◌↔◌};
-ghost use Rattle.bd_value.specs.View.{tree_of, pair_of, pairs};
+//!
+//! In a tree a number is any whole number and a text any bytes. Those of a value in hand fit, since it exists, but a proof knows
+//! that only where the code has looked: `value_fits`, `document_fits` and `node_fits` look at all of a value, and do nothing else.
 
+ghost use Rattle.std.specs.Prelude.{◌≡◌, ◌<◌, ◌++◌, [], ◌∷◌, length, map, min, slice_get, Some, None, IfSome, IfNone};
+ghost use Rattle.std.specs.Prelude.{IfOk, OnOk, OnErr, string_bytes, IsTrue, ◌↔◌};
+ghost use Rattle.bd_value.specs.Tree.{doc, fields_of, values_of, HoldsNoParts, own_of, first_of, depth as depth_in, fields_depth};
+ghost use Rattle.bd_value.specs.View.{tree_of, pair_of, pairs, seen};
+ghost use Rattle.bd_value.specs.Fits.{AreBytes, IsId, FitsTypes, HasUtf8, FieldsFitTypes, FieldsHaveUtf8, OwnFitsType, OwnHasUtf8, has_zero};
+
+use crate::node::{Kind, Reading, Scalar, Tree};
 use std::alloc::{AllocError, Global};
 
 /// The only refusal of a call that grows: the allocator gave no memory.
@@ -125,4 +133,250 @@ impl Document {
         let (name, value) = &self.pairs[i];
         (name.as_str(), value)
     }
+
+    /// The value of the first pair of that name; none where no pair has it. It takes no memory.
+    pub fn first(&self, name: &str) -> Option<&Value>
+        ensures found { IfSome result (λ v. first_of name.now (pairs self.now) ≡ Some (tree_of v.now)) }
+        ensures none { IfNone result (first_of name.now (pairs self.now) ≡ None) }
+    {
+        for i in 0..self.len() {
+            let (here, value) = self.pair(i);
+            if here == name {
+                return Some(value);
+            }
+        }
+        None
+    }
 }
+
+/// Whether a text has U+0000: no `cstring` of BSON 1.1 holds one, since it ends there.
+pub fn has_zero(text: &str) -> bool
+    ensures { result ≡ has_zero text.now }
+{
+    text.as_bytes().contains(&0)
+}
+
+/// How deep documents and arrays nest: a document or an array is one deeper than the deepest value in it, code with scope
+/// one deeper than its scope, and every other value has 0. It stays at the greatest number of 64 bits.
+pub fn depth(document: &Document) -> u64
+    ensures { result ≡ min (depth_in (doc (fields_of (pairs document.now)))) 18446744073709551615 }
+{
+    depth_of(Tree::Doc(document))
+}
+
+/// The depth of any value.
+#[cycle(nesting)]
+pub fn depth_of<N: Reading>(node: N) -> u64
+    ensures { result ≡ min (depth_in (N.tree node)) 18446744073709551615 }
+{
+    match node.kind() {
+        Kind::Doc | Kind::Array => deepest::<N>(node.parts()).saturating_add(1),
+        _ => match node.scope() {
+            None => 0,
+            Some(scope) => depth_of(scope).saturating_add(1),
+        },
+    }
+}
+
+/// The depth of the deepest of these values.
+#[cycle(nesting)]
+fn deepest<N: Reading>(values: N::Rest) -> u64
+    ensures { result ≡ min (fields_depth (fields_of (N.left values))) 18446744073709551615 }
+{
+    let mut deepest = 0;
+    let mut rest = values;
+    while let Some((_, node, after)) = N::next(&rest) {
+        deepest = depth_of(node).max(deepest);
+        rest = after;
+    }
+    deepest
+}
+
+/// What a node stands for, in memory. It fails only if memory runs out.
+#[cycle(copying)]
+pub fn to_value<N: Reading>(alloc: Global, node: N) -> Result<Value, NoMemory>
+    ensures { IfOk result (λ v. tree_of v ≡ N.tree node) }
+{
+    match node.kind() {
+        Kind::Doc => Ok(Value::Doc(to_document::<N>(alloc, node.parts())?)),
+        Kind::Array => Ok(Value::Array(to_items::<N>(alloc, node.parts())?)),
+        _ => own_value(alloc, node),
+    }
+}
+
+/// A copy of a value. It fails only if memory runs out.
+pub fn try_copy(alloc: Global, value: &Value) -> Result<Value, NoMemory>
+    ensures { IfOk result (λ v. tree_of v ≡ tree_of value.now) }
+{
+    to_value(alloc, Tree::Value(value))
+}
+
+/// The document of these pairs, in memory. It fails only if memory runs out.
+#[cycle(copying)]
+pub fn to_document<N: Reading>(alloc: Global, fields: N::Rest) -> Result<Document, NoMemory>
+    ensures { IfOk result (λ d. pairs d ≡ N.left fields) }
+{
+    let mut copied = Document::new(alloc);
+    let mut rest = fields;
+    while let Some((name, node, after)) = N::next(&rest) {
+        let name = String::from_str(alloc, name)?;
+        copied.push(name, to_value(alloc, node)?)?;
+        rest = after;
+    }
+    Ok(copied)
+}
+
+/// The values of these elements.
+#[cycle(copying)]
+fn to_items<N: Reading>(alloc: Global, items: N::Rest) -> Result<Vec<Value>, NoMemory>
+    ensures { IfOk result (λ v. map tree_of v.items ≡ values_of (N.left items)) }
+{
+    let mut copied = Vec::new(alloc);
+    let mut rest = items;
+    while let Some((_, node, after)) = N::next(&rest) {
+        copied.push(to_value(alloc, node)?)?;
+        rest = after;
+    }
+    Ok(copied)
+}
+
+/// What is neither a document nor an array.
+#[cycle(copying)]
+fn own_value<N: Reading>(alloc: Global, node: N) -> Result<Value, NoMemory>
+    requires { HoldsNoParts (N.tree node) }
+    ensures { IfOk result (λ v. tree_of v ≡ N.tree node) }
+{
+    let Some(own) = node.leaf() else {
+        unreachable!()
+    };
+    let Some(scope) = node.scope() else {
+        return scalar_value(alloc, own);
+    };
+    let Scalar::CodeScope(code) = own else {
+        unreachable!()
+    };
+    let code = String::from_str(alloc, code)?;
+    Ok(Value::CodeScope(code, to_document::<N>(alloc, scope.parts())?))
+}
+
+/// A scalar in memory. Code with scope gets an empty scope.
+fn scalar_value(alloc: Global, scalar: Scalar<'_>) -> Result<Value, NoMemory>
+    ensures { IfOk result (λ v. own_of (tree_of v) ≡ Some (seen scalar.entry)) }
+{
+    Ok(match scalar {
+        Scalar::MinKey => Value::MinKey,
+        Scalar::Undefined => Value::Undefined,
+        Scalar::Null => Value::Null,
+        Scalar::Int32(number) => Value::Int32(number),
+        Scalar::Int64(number) => Value::Int64(number),
+        Scalar::Text(text) => Value::Text(String::from_str(alloc, text)?),
+        Scalar::Symbol(text) => Value::Symbol(String::from_str(alloc, text)?),
+        Scalar::Binary { subtype, payload } => Value::Binary {
+            subtype,
+            payload: Vec::from_slice(alloc, payload)?,
+        },
+        Scalar::ObjectId(id) => Value::ObjectId(id),
+        Scalar::Bool(truth) => Value::Bool(truth),
+        Scalar::Date(milliseconds) => Value::Date(milliseconds),
+        Scalar::Timestamp { seconds, increment } => Value::Timestamp { seconds, increment },
+        Scalar::Regex { pattern, options } => Value::Regex {
+            pattern: String::from_str(alloc, pattern)?,
+            options: String::from_str(alloc, options)?,
+        },
+        Scalar::DbPointer { space, id } => Value::DbPointer {
+            space: String::from_str(alloc, space)?,
+            id,
+        },
+        Scalar::Code(code) => Value::Code(String::from_str(alloc, code)?),
+        Scalar::CodeScope(code) => {
+            Value::CodeScope(String::from_str(alloc, code)?, Document::new(alloc))
+        }
+        Scalar::MaxKey => Value::MaxKey,
+    })
+}
+
+/// Every value in memory fits: its numbers have the bits of their types, an id has twelve bytes, and its texts and names are
+/// UTF-8.
+///
+/// ```
+/// value_fits(value);
+/// // A proof now has `FitsTypes` and `HasUtf8` of what `value` stands for.
+/// ```
+pub fn value_fits(value: &Value)
+    ensures types { FitsTypes (tree_of value.now) }
+    ensures texts { HasUtf8 (tree_of value.now) }
+{
+    node_fits(Tree::Value(value));
+}
+
+/// Every document in memory fits, as every value does.
+///
+/// ```
+/// document_fits(document);
+/// write_doc(document, &mut text)?; // what a proof says of this text may take the facts as given
+/// ```
+pub fn document_fits(document: &Document)
+    ensures types { FitsTypes (doc (fields_of (pairs document.now))) }
+    ensures texts { HasUtf8 (doc (fields_of (pairs document.now))) }
+{
+    node_fits(Tree::Doc(document));
+}
+
+/// What any node stands for fits, wherever it lies.
+///
+/// ```
+/// node_fits(check_document(bytes)?.value()); // of a view into bytes
+/// ```
+#[cycle(fits)]
+pub fn node_fits<N: Reading>(node: N)
+    ensures types { FitsTypes (N.tree node) }
+    ensures texts { HasUtf8 (N.tree node) }
+{
+    match node.kind() {
+        Kind::Doc | Kind::Array => parts_fit::<N>(node.parts()),
+        _ => {
+            if let Some(own) = node.leaf() {
+                scalar_fits(own);
+            }
+            if let Some(scope) = node.scope() {
+                node_fits(scope);
+            }
+        }
+    }
+}
+
+/// These names and values fit.
+#[cycle(fits)]
+fn parts_fit<N: Reading>(values: N::Rest)
+    ensures types { FieldsFitTypes (fields_of (N.left values)) }
+    ensures texts { FieldsHaveUtf8 (fields_of (N.left values)) }
+{
+    let mut rest = values;
+    while let Some((_, node, after)) = N::next(&rest) {
+        node_fits(node);
+        rest = after;
+    }
+}
+
+/// Every scalar fits.
+fn scalar_fits(scalar: Scalar<'_>)
+    ensures types { OwnFitsType (seen scalar.entry) }
+    ensures texts { OwnHasUtf8 (seen scalar.entry) }
+{
+    match scalar {
+        Scalar::Binary { payload, .. } => bytes_fit(payload),
+        Scalar::ObjectId(id) => id_fits(id),
+        Scalar::DbPointer { id, .. } => id_fits(id),
+        _ => {}
+    }
+}
+
+/// Every slice of bytes holds bytes.
+fn bytes_fit(bytes: &[u8])
+    ensures { AreBytes bytes.now }
+{}
+
+/// Every id is twelve bytes.
+fn id_fits(id: [u8; 12])
+    ensures { IsId id }
+{}

@@ -13,42 +13,28 @@
 //! assert!(rt; matches!(document.first("a"), Some(Value::Int32(1))));
 //! ```
 //!
-//! - `document`: `Document` and `Value`.
-//! - `kind`, `scalar`, `lookup`, `nesting`, `zeros`: what is asked of a value.
-//! - `node`: `Reading` and `Node`, a value wherever it lies; `tree`, one in memory.
+//! - `document`: `Document` and `Value`, what is asked of them, how deep they nest, copies of any value in memory, and what the
+//!   types of a value in hand promise.
+//! - `node`: `Reading` and `Node`, a value wherever it lies, with its `Kind` and `Scalar`; `Tree`, one in memory.
 //! - `order`: the comparison order, of any two readings, and its laws: `specs/Order.antt`.
-//! - `copying`: any of them copied into memory.
 //! - `limits`: the limits of documents, inputs, paths, filters and requests, cited by all that keeps to them.
-//! - `fits`: what the types of a value in hand promise.
 #![tactic(auto)]
 
-mod copying;
 mod document;
-mod fits;
-mod kind;
 mod limits;
-mod lookup;
-mod nesting;
 mod node;
 mod order;
-mod scalar;
-mod tree;
-mod zeros;
 
-pub use copying::{to_document, to_value, try_copy};
-pub use document::{Document, NoMemory, Value};
-pub use fits::{document_fits, node_fits, value_fits};
-pub use kind::Kind;
+pub use document::{
+    Document, NoMemory, Value, depth, depth_of, document_fits, has_zero, node_fits, to_document,
+    to_value, try_copy, value_fits,
+};
 pub use limits::{
     GREATEST_COUNT, LONGEST_DOCUMENT, LONGEST_INPUT, MOST_BRACKETS, MOST_FILTER_LEVELS,
     MOST_LEVELS, MOST_NAMES, MOST_READS,
 };
-pub use nesting::{depth, depth_of};
-pub use node::{Node, Reading};
+pub use node::{Class, Kind, Node, Reading, Scalar, Tree, TreeParts};
 pub use order::{
-    Class, class, class_of_kind, class_of_node, compare, compare_nodes, equal,
-    equals_have_one_class, numbers_are_one_line, orders_all_values, pairs_compare_in_turn,
+    class, class_of_kind, class_of_node, compare, compare_nodes, equal, equals_have_one_class,
+    numbers_are_one_line, orders_all_values, pairs_compare_in_turn,
 };
-pub use scalar::Scalar;
-pub use tree::{Tree, TreeParts};
-pub use zeros::has_zero;

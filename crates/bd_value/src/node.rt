@@ -1,15 +1,11 @@
-//! The reading of a value, wherever it lies, through calls alone.
+//! The reading of a value, wherever it lies, through calls alone; and of one in memory.
 
 ghost use Rattle.std.specs.Prelude.{◌≡◌, ◌<◌, Some, None, Option, option_map, length, slice_get, List, ℕ, [], ◌∷◌, IfSome, IfNone};
 ghost use Rattle.bd_value.specs.Tree as trees;
-ghost use Rattle.bd_value.specs.Tree.{pairs_in};
-ghost use Rattle.bd_value.specs.Kind.{kind_of};
-ghost use Rattle.bd_value.specs.Lookup.{first_of};
-ghost use Rattle.bd_value.specs.Parts.{elements_in, length_of, scope_of, HoldsParts, AreParts};
-ghost use Rattle.bd_value.specs.OwnPart.{seen, own_of};
+ghost use Rattle.bd_value.specs.Tree.{pairs_in, elements_in, length_of, scope_of, own_of, first_of, HoldsParts, AreParts};
+ghost use Rattle.bd_value.specs.View.{tree_of, pairs, seen, held, parts_held, kind_of};
 
-use crate::kind::Kind;
-use crate::scalar::Scalar;
+use crate::document::{Document, Value};
 
 /// The reading of a value, with no lifetime, so that a function can go down a value by it.
 ///
@@ -88,4 +84,287 @@ pub trait Node<'a>: Reading {
         requires { i < length (pairs_in (Self.tree self)) }
         ensures pair { slice_get (pairs_in (Self.tree self)) i ≡ Some (result.0.now, Self.tree result.1) }
         ensures kept { Self.source result.1 ≡ Self.source self };
+}
+
+/// What a value is, without what it holds: the nineteen kinds, in the order of `Value`.
+///
+/// BSON 1.1, the types of `element`.
+#[derive(Clone, Copy, Debug, PartialEq, Eq)]
+pub enum Kind {
+    MinKey,
+    Undefined,
+    Null,
+    Int32,
+    Int64,
+    Text,
+    Symbol,
+    Doc,
+    Array,
+    Binary,
+    ObjectId,
+    Bool,
+    Date,
+    Timestamp,
+    Regex,
+    DbPointer,
+    Code,
+    CodeScope,
+    MaxKey,
+}
+
+/// What a value holds besides other values. Documents and arrays have none; of code with scope it is the code.
+///
+/// BSON 1.1, the values of `element`.
+#[derive(Clone, Copy)]
+pub enum Scalar<'a> {
+    MinKey,
+    Undefined,
+    Null,
+    Int32(i32),
+    Int64(i64),
+    Text(&'a str),
+    Symbol(&'a str),
+    Binary {
+        subtype: u8,
+        /// Of subtype 02 the bytes after its inner length.
+        payload: &'a [u8],
+    },
+    ObjectId([u8; 12]),
+    Bool(bool),
+    /// Milliseconds since 1970-01-01T00:00:00Z.
+    Date(i64),
+    Timestamp {
+        seconds: u32,
+        increment: u32,
+    },
+    Regex {
+        pattern: &'a str,
+        options: &'a str,
+    },
+    DbPointer {
+        space: &'a str,
+        id: [u8; 12],
+    },
+    Code(&'a str),
+    CodeScope(&'a str),
+    MaxKey,
+}
+
+/// The class of a value, least first: values of different classes compare by it.
+///
+/// MongoDB manual, "Comparison/Sort Order".
+#[derive(Clone, Copy, Debug, PartialEq, Eq, PartialOrd, Ord)]
+pub enum Class {
+    MinKey,
+    Undefined,
+    Null,
+    /// Int32 and Int64.
+    Number,
+    /// Strings and symbols.
+    Text,
+    Doc,
+    Array,
+    Binary,
+    ObjectId,
+    Bool,
+    Date,
+    Timestamp,
+    Regex,
+    DbPointer,
+    Code,
+    CodeScope,
+    MaxKey,
+}
+
+impl Value {
+    /// What it is.
+    pub fn kind(&self) -> Kind
+        ensures { result ≡ kind_of (tree_of self.now) }
+    {
+        match self {
+            Value::MinKey => Kind::MinKey,
+            Value::Undefined => Kind::Undefined,
+            Value::Null => Kind::Null,
+            Value::Int32(_) => Kind::Int32,
+            Value::Int64(_) => Kind::Int64,
+            Value::Text(_) => Kind::Text,
+            Value::Symbol(_) => Kind::Symbol,
+            Value::Doc(_) => Kind::Doc,
+            Value::Array(_) => Kind::Array,
+            Value::Binary { .. } => Kind::Binary,
+            Value::ObjectId(_) => Kind::ObjectId,
+            Value::Bool(_) => Kind::Bool,
+            Value::Date(_) => Kind::Date,
+            Value::Timestamp { .. } => Kind::Timestamp,
+            Value::Regex { .. } => Kind::Regex,
+            Value::DbPointer { .. } => Kind::DbPointer,
+            Value::Code(_) => Kind::Code,
+            Value::CodeScope(_, _) => Kind::CodeScope,
+            Value::MaxKey => Kind::MaxKey,
+        }
+    }
+
+    /// What it holds besides other values: of code with scope the code. Documents and arrays have none.
+    pub fn scalar(&self) -> Option<Scalar<'_>>
+        ensures { option_map seen result ≡ own_of (tree_of self.now) }
+    {
+        Some(match self {
+            Value::MinKey => Scalar::MinKey,
+            Value::Undefined => Scalar::Undefined,
+            Value::Null => Scalar::Null,
+            Value::Int32(number) => Scalar::Int32(*number),
+            Value::Int64(number) => Scalar::Int64(*number),
+            Value::Text(text) => Scalar::Text(text.as_str()),
+            Value::Symbol(text) => Scalar::Symbol(text.as_str()),
+            Value::Doc(_) => return None,
+            Value::Array(_) => return None,
+            Value::Binary { subtype, payload } => Scalar::Binary {
+                subtype: *subtype,
+                payload,
+            },
+            Value::ObjectId(id) => Scalar::ObjectId(*id),
+            Value::Bool(truth) => Scalar::Bool(*truth),
+            Value::Date(milliseconds) => Scalar::Date(*milliseconds),
+            &Value::Timestamp { seconds, increment } => Scalar::Timestamp { seconds, increment },
+            Value::Regex { pattern, options } => Scalar::Regex { pattern, options },
+            Value::DbPointer { space, id } => Scalar::DbPointer { space, id: *id },
+            Value::Code(code) => Scalar::Code(code.as_str()),
+            Value::CodeScope(code, _) => Scalar::CodeScope(code.as_str()),
+            Value::MaxKey => Scalar::MaxKey,
+        })
+    }
+}
+
+/// A value in memory, as a node.
+#[derive(Clone, Copy)]
+pub enum Tree<'a> {
+    Value(&'a Value),
+    Doc(&'a Document),
+}
+
+/// The pairs of a document or the elements of an array in memory, from one on.
+#[derive(Clone, Copy)]
+pub enum TreeParts<'a> {
+    Pairs(&'a [(String, Value)]),
+    Items(&'a [Value]),
+}
+
+/// The value of the first pair of that name.
+fn first_in<'a>(document: &'a Document, name: &str) -> Option<Tree<'a>>
+    ensures { option_map held result ≡ first_of name.now (pairs document.now) }
+{
+    match document.first(name) {
+        Some(value) => Some(Tree::Value(value)),
+        None => None,
+    }
+}
+
+/// The name and the value of the pair at an index.
+fn pair_in<'a>(document: &'a Document, i: usize) -> (&'a str, Tree<'a>)
+    requires { i < length (pairs document.now) }
+    ensures { slice_get (pairs document.now) i ≡ Some (result.0.now, held result.1) }
+{
+    let (name, value) = document.pair(i);
+    (name, Tree::Value(value))
+}
+
+impl<'a> Reading for Tree<'a> {
+    type Rest = TreeParts<'a>;
+
+    ghost tree = { held };
+
+    ghost source = { λ _. [] };
+
+    ghost left = { parts_held };
+
+    ghost rest_source = { λ _. [] };
+
+    fn kind(self) -> Kind {
+        match self {
+            Tree::Doc(_) => Kind::Doc,
+            Tree::Value(value) => value.kind(),
+        }
+    }
+
+    fn leaf(&self) -> Option<Scalar<'_>> {
+        self.scalar()
+    }
+
+    fn scope(self) -> Option<Self> {
+        match self {
+            Tree::Value(Value::CodeScope(_, scope)) => Some(Tree::Doc(scope)),
+            _ => None,
+        }
+    }
+
+    fn len(self) -> usize {
+        match self {
+            Tree::Doc(document) => document.len(),
+            Tree::Value(Value::Doc(document)) => document.len(),
+            Tree::Value(Value::Array(items)) => items.len(),
+            Tree::Value(_) => 0,
+        }
+    }
+
+    fn field(&self, i: usize) -> (&str, Self) {
+        self.pair(i)
+    }
+
+    fn element(self, i: usize) -> Self {
+        match self {
+            Tree::Value(Value::Array(items)) => Tree::Value(&items[i]),
+            _ => unreachable!(),
+        }
+    }
+
+    fn first(self, name: &str) -> Option<Self> {
+        match self {
+            Tree::Doc(document) => first_in(document, name),
+            Tree::Value(Value::Doc(document)) => first_in(document, name),
+            Tree::Value(_) => None,
+        }
+    }
+
+    fn parts(self) -> TreeParts<'a> {
+        match self {
+            Tree::Doc(document) => TreeParts::Pairs(document.as_pairs()),
+            Tree::Value(Value::Doc(document)) => TreeParts::Pairs(document.as_pairs()),
+            Tree::Value(Value::Array(items)) => TreeParts::Items(items),
+            Tree::Value(_) => unreachable!(),
+        }
+    }
+
+    fn next<'r>(rest: &'r TreeParts<'a>) -> Option<(&'r str, Self, TreeParts<'a>)> {
+        match rest {
+            TreeParts::Pairs(pairs) => match pairs.split_first() {
+                Some((pair, after)) => Some((
+                    pair.0.as_str(),
+                    Tree::Value(&pair.1),
+                    TreeParts::Pairs(after),
+                )),
+                None => None,
+            },
+            TreeParts::Items(items) => match items.split_first() {
+                Some((item, after)) => Some(("", Tree::Value(item), TreeParts::Items(after))),
+                None => None,
+            },
+        }
+    }
+}
+
+impl<'a> Node<'a> for Tree<'a> {
+    fn scalar(self) -> Option<Scalar<'a>> {
+        match self {
+            Tree::Doc(_) => None,
+            Tree::Value(value) => value.scalar(),
+        }
+    }
+
+    fn pair(self, i: usize) -> (&'a str, Self) {
+        match self {
+            Tree::Doc(document) => pair_in(document, i),
+            Tree::Value(Value::Doc(document)) => pair_in(document, i),
+            Tree::Value(_) => unreachable!(),
+        }
+    }
 }

@@ -1,28 +1,15 @@
-//! The comparison order of values.
-
-mod classes;
-mod laws;
-mod ranks;
+//! The comparison order of values, and its laws for a proof that calls it.
 
 ghost use Rattle.std.specs.Prelude.{◌≡◌};
-ghost use Rattle.bd_value.specs.Order.{class_cmp, cmp, equal, fields_cmp, items_cmp, pair_cmp};
-ghost use Rattle.bd_value.specs.Order.{rank_cmp, rank_in, same_class_cmp};
-ghost use Rattle.bd_value.specs.Order.Classes.{class_of, class_of_kind};
-ghost use Rattle.bd_value.specs.Kind.{kind_of};
-ghost use Rattle.bd_value.specs.declared.kind.Kind.TheVariants as kinds;
-ghost use Rattle.bd_value.specs.Parts.{values_of, HoldsNoParts};
-ghost use Rattle.bd_value.specs.Tree.{fields_of, items_of};
-ghost use Rattle.bd_value.specs.View.{tree_of};
+ghost use Rattle.bd_value.specs.Order.{class_of, class_of_kind, class_cmp, cmp, equal, fields_cmp, items_cmp, pair_cmp, same_class_cmp};
+ghost use Rattle.bd_value.specs.Order.{rank_cmp, rank_in, rank_view, binary_size, by_bytes, by_number, own_rank};
+ghost use Rattle.bd_value.specs.Order.{EqualsHaveOneClass, NumbersAreOneLine, OrdersAllValues, PairsCompareInTurn, ShorterDocumentsAreLess};
+ghost use Rattle.bd_value.specs.Tree.{fields_of, items_of, values_of, HoldsNoParts};
+ghost use Rattle.bd_value.specs.View.{tree_of, kind_of, seen};
+ghost use Rattle.bd_value.specs.declared.node.Kind.TheVariants as kinds;
 
 use crate::document::Value;
-use crate::kind::Kind;
-use crate::node::Reading;
-use crate::tree::Tree;
-pub use classes::Class;
-pub use laws::{
-    equals_have_one_class, numbers_are_one_line, orders_all_values, pairs_compare_in_turn,
-};
-use ranks::{compare_ranks, rank_of};
+use crate::node::{Class, Kind, Reading, Scalar, Tree};
 use std::cmp::Ordering;
 
 /// The class of a value. It takes no memory.
@@ -47,10 +34,8 @@ pub fn class_of_kind(kind: Kind) -> Class
         Kind::MinKey => Class::MinKey,
         Kind::Undefined => Class::Undefined,
         Kind::Null => Class::Null,
-        Kind::Int32 => Class::Number,
-        Kind::Int64 => Class::Number,
-        Kind::Text => Class::Text,
-        Kind::Symbol => Class::Text,
+        Kind::Int32 | Kind::Int64 => Class::Number,
+        Kind::Text | Kind::Symbol => Class::Text,
         Kind::Doc => Class::Doc,
         Kind::Array => Class::Array,
         Kind::Binary => Class::Binary,
@@ -209,3 +194,115 @@ fn compare_classes<M: Reading, N: Reading>(a: M, b: N) -> Ordering
 {
     (class_of_node(a) as u8).cmp(&(class_of_node(b) as u8))
 }
+
+/// A number, a size, a lesser number, bytes, and more bytes, which are compared in turn. What a class has not is 0 or empty.
+#[derive(Clone, Copy)]
+struct Rank<'a> {
+    number: i64,
+    size: u64,
+    lesser: u32,
+    bytes: &'a [u8],
+    more: &'a [u8],
+}
+
+const NOTHING: &[u8] = &[];
+
+fn by_number<'a>(number: i64) -> Rank<'a>
+    ensures { rank_view result ≡ by_number number }
+{
+    Rank {
+        number,
+        size: 0,
+        lesser: 0,
+        bytes: NOTHING,
+        more: NOTHING,
+    }
+}
+
+fn by_bytes<'a>(bytes: &'a [u8], more: &'a [u8]) -> Rank<'a>
+    ensures { rank_view result ≡ by_bytes bytes.now more.now }
+{
+    Rank {
+        number: 0,
+        size: 0,
+        lesser: 0,
+        bytes,
+        more,
+    }
+}
+
+/// The size of binary data as BSON writes it: subtype 02 has four bytes more.
+fn binary_size(subtype: u8, payload: &[u8]) -> u64
+    ensures { result ≡ binary_size subtype payload.now }
+{
+    let size = payload.len() as u64;
+    if subtype == 2 { size + 4 } else { size }
+}
+
+/// What a scalar is compared by; of code with scope, its code.
+fn rank_of<'a>(scalar: &'a Scalar<'a>) -> Rank<'a>
+    ensures { rank_view result ≡ own_rank (seen scalar.now) }
+{
+    match scalar {
+        Scalar::MinKey | Scalar::Undefined | Scalar::Null | Scalar::MaxKey => by_number(0),
+        Scalar::Int32(number) => by_number(*number as i64),
+        Scalar::Int64(number) | Scalar::Date(number) => by_number(*number),
+        Scalar::Text(text) | Scalar::Symbol(text) => by_bytes(text.as_bytes(), NOTHING),
+        Scalar::Code(code) | Scalar::CodeScope(code) => by_bytes(code.as_bytes(), NOTHING),
+        Scalar::Binary { subtype, payload } => Rank {
+            number: 0,
+            size: binary_size(*subtype, payload),
+            lesser: *subtype as u32,
+            bytes: payload,
+            more: NOTHING,
+        },
+        Scalar::ObjectId(id) => by_bytes(id, NOTHING),
+        Scalar::Bool(truth) => by_number(*truth as i64),
+        Scalar::Timestamp { seconds, increment } => Rank {
+            number: *seconds as i64,
+            size: 0,
+            lesser: *increment,
+            bytes: NOTHING,
+            more: NOTHING,
+        },
+        Scalar::Regex { pattern, options } => by_bytes(pattern.as_bytes(), options.as_bytes()),
+        Scalar::DbPointer { space, id } => by_bytes(space.as_bytes(), id),
+    }
+}
+
+/// The order of two of one class.
+fn compare_ranks(a: Rank<'_>, b: Rank<'_>) -> Ordering
+    ensures { result ≡ rank_cmp (rank_view a.entry) (rank_view b.entry) }
+{
+    match a.number.cmp(&b.number) {
+        Ordering::Equal => match a.size.cmp(&b.size).then(a.lesser.cmp(&b.lesser)) {
+            Ordering::Equal => match a.bytes.cmp(b.bytes) {
+                Ordering::Equal => a.more.cmp(b.more),
+                unequal => unequal,
+            },
+            unequal => unequal,
+        },
+        unequal => unequal,
+    }
+}
+
+/// The order is total up to a tie: it goes one way round as the other, and values that are equal stand at one place.
+pub fn orders_all_values()
+    ensures { OrdersAllValues }
+{}
+
+/// Equal values have one class.
+pub fn equals_have_one_class()
+    ensures { EqualsHaveOneClass }
+{}
+
+/// Numbers of 32 and of 64 bits are one line of whole numbers.
+pub fn numbers_are_one_line()
+    ensures { NumbersAreOneLine }
+{}
+
+/// Documents compare pair by pair: the class of the value, then the name, then the value; one with no further pair is less.
+pub fn pairs_compare_in_turn()
+    ensures turns { PairsCompareInTurn }
+    ensures shorter { ShorterDocumentsAreLess }
+{}

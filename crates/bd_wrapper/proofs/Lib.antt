@@ -1,2 +1,2 @@
-pub mod MemberLemmas
-pub mod WholeLemmas
+pub mod WholeNumberLemmas
+pub mod WrapperLemmas

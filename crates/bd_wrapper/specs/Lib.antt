@@ -1,3 +1,2 @@
-pub mod Progress
-pub mod Whole
-pub mod Wrappers
+pub mod WholeNumber
+pub mod Wrapper

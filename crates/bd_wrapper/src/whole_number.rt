@@ -1,7 +1,7 @@
 //! Whole numbers, as texts write them.
 ghost use Rattle.std.specs.Prelude.{◌≡◌};
 ghost use Rattle.std.specs.Str.{all_ascii_digits};
-ghost use Rattle.bd_wrapper.specs.Whole.{are_digits, begins_digits, unsigned, whole_64, whole_32};
+ghost use Rattle.bd_wrapper.specs.WholeNumber.{are_digits, begins_digits, unsigned, whole_64, whole_32};
 
 /// The text after a minus sign, where there is one.
 fn without_sign(text: &[u8]) -> &[u8]

@@ -1,2 +1,1 @@
-pub mod TreeBytesLemmas
 pub mod WritingLemmas

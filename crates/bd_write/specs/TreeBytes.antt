@@ -1,21 +1,14 @@
 -- The spelling that is written: the names of an array's elements are their places from 0.
 use Rattle.std.specs.Prelude.{◌≡◌, ◌≤◌, ◌<◌, ℕ, suc, List, [], ◌∷◌, ◌++◌, length, decimal, false, if◌then◌else◌}
 use Rattle.std.specs.Int.{w32, w64, cast_unsigned}
-use Rattle.bd_value.specs.Limits.{longest_document, most_levels}
 use Rattle.bd_value.specs.Tree as trees
 use Rattle.bd_value.specs.Tree.{Scalar, Tree, leaf, doc, array, code_scope, Items, no_items, item, Fields, no_fields, field, Doc, fields_of}
-use Rattle.bd_value.specs.Depth.{depth}
-use Rattle.bd_value.specs.OwnPart.{Own, own, own_code}
-use Rattle.bd_value.specs.Zeros.{zero_in}
+use Rattle.bd_value.specs.{Limits.longest_document, Limits.most_levels, Tree.depth, Tree.Own, Tree.own, Tree.own_code, Fits.zero_in}
 use Rattle.bd_write.specs.declared.writing.WriteFault.{WriteFault}
 use Rattle.bd_write.specs.declared.writing.WriteFault.TheVariants as faults
 use Rattle.bd_raw.specs.Spelling.{number, long, string, framed, data_of, scoped, element, IsText, IsScalar}
 
 abbrev pub scalar_bytes : Scalar → List ℕ
-scalar_bytes trees.min_key = []
-scalar_bytes trees.undefined = []
-scalar_bytes trees.null = []
-scalar_bytes trees.max_key = []
 scalar_bytes (trees.int32 z) = number (cast_unsigned w32 z)
 scalar_bytes (trees.int64 z) = long (cast_unsigned w64 z)
 scalar_bytes (trees.date z) = long (cast_unsigned w64 z)
@@ -27,8 +20,8 @@ scalar_bytes (trees.symbol s) = string s
 scalar_bytes (trees.code s) = string s
 scalar_bytes (trees.db_pointer s id) = string s ++ id
 scalar_bytes (trees.regex pattern options) = pattern ++ 0 ∷ (options ++ 0 ∷ [])
-scalar_bytes (trees.binary subtype payload) =
-    number (length (data_of subtype payload)) ++ subtype ∷ data_of subtype payload
+scalar_bytes (trees.binary subtype payload) = number (length (data_of subtype payload)) ++ subtype ∷ data_of subtype payload
+scalar_bytes _ = []
 
 abbrev mutual
   pub bytes_of : Tree → List ℕ
@@ -64,7 +57,6 @@ pub record SpellsPlainly (d : Doc) (bytes : List ℕ) : Type 0 where
 
 -- so many bytes are more than a document has, or memory ran out
 abbrev pub OverrunsLimit : ℕ → WriteFault → Type 0
-OverrunsLimit total faults.TooDeep = ⊥
-OverrunsLimit total faults.NulInName = ⊥
 OverrunsLimit total faults.TooLong = longest_document < total
 OverrunsLimit total faults.NoMemory = Unit {0}
+OverrunsLimit total _ = ⊥

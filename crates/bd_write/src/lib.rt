@@ -11,24 +11,14 @@
 //! assert!(rt; bytes.as_slice() == b"\x0c\0\0\0\x10a\0\x01\0\0\0\0".as_slice());
 //! ```
 //!
-//! - `write`: `write_document`.
-//! - `zeros`: zeros where a zero would end a text.
-//! - `writing_values`: values that nest, and the labels of elements.
-//! - `writing_scalars`: scalars.
-//! - `writing`: their parts, and why a document is not written.
-//! - `pieces`: a document written in pieces, each of which is appended whole or not at all.
-//! - `laws`: what is written of a document spells it.
+//! - `write`: `write_document`, a document written in pieces, and the law that what is written of a document spells it.
+//! - `writing`: values, scalars and their parts, and why a document is not written.
 #![tactic(auto)]
 
-mod laws;
-mod pieces;
 mod write;
 mod writing;
-mod writing_scalars;
-mod writing_values;
-mod zeros;
 
-pub use laws::plainly_spells;
-pub use pieces::{append_label, append_value, begin_body, end_body, write_text};
-pub use write::write_document;
+pub use write::{
+    append_label, append_value, begin_body, end_body, plainly_spells, write_document, write_text,
+};
 pub use writing::WriteFault;

@@ -41,27 +41,19 @@ fn refuse(rt: &HostRuntime, fault: &WordsFault, gathering: &Waiting) -> Status {
 
 /// Carries out an order over the input that its file is.
 fn run<F: Read + Drop>(rt: &HostRuntime, order: &Order, reader: F, gathering: &Waiting) -> Status {
+    let alloc = rt.alloc();
     let file = TiedInput { reader, gathering };
-    let Ok(file) = BufReader::with_capacity(rt.alloc(), BUFFER, file) else {
+    let Ok(file) = BufReader::with_capacity(alloc, BUFFER, file) else {
         return refuse(rt, &WordsFault::NoMemory, gathering);
     };
     let mut file = BufferedInput::new(file);
+    let reader = rt.reader();
     // They are read in blocks as it is.
-    let mut commands = SystemInput::new(TiedInput {
-        reader: rt.reader(),
-        gathering,
-    });
+    let mut commands = SystemInput::new(TiedInput { reader, gathering });
     let writer = rt.stderr();
     let mut out = SystemOutput::new(GatheredOutput { gathering });
     let mut err = SystemOutput::new(TiedError { writer, gathering });
-    bd_cli::run(
-        rt.alloc(),
-        order,
-        &mut file,
-        &mut commands,
-        &mut out,
-        &mut err,
-    )
+    bd_cli::run(alloc, order, &mut file, &mut commands, &mut out, &mut err)
 }
 
 /// Tells an error, and of which file. Where standard error fails too, the status tells it alone.

@@ -1,6 +1,5 @@
 use Rattle.std.proofs.Common.{◌≡◌, drop, map}
-use Rattle.bd_bounds.specs.Bounds.{intersection, union}
-use Rattle.bd_bounds.specs.BoundsView.{keys_within}
+use Rattle.bd_bounds.specs.{Bounds.intersection, Bounds.union, BoundsView.keys_within}
 use Rattle.bd_bounds.proofs.bounds.+holding.Given as goal
 
 -- what is left decides

@@ -1,5 +1,5 @@
 use Rattle.std.proofs.Common.{◌≡◌, drop}
-use Rattle.bd_path.specs.Names.{component_names}
+use Rattle.bd_path.specs.Path.{component_names}
 use Rattle.bd_bounds.specs.Bounds.{rest_after}
 use Rattle.bd_bounds.proofs.filter_bounds.rest_after.Given as goal
 

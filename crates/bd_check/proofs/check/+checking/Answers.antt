@@ -1,21 +1,15 @@
-use Rattle.std.proofs.Common.{◌≡◌, ◌<◌, Ok, length, arith, sym, subst, ◌∙◌}
-use Rattle.std.specs.Prelude.{codes}
-use Rattle.std.proofs.lemmas.Result.{err_from_is_err_and}
-use Rattle.std.proofs.lemmas.List.{nil_from_length}
-use Rattle.std.proofs.lemmas.Bool.{eqb-true}
-use Rattle.std.proofs.lemmas.Bool.Decides.{nat_tests}
-use Rattle.bd_check.specs.ItemFault.{FailsAtItem}
-use Rattle.bd_check.specs.FirstFault.{label, past_element, past_nested}
-use Rattle.bd_check.proofs.AnsweredFaultLemmas.{told_fails, fails_within}
-use Rattle.bd_check.proofs.CheckingLemmas as past
-use Rattle.bd_check.proofs.NoFaultLemmas.{elements_nil}
-use Rattle.bd_check.proofs.check.+checking.Goals as goal
+use Rattle.std.proofs.Common.{◌≡◌, ◌<◌, Ok, length, arith, sym, subst, ◌∙◌, codes}
+use Rattle.std.proofs.lemmas.{Result.err_from_is_err_and, List.nil_from_length, Bool.eqb-true, Bool.Decides.nat_tests}
+use Rattle.bd_check.specs.{Fault.FailsAtItem, FirstFault.label, FirstFault.past_element, FirstFault.past_nested}
 use Rattle.bd_check.proofs.check.+checking.Goals.{elements-in-Some, elements-in-None+in_ok-rest-in-None}
+use Rattle.bd_check.proofs.{CheckingLemmas.told_fails, CheckingLemmas.fails_within, FirstFaultLemmas.elements_nil}
+use Rattle.bd_check.proofs.CheckingLemmas as past
+use Rattle.bd_check.proofs.check.+checking.Goals as goal
 
 pub element-returns-in-Err-clause-gives : goal.element-returns-in-Err-clause-gives
 element-returns-in-Err-clause-gives t c =
-    past.element_fails c.within.result (past_nested c.args.room) c.args.place c.args.e c.args.bytes.now c.in_ok-element_type.element_type
-    c.split_at.result.1.now c.in_ok-name.name.now c.in_ok-name.rest.now c.requires.some c.in_ok-element_type.ensures
+    past.element_fails c.within.result (past_nested c.args.room) c.args.place c.args.e c.args.bytes.now c.in-Some.element_type
+    c.split_at.result.1.now c.in_ok-name.name.now c.in_ok-name.rest.now c.requires.some (sym c.in-Some.ensures)
     (sym c.split_at.ensures.back) c.in_ok-name.ensures.gives
     (fails_within c.in-Err.stop c.within.result (label c.args.place c.in_ok-name.name.now) _ c.within.ensures c.in-Err.ensures.gives)
 
@@ -61,10 +55,10 @@ nested-returns-then-room-eq1-clause-gives t c =
     c.fault_at-then-room-eq1.ensures (past.code_too_deep c.args.holder c.args.room c.args.q c.args.e c.args.bytes.now c.in-CodeScope.is c.if-room-eq1.true)
 
 pub nested-returns-in-Document-clause-gives : goal.nested-returns-in-Document-clause-gives
-nested-returns-in-Document-clause-gives t c = rw (past.below c.args.holder c.args.room c.args.q c.args.e c.args.bytes.now (omega arith), c.in-Document.is) c.body.ensures.gives
+nested-returns-in-Document-clause-gives t c = rw (c.in-Document.is, (past.below c.args.room c.args.q c.args.e c.args.bytes.now (omega arith)).0) c.body.ensures.gives
 
 pub nested-returns-in-Array-clause-gives : goal.nested-returns-in-Array-clause-gives
-nested-returns-in-Array-clause-gives t c = rw (past.below c.args.holder c.args.room c.args.q c.args.e c.args.bytes.now (omega arith), c.in-Array.is) c.body-in-Array.ensures.gives
+nested-returns-in-Array-clause-gives t c = rw (c.in-Array.is, (past.below c.args.room c.args.q c.args.e c.args.bytes.now (omega arith)).1) c.body-in-Array.ensures.gives
 
 pub nested-returns-else-room-eq1-clause-gives : goal.nested-returns-else-room-eq1-clause-gives
 nested-returns-else-room-eq1-clause-gives t c = rw (c.in-CodeScope.is, past.code_below c.args.room c.args.q c.args.e c.args.bytes.now (omega arith)) c.code_scope.ensures.gives

@@ -1,29 +1,25 @@
-use Rattle.std.proofs.Common.{◌≡◌, ◌≤◌, ◌+◌, ◌*◌, length}
-use Rattle.std.specs.Prelude.{IfSome}
+use Rattle.std.proofs.Common.{◌≡◌, ◌≤◌, ◌+◌, ◌*◌, length, IfSome}
 use Rattle.bd_check.specs.FirstFault.{past_elements, past_nested, start}
 use Rattle.bd_check.proofs.FirstFaultLemmas.{IsBytes}
 use Rattle.bd_check.proofs.check.+checking.Given as goal
 
 abbrev pub decreases-body : goal.decreases-body
-decreases-body l = 7 * l.room + 6
+decreases-body l = 6 * l.room + 5
 
 abbrev pub decreases-elements : goal.decreases-elements
-decreases-elements l = 7 * l.room + 5
+decreases-elements l = 6 * l.room + 4
 
 abbrev pub decreases-element : goal.decreases-element
-decreases-element l = 7 * l.room + 4
-
-abbrev pub decreases-typed : goal.decreases-typed
-decreases-typed l = 7 * l.room + 3
+decreases-element l = 6 * l.room + 3
 
 abbrev pub decreases-value : goal.decreases-value
-decreases-value l = 7 * l.room + 2
+decreases-value l = 6 * l.room + 2
 
 abbrev pub decreases-code_scope : goal.decreases-code_scope
-decreases-code_scope l = 7 * l.room + 1
+decreases-code_scope l = 6 * l.room + 1
 
 abbrev pub decreases-nested : goal.decreases-nested
-decreases-nested l = 7 * l.room
+decreases-nested l = 6 * l.room
 
 abbrev pub invariant-elements-loop-rest : goal.invariant-elements-loop-rest
 invariant-elements-loop-rest l = record {

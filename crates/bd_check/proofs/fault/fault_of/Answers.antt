@@ -1,5 +1,4 @@
-use Rattle.std.proofs.Common.{◌≡◌, refl, sym, ap, ◌∙◌, map, List, [], ◌∷◌, ◌++◌, ℕ}
-use Rattle.std.specs.Prelude.{reverse, string_bytes}
+use Rattle.std.proofs.Common.{◌≡◌, refl, sym, ap, ◌∙◌, map, List, [], ◌∷◌, ◌++◌, ℕ, reverse, string_bytes}
 use Rattle.std.proofs.lemmas.List.{map_push, reverse-append}
 use Rattle.bd_check.proofs.fault.fault_of.Goals as goal
 

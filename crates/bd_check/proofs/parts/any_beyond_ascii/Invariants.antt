@@ -1,5 +1,4 @@
-use Rattle.std.proofs.Common.{◌≡◌, take}
-use Rattle.std.specs.Prelude.{nat_lt}
+use Rattle.std.proofs.Common.{◌≡◌, take, nat_lt}
 use Rattle.std.specs.List.{list_any}
 use Rattle.bd_check.proofs.parts.any_beyond_ascii.Given as goal
 

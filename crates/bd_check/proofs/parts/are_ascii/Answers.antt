@@ -1,9 +1,7 @@
-use Rattle.std.proofs.Common.{◌≡◌, ℕ, ◌+◌, ◌-◌, ◌<◌, ◌≤◌, Bool, false, List, length, get_or, take, drop, refl, sym, ap, ◌∙◌, subst, arith, inl, inr}
-use Rattle.std.specs.Prelude.{◌||◌, not, nat_lt, IsAscii, IsTrue}
+use Rattle.std.proofs.Common.{◌≡◌, ℕ, ◌+◌, ◌-◌, ◌<◌, ◌≤◌, Bool, false, List, length, get_or, take, drop, refl, sym, ap, ◌∙◌, subst, arith, inl, inr, ◌||◌, not, nat_lt}
+use Rattle.std.proofs.Common.{IsAscii, IsTrue}
 use Rattle.std.specs.List.{list_any}
-use Rattle.std.proofs.lemmas.Bool.{cases_lt, ltb-false, false_from_ne_true}
-use Rattle.std.proofs.lemmas.List.{get_or-take, get_or-drop, get_or_past}
-use Rattle.std.proofs.lemmas.List.Folds.{list_any_at}
+use Rattle.std.proofs.lemmas.{Bool.cases_lt, Bool.ltb-false, Bool.false_from_ne_true, List.get_or-take, List.get_or-drop, List.get_or_past, List.Folds.list_any_at}
 use Rattle.bd_check.proofs.parts.are_ascii.Goals as goal
 
 abbrev beyond : ℕ → Bool

@@ -1,6 +1,5 @@
 use Rattle.std.proofs.Common.{sym}
-use Rattle.std.proofs.lemmas.Str.{is_utf8-from_IsUtf8, IsUtf8-from_is_utf8, IsUtf8-from_ascii}
-use Rattle.std.proofs.lemmas.Bool.{false_from_ne_true}
+use Rattle.std.proofs.lemmas.{Str.is_utf8-from_IsUtf8, Str.IsUtf8-from_is_utf8, Str.IsUtf8-from_ascii, Bool.false_from_ne_true}
 use Rattle.bd_check.proofs.parts.is_text.Goals as goal
 
 pub returns-then-is_short_ascii : goal.returns-then-is_short_ascii

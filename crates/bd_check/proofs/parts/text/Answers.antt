@@ -1,8 +1,7 @@
 use Rattle.std.proofs.Common.{refl}
-use Rattle.std.proofs.lemmas.Str.{is_utf8-from_IsUtf8, IsUtf8-from_is_utf8, IsUtf8-from_ascii}
+use Rattle.std.proofs.lemmas.{Str.is_utf8-from_IsUtf8, Str.IsUtf8-from_is_utf8, Str.IsUtf8-from_ascii, Bool.false_from_ne_true}
 use Rattle.bd_check.specs.FirstFault.{text_at}
-use Rattle.bd_check.proofs.AnsweredFaultLemmas.{told_fails}
-use Rattle.std.proofs.lemmas.Bool.{false_from_ne_true}
+use Rattle.bd_check.proofs.CheckingLemmas.{told_fails}
 use Rattle.bd_check.proofs.parts.text.Goals as goal
 
 pub returns-in-Ok : goal.returns-in-Ok

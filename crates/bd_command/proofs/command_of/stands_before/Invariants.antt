@@ -1,6 +1,5 @@
 use Rattle.std.proofs.Common.{◌≡◌, drop, take}
-use Rattle.bd_value.specs.Lookup.{first_of}
-use Rattle.bd_value.specs.View.{pairs}
+use Rattle.bd_value.specs.{Tree.first_of, View.pairs}
 use Rattle.bd_command.proofs.command_of.stands_before.Given as goal
 
 -- what is left decides

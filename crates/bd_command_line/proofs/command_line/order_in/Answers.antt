@@ -1,7 +1,6 @@
-use Rattle.std.proofs.Common.{ap, sym, ◌∙◌}
+use Rattle.std.proofs.Common.{ap, sym, ◌∙◌, is_some}
 use Rattle.bd_command_line.specs.CommandLine.{words_of}
 use Rattle.bd_command_line.proofs.LineLemmas.{no_fault, order_read, order_there, refusal_none, refused_as, refused_taken}
-use Rattle.std.specs.Prelude.{is_some}
 use Rattle.std.proofs.lemmas.Result.{IfOk-weaker}
 use Rattle.bd_command_line.proofs.command_line.order_in.Goals as goal
 

@@ -1,4 +1,4 @@
-use Rattle.std.proofs.Common.{◌∙◌, ◌≡◌, ◌+◌, sym, List, ℕ, Bor, drop, map, get_or, length, ◌<◌}
+use Rattle.std.proofs.Common.{ap, ap₂, ◌∙◌, ◌||◌, ◌≡◌, ◌+◌, sym, List, ℕ, Bor, drop, map, get_or, length, ◌<◌}
 use Rattle.std.proofs.lemmas.List.{at_drop_more}
 use Rattle.clap.specs.{Simple.App, Simple.with_subcommand, Walk.Text, Words.app_of}
 use Rattle.bd_command_line.specs.CommandLine.{file_app, with_file_commands}
@@ -16,6 +16,7 @@ pub loop-name-preserved : goal.loop-name-preserved
 loop-name-preserved c = record {
   app =
       added (app_of c.loop-name.with) (app_of c.in_ok-with.with) _ c.args.names.now c.loop-name.name-index _ c.loop-name-test.true
-      c.in_ok-with.ensures.app c.loop-name.invariant.app;
-  local = c.in_ok-with.ensures.local;
+      (c.in_ok-with.ensures.shape c.in_ok-command.ensures.local ∙ ap (λ (a : App). with_subcommand (app_of c.loop-name.with) a.top) c.in_ok-command.ensures.app)
+      c.loop-name.invariant.app;
+  local = c.in_ok-with.ensures.globals ∙ ap₂ (λ a b. a || b) c.loop-name.invariant.local c.in_ok-command.ensures.local;
 }

@@ -1,6 +1,6 @@
 use Rattle.std.proofs.Common.{◌≡◌, count_by, take}
 use Rattle.bd_bson.specs.Collection.{documents}
-use Rattle.bd_filter.specs.FilterView.{filter_tree}
+use Rattle.bd_filter.specs.Filter.{filter_tree}
 use Rattle.bd_sort.specs.Selection.{hits_of}
 use Rattle.bd_cursor.proofs.explaining.count_among.Given as goal
 

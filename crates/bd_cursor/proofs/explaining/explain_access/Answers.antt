@@ -1,12 +1,11 @@
-use Rattle.std.specs.Prelude.{count_by, string_bytes}
+use Rattle.std.specs.{Prelude.count_by, Prelude.string_bytes, List.All}
 use Rattle.std.proofs.Common.{ℕ, ◌≡◌, ◌<◌, List, length, Some, refl, ap, sym, ◌∙◌, subst, arith}
-use Rattle.std.specs.List.{All}
 use Rattle.bd_answer.specs.{Answer.matching, Session.by_index, Session.by_scan, Session.by_walk}
 use Rattle.bd_bson.specs.Collection.{documents}
 use Rattle.bd_path.specs.declared.path.Path.{Path}
-use Rattle.bd_filter.specs.FilterView.{filter_tree}
+use Rattle.bd_filter.specs.Filter.{filter_tree}
 use Rattle.bd_sort.specs.Selection.{selection_of, hits_of}
-use Rattle.bd_cursor.specs.{AccessView.IsAccessOf, AccessView.access_path, Explanation.explained_access}
+use Rattle.bd_cursor.specs.{Access.IsAccessOf, Access.access_path, Explanation.explained_access}
 use Rattle.bd_cursor.proofs.AccessLemmas.{index_source, lent_within, as_many, entries_read, entries_walked, matches_of_all, places_read, told_as}
 use Rattle.bd_cursor.proofs.explaining.explain_access.Goals as goal
 

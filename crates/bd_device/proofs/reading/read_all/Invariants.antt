@@ -1,7 +1,6 @@
 use Rattle.std.proofs.Common.{◌≡◌, length, ◌≤◌}
 use Rattle.std.specs.Io.KnownBytes.{Consumes}
-use Rattle.bd_device.specs.Counts.{after_more}
-use Rattle.bd_device.specs.Devices.{AreReads}
+use Rattle.bd_device.specs.Devices.{after_more, AreReads}
 use Rattle.bd_device.proofs.reading.read_all.Given as goal
 
 abbrev pub invariant-loop : goal.invariant-loop

@@ -1,4 +1,4 @@
-use Rattle.bd_extjson.proofs.WholeTextLemmas.{no_text}
+use Rattle.bd_extjson.proofs.ReadLemmas.{no_text}
 use Rattle.bd_extjson.proofs.read.read_bytes.Goals as goal
 
 pub returns-in-Err-clause-gives : goal.returns-in-Err-clause-gives

@@ -1,7 +1,7 @@
 use Rattle.std.proofs.Common.{Ok, Err, refl}
+use Rattle.bd_files.specs.Output.{read_words, shown_refusal}
 use Rattle.bd_files.proofs.DumpLemmas as runs
 use Rattle.bd_files.proofs.pack.pack.Goals as goal
-use Rattle.bd_files.specs.Transcript.{read_words, shown_refusal}
 
 pub returns-in-Ok-clause-packs : goal.returns-in-Ok-clause-packs
 returns-in-Ok-clause-packs g c =

@@ -1,15 +1,12 @@
 use Rattle.std.proofs.Common.{◌≡◌, map, length, length-append, [], ◌∷◌, Ok, sym, ap, subst, ◌∙◌, ◌+◌, ◌-◌, decimal, true, false}
 use Rattle.std.proofs.lemmas.Result.{err_from_is_err_and}
-use Rattle.bd_value.specs.Parts.{values_of}
-use Rattle.bd_value.specs.Tree.{fields_of, items_of}
-use Rattle.bd_filter.specs.Fault.{ReadsPart, StopsAt, under}
-use Rattle.bd_filter.specs.Filter.{all_of, filters_from, has_document, has_element, negates, operators_from}
-use Rattle.bd_filter.specs.FilterOf.{element_operator, filters_of, member_filter, member_filters, not_operator, operand_filters, operator_of, operators_of}
-use Rattle.bd_filter.specs.FilterOf.{pair_filter, path_operators, read_as}
-use Rattle.bd_filter.specs.FilterView.{filter_tree, operator_tree}
-use Rattle.bd_filter.specs.Word.{word_of}
-use Rattle.bd_filter.proofs.FilterOfLemmas.{all_read, element_is, joined, member_is, negation_is, none_read, one_read, operand_is, operators_are, refused, seen_above, stops_as}
-use Rattle.bd_filter.proofs.FilterViewLemmas.{filter_tree-And, operator_tree-ElemMatch, operator_tree-ElemMatchDocument, operator_tree-Not}
+use Rattle.bd_value.specs.{Tree.values_of, Tree.fields_of, Tree.items_of}
+use Rattle.bd_filter.specs.{Fault.ReadsPart, Word.word_of}
+use Rattle.bd_filter.specs.Filter.{all_of, filters_from, has_document, has_element, negates, operators_from, filter_tree, operator_tree}
+use Rattle.bd_filter.specs.FilterOf.{element_operator, filters_of, member_filter, member_filters, not_operator, operand_filters, operator_of, operators_of, pair_filter}
+use Rattle.bd_filter.specs.FilterOf.{path_operators, read_as, read_at}
+use Rattle.bd_filter.proofs.FilterOfLemmas.{all_read, element_is, joined, member_is, negation_is, none_read, one_read, operand_is, operators_are, refused, stops_as}
+use Rattle.bd_filter.proofs.FilterOfLemmas.{filter_tree-And, operator_tree-ElemMatch, operator_tree-ElemMatchDocument, operator_tree-Not}
 use Rattle.bd_filter.proofs.filter_of.+parse.Goals as goal
 
 pub read_elem_match-returns-in_err-operators : goal.read_elem_match-returns-in_err-operators
@@ -49,10 +46,10 @@ read_filters-returns-in-Err g t c =
     let xs = map filter_tree c.loop-next.filters.items in
     let name = c.in-Some.next.0.now in
     let value = g.N.Reading.tree c.in-Some.next.1 in
-    let part = pair_filter (word_of name) name (operand_filters c.args.room value) (path_operators c.args.room value) in
-    refused xs (under name part) (filters_of c.args.room (fields_of (g.N.Reading.left c.in-Some.next.2))) (filters_of c.args.room (fields_of (g.N.Reading.left c.args.pairs))) c.under.result
+    refused xs name (pair_filter (word_of name) name (operand_filters c.args.room value) (path_operators c.args.room value))
+    (filters_of c.args.room (fields_of (g.N.Reading.left c.in-Some.next.2))) (filters_of c.args.room (fields_of (g.N.Reading.left c.args.pairs))) c.in-Err.stop c.under.result
     (ap (λ ps. joined xs (filters_of c.args.room (fields_of ps))) (sym c.in-Some.ensures.some) ∙ c.loop-next.invariant)
-    (seen_above name c.in-Err.stop c.under.result part c.under.ensures.tells c.under.ensures.starved c.in-Err.ensures)
+    c.under.ensures.tells c.under.ensures.starved c.in-Err.ensures
 
 pub read_member-returns-in_err-filters : goal.read_member-returns-in_err-filters
 read_member-returns-in_err-filters g t c =
@@ -74,11 +71,11 @@ read_members-returns-in-Err g t c =
     let xs = map filter_tree c.loop-next.filters.items in
     let i = length c.loop-next.filters.items in
     let part = member_filter c.args.room (g.N.Reading.tree c.in-Some.next.1) in
-    refused xs (under (decimal i) part) (member_filters c.args.room (i + 1) (items_of (values_of (g.N.Reading.left c.in-Some.next.2))))
-    (member_filters c.args.room 0 (items_of (values_of (g.N.Reading.left c.args.members)))) c.under_index.result
-    (ap (λ ps. joined xs (member_filters c.args.room i (items_of (values_of ps)))) (sym c.in-Some.ensures.some) ∙ c.loop-next.invariant)
-    (subst (λ n. StopsAt c.under_index.result (under (decimal n) part)) (c.len.ensures ∙ c.loop-next.filters.ok.0)
-    (seen_above (decimal c.len.result) c.in-Err.stop c.under_index.result part c.under_index.ensures.tells c.under_index.ensures.starved c.in-Err.ensures))
+    let rest = member_filters c.args.room (i + 1) (items_of (values_of (g.N.Reading.left c.in-Some.next.2))) in
+    refused xs (decimal c.len.result) part rest (member_filters c.args.room 0 (items_of (values_of (g.N.Reading.left c.args.members)))) c.in-Err.stop c.under_index.result
+    (ap (λ n. joined xs (read_at (decimal n) part rest)) (c.len.ensures ∙ c.loop-next.filters.ok.0)
+    ∙ ap (λ ps. joined xs (member_filters c.args.room i (items_of (values_of ps)))) (sym c.in-Some.ensures.some) ∙ c.loop-next.invariant)
+    c.under_index.ensures.tells c.under_index.ensures.starved c.in-Err.ensures
 
 pub read_not-returns-in_err-operators : goal.read_not-returns-in_err-operators
 read_not-returns-in_err-operators g t c =
@@ -107,10 +104,10 @@ read_operators-returns-in-Err g t c =
     let xs = map operator_tree c.loop-next.operators.items in
     let name = c.in-Some.next.0.now in
     let value = g.N.Reading.tree c.in-Some.next.1 in
-    let part = operator_of (word_of name) value (not_operator c.args.room value) (element_operator c.args.room value) in
-    refused xs (under name part) (operators_of c.args.room (fields_of (g.N.Reading.left c.in-Some.next.2))) (operators_of c.args.room (fields_of (g.N.Reading.left c.args.pairs))) c.under.result
+    refused xs name (operator_of (word_of name) value (not_operator c.args.room value) (element_operator c.args.room value))
+    (operators_of c.args.room (fields_of (g.N.Reading.left c.in-Some.next.2))) (operators_of c.args.room (fields_of (g.N.Reading.left c.args.pairs))) c.in-Err.stop c.under.result
     (ap (λ ps. joined xs (operators_of c.args.room (fields_of ps))) (sym c.in-Some.ensures.some) ∙ c.loop-next.invariant)
-    (seen_above name c.in-Err.stop c.under.result part c.under.ensures.tells c.under.ensures.starved c.in-Err.ensures)
+    c.under.ensures.tells c.under.ensures.starved c.in-Err.ensures
 
 pub read_value-returns-then-has_operators : goal.read_value-returns-then-has_operators
 read_value-returns-then-has_operators g t c =

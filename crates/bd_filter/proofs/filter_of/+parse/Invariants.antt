@@ -1,8 +1,6 @@
 use Rattle.std.proofs.Common.{◌≡◌, ◌+◌, ◌*◌, length, map}
-use Rattle.bd_value.specs.Parts.{values_of}
-use Rattle.bd_value.specs.Tree.{fields_of, items_of}
-use Rattle.bd_filter.specs.FilterOf.{filters_of, member_filters, operators_of}
-use Rattle.bd_filter.specs.FilterView.{filter_tree, operator_tree}
+use Rattle.bd_value.specs.{Tree.values_of, Tree.fields_of, Tree.items_of}
+use Rattle.bd_filter.specs.{FilterOf.filters_of, FilterOf.member_filters, FilterOf.operators_of, Filter.filter_tree, Filter.operator_tree}
 use Rattle.bd_filter.proofs.FilterOfLemmas.{joined}
 use Rattle.bd_filter.proofs.filter_of.+parse.Given as goal
 

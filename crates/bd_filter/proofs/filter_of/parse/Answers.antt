@@ -1,13 +1,7 @@
-use Rattle.std.proofs.Common.{◌-◌, Ok, sym, ap, ◌∙◌}
-use Rattle.bd_value.specs.Limits.{most_filter_levels}
-use Rattle.bd_value.specs.NodeTree.{parts_held}
-use Rattle.bd_value.specs.Tree.{fields_of}
-use Rattle.bd_value.specs.View.{pairs}
-use Rattle.bd_filter.specs.Filter.{all_of, filters_from}
-use Rattle.bd_filter.specs.FilterOf.{filter_of, filters_of, read_as}
-use Rattle.bd_filter.proofs.FilterBadLemmas.{bad_as_told}
-use Rattle.bd_filter.proofs.FilterOfLemmas.{answer_is, stops_as, whole_is}
-use Rattle.bd_filter.proofs.FilterViewLemmas.{filter_tree-And}
+use Rattle.std.proofs.Common.{◌-◌, Ok, sym, ap, ◌∙◌, inl, inr}
+use Rattle.bd_value.specs.{Limits.most_filter_levels, View.parts_held, Tree.fields_of, View.pairs}
+use Rattle.bd_filter.specs.{Fault.refusal_of, Filter.all_of, Filter.filters_from, FilterOf.filter_of, FilterOf.filters_of, FilterOf.read_as}
+use Rattle.bd_filter.proofs.{FilterBadLemmas.bad_where_refused, FilterOfLemmas.filter_tree-And, FilterOfLemmas.refused_for, FilterOfLemmas.whole_is}
 use Rattle.bd_filter.proofs.filter_of.parse.Goals as goal
 
 pub returns-in-Ok-clause-filter : goal.returns-in-Ok-clause-filter
@@ -15,13 +9,14 @@ returns-in-Ok-clause-filter c =
     whole_is (pairs c.args.document.now) (parts_held c.parts.result) c.parts.ensures.parts
     ∙ ap (read_as (λ xs. all_of (filters_from xs))) c.in-Ok.ensures ∙ ap (λ x. Ok x) (sym (filter_tree-And c.in-Ok.filters))
 
-pub returns-in-Err-clause-fault : goal.returns-in-Err-clause-fault
-returns-in-Err-clause-fault c =
+pub returns-in-Err-Fault-clause-fault : goal.returns-in-Err-Fault-clause-fault
+returns-in-Err-Fault-clause-fault c =
+    let d = pairs c.args.document.now in
     let ps = parts_held c.parts.result in
-    answer_is c.in-Err.stop (filter_of (pairs c.args.document.now)) c.fault_of.result
-    (stops_as (λ xs. all_of (filters_from xs)) (filters_of (most_filter_levels - 1) (fields_of ps)) (filter_of (pairs c.args.document.now)) c.in-Err.stop
-    (whole_is (pairs c.args.document.now) ps c.parts.ensures.parts) c.in-Err.ensures)
-    c.fault_of.ensures
+    inr (refused_for (λ xs. all_of (filters_from xs)) (filters_of (most_filter_levels - 1) (fields_of ps)) (filter_of d) c.in-Err-Fault.field-0 c.in-Err-Fault.fault
+    (whole_is d ps c.parts.ensures.parts) c.in-Err-Fault.ensures c.in-Err-Fault.field-0-is)
 
-pub returns-in-Err-clause-bad : goal.returns-in-Err-clause-bad
-returns-in-Err-clause-bad c = bad_as_told (pairs c.args.document.now) c.fault_of.result (returns-in-Err-clause-fault c)
+pub returns-in-Err-Fault-clause-bad : goal.returns-in-Err-Fault-clause-bad
+returns-in-Err-Fault-clause-bad c =
+    let d = pairs c.args.document.now in
+    elim (returns-in-Err-Fault-clause-fault c) [ inl starved ↦ inl starved | inr told ↦ inr (bad_where_refused d (refusal_of c.in-Err-Fault.fault) told) ]

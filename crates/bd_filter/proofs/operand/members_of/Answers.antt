@@ -1,10 +1,7 @@
-use Rattle.std.proofs.Common.{◌≡◌, map, length, length-append, [], ◌∷◌, sym, ap, ◌∙◌, subst, decimal, ◌+◌}
-use Rattle.bd_value.specs.Parts.{values_of}
-use Rattle.bd_value.specs.Tree.{items_of}
-use Rattle.bd_value.specs.View.{tree_of}
-use Rattle.bd_filter.specs.FilterOf.{member_value, member_values, members_of}
-use Rattle.bd_filter.specs.Fault.{StopsAt, under}
-use Rattle.bd_filter.proofs.FilterOfLemmas.{all_read, joined, members_start, one_read, refused, seen_above}
+use Rattle.std.proofs.Common.{◌≡◌, map, length, length-append, [], ◌∷◌, sym, ap, ◌∙◌, decimal, ◌+◌, ◌||◌}
+use Rattle.bd_value.specs.{Tree.values_of, Tree.items_of, View.tree_of}
+use Rattle.bd_filter.specs.FilterOf.{has_operators, is_regex, member_values, members_of, read_at, unless_left_out}
+use Rattle.bd_filter.proofs.FilterOfLemmas.{all_read, joined, members_start, one_read, refused}
 use Rattle.bd_filter.proofs.operand.members_of.Goals as goal
 
 pub loop-next-init : goal.loop-next-init
@@ -15,17 +12,20 @@ pub returns-in-Err : goal.returns-in-Err
 returns-in-Err g c =
     let xs = map tree_of c.loop-next.members.items in
     let i = length c.loop-next.members.items in
-    let part = member_value (g.N.Reading.tree c.in-Some.next.1) in
-    refused xs (under (decimal i) part) (member_values (i + 1) (items_of (values_of (g.N.Reading.left c.in-Some.next.2)))) (members_of (g.N.Reading.tree c.args.operand)) c.under_index.result
-    (ap (λ ps. joined xs (member_values i (items_of (values_of ps)))) (sym c.in-Some.ensures.some) ∙ c.loop-next.invariant)
-    (subst (λ n. StopsAt c.under_index.result (under (decimal n) part)) (c.len.ensures ∙ c.loop-next.members.ok.0)
-    (seen_above (decimal c.len.result) c.in-Err.stop c.under_index.result part c.under_index.ensures.tells c.under_index.ensures.starved c.in-Err.ensures))
+    let t = g.N.Reading.tree c.in-Some.next.1 in
+    let part = unless_left_out (is_regex t || has_operators t) t in
+    let rest = member_values (i + 1) (items_of (values_of (g.N.Reading.left c.in-Some.next.2))) in
+    refused xs (decimal c.len.result) part rest (members_of (g.N.Reading.tree c.args.operand)) c.in-Err.stop c.under_index.result
+    (ap (λ n. joined xs (read_at (decimal n) part rest)) (c.len.ensures ∙ c.loop-next.members.ok.0)
+    ∙ ap (λ ps. joined xs (member_values i (items_of (values_of ps)))) (sym c.in-Some.ensures.some) ∙ c.loop-next.invariant)
+    c.under_index.ensures.tells c.under_index.ensures.starved c.in-Err.ensures
 
 pub loop-next-preserved : goal.loop-next-preserved
 loop-next-preserved g c =
     let old = c.loop-next.members.items in
     let i = length old in
-    let part = member_value (g.N.Reading.tree c.in-Some.next.1) in
+    let t = g.N.Reading.tree c.in-Some.next.1 in
+    let part = unless_left_out (is_regex t || has_operators t) t in
     let rest = items_of (values_of (g.N.Reading.left c.in-Some.next.2)) in
     let pushed = c.in_ok-push-in-Ok.ensures.items in
     let longer : length c.push.new.self.items ≡ i + 1 = ap (λ xs. length xs) pushed ∙ length-append old (c.in-Ok.value ∷ []) in

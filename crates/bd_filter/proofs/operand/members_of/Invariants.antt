@@ -1,7 +1,5 @@
 use Rattle.std.proofs.Common.{◌≡◌, map, length}
-use Rattle.bd_value.specs.Parts.{values_of}
-use Rattle.bd_value.specs.Tree.{items_of}
-use Rattle.bd_value.specs.View.{tree_of}
+use Rattle.bd_value.specs.{Tree.values_of, Tree.items_of, View.tree_of}
 use Rattle.bd_filter.specs.FilterOf.{member_values, members_of}
 use Rattle.bd_filter.proofs.FilterOfLemmas.{joined}
 use Rattle.bd_filter.proofs.operand.members_of.Given as goal

@@ -1,16 +1,14 @@
-use Rattle.std.proofs.Common.{◌≡◌, ◌∙◌, length, ap, inl, inr}
-use Rattle.bd_answer.specs.Answer.{at_most}
-use Rattle.bd_answer.specs.Session.{GivenBatch}
-use Rattle.bd_bson.specs.Collection.{documents}
+use Rattle.std.proofs.Common.{◌≡◌, ◌∙◌, length, ap}
+use Rattle.bd_answer.specs.{Answer.at_most, Session.GivenBatch}
+use Rattle.bd_bson.specs.{Collection.documents, Collection.documents_at}
 use Rattle.bd_cursor.specs.SessionView.{dump_of, given_batch, state_of}
-use Rattle.bd_files.proofs.TranscriptLemmas.{all_shown}
-use Rattle.bd_find.proofs.FindLemmas as finds
+use Rattle.bd_files.proofs.OutputLemmas.{all_shown, stop_shown}
 use Rattle.bd_find.proofs.BatchLemmas.{batch_given, given_is, taken_inside}
-use Rattle.bd_find.proofs.batch.show_batch.Goals as goal
-use Rattle.bd_bson.specs.Documents.{documents_at}
 use Rattle.bd_find.specs.Find.{shown_batch}
-use Rattle.bd_files.specs.Transcript.{lines}
-use Rattle.bd_device.specs.Devices.{BreaksWithin, TakesFront, TakesText, over}
+use Rattle.bd_files.specs.Output.{StopsWithin, lines}
+use Rattle.bd_device.specs.Devices.{TakesText, over}
+use Rattle.bd_find.proofs.FindLemmas as finds
+use Rattle.bd_find.proofs.batch.show_batch.Goals as goal
 
 pub returns-in_default : goal.returns-in_default
 returns-in_default g c =
@@ -37,18 +35,6 @@ returns-in-Ok-write_documents g c = λ cursor there.
     all_shown (g.O.Output.state c.args.out.now) (g.O.Output.state c.write_documents.new.out) (g.E.Output.state c.args.err.now)
     (g.E.Output.state c.tell_batch.new.err) _ (shown_batch c.args.size ds cursor) wrote (rw (is.places, is.ends, is.token) at c.tell_batch.ensures)
 
-pub returns-in-Err-NoMemory : goal.returns-in-Err-NoMemory
-returns-in-Err-NoMemory g c = λ cursor there.
-    let ds = documents (dump_of c.args.session.now) in
-    let b = given_batch c.in-Ok.batch in
-    let is = batch_given (state_of c.args.session.now) c.args.id c.most_of.result (length ds) c.args.size b c.requires.ready c.most_of.ensures
-    c.requires.fits c.in-Ok.ensures.steps.replies cursor there in
-    let given : c.deref.result.now ≡ at_most c.args.size cursor.left = c.deref.ensures.value ∙ is.places in
-    let stops = rw c.in-Err-NoMemory.field-0-is at c.in-Err-NoMemory.ensures.stops in
-    let front : TakesFront (over g.O.Output.state c.args.out.now c.write_documents.new.out)
-    (lines (documents_at ds (at_most c.args.size cursor.left))) = rw (c.dump.ensures, c.in-Ok.ensures.steps.dump, given) at stops in
-    inr (front, c.tell_no_memory-in-Err-NoMemory.ensures)
-
 pub returns : goal.returns
 returns g c = λ cursor there.
     let ds = documents (dump_of c.args.session.now) in
@@ -56,7 +42,7 @@ returns g c = λ cursor there.
     let is = batch_given (state_of c.args.session.now) c.args.id c.most_of.result (length ds) c.args.size b c.requires.ready c.most_of.ensures
     c.requires.fits c.in-Ok.ensures.steps.replies cursor there in
     let given : c.deref.result.now ≡ at_most c.args.size cursor.left = c.deref.ensures.value ∙ is.places in
-    let stops = rw c.in-Err-Unwritten.field-0-is at c.in-Err-Unwritten.ensures.stops in
-    let broke : BreaksWithin (over g.O.Output.state c.args.out.now c.write_documents.new.out)
-    (lines (documents_at ds (at_most c.args.size cursor.left))) = rw (c.dump.ensures, c.in-Ok.ensures.steps.dump, given) at stops in
-    inl (inr (broke, c.tell_unwritten.ensures))
+    let stops : StopsWithin (over g.O.Output.state c.args.out.now c.write_documents.new.out)
+    (lines (documents_at ds (at_most c.args.size cursor.left))) c.in-Err.fault = rw (c.dump.ensures, c.in-Ok.ensures.steps.dump, given) at c.in-Err.ensures.stops in
+    stop_shown (g.O.Output.state c.args.out.now) (g.O.Output.state c.write_documents.new.out) (g.E.Output.state c.args.err.now)
+    (g.E.Output.state c.tell_stop.new.err) _ (shown_batch c.args.size ds cursor) c.in-Err.fault stops c.tell_stop.ensures

@@ -1,16 +1,14 @@
 use Rattle.std.proofs.Common.{Ok, Err, length, sym, ◌∙◌, subst}
-use Rattle.bd_bson.specs.Collection.{bytes_of, documents}
-use Rattle.bd_bson.specs.declared.collection.Dump.{Dump}
+use Rattle.bd_bson.specs.{Collection.bytes_of, Collection.documents, declared.collection.Dump.Dump}
 use Rattle.bd_sort.specs.Selection.{query_of}
 use Rattle.bd_cursor.specs.SessionView.{state_of}
-use Rattle.bd_find.proofs.FindLemmas as finds
 use Rattle.bd_find.proofs.BatchLemmas.{opened_ready}
-use Rattle.bd_find.proofs.batch.show_found.Goals as goal
-use Rattle.bd_find.specs.Find.{shown_batch}
+use Rattle.bd_find.specs.Find.{shown_batch, IsOpenedOn, IsReady, cursor_for}
 use Rattle.bd_find.specs.Asking.{page_request_of}
-use Rattle.bd_find.specs.Batch.{IsOpenedOn, IsReady, cursor_for}
-use Rattle.bd_files.specs.Outcome.{PrintsOrStarves}
+use Rattle.bd_files.specs.Output.{PrintsOrStarves}
 use Rattle.bd_device.specs.Devices.{over}
+use Rattle.bd_find.proofs.FindLemmas as finds
+use Rattle.bd_find.proofs.batch.show_found.Goals as goal
 
 pub show_batch-requires-clause-ready : goal.show_batch-requires-clause-ready
 show_batch-requires-clause-ready g c =

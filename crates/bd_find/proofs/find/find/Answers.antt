@@ -1,11 +1,11 @@
 use Rattle.std.proofs.Common.{Ok, Err, [], List, ℕ, refl, inl, inr, subst}
-use Rattle.bd_files.proofs.DumpLemmas as runs
-use Rattle.bd_find.proofs.find.find.Goals as goal
 use Rattle.bd_find.specs.Asking.{page_request_of}
-use Rattle.bd_files.specs.Outcome.{TellsMessage}
-use Rattle.bd_files.specs.Transcript.{error_line, read_words, shown_refusal}
-use Rattle.bd_files.specs.declared.status.Status.TheVariants.{Failed}
+use Rattle.bd_files.specs.Output.{TellsMessage, error_line, read_words, shown_refusal}
+use Rattle.bd_files.specs.declared.output.Status.TheVariants.{Failed}
 use Rattle.bd_device.specs.Devices.{no_read, over}
+use Rattle.bd_files.proofs.DumpLemmas as runs
+use Rattle.bd_find.proofs.FindLemmas as finds
+use Rattle.bd_find.proofs.find.find.Goals as goal
 
 pub returns-in-Err-Message-clause-found : goal.returns-in-Err-Message-clause-found
 returns-in-Err-Message-clause-found g c =
@@ -18,8 +18,8 @@ returns-in-Err-Message-clause-found g c =
       shown_refusal message,
       inl (message, none, refl),
       (Err message, none, refl),
-      inl (runs.refused (g.O.Output.state c.args.out.now) (g.E.Output.state c.args.err.now)
-          (g.E.Output.state c.tell_error.new.err) message _ told),
+      finds.refusal_shown (g.O.Output.state c.args.out.now) (g.O.Output.state c.args.out.now) (g.E.Output.state c.args.err.now)
+          (g.E.Output.state c.tell_error.new.err) _ message (inl told),
     )
 
 pub returns-in-Ok-read_input-clause-found : goal.returns-in-Ok-read_input-clause-found

@@ -1,10 +1,9 @@
 use Rattle.std.proofs.Common.{List, None, ap, subst, arith, ℕ}
 use Rattle.bd_bson.specs.Collection.{bytes_of, documents}
-use Rattle.bd_find.proofs.FindLemmas as finds
 use Rattle.bd_find.proofs.BatchLemmas.{five_each}
+use Rattle.bd_find.specs.{Find.IsShownOfBytes, Find.shown_of_dump, Asking.page_request_of}
+use Rattle.bd_find.proofs.FindLemmas as finds
 use Rattle.bd_find.proofs.find.find_in.Goals as goal
-use Rattle.bd_find.specs.Find.{IsShownOfBytes, shown_of_dump}
-use Rattle.bd_find.specs.Asking.{page_request_of}
 
 pub show_found-requires-clause-few : goal.show_found-requires-clause-few
 show_found-requires-clause-few g c =

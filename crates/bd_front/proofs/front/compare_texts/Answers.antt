@@ -1,10 +1,6 @@
 use Rattle.std.proofs.Common.{◌≡◌, ◌∙◌, ap₂, arith, refl, sym, ℕ, List, Bool, true, false, Ordering, IfSome, is_some}
-use Rattle.std.specs.Bool.{then_some}
-use Rattle.std.specs.Cmp.Lexicographic.{slice_cmp}
-use Rattle.std.specs.Ordering.{nat_cmp, ordering_then}
-use Rattle.std.specs.declared.cmp.Ordering.TheVariants.{Equal}
-use Rattle.std.proofs.Math.Dec.{ltb}
-use Rattle.std.proofs.lemmas.Bool.{ltb-true}
+use Rattle.std.specs.{Bool.then_some, Cmp.Lexicographic.slice_cmp, Ordering.nat_cmp, Ordering.ordering_then, declared.cmp.Ordering.TheVariants.Equal}
+use Rattle.std.proofs.{Math.Dec.ltb, lemmas.Bool.ltb-true}
 use Rattle.bd_value.specs.Order.{bytes_cmp}
 use Rattle.bd_front.specs.Front.{front_of_text}
 use Rattle.bd_front.proofs.FrontLemmas.{fronts_told, others_tell, tied_tell}

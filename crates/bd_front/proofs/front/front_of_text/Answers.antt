@@ -1,6 +1,5 @@
 use Rattle.std.proofs.Common.{◌≡◌, ◌++◌, ◌∙◌, ℕ, List, ap, ap₂, min, length, take, drop, arith}
-use Rattle.bd_front.specs.Front.{padded}
-use Rattle.bd_front.specs.declared.front.TextFront.{TextFront}
+use Rattle.bd_front.specs.{Front.padded, declared.front.TextFront.TextFront}
 use Rattle.bd_front.proofs.FrontLemmas.{copied, zeros}
 use Rattle.bd_front.proofs.front.front_of_text.Goals as goal
 

@@ -1,6 +1,6 @@
 use Rattle.std.proofs.Common.{rules, ◌≡◌, Ok, Err, true, false, ap}
-use Rattle.std.proofs.lemmas.{Result.err_from_is_err_and, Bool.cases_Bool, Bool.false_from_ne_true}
-use Rattle.bd_lines.specs.NextLine.{held_after}
+use Rattle.std.proofs.{lemmas.Result.err_from_is_err_and, lemmas.Bool.cases_Bool, lemmas.Bool.false_from_ne_true}
+use Rattle.bd_lines.specs.LineBuffer.{held_after}
 use Rattle.bd_lines.proofs.ServingLemmas as serving
 use Rattle.bd_lines.proofs.serving.serve_lines.Goals as goal
 

@@ -23,7 +23,7 @@ append_fields-loop-next-preserved t c =
     let next = c.after_word-next.result in
     let at = c.in-Some.at.now in
     let turn = pieces.goes_on 123 whole (fields_text (fields_of ps)) (member k (text v)) at rest next (rw c.in-Some.is at l.invariant.2)
-    (pieces.member_read at c.in_ok-name.value.now k v rest read.0 g.1) c.after_word-next.ensures in (
+    (pieces.member_read at c.in_ok-after_word.field-0.now k v rest (rw c.in_ok-after_word.ensures at read.0) g.1) c.after_word-next.ensures in (
       ps ++ (k, v) ∷ [],
       pieces.one_more_canonical_field c.args.room ps k v l.invariant.1 (search rules, read.1, c.may_name_wrapper.ensures c.if-may_name_wrapper.false) g.2,
       rw (pieces.members_end ps k v) turn,
@@ -35,16 +35,14 @@ append_fields-loop-next-preserved t c =
 pub append_fields-end_body-requires : goal.append_fields-end_body-requires
 append_fields-end_body-requires t c =
     let l = c.loop-next in
-    let at = bodies.if_ok c.begin_body.result c.in_ok-start.start _ _ c.in_ok-start.ensures.value c.begin_body.ensures.place in
-    let size = bodies.body_size c.args.out.now.items (fields_bytes (fields_of l.invariant.0)) l.out.items c.in_ok-start.start at l.invariant.5 in
+    let size = bodies.body_size c.begin_body.result c.in_ok-start.start _ c.args.out.now.items (fields_bytes (fields_of l.invariant.0)) l.out.items c.in_ok-start.ensures.value c.begin_body.ensures.place l.invariant.5 in
     search rules
 
 pub append_fields-returns-clause-gives : goal.append_fields-returns-clause-gives
 append_fields-returns-clause-gives t c =
     let l = c.loop-next in
     let ps = l.invariant.0 in
-    let at = bodies.if_ok c.begin_body.result c.in_ok-start.start _ _ c.in_ok-start.ensures.value c.begin_body.ensures.place in
-    let put = bodies.if_ok _ _ _ _ c.in_ok-ok.ensures.value c.end_body.ensures.ok ∙ bodies.ended c.args.out.now.items (fields_bytes (fields_of ps)) l.out.items c.in_ok-start.start at l.invariant.5 in
+    let put = bodies.if_ok _ _ _ _ c.in_ok-ok.ensures.value c.end_body.ensures.ok ∙ bodies.ended c.begin_body.result c.in_ok-start.start _ c.args.out.now.items (fields_bytes (fields_of ps)) l.out.items c.in_ok-start.ensures.value c.begin_body.ensures.place l.invariant.5 in
     IfSome_then c.after_word-2.result c.after_word-2.ensures
     (λ rest e. (ps, pieces.ended_at 123 125 c.args.text.now (fields_text (fields_of ps)) l.rest.now rest.now (rw c.in_default.is at l.invariant.2) e, l.invariant.1, put))
 
@@ -80,24 +78,22 @@ append_items-loop-next-preserved t c =
 pub append_items-end_body-requires : goal.append_items-end_body-requires
 append_items-end_body-requires t c =
     let l = c.loop-next in
-    let at = bodies.if_ok c.begin_body.result c.in_ok-start.start _ _ c.in_ok-start.ensures.value c.begin_body.ensures.place in
-    let size = bodies.body_size c.args.out.now.items (items_bytes 0 (items_of l.invariant.0)) l.out.items c.in_ok-start.start at l.invariant.5 in
+    let size = bodies.body_size c.begin_body.result c.in_ok-start.start _ c.args.out.now.items (items_bytes 0 (items_of l.invariant.0)) l.out.items c.in_ok-start.ensures.value c.begin_body.ensures.place l.invariant.5 in
     search rules
 
 pub append_items-returns : goal.append_items-returns
 append_items-returns t c =
     let l = c.loop-next in
     let ts = l.invariant.0 in
-    let at = bodies.if_ok c.begin_body.result c.in_ok-start.start _ _ c.in_ok-start.ensures.value c.begin_body.ensures.place in
-    let put = bodies.if_ok _ _ _ _ c.in_ok-ok.ensures.value c.end_body.ensures.ok ∙ bodies.ended c.args.out.now.items (items_bytes 0 (items_of ts)) l.out.items c.in_ok-start.start at l.invariant.5 in
+    let put = bodies.if_ok _ _ _ _ c.in_ok-ok.ensures.value c.end_body.ensures.ok ∙ bodies.ended c.begin_body.result c.in_ok-start.start _ c.args.out.now.items (items_bytes 0 (items_of ts)) l.out.items c.in_ok-start.ensures.value c.begin_body.ensures.place l.invariant.5 in
     IfSome_then c.after_word-2.result c.after_word-2.ensures
     (λ rest e. (ts, pieces.ended_at 91 93 c.args.text.now (items_text (items_of ts)) l.rest.now rest.now (rw c.in_default.is at l.invariant.2) e, l.invariant.1, put))
 
 -- ---- append_next
 
-pub append_next-returns-in_ok-ok-in-123-2 : goal.append_next-returns-in_ok-ok-in-123-2
-append_next-returns-in_ok-ok-in-123-2 t c =
-    let label = (bodies.if_ok _ _ _ _ c.in_ok-ok-in-123-2.ensures.value c.append_label.ensures.ok).0 in
+pub append_next-returns-in_ok-ok-in-123-3 : goal.append_next-returns-in_ok-ok-in-123-3
+append_next-returns-in_ok-ok-in-123-3 t c =
+    let label = (bodies.if_ok _ _ _ _ c.in_ok-ok-in-123-3.ensures.value c.append_label.ensures.ok).0 in
     let room = c.args.room in
     IfSome_then c.append_fields.result c.append_fields.ensures.gives
     (λ rest g. (doc (fields_of g.0), g.1, pieces.roomier (suc (room - 1)) room _ (omega arith) (pieces.doc_known (room - 1) g.0 g.2), rw (g.3, label) (simp append_assoc)))

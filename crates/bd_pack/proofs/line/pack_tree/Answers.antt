@@ -1,8 +1,5 @@
 use Rattle.std.proofs.Common.{◌<◌, Err, true≢false, ap, sym, ◌∙◌, arith}
-use Rattle.bd_value.specs.Limits.{most_levels}
-use Rattle.bd_value.specs.Depth.{depth}
-use Rattle.bd_value.specs.Tree.{doc, fields_of}
-use Rattle.bd_value.specs.View.{pairs}
+use Rattle.bd_value.specs.{Limits.most_levels, Tree.depth, Tree.doc, Tree.fields_of, View.pairs}
 use Rattle.bd_pack.proofs.PlainLemmas.{reads_plain}
 use Rattle.bd_pack.proofs.line.pack_tree.Goals as goal
 

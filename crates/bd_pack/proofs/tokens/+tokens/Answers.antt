@@ -2,18 +2,15 @@ use Rattle.std.proofs.Common.{◌≡◌, ◌<◌, ◌≤◌, ◌-◌, ◌+◌, �
 use Rattle.std.proofs.Common.{refl, sym, ap, ◌∙◌, rules, arith, append_assoc, append-nil, length-append}
 use Rattle.std.specs.Prelude.{decimal}
 use Rattle.std.proofs.lemmas.Option.{IfSome_then}
-use Rattle.json.specs.Json.{value, parse_map, after_end_array}
-use Rattle.json.specs.Reads.{token_of}
+use Rattle.json.specs.{Json.value, Json.parse_map, Json.after_end_array, Reads.token_of}
 use Rattle.json.proofs.Grammar.{items_end, read_key-shorter}
 use Rattle.bd_value.specs.Tree as trees
 use Rattle.bd_value.specs.Tree.{Tree, leaf, doc, array, item, field, fields_of, items_of}
 use Rattle.bd_write.specs.TreeBytes.{fields_bytes, items_bytes}
-use Rattle.bd_wrapper.specs.Wrappers.{wrapper_of}
-use Rattle.bd_wrapper.specs.declared.wrapper.Wrapper.{Wrapper}
-use Rattle.bd_extjson.specs.Meaning.{wrap_items, wrap_fields}
-use Rattle.bd_wrapper.specs.Progress.{through, after_key}
-use Rattle.bd_extjson.proofs.StepLemmas as steps
-use Rattle.bd_extjson.proofs.StepLemmas.{items_before, fields_before}
+use Rattle.bd_wrapper.specs.{Wrapper.wrapper_of, declared.wrapper.Wrapper.Wrapper, Wrapper.through, Wrapper.after_key}
+use Rattle.bd_extjson.specs.Read.{wrap_items, wrap_fields}
+use Rattle.bd_extjson.proofs.ReadLemmas as steps
+use Rattle.bd_extjson.proofs.ReadLemmas.{items_before, fields_before}
 use Rattle.bd_pack.proofs.BodyLemmas as bodies
 use Rattle.bd_pack.proofs.tokens.+tokens.Goals as goal
 
@@ -57,19 +54,17 @@ append_fields-loop-next-preserved t c =
 pub append_fields-end_body-requires : goal.append_fields-end_body-requires
 append_fields-end_body-requires t c =
     let l = c.loop-next in
-    let at = bodies.if_ok c.begin_body.result c.in_ok-at.at _ _ c.in_ok-at.ensures.value c.begin_body.ensures.place in
-    let size = bodies.body_size c.args.out.now.items (fields_bytes (fields_of l.invariant.1)) l.out.items c.in_ok-at.at at l.invariant.5 in
+    let size = bodies.body_size c.begin_body.result c.in_ok-at.at _ c.args.out.now.items (fields_bytes (fields_of l.invariant.1)) l.out.items c.in_ok-at.ensures.value c.begin_body.ensures.place l.invariant.5 in
     search rules
 
 pub append_fields-returns-clause-gives : goal.append_fields-returns-clause-gives
 append_fields-returns-clause-gives t c =
     let l = c.loop-next in
     let ps = l.invariant.1 in
-    let at = bodies.if_ok c.begin_body.result c.in_ok-at.at _ _ c.in_ok-at.ensures.value c.begin_body.ensures.place in
     let named = ap (λ k. through (wrap_fields c.args.room) (after_key c.args.depth l.invariant.0 (option_map (λ s. s.now) k) l.reader)) c.in_default.is in
     let read = l.invariant.3 ∙ ap (parse_map (fields_before ps)) named ∙ ap (λ x. Some (x, l.reader)) (steps.fields_before-none ps) in
     bodies.some_ok c.ok-2.result c.end_body.result _ _ c.ok-2.ensures.value c.end_body.ensures.ok
-    (λ e. (fields_of ps, read, e ∙ bodies.ended c.args.out.now.items (fields_bytes (fields_of ps)) l.out.items c.in_ok-at.at at l.invariant.5))
+    (λ e. (fields_of ps, read, e ∙ bodies.ended c.begin_body.result c.in_ok-at.at _ c.args.out.now.items (fields_bytes (fields_of ps)) l.out.items c.in_ok-at.ensures.value c.begin_body.ensures.place l.invariant.5))
 
 -- ---- append_items
 
@@ -103,8 +98,7 @@ append_items-loop-alloc-preserved t c =
 pub append_items-end_body-requires : goal.append_items-end_body-requires
 append_items-end_body-requires t c =
     let l = c.loop-alloc in
-    let at = bodies.if_ok c.begin_body.result c.in_ok-at.at _ _ c.in_ok-at.ensures.value c.begin_body.ensures.place in
-    let size = bodies.body_size c.args.out.now.items (items_bytes 0 (items_of l.invariant.1)) l.out.items c.in_ok-at.at at l.invariant.5 in
+    let size = bodies.body_size c.begin_body.result c.in_ok-at.at _ c.args.out.now.items (items_bytes 0 (items_of l.invariant.1)) l.out.items c.in_ok-at.ensures.value c.begin_body.ensures.place l.invariant.5 in
     search rules
 
 pub append_items-returns-clause-gives : goal.append_items-returns-clause-gives
@@ -112,11 +106,10 @@ append_items-returns-clause-gives t c =
     let l = c.loop-alloc in
     let ts = l.invariant.1 in
     let r = c.take_end_array.new.self in
-    let at = bodies.if_ok c.begin_body.result c.in_ok-at.at _ _ c.in_ok-at.ensures.value c.begin_body.ensures.place in
     let read = l.invariant.3 ∙ ap (λ x. parse_map (items_before ts) (through (wrap_items c.args.room) x))
     (items_end (value c.args.depth) l.invariant.0 l.reader r l.invariant.2 (grind arith)) ∙ ap (λ x. Some (x, r)) (steps.items_before-none ts) in
     bodies.some_ok c.ok-2.result c.end_body.result _ _ c.ok-2.ensures.value c.end_body.ensures.ok
-    (λ e. (items_of ts, read, e ∙ bodies.ended c.args.out.now.items (items_bytes 0 (items_of ts)) l.out.items c.in_ok-at.at at l.invariant.5))
+    (λ e. (items_of ts, read, e ∙ bodies.ended c.begin_body.result c.in_ok-at.at _ c.args.out.now.items (items_bytes 0 (items_of ts)) l.out.items c.in_ok-at.ensures.value c.begin_body.ensures.place l.invariant.5))
 
 -- ---- append_next
 
@@ -152,9 +145,9 @@ append_next-returns-in_ok-ok-in-BeginArray-clause-gives t c =
     IfSome_then c.append_items.result c.append_items.ensures.gives
     (λ u g. (array g.0, rw (first, c.in-BeginArray.is) (opened ∙ ap (parse_map array) g.1), rw (g.2, label.0) (simp append_assoc)))
 
-pub append_next-returns-else-depth-eq0-2-clause-gives :
-    goal.append_next-returns-else-depth-eq0-2-clause-gives
-append_next-returns-else-depth-eq0-2-clause-gives t c =
+pub append_next-returns-in-BeginObject-clause-gives :
+    goal.append_next-returns-in-BeginObject-clause-gives
+append_next-returns-in-BeginObject-clause-gives t c =
     let first : c.args.reader.now ≡ token_of c.in_ok-text.field-0 ∷ c.next.new.self = grind arith in
     let opened = steps.object_read c.args.room c.args.depth c.next.new.self (omega arith) in
     IfSome_then c.append_object.result c.append_object.ensures.gives (λ u g. (g.0, rw (first, c.in-BeginObject.is) (opened ∙ g.1), g.2))

@@ -3,9 +3,9 @@ use Rattle.json.specs.Json.{value, items, parse_map}
 use Rattle.bd_value.specs.Tree.{Tree, Doc, fields_of, items_of}
 use Rattle.bd_raw.specs.Spelling.{number}
 use Rattle.bd_write.specs.TreeBytes.{fields_bytes, items_bytes}
-use Rattle.bd_extjson.specs.Meaning.{wrap_items, wrap_fields}
-use Rattle.bd_wrapper.specs.Progress.{through, after_key}
-use Rattle.bd_extjson.proofs.StepLemmas.{items_before, fields_before}
+use Rattle.bd_extjson.specs.Read.{wrap_items, wrap_fields}
+use Rattle.bd_wrapper.specs.Wrapper.{through, after_key}
+use Rattle.bd_extjson.proofs.ReadLemmas.{items_before, fields_before}
 use Rattle.bd_pack.proofs.tokens.+tokens.Given as goal
 
 abbrev pub decreases-append_fields : goal.decreases-append_fields

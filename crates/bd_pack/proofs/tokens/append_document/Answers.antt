@@ -1,13 +1,10 @@
 use Rattle.std.proofs.Common.{◌-◌, ◌≡◌, ◌∷◌, [], None, length, option_map, option_and_then, sym, ap, ◌∙◌, arith}
-use Rattle.bd_value.specs.Limits.{most_brackets, most_levels}
-use Rattle.json.specs.Json.{value, parse_map}
-use Rattle.json.specs.Reads.{token_of}
-use Rattle.bd_value.specs.Tree.{doc}
-use Rattle.bd_extjson.specs.Meaning.{wrap, wrap_object}
-use Rattle.bd_wrapper.specs.Wrappers.{wrapper_of}
-use Rattle.bd_wrapper.specs.Progress.{through}
-use Rattle.bd_extjson.proofs.StepLemmas as steps
-use Rattle.bd_extjson.proofs.WholeTextLemmas.{whole_text}
+use Rattle.bd_value.specs.{Limits.most_brackets, Limits.most_levels, Tree.doc}
+use Rattle.json.specs.{Json.value, Json.parse_map, Reads.token_of}
+use Rattle.bd_extjson.specs.Read.{wrap, wrap_object}
+use Rattle.bd_wrapper.specs.{Wrapper.wrapper_of, Wrapper.through}
+use Rattle.bd_extjson.proofs.ReadLemmas as steps
+use Rattle.bd_extjson.proofs.ReadLemmas.{whole_text}
 use Rattle.bd_pack.proofs.BodyLemmas as bodies
 use Rattle.bd_pack.proofs.tokens.append_document.Goals as goal
 

@@ -1,9 +1,8 @@
 use Rattle.std.proofs.Common.{Some, length}
 use Rattle.bd_value.specs.View.{tree_of}
-use Rattle.bd_wrapper.specs.Progress.{after_key}
-use Rattle.bd_pack.proofs.BodyLemmas.{gave}
+use Rattle.bd_wrapper.specs.Wrapper.{after_key}
+use Rattle.bd_pack.proofs.{BodyLemmas.gave, PlainLemmas.object_plain}
 use Rattle.std.proofs.lemmas.Option.{IfSome_then}
-use Rattle.bd_pack.proofs.PlainLemmas.{object_plain}
 use Rattle.bd_pack.proofs.tokens.append_wrapped.Goals as goal
 
 pub append_read-requires : goal.append_read-requires

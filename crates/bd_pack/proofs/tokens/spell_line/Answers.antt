@@ -1,10 +1,8 @@
 use Rattle.std.proofs.Common.{◌≡◌, length, option_map, option_and_then, sym, ap, ◌∙◌, arith}
 use Rattle.std.proofs.lemmas.Option.{IfSome_then}
-use Rattle.bd_value.specs.Limits.{most_levels}
-use Rattle.bd_value.specs.Tree.{doc, pairs_of, fields_of, fields_of-pairs_of}
+use Rattle.bd_value.specs.{Limits.most_levels, Tree.doc, Tree.pairs_of, Tree.fields_of, Tree.fields_of-pairs_of}
 use Rattle.bd_write.specs.TreeBytes.{bytes_of}
-use Rattle.bd_extjson.specs.Meaning.{wrap}
-use Rattle.bd_extjson.specs.TextDocument.{document, json}
+use Rattle.bd_extjson.specs.{Read.wrap, Read.document, Read.json}
 use Rattle.bd_pack.proofs.BodyLemmas as bodies
 use Rattle.bd_pack.proofs.tokens.spell_line.Goals as goal
 

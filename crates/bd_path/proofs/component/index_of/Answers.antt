@@ -1,9 +1,7 @@
 use Rattle.std.proofs.Common.{◌≡◌, ℕ, ◌<◌, true, cond, min, List, [], ◌∷◌, length, Some, None, option_map, Result, Ok, Err, refl, sym, ap, ◌∙◌, arith}
-use Rattle.std.specs.Result.{OkIff, result_unwrap_or}
-use Rattle.std.specs.Str.{all_ascii_digits}
-use Rattle.std.specs.Str.Parse.{digits_value}
+use Rattle.std.specs.{Result.OkIff, Result.result_unwrap_or, Str.all_ascii_digits, Str.Parse.digits_value}
 use Rattle.std.proofs.lemmas.Str.Parse.{numerals_by_value, tells_all_ascii_digits, parse_digits}
-use Rattle.bd_path.specs.Component.{is_index}
+use Rattle.bd_path.specs.Reach.{is_index}
 use Rattle.bd_path.proofs.component.index_of.Goals as goal
 
 are_digits : (name : List ℕ) → is_index name ≡ true → all_ascii_digits name ≡ true

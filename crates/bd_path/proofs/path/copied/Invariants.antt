@@ -1,5 +1,5 @@
 use Rattle.std.proofs.Common.{◌≡◌, take}
-use Rattle.bd_path.specs.Names.{component_names}
+use Rattle.bd_path.specs.Path.{component_names}
 use Rattle.bd_path.proofs.path.copied.Given as goal
 
 abbrev pub invariant-loop-component : goal.invariant-loop-component

@@ -1,5 +1,5 @@
 use Rattle.std.proofs.Common.{◌≡◌, map, take}
-use Rattle.bd_path.specs.Names.{component_names}
+use Rattle.bd_path.specs.Path.{component_names}
 use Rattle.bd_path.proofs.path.named.Given as goal
 
 abbrev pub invariant-loop-name : goal.invariant-loop-name

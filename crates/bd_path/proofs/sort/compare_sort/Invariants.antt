@@ -1,6 +1,5 @@
 use Rattle.std.proofs.Common.{◌≡◌, drop}
-use Rattle.bd_path.specs.Earliest.{sort_cmp}
-use Rattle.bd_path.specs.Sort.{sort_paths}
+use Rattle.bd_path.specs.Sort.{sort_cmp, sort_paths}
 use Rattle.bd_path.proofs.sort.compare_sort.Given as goal
 
 -- what is left of the sort decides

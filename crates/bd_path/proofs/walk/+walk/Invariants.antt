@@ -1,27 +1,17 @@
 use Rattle.std.proofs.Common.{◌≡◌, ◌<◌, ◌+◌, ◌*◌, drop, take}
 use Rattle.std.specs.List.{list_any}
-use Rattle.bd_value.specs.Tree.{fields_of, fields_size, items_of, tree_size}
-use Rattle.bd_value.specs.Parts.{values_of, elements_in}
-use Rattle.bd_path.specs.Names.{component_names}
-use Rattle.bd_path.specs.Reach.{each_gathering, is_document}
-use Rattle.bd_path.specs.Stop.{stopping}
-use Rattle.bd_path.specs.Walk.{TakesStops}
+use Rattle.bd_value.specs.{Tree.fields_of, Tree.fields_size, Tree.items_of, Tree.tree_size, Tree.values_of, Tree.elements_in}
+use Rattle.bd_path.specs.{Path.component_names, Reach.each_gathering, Reach.is_document, Walk.stopping, Walk.TakesStops}
 use Rattle.bd_path.proofs.walk.+walk.Given as goal
 
-abbrev pub decreases-walk : goal.decreases-walk
-decreases-walk g l = 3 * tree_size (g.N.Reading.tree l.node) + 2
-
-abbrev pub decreases-walk_field : goal.decreases-walk_field
-decreases-walk_field g l = 3 * tree_size (g.N.Reading.tree l.node)
-
-abbrev pub decreases-walk_array : goal.decreases-walk_array
-decreases-walk_array g l = 3 * tree_size (g.N.Reading.tree l.node) + 1
+abbrev pub decreases-walk_from : goal.decreases-walk_from
+decreases-walk_from g l = 2 * tree_size (g.N.Reading.tree l.node) + 1
 
 abbrev pub decreases-walk_documents : goal.decreases-walk_documents
-decreases-walk_documents g l = 3 * tree_size (g.N.Reading.tree l.node)
+decreases-walk_documents g l = 2 * tree_size (g.N.Reading.tree l.node)
 
 abbrev pub decreases-walk_index : goal.decreases-walk_index
-decreases-walk_index g l = 3 * tree_size (g.N.Reading.tree l.node)
+decreases-walk_index g l = 2 * tree_size (g.N.Reading.tree l.node)
 
 -- the stops of the documents before those that are left were taken in
 abbrev pub invariant-walk_documents-loop-i : goal.invariant-walk_documents-loop-i

@@ -1,50 +1,42 @@
 use Rattle.std.proofs.Common.{◌≡◌, ◌&&◌, List, Some, None, false, drop, map, string_bytes, refl, sym, ap, ◌∙◌, arith, slice_get}
 use Rattle.std.specs.List.{list_any}
-use Rattle.bd_value.specs.Lookup.{first_of}
-use Rattle.bd_value.specs.Parts.{elements_in, values_of}
+use Rattle.bd_value.specs.{Tree.first_of, Tree.elements_in, Tree.values_of}
 use Rattle.bd_value.specs.Tree.{Doc, Tree, fields_of, fields_size, items_of, pairs_in}
 use Rattle.bd_value.proofs.PartsLemmas as parted
-use Rattle.bd_path.specs.Names.{Names, component_names}
-use Rattle.bd_path.specs.PathNames.{names_of}
-use Rattle.bd_path.specs.Component.{held_index}
+use Rattle.bd_path.specs.{Reach.Names, Path.component_names, PathNames.names_of, Reach.held_index, declared.component.Component.Component}
 use Rattle.bd_path.specs.Reach.{document_ends, each_gathering, ends, index_ends, is_document, reach}
-use Rattle.bd_path.specs.declared.component.Component.{Component}
-use Rattle.bd_path.proofs.EndsLemmas as some_end
-use Rattle.bd_path.proofs.PositionsLemmas as at
 use Rattle.bd_path.proofs.ReachLemmas as down
-use Rattle.bd_path.proofs.VisitsLemmas as walked
-use Rattle.bd_query.specs.Body.{is_suited, suits}
-use Rattle.bd_filter.specs.Filter.{filters_from, operators_from}
+use Rattle.bd_path.proofs.WalkLemmas as walked
+use Rattle.bd_query.specs.FilterMatch.{is_suited, suits}
+use Rattle.bd_filter.specs.Filter.{filters_from, operators_from, filter_tree, operator_tree}
 use Rattle.bd_filter.specs.FilterMatch.{all_accept, all_match, any_candidate, holds, is_of_type, is_value}
-use Rattle.bd_filter.specs.FilterView.{filter_tree, operator_tree}
-use Rattle.bd_query.specs.declared.body.Body.TheVariants as bodies
-use Rattle.bd_filter.proofs.FilterViewLemmas.{operator_tree-ElemMatch, operator_tree-ElemMatchDocument, operator_tree-Type}
+use Rattle.bd_filter.proofs.FilterOfLemmas.{operator_tree-ElemMatch, operator_tree-ElemMatchDocument, operator_tree-Type}
 use Rattle.bd_query.proofs.filter_match.+matching.Goals as goal
 use Rattle.bd_query.proofs.filter_match.+matching.Goals.{any_end_suits_in_documents-then-is_document+else-any_end_suits, any_end_suits_in_documents-else-is_document}
 
 pub any_end_suits-returns-then-k-path : goal.any_end_suits-returns-then-k-path
 any_end_suits-returns-then-k-path g t c =
     let n = g.N.Reading.tree c.args.node in
-    let cs = c.args.path.now in
-    some_end.one (is_suited c.args.body.now) (Some n) c.any_suits.result _ c.any_suits.ensures (walked.end_is ends n (component_names cs) c.args.k (c.if-k-path.true ∙ sym (at.as_many cs)))
+    let cs = c.args.walk.now.path.now in
+    down.one (is_suited c.args.walk.now.body.now) (Some n) c.any_suits.result _ c.any_suits.ensures (walked.end_is ends n (component_names cs) c.args.k (c.if-k-path.true ∙ sym (walked.as_many cs)))
 
 pub any_end_suits-returns-then-any_end_suits_in_documents : goal.any_end_suits-returns-then-any_end_suits_in_documents
 any_end_suits-returns-then-any_end_suits_in_documents g t c =
     let n = g.N.Reading.tree c.args.node in
-    let cs = c.args.path.now in
-    let many = at.as_many cs in
-    let m = at.named (component_names cs) c.args.k (omega (arith, many, c.requires.at, c.if-k-path.false)) in
-    some_end.in_first (is_suited c.args.body.now) c.any_end_suits_in_documents.result _ (index_ends n (drop c.args.k (component_names cs))) _
+    let cs = c.args.walk.now.path.now in
+    let many = walked.as_many cs in
+    let m = walked.named (component_names cs) c.args.k (omega (arith, many, c.requires.at, c.if-k-path.false)) in
+    down.in_first (is_suited c.args.walk.now.body.now) c.any_end_suits_in_documents.result _ (index_ends n (drop c.args.k (component_names cs))) _
     c.any_end_suits_in_documents.ensures c.if-any_end_suits_in_documents.true
     (walked.parts_are ends n (component_names cs) c.args.k m.name (sym c.kind.ensures ∙ c.in-Array.is) m.is_there)
 
 pub any_end_suits-returns-else-any_end_suits_in_documents : goal.any_end_suits-returns-else-any_end_suits_in_documents
 any_end_suits-returns-else-any_end_suits_in_documents g t c =
     let n = g.N.Reading.tree c.args.node in
-    let cs = c.args.path.now in
-    let many = at.as_many cs in
-    let m = at.named (component_names cs) c.args.k (omega (arith, many, c.requires.at, c.if-k-path.false)) in
-    some_end.in_second (is_suited c.args.body.now) c.any_end_suits_in_documents.result c.any_end_suits_at_index.result
+    let cs = c.args.walk.now.path.now in
+    let many = walked.as_many cs in
+    let m = walked.named (component_names cs) c.args.k (omega (arith, many, c.requires.at, c.if-k-path.false)) in
+    down.in_second (is_suited c.args.walk.now.body.now) c.any_end_suits_in_documents.result c.any_end_suits_at_index.result
     (document_ends n (drop c.args.k (component_names cs))) (index_ends n (drop c.args.k (component_names cs))) _
     c.any_end_suits_in_documents.ensures c.if-any_end_suits_in_documents.false c.any_end_suits_at_index.ensures
     (walked.parts_are ends n (component_names cs) c.args.k m.name (sym c.kind.ensures ∙ c.in-Array.is) m.is_there)
@@ -52,9 +44,9 @@ any_end_suits-returns-else-any_end_suits_in_documents g t c =
 pub any_end_suits-returns-in_default : goal.any_end_suits-returns-in_default
 any_end_suits-returns-in_default g t c =
     let n = g.N.Reading.tree c.args.node in
-    let cs = c.args.path.now in
-    let many = at.as_many cs in
-    some_end.one (is_suited c.args.body.now) None false _ refl
+    let cs = c.args.walk.now.path.now in
+    let many = walked.as_many cs in
+    down.one (is_suited c.args.walk.now.body.now) None false _ refl
     (walked.other_is ends n (component_names cs) c.args.k (λ e. c.in_default.not-Doc (c.kind.ensures ∙ e))
     (λ e. c.in_default.not-Array (c.kind.ensures ∙ e)) (omega (arith, many, c.requires.at, c.if-k-path.false)))
 
@@ -66,7 +58,7 @@ any_end_suits_in_field-any_end_suits-requires g t c κs within =
     let e : first_of s.now (pairs_in n) ≡ Some u = sym c.in-Some.ensures.first in
     let small = down.first_smaller s.now n u e in
     let d = c.decreases in
-    let f = is_suited c.args.body.now in (
+    let f = is_suited c.args.walk.now.body.now in (
       omega arith,
       (
         within.0,
@@ -76,7 +68,7 @@ any_end_suits_in_field-any_end_suits-requires g t c κs within =
             c.requires.few,
             (
               omega (arith, c.requires.at),
-              walked.field_inside f ends (some_end.keeps_ends f) n c.args.path.now c.args.walked.now c.requires.vain s u c.at_field-inside.result c.requires.kind e c.at_field-inside.ensures,
+              walked.field_inside f ends (down.keeps_ends f) n c.args.walk.now.path.now c.args.walked.now c.requires.vain s u c.at_field-inside.result c.requires.kind e c.at_field-inside.ensures,
             ),
           ),
         ),
@@ -87,22 +79,22 @@ pub any_end_suits_in_field-returns-in-Some : goal.any_end_suits_in_field-returns
 any_end_suits_in_field-returns-in-Some g t c =
     let n = g.N.Reading.tree c.args.node in
     let u = g.N.Reading.tree c.in-Some.value in
-    let cs = c.args.path.now in
+    let cs = c.args.walk.now.path.now in
     let s = c.as_str-name.result in
-    let there : slice_get (component_names cs) c.args.k ≡ Some s.now = at.name_at cs c.args.k c.index-path-k.result c.requires.at c.index-path-k.is
-    ∙ ap (λ (x : Component). at.some_name (string_bytes x.name)) c.index-path-k.is ∙ ap at.some_name (sym c.as_str-name.ensures.value) in
+    let there : slice_get (component_names cs) c.args.k ≡ Some s.now = walked.name_at cs c.args.k c.index-path-k.result c.requires.at c.index-path-k.is
+    ∙ ap (λ (x : Component). walked.some_name (string_bytes x.name)) c.index-path-k.is ∙ ap walked.some_name (sym c.as_str-name.ensures.value) in
     let e : first_of s.now (pairs_in n) ≡ Some u = sym c.in-Some.ensures.first in
-    c.any_end_suits.ensures ∙ ap (list_any (is_suited c.args.body.now)) (sym (walked.field_is ends n (component_names cs) c.args.k s.now u c.requires.kind there e))
+    c.any_end_suits.ensures ∙ ap (list_any (is_suited c.args.walk.now.body.now)) (sym (walked.field_is ends n (component_names cs) c.args.k s.now u c.requires.kind there e))
 
 pub any_end_suits_in_field-returns-in-None : goal.any_end_suits_in_field-returns-in-None
 any_end_suits_in_field-returns-in-None g t c =
     let n = g.N.Reading.tree c.args.node in
-    let cs = c.args.path.now in
+    let cs = c.args.walk.now.path.now in
     let s = c.as_str-name.result in
-    let there : slice_get (component_names cs) c.args.k ≡ Some s.now = at.name_at cs c.args.k c.index-path-k.result c.requires.at c.index-path-k.is
-    ∙ ap (λ (x : Component). at.some_name (string_bytes x.name)) c.index-path-k.is ∙ ap at.some_name (sym c.as_str-name.ensures.value) in
+    let there : slice_get (component_names cs) c.args.k ≡ Some s.now = walked.name_at cs c.args.k c.index-path-k.result c.requires.at c.index-path-k.is
+    ∙ ap (λ (x : Component). walked.some_name (string_bytes x.name)) c.index-path-k.is ∙ ap walked.some_name (sym c.as_str-name.ensures.value) in
     let e : first_of s.now (pairs_in n) ≡ None = sym c.in-None.ensures.first in
-    some_end.one (is_suited c.args.body.now) None false _ refl (walked.lost_is ends n (component_names cs) c.args.k s.now c.requires.kind there e)
+    down.one (is_suited c.args.walk.now.body.now) None false _ refl (walked.lost_is ends n (component_names cs) c.args.k s.now c.requires.kind there e)
 
 pub any_end_suits_in_documents-loop-i-init : goal.any_end_suits_in_documents-loop-i-init
 any_end_suits_in_documents-loop-i-init g t c =
@@ -111,7 +103,7 @@ any_end_suits_in_documents-loop-i-init g t c =
     let parts = down.parts_are n ps c.requires.kind c.parts-left.ensures.parts in
     record {
       left = parts;
-      so_far = ap (λ (es : List Tree). list_any (is_suited c.args.body.now) (each_gathering ends (items_of es) (drop c.args.k (component_names c.args.path.now)))) parts;
+      so_far = ap (λ (es : List Tree). list_any (is_suited c.args.walk.now.body.now) (each_gathering ends (items_of es) (drop c.args.k (component_names c.args.walk.now.path.now)))) parts;
       smaller = parted.parts_smaller n ps c.parts-left.ensures.parts;
     }
 
@@ -121,8 +113,8 @@ any_end_suits_in_documents-any_end_suits-requires g t c κs within =
     let u = g.N.Reading.tree c.in-Some.next.1 in
     let us = values_of (g.N.Reading.left c.in-Some.next.2) in
     let left = sym (ap values_of c.in-Some.ensures.some) ∙ c.loop-i.invariant.left in
-    let here = at.next_is (elements_in n) c.loop-i.i u us left in
-    let f = is_suited c.args.body.now in
+    let here = walked.next_is (elements_in n) c.loop-i.i u us left in
+    let f = is_suited c.args.walk.now.body.now in
     let small = down.element_smaller n c.loop-i.i u here in
     let d = c.decreases in (
       omega arith,
@@ -134,7 +126,7 @@ any_end_suits_in_documents-any_end_suits-requires g t c κs within =
             c.requires.few,
             (
               omega (arith, c.requires.at),
-              walked.document_inside f ends (some_end.keeps_ends f) n c.args.path.now c.args.walked.now c.requires.vain c.requires.kind c.loop-i.i u
+              walked.document_inside f ends (down.keeps_ends f) n c.args.walk.now.path.now c.args.walked.now c.requires.vain c.requires.kind c.loop-i.i u
                   c.at_document-inside.result here (omega (arith, c.loop-i-test.true))
                   (sym c.is_document.ensures ∙ c.if-is_document.true) c.at_document-inside.ensures,
             ),
@@ -146,19 +138,19 @@ any_end_suits_in_documents-any_end_suits-requires g t c κs within =
 pub any_end_suits_in_documents-loop-i-preserved : goal.any_end_suits_in_documents-loop-i-preserved
 any_end_suits_in_documents-loop-i-preserved g t c =
     let n = g.N.Reading.tree c.args.node in
-    let f = is_suited c.args.body.now in
-    let p = drop c.args.k (component_names c.args.path.now) in
+    let f = is_suited c.args.walk.now.body.now in
+    let p = drop c.args.k (component_names c.args.walk.now.path.now) in
     let u = g.N.Reading.tree c.in-Some.next.1 in
     let us = values_of (g.N.Reading.left c.in-Some.next.2) in
     let is = ap values_of c.in-Some.ensures.some in
     let left = sym is ∙ c.loop-i.invariant.left in
     let size = ap (λ (x : Doc). fields_size (fields_of x)) c.in-Some.ensures.some in
     record {
-      left = at.left_after (elements_in n) c.loop-i.i u us left;
+      left = walked.left_after (elements_in n) c.loop-i.i u us left;
       so_far = elim c.if-is_document.branch [
         | any_end_suits_in_documents-then-is_document+else-any_end_suits w ↦
-            some_end.document_passed f p u _ us _ c.loop-i.invariant.so_far is (sym c.is_document.ensures ∙ w.if-is_document.true) (sym w.any_end_suits.ensures ∙ w.if-any_end_suits.false)
-        | any_end_suits_in_documents-else-is_document w ↦ some_end.other_passed f p u _ us _ c.loop-i.invariant.so_far is (sym c.is_document.ensures ∙ w.if-is_document.false)
+            down.document_passed f p u _ us _ c.loop-i.invariant.so_far is (sym c.is_document.ensures ∙ w.if-is_document.true) (sym w.any_end_suits.ensures ∙ w.if-any_end_suits.false)
+        | any_end_suits_in_documents-else-is_document w ↦ down.other_passed f p u _ us _ c.loop-i.invariant.so_far is (sym c.is_document.ensures ∙ w.if-is_document.false)
       ];
       smaller = omega (arith, size, c.loop-i.invariant.smaller);
     }
@@ -167,7 +159,7 @@ pub any_end_suits_at_index-any_end_suits-requires : goal.any_end_suits_at_index-
 any_end_suits_at_index-any_end_suits-requires g t c κs within =
     let n = g.N.Reading.tree c.args.node in
     let u = g.N.Reading.tree c.element-element.result in
-    let f = is_suited c.args.body.now in
+    let f = is_suited c.args.walk.now.body.now in
     let small = down.element_smaller n c.in-Some.i u c.element-element.ensures.element in
     let d = c.decreases in (
       omega arith,
@@ -179,7 +171,7 @@ any_end_suits_at_index-any_end_suits-requires g t c κs within =
             c.requires.few,
             (
               omega (arith, c.requires.at),
-              walked.index_inside f ends (some_end.keeps_ends f) n c.args.path.now c.args.walked.now c.requires.vain c.requires.kind c.args.k
+              walked.index_inside f ends (down.keeps_ends f) n c.args.walk.now.path.now c.args.walked.now c.requires.vain c.requires.kind c.args.k
                   c.in-Some.i u c.at_index-inside.result c.element-element.ensures.element
                   (omega (arith, c.len.type_inv, c.if-i-len.true)) c.is_document.result c.is_document.ensures c.requires.documents c.at_index-inside.ensures,
             ),
@@ -192,38 +184,38 @@ pub any_end_suits_at_index-returns-in-Some : goal.any_end_suits_at_index-returns
 any_end_suits_at_index-returns-in-Some g t c =
     let n = g.N.Reading.tree c.args.node in
     let u = g.N.Reading.tree c.element-element.result in
-    let cs = c.args.path.now in
+    let cs = c.args.walk.now.path.now in
     let names = component_names cs in
     let m = string_bytes c.index-path-k.result.name in
-    let there = at.name_at cs c.args.k c.index-path-k.result c.requires.at c.index-path-k.is in
+    let there = walked.name_at cs c.args.k c.index-path-k.result c.requires.at c.index-path-k.is in
     let held : held_index m ≡ Some c.in-Some.i = walked.index_at cs c.args.k c.index-path-k.result _ _ c.requires.at c.index-path-k.is c.in-Some.is in
     c.any_end_suits.ensures
-    ∙ ap (list_any (is_suited c.args.body.now))
+    ∙ ap (list_any (is_suited c.args.walk.now.body.now))
     (sym (walked.first_is ends n names c.args.k m there ∙ walked.element_at ends (elements_in n) m names c.args.k c.in-Some.i u held
     (omega (arith, c.len.type_inv, c.if-i-len.true)) c.element-element.ensures.element))
 
 pub any_end_suits_at_index-returns-in_default : goal.any_end_suits_at_index-returns-in_default
 any_end_suits_at_index-returns-in_default g t c =
     let n = g.N.Reading.tree c.args.node in
-    let cs = c.args.path.now in
+    let cs = c.args.walk.now.path.now in
     let names = component_names cs in
     let m = string_bytes c.index-path-k.result.name in
-    let there = at.name_at cs c.args.k c.index-path-k.result c.requires.at c.index-path-k.is in
+    let there = walked.name_at cs c.args.k c.index-path-k.result c.requires.at c.index-path-k.is in
     let held : held_index m ≡ Some c.in-Some.i = walked.index_at cs c.args.k c.index-path-k.result _ _ c.requires.at c.index-path-k.is c.in-Some.is in
     let len = down.length_elements n c.requires.kind in
-    sym (ap (list_any (is_suited c.args.body.now))
+    sym (ap (list_any (is_suited c.args.walk.now.body.now))
     (walked.first_is ends n names c.args.k m there
     ∙ walked.none_there ends (elements_in n) m _ c.in-Some.i held (omega (arith, c.if-i-len.false, c.len.ensures, len)) (omega (arith, c.len.type_inv, c.len.ensures, len))))
 
 pub any_end_suits_at_index-returns-in_default-2 : goal.any_end_suits_at_index-returns-in_default-2
 any_end_suits_at_index-returns-in_default-2 g t c =
     let n = g.N.Reading.tree c.args.node in
-    let cs = c.args.path.now in
+    let cs = c.args.walk.now.path.now in
     let names = component_names cs in
     let m = string_bytes c.index-path-k.result.name in
-    let there = at.name_at cs c.args.k c.index-path-k.result c.requires.at c.index-path-k.is in
+    let there = walked.name_at cs c.args.k c.index-path-k.result c.requires.at c.index-path-k.is in
     let held : held_index m ≡ None = walked.index_at cs c.args.k c.index-path-k.result _ _ c.requires.at c.index-path-k.is c.in_default.is in
-    sym (ap (list_any (is_suited c.args.body.now)) (walked.first_is ends n names c.args.k m there ∙ walked.no_index ends (elements_in n) m _ held))
+    sym (ap (list_any (is_suited c.args.walk.now.body.now)) (walked.first_is ends n names c.args.k m there ∙ walked.no_index ends (elements_in n) m _ held))
 
 pub any_suits-loop-next-init : goal.any_suits-loop-next-init
 any_suits-loop-next-init g t c =
@@ -240,20 +232,21 @@ holds-returns-in-Type g t c =
     c.any_of_type.ensures ∙ ap (λ kinds. any_candidate (is_value (is_of_type kinds)) es) c.deref-in-Type.ensures.value
     ∙ sym (ap (λ o. holds o es) (ap operator_tree c.in-Type.is ∙ operator_tree-Type c.in-Type.kinds))
 
+pub reaches_suited-returns : goal.reaches_suited-returns
+reaches_suited-returns g t c =
+    let n = g.N.Reading.tree c.args.node in
+    c.any_end_suits.ensures ∙ ap (λ (x : Names). list_any (is_suited c.args.body.now) (reach n x)) c.components-path.ensures
+
 pub holds-returns-in-ElemMatch : goal.holds-returns-in-ElemMatch
 holds-returns-in-ElemMatch g t c =
-    let n = g.N.Reading.tree c.args.node in
-    let es = reach n (names_of c.args.path.now) in
-    let r = c.deref-in-ElemMatch.result in
-    c.any_end_suits.ensures ∙ ap (λ (x : Names). list_any (is_suited (bodies.Operators r)) (reach n x)) c.components.ensures
+    let es = reach (g.N.Reading.tree c.args.node) (names_of c.args.path.now) in
+    c.reaches_suited.ensures
     ∙ ap (λ os. list_any (is_value (λ t. list_any (all_accept (operators_from (map operator_tree os))) (elements_in t))) es) c.deref-in-ElemMatch.ensures.value
     ∙ sym (ap (λ o. holds o es) (ap operator_tree c.in-ElemMatch.is ∙ operator_tree-ElemMatch c.in-ElemMatch.operators))
 
 pub holds-returns-in-ElemMatchDocument : goal.holds-returns-in-ElemMatchDocument
 holds-returns-in-ElemMatchDocument g t c =
-    let n = g.N.Reading.tree c.args.node in
-    let es = reach n (names_of c.args.path.now) in
-    let r = c.deref-in-ElemMatchDocument.result in
-    c.any_end_suits-in-ElemMatchDocument.ensures ∙ ap (λ (x : Names). list_any (is_suited (bodies.Filters r)) (reach n x)) c.components-in-ElemMatchDocument.ensures
+    let es = reach (g.N.Reading.tree c.args.node) (names_of c.args.path.now) in
+    c.reaches_suited-in-ElemMatchDocument.ensures
     ∙ ap (λ fs. list_any (is_value (λ t. list_any (λ x. is_document x && all_match (filters_from (map filter_tree fs)) x) (elements_in t))) es) c.deref-in-ElemMatchDocument.ensures.value
     ∙ sym (ap (λ o. holds o es) (ap operator_tree c.in-ElemMatchDocument.is ∙ operator_tree-ElemMatchDocument c.in-ElemMatchDocument.filters))

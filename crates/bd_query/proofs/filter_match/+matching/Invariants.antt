@@ -1,56 +1,55 @@
 use Rattle.std.proofs.Common.{◌≡◌, ◌≤◌, ◌<◌, ◌+◌, ◌*◌, drop, length, map}
 use Rattle.std.specs.List.{list_any}
-use Rattle.bd_value.specs.Parts.{elements_in, values_of}
-use Rattle.bd_value.specs.Tree.{fields_of, fields_size, items_of, tree_size}
-use Rattle.bd_path.specs.PathNames.{names_of}
-use Rattle.bd_path.specs.Names.{component_names}
-use Rattle.bd_path.specs.Reach.{each_gathering, ends, reach}
-use Rattle.bd_query.specs.Body.{is_suited, suits}
-use Rattle.bd_filter.specs.Filter.{filters_from, operators_from}
+use Rattle.bd_value.specs.Tree.{elements_in, values_of, fields_of, fields_size, items_of, tree_size}
+use Rattle.bd_path.specs.{PathNames.names_of, Path.component_names, Reach.each_gathering, Reach.ends, Reach.reach}
+use Rattle.bd_query.specs.FilterMatch.{is_suited, suits}
+use Rattle.bd_filter.specs.Filter.{filters_from, operators_from, filter_tree, operator_tree}
 use Rattle.bd_filter.specs.FilterMatch.{all_accept, all_hold, all_match, some_match}
-use Rattle.bd_filter.specs.FilterView.{filter_tree, operator_tree}
 use Rattle.bd_query.proofs.FilterMatchLemmas.{body_size, filter_size, filters_size, operator_size, operators_size}
 use Rattle.bd_query.proofs.filter_match.+matching.Given as goal
 
 -- the filter and the value both count, since one of them gets smaller
 abbrev pub decreases-matches : goal.decreases-matches
-decreases-matches g l = 4 * (filter_size (filter_tree l.filter.now) + tree_size (g.N.Reading.tree l.node))
+decreases-matches g l = 5 * (filter_size (filter_tree l.filter.now) + tree_size (g.N.Reading.tree l.node))
 
 abbrev pub decreases-all_match : goal.decreases-all_match
-decreases-all_match g l = 4 * (filters_size (filters_from (map filter_tree l.filters.now)) + tree_size (g.N.Reading.tree l.node))
+decreases-all_match g l = 5 * (filters_size (filters_from (map filter_tree l.filters.now)) + tree_size (g.N.Reading.tree l.node))
 
 abbrev pub decreases-some_match : goal.decreases-some_match
-decreases-some_match g l = 4 * (filters_size (filters_from (map filter_tree l.filters.now)) + tree_size (g.N.Reading.tree l.node))
+decreases-some_match g l = 5 * (filters_size (filters_from (map filter_tree l.filters.now)) + tree_size (g.N.Reading.tree l.node))
 
 abbrev pub decreases-all_hold : goal.decreases-all_hold
-decreases-all_hold g l = 4 * (operators_size (operators_from (map operator_tree l.operators.now)) + tree_size (g.N.Reading.tree l.node))
+decreases-all_hold g l = 5 * (operators_size (operators_from (map operator_tree l.operators.now)) + tree_size (g.N.Reading.tree l.node))
 
 abbrev pub decreases-holds : goal.decreases-holds
-decreases-holds g l = 4 * (operator_size (operator_tree l.operator.now) + tree_size (g.N.Reading.tree l.node))
+decreases-holds g l = 5 * (operator_size (operator_tree l.operator.now) + tree_size (g.N.Reading.tree l.node))
+
+abbrev pub decreases-reaches_suited : goal.decreases-reaches_suited
+decreases-reaches_suited g l = 5 * (body_size l.body.now + tree_size (g.N.Reading.tree l.node)) + 4
 
 abbrev pub decreases-any_end_suits : goal.decreases-any_end_suits
-decreases-any_end_suits g l = 4 * (body_size l.body.now + tree_size (g.N.Reading.tree l.node)) + 3
+decreases-any_end_suits g l = 5 * (body_size l.walk.now.body.now + tree_size (g.N.Reading.tree l.node)) + 3
 
 abbrev pub decreases-any_end_suits_in_field : goal.decreases-any_end_suits_in_field
-decreases-any_end_suits_in_field g l = 4 * (body_size l.body.now + tree_size (g.N.Reading.tree l.node)) + 2
+decreases-any_end_suits_in_field g l = 5 * (body_size l.walk.now.body.now + tree_size (g.N.Reading.tree l.node)) + 2
 
 abbrev pub decreases-any_end_suits_in_documents : goal.decreases-any_end_suits_in_documents
-decreases-any_end_suits_in_documents g l = 4 * (body_size l.body.now + tree_size (g.N.Reading.tree l.node)) + 2
+decreases-any_end_suits_in_documents g l = 5 * (body_size l.walk.now.body.now + tree_size (g.N.Reading.tree l.node)) + 2
 
 abbrev pub decreases-any_end_suits_at_index : goal.decreases-any_end_suits_at_index
-decreases-any_end_suits_at_index g l = 4 * (body_size l.body.now + tree_size (g.N.Reading.tree l.node)) + 2
+decreases-any_end_suits_at_index g l = 5 * (body_size l.walk.now.body.now + tree_size (g.N.Reading.tree l.node)) + 2
 
 abbrev pub decreases-any_suits : goal.decreases-any_suits
-decreases-any_suits g l = 4 * (body_size l.body.now + tree_size (g.N.Reading.tree l.node)) + 2
+decreases-any_suits g l = 5 * (body_size l.body.now + tree_size (g.N.Reading.tree l.node)) + 2
 
 abbrev pub decreases-suits : goal.decreases-suits
-decreases-suits g l = 4 * (body_size l.body.now + tree_size (g.N.Reading.tree l.element)) + 1
+decreases-suits g l = 5 * (body_size l.body.now + tree_size (g.N.Reading.tree l.element)) + 1
 
 abbrev pub decreases-all_accept : goal.decreases-all_accept
-decreases-all_accept g l = 4 * (operators_size (operators_from (map operator_tree l.operators.now)) + tree_size (g.N.Reading.tree l.element))
+decreases-all_accept g l = 5 * (operators_size (operators_from (map operator_tree l.operators.now)) + tree_size (g.N.Reading.tree l.element))
 
 abbrev pub decreases-accepts : goal.decreases-accepts
-decreases-accepts g l = 4 * (operator_size (operator_tree l.operator.now) + tree_size (g.N.Reading.tree l.element))
+decreases-accepts g l = 5 * (operator_size (operator_tree l.operator.now) + tree_size (g.N.Reading.tree l.element))
 
 -- what is left decides
 abbrev pub invariant-all_match-loop-filter : goal.invariant-all_match-loop-filter
@@ -85,8 +84,8 @@ invariant-all_accept-loop-operator g l = record {
 abbrev pub invariant-any_end_suits_in_documents-loop-i : goal.invariant-any_end_suits_in_documents-loop-i
 invariant-any_end_suits_in_documents-loop-i g l = record {
   left : values_of (g.N.Reading.left l.left) ≡ drop l.i (elements_in (g.N.Reading.tree l.fn.node));
-  so_far : list_any (is_suited l.body) (each_gathering ends (items_of (values_of (g.N.Reading.left l.left))) (drop l.k (component_names l.path)))
-      ≡ list_any (is_suited l.body) (each_gathering ends (items_of (elements_in (g.N.Reading.tree l.fn.node))) (drop l.k (component_names l.path)));
+  so_far : list_any (is_suited l.walk.body.now) (each_gathering ends (items_of (values_of (g.N.Reading.left l.left))) (drop l.k (component_names l.walk.path.now)))
+      ≡ list_any (is_suited l.walk.body.now) (each_gathering ends (items_of (elements_in (g.N.Reading.tree l.fn.node))) (drop l.k (component_names l.walk.path.now)));
   smaller : fields_size (fields_of (g.N.Reading.left l.left)) < tree_size (g.N.Reading.tree l.fn.node);
 }
 

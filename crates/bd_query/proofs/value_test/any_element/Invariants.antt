@@ -1,6 +1,6 @@
 use Rattle.std.proofs.Common.{◌≡◌, length}
 use Rattle.std.specs.List.{list_any}
-use Rattle.bd_value.specs.Parts.{elements_in, values_of}
+use Rattle.bd_value.specs.Tree.{elements_in, values_of}
 use Rattle.bd_query.proofs.value_test.any_element.Given as goal
 
 -- what is left of the array decides

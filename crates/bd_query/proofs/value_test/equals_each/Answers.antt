@@ -1,7 +1,6 @@
 use Rattle.std.proofs.Common.{sym, ◌∙◌}
 use Rattle.std.proofs.lemmas.List.Folds.{list_all-map}
-use Rattle.bd_value.specs.Order.{equal}
-use Rattle.bd_value.specs.View.{tree_of}
+use Rattle.bd_value.specs.{Order.equal, View.tree_of}
 use Rattle.bd_query.proofs.EndTestLemmas.{some_mapped}
 use Rattle.bd_query.proofs.value_test.equals_each.Goals as goal
 

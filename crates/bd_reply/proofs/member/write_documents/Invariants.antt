@@ -1,7 +1,6 @@
 use Rattle.std.proofs.Common.{◌≡◌, ◌++◌, drop}
 use Rattle.std.specs.Io.{StartsWith}
-use Rattle.bd_bson.specs.Collection.{documents}
-use Rattle.bd_bson.specs.Documents.{documents_at}
+use Rattle.bd_bson.specs.{Collection.documents, Collection.documents_at}
 use Rattle.bd_text.specs.Text.{text}
 use Rattle.bd_reply.specs.Reply.{documents_value}
 use Rattle.bd_reply.proofs.MemberLemmas.{rest_of_array}

@@ -1,10 +1,9 @@
 use Rattle.std.proofs.Common.{◌≡◌, ◌++◌, ◌∷◌, map, drop}
-use Rattle.std.specs.Io.{StartsWith}
 use Rattle.std.specs.Prelude.{codes}
+use Rattle.std.specs.Io.{StartsWith}
 use Rattle.bd_value.specs.Tree.{doc, fields_of}
 use Rattle.bd_text.specs.Text.{text}
-use Rattle.bd_reply.specs.MemberView.{member_pair}
-use Rattle.bd_reply.specs.Reply.{boolean_value}
+use Rattle.bd_reply.specs.{ReplyView.member_pair, Reply.boolean_value}
 use Rattle.bd_reply.proofs.MemberLemmas.{rest_of_object}
 use Rattle.bd_reply.proofs.member.write_members.Given as goal
 

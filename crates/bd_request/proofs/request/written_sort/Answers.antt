@@ -1,10 +1,7 @@
 use Rattle.std.proofs.Common.{◌++◌, ap₂, string_bytes}
-use Rattle.bd_value.specs.NodeTree.{held, parts_held}
-use Rattle.bd_value.specs.Tree.{Doc}
-use Rattle.bd_value.specs.View.{pairs, tree_of}
+use Rattle.bd_value.specs.{View.held, View.parts_held, Tree.Doc, View.pairs, View.tree_of}
 use Rattle.bd_request.specs.Request.{sort_written}
-use Rattle.bd_request.proofs.RequestLemmas.{written_on}
-use Rattle.bd_request.proofs.SortLemmas.{parts_are}
+use Rattle.bd_request.proofs.RequestLemmas.{written_on, parts_are}
 use Rattle.bd_request.proofs.request.written_sort.Goals as goal
 
 pub loop-next-init : goal.loop-next-init

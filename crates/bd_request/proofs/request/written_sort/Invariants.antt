@@ -1,6 +1,5 @@
 use Rattle.std.proofs.Common.{◌≡◌, ◌++◌, length}
-use Rattle.bd_value.specs.NodeTree.{parts_held}
-use Rattle.bd_value.specs.View.{pairs}
+use Rattle.bd_value.specs.{View.parts_held, View.pairs}
 use Rattle.bd_request.specs.Request.{sort_written}
 use Rattle.bd_request.proofs.request.written_sort.Given as goal
 

@@ -1,7 +1,6 @@
 use Rattle.std.proofs.Common.{◌≡◌, ◌≤◌, length, rules, arith, ◌∙◌}
 use Rattle.base64.proofs.Decoding.{conservative_ok}
-use Rattle.base64.specs.Decode.{decoded_estimate}
-use Rattle.base64.specs.Engines.{standard}
+use Rattle.base64.specs.{Decode.decoded_estimate, Engines.standard}
 use Rattle.bd_request.proofs.TokenLemmas as tokens
 use Rattle.bd_request.proofs.token.decoded.Goals as goal
 

@@ -1,6 +1,5 @@
 use Rattle.std.proofs.Common.{rules, ap, ◌∙◌, Ok, string_bytes}
-use Rattle.base64.specs.Engines.{standard}
-use Rattle.base64.specs.GeneralPurpose.{encode_of}
+use Rattle.base64.specs.{Engines.standard, GeneralPurpose.encode_of}
 use Rattle.bd_request.proofs.TokenLemmas.{text_back}
 use Rattle.bd_request.specs.declared.token.Token.{Token}
 use Rattle.bd_request.proofs.token.text_of.Goals as goal

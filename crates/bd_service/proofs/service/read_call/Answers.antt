@@ -1,6 +1,6 @@
 use Rattle.std.proofs.lemmas.Result.{err_from_is_err_and}
 use Rattle.bd_value.specs.View.{pairs}
-use Rattle.bd_command.specs.CommandView.{command_tree}
+use Rattle.bd_command.specs.Command.{command_tree}
 use Rattle.bd_service.proofs.CallLemmas.{call_in_line, fault_in_line}
 use Rattle.bd_service.proofs.service.read_call.Goals as goal
 

@@ -1,7 +1,7 @@
 use Rattle.std.proofs.Common.{◌<◌, arith, length}
 use Rattle.std.specs.Option.{option_map}
-use Rattle.bd_sort.specs.Row.{keyed_row}
-use Rattle.bd_sort.proofs.RowLemmas.{next_low, rank_more}
+use Rattle.bd_sort.specs.Ranking.{keyed_row}
+use Rattle.bd_sort.proofs.RankingLemmas.{next_low, rank_more}
 use Rattle.bd_sort.proofs.ranking.ranks_of.Goals as goal
 
 pub loop-row-preserved : goal.loop-row-preserved

@@ -1,9 +1,7 @@
-use Rattle.std.proofs.Common.{rules}
+use Rattle.std.proofs.{Common.rules, lemmas.Fn.always_returns_same}
 use Rattle.std.specs.Ordering.{is_lt}
-use Rattle.std.proofs.lemmas.Fn.{always_returns_same}
-use Rattle.bd_sort.specs.Row.{keyed_row, rows_cmp}
-use Rattle.bd_sort.specs.declared.row.Row.{Row}
-use Rattle.bd_sort.proofs.RowLemmas.{rows_weak}
+use Rattle.bd_sort.specs.{Ranking.keyed_row, Ranking.rows_cmp, declared.ranking.Row.Row}
+use Rattle.bd_sort.proofs.RankingLemmas.{rows_weak}
 use Rattle.bd_sort.proofs.ranking.sort_rows.Goals as goal
 
 pub returns-clause-rises : goal.returns-clause-rises

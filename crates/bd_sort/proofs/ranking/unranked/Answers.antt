@@ -1,6 +1,5 @@
-use Rattle.std.proofs.Common.{◌∙◌, ap, map}
-use Rattle.std.proofs.lemmas.List.{take_all}
-use Rattle.bd_sort.proofs.RowLemmas.{none_ranked, of_rank_0}
+use Rattle.std.proofs.{Common.◌∙◌, Common.ap, Common.map, lemmas.List.take_all}
+use Rattle.bd_sort.proofs.RankingLemmas.{none_ranked, of_rank_0}
 use Rattle.bd_sort.proofs.ranking.unranked.Goals as goal
 
 pub returns-clause-ranked : goal.returns-clause-ranked

@@ -1,5 +1,4 @@
-use Rattle.std.proofs.Common.{◌∷◌, [], ap, sym, ◌∙◌}
-use Rattle.std.proofs.lemmas.Option.{IfSome_then}
+use Rattle.std.proofs.{Common.◌∷◌, Common.[], Common.ap, Common.sym, Common.◌∙◌, lemmas.Option.IfSome_then}
 use Rattle.bd_raw.specs.Sound.{stands}
 use Rattle.bd_front.specs.Front.{kept_key}
 use Rattle.bd_path.specs.PathNames.{names_of}

@@ -1,7 +1,6 @@
 use Rattle.std.proofs.Common.{◌≡◌, false, drop}
 use Rattle.bd_raw.specs.Sound.{stands}
-use Rattle.bd_path.specs.KeyList.{all_keys}
-use Rattle.bd_path.specs.PathNames.{names_of}
+use Rattle.bd_path.specs.{Key.all_keys, PathNames.names_of}
 use Rattle.bd_sort.proofs.sort_key.plain_key.Given as goal
 
 -- the keys of what is left of the path

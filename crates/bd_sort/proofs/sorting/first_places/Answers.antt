@@ -1,16 +1,12 @@
-use Rattle.std.proofs.Common.{◌∙◌, sym}
-use Rattle.std.proofs.lemmas.Bool.{and_parts}
-use Rattle.bd_answer.specs.Answer.{before}
-use Rattle.bd_answer.specs.Source.{passes}
+use Rattle.std.proofs.{lemmas.Result.IfOk-weaker, Common.◌∙◌, Common.sym, lemmas.Bool.and_parts}
+use Rattle.bd_answer.specs.{Answer.before, Source.passes}
 use Rattle.bd_bson.specs.Collection.{documents}
 use Rattle.bd_path.specs.Sort.{sort_paths}
-use Rattle.bd_filter.specs.FilterView.{filter_tree}
-use Rattle.bd_sort.specs.Mark.{mark_place}
-use Rattle.bd_sort.specs.Selection.{hits_of, order_of_keys}
-use Rattle.bd_sort.specs.Sorting.{is_before_mark}
+use Rattle.bd_filter.specs.Filter.{filter_tree}
+use Rattle.bd_sort.specs.{Mark.mark_place, Selection.hits_of, Selection.order_of_keys, Sorting.is_before_mark}
 use Rattle.bd_sort.proofs.SortingLemmas.{IsState, state_cut, state_end, state_left_out, state_none, state_taken}
-use Rattle.bd_sort.proofs.sorting.first_places.Goals as goal
 use Rattle.bd_sort.proofs.sorting.first_places.Goals.{then-len-room+in_ok-end, else-len-room}
+use Rattle.bd_sort.proofs.sorting.first_places.Goals as goal
 
 pub loop-place-init : goal.loop-place-init
 loop-place-init g c = rw c.new-places.ensures.items (state_none (g.met.P.PlaceSource.law c.args.source _ _ c.requires.serves))
@@ -37,5 +33,7 @@ loop-place-preserved g c = state_left_out c.in-Some.ensures (sym c.may_be_first.
 pub returns : goal.returns
 returns g c =
     let r = c.args.request.now in
-    state_end (filter_tree r.filter) r.skip r.limit (mark_place c.args.last.now) (g.met.P.PlaceSource.law c.args.source _ _ c.requires.serves) c.in_default.ensures.0
-    (rw (c.deref-2.ensures.value, c.deref-3.ensures.value) at c.in_ok-first.ensures) c.loop-place.invariant
+    IfOk-weaker c.first_in_order.result _ _
+    (λ v e. state_end (filter_tree r.filter) r.skip r.limit (mark_place c.args.last.now) (g.met.P.PlaceSource.law c.args.source _ _ c.requires.serves) c.in_default.ensures.0
+    (rw (c.deref-2.ensures.value, c.deref-3.ensures.value) at e) c.loop-place.invariant)
+    c.first_in_order.ensures

@@ -1,4 +1,4 @@
-use Rattle.std.proofs.Common.{◌≤◌, ◌∙◌, ap, arith, length, sym, take}
+use Rattle.std.proofs.{Common.◌≤◌, Common.◌∙◌, Common.ap, Common.arith, Common.length, Common.sym, Common.take, lemmas.Result.IfOk-weaker}
 use Rattle.bd_answer.specs.Source.{places_after}
 use Rattle.bd_bson.specs.Collection.{documents}
 use Rattle.bd_sort.specs.Selection.{selection_of}
@@ -15,4 +15,6 @@ pub returns : goal.returns
 returns g c =
     let a = selection_of (documents c.args.dump.now) c.args.request.now in
     let few : length (places_after a c.args.last) ≤ c.len.result = omega (arith, c.len.ensures, places_few a c.args.last) in
-    c.in_ok-places.ensures ∙ ap (λ last. take c.limit_of-limit.result (places_after a last)) c.in_ok-last.ensures.place ∙ c.limit_of-limit.ensures (places_after a c.args.last) few
+    IfOk-weaker c.first_places.result _ _
+    (λ v e. e ∙ ap (λ last. take c.limit_of-limit.result (places_after a last)) c.in_ok-last.ensures.place ∙ c.limit_of-limit.ensures (places_after a c.args.last) few)
+    c.first_places.ensures

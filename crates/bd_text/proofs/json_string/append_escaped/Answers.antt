@@ -3,7 +3,7 @@ use Rattle.std.specs.List.{position}
 use Rattle.std.proofs.lemmas.List.{length-take, length-drop}
 use Rattle.std.proofs.lemmas.List.Quantifiers.{position-Some}
 use Rattle.bd_text.specs.Text.{needs_escape, escaped}
-use Rattle.bd_text.proofs.EscapeLemmas.{run_step, escaped-to_end}
+use Rattle.bd_text.proofs.JsonStringLemmas.{run_step, escaped-to_end}
 use Rattle.bd_text.proofs.RoomLemmas.{cut, front, rises, chained, lent}
 use Rattle.bd_text.proofs.json_string.append_escaped.Goals as goal
 

@@ -1,7 +1,7 @@
 use Rattle.std.proofs.Common.{◌≡◌, ◌++◌, ◌∷◌, [], List, ℕ, length, take, sym, ap, ◌∙◌, arith, append_assoc}
 use Rattle.std.specs.Prelude.{if◌then◌else◌}
 use Rattle.bd_text.specs.Text.{escaped, quoted}
-use Rattle.bd_text.proofs.EscapeLemmas.{escaped-plain}
+use Rattle.bd_text.proofs.JsonStringLemmas.{escaped-plain}
 use Rattle.bd_text.proofs.RoomLemmas.{front, lent_text, when_err}
 use Rattle.bd_text.proofs.json_string.append_name.Goals as goal
 

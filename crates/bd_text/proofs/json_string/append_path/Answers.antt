@@ -2,7 +2,7 @@ use Rattle.std.proofs.Common.{◌+◌, ◌++◌, ◌∷◌, [], List, ℕ, take,
 use Rattle.std.specs.Prelude.{string_bytes}
 use Rattle.std.specs.List.{join_with_byte}
 use Rattle.bd_text.specs.Text.{escaped}
-use Rattle.bd_text.proofs.PieceLemmas.{to_come-all, name_written, drop-map}
+use Rattle.bd_text.proofs.TextLemmas.{to_come-all, name_written, drop-map}
 use Rattle.bd_text.proofs.RoomLemmas.{begun, cut, front, goes_on, still_kept, when_err}
 use Rattle.bd_text.proofs.json_string.append_path.Goals as goal
 

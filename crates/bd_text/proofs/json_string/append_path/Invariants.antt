@@ -2,7 +2,7 @@ use Rattle.std.proofs.Common.{◌≡◌, ◌<◌, ◌≤◌, ◌++◌, ◌∷◌
 use Rattle.std.specs.Prelude.{string_bytes}
 use Rattle.std.specs.List.{join_with_byte}
 use Rattle.bd_text.specs.Text.{escaped}
-use Rattle.bd_text.proofs.PieceLemmas.{to_come}
+use Rattle.bd_text.proofs.TextLemmas.{to_come}
 use Rattle.bd_text.proofs.json_string.append_path.Given as goal
 
 -- what is written, and what is still to come, is the whole

@@ -1,5 +1,5 @@
 use Rattle.std.proofs.Common.{◌≡◌, length, refl, arith}
-use Rattle.bd_text.proofs.EscapeLemmas.{escaped-plain}
+use Rattle.bd_text.proofs.JsonStringLemmas.{escaped-plain}
 use Rattle.bd_text.proofs.RoomLemmas.{lent}
 use Rattle.bd_text.proofs.json_string.append_text.Goals as goal
 

@@ -1,6 +1,6 @@
 use Rattle.std.proofs.Common.{arith, sym}
 use Rattle.bd_text.specs.Text.{needs_escape}
-use Rattle.bd_text.proofs.PlainByteLemmas.{found_after, more}
+use Rattle.bd_text.proofs.JsonStringLemmas.{found_after, more}
 use Rattle.bd_text.proofs.json_string.first_escape.Goals as goal
 
 pub loop-passed-preserved : goal.loop-passed-preserved

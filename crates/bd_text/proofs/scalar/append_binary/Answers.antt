@@ -1,6 +1,6 @@
 use Rattle.std.proofs.Common.{◌≡◌, length, take, ◌∙◌, arith}
 use Rattle.bd_text.proofs.RoomLemmas.{front, chained, lent, when_err}
-use Rattle.bd_text.proofs.EscapeLemmas.{one_byte}
+use Rattle.bd_text.proofs.JsonStringLemmas.{one_byte}
 use Rattle.bd_text.proofs.TextLemmas.{written-binary}
 use Rattle.bd_text.proofs.scalar.append_binary.Goals as goal
 

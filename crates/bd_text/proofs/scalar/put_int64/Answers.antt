@@ -1,7 +1,7 @@
 use Rattle.std.proofs.Common.{take}
 use Rattle.std.specs.Int.{w64}
 use Rattle.std.proofs.lemmas.Int.{to_z-of_z}
-use Rattle.bd_text.proofs.EscapeLemmas.{fits_64}
+use Rattle.bd_text.proofs.JsonStringLemmas.{fits_64}
 use Rattle.bd_text.proofs.TextLemmas.{written-int64}
 use Rattle.bd_text.proofs.scalar.put_int64.Goals as goal
 

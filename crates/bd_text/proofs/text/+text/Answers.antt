@@ -1,10 +1,10 @@
-use Rattle.std.proofs.Common.{rules, ◌++◌, ◌∷◌, [], arith, take, sym, ◌∙◌, append_assoc}
+use Rattle.std.proofs.Common.{rules, ap, Some, option_map, ◌++◌, ◌∷◌, [], arith, take, sym, ◌∙◌, append_assoc}
 use Rattle.std.specs.List.{join_with_byte}
-use Rattle.bd_value.specs.Tree.{doc, array, fields_of, items_of}
-use Rattle.bd_value.specs.Parts.{values_of}
+use Rattle.bd_value.specs.View.{seen}
+use Rattle.bd_value.specs.Tree.{doc, array, text as string, fields_of, items_of, values_of}
 use Rattle.bd_text.specs.Text.{text, scalar_text, fields_text, items_text}
-use Rattle.bd_text.proofs.TextLemmas.{parts_smaller, rest_smaller, scope_smaller, some_scalar, text_of-doc, text_of-array, text_of-scope}
-use Rattle.bd_text.proofs.PieceLemmas.{to_come-all, field_step, item_step}
+use Rattle.bd_text.proofs.TextLemmas.{parts_smaller, rest_smaller, scope_smaller, some_scalar, held_text, text_of-doc, text_of-array, text_of-scope}
+use Rattle.bd_text.proofs.TextLemmas.{to_come-all, field_step, item_step}
 use Rattle.bd_text.proofs.RoomLemmas.{begun, cut, front, chained, goes_on, still_kept, on_err, when_err}
 use Rattle.bd_text.proofs.text.+text.Goals as goal
 
@@ -25,8 +25,7 @@ append_fields-returns-in_err-at-clause-err g t c =
     let i = c.loop-name.invariant in
     when_err _ _ (cut c.args.end c.loop-name.at _ _ i.after c.in_err-at.ensures.err ∙ i.kept)
 
-pub append_fields-returns-in_err-at-2-clause-err :
-    goal.append_fields-returns-in_err-at-2-clause-err
+pub append_fields-returns-in_err-at-2-clause-err : goal.append_fields-returns-in_err-at-2-clause-err
 append_fields-returns-in_err-at-2-clause-err g t c =
     let l = c.loop-name in
     let i = l.invariant in
@@ -131,28 +130,35 @@ append_node-returns-in-Array-clause-ok g t c =
     let e = text_of-array (g.N.Reading.tree c.args.node) (g.N.Reading.left c.parts-in-Array.result) (sym c.kind.ensures ∙ c.in-Array.is) c.parts-in-Array.ensures.parts in
     rw (← e) c.append_items.ensures.ok
 
-pub append_node-returns-in-Text-clause-ok : goal.append_node-returns-in-Text-clause-ok
+pub append_node-returns-in-Some-Text-clause-ok : goal.append_node-returns-in-Some-Text-clause-ok
 unfolding scalar_text
-append_node-returns-in-Text-clause-ok g t c = rw c.text_of.ensures c.append_string.ensures.ok
+append_node-returns-in-Some-Text-clause-ok g t c =
+    let i = c.in-Some-Text in
+    rw (held_text (g.N.Reading.tree c.args.node) (string i.text.now) (ap (option_map seen) (sym (i.is ∙ ap Some i.field-0-is)) ∙ c.leaf.ensures)) c.append_string.ensures.ok
 
 pub append_scope-append_node-requires : goal.append_scope-append_node-requires
 append_scope-append_node-requires g t c κs within =
-    let scope = c.code_scope_of-scope.ensures in
-    let s = scope_smaller (g.N.Reading.tree c.args.node) (g.N.Reading.tree c.code_scope_of-scope.result.1) _ scope.0 scope.1 scope.2 in
+    let s = scope_smaller (g.N.Reading.tree c.args.node) (g.N.Reading.tree c.in-Some.scope) (ap (option_map g.N.Reading.tree) (sym c.in-Some.is) ∙ c.scope.ensures.scope) in
     let e = c.decreases in
-    (omega arith, (within.0, (within.1, c.in_ok-at.ensures.room)))
+    (omega arith, (within.0, (within.1, c.in_ok-at-2.ensures.room)))
 
 pub append_scope-returns-in_err-at-2-clause-err : goal.append_scope-returns-in_err-at-2-clause-err
 append_scope-returns-in_err-at-2-clause-err g t c =
-    when_err _ _ (front c.args.end c.in_ok-at.at c.args.out.now.items _ c.append_node.new.out.items (omega arith) (c.in_err-at-2.ensures.err ∙ c.in_ok-at.ensures.ok))
+    when_err _ _ (front c.args.end c.in_ok-at.at c.args.out.now.items _ c.append_few.new.out.items (omega arith) (c.in_err-at-2.ensures.err ∙ c.in_ok-at.ensures.ok))
+
+pub append_scope-returns-in_err-at-3-clause-err : goal.append_scope-returns-in_err-at-3-clause-err
+append_scope-returns-in_err-at-3-clause-err g t c =
+    let two = chained c.args.end c.in_ok-at.at c.in_ok-at-2.at c.args.out.now.items _ _ _ _ c.in_ok-at.ensures.ok c.in_ok-at-2.ensures.ok in
+    when_err _ _ (front c.args.end c.in_ok-at-2.at c.args.out.now.items _ c.append_node.new.out.items (omega arith) (c.in_err-at-3.ensures.err ∙ two))
 
 pub append_scope-returns-clause-ok : goal.append_scope-returns-clause-ok
 append_scope-returns-clause-ok g t c =
-    let scope = c.code_scope_of-scope.ensures in
-    let parts = text_of-scope (take c.args.end c.args.out.now.items) _ (g.N.Reading.tree c.args.node) (g.N.Reading.tree c.code_scope_of-scope.result.1) scope.0 scope.1 scope.2 in
-    rw (← parts, ← c.in_ok-at.ensures.ok, ← c.in_ok-at-2.ensures.ok) c.append_few.ensures.ok
+    let parts = text_of-scope (take c.args.end c.args.out.now.items) _ (g.N.Reading.tree c.args.node) (g.N.Reading.tree c.in-Some.scope)
+    (ap (option_map seen) (sym (c.in-Some-CodeScope.is ∙ ap Some c.in-Some-CodeScope.field-0-is)) ∙ c.leaf.ensures) (ap (option_map g.N.Reading.tree) (sym c.in-Some.is) ∙ c.scope.ensures.scope) in
+    rw (← parts, ← c.in_ok-at.ensures.ok, ← c.in_ok-at-2.ensures.ok, ← c.in_ok-at-3.ensures.ok) c.append_few-2.ensures.ok
 
 pub append_scope-returns-clause-err : goal.append_scope-returns-clause-err
 append_scope-returns-clause-err g t c =
-    let both = chained c.args.end c.in_ok-at.at c.in_ok-at-2.at c.args.out.now.items _ _ _ _ c.in_ok-at.ensures.ok c.in_ok-at-2.ensures.ok in
-    on_err _ _ c.append_few.result (λ kept. front c.args.end c.in_ok-at-2.at c.args.out.now.items _ c.append_few.new.out.items (omega arith) (kept ∙ both)) c.append_few.ensures.err
+    let two = chained c.args.end c.in_ok-at.at c.in_ok-at-2.at c.args.out.now.items _ _ _ _ c.in_ok-at.ensures.ok c.in_ok-at-2.ensures.ok in
+    let all = chained c.args.end c.in_ok-at-2.at c.in_ok-at-3.at c.args.out.now.items _ _ _ _ two c.in_ok-at-3.ensures.ok in
+    on_err _ _ c.append_few-2.result (λ kept. front c.args.end c.in_ok-at-3.at c.args.out.now.items _ c.append_few-2.new.out.items (omega arith) (kept ∙ all)) c.append_few-2.ensures.err

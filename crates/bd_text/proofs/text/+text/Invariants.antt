@@ -1,8 +1,7 @@
 use Rattle.std.proofs.Common.{◌≡◌, ◌+◌, ◌*◌, ◌≤◌, ◌++◌, ◌∷◌, [], length, take}
-use Rattle.bd_value.specs.Tree.{doc, array, fields_of, items_of, tree_size, fields_size}
-use Rattle.bd_value.specs.Parts.{values_of}
+use Rattle.bd_value.specs.Tree.{doc, array, fields_of, items_of, tree_size, fields_size, values_of}
 use Rattle.bd_text.specs.Text.{text, items_text, fields_text}
-use Rattle.bd_text.proofs.PieceLemmas.{to_come}
+use Rattle.bd_text.proofs.TextLemmas.{to_come}
 use Rattle.bd_text.proofs.text.+text.Given as goal
 
 abbrev pub decreases-append_node : goal.decreases-append_node

@@ -1,7 +1,6 @@
 use Rattle.std.proofs.Common.{◌≡◌, ◌≤◌, ◌+◌, ◌*◌, length}
-use Rattle.bd_value.specs.Tree.{fields_of, fields_size, items_of, tree_size}
+use Rattle.bd_value.specs.Tree.{fields_of, fields_size, items_of, tree_size, values_of}
 use Rattle.bd_value.specs.Order.{fields_cmp, items_cmp}
-use Rattle.bd_value.specs.Parts.{values_of}
 use Rattle.bd_value.proofs.order.+order.Given as goal
 
 abbrev pub decreases-compare_nodes : goal.decreases-compare_nodes

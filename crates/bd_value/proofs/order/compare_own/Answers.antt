@@ -1,6 +1,6 @@
 use Rattle.std.proofs.Common.{ap₂, ◌∙◌}
 use Rattle.bd_value.specs.Order.{rank_cmp}
-use Rattle.bd_value.specs.OwnPart.{seen}
+use Rattle.bd_value.specs.View.{seen}
 use Rattle.bd_value.proofs.OrderLemmas.{rank_of_own}
 use Rattle.bd_value.proofs.order.compare_own.Goals as goal
 

@@ -1,6 +1,6 @@
 use Rattle.std.proofs.Common.{sym, ◌∙◌, ap}
-use Rattle.bd_wrapper.specs.Whole.{begins_digits, unsigned}
-use Rattle.bd_wrapper.proofs.WholeLemmas.{parsed, not_whole}
+use Rattle.bd_wrapper.specs.WholeNumber.{begins_digits, unsigned}
+use Rattle.bd_wrapper.proofs.WholeNumberLemmas.{parsed, not_whole}
 use Rattle.bd_wrapper.proofs.whole_number.whole.Goals as goal
 
 pub returns-then-not-begins_as_digits : goal.returns-then-not-begins_as_digits

@@ -1,6 +1,5 @@
 use Rattle.std.proofs.Common.{rules, arith, ◌≡◌, ◌+◌, ◌++◌, ℕ, length, length-append}
-use Rattle.bd_raw.specs.Spelling.{number}
-use Rattle.bd_raw.specs.Scalars.{number_length}
+use Rattle.bd_raw.specs.{Spelling.number, Unique.number_length}
 use Rattle.bd_write.proofs.writing.data_length.Goals as goal
 
 pub returns-then-subtype-eq2 : goal.returns-then-subtype-eq2

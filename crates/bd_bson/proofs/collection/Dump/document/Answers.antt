@@ -1,6 +1,6 @@
 use Rattle.std.proofs.Common.{◌∙◌, List, ℕ, Some, ap, drop, sym, subst, arith}
 use Rattle.bd_value.specs.Tree.{Tree, pairs_in}
-use Rattle.bd_value.specs.declared.kind.Kind.TheVariants as kinds
+use Rattle.bd_value.specs.declared.node.Kind.TheVariants as kinds
 use Rattle.bd_bson.specs.Collection.{documents}
 use Rattle.bd_raw.specs.Sound.{Sound}
 use Rattle.bd_bson.proofs.CollectionLemmas.{documents_length, start_at, start_inside, stands_there, document_of}

@@ -1,5 +1,5 @@
 use Rattle.std.proofs.Common.{ℕ, List, sym, subst}
-use Rattle.bd_raw.specs.At.{StandsAt, IsPlace}
+use Rattle.bd_raw.specs.Sound.{StandsAt, IsPlace}
 use Rattle.bd_bson.proofs.collection.Dump.value_at.Goals as goal
 
 pub value_in-requires : goal.value_in-requires

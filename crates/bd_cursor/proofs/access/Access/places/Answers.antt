@@ -1,10 +1,10 @@
 use Rattle.std.proofs.Common.{subst}
-use Rattle.bd_cursor.specs.AccessView.{IsAccessOf}
+use Rattle.bd_cursor.specs.Access.{IsAccessOf}
 use Rattle.bd_cursor.proofs.AccessLemmas.{index_source, lent_within, range_increases}
 use Rattle.bd_cursor.proofs.access.Access.places.Goals as goal
 
 pub ascending_places-requires-clause-ascends : goal.ascending_places-requires-clause-ascends
-ascending_places-requires-clause-ascends c = range_increases c.new.result.next _
+ascending_places-requires-clause-ascends c = range_increases c.new-scan.result.next _
 
 pub ascending_places-requires-in-Bounded-clause-serves : goal.ascending_places-requires-in-Bounded-clause-serves
 ascending_places-requires-in-Bounded-clause-serves c =

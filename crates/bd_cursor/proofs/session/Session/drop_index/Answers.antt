@@ -1,9 +1,8 @@
-use Rattle.std.proofs.Common.{rules, ◌≡◌, ◌∙◌, ap, sym, filter, map, not, string_bytes}
-use Rattle.std.proofs.lemmas.Fn.{filter_same}
-use Rattle.bd_answer.specs.Session.{changed_by, drop_call, dropped, is_on, reply}
+use Rattle.std.proofs.{Common.rules, Common.◌≡◌, Common.◌∙◌, Common.ap, Common.sym, Common.filter, Common.map, Common.not, Common.string_bytes, lemmas.Fn.filter_same}
+use Rattle.bd_answer.specs.Session.{IndexMark, changed_by, drop_call, dropped, is_on, reply}
 use Rattle.bd_index.specs.declared.index.Index.{Index}
-use Rattle.bd_cursor.specs.{Explanation.index_mark, SessionView.state_of}
-use Rattle.bd_cursor.proofs.SessionLemmas.{marks_kept, with_marks}
+use Rattle.bd_cursor.specs.{Access.index_mark, SessionView.state_of}
+use Rattle.bd_cursor.proofs.SessionLemmas.{map_kept, with_marks}
 use Rattle.bd_cursor.proofs.session.Session.drop_index.Goals as goal
 
 pub returns : goal.returns
@@ -16,7 +15,7 @@ returns c =
     record {
       steps = record {
         replies = replies;
-        moves = with_marks s _ _ (ap (map index_mark) kept ∙ marks_kept path c.args.self.now.indexes.items) ∙ ap (λ r. changed_by r (drop_call path) s) (sym replies);
+        moves = with_marks s _ _ (ap (map index_mark) kept ∙ map_kept index_mark (λ (i : IndexMark). not (is_on path i)) c.args.self.now.indexes.items) ∙ ap (λ r. changed_by r (drop_call path) s) (sym replies);
         dump = search rules;
       };
     }

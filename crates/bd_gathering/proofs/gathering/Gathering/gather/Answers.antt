@@ -1,7 +1,7 @@
 use Rattle.std.proofs.Common.{rules, ◌≡◌, sym, ◌∙◌, []}
 use Rattle.std.specs.Prelude.{◌≢◌}
 use Rattle.bd_gathering.specs.declared.gathering.Fate.TheVariants.{Kept}
-use Rattle.bd_gathering.proofs.HandingLemmas.{Breaks-writes, TakesAllBytes-writes}
+use Rattle.bd_gathering.proofs.GatheringLemmas.{Breaks-writes, TakesAllBytes-writes}
 use Rattle.bd_gathering.proofs.GatheringLemmas.{breaks_first, breaks_later, gathers_after, gathers_handed, gathers_held, gathers_none, gathers_written, on_err, on_ok}
 use Rattle.bd_gathering.proofs.gathering.Gathering.gather.Goals as goal
 

@@ -1,7 +1,6 @@
 use Rattle.std.proofs.Common.{refl, rules, ◌≡◌, sym, ◌∙◌}
 use Rattle.bd_gathering.specs.declared.gathering.Fate.TheVariants.{Kept}
-use Rattle.bd_gathering.proofs.HandingLemmas.{Breaks-writes, TakesAllBytes-writes, is_kept}
-use Rattle.bd_gathering.proofs.GatheringLemmas.{hands_all, hands_broken, hands_none, in_err, in_ok}
+use Rattle.bd_gathering.proofs.GatheringLemmas.{Breaks-writes, TakesAllBytes-writes, is_kept, hands_all, hands_broken, hands_none, in_err, in_ok}
 use Rattle.bd_gathering.proofs.gathering.Gathering.hand_on.Goals as goal
 
 pub returns-then-is_empty-clause-handed : goal.returns-then-is_empty-clause-handed

@@ -1,5 +1,5 @@
 use Rattle.std.proofs.Common.{arith}
-use Rattle.bd_index.proofs.OrderLemmas.{run_ahead}
+use Rattle.bd_index.proofs.WalkLemmas.{run_ahead}
 use Rattle.bd_index.proofs.entry_order.EntryOrder.at_next_run.Goals as goal
 
 pub invariant_of-result : goal.invariant_of-result

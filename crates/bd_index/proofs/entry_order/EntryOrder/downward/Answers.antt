@@ -1,5 +1,5 @@
 use Rattle.std.proofs.Common.{arith}
-use Rattle.bd_index.proofs.OrderLemmas.{downward_ahead}
+use Rattle.bd_index.proofs.WalkLemmas.{downward_ahead}
 use Rattle.bd_index.proofs.entry_order.EntryOrder.downward.Goals as goal
 
 pub returns : goal.returns

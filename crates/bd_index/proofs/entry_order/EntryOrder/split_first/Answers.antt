@@ -1,6 +1,6 @@
 use Rattle.std.proofs.Common.{List, map, sym, ap, ◌∙◌}
 use Rattle.bd_index.specs.Entries.{KeyAt}
-use Rattle.bd_index.proofs.OrderLemmas.{entry_taken}
+use Rattle.bd_index.proofs.WalkLemmas.{entry_taken}
 use Rattle.bd_index.proofs.entry_order.EntryOrder.split_first.Goals as goal
 
 pub returns-clause-some : goal.returns-clause-some

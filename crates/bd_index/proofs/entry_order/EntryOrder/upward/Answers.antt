@@ -1,5 +1,5 @@
 use Rattle.std.proofs.Common.{arith}
-use Rattle.bd_index.proofs.OrderLemmas.{upward_ahead}
+use Rattle.bd_index.proofs.WalkLemmas.{upward_ahead}
 use Rattle.bd_index.proofs.entry_order.EntryOrder.upward.Goals as goal
 
 pub returns : goal.returns

@@ -1,17 +1,17 @@
 use Rattle.std.proofs.Common.{◌≡◌, ◌≤◌, length, arith}
 use Rattle.std.proofs.lemmas.List.Elements.{All-append}
 use Rattle.bd_bounds.specs.BoundsView.{keys_between}
-use Rattle.bd_index.proofs.OrderLemmas.{count_kept}
-use Rattle.bd_index.proofs.SpanLemmas.{covers_one, gaps_on, gaps_whole, keys_within-Range, order_within, union_on, union_whole}
+use Rattle.bd_index.proofs.EntryLemmas.{count_kept}
+use Rattle.bd_index.proofs.PlacesLemmas.{covers_one, gaps_on, gaps_whole, keys_within-Range, order_within, union_on, union_whole}
 use Rattle.bd_index.proofs.index.Index.+spanning.Goals as goal
 
-pub spans_within-returns-in_ok-push-in-Range : goal.spans_within-returns-in_ok-push-in-Range
-spans_within-returns-in_ok-push-in-Range t c h =
+pub spans_within-returns-in_ok-vec-in-Range : goal.spans_within-returns-in_ok-vec-in-Range
+spans_within-returns-in_ok-vec-in-Range t c h =
     let n = count_kept c.args.dump.now c.args.self.now h in
     let e = c.span_between.ensures.bound in
     rw (c.in-Range.is, keys_within-Range c.in-Range.from c.in-Range.to)
-    (covers_one h.keeps.entries (keys_between c.in-Range.from c.in-Range.to) c.push.new.self.items c.span_between.result
-    (rw c.new-spans.ensures.items at c.in_ok-push-in-Range.ensures.items) c.span_between.ensures.order (omega arith) (c.span_between.ensures.keys h))
+    (covers_one h.keeps.entries (keys_between c.in-Range.from c.in-Range.to) _ c.span_between.result
+    c.in_ok-vec-in-Range.ensures.items c.span_between.ensures.order (omega arith) (c.span_between.ensures.keys h))
 
 pub spans_of_any-in_order-requires : goal.spans_of_any-in_order-requires
 spans_of_any-in_order-requires t c = λ k d lt. let below = c.loop-part.invariant.below k d lt in let e = c.len.ensures in omega arith

@@ -1,6 +1,6 @@
 use Rattle.std.proofs.Common.{◌≤◌, length, All}
 use Rattle.bd_index.specs.IndexView.{IsIndexOf}
-use Rattle.bd_index.proofs.SpanLemmas.{GapsSoFar, UnionSoFar}
+use Rattle.bd_index.proofs.PlacesLemmas.{GapsSoFar, UnionSoFar}
 use Rattle.bd_index.proofs.index.Index.+spanning.Given as goal
 
 abbrev pub invariant-spans_of_all-loop-part : goal.invariant-spans_of_all-loop-part

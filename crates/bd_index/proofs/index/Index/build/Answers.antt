@@ -3,7 +3,7 @@ use Rattle.std.specs.Prelude.{nat_lt}
 use Rattle.bd_bson.specs.Collection.{documents}
 use Rattle.bd_path.specs.PathNames.{names_of}
 use Rattle.bd_index.specs.Entries.{entries_of}
-use Rattle.bd_index.proofs.EntriesLemmas.{many_by_count, size_kept}
+use Rattle.bd_index.proofs.EntryLemmas.{many_by_count, size_kept}
 use Rattle.bd_index.proofs.index.Index.build.Goals as goal
 
 pub returns-clause-index : goal.returns-clause-index

@@ -1,8 +1,7 @@
 use Rattle.std.proofs.Common.{arith, get_or}
 use Rattle.bd_raw.specs.Sound.{stands}
-use Rattle.bd_bounds.specs.Cut.{is_before}
-use Rattle.bd_index.proofs.OrderLemmas.{count_kept}
-use Rattle.bd_index.proofs.SpanLemmas.{above_next, below_next, parted, told}
+use Rattle.bd_bounds.specs.BoundsView.{is_before}
+use Rattle.bd_index.proofs.{EntryLemmas.count_kept, PlacesLemmas.above_next, PlacesLemmas.below_next, PlacesLemmas.parted, PlacesLemmas.told}
 use Rattle.bd_index.proofs.index.Index.count_before.Goals as goal
 
 pub loop-low-init : goal.loop-low-init

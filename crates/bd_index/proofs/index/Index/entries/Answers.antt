@@ -1,6 +1,6 @@
 use Rattle.std.proofs.Common.{arith}
 use Rattle.bd_path.specs.PathNames.{names_of}
-use Rattle.bd_index.proofs.EntriesLemmas.{size_kept}
+use Rattle.bd_index.proofs.EntryLemmas.{size_kept}
 use Rattle.bd_index.proofs.index.Index.entries.Goals as goal
 
 pub returns : goal.returns

@@ -1,14 +1,10 @@
 use Rattle.std.proofs.Common.{List, ℕ, length, sym, ap, ◌∙◌, eqb, arith}
 use Rattle.std.specs.Prelude.{◌==◌}
 use Rattle.std.specs.List.{list_any}
-use Rattle.std.proofs.lemmas.List.Filters.{dedup_is}
-use Rattle.std.proofs.lemmas.List.Sorted.{list_any-IsPermutation}
-use Rattle.std.proofs.lemmas.Map.Keys.{IsStrictlyIncreasing-dedup}
-use Rattle.bd_index.specs.Spans.{CoverKeys}
-use Rattle.bd_index.specs.BoundedPlaces.{lent_bounds}
+use Rattle.std.proofs.{lemmas.List.Filters.dedup_is, lemmas.List.Sorted.list_any-IsPermutation, lemmas.Map.Keys.IsStrictlyIncreasing-dedup}
+use Rattle.bd_index.specs.Places.{CoverKeys, lent_bounds}
 use Rattle.bd_bounds.specs.Bounds.{is_among}
-use Rattle.bd_index.proofs.OrderLemmas.{count_kept}
-use Rattle.bd_index.proofs.PlacesLemmas.{among_once, counted_within, members_within}
+use Rattle.bd_index.proofs.{EntryLemmas.count_kept, PlacesLemmas.among_once, PlacesLemmas.counted_within, PlacesLemmas.members_within}
 use Rattle.bd_index.proofs.index.Index.places.Goals as goal
 
 pub places_in-requires : goal.places_in-requires

@@ -1,4 +1,4 @@
-use Rattle.bd_index.proofs.SpanLemmas.{order_within}
+use Rattle.bd_index.proofs.PlacesLemmas.{order_within}
 use Rattle.bd_index.proofs.index.Index.places_in.Goals as goal
 
 pub add_places-requires : goal.add_places-requires

@@ -1,7 +1,6 @@
 use Rattle.std.proofs.Common.{◌∙◌, ap, arith, is_eq, sym}
 use Rattle.bd_raw.specs.Sound.{stands}
-use Rattle.bd_index.proofs.DescentLemmas.{run_begins, run_goes_on, run_is_whole}
-use Rattle.bd_index.proofs.OrderLemmas.{count_kept}
+use Rattle.bd_index.proofs.{EntryLemmas.count_kept, WalkLemmas.run_begins, WalkLemmas.run_goes_on, WalkLemmas.run_is_whole}
 use Rattle.bd_index.proofs.index.Index.run_start.Goals as goal
 
 pub loop-start-init : goal.loop-start-init

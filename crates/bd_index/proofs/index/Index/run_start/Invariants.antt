@@ -1,7 +1,6 @@
 use Rattle.std.proofs.Common.{◌≡◌, ◌<◌, ◌≤◌, ◌-◌, ℕ, true, get_or}
 use Rattle.bd_value.specs.Order.{equal}
-use Rattle.bd_index.specs.Entries.{KeyAt}
-use Rattle.bd_index.specs.IndexView.{IsIndexOf}
+use Rattle.bd_index.specs.{Entries.KeyAt, IndexView.IsIndexOf}
 use Rattle.bd_index.proofs.index.Index.run_start.Given as goal
 
 abbrev pub invariant-loop-start : goal.invariant-loop-start

@@ -1,7 +1,8 @@
-use Rattle.std.proofs.Common.{◌<◌, length, sym, ap, ◌∙◌, subst}
+use Rattle.std.proofs.Common.{◌<◌, Bool, false, List, length, sym, ap, ◌∙◌, subst}
+use Rattle.std.proofs.lemmas.List.{get_or-replicate, length-replicate}
 use Rattle.bd_bson.specs.Collection.{documents}
 use Rattle.bd_path.specs.PathNames.{names_of}
-use Rattle.bd_index.specs.EntriesAhead.{entries_ahead}
+use Rattle.bd_index.specs.Walk.{entries_ahead}
 use Rattle.bd_index.proofs.WalkLemmas.{AreOrdered, from_above, room_for, upward, walks_fresh}
 use Rattle.bd_index.proofs.index.Index.walk.Goals.{in-Up, in-Down}
 use Rattle.bd_index.proofs.index.Index.walk.Goals as goal
@@ -18,13 +19,16 @@ ordered c =
     ]
 
 pub invariant_of-result : goal.invariant_of-result
-invariant_of-result c = record {
-  room = room_for c.args.dir (names_of c.args.self.now.path) (documents c.args.dump.now) (entries_ahead c.match-dir.order) (ordered c)
-      (length c.in_ok-seen.seen.items) (c.in_ok-seen.ensures.len ∙ c.len.ensures);
-}
+invariant_of-result c =
+    let marks = c.in_ok-seen.ensures.items_if_clones_equal (λ y e. e) in
+    record {
+      room = room_for c.args.dir (names_of c.args.self.now.path) (documents c.args.dump.now) (entries_ahead c.match-dir.order) (ordered c)
+          (length c.in_ok-seen.seen.items) (ap (λ (l : List Bool). length l) marks ∙ length-replicate _ false ∙ c.len.ensures);
+    }
 
 pub returns : goal.returns
 returns c =
+    let marks = c.in_ok-seen.ensures.items_if_clones_equal (λ y e. e) in
     walks_fresh c.args.dir (names_of c.args.self.now.path) (documents c.args.dump.now) (entries_ahead c.match-dir.order) c.in_ok-seen.seen.items
-    (ordered c.before) (c.in_ok-seen.ensures.len ∙ c.len.ensures)
-    (λ k d lt. c.in_ok-seen.ensures.none k d (subst (λ n. k < n) (sym c.len.ensures) lt))
+    (ordered c.before) (ap (λ (l : List Bool). length l) marks ∙ length-replicate _ false ∙ c.len.ensures)
+    (λ k d lt. rw marks (get_or-replicate _ k false d (subst (λ n. k < n) (sym c.len.ensures) lt)))

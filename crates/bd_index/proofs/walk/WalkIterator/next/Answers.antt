@@ -1,7 +1,6 @@
 use Rattle.std.proofs.Common.{◌<◌, length, true}
-use Rattle.std.proofs.Math.ListN.{length-set}
-use Rattle.std.proofs.lemmas.List.Elements.{All-rest}
-use Rattle.bd_index.specs.EntriesAhead.{places_ahead}
+use Rattle.std.proofs.{Math.ListN.length-set, lemmas.List.Elements.All-rest}
+use Rattle.bd_index.specs.Walk.{places_ahead}
 use Rattle.bd_index.proofs.walk.WalkIterator.next.Goals as goal
 
 pub invariant_of-self : goal.invariant_of-self

@@ -1,6 +1,5 @@
 use Rattle.std.proofs.Common.{◌≡◌, length}
-use Rattle.bd_index.specs.EntriesAhead.{places_ahead}
-use Rattle.bd_index.specs.WalkLeft.{walk_left}
+use Rattle.bd_index.specs.{Walk.places_ahead, WalkLeft.walk_left}
 use Rattle.bd_index.proofs.walk.WalkIterator.next.Given as goal
 
 abbrev pub invariant-loop-place : goal.invariant-loop-place

@@ -1,8 +1,8 @@
 use Rattle.std.proofs.Common.{rules, ◌≡◌, ◌++◌, ap, ℕ, List, Ok, Err, true, false, [], length, sym, subst}
-use Rattle.std.proofs.lemmas.{Result.err_from_is_err_and, List.nil_from_length}
-use Rattle.bd_lines.specs.{Lines.IsLine, NextLine.held_after}
+use Rattle.std.proofs.{lemmas.Result.err_from_is_err_and, lemmas.List.nil_from_length}
+use Rattle.bd_lines.specs.{Lines.IsLine, LineBuffer.held_after}
 use Rattle.bd_lines.proofs.LinesLemmas.{line_grows}
-use Rattle.bd_lines.proofs.NextLineLemmas as next
+use Rattle.bd_lines.proofs.LineBufferLemmas as next
 use Rattle.bd_lines.proofs.line_buffer.LineBuffer.advance.Goals as goal
 
 pub loop-self-init : goal.loop-self-init

@@ -1,6 +1,6 @@
 use Rattle.std.proofs.Common.{◌≡◌, true, false, [], drop}
 use Rattle.bd_lines.specs.Lines.{IsLine}
-use Rattle.bd_lines.proofs.NextLineLemmas.{SoFar}
+use Rattle.bd_lines.proofs.LineBufferLemmas.{SoFar}
 use Rattle.bd_lines.proofs.line_buffer.LineBuffer.advance.Given as goal
 
 abbrev pub invariant-loop-self : goal.invariant-loop-self

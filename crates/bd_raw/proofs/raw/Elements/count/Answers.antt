@@ -1,5 +1,5 @@
 use Rattle.std.proofs.Common.{arith, drop}
-use Rattle.bd_raw.proofs.CursorLemmas.{few}
+use Rattle.bd_raw.proofs.ElementsLemmas.{few}
 use Rattle.bd_raw.proofs.raw.Elements.count.Goals as goal
 
 pub overflow_add-n : goal.overflow_add-n

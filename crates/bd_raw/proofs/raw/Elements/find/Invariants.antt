@@ -1,5 +1,5 @@
 use Rattle.std.proofs.Common.{◌≡◌, length}
-use Rattle.bd_value.specs.Lookup.{first_of}
+use Rattle.bd_value.specs.Tree.{first_of}
 use Rattle.bd_raw.specs.Sound.{elements_left}
 use Rattle.bd_raw.proofs.raw.Elements.find.Given as goal
 

@@ -1,5 +1,5 @@
 use Rattle.std.proofs.Common.{◌∙◌, refl}
-use Rattle.bd_value.specs.Kind.{kind_of}
+use Rattle.bd_value.specs.View.{kind_of}
 use Rattle.bd_raw.proofs.ElementsLemmas as s
 use Rattle.bd_raw.proofs.raw.Elements.next.Goals as goal
 

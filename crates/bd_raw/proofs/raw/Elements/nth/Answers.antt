@@ -1,6 +1,6 @@
 use Rattle.std.proofs.Common.{◌∙◌, arith}
 use Rattle.bd_raw.specs.Sound.{elements_left}
-use Rattle.bd_raw.proofs.CursorLemmas as r
+use Rattle.bd_raw.proofs.ElementsLemmas as r
 use Rattle.bd_raw.proofs.raw.Elements.nth.Goals as goal
 
 pub unreachable-requires : goal.unreachable-requires

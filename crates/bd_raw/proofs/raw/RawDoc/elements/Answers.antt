@@ -1,5 +1,5 @@
 use Rattle.std.proofs.Common.{refl}
-use Rattle.bd_value.specs.declared.kind.Kind.TheVariants as kinds
+use Rattle.bd_value.specs.declared.node.Kind.TheVariants as kinds
 use Rattle.bd_raw.proofs.ContentsLemmas.{document_held}
 use Rattle.bd_raw.proofs.SoundLemmas.{document_elements}
 use Rattle.bd_raw.proofs.raw.RawDoc.elements.Goals as goal

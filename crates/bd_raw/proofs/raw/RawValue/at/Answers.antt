@@ -1,4 +1,4 @@
-use Rattle.bd_raw.proofs.AtLemmas.{placed}
+use Rattle.bd_raw.proofs.SoundLemmas.{placed}
 use Rattle.bd_raw.proofs.raw.RawValue.at.Goals as goal
 
 pub returns-clause-stands : goal.returns-clause-stands

@@ -1,7 +1,6 @@
 use Rattle.std.proofs.Common.{◌∙◌, length, List, ℕ, sym, ap, subst, arith}
-use Rattle.bd_value.specs.OwnPart.{own}
-use Rattle.bd_raw.specs.ValueAt.{TextAt, HasBytesOf}
-use Rattle.bd_raw.specs.Sizes.{number_of, text_of, scalar_at}
+use Rattle.bd_value.specs.Tree.{own}
+use Rattle.bd_raw.specs.Sizes.{TextAt, HasBytesOf, number_of, text_of, scalar_at}
 use Rattle.bd_raw.proofs.ValueAtLemmas.{reads_at}
 use Rattle.bd_raw.proofs.ContentsLemmas as v
 use Rattle.bd_raw.proofs.raw.RawValue.contents.Goals as goal

@@ -1,6 +1,6 @@
 use Rattle.std.proofs.Common.{sym}
 use Rattle.bd_value.specs.Tree.{pairs_of-fields_of}
-use Rattle.bd_raw.proofs.ContentsLemmas.{list_of-items_of}
+use Rattle.bd_value.proofs.ViewLemmas.{list_of-items_of}
 use Rattle.bd_raw.proofs.raw.RawValue.elements.Goals as goal
 
 pub returns-in-Document-clause-some : goal.returns-in-Document-clause-some

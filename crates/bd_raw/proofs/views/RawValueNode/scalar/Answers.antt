@@ -1,6 +1,7 @@
 use Rattle.std.proofs.Common.{Some, sym, ap, ◌∙◌}
-use Rattle.bd_value.specs.OwnPart.{own_code, own_of, seen}
-use Rattle.bd_raw.proofs.ShortLemmas.{own_short}
+use Rattle.bd_value.specs.View.{seen}
+use Rattle.bd_value.specs.Tree.{own_of, own_code}
+use Rattle.bd_raw.proofs.ValueAtLemmas.{own_short}
 use Rattle.bd_raw.proofs.views.RawValueNode.scalar.Goals as goal
 
 pub returns-in-Scalar-clause-short : goal.returns-in-Scalar-clause-short

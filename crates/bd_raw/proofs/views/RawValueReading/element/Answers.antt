@@ -1,7 +1,7 @@
 use Rattle.std.proofs.Common.{refl}
 use Rattle.std.proofs.lemmas.List.{length-map}
 use Rattle.std.proofs.lemmas.Option.{slice_get-map}
-use Rattle.bd_raw.proofs.ContentsLemmas.{list_of-items_of}
+use Rattle.bd_value.proofs.ViewLemmas.{list_of-items_of}
 use Rattle.bd_raw.proofs.views.RawValueReading.element.Goals as goal
 
 pub nth-requires : goal.nth-requires

@@ -1,5 +1,5 @@
 use Rattle.bd_cursor.specs.SessionView.{dump_of}
-use Rattle.bd_service.specs.CallView.{session_call}
+use Rattle.bd_service.specs.ServiceView.{session_call}
 use Rattle.bd_service.proofs.AnswerLemmas.{answered, turned_away}
 use Rattle.bd_service.proofs.service.Service.answer.Goals as goal
 

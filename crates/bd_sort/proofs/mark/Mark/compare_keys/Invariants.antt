@@ -1,10 +1,9 @@
 use Rattle.std.proofs.Common.{◌≡◌, drop}
-use Rattle.bd_bson.specs.Collection.{documents}
-use Rattle.bd_bson.specs.Documents.{document_at}
+use Rattle.bd_bson.specs.{Collection.documents, Collection.document_at}
 use Rattle.bd_sort.specs.Mark.{marked_cmp, marks_in}
 use Rattle.bd_sort.proofs.mark.Mark.compare_keys.Given as goal
 
 -- the keys that are left decide
-abbrev pub invariant-loop-key : goal.invariant-loop-key
-invariant-loop-key l =
-    marked_cmp (marks_in (drop l.key-index l.keys)) (document_at (documents l.dump) l.place) ≡ marked_cmp (marks_in l.keys) (document_at (documents l.dump) l.place)
+abbrev pub invariant-loop-one : goal.invariant-loop-one
+invariant-loop-one l =
+    marked_cmp (marks_in (drop l.one-index l.keys)) (document_at (documents l.dump) l.place) ≡ marked_cmp (marks_in l.keys) (document_at (documents l.dump) l.place)

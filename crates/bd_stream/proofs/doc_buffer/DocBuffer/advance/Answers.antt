@@ -1,25 +1,24 @@
 use Rattle.std.proofs.Common.{rules}
 use Rattle.std.proofs.lemmas.Result.{err_from_is_err_and}
-use Rattle.bd_stream.proofs.FrameLemmas.{joined_gave}
-use Rattle.bd_stream.specs.NextDocument.{HoldsNone}
-use Rattle.bd_stream.proofs.NextDocumentLemmas.{fails_after, reads_joined}
+use Rattle.bd_stream.proofs.StreamLemmas.{joined_gave, fails_after, reads_joined}
+use Rattle.bd_stream.specs.Stream.{HoldsNone}
 use Rattle.bd_stream.proofs.doc_buffer.DocBuffer.advance.Goals as goal
 
-pub returns-in_err-read_rest-in-Some-clause-fails : goal.returns-in_err-read_rest-in-Some-clause-fails
-returns-in_err-read_rest-in-Some-clause-fails g c =
-    let e = c.in_ok-read_length.ensures in
+pub returns-in_err-read_rest-clause-fails : goal.returns-in_err-read_rest-clause-fails
+returns-in_err-read_rest-clause-fails g c =
+    let e = c.in_ok-head.ensures in
     let gave = (rw c.in-Some.is at e.length).3 in
     let read = rw c.in-Some.is at e.reads in
     let k = e.kept.0 in
     let kept : HoldsNone c.args.self.now c.read_length.new.self = record { offset = k.offset; number = k.number; room = k.room; empty = k.empty } in
-    let p = err_from_is_err_and c.from_residual-in_err-read_rest-in-Some.result c.from_residual-in_err-read_rest-in-Some.ensures.1 in
+    let p = err_from_is_err_and c.from_residual-in_err-read_rest.result c.from_residual-in_err-read_rest.ensures.1 in
     rw (p.1, p.2) (fails_after g.R.Input.state g.R.Input.read_gives c.in-Some.head c.args.self.now c.read_length.new.self _ c.args.reader.now c.read_length.new.reader _
-    gave read e.counted e.well kept (search rules) _ c.in_err-read_rest-in-Some.ensures.fails)
+    gave read e.counted e.well kept (search rules) _ c.in_err-read_rest.ensures.fails)
 
-pub returns-in_ok-read_rest-in-Some-clause-reads : goal.returns-in_ok-read_rest-in-Some-clause-reads
-returns-in_ok-read_rest-in-Some-clause-reads g c _ =
-    let e = c.in_ok-read_length.ensures in
-    let r = c.in_ok-read_rest-in-Some.ensures in
+pub returns-clause-reads : goal.returns-clause-reads
+returns-clause-reads g c _ =
+    let e = c.in_ok-head.ensures in
+    let r = c.in_ok-read_rest.ensures in
     let gave = (rw c.in-Some.is at e.length).3 in
     let read = rw c.in-Some.is at e.reads in
     record {

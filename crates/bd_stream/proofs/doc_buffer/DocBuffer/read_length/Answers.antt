@@ -3,7 +3,7 @@ use Rattle.std.proofs.lemmas.List.{take_all}
 use Rattle.std.specs.Io.KnownBytes.{Consumes}
 use Rattle.bd_value.specs.Limits.{longest_document}
 use Rattle.bd_check.specs.Dump.{length_told}
-use Rattle.bd_stream.proofs.FrameLemmas.{frame_out, frame_short, has_short_length, has_bad_length}
+use Rattle.bd_stream.proofs.StreamLemmas.{frame_out, frame_short, has_short_length, has_bad_length}
 use Rattle.bd_stream.proofs.doc_buffer.DocBuffer.read_length.Goals as goal
 use Rattle.bd_stream.proofs.doc_buffer.DocBuffer.read_length.Goals.{then-length-lt5-via-then-length-lt5, then-length-lt5-via-else-length-lt5+then-length-gt-LONGEST_DOCUMENT}
 

@@ -2,9 +2,8 @@ use Rattle.std.proofs.Common.{rules, arith, ℕ, subst, sym, ◌∙◌, inl, ref
 use Rattle.std.proofs.lemmas.Result.{err_from_is_err_and}
 use Rattle.std.proofs.KnownBytes.{Consumes-nil}
 use Rattle.bd_check.specs.Dump.{length_told}
-use Rattle.bd_stream.proofs.FrameLemmas.{cut_within, frame_cut, has_cut_length, is_cut, is_frame, whole_room}
-use Rattle.bd_stream.proofs.NextDocumentLemmas.{grown_for, kept_room}
-use Rattle.bd_stream.specs.NextDocument.{HoldsAsMuch}
+use Rattle.bd_stream.proofs.StreamLemmas.{cut_within, frame_cut, has_cut_length, is_cut, is_frame, whole_room, grown_for, kept_room}
+use Rattle.bd_stream.specs.Stream.{HoldsAsMuch}
 use Rattle.bd_stream.proofs.doc_buffer.DocBuffer.read_rest.Goals as goal
 
 pub returns-in_err-make_room-clause-fails : goal.returns-in_err-make_room-clause-fails

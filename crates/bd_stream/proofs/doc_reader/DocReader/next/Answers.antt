@@ -1,6 +1,6 @@
 use Rattle.std.proofs.Common.{rules, refl}
 use Rattle.std.proofs.lemmas.Result.{err_from_is_err_and}
-use Rattle.bd_stream.proofs.NextDocumentLemmas.{begins}
+use Rattle.bd_stream.proofs.StreamLemmas.{begins}
 use Rattle.bd_stream.proofs.doc_reader.DocReader.next.Goals as goal
 
 pub returns-in_err-advance : goal.returns-in_err-advance

@@ -1,5 +1,5 @@
 use Rattle.bd_value.specs.View.{pairs, tree_of}
-use Rattle.bd_value.proofs.LookupLemmas.{skipped, found}
+use Rattle.bd_value.proofs.ViewLemmas.{skipped, found}
 use Rattle.bd_value.proofs.document.Document.first.Goals as goal
 
 pub returns-then-eq-clause-found : goal.returns-then-eq-clause-found

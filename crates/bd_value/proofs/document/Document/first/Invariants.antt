@@ -1,5 +1,5 @@
 use Rattle.std.proofs.Common.{◌≡◌, drop}
-use Rattle.bd_value.specs.Lookup.{first_of}
+use Rattle.bd_value.specs.Tree.{first_of}
 use Rattle.bd_value.specs.View.{pairs}
 use Rattle.bd_value.proofs.document.Document.first.Given as goal
 

@@ -1,0 +1,22 @@
+use Rattle.bd_find.proofs.UniqueLemmas.{found_alike, found_once, found_some}
+use Rattle.bd_files.proofs.{CheckLemmas.judged_once, CheckLemmas.judged_some, DumpLemmas.shown_once, DumpLemmas.shown_some}
+use Rattle.bd_files.proofs.PackLemmas.{packs_once, packed_alike, packed_some}
+use Rattle.bd_lines.specs.Lines.{text_lines}
+use Rattle.bd_cli.proofs.runs.shows_one_thing.Goals as goal
+
+pub returns : goal.returns
+returns c = record {
+  judged_one = judged_once;
+  judged_some = judged_some;
+  one = λ bytes fault s t p q. shown_once bytes fault s t p q;
+  some = λ bytes
+      fits. shown_some bytes fits;
+  found_one = λ words query sort input s t is are p q. found_once words query sort input s t is are p q;
+  found_alike =
+      λ words input s t p q. found_alike words input s t p q;
+  found_some = λ words bytes fits. found_some words bytes fits;
+  packed_one = λ text ds es
+      bad other p q. packs_once 1 (text_lines text) ds es bad other p q;
+  packed_alike = packed_alike;
+  packed_some = packed_some;
+}

@@ -1,0 +1,23 @@
+use Rattle.std.proofs.Common.{◌≡◌, ◌+◌, ◌<◌, Some, drop, length, map, ap, sym, ◌∙◌, subst}
+use Rattle.bd_bounds.proofs.FilterBoundsLemmas.{one_off}
+use Rattle.bd_path.specs.Sort.{sort_paths}
+use Rattle.bd_index.specs.IndexView.{IsIndexOf}
+use Rattle.bd_cursor.specs.Access.{walk_or, first_walked, scanned, walk_dir, index_mark}
+use Rattle.bd_cursor.proofs.AccessLemmas.{walk_leads}
+use Rattle.bd_cursor.proofs.access.walk_or_scan.Goals as goal
+
+pub returns-in-Some : goal.returns-in-Some
+returns-in-Some c dump h =
+    let k = c.loop-index.index-index in
+    let i = c.index-item.result in
+    let is = c.args.indexes.now in
+    let r = c.args.request.now in
+    let ss = sort_paths r.sort.items in
+    let lt : k < length is = c.loop-index-test.true in
+    let of_dump : IsIndexOf dump i = subst (IsIndexOf dump) (sym c.index-item.is) (h k i lt) in
+    let dir : Some c.in-Some.dir ≡ walk_dir (index_mark i) ss = c.in-Some.ensures ∙ ap (λ s. walk_dir (index_mark i) (sort_paths s)) c.deref.ensures.value in
+    record {
+      is = ap (λ d. walk_or (index_mark i) d (first_walked ss (map index_mark (drop (k + 1) is)) scanned)) dir
+          ∙ sym (one_off (λ ms. first_walked ss ms scanned) index_mark is k i lt c.index-item.is) ∙ c.loop-index.invariant;
+      leads = walk_leads dump r i c.in-Some.dir of_dump dir;
+    }

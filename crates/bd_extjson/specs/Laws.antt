@@ -1,0 +1,25 @@
+-- Documents that their canonical text determines.
+-- An Int32 is printed as a document whose first name is $numberInt, so a document that has that name first can look like one.
+use Rattle.std.specs.Prelude.{◌≡◌, None}
+use Rattle.bd_value.specs.Tree.{Tree, leaf, doc, array, code_scope, Items, no_items, item, Fields, no_fields, field}
+use Rattle.bd_wrapper.specs.Wrapper.{wrapper_of}
+
+abbrev pub IsPlainFirst : Fields → Type 0
+IsPlainFirst no_fields = Unit {0}
+IsPlainFirst (field n t fs) = wrapper_of n ≡ None
+
+-- No document in the tree, itself and the scope of code included, has the name of a wrapper first.
+abbrev mutual
+  pub IsPlain : Tree → Type 0
+  IsPlain (leaf s) = Unit {0}
+  IsPlain (doc fs) = IsPlainFirst fs × ArePlainFields fs
+  IsPlain (array ts) = ArePlainItems ts
+  IsPlain (code_scope s fs) = IsPlainFirst fs × ArePlainFields fs
+
+  pub ArePlainItems : Items → Type 0
+  ArePlainItems no_items = Unit {0}
+  ArePlainItems (item t ts) = IsPlain t × ArePlainItems ts
+
+  pub ArePlainFields : Fields → Type 0
+  ArePlainFields no_fields = Unit {0}
+  ArePlainFields (field n t fs) = IsPlain t × ArePlainFields fs

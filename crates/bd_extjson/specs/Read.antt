@@ -1,0 +1,101 @@
+-- Which document a text is (Extended JSON v2, canonical form, and bare whole numbers): which value a JSON value stands for.
+use Rattle.std.specs.Prelude.{◌≡◌, ℕ, zero, suc, ◌-◌, ℤ, List, if◌then◌else◌, Option, Some, None, option_map, option_and_then}
+use Rattle.std.specs.Str.{is_utf8}
+use Rattle.json.specs.{Find.as_str, Json.Json, Json.value, Json.if_last, Lex.tokens}
+use Rattle.json.specs.Json as kit
+use Rattle.bd_value.specs.{Limits.most_brackets, Limits.most_levels, Fits.has_zero}
+use Rattle.bd_value.specs.Tree as trees
+use Rattle.bd_value.specs.Tree.{Tree, leaf, doc, array, code_scope, Items, no_items, item, Fields, no_fields, field, Doc, pairs_of}
+use Rattle.bd_wrapper.specs.{WholeNumber.fits_bits, WholeNumber.whole_64, Wrapper.wrapper_of, Wrapper.single}
+use Rattle.bd_wrapper.specs.{declared.wrapper.Wrapper.Wrapper}
+use Rattle.bd_wrapper.specs.declared.wrapper.Wrapper.TheVariants as kinds
+
+-- a bare whole number is an Int32 where it fits, else an Int64
+abbrev pub bare_number : Option ℤ → Option Tree
+bare_number None = None
+bare_number (Some z) = Some (leaf (if fits_bits 31 z then trees.int32 z else trees.int64 z))
+
+-- so many levels more may stand here, one in the other
+abbrev pub nested : {A : Type 0} → ℕ → Option A → Option A
+nested zero r = None
+nested (suc room) r = r
+
+abbrev pub add_item : Option Tree → Option Items → Option Items
+add_item (Some t) (Some ts) = Some (item t ts)
+add_item _ _ = None
+
+abbrev pub add_field : List ℕ → Option Tree → Option Fields → Option Fields
+add_field name (Some t) (Some fs) = if has_zero name then None else Some (field name t fs)
+add_field _ _ _ = None
+
+-- code with scope, of the code's text and the scope's value
+abbrev pub with_scope : Option (List ℕ) → Option Tree → Option Tree
+with_scope (Some s) (Some (doc fs)) = Some (code_scope s fs)
+with_scope _ _ = None
+
+-- an object of two members, the first of which is a wrapper's: `$code` and `$scope`, in either order
+abbrev pub two : Wrapper → Json → Option Tree → Wrapper → Json → Option Tree → Option Tree
+two kinds.Code j t kinds.Scope i u = with_scope (as_str j) u
+two kinds.Scope j t kinds.Code i u = with_scope (as_str i) t
+two _ j t _ i u = None
+
+-- what stands after the first member: a member's wrapper, its JSON value and the value that it stands for
+pub data AfterName : Type 0 where
+  nothing : AfterName
+  one_more : Option Wrapper → Json → Option Tree → AfterName
+  several : AfterName
+
+abbrev pub after_one : Option Wrapper → Json → Option Tree → kit.Members → AfterName
+after_one w i u kit.no_members = one_more w i u
+after_one w i u (kit.member name j ms) = several
+
+abbrev pub wrapper_tree : ℕ → Wrapper → Json → Option Tree → AfterName → Option Tree
+wrapper_tree room w j t nothing = option_map leaf (single w j)
+wrapper_tree room w j t (one_more (Some v) i u) = nested room (two w j t v i u)
+wrapper_tree room w j t _ = None
+
+-- the wrapper's value where the first name is one's, and else the document's
+abbrev pub either : ℕ → Option Wrapper → Json → Option Tree → AfterName → Option Tree → Option Tree
+either room None j t b d = d
+either room (Some w) j t b d = wrapper_tree room w j t b
+
+abbrev mutual
+  pub wrap : ℕ → Json → Option Tree
+  wrap room kit.null = Some (leaf trees.null)
+  wrap room (kit.boolean b) = Some (leaf (trees.boolean b))
+  wrap room (kit.number s) = bare_number (whole_64 s)
+  wrap room (kit.string s) = Some (leaf (trees.text s))
+  wrap room (kit.array js) = nested room (option_map array (wrap_items (room - 1) js))
+  wrap room (kit.object ms) = wrap_object room ms
+
+  pub wrap_items : ℕ → kit.Items → Option Items
+  wrap_items room kit.no_items = Some no_items
+  wrap_items room (kit.item j js) = add_item (wrap room j) (wrap_items room js)
+
+  pub wrap_object : ℕ → kit.Members → Option Tree
+  wrap_object room kit.no_members = nested room (Some (doc no_fields))
+  wrap_object room (kit.member name j ms) = either room (wrapper_of name) j (wrap (room - 1) j) (after (room - 1) ms)
+      (nested room (option_map doc (add_field name (wrap (room - 1) j) (wrap_fields (room - 1) ms))))
+
+  -- for a wrapper's second member
+  pub after : ℕ → kit.Members → AfterName
+  after room kit.no_members = nothing
+  after room (kit.member name i ms) = after_one (wrapper_of name) i (wrap room i) ms
+
+  pub wrap_fields : ℕ → kit.Members → Option Fields
+  wrap_fields room kit.no_members = Some no_fields
+  wrap_fields room (kit.member name j ms) = add_field name (wrap room j) (wrap_fields room ms)
+
+-- the JSON value that a whole text is, with at most 203 brackets one in the other
+abbrev pub json : List ℕ → Option Json
+json text = if is_utf8 text then option_and_then (λ p. if_last p.0 p.1) (value most_brackets (tokens text)) else None
+
+abbrev pub document : Tree → Option Fields
+document (doc fs) = Some fs
+document _ = None
+
+abbrev pub reading : List ℕ → Option Doc
+reading text = option_map pairs_of (option_and_then document (option_and_then (wrap most_levels) (json text)))
+
+abbrev pub ReadsAs : List ℕ → Doc → Type 0
+ReadsAs text d = reading text ≡ Some d

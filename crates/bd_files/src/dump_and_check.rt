@@ -1,0 +1,275 @@
+//! `dump`, the documents of an input, one a line; and `check`, a line for each document that has a fault. Both go over the
+//! documents one after the other.
+
+ghost use Rattle.std.specs.Prelude.{◌≡◌, ◌<◌, ◌≤◌, ◌⊎◌, ◌++◌, [], ◌∷◌, None, Some, codes, IfErr, IfOk, OnErr, OnOk};
+ghost use Rattle.bd_value.specs.Limits.{longest_input};
+ghost use Rattle.bd_value.specs.Tree.{pairs_in};
+ghost use Rattle.bd_device.specs.Devices.{BreaksWithin, TakesText, over};
+ghost use Rattle.bd_raw.specs.Sound.{stands};
+ghost use Rattle.bd_check.specs.Fault.{fault_view};
+ghost use Rattle.bd_files.specs.DumpAndCheck.{ChecksInput, DumpsInput, IsFaulty, JudgesDocuments, MeetsFault, StopsJudging, StopsWalk, Texts};
+ghost use Rattle.bd_files.specs.DumpAndCheck.{WalksDocuments, check_message, check_status, check_texts, dump_count_line, dump_texts, ending_words};
+ghost use Rattle.bd_files.specs.Output.{TellsMessage, Writes, error_line, wrong_line, wrong_status};
+ghost use Rattle.bd_files.specs.declared.output.Status.TheVariants.{Failed};
+
+use crate::input::LIMITS;
+use crate::output::{
+    OutputFault, Status, fault_message, is_want_of_memory, status_of, tell_end, tell_no_memory,
+    tell_stop, words_of, write_count, write_end, write_fault,
+};
+use bd_check::{Fault, check_document};
+use bd_device::{DeviceFault, Input, Output, ReadFault, write_all};
+use bd_extjson::LineRoom;
+use bd_raw::RawDoc;
+use bd_stream::{DocBuffer, DocFault};
+use std::alloc::Global;
+
+/// Reads an input document by document, and shows each before the next is read.
+pub fn dump<R: Input, O: Output, E: Output>(
+    alloc: Global,
+    input: &mut R,
+    out: &mut O,
+    err: &mut E,
+) -> Status
+    ensures { DumpsInput (over R.state input.old input.new) (over O.state out.old out.new)
+        (over E.state err.old err.new) result }
+{
+    let room = LineRoom::new(alloc);
+    match walk_documents(alloc, input, &mut Printer { room }, out) {
+        Ok(walk) => tell_walk(alloc, &walk, err),
+        Err(fault) => tell_stop(fault, err),
+    }
+}
+
+/// Writes the line of each document, up to the first fault.
+#[derive(Debug, Drop)]
+struct Printer {
+    /// What their lines share.
+    room: LineRoom,
+}
+
+impl<O: Output> Visitor<O> for Printer {
+    ghost texts = { dump_texts };
+
+    fn visit(&mut self, document: RawDoc<'_>, out: &mut O) -> Result<(), OutputFault> {
+        let line = self.room.line(document.value())?;
+        Ok(write_all(out, line)?)
+    }
+
+    fn meet(&mut self, _fault: &Fault, _out: &mut O) -> Result<bool, OutputFault> {
+        Ok(false)
+    }
+}
+
+/// Shows a walk on standard error, after its lines on standard output. Memory is taken only for the path of a fault.
+fn tell_walk<E: Output>(alloc: Global, walk: &Walk, err: &mut E) -> Status
+    ensures { TellsMessage (over E.state err.old err.new) (wrong_line (ending_words walk.now.ending) ++ dump_count_line walk.now.count)
+        (wrong_status (ending_words walk.now.ending)) result
+        ⊎ (IsFaulty walk.now.ending × TellsMessage (over E.state err.old err.new) (error_line (codes "no memory")) Failed result) }
+{
+    let count = u64::from(walk.count);
+    let words = b" objects found\n";
+    match &walk.ending {
+        Ending::Whole => tell_end(None, count, words, err),
+        Ending::Faulty(fault) => match fault_message(alloc, fault) {
+            Ok(message) => tell_end(Some(&message), count, words, err),
+            Err(_) => tell_no_memory(err),
+        },
+        Ending::Unread(fault) => tell_end(words_of(Some(*fault)), count, words, err),
+    }
+}
+
+/// Reads an input document by document, and shows which of them have a fault.
+pub fn check<R: Input, O: Output, E: Output>(
+    alloc: Global,
+    input: &mut R,
+    out: &mut O,
+    err: &mut E,
+) -> Status
+    ensures { ChecksInput (over R.state input.old input.new) (over O.state out.old out.new)
+        (over E.state err.old err.new) result }
+{
+    match judge_documents(alloc, input, out) {
+        Ok(findings) => tell_findings(&findings, err),
+        Err(fault) => tell_stop(fault, err),
+    }
+}
+
+/// Judges the documents of an input, and writes a line for each that has a fault. No tree is built.
+fn judge_documents<R: Input, O: Output>(
+    alloc: Global,
+    input: &mut R,
+    out: &mut O,
+) -> Result<Findings, OutputFault>
+    ensures judges { IfOk result (JudgesDocuments (over R.state input.old input.new) (over O.state out.old out.new)) }
+    ensures stops { IfErr result (StopsJudging (over R.state input.old input.new) (over O.state out.old out.new)) }
+{
+    let mut judge = Judge {
+        line: Vec::new(alloc),
+    };
+    let walk = walk_documents(alloc, input, &mut judge, out)?;
+    let mut findings = Findings {
+        documents: walk.count,
+        faulty: walk.bad,
+        unread: None,
+    };
+    match &walk.ending {
+        Ending::Whole => Ok(findings),
+        // A bad length: no document after it is looked for.
+        Ending::Faulty(fault) => {
+            let _goes_on = judge.meet(fault, out)?;
+            findings.documents += 1;
+            findings.faulty += 1;
+            Ok(findings)
+        }
+        Ending::Unread(fault) => {
+            findings.unread = Some(*fault);
+            Ok(findings)
+        }
+    }
+}
+
+/// Writes a line for each document that has a fault.
+#[derive(Debug, Drop)]
+struct Judge {
+    /// Room that their lines share.
+    line: Vec<u8>,
+}
+
+impl<O: Output> Visitor<O> for Judge {
+    ghost texts = { check_texts };
+
+    fn visit(&mut self, _document: RawDoc<'_>, _out: &mut O) -> Result<(), OutputFault> {
+        Ok(())
+    }
+
+    fn meet(&mut self, fault: &Fault, out: &mut O) -> Result<bool, OutputFault> {
+        self.line.clear();
+        write_fault(fault, &mut self.line)?;
+        self.line.extend_from_slice(b"\n")?;
+        write_all(out, &self.line)?;
+        Ok(true)
+    }
+}
+
+/// How many documents of an input were judged.
+#[derive(Clone, Copy, Debug, PartialEq, Eq)]
+pub struct Findings {
+    /// All of them.
+    pub documents: u32,
+    /// Those that have a fault.
+    pub faulty: u32,
+    /// Why no more of the input was read.
+    pub unread: Option<ReadFault>,
+}
+
+/// Tells how many documents there are and how many have a fault, after the lines of these on standard output. It takes no
+/// memory.
+fn tell_findings<E: Output>(findings: &Findings, err: &mut E) -> Status
+    ensures { TellsMessage (over E.state err.old err.new)
+        (check_message findings.now.unread findings.now.documents findings.now.faulty)
+        (check_status findings.now.unread findings.now.faulty) result }
+{
+    let wanted = match (findings.faulty, findings.unread) {
+        (0, None) => Status::Done,
+        _ => Status::Failed,
+    };
+    status_of(write_findings(findings, err), wanted)
+}
+
+/// Writes what standard error is to tell.
+#[tactic(auto, using(crate::proofs::OutputLemmas::taking))]
+fn write_findings<E: Output>(findings: &Findings, err: &mut E) -> Result<(), DeviceFault>
+    ensures ok { OnOk result (TakesText (over E.state err.old err.new)
+        (check_message findings.now.unread findings.now.documents findings.now.faulty)) }
+    ensures err { OnErr result (BreaksWithin (over E.state err.old err.new)
+        (check_message findings.now.unread findings.now.documents findings.now.faulty)) }
+{
+    let wrong = words_of(findings.unread);
+    write_end(wrong, u64::from(findings.documents), b" documents, ", err)?;
+    write_count(u64::from(findings.faulty), b" faulty\n", err)
+}
+
+/// Who is shown the documents of an input, each before the next is read.
+pub(crate) trait Visitor<O: Output> {
+    /// What is written of them.
+    ghost texts: { Texts };
+
+    /// Takes a document without a fault.
+    fn visit(&mut self, document: RawDoc<'_>, out: &mut O) -> Result<(), OutputFault>
+        ensures { Writes (texts.good (pairs_in (stands document.entry.sound))) (over O.state out.old out.new) result };
+
+    /// Takes the fault of a document, and says whether the walk goes on.
+    fn meet(&mut self, fault: &Fault, out: &mut O) -> Result<bool, OutputFault>
+        ensures { MeetsFault (texts.bad fault.now.document (fault_view fault.now)) (over O.state out.old out.new) result };
+}
+
+/// Goes over the documents of an input.
+pub(crate) fn walk_documents<R: Input, O: Output, V: Visitor<O>>(
+    alloc: Global,
+    input: &mut R,
+    visitor: &mut V,
+    out: &mut O,
+) -> Result<Walk, OutputFault>
+    ensures few { IfOk result (λ w. (w.count < longest_input) × (w.bad ≤ w.count)) }
+    ensures walks { IfOk result (WalksDocuments V.texts (over R.state input.old input.new) (over O.state out.old out.new)) }
+    ensures stops { IfErr result (StopsWalk V.texts (over R.state input.old input.new) (over O.state out.old out.new)) }
+{
+    let mut buffer = DocBuffer::new(alloc, LIMITS);
+    let mut bad = 0;
+    loop {
+        let base = buffer.place();
+        let count = buffer.number();
+        match buffer.read_next(input) {
+            Ok(true) => match check_document(alloc, buffer.bytes(), base, count) {
+                Ok(document) => visitor.visit(document, out)?,
+                Err(fault) => {
+                    if is_want_of_memory(&fault) {
+                        return Err(OutputFault::NoMemory);
+                    }
+                    if !visitor.meet(&fault, out)? {
+                        let ending = Ending::Faulty(fault);
+                        return Ok(Walk { count, bad, ending });
+                    }
+                    bad += 1;
+                }
+            },
+            Ok(false) => {
+                let ending = Ending::Whole;
+                return Ok(Walk { count, bad, ending });
+            }
+            Err(DocFault::Frame(fault)) => {
+                let ending = Ending::Faulty(fault.to_fault(alloc));
+                return Ok(Walk { count, bad, ending });
+            }
+            Err(DocFault::Read(ReadFault::NoMemory)) => return Err(OutputFault::NoMemory),
+            Err(DocFault::Read(fault)) => {
+                let ending = Ending::Unread(fault);
+                return Ok(Walk { count, bad, ending });
+            }
+            Err(DocFault::Failed) => unreachable!(),
+        }
+    }
+}
+
+/// The documents of an input that were gone over.
+#[derive(Debug, Drop)]
+pub struct Walk {
+    /// How many there are.
+    pub count: u32,
+    /// How many of them have a fault.
+    pub bad: u32,
+    /// What is after them.
+    pub ending: Ending,
+}
+
+/// What comes after the documents of an input.
+#[derive(Debug, Drop)]
+pub enum Ending {
+    /// Nothing.
+    Whole,
+    /// A document that has this fault.
+    Faulty(Fault),
+    /// A document that was not read to its end.
+    Unread(ReadFault),
+}

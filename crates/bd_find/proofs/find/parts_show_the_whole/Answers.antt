@@ -1,0 +1,11 @@
+use Rattle.bd_find.proofs.PartsLemmas.{lines_packed, parts_joined, parts_show}
+use Rattle.bd_find.proofs.find.parts_show_the_whole.Goals as goal
+
+pub returns-clause-shown : goal.returns-clause-shown
+returns-clause-shown c = parts_show
+
+pub returns-clause-joined : goal.returns-clause-joined
+returns-clause-joined c = parts_joined
+
+pub returns-clause-packed : goal.returns-clause-packed
+returns-clause-packed c = lines_packed

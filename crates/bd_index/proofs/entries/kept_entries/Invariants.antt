@@ -1,7 +1,0 @@
-use Rattle.std.proofs.Common.{ℕ, List, map, take}
-use Rattle.bd_index.specs.EntryView.{KeepsEntries}
-use Rattle.bd_index.specs.FoundKeyView.{AreFoundIn, found_entry}
-use Rattle.bd_index.proofs.entries.kept_entries.Given as goal
-
-abbrev pub invariant-loop-one : goal.invariant-loop-one
-invariant-loop-one l = (bytes : List ℕ) → AreFoundIn bytes l.found → KeepsEntries bytes l.entries.items (map found_entry (take l.one-index l.found))

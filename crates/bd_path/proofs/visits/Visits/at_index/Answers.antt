@@ -1,6 +1,0 @@
-use Rattle.std.proofs.Common.{inl, inr}
-use Rattle.bd_path.proofs.VisitsLemmas.{step_of}
-use Rattle.bd_path.proofs.visits.Visits.at_index.Goals as goal
-
-pub returns-in-From : goal.returns-in-From
-returns-in-From c j h = rw c.in-From.is (elim (c.at_index.ensures j h) [ inl by ↦ inl (step_of by) | inr d ↦ inr d ])

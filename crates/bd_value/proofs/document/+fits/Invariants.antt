@@ -1,0 +1,21 @@
+use Rattle.std.proofs.Common.{◌≤◌, ◌+◌, ◌*◌, length}
+use Rattle.bd_value.specs.Tree.{tree_size, fields_size, fields_of}
+use Rattle.bd_value.specs.Fits.{FieldsFitTypes, FieldsHaveUtf8}
+use Rattle.bd_value.proofs.document.+fits.Given as goal
+
+abbrev pub decreases-node_fits : goal.decreases-node_fits
+decreases-node_fits g l = 2 * tree_size (g.N.Reading.tree l.node) + 1
+
+abbrev pub decreases-parts_fit : goal.decreases-parts_fit
+decreases-parts_fit g l = 2 * fields_size (fields_of (g.N.Reading.left l.values)) + 2
+
+-- where what is left fits, all does
+abbrev pub invariant-parts_fit-loop-node : goal.invariant-parts_fit-loop-node
+invariant-parts_fit-loop-node g l = record {
+  types : FieldsFitTypes (fields_of (g.N.Reading.left l.rest)) → FieldsFitTypes (fields_of (g.N.Reading.left l.fn.values));
+  texts : FieldsHaveUtf8 (fields_of (g.N.Reading.left l.rest)) → FieldsHaveUtf8 (fields_of (g.N.Reading.left l.fn.values));
+  fewer : fields_size (fields_of (g.N.Reading.left l.rest)) ≤ fields_size (fields_of (g.N.Reading.left l.fn.values));
+}
+
+abbrev pub decreases-parts_fit-loop-node : goal.decreases-parts_fit-loop-node
+decreases-parts_fit-loop-node g l = length (g.N.Reading.left l.rest)
