@@ -27,6 +27,9 @@ WORDS = {
     *("clap", "if_last", "Consumes", "Appends", "IsAtEnd", "ReadConsumes", "WriteAppends"),
 }
 
+# What names no definition in a signature: a comment, the name of a clause, a field.
+CITES_NOTHING = re.compile(r"//.*|\b(?:ensures|requires) \w+(?= \{)|\.\w+")
+
 # Constructors of trees, which stand there in words.
 CONSTRUCTORS = {"own", "undefined"}
 
@@ -85,12 +88,15 @@ def cited() -> dict[tuple[str, str], str]:
             text = text_of(path)
             known: dict[str, tuple[str, str]] = {}
             for owner, module, names in re.findall(r"^\s*ghost use Rattle\.(bd_\w+)\.(specs[\w.]*)\.\{([^}]*)\};", text, re.M):
-                # What the compiler writes for a type, `contracts`, is no definition.
-                if "declared" not in module and "contracts" not in module:
-                    pairs = [name.split(" as ") for name in names.split(",")]
-                    known.update({pair[-1].strip(): (owner, pair[0].strip()) for pair in pairs})
+                for item in names.split(","):
+                    name, _, alias = item.strip().partition(" as ")
+                    *folders, word = f"{module}.{name}".split(".")
+                    # What the compiler writes for a type, `contracts`, is no definition, nor is a file of them.
+                    own = not {"declared", "contracts"} & set(folders)
+                    if own and not (ROOT / "crates" / owner / "/".join(folders) / f"{word}.antt").exists():
+                        known[alias or word] = (owner, word)
             for name, signature in signatures(text):
-                for word in re.findall(r"[\w-]+", signature):
+                for word in re.findall(r"[\w-]+", CITES_NOTHING.sub("", signature)):
                     if word in known:
                         found.setdefault(known[word], f"{crate.name}: {name}")
     return found
