@@ -429,11 +429,11 @@ def summed_up(outcomes: dict[str, str], seconds: float) -> int:
 # What --self-test tries, in one round: edits of callees, and some that change nothing, in callers of those and elsewhere.
 SELF_TEST = {
     "callee": ("src/document.rt", "        self.pairs.len()", "        self.pairs.capacity()", REFUSED),
-    "other_callee": ("src/tree.rt", "TreeParts::Items(items),", "TreeParts::Items(&items[..0]),", REFUSED),
-    "caller_with_answers": ("src/lookup.rt", "            if here == name {", "            if (here) == name {", NOT_REFUSED),
-    "caller_without_answers": ("src/nesting.rt", "    depth_of(Tree::Doc(document))", "    (depth_of(Tree::Doc(document)))", NOT_REFUSED),
-    "name_gone": ("src/fits.rt", "                scalar_fits(own);", "                let _own = own;", ONLY_BY_NAME),
-    "elsewhere": ("src/zeros.rt", "    text.as_bytes().contains(&0)", "    text.as_bytes().contains(&0) // nothing", NOT_REFUSED),
+    "other_callee": ("src/node.rt", "TreeParts::Items(items),", "TreeParts::Items(&items[..0]),", REFUSED),
+    "caller_with_answers": ("src/document.rt", "            if here == name {", "            if (here) == name {", NOT_REFUSED),
+    "caller_without_answers": ("src/document.rt", "    depth_of(Tree::Doc(document))", "    (depth_of(Tree::Doc(document)))", NOT_REFUSED),
+    "name_gone": ("src/document.rt", "                scalar_fits(own);", "                let _own = own;", ONLY_BY_NAME),
+    "elsewhere": ("src/document.rt", "    text.as_bytes().contains(&0)", "    text.as_bytes().contains(&0) // nothing", NOT_REFUSED),
 }
 
 # What a check tells, and whether it says only that a proof names what is gone.
