@@ -2,16 +2,14 @@
 use Rattle.std.proofs.Common.{◌≡◌, ◌≤◌, ◌<◌, ◌+◌, ℕ, zero, suc, List, [], ◌∷◌, ◌++◌, take, drop, length, Bool, true, false, cond, ltb, Option, Some, None, Ok, Err, inl, inr, refl, sym, ap, ap₂, subst}
 use Rattle.std.proofs.Common.{◌∙◌, arith, add-one}
 use Rattle.std.proofs.{lemmas.Bool.ltb-true, lemmas.Bool.ltb-false, lemmas.List.drop_all, lemmas.List.take_all, lemmas.Option.slice_get_within}
-use Rattle.std.specs.Prelude.{◌⊎◌, slice_get, is_some}
-use Rattle.std.specs.{List.list_all, Option.option_or, Str.bytes_eq}
+use Rattle.std.specs.Prelude.{◌⊎◌, ◌↔◌, slice_get, is_some, if◌then◌else◌}
+use Rattle.std.specs.{List.list_all, Option.option_map_or, Option.option_or, Str.bytes_eq}
 use Rattle.bd_value.specs.Tree.{first_of, Doc, Pair, Tree}
-use Rattle.bd_value.proofs.ViewLemmas.{next_at}
 use Rattle.bd_command.specs.{Command.Command, declared.command.CommandFault.CommandFault, declared.field.CommandName.CommandName, declared.field.FieldKind.FieldKind}
 use Rattle.bd_command.specs.Field.{command_fields, entry_of, fits_field, required_fields}
-use Rattle.bd_command.specs.CommandOf.{CommandsKeepRules, FaultsBreakRules, FieldsKeepRules, FirstBreak, IsCommandDocument, IsFaultOf, IsFieldsFault, command_in, command_named, command_of}
-use Rattle.bd_command.specs.CommandOf.{first_command, missing_fault, pair_fault, pairs_fault, unless_fault, value_fault}
+use Rattle.bd_command.specs.CommandOf.{FieldsKeepRules, FirstBreak, IsCommandDocument, IsFaultOf, command_in, command_of}
+use Rattle.bd_command.specs.CommandOf.{first_command, missing_fault, pair_fault, pairs_fault}
 use Rattle.bd_value.proofs.ViewLemmas as lookup
-use Rattle.bd_command.specs.declared.command.CommandFault.TheVariants as faults
 
 -- a pair of the front
 pub at_front : (d : Doc) (i n : ℕ) (p : Pair) → i < n → slice_get d i ≡ Some p → slice_get (take n d) i ≡ Some p
@@ -55,7 +53,7 @@ module _ (command : CommandName) (d : Doc) (i : ℕ) (total fault : Option Comma
       let at = (there d i lt).1 in
       ap (λ (f : Option CommandFault). option_or f (pairs_fault command (take (i + 1) d) (drop (i + 1) d))) (here p at)
       ∙ ap (λ (before : Doc). option_or (pair_fault command (take i d) p) (pairs_fault command before (drop (i + 1) d))) (front_with d i p at)
-      ∙ sym (ap (pairs_fault command (take i d)) (next_at d i p at)) ∙ so_far
+      ∙ sym (ap (pairs_fault command (take i d)) (lookup.next_at d i p at)) ∙ so_far
 
   pub fault_later : fault ≡ None → pairs_fault command (take (i + 1) d) (drop (i + 1) d) ≡ total
   fault_later none = sym (ap (λ (f : Option CommandFault). option_or f (pairs_fault command (take (i + 1) d) (drop (i + 1) d))) none) ∙ one_more
@@ -74,29 +72,32 @@ here_alone : (command : CommandName) (d : Doc) (i : ℕ) (p : Pair) → slice_ge
 here_alone command d i p at q also = let same : p ≡ q = cc in ap (pair_fault command (take i d)) same
 
 -- no document is refused for want of memory
-value_not_wanting : (kind : Option FieldKind) (t : Tree) → value_fault kind t ≡ Some faults.NoMemory → ⊥
+abbrev value_fault : Option FieldKind → Tree → Option CommandFault
+value_fault kind t = option_map_or (λ kind. if fits_field kind t then None else Some CommandFault.BadField) kind (Some CommandFault.UnknownField)
+
+value_not_wanting : (kind : Option FieldKind) (t : Tree) → value_fault kind t ≡ Some CommandFault.NoMemory → ⊥
 value_not_wanting None t is = cc
 value_not_wanting (Some kind) t is = go (fits_field kind t) is
   where
-    go : (y : Bool) → cond y None (Some faults.BadField) ≡ Some faults.NoMemory → ⊥
+    go : (y : Bool) → cond y None (Some CommandFault.BadField) ≡ Some CommandFault.NoMemory → ⊥
     go true e = cc
     go false e = cc
 
-pub never_wanting : (command : CommandName) (before ps : Doc) → pairs_fault command before ps ≡ Some faults.NoMemory → ⊥
+pub never_wanting : (command : CommandName) (before ps : Doc) → pairs_fault command before ps ≡ Some CommandFault.NoMemory → ⊥
 never_wanting command before [] is = go (list_all (λ name. is_some (first_of name before)) (required_fields command)) is
   where
-    go : (y : Bool) → cond y None (Some faults.MissingField) ≡ Some faults.NoMemory → ⊥
+    go : (y : Bool) → cond y None (Some CommandFault.MissingField) ≡ Some CommandFault.NoMemory → ⊥
     go true e = cc
     go false e = cc
 never_wanting command before (p ∷ ps) is = go (never_wanting command (before ++ p ∷ []) ps) (first_of p.0 before) is
   where
-    rest : (o : Option CommandFault) → (o ≡ Some faults.NoMemory → ⊥) → (pairs_fault command (before ++ p ∷ []) ps ≡ Some faults.NoMemory → ⊥)
-        → option_or o (pairs_fault command (before ++ p ∷ []) ps) ≡ Some faults.NoMemory → ⊥
+    rest : (o : Option CommandFault) → (o ≡ Some CommandFault.NoMemory → ⊥) → (pairs_fault command (before ++ p ∷ []) ps ≡ Some CommandFault.NoMemory → ⊥)
+        → option_or o (pairs_fault command (before ++ p ∷ []) ps) ≡ Some CommandFault.NoMemory → ⊥
     rest None other later e = later e
     rest (Some f) other later e = other e
 
-    go : (pairs_fault command (before ++ p ∷ []) ps ≡ Some faults.NoMemory → ⊥) → (o : Option Tree) → option_or (cond (is_some o) (Some faults.RepeatedField) (value_fault (entry_of p.0 (command_fields command)) p.1)) (pairs_fault command (before ++ p ∷ []) ps)
-        ≡ Some faults.NoMemory → ⊥
+    go : (pairs_fault command (before ++ p ∷ []) ps ≡ Some CommandFault.NoMemory → ⊥) → (o : Option Tree) → option_or (cond (is_some o) (Some CommandFault.RepeatedField) (value_fault (entry_of p.0 (command_fields command)) p.1)) (pairs_fault command (before ++ p ∷ []) ps)
+        ≡ Some CommandFault.NoMemory → ⊥
     go later (Some t) e = cc
     go later None e = rest (value_fault (entry_of p.0 (command_fields command)) p.1) (value_not_wanting (entry_of p.0 (command_fields command)) p.1) later e
 
@@ -132,8 +133,11 @@ module _ (command : CommandName) (d : Doc) where
       go (Some f) e = inr (
         f,
         fault_here command d i total (pair_fault command (take i d) p) lt is (here_alone command d i p at) f e,
-        record { position = i; pair = p; stands = at; good = good; bad = e },
+        (i, p, at, good, e),
       )
+
+  abbrev FieldsBreak : CommandFault → Type 0
+  FieldsBreak f = FirstBreak command d f ⊎ (FieldsKeepRules command d (length d) × (missing_fault command d ≡ Some f))
 
   -- all fields keep the rules, and what is missing is the fault, or the first that breaks one is
   abbrev Ends : Option CommandFault → Type 0
@@ -166,17 +170,17 @@ module _ (command : CommandName) (d : Doc) where
   all_kept : FieldsKeepRules command d (length d) → missing_fault command d ≡ pairs_fault command [] d
   all_kept good = fault_of_all command d (length d) (pairs_fault command [] d) (omega arith) (kept_passed (length d) (omega arith) good)
 
-  fields_refused : (f : CommandFault) → IsFieldsFault command d f → pairs_fault command [] d ≡ Some f
+  fields_refused : (f : CommandFault) → FieldsBreak f → pairs_fault command [] d ≡ Some f
   fields_refused f (inl b) =
-      let lt = slice_get_within d b.position b.pair b.stands in
-      sym (fault_here command d b.position (pairs_fault command [] d) (pair_fault command (take b.position d) b.pair) lt
-      (kept_passed b.position (omega (arith, lt)) b.good) (here_alone command d b.position b.pair b.stands) f b.bad)
+      let lt = slice_get_within d b.0 b.1 b.2 in
+      sym (fault_here command d b.0 (pairs_fault command [] d) (pair_fault command (take b.0 d) b.1) lt
+      (kept_passed b.0 (omega (arith, lt)) b.3) (here_alone command d b.0 b.1 b.2) f b.4)
   fields_refused f (inr (good, missing)) = sym (all_kept good) ∙ missing
 
-  fields_told : (f : CommandFault) → pairs_fault command [] d ≡ Some f → IsFieldsFault command d f
+  fields_told : (f : CommandFault) → pairs_fault command [] d ≡ Some f → FieldsBreak f
   fields_told f is = go (ends_so (Some f) is)
     where
-      go : Ends (Some f) → IsFieldsFault command d f
+      go : Ends (Some f) → FieldsBreak f
       go (inl kept) = inr kept
       go (inr (g, same, b)) = let e : g ≡ f = cc in inl (subst (FirstBreak command d) e b)
 
@@ -198,23 +202,19 @@ of_document d = go (first_command d) refl
   where
     go : (o : Option CommandName) → first_command d ≡ o
         → ((c : Command) × (command_of d ≡ Ok c) × IsCommandDocument d) ⊎ ((f : CommandFault) × (command_of d ≡ Err f) × IsFaultOf d f)
-    go None e = inr (faults.UnknownCommand, ap (λ o. command_named o d) e, inl (e, refl))
+    go None e = inr (CommandFault.UnknownCommand, rw e refl, inl (e, refl))
     go (Some command) e = fields (pairs_fault command [] d) refl
       where
-        named : (o : Option CommandFault) → pairs_fault command [] d ≡ o → command_of d ≡ unless_fault o (command_in command d)
-        named o a = ap (λ o. command_named o d) e ∙ ap (λ o. unless_fault o (command_in command d)) a
-
         fields : (o : Option CommandFault) → pairs_fault command [] d ≡ o
             → ((c : Command) × (command_of d ≡ Ok c) × IsCommandDocument d) ⊎ ((f : CommandFault) × (command_of d ≡ Err f) × IsFaultOf d f)
-        fields None a = inl (command_in command d, named None a, fields_taken_are command d (sym e) (sym a))
-        fields (Some f) a = inr (f, named (Some f) a, inr (command, e, fields_told command d f a))
+        fields None a = inl (command_in command d, rw e rw a refl, fields_taken_are command d (sym e) (sym a))
+        fields (Some f) a = inr (f, rw e rw a refl, inr (command, e, fields_told command d f a))
 
 fault_refused : (d : Doc) (f : CommandFault) → IsFaultOf d f → command_of d ≡ Err f
-fault_refused d f (inl (none, is)) = ap (λ o. command_named o d) none ∙ ap Err (sym is)
-fault_refused d f (inr (command, is, h)) =
-    ap (λ o. command_named o d) is ∙ ap (λ o. unless_fault o (command_in command d)) (fields_refused command d f h)
+fault_refused d f (inl (none, is)) = rw none (ap Err (sym is))
+fault_refused d f (inr (command, is, h)) = rw is rw (fields_refused command d f h) refl
 
-pub commands_keep_rules : CommandsKeepRules
+pub commands_keep_rules : (d : Doc) → ((c : Command) × (command_of d ≡ Ok c)) ↔ IsCommandDocument d
 commands_keep_rules d = (kept, suffice)
   where
     kept : (c : Command) × (command_of d ≡ Ok c) → IsCommandDocument d
@@ -227,9 +227,9 @@ commands_keep_rules d = (kept, suffice)
     suffice : IsCommandDocument d → (c : Command) × (command_of d ≡ Ok c)
     suffice h =
         let none = sym (all_kept h.0 d h.2) ∙ h.3 in
-        (command_in h.0 d, ap (λ o. command_named o d) h.1 ∙ ap (λ o. unless_fault o (command_in h.0 d)) none)
+        (command_in h.0 d, rw h.1 rw none refl)
 
-pub faults_break_rules : FaultsBreakRules
+pub faults_break_rules : (d : Doc) (f : CommandFault) → (command_of d ≡ Err f) ↔ IsFaultOf d f
 faults_break_rules d f = (told, fault_refused d f)
   where
     told : command_of d ≡ Err f → IsFaultOf d f

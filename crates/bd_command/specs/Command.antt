@@ -1,13 +1,9 @@
 -- What a command asks for, with texts as their bytes and documents as their pairs; and why a document is no command.
 use Rattle.std.specs.Prelude.{ℕ, Bool, List, string_bytes, get_or, map, ◌-◌, []}
 use Rattle.bd_value.specs.{Tree.Doc, View.pairs}
-use Rattle.bd_command.specs.{declared.command.Hint.Hint as HeldHint, declared.field.HintForm.HintForm, declared.command.Command.Command as HeldCommand}
-use Rattle.bd_command.specs.{declared.command.CommandFault.CommandFault, declared.command.FindCommand.FindCommand as HeldFind}
-use Rattle.bd_command.specs.declared.command.TheConstants.{WORDS}
-use Rattle.bd_command.specs.declared.command.Command.TheVariants as commands
-use Rattle.bd_command.specs.declared.command.CommandFault.TheVariants as faults
-use Rattle.bd_command.specs.declared.command.Hint.TheVariants as hints
-use Rattle.bd_command.specs.declared.field.HintForm.TheVariants as forms
+use Rattle.bd_command.specs.declared.command.{Command.Command as HeldCommand, FindCommand.FindCommand as HeldFind}
+use Rattle.bd_command.specs.declared.{command.Hint.Hint as HeldHint, field.HintForm.HintForm}
+use Rattle.bd_command.specs.declared.command.{CommandFault.CommandFault, TheConstants.WORDS}
 
 -- by what documents are to be found: by what serves, by a look at each, or by the index on a path
 pub data Hint : Type 0 where
@@ -33,40 +29,38 @@ pub data Command : Type 0 where
   kills_cursor : ℕ → Command
   explains : FindCommand → Command
 
--- ---- one in memory
-
+-- what a hint in memory stands for; and a command, below
 abbrev pub hint_tree : HeldHint → Hint
-hint_tree hints.Auto = any_way
-hint_tree hints.Scan = by_scan
-hint_tree (hints.Index path) = by_index (string_bytes path)
+hint_tree HeldHint.Auto = any_way
+hint_tree HeldHint.Scan = by_scan
+hint_tree (HeldHint.Index path) = by_index (string_bytes path)
 
 -- the same, with a path that is borrowed
 abbrev pub hint_read : HintForm → Hint
-hint_read forms.Auto = any_way
-hint_read forms.Scan = by_scan
-hint_read (forms.Index path) = by_index path.now
+hint_read HintForm.Auto = any_way
+hint_read HintForm.Scan = by_scan
+hint_read (HintForm.Index path) = by_index path.now
 
 abbrev pub find_tree : HeldFind → FindCommand
 find_tree f = record { filter = pairs f.filter; sort = pairs f.sort; skip = f.skip; limit = f.limit; hint = hint_tree f.hint }
 
 abbrev pub command_tree : HeldCommand → Command
-command_tree (commands.CreateIndex path sparse) = creates_index (string_bytes path) sparse
-command_tree (commands.DropIndex path) = drops_index (string_bytes path)
-command_tree (commands.Find find) = finds (find_tree find)
-command_tree (commands.Resume token find) = resumes (string_bytes token) (find_tree find)
-command_tree (commands.GetMore id batch) = gets_more id batch
-command_tree (commands.KillCursor id) = kills_cursor id
-command_tree (commands.Explain find) = explains (find_tree find)
+command_tree (HeldCommand.CreateIndex path sparse) = creates_index (string_bytes path) sparse
+command_tree (HeldCommand.DropIndex path) = drops_index (string_bytes path)
+command_tree (HeldCommand.Find find) = finds (find_tree find)
+command_tree (HeldCommand.Resume token find) = resumes (string_bytes token) (find_tree find)
+command_tree (HeldCommand.GetMore id batch) = gets_more id batch
+command_tree (HeldCommand.KillCursor id) = kills_cursor id
+command_tree (HeldCommand.Explain find) = explains (find_tree find)
 
--- ---- why a document is none: the words, and the number that a reply has; no reply is out of memory
-
+-- why a document is none: the number that a reply has; no reply is out of memory
 abbrev pub command_fault_number : CommandFault → ℕ
-command_fault_number faults.UnknownCommand = 1
-command_fault_number faults.MissingField = 2
-command_fault_number faults.UnknownField = 3
-command_fault_number faults.RepeatedField = 4
-command_fault_number faults.BadField = 5
-command_fault_number faults.NoMemory = 6
+command_fault_number CommandFault.UnknownCommand = 1
+command_fault_number CommandFault.MissingField = 2
+command_fault_number CommandFault.UnknownField = 3
+command_fault_number CommandFault.RepeatedField = 4
+command_fault_number CommandFault.BadField = 5
+command_fault_number CommandFault.NoMemory = 6
 
 -- what went wrong, in words, which stand in the code by number
 unfoldable pub command_fault_words : CommandFault → List ℕ

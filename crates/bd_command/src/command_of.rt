@@ -1,13 +1,14 @@
 //! Documents read as commands: the command that a document is, or its first fault.
 
-ghost use Rattle.std.specs.Prelude.{◌≡◌, ◌<◌, ◌⊎◌, [], codes, false, take, IfErr, IfOk, IsErrOf, Some, Ok, Err, is_some, length, slice_get, string_bytes};
+ghost use Rattle.std.specs.Prelude.{◌≡◌, ◌<◌, ◌⊎◌, ◌↔◌, [], codes, false, take, IfErr, IfOk, IsErrOf, Some, Ok, Err, is_some, length, slice_get, string_bytes};
 ghost use Rattle.std.specs.Result.{result_err};
 ghost use Rattle.bd_value.specs.Tree.{first_of, Doc, Pair};
 ghost use Rattle.bd_value.specs.View.{pairs};
-ghost use Rattle.bd_command.specs.Command.{any_way, command_tree, find_tree, hint_tree};
-ghost use Rattle.bd_command.specs.CommandOf.{CommandsKeepRules, FaultsBreakRules, IsCommandDocument, command_in, command_of, field_value, find_in};
+ghost use Rattle.bd_command.specs.Command.{Command as CommandTree, any_way, command_tree, find_tree, hint_tree};
+ghost use Rattle.bd_command.specs.CommandOf.{IsCommandDocument, IsFaultOf, command_in, command_of, field_value, find_in};
 ghost use Rattle.bd_command.specs.CommandOf.{first_command, missing_fault, pair_fault, pairs_fault};
 ghost use Rattle.bd_command.specs.Field.{count_field, document_field, hint_field, text_field, truth_field};
+ghost use Rattle.bd_command.specs.declared.command.CommandFault.{CommandFault as Fault};
 ghost use Rattle.bd_command.specs.declared.command.CommandFault.TheVariants.{NoMemory};
 
 use crate::command::{Command, CommandFault, FindCommand, Hint};
@@ -195,6 +196,6 @@ fn copied(alloc: Global, document: &Document) -> Result<Document, NoMemory>
 
 /// A document is a command exactly where its fields keep the rules, and is refused exactly for the first rule that it breaks.
 pub fn faulty_documents_alone_are_no_commands()
-    ensures commands { CommandsKeepRules }
-    ensures faults { FaultsBreakRules }
+    ensures commands { (d : Doc) → ((c : CommandTree) × (command_of d ≡ Ok c)) ↔ IsCommandDocument d }
+    ensures faults { (d : Doc) (f : Fault) → (command_of d ≡ Err f) ↔ IsFaultOf d f }
 {}
