@@ -1,20 +1,20 @@
 -- What the words of a line order, by the parser's own definition of the lines that it takes.
-use Rattle.std.specs.Prelude.{◌≡◌, ◌==◌, ◌⊎◌, ◌&&◌, ℕ, List, [], ◌∷◌, Bool, true, false, not, if◌then◌else◌, map, slice_get, codes, String, string_bytes, Option, Some}
-use Rattle.std.specs.Prelude.{None, option_map, option_and_then, unwrap_or, Result, MatchResult}
-use Rattle.std.specs.{Str.bytes_eq, Str.Parse.digits_value, Str.Parse.without_leading_plus, Option.option_map_or, Option.option_or}
-use Rattle.clap.specs.{Walk.Row, Walk.Rule, Walk.Text, Walk.first_of, Walk.one_of, Simple.App, Simple.new_app, Simple.new_rule, Simple.on_top, Simple.subcommand_of}
-use Rattle.clap.specs.{Simple.with_rule, Simple.with_subcommand, Faults.fault_of, ValueTests.is_unsigned_in, declared.error.kind.ErrorKind.ErrorKind}
-use Rattle.clap.specs.{declared.builder.value_parser.ValueParser.TheVariants.Unsigned, declared.builder.action.ArgAction.TheVariants.Set}
-use Rattle.bd_command_line.specs.declared.order.Order.TheVariants.{Dump, Check, Pack, Find, Serve}
-use Rattle.bd_command_line.specs.declared.order.WordsFault.TheVariants.{Help, NoMemory, Usage}
-use Rattle.bd_command_line.specs.{FindWords.FindWords, FindWords.find_words_of, declared.order.Order.Order, declared.order.WordsFault.WordsFault}
-use Rattle.clap.specs.declared.error.kind.ErrorKind.TheVariants as kind
+use Rattle.std.specs.Prelude.{◌≡◌, ◌==◌, ◌⊎◌, ◌&&◌, ℕ, List, [], ◌∷◌, Bool, true, false, not, if◌then◌else◌, map}
+use Rattle.std.specs.Prelude.{slice_get, codes, String, string_bytes, Option, Some, None, option_map, option_and_then}
+use Rattle.std.specs.{Prelude.unwrap_or, Prelude.Result, Prelude.MatchResult, Option.option_map_or, Option.option_or}
+use Rattle.std.specs.Str.{bytes_eq, Parse.digits_value, Parse.without_leading_plus}
+use Rattle.clap.specs.Simple.{App, new_app, new_rule, on_top, subcommand_of, with_rule, with_subcommand}
+use Rattle.clap.specs.Walk.{Row, Rule, Text, first_of, one_of}
+use Rattle.clap.specs.declared.builder.{value_parser.ValueParser.ValueParser, action.ArgAction.ArgAction}
+use Rattle.clap.specs.{Faults.fault_of, ValueTests.is_unsigned_in, declared.error.kind.ErrorKind.ErrorKind}
+use Rattle.bd_command_line.specs.{FindWords.FindWords, FindWords.find_words_of}
+use Rattle.bd_command_line.specs.declared.order.{Order.Order, WordsFault.WordsFault}
 
 -- ---- the lines that are taken, as the parser has them
 
 -- the argument FILE, of which each command has one
 abbrev pub file_rule : Rule
-file_rule = record (new_rule (codes "file")) { required = true; action = Some Set }
+file_rule = record (new_rule (codes "file")) { required = true; action = Some ArgAction.Set }
 
 -- a command that takes a file alone
 abbrev pub file_app : Text → App
@@ -24,8 +24,8 @@ file_app name = with_rule (new_app name) file_rule
 abbrev pub option_rule : Text → Bool → Rule
 option_rule name takes_number = record (new_rule name) {
   long = Some name;
-  action = Some Set;
-  parser = if takes_number then Some (Unsigned 0 2147483647) else None;
+  action = Some ArgAction.Set;
+  parser = if takes_number then Some (ValueParser.Unsigned 0 2147483647) else None;
 }
 
 -- a command with these options more, and whether each takes a number
@@ -41,11 +41,8 @@ find_app = with_options (file_app (codes "find"))
 
 -- the line without its commands
 abbrev pub top_app : App
-top_app = on_top (λ s. record s {
-  no_binary_name = true;
-  subcommand_required = true;
-  disable_help_subcommand = true;
-}) (new_app (codes "bsonfind"))
+top_app = on_top (λ s. record s { no_binary_name = true; subcommand_required = true; disable_help_subcommand = true })
+    (new_app (codes "bsonfind"))
 
 -- the line with these commands more, each of which takes a file alone
 abbrev pub with_file_commands : App → List Text → App
@@ -56,8 +53,7 @@ abbrev pub line_app : App
 line_app = with_subcommand (with_file_commands top_app (codes "dump" ∷ codes "check" ∷ codes "pack" ∷ codes "serve" ∷ []))
     find_app.top
 
--- ---- what they order
-
+-- what they order
 pub data OrderView : Type 0 where
   dump : Text → OrderView
   check : Text → OrderView
@@ -71,11 +67,11 @@ IsFileCommand name order = ((name ≡ codes "dump") × (order ≡ dump)) ⊎ ((n
     ⊎ ((name ≡ codes "pack") × (order ≡ pack)) ⊎ ((name ≡ codes "serve") × (order ≡ serve))
 
 abbrev pub meant : Order → OrderView
-meant (Dump file) = dump (string_bytes file)
-meant (Check file) = check (string_bytes file)
-meant (Pack file) = pack (string_bytes file)
-meant (Find file options) = find (string_bytes file) (find_words_of options)
-meant (Serve file) = serve (string_bytes file)
+meant (Order.Dump file) = dump (string_bytes file)
+meant (Order.Check file) = check (string_bytes file)
+meant (Order.Pack file) = pack (string_bytes file)
+meant (Order.Find file options) = find (string_bytes file) (find_words_of options)
+meant (Order.Serve file) = serve (string_bytes file)
 
 abbrev pub words_of : {Z : Type 0} → List (String Z) → List Text
 words_of = map string_bytes
@@ -100,31 +96,26 @@ find_words_in rows = record {
   after = first_of (codes "after") rows;
 }
 
-abbrev pub find_ordered : List Row → Text → OrderView
-find_ordered rows file = find file (find_words_in rows)
-
 -- the order of a command's name and its matches
 abbrev pub ordered_by : Text → List Row → Option OrderView
 ordered_by name rows = if bytes_eq name (codes "dump") then option_map dump (first_of (codes "file") rows)
     else (if bytes_eq name (codes "check") then option_map check (first_of (codes "file") rows)
     else (if bytes_eq name (codes "pack") then option_map pack (first_of (codes "file") rows)
     else (if bytes_eq name (codes "find")
-    then option_map (find_ordered rows) (first_of (codes "file") rows)
+    then option_map (λ file. find file (find_words_in rows)) (first_of (codes "file") rows)
     else (if bytes_eq name (codes "serve") then option_map serve (first_of (codes "file") rows) else None))))
 
 -- the order of words that are taken
 abbrev pub order_of : List Text → Option OrderView
 order_of words = option_and_then (λ p. ordered_by p.0 p.1) (subcommand_of line_app words)
 
--- ---- and how the others are answered
-
+-- how the others are answered
 abbrev pub refusal_told : ErrorKind → WordsFault
-refusal_told kind.DisplayHelp = Help
-refusal_told kind.OutOfMemory = NoMemory
-refusal_told _ = Usage
+refusal_told ErrorKind.DisplayHelp = WordsFault.Help
+refusal_told ErrorKind.OutOfMemory = WordsFault.NoMemory
+refusal_told _ = WordsFault.Usage
 
--- the fault that the parser's refusal of the words is told as; none where it takes them. Where the
--- parser may give one of several kinds, all of them are told as the first.
+-- the fault that the parser's refusal is told as, or none. Where it may be of several kinds, all are told as the first.
 abbrev pub parser_refusal : List Text → Option WordsFault
 parser_refusal words = option_map refusal_told (slice_get (fault_of line_app words) 0)
 
@@ -139,11 +130,11 @@ serves_input words = option_map_or is_serve_of_input (order_of words) false
 
 -- the fault of the words: the parser's, else that they are `serve` of the standard input; none where they are taken
 abbrev pub fault_for : List Text → Option WordsFault
-fault_for words = option_or (parser_refusal words) (if serves_input words then Some Usage else None)
+fault_for words = option_or (parser_refusal words) (if serves_input words then Some WordsFault.Usage else None)
 
 -- the answer is this order, or memory ran out
 abbrev pub GivesOrder : Result Order WordsFault → OrderView → Type 0
-GivesOrder answer order = MatchResult answer (λ o. meant o ≡ order) (λ f. f ≡ NoMemory)
+GivesOrder answer order = MatchResult answer (λ o. meant o ≡ order) (λ f. f ≡ WordsFault.NoMemory)
 
 -- the first word is `help`
 abbrev pub is_help_line : List Text → Bool
@@ -156,8 +147,7 @@ is_serve_input_line (command ∷ escape ∷ file ∷ []) =
     bytes_eq command (codes "serve") && (bytes_eq escape (codes "--") && bytes_eq file (codes "-"))
 is_serve_input_line _ = false
 
--- a word that may stand as FILE, or as the text after `--index` or `--after`: none of two bytes and more that begins with a
--- hyphen (45)
+-- a word that may stand as FILE, or after `--index` or `--after`: of two bytes or more it begins with no hyphen (45)
 abbrev pub is_file_word : Text → Bool
 is_file_word (x ∷ y ∷ rest) = not (x == 45)
 is_file_word _ = true

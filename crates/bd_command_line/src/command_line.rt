@@ -39,7 +39,6 @@ pub const USAGE: &str = "usage: bsonfind dump FILE
 pub fn parse_words(alloc: Global, words: &[String]) -> Result<Order, WordsFault>
     ensures order { IfOk result (λ o. order_of (words_of words.now) ≡ Some (meant o)) }
     ensures only_taken { IfOk result (λ _. fault_for (words_of words.now) ≡ None) }
-    ensures never_of_input { IfOk result (λ o. is_serve_of_input (meant o) ≡ false) }
     ensures fault { IfErr result (λ f. (f ≡ NoMemory) ⊎ (fault_for (words_of words.now) ≡ Some f)) }
     ensures taken { takes line_app (words_of words.now) ≡ true → serves_input (words_of words.now) ≡ false
         → IfErr result (λ f. f ≡ NoMemory) }
@@ -84,7 +83,6 @@ fn is_plain_serve_of_input(words: &[String]) -> bool
 fn order_taken(alloc: Global, words: &[String]) -> Result<Order, WordsFault>
     ensures order { IfOk result (λ o. order_of (words_of words.now) ≡ Some (meant o)) }
     ensures only_taken { IfOk result (λ _. fault_for (words_of words.now) ≡ None) }
-    ensures never_of_input { IfOk result (λ o. is_serve_of_input (meant o) ≡ false) }
     ensures fault { IfErr result (λ f. (f ≡ NoMemory) ⊎ (fault_for (words_of words.now) ≡ Some f)) }
     ensures taken { takes line_app (words_of words.now) ≡ true → serves_input (words_of words.now) ≡ false
         → IfErr result (λ f. f ≡ NoMemory) }
@@ -134,8 +132,7 @@ fn fault_told(error: &Error) -> WordsFault
 #[tactic(auto, using(crate::proofs::LineLemmas::no_file, crate::proofs::LineLemmas::readings))]
 fn order_named(alloc: Global, name: &str, matches: &ArgMatches<'_>) -> Result<Order, WordsFault>
     requires { IsSome (ordered_by name.now (rows_of (found_of matches.now))) }
-    ensures order { IfOk result (λ o.
-        ordered_by name.now (rows_of (found_of matches.now)) ≡ Some (meant o)) }
+    ensures order { IfOk result (λ o. ordered_by name.now (rows_of (found_of matches.now)) ≡ Some (meant o)) }
     ensures fault { IfErr result (λ f. f ≡ NoMemory) }
 {
     let Some(file) = matches.get_str("file") else {
@@ -199,8 +196,7 @@ type Made<'a> = Result<Command<'a>, AllocError>;
 
 /// The program's whole line.
 fn line_command<'a>(alloc: Global) -> Made<'a>
-    ensures app { IfOk result (λ c. app_of c ≡ line_app) }
-    ensures local { IfOk result (λ c. (fields_of c).has_globals ≡ false) }
+    ensures { IfOk result (λ c. (app_of c ≡ line_app) × ((fields_of c).has_globals ≡ false)) }
 {
     let find = find_command(alloc)?;
     with_file_commands(alloc, top_command(alloc), &FILE_COMMANDS)?.subcommand(find)
@@ -208,8 +204,7 @@ fn line_command<'a>(alloc: Global) -> Made<'a>
 
 /// The program's line without its commands.
 fn top_command<'a>(alloc: Global) -> Command<'a>
-    ensures app { app_of result ≡ top_app }
-    ensures local { (fields_of result).has_globals ≡ false }
+    ensures { (app_of result ≡ top_app) × ((fields_of result).has_globals ≡ false) }
 {
     Command::new(alloc, "bsonfind")
         .no_binary_name(true)
@@ -236,16 +231,14 @@ fn with_file_commands<'a>(alloc: Global, line: Command<'a>, names: &[&'a str]) -
 
 /// A command that takes a file and nothing else.
 fn of_file<'a>(alloc: Global, name: &'a str) -> Made<'a>
-    ensures app { IfOk result (λ c. app_of c ≡ file_app name.entry.now) }
-    ensures local { IfOk result (λ c. (fields_of c).has_globals ≡ false) }
+    ensures { IfOk result (λ c. (app_of c ≡ file_app name.entry.now) × ((fields_of c).has_globals ≡ false)) }
 {
     let file = file_argument(alloc);
     Command::new(alloc, name).arg(file)
 }
 
 fn file_argument<'a>(alloc: Global) -> Arg<'a>
-    ensures rule { rule_of result ≡ file_rule }
-    ensures local { result.global ≡ false }
+    ensures { (rule_of result ≡ file_rule) × (result.global ≡ false) }
 {
     Arg::new(alloc, "file")
         .required(true)
@@ -265,8 +258,7 @@ const OPTIONS: [(&str, bool); 7] = [
 
 /// The command `find` with all its options.
 fn find_command<'a>(alloc: Global) -> Made<'a>
-    ensures app { IfOk result (λ c. app_of c ≡ find_app) }
-    ensures local { IfOk result (λ c. (fields_of c).has_globals ≡ false) }
+    ensures { IfOk result (λ c. (app_of c ≡ find_app) × ((fields_of c).has_globals ≡ false)) }
 {
     with_options(alloc, of_file(alloc, "find")?, &OPTIONS)
 }
@@ -285,8 +277,7 @@ fn with_options<'a>(alloc: Global, command: Command<'a>, options: &[(&'a str, bo
 }
 
 fn option_argument<'a>(alloc: Global, name: &'a str, takes_number: bool) -> Arg<'a>
-    ensures rule { rule_of result ≡ option_rule name.entry.now takes_number }
-    ensures local { result.global ≡ false }
+    ensures { (rule_of result ≡ option_rule name.entry.now takes_number) × (result.global ≡ false) }
 {
     let text = Arg::new(alloc, name).long(name).action(ArgAction::Set);
     if takes_number {

@@ -4,7 +4,5 @@ use Rattle.clap.specs.Simple.{with_rule}
 use Rattle.bd_command_line.proofs.command_line.of_file.Goals as goal
 
 pub returns : goal.returns
-returns c = record {
-  app = IfOk-weaker c.arg.result _ _ (λ m h. h.shape c.file_argument-file.ensures.local ∙ ap₂ with_rule c.new.ensures.app c.file_argument-file.ensures.rule) c.arg.ensures;
-  local = IfOk-weaker c.arg.result _ _ (λ m h. search rules) c.arg.ensures;
-}
+returns c = IfOk-weaker c.arg.result _ _
+    (λ m h. (h.shape c.file_argument-file.ensures.1 ∙ ap₂ with_rule c.new.ensures.app c.file_argument-file.ensures.0, search rules)) c.arg.ensures

@@ -16,7 +16,7 @@ pub loop-name-preserved : goal.loop-name-preserved
 loop-name-preserved c = record {
   app =
       added (app_of c.loop-name.with) (app_of c.in_ok-with.with) _ c.args.names.now c.loop-name.name-index _ c.loop-name-test.true
-      (c.in_ok-with.ensures.shape c.in_ok-command.ensures.local ∙ ap (λ (a : App). with_subcommand (app_of c.loop-name.with) a.top) c.in_ok-command.ensures.app)
+      (c.in_ok-with.ensures.shape c.in_ok-command.ensures.1 ∙ ap (λ (a : App). with_subcommand (app_of c.loop-name.with) a.top) c.in_ok-command.ensures.0)
       c.loop-name.invariant.app;
-  local = c.in_ok-with.ensures.globals ∙ ap₂ (λ a b. a || b) c.loop-name.invariant.local c.in_ok-command.ensures.local;
+  local = c.in_ok-with.ensures.globals ∙ ap₂ (λ a b. a || b) c.loop-name.invariant.local c.in_ok-command.ensures.1;
 }

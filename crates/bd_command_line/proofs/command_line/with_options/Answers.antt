@@ -16,7 +16,7 @@ pub loop-name-preserved : goal.loop-name-preserved
 loop-name-preserved c = record {
   app =
       added (app_of c.loop-name.with) (app_of c.in_ok-with.with) _ c.args.options.now c.loop-name.name-index _ c.loop-name-test.true
-      (c.in_ok-with.ensures.shape c.option_argument.ensures.local ∙ ap (with_rule (app_of c.loop-name.with)) c.option_argument.ensures.rule)
+      (c.in_ok-with.ensures.shape c.option_argument.ensures.1 ∙ ap (with_rule (app_of c.loop-name.with)) c.option_argument.ensures.0)
       c.loop-name.invariant.app;
-  local = c.in_ok-with.ensures.globals ∙ ap₂ (λ a b. a || b) c.loop-name.invariant.local c.option_argument.ensures.local;
+  local = c.in_ok-with.ensures.globals ∙ ap₂ (λ a b. a || b) c.loop-name.invariant.local c.option_argument.ensures.1;
 }
