@@ -10,7 +10,7 @@ use Rattle.bd_device.specs.Devices.{AreReads, no_read, Reader}
 use Rattle.bd_device.proofs.DevicesLemmas.{reads_none, reads_more, reads_append}
 use Rattle.bd_lines.specs.{Lines.IsLine, Lines.IsPart, declared.line_buffer.LineBuffer.LineBuffer}
 use Rattle.bd_lines.specs.LineBuffer.{EndsByOneRead, FailsToReadLine, FindsNoLine, ReadsLine, held_after, GivesBeforeLast, GivesBytes, IsCause, IsLazy, LastRead, ReadsTo, StopsReading}
-use Rattle.bd_lines.proofs.LinesLemmas.{line_grows, line_front, both_empty}
+use Rattle.bd_lines.proofs.LinesLemmas.{line_grows, both_empty}
 use Rattle.bd_device.specs.declared.reading.ReadFault.TheVariants as reads
 
 -- one read, which gives nothing at the end and something before it
@@ -284,9 +284,6 @@ module _ {R : Type 0} {state : R → Reader} {gives : R → Option (List ℕ) �
       head_is = subst IsLine (sym so_far.same) (line_grows lines.line.items (held_after lines) whole is)
 
       -- so no newline was held at first
-      pub head_line : IsLine (held_after before)
-      head_line = line_front (held_after before) so_far.given head_is
-
       module _ (all : List ℕ) (grown : all ≡ lines.line.items ++ held_after lines) where
         pub line_grown : IsLine all
         line_grown = subst IsLine (sym grown) (line_grows lines.line.items (held_after lines) whole is)

@@ -1,10 +1,9 @@
 -- What reading the next line of a device does to the device and to the buffer of the line.
-use Rattle.std.specs.Prelude.{◌≡◌, ◌<◌, ◌≤◌, ◌+◌, ◌⊎◌, ℕ, suc, List, [], ◌++◌, length, drop, Bool, true, false, Option, Some, None}
-use Rattle.std.specs.Io.KnownBytes.{Consumes, IsAtEnd}
-use Rattle.bd_device.specs.{Devices.after_more, Devices.AreReads, Devices.Reader, declared.reading.Limits.Limits, declared.reading.ReadFault.ReadFault}
-use Rattle.bd_lines.specs.Lines.{IsFirstLine, IsLine, IsPart, longest}
-use Rattle.bd_lines.specs.declared.line_buffer.LineBuffer.{LineBuffer}
-use Rattle.bd_device.specs.declared.reading.ReadFault.TheVariants as reads
+use Rattle.std.specs.Prelude.{◌≡◌, ◌<◌, ◌≤◌, ◌+◌, ◌⊎◌, ℕ, suc, List, [], ◌++◌, length, drop, Bool, true, false, Option}
+use Rattle.std.specs.{Prelude.Some, Prelude.None, Io.KnownBytes.Consumes, Io.KnownBytes.IsAtEnd}
+use Rattle.bd_device.specs.{Devices.after_more, Devices.AreReads, Devices.Reader}
+use Rattle.bd_device.specs.declared.reading.{Limits.Limits, ReadFault.ReadFault}
+use Rattle.bd_lines.specs.{Lines.IsFirstLine, Lines.IsLine, Lines.IsPart, Lines.longest, declared.line_buffer.LineBuffer.LineBuffer}
 
 -- the bytes that the device gave after the line
 abbrev pub held_after : LineBuffer → List ℕ
@@ -35,11 +34,11 @@ module _ {R : Type 0} (gives : R → Option (List ℕ) → R → Type 0) where
   -- Why the line that these bytes begin was not read, where a reader gave `given` and may give as many bytes as the limit.
   -- `TooLong`: the line is too long; or the last read, while a part of the line was there, went past the limit.
   abbrev pub IsCause : ℕ → List ℕ → List ℕ → R → R → ReadFault → Type 0
-  IsCause limit bytes given old new reads.TooLong =
+  IsCause limit bytes given old new ReadFault.TooLong =
       (((line : List ℕ) × (rest : List ℕ) × (bytes ≡ line ++ rest) × IsLine line × (longest < length line)) × (length given ≤ limit))
       ⊎ ((line : List ℕ) × (front : List ℕ) × (part : List ℕ) × (bytes ≡ line ++ part) × IsPart line
       × (given ≡ front ++ part) × (length front ≤ limit) × (limit < length given) × EndsByOneRead front part old new)
-  IsCause limit bytes given old new reads.NoMemory = length given ≤ limit
+  IsCause limit bytes given old new ReadFault.NoMemory = length given ≤ limit
   IsCause limit bytes given old new fault = IsPart bytes × (length given ≤ limit)
 
 -- the same, where this is told of each state of the reader
@@ -70,10 +69,10 @@ module _ {R : Type 0} (state : R → Reader) (gives : R → Option (List ℕ) �
 
   -- the last of so many reads that gave these bytes, where a fault of reading came
   abbrev pub LastRead : Limits → ℕ → R → List ℕ → R → ReadFault → Type 0
-  LastRead limits turns old given new reads.Device =
+  LastRead limits turns old given new ReadFault.Device =
       (last : R) × AreReads gives turns old given last × gives last None new
       × ((state new).failures ≡ after_more (state old).failures 1)
-  LastRead limits turns old given new reads.TooManyTurns =
+  LastRead limits turns old given new ReadFault.TooManyTurns =
       AreReads gives turns old given new × ((state new).failures ≡ (state old).failures)
       × (turns ≡ limits.turns) × ((state new).calls ≡ after_more (state old).calls limits.turns)
   LastRead limits turns old given new fault =

@@ -1,12 +1,11 @@
 -- Replies to the commands of a device, each written before a later read.
 use Rattle.std.specs.Prelude.{◌≡◌, ◌≤◌, ◌⊎◌, ℕ, List, [], ◌∷◌, ◌++◌, Bool, true, false, Option}
 use Rattle.std.specs.List.{count_by}
-use Rattle.bd_device.specs.{declared.reading.Limits.Limits, declared.reading.ReadFault.ReadFault}
+use Rattle.bd_device.specs.declared.reading.{Limits.Limits, ReadFault.ReadFault}
 use Rattle.bd_device.specs.Devices.{BreaksAfter, Over, Reader, TakesText, Writer}
 use Rattle.bd_lines.specs.Lines.{AreShort, AreWhole, IsFirstLine, commands_of, is_empty_line, is_newline}
 use Rattle.bd_lines.specs.LineBuffer.{GivesBeforeLast, GivesBytes, IsCause, StopsReading}
 use Rattle.bd_lines.specs.declared.serving.ServeFault.{ServeFault}
-use Rattle.bd_lines.specs.declared.serving.ServeFault.TheVariants as faults
 
 -- this text is the replies to these commands in turn, each with a newline after it; they lead from one state to the other
 abbrev pub RepliesInTurn : {S : Type 0} → (S → List ℕ → List ℕ → S → Type 0) → S → List (List ℕ) → List ℕ → S → Type 0
@@ -68,12 +67,12 @@ module _ {R S : Type 0} (state : R → Reader) (gives : R → Option (List ℕ) 
 
     -- not all commands had a reply, for this reason: the replies before it were written, and `stays` tells what is as it was
     abbrev pub StopsServing : (S → S → Type 0) → ServeFault → Type 0
-    StopsServing stays (faults.Unread fault) = StopsUnread fault
+    StopsServing stays (ServeFault.Unread fault) = StopsUnread fault
     -- the reply to a command was not made
-    StopsServing stays faults.NoMemory =
+    StopsServing stays ServeFault.NoMemory =
         (command : List ℕ) × (text : List ℕ) × (mid : S) × ServesBefore s command text mid × TakesText out text
         × StarvesAt stays replies mid command t
     -- the reply to a command was not written
-    StopsServing stays faults.Unwritten =
+    StopsServing stays ServeFault.Unwritten =
         (command : List ℕ) × (text : List ℕ) × (reply : List ℕ) × (mid : S) × ServesBefore s command text mid
         × replies mid command reply t × BreaksAfter out text (reply ++ 10 ∷ [])

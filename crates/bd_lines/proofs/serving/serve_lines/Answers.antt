@@ -33,7 +33,7 @@ loop-lines-preserved g c =
     let was : c.read_next.result ≡ Ok true = search rules in
     let going : l.lines.ended ≡ false = false_from_ne_true l.lines.ended (λ over. let x = c.read_next.ensures.ends over l.invariant.works in search (rules, was, x)) in
     let r = c.read_next.ensures.reads was in
-    let told = rw c.line.ensures.line at c.in_ok-answer.ensures.replied in
+    let told = rw c.line.ensures.0 at c.in_ok-answer.ensures.replied in
     record {
       so_far = serving.goes_on l.invariant.so_far going r (g.O.Output.state c.answer.new.out) c.answer.new.session told.0 told.1 told.2;
       works = search rules;
@@ -46,8 +46,8 @@ returns-in_err-answer-clause-stops g c =
     let going : l.lines.ended ≡ false = false_from_ne_true l.lines.ended (λ over. let x = c.read_next.ensures.ends over l.invariant.works in search (rules, was, x)) in
     let r = c.read_next.ensures.reads was in
     let e = c.in_err-answer.ensures in
-    let starved = rw c.line.ensures.line at e.starved in
-    let broke = rw c.line.ensures.line at e.broke in
+    let starved = rw c.line.ensures.0 at e.starved in
+    let broke = rw c.line.ensures.0 at e.broke in
     let p = err_from_is_err_and c.from_residual-in_err-answer.result c.from_residual-in_err-answer.ensures.1 in
     rw (p.1, p.2) (serving.stops_answer l.invariant.so_far going r g.S.Replier.stays (g.O.Output.state c.answer.new.out) c.answer.new.session
     c.in_err-answer.field-0.0 e.read (λ h. let x = starved (ap Err h) in (x.0, ap g.O.Output.state x.1, x.2)) (λ h. broke (ap Err h)))
