@@ -136,7 +136,7 @@ pub element_gives : (bytes named value : List ℕ) (kind : Kind) (r : Option (Bo
     → (k : ℕ) × (position is_zero named ≡ Some k) × (is_utf8 (take k named) ≡ true) × (k < length named) × (value ≡ drop (k + 1) named)
     → IfSome r (λ x. (nested : Nested) (q e : ℕ) → past_value nested kind q e value ≡ Ok x.now)
     → IfSome r (λ x. (nested : Nested) (place : Option ℕ) (e : ℕ) → past_element nested place e bytes ≡ Ok x.now)
-unfolding past_element
+unfolding past_element past_name
 element_gives bytes named value kind None lt cut type name past = tt
 element_gives [] named value kind (Some x) lt cut type name past = absurd (omega arith)
 element_gives (b ∷ bytes) named value kind (Some x) lt cut type name past = λ nested place e. rw (cut, type, name.1, name.2, ← name.4, past nested (e - suc (length named)) e) refl

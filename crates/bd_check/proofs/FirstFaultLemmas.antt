@@ -13,7 +13,7 @@ use Rattle.std.proofs.Math.Seq.{drop-cons}
 use Rattle.bd_value.specs.Tree.{Scalar, Tree, leaf, doc, array, code_scope, Fields, no_fields, field, Items, no_items, item, Doc, fields_of, pairs_of, fields_of-pairs_of}
 use Rattle.bd_value.specs.{Limits.longest_document, Limits.most_levels, View.scalar_kind, View.kind_of, declared.node.Kind.Kind}
 use Rattle.bd_check.specs.declared.fault.FaultKind.TheVariants.{UnknownType, BadUtf8, ShortLength, NoTerminator, NameUnended, StringUnended, BadBinaryLength, ValueShort}
-use Rattle.bd_check.specs.FirstFault.{within, label, start, ◌>>=◌, fault, past_number, past_zero, text_at, name_up_to, past_name, past_string, past_frame, past_fixed}
+use Rattle.bd_check.specs.FirstFault.{within, label, ◌>>=◌, fault, past_number, past_zero, text_at, past_name, past_string, past_frame, past_fixed}
 use Rattle.bd_check.specs.FirstFault.{past_boolean, past_data, past_binary, past_code_frame, past_value, past_typed, past_element, past_elements, past_body}
 use Rattle.bd_check.specs.FirstFault.{past_code_scope, past_nested, past_document, Nested, past_regex}
 use Rattle.bd_check.specs.{Fault.Fault, declared.fault.FaultKind.FaultKind}
@@ -126,13 +126,14 @@ none_zero [] (suc k) le h = absurd (omega arith)
 none_zero (b ∷ bytes) (suc k) le h = (eqb-false b 0 (h 0 (omega arith)), none_zero bytes k (omega arith) (λ i lt. h (suc i) (omega arith)))
 
 name_takes : (kind : FaultKind) (e : ℕ) (bytes : List ℕ) (x : List ℕ × List ℕ) → IsBytes bytes → past_name kind e bytes ≡ Ok x → Takes bytes (x.0 ++ 0 ∷ []) x.1 × IsName x.0
+unfolding past_name
 name_takes kind e bytes x fits is = up_to (position (λ b. b == 0) bytes) refl is
   where
-    up_to : (o : Option ℕ) → position (λ b. b == 0) bytes ≡ o → name_up_to kind o e bytes ≡ Ok x → Takes bytes (x.0 ++ 0 ∷ []) x.1 × IsName x.0
-    up_to None at is = absurd cc
-    up_to (Some k) at is =
-        let p = position-Some (λ b. b == 0) bytes k 0 at in
-        let a = bind_ok (text_at (e - length bytes) (take k bytes)) _ x is in
+    up_to : (o : Option ℕ) → position (λ b. b == 0) bytes ≡ o → past_name kind e bytes ≡ Ok x → Takes bytes (x.0 ++ 0 ∷ []) x.1 × IsName x.0
+    up_to None place is = absurd (let e = rw place at is in cc)
+    up_to (Some k) place is =
+        let p = position-Some (λ b. b == 0) bytes k 0 place in
+        let a = bind_ok (text_at (e - length bytes) (take k bytes)) _ x (rw place at is) in
         let t = text_takes (e - length bytes) (take k bytes) a.0 a.1 in
         let z : get_or bytes k 0 ≡ 0 = eqb-true _ _ p.1 in
         let c = past_zero_cut bytes k (drop (k + 1) bytes) fits (omega (arith, p.0)) (rw (add-one, drop-cons bytes k 0 p.0, z) refl) in
@@ -487,9 +488,9 @@ module _ (room : ℕ) (nested : Nested) (below : NestedTakes room nested) where
   body_takes : (in_array : Bool) (e : ℕ) (bytes rest : List ℕ) → IsBytes bytes → past_body nested in_array e bytes ≡ Ok rest → TakesBody (suc room) bytes rest
   body_takes in_array e bytes rest fits is =
       let f = bind_ok (past_frame false e bytes) _ rest is in
-      let o = bind_ok (past_elements nested (start in_array) (length f.0.0) f.0.1 f.0.0) _ rest f.2 in
+      let o = bind_ok (past_elements nested (cond in_array (Some 0) None) (length f.0.0) f.0.1 f.0.0) _ rest f.2 in
       let r = frame_takes false e bytes f.0 fits f.1 in
-      let all = elements_take (start in_array) (length f.0.0) f.0.1 f.0.0 r.body_fits (omega arith) o.1 in
+      let all = elements_take (cond in_array (Some 0) None) (length f.0.0) f.0.1 f.0.0 r.body_fits (omega arith) o.1 in
       rw (← ok_is f.0.2 rest o.2) (record { fields = all.0; body = f.0.0; spell = all.1; takes = r.takes; shallow = omega (arith, all.2) })
 
   code_takes : (q e : ℕ) (bytes rest : List ℕ) → IsBytes bytes → past_code_scope nested q e bytes ≡ Ok rest → TakesCode (suc room) bytes rest
@@ -548,9 +549,10 @@ name_place name rest h =
     rw (zero_place name rest h, long) refl
 
 name_again : (kind : FaultKind) (e : ℕ) (name rest : List ℕ) → IsName name → past_name kind e (name ++ 0 ∷ rest) ≡ Ok (name, rest)
+unfolding past_name
 name_again kind e name rest h =
     let after : drop (length name + 1) (name ++ 0 ∷ rest) ≡ rest = sym (drop-drop 1 (length name) (name ++ 0 ∷ rest)) ∙ ap (drop 1) (drop_at name (0 ∷ rest) (length name) refl) in
-    ap (λ (o : Option ℕ). name_up_to kind o e (name ++ 0 ∷ rest)) (name_place name rest h.1) ∙ rw (take_at name (0 ∷ rest) (length name) refl, after, is_utf8-from_IsUtf8 name h.0) refl
+    rw (name_place name rest h.1, take_at name (0 ∷ rest) (length name) refl, after, is_utf8-from_IsUtf8 name h.0) refl
 
 string_again : (e : ℕ) (s rest : List ℕ) → IsText s → past_string e (string s ++ rest) ≡ Ok rest
 unfolding past_string
@@ -600,7 +602,7 @@ unfolding past_elements
 elements_nil nested place zero e = refl
 elements_nil nested place (suc n) e = refl
 
-body_again : (nested : Nested) (in_array : Bool) (e : ℕ) (body rest : List ℕ) → length (framed body) ≤ longest_document → ((e : ℕ) → past_elements nested (start in_array) (length body) e body ≡ Ok tt)
+body_again : (nested : Nested) (in_array : Bool) (e : ℕ) (body rest : List ℕ) → length (framed body) ≤ longest_document → ((e : ℕ) → past_elements nested (cond in_array (Some 0) None) (length body) e body ≡ Ok tt)
     → past_body nested in_array e (framed body ++ rest) ≡ Ok rest
 body_again nested in_array e body rest short h = rw (frame_again false e body rest short (λ is. absurd cc), h (e - length (0 ∷ rest))) refl
 

@@ -1,10 +1,10 @@
 -- Documents one after the other with nothing between, as mongodump writes a collection.
-use Rattle.std.specs.Prelude.{◌≡◌, ◌≤◌, ◌+◌, ◌||◌, ℕ, List, [], ◌∷◌, ◌++◌, length, take, drop, nat_lt, if◌then◌else◌, Option, Some, None, Result, Ok, Err}
+use Rattle.std.specs.Prelude.{◌≡◌, ◌≤◌, ◌+◌, ◌||◌, ℕ, List, [], ◌∷◌, ◌++◌, length, take, drop, nat_lt, if◌then◌else◌}
+use Rattle.std.specs.Prelude.{Option, Some, None, Result, Ok, Err}
 use Rattle.std.specs.Int.{w32, from_le_bytes}
 use Rattle.bd_value.specs.{Limits.longest_document, Limits.longest_input, Tree.Doc, Tree.pairs_in}
 use Rattle.bd_raw.specs.{Spelling.IsDocument, Sound.stands, declared.raw.RawDoc.RawDoc}
 use Rattle.bd_check.specs.{Fault.Fault, FirstFault.first_fault, declared.fault.FaultKind.FaultKind}
-use Rattle.bd_check.specs.declared.fault.FaultKind.TheVariants.{ShortLength, BadLength}
 
 -- the length that the first four bytes tell
 abbrev pub length_told : List ℕ → ℕ
@@ -13,12 +13,12 @@ length_told bytes = from_le_bytes w32 (take 4 bytes)
 -- how many bytes the document at the front is to take, none at the end, or why that can't be
 abbrev pub frame_length : List ℕ → Result (Option ℕ) FaultKind
 frame_length [] = Ok None
-frame_length (b ∷ bytes) = if nat_lt (length (b ∷ bytes)) 4 then Err ShortLength
+frame_length (b ∷ bytes) = if nat_lt (length (b ∷ bytes)) 4 then Err FaultKind.ShortLength
     else (if nat_lt (length_told (b ∷ bytes)) 5 || nat_lt longest_document (length_told (b ∷ bytes))
-    || nat_lt (length (b ∷ bytes)) (length_told (b ∷ bytes)) then Err BadLength
+    || nat_lt (length (b ∷ bytes)) (length_told (b ∷ bytes)) then Err FaultKind.BadLength
     else Ok (Some (length_told (b ∷ bytes))))
 
--- the fault of the document at the front of bytes that begin at the place: of its length, or of the bytes that this counts
+-- the fault of the document at the front of bytes that begin at the place: of its length, or of the bytes it counts
 abbrev pub framed_fault : ℕ → List ℕ → Result (Option ℕ) FaultKind → Option Fault
 framed_fault base bytes (Ok None) = None
 framed_fault base bytes (Ok (Some n)) = first_fault base (take n bytes)

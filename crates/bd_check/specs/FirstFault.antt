@@ -1,13 +1,12 @@
 -- The first check that fails, from left to right, in bytes that are to be one document. No tree is built.
 -- Each function goes past one item at the front of its bytes, and gives the bytes after it or the fault.
 -- e is the place that the item may not pass, and the bytes are those up to it: the item stands at e less their number.
-use Rattle.std.specs.Prelude.{ℕ, zero, suc, ◌+◌, ◌-◌, List, [], ◌∷◌, length, take, drop, Option, Some, None, option_map, Result, Ok, Err, Bool, true, false, nat_lt, ◌==◌, ◌||◌, ◌&&◌, not, if◌then◌else◌, decimal, codes, slice_index_or}
-use Rattle.std.specs.{List.position, Str.is_utf8, Str.Lossy.utf8_valid_len, Int.w32, Int.from_le_bytes, Option.ok_or, Result.result_err}
+use Rattle.std.specs.Prelude.{ℕ, zero, suc, ◌+◌, ◌-◌, List, [], ◌∷◌, length, take, drop, Option, Some, None}
+use Rattle.std.specs.Prelude.{option_map, Result, Ok, Err, Bool, true, false, nat_lt, ◌==◌, ◌||◌, ◌&&◌, not}
+use Rattle.std.specs.{Prelude.if◌then◌else◌, Prelude.decimal, Prelude.codes, Prelude.slice_index_or, Option.ok_or, Option.option_map_or, Result.result_err}
+use Rattle.std.specs.{List.position, Str.is_utf8, Str.Lossy.utf8_valid_len, Int.w32, Int.from_le_bytes}
 use Rattle.bd_value.specs.{Limits.longest_document, Limits.most_levels, declared.node.Kind.Kind}
-use Rattle.bd_value.specs.declared.node.Kind.TheVariants as kinds
-use Rattle.bd_raw.specs.{Spelling.type_at, Sizes.number_of, declared.raw_parts.ElementType.ElementType, declared.raw_parts.Holder.Holder}
-use Rattle.bd_raw.specs.declared.raw_parts.ElementType.TheVariants as types
-use Rattle.bd_raw.specs.declared.raw_parts.Holder.TheVariants as holders
+use Rattle.bd_raw.specs.{Spelling.type_at, Sizes.number_of, declared.raw_parts.{ElementType.ElementType, Holder.Holder}}
 use Rattle.bd_check.specs.{Fault.Fault, Fault.longer, declared.fault.FaultKind.FaultKind}
 use Rattle.bd_check.specs.declared.fault.FaultKind.TheVariants.{ShortLength, BadLength, NoTerminator, UnknownType, Double, Decimal128, NameUnended, BadUtf8, BadStringLength, StringUnended, BadBoolean, BadBinaryLength, BadScopeLength, TooDeep, ValueShort}
 
@@ -35,14 +34,11 @@ abbrev pub text_at : ℕ → List ℕ → Result (List ℕ) Fault
 text_at at bytes = if is_utf8 bytes then Ok bytes else fault BadUtf8 (at + utf8_valid_len bytes)
 
 -- The text before the first zero, and the bytes after that zero. The kind is the fault where there is no zero.
-abbrev pub name_up_to : FaultKind → Option ℕ → ℕ → List ℕ → Result (List ℕ × List ℕ) Fault
-name_up_to kind None e bytes = fault kind (e - length bytes)
-name_up_to kind (Some k) e bytes = do
+unfoldable pub past_name : FaultKind → ℕ → List ℕ → Result (List ℕ × List ℕ) Fault
+past_name kind e bytes = do
+  k ← ok_or (position (λ b. b == 0) bytes) (record { kind = kind; offset = e - length bytes; path = [] })
   name ← text_at (e - length bytes) (take k bytes)
   Ok (name, drop (k + 1) bytes)
-
-abbrev pub past_name : FaultKind → ℕ → List ℕ → Result (List ℕ × List ℕ) Fault
-past_name kind e bytes = name_up_to kind (position (λ b. b == 0) bytes) e bytes
 
 -- so many bytes
 abbrev pub past_fixed : ℕ → ℕ → List ℕ → Result (List ℕ) Fault
@@ -102,36 +98,35 @@ abbrev pub Nested : Type 0
 Nested = Holder → ℕ → ℕ → List ℕ → Result (List ℕ) Fault
 
 abbrev pub past_value : Nested → Kind → ℕ → ℕ → List ℕ → Result (List ℕ) Fault
-past_value nested kinds.MinKey q e bytes = Ok bytes
-past_value nested kinds.Undefined q e bytes = Ok bytes
-past_value nested kinds.Null q e bytes = Ok bytes
-past_value nested kinds.MaxKey q e bytes = Ok bytes
-past_value nested kinds.Int32 q e bytes = past_fixed 4 e bytes
-past_value nested kinds.Int64 q e bytes = past_fixed 8 e bytes
-past_value nested kinds.Date q e bytes = past_fixed 8 e bytes
-past_value nested kinds.Timestamp q e bytes = past_fixed 8 e bytes
-past_value nested kinds.ObjectId q e bytes = past_fixed 12 e bytes
-past_value nested kinds.Bool q e bytes = past_boolean e bytes
-past_value nested kinds.Text q e bytes = past_string e bytes
-past_value nested kinds.Symbol q e bytes = past_string e bytes
-past_value nested kinds.Code q e bytes = past_string e bytes
-past_value nested kinds.DbPointer q e bytes = past_string e bytes >>= λ rest. past_fixed 12 e rest
-past_value nested kinds.Binary q e bytes = past_binary e bytes
-past_value nested kinds.Regex q e bytes = past_regex e bytes
-past_value nested kinds.Doc q e bytes = nested holders.Document q e bytes
-past_value nested kinds.Array q e bytes = nested holders.Array q e bytes
-past_value nested kinds.CodeScope q e bytes = nested holders.CodeScope q e bytes
+past_value nested Kind.MinKey q e bytes = Ok bytes
+past_value nested Kind.Undefined q e bytes = Ok bytes
+past_value nested Kind.Null q e bytes = Ok bytes
+past_value nested Kind.MaxKey q e bytes = Ok bytes
+past_value nested Kind.Int32 q e bytes = past_fixed 4 e bytes
+past_value nested Kind.Int64 q e bytes = past_fixed 8 e bytes
+past_value nested Kind.Date q e bytes = past_fixed 8 e bytes
+past_value nested Kind.Timestamp q e bytes = past_fixed 8 e bytes
+past_value nested Kind.ObjectId q e bytes = past_fixed 12 e bytes
+past_value nested Kind.Bool q e bytes = past_boolean e bytes
+past_value nested Kind.Text q e bytes = past_string e bytes
+past_value nested Kind.Symbol q e bytes = past_string e bytes
+past_value nested Kind.Code q e bytes = past_string e bytes
+past_value nested Kind.DbPointer q e bytes = past_string e bytes >>= λ rest. past_fixed 12 e rest
+past_value nested Kind.Binary q e bytes = past_binary e bytes
+past_value nested Kind.Regex q e bytes = past_regex e bytes
+past_value nested Kind.Doc q e bytes = nested Holder.Document q e bytes
+past_value nested Kind.Array q e bytes = nested Holder.Array q e bytes
+past_value nested Kind.CodeScope q e bytes = nested Holder.CodeScope q e bytes
 
 -- doubles and decimal128 are refused before their bytes are looked at
 abbrev pub past_typed : Nested → ElementType → ℕ → ℕ → List ℕ → Result (List ℕ) Fault
-past_typed nested types.Double q e bytes = fault Double q
-past_typed nested types.Decimal128 q e bytes = fault Decimal128 q
-past_typed nested (types.Kept kind) q e bytes = past_value nested kind q e bytes
+past_typed nested ElementType.Double q e bytes = fault Double q
+past_typed nested ElementType.Decimal128 q e bytes = fault Decimal128 q
+past_typed nested (ElementType.Kept kind) q e bytes = past_value nested kind q e bytes
 
 -- an element on a path: in an array its position, in a document its name
 abbrev pub label : Option ℕ → List ℕ → List ℕ
-label None name = name
-label (Some i) name = decimal i
+label place name = option_map_or decimal place name
 
 abbrev pub within : {A : Type 0} → List ℕ → Result A Fault → Result A Fault
 within name (Ok x) = Ok x
@@ -154,30 +149,26 @@ past_elements nested place (suc n) e (b ∷ bytes) = do
   past_elements nested (option_map suc place) n e rest
 
 -- a document or an array, whose elements count from 0
-abbrev pub start : Bool → Option ℕ
-start false = None
-start true = Some 0
-
 abbrev pub past_body : Nested → Bool → ℕ → List ℕ → Result (List ℕ) Fault
 past_body nested in_array e bytes = do
   f ← past_frame false e bytes
-  past_elements nested (start in_array) (length f.0) f.1 f.0 >>= λ u. Ok f.2
+  past_elements nested (if in_array then Some 0 else None) (length f.0) f.1 f.0 >>= λ u. Ok f.2
 
 -- code with scope: its scope ends where it does
 abbrev pub past_code_scope : Nested → ℕ → ℕ → List ℕ → Result (List ℕ) Fault
 past_code_scope nested q e bytes = do
   f ← past_code_frame e bytes
   scope ← past_string f.1 f.0
-  after ← within (codes "$scope") (nested holders.Document q f.1 scope)
+  after ← within (codes "$scope") (nested Holder.Document q f.1 scope)
   if nat_lt 0 (length after) then fault BadScopeLength (e - length bytes) else Ok f.2
 
 -- what holds values, with so many levels left for it; a scope is two levels deeper than what holds its code
 unfoldable pub past_nested : ℕ → Nested
 past_nested zero holder q e bytes = fault TooDeep q
-past_nested (suc room) holders.Document q e bytes = past_body (past_nested room) false e bytes
-past_nested (suc room) holders.Array q e bytes = past_body (past_nested room) true e bytes
-past_nested (suc zero) holders.CodeScope q e bytes = fault TooDeep q
-past_nested (suc (suc room)) holders.CodeScope q e bytes = past_code_scope (past_nested (suc room)) q e bytes
+past_nested (suc room) Holder.Document q e bytes = past_body (past_nested room) false e bytes
+past_nested (suc room) Holder.Array q e bytes = past_body (past_nested room) true e bytes
+past_nested (suc zero) Holder.CodeScope q e bytes = fault TooDeep q
+past_nested (suc (suc room)) Holder.CodeScope q e bytes = past_code_scope (past_nested (suc room)) q e bytes
 
 -- the document that all of the bytes are to be, which is at level 1 of 200
 unfoldable pub past_document : ℕ → List ℕ → Result (Unit {0}) Fault

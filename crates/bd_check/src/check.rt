@@ -1,13 +1,13 @@
 //! The first fault of a document's bytes, from left to right, without a tree; and the documents of a dump in turn.
 
-ghost use Rattle.std.specs.Prelude.{◌≡◌, ◌≤◌, ◌<◌, ◌+◌, length, drop, slice_range, option_map, suc, IfOk, IfErr, IfSome, MatchResult, MatchOption, Ok, Err, Some, None, []};
+ghost use Rattle.std.specs.Prelude.{◌≡◌, ◌≤◌, ◌<◌, ◌+◌, length, drop, slice_range, option_map, suc, IfOk, IfErr, IfSome, MatchResult, Ok, Err, Some, None, [], if◌then◌else◌};
 ghost use Rattle.bd_value.specs.Limits.{longest_input};
 ghost use Rattle.bd_value.specs.Tree.{Doc, pairs_in};
 ghost use Rattle.bd_value.specs.View.{pairs};
 ghost use Rattle.bd_raw.specs.Spelling.{IsDocument};
 ghost use Rattle.bd_raw.specs.Sound.{stands};
-ghost use Rattle.bd_check.specs.Fault.{GivesItem, FindsFault, TellsFault, IsWantOfMemory};
-ghost use Rattle.bd_check.specs.FirstFault.{past_typed, past_element, past_elements, past_body, past_code_scope, past_nested, past_document, start, first_fault};
+ghost use Rattle.bd_check.specs.Fault.{GivesItem, TellsFault, IsWantOfMemory};
+ghost use Rattle.bd_check.specs.FirstFault.{past_typed, past_element, past_elements, past_body, past_code_scope, past_nested, past_document, first_fault};
 ghost use Rattle.bd_check.specs.Dump.{frame_length, frame_fault, IsNext};
 
 use crate::fault::{
@@ -33,7 +33,7 @@ pub fn check_document<'a>(
     requires { base + length bytes.now ≤ longest_input }
     ensures spelled { IfOk result (λ d. IsDocument (pairs_in (stands d.sound)) bytes.now) }
     ensures kept { IfOk result (λ d. d.bytes.now ≡ bytes.now) }
-    ensures first { FindsFault number (first_fault base bytes.now) result }
+    ensures first { MatchResult result (λ _. first_fault base bytes.now ≡ None) (TellsFault number (first_fault base bytes.now)) }
 {
     match document(alloc, base + bytes.len() as u64, bytes) {
         Ok(()) => Ok(RawDoc::whole(bytes)),
@@ -81,8 +81,7 @@ pub fn next_frame(
 ) -> Result<Option<Frame>, Fault>
     requires { at ≤ length bytes.now }
     ensures found { IfOk result (λ f. frame_length (drop at bytes.now) ≡ Ok (option_map (λ x. x.length) f)) }
-    ensures start { IfOk result (λ f. MatchOption f (Unit {0}) (λ x. x.start ≡ at)) }
-    ensures inside { IfOk result (λ f. MatchOption f (Unit {0}) (λ x. at + x.length ≤ length bytes.now)) }
+    ensures stands { IfOk result (λ f. IfSome f (λ x. (x.start ≡ at) × (at + x.length ≤ length bytes.now))) }
     ensures fault { IfErr result (λ e. frame_length (drop at bytes.now) ≡ Err e.kind) }
     ensures place { IfErr result (λ e. (e.document ≡ number) × (e.offset ≡ at) × (e.path.items ≡ [])) }
 {
@@ -138,7 +137,7 @@ fn document(alloc: Global, e: u64, bytes: &[u8]) -> Result<(), Stop>
 #[cycle(checking)]
 fn elements(alloc: Global, room: u32, in_array: bool, e: u64, bytes: &[u8]) -> Result<(), Stop>
     requires { length bytes.now ≤ e }
-    ensures { GivesItem (λ x. tt) result (past_elements (past_nested room) (start in_array) (length bytes.now) e bytes.now) }
+    ensures { GivesItem (λ x. tt) result (past_elements (past_nested room) (if in_array then Some 0 else None) (length bytes.now) e bytes.now) }
 {
     let mut place = if in_array { Some(0) } else { None };
     let mut rest = bytes;

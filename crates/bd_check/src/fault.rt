@@ -175,10 +175,7 @@ pub fn want_of_memory(alloc: Global) -> Fault
 
 /// A fault of a document as a whole.
 pub fn frame_fault(alloc: Global, kind: FaultKind, at: usize, number: u32) -> Fault
-    ensures kind { result.kind ≡ kind }
-    ensures document { result.document ≡ number }
-    ensures offset { result.offset ≡ at }
-    ensures path { result.path.items ≡ [] }
+    ensures { (result.kind ≡ kind) × (result.document ≡ number) × (result.offset ≡ at) × (result.path.items ≡ []) }
 {
     Fault {
         kind,

@@ -115,6 +115,7 @@ pub fn regex(alloc: Global, e: u64, bytes: &[u8]) -> Past<'_>
 
 /// The text up to the first zero, and the bytes after that zero. `unended` is the fault where there is no zero.
 #[inline(always)]
+#[tactic(auto, unfolding(crate::specs::FirstFault::past_name))]
 pub fn name(alloc: Global, unended: FaultKind, e: u64, bytes: &[u8]) -> Result<(&str, &[u8]), Stop>
     requires { length bytes.now ≤ e }
     ensures gives { GivesItem (λ x. (x.0.now, x.1.now)) result (past_name unended e bytes.now) }

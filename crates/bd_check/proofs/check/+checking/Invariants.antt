@@ -1,5 +1,5 @@
-use Rattle.std.proofs.Common.{◌≡◌, ◌≤◌, ◌+◌, ◌*◌, length, IfSome}
-use Rattle.bd_check.specs.FirstFault.{past_elements, past_nested, start}
+use Rattle.std.proofs.Common.{◌≡◌, ◌≤◌, ◌+◌, ◌*◌, length, IfSome, cond, Some, None}
+use Rattle.bd_check.specs.FirstFault.{past_elements, past_nested}
 use Rattle.bd_check.proofs.FirstFaultLemmas.{IsBytes}
 use Rattle.bd_check.proofs.check.+checking.Given as goal
 
@@ -26,7 +26,7 @@ invariant-elements-loop-rest l = record {
   inside : length l.rest ≤ l.e;
   fits : IsBytes l.rest;
   counted : IfSome l.place (λ i. i + length l.rest ≤ length l.bytes);
-  so_far : past_elements (past_nested l.room) l.place (length l.rest) l.e l.rest ≡ past_elements (past_nested l.room) (start l.in_array) (length l.bytes) l.e l.bytes;
+  so_far : past_elements (past_nested l.room) l.place (length l.rest) l.e l.rest ≡ past_elements (past_nested l.room) (cond l.in_array (Some 0) None) (length l.bytes) l.e l.bytes;
 }
 
 abbrev pub decreases-elements-loop-rest : goal.decreases-elements-loop-rest
