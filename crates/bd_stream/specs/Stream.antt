@@ -1,12 +1,12 @@
 -- Documents that a device gives one after the other, by the lengths that they begin with.
-use Rattle.std.specs.Prelude.{◌≡◌, ◌<◌, ◌≤◌, ◌+◌, ◌-◌, ◌⊎◌, ℕ, List, [], ◌∷◌, ◌++◌, length, take, Option, Some, None, Result, Ok, Err, IfSome, IsTrue, false}
+use Rattle.std.specs.Prelude.{◌≡◌, ◌<◌, ◌≤◌, ◌+◌, ◌-◌, ◌⊎◌, ℕ, List, [], ◌∷◌, ◌++◌, length, take, Option, Some}
+use Rattle.std.specs.Prelude.{None, Result, Ok, Err, IfSome, IsTrue, false}
 use Rattle.std.specs.Io.KnownBytes.{Consumes, IsAtEnd}
 use Rattle.bd_value.specs.Limits.{longest_document}
 use Rattle.bd_device.specs.{Devices.after_more, Devices.AreReads, Devices.Over, Devices.Reader, Devices.over}
-use Rattle.bd_device.specs.declared.reading.ReadFault.TheVariants as reads
+use Rattle.bd_device.specs.declared.reading.ReadFault.{ReadFault}
 use Rattle.bd_check.specs.{Dump.frame_length, Dump.length_told, declared.fault.FaultKind.FaultKind}
-use Rattle.bd_stream.specs.{declared.doc_buffer.DocBuffer.DocBuffer, declared.doc_buffer.DocFault.DocFault, declared.doc_reader.RawBytes.RawBytes}
-use Rattle.bd_stream.specs.declared.doc_buffer.DocFault.TheVariants as faults
+use Rattle.bd_stream.specs.declared.{doc_buffer.DocBuffer.DocBuffer, doc_buffer.DocFault.DocFault, doc_reader.RawBytes.RawBytes}
 
 -- the bytes begin with a length, which is their own
 abbrev pub IsFrame : List ℕ → Type 0
@@ -32,8 +32,7 @@ abbrev pub EndsWithinOne : List ℕ → List ℕ → Type 0
 EndsWithinOne bytes last = (frames : List (List ℕ)) × (front : List ℕ) × (part : List ℕ) × AreFrames frames front
     × (bytes ≡ front ++ part) × IsWithinOne (part ++ last)
 
--- a head, and the bytes that a device still gives after it, where they are known, or some, begin with no length of a document,
--- for this reason
+-- a head, and what a device still gives after it, or some bytes if that is unknown, begin with no length, for this reason
 abbrev pub HasNoFrame : List ℕ → Option (List ℕ) → FaultKind → Type 0
 HasNoFrame head left kind = (bytes : List ℕ) × IfSome left (λ rest. bytes ≡ head ++ rest) × (frame_length bytes ≡ Err kind)
 
@@ -61,68 +60,66 @@ pub record HoldsNone (before after : DocBuffer) : Type 0 where
   pub room : after.left.bytes ≡ before.left.bytes
   pub empty : after.size ≡ 0
 
--- The next document was read, and no byte after it. What is told of a reader, and which of its reads may give what, is handed
--- to this definition and to those below.
-pub record ReadsDocument {R : Type 0} (state : R → Reader) (gives : R → Option (List ℕ) → R → Type 0)
-    (before after : DocBuffer) (old new : R) : Type 0 where
-  pub frame : IsFrame (held_bytes after)
-  pub gave : Consumes (state old).left (state new).left (held_bytes after)
-  pub reads : AreReads gives (before.left.turns - after.left.turns) old (held_bytes after) new
-  pub offset : after.place ≡ before.place + after.size
-  pub number : after.number ≡ before.number + 1
-  pub room : after.left.bytes + after.size ≡ before.left.bytes
-  pub counted : CountsReads before after (over state old new)
-  pub well : (state new).failures ≡ (state old).failures
-  pub grown : HoldsAsMuch (length before.buffer.items) (length after.buffer.items) after.size
+-- of a reader, of which this is told, and whose read may give these bytes, or fail, and leave this reader
+module _ {R : Type 0} (state : R → Reader) where
+  -- there is no next document
+  pub record FindsEnd (before after : DocBuffer) (old new : R) : Type 0 where
+    pub kept : HoldsNone before after
+    pub end : IsAtEnd (state new).left
+    pub gave : Consumes (state old).left (state new).left []
+    pub counted : CountsReads before after (over state old new)
+    pub well : (state new).failures ≡ (state old).failures
+    pub grown : length after.buffer.items ≡ length before.buffer.items
 
--- there is no next document
-pub record FindsEnd {R : Type 0} (state : R → Reader) (before after : DocBuffer) (old new : R) : Type 0 where
-  pub kept : HoldsNone before after
-  pub end : IsAtEnd (state new).left
-  pub gave : Consumes (state old).left (state new).left []
-  pub counted : CountsReads before after (over state old new)
-  pub well : (state new).failures ≡ (state old).failures
-  pub grown : length after.buffer.items ≡ length before.buffer.items
+  module _ (gives : R → Option (List ℕ) → R → Type 0) where
+    -- the next document was read, and no byte after it
+    pub record ReadsDocument (before after : DocBuffer) (old new : R) : Type 0 where
+      pub frame : IsFrame (held_bytes after)
+      pub gave : Consumes (state old).left (state new).left (held_bytes after)
+      pub reads : AreReads gives (before.left.turns - after.left.turns) old (held_bytes after) new
+      pub offset : after.place ≡ before.place + after.size
+      pub number : after.number ≡ before.number + 1
+      pub room : after.left.bytes + after.size ≡ before.left.bytes
+      pub counted : CountsReads before after (over state old new)
+      pub well : (state new).failures ≡ (state old).failures
+      pub grown : HoldsAsMuch (length before.buffer.items) (length after.buffer.items) after.size
 
--- why a document was not read, of which the reader gave these bytes after its head; memory is wanted once the four bytes
--- of its length were read, and none is read after them; of a length that is none no byte is read past what it counts
-abbrev pub IsReason : {R : Type 0} → (R → Reader) → (R → Option (List ℕ) → R → Type 0) → DocBuffer → R → R
-    → List ℕ → List ℕ → DocFault → Type 0
-IsReason state gives before old new head given (faults.Frame f) =
-    (f.offset ≡ before.place) × (f.document ≡ before.number) × HasNoFrame head (state old).left f.kind
-    × (frame_length (head ++ given) ≡ Err f.kind) × (length (head ++ given) ≤ before.left.bytes)
-    × ((state new).failures ≡ (state old).failures) × IsWithinOne (head ++ given)
-IsReason state gives before old new head given (faults.Read reads.Device) =
-    IsCut (head ++ given) × (length (head ++ given) ≤ before.left.bytes)
-    × ((state new).failures ≡ after_more (state old).failures 1)
-IsReason state gives before old new head given (faults.Read reads.TooLong) =
-    (front : List ℕ) × (last : List ℕ) × (given ≡ front ++ last) × IsCut (head ++ front)
-    × (length (head ++ front) ≤ before.left.bytes) × (before.left.bytes < length (head ++ front) + length last)
-    × IsWithinOne (head ++ given) × ((state new).failures ≡ (state old).failures)
-IsReason state gives before old new head given (faults.Read reads.TooManyTurns) =
-    IsCut (head ++ given) × (length (head ++ given) ≤ before.left.bytes) × AreReads gives before.left.turns old given new
-    × ((state new).calls ≡ after_more (state old).calls before.left.turns) × ((state new).failures ≡ (state old).failures)
-IsReason state gives before old new head given (faults.Read reads.NoMemory) =
-    IsCut (head ++ given) × (length (head ++ given) ≤ before.left.bytes)
-    × ((state new).failures ≡ (state old).failures) × (length (head ++ given) ≡ 4)
-IsReason state gives before old new head given faults.Failed = ⊥
+    -- why a document was not read, of which the reader gave these bytes after its head; memory is wanted once the four
+    -- bytes of its length were read, and none is read after them; of a length that is none no byte is read past what it counts
+    abbrev pub IsReason : DocBuffer → R → R → List ℕ → List ℕ → DocFault → Type 0
+    IsReason before old new head given (DocFault.Frame f) =
+        (f.offset ≡ before.place) × (f.document ≡ before.number) × HasNoFrame head (state old).left f.kind
+        × (frame_length (head ++ given) ≡ Err f.kind) × (length (head ++ given) ≤ before.left.bytes)
+        × ((state new).failures ≡ (state old).failures) × IsWithinOne (head ++ given)
+    IsReason before old new head given (DocFault.Read ReadFault.Device) =
+        IsCut (head ++ given) × (length (head ++ given) ≤ before.left.bytes)
+        × ((state new).failures ≡ after_more (state old).failures 1)
+    IsReason before old new head given (DocFault.Read ReadFault.TooLong) =
+        (front : List ℕ) × (last : List ℕ) × (given ≡ front ++ last) × IsCut (head ++ front)
+        × (length (head ++ front) ≤ before.left.bytes) × (before.left.bytes < length (head ++ front) + length last)
+        × IsWithinOne (head ++ given) × ((state new).failures ≡ (state old).failures)
+    IsReason before old new head given (DocFault.Read ReadFault.TooManyTurns) =
+        IsCut (head ++ given) × (length (head ++ given) ≤ before.left.bytes) × AreReads gives before.left.turns old given new
+        × ((state new).calls ≡ after_more (state old).calls before.left.turns) × ((state new).failures ≡ (state old).failures)
+    IsReason before old new head given (DocFault.Read ReadFault.NoMemory) = IsCut (head ++ given)
+        × (length (head ++ given) ≤ before.left.bytes) × ((state new).failures ≡ (state old).failures)
+        × (length (head ++ given) ≡ 4)
+    IsReason before old new head given DocFault.Failed = ⊥
 
--- the rest of a document that begins with this head was not read, since the reader gave only these bytes
-pub record FailsToRead {R : Type 0} (state : R → Reader) (gives : R → Option (List ℕ) → R → Type 0)
-    (head : List ℕ) (before after : DocBuffer) (old new : R) (fault : DocFault) : Type 0 where
-  pub given : List ℕ
-  pub gave : Consumes (state old).left (state new).left given
-  pub kept : HoldsNone before after
-  pub counted : (state new).calls ≤ after_more (state old).calls before.left.turns
-  pub grown : GrowsFor (length before.buffer.items) (length after.buffer.items) (head ++ given)
-  pub reason : IsReason state gives before old new head given fault
+    -- the rest of a document that begins with this head was not read, since the reader gave only these bytes
+    pub record FailsToRead (head : List ℕ) (before after : DocBuffer) (old new : R) (fault : DocFault) : Type 0 where
+      pub given : List ℕ
+      pub gave : Consumes (state old).left (state new).left given
+      pub kept : HoldsNone before after
+      pub counted : (state new).calls ≤ after_more (state old).calls before.left.turns
+      pub grown : GrowsFor (length before.buffer.items) (length after.buffer.items) (head ++ given)
+      pub reason : IsReason before old new head given fault
 
--- what a call left in place of the buffer and of the device, by its answer
-abbrev pub Leaves : {R : Type 0} → (R → Reader) → (R → Option (List ℕ) → R → Type 0) → DocBuffer → R
-    → Result (Option RawBytes) DocFault → DocBuffer → R → Type 0
-Leaves state gives before old (Ok (Some document)) after new =
-    ReadsDocument state gives before after old new × (document.bytes.now ≡ held_bytes after) × (after.failed ≡ false)
-Leaves state gives before old (Ok None) after new = FindsEnd state before after old new × (after.failed ≡ false)
-Leaves state gives before old (Err fault) after new =
-    IsTrue after.failed × (before.failed ≡ false → FailsToRead state gives [] before after old new fault)
-    × (IsTrue before.failed → (new ≡ old) × HoldsNone before after × (after.buffer ≡ before.buffer))
+    -- what a call left in place of the buffer and of the device, by its answer
+    abbrev pub Leaves : DocBuffer → R → Result (Option RawBytes) DocFault → DocBuffer → R → Type 0
+    Leaves before old (Ok (Some document)) after new =
+        ReadsDocument before after old new × (document.bytes.now ≡ held_bytes after) × (after.failed ≡ false)
+    Leaves before old (Ok None) after new = FindsEnd before after old new × (after.failed ≡ false)
+    Leaves before old (Err fault) after new =
+        IsTrue after.failed × (before.failed ≡ false → FailsToRead [] before after old new fault)
+        × (IsTrue before.failed → (new ≡ old) × HoldsNone before after × (after.buffer ≡ before.buffer))

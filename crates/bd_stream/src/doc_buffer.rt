@@ -84,10 +84,7 @@ impl DocBuffer {
     /// No document yet. No memory is taken. `limits.bytes` is at most 4,294,967,295.
     pub fn new(alloc: Global, limits: Limits) -> DocBuffer
         requires { limits.bytes ≤ longest_input }
-        ensures left { result.left ≡ limits }
-        ensures place { result.place ≡ 0 }
-        ensures number { result.number ≡ 0 }
-        ensures failed { result.failed ≡ false }
+        ensures starts { (result.left ≡ limits) × (result.place ≡ 0) × (result.number ≡ 0) × (result.failed ≡ false) }
         ensures empty { (result.size ≡ 0) × (result.buffer.items ≡ []) }
     {
         DocBuffer {

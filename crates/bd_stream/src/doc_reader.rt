@@ -36,10 +36,8 @@ impl<R: Input + Drop> DocReader<R> {
     /// The documents of this device from its next byte on. No memory is taken. `limits.bytes` is at most 4,294,967,295.
     pub fn new(alloc: Global, reader: R, limits: Limits) -> DocReader<R>
         requires { limits.bytes ≤ longest_input }
-        ensures reader { result.reader ≡ reader }
-        ensures left { result.documents.left ≡ limits }
+        ensures reader { (result.reader ≡ reader) × (result.documents.left ≡ limits) × (result.documents.failed ≡ false) }
         ensures place { (result.documents.place ≡ 0) × (result.documents.number ≡ 0) }
-        ensures failed { result.documents.failed ≡ false }
         ensures empty { (result.documents.size ≡ 0) × (result.documents.buffer.items ≡ []) }
     {
         DocReader {
