@@ -3,8 +3,9 @@
 -- e is the place that the item may not pass, and the bytes are those up to it: the item stands at e less their number.
 use Rattle.std.specs.Prelude.{ℕ, zero, suc, ◌+◌, ◌-◌, List, [], ◌∷◌, length, take, drop, Option, Some, None}
 use Rattle.std.specs.Prelude.{option_map, Result, Ok, Err, Bool, true, false, nat_lt, ◌==◌, ◌||◌, ◌&&◌, not}
-use Rattle.std.specs.{Prelude.if◌then◌else◌, Prelude.decimal, Prelude.codes, Prelude.slice_index_or, Option.ok_or, Option.option_map_or, Result.result_err}
-use Rattle.std.specs.{List.position, Str.is_utf8, Str.Lossy.utf8_valid_len, Int.w32, Int.from_le_bytes}
+use Rattle.std.specs.Prelude.{if◌then◌else◌, decimal, codes, slice_index_or}
+use Rattle.std.specs.{List.position, Option.ok_or, Option.option_map_or, Result.result_err, Str.is_utf8}
+use Rattle.std.specs.{Str.Lossy.utf8_valid_len, Int.w32, Int.from_le_bytes}
 use Rattle.bd_value.specs.{Limits.longest_document, Limits.most_levels, declared.node.Kind.Kind}
 use Rattle.bd_raw.specs.{Spelling.type_at, Sizes.number_of, declared.raw_parts.{ElementType.ElementType, Holder.Holder}}
 use Rattle.bd_check.specs.{Fault.Fault, Fault.longer, declared.fault.FaultKind.FaultKind}
