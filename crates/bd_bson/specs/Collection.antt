@@ -2,9 +2,9 @@
 use Rattle.std.specs.Prelude.{◌≡◌, ◌<◌, ◌≤◌, ◌⊎◌, ℕ, List, [], length, slice_get, slice_index_or}
 use Rattle.std.specs.List.{filter_map}
 use Rattle.bd_value.specs.{Limits.longest_input, Tree.Doc, Tree.Tree, Tree.doc, Tree.fields_of}
-use Rattle.bd_check.specs.{Dump.FailsAfter, Fault.fault_view, Fault.IsWantOfMemory, declared.fault.FaultKind.TheVariants.DumpTooLong}
+use Rattle.bd_check.specs.{Dump.FailsAfter, Fault.fault_view, Fault.HasNoPlace, Fault.IsWantOfMemory}
+use Rattle.bd_check.specs.declared.fault.{Fault.Fault, FaultKind.FaultKind}
 use Rattle.bd_bson.specs.{Starts.documents_starting_at, declared.collection.Dump.Dump}
-use Rattle.bd_check.specs.declared.fault.Fault as declared
 
 -- the documents of a dump, in their order
 unfoldable pub documents : Dump → List Doc
@@ -14,23 +14,16 @@ documents dump = documents_starting_at dump.bytes.items dump.starts.items dump.s
 abbrev pub bytes_of : Dump → List ℕ
 bytes_of dump = dump.bytes.items
 
--- the bytes are too many for a dump: the fault has no place
-pub record IsTooLong (bytes : List ℕ) (e : declared.Fault) : Type 0 where
-  pub more : longest_input < length bytes
-  pub kind : e.kind ≡ DumpTooLong
-  pub document : e.document ≡ 0
-  pub offset : e.offset ≡ 0
-  pub path : e.path.items ≡ []
-
 -- after some whole documents, of which there are as many as the number that it has, stands one that has the fault
-pub record IsFirstFault (bytes : List ℕ) (e : declared.Fault) : Type 0 where
+pub record IsFirstFault (bytes : List ℕ) (e : Fault) : Type 0 where
   pub before : List Doc
   pub fails : FailsAfter before (fault_view e) bytes
   pub document : e.document ≡ length before
 
--- why the bytes were not read as a dump: their number, tried first, or that memory ran out, or the first document with a fault
-abbrev pub IsUnread : List ℕ → declared.Fault → Type 0
-IsUnread bytes e = IsTooLong bytes e ⊎ ((length bytes ≤ longest_input) × (IsWantOfMemory e ⊎ IsFirstFault bytes e))
+-- why bytes were not read as a dump: too many, which is tried first, or out of memory, or the first document with a fault
+abbrev pub IsUnread : List ℕ → Fault → Type 0
+IsUnread bytes e = ((longest_input < length bytes) × HasNoPlace FaultKind.DumpTooLong e)
+    ⊎ ((length bytes ≤ longest_input) × (IsWantOfMemory e ⊎ IsFirstFault bytes e))
 
 -- of these documents the one at a place
 abbrev pub document_at : List Doc → ℕ → Tree

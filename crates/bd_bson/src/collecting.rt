@@ -65,13 +65,12 @@ fn starts_in(alloc: Global, bytes: &[u8]) -> Result<Vec<u32>, Fault>
     Ok(starts)
 }
 
-/// Bytes that are not too many are a dump of documents or have one first fault, never both, and each in one way alone.
+/// Bytes that are not too many are a dump of documents or have one first fault, never both; and each in one way alone, by
+/// `walks_in_one_way`.
 pub fn dump_or_fault()
     ensures either { (bytes : List ℕ) → ((i : ℕ) → slice_index bytes i < 256) → length bytes ≤ longest_input →
         ((ds : List Doc) × IsDump ds bytes) ⊎ ((ds : List Doc) × (f : FaultView) × FailsAfter ds f bytes) }
     ensures never_both { (bytes : List ℕ) (ds es : List Doc) (f : FaultView) → IsDump ds bytes → FailsAfter es f bytes → ⊥ }
-    ensures one_dump { (bytes : List ℕ) (ds es : List Doc) → IsDump ds bytes → IsDump es bytes → ds ≡ es }
-    ensures one_fault { (bytes : List ℕ) (ds es : List Doc) (f g : FaultView) → FailsAfter ds f bytes → FailsAfter es g bytes → (ds ≡ es) × (f ≡ g) }
 {}
 
 /// Any bytes are documents in turn and then end, or fail after these, and in one way alone.

@@ -1,4 +1,4 @@
-use Rattle.std.proofs.Common.{◌≤◌, ◌⊎◌, ℕ, List, [], length, Option, Some, None, refl, inl, inr, unwrap_or, ap}
+use Rattle.std.proofs.Common.{◌≤◌, ◌⊎◌, ℕ, List, [], length, Option, Some, None, refl, inl, inr}
 use Rattle.bd_value.specs.{Limits.longest_input, Tree.Doc}
 use Rattle.bd_check.specs.{Fault.Fault, Dump.IsDump, Dump.IsWalk, Dump.FailsAfter}
 use Rattle.bd_check.proofs.DumpLemmas.{walk_once, walk_on}
@@ -16,6 +16,4 @@ pub returns : goal.returns
 returns c = record {
   either = λ bytes fits short. let w = walk_on [] [] bytes fits refl in of_walk w.more w.end bytes short w.walk;
   never_both = both;
-  one_dump = λ bytes ds es v w. (walk_once ds es None None bytes v.0 w.0).0;
-  one_fault = λ bytes ds es f g v w. let e = walk_once ds es (Some f) (Some g) bytes v w in (e.0, ap (λ o. unwrap_or o f) e.1);
 }
