@@ -165,7 +165,7 @@ fn document_at(alloc: Global, document: &Document, field: &str) -> Result<Docume
     ensures { IfOk result (λ d. pairs d ≡ field_value document_field [] field.now (pairs document.now)) }
 {
     match document.first(field).and_then(document_in) {
-        Some(inner) => copied(alloc, inner),
+        Some(inner) => to_document::<Tree<'_>>(alloc, Tree::Doc(inner).parts()),
         None => Ok(Document::new(alloc)),
     }
 }
@@ -186,12 +186,6 @@ fn hint_at(alloc: Global, document: &Document) -> Result<Hint, NoMemory>
         Some(HintForm::Index(path)) => Hint::Index(String::from_str(alloc, path)?),
         _ => Hint::Auto,
     })
-}
-
-fn copied(alloc: Global, document: &Document) -> Result<Document, NoMemory>
-    ensures { IfOk result (λ d. pairs d ≡ pairs document.now) }
-{
-    to_document::<Tree<'_>>(alloc, Tree::Doc(document).parts())
 }
 
 /// A document is a command exactly where its fields keep the rules, and is refused exactly for the first rule that it breaks.
