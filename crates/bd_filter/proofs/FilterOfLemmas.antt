@@ -40,23 +40,23 @@ none_yet (Err r) = refl
 pub none_read : {A B : Type 0} (view : A → B) (xs : List A) (whole : Result (List B) Refusal) → xs ≡ [] → joined (map view xs) whole ≡ whole
 none_read view xs whole none = ap (λ ys. joined (map view ys) whole) none ∙ none_yet whole
 
-pub one_read : {A B : Type 0} (view : A → B) (xs ys : List A) (x : A) (name : List ℕ) (part : Result B Refusal) (rest whole : Result (List B) Refusal)
-    → ys ≡ xs ++ x ∷ [] → part ≡ Ok (view x) → joined (map view xs) (read_at name part rest) ≡ whole → joined (map view ys) rest ≡ whole
-one_read view xs ys x name part rest whole pushed is so_far =
+pub one_read : {A B : Type 0} (view : A → B) (xs ys : List A) (x : A) (name : List ℕ) (part : Result B Refusal) (left rest whole : Result (List B) Refusal)
+    → ys ≡ xs ++ x ∷ [] → part ≡ Ok (view x) → left ≡ read_at name part rest → joined (map view xs) left ≡ whole → joined (map view ys) rest ≡ whole
+one_read view xs ys x name part left rest whole pushed is next so_far =
     ap (λ zs. joined (map view zs) rest) pushed ∙ ap (λ zs. joined zs rest) (map_push view xs x) ∙ sym (one_more (map view xs) name (view x) rest)
-    ∙ sym (ap (λ p. joined (map view xs) (read_at name p rest)) is) ∙ so_far
+    ∙ sym (ap (joined (map view xs)) (next ∙ ap (λ p. read_at name p rest) is)) ∙ so_far
 
 pub all_read : {B : Type 0} (xs : List B) (rest whole : Result (List B) Refusal) → joined xs rest ≡ whole → rest ≡ Ok [] → whole ≡ Ok xs
 all_read xs rest whole so_far none = sym so_far ∙ ap (joined xs) none ∙ no_more xs
 
 -- a part that is refused under a name is the refusal of all
-pub refused : {A : Type 0} (xs : List A) (name : List ℕ) (part : Result A Refusal) (rest whole : Result (List A) Refusal) (stop result : Stop)
-    → joined xs (read_at name part rest) ≡ whole → ((r : Refusal) → TellsMisfit stop r → TellsMisfit result (deeper name r)) → (stop ≡ stops.NoMemory → result ≡ stops.NoMemory)
+pub refused : {A : Type 0} (xs : List A) (name : List ℕ) (part : Result A Refusal) (left rest whole : Result (List A) Refusal) (stop result : Stop)
+    → left ≡ read_at name part rest → joined xs left ≡ whole → ((r : Refusal) → TellsMisfit stop r → TellsMisfit result (deeper name r)) → (stop ≡ stops.NoMemory → result ≡ stops.NoMemory)
     → StopsAt stop part → StopsAt result whole
-refused xs name part rest whole stop stops.NoMemory is tells starved at = tt
-refused xs name part rest whole stops.NoMemory (stops.Fault f) is tells starved at = let e = starved refl in absurd cc
-refused xs name part rest whole (stops.Fault k) (stops.Fault f) is tells starved at =
-    sym is ∙ ap (λ p. joined xs (read_at name p rest)) at ∙ ap (λ r. Err r) (tells (refusal_of k) refl)
+refused xs name part left rest whole stop stops.NoMemory next is tells starved at = tt
+refused xs name part left rest whole stops.NoMemory (stops.Fault f) next is tells starved at = let e = starved refl in absurd cc
+refused xs name part left rest whole (stops.Fault k) (stops.Fault f) next is tells starved at =
+    sym is ∙ ap (joined xs) (next ∙ ap (λ p. read_at name p rest) at) ∙ ap (λ r. Err r) (tells (refusal_of k) refl)
 
 -- ---- operands that are values
 

@@ -1,13 +1,13 @@
--- Which filter a document is (MongoDB manual, "Query and Projection Operators"), and which pair or member of another document
--- is the first that is no part of one.
-use Rattle.std.specs.Prelude.{ℕ, zero, ◌+◌, ◌-◌, ℤ, pos, Bool, true, false, not, ◌||◌, List, [], ◌∷◌, ◌++◌, Option, Some, None, Result, Ok, Err, if◌then◌else◌, decimal}
+-- Which filter a document is (MongoDB manual, "Query and Projection Operators"), and which pair or member of any other
+-- document is the first that is no part of one.
+use Rattle.std.specs.Prelude.{ℕ, zero, ◌+◌, ◌-◌, pos, Bool, true, false, not, ◌||◌, List, [], ◌∷◌, ◌++◌, Option, Some, None, Result, Ok, Err, if◌then◌else◌, decimal}
 use Rattle.std.specs.Ordering.{int_eq}
 use Rattle.bd_value.specs.{Limits.most_filter_levels, declared.node.Kind.Kind}
 use Rattle.bd_value.specs.Tree as trees
 use Rattle.bd_value.specs.Tree.{Scalar, Tree, leaf, doc, array, Items, no_items, item, Fields, no_fields, field, Doc, fields_of}
 use Rattle.bd_path.specs.{Reach.Names, Path.path_of, declared.path.PathFault.PathFault}
-use Rattle.bd_filter.specs.{Fault.Refusal, Fault.deeper, Fault.refuse, declared.filter_of.LogicalOperator.LogicalOperator, declared.filter_of.PlainOperator.PlainOperator}
-use Rattle.bd_filter.specs.{declared.filter_of.Word.Word}
+use Rattle.bd_filter.specs.Fault.{Refusal, deeper, refuse}
+use Rattle.bd_filter.specs.declared.filter_of.{LogicalOperator.LogicalOperator, PlainOperator.PlainOperator, Word.Word}
 use Rattle.bd_filter.specs.Filter.{Filter, all_of, some_of, none_of, at_path, filters_from, Operator, equals, compares, is_in, has_all, has_type, has_size, exists}
 use Rattle.bd_filter.specs.Filter.{negates, has_element, has_document, negation_of, operators_from}
 use Rattle.bd_filter.specs.Word.{begins_with_dollar, kinds_named, kinds_numbered, word_of}
@@ -15,8 +15,6 @@ use Rattle.bd_filter.specs.declared.fault.FilterFaultKind.TheVariants as faults
 use Rattle.bd_filter.specs.declared.filter_of.LogicalOperator.TheVariants as logical
 use Rattle.bd_filter.specs.declared.filter_of.PlainOperator.TheVariants as plain
 use Rattle.bd_filter.specs.declared.filter_of.Word.TheVariants as words
-
--- ---- parts that are read in turn
 
 abbrev pub read_as : {A B : Type 0} → (A → B) → Result A Refusal → Result B Refusal
 read_as f (Ok x) = Ok (f x)
@@ -125,10 +123,6 @@ abbrev pub inner_part : {A : Type 0} → ℕ → Result A Refusal → Result A R
 inner_part zero part = refuse faults.TooDeep
 inner_part room part = part
 
-abbrev pub with_path : Result Names PathFault → Result (List Operator) Refusal → Result Filter Refusal
-with_path (Err fault) os = refuse faults.Path
-with_path (Ok names) os = read_as (λ xs. at_path names (operators_from xs)) os
-
 -- operators for an element, and not a filter
 abbrev pub is_value_form : Word → Bool
 is_value_form (words.Logical l) = false
@@ -139,12 +133,14 @@ abbrev pub has_value_form : Fields → Bool
 has_value_form no_fields = false
 has_value_form (field n t fs) = is_value_form (word_of n)
 
--- a pair, by its name, of its value as filters and as what a path is asked
-abbrev pub pair_filter : Word → List ℕ → Result (List Filter) Refusal → Result (List Operator) Refusal → Result Filter Refusal
-pair_filter (words.Logical l) name filters operators = read_as (logical_filter l) filters
-pair_filter words.Field name filters operators = with_path (path_of name) operators
-pair_filter words.LeftOut name filters operators = refuse faults.NotInProfile
-pair_filter w name filters operators = refuse faults.UnknownOperator
+-- a pair, by its name, of that as a path, and of its value as filters and as what a path is asked
+abbrev pub pair_filter : Word → Result Names PathFault → Result (List Filter) Refusal → Result (List Operator) Refusal
+    → Result Filter Refusal
+pair_filter (words.Logical l) path filters operators = read_as (logical_filter l) filters
+pair_filter words.Field (Err fault) filters operators = refuse faults.Path
+pair_filter words.Field (Ok path) filters operators = read_as (λ os. at_path path (operators_from os)) operators
+pair_filter words.LeftOut path filters operators = refuse faults.NotInProfile
+pair_filter w path filters operators = refuse faults.UnknownOperator
 
 -- a pair among operators, by its name, of its value, and of that as the body of `$not` and of `$elemMatch`
 abbrev pub operator_of : Word → Tree → Result Operator Refusal → Result Operator Refusal → Result Operator Refusal
@@ -160,7 +156,7 @@ abbrev mutual
   pub filters_of : ℕ → Fields → Result (List Filter) Refusal
   filters_of room no_fields = Ok []
   filters_of room (field n t fs) =
-      read_at n (pair_filter (word_of n) n (operand_filters room t) (path_operators room t)) (filters_of room fs)
+      read_at n (pair_filter (word_of n) (path_of n) (operand_filters room t) (path_operators room t)) (filters_of room fs)
 
   -- the filters of `$and`, `$or`, `$nor`: at least one
   pub operand_filters : ℕ → Tree → Result (List Filter) Refusal
