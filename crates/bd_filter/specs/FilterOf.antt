@@ -1,7 +1,7 @@
 -- Which filter a document is (MongoDB manual, "Query and Projection Operators"), and which pair or member of any other
 -- document is the first that is no part of one.
 use Rattle.std.specs.Prelude.{ℕ, zero, ◌+◌, ◌-◌, pos, Bool, true, false, not, ◌||◌, List, [], ◌∷◌, ◌++◌, Option, Some, None, Result, Ok, Err, if◌then◌else◌, decimal}
-use Rattle.std.specs.Ordering.{int_eq}
+use Rattle.std.specs.{Option.option_and_then, Option.option_map, Ordering.int_eq}
 use Rattle.bd_value.specs.{Limits.most_filter_levels, declared.node.Kind.Kind}
 use Rattle.bd_value.specs.Tree as trees
 use Rattle.bd_value.specs.Tree.{Scalar, Tree, leaf, doc, array, Items, no_items, item, Fields, no_fields, field, Doc, fields_of}
@@ -81,14 +81,9 @@ type_kinds (leaf (trees.int32 z)) = kinds_numbered z
 type_kinds (leaf (trees.int64 z)) = kinds_numbered z
 type_kinds t = None
 
-abbrev pub both_kinds : Option (List Kind) → Option (List Kind) → Option (List Kind)
-both_kinds None others = None
-both_kinds (Some kinds) None = None
-both_kinds (Some kinds) (Some others) = Some (kinds ++ others)
-
 abbrev pub all_kinds : Items → Option (List Kind)
 all_kinds no_items = Some []
-all_kinds (item t ts) = both_kinds (type_kinds t) (all_kinds ts)
+all_kinds (item t ts) = option_and_then (λ kinds. option_map (λ more. kinds ++ more) (all_kinds ts)) (type_kinds t)
 
 -- one type, or some in an array
 abbrev pub operand_kinds : Tree → Option (List Kind)

@@ -47,7 +47,7 @@ read_filters-returns-in-Err g t c =
     let name = c.in-Some.next.0.now in
     let value = g.N.Reading.tree c.in-Some.next.1 in
     refused (map filter_tree c.loop-next.filters.items) name (pair_filter (word_of name) (path_of name) (operand_filters c.args.room value) (path_operators c.args.room value)) _ _ _
-    c.in-Err.stop c.under.result (ap (λ ps. filters_of c.args.room (fields_of ps)) c.in-Some.ensures.some) c.loop-next.invariant c.under.ensures.tells c.under.ensures.starved c.in-Err.ensures
+    c.in-Err.stop c.under.result (ap (λ ps. filters_of c.args.room (fields_of ps)) c.in-Some.ensures.some) c.loop-next.invariant c.under.ensures c.in-Err.ensures
 
 pub read_member-returns-in_err-filters : goal.read_member-returns-in_err-filters
 read_member-returns-in_err-filters g t c =
@@ -71,7 +71,7 @@ read_members-returns-in-Err g t c =
     let rest = member_filters c.args.room (i + 1) (items_of (values_of (g.N.Reading.left c.in-Some.next.2))) in
     refused (map filter_tree c.loop-next.filters.items) (decimal c.len.result) part _ rest _ c.in-Err.stop c.under_index.result
     (ap (λ ps. member_filters c.args.room i (items_of (values_of ps))) c.in-Some.ensures.some ∙ ap (λ n. read_at (decimal n) part rest) (sym (c.len.ensures ∙ c.loop-next.filters.ok.0)))
-    c.loop-next.invariant c.under_index.ensures.tells c.under_index.ensures.starved c.in-Err.ensures
+    c.loop-next.invariant c.under_index.ensures c.in-Err.ensures
 
 pub read_not-returns-in_err-operators : goal.read_not-returns-in_err-operators
 read_not-returns-in_err-operators g t c =
@@ -100,7 +100,7 @@ read_operators-returns-in-Err g t c =
     let value = g.N.Reading.tree c.in-Some.next.1 in
     let part = operator_of (word_of c.in-Some.next.0.now) value (not_operator c.args.room value) (element_operator c.args.room value) in
     refused (map operator_tree c.loop-next.operators.items) c.in-Some.next.0.now part _ _ _ c.in-Err.stop c.under.result
-    (ap (λ ps. operators_of c.args.room (fields_of ps)) c.in-Some.ensures.some) c.loop-next.invariant c.under.ensures.tells c.under.ensures.starved c.in-Err.ensures
+    (ap (λ ps. operators_of c.args.room (fields_of ps)) c.in-Some.ensures.some) c.loop-next.invariant c.under.ensures c.in-Err.ensures
 
 pub read_value-returns-then-has_operators : goal.read_value-returns-then-has_operators
 read_value-returns-then-has_operators g t c =

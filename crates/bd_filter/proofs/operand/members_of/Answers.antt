@@ -16,7 +16,7 @@ returns-in-Err g c =
     let rest = member_values (i + 1) (items_of (values_of (g.N.Reading.left c.in-Some.next.2))) in
     refused (map tree_of c.loop-next.members.items) (decimal c.len.result) part _ rest (members_of (g.N.Reading.tree c.args.operand)) c.in-Err.stop c.under_index.result
     (ap (λ ps. member_values i (items_of (values_of ps))) c.in-Some.ensures.some ∙ ap (λ n. read_at (decimal n) part rest) (sym (c.len.ensures ∙ c.loop-next.members.ok.0)))
-    c.loop-next.invariant c.under_index.ensures.tells c.under_index.ensures.starved c.in-Err.ensures
+    c.loop-next.invariant c.under_index.ensures c.in-Err.ensures
 
 pub loop-next-preserved : goal.loop-next-preserved
 loop-next-preserved g c =
