@@ -50,8 +50,6 @@ keys_of_each multikey [] = no_key
 keys_of_each true (set ∷ sets) = set
 keys_of_each false (set ∷ sets) = intersection (set ∷ sets)
 
--- ---- bounds together
-
 -- Where a document may have several keys, one may be within the first bounds and another within the second: then the first
 -- count alone.
 abbrev pub conjunction : Bool → KeyBounds → KeyBounds → KeyBounds
@@ -64,8 +62,6 @@ abbrev pub disjunction : KeyBounds → KeyBounds → KeyBounds
 disjunction None second = None
 disjunction (Some first) None = None
 disjunction (Some first) (Some second) = Some (λ k. first k || second k)
-
--- ---- operators
 
 -- an operator of an element by itself, which is a key: whatever the index, it bounds that key
 abbrev pub element_bounds : Operator → KeyBounds

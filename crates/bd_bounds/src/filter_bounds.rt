@@ -1,6 +1,6 @@
 //! The bounds that a filter gives to an index.
 
-ghost use Rattle.std.specs.Prelude.{◌≡◌, ◌==◌, ◌||◌, Bool, IfOk, IsFalse, IsTrue, OnOk, None, Some, false, if◌then◌else◌, is_some, length, map, true};
+ghost use Rattle.std.specs.Prelude.{◌≡◌, ◌==◌, ◌||◌, Bool, IfOk, IsFalse, IsTrue, OnOk, None, Some, false, if◌then◌else◌, is_some, length, map, option_map, true};
 ghost use Rattle.std.specs.List.{list_any};
 ghost use Rattle.std.specs.Ordering.{is_lt};
 ghost use Rattle.bd_value.specs.Order.{cmp, equal};
@@ -16,7 +16,7 @@ ghost use Rattle.bd_filter.specs.Filter.{filter_tree, filters_from, operator_tre
 ghost use Rattle.bd_filter.specs.FilterMatch.{is_array, is_related, matches};
 ghost use Rattle.bd_bounds.specs.Bounds.{all_bounds, all_element_bounds, bounds, bounds_at, bounds_here, conjunction, element_bounds, is_inside, is_listed};
 ghost use Rattle.bd_bounds.specs.Bounds.{keys_of_types, operator_bounds, rest_after, some_bounds};
-ghost use Rattle.bd_bounds.specs.BoundsView.{is_before, parts_bounds, rest_names, seen_bounds};
+ghost use Rattle.bd_bounds.specs.BoundsView.{is_before, parts_bounds, seen_bounds};
 ghost use Rattle.bd_bounds.specs.declared.bounds.Cut as cuts;
 
 use crate::bounds::Bounds;
@@ -154,7 +154,7 @@ fn bounds_at<'a>(alloc: Global, operator: &'a Operator, index: &Index) -> Found<
 
 /// What is left of a path after a beginning of it; None where it begins otherwise.
 fn rest_after<'p>(start: &[Component], path: &'p [Component]) -> Option<&'p [Component]>
-    ensures { rest_names result ≡ rest_after (component_names start.now) (component_names path.now) }
+    ensures { option_map (λ path. component_names path.now) result ≡ rest_after (component_names start.now) (component_names path.now) }
 {
     let mut left = path;
     for component in start {

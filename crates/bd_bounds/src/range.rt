@@ -67,15 +67,13 @@ fn between<'a>(from: Cut<'a>, to: Cut<'a>) -> Bounds<'a>
 }
 
 fn before(edge: Edge<'_>) -> Cut<'_>
-    ensures edge { result.edge ≡ edge.entry }
-    ensures after { result.after ≡ false }
+    ensures { result ≡ record { edge = edge.entry; after = false } }
 {
     Cut { edge, after: false }
 }
 
 fn after(edge: Edge<'_>) -> Cut<'_>
-    ensures edge { result.edge ≡ edge.entry }
-    ensures after { result.after ≡ true }
+    ensures { result ≡ record { edge = edge.entry; after = true } }
 {
     Cut { edge, after: true }
 }
