@@ -2,8 +2,8 @@
 -- `bd_path` says in `Key` which keys a document has. (MongoDB manual, "Multikey Indexes", "Multikey Index Bounds".)
 use Rattle.std.specs.Prelude.{◌==◌, Bool, true, false, ◌&&◌, ◌||◌, List, [], ◌∷◌, get_or, map, Option, Some, None, if◌then◌else◌}
 use Rattle.std.specs.{List.list_any, List.list_all, Str.bytes_eq}
-use Rattle.bd_value.specs.{Order.equal, Order.class_of, Order.class_of_kind, Order.class_rank, Tree.elements_in, Tree.Tree, Tree.leaf}
-use Rattle.bd_value.specs.{declared.node.Kind.Kind, declared.node.Class.Class}
+use Rattle.bd_value.specs.Order.{class_of, class_of_kind, class_rank, equal}
+use Rattle.bd_value.specs.{Tree.Tree, Tree.elements_in, Tree.leaf, declared.node.Class.Class, declared.node.Kind.Kind}
 use Rattle.bd_value.specs.Tree as trees
 use Rattle.bd_value.specs.declared.node.Kind.TheVariants as kinds
 use Rattle.bd_value.specs.declared.node.Class.TheVariants as classes

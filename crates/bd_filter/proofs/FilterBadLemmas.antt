@@ -1,20 +1,19 @@
 -- Where a part of a filter is refused, it breaks that rule there; where it is read, it breaks none.
-use Rattle.std.proofs.Common.{◌≡◌, ◌⊎◌, inl, inr, ℕ, zero, suc, ◌+◌, ◌-◌, Bool, true, false, ◌||◌, if◌then◌else◌}
+use Rattle.std.proofs.Common.{◌≡◌, ◌⊎◌, inl, inr, ℕ, zero, suc, ◌+◌, ◌-◌, Bool, true, false, if◌then◌else◌}
 use Rattle.std.proofs.Common.{List, [], ◌∷◌, Result, Ok, Err, refl, subst}
 use Rattle.std.specs.Prelude.{IsTrue, IsFalse, decimal, is_err}
 use Rattle.bd_value.specs.Limits.{most_filter_levels}
 use Rattle.bd_value.specs.Tree.{Tree, leaf, doc, array, code_scope, Doc, Fields, no_fields, field, Items, no_items, item, fields_of}
 use Rattle.bd_path.specs.{Reach.Names, Path.path_of, declared.path.PathFault.PathFault}
-use Rattle.bd_filter.specs.{Fault.Refusal, Fault.refuse, Word.word_of, declared.fault.FilterFaultKind.FilterFaultKind}
+use Rattle.bd_filter.specs.{Fault.Refusal, Fault.refuse, Word.word_of}
 use Rattle.bd_filter.specs.{declared.filter_of.PlainOperator.PlainOperator, declared.filter_of.Word.Word}
 use Rattle.bd_filter.specs.Filter.{Filter, all_of, filters_from, operators_from, Operator, equals, has_all, has_document, has_element}
 use Rattle.bd_filter.specs.Filter.{is_in, negates, negation_of}
-use Rattle.bd_filter.specs.FilterBad.{AreBadFilters, BreaksHere, BreaksHereIf, BreaksInside, BreaksUnder, HasBadElement, HasBadMember, HasBadOperator, HasBadPair, IsBadAt}
+use Rattle.bd_filter.specs.FilterBad.{AreBadFilters, BreaksHere, BreaksInside, BreaksUnder, HasBadElement, HasBadMember, HasBadOperator, HasBadPair, IsBadAt}
 use Rattle.bd_filter.specs.FilterBad.{IsBadElemMatch, IsBadMember, IsBadNot, IsBadOperator, IsBadPair, IsBadPlain, IsBadValue}
-use Rattle.bd_filter.specs.FilterOf.{element_operator, filter_of, filters_of, first_is_operator, has_operators, has_value_form, inner_part, is_regex}
-use Rattle.bd_filter.specs.FilterOf.{logical_filter, member_filter, member_filters, member_values, unless_left_out, not_operator, operand_filters}
-use Rattle.bd_filter.specs.FilterOf.{operator_of, operators_of, pair_filter, path_operators, plain_operator, read_as}
-use Rattle.bd_filter.specs.FilterOf.{read_at}
+use Rattle.bd_filter.specs.FilterOf.{element_operator, filter_of, filters_of, first_is_operator, has_value_form, inner_part, logical_filter}
+use Rattle.bd_filter.specs.FilterOf.{member_filter, member_filters, member_value, member_values, not_operator, operand_filters, operator_of}
+use Rattle.bd_filter.specs.FilterOf.{operators_of, pair_filter, path_operators, plain_operator, read_as, read_at}
 use Rattle.bd_filter.specs.declared.fault.FilterFaultKind.TheVariants as faults
 use Rattle.bd_filter.specs.declared.filter_of.PlainOperator.TheVariants as plain
 use Rattle.bd_filter.specs.declared.filter_of.Word.TheVariants as words
@@ -51,7 +50,7 @@ level_agrees : {A B : Type 0} (room : ℕ) (f : A → B) (part : Result A Refusa
     → Agrees part IsBad → Agrees (inner_part room (read_as f part)) (BreaksInside room IsBad)
 level_agrees room f part IsBad h = inside_agrees room (read_as f part) IsBad (as_agrees f part IsBad h)
 
--- ---- one rule, by a test
+-- ---- one rule
 
 true_is_not : {A : Type 0} → false ≡ true → A
 true_is_not e = absurd cc
@@ -59,29 +58,21 @@ true_is_not e = absurd cc
 false_is_not : {A : Type 0} → true ≡ false → A
 false_is_not e = absurd cc
 
-none_here : {A : Type 0} (x : A) (kind : FilterFaultKind) → Agrees (Ok x) (BreaksHereIf false kind)
-none_here x kind = λ r e. true_is_not e.0
-
-test_agrees : {A : Type 0} (b : Bool) (kind : FilterFaultKind) (x : A) → Agrees (if b then refuse kind else Ok x) (BreaksHereIf b kind)
-test_agrees true kind x = (refl, refl)
-test_agrees false kind x = none_here x kind
+-- a part that is bad as it is read
+itself_agrees : {A : Type 0} (part : Result A Refusal) → Agrees part (λ r. part ≡ Err r)
+itself_agrees (Ok x) = λ r e. absurd cc
+itself_agrees (Err r) = refl
 
 -- ---- operands that are values
 
 values_agree : (i : ℕ) (ts : Items) → Agrees (member_values i ts) (HasBadElement i ts)
 values_agree i no_items = λ r e. e
 values_agree i (item t ts) =
-    let b = is_regex t || has_operators t in
-    each_agrees (decimal i) (unless_left_out b t) (member_values (i + 1) ts) (BreaksHereIf b faults.NotInProfile) (HasBadElement (i + 1) ts)
-    (test_agrees b faults.NotInProfile t) (values_agree (i + 1) ts)
+    each_agrees (decimal i) (member_value t) (member_values (i + 1) ts) (λ r. member_value t ≡ Err r) (HasBadElement (i + 1) ts)
+    (itself_agrees (member_value t)) (values_agree (i + 1) ts)
 
 array_agrees : (f : List Tree → Operator) (ts : Items) → Agrees (read_as f (member_values 0 ts)) (HasBadElement 0 ts)
 array_agrees f ts = as_agrees f (member_values 0 ts) (HasBadElement 0 ts) (values_agree 0 ts)
-
--- a part that is bad as it is read
-itself_agrees : {A : Type 0} (part : Result A Refusal) → Agrees part (λ r. part ≡ Err r)
-itself_agrees (Ok x) = λ r e. absurd cc
-itself_agrees (Err r) = refl
 
 plain_agrees : (p : PlainOperator) (t : Tree) → Agrees (plain_operator p t) (IsBadPlain p t)
 plain_agrees plain.In (array ts) = array_agrees is_in ts
@@ -92,8 +83,8 @@ plain_agrees p t = itself_agrees (plain_operator p t)
 -- ---- pairs, by what their names stand for
 
 path_agrees : (path : Result Names PathFault) (fs : Result (List Filter) Refusal) (os : Result (List Operator) Refusal) (IsBad : Refusals)
-    → Agrees os IsBad → Agrees (pair_filter words.Field path fs os) (λ r. BreaksHereIf (is_err path) faults.Path r ⊎ IsBad r)
-path_agrees (Ok names) fs (Ok xs) IsBad h = λ r e. elim e [ inl a ↦ none_here names faults.Path r a | inr b ↦ h r b ]
+    → Agrees os IsBad → Agrees (pair_filter words.Field path fs os) (λ r. (IsTrue (is_err path) × BreaksHere faults.Path r) ⊎ IsBad r)
+path_agrees (Ok names) fs (Ok xs) IsBad h = λ r e. elim e [ inl a ↦ true_is_not a.0 | inr b ↦ h r b ]
 path_agrees (Ok names) fs (Err r) IsBad h = inr h
 path_agrees (Err fault) fs os IsBad h = inl (refl, refl)
 
@@ -163,13 +154,11 @@ mutual
   member_agrees room (code_scope s fs) = refl
 
   value_agrees : (room : ℕ) (t : Tree) → Agrees (path_operators room t) (IsBadValue room t)
-  value_agrees room (leaf s) =
-      let b = is_regex (leaf s) in
-      as_agrees (λ v. equals v ∷ []) (unless_left_out b (leaf s)) (BreaksHereIf b faults.NotInProfile) (test_agrees b faults.NotInProfile (leaf s))
+  value_agrees room (leaf s) = itself_agrees (path_operators room (leaf s))
   value_agrees room (doc fs) =
       value_form (first_is_operator fs) (operators_of room fs) (equals (doc fs) ∷ []) (HasBadOperator room fs) (operators_agree room fs)
-  value_agrees room (array ts) = none_here (equals (array ts) ∷ []) faults.NotInProfile
-  value_agrees room (code_scope s fs) = none_here (equals (code_scope s fs) ∷ []) faults.NotInProfile
+  value_agrees room (array ts) = itself_agrees (path_operators room (array ts))
+  value_agrees room (code_scope s fs) = itself_agrees (path_operators room (code_scope s fs))
 
   operators_agree : (room : ℕ) (fs : Fields) → Agrees (operators_of room fs) (HasBadOperator room fs)
   operators_agree room no_fields = λ r e. e

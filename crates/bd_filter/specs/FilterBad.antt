@@ -1,12 +1,12 @@
--- Which pairs and members of a document break a rule of filters (MongoDB manual, "Query and Projection Operators"), which,
--- and where. Nothing is read in turn: each is bad or not, whatever stands before it.
-use Rattle.std.specs.Prelude.{◌≡◌, ◌⊎◌, ℕ, zero, ◌+◌, ◌-◌, Bool, ◌||◌, List, [], Err, is_err, decimal, IsTrue, IsFalse}
+-- Which pairs and members of a document break a rule of filters (MongoDB manual, "Query and Projection Operators"), and
+-- where. Nothing is read in turn: each is bad or not, whatever stands before it. `FilterOf` says what one operand may be.
+use Rattle.std.specs.Prelude.{◌≡◌, ◌⊎◌, ℕ, zero, ◌+◌, ◌-◌, List, [], Err, is_err, decimal, IsTrue, IsFalse}
 use Rattle.bd_value.specs.Limits.{most_filter_levels}
 use Rattle.bd_value.specs.Tree.{Tree, doc, array, Items, no_items, item, Fields, no_fields, field, Doc, fields_of}
 use Rattle.bd_path.specs.Path.{path_of}
 use Rattle.bd_filter.specs.{Fault.Refusal, Fault.deeper, Word.word_of, declared.fault.FilterFaultKind.FilterFaultKind}
-use Rattle.bd_filter.specs.{declared.filter_of.PlainOperator.PlainOperator, declared.filter_of.Word.Word, FilterOf.is_regex}
-use Rattle.bd_filter.specs.FilterOf.{first_is_operator, has_operators, has_value_form, not_operator, plain_operator}
+use Rattle.bd_filter.specs.declared.filter_of.{PlainOperator.PlainOperator, Word.Word}
+use Rattle.bd_filter.specs.FilterOf.{first_is_operator, has_value_form, member_value, not_operator, path_operators, plain_operator}
 use Rattle.bd_filter.specs.declared.fault.FilterFaultKind.TheVariants as faults
 use Rattle.bd_filter.specs.declared.filter_of.PlainOperator.TheVariants as plain
 use Rattle.bd_filter.specs.declared.filter_of.Word.TheVariants as words
@@ -14,9 +14,6 @@ use Rattle.bd_filter.specs.declared.filter_of.Word.TheVariants as words
 -- a rule is broken at the pair or member itself
 abbrev pub BreaksHere : FilterFaultKind → Refusal → Type 0
 BreaksHere kind r = r ≡ record { kind = kind; place = [] }
-
-abbrev pub BreaksHereIf : Bool → FilterFaultKind → Refusal → Type 0
-BreaksHereIf b kind r = IsTrue b × BreaksHere kind r
 
 -- a rule is broken inside it, under this name or position
 abbrev pub BreaksUnder : List ℕ → (Refusal → Type 0) → Refusal → Type 0
@@ -30,8 +27,7 @@ BreaksInside room IsBad r = IsBad r
 -- some member of the array of `$in`, `$nin` and `$all`, from this position on
 abbrev pub HasBadElement : ℕ → Items → Refusal → Type 0
 HasBadElement i no_items r = ⊥
-HasBadElement i (item t ts) r =
-    BreaksUnder (decimal i) (BreaksHereIf (is_regex t || has_operators t) faults.NotInProfile) r ⊎ HasBadElement (i + 1) ts r
+HasBadElement i (item t ts) r = BreaksUnder (decimal i) (λ q. member_value t ≡ Err q) r ⊎ HasBadElement (i + 1) ts r
 
 -- an operand: each member of a list by itself, and else as it is read
 abbrev pub IsBadPlain : PlainOperator → Tree → Refusal → Type 0
@@ -44,7 +40,7 @@ IsBadPlain p t r = plain_operator p t ≡ Err r
 -- value, each whatever the other is. No other operator stands outside a field.
 abbrev pub IsBadPair : Word → List ℕ → (Refusal → Type 0) → (Refusal → Type 0) → Refusal → Type 0
 IsBadPair (words.Logical l) name AreBad IsBad r = AreBad r
-IsBadPair words.Field name AreBad IsBad r = BreaksHereIf (is_err (path_of name)) faults.Path r ⊎ IsBad r
+IsBadPair words.Field name AreBad IsBad r = (IsTrue (is_err (path_of name)) × BreaksHere faults.Path r) ⊎ IsBad r
 IsBadPair words.LeftOut name AreBad IsBad r = BreaksHere faults.NotInProfile r
 IsBadPair w name AreBad IsBad r = BreaksHere faults.UnknownOperator r
 
@@ -78,10 +74,10 @@ abbrev mutual
   IsBadMember room (doc fs) r = BreaksInside room (HasBadPair (room - 1) fs) r
   IsBadMember room t r = BreaksHere faults.BadOperand r
 
-  -- the value of a path: operators, or a value that is to be equalled, which is no regular expression
+  -- the value of a path: operators, or a value that is to be equalled
   pub IsBadValue : ℕ → Tree → Refusal → Type 0
   IsBadValue room (doc fs) r = IsTrue (first_is_operator fs) × HasBadOperator room fs r
-  IsBadValue room t r = BreaksHereIf (is_regex t) faults.NotInProfile r
+  IsBadValue room t r = path_operators room t ≡ Err r
 
   pub HasBadOperator : ℕ → Fields → Refusal → Type 0
   HasBadOperator room no_fields r = ⊥

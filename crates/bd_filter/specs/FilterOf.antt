@@ -51,11 +51,13 @@ has_operators t = false
 abbrev pub unless_left_out : Bool → Tree → Result Tree Refusal
 unless_left_out left_out t = if left_out then refuse faults.NotInProfile else Ok t
 
--- the members of the array of `$in`, `$nin` and `$all`, from this position on
+-- a member of the array of `$in`, `$nin` and `$all`, and the members from this position on
+abbrev pub member_value : Tree → Result Tree Refusal
+member_value t = unless_left_out (is_regex t || has_operators t) t
+
 abbrev pub member_values : ℕ → Items → Result (List Tree) Refusal
 member_values i no_items = Ok []
-member_values i (item t ts) =
-    read_at (decimal i) (unless_left_out (is_regex t || has_operators t) t) (member_values (i + 1) ts)
+member_values i (item t ts) = read_at (decimal i) (member_value t) (member_values (i + 1) ts)
 
 abbrev pub members_of : Tree → Result (List Tree) Refusal
 members_of (array ts) = member_values 0 ts

@@ -6,7 +6,7 @@ ghost use Rattle.bd_value.specs.Tree.{values_of, items_of};
 ghost use Rattle.bd_filter.specs.Fault.{ReadsPart, Refusal, TellsMisfit, deeper};
 ghost use Rattle.bd_filter.specs.Filter.{compares, operator_tree};
 ghost use Rattle.bd_filter.specs.FilterMatch.{relates};
-ghost use Rattle.bd_filter.specs.FilterOf.{all_kinds, has_operators, is_bound, is_regex, member_values, members_of, operand_kinds};
+ghost use Rattle.bd_filter.specs.FilterOf.{all_kinds, has_operators, is_bound, is_regex, member_value, member_values, members_of, operand_kinds};
 ghost use Rattle.bd_filter.specs.FilterOf.{or_bad_operand, plain_operator, size_value, truth_value, type_kinds, unless_left_out};
 ghost use Rattle.bd_filter.specs.Word.{kinds_named, kinds_numbered};
 
@@ -88,7 +88,7 @@ pub(crate) fn has_operators<N: Reading>(operand: N) -> bool
 
 /// A member of the array of `$in`, `$nin` and `$all`.
 fn member_value<N: Reading>(alloc: Global, member: N) -> Result<Value, Stop>
-    ensures { ReadsPart tree_of result (unless_left_out (is_regex (N.tree member) || has_operators (N.tree member)) (N.tree member)) }
+    ensures { ReadsPart tree_of result (member_value (N.tree member)) }
 {
     if member.kind() == Kind::Regex || has_operators(member) {
         return Err(stop_at(alloc, FilterFaultKind::NotInProfile));
