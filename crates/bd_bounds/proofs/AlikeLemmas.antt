@@ -1,5 +1,5 @@
 -- Equal keys are both inside, or both outside.
-use Rattle.std.proofs.Common.{◌≡◌, ◌==◌, Bool, true, false, cond, ◌&&◌, ◌||◌, List, [], ◌∷◌, map, Option, Some, None, refl, sym, ap, ap₂, ◌∙◌, Ordering, Equal, nat_cmp, is_eq}
+use Rattle.std.proofs.Common.{◌≡◌, ◌==◌, Bool, true, false, cond, ◌&&◌, ◌||◌, List, [], ◌∷◌, get_or, map, Option, Some, None, refl, sym, ap, ap₂, ◌∙◌, Ordering, Equal, nat_cmp, is_eq}
 use Rattle.std.specs.Prelude.{is_some}
 use Rattle.std.specs.Ordering.{ordering_then}
 use Rattle.std.proofs.lemmas.Map.Lookups.{exact_unsigned}
@@ -12,9 +12,9 @@ use Rattle.bd_path.specs.Reach.{Names}
 use Rattle.bd_filter.specs.Filter.{Filter, all_of, some_of, none_of, at_path, Filters, no_filters, filter, Operator, equals, compares, is_in, has_all, has_type, has_size}
 use Rattle.bd_filter.specs.Filter.{exists, negates, has_element, has_document, Operators, no_operators, operator}
 use Rattle.bd_filter.specs.{FilterMatch.is_array, FilterMatch.is_related, FilterMatch.relates, declared.operand.Relation.Relation}
-use Rattle.bd_bounds.specs.Bounds.{KeyBounds, KeySet, all_bounds, all_element_bounds, bounds, bounds_below, bounds_here, conjunction, disjunction}
-use Rattle.bd_bounds.specs.Bounds.{element_bounds, first_or_undefined, is_among, is_listed, is_of_class, keys_equal_to, keys_of_each, keys_of_equal}
-use Rattle.bd_bounds.specs.Bounds.{keys_of_types, intersection, no_key, union, operator_bounds, rest_after, rest_bounds, some_bounds}
+use Rattle.bd_bounds.specs.Bounds.{KeyBounds, KeySet, all_bounds, all_element_bounds, bounds, bounds_at, bounds_here, conjunction, disjunction}
+use Rattle.bd_bounds.specs.Bounds.{element_bounds, is_among, is_listed, is_of_class, keys_equal_to, keys_of_each, keys_of_equal}
+use Rattle.bd_bounds.specs.Bounds.{keys_of_types, intersection, no_key, union, operator_bounds, rest_after, some_bounds}
 
 -- ---- what holds of bounds that are put together holds of those of a filter
 
@@ -27,11 +27,6 @@ pub record Stays (R : KeyBounds → KeyBounds → Type 0) (m n : Bool) : Type 0 
   pub here : (o : Operator) → R (bounds_here o m) (bounds_here o n)
 
 module _ (R : KeyBounds → KeyBounds → Type 0) (m n : Bool) (stays : Stays R m n) where
-  on_rest : (s : Option Names) (b c : KeyBounds) (f g : Names → KeyBounds) → R b c → ((q : Names) → R (f q) (g q)) → R (rest_bounds s b f) (rest_bounds s c g)
-  on_rest None b c f g h below = stays.none
-  on_rest (Some []) b c f g h below = h
-  on_rest (Some (name ∷ s)) b c f g h below = below (name ∷ s)
-
   mutual
     pub on_bounds : (f : Filter) (p : Names) → R (bounds f p m) (bounds f p n)
     on_bounds (all_of fs) p = on_all fs p
@@ -50,14 +45,13 @@ module _ (R : KeyBounds → KeyBounds → Type 0) (m n : Bool) (stays : Stays R 
     pub on_operators : (os : Operators) (s : Option Names) → R (operator_bounds os s m) (operator_bounds os s n)
     on_operators no_operators s = stays.none
     on_operators (operator o os) s =
-        stays.both (rest_bounds s (bounds_here o m) (λ q. bounds_below o q m)) (rest_bounds s (bounds_here o n) (λ q. bounds_below o q n))
-        (operator_bounds os s m) (operator_bounds os s n)
-        (on_rest s (bounds_here o m) (bounds_here o n) (λ q. bounds_below o q m) (λ q. bounds_below o q n) (stays.here o) (λ q. on_below o q))
-        (on_operators os s)
+        stays.both (bounds_at o s m) (bounds_at o s n) (operator_bounds os s m) (operator_bounds os s n) (on_operator o s) (on_operators os s)
 
-    on_below : (o : Operator) (s : Names) → R (bounds_below o s m) (bounds_below o s n)
-    on_below (has_document fs) s = on_all fs s
-    on_below _ s = stays.none
+    on_operator : (o : Operator) (s : Option Names) → R (bounds_at o s m) (bounds_at o s n)
+    on_operator o None = stays.none
+    on_operator o (Some []) = stays.here o
+    on_operator (has_document fs) (Some (name ∷ s)) = on_all fs (name ∷ s)
+    on_operator _ (Some (name ∷ s)) = stays.none
 
 -- ---- equal keys
 
@@ -106,7 +100,7 @@ module _ (x y : Tree) (e : equal x y ≡ true) where
   same_types ks = same_union (λ kind. is_of_class (class_of_kind kind)) ks (λ kind. ap (λ n. n == class_rank (class_of_kind kind)) same_class)
 
   pub same_keys_of_equal : (v : Tree) → keys_of_equal v x ≡ keys_of_equal v y
-  same_keys_of_equal v = ap₂ (λ a b. a || (is_array v && b)) (same_equal v) (same_equal (first_or_undefined (elements_in v)))
+  same_keys_of_equal v = ap₂ (λ a b. a || (is_array v && b)) (same_equal v) (same_equal (get_or (elements_in v) 0 (leaf trees.undefined)))
 
   abbrev Same : KeyBounds → Type 0
   Same b = is_among b x ≡ is_among b y

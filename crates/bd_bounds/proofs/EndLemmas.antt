@@ -1,6 +1,6 @@
 -- What an operator finds at the end of a path is a key, or an array whose elements are keys.
-use Rattle.std.proofs.Common.{◌≡◌, ℕ, ◌-◌, ◌==◌, Bool, true, false, cond, not, ◌&&◌, List, [], ◌∷◌, length, map, Some, None, ◌⊎◌, inl, inr, refl, sym, ap, ◌∙◌, arith, is_eq, eqb-true, eq-eqb}
-use Rattle.std.specs.Prelude.{is_some, nat_le}
+use Rattle.std.proofs.Common.{◌≡◌, ℕ, ◌==◌, Bool, true, false, cond, not, ◌&&◌, List, [], ◌∷◌, length, map, Some, None, ◌⊎◌, inl, inr, refl, sym, ap, ◌∙◌, arith, is_eq, eqb-true, eq-eqb}
+use Rattle.std.specs.Prelude.{is_some}
 use Rattle.std.specs.List.{list_any, list_all}
 use Rattle.std.proofs.lemmas.Bool.{and_parts, and_from, not-true, or_cases, or_left, or_right}
 use Rattle.bd_value.specs.{View.kind_of, Order.class_of, Order.class_of_kind, Order.class_rank, Tree.elements_in, declared.node.Kind.Kind}
@@ -15,7 +15,9 @@ use Rattle.bd_path.proofs.SortLemmas.{absent}
 use Rattle.bd_path.proofs.ReachLemmas.{In, Found, found_from, any_at}
 use Rattle.bd_filter.specs.Filter.{Operator, equals, compares, is_in, has_all, has_type, has_size, exists, Operators, no_operators, operator}
 use Rattle.bd_filter.specs.FilterMatch.{accepts, all_accept, any_candidate, any_equal, candidates, is_array, is_nonempty, is_of_size, is_of_type, is_related, is_value, value_or_null}
-use Rattle.bd_filter.specs.Word.{is_kind, kind_place}
+use Rattle.bd_filter.specs.Word.{is_kind}
+use Rattle.bd_value.specs.contracts.node.Kind.{the_type}
+use denote.Enum.Bare.{same_true}
 use Rattle.bd_filter.specs.declared.operand.Relation.{Relation}
 use Rattle.bd_filter.proofs.MembersLemmas.{any_mapped}
 use Rattle.bd_bounds.specs.Bounds.{KeyBounds, KeySet, all_element_bounds, bounds_here, conjunction, element_bounds, is_among, is_listed}
@@ -109,18 +111,9 @@ sound_compares t p m r v h =
 
 -- ---- kinds
 
--- the class of a kind by its place among them
-abbrev rank_at : ℕ → ℕ
-rank_at n = cond (nat_le n 3) n (cond (nat_le n 5) (n - 1) (n - 2))
-
-rank_is : (k : Kind) → class_rank (class_of_kind k) ≡ rank_at (kind_place k)
-rank_is kinds.MinKey = refl
-rank_is _ = refl
-
 same_kind_class : (k : Kind) (x : Tree) → is_kind k (kind_of x) ≡ true → is_of_class (class_of_kind k) x ≡ true
 same_kind_class k x e =
-    let place : kind_place k ≡ kind_place (kind_of x) = eqb-true (kind_place k) (kind_place (kind_of x)) e in
-    eq-eqb (class_rank (class_of x)) (class_rank (class_of_kind k)) (rank_is (kind_of x) ∙ ap rank_at (sym place) ∙ sym (rank_is k))
+    eq-eqb (class_rank (class_of x)) (class_rank (class_of_kind k)) (ap (λ kind. class_rank (class_of_kind kind)) (sym (same_true the_type tt k (kind_of x) e)))
 
 pub types_inside : (ks : List Kind) (x : Tree) → is_of_type ks x ≡ true → keys_of_types ks x ≡ true
 types_inside ks x h =

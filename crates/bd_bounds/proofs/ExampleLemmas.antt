@@ -1,11 +1,11 @@
 -- Bounds of filters, computed: which of some keys are inside.
-use Rattle.std.proofs.Common.{◌≡◌, ℕ, pos, Bool, true, false, List, [], ◌∷◌, map, refl, codes}
+use Rattle.std.proofs.Common.{◌≡◌, ℕ, pos, Bool, true, false, None, List, [], ◌∷◌, map, refl, codes}
 use Rattle.bd_value.specs.Tree.{Tree, leaf, doc, array, int32, null, undefined, fields_of, items_of}
 use Rattle.bd_path.specs.{Key.keys, Reach.Names}
 use Rattle.bd_filter.specs.Filter.{Filter, all_of, some_of, at_path, filters_from, operators_from, negation_of}
 use Rattle.bd_filter.specs.Filter.{Operator, equals, compares, is_in, has_all, has_size, exists, has_element, has_document}
 use Rattle.bd_filter.specs.declared.operand.Relation.TheVariants.{Above, AtLeast, Below}
-use Rattle.bd_bounds.specs.Bounds.{is_bounded, is_inside}
+use Rattle.bd_bounds.specs.Bounds.{bounds, is_inside}
 
 abbrev number : ℕ → Tree
 number n = leaf (int32 (pos n))
@@ -67,15 +67,15 @@ below = refl
 here : inside missing_below (codes "p" ∷ []) true (one_field (codes "q") (number 1) ∷ leaf null ∷ []) ≡ true ∷ false ∷ []
 here = refl
 
-other_path : is_bounded missing_below (codes "q" ∷ codes "r" ∷ []) true ≡ false
+other_path : bounds missing_below (codes "q" ∷ codes "r" ∷ []) true ≡ None
 other_path = refl
 
 -- ---- {"a":{"$ne":null}} and {"$or":[{"a":1},{"b":1}]} have none
 
-not_null : is_bounded (on a (negation_of (equals (leaf null)) ∷ [])) a false ≡ false
+not_null : bounds (on a (negation_of (equals (leaf null)) ∷ [])) a false ≡ None
 not_null = refl
 
-either_path : is_bounded (some_of (filters_from (on a (equals (number 1) ∷ []) ∷ on (codes "b" ∷ []) (equals (number 1) ∷ []) ∷ []))) a false ≡ false
+either_path : bounds (some_of (filters_from (on a (equals (number 1) ∷ []) ∷ on (codes "b" ∷ []) (equals (number 1) ∷ []) ∷ []))) a false ≡ None
 either_path = refl
 
 -- ---- no key, of nothing
@@ -91,5 +91,5 @@ all_of_nothing = refl
 of_size_0 : inside (on a (has_size 0 ∷ [])) a true (leaf undefined ∷ leaf null ∷ []) ≡ true ∷ false ∷ []
 of_size_0 = refl
 
-of_size_1 : is_bounded (on a (has_size 1 ∷ [])) a true ≡ false
+of_size_1 : bounds (on a (has_size 1 ∷ [])) a true ≡ None
 of_size_1 = refl

@@ -1,5 +1,5 @@
 -- Where a document matches, one of its keys is inside the bounds.
-use Rattle.std.proofs.Common.{◌≡◌, ℕ, Bool, true, false, cond, ◌&&◌, List, [], ◌∷◌, ◌++◌, length, map, Option, Some, None, ◌⊎◌, inl, inr, refl, sym, ap₂, ◌∙◌, subst, append-nil, eqb-true, arith}
+use Rattle.std.proofs.Common.{◌≡◌, ℕ, Bool, true, false, cond, ◌&&◌, ◌||◌, ◌==◌, List, [], ◌∷◌, ◌++◌, length, map, Option, Some, None, ◌⊎◌, inl, inr, refl, sym, ap₂, ◌∙◌, subst, append-nil, eqb-true, arith}
 use Rattle.std.specs.{List.list_any, List.list_all, Str.bytes_eq, Cmp.Lexicographic.bytes_decides}
 use Rattle.std.proofs.lemmas.Bool.{and_parts, and_from, or_cases, or_left, or_right}
 use Rattle.bd_value.specs.{Order.equal, Tree.elements_in, Tree.Tree, Tree.array}
@@ -9,9 +9,8 @@ use Rattle.bd_path.proofs.ReachLemmas.{In, Found, found_from, any_at}
 use Rattle.bd_filter.specs.Filter.{Filter, all_of, some_of, none_of, at_path, Filters, no_filters, filter, Operator, equals, compares, is_in, has_all, has_type, has_size}
 use Rattle.bd_filter.specs.Filter.{exists, negates, has_element, has_document, Operators, no_operators, operator}
 use Rattle.bd_filter.specs.FilterMatch.{all_hold, all_match, any_equal, holds, is_nonempty, matches, some_match}
-use Rattle.bd_bounds.specs.Bounds.{KeyBounds, all_bounds, bounds, bounds_below, bounds_here, conjunction, disjunction, is_among, is_inside, keys_of_each}
-use Rattle.bd_bounds.specs.Bounds.{keys_of_equal, union, operator_bounds, rest_after, rest_bounds, some_bounds}
-use Rattle.bd_bounds.specs.Laws.{is_fit}
+use Rattle.bd_bounds.specs.Bounds.{KeyBounds, all_bounds, bounds, bounds_at, bounds_here, conjunction, disjunction, is_among, is_inside, keys_of_each}
+use Rattle.bd_bounds.specs.Bounds.{keys_of_equal, union, operator_bounds, rest_after, some_bounds}
 use Rattle.bd_bounds.proofs.AlikeLemmas.{same_all, same_bounds, same_keys_of_equal, same_operators}
 use Rattle.bd_bounds.proofs.EndLemmas.{document_class, element_found, in_each, in_union, sound_compares, sound_element, sound_equal, sound_exists, sound_size, sound_type}
 use Rattle.bd_bounds.proofs.KeyLemmas.{element_of_end, everywhere, keys_of, keys_of_element, null, through}
@@ -102,13 +101,6 @@ inner t (array ts) x r p c s e h g i k a =
     subst (λ q. In k (keys_of t q)) (sym e) (through t r (c ∷ s) (array ts) k h (keys_of_element ts x k c s g i a))
 inner t _ x r p c s e h g i k a = absurd g
 
-rest_found : (rest : Option Names) (r p : Names) (t : Tree) (here : KeyBounds) (below : Names → KeyBounds) → ((s : Names) → rest ≡ Some s → p ≡ r ++ s)
-    → (r ≡ p → Found (is_among here) (keys_of t p)) → ((c : List ℕ) (s : Names) → p ≡ r ++ (c ∷ s) → Found (is_among (below (c ∷ s))) (keys_of t p))
-    → Found (is_among (rest_bounds rest here below)) (keys_of t p)
-rest_found None r p t here below w f g = everywhere t p
-rest_found (Some []) r p t here below w f g = f (sym (w [] refl ∙ append-nil r))
-rest_found (Some (c ∷ s)) r p t here below w f g = g c s (w (c ∷ s) refl)
-
 -- ---- filters
 
 mutual
@@ -135,20 +127,22 @@ mutual
   sound_operators no_operators rest r p m t w fine h = everywhere t p
   sound_operators (operator o os) rest r p m t w fine h =
       let b = and_parts (holds o (reach t r)) (all_hold os (reach t r)) h in
-      let here = λ (same : r ≡ p). subst (λ q. Found (is_among (bounds_here o m)) (keys_of t q)) same (sound_here o t r m (subst (λ q. Fine m (keys_of t q)) (sym same) fine) b.0) in
-      let below = λ (c : List ℕ) (s : Names) (is : p ≡ r ++ (c ∷ s)). sound_below o c s r p m t is fine b.0 in
-      both_found m (rest_bounds rest (bounds_here o m) (λ q. bounds_below o q m)) (operator_bounds os rest m) (keys_of t p) fine (λ x y e. same_operators x y e os rest m)
-      (rest_found rest r p t (bounds_here o m) (λ q. bounds_below o q m) w here below) (sound_operators os rest r p m t w fine b.1)
+      both_found m (bounds_at o rest m) (operator_bounds os rest m) (keys_of t p) fine (λ x y e. same_operators x y e os rest m)
+      (sound_operator o rest r p m t w fine b.0) (sound_operators os rest r p m t w fine b.1)
 
-  sound_below : (o : Operator) (c : List ℕ) (s r p : Names) (m : Bool) (t : Tree) → p ≡ r ++ (c ∷ s)
-      → Fine m (keys_of t p) → holds o (reach t r) ≡ true → Found (is_among (bounds_below o (c ∷ s) m)) (keys_of t p)
-  sound_below (has_document fs) c s r p m t is fine h =
+  sound_operator : (o : Operator) (rest : Option Names) (r p : Names) (m : Bool) (t : Tree) → ((s : Names) → rest ≡ Some s → p ≡ r ++ s)
+      → Fine m (keys_of t p) → holds o (reach t r) ≡ true → Found (is_among (bounds_at o rest m)) (keys_of t p)
+  sound_operator o None r p m t w fine h = everywhere t p
+  sound_operator o (Some []) r p m t w fine h =
+      let same : r ≡ p = sym (w [] refl ∙ append-nil r) in
+      subst (λ q. Found (is_among (bounds_here o m)) (keys_of t q)) same (sound_here o t r m (subst (λ q. Fine m (keys_of t q)) (sym same) fine) h)
+  sound_operator (has_document fs) (Some (c ∷ s)) r p m t w fine h =
       let e = element_found (λ x. is_document x && all_match fs x) t r h in
       let b = and_parts (is_document e.it) (all_match fs e.it) e.passes in
-      let part = inner t e.whole e.it r p c s is e.is_end e.is_in b.0 in
+      let part = inner t e.whole e.it r p c s (w (c ∷ s) refl) e.is_end e.is_in b.0 in
       let k = sound_all fs (c ∷ s) m e.it (fine_part m (keys_of t p) (keys_of e.it (c ∷ s)) part fine) b.1 in
       record { it = k.it; is_in = part k.it k.is_in; passes = k.passes }
-  sound_below _ c s r p m t is fine h = everywhere t p
+  sound_operator _ (Some (c ∷ s)) r p m t w fine h = everywhere t p
 
 -- ---- the keys without equal ones
 
@@ -172,6 +166,10 @@ all_equal t p one x y h g =
     let b = distinct_has (keys_of t p) [] y g in
     let same : a.it ≡ b.it = one_member (keys t p) a.it b.it one a.is_in b.is_in in
     equal_on x a.it y (equal_back a.it x a.same) (subst (λ k. equal k y ≡ true) (sym same) b.same)
+
+-- the index is multikey, or the document has one key
+abbrev pub is_fit : Bool → Names → Tree → Bool
+is_fit multikey path d = multikey || (length (keys d path) == 1)
 
 fit_is_fine : (m : Bool) (t : Tree) (p : Names) → is_fit m p t ≡ true → Fine m (keys_of t p)
 fit_is_fine true t p fit = tt

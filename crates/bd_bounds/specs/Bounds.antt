@@ -1,9 +1,9 @@
--- The bounds that a filter gives to an index on a path: a set of keys, of which each document that matches has one. The keys of a
--- document are in `Key` of `bd_path`. (MongoDB manual, "Multikey Indexes", "Multikey Index Bounds".)
-use Rattle.std.specs.Prelude.{◌==◌, Bool, true, false, ◌&&◌, ◌||◌, List, [], ◌∷◌, map, Option, Some, None, is_some, if◌then◌else◌}
+-- The bounds that a filter gives to an index on a path: a set of keys, of which each document that matches has one.
+-- `bd_path` says in `Key` which keys a document has. (MongoDB manual, "Multikey Indexes", "Multikey Index Bounds".)
+use Rattle.std.specs.Prelude.{◌==◌, Bool, true, false, ◌&&◌, ◌||◌, List, [], ◌∷◌, get_or, map, Option, Some, None, if◌then◌else◌}
 use Rattle.std.specs.{List.list_any, List.list_all, Str.bytes_eq}
-use Rattle.bd_value.specs.{Order.equal, Order.class_of, Order.class_of_kind, Order.class_rank, Tree.elements_in, Tree.Tree, Tree.leaf}
-use Rattle.bd_value.specs.{declared.node.Kind.Kind, declared.node.Class.Class}
+use Rattle.bd_value.specs.Order.{class_of, class_of_kind, class_rank, equal}
+use Rattle.bd_value.specs.{Tree.Tree, Tree.elements_in, Tree.leaf, declared.node.Class.Class, declared.node.Kind.Kind}
 use Rattle.bd_value.specs.Tree as trees
 use Rattle.bd_value.specs.declared.node.Kind.TheVariants as kinds
 use Rattle.bd_value.specs.declared.node.Class.TheVariants as classes
@@ -40,13 +40,9 @@ intersection sets k = list_all (λ set. set k) sets
 abbrev pub keys_of_types : List Kind → KeySet
 keys_of_types types = union (map (λ kind. is_of_class (class_of_kind kind)) types)
 
-abbrev pub first_or_undefined : List Tree → Tree
-first_or_undefined [] = leaf trees.undefined
-first_or_undefined (t ∷ ts) = t
-
 -- `$eq`: an array in a document has its elements for keys, and an empty one has undefined
 abbrev pub keys_of_equal : Tree → KeySet
-keys_of_equal v k = equal k v || (is_array v && equal k (first_or_undefined (elements_in v)))
+keys_of_equal v k = equal k v || (is_array v && equal k (get_or (elements_in v) 0 (leaf trees.undefined)))
 
 -- `$all`: in a multikey index the keys of its first member, else those of each member, and without members none
 abbrev pub keys_of_each : Bool → List KeySet → KeySet
@@ -54,10 +50,8 @@ keys_of_each multikey [] = no_key
 keys_of_each true (set ∷ sets) = set
 keys_of_each false (set ∷ sets) = intersection (set ∷ sets)
 
--- ---- bounds together
-
--- Where a document may have several keys, one of them may be within the first bounds and another within the second: then the
--- first count alone.
+-- Where a document may have several keys, one may be within the first bounds and another within the second: then the first
+-- count alone.
 abbrev pub conjunction : Bool → KeyBounds → KeyBounds → KeyBounds
 conjunction multikey None second = second
 conjunction multikey (Some first) None = Some first
@@ -68,8 +62,6 @@ abbrev pub disjunction : KeyBounds → KeyBounds → KeyBounds
 disjunction None second = None
 disjunction (Some first) None = None
 disjunction (Some first) (Some second) = Some (λ k. first k || second k)
-
--- ---- operators
 
 -- an operator of an element by itself, which is a key: whatever the index, it bounds that key
 abbrev pub element_bounds : Operator → KeyBounds
@@ -108,12 +100,6 @@ rest_after [] path = Some path
 rest_after (name ∷ start) [] = None
 rest_after (name ∷ start) (other ∷ path) = if bytes_eq name other then rest_after start path else None
 
--- by what is left: the path begins otherwise, this is the path, or the path goes on from here
-abbrev pub rest_bounds : Option Names → KeyBounds → (Names → KeyBounds) → KeyBounds
-rest_bounds None here below = None
-rest_bounds (Some []) here below = here
-rest_bounds (Some (name ∷ rest)) here below = below (name ∷ rest)
-
 abbrev mutual
   pub bounds : Filter → Names → Bool → KeyBounds
   bounds (all_of fs) path multikey = all_bounds fs path multikey
@@ -132,22 +118,14 @@ abbrev mutual
   -- operators at a path, and what is left of the path of the index after it
   pub operator_bounds : Operators → Option Names → Bool → KeyBounds
   operator_bounds no_operators rest multikey = None
-  operator_bounds (operator o os) rest multikey =
-      conjunction multikey (rest_bounds rest (bounds_here o multikey) (λ path. bounds_below o path multikey)) (operator_bounds os rest multikey)
+  operator_bounds (operator o os) rest multikey = conjunction multikey (bounds_at o rest multikey) (operator_bounds os rest multikey)
 
-  -- further down, the filter of `$elemMatch` bounds the keys of documents in an array
-  pub bounds_below : Operator → Names → Bool → KeyBounds
-  bounds_below (has_document fs) path multikey = all_bounds fs path multikey
-  bounds_below _ _ _ = None
-
--- an operator, by what is left of the path of the index after its own
-abbrev pub bounds_at : Operator → Names → Bool → KeyBounds
-bounds_at o path multikey = rest_bounds (Some path) (bounds_here o multikey) (λ rest. bounds_below o rest multikey)
-
--- ---- keys inside
-
-abbrev pub is_bounded : Filter → Names → Bool → Bool
-is_bounded f path multikey = is_some (bounds f path multikey)
+  -- where the path of the index goes on, the filter of `$elemMatch` bounds the keys of documents in an array
+  pub bounds_at : Operator → Option Names → Bool → KeyBounds
+  bounds_at o None multikey = None
+  bounds_at o (Some []) multikey = bounds_here o multikey
+  bounds_at (has_document fs) (Some path) multikey = all_bounds fs path multikey
+  bounds_at _ _ _ = None
 
 abbrev pub is_among : KeyBounds → Tree → Bool
 is_among None k = true

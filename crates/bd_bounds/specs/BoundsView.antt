@@ -1,12 +1,11 @@
 -- The keys in bounds in memory.
 use Rattle.std.specs.Prelude.{Bool, if◌then◌else◌, ◌&&◌, not, List, [], ◌∷◌, map, Option, Some, None, option_map}
-use Rattle.std.specs.{declared.cmp.Ordering.Ordering, Ordering.is_le, Ordering.is_lt, Ordering.nat_cmp, Borrow.Bor}
+use Rattle.std.specs.{declared.cmp.Ordering.Ordering, Ordering.is_le, Ordering.is_lt, Ordering.nat_cmp}
 use Rattle.bd_value.specs.{Order.cmp, Order.class_of, Order.class_rank, Tree.Tree, View.tree_of}
 use Rattle.bd_bounds.specs.{declared.bounds.Cut.Cut, declared.bounds.Edge.Edge, declared.bounds.Bounds.Bounds}
 use Rattle.bd_bounds.specs.{declared.bounds.Bounds.TheFolds.fold-Bounds, declared.bounds.Bounds.TheOpen.Bounds-F}
 use Rattle.bd_bounds.specs.Bounds.{KeyBounds, KeySet, intersection, union}
 use Rattle.bd_bounds.specs.declared.bounds.Edge.TheVariants as edges
-use Rattle.bd_path.specs.{Reach.Names, Path.component_names, declared.component.Component.Component}
 
 -- how a key stands to a value, or to the keys of a class
 abbrev pub edge_cmp : Tree → Edge → Ordering
@@ -35,7 +34,3 @@ seen_bounds b = option_map keys_within b
 abbrev pub parts_bounds : List Bounds → KeyBounds
 parts_bounds [] = None
 parts_bounds (b ∷ bs) = Some (intersection (map keys_within (b ∷ bs)))
-
--- what is left of a path in hand
-abbrev pub rest_names : Option (Bor (List Component)) → Option Names
-rest_names rest = option_map (λ path. component_names path.now) rest

@@ -1,16 +1,23 @@
 //! The bounds that a filter gives to an index.
 
-ghost use Rattle.std.specs.Prelude.{◌≡◌, IfOk, OnOk, None, Some, if◌then◌else◌, map};
+ghost use Rattle.std.specs.Prelude.{◌≡◌, ◌==◌, ◌||◌, Bool, IfOk, IsFalse, IsTrue, OnOk, None, Some, false, if◌then◌else◌, is_some, length, map, option_map, true};
+ghost use Rattle.std.specs.List.{list_any};
+ghost use Rattle.std.specs.Ordering.{is_lt};
+ghost use Rattle.bd_value.specs.Order.{cmp, equal};
+ghost use Rattle.bd_value.specs.Tree as trees;
 ghost use Rattle.bd_value.specs.View.{tree_of};
 ghost use Rattle.bd_value.specs.declared.node.Kind.TheVariants as kind;
+ghost use Rattle.bd_path.specs.Key.{keys, sparse_keys};
 ghost use Rattle.bd_path.specs.Path.{component_names};
 ghost use Rattle.bd_path.specs.PathNames.{names_of};
+ghost use Rattle.bd_path.specs.Reach.{Names};
+ghost use Rattle.bd_filter.specs.Filter as filters;
 ghost use Rattle.bd_filter.specs.Filter.{filter_tree, filters_from, operator_tree, operators_from};
-ghost use Rattle.bd_filter.specs.FilterMatch.{is_array, is_related};
-ghost use Rattle.bd_bounds.specs.Bounds.{all_bounds, all_element_bounds, bounds, bounds_at, bounds_here, conjunction, element_bounds, is_listed};
+ghost use Rattle.bd_filter.specs.FilterMatch.{is_array, is_related, matches};
+ghost use Rattle.bd_bounds.specs.Bounds.{all_bounds, all_element_bounds, bounds, bounds_at, bounds_here, conjunction, element_bounds, is_inside, is_listed};
 ghost use Rattle.bd_bounds.specs.Bounds.{keys_of_types, operator_bounds, rest_after, some_bounds};
-ghost use Rattle.bd_bounds.specs.BoundsView.{parts_bounds, rest_names, seen_bounds};
-ghost use Rattle.bd_bounds.specs.Laws.{BoundedAlike, CutsFallOnce, EqualKeysAreAlike, LosesNoMatch, SparseLosesNoMatch};
+ghost use Rattle.bd_bounds.specs.BoundsView.{is_before, parts_bounds, seen_bounds};
+ghost use Rattle.bd_bounds.specs.declared.bounds.Cut as cuts;
 
 use crate::bounds::Bounds;
 use crate::range::{
@@ -45,21 +52,21 @@ impl<'a> Bounds<'a> {
 /// Equal keys are both inside, or both outside.
 #[tactic(auto, using(crate::proofs::SoundLemmas::loses_no_match, crate::proofs::SoundLemmas::sparse_loses_no_match, crate::proofs::AlikeLemmas::same_bounds))]
 pub fn bounds_lose_no_match()
-    ensures keys { LosesNoMatch }
-    ensures sparse { SparseLosesNoMatch }
-    ensures alike { EqualKeysAreAlike }
+    ensures keys { (f : filters.Filter) (path : Names) (multikey : Bool) (d : trees.Tree) → IsTrue (multikey || (length (keys d path) == 1)) → IsTrue (matches f d) → IsTrue (list_any (is_inside f path multikey) (keys d path)) }
+    ensures sparse { (f : filters.Filter) (path : Names) (multikey : Bool) (d : trees.Tree) → IsTrue (multikey || (length (keys d path) == 1)) → IsTrue (matches f d) → IsFalse (is_inside f path multikey (trees.leaf trees.null)) → IsTrue (list_any (is_inside f path multikey) (sparse_keys d path)) }
+    ensures alike { (f : filters.Filter) (path : Names) (multikey : Bool) (j k : trees.Tree) → IsTrue (equal j k) → is_inside f path multikey j ≡ is_inside f path multikey k }
 {}
 
 /// A filter is bounded for a multikey index exactly where it is for another.
 #[tactic(auto, using(crate::proofs::AlikeLemmas::alike_bounds))]
 pub fn bounded_alike()
-    ensures { BoundedAlike }
+    ensures { (f : filters.Filter) (path : Names) → is_some (bounds f path true) ≡ is_some (bounds f path false) }
 {}
 
 /// What is not above a key before a cut is before it too, so that keys in their order are parted by a cut.
 #[tactic(auto, using(crate::proofs::FilterBoundsLemmas::falls_once))]
 pub fn cuts_fall_once()
-    ensures { CutsFallOnce }
+    ensures { (cut : cuts.Cut) (j k : trees.Tree) → IsFalse (is_lt (cmp k j)) → IsTrue (is_before cut k) → IsTrue (is_before cut j) }
 {}
 
 /// The bounds of a part of a filter; None where it has none.
@@ -134,7 +141,7 @@ fn operator_bounds<'a>(alloc: Global, operators: &'a [Operator], index: &Index) 
 /// The bounds of an operator, by what is left of the path of the index after its own.
 #[cycle(bounding)]
 fn bounds_at<'a>(alloc: Global, operator: &'a Operator, index: &Index) -> Found<'a>
-    ensures { IfOk result (λ b. seen_bounds b ≡ bounds_at (operator_tree operator.now) (component_names index.now.path.now) index.now.multikey) }
+    ensures { IfOk result (λ b. seen_bounds b ≡ bounds_at (operator_tree operator.now) (Some (component_names index.now.path.now)) index.now.multikey) }
 {
     if index.path.is_empty() {
         return bounds_here(alloc, operator, index.multikey);
@@ -147,7 +154,7 @@ fn bounds_at<'a>(alloc: Global, operator: &'a Operator, index: &Index) -> Found<
 
 /// What is left of a path after a beginning of it; None where it begins otherwise.
 fn rest_after<'p>(start: &[Component], path: &'p [Component]) -> Option<&'p [Component]>
-    ensures { rest_names result ≡ rest_after (component_names start.now) (component_names path.now) }
+    ensures { option_map (λ path. component_names path.now) result ≡ rest_after (component_names start.now) (component_names path.now) }
 {
     let mut left = path;
     for component in start {

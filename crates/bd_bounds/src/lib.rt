@@ -18,7 +18,7 @@
 //! - `bounds`: `Bounds`, ranges put together as the filter has them, each between two places in the order of keys:
 //!   `specs/BoundsView.antt`.
 //! - `filter_bounds`: `Bounds::of`, the bounds that a filter gives: `specs/Bounds.antt`. They lose no match, in a sparse index too
-//!   where null is outside; a key before a cut has all lesser keys before it: `specs/Laws.antt`.
+//!   where null is outside; a key before a cut has all lesser keys before it.
 //! - `range`: the keys that equal a value, are of a class or stand to a value, and those of several values.
 #![tactic(auto)]
 

@@ -1,12 +1,12 @@
 //! Ranges of keys around a value or a class, and those of several values.
 
-ghost use Rattle.std.specs.Prelude.{◌≡◌, IfOk, false, map, true};
+ghost use Rattle.std.specs.Prelude.{◌≡◌, IfOk, false, get_or, map, true};
 ghost use Rattle.bd_value.specs.Order.{class_of_kind};
 ghost use Rattle.bd_value.specs.Tree as trees;
 ghost use Rattle.bd_value.specs.Tree.{leaf};
 ghost use Rattle.bd_value.specs.View.{tree_of};
 ghost use Rattle.bd_filter.specs.FilterMatch.{is_related};
-ghost use Rattle.bd_bounds.specs.Bounds.{first_or_undefined, is_of_class, keys_equal_to, keys_of_each, keys_of_equal};
+ghost use Rattle.bd_bounds.specs.Bounds.{is_of_class, keys_equal_to, keys_of_each, keys_of_equal};
 ghost use Rattle.bd_bounds.specs.BoundsView.{keys_between, keys_within};
 
 use crate::bounds::{Bounds, Cut, Edge};
@@ -67,15 +67,13 @@ fn between<'a>(from: Cut<'a>, to: Cut<'a>) -> Bounds<'a>
 }
 
 fn before(edge: Edge<'_>) -> Cut<'_>
-    ensures edge { result.edge ≡ edge.entry }
-    ensures after { result.after ≡ false }
+    ensures { result ≡ record { edge = edge.entry; after = false } }
 {
     Cut { edge, after: false }
 }
 
 fn after(edge: Edge<'_>) -> Cut<'_>
-    ensures edge { result.edge ≡ edge.entry }
-    ensures after { result.after ≡ true }
+    ensures { result ≡ record { edge = edge.entry; after = true } }
 {
     Cut { edge, after: true }
 }
@@ -98,7 +96,7 @@ pub(crate) fn equal_bounds<'a>(alloc: Global, value: &'a Value) -> Result<Bounds
 
 /// The keys that equal the first element, or undefined where there is none.
 fn first_range(elements: &[Value]) -> Bounds<'_>
-    ensures { keys_within result ≡ keys_equal_to (first_or_undefined (map tree_of elements.now)) }
+    ensures { keys_within result ≡ keys_equal_to (get_or (map tree_of elements.now) 0 (leaf trees.undefined)) }
 {
     match elements.first() {
         Some(first) => equal_to(first),

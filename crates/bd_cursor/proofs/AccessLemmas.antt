@@ -21,8 +21,8 @@ use Rattle.bd_path.proofs.SortLemmas.{has_a_key, sort_total}
 use Rattle.bd_filter.specs.{Filter.Filter, FilterMatch.matches, Filter.filter_tree}
 use Rattle.bd_request.specs.declared.request.Request.{Request}
 use Rattle.bd_sort.specs.Selection.{hits_of, order_of_keys, selection_of}
-use Rattle.bd_bounds.specs.{Bounds.KeyBounds, Bounds.bounds, Bounds.is_among, BoundsView.seen_bounds, declared.bounds.Bounds.Bounds, Laws.is_fit}
-use Rattle.bd_bounds.proofs.SoundLemmas.{loses_no_match, sparse_loses_no_match}
+use Rattle.bd_bounds.specs.{Bounds.KeyBounds, Bounds.bounds, Bounds.is_among, BoundsView.seen_bounds, declared.bounds.Bounds.Bounds}
+use Rattle.bd_bounds.proofs.SoundLemmas.{is_fit, loses_no_match, sparse_loses_no_match}
 use Rattle.bd_index.specs.Entries.{KeyAt, entries_from, has_two_keys, is_multikey, keys_at, entries_of}
 use Rattle.bd_index.specs.{Places.AreWithin, Places.lent_bounds, declared.index.Index.Index, IndexView.IsIndexOf}
 use Rattle.bd_index.proofs.WalkLemmas.{any_in}

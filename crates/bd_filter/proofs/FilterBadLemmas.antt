@@ -1,21 +1,19 @@
 -- Where a part of a filter is refused, it breaks that rule there; where it is read, it breaks none.
-use Rattle.std.proofs.Common.{◌≡◌, ◌⊎◌, inl, inr, ℕ, zero, suc, ◌+◌, ◌-◌, Bool, true, false, not, ◌||◌, if◌then◌else◌}
-use Rattle.std.proofs.Common.{List, [], ◌∷◌, Option, Some, None, Result, Ok, Err, refl, subst}
-use Rattle.std.specs.Prelude.{IsTrue, IsFalse, decimal, is_none, is_err}
+use Rattle.std.proofs.Common.{◌≡◌, ◌⊎◌, inl, inr, ℕ, zero, suc, ◌+◌, ◌-◌, Bool, true, false, if◌then◌else◌}
+use Rattle.std.proofs.Common.{List, [], ◌∷◌, Result, Ok, Err, refl, subst}
+use Rattle.std.specs.Prelude.{IsTrue, IsFalse, decimal, is_err}
 use Rattle.bd_value.specs.Limits.{most_filter_levels}
-use Rattle.bd_value.specs.Tree as trees
 use Rattle.bd_value.specs.Tree.{Tree, leaf, doc, array, code_scope, Doc, Fields, no_fields, field, Items, no_items, item, fields_of}
 use Rattle.bd_path.specs.{Reach.Names, Path.path_of, declared.path.PathFault.PathFault}
-use Rattle.bd_filter.specs.{Fault.Refusal, Fault.refuse, Word.word_of, declared.fault.FilterFaultKind.FilterFaultKind}
+use Rattle.bd_filter.specs.{Fault.Refusal, Fault.refuse, Word.word_of}
 use Rattle.bd_filter.specs.{declared.filter_of.PlainOperator.PlainOperator, declared.filter_of.Word.Word}
-use Rattle.bd_filter.specs.Filter.{Filter, all_of, filters_from, operators_from, Operator, compares, equals, exists, has_all, has_document, has_element, has_size}
-use Rattle.bd_filter.specs.Filter.{has_type, is_in, negates, negation_of}
-use Rattle.bd_filter.specs.FilterBad.{AreBadFilters, BreaksHereIf, BreaksInside, BreaksUnder, HasBadElement, HasBadMember, HasBadOperator, HasBadPair, IsBadAt}
-use Rattle.bd_filter.specs.FilterBad.{IsBadElemMatch, IsBadList, IsBadMember, IsBadNot, IsBadOperator, IsBadPair, IsBadPlain, IsBadValue}
-use Rattle.bd_filter.specs.FilterOf.{element_operator, filter_of, filters_of, first_is_operator, has_operators, has_value_form, inner_part, is_bound, is_regex}
-use Rattle.bd_filter.specs.FilterOf.{logical_filter, member_filter, member_filters, member_values, members_of, unless_left_out, not_operator, operand_filters}
-use Rattle.bd_filter.specs.FilterOf.{operand_kinds, operator_of, operators_of, or_bad_operand, pair_filter, path_operators, plain_operator, read_as}
-use Rattle.bd_filter.specs.FilterOf.{read_at, size_value, truth_value, with_path}
+use Rattle.bd_filter.specs.Filter.{Filter, all_of, filters_from, operators_from, Operator, equals, has_all, has_document, has_element}
+use Rattle.bd_filter.specs.Filter.{is_in, negates, negation_of}
+use Rattle.bd_filter.specs.FilterBad.{AreBadFilters, BreaksHere, BreaksInside, BreaksUnder, HasBadElement, HasBadMember, HasBadOperator, HasBadPair, IsBadAt}
+use Rattle.bd_filter.specs.FilterBad.{IsBadElemMatch, IsBadMember, IsBadNot, IsBadOperator, IsBadPair, IsBadPlain, IsBadValue}
+use Rattle.bd_filter.specs.FilterOf.{element_operator, filter_of, filters_of, first_is_operator, has_value_form, inner_part, logical_filter}
+use Rattle.bd_filter.specs.FilterOf.{member_filter, member_filters, member_value, member_values, not_operator, operand_filters, operator_of}
+use Rattle.bd_filter.specs.FilterOf.{operators_of, pair_filter, path_operators, plain_operator, read_as, read_at}
 use Rattle.bd_filter.specs.declared.fault.FilterFaultKind.TheVariants as faults
 use Rattle.bd_filter.specs.declared.filter_of.PlainOperator.TheVariants as plain
 use Rattle.bd_filter.specs.declared.filter_of.Word.TheVariants as words
@@ -52,7 +50,7 @@ level_agrees : {A B : Type 0} (room : ℕ) (f : A → B) (part : Result A Refusa
     → Agrees part IsBad → Agrees (inner_part room (read_as f part)) (BreaksInside room IsBad)
 level_agrees room f part IsBad h = inside_agrees room (read_as f part) IsBad (as_agrees f part IsBad h)
 
--- ---- one rule, by a test
+-- ---- one rule
 
 true_is_not : {A : Type 0} → false ≡ true → A
 true_is_not e = absurd cc
@@ -60,59 +58,40 @@ true_is_not e = absurd cc
 false_is_not : {A : Type 0} → true ≡ false → A
 false_is_not e = absurd cc
 
-none_here : {A : Type 0} (x : A) (kind : FilterFaultKind) → Agrees (Ok x) (BreaksHereIf false kind)
-none_here x kind = λ r e. true_is_not e.0
-
-test_agrees : {A : Type 0} (b : Bool) (kind : FilterFaultKind) (x : A) → Agrees (if b then refuse kind else Ok x) (BreaksHereIf b kind)
-test_agrees true kind x = (refl, refl)
-test_agrees false kind x = none_here x kind
+-- a part that is bad as it is read
+itself_agrees : {A : Type 0} (part : Result A Refusal) → Agrees part (λ r. part ≡ Err r)
+itself_agrees (Ok x) = λ r e. absurd cc
+itself_agrees (Err r) = refl
 
 -- ---- operands that are values
 
 values_agree : (i : ℕ) (ts : Items) → Agrees (member_values i ts) (HasBadElement i ts)
 values_agree i no_items = λ r e. e
 values_agree i (item t ts) =
-    let b = is_regex t || has_operators t in
-    each_agrees (decimal i) (unless_left_out b t) (member_values (i + 1) ts) (BreaksHereIf b faults.NotInProfile) (HasBadElement (i + 1) ts)
-    (test_agrees b faults.NotInProfile t) (values_agree (i + 1) ts)
+    each_agrees (decimal i) (member_value t) (member_values (i + 1) ts) (λ r. member_value t ≡ Err r) (HasBadElement (i + 1) ts)
+    (itself_agrees (member_value t)) (values_agree (i + 1) ts)
 
-list_agrees : (f : List Tree → Operator) (t : Tree) → Agrees (read_as f (members_of t)) (IsBadList t)
-list_agrees f (leaf s) = refl
-list_agrees f (doc fs) = refl
-list_agrees f (array ts) = as_agrees f (member_values 0 ts) (HasBadElement 0 ts) (values_agree 0 ts)
-list_agrees f (code_scope s fs) = refl
-
--- a value that is not left out, and one of the right kind
-profile_agrees : {A : Type 0} (f : Tree → A) (b : Bool) (t : Tree) → Agrees (read_as f (unless_left_out b t)) (BreaksHereIf b faults.NotInProfile)
-profile_agrees f b t = as_agrees f (unless_left_out b t) (BreaksHereIf b faults.NotInProfile) (test_agrees b faults.NotInProfile t)
-
-kind_agrees : {A : Type 0} (f : A → Operator) (o : Option A) → Agrees (read_as f (or_bad_operand o)) (BreaksHereIf (is_none o) faults.BadOperand)
-kind_agrees f None = (refl, refl)
-kind_agrees f (Some x) = none_here (f x) faults.BadOperand
+array_agrees : (f : List Tree → Operator) (ts : Items) → Agrees (read_as f (member_values 0 ts)) (HasBadElement 0 ts)
+array_agrees f ts = as_agrees f (member_values 0 ts) (HasBadElement 0 ts) (values_agree 0 ts)
 
 plain_agrees : (p : PlainOperator) (t : Tree) → Agrees (plain_operator p t) (IsBadPlain p t)
-plain_agrees plain.Equal t = λ r e. e
-plain_agrees plain.NotEqual t = profile_agrees (λ v. negation_of (equals v)) (is_regex t) t
-plain_agrees (plain.Order relation) t = profile_agrees (compares relation) (is_regex t || is_bound t) t
-plain_agrees plain.In t = list_agrees is_in t
-plain_agrees plain.NotIn t = list_agrees (λ vs. negation_of (is_in vs)) t
-plain_agrees plain.All t = list_agrees has_all t
-plain_agrees plain.Size t = kind_agrees has_size (size_value t)
-plain_agrees plain.Exists t = kind_agrees exists (truth_value t)
-plain_agrees plain.Type t = kind_agrees has_type (operand_kinds t)
+plain_agrees plain.In (array ts) = array_agrees is_in ts
+plain_agrees plain.NotIn (array ts) = array_agrees (λ vs. negation_of (is_in vs)) ts
+plain_agrees plain.All (array ts) = array_agrees has_all ts
+plain_agrees p t = itself_agrees (plain_operator p t)
 
 -- ---- pairs, by what their names stand for
 
-path_agrees : (path : Result Names PathFault) (os : Result (List Operator) Refusal) (IsBad : Refusals) → Agrees os IsBad
-    → Agrees (with_path path os) (λ r. BreaksHereIf (is_err path) faults.Path r ⊎ IsBad r)
-path_agrees (Ok names) (Ok xs) IsBad h = λ r e. elim e [ inl a ↦ none_here names faults.Path r a | inr b ↦ h r b ]
-path_agrees (Ok names) (Err r) IsBad h = inr h
-path_agrees (Err fault) os IsBad h = inl (refl, refl)
+path_agrees : (path : Result Names PathFault) (fs : Result (List Filter) Refusal) (os : Result (List Operator) Refusal) (IsBad : Refusals)
+    → Agrees os IsBad → Agrees (pair_filter words.Field path fs os) (λ r. (IsTrue (is_err path) × BreaksHere faults.Path r) ⊎ IsBad r)
+path_agrees (Ok names) fs (Ok xs) IsBad h = λ r e. elim e [ inl a ↦ true_is_not a.0 | inr b ↦ h r b ]
+path_agrees (Ok names) fs (Err r) IsBad h = inr h
+path_agrees (Err fault) fs os IsBad h = inl (refl, refl)
 
 pair_agrees : (w : Word) (name : List ℕ) (fs : Result (List Filter) Refusal) (os : Result (List Operator) Refusal) (AreBad IsBad : Refusals)
-    → Agrees fs AreBad → Agrees os IsBad → Agrees (pair_filter w name fs os) (IsBadPair w name AreBad IsBad)
+    → Agrees fs AreBad → Agrees os IsBad → Agrees (pair_filter w (path_of name) fs os) (IsBadPair w name AreBad IsBad)
 pair_agrees (words.Logical l) name fs os AreBad IsBad h k = as_agrees (logical_filter l) fs AreBad h
-pair_agrees words.Field name fs os AreBad IsBad h k = path_agrees (path_of name) os IsBad k
+pair_agrees words.Field name fs os AreBad IsBad h k = path_agrees (path_of name) fs os IsBad k
 pair_agrees w name fs os AreBad IsBad h k = refl
 
 operator_agrees : (w : Word) (t : Tree) (inverse element : Result Operator Refusal) (InNot InElemMatch : Refusals)
@@ -131,8 +110,8 @@ value_form true (Err r) x AreBad h = (refl, h)
 value_form false os x AreBad h = λ r e. true_is_not e.0
 
 not_form : (b : Bool) (part : Result Operator Refusal) (AreBad : Refusals) → Agrees part AreBad
-    → Agrees (if b then part else refuse faults.BadOperand) (λ r. BreaksHereIf (not b) faults.BadOperand r ⊎ (IsTrue b × AreBad r))
-not_form true (Ok x) AreBad h = λ r e. elim e [ inl a ↦ true_is_not a.0 | inr b ↦ h r b.1 ]
+    → Agrees (if b then part else refuse faults.BadOperand) (λ r. (IsFalse b × BreaksHere faults.BadOperand r) ⊎ (IsTrue b × AreBad r))
+not_form true (Ok x) AreBad h = λ r e. elim e [ inl a ↦ false_is_not a.0 | inr b ↦ h r b.1 ]
 not_form true (Err r) AreBad h = inr (refl, h)
 not_form false part AreBad h = inl (refl, refl)
 
@@ -143,10 +122,6 @@ element_form true (Err r) other AreBad AreOthersBad h k = inl (refl, h)
 element_form false part (Ok x) AreBad AreOthersBad h k = λ r e. elim e [ inl a ↦ true_is_not a.0 | inr b ↦ k r b.1 ]
 element_form false part (Err r) AreBad AreOthersBad h k = inr (refl, k)
 
-leaf_agrees : (room : ℕ) (s : trees.Scalar) → Agrees (not_operator room (leaf s)) (IsBadNot room (leaf s))
-leaf_agrees room (trees.regex p o) = refl
-leaf_agrees room s = refl
-
 -- ---- a whole document
 
 mutual
@@ -155,7 +130,7 @@ mutual
   pairs_agree room (field n t fs) =
       let w = word_of n in
       let one = pair_agrees w n (operand_filters room t) (path_operators room t) (AreBadFilters room t) (IsBadValue room t) (logical_agrees room t) (value_agrees room t) in
-      each_agrees n (pair_filter w n (operand_filters room t) (path_operators room t)) (filters_of room fs)
+      each_agrees n (pair_filter w (path_of n) (operand_filters room t) (path_operators room t)) (filters_of room fs)
       (IsBadPair w n (AreBadFilters room t) (IsBadValue room t)) (HasBadPair room fs) one (pairs_agree room fs)
 
   logical_agrees : (room : ℕ) (t : Tree) → Agrees (operand_filters room t) (AreBadFilters room t)
@@ -179,11 +154,11 @@ mutual
   member_agrees room (code_scope s fs) = refl
 
   value_agrees : (room : ℕ) (t : Tree) → Agrees (path_operators room t) (IsBadValue room t)
-  value_agrees room (leaf s) = profile_agrees (λ v. equals v ∷ []) (is_regex (leaf s)) (leaf s)
+  value_agrees room (leaf s) = itself_agrees (path_operators room (leaf s))
   value_agrees room (doc fs) =
       value_form (first_is_operator fs) (operators_of room fs) (equals (doc fs) ∷ []) (HasBadOperator room fs) (operators_agree room fs)
-  value_agrees room (array ts) = none_here (equals (array ts) ∷ []) faults.NotInProfile
-  value_agrees room (code_scope s fs) = none_here (equals (code_scope s fs) ∷ []) faults.NotInProfile
+  value_agrees room (array ts) = itself_agrees (path_operators room (array ts))
+  value_agrees room (code_scope s fs) = itself_agrees (path_operators room (code_scope s fs))
 
   operators_agree : (room : ℕ) (fs : Fields) → Agrees (operators_of room fs) (HasBadOperator room fs)
   operators_agree room no_fields = λ r e. e
@@ -194,7 +169,7 @@ mutual
       (IsBadOperator w t (IsBadNot room t) (IsBadElemMatch room t)) (HasBadOperator room fs) one (operators_agree room fs)
 
   not_agrees : (room : ℕ) (t : Tree) → Agrees (not_operator room t) (IsBadNot room t)
-  not_agrees room (leaf s) = leaf_agrees room s
+  not_agrees room (leaf s) = itself_agrees (not_operator room (leaf s))
   not_agrees room (doc fs) =
       let f : List Operator → Operator = λ xs. negates (operators_from xs) in
       not_form (first_is_operator fs) (inner_part room (read_as f (operators_of (room - 1) fs))) (BreaksInside room (HasBadOperator (room - 1) fs))

@@ -12,10 +12,11 @@ use Rattle.bd_filter.specs.Fault.{Refusal, refusal_of, StopsAt, TellsMisfit, dee
 use Rattle.bd_filter.specs.{declared.fault.FilterFault.FilterFault, declared.fault.Stop.Stop, declared.filter.Filter.Filter, declared.filter.Filter.TheVariants.And, declared.filter.Operator.Operator}
 use Rattle.bd_filter.specs.{declared.filter.Operator.TheVariants.Not, declared.filter.Operator.TheVariants.ElemMatch}
 use Rattle.bd_filter.specs.{declared.filter.Operator.TheVariants.ElemMatchDocument}
-use Rattle.bd_filter.specs.FilterOf.{all_kinds, both_kinds, element_operator, filter_of, filters_of, has_operators, has_value_form, is_bound, is_regex, member_filter}
+use Rattle.bd_filter.specs.FilterOf.{all_kinds, element_operator, filter_of, filters_of, has_operators, has_value_form, is_bound, is_regex, member_filter}
 use Rattle.bd_filter.specs.FilterOf.{member_filters, member_values, members_of, inner_part, not_operator, operand_filters, operand_kinds, operators_of, path_operators}
 use Rattle.bd_filter.specs.FilterOf.{read_as, read_at, unless_left_out}
 use Rattle.bd_filter.specs.Filter.{all_of, filters_from, has_document, has_element, negates, operators_from, has_type, filter_tree, operator_tree}
+use Rattle.bd_filter.specs.declared.fault.FilterFaultKind.TheVariants as faults
 use Rattle.bd_filter.specs.declared.fault.Stop.TheVariants as stops
 use Rattle.bd_filter.specs.declared.filter.Filter.TheFolds as folds
 use Rattle.bd_filter.specs.declared.filter.Operator.TheVariants as operators
@@ -40,23 +41,27 @@ none_yet (Err r) = refl
 pub none_read : {A B : Type 0} (view : A → B) (xs : List A) (whole : Result (List B) Refusal) → xs ≡ [] → joined (map view xs) whole ≡ whole
 none_read view xs whole none = ap (λ ys. joined (map view ys) whole) none ∙ none_yet whole
 
-pub one_read : {A B : Type 0} (view : A → B) (xs ys : List A) (x : A) (name : List ℕ) (part : Result B Refusal) (rest whole : Result (List B) Refusal)
-    → ys ≡ xs ++ x ∷ [] → part ≡ Ok (view x) → joined (map view xs) (read_at name part rest) ≡ whole → joined (map view ys) rest ≡ whole
-one_read view xs ys x name part rest whole pushed is so_far =
+pub one_read : {A B : Type 0} (view : A → B) (xs ys : List A) (x : A) (name : List ℕ) (part : Result B Refusal) (left rest whole : Result (List B) Refusal)
+    → ys ≡ xs ++ x ∷ [] → part ≡ Ok (view x) → left ≡ read_at name part rest → joined (map view xs) left ≡ whole → joined (map view ys) rest ≡ whole
+one_read view xs ys x name part left rest whole pushed is next so_far =
     ap (λ zs. joined (map view zs) rest) pushed ∙ ap (λ zs. joined zs rest) (map_push view xs x) ∙ sym (one_more (map view xs) name (view x) rest)
-    ∙ sym (ap (λ p. joined (map view xs) (read_at name p rest)) is) ∙ so_far
+    ∙ sym (ap (joined (map view xs)) (next ∙ ap (λ p. read_at name p rest) is)) ∙ so_far
 
 pub all_read : {B : Type 0} (xs : List B) (rest whole : Result (List B) Refusal) → joined xs rest ≡ whole → rest ≡ Ok [] → whole ≡ Ok xs
 all_read xs rest whole so_far none = sym so_far ∙ ap (joined xs) none ∙ no_more xs
 
 -- a part that is refused under a name is the refusal of all
-pub refused : {A : Type 0} (xs : List A) (name : List ℕ) (part : Result A Refusal) (rest whole : Result (List A) Refusal) (stop result : Stop)
-    → joined xs (read_at name part rest) ≡ whole → ((r : Refusal) → TellsMisfit stop r → TellsMisfit result (deeper name r)) → (stop ≡ stops.NoMemory → result ≡ stops.NoMemory)
+pub refused : {A : Type 0} (xs : List A) (name : List ℕ) (part : Result A Refusal) (left rest whole : Result (List A) Refusal) (stop result : Stop)
+    → left ≡ read_at name part rest → joined xs left ≡ whole → ((r : Refusal) → TellsMisfit stop r → TellsMisfit result (deeper name r))
     → StopsAt stop part → StopsAt result whole
-refused xs name part rest whole stop stops.NoMemory is tells starved at = tt
-refused xs name part rest whole stops.NoMemory (stops.Fault f) is tells starved at = let e = starved refl in absurd cc
-refused xs name part rest whole (stops.Fault k) (stops.Fault f) is tells starved at =
-    sym is ∙ ap (λ p. joined xs (read_at name p rest)) at ∙ ap (λ r. Err r) (tells (refusal_of k) refl)
+refused xs name part left rest whole stop stops.NoMemory next is tells at = tt
+refused xs name part left rest whole stops.NoMemory (stops.Fault f) next is tells at =
+    let one = tells (record { kind = faults.Path; place = [] }) tt in
+    let other = tells (record { kind = faults.TooDeep; place = [] }) tt in
+    let same : faults.Path ≡ faults.TooDeep = ap (λ (r : Refusal). r.kind) one ∙ sym (ap (λ (r : Refusal). r.kind) other) in
+    absurd cc
+refused xs name part left rest whole (stops.Fault k) (stops.Fault f) next is tells at =
+    sym is ∙ ap (joined xs) (next ∙ ap (λ p. read_at name p rest) at) ∙ ap (λ r. Err r) (tells (refusal_of k) refl)
 
 -- ---- operands that are values
 
@@ -149,7 +154,11 @@ operand_is room (code_scope s fs) ps is are some = absurd are
 
 -- ---- the operand of `$type`
 
-kinds_after_none : (kinds : Option (List Kind)) → both_kinds (Some []) kinds ≡ kinds
+-- kinds after those so far
+abbrev pub more_kinds : List Kind → Option (List Kind) → Option (List Kind)
+more_kinds so_far kinds = option_map (λ more. so_far ++ more) kinds
+
+kinds_after_none : (kinds : Option (List Kind)) → more_kinds [] kinds ≡ kinds
 kinds_after_none None = refl
 kinds_after_none (Some kinds) = refl
 
@@ -158,7 +167,7 @@ some_types_of no_items some = absurd (some refl)
 some_types_of (item t ts) some = refl
 
 pub some_types : (t : Tree) (ps : Doc) → kind_of t ≡ kinds.Array → AreParts t ps → length_of t ≢ 0
-    → operand_kinds t ≡ both_kinds (Some []) (all_kinds (items_of (values_of ps)))
+    → operand_kinds t ≡ more_kinds [] (all_kinds (items_of (values_of ps)))
 some_types (leaf s) ps is are some = absurd are
 some_types (doc fs) ps is are some = absurd cc
 some_types (array ts) ps is are some =

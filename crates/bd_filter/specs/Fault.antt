@@ -1,7 +1,7 @@
 -- Why a document is no filter: which rule a pair or a member of it breaks, and the names from the top down to that.
 use Rattle.std.specs.Prelude.{◌≡◌, ℕ, List, [], ◌∷◌, Result, Ok, Err, map, string_bytes, get_or, ◌-◌}
-use Rattle.bd_filter.specs.{declared.fault.FilterFault.FilterFault, declared.fault.FilterFaultKind.FilterFaultKind}
-use Rattle.bd_filter.specs.{declared.fault.Stop.Stop, declared.fault.TheConstants.WORDS}
+use Rattle.bd_filter.specs.declared.fault.{FilterFault.FilterFault, FilterFaultKind.FilterFaultKind, Stop.Stop}
+use Rattle.bd_filter.specs.declared.fault.TheConstants.{WORDS}
 use Rattle.bd_filter.specs.declared.fault.FilterFaultKind.TheVariants as kinds
 use Rattle.bd_filter.specs.declared.fault.Stop.TheVariants as stops
 

@@ -2,9 +2,10 @@
 use Rattle.std.specs.Prelude.{ℕ, Bool, List, [], ◌∷◌, map}
 use Rattle.bd_value.specs.{Tree.Tree, View.tree_of, declared.document.Value.Value, declared.node.Kind.Kind}
 use Rattle.bd_path.specs.{Reach.Names, PathNames.names_of}
-use Rattle.bd_filter.specs.{declared.filter.Filter.Filter as FilterInMemory, declared.filter.Filter.TheFolds.fold-Filter, declared.filter.Filter.TheFolds.fold-Operator}
-use Rattle.bd_filter.specs.{declared.filter.Filter.TheOpen.Filter-F, declared.filter.Filter.TheOpen.Operator-F, declared.filter.Members.Members}
-use Rattle.bd_filter.specs.{declared.filter.Operator.Operator as OperatorInMemory, declared.operand.Relation.Relation}
+use Rattle.bd_filter.specs.declared.filter.Filter.{Filter as FilterInMemory, TheOpen.Filter-F, TheOpen.Operator-F}
+use Rattle.bd_filter.specs.declared.filter.Filter.TheFolds.{fold-Filter, fold-Operator}
+use Rattle.bd_filter.specs.declared.{filter.Members.Members, filter.Operator.Operator as OperatorInMemory}
+use Rattle.bd_filter.specs.declared.operand.Relation.{Relation}
 use Rattle.bd_filter.specs.declared.operand.Relation.TheVariants as relation
 
 -- A list inside a filter has to be a type of its own: `Filters` and `Operators` are lists of them.

@@ -1,67 +1,46 @@
--- Which pairs and members of a document break a rule of filters (MongoDB manual, "Query and Projection Operators"), which
--- rule each breaks, and where it stands. Nothing is read in turn: each is bad or not, whatever stands before it.
-use Rattle.std.specs.Prelude.{◌≡◌, ◌⊎◌, ℕ, zero, ◌+◌, ◌-◌, Bool, not, ◌||◌, List, [], Ok, Err, decimal, IsTrue, IsFalse}
-use Rattle.std.specs.Prelude.{is_err, is_none, if◌then◌else◌}
+-- Which pairs and members of a document break a rule of filters (MongoDB manual, "Query and Projection Operators"), and
+-- where. Nothing is read in turn: each is bad or not, whatever stands before it. `FilterOf` says what one operand may be.
+use Rattle.std.specs.Prelude.{◌≡◌, ◌⊎◌, ℕ, zero, ◌+◌, ◌-◌, List, [], Err, is_err, decimal, IsTrue, IsFalse}
 use Rattle.bd_value.specs.Limits.{most_filter_levels}
 use Rattle.bd_value.specs.Tree.{Tree, doc, array, Items, no_items, item, Fields, no_fields, field, Doc, fields_of}
 use Rattle.bd_path.specs.Path.{path_of}
-use Rattle.bd_filter.specs.{Fault.Refusal, Fault.deeper, Filter.Filter, Word.word_of, FilterOf.operand_kinds}
-use Rattle.bd_filter.specs.{FilterOf.size_value, FilterOf.truth_value, declared.fault.FilterFaultKind.FilterFaultKind}
-use Rattle.bd_filter.specs.{declared.filter_of.PlainOperator.PlainOperator, declared.filter_of.Word.Word}
-use Rattle.bd_filter.specs.FilterOf.{filter_of, first_is_operator, has_operators, has_value_form, is_bound, is_regex}
+use Rattle.bd_filter.specs.{Fault.Refusal, Fault.deeper, Word.word_of, declared.fault.FilterFaultKind.FilterFaultKind}
+use Rattle.bd_filter.specs.declared.filter_of.{PlainOperator.PlainOperator, Word.Word}
+use Rattle.bd_filter.specs.FilterOf.{first_is_operator, has_value_form, member_value, not_operator, path_operators, plain_operator}
 use Rattle.bd_filter.specs.declared.fault.FilterFaultKind.TheVariants as faults
 use Rattle.bd_filter.specs.declared.filter_of.PlainOperator.TheVariants as plain
 use Rattle.bd_filter.specs.declared.filter_of.Word.TheVariants as words
 
--- ---- where a rule is broken
-
--- at the pair or member itself
+-- a rule is broken at the pair or member itself
 abbrev pub BreaksHere : FilterFaultKind → Refusal → Type 0
 BreaksHere kind r = r ≡ record { kind = kind; place = [] }
 
-abbrev pub BreaksHereIf : Bool → FilterFaultKind → Refusal → Type 0
-BreaksHereIf b kind r = IsTrue b × BreaksHere kind r
-
--- inside it, under this name or position
+-- a rule is broken inside it, under this name or position
 abbrev pub BreaksUnder : List ℕ → (Refusal → Type 0) → Refusal → Type 0
 BreaksUnder name IsBad r = (inner : Refusal) × (r ≡ deeper name inner) × IsBad inner
 
--- a level more: at itself where there is no room for one, else inside it
+-- a level further in, or at itself where there is no room for one
 abbrev pub BreaksInside : ℕ → (Refusal → Type 0) → Refusal → Type 0
 BreaksInside zero IsBad r = BreaksHere faults.TooDeep r
 BreaksInside room IsBad r = IsBad r
 
--- ---- operands that are values
-
 -- some member of the array of `$in`, `$nin` and `$all`, from this position on
 abbrev pub HasBadElement : ℕ → Items → Refusal → Type 0
 HasBadElement i no_items r = ⊥
-HasBadElement i (item t ts) r =
-    BreaksUnder (decimal i) (BreaksHereIf (is_regex t || has_operators t) faults.NotInProfile) r ⊎ HasBadElement (i + 1) ts r
+HasBadElement i (item t ts) r = BreaksUnder (decimal i) (λ q. member_value t ≡ Err q) r ⊎ HasBadElement (i + 1) ts r
 
-abbrev pub IsBadList : Tree → Refusal → Type 0
-IsBadList (array ts) r = HasBadElement 0 ts r
-IsBadList t r = BreaksHere faults.BadOperand r
-
--- `$eq` takes any value; no other takes a regular expression, and none that orders takes the bounds of the order
+-- an operand: each member of a list by itself, and else as it is read
 abbrev pub IsBadPlain : PlainOperator → Tree → Refusal → Type 0
-IsBadPlain plain.Equal t r = ⊥
-IsBadPlain plain.NotEqual t r = BreaksHereIf (is_regex t) faults.NotInProfile r
-IsBadPlain (plain.Order relation) t r = BreaksHereIf (is_regex t || is_bound t) faults.NotInProfile r
-IsBadPlain plain.In t r = IsBadList t r
-IsBadPlain plain.NotIn t r = IsBadList t r
-IsBadPlain plain.All t r = IsBadList t r
-IsBadPlain plain.Size t r = BreaksHereIf (is_none (size_value t)) faults.BadOperand r
-IsBadPlain plain.Exists t r = BreaksHereIf (is_none (truth_value t)) faults.BadOperand r
-IsBadPlain plain.Type t r = BreaksHereIf (is_none (operand_kinds t)) faults.BadOperand r
+IsBadPlain plain.In (array ts) r = HasBadElement 0 ts r
+IsBadPlain plain.NotIn (array ts) r = HasBadElement 0 ts r
+IsBadPlain plain.All (array ts) r = HasBadElement 0 ts r
+IsBadPlain p t r = plain_operator p t ≡ Err r
 
--- ---- filters
-
--- a pair of a document, by what its name stands for: `$and` and its kin by their filters, a field by its path and by its
+-- a pair of a document, by what its name stands for: `$and` and its kin by their filters, a field by its path and its
 -- value, each whatever the other is. No other operator stands outside a field.
 abbrev pub IsBadPair : Word → List ℕ → (Refusal → Type 0) → (Refusal → Type 0) → Refusal → Type 0
 IsBadPair (words.Logical l) name AreBad IsBad r = AreBad r
-IsBadPair words.Field name AreBad IsBad r = BreaksHereIf (is_err (path_of name)) faults.Path r ⊎ IsBad r
+IsBadPair words.Field name AreBad IsBad r = (IsTrue (is_err (path_of name)) × BreaksHere faults.Path r) ⊎ IsBad r
 IsBadPair words.LeftOut name AreBad IsBad r = BreaksHere faults.NotInProfile r
 IsBadPair w name AreBad IsBad r = BreaksHere faults.UnknownOperator r
 
@@ -95,21 +74,21 @@ abbrev mutual
   IsBadMember room (doc fs) r = BreaksInside room (HasBadPair (room - 1) fs) r
   IsBadMember room t r = BreaksHere faults.BadOperand r
 
-  -- the value of a path: operators, or a value that is to be equalled, which is no regular expression
+  -- the value of a path: operators, or a value that is to be equalled
   pub IsBadValue : ℕ → Tree → Refusal → Type 0
   IsBadValue room (doc fs) r = IsTrue (first_is_operator fs) × HasBadOperator room fs r
-  IsBadValue room t r = BreaksHereIf (is_regex t) faults.NotInProfile r
+  IsBadValue room t r = path_operators room t ≡ Err r
 
   pub HasBadOperator : ℕ → Fields → Refusal → Type 0
   HasBadOperator room no_fields r = ⊥
   HasBadOperator room (field n t fs) r =
       BreaksUnder n (IsBadOperator (word_of n) t (IsBadNot room t) (IsBadElemMatch room t)) r ⊎ HasBadOperator room fs r
 
-  -- `$not` takes operators, which are a level more, and no regular expression, which is left out
+  -- `$not` takes operators, which are a level more; any other operand is bad as it is read
   pub IsBadNot : ℕ → Tree → Refusal → Type 0
-  IsBadNot room (doc fs) r = BreaksHereIf (not (first_is_operator fs)) faults.BadOperand r
+  IsBadNot room (doc fs) r = (IsFalse (first_is_operator fs) × BreaksHere faults.BadOperand r)
       ⊎ (IsTrue (first_is_operator fs) × BreaksInside room (HasBadOperator (room - 1) fs) r)
-  IsBadNot room t r = BreaksHere (if is_regex t then faults.NotInProfile else faults.BadOperand) r
+  IsBadNot room t r = not_operator room t ≡ Err r
 
   -- `$elemMatch` takes a document, which is a level more: operators for an element, or the pairs of a filter
   pub IsBadElemMatch : ℕ → Tree → Refusal → Type 0
@@ -120,11 +99,3 @@ abbrev mutual
 -- a pair or a member breaks the rule at the place: a filter has fifty levels at most, and its top is one
 abbrev pub IsBadAt : Doc → Refusal → Type 0
 IsBadAt d r = HasBadPair (most_filter_levels - 1) (fields_of d) r
-
--- no pair and no member of a filter breaks a rule
-abbrev pub NoneBadWhereTaken : Type 0
-NoneBadWhereTaken = (d : Doc) (f : Filter) → filter_of d ≡ Ok f → (r : Refusal) → ¬ IsBadAt d r
-
--- what has no filter breaks the rule that it is refused for, and at that place
-abbrev pub BadWhereRefused : Type 0
-BadWhereRefused = (d : Doc) (r : Refusal) → filter_of d ≡ Err r → IsBadAt d r

@@ -1,13 +1,13 @@
--- Which filter a document is (MongoDB manual, "Query and Projection Operators"), and which pair or member of another document
--- is the first that is no part of one.
-use Rattle.std.specs.Prelude.{ℕ, zero, ◌+◌, ◌-◌, ℤ, pos, Bool, true, false, not, ◌||◌, List, [], ◌∷◌, ◌++◌, Option, Some, None, Result, Ok, Err, if◌then◌else◌, decimal}
-use Rattle.std.specs.Ordering.{int_eq}
+-- Which filter a document is (MongoDB manual, "Query and Projection Operators"), and which pair or member of any other
+-- document is the first that is no part of one.
+use Rattle.std.specs.Prelude.{ℕ, zero, ◌+◌, ◌-◌, pos, Bool, true, false, not, ◌||◌, List, [], ◌∷◌, ◌++◌, Option, Some, None, Result, Ok, Err, if◌then◌else◌, decimal}
+use Rattle.std.specs.{Option.option_and_then, Option.option_map, Ordering.int_eq}
 use Rattle.bd_value.specs.{Limits.most_filter_levels, declared.node.Kind.Kind}
 use Rattle.bd_value.specs.Tree as trees
 use Rattle.bd_value.specs.Tree.{Scalar, Tree, leaf, doc, array, Items, no_items, item, Fields, no_fields, field, Doc, fields_of}
 use Rattle.bd_path.specs.{Reach.Names, Path.path_of, declared.path.PathFault.PathFault}
-use Rattle.bd_filter.specs.{Fault.Refusal, Fault.deeper, Fault.refuse, declared.filter_of.LogicalOperator.LogicalOperator, declared.filter_of.PlainOperator.PlainOperator}
-use Rattle.bd_filter.specs.{declared.filter_of.Word.Word}
+use Rattle.bd_filter.specs.Fault.{Refusal, deeper, refuse}
+use Rattle.bd_filter.specs.declared.filter_of.{LogicalOperator.LogicalOperator, PlainOperator.PlainOperator, Word.Word}
 use Rattle.bd_filter.specs.Filter.{Filter, all_of, some_of, none_of, at_path, filters_from, Operator, equals, compares, is_in, has_all, has_type, has_size, exists}
 use Rattle.bd_filter.specs.Filter.{negates, has_element, has_document, negation_of, operators_from}
 use Rattle.bd_filter.specs.Word.{begins_with_dollar, kinds_named, kinds_numbered, word_of}
@@ -15,8 +15,6 @@ use Rattle.bd_filter.specs.declared.fault.FilterFaultKind.TheVariants as faults
 use Rattle.bd_filter.specs.declared.filter_of.LogicalOperator.TheVariants as logical
 use Rattle.bd_filter.specs.declared.filter_of.PlainOperator.TheVariants as plain
 use Rattle.bd_filter.specs.declared.filter_of.Word.TheVariants as words
-
--- ---- parts that are read in turn
 
 abbrev pub read_as : {A B : Type 0} → (A → B) → Result A Refusal → Result B Refusal
 read_as f (Ok x) = Ok (f x)
@@ -53,11 +51,13 @@ has_operators t = false
 abbrev pub unless_left_out : Bool → Tree → Result Tree Refusal
 unless_left_out left_out t = if left_out then refuse faults.NotInProfile else Ok t
 
--- the members of the array of `$in`, `$nin` and `$all`, from this position on
+-- a member of the array of `$in`, `$nin` and `$all`, and the members from this position on
+abbrev pub member_value : Tree → Result Tree Refusal
+member_value t = unless_left_out (is_regex t || has_operators t) t
+
 abbrev pub member_values : ℕ → Items → Result (List Tree) Refusal
 member_values i no_items = Ok []
-member_values i (item t ts) =
-    read_at (decimal i) (unless_left_out (is_regex t || has_operators t) t) (member_values (i + 1) ts)
+member_values i (item t ts) = read_at (decimal i) (member_value t) (member_values (i + 1) ts)
 
 abbrev pub members_of : Tree → Result (List Tree) Refusal
 members_of (array ts) = member_values 0 ts
@@ -83,14 +83,9 @@ type_kinds (leaf (trees.int32 z)) = kinds_numbered z
 type_kinds (leaf (trees.int64 z)) = kinds_numbered z
 type_kinds t = None
 
-abbrev pub both_kinds : Option (List Kind) → Option (List Kind) → Option (List Kind)
-both_kinds None others = None
-both_kinds (Some kinds) None = None
-both_kinds (Some kinds) (Some others) = Some (kinds ++ others)
-
 abbrev pub all_kinds : Items → Option (List Kind)
 all_kinds no_items = Some []
-all_kinds (item t ts) = both_kinds (type_kinds t) (all_kinds ts)
+all_kinds (item t ts) = option_and_then (λ kinds. option_map (λ more. kinds ++ more) (all_kinds ts)) (type_kinds t)
 
 -- one type, or some in an array
 abbrev pub operand_kinds : Tree → Option (List Kind)
@@ -125,10 +120,6 @@ abbrev pub inner_part : {A : Type 0} → ℕ → Result A Refusal → Result A R
 inner_part zero part = refuse faults.TooDeep
 inner_part room part = part
 
-abbrev pub with_path : Result Names PathFault → Result (List Operator) Refusal → Result Filter Refusal
-with_path (Err fault) os = refuse faults.Path
-with_path (Ok names) os = read_as (λ xs. at_path names (operators_from xs)) os
-
 -- operators for an element, and not a filter
 abbrev pub is_value_form : Word → Bool
 is_value_form (words.Logical l) = false
@@ -139,12 +130,14 @@ abbrev pub has_value_form : Fields → Bool
 has_value_form no_fields = false
 has_value_form (field n t fs) = is_value_form (word_of n)
 
--- a pair, by its name, of its value as filters and as what a path is asked
-abbrev pub pair_filter : Word → List ℕ → Result (List Filter) Refusal → Result (List Operator) Refusal → Result Filter Refusal
-pair_filter (words.Logical l) name filters operators = read_as (logical_filter l) filters
-pair_filter words.Field name filters operators = with_path (path_of name) operators
-pair_filter words.LeftOut name filters operators = refuse faults.NotInProfile
-pair_filter w name filters operators = refuse faults.UnknownOperator
+-- a pair, by its name, of that as a path, and of its value as filters and as what a path is asked
+abbrev pub pair_filter : Word → Result Names PathFault → Result (List Filter) Refusal → Result (List Operator) Refusal
+    → Result Filter Refusal
+pair_filter (words.Logical l) path filters operators = read_as (logical_filter l) filters
+pair_filter words.Field (Err fault) filters operators = refuse faults.Path
+pair_filter words.Field (Ok path) filters operators = read_as (λ os. at_path path (operators_from os)) operators
+pair_filter words.LeftOut path filters operators = refuse faults.NotInProfile
+pair_filter w path filters operators = refuse faults.UnknownOperator
 
 -- a pair among operators, by its name, of its value, and of that as the body of `$not` and of `$elemMatch`
 abbrev pub operator_of : Word → Tree → Result Operator Refusal → Result Operator Refusal → Result Operator Refusal
@@ -160,7 +153,7 @@ abbrev mutual
   pub filters_of : ℕ → Fields → Result (List Filter) Refusal
   filters_of room no_fields = Ok []
   filters_of room (field n t fs) =
-      read_at n (pair_filter (word_of n) n (operand_filters room t) (path_operators room t)) (filters_of room fs)
+      read_at n (pair_filter (word_of n) (path_of n) (operand_filters room t) (path_operators room t)) (filters_of room fs)
 
   -- the filters of `$and`, `$or`, `$nor`: at least one
   pub operand_filters : ℕ → Tree → Result (List Filter) Refusal

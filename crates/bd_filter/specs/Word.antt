@@ -1,15 +1,14 @@
 -- The names that stand for something in a filter (MongoDB manual, "Query and Projection Operators").
 use Rattle.std.specs.Prelude.{ℕ, ℤ, pos, negsuc, Bool, false, ◌==◌, List, [], ◌∷◌, codes, Option, Some, option_map, if◌then◌else◌, unwrap_or}
 use Rattle.std.specs.{List.find, List.list_any, Ordering.int_eq, Str.bytes_eq}
-use Rattle.bd_value.specs.declared.node.Kind.{Kind}
+use denote.Enum.Bare.{sameb}
+use Rattle.bd_value.specs.{contracts.node.Kind.the_type, declared.node.Kind.Kind}
 use Rattle.bd_value.specs.declared.node.Kind.TheVariants as kinds
 use Rattle.bd_filter.specs.declared.filter_of.LogicalOperator.TheVariants as logical
 use Rattle.bd_filter.specs.declared.filter_of.PlainOperator.TheVariants as plain
 use Rattle.bd_filter.specs.declared.filter_of.Word.{Word}
 use Rattle.bd_filter.specs.declared.filter_of.Word.TheVariants as words
 use Rattle.bd_filter.specs.declared.operand.Relation.TheVariants as relation
-
--- ---- operators
 
 abbrev pub begins_with_dollar : List ℕ → Bool
 begins_with_dollar [] = false
@@ -43,9 +42,7 @@ word_of name =
     if begins_with_dollar name then unwrap_or (known_operator name) (if is_left_out name then words.LeftOut else words.Unknown)
     else words.Field
 
--- ---- the types of `$type` (MongoDB manual, "$type", "Available Types")
-
--- number, name, and the kinds that it has: doubles and decimals are not read
+-- the types of `$type` (MongoDB manual, "$type"): number, name, and kinds. Doubles and decimals have none.
 abbrev pub query_types : List (ℤ × List ℕ × List Kind)
 query_types =
     (pos 1, codes "double", []) ∷ (pos 2, codes "string", kinds.Text ∷ []) ∷ (pos 3, codes "object", kinds.Doc ∷ [])
@@ -66,27 +63,6 @@ kinds_named name = if bytes_eq name (codes "number") then Some (kinds.Int32 ∷ 
 unfoldable pub kinds_numbered : ℤ → Option (List Kind)
 kinds_numbered number = option_map (λ row. row.2) (find (λ row. int_eq row.0 number) query_types)
 
--- the place of a kind among all
-abbrev pub kind_place : Kind → ℕ
-kind_place kinds.MinKey = 0
-kind_place kinds.Undefined = 1
-kind_place kinds.Null = 2
-kind_place kinds.Int32 = 3
-kind_place kinds.Int64 = 4
-kind_place kinds.Text = 5
-kind_place kinds.Symbol = 6
-kind_place kinds.Doc = 7
-kind_place kinds.Array = 8
-kind_place kinds.Binary = 9
-kind_place kinds.ObjectId = 10
-kind_place kinds.Bool = 11
-kind_place kinds.Date = 12
-kind_place kinds.Timestamp = 13
-kind_place kinds.Regex = 14
-kind_place kinds.DbPointer = 15
-kind_place kinds.Code = 16
-kind_place kinds.CodeScope = 17
-kind_place kinds.MaxKey = 18
-
+-- `==` of kinds
 abbrev pub is_kind : Kind → Kind → Bool
-is_kind a b = kind_place a == kind_place b
+is_kind = sameb the_type

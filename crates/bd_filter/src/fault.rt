@@ -86,8 +86,7 @@ pub(crate) fn stop_at(alloc: Global, kind: FilterFaultKind) -> Stop
 
 /// The stop as it is seen from one name up.
 pub(crate) fn under(alloc: Global, name: &str, stop: Stop) -> Stop
-    ensures tells { (r : Refusal) → TellsMisfit stop r → TellsMisfit result (deeper name.now r) }
-    ensures starved { stop ≡ NoMemory → result ≡ NoMemory }
+    ensures { (r : Refusal) → TellsMisfit stop r → TellsMisfit result (deeper name.now r) }
 {
     let Stop::Fault(mut fault) = stop else {
         return Stop::NoMemory;

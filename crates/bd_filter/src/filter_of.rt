@@ -3,10 +3,12 @@
 ghost use Rattle.std.specs.Prelude.{◌≡◌, ◌⊎◌, map, IfOk, IfErr, Ok, Err};
 ghost use Rattle.std.specs.List.{list_any};
 ghost use Rattle.bd_value.specs.View.{pairs};
-ghost use Rattle.bd_value.specs.Tree.{fields_of, items_of, values_of};
-ghost use Rattle.bd_filter.specs.Fault.{IsStarved, ReadsPart, refusal_of};
+ghost use Rattle.bd_path.specs.Path.{path_of};
+ghost use Rattle.bd_value.specs.Tree.{Doc, fields_of, items_of, values_of};
+ghost use Rattle.bd_filter.specs.Fault.{IsStarved, ReadsPart, Refusal, refusal_of};
+ghost use Rattle.bd_filter.specs.Filter as filters;
 ghost use Rattle.bd_filter.specs.Filter.{filter_tree, operator_tree};
-ghost use Rattle.bd_filter.specs.FilterBad.{BadWhereRefused, IsBadAt, NoneBadWhereTaken};
+ghost use Rattle.bd_filter.specs.FilterBad.{IsBadAt};
 ghost use Rattle.bd_filter.specs.FilterOf.{element_operator, filter_of, filters_of, has_value_form, member_filter, member_filters, not_operator};
 ghost use Rattle.bd_filter.specs.FilterOf.{operand_filters, operator_of, operators_of, pair_filter, path_operators};
 ghost use Rattle.bd_filter.specs.Word.{begins_with_dollar, is_left_out, known_operator, word_of};
@@ -44,8 +46,8 @@ pub fn parse(alloc: Global, document: &Document) -> Result<Filter, FilterFault>
 
 /// A document has no filter exactly where some pair or member of it breaks a rule.
 pub fn bad_documents_alone_are_refused()
-    ensures taken { NoneBadWhereTaken }
-    ensures refused { BadWhereRefused }
+    ensures taken { (d : Doc) (f : filters.Filter) → filter_of d ≡ Ok f → (r : Refusal) → IsBadAt d r → ⊥ }
+    ensures refused { (d : Doc) (r : Refusal) → filter_of d ≡ Err r → IsBadAt d r }
 {}
 
 /// The filters of the pairs of a document.
@@ -67,7 +69,7 @@ fn read_filters<N: Reading>(alloc: Global, room: u32, pairs: N::Rest) -> Result<
 
 #[cycle(parse)]
 fn read_pair<N: Reading>(alloc: Global, room: u32, name: &str, value: N) -> Result<Filter, Stop>
-    ensures { ReadsPart filter_tree result (pair_filter (word_of name.now) name.now (operand_filters room (N.tree value)) (path_operators room (N.tree value))) }
+    ensures { ReadsPart filter_tree result (pair_filter (word_of name.now) (path_of name.now) (operand_filters room (N.tree value)) (path_operators room (N.tree value))) }
 {
     match Word::from_name(name) {
         Word::Logical(logical) => {

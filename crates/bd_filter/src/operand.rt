@@ -1,15 +1,14 @@
 //! Operators that take values: how their operands are read.
 
-ghost use Rattle.std.specs.Prelude.{◌≡◌, ◌||◌, Some, decimal, map, option_map};
+ghost use Rattle.std.specs.Prelude.{◌≡◌, ◌||◌, ◌++◌, decimal, map, option_map};
 ghost use Rattle.bd_value.specs.View.{kind_of, tree_of};
 ghost use Rattle.bd_value.specs.Tree.{values_of, items_of};
 ghost use Rattle.bd_filter.specs.Fault.{ReadsPart, Refusal, TellsMisfit, deeper};
 ghost use Rattle.bd_filter.specs.Filter.{compares, operator_tree};
 ghost use Rattle.bd_filter.specs.FilterMatch.{relates};
-ghost use Rattle.bd_filter.specs.FilterOf.{all_kinds, both_kinds, has_operators, is_bound, is_regex, member_values, members_of, operand_kinds};
+ghost use Rattle.bd_filter.specs.FilterOf.{all_kinds, has_operators, is_bound, is_regex, member_value, member_values, members_of, operand_kinds};
 ghost use Rattle.bd_filter.specs.FilterOf.{or_bad_operand, plain_operator, size_value, truth_value, type_kinds, unless_left_out};
 ghost use Rattle.bd_filter.specs.Word.{kinds_named, kinds_numbered};
-ghost use Rattle.bd_filter.specs.declared.fault.Stop.TheVariants.{NoMemory};
 
 use crate::fault::{FilterFaultKind, Stop, stop_at, under};
 use crate::filter::{Members, Operator};
@@ -89,7 +88,7 @@ pub(crate) fn has_operators<N: Reading>(operand: N) -> bool
 
 /// A member of the array of `$in`, `$nin` and `$all`.
 fn member_value<N: Reading>(alloc: Global, member: N) -> Result<Value, Stop>
-    ensures { ReadsPart tree_of result (unless_left_out (is_regex (N.tree member) || has_operators (N.tree member)) (N.tree member)) }
+    ensures { ReadsPart tree_of result (member_value (N.tree member)) }
 {
     if member.kind() == Kind::Regex || has_operators(member) {
         return Err(stop_at(alloc, FilterFaultKind::NotInProfile));
@@ -118,8 +117,7 @@ pub(crate) fn members_of<N: Reading>(alloc: Global, operand: N) -> Result<Vec<Va
 
 /// The stop as it is seen from the array, of the member at an index.
 pub(crate) fn under_index(alloc: Global, index: usize, stop: Stop) -> Stop
-    ensures tells { (r : Refusal) → TellsMisfit stop r → TellsMisfit result (deeper (decimal index) r) }
-    ensures starved { stop ≡ NoMemory → result ≡ NoMemory }
+    ensures { (r : Refusal) → TellsMisfit stop r → TellsMisfit result (deeper (decimal index) r) }
 {
     match index.to_string(alloc) {
         Ok(name) => under(alloc, &name, stop),
@@ -172,7 +170,7 @@ fn add_members<N: Reading>(
     members: N::Rest,
     kinds: &mut Vec<Kind>,
 ) -> Result<(), Stop>
-    ensures { ReadsPart (λ _. kinds.new.items) result (or_bad_operand (both_kinds (Some kinds.old.items) (all_kinds (items_of (values_of (N.left members)))))) }
+    ensures { ReadsPart (λ _. kinds.new.items) result (or_bad_operand (option_map (λ more. kinds.old.items ++ more) (all_kinds (items_of (values_of (N.left members)))))) }
 {
     let mut left = members;
     while let Some(next) = N::next(&left) {
@@ -184,7 +182,7 @@ fn add_members<N: Reading>(
 
 /// Appends the kinds of a type.
 fn add_type<N: Reading>(alloc: Global, operand: N, kinds: &mut Vec<Kind>) -> Result<(), Stop>
-    ensures { ReadsPart (λ _. kinds.new.items) result (or_bad_operand (both_kinds (Some kinds.old.items) (type_kinds (N.tree operand)))) }
+    ensures { ReadsPart (λ _. kinds.new.items) result (or_bad_operand (option_map (λ more. kinds.old.items ++ more) (type_kinds (N.tree operand)))) }
 {
     match kinds_of_type(operand) {
         Some(more) => Ok(kinds.extend_from_slice(more)?),

@@ -1,12 +1,12 @@
 use Rattle.std.proofs.Common.{◌≡◌, map, None, Some, Vec, refl, rules, sym, ap, ◌∙◌}
 use Rattle.std.proofs.lemmas.List.{at_drop_all}
 use Rattle.std.specs.declared.alloc.Global.{Global}
-use Rattle.bd_path.specs.{Reach.Names, Path.component_names, PathNames.names_of, declared.path.Path.Path}
+use Rattle.bd_path.specs.{Path.component_names, PathNames.names_of, declared.path.Path.Path}
 use Rattle.bd_filter.specs.Filter.{at_path, filters_from, operators_from, filter_tree, operator_tree}
 use Rattle.bd_filter.specs.{declared.filter.Filter.TheVariants.Field, declared.filter.Operator.Operator}
 use Rattle.bd_filter.specs.declared.filter.Filter.TheFolds as folds
 use Rattle.bd_bounds.specs.Bounds.{all_bounds, bounds, bounds_at, conjunction, disjunction, operator_bounds, rest_after, some_bounds}
-use Rattle.bd_bounds.specs.BoundsView.{parts_bounds, rest_names, seen_bounds}
+use Rattle.bd_bounds.specs.BoundsView.{parts_bounds, seen_bounds}
 use Rattle.bd_bounds.proofs.FilterBoundsLemmas.{keys_within-Or, no_part_left, no_rest, one_narrower, one_wider, some_parts}
 use Rattle.bd_bounds.proofs.filter_bounds.+bounding.Goals as goal
 
@@ -35,7 +35,7 @@ operator_bounds-loop-operator-preserved t c =
     let path = component_names c.args.index.now.path.now in
     let m = c.args.index.now.multikey in
     one_narrower m (λ os. operator_bounds (operators_from os) (Some path) m) operator_tree c.args.operators.now c.loop-operator.operator-index
-    c.operator-item.result (bounds_at (operator_tree c.operator-item.result) path m) (parts_bounds c.loop-operator.parts.items)
+    c.operator-item.result (bounds_at (operator_tree c.operator-item.result) (Some path) m) (parts_bounds c.loop-operator.parts.items)
     (parts_bounds c.narrow.new.parts.items) (λ os. refl) c.loop-operator-test.true c.operator-item.is
     (c.in_ok-narrow.ensures ∙ ap (conjunction m (parts_bounds c.loop-operator.parts.items)) c.in_ok-next.ensures) c.loop-operator.invariant
 

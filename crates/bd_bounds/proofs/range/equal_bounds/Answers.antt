@@ -1,14 +1,17 @@
-use Rattle.std.proofs.Common.{◌≡◌, Bool, true, false, ◌&&◌, ◌||◌, List, [], ◌∷◌, map, Vec, arith, ap, ◌∙◌, sym, rules}
+use Rattle.std.proofs.Common.{◌≡◌, Bool, true, false, ◌&&◌, ◌||◌, List, [], ◌∷◌, get_or, map, Vec, arith, ap, ◌∙◌, sym, rules}
 use Rattle.std.proofs.Math.Path.{fun_ext}
 use Rattle.std.specs.declared.alloc.Global.{Global}
-use Rattle.bd_value.specs.{Order.equal, Tree.elements_in, Tree.Tree, View.tree_of, declared.document.Value.Value}
+use Rattle.bd_value.specs.{Order.equal, Tree.elements_in, Tree.Tree, Tree.leaf, Tree.undefined, View.tree_of, declared.document.Value.Value}
 use Rattle.bd_value.specs.declared.document.Value.TheVariants as values
 use Rattle.bd_value.proofs.{ViewLemmas.list_of-items_of, ViewLemmas.tree_of-Array}
 use Rattle.bd_filter.specs.FilterMatch.{is_array}
-use Rattle.bd_bounds.specs.Bounds.{KeySet, first_or_undefined, keys_equal_to, keys_of_equal, union}
+use Rattle.bd_bounds.specs.Bounds.{KeySet, keys_equal_to, keys_of_equal, union}
 use Rattle.bd_bounds.specs.BoundsView.{keys_within}
 use Rattle.bd_bounds.proofs.FilterBoundsLemmas.{keys_within-Or}
 use Rattle.bd_bounds.proofs.range.equal_bounds.Goals as goal
+
+abbrev first_or_undefined : List Tree → Tree
+first_or_undefined ts = get_or ts 0 (leaf undefined)
 
 -- an array, or its first element
 array_keys : (elements : Vec Value Global) (sets : List KeySet)

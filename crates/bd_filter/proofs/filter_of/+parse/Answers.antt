@@ -1,6 +1,7 @@
 use Rattle.std.proofs.Common.{◌≡◌, map, length, length-append, [], ◌∷◌, Ok, sym, ap, subst, ◌∙◌, ◌+◌, ◌-◌, decimal, true, false}
 use Rattle.std.proofs.lemmas.Result.{err_from_is_err_and}
 use Rattle.bd_value.specs.{Tree.values_of, Tree.fields_of, Tree.items_of}
+use Rattle.bd_path.specs.Path.{path_of}
 use Rattle.bd_filter.specs.{Fault.ReadsPart, Word.word_of}
 use Rattle.bd_filter.specs.Filter.{all_of, filters_from, has_document, has_element, negates, operators_from, filter_tree, operator_tree}
 use Rattle.bd_filter.specs.FilterOf.{element_operator, filters_of, member_filter, member_filters, not_operator, operand_filters, operator_of, operators_of, pair_filter}
@@ -43,13 +44,10 @@ read_elem_match-returns g t c =
 
 pub read_filters-returns-in-Err : goal.read_filters-returns-in-Err
 read_filters-returns-in-Err g t c =
-    let xs = map filter_tree c.loop-next.filters.items in
     let name = c.in-Some.next.0.now in
     let value = g.N.Reading.tree c.in-Some.next.1 in
-    refused xs name (pair_filter (word_of name) name (operand_filters c.args.room value) (path_operators c.args.room value))
-    (filters_of c.args.room (fields_of (g.N.Reading.left c.in-Some.next.2))) (filters_of c.args.room (fields_of (g.N.Reading.left c.args.pairs))) c.in-Err.stop c.under.result
-    (ap (λ ps. joined xs (filters_of c.args.room (fields_of ps))) (sym c.in-Some.ensures.some) ∙ c.loop-next.invariant)
-    c.under.ensures.tells c.under.ensures.starved c.in-Err.ensures
+    refused (map filter_tree c.loop-next.filters.items) name (pair_filter (word_of name) (path_of name) (operand_filters c.args.room value) (path_operators c.args.room value)) _ _ _
+    c.in-Err.stop c.under.result (ap (λ ps. filters_of c.args.room (fields_of ps)) c.in-Some.ensures.some) c.loop-next.invariant c.under.ensures c.in-Err.ensures
 
 pub read_member-returns-in_err-filters : goal.read_member-returns-in_err-filters
 read_member-returns-in_err-filters g t c =
@@ -68,14 +66,12 @@ read_member-returns g t c =
 
 pub read_members-returns-in-Err : goal.read_members-returns-in-Err
 read_members-returns-in-Err g t c =
-    let xs = map filter_tree c.loop-next.filters.items in
     let i = length c.loop-next.filters.items in
     let part = member_filter c.args.room (g.N.Reading.tree c.in-Some.next.1) in
     let rest = member_filters c.args.room (i + 1) (items_of (values_of (g.N.Reading.left c.in-Some.next.2))) in
-    refused xs (decimal c.len.result) part rest (member_filters c.args.room 0 (items_of (values_of (g.N.Reading.left c.args.members)))) c.in-Err.stop c.under_index.result
-    (ap (λ n. joined xs (read_at (decimal n) part rest)) (c.len.ensures ∙ c.loop-next.filters.ok.0)
-    ∙ ap (λ ps. joined xs (member_filters c.args.room i (items_of (values_of ps)))) (sym c.in-Some.ensures.some) ∙ c.loop-next.invariant)
-    c.under_index.ensures.tells c.under_index.ensures.starved c.in-Err.ensures
+    refused (map filter_tree c.loop-next.filters.items) (decimal c.len.result) part _ rest _ c.in-Err.stop c.under_index.result
+    (ap (λ ps. member_filters c.args.room i (items_of (values_of ps))) c.in-Some.ensures.some ∙ ap (λ n. read_at (decimal n) part rest) (sym (c.len.ensures ∙ c.loop-next.filters.ok.0)))
+    c.loop-next.invariant c.under_index.ensures c.in-Err.ensures
 
 pub read_not-returns-in_err-operators : goal.read_not-returns-in_err-operators
 read_not-returns-in_err-operators g t c =
@@ -101,13 +97,10 @@ read_operand-returns g t c =
 
 pub read_operators-returns-in-Err : goal.read_operators-returns-in-Err
 read_operators-returns-in-Err g t c =
-    let xs = map operator_tree c.loop-next.operators.items in
-    let name = c.in-Some.next.0.now in
     let value = g.N.Reading.tree c.in-Some.next.1 in
-    refused xs name (operator_of (word_of name) value (not_operator c.args.room value) (element_operator c.args.room value))
-    (operators_of c.args.room (fields_of (g.N.Reading.left c.in-Some.next.2))) (operators_of c.args.room (fields_of (g.N.Reading.left c.args.pairs))) c.in-Err.stop c.under.result
-    (ap (λ ps. joined xs (operators_of c.args.room (fields_of ps))) (sym c.in-Some.ensures.some) ∙ c.loop-next.invariant)
-    c.under.ensures.tells c.under.ensures.starved c.in-Err.ensures
+    let part = operator_of (word_of c.in-Some.next.0.now) value (not_operator c.args.room value) (element_operator c.args.room value) in
+    refused (map operator_tree c.loop-next.operators.items) c.in-Some.next.0.now part _ _ _ c.in-Err.stop c.under.result
+    (ap (λ ps. operators_of c.args.room (fields_of ps)) c.in-Some.ensures.some) c.loop-next.invariant c.under.ensures c.in-Err.ensures
 
 pub read_value-returns-then-has_operators : goal.read_value-returns-then-has_operators
 read_value-returns-then-has_operators g t c =
@@ -120,13 +113,11 @@ read_filters-loop-next-init g t c = none_read filter_tree c.new-filters.result.i
 
 pub read_filters-loop-next-preserved : goal.read_filters-loop-next-preserved
 read_filters-loop-next-preserved g t c =
-    let old = c.loop-next.filters.items in
     let name = c.in-Some.next.0.now in
     let value = g.N.Reading.tree c.in-Some.next.1 in
-    let part = pair_filter (word_of name) name (operand_filters c.args.room value) (path_operators c.args.room value) in
-    one_read filter_tree old c.push.new.self.items c.in-Ok.filter name part (filters_of c.args.room (fields_of (g.N.Reading.left c.in-Some.next.2))) _
-    c.in_ok-push-in-Ok.ensures.items c.in-Ok.ensures
-    (ap (λ ps. joined (map filter_tree old) (filters_of c.args.room (fields_of ps))) (sym c.in-Some.ensures.some) ∙ c.loop-next.invariant)
+    one_read filter_tree c.loop-next.filters.items c.push.new.self.items c.in-Ok.filter name
+    (pair_filter (word_of name) (path_of name) (operand_filters c.args.room value) (path_operators c.args.room value)) _ _ _
+    c.in_ok-push-in-Ok.ensures.items c.in-Ok.ensures (ap (λ ps. filters_of c.args.room (fields_of ps)) c.in-Some.ensures.some) c.loop-next.invariant
 
 pub read_filters-returns : goal.read_filters-returns
 read_filters-returns g t c =
@@ -138,13 +129,10 @@ read_operators-loop-next-init g t c = none_read operator_tree c.new-operators.re
 
 pub read_operators-loop-next-preserved : goal.read_operators-loop-next-preserved
 read_operators-loop-next-preserved g t c =
-    let old = c.loop-next.operators.items in
-    let name = c.in-Some.next.0.now in
     let value = g.N.Reading.tree c.in-Some.next.1 in
-    let part = operator_of (word_of name) value (not_operator c.args.room value) (element_operator c.args.room value) in
-    one_read operator_tree old c.push.new.self.items c.in-Ok.operator name part (operators_of c.args.room (fields_of (g.N.Reading.left c.in-Some.next.2))) _
-    c.in_ok-push-in-Ok.ensures.items c.in-Ok.ensures
-    (ap (λ ps. joined (map operator_tree old) (operators_of c.args.room (fields_of ps))) (sym c.in-Some.ensures.some) ∙ c.loop-next.invariant)
+    let part = operator_of (word_of c.in-Some.next.0.now) value (not_operator c.args.room value) (element_operator c.args.room value) in
+    one_read operator_tree c.loop-next.operators.items c.push.new.self.items c.in-Ok.operator c.in-Some.next.0.now part _ _ _
+    c.in_ok-push-in-Ok.ensures.items c.in-Ok.ensures (ap (λ ps. operators_of c.args.room (fields_of ps)) c.in-Some.ensures.some) c.loop-next.invariant
 
 pub read_operators-returns : goal.read_operators-returns
 read_operators-returns g t c =
@@ -166,8 +154,8 @@ read_members-loop-next-preserved g t c =
     let pushed = c.in_ok-push-in-Ok.ensures.items in
     let longer : length c.push.new.self.items ≡ i + 1 = ap (λ xs. length xs) pushed ∙ length-append old (c.in-Ok.filter ∷ []) in
     ap (λ n. joined (map filter_tree c.push.new.self.items) (member_filters c.args.room n rest)) longer
-    ∙ one_read filter_tree old c.push.new.self.items c.in-Ok.filter (decimal i) part (member_filters c.args.room (i + 1) rest) _ pushed c.in-Ok.ensures
-    (ap (λ ps. joined (map filter_tree old) (member_filters c.args.room i (items_of (values_of ps)))) (sym c.in-Some.ensures.some) ∙ c.loop-next.invariant)
+    ∙ one_read filter_tree old c.push.new.self.items c.in-Ok.filter (decimal i) part _ (member_filters c.args.room (i + 1) rest) _ pushed c.in-Ok.ensures
+    (ap (λ ps. member_filters c.args.room i (items_of (values_of ps))) c.in-Some.ensures.some) c.loop-next.invariant
 
 pub read_members-returns : goal.read_members-returns
 read_members-returns g t c =

@@ -1,4 +1,4 @@
-use Rattle.std.proofs.Common.{rules, tests, ◌∙◌, ap, refl, sym, map, List, [], ◌∷◌, ℕ, ℤ, Some, option_map, codes}
+use Rattle.std.proofs.Common.{rules, tests, ◌∙◌, ap, refl, map, List, [], ◌∷◌, ℕ, ℤ, Some, option_map, codes}
 use Rattle.std.proofs.lemmas.Iterator.{YieldsList-from_slice}
 use Rattle.std.proofs.lemmas.Iterator.Search.{find_from_yields_List}
 use Rattle.std.specs.{List.find, Str.bytes_eq}

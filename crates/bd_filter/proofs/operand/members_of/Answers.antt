@@ -1,6 +1,6 @@
-use Rattle.std.proofs.Common.{◌≡◌, map, length, length-append, [], ◌∷◌, sym, ap, ◌∙◌, decimal, ◌+◌, ◌||◌}
+use Rattle.std.proofs.Common.{◌≡◌, map, length, length-append, [], ◌∷◌, sym, ap, ◌∙◌, decimal, ◌+◌}
 use Rattle.bd_value.specs.{Tree.values_of, Tree.items_of, View.tree_of}
-use Rattle.bd_filter.specs.FilterOf.{has_operators, is_regex, member_values, members_of, read_at, unless_left_out}
+use Rattle.bd_filter.specs.FilterOf.{member_value, member_values, members_of, read_at}
 use Rattle.bd_filter.proofs.FilterOfLemmas.{all_read, joined, members_start, one_read, refused}
 use Rattle.bd_filter.proofs.operand.members_of.Goals as goal
 
@@ -10,28 +10,24 @@ loop-next-init g c =
 
 pub returns-in-Err : goal.returns-in-Err
 returns-in-Err g c =
-    let xs = map tree_of c.loop-next.members.items in
     let i = length c.loop-next.members.items in
-    let t = g.N.Reading.tree c.in-Some.next.1 in
-    let part = unless_left_out (is_regex t || has_operators t) t in
+    let part = member_value (g.N.Reading.tree c.in-Some.next.1) in
     let rest = member_values (i + 1) (items_of (values_of (g.N.Reading.left c.in-Some.next.2))) in
-    refused xs (decimal c.len.result) part rest (members_of (g.N.Reading.tree c.args.operand)) c.in-Err.stop c.under_index.result
-    (ap (λ n. joined xs (read_at (decimal n) part rest)) (c.len.ensures ∙ c.loop-next.members.ok.0)
-    ∙ ap (λ ps. joined xs (member_values i (items_of (values_of ps)))) (sym c.in-Some.ensures.some) ∙ c.loop-next.invariant)
-    c.under_index.ensures.tells c.under_index.ensures.starved c.in-Err.ensures
+    refused (map tree_of c.loop-next.members.items) (decimal c.len.result) part _ rest (members_of (g.N.Reading.tree c.args.operand)) c.in-Err.stop c.under_index.result
+    (ap (λ ps. member_values i (items_of (values_of ps))) c.in-Some.ensures.some ∙ ap (λ n. read_at (decimal n) part rest) (sym (c.len.ensures ∙ c.loop-next.members.ok.0)))
+    c.loop-next.invariant c.under_index.ensures c.in-Err.ensures
 
 pub loop-next-preserved : goal.loop-next-preserved
 loop-next-preserved g c =
     let old = c.loop-next.members.items in
     let i = length old in
-    let t = g.N.Reading.tree c.in-Some.next.1 in
-    let part = unless_left_out (is_regex t || has_operators t) t in
+    let part = member_value (g.N.Reading.tree c.in-Some.next.1) in
     let rest = items_of (values_of (g.N.Reading.left c.in-Some.next.2)) in
     let pushed = c.in_ok-push-in-Ok.ensures.items in
     let longer : length c.push.new.self.items ≡ i + 1 = ap (λ xs. length xs) pushed ∙ length-append old (c.in-Ok.value ∷ []) in
     ap (λ n. joined (map tree_of c.push.new.self.items) (member_values n rest)) longer
-    ∙ one_read tree_of old c.push.new.self.items c.in-Ok.value (decimal i) part (member_values (i + 1) rest) _ pushed c.in-Ok.ensures
-    (ap (λ ps. joined (map tree_of old) (member_values i (items_of (values_of ps)))) (sym c.in-Some.ensures.some) ∙ c.loop-next.invariant)
+    ∙ one_read tree_of old c.push.new.self.items c.in-Ok.value (decimal i) part _ (member_values (i + 1) rest) _ pushed c.in-Ok.ensures
+    (ap (λ ps. member_values i (items_of (values_of ps))) c.in-Some.ensures.some) c.loop-next.invariant
 
 pub returns : goal.returns
 returns g c =
