@@ -14,7 +14,7 @@ use Rattle.bd_check.specs.declared.fault.Fault as told
 -- ---- the documents at some starts
 
 abbrev document_sound : (bytes : List ℕ) (at : ℕ) (d : Doc) (front rest : List ℕ) → IsDocument d front → drop at bytes ≡ front ++ rest → Sound kinds.Doc (drop at bytes)
-document_sound bytes at d front rest is cut = record { tree = doc (fields_of d); value = front; after = rest; spells = is.spells; kinded = refl; cut = cut; short = is.short }
+document_sound bytes at d front rest is cut = record { tree = doc (fields_of d); begins = record { value = front; after = rest; spells = is.spells; typed = refl; cut = cut; short = is.short } }
 
 document_there : (bytes : List ℕ) (at : ℕ) (d : Doc) (front rest : List ℕ) (is : IsDocument d front) (cut : drop at bytes ≡ front ++ rest)
     (s : Sound kinds.Doc (drop at bytes)) → pairs_in (stands s) ≡ d
@@ -68,8 +68,8 @@ start_at starts n start lt is = slice_get-get_or starts n start lt ∙ ap (λ (s
 
 pub start_inside : (bytes : List ℕ) (start : ℕ) → Sound kinds.Doc (drop start bytes) → start ≤ length bytes
 start_inside bytes start s =
-    let l = ap (λ (x : List ℕ). length x) s.cut in
-    let a = length-append s.value s.after in
+    let l = ap (λ (x : List ℕ). length x) s.begins.cut in
+    let a = length-append s.begins.value s.begins.after in
     let d = length-drop start bytes in
     let r = reads_at kinds.Doc (drop start bytes) s in
     omega arith

@@ -1,9 +1,9 @@
 -- What is gone past without a fault is spelled by a tree.
 use Rattle.std.proofs.Common.{◌≡◌, ◌≢◌, ℕ, zero, suc, ◌+◌, ◌-◌, ◌^◌, ◌<◌, ◌≤◌, max, ℤ, Bool, true, false, cond, ltb, eqb, List, [], ◌∷◌, ◌++◌, length, get_or, take, drop}
 use Rattle.std.proofs.Common.{Option, Some, None, Result, Ok, Err, refl, sym, ap, ap₂, subst, ◌∙◌, append_assoc, arith, inl, inr, add-one, IsUtf8, FitsSigned, ◌||◌, ◌&&◌}
-use Rattle.std.proofs.Common.{not, ◌==◌, codes, option_map}
+use Rattle.std.proofs.Common.{not, nat_eq, ◌==◌, codes, option_map}
 use Rattle.std.specs.Int.{w32, w64, from_le_bytes, cast_signed, cast_unsigned}
-use Rattle.std.specs.{List.AllByRecursion, List.position, List.list_all, Str.is_utf8, Option.ok_or, Str.Lossy.utf8_valid_len}
+use Rattle.std.specs.{List.AllByRecursion, List.position, List.list_all, Map.lookup, Str.is_utf8, Option.ok_or, Str.Lossy.utf8_valid_len}
 use Rattle.std.proofs.lemmas.Bool.{cases_lt, ltb-false, eqb-true, or_parts, and_parts, eqb-false, le-ltb, eq-eqb, ne_eqb, or_from}
 use Rattle.std.proofs.lemmas.List.{take-append-drop, length-append, length-take, length-drop, get_or-drop, get_or-take, get_or_past, append-nil, nil_from_length}
 use Rattle.std.proofs.lemmas.List.{take-take, take_at, drop_at, drop-drop}
@@ -19,11 +19,11 @@ use Rattle.bd_check.specs.FirstFault.{past_code_scope, past_nested, past_documen
 use Rattle.bd_check.specs.{Fault.Fault, declared.fault.FaultKind.FaultKind}
 use Rattle.bd_raw.proofs.ValueAtLemmas.{framed_length, scoped_length}
 use Rattle.bd_raw.specs.declared.raw_parts.ElementType.{ElementType}
-use Rattle.bd_raw.specs.Unique.{number_length, chosen, other, number_value, number_front, zero_place, string_after, string_length, binary_whole, binary_count}
+use Rattle.bd_raw.specs.Unique.{number_length, number_value, number_front, zero_place, string_after, string_length, binary_whole, binary_count}
 use Rattle.bd_raw.specs.Unique.{binary_subtype, after_five, regex_whole, scalar_size}
 use Rattle.bd_raw.specs.Spelling.{number, long, string, data_of, scoped, IsName, IsText, IsScalar, framed, element, IsValue, AreItems, AreFields, depth, items_depth}
 use Rattle.bd_raw.specs.Spelling.{fields_depth, IsDocument}
-use Rattle.bd_raw.specs.{declared.raw_parts.Holder.Holder, Spelling.type_byte, Spelling.type_in, Spelling.type_at, Sizes.number_of, Unique.type_is, Unique.framed_after}
+use Rattle.bd_raw.specs.{declared.raw_parts.Holder.Holder, Spelling.type_byte, Spelling.type_at, Sizes.number_of, Unique.type_is, Unique.framed_after}
 use Rattle.bd_value.specs.Tree as trees
 use Rattle.bd_value.specs.declared.node.Kind.TheVariants as kinds
 use Rattle.bd_raw.specs.declared.raw_parts.ElementType.TheVariants as types
@@ -231,9 +231,9 @@ data_takes at subtype count bytes rest fits le is = of (subtype == 2) refl is
         let head = cut_at 4 bytes fits (omega (arith, least)) in
         let same : take 4 bytes ≡ take 4 (take count bytes) = sym (take-take 4 count bytes least) in
         let inner : length (drop 4 (take count bytes)) ≡ number_of bytes = grind (arith, nat_tests, h.0, length-drop 4 (take count bytes), length-take count bytes) in
-        made (drop 4 (take count bytes)) (chosen (subtype == 2) _ _ two ∙ ap (λ (x : List ℕ). x ++ drop 4 (take count bytes)) (ap number inner ∙ number_back (take 4 bytes) head.size head.fits ∙ same)
-        ∙ take-append-drop 4 (take count bytes)) (ok_is (drop count bytes) rest h.1)
-    of false two is = made (take count bytes) (other (subtype == 2) _ _ two) (ok_is (drop count bytes) rest is)
+        made (drop 4 (take count bytes)) (rw two (ap (λ (x : List ℕ). x ++ drop 4 (take count bytes)) (ap number inner ∙ number_back (take 4 bytes) head.size head.fits ∙ same)
+        ∙ take-append-drop 4 (take count bytes))) (ok_is (drop count bytes) rest h.1)
+    of false two is = made (take count bytes) (rw two refl) (ok_is (drop count bytes) rest is)
 
 -- ---- values
 
@@ -337,13 +337,13 @@ byte_told types.Double = 1
 byte_told types.Decimal128 = 19
 byte_told (types.Kept k) = type_byte k
 
-in_table : (ts : List (ℕ × ElementType)) (b : ℕ) (type : ElementType) → list_all (λ t. t.0 == byte_told t.1) ts ≡ true → type_in ts b ≡ Some type → b ≡ byte_told type
+in_table : (ts : List (ℕ × ElementType)) (b : ℕ) (type : ElementType) → list_all (λ t. t.0 == byte_told t.1) ts ≡ true → lookup (nat_eq b) ts ≡ Some type → b ≡ byte_told type
 in_table [] b type h is = absurd cc
 in_table (t ∷ ts) b type h is =
     let p = and_parts (t.0 == byte_told t.1) (list_all (λ t. t.0 == byte_told t.1) ts) h in
     found_in (eqb-true t.0 (byte_told t.1) p.0) (in_table ts b type p.1) (eqb b t.0) refl is
   where
-    found_in : t.0 ≡ byte_told t.1 → (type_in ts b ≡ Some type → b ≡ byte_told type) → (same : Bool) → eqb b t.0 ≡ same → cond same (Some t.1) (type_in ts b) ≡ Some type → b ≡ byte_told type
+    found_in : t.0 ≡ byte_told t.1 → (lookup (nat_eq b) ts ≡ Some type → b ≡ byte_told type) → (same : Bool) → eqb b t.0 ≡ same → cond same (Some t.1) (lookup (nat_eq b) ts) ≡ Some type → b ≡ byte_told type
     found_in told others true e i = eqb-true b t.0 e ∙ told ∙ ap byte_told (same_Some t.1 type i)
     found_in told others false e i = others i
 

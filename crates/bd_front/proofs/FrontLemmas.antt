@@ -1,11 +1,11 @@
 -- What the fronts of two texts tell of their order.
 use Rattle.std.proofs.Common.{◌≡◌, ◌≢◌, ◌<◌, ◌≤◌, ℕ, List, [], ◌∷◌, ◌++◌, length, min, take, drop, zero, suc, refl, sym, ap, ap₂, ◌∙◌, arith, true}
 use Rattle.std.proofs.Common.{nat_lt, ◌&&◌, ◌==◌, Ordering}
-use Rattle.std.specs.{Cmp.Lexicographic.slice_cmp, Ordering.is_eq, Ordering.nat_cmp, Ordering.ordering_then}
+use Rattle.std.specs.{Cmp.Lexicographic.slice_cmp, Ordering.is_eq, Ordering.nat_cmp, Ordering.ordering_then, Str.bytes_eq}
 use Rattle.std.specs.declared.cmp.Ordering.TheVariants.{Less, Equal, Greater}
 use Rattle.std.proofs.{lemmas.Bool.Decides.nat_tests, lemmas.Map.Text.is_eq-slice_cmp}
 use Rattle.bd_value.specs.Order.{bytes_cmp}
-use Rattle.bd_front.specs.{Front.front_of_text, Front.is_same_text_front, Front.padded, Front.texts_tell, declared.front.TextFront.TextFront}
+use Rattle.bd_front.specs.{Front.front_of_text, Front.padded, Front.texts_tell, declared.front.TextFront.TextFront}
 
 -- the order of numbers
 nat_same : (n : ℕ) → nat_cmp n n ≡ Equal
@@ -111,7 +111,7 @@ tied_numbers : (m n : ℕ) → is_eq (nat_cmp m n) ≡ (m == n)
 tied_numbers m n = grind (arith, nat_tests)
 
 tied_fronts : (a b : TextFront) (o : Ordering) → o ≡ ordering_then (slice_cmp nat_cmp a.bytes b.bytes) (nat_cmp a.length b.length)
-    → is_eq o ≡ is_same_text_front a b
+    → is_eq o ≡ (bytes_eq a.bytes b.bytes && (a.length == b.length))
 tied_fronts a b o is =
     ap is_eq is ∙ both_tied (slice_cmp nat_cmp a.bytes b.bytes) (nat_cmp a.length b.length)
     ∙ ap₂ ◌&&◌ (is_eq-slice_cmp a.bytes b.bytes) (tied_numbers a.length b.length)

@@ -39,12 +39,9 @@ front_of_own _ = fronts.Other
 abbrev pub front_of : Tree → Front
 front_of t = front_of_own (own_of t)
 
-abbrev pub is_same_text_front : TextFront → TextFront → Bool
-is_same_text_front a b = bytes_eq a.bytes b.bytes && (a.length == b.length)
-
 -- two fronts of texts tell an order, unless they are one front of longer texts
 abbrev pub texts_tell : TextFront → TextFront → Bool
-texts_tell a b = nat_lt a.length 16 || not (is_same_text_front a b)
+texts_tell a b = nat_lt a.length 16 || not (bytes_eq a.bytes b.bytes && (a.length == b.length))
 
 -- two fronts of numbers, of dates and of ids always do, and no others
 abbrev pub tells_order : Front → Front → Bool

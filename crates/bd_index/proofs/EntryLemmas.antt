@@ -15,7 +15,7 @@ use Rattle.bd_bson.specs.{Collection.bytes_of, Collection.documents, declared.co
 use Rattle.bd_path.specs.{Key.distinct, Key.indexed_keys, Key.keys, Reach.Names}
 use Rattle.bd_path.proofs.SortLemmas.{has_a_key}
 use Rattle.bd_index.specs.Entries.{KeyAt, entries_from, entries_of, entry_cmp, is_multikey, is_same_entry, keys_at}
-use Rattle.bd_index.specs.IndexView.{AreFoundIn, IsFoundIn, IsIndexOf, KeepsDump, KeepsEntries, KeepsEntry, found_entry}
+use Rattle.bd_index.specs.IndexView.{IsFoundIn, IsIndexOf, KeepsDump, KeepsEntries, KeepsEntry, found_entry}
 use Rattle.bd_index.specs.{declared.entry.Entry.Entry, declared.entry.FoundKey.FoundKey, declared.index.Index.Index}
 
 -- by key in an order, then by place
@@ -133,7 +133,7 @@ key_there bytes kept es i k d all lt is = subst (λ (x : Entry). StandsAt bytes 
 
 -- the entries of some keys, and one more
 pub one_entry : (bytes : List ℕ) (kept new : List Entry) (xs : List FoundKey) (i : ℕ) (x : FoundKey) (at : At) → i < length xs → x ≡ get_or xs i x
-    → AreFoundIn bytes xs → StandsAt x.key.bytes.now at (stands x.key.sound)
+    → All (IsFoundIn bytes) xs → StandsAt x.key.bytes.now at (stands x.key.sound)
     → new ≡ kept ++ record { key = at; place = x.place } ∷ [] → KeepsEntries bytes kept (map found_entry (take i xs)) → KeepsEntries bytes new (map found_entry (take (i + 1) xs))
 one_entry bytes kept new xs i x at lt is all there pushed so =
     let here : x.key.bytes.now ≡ bytes = subst (λ (f : FoundKey). IsFoundIn bytes f) (sym is) (all i x lt) in

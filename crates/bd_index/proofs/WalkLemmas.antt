@@ -1,7 +1,7 @@
 -- Entries in the order of a direction give the walk: from the greatest key down run by run, then the places in turn.
 use Rattle.std.proofs.Common.{◌≡◌, ◌≢◌, ◌+◌, ◌-◌, ◌<◌, ◌≤◌, ℕ, zero, suc, Bool, true, false, cond, List, [], ◌∷◌, ◌++◌, length, get_or, map, filter, take, drop, Option, Some, None}
 use Rattle.std.proofs.Common.{inl, inr, refl, sym, ap, ap₂, ◌∙◌, subst, add-zero, append-nil, eq-eqb, arith}
-use Rattle.std.specs.Prelude.{◌==◌, ◌&&◌, ◌||◌, nat_lt, not, slice_range}
+use Rattle.std.specs.Prelude.{◌==◌, ◌&&◌, ◌||◌, nat_lt, not, slice_range, unwrap_or}
 use Rattle.std.specs.{Cmp.IsStrictWeakOrder, Cmp.IsTotalOrder, List.All, List.AllByRecursion, List.AllPairs, List.count_by, List.list_any, List.Sorted.IsSortedBy}
 use Rattle.std.specs.{declared.cmp.Ordering.Ordering, declared.cmp.Ordering.TheVariants.Equal, declared.cmp.Ordering.TheVariants.Less}
 use Rattle.std.specs.Ordering.{is_eq, is_lt, nat_cmp, on, ordering_reverse, ordering_then}
@@ -16,7 +16,7 @@ use Rattle.bd_value.specs.{Order.cmp, Order.equal, Tree.Tree, Tree.Doc, Tree.doc
 use Rattle.bd_value.proofs.OrderLemmas.{cmp_total}
 use Rattle.bd_bson.specs.{Collection.bytes_of, Collection.document_at, declared.collection.Dump.Dump}
 use Rattle.bd_path.specs.{Key.keys, Reach.Names, declared.sort.Dir.Dir, declared.sort.Dir.TheVariants.Down, declared.sort.Dir.TheVariants.Up}
-use Rattle.bd_path.specs.Sort.{dir_cmp, earlier_key, earliest_key, or_null, sort_key}
+use Rattle.bd_path.specs.Sort.{dir_cmp, earlier_key, earliest_key, sort_key}
 use Rattle.bd_path.proofs.SortLemmas.{dir_total, equal_is, equal_itself, has_a_key}
 use Rattle.bd_index.specs.Entries.{AreEntries, IsRun, KeyAt, downward, entries_from, entries_of, entry_cmp, keys_at, put_down}
 use Rattle.bd_index.specs.IndexView.{IsIndexOf, IsIndexOf-prop, KeepsEntry}
@@ -233,11 +233,11 @@ has_best dir k (x ∷ xs) = go (earliest_key dir (x ∷ xs)) (has_best dir x xs)
 sort_key_best : (dir : Dir) (t : Tree) (path : Names) → IsBest dir (keys t path) (sort_key dir t path)
 sort_key_best dir t path = go (keys t path) (has_a_key t path)
   where
-    best : (ks : List Tree) (e : Option Tree) → BestOf dir ks e → IsBest dir ks (or_null e)
+    best : (ks : List Tree) (e : Option Tree) → BestOf dir ks e → IsBest dir ks (unwrap_or e (leaf null))
     best ks None among = absurd among
     best ks (Some b) among = among
 
-    go : (ks : List Tree) → ks ≢ [] → IsBest dir ks (or_null (earliest_key dir ks))
+    go : (ks : List Tree) → ks ≢ [] → IsBest dir ks (unwrap_or (earliest_key dir ks) (leaf null))
     go [] n = absurd (n refl)
     go (k ∷ ks) n = best (k ∷ ks) (earliest_key dir (k ∷ ks)) (has_best dir k ks)
 

@@ -1,5 +1,5 @@
 -- Which dump an index is of: where its entries stand in the bytes of one, as it keeps them and as they were found.
-use Rattle.std.proofs.Common.{ap₂, sym, ◌∙◌}
+use Rattle.std.proofs.Common.{sym, ◌∙◌}
 use Rattle.std.proofs.Props.{props}
 use Rattle.std.specs.Prelude.{◌≡◌, ℕ, List, [], ◌∷◌, Bool}
 use Rattle.std.specs.{Coded.Coded-set, Coded.coded_ℕ, List.All, List.AllZip}
@@ -31,9 +31,6 @@ pub record IsIndexOf (dump : Dump) (index : Index) : Type 0 where
 
 -- ---- there is one proof of it at most, so that a ghost field may hold it
 
-pair : (a b : KeyAt) → a.0 ≡ b.0 → a.1 ≡ b.1 → a ≡ b
-pair a b e f = λ i. (e i, f i)
-
 -- what is kept stands for one list at most
 pub same_entries : (bytes : List ℕ) (kept : List Entry) (es fs : List KeyAt) → KeepsEntries bytes kept es → KeepsEntries bytes kept fs → es ≡ fs
 same_entries bytes [] [] [] p q = λ i. []
@@ -41,8 +38,8 @@ same_entries bytes [] [] (f ∷ fs) p q = absurd q
 same_entries bytes [] (e ∷ es) fs p q = absurd p
 same_entries bytes (k ∷ ks) [] fs p q = absurd p
 same_entries bytes (k ∷ ks) (e ∷ es) [] p q = absurd q
-same_entries bytes (k ∷ ks) (e ∷ es) (f ∷ fs) p q =
-    ap₂ (λ (x : KeyAt) (xs : List KeyAt). x ∷ xs) (pair e f (one_stands bytes k.key e.0 f.0 p.0.0 q.0.0) (sym p.0.1 ∙ q.0.1)) (same_entries bytes ks es fs p.1 q.1)
+same_entries bytes (k ∷ ks) (e ∷ es) (f ∷ fs) p q = let key = one_stands bytes k.key e.0 f.0 p.0.0 q.0.0 in
+    let place = sym p.0.1 ∙ q.0.1 in let others = same_entries bytes ks es fs p.1 q.1 in λ i. (key i, place i) ∷ others i
 
 pub KeepsEntries-prop : (bytes : List ℕ) (kept : List Entry) (es : List KeyAt) → IsProp (KeepsEntries bytes kept es)
 KeepsEntries-prop bytes [] [] p q = λ i. tt
@@ -61,19 +58,14 @@ KeepsDump-prop sparse path dump kept p q =
     }
 
 pub IsIndexOf-prop : (dump : Dump) (index : Index) → IsProp (IsIndexOf dump index)
-IsIndexOf-prop dump index p q =
-    let many : IsProp (index.multikey ≡ is_multikey (names_of index.path) (documents dump)) = hlevel props in
-    λ i. record {
-      keeps = KeepsDump-prop index.sparse (names_of index.path) dump index.entries.items p.keeps q.keeps i;
-      many = many p.many q.many i;
-    }
+IsIndexOf-prop dump index = hlevel (KeepsDump-prop, props)
 
 -- each of the indexes is of this dump
 abbrev pub AreIndexesOf : Dump → List Index → Type 0
 AreIndexesOf dump indexes = All (IsIndexOf dump) indexes
 
 pub AreIndexesOf-prop : (dump : Dump) (indexes : List Index) → IsProp (AreIndexesOf dump indexes)
-AreIndexesOf-prop dump indexes p q = λ i k d low. IsIndexOf-prop dump _ (p k d low) (q k d low) i
+AreIndexesOf-prop dump indexes = hlevel IsIndexOf-prop
 
 abbrev pub raw_tree : RawValue → Tree
 raw_tree v = stands v.sound
@@ -84,9 +76,6 @@ raw_source v = v.bytes.now
 abbrev pub found_entry : FoundKey → KeyAt
 found_entry f = (stands f.key.sound, f.place)
 
--- they are views into these bytes
+-- it is a view into these bytes
 abbrev pub IsFoundIn : List ℕ → FoundKey → Type 0
 IsFoundIn bytes f = f.key.bytes.now ≡ bytes
-
-abbrev pub AreFoundIn : List ℕ → List FoundKey → Type 0
-AreFoundIn bytes fs = All (IsFoundIn bytes) fs

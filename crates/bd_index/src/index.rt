@@ -1,7 +1,7 @@
 //! An index, and how it is built: the keys of all documents, put in order.
 
 ghost use Rattle.std.specs.Prelude.{◌≡◌, ◌++◌, List, ℕ, Bool, true, false, not, map, length, nat_lt, count_by, IfOk, OnOk};
-ghost use Rattle.std.specs.List.{list_any};
+ghost use Rattle.std.specs.List.{All, list_any};
 ghost use Rattle.bd_value.specs.Order.{equal};
 ghost use Rattle.bd_raw.specs.Sound.{stands};
 ghost use Rattle.bd_bson.specs.Collection.{bytes_of, documents};
@@ -9,7 +9,7 @@ ghost use Rattle.bd_bson.specs.declared.collection.Dump.{Dump};
 ghost use Rattle.bd_path.specs.Key.{AreKeysOf, IsKeyOf, distinct, key_tree, key_trees};
 ghost use Rattle.bd_path.specs.PathNames.{names_of};
 ghost use Rattle.bd_index.specs.Entries.{KeyAt, entries_of, entry_cmp, is_multikey, is_same_entry, keys_at};
-ghost use Rattle.bd_index.specs.IndexView.{AreFoundIn, IsIndexOf, KeepsDump, KeepsEntries, found_entry, raw_source, raw_tree};
+ghost use Rattle.bd_index.specs.IndexView.{IsFoundIn, IsIndexOf, KeepsDump, KeepsEntries, found_entry, raw_source, raw_tree};
 
 use crate::entry::{Entry, FoundKey};
 use bd_bson::{At, Dump, RawValue};
@@ -113,7 +113,7 @@ fn find_all<'a>(
     sparse: bool,
 ) -> Result<Vec<FoundKey<'a>>, NoMemory>
     ensures found { IfOk result (λ v. (test : KeyAt → Bool) → count_by test (map found_entry v.items) ≡ count_by test (entries_of sparse (names_of path.now) (documents dump.now))) }
-    ensures kept { IfOk result (λ v. AreFoundIn (bytes_of dump.now) v.items) }
+    ensures kept { IfOk result (λ v. All (IsFoundIn (bytes_of dump.now)) v.items) }
 {
     let mut found = Vec::new(alloc);
     let mut own = Vec::new(alloc);
@@ -136,7 +136,7 @@ fn add_document<'a>(
 ) -> Result<(), NoMemory>
     requires { AreKeysOf raw_source (bytes_of dump.now) keys.items }
     ensures added { OnOk result ((test : KeyAt → Bool) → count_by test (map found_entry found.new.items) ≡ count_by test (map found_entry found.old.items ++ keys_at place (distinct (key_trees raw_tree keys.entry.items)))) }
-    ensures kept { OnOk result (AreFoundIn (bytes_of dump.now) found.old.items → AreFoundIn (bytes_of dump.now) found.new.items) }
+    ensures kept { OnOk result (All (IsFoundIn (bytes_of dump.now)) found.old.items → All (IsFoundIn (bytes_of dump.now)) found.new.items) }
 {
     own.clear();
     add_found(dump, &keys, place, own)?;
@@ -156,7 +156,7 @@ fn add_found<'a>(
 ) -> Result<(), NoMemory>
     requires { AreKeysOf raw_source (bytes_of dump.now) keys.now }
     ensures added { OnOk result (map found_entry found.new.items ≡ map found_entry found.old.items ++ keys_at place (key_trees raw_tree keys.now)) }
-    ensures kept { AreFoundIn (bytes_of dump.now) found.old.items → AreFoundIn (bytes_of dump.now) found.new.items }
+    ensures kept { All (IsFoundIn (bytes_of dump.now)) found.old.items → All (IsFoundIn (bytes_of dump.now)) found.new.items }
 {
     for key in keys {
         let key = in_dump(dump, *key);
@@ -199,7 +199,7 @@ fn repeats(last: &FoundKey<'_>, next: &FoundKey<'_>) -> bool
 
 /// Where the keys stand.
 fn kept_entries(alloc: Global, found: &[FoundKey<'_>]) -> Result<Vec<Entry>, NoMemory>
-    ensures { (bytes : List ℕ) → AreFoundIn bytes found.now → IfOk result (λ v. KeepsEntries bytes v.items (map found_entry found.now)) }
+    ensures { (bytes : List ℕ) → All (IsFoundIn bytes) found.now → IfOk result (λ v. KeepsEntries bytes v.items (map found_entry found.now)) }
 {
     let mut entries = Vec::with_capacity(alloc, found.len())?;
     for one in found {

@@ -1,6 +1,6 @@
 -- The earliest of some keys, by parts.
 use Rattle.std.proofs.Common.{◌≡◌, ◌≢◌, ◌⊎◌, inl, inr, ℕ, Bool, true, false, not, cond, filter, List, [], ◌∷◌, ◌++◌, Option, Some, None, Ordering, Equal, refl, sym, ap, ◌∙◌, append-nil, arith}
-use Rattle.std.specs.{Prelude.IfSome, Prelude.is_some, Cmp.IsTotalOrder, List.flat_map, List.list_any, Ordering.is_eq, Ordering.is_lt, Ordering.ordering_reverse}
+use Rattle.std.specs.{Prelude.IfSome, Prelude.is_some, Prelude.option_map, Cmp.IsTotalOrder, List.flat_map, List.list_any, Ordering.is_eq, Ordering.is_lt, Ordering.ordering_reverse}
 use Rattle.std.proofs.lemmas.Bool.{cond_both, not_from_false, or_cases, or_from, or_parts}
 use Rattle.std.proofs.{lemmas.Cmp.on_total, lemmas.Cmp.then_total, lemmas.Cmp.tied_back, lemmas.Cmp.tied_itself, lemmas.Grind.flat_map-append}
 use Rattle.std.proofs.{lemmas.List.Elements.filter-append, lemmas.List.Sorted.ranks_by, lemmas.Map.Views.any-filter_same, lemmas.Option.IfSome_then}
@@ -10,7 +10,7 @@ use Rattle.bd_value.specs.declared.node.Kind.TheVariants as kinds
 use Rattle.bd_value.proofs.OrderLemmas.{cmp_total}
 use Rattle.bd_path.specs.Key.{IsKeyAt, IsKeyOf, all_keys, distinct, end_keys, key_tree, keys, or_else, sparse_keys, stop_keys, with_key, with_keys}
 use Rattle.bd_path.specs.{Reach.End, Reach.Names, Reach.reach, declared.key.Key.Key, declared.sort.Dir.Dir, declared.walk.Stop.Stop, declared.walk.Stop.TheVariants.Value}
-use Rattle.bd_path.specs.Sort.{IsEarliest, IsEarliestFrom, SortPath, dir_cmp, earlier_key, earliest_key, gives_earlier, is_earlier, key_option, sort_cmp, sort_key}
+use Rattle.bd_path.specs.Sort.{IsEarliestFrom, SortPath, dir_cmp, earlier_key, earliest_key, gives_earlier, is_earlier, sort_cmp, sort_key}
 use Rattle.bd_path.specs.Walk.{Stops, TakesOrEnds, TakesStops, or_stop, stops}
 use Rattle.bd_path.specs.declared.sort.Dir.TheVariants.{Up, Down}
 use Rattle.bd_path.proofs.ReachLemmas.{In, any_still, found_from, in_left, in_right, scalar_is_no_array}
@@ -147,20 +147,20 @@ no_ends [] = refl
 no_ends (s ∷ ss) = no_ends ss
 
 module _ {N : Type 0} (tree : N → Tree) (source : N → List ℕ) (dir : Dir) where
-  pub known_earliest : (key : Option (Key N)) (bytes : List ℕ) (ss : Stops) (s : Stop Tree) → gives_earlier dir (key_option tree key) s ≡ false → IsEarliestFrom tree source dir key bytes ss
+  pub known_earliest : (key : Option (Key N)) (bytes : List ℕ) (ss : Stops) (s : Stop Tree) → gives_earlier dir (option_map (key_tree tree) key) s ≡ false → IsEarliestFrom tree source dir key bytes ss
       → IsEarliestFrom tree source dir key bytes (ss ++ s ∷ [])
   known_earliest key bytes ss s none is = record {
-    earliest = sym (flat_more dir ss s ∙ ap (λ e. earlier_key dir e (earliest_key dir (stop_keys false s))) (sym is.earliest) ∙ none_taken dir (key_option tree key) (stop_keys false s) none);
+    earliest = sym (flat_more dir ss s ∙ ap (λ e. earlier_key dir e (earliest_key dir (stop_keys false s))) (sym is.earliest) ∙ none_taken dir (option_map (key_tree tree) key) (stop_keys false s) none);
     kept = is.kept;
     there = IfSome_then key is.there (stop.at_more false ss (s ∷ []));
   }
 
-  pub takes_earliest : (bytes : List ℕ) (before : Option (Key N)) (r k : Key N) (s : Stop Tree) → IsEarliest dir tree (Some k) (stop_keys false s)
-      → IsKeyOf source bytes k → IsKeyAt false (s ∷ []) k → Some (key_tree tree r) ≡ earlier_key dir (key_option tree before) (Some (key_tree tree k)) → (Some r ≡ before) ⊎ (r ≡ k)
-      → TakesStops (IsEarliestFrom tree source dir) (λ f. gives_earlier dir (key_option tree f)) bytes before (Some r) (s ∷ [])
+  pub takes_earliest : (bytes : List ℕ) (before : Option (Key N)) (r k : Key N) (s : Stop Tree) → Some (key_tree tree k) ≡ earliest_key dir (stop_keys false s)
+      → IsKeyOf source bytes k → IsKeyAt false (s ∷ []) k → Some (key_tree tree r) ≡ earlier_key dir (option_map (key_tree tree) before) (Some (key_tree tree k)) → (Some r ≡ before) ⊎ (r ≡ k)
+      → TakesStops (IsEarliestFrom tree source dir) (λ f. gives_earlier dir (option_map (key_tree tree) f)) bytes before (Some r) (s ∷ [])
   takes_earliest bytes before r k s is kept there taken either =
       let more = stop_keys false s in
-      let old = key_option tree before in
+      let old = option_map (key_tree tree) before in
       let told : Some (key_tree tree r) ≡ earlier_key dir old (earliest_key dir more) = taken ∙ ap (earlier_key dir old) is in
       record {
         adds = λ ss are. record {
@@ -174,7 +174,7 @@ module _ {N : Type 0} (tree : N → Tree) (source : N → List ℕ) (dir : Dir) 
       }
 
   pub whole : (bytes : List ℕ) (key : Option (Key N)) (t : Tree) (p : Names) (b : Bool)
-      → TakesOrEnds (IsEarliestFrom tree source dir) (λ f. gives_earlier dir (key_option tree f)) (λ _. false) b bytes None key (stops t p) → IsEarliestFrom tree source dir key bytes (stops t p)
+      → TakesOrEnds (IsEarliestFrom tree source dir) (λ f. gives_earlier dir (option_map (key_tree tree) f)) (λ _. false) b bytes None key (stops t p) → IsEarliestFrom tree source dir key bytes (stops t p)
   whole bytes key t p true h = h.adds [] (record { earliest = refl; kept = tt; there = tt })
   whole bytes key t p false h = let none = no_ends (stops t p) in absurd cc
 

@@ -1,7 +1,7 @@
 -- A walk down a path, by its parts: positions, what was walked before, stops, what was taken in.
 use Rattle.std.proofs.Common.{◌≡◌, ◌+◌, ◌<◌, ◌≤◌, ◌⊎◌, inl, inr, ℕ, zero, suc, Bool, true, false, not, cond, Bor, List, [], ◌∷◌, ◌++◌, Option, Some, None, option_map}
 use Rattle.std.proofs.Common.{length, get_or, drop, drop-cons, take, string_bytes, refl, sym, ap, ap₂, ◌∙◌, add-one, append-nil, append_assoc, arith}
-use Rattle.std.specs.{Prelude.slice_get, List.flat_map, List.list_any}
+use Rattle.std.specs.{Prelude.IfSome, Prelude.slice_get, List.flat_map, List.list_any}
 use Rattle.std.proofs.lemmas.Bool.{or_from, or_left, or_parts, or_right, true_from_ne_false}
 use Rattle.std.proofs.{lemmas.Grind.common_steps, lemmas.Grind.flat_map-append, lemmas.List.Folds.list_any-append}
 use Rattle.std.proofs.lemmas.List.{drop_all, drop_more, length-map, take-append-drop}
@@ -11,11 +11,11 @@ use Rattle.bd_value.specs.Tree as trees
 use Rattle.bd_value.specs.Tree.{Tree, leaf, doc, array, Items, no_items, item, Fields, no_fields, field, items_of, list_of, pairs_in}
 use Rattle.bd_value.specs.declared.node.Kind.TheVariants as kinds
 use Rattle.bd_path.specs.Key.{IsKeyAt, all_keys, is_empty_array, is_no_value, key_gathering, missing_key, or_else, stop_keys}
-use Rattle.bd_path.specs.{Path.component_names, Reach.index_of, Reach.is_below, Reach.is_document, Reach.reach, declared.component.Component.Component}
+use Rattle.bd_path.specs.{Path.component_names, Reach.index_of, Reach.is_document, Reach.reach, declared.component.Component.Component}
 use Rattle.bd_path.specs.{declared.key.Key.Key, declared.key.Key.TheVariants.Node, declared.key.Key.TheVariants.Null, declared.key.Key.TheVariants.Undefined}
 use Rattle.bd_path.specs.{declared.walk.Step.TheVariants.Element, declared.walk.Step.TheVariants.Field, declared.walk.Stop.Stop, declared.walk.Visits.Visits}
 use Rattle.bd_path.specs.Reach.{End, Gathering, Names, document_gathering, each_gathering, ends, first_gathering, gathering, gathering_at, held_index, index_gathering}
-use Rattle.bd_path.specs.Walk.{GathersNone, IsWalked, KeepsKnown, LedTo, Stops, TakesOrEnds, TakesStops, document_stops, is_passed, later_stops, or_stop, stop_tree, stopping, stops}
+use Rattle.bd_path.specs.Walk.{GathersNone, IsWalked, KeepsKnown, LedTo, Stops, TakesOrEnds, TakesStops, is_passed, later_stops, or_stop, stop_tree, stopping, stops}
 use Rattle.bd_path.specs.declared.walk.Stop.TheVariants.{Value, Missing, NoBranch}
 use Rattle.bd_path.proofs.ReachLemmas as down
 use Rattle.bd_path.proofs.ReachLemmas.{any_still}
@@ -217,21 +217,21 @@ all_of xs i e = sym (append-nil (take i xs)) ∙ (rw e at (take-append-drop i xs
 
 -- ---- an array, by its documents and its element at the index
 
-none_at : (es : List Tree) (o : Option ℕ) (r : Names) → is_below o (length es) ≡ false → gathering_at stopping (items_of es) o r ≡ []
+none_at : (es : List Tree) (o : Option ℕ) (r : Names) → IfSome o (λ i. length es ≤ i) → gathering_at stopping (items_of es) o r ≡ []
 none_at es None r h = down.no_index stopping es r
-none_at es (Some i) r h = down.past_index stopping es i r (grind arith)
+none_at es (Some i) r h = down.past_index stopping es i r h
 
 module _ (t : Tree) (path : Names) (k : ℕ) (n : List ℕ) (at : slice_get path k ≡ Some n) where
-  pub array_is : (b : Bool) → kind_of t ≡ kinds.Array → b ≡ list_any is_document (elements_in t) → stops t (drop k path) ≡ document_stops t (drop k path) ++ later_stops b t (drop k path)
+  pub array_is : (b : Bool) → kind_of t ≡ kinds.Array → b ≡ list_any is_document (elements_in t) → stops t (drop k path) ≡ document_gathering stopping t (drop k path) ++ later_stops b t (drop k path)
   array_is true a e = parts_are stopping t path k n a at
-      ∙ more_stops (document_stops t (drop k path)) (index_gathering stopping t (drop k path)) (some_documents (elements_in t) (drop k path) (sym e))
+      ∙ more_stops (document_gathering stopping t (drop k path)) (index_gathering stopping t (drop k path)) (some_documents (elements_in t) (drop k path) (sym e))
   array_is false a e = parts_are stopping t path k n a at ∙ rw (no_documents (elements_in t) (drop k path) (sym e))
 
   pub element_is : (b : Bool) (i : ℕ) (u : Tree) → index_of n ≡ Some i → slice_get (elements_in t) i ≡ Some u → later_stops b t (drop k path) ≡ stops u (drop (k + 1) path)
   element_is true i u o e = rw (add-one, first_is stopping t path k n at, o) (down.at_index stopping (elements_in t) i u (drop (suc k) path) e)
   element_is false i u o e = rw (add-one, first_is stopping t path k n at, o, down.at_index stopping (elements_in t) i u (drop (suc k) path) e) (some_stop u (drop (suc k) path))
 
-  pub no_element : is_below (index_of n) (length (elements_in t)) ≡ false → index_gathering stopping t (drop k path) ≡ []
+  pub no_element : IfSome (index_of n) (λ i. length (elements_in t) ≤ i) → index_gathering stopping t (drop k path) ≡ []
   no_element h = first_is stopping t path k n at ∙ none_at (elements_in t) (index_of n) (drop (suc k) path) h
 
 -- ---- what is gathered comes of the stops

@@ -2,8 +2,7 @@
 use Rattle.std.specs.Prelude.{◌≡◌, ℕ, List, [], ◌∷◌, ◌++◌, Bool, true, false, not, map, All, if◌then◌else◌}
 use Rattle.std.specs.List.{flat_map, list_any}
 use Rattle.bd_value.specs.Order.{equal}
-use Rattle.bd_value.specs.Tree as trees
-use Rattle.bd_value.specs.Tree.{Tree, leaf, doc, array, no_items, code_scope, list_of}
+use Rattle.bd_value.specs.Tree.{Tree, leaf, null, undefined, array, no_items, list_of}
 use Rattle.bd_path.specs.{Reach.Gathering, Reach.Names, Reach.gathering, Walk.Stops, declared.key.Key.Key}
 use Rattle.bd_path.specs.{declared.walk.Stop.Stop, declared.walk.Stop.TheVariants.Value}
 use Rattle.bd_path.specs.declared.key.Key.TheVariants.{Node, Null, Undefined}
@@ -11,7 +10,7 @@ use Rattle.bd_path.specs.declared.key.Key.TheVariants.{Node, Null, Undefined}
 -- what stands for a field that is missing: a null, and in a sparse index nothing
 abbrev pub missing_key : Bool → List Tree
 missing_key true = []
-missing_key false = leaf trees.null ∷ []
+missing_key false = leaf null ∷ []
 
 abbrev pub or_else : List Tree → List Tree → List Tree
 or_else [] ys = ys
@@ -19,10 +18,8 @@ or_else (x ∷ xs) ys = x ∷ xs
 
 -- the elements of an array, an undefined for an empty one; every other value itself
 abbrev pub end_keys : Tree → List Tree
-end_keys (leaf s) = leaf s ∷ []
-end_keys (doc fs) = doc fs ∷ []
-end_keys (array ts) = or_else (list_of ts) (leaf trees.undefined ∷ [])
-end_keys (code_scope s fs) = code_scope s fs ∷ []
+end_keys (array ts) = or_else (list_of ts) (leaf undefined ∷ [])
+end_keys t = t ∷ []
 
 -- an array that gives no key has what stands for a missing field
 abbrev pub key_gathering : List Tree → Gathering Tree
@@ -57,8 +54,8 @@ sparse_keys t path = indexed_keys true t path
 
 abbrev pub key_tree : {N : Type 0} → (N → Tree) → Key N → Tree
 key_tree tree (Node n) = tree n
-key_tree tree Null = leaf trees.null
-key_tree tree Undefined = leaf trees.undefined
+key_tree tree Null = leaf null
+key_tree tree Undefined = leaf undefined
 
 abbrev pub key_trees : {N : Type 0} → (N → Tree) → List (Key N) → List Tree
 key_trees tree ks = map (key_tree tree) ks

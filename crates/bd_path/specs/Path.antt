@@ -1,6 +1,6 @@
 -- The path that a text is: its names, or why it has none.
-use Rattle.std.specs.Prelude.{◌≡◌, ◌⊎◌, ℕ, List, Bool, ◌==◌, nat_lt, length, map, string_bytes, Result, Ok, Err, IfErr, if◌then◌else◌, get_or, ◌-◌, []}
-use Rattle.std.specs.List.{list_any, slice_split}
+use Rattle.std.specs.Prelude.{ℕ, List, ◌==◌, nat_lt, length, map, string_bytes, Result, Ok, Err, if◌then◌else◌, get_or, ◌-◌, []}
+use Rattle.std.specs.{List.list_any, List.slice_split, Str.bytes_eq}
 use Rattle.bd_value.specs.Limits.{most_names}
 use Rattle.bd_path.specs.{Reach.Names, declared.component.Component.Component, declared.path.PathFault.PathFault}
 use Rattle.bd_path.specs.declared.path.PathFault.TheVariants.{EmptyComponent, TooLong, NoMemory}
@@ -12,19 +12,12 @@ components_of text = slice_split (λ c. c == 46) text
 abbrev pub component_names : List Component → Names
 component_names components = map (λ c. string_bytes c.name) components
 
-abbrev pub is_empty_name : List ℕ → Bool
-is_empty_name name = length name == 0
-
 -- more than 100 components are told before an empty one
 abbrev pub path_of : List ℕ → Result Names PathFault
 path_of text = let names = components_of text in
     if nat_lt most_names (length names) then Err TooLong
-    else if list_any is_empty_name names then Err EmptyComponent
+    else if list_any (bytes_eq []) names then Err EmptyComponent
     else Ok names
-
--- a refusal is that of the text, or that memory ran out
-abbrev pub RefusesOrStarves : {P : Type 0} → Result P PathFault → Result Names PathFault → Type 0
-RefusesOrStarves answer path = IfErr answer (λ fault. (fault ≡ NoMemory) ⊎ (path ≡ Err fault))
 
 -- the number by which a reply tells it
 abbrev pub path_fault_number : PathFault → ℕ

@@ -1,5 +1,5 @@
 -- What a path reaches (MongoDB manual, "Query on Embedded/Nested Documents" and "Query an Array").
-use Rattle.std.specs.Prelude.{ℕ, zero, suc, List, [], ◌∷◌, ◌++◌, Bool, true, false, ◌==◌, min, nat_lt, if◌then◌else◌, Option, Some, None, option_map}
+use Rattle.std.specs.Prelude.{ℕ, zero, suc, List, [], ◌∷◌, ◌++◌, Bool, true, false, ◌==◌, min, if◌then◌else◌, Option, Some, None, option_map}
 use Rattle.std.specs.{Char.is_ascii_digit, Str.all_ascii_digits, Str.bytes_eq, Str.Parse.digits_value}
 use Rattle.bd_value.specs.Tree.{elements_in, Tree, leaf, doc, array, code_scope, Items, no_items, item, items_of, Fields, no_fields, field}
 
@@ -19,11 +19,6 @@ index_of name = if is_index name then Some (digits_value 10 name) else None
 -- the same, where an index past every array counts as the greatest number of 64 bits
 abbrev pub held_index : List ℕ → Option ℕ
 held_index name = option_map (λ i. min i 18446744073709551615) (index_of name)
-
--- an index is below a length
-abbrev pub is_below : Option ℕ → ℕ → Bool
-is_below None n = false
-is_below (Some i) n = nat_lt i n
 
 abbrev pub is_document : Tree → Bool
 is_document (doc fs) = true
@@ -78,9 +73,3 @@ document_gathering g t path = each_gathering g (items_of (elements_in t)) path
 abbrev pub index_gathering : {A : Type 0} → Gathering A → Tree → Names → List A
 index_gathering g t [] = []
 index_gathering g t (name ∷ rest) = gathering_at g (items_of (elements_in t)) (index_of name) rest
-
-abbrev pub document_ends : Tree → Names → List End
-document_ends t path = document_gathering ends t path
-
-abbrev pub index_ends : Tree → Names → List End
-index_ends t path = index_gathering ends t path

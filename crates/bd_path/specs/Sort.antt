@@ -1,9 +1,8 @@
 -- The key by which a document stands in a sort, and the order of two documents in it.
-use Rattle.std.specs.Prelude.{◌≡◌, ℕ, Bool, false, true, List, [], ◌∷◌, map, Option, Some, None, IfSome, option_map, if◌then◌else◌}
+use Rattle.std.specs.Prelude.{◌≡◌, ℕ, Bool, false, true, List, [], ◌∷◌, map, Option, Some, None, IfSome, option_map, unwrap_or, if◌then◌else◌}
 use Rattle.std.specs.{List.flat_map, List.list_any, Ordering.is_lt, Ordering.ordering_reverse, Ordering.ordering_then}
 use Rattle.std.specs.{declared.cmp.Ordering.Ordering, declared.cmp.Ordering.TheVariants.Equal}
-use Rattle.bd_value.specs.{Order.cmp, Tree.Tree, Tree.leaf}
-use Rattle.bd_value.specs.Tree as trees
+use Rattle.bd_value.specs.{Order.cmp, Tree.Tree, Tree.leaf, Tree.null}
 use Rattle.bd_path.specs.{Key.IsKeyAt, Key.IsKeyOf, Key.key_tree, Key.keys, Key.stop_keys, PathNames.names_of}
 use Rattle.bd_path.specs.{Reach.Names, Walk.Stops, declared.key.Key.Key, declared.path.Path.Path, declared.sort.Dir.Dir}
 use Rattle.bd_path.specs.{declared.sort.Dir.TheVariants.Up, declared.sort.Dir.TheVariants.Down, declared.walk.Stop.Stop}
@@ -22,14 +21,9 @@ abbrev pub earliest_key : Dir → List Tree → Option Tree
 earliest_key dir [] = None
 earliest_key dir (k ∷ ks) = earlier_key dir (Some k) (earliest_key dir ks)
 
--- a document has a key on each path
-abbrev pub or_null : Option Tree → Tree
-or_null None = leaf trees.null
-or_null (Some k) = k
-
--- the least of the keys, or the greatest
+-- the least of the keys, or the greatest; a document has a key on each path
 abbrev pub sort_key : Dir → Tree → Names → Tree
-sort_key dir t path = or_null (earliest_key dir (keys t path))
+sort_key dir t path = unwrap_or (earliest_key dir (keys t path)) (leaf null)
 
 -- one path of a sort
 pub record SortPath : Type 0 where
@@ -46,12 +40,6 @@ sort_paths sort = map (λ s. record { path = names_of s.0; dir = s.1 }) sort
 
 -- ---- the earliest of the keys found so far
 
-abbrev pub key_option : {N : Type 0} → (N → Tree) → Option (Key N) → Option Tree
-key_option tree key = option_map (key_tree tree) key
-
-abbrev pub IsEarliest : {N : Type 0} → Dir → (N → Tree) → Option (Key N) → List Tree → Type 0
-IsEarliest dir tree key keys = key_option tree key ≡ earliest_key dir keys
-
 -- a key would be taken in place of the earliest so far
 abbrev pub is_earlier : Dir → Option Tree → Tree → Bool
 is_earlier dir None k = true
@@ -63,6 +51,6 @@ gives_earlier dir e s = list_any (is_earlier dir e) (stop_keys false s)
 
 -- the earliest of the keys of some stops
 pub record IsEarliestFrom {N : Type 0} (tree : N → Tree) (source : N → List ℕ) (dir : Dir) (key : Option (Key N)) (bytes : List ℕ) (ss : Stops) : Type 0 where
-  pub earliest : IsEarliest dir tree key (flat_map (stop_keys false) ss)
+  pub earliest : option_map (key_tree tree) key ≡ earliest_key dir (flat_map (stop_keys false) ss)
   pub kept : IfSome key (IsKeyOf source bytes)
   pub there : IfSome key (IsKeyAt false ss)

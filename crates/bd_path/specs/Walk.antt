@@ -2,9 +2,8 @@
 use Rattle.std.specs.Prelude.{◌≡◌, ℕ, suc, List, [], ◌∷◌, ◌++◌, drop, Bool, true, false, Some, None, slice_get, slice_index_or}
 use Rattle.std.specs.List.{list_any}
 use Rattle.bd_value.specs.Tree.{Tree}
-use Rattle.bd_path.specs.Reach.{End, Gathering, Names, document_gathering, gathering, held_index, index_gathering}
-use Rattle.bd_path.specs.declared.walk.Positions.{Positions}
-use Rattle.bd_path.specs.{declared.walk.Step.Step, declared.walk.Stop.Stop, declared.walk.Visits.Visits}
+use Rattle.bd_path.specs.Reach.{End, Gathering, Names, gathering, held_index, index_gathering}
+use Rattle.bd_path.specs.declared.walk.{Positions.Positions, Step.Step, Stop.Stop, Visits.Visits}
 use Rattle.bd_path.specs.declared.walk.Step.TheVariants.{Field, Element}
 use Rattle.bd_path.specs.declared.walk.Stop.TheVariants.{Value, Missing, NoBranch}
 use Rattle.bd_path.specs.declared.walk.Visits.TheVariants.{Nowhere, From}
@@ -68,9 +67,6 @@ stopping = record { at_end = λ t. Value t ∷ []; missing = Missing ∷ []; of_
 
 abbrev pub stops : Tree → Names → Stops
 stops t path = gathering stopping t path
-
-abbrev pub document_stops : Tree → Names → Stops
-document_stops t path = document_gathering stopping t path
 
 -- those of an array after those of its documents, by whether it has one
 abbrev pub later_stops : Bool → Tree → Names → Stops

@@ -1,9 +1,9 @@
 //! Paths, and why a text is none.
 
-ghost use Rattle.std.specs.Prelude.{◌≡◌, ◌<◌, ◌≤◌, length, map, slice_get, string_bytes, Some, Ok, IfOk};
-ghost use Rattle.std.specs.List.{list_any};
+ghost use Rattle.std.specs.Prelude.{◌≡◌, ◌<◌, ◌≤◌, ◌⊎◌, [], length, map, slice_get, string_bytes, Some, Ok, Err, IfOk, IfErr};
+ghost use Rattle.std.specs.{List.list_any, Str.bytes_eq};
 ghost use Rattle.bd_value.specs.Limits.{most_names};
-ghost use Rattle.bd_path.specs.Path.{RefusesOrStarves, component_names, components_of, is_empty_name, path_fault_number, path_fault_words, path_of};
+ghost use Rattle.bd_path.specs.Path.{component_names, components_of, path_fault_number, path_fault_words, path_of};
 ghost use Rattle.bd_path.specs.declared.path.PathFault.TheVariants as faults;
 
 use crate::component::Component;
@@ -29,7 +29,7 @@ impl Path {
     pub fn parse(alloc: Global, text: &str) -> Result<Path, PathFault>
         ensures path { IfOk result (λ p. path_of text.now ≡ Ok (names_of p)) }
         ensures text { IfOk result (λ p. string_bytes p.text ≡ text.now) }
-        ensures fault { RefusesOrStarves result (path_of text.now) }
+        ensures fault { IfErr result (λ fault. (fault ≡ faults.NoMemory) ⊎ (path_of text.now ≡ Err fault)) }
     {
         let names = cut(alloc, text)?;
         if names.len() > MOST_NAMES {
@@ -92,7 +92,7 @@ fn cut(alloc: Global, text: &str) -> Result<Vec<&str>, NoMemory>
 
 /// Whether one of the names is empty.
 fn has_empty(names: &[&str]) -> bool
-    ensures { result ≡ list_any is_empty_name (map (λ name. name.now) names.now) }
+    ensures { result ≡ list_any (bytes_eq []) (map (λ name. name.now) names.now) }
 {
     for name in names {
         if name.is_empty() {

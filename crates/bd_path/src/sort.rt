@@ -1,11 +1,11 @@
 //! The key of a document in a sort, found with no list of keys, and the order of two documents by several paths.
 
-ghost use Rattle.std.specs.Prelude.{◌≡◌, ◌⊎◌, ◌∷◌, [], List, ℕ, false, Some, IfOk};
+ghost use Rattle.std.specs.Prelude.{◌≡◌, ◌⊎◌, ◌∷◌, [], List, ℕ, false, Some, option_map, IfOk};
 ghost use Rattle.std.specs.Cmp.{IsTotalOrder};
 ghost use Rattle.bd_value.specs.View.{tree_of};
 ghost use Rattle.bd_path.specs.Key.{IsKeyAt, IsKeyOf, end_keys, key_tree};
 ghost use Rattle.bd_path.specs.PathNames.{names_of};
-ghost use Rattle.bd_path.specs.Sort.{IsEarliest, IsEarliestFrom, SortPath, dir_cmp, earlier_key, gives_earlier, key_option, sort_cmp, sort_key, sort_paths};
+ghost use Rattle.bd_path.specs.Sort.{IsEarliestFrom, SortPath, dir_cmp, earlier_key, earliest_key, gives_earlier, sort_cmp, sort_key, sort_paths};
 ghost use Rattle.bd_path.specs.Walk.{IsStopOf, TakesOrEnds, stop_tree, stops};
 
 use crate::key::{Key, compare_keys, key_value};
@@ -86,12 +86,12 @@ impl<N: Reading> Gatherer<N> for EarliestGatherer {
 
     ghost amounts = { λ s key bytes ss. IsEarliestFrom N.tree N.source s.dir key bytes ss };
 
-    ghost is_new = { λ s key stop. gives_earlier s.dir (key_option N.tree key) stop };
+    ghost is_new = { λ s key stop. gives_earlier s.dir (option_map (key_tree N.tree) key) stop };
 
     ghost ends = { λ _ _. false };
 
     fn take(&self, earliest: &mut Option<Key<N>>, stop: Stop<N>) -> bool
-        ensures { (bytes : List ℕ) → IsStopOf N.source bytes stop → TakesOrEnds (IsEarliestFrom N.tree N.source self.now.dir) (λ key. gives_earlier self.now.dir (key_option N.tree key)) (λ _. false) result bytes earliest.old earliest.new (stop_tree N.tree stop ∷ []) }
+        ensures { (bytes : List ℕ) → IsStopOf N.source bytes stop → TakesOrEnds (IsEarliestFrom N.tree N.source self.now.dir) (λ key. gives_earlier self.now.dir (option_map (key_tree N.tree) key)) (λ _. false) result bytes earliest.old earliest.new (stop_tree N.tree stop ∷ []) }
     {
         let Stop::Value(node) = stop else {
             *earliest = Some(earlier(self.dir, *earliest, Key::Null));
@@ -105,7 +105,7 @@ impl<N: Reading> Gatherer<N> for EarliestGatherer {
 
 /// A value, or the earliest of the elements of an array.
 fn earliest_end<N: Reading>(node: N, dir: Dir) -> Key<N>
-    ensures tree { IsEarliest dir N.tree (Some result) (end_keys (N.tree node)) }
+    ensures tree { Some (key_tree N.tree result) ≡ earliest_key dir (end_keys (N.tree node)) }
     ensures kept { IsKeyOf N.source (N.source node) result }
     ensures there { IsKeyAt false (Stop.Value (N.tree node) ∷ []) result }
 {
@@ -126,7 +126,7 @@ fn earliest_end<N: Reading>(node: N, dir: Dir) -> Key<N>
 
 /// The earlier of two keys; the first of two that are equal, the second where there is no first.
 fn earlier<N: Reading>(dir: Dir, first: Option<Key<N>>, second: Key<N>) -> Key<N>
-    ensures tree { Some (key_tree N.tree result) ≡ earlier_key dir (key_option N.tree first) (Some (key_tree N.tree second)) }
+    ensures tree { Some (key_tree N.tree result) ≡ earlier_key dir (option_map (key_tree N.tree) first) (Some (key_tree N.tree second)) }
     ensures either { (Some result ≡ first) ⊎ (result ≡ second) }
 {
     match first {

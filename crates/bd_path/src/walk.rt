@@ -10,8 +10,8 @@ ghost use Rattle.bd_value.specs.Tree as trees;
 ghost use Rattle.bd_value.specs.declared.node.Kind.TheVariants as kinds;
 ghost use Rattle.bd_path.specs.Path.{component_names};
 ghost use Rattle.bd_path.specs.PathNames.{names_of};
-ghost use Rattle.bd_path.specs.Reach.{index_of, is_below, is_document, reach};
-ghost use Rattle.bd_path.specs.Walk.{GathersNone, IsOpen, IsStopOf, IsWalked, KeepsKnown, Leads, LedTo, Stops, Takes, TakesOrEnds, document_stops};
+ghost use Rattle.bd_path.specs.Reach.{document_gathering, index_of, is_document, reach};
+ghost use Rattle.bd_path.specs.Walk.{GathersNone, IsOpen, IsStopOf, IsWalked, KeepsKnown, Leads, LedTo, Stops, Takes, TakesOrEnds};
 ghost use Rattle.bd_path.specs.Walk.{is_open, is_passed, is_walked, later_stops, stop_tree, stopping, stops};
 ghost use Rattle.bd_path.specs.declared.walk.Step.TheVariants as steps;
 ghost use Rattle.bd_path.specs.declared.walk.Stop as stop_type;
@@ -160,7 +160,7 @@ fn walk_documents<N: Reading, G: Gatherer<N>>(
     requires known { KeepsKnown (G.amounts gatherer.now) (G.is_new gatherer.now) }
     requires vain { GathersNone (G.is_new gatherer.now found.old) stopping (N.tree node) (component_names path.now) walked.now }
     ensures taken { TakesOrEnds (G.amounts gatherer.now) (G.is_new gatherer.now) (G.ends gatherer.now) (is_some result) (N.source node) found.old found.new
-        (document_stops (N.tree node) (drop k (component_names path.now))) }
+        (document_gathering stopping (N.tree node) (drop k (component_names path.now))) }
     ensures has { IfSome result (λ has_document. has_document ≡ list_any is_document (elements_in (N.tree node))) }
 {
     let mut has_document = false;
@@ -199,7 +199,7 @@ fn walk_index<N: Reading, G: Gatherer<N>>(
     requires kind { kind_of (N.tree node) ≡ kinds.Array }
     requires known { KeepsKnown (G.amounts gatherer.now) (G.is_new gatherer.now) }
     requires vain { GathersNone (G.is_new gatherer.now found.old) stopping (N.tree node) (component_names path.now) walked.now }
-    requires documents { list_any (G.is_new gatherer.now found.old) (document_stops (N.tree node) (drop k (component_names path.now))) ≡ false }
+    requires documents { list_any (G.is_new gatherer.now found.old) (document_gathering stopping (N.tree node) (drop k (component_names path.now))) ≡ false }
     ensures { TakesOrEnds (G.amounts gatherer.now) (G.is_new gatherer.now) (G.ends gatherer.now) result (N.source node) found.old found.new
         (later_stops has_document (N.tree node) (drop k (component_names path.now))) }
 {
@@ -218,7 +218,7 @@ fn indexed_element<N: Reading>(node: N, component: &Component) -> Option<(usize,
     ensures index { IfSome result (λ x. (x.0 < usize.MAX) × (index_of (string_bytes component.now.name) ≡ Some x.0)) }
     ensures element { IfSome result (λ x. slice_get (elements_in (N.tree node)) x.0 ≡ Some (N.tree x.1)) }
     ensures kept { IfSome result (λ x. N.source x.1 ≡ N.source node) }
-    ensures none { IfNone result (is_below (index_of (string_bytes component.now.name)) (length (elements_in (N.tree node))) ≡ false) }
+    ensures none { IfNone result (IfSome (index_of (string_bytes component.now.name)) (λ i. length (elements_in (N.tree node)) ≤ i)) }
 {
     match component.index {
         Some(i) if i < node.len() => Some((i, node.element(i))),

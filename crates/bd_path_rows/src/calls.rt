@@ -12,9 +12,9 @@
 //! | `order` | `groups` | true where the values of each group are equal, and less than those of each later one |
 //! | `classes` | `groups` | the same of their classes |
 //! | `sort` | `groups`, `by` | the same of documents, by the paths of `by`, each 1 for upward or -1 |
-ghost use Rattle.std.specs.Prelude.{is_none};
+ghost use Rattle.std.specs.Prelude.{is_none, unwrap_or};
 ghost use Rattle.bd_value.specs.Order.{equal};
-ghost use Rattle.bd_path.specs.Sort.{or_null};
+ghost use Rattle.bd_value.specs.Tree.{leaf, null};
 
 use crate::fault::RowFault;
 use crate::order::{By, ascending, sort_of};
@@ -46,7 +46,7 @@ pub(crate) fn items<N: Reading>(alloc: Global, array: N) -> Result<Vec<N>, RowFa
 struct Equals<N>(N);
 
 impl<M: Reading> EndTest for Equals<M> {
-    ghost passes = { λ s end. equal (or_null end) (M.tree s.0) };
+    ghost passes = { λ s end. equal (unwrap_or end (leaf null)) (M.tree s.0) };
 
     fn test<N: Reading>(&self, end: Option<N>) -> bool {
         match end {

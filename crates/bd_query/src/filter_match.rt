@@ -8,7 +8,7 @@ ghost use Rattle.bd_value.specs.Tree.{elements_in};
 ghost use Rattle.bd_value.specs.declared.node.Kind.TheVariants as kinds;
 ghost use Rattle.bd_path.specs.Path.{component_names};
 ghost use Rattle.bd_path.specs.PathNames.{names_of};
-ghost use Rattle.bd_path.specs.Reach.{document_ends, ends, index_ends, reach};
+ghost use Rattle.bd_path.specs.Reach.{document_gathering, ends, index_gathering, reach};
 ghost use Rattle.bd_path.specs.Walk.{GathersNone};
 ghost use Rattle.bd_query.specs.FilterMatch.{is_suited, suits};
 ghost use Rattle.bd_filter.specs.Filter.{filters_from, operators_from, filter_tree, operator_tree};
@@ -161,7 +161,7 @@ fn any_end_suits_in_documents<N: Reading>(node: N, k: usize, walked: &Visits, wa
     requires at { k < length walk.now.path.now }
     requires kind { kind_of (N.tree node) ≡ kinds.Array }
     requires vain { GathersNone (is_suited walk.now.body.now) ends (N.tree node) (component_names walk.now.path.now) walked.now }
-    ensures { result ≡ list_any (is_suited walk.now.body.now) (document_ends (N.tree node) (drop k (component_names walk.now.path.now))) }
+    ensures { result ≡ list_any (is_suited walk.now.body.now) (document_gathering ends (N.tree node) (drop k (component_names walk.now.path.now))) }
 {
     let mut left = node.parts();
     for i in 0..usize::MAX {
@@ -188,8 +188,8 @@ fn any_end_suits_at_index<N: Reading>(node: N, k: usize, walked: &Visits, walk: 
     requires at { k < length walk.now.path.now }
     requires kind { kind_of (N.tree node) ≡ kinds.Array }
     requires vain { GathersNone (is_suited walk.now.body.now) ends (N.tree node) (component_names walk.now.path.now) walked.now }
-    requires documents { list_any (is_suited walk.now.body.now) (document_ends (N.tree node) (drop k (component_names walk.now.path.now))) ≡ false }
-    ensures { result ≡ list_any (is_suited walk.now.body.now) (index_ends (N.tree node) (drop k (component_names walk.now.path.now))) }
+    requires documents { list_any (is_suited walk.now.body.now) (document_gathering ends (N.tree node) (drop k (component_names walk.now.path.now))) ≡ false }
+    ensures { result ≡ list_any (is_suited walk.now.body.now) (index_gathering ends (N.tree node) (drop k (component_names walk.now.path.now))) }
 {
     let path = walk.path;
     match path[k].index {

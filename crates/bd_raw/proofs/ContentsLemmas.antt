@@ -79,7 +79,7 @@ no_holder_left _ d a c = refl
 pub leaf_is : (kind : Kind) (bytes : List ℕ) (s : Sound kind bytes) → holds kind ≡ false → stands s ≡ leaf (scalar_at kind bytes)
 leaf_is kind bytes s none =
     let k = kind_is kind bytes s in
-    stands_is s s ∙ is_leaf s.tree s.value s.after s.spells (ap holds k ∙ none) ∙ ap leaf (ap₂ scalar_at k (sym s.cut))
+    stands_is s s ∙ is_leaf s.tree s.begins.value s.begins.after s.begins.spells (ap holds k ∙ none) ∙ ap leaf (ap₂ scalar_at k (sym s.begins.cut))
 
 -- ---- the elements of a document and of an array
 
@@ -88,61 +88,61 @@ module _ (bytes : List ℕ) (start : ℕ) (kind : Kind) (s : Sound kind (drop st
   abbrev pub Held : (Doc → Tree) → Type 0
   Held made = Left (drop (start + 4) bytes) × ((g : Left (drop (start + 4) bytes)) → stands s ≡ made (elements_left g))
 
-  framed_held : (made : Doc → Tree) → IsFramed s.tree s.value made → Held made
+  framed_held : (made : Doc → Tree) → IsFramed s.tree s.begins.value made → Held made
   framed_held made f =
-      let whole : drop start bytes ≡ number (length f.body + 5) ++ (f.body ++ 0 ∷ s.after) = s.cut ∙ ap (λ (x : List ℕ). x ++ s.after) f.frame ∙ framed_after f.body s.after in
-      let cut = sym (drop-drop 4 start bytes) ∙ ap (drop 4) whole ∙ number_after (length f.body + 5) (f.body ++ 0 ∷ s.after) in
-      let short : length f.body ≤ longest_document = omega (arith, s.short, ap length f.frame, framed_length f.body) in
-      let left : Left (drop (start + 4) bytes) = record { fields = f.fields; body = f.body; after = s.after; spell = f.spell; cut = cut; short = short } in
+      let whole : drop start bytes ≡ number (length f.body + 5) ++ (f.body ++ 0 ∷ s.begins.after) = s.begins.cut ∙ ap (λ (x : List ℕ). x ++ s.begins.after) f.frame ∙ framed_after f.body s.begins.after in
+      let cut = sym (drop-drop 4 start bytes) ∙ ap (drop 4) whole ∙ number_after (length f.body + 5) (f.body ++ 0 ∷ s.begins.after) in
+      let short : length f.body ≤ longest_document = omega (arith, s.begins.short, ap length f.frame, framed_length f.body) in
+      let left : Left (drop (start + 4) bytes) = record { fields = f.fields; body = f.body; after = s.begins.after; spell = f.spell; cut = cut; short = short } in
       (left, λ g. stands_is s s ∙ f.is ∙ ap made (sym (left_is g left)))
 
   pub document_held : kind ≡ kinds.Doc → Held as_document
-  document_held k = framed_held as_document (is_document s.tree s.value s.spells (kind_is kind _ s ∙ k))
+  document_held k = framed_held as_document (is_document s.tree s.begins.value s.begins.spells (kind_is kind _ s ∙ k))
 
   pub array_held : kind ≡ kinds.Array → Held as_array
-  array_held k = framed_held as_array (is_array s.tree s.value s.spells (kind_is kind _ s ∙ k))
+  array_held k = framed_held as_array (is_array s.tree s.begins.value s.begins.spells (kind_is kind _ s ∙ k))
 
 -- ---- code with scope
 
-module _ (bytes : List ℕ) (start : ℕ) (kind : Kind) (s : Sound kind (drop start bytes)) (c : IsCode s.tree s.value) where
-  code_after : drop (start + 4) bytes ≡ string c.code ++ (framed c.body ++ s.after)
+module _ (bytes : List ℕ) (start : ℕ) (kind : Kind) (s : Sound kind (drop start bytes)) (c : IsCode s.tree s.begins.value) where
+  code_after : drop (start + 4) bytes ≡ string c.code ++ (framed c.body ++ s.begins.after)
   code_after =
-      let whole : drop start bytes ≡ number (length (string c.code ++ framed c.body) + 4) ++ ((string c.code ++ framed c.body) ++ s.after) =
-      s.cut ∙ ap (λ (x : List ℕ). x ++ s.after) c.whole ∙ append_assoc (number (length (string c.code ++ framed c.body) + 4)) (string c.code ++ framed c.body) s.after in
+      let whole : drop start bytes ≡ number (length (string c.code ++ framed c.body) + 4) ++ ((string c.code ++ framed c.body) ++ s.begins.after) =
+      s.begins.cut ∙ ap (λ (x : List ℕ). x ++ s.begins.after) c.whole ∙ append_assoc (number (length (string c.code ++ framed c.body) + 4)) (string c.code ++ framed c.body) s.begins.after in
       sym (drop-drop 4 start bytes) ∙ ap (drop 4) whole ∙ number_after (length (string c.code ++ framed c.body) + 4)
-      ((string c.code ++ framed c.body) ++ s.after) ∙ append_assoc (string c.code) (framed c.body) s.after
+      ((string c.code ++ framed c.body) ++ s.begins.after) ∙ append_assoc (string c.code) (framed c.body) s.begins.after
 
   code_size : number_of (drop (start + 4) bytes) ≡ length c.code + 1
-  code_size = ap number_of code_after ∙ string_number c.code (framed c.body ++ s.after) c.text_fits.1
+  code_size = ap number_of code_after ∙ string_number c.code (framed c.body ++ s.begins.after) c.text_fits.1
 
   code_text : text_of (drop (start + 4) bytes) ≡ c.code
-  code_text = ap text_of code_after ∙ string_text c.code (framed c.body ++ s.after) c.text_fits.1
+  code_text = ap text_of code_after ∙ string_text c.code (framed c.body ++ s.begins.after) c.text_fits.1
 
-  scope_cut : (n : ℕ) → n ≡ number_of (drop (start + 4) bytes) → drop (start + 8 + n) bytes ≡ framed c.body ++ s.after
+  scope_cut : (n : ℕ) → n ≡ number_of (drop (start + 4) bytes) → drop (start + 8 + n) bytes ≡ framed c.body ++ s.begins.after
   scope_cut n is =
       let e : start + 8 + n ≡ (start + 4) + (4 + n) = omega arith in
       let len : length (string c.code) ≡ 4 + n = omega (arith, string_length c.code, is, code_size) in
-      ap (λ (m : ℕ). drop m bytes) e ∙ sym (drop-drop (4 + n) (start + 4) bytes) ∙ ap (drop (4 + n)) code_after ∙ drop_at (string c.code) (framed c.body ++ s.after) (4 + n) len
+      ap (λ (m : ℕ). drop m bytes) e ∙ sym (drop-drop (4 + n) (start + 4) bytes) ∙ ap (drop (4 + n)) code_after ∙ drop_at (string c.code) (framed c.body ++ s.begins.after) (4 + n) len
 
   abbrev scope_here : (n : ℕ) → n ≡ number_of (drop (start + 4) bytes) → Sound kinds.Doc (drop (start + 8 + n) bytes)
   scope_here n is =
-      let short : length (framed c.body) ≤ longest_document = omega (arith, s.short, ap length c.whole, scoped_length c.code (framed c.body), length-append (string c.code) (framed c.body)) in
-      record { tree = doc c.fields; value = framed c.body; after = s.after; spells = (c.body, c.spell, refl); kinded = refl; cut = scope_cut n is; short = short }
+      let short : length (framed c.body) ≤ longest_document = omega (arith, s.begins.short, ap length c.whole, scoped_length c.code (framed c.body), length-append (string c.code) (framed c.body)) in
+      record { tree = doc c.fields; begins = record { value = framed c.body; after = s.begins.after; spells = (c.body, c.spell, refl); typed = refl; cut = scope_cut n is; short = short } }
 
 module _ (bytes : List ℕ) (start : ℕ) (kind : Kind) (s : Sound kind (drop start bytes)) (k : kind ≡ kinds.CodeScope) where
-  code_of : IsCode s.tree s.value
-  code_of = is_code s.tree s.value s.spells (kind_is kind _ s ∙ k)
+  code_of : IsCode s.tree s.begins.value
+  code_of = is_code s.tree s.begins.value s.begins.spells (kind_is kind _ s ∙ k)
 
   pub code_long : 4 ≤ length (drop start bytes)
   code_long = rw k at (reads_at kind (drop start bytes) s)
 
   pub code_reads : TextAt (drop (start + 4) bytes)
-  code_reads = subst TextAt (sym (code_after bytes start kind s code_of)) (text_reads code_of.code (framed code_of.body ++ s.after) code_of.text_fits)
+  code_reads = subst TextAt (sym (code_after bytes start kind s code_of)) (text_reads code_of.code (framed code_of.body ++ s.begins.after) code_of.text_fits)
 
   pub scope_inside : (n : ℕ) → n ≡ number_of (drop (start + 4) bytes) → start + 8 + n ≤ length bytes
   scope_inside n is =
       let e = ap (λ (x : List ℕ). length x) (scope_cut bytes start kind s code_of n is) in
-      omega (arith, e, length-append (framed code_of.body) s.after, framed_length code_of.body, length-drop (start + 8 + n) bytes)
+      omega (arith, e, length-append (framed code_of.body) s.begins.after, framed_length code_of.body, length-drop (start + 8 + n) bytes)
 
   pub scope_sound : (n : ℕ) → n ≡ number_of (drop (start + 4) bytes) → Sound kinds.Doc (drop (start + 8 + n) bytes)
   scope_sound n is = scope_here bytes start kind s code_of n is

@@ -7,14 +7,14 @@ use Rattle.bd_value.specs.declared.node.Kind.{Kind}
 use Rattle.bd_value.specs.declared.node.Kind.TheVariants as kinds
 use Rattle.bd_raw.specs.Spelling.{IsDocument, type_byte, type_at}
 use Rattle.bd_raw.specs.Unique.{type_is, no_holder, values}
-use Rattle.bd_raw.specs.Sound.{Sound, Left, stands, stands_is, elements_left, StandsAt, IsPlace}
+use Rattle.bd_raw.specs.Sound.{Begins, Sound, Left, stands, stands_is, elements_left, StandsAt, IsPlace}
 use Rattle.bd_raw.specs.declared.views.At.{At}
 use Rattle.bd_raw.specs.declared.raw_parts.ElementType.TheVariants.{Kept}
 use Rattle.bd_raw.proofs.ValueAtLemmas.{kind_is}
 use Rattle.bd_raw.proofs.ContentsLemmas.{document_held}
 
 abbrev pub whole_sound : (bytes : List ℕ) (d : Doc) → IsDocument d bytes → Sound kinds.Doc bytes
-whole_sound bytes d h = record { tree = doc (fields_of d); value = bytes; after = []; spells = h.spells; kinded = refl; cut = sym (append-nil bytes); short = h.short }
+whole_sound bytes d h = record { tree = doc (fields_of d); begins = record { value = bytes; after = []; spells = h.spells; typed = refl; cut = sym (append-nil bytes); short = h.short } }
 
 pub whole_is : (bytes : List ℕ) (d : Doc) (h : IsDocument d bytes) (s : Sound kinds.Doc bytes) → IsDocument (pairs_in (stands s)) bytes
 whole_is bytes d h s =
@@ -49,13 +49,13 @@ same_tree s t = stands_is s t ∙ sym (stands_is t t)
 pub placed : (bytes : List ℕ) (start byte : ℕ) (kind : Kind) (s : Sound kind (drop start bytes)) → start ≤ length bytes → byte ≡ type_byte kind
     → StandsAt bytes (record { kind = byte; start = start }) (stands s)
 unfolding stands
-placed bytes start byte kind s inside is = record { typed = s.kinded ∙ sym is; inside = inside; value = s.value; after = s.after; spells = s.spells; cut = s.cut; short = s.short }
+placed bytes start byte kind s inside is = (inside, subst (λ (n : ℕ). Begins n (drop start bytes) s.tree) (sym is) s.begins)
 
 -- a view of what stands there
 pub sound_there : (bytes : List ℕ) (at : At) (kind : Kind) → IsPlace bytes at → type_at at.kind ≡ Some (Kept kind) → Sound kind (drop at.start bytes)
 sound_there bytes at kind p is =
-    let k : kind_of p.0 ≡ kind = cc (sym (type_is (kind_of p.0)) ∙ ap type_at p.1.typed ∙ is) in
-    record { tree = p.0; value = p.1.value; after = p.1.after; spells = p.1.spells; kinded = ap type_byte k; cut = p.1.cut; short = p.1.short }
+    let k : kind_of p.0 ≡ kind = cc (sym (type_is (kind_of p.0)) ∙ ap type_at p.1.1.typed ∙ is) in
+    record { tree = p.0; begins = subst (λ (n : ℕ). Begins n (drop at.start bytes) p.0) (sym p.1.1.typed ∙ ap type_byte k) p.1.1 }
 
 pub tree_there : (bytes : List ℕ) (at : At) (kind : Kind) (s : Sound kind (drop at.start bytes)) (t : Tree) → StandsAt bytes at t → type_at at.kind ≡ Some (Kept kind) → stands s ≡ t
 unfolding sound_there
@@ -63,7 +63,7 @@ tree_there bytes at kind s t h is = stands_is s (sound_there bytes at kind (t, h
 
 -- what takes no byte stands at the start of any bytes
 pub null_there : (bytes : List ℕ) → StandsAt bytes (record { kind = 10; start = 0 }) (leaf null)
-null_there bytes = record { typed = refl; inside = omega arith; value = []; after = bytes; spells = refl; cut = refl; short = omega arith }
+null_there bytes = (omega arith, record { value = []; after = bytes; spells = refl; typed = refl; cut = refl; short = omega arith })
 
 pub undefined_there : (bytes : List ℕ) → StandsAt bytes (record { kind = 6; start = 0 }) (leaf undefined)
-undefined_there bytes = record { typed = refl; inside = omega arith; value = []; after = bytes; spells = refl; cut = refl; short = omega arith }
+undefined_there bytes = (omega arith, record { value = []; after = bytes; spells = refl; typed = refl; cut = refl; short = omega arith })

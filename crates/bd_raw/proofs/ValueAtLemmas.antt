@@ -8,7 +8,7 @@ use Rattle.bd_value.specs.Tree as trees
 use Rattle.bd_value.specs.Tree.{Scalar, Tree, leaf, doc, array, code_scope, Own, own, own_code, own_of}
 use Rattle.bd_value.specs.View.{scalar_kind, kind_of}
 use Rattle.bd_value.specs.declared.node.Kind.{Kind}
-use Rattle.bd_raw.specs.Spelling.{number, string, data_of, scoped, framed, IsName, IsText, IsScalar, IsValue, ScalarIsShort, OwnIsShort}
+use Rattle.bd_raw.specs.Spelling.{number, string, data_of, scoped, framed, IsName, IsText, IsScalar, IsValue, OwnIsShort}
 use Rattle.bd_raw.specs.Sizes.{number_of, after_name, size_of, TextAt, NameAt, BinaryAt, HasBytesOf}
 use Rattle.bd_raw.specs.Unique.{number_length, number_front, zero_place, name_front, name_after, string_length, string_number, string_text, binary_count}
 use Rattle.bd_raw.specs.Unique.{binary_subtype, regex_whole, scalar_size, same_kind, framed_after}
@@ -90,13 +90,13 @@ value_reads (doc fs) v r h = omega (arith, length-append v r, ap (λ (x : List �
 value_reads (array ts) v r h = omega (arith, length-append v r, ap (λ (x : List ℕ). length x) h.2, framed_length h.0)
 
 pub kind_is : (kind : Kind) (bytes : List ℕ) (s : Sound kind bytes) → kind_of s.tree ≡ kind
-kind_is kind bytes s = same_kind (kind_of s.tree) kind s.kinded
+kind_is kind bytes s = same_kind (kind_of s.tree) kind s.begins.typed
 
 pub reads_at : (kind : Kind) (bytes : List ℕ) (s : Sound kind bytes) → HasBytesOf kind bytes
-reads_at kind bytes s = subst (HasBytesOf kind) (sym s.cut) (subst (λ (k : Kind). HasBytesOf k (s.value ++ s.after)) (kind_is kind bytes s) (value_reads s.tree s.value s.after s.spells))
+reads_at kind bytes s = subst (HasBytesOf kind) (sym s.begins.cut) (subst (λ (k : Kind). HasBytesOf k (s.begins.value ++ s.begins.after)) (kind_is kind bytes s) (value_reads s.tree s.begins.value s.begins.after s.begins.spells))
 
 pub size_at : (kind : Kind) (bytes : List ℕ) (s : Sound kind bytes) → size_of kind bytes ≡ extent s
-size_at kind bytes s = ap (size_of kind) s.cut ∙ ap (λ (k : Kind). size_of k (s.value ++ s.after)) (sym (kind_is kind bytes s)) ∙ size_is s.tree s.value s.after s.spells s.short ∙ sym (extent_is s s)
+size_at kind bytes s = ap (size_of kind) s.begins.cut ∙ ap (λ (k : Kind). size_of k (s.begins.value ++ s.begins.after)) (sym (kind_is kind bytes s)) ∙ size_is s.tree s.begins.value s.begins.after s.begins.spells s.begins.short ∙ sym (extent_is s s)
 
 -- ---- texts and the bytes that they take
 
@@ -104,7 +104,7 @@ payload_short : (k : ℕ) (s : List ℕ) (b : Bool) → (k == 2) ≡ b → lengt
 payload_short k s true is = rw is (omega (arith, length-append (number (length s)) s))
 payload_short k s false is = rw is (omega arith)
 
-scalar_short : (a : Scalar) (v : List ℕ) → IsScalar a v → length v ≤ longest_document → ScalarIsShort a
+scalar_short : (a : Scalar) (v : List ℕ) → IsScalar a v → length v ≤ longest_document → OwnIsShort (own a)
 scalar_short (trees.text s) v h short = omega (arith, ap length h.1, string_length s)
 scalar_short (trees.symbol s) v h short = omega (arith, ap length h.1, string_length s)
 scalar_short (trees.code s) v h short = omega (arith, ap length h.1, string_length s)
@@ -124,4 +124,4 @@ value_short (code_scope s fs) v h short o is =
 value_short _ v h short o is = absurd cc
 
 pub own_short : (kind : Kind) (bytes : List ℕ) (s : Sound kind bytes) (o : Own) → own_of (stands s) ≡ Some o → OwnIsShort o
-own_short kind bytes s o is = value_short s.tree s.value s.spells s.short o (sym (ap own_of (stands_is s s)) ∙ is)
+own_short kind bytes s o is = value_short s.tree s.begins.value s.begins.spells s.begins.short o (sym (ap own_of (stands_is s s)) ∙ is)

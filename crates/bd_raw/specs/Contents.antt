@@ -6,15 +6,12 @@ use Rattle.bd_value.specs.View.{seen}
 use Rattle.bd_raw.specs.{Sound.stands, Sound.elements_left, declared.views.Contents.Contents}
 use Rattle.bd_raw.specs.declared.views.Contents.TheVariants.{Scalar, Document, Array, CodeScope}
 
-abbrev pub HoldsContents : Tree → Contents → Type 0
-HoldsContents t (Scalar s) = (a : trees.Scalar) × (t ≡ leaf a) × (seen s ≡ own a)
-HoldsContents t (Document elements) = t ≡ doc (fields_of (elements_left elements.left))
-HoldsContents t (Array elements) = t ≡ array (items_of (values_of (elements_left elements.left)))
-HoldsContents t (CodeScope code scope) = t ≡ code_scope code.now (fields_of (pairs_in (stands scope.sound)))
-
 -- the views in it stand in these bytes
-abbrev pub StandsIn : List ℕ → Contents → Type 0
-StandsIn bytes (Scalar s) = Unit {0}
-StandsIn bytes (Document elements) = elements.bytes.now ≡ bytes
-StandsIn bytes (Array elements) = elements.bytes.now ≡ bytes
-StandsIn bytes (CodeScope code scope) = scope.bytes.now ≡ bytes
+abbrev pub HoldsContents : List ℕ → Tree → Contents → Type 0
+HoldsContents bytes t (Scalar s) = (a : trees.Scalar) × (t ≡ leaf a) × (seen s ≡ own a)
+HoldsContents bytes t (Document elements) =
+    (t ≡ doc (fields_of (elements_left elements.left))) × (elements.bytes.now ≡ bytes)
+HoldsContents bytes t (Array elements) =
+    (t ≡ array (items_of (values_of (elements_left elements.left)))) × (elements.bytes.now ≡ bytes)
+HoldsContents bytes t (CodeScope code scope) =
+    (t ≡ code_scope code.now (fields_of (pairs_in (stands scope.sound)))) × (scope.bytes.now ≡ bytes)

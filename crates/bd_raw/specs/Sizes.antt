@@ -24,19 +24,14 @@ name_of bytes = take (zero_at bytes) bytes
 abbrev pub after_name : List ℕ → List ℕ
 after_name bytes = drop (zero_at bytes + 1) bytes
 
--- the text of a string, and what stands after the string
+-- the text of a string
 abbrev pub text_of : List ℕ → List ℕ
 text_of bytes = take (number_of bytes - 1) (drop 4 bytes)
 
-abbrev pub after_string : List ℕ → List ℕ
-after_string bytes = drop (4 + number_of bytes) bytes
-
--- binary data, with the inner count of subtype 02, and without
-abbrev pub data_at : List ℕ → List ℕ
-data_at bytes = take (number_of bytes) (drop 5 bytes)
-
+-- binary data, without the inner count of subtype 02
 abbrev pub payload_of : List ℕ → List ℕ
-payload_of bytes = if slice_index_or bytes 4 0 == 2 then drop 4 (data_at bytes) else data_at bytes
+payload_of bytes =
+    let all = take (number_of bytes) (drop 5 bytes) in if slice_index_or bytes 4 0 == 2 then drop 4 all else all
 
 abbrev pub size_of : Kind → List ℕ → ℕ
 size_of kinds.Int32 bytes = 4
@@ -70,7 +65,7 @@ scalar_at kinds.Bool bytes = trees.boolean (slice_index_or bytes 0 0 == 1)
 scalar_at kinds.Text bytes = trees.text (text_of bytes)
 scalar_at kinds.Symbol bytes = trees.symbol (text_of bytes)
 scalar_at kinds.Code bytes = trees.code (text_of bytes)
-scalar_at kinds.DbPointer bytes = trees.db_pointer (text_of bytes) (take 12 (after_string bytes))
+scalar_at kinds.DbPointer bytes = trees.db_pointer (text_of bytes) (take 12 (drop (4 + number_of bytes) bytes))
 scalar_at kinds.Binary bytes = trees.binary (slice_index_or bytes 4 0) (payload_of bytes)
 scalar_at kinds.Regex bytes = trees.regex (name_of bytes) (name_of (after_name bytes))
 scalar_at _ bytes = trees.null

@@ -1,7 +1,7 @@
 -- Which bytes are which document (BSON 1.1, the grammar of `document`).
-use Rattle.std.specs.Prelude.{◌≡◌, ◌≢◌, ◌≤◌, ◌<◌, ◌^◌, ℕ, ◌+◌, Bool, true, false, Option, Some, None, List, [], ◌∷◌, ◌++◌, length}
-use Rattle.std.specs.Prelude.{IsUtf8, FitsSigned, ◌==◌, if◌then◌else◌}
-use Rattle.std.specs.List.{AllByRecursion}
+use Rattle.std.specs.Prelude.{◌≡◌, ◌≢◌, ◌≤◌, ◌<◌, ◌^◌, ℕ, ◌+◌, Bool, true, false, Option, List, [], ◌∷◌, ◌++◌, length}
+use Rattle.std.specs.Prelude.{IsUtf8, FitsSigned, ◌==◌, nat_eq, if◌then◌else◌}
+use Rattle.std.specs.{List.AllByRecursion, Map.lookup}
 use Rattle.std.specs.Int.{w32, w64, to_le_bytes, cast_unsigned}
 use Rattle.bd_value.specs.{Limits.longest_document, Limits.most_levels, View.kind_of, declared.node.Kind.Kind}
 use Rattle.bd_value.specs.Tree as trees
@@ -42,13 +42,9 @@ types =
     ∷ (12, Kept kinds.DbPointer) ∷ (13, Kept kinds.Code) ∷ (14, Kept kinds.Symbol) ∷ (15, Kept kinds.CodeScope) ∷ (16, Kept kinds.Int32)
     ∷ (17, Kept kinds.Timestamp) ∷ (18, Kept kinds.Int64) ∷ (19, Decimal128) ∷ (127, Kept kinds.MaxKey) ∷ (255, Kept kinds.MinKey) ∷ []
 
-abbrev pub type_in : List (ℕ × ElementType) → ℕ → Option ElementType
-type_in [] b = None
-type_in (t ∷ ts) b = if b == t.0 then Some t.1 else type_in ts b
-
 -- what a type byte tells; none where BSON has no such type
 abbrev pub type_at : ℕ → Option ElementType
-type_at = type_in types
+type_at b = lookup (nat_eq b) types
 
 -- what holds values: the others are scalars
 abbrev pub holds : Kind → Bool
@@ -140,16 +136,13 @@ pub record IsDocument (d : Doc) (bytes : List ℕ) : Type 0 where
 abbrev pub IsShort : List ℕ → Type 0
 IsShort text = length text ≤ longest_document
 
-abbrev pub ScalarIsShort : Scalar → Type 0
-ScalarIsShort (trees.text s) = IsShort s
-ScalarIsShort (trees.symbol s) = IsShort s
-ScalarIsShort (trees.binary subtype payload) = IsShort payload
-ScalarIsShort (trees.regex pattern options) = IsShort pattern × IsShort options
-ScalarIsShort (trees.db_pointer space id) = IsShort space
-ScalarIsShort (trees.code s) = IsShort s
-ScalarIsShort _ = Unit {0}
-
 -- the texts, and the bytes, of what a value holds besides other values
 abbrev pub OwnIsShort : Own → Type 0
-OwnIsShort (own s) = ScalarIsShort s
+OwnIsShort (own (trees.text s)) = IsShort s
+OwnIsShort (own (trees.symbol s)) = IsShort s
+OwnIsShort (own (trees.binary subtype payload)) = IsShort payload
+OwnIsShort (own (trees.regex pattern options)) = IsShort pattern × IsShort options
+OwnIsShort (own (trees.db_pointer space id)) = IsShort space
+OwnIsShort (own (trees.code s)) = IsShort s
 OwnIsShort (own_code s) = IsShort s
+OwnIsShort _ = Unit {0}

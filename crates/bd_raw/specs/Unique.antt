@@ -15,7 +15,7 @@ use Rattle.bd_value.specs.declared.node.Kind.TheVariants as kinds
 use Rattle.bd_raw.specs.{declared.raw_parts.ElementType.TheVariants.Kept, Sizes.size_of, Sizes.scalar_at}
 use Rattle.bd_raw.specs.Spelling.{type_byte, type_at, holds, number, long, string, data_of, framed, scoped, element}
 use Rattle.bd_raw.specs.Spelling.{IsName, IsText, IsScalar, IsValue, AreFields, AreItems}
-use Rattle.bd_raw.specs.Sizes.{number_of, long_of, zero_at, name_of, after_name, text_of, after_string, data_at, payload_of}
+use Rattle.bd_raw.specs.Sizes.{number_of, long_of, zero_at, name_of, after_name, text_of, payload_of}
 
 -- ---- the kind that a type byte tells
 
@@ -84,7 +84,7 @@ pub string_text : (s r : List ℕ) → length s + 1 < 2 ^ 32 → text_of (string
 string_text s r lt = rw (string_number s r lt, string_after s r, number_after (length s + 1) (s ++ 0 ∷ r))
     (take_at s (0 ∷ r) (length s + 1 - 1) (omega arith))
 
-pub string_rest : (s r : List ℕ) → length s + 1 < 2 ^ 32 → after_string (string s ++ r) ≡ r
+string_rest : (s r : List ℕ) → length s + 1 < 2 ^ 32 → drop (4 + number_of (string s ++ r)) (string s ++ r) ≡ r
 string_rest s r lt = rw (string_number s r lt) (drop_at (string s) r (4 + (length s + 1)) (string_length s))
 
 pub regex_whole : (p o r : List ℕ) → (p ++ 0 ∷ (o ++ 0 ∷ [])) ++ r ≡ p ++ 0 ∷ (o ++ 0 ∷ r)
@@ -109,15 +109,10 @@ binary_count k d r lt = ap number_of (binary_whole k d r) ∙ number_front (leng
 pub binary_subtype : (k : ℕ) (d r : List ℕ) → slice_index_or ((number (length d) ++ k ∷ d) ++ r) 4 0 ≡ k
 binary_subtype k d r = ap (λ (x : List ℕ). slice_index_or x 4 0) (binary_whole k d r) ∙ fifth (length d) k (d ++ r)
 
-binary_data : (k : ℕ) (d r : List ℕ) → length d < 2 ^ 31 → data_at ((number (length d) ++ k ∷ d) ++ r) ≡ d
+binary_data : (k : ℕ) (d r : List ℕ) → length d < 2 ^ 31
+    → take (number_of ((number (length d) ++ k ∷ d) ++ r)) (drop 5 ((number (length d) ++ k ∷ d) ++ r)) ≡ d
 binary_data k d r lt =
     rw (binary_count k d r lt, binary_whole k d r, after_five (length d) k (d ++ r)) (take_at d r (length d) refl)
-
-pub chosen : (b : Bool) (x y : List ℕ) → b ≡ true → cond b x y ≡ x
-chosen b x y e = rw e refl
-
-pub other : (b : Bool) (x y : List ℕ) → b ≡ false → cond b x y ≡ y
-other b x y e = rw e refl
 
 inner : (b : Bool) (s : List ℕ) → let d : List ℕ = if b then number (length s) ++ s else s in (if b then drop 4 d else d) ≡ s
 inner true s = number_after (length s) s
@@ -244,9 +239,6 @@ same_element t u n m v w x y r s b c p q value d e h =
     let first = value (x ++ 0 ∷ r) (y ++ 0 ∷ s) (same_kind (kind_of t) (kind_of u) (cc)) named.1 in
     (first.0, named.0, first.1, cancel v w (x ++ 0 ∷ r) (y ++ 0 ∷ s) first.1 named.1)
 
-elements : (t u : Tree) (n m v w r s : List ℕ) → t ≡ u → n ≡ m → v ≡ w → r ≡ s → element t n v ++ r ≡ element u m w ++ s
-elements t u n m v w r s a b c d = cc
-
 -- ---- values
 
 mutual
@@ -275,7 +267,7 @@ mutual
   fields (field n t fs) (field m u gs) b c r s p q h =
       let one = same_element t u n m p.0 q.0 p.1 q.1 r s b c p.2 q.2 (λ i j. values t u p.0 q.0 i j p.3 q.3) p.5 q.5 h in
       let more = fields fs gs p.1 q.1 r s p.4 q.4 one.3 in
-      (cc (one.0, one.1, more.0), p.5 ∙ elements t u n m p.0 q.0 p.1 q.1 one.0 one.1 one.2 more.1 ∙ sym q.5)
+      (cc (one.0, one.1, more.0), cc (p.5, q.5, one.0, one.1, one.2, more.1))
 
   pub items : (ts us : Items) (b c r s : List ℕ) → AreItems ts b → AreItems us c
       → b ++ 0 ∷ r ≡ c ++ 0 ∷ s → (ts ≡ us) × (b ≡ c)
@@ -285,12 +277,7 @@ mutual
   items (item t ts) (item u us) b c r s p q h =
       let one = same_element t u p.0 q.0 p.1 q.1 p.2 q.2 r s b c p.3 q.3 (λ i j. values t u p.1 q.1 i j p.4 q.4) p.6 q.6 h in
       let more = items ts us p.2 q.2 r s p.5 q.5 one.3 in
-      (cc (one.0, more.0), p.6 ∙ elements t u p.0 q.0 p.1 q.1 p.2 q.2 one.0 one.1 one.2 more.1 ∙ sym q.6)
-
-pub one_value : (t u : Tree) (v w r s : List ℕ) → IsValue t v → IsValue u w
-    → type_byte (kind_of t) ≡ type_byte (kind_of u) → v ++ r ≡ w ++ s → (t ≡ u) × (v ≡ w) × (r ≡ s)
-one_value t u v w r s p q k h =
-    let e = values t u v w r s p q (same_kind (kind_of t) (kind_of u) k) h in (e.0, e.1, cancel v w r s e.1 h)
+      (cc (one.0, more.0), cc (p.6, q.6, one.0, one.1, one.2, more.1))
 
 -- ---- and in one way at most
 

@@ -6,7 +6,7 @@ ghost use Rattle.bd_value.specs.Tree.{Tree, leaf, null, undefined, pairs_in, own
 ghost use Rattle.bd_value.specs.View.{tree_of, pairs, seen};
 ghost use Rattle.bd_raw.specs.Spelling.{IsShort, OwnIsShort};
 ghost use Rattle.bd_raw.specs.Sound.{stands, elements_left, StandsAt, IsPlace};
-ghost use Rattle.bd_raw.specs.Contents.{HoldsContents, StandsIn};
+ghost use Rattle.bd_raw.specs.Contents.{HoldsContents};
 
 use crate::raw::{Elements, RawDoc, RawValue};
 use crate::raw_parts as parts;
@@ -89,8 +89,7 @@ impl<'a> RawValue<'a> {
     /// What it holds.
     #[inline(always)]
     pub(crate) fn contents(self) -> Contents<'a>
-        ensures holds { HoldsContents (stands self.entry.sound) result }
-        ensures kept { StandsIn self.entry.bytes.now result }
+        ensures { HoldsContents self.entry.bytes.now (stands self.entry.sound) result }
     {
         let (bytes, at) = (self.bytes, self.start + 4);
         let (_, here) = bytes.split_at(self.start);

@@ -1,8 +1,7 @@
 -- The comparison order of values (MongoDB manual, "Comparison/Sort Order"): by class, then within the class.
-use Rattle.std.specs.Prelude.{◌≡◌, ◌⊎◌, ℕ, ℤ, pos, Bool, ◌+◌, ◌==◌, List, [], length, if◌then◌else◌}
-use Rattle.std.specs.{declared.cmp.Ordering.Ordering, declared.cmp.Ordering.TheVariants.Less}
-use Rattle.std.specs.{declared.cmp.Ordering.TheVariants.Equal, declared.cmp.Ordering.TheVariants.Greater}
-use Rattle.std.specs.{Cmp.IsTotalOrder, Cmp.Lexicographic.slice_cmp}
+use Rattle.std.specs.Prelude.{ℕ, ℤ, pos, Bool, ◌+◌, ◌==◌, List, [], length, if◌then◌else◌}
+use Rattle.std.specs.{Cmp.Lexicographic.slice_cmp, declared.cmp.Ordering.Ordering}
+use Rattle.std.specs.declared.cmp.Ordering.TheVariants.{Less, Equal, Greater}
 use Rattle.std.specs.Ordering.{nat_cmp, int_cmp, ordering_then, is_eq}
 use Rattle.bd_value.specs.Tree.{Own, own, own_code, Scalar, int32, int64, text, symbol, binary, object_id, boolean, date, timestamp}
 use Rattle.bd_value.specs.Tree.{regex, db_pointer, code, Tree, leaf, doc, array, code_scope, Items, no_items, item, Fields, no_fields, field}
@@ -163,30 +162,3 @@ cmp a b = ordering_then (class_cmp a b) (same_class_cmp a b)
 
 abbrev pub equal : Tree → Tree → Bool
 equal a b = is_eq (cmp a b)
-
--- ---- what always holds
-
--- any two values compare, one way round as the other, and equal values are one place in the order
-abbrev pub OrdersAllValues : Type 0
-OrdersAllValues = IsTotalOrder cmp
-
-abbrev pub EqualsHaveOneClass : Type 0
-EqualsHaveOneClass = (a b : Tree) → cmp a b ≡ Equal → class_of a ≡ class_of b
-
--- a number of 32 or of 64 bits
-abbrev pub IsWholeNumber : Tree → ℤ → Type 0
-IsWholeNumber t n = (t ≡ leaf (int32 n)) ⊎ (t ≡ leaf (int64 n))
-
-abbrev pub NumbersAreOneLine : Type 0
-NumbersAreOneLine = (a b : Tree) (m n : ℤ) → IsWholeNumber a m → IsWholeNumber b n → cmp a b ≡ int_cmp m n
-
--- a document that has no further pair is less
-abbrev pub ShorterDocumentsAreLess : Type 0
-ShorterDocumentsAreLess = (name : List ℕ) (t : Tree) (fs : Fields)
-    → (cmp (doc no_fields) (doc (field name t fs)) ≡ Less)
-    × (cmp (doc (field name t fs)) (doc no_fields) ≡ Greater)
-
--- the class of the first value, then its name, then the value, then what is after it
-abbrev pub PairsCompareInTurn : Type 0
-PairsCompareInTurn = (m n : List ℕ) (a b : Tree) (fs gs : Fields) → cmp (doc (field m a fs)) (doc (field n b gs))
-    ≡ ordering_then (class_cmp a b) (ordering_then (bytes_cmp m n) (ordering_then (cmp a b) (cmp (doc fs) (doc gs))))

@@ -1,10 +1,10 @@
 use Rattle.std.proofs.Common.{◌≡◌, Bool, map, rules}
-use Rattle.std.specs.List.{dedup}
+use Rattle.std.specs.List.{All, dedup}
 use Rattle.std.proofs.{lemmas.Fn.always_returns_same, lemmas.Fn.dedup_same, lemmas.List.Elements.All-append, lemmas.List.Elements.All-nil, lemmas.List.Filters.All-dedup}
 use Rattle.std.proofs.lemmas.List.Sorted.{All-permutation, ranks_by}
 use Rattle.bd_bson.specs.Collection.{bytes_of}
 use Rattle.bd_path.specs.Key.{key_trees, distinct}
-use Rattle.bd_index.specs.{Entries.keys_at, IndexView.AreFoundIn, IndexView.IsFoundIn, IndexView.found_entry, IndexView.raw_tree, declared.entry.FoundKey.FoundKey}
+use Rattle.bd_index.specs.{Entries.keys_at, IndexView.IsFoundIn, IndexView.found_entry, IndexView.raw_tree, declared.entry.FoundKey.FoundKey}
 use Rattle.bd_index.proofs.{EntryLemmas.counted_own, EntryLemmas.ascends, EntryLemmas.entry_total, RepeatLemmas.found_lt, RepeatLemmas.own_once, RepeatLemmas.repeats}
 use Rattle.bd_index.proofs.index.add_document.Goals as goal
 
@@ -25,7 +25,7 @@ returns-clause-added c test =
 pub returns-clause-kept : goal.returns-clause-kept
 returns-clause-kept c old =
     let bytes = bytes_of c.args.dump.now in
-    let none : AreFoundIn bytes c.clear.new.self.items = rw c.clear.ensures.items (All-nil (IsFoundIn bytes)) in
+    let none : All (IsFoundIn bytes) c.clear.new.self.items = rw c.clear.ensures.items (All-nil (IsFoundIn bytes)) in
     let sorted = All-permutation (IsFoundIn bytes) c.add_found.new.found.items c.sort_by.new.self.items c.sort_by.ensures.permutation (c.in_ok-add_found.ensures.kept none) in
     let once = dedup_same _ repeats _ (λ x y b f' x' y' k. search rules) _ _ c.dedup_by.ensures.filtered in
     rw (c.in_ok-extend_from_slice.ensures.items, c.deref-2.ensures.value, once)

@@ -1,9 +1,9 @@
 use Rattle.std.proofs.Common.{Bool, cond, List, map, rules, sym, subst, ◌∙◌}
-use Rattle.std.specs.Ordering.{is_lt}
+use Rattle.std.specs.{List.All, Ordering.is_lt}
 use Rattle.std.proofs.lemmas.Fn.{always_returns_same}
 use Rattle.std.proofs.lemmas.List.Sorted.{All-permutation, IsPermutation-map, ranks_by, sum_by-IsPermutation}
 use Rattle.bd_bson.specs.Collection.{bytes_of}
-use Rattle.bd_index.specs.{Entries.entry_cmp, IndexView.AreFoundIn, IndexView.IsFoundIn, IndexView.found_entry, IndexView.KeepsEntries, declared.entry.FoundKey.FoundKey}
+use Rattle.bd_index.specs.{Entries.entry_cmp, IndexView.IsFoundIn, IndexView.found_entry, IndexView.KeepsEntries, declared.entry.FoundKey.FoundKey}
 use Rattle.bd_index.proofs.{EntryLemmas.entry_total, EntryLemmas.sorted_map, RepeatLemmas.found_lt}
 use Rattle.bd_index.proofs.index.entries_of.Goals as goal
 
@@ -14,7 +14,7 @@ returns c =
     let bytes = bytes_of c.args.dump.now in
     let lt : FoundKey → FoundKey → Bool = found_lt in
     let answers = always_returns_same _ _ _ (λ a r h k. search rules) in
-    let kept : AreFoundIn bytes c.deref.result.now = subst (AreFoundIn bytes) (sym c.deref.ensures.value)
+    let kept : All (IsFoundIn bytes) c.deref.result.now = subst (All (IsFoundIn bytes)) (sym c.deref.ensures.value)
     (All-permutation (IsFoundIn bytes) found sorted c.sort_by.ensures.permutation c.in_ok-found.ensures.kept) in
     record {
       entries = map found_entry sorted;

@@ -1,5 +1,6 @@
-use Rattle.std.proofs.Common.{sym, ap, ◌∙◌}
-use Rattle.bd_path.specs.{PathNames.names_of, Sort.or_null}
+use Rattle.std.proofs.Common.{unwrap_or, sym, ap, ◌∙◌}
+use Rattle.bd_value.specs.Tree.{leaf, null}
+use Rattle.bd_path.specs.PathNames.{names_of}
 use Rattle.bd_path.proofs.SortLemmas as first
 use Rattle.bd_path.proofs.sort.sort_key_node.Goals as goal
 
@@ -12,7 +13,7 @@ returns-in-Some g c =
     let p = names_of c.args.path.now in
     let are = first.whole g.N.Reading.tree g.N.Reading.source c.args.dir _ c.walk-whole.new.found n p c.walk-whole.result c.walk-whole.ensures in
     record {
-      tree = ap or_null (rw c.in-Some.is at are.earliest ∙ sym (first.earliest_is c.args.dir n p));
+      tree = ap (λ k. unwrap_or k (leaf null)) (rw c.in-Some.is at are.earliest ∙ sym (first.earliest_is c.args.dir n p));
       kept = rw c.in-Some.is at are.kept;
       there = rw c.in-Some.is at are.there;
     }

@@ -3,7 +3,7 @@ use Rattle.std.specs.List.{list_any}
 use Rattle.std.proofs.{lemmas.Bool.or_left, lemmas.List.drop_all, lemmas.List.Folds.list_any-append}
 use Rattle.bd_value.specs.{Tree.first_of, Tree.values_of, Tree.elements_in, Tree.Doc, Tree.fields_of, Tree.fields_size, Tree.pairs_in}
 use Rattle.bd_value.proofs.PartsLemmas as parted
-use Rattle.bd_path.specs.{Path.component_names, Reach.is_document, Walk.TakesStops, Walk.document_stops, Walk.stopping}
+use Rattle.bd_path.specs.{Path.component_names, Reach.document_gathering, Reach.is_document, Walk.TakesStops, Walk.stopping}
 use Rattle.bd_path.proofs.ReachLemmas as down
 use Rattle.bd_path.proofs.WalkLemmas as walked
 use Rattle.bd_path.proofs.walk.+walk.Goals.{walk_documents-then-is_document+else-not-walk_from, walk_documents-else-is_document}
@@ -62,7 +62,7 @@ walk_from-walk_index-requires g t c κs within =
     let names = component_names c.args.path.now in
     let d = c.decreases in
     let told : TakesStops (g.G.Gatherer.amounts c.args.gatherer.now) (g.G.Gatherer.is_new c.args.gatherer.now) (g.N.Reading.source c.args.node) c.args.found.now
-    c.walk_documents.new.found (document_stops n (drop c.args.k names)) = c.in-Some-walk_documents.ensures.taken in
+    c.walk_documents.new.found (document_gathering stopping n (drop c.args.k names)) = c.in-Some-walk_documents.ensures.taken in
     let vain = walked.still_vain _ _ n names c.args.walked.now told.still c.requires.vain in
     let below : c.args.k < length c.args.path.now = omega (arith, c.requires.at, c.if-k-path.false) in
     let array = sym c.kind.ensures ∙ c.in-Array.is in

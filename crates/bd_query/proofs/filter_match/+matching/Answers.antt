@@ -4,7 +4,7 @@ use Rattle.bd_value.specs.{Tree.first_of, Tree.elements_in, Tree.values_of}
 use Rattle.bd_value.specs.Tree.{Doc, Tree, fields_of, fields_size, items_of, pairs_in}
 use Rattle.bd_value.proofs.PartsLemmas as parted
 use Rattle.bd_path.specs.{Reach.Names, Path.component_names, PathNames.names_of, Reach.held_index, declared.component.Component.Component}
-use Rattle.bd_path.specs.Reach.{document_ends, each_gathering, ends, index_ends, is_document, reach}
+use Rattle.bd_path.specs.Reach.{document_gathering, each_gathering, ends, index_gathering, is_document, reach}
 use Rattle.bd_path.proofs.ReachLemmas as down
 use Rattle.bd_path.proofs.WalkLemmas as walked
 use Rattle.bd_query.specs.FilterMatch.{is_suited, suits}
@@ -26,7 +26,7 @@ any_end_suits-returns-then-any_end_suits_in_documents g t c =
     let cs = c.args.walk.now.path.now in
     let many = walked.as_many cs in
     let m = walked.named (component_names cs) c.args.k (omega (arith, many, c.requires.at, c.if-k-path.false)) in
-    down.in_first (is_suited c.args.walk.now.body.now) c.any_end_suits_in_documents.result _ (index_ends n (drop c.args.k (component_names cs))) _
+    down.in_first (is_suited c.args.walk.now.body.now) c.any_end_suits_in_documents.result _ (index_gathering ends n (drop c.args.k (component_names cs))) _
     c.any_end_suits_in_documents.ensures c.if-any_end_suits_in_documents.true
     (walked.parts_are ends n (component_names cs) c.args.k m.name (sym c.kind.ensures ∙ c.in-Array.is) m.is_there)
 
@@ -37,7 +37,7 @@ any_end_suits-returns-else-any_end_suits_in_documents g t c =
     let many = walked.as_many cs in
     let m = walked.named (component_names cs) c.args.k (omega (arith, many, c.requires.at, c.if-k-path.false)) in
     down.in_second (is_suited c.args.walk.now.body.now) c.any_end_suits_in_documents.result c.any_end_suits_at_index.result
-    (document_ends n (drop c.args.k (component_names cs))) (index_ends n (drop c.args.k (component_names cs))) _
+    (document_gathering ends n (drop c.args.k (component_names cs))) (index_gathering ends n (drop c.args.k (component_names cs))) _
     c.any_end_suits_in_documents.ensures c.if-any_end_suits_in_documents.false c.any_end_suits_at_index.ensures
     (walked.parts_are ends n (component_names cs) c.args.k m.name (sym c.kind.ensures ∙ c.in-Array.is) m.is_there)
 

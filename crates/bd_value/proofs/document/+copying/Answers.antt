@@ -7,15 +7,11 @@ use Rattle.bd_value.proofs.document.+copying.Goals as goal
 
 pub to_value-to_document-requires : goal.to_value-to_document-requires
 to_value-to_document-requires g t c κs within =
-    let s = parted.parts_smaller (g.N.Reading.tree c.args.node) (g.N.Reading.left c.parts.result) c.parts.ensures.parts in
-    let e = c.decreases in
-    (omega arith, within)
+    (omega (arith, parted.parts_smaller (g.N.Reading.tree c.args.node) (g.N.Reading.left c.parts.result) c.parts.ensures.parts, c.decreases), within)
 
 pub to_value-to_items-requires : goal.to_value-to_items-requires
 to_value-to_items-requires g t c κs within =
-    let s = parted.parts_smaller (g.N.Reading.tree c.args.node) (g.N.Reading.left c.parts-in-Array.result) c.parts-in-Array.ensures.parts in
-    let e = c.decreases in
-    (omega arith, within)
+    (omega (arith, parted.parts_smaller (g.N.Reading.tree c.args.node) (g.N.Reading.left c.parts-in-Array.result) c.parts-in-Array.ensures.parts, c.decreases), within)
 
 pub to_value-returns-in_ok-to_document-in-Doc : goal.to_value-returns-in_ok-to_document-in-Doc
 to_value-returns-in_ok-to_document-in-Doc g t c =

@@ -20,15 +20,11 @@ compare_scopes-returns g t c =
 
 pub compare_within-compare_documents-requires : goal.compare_within-compare_documents-requires
 compare_within-compare_documents-requires g t c κs within =
-    let s = parted.parts_smaller (g.M.Reading.tree c.args.a) (g.M.Reading.left c.parts.result) c.parts.ensures.parts in
-    let e = c.decreases in
-    (omega arith, within)
+    (omega (arith, parted.parts_smaller (g.M.Reading.tree c.args.a) (g.M.Reading.left c.parts.result) c.parts.ensures.parts, c.decreases), within)
 
 pub compare_within-compare_arrays-requires : goal.compare_within-compare_arrays-requires
 compare_within-compare_arrays-requires g t c κs within =
-    let s = parted.parts_smaller (g.M.Reading.tree c.args.a) (g.M.Reading.left c.parts-in-Array.result) c.parts-in-Array.ensures.parts in
-    let e = c.decreases in
-    (omega arith, within)
+    (omega (arith, parted.parts_smaller (g.M.Reading.tree c.args.a) (g.M.Reading.left c.parts-in-Array.result) c.parts-in-Array.ensures.parts, c.decreases), within)
 
 pub compare_within-returns-in-Doc : goal.compare_within-returns-in-Doc
 compare_within-returns-in-Doc g t c =
