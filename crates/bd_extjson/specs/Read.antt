@@ -33,7 +33,7 @@ abbrev pub with_scope : Option (List ℕ) → Option Tree → Option Tree
 with_scope (Some s) (Some (doc fs)) = Some (code_scope s fs)
 with_scope _ _ = None
 
--- an object of `$code` and `$scope`, in either order: of each member its wrapper, its JSON value and what that stands for
+-- an object of `$code` and `$scope`, in either order: of each its wrapper, its JSON value and what that stands for
 abbrev pub two : Wrapper → Json → Option Tree → Option Wrapper → Json → Option Tree → kit.Members → Option Tree
 two kinds.Code j t (Some kinds.Scope) i u kit.no_members = with_scope (as_str j) u
 two kinds.Scope j t (Some kinds.Code) i u kit.no_members = with_scope (as_str i) t
@@ -54,8 +54,8 @@ abbrev mutual
 
   pub wrap_object : ℕ → kit.Members → Option Tree
   wrap_object room kit.no_members = nested room (Some (doc no_fields))
-  wrap_object room (kit.member name j ms) = option_map_or (λ w. wrapped room w j (wrap (room - 1) j) ms) (wrapper_of name)
-      (nested room (option_map doc (add_field name (wrap (room - 1) j) (wrap_fields (room - 1) ms))))
+  wrap_object room (kit.member n j ms) = option_map_or (λ w. wrapped room w j (wrap (room - 1) j) ms) (wrapper_of n)
+      (nested room (option_map doc (add_field n (wrap (room - 1) j) (wrap_fields (room - 1) ms))))
 
   -- a wrapper's object, of its first member and the others
   pub wrapped : ℕ → Wrapper → Json → Option Tree → kit.Members → Option Tree

@@ -1,7 +1,7 @@
 -- Text that is written into place, with room after it.
 use Rattle.std.specs.Prelude.{◌≡◌, ◌≤◌, ◌++◌, ℕ, List, length, take, Result, MatchResult}
 
--- How `new` comes from `old`, whose first `end` bytes are text: these bytes stand after it, and the result is their end.
+-- How `new` comes from `old`, whose first `end` bytes are text: these bytes stand after it, up to the result.
 -- An error leaves the text as it was.
 abbrev pub Appends : {E : Type 0} → List ℕ → ℕ → Result ℕ E → List ℕ → List ℕ → Type 0
 Appends old end result new bytes =
