@@ -1,5 +1,5 @@
 -- Text that is written into place: what the first bytes are after a write, and that those before it stay.
-use Rattle.std.proofs.Common.{◌≡◌, ℕ, ◌+◌, ◌-◌, ◌≤◌, Bool, false, List, [], ◌∷◌, ◌++◌, length, take, drop, refl, sym, ap, ap₂, ◌∙◌, arith, append_assoc, append-nil}
+use Rattle.std.proofs.Common.{◌≡◌, ℕ, ◌+◌, ◌-◌, ◌<◌, ◌≤◌, Bool, false, List, [], ◌∷◌, ◌++◌, length, take, drop, refl, sym, ap, ap₂, ◌∙◌, arith, append_assoc, append-nil}
 use Rattle.std.proofs.Math.Seq.{take-append-add, take-append_seam}
 use Rattle.std.proofs.lemmas.List.{take-take, take_all, drop_all, length-take, length-take-le, length-drop, length-append, take-append-drop}
 use Rattle.std.proofs.lemmas.Slice.{take-put_mid}
@@ -39,6 +39,11 @@ chained end e1 e2 old mid new x y first second = second ∙ ap (λ (l : List ℕ
 -- the first byte of a longer text is written
 pub begun : (end e b : ℕ) (old new rest : List ℕ) → take e new ≡ take end old ++ b ∷ [] → take e new ++ rest ≡ take end old ++ b ∷ rest
 begun end e b old new rest put = ap (λ (l : List ℕ). l ++ rest) put ∙ append_assoc (take end old) (b ∷ []) rest
+
+-- the first byte is written, where there was room for it
+pub opened : (end e b : ℕ) (old new rest : List ℕ) → end < length old → take e new ≡ take end old ++ b ∷ [] → e ≡ end + 1 → length new ≡ length old
+    → (take e new ++ rest ≡ take end old ++ b ∷ rest) × (take end new ≡ take end old) × (e ≤ length new) × (end ≤ e)
+opened end e b old new rest room put is size = (begun end e b old new rest put, front end e old (b ∷ []) new (omega arith) put, omega arith, omega arith)
 
 module _ (end at : ℕ) (start out : List ℕ) (after : end ≤ at) (inside : at ≤ length out) (kept : take end out ≡ take end start) where
   -- a text is written further on, and then nothing

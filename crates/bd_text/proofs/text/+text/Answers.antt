@@ -5,25 +5,19 @@ use Rattle.bd_value.specs.Tree.{doc, array, text as string, fields_of, items_of,
 use Rattle.bd_text.specs.Text.{text, scalar_text, fields_text, items_text}
 use Rattle.bd_text.proofs.TextLemmas.{parts_smaller, rest_smaller, scope_smaller, some_scalar, held_text, text_of-doc, text_of-array, text_of-scope}
 use Rattle.bd_text.proofs.TextLemmas.{to_come-all, field_step, item_step}
-use Rattle.bd_text.proofs.RoomLemmas.{begun, cut, front, chained, goes_on, still_kept, failed, then, last}
+use Rattle.bd_text.proofs.RoomLemmas.{opened, cut, front, chained, goes_on, still_kept, failed, then, last}
 use Rattle.bd_text.proofs.text.+text.Goals as goal
 
 pub append_fields-loop-name-init : goal.append_fields-loop-name-init
 append_fields-loop-name-init g t c =
+    let put = c.put_byte_in-at.ensures in
     let fields = fields_text (fields_of (g.N.Reading.left c.args.fields)) in
-    let out = c.args.out.now.items in
-    record {
-      whole = rw (to_come-all 44 fields) (begun c.args.end c.put_byte_in-at.result 123 out c.put_byte_in-at.new.out.items (join_with_byte 44 fields ++ 125 ∷ []) c.put_byte_in-at.ensures.put);
-      kept = front c.args.end c.put_byte_in-at.result out (123 ∷ []) c.put_byte_in-at.new.out.items (omega arith) c.put_byte_in-at.ensures.put;
-      inside = omega (arith, c.put_byte_in-at.ensures.size, c.put_byte_in-at.ensures.end);
-      after = omega (arith, c.put_byte_in-at.ensures.end);
-      fewer = omega arith;
-    }
+    let start = opened c.args.end c.put_byte_in-at.result 123 c.args.out.now.items c.put_byte_in-at.new.out.items (join_with_byte 44 fields ++ 125 ∷ []) (omega arith) put.put put.end put.size in
+    record { whole = rw (to_come-all 44 fields) start.0; kept = start.1; inside = start.2; after = start.3; fewer = omega arith }
 
 pub append_fields-returns-in_err-at : goal.append_fields-returns-in_err-at
 append_fields-returns-in_err-at g t c =
-    let i = c.loop-name.invariant in
-    failed _ _ _ _ c.from_residual.result c.from_residual.ensures.0 (cut c.args.end c.loop-name.at _ _ i.after c.in_err-at.ensures.text ∙ i.kept)
+    failed _ _ _ _ c.from_residual.result c.from_residual.ensures.0 (cut c.args.end c.loop-name.at _ _ c.loop-name.invariant.after c.in_err-at.ensures.text ∙ c.loop-name.invariant.kept)
 
 pub append_fields-returns-in_err-at-2 : goal.append_fields-returns-in_err-at-2
 append_fields-returns-in_err-at-2 g t c =
@@ -59,20 +53,14 @@ append_fields-returns g t c =
 
 pub append_items-loop-node-init : goal.append_items-loop-node-init
 append_items-loop-node-init g t c =
+    let put = c.put_byte_in-at.ensures in
     let items = items_text (items_of (values_of (g.N.Reading.left c.args.items))) in
-    let out = c.args.out.now.items in
-    record {
-      whole = rw (to_come-all 44 items) (begun c.args.end c.put_byte_in-at.result 91 out c.put_byte_in-at.new.out.items (join_with_byte 44 items ++ 93 ∷ []) c.put_byte_in-at.ensures.put);
-      kept = front c.args.end c.put_byte_in-at.result out (91 ∷ []) c.put_byte_in-at.new.out.items (omega arith) c.put_byte_in-at.ensures.put;
-      inside = omega (arith, c.put_byte_in-at.ensures.size, c.put_byte_in-at.ensures.end);
-      after = omega (arith, c.put_byte_in-at.ensures.end);
-      fewer = omega arith;
-    }
+    let start = opened c.args.end c.put_byte_in-at.result 91 c.args.out.now.items c.put_byte_in-at.new.out.items (join_with_byte 44 items ++ 93 ∷ []) (omega arith) put.put put.end put.size in
+    record { whole = rw (to_come-all 44 items) start.0; kept = start.1; inside = start.2; after = start.3; fewer = omega arith }
 
 pub append_items-returns-in_err-at : goal.append_items-returns-in_err-at
 append_items-returns-in_err-at g t c =
-    let i = c.loop-node.invariant in
-    failed _ _ _ _ c.from_residual.result c.from_residual.ensures.0 (cut c.args.end c.loop-node.at _ _ i.after c.in_err-at.ensures.text ∙ i.kept)
+    failed _ _ _ _ c.from_residual.result c.from_residual.ensures.0 (cut c.args.end c.loop-node.at _ _ c.loop-node.invariant.after c.in_err-at.ensures.text ∙ c.loop-node.invariant.kept)
 
 pub append_items-returns-in_err-at-2 : goal.append_items-returns-in_err-at-2
 append_items-returns-in_err-at-2 g t c =
