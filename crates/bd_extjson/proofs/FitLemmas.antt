@@ -1,7 +1,8 @@
 -- What is read of a text fits its types, and its texts and names are UTF-8.
 use Rattle.std.proofs.Common.{◌≡◌, ◌<◌, ℕ, zero, suc, ◌+◌, ◌*◌, ◌/◌, true, List, [], ◌∷◌, ◌++◌, length, take, drop, slice_index, Option, Some, None, Result, Ok, Err, inl}
 use Rattle.std.proofs.Common.{inr, ◌⊎◌, refl, subst, arith, ltb-true, ◌-◌, ◌^◌, ℤ, pos, negsuc, Bool, sym, ap, ◌∙◌, leb-true}
-use Rattle.std.specs.Prelude.{IsUtf8, nat_lt, FitsSigned, codes, nat_le, option_map, option_and_then, ◌&&◌}
+use Rattle.std.specs.Prelude.{IsUtf8, nat_lt, FitsSigned, codes, nat_le, option_map, option_and_then, ◌&&◌, false, cond, unwrap_or}
+use Rattle.std.specs.{Option.option_map_or, Option.option_zip, Result.result_ok}
 use Rattle.std.specs.List.{AllByRecursion}
 use lib.Utf8.{scalar, scalars, encode, encodes, scalar_cases}
 use Rattle.std.proofs.lemmas.Bool.{cases_lt, and_parts}
@@ -23,16 +24,16 @@ use Rattle.bd_value.specs.Limits.{most_levels}
 use Rattle.hex.proofs.HexLemmas.{decode_of-ok, decode_sized-ok, decode_sized-twice}
 use Rattle.json.specs.Json as json
 use Rattle.json.specs.Json.{Json}
-use Rattle.json.specs.Find.{as_str, as_object}
+use Rattle.json.specs.Find.{as_bool, as_str, as_object}
 use Rattle.bd_value.specs.Tree as trees
 use Rattle.bd_value.specs.Tree.{Scalar, Tree, leaf, doc, array, code_scope, Items, Fields, field, no_fields, Doc, fields_of, pairs_of, fields_of-pairs_of}
 use Rattle.bd_wrapper.specs.WholeNumber.{fits_bits, if_fits, whole, whole_64, whole_32}
-use Rattle.bd_wrapper.specs.Wrapper.{wrapper_of, single, ok_of, both, pair_members, only_member, only, pair, id_of, data_in, digits_in, subtype_in}
-use Rattle.bd_wrapper.specs.Wrapper.{if_word, word_in, if_no_zero, name_in, both_in, one, if_true, is_true, long_in}
+use Rattle.bd_wrapper.specs.Wrapper.{wrapper_of, single, pair_members, only_member, only, pair, id_of, data_in, digits_in, subtype_in}
+use Rattle.bd_wrapper.specs.Wrapper.{if_word, word_in, name_in, both_in, one, long_in}
 use Rattle.bd_wrapper.specs.declared.wrapper.Wrapper.{Wrapper}
 use Rattle.bd_wrapper.specs.declared.wrapper.Wrapper.TheVariants as kinds
-use Rattle.bd_extjson.specs.Read.{bare_number, nested, add_item, add_field, AfterName, nothing, one_more, several, with_scope, two, wrapper_tree, either, after_one, wrap}
-use Rattle.bd_extjson.specs.Read.{wrap_items, wrap_object, after, wrap_fields, ReadsAs, document}
+use Rattle.bd_extjson.specs.Read.{bare_number, nested, add_item, add_field, with_scope, two, wrap}
+use Rattle.bd_extjson.specs.Read.{wrap_items, wrap_object, wrapped, wrap_fields, ReadsAs, document}
 use Rattle.bd_extjson.specs.Read as reads
 
 -- the state of the scan of the last symbols, whose name base64 keeps to itself
@@ -151,7 +152,7 @@ mapped : {A B : Type 0} {P : A → Type 0} (Q : B → Type 0) (f : A → B) (o :
 mapped Q f None h p = tt
 mapped Q f (Some x) h p = h x p
 
-both_hold : {A B : Type 0} (P : A → Type 0) (Q : B → Type 0) (a : Option A) (b : Option B) → Holds P a → Holds Q b → Holds (λ x. P x.0 × Q x.1) (both a b)
+both_hold : {A B : Type 0} (P : A → Type 0) (Q : B → Type 0) (a : Option A) (b : Option B) → Holds P a → Holds Q b → Holds (λ x. P x.0 × Q x.1) (option_zip a b)
 both_hold P Q (Some x) (Some y) p q = (p, q)
 both_hold P Q _ _ p q = tt
 
@@ -206,12 +207,12 @@ pair_text a b j is = then AreTexts (pair_members a b) (as_object j) members (obj
         (λ e. when (Holds AreTexts) (bytes_eq k b && bytes_eq l a) _ None (λ e. (p.1.1.1.0, p.1.0)) (λ e. tt))
     members _ p = tt
 
-ok_holds : {A E : Type 0} (P : A → Type 0) (r : Result A E) → ((x : A) → r ≡ Ok x → P x) → Holds P (ok_of r)
+ok_holds : {A E : Type 0} (P : A → Type 0) (r : Result A E) → ((x : A) → r ≡ Ok x → P x) → Holds P (result_ok r)
 ok_holds P (Ok x) h = h x refl
 ok_holds P (Err e) h = tt
 
 id_fits : (j : Json) → IsTextJson j → Holds IsId (id_of j)
-id_fits j is = then IsId (λ s. ok_of (decode_sized s 12)) (as_str j) (λ s p. ok_holds IsId (decode_sized s 12) (id s)) (string_in j is)
+id_fits j is = then IsId (λ s. result_ok (decode_sized s 12)) (as_str j) (λ s p. ok_holds IsId (decode_sized s 12) (id s)) (string_in j is)
   where
     id : (s bytes : List ℕ) → decode_sized s 12 ≡ Ok bytes → IsId bytes
     id s bytes e =
@@ -221,7 +222,7 @@ id_fits j is = then IsId (λ s. ok_of (decode_sized s 12)) (as_str j) (λ s p. o
 
 data_fits : (j : Json) → IsTextJson j → Holds AreBytes (data_in j)
 data_fits j is =
-    then AreBytes (λ s. ok_of (decode_of standard s)) (as_str j)
+    then AreBytes (λ s. result_ok (decode_of standard s)) (as_str j)
     (λ s p. ok_holds AreBytes (decode_of standard s) (λ bytes e. decoded_are_bytes s bytes p e)) (string_in j is)
 
 digit_fits : (c : ℕ) → Holds (λ v. v < 16) (hex_digit_value c)
@@ -237,7 +238,7 @@ digits_fit (a ∷ []) = go (hex_digit_value a) (digit_fits a)
     go None p = tt
     go (Some v) p = omega arith
 digits_fit (a ∷ b ∷ []) =
-    mapped (λ v. v < 256) (λ p. p.0 * 16 + p.1) (both (hex_digit_value a) (hex_digit_value b)) (λ x h. let l = h.0 in let r = h.1 in omega arith)
+    mapped (λ v. v < 256) (λ p. p.0 * 16 + p.1) (option_zip (hex_digit_value a) (hex_digit_value b)) (λ x h. let l = h.0 in let r = h.1 in omega arith)
     (both_hold (λ v. v < 16) (λ v. v < 16) (hex_digit_value a) (hex_digit_value b) (digit_fits a) (digit_fits b))
 digits_fit _ = tt
 
@@ -254,14 +255,14 @@ word_fits _ = tt
 
 name_text : (j : Json) → IsTextJson j → Holds IsUtf8 (name_in j)
 name_text j is =
-    then IsUtf8 if_no_zero (as_str j) (λ s p. when (Holds IsUtf8) (has_zero s) None (Some s) (λ e. tt) (λ e. p)) (string_in j is)
+    then IsUtf8 _ (as_str j) (λ s p. when (Holds IsUtf8) (has_zero s) None (Some s) (λ e. tt) (λ e. p)) (string_in j is)
 
 -- ---- scalars
 
 abbrev IsSoundScalar : Scalar → Type 0
 IsSoundScalar s = ScalarFitsType s × ScalarHasUtf8 s
 
-if_true_fits : (b : Bool) (s : Scalar) → IsSoundScalar s → Holds IsSoundScalar (if_true b s)
+if_true_fits : (b : Bool) (s : Scalar) → IsSoundScalar s → Holds IsSoundScalar (cond b (Some s) None)
 if_true_fits b s h = when (Holds IsSoundScalar) b (Some s) None (λ e. h) (λ e. tt)
 
 pair_holds : {A B : Type 0} (P : A → Type 0) (Q : B → Type 0) (f : Json → Option A) (g : Json → Option B)
@@ -270,16 +271,15 @@ pair_holds : {A B : Type 0} (P : A → Type 0) (Q : B → Type 0) (f : Json → 
 pair_holds P Q f g p q a b j is =
     then (λ x. P x.0 × Q x.1) (both_in f g) (pair a b j) (λ x h. both_hold P Q (f x.0) (g x.1) (p x.0 h.0) (q x.1 h.1)) (pair_text a b j is)
 
-long_fits : (o : Option Json) → Holds IsTextJson o → Holds (FitsSigned w64) (long_in o)
-long_fits None p = tt
-long_fits (Some j) p = then (FitsSigned w64) whole_64 (as_str j) (λ s q. whole_64_fits s) (string_in j p)
+long_fits : (j : Json) → IsTextJson j → Holds (FitsSigned w64) (long_in j)
+long_fits j p = then (FitsSigned w64) whole_64 (as_str j) (λ s q. whole_64_fits s) (string_in j p)
 
 single_fits : (w : Wrapper) (j : Json) → IsTextJson j → Holds IsSoundScalar (single w j)
 single_fits kinds.NumberInt j is =
     mapped IsSoundScalar (λ z. trees.int32 z) (option_and_then whole_32 (as_str j)) (λ z h. (h, tt))
     (then (FitsSigned w32) whole_32 (as_str j) (λ s p. whole_32_fits s) (string_in j is))
 single_fits kinds.NumberLong j is =
-    mapped IsSoundScalar (λ z. trees.int64 z) (option_and_then whole_64 (as_str j)) (λ z h. (h, tt)) (long_fits (Some j) is)
+    mapped IsSoundScalar (λ z. trees.int64 z) (long_in j) (λ z h. (h, tt)) (long_fits j is)
 single_fits kinds.Oid j is = mapped IsSoundScalar (λ b. trees.object_id b) (id_of j) (λ b h. (h, tt)) (id_fits j is)
 single_fits kinds.Symbol j is = mapped IsSoundScalar (λ s. trees.symbol s) (as_str j) (λ s h. (tt, h)) (string_in j is)
 single_fits kinds.Binary j is =
@@ -298,11 +298,11 @@ single_fits kinds.DbPointer j is =
     (λ x h. (h.1, h.0)) (pair_holds IsUtf8 IsId as_str id_in string_in
     (λ i p. then IsId id_of (only (codes "$oid") i) id_fits (only_text (codes "$oid") i p)) (codes "$ref") (codes "$id") j is)
 single_fits kinds.Date j is =
-    mapped IsSoundScalar (λ z. trees.date z) (long_in (only (codes "$numberLong") j)) (λ z h. (h, tt))
-    (long_fits (only (codes "$numberLong") j) (only_text (codes "$numberLong") j is))
+    mapped IsSoundScalar (λ z. trees.date z) (option_and_then long_in (only (codes "$numberLong") j)) (λ z h. (h, tt))
+    (then (FitsSigned w64) long_in (only (codes "$numberLong") j) long_fits (only_text (codes "$numberLong") j is))
 single_fits kinds.MinKey j is = if_true_fits (one j) trees.min_key (tt, tt)
 single_fits kinds.MaxKey j is = if_true_fits (one j) trees.max_key (tt, tt)
-single_fits kinds.Undefined j is = if_true_fits (is_true j) trees.undefined (tt, tt)
+single_fits kinds.Undefined j is = if_true_fits (unwrap_or (as_bool j) false) trees.undefined (tt, tt)
 single_fits _ j is = tt
 
 -- ---- trees
@@ -315,11 +315,6 @@ AreSoundItems ts = ItemsFitTypes ts × ItemsHaveUtf8 ts
 
 abbrev AreSoundFields : Fields → Type 0
 AreSoundFields fs = FieldsFitTypes fs × FieldsHaveUtf8 fs
-
-abbrev IsSoundAfter : AfterName → Type 0
-IsSoundAfter nothing = Unit {0}
-IsSoundAfter (one_more w i u) = IsTextJson i × Holds IsSound u
-IsSoundAfter several = Unit {0}
 
 nest : {A : Type 0} (P : A → Type 0) (room : ℕ) (o : Option A) → Holds P o → Holds P (nested room o)
 nest P zero o p = tt
@@ -342,26 +337,15 @@ scope_sound : (s : Option (List ℕ)) (t : Option Tree) → Holds IsUtf8 s → H
 scope_sound (Some s) (Some (doc fs)) p q = (q.0, (p, q.1))
 scope_sound _ _ p q = tt
 
-two_sound : (w : Wrapper) (j : Json) (t : Option Tree) (v : Wrapper) (i : Json) (u : Option Tree) → IsTextJson j → Holds IsSound t
-    → IsTextJson i → Holds IsSound u → Holds IsSound (two w j t v i u)
-two_sound kinds.Code j t kinds.Scope i u is p are q = scope_sound (as_str j) u (string_in j is) q
-two_sound kinds.Scope j t kinds.Code i u is p are q = scope_sound (as_str i) t (string_in i are) p
-two_sound _ j t _ i u is p are q = tt
+two_sound : (w : Wrapper) (j : Json) (t : Option Tree) (v : Option Wrapper) (i : Json) (u : Option Tree) (ms : json.Members) → IsTextJson j → Holds IsSound t
+    → IsTextJson i → Holds IsSound u → Holds IsSound (two w j t v i u ms)
+two_sound kinds.Code j t (Some kinds.Scope) i u json.no_members is p are q = scope_sound (as_str j) u (string_in j is) q
+two_sound kinds.Scope j t (Some kinds.Code) i u json.no_members is p are q = scope_sound (as_str i) t (string_in i are) p
+two_sound _ j t _ i u _ is p are q = tt
 
-wrapped_sound : (room : ℕ) (w : Wrapper) (j : Json) (t : Option Tree) (b : AfterName) → IsTextJson j → Holds IsSound t → IsSoundAfter b → Holds IsSound (wrapper_tree room w j t b)
-wrapped_sound room w j t nothing is p q = mapped IsSound leaf (single w j) (λ s h. h) (single_fits w j is)
-wrapped_sound room w j t (one_more None i u) is p q = tt
-wrapped_sound room w j t (one_more (Some v) i u) is p q = nest IsSound room (two w j t v i u) (two_sound w j t v i u is p q.0 q.1)
-wrapped_sound room w j t several is p q = tt
-
-either_sound : (room : ℕ) (o : Option Wrapper) (j : Json) (t : Option Tree) (b : AfterName) (d : Option Tree) → IsTextJson j → Holds IsSound t
-    → IsSoundAfter b → Holds IsSound d → Holds IsSound (either room o j t b d)
-either_sound room None j t b d is p q r = r
-either_sound room (Some w) j t b d is p q r = wrapped_sound room w j t b is p q
-
-after_one_sound : (w : Option Wrapper) (i : Json) (u : Option Tree) (ms : json.Members) → IsTextJson i → Holds IsSound u → IsSoundAfter (after_one w i u ms)
-after_one_sound w i u json.no_members is p = (is, p)
-after_one_sound w i u (json.member name j ms) is p = tt
+either_sound : (o : Option Wrapper) (f : Wrapper → Option Tree) (d : Option Tree) → ((w : Wrapper) → Holds IsSound (f w)) → Holds IsSound d → Holds IsSound (option_map_or f o d)
+either_sound None f d p q = q
+either_sound (Some w) f d p q = p w
 
 mutual
   wrap_sound : (room : ℕ) (j : Json) → IsTextJson j → Holds IsSound (wrap room j)
@@ -381,14 +365,14 @@ mutual
   object_sound room json.no_members is = nest IsSound room (Some (doc no_fields)) (tt, tt)
   object_sound room (json.member name j ms) is =
       let fields = add_field name (wrap (room - 1) j) (wrap_fields (room - 1) ms) in
-      either_sound room (wrapper_of name) j (wrap (room - 1) j) (after (room - 1) ms) (nested room (option_map doc fields)) is.1.0
-      (wrap_sound (room - 1) j is.1.0) (after_sound (room - 1) ms is.1.1)
+      either_sound (wrapper_of name) (λ w. wrapped room w j (wrap (room - 1) j) ms) (nested room (option_map doc fields))
+      (λ w. wrapped_sound room w j (wrap (room - 1) j) ms is.1.0 (wrap_sound (room - 1) j is.1.0) is.1.1)
       (nest IsSound room (option_map doc fields) (mapped IsSound doc fields (λ fs h. h)
       (field_sound name (wrap (room - 1) j) (wrap_fields (room - 1) ms) is.0 (wrap_sound (room - 1) j is.1.0) (fields_sound (room - 1) ms is.1.1))))
 
-  after_sound : (room : ℕ) (ms : json.Members) → AreTextMembers ms → IsSoundAfter (after room ms)
-  after_sound room json.no_members is = tt
-  after_sound room (json.member name i ms) is = after_one_sound (wrapper_of name) i (wrap room i) ms is.1.0 (wrap_sound room i is.1.0)
+  wrapped_sound : (room : ℕ) (w : Wrapper) (j : Json) (t : Option Tree) (ms : json.Members) → IsTextJson j → Holds IsSound t → AreTextMembers ms → Holds IsSound (wrapped room w j t ms)
+  wrapped_sound room w j t json.no_members is p are = mapped IsSound leaf (single w j) (λ s h. h) (single_fits w j is)
+  wrapped_sound room w j t (json.member name i ms) is p are = nest IsSound room _ (two_sound w j t (wrapper_of name) i (wrap (room - 1) i) ms is p are.1.0 (wrap_sound (room - 1) i are.1.0))
 
   fields_sound : (room : ℕ) (ms : json.Members) → AreTextMembers ms → Holds AreSoundFields (wrap_fields room ms)
   fields_sound room json.no_members is = (tt, tt)

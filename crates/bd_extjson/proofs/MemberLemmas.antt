@@ -1,13 +1,13 @@
 -- Objects that begin with a wrapper's name, a name at a time.
-use Rattle.std.proofs.Common.{◌≡◌, ℕ, zero, suc, ◌-◌, ◌<◌, ◌≤◌, true, false, List, length, Option, Some, None, option_map, option_and_then, refl, sym, ap, ◌∙◌}
+use Rattle.std.proofs.Common.{◌≡◌, ◌≢◌, ℕ, zero, suc, ◌-◌, ◌<◌, ◌≤◌, true, false, List, length, Option, Some, None, option_map, option_and_then, refl, sym, ap, ◌∙◌}
 use Rattle.json.specs.Token.{Token}
 use Rattle.json.specs.Json as json
 use Rattle.json.specs.Json.{Json, Parse, parse_map, read_key, members, value}
 use Rattle.json.specs.Find.{as_str}
 use Rattle.json.proofs.Grammar.{members_end, members_no_key}
 use Rattle.bd_value.specs.Tree.{Tree, doc, code_scope, Fields, Doc, pairs_of, fields_of, fields_of-pairs_of}
-use Rattle.bd_extjson.specs.Read.{AfterName, one_more, nested, with_scope, two, wrapper_tree, after_one, after, wrap, wrap_object, document}
-use Rattle.bd_wrapper.specs.Wrapper.{wrapper_of, through, after_key, if_no_name, closing, is_code_name, is_scope_name}
+use Rattle.bd_extjson.specs.Read.{nested, with_scope, two, wrap, wrap_object, wrapped, document}
+use Rattle.bd_wrapper.specs.Wrapper.{wrapper_of, through, after_key, is_code_name, is_scope_name}
 use Rattle.bd_value.proofs.ViewLemmas.{tree_of-CodeScope}
 use Rattle.bd_wrapper.specs.declared.wrapper.Wrapper.{Wrapper}
 use Rattle.bd_wrapper.specs.declared.wrapper.Wrapper.TheVariants as kinds
@@ -36,25 +36,14 @@ named f k depth n ts r le e = ap (through f) (next_name depth n ts r (Some k) le
 
 -- ---- the end of an object
 
-abbrev none_before : Unit {0} × List Token → Option (List ℕ) × List Token
-none_before q = (None, q.1)
-
-closed_key : (k : Option (Option (List ℕ) × List Token)) (r : List Token) → option_and_then (λ p. if_no_name p.0 p.1) k ≡ Some (tt, r) → k ≡ Some (None, r)
-closed_key (Some (None, ts)) r e = ap (option_map none_before) e
-closed_key _ r e = absurd cc
-
-pub closed : {A : Type 0} (f : json.Members → Option A) (depth n : ℕ) (ts r : List Token) → length ts ≤ n → closing ts ≡ Some (tt, r)
-    → through f (members (value depth) n ts) ≡ option_map (λ (a : A). (a, r)) (f json.no_members)
-closed f depth n ts r le e = ended f depth n ts r le (closed_key (read_key ts) r e)
-
-pub not_closed : {A : Type 0} (f : json.Members → Option A) (depth n : ℕ) (ts : List Token) → length ts ≤ n → closing ts ≡ None
+pub not_ended : {A : Type 0} (f : json.Members → Option A) (depth n : ℕ) (ts : List Token) → length ts ≤ n → ((r : List Token) → read_key ts ≢ Some (None, r))
     → ((k : List ℕ) (j : Json) (ms : json.Members) → f (json.member k j ms) ≡ None) → through f (members (value depth) n ts) ≡ None
-not_closed f depth n ts le e h = key (read_key ts) refl e
+not_ended f depth n ts le not h = key (read_key ts) refl
   where
-    key : (o : Option (Option (List ℕ) × List Token)) → read_key ts ≡ o → option_and_then (λ p. if_no_name p.0 p.1) o ≡ None → through f (members (value depth) n ts) ≡ None
-    key None is e = no_name f depth n ts is
-    key (Some (None, r)) is e = absurd cc
-    key (Some (Some k, r)) is e = named f k depth n ts r le is ∙ refused_member f k depth (n - 1) r (h k)
+    key : (o : Option (Option (List ℕ) × List Token)) → read_key ts ≡ o → through f (members (value depth) n ts) ≡ None
+    key None is = no_name f depth n ts is
+    key (Some (None, r)) is = absurd (not r is)
+    key (Some (Some k, r)) is = named f k depth n ts r le is ∙ refused_member f k depth (n - 1) r (h k)
 
 -- ---- what a value was read from
 
@@ -92,53 +81,31 @@ unread f g k depth n ts e h = turn (value depth ts) e
 
 -- ---- wrappers of one name
 
-abbrev pub wrapping : ℕ → Wrapper → Json → Option Tree → json.Members → Option Tree
-wrapping room w j t ms = wrapper_tree room w j t (after (room - 1) ms)
-
 pub first_part : (w : Wrapper) (k : List ℕ) (room depth n : ℕ) (ts s : List Token) (j : Json) → wrapper_of k ≡ Some w → value depth ts ≡ Some (j, s)
-    → through (wrap_object room) (after_key depth n (Some k) ts) ≡ through (wrapping room w j (wrap (room - 1) j)) (members (value depth) n s)
+    → through (wrap_object room) (after_key depth n (Some k) ts) ≡ through (wrapped room w j (wrap (room - 1) j)) (members (value depth) n s)
 first_part w k room depth n ts s j e f =
     member_is (wrap_object room) k depth n ts s j f
-    ∙ through_same (λ ms. wrap_object room (json.member k j ms)) (wrapping room w j (wrap (room - 1) j)) (λ ms. rw e refl) (members (value depth) n s)
+    ∙ through_same (λ ms. wrap_object room (json.member k j ms)) (wrapped room w j (wrap (room - 1) j)) (λ ms. rw e refl) (members (value depth) n s)
 
 nested_none : {A : Type 0} (room : ℕ) (o : Option A) → o ≡ None → nested room o ≡ None
 nested_none zero o e = refl
 nested_none (suc room) o e = e
 
--- a second name is refused where it makes nothing with the first
-two_refused : (w : Wrapper) (room : ℕ) (j : Json) (t : Option Tree) (k : List ℕ) (i : Json) (ms : json.Members)
-    → ((v : Wrapper) → wrapper_of k ≡ Some v → nested room (two w j t v i (wrap (room - 1) i)) ≡ None) → wrapping room w j t (json.member k i ms) ≡ None
-two_refused w room j t k i json.no_members none = go (wrapper_of k) none
-  where
-    go : (o : Option Wrapper) → ((v : Wrapper) → o ≡ Some v → nested room (two w j t v i (wrap (room - 1) i)) ≡ None)
-        → wrapper_tree room w j t (one_more o i (wrap (room - 1) i)) ≡ None
-    go None none = refl
-    go (Some v) none = none v refl
-two_refused w room j t k i (json.member l h ms) none = refl
-
 -- two names only where these are `$code` and `$scope`
-no_two : (w v : Wrapper) (j i : Json) (t u : Option Tree) → is_code_name (Some w) ≡ false → is_scope_name (Some w) ≡ false → two w j t v i u ≡ None
-no_two kinds.Code v j i t u e f = absurd cc
-no_two kinds.Scope v j i t u e f = absurd cc
-no_two _ v j i t u e f = refl
+no_two : (w : Wrapper) (v : Option Wrapper) (j i : Json) (t u : Option Tree) (ms : json.Members) → is_code_name (Some w) ≡ false → is_scope_name (Some w) ≡ false → two w j t v i u ms ≡ None
+no_two kinds.Code v j i t u ms e f = absurd cc
+no_two kinds.Scope v j i t u ms e f = absurd cc
+no_two _ v j i t u ms e f = refl
 
 pub one_name_alone : (w : Wrapper) (room : ℕ) (j : Json) (t : Option Tree) (k : List ℕ) (i : Json) (ms : json.Members) → is_code_name (Some w) ≡ false
-    → is_scope_name (Some w) ≡ false → wrapping room w j t (json.member k i ms) ≡ None
-one_name_alone w room j t k i ms e f = two_refused w room j t k i ms (λ v is. nested_none room _ (no_two w v j i t (wrap (room - 1) i) e f))
+    → is_scope_name (Some w) ≡ false → wrapped room w j t (json.member k i ms) ≡ None
+one_name_alone w room j t k i ms e f = nested_none room _ (no_two w (wrapper_of k) j i t (wrap (room - 1) i) ms e f)
 
 -- ---- `$code`, then `$scope`
 
-code_with : (v : Wrapper) (j i : Json) (t u : Option Tree) → is_scope_name (Some v) ≡ false → two kinds.Code j t v i u ≡ None
-code_with kinds.Scope j i t u e = absurd cc
-code_with _ j i t u e = refl
-
-code_no_scope : (room : ℕ) (j : Json) (t : Option Tree) (k : List ℕ) (i : Json) (ms : json.Members) → is_scope_name (wrapper_of k) ≡ false
-    → wrapping room kinds.Code j t (json.member k i ms) ≡ None
-code_no_scope room j t k i ms e =
-    two_refused kinds.Code room j t k i ms (λ v is. nested_none room _ (code_with v j i t (wrap (room - 1) i) (sym (ap is_scope_name is) ∙ e)))
-
-no_room : (w : Wrapper) (j : Json) (t : Option Tree) (k : List ℕ) (i : Json) (ms : json.Members) → wrapping 0 w j t (json.member k i ms) ≡ None
-no_room w j t k i ms = two_refused w 0 j t k i ms (λ v is. refl)
+code_with : (v : Option Wrapper) (j i : Json) (t u : Option Tree) (ms : json.Members) → is_scope_name v ≡ false → two kinds.Code j t v i u ms ≡ None
+code_with (Some kinds.Scope) j i t u ms e = absurd cc
+code_with _ j i t u ms e = refl
 
 no_scope : (s : Option (List ℕ)) → with_scope s None ≡ None
 no_scope None = refl
@@ -148,93 +115,92 @@ is_scope_is : (v : Option Wrapper) → is_scope_name v ≡ true → v ≡ Some k
 is_scope_is (Some kinds.Scope) e = refl
 is_scope_is _ e = absurd cc
 
-pub no_room_second : (w : Wrapper) (k : List ℕ) (room depth n : ℕ) (ts : List Token) (j : Json) (t : Option Tree) → room ≡ 0 → through (wrapping room w j t) (after_key depth n (Some k) ts) ≡ None
-no_room_second w k room depth n ts j t e = ap (λ r. through (wrapping r w j t) (after_key depth n (Some k) ts)) e ∙ refused_member (wrapping 0 w j t) k depth n ts (no_room w j t k)
+pub no_room_second : (w : Wrapper) (k : List ℕ) (room depth n : ℕ) (ts : List Token) (j : Json) (t : Option Tree) → room ≡ 0 → through (wrapped room w j t) (after_key depth n (Some k) ts) ≡ None
+no_room_second w k room depth n ts j t e = ap (λ r. through (wrapped r w j t) (after_key depth n (Some k) ts)) e ∙ refused_member (wrapped 0 w j t) k depth n ts (λ i ms. refl)
 
 pub code_without_scope : (k : List ℕ) (room depth n : ℕ) (ts : List Token) (j : Json) (t : Option Tree) → is_scope_name (wrapper_of k) ≡ false
-    → through (wrapping room kinds.Code j t) (after_key depth n (Some k) ts) ≡ None
-code_without_scope k room depth n ts j t e = refused_member (wrapping room kinds.Code j t) k depth n ts (λ i ms. code_no_scope room j t k i ms e)
+    → through (wrapped room kinds.Code j t) (after_key depth n (Some k) ts) ≡ None
+code_without_scope k room depth n ts j t e = refused_member (wrapped room kinds.Code j t) k depth n ts (λ i ms. nested_none room _ (code_with (wrapper_of k) j i t (wrap (room - 1) i) ms e))
 
 code_after : (k : List ℕ) (room : ℕ) (j i : Json) (t u : Option Tree) (ms : json.Members) → is_scope_name (wrapper_of k) ≡ true → wrap (room - 1) i ≡ u
-    → wrapping room kinds.Code j t (json.member k i ms) ≡ wrapper_tree room kinds.Code j t (after_one (Some kinds.Scope) i u ms)
+    → wrapped room kinds.Code j t (json.member k i ms) ≡ nested room (two kinds.Code j t (Some kinds.Scope) i u ms)
 code_after k room j i t u ms e f = rw (is_scope_is (wrapper_of k) e, f) refl
 
-scope_fails : (room : ℕ) (j i : Json) (t : Option Tree) (ms : json.Members) → wrapper_tree room kinds.Code j t (after_one (Some kinds.Scope) i None ms) ≡ None
+scope_fails : (room : ℕ) (j i : Json) (t : Option Tree) (ms : json.Members) → nested room (two kinds.Code j t (Some kinds.Scope) i None ms) ≡ None
 scope_fails room j i t json.no_members = nested_none room _ (no_scope (as_str j))
-scope_fails room j i t (json.member l h ms) = refl
+scope_fails room j i t (json.member l h ms) = nested_none room _ refl
 
 pub scope_unread : (k : List ℕ) (room depth n : ℕ) (ts : List Token) (j : Json) (t : Option Tree) → is_scope_name (wrapper_of k) ≡ true → through (wrap (room - 1)) (value depth ts) ≡ None
-    → through (wrapping room kinds.Code j t) (after_key depth n (Some k) ts) ≡ None
+    → through (wrapped room kinds.Code j t) (after_key depth n (Some k) ts) ≡ None
 scope_unread k room depth n ts j t e f =
-    unread (wrapping room kinds.Code j t) (wrap (room - 1)) k depth n ts f (λ i ms none. code_after k room j i t None ms e none ∙ scope_fails room j i t ms)
+    unread (wrapped room kinds.Code j t) (wrap (room - 1)) k depth n ts f (λ i ms none. code_after k room j i t None ms e none ∙ scope_fails room j i t ms)
 
 -- what follows a scope
 pub scope_read : (k : List ℕ) (room depth n : ℕ) (ts r : List Token) (j : Json) (t : Option Tree) (u : Tree) → is_scope_name (wrapper_of k) ≡ true
     → through (wrap (room - 1)) (value depth ts) ≡ Some (u, r)
-    → (i : Json) × (through (wrapping room kinds.Code j t) (after_key depth n (Some k) ts)
-    ≡ through (λ ms. wrapper_tree room kinds.Code j t (after_one (Some kinds.Scope) i (Some u) ms)) (members (value depth) n r))
+    → (i : Json) × (through (wrapped room kinds.Code j t) (after_key depth n (Some k) ts)
+    ≡ through (λ ms. nested room (two kinds.Code j t (Some kinds.Scope) i (Some u) ms)) (members (value depth) n r))
 scope_read k room depth n ts r j t u e f =
     let p = was_read (wrap (room - 1)) (value depth ts) u r f in (
       p.0,
-      member_is (wrapping room kinds.Code j t) k depth n ts r p.0 p.1
-          ∙ through_same (λ ms. wrapping room kinds.Code j t (json.member k p.0 ms)) _ (λ ms. code_after k room j p.0 t (Some u) ms e p.2) (members (value depth) n r),
+      member_is (wrapped room kinds.Code j t) k depth n ts r p.0 p.1
+          ∙ through_same (λ ms. wrapped room kinds.Code j t (json.member k p.0 ms)) _ (λ ms. code_after k room j p.0 t (Some u) ms e p.2) (members (value depth) n r),
     )
 
 pub scope_unended : (k : List ℕ) (room depth n : ℕ) (ts r : List Token) (j : Json) (t : Option Tree) (u : Tree) → is_scope_name (wrapper_of k) ≡ true
     → through (wrap (room - 1)) (value depth ts) ≡ Some (u, r)
-    → length r ≤ n → closing r ≡ None → through (wrapping room kinds.Code j t) (after_key depth n (Some k) ts) ≡ None
+    → length r ≤ n → ((q : List Token) → read_key r ≢ Some (None, q)) → through (wrapped room kinds.Code j t) (after_key depth n (Some k) ts) ≡ None
 scope_unended k room depth n ts r j t u e f le g =
     let p = scope_read k room depth n ts r j t u e f in
-    p.1 ∙ not_closed _ depth n r le g (λ l h ms. refl)
+    p.1 ∙ not_ended _ depth n r le g (λ l h ms. nested_none room _ refl)
 
 pub scope_ended : (k : List ℕ) (room depth n : ℕ) (ts r s : List Token) (j : Json) (t : Option Tree) (u : Tree) → is_scope_name (wrapper_of k) ≡ true
     → through (wrap (room - 1)) (value depth ts) ≡ Some (u, r)
-    → length r ≤ n → closing r ≡ Some (tt, s) → 0 < room → through (wrapping room kinds.Code j t) (after_key depth n (Some k) ts) ≡ option_map (λ (a : Tree). (a, s)) (with_scope (as_str j) (Some u))
+    → length r ≤ n → read_key r ≡ Some (None, s) → 0 < room → through (wrapped room kinds.Code j t) (after_key depth n (Some k) ts) ≡ option_map (λ (a : Tree). (a, s)) (with_scope (as_str j) (Some u))
 scope_ended k room depth n ts r s j t u e f le g h =
     let p = scope_read k room depth n ts r j t u e f in
-    p.1 ∙ closed _ depth n r s le g ∙ ap (option_map (λ (a : Tree). (a, s))) (nested_is room (with_scope (as_str j) (Some u)) h)
+    p.1 ∙ ended _ depth n r s le g ∙ ap (option_map (λ (a : Tree). (a, s))) (nested_is room (with_scope (as_str j) (Some u)) h)
 
 -- ---- `$scope`, then `$code`
 
-no_room_scope : (j : Json) (t : Option Tree) (b : AfterName) → wrapper_tree 0 kinds.Scope j t b ≡ None
-no_room_scope j t (one_more None i u) = refl
-no_room_scope j t _ = refl
+scope_first_fails : (room : ℕ) (j : Json) (ms : json.Members) → wrapped room kinds.Scope j None ms ≡ None
+scope_first_fails room j json.no_members = refl
+scope_first_fails room j (json.member k i ms) = nested_none room _ (go (wrapper_of k) ms)
+  where
+    go : (v : Option Wrapper) (ms : json.Members) → two kinds.Scope j None v i (wrap (room - 1) i) ms ≡ None
+    go (Some kinds.Code) json.no_members = no_scope (as_str i)
+    go _ _ = refl
 
-scope_first_fails : (room : ℕ) (j : Json) (b : AfterName) → wrapper_tree room kinds.Scope j None b ≡ None
-scope_first_fails room j (one_more (Some kinds.Code) i u) = nested_none room _ (no_scope (as_str i))
-scope_first_fails room j (one_more (Some v) i u) = nested_none room _ refl
-scope_first_fails room j _ = refl
+no_room : (j : Json) (t : Option Tree) (ms : json.Members) → wrapped 0 kinds.Scope j t ms ≡ None
+no_room j t json.no_members = refl
+no_room j t (json.member k i ms) = refl
 
 pub no_room_first : (k : List ℕ) (room depth n : ℕ) (ts : List Token) → wrapper_of k ≡ Some kinds.Scope → room ≡ 0 → through (wrap_object room) (after_key depth n (Some k) ts) ≡ None
-no_room_first k room depth n ts e z = refused_member (wrap_object room) k depth n ts (λ i ms. rw (e, z) (no_room_scope i (wrap (0 - 1) i) (after (0 - 1) ms)))
+no_room_first k room depth n ts e z = refused_member (wrap_object room) k depth n ts (λ i ms. rw (e, z) (no_room i (wrap (0 - 1) i) ms))
 
 pub first_unread : (k : List ℕ) (room depth n : ℕ) (ts : List Token) → wrapper_of k ≡ Some kinds.Scope → through (wrap (room - 1)) (value depth ts) ≡ None
     → through (wrap_object room) (after_key depth n (Some k) ts) ≡ None
 first_unread k room depth n ts e f =
-    unread (wrap_object room) (wrap (room - 1)) k depth n ts f (λ i ms none. rw (e, none) (scope_first_fails room i (after (room - 1) ms)))
+    unread (wrap_object room) (wrap (room - 1)) k depth n ts f (λ i ms none. rw (e, none) (scope_first_fails room i ms))
 
 pub first_read : (k : List ℕ) (room depth n : ℕ) (ts r : List Token) (u : Tree) → wrapper_of k ≡ Some kinds.Scope → through (wrap (room - 1)) (value depth ts) ≡ Some (u, r)
-    → (j : Json) × (through (wrap_object room) (after_key depth n (Some k) ts) ≡ through (wrapping room kinds.Scope j (Some u)) (members (value depth) n r))
+    → (j : Json) × (through (wrap_object room) (after_key depth n (Some k) ts) ≡ through (wrapped room kinds.Scope j (Some u)) (members (value depth) n r))
 first_read k room depth n ts r u e f =
     let p = was_read (wrap (room - 1)) (value depth ts) u r f in
-    (p.0, first_part kinds.Scope k room depth n ts r p.0 e p.1 ∙ ap (λ t. through (wrapping room kinds.Scope p.0 t) (members (value depth) n r)) p.2)
+    (p.0, first_part kinds.Scope k room depth n ts r p.0 e p.1 ∙ ap (λ t. through (wrapped room kinds.Scope p.0 t) (members (value depth) n r)) p.2)
 
-scope_with : (v : Wrapper) (j i : Json) (t u : Option Tree) → is_code_name (Some v) ≡ false → two kinds.Scope j t v i u ≡ None
-scope_with kinds.Code j i t u e = absurd cc
-scope_with _ j i t u e = refl
-
-scope_no_code : (room : ℕ) (j : Json) (t : Option Tree) (k : List ℕ) (i : Json) (ms : json.Members) → is_code_name (wrapper_of k) ≡ false → wrapping room kinds.Scope j t (json.member k i ms) ≡ None
-scope_no_code room j t k i ms e =
-    two_refused kinds.Scope room j t k i ms (λ v is. nested_none room _ (scope_with v j i t (wrap (room - 1) i) (sym (ap is_code_name is) ∙ e)))
+scope_with : (v : Option Wrapper) (j i : Json) (t u : Option Tree) (ms : json.Members) → is_code_name v ≡ false → two kinds.Scope j t v i u ms ≡ None
+scope_with (Some kinds.Code) j i t u ms e = absurd cc
+scope_with _ j i t u ms e = refl
 
 pub scope_without_code : (k : List ℕ) (room depth n : ℕ) (ts r : List Token) (j : Json) (t : Option Tree) → length ts ≤ n → read_key ts ≡ Some (Some k, r) → is_code_name (wrapper_of k) ≡ false
-    → through (wrapping room kinds.Scope j t) (members (value depth) n ts) ≡ None
-scope_without_code k room depth n ts r j t le e f = named (wrapping room kinds.Scope j t) k depth n ts r le e
-    ∙ refused_member (wrapping room kinds.Scope j t) k depth (n - 1) r (λ i ms. scope_no_code room j t k i ms f)
+    → through (wrapped room kinds.Scope j t) (members (value depth) n ts) ≡ None
+scope_without_code k room depth n ts r j t le e f = named (wrapped room kinds.Scope j t) k depth n ts r le e
+    ∙ refused_member (wrapped room kinds.Scope j t) k depth (n - 1) r (λ i ms. nested_none room _ (scope_with (wrapper_of k) j i t (wrap (room - 1) i) ms f))
 
 pub code_unread : (k : List ℕ) (room depth n : ℕ) (ts r : List Token) (j : Json) (t : Option Tree) → length ts ≤ n → read_key ts ≡ Some (Some k, r) → value depth r ≡ None
-    → through (wrapping room kinds.Scope j t) (members (value depth) n ts) ≡ None
-code_unread k room depth n ts r j t le e f = named (wrapping room kinds.Scope j t) k depth n ts r le e ∙ unreadable (wrapping room kinds.Scope j t) k depth (n - 1) r f
+    → through (wrapped room kinds.Scope j t) (members (value depth) n ts) ≡ None
+code_unread k room depth n ts r j t le e f = named (wrapped room kinds.Scope j t) k depth n ts r le e ∙ unreadable (wrapped room kinds.Scope j t) k depth (n - 1) r f
 
 pub code_is : (w : Wrapper) → is_code_name (Some w) ≡ true → w ≡ kinds.Code
 code_is kinds.Code e = refl
@@ -244,19 +210,24 @@ is_code_is : (v : Option Wrapper) → is_code_name v ≡ true → v ≡ Some kin
 is_code_is (Some kinds.Code) e = refl
 is_code_is _ e = absurd cc
 
+-- a third member
+no_third : (v : Option Wrapper) (j i : Json) (t u : Option Tree) (l : List ℕ) (h : Json) (ms : json.Members) → two kinds.Scope j t v i u (json.member l h ms) ≡ None
+no_third (Some kinds.Code) j i t u l h ms = refl
+no_third _ j i t u l h ms = refl
+
 pub code_unended : (k : List ℕ) (room depth n : ℕ) (ts r s : List Token) (j i : Json) (t : Option Tree) → length ts ≤ n
-    → read_key ts ≡ Some (Some k, r) → value depth r ≡ Some (i, s) → length s ≤ n - 1 → closing s ≡ None
-    → through (wrapping room kinds.Scope j t) (members (value depth) n ts) ≡ None
+    → read_key ts ≡ Some (Some k, r) → value depth r ≡ Some (i, s) → length s ≤ n - 1 → ((q : List Token) → read_key s ≢ Some (None, q))
+    → through (wrapped room kinds.Scope j t) (members (value depth) n ts) ≡ None
 code_unended k room depth n ts r s j i t le e f less g =
-    named (wrapping room kinds.Scope j t) k depth n ts r le e ∙ member_is (wrapping room kinds.Scope j t) k depth (n - 1) r s i f ∙ not_closed _ depth (n - 1) s less g (λ l h ms. refl)
+    named (wrapped room kinds.Scope j t) k depth n ts r le e ∙ member_is (wrapped room kinds.Scope j t) k depth (n - 1) r s i f ∙ not_ended _ depth (n - 1) s less g (λ l h ms. nested_none room _ (no_third (wrapper_of k) j i t (wrap (room - 1) i) l h ms))
 
 pub code_ended : (k : List ℕ) (room depth n : ℕ) (ts r s q : List Token) (j i : Json) (u : Tree) → length ts ≤ n → read_key ts ≡ Some (Some k, r)
     → is_code_name (wrapper_of k) ≡ true → value depth r ≡ Some (i, s)
-    → length s ≤ n - 1 → closing s ≡ Some (tt, q) → 0 < room
-    → through (wrapping room kinds.Scope j (Some u)) (members (value depth) n ts) ≡ option_map (λ (a : Tree). (a, q)) (with_scope (as_str i) (Some u))
+    → length s ≤ n - 1 → read_key s ≡ Some (None, q) → 0 < room
+    → through (wrapped room kinds.Scope j (Some u)) (members (value depth) n ts) ≡ option_map (λ (a : Tree). (a, q)) (with_scope (as_str i) (Some u))
 code_ended k room depth n ts r s q j i u le e is f less g h =
-    let last : wrapping room kinds.Scope j (Some u) (json.member k i json.no_members) ≡ nested room (with_scope (as_str i) (Some u)) = rw (is_code_is (wrapper_of k) is) refl in
-    named (wrapping room kinds.Scope j (Some u)) k depth n ts r le e ∙ member_is (wrapping room kinds.Scope j (Some u)) k depth (n - 1) r s i f ∙ closed _ depth (n - 1) s q less g
+    let last : wrapped room kinds.Scope j (Some u) (json.member k i json.no_members) ≡ nested room (with_scope (as_str i) (Some u)) = rw (is_code_is (wrapper_of k) is) refl in
+    named (wrapped room kinds.Scope j (Some u)) k depth n ts r le e ∙ member_is (wrapped room kinds.Scope j (Some u)) k depth (n - 1) r s i f ∙ ended _ depth (n - 1) s q less g
     ∙ ap (option_map (λ (a : Tree). (a, q))) (last ∙ nested_is room (with_scope (as_str i) (Some u)) h)
 
 -- ---- code with scope

@@ -13,7 +13,7 @@ use Rattle.std.proofs.lemmas.Int.{ints}
 use Rattle.bd_text.proofs.JsonStringLemmas.{wider}
 use Rattle.bd_wrapper.specs.WholeNumber.{are_digits, fits_bits, whole, whole_64, whole_32}
 use Rattle.bd_wrapper.proofs.WholeNumberLemmas.{own, all_of}
-use Rattle.std.specs.Prelude.{◌||◌}
+use Rattle.std.specs.{Prelude.◌||◌, Option.option_zip, Result.result_ok}
 use Rattle.std.proofs.lemmas.Str.{is_utf8-from_IsUtf8}
 use Rattle.base64.specs.Engines.{standard}
 use Rattle.base64.proofs.EngineFacts.{decode_of-encode_of}
@@ -26,7 +26,7 @@ use Rattle.bd_value.specs.Tree.{code_scope, Items, no_items, item, Fields, no_fi
 use Rattle.bd_value.specs.Fits.{IsId, ScalarFitsType, FitsTypes, ItemsFitTypes, FieldsFitTypes, HasUtf8, has_zero, zero_in_scalar, zero_in, zero_in_items, zero_in_fields}
 use Rattle.bd_value.specs.Limits.{most_brackets, most_levels}
 use Rattle.bd_text.specs.Text.{base64_text, hex_text, text}
-use Rattle.bd_wrapper.specs.Wrapper.{wrapper_of, only, pair, both, ok_of, id_of, data_in, subtype_in, word_in, if_word, name_in}
+use Rattle.bd_wrapper.specs.Wrapper.{wrapper_of, only, pair, id_of, data_in, subtype_in, word_in, if_word, name_in}
 use Rattle.bd_extjson.specs.Read.{add_item, add_field, with_scope, wrap, wrap_items, wrap_object, wrap_fields, json as json_in, document, ReadsAs}
 use Rattle.bd_extjson.specs.Laws.{IsPlainFirst, IsPlain, ArePlainItems, ArePlainFields}
 use Rattle.bd_extjson.proofs.TextLemmas.{utf8-text}
@@ -92,11 +92,11 @@ whole_64-decimal n small =
 
 id_back : (id : List ℕ) → IsId id → id_of (kit.string (hex_text id)) ≡ Some id
 unfolding hex_text
-id_back id is = ap ok_of (decode_sized-encode_lower id 12 is.0 is.1)
+id_back id is = ap result_ok (decode_sized-encode_lower id 12 is.0 is.1)
 
 data_back : (bytes : List ℕ) → IsBytes bytes → data_in (kit.string (base64_text bytes)) ≡ Some bytes
 unfolding base64_text
-data_back bytes are = ap ok_of (decode_of-encode_of standard bytes refl are)
+data_back bytes are = ap result_ok (decode_of-encode_of standard bytes refl are)
 
 subtype_back : (k : ℕ) → k < 256 → subtype_in (kit.string (hex_text (k ∷ []))) ≡ Some k
 unfolding hex_text encode_with
@@ -104,7 +104,7 @@ subtype_back k small =
     let high = IsDigits-lower_digits (k / 16) (omega arith) in
     let low = IsDigits-lower_digits (k % 16) (omega arith) in
     let sum : k / 16 * 16 + k % 16 ≡ k = omega arith in
-    ap₂ (λ a b. option_map (λ p. p.0 * 16 + p.1) (both a b)) high low ∙ ap Some sum
+    ap₂ (λ a b. option_map (λ p. p.0 * 16 + p.1) (option_zip a b)) high low ∙ ap Some sum
 
 word_back : (n : ℕ) → n < 2 ^ 32 → word_in (kit.number (decimal n)) ≡ Some n
 word_back n small =
@@ -119,16 +119,16 @@ unfolding wrapper_of only pair whole
 scalar_back (int32 z) room fits none = ap (λ o. option_map (λ s. leaf s) (option_map (λ y. int32 y) o)) (whole_32-signed z fits)
 scalar_back (int64 z) room fits none = ap (λ o. option_map (λ s. leaf s) (option_map (λ y. int64 y) o)) (whole_64-signed z fits)
 scalar_back (binary k s) room fits none =
-    ap₂ (λ a b. option_map (λ s. leaf s) (option_map (λ p. binary p.1 p.0) (both a b))) (data_back s fits.1) (subtype_back k fits.0)
+    ap₂ (λ a b. option_map (λ s. leaf s) (option_map (λ p. binary p.1 p.0) (option_zip a b))) (data_back s fits.1) (subtype_back k fits.0)
 scalar_back (object_id id) room fits none = ap (λ o. option_map (λ s. leaf s) (option_map (λ b. object_id b) o)) (id_back id fits)
 scalar_back (date z) room fits none = ap (λ o. option_map (λ s. leaf s) (option_map (λ y. date y) o)) (whole_64-signed z fits)
 scalar_back (timestamp s i) room fits none =
-    ap₂ (λ a b. option_map (λ s. leaf s) (option_map (λ p. timestamp p.0 p.1) (both a b))) (word_back s fits.0) (word_back i fits.1)
+    ap₂ (λ a b. option_map (λ s. leaf s) (option_map (λ p. timestamp p.0 p.1) (option_zip a b))) (word_back s fits.0) (word_back i fits.1)
 scalar_back (regex p o) room fits none =
     let parts = or_parts (has_zero p) (has_zero o) none in
-    ap₂ (λ a b. option_map (λ s. leaf s) (option_map (λ p. regex p.0 p.1) (both a b))) (name_back p parts.0) (name_back o parts.1)
+    ap₂ (λ a b. option_map (λ s. leaf s) (option_map (λ p. regex p.0 p.1) (option_zip a b))) (name_back p parts.0) (name_back o parts.1)
 scalar_back (db_pointer s id) room fits none =
-    ap (λ o. option_map (λ s. leaf s) (option_map (λ p. db_pointer p.0 p.1) (both (Some s) o))) (id_back id fits)
+    ap (λ o. option_map (λ s. leaf s) (option_map (λ p. db_pointer p.0 p.1) (option_zip (Some s) o))) (id_back id fits)
 scalar_back _ room fits none = refl
 
 -- ---- a tree

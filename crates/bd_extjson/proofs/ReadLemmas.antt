@@ -20,7 +20,7 @@ use Rattle.bd_value.proofs.ViewLemmas.{tree_of-Doc, tree_of-Array}
 use Rattle.bd_value.specs.declared.document.Value.TheFolds as folds
 use Rattle.bd_value.specs.declared.document.Value.TheVariants as values
 use Rattle.bd_wrapper.specs.WholeNumber.{whole_64}
-use Rattle.bd_wrapper.specs.Wrapper.{wrapper_of, through, after_key, FailsAtTokens, GivesValue, GivesTokens}
+use Rattle.bd_wrapper.specs.Wrapper.{wrapper_of, through, after_key, Fails, Gives}
 use Rattle.bd_wrapper.specs.declared.wrapper.Trouble.{Trouble}
 use Rattle.bd_wrapper.specs.declared.wrapper.Trouble.TheVariants as troubles
 use Rattle.bd_wrapper.specs.declared.wrapper.Wrapper.{Wrapper}
@@ -198,9 +198,13 @@ one_more_field ps k t (Some p) = ap (λ x. Some (x, p.1)) (fields_push ps k t p.
 
 -- ---- what fails
 
-pub fails_by : {A B : Type 0} (e : Trouble) (x : Option A) (y : Option B) → (x ≡ None → y ≡ None) → FailsAtTokens e x → FailsAtTokens e y
+pub fails_by : {A B : Type 0} (e : Trouble) (x : Option A) (y : Option B) → (x ≡ None → y ≡ None) → Fails e x → Fails e y
 fails_by troubles.Memory x y f h = tt
 fails_by troubles.Refused x y f h = f h
+
+pub fails_where : {A : Type 0} (e : Trouble) (x : Option A) → (e ≡ troubles.Refused → x ≡ None) → Fails e x
+fails_where troubles.Memory x f = tt
+fails_where troubles.Refused x f = f refl
 
 pub items_refused : (room depth n : ℕ) (ts : List Token) → after_end_array ts ≡ None → through (wrap room) (value depth ts) ≡ None → through (wrap_items room) (items (value depth) n ts) ≡ None
 unfolding items
@@ -229,8 +233,8 @@ first_name depth ts r key e =
 
 pub object_is_wrapper : {X : Type 0} (view : X → Tree) (result : Result X Trouble) (rest : List Token) (w : Wrapper) (room depth n : ℕ)
     (ts : List Token) (key : Option (List ℕ)) → option_and_then wrapper_of key ≡ Some w
-    → ((name : List ℕ) → wrapper_of name ≡ Some w → GivesTokens view result rest (through (wrap_object room) (after_key depth n (Some name) ts)))
-    → GivesTokens view result rest (through (wrap_object room) (after_key depth n key ts))
+    → ((name : List ℕ) → wrapper_of name ≡ Some w → Gives (λ x. (view x, rest)) result (through (wrap_object room) (after_key depth n (Some name) ts)))
+    → Gives (λ x. (view x, rest)) result (through (wrap_object room) (after_key depth n key ts))
 object_is_wrapper view result rest w room depth n ts None e f = absurd cc
 object_is_wrapper view result rest w room depth n ts (Some name) e f = f name e
 
@@ -263,7 +267,7 @@ pub read_null : (room depth : ℕ) (rest : List Token) → through (wrap room) (
 read_null room depth rest = ap (through (wrap room)) (value_is depth (Token.null ∷ rest))
 
 pub told : {X A : Type 0} (view : X → A) (result : Result X Trouble) (rest : List Token) (o : Option A) (read : Option (A × List Token))
-    → read ≡ option_map (λ (a : A). (a, rest)) o → GivesValue view result o → GivesTokens view result rest read
+    → read ≡ option_map (λ (a : A). (a, rest)) o → Gives view result o → Gives (λ x. (view x, rest)) result read
 told view (Ok x) rest o read e t = e ∙ ap (option_map (λ a. (a, rest))) t
 told view (Err troubles.Memory) rest o read e t = tt
 told view (Err troubles.Refused) rest o read e t = e ∙ ap (option_map (λ a. (a, rest))) t

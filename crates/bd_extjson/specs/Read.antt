@@ -1,6 +1,6 @@
 -- Which document a text is (Extended JSON v2, canonical form, and bare whole numbers): which value a JSON value stands for.
 use Rattle.std.specs.Prelude.{◌≡◌, ℕ, zero, suc, ◌-◌, ℤ, List, if◌then◌else◌, Option, Some, None, option_map, option_and_then}
-use Rattle.std.specs.Str.{is_utf8}
+use Rattle.std.specs.{Option.option_map_or, Str.is_utf8}
 use Rattle.json.specs.{Find.as_str, Json.Json, Json.value, Json.if_last, Lex.tokens}
 use Rattle.json.specs.Json as kit
 use Rattle.bd_value.specs.{Limits.most_brackets, Limits.most_levels, Fits.has_zero}
@@ -33,31 +33,11 @@ abbrev pub with_scope : Option (List ℕ) → Option Tree → Option Tree
 with_scope (Some s) (Some (doc fs)) = Some (code_scope s fs)
 with_scope _ _ = None
 
--- an object of two members, the first of which is a wrapper's: `$code` and `$scope`, in either order
-abbrev pub two : Wrapper → Json → Option Tree → Wrapper → Json → Option Tree → Option Tree
-two kinds.Code j t kinds.Scope i u = with_scope (as_str j) u
-two kinds.Scope j t kinds.Code i u = with_scope (as_str i) t
-two _ j t _ i u = None
-
--- what stands after the first member: a member's wrapper, its JSON value and the value that it stands for
-pub data AfterName : Type 0 where
-  nothing : AfterName
-  one_more : Option Wrapper → Json → Option Tree → AfterName
-  several : AfterName
-
-abbrev pub after_one : Option Wrapper → Json → Option Tree → kit.Members → AfterName
-after_one w i u kit.no_members = one_more w i u
-after_one w i u (kit.member name j ms) = several
-
-abbrev pub wrapper_tree : ℕ → Wrapper → Json → Option Tree → AfterName → Option Tree
-wrapper_tree room w j t nothing = option_map leaf (single w j)
-wrapper_tree room w j t (one_more (Some v) i u) = nested room (two w j t v i u)
-wrapper_tree room w j t _ = None
-
--- the wrapper's value where the first name is one's, and else the document's
-abbrev pub either : ℕ → Option Wrapper → Json → Option Tree → AfterName → Option Tree → Option Tree
-either room None j t b d = d
-either room (Some w) j t b d = wrapper_tree room w j t b
+-- an object of `$code` and `$scope`, in either order: of each its wrapper, its JSON value and what that stands for
+abbrev pub two : Wrapper → Json → Option Tree → Option Wrapper → Json → Option Tree → kit.Members → Option Tree
+two kinds.Code j t (Some kinds.Scope) i u kit.no_members = with_scope (as_str j) u
+two kinds.Scope j t (Some kinds.Code) i u kit.no_members = with_scope (as_str i) t
+two _ j t _ i u _ = None
 
 abbrev mutual
   pub wrap : ℕ → Json → Option Tree
@@ -74,13 +54,13 @@ abbrev mutual
 
   pub wrap_object : ℕ → kit.Members → Option Tree
   wrap_object room kit.no_members = nested room (Some (doc no_fields))
-  wrap_object room (kit.member name j ms) = either room (wrapper_of name) j (wrap (room - 1) j) (after (room - 1) ms)
-      (nested room (option_map doc (add_field name (wrap (room - 1) j) (wrap_fields (room - 1) ms))))
+  wrap_object room (kit.member n j ms) = option_map_or (λ w. wrapped room w j (wrap (room - 1) j) ms) (wrapper_of n)
+      (nested room (option_map doc (add_field n (wrap (room - 1) j) (wrap_fields (room - 1) ms))))
 
-  -- for a wrapper's second member
-  pub after : ℕ → kit.Members → AfterName
-  after room kit.no_members = nothing
-  after room (kit.member name i ms) = after_one (wrapper_of name) i (wrap room i) ms
+  -- a wrapper's object, of its first member and the others
+  pub wrapped : ℕ → Wrapper → Json → Option Tree → kit.Members → Option Tree
+  wrapped room w j t kit.no_members = option_map leaf (single w j)
+  wrapped room w j t (kit.member name i ms) = nested room (two w j t (wrapper_of name) i (wrap (room - 1) i) ms)
 
   pub wrap_fields : ℕ → kit.Members → Option Fields
   wrap_fields room kit.no_members = Some no_fields

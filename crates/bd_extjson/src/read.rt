@@ -1,8 +1,8 @@
 //! The document that a text is: read from its tokens, in one pass.
-ghost use Rattle.std.specs.Prelude.{◌≡◌, ◌≢◌, ◌<◌, ◌≤◌, ◌-◌, ℕ, List, length, map, Option, Some, option_map, option_and_then, Err, IfOk, IfErr, OnOk};
+ghost use Rattle.std.specs.Prelude.{◌≡◌, ◌≢◌, ◌<◌, ◌≤◌, ◌-◌, ℕ, List, length, map, Option, Some, None, option_map, option_and_then, Err, IfOk, IfErr, OnOk};
 ghost use Rattle.std.specs.Str.{IsUtf8};
 ghost use Rattle.json.specs.Find.{as_str};
-ghost use Rattle.json.specs.Json.{Json, value, items, members};
+ghost use Rattle.json.specs.{Json.Json, Json.value, Json.items, Json.members, Json.read_key, Token.Token as JsonToken};
 ghost use Rattle.json.specs.Value.{value_view};
 ghost use Rattle.bd_value.specs.Limits.{most_levels};
 ghost use Rattle.bd_value.specs.Tree.{Doc, Tree, pairs_of, fields_of, items_of};
@@ -10,10 +10,10 @@ ghost use Rattle.bd_value.specs.View.{tree_of, pairs};
 ghost use Rattle.bd_diagnose.specs.JsonFault.{IsPlaced, TellsBadUtf8};
 ghost use Rattle.bd_diagnose.specs.declared.json_fault.JsonFaultKind.TheVariants as faults;
 ghost use Rattle.bd_wrapper.specs.WholeNumber.{whole_64};
-ghost use Rattle.bd_wrapper.specs.Wrapper.{wrapper_of, through, after_key, closing, FailsAtTokens, GivesTokens, GivesValue};
+ghost use Rattle.bd_wrapper.specs.Wrapper.{wrapper_of, through, after_key, Fails, Gives};
 ghost use Rattle.bd_wrapper.specs.declared.wrapper.Trouble.TheVariants as troubles;
 ghost use Rattle.bd_wrapper.specs.declared.wrapper.Wrapper.TheVariants as kinds;
-ghost use Rattle.bd_extjson.specs.Read.{ReadsAs, json, reading, document, bare_number, with_scope, wrapper_tree, wrap, wrap_items, wrap_object, wrap_fields, after};
+ghost use Rattle.bd_extjson.specs.Read.{ReadsAs, json, reading, document, bare_number, with_scope, wrap, wrap_items, wrap_object, wrapped, wrap_fields};
 
 use bd_diagnose::{JsonFault, JsonFaultKind, diagnose};
 use bd_value::{Document, MOST_BRACKETS, MOST_LEVELS, Value, has_zero};
@@ -64,7 +64,7 @@ pub fn read_doc_with(
 }
 
 fn read_bytes(alloc: Global, text: &[u8], scratch: &mut Scratch) -> Read<Document>
-    ensures gives { GivesValue pairs result (reading text.now) }
+    ensures gives { Gives pairs result (reading text.now) }
     ensures utf8 { ¬ (IsUtf8 text.now) → result ≡ Err troubles.Refused }
 {
     let text = match simdutf8::compat::from_utf8(text) {
@@ -76,7 +76,7 @@ fn read_bytes(alloc: Global, text: &[u8], scratch: &mut Scratch) -> Read<Documen
 }
 
 fn read_text(alloc: Global, text: &str, scratch: &mut Scratch) -> Read<Value>
-    ensures { GivesValue tree_of result (option_and_then (wrap most_levels) (json text.now)) }
+    ensures { Gives tree_of result (option_and_then (wrap most_levels) (json text.now)) }
 {
     let mut reader = Reader::new(text, scratch)?;
     let value = read_value(alloc, &mut reader, MOST_LEVELS, MOST_BRACKETS)?;
@@ -101,7 +101,7 @@ fn document_of(value: Value) -> Option<Document>
 #[cycle(reading)]
 #[tactic(auto, using(crate::proofs::ReadLemmas::value_steps))]
 fn read_value(alloc: Global, reader: &mut Reader<'_>, room: usize, depth: usize) -> Read<Value>
-    ensures gives { GivesTokens tree_of result reader.new (through (wrap room) (value depth reader.old)) }
+    ensures gives { Gives (λ v. (tree_of v, reader.new)) result (through (wrap room) (value depth reader.old)) }
     ensures shorter { OnOk result (length reader.new < length reader.old) }
 {
     let token = reader.next().ok_or(Trouble::Refused)?;
@@ -132,7 +132,7 @@ fn read_value(alloc: Global, reader: &mut Reader<'_>, room: usize, depth: usize)
 #[cycle(reading)]
 #[tactic(auto, using(crate::proofs::ReadLemmas::items_steps))]
 fn read_items(alloc: Global, reader: &mut Reader<'_>, room: usize, depth: usize) -> Read<Vec<Value>>
-    ensures gives { GivesTokens (λ v. items_of (map tree_of v.items)) result reader.new
+    ensures gives { Gives (λ v. (items_of (map tree_of v.items), reader.new)) result
         (through (wrap_items room) (items (value depth) (length reader.old) reader.old)) }
     ensures shorter { OnOk result (length reader.new < length reader.old) }
 {
@@ -148,7 +148,7 @@ fn read_items(alloc: Global, reader: &mut Reader<'_>, room: usize, depth: usize)
 #[cycle(reading)]
 #[tactic(auto, using(crate::proofs::ReadLemmas::object_steps))]
 fn read_object(alloc: Global, reader: &mut Reader<'_>, room: usize, depth: usize) -> Read<Value>
-    ensures gives { GivesTokens tree_of result reader.new
+    ensures gives { Gives (λ v. (tree_of v, reader.new)) result
         (through (wrap_object room) (members (value depth) (length reader.old) reader.old)) }
     ensures shorter { OnOk result (length reader.new < length reader.old) }
 {
@@ -172,7 +172,7 @@ fn read_fields<'a>(
     room: usize,
     depth: usize,
 ) -> Read<Document>
-    ensures gives { GivesTokens (λ d. fields_of (pairs d)) result reader.new
+    ensures gives { Gives (λ d. (fields_of (pairs d), reader.new)) result
         (through (wrap_fields room) (after_key depth (length reader.old) (option_map (λ s. s.now) first.entry) reader.old)) }
     ensures shorter { OnOk result (length reader.new ≤ length reader.old) }
 {
@@ -209,7 +209,7 @@ pub fn read_wrapper(
     room: usize,
     depth: usize,
 ) -> Result<Value, Trouble>
-    ensures gives { (name : List ℕ) → wrapper_of name ≡ Some wrapper → GivesTokens tree_of result reader.new
+    ensures gives { (name : List ℕ) → wrapper_of name ≡ Some wrapper → Gives (λ v. (tree_of v, reader.new)) result
         (through (wrap_object room) (after_key depth (length reader.old) (Some name) reader.old)) }
     ensures shorter { OnOk result (length reader.new < length reader.old) }
 {
@@ -236,8 +236,8 @@ fn read_scope_second(
     room: usize,
     depth: usize,
 ) -> Read<Value>
-    ensures gives { (n : ℕ) (t : Option Tree) → length reader.old ≤ n → GivesTokens tree_of result reader.new
-        (through (λ ms. wrapper_tree room kinds.Code (value_view code.now) t (after (room - 1) ms)) (after_key depth n (Some second.now) reader.old)) }
+    ensures gives { (n : ℕ) (t : Option Tree) → length reader.old ≤ n → Gives (λ v. (tree_of v, reader.new)) result
+        (through (wrapped room kinds.Code (value_view code.now) t) (after_key depth n (Some second.now) reader.old)) }
     ensures shorter { OnOk result (length reader.new < length reader.old) }
 {
     if room == 0 {
@@ -259,7 +259,7 @@ fn read_scope_first(
     room: usize,
     depth: usize,
 ) -> Read<Value>
-    ensures gives { (name : List ℕ) → wrapper_of name ≡ Some kinds.Scope → GivesTokens tree_of result reader.new
+    ensures gives { (name : List ℕ) → wrapper_of name ≡ Some kinds.Scope → Gives (λ v. (tree_of v, reader.new)) result
         (through (wrap_object room) (after_key depth (length reader.old) (Some name) reader.old)) }
     ensures shorter { OnOk result (length reader.new < length reader.old) }
 {
@@ -277,10 +277,10 @@ fn read_scope_first(
 /// The code that follows such a scope, and the brace that ends the object.
 fn read_code<'a>(alloc: Global, reader: &mut Reader<'a>, depth: usize) -> Read<json::Value<'a>>
     ensures code { IfOk result (λ code. (n room : ℕ) (j : Json) (u : Tree) → length reader.old ≤ n → 0 < room →
-        through (λ ms. wrapper_tree room kinds.Scope j (Some u) (after (room - 1) ms)) (members (value depth) n reader.old)
+        through (wrapped room kinds.Scope j (Some u)) (members (value depth) n reader.old)
         ≡ option_map (λ t. (t, reader.new)) (with_scope (as_str (value_view code)) (Some u))) }
     ensures none { IfErr result (λ e. (n room : ℕ) (j : Json) (t : Option Tree) → length reader.old ≤ n →
-        FailsAtTokens e (through (λ ms. wrapper_tree room kinds.Scope j t (after (room - 1) ms)) (members (value depth) n reader.old))) }
+        Fails e (through (wrapped room kinds.Scope j t) (members (value depth) n reader.old))) }
     ensures shorter { OnOk result (length reader.new < length reader.old) }
 {
     let Some(second) = reader.next_key()? else {
@@ -297,7 +297,7 @@ fn read_code<'a>(alloc: Global, reader: &mut Reader<'a>, depth: usize) -> Read<j
 /// Code with scope, of the JSON that stands after `$code` and the value that stands after `$scope`.
 #[tactic(auto, using(crate::proofs::MemberLemmas::scope_steps))]
 fn code_with_scope(alloc: Global, code: &json::Value<'_>, scope: Value) -> Read<Value>
-    ensures { GivesValue tree_of result (with_scope (as_str (value_view code.now)) (Some (tree_of scope))) }
+    ensures { Gives tree_of result (with_scope (as_str (value_view code.now)) (Some (tree_of scope))) }
 {
     let text = code.as_str().ok_or(Trouble::Refused)?;
     let scope = document_of(scope).ok_or(Trouble::Refused)?;
@@ -306,7 +306,7 @@ fn code_with_scope(alloc: Global, code: &json::Value<'_>, scope: Value) -> Read<
 
 /// One JSON value, as it stands in a wrapper.
 fn read_part<'a>(alloc: Global, reader: &mut Reader<'a>, depth: usize) -> Read<json::Value<'a>>
-    ensures gives { GivesTokens value_view result reader.new (value depth reader.old) }
+    ensures gives { Gives (λ v. (value_view v, reader.new)) result (value depth reader.old) }
     ensures shorter { OnOk result (length reader.new < length reader.old) }
 {
     match json::Value::read(alloc, reader, depth) {
@@ -318,7 +318,8 @@ fn read_part<'a>(alloc: Global, reader: &mut Reader<'a>, depth: usize) -> Read<j
 
 /// The brace that ends an object.
 fn end_object(reader: &mut Reader<'_>) -> Read<()>
-    ensures gives { GivesTokens (λ u. u) result reader.new (closing reader.old) }
+    ensures ended { OnOk result (read_key reader.old ≡ Some (None, reader.new)) }
+    ensures refused { IfErr result (λ e. e ≡ troubles.Refused → (r : List JsonToken) → read_key reader.old ≢ Some (None, r)) }
     ensures shorter { OnOk result (length reader.new < length reader.old) }
 {
     match reader.next_key()? {

@@ -8,7 +8,7 @@ use Rattle.json.specs.{Token.Token, Json.parse_map, Json.Json, Json.members, Jso
 use Rattle.bd_value.specs.Tree.{Tree, Items, Fields, Doc, fields_of, items_of, Scalar, leaf}
 use Rattle.bd_raw.specs.{Unique.number_length, Spelling.number, Spelling.framed, Spelling.element}
 use Rattle.bd_write.specs.TreeBytes.{bytes_of, fields_bytes, items_bytes}
-use Rattle.bd_wrapper.specs.{Wrapper.GivesTokens, Wrapper.through, Wrapper.after_key, Wrapper.wrapper_of, Wrapper.single, Wrapper.only}
+use Rattle.bd_wrapper.specs.{Wrapper.Gives, Wrapper.through, Wrapper.after_key, Wrapper.wrapper_of, Wrapper.single, Wrapper.only}
 use Rattle.bd_wrapper.specs.{declared.wrapper.Trouble.Trouble, WholeNumber.fits_bits, WholeNumber.if_fits, WholeNumber.whole, WholeNumber.whole_32, WholeNumber.whole_64}
 use Rattle.bd_wrapper.specs.declared.wrapper.Wrapper.{Wrapper}
 use Rattle.bd_extjson.proofs.ReadLemmas.{items_before, fields_before, first_name}
@@ -80,7 +80,7 @@ no_items_before None = refl
 no_items_before (Some p) = refl
 
 pub gave : {X A : Type 0} (view : X → A) (r : Result X Trouble) (x : X) (rest : List Token) (read : Option (A × List Token)) → Some x ≡ result_ok r
-    → GivesTokens view r rest read → read ≡ Some (view x, rest)
+    → Gives (λ x. (view x, rest)) r read → read ≡ Some (view x, rest)
 gave view (Ok y) x rest read e g = let is : x ≡ y = cc in g ∙ ap (λ z. Some (view z, rest)) (sym is)
 gave view (Err f) x rest read e g = absurd cc
 
@@ -102,10 +102,10 @@ unwrapped room depth first w j ts rest named read less =
     ∙ of_members.ended (λ ms. wrap_object room (json.member first j ms)) depth (length ts) (Token.end_object ∷ rest) rest less refl
     ∙ rw named refl
 
-pub string_gives : (room depth : ℕ) (first : List ℕ) (w v : Wrapper) (s : List ℕ) (x : Scalar) (ts rest : List Token) → wrapper_of first ≡ Some w
-    → w ≡ v → ts ≡ Token.string s ∷ Token.end_object ∷ rest
-    → single v (json.string s) ≡ Some x → through (wrap_object room) (after_key depth (length ts) (Some first) ts) ≡ Some (leaf x, rest)
-string_gives room depth first w v s x ts rest named same is stands =
+pub string_gives : (depth : ℕ) (w v : Wrapper) (s : List ℕ) (x : Scalar) (ts rest : List Token) → w ≡ v → ts ≡ Token.string s ∷ Token.end_object ∷ rest
+    → single v (json.string s) ≡ Some x
+    → (room : ℕ) (first : List ℕ) → wrapper_of first ≡ Some w → through (wrap_object room) (after_key depth (length ts) (Some first) ts) ≡ Some (leaf x, rest)
+string_gives depth w v s x ts rest same is stands room first named =
     rw is
     (unwrapped room depth first v (json.string s) (Token.string s ∷ Token.end_object ∷ rest) rest (named ∙ ap Some same) (value_is depth (Token.string s ∷ Token.end_object ∷ rest)) (omega arith)
     ∙ ap (λ o. option_map (λ (a : Tree). (a, rest)) (option_map leaf o)) stands)
@@ -125,10 +125,10 @@ dated : (s : List ℕ) → single kinds.Date (json.object (json.member (codes "$
 unfolding only
 dated s = refl
 
-pub date_gives : (room depth : ℕ) (first : List ℕ) (w : Wrapper) (s : List ℕ) (x : Scalar) (ts rest : List Token) → 0 < depth → wrapper_of first ≡ Some w → w ≡ kinds.Date
+pub date_gives : (depth : ℕ) (w : Wrapper) (s : List ℕ) (x : Scalar) (ts rest : List Token) → 0 < depth → w ≡ kinds.Date
     → ts ≡ Token.begin_object ∷ Token.key (codes "$numberLong") ∷ Token.string s ∷ Token.end_object ∷ Token.end_object ∷ rest → option_map (λ z. trees.date z) (whole_64 s) ≡ Some x
-    → through (wrap_object room) (after_key depth (length ts) (Some first) ts) ≡ Some (leaf x, rest)
-date_gives room depth first w s x ts rest some named same is stands =
+    → (room : ℕ) (first : List ℕ) → wrapper_of first ≡ Some w → through (wrap_object room) (after_key depth (length ts) (Some first) ts) ≡ Some (leaf x, rest)
+date_gives depth w s x ts rest some same is stands room first named =
     let name = codes "$numberLong" in
     let whole : List Token = Token.begin_object ∷ Token.key name ∷ Token.string s ∷ Token.end_object ∷ Token.end_object ∷ rest in
     rw is

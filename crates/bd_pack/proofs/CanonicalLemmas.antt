@@ -13,7 +13,8 @@ use Rattle.bd_value.specs.Tree as trees
 use Rattle.bd_value.specs.Tree.{Scalar, Tree, leaf, doc, array, code_scope, Items, Fields, item, field, Doc, fields_of, items_of}
 use Rattle.bd_raw.specs.Spelling.{element, string}
 use Rattle.bd_write.specs.TreeBytes.{bytes_of}
-use Rattle.bd_wrapper.specs.Wrapper.{wrapper_of, ok_of}
+use Rattle.std.specs.Result.{result_ok}
+use Rattle.bd_wrapper.specs.Wrapper.{wrapper_of}
 use Rattle.bd_extjson.specs.{Laws.IsPlainFirst, Laws.ArePlainFields, Laws.ArePlainItems, Read.ReadsAs}
 use Rattle.bd_text.specs.Text.{needs_escape, escape_byte, escaped, quoted, hex_text, base64_text, scalar_text, member, text, items_text, fields_text}
 use Rattle.std.proofs.{lemmas.Bool.or_parts, lemmas.Bool.or_from, lemmas.Bool.and_parts, lemmas.Bool.cases_lt, lemmas.List.Sums.prefix_len-le-length}
@@ -282,11 +283,11 @@ unfolding hex_text
 hex_is (Ok _) digits written bytes well hex same = (bytes_eq-Decides digits written).0 same ∙ hex
 hex_is (Err _) digits written bytes well hex same = absurd cc
 
-was_ok : (r : Result (List ℕ) FromHexError) (x : List ℕ) → Some x ≡ ok_of r → r ≡ Ok x
+was_ok : (r : Result (List ℕ) FromHexError) (x : List ℕ) → Some x ≡ result_ok r → r ≡ Ok x
 was_ok (Ok y) x e = cc
 was_ok (Err f) x e = absurd cc
 
-pub id_fits : (s bytes : List ℕ) → Some bytes ≡ ok_of (decode_sized s 12) → IsId bytes
+pub id_fits : (s bytes : List ℕ) → Some bytes ≡ result_ok (decode_sized s 12) → IsId bytes
 id_fits s bytes e =
     let whole = was_ok (decode_sized s 12) bytes e in
     let size = decode_sized-ok s 12 bytes whole in

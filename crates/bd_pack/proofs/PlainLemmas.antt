@@ -1,18 +1,18 @@
 -- What is read of a text can be written: it nests 200 levels at most, and no name and no text of a regular expression has
 -- a zero.
 use Rattle.std.proofs.Common.{◌≡◌, ◌≤◌, ℕ, zero, suc, ◌-◌, ℤ, List, Bool, true, false, ◌||◌, Option, Some, None, refl, sym, ap, ◌∙◌, arith}
-use Rattle.std.specs.Prelude.{codes, option_map, option_and_then}
+use Rattle.std.specs.Prelude.{codes, option_map, option_and_then, unwrap_or, if◌then◌else◌}
+use Rattle.std.specs.Option.{option_map_or, option_zip}
 use Rattle.std.proofs.lemmas.Bool.{cond_both, or_from}
 use Rattle.bd_value.specs.{Limits.most_levels, Fits.has_zero, Fits.zero_in, Fits.zero_in_scalar, Fits.zero_in_fields, Fits.zero_in_items}
 use Rattle.bd_value.specs.Tree.{depth, fields_depth, items_depth}
 use Rattle.bd_value.specs.Tree.{Scalar, Tree, leaf, doc, array, code_scope, Items, no_items, item, Fields, no_fields, field, Doc, fields_of, pairs_of, fields_of-pairs_of}
-use Rattle.json.specs.{Token.Token, Json.Json, Find.as_str}
+use Rattle.json.specs.{Token.Token, Json.Json, Find.as_bool, Find.as_str}
 use Rattle.json.specs.Json as json
 use Rattle.bd_value.specs.Tree as trees
 use Rattle.bd_wrapper.specs.{WholeNumber.fits_bits, WholeNumber.whole_64, WholeNumber.whole_32, Wrapper.through, declared.wrapper.Wrapper.Wrapper}
-use Rattle.bd_wrapper.specs.Wrapper.{wrapper_of, single, name_in, both, both_in, pair, id_of, data_in, subtype_in, word_in, only, long_in, one, is_true, if_no_zero, if_true}
-use Rattle.bd_extjson.specs.Read.{wrap, wrap_items, wrap_object, wrap_fields, after, after_one, AfterName, nothing, one_more, several, bare_number, nested, add_item}
-use Rattle.bd_extjson.specs.Read.{add_field, with_scope, two, wrapper_tree, either, ReadsAs, document}
+use Rattle.bd_wrapper.specs.Wrapper.{wrapper_of, single, name_in, both_in, pair, id_of, data_in, subtype_in, word_in, only, long_in, one}
+use Rattle.bd_extjson.specs.Read.{wrap, wrap_items, wrap_object, wrapped, wrap_fields, bare_number, nested, add_item, add_field, with_scope, two, ReadsAs, document}
 use Rattle.bd_extjson.specs.Read as reads
 use Rattle.bd_wrapper.specs.declared.wrapper.Wrapper.TheVariants as kinds
 
@@ -29,11 +29,6 @@ abbrev AreFields : ℕ → Option Fields → Type 0
 AreFields room None = Unit {0}
 AreFields room (Some fs) = (fields_depth fs ≤ room) × (zero_in_fields fs ≡ false)
 
-abbrev IsAfter : ℕ → AfterName → Type 0
-IsAfter room nothing = Unit {0}
-IsAfter room (one_more w i u) = IsTree room u
-IsAfter room several = Unit {0}
-
 -- ---- scalars
 
 abbrev IsScalar : Option Scalar → Type 0
@@ -48,17 +43,17 @@ abbrev HasNone : Option (List ℕ) → Type 0
 HasNone None = Unit {0}
 HasNone (Some s) = has_zero s ≡ false
 
-none_in : (s : List ℕ) → HasNone (if_no_zero s)
+none_in : (s : List ℕ) → HasNone (if has_zero s then None else Some s)
 none_in s = cond_both (has_zero s) None (Some s) HasNone (λ e. tt) (λ e. e)
 
 name_plain : (j : Json) → HasNone (name_in j)
 name_plain j = go (as_str j)
   where
-    go : (o : Option (List ℕ)) → HasNone (option_and_then if_no_zero o)
+    go : (o : Option (List ℕ)) → HasNone (option_and_then (λ s. if has_zero s then None else Some s) o)
     go None = tt
     go (Some s) = none_in s
 
-regex_plain : (a b : Option (List ℕ)) → HasNone a → HasNone b → IsScalar (option_map (λ p. trees.regex p.0 p.1) (both a b))
+regex_plain : (a b : Option (List ℕ)) → HasNone a → HasNone b → IsScalar (option_map (λ p. trees.regex p.0 p.1) (option_zip a b))
 regex_plain (Some s) (Some t) p q = or_from (has_zero s) (has_zero t) p q
 regex_plain _ _ p q = tt
 
@@ -66,13 +61,13 @@ pair_plain : (o : Option (Json × Json)) → IsScalar (option_map (λ p. trees.r
 pair_plain None = tt
 pair_plain (Some p) = regex_plain (name_in p.0) (name_in p.1) (name_plain p.0) (name_plain p.1)
 
-true_plain : (b : Bool) (s : Scalar) → zero_in_scalar s ≡ false → IsScalar (if_true b s)
+true_plain : (b : Bool) (s : Scalar) → zero_in_scalar s ≡ false → IsScalar (if b then Some s else None)
 true_plain true s h = h
 true_plain false s h = tt
 
 single_plain : (w : Wrapper) (j : Json) → IsScalar (single w j)
 single_plain kinds.NumberInt j = mapped (λ z. trees.int32 z) (λ z. refl) (option_and_then whole_32 (as_str j))
-single_plain kinds.NumberLong j = mapped (λ z. trees.int64 z) (λ z. refl) (option_and_then whole_64 (as_str j))
+single_plain kinds.NumberLong j = mapped (λ z. trees.int64 z) (λ z. refl) (long_in j)
 single_plain kinds.Oid j = mapped (λ b. trees.object_id b) (λ b. refl) (id_of j)
 single_plain kinds.Symbol j = mapped (λ s. trees.symbol s) (λ s. refl) (as_str j)
 single_plain kinds.Binary j = mapped (λ (p : List ℕ × ℕ). trees.binary p.1 p.0) (λ p. refl) (option_and_then (both_in data_in subtype_in) (pair (codes "base64") (codes "subType") j))
@@ -81,10 +76,10 @@ single_plain kinds.Timestamp j = mapped (λ (p : ℕ × ℕ). trees.timestamp p.
 single_plain kinds.RegularExpression j = pair_plain (pair (codes "pattern") (codes "options") j)
 single_plain kinds.DbPointer j = mapped (λ (p : List ℕ × List ℕ). trees.db_pointer p.0 p.1) (λ p. refl)
     (option_and_then (both_in as_str (λ i. option_and_then id_of (only (codes "$oid") i))) (pair (codes "$ref") (codes "$id") j))
-single_plain kinds.Date j = mapped (λ z. trees.date z) (λ z. refl) (long_in (only (codes "$numberLong") j))
+single_plain kinds.Date j = mapped (λ z. trees.date z) (λ z. refl) (option_and_then long_in (only (codes "$numberLong") j))
 single_plain kinds.MinKey j = true_plain (one j) trees.min_key refl
 single_plain kinds.MaxKey j = true_plain (one j) trees.max_key refl
-single_plain kinds.Undefined j = true_plain (is_true j) trees.undefined refl
+single_plain kinds.Undefined j = true_plain (unwrap_or (as_bool j) false) trees.undefined refl
 single_plain _ j = tt
 
 leaf_plain : (room : ℕ) (o : Option Scalar) → IsScalar o → IsTree room (option_map leaf o)
@@ -123,30 +118,18 @@ scope_plain : (room : ℕ) (s : Option (List ℕ)) (t : Option Tree) → IsTree 
 scope_plain (suc room) (Some s) (Some (doc fs)) p = (let a = p.0 in omega arith, p.1)
 scope_plain _ _ _ p = tt
 
-none_plain : (room : ℕ) → IsTree room (nested room None)
-none_plain zero = tt
-none_plain (suc room) = tt
+two_plain : (room : ℕ) (w : Wrapper) (j : Json) (t : Option Tree) (v : Option Wrapper) (i : Json) (u : Option Tree) (ms : json.Members)
+    → IsTree (room - 1) t → IsTree (room - 1) u → IsTree room (nested room (two w j t v i u ms))
+two_plain room kinds.Code j t (Some kinds.Scope) i u json.no_members p q = scope_plain room (as_str j) u q
+two_plain room kinds.Scope j t (Some kinds.Code) i u json.no_members p q = scope_plain room (as_str i) t p
+two_plain zero _ j t _ i u _ p q = tt
+two_plain (suc room) _ j t _ i u _ p q = tt
 
-two_plain : (room : ℕ) (w : Wrapper) (j : Json) (t : Option Tree) (v : Wrapper) (i : Json) (u : Option Tree) → IsTree (room - 1) t → IsTree (room - 1) u → IsTree room (nested room (two w j t v i u))
-two_plain room kinds.Code j t kinds.Scope i u p q = scope_plain room (as_str j) u q
-two_plain room kinds.Scope j t kinds.Code i u p q = scope_plain room (as_str i) t p
-two_plain room _ j t _ i u p q = none_plain room
-
-wrapped_plain : (room : ℕ) (w : Wrapper) (j : Json) (t : Option Tree) (b : AfterName) → IsTree (room - 1) t → IsAfter (room - 1) b → IsTree room (wrapper_tree room w j t b)
-wrapped_plain room w j t nothing p q = leaf_plain room (single w j) (single_plain w j)
-wrapped_plain room w j t (one_more (Some v) i u) p q = two_plain room w j t v i u p q
-wrapped_plain room w j t _ p q = tt
-
-either_plain : (room : ℕ) (o : Option Wrapper) (j : Json) (t : Option Tree) (b : AfterName) (d : Option Tree) → IsTree (room - 1) t
-    → IsAfter (room - 1) b → IsTree room d → IsTree room (either room o j t b d)
-either_plain room None j t b d p q r = r
-either_plain room (Some w) j t b d p q r = wrapped_plain room w j t b p q
+either_plain : (room : ℕ) (o : Option Wrapper) (f : Wrapper → Option Tree) (d : Option Tree) → ((w : Wrapper) → IsTree room (f w)) → IsTree room d → IsTree room (option_map_or f o d)
+either_plain room None f d p q = q
+either_plain room (Some w) f d p q = p w
 
 -- ---- values
-
-after_one_plain : (room : ℕ) (w : Option Wrapper) (i : Json) (u : Option Tree) (ms : json.Members) → IsTree room u → IsAfter room (after_one w i u ms)
-after_one_plain room w i u json.no_members p = p
-after_one_plain room w i u (json.member name j ms) p = tt
 
 mutual
   wrap_plain : (room : ℕ) (j : Json) → IsTree room (wrap room j)
@@ -164,14 +147,14 @@ mutual
   wrap_object_plain : (room : ℕ) (ms : json.Members) → IsTree room (wrap_object room ms)
   wrap_object_plain room json.no_members = doc_plain room (Some no_fields) (omega arith, refl)
   wrap_object_plain room (json.member name j ms) =
-      either_plain room (wrapper_of name) j (wrap (room - 1) j) (after (room - 1) ms) (nested room (option_map doc (add_field name (wrap (room - 1) j) (wrap_fields (room - 1) ms))))
-      (wrap_plain (room - 1) j) (after_plain (room - 1) ms)
+      either_plain room (wrapper_of name) (λ w. wrapped room w j (wrap (room - 1) j) ms) (nested room (option_map doc (add_field name (wrap (room - 1) j) (wrap_fields (room - 1) ms))))
+      (λ w. wrapped_plain room w j (wrap (room - 1) j) ms (wrap_plain (room - 1) j))
       (doc_plain room (add_field name (wrap (room - 1) j) (wrap_fields (room - 1) ms))
       (field_plain (room - 1) name (wrap (room - 1) j) (wrap_fields (room - 1) ms) (wrap_plain (room - 1) j) (wrap_fields_plain (room - 1) ms)))
 
-  after_plain : (room : ℕ) (ms : json.Members) → IsAfter room (after room ms)
-  after_plain room json.no_members = tt
-  after_plain room (json.member name i ms) = after_one_plain room (wrapper_of name) i (wrap room i) ms (wrap_plain room i)
+  wrapped_plain : (room : ℕ) (w : Wrapper) (j : Json) (t : Option Tree) (ms : json.Members) → IsTree (room - 1) t → IsTree room (wrapped room w j t ms)
+  wrapped_plain room w j t json.no_members p = leaf_plain room (single w j) (single_plain w j)
+  wrapped_plain room w j t (json.member name i ms) p = two_plain room w j t (wrapper_of name) i (wrap (room - 1) i) ms p (wrap_plain (room - 1) i)
 
   wrap_fields_plain : (room : ℕ) (ms : json.Members) → AreFields room (wrap_fields room ms)
   wrap_fields_plain room json.no_members = (omega arith, refl)

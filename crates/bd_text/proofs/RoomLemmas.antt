@@ -1,9 +1,10 @@
 -- Text that is written into place: what the first bytes are after a write, and that those before it stay.
-use Rattle.std.proofs.Common.{◌≡◌, ℕ, ◌+◌, ◌-◌, ◌≤◌, Bool, false, List, [], ◌∷◌, ◌++◌, length, take, drop, refl, sym, ap, ap₂, ◌∙◌, arith, append_assoc, append-nil}
+use Rattle.std.proofs.Common.{◌≡◌, ℕ, ◌+◌, ◌-◌, ◌<◌, ◌≤◌, Bool, false, List, [], ◌∷◌, ◌++◌, length, take, drop, refl, sym, ap, ap₂, ◌∙◌, arith, append_assoc, append-nil}
 use Rattle.std.proofs.Math.Seq.{take-append-add, take-append_seam}
 use Rattle.std.proofs.lemmas.List.{take-take, take_all, drop_all, length-take, length-take-le, length-drop, length-append, take-append-drop}
 use Rattle.std.proofs.lemmas.Slice.{take-put_mid}
-use Rattle.std.specs.Prelude.{Result, Ok, Err, OnErr}
+use Rattle.std.specs.Prelude.{Result, Ok, Err, IsErr}
+use Rattle.bd_text.specs.Room.{Appends}
 use Rattle.std.specs.List.{list_any}
 use Rattle.std.proofs.lemmas.List.Folds.{list_any-append}
 use borrow.Rule.Slice.PartMut.{put_mid}
@@ -38,6 +39,11 @@ chained end e1 e2 old mid new x y first second = second ∙ ap (λ (l : List ℕ
 -- the first byte of a longer text is written
 pub begun : (end e b : ℕ) (old new rest : List ℕ) → take e new ≡ take end old ++ b ∷ [] → take e new ++ rest ≡ take end old ++ b ∷ rest
 begun end e b old new rest put = ap (λ (l : List ℕ). l ++ rest) put ∙ append_assoc (take end old) (b ∷ []) rest
+
+-- the first byte is written, where there was room for it
+pub opened : (end e b : ℕ) (old new rest : List ℕ) → end < length old → take e new ≡ take end old ++ b ∷ [] → e ≡ end + 1 → length new ≡ length old
+    → (take e new ++ rest ≡ take end old ++ b ∷ rest) × (take end new ≡ take end old) × (e ≤ length new) × (end ≤ e)
+opened end e b old new rest room put is size = (begun end e b old new rest put, front end e old (b ∷ []) new (omega arith) put, omega arith, omega arith)
 
 module _ (end at : ℕ) (start out : List ℕ) (after : end ≤ at) (inside : at ≤ length out) (kept : take end out ≡ take end start) where
   -- a text is written further on, and then nothing
@@ -90,14 +96,21 @@ both_ends end between size n e1 e2 text first last r0 r1 r2 inside near fits is 
     ap (λ k. take k r2) all ∙ put2 ∙ ap₂ (λ (a b : List ℕ). a ++ b) kept back ∙ append_assoc (take end r0) (take between text) (drop between text)
     ∙ ap (λ (l : List ℕ). take end r0 ++ l) (take-append-drop between text)
 
--- what follows for an error from what is known for it or whatever the result is
-pub on_err : {A E : Type 0} (P Q : Type 0) (r : Result A E) → (P → Q) → OnErr r P → OnErr r Q
-on_err P Q (Ok a) f known = known
-on_err P Q (Err e) f known = f known
+-- what is known of an error
+pub failed : {E : Type 0} (end : ℕ) (old new bytes : List ℕ) (r : Result ℕ E) → IsErr r → take end new ≡ take end old → Appends old end r new bytes
+failed end old new bytes (Ok e) is kept = absurd cc
+failed end old new bytes (Err e) is kept = kept
 
-pub when_err : {A E : Type 0} (P : Type 0) (r : Result A E) → P → OnErr r P
-when_err P (Ok a) known = tt
-when_err P (Err e) known = known
+-- a text is written after another, or fails
+pub then : {E : Type 0} (end at : ℕ) (old mid new x y : List ℕ) (r : Result ℕ E) → end ≤ length old → take at mid ≡ take end old ++ x → Appends mid at r new y → Appends old end r new (x ++ y)
+then end at old mid new x y (Ok e) inside first second = (chained end at e old mid new x y first second.0, second.1)
+then end at old mid new x y (Err e) inside first second = front end at old x new inside (second ∙ first)
+
+-- the last of a text is written further on, or fails
+pub last : {E : Type 0} (end at : ℕ) (start out new x whole : List ℕ) (r : Result ℕ E) → end ≤ at → take end out ≡ take end start → take at out ++ x ≡ take end start ++ whole
+    → Appends out at r new x → Appends start end r new whole
+last end at start out new x whole (Ok e) after kept is written = (written.0 ∙ is, written.1)
+last end at start out new x whole (Err e) after kept is written = cut end at new out after written ∙ kept
 
 -- no byte of two texts passes
 pub none_of_two : (p : ℕ → Bool) (xs ys zs : List ℕ) → zs ≡ xs ++ ys → list_any p xs ≡ false → list_any p ys ≡ false → list_any p zs ≡ false

@@ -34,10 +34,10 @@ pub written-binary : (old bytes : List ℕ) (k : ℕ) → IsBytes bytes → IsBy
 unfolding scalar_text quoted escape_byte
 written-binary old bytes k fits byte = simp (append_assoc, escaped-base64_text bytes fits, escaped-hex_text (k ∷ []) byte)
 
-pub written-regex : (old p o : List ℕ)
-    → ((old ++ (codes "{\"$regularExpression\":{\"pattern\":" ++ quoted p)) ++ (codes ",\"options\":" ++ quoted o)) ++ codes "}}" ≡ old ++ scalar_text (regex p o)
+pub written-regex : (p o : List ℕ)
+    → ((codes "{\"$regularExpression\":{\"pattern\":" ++ quoted p) ++ (codes ",\"options\":" ++ quoted o)) ++ codes "}}" ≡ scalar_text (regex p o)
 unfolding scalar_text quoted escape_byte
-written-regex old p o = simp append_assoc
+written-regex p o = simp append_assoc
 
 pub written-db_pointer : (old s id : List ℕ) → IsBytes id
     → (((old ++ (codes "{\"$dbPointer\":{\"$ref\":" ++ quoted s)) ++ codes ",\"$id\":{\"$oid\":\"") ++ hex_text id) ++ codes "\"}}}" ≡ old ++ scalar_text (db_pointer s id)
@@ -81,10 +81,10 @@ pub ruleset int32_steps = (int32_pieces, to_z-of_z, widened)
 
 pub ruleset date_steps = (date_pieces, to_z-of_z)
 
-written-code_scope : (old s : List ℕ) (fs : Fields)
-    → (((old ++ (codes "{\"$code\":" ++ quoted s)) ++ codes ",\"$scope\":") ++ text (doc fs)) ++ 125 ∷ [] ≡ old ++ text (code_scope s fs)
+written-code_scope : (s : List ℕ) (fs : Fields)
+    → (((codes "{\"$code\":" ++ quoted s) ++ codes ",\"$scope\":") ++ text (doc fs)) ++ 125 ∷ [] ≡ text (code_scope s fs)
 unfolding quoted escape_byte
-written-code_scope old s fs = simp append_assoc
+written-code_scope s fs = simp append_assoc
 
 -- ---- the text and the size of a value from its parts
 
@@ -116,13 +116,13 @@ pub scope_smaller : (t u : Tree) → Some u ≡ scope_of t → tree_size u < tre
 scope_smaller (code_scope c fs) u scope = let same : u ≡ doc fs = cc in rw same (omega arith)
 scope_smaller _ u scope = absurd cc
 
-pub text_of-scope : (old c : List ℕ) (t u : Tree) → Some (own_code c) ≡ own_of t → Some u ≡ scope_of t
-    → (((old ++ (codes "{\"$code\":" ++ quoted c)) ++ codes ",\"$scope\":") ++ text u) ++ 125 ∷ [] ≡ old ++ text t
-text_of-scope old c (code_scope s fs) u held scope =
+pub text_of-scope : (c : List ℕ) (t u : Tree) → Some (own_code c) ≡ own_of t → Some u ≡ scope_of t
+    → (((codes "{\"$code\":" ++ quoted c) ++ codes ",\"$scope\":") ++ text u) ++ 125 ∷ [] ≡ text t
+text_of-scope c (code_scope s fs) u held scope =
     let same : c ≡ s = cc in
     let inside : u ≡ doc fs = cc in
-    rw (same, inside) (written-code_scope old s fs)
-text_of-scope old c _ u held scope = absurd cc
+    rw (same, inside) (written-code_scope s fs)
+text_of-scope c _ u held scope = absurd cc
 
 -- what a value that is no code with scope holds is all of it
 pub held_text : (t : Tree) (s : Scalar) → Some (own s) ≡ own_of t → text t ≡ scalar_text s
@@ -200,16 +200,16 @@ drop-map f xs i x inside is = next_at (map f xs) i (f x) (slice_get-map f xs i �
 
 -- ---- a pair of a document is written
 
-regroup : (a n t : List ℕ) → (a ++ (n ++ 58 ∷ [])) ++ t ≡ a ++ (n ++ 58 ∷ t)
-regroup a n t = simp append_assoc
+regroup : (a b n t : List ℕ) → (a ++ (b ++ (n ++ 58 ∷ []))) ++ t ≡ (a ++ b) ++ (n ++ 58 ∷ t)
+regroup a b n t = simp append_assoc
 
 pub field_step : (later : Bool) (n : List ℕ) (t : Tree) (ps rest : Doc) (old named out end total : List ℕ)
-    → named ≡ (old ++ before later 44) ++ (quoted n ++ 58 ∷ []) → out ≡ named ++ text t
+    → named ≡ old ++ (before later 44 ++ (quoted n ++ 58 ∷ [])) → out ≡ named ++ text t
     → ps ≡ (n, t) ∷ rest → old ++ (to_come later 44 (fields_text (fields_of ps)) ++ end) ≡ total
     → out ++ (to_come true 44 (fields_text (fields_of rest)) ++ end) ≡ total
 field_step later n t ps rest old named out end total m o is so_far =
     let pieces = ap (λ (x : Doc). fields_text (fields_of x)) is in
-    let written : out ≡ (old ++ before later 44) ++ member n (text t) = o ∙ rw m (regroup (old ++ before later 44) (quoted n) (text t)) in
+    let written : out ≡ (old ++ before later 44) ++ member n (text t) = o ∙ rw m (regroup old (before later 44) (quoted n) (text t)) in
     rw written (piece_step later 44 (member n (text t)) (fields_text (fields_of ps)) (fields_text (fields_of rest)) old end total pieces so_far)
 
 pub item_step : (later : Bool) (t : Tree) (ps rest : Doc) (old separated out end total : List ℕ) → separated ≡ old ++ before later 44 → out ≡ separated ++ text t

@@ -2,6 +2,7 @@
 ghost use Rattle.std.specs.Prelude.{◌≡◌, ◌<◌, ◌≤◌, ◌+◌, ◌++◌, OnOk, OnErr, IfOk, IsTrue, string_bytes, map, if◌then◌else◌, [], ◌∷◌, length, take, false, true};
 ghost use Rattle.std.specs.Char.{digit_char};
 ghost use Rattle.std.specs.List.{list_any, position, join_with_byte};
+ghost use Rattle.bd_text.specs.Room.{Appends};
 ghost use Rattle.bd_text.specs.Text.{needs_escape, escape_byte, escaped, quoted};
 
 use crate::room::{End, VALUE, make_room, put, put_byte, put_byte_in, put_known, settle};
@@ -39,9 +40,7 @@ pub fn write_path(path: &[String], out: &mut Vec<u8>) -> Result<(), NoMemory>
 #[tactic(auto, unfolding(crate::specs::Text::quoted))]
 fn append_path(path: &[String], out: &mut Vec<u8>, end: usize) -> End
     requires { end ≤ length out.old.items }
-    ensures ok { IfOk result (λ e. take e out.new.items ≡ take end out.old.items ++ quoted (join_with_byte 46 (map string_bytes path.now))) }
-    ensures within { IfOk result (λ e. e ≤ length out.new.items) }
-    ensures err { OnErr result (take end out.new.items ≡ take end out.old.items) }
+    ensures { Appends out.old.items end result out.new.items (quoted (join_with_byte 46 (map string_bytes path.now))) }
 {
     make_room(out, end, 2)?;
     let mut at = put_byte_in(b'"', out, end);
@@ -59,9 +58,7 @@ fn append_path(path: &[String], out: &mut Vec<u8>, end: usize) -> End
 #[tactic(auto, unfolding(crate::specs::Text::quoted))]
 pub(crate) fn append_string(text: &str, out: &mut Vec<u8>, end: usize) -> End
     requires { end < length out.old.items }
-    ensures ok { IfOk result (λ e. take e out.new.items ≡ take end out.old.items ++ quoted text.now) }
-    ensures within { IfOk result (λ e. e ≤ length out.new.items) }
-    ensures err { OnErr result (take end out.new.items ≡ take end out.old.items) }
+    ensures { Appends out.old.items end result out.new.items (quoted text.now) }
 {
     let at = put_byte_in(b'"', out, end);
     let at = append_text(text.as_bytes(), 1, out, at)?;
@@ -74,9 +71,8 @@ pub(crate) fn append_string(text: &str, out: &mut Vec<u8>, end: usize) -> End
 #[tactic(auto, unfolding(crate::specs::Text::quoted))]
 pub(crate) fn append_name(later: bool, name: &str, out: &mut Vec<u8>, end: usize) -> End
     requires { end ≤ length out.old.items }
-    ensures ok { IfOk result (λ e. take e out.new.items ≡ (take end out.old.items ++ (if later then 44 ∷ [] else [])) ++ (quoted name.now ++ 58 ∷ [])) }
+    ensures text { Appends out.old.items end result out.new.items ((if later then 44 ∷ [] else []) ++ (quoted name.now ++ 58 ∷ [])) }
     ensures room { IfOk result (λ e. e + VALUE ≤ length out.new.items) }
-    ensures err { OnErr result (take end out.new.items ≡ take end out.old.items) }
 {
     make_room(out, end, name.len() + (4 + VALUE))?;
     let room = out.as_mut_slice();
@@ -107,9 +103,8 @@ fn put_separator(later: bool, separator: u8, room: &mut [u8], end: usize) -> usi
 #[inline(always)]
 pub(crate) fn append_separator(later: bool, separator: u8, out: &mut Vec<u8>, end: usize) -> End
     requires { end ≤ length out.old.items }
-    ensures ok { IfOk result (λ e. take e out.new.items ≡ take end out.old.items ++ (if later then separator ∷ [] else [])) }
+    ensures text { Appends out.old.items end result out.new.items (if later then separator ∷ [] else []) }
     ensures room { IfOk result (λ e. e + VALUE ≤ length out.new.items) }
-    ensures err { OnErr result (take end out.new.items ≡ take end out.old.items) }
 {
     make_room(out, end, 1 + VALUE)?;
     Ok(put_separator(later, separator, out.as_mut_slice(), end))
@@ -119,9 +114,8 @@ pub(crate) fn append_separator(later: bool, separator: u8, out: &mut Vec<u8>, en
 #[inline(always)]
 fn append_text(text: &[u8], after: usize, out: &mut Vec<u8>, end: usize) -> End
     requires { (end ≤ length out.old.items) × (after ≤ 1000) }
-    ensures ok { IfOk result (λ e. take e out.new.items ≡ take end out.old.items ++ escaped text.now) }
+    ensures text { Appends out.old.items end result out.new.items (escaped text.now) }
     ensures room { IfOk result (λ e. e + after ≤ length out.new.items) }
-    ensures err { OnErr result (take end out.new.items ≡ take end out.old.items) }
 {
     make_room(out, end, text.len() + after)?;
     if copy_plain(text, out.as_mut_slice(), end) {
@@ -207,9 +201,8 @@ fn copy_many(text: &[u8], room: &mut [u8], end: usize) -> bool
 /// The same of a text that needs escapes: what stands between two of them is copied as it is.
 fn append_escaped(text: &[u8], after: usize, out: &mut Vec<u8>, end: usize) -> End
     requires { (end ≤ length out.old.items) × (after ≤ 1000) }
-    ensures ok { IfOk result (λ e. take e out.new.items ≡ take end out.old.items ++ escaped text.now) }
+    ensures text { Appends out.old.items end result out.new.items (escaped text.now) }
     ensures room { IfOk result (λ e. e + after ≤ length out.new.items) }
-    ensures err { OnErr result (take end out.new.items ≡ take end out.old.items) }
 {
     let mut rest = text;
     let mut at = end;

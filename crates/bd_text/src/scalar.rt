@@ -9,6 +9,7 @@ ghost use Rattle.bd_value.specs.View.{kind_of};
 ghost use Rattle.bd_value.specs.Tree as trees;
 ghost use Rattle.bd_value.specs.Tree.{leaf, int32, int64, binary, object_id, boolean, date, timestamp, regex, db_pointer};
 ghost use Rattle.bd_value.specs.declared.node.Kind.TheVariants as kinds;
+ghost use Rattle.bd_text.specs.Room.{Appends};
 ghost use Rattle.bd_text.specs.Text.{HasShortText, quoted, base64_text, hex_text, scalar_text, text};
 
 use crate::json_string::append_string;
@@ -36,9 +37,7 @@ pub(crate) fn append_scalar<N: Reading>(node: N, out: &mut Vec<u8>, end: usize) 
     requires scalar { (s : trees.Scalar) × (N.tree node ≡ leaf s) }
     requires other { kind_of (N.tree node) ≢ kinds.Text }
     requires room { end + VALUE ≤ length out.old.items }
-    ensures ok { IfOk result (λ e. take e out.new.items ≡ take end out.old.items ++ text (N.tree node)) }
-    ensures within { IfOk result (λ e. e ≤ length out.new.items) }
-    ensures err { OnErr result (take end out.new.items ≡ take end out.old.items) }
+    ensures { Appends out.old.items end result out.new.items (text (N.tree node)) }
 {
     match node.kind() {
         Kind::Symbol => {
@@ -169,9 +168,7 @@ fn put_timestamp(seconds: u32, increment: u32, room: &mut [u8], end: usize) -> u
 /// Binary: base64 with padding, the subtype in two digits.
 fn append_binary(subtype: u8, bytes: &[u8], out: &mut Vec<u8>, end: usize) -> End
     requires { end ≤ length out.old.items }
-    ensures ok { IfOk result (λ e. take e out.new.items ≡ take end out.old.items ++ scalar_text (binary subtype bytes.now)) }
-    ensures within { IfOk result (λ e. e ≤ length out.new.items) }
-    ensures err { OnErr result (take end out.new.items ≡ take end out.old.items) }
+    ensures { Appends out.old.items end result out.new.items (scalar_text (binary subtype bytes.now)) }
 {
     let at = append_few(b"{\"$binary\":{\"base64\":\"", out, end)?;
     let at = append_base64(bytes, out, at)?;
@@ -184,9 +181,7 @@ fn append_binary(subtype: u8, bytes: &[u8], out: &mut Vec<u8>, end: usize) -> En
 /// Regular Expression: the options as they are stored.
 fn append_regex(pattern: &str, options: &str, out: &mut Vec<u8>, end: usize) -> End
     requires { end ≤ length out.old.items }
-    ensures ok { IfOk result (λ e. take e out.new.items ≡ take end out.old.items ++ scalar_text (regex pattern.now options.now)) }
-    ensures within { IfOk result (λ e. e ≤ length out.new.items) }
-    ensures err { OnErr result (take end out.new.items ≡ take end out.old.items) }
+    ensures { Appends out.old.items end result out.new.items (scalar_text (regex pattern.now options.now)) }
 {
     let at = append_led(b"{\"$regularExpression\":{\"pattern\":", pattern, out, end)?;
     let at = append_led(b",\"options\":", options, out, at)?;
@@ -196,9 +191,7 @@ fn append_regex(pattern: &str, options: &str, out: &mut Vec<u8>, end: usize) -> 
 /// DBPointer.
 fn append_pointer(space: &str, id: &[u8; 12], out: &mut Vec<u8>, end: usize) -> End
     requires { end ≤ length out.old.items }
-    ensures ok { IfOk result (λ e. take e out.new.items ≡ take end out.old.items ++ scalar_text (db_pointer space.now id.now)) }
-    ensures within { IfOk result (λ e. e ≤ length out.new.items) }
-    ensures err { OnErr result (take end out.new.items ≡ take end out.old.items) }
+    ensures { Appends out.old.items end result out.new.items (scalar_text (db_pointer space.now id.now)) }
 {
     let at = append_led(b"{\"$dbPointer\":{\"$ref\":", space, out, end)?;
     let at = append_few(b",\"$id\":{\"$oid\":\"", out, at)?;
@@ -210,9 +203,7 @@ fn append_pointer(space: &str, id: &[u8; 12], out: &mut Vec<u8>, end: usize) -> 
 /// Appends an object of one string: what leads to the string, the string, and the brace after it.
 fn append_one(lead: &[u8], text: &str, out: &mut Vec<u8>, end: usize) -> End
     requires { (end ≤ length out.old.items) × (length lead.now ≤ 1000) }
-    ensures ok { IfOk result (λ e. take e out.new.items ≡ take end out.old.items ++ (lead.now ++ (quoted text.now ++ 125 ∷ []))) }
-    ensures within { IfOk result (λ e. e ≤ length out.new.items) }
-    ensures err { OnErr result (take end out.new.items ≡ take end out.old.items) }
+    ensures { Appends out.old.items end result out.new.items (lead.now ++ (quoted text.now ++ 125 ∷ [])) }
 {
     let at = append_led(lead, text, out, end)?;
     append_few(b"}", out, at)
@@ -221,9 +212,7 @@ fn append_one(lead: &[u8], text: &str, out: &mut Vec<u8>, end: usize) -> End
 /// Appends what leads to a string, and the string with its quotation marks.
 pub(crate) fn append_led(lead: &[u8], text: &str, out: &mut Vec<u8>, end: usize) -> End
     requires { (end ≤ length out.old.items) × (length lead.now ≤ 1000) }
-    ensures ok { IfOk result (λ e. take e out.new.items ≡ take end out.old.items ++ (lead.now ++ quoted text.now)) }
-    ensures within { IfOk result (λ e. e ≤ length out.new.items) }
-    ensures err { OnErr result (take end out.new.items ≡ take end out.old.items) }
+    ensures { Appends out.old.items end result out.new.items (lead.now ++ quoted text.now) }
 {
     make_room(out, end, lead.len() + 1)?;
     let at = put(lead, out.as_mut_slice(), end);
@@ -233,9 +222,8 @@ pub(crate) fn append_led(lead: &[u8], text: &str, out: &mut Vec<u8>, end: usize)
 /// Appends bytes that are few.
 pub(crate) fn append_few(bytes: &[u8], out: &mut Vec<u8>, end: usize) -> End
     requires { end ≤ length out.old.items }
-    ensures ok { IfOk result (λ e. take e out.new.items ≡ take end out.old.items ++ bytes.now) }
+    ensures text { Appends out.old.items end result out.new.items bytes.now }
     ensures room { IfOk result (λ e. e + VALUE ≤ length out.new.items) }
-    ensures err { OnErr result (take end out.new.items ≡ take end out.old.items) }
 {
     make_room(out, end, bytes.len() + VALUE)?;
     Ok(put(bytes, out.as_mut_slice(), end))
@@ -259,9 +247,7 @@ fn put_base64(bytes: &[u8], size: usize, room: &mut [u8], end: usize) -> usize
 /// vector can have is told as `NoMemory`.
 pub(crate) fn append_base64(bytes: &[u8], out: &mut Vec<u8>, end: usize) -> End
     requires { end ≤ length out.old.items }
-    ensures ok { IfOk result (λ e. take e out.new.items ≡ take end out.old.items ++ base64_text bytes.now) }
-    ensures within { IfOk result (λ e. e ≤ length out.new.items) }
-    ensures err { OnErr result (take end out.new.items ≡ take end out.old.items) }
+    ensures { Appends out.old.items end result out.new.items (base64_text bytes.now) }
 {
     let size = encoded_len(bytes.len(), true).ok_or(AllocError)?;
     make_room(out, end, size)?;

@@ -3,6 +3,7 @@ ghost use Rattle.std.specs.Prelude.{◌≡◌, ◌<◌, ◌≤◌, ◌+◌, ◌+
 ghost use Rattle.bd_value.specs.View.{kind_of, tree_of, pairs};
 ghost use Rattle.bd_value.specs.Tree.{values_of, doc, array, fields_of, items_of};
 ghost use Rattle.bd_value.specs.declared.node.Kind.TheVariants as kinds;
+ghost use Rattle.bd_text.specs.Room.{Appends};
 ghost use Rattle.bd_text.specs.Text.{text};
 
 use crate::json_string::{append_name, append_separator, append_string};
@@ -77,9 +78,7 @@ impl LineRoom {
 #[inline(always)]
 fn append_node<N: Reading>(node: N, out: &mut Vec<u8>, end: usize) -> End
     requires { end + VALUE ≤ length out.old.items }
-    ensures ok { IfOk result (λ e. take e out.new.items ≡ take end out.old.items ++ text (N.tree node)) }
-    ensures within { IfOk result (λ e. e ≤ length out.new.items) }
-    ensures err { OnErr result (take end out.new.items ≡ take end out.old.items) }
+    ensures { Appends out.old.items end result out.new.items (text (N.tree node)) }
 {
     match node.kind() {
         Kind::Doc => append_fields::<N>(node.parts(), out, end),
@@ -100,9 +99,7 @@ fn append_node<N: Reading>(node: N, out: &mut Vec<u8>, end: usize) -> End
 fn append_scope<N: Reading>(node: N, out: &mut Vec<u8>, end: usize) -> End
     requires kind { kind_of (N.tree node) ≡ kinds.CodeScope }
     requires room { end ≤ length out.old.items }
-    ensures ok { IfOk result (λ e. take e out.new.items ≡ take end out.old.items ++ text (N.tree node)) }
-    ensures within { IfOk result (λ e. e ≤ length out.new.items) }
-    ensures err { OnErr result (take end out.new.items ≡ take end out.old.items) }
+    ensures { Appends out.old.items end result out.new.items (text (N.tree node)) }
 {
     let Some(Scalar::CodeScope(code)) = node.leaf() else {
         unreachable!()
@@ -121,9 +118,7 @@ fn append_scope<N: Reading>(node: N, out: &mut Vec<u8>, end: usize) -> End
 #[inline(never)]
 fn append_fields<N: Reading>(fields: N::Rest, out: &mut Vec<u8>, end: usize) -> End
     requires { end < length out.old.items }
-    ensures ok { IfOk result (λ e. take e out.new.items ≡ take end out.old.items ++ text (doc (fields_of (N.left fields)))) }
-    ensures within { IfOk result (λ e. e ≤ length out.new.items) }
-    ensures err { OnErr result (take end out.new.items ≡ take end out.old.items) }
+    ensures { Appends out.old.items end result out.new.items (text (doc (fields_of (N.left fields)))) }
 {
     let mut at = put_byte_in(b'{', out, end);
     let mut later = false;
@@ -142,9 +137,7 @@ fn append_fields<N: Reading>(fields: N::Rest, out: &mut Vec<u8>, end: usize) -> 
 #[inline(never)]
 fn append_items<N: Reading>(items: N::Rest, out: &mut Vec<u8>, end: usize) -> End
     requires { end < length out.old.items }
-    ensures ok { IfOk result (λ e. take e out.new.items ≡ take end out.old.items ++ text (array (items_of (values_of (N.left items))))) }
-    ensures within { IfOk result (λ e. e ≤ length out.new.items) }
-    ensures err { OnErr result (take end out.new.items ≡ take end out.old.items) }
+    ensures { Appends out.old.items end result out.new.items (text (array (items_of (values_of (N.left items))))) }
 {
     let mut at = put_byte_in(b'[', out, end);
     let mut later = false;

@@ -1,12 +1,12 @@
 -- The objects that stand for values of other kinds (Extended JSON v2, conversion table): which, and what is in them.
-use Rattle.std.specs.Prelude.{◌≡◌, ℕ, ◌+◌, ◌*◌, ℤ, pos, List, [], ◌∷◌, Bool, true, false, ◌==◌, ◌&&◌, nat_lt, if◌then◌else◌, codes}
-use Rattle.std.specs.Prelude.{Option, Some, None, option_map, option_and_then, Result, Ok, Err}
-use Rattle.std.specs.Str.{bytes_eq}
+use Rattle.std.specs.Prelude.{◌≡◌, ℕ, ◌+◌, ◌*◌, ℤ, pos, List, [], ◌∷◌, Bool, true, false, ◌==◌, ◌&&◌, nat_lt, if◌then◌else◌}
+use Rattle.std.specs.Prelude.{Option, Some, None, option_map, option_and_then, unwrap_or, Result, Ok, Err, codes}
+use Rattle.std.specs.{Option.option_zip, Result.result_ok, Str.bytes_eq}
 use Rattle.base64.specs.{Engines.standard, GeneralPurpose.decode_of}
 use Rattle.hex.specs.Hex.{decode_sized, hex_digit_value}
-use Rattle.json.specs.{Find.as_str, Find.as_number, Find.as_object, Token.Token}
+use Rattle.json.specs.{Find.as_bool, Find.as_str, Find.as_number, Find.as_object, Token.Token}
 use Rattle.json.specs.Json as json
-use Rattle.json.specs.Json.{Json, read_key, Members, members, members_step, value}
+use Rattle.json.specs.Json.{Json, Members, members, members_step, value}
 use Rattle.bd_value.specs.Tree as trees
 use Rattle.bd_value.specs.{Tree.Scalar, Fits.has_zero}
 use Rattle.bd_wrapper.specs.{WholeNumber.whole_32, WholeNumber.whole_64, declared.wrapper.Trouble.Trouble}
@@ -57,29 +57,21 @@ pair_members _ _ _ = None
 unfoldable pub pair : List ℕ → List ℕ → Json → Option (Json × Json)
 pair a b j = option_and_then (pair_members a b) (as_object j)
 
-abbrev pub ok_of : {A E : Type 0} → Result A E → Option A
-ok_of (Ok x) = Some x
-ok_of (Err e) = None
-
-abbrev pub both : {A B : Type 0} → Option A → Option B → Option (A × B)
-both (Some x) (Some y) = Some (x, y)
-both _ _ = None
-
 abbrev pub both_in : {A B : Type 0} → (Json → Option A) → (Json → Option B) → Json × Json → Option (A × B)
-both_in f g p = both (f p.0) (g p.1)
+both_in f g p = option_zip (f p.0) (g p.1)
 
 -- the 12 bytes of an id, in 24 hexadecimal digits of either case
 abbrev pub id_of : Json → Option (List ℕ)
-id_of j = option_and_then (λ s. ok_of (decode_sized s 12)) (as_str j)
+id_of j = option_and_then (λ s. result_ok (decode_sized s 12)) (as_str j)
 
 -- the bytes of base64, standard and padded, with no bits that are left over
 abbrev pub data_in : Json → Option (List ℕ)
-data_in j = option_and_then (λ s. ok_of (decode_of standard s)) (as_str j)
+data_in j = option_and_then (λ s. result_ok (decode_of standard s)) (as_str j)
 
 -- a subtype, in one or two hexadecimal digits of either case
 abbrev pub digits_in : List ℕ → Option ℕ
 digits_in (a ∷ []) = hex_digit_value a
-digits_in (a ∷ b ∷ []) = option_map (λ p. p.0 * 16 + p.1) (both (hex_digit_value a) (hex_digit_value b))
+digits_in (a ∷ b ∷ []) = option_map (λ p. p.0 * 16 + p.1) (option_zip (hex_digit_value a) (hex_digit_value b))
 digits_in _ = None
 
 abbrev pub subtype_in : Json → Option ℕ
@@ -94,15 +86,11 @@ abbrev pub word_in : Json → Option ℕ
 word_in j = option_and_then (λ s. option_and_then if_word (whole_64 s)) (as_number j)
 
 -- a text with no zero in it
-abbrev pub if_no_zero : List ℕ → Option (List ℕ)
-if_no_zero s = if has_zero s then None else Some s
-
 abbrev pub name_in : Json → Option (List ℕ)
-name_in j = option_and_then if_no_zero (as_str j)
+name_in j = option_and_then (λ s. if has_zero s then None else Some s) (as_str j)
 
-abbrev pub long_in : Option Json → Option ℤ
-long_in None = None
-long_in (Some j) = option_and_then whole_64 (as_str j)
+abbrev pub long_in : Json → Option ℤ
+long_in j = option_and_then whole_64 (as_str j)
 
 -- the bare number 1
 abbrev pub is_one : Option ℤ → Bool
@@ -112,17 +100,10 @@ is_one _ = false
 abbrev pub one : Json → Bool
 one j = is_one (option_and_then whole_64 (as_number j))
 
-abbrev pub is_true : Json → Bool
-is_true (json.boolean b) = b
-is_true _ = false
-
-abbrev pub if_true : {A : Type 0} → Bool → A → Option A
-if_true b x = if b then Some x else None
-
 -- what an object of one name stands for: of a wrapper, and the value after its name
 abbrev pub single : Wrapper → Json → Option Scalar
 single kinds.NumberInt j = option_map (λ z. trees.int32 z) (option_and_then whole_32 (as_str j))
-single kinds.NumberLong j = option_map (λ z. trees.int64 z) (option_and_then whole_64 (as_str j))
+single kinds.NumberLong j = option_map (λ z. trees.int64 z) (long_in j)
 single kinds.Oid j = option_map (λ b. trees.object_id b) (id_of j)
 single kinds.Symbol j = option_map (λ s. trees.symbol s) (as_str j)
 single kinds.Binary j =
@@ -134,10 +115,10 @@ single kinds.RegularExpression j =
     option_map (λ p. trees.regex p.0 p.1) (option_and_then (both_in name_in name_in) (pair (codes "pattern") (codes "options") j))
 single kinds.DbPointer j =
     option_map (λ p. trees.db_pointer p.0 p.1) (option_and_then (both_in as_str (λ i. option_and_then id_of (only (codes "$oid") i))) (pair (codes "$ref") (codes "$id") j))
-single kinds.Date j = option_map (λ z. trees.date z) (long_in (only (codes "$numberLong") j))
-single kinds.MinKey j = if_true (one j) trees.min_key
-single kinds.MaxKey j = if_true (one j) trees.max_key
-single kinds.Undefined j = if_true (is_true j) trees.undefined
+single kinds.Date j = option_map (λ z. trees.date z) (option_and_then long_in (only (codes "$numberLong") j))
+single kinds.MinKey j = if one j then Some trees.min_key else None
+single kinds.MaxKey j = if one j then Some trees.max_key else None
+single kinds.Undefined j = if unwrap_or (as_bool j) false then Some trees.undefined else None
 single _ _ = None
 
 -- What a reader of tokens gives: JSON read and wrapped at once. First f of what was read.
@@ -149,23 +130,12 @@ through f (Some p) = option_map (λ a. (a, p.1)) (f p.0)
 abbrev pub after_key : ℕ → ℕ → Option (List ℕ) → List Token → Option (Members × List Token)
 after_key depth n key ts = members_step (value depth) (members (value depth) n) key ts
 
--- what follows the brace that ends an object
-abbrev pub if_no_name : Option (List ℕ) → List Token → Option (Unit {0} × List Token)
-if_no_name None ts = Some (tt, ts)
-if_no_name (Some k) ts = None
+-- why there is no result: no memory, or there is nothing
+abbrev pub Fails : {A : Type 0} → Trouble → Option A → Type 0
+Fails troubles.Memory there = Unit {0}
+Fails troubles.Refused there = there ≡ None
 
-abbrev pub closing : List Token → Option (Unit {0} × List Token)
-closing ts = option_and_then (λ p. if_no_name p.0 p.1) (read_key ts)
-
-abbrev pub FailsAtTokens : {A : Type 0} → Trouble → Option A → Type 0
-FailsAtTokens troubles.Memory read = Unit {0}
-FailsAtTokens troubles.Refused read = read ≡ None
-
-abbrev pub GivesTokens : {X A : Type 0} → (X → A) → Result X Trouble → List Token → Option (A × List Token) → Type 0
-GivesTokens view (Ok x) rest read = read ≡ Some (view x, rest)
-GivesTokens view (Err e) rest read = FailsAtTokens e read
-
--- the same of a result that takes nothing
-abbrev pub GivesValue : {X A : Type 0} → (X → A) → Result X Trouble → Option A → Type 0
-GivesValue view (Ok x) o = o ≡ Some (view x)
-GivesValue view (Err e) o = FailsAtTokens e o
+-- a result is what there is, of which this is the view, or fails
+abbrev pub Gives : {X A : Type 0} → (X → A) → Result X Trouble → Option A → Type 0
+Gives view (Ok x) there = there ≡ Some (view x)
+Gives view (Err e) there = Fails e there

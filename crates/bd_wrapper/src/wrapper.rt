@@ -1,12 +1,13 @@
 //! The objects that stand for values of other kinds: which, by their first names, and what is in them.
-ghost use Rattle.std.specs.Prelude.{◌≡◌, ◌≢◌, Some, option_map, string_bytes, codes};
+ghost use Rattle.std.specs.Prelude.{◌≡◌, ◌≢◌, Some, option_map, option_and_then, string_bytes, codes};
+ghost use Rattle.std.specs.Result.{result_ok};
 ghost use Rattle.hex.specs.Hex.{decode_sized, hex_digit_value};
 ghost use Rattle.json.specs.Find.{as_number, as_object};
 ghost use Rattle.json.specs.Value.{value_view, members_view};
 ghost use Rattle.bd_value.specs.Tree.{leaf};
 ghost use Rattle.bd_value.specs.View.{tree_of};
-ghost use Rattle.bd_wrapper.specs.Wrapper.{wrapper_of, is_code_name, is_scope_name, only as only_in, pair as pair_in, ok_of, id_of as id_in};
-ghost use Rattle.bd_wrapper.specs.Wrapper.{data_in, subtype_in, word_in, name_in, long_in, one, single, GivesValue};
+ghost use Rattle.bd_wrapper.specs.Wrapper.{wrapper_of, is_code_name, is_scope_name, only as only_in, pair as pair_in, id_of as id_in};
+ghost use Rattle.bd_wrapper.specs.Wrapper.{data_in, subtype_in, word_in, name_in, long_in, one, single, Gives};
 ghost use Rattle.bd_wrapper.specs.declared.wrapper.Trouble.TheVariants.{Memory, Refused};
 ghost use Rattle.bd_wrapper.specs.declared.wrapper.Wrapper.TheVariants as kinds;
 
@@ -103,7 +104,7 @@ pub fn unwrap_single(
     wrapper: Wrapper,
     part: &json::Value<'_>,
 ) -> Result<Value, Trouble>
-    ensures { GivesValue tree_of result (option_map leaf (single wrapper (value_view part.now))) }
+    ensures { Gives tree_of result (option_map leaf (single wrapper (value_view part.now))) }
 {
     match wrapper {
         Wrapper::Symbol => Ok(Value::Symbol(text_in(alloc, part.as_str())?)),
@@ -145,7 +146,7 @@ fn fixed_of(wrapper: Wrapper, part: &json::Value<'_>) -> Option<Value>
 }
 
 fn binary_of(alloc: Global, part: &json::Value<'_>) -> Result<Value, Trouble>
-    ensures { GivesValue tree_of result (option_map leaf (single kinds.Binary (value_view part.now))) }
+    ensures { Gives tree_of result (option_map leaf (single kinds.Binary (value_view part.now))) }
 {
     let (data, subtype) = pair(part, "base64", "subType").ok_or(Trouble::Refused)?;
     let payload = data_of(alloc, data)?;
@@ -154,7 +155,7 @@ fn binary_of(alloc: Global, part: &json::Value<'_>) -> Result<Value, Trouble>
 }
 
 fn regex_of(alloc: Global, part: &json::Value<'_>) -> Result<Value, Trouble>
-    ensures { GivesValue tree_of result (option_map leaf (single kinds.RegularExpression (value_view part.now))) }
+    ensures { Gives tree_of result (option_map leaf (single kinds.RegularExpression (value_view part.now))) }
 {
     let (pattern, options) = pair(part, "pattern", "options").ok_or(Trouble::Refused)?;
     let pattern = text_in(alloc, name_of(pattern))?;
@@ -163,7 +164,7 @@ fn regex_of(alloc: Global, part: &json::Value<'_>) -> Result<Value, Trouble>
 }
 
 fn pointer_of(alloc: Global, part: &json::Value<'_>) -> Result<Value, Trouble>
-    ensures { GivesValue tree_of result (option_map leaf (single kinds.DbPointer (value_view part.now))) }
+    ensures { Gives tree_of result (option_map leaf (single kinds.DbPointer (value_view part.now))) }
 {
     let (space, id) = pair(part, "$ref", "$id").ok_or(Trouble::Refused)?;
     let space = text_in(alloc, space.as_str())?;
@@ -173,7 +174,7 @@ fn pointer_of(alloc: Global, part: &json::Value<'_>) -> Result<Value, Trouble>
 }
 
 fn milliseconds_of(part: &json::Value<'_>) -> Option<i64>
-    ensures { result ≡ long_in (only_in (codes "$numberLong") (value_view part.now)) }
+    ensures { result ≡ option_and_then long_in (only_in (codes "$numberLong") (value_view part.now)) }
 {
     whole(only(part, "$numberLong")?.as_str()?)
 }
@@ -189,7 +190,7 @@ fn is_one(part: &json::Value<'_>) -> bool
 }
 
 fn text_in(alloc: Global, text: Option<&str>) -> Result<String, Trouble>
-    ensures { GivesValue string_bytes result (option_map (λ s. s.now) text.entry) }
+    ensures { Gives string_bytes result (option_map (λ s. s.now) text.entry) }
 {
     let text = text.ok_or(Trouble::Refused)?;
     Ok(String::from_str(alloc, text)?)
@@ -197,7 +198,7 @@ fn text_in(alloc: Global, text: Option<&str>) -> Result<String, Trouble>
 
 /// The bytes of base64, standard and padded.
 fn data_of(alloc: Global, part: &json::Value<'_>) -> Result<Vec<u8>, Trouble>
-    ensures { GivesValue (λ v. v.items) result (data_in (value_view part.now)) }
+    ensures { Gives (λ v. v.items) result (data_in (value_view part.now)) }
 {
     let text = part.as_str().ok_or(Trouble::Refused)?;
     match STANDARD.decode(alloc, text.as_bytes()) {
@@ -269,7 +270,7 @@ fn word_of(part: &json::Value<'_>) -> Option<u32>
 
 /// The 12 bytes of an id, of its 24 hexadecimal digits.
 pub fn id_of_text(text: &str) -> Option<[u8; 12]>
-    ensures { result ≡ ok_of (decode_sized text.now 12) }
+    ensures { result ≡ result_ok (decode_sized text.now 12) }
 {
     <[u8; 12] as FromHex>::from_hex(text).ok()
 }

@@ -3,14 +3,13 @@ use Rattle.std.proofs.lemmas.Result.{err_from_is_err_and}
 use Rattle.std.proofs.lemmas.List.{map_push}
 use Rattle.std.specs.Borrow.{Bor}
 use Rattle.json.specs.Value.{value_view}
-use Rattle.bd_wrapper.specs.Wrapper.{closing, single, through, after_key}
+use Rattle.bd_wrapper.specs.Wrapper.{single, through, after_key}
 use Rattle.bd_wrapper.specs.declared.wrapper.Wrapper.TheVariants as kinds
-use Rattle.bd_extjson.proofs.MemberLemmas.{wrapping}
 use Rattle.json.specs.Json.{value, items, parse_map, after_end_array}
 use Rattle.json.proofs.Grammar.{read_key-shorter}
 use Rattle.bd_value.specs.Tree.{leaf, field}
 use Rattle.bd_value.specs.View.{tree_of, pairs}
-use Rattle.bd_extjson.specs.Read.{wrap, wrap_items, wrap_object, wrap_fields}
+use Rattle.bd_extjson.specs.Read.{wrap, wrap_items, wrap_object, wrapped, wrap_fields}
 use Rattle.bd_extjson.proofs.ReadLemmas as steps
 use Rattle.bd_extjson.proofs.ReadLemmas.{items_before, fields_before}
 use Rattle.bd_extjson.proofs.MemberLemmas as seconds
@@ -84,7 +83,7 @@ read_wrapper-returns-in_err-second-clause-gives t c = λ name is.
     let w = c.args.wrapper in
     let j = value_view c.in_ok-part.part in
     rw (p.1, p.2) (seconds.first_part w name c.args.room c.args.depth (length c.args.reader.now) c.args.reader.now c.read_part.new.reader j is c.in_ok-part.ensures.gives
-    ∙ seconds.no_name (wrapping c.args.room w j (wrap (c.args.room - 1) j)) c.args.depth (length c.args.reader.now) c.read_part.new.reader c.in_err-second.ensures.value)
+    ∙ seconds.no_name (wrapped c.args.room w j (wrap (c.args.room - 1) j)) c.args.depth (length c.args.reader.now) c.read_part.new.reader c.in_err-second.ensures.value)
 
 pub read_wrapper-returns-in_default-clause-gives : goal.read_wrapper-returns-in_default-clause-gives
 read_wrapper-returns-in_default-clause-gives t c = λ name is.
@@ -95,7 +94,7 @@ read_wrapper-returns-in_default-clause-gives t c = λ name is.
     let key = c.in_ok-second.ensures.value ∙ ap (λ k. Some (option_map (λ (s : Bor (List ℕ)). s.now) k, c.next_key.new.self)) c.in_default.is in
     steps.told tree_of c.unwrap_single.result c.next_key.new.self (option_map leaf (single w j)) _
     (seconds.first_part w name c.args.room c.args.depth (length c.args.reader.now) c.args.reader.now s j is c.in_ok-part.ensures.gives
-    ∙ seconds.ended (wrapping c.args.room w j (wrap (c.args.room - 1) j)) c.args.depth (length c.args.reader.now) s c.next_key.new.self le key)
+    ∙ seconds.ended (wrapped c.args.room w j (wrap (c.args.room - 1) j)) c.args.depth (length c.args.reader.now) s c.next_key.new.self le key)
     c.unwrap_single.ensures
 
 pub read_wrapper-returns-then-not-is_code-clause-gives : goal.read_wrapper-returns-then-not-is_code-clause-gives
@@ -103,7 +102,7 @@ read_wrapper-returns-then-not-is_code-clause-gives t c = λ name is.
     let w = c.args.wrapper in
     let j = value_view c.in_ok-part.part in
     let s = c.read_part.new.reader in
-    let f = wrapping c.args.room w j (wrap (c.args.room - 1) j) in
+    let f = wrapped c.args.room w j (wrap (c.args.room - 1) j) in
     let le : length s ≤ length c.args.reader.now = omega (arith, c.in_ok-part.ensures.shorter) in
     let key = c.in_ok-second.ensures.value ∙ ap (λ k. Some (option_map (λ (s : Bor (List ℕ)). s.now) k, c.next_key.new.self)) c.in-Some.is in
     seconds.first_part w name c.args.room c.args.depth (length c.args.reader.now) c.args.reader.now s j is c.in_ok-part.ensures.gives
@@ -125,7 +124,7 @@ read_wrapper-returns-clause-gives t c = λ name is.
     let shorter = read_key-shorter s (Some c.in-Some.second.now) r key in
     let less : length r ≤ n - 1 = omega (arith, c.in_ok-part.ensures.shorter, shorter) in
     rw (seconds.first_part kinds.Code name c.args.room c.args.depth n c.args.reader.now s j (is ∙ ap Some code) c.in_ok-part.ensures.gives
-    ∙ seconds.named (wrapping c.args.room kinds.Code j u) c.in-Some.second.now c.args.depth n s r le key)
+    ∙ seconds.named (wrapped c.args.room kinds.Code j u) c.in-Some.second.now c.args.depth n s r le key)
     (c.read_scope_second.ensures.gives (n - 1) u less)
 
 -- ---- read_scope_second
@@ -146,10 +145,9 @@ read_scope_second-returns-in_err-end_object-clause-gives t c = λ n u le.
     let p = err_from_is_err_and c.from_residual-in_err-end_object.result c.from_residual-in_err-end_object.ensures.1 in
     let r = c.read_value.new.reader in
     let less : length r ≤ n = omega (arith, le, c.in_ok-scope.ensures.shorter) in
-    rw (p.1, p.2) (steps.fails_by c.in_err-end_object.field-0.0 (closing r) _
-    (λ none. seconds.scope_unended c.args.second.now c.args.room c.args.depth n c.args.reader.now r (value_view c.args.code.now) u
-    (tree_of c.in_ok-scope.scope) (sym c.if-not-names_scope.ensures) c.in_ok-scope.ensures.gives less none)
-    c.in_err-end_object.ensures.gives)
+    rw (p.1, p.2) (steps.fails_where c.in_err-end_object.field-0.0 _
+    (λ e. seconds.scope_unended c.args.second.now c.args.room c.args.depth n c.args.reader.now r (value_view c.args.code.now) u
+    (tree_of c.in_ok-scope.scope) (sym c.if-not-names_scope.ensures) c.in_ok-scope.ensures.gives less (c.in_err-end_object.ensures.refused e)))
 
 pub read_scope_second-returns-clause-gives : goal.read_scope_second-returns-clause-gives
 read_scope_second-returns-clause-gives t c = λ n u le.
@@ -159,7 +157,7 @@ read_scope_second-returns-clause-gives t c = λ n u le.
     steps.told tree_of c.code_with_scope.result s _ _
     (seconds.scope_ended c.args.second.now c.args.room c.args.depth n c.args.reader.now r s (value_view c.args.code.now) u
     (tree_of c.in_ok-scope.scope) (sym c.if-not-names_scope.ensures) c.in_ok-scope.ensures.gives less
-    c.in_ok-end_object.ensures.gives (omega arith))
+    c.in_ok-end_object.ensures.ended (omega arith))
     c.code_with_scope.ensures
 
 -- ---- read_scope_first

@@ -53,8 +53,7 @@ append_fields-loop-next-preserved t c =
 
 pub append_fields-end_body-requires : goal.append_fields-end_body-requires
 append_fields-end_body-requires t c =
-    let l = c.loop-next in
-    let size = bodies.body_size c.begin_body.result c.in_ok-at.at _ c.args.out.now.items (fields_bytes (fields_of l.invariant.1)) l.out.items c.in_ok-at.ensures.value c.begin_body.ensures.place l.invariant.5 in
+    let size = bodies.body_size c.begin_body.result c.in_ok-at.at _ c.args.out.now.items (fields_bytes (fields_of c.loop-next.invariant.1)) c.loop-next.out.items c.in_ok-at.ensures.value c.begin_body.ensures.place c.loop-next.invariant.5 in
     search rules
 
 pub append_fields-returns-clause-gives : goal.append_fields-returns-clause-gives
@@ -97,8 +96,7 @@ append_items-loop-alloc-preserved t c =
 
 pub append_items-end_body-requires : goal.append_items-end_body-requires
 append_items-end_body-requires t c =
-    let l = c.loop-alloc in
-    let size = bodies.body_size c.begin_body.result c.in_ok-at.at _ c.args.out.now.items (items_bytes 0 (items_of l.invariant.1)) l.out.items c.in_ok-at.ensures.value c.begin_body.ensures.place l.invariant.5 in
+    let size = bodies.body_size c.begin_body.result c.in_ok-at.at _ c.args.out.now.items (items_bytes 0 (items_of c.loop-alloc.invariant.1)) c.loop-alloc.out.items c.in_ok-at.ensures.value c.begin_body.ensures.place c.loop-alloc.invariant.5 in
     search rules
 
 pub append_items-returns-clause-gives : goal.append_items-returns-clause-gives

@@ -35,8 +35,8 @@ loop-run-preserved c =
       shorter = omega (arith, i.shorter, length-take {A = ℕ}, length-drop {A = ℕ});
     }
 
-pub returns-clause-ok : goal.returns-clause-ok
-returns-clause-ok c =
+pub returns-clause-text : goal.returns-clause-text
+returns-clause-text c =
     let e : position needs_escape c.loop-run.rest.now ≡ None = sym c.first_escape.ensures ∙ c.in_default.is in
     let i = c.loop-run.invariant in
     let room = c.put.new.room in
@@ -44,6 +44,8 @@ returns-clause-ok c =
     let same : length room ≡ length items = omega (arith, c.put.auto.room, c.as_mut_slice.ensures.len, c.make_room-2.new.out.ok.0) in
     let back = lent c.make_room-2.new.out.len room items same c.make_room-2.new.out.ok.0 in
     let lead : take c.loop-run.at c.as_mut_slice.result.now ≡ take c.loop-run.at c.loop-run.out.items = ap (λ (l : List ℕ). take c.loop-run.at l)
-    c.as_mut_slice.ensures.value ∙ c.make_room-2.ensures.kept in
-    ap (λ (l : List ℕ). take c.put.result l) back ∙ c.put.ensures.put ∙ ap (λ (l : List ℕ). l ++ c.loop-run.rest.now) lead
-    ∙ ap (λ (l : List ℕ). take c.loop-run.at c.loop-run.out.items ++ l) (sym (escaped-to_end c.loop-run.rest.now e)) ∙ i.whole
+    c.as_mut_slice.ensures.value ∙ c.make_room-2.ensures.kept in (
+      ap (λ (l : List ℕ). take c.put.result l) back ∙ c.put.ensures.put ∙ ap (λ (l : List ℕ). l ++ c.loop-run.rest.now) lead
+          ∙ ap (λ (l : List ℕ). take c.loop-run.at c.loop-run.out.items ++ l) (sym (escaped-to_end c.loop-run.rest.now e)) ∙ i.whole,
+      rw back (omega (arith, same, c.put.ensures.end, c.in_ok-make_room-2.ensures.room)),
+    )

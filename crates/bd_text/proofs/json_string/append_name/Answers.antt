@@ -2,15 +2,15 @@ use Rattle.std.proofs.Common.{◌≡◌, ◌++◌, ◌∷◌, [], List, ℕ, len
 use Rattle.std.specs.Prelude.{if◌then◌else◌}
 use Rattle.bd_text.specs.Text.{escaped, quoted}
 use Rattle.bd_text.proofs.JsonStringLemmas.{escaped-plain}
-use Rattle.bd_text.proofs.RoomLemmas.{front, lent_text, when_err}
+use Rattle.bd_text.proofs.RoomLemmas.{failed, front, lent, lent_text}
 use Rattle.bd_text.proofs.json_string.append_name.Goals as goal
 
-named : (old comma name : List ℕ) → (((old ++ comma) ++ 34 ∷ []) ++ name) ++ 34 ∷ 58 ∷ [] ≡ (old ++ comma) ++ ((34 ∷ (name ++ 34 ∷ [])) ++ 58 ∷ [])
+named : (old comma name : List ℕ) → (((old ++ comma) ++ 34 ∷ []) ++ name) ++ 34 ∷ 58 ∷ [] ≡ old ++ (comma ++ ((34 ∷ (name ++ 34 ∷ [])) ++ 58 ∷ []))
 named old comma name = simp append_assoc
 
-pub returns-then-copy_plain-clause-ok : goal.returns-then-copy_plain-clause-ok
+pub returns-then-copy_plain-clause-text : goal.returns-then-copy_plain-clause-text
 unfolding quoted
-returns-then-copy_plain-clause-ok c =
+returns-then-copy_plain-clause-text c =
     let made = c.make_room.new.out in
     let room = c.put_known.new.room in
     let old : List ℕ = take c.args.end c.args.out.now.items in
@@ -30,10 +30,10 @@ returns-then-copy_plain-clause-ok c =
     let written = c.copy_plain.ensures.copied c.if-copy_plain.true ∙ ap (λ (l : List ℕ). l ++ name) quote in
     let all = c.put_known.ensures.put ∙ ap (λ (l : List ℕ). l ++ 34 ∷ 58 ∷ []) written ∙ named old comma name in
     let plain : name ≡ escaped c.args.name.now = sym (escaped-plain name (c.copy_plain.ensures.plain c.if-copy_plain.true)) ∙ ap escaped c.as_bytes-bytes.ensures.value in
-    lent_text made.len c.put_known.result room made.items _ same made.ok.0 all ∙ ap (λ (l : List ℕ). (old ++ comma) ++ ((34 ∷ (l ++ 34 ∷ [])) ++ 58 ∷ [])) plain
+    (lent_text made.len c.put_known.result room made.items _ same made.ok.0 all ∙ ap (λ (l : List ℕ). old ++ (comma ++ ((34 ∷ (l ++ 34 ∷ [])) ++ 58 ∷ []))) plain, rw (lent made.len room made.items same made.ok.0) (omega (arith, same, c.put_known.ensures.end, c.copy_plain.auto.room, c.in_ok-make_room.ensures.room)))
 
-pub returns-in_err-at-clause-err : goal.returns-in_err-at-clause-err
-returns-in_err-at-clause-err c =
+pub returns-in_err-at-clause-text : goal.returns-in_err-at-clause-text
+returns-in_err-at-clause-text c =
     let made = c.make_room.new.out in
     let room = c.copy_plain.new.room in
     let old = c.args.out.now.items in
@@ -42,4 +42,4 @@ returns-in_err-at-clause-err c =
     let lead : take c.args.end c.as_mut_slice-room.result.now ≡ take c.args.end old = ap (λ (l : List ℕ). take c.args.end l) c.as_mut_slice-room.ensures.value ∙ c.make_room.ensures.kept in
     let quote = c.put_byte-at.ensures.put ∙ ap (λ (l : List ℕ). l ++ 34 ∷ []) (c.put_separator-at.ensures.put ∙ ap (λ (l : List ℕ). l ++ comma) lead) in
     let there = lent_text made.len c.put_byte-at.result room made.items _ same made.ok.0 (c.copy_plain.ensures.kept ∙ quote ∙ append_assoc (take c.args.end old) comma (34 ∷ [])) in
-    when_err _ _ (front c.args.end c.put_byte-at.result old (comma ++ 34 ∷ []) c.append_escaped.new.out.items (omega arith) (c.in_err-at.ensures.err ∙ there))
+    failed _ _ _ _ c.from_residual-in_err-at.result c.from_residual-in_err-at.ensures.0 (front c.args.end c.put_byte-at.result old (comma ++ 34 ∷ []) c.append_escaped.new.out.items (omega arith) (c.in_err-at.ensures.text ∙ there))
