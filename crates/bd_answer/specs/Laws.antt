@@ -1,7 +1,8 @@
 -- What always holds of answers, of collections that are cut into parts, and of sessions.
 use Rattle.std.specs.Prelude.{ℕ, ◌+◌, ◌-◌, ◌<◌, ◌≤◌, ◌≡◌, ◌≢◌, ◌==◌, nat_lt, min, Bool, true, false, if◌then◌else◌}
-use Rattle.std.specs.Prelude.{List, [], ◌∷◌, ◌++◌, drop, length, map, slice_get, slice_index_or, Option, Some, None, IfSome}
-use Rattle.std.specs.{declared.cmp.Ordering.Ordering, Cmp.IsTotalOrder, Option.option_cmp, List.AllPairs, List.filter_map}
+use Rattle.std.specs.Prelude.{List, [], ◌∷◌, drop, length, map, slice_get, slice_index_or, Option, Some, None, IfSome}
+use Rattle.std.specs.{declared.cmp.Ordering.Ordering, Cmp.IsTotalOrder, Option.option_cmp}
+use Rattle.std.specs.List.{AllPairs, filter_map, flat_map, zip}
 use Rattle.bd_answer.specs.Answer.{Selection, Mark, answer, batches, rest}
 use Rattle.bd_answer.specs.Session.{Call, GivenBatch, Query, Reply, State, gave, greatest_size, kill_call, most_given, next_call, reply}
 use Rattle.bd_answer.specs.Session.{state_after}
@@ -95,9 +96,7 @@ batch_to id (next_call i n) r = if i == id then batch_in r else []
 batch_to id c r = []
 
 abbrev pub batches_to : ℕ → List Call → List Reply → List GivenBatch
-batches_to id [] rs = []
-batches_to id (c ∷ cs) [] = []
-batches_to id (c ∷ cs) (r ∷ rs) = batch_to id c r ++ batches_to id cs rs
+batches_to id calls rs = flat_map (λ p. batch_to id p.0 p.1) (zip calls rs)
 
 -- each batch's token is of the request, and leads on to what is left after the batch
 abbrev pub TokensFollow : Query → List ℕ → List GivenBatch → Type 0
@@ -125,5 +124,4 @@ attempt_replies s (a ∷ later) =
     (if a.1 then None else Some (reply s a.0)) ∷ attempt_replies (if a.1 then s else state_after s a.0) later
 
 abbrev pub answered_calls : List (Call × Bool) → List Call
-answered_calls [] = []
-answered_calls (a ∷ later) = if a.1 then answered_calls later else a.0 ∷ answered_calls later
+answered_calls = filter_map (λ a. if a.1 then None else Some a.0)
