@@ -1,48 +1,25 @@
 -- What always holds of answers, of collections that are cut into parts, and of sessions.
-use Rattle.std.specs.Prelude.{ℕ, ◌+◌, ◌-◌, ◌<◌, ◌≤◌, ◌≡◌, ◌≢◌, ◌==◌, ◌↔◌, nat_lt, sum, min, Bool, true, false, if◌then◌else◌}
-use Rattle.std.specs.Prelude.{List, [], ◌∷◌, ◌++◌, take, drop, length, map, slice_get, slice_index_or, Contains, Option, Some, None, IfSome}
+use Rattle.std.specs.Prelude.{ℕ, ◌+◌, ◌-◌, ◌<◌, ◌≤◌, ◌≡◌, ◌≢◌, ◌==◌, nat_lt, min, Bool, true, false, if◌then◌else◌}
+use Rattle.std.specs.Prelude.{List, [], ◌∷◌, drop, length, map, slice_get, slice_index_or, Option, Some, None, IfSome}
 use Rattle.std.specs.{declared.cmp.Ordering.Ordering, Cmp.IsTotalOrder, Option.option_cmp}
-use Rattle.std.specs.List.{AllPairs, concat, filter_map, flat_map}
-use Rattle.bd_answer.specs.Answer.{Selection, Mark, answer, batches, before, ordered, rest}
-use Rattle.bd_answer.specs.Session.{Call, GivenBatch, MarkedToken, Query, Reply, State, find_call, gave, given_by, greatest_size, kill_call}
-use Rattle.bd_answer.specs.Session.{left_after, most_given, next_call, opened, reply, resume_call, state_after}
+use Rattle.std.specs.List.{AllPairs, filter_map, flat_map, zip}
+use Rattle.bd_answer.specs.Answer.{Selection, Mark, answer, batches, rest}
+use Rattle.bd_answer.specs.Session.{Call, GivenBatch, Query, Reply, State, gave, greatest_size, kill_call, most_given, next_call, reply}
+use Rattle.bd_answer.specs.Session.{state_after}
 
 pub record IsStrictOrder (lt : ℕ → ℕ → Bool) : Type 0 where
   pub irreflexive : (x : ℕ) → lt x x ≡ false
   pub transitive : (x y z : ℕ) → lt x y ≡ true → lt y z ≡ true → lt x z ≡ true
   pub connected : (x y : ℕ) → lt x y ≡ false → lt y x ≡ false → x ≡ y
 
--- of two places one comes before the other
-abbrev pub BeforeIsStrict : Type 0
-BeforeIsStrict = (by : ℕ → ℕ → Ordering) → IsTotalOrder by → IsStrictOrder (before by)
-
 -- each earlier one is before each later one, so that none comes twice
 abbrev pub IsAscending : (ℕ → ℕ → Bool) → List ℕ → Type 0
 IsAscending lt = AllPairs (λ x y. lt x y ≡ true)
-
-abbrev pub OrderedAscends : Type 0
-OrderedAscends = (a : Selection) → IsTotalOrder a.by → IsAscending (before a.by) (ordered a)
-
--- before skip and limit, each place that matches is there and no other
-abbrev pub OrderedHasTheMatches : Type 0
-OrderedHasTheMatches = (a : Selection) (p : ℕ) → Contains (ordered a) p ↔ ((p < a.count) × (a.hits p ≡ true))
-
-abbrev pub AnswerAscends : Type 0
-AnswerAscends = (a : Selection) → IsTotalOrder a.by → IsAscending (before a.by) (answer a)
-
--- the batches, joined, are the first places, as many as the sizes ask for
-abbrev pub BatchesAreTheFirst : Type 0
-BatchesAreTheFirst = (ps sizes : List ℕ) → concat (batches ps sizes) ≡ take (sum sizes) ps
 
 -- a mark after k places of a list, of which some were given before; the count of those given stays at its greatest value
 abbrev pub IsMarkAfter : ℕ → ℕ → ℕ → List ℕ → Mark → Type 0
 IsMarkAfter most old k ps m =
     (0 < k) × (k ≤ length ps) × (m.given ≡ min most (old + k)) × ((d : ℕ) → m.last ≡ slice_index_or ps (k - 1) d)
-
--- from a mark in what is left after a token, whoever made it, or in the whole answer, exactly the rest follows
-abbrev pub RestFollows : Type 0
-RestFollows = (a : Selection) → IsTotalOrder a.by → (most : ℕ) → a.limit ≤ most → (t : Option MarkedToken) (k : ℕ) (m : Mark) →
-    IsMarkAfter most (given_by t) k (left_after a t) m → rest a m ≡ drop k (left_after a t)
 
 -- ---- parts
 
@@ -80,18 +57,6 @@ part_request r limit = record r { skip = 0; limit = limit }
 abbrev pub IsEnough : {A : Type 0} → DocumentRequest A → ℕ → Type 0
 IsEnough r limit = limit ≢ 0 → (r.limit ≢ 0) × (r.skip + r.limit ≤ limit)
 
--- the same request over what each part gave, joined in the order of the parts, gives the answer of the whole: the same
--- documents in the same order, also of those that tie
-abbrev pub PartsGiveTheWhole : Type 0 → Type 0
-PartsGiveTheWhole A = (r : DocumentRequest A) → IsTotalOrder r.by → (limit : ℕ) → IsEnough r limit → (parts : List (List A)) →
-    found_in r (flat_map (λ ds. ds) parts) ≡ found_in r (flat_map (found_in (part_request r limit)) parts)
-
--- any stretch of a collection may be asked by itself, under a limit of its own, while the rest stays as it is: so parts may be
--- asked by different limits, or some of them alone, or in parts of their own
-abbrev pub StretchGivesTheWhole : Type 0 → Type 0
-StretchGivesTheWhole A = (r : DocumentRequest A) → IsTotalOrder r.by → (limit : ℕ) → IsEnough r limit → (front stretch back : List A) →
-    found_in r (front ++ (stretch ++ back)) ≡ found_in r (front ++ (found_in (part_request r limit) stretch ++ back))
-
 -- a selection that says of the places of a collection what the request says of the documents there
 pub record IsSelectionOf {A : Type 0} (r : DocumentRequest A) (ds : List A) (a : Selection) : Type 0 where
   pub count : a.count ≡ length ds
@@ -99,11 +64,6 @@ pub record IsSelectionOf {A : Type 0} (r : DocumentRequest A) (ds : List A) (a :
   pub by : (i j : ℕ) (d e : A) → slice_get ds i ≡ Some d → slice_get ds j ≡ Some e → a.by i j ≡ r.by d e
   pub skip : a.skip ≡ r.skip
   pub limit : a.limit ≡ r.limit
-
--- the documents that answer a request are those at the places of the answer of any such selection
-abbrev pub AnswerGivesFound : Type 0 → Type 0
-AnswerGivesFound A = (r : DocumentRequest A) (ds : List A) (a : Selection) → IsSelectionOf r ds a →
-    filter_map (slice_get ds) (answer a) ≡ found_in r ds
 
 -- ---- sessions
 
@@ -136,9 +96,7 @@ batch_to id (next_call i n) r = if i == id then batch_in r else []
 batch_to id c r = []
 
 abbrev pub batches_to : ℕ → List Call → List Reply → List GivenBatch
-batches_to id [] rs = []
-batches_to id (c ∷ cs) [] = []
-batches_to id (c ∷ cs) (r ∷ rs) = batch_to id c r ++ batches_to id cs rs
+batches_to id calls rs = flat_map (λ p. batch_to id p.0 p.1) (zip calls rs)
 
 -- each batch's token is of the request, and leads on to what is left after the batch
 abbrev pub TokensFollow : Query → List ℕ → List GivenBatch → Type 0
@@ -155,20 +113,6 @@ GivesInTurn q id ps calls given =
 abbrev pub IsFair : Query → Type 0
 IsFair q = IsTotalOrder q.selection.by × (q.selection.limit ≤ most_given)
 
--- after any calls, a cursor that `find` opened gives the answer, whatever other calls stand between
-abbrev pub FindGivesTheAnswer : Type 0
-FindGivesTheAnswer = (earlier later : List Call) (q : Query) (hint : Option (List ℕ)) (id : ℕ) → IsFair q →
-    let s = state_after_all new_state earlier in
-    reply s (find_call q hint) ≡ opened id →
-    GivesInTurn q id (answer q.selection) later (batches_to id later (replies (state_after s (find_call q hint)) later))
-
--- and one that `resume` opened the rest
-abbrev pub ResumeGivesTheRest : Type 0
-ResumeGivesTheRest = (earlier later : List Call) (q : Query) (hint : Option (List ℕ)) (t : MarkedToken) (id : ℕ) → IsFair q →
-    let s = state_after_all new_state earlier in
-    reply s (resume_call q hint t) ≡ opened id →
-    GivesInTurn q id (rest q.selection t.mark) later (batches_to id later (replies (state_after s (resume_call q hint t)) later))
-
 -- calls, each with whether it was refused because memory ran out: then it changed nothing, and has no reply
 abbrev pub state_after_attempts : State → List (Call × Bool) → State
 state_after_attempts s [] = s
@@ -180,12 +124,4 @@ attempt_replies s (a ∷ later) =
     (if a.1 then None else Some (reply s a.0)) ∷ attempt_replies (if a.1 then s else state_after s a.0) later
 
 abbrev pub answered_calls : List (Call × Bool) → List Call
-answered_calls [] = []
-answered_calls (a ∷ later) = if a.1 then answered_calls later else a.0 ∷ answered_calls later
-
--- Calls that were refused because memory ran out are as if they were not made: the others have the replies that they have
--- without them, and lead to the same state.
-abbrev pub StarvedLeaveNoTrace : Type 0
-StarvedLeaveNoTrace = (s : State) (attempts : List (Call × Bool)) →
-    (state_after_attempts s attempts ≡ state_after_all s (answered_calls attempts))
-    × (filter_map (λ r. r) (attempt_replies s attempts) ≡ replies s (answered_calls attempts))
+answered_calls = filter_map (λ a. if a.1 then None else Some a.0)

@@ -12,7 +12,7 @@ use Rattle.std.specs.List.{list_any, range_with_len, join_with_byte, position, p
 use Rattle.std.specs.declared.cmp.Ordering.TheVariants.{Less, Equal, Greater}
 use Rattle.std.specs.{Bool.Decides, Cmp.Lexicographic.pointwise, Borrow.Bor, Option.option_copied, List.Sorted.IsStrictlyIncreasing, Ordering.is_lt, Cmp.IsTotalOrder, Str.bytes_eq}
 use Rattle.bd_value.specs.Tree.{Doc, Tree, doc, fields_of, leaf}
-use Rattle.bd_answer.specs.Session.{Explanation, PlanKind, IndexMark, is_on}
+use Rattle.bd_answer.specs.Session.{IndexMark, is_on}
 use Rattle.bd_answer.specs.{Answer.before, Answer.Selection, Answer.matching, Laws.IsAscending, Source.IsSource, Source.passes}
 use Rattle.bd_bson.specs.{Collection.documents, declared.collection.Dump.Dump, Collection.document_at}
 use Rattle.bd_path.specs.Key.{indexed_keys, keys, sparse_keys}
@@ -192,10 +192,6 @@ lent_within {sparse} {path} {ds} {b} {ps} {entries} r e w = subst (λ k. AreWith
 
 pub count_more : (hits : ℕ → Bool) (n : ℕ) → count_by hits (range_with_len 0 (n + 1)) ≡ count_by hits (range_with_len 0 n) + cond (hits n) 1 0
 count_more hits n = simp map-id at (sum_by-map-range_with_len_more (λ (y : ℕ). cond (hits y) 1 0) (λ (y : ℕ). y) 0 n n (omega arith))
-
-pub told_as : {o p : Option (List ℕ)} {a b c d m n : ℕ} (k : PlanKind) → o ≡ p → a ≡ b → c ≡ d → m ≡ n
-    → (let x : Explanation = record { plan = k; index = o; entries = a; looked_at = c; matches = m } in x) ≡ (record { plan = k; index = p; entries = b; looked_at = d; matches = n })
-told_as k e f g h = λ i. record { plan = k; index = e i; entries = f i; looked_at = g i; matches = h i }
 
 pub matches_of_all : (ds : List Doc) (r : Request) (n : ℕ) → n ≡ count_by (hits_of ds (filter_tree r.filter)) (range_with_len 0 (length ds)) → n ≡ length (matching (selection_of ds r))
 matches_of_all ds r n h = h ∙ sym (length-filter (hits_of ds (filter_tree r.filter)) (range_with_len 0 (length ds)))

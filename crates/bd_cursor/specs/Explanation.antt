@@ -1,17 +1,19 @@
 -- What is told of how the documents of a request are found.
-use Rattle.std.specs.Prelude.{ℕ, List, count_by, length, Some, None}
+use Rattle.std.specs.Prelude.{ℕ, List, [], ◌∷◌, codes, count_by, length, option_map, string_bytes, Option, Some, None}
 use Rattle.std.specs.List.{filter, list_any, range_with_len}
-use Rattle.bd_value.specs.Tree.{Doc}
+use Rattle.bd_value.specs.Tree.{Doc, leaf}
 use Rattle.bd_answer.specs.Answer.{matching}
-use Rattle.bd_answer.specs.Session.{Explanation, IndexCounts, IndexMark, by_index, by_scan, by_walk}
+use Rattle.bd_answer.specs.Session.{IndexCounts, IndexMark}
 use Rattle.bd_path.specs.Key.{indexed_keys}
-use Rattle.bd_request.specs.Request.{Request, request_view}
+use Rattle.bd_request.specs.{Request.Request, Request.request_view, Results.count_value, Results.text_or_null}
 use Rattle.bd_bson.specs.Collection.{document_at}
 use Rattle.bd_sort.specs.Selection.{selection_for}
 use Rattle.bd_bounds.specs.Bounds.{KeyBounds, is_among}
 use Rattle.bd_index.specs.{Entries.entries_of, Entries.is_multikey, Places.has_key_in}
 use Rattle.bd_cursor.specs.Access.{AccessPath, Way, access_of, bounded, mark_names, scanned, walked, way_of}
-use Rattle.bd_cursor.specs.declared.access.Choice.{Choice}
+use Rattle.bd_cursor.specs.{declared.access.Choice.Choice, declared.explaining.Explain.Explain, declared.explaining.Plan.Plan}
+use Rattle.bd_value.specs.Tree as trees
+use Rattle.bd_cursor.specs.declared.explaining.Plan.TheVariants as plans
 use Rattle.bd_request.specs.declared.request.Request as declared
 
 -- how many entries the index of these documents has, and whether one of them has two keys
@@ -28,23 +30,33 @@ abbrev pub places_within : List Doc → IndexMark → KeyBounds → List ℕ
 places_within ds i b = filter (λ p. list_any (is_among b) (indexed_keys i.is_sparse (document_at ds p) (mark_names i)))
     (range_with_len 0 (length ds))
 
--- what is read on an access path, and how many documents match
-abbrev pub explained_access : List Doc → ℕ → AccessPath → Explanation
-explained_access ds n scanned = record { plan = by_scan; index = None; entries = 0; looked_at = length ds; matches = n }
-explained_access ds n (bounded i b) = record {
-  plan = by_index;
-  index = Some i.path;
-  entries = entries_within ds i b;
-  looked_at = length (places_within ds i b);
-  matches = n;
-}
-explained_access ds n (walked i dir) =
-    record { plan = by_walk; index = Some i.path; entries = (index_counts ds i).entries; looked_at = length ds; matches = n }
+abbrev pub plan_name : Plan → List ℕ
+plan_name plans.Scan = codes "scan"
+plan_name plans.Index = codes "index"
+plan_name plans.Walk = codes "walk"
+
+-- what is told, as the pairs of a document: the plan, the path of the index, the entries that are read, the documents that are
+-- looked at, and those that match
+abbrev pub explanation : Plan → Option (List ℕ) → ℕ → ℕ → ℕ → Doc
+explanation plan index entries documents matches =
+    (codes "plan", leaf (trees.text (plan_name plan))) ∷ (codes "index", text_or_null index) ∷ (codes "entries", count_value entries)
+    ∷ (codes "documents", count_value documents) ∷ (codes "matches", count_value matches) ∷ []
+
+-- by one in memory
+abbrev pub told : Explain → Doc
+told e = explanation e.plan (option_map string_bytes e.index) e.entries e.documents e.matches
+
+-- on an access path, where so many match
+abbrev pub explained_access : List Doc → ℕ → AccessPath → Doc
+explained_access ds n scanned = explanation plans.Scan None 0 (length ds) n
+explained_access ds n (bounded i b) =
+    explanation plans.Index (Some i.path) (entries_within ds i b) (length (places_within ds i b)) n
+explained_access ds n (walked i dir) = explanation plans.Walk (Some i.path) (index_counts ds i).entries (length ds) n
 
 -- of what a request selects
-abbrev pub explanation_for : List Doc → Request → Way → List IndexMark → Explanation
+abbrev pub explanation_for : List Doc → Request → Way → List IndexMark → Doc
 explanation_for ds r way indexes =
     explained_access ds (length (matching (selection_for ds r.filter r.sorts r.skip r.limit))) (access_of ds r.filter r.sorts way indexes)
 
-abbrev pub explanation_of : List Doc → declared.Request → Choice → List IndexMark → Explanation
+abbrev pub explanation_of : List Doc → declared.Request → Choice → List IndexMark → Doc
 explanation_of ds r choice = explanation_for ds (request_view r) (way_of choice)

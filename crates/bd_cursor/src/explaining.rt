@@ -1,4 +1,4 @@
-//! What is read on an access path.
+//! How the documents of a request are found, and what is read for them.
 
 ghost use Rattle.std.specs.Prelude.{◌≡◌, ◌<◌, All, IfOk, count_by, length, map};
 ghost use Rattle.std.specs.List.{range_with_len};
@@ -8,20 +8,44 @@ ghost use Rattle.bd_filter.specs.Filter.{filter_tree};
 ghost use Rattle.bd_sort.specs.Selection.{selection_of, hits_of};
 ghost use Rattle.bd_index.specs.IndexView.{AreIndexesOf};
 ghost use Rattle.bd_cursor.specs.Access.{IsAccessOf, access_path, index_mark};
-ghost use Rattle.bd_cursor.specs.Explanation.{explained_access, explanation_of};
-ghost use Rattle.bd_request.specs.Results.{told};
+ghost use Rattle.bd_cursor.specs.Explanation.{explained_access, explanation_of, told};
 
 use crate::access::{Access, Choice};
 use bd_bson::Dump;
 use bd_filter::Filter;
 use bd_index::Index;
-use bd_request::{Explain, Plan, Request};
+use bd_request::Request;
 use bd_sort::is_match;
 use bd_value::NoMemory;
 use std::alloc::Global;
 
+/// How documents are found.
+#[derive(Clone, Copy, Debug)]
+pub enum Plan {
+    /// Each document is looked at.
+    Scan,
+    /// Those with an entry inside the bounds of an index.
+    Index,
+    /// All, in the order of an index.
+    Walk,
+}
+
+/// How the documents of a request are found, and how many of them.
+#[derive(Debug, Drop)]
+pub struct Explain {
+    pub plan: Plan,
+    /// The path of the index; none for a scan.
+    pub index: Option<String>,
+    /// How many entries of the index are read.
+    pub entries: u64,
+    /// How many documents are looked at.
+    pub documents: u64,
+    /// How many match, before any is passed over and whatever the limit is.
+    pub matches: u64,
+}
+
 /// Which plan a request has, and what is read by it. It fails only if memory runs out.
-pub(crate) fn explain(
+pub(crate) fn explanation_of(
     alloc: Global,
     dump: &Dump,
     indexes: &[Index],

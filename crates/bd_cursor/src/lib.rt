@@ -31,7 +31,7 @@
 //! - `session`: `Session` and its calls, and the digest of a dump, taken once: `specs/SessionView.antt`.
 //! - `cursor`: the open cursors, and the places that each has left.
 //! - `access`: `Access`, how documents are reached, and `Choice`, which index is to be used: `specs/Access.antt`.
-//! - `explaining`: what is told of an access path: `specs/Explanation.antt`.
+//! - `explaining`: `Explain` and `Plan`, what is told of an access path: `specs/Explanation.antt`.
 #![tactic(auto)]
 
 mod access;
@@ -41,7 +41,6 @@ mod session;
 
 pub use access::{Access, Choice};
 pub use bd_answer::PlaceSource;
-pub use bd_request::{
-    Batch, Explain, Made, Plan, Refused, Request, Token, dump_digest, request_digest,
-};
+pub use bd_request::{Batch, Made, Refused, Request, Token, dump_digest, request_digest};
+pub use explaining::{Explain, Plan};
 pub use session::{Session, requests_are_fair};

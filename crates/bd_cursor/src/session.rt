@@ -10,11 +10,11 @@ ghost use Rattle.bd_sort.specs.Selection.{query_of};
 
 use crate::access::{Choice, index_on};
 use crate::cursor::{Cursor, Remainder, close, close_at_end, place_of};
-use crate::explaining::explain;
+use crate::explaining::{Explain, explanation_of};
 use bd_bson::Dump;
 use bd_index::Index;
 use bd_path::Path;
-use bd_request::{Batch, Explain, Made, Refused, Request, Token, dump_digest, request_digest};
+use bd_request::{Batch, Made, Refused, Request, Token, dump_digest, request_digest};
 use bd_value::NoMemory;
 use std::alloc::Global;
 
@@ -51,7 +51,8 @@ impl Session {
     ghost use Rattle.bd_cursor.specs.Access.{index_mark};
     ghost use Rattle.bd_cursor.specs.SessionView.{IsGranted, IsOpening, IsRefusedCall, Steps, dump_of, given_batch, marked_token, path_mark};
     ghost use Rattle.bd_cursor.specs.SessionView.{explain_request, hint_of, make_index, make_of, state_of};
-    ghost use Rattle.bd_request.specs.Results.{made_counts, told};
+    ghost use Rattle.bd_cursor.specs.Explanation.{told};
+    ghost use Rattle.bd_request.specs.Results.{made_counts};
 
     /// A session with no index and no cursor. It takes no memory.
     pub fn new(alloc: Global, dump: Dump) -> Session
@@ -124,7 +125,7 @@ impl Session {
     {
         self.has_choice(choice)?;
         let dump = &self.documents.dump;
-        let explanation = explain(self.alloc, dump, &self.indexes, request, choice)?;
+        let explanation = explanation_of(self.alloc, dump, &self.indexes, request, choice)?;
         Ok(explanation)
     }
 

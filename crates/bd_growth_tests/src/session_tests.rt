@@ -5,7 +5,7 @@ use crate::service_tests::{RESUMED, TALK};
 use bd_cursor::{Choice, Request, Session, Token};
 use bd_extjson::read_doc;
 use bd_path::Path;
-use bd_reply::{Reply, write_reply};
+use bd_service::{Reply, write_reply};
 use std::alloc::Global;
 
 /// A filter, a sort, a skip and a limit.

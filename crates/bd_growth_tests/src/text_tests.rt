@@ -6,7 +6,7 @@ use bd_check::read_document;
 use bd_cursor::{Batch, Token};
 use bd_extjson::{LineRoom, write_doc, write_node, write_value};
 use bd_pack::Packer;
-use bd_reply::{Reply, write_reply};
+use bd_service::{Reply, write_reply};
 use bd_value::{Document, NoMemory, Value};
 use std::alloc::Global;
 

@@ -1,14 +1,14 @@
 -- Tokens and their bytes.
 use Rattle.std.proofs.Common.{◌≡◌, ◌≤◌, ◌<◌, ◌^◌, ◌+◌, ◌++◌, replicate, ◌==◌, ◌&&◌, ℕ, Bool, true, false, cond, List, [], ◌∷◌, Option, Some, None, Result, Ok}
 use Rattle.std.proofs.Common.{length, take, drop, refl, sym, ap, ap₂, ◌∙◌, arith}
-use Rattle.std.specs.Int.{from_le_bytes, to_le_bytes, w32, w64}
+use Rattle.std.specs.{Int.from_le_bytes, Int.to_le_bytes, Int.w32, Int.w64, Option.option_and_then, Result.result_ok}
 use Rattle.std.proofs.{lemmas.Bool.eqb-true, Math.Seq.drop-append_seam, Math.Seq.take-append_seam, lemmas.Nat.from_le_bytes-to_le_bytes_4}
 use Rattle.std.proofs.lemmas.List.{length-append, length-replicate, length-take-le, take_all}
 use Rattle.std.proofs.{lemmas.Nat.from_le_bytes-to_le_bytes_8}
 use Rattle.base64.proofs.RoundTrip.{length-encode_symbols}
 use Rattle.base64.specs.{Rfc4648.encode_symbols, Rfc4648.padding_len, Engines.standard, GeneralPurpose.decode_of, GeneralPurpose.encode_of}
 use Rattle.base64.specs.{declared.decode.DecodeError.DecodeError}
-use Rattle.bd_request.specs.Token.{token_after_version, token_bytes, token_decoded, token_in, token_of, token_text}
+use Rattle.bd_request.specs.Token.{token_after_version, token_bytes, token_in, token_of, token_text}
 use Rattle.bd_request.specs.declared.token.Token.{Token}
 
 -- one part, and what is left after it
@@ -38,8 +38,8 @@ token_parted bytes rest rest2 rest3 given last digest version n m is one a b c w
 
 -- ---- and their texts
 
-decoded_as : (text : List ℕ) (r : Result (List ℕ) DecodeError) → length text ≡ 60 → decode_of standard text ≡ r → token_decoded true r ≡ token_of text
-decoded_as text r size is = sym (ap₂ token_decoded (ap (λ n. n == 60) size) is)
+decoded_as : (text : List ℕ) (r : Result (List ℕ) DecodeError) → length text ≡ 60 → decode_of standard text ≡ r → option_and_then token_in (result_ok r) ≡ token_of text
+decoded_as text r size is = sym (ap₂ (λ (n : ℕ) (o : Result (List ℕ) DecodeError). cond (n == 60) (option_and_then token_in (result_ok o)) None) size is)
 
 pub token_there : (text new : List ℕ) (n : ℕ) → length text ≡ 60 → decode_of standard text ≡ Ok (take n new) → n ≡ 45 → length new ≡ 45 → token_in new ≡ token_of text
 token_there text new n size whole is l =

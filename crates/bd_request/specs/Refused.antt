@@ -1,30 +1,29 @@
 -- Why a call is refused, in words and by its number.
-use Rattle.std.specs.Prelude.{◌≡◌, ◌⊎◌, ℕ, List, Result, Ok, Err, codes}
+use Rattle.std.specs.Prelude.{◌≡◌, ◌⊎◌, ◌-◌, ℕ, List, [], Result, Ok, Err, get_or, map}
 use Rattle.std.specs.Result.{result_map_both}
 use Rattle.bd_filter.specs.Fault.{Refusal, filter_fault_words, refusal_of}
-use Rattle.bd_request.specs.declared.results.Refused.{Refused}
+use Rattle.bd_request.specs.{declared.results.Refused.Refused, declared.results.TheConstants.WORDS}
 use Rattle.bd_request.specs.declared.results.Refused.TheVariants as reasons
 
--- the number by which a reply tells it, and what is wrong, in words
-abbrev pub refused_row : Refused → ℕ × List ℕ
-refused_row reasons.BadSort = (1, codes "not a sort")
-refused_row reasons.NoIndex = (2, codes "no such index")
-refused_row reasons.IndexThere = (3, codes "index is there")
-refused_row reasons.TooManyIndexes = (4, codes "too many indexes")
-refused_row reasons.TooManyCursors = (5, codes "too many cursors")
-refused_row reasons.NoCursor = (6, codes "no such cursor")
-refused_row reasons.BadToken = (7, codes "not a token")
-refused_row reasons.ForeignToken = (8, codes "token of another dump or request")
-refused_row reasons.TokenPlace = (9, codes "token place past the dump")
-refused_row reasons.Range = (10, codes "number out of range")
-refused_row reasons.NoMemory = (11, codes "no memory")
-refused_row (reasons.BadFilter fault) = (12, filter_fault_words fault.kind)
-
+-- the number by which a reply tells it
 abbrev pub refused_number : Refused → ℕ
-refused_number refused = (refused_row refused).0
+refused_number reasons.BadSort = 1
+refused_number reasons.NoIndex = 2
+refused_number reasons.IndexThere = 3
+refused_number reasons.TooManyIndexes = 4
+refused_number reasons.TooManyCursors = 5
+refused_number reasons.NoCursor = 6
+refused_number reasons.BadToken = 7
+refused_number reasons.ForeignToken = 8
+refused_number reasons.TokenPlace = 9
+refused_number reasons.Range = 10
+refused_number reasons.NoMemory = 11
+refused_number (reasons.BadFilter fault) = 12
 
-abbrev pub refused_words : Refused → List ℕ
-refused_words refused = (refused_row refused).1
+-- what is wrong, in words, which stand in the code by number; of a filter those of its fault
+unfoldable pub refused_words : Refused → List ℕ
+refused_words (reasons.BadFilter fault) = filter_fault_words fault.kind
+refused_words refused = get_or (map (λ text. text.now) WORDS) (refused_number refused - 1) []
 
 -- the reason of a refusal: that of a filter as its definition has it
 pub data Reason : Type 0 where

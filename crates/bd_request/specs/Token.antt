@@ -1,11 +1,10 @@
 -- Where the answer of a request goes on, as a text.
-use Rattle.std.specs.Prelude.{ℕ, ◌==◌, ◌&&◌, Bool, true, false, List, [], ◌∷◌, ◌++◌, length, take, drop, Option, Some}
-use Rattle.std.specs.Prelude.{None, Result, Ok, Err, if◌then◌else◌}
+use Rattle.std.specs.Prelude.{ℕ, ◌==◌, ◌&&◌, List, [], ◌∷◌, ◌++◌, length, take, drop, if◌then◌else◌}
+use Rattle.std.specs.{Prelude.Option, Prelude.Some, Prelude.None, Prelude.option_and_then, Result.result_ok}
 use Rattle.std.specs.Int.{w32, w64, from_le_bytes, to_le_bytes}
-use Rattle.base64.specs.{Engines.standard, declared.decode.DecodeError.DecodeError, GeneralPurpose.decode_of}
-use Rattle.base64.specs.{GeneralPurpose.encode_of}
-use Rattle.bd_request.specs.declared.token.Token.{Token}
+use Rattle.base64.specs.{Engines.standard, GeneralPurpose.decode_of, GeneralPurpose.encode_of}
 use Rattle.sha2.specs.Sha256.{sha256}
+use Rattle.bd_request.specs.declared.token.Token.{Token}
 
 -- version 1; how many documents were given, and the place of the last, the least byte first; and the digest: 45 bytes
 abbrev pub token_bytes : Token → List ℕ
@@ -28,14 +27,9 @@ abbrev pub token_in : List ℕ → Option Token
 token_in [] = None
 token_in (version ∷ bytes) = if (version == 1) && (length bytes == 44) then Some (token_after_version bytes) else None
 
--- the token of what a text of the right length, or of another, is decoded to
-abbrev pub token_decoded : Bool → Result (List ℕ) DecodeError → Option Token
-token_decoded true (Ok bytes) = token_in bytes
-token_decoded _ _ = None
-
 -- the token that a text is: no bit and no sign of padding is loose
 abbrev pub token_of : List ℕ → Option Token
-token_of text = token_decoded (length text == 60) (decode_of standard text)
+token_of text = if length text == 60 then option_and_then token_in (result_ok (decode_of standard text)) else None
 
 -- the digest of the dump's bytes, and after it the text of the request
 abbrev pub token_digest : List ℕ → List ℕ → List ℕ

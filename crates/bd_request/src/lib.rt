@@ -16,8 +16,8 @@
 //!
 //! - `request`: `Request`, the sort that a document asks for, and the text that tokens are tied to: `specs/Request.antt`.
 //! - `token`: `Token`, to and from its text, and what ties one to a dump and a request: `specs/Token.antt`.
-//! - `results`: `Batch`, `Made`, `Explain`, what the calls of a session give, and `Refused`, why one is refused:
-//!   `specs/Results.antt`, `specs/Refused.antt`.
+//! - `results`: `Batch`, `Made`, what calls of a session give, and `Refused`, why one is refused: `specs/Results.antt`,
+//!   `specs/Refused.antt`.
 #![tactic(auto)]
 
 mod request;
@@ -25,5 +25,5 @@ mod results;
 mod token;
 
 pub use request::Request;
-pub use results::{Batch, Explain, Made, Plan, Refused};
+pub use results::{Batch, Made, Refused};
 pub use token::{Token, dump_digest, request_digest};

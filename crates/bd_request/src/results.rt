@@ -29,31 +29,6 @@ pub struct Made {
     pub multikey: bool,
 }
 
-/// How documents are found.
-#[derive(Clone, Copy, Debug)]
-pub enum Plan {
-    /// Each document is looked at.
-    Scan,
-    /// Those with an entry inside the bounds of an index.
-    Index,
-    /// All, in the order of an index.
-    Walk,
-}
-
-/// How the documents of a request are found, and how many of them.
-#[derive(Debug, Drop)]
-pub struct Explain {
-    pub plan: Plan,
-    /// The path of the index; none for a scan.
-    pub index: Option<String>,
-    /// How many entries of the index are read.
-    pub entries: u64,
-    /// How many documents are looked at.
-    pub documents: u64,
-    /// How many match, before any is passed over and whatever the limit is.
-    pub matches: u64,
-}
-
 /// Why a request, a token or a call of a session is refused.
 #[derive(Debug, Drop, Error)]
 #[error("{}", self.words())]
@@ -84,38 +59,50 @@ pub enum Refused {
     BadFilter(FilterFault),
 }
 
+/// What is wrong, in words: by number, from 1 on. A filter has the words of its own fault.
+const WORDS: [&str; 11] = [
+    "not a sort",
+    "no such index",
+    "index is there",
+    "too many indexes",
+    "too many cursors",
+    "no such cursor",
+    "not a token",
+    "token of another dump or request",
+    "token place past the dump",
+    "number out of range",
+    "no memory",
+];
+
 impl Refused {
     /// What is wrong, in words; of a filter which rule it breaks.
+    #[tactic(auto, unfolding(crate::specs::Refused::refused_words))]
     pub fn words(&self) -> &'static str
         ensures { result.now ≡ refused_words self.now }
     {
-        self.row().1
+        match self {
+            Refused::BadFilter(fault) => fault.kind.words(),
+            refused => WORDS[refused.number() as usize - 1],
+        }
     }
 
     /// The number by which a reply tells it, 1 to 12.
     pub fn number(&self) -> u32
         ensures { result ≡ refused_number self.now }
     {
-        self.row().0
-    }
-
-    fn row(&self) -> (u32, &'static str)
-        ensures number { result.0 ≡ refused_number self.now }
-        ensures words { result.1.now ≡ refused_words self.now }
-    {
         match self {
-            Refused::BadSort => (1, "not a sort"),
-            Refused::NoIndex => (2, "no such index"),
-            Refused::IndexThere => (3, "index is there"),
-            Refused::TooManyIndexes => (4, "too many indexes"),
-            Refused::TooManyCursors => (5, "too many cursors"),
-            Refused::NoCursor => (6, "no such cursor"),
-            Refused::BadToken => (7, "not a token"),
-            Refused::ForeignToken => (8, "token of another dump or request"),
-            Refused::TokenPlace => (9, "token place past the dump"),
-            Refused::Range => (10, "number out of range"),
-            Refused::NoMemory => (11, "no memory"),
-            Refused::BadFilter(fault) => (12, fault.kind.words()),
+            Refused::BadSort => 1,
+            Refused::NoIndex => 2,
+            Refused::IndexThere => 3,
+            Refused::TooManyIndexes => 4,
+            Refused::TooManyCursors => 5,
+            Refused::NoCursor => 6,
+            Refused::BadToken => 7,
+            Refused::ForeignToken => 8,
+            Refused::TokenPlace => 9,
+            Refused::Range => 10,
+            Refused::NoMemory => 11,
+            Refused::BadFilter(_) => 12,
         }
     }
 }

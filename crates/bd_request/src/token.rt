@@ -40,7 +40,9 @@ impl Token {
         ensures size { IfOk result (λ t. length (string_bytes t) ≡ 60) }
         ensures read_back { IfOk result (λ t. token_of (string_bytes t) ≡ Some self.now) }
     {
-        text_of(alloc, self.given, self.last, self.digest)
+        let bytes = bytes_of(alloc, self.given, self.last, &self.digest)?;
+        let text = encoded(alloc, &bytes)?;
+        Ok(text)
     }
 
     /// The token that a text is. It takes no memory.
@@ -57,17 +59,6 @@ impl Token {
             None => Err(Refused::BadToken),
         }
     }
-}
-
-/// The text of a token of these parts.
-fn text_of(alloc: Global, given: u64, last: u32, digest: [u8; 32]) -> Result<String, NoMemory>
-    ensures text { IfOk result (λ t. string_bytes t ≡ token_text (record { given = given; last = last; digest = digest })) }
-    ensures size { IfOk result (λ t. length (string_bytes t) ≡ 60) }
-    ensures read_back { IfOk result (λ t. token_of (string_bytes t) ≡ Some (record { given = given; last = last; digest = digest })) }
-{
-    let bytes = bytes_of(alloc, given, last, &digest)?;
-    let text = encoded(alloc, &bytes)?;
-    Ok(text)
 }
 
 fn bytes_of(alloc: Global, given: u64, last: u32, digest: &[u8; 32]) -> Result<Vec<u8>, NoMemory>

@@ -14,7 +14,7 @@ use Rattle.bd_path.specs.{Sort.SortPath, Path.path_of, declared.path.PathFault.P
 use Rattle.bd_path.proofs.SortLemmas.{sort_total}
 use Rattle.bd_request.specs.Refused.{bad_filter, plain, then_part, told_as}
 use Rattle.bd_request.specs.Request.{Request, named_index, request_with, token_part, sort_of}
-use Rattle.bd_reply.specs.Reply.{command_refusal, path_refusal, session_refusal, ToldRefusal}
+use Rattle.bd_service.specs.Reply.{command_refusal, path_refusal, session_refusal, ToldRefusal}
 use Rattle.bd_sort.specs.Selection.{query_to}
 use Rattle.bd_cursor.specs.{Explanation.explanation_for, SessionView.make_of, SessionView.marked_token}
 use Rattle.bd_service.specs.Talk.{call_of, document_call, hint_path, search_of, way_by}

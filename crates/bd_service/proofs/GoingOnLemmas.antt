@@ -6,8 +6,8 @@ use Rattle.bd_diagnose.specs.{JsonFault.IsPlaced, declared.json_fault.JsonFault.
 use Rattle.bd_extjson.specs.Read.{reading}
 use Rattle.bd_lines.specs.Serving.{RepliesInTurn}
 use Rattle.bd_lines.proofs.ServingLemmas.{replied_then}
-use Rattle.bd_reply.specs.Reply.{json_refusal, reply_text}
-use Rattle.bd_service.specs.Talk.{document_call, IsCallIn, RepliesInText, reply_to, state_then, RepliesGoOn}
+use Rattle.bd_service.specs.Reply.{json_refusal, reply_text}
+use Rattle.bd_service.specs.Talk.{document_call, IsCallIn, RepliesInText, reply_to, state_then}
 use Rattle.bd_diagnose.specs.declared.json_fault.JsonFaultKind.TheVariants as kinds
 
 module _ (bytes : List ℕ) (ds : List Doc) where
@@ -50,7 +50,8 @@ module _ (bytes : List ℕ) (ds : List Doc) where
       let later = some_replies first.1 lines in
       (first.0 ++ 10 ∷ later.0, later.1, (first.0, first.1, later.0, first.2, later.2, refl))
 
-pub replies_on : RepliesGoOn
+pub replies_on : (bytes : List ℕ) (ds : List Doc) (s : State) (lines later : List (List ℕ)) (text : List ℕ) (t : State) → RepliesInTurn (RepliesInText bytes ds) s lines text t
+    → (rest : List ℕ) × (end : State) × RepliesInTurn (RepliesInText bytes ds) s (lines ++ later) (text ++ rest) end
 replies_on bytes ds s lines later text t replied =
     let more = some_replies bytes ds t later in
     (more.0, more.1, replied_then (RepliesInText bytes ds) s t more.1 lines later text more.0 replied more.2)

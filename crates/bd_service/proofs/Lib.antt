@@ -1,3 +1,4 @@
+pub mod MemberLemmas
 pub mod CallLemmas
 pub mod AnswerLemmas
 pub mod FairLemmas

@@ -7,8 +7,8 @@ use Rattle.bd_device.specs.Devices.{Over, Reader, Writer}
 use Rattle.bd_device.specs.declared.reading.Limits.{Limits}
 use Rattle.bd_lines.specs.Serving.{RepliesInTurn, ServesAll, ServesBefore, StopsServing}
 use Rattle.bd_lines.specs.declared.serving.ServeFault.{ServeFault}
-use Rattle.bd_reply.specs.Reply.{LineReply}
-use Rattle.bd_service.specs.ServiceView.{KeepsState, RepliesTo, LeavesStarved, service_dump, service_state}
+use Rattle.bd_service.specs.Reply.{LineReply}
+use Rattle.bd_service.specs.ServiceView.{KeepsState, RepliesTo, service_dump, service_state}
 use Rattle.bd_service.specs.Talk.{IsKept, RepliesInText, Talks, reply_lines}
 use Rattle.bd_service.specs.declared.service.Service.{Service}
 use Rattle.bd_lines.specs.Serving as serving
@@ -34,7 +34,7 @@ pub one_replied : (s mid t : Service) (line text : List ℕ) → service_dump mi
 one_replied s mid t line text kept r =
     subst (λ (d : Dump). RepliesOver d (service_state mid) line text (service_state t)) kept (r.reply, r.answers, r.written)
 
-one_starved : (s mid t : Service) (line : List ℕ) → service_dump mid ≡ service_dump s → LeavesStarved mid line t
+one_starved : (s mid t : Service) (line : List ℕ) → service_dump mid ≡ service_dump s → serving.StarvesAt KeepsState RepliesTo mid line t
     → serving.StarvesAt IsKept (RepliesOver (service_dump s)) (service_state mid) line (service_state t)
 one_starved s mid t line kept (inl same) = inl same
 one_starved s mid t line kept (inr (text, r)) = inr (text, one_replied s mid t line text kept r)

@@ -5,11 +5,11 @@ use Rattle.std.specs.Prelude.{option_and_then, unwrap_or}
 use Rattle.std.specs.{List.cons_option, Result.result_ok}
 use Rattle.bd_value.specs.Tree.{Doc}
 use Rattle.bd_answer.specs.Session.{Call, GivenBatch, MarkedToken, Query, State, find_call, gave, next_call, resume_call, state_after, opened}
-use Rattle.bd_answer.specs.Laws.{batch_in, batch_to, batches_to, new_state, replies, state_after_all}
+use Rattle.bd_answer.specs.{Answer.answer, Answer.rest, Laws.batch_in, Laws.batch_to, Laws.batches_to, Laws.new_state, Laws.replies, Laws.state_after_all}
 use Rattle.bd_answer.proofs.SessionLemmas.{find_gives, resume_gives}
 use Rattle.bd_extjson.specs.Read.{reading}
-use Rattle.bd_reply.specs.Reply.{LineReply, ToldRefusal, opens}
-use Rattle.bd_service.specs.Talk.{document_call, IsCallIn, reply_to, shown_reply, state_then, OpensInTalk, Talks, TalksGiveTheAnswer, TalksGiveTheRest, batch_shown, batches_shown, calls_in, given_in}
+use Rattle.bd_service.specs.Reply.{LineReply, ToldRefusal, opens}
+use Rattle.bd_service.specs.Talk.{document_call, IsCallIn, reply_to, shown_reply, state_then, OpensInTalk, ShowsInTurn, Talks, batch_shown, batches_shown, calls_in, given_in}
 use Rattle.bd_service.specs.Talk.{line_call}
 use Rattle.bd_service.proofs.FairLemmas.{line_fair}
 use Rattle.bd_answer.specs.Session as machine
@@ -146,7 +146,8 @@ opening_of bytes ds call id lines rs o =
           ∙ ap (λ (x : State). map (shown_batch_reply ds) (batches_to id (calls_in bytes ds lines) (replies x (calls_in bytes ds lines)))) after_is;
     }
 
-pub talks_give_the_answer : TalksGiveTheAnswer
+pub talks_give_the_answer : (bytes : List ℕ) (ds : List Doc) (q : Query) (hint : Option (List ℕ)) (id : ℕ) (lines : List (List ℕ)) (rs : List LineReply)
+    → OpensInTalk bytes ds (find_call q hint) id lines rs → ShowsInTurn bytes ds q id (answer q.selection) lines rs
 talks_give_the_answer bytes ds q hint id lines rs o =
     let opening = opening_of bytes ds (find_call q hint) id lines rs o in
     record {
@@ -155,7 +156,8 @@ talks_give_the_answer bytes ds q hint id lines rs o =
       shown = opening.shown;
     }
 
-pub talks_give_the_rest : TalksGiveTheRest
+pub talks_give_the_rest : (bytes : List ℕ) (ds : List Doc) (q : Query) (hint : Option (List ℕ)) (t : MarkedToken) (id : ℕ) (lines : List (List ℕ)) (rs : List LineReply)
+    → OpensInTalk bytes ds (resume_call q hint t) id lines rs → ShowsInTurn bytes ds q id (rest q.selection t.mark) lines rs
 talks_give_the_rest bytes ds q hint t id lines rs o =
     let opening = opening_of bytes ds (resume_call q hint t) id lines rs o in
     record {

@@ -6,13 +6,11 @@ use Rattle.bd_bson.specs.{Collection.bytes_of, Collection.documents, declared.co
 use Rattle.bd_cursor.specs.SessionView.{IsRefused, dump_of, state_of, explain_request, hint_of, make_index, marked_token}
 use Rattle.bd_cursor.specs.declared.session.Session.{Session}
 use Rattle.bd_request.specs.declared.results.Refused.{Refused}
-use Rattle.bd_reply.specs.{ReplyView.line_reply, ReplyView.told_refusal, declared.reply.Reply.Reply}
-use Rattle.bd_reply.specs.Reply.{LineReply, reply_text, ToldRefusal}
-use Rattle.bd_service.specs.{declared.service.Service.Service, declared.call.Call.Call, declared.call.CallFault.CallFault}
+use Rattle.bd_service.specs.Reply.{LineReply, ToldRefusal, line_reply, reply_text, told_refusal}
+use Rattle.bd_service.specs.declared.{call.Call.Call, call.CallFault.CallFault, reply.Reply.Reply, service.Service.Service}
 use Rattle.bd_service.specs.Talk.{Answers, shown_reply, IsCallIn}
 use Rattle.bd_sort.specs.Selection.{query_of}
 use Rattle.bd_answer.specs.Session as machine
-use Rattle.bd_lines.specs.Serving as serving
 use Rattle.bd_request.specs.declared.results.Refused.TheVariants as reasons
 use Rattle.bd_service.specs.declared.call.Call.TheVariants as calls
 use Rattle.bd_service.specs.declared.call.CallFault.TheVariants as faults
@@ -49,10 +47,6 @@ pub record RepliesTo (old : Service) (line text : List ℕ) (new : Service) : Ty
 -- the session is as it was
 abbrev pub KeepsState : Service → Service → Type 0
 KeepsState old new = service_state new ≡ service_state old
-
--- memory ran out at the line: the session is as it was, or as the call left it whose reply was not made
-abbrev pub LeavesStarved : Service → List ℕ → Service → Type 0
-LeavesStarved old line new = serving.StarvesAt KeepsState RepliesTo old line new
 
 -- to a dump
 abbrev pub session_call : Dump → Call → machine.Call

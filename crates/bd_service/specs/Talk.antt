@@ -1,9 +1,11 @@
 -- A talk with a session: the call that a line is, the replies to lines, and what always holds of them.
-use Rattle.std.specs.Prelude.{ℕ, List, Option, Result, Ok, ◌≡◌, ◌≢◌, ◌⊎◌, length, None, Err, option_map, ◌==◌, [], ◌∷◌, ◌++◌, map, option_and_then, Some, if◌then◌else◌}
-use Rattle.std.specs.{List.filter_map, Result.result_ok}
+use Rattle.std.specs.Prelude.{◌≡◌, ◌≢◌, ◌⊎◌, ◌==◌, ℕ, List, [], ◌∷◌, ◌++◌, length, map, if◌then◌else◌}
+use Rattle.std.specs.Prelude.{Option, Some, None, option_and_then, option_map, Result, Ok, Err}
+use Rattle.std.specs.{List.filter_map, List.flat_map, List.zip, Result.result_ok}
 use Rattle.bd_value.specs.Tree.{Doc}
-use Rattle.bd_answer.specs.{Answer.answer, Answer.rest, Laws.GivesInTurn, Laws.new_state}
-use Rattle.bd_answer.specs.Session.{Call, drop_call, explain_call, find_call, kill_call, next_call, resume_call, State, state_after, GivenBatch, MarkedToken, Query, gave}
+use Rattle.bd_answer.specs.Laws.{GivesInTurn, new_state}
+use Rattle.bd_answer.specs.Session.{Call, GivenBatch, Query, State, drop_call, explain_call, find_call, gave, kill_call, next_call, resume_call}
+use Rattle.bd_answer.specs.Session.{state_after}
 use Rattle.bd_path.specs.Path.{path_of}
 use Rattle.bd_request.specs.{Refused.then_part, Refused.told_as, Refused.plain, Results.marked_text}
 use Rattle.bd_request.specs.Request.{Request, named_index, request_of, token_part}
@@ -13,12 +15,11 @@ use Rattle.bd_cursor.specs.Explanation.{explanation_for}
 use Rattle.bd_cursor.specs.SessionView.{make_of, marked_token, path_named}
 use Rattle.bd_command.specs.Command.{Command, FindCommand, Hint, any_way, by_index, by_scan, creates_index, drops_index, finds, gets_more, kills_cursor, resumes}
 use Rattle.bd_command.specs.CommandOf.{command_of}
-use Rattle.bd_reply.specs.Reply.{command_refusal, path_refusal, session_refusal, ToldRefusal, json_refusal, LineReply, done, explains, gives, makes, opens, refuses}
-use Rattle.bd_reply.specs.Reply.{reply_text}
+use Rattle.bd_service.specs.Reply.{LineReply, ToldRefusal, command_refusal, done, explains, gives, json_refusal, makes, opens, path_refusal}
+use Rattle.bd_service.specs.Reply.{refuses, reply_text, session_refusal}
 use Rattle.bd_diagnose.specs.{JsonFault.IsPlaced, declared.json_fault.JsonFault.JsonFault}
 use Rattle.bd_extjson.specs.Read.{ReadsAs, reading}
 use Rattle.bd_bson.specs.Collection.{documents_at}
-use Rattle.bd_lines.specs.Serving.{RepliesInTurn}
 use Rattle.bd_diagnose.specs.declared.json_fault.JsonFaultKind.TheVariants as json
 use Rattle.bd_answer.specs.Session as machine
 use Rattle.bd_command.specs.Command as commands
@@ -137,10 +138,7 @@ batch_shown id _ r = []
 
 -- the batches of a cursor among the replies to lines
 abbrev pub batches_shown : List ℕ → List Doc → ℕ → List (List ℕ) → List LineReply → List LineReply
-batches_shown bytes ds id [] rs = []
-batches_shown bytes ds id (line ∷ lines) [] = []
-batches_shown bytes ds id (line ∷ lines) (r ∷ rs) =
-    batch_shown id (line_call bytes ds line) r ++ batches_shown bytes ds id lines rs
+batches_shown bytes ds id lines rs = flat_map (λ p. batch_shown id (line_call bytes ds p.0) p.1) (zip lines rs)
 
 -- these places are shown in batches of the sizes that the lines ask for, with tokens that lead on to what is left
 pub record ShowsInTurn (bytes : List ℕ) (ds : List Doc) (q : Query) (id : ℕ) (ps : List ℕ) (lines : List (List ℕ)) (rs : List LineReply)
@@ -162,19 +160,3 @@ pub record OpensInTalk (bytes : List ℕ) (ds : List Doc) (call : Call) (id : �
   pub asks : line_call bytes ds line ≡ Some call
   pub opened : Answers bytes ds before line (opens id) after
   pub goes_on : Talks bytes ds after lines rs end
-
--- after a line that finds, the cursor gives the answer
-abbrev pub TalksGiveTheAnswer : Type 0
-TalksGiveTheAnswer = (bytes : List ℕ) (ds : List Doc) (q : Query) (hint : Option (List ℕ)) (id : ℕ) (lines : List (List ℕ)) (rs : List LineReply) →
-    OpensInTalk bytes ds (find_call q hint) id lines rs → ShowsInTurn bytes ds q id (answer q.selection) lines rs
-
--- and after one that resumes, the rest
-abbrev pub TalksGiveTheRest : Type 0
-TalksGiveTheRest = (bytes : List ℕ) (ds : List Doc) (q : Query) (hint : Option (List ℕ)) (t : MarkedToken) (id : ℕ) (lines : List (List ℕ)) (rs : List LineReply) →
-    OpensInTalk bytes ds (resume_call q hint t) id lines rs → ShowsInTurn bytes ds q id (rest q.selection t.mark) lines rs
-
--- What was replied to lines stands in front of what may be replied to them and to any lines after them.
-abbrev pub RepliesGoOn : Type 0
-RepliesGoOn = (bytes : List ℕ) (ds : List Doc) (s : State) (lines later : List (List ℕ)) (text : List ℕ) (t : State) →
-    RepliesInTurn (RepliesInText bytes ds) s lines text t →
-    (rest : List ℕ) × (end : State) × RepliesInTurn (RepliesInText bytes ds) s (lines ++ later) (text ++ rest) end

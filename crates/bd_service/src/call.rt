@@ -6,16 +6,16 @@ ghost use Rattle.bd_bson.specs.declared.collection.Dump.{Dump};
 ghost use Rattle.bd_path.specs.{Path.path_of, PathNames.names_of};
 ghost use Rattle.bd_command.specs.Command.{command_tree, find_tree, hint_tree};
 ghost use Rattle.bd_cursor.specs.Access.{way_of};
-ghost use Rattle.bd_reply.specs.Reply.{path_refusal, session_refusal};
+ghost use Rattle.bd_service.specs.Reply.{path_refusal, session_refusal};
 ghost use Rattle.bd_request.specs.Refused.{told_as};
 ghost use Rattle.bd_request.specs.Request.{named_index, request_view, token_part};
 ghost use Rattle.bd_service.specs.ServiceView.{RefusesPart, session_call};
 ghost use Rattle.bd_service.specs.Talk.{call_of, hint_path, search_of, way_by};
 
+use crate::reply::LineRefusal;
 use bd_command::{Command, FindCommand, Hint};
 use bd_cursor::{Choice, Refused, Request, Token};
 use bd_path::{Path, PathFault};
-use bd_reply::LineRefusal;
 use std::alloc::Global;
 
 /// A call of a session, with its texts and documents read.

@@ -1,28 +1,29 @@
 //! A session that lines are sent to, and what always holds of a talk with it.
 
-ghost use Rattle.std.specs.Prelude.{◌≡◌, ◌++◌, IfErr, IfOk, OnErr, OnOk, List, ℕ};
+ghost use Rattle.std.specs.Prelude.{◌≡◌, ◌++◌, IfErr, IfOk, OnErr, OnOk, List, Option, ℕ};
 ghost use Rattle.bd_value.specs.{Tree.Doc, View.pairs};
-ghost use Rattle.bd_answer.specs.{Session.State, Laws.new_state};
+ghost use Rattle.bd_answer.specs.{Answer.answer, Answer.rest, Laws.new_state};
+ghost use Rattle.bd_answer.specs.Session.{MarkedToken, Query, State, find_call, resume_call};
 ghost use Rattle.bd_bson.specs.Collection.{bytes_of, documents};
 ghost use Rattle.bd_bson.specs.declared.collection.Dump.{Dump};
 ghost use Rattle.bd_extjson.specs.Read.{ReadsAs};
 ghost use Rattle.bd_request.specs.Refused.{told_as};
 ghost use Rattle.bd_cursor.specs.SessionView.{dump_of};
-ghost use Rattle.bd_lines.specs.Serving.{RepliesInTurn};
+ghost use Rattle.bd_lines.specs.Serving.{RepliesInTurn, StarvesAt};
 ghost use Rattle.bd_command.specs.{Command.command_tree, CommandOf.command_of};
-ghost use Rattle.bd_reply.specs.{Reply.LineReply, Reply.command_refusal, ReplyView.line_reply};
-ghost use Rattle.bd_service.specs.ServiceView.{IsAnswered, IsPerformed, KeepsState, LeavesStarved, RefusesLine, RefusesPart, RepliesTo};
+ghost use Rattle.bd_service.specs.Reply.{LineReply, command_refusal, line_reply};
+ghost use Rattle.bd_service.specs.ServiceView.{IsAnswered, IsPerformed, KeepsState, RefusesLine, RefusesPart, RepliesTo};
 ghost use Rattle.bd_service.specs.ServiceView.{service_dump, service_state, session_call};
-ghost use Rattle.bd_service.specs.Talk.{Answers, IsCallIn, RepliesGoOn, RepliesInText, Talks, TalksGiveTheAnswer, TalksGiveTheRest, reply_lines};
+ghost use Rattle.bd_service.specs.Talk.{Answers, IsCallIn, OpensInTalk, RepliesInText, ShowsInTurn, Talks, reply_lines};
 
 use crate::call::{Call, CallFault, call_of};
+use crate::reply::{LineRefusal, Reply, write_reply};
 use bd_bson::Dump;
 use bd_command::{Command, CommandFault, read_command};
 use bd_cursor::{Refused, Session};
 use bd_diagnose::JsonFaultKind;
 use bd_extjson::read_doc;
 use bd_lines::Replier;
-use bd_reply::{LineRefusal, Reply, write_reply};
 use bd_value::{Document, NoMemory};
 use std::alloc::{AllocError, Global};
 
@@ -70,7 +71,7 @@ impl Replier for Service {
             × RepliesTo self.old command.now reply self.new) }
         ensures kept { OnErr result (text.new.items ≡ text.old.items) }
         // Where memory ran out the session is as it was, or as the call left it whose reply was not made.
-        ensures starved { OnErr result (LeavesStarved self.old command.now self.new) }
+        ensures starved { OnErr result (StarvesAt KeepsState RepliesTo self.old command.now self.new) }
         ensures dump { service_dump self.new ≡ service_dump self.old }
     {
         let reply = self.answer(command)?;
@@ -156,11 +157,13 @@ fn call_reply(session: &mut Session, call: Call) -> Result<Reply, Refused>
     }
 }
 
-/// Over any lines, a cursor gives its answer in batches, as many documents as the lines ask for, and each token leads on to
-/// exactly the rest.
+/// After a line that finds, a cursor gives its answer in batches, as many documents as the lines ask for, and each token leads on
+/// to exactly the rest. So does one that resumes, with the rest after its token.
 pub fn talks_keep_to_the_answer()
-    ensures answer { TalksGiveTheAnswer }
-    ensures rest { TalksGiveTheRest }
+    ensures answer { (bytes : List ℕ) (ds : List Doc) (q : Query) (hint : Option (List ℕ)) (id : ℕ) (lines : List (List ℕ)) (rs : List LineReply) →
+        OpensInTalk bytes ds (find_call q hint) id lines rs → ShowsInTurn bytes ds q id (answer q.selection) lines rs }
+    ensures rest { (bytes : List ℕ) (ds : List Doc) (q : Query) (hint : Option (List ℕ)) (t : MarkedToken) (id : ℕ) (lines : List (List ℕ)) (rs : List LineReply) →
+        OpensInTalk bytes ds (resume_call q hint t) id lines rs → ShowsInTurn bytes ds q id (rest q.selection t.mark) lines rs }
 {}
 
 /// What is written in reply to lines is a talk, a line a reply.
@@ -173,5 +176,7 @@ pub fn texts_are_talks()
 /// Each line may have a reply, in each state. So what was replied to some lines is a front of what may be replied to all of them:
 /// replies that were cut short are a front of a whole text.
 pub fn replies_go_on()
-    ensures { RepliesGoOn }
+    ensures { (bytes : List ℕ) (ds : List Doc) (s : State) (lines later : List (List ℕ)) (text : List ℕ) (t : State) →
+        RepliesInTurn (RepliesInText bytes ds) s lines text t →
+        (rest : List ℕ) × (end : State) × RepliesInTurn (RepliesInText bytes ds) s (lines ++ later) (text ++ rest) end }
 {}

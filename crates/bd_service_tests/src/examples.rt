@@ -1,4 +1,4 @@
-//! The examples of use in the roots of `bd_answer`, `bd_command`, `bd_cursor`, `bd_reply`, `bd_request`, `bd_service` and `bd_sort`.
+//! The examples of use in the roots of `bd_answer`, `bd_command`, `bd_cursor`, `bd_request`, `bd_service` and `bd_sort`.
 use crate::samples::{five, read_documents, read_request, three};
 use bd_answer::{PlaceSource, Scan};
 use bd_command::{Command, CommandFault, read_command};
@@ -7,8 +7,7 @@ use bd_extjson::read_doc;
 use bd_index::Index;
 use bd_lines::Replier;
 use bd_path::Path;
-use bd_reply::{LineRefusal, Reply, write_reply};
-use bd_service::Service;
+use bd_service::{LineRefusal, Reply, Service, write_reply};
 use bd_sort::sorted_places;
 use std::test::Fail;
 

@@ -1,7 +1,7 @@
 //! Replies made by hand, which no talk shows.
 use crate::samples::three;
 use bd_cursor::{Batch, Explain, Made, Plan};
-use bd_reply::{Reply, write_reply};
+use bd_service::{Reply, write_reply};
 use std::alloc::Global;
 use std::test::Fail;
 

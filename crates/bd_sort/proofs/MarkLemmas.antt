@@ -8,7 +8,7 @@ use Rattle.bd_path.proofs.SortLemmas.{sort_total}
 use Rattle.bd_answer.specs.{Answer.before, Laws.IsStrictOrder}
 use Rattle.bd_answer.proofs.AnswerLemmas.{before_strict}
 use Rattle.bd_bson.specs.Collection.{document_at}
-use Rattle.bd_sort.specs.{Mark.marked_cmp, Mark.marked_keys, Selection.order_of_keys}
+use Rattle.bd_sort.specs.{Sorting.marked_cmp, Sorting.marked_keys, Selection.order_of_keys}
 
 pub keys_total : (ds : List Doc) (ss : List SortPath) → IsTotalOrder (order_of_keys ds ss)
 keys_total ds ss = on_total (document_at ds) (sort_total ss)

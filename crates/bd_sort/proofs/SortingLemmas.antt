@@ -13,7 +13,7 @@ use Rattle.bd_answer.proofs.StableLemmas.{apart_left, insert_all_append, rising_
 use Rattle.bd_answer.proofs.OrderLemmas.{Apart, In, Rises, in_at, not_both, filter_apart}
 use Rattle.bd_answer.proofs.SourceLemmas.{permuted_apart, sorted_rises, batch_sorted, below_more, pairs_apart, batch_in_order}
 use Rattle.bd_path.proofs.SortLemmas.{sort_total}
-use Rattle.bd_sort.specs.{Sorting.AreFirst, Sorting.IsEnd, Sorting.is_before_mark, Sorting.has_enough, Mark.IsMark, Mark.mark_place, Selection.hits_of, Selection.order_of_keys}
+use Rattle.bd_sort.specs.{Sorting.AreFirst, Sorting.IsEnd, Sorting.is_before_mark, Sorting.has_enough, Sorting.IsMark, Sorting.mark_place, Selection.hits_of, Selection.order_of_keys}
 use Rattle.bd_sort.specs.{Selection.selection_for, Selection.selection_of, declared.mark.Mark.Mark}
 use Rattle.bd_path.specs.{Sort.SortPath, Sort.sort_paths}
 use Rattle.bd_value.specs.Tree.{Doc}

@@ -1,4 +1,3 @@
-pub mod Mark
 pub mod Ranking
 pub mod Selection
 pub mod Sorting

@@ -15,7 +15,7 @@
 //! - `sorting`: which documents match, and the places of any source, put in order: `specs/Selection.antt`, what a request selects
 //!   of a dump, and `specs/Sorting.antt`.
 //! - `ranking`: documents put in order by one path after the other: `specs/Ranking.antt`.
-//! - `mark`: a document that others are compared with: `specs/Mark.antt`.
+//! - `mark`: a document that others are compared with: `specs/Sorting.antt`.
 //! - `sort_key`: the key of a document on a path, compared by its front first (`bd_front`).
 #![tactic(auto)]
 

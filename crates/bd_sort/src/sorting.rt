@@ -7,9 +7,8 @@ ghost use Rattle.bd_answer.specs.Source.{is_after, passes, places_after};
 ghost use Rattle.bd_bson.specs.Collection.{documents};
 ghost use Rattle.bd_filter.specs.Filter.{filter_tree};
 ghost use Rattle.bd_path.specs.Sort.{SortPath, sort_paths};
-ghost use Rattle.bd_sort.specs.Mark.{IsMark, mark_place};
 ghost use Rattle.bd_sort.specs.Selection.{hits_of, order_of_keys, selection_of};
-ghost use Rattle.bd_sort.specs.Sorting.{AreFirst, IsEnd, has_enough, is_before_mark};
+ghost use Rattle.bd_sort.specs.Sorting.{AreFirst, IsEnd, IsMark, has_enough, is_before_mark, mark_place};
 
 use crate::mark::Mark;
 use crate::ranking::first_in_order;

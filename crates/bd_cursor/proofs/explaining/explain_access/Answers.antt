@@ -1,12 +1,13 @@
 use Rattle.std.specs.{Prelude.count_by, Prelude.string_bytes, List.All}
-use Rattle.std.proofs.Common.{ℕ, ◌≡◌, ◌<◌, List, length, Some, refl, ap, sym, ◌∙◌, subst, arith}
-use Rattle.bd_answer.specs.{Answer.matching, Session.by_index, Session.by_scan, Session.by_walk}
+use Rattle.std.proofs.Common.{◌≡◌, ◌<◌, length, None, Some, ap, sym, ◌∙◌, subst, arith}
+use Rattle.bd_answer.specs.Answer.{matching}
 use Rattle.bd_bson.specs.Collection.{documents}
 use Rattle.bd_path.specs.declared.path.Path.{Path}
 use Rattle.bd_filter.specs.Filter.{filter_tree}
 use Rattle.bd_sort.specs.Selection.{selection_of, hits_of}
-use Rattle.bd_cursor.specs.{Access.IsAccessOf, Access.access_path, Explanation.explained_access}
-use Rattle.bd_cursor.proofs.AccessLemmas.{index_source, lent_within, as_many, entries_read, entries_walked, matches_of_all, places_read, told_as}
+use Rattle.bd_cursor.specs.{Access.IsAccessOf, Access.access_path, Explanation.explained_access, Explanation.explanation}
+use Rattle.bd_cursor.proofs.AccessLemmas.{index_source, lent_within, as_many, entries_read, entries_walked, matches_of_all, places_read}
+use Rattle.bd_cursor.specs.declared.explaining.Plan.TheVariants as plans
 use Rattle.bd_cursor.proofs.explaining.explain_access.Goals as goal
 
 pub count_among-requires : goal.count_among-requires
@@ -19,7 +20,7 @@ pub returns-in-Scan : goal.returns-in-Scan
 returns-in-Scan c =
     let ds = documents c.args.dump.now in
     let r = c.args.request.now in
-    told_as by_scan refl refl (c.from.ensures ∙ c.len.ensures) (matches_of_all ds r c.count_matches.result c.count_matches.ensures)
+    (λ j. explanation plans.Scan None 0 ((c.from.ensures ∙ c.len.ensures) j) (matches_of_all ds r c.count_matches.result c.count_matches.ensures j))
     ∙ ap (λ a. explained_access ds (length (matching (selection_of ds r))) (access_path a)) (sym c.in-Scan.is)
 
 pub returns-in_ok-from_str-in-Bounded : goal.returns-in_ok-from_str-in-Bounded
@@ -34,8 +35,8 @@ returns-in_ok-from_str-in-Bounded c =
     let w = lent_within c.as_ref.result c.as_ref.ensures.value c.in_ok-found-in-Bounded.ensures in
     let path = c.in_ok-from_str-in-Bounded.ensures.ok ∙ c.as_str.ensures ∙ ap (λ (p : Path). string_bytes p.text) c.path.ensures in
     let long : c.len-in-Bounded.result ≡ length ps = omega (arith, c.len-in-Bounded.ensures, found.places.ok.0) in
-    told_as by_index (ap (λ (s : List ℕ). Some s) path) (entries_read i w) (long ∙ places_read i w)
-    (c.count_among.ensures ∙ ap (count_by hits) c.deref.ensures.value ∙ as_many ds hits ps (index_source lead w) w.ascend)
+    (λ j. explanation plans.Index (Some (path j)) (entries_read i w j) ((long ∙ places_read i w) j)
+    ((c.count_among.ensures ∙ ap (count_by hits) c.deref.ensures.value ∙ as_many ds hits ps (index_source lead w) w.ascend) j))
     ∙ ap (λ a. explained_access ds (length (matching (selection_of ds r))) (access_path a)) (sym c.in-Bounded.is)
 
 pub returns-in_ok-from_str-in-Walk : goal.returns-in_ok-from_str-in-Walk
@@ -45,6 +46,6 @@ returns-in_ok-from_str-in-Walk c =
     let i = c.in-Walk.index.now in
     let lead = subst (IsAccessOf c.args.dump.now r) c.in-Walk.is c.requires in
     let path = c.in_ok-from_str-in-Walk.ensures.ok ∙ c.as_str-in-Walk.ensures ∙ ap (λ (p : Path). string_bytes p.text) c.path-in-Walk.ensures in
-    told_as by_walk (ap (λ (s : List ℕ). Some s) path) (entries_walked i ds c.entries.result (c.entries.ensures c.args.dump.now lead.of_dump))
-    (c.from-in-Walk.ensures ∙ c.len-in-Walk.ensures) (matches_of_all ds r c.count_matches-in-Walk.result c.count_matches-in-Walk.ensures)
+    (λ j. explanation plans.Walk (Some (path j)) (entries_walked i ds c.entries.result (c.entries.ensures c.args.dump.now lead.of_dump) j)
+    ((c.from-in-Walk.ensures ∙ c.len-in-Walk.ensures) j) (matches_of_all ds r c.count_matches-in-Walk.result c.count_matches-in-Walk.ensures j))
     ∙ ap (λ a. explained_access ds (length (matching (selection_of ds r))) (access_path a)) (sym c.in-Walk.is)

@@ -3,7 +3,7 @@ use Rattle.bd_answer.specs.{Answer.before, Source.passes}
 use Rattle.bd_bson.specs.Collection.{documents}
 use Rattle.bd_path.specs.Sort.{sort_paths}
 use Rattle.bd_filter.specs.Filter.{filter_tree}
-use Rattle.bd_sort.specs.{Mark.mark_place, Selection.hits_of, Selection.order_of_keys, Sorting.is_before_mark}
+use Rattle.bd_sort.specs.{Sorting.mark_place, Selection.hits_of, Selection.order_of_keys, Sorting.is_before_mark}
 use Rattle.bd_sort.proofs.SortingLemmas.{IsState, state_cut, state_end, state_left_out, state_none, state_taken}
 use Rattle.bd_sort.proofs.sorting.first_places.Goals.{then-len-room+in_ok-end, else-len-room}
 use Rattle.bd_sort.proofs.sorting.first_places.Goals as goal

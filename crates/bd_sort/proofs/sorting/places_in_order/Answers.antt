@@ -4,7 +4,7 @@ use Rattle.bd_answer.proofs.SourceLemmas.{below_more, left_out_more, taken_more}
 use Rattle.bd_bson.specs.Collection.{documents}
 use Rattle.bd_path.specs.Sort.{sort_paths}
 use Rattle.bd_filter.specs.Filter.{filter_tree}
-use Rattle.bd_sort.specs.{Mark.mark_place, Selection.hits_of, Selection.order_of_keys, Selection.selection_of}
+use Rattle.bd_sort.specs.{Sorting.mark_place, Selection.hits_of, Selection.order_of_keys, Selection.selection_of}
 use Rattle.bd_sort.proofs.SortingLemmas.{all_taken, few_more, first_taken, wanted_in_order}
 use Rattle.bd_sort.proofs.sorting.places_in_order.Goals.{else-loop-last-test, then-loop-last-test+in_default}
 use Rattle.bd_sort.proofs.sorting.places_in_order.Goals as goal

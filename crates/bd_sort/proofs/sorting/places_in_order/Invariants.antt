@@ -4,7 +4,7 @@ use Rattle.bd_answer.specs.Source.{passes}
 use Rattle.bd_bson.specs.Collection.{documents}
 use Rattle.bd_path.specs.Sort.{sort_paths}
 use Rattle.bd_filter.specs.Filter.{filter_tree}
-use Rattle.bd_sort.specs.{Mark.mark_place, Selection.hits_of, Selection.order_of_keys}
+use Rattle.bd_sort.specs.{Sorting.mark_place, Selection.hits_of, Selection.order_of_keys}
 use Rattle.bd_sort.proofs.sorting.places_in_order.Given as goal
 
 abbrev pub invariant-loop-last : goal.invariant-loop-last

@@ -1,6 +1,6 @@
 use Rattle.std.proofs.Common.{◌≡◌, drop}
 use Rattle.bd_bson.specs.{Collection.documents, Collection.document_at}
-use Rattle.bd_sort.specs.Mark.{marked_cmp, marks_in}
+use Rattle.bd_sort.specs.Sorting.{marked_cmp, marks_in}
 use Rattle.bd_sort.proofs.mark.Mark.compare_keys.Given as goal
 
 -- the keys that are left decide

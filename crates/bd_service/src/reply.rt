@@ -5,17 +5,18 @@ ghost use Rattle.std.specs.Io.{StartsWith};
 ghost use Rattle.bd_bson.specs.Collection.{documents};
 ghost use Rattle.bd_filter.specs.Fault.{refusal_of};
 ghost use Rattle.bd_request.specs.Token.{token_text};
-ghost use Rattle.bd_request.specs.Results.{made_counts, plan_kind, told};
-ghost use Rattle.bd_reply.specs.ReplyView.{reply_value, given_reply, line_reply, told_refusal};
-ghost use Rattle.bd_reply.specs.Reply.{filter_refusal, json_fault_byte, json_refusal, explains, makes, plan_name, refuses, reply_text, text_or_null};
+ghost use Rattle.bd_request.specs.Results.{made_counts, text_or_null};
+ghost use Rattle.bd_cursor.specs.Explanation.{plan_name, told};
+ghost use Rattle.bd_service.specs.Reply.{explains, filter_refusal, given_reply, json_fault_byte, json_refusal, line_reply, makes, refuses};
+ghost use Rattle.bd_service.specs.Reply.{reply_text, reply_value, told_refusal};
 
 use crate::member::{Field, write_members};
 use bd_bson::Dump;
 use bd_command::CommandFault;
+use bd_cursor::{Batch, Explain, Made, Plan, Refused, Token};
 use bd_diagnose::{JsonFault, JsonFaultKind};
 use bd_filter::FilterFault;
 use bd_path::PathFault;
-use bd_request::{Batch, Explain, Made, Plan, Refused, Token};
 use bd_value::NoMemory;
 use std::alloc::Global;
 
@@ -159,7 +160,7 @@ fn append_explanation(explanation: &Explain, out: &mut Vec<u8>) -> Result<(), No
 }
 
 fn plan_name(plan: Plan) -> &'static str
-    ensures { result.now ≡ plan_name (plan_kind plan) }
+    ensures { result.now ≡ plan_name plan }
 {
     match plan {
         Plan::Scan => "scan",

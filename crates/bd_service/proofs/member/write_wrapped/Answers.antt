@@ -1,6 +1,6 @@
 use Rattle.std.proofs.Common.{arith}
-use Rattle.bd_reply.proofs.MemberLemmas.{wrapped_text}
-use Rattle.bd_reply.proofs.member.write_wrapped.Goals as goal
+use Rattle.bd_service.proofs.MemberLemmas.{wrapped_text}
+use Rattle.bd_service.proofs.member.write_wrapped.Goals as goal
 
 pub returns-clause-ok : goal.returns-clause-ok
 returns-clause-ok c =

@@ -1,6 +1,6 @@
 use Rattle.bd_value.proofs.FrontLemmas.{front_all, front_more, front_then}
 use Rattle.std.proofs.lemmas.Result.{on_err_weaker}
-use Rattle.bd_reply.proofs.member.write_member.Goals as goal
+use Rattle.bd_service.proofs.member.write_member.Goals as goal
 
 pub returns-clause-err : goal.returns-clause-err
 returns-clause-err c =

@@ -1,14 +1,15 @@
 -- The texts of the values of a reply, and of the pairs that they stand in.
 use Rattle.std.proofs.Common.{◌≡◌, ◌^◌, ◌<◌, ◌≤◌, ℕ, Bool, true, false, List, [], ◌∷◌, ◌++◌, get_or, length, map, Option, Some, None, decimal, refl, sym, ap, ◌∙◌, append_assoc}
 use Rattle.std.proofs.{lemmas.Fmt.decimal_is_IsNumeral, lemmas.Option.slice_get-get_or, lemmas.Option.slice_get_past}
-use Rattle.std.specs.Prelude.{codes, slice_get}
+use Rattle.std.specs.Prelude.{codes, pos, slice_get}
 use Rattle.std.specs.List.{cons_option, join_with_byte}
-use Rattle.bd_value.specs.Tree.{Doc, doc, fields_of, items_of}
+use Rattle.bd_value.specs.Tree.{Doc, boolean, doc, fields_of, int32, items_of, leaf}
 use Rattle.bd_text.specs.Text.{escape_byte, fields_text, items_text, member, quoted, scalar_text, text}
 use Rattle.bd_text.proofs.JsonStringLemmas.{escaped-digits}
 use Rattle.bd_text.proofs.TextLemmas.{before, to_come, to_come-all, piece_step}
 use Rattle.bd_bson.specs.Collection.{document_at, documents_at}
-use Rattle.bd_reply.specs.Reply.{count_value, documents_value, int_value, boolean_value}
+use Rattle.bd_request.specs.Results.{count_value}
+use Rattle.bd_service.specs.Reply.{documents_value}
 
 plain : (n : ℕ) → n < 2 ^ 64 → quoted (decimal n) ≡ 34 ∷ (decimal n ++ 34 ∷ [])
 unfolding quoted
@@ -25,7 +26,7 @@ unfolding scalar_text quoted escape_byte
 count_text n = refl
 
 -- an Int32
-pub number_text : (n : ℕ) → codes "{\"$numberInt\":" ++ (quoted (decimal n) ++ 125 ∷ []) ≡ text (int_value n)
+pub number_text : (n : ℕ) → codes "{\"$numberInt\":" ++ (quoted (decimal n) ++ 125 ∷ []) ≡ text (leaf (int32 (pos n)))
 unfolding scalar_text quoted escape_byte
 number_text n = refl
 
@@ -70,11 +71,11 @@ abbrev pub rest_of_object : Doc → List ℕ
 rest_of_object ps = to_come true 44 (fields_text (fields_of ps)) ++ 125 ∷ []
 
 -- whether there is a result is written
-pub object_begins : (ok : Bool) (ps : Doc) (old begun out : List ℕ) → begun ≡ old ++ codes "{\"ok\":" → out ≡ begun ++ text (boolean_value ok)
-    → out ++ rest_of_object ps ≡ old ++ text (doc (fields_of ((codes "ok", boolean_value ok) ∷ ps)))
+pub object_begins : (ok : Bool) (ps : Doc) (old begun out : List ℕ) → begun ≡ old ++ codes "{\"ok\":" → out ≡ begun ++ text (leaf (boolean ok))
+    → out ++ rest_of_object ps ≡ old ++ text (doc (fields_of ((codes "ok", leaf (boolean ok)) ∷ ps)))
 unfolding quoted escape_byte
 object_begins ok ps old begun out lead value =
-    let truth = text (boolean_value ok) in
+    let truth = text (leaf (boolean ok)) in
     let members = fields_text (fields_of ps) in
     let first : List ℕ = member (codes "ok") truth in
     let whole : to_come false 44 (first ∷ members) ≡ join_with_byte 44 (first ∷ members) = to_come-all 44 (first ∷ members) in

@@ -1,8 +1,8 @@
 use Rattle.std.proofs.Common.{map}
 use Rattle.bd_value.proofs.FrontLemmas.{front_all, front_more}
-use Rattle.bd_reply.specs.ReplyView.{member_pair}
-use Rattle.bd_reply.proofs.MemberLemmas.{object_begins}
-use Rattle.bd_reply.proofs.member.write_members.Goals as goal
+use Rattle.bd_service.specs.Reply.{member_pair}
+use Rattle.bd_service.proofs.MemberLemmas.{object_begins}
+use Rattle.bd_service.proofs.member.write_members.Goals as goal
 
 pub loop-name-init : goal.loop-name-init
 loop-name-init c = record {

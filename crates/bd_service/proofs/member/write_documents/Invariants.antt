@@ -2,9 +2,9 @@ use Rattle.std.proofs.Common.{◌≡◌, ◌++◌, drop}
 use Rattle.std.specs.Io.{StartsWith}
 use Rattle.bd_bson.specs.{Collection.documents, Collection.documents_at}
 use Rattle.bd_text.specs.Text.{text}
-use Rattle.bd_reply.specs.Reply.{documents_value}
-use Rattle.bd_reply.proofs.MemberLemmas.{rest_of_array}
-use Rattle.bd_reply.proofs.member.write_documents.Given as goal
+use Rattle.bd_service.specs.Reply.{documents_value}
+use Rattle.bd_service.proofs.MemberLemmas.{rest_of_array}
+use Rattle.bd_service.proofs.member.write_documents.Given as goal
 
 -- what is written, and what is still to come, is the whole text
 abbrev pub invariant-loop-place : goal.invariant-loop-place

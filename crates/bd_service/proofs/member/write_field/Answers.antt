@@ -1,7 +1,7 @@
 use Rattle.std.proofs.Common.{◌≡◌, ◌++◌, ℕ, List, subst}
 use Rattle.std.specs.Prelude.{OnOk}
-use Rattle.bd_reply.proofs.MemberLemmas.{count_text, number_text}
-use Rattle.bd_reply.proofs.member.write_field.Goals as goal
+use Rattle.bd_service.proofs.MemberLemmas.{count_text, number_text}
+use Rattle.bd_service.proofs.member.write_field.Goals as goal
 
 pub returns-in-Number-clause-ok : goal.returns-in-Number-clause-ok
 returns-in-Number-clause-ok c =

@@ -2,9 +2,9 @@ use Rattle.std.proofs.Common.{◌+◌, ◌<◌, ◌≤◌, arith, drop, get_or, 
 use Rattle.std.proofs.lemmas.List.{drop_more}
 use Rattle.bd_value.proofs.FrontLemmas.{front_all, front_more}
 use Rattle.bd_bson.specs.Collection.{documents}
-use Rattle.bd_reply.proofs.MemberLemmas.{array_begins, array_goes_on, array_stays}
-use Rattle.bd_reply.proofs.member.write_documents.Goals.{then-place-len+in_ok-write_document, else-place-len}
-use Rattle.bd_reply.proofs.member.write_documents.Goals as goal
+use Rattle.bd_service.proofs.MemberLemmas.{array_begins, array_goes_on, array_stays}
+use Rattle.bd_service.proofs.member.write_documents.Goals.{then-place-len+in_ok-write_document, else-place-len}
+use Rattle.bd_service.proofs.member.write_documents.Goals as goal
 
 pub loop-place-init : goal.loop-place-init
 loop-place-init c = record {

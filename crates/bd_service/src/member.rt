@@ -2,11 +2,10 @@
 
 ghost use Rattle.std.specs.Prelude.{◌≡◌, ◌<◌, ◌++◌, ◌∷◌, [], OnErr, OnOk, codes, decimal, if◌then◌else◌, length, map};
 ghost use Rattle.std.specs.Io.{StartsWith};
-ghost use Rattle.bd_value.specs.Tree.{doc, fields_of};
+ghost use Rattle.bd_value.specs.Tree.{boolean, doc, fields_of, leaf};
 ghost use Rattle.bd_bson.specs.Collection.{documents, document_at, documents_at};
 ghost use Rattle.bd_text.specs.Text.{member, quoted, text};
-ghost use Rattle.bd_reply.specs.ReplyView.{member_pair, reply_value};
-ghost use Rattle.bd_reply.specs.Reply.{boolean_value, documents_value};
+ghost use Rattle.bd_service.specs.Reply.{documents_value, member_pair, reply_value};
 
 use bd_bson::Dump;
 use bd_text::{write_node, write_number, write_path, write_string};
@@ -36,7 +35,7 @@ pub(crate) fn write_members(
     out: &mut Vec<u8>,
 ) -> Result<(), NoMemory>
     ensures ok { OnOk result (out.new.items ≡ out.old.items
-        ++ text (doc (fields_of ((codes "ok", boolean_value ok) ∷ map member_pair members.now)))) }
+        ++ text (doc (fields_of ((codes "ok", leaf (boolean ok)) ∷ map member_pair members.now)))) }
     ensures err { OnErr result (StartsWith out.new.items out.old.items) }
 {
     out.extend_from_slice(b"{\"ok\":")?;
@@ -80,7 +79,7 @@ fn write_field(value: Field<'_, '_, '_>, out: &mut Vec<u8>) -> Result<(), NoMemo
 /// Appends `true` or `false`.
 #[tactic(auto, using(bd_value::proofs::FrontLemmas::fronts), unfolding(bd_text::specs::Text::scalar_text))]
 fn write_truth(truth: bool, out: &mut Vec<u8>) -> Result<(), NoMemory>
-    ensures ok { OnOk result (out.new.items ≡ out.old.items ++ text (boolean_value truth)) }
+    ensures ok { OnOk result (out.new.items ≡ out.old.items ++ text (leaf (boolean truth))) }
     ensures err { OnErr result (StartsWith out.new.items out.old.items) }
 {
     if truth {

@@ -1,19 +1,16 @@
 use Rattle.std.proofs.Common.{rules, ap, ◌∙◌, Ok, string_bytes}
 use Rattle.base64.specs.{Engines.standard, GeneralPurpose.encode_of}
 use Rattle.bd_request.proofs.TokenLemmas.{text_back}
-use Rattle.bd_request.specs.declared.token.Token.{Token}
-use Rattle.bd_request.proofs.token.text_of.Goals as goal
+use Rattle.bd_request.proofs.token.Token.text.Goals as goal
 
 pub returns-clause-size : goal.returns-clause-size
 returns-clause-size c =
-    let t : Token = record { given = c.args.given; last = c.args.last; digest = c.args.digest } in
     let bytes = c.deref.ensures.value ∙ c.in_ok-bytes.ensures in
-    (text_back t (string_bytes c.in_ok-text.text) c.ranges.given.fits c.ranges.last.fits (search rules) (c.in_ok-text.ensures.text
+    (text_back c.args.self.now (string_bytes c.in_ok-text.text) (search rules) (search rules) (search rules) (c.in_ok-text.ensures.text
     ∙ ap (encode_of standard) bytes) (c.in_ok-text.ensures.decoded ∙ ap (λ xs. Ok xs) bytes)).0
 
 pub returns-clause-read_back : goal.returns-clause-read_back
 returns-clause-read_back c =
-    let t : Token = record { given = c.args.given; last = c.args.last; digest = c.args.digest } in
     let bytes = c.deref.ensures.value ∙ c.in_ok-bytes.ensures in
-    (text_back t (string_bytes c.in_ok-text.text) c.ranges.given.fits c.ranges.last.fits (search rules) (c.in_ok-text.ensures.text
+    (text_back c.args.self.now (string_bytes c.in_ok-text.text) (search rules) (search rules) (search rules) (c.in_ok-text.ensures.text
     ∙ ap (encode_of standard) bytes) (c.in_ok-text.ensures.decoded ∙ ap (λ xs. Ok xs) bytes)).1
