@@ -47,6 +47,8 @@ pub trait Input {
     }
 
     ghost calls_fit: { (s : Self) → (state s).calls ≤ greatest };
+
+    ghost failures_fit: { (s : Self) → (state s).failures ≤ greatest };
 }
 
 /// A reader of the system's, such as a file or standard input.
@@ -70,9 +72,15 @@ impl<R: Read + Drop> SystemInput<R> {
 
 impl<R: Read + Drop> Input for SystemInput<R> {
     // `min`, since in a law a count is any number
-    ghost state = { λ s. record { left = R.remaining s.reader; calls = min s.tally.calls greatest; failures = s.tally.failures } };
+    ghost state = { λ s. record {
+      left = R.remaining s.reader;
+      calls = min s.tally.calls greatest;
+      failures = min s.tally.failures greatest;
+    } };
 
     ghost calls_fit = { λ s. Prim.search rules };
+
+    ghost failures_fit = { λ s. Prim.search rules };
 
     fn read(&mut self, room: &mut [u8]) -> Result<usize, DeviceFault> {
         self.tally.call();
@@ -105,6 +113,8 @@ impl<R: Read + Drop> Input for BufferedInput<R> {
     ghost state = { λ s. ⟦<SystemInput<BufReader<R>> as Input>⟧.state s.device };
 
     ghost calls_fit = { λ s. Prim.search rules };
+
+    ghost failures_fit = { λ s. Prim.search rules };
 
     fn read(&mut self, room: &mut [u8]) -> Result<usize, DeviceFault> {
         self.device.read(room)
@@ -172,13 +182,19 @@ impl<'a> MemoryInput<'a> {
 
 impl Input for MemoryInput<'_> {
     // `min`, since in a law a count is any number
-    ghost state = { λ s. record { left = Some s.bytes.now; calls = min s.tally.calls greatest; failures = s.tally.failures } };
+    ghost state = { λ s. record {
+      left = Some s.bytes.now;
+      calls = min s.tally.calls greatest;
+      failures = min s.tally.failures greatest;
+    } };
 
     ghost read_gives = { λ s answer t. (t.most ≡ s.most) × (t.failing ≡ s.failing) × MatchOption answer
         (s.failing ≡ Some (after_more s.tally.calls 1))
         (λ part. (s.failing ≢ Some (after_more s.tally.calls 1)) × (length part ≤ s.most) × (s.bytes.now ≡ part ++ t.bytes.now)) };
 
     ghost calls_fit = { λ s. Prim.search rules };
+
+    ghost failures_fit = { λ s. Prim.search rules };
 
     fn read(&mut self, room: &mut [u8]) -> Result<usize, DeviceFault> {
         self.tally.call();

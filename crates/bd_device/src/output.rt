@@ -1,7 +1,8 @@
 //! What takes bytes, with counts of calls and of failures.
 ghost use Rattle.std.specs.Prelude.{◌≡◌, ◌≢◌, ℕ, List, None, Some, Option, IfOk, OnOk, OnErr, length, take, ◌-◌, ◌<◌, ◌≤◌, MatchOption, min, ⊤, ◌⊎◌, []};
+ghost use Rattle.std.proofs.Common.{rules};
 ghost use Rattle.std.specs.Io.KnownBytes.{WriteAppends, Appends};
-ghost use Rattle.bd_device.specs.Devices.{Writer, AreWrites, BreaksWithin, TakesText, after_more, count_taken, over};
+ghost use Rattle.bd_device.specs.Devices.{Writer, AreWrites, BreaksWithin, TakesText, after_more, count_taken, greatest, over};
 ghost use Rattle.bd_device.specs.declared.output.FailingWrite.TheVariants.{Error, Zero};
 
 use crate::input::{DeviceFault, Tally};
@@ -27,6 +28,10 @@ pub trait Output {
         ensures well { IfOk result (λ n. (0 < n) ⊎ (bytes.now ≡ []) → (state self.new).failures ≡ (state self.old).failures) }
         ensures none { IfOk result (λ n. n ≡ 0 → bytes.now ≢ [] → (state self.new).failures ≡ after_more (state self.old).failures 1) }
         ensures failed { OnErr result ((state self.new).failures ≡ after_more (state self.old).failures 1) };
+
+    ghost calls_fit: { (s : Self) → (state s).calls ≤ greatest };
+
+    ghost failures_fit: { (s : Self) → (state s).failures ≤ greatest };
 }
 
 /// A writer of the system's, such as a file or standard output.
@@ -49,7 +54,16 @@ impl<W: Write + Drop> SystemOutput<W> {
 }
 
 impl<W: Write + Drop> Output for SystemOutput<W> {
-    ghost state = { λ s. record { held = W.contents s.writer; calls = s.tally.calls; failures = s.tally.failures } };
+    // `min`, since in a law a count is any number
+    ghost state = { λ s. record {
+      held = W.contents s.writer;
+      calls = min s.tally.calls greatest;
+      failures = min s.tally.failures greatest;
+    } };
+
+    ghost calls_fit = { λ s. Prim.search rules };
+
+    ghost failures_fit = { λ s. Prim.search rules };
 
     fn write(&mut self, bytes: &[u8]) -> Result<usize, DeviceFault> {
         self.tally.call();
@@ -130,13 +144,22 @@ impl<'a> MemoryOutput<'a> {
 }
 
 impl Output for MemoryOutput<'_> {
-    ghost state = { λ s. record { held = Some (take s.filled s.room.now); calls = s.tally.calls; failures = s.tally.failures } };
+    // `min`, since in a law a count is any number
+    ghost state = { λ s. record {
+      held = Some (take s.filled s.room.now);
+      calls = min s.tally.calls greatest;
+      failures = min s.tally.failures greatest;
+    } };
 
     ghost write_takes = { λ s bytes answer t. (t.most ≡ s.most) × (t.failing ≡ s.failing)
         × (length t.room.now ≡ length s.room.now) × MatchOption answer (s.failing ≡ Some (Error (after_more s.tally.calls 1)))
         (λ n. (s.failing ≢ Some (Error (after_more s.tally.calls 1))) × (n ≤ s.most)
         × (s.failing ≡ Some (Zero (after_more s.tally.calls 1)) → n ≡ 0) × (s.failing ≢ Some (Zero (after_more s.tally.calls 1)) →
         n ≡ min (min (length bytes) (length s.room.now - s.filled)) s.most)) };
+
+    ghost calls_fit = { λ s. Prim.search rules };
+
+    ghost failures_fit = { λ s. Prim.search rules };
 
     fn write(&mut self, bytes: &[u8]) -> Result<usize, DeviceFault> {
         self.tally.call();
