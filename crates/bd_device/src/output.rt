@@ -2,7 +2,7 @@
 ghost use Rattle.std.specs.Prelude.{◌≡◌, ◌≢◌, ℕ, List, None, Some, Option, IfOk, OnOk, OnErr, length, take, ◌-◌, ◌<◌, ◌≤◌, MatchOption, min, ⊤, ◌⊎◌, []};
 ghost use Rattle.std.proofs.Common.{rules};
 ghost use Rattle.std.specs.Io.KnownBytes.{WriteAppends, Appends};
-ghost use Rattle.bd_device.specs.Devices.{Writer, AreWrites, BreaksWithin, TakesText, after_more, count_taken, greatest, over};
+ghost use Rattle.bd_device.specs.Devices.{Writer, AreWrites, BreaksWithin, TakesText, after_more, count_taken, greatest, over, writer_of};
 ghost use Rattle.bd_device.specs.declared.output.FailingWrite.TheVariants.{Error, Zero};
 
 use crate::input::{DeviceFault, Tally};
@@ -44,9 +44,7 @@ pub struct SystemOutput<W: Write + Drop> {
 impl<W: Write + Drop> SystemOutput<W> {
     /// The device over this writer, with both counts at 0.
     pub fn new(writer: W) -> SystemOutput<W>
-        ensures held { (⟦<SystemOutput<W> as Output>⟧.state result).held ≡ W.contents writer }
-        ensures calls { (⟦<SystemOutput<W> as Output>⟧.state result).calls ≡ 0 }
-        ensures failures { (⟦<SystemOutput<W> as Output>⟧.state result).failures ≡ 0 }
+        ensures state { ⟦<SystemOutput<W> as Output>⟧.state result ≡ record { held = W.contents writer; calls = 0; failures = 0 } }
     {
         let tally = Tally::default();
         SystemOutput { writer, tally }
@@ -54,12 +52,7 @@ impl<W: Write + Drop> SystemOutput<W> {
 }
 
 impl<W: Write + Drop> Output for SystemOutput<W> {
-    // `min`, since in a law a count is any number
-    ghost state = { λ s. record {
-      held = W.contents s.writer;
-      calls = min s.tally.calls greatest;
-      failures = min s.tally.failures greatest;
-    } };
+    ghost state = { λ s. writer_of (W.contents s.writer) s.tally };
 
     ghost calls_fit = { λ s. Prim.search rules };
 
@@ -105,12 +98,10 @@ impl<'a> MemoryOutput<'a> {
     /// full. The call that `failing` names takes none. Both counts are at 0.
     pub fn new(room: &'a mut [u8], most: usize, failing: Option<FailingWrite>) -> MemoryOutput<'a>
         requires { 0 < most }
-        ensures held { (⟦<MemoryOutput<'a> as Output>⟧.state result).held ≡ Some [] }
+        ensures state { ⟦<MemoryOutput<'a> as Output>⟧.state result ≡ record { held = Some []; calls = 0; failures = 0 } }
         ensures room { length result.room.now ≡ length room.old }
         ensures most { result.most ≡ most }
         ensures failing { result.failing ≡ failing }
-        ensures calls { (⟦<MemoryOutput<'a> as Output>⟧.state result).calls ≡ 0 }
-        ensures failures { (⟦<MemoryOutput<'a> as Output>⟧.state result).failures ≡ 0 }
     {
         MemoryOutput {
             most,
@@ -144,12 +135,7 @@ impl<'a> MemoryOutput<'a> {
 }
 
 impl Output for MemoryOutput<'_> {
-    // `min`, since in a law a count is any number
-    ghost state = { λ s. record {
-      held = Some (take s.filled s.room.now);
-      calls = min s.tally.calls greatest;
-      failures = min s.tally.failures greatest;
-    } };
+    ghost state = { λ s. writer_of (Some (take s.filled s.room.now)) s.tally };
 
     ghost write_takes = { λ s bytes answer t. (t.most ≡ s.most) × (t.failing ≡ s.failing)
         × (length t.room.now ≡ length s.room.now) × MatchOption answer (s.failing ≡ Some (Error (after_more s.tally.calls 1)))
