@@ -1,7 +1,8 @@
 -- Devices before calls and after them, also where their bytes are not known: what was read and what was written.
 use Rattle.std.specs.Prelude.{◌≡◌, ℕ, ◌+◌, ◌<◌, ◌⊎◌, min, suc, ◌≤◌, List, [], ◌++◌, length, take, drop, Option, None, Some, Result, Ok, Err}
 use Rattle.std.specs.Io.KnownBytes.{Appends, Consumes}
-use Rattle.bd_device.specs.declared.reading.ReadFault.{ReadFault}
+use Rattle.bd_device.specs.declared.{input.Tally.Tally, reading.ReadFault.ReadFault}
+use Rattle.bd_device.specs.declared.reading.TheConstants.{CANNOT_READ, INPUT_TOO_LONG, TOO_MANY_READS, NO_MEMORY}
 use Rattle.bd_device.specs.declared.reading.ReadFault.TheVariants as reads
 
 -- the count after n more, which stays at the greatest of 64 bits
@@ -22,6 +23,13 @@ pub record Writer : Type 0 where
   pub held : Option (List ℕ)
   pub calls : ℕ
   pub failures : ℕ
+
+-- the same with the counts of calls; `min`, since in a law a count is any number
+abbrev pub reader_of : Option (List ℕ) → Tally → Reader
+reader_of left tally = record { left = left; calls = min tally.calls greatest; failures = min tally.failures greatest }
+
+abbrev pub writer_of : Option (List ℕ) → Tally → Writer
+writer_of held tally = record { held = held; calls = min tally.calls greatest; failures = min tally.failures greatest }
 
 -- a device before a run and after it
 pub record Over (Device : Type 0) : Type 0 where
@@ -99,3 +107,10 @@ FailsToFill file size limit reads.TooLong =
 FailsToFill file size limit reads.NoMemory = Unit {0}
 FailsToFill file size limit _ =
     (given : List ℕ) × Consumes file.before.left file.after.left given × (length given < size) × (length given ≤ limit)
+
+-- why a device was not read to its end, in words, which stand in the code
+abbrev pub read_words : ReadFault → List ℕ
+read_words reads.Device = CANNOT_READ.now
+read_words reads.TooLong = INPUT_TOO_LONG.now
+read_words reads.TooManyTurns = TOO_MANY_READS.now
+read_words reads.NoMemory = NO_MEMORY.now

@@ -1,9 +1,9 @@
 //! What gives bytes, with counts of calls and of failures.
-ghost use Rattle.std.specs.Prelude.{◌≡◌, ℕ, List, Option, None, Some, false, IfOk, IsTrue, OnOk, OnErr, length, ◌++◌, ◌<◌, ◌≤◌, ◌≢◌, min, MatchOption, ⊤};
+ghost use Rattle.std.specs.Prelude.{◌≡◌, ℕ, List, Option, None, Some, false, IfOk, IsTrue, OnOk, OnErr, length, ◌++◌, ◌<◌, ◌≤◌, ◌≢◌, MatchOption, ⊤};
 ghost use Rattle.std.proofs.Common.{rules};
 ghost use Rattle.std.specs.Io.Buffered.{reader_remaining};
 ghost use Rattle.std.specs.Io.KnownBytes.{Consumes, ReadConsumes};
-ghost use Rattle.bd_device.specs.Devices.{Reader, after_more, bytes_given, greatest};
+ghost use Rattle.bd_device.specs.Devices.{Reader, after_more, bytes_given, greatest, reader_of};
 
 use std::io::{BufRead, BufReader, Read};
 use thiserror::Error;
@@ -47,6 +47,8 @@ pub trait Input {
     }
 
     ghost calls_fit: { (s : Self) → (state s).calls ≤ greatest };
+
+    ghost failures_fit: { (s : Self) → (state s).failures ≤ greatest };
 }
 
 /// A reader of the system's, such as a file or standard input.
@@ -59,9 +61,7 @@ pub struct SystemInput<R: Read + Drop> {
 impl<R: Read + Drop> SystemInput<R> {
     /// The device over this reader, with both counts at 0.
     pub fn new(reader: R) -> SystemInput<R>
-        ensures left { (⟦<SystemInput<R> as Input>⟧.state result).left ≡ R.remaining reader }
-        ensures calls { (⟦<SystemInput<R> as Input>⟧.state result).calls ≡ 0 }
-        ensures failures { (⟦<SystemInput<R> as Input>⟧.state result).failures ≡ 0 }
+        ensures state { ⟦<SystemInput<R> as Input>⟧.state result ≡ record { left = R.remaining reader; calls = 0; failures = 0 } }
     {
         let tally = Tally::default();
         SystemInput { reader, tally }
@@ -69,10 +69,11 @@ impl<R: Read + Drop> SystemInput<R> {
 }
 
 impl<R: Read + Drop> Input for SystemInput<R> {
-    // `min`, since in a law a count is any number
-    ghost state = { λ s. record { left = R.remaining s.reader; calls = min s.tally.calls greatest; failures = s.tally.failures } };
+    ghost state = { λ s. reader_of (R.remaining s.reader) s.tally };
 
     ghost calls_fit = { λ s. Prim.search rules };
+
+    ghost failures_fit = { λ s. Prim.search rules };
 
     fn read(&mut self, room: &mut [u8]) -> Result<usize, DeviceFault> {
         self.tally.call();
@@ -92,9 +93,7 @@ pub struct BufferedInput<R: Read + Drop> {
 impl<R: Read + Drop> BufferedInput<R> {
     /// The device over this reader, with both counts at 0.
     pub fn new(reader: BufReader<R>) -> BufferedInput<R>
-        ensures left { (⟦<BufferedInput<R> as Input>⟧.state result).left ≡ reader_remaining R.remaining reader }
-        ensures calls { (⟦<BufferedInput<R> as Input>⟧.state result).calls ≡ 0 }
-        ensures failures { (⟦<BufferedInput<R> as Input>⟧.state result).failures ≡ 0 }
+        ensures state { ⟦<BufferedInput<R> as Input>⟧.state result ≡ record { left = reader_remaining R.remaining reader; calls = 0; failures = 0 } }
     {
         let device = SystemInput::new(reader);
         BufferedInput { device }
@@ -105,6 +104,8 @@ impl<R: Read + Drop> Input for BufferedInput<R> {
     ghost state = { λ s. ⟦<SystemInput<BufReader<R>> as Input>⟧.state s.device };
 
     ghost calls_fit = { λ s. Prim.search rules };
+
+    ghost failures_fit = { λ s. Prim.search rules };
 
     fn read(&mut self, room: &mut [u8]) -> Result<usize, DeviceFault> {
         self.device.read(room)
@@ -141,11 +142,9 @@ impl<'a> MemoryInput<'a> {
     /// fails and gives none. Both counts are at 0.
     pub fn new(bytes: &'a [u8], most: usize, failing: Option<u64>) -> MemoryInput<'a>
         requires { 0 < most }
-        ensures left { (⟦<MemoryInput<'a> as Input>⟧.state result).left ≡ Some bytes.now }
+        ensures state { ⟦<MemoryInput<'a> as Input>⟧.state result ≡ record { left = Some bytes.now; calls = 0; failures = 0 } }
         ensures most { result.most ≡ most }
         ensures failing { result.failing ≡ failing }
-        ensures calls { (⟦<MemoryInput<'a> as Input>⟧.state result).calls ≡ 0 }
-        ensures failures { (⟦<MemoryInput<'a> as Input>⟧.state result).failures ≡ 0 }
     {
         MemoryInput {
             most,
@@ -171,14 +170,15 @@ impl<'a> MemoryInput<'a> {
 }
 
 impl Input for MemoryInput<'_> {
-    // `min`, since in a law a count is any number
-    ghost state = { λ s. record { left = Some s.bytes.now; calls = min s.tally.calls greatest; failures = s.tally.failures } };
+    ghost state = { λ s. reader_of (Some s.bytes.now) s.tally };
 
     ghost read_gives = { λ s answer t. (t.most ≡ s.most) × (t.failing ≡ s.failing) × MatchOption answer
         (s.failing ≡ Some (after_more s.tally.calls 1))
         (λ part. (s.failing ≢ Some (after_more s.tally.calls 1)) × (length part ≤ s.most) × (s.bytes.now ≡ part ++ t.bytes.now)) };
 
     ghost calls_fit = { λ s. Prim.search rules };
+
+    ghost failures_fit = { λ s. Prim.search rules };
 
     fn read(&mut self, room: &mut [u8]) -> Result<usize, DeviceFault> {
         self.tally.call();

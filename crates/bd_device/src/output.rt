@@ -1,7 +1,8 @@
 //! What takes bytes, with counts of calls and of failures.
 ghost use Rattle.std.specs.Prelude.{◌≡◌, ◌≢◌, ℕ, List, None, Some, Option, IfOk, OnOk, OnErr, length, take, ◌-◌, ◌<◌, ◌≤◌, MatchOption, min, ⊤, ◌⊎◌, []};
+ghost use Rattle.std.proofs.Common.{rules};
 ghost use Rattle.std.specs.Io.KnownBytes.{WriteAppends, Appends};
-ghost use Rattle.bd_device.specs.Devices.{Writer, AreWrites, BreaksWithin, TakesText, after_more, count_taken, over};
+ghost use Rattle.bd_device.specs.Devices.{Writer, AreWrites, BreaksWithin, TakesText, after_more, count_taken, greatest, over, writer_of};
 ghost use Rattle.bd_device.specs.declared.output.FailingWrite.TheVariants.{Error, Zero};
 
 use crate::input::{DeviceFault, Tally};
@@ -27,6 +28,10 @@ pub trait Output {
         ensures well { IfOk result (λ n. (0 < n) ⊎ (bytes.now ≡ []) → (state self.new).failures ≡ (state self.old).failures) }
         ensures none { IfOk result (λ n. n ≡ 0 → bytes.now ≢ [] → (state self.new).failures ≡ after_more (state self.old).failures 1) }
         ensures failed { OnErr result ((state self.new).failures ≡ after_more (state self.old).failures 1) };
+
+    ghost calls_fit: { (s : Self) → (state s).calls ≤ greatest };
+
+    ghost failures_fit: { (s : Self) → (state s).failures ≤ greatest };
 }
 
 /// A writer of the system's, such as a file or standard output.
@@ -39,9 +44,7 @@ pub struct SystemOutput<W: Write + Drop> {
 impl<W: Write + Drop> SystemOutput<W> {
     /// The device over this writer, with both counts at 0.
     pub fn new(writer: W) -> SystemOutput<W>
-        ensures held { (⟦<SystemOutput<W> as Output>⟧.state result).held ≡ W.contents writer }
-        ensures calls { (⟦<SystemOutput<W> as Output>⟧.state result).calls ≡ 0 }
-        ensures failures { (⟦<SystemOutput<W> as Output>⟧.state result).failures ≡ 0 }
+        ensures state { ⟦<SystemOutput<W> as Output>⟧.state result ≡ record { held = W.contents writer; calls = 0; failures = 0 } }
     {
         let tally = Tally::default();
         SystemOutput { writer, tally }
@@ -49,7 +52,11 @@ impl<W: Write + Drop> SystemOutput<W> {
 }
 
 impl<W: Write + Drop> Output for SystemOutput<W> {
-    ghost state = { λ s. record { held = W.contents s.writer; calls = s.tally.calls; failures = s.tally.failures } };
+    ghost state = { λ s. writer_of (W.contents s.writer) s.tally };
+
+    ghost calls_fit = { λ s. Prim.search rules };
+
+    ghost failures_fit = { λ s. Prim.search rules };
 
     fn write(&mut self, bytes: &[u8]) -> Result<usize, DeviceFault> {
         self.tally.call();
@@ -91,12 +98,10 @@ impl<'a> MemoryOutput<'a> {
     /// full. The call that `failing` names takes none. Both counts are at 0.
     pub fn new(room: &'a mut [u8], most: usize, failing: Option<FailingWrite>) -> MemoryOutput<'a>
         requires { 0 < most }
-        ensures held { (⟦<MemoryOutput<'a> as Output>⟧.state result).held ≡ Some [] }
+        ensures state { ⟦<MemoryOutput<'a> as Output>⟧.state result ≡ record { held = Some []; calls = 0; failures = 0 } }
         ensures room { length result.room.now ≡ length room.old }
         ensures most { result.most ≡ most }
         ensures failing { result.failing ≡ failing }
-        ensures calls { (⟦<MemoryOutput<'a> as Output>⟧.state result).calls ≡ 0 }
-        ensures failures { (⟦<MemoryOutput<'a> as Output>⟧.state result).failures ≡ 0 }
     {
         MemoryOutput {
             most,
@@ -130,13 +135,17 @@ impl<'a> MemoryOutput<'a> {
 }
 
 impl Output for MemoryOutput<'_> {
-    ghost state = { λ s. record { held = Some (take s.filled s.room.now); calls = s.tally.calls; failures = s.tally.failures } };
+    ghost state = { λ s. writer_of (Some (take s.filled s.room.now)) s.tally };
 
     ghost write_takes = { λ s bytes answer t. (t.most ≡ s.most) × (t.failing ≡ s.failing)
         × (length t.room.now ≡ length s.room.now) × MatchOption answer (s.failing ≡ Some (Error (after_more s.tally.calls 1)))
         (λ n. (s.failing ≢ Some (Error (after_more s.tally.calls 1))) × (n ≤ s.most)
         × (s.failing ≡ Some (Zero (after_more s.tally.calls 1)) → n ≡ 0) × (s.failing ≢ Some (Zero (after_more s.tally.calls 1)) →
         n ≡ min (min (length bytes) (length s.room.now - s.filled)) s.most)) };
+
+    ghost calls_fit = { λ s. Prim.search rules };
+
+    ghost failures_fit = { λ s. Prim.search rules };
 
     fn write(&mut self, bytes: &[u8]) -> Result<usize, DeviceFault> {
         self.tally.call();

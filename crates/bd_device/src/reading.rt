@@ -1,7 +1,7 @@
 //! The bytes of a device: all of them, or as many as a room takes.
-ghost use Rattle.std.specs.Prelude.{◌≡◌, ℕ, List, [], Some, None, IfOk, IfSome, IsErrOf, OnErr, OnOk, length, vec_len, ◌+◌, ◌<◌, ◌≤◌, codes, ◌++◌, take, IfErr, ◌-◌};
+ghost use Rattle.std.specs.Prelude.{◌≡◌, ℕ, List, [], Some, None, IfOk, IfSome, IsErrOf, OnErr, OnOk, length, vec_len, ◌+◌, ◌<◌, ◌≤◌, ◌++◌, take, IfErr, ◌-◌};
 ghost use Rattle.std.specs.Io.KnownBytes.{IsAtEnd, Consumes};
-ghost use Rattle.bd_device.specs.Devices.{AreReads, FailsToFill, FillsRoom, TakesAtMost, after_more, over};
+ghost use Rattle.bd_device.specs.Devices.{AreReads, FailsToFill, FillsRoom, TakesAtMost, after_more, over, read_words};
 
 use crate::input::Input;
 use std::alloc::Global;
@@ -30,19 +30,24 @@ pub enum ReadFault {
     NoMemory = 4,
 }
 
+const CANNOT_READ: &str = "cannot read";
+
+const INPUT_TOO_LONG: &str = "input too long";
+
+const TOO_MANY_READS: &str = "too many reads";
+
+const NO_MEMORY: &str = "no memory";
+
 impl ReadFault {
     /// The fault in the words of the program.
     pub fn words(self) -> &'static str
-        ensures device { self ≡ ReadFault.Device → result.now ≡ codes "cannot read" }
-        ensures too_long { self ≡ ReadFault.TooLong → result.now ≡ codes "input too long" }
-        ensures too_many { self ≡ ReadFault.TooManyTurns → result.now ≡ codes "too many reads" }
-        ensures memory { self ≡ ReadFault.NoMemory → result.now ≡ codes "no memory" }
+        ensures { result.now ≡ read_words self }
     {
         match self {
-            ReadFault::Device => "cannot read",
-            ReadFault::TooLong => "input too long",
-            ReadFault::TooManyTurns => "too many reads",
-            ReadFault::NoMemory => "no memory",
+            ReadFault::Device => CANNOT_READ,
+            ReadFault::TooLong => INPUT_TOO_LONG,
+            ReadFault::TooManyTurns => TOO_MANY_READS,
+            ReadFault::NoMemory => NO_MEMORY,
         }
     }
 }
