@@ -4,12 +4,12 @@ use Rattle.bd_value.specs.{Limits.longest_input, Limits.most_reads, Tree.Doc}
 use Rattle.bd_answer.specs.{Session.State, Laws.new_state}
 use Rattle.bd_check.specs.{Dump.IsWalk, Fault.Fault}
 use Rattle.bd_device.specs.{declared.reading.Limits.Limits, declared.reading.ReadFault.ReadFault}
-use Rattle.bd_device.specs.Devices.{Over, Reader, Writer}
+use Rattle.bd_device.specs.Devices.{Over, Reader, Writer, read_words}
 use Rattle.bd_lines.specs.{Serving.ServesAll, Serving.StopsServing, declared.serving.ServeFault.ServeFault}
 use Rattle.bd_service.specs.Talk.{IsKept, RepliesInText}
 use Rattle.bd_files.specs.{Input.ReadsInput, declared.output.Status.Status, Pack.PacksInput, DumpAndCheck.ChecksInput, DumpAndCheck.DumpsInput}
 use Rattle.bd_files.specs.declared.output.Status.TheVariants.{Done, Failed, Usage}
-use Rattle.bd_files.specs.Output.{TellsMessage, error_line, fault_text, read_words, shown_refusal, Transcript}
+use Rattle.bd_files.specs.Output.{TellsMessage, error_line, fault_text, shown_refusal, Transcript}
 use Rattle.bd_command_line.specs.{FindWords.find_words_of, declared.order.Order.Order, declared.command_line.TheConstants.USAGE, declared.order.WordsFault.WordsFault}
 use Rattle.bd_find.specs.{Find.FindsDocuments, Asking.AsksNothing}
 use Rattle.bd_lines.specs.declared.serving.ServeFault.TheVariants as faults

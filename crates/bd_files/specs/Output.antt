@@ -8,7 +8,6 @@ use Rattle.bd_check.specs.Fault.{Fault, fault_words}
 use Rattle.bd_text.specs.Text.{text, quoted}
 use Rattle.bd_files.specs.{declared.output.OutputFault.OutputFault, declared.output.Status.Status, declared.output.OutputFault.TheVariants.NoMemory}
 use Rattle.bd_files.specs.{declared.output.OutputFault.TheVariants.Unwritten, declared.output.Status.TheVariants.Done, declared.output.Status.TheVariants.Failed}
-use Rattle.bd_device.specs.declared.reading.ReadFault.TheVariants as reads
 
 -- standard output, standard error, and the exit status
 pub record Transcript : Type 0 where
@@ -33,12 +32,6 @@ place_text number offset = codes "document " ++ (decimal number ++ (codes ", byt
 abbrev pub fault_text : ℕ → Fault → List ℕ
 fault_text number f =
     place_text number f.offset ++ (codes ", path " ++ (quoted (join_with_byte 46 f.path) ++ (codes ": " ++ fault_words f.kind)))
-
-abbrev pub read_words : ReadFault → List ℕ
-read_words reads.Device = codes "cannot read"
-read_words reads.TooLong = codes "input too long"
-read_words reads.TooManyTurns = codes "too many reads"
-read_words reads.NoMemory = codes "no memory"
 
 abbrev pub stop_words : OutputFault → List ℕ
 stop_words NoMemory = codes "no memory"

@@ -1,8 +1,8 @@
 -- What the words of `find` ask for, or why they ask for nothing.
-use Rattle.std.specs.Prelude.{◌≡◌, ◌≢◌, ◌⊎◌, ℕ, nat_le, Bool, true, List, [], ◌++◌, length, codes, decimal, Option, Some, None, Result, Ok, Err, if◌then◌else◌}
+use Rattle.std.specs.Prelude.{◌≡◌, ◌≢◌, ◌⊎◌, ℕ, nat_le, Bool, true, List, [], ◌++◌, length, codes, Option, Some, None, Result, Ok, Err, if◌then◌else◌}
 use Rattle.std.specs.List.{join_with_byte}
 use Rattle.bd_value.specs.{Limits.greatest_count, Tree.Doc}
-use Rattle.bd_diagnose.specs.{JsonFault.IsPlaced, JsonFault.json_fault_words, declared.json_fault.JsonFault.JsonFault, declared.json_fault.JsonFaultKind.JsonFaultKind}
+use Rattle.bd_diagnose.specs.{JsonFault.IsPlaced, JsonFault.json_fault_words, declared.json_fault.JsonFault.JsonFault}
 use Rattle.bd_text.specs.Text.{quoted}
 use Rattle.bd_extjson.specs.Read.{ReadsAs, reading}
 use Rattle.bd_path.specs.{Path.path_fault_words, declared.path.PathFault.PathFault}
@@ -11,6 +11,7 @@ use Rattle.bd_request.specs.{declared.results.Refused.Refused, declared.token.To
 use Rattle.bd_request.specs.Refused.{Reason, bad_filter, plain, reason_of, refused_words, then_part, told_as}
 use Rattle.bd_request.specs.Request.{Request, named_index, request_of, request_view, token_part}
 use Rattle.bd_command_line.specs.FindWords.{FindWords}
+use Rattle.bd_files.specs.Pack.{byte_text}
 use Rattle.bd_find.specs.{declared.asking.Asking.Asking, declared.asking.AskingFault.AskingFault}
 use Rattle.bd_diagnose.specs.declared.json_fault.JsonFaultKind.TheVariants as kinds
 use Rattle.bd_request.specs.declared.results.Refused.TheVariants as reasons
@@ -24,14 +25,9 @@ pub record PageRequest : Type 0 where
 
 -- ---- the texts of faults
 
--- a text as a whole has no byte
-abbrev pub json_byte_text : JsonFaultKind → ℕ → List ℕ
-json_byte_text kinds.NotADocument at = []
-json_byte_text _ at = codes ": byte " ++ decimal at
-
 -- of a query or a sort, as the name tells
 abbrev pub json_fault_text : List ℕ → JsonFault → List ℕ
-json_fault_text name f = name ++ (json_byte_text f.kind f.at ++ (codes ": " ++ json_fault_words f.kind))
+json_fault_text name f = name ++ (byte_text (codes ": byte ") f.kind f.at ++ (codes ": " ++ json_fault_words f.kind))
 
 -- the names down to the pair or member, joined by dots, and which rule it breaks
 abbrev pub refusal_text : Refusal → List ℕ
