@@ -1,6 +1,7 @@
 -- The bounds that a filter gives to an index on a path: a set of keys, of which each document that matches has one.
 -- `bd_path` says in `Key` which keys a document has. (MongoDB manual, "Multikey Indexes", "Multikey Index Bounds".)
-use Rattle.std.specs.Prelude.{◌==◌, Bool, true, false, ◌&&◌, ◌||◌, List, [], ◌∷◌, get_or, map, Option, Some, None, if◌then◌else◌}
+use Rattle.std.specs.Prelude.{◌==◌, Bool, true, false, ◌&&◌, ◌||◌, List, [], ◌∷◌, get_or, map, Option, Some, None}
+use Rattle.std.specs.Prelude.{if◌then◌else◌}
 use Rattle.std.specs.{List.list_any, List.list_all, Str.bytes_eq}
 use Rattle.bd_value.specs.Order.{class_of, class_of_kind, class_rank, equal}
 use Rattle.bd_value.specs.{Tree.Tree, Tree.elements_in, Tree.leaf, declared.node.Class.Class, declared.node.Kind.Kind}
@@ -8,7 +9,8 @@ use Rattle.bd_value.specs.Tree as trees
 use Rattle.bd_value.specs.declared.node.Kind.TheVariants as kinds
 use Rattle.bd_value.specs.declared.node.Class.TheVariants as classes
 use Rattle.bd_path.specs.Reach.{Names}
-use Rattle.bd_filter.specs.Filter.{Filter, all_of, some_of, none_of, at_path, Filters, no_filters, filter, Operator, equals, compares, is_in, has_all, has_type, has_size}
+use Rattle.bd_filter.specs.Filter.{Filter, all_of, some_of, none_of, at_path, Filters, no_filters, filter, Operator}
+use Rattle.bd_filter.specs.Filter.{equals, compares, is_in, has_all, has_type, has_size}
 use Rattle.bd_filter.specs.Filter.{exists, negates, has_element, has_document, Operators, no_operators, operator}
 use Rattle.bd_filter.specs.{FilterMatch.is_array, FilterMatch.is_related, Word.is_kind}
 
@@ -50,8 +52,8 @@ keys_of_each multikey [] = no_key
 keys_of_each true (set ∷ sets) = set
 keys_of_each false (set ∷ sets) = intersection (set ∷ sets)
 
--- Where a document may have several keys, one may be within the first bounds and another within the second: then the first
--- count alone.
+-- Where a document may have several keys, one may be within the first bounds and another within the second: then the
+-- first count alone.
 abbrev pub conjunction : Bool → KeyBounds → KeyBounds → KeyBounds
 conjunction multikey None second = second
 conjunction multikey (Some first) None = Some first
@@ -118,7 +120,8 @@ abbrev mutual
   -- operators at a path, and what is left of the path of the index after it
   pub operator_bounds : Operators → Option Names → Bool → KeyBounds
   operator_bounds no_operators rest multikey = None
-  operator_bounds (operator o os) rest multikey = conjunction multikey (bounds_at o rest multikey) (operator_bounds os rest multikey)
+  operator_bounds (operator o os) rest multikey =
+      conjunction multikey (bounds_at o rest multikey) (operator_bounds os rest multikey)
 
   -- where the path of the index goes on, the filter of `$elemMatch` bounds the keys of documents in an array
   pub bounds_at : Operator → Option Names → Bool → KeyBounds

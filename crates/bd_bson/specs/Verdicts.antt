@@ -1,6 +1,7 @@
 -- What is found of each document of a dump. A document with a fault is no end: the next one stands after the bytes that
 -- its length counts. Only a fault of the length itself is the end, since nothing tells then where the next one stands.
-use Rattle.std.specs.Prelude.{ℕ, zero, suc, ◌+◌, List, [], ◌∷◌, ◌++◌, ◌≡◌, length, drop, map, Option, Some, None, Result, Ok, Err}
+use Rattle.std.specs.Prelude.{ℕ, zero, suc, ◌+◌, List, [], ◌∷◌, ◌++◌, ◌≡◌, length, drop, map, Option, Some, None}
+use Rattle.std.specs.Prelude.{Result, Ok, Err}
 use Rattle.bd_value.specs.Tree.{Doc}
 use Rattle.bd_check.specs.{Fault.Fault, Dump.frame_length, Dump.frame_fault, declared.fault.FaultKind.FaultKind}
 
@@ -10,7 +11,8 @@ verdicts_by first after (Ok None) = []
 verdicts_by first after (Ok (Some n)) = first ∷ after n
 verdicts_by first after (Err kind) = first ∷ []
 
--- The verdicts on bytes that begin at the place. The first number bounds the turns: the count of the bytes is always enough.
+-- The verdicts on bytes that begin at the place. The first number bounds the turns: the count of the bytes is always
+-- enough.
 unfoldable pub verdicts_from : ℕ → ℕ → List ℕ → List (Option Fault)
 verdicts_from zero base bytes = []
 verdicts_from (suc turns) base bytes =

@@ -9,7 +9,10 @@ use Rattle.std.specs.{Str.Lossy.utf8_valid_len, Int.w32, Int.from_le_bytes}
 use Rattle.bd_value.specs.{Limits.longest_document, Limits.most_levels, declared.node.Kind.Kind}
 use Rattle.bd_raw.specs.{Spelling.type_at, Sizes.number_of, declared.raw_parts.{ElementType.ElementType, Holder.Holder}}
 use Rattle.bd_check.specs.{Fault.Fault, Fault.longer, declared.fault.FaultKind.FaultKind}
-use Rattle.bd_check.specs.declared.fault.FaultKind.TheVariants.{ShortLength, BadLength, NoTerminator, UnknownType, Double, Decimal128, NameUnended, BadUtf8, BadStringLength, StringUnended, BadBoolean, BadBinaryLength, BadScopeLength, TooDeep, ValueShort}
+use Rattle.bd_check.specs.declared.fault.FaultKind.TheVariants.{ShortLength, BadLength, NoTerminator, UnknownType}
+use Rattle.bd_check.specs.declared.fault.FaultKind.TheVariants.{Double, Decimal128, NameUnended, BadUtf8}
+use Rattle.bd_check.specs.declared.fault.FaultKind.TheVariants.{BadStringLength, StringUnended, BadBoolean}
+use Rattle.bd_check.specs.declared.fault.FaultKind.TheVariants.{BadBinaryLength, BadScopeLength, TooDeep, ValueShort}
 
 infixl 10 ◌>>=◌
 abbrev pub ◌>>=◌ : {A B : Type 0} → Result A Fault → (A → Result B Fault) → Result B Fault

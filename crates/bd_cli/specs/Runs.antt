@@ -4,13 +4,15 @@ use Rattle.bd_value.specs.{Limits.longest_input, Limits.most_reads, Tree.Doc}
 use Rattle.bd_answer.specs.{Session.State, Laws.new_state}
 use Rattle.bd_check.specs.{Dump.IsWalk, Fault.Fault}
 use Rattle.bd_device.specs.{declared.reading.Limits.Limits, declared.reading.ReadFault.ReadFault}
-use Rattle.bd_device.specs.Devices.{Over, Reader, Writer}
+use Rattle.bd_device.specs.Devices.{Over, Reader, Writer, read_words}
 use Rattle.bd_lines.specs.{Serving.ServesAll, Serving.StopsServing, declared.serving.ServeFault.ServeFault}
 use Rattle.bd_service.specs.Talk.{IsKept, RepliesInText}
-use Rattle.bd_files.specs.{Input.ReadsInput, declared.output.Status.Status, Pack.PacksInput, DumpAndCheck.ChecksInput, DumpAndCheck.DumpsInput}
+use Rattle.bd_files.specs.{Input.ReadsInput, declared.output.Status.Status, Pack.PacksInput, DumpAndCheck.ChecksInput}
+use Rattle.bd_files.specs.{DumpAndCheck.DumpsInput}
 use Rattle.bd_files.specs.declared.output.Status.TheVariants.{Done, Failed, Usage}
-use Rattle.bd_files.specs.Output.{TellsMessage, error_line, fault_text, read_words, shown_refusal, Transcript}
-use Rattle.bd_command_line.specs.{FindWords.find_words_of, declared.order.Order.Order, declared.command_line.TheConstants.USAGE, declared.order.WordsFault.WordsFault}
+use Rattle.bd_files.specs.Output.{TellsMessage, error_line, fault_text, shown_refusal, Transcript}
+use Rattle.bd_command_line.specs.{FindWords.find_words_of, declared.order.Order.Order}
+use Rattle.bd_command_line.specs.{declared.command_line.TheConstants.USAGE, declared.order.WordsFault.WordsFault}
 use Rattle.bd_find.specs.{Find.FindsDocuments, Asking.AsksNothing}
 use Rattle.bd_lines.specs.declared.serving.ServeFault.TheVariants as faults
 use Rattle.bd_command_line.specs.declared.order.Order.TheVariants as orders
@@ -28,12 +30,14 @@ serve_words faults.NoMemory = codes "no memory"
 serve_words faults.Unwritten = codes "cannot write"
 
 -- no command was read, nothing was replied, and this is told
-pub record ServesNothing {C : Type 0} (old new : C) (out err : Over Writer) (status : Status) (message : List ℕ) : Type 0 where
+pub record ServesNothing {C : Type 0} (old new : C) (out err : Over Writer) (status : Status)
+    (message : List ℕ) : Type 0 where
   pub unread : new ≡ old
   pub silent : out.after ≡ out.before
   pub told : TellsMessage err (error_line message) Failed status
 
--- of the reader of the commands, which of its reads may give what, its first state and its last one, and what was written
+-- of the reader of the commands, which of its reads may give what, its first state and its last one, and what was
+-- written
 module _ {C : Type 0} (state : C → Reader) (gives : C → Option (List ℕ) → C → Type 0) (old new : C)
     (out err : Over Writer) (status : Status) where
   -- over a dump of these bytes, which are these documents, each command had its reply, and nothing is told
@@ -42,7 +46,8 @@ module _ {C : Type 0} (state : C → Reader) (gives : C → Option (List ℕ) �
       (t : State) × ServesAll state gives (RepliesInText bytes ds) command_limits old new out new_state t
       × (err.after ≡ err.before) × (status ≡ Done)
 
-  -- Or the commands before a fault had theirs, and the fault is told. There are never too many reads: each but the last gives a byte.
+  -- Or the commands before a fault had theirs, and the fault is told. There are never too many reads: each but the last
+  -- gives a byte.
   abbrev pub ServesToAFault : List ℕ → List Doc → Type 0
   ServesToAFault bytes ds = (t : State) × (fault : ServeFault) × (fault ≢ faults.Unread reads.TooManyTurns)
       × StopsServing state gives (RepliesInText bytes ds) command_limits old new out new_state t IsKept fault

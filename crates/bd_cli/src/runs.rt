@@ -1,14 +1,15 @@
 //! A command carried out over devices, and arguments that are no command; and laws of what is shown.
 
-ghost use Rattle.std.specs.Prelude.{◌≡◌, ◌<◌, ◌≤◌, ℕ, List, Option, None, Result, Ok, codes, length, slice_index};
+ghost use Rattle.std.specs.Prelude.{◌≡◌, ◌<◌, ◌≤◌, ◌++◌, ℕ, List, Option, None, Result, Ok, codes, length, slice_index};
 ghost use Rattle.bd_value.specs.{Limits.longest_input, Tree.Doc};
 ghost use Rattle.bd_device.specs.{Devices.over, declared.reading.ReadFault.ReadFault};
 ghost use Rattle.bd_bson.specs.Collection.{bytes_of, documents};
+ghost use Rattle.bd_check.specs.Dump.{AreJoined};
 ghost use Rattle.bd_command_line.specs.FindWords.{FindWords};
 ghost use Rattle.bd_lines.specs.Lines.{text_lines};
-ghost use Rattle.bd_files.specs.DumpAndCheck.{IsShownByCheck, IsShownByDump, ShowsFront};
+ghost use Rattle.bd_files.specs.DumpAndCheck.{IsShownByCheck, IsShownByDump};
 ghost use Rattle.bd_files.specs.Input.{ReadsNoFurther};
-ghost use Rattle.bd_files.specs.Output.{PrintsShown, Transcript};
+ghost use Rattle.bd_files.specs.Output.{PrintsShown, Transcript, lines};
 ghost use Rattle.bd_files.specs.Pack.{AreAlike, IsShownByPack, PacksLines};
 ghost use Rattle.bd_files.specs.declared.pack.BadLine.{BadLine};
 ghost use Rattle.bd_find.specs.{Asking.ReadsText, Find.IsShownByFind};
@@ -168,5 +169,7 @@ pub fn check_has_the_status_of_dump()
 /// What `dump` wrote before a write failed, or before memory ran out, is a front of what is to be shown of the input, whatever
 /// bytes follow those that it read. For `check`, `pack` and `find` the clauses of `run` say so themselves.
 pub fn dump_shows_a_front()
-    ensures { ShowsFront }
+    ensures { (bytes given rest : List ℕ) (shown : Transcript) (ds : List Doc) (front more : List ℕ) →
+        ((i : ℕ) → slice_index bytes i < 256) → bytes ≡ given ++ rest → IsShownByDump bytes None shown → AreJoined ds given →
+        lines ds ≡ front ++ more → (after : List ℕ) × (shown.out ≡ front ++ after) }
 {}

@@ -42,7 +42,14 @@ hint_read HintForm.Scan = by_scan
 hint_read (HintForm.Index path) = by_index path.now
 
 abbrev pub find_tree : HeldFind → FindCommand
-find_tree f = record { filter = pairs f.filter; sort = pairs f.sort; skip = f.skip; limit = f.limit; hint = hint_tree f.hint }
+find_tree f = record {
+  filter = pairs f.filter;
+  sort = pairs f.sort;
+  skip = f.skip;
+  limit = f.limit;
+  hint =
+      hint_tree f.hint;
+}
 
 abbrev pub command_tree : HeldCommand → Command
 command_tree (HeldCommand.CreateIndex path sparse) = creates_index (string_bytes path) sparse

@@ -50,7 +50,8 @@ with_file_commands app [] = app
 with_file_commands app (name ∷ names) = with_file_commands (with_subcommand app (file_app name).top) names
 
 abbrev pub line_app : App
-line_app = with_subcommand (with_file_commands top_app (codes "dump" ∷ codes "check" ∷ codes "pack" ∷ codes "serve" ∷ []))
+line_app = with_subcommand
+    (with_file_commands top_app (codes "dump" ∷ codes "check" ∷ codes "pack" ∷ codes "serve" ∷ []))
     find_app.top
 
 -- what they order

@@ -11,7 +11,8 @@ use Rattle.bd_sort.specs.Selection.{selection_for}
 use Rattle.bd_bounds.specs.Bounds.{KeyBounds, is_among}
 use Rattle.bd_index.specs.{Entries.entries_of, Entries.is_multikey, Places.has_key_in}
 use Rattle.bd_cursor.specs.Access.{AccessPath, Way, access_of, bounded, mark_names, scanned, walked, way_of}
-use Rattle.bd_cursor.specs.{declared.access.Choice.Choice, declared.explaining.Explain.Explain, declared.explaining.Plan.Plan}
+use Rattle.bd_cursor.specs.{declared.access.Choice.Choice, declared.explaining.Explain.Explain}
+use Rattle.bd_cursor.specs.{declared.explaining.Plan.Plan}
 use Rattle.bd_value.specs.Tree as trees
 use Rattle.bd_cursor.specs.declared.explaining.Plan.TheVariants as plans
 use Rattle.bd_request.specs.declared.request.Request as declared
@@ -35,11 +36,12 @@ plan_name plans.Scan = codes "scan"
 plan_name plans.Index = codes "index"
 plan_name plans.Walk = codes "walk"
 
--- what is told, as the pairs of a document: the plan, the path of the index, the entries that are read, the documents that are
--- looked at, and those that match
+-- what is told, as the pairs of a document: the plan, the path of the index, the entries that are read, the documents
+-- that are looked at, and those that match
 abbrev pub explanation : Plan → Option (List ℕ) → ℕ → ℕ → ℕ → Doc
 explanation plan index entries documents matches =
-    (codes "plan", leaf (trees.text (plan_name plan))) ∷ (codes "index", text_or_null index) ∷ (codes "entries", count_value entries)
+    (codes "plan", leaf (trees.text (plan_name plan))) ∷ (codes "index", text_or_null index)
+    ∷ (codes "entries", count_value entries)
     ∷ (codes "documents", count_value documents) ∷ (codes "matches", count_value matches) ∷ []
 
 -- by one in memory
@@ -56,7 +58,8 @@ explained_access ds n (walked i dir) = explanation plans.Walk (Some i.path) (ind
 -- of what a request selects
 abbrev pub explanation_for : List Doc → Request → Way → List IndexMark → Doc
 explanation_for ds r way indexes =
-    explained_access ds (length (matching (selection_for ds r.filter r.sorts r.skip r.limit))) (access_of ds r.filter r.sorts way indexes)
+    explained_access ds (length (matching (selection_for ds r.filter r.sorts r.skip r.limit)))
+    (access_of ds r.filter r.sorts way indexes)
 
 abbrev pub explanation_of : List Doc → declared.Request → Choice → List IndexMark → Doc
 explanation_of ds r choice = explanation_for ds (request_view r) (way_of choice)

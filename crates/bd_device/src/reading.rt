@@ -1,7 +1,7 @@
 //! The bytes of a device: all of them, or as many as a room takes.
 ghost use Rattle.std.specs.Prelude.{◌≡◌, ℕ, List, [], Some, None, IfOk, IfSome, IsErrOf, OnErr, OnOk, length, vec_len, ◌+◌, ◌<◌, ◌≤◌, ◌++◌, take, IfErr, ◌-◌};
 ghost use Rattle.std.specs.Io.KnownBytes.{IsAtEnd, Consumes};
-ghost use Rattle.bd_device.specs.Devices.{AreReads, FailsToFill, FillsRoom, TakesAtMost, after_more, over, read_words};
+ghost use Rattle.bd_device.specs.Devices.{AreReads, FailsToFill, FillsRoom, after_more, over, read_words};
 
 use crate::input::Input;
 use std::alloc::Global;
@@ -79,9 +79,8 @@ pub fn read_all<R: Input>(
 
     // All reads were made, and each gave a byte at least.
     ensures too_many { IsErrOf result ReadFault.TooManyTurns → (given : List ℕ) × (length given ≤ limits.bytes)
-        × AreReads R.read_gives limits.turns reader.old given reader.new }
-    ensures too_many_known { IsErrOf result ReadFault.TooManyTurns →
-        (given : List ℕ) × Consumes (R.state reader.old).left (R.state reader.new).left given × (limits.turns ≤ length given) }
+        × AreReads R.read_gives limits.turns reader.old given reader.new
+        × Consumes (R.state reader.old).left (R.state reader.new).left given }
     ensures too_many_calls { IsErrOf result ReadFault.TooManyTurns →
         (R.state reader.new).calls ≡ after_more (R.state reader.old).calls limits.turns }
 
@@ -94,8 +93,8 @@ pub fn read_all<R: Input>(
 
     // The reads before a refusal of the allocator gave a byte each, and no more than the limit.
     ensures memory { IsErrOf result ReadFault.NoMemory → (n : ℕ) × (given : List ℕ) × (n ≤ limits.turns) × (length given ≤ limits.bytes)
-        × AreReads R.read_gives n reader.old given reader.new }
-    ensures memory_known { IsErrOf result ReadFault.NoMemory → TakesAtMost limits.bytes (over R.state reader.old reader.new) }
+        × AreReads R.read_gives n reader.old given reader.new
+        × Consumes (R.state reader.old).left (R.state reader.new).left given }
 {
     let mut buffer = [0u8; 65536];
     let mut bytes = Vec::new(alloc);

@@ -1,11 +1,14 @@
--- Which document a text is (Extended JSON v2, canonical form, and bare whole numbers): which value a JSON value stands for.
-use Rattle.std.specs.Prelude.{◌≡◌, ℕ, zero, suc, ◌-◌, ℤ, List, if◌then◌else◌, Option, Some, None, option_map, option_and_then}
+-- Which document a text is (Extended JSON v2, canonical form, and bare whole numbers): which value a JSON value stands
+-- for.
+use Rattle.std.specs.Prelude.{◌≡◌, ℕ, zero, suc, ◌-◌, ℤ, List, if◌then◌else◌, Option, Some, None, option_map}
+use Rattle.std.specs.Prelude.{option_and_then}
 use Rattle.std.specs.{Option.option_map_or, Str.is_utf8}
 use Rattle.json.specs.{Find.as_str, Json.Json, Json.value, Json.if_last, Lex.tokens}
 use Rattle.json.specs.Json as kit
 use Rattle.bd_value.specs.{Limits.most_brackets, Limits.most_levels, Fits.has_zero}
 use Rattle.bd_value.specs.Tree as trees
-use Rattle.bd_value.specs.Tree.{Tree, leaf, doc, array, code_scope, Items, no_items, item, Fields, no_fields, field, Doc, pairs_of}
+use Rattle.bd_value.specs.Tree.{Tree, leaf, doc, array, code_scope, Items, no_items, item, Fields, no_fields, field}
+use Rattle.bd_value.specs.Tree.{Doc, pairs_of}
 use Rattle.bd_wrapper.specs.{WholeNumber.fits_bits, WholeNumber.whole_64, Wrapper.wrapper_of, Wrapper.single}
 use Rattle.bd_wrapper.specs.{declared.wrapper.Wrapper.Wrapper}
 use Rattle.bd_wrapper.specs.declared.wrapper.Wrapper.TheVariants as kinds

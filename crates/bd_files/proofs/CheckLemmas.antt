@@ -15,10 +15,10 @@ use Rattle.bd_bson.proofs.VerdictLemmas.{none_at, turn_at, last_at, as_walk}
 use Rattle.bd_files.specs.{Input.StopsInside, Input.StreamsInput, declared.dump_and_check.Findings.Findings, declared.dump_and_check.Ending.Ending, declared.output.OutputFault.OutputFault}
 use Rattle.bd_files.specs.{declared.output.Status.Status, declared.output.Status.TheVariants.Failed}
 use Rattle.bd_files.specs.DumpAndCheck.{ChecksInput, JudgesWithinLimit, check_message, check_status, shown_check, verdict_line, verdict_lines, AreVisited, IsTextOf, MeetsFault, StopsWalk}
-use Rattle.bd_files.specs.DumpAndCheck.{WalksDocuments, check_texts, more_visited, none_visited, JudgesDocuments, StopsJudging, AreVerdicts, IsShownByCheck, faulty_count, IsShownByDump}
+use Rattle.bd_files.specs.DumpAndCheck.{WalksDocuments, check_texts, more_visited, none_visited, JudgesDocuments, StopsJudging, AreVerdicts, IsShownByCheck, IsShownByDump}
 use Rattle.bd_files.specs.Output.{TellsMessage, error_line, stop_words, Transcript, fault_text, wrong_status}
 use Rattle.bd_files.specs.declared.output.OutputFault.TheVariants.{NoMemory, Unwritten}
-use Rattle.bd_files.proofs.WalkLemmas.{faulty_append, known_whole, rest_of, visited_frames}
+use Rattle.bd_files.proofs.WalkLemmas.{faulty_append, faulty_count, known_whole, rest_of, visited_frames}
 use Rattle.bd_files.proofs.OutputLemmas.{breaks_after, front_taken, takes_both}
 use Rattle.bd_check.specs.declared.fault.Fault as told
 use Rattle.bd_files.specs.declared.dump_and_check.Ending.TheVariants as endings

@@ -1,9 +1,9 @@
 -- How a run ends.
 use Rattle.std.proofs.Common.{◌≡◌, ◌<◌, ◌+◌, ℕ, List, [], ◌∷◌, ◌++◌, length, Option, Some, None, refl, sym, ap, ap₂, ◌∙◌, subst, append-nil, append_assoc, inl, inr, arith, length-append}
 use Rattle.std.proofs.{lemmas.List.get_or-append-add, KnownBytes.Appends-nil}
-use Rattle.std.specs.Prelude.{◌⊎◌, codes, option_map}
+use Rattle.std.specs.Prelude.{◌⊎◌, codes, decimal, option_map}
 use Rattle.bd_value.specs.Tree.{Doc}
-use Rattle.bd_device.specs.Devices.{Reader, Writer, between, BreaksAfter, TakesText}
+use Rattle.bd_device.specs.Devices.{Reader, Writer, between, BreaksAfter, TakesText, read_words}
 use Rattle.bd_device.specs.declared.reading.ReadFault.{ReadFault}
 use Rattle.bd_check.specs.{Fault.Fault, Dump.AreJoined, Dump.IsWalk, Fault.fault_view}
 use Rattle.bd_check.proofs.FirstFaultLemmas.{IsBytes}
@@ -11,10 +11,11 @@ use Rattle.bd_check.proofs.DumpLemmas.{joined_append, joined_once, joined_one, w
 use Rattle.bd_stream.proofs.StreamLemmas.{cut_stuck}
 use Rattle.bd_files.specs.{declared.dump_and_check.Ending.Ending, declared.output.OutputFault.OutputFault, declared.output.OutputFault.TheVariants.NoMemory}
 use Rattle.bd_files.specs.{declared.output.OutputFault.TheVariants.Unwritten, declared.output.Status.Status, declared.output.Status.TheVariants.Failed, declared.dump_and_check.Walk.Walk}
-use Rattle.bd_files.specs.DumpAndCheck.{DumpsInput, IsFrontOf, IsShownByDump, dump_count_line, shown_dump, AreVisited, EndsWalk, IsFaulty, StopsWalk, WalksDocuments, dump_texts, ending_words}
-use Rattle.bd_files.specs.DumpAndCheck.{more_visited, none_visited}
-use Rattle.bd_files.specs.Output.{PrintsShown, TellsMessage, Transcript, error_line, fault_text, lines, read_words, shown_refusal, wrong_line, wrong_status, stop_words}
+use Rattle.bd_files.specs.DumpAndCheck.{DumpsInput, IsShownByDump, shown_dump, AreVisited, EndsWalk, StopsWalk, WalksDocuments, dump_texts, ending_words, more_visited, none_visited}
+use Rattle.bd_files.specs.declared.dump_and_check.TheConstants.{OBJECTS_FOUND}
+use Rattle.bd_files.specs.Output.{PrintsShown, TellsMessage, Transcript, error_line, fault_text, lines, shown_refusal, wrong_line, wrong_status, stop_words}
 use Rattle.bd_files.proofs.OutputLemmas.{lines-append}
+use Rattle.bd_check.specs.declared.fault.Fault as told
 use Rattle.bd_files.specs.declared.dump_and_check.Ending.TheVariants as endings
 
 -- the documents that were gone over, and their lines
@@ -41,25 +42,25 @@ module _ (old new : Reader) (out_old out_new : Writer) (err_old err_new : Writer
   -- what comes after so many documents was told, or memory ran out for it
   abbrev TellsEnding : ℕ → Ending → Type 0
   TellsEnding count ending =
-      Tells (wrong_line (ending_words ending) ++ dump_count_line count) (wrong_status (ending_words ending))
-      ⊎ (IsFaulty ending × Tells (error_line (codes "no memory")) Failed)
+      Tells (wrong_line (ending_words ending) ++ (decimal count ++ OBJECTS_FOUND.now)) (wrong_status (ending_words ending))
+      ⊎ ((f : told.Fault) × (ending ≡ endings.Faulty f) × Tells (error_line (codes "no memory")) Failed)
 
   module _ (ds : List Doc) (given : List ℕ) (joined : AreJoined ds given) (wrote : TakesText (between out_old out_new) (lines ds)) where
     ends : (ending : Ending) → EndsWalk dump_texts (between old new) (length ds) given ending → TellsEnding (length ds) ending → Shows
     ends endings.Whole (was, at) (inl told) =
-        (shown_dump ds None, inl ((given, None, was, (ds, given, [], joined, sym (append-nil given), inl refl, at), (ds, None, joined, refl), wrote), told))
+        (shown_dump ds None, inl ((given, None, was, (ds, None, joined, refl), wrote, λ e. (ds, given, [], joined, sym (append-nil given), inl refl, at)), told))
     ends (endings.Faulty f) (part, rest, was, at, numbered, fails, last) (inl told) =
         let fault = fault_view f in
-        let line = subst (λ n. Tells (error_line (fault_text n fault) ++ dump_count_line (length ds)) Failed) numbered told in (
+        let line = subst (λ n. Tells (error_line (fault_text n fault) ++ (decimal (length ds) ++ OBJECTS_FOUND.now)) Failed) numbered told in (
           shown_dump ds (Some (fault_text (length ds) fault)),
-          inl ((given ++ (part ++ rest), None, was, (ds, given, part ++ rest, joined, refl, inr (fault, fails), (part, at)), (ds, Some fault, (given, part ++ rest, joined, refl, fails), refl), wrote), line),
+          inl ((given ++ (part ++ rest), None, was, (ds, Some fault, (given, part ++ rest, joined, refl, fails), refl), wrote, λ e. (ds, given, part ++ rest, joined, refl, inr (fault, fails), (part, at))), line),
         )
     ends (endings.Unread f) (part, was, cut) (inl told) =
-        (shown_dump ds (Some (read_words f)), inl ((given ++ part, Some f, was, tt, (ds, given, part, joined, cut, refl, refl), wrote), told))
-    ends endings.Whole at (inr told) = absurd told.0
+        (shown_dump ds (Some (read_words f)), inl ((given ++ part, Some f, was, (ds, given, part, joined, cut, refl, refl), wrote, λ e. absurd cc), told))
+    ends endings.Whole at (inr told) = let e = told.1 in absurd cc
     ends (endings.Faulty f) (part, rest, was, at, numbered, fails, last) (inr told) =
-        (shown_dump ds None, inr (inr ((ds, given, joined, (part, at), was.2, wrote), told.1)))
-    ends (endings.Unread f) at (inr told) = absurd told.0
+        (shown_dump ds None, inr (inr ((ds, given, joined, (part, at), was.2, wrote), told.2)))
+    ends (endings.Unread f) at (inr told) = let e = told.1 in absurd cc
 
   pub shows_walk : (walk : Walk) → WalksDocuments dump_texts (between old new) (between out_old out_new) walk → TellsEnding walk.count walk.ending → Shows
   shows_walk walk (vs, given, text, visited, counted, bad, end, wrote) told =
@@ -99,10 +100,10 @@ bytes_after : (given rest : List ℕ) → IsBytes (given ++ rest) → IsBytes re
 bytes_after given rest h i = subst (λ n. n < 256) (get_or-append-add given rest i 0) (h (length given + i))
 
 -- what stands in front of the bytes stands in front of what is shown
-pub shows_front : (bytes given rest : List ℕ) (shown : Transcript) (ds : List Doc) (front : List ℕ) → IsBytes bytes → bytes ≡ given ++ rest → IsShownByDump bytes None shown
-    → AreJoined ds given → IsFrontOf front (lines ds) → IsFrontOf front shown.out
-shows_front bytes given rest shown ds front fits cut (es, end, walk, shows) joined is =
+pub shows_front : (bytes given rest : List ℕ) (shown : Transcript) (ds : List Doc) (front more : List ℕ) → IsBytes bytes → bytes ≡ given ++ rest → IsShownByDump bytes None shown
+    → AreJoined ds given → lines ds ≡ front ++ more → (after : List ℕ) × (shown.out ≡ front ++ after)
+shows_front bytes given rest shown ds front more fits cut (es, end, walk, shows) joined is =
     let w = walk_on ds given rest (bytes_after given rest (subst (λ (x : List ℕ). IsBytes x) cut fits)) joined in
     let same = walk_once es (ds ++ w.more) end w.end bytes walk (subst (λ (x : List ℕ). IsWalk (ds ++ w.more) w.end x) (sym cut) w.walk) in
     let out : shown.out ≡ lines ds ++ lines w.more = ap (λ (s : Transcript). s.out) shows ∙ ap lines same.0 ∙ lines-append ds w.more in
-    (is.0 ++ lines w.more, out ∙ ap (λ x. x ++ lines w.more) is.1 ∙ append_assoc front is.0 (lines w.more))
+    (more ++ lines w.more, out ∙ ap (λ x. x ++ lines w.more) is ∙ append_assoc front more (lines w.more))

@@ -1,10 +1,10 @@
 -- What `pack` shows is determined, but for the kind and the place of a fault.
 use Rattle.std.proofs.Common.{◌≡◌, ◌≤◌, ◌<◌, ℕ, suc, ◌+◌, List, [], ◌∷◌, ◌++◌, length, take, drop, get_or, Bool, true, false, Option, Some, None, refl, sym, ap, ◌∙◌, subst, append_assoc, append-nil}
-use Rattle.std.proofs.Common.{arith, inl, inr, codes, Ok, length-append, length-take-le, rules, add-one, Result, Err, ap₂, true≢false}
-use Rattle.std.proofs.{lemmas.Bool.cases_lt, lemmas.Bool.Decides.nat_tests, lemmas.List.Splits.slice_split_at, lemmas.List.Splits.slice_split_none, Math.Seq.drop-cons}
+use Rattle.std.proofs.Common.{arith, inl, inr, codes, decimal, Ok, length-append, length-take-le, rules, add-one, Result, Err, ap₂, true≢false}
+use Rattle.std.proofs.{lemmas.Bool.cases_lt, lemmas.Bool.Decides.nat_tests, lemmas.List.Splits.slice_split_at, lemmas.List.Splits.slice_split_none, lemmas.Grind.flat_map-append, Math.Seq.drop-cons}
 use Rattle.std.proofs.lemmas.List.{get_or-take, get_or_default, take-append-drop}
-use Rattle.std.specs.Prelude.{◌⊎◌, ◌==◌, option_map}
-use Rattle.std.specs.List.{All}
+use Rattle.std.specs.Prelude.{◌⊎◌, ◌↔◌, ◌==◌, option_map}
+use Rattle.std.specs.List.{All, flat_map}
 use Rattle.bd_value.specs.{Limits.longest_document, Limits.most_reads, Tree.Doc}
 use Rattle.memchr.specs.Find.{IsFirstByte, is_byte}
 use Rattle.bd_extjson.specs.Read.{ReadsAs, reading}
@@ -14,7 +14,8 @@ use Rattle.bd_pack.specs.declared.line.LineFault.{LineFault}
 use Rattle.bd_files.specs.{declared.output.OutputFault.OutputFault, declared.output.OutputFault.TheVariants.NoMemory, declared.output.OutputFault.TheVariants.Unwritten, declared.pack.BadLine.BadLine}
 use Rattle.bd_files.specs.{declared.pack.Packing.Packing, declared.output.Status.Status, declared.output.Status.TheVariants.Failed}
 use Rattle.bd_files.specs.Output.{stop_words, PrintsOrStarves, TellsMessage, Transcript, error_line, wrong_line, wrong_status}
-use Rattle.bd_files.specs.Pack.{IsShownByPack, PacksLines, bad_line_text, pack_count_line, packed_bytes, shown_pack, IsPacking, StopsPacking, left_size, lines_left, AreAlike, AreAlikeFaults}
+use Rattle.bd_files.specs.Pack.{IsShownByPack, PacksLines, bad_line_text, shown_pack, IsPacking, StopsPacking, left_size, lines_left, AreAlike}
+use Rattle.bd_files.specs.declared.pack.TheConstants.{OBJECTS_PACKED}
 use Rattle.bd_files.proofs.OutputLemmas.{all_shown, stop_shown, breaks_piece, front_taken, takes_both}
 use Rattle.bd_lines.specs.Lines.{is_empty_line, text_lines}
 use Rattle.bd_device.specs.Devices.{BreaksWithin, TakesText, Writer, between}
@@ -34,11 +35,11 @@ good_or_bad line d faults.TooLong good (e, is, long) =
     let longer : longest_document < length (plain d) = subst (λ (x : Doc). longest_document < length (plain x)) same long in
     let short = good.1 in omega arith
 
-alike_faults : (line : List ℕ) (f g : LineFault) → IsBad line f → IsBad line g → AreAlikeFaults f g
-alike_faults line (faults.Unread f) (faults.Unread g) p q = tt
-alike_faults line (faults.Unread f) faults.TooLong p (d, is, long) = p.1 d is
-alike_faults line faults.TooLong (faults.Unread g) (d, is, long) q = q.1 d is
-alike_faults line faults.TooLong faults.TooLong p q = tt
+alike_faults : (line : List ℕ) (f g : LineFault) → IsBad line f → IsBad line g → (f ≡ faults.TooLong) ↔ (g ≡ faults.TooLong)
+alike_faults line (faults.Unread f) (faults.Unread g) p q = (λ e. absurd cc, λ e. absurd cc)
+alike_faults line (faults.Unread f) faults.TooLong p (d, is, long) = absurd (p.1 d is)
+alike_faults line faults.TooLong (faults.Unread g) (d, is, long) q = absurd (q.1 d is)
+alike_faults line faults.TooLong faults.TooLong p q = (λ e. e, λ e. e)
 
 alike_ends : (bad other same there : Option BadLine) → bad ≡ same → other ≡ there → AreAlike same there → AreAlike bad other
 alike_ends bad other same there p q a = subst (λ (b : Option BadLine). AreAlike b other) (sym p) (subst (λ (b : Option BadLine). AreAlike same b) (sym q) a)
@@ -71,13 +72,9 @@ same_status (Some b) (Some c) a = refl
 pub packed_alike : (input : Result (List ℕ) ReadFault) (s t : Transcript) → IsShownByPack input s → IsShownByPack input t → (s.out ≡ t.out) × (s.status ≡ t.status)
 packed_alike (Ok text) s t (ds, bad, packs, shows) (es, other, packed, showed) =
     let same = packs_once 1 (text_lines text) ds es bad other packs packed in
-    let out : s.out ≡ t.out = ap (λ (x : Transcript). x.out) shows ∙ ap packed_bytes same.0 ∙ ap (λ (x : Transcript). x.out) (sym showed) in
+    let out : s.out ≡ t.out = ap (λ (x : Transcript). x.out) shows ∙ ap (flat_map plain) same.0 ∙ ap (λ (x : Transcript). x.out) (sym showed) in
     (out, ap (λ (x : Transcript). x.status) shows ∙ same_status bad other same.1 ∙ ap (λ (x : Transcript). x.status) (sym showed))
 packed_alike (Err fault) s t p q = (ap (λ (x : Transcript). x.out) (p ∙ sym q), ap (λ (x : Transcript). x.status) (p ∙ sym q))
-
-packed-append : (ds es : List Doc) → packed_bytes (ds ++ es) ≡ packed_bytes ds ++ packed_bytes es
-packed-append [] es = refl
-packed-append (d ∷ ds) es = ap (λ x. plain d ++ x) (packed-append ds es) ∙ sym (append_assoc (plain d) (packed_bytes ds) (packed_bytes es))
 
 -- ---- any lines are packed in some way
 
@@ -117,7 +114,7 @@ module _ (text : List ℕ) (out_old out_new : Writer) (err_old err_new : Writer)
 
   -- the bad line, where there is one, and this count
   abbrev pub TellsPacking : ℕ → Option BadLine → Type 0
-  TellsPacking count bad = Tells (wrong_line (option_map bad_line_text bad) ++ pack_count_line count) (wrong_status (option_map bad_line_text bad))
+  TellsPacking count bad = Tells (wrong_line (option_map bad_line_text bad) ++ (decimal count ++ OBJECTS_PACKED.now)) (wrong_status (option_map bad_line_text bad))
 
   pub shows_packing : (packing : Packing) → IsPacking text (between out_old out_new) packing → TellsPacking packing.count packing.bad → Shows
   shows_packing packing (ds, packs, counted, wrote) told =
@@ -165,7 +162,7 @@ pub record SoFar (text : List ℕ) (old new : Writer) (left : Option (List ℕ))
   pub counted : count ≡ length done
   pub few : count ≤ number
   pub fits : number + left_size left ≤ most_reads
-  pub wrote : TakesText (between old new) (packed_bytes done)
+  pub wrote : TakesText (between old new) (flat_map plain done)
 
 module _ {text : List ℕ} {old new : Writer} {rest : List ℕ} {number count : ℕ} (s : SoFar text old new (Some rest) number count)
     (line : List ℕ) (after : Option (List ℕ)) (cut : text_lines rest ≡ line ∷ lines_left after) where
@@ -175,8 +172,8 @@ module _ {text : List ℕ} {old new : Writer} {rest : List ℕ} {number count : 
   next : number + 1 ≡ suc number
   next = omega arith
 
-  with_one : (d : Doc) (es : List Doc) → packed_bytes (s.done ++ d ∷ es) ≡ packed_bytes s.done ++ (plain d ++ packed_bytes es)
-  with_one d es = packed-append s.done (d ∷ es)
+  with_one : (d : Doc) (es : List Doc) → flat_map plain (s.done ++ d ∷ es) ≡ flat_map plain s.done ++ (plain d ++ flat_map plain es)
+  with_one d es = flat_map-append plain s.done (d ∷ es)
 
   -- a line with a document, whose bytes were taken
   pub packed : (end : Writer) (d : Doc) → left_size after ≤ length rest → is_empty_line line ≡ false → IsPackable line d → TakesText (between new end) (plain d)
@@ -190,16 +187,16 @@ module _ {text : List ℕ} {old new : Writer} {rest : List ℕ} {number count : 
     counted = let c = s.counted in omega (arith, length-append s.done (d ∷ []));
     few = let f = s.few in omega arith;
     fits = let f = s.fits in omega arith;
-    wrote = subst (λ (x : List ℕ). TakesText (between old end) x) (sym (with_one d [] ∙ ap (λ x. packed_bytes s.done ++ x) (append-nil (plain d))))
-        (takes_both old new end (packed_bytes s.done) (plain d) s.wrote wrote);
+    wrote = subst (λ (x : List ℕ). TakesText (between old end) x) (sym (with_one d [] ∙ ap (λ x. flat_map plain s.done ++ x) (append-nil (plain d))))
+        (takes_both old new end (flat_map plain s.done) (plain d) s.wrote wrote);
   }
 
   -- standard output broke in its bytes
   pub breaks : (end : Writer) (d : Doc) → is_empty_line line ≡ false → IsPackable line d → BreaksWithin (between new end) (plain d) → StopsPacking text (between old end) Unwritten
   breaks end d full is broke =
       let w = packs_some (suc (suc number)) (lines_left after) in
-      let all = packed_bytes (s.done ++ d ∷ w.0) in
-      let front = breaks_piece old new end (packed_bytes s.done) (plain d) (packed_bytes w.0) all s.wrote broke (with_one d w.0) in
+      let all = flat_map plain (s.done ++ d ∷ w.0) in
+      let front = breaks_piece old new end (flat_map plain s.done) (plain d) (flat_map plain w.0) all s.wrote broke (with_one d w.0) in
       (s.done ++ d ∷ w.0, w.1, go_on (d ∷ w.0) w.1 (inr (inl (full, (d, w.0, is, refl, w.2)))), front)
 
   -- a bad line: the documents before it are all
@@ -215,8 +212,8 @@ module _ {text : List ℕ} {old new : Writer} {left : Option (List ℕ)} {number
   pub starves : StopsPacking text (between old new) NoMemory
   starves =
       let w = packs_some (suc number) (lines_left left) in
-      let all = packed_bytes (s.done ++ w.0) in
-      (s.done ++ w.0, w.1, s.goes w.0 w.1 w.2, front_taken old new (packed_bytes s.done) (packed_bytes w.0) all s.wrote (packed-append s.done w.0))
+      let all = flat_map plain (s.done ++ w.0) in
+      (s.done ++ w.0, w.1, s.goes w.0 w.1 w.2, front_taken old new (flat_map plain s.done) (flat_map plain w.0) all s.wrote (flat_map-append plain s.done w.0))
 
   -- the text is at its end
   pub ends : left ≡ None → IsPacking text (between old new) (record { count = count; bad = None })

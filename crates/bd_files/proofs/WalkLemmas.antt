@@ -3,7 +3,7 @@ use Rattle.std.proofs.Common.{inl, inr, ◌≡◌, ◌≤◌, ◌<◌, ℕ, ◌+
 use Rattle.std.proofs.Common.{arith, length-append}
 use Rattle.std.proofs.{lemmas.List.take_at, lemmas.List.Sums.sum_by-append}
 use Rattle.std.proofs.KnownBytes.{Appends-nil, Consumes-trans, Consumes-nil}
-use Rattle.std.specs.Prelude.{◌⊎◌, IfSome, is_some, cond, string_bytes}
+use Rattle.std.specs.{List.count_by, Prelude.◌⊎◌, Prelude.IfSome, Prelude.is_some, Prelude.cond, Prelude.string_bytes}
 use Rattle.std.specs.Io.KnownBytes.{Consumes, IsAtEnd}
 use Rattle.bd_value.specs.Limits.{longest_input, most_reads}
 use Rattle.bd_device.specs.{Devices.after_more, declared.reading.ReadFault.ReadFault}
@@ -15,7 +15,7 @@ use Rattle.bd_stream.specs.{declared.doc_buffer.DocBuffer.DocBuffer, declared.do
 use Rattle.bd_stream.specs.Stream.{FailsToRead, IsReason, ReadsDocument, held_bytes, AreFrames, EndsWithinOne, HasNoFrame, IsFrame, IsWithinOne}
 use Rattle.bd_stream.proofs.StreamLemmas.{cut_within, frame_on, frame_within, frames_more}
 use Rattle.bd_files.specs.{Input.StopsInside, Input.StreamsInput, Output.StopsWriting, declared.dump_and_check.Ending.Ending, declared.output.OutputFault.OutputFault}
-use Rattle.bd_files.specs.DumpAndCheck.{faulty_count, AreVisited, EndsWalk, IsTextOf, StopsWalk, Texts, WalksDocuments, more_visited, none_visited}
+use Rattle.bd_files.specs.DumpAndCheck.{AreVisited, EndsWalk, IsTextOf, StopsWalk, Texts, WalksDocuments, more_visited, none_visited}
 use Rattle.bd_files.specs.declared.output.OutputFault.TheVariants.{NoMemory, Unwritten}
 use Rattle.bd_files.proofs.OutputLemmas.{breaks_after, takes_both}
 use Rattle.bd_device.specs.declared.reading.ReadFault.TheVariants as reads
@@ -23,6 +23,9 @@ use Rattle.bd_check.specs.declared.fault.Fault as told
 use Rattle.bd_check.specs.declared.fault.FaultKind.TheVariants as kinds
 use Rattle.bd_stream.specs.declared.doc_buffer.DocFault.TheVariants as faults
 use Rattle.bd_files.specs.declared.dump_and_check.Ending.TheVariants as endings
+
+abbrev pub faulty_count : List (Option Fault) → ℕ
+faulty_count = count_by is_some
 
 pub faulty_append : (us vs : List (Option Fault)) → faulty_count (us ++ vs) ≡ faulty_count us + faulty_count vs
 faulty_append us vs = sum_by-append (λ v. cond (is_some v) 1 0) us vs

@@ -1,52 +1,51 @@
 -- What `dump` and `check` show of an input, and what a run of them did.
-use Rattle.std.specs.Prelude.{◌≡◌, ◌≢◌, ◌≤◌, ◌<◌, ◌⊎◌, ℕ, zero, suc, Bool, true, false, List, [], ◌∷◌, ◌++◌, length, slice_index, codes, decimal, Option, Some, None}
-use Rattle.std.specs.Prelude.{is_some, option_map, Result, Ok, Err}
+use Rattle.std.specs.Prelude.{◌≡◌, ◌≢◌, ◌≤◌, ◌⊎◌, ℕ, zero, suc, Bool, true, false, List, [], ◌∷◌, ◌++◌, length, decimal}
+use Rattle.std.specs.Prelude.{Option, Some, None}
+use Rattle.std.specs.{Prelude.is_some, Prelude.option_map, Prelude.Result, Prelude.Ok, Prelude.Err}
 use Rattle.std.specs.{Io.KnownBytes.Consumes, List.count_by}
 use Rattle.bd_value.specs.{Limits.longest_input, Tree.Doc}
-use Rattle.bd_device.specs.Devices.{BreaksAfter, BreaksWithin, Over, Reader, TakesFront, TakesText, Writer}
+use Rattle.bd_device.specs.Devices.{BreaksAfter, BreaksWithin, Over, Reader, TakesFront, TakesText, Writer, read_words}
 use Rattle.bd_device.specs.declared.reading.ReadFault.{ReadFault}
 use Rattle.bd_raw.specs.Spelling.{IsDocument}
 use Rattle.bd_check.specs.{Fault.fault_view, Fault.Fault, FirstFault.first_fault, declared.fault.FaultKind.FaultKind}
 use Rattle.bd_check.specs.Dump.{AreJoined, IsWalk, frame_fault, frame_length}
 use Rattle.bd_stream.specs.Stream.{AreFrames, IsCut, IsFrame}
 use Rattle.bd_bson.specs.Verdicts.{verdicts}
-use Rattle.bd_files.specs.{declared.dump_and_check.Ending.Ending, declared.dump_and_check.Walk.Walk, declared.output.OutputFault.OutputFault}
-use Rattle.bd_files.specs.{declared.output.Status.Status, declared.dump_and_check.Findings.Findings, declared.output.OutputFault.TheVariants.NoMemory}
-use Rattle.bd_files.specs.{declared.output.OutputFault.TheVariants.Unwritten, declared.output.Status.TheVariants.Done, declared.output.Status.TheVariants.Failed}
+use Rattle.bd_files.specs.{declared.dump_and_check.Ending.Ending, declared.dump_and_check.Walk.Walk}
+use Rattle.bd_files.specs.{declared.output.OutputFault.OutputFault}
+use Rattle.bd_files.specs.{declared.output.Status.Status, declared.dump_and_check.Findings.Findings}
+use Rattle.bd_files.specs.{declared.output.OutputFault.TheVariants.NoMemory}
+use Rattle.bd_files.specs.{declared.output.OutputFault.TheVariants.Unwritten, declared.output.Status.TheVariants.Done}
+use Rattle.bd_files.specs.{declared.output.Status.TheVariants.Failed}
+use Rattle.bd_files.specs.declared.dump_and_check.TheConstants.{DOCUMENTS, FAULTY, OBJECTS_FOUND}
 use Rattle.bd_files.specs.Input.{StopsInside, StopsWithinOne, StreamsInput}
-use Rattle.bd_files.specs.Output.{StopsWriting, TellsEnd, Transcript, fault_text, lines, read_words, shown_before, wrong_line}
+use Rattle.bd_files.specs.Output.{StopsWriting, TellsEnd, Transcript, fault_text, lines, shown_before, wrong_line}
 use Rattle.bd_files.specs.declared.dump_and_check.Ending.TheVariants as endings
 
 -- ---- `dump`
 
-abbrev pub dump_count_line : ℕ → List ℕ
-dump_count_line n = decimal n ++ codes " objects found\n"
-
 -- what is shown of the documents before the first fault, or before a read that failed, and of that
 abbrev pub shown_dump : List Doc → Option (List ℕ) → Transcript
-shown_dump ds wrong = shown_before (lines ds) wrong (dump_count_line (length ds))
+shown_dump ds wrong = shown_before (lines ds) wrong (decimal (length ds) ++ OBJECTS_FOUND.now)
 
--- What `dump` shows of the bytes of an input: of all of them, or of those before a read that failed. Then they are whole
--- documents, and the beginning of one more.
+-- what `dump` shows of all bytes of an input, or of those before a failed read: whole documents and the beginning of
+-- one more
 abbrev pub IsShownByDump : List ℕ → Option ReadFault → Transcript → Type 0
 IsShownByDump bytes None shown =
-    (ds : List Doc) × (end : Option Fault) × IsWalk ds end bytes × (shown ≡ shown_dump ds (option_map (fault_text (length ds)) end))
+    (ds : List Doc) × (end : Option Fault) × IsWalk ds end bytes
+    × (shown ≡ shown_dump ds (option_map (fault_text (length ds)) end))
 IsShownByDump bytes (Some fault) shown =
     (ds : List Doc) × (front : List ℕ) × (part : List ℕ) × AreJoined ds front × IsCut part
     × (bytes ≡ front ++ part) × (shown ≡ shown_dump ds (Some (read_words fault)))
 
--- no byte was read past the end, or past the document that has the first fault
-abbrev pub StopsAtFault : Over Reader → List ℕ → Option ReadFault → Type 0
-StopsAtFault file bytes None =
-    (ds : List Doc) × (front : List ℕ) × (rest : List ℕ) × AreJoined ds front × (bytes ≡ front ++ rest)
-    × ((rest ≡ []) ⊎ ((f : Fault) × (frame_fault (length front) rest ≡ Some f))) × StopsWithinOne front file
-StopsAtFault file bytes (Some f) = Unit {0}
-
--- an input was read, whole or to a read that failed, and standard output has what is to be shown of it
+-- An input was read, whole or to a read that failed, and standard output has what is to be shown of it. Where no read
+-- failed, no byte was read past the end, or past the document that has the first fault.
 abbrev pub DumpsWhole : Over Reader → Over Writer → Transcript → Type 0
-DumpsWhole file out shown =
-    (bytes : List ℕ) × (fault : Option ReadFault) × StreamsInput file bytes fault × StopsAtFault file bytes fault
+DumpsWhole file out shown = (bytes : List ℕ) × (fault : Option ReadFault) × StreamsInput file bytes fault
     × IsShownByDump bytes fault shown × TakesText out shown.out
+    × (fault ≡ None → (ds : List Doc) × (front : List ℕ) × (rest : List ℕ) × AreJoined ds front
+    × (bytes ≡ front ++ rest)
+    × ((rest ≡ []) ⊎ ((f : Fault) × (frame_fault (length front) rest ≡ Some f))) × StopsWithinOne front file)
 
 -- the reader gave these documents and no byte after them, and standard output broke in the line of the last of them
 abbrev pub BreaksAtDocument : Over Reader → Over Writer → Type 0
@@ -54,7 +53,8 @@ BreaksAtDocument file out = (ds : List Doc) × (d : Doc) × (given : List ℕ) �
     × Consumes file.before.left file.after.left given × (file.after.failures ≡ file.before.failures)
     × BreaksAfter out (lines ds) (lines (d ∷ []))
 
--- memory ran out after the lines of these documents: the reader gave them and no byte past the next one, and no read failed
+-- memory ran out after the lines of these documents: the reader gave them and no byte past the next one, and no read
+-- failed
 abbrev pub StarvesAfterDocuments : Over Reader → Over Writer → Type 0
 StarvesAfterDocuments file out = (ds : List Doc) × (given : List ℕ) × AreJoined ds given × StopsWithinOne given file
     × (file.after.failures ≡ file.before.failures) × TakesText out (lines ds)
@@ -62,18 +62,6 @@ StarvesAfterDocuments file out = (ds : List Doc) × (given : List ℕ) × AreJoi
 abbrev pub DumpsInput : Over Reader → Over Writer → Over Writer → Status → Type 0
 DumpsInput file out err status = (shown : Transcript)
     × TellsEnd (DumpsWhole file out shown) (BreaksAtDocument file out) (StarvesAfterDocuments file out) err shown status
-
--- the text begins with this front
-abbrev pub IsFrontOf : List ℕ → List ℕ → Type 0
-IsFrontOf front text = (rest : List ℕ) × (text ≡ front ++ rest)
-
--- The lines of documents that stand in front of the bytes, and any front of the line of one that follows them, stand in front
--- of what is shown of the bytes.
-abbrev pub ShowsFront : Type 0
-ShowsFront =
-    (bytes given rest : List ℕ) (shown : Transcript) (ds : List Doc) (front : List ℕ) → ((i : ℕ) → slice_index bytes i < 256)
-    → bytes ≡ given ++ rest → IsShownByDump bytes None shown → AreJoined ds given → IsFrontOf front (lines ds)
-    → IsFrontOf front shown.out
 
 -- ---- `check`
 
@@ -87,30 +75,28 @@ abbrev pub verdict_lines : ℕ → List (Option Fault) → List ℕ
 verdict_lines number [] = []
 verdict_lines number (v ∷ vs) = verdict_line number v ++ verdict_lines (suc number) vs
 
--- how many documents have a fault
-abbrev pub faulty_count : List (Option Fault) → ℕ
-faulty_count = count_by is_some
-
--- why no more of the input was read, where that is so, and how many documents there are and how many of them have a fault
+-- why no more of the input was read, where that is so, and how many documents there are and how many of them have a
+-- fault
 abbrev pub check_message : Option ReadFault → ℕ → ℕ → List ℕ
 check_message unread documents faulty =
-    (wrong_line (option_map read_words unread) ++ (decimal documents ++ codes " documents, "))
-    ++ (decimal faulty ++ codes " faulty\n")
+    (wrong_line (option_map read_words unread) ++ (decimal documents ++ DOCUMENTS.now))
+    ++ (decimal faulty ++ FAULTY.now)
 
 abbrev pub check_status : Option ReadFault → ℕ → Status
 check_status None zero = Done
 check_status _ faulty = Failed
 
--- what is shown of the documents, or of those before a read that failed: a line for each that has a fault, and the message
+-- what is shown of the documents, or of those before a read that failed: a line for each that has a fault, and the
+-- message
 abbrev pub shown_check : List (Option Fault) → Option ReadFault → Transcript
 shown_check vs unread = record {
   out = verdict_lines 0 vs;
-  err = check_message unread (length vs) (faulty_count vs);
-  status = check_status unread (faulty_count vs);
+  err = check_message unread (length vs) (count_by is_some vs);
+  status = check_status unread (count_by is_some vs);
 }
 
--- The verdicts on the bytes of an input: on all of them, or on those before a read that failed. Then they are documents by
--- their lengths, and the beginning of one more.
+-- the verdicts on all bytes of an input, or on those before a failed read: documents by length and the beginning of one
+-- more
 abbrev pub AreVerdicts : List ℕ → Option ReadFault → List (Option Fault) → Type 0
 AreVerdicts bytes None vs = vs ≡ verdicts bytes
 AreVerdicts bytes (Some fault) vs =
@@ -140,7 +126,8 @@ abbrev pub ChecksInput : Over Reader → Over Writer → Over Writer → Status 
 ChecksInput file out err status =
     (bytes : List ℕ) × (fault : Option ReadFault) × (shown : Transcript) × StreamsInput file bytes fault
     × IsShownByCheck bytes fault shown
-    × TellsEnd (JudgesWithinLimit bytes fault × TakesText out shown.out) (BreaksWithin out shown.out × BreaksAtVerdict file out)
+    × TellsEnd (JudgesWithinLimit bytes fault × TakesText out shown.out)
+    (BreaksWithin out shown.out × BreaksAtVerdict file out)
     ((fault ≡ None) × TakesFront out shown.out) err shown status
 
 -- all were judged: their lines were taken, and counted they are so many
@@ -148,7 +135,7 @@ abbrev pub JudgesDocuments : Over Reader → Over Writer → Findings → Type 0
 JudgesDocuments file out findings =
     (bytes : List ℕ) × (vs : List (Option Fault)) × StreamsInput file bytes findings.unread
     × JudgesWithinLimit bytes findings.unread × AreVerdicts bytes findings.unread vs
-    × (findings.documents ≡ length vs) × (findings.faulty ≡ faulty_count vs) × TakesText out (verdict_lines 0 vs)
+    × (findings.documents ≡ length vs) × (findings.faulty ≡ count_by is_some vs) × TakesText out (verdict_lines 0 vs)
 
 -- the judging was stopped
 abbrev pub StopsJudging : Over Reader → Over Writer → OutputFault → Type 0
@@ -206,16 +193,11 @@ ending_words endings.Whole = None
 ending_words (endings.Faulty f) = Some (fault_text f.document (fault_view f))
 ending_words (endings.Unread f) = Some (read_words f)
 
--- a document with a fault comes after the documents
-abbrev pub IsFaulty : Ending → Type 0
-IsFaulty (endings.Faulty f) = Unit {0}
-IsFaulty _ = ⊥
-
 -- the documents of the walk, and what the writer took of them
 abbrev pub WalksDocuments : Texts → Over Reader → Over Writer → Walk → Type 0
 WalksDocuments texts file out walk =
     (vs : List (Option Fault)) × (given : List ℕ) × (text : List ℕ) × AreVisited texts vs given text
-    × (walk.count ≡ length vs) × (walk.bad ≡ faulty_count vs)
+    × (walk.count ≡ length vs) × (walk.bad ≡ count_by is_some vs)
     × EndsWalk texts file (length vs) given walk.ending × TakesText out text
 
 -- the walk was stopped: memory ran out after these documents, or a write failed in what is written of the next one

@@ -1,5 +1,7 @@
--- What a run read of its input: at most 4,294,967,295 bytes. Each read but the last gives a byte, so there are never too many.
-use Rattle.std.specs.Prelude.{◌≡◌, ◌≤◌, ◌<◌, ◌⊎◌, ◌+◌, ℕ, List, ◌++◌, length, Option, Some, None, IfSome, Result, Ok, Err}
+-- What a run read of its input: at most 4,294,967,295 bytes. Each read but the last gives a byte, so there are never
+-- too many.
+use Rattle.std.specs.Prelude.{◌≡◌, ◌≤◌, ◌<◌, ◌⊎◌, ◌+◌, ℕ, List, ◌++◌, length, Option, Some, None, IfSome, Result, Ok}
+use Rattle.std.specs.Prelude.{Err}
 use Rattle.std.specs.Io.KnownBytes.{Consumes, IsAtEnd}
 use Rattle.bd_value.specs.Limits.{longest_input}
 use Rattle.bd_device.specs.{Devices.after_more, declared.reading.ReadFault.ReadFault}
@@ -27,18 +29,20 @@ ReadsNoFurther {R} gives old new = (n : ℕ) × (given : List ℕ) × (last : R)
 
 -- ---- document by document
 
--- the reader gave these bytes, and this part of a document after them, no byte past its end; no more than the limit in all
+-- the reader gave these bytes, and this part of a document after them, no byte past its end; no more than the limit in
+-- all
 abbrev pub StopsInside : List ℕ → List ℕ → Over Reader → Type 0
 StopsInside front part file =
-    Consumes file.before.left file.after.left (front ++ part) × (length (front ++ part) ≤ longest_input) × IsWithinOne part
+    Consumes file.before.left file.after.left (front ++ part) × (length (front ++ part) ≤ longest_input)
+    × IsWithinOne part
 
 -- the reader gave these bytes, and of a document after them no byte past its end
 abbrev pub StopsWithinOne : List ℕ → Over Reader → Type 0
 StopsWithinOne front file = (part : List ℕ) × StopsInside front part file
 
--- The reader's bytes are these. It gave documents by their lengths, and of one more, which has a faulty length if there is more, no
--- byte past its end. Or it gave these bytes, and no more of them were read for this reason; a read that went past the limit gave no
--- more than was missing of the document that it was in.
+-- The reader's bytes are these. It gave documents by their lengths, and of one more, which has a faulty length if there
+-- is more, no byte past its end. Or it gave these bytes, and no more of them were read for this reason; a read that
+-- went past the limit gave no more than was missing of the document that it was in.
 abbrev pub StreamsInput : Over Reader → List ℕ → Option ReadFault → Type 0
 StreamsInput file bytes None = IfSome file.before.left (λ xs. bytes ≡ xs)
     × ((frames : List (List ℕ)) × (front : List ℕ) × AreFrames frames front × StopsWithinOne front file)

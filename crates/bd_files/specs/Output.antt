@@ -1,14 +1,16 @@
 -- What a run writes: the text on standard output, the text on standard error, and the exit status.
-use Rattle.std.specs.Prelude.{◌≡◌, ◌≢◌, ◌⊎◌, ℕ, List, [], ◌∷◌, ◌++◌, codes, decimal, Option, Some, None, Result, Ok, Err}
+use Rattle.std.specs.Prelude.{◌≡◌, ◌≢◌, ◌⊎◌, ℕ, List, [], ◌∷◌, ◌++◌, codes, decimal, Option, Some, None, Result, Ok}
+use Rattle.std.specs.Prelude.{Err}
 use Rattle.std.specs.{Borrow.Bor, List.join_with_byte}
 use Rattle.bd_value.specs.Tree.{Doc, doc, fields_of}
 use Rattle.bd_device.specs.Devices.{BreaksWithin, Over, TakesFront, TakesText, Writer}
 use Rattle.bd_device.specs.declared.reading.ReadFault.{ReadFault}
 use Rattle.bd_check.specs.Fault.{Fault, fault_words}
 use Rattle.bd_text.specs.Text.{text, quoted}
-use Rattle.bd_files.specs.{declared.output.OutputFault.OutputFault, declared.output.Status.Status, declared.output.OutputFault.TheVariants.NoMemory}
-use Rattle.bd_files.specs.{declared.output.OutputFault.TheVariants.Unwritten, declared.output.Status.TheVariants.Done, declared.output.Status.TheVariants.Failed}
-use Rattle.bd_device.specs.declared.reading.ReadFault.TheVariants as reads
+use Rattle.bd_files.specs.{declared.output.OutputFault.OutputFault, declared.output.Status.Status}
+use Rattle.bd_files.specs.{declared.output.OutputFault.TheVariants.NoMemory}
+use Rattle.bd_files.specs.{declared.output.OutputFault.TheVariants.Unwritten, declared.output.Status.TheVariants.Done}
+use Rattle.bd_files.specs.{declared.output.Status.TheVariants.Failed}
 
 -- standard output, standard error, and the exit status
 pub record Transcript : Type 0 where
@@ -32,13 +34,8 @@ place_text number offset = codes "document " ++ (decimal number ++ (codes ", byt
 
 abbrev pub fault_text : ℕ → Fault → List ℕ
 fault_text number f =
-    place_text number f.offset ++ (codes ", path " ++ (quoted (join_with_byte 46 f.path) ++ (codes ": " ++ fault_words f.kind)))
-
-abbrev pub read_words : ReadFault → List ℕ
-read_words reads.Device = codes "cannot read"
-read_words reads.TooLong = codes "input too long"
-read_words reads.TooManyTurns = codes "too many reads"
-read_words reads.NoMemory = codes "no memory"
+    place_text number f.offset
+    ++ (codes ", path " ++ (quoted (join_with_byte 46 f.path) ++ (codes ": " ++ fault_words f.kind)))
 
 abbrev pub stop_words : OutputFault → List ℕ
 stop_words NoMemory = codes "no memory"
@@ -75,8 +72,8 @@ abbrev pub TellsMessage : Over Writer → List ℕ → Status → Status → Typ
 TellsMessage err message wanted status =
     (TakesText err message × (status ≡ wanted)) ⊎ (BreaksWithin err message × (status ≡ Failed))
 
--- Standard output is as the first tells, and standard error has what belongs to it. Or a write to standard output failed, as the
--- second tells, or memory ran out, as the third tells, and standard error says so.
+-- Standard output is as the first tells, and standard error has what belongs to it. Or a write to standard output
+-- failed, as the second tells, or memory ran out, as the third tells, and standard error says so.
 abbrev pub TellsEnd : Type 0 → Type 0 → Type 0 → Over Writer → Transcript → Status → Type 0
 TellsEnd Whole Broke Starved err shown status = (Whole × TellsMessage err shown.err shown.status status)
     ⊎ (Broke × TellsMessage err (error_line (codes "cannot write")) Failed status)

@@ -1,14 +1,14 @@
 //! `dump`, the documents of an input, one a line; and `check`, a line for each document that has a fault. Both go over the
 //! documents one after the other.
 
-ghost use Rattle.std.specs.Prelude.{◌≡◌, ◌<◌, ◌≤◌, ◌⊎◌, ◌++◌, [], ◌∷◌, None, Some, codes, IfErr, IfOk, OnErr, OnOk};
+ghost use Rattle.std.specs.Prelude.{◌≡◌, ◌<◌, ◌≤◌, ◌⊎◌, ◌++◌, [], ◌∷◌, None, Some, codes, decimal, IfErr, IfOk, OnErr, OnOk};
 ghost use Rattle.bd_value.specs.Limits.{longest_input};
 ghost use Rattle.bd_value.specs.Tree.{pairs_in};
 ghost use Rattle.bd_device.specs.Devices.{BreaksWithin, TakesText, over};
 ghost use Rattle.bd_raw.specs.Sound.{stands};
 ghost use Rattle.bd_check.specs.Fault.{fault_view};
-ghost use Rattle.bd_files.specs.DumpAndCheck.{ChecksInput, DumpsInput, IsFaulty, JudgesDocuments, MeetsFault, StopsJudging, StopsWalk, Texts};
-ghost use Rattle.bd_files.specs.DumpAndCheck.{WalksDocuments, check_message, check_status, check_texts, dump_count_line, dump_texts, ending_words};
+ghost use Rattle.bd_files.specs.DumpAndCheck.{ChecksInput, DumpsInput, JudgesDocuments, MeetsFault, StopsJudging, StopsWalk, Texts};
+ghost use Rattle.bd_files.specs.DumpAndCheck.{WalksDocuments, check_message, check_status, check_texts, dump_texts, ending_words};
 ghost use Rattle.bd_files.specs.Output.{TellsMessage, Writes, error_line, wrong_line, wrong_status};
 ghost use Rattle.bd_files.specs.declared.output.Status.TheVariants.{Failed};
 
@@ -23,6 +23,13 @@ use bd_extjson::LineRoom;
 use bd_raw::RawDoc;
 use bd_stream::{DocBuffer, DocFault};
 use std::alloc::Global;
+
+/// After the number of documents, of all or of those that have a fault.
+const OBJECTS_FOUND: &[u8] = b" objects found\n";
+
+const DOCUMENTS: &[u8] = b" documents, ";
+
+const FAULTY: &[u8] = b" faulty\n";
 
 /// Reads an input document by document, and shows each before the next is read.
 pub fn dump<R: Input, O: Output, E: Output>(
@@ -63,19 +70,19 @@ impl<O: Output> Visitor<O> for Printer {
 
 /// Shows a walk on standard error, after its lines on standard output. Memory is taken only for the path of a fault.
 fn tell_walk<E: Output>(alloc: Global, walk: &Walk, err: &mut E) -> Status
-    ensures { TellsMessage (over E.state err.old err.new) (wrong_line (ending_words walk.now.ending) ++ dump_count_line walk.now.count)
+    ensures { TellsMessage (over E.state err.old err.new) (wrong_line (ending_words walk.now.ending) ++ (decimal walk.now.count ++ OBJECTS_FOUND.now))
         (wrong_status (ending_words walk.now.ending)) result
-        ⊎ (IsFaulty walk.now.ending × TellsMessage (over E.state err.old err.new) (error_line (codes "no memory")) Failed result) }
+        ⊎ ((fault : Fault) × (walk.now.ending ≡ Ending.Faulty fault)
+        × TellsMessage (over E.state err.old err.new) (error_line (codes "no memory")) Failed result) }
 {
     let count = u64::from(walk.count);
-    let words = b" objects found\n";
     match &walk.ending {
-        Ending::Whole => tell_end(None, count, words, err),
+        Ending::Whole => tell_end(None, count, OBJECTS_FOUND, err),
         Ending::Faulty(fault) => match fault_message(alloc, fault) {
-            Ok(message) => tell_end(Some(&message), count, words, err),
+            Ok(message) => tell_end(Some(&message), count, OBJECTS_FOUND, err),
             Err(_) => tell_no_memory(err),
         },
-        Ending::Unread(fault) => tell_end(words_of(Some(*fault)), count, words, err),
+        Ending::Unread(fault) => tell_end(words_of(Some(*fault)), count, OBJECTS_FOUND, err),
     }
 }
 
@@ -186,8 +193,8 @@ fn write_findings<E: Output>(findings: &Findings, err: &mut E) -> Result<(), Dev
         (check_message findings.now.unread findings.now.documents findings.now.faulty)) }
 {
     let wrong = words_of(findings.unread);
-    write_end(wrong, u64::from(findings.documents), b" documents, ", err)?;
-    write_count(u64::from(findings.faulty), b" faulty\n", err)
+    write_end(wrong, u64::from(findings.documents), DOCUMENTS, err)?;
+    write_count(u64::from(findings.faulty), FAULTY, err)
 }
 
 /// Who is shown the documents of an input, each before the next is read.

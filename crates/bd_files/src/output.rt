@@ -1,10 +1,10 @@
 //! What a run writes of itself, and how it ends. But for the path of a fault it takes no memory.
 
 ghost use Rattle.std.specs.Prelude.{◌≡◌, ◌++◌, ◌↔◌, ◌⊎◌, IfOk, IsTrue, OnErr, OnOk, codes, decimal, option_map};
-ghost use Rattle.bd_device.specs.Devices.{BreaksWithin, TakesText, over};
+ghost use Rattle.bd_device.specs.Devices.{BreaksWithin, TakesText, over, read_words};
 ghost use Rattle.bd_check.specs.Fault.{fault_view};
 ghost use Rattle.bd_check.specs.declared.fault.FaultKind.TheVariants as kinds;
-ghost use Rattle.bd_files.specs.Output.{TellsMessage, error_line, fault_text, place_text, read_words, stop_words, told_bytes, wrong_line, wrong_status};
+ghost use Rattle.bd_files.specs.Output.{TellsMessage, error_line, fault_text, place_text, stop_words, told_bytes, wrong_line, wrong_status};
 ghost use Rattle.bd_files.specs.declared.output.OutputFault.TheVariants.{NoMemory as no_memory, Unwritten};
 ghost use Rattle.bd_files.specs.declared.output.Status.TheVariants.{Failed};
 

@@ -1,13 +1,12 @@
 //! `pack`: the documents of lines of text, as bytes.
 
-ghost use Rattle.std.specs.Prelude.{◌≡◌, ◌++◌, ◌∷◌, ◌≤◌, ◌⊎◌, IfErr, IfOk, OnOk, Ok, length, codes, option_map};
+ghost use Rattle.std.specs.Prelude.{◌≡◌, ◌++◌, ◌∷◌, ◌≤◌, ◌⊎◌, IfErr, IfOk, OnOk, Ok, length, codes, decimal, option_map};
 ghost use Rattle.bd_value.specs.Limits.{longest_input};
 ghost use Rattle.bd_device.specs.Devices.{over};
 ghost use Rattle.bd_lines.specs.Lines.{text_lines};
 ghost use Rattle.bd_files.specs.Input.{ReadsNoFurther};
 ghost use Rattle.bd_files.specs.Output.{PrintsOrStarves, TellsMessage, Transcript, error_line, told_bytes, wrong_line, wrong_status};
 ghost use Rattle.bd_files.specs.Pack.{IsPacking, IsShownByPack, PacksInput, StopsPacking, bad_line_text, left_size, line_fault_text, lines_left};
-ghost use Rattle.bd_files.specs.Pack.{pack_count_line};
 ghost use Rattle.bd_files.specs.declared.output.Status.TheVariants.{Failed};
 
 use crate::input::read_input;
@@ -20,6 +19,9 @@ use bd_pack::{LineFault, Packer};
 use bd_value::NoMemory;
 use memchr::memchr;
 use std::alloc::Global;
+
+/// After the number of documents.
+const OBJECTS_PACKED: &[u8] = b" objects packed\n";
 
 /// Reads an input whole, and shows the bytes of its lines' documents, up to the first line that is none.
 pub fn pack<R: Input, O: Output, E: Output>(
@@ -114,15 +116,14 @@ fn cut_line(text: &[u8]) -> (&[u8], Option<&[u8]>)
 
 /// Tells how lines were packed, after the bytes on standard output.
 fn tell_packing<E: Output>(alloc: Global, packing: &Packing, err: &mut E) -> Status
-    ensures { TellsMessage (over E.state err.old err.new) (wrong_line (option_map bad_line_text packing.now.bad) ++ pack_count_line packing.now.count)
+    ensures { TellsMessage (over E.state err.old err.new) (wrong_line (option_map bad_line_text packing.now.bad) ++ (decimal packing.now.count ++ OBJECTS_PACKED.now))
         (wrong_status (option_map bad_line_text packing.now.bad)) result
         ⊎ TellsMessage (over E.state err.old err.new) (error_line (codes "no memory")) Failed result }
 {
-    let words = b" objects packed\n";
     match &packing.bad {
-        None => tell_end(None, packing.count, words, err),
+        None => tell_end(None, packing.count, OBJECTS_PACKED, err),
         Some(bad) => match bad_line_message(alloc, bad) {
-            Ok(message) => tell_end(Some(&message), packing.count, words, err),
+            Ok(message) => tell_end(Some(&message), packing.count, OBJECTS_PACKED, err),
             Err(_) => tell_no_memory(err),
         },
     }

@@ -1,12 +1,14 @@
 -- Which pairs and members of a document break a rule of filters (MongoDB manual, "Query and Projection Operators"), and
--- where. Nothing is read in turn: each is bad or not, whatever stands before it. `FilterOf` says what one operand may be.
+-- where. Nothing is read in turn: each is bad or not, whatever stands before it. `FilterOf` says what one operand may
+-- be.
 use Rattle.std.specs.Prelude.{◌≡◌, ◌⊎◌, ℕ, zero, ◌+◌, ◌-◌, List, [], Err, is_err, decimal, IsTrue, IsFalse}
 use Rattle.bd_value.specs.Limits.{most_filter_levels}
 use Rattle.bd_value.specs.Tree.{Tree, doc, array, Items, no_items, item, Fields, no_fields, field, Doc, fields_of}
 use Rattle.bd_path.specs.Path.{path_of}
 use Rattle.bd_filter.specs.{Fault.Refusal, Fault.deeper, Word.word_of, declared.fault.FilterFaultKind.FilterFaultKind}
 use Rattle.bd_filter.specs.declared.filter_of.{PlainOperator.PlainOperator, Word.Word}
-use Rattle.bd_filter.specs.FilterOf.{first_is_operator, has_value_form, member_value, not_operator, path_operators, plain_operator}
+use Rattle.bd_filter.specs.FilterOf.{first_is_operator, has_value_form, member_value, not_operator, path_operators}
+use Rattle.bd_filter.specs.FilterOf.{plain_operator}
 use Rattle.bd_filter.specs.declared.fault.FilterFaultKind.TheVariants as faults
 use Rattle.bd_filter.specs.declared.filter_of.PlainOperator.TheVariants as plain
 use Rattle.bd_filter.specs.declared.filter_of.Word.TheVariants as words

@@ -1,11 +1,14 @@
 -- Which documents match a filter (MongoDB manual, "Query and Projection Operators").
-use Rattle.std.specs.Prelude.{ℕ, ◌==◌, Bool, true, false, ◌&&◌, ◌||◌, not, List, [], ◌∷◌, length, map, Some, None, is_some, unwrap_or, if◌then◌else◌}
+use Rattle.std.specs.Prelude.{ℕ, ◌==◌, Bool, true, false, ◌&&◌, ◌||◌, not, List, [], ◌∷◌, length, map, Some, None}
+use Rattle.std.specs.Prelude.{is_some, unwrap_or, if◌then◌else◌}
 use Rattle.std.specs.{List.list_any, List.list_all, declared.cmp.Ordering.Ordering}
 use Rattle.std.specs.Ordering.{is_eq, is_ge, is_gt, is_le, is_lt}
-use Rattle.bd_value.specs.{View.kind_of, Order.class_cmp, Order.cmp, Order.equal, Tree.elements_in, Tree.Tree, Tree.leaf, Tree.array, declared.node.Kind.Kind}
+use Rattle.bd_value.specs.{View.kind_of, Order.class_cmp, Order.cmp, Order.equal, Tree.elements_in, Tree.Tree}
+use Rattle.bd_value.specs.{Tree.leaf, Tree.array, declared.node.Kind.Kind}
 use Rattle.bd_value.specs.Tree as trees
 use Rattle.bd_path.specs.Reach.{End, is_document, reach}
-use Rattle.bd_filter.specs.Filter.{Filter, all_of, some_of, none_of, at_path, Filters, no_filters, filter, Operator, equals, compares, is_in, has_all, has_type, has_size}
+use Rattle.bd_filter.specs.Filter.{Filter, all_of, some_of, none_of, at_path, Filters, no_filters, filter, Operator}
+use Rattle.bd_filter.specs.Filter.{equals, compares, is_in, has_all, has_type, has_size}
 use Rattle.bd_filter.specs.Filter.{exists, negates, has_element, has_document, Operators, no_operators, operator}
 use Rattle.bd_filter.specs.{Word.is_kind, declared.operand.Relation.Relation}
 use Rattle.bd_filter.specs.declared.operand.Relation.TheVariants as relation
@@ -83,7 +86,8 @@ abbrev mutual
   holds (exists b) ends = if b then list_any is_some ends else not (list_any is_some ends)
   holds (negates os) ends = not (all_hold os ends)
   holds (has_element os) ends = list_any (is_value (λ t. list_any (all_accept os) (elements_in t))) ends
-  holds (has_document fs) ends = list_any (is_value (λ t. list_any (λ x. is_document x && all_match fs x) (elements_in t))) ends
+  holds (has_document fs) ends =
+      list_any (is_value (λ t. list_any (λ x. is_document x && all_match fs x) (elements_in t))) ends
 
   pub all_hold : Operators → List End → Bool
   all_hold no_operators ends = true

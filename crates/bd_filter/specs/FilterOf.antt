@@ -1,14 +1,17 @@
 -- Which filter a document is (MongoDB manual, "Query and Projection Operators"), and which pair or member of any other
 -- document is the first that is no part of one.
-use Rattle.std.specs.Prelude.{ℕ, zero, ◌+◌, ◌-◌, pos, Bool, true, false, not, ◌||◌, List, [], ◌∷◌, ◌++◌, Option, Some, None, Result, Ok, Err, if◌then◌else◌, decimal}
+use Rattle.std.specs.Prelude.{ℕ, zero, ◌+◌, ◌-◌, pos, Bool, true, false, not, ◌||◌, List, [], ◌∷◌, ◌++◌, Option, Some}
+use Rattle.std.specs.Prelude.{None, Result, Ok, Err, if◌then◌else◌, decimal}
 use Rattle.std.specs.{Option.option_and_then, Option.option_map, Ordering.int_eq}
 use Rattle.bd_value.specs.{Limits.most_filter_levels, declared.node.Kind.Kind}
 use Rattle.bd_value.specs.Tree as trees
-use Rattle.bd_value.specs.Tree.{Scalar, Tree, leaf, doc, array, Items, no_items, item, Fields, no_fields, field, Doc, fields_of}
+use Rattle.bd_value.specs.Tree.{Scalar, Tree, leaf, doc, array, Items, no_items, item, Fields, no_fields, field, Doc}
+use Rattle.bd_value.specs.Tree.{fields_of}
 use Rattle.bd_path.specs.{Reach.Names, Path.path_of, declared.path.PathFault.PathFault}
 use Rattle.bd_filter.specs.Fault.{Refusal, deeper, refuse}
 use Rattle.bd_filter.specs.declared.filter_of.{LogicalOperator.LogicalOperator, PlainOperator.PlainOperator, Word.Word}
-use Rattle.bd_filter.specs.Filter.{Filter, all_of, some_of, none_of, at_path, filters_from, Operator, equals, compares, is_in, has_all, has_type, has_size, exists}
+use Rattle.bd_filter.specs.Filter.{Filter, all_of, some_of, none_of, at_path, filters_from, Operator, equals, compares}
+use Rattle.bd_filter.specs.Filter.{is_in, has_all, has_type, has_size, exists}
 use Rattle.bd_filter.specs.Filter.{negates, has_element, has_document, negation_of, operators_from}
 use Rattle.bd_filter.specs.Word.{begins_with_dollar, kinds_named, kinds_numbered, word_of}
 use Rattle.bd_filter.specs.declared.fault.FilterFaultKind.TheVariants as faults
@@ -153,7 +156,8 @@ abbrev mutual
   pub filters_of : ℕ → Fields → Result (List Filter) Refusal
   filters_of room no_fields = Ok []
   filters_of room (field n t fs) =
-      read_at n (pair_filter (word_of n) (path_of n) (operand_filters room t) (path_operators room t)) (filters_of room fs)
+      read_at n (pair_filter (word_of n) (path_of n) (operand_filters room t) (path_operators room t))
+      (filters_of room fs)
 
   -- the filters of `$and`, `$or`, `$nor`: at least one
   pub operand_filters : ℕ → Tree → Result (List Filter) Refusal
@@ -181,13 +185,15 @@ abbrev mutual
   -- `$not` takes operators; the manual has a regular expression there too, which is left out
   pub not_operator : ℕ → Tree → Result Operator Refusal
   not_operator room (doc fs) =
-      if first_is_operator fs then inner_part room (read_as (λ xs. negates (operators_from xs)) (operators_of (room - 1) fs))
+      if first_is_operator fs
+      then inner_part room (read_as (λ xs. negates (operators_from xs)) (operators_of (room - 1) fs))
       else refuse faults.BadOperand
   not_operator room t = if is_regex t then refuse faults.NotInProfile else refuse faults.BadOperand
 
   pub element_operator : ℕ → Tree → Result Operator Refusal
   element_operator room (doc fs) =
-      if has_value_form fs then inner_part room (read_as (λ xs. has_element (operators_from xs)) (operators_of (room - 1) fs))
+      if has_value_form fs then inner_part room
+      (read_as (λ xs. has_element (operators_from xs)) (operators_of (room - 1) fs))
       else inner_part room (read_as (λ xs. has_document (filters_from xs)) (filters_of (room - 1) fs))
   element_operator room t = refuse faults.BadOperand
 

@@ -1,5 +1,6 @@
 -- The names that stand for something in a filter (MongoDB manual, "Query and Projection Operators").
-use Rattle.std.specs.Prelude.{ℕ, ℤ, pos, negsuc, Bool, false, ◌==◌, List, [], ◌∷◌, codes, Option, Some, option_map, if◌then◌else◌, unwrap_or}
+use Rattle.std.specs.Prelude.{ℕ, ℤ, pos, negsuc, Bool, false, ◌==◌, List, [], ◌∷◌, codes, Option, Some, option_map}
+use Rattle.std.specs.Prelude.{if◌then◌else◌, unwrap_or}
 use Rattle.std.specs.{List.find, List.list_any, Ordering.int_eq, Str.bytes_eq}
 use denote.Enum.Bare.{sameb}
 use Rattle.bd_value.specs.{contracts.node.Kind.the_type, declared.node.Kind.Kind}
@@ -16,20 +17,28 @@ begins_with_dollar (c ∷ cs) = c == 36
 
 abbrev pub query_operators : List (List ℕ × Word)
 query_operators =
-    (codes "$and", words.Logical logical.And) ∷ (codes "$or", words.Logical logical.Or) ∷ (codes "$nor", words.Logical logical.Nor)
+    (codes "$and", words.Logical logical.And) ∷ (codes "$or", words.Logical logical.Or)
+    ∷ (codes "$nor", words.Logical logical.Nor)
     ∷ (codes "$eq", words.Plain plain.Equal) ∷ (codes "$ne", words.Plain plain.NotEqual)
-    ∷ (codes "$gt", words.Plain (plain.Order relation.Above)) ∷ (codes "$gte", words.Plain (plain.Order relation.AtLeast))
-    ∷ (codes "$lt", words.Plain (plain.Order relation.Below)) ∷ (codes "$lte", words.Plain (plain.Order relation.AtMost))
-    ∷ (codes "$in", words.Plain plain.In) ∷ (codes "$nin", words.Plain plain.NotIn) ∷ (codes "$all", words.Plain plain.All)
-    ∷ (codes "$size", words.Plain plain.Size) ∷ (codes "$exists", words.Plain plain.Exists) ∷ (codes "$type", words.Plain plain.Type)
+    ∷ (codes "$gt", words.Plain (plain.Order relation.Above))
+    ∷ (codes "$gte", words.Plain (plain.Order relation.AtLeast))
+    ∷ (codes "$lt", words.Plain (plain.Order relation.Below))
+    ∷ (codes "$lte", words.Plain (plain.Order relation.AtMost))
+    ∷ (codes "$in", words.Plain plain.In) ∷ (codes "$nin", words.Plain plain.NotIn)
+    ∷ (codes "$all", words.Plain plain.All)
+    ∷ (codes "$size", words.Plain plain.Size) ∷ (codes "$exists", words.Plain plain.Exists)
+    ∷ (codes "$type", words.Plain plain.Type)
     ∷ (codes "$not", words.Not) ∷ (codes "$elemMatch", words.ElemMatch) ∷ []
 
 -- the operators of the manual that are left out, and the names of a DBRef
 abbrev pub left_out_names : List (List ℕ)
 left_out_names =
-    codes "$regex" ∷ codes "$options" ∷ codes "$mod" ∷ codes "$expr" ∷ codes "$where" ∷ codes "$text" ∷ codes "$jsonSchema"
-    ∷ codes "$comment" ∷ codes "$geoWithin" ∷ codes "$geoIntersects" ∷ codes "$near" ∷ codes "$nearSphere" ∷ codes "$bitsAllSet"
-    ∷ codes "$bitsAnySet" ∷ codes "$bitsAllClear" ∷ codes "$bitsAnyClear" ∷ codes "$ref" ∷ codes "$id" ∷ codes "$db" ∷ []
+    codes "$regex" ∷ codes "$options" ∷ codes "$mod" ∷ codes "$expr" ∷ codes "$where" ∷ codes "$text"
+    ∷ codes "$jsonSchema"
+    ∷ codes "$comment" ∷ codes "$geoWithin" ∷ codes "$geoIntersects" ∷ codes "$near" ∷ codes "$nearSphere"
+    ∷ codes "$bitsAllSet"
+    ∷ codes "$bitsAnySet" ∷ codes "$bitsAllClear" ∷ codes "$bitsAnyClear" ∷ codes "$ref" ∷ codes "$id" ∷ codes "$db"
+    ∷ []
 
 unfoldable pub is_left_out : List ℕ → Bool
 is_left_out name = list_any (λ left_out. bytes_eq left_out name) left_out_names
@@ -39,7 +48,8 @@ known_operator name = option_map (λ row. row.1) (find (λ row. bytes_eq row.0 n
 
 unfoldable pub word_of : List ℕ → Word
 word_of name =
-    if begins_with_dollar name then unwrap_or (known_operator name) (if is_left_out name then words.LeftOut else words.Unknown)
+    if begins_with_dollar name
+    then unwrap_or (known_operator name) (if is_left_out name then words.LeftOut else words.Unknown)
     else words.Field
 
 -- the types of `$type` (MongoDB manual, "$type"): number, name, and kinds. Doubles and decimals have none.
@@ -48,11 +58,13 @@ query_types =
     (pos 1, codes "double", []) ∷ (pos 2, codes "string", kinds.Text ∷ []) ∷ (pos 3, codes "object", kinds.Doc ∷ [])
     ∷ (pos 4, codes "array", kinds.Array ∷ []) ∷ (pos 5, codes "binData", kinds.Binary ∷ [])
     ∷ (pos 6, codes "undefined", kinds.Undefined ∷ []) ∷ (pos 7, codes "objectId", kinds.ObjectId ∷ [])
-    ∷ (pos 8, codes "bool", kinds.Bool ∷ []) ∷ (pos 9, codes "date", kinds.Date ∷ []) ∷ (pos 10, codes "null", kinds.Null ∷ [])
+    ∷ (pos 8, codes "bool", kinds.Bool ∷ []) ∷ (pos 9, codes "date", kinds.Date ∷ [])
+    ∷ (pos 10, codes "null", kinds.Null ∷ [])
     ∷ (pos 11, codes "regex", kinds.Regex ∷ []) ∷ (pos 12, codes "dbPointer", kinds.DbPointer ∷ [])
     ∷ (pos 13, codes "javascript", kinds.Code ∷ []) ∷ (pos 14, codes "symbol", kinds.Symbol ∷ [])
     ∷ (pos 15, codes "javascriptWithScope", kinds.CodeScope ∷ []) ∷ (pos 16, codes "int", kinds.Int32 ∷ [])
-    ∷ (pos 17, codes "timestamp", kinds.Timestamp ∷ []) ∷ (pos 18, codes "long", kinds.Int64 ∷ []) ∷ (pos 19, codes "decimal", [])
+    ∷ (pos 17, codes "timestamp", kinds.Timestamp ∷ []) ∷ (pos 18, codes "long", kinds.Int64 ∷ [])
+    ∷ (pos 19, codes "decimal", [])
     ∷ (negsuc 0, codes "minKey", kinds.MinKey ∷ []) ∷ (pos 127, codes "maxKey", kinds.MaxKey ∷ []) ∷ []
 
 -- `number` stands for the two whole numbers

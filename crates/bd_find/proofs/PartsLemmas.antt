@@ -12,16 +12,16 @@ use Rattle.bd_bson.specs.Collection.{document_at}
 use Rattle.bd_path.specs.Sort.{SortPath, sort_cmp}
 use Rattle.bd_path.proofs.SortLemmas.{sort_total}
 use Rattle.bd_filter.specs.{Filter.Filter, FilterMatch.matches}
-use Rattle.bd_answer.specs.Laws.{IsSelectionOf, found_in}
+use Rattle.bd_answer.specs.Laws.{IsEnough, IsSelectionOf, found_in}
 use Rattle.bd_answer.proofs.{PartsLemmas.parts_give, PartsLemmas.answer_gives}
 use Rattle.bd_sort.specs.Selection.{selection_for}
 use Rattle.bd_lines.specs.Lines.{is_newline, text_lines}
 use Rattle.bd_lines.proofs.LinesLemmas.{lines_apart}
 use Rattle.bd_pack.specs.Packable.{plain}
 use Rattle.bd_pack.proofs.PlainLemmas.{reads_plain}
-use Rattle.bd_files.specs.{Pack.PacksLines, Pack.packed_bytes, Output.lines}
+use Rattle.bd_files.specs.{Pack.PacksLines, Output.lines}
 use Rattle.bd_files.proofs.OutputLemmas.{lines-append}
-use Rattle.bd_find.specs.Find.{IsReadBack, LinesArePacked, PartsAreJoined, PartsShowTheWhole, document_request, documents_shown, parts_shown}
+use Rattle.bd_find.specs.Find.{IsReadBack, document_request, documents_shown}
 
 -- ---- the documents shown are those that answer the request
 
@@ -44,28 +44,30 @@ shown_is f ss skip limit ds =
     answer_gives (document_request f ss skip limit) ds (selection_for ds f ss skip limit) (is_selection f ss skip limit ds)
 
 parts_are : (f : Filter) (ss : List SortPath) (most : ℕ) (parts : List (List Doc))
-    → parts_shown f ss most parts ≡ flat_map (found_in (document_request f ss 0 most)) parts
+    → flat_map (documents_shown f ss 0 most) parts ≡ flat_map (found_in (document_request f ss 0 most)) parts
 parts_are f ss most [] = refl
 parts_are f ss most (ds ∷ parts) = ap₂ (λ (x y : List Doc). x ++ y) (shown_is f ss 0 most ds) (parts_are f ss most parts)
 
 keys_total : (ss : List SortPath) → IsTotalOrder (λ c d. sort_cmp ss (doc (fields_of c)) (doc (fields_of d)))
 keys_total ss = on_total (λ (d : Doc). doc (fields_of d)) (sort_total ss)
 
-pub parts_show : PartsShowTheWhole
+pub parts_show : (f : Filter) (ss : List SortPath) (skip limit most : ℕ) (parts : List (List Doc)) → IsEnough (document_request f ss skip limit) most
+    → lines (documents_shown f ss skip limit (flat_map (documents_shown f ss 0 most) parts)) ≡ lines (documents_shown f ss skip limit (flat_map (λ ds. ds) parts))
 parts_show f ss skip limit most parts enough =
     let r = document_request f ss skip limit in
     ap lines (
-    shown_is f ss skip limit (parts_shown f ss most parts)
+    shown_is f ss skip limit (flat_map (documents_shown f ss 0 most) parts)
     ∙ ap (found_in r) (parts_are f ss most parts)
     ∙ sym (parts_give r (keys_total ss) most enough parts)
     ∙ sym (shown_is f ss skip limit (flat_map (λ ds. ds) parts))
     )
 
-pub parts_joined : PartsAreJoined
+pub parts_joined : (f : Filter) (ss : List SortPath) (most : ℕ) (parts : List (List Doc))
+    → flat_map (λ ds. lines (documents_shown f ss 0 most ds)) parts ≡ lines (flat_map (documents_shown f ss 0 most) parts)
 parts_joined f ss most [] = refl
 parts_joined f ss most (ds ∷ parts) =
     ap (λ x. lines (documents_shown f ss 0 most ds) ++ x) (parts_joined f ss most parts)
-    ∙ sym (lines-append (documents_shown f ss 0 most ds) (parts_shown f ss most parts))
+    ∙ sym (lines-append (documents_shown f ss 0 most ds) (flat_map (documents_shown f ss 0 most) parts))
 
 -- ---- their lines are packed
 
@@ -74,7 +76,7 @@ lines_of d ds back =
     let line = text_line (doc (fields_of d)) (reads_sound (text (doc (fields_of d))) d back.0).0 in
     lines_apart (text (doc (fields_of d))) (lines ds) ∙ ap (λ xs. xs ++ text_lines (lines ds)) (slice_split_none is_newline (text (doc (fields_of d))) line)
 
-pack_from : (ds : List Doc) (number : ℕ) → All IsReadBack ds → PacksLines number (text_lines (lines ds)) ds None
+pub pack_from : (ds : List Doc) (number : ℕ) → All IsReadBack ds → PacksLines number (text_lines (lines ds)) ds None
 pack_from [] number back = inl (refl, (refl, refl))
 pack_from (d ∷ ds) number back =
     subst (λ xs. PacksLines number xs (d ∷ ds) None) (sym (lines_of d ds (All-head IsReadBack d ds back)))
@@ -86,10 +88,7 @@ packable_spells d back =
     let limits = reads_plain (text (doc (fields_of d))) d back.0 in
     plainly_spells d (plain d) sound.0 sound.1 (record { spelled = refl; no_zero = limits.1; short = back.1; shallow = limits.0 })
 
-joined_of : (ds : List Doc) → All IsReadBack ds → AreJoined ds (packed_bytes ds)
+pub joined_of : (ds : List Doc) → All IsReadBack ds → AreJoined ds (flat_map plain ds)
 joined_of [] back = refl
 joined_of (d ∷ ds) back =
-    (plain d, packed_bytes ds, packable_spells d (All-head IsReadBack d ds back), joined_of ds (All-tail IsReadBack d ds back), refl)
-
-pub lines_packed : LinesArePacked
-lines_packed ds back = (pack_from ds 1 back, joined_of ds back)
+    (plain d, flat_map plain ds, packable_spells d (All-head IsReadBack d ds back), joined_of ds (All-tail IsReadBack d ds back), refl)

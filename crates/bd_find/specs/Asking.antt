@@ -1,8 +1,9 @@
 -- What the words of `find` ask for, or why they ask for nothing.
-use Rattle.std.specs.Prelude.{◌≡◌, ◌≢◌, ◌⊎◌, ℕ, nat_le, Bool, true, List, [], ◌++◌, length, codes, decimal, Option, Some, None, Result, Ok, Err, if◌then◌else◌}
+use Rattle.std.specs.Prelude.{◌≡◌, ◌≢◌, ◌⊎◌, ℕ, nat_le, Bool, true, List, [], ◌++◌, length, codes, Option, Some, None}
+use Rattle.std.specs.Prelude.{Result, Ok, Err, if◌then◌else◌}
 use Rattle.std.specs.List.{join_with_byte}
 use Rattle.bd_value.specs.{Limits.greatest_count, Tree.Doc}
-use Rattle.bd_diagnose.specs.{JsonFault.IsPlaced, JsonFault.json_fault_words, declared.json_fault.JsonFault.JsonFault, declared.json_fault.JsonFaultKind.JsonFaultKind}
+use Rattle.bd_diagnose.specs.{JsonFault.IsPlaced, JsonFault.json_fault_words, declared.json_fault.JsonFault.JsonFault}
 use Rattle.bd_text.specs.Text.{quoted}
 use Rattle.bd_extjson.specs.Read.{ReadsAs, reading}
 use Rattle.bd_path.specs.{Path.path_fault_words, declared.path.PathFault.PathFault}
@@ -11,6 +12,7 @@ use Rattle.bd_request.specs.{declared.results.Refused.Refused, declared.token.To
 use Rattle.bd_request.specs.Refused.{Reason, bad_filter, plain, reason_of, refused_words, then_part, told_as}
 use Rattle.bd_request.specs.Request.{Request, named_index, request_of, request_view, token_part}
 use Rattle.bd_command_line.specs.FindWords.{FindWords}
+use Rattle.bd_files.specs.Pack.{byte_text}
 use Rattle.bd_find.specs.{declared.asking.Asking.Asking, declared.asking.AskingFault.AskingFault}
 use Rattle.bd_diagnose.specs.declared.json_fault.JsonFaultKind.TheVariants as kinds
 use Rattle.bd_request.specs.declared.results.Refused.TheVariants as reasons
@@ -24,18 +26,14 @@ pub record PageRequest : Type 0 where
 
 -- ---- the texts of faults
 
--- a text as a whole has no byte
-abbrev pub json_byte_text : JsonFaultKind → ℕ → List ℕ
-json_byte_text kinds.NotADocument at = []
-json_byte_text _ at = codes ": byte " ++ decimal at
-
 -- of a query or a sort, as the name tells
 abbrev pub json_fault_text : List ℕ → JsonFault → List ℕ
-json_fault_text name f = name ++ (json_byte_text f.kind f.at ++ (codes ": " ++ json_fault_words f.kind))
+json_fault_text name f = name ++ (byte_text (codes ": byte ") f.kind f.at ++ (codes ": " ++ json_fault_words f.kind))
 
 -- the names down to the pair or member, joined by dots, and which rule it breaks
 abbrev pub refusal_text : Refusal → List ℕ
-refusal_text r = codes "query: place " ++ (quoted (join_with_byte 46 r.place) ++ (codes ": " ++ filter_fault_words r.kind))
+refusal_text r = codes "query: place "
+    ++ (quoted (join_with_byte 46 r.place) ++ (codes ": " ++ filter_fault_words r.kind))
 
 abbrev pub index_fault_text : PathFault → List ℕ
 index_fault_text fault = codes "index: " ++ path_fault_words fault
@@ -71,8 +69,8 @@ abbrev pub after_part : Option (List ℕ) → Result (Option Token) Reason
 after_part None = Ok None
 after_part (Some text) = then_part (token_part text) (λ t. Ok (Some t))
 
--- What a query and a sort that are documents ask for, or the message of what is refused first: the request, the size of a batch,
--- the path of the index, the token. Which index is named changes nothing else.
+-- What a query and a sort that are documents ask for, or the message of what is refused first: the request, the size of
+-- a batch, the path of the index, the token. Which index is named changes nothing else.
 abbrev pub page_of : FindWords → Doc → Doc → Result PageRequest (List ℕ)
 page_of words query sort =
     then_part (told_as refused_text (request_of query sort words.skip words.limit)) (λ request.
@@ -81,12 +79,15 @@ page_of words query sort =
     then_part (told_as refused_text (after_part words.after)) (λ token.
     Ok (record { request = request; batch = words.batch; token = token })))))
 
--- A part gives a value, for which what comes after it counts, or it is refused with a message, and then none of that counts.
-abbrev pub IsRefusedOr : {Given : Type 0} → (List ℕ → Type 0) → (Result Given (List ℕ) → Type 0) → (Given → Type 0) → Type 0
+-- A part gives a value, for which what comes after it counts, or it is refused with a message, and then none of that
+-- counts.
+abbrev pub IsRefusedOr : {Given : Type 0} → (List ℕ → Type 0) → (Result Given (List ℕ) → Type 0) → (Given → Type 0) →
+    Type 0
 IsRefusedOr {Given} IsRefused IsPart IsRest = ((message : List ℕ) × IsPart (Err message) × IsRefused message)
     ⊎ ((given : Given) × IsPart (Ok given) × IsRest given)
 
--- what the words ask for, or the message of what is refused first: the text of the query, that of the sort, and then the rest
+-- what the words ask for, or the message of what is refused first: the text of the query, that of the sort, and then
+-- the rest
 abbrev pub AsksInWords : FindWords → Result PageRequest (List ℕ) → Type 0
 AsksInWords words asked = IsRefusedOr (λ message. asked ≡ Err message) (ReadsText (codes "query") words.query) (λ query.
     IsRefusedOr (λ message. asked ≡ Err message) (ReadsText (codes "sort") words.sort) (λ sort.

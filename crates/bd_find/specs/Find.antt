@@ -1,32 +1,33 @@
 -- What `find` shows of its words and an input, and what a run of it did.
-use Rattle.std.specs.Prelude.{◌≡◌, ◌≤◌, ◌<◌, ℕ, nat_lt, true, List, [], length, option_map, Option, Some, None, Result, Ok, Err, if◌then◌else◌, ◌⊎◌, Bool, ◌∷◌, ◌++◌}
-use Rattle.std.specs.Prelude.{drop, codes, decimal}
-use Rattle.std.specs.{List.All, List.flat_map, Str.bytes_eq}
+use Rattle.std.specs.Prelude.{◌≡◌, ◌≤◌, ◌<◌, ℕ, nat_lt, true, List, [], length, option_map, Option, Some, None, Result}
+use Rattle.std.specs.Prelude.{Ok, Err, if◌then◌else◌, ◌⊎◌, Bool, ◌∷◌, ◌++◌}
+use Rattle.std.specs.{Prelude.drop, Prelude.decimal, List.All, Str.bytes_eq}
 use Rattle.bd_value.specs.{Limits.greatest_count, Tree.Doc, Tree.doc, Tree.fields_of}
 use Rattle.bd_answer.specs.Answer.{answer, rest, at_most, is_empty}
 use Rattle.bd_answer.specs.Session.{IndexMark, OpenCursor, Query, State, cursor_of, has_index, MarkedToken, token_after}
-use Rattle.bd_answer.specs.Laws.{DocumentRequest, IsEnough}
+use Rattle.bd_answer.specs.Laws.{DocumentRequest}
 use Rattle.bd_cursor.specs.SessionView.{mark_of, marked_token}
 use Rattle.bd_request.specs.{declared.results.Refused.Refused, declared.token.Token.Token, Results.marked_text}
 use Rattle.bd_request.specs.Refused.{IsRefusedPart, Reason, plain}
 use Rattle.bd_bson.specs.Collection.{documents_at}
-use Rattle.bd_device.specs.{Devices.Over, Devices.Reader, Devices.Writer, declared.reading.ReadFault.ReadFault}
+use Rattle.bd_device.specs.{Devices.Over, Devices.Reader, Devices.Writer, Devices.read_words}
+use Rattle.bd_device.specs.{declared.reading.ReadFault.ReadFault}
 use Rattle.bd_check.specs.{Fault.Fault, Dump.IsWalk}
 use Rattle.bd_command_line.specs.FindWords.{FindWords}
 use Rattle.bd_find.specs.Asking.{AsksInWords, IsRefusedOr, PageRequest, refused_text}
+use Rattle.bd_find.specs.declared.batch.TheConstants.{DOCUMENTS_END, DOCUMENTS_MORE, TOKEN}
 use Rattle.bd_sort.specs.Selection.{query_to, selection_for}
-use Rattle.bd_files.specs.{Input.ReadsInput, declared.output.Status.Status, Pack.PacksLines, Pack.packed_bytes}
+use Rattle.bd_files.specs.{Input.ReadsInput, declared.output.Status.Status}
 use Rattle.bd_files.specs.declared.output.Status.TheVariants.{Done, Failed}
-use Rattle.bd_files.specs.Output.{PrintsInput, TellsMessage, Transcript, error_line, lines, fault_text, read_words, shown_refusal}
+use Rattle.bd_files.specs.Output.{PrintsInput, TellsMessage, Transcript, error_line, lines, fault_text, shown_refusal}
 use Rattle.bd_text.specs.Text.{text}
 use Rattle.bd_path.specs.Sort.{SortPath, sort_cmp}
 use Rattle.bd_filter.specs.{Filter.Filter, FilterMatch.matches}
-use Rattle.bd_lines.specs.Lines.{text_lines}
 use Rattle.bd_pack.specs.Packable.{IsPackable}
 use Rattle.bd_request.specs.declared.results.Refused.TheVariants as reasons
 
--- The places that are asked for: without a token the whole answer; or what follows a token of this dump and this request. The
--- digest is looked at first, then the place.
+-- The places that are asked for: without a token the whole answer; or what follows a token of this dump and this
+-- request. The digest is looked at first, then the place.
 abbrev pub places_from : Query → Option Token → Result (List ℕ) Reason
 places_from q None = Ok (answer q.selection)
 places_from q (Some t) = if bytes_eq t.digest q.digest
@@ -65,16 +66,14 @@ abbrev pub left_over : Option ℕ → List ℕ → List ℕ
 left_over None ps = []
 left_over (Some n) ps = drop n ps
 
-abbrev pub end_words : Bool → List ℕ
-end_words ends = if ends then codes " documents, end" else codes " documents, more"
-
 -- the token after a batch, where there is one
 abbrev pub token_words : Option MarkedToken → List ℕ
 token_words None = []
-token_words (Some t) = codes ", token " ++ marked_text t
+token_words (Some t) = TOKEN.now ++ marked_text t
 
 abbrev pub find_count_line : ℕ → Bool → Option MarkedToken → List ℕ
-find_count_line count ends token = decimal count ++ (end_words ends ++ (token_words token ++ 10 ∷ []))
+find_count_line count ends token =
+    decimal count ++ ((if ends then DOCUMENTS_END.now else DOCUMENTS_MORE.now) ++ (token_words token ++ 10 ∷ []))
 
 -- what is shown of a cursor: the documents of its first batch, how many they are, whether nothing is left, and
 -- the token that leads on
@@ -114,11 +113,12 @@ abbrev pub IsShownByFind : FindWords → Result (List ℕ) ReadFault → Transcr
 IsShownByFind words input shown =
     (asked : Result PageRequest (List ℕ)) × AsksInWords words asked × IsShownOf asked input shown
 
--- Memory ran out before the input was read; or the input was read, once no word is refused, and what is to be shown of the words
--- and of it was shown.
+-- Memory ran out before the input was read; or the input was read, once no word is refused, and what is to be shown of
+-- the words and of it was shown.
 abbrev pub FindsDocuments : FindWords → Over Reader → Over Writer → Over Writer → Status → Type 0
 FindsDocuments words file out err status =
-    ((file.after ≡ file.before) × (out.after ≡ out.before) × TellsMessage err (error_line (codes "no memory")) Failed status)
+    ((file.after ≡ file.before) × (out.after ≡ out.before)
+    × TellsMessage err (error_line (codes "no memory")) Failed status)
     ⊎ ((input : Result (List ℕ) ReadFault) × (shown : Transcript)
     × IsRefusedOr (λ message. file.after ≡ file.before) (AsksInWords words) (λ w. ReadsInput file input)
     × IsShownByFind words input shown × PrintsInput input out err shown status)
@@ -135,27 +135,6 @@ document_request f ss skip limit = record {
 abbrev pub documents_shown : Filter → List SortPath → ℕ → ℕ → List Doc → List Doc
 documents_shown f ss skip limit ds = documents_at ds (answer (selection_for ds f ss skip limit))
 
--- those that it shows of each part, which is asked without a skip, one part after the other
-abbrev pub parts_shown : Filter → List SortPath → ℕ → List (List Doc) → List Doc
-parts_shown f ss limit parts = flat_map (documents_shown f ss 0 limit) parts
-
--- Of the parts' documents `find` shows the same lines as of the whole collection, where each part's limit is enough.
-abbrev pub PartsShowTheWhole : Type 0
-PartsShowTheWhole = (f : Filter) (ss : List SortPath) (skip limit most : ℕ) (parts : List (List Doc))
-    → IsEnough (document_request f ss skip limit) most
-    → lines (documents_shown f ss skip limit (parts_shown f ss most parts))
-    ≡ lines (documents_shown f ss skip limit (flat_map (λ ds. ds) parts))
-
--- The lines that `find` shows of each part, joined, are those of the parts' documents.
-abbrev pub PartsAreJoined : Type 0
-PartsAreJoined = (f : Filter) (ss : List SortPath) (most : ℕ) (parts : List (List Doc))
-    → flat_map (λ ds. lines (documents_shown f ss 0 most ds)) parts ≡ lines (parts_shown f ss most parts)
-
 -- the text of a document is read back as it, and it is not too long to be packed
 abbrev pub IsReadBack : Doc → Type 0
 IsReadBack d = IsPackable (text (doc (fields_of d))) d
-
--- Lines of documents are packed as these documents, and the bytes are a dump of them.
-abbrev pub LinesArePacked : Type 0
-LinesArePacked =
-    (ds : List Doc) → All IsReadBack ds → PacksLines 1 (text_lines (lines ds)) ds None × IsWalk ds None (packed_bytes ds)

@@ -1,6 +1,6 @@
 //! The first batch of what is asked for, shown.
 
-ghost use Rattle.std.specs.Prelude.{◌≡◌, ◌++◌, ◌<◌, ◌≤◌, ◌⊎◌, IfErr, IfOk, MatchOption, OnOk, Some, codes, length, option_map, true};
+ghost use Rattle.std.specs.Prelude.{◌≡◌, ◌++◌, ◌<◌, ◌≤◌, ◌⊎◌, IfErr, IfOk, MatchOption, OnOk, Some, codes, if◌then◌else◌, length, option_map, true};
 ghost use Rattle.std.specs.List.{All};
 ghost use Rattle.bd_value.specs.Limits.{greatest_count};
 ghost use Rattle.bd_device.specs.Devices.{TakesText, over};
@@ -13,7 +13,7 @@ ghost use Rattle.bd_request.specs.declared.results.Refused.TheVariants.{NoMemory
 ghost use Rattle.bd_files.specs.Output.{PrintsOrStarves, StopsWithin, TellsMessage, error_line, lines};
 ghost use Rattle.bd_files.specs.declared.output.Status.TheVariants.{Done, Failed};
 ghost use Rattle.bd_find.specs.Asking.{fits_batch, page_request_of, refused_text};
-ghost use Rattle.bd_find.specs.Find.{AwaitsFirst, IsOpenedOn, IsReady, end_words, find_count_line, shown_batch, shown_of_dump, token_words};
+ghost use Rattle.bd_find.specs.Find.{AwaitsFirst, IsOpenedOn, IsReady, find_count_line, shown_batch, shown_of_dump, token_words};
 
 use crate::asking::{Asking, refused_message};
 use bd_bson::Dump;
@@ -25,6 +25,15 @@ use bd_files::output::{OutputFault, status_of, tell_error, tell_no_memory, tell_
 use bd_path::Path;
 use bd_value::{GREATEST_COUNT, NoMemory};
 use std::alloc::Global;
+
+/// After the number of documents, where nothing is left.
+const DOCUMENTS_END: &[u8] = b" documents, end";
+
+/// After the number of documents, where more are left.
+const DOCUMENTS_MORE: &[u8] = b" documents, more";
+
+/// Before a token.
+const TOKEN: &[u8] = b", token ";
 
 /// Shows the first batch of what is asked for of a dump.
 pub(crate) fn show_found<O: Output, E: Output>(
@@ -154,13 +163,9 @@ fn count_line(alloc: Global, batch: &Batch) -> Result<Vec<u8>, NoMemory>
 
 /// What stands after the number of documents.
 fn words_of_end(end: bool) -> &'static [u8]
-    ensures { result.now ≡ end_words end }
+    ensures { result.now ≡ (if end then DOCUMENTS_END.now else DOCUMENTS_MORE.now) }
 {
-    if end {
-        b" documents, end"
-    } else {
-        b" documents, more"
-    }
+    if end { DOCUMENTS_END } else { DOCUMENTS_MORE }
 }
 
 /// Appends a token, where there is one.
@@ -170,7 +175,7 @@ fn write_token(alloc: Global, token: Option<Token>, line: &mut Vec<u8>) -> Resul
     let Some(token) = token else {
         return Ok(());
     };
-    line.extend_from_slice(b", token ")?;
+    line.extend_from_slice(TOKEN)?;
     let text = token.text(alloc)?;
     line.extend_from_slice(text.as_bytes())
 }

@@ -1,13 +1,20 @@
 //! `find`: the documents of an input that are asked for, in their order, one a line. An index changes how they are looked for, and
 //! nothing that is shown.
 
-ghost use Rattle.std.specs.Prelude.{◌≡◌, ◌≤◌, length, true};
-ghost use Rattle.bd_value.specs.Limits.{longest_input};
+ghost use Rattle.std.specs.Prelude.{◌≡◌, ◌≤◌, ℕ, List, None, length, true};
+ghost use Rattle.std.specs.List.{All, flat_map};
+ghost use Rattle.bd_value.specs.{Limits.longest_input, Tree.Doc};
+ghost use Rattle.bd_answer.specs.Laws.{IsEnough};
+ghost use Rattle.bd_check.specs.Dump.{IsWalk};
+ghost use Rattle.bd_filter.specs.Filter.{Filter};
+ghost use Rattle.bd_lines.specs.Lines.{text_lines};
+ghost use Rattle.bd_path.specs.Sort.{SortPath};
 ghost use Rattle.bd_command_line.specs.FindWords.{find_words_of};
-ghost use Rattle.bd_find.specs.Find.{FindsDocuments, IsShownOfBytes, LinesArePacked, PartsAreJoined, PartsShowTheWhole};
+ghost use Rattle.bd_find.specs.Find.{FindsDocuments, IsReadBack, IsShownOfBytes, document_request, documents_shown};
 ghost use Rattle.bd_find.specs.Asking.{AsksNothing, PageRequest, fits_batch, page_request_of};
 ghost use Rattle.bd_files.specs.Input.{ReadsNoFurther};
-ghost use Rattle.bd_files.specs.Output.{PrintsOrStarves, Transcript};
+ghost use Rattle.bd_files.specs.{Output.PrintsOrStarves, Output.Transcript, Output.lines, Pack.PacksLines};
+ghost use Rattle.bd_pack.specs.Packable.{plain};
 ghost use Rattle.bd_device.specs.Devices.{over};
 
 use crate::asking::{Asking, AskingFault, read_asking};
@@ -80,7 +87,12 @@ fn something_is_shown(bytes: &[u8])
 /// least the skip and the limit together. The lines of the parts, joined and packed, are a dump of which `find` shows the same
 /// lines as of the whole, wherever the text of each document is read back as that document.
 pub fn parts_show_the_whole()
-    ensures shown { PartsShowTheWhole }
-    ensures joined { PartsAreJoined }
-    ensures packed { LinesArePacked }
+    ensures shown { (f : Filter) (ss : List SortPath) (skip limit most : ℕ) (parts : List (List Doc)) →
+        IsEnough (document_request f ss skip limit) most →
+        lines (documents_shown f ss skip limit (flat_map (documents_shown f ss 0 most) parts))
+        ≡ lines (documents_shown f ss skip limit (flat_map (λ ds. ds) parts)) }
+    ensures joined { (f : Filter) (ss : List SortPath) (most : ℕ) (parts : List (List Doc)) →
+        flat_map (λ ds. lines (documents_shown f ss 0 most ds)) parts ≡ lines (flat_map (documents_shown f ss 0 most) parts) }
+    ensures packed { (ds : List Doc) → All IsReadBack ds →
+        PacksLines 1 (text_lines (lines ds)) ds None × IsWalk ds None (flat_map plain ds) }
 {}

@@ -1,6 +1,7 @@
 -- The front of a key, by which most keys compare: of a text its first 15 bytes and its length, of a number,
 -- a date or an ObjectId all of it.
-use Rattle.std.specs.Prelude.{ℕ, zero, suc, nat_lt, Bool, true, false, not, ◌==◌, ◌&&◌, ◌||◌, List, [], ◌∷◌, length, min, Option, Some}
+use Rattle.std.specs.Prelude.{ℕ, zero, suc, nat_lt, Bool, true, false, not, ◌==◌, ◌&&◌, ◌||◌, List, [], ◌∷◌, length}
+use Rattle.std.specs.Prelude.{min, Option, Some}
 use Rattle.std.specs.Str.{bytes_eq}
 use Rattle.bd_value.specs.Tree.{own_of, own, Own, Scalar, Tree, date, int32, int64, object_id, symbol, text}
 use Rattle.bd_raw.specs.{Sound.stands, declared.raw.RawValue.RawValue}

@@ -1,5 +1,6 @@
 -- The entries of an index on a path: the keys of the documents of a dump, each with the place of its document.
-use Rattle.std.specs.Prelude.{◌≡◌, ◌==◌, ◌<◌, ◌≤◌, ℕ, ◌+◌, ◌-◌, Bool, true, ◌&&◌, List, [], ◌∷◌, ◌++◌, map, count_by, length, nat_lt, if◌then◌else◌, slice_index_or}
+use Rattle.std.specs.Prelude.{◌≡◌, ◌==◌, ◌<◌, ◌≤◌, ℕ, ◌+◌, ◌-◌, Bool, true, ◌&&◌, List, [], ◌∷◌, ◌++◌, map, count_by}
+use Rattle.std.specs.Prelude.{length, nat_lt, if◌then◌else◌, slice_index_or}
 use Rattle.std.specs.{List.list_any, List.Sorted.IsSortedBy, declared.cmp.Ordering.Ordering}
 use Rattle.std.specs.Ordering.{is_lt, nat_cmp, ordering_then}
 use Rattle.bd_value.specs.{Order.cmp, Order.equal, Tree.Tree, Tree.Doc, Tree.doc, Tree.fields_of}
@@ -54,5 +55,7 @@ downward (e ∷ es) = put_down e (downward es)
 -- these have the key of the last one before the end, and those before them a lesser one
 pub record IsRun (es : List KeyAt) (start end : ℕ) : Type 0 where
   pub some : start < end
-  pub equals : (k : ℕ) (d : KeyAt) → start ≤ k → k < end → equal (slice_index_or es k d).0 (slice_index_or es (end - 1) d).0 ≡ true
-  pub below : (k : ℕ) (d : KeyAt) → k < start → is_lt (cmp (slice_index_or es k d).0 (slice_index_or es (end - 1) d).0) ≡ true
+  pub equals : (k : ℕ) (d : KeyAt) → start ≤ k → k < end →
+      equal (slice_index_or es k d).0 (slice_index_or es (end - 1) d).0 ≡ true
+  pub below : (k : ℕ) (d : KeyAt) → k < start → is_lt
+      (cmp (slice_index_or es k d).0 (slice_index_or es (end - 1) d).0) ≡ true

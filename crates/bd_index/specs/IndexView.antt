@@ -5,7 +5,8 @@ use Rattle.std.specs.Prelude.{◌≡◌, ℕ, List, [], ◌∷◌, Bool}
 use Rattle.std.specs.{Coded.Coded-set, Coded.coded_ℕ, List.All, List.AllZip}
 use mathlib.Core.HLevel.{is_prop→PathP}
 use Rattle.bd_value.specs.Tree.{Tree}
-use Rattle.bd_raw.specs.{Sound.StandsAt, Sound.StandsAt-prop, Sound.one_stands, Sound.stands, declared.raw.RawValue.RawValue}
+use Rattle.bd_raw.specs.{Sound.StandsAt, Sound.StandsAt-prop, Sound.one_stands, Sound.stands}
+use Rattle.bd_raw.specs.{declared.raw.RawValue.RawValue}
 use Rattle.bd_bson.specs.{Collection.bytes_of, Collection.documents, declared.collection.Dump.Dump}
 use Rattle.bd_path.specs.{PathNames.names_of, Reach.Names}
 use Rattle.bd_index.specs.Entries.{AreEntries, KeyAt, is_multikey}
@@ -32,28 +33,35 @@ pub record IsIndexOf (dump : Dump) (index : Index) : Type 0 where
 -- ---- there is one proof of it at most, so that a ghost field may hold it
 
 -- what is kept stands for one list at most
-pub same_entries : (bytes : List ℕ) (kept : List Entry) (es fs : List KeyAt) → KeepsEntries bytes kept es → KeepsEntries bytes kept fs → es ≡ fs
+pub same_entries : (bytes : List ℕ) (kept : List Entry) (es fs : List KeyAt) → KeepsEntries bytes kept es →
+    KeepsEntries bytes kept fs → es ≡ fs
 same_entries bytes [] [] [] p q = λ i. []
 same_entries bytes [] [] (f ∷ fs) p q = absurd q
 same_entries bytes [] (e ∷ es) fs p q = absurd p
 same_entries bytes (k ∷ ks) [] fs p q = absurd p
 same_entries bytes (k ∷ ks) (e ∷ es) [] p q = absurd q
 same_entries bytes (k ∷ ks) (e ∷ es) (f ∷ fs) p q = let key = one_stands bytes k.key e.0 f.0 p.0.0 q.0.0 in
-    let place = sym p.0.1 ∙ q.0.1 in let others = same_entries bytes ks es fs p.1 q.1 in λ i. (key i, place i) ∷ others i
+    let place = sym p.0.1 ∙ q.0.1 in let others = same_entries bytes ks es fs p.1 q.1 in
+    λ i. (key i, place i) ∷ others i
 
 pub KeepsEntries-prop : (bytes : List ℕ) (kept : List Entry) (es : List KeyAt) → IsProp (KeepsEntries bytes kept es)
 KeepsEntries-prop bytes [] [] p q = λ i. tt
 KeepsEntries-prop bytes [] (e ∷ es) p q = absurd p
 KeepsEntries-prop bytes (k ∷ ks) [] p q = absurd p
 KeepsEntries-prop bytes (k ∷ ks) (e ∷ es) p q =
-    λ i. ((StandsAt-prop bytes k.key e.0 p.0.0 q.0.0 i, Coded-set coded_ℕ k.place e.1 p.0.1 q.0.1 i), KeepsEntries-prop bytes ks es p.1 q.1 i)
+    λ i. (
+      (StandsAt-prop bytes k.key e.0 p.0.0 q.0.0 i, Coded-set coded_ℕ k.place e.1 p.0.1 q.0.1 i),
+      KeepsEntries-prop bytes ks es p.1 q.1 i,
+    )
 
-pub KeepsDump-prop : (sparse : Bool) (path : Names) (dump : Dump) (kept : List Entry) → IsProp (KeepsDump sparse path dump kept)
+pub KeepsDump-prop : (sparse : Bool) (path : Names) (dump : Dump) (kept : List Entry) →
+    IsProp (KeepsDump sparse path dump kept)
 KeepsDump-prop sparse path dump kept p q =
     let e : p.entries ≡ q.entries = same_entries (bytes_of dump) kept p.entries q.entries p.stand q.stand in
     λ i. record {
       entries = e i;
-      stand = is_prop→PathP (λ k. KeepsEntries (bytes_of dump) kept (e k)) (λ k. KeepsEntries-prop (bytes_of dump) kept (e k)) p.stand q.stand i;
+      stand = is_prop→PathP (λ k. KeepsEntries (bytes_of dump) kept (e k))
+          (λ k. KeepsEntries-prop (bytes_of dump) kept (e k)) p.stand q.stand i;
       are = is_prop→PathP (λ k. AreEntries sparse path (documents dump) (e k)) (λ k. hlevel props) p.are q.are i;
     }
 

@@ -1,5 +1,6 @@
 -- The documents that have an entry inside bounds, and spans of positions in the entries of an index.
-use Rattle.std.specs.Prelude.{◌≡◌, ◌==◌, ◌<◌, ◌≤◌, ℕ, Bool, ◌&&◌, not, nat_lt, List, [], ◌∷◌, ◌++◌, count_by, length, slice_index_or, slice_range, Option, option_map}
+use Rattle.std.specs.Prelude.{◌≡◌, ◌==◌, ◌<◌, ◌≤◌, ℕ, Bool, ◌&&◌, not, nat_lt, List, [], ◌∷◌, ◌++◌, count_by, length}
+use Rattle.std.specs.Prelude.{slice_index_or, slice_range, Option, option_map}
 use Rattle.std.specs.{Borrow.Bor, List.list_any, List.Sorted.IsStrictlyIncreasing}
 use Rattle.bd_value.specs.Tree.{Doc}
 use Rattle.bd_path.specs.Reach.{Names}
@@ -15,9 +16,11 @@ abbrev pub has_key_in : KeyBounds → KeyAt → Bool
 has_key_in bounds e = is_among bounds e.0
 
 -- the places of the documents with an entry inside, ascending and each once, and the number of entries inside
-pub record AreWithin (sparse : Bool) (path : Names) (ds : List Doc) (bounds : KeyBounds) (places : List ℕ) (entries : ℕ) : Type 0 where
+pub record AreWithin (sparse : Bool) (path : Names) (ds : List Doc) (bounds : KeyBounds) (places : List ℕ)
+    (entries : ℕ) : Type 0 where
   pub ascend : IsStrictlyIncreasing places
-  pub members : (p : ℕ) → list_any (λ q. q == p) places ≡ list_any (λ e. has_key_in bounds e && (e.1 == p)) (entries_of sparse path ds)
+  pub members : (p : ℕ) → list_any (λ q. q == p) places
+      ≡ list_any (λ e. has_key_in bounds e && (e.1 == p)) (entries_of sparse path ds)
   pub counted : entries ≡ count_by (has_key_in bounds) (entries_of sparse path ds)
 
 abbrev pub is_in_span : ℕ → Span → Bool

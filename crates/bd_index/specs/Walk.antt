@@ -2,7 +2,8 @@
 use Rattle.std.proofs.Common.{◌<◌, false, get_or, refl, sym, ◌∙◌, arith, subst, eq-eqb}
 use Rattle.std.proofs.{lemmas.Bool.eqb-true, lemmas.Bool.lt-ltb, lemmas.Bool.ltb-true, lemmas.Cmp.on_total}
 use Rattle.std.proofs.lemmas.List.Folds.{Any-from_list_any, list_any_at}
-use Rattle.std.specs.Prelude.{◌≡◌, ◌==◌, ℕ, Bool, true, List, [], ◌∷◌, ◌++◌, map, take, length, nat_lt, slice_index_or, slice_range, slice_set, if◌then◌else◌, Contains}
+use Rattle.std.specs.Prelude.{◌≡◌, ◌==◌, ℕ, Bool, true, List, [], ◌∷◌, ◌++◌, map, take, length, nat_lt, slice_index_or}
+use Rattle.std.specs.Prelude.{slice_range, slice_set, if◌then◌else◌, Contains}
 use Rattle.std.specs.{List.list_any, declared.cmp.Ordering.Ordering}
 use Rattle.bd_value.specs.Tree.{Doc}
 use Rattle.bd_bson.specs.Collection.{document_at}
@@ -30,19 +31,25 @@ pub record WalksEach (n : ℕ) (places : List ℕ) : Type 0 where
   pub walks : WalksAll dir path documents places
 
 contained : (ps : List ℕ) (q : ℕ) → list_any (λ m. m == q) ps ≡ true → Contains ps q
-contained ps q h = let a = Any-from_list_any (λ m. m == q) ps h in (a.0, a.2, subst (λ (m : ℕ). get_or ps a.0 m ≡ m) (eqb-true a.1 q a.4) a.3)
+contained ps q h = let a = Any-from_list_any (λ m. m == q) ps h in
+    (a.0, a.2, subst (λ (m : ℕ). get_or ps a.0 m ≡ m) (eqb-true a.1 q a.4) a.3)
 
 pub walk_law : (n : ℕ) (hits : ℕ → Bool) (ps : List ℕ) → WalksEach n ps → IsSource n hits ps
 walk_law n hits ps w = record {
   below = λ k d lt. let p = get_or ps k d in
-      let low : p < length w.documents = ltb-true p (length w.documents) (sym (w.walks.all p) ∙ list_any_at (λ m. m == p) ps k d lt (eq-eqb p p refl)) in
+      let low : p < length w.documents =
+      ltb-true p (length w.documents) (sym (w.walks.all p)
+      ∙ list_any_at (λ m. m == p) ps k d lt (eq-eqb p p refl)) in
       let c = w.count in omega arith;
   distinct = λ i j d a b same. let by = walk_order w.dir w.path w.documents in
       let up : before by (get_or ps i d) (get_or ps j d) ≡ true = w.walks.order i j d a b in
-      let strict = before_strict by (on_total (document_at w.documents) (sort_total (record { path = w.path; dir = w.dir } ∷ []))) in
-      let none : before by (get_or ps i d) (get_or ps j d) ≡ false = subst (λ (p : ℕ). before by (get_or ps i d) p ≡ false) same (strict.irreflexive (get_or ps i d)) in
+      let strict = before_strict by
+      (on_total (document_at w.documents) (sort_total (record { path = w.path; dir = w.dir } ∷ []))) in
+      let none : before by (get_or ps i d) (get_or ps j d) ≡ false =
+      subst (λ (p : ℕ). before by (get_or ps i d) p ≡ false) same (strict.irreflexive (get_or ps i d)) in
       let f : true ≡ false = sym up ∙ none in cc;
-  complete = λ p lt hit. contained ps p (w.walks.all p ∙ lt-ltb p (length w.documents) (let c = w.count in omega arith));
+  complete = λ p lt hit. contained ps p (w.walks.all p
+      ∙ lt-ltb p (length w.documents) (let c = w.count in omega arith));
 }
 
 abbrev pub entries_ahead : EntryOrder → List KeyAt

@@ -3,7 +3,8 @@ use Rattle.std.specs.Prelude.{◌≡◌, ◌<◌, ◌≤◌, ◌+◌, ◌⊎◌,
 use Rattle.std.specs.{Prelude.Some, Prelude.None, Io.KnownBytes.Consumes, Io.KnownBytes.IsAtEnd}
 use Rattle.bd_device.specs.{Devices.after_more, Devices.AreReads, Devices.Reader}
 use Rattle.bd_device.specs.declared.reading.{Limits.Limits, ReadFault.ReadFault}
-use Rattle.bd_lines.specs.{Lines.IsFirstLine, Lines.IsLine, Lines.IsPart, Lines.longest, declared.line_buffer.LineBuffer.LineBuffer}
+use Rattle.bd_lines.specs.{Lines.IsFirstLine, Lines.IsLine, Lines.IsPart, Lines.longest}
+use Rattle.bd_lines.specs.{declared.line_buffer.LineBuffer.LineBuffer}
 
 -- the bytes that the device gave after the line
 abbrev pub held_after : LineBuffer → List ℕ
@@ -31,11 +32,12 @@ module _ {R : Type 0} (gives : R → Option (List ℕ) → R → Type 0) where
   IsLazy head given old new =
       ((given ≡ []) × (new ≡ old)) ⊎ ((front : List ℕ) × IsLine (head ++ front) × GivesBeforeLast front old given new)
 
-  -- Why the line that these bytes begin was not read, where a reader gave `given` and may give as many bytes as the limit.
-  -- `TooLong`: the line is too long; or the last read, while a part of the line was there, went past the limit.
+  -- Why the line that these bytes begin was not read, where a reader gave `given` and may give as many bytes as the
+  -- limit. `TooLong`: the line is too long; or the last read, while a part of the line was there, went past the limit.
   abbrev pub IsCause : ℕ → List ℕ → List ℕ → R → R → ReadFault → Type 0
   IsCause limit bytes given old new ReadFault.TooLong =
-      (((line : List ℕ) × (rest : List ℕ) × (bytes ≡ line ++ rest) × IsLine line × (longest < length line)) × (length given ≤ limit))
+      (((line : List ℕ) × (rest : List ℕ) × (bytes ≡ line ++ rest) × IsLine line × (longest < length line))
+      × (length given ≤ limit))
       ⊎ ((line : List ℕ) × (front : List ℕ) × (part : List ℕ) × (bytes ≡ line ++ part) × IsPart line
       × (given ≡ front ++ part) × (length front ≤ limit) × (limit < length given) × EndsByOneRead front part old new)
   IsCause limit bytes given old new ReadFault.NoMemory = length given ≤ limit

@@ -1,6 +1,7 @@
 -- Which lines are packed, and as what.
 use Rattle.std.specs.Prelude.{◌≡◌, ◌≢◌, ◌≤◌, ◌<◌, ℕ, List, [], ◌∷◌, length, false, None, IsUtf8}
-use Rattle.bd_value.specs.{Limits.longest_document, Tree.depth, Fits.FitsTypes, Fits.HasUtf8, Tree.Tree, Tree.Doc, Tree.doc, Tree.fields_of, Fits.has_zero, Fits.zero_in}
+use Rattle.bd_value.specs.{Limits.longest_document, Tree.depth, Fits.FitsTypes, Fits.HasUtf8, Tree.Tree, Tree.Doc}
+use Rattle.bd_value.specs.{Tree.doc, Tree.fields_of, Fits.has_zero, Fits.zero_in}
 use Rattle.bd_write.specs.TreeBytes.{bytes_of}
 use Rattle.bd_wrapper.specs.Wrapper.{wrapper_of}
 use Rattle.bd_extjson.specs.{Read.ReadsAs, Laws.IsPlain}

@@ -77,8 +77,8 @@ abbrev pub is_empty_array : Stop Tree → Bool
 is_empty_array (Value (array no_items)) = true
 is_empty_array _ = false
 
--- A key is a node where a value stands: null is for a value that is not there, and for none in a sparse index; undefined is for
--- an empty array.
+-- A key is a node where a value stands: null is for a value that is not there, and for none in a sparse index;
+-- undefined is for an empty array.
 abbrev pub IsKeyAt : {N : Type 0} → Bool → Stops → Key N → Type 0
 IsKeyAt sparse ss (Node n) = Unit {0}
 IsKeyAt sparse ss Null = (sparse ≡ false) × (list_any is_no_value ss ≡ true)
@@ -106,7 +106,8 @@ abbrev pub gives_new : Bool → List Tree → Stop Tree → Bool
 gives_new sparse ks s = list_any (is_new (distinct ks)) (stop_keys sparse s)
 
 -- the keys are those of some stops
-pub record AreKeysFrom {N : Type 0} (tree : N → Tree) (source : N → List ℕ) (sparse : Bool) (ks : List (Key N)) (bytes : List ℕ) (ss : Stops) : Type 0 where
+pub record AreKeysFrom {N : Type 0} (tree : N → Tree) (source : N → List ℕ) (sparse : Bool) (ks : List (Key N))
+    (bytes : List ℕ) (ss : Stops) : Type 0 where
   pub listed : distinct (key_trees tree ks) ≡ distinct (flat_map (stop_keys sparse) ss)
   pub kept : AreKeysOf source bytes ks
   pub there : AreKeysAt sparse ss ks

@@ -1,5 +1,6 @@
 -- The path that a text is: its names, or why it has none.
-use Rattle.std.specs.Prelude.{ℕ, List, ◌==◌, nat_lt, length, map, string_bytes, Result, Ok, Err, if◌then◌else◌, get_or, ◌-◌, []}
+use Rattle.std.specs.Prelude.{ℕ, List, ◌==◌, nat_lt, length, map, string_bytes, Result, Ok, Err, if◌then◌else◌, get_or}
+use Rattle.std.specs.Prelude.{◌-◌, []}
 use Rattle.std.specs.{List.list_any, List.slice_split, Str.bytes_eq}
 use Rattle.bd_value.specs.Limits.{most_names}
 use Rattle.bd_path.specs.{Reach.Names, declared.component.Component.Component, declared.path.PathFault.PathFault}

@@ -1,7 +1,9 @@
 -- What a path reaches (MongoDB manual, "Query on Embedded/Nested Documents" and "Query an Array").
-use Rattle.std.specs.Prelude.{ℕ, zero, suc, List, [], ◌∷◌, ◌++◌, Bool, true, false, ◌==◌, min, if◌then◌else◌, Option, Some, None, option_map}
+use Rattle.std.specs.Prelude.{ℕ, zero, suc, List, [], ◌∷◌, ◌++◌, Bool, true, false, ◌==◌, min, if◌then◌else◌, Option}
+use Rattle.std.specs.Prelude.{Some, None, option_map}
 use Rattle.std.specs.{Char.is_ascii_digit, Str.all_ascii_digits, Str.bytes_eq, Str.Parse.digits_value}
-use Rattle.bd_value.specs.Tree.{elements_in, Tree, leaf, doc, array, code_scope, Items, no_items, item, items_of, Fields, no_fields, field}
+use Rattle.bd_value.specs.Tree.{elements_in, Tree, leaf, doc, array, code_scope, Items, no_items, item, items_of}
+use Rattle.bd_value.specs.Tree.{Fields, no_fields, field}
 
 -- a path: a name for each of its components
 abbrev pub Names : Type 0
@@ -24,8 +26,8 @@ abbrev pub is_document : Tree → Bool
 is_document (doc fs) = true
 is_document _ = false
 
--- What is gathered on the way down a path: from a value at its end, where a field is missing, and of what was gathered from
--- the elements of an array.
+-- What is gathered on the way down a path: from a value at its end, where a field is missing, and of what was gathered
+-- from the elements of an array.
 pub record Gathering (A : Type 0) : Type 0 where
   pub at_end : Tree → List A
   pub missing : List A
@@ -36,13 +38,15 @@ abbrev mutual
   gathering g t [] = g.at_end t
   gathering g (leaf s) (name ∷ rest) = g.missing
   gathering g (doc fs) (name ∷ rest) = first_gathering g fs name rest
-  gathering g (array ts) (name ∷ rest) = g.of_array (each_gathering g ts (name ∷ rest) ++ gathering_at g ts (index_of name) rest)
+  gathering g (array ts) (name ∷ rest) =
+      g.of_array (each_gathering g ts (name ∷ rest) ++ gathering_at g ts (index_of name) rest)
   gathering g (code_scope s fs) (name ∷ rest) = g.missing
 
   -- from the first field of that name
   pub first_gathering : {A : Type 0} → Gathering A → Fields → List ℕ → Names → List A
   first_gathering g no_fields name rest = g.missing
-  first_gathering g (field n t fs) name rest = if bytes_eq n name then gathering g t rest else first_gathering g fs name rest
+  first_gathering g (field n t fs) name rest = if bytes_eq n name then gathering g t rest
+      else first_gathering g fs name rest
 
   -- from each element that is a document, with the same path
   pub each_gathering : {A : Type 0} → Gathering A → Items → Names → List A

@@ -1,5 +1,6 @@
 -- The key by which a document stands in a sort, and the order of two documents in it.
-use Rattle.std.specs.Prelude.{◌≡◌, ℕ, Bool, false, true, List, [], ◌∷◌, map, Option, Some, None, IfSome, option_map, unwrap_or, if◌then◌else◌}
+use Rattle.std.specs.Prelude.{◌≡◌, ℕ, Bool, false, true, List, [], ◌∷◌, map, Option, Some, None, IfSome, option_map}
+use Rattle.std.specs.Prelude.{unwrap_or, if◌then◌else◌}
 use Rattle.std.specs.{List.flat_map, List.list_any, Ordering.is_lt, Ordering.ordering_reverse, Ordering.ordering_then}
 use Rattle.std.specs.{declared.cmp.Ordering.Ordering, declared.cmp.Ordering.TheVariants.Equal}
 use Rattle.bd_value.specs.{Order.cmp, Tree.Tree, Tree.leaf, Tree.null}
@@ -33,7 +34,8 @@ pub record SortPath : Type 0 where
 -- the first pair whose keys differ decides
 abbrev pub sort_cmp : List SortPath → Tree → Tree → Ordering
 sort_cmp [] a b = Equal
-sort_cmp (s ∷ ss) a b = ordering_then (dir_cmp s.dir (sort_key s.dir a s.path) (sort_key s.dir b s.path)) (sort_cmp ss a b)
+sort_cmp (s ∷ ss) a b =
+    ordering_then (dir_cmp s.dir (sort_key s.dir a s.path) (sort_key s.dir b s.path)) (sort_cmp ss a b)
 
 abbrev pub sort_paths : List (Path × Dir) → List SortPath
 sort_paths sort = map (λ s. record { path = names_of s.0; dir = s.1 }) sort
@@ -50,7 +52,8 @@ abbrev pub gives_earlier : Dir → Option Tree → Stop Tree → Bool
 gives_earlier dir e s = list_any (is_earlier dir e) (stop_keys false s)
 
 -- the earliest of the keys of some stops
-pub record IsEarliestFrom {N : Type 0} (tree : N → Tree) (source : N → List ℕ) (dir : Dir) (key : Option (Key N)) (bytes : List ℕ) (ss : Stops) : Type 0 where
+pub record IsEarliestFrom {N : Type 0} (tree : N → Tree) (source : N → List ℕ) (dir : Dir) (key : Option (Key N))
+    (bytes : List ℕ) (ss : Stops) : Type 0 where
   pub earliest : option_map (key_tree tree) key ≡ earliest_key dir (flat_map (stop_keys false) ss)
   pub kept : IfSome key (IsKeyOf source bytes)
   pub there : IfSome key (IsKeyAt false ss)

@@ -1,5 +1,6 @@
 -- A walk down a path: from which positions of it a value was walked before, where it stops, and what it gathers there.
-use Rattle.std.specs.Prelude.{◌≡◌, ℕ, suc, List, [], ◌∷◌, ◌++◌, drop, Bool, true, false, Some, None, slice_get, slice_index_or}
+use Rattle.std.specs.Prelude.{◌≡◌, ℕ, suc, List, [], ◌∷◌, ◌++◌, drop, Bool, true, false, Some, None, slice_get}
+use Rattle.std.specs.Prelude.{slice_index_or}
 use Rattle.std.specs.List.{list_any}
 use Rattle.bd_value.specs.Tree.{Tree}
 use Rattle.bd_path.specs.Reach.{End, Gathering, Names, gathering, held_index, index_gathering}
@@ -80,16 +81,19 @@ is_passed test Missing = test None
 is_passed test NoBranch = false
 
 -- Stops were taken in: what was found amounts to them too, none of them is new, nor is what was none before.
-pub record TakesStops {F : Type 0} (amounts : F → List ℕ → Stops → Type 0) (is_new : F → Stop Tree → Bool) (bytes : List ℕ) (before after : F) (more : Stops) : Type 0 where
+pub record TakesStops {F : Type 0} (amounts : F → List ℕ → Stops → Type 0) (is_new : F → Stop Tree → Bool)
+    (bytes : List ℕ) (before after : F) (more : Stops) : Type 0 where
   pub adds : (ss : Stops) → amounts before bytes ss → amounts after bytes (ss ++ more)
   pub none_new : list_any (is_new after) more ≡ false
   pub still : (s : Stop Tree) → is_new before s ≡ false → is_new after s ≡ false
 
 -- they were taken in, or the walk ended at one of them
-abbrev pub TakesOrEnds : {F : Type 0} → (F → List ℕ → Stops → Type 0) → (F → Stop Tree → Bool) → (Stop Tree → Bool) → Bool → List ℕ → F → F → Stops → Type 0
+abbrev pub TakesOrEnds : {F : Type 0} → (F → List ℕ → Stops → Type 0) → (F → Stop Tree → Bool) → (Stop Tree → Bool) →
+    Bool → List ℕ → F → F → Stops → Type 0
 TakesOrEnds amounts is_new ends true bytes before after more = TakesStops amounts is_new bytes before after more
 TakesOrEnds amounts is_new ends false bytes before after more = list_any ends more ≡ true
 
 -- what is not new need not be taken in
 abbrev pub KeepsKnown : {F : Type 0} → (F → List ℕ → Stops → Type 0) → (F → Stop Tree → Bool) → Type 0
-KeepsKnown {F} amounts is_new = (found : F) (bytes : List ℕ) (ss : Stops) (s : Stop Tree) → is_new found s ≡ false → amounts found bytes ss → amounts found bytes (ss ++ s ∷ [])
+KeepsKnown {F} amounts is_new = (found : F) (bytes : List ℕ) (ss : Stops) (s : Stop Tree) → is_new found s ≡ false →
+    amounts found bytes ss → amounts found bytes (ss ++ s ∷ [])

@@ -1,6 +1,7 @@
--- What a value's bytes tell from their front, by its kind: how many they are, and which scalar they spell; and what must
--- stand there for a value to be read without a check.
-use Rattle.std.specs.Prelude.{◌≡◌, ◌<◌, ◌≤◌, ℕ, ◌+◌, ◌-◌, ◌==◌, List, length, take, drop, slice_index_or, if◌then◌else◌, IsUtf8}
+-- What a value's bytes tell from their front, by its kind: how many they are, and which scalar they spell; and what
+-- must stand there for a value to be read without a check.
+use Rattle.std.specs.Prelude.{◌≡◌, ◌<◌, ◌≤◌, ℕ, ◌+◌, ◌-◌, ◌==◌, List, length, take, drop, slice_index_or, if◌then◌else◌}
+use Rattle.std.specs.Prelude.{IsUtf8}
 use Rattle.std.specs.List.{position_or_len}
 use Rattle.std.specs.Int.{w32, w64, from_le_bytes, cast_signed}
 use Rattle.bd_value.specs.Tree as trees

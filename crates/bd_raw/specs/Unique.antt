@@ -1,5 +1,6 @@
 -- Bytes spell one value at most.
-use Rattle.std.specs.Prelude.{◌≡◌, ◌≢◌, ℕ, suc, ◌+◌, ◌-◌, ◌<◌, ◌^◌, ℤ, Bool, true, false, Option, Some, None, List, [], ◌∷◌, ◌++◌}
+use Rattle.std.specs.Prelude.{◌≡◌, ◌≢◌, ℕ, suc, ◌+◌, ◌-◌, ◌<◌, ◌^◌, ℤ, Bool, true, false, Option, Some, None, List, []}
+use Rattle.std.specs.Prelude.{◌∷◌, ◌++◌}
 use Rattle.std.specs.Prelude.{length, take, drop, FitsSigned, ◌==◌, slice_index_or, if◌then◌else◌}
 use Rattle.std.specs.{List.AllByRecursion, Coded.Coded-set, Coded.coded_ℕ, Coded.coded_list}
 use Rattle.std.specs.Int.{w32, w64, from_le_bytes, cast_unsigned, cast_signed}
@@ -9,7 +10,8 @@ use Rattle.std.proofs.lemmas.{List.take_at, List.drop_at, List.length-append}
 use Rattle.std.proofs.lemmas.Nat.{from_le_bytes-to_le_bytes_4, from_le_bytes-to_le_bytes_8}
 use mathlib.Core.{Path.PathP, HLevel.is_prop→PathP}
 use Rattle.bd_value.specs.Tree as trees
-use Rattle.bd_value.specs.Tree.{Scalar, Tree, leaf, doc, array, code_scope, Fields, no_fields, field, Items, no_items, item}
+use Rattle.bd_value.specs.Tree.{Scalar, Tree, leaf, doc, array, code_scope, Fields, no_fields, field, Items, no_items}
+use Rattle.bd_value.specs.Tree.{item}
 use Rattle.bd_value.specs.{View.scalar_kind, View.kind_of, declared.node.Kind.Kind}
 use Rattle.bd_value.specs.declared.node.Kind.TheVariants as kinds
 use Rattle.bd_raw.specs.{declared.raw_parts.ElementType.TheVariants.Kept, Sizes.size_of, Sizes.scalar_at}
@@ -75,7 +77,8 @@ string_after y r = simp append_assoc
 
 pub string_length : (s : List ℕ) → length (string s) ≡ 4 + (length s + 1)
 string_length s =
-    rw (length-append (number (length s + 1)) (s ++ 0 ∷ []), number_length (length s + 1), length-append s (0 ∷ [])) refl
+    rw (length-append (number (length s + 1)) (s ++ 0 ∷ []), number_length (length s + 1), length-append s (0 ∷ []))
+    refl
 
 pub string_number : (s r : List ℕ) → length s + 1 < 2 ^ 32 → number_of (string s ++ r) ≡ length s + 1
 string_number s r lt = ap number_of (string_after s r) ∙ number_front (length s + 1) (s ++ 0 ∷ r) lt
@@ -114,7 +117,8 @@ binary_data : (k : ℕ) (d r : List ℕ) → length d < 2 ^ 31
 binary_data k d r lt =
     rw (binary_count k d r lt, binary_whole k d r, after_five (length d) k (d ++ r)) (take_at d r (length d) refl)
 
-inner : (b : Bool) (s : List ℕ) → let d : List ℕ = if b then number (length s) ++ s else s in (if b then drop 4 d else d) ≡ s
+inner : (b : Bool) (s : List ℕ) → let d : List ℕ = if b then number (length s) ++ s else s in
+    (if b then drop 4 d else d) ≡ s
 inner true s = number_after (length s) s
 inner false s = refl
 
@@ -137,9 +141,11 @@ scalar_back (trees.text s) v r h = rw h.1 (ap trees.text (string_text s r h.0.1)
 scalar_back (trees.symbol s) v r h = rw h.1 (ap trees.symbol (string_text s r h.0.1))
 scalar_back (trees.code s) v r h = rw h.1 (ap trees.code (string_text s r h.0.1))
 scalar_back (trees.db_pointer s id) v r h = rw (h.2, append_assoc (string s) id r)
-    (ap₂ trees.db_pointer (string_text s (id ++ r) h.0.1) (ap (take 12) (string_rest s (id ++ r) h.0.1) ∙ take_at id r 12 h.1))
+    (ap₂ trees.db_pointer (string_text s (id ++ r) h.0.1)
+    (ap (take 12) (string_rest s (id ++ r) h.0.1) ∙ take_at id r 12 h.1))
 scalar_back (trees.binary k s) v r h =
-    rw (h.2, binary_subtype k (data_of k s) r, binary_data k (data_of k s) r h.1) (ap (trees.binary k) (inner (k == 2) s))
+    rw (h.2, binary_subtype k (data_of k s) r, binary_data k (data_of k s) r h.1)
+    (ap (trees.binary k) (inner (k == 2) s))
 scalar_back (trees.regex p o) v r h = rw (h.2, regex_whole p o r)
     (ap₂ trees.regex (name_front p (o ++ 0 ∷ r) h.0) (ap name_of (name_after p (o ++ 0 ∷ r) h.0) ∙ name_front o r h.1))
 scalar_back _ v r h = refl
@@ -201,7 +207,8 @@ framed_after b r = simp append_assoc
 
 bodies : (b c v w r s : List ℕ) → v ≡ framed b → w ≡ framed c → v ++ r ≡ w ++ s → b ++ 0 ∷ r ≡ c ++ 0 ∷ s
 bodies b c v w r s e f h = after_numbers (length b + 5) (length c + 5) (b ++ 0 ∷ r) (c ++ 0 ∷ s)
-    (sym (framed_after b r) ∙ ap (λ (x : List ℕ). x ++ r) (sym e) ∙ h ∙ ap (λ (x : List ℕ). x ++ s) f ∙ framed_after c s)
+    (sym (framed_after b r) ∙ ap (λ (x : List ℕ). x ++ r) (sym e) ∙ h ∙ ap (λ (x : List ℕ). x ++ s) f
+    ∙ framed_after c s)
 
 codes_after : (s d r : List ℕ) → scoped s d ++ r ≡ number (length (string s ++ d) + 4) ++ (string s ++ (d ++ r))
 codes_after s d r = simp append_assoc
@@ -210,8 +217,10 @@ codes_after s d r = simp append_assoc
 same_code : (s z d e x y v w : List ℕ) → IsText s → IsText z → v ≡ scoped s d → w ≡ scoped z e
     → v ++ x ≡ w ++ y → (s ≡ z) × (d ++ x ≡ e ++ y)
 same_code s z d e x y v w p q a b h = let inside : string s ++ (d ++ x) ≡ string z ++ (e ++ y) =
-    after_numbers (length (string s ++ d) + 4) (length (string z ++ e) + 4) (string s ++ (d ++ x)) (string z ++ (e ++ y))
-    (sym (codes_after s d x) ∙ ap (λ (l : List ℕ). l ++ x) (sym a) ∙ h ∙ ap (λ (l : List ℕ). l ++ y) b ∙ codes_after z e y) in
+    after_numbers (length (string s ++ d) + 4) (length (string z ++ e) + 4) (string s ++ (d ++ x))
+    (string z ++ (e ++ y))
+    (sym (codes_after s d x) ∙ ap (λ (l : List ℕ). l ++ x) (sym a) ∙ h ∙ ap (λ (l : List ℕ). l ++ y) b
+    ∙ codes_after z e y) in
     let same : s ≡ z = sym (string_text s (d ++ x) p.1) ∙ ap text_of inside ∙ string_text z (e ++ y) q.1 in
     (same, cancel (string s) (string z) (d ++ x) (e ++ y) (ap string same) inside)
 
@@ -233,7 +242,8 @@ same_element : (t u : Tree) (n m v w x y r s b c : List ℕ) → IsName n → Is
     → b ≡ element t n v ++ x → c ≡ element u m w ++ y → b ++ 0 ∷ r ≡ c ++ 0 ∷ s
     → (t ≡ u) × (n ≡ m) × (v ≡ w) × (x ++ 0 ∷ r ≡ y ++ 0 ∷ s)
 same_element t u n m v w x y r s b c p q value d e h =
-    let whole : type_byte (kind_of t) ∷ (n ++ 0 ∷ (v ++ (x ++ 0 ∷ r))) ≡ type_byte (kind_of u) ∷ (m ++ 0 ∷ (w ++ (y ++ 0 ∷ s))) =
+    let whole : type_byte (kind_of t) ∷ (n ++ 0 ∷ (v ++ (x ++ 0 ∷ r))) ≡ type_byte (kind_of u)
+    ∷ (m ++ 0 ∷ (w ++ (y ++ 0 ∷ s))) =
     sym (element_after t n v x (0 ∷ r) b d) ∙ h ∙ element_after u m w y (0 ∷ s) c e in
     let named = names n m (v ++ (x ++ 0 ∷ r)) (w ++ (y ++ 0 ∷ s)) p.1 q.1 (cc) in
     let first = value (x ++ 0 ∷ r) (y ++ 0 ∷ s) (same_kind (kind_of t) (kind_of u) (cc)) named.1 in
@@ -265,7 +275,8 @@ mutual
   fields no_fields (field m u gs) b c r s p q h = absurd (no_element u m q.0 q.1 r s b c p q.5 h)
   fields (field n t fs) no_fields b c r s p q h = absurd (no_element t n p.0 p.1 s r c b q p.5 (sym h))
   fields (field n t fs) (field m u gs) b c r s p q h =
-      let one = same_element t u n m p.0 q.0 p.1 q.1 r s b c p.2 q.2 (λ i j. values t u p.0 q.0 i j p.3 q.3) p.5 q.5 h in
+      let one = same_element t u n m p.0 q.0 p.1 q.1 r s b c p.2 q.2
+      (λ i j. values t u p.0 q.0 i j p.3 q.3) p.5 q.5 h in
       let more = fields fs gs p.1 q.1 r s p.4 q.4 one.3 in
       (cc (one.0, one.1, more.0), cc (p.5, q.5, one.0, one.1, one.2, more.1))
 
@@ -275,7 +286,8 @@ mutual
   items no_items (item u us) b c r s p q h = absurd (no_element u q.0 q.1 q.2 r s b c p q.6 h)
   items (item t ts) no_items b c r s p q h = absurd (no_element t p.0 p.1 p.2 s r c b q p.6 (sym h))
   items (item t ts) (item u us) b c r s p q h =
-      let one = same_element t u p.0 q.0 p.1 q.1 p.2 q.2 r s b c p.3 q.3 (λ i j. values t u p.1 q.1 i j p.4 q.4) p.6 q.6 h in
+      let one = same_element t u p.0 q.0 p.1 q.1 p.2 q.2 r s b c p.3 q.3
+      (λ i j. values t u p.1 q.1 i j p.4 q.4) p.6 q.6 h in
       let more = items ts us p.2 q.2 r s p.5 q.5 one.3 in
       (cc (one.0, more.0), cc (p.6, q.6, one.0, one.1, one.2, more.1))
 
@@ -303,31 +315,66 @@ body_prop : (P : List ℕ → Type 0) → ((b : List ℕ) → IsProp (P b))
     → ((b c : List ℕ) → P b → P c → b ++ 0 ∷ [] ≡ c ++ 0 ∷ [] → b ≡ c)
     → (v : List ℕ) → IsProp ((body : List ℕ) × P body × (v ≡ framed body))
 body_prop P one same v p q = let e : p.0 ≡ q.0 = same p.0 q.0 p.1 q.1 (bodies p.0 q.0 v v [] [] p.2 q.2 refl) in
-    λ i. (e i, over_path P one e p.1 q.1 i, over_path (λ (b : List ℕ). v ≡ framed b) (λ b. same_bytes v (framed b)) e p.2 q.2 i)
+    λ i. (
+      e i,
+      over_path P one e p.1 q.1 i,
+      over_path (λ (b : List ℕ). v ≡ framed b)
+          (λ b. same_bytes v (framed b)) e p.2 q.2 i,
+    )
 
 mutual
   pub value_prop : (t : Tree) (v : List ℕ) → IsProp (IsValue t v)
   value_prop (leaf s) v p q = scalar_prop s v p q
-  value_prop (doc fs) v p q = body_prop (AreFields fs) (fields_prop fs) (λ b c x y h. (fields fs fs b c [] [] x y h).1) v p q
-  value_prop (array ts) v p q = body_prop (AreItems ts) (items_prop ts) (λ b c x y h. (items ts ts b c [] [] x y h).1) v p q
+  value_prop (doc fs) v p q =
+      body_prop (AreFields fs) (fields_prop fs) (λ b c x y h. (fields fs fs b c [] [] x y h).1) v p q
+  value_prop (array ts) v p q =
+      body_prop (AreItems ts) (items_prop ts) (λ b c x y h. (items ts ts b c [] [] x y h).1) v p q
   value_prop (code_scope z fs) v p q = let c = same_code z z (framed p.0) (framed q.0) [] [] v v p.3 q.3 p.2 q.2 refl in
       let e : p.0 ≡ q.0 =
       (fields fs fs p.0 q.0 [] [] p.1 q.1 (bodies p.0 q.0 (framed p.0) (framed q.0) [] [] refl refl c.1)).1 in
-      λ i. (e i, over_path (AreFields fs) (fields_prop fs) e p.1 q.1 i, over_path (λ (b : List ℕ). v ≡ scoped z (framed b)) (λ b. same_bytes v (scoped z (framed b))) e p.2 q.2 i, text_prop z p.3 q.3 i)
+      λ i. (
+        e i,
+        over_path (AreFields fs) (fields_prop fs) e p.1 q.1 i,
+        over_path
+            (λ (b : List ℕ). v ≡ scoped z (framed b))
+            (λ b. same_bytes v (scoped z (framed b))) e p.2 q.2 i,
+        text_prop z p.3 q.3 i,
+      )
 
   pub fields_prop : (fs : Fields) (b : List ℕ) → IsProp (AreFields fs b)
   fields_prop no_fields b p q = same_bytes b [] p q
   fields_prop (field n t fs) b p q =
-      let one = same_element t t n n p.0 q.0 p.1 q.1 [] [] b b p.2 q.2 (λ i j. values t t p.0 q.0 i j p.3 q.3) p.5 q.5 refl in
+      let one = same_element t t n n p.0 q.0 p.1 q.1 [] [] b b p.2 q.2
+      (λ i j. values t t p.0 q.0 i j p.3 q.3) p.5 q.5 refl in
       let e : p.0 ≡ q.0 = one.2 in
       let f : p.1 ≡ q.1 = (fields fs fs p.1 q.1 [] [] p.4 q.4 one.3).1 in
-      λ i. (e i, f i, name_prop n p.2 q.2 i, over_path (IsValue t) (value_prop t) e p.3 q.3 i, over_path (AreFields fs) (fields_prop fs) f p.4 q.4 i, is_prop→PathP (λ k. b ≡ element t n (e k) ++ f k) (λ k. same_bytes b (element t n (e k) ++ f k)) p.5 q.5 i)
+      λ i. (
+        e i,
+        f i,
+        name_prop n p.2 q.2 i,
+        over_path (IsValue t) (value_prop t) e p.3 q.3 i,
+        over_path
+            (AreFields fs) (fields_prop fs) f p.4 q.4 i,
+        is_prop→PathP (λ k. b ≡ element t n (e k) ++ f k)
+            (λ k. same_bytes b (element t n (e k) ++ f k)) p.5 q.5 i,
+      )
 
   pub items_prop : (ts : Items) (b : List ℕ) → IsProp (AreItems ts b)
   items_prop no_items b p q = same_bytes b [] p q
   items_prop (item t ts) b p q =
-      let one = same_element t t p.0 q.0 p.1 q.1 p.2 q.2 [] [] b b p.3 q.3 (λ i j. values t t p.1 q.1 i j p.4 q.4) p.6 q.6 refl in
+      let one = same_element t t p.0 q.0 p.1 q.1 p.2 q.2 [] [] b b p.3 q.3
+      (λ i j. values t t p.1 q.1 i j p.4 q.4) p.6 q.6 refl in
       let n : p.0 ≡ q.0 = one.1 in
       let e : p.1 ≡ q.1 = one.2 in
       let f : p.2 ≡ q.2 = (items ts ts p.2 q.2 [] [] p.5 q.5 one.3).1 in
-      λ i. (n i, e i, f i, over_path IsName name_prop n p.3 q.3 i, over_path (IsValue t) (value_prop t) e p.4 q.4 i, over_path (AreItems ts) (items_prop ts) f p.5 q.5 i, is_prop→PathP (λ k. b ≡ element t (n k) (e k) ++ f k) (λ k. same_bytes b (element t (n k) (e k) ++ f k)) p.6 q.6 i)
+      λ i. (
+        n i,
+        e i,
+        f i,
+        over_path IsName name_prop n p.3 q.3 i,
+        over_path (IsValue t)
+            (value_prop t) e p.4 q.4 i,
+        over_path (AreItems ts) (items_prop ts) f p.5 q.5 i,
+        is_prop→PathP
+            (λ k. b ≡ element t (n k) (e k) ++ f k) (λ k. same_bytes b (element t (n k) (e k) ++ f k)) p.6 q.6 i,
+      )

@@ -4,7 +4,8 @@ use Rattle.std.specs.Prelude.{Option, Some, None, Result, Ok, Err, if◌then◌e
 use Rattle.std.specs.{List.list_any, Str.bytes_eq, Option.ok_or}
 use Rattle.bd_value.specs.Tree as trees
 use Rattle.bd_value.specs.Tree.{Tree, Doc, leaf, doc, fields_of}
-use Rattle.bd_path.specs.{Sort.SortPath, Reach.Names, Path.path_of, declared.sort.Dir.Dir, declared.sort.Dir.TheVariants.Up, declared.sort.Dir.TheVariants.Down}
+use Rattle.bd_path.specs.{Sort.SortPath, Reach.Names, Path.path_of, declared.sort.Dir.Dir}
+use Rattle.bd_path.specs.{declared.sort.Dir.TheVariants.Up, declared.sort.Dir.TheVariants.Down}
 use Rattle.bd_path.specs.{declared.path.PathFault.PathFault, Sort.sort_paths}
 use Rattle.bd_value.specs.Limits.{greatest_count}
 use Rattle.bd_text.specs.Text.{text}
@@ -55,7 +56,8 @@ sort_written d = map (λ p. (p.0, leaf (trees.int32 (direction_number (direction
 -- the filter and the sort in canonical Extended JSON
 abbrev pub request_text : Doc → Doc → ℕ → ℕ → List ℕ
 request_text filter sort skip limit =
-    codes "{\"filter\":" ++ (text (doc (fields_of filter)) ++ (codes ",\"sort\":" ++ (text (doc (fields_of (sort_written sort)))
+    codes "{\"filter\":" ++ (text (doc (fields_of filter))
+    ++ (codes ",\"sort\":" ++ (text (doc (fields_of (sort_written sort)))
     ++ (codes ",\"skip\":" ++ (decimal skip ++ (codes ",\"limit\":" ++ (decimal limit ++ codes "}")))))))
 
 pub record Request : Type 0 where
@@ -69,7 +71,8 @@ abbrev pub request_with : Doc → Doc → ℕ → ℕ → Filter → List SortPa
 request_with filter sort skip limit f ss =
     record { filter = f; sorts = ss; skip = skip; limit = limit; text = request_text filter sort skip limit }
 
--- What documents and counts ask for, or why they ask for nothing: the filter is looked at first, then the sort, then the counts.
+-- What documents and counts ask for, or why they ask for nothing: the filter is looked at first, then the sort, then
+-- the counts.
 abbrev pub request_of : Doc → Doc → ℕ → ℕ → Result Request Reason
 request_of filter sort skip limit =
     then_part (told_as bad_filter (filter_of filter)) (λ f.

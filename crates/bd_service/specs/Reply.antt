@@ -13,7 +13,8 @@ use Rattle.bd_request.specs.Refused.{Reason, bad_filter, plain, reason_of, refus
 use Rattle.bd_request.specs.Results.{count_value, made_counts, text_or_null}
 use Rattle.bd_request.specs.{Token.token_text, declared.results.Batch.Batch}
 use Rattle.bd_cursor.specs.Explanation.{told}
-use Rattle.bd_command.specs.{Command.command_fault_number, Command.command_fault_words, declared.command.CommandFault.CommandFault}
+use Rattle.bd_command.specs.{Command.command_fault_number, Command.command_fault_words}
+use Rattle.bd_command.specs.{declared.command.CommandFault.CommandFault}
 use Rattle.bd_service.specs.declared.{member.Field.Field, reply.LineRefusal.LineRefusal, reply.Reply.Reply}
 use Rattle.bd_value.specs.Tree as trees
 use Rattle.bd_diagnose.specs.declared.json_fault.JsonFaultKind.TheVariants as json
@@ -21,7 +22,8 @@ use Rattle.bd_service.specs.declared.member.Field.TheVariants as fields
 use Rattle.bd_service.specs.declared.reply.LineRefusal.TheVariants as refusals
 use Rattle.bd_service.specs.declared.reply.Reply.TheVariants as replies
 
--- why there is no result: the layer that refuses, the number and the words of its reason, and the pair that tells where, if any
+-- why there is no result: the layer that refuses, the number and the words of its reason, and the pair that tells
+-- where, if any
 pub record ToldRefusal : Type 0 where
   pub layer : List ℕ
   pub number : ℕ
@@ -45,8 +47,10 @@ abbrev pub reply_pairs : LineReply → Doc
 reply_pairs done = []
 reply_pairs (opens id) = (codes "cursor", count_value id) ∷ []
 reply_pairs (gives ds ends token) =
-    (codes "documents", documents_value ds) ∷ (codes "end", leaf (trees.boolean ends)) ∷ (codes "token", text_or_null token) ∷ []
-reply_pairs (makes c) = (codes "entries", count_value c.entries) ∷ (codes "multikey", leaf (trees.boolean c.is_multikey)) ∷ []
+    (codes "documents", documents_value ds) ∷ (codes "end", leaf (trees.boolean ends))
+    ∷ (codes "token", text_or_null token) ∷ []
+reply_pairs (makes c) = (codes "entries", count_value c.entries)
+    ∷ (codes "multikey", leaf (trees.boolean c.is_multikey)) ∷ []
 reply_pairs (explains pairs) = pairs
 reply_pairs (refuses r) =
     (codes "layer", leaf (trees.text r.layer)) ∷ (codes "number", leaf (trees.int32 (pos r.number)))
@@ -80,7 +84,13 @@ json_refusal f = record {
 }
 
 abbrev pub command_refusal : CommandFault → ToldRefusal
-command_refusal f = record { layer = codes "command"; number = command_fault_number f; words = command_fault_words f; place = [] }
+command_refusal f = record {
+  layer = codes "command";
+  number = command_fault_number f;
+  words =
+      command_fault_words f;
+  place = [];
+}
 
 -- where it is: the names down to the pair or member, joined by dots
 abbrev pub filter_refusal : Refusal → ToldRefusal
@@ -97,7 +107,8 @@ path_refusal f = record { layer = codes "path"; number = path_fault_number f; wo
 -- of a request, a token or a call of the session; of a filter its own fault is told
 abbrev pub session_refusal : Reason → ToldRefusal
 session_refusal (bad_filter r) = filter_refusal r
-session_refusal (plain r) = record { layer = codes "session"; number = refused_number r; words = refused_words r; place = [] }
+session_refusal (plain r) =
+    record { layer = codes "session"; number = refused_number r; words = refused_words r; place = [] }
 
 -- ---- one in memory
 

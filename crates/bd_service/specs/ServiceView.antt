@@ -3,11 +3,13 @@ use Rattle.std.specs.Prelude.{◌≡◌, List, ℕ, Result, Ok, Err, string_byte
 use Rattle.std.specs.declared.alloc.AllocError.{AllocError}
 use Rattle.bd_answer.specs.Session.{State, state_after, drop_call, find_call, kill_call, next_call, resume_call}
 use Rattle.bd_bson.specs.{Collection.bytes_of, Collection.documents, declared.collection.Dump.Dump}
-use Rattle.bd_cursor.specs.SessionView.{IsRefused, dump_of, state_of, explain_request, hint_of, make_index, marked_token}
+use Rattle.bd_cursor.specs.SessionView.{IsRefused, dump_of, state_of, explain_request, hint_of, make_index}
+use Rattle.bd_cursor.specs.SessionView.{marked_token}
 use Rattle.bd_cursor.specs.declared.session.Session.{Session}
 use Rattle.bd_request.specs.declared.results.Refused.{Refused}
 use Rattle.bd_service.specs.Reply.{LineReply, ToldRefusal, line_reply, reply_text, told_refusal}
-use Rattle.bd_service.specs.declared.{call.Call.Call, call.CallFault.CallFault, reply.Reply.Reply, service.Service.Service}
+use Rattle.bd_service.specs.declared.{call.Call.Call, call.CallFault.CallFault, reply.Reply.Reply}
+use Rattle.bd_service.specs.declared.{service.Service.Service}
 use Rattle.bd_service.specs.Talk.{Answers, shown_reply, IsCallIn}
 use Rattle.bd_sort.specs.Selection.{query_of}
 use Rattle.bd_answer.specs.Session as machine
@@ -17,7 +19,8 @@ use Rattle.bd_service.specs.declared.call.CallFault.TheVariants as faults
 
 -- a call was made: its reply and the state after it are those of the machine
 pub record Performs (call : machine.Call) (old : Session) (r : Reply) (new : Session) : Type 0 where
-  pub tells : line_reply (documents (dump_of old)) r ≡ shown_reply (documents (dump_of old)) (machine.reply (state_of old) call)
+  pub tells : line_reply (documents (dump_of old)) r
+      ≡ shown_reply (documents (dump_of old)) (machine.reply (state_of old) call)
   pub moves : state_of new ≡ state_after (state_of old) call
   pub kept : dump_of new ≡ dump_of old
 
@@ -40,7 +43,8 @@ service_dump s = dump_of s.session
 -- the text is a reply to the line, and the session goes on from one state to the other, over the same dump
 pub record RepliesTo (old : Service) (line text : List ℕ) (new : Service) : Type 0 where
   pub reply : LineReply
-  pub answers : Answers (bytes_of (service_dump old)) (documents (service_dump old)) (service_state old) line reply (service_state new)
+  pub answers : Answers (bytes_of (service_dump old)) (documents (service_dump old)) (service_state old) line reply
+      (service_state new)
   pub written : text ≡ reply_text reply
   pub kept : service_dump new ≡ service_dump old
 
@@ -53,7 +57,8 @@ abbrev pub session_call : Dump → Call → machine.Call
 session_call dump (calls.CreateIndex path sparse) = make_index sparse dump path
 session_call dump (calls.DropIndex path) = drop_call (string_bytes path.text)
 session_call dump (calls.Find request choice) = find_call (query_of dump request) (hint_of choice)
-session_call dump (calls.Resume request choice token) = resume_call (query_of dump request) (hint_of choice) (marked_token token)
+session_call dump (calls.Resume request choice token) =
+    resume_call (query_of dump request) (hint_of choice) (marked_token token)
 session_call dump (calls.GetMore id batch) = next_call id batch
 session_call dump (calls.KillCursor id) = kill_call id
 session_call dump (calls.Explain request choice) = explain_request dump request choice

@@ -4,7 +4,8 @@ use Rattle.std.specs.Prelude.{Option, Some, None, option_and_then, option_map, R
 use Rattle.std.specs.{List.filter_map, List.flat_map, List.zip, Result.result_ok}
 use Rattle.bd_value.specs.Tree.{Doc}
 use Rattle.bd_answer.specs.Laws.{GivesInTurn, new_state}
-use Rattle.bd_answer.specs.Session.{Call, GivenBatch, Query, State, drop_call, explain_call, find_call, gave, kill_call, next_call, resume_call}
+use Rattle.bd_answer.specs.Session.{Call, GivenBatch, Query, State, drop_call, explain_call, find_call, gave, kill_call}
+use Rattle.bd_answer.specs.Session.{next_call, resume_call}
 use Rattle.bd_answer.specs.Session.{state_after}
 use Rattle.bd_path.specs.Path.{path_of}
 use Rattle.bd_request.specs.{Refused.then_part, Refused.told_as, Refused.plain, Results.marked_text}
@@ -13,9 +14,11 @@ use Rattle.bd_sort.specs.Selection.{query_to}
 use Rattle.bd_cursor.specs.Access.{Way, by_any, by_none, by_one}
 use Rattle.bd_cursor.specs.Explanation.{explanation_for}
 use Rattle.bd_cursor.specs.SessionView.{make_of, marked_token, path_named}
-use Rattle.bd_command.specs.Command.{Command, FindCommand, Hint, any_way, by_index, by_scan, creates_index, drops_index, finds, gets_more, kills_cursor, resumes}
+use Rattle.bd_command.specs.Command.{Command, FindCommand, Hint, any_way, by_index, by_scan, creates_index, drops_index}
+use Rattle.bd_command.specs.Command.{finds, gets_more, kills_cursor, resumes}
 use Rattle.bd_command.specs.CommandOf.{command_of}
-use Rattle.bd_service.specs.Reply.{LineReply, ToldRefusal, command_refusal, done, explains, gives, json_refusal, makes, opens, path_refusal}
+use Rattle.bd_service.specs.Reply.{LineReply, ToldRefusal, command_refusal, done, explains, gives, json_refusal, makes}
+use Rattle.bd_service.specs.Reply.{opens, path_refusal}
 use Rattle.bd_service.specs.Reply.{refuses, reply_text, session_refusal}
 use Rattle.bd_diagnose.specs.{JsonFault.IsPlaced, declared.json_fault.JsonFault.JsonFault}
 use Rattle.bd_extjson.specs.Read.{ReadsAs, reading}
@@ -40,8 +43,8 @@ search_of f =
     then_part (told_as session_refusal (request_of f.filter f.sort f.skip f.limit)) (λ request.
     then_part (told_as path_refusal (named_index (hint_path f.hint))) (λ _. Ok request))
 
--- Over a dump of these bytes, which are these documents, the call that a command is, or the first thing in it that is refused: of
--- `resume` the text of the token is looked at first.
+-- Over a dump of these bytes, which are these documents, the call that a command is, or the first thing in it that is
+-- refused: of `resume` the text of the token is looked at first.
 abbrev pub call_of : List ℕ → List Doc → Command → Result Call ToldRefusal
 call_of bytes ds (creates_index path sparse) =
     then_part (told_as path_refusal (path_of path)) (λ _. Ok (make_of ds (record { path = path; is_sparse = sparse })))
@@ -90,8 +93,10 @@ abbrev pub state_then : State → Result Call ToldRefusal → State
 state_then s (Ok call) = state_after s call
 state_then s (Err why) = s
 
--- a session over a dump of these bytes, which are these documents, may answer a line so, and goes on from one state to the other
-pub record Answers (bytes : List ℕ) (ds : List Doc) (s : State) (line : List ℕ) (r : LineReply) (t : State) : Type 0 where
+-- a session over a dump of these bytes, which are these documents, may answer a line so, and goes on from one state to
+-- the other
+pub record Answers (bytes : List ℕ) (ds : List Doc) (s : State) (line : List ℕ) (r : LineReply)
+    (t : State) : Type 0 where
   pub part : Result Call ToldRefusal
   pub reads : IsCallIn bytes ds line part
   pub tells : r ≡ reply_to ds s part
@@ -105,8 +110,8 @@ IsKept s t = t ≡ s
 abbrev pub RepliesInText : List ℕ → List Doc → State → List ℕ → List ℕ → State → Type 0
 RepliesInText bytes ds s line text t = (r : LineReply) × Answers bytes ds s line r t × (text ≡ reply_text r)
 
--- over a dump of these bytes, which are these documents, these lines may have these replies in turn, which lead from one state to
--- the other
+-- over a dump of these bytes, which are these documents, these lines may have these replies in turn, which lead from
+-- one state to the other
 abbrev pub Talks : List ℕ → List Doc → State → List (List ℕ) → List LineReply → State → Type 0
 Talks bytes ds s [] [] t = t ≡ s
 Talks bytes ds s [] (r ∷ rs) t = ⊥
@@ -141,14 +146,16 @@ abbrev pub batches_shown : List ℕ → List Doc → ℕ → List (List ℕ) →
 batches_shown bytes ds id lines rs = flat_map (λ p. batch_shown id (line_call bytes ds p.0) p.1) (zip lines rs)
 
 -- these places are shown in batches of the sizes that the lines ask for, with tokens that lead on to what is left
-pub record ShowsInTurn (bytes : List ℕ) (ds : List Doc) (q : Query) (id : ℕ) (ps : List ℕ) (lines : List (List ℕ)) (rs : List LineReply)
+pub record ShowsInTurn (bytes : List ℕ) (ds : List Doc) (q : Query) (id : ℕ) (ps : List ℕ) (lines : List (List ℕ))
+    (rs : List LineReply)
     : Type 0 where
   pub given : List GivenBatch
   pub in_turn : GivesInTurn q id ps (calls_in bytes ds lines) given
   pub shown : batches_shown bytes ds id lines rs ≡ map (λ b. shown_reply ds (gave b)) given
 
 -- a line is this call and opens a cursor, after some lines and before others
-pub record OpensInTalk (bytes : List ℕ) (ds : List Doc) (call : Call) (id : ℕ) (lines : List (List ℕ)) (rs : List LineReply)
+pub record OpensInTalk (bytes : List ℕ) (ds : List Doc) (call : Call) (id : ℕ) (lines : List (List ℕ))
+    (rs : List LineReply)
     : Type 0 where
   pub earlier : List (List ℕ)
   pub replies : List LineReply

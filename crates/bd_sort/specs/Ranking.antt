@@ -1,6 +1,7 @@
--- Documents while they are put in order by one path after the other. Each has a rank by the paths so far: the lower rank is first,
--- and those that tie have one rank.
-use Rattle.std.specs.Prelude.{◌≡◌, ◌<◌, ℕ, ◌+◌, List, [], ◌∷◌, length, map, Option, Some, None, if◌then◌else◌, slice_index_or}
+-- Documents while they are put in order by one path after the other. Each has a rank by the paths so far: the lower
+-- rank is first, and those that tie have one rank.
+use Rattle.std.specs.Prelude.{◌≡◌, ◌<◌, ℕ, ◌+◌, List, [], ◌∷◌, length, map, Option, Some, None, if◌then◌else◌}
+use Rattle.std.specs.Prelude.{slice_index_or}
 use Rattle.std.specs.Ordering.{is_lt, nat_cmp, ordering_then}
 use Rattle.std.specs.{List.Sorted.IsPermutation, List.Sorted.IsSortedBy, declared.cmp.Ordering.Ordering}
 use Rattle.bd_value.specs.Tree.{Doc, Tree}
@@ -39,7 +40,8 @@ next_rank dir rank (Some x) y = if is_lt (keyed_cmp dir x y) then rank + 1 else 
 abbrev pub ranks_from : Dir → ℕ → Option Keyed → List Keyed → List Ranked
 ranks_from dir rank last [] = []
 ranks_from dir rank last (y ∷ ys) =
-    record { rank = next_rank dir rank last y; place = y.place } ∷ ranks_from dir (next_rank dir rank last y) (Some y) ys
+    record { rank = next_rank dir rank last y; place = y.place }
+    ∷ ranks_from dir (next_rank dir rank last y) (Some y) ys
 
 abbrev pub place_of : Ranked → ℕ
 place_of r = r.place

@@ -2,7 +2,8 @@
 use Rattle.std.specs.{Prelude.ℕ, Prelude.Bool, Prelude.List, Prelude.length, declared.cmp.Ordering.Ordering}
 use Rattle.bd_value.specs.Tree.{Doc}
 use Rattle.bd_answer.specs.{Answer.Selection, Session.Query}
-use Rattle.bd_bson.specs.{Collection.bytes_of, Collection.documents, Collection.document_at, declared.collection.Dump.Dump}
+use Rattle.bd_bson.specs.{Collection.bytes_of, Collection.documents, Collection.document_at}
+use Rattle.bd_bson.specs.{declared.collection.Dump.Dump}
 use Rattle.bd_path.specs.{Sort.SortPath, Sort.sort_cmp, Sort.sort_paths}
 use Rattle.bd_filter.specs.{Filter.Filter, FilterMatch.matches, Filter.filter_tree}
 use Rattle.bd_request.specs.{Token.token_digest, Request.Request, Request.request_view}

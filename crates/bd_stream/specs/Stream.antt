@@ -6,7 +6,8 @@ use Rattle.bd_value.specs.Limits.{longest_document}
 use Rattle.bd_device.specs.{Devices.after_more, Devices.AreReads, Devices.Over, Devices.Reader, Devices.over}
 use Rattle.bd_device.specs.declared.reading.ReadFault.{ReadFault}
 use Rattle.bd_check.specs.{Dump.frame_length, Dump.length_told, declared.fault.FaultKind.FaultKind}
-use Rattle.bd_stream.specs.declared.{doc_buffer.DocBuffer.DocBuffer, doc_buffer.DocFault.DocFault, doc_reader.RawBytes.RawBytes}
+use Rattle.bd_stream.specs.declared.{doc_buffer.DocBuffer.DocBuffer, doc_buffer.DocFault.DocFault}
+use Rattle.bd_stream.specs.declared.{doc_reader.RawBytes.RawBytes}
 
 -- the bytes begin with a length, which is their own
 abbrev pub IsFrame : List ℕ → Type 0
@@ -32,9 +33,11 @@ abbrev pub EndsWithinOne : List ℕ → List ℕ → Type 0
 EndsWithinOne bytes last = (frames : List (List ℕ)) × (front : List ℕ) × (part : List ℕ) × AreFrames frames front
     × (bytes ≡ front ++ part) × IsWithinOne (part ++ last)
 
--- a head, and what a device still gives after it, or some bytes if that is unknown, begin with no length, for this reason
+-- a head, and what a device still gives after it, or some bytes if that is unknown, begin with no length, for this
+-- reason
 abbrev pub HasNoFrame : List ℕ → Option (List ℕ) → FaultKind → Type 0
-HasNoFrame head left kind = (bytes : List ℕ) × IfSome left (λ rest. bytes ≡ head ++ rest) × (frame_length bytes ≡ Err kind)
+HasNoFrame head left kind = (bytes : List ℕ) × IfSome left (λ rest. bytes ≡ head ++ rest)
+    × (frame_length bytes ≡ Err kind)
 
 -- the bytes of the document that the buffer holds
 abbrev pub held_bytes : DocBuffer → List ℕ
@@ -85,7 +88,8 @@ module _ {R : Type 0} (state : R → Reader) where
       pub grown : HoldsAsMuch (length before.buffer.items) (length after.buffer.items) after.size
 
     -- why a document was not read, of which the reader gave these bytes after its head; memory is wanted once the four
-    -- bytes of its length were read, and none is read after them; of a length that is none no byte is read past what it counts
+    -- bytes of its length were read, and none is read after them; of a length that is none no byte is read past what it
+    -- counts
     abbrev pub IsReason : DocBuffer → R → R → List ℕ → List ℕ → DocFault → Type 0
     IsReason before old new head given (DocFault.Frame f) =
         (f.offset ≡ before.place) × (f.document ≡ before.number) × HasNoFrame head (state old).left f.kind
@@ -99,8 +103,10 @@ module _ {R : Type 0} (state : R → Reader) where
         × (length (head ++ front) ≤ before.left.bytes) × (before.left.bytes < length (head ++ front) + length last)
         × IsWithinOne (head ++ given) × ((state new).failures ≡ (state old).failures)
     IsReason before old new head given (DocFault.Read ReadFault.TooManyTurns) =
-        IsCut (head ++ given) × (length (head ++ given) ≤ before.left.bytes) × AreReads gives before.left.turns old given new
-        × ((state new).calls ≡ after_more (state old).calls before.left.turns) × ((state new).failures ≡ (state old).failures)
+        IsCut (head ++ given) × (length (head ++ given) ≤ before.left.bytes)
+        × AreReads gives before.left.turns old given new
+        × ((state new).calls ≡ after_more (state old).calls before.left.turns)
+        × ((state new).failures ≡ (state old).failures)
     IsReason before old new head given (DocFault.Read ReadFault.NoMemory) = IsCut (head ++ given)
         × (length (head ++ given) ≤ before.left.bytes) × ((state new).failures ≡ (state old).failures)
         × (length (head ++ given) ≡ 4)

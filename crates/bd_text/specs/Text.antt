@@ -1,11 +1,14 @@
 -- Canonical Extended JSON v2: the text of a value and of a document, without white space.
 -- The first half is the grammar of JSON (RFC 8259), the second the conversion table of Extended JSON v2.
-use Rattle.std.specs.Prelude.{ℕ, ℤ, ◌/◌, ◌%◌, List, [], ◌∷◌, ◌++◌, Bool, ◌==◌, ◌||◌, nat_lt, if◌then◌else◌, codes, decimal}
+use Rattle.std.specs.Prelude.{ℕ, ℤ, ◌/◌, ◌%◌, List, [], ◌∷◌, ◌++◌, Bool, ◌==◌, ◌||◌, nat_lt, if◌then◌else◌, codes}
+use Rattle.std.specs.Prelude.{decimal}
 use Rattle.std.specs.{Char.digit_char, Fmt.signed_decimal, List.flat_map, List.join_with_byte}
 use Rattle.base64.specs.{Engines.standard, GeneralPurpose.encode_of}
 use Rattle.hex.specs.Hex.{encode_lower}
-use Rattle.bd_value.specs.Tree.{Scalar, min_key, undefined, null, int32, int64, text as string, symbol, binary, object_id, boolean, date, timestamp, regex, db_pointer}
-use Rattle.bd_value.specs.Tree.{code, max_key, Tree, leaf, doc, array, code_scope, Items, no_items, item, Fields, no_fields, field}
+use Rattle.bd_value.specs.Tree.{Scalar, min_key, undefined, null, int32, int64, text as string, symbol, binary}
+use Rattle.bd_value.specs.Tree.{object_id, boolean, date, timestamp, regex, db_pointer}
+use Rattle.bd_value.specs.Tree.{code, max_key, Tree, leaf, doc, array, code_scope, Items, no_items, item, Fields}
+use Rattle.bd_value.specs.Tree.{no_fields, field}
 
 -- RFC 8259, section 7: the quotation mark, the reverse solidus and the control characters may not stand for themselves.
 abbrev pub needs_escape : ℕ → Bool
@@ -69,16 +72,21 @@ scalar_text (int64 z) = long_text z
 scalar_text (string s) = quoted s
 scalar_text (symbol s) = wrapper_text (codes "$symbol") (quoted s)
 scalar_text (binary subtype bytes) =
-    wrapper_text (codes "$binary") (object (member (codes "base64") (quoted (base64_text bytes)) ∷ member (codes "subType") (quoted (hex_text (subtype ∷ []))) ∷ []))
+    wrapper_text (codes "$binary")
+    (object (member (codes "base64") (quoted (base64_text bytes))
+    ∷ member (codes "subType") (quoted (hex_text (subtype ∷ []))) ∷ []))
 scalar_text (object_id id) = id_text id
 scalar_text (boolean b) = if b then codes "true" else codes "false"
 scalar_text (date z) = wrapper_text (codes "$date") (long_text z)
 scalar_text (timestamp seconds increment) =
-    wrapper_text (codes "$timestamp") (object (member (codes "t") (decimal seconds) ∷ member (codes "i") (decimal increment) ∷ []))
+    wrapper_text (codes "$timestamp")
+    (object (member (codes "t") (decimal seconds) ∷ member (codes "i") (decimal increment) ∷ []))
 scalar_text (regex pattern options) =
-    wrapper_text (codes "$regularExpression") (object (member (codes "pattern") (quoted pattern) ∷ member (codes "options") (quoted options) ∷ []))
+    wrapper_text (codes "$regularExpression")
+    (object (member (codes "pattern") (quoted pattern) ∷ member (codes "options") (quoted options) ∷ []))
 scalar_text (db_pointer space id) =
-    wrapper_text (codes "$dbPointer") (object (member (codes "$ref") (quoted space) ∷ member (codes "$id") (id_text id) ∷ []))
+    wrapper_text (codes "$dbPointer")
+    (object (member (codes "$ref") (quoted space) ∷ member (codes "$id") (id_text id) ∷ []))
 scalar_text (code s) = wrapper_text (codes "$code") (quoted s)
 scalar_text max_key = wrapper_text (codes "$maxKey") (codes "1")
 

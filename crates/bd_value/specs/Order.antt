@@ -3,8 +3,10 @@ use Rattle.std.specs.Prelude.{ℕ, ℤ, pos, Bool, ◌+◌, ◌==◌, List, [], 
 use Rattle.std.specs.{Cmp.Lexicographic.slice_cmp, declared.cmp.Ordering.Ordering}
 use Rattle.std.specs.declared.cmp.Ordering.TheVariants.{Less, Equal, Greater}
 use Rattle.std.specs.Ordering.{nat_cmp, int_cmp, ordering_then, is_eq}
-use Rattle.bd_value.specs.Tree.{Own, own, own_code, Scalar, int32, int64, text, symbol, binary, object_id, boolean, date, timestamp}
-use Rattle.bd_value.specs.Tree.{regex, db_pointer, code, Tree, leaf, doc, array, code_scope, Items, no_items, item, Fields, no_fields, field}
+use Rattle.bd_value.specs.Tree.{Own, own, own_code, Scalar, int32, int64, text, symbol, binary, object_id, boolean}
+use Rattle.bd_value.specs.Tree.{date, timestamp}
+use Rattle.bd_value.specs.Tree.{regex, db_pointer, code, Tree, leaf, doc, array, code_scope, Items, no_items, item}
+use Rattle.bd_value.specs.Tree.{Fields, no_fields, field}
 use Rattle.bd_value.specs.{View.kind_of, declared.node.Kind.Kind, declared.node.Class.Class}
 use Rattle.bd_value.specs.declared.node.Kind.TheVariants as kinds
 use Rattle.bd_value.specs.declared.node.Class.TheVariants as classes
@@ -106,7 +108,8 @@ bytes_cmp a b = slice_cmp nat_cmp a b
 
 abbrev pub rank_cmp : Rank → Rank → Ordering
 rank_cmp a b =
-    ordering_then (int_cmp a.number b.number) (ordering_then (ordering_then (nat_cmp a.size b.size) (nat_cmp a.lesser b.lesser))
+    ordering_then (int_cmp a.number b.number)
+    (ordering_then (ordering_then (nat_cmp a.size b.size) (nat_cmp a.lesser b.lesser))
     (ordering_then (bytes_cmp a.bytes b.bytes) (bytes_cmp a.more b.more)))
 
 abbrev pub class_cmp : Tree → Tree → Ordering

@@ -18,7 +18,8 @@ digits_number ds = if are_digits ds then Some (digits_value 10 ds) else None
 unfoldable pub whole : List ℕ → Option ℤ
 whole [] = None
 whole (c ∷ cs) =
-    if c == 45 then option_map (λ n. neg_ℤ (pos n)) (digits_number cs) else option_map (λ n. pos n) (digits_number (c ∷ cs))
+    if c == 45 then option_map (λ n. neg_ℤ (pos n)) (digits_number cs)
+    else option_map (λ n. pos n) (digits_number (c ∷ cs))
 
 -- whether z is a number of the signed type of k + 1 bits
 abbrev pub fits_bits : ℕ → ℤ → Bool

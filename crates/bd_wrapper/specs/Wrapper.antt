@@ -1,5 +1,6 @@
 -- The objects that stand for values of other kinds (Extended JSON v2, conversion table): which, and what is in them.
-use Rattle.std.specs.Prelude.{◌≡◌, ℕ, ◌+◌, ◌*◌, ℤ, pos, List, [], ◌∷◌, Bool, true, false, ◌==◌, ◌&&◌, nat_lt, if◌then◌else◌}
+use Rattle.std.specs.Prelude.{◌≡◌, ℕ, ◌+◌, ◌*◌, ℤ, pos, List, [], ◌∷◌, Bool, true, false, ◌==◌, ◌&&◌, nat_lt}
+use Rattle.std.specs.Prelude.{if◌then◌else◌}
 use Rattle.std.specs.Prelude.{Option, Some, None, option_map, option_and_then, unwrap_or, Result, Ok, Err, codes}
 use Rattle.std.specs.{Option.option_zip, Result.result_ok, Str.bytes_eq}
 use Rattle.base64.specs.{Engines.standard, GeneralPurpose.decode_of}
@@ -107,14 +108,19 @@ single kinds.NumberLong j = option_map (λ z. trees.int64 z) (long_in j)
 single kinds.Oid j = option_map (λ b. trees.object_id b) (id_of j)
 single kinds.Symbol j = option_map (λ s. trees.symbol s) (as_str j)
 single kinds.Binary j =
-    option_map (λ p. trees.binary p.1 p.0) (option_and_then (both_in data_in subtype_in) (pair (codes "base64") (codes "subType") j))
+    option_map (λ p. trees.binary p.1 p.0)
+    (option_and_then (both_in data_in subtype_in) (pair (codes "base64") (codes "subType") j))
 single kinds.Code j = option_map (λ s. trees.code s) (as_str j)
 single kinds.Timestamp j =
-    option_map (λ p. trees.timestamp p.0 p.1) (option_and_then (both_in word_in word_in) (pair (codes "t") (codes "i") j))
+    option_map (λ p. trees.timestamp p.0 p.1)
+    (option_and_then (both_in word_in word_in) (pair (codes "t") (codes "i") j))
 single kinds.RegularExpression j =
-    option_map (λ p. trees.regex p.0 p.1) (option_and_then (both_in name_in name_in) (pair (codes "pattern") (codes "options") j))
+    option_map (λ p. trees.regex p.0 p.1)
+    (option_and_then (both_in name_in name_in) (pair (codes "pattern") (codes "options") j))
 single kinds.DbPointer j =
-    option_map (λ p. trees.db_pointer p.0 p.1) (option_and_then (both_in as_str (λ i. option_and_then id_of (only (codes "$oid") i))) (pair (codes "$ref") (codes "$id") j))
+    option_map (λ p. trees.db_pointer p.0 p.1)
+    (option_and_then (both_in as_str (λ i. option_and_then id_of (only (codes "$oid") i)))
+    (pair (codes "$ref") (codes "$id") j))
 single kinds.Date j = option_map (λ z. trees.date z) (option_and_then long_in (only (codes "$numberLong") j))
 single kinds.MinKey j = if one j then Some trees.min_key else None
 single kinds.MaxKey j = if one j then Some trees.max_key else None

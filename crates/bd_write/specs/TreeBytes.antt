@@ -2,8 +2,10 @@
 use Rattle.std.specs.Prelude.{◌≡◌, ◌≤◌, ◌<◌, ℕ, suc, List, [], ◌∷◌, ◌++◌, length, decimal, false, if◌then◌else◌}
 use Rattle.std.specs.Int.{w32, w64, cast_unsigned}
 use Rattle.bd_value.specs.Tree as trees
-use Rattle.bd_value.specs.Tree.{Scalar, Tree, leaf, doc, array, code_scope, Items, no_items, item, Fields, no_fields, field, Doc, fields_of}
-use Rattle.bd_value.specs.{Limits.longest_document, Limits.most_levels, Tree.depth, Tree.Own, Tree.own, Tree.own_code, Fits.zero_in}
+use Rattle.bd_value.specs.Tree.{Scalar, Tree, leaf, doc, array, code_scope, Items, no_items, item, Fields, no_fields}
+use Rattle.bd_value.specs.Tree.{field, Doc, fields_of}
+use Rattle.bd_value.specs.{Limits.longest_document, Limits.most_levels, Tree.depth, Tree.Own, Tree.own, Tree.own_code}
+use Rattle.bd_value.specs.{Fits.zero_in}
 use Rattle.bd_write.specs.declared.writing.WriteFault.{WriteFault}
 use Rattle.bd_write.specs.declared.writing.WriteFault.TheVariants as faults
 use Rattle.bd_raw.specs.Spelling.{number, long, string, framed, data_of, scoped, element, IsText, IsScalar}
@@ -20,7 +22,8 @@ scalar_bytes (trees.symbol s) = string s
 scalar_bytes (trees.code s) = string s
 scalar_bytes (trees.db_pointer s id) = string s ++ id
 scalar_bytes (trees.regex pattern options) = pattern ++ 0 ∷ (options ++ 0 ∷ [])
-scalar_bytes (trees.binary subtype payload) = number (length (data_of subtype payload)) ++ subtype ∷ data_of subtype payload
+scalar_bytes (trees.binary subtype payload) = number (length (data_of subtype payload)) ++ subtype
+    ∷ data_of subtype payload
 scalar_bytes _ = []
 
 abbrev mutual

@@ -36,14 +36,6 @@ pub returns-then-is_err-clause-front : goal.returns-then-is_err-clause-front
 returns-then-is_err-clause-front g c =
     (_, Consumes-trans _ _ _ _ _ c.loop.invariant.consumed c.in-Ok.ensures.bytes.0)
 
-pub returns-then-is_err-clause-memory_known : goal.returns-then-is_err-clause-memory_known
-returns-then-is_err-clause-memory_known g c _ =
-    let fits : c.in-Ok.n ≤ c.args.limits.bytes - length c.loop.bytes.items = search rules in (
-      _,
-      Consumes-trans _ _ _ _ _ c.loop.invariant.consumed c.in-Ok.ensures.bytes.0,
-      length-within _ _ _ c.read.new.room fits c.loop.invariant.within,
-    )
-
 pub returns-then-is_err-clause-memory : goal.returns-then-is_err-clause-memory
 returns-then-is_err-clause-memory g c _ =
     let some : 0 < length (take c.in-Ok.n c.read.new.room) = search rules in
@@ -53,4 +45,5 @@ returns-then-is_err-clause-memory g c _ =
       omega arith,
       length-within _ _ _ c.read.new.room fits c.loop.invariant.within,
       reads_more _ _ _ _ _ _ _ c.loop.invariant.reads c.in-Ok.ensures.gives some refl,
+      Consumes-trans _ _ _ _ _ c.loop.invariant.consumed c.in-Ok.ensures.bytes.0,
     )

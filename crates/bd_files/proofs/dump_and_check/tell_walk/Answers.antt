@@ -1,4 +1,4 @@
-use Rattle.std.proofs.Common.{◌≡◌, ◌∙◌, inl}
+use Rattle.std.proofs.Common.{◌≡◌, ◌∙◌, inl, inr}
 use Rattle.bd_check.specs.Fault.{fault_view}
 use Rattle.bd_files.specs.Output.{fault_text}
 use Rattle.bd_files.proofs.dump_and_check.tell_walk.Goals as goal
@@ -11,6 +11,9 @@ returns-in-Ok g c =
     let fault = c.in-Faulty.fault in
     let text : c.deref.result.now ≡ fault_text fault.document (fault_view fault) = c.deref.ensures.value ∙ c.in-Ok.ensures in
     inl (rw c.in-Faulty.is (rw (c.from-count.ensures, text) at c.tell_end-in-Ok.ensures))
+
+pub returns-in-Err : goal.returns-in-Err
+returns-in-Err g c = inr (c.in-Faulty.fault, c.in-Faulty.is, c.tell_no_memory.ensures)
 
 pub returns-in-Unread : goal.returns-in-Unread
 returns-in-Unread g c = inl (rw c.in-Unread.is (rw (c.from-count.ensures, c.words_of.ensures) at c.tell_end-in-Unread.ensures))

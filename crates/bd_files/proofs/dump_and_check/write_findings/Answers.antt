@@ -1,14 +1,16 @@
-use Rattle.std.proofs.Common.{ℕ, List, ◌++◌, codes, decimal}
+use Rattle.std.proofs.Common.{ℕ, List, ◌++◌, decimal}
 use Rattle.std.specs.Prelude.{option_map}
-use Rattle.bd_files.specs.{Output.read_words, Output.wrong_line, declared.dump_and_check.Findings.Findings}
+use Rattle.bd_device.specs.Devices.{read_words}
+use Rattle.bd_files.specs.{Output.wrong_line, declared.dump_and_check.Findings.Findings}
+use Rattle.bd_files.specs.declared.dump_and_check.TheConstants.{DOCUMENTS, FAULTY}
 use Rattle.bd_files.proofs.OutputLemmas.{breaks_first, on_err, second_err, second_ok}
 use Rattle.bd_files.proofs.dump_and_check.write_findings.Goals as goal
 
 abbrev first : Findings → List ℕ
-first f = wrong_line (option_map read_words f.unread) ++ (decimal f.documents ++ codes " documents, ")
+first f = wrong_line (option_map read_words f.unread) ++ (decimal f.documents ++ DOCUMENTS.now)
 
 abbrev second : Findings → List ℕ
-second f = decimal f.faulty ++ codes " faulty\n"
+second f = decimal f.faulty ++ FAULTY.now
 
 pub returns-in_err-write_end-clause-err : goal.returns-in_err-write_end-clause-err
 returns-in_err-write_end-clause-err g c =

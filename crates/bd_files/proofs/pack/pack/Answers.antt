@@ -1,5 +1,6 @@
 use Rattle.std.proofs.Common.{Ok, Err, refl}
-use Rattle.bd_files.specs.Output.{read_words, shown_refusal}
+use Rattle.bd_device.specs.Devices.{read_words}
+use Rattle.bd_files.specs.Output.{shown_refusal}
 use Rattle.bd_files.proofs.DumpLemmas as runs
 use Rattle.bd_files.proofs.pack.pack.Goals as goal
 

@@ -1,8 +1,8 @@
 use Rattle.std.proofs.Common.{Ok, Err, [], List, ℕ, refl, inl, inr, subst}
 use Rattle.bd_find.specs.Asking.{page_request_of}
-use Rattle.bd_files.specs.Output.{TellsMessage, error_line, read_words, shown_refusal}
+use Rattle.bd_files.specs.Output.{TellsMessage, error_line, shown_refusal}
 use Rattle.bd_files.specs.declared.output.Status.TheVariants.{Failed}
-use Rattle.bd_device.specs.Devices.{no_read, over}
+use Rattle.bd_device.specs.Devices.{no_read, over, read_words}
 use Rattle.bd_files.proofs.DumpLemmas as runs
 use Rattle.bd_find.proofs.FindLemmas as finds
 use Rattle.bd_find.proofs.find.find.Goals as goal

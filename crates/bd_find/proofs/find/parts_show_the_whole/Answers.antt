@@ -1,4 +1,4 @@
-use Rattle.bd_find.proofs.PartsLemmas.{lines_packed, parts_joined, parts_show}
+use Rattle.bd_find.proofs.PartsLemmas.{joined_of, pack_from, parts_joined, parts_show}
 use Rattle.bd_find.proofs.find.parts_show_the_whole.Goals as goal
 
 pub returns-clause-shown : goal.returns-clause-shown
@@ -8,4 +8,4 @@ pub returns-clause-joined : goal.returns-clause-joined
 returns-clause-joined c = parts_joined
 
 pub returns-clause-packed : goal.returns-clause-packed
-returns-clause-packed c = lines_packed
+returns-clause-packed c = λ ds back. (pack_from ds 1 back, joined_of ds back)
