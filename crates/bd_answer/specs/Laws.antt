@@ -5,8 +5,7 @@ use Rattle.std.specs.{declared.cmp.Ordering.Ordering, Cmp.IsTotalOrder, Option.o
 use Rattle.std.specs.List.{AllPairs, filter_map, flat_map, zip}
 use Rattle.bd_answer.specs.Answer.{Selection, Mark, answer, batches, rest}
 use Rattle.bd_answer.specs.Session.{Call, GivenBatch, Query, Reply, State, gave, greatest_size, kill_call, most_given}
-use Rattle.bd_answer.specs.Session.{next_call, reply}
-use Rattle.bd_answer.specs.Session.{state_after}
+use Rattle.bd_answer.specs.Session.{next_call, reply, state_after}
 
 pub record IsStrictOrder (lt : ℕ → ℕ → Bool) : Type 0 where
   pub irreflexive : (x : ℕ) → lt x x ≡ false
@@ -17,16 +16,16 @@ pub record IsStrictOrder (lt : ℕ → ℕ → Bool) : Type 0 where
 abbrev pub IsAscending : (ℕ → ℕ → Bool) → List ℕ → Type 0
 IsAscending lt = AllPairs (λ x y. lt x y ≡ true)
 
--- a mark after k places of a list, of which some were given before; the count of those given stays at its greatest
--- value
+-- a mark after k places of a list, of which some were given before;
+-- the count of those given stays at its greatest value
 abbrev pub IsMarkAfter : ℕ → ℕ → ℕ → List ℕ → Mark → Type 0
 IsMarkAfter most old k ps m =
     (0 < k) × (k ≤ length ps) × (m.given ≡ min most (old + k)) × ((d : ℕ) → m.last ≡ slice_index_or ps (k - 1) d)
 
 -- ---- parts
 
--- what is asked of documents: which match, how the sort keys of two of them stand, how many of the first are left out,
--- and how many there are at most, where 0 is no limit
+-- what is asked of documents: which match, how the sort keys of two of them stand,
+-- how many of the first are left out, and how many there are at most, where 0 is no limit
 pub record DocumentRequest (A : Type 0) : Type 0 where
   pub matches : A → Bool
   pub by : A → A → Ordering
@@ -55,8 +54,8 @@ found_in r ds = filter_map (slice_get ds) (answer (selection_over r ds))
 abbrev pub part_request : {A : Type 0} → DocumentRequest A → ℕ → DocumentRequest A
 part_request r limit = record r { skip = 0; limit = limit }
 
--- a part's limit is enough where it is none, or where the request has one, and skip and limit together are within the
--- part's
+-- a part's limit is enough where it is none, or where the request has one,
+-- and skip and limit together are within the part's
 abbrev pub IsEnough : {A : Type 0} → DocumentRequest A → ℕ → Type 0
 IsEnough r limit = limit ≢ 0 → (r.limit ≢ 0) × (r.skip + r.limit ≤ limit)
 

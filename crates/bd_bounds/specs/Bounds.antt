@@ -10,8 +10,8 @@ use Rattle.bd_value.specs.declared.node.Kind.TheVariants as kinds
 use Rattle.bd_value.specs.declared.node.Class.TheVariants as classes
 use Rattle.bd_path.specs.Reach.{Names}
 use Rattle.bd_filter.specs.Filter.{Filter, all_of, some_of, none_of, at_path, Filters, no_filters, filter, Operator}
-use Rattle.bd_filter.specs.Filter.{equals, compares, is_in, has_all, has_type, has_size}
-use Rattle.bd_filter.specs.Filter.{exists, negates, has_element, has_document, Operators, no_operators, operator}
+use Rattle.bd_filter.specs.Filter.{equals, compares, is_in, has_all, has_type, has_size, exists, negates, has_element}
+use Rattle.bd_filter.specs.Filter.{has_document, Operators, no_operators, operator}
 use Rattle.bd_filter.specs.{FilterMatch.is_array, FilterMatch.is_related, Word.is_kind}
 
 -- ---- sets of keys

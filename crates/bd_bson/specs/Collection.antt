@@ -20,8 +20,8 @@ pub record IsFirstFault (bytes : List ℕ) (e : Fault) : Type 0 where
   pub fails : FailsAfter before (fault_view e) bytes
   pub document : e.document ≡ length before
 
--- why bytes were not read as a dump: too many, which is tried first, or out of memory, or the first document with a
--- fault
+-- why bytes were not read as a dump: too many, which is tried first,
+-- or out of memory, or the first document with a fault
 abbrev pub IsUnread : List ℕ → Fault → Type 0
 IsUnread bytes e = ((longest_input < length bytes) × HasNoPlace FaultKind.DumpTooLong e)
     ⊎ ((length bytes ≤ longest_input) × (IsWantOfMemory e ⊎ IsFirstFault bytes e))

@@ -11,8 +11,8 @@ verdicts_by first after (Ok None) = []
 verdicts_by first after (Ok (Some n)) = first ∷ after n
 verdicts_by first after (Err kind) = first ∷ []
 
--- The verdicts on bytes that begin at the place. The first number bounds the turns: the count of the bytes is always
--- enough.
+-- The verdicts on bytes that begin at the place.
+-- The first number bounds the turns: the count of the bytes is always enough.
 unfoldable pub verdicts_from : ℕ → ℕ → List ℕ → List (Option Fault)
 verdicts_from zero base bytes = []
 verdicts_from (suc turns) base bytes =

@@ -1,8 +1,8 @@
 -- A fault: which check failed first, at which byte, and the names from the top to the item.
 use Rattle.std.specs.Prelude.{◌≡◌, ◌⊎◌, ℕ, List, [], ◌∷◌, map, reverse, Option, Some, None, Result, Ok, Err}
 use Rattle.std.specs.Prelude.{string_bytes, get_or, ◌-◌, MatchResult}
-use Rattle.bd_check.specs.declared.fault.{Fault.Fault as HeldFault, Finding.Finding, FaultKind.FaultKind}
-use Rattle.bd_check.specs.declared.fault.{Stop.Stop, TheConstants.WORDS}
+use Rattle.bd_check.specs.declared.fault.{Fault.Fault as HeldFault, Finding.Finding, FaultKind.FaultKind, Stop.Stop}
+use Rattle.bd_check.specs.declared.fault.{TheConstants.WORDS}
 
 pub record Fault : Type 0 where
   pub kind : FaultKind

@@ -1,9 +1,9 @@
 -- The first check that fails, from left to right, in bytes that are to be one document. No tree is built.
 -- Each function goes past one item at the front of its bytes, and gives the bytes after it or the fault.
 -- e is the place that the item may not pass, and the bytes are those up to it: the item stands at e less their number.
-use Rattle.std.specs.Prelude.{ℕ, zero, suc, ◌+◌, ◌-◌, List, [], ◌∷◌, length, take, drop, Option, Some, None}
-use Rattle.std.specs.Prelude.{option_map, Result, Ok, Err, Bool, true, false, nat_lt, ◌==◌, ◌||◌, ◌&&◌, not}
-use Rattle.std.specs.Prelude.{if◌then◌else◌, decimal, codes, slice_index_or}
+use Rattle.std.specs.Prelude.{ℕ, zero, suc, ◌+◌, ◌-◌, List, [], ◌∷◌, length, take, drop, Option, Some, None, option_map}
+use Rattle.std.specs.Prelude.{Result, Ok, Err, Bool, true, false, nat_lt, ◌==◌, ◌||◌, ◌&&◌, not, if◌then◌else◌, decimal}
+use Rattle.std.specs.Prelude.{codes, slice_index_or}
 use Rattle.std.specs.{List.position, Option.ok_or, Option.option_map_or, Result.result_err, Str.is_utf8}
 use Rattle.std.specs.{Str.Lossy.utf8_valid_len, Int.w32, Int.from_le_bytes}
 use Rattle.bd_value.specs.{Limits.longest_document, Limits.most_levels, declared.node.Kind.Kind}

@@ -36,8 +36,8 @@ pub record ServesNothing {C : Type 0} (old new : C) (out err : Over Writer) (sta
   pub silent : out.after ≡ out.before
   pub told : TellsMessage err (error_line message) Failed status
 
--- of the reader of the commands, which of its reads may give what, its first state and its last one, and what was
--- written
+-- of the reader of the commands, which of its reads may give what,
+-- its first state and its last one, and what was written
 module _ {C : Type 0} (state : C → Reader) (gives : C → Option (List ℕ) → C → Type 0) (old new : C)
     (out err : Over Writer) (status : Status) where
   -- over a dump of these bytes, which are these documents, each command had its reply, and nothing is told
@@ -46,8 +46,8 @@ module _ {C : Type 0} (state : C → Reader) (gives : C → Option (List ℕ) �
       (t : State) × ServesAll state gives (RepliesInText bytes ds) command_limits old new out new_state t
       × (err.after ≡ err.before) × (status ≡ Done)
 
-  -- Or the commands before a fault had theirs, and the fault is told. There are never too many reads: each but the last
-  -- gives a byte.
+  -- Or the commands before a fault had theirs, and the fault is told.
+  -- There are never too many reads: each but the last gives a byte.
   abbrev pub ServesToAFault : List ℕ → List Doc → Type 0
   ServesToAFault bytes ds = (t : State) × (fault : ServeFault) × (fault ≢ faults.Unread reads.TooManyTurns)
       × StopsServing state gives (RepliesInText bytes ds) command_limits old new out new_state t IsKept fault

@@ -47,8 +47,7 @@ find_tree f = record {
   sort = pairs f.sort;
   skip = f.skip;
   limit = f.limit;
-  hint =
-      hint_tree f.hint;
+  hint = hint_tree f.hint;
 }
 
 abbrev pub command_tree : HeldCommand → Command

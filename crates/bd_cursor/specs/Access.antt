@@ -1,5 +1,5 @@
--- How the documents of an answer are reached, by which index or without one: its access path, and that one in hand
--- leads to them.
+-- How the documents of an answer are reached, by which index or without one:
+-- its access path, and that one in hand leads to them.
 use Rattle.std.specs.Prelude.{ℕ, Bool, false, ◌&&◌, not, List, [], ◌∷◌, string_bytes, Option, Some, None, if◌then◌else◌}
 use Rattle.std.specs.Prelude.{◌≡◌}
 use Rattle.std.specs.{Str.bytes_eq, Cmp.Lexicographic.pointwise}
@@ -73,8 +73,8 @@ abbrev pub first_walked : List SortPath → List IndexMark → AccessPath → Ac
 first_walked ss [] other = other
 first_walked ss (i ∷ is) other = walk_or i (walk_dir i ss) (first_walked ss is other)
 
--- by an index that is named: by its bounds, else in its order, else by all of its entries, which a sparse one does not
--- have
+-- by an index that is named: by its bounds, else in its order,
+-- else by all of its entries, which a sparse one does not have
 abbrev pub named_access : List Doc → Filter → List SortPath → IndexMark → AccessPath
 named_access ds f ss i = bounded_or i (serving_bounds i (mark_bounds ds f i))
     (if i.is_sparse then scanned else walk_or i (walk_dir i ss) (bounded i None))
@@ -96,8 +96,8 @@ access_path ways.Scan = scanned
 access_path (ways.Bounded index bounds) = bounded (index_mark index.now) (seen_bounds bounds)
 access_path (ways.Walk index dir) = walked (index_mark index.now) dir
 
--- bounds that the filter gives to the index, with null outside where it is sparse; or none, in an index that is not
--- sparse
+-- bounds that the filter gives to the index, with null outside where it is sparse;
+-- or none, in an index that is not sparse
 abbrev pub ServesFilter : Filter → Names → Bool → Bool → KeyBounds → Type 0
 ServesFilter f path multikey sparse None = sparse ≡ false
 ServesFilter f path multikey sparse (Some keys) =

@@ -36,8 +36,9 @@ plan_name plans.Scan = codes "scan"
 plan_name plans.Index = codes "index"
 plan_name plans.Walk = codes "walk"
 
--- what is told, as the pairs of a document: the plan, the path of the index, the entries that are read, the documents
--- that are looked at, and those that match
+-- what is told, as the pairs of a document:
+-- the plan, the path of the index, the entries that are read, the documents that are
+-- looked at, and those that match
 abbrev pub explanation : Plan → Option (List ℕ) → ℕ → ℕ → ℕ → Doc
 explanation plan index entries documents matches =
     (codes "plan", leaf (trees.text (plan_name plan))) ∷ (codes "index", text_or_null index)

@@ -5,18 +5,16 @@ use Rattle.std.specs.List.{cons_option, filter, range_with_len}
 use Rattle.bd_value.specs.Tree.{Doc}
 use Rattle.bd_answer.specs.Answer.{Selection, Mark, at_most}
 use Rattle.bd_answer.specs.Session.{left_after, open_reply, Query, Call, GivenBatch, IndexMark, MarkedToken, OpenCursor}
-use Rattle.bd_answer.specs.Session.{Reply, State, changed_by, explain_call}
-use Rattle.bd_answer.specs.Session.{make_call, reply, state_after, with_open, explained, foreign_token, gave}
-use Rattle.bd_answer.specs.Session.{index_there, made, no_cursor, no_index, opened}
+use Rattle.bd_answer.specs.Session.{Reply, State, changed_by, explain_call, make_call, reply, state_after, with_open}
+use Rattle.bd_answer.specs.Session.{explained, foreign_token, gave, index_there, made, no_cursor, no_index, opened}
 use Rattle.bd_answer.specs.Session.{out_of_range, token_place, too_many_cursors, too_many_indexes}
 use Rattle.bd_bson.specs.{declared.collection.Dump.Dump, Collection.documents}
 use Rattle.bd_filter.specs.{Filter.filter_tree, declared.filter.Filter.Filter}
 use Rattle.bd_sort.specs.Selection.{hits_of, query_of}
 use Rattle.bd_cursor.specs.{declared.cursor.ScanPosition.ScanPosition, Access.Way, Access.by_one, Access.way_of}
-use Rattle.bd_cursor.specs.{Access.index_mark}
-use Rattle.bd_cursor.specs.{Explanation.explanation_of, Explanation.index_counts, declared.access.Choice.Choice}
-use Rattle.bd_cursor.specs.{declared.cursor.Cursor.Cursor, declared.cursor.Remainder.Remainder}
-use Rattle.bd_cursor.specs.{declared.session.Session.Session}
+use Rattle.bd_cursor.specs.{Access.index_mark, Explanation.explanation_of, Explanation.index_counts}
+use Rattle.bd_cursor.specs.{declared.access.Choice.Choice, declared.cursor.Cursor.Cursor}
+use Rattle.bd_cursor.specs.{declared.cursor.Remainder.Remainder, declared.session.Session.Session}
 use Rattle.bd_path.specs.declared.path.Path.{Path}
 use Rattle.bd_request.specs.{declared.request.Request.Request, declared.results.Batch.Batch}
 use Rattle.bd_request.specs.{declared.results.Refused.Refused, declared.token.Token.Token}
@@ -29,8 +27,9 @@ mark_of t = record { given = t.given; last = t.last }
 abbrev pub marked_token : Token → MarkedToken
 marked_token t = record { mark = mark_of t; digest = t.digest }
 
--- what a cursor that goes on where it stands has left: the match that it found, and those among the documents that it
--- did not look at
+-- what a cursor that goes on where it stands has left:
+-- the match that it found, and those among the documents that it did
+-- not look at
 abbrev pub scan_left : ℕ → (ℕ → Bool) → ScanPosition → List ℕ
 scan_left count hits a =
     at_most a.most (cons_option a.found (drop a.skip (filter hits (range_with_len a.next (count - a.next)))))

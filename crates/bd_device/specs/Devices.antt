@@ -89,8 +89,8 @@ pub data AreReads {S : Type 0} (gives : S → Option (List ℕ) → S → Type 0
       → gives t (Some part) u → 0 < length part → AreReads gives (suc n) s (front ++ part) u
 
 -- writes in a row led from one device to the other; each was of all that was left of the bytes and took some of them
-pub data AreWrites {S : Type 0} (takes : S → List ℕ → Option ℕ → S → Type 0) (bytes : List ℕ) : S → List ℕ → S →
-    Type 0 where
+pub data AreWrites {S : Type 0} (takes : S → List ℕ → Option ℕ → S → Type 0)
+    (bytes : List ℕ) : S → List ℕ → S → Type 0 where
   no_write : (s : S) → AreWrites takes bytes s bytes s
   more_writes : (s t u : S) (rest : List ℕ) (n : ℕ) → AreWrites takes bytes s rest t
       → takes t rest (Some n) u → 0 < n → AreWrites takes bytes s (drop n rest) u

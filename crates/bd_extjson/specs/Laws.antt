@@ -1,5 +1,6 @@
--- Documents that their canonical text determines. An Int32 is printed as a document whose first name is $numberInt, so
--- a document that has that name first can look like one.
+-- Documents that their canonical text determines.
+-- An Int32 is printed as a document whose first name is $numberInt,
+-- so a document that has that name first can look like one.
 use Rattle.std.specs.Prelude.{◌≡◌, None}
 use Rattle.bd_value.specs.Tree.{Tree, leaf, doc, array, code_scope, Items, no_items, item, Fields, no_fields, field}
 use Rattle.bd_wrapper.specs.Wrapper.{wrapper_of}

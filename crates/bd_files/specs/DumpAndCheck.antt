@@ -12,9 +12,8 @@ use Rattle.bd_check.specs.Dump.{AreJoined, IsWalk, frame_fault, frame_length}
 use Rattle.bd_stream.specs.Stream.{AreFrames, IsCut, IsFrame}
 use Rattle.bd_bson.specs.Verdicts.{verdicts}
 use Rattle.bd_files.specs.{declared.dump_and_check.Ending.Ending, declared.dump_and_check.Walk.Walk}
-use Rattle.bd_files.specs.{declared.output.OutputFault.OutputFault}
-use Rattle.bd_files.specs.{declared.output.Status.Status, declared.dump_and_check.Findings.Findings}
-use Rattle.bd_files.specs.{declared.output.OutputFault.TheVariants.NoMemory}
+use Rattle.bd_files.specs.{declared.output.OutputFault.OutputFault, declared.output.Status.Status}
+use Rattle.bd_files.specs.{declared.dump_and_check.Findings.Findings, declared.output.OutputFault.TheVariants.NoMemory}
 use Rattle.bd_files.specs.{declared.output.OutputFault.TheVariants.Unwritten, declared.output.Status.TheVariants.Done}
 use Rattle.bd_files.specs.{declared.output.Status.TheVariants.Failed}
 use Rattle.bd_files.specs.declared.dump_and_check.TheConstants.{DOCUMENTS, FAULTY, OBJECTS_FOUND}
@@ -28,8 +27,8 @@ use Rattle.bd_files.specs.declared.dump_and_check.Ending.TheVariants as endings
 abbrev pub shown_dump : List Doc → Option (List ℕ) → Transcript
 shown_dump ds wrong = shown_before (lines ds) wrong (decimal (length ds) ++ OBJECTS_FOUND.now)
 
--- what `dump` shows of all bytes of an input, or of those before a failed read: whole documents and the beginning of
--- one more
+-- what `dump` shows of all bytes of an input, or of those before a failed read:
+-- whole documents and the beginning of one more
 abbrev pub IsShownByDump : List ℕ → Option ReadFault → Transcript → Type 0
 IsShownByDump bytes None shown =
     (ds : List Doc) × (end : Option Fault) × IsWalk ds end bytes
@@ -43,8 +42,8 @@ IsShownByDump bytes (Some fault) shown =
 abbrev pub DumpsWhole : Over Reader → Over Writer → Transcript → Type 0
 DumpsWhole file out shown = (bytes : List ℕ) × (fault : Option ReadFault) × StreamsInput file bytes fault
     × IsShownByDump bytes fault shown × TakesText out shown.out
-    × (fault ≡ None → (ds : List Doc) × (front : List ℕ) × (rest : List ℕ) × AreJoined ds front
-    × (bytes ≡ front ++ rest)
+    × (fault ≡ None → (ds : List Doc) × (front : List ℕ) × (rest : List ℕ)
+    × AreJoined ds front × (bytes ≡ front ++ rest)
     × ((rest ≡ []) ⊎ ((f : Fault) × (frame_fault (length front) rest ≡ Some f))) × StopsWithinOne front file)
 
 -- the reader gave these documents and no byte after them, and standard output broke in the line of the last of them
@@ -53,8 +52,8 @@ BreaksAtDocument file out = (ds : List Doc) × (d : Doc) × (given : List ℕ) �
     × Consumes file.before.left file.after.left given × (file.after.failures ≡ file.before.failures)
     × BreaksAfter out (lines ds) (lines (d ∷ []))
 
--- memory ran out after the lines of these documents: the reader gave them and no byte past the next one, and no read
--- failed
+-- memory ran out after the lines of these documents:
+-- the reader gave them and no byte past the next one, and no read failed
 abbrev pub StarvesAfterDocuments : Over Reader → Over Writer → Type 0
 StarvesAfterDocuments file out = (ds : List Doc) × (given : List ℕ) × AreJoined ds given × StopsWithinOne given file
     × (file.after.failures ≡ file.before.failures) × TakesText out (lines ds)
@@ -75,8 +74,8 @@ abbrev pub verdict_lines : ℕ → List (Option Fault) → List ℕ
 verdict_lines number [] = []
 verdict_lines number (v ∷ vs) = verdict_line number v ++ verdict_lines (suc number) vs
 
--- why no more of the input was read, where that is so, and how many documents there are and how many of them have a
--- fault
+-- why no more of the input was read, where that is so,
+-- and how many documents there are and how many of them have a fault
 abbrev pub check_message : Option ReadFault → ℕ → ℕ → List ℕ
 check_message unread documents faulty =
     (wrong_line (option_map read_words unread) ++ (decimal documents ++ DOCUMENTS.now))
@@ -86,8 +85,8 @@ abbrev pub check_status : Option ReadFault → ℕ → Status
 check_status None zero = Done
 check_status _ faulty = Failed
 
--- what is shown of the documents, or of those before a read that failed: a line for each that has a fault, and the
--- message
+-- what is shown of the documents, or of those before a read that failed:
+-- a line for each that has a fault, and the message
 abbrev pub shown_check : List (Option Fault) → Option ReadFault → Transcript
 shown_check vs unread = record {
   out = verdict_lines 0 vs;
@@ -95,8 +94,8 @@ shown_check vs unread = record {
   status = check_status unread (count_by is_some vs);
 }
 
--- the verdicts on all bytes of an input, or on those before a failed read: documents by length and the beginning of one
--- more
+-- the verdicts on all bytes of an input, or on those before a failed read:
+-- documents by length and the beginning of one more
 abbrev pub AreVerdicts : List ℕ → Option ReadFault → List (Option Fault) → Type 0
 AreVerdicts bytes None vs = vs ≡ verdicts bytes
 AreVerdicts bytes (Some fault) vs =

@@ -72,8 +72,9 @@ abbrev pub TellsMessage : Over Writer → List ℕ → Status → Status → Typ
 TellsMessage err message wanted status =
     (TakesText err message × (status ≡ wanted)) ⊎ (BreaksWithin err message × (status ≡ Failed))
 
--- Standard output is as the first tells, and standard error has what belongs to it. Or a write to standard output
--- failed, as the second tells, or memory ran out, as the third tells, and standard error says so.
+-- Standard output is as the first tells, and standard error has what belongs to it.
+-- Or a write to standard output failed, as the second tells,
+-- or memory ran out, as the third tells, and standard error says so.
 abbrev pub TellsEnd : Type 0 → Type 0 → Type 0 → Over Writer → Transcript → Status → Type 0
 TellsEnd Whole Broke Starved err shown status = (Whole × TellsMessage err shown.err shown.status status)
     ⊎ (Broke × TellsMessage err (error_line (codes "cannot write")) Failed status)

@@ -15,8 +15,8 @@ use Rattle.bd_files.specs.Output.{PrintsInput, StopsWithin, Transcript, shown_be
 use Rattle.bd_diagnose.specs.declared.json_fault.JsonFaultKind.TheVariants as kinds
 use Rattle.bd_pack.specs.declared.line.LineFault.TheVariants as faults
 
--- of lines, the first of which has that number, the documents before the first bad one, and that one; blank ones are
--- passed over
+-- of lines, the first of which has that number, the documents before the first bad one, and that one;
+-- blank ones are passed over
 abbrev pub PacksLines : ℕ → List (List ℕ) → List Doc → Option BadLine → Type 0
 PacksLines number [] ds bad = (ds ≡ []) × (bad ≡ None)
 PacksLines number (line ∷ lines) ds bad = (IsTrue (is_empty_line line) × PacksLines (suc number) lines ds bad)

@@ -1,6 +1,6 @@
 -- Which pairs and members of a document break a rule of filters (MongoDB manual, "Query and Projection Operators"), and
--- where. Nothing is read in turn: each is bad or not, whatever stands before it. `FilterOf` says what one operand may
--- be.
+-- where. Nothing is read in turn: each is bad or not, whatever stands before it.
+-- `FilterOf` says what one operand may be.
 use Rattle.std.specs.Prelude.{◌≡◌, ◌⊎◌, ℕ, zero, ◌+◌, ◌-◌, List, [], Err, is_err, decimal, IsTrue, IsFalse}
 use Rattle.bd_value.specs.Limits.{most_filter_levels}
 use Rattle.bd_value.specs.Tree.{Tree, doc, array, Items, no_items, item, Fields, no_fields, field, Doc, fields_of}

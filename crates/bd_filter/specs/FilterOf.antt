@@ -11,8 +11,8 @@ use Rattle.bd_path.specs.{Reach.Names, Path.path_of, declared.path.PathFault.Pat
 use Rattle.bd_filter.specs.Fault.{Refusal, deeper, refuse}
 use Rattle.bd_filter.specs.declared.filter_of.{LogicalOperator.LogicalOperator, PlainOperator.PlainOperator, Word.Word}
 use Rattle.bd_filter.specs.Filter.{Filter, all_of, some_of, none_of, at_path, filters_from, Operator, equals, compares}
-use Rattle.bd_filter.specs.Filter.{is_in, has_all, has_type, has_size, exists}
-use Rattle.bd_filter.specs.Filter.{negates, has_element, has_document, negation_of, operators_from}
+use Rattle.bd_filter.specs.Filter.{is_in, has_all, has_type, has_size, exists, negates, has_element, has_document}
+use Rattle.bd_filter.specs.Filter.{negation_of, operators_from}
 use Rattle.bd_filter.specs.Word.{begins_with_dollar, kinds_named, kinds_numbered, word_of}
 use Rattle.bd_filter.specs.declared.fault.FilterFaultKind.TheVariants as faults
 use Rattle.bd_filter.specs.declared.filter_of.LogicalOperator.TheVariants as logical

@@ -33,12 +33,12 @@ query_operators =
 -- the operators of the manual that are left out, and the names of a DBRef
 abbrev pub left_out_names : List (List ℕ)
 left_out_names =
-    codes "$regex" ∷ codes "$options" ∷ codes "$mod" ∷ codes "$expr" ∷ codes "$where" ∷ codes "$text"
-    ∷ codes "$jsonSchema"
-    ∷ codes "$comment" ∷ codes "$geoWithin" ∷ codes "$geoIntersects" ∷ codes "$near" ∷ codes "$nearSphere"
-    ∷ codes "$bitsAllSet"
-    ∷ codes "$bitsAnySet" ∷ codes "$bitsAllClear" ∷ codes "$bitsAnyClear" ∷ codes "$ref" ∷ codes "$id" ∷ codes "$db"
-    ∷ []
+    codes "$regex" ∷ codes "$options" ∷ codes "$mod" ∷ codes "$expr" ∷ codes "$where"
+    ∷ codes "$text" ∷ codes "$jsonSchema"
+    ∷ codes "$comment" ∷ codes "$geoWithin" ∷ codes "$geoIntersects" ∷ codes "$near"
+    ∷ codes "$nearSphere" ∷ codes "$bitsAllSet"
+    ∷ codes "$bitsAnySet" ∷ codes "$bitsAllClear" ∷ codes "$bitsAnyClear" ∷ codes "$ref"
+    ∷ codes "$id" ∷ codes "$db" ∷ []
 
 unfoldable pub is_left_out : List ℕ → Bool
 is_left_out name = list_any (λ left_out. bytes_eq left_out name) left_out_names

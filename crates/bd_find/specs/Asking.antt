@@ -69,8 +69,8 @@ abbrev pub after_part : Option (List ℕ) → Result (Option Token) Reason
 after_part None = Ok None
 after_part (Some text) = then_part (token_part text) (λ t. Ok (Some t))
 
--- What a query and a sort that are documents ask for, or the message of what is refused first: the request, the size of
--- a batch, the path of the index, the token. Which index is named changes nothing else.
+-- What a query and a sort that are documents ask for, or the message of what is refused first:
+-- the request, the size of a batch, the path of the index, the token. Which index is named changes nothing else.
 abbrev pub page_of : FindWords → Doc → Doc → Result PageRequest (List ℕ)
 page_of words query sort =
     then_part (told_as refused_text (request_of query sort words.skip words.limit)) (λ request.
@@ -79,15 +79,15 @@ page_of words query sort =
     then_part (told_as refused_text (after_part words.after)) (λ token.
     Ok (record { request = request; batch = words.batch; token = token })))))
 
--- A part gives a value, for which what comes after it counts, or it is refused with a message, and then none of that
--- counts.
-abbrev pub IsRefusedOr : {Given : Type 0} → (List ℕ → Type 0) → (Result Given (List ℕ) → Type 0) → (Given → Type 0) →
-    Type 0
+-- A part gives a value, for which what comes after it counts,
+-- or it is refused with a message, and then none of that counts.
+abbrev pub IsRefusedOr : {Given : Type 0} → (List ℕ → Type 0) →
+    (Result Given (List ℕ) → Type 0) → (Given → Type 0) → Type 0
 IsRefusedOr {Given} IsRefused IsPart IsRest = ((message : List ℕ) × IsPart (Err message) × IsRefused message)
     ⊎ ((given : Given) × IsPart (Ok given) × IsRest given)
 
--- what the words ask for, or the message of what is refused first: the text of the query, that of the sort, and then
--- the rest
+-- what the words ask for, or the message of what is refused first:
+-- the text of the query, that of the sort, and then the rest
 abbrev pub AsksInWords : FindWords → Result PageRequest (List ℕ) → Type 0
 AsksInWords words asked = IsRefusedOr (λ message. asked ≡ Err message) (ReadsText (codes "query") words.query) (λ query.
     IsRefusedOr (λ message. asked ≡ Err message) (ReadsText (codes "sort") words.sort) (λ sort.

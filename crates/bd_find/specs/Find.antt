@@ -26,8 +26,8 @@ use Rattle.bd_filter.specs.{Filter.Filter, FilterMatch.matches}
 use Rattle.bd_pack.specs.Packable.{IsPackable}
 use Rattle.bd_request.specs.declared.results.Refused.TheVariants as reasons
 
--- The places that are asked for: without a token the whole answer; or what follows a token of this dump and this
--- request. The digest is looked at first, then the place.
+-- The places that are asked for: without a token the whole answer;
+-- or what follows a token of this dump and this request. The digest is looked at first, then the place.
 abbrev pub places_from : Query → Option Token → Result (List ℕ) Reason
 places_from q None = Ok (answer q.selection)
 places_from q (Some t) = if bytes_eq t.digest q.digest
@@ -113,8 +113,9 @@ abbrev pub IsShownByFind : FindWords → Result (List ℕ) ReadFault → Transcr
 IsShownByFind words input shown =
     (asked : Result PageRequest (List ℕ)) × AsksInWords words asked × IsShownOf asked input shown
 
--- Memory ran out before the input was read; or the input was read, once no word is refused, and what is to be shown of
--- the words and of it was shown.
+-- Memory ran out before the input was read;
+-- or the input was read, once no word is refused, and what is to be shown of the words
+-- and of it was shown.
 abbrev pub FindsDocuments : FindWords → Over Reader → Over Writer → Over Writer → Status → Type 0
 FindsDocuments words file out err status =
     ((file.after ≡ file.before) × (out.after ≡ out.before)

@@ -23,8 +23,9 @@ pub record Breaks {D : Type 0} (o : Output D) (old : D) (bytes : List ℕ) (new 
       × (bytes ≡ taken ++ (text ++ later)) × AreTaken o.write_takes old taken last × (text ≢ [])
       × (o.write_takes last text None new ⊎ o.write_takes last text (Some 0) new)
 
--- These bytes were written, and no write of the device failed: what it took meanwhile, joined with what waits, is what
--- waited before, joined with these bytes.
+-- These bytes were written, and no write of the device failed:
+-- what it took meanwhile, joined with what waits, is what waited
+-- before, joined with these bytes.
 abbrev pub Gathers : {D : Type 0} (o : Output D) → Gathering D o → List ℕ → Gathering D o → Type 0
 Gathers o old bytes new = (handed : List ℕ) × (old.waiting.items ++ bytes ≡ handed ++ new.waiting.items)
     × TakesAllBytes o old.device handed new.device

@@ -32,8 +32,9 @@ module _ {R : Type 0} (gives : R → Option (List ℕ) → R → Type 0) where
   IsLazy head given old new =
       ((given ≡ []) × (new ≡ old)) ⊎ ((front : List ℕ) × IsLine (head ++ front) × GivesBeforeLast front old given new)
 
-  -- Why the line that these bytes begin was not read, where a reader gave `given` and may give as many bytes as the
-  -- limit. `TooLong`: the line is too long; or the last read, while a part of the line was there, went past the limit.
+  -- Why the line that these bytes begin was not read,
+  -- where a reader gave `given` and may give as many bytes as the limit.
+  -- `TooLong`: the line is too long; or the last read, while a part of the line was there, went past the limit.
   abbrev pub IsCause : ℕ → List ℕ → List ℕ → R → R → ReadFault → Type 0
   IsCause limit bytes given old new ReadFault.TooLong =
       (((line : List ℕ) × (rest : List ℕ) × (bytes ≡ line ++ rest) × IsLine line × (longest < length line))

@@ -41,8 +41,8 @@ commands_of text = not_empty (text_lines text)
 abbrev pub AreWhole : List ℕ → Type 0
 AreWhole text = (text ≡ []) ⊎ ((front : List ℕ) × (text ≡ front ++ 10 ∷ []))
 
--- The text is a line, its newline and the rest. Or it is the last line, which has no newline and is not empty, at the
--- end.
+-- The text is a line, its newline and the rest.
+-- Or it is the last line, which has no newline and is not empty, at the end.
 abbrev pub IsFirstLine : List ℕ → List ℕ → List ℕ → Bool → Type 0
 IsFirstLine text line rest ended =
     IsPart line × ((text ≡ line ++ 10 ∷ rest) ⊎ ((text ≡ line) × (0 < length line) × (rest ≡ []) × (ended ≡ true)))

@@ -77,8 +77,8 @@ abbrev pub is_empty_array : Stop Tree → Bool
 is_empty_array (Value (array no_items)) = true
 is_empty_array _ = false
 
--- A key is a node where a value stands: null is for a value that is not there, and for none in a sparse index;
--- undefined is for an empty array.
+-- A key is a node where a value stands: null is for a value that is not there,
+-- and for none in a sparse index; undefined is for an empty array.
 abbrev pub IsKeyAt : {N : Type 0} → Bool → Stops → Key N → Type 0
 IsKeyAt sparse ss (Node n) = Unit {0}
 IsKeyAt sparse ss Null = (sparse ≡ false) × (list_any is_no_value ss ≡ true)

@@ -26,8 +26,9 @@ abbrev pub is_document : Tree → Bool
 is_document (doc fs) = true
 is_document _ = false
 
--- What is gathered on the way down a path: from a value at its end, where a field is missing, and of what was gathered
--- from the elements of an array.
+-- What is gathered on the way down a path:
+-- from a value at its end, where a field is missing, and of what was gathered from
+-- the elements of an array.
 pub record Gathering (A : Type 0) : Type 0 where
   pub at_end : Tree → List A
   pub missing : List A

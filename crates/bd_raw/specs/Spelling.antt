@@ -6,8 +6,7 @@ use Rattle.std.specs.Int.{w32, w64, to_le_bytes, cast_unsigned}
 use Rattle.bd_value.specs.{Limits.longest_document, Limits.most_levels, View.kind_of, declared.node.Kind.Kind}
 use Rattle.bd_value.specs.Tree as trees
 use Rattle.bd_value.specs.Tree.{Scalar, Tree, leaf, doc, array, code_scope, Items, no_items, item, Fields, no_fields}
-use Rattle.bd_value.specs.Tree.{field}
-use Rattle.bd_value.specs.Tree.{Doc, fields_of, Own, own, own_code}
+use Rattle.bd_value.specs.Tree.{field, Doc, fields_of, Own, own, own_code}
 use Rattle.bd_value.specs.declared.node.Kind.TheVariants as kinds
 use Rattle.bd_raw.specs.declared.raw_parts.ElementType.{ElementType}
 use Rattle.bd_raw.specs.declared.raw_parts.ElementType.TheVariants.{Kept, Double, Decimal128}
@@ -40,10 +39,10 @@ abbrev pub types : List (ℕ × ElementType)
 types =
     (1, Double) ∷ (2, Kept kinds.Text) ∷ (3, Kept kinds.Doc) ∷ (4, Kept kinds.Array) ∷ (5, Kept kinds.Binary)
     ∷ (6, Kept kinds.Undefined)
-    ∷ (7, Kept kinds.ObjectId) ∷ (8, Kept kinds.Bool) ∷ (9, Kept kinds.Date) ∷ (10, Kept kinds.Null)
-    ∷ (11, Kept kinds.Regex)
-    ∷ (12, Kept kinds.DbPointer) ∷ (13, Kept kinds.Code) ∷ (14, Kept kinds.Symbol) ∷ (15, Kept kinds.CodeScope)
-    ∷ (16, Kept kinds.Int32)
+    ∷ (7, Kept kinds.ObjectId) ∷ (8, Kept kinds.Bool) ∷ (9, Kept kinds.Date)
+    ∷ (10, Kept kinds.Null) ∷ (11, Kept kinds.Regex)
+    ∷ (12, Kept kinds.DbPointer) ∷ (13, Kept kinds.Code) ∷ (14, Kept kinds.Symbol)
+    ∷ (15, Kept kinds.CodeScope) ∷ (16, Kept kinds.Int32)
     ∷ (17, Kept kinds.Timestamp) ∷ (18, Kept kinds.Int64) ∷ (19, Decimal128) ∷ (127, Kept kinds.MaxKey)
     ∷ (255, Kept kinds.MinKey) ∷ []
 

@@ -1,7 +1,6 @@
 -- Bytes spell one value at most.
 use Rattle.std.specs.Prelude.{◌≡◌, ◌≢◌, ℕ, suc, ◌+◌, ◌-◌, ◌<◌, ◌^◌, ℤ, Bool, true, false, Option, Some, None, List, []}
-use Rattle.std.specs.Prelude.{◌∷◌, ◌++◌}
-use Rattle.std.specs.Prelude.{length, take, drop, FitsSigned, ◌==◌, slice_index_or, if◌then◌else◌}
+use Rattle.std.specs.Prelude.{◌∷◌, ◌++◌, length, take, drop, FitsSigned, ◌==◌, slice_index_or, if◌then◌else◌}
 use Rattle.std.specs.{List.AllByRecursion, Coded.Coded-set, Coded.coded_ℕ, Coded.coded_list}
 use Rattle.std.specs.Int.{w32, w64, from_le_bytes, cast_unsigned, cast_signed}
 use Rattle.std.proofs.Common.{refl, sym, ap, ap₂, ◌∙◌, append_assoc, arith, eqb, cond}
@@ -77,8 +76,12 @@ string_after y r = simp append_assoc
 
 pub string_length : (s : List ℕ) → length (string s) ≡ 4 + (length s + 1)
 string_length s =
-    rw (length-append (number (length s + 1)) (s ++ 0 ∷ []), number_length (length s + 1), length-append s (0 ∷ []))
-    refl
+    rw (
+      length-append (number (length s + 1)) (s ++ 0 ∷ []),
+      number_length
+          (length s + 1),
+      length-append s (0 ∷ []),
+    ) refl
 
 pub string_number : (s r : List ℕ) → length s + 1 < 2 ^ 32 → number_of (string s ++ r) ≡ length s + 1
 string_number s r lt = ap number_of (string_after s r) ∙ number_front (length s + 1) (s ++ 0 ∷ r) lt
@@ -207,8 +210,8 @@ framed_after b r = simp append_assoc
 
 bodies : (b c v w r s : List ℕ) → v ≡ framed b → w ≡ framed c → v ++ r ≡ w ++ s → b ++ 0 ∷ r ≡ c ++ 0 ∷ s
 bodies b c v w r s e f h = after_numbers (length b + 5) (length c + 5) (b ++ 0 ∷ r) (c ++ 0 ∷ s)
-    (sym (framed_after b r) ∙ ap (λ (x : List ℕ). x ++ r) (sym e) ∙ h ∙ ap (λ (x : List ℕ). x ++ s) f
-    ∙ framed_after c s)
+    (sym (framed_after b r) ∙ ap (λ (x : List ℕ). x ++ r) (sym e) ∙ h
+    ∙ ap (λ (x : List ℕ). x ++ s) f ∙ framed_after c s)
 
 codes_after : (s d r : List ℕ) → scoped s d ++ r ≡ number (length (string s ++ d) + 4) ++ (string s ++ (d ++ r))
 codes_after s d r = simp append_assoc
@@ -217,10 +220,10 @@ codes_after s d r = simp append_assoc
 same_code : (s z d e x y v w : List ℕ) → IsText s → IsText z → v ≡ scoped s d → w ≡ scoped z e
     → v ++ x ≡ w ++ y → (s ≡ z) × (d ++ x ≡ e ++ y)
 same_code s z d e x y v w p q a b h = let inside : string s ++ (d ++ x) ≡ string z ++ (e ++ y) =
-    after_numbers (length (string s ++ d) + 4) (length (string z ++ e) + 4) (string s ++ (d ++ x))
-    (string z ++ (e ++ y))
-    (sym (codes_after s d x) ∙ ap (λ (l : List ℕ). l ++ x) (sym a) ∙ h ∙ ap (λ (l : List ℕ). l ++ y) b
-    ∙ codes_after z e y) in
+    after_numbers (length (string s ++ d) + 4) (length (string z ++ e) + 4)
+    (string s ++ (d ++ x)) (string z ++ (e ++ y))
+    (sym (codes_after s d x) ∙ ap (λ (l : List ℕ). l ++ x) (sym a) ∙ h
+    ∙ ap (λ (l : List ℕ). l ++ y) b ∙ codes_after z e y) in
     let same : s ≡ z = sym (string_text s (d ++ x) p.1) ∙ ap text_of inside ∙ string_text z (e ++ y) q.1 in
     (same, cancel (string s) (string z) (d ++ x) (e ++ y) (ap string same) inside)
 

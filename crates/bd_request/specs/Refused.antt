@@ -34,8 +34,8 @@ abbrev pub reason_of : Refused → Reason
 reason_of (reasons.BadFilter fault) = bad_filter (refusal_of fault)
 reason_of refused = plain refused
 
--- a part of what is asked for is what it stands for, or it is refused for a reason; the part after it counts where it
--- is not
+-- a part of what is asked for is what it stands for, or it is refused for a reason;
+-- the part after it counts where it is not
 abbrev pub then_part : {A B Why : Type 0} → Result A Why → (A → Result B Why) → Result B Why
 then_part (Ok x) next = next x
 then_part (Err why) next = Err why

@@ -71,8 +71,8 @@ abbrev pub request_with : Doc → Doc → ℕ → ℕ → Filter → List SortPa
 request_with filter sort skip limit f ss =
     record { filter = f; sorts = ss; skip = skip; limit = limit; text = request_text filter sort skip limit }
 
--- What documents and counts ask for, or why they ask for nothing: the filter is looked at first, then the sort, then
--- the counts.
+-- What documents and counts ask for, or why they ask for nothing:
+-- the filter is looked at first, then the sort, then the counts.
 abbrev pub request_of : Doc → Doc → ℕ → ℕ → Result Request Reason
 request_of filter sort skip limit =
     then_part (told_as bad_filter (filter_of filter)) (λ f.

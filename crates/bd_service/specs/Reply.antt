@@ -22,8 +22,8 @@ use Rattle.bd_service.specs.declared.member.Field.TheVariants as fields
 use Rattle.bd_service.specs.declared.reply.LineRefusal.TheVariants as refusals
 use Rattle.bd_service.specs.declared.reply.Reply.TheVariants as replies
 
--- why there is no result: the layer that refuses, the number and the words of its reason, and the pair that tells
--- where, if any
+-- why there is no result: the layer that refuses,
+-- the number and the words of its reason, and the pair that tells where, if any
 pub record ToldRefusal : Type 0 where
   pub layer : List ℕ
   pub number : ℕ
@@ -87,8 +87,7 @@ abbrev pub command_refusal : CommandFault → ToldRefusal
 command_refusal f = record {
   layer = codes "command";
   number = command_fault_number f;
-  words =
-      command_fault_words f;
+  words = command_fault_words f;
   place = [];
 }
 

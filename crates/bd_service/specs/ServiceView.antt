@@ -43,8 +43,8 @@ service_dump s = dump_of s.session
 -- the text is a reply to the line, and the session goes on from one state to the other, over the same dump
 pub record RepliesTo (old : Service) (line text : List ℕ) (new : Service) : Type 0 where
   pub reply : LineReply
-  pub answers : Answers (bytes_of (service_dump old)) (documents (service_dump old)) (service_state old) line reply
-      (service_state new)
+  pub answers : Answers (bytes_of (service_dump old)) (documents (service_dump old))
+      (service_state old) line reply (service_state new)
   pub written : text ≡ reply_text reply
   pub kept : service_dump new ≡ service_dump old
 

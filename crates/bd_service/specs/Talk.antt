@@ -1,12 +1,11 @@
 -- A talk with a session: the call that a line is, the replies to lines, and what always holds of them.
-use Rattle.std.specs.Prelude.{◌≡◌, ◌≢◌, ◌⊎◌, ◌==◌, ℕ, List, [], ◌∷◌, ◌++◌, length, map, if◌then◌else◌}
-use Rattle.std.specs.Prelude.{Option, Some, None, option_and_then, option_map, Result, Ok, Err}
+use Rattle.std.specs.Prelude.{◌≡◌, ◌≢◌, ◌⊎◌, ◌==◌, ℕ, List, [], ◌∷◌, ◌++◌, length, map, if◌then◌else◌, Option, Some}
+use Rattle.std.specs.Prelude.{None, option_and_then, option_map, Result, Ok, Err}
 use Rattle.std.specs.{List.filter_map, List.flat_map, List.zip, Result.result_ok}
 use Rattle.bd_value.specs.Tree.{Doc}
 use Rattle.bd_answer.specs.Laws.{GivesInTurn, new_state}
 use Rattle.bd_answer.specs.Session.{Call, GivenBatch, Query, State, drop_call, explain_call, find_call, gave, kill_call}
-use Rattle.bd_answer.specs.Session.{next_call, resume_call}
-use Rattle.bd_answer.specs.Session.{state_after}
+use Rattle.bd_answer.specs.Session.{next_call, resume_call, state_after}
 use Rattle.bd_path.specs.Path.{path_of}
 use Rattle.bd_request.specs.{Refused.then_part, Refused.told_as, Refused.plain, Results.marked_text}
 use Rattle.bd_request.specs.Request.{Request, named_index, request_of, token_part}
@@ -18,8 +17,7 @@ use Rattle.bd_command.specs.Command.{Command, FindCommand, Hint, any_way, by_ind
 use Rattle.bd_command.specs.Command.{finds, gets_more, kills_cursor, resumes}
 use Rattle.bd_command.specs.CommandOf.{command_of}
 use Rattle.bd_service.specs.Reply.{LineReply, ToldRefusal, command_refusal, done, explains, gives, json_refusal, makes}
-use Rattle.bd_service.specs.Reply.{opens, path_refusal}
-use Rattle.bd_service.specs.Reply.{refuses, reply_text, session_refusal}
+use Rattle.bd_service.specs.Reply.{opens, path_refusal, refuses, reply_text, session_refusal}
 use Rattle.bd_diagnose.specs.{JsonFault.IsPlaced, declared.json_fault.JsonFault.JsonFault}
 use Rattle.bd_extjson.specs.Read.{ReadsAs, reading}
 use Rattle.bd_bson.specs.Collection.{documents_at}
@@ -43,8 +41,9 @@ search_of f =
     then_part (told_as session_refusal (request_of f.filter f.sort f.skip f.limit)) (λ request.
     then_part (told_as path_refusal (named_index (hint_path f.hint))) (λ _. Ok request))
 
--- Over a dump of these bytes, which are these documents, the call that a command is, or the first thing in it that is
--- refused: of `resume` the text of the token is looked at first.
+-- Over a dump of these bytes, which are these documents,
+-- the call that a command is, or the first thing in it that is refused: of
+-- `resume` the text of the token is looked at first.
 abbrev pub call_of : List ℕ → List Doc → Command → Result Call ToldRefusal
 call_of bytes ds (creates_index path sparse) =
     then_part (told_as path_refusal (path_of path)) (λ _. Ok (make_of ds (record { path = path; is_sparse = sparse })))
@@ -93,10 +92,10 @@ abbrev pub state_then : State → Result Call ToldRefusal → State
 state_then s (Ok call) = state_after s call
 state_then s (Err why) = s
 
--- a session over a dump of these bytes, which are these documents, may answer a line so, and goes on from one state to
--- the other
-pub record Answers (bytes : List ℕ) (ds : List Doc) (s : State) (line : List ℕ) (r : LineReply)
-    (t : State) : Type 0 where
+-- a session over a dump of these bytes, which are these documents,
+-- may answer a line so, and goes on from one state to the other
+pub record Answers (bytes : List ℕ) (ds : List Doc) (s : State) (line : List ℕ)
+    (r : LineReply) (t : State) : Type 0 where
   pub part : Result Call ToldRefusal
   pub reads : IsCallIn bytes ds line part
   pub tells : r ≡ reply_to ds s part
@@ -110,8 +109,9 @@ IsKept s t = t ≡ s
 abbrev pub RepliesInText : List ℕ → List Doc → State → List ℕ → List ℕ → State → Type 0
 RepliesInText bytes ds s line text t = (r : LineReply) × Answers bytes ds s line r t × (text ≡ reply_text r)
 
--- over a dump of these bytes, which are these documents, these lines may have these replies in turn, which lead from
--- one state to the other
+-- over a dump of these bytes, which are these documents,
+-- these lines may have these replies in turn, which lead from one state to
+-- the other
 abbrev pub Talks : List ℕ → List Doc → State → List (List ℕ) → List LineReply → State → Type 0
 Talks bytes ds s [] [] t = t ≡ s
 Talks bytes ds s [] (r ∷ rs) t = ⊥
@@ -146,16 +146,16 @@ abbrev pub batches_shown : List ℕ → List Doc → ℕ → List (List ℕ) →
 batches_shown bytes ds id lines rs = flat_map (λ p. batch_shown id (line_call bytes ds p.0) p.1) (zip lines rs)
 
 -- these places are shown in batches of the sizes that the lines ask for, with tokens that lead on to what is left
-pub record ShowsInTurn (bytes : List ℕ) (ds : List Doc) (q : Query) (id : ℕ) (ps : List ℕ) (lines : List (List ℕ))
-    (rs : List LineReply)
+pub record ShowsInTurn (bytes : List ℕ) (ds : List Doc) (q : Query) (id : ℕ) (ps : List ℕ)
+    (lines : List (List ℕ)) (rs : List LineReply)
     : Type 0 where
   pub given : List GivenBatch
   pub in_turn : GivesInTurn q id ps (calls_in bytes ds lines) given
   pub shown : batches_shown bytes ds id lines rs ≡ map (λ b. shown_reply ds (gave b)) given
 
 -- a line is this call and opens a cursor, after some lines and before others
-pub record OpensInTalk (bytes : List ℕ) (ds : List Doc) (call : Call) (id : ℕ) (lines : List (List ℕ))
-    (rs : List LineReply)
+pub record OpensInTalk (bytes : List ℕ) (ds : List Doc) (call : Call) (id : ℕ)
+    (lines : List (List ℕ)) (rs : List LineReply)
     : Type 0 where
   pub earlier : List (List ℕ)
   pub replies : List LineReply

@@ -1,10 +1,10 @@
--- The first so many places of a list, and a document that others are compared with, by its keys on the paths of a sort:
--- its mark.
+-- The first so many places of a list, and a document that others are compared with,
+-- by its keys on the paths of a sort: its mark.
 use Rattle.std.specs.Prelude.{◌≡◌, ◌-◌, ◌≤◌, ℕ, nat_lt, not, Bool, true, false, List, [], ◌∷◌, length, map, take}
 use Rattle.std.specs.Prelude.{slice_index_or}
 use Rattle.std.specs.{Prelude.Option, Prelude.Some, Prelude.None, Prelude.option_map, List.Sorted.IsPermutation}
-use Rattle.std.specs.{List.Sorted.IsSortedBy}
-use Rattle.std.specs.{Ordering.ordering_then, declared.cmp.Ordering.Ordering, declared.cmp.Ordering.TheVariants.Equal}
+use Rattle.std.specs.{List.Sorted.IsSortedBy, Ordering.ordering_then, declared.cmp.Ordering.Ordering}
+use Rattle.std.specs.{declared.cmp.Ordering.TheVariants.Equal}
 use Rattle.bd_value.specs.Tree.{Doc, Tree}
 use Rattle.bd_path.specs.{Sort.SortPath, Sort.dir_cmp, Sort.sort_key, PathNames.names_of}
 use Rattle.bd_bson.specs.Collection.{document_at}

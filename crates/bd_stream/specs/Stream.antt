@@ -1,6 +1,6 @@
 -- Documents that a device gives one after the other, by the lengths that they begin with.
-use Rattle.std.specs.Prelude.{◌≡◌, ◌<◌, ◌≤◌, ◌+◌, ◌-◌, ◌⊎◌, ℕ, List, [], ◌∷◌, ◌++◌, length, take, Option, Some}
-use Rattle.std.specs.Prelude.{None, Result, Ok, Err, IfSome, IsTrue, false}
+use Rattle.std.specs.Prelude.{◌≡◌, ◌<◌, ◌≤◌, ◌+◌, ◌-◌, ◌⊎◌, ℕ, List, [], ◌∷◌, ◌++◌, length, take, Option, Some, None}
+use Rattle.std.specs.Prelude.{Result, Ok, Err, IfSome, IsTrue, false}
 use Rattle.std.specs.Io.KnownBytes.{Consumes, IsAtEnd}
 use Rattle.bd_value.specs.Limits.{longest_document}
 use Rattle.bd_device.specs.{Devices.after_more, Devices.AreReads, Devices.Over, Devices.Reader, Devices.over}
@@ -33,8 +33,8 @@ abbrev pub EndsWithinOne : List ℕ → List ℕ → Type 0
 EndsWithinOne bytes last = (frames : List (List ℕ)) × (front : List ℕ) × (part : List ℕ) × AreFrames frames front
     × (bytes ≡ front ++ part) × IsWithinOne (part ++ last)
 
--- a head, and what a device still gives after it, or some bytes if that is unknown, begin with no length, for this
--- reason
+-- a head, and what a device still gives after it,
+-- or some bytes if that is unknown, begin with no length, for this reason
 abbrev pub HasNoFrame : List ℕ → Option (List ℕ) → FaultKind → Type 0
 HasNoFrame head left kind = (bytes : List ℕ) × IfSome left (λ rest. bytes ≡ head ++ rest)
     × (frame_length bytes ≡ Err kind)
@@ -88,8 +88,8 @@ module _ {R : Type 0} (state : R → Reader) where
       pub grown : HoldsAsMuch (length before.buffer.items) (length after.buffer.items) after.size
 
     -- why a document was not read, of which the reader gave these bytes after its head; memory is wanted once the four
-    -- bytes of its length were read, and none is read after them; of a length that is none no byte is read past what it
-    -- counts
+    -- bytes of its length were read, and none is read after them;
+    -- of a length that is none no byte is read past what it counts
     abbrev pub IsReason : DocBuffer → R → R → List ℕ → List ℕ → DocFault → Type 0
     IsReason before old new head given (DocFault.Frame f) =
         (f.offset ≡ before.place) × (f.document ≡ before.number) × HasNoFrame head (state old).left f.kind

@@ -6,9 +6,8 @@ use Rattle.std.specs.{Char.digit_char, Fmt.signed_decimal, List.flat_map, List.j
 use Rattle.base64.specs.{Engines.standard, GeneralPurpose.encode_of}
 use Rattle.hex.specs.Hex.{encode_lower}
 use Rattle.bd_value.specs.Tree.{Scalar, min_key, undefined, null, int32, int64, text as string, symbol, binary}
-use Rattle.bd_value.specs.Tree.{object_id, boolean, date, timestamp, regex, db_pointer}
-use Rattle.bd_value.specs.Tree.{code, max_key, Tree, leaf, doc, array, code_scope, Items, no_items, item, Fields}
-use Rattle.bd_value.specs.Tree.{no_fields, field}
+use Rattle.bd_value.specs.Tree.{object_id, boolean, date, timestamp, regex, db_pointer, code, max_key, Tree, leaf, doc}
+use Rattle.bd_value.specs.Tree.{array, code_scope, Items, no_items, item, Fields, no_fields, field}
 
 -- RFC 8259, section 7: the quotation mark, the reverse solidus and the control characters may not stand for themselves.
 abbrev pub needs_escape : ℕ → Bool

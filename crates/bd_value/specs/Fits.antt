@@ -1,11 +1,12 @@
--- What the type of a value in memory says of its tree: each number fits, what is bytes is bytes, and what is text is
--- UTF-8. And whether a name, or a text of a regular expression, has a zero, which would end it.
+-- What the type of a value in memory says of its tree:
+-- each number fits, what is bytes is bytes, and what is text is UTF-8.
+-- And whether a name, or a text of a regular expression, has a zero, which would end it.
 use Rattle.std.specs.Prelude.{◌≡◌, ◌<◌, ◌^◌, ℕ, List, length, slice_index, IsUtf8, [], ◌∷◌, Bool, false, ◌&&◌, ◌||◌}
 use Rattle.std.specs.Prelude.{◌==◌}
 use Rattle.std.specs.{Int.w32, Int.w64, Int.RustNames.FitsSigned}
 use Rattle.bd_value.specs.Tree.{own_code, own, Own, Scalar, int32, int64, text, symbol, binary, object_id, date}
-use Rattle.bd_value.specs.Tree.{timestamp, regex, db_pointer, code, Tree, leaf, doc}
-use Rattle.bd_value.specs.Tree.{array, code_scope, Items, no_items, item, Fields, no_fields, field, Doc}
+use Rattle.bd_value.specs.Tree.{timestamp, regex, db_pointer, code, Tree, leaf, doc, array, code_scope, Items, no_items}
+use Rattle.bd_value.specs.Tree.{item, Fields, no_fields, field, Doc}
 
 abbrev pub AreBytes : List ℕ → Type 0
 AreBytes bytes = (i : ℕ) → slice_index bytes i < 256

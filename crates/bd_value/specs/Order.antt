@@ -4,9 +4,8 @@ use Rattle.std.specs.{Cmp.Lexicographic.slice_cmp, declared.cmp.Ordering.Orderin
 use Rattle.std.specs.declared.cmp.Ordering.TheVariants.{Less, Equal, Greater}
 use Rattle.std.specs.Ordering.{nat_cmp, int_cmp, ordering_then, is_eq}
 use Rattle.bd_value.specs.Tree.{Own, own, own_code, Scalar, int32, int64, text, symbol, binary, object_id, boolean}
-use Rattle.bd_value.specs.Tree.{date, timestamp}
-use Rattle.bd_value.specs.Tree.{regex, db_pointer, code, Tree, leaf, doc, array, code_scope, Items, no_items, item}
-use Rattle.bd_value.specs.Tree.{Fields, no_fields, field}
+use Rattle.bd_value.specs.Tree.{date, timestamp, regex, db_pointer, code, Tree, leaf, doc, array, code_scope, Items}
+use Rattle.bd_value.specs.Tree.{no_items, item, Fields, no_fields, field}
 use Rattle.bd_value.specs.{View.kind_of, declared.node.Kind.Kind, declared.node.Class.Class}
 use Rattle.bd_value.specs.declared.node.Kind.TheVariants as kinds
 use Rattle.bd_value.specs.declared.node.Class.TheVariants as classes

@@ -1,5 +1,6 @@
--- The tree that a BSON value stands for (BSON 1.1, `document`, `e_list` and `element`), without where it lies in
--- memory. A text and a name are their UTF-8 bytes, a number is a whole number.
+-- The tree that a BSON value stands for (BSON 1.1, `document`,
+-- `e_list` and `element`), without where it lies in memory.
+-- A text and a name are their UTF-8 bytes, a number is a whole number.
 use Rattle.std.specs.Prelude.{◌≡◌, ℕ, suc, ◌+◌, ℤ, Bool, List, [], ◌∷◌, refl, Option, Some, None, length, map}
 use Rattle.std.specs.Prelude.{if◌then◌else◌, max}
 use Rattle.std.proofs.Common.{ap}

@@ -1,7 +1,7 @@
 -- The objects that stand for values of other kinds (Extended JSON v2, conversion table): which, and what is in them.
 use Rattle.std.specs.Prelude.{◌≡◌, ℕ, ◌+◌, ◌*◌, ℤ, pos, List, [], ◌∷◌, Bool, true, false, ◌==◌, ◌&&◌, nat_lt}
-use Rattle.std.specs.Prelude.{if◌then◌else◌}
-use Rattle.std.specs.Prelude.{Option, Some, None, option_map, option_and_then, unwrap_or, Result, Ok, Err, codes}
+use Rattle.std.specs.Prelude.{if◌then◌else◌, Option, Some, None, option_map, option_and_then, unwrap_or, Result, Ok}
+use Rattle.std.specs.Prelude.{Err, codes}
 use Rattle.std.specs.{Option.option_zip, Result.result_ok, Str.bytes_eq}
 use Rattle.base64.specs.{Engines.standard, GeneralPurpose.decode_of}
 use Rattle.hex.specs.Hex.{decode_sized, hex_digit_value}

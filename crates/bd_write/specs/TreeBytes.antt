@@ -22,8 +22,8 @@ scalar_bytes (trees.symbol s) = string s
 scalar_bytes (trees.code s) = string s
 scalar_bytes (trees.db_pointer s id) = string s ++ id
 scalar_bytes (trees.regex pattern options) = pattern ++ 0 ∷ (options ++ 0 ∷ [])
-scalar_bytes (trees.binary subtype payload) = number (length (data_of subtype payload)) ++ subtype
-    ∷ data_of subtype payload
+scalar_bytes (trees.binary subtype payload) = number (length (data_of subtype payload))
+    ++ subtype ∷ data_of subtype payload
 scalar_bytes _ = []
 
 abbrev mutual
