@@ -52,9 +52,15 @@ impl<'a> Bounds<'a> {
 /// Equal keys are both inside, or both outside.
 #[tactic(auto, using(crate::proofs::SoundLemmas::loses_no_match, crate::proofs::SoundLemmas::sparse_loses_no_match, crate::proofs::AlikeLemmas::same_bounds))]
 pub fn bounds_lose_no_match()
-    ensures keys { (f : filters.Filter) (path : Names) (multikey : Bool) (d : trees.Tree) → IsTrue (multikey || (length (keys d path) == 1)) → IsTrue (matches f d) → IsTrue (list_any (is_inside f path multikey) (keys d path)) }
-    ensures sparse { (f : filters.Filter) (path : Names) (multikey : Bool) (d : trees.Tree) → IsTrue (multikey || (length (keys d path) == 1)) → IsTrue (matches f d) → IsFalse (is_inside f path multikey (trees.leaf trees.null)) → IsTrue (list_any (is_inside f path multikey) (sparse_keys d path)) }
-    ensures alike { (f : filters.Filter) (path : Names) (multikey : Bool) (j k : trees.Tree) → IsTrue (equal j k) → is_inside f path multikey j ≡ is_inside f path multikey k }
+    ensures keys { (f : filters.Filter) (path : Names) (multikey : Bool) (d : trees.Tree) →
+        IsTrue (multikey || (length (keys d path) == 1)) → IsTrue (matches f d) →
+        IsTrue (list_any (is_inside f path multikey) (keys d path)) }
+    ensures sparse { (f : filters.Filter) (path : Names) (multikey : Bool) (d : trees.Tree) →
+        IsTrue (multikey || (length (keys d path) == 1)) → IsTrue (matches f d) →
+        IsFalse (is_inside f path multikey (trees.leaf trees.null)) →
+        IsTrue (list_any (is_inside f path multikey) (sparse_keys d path)) }
+    ensures alike { (f : filters.Filter) (path : Names) (multikey : Bool) (j k : trees.Tree) → IsTrue (equal j k) →
+        is_inside f path multikey j ≡ is_inside f path multikey k }
 {}
 
 /// A filter is bounded for a multikey index exactly where it is for another.
@@ -100,7 +106,9 @@ fn filter_bounds<'a>(alloc: Global, filter: &'a Filter, index: &Index) -> Found<
 /// The bounds of filters that must all match.
 #[cycle(bounding)]
 fn all_bounds<'a>(alloc: Global, filters: &'a [Filter], index: &Index) -> Found<'a>
-    ensures { IfOk result (λ b. seen_bounds b ≡ all_bounds (filters_from (map filter_tree filters.now)) (component_names index.now.path.now) index.now.multikey) }
+    ensures { IfOk result
+        (λ b. seen_bounds b ≡ all_bounds (filters_from (map filter_tree filters.now))
+        (component_names index.now.path.now) index.now.multikey) }
 {
     let mut parts = Vec::new(alloc);
     for filter in filters {
@@ -113,7 +121,9 @@ fn all_bounds<'a>(alloc: Global, filters: &'a [Filter], index: &Index) -> Found<
 /// The bounds of filters of which one matches.
 #[cycle(bounding)]
 fn some_bounds<'a>(alloc: Global, filters: &'a [Filter], index: &Index) -> Found<'a>
-    ensures { IfOk result (λ b. seen_bounds b ≡ some_bounds (filters_from (map filter_tree filters.now)) (component_names index.now.path.now) index.now.multikey) }
+    ensures { IfOk result
+        (λ b. seen_bounds b ≡ some_bounds (filters_from (map filter_tree filters.now))
+        (component_names index.now.path.now) index.now.multikey) }
 {
     let mut parts = Vec::new(alloc);
     for filter in filters {
@@ -128,7 +138,9 @@ fn some_bounds<'a>(alloc: Global, filters: &'a [Filter], index: &Index) -> Found
 /// The bounds of operators at a path, by what is left of the path of the index after it.
 #[cycle(bounding)]
 fn operator_bounds<'a>(alloc: Global, operators: &'a [Operator], index: &Index) -> Found<'a>
-    ensures { IfOk result (λ b. seen_bounds b ≡ operator_bounds (operators_from (map operator_tree operators.now)) (Some (component_names index.now.path.now)) index.now.multikey) }
+    ensures { IfOk result
+        (λ b. seen_bounds b ≡ operator_bounds (operators_from (map operator_tree operators.now))
+        (Some (component_names index.now.path.now)) index.now.multikey) }
 {
     let mut parts = Vec::new(alloc);
     for operator in operators {
@@ -141,7 +153,9 @@ fn operator_bounds<'a>(alloc: Global, operators: &'a [Operator], index: &Index) 
 /// The bounds of an operator, by what is left of the path of the index after its own.
 #[cycle(bounding)]
 fn bounds_at<'a>(alloc: Global, operator: &'a Operator, index: &Index) -> Found<'a>
-    ensures { IfOk result (λ b. seen_bounds b ≡ bounds_at (operator_tree operator.now) (Some (component_names index.now.path.now)) index.now.multikey) }
+    ensures { IfOk result
+        (λ b. seen_bounds b ≡ bounds_at (operator_tree operator.now)
+        (Some (component_names index.now.path.now)) index.now.multikey) }
 {
     if index.path.is_empty() {
         return bounds_here(alloc, operator, index.multikey);

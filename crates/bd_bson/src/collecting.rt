@@ -50,7 +50,8 @@ pub fn read_dump(alloc: Global, bytes: Vec<u8>) -> Result<Dump, Fault>
 /// Where the documents start that bytes which are not too many are a dump of.
 fn starts_in(alloc: Global, bytes: &[u8]) -> Result<Vec<u32>, Fault>
     requires { length bytes.now ≤ longest_input }
-    ensures dump { IfOk result (λ starts. (all : StandAt bytes.now starts.items) × IsDump (documents_starting_at bytes.now starts.items all) bytes.now) }
+    ensures dump { IfOk result (λ starts. (all : StandAt bytes.now starts.items)
+        × IsDump (documents_starting_at bytes.now starts.items all) bytes.now) }
     ensures few { IfOk result (λ starts. length starts.items ≤ length bytes.now) }
     ensures fault { IfErr result (IsUnread bytes.now) }
 {
@@ -76,12 +77,14 @@ pub fn dump_or_fault()
 /// Any bytes are documents in turn and then end, or fail after these, and in one way alone.
 pub fn walks_in_one_way()
     ensures some { (bytes : List ℕ) → ((i : ℕ) → slice_index bytes i < 256) → (ds : List Doc) × (end : Option FaultView) × IsWalk ds end bytes }
-    ensures one { (bytes : List ℕ) (ds es : List Doc) (end other : Option FaultView) → IsWalk ds end bytes → IsWalk es other bytes → (ds ≡ es) × (end ≡ other) }
+    ensures one { (bytes : List ℕ) (ds es : List Doc) (end other : Option FaultView) → IsWalk ds end bytes →
+        IsWalk es other bytes → (ds ≡ es) × (end ≡ other) }
 {}
 
 /// Documents that stand in front are the first of all.
 pub fn walks_on()
-    ensures { (ds : List Doc) (front rest : List ℕ) → ((i : ℕ) → slice_index rest i < 256) → AreJoined ds front → (more : List Doc) × (end : Option FaultView) × IsWalk (ds ++ more) end (front ++ rest) }
+    ensures { (ds : List Doc) (front rest : List ℕ) → ((i : ℕ) → slice_index rest i < 256) → AreJoined ds front →
+        (more : List Doc) × (end : Option FaultView) × IsWalk (ds ++ more) end (front ++ rest) }
 {}
 
 /// Documents are judged in turn, each by the bytes that its length counts, whatever was found before it. The end of the
@@ -105,7 +108,8 @@ pub fn judges_as_the_walk()
 /// There is no fault exactly where the bytes spell some document.
 pub fn no_fault_where_spelled()
     ensures none { (base : ℕ) (bytes : List ℕ) (d : Doc) → IsDocument d bytes → first_fault base bytes ≡ None }
-    ensures spelled { (base : ℕ) (bytes : List ℕ) → ((i : ℕ) → slice_index bytes i < 256) → first_fault base bytes ≡ None → (d : Doc) × IsDocument d bytes }
+    ensures spelled { (base : ℕ) (bytes : List ℕ) → ((i : ℕ) → slice_index bytes i < 256) →
+        first_fault base bytes ≡ None → (d : Doc) × IsDocument d bytes }
 {}
 
 /// Bytes spell one document at most.

@@ -103,7 +103,9 @@ fn given_before(
 pub(crate) fn place_of(cursors: &[Cursor], id: u64) -> Option<usize>
     ensures none { (dump : Dump) → IfNone result (cursor_of id (map (open_cursor dump) cursors.now) ≡ None) }
     ensures below { IfSome result (λ i. i < length cursors.now) }
-    ensures it { (dump : Dump) → IfSome result (λ i. cursor_of id (map (open_cursor dump) cursors.now) ≡ slice_get (map (open_cursor dump) cursors.now) i) }
+    ensures it { (dump : Dump) →
+        IfSome result (λ i. cursor_of id (map (open_cursor dump) cursors.now)
+        ≡ slice_get (map (open_cursor dump) cursors.now) i) }
     ensures moved { (dump : Dump) → IfSome result (λ i. (c : OpenCursor) (n : ℕ) →
         cursor_of id (map (open_cursor dump) cursors.now) ≡ Some c →
         with_moved id n (map (open_cursor dump) cursors.now) ≡ slice_set (map (open_cursor dump) cursors.now) i (moved c n)) }
@@ -182,7 +184,8 @@ impl Remainder {
     ) -> Result<(Vec<u32>, bool), NoMemory>
         ensures places { let a = selection_of (documents dump.now) request.now in IfOk result (λ r. r.0.items ≡ take n (places_left a self.old)) }
         ensures end { let a = selection_of (documents dump.now) request.now in IfOk result (λ r. r.1 ≡ is_empty (drop n (places_left a self.old))) }
-        ensures left { let a = selection_of (documents dump.now) request.now in IfOk result (λ r. places_left a self.new ≡ drop n (places_left a self.old)) }
+        ensures left { let a = selection_of (documents dump.now) request.now in
+            IfOk result (λ r. places_left a self.new ≡ drop n (places_left a self.old)) }
         ensures err { OnErr result (self.new ≡ self.old) }
     {
         match self {

@@ -155,7 +155,9 @@ impl Session {
         choice: Choice,
         token: &Token,
     ) -> Result<u64, Refused>
-        ensures steps { Steps opened (resume_call (query_of (dump_of self.old) request) (hint_of choice) (marked_token token.now)) self.old result self.new }
+        ensures steps { Steps opened
+            (resume_call (query_of (dump_of self.old) request) (hint_of choice)
+            (marked_token token.now)) self.old result self.new }
     {
         let token = *token;
         if let Err(why) = self.may_resume(&request, token) {

@@ -30,7 +30,8 @@ pub fn diagnose(alloc: Global, text: &[u8]) -> JsonFault
 /// The text as UTF-8, as JSON, as a tree and as a document.
 fn check(alloc: Global, text: &[u8]) -> Result<(), Stop>
     ensures ok { IfOk result (λ u. IsUtf8 text.now) }
-    ensures err { IfErr result (λ stop. ¬ (IsUtf8 text.now) → stop ≡ record { kind = kinds.Syntax; left = length text.now - utf8_valid_len text.now }) }
+    ensures err { IfErr result (λ stop. ¬ (IsUtf8 text.now) →
+        stop ≡ record { kind = kinds.Syntax; left = length text.now - utf8_valid_len text.now }) }
 {
     if let Err(error) = str::from_utf8(text) {
         return Err(Stop::syntax(&text[error.valid_up_to()..]));

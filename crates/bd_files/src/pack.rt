@@ -116,7 +116,8 @@ fn cut_line(text: &[u8]) -> (&[u8], Option<&[u8]>)
 
 /// Tells how lines were packed, after the bytes on standard output.
 fn tell_packing<E: Output>(alloc: Global, packing: &Packing, err: &mut E) -> Status
-    ensures { TellsMessage (over E.state err.old err.new) (wrong_line (option_map bad_line_text packing.now.bad) ++ (decimal packing.now.count ++ OBJECTS_PACKED.now))
+    ensures { TellsMessage (over E.state err.old err.new)
+        (wrong_line (option_map bad_line_text packing.now.bad) ++ (decimal packing.now.count ++ OBJECTS_PACKED.now))
         (wrong_status (option_map bad_line_text packing.now.bad)) result
         ⊎ TellsMessage (over E.state err.old err.new) (error_line (codes "no memory")) Failed result }
 {

@@ -69,7 +69,9 @@ fn read_filters<N: Reading>(alloc: Global, room: u32, pairs: N::Rest) -> Result<
 
 #[cycle(parse)]
 fn read_pair<N: Reading>(alloc: Global, room: u32, name: &str, value: N) -> Result<Filter, Stop>
-    ensures { ReadsPart filter_tree result (pair_filter (word_of name.now) (path_of name.now) (operand_filters room (N.tree value)) (path_operators room (N.tree value))) }
+    ensures { ReadsPart filter_tree result
+        (pair_filter (word_of name.now) (path_of name.now) (operand_filters room (N.tree value))
+        (path_operators room (N.tree value))) }
 {
     match Word::from_name(name) {
         Word::Logical(logical) => {
@@ -178,7 +180,9 @@ fn read_operator<N: Reading>(
     name: &str,
     operand: N,
 ) -> Result<Operator, Stop>
-    ensures { ReadsPart operator_tree result (operator_of (word_of name.now) (N.tree operand) (not_operator room (N.tree operand)) (element_operator room (N.tree operand))) }
+    ensures { ReadsPart operator_tree result
+        (operator_of (word_of name.now) (N.tree operand) (not_operator room (N.tree operand))
+        (element_operator room (N.tree operand))) }
 {
     match Word::from_name(name) {
         Word::Plain(plain) => plain_operator(alloc, plain, operand),

@@ -170,7 +170,9 @@ fn add_members<N: Reading>(
     members: N::Rest,
     kinds: &mut Vec<Kind>,
 ) -> Result<(), Stop>
-    ensures { ReadsPart (λ _. kinds.new.items) result (or_bad_operand (option_map (λ more. kinds.old.items ++ more) (all_kinds (items_of (values_of (N.left members)))))) }
+    ensures { ReadsPart (λ _. kinds.new.items) result
+        (or_bad_operand (option_map (λ more. kinds.old.items ++ more)
+        (all_kinds (items_of (values_of (N.left members)))))) }
 {
     let mut left = members;
     while let Some(next) = N::next(&left) {

@@ -140,7 +140,9 @@ fn write_documents<O: Output>(
 
 /// Tells how many documents a batch has, whether nothing is left, and the token that leads on.
 fn tell_batch<E: Output>(alloc: Global, batch: &Batch, err: &mut E) -> Status
-    ensures { TellsMessage (over E.state err.old err.new) (find_count_line (length batch.now.places.items) batch.now.end (option_map marked_token batch.now.token)) Done result
+    ensures { TellsMessage (over E.state err.old err.new)
+        (find_count_line (length batch.now.places.items) batch.now.end
+        (option_map marked_token batch.now.token)) Done result
         ⊎ TellsMessage (over E.state err.old err.new) (error_line (codes "no memory")) Failed result }
 {
     match count_line(alloc, batch) {

@@ -112,7 +112,9 @@ fn find_all<'a>(
     path: &Path,
     sparse: bool,
 ) -> Result<Vec<FoundKey<'a>>, NoMemory>
-    ensures found { IfOk result (λ v. (test : KeyAt → Bool) → count_by test (map found_entry v.items) ≡ count_by test (entries_of sparse (names_of path.now) (documents dump.now))) }
+    ensures found { IfOk result (λ v. (test : KeyAt → Bool) →
+        count_by test (map found_entry v.items) ≡ count_by test
+        (entries_of sparse (names_of path.now) (documents dump.now))) }
     ensures kept { IfOk result (λ v. All (IsFoundIn (bytes_of dump.now)) v.items) }
 {
     let mut found = Vec::new(alloc);
@@ -135,7 +137,10 @@ fn add_document<'a>(
     found: &mut Vec<FoundKey<'a>>,
 ) -> Result<(), NoMemory>
     requires { AreKeysOf raw_source (bytes_of dump.now) keys.items }
-    ensures added { OnOk result ((test : KeyAt → Bool) → count_by test (map found_entry found.new.items) ≡ count_by test (map found_entry found.old.items ++ keys_at place (distinct (key_trees raw_tree keys.entry.items)))) }
+    ensures added { OnOk result ((test : KeyAt → Bool) →
+        count_by test (map found_entry found.new.items)
+        ≡ count_by test (map found_entry found.old.items
+        ++ keys_at place (distinct (key_trees raw_tree keys.entry.items)))) }
     ensures kept { OnOk result (All (IsFoundIn (bytes_of dump.now)) found.old.items → All (IsFoundIn (bytes_of dump.now)) found.new.items) }
 {
     own.clear();

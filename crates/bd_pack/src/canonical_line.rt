@@ -209,7 +209,8 @@ fn append_escaped<'a>(text: &'a str, name: &str, out: &mut Vec<u8>) -> Option<&'
 /// Appends what a string with escapes holds, and gives what follows it.
 #[inline(never)]
 fn append_unescaped<'a>(text: &'a str, into: &mut String) -> Option<&'a str>
-    ensures { IfSome result (λ rest. (held : List ℕ) × (text.now ≡ quoted held ++ rest.now) × (string_bytes into.new ≡ string_bytes into.old ++ held)) }
+    ensures { IfSome result (λ rest. (held : List ℕ) × (text.now ≡ quoted held ++ rest.now)
+        × (string_bytes into.new ≡ string_bytes into.old ++ held)) }
 {
     let (plain, mut rest) = plain_run(after_word(text, b"\"")?)?;
     into.push_str(plain).ok()?;

@@ -20,7 +20,8 @@ pub(crate) fn append_text(name: &str, text: &str, out: &mut Vec<u8>) -> Option<(
 /// Appends an element of a boolean.
 #[inline(always)]
 pub(crate) fn append_bool(name: &str, truth: bool, out: &mut Vec<u8>) -> Option<()>
-    ensures { IfSome result (λ u. out.new.items ≡ out.old.items ++ element (leaf (trees.boolean truth)) name.now (bytes_of (leaf (trees.boolean truth)))) }
+    ensures { IfSome result (λ u. out.new.items ≡ out.old.items
+        ++ element (leaf (trees.boolean truth)) name.now (bytes_of (leaf (trees.boolean truth)))) }
 {
     push_label(Kind::Bool, name, out)?;
     out.push(u8::from(truth)).ok()
@@ -56,7 +57,8 @@ pub(crate) fn append_date(name: &str, n: i64, out: &mut Vec<u8>) -> Option<()>
 /// Appends an element of an id.
 #[inline(always)]
 pub(crate) fn append_id(name: &str, id: &[u8; 12], out: &mut Vec<u8>) -> Option<()>
-    ensures { IfSome result (λ u. out.new.items ≡ out.old.items ++ element (leaf (trees.object_id id.now)) name.now (bytes_of (leaf (trees.object_id id.now)))) }
+    ensures { IfSome result (λ u. out.new.items ≡ out.old.items
+        ++ element (leaf (trees.object_id id.now)) name.now (bytes_of (leaf (trees.object_id id.now)))) }
 {
     push_label(Kind::ObjectId, name, out)?;
     out.extend_from_slice(id).ok()
@@ -71,7 +73,9 @@ pub(crate) fn append_binary(
     out: &mut Vec<u8>,
 ) -> Option<()>
     requires { (subtype == 2) ≡ false }
-    ensures { IfSome result (λ u. out.new.items ≡ out.old.items ++ element (leaf (trees.binary subtype payload.now)) name.now (bytes_of (leaf (trees.binary subtype payload.now)))) }
+    ensures { IfSome result (λ u. out.new.items ≡ out.old.items
+        ++ element (leaf (trees.binary subtype payload.now)) name.now
+        (bytes_of (leaf (trees.binary subtype payload.now)))) }
 {
     if payload.len() > LONGEST_DOCUMENT {
         return None;

@@ -82,7 +82,9 @@ fn append_fields<'a>(
     depth: usize,
     out: &mut Vec<u8>,
 ) -> Option<()>
-    ensures gives { IfSome result (λ u. (fs : Fields) × (through (wrap_fields room) (after_key depth (length reader.old) (option_map (λ s. s.now) first.entry) reader.old) ≡ Some (fs, reader.new))
+    ensures gives { IfSome result (λ u. (fs : Fields)
+        × (through (wrap_fields room)
+        (after_key depth (length reader.old) (option_map (λ s. s.now) first.entry) reader.old) ≡ Some (fs, reader.new))
         × (out.new.items ≡ out.old.items ++ bytes_of (doc fs))) }
     ensures shorter { IfSome result (λ u. length reader.new ≤ length reader.old) }
     ensures within { IfSome result (λ u. length out.new.items ≤ longest_document) }
@@ -140,7 +142,8 @@ fn append_items(
     depth: usize,
     out: &mut Vec<u8>,
 ) -> Option<()>
-    ensures gives { IfSome result (λ u. (ts : Items) × (through (wrap_items room) (items (value depth) (length reader.old) reader.old) ≡ Some (ts, reader.new))
+    ensures gives { IfSome result (λ u. (ts : Items)
+        × (through (wrap_items room) (items (value depth) (length reader.old) reader.old) ≡ Some (ts, reader.new))
         × (out.new.items ≡ out.old.items ++ bytes_of (array ts))) }
     ensures shorter { IfSome result (λ u. length reader.new < length reader.old) }
 {
@@ -165,7 +168,8 @@ fn append_object(
     depth: usize,
     out: &mut Vec<u8>,
 ) -> Option<()>
-    ensures gives { IfSome result (λ u. (t : trees.Tree) × (through (wrap_object room) (members (value depth) (length reader.old) reader.old) ≡ Some (t, reader.new))
+    ensures gives { IfSome result (λ u. (t : trees.Tree)
+        × (through (wrap_object room) (members (value depth) (length reader.old) reader.old) ≡ Some (t, reader.new))
         × (out.new.items ≡ out.old.items ++ element t name.now (bytes_of t))) }
     ensures shorter { IfSome result (λ u. length reader.new < length reader.old) }
 {
@@ -207,7 +211,8 @@ fn append_wrapped(
 /// Appends an element of a bare number.
 #[inline(never)]
 fn append_number(name: &str, text: &str, out: &mut Vec<u8>) -> Option<()>
-    ensures { IfSome result (λ u. (t : trees.Tree) × (bare_number (whole_64 text.now) ≡ Some t) × (out.new.items ≡ out.old.items ++ element t name.now (bytes_of t))) }
+    ensures { IfSome result (λ u. (t : trees.Tree) × (bare_number (whole_64 text.now) ≡ Some t)
+        × (out.new.items ≡ out.old.items ++ element t name.now (bytes_of t))) }
 {
     append_read(name, bare_number(text)?, out)
 }

@@ -102,7 +102,10 @@ impl<N: Reading> Gatherer<N> for KeyGatherer {
 
     /// It goes on until memory runs out.
     fn take(&self, keys: &mut Vec<Key<N>>, stop: Stop<N>) -> bool
-        ensures { (bytes : List ℕ) → IsStopOf N.source bytes stop → TakesOrEnds (λ ks. AreKeysFrom N.tree N.source self.now.sparse ks.items) (λ ks. gives_new self.now.sparse (key_trees N.tree ks.items)) (λ _. true) result bytes keys.old keys.new (stop_tree N.tree stop ∷ []) }
+        ensures { (bytes : List ℕ) → IsStopOf N.source bytes stop →
+            TakesOrEnds (λ ks. AreKeysFrom N.tree N.source self.now.sparse ks.items)
+            (λ ks. gives_new self.now.sparse (key_trees N.tree ks.items)) (λ _. true) result bytes keys.old keys.new
+            (stop_tree N.tree stop ∷ []) }
     {
         match stop {
             Stop::Value(node) => add_end(node, keys).is_ok(),
@@ -115,7 +118,8 @@ impl<N: Reading> Gatherer<N> for KeyGatherer {
 fn add_missing<N: Reading>(sparse: bool, keys: &mut Vec<Key<N>>) -> Result<(), NoMemory>
     ensures added { OnOk result (AddsKeys N.tree keys.old.items keys.new.items (missing_key sparse)) }
     ensures kept { (bytes : List ℕ) → AreKeysOf N.source bytes keys.old.items → AreKeysOf N.source bytes keys.new.items }
-    ensures there { OnOk result ((ss : Stops) → list_any is_no_value ss ≡ true → AreKeysAt sparse ss keys.old.items → AreKeysAt sparse ss keys.new.items) }
+    ensures there { OnOk result ((ss : Stops) → list_any is_no_value ss ≡ true → AreKeysAt sparse ss keys.old.items →
+        AreKeysAt sparse ss keys.new.items) }
 {
     if sparse {
         return Ok(());
@@ -127,7 +131,9 @@ fn add_missing<N: Reading>(sparse: bool, keys: &mut Vec<Key<N>>) -> Result<(), N
 fn add_end<N: Reading>(node: N, keys: &mut Vec<Key<N>>) -> Result<(), NoMemory>
     ensures added { OnOk result (AddsKeys N.tree keys.old.items keys.new.items (end_keys (N.tree node))) }
     ensures kept { AreKeysOf N.source (N.source node) keys.old.items → AreKeysOf N.source (N.source node) keys.new.items }
-    ensures there { OnOk result ((sparse : Bool) (ss : Stops) → (is_empty_array (Stop.Value (N.tree node)) ≡ true → list_any is_empty_array ss ≡ true) → AreKeysAt sparse ss keys.old.items → AreKeysAt sparse ss keys.new.items) }
+    ensures there { OnOk result ((sparse : Bool) (ss : Stops) →
+        (is_empty_array (Stop.Value (N.tree node)) ≡ true → list_any is_empty_array ss ≡ true) →
+        AreKeysAt sparse ss keys.old.items → AreKeysAt sparse ss keys.new.items) }
 {
     let Kind::Array = node.kind() else {
         return add_next(keys, Key::Node(node));
@@ -244,5 +250,6 @@ pub fn keys_are_there()
 
 /// A sparse index leaves out nulls alone: a key that does not equal null is a sparse key.
 pub fn sparse_keys_are_the_rest()
-    ensures { (t : trees.Tree) (path : Names) (k : trees.Tree) → Contains (keys t path) k → equal k (trees.leaf trees.null) ≡ false → Contains (sparse_keys_of t path) k }
+    ensures { (t : trees.Tree) (path : Names) (k : trees.Tree) → Contains (keys t path) k →
+        equal k (trees.leaf trees.null) ≡ false → Contains (sparse_keys_of t path) k }
 {}

@@ -91,7 +91,10 @@ impl<N: Reading> Gatherer<N> for EarliestGatherer {
     ghost ends = { λ _ _. false };
 
     fn take(&self, earliest: &mut Option<Key<N>>, stop: Stop<N>) -> bool
-        ensures { (bytes : List ℕ) → IsStopOf N.source bytes stop → TakesOrEnds (IsEarliestFrom N.tree N.source self.now.dir) (λ key. gives_earlier self.now.dir (option_map (key_tree N.tree) key)) (λ _. false) result bytes earliest.old earliest.new (stop_tree N.tree stop ∷ []) }
+        ensures { (bytes : List ℕ) → IsStopOf N.source bytes stop →
+            TakesOrEnds (IsEarliestFrom N.tree N.source self.now.dir)
+            (λ key. gives_earlier self.now.dir (option_map (key_tree N.tree) key))
+            (λ _. false) result bytes earliest.old earliest.new (stop_tree N.tree stop ∷ []) }
     {
         let Stop::Value(node) = stop else {
             *earliest = Some(earlier(self.dir, *earliest, Key::Null));

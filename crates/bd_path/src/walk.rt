@@ -58,7 +58,9 @@ impl<N: Reading, T: EndTest> Gatherer<N> for EndGatherer<'_, T> {
     ghost ends = { λ s stop. is_passed (T.passes s.test.now) stop };
 
     fn take(&self, _found: &mut (), stop: Stop<N>) -> bool
-        ensures { (bytes : List ℕ) → IsStopOf N.source bytes stop → TakesOrEnds (λ _ _ _. Unit {0}) (λ _. is_passed (T.passes self.now.test.now)) (is_passed (T.passes self.now.test.now)) result bytes _found.old _found.new (stop_tree N.tree stop ∷ []) }
+        ensures { (bytes : List ℕ) → IsStopOf N.source bytes stop →
+            TakesOrEnds (λ _ _ _. Unit {0}) (λ _. is_passed (T.passes self.now.test.now))
+            (is_passed (T.passes self.now.test.now)) result bytes _found.old _found.new (stop_tree N.tree stop ∷ []) }
     {
         match stop {
             Stop::Value(node) => !self.test.test(Some(node)),
@@ -159,7 +161,8 @@ fn walk_documents<N: Reading, G: Gatherer<N>>(
     requires kind { kind_of (N.tree node) ≡ kinds.Array }
     requires known { KeepsKnown (G.amounts gatherer.now) (G.is_new gatherer.now) }
     requires vain { GathersNone (G.is_new gatherer.now found.old) stopping (N.tree node) (component_names path.now) walked.now }
-    ensures taken { TakesOrEnds (G.amounts gatherer.now) (G.is_new gatherer.now) (G.ends gatherer.now) (is_some result) (N.source node) found.old found.new
+    ensures taken { TakesOrEnds (G.amounts gatherer.now) (G.is_new gatherer.now) (G.ends gatherer.now)
+        (is_some result) (N.source node) found.old found.new
         (document_gathering stopping (N.tree node) (drop k (component_names path.now))) }
     ensures has { IfSome result (λ has_document. has_document ≡ list_any is_document (elements_in (N.tree node))) }
 {
@@ -199,7 +202,8 @@ fn walk_index<N: Reading, G: Gatherer<N>>(
     requires kind { kind_of (N.tree node) ≡ kinds.Array }
     requires known { KeepsKnown (G.amounts gatherer.now) (G.is_new gatherer.now) }
     requires vain { GathersNone (G.is_new gatherer.now found.old) stopping (N.tree node) (component_names path.now) walked.now }
-    requires documents { list_any (G.is_new gatherer.now found.old) (document_gathering stopping (N.tree node) (drop k (component_names path.now))) ≡ false }
+    requires documents { list_any (G.is_new gatherer.now found.old)
+        (document_gathering stopping (N.tree node) (drop k (component_names path.now))) ≡ false }
     ensures { TakesOrEnds (G.amounts gatherer.now) (G.is_new gatherer.now) (G.ends gatherer.now) result (N.source node) found.old found.new
         (later_stops has_document (N.tree node) (drop k (component_names path.now))) }
 {
@@ -290,7 +294,8 @@ impl Visits {
     /// Where a document in an array was walked, when the array was.
     pub fn at_document(&self, path: &[Component], index: usize) -> Visits
         requires { length path.now ≤ most_names }
-        ensures { (j : ℕ) → IsWalked result j → LedTo (steps.Element index) (component_names path.now) self.now j ⊎ (j < length path.now) × IsWalked self.now j }
+        ensures { (j : ℕ) → IsWalked result j → LedTo (steps.Element index) (component_names path.now) self.now j
+            ⊎ (j < length path.now) × IsWalked self.now j }
     {
         match self {
             Visits::Nowhere => Visits::Nowhere,
@@ -302,7 +307,8 @@ impl Visits {
     pub fn at_index(&self, path: &[Component], k: usize, index: usize, is_document: bool) -> Visits
         requires few { length path.now ≤ most_names }
         requires at { k < length path.now }
-        ensures { (j : ℕ) → IsWalked result j → LedTo (steps.Element index) (component_names path.now) self.now j ⊎ (is_document ≡ true) × ((j ≡ k) ⊎ (j < length path.now) × IsWalked self.now j) }
+        ensures { (j : ℕ) → IsWalked result j → LedTo (steps.Element index) (component_names path.now) self.now j
+            ⊎ (is_document ≡ true) × ((j ≡ k) ⊎ (j < length path.now) × IsWalked self.now j) }
     {
         let mut inside = match self {
             Visits::Nowhere if !is_document => return Visits::Nowhere,
@@ -419,7 +425,9 @@ impl Positions {
         requires { length path.now ≤ most_names }
         ensures stays { is_document ≡ true → (k : ℕ) → k < length path.now → IsOpen self.now k → IsOpen result k }
         ensures all { (k : ℕ) → Leads (steps.Element index) (component_names path.now) (From self.now) k → IsOpen result (suc k) }
-        ensures only { (k : ℕ) → IsOpen result k → LedTo (steps.Element index) (component_names path.now) (From self.now) k ⊎ (is_document ≡ true) × (k < length path.now) × IsOpen self.now k }
+        ensures only { (k : ℕ) → IsOpen result k →
+            LedTo (steps.Element index) (component_names path.now) (From self.now) k ⊎ (is_document ≡ true)
+            × (k < length path.now) × IsOpen self.now k }
     {
         let mut next = self.after(path, Step::Element(index));
         if is_document {

@@ -90,7 +90,8 @@ impl EndTest for PresenceTest {
 
 /// Whether each member is equalled by a candidate, and there is one.
 pub(crate) fn equals_all<N: Reading>(members: &[Value], path: &Path, node: N) -> bool
-    ensures { result ≡ (is_nonempty (map tree_of members.now) && list_all (any_equal (reach (N.tree node) (names_of path.now))) (map tree_of members.now)) }
+    ensures { result ≡ (is_nonempty (map tree_of members.now)
+        && list_all (any_equal (reach (N.tree node) (names_of path.now))) (map tree_of members.now)) }
 {
     match members {
         [] => false,

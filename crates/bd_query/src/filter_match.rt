@@ -188,7 +188,8 @@ fn any_end_suits_at_index<N: Reading>(node: N, k: usize, walked: &Visits, walk: 
     requires at { k < length walk.now.path.now }
     requires kind { kind_of (N.tree node) ≡ kinds.Array }
     requires vain { GathersNone (is_suited walk.now.body.now) ends (N.tree node) (component_names walk.now.path.now) walked.now }
-    requires documents { list_any (is_suited walk.now.body.now) (document_gathering ends (N.tree node) (drop k (component_names walk.now.path.now))) ≡ false }
+    requires documents { list_any (is_suited walk.now.body.now)
+        (document_gathering ends (N.tree node) (drop k (component_names walk.now.path.now))) ≡ false }
     ensures { result ≡ list_any (is_suited walk.now.body.now) (index_gathering ends (N.tree node) (drop k (component_names walk.now.path.now))) }
 {
     let path = walk.path;

@@ -193,7 +193,8 @@ fn append_reason(
     words: &'static str,
     out: &mut Vec<u8>,
 ) -> Result<(), NoMemory>
-    ensures ok { OnOk result (out.new.items ≡ out.old.items ++ reply_text (refuses (record { layer = layer.now; number = number; words = words.now; place = [] }))) }
+    ensures ok { OnOk result (out.new.items ≡ out.old.items
+        ++ reply_text (refuses (record { layer = layer.now; number = number; words = words.now; place = [] }))) }
     ensures err { OnErr result (StartsWith out.new.items out.old.items) }
 {
     let members = [

@@ -162,7 +162,8 @@ fn call_reply(session: &mut Session, call: Call) -> Result<Reply, Refused>
 pub fn talks_keep_to_the_answer()
     ensures answer { (bytes : List ℕ) (ds : List Doc) (q : Query) (hint : Option (List ℕ)) (id : ℕ) (lines : List (List ℕ)) (rs : List LineReply) →
         OpensInTalk bytes ds (find_call q hint) id lines rs → ShowsInTurn bytes ds q id (answer q.selection) lines rs }
-    ensures rest { (bytes : List ℕ) (ds : List Doc) (q : Query) (hint : Option (List ℕ)) (t : MarkedToken) (id : ℕ) (lines : List (List ℕ)) (rs : List LineReply) →
+    ensures rest { (bytes : List ℕ) (ds : List Doc) (q : Query) (hint : Option (List ℕ)) (t : MarkedToken) (id : ℕ)
+        (lines : List (List ℕ)) (rs : List LineReply) →
         OpensInTalk bytes ds (resume_call q hint t) id lines rs → ShowsInTurn bytes ds q id (rest q.selection t.mark) lines rs }
 {}
 

@@ -118,7 +118,8 @@ pub fn unwrap_single(
 
 /// The same of the kinds that hold no text and no bytes but an id: these take no memory.
 fn fixed_of(wrapper: Wrapper, part: &json::Value<'_>) -> Option<Value>
-    requires { (wrapper ≢ kinds.Symbol) × (wrapper ≢ kinds.Code) × (wrapper ≢ kinds.Binary) × (wrapper ≢ kinds.RegularExpression) × (wrapper ≢ kinds.DbPointer) }
+    requires { (wrapper ≢ kinds.Symbol) × (wrapper ≢ kinds.Code) × (wrapper ≢ kinds.Binary)
+        × (wrapper ≢ kinds.RegularExpression) × (wrapper ≢ kinds.DbPointer) }
     ensures { option_map tree_of result ≡ option_map leaf (single wrapper (value_view part.now)) }
 {
     match wrapper {

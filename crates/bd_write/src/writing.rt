@@ -109,7 +109,9 @@ fn append_items<N: Reading>(items: N::Rest, out: &mut Vec<u8>) -> Result<(), Wri
 fn append_element<N: Reading>(name: &str, node: N, out: &mut Vec<u8>) -> Result<(), WriteFault>
     requires name { has_zero name.now ≡ false }
     requires zero { zero_in (N.tree node) ≡ false }
-    ensures ok { OnOk result ((out.new.items ≡ out.old.items ++ element (N.tree node) name.now (bytes_of (N.tree node))) × (length out.old.items ≤ longest_document)) }
+    ensures ok { OnOk result
+        ((out.new.items ≡ out.old.items ++ element (N.tree node) name.now (bytes_of (N.tree node)))
+        × (length out.old.items ≤ longest_document)) }
     ensures spells { OnOk result (IsName name.now × IsValue (N.tree node) (bytes_of (N.tree node))) }
     ensures err { IfErr result (OverrunsLimit (length out.old.items + length (element (N.tree node) name.now (bytes_of (N.tree node))))) }
     ensures front { OnErr result (StartsWith out.new.items out.old.items) }
@@ -213,9 +215,13 @@ fn write_scalar(scalar: Scalar<'_>, out: &mut Vec<u8>) -> Result<(), WriteFault>
 /// `binary`: the count of the bytes, the subtype, the bytes.
 #[tactic(auto, using(bd_value::proofs::FrontLemmas::fronts))]
 fn write_binary(subtype: u8, payload: &[u8], out: &mut Vec<u8>) -> Result<(), WriteFault>
-    ensures ok { OnOk result ((out.new.items ≡ out.old.items ++ (number (length (data_of subtype payload.now)) ++ subtype ∷ data_of subtype payload.now))
+    ensures ok { OnOk result
+        ((out.new.items ≡ out.old.items
+        ++ (number (length (data_of subtype payload.now)) ++ subtype ∷ data_of subtype payload.now))
         × (length (data_of subtype payload.now) ≤ 16793604)) }
-    ensures err { IfErr result (OverrunsLimit (length out.old.items + length (number (length (data_of subtype payload.now)) ++ subtype ∷ data_of subtype payload.now))) }
+    ensures err { IfErr result
+        (OverrunsLimit (length out.old.items + length
+        (number (length (data_of subtype payload.now)) ++ subtype ∷ data_of subtype payload.now))) }
     ensures front { OnErr result (StartsWith out.new.items out.old.items) }
 {
     if payload.len() > LONGEST_DOCUMENT {
