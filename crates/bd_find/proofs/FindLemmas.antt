@@ -9,7 +9,7 @@ use Rattle.bd_bson.specs.{Collection.IsUnread, Collection.documents_at}
 use Rattle.bd_check.specs.Fault.{fault_view}
 use Rattle.bd_files.specs.{declared.output.Status.Status, declared.output.Status.TheVariants.Failed}
 use Rattle.bd_files.specs.Output.{PrintsOrStarves, TellsMessage, Transcript, error_line, fault_text, lines, shown_refusal}
-use Rattle.bd_request.specs.{declared.results.Refused.Refused, Refused.IsRefusedPart, Refused.reason_of}
+use Rattle.bd_request.specs.{declared.results.Refused.Refused, Refused.IsRefusedPart, Refused.reason_of, Refused.refused_words}
 use Rattle.bd_find.specs.Asking.{PageRequest, refused_text}
 use Rattle.bd_find.specs.Find.{places_from, IsShownOfBytes, shown_of_dump}
 use Rattle.bd_sort.specs.Selection.{query_to}
@@ -59,7 +59,7 @@ module _ (out_old out_new : Writer) (err_old err_new : Writer) (status : Status)
       → TellsMessage (between err_old err_new) (error_line (fault_text fault.document (fault_view fault))) Failed status
       ⊎ TellsMessage (between err_old err_new) (error_line (codes "no memory")) Failed status
       → (shown : Transcript) × IsShownOfBytes w bytes shown × PrintsOrStarves (between out_old out_old) (between err_old err_new) shown status
-  fault_shown w bytes fault le (inl long) other told = absurd (let more = long.more in omega arith)
+  fault_shown w bytes fault le (inl long) other told = absurd (let more = long.0 in omega arith)
   fault_shown w bytes fault le (inr (_, inl want)) other told = absurd (other want.kind)
   fault_shown w bytes fault le (inr (_, inr first)) other told =
       let words = fault_text (length first.before) (fault_view fault) in
@@ -73,6 +73,7 @@ module _ (out_old out_new : Writer) (err_old err_new : Writer) (status : Status)
   pub refused_shown : (bytes : List ℕ) (ds : List Doc) (w : PageRequest) (refused : Refused) → IsRefusedPart (places_from (query_to bytes ds w.request) w.token) refused
       → TellsMessage (between err_old err_new) (error_line (refused_text (reason_of refused))) Failed status ⊎ TellsMessage (between err_old err_new) (error_line (codes "no memory")) Failed status
       → PrintsOrStarves (between out_old out_old) (between err_old err_new) (shown_of_dump bytes ds w) status
+  unfolding refused_words
   refused_shown bytes ds w refused (inl want) told = nothing_shown (shown_of_dump bytes ds w) (either (rw want at told))
     where
       either : TellsMessage (between err_old err_new) (error_line (codes "no memory")) Failed status ⊎ TellsMessage (between err_old err_new) (error_line (codes "no memory")) Failed status

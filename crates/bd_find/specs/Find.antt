@@ -1,6 +1,6 @@
 -- What `find` shows of its words and an input, and what a run of it did.
 use Rattle.std.specs.Prelude.{◌≡◌, ◌≤◌, ◌<◌, ℕ, nat_lt, true, List, [], length, option_map, Option, Some, None, Result}
-use Rattle.std.specs.Prelude.{Ok, Err, if◌then◌else◌, ◌⊎◌, Bool, ◌∷◌, ◌++◌}
+use Rattle.std.specs.Prelude.{Ok, Err, if◌then◌else◌, ◌⊎◌, Bool, ◌∷◌, ◌++◌, codes}
 use Rattle.std.specs.{Prelude.drop, Prelude.decimal, List.All, Str.bytes_eq}
 use Rattle.bd_value.specs.{Limits.greatest_count, Tree.Doc, Tree.doc, Tree.fields_of}
 use Rattle.bd_answer.specs.Answer.{answer, rest, at_most, is_empty}
