@@ -50,7 +50,7 @@ pub fault_told : {C : Type 0} (state : C → Reader) (gives : C → Option (List
     → TellsMessage err (error_line (fault_text fault.document (fault_view fault))) Failed status ⊎ TellsMessage err (error_line (codes "no memory")) Failed status
     → ServesRead state gives old old out err status (Ok bytes)
 fault_told state gives bytes fault old out err status le unread other silent (inr told) = inl (record { unread = refl; silent = silent; told = told })
-fault_told state gives bytes fault old out err status le (inl long) other silent (inl told) = absurd (let more = long.more in omega arith)
+fault_told state gives bytes fault old out err status le (inl long) other silent (inl told) = absurd (let more = long.0 in omega arith)
 fault_told state gives bytes fault old out err status le (inr (_, inl want)) other silent (inl told) = absurd (other want.kind)
 fault_told state gives bytes fault old out err status le (inr (_, inr first)) other silent (inl told) =
     let words = fault_text (length first.before) (fault_view fault) in
