@@ -104,9 +104,9 @@ in_time_after {R} {gives} whole more given old new (inl none) = inl none
 in_time_after {R} {gives} whole more given old new (inr (front, few, last)) = inr (front, newlines_more front whole more few, last)
 
 module _ {R S : Type 0} (state : R → Reader) (gives : R → Option (List ℕ) → R → Type 0) (replies : S → List ℕ → List ℕ → S → Type 0) where
-  pub begins : (lines : LineBuffer) (old : R) (before : Writer) (s : S) → (state old).calls ≤ greatest → lines.ended ≡ false → held_after lines ≡ []
-      → Serving state gives replies lines.left lines old old before before s s
-  begins lines old before s fit is none = record {
+  pub begins : (limits : Limits) (lines : LineBuffer) (old : R) (before : Writer) (s : S) → lines.left ≡ limits → (state old).calls ≤ greatest
+      → lines.ended ≡ false → held_after lines ≡ [] → Serving state gives replies limits lines old old before before s s
+  begins limits lines old before s left fit is none = subst (λ l. Serving state gives replies l lines old old before before s s) left record {
     whole = [];
     text = [];
     ends = λ _. inl refl;
