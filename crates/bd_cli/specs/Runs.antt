@@ -1,5 +1,5 @@
 -- What a run did.
-use Rattle.std.specs.Prelude.{◌≡◌, ◌≢◌, ◌⊎◌, ℕ, List, length, codes, Option, Some, None, Result, Ok, Err, ◌<◌, []}
+use Rattle.std.specs.Prelude.{◌≡◌, ◌≢◌, ◌⊎◌, ℕ, List, length, Option, Some, None, Result, Ok, Err, ◌<◌, []}
 use Rattle.bd_value.specs.{Limits.longest_input, Limits.most_reads, Tree.Doc}
 use Rattle.bd_answer.specs.{Session.State, Laws.new_state}
 use Rattle.bd_check.specs.{Dump.IsWalk, Fault.Fault}
@@ -9,6 +9,7 @@ use Rattle.bd_lines.specs.{Serving.ServesAll, Serving.StopsServing, declared.ser
 use Rattle.bd_service.specs.Talk.{IsKept, RepliesInText}
 use Rattle.bd_files.specs.{Input.ReadsInput, declared.output.Status.Status, Pack.PacksInput, DumpAndCheck.ChecksInput}
 use Rattle.bd_files.specs.{DumpAndCheck.DumpsInput}
+use Rattle.bd_files.specs.declared.output.TheConstants.{CANNOT_WRITE, NO_MEMORY}
 use Rattle.bd_files.specs.declared.output.Status.TheVariants.{Done, Failed, Usage}
 use Rattle.bd_files.specs.Output.{TellsMessage, error_line, fault_text, shown_refusal, Transcript}
 use Rattle.bd_command_line.specs.{FindWords.find_words_of, declared.order.Order.Order}
@@ -26,8 +27,8 @@ command_limits = record { bytes = longest_input; turns = most_reads }
 -- why the commands were not answered to their end
 abbrev pub serve_words : ServeFault → List ℕ
 serve_words (faults.Unread fault) = read_words fault
-serve_words faults.NoMemory = codes "no memory"
-serve_words faults.Unwritten = codes "cannot write"
+serve_words faults.NoMemory = NO_MEMORY.now
+serve_words faults.Unwritten = CANNOT_WRITE.now
 
 -- no command was read, nothing was replied, and this is told
 pub record ServesNothing {C : Type 0} (old new : C) (out err : Over Writer) (status : Status)
@@ -59,7 +60,7 @@ module _ {C : Type 0} (state : C → Reader) (gives : C → Option (List ℕ) �
   -- over what was read: it was not read whole, or it is no dump, or the commands were served, or memory ran out before
   abbrev pub ServesRead : Result (List ℕ) ReadFault → Type 0
   ServesRead (Err fault) = ServesNothing old new out err status (read_words fault)
-  ServesRead (Ok bytes) = ServesNothing old new out err status (codes "no memory")
+  ServesRead (Ok bytes) = ServesNothing old new out err status NO_MEMORY.now
       ⊎ (((ds : List Doc) × (fault : Fault) × IsWalk ds (Some fault) bytes
       × ServesNothing old new out err status (fault_text (length ds) fault))
       ⊎ ((ds : List Doc) × IsWalk ds None bytes × ServesDump bytes ds))
@@ -105,4 +106,4 @@ DeviceFails file commands out err =
 abbrev pub shown_report : WordsFault → Transcript
 shown_report words.Help = record { out = USAGE.now; err = []; status = Done }
 shown_report words.Usage = record { out = []; err = USAGE.now; status = Usage }
-shown_report words.NoMemory = shown_refusal (codes "no memory")
+shown_report words.NoMemory = shown_refusal NO_MEMORY.now

@@ -26,4 +26,5 @@ mod runs;
 
 pub use bd_command_line::{FindOptions, Order, USAGE, WordsFault, parse_words};
 pub use bd_files::Status;
+pub use bd_files::output::CANNOT_WRITE;
 pub use runs::{check_has_the_status_of_dump, dump_shows_a_front, report, run, shows_one_thing};

@@ -1,5 +1,5 @@
 -- What `check` shows is determined, and its status is that of `dump`.
-use Rattle.std.proofs.Common.{◌≡◌, ◌≤◌, ℕ, suc, ◌+◌, List, [], ◌∷◌, ◌++◌, length, Option, Some, None, Result, Ok, Err, Bool, true, false, refl, sym, ap, ap₂, ◌∙◌, subst, inl, inr, append_assoc}
+use Rattle.std.proofs.Common.{◌≡◌, ◌≤◌, ℕ, suc, ◌+◌, List, [], ◌∷◌, ◌++◌, length, Option, Some, None, Err, refl, sym, ap, ap₂, ◌∙◌, subst, inl, inr, append_assoc}
 use Rattle.std.proofs.Common.{append-nil, arith, length-append, map}
 use Rattle.std.proofs.lemmas.List.{take_at, drop_at}
 use Rattle.std.specs.Prelude.{IfSome, option_map}
@@ -12,14 +12,14 @@ use Rattle.bd_stream.specs.Stream.{IsFrame}
 use Rattle.bd_stream.proofs.StreamLemmas.{frame_on, frames_once}
 use Rattle.bd_bson.specs.Verdicts.{verdicts_at, verdicts, BeginAs}
 use Rattle.bd_bson.proofs.VerdictLemmas.{none_at, turn_at, last_at, as_walk}
-use Rattle.bd_files.specs.{Input.StopsInside, Input.StreamsInput, declared.dump_and_check.Findings.Findings, declared.dump_and_check.Ending.Ending, declared.output.OutputFault.OutputFault}
+use Rattle.bd_files.specs.{Input.StopsInside, Input.StreamsInput, declared.dump_and_check.Ending.Ending, declared.output.OutputFault.OutputFault}
 use Rattle.bd_files.specs.{declared.output.Status.Status, declared.output.Status.TheVariants.Failed}
-use Rattle.bd_files.specs.DumpAndCheck.{ChecksInput, JudgesWithinLimit, check_message, check_status, shown_check, verdict_line, verdict_lines, AreVisited, IsTextOf, MeetsFault, StopsWalk}
-use Rattle.bd_files.specs.DumpAndCheck.{WalksDocuments, check_texts, more_visited, none_visited, JudgesDocuments, StopsJudging, AreVerdicts, IsShownByCheck, IsShownByDump}
+use Rattle.bd_files.specs.DumpAndCheck.{ChecksInput, JudgesWithinLimit, check_message, check_status, shown_check, verdict_line, verdict_lines, AreVisited, BreaksAtVerdict, IsTextOf, StopsWalk}
+use Rattle.bd_files.specs.DumpAndCheck.{WalksDocuments, check_texts, more_visited, none_visited, AreVerdicts, IsShownByCheck, IsShownByDump}
 use Rattle.bd_files.specs.Output.{TellsMessage, error_line, stop_words, Transcript, fault_text, wrong_status}
 use Rattle.bd_files.specs.declared.output.OutputFault.TheVariants.{NoMemory, Unwritten}
 use Rattle.bd_files.proofs.WalkLemmas.{faulty_append, faulty_count, known_whole, rest_of, visited_frames}
-use Rattle.bd_files.proofs.OutputLemmas.{breaks_after, front_taken, takes_both}
+use Rattle.bd_files.proofs.OutputLemmas.{front_taken}
 use Rattle.bd_check.specs.declared.fault.Fault as told
 use Rattle.bd_files.specs.declared.dump_and_check.Ending.TheVariants as endings
 
@@ -123,6 +123,11 @@ within_both old new whole piece more all (front, rest, cut, took, failed) parts 
     let both = parts ∙ ap (λ x. whole ++ (x ++ more)) cut ∙ ap (λ x. whole ++ x) (append_assoc front rest more) ∙ sym (append_assoc whole front (rest ++ more)) in
     ((whole ++ front, rest ++ more, both, took), failed)
 
+-- standard output broke in the lines of all bytes of an input, and after these verdicts
+abbrev Breaks : Reader → Reader → Writer → Writer → Type 0
+Breaks old new out_old out = (bytes : List ℕ) × StreamsInput (between old new) bytes None
+    × BreaksWithin (between out_old out) (verdict_lines 0 (verdicts bytes)) × BreaksAtVerdict (between old new) (between out_old out)
+
 module _ {vs : List Seen} {given text : List ℕ} (visited : AreVisited check_texts vs given text) where
   seen_lines : (bytes : List ℕ) → verdict_lines 0 (verdicts (given ++ bytes)) ≡ text ++ verdict_lines (length vs) (verdicts_at (length given) bytes)
   seen_lines bytes =
@@ -136,9 +141,6 @@ module _ {vs : List Seen} {given text : List ℕ} (visited : AreVisited check_te
       let all = (judged vs given text visited).1 [] in
       sym (ap verdicts (sym (append-nil given)) ∙ all ∙ ap (λ (xs : List Seen). vs ++ xs) (none_at (length given)) ∙ append-nil vs)
 
-  lines_taken : (old new : Writer) → TakesText (between old new) text → TakesText (between old new) (verdict_lines 0 vs)
-  lines_taken old new wrote = subst (λ (x : List ℕ). TakesText (between old new) x) (judged vs given text visited).0 wrote
-
   module _ (old new : Reader) (out_old : Writer) where
     streams : (part : List ℕ) → StopsInside given part (between old new) → new.failures ≡ old.failures → StreamsInput (between old new) (given ++ (part ++ rest_of new.left)) None
     streams part at well =
@@ -146,17 +148,10 @@ module _ {vs : List Seen} {given text : List ℕ} (visited : AreVisited check_te
         let known = known_whole old.left new.left (given ++ part) at.0 in
         (subst (λ (x : List ℕ). IfSome old.left (λ xs. x ≡ xs)) (append_assoc given part (rest_of new.left)) known, (frames.0, given, frames.1, (part, at)), well)
 
-    -- memory ran out
-    starves : (out : Writer) (bytes : List ℕ) → StreamsInput (between old new) (given ++ bytes) None → TakesText (between out_old out) text
-        → StopsJudging (between old new) (between out_old out) NoMemory
-    starves out bytes was wrote =
-        let more = verdict_lines (length vs) (verdicts_at (length given) bytes) in
-        (given ++ bytes, was, front_taken out_old out text more (verdict_lines 0 (verdicts (given ++ bytes))) wrote (seen_lines bytes))
-
-    -- standard output broke in the line of the next document, of which this part was read
+    -- the line of the next document, of which this part was read, is a front of what is left to write
     breaks : (out : Writer) (part bytes : List ℕ) (f : Fault) (more : List Seen) → StreamsInput (between old new) (given ++ bytes) None → StopsInside given part (between old new)
         → verdicts_at (length given) part ≡ Some f ∷ [] → verdicts_at (length given) bytes ≡ Some f ∷ more
-        → BreaksAfter (between out_old out) text (verdict_line (length vs) (Some f)) → StopsJudging (between old new) (between out_old out) Unwritten
+        → BreaksAfter (between out_old out) text (verdict_line (length vs) (Some f)) → Breaks old new out_old out
     breaks out part bytes f more was at last turn broke =
         let line = verdict_line (length vs) (Some f) in
         let j = judged vs given text visited in
@@ -164,75 +159,6 @@ module _ {vs : List Seen} {given text : List ℕ} (visited : AreVisited check_te
         let front = within_both out_old out text line (verdict_lines (suc (length vs)) more) (verdict_lines 0 (verdicts (given ++ bytes))) broke cut in
         let after = subst (λ (x : List ℕ). BreaksAfter (between out_old out) x line) j.0 broke in
         (given ++ bytes, was, front, (vs, f, given ++ part, j.1 part ∙ ap (λ (xs : List Seen). vs ++ xs) last, at.0, was.2, after))
-
--- ---- what the walk came to
-
-module _ (old new : Reader) (out_old out_mid : Writer) where
-  pub stops : (stopped : OutputFault) → StopsWalk check_texts (between old new) (between out_old out_mid) stopped → StopsJudging (between old new) (between out_old out_mid) stopped
-  stops NoMemory (vs, given, text, visited, (part, at), well, wrote) =
-      starves visited old new out_old out_mid (part ++ rest_of new.left) (streams visited old new out_old part at well) wrote
-  stops Unwritten (vs, given, text, visited, (None, frame, piece, is, (d, spelled, line), at, well, broke, some)) = absurd (some line)
-  stops Unwritten (vs, given, text, visited, (Some f, frame, piece, is, shows, at, well, broke, some)) =
-      let line = line_of (length vs) (length given) frame (Some f) piece shows in
-      let rest = rest_of new.left in
-      let last : verdicts_at (length given) frame ≡ Some f ∷ [] = ap (verdicts_at (length given)) (sym (append-nil frame)) ∙ turn_on (length given) frame [] (Some f) is line.0
-      ∙ ap (λ (xs : List Seen). Some f ∷ xs) (none_at (length given + length frame)) in
-      breaks visited old new out_old out_mid frame (frame ++ rest) f (verdicts_at (length given + length frame) rest)
-      (streams visited old new out_old frame at well) at last (turn_on (length given) frame rest (Some f) is line.0)
-      (subst (λ (x : List ℕ). BreaksAfter (between out_old out_mid) text x) line.1 broke)
-
-  abbrev Walked : ℕ → ℕ → Ending → Type 0
-  Walked documents bad ending = WalksDocuments check_texts (between old new) (between out_old out_mid) (record { count = documents; bad = bad; ending = ending })
-
-  pub judges_whole : (documents bad : ℕ) → Walked documents bad endings.Whole
-      → JudgesDocuments (between old new) (between out_old out_mid) (record { documents = documents; faulty = bad; unread = None })
-  judges_whole documents bad (vs, given, text, visited, counted, faulty, (was, (part, at)), wrote) =
-      let short : length given ≤ longest_input = let all = at.1 in omega (arith, length-append given part) in
-      (given, vs, was, inl short, all_judged visited, counted, faulty, lines_taken visited out_old out_mid wrote)
-
-  pub judges_unread : (documents bad : ℕ) (f : ReadFault) → Walked documents bad (endings.Unread f)
-      → JudgesDocuments (between old new) (between out_old out_mid) (record { documents = documents; faulty = bad; unread = Some f })
-  judges_unread documents bad f (vs, given, text, visited, counted, faulty, (part, was, cut), wrote) =
-      let frames = visited_frames vs given text visited in
-      (given ++ part, vs, was, tt, (frames.0, given, part, frames.1, cut, refl, all_judged visited), counted, faulty, lines_taken visited out_old out_mid wrote)
-
-  -- what comes of the line of the last document, whose length is bad
-  abbrev Finished : ℕ → ℕ → Writer → Result Bool OutputFault → Type 0
-  Finished documents bad out (Ok b) = JudgesDocuments (between old new) (between out_old out) (record { documents = documents + 1; faulty = bad + 1; unread = None })
-  Finished documents bad out (Err stopped) = StopsJudging (between old new) (between out_old out) stopped
-
-  pub finishes : (documents bad : ℕ) (f : told.Fault) (out : Writer) (r : Result Bool OutputFault) → Walked documents bad (endings.Faulty f)
-      → MeetsFault (Some (verdict_line f.document (Some (fault_view f)))) (between out_mid out) r → Finished documents bad out r
-  finishes documents bad f out r (vs, given, text, visited, counted, faulty, (part, rest, was, at, numbered, fails, inl none), wrote) met = absurd cc
-  finishes documents bad f out r (vs, given, text, visited, counted, faulty, (part, rest, was, at, numbered, fails, inr (is, long)), wrote) met = by_line r met
-    where
-      v : Seen
-      v = Some (fault_view f)
-
-      turn : verdicts_at (length given) (part ++ rest) ≡ v ∷ []
-      turn = verdict_on (length given) (part ++ rest) (part ++ rest) f long long fails
-
-      line_at : (text : List ℕ) → Path (Option (List ℕ)) (Some (verdict_line f.document v)) (Some text) → text ≡ verdict_line (length vs) v
-      line_at text same = let e : text ≡ verdict_line f.document v = cc in e ∙ ap (λ n. verdict_line n v) numbered
-
-      short : length given ≤ longest_input
-      short = let all = at.1 in omega (arith, length-append given part)
-
-      by_line : (r : Result Bool OutputFault) → MeetsFault (Some (verdict_line f.document v)) (between out_mid out) r → Finished documents bad out r
-      by_line (Ok true) (line, same, wrote_line) =
-          let j = judged vs given text visited in
-          let frames = visited_frames vs given text visited in
-          let verdicts_are = sym (j.1 (part ++ rest) ∙ ap (λ (xs : List Seen). vs ++ xs) turn) in
-          let more : documents + 1 ≡ length (vs ++ v ∷ []) = omega (arith, length-append vs (v ∷ [])) in
-          let lines_are = ap₂ (λ (x y : List ℕ). x ++ y) j.0 (line_at line same) ∙ sym (lines_more vs v) in
-          let took = subst (λ (x : List ℕ). TakesText (between out_old out) x) lines_are (takes_both out_old out_mid out text line wrote wrote_line) in
-          let limit : JudgesWithinLimit (given ++ (part ++ rest)) None = inr (frames.0, given, part ++ rest, f.kind, frames.1, refl, long, short) in
-          (given ++ (part ++ rest), vs ++ v ∷ [], was, limit, verdicts_are, more, ap (λ n. n + 1) faulty ∙ sym (faulty_append vs (v ∷ [])), took)
-      by_line (Ok false) (none, same) = absurd cc
-      by_line (Err NoMemory) (line, is_line, same) = rw same (starves visited old new out_old out_mid (part ++ rest) was wrote)
-      by_line (Err Unwritten) (line, same, (broke, some)) =
-          breaks visited old new out_old out part (part ++ rest) (fault_view f) [] was at (verdict_on (length given) part (part ++ rest) f is long fails) turn
-          (subst (λ (x : List ℕ). BreaksAfter (between out_old out) text x) (line_at line same) (breaks_after out_old out_mid out text line wrote broke))
 
 -- ---- the end of a run
 
@@ -243,13 +169,77 @@ module _ (old new : Reader) (out_old out_new : Writer) (err_old err_new : Writer
   abbrev Told : ℕ → ℕ → Option ReadFault → Type 0
   Told count worse unread = TellsMessage (between err_old err_new) (check_message unread count worse) (check_status unread worse) status
 
-  pub shows_findings : (findings : Findings) → JudgesDocuments (between old new) (between out_old out_new) findings
-      → Told findings.documents findings.faulty findings.unread → Shows
-  shows_findings findings (bytes, vs, was, within, are, documents, bad, wrote) told =
-      let all = subst (λ n. Told (length vs) n findings.unread) bad (subst (λ n. Told n findings.faulty findings.unread) documents told) in
-      (bytes, findings.unread, shown_check vs findings.unread, was, (vs, are, refl), inl ((within, wrote), all))
+  abbrev Walked : ℕ → ℕ → Ending → Type 0
+  Walked documents bad ending = WalksDocuments check_texts (between old new) (between out_old out_new) (record { count = documents; bad = bad; ending = ending })
 
-  pub shows_stop : (stopped : OutputFault) → StopsJudging (between old new) (between out_old out_new) stopped
-      → TellsMessage (between err_old err_new) (error_line (stop_words stopped)) Failed status → Shows
-  shows_stop NoMemory (bytes, was, front) told = (bytes, None, shown_check (verdicts bytes) None, was, (verdicts bytes, refl, refl), inr (inr ((refl, front), told)))
-  shows_stop Unwritten (bytes, was, broke, at) told = (bytes, None, shown_check (verdicts bytes) None, was, (verdicts bytes, refl, refl), inr (inl ((broke, at), told)))
+  -- all were judged: their lines were taken, and counted they are so many
+  shows : (bytes : List ℕ) (unread : Option ReadFault) (vs : List Seen) (documents faulty : ℕ) → StreamsInput (between old new) bytes unread
+      → JudgesWithinLimit bytes unread → AreVerdicts bytes unread vs → documents ≡ length vs → faulty ≡ faulty_count vs
+      → TakesText (between out_old out_new) (verdict_lines 0 vs) → Told documents faulty unread → Shows
+  shows bytes unread vs documents faulty was within are counted bad wrote told =
+      let all = subst (λ n. Told (length vs) n unread) bad (subst (λ n. Told n faulty unread) counted told) in
+      (bytes, unread, shown_check vs unread, was, (vs, are, refl), inl ((within, wrote), all))
+
+  -- nothing was written after the lines of the documents
+  lines_taken : (vs : List Seen) (given text : List ℕ) → AreVisited check_texts vs given text → TakesText (between out_old out_new) (text ++ [])
+      → TakesText (between out_old out_new) (verdict_lines 0 vs)
+  lines_taken vs given text visited wrote =
+      subst (λ (x : List ℕ). TakesText (between out_old out_new) x) (append-nil text ∙ (judged vs given text visited).0) wrote
+
+  pub shows_whole : (documents bad : ℕ) → Walked documents bad endings.Whole → Told documents bad None → Shows
+  shows_whole documents bad (vs, given, text, visited, counted, faulty, (was, (part, at)), wrote) told =
+      let short : length given ≤ longest_input = let all = at.1 in omega (arith, length-append given part) in
+      shows given None vs documents bad was (inl short) (all_judged visited) counted faulty (lines_taken vs given text visited wrote) told
+
+  pub shows_unread : (documents bad : ℕ) (f : ReadFault) → Walked documents bad (endings.Unread f) → Told documents bad (Some f) → Shows
+  shows_unread documents bad f (vs, given, text, visited, counted, faulty, (part, was, cut), wrote) told =
+      let frames = visited_frames vs given text visited in
+      let are : AreVerdicts (given ++ part) (Some f) vs = (frames.0, given, part, frames.1, cut, refl, all_judged visited) in
+      shows (given ++ part) (Some f) vs documents bad was tt are counted faulty (lines_taken vs given text visited wrote) told
+
+  -- the last document has a bad length
+  pub shows_faulty : (documents bad : ℕ) (f : told.Fault) → Walked documents bad (endings.Faulty f) → Told (documents + 1) (bad + 1) None → Shows
+  shows_faulty documents bad f (vs, given, text, visited, counted, faulty, (part, rest, was, at, numbered, fails, inl none), wrote) told = absurd cc
+  shows_faulty documents bad f (vs, given, text, visited, counted, faulty, (part, rest, was, at, numbered, fails, inr (is, long)), wrote) told =
+      let v = Some (fault_view f) in
+      let j = judged vs given text visited in
+      let frames = visited_frames vs given text visited in
+      let turn = verdict_on (length given) (part ++ rest) (part ++ rest) f long long fails in
+      let are = sym (j.1 (part ++ rest) ∙ ap (λ (xs : List Seen). vs ++ xs) turn) in
+      let more : documents + 1 ≡ length (vs ++ v ∷ []) = omega (arith, length-append vs (v ∷ [])) in
+      let worse = ap (λ n. n + 1) faulty ∙ sym (faulty_append vs (v ∷ [])) in
+      let lines_are = ap (λ x. x ++ verdict_line (length vs) v) j.0 ∙ sym (lines_more vs v) in
+      let short : length given ≤ longest_input = let all = at.1 in omega (arith, length-append given part) in
+      let limit : JudgesWithinLimit (given ++ (part ++ rest)) None = inr (frames.0, given, part ++ rest, f.kind, frames.1, refl, long, short) in
+      shows (given ++ (part ++ rest)) None (vs ++ v ∷ []) (documents + 1) (bad + 1) was limit are more worse
+      (subst (λ (x : List ℕ). TakesText (between out_old out_new) x) lines_are wrote) told
+
+  -- the run was stopped
+  abbrev Tells : OutputFault → Type 0
+  Tells stopped = TellsMessage (between err_old err_new) (error_line (stop_words stopped)) Failed status
+
+  broken : Breaks old new out_old out_new → Tells Unwritten → Shows
+  broken (bytes, was, broke, at) told = (bytes, None, shown_check (verdicts bytes) None, was, (verdicts bytes, refl, refl), inr (inl ((broke, at), told)))
+
+  pub shows_stop : (stopped : OutputFault) → StopsWalk check_texts (between old new) (between out_old out_new) stopped → Tells stopped → Shows
+  shows_stop NoMemory (vs, given, text, visited, (part, at), well, wrote) told =
+      let bytes = part ++ rest_of new.left in
+      let was = streams visited old new out_old part at well in
+      let more = verdict_lines (length vs) (verdicts_at (length given) bytes) in
+      let all = verdicts (given ++ bytes) in
+      let front = front_taken out_old out_new text more (verdict_lines 0 all) wrote (seen_lines visited bytes) in
+      (given ++ bytes, None, shown_check all None, was, (all, refl, refl), inr (inr ((refl, front), told)))
+  shows_stop Unwritten (vs, given, text, piece, visited, broke, some, inl (None, frame, is, (d, spelled, line), at, well)) told = absurd (some line)
+  shows_stop Unwritten (vs, given, text, piece, visited, broke, some, inl (Some f, frame, is, shows, at, well)) told =
+      let line = line_of (length vs) (length given) frame (Some f) piece shows in
+      let rest = rest_of new.left in
+      let last : verdicts_at (length given) frame ≡ Some f ∷ [] = ap (verdicts_at (length given)) (sym (append-nil frame)) ∙ turn_on (length given) frame [] (Some f) is line.0
+      ∙ ap (λ (xs : List Seen). Some f ∷ xs) (none_at (length given + length frame)) in
+      broken (breaks visited old new out_old out_new frame (frame ++ rest) f (verdicts_at (length given + length frame) rest)
+      (streams visited old new out_old frame at well) at last (turn_on (length given) frame rest (Some f) is line.0)
+      (subst (λ (x : List ℕ). BreaksAfter (between out_old out_new) text x) line.1 broke)) told
+  shows_stop Unwritten (vs, given, text, piece, visited, broke, some, inr (f, (part, rest, was, at, numbered, fails, inl none), line)) told = absurd cc
+  shows_stop Unwritten (vs, given, text, piece, visited, broke, some, inr (f, (part, rest, was, at, numbered, fails, inr (is, long)), line)) told =
+      let same : piece ≡ verdict_line (length vs) (Some (fault_view f)) = cc in
+      broken (breaks visited old new out_old out_new part (part ++ rest) (fault_view f) [] was at (verdict_on (length given) part (part ++ rest) f is long fails)
+      (verdict_on (length given) (part ++ rest) (part ++ rest) f long long fails) (subst (λ (x : List ℕ). BreaksAfter (between out_old out_new) text x) same broke)) told

@@ -1,7 +1,7 @@
 -- How a run ends.
 use Rattle.std.proofs.Common.{◌≡◌, ◌<◌, ◌+◌, ℕ, List, [], ◌∷◌, ◌++◌, length, Option, Some, None, refl, sym, ap, ap₂, ◌∙◌, subst, append-nil, append_assoc, inl, inr, arith, length-append}
 use Rattle.std.proofs.{lemmas.List.get_or-append-add, KnownBytes.Appends-nil}
-use Rattle.std.specs.Prelude.{◌⊎◌, codes, decimal, option_map}
+use Rattle.std.specs.Prelude.{◌⊎◌, decimal, option_map}
 use Rattle.bd_value.specs.Tree.{Doc}
 use Rattle.bd_device.specs.Devices.{Reader, Writer, between, BreaksAfter, TakesText, read_words}
 use Rattle.bd_device.specs.declared.reading.ReadFault.{ReadFault}
@@ -11,9 +11,10 @@ use Rattle.bd_check.proofs.DumpLemmas.{joined_append, joined_once, joined_one, w
 use Rattle.bd_stream.proofs.StreamLemmas.{cut_stuck}
 use Rattle.bd_files.specs.{declared.dump_and_check.Ending.Ending, declared.output.OutputFault.OutputFault, declared.output.OutputFault.TheVariants.NoMemory}
 use Rattle.bd_files.specs.{declared.output.OutputFault.TheVariants.Unwritten, declared.output.Status.Status, declared.output.Status.TheVariants.Failed, declared.dump_and_check.Walk.Walk}
-use Rattle.bd_files.specs.DumpAndCheck.{DumpsInput, IsShownByDump, shown_dump, AreVisited, EndsWalk, StopsWalk, WalksDocuments, dump_texts, ending_words, more_visited, none_visited}
+use Rattle.bd_files.specs.DumpAndCheck.{DumpsInput, IsShownByDump, shown_dump, AreVisited, EndsWalk, StopsWalk, WalksDocuments, dump_texts, ending_words, more_visited, none_visited, text_at_end}
 use Rattle.bd_files.specs.declared.dump_and_check.TheConstants.{OBJECTS_FOUND}
 use Rattle.bd_files.specs.Output.{PrintsShown, TellsMessage, Transcript, error_line, fault_text, lines, shown_refusal, wrong_line, wrong_status, stop_words}
+use Rattle.bd_files.specs.declared.output.TheConstants.{NO_MEMORY}
 use Rattle.bd_files.proofs.OutputLemmas.{lines-append}
 use Rattle.bd_check.specs.declared.fault.Fault as told
 use Rattle.bd_files.specs.declared.dump_and_check.Ending.TheVariants as endings
@@ -31,6 +32,11 @@ printed vs given text (more_visited us front before None frame piece visited is 
     )
 printed vs given text (more_visited us front before (Some f) frame piece visited is shows) = let e = shows.1 in absurd cc
 
+none_at_end : (number : ℕ) (ending : Ending) → text_at_end dump_texts number ending ≡ []
+none_at_end number endings.Whole = refl
+none_at_end number (endings.Faulty f) = refl
+none_at_end number (endings.Unread f) = refl
+
 module _ (old new : Reader) (out_old out_new : Writer) (err_old err_new : Writer) (status : Status) where
   -- `dump` was carried out
   abbrev pub Shows : Type 0
@@ -43,7 +49,7 @@ module _ (old new : Reader) (out_old out_new : Writer) (err_old err_new : Writer
   abbrev TellsEnding : ℕ → Ending → Type 0
   TellsEnding count ending =
       Tells (wrong_line (ending_words ending) ++ (decimal count ++ OBJECTS_FOUND.now)) (wrong_status (ending_words ending))
-      ⊎ ((f : told.Fault) × (ending ≡ endings.Faulty f) × Tells (error_line (codes "no memory")) Failed)
+      ⊎ ((f : told.Fault) × (ending ≡ endings.Faulty f) × Tells (error_line NO_MEMORY.now) Failed)
 
   module _ (ds : List Doc) (given : List ℕ) (joined : AreJoined ds given) (wrote : TakesText (between out_old out_new) (lines ds)) where
     ends : (ending : Ending) → EndsWalk dump_texts (between old new) (length ds) given ending → TellsEnding (length ds) ending → Shows
@@ -65,18 +71,19 @@ module _ (old new : Reader) (out_old out_new : Writer) (err_old err_new : Writer
   pub shows_walk : (walk : Walk) → WalksDocuments dump_texts (between old new) (between out_old out_new) walk → TellsEnding walk.count walk.ending → Shows
   shows_walk walk (vs, given, text, visited, counted, bad, end, wrote) told =
       let p = printed vs given text visited in
-      ends p.0 given p.1 (subst (λ (x : List ℕ). TakesText (between out_old out_new) x) p.3 wrote) walk.ending
+      ends p.0 given p.1 (subst (λ (x : List ℕ). TakesText (between out_old out_new) x) (ap (λ x. text ++ x) (none_at_end (length vs) walk.ending) ∙ append-nil text ∙ p.3) wrote) walk.ending
       (subst (λ n. EndsWalk dump_texts (between old new) n given walk.ending) (sym p.2) end) (subst (λ n. TellsEnding n walk.ending) (counted ∙ sym p.2) told)
 
   pub shows_stop : (stopped : OutputFault) → StopsWalk dump_texts (between old new) (between out_old out_new) stopped → Tells (error_line (stop_words stopped)) Failed → Shows
   shows_stop NoMemory (vs, given, text, visited, at, well, wrote) told =
       let p = printed vs given text visited in
       (shown_dump p.0 None, inr (inr ((p.0, given, p.1, at, well, subst (λ (x : List ℕ). TakesText (between out_old out_new) x) p.3 wrote), told)))
-  shows_stop Unwritten (vs, given, text, visited, (None, frame, piece, is, (d, spelled, line), at, well, broke, some)) told =
+  shows_stop Unwritten (vs, given, text, piece, visited, broke, some, inl (None, frame, is, (d, spelled, line), at, well)) told =
       let p = printed vs given text visited in
       let after : BreaksAfter (between out_old out_new) (lines p.0) (lines (d ∷ [])) = rw (sym p.3, sym line) broke in
       (shown_dump p.0 None, inr (inl ((p.0, d, given ++ frame, joined_append p.0 (d ∷ []) given frame p.1 (joined_one d frame spelled), at.0, well, after), told)))
-  shows_stop Unwritten (vs, given, text, visited, (Some f, frame, piece, is, shows, at, well, broke, some)) told = let e = shows.1 in absurd cc
+  shows_stop Unwritten (vs, given, text, piece, visited, broke, some, inl (Some f, frame, is, shows, at, well)) told = let e = shows.1 in absurd cc
+  shows_stop Unwritten (vs, given, text, piece, visited, broke, some, inr (f, at, line)) told = absurd cc
 
 -- nothing was written to standard output
 pub refused : (out : Writer) (err_old err_new : Writer) (words : List ℕ) (status : Status)

@@ -1,13 +1,18 @@
 -- Lemmas on what a run writes.
-use Rattle.std.proofs.Common.{subst, ◌≡◌, ℕ, List, [], ◌∷◌, ◌++◌, refl, sym, ap, ◌∙◌, append_assoc, ◌⊎◌, append-nil, inl, inr, codes}
+use Rattle.std.proofs.Common.{subst, ◌≡◌, ℕ, List, [], ◌∷◌, ◌++◌, refl, sym, ap, ◌∙◌, append_assoc, ◌⊎◌, append-nil, inl, inr, arith, ap₂, map, IsUtf8, String}
 use Rattle.std.proofs.KnownBytes.{Appends-trans}
-use Rattle.std.specs.Prelude.{OnErr, OnOk, Result, Ok, Err}
+use Rattle.std.proofs.lemmas.{Bool.Decides.nat_tests, Str.IsUtf8-append, Str.IsUtf8-nil, Str.IsUtf8-string_bytes}
+use Rattle.std.specs.Prelude.{OnErr, OnOk, Result, Ok, Err, string_bytes}
+use Rattle.std.specs.List.{join_with_byte}
 use Rattle.bd_value.specs.Tree.{Doc, doc, fields_of}
 use Rattle.bd_device.specs.Devices.{after_more, BreaksAfter, BreaksWithin, TakesFront, TakesText, Writer, between}
-use Rattle.bd_text.specs.Text.{text}
+use Rattle.json.proofs.Printed.Utf8.{IsUtf8-are_ascii, IsUtf8-quoted}
+use Rattle.bd_text.specs.Text.{escape_byte, escaped, quoted, text}
 use Rattle.bd_files.specs.{declared.output.OutputFault.OutputFault, declared.output.Status.Status, declared.output.Status.TheVariants.Failed}
+use Rattle.bd_files.specs.declared.output.TheConstants.{NO_MEMORY}
 use Rattle.bd_files.specs.declared.output.OutputFault.TheVariants.{NoMemory, Unwritten}
 use Rattle.bd_files.specs.Output.{lines, PrintsOrStarves, StopsWithin, TellsMessage, Transcript, error_line, stop_words}
+use Rattle.json.specs.Print as printed
 
 pub lines-append : (ds es : List Doc) → lines (ds ++ es) ≡ lines ds ++ lines es
 lines-append [] es = refl
@@ -67,7 +72,7 @@ breaks_piece old mid new front piece rest all took broke cut =
     subst (λ (x : List ℕ). BreaksWithin (between old new) x) (append_assoc front piece rest ∙ sym cut) whole
 
 pub all_shown : (out_old out_new err_old err_new : Writer) (status : Status) (shown : Transcript) → TakesText (between out_old out_new) shown.out
-    → TellsMessage (between err_old err_new) shown.err shown.status status ⊎ TellsMessage (between err_old err_new) (error_line (codes "no memory")) Failed status
+    → TellsMessage (between err_old err_new) shown.err shown.status status ⊎ TellsMessage (between err_old err_new) (error_line NO_MEMORY.now) Failed status
     → PrintsOrStarves (between out_old out_new) (between err_old err_new) shown status
 all_shown out_old out_new err_old err_new status shown wrote (inl told) = inl (wrote, told)
 all_shown out_old out_new err_old err_new status shown wrote (inr told) = inr (inr (((shown.out, [], sym (append-nil shown.out), wrote.0), wrote.1), told))
@@ -77,3 +82,25 @@ pub stop_shown : (out_old out_new err_old err_new : Writer) (status : Status) (s
     → TellsMessage (between err_old err_new) (error_line (stop_words stopped)) Failed status → PrintsOrStarves (between out_old out_new) (between err_old err_new) shown status
 stop_shown out_old out_new err_old err_new status shown NoMemory front told = inr (inr (front, told))
 stop_shown out_old out_new err_old err_new status shown Unwritten broke told = inr (inl (broke, told))
+
+-- ---- a path is UTF-8
+
+same_byte : (x : ℕ) → escape_byte x ≡ printed.escape_byte x
+unfolding escape_byte printed.escape_byte
+same_byte x = grind (arith, nat_tests)
+
+same_escapes : (s : List ℕ) → escaped s ≡ printed.escape s
+same_escapes [] = refl
+same_escapes (x ∷ s) = ap₂ (λ (a b : List ℕ). a ++ b) (same_byte x) (same_escapes s)
+
+joined_utf8 : {Z : Type 0} (names : List (String Z)) → IsUtf8 (join_with_byte 46 (map string_bytes names))
+joined_utf8 [] = IsUtf8-nil
+joined_utf8 (n ∷ []) = IsUtf8-string_bytes n
+joined_utf8 (n ∷ m ∷ ns) =
+    IsUtf8-append (string_bytes n) _ (IsUtf8-string_bytes n) (IsUtf8-append (46 ∷ []) _ (IsUtf8-are_ascii (46 ∷ []) refl) (joined_utf8 (m ∷ ns)))
+
+pub path_utf8 : {Z : Type 0} (names : List (String Z)) → IsUtf8 (quoted (join_with_byte 46 (map string_bytes names)))
+unfolding quoted
+path_utf8 names =
+    let path = join_with_byte 46 (map string_bytes names) in
+    subst IsUtf8 (ap (λ (l : List ℕ). 34 ∷ (l ++ 34 ∷ [])) (sym (same_escapes path))) (IsUtf8-quoted path (joined_utf8 names))

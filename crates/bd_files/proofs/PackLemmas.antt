@@ -1,6 +1,6 @@
 -- What `pack` shows is determined, but for the kind and the place of a fault.
 use Rattle.std.proofs.Common.{◌≡◌, ◌≤◌, ◌<◌, ℕ, suc, ◌+◌, List, [], ◌∷◌, ◌++◌, length, take, drop, get_or, Bool, true, false, Option, Some, None, refl, sym, ap, ◌∙◌, subst, append_assoc, append-nil}
-use Rattle.std.proofs.Common.{arith, inl, inr, codes, decimal, Ok, length-append, length-take-le, rules, add-one, Result, Err, ap₂, true≢false}
+use Rattle.std.proofs.Common.{arith, inl, inr, decimal, Ok, length-append, length-take-le, rules, add-one, Result, Err, ap₂, true≢false}
 use Rattle.std.proofs.{lemmas.Bool.cases_lt, lemmas.Bool.Decides.nat_tests, lemmas.List.Splits.slice_split_at, lemmas.List.Splits.slice_split_none, lemmas.Grind.flat_map-append, Math.Seq.drop-cons}
 use Rattle.std.proofs.lemmas.List.{get_or-take, get_or_default, take-append-drop}
 use Rattle.std.specs.Prelude.{◌⊎◌, ◌↔◌, ◌==◌, option_map}
@@ -16,6 +16,7 @@ use Rattle.bd_files.specs.{declared.pack.Packing.Packing, declared.output.Status
 use Rattle.bd_files.specs.Output.{stop_words, PrintsOrStarves, TellsMessage, Transcript, error_line, wrong_line, wrong_status}
 use Rattle.bd_files.specs.Pack.{IsShownByPack, PacksLines, bad_line_text, shown_pack, IsPacking, StopsPacking, left_size, lines_left, AreAlike}
 use Rattle.bd_files.specs.declared.pack.TheConstants.{OBJECTS_PACKED}
+use Rattle.bd_files.specs.declared.output.TheConstants.{NO_MEMORY}
 use Rattle.bd_files.proofs.OutputLemmas.{all_shown, stop_shown, breaks_piece, front_taken, takes_both}
 use Rattle.bd_lines.specs.Lines.{is_empty_line, text_lines}
 use Rattle.bd_device.specs.Devices.{BreaksWithin, TakesText, Writer, between}
@@ -110,7 +111,7 @@ module _ (text : List ℕ) (out_old out_new : Writer) (err_old err_new : Writer)
   Shows = (shown : Transcript) × IsShownByPack (Ok text) shown × PrintsOrStarves (between out_old out_new) (between err_old err_new) shown status
 
   abbrev Tells : List ℕ → Status → Type 0
-  Tells told wanted = TellsMessage (between err_old err_new) told wanted status ⊎ TellsMessage (between err_old err_new) (error_line (codes "no memory")) Failed status
+  Tells told wanted = TellsMessage (between err_old err_new) told wanted status ⊎ TellsMessage (between err_old err_new) (error_line NO_MEMORY.now) Failed status
 
   -- the bad line, where there is one, and this count
   abbrev pub TellsPacking : ℕ → Option BadLine → Type 0

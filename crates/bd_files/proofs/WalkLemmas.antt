@@ -1,9 +1,9 @@
 -- A walk over the documents of an input, step by step.
-use Rattle.std.proofs.Common.{inl, inr, ◌≡◌, ◌≤◌, ◌<◌, ℕ, ◌+◌, ◌-◌, List, [], ◌∷◌, ◌++◌, length, length-take-le, map, append-nil, append_assoc, Option, Some, None, Err, refl, sym, ap, ap₂, ◌∙◌, subst}
+use Rattle.std.proofs.Common.{inl, inr, ◌≡◌, ◌≤◌, ◌<◌, ℕ, ◌+◌, ◌-◌, List, [], ◌∷◌, ◌++◌, length, length-take-le, map, append-nil, append_assoc, Option, Some, None, Result, Ok, Err, Bool, true, false, refl, sym, ap, ap₂, ◌∙◌, subst}
 use Rattle.std.proofs.Common.{arith, length-append}
 use Rattle.std.proofs.{lemmas.List.take_at, lemmas.List.Sums.sum_by-append}
 use Rattle.std.proofs.KnownBytes.{Appends-nil, Consumes-trans, Consumes-nil}
-use Rattle.std.specs.{List.count_by, Prelude.◌⊎◌, Prelude.IfSome, Prelude.is_some, Prelude.cond, Prelude.string_bytes}
+use Rattle.std.specs.{List.count_by, Prelude.◌⊎◌, Prelude.IfSome, Prelude.is_some, Prelude.cond, Prelude.string_bytes, Prelude.unwrap_or}
 use Rattle.std.specs.Io.KnownBytes.{Consumes, IsAtEnd}
 use Rattle.bd_value.specs.Limits.{longest_input, most_reads}
 use Rattle.bd_device.specs.{Devices.after_more, declared.reading.ReadFault.ReadFault}
@@ -15,7 +15,7 @@ use Rattle.bd_stream.specs.{declared.doc_buffer.DocBuffer.DocBuffer, declared.do
 use Rattle.bd_stream.specs.Stream.{FailsToRead, IsReason, ReadsDocument, held_bytes, AreFrames, EndsWithinOne, HasNoFrame, IsFrame, IsWithinOne}
 use Rattle.bd_stream.proofs.StreamLemmas.{cut_within, frame_on, frame_within, frames_more}
 use Rattle.bd_files.specs.{Input.StopsInside, Input.StreamsInput, Output.StopsWriting, declared.dump_and_check.Ending.Ending, declared.output.OutputFault.OutputFault}
-use Rattle.bd_files.specs.DumpAndCheck.{AreVisited, EndsWalk, IsTextOf, StopsWalk, Texts, WalksDocuments, more_visited, none_visited}
+use Rattle.bd_files.specs.DumpAndCheck.{AreVisited, EndsWalk, IsTextOf, MeetsFault, StopsWalk, Texts, WalksDocuments, more_visited, none_visited, text_at_end}
 use Rattle.bd_files.specs.declared.output.OutputFault.TheVariants.{NoMemory, Unwritten}
 use Rattle.bd_files.proofs.OutputLemmas.{breaks_after, takes_both}
 use Rattle.bd_device.specs.declared.reading.ReadFault.TheVariants as reads
@@ -182,11 +182,19 @@ module _ {texts : Texts} {old mid : Reader} {out_old out_mid : Writer} {buffer :
   within : (part : List ℕ) → length part ≤ buffer.left.bytes → length (s.given ++ part) ≤ longest_input
   within part le = let f = s.fits in let p = s.placed in omega (arith, length-append s.given part)
 
-  abbrev Ended : Reader → Ending → Type 0
-  Ended new ending = WalksDocuments texts (between old new) (between out_old out_mid) (record { count = buffer.number; bad = bad; ending = ending })
+  abbrev Ended : Reader → Writer → Ending → Type 0
+  Ended new out ending = WalksDocuments texts (between old new) (between out_old out) (record { count = buffer.number; bad = bad; ending = ending })
 
-  ends : (new : Reader) (ending : Ending) → EndsWalk texts (between old new) (length s.done) s.given ending → Ended new ending
-  ends new ending end = (s.done, s.given, s.text, s.visited, s.counted, s.bad_counted, end, s.wrote)
+  ends : (new : Reader) (out : Writer) (ending : Ending) → EndsWalk texts (between old new) (length s.done) s.given ending
+      → TakesText (between out_old out) (s.text ++ text_at_end texts (length s.done) ending) → Ended new out ending
+  ends new out ending end wrote = (s.done, s.given, s.text, s.visited, s.counted, s.bad_counted, end, wrote)
+
+  -- nothing is written at the end
+  ends_so : (new : Reader) (ending : Ending) → EndsWalk texts (between old new) (length s.done) s.given ending
+      → text_at_end texts (length s.done) ending ≡ [] → Ended new out_mid ending
+  ends_so new ending end none =
+      let all = sym (append-nil s.text) ∙ ap (λ x. s.text ++ x) (sym none) in
+      ends new out_mid ending end (subst (λ (x : List ℕ). TakesText (between out_old out_mid) x) all s.wrote)
 
   -- the walk stands after its documents and a part of the next one
   module _ {new : Reader} {part : List ℕ} (g : Gives mid new buffer.left.bytes part) where
@@ -206,33 +214,34 @@ module _ {texts : Texts} {old mid : Reader} {out_old out_mid : Writer} {buffer :
     stops_by out_new v piece NoMemory is shows same = rw same starves
     stops_by out_new v piece Unwritten is shows (broke, some) =
         let after = breaks_after out_old out_mid out_new s.text piece s.wrote broke in
-        (s.done, s.given, s.text, s.visited, (v, part, piece, is, next_of part v piece shows, at, g.well ∙ s.well, after, some))
+        (s.done, s.given, s.text, piece, s.visited, after, some, inl (v, part, is, next_of part v piece shows, at, g.well ∙ s.well))
 
     -- the input is at its end
-    pub ends_whole : part ≡ [] → IsAtEnd new.left → Ended new endings.Whole
+    pub ends_whole : part ≡ [] → IsAtEnd new.left → Ended new out_mid endings.Whole
     ends_whole none end =
         let all = subst (λ (x : List ℕ). Consumes old.left new.left x) (ap (λ x. s.given ++ x) none ∙ append-nil s.given) at.0 in
-        ends new endings.Whole (streams s.given (known_end old.left new.left s.given all end), (part, at))
+        ends_so new endings.Whole (streams s.given (known_end old.left new.left s.given all end), (part, at)) refl
 
     -- the walk ends at the fault, or the length of its document is bad
     abbrev IsLast : ℕ → List ℕ → told.Fault → Type 0
     IsLast number bytes f = (texts.bad number (fault_view f) ≡ None) ⊎ ((frame_length part ≡ Err f.kind) × (frame_length bytes ≡ Err f.kind))
 
     ends_at : (rest : List ℕ) (f : told.Fault) → IfSome mid.left (λ xs. part ++ rest ≡ xs) → f.document ≡ buffer.number → frame_fault buffer.place (part ++ rest) ≡ Some (fault_view f)
-        → IsLast buffer.number (part ++ rest) f → Ended new (endings.Faulty f)
+        → IsLast buffer.number (part ++ rest) f → EndsWalk texts (between old new) (length s.done) s.given (endings.Faulty f)
     ends_at rest f known numbered fails last =
         let all = streams (s.given ++ (part ++ rest)) (known_after old.left mid.left s.given (part ++ rest) s.gave known) in
         let fault = subst (λ p. frame_fault p (part ++ rest) ≡ Some (fault_view f)) s.placed fails in
-        ends new (endings.Faulty f) (part, rest, all, at, numbered ∙ s.counted, fault, subst (λ n. IsLast n (part ++ rest) f) s.counted last)
+        (part, rest, all, at, numbered ∙ s.counted, fault, subst (λ n. IsLast n (part ++ rest) f) s.counted last)
 
     pub ends_faulty : (f : told.Fault) → IsFrame part → first_fault buffer.place part ≡ Some (fault_view f) → f.document ≡ buffer.number
-        → texts.bad buffer.number (fault_view f) ≡ None → Ended new (endings.Faulty f)
-    ends_faulty f is first numbered last =
+        → texts.bad buffer.number (fault_view f) ≡ None → Ended new out_mid (endings.Faulty f)
+    ends_faulty f is first numbered none =
         let rest = rest_of new.left in
-        ends_at rest f (known_whole mid.left new.left part g.gave) numbered (fault_inside buffer.place part rest (fault_view f) is first) (inl last)
+        let end = ends_at rest f (known_whole mid.left new.left part g.gave) numbered (fault_inside buffer.place part rest (fault_view f) is first) (inl none) in
+        ends_so new (endings.Faulty f) end (ap (λ (o : Option (List ℕ)). unwrap_or o []) (subst (λ n. texts.bad n (fault_view f) ≡ None) s.counted none))
 
     pub ends_framed : (f : told.Fault) → HasNoFrame [] mid.left f.kind → frame_length part ≡ Err f.kind → f.offset ≡ buffer.place → f.document ≡ buffer.number → f.path.items ≡ []
-        → Ended new (endings.Faulty f)
+        → EndsWalk texts (between old new) (length s.done) s.given (endings.Faulty f)
     ends_framed f none is offset numbered path =
         let r = framed_rest mid.left new.left part f g.gave none is in
         let fails = ap (framed_fault buffer.place (part ++ r.0)) r.2
@@ -243,12 +252,36 @@ module _ {texts : Texts} {old mid : Reader} {out_old out_mid : Writer} {buffer :
 module _ {texts : Texts} {R : Type 0} {state : R → Reader} {gives : R → Option (List ℕ) → R → Type 0} {old : Reader} {m n : R} {out_old out_mid : Writer}
     {buffer after : DocBuffer} {bad : ℕ} (s : SoFar texts old (state m) out_old out_mid buffer bad) where
   -- its length is bad
-  pub ends_by_length : (frame : FrameFault) (f : told.Fault) → (f.kind ≡ frame.kind) × (f.document ≡ frame.document) × (f.offset ≡ frame.offset) → f.path.items ≡ []
-      → FailsToRead state gives [] buffer after m n (faults.Frame frame) → Ended s (state n) (endings.Faulty f)
-  ends_by_length frame f same path fails =
-      let reason = fails.reason in
-      let g : Gives (state m) (state n) buffer.left.bytes fails.given = record { gave = fails.gave; short = reason.4; within = reason.6; well = reason.5 } in
-      ends_framed s g f (rw same.0 reason.2) (rw same.0 reason.3) (same.2 ∙ reason.0) (same.1 ∙ reason.1) path
+  module _ (frame : FrameFault) (f : told.Fault) (same : (f.kind ≡ frame.kind) × (f.document ≡ frame.document) × (f.offset ≡ frame.offset)) (path : f.path.items ≡ [])
+      (fails : FailsToRead state gives [] buffer after m n (faults.Frame frame)) where
+    number : f.document ≡ length s.done
+    number = same.1 ∙ fails.reason.1 ∙ s.counted
+
+    end : EndsWalk texts (between old (state n)) (length s.done) s.given (endings.Faulty f)
+    end =
+        let reason = fails.reason in
+        let g : Gives (state m) (state n) buffer.left.bytes fails.given = record { gave = fails.gave; short = reason.4; within = reason.6; well = reason.5 } in
+        ends_framed s g f (rw same.0 reason.2) (rw same.0 reason.3) (same.2 ∙ reason.0) (same.1 ∙ reason.1) path
+
+    -- what is written of it was written, or not
+    abbrev Meets : Writer → Result Bool OutputFault → Type 0
+    Meets out met = MeetsFault (texts.bad f.document (fault_view f)) (between out_mid out) met
+
+    pub ends_by_length : (out : Writer) (goes_on : Bool) → Meets out (Ok goes_on) → Ended s (state n) out (endings.Faulty f)
+    ends_by_length out true (line, is, took) =
+        let text = ap (λ (o : Option (List ℕ)). unwrap_or o []) (subst (λ n. texts.bad n (fault_view f) ≡ Some line) number is) in
+        let all = ap (λ x. s.text ++ x) (sym text) in
+        ends s (state n) out (endings.Faulty f) end (subst (λ (x : List ℕ). TakesText (between out_old out) x) all (takes_both out_old out_mid out s.text line s.wrote took))
+    ends_by_length out false (none, same) =
+        let text = ap (λ (o : Option (List ℕ)). unwrap_or o []) (subst (λ n. texts.bad n (fault_view f) ≡ None) number none) in
+        subst (λ (w : Writer). Ended s (state n) w (endings.Faulty f)) (sym same) (ends_so s (state n) (endings.Faulty f) end text)
+
+    pub stops_by_length : (out : Writer) (stopped : OutputFault) → Meets out (Err stopped) → StopsWalk texts (between old (state n)) (between out_old out) stopped
+    stops_by_length out NoMemory (line, is, same) =
+        subst (λ (w : Writer). StopsWalk texts (between old (state n)) (between out_old w) NoMemory) (sym same) (s.done, s.given, s.text, s.visited, (end.0, end.3), end.2.2, s.wrote)
+    stops_by_length out Unwritten (line, is, (broke, some)) =
+        let after = breaks_after out_old out_mid out s.text line s.wrote broke in
+        (s.done, s.given, s.text, line, s.visited, after, some, inr (f, end, subst (λ n. texts.bad n (fault_view f) ≡ Some line) number is))
 
   pub starves_by : FailsToRead state gives [] buffer after m n (faults.Read reads.NoMemory) → StopsWalk texts (between old (state n)) (between out_old out_mid) NoMemory
   starves_by fails =
@@ -257,8 +290,8 @@ module _ {texts : Texts} {R : Type 0} {state : R → Reader} {gives : R → Opti
       = record { gave = fails.gave; short = reason.1; within = cut_within fails.given reason.0; well = reason.2 } in
       starves s g
 
-  pub ends_unread : (f : ReadFault) → ¬ (f ≡ reads.NoMemory) → FailsToRead state gives [] buffer after m n (faults.Read f) → Ended s (state n) (endings.Unread f)
-  ends_unread f other fails = ends s (state n) (endings.Unread f) (by_fault f other fails.given moved fails.reason)
+  pub ends_unread : (f : ReadFault) → ¬ (f ≡ reads.NoMemory) → FailsToRead state gives [] buffer after m n (faults.Read f) → Ended s (state n) out_mid (endings.Unread f)
+  ends_unread f other fails = ends_so s (state n) (endings.Unread f) (by_fault f other fails.given moved fails.reason) refl
     where
       moved : Consumes old.left (state n).left (s.given ++ fails.given)
       moved = Consumes-trans old.left (state m).left (state n).left s.given fails.given s.gave fails.gave

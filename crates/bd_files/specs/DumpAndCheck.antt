@@ -1,7 +1,7 @@
 -- What `dump` and `check` show of an input, and what a run of them did.
 use Rattle.std.specs.Prelude.{◌≡◌, ◌≢◌, ◌≤◌, ◌⊎◌, ℕ, zero, suc, Bool, true, false, List, [], ◌∷◌, ◌++◌, length, decimal}
 use Rattle.std.specs.Prelude.{Option, Some, None}
-use Rattle.std.specs.{Prelude.is_some, Prelude.option_map, Prelude.Result, Prelude.Ok, Prelude.Err}
+use Rattle.std.specs.Prelude.{is_some, option_map, unwrap_or, Result, Ok, Err}
 use Rattle.std.specs.{Io.KnownBytes.Consumes, List.count_by}
 use Rattle.bd_value.specs.{Limits.longest_input, Tree.Doc}
 use Rattle.bd_device.specs.Devices.{BreaksAfter, BreaksWithin, Over, Reader, TakesFront, TakesText, Writer, read_words}
@@ -13,12 +13,13 @@ use Rattle.bd_stream.specs.Stream.{AreFrames, IsCut, IsFrame}
 use Rattle.bd_bson.specs.Verdicts.{verdicts}
 use Rattle.bd_files.specs.{declared.dump_and_check.Ending.Ending, declared.dump_and_check.Walk.Walk}
 use Rattle.bd_files.specs.{declared.output.OutputFault.OutputFault, declared.output.Status.Status}
-use Rattle.bd_files.specs.{declared.dump_and_check.Findings.Findings, declared.output.OutputFault.TheVariants.NoMemory}
+use Rattle.bd_files.specs.{declared.output.OutputFault.TheVariants.NoMemory}
 use Rattle.bd_files.specs.{declared.output.OutputFault.TheVariants.Unwritten, declared.output.Status.TheVariants.Done}
 use Rattle.bd_files.specs.{declared.output.Status.TheVariants.Failed}
 use Rattle.bd_files.specs.declared.dump_and_check.TheConstants.{DOCUMENTS, FAULTY, OBJECTS_FOUND}
 use Rattle.bd_files.specs.Input.{StopsInside, StopsWithinOne, StreamsInput}
 use Rattle.bd_files.specs.Output.{StopsWriting, TellsEnd, Transcript, fault_text, lines, shown_before, wrong_line}
+use Rattle.bd_check.specs.declared.fault.Fault as told
 use Rattle.bd_files.specs.declared.dump_and_check.Ending.TheVariants as endings
 
 -- ---- `dump`
@@ -129,20 +130,6 @@ ChecksInput file out err status =
     (BreaksWithin out shown.out × BreaksAtVerdict file out)
     ((fault ≡ None) × TakesFront out shown.out) err shown status
 
--- all were judged: their lines were taken, and counted they are so many
-abbrev pub JudgesDocuments : Over Reader → Over Writer → Findings → Type 0
-JudgesDocuments file out findings =
-    (bytes : List ℕ) × (vs : List (Option Fault)) × StreamsInput file bytes findings.unread
-    × JudgesWithinLimit bytes findings.unread × AreVerdicts bytes findings.unread vs
-    × (findings.documents ≡ length vs) × (findings.faulty ≡ count_by is_some vs) × TakesText out (verdict_lines 0 vs)
-
--- the judging was stopped
-abbrev pub StopsJudging : Over Reader → Over Writer → OutputFault → Type 0
-StopsJudging file out NoMemory =
-    (bytes : List ℕ) × StreamsInput file bytes None × TakesFront out (verdict_lines 0 (verdicts bytes))
-StopsJudging file out Unwritten = (bytes : List ℕ) × StreamsInput file bytes None
-    × BreaksWithin out (verdict_lines 0 (verdicts bytes)) × BreaksAtVerdict file out
-
 -- ---- the walk over the documents
 
 -- what is written of a document, and of a fault by the number of its document; none where the walk ends at it
@@ -192,20 +179,30 @@ ending_words endings.Whole = None
 ending_words (endings.Faulty f) = Some (fault_text f.document (fault_view f))
 ending_words (endings.Unread f) = Some (read_words f)
 
+-- what is written of the fault that ends the walk: of a bad length, after which no document is looked for
+abbrev pub text_at_end : Texts → ℕ → Ending → List ℕ
+text_at_end texts number (endings.Faulty f) = unwrap_or (texts.bad number (fault_view f)) []
+text_at_end texts number _ = []
+
 -- the documents of the walk, and what the writer took of them
 abbrev pub WalksDocuments : Texts → Over Reader → Over Writer → Walk → Type 0
 WalksDocuments texts file out walk =
     (vs : List (Option Fault)) × (given : List ℕ) × (text : List ℕ) × AreVisited texts vs given text
     × (walk.count ≡ length vs) × (walk.bad ≡ count_by is_some vs)
-    × EndsWalk texts file (length vs) given walk.ending × TakesText out text
+    × EndsWalk texts file (length vs) given walk.ending
+    × TakesText out (text ++ text_at_end texts (length vs) walk.ending)
 
--- the walk was stopped: memory ran out after these documents, or a write failed in what is written of the next one
+-- the walk was stopped: memory ran out after these documents,
+-- or a write failed in what is written of the next one, or of the fault that ends the walk
 abbrev pub StopsWalk : Texts → Over Reader → Over Writer → OutputFault → Type 0
 StopsWalk texts file out NoMemory =
     (vs : List (Option Fault)) × (given : List ℕ) × (text : List ℕ) × AreVisited texts vs given text
     × StopsWithinOne given file × (file.after.failures ≡ file.before.failures) × TakesText out text
 StopsWalk texts file out Unwritten =
-    (vs : List (Option Fault)) × (given : List ℕ) × (text : List ℕ) × AreVisited texts vs given text
-    × ((v : Option Fault) × (frame : List ℕ) × (piece : List ℕ) × IsFrame frame
+    (vs : List (Option Fault)) × (given : List ℕ) × (text : List ℕ) × (piece : List ℕ)
+    × AreVisited texts vs given text × BreaksAfter out text piece × (piece ≢ [])
+    × (((v : Option Fault) × (frame : List ℕ) × IsFrame frame
     × IsTextOf texts (length vs) (length given) frame v piece × StopsInside given frame file
-    × (file.after.failures ≡ file.before.failures) × BreaksAfter out text piece × (piece ≢ []))
+    × (file.after.failures ≡ file.before.failures))
+    ⊎ ((f : told.Fault) × EndsWalk texts file (length vs) given (endings.Faulty f)
+    × (texts.bad (length vs) (fault_view f) ≡ Some piece)))

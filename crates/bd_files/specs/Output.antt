@@ -11,6 +11,7 @@ use Rattle.bd_files.specs.{declared.output.OutputFault.OutputFault, declared.out
 use Rattle.bd_files.specs.{declared.output.OutputFault.TheVariants.NoMemory}
 use Rattle.bd_files.specs.{declared.output.OutputFault.TheVariants.Unwritten, declared.output.Status.TheVariants.Done}
 use Rattle.bd_files.specs.{declared.output.Status.TheVariants.Failed}
+use Rattle.bd_files.specs.declared.output.TheConstants.{CANNOT_WRITE, NO_MEMORY}
 
 -- standard output, standard error, and the exit status
 pub record Transcript : Type 0 where
@@ -38,8 +39,8 @@ fault_text number f =
     ++ (codes ", path " ++ (quoted (join_with_byte 46 f.path) ++ (codes ": " ++ fault_words f.kind)))
 
 abbrev pub stop_words : OutputFault → List ℕ
-stop_words NoMemory = codes "no memory"
-stop_words Unwritten = codes "cannot write"
+stop_words NoMemory = NO_MEMORY.now
+stop_words Unwritten = CANNOT_WRITE.now
 
 -- ---- what is shown
 
@@ -77,8 +78,8 @@ TellsMessage err message wanted status =
 -- or memory ran out, as the third tells, and standard error says so.
 abbrev pub TellsEnd : Type 0 → Type 0 → Type 0 → Over Writer → Transcript → Status → Type 0
 TellsEnd Whole Broke Starved err shown status = (Whole × TellsMessage err shown.err shown.status status)
-    ⊎ (Broke × TellsMessage err (error_line (codes "cannot write")) Failed status)
-    ⊎ (Starved × TellsMessage err (error_line (codes "no memory")) Failed status)
+    ⊎ (Broke × TellsMessage err (error_line CANNOT_WRITE.now) Failed status)
+    ⊎ (Starved × TellsMessage err (error_line NO_MEMORY.now) Failed status)
 
 -- standard output has the whole text that is to be shown, or a front of it where a write failed
 abbrev pub PrintsShown : Over Writer → Over Writer → Transcript → Status → Type 0

@@ -1,21 +1,22 @@
 //! `dump`, the documents of an input, one a line; and `check`, a line for each document that has a fault. Both go over the
 //! documents one after the other.
 
-ghost use Rattle.std.specs.Prelude.{◌≡◌, ◌<◌, ◌≤◌, ◌⊎◌, ◌++◌, [], ◌∷◌, None, Some, codes, decimal, IfErr, IfOk, OnErr, OnOk};
+ghost use Rattle.std.specs.Prelude.{◌≡◌, ◌<◌, ◌≤◌, ◌⊎◌, ◌++◌, [], ◌∷◌, None, Some, decimal, IfErr, IfOk, OnErr, OnOk};
 ghost use Rattle.bd_value.specs.Limits.{longest_input};
 ghost use Rattle.bd_value.specs.Tree.{pairs_in};
 ghost use Rattle.bd_device.specs.Devices.{BreaksWithin, TakesText, over};
 ghost use Rattle.bd_raw.specs.Sound.{stands};
 ghost use Rattle.bd_check.specs.Fault.{fault_view};
-ghost use Rattle.bd_files.specs.DumpAndCheck.{ChecksInput, DumpsInput, JudgesDocuments, MeetsFault, StopsJudging, StopsWalk, Texts};
+ghost use Rattle.bd_files.specs.DumpAndCheck.{ChecksInput, DumpsInput, MeetsFault, StopsWalk, Texts};
 ghost use Rattle.bd_files.specs.DumpAndCheck.{WalksDocuments, check_message, check_status, check_texts, dump_texts, ending_words};
 ghost use Rattle.bd_files.specs.Output.{TellsMessage, Writes, error_line, wrong_line, wrong_status};
+ghost use Rattle.bd_files.specs.declared.output.TheConstants.{NO_MEMORY};
 ghost use Rattle.bd_files.specs.declared.output.Status.TheVariants.{Failed};
 
 use crate::input::LIMITS;
 use crate::output::{
-    OutputFault, Status, fault_message, is_want_of_memory, status_of, tell_end, tell_no_memory,
-    tell_stop, words_of, write_count, write_end, write_fault,
+    OutputFault, Status, fault_message, is_want_of_memory, push_fault, status_of, tell_end,
+    tell_no_memory, tell_stop, words_of, write_count, write_end,
 };
 use bd_check::{Fault, check_document};
 use bd_device::{DeviceFault, Input, Output, ReadFault, write_all};
@@ -25,11 +26,11 @@ use bd_stream::{DocBuffer, DocFault};
 use std::alloc::Global;
 
 /// After the number of documents, of all or of those that have a fault.
-const OBJECTS_FOUND: &[u8] = b" objects found\n";
+const OBJECTS_FOUND: &str = " objects found\n";
 
-const DOCUMENTS: &[u8] = b" documents, ";
+const DOCUMENTS: &str = " documents, ";
 
-const FAULTY: &[u8] = b" faulty\n";
+const FAULTY: &str = " faulty\n";
 
 /// Reads an input document by document, and shows each before the next is read.
 pub fn dump<R: Input, O: Output, E: Output>(
@@ -73,7 +74,7 @@ fn tell_walk<E: Output>(alloc: Global, walk: &Walk, err: &mut E) -> Status
     ensures { TellsMessage (over E.state err.old err.new) (wrong_line (ending_words walk.now.ending) ++ (decimal walk.now.count ++ OBJECTS_FOUND.now))
         (wrong_status (ending_words walk.now.ending)) result
         ⊎ ((fault : Fault) × (walk.now.ending ≡ Ending.Faulty fault)
-        × TellsMessage (over E.state err.old err.new) (error_line (codes "no memory")) Failed result) }
+        × TellsMessage (over E.state err.old err.new) (error_line NO_MEMORY.now) Failed result) }
 {
     let count = u64::from(walk.count);
     match &walk.ending {
@@ -86,7 +87,7 @@ fn tell_walk<E: Output>(alloc: Global, walk: &Walk, err: &mut E) -> Status
     }
 }
 
-/// Reads an input document by document, and shows which of them have a fault.
+/// Reads an input document by document, and shows which of them have a fault. No tree is built.
 pub fn check<R: Input, O: Output, E: Output>(
     alloc: Global,
     input: &mut R,
@@ -96,43 +97,15 @@ pub fn check<R: Input, O: Output, E: Output>(
     ensures { ChecksInput (over R.state input.old input.new) (over O.state out.old out.new)
         (over E.state err.old err.new) result }
 {
-    match judge_documents(alloc, input, out) {
-        Ok(findings) => tell_findings(&findings, err),
+    let line = String::new(alloc);
+    match walk_documents(alloc, input, &mut Judge { line }, out) {
+        Ok(walk) => match walk.ending {
+            Ending::Whole => tell_findings(walk.count, walk.bad, None, err),
+            // A bad length: no document after it is looked for.
+            Ending::Faulty(_) => tell_findings(walk.count + 1, walk.bad + 1, None, err),
+            Ending::Unread(fault) => tell_findings(walk.count, walk.bad, Some(fault), err),
+        },
         Err(fault) => tell_stop(fault, err),
-    }
-}
-
-/// Judges the documents of an input, and writes a line for each that has a fault. No tree is built.
-fn judge_documents<R: Input, O: Output>(
-    alloc: Global,
-    input: &mut R,
-    out: &mut O,
-) -> Result<Findings, OutputFault>
-    ensures judges { IfOk result (JudgesDocuments (over R.state input.old input.new) (over O.state out.old out.new)) }
-    ensures stops { IfErr result (StopsJudging (over R.state input.old input.new) (over O.state out.old out.new)) }
-{
-    let mut judge = Judge {
-        line: Vec::new(alloc),
-    };
-    let walk = walk_documents(alloc, input, &mut judge, out)?;
-    let mut findings = Findings {
-        documents: walk.count,
-        faulty: walk.bad,
-        unread: None,
-    };
-    match &walk.ending {
-        Ending::Whole => Ok(findings),
-        // A bad length: no document after it is looked for.
-        Ending::Faulty(fault) => {
-            let _goes_on = judge.meet(fault, out)?;
-            findings.documents += 1;
-            findings.faulty += 1;
-            Ok(findings)
-        }
-        Ending::Unread(fault) => {
-            findings.unread = Some(*fault);
-            Ok(findings)
-        }
     }
 }
 
@@ -140,7 +113,7 @@ fn judge_documents<R: Input, O: Output>(
 #[derive(Debug, Drop)]
 struct Judge {
     /// Room that their lines share.
-    line: Vec<u8>,
+    line: String,
 }
 
 impl<O: Output> Visitor<O> for Judge {
@@ -152,49 +125,42 @@ impl<O: Output> Visitor<O> for Judge {
 
     fn meet(&mut self, fault: &Fault, out: &mut O) -> Result<bool, OutputFault> {
         self.line.clear();
-        write_fault(fault, &mut self.line)?;
-        self.line.extend_from_slice(b"\n")?;
-        write_all(out, &self.line)?;
+        push_fault(fault, &mut self.line)?;
+        self.line.push('\n')?;
+        write_all(out, self.line.as_bytes())?;
         Ok(true)
     }
 }
 
-/// How many documents of an input were judged.
-#[derive(Clone, Copy, Debug, PartialEq, Eq)]
-pub struct Findings {
-    /// All of them.
-    pub documents: u32,
-    /// Those that have a fault.
-    pub faulty: u32,
-    /// Why no more of the input was read.
-    pub unread: Option<ReadFault>,
-}
-
-/// Tells how many documents there are and how many have a fault, after the lines of these on standard output. It takes no
-/// memory.
-fn tell_findings<E: Output>(findings: &Findings, err: &mut E) -> Status
-    ensures { TellsMessage (over E.state err.old err.new)
-        (check_message findings.now.unread findings.now.documents findings.now.faulty)
-        (check_status findings.now.unread findings.now.faulty) result }
+/// Tells how many documents were judged, how many of them have a fault, and why no more of the input was read. It takes no memory.
+fn tell_findings<E: Output>(
+    documents: u32,
+    faulty: u32,
+    unread: Option<ReadFault>,
+    err: &mut E,
+) -> Status
+    ensures { TellsMessage (over E.state err.old err.new) (check_message unread documents faulty) (check_status unread faulty) result }
 {
-    let wanted = match (findings.faulty, findings.unread) {
+    let wanted = match (faulty, unread) {
         (0, None) => Status::Done,
         _ => Status::Failed,
     };
-    status_of(write_findings(findings, err), wanted)
+    status_of(write_findings(documents, faulty, unread, err), wanted)
 }
 
 /// Writes what standard error is to tell.
 #[tactic(auto, using(crate::proofs::OutputLemmas::taking))]
-fn write_findings<E: Output>(findings: &Findings, err: &mut E) -> Result<(), DeviceFault>
-    ensures ok { OnOk result (TakesText (over E.state err.old err.new)
-        (check_message findings.now.unread findings.now.documents findings.now.faulty)) }
-    ensures err { OnErr result (BreaksWithin (over E.state err.old err.new)
-        (check_message findings.now.unread findings.now.documents findings.now.faulty)) }
+fn write_findings<E: Output>(
+    documents: u32,
+    faulty: u32,
+    unread: Option<ReadFault>,
+    err: &mut E,
+) -> Result<(), DeviceFault>
+    ensures ok { OnOk result (TakesText (over E.state err.old err.new) (check_message unread documents faulty)) }
+    ensures err { OnErr result (BreaksWithin (over E.state err.old err.new) (check_message unread documents faulty)) }
 {
-    let wrong = words_of(findings.unread);
-    write_end(wrong, u64::from(findings.documents), DOCUMENTS, err)?;
-    write_count(u64::from(findings.faulty), FAULTY, err)
+    write_end(words_of(unread), u64::from(documents), DOCUMENTS, err)?;
+    write_count(u64::from(faulty), FAULTY, err)
 }
 
 /// Who is shown the documents of an input, each before the next is read.
@@ -246,7 +212,10 @@ pub(crate) fn walk_documents<R: Input, O: Output, V: Visitor<O>>(
                 return Ok(Walk { count, bad, ending });
             }
             Err(DocFault::Frame(fault)) => {
-                let ending = Ending::Faulty(fault.to_fault(alloc));
+                let fault = fault.to_fault(alloc);
+                // A bad length: no document after it is looked for, whatever the visitor says.
+                let _goes_on = visitor.meet(&fault, out)?;
+                let ending = Ending::Faulty(fault);
                 return Ok(Walk { count, bad, ending });
             }
             Err(DocFault::Read(ReadFault::NoMemory)) => return Err(OutputFault::NoMemory),

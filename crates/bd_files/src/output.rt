@@ -1,16 +1,18 @@
 //! What a run writes of itself, and how it ends. But for the path of a fault it takes no memory.
 
-ghost use Rattle.std.specs.Prelude.{◌≡◌, ◌++◌, ◌↔◌, ◌⊎◌, IfOk, IsTrue, OnErr, OnOk, codes, decimal, option_map};
+ghost use Rattle.std.specs.Prelude.{◌≡◌, ◌++◌, ◌↔◌, ◌⊎◌, IfOk, IsTrue, OnErr, OnOk, decimal, map, option_map, string_bytes};
+ghost use Rattle.std.specs.List.{join_with_byte};
 ghost use Rattle.bd_device.specs.Devices.{BreaksWithin, TakesText, over, read_words};
 ghost use Rattle.bd_check.specs.Fault.{fault_view};
 ghost use Rattle.bd_check.specs.declared.fault.FaultKind.TheVariants as kinds;
+ghost use Rattle.bd_text.specs.Text.{quoted};
 ghost use Rattle.bd_files.specs.Output.{TellsMessage, error_line, fault_text, place_text, stop_words, told_bytes, wrong_line, wrong_status};
 ghost use Rattle.bd_files.specs.declared.output.OutputFault.TheVariants.{NoMemory as no_memory, Unwritten};
 ghost use Rattle.bd_files.specs.declared.output.Status.TheVariants.{Failed};
 
 use bd_check::{Fault, FaultKind};
 use bd_device::{DeviceFault, Output, ReadFault, write_all};
-use bd_extjson::{write_number, write_number32, write_path};
+use bd_extjson::write_path;
 use bd_value::NoMemory;
 use itoa::Buffer;
 use std::alloc::{AllocError, Global};
@@ -51,6 +53,12 @@ impl From<DeviceFault> for OutputFault {
     }
 }
 
+/// Why a run ends where memory ran out.
+pub const NO_MEMORY: &str = "no memory";
+
+/// Why a run ends where standard output failed.
+pub const CANNOT_WRITE: &str = "cannot write";
+
 /// Whether a fault is that memory ran out, which is no fault of the input.
 pub fn is_want_of_memory(fault: &Fault) -> bool
     ensures { IsTrue result ↔ (fault.now.kind ≡ kinds.NoMemory) }
@@ -60,42 +68,42 @@ pub fn is_want_of_memory(fault: &Fault) -> bool
 
 /// Writes the line of an error.
 #[tactic(auto, using(crate::proofs::OutputLemmas::taking))]
-pub fn write_error<E: Output>(message: &[u8], err: &mut E) -> Result<(), DeviceFault>
+pub fn write_error<E: Output>(message: &str, err: &mut E) -> Result<(), DeviceFault>
     ensures ok { OnOk result (TakesText (over E.state err.old err.new) (error_line message.now)) }
     ensures err { OnErr result (BreaksWithin (over E.state err.old err.new) (error_line message.now)) }
 {
     write_all(err, b"bsonfind: ")?;
-    write_all(err, message)?;
+    write_all(err, message.as_bytes())?;
     write_all(err, b"\n")
 }
 
 /// Writes a number and the words after it.
 #[tactic(auto, using(crate::proofs::OutputLemmas::taking))]
-pub fn write_count<E: Output>(count: u64, words: &[u8], err: &mut E) -> Result<(), DeviceFault>
+pub fn write_count<E: Output>(count: u64, words: &str, err: &mut E) -> Result<(), DeviceFault>
     ensures ok { OnOk result (TakesText (over E.state err.old err.new) (decimal count ++ words.now)) }
     ensures err { OnErr result (BreaksWithin (over E.state err.old err.new) (decimal count ++ words.now)) }
 {
     let mut buffer = Buffer::new();
     write_all(err, buffer.format(count).as_bytes())?;
-    write_all(err, words)
+    write_all(err, words.as_bytes())
 }
 
 /// The words of a read fault, where there is one.
-pub(crate) fn words_of(unread: Option<ReadFault>) -> Option<&'static [u8]>
+pub(crate) fn words_of(unread: Option<ReadFault>) -> Option<&'static str>
     ensures { told_bytes result ≡ option_map read_words unread }
 {
     match unread {
         None => None,
-        Some(fault) => Some(fault.words().as_bytes()),
+        Some(fault) => Some(fault.words()),
     }
 }
 
 /// Writes what is wrong, where something is, and then a number and the words after it.
 #[tactic(auto, using(crate::proofs::OutputLemmas::taking))]
 pub(crate) fn write_end<E: Output>(
-    wrong: Option<&[u8]>,
+    wrong: Option<&str>,
     count: u64,
-    words: &[u8],
+    words: &str,
     err: &mut E,
 ) -> Result<(), DeviceFault>
     ensures ok { OnOk result (TakesText (over E.state err.old err.new) (wrong_line (told_bytes wrong.entry) ++ (decimal count ++ words.now))) }
@@ -123,9 +131,9 @@ pub fn status_of(written: Result<(), DeviceFault>, wanted: Status) -> Status
 
 /// Tells what is wrong, where something is, and a count. It takes no memory.
 pub(crate) fn tell_end<E: Output>(
-    wrong: Option<&[u8]>,
+    wrong: Option<&str>,
     count: u64,
-    words: &[u8],
+    words: &str,
     err: &mut E,
 ) -> Status
     ensures { TellsMessage (over E.state err.old err.new) (wrong_line (told_bytes wrong.entry) ++ (decimal count ++ words.now))
@@ -139,7 +147,7 @@ pub(crate) fn tell_end<E: Output>(
 }
 
 /// Tells an error. It takes no memory.
-pub fn tell_error<E: Output>(message: &[u8], err: &mut E) -> Status
+pub fn tell_error<E: Output>(message: &str, err: &mut E) -> Status
     ensures { TellsMessage (over E.state err.old err.new) (error_line message.now) Failed result }
 {
     status_of(write_error(message, err), Status::Failed)
@@ -147,16 +155,16 @@ pub fn tell_error<E: Output>(message: &[u8], err: &mut E) -> Status
 
 /// Tells that memory ran out. It takes none itself.
 pub fn tell_no_memory<E: Output>(err: &mut E) -> Status
-    ensures { TellsMessage (over E.state err.old err.new) (error_line (codes "no memory")) Failed result }
+    ensures { TellsMessage (over E.state err.old err.new) (error_line NO_MEMORY.now) Failed result }
 {
-    tell_error(b"no memory", err)
+    tell_error(NO_MEMORY, err)
 }
 
 /// Tells that standard output failed.
 pub fn tell_unwritten<E: Output>(err: &mut E) -> Status
-    ensures { TellsMessage (over E.state err.old err.new) (error_line (codes "cannot write")) Failed result }
+    ensures { TellsMessage (over E.state err.old err.new) (error_line CANNOT_WRITE.now) Failed result }
 {
-    tell_error(b"cannot write", err)
+    tell_error(CANNOT_WRITE, err)
 }
 
 /// Tells why standard output has not all that is to be shown.
@@ -173,13 +181,13 @@ pub fn tell_stop<E: Output>(fault: OutputFault, err: &mut E) -> Status
 pub fn tell_read_fault<E: Output>(fault: ReadFault, err: &mut E) -> Status
     ensures { TellsMessage (over E.state err.old err.new) (error_line (read_words fault)) Failed result }
 {
-    tell_error(fault.words().as_bytes(), err)
+    tell_error(fault.words(), err)
 }
 
 /// Tells why an input is no dump.
 pub fn tell_dump_fault<E: Output>(alloc: Global, fault: &Fault, err: &mut E) -> Status
     ensures { TellsMessage (over E.state err.old err.new) (error_line (fault_text fault.now.document (fault_view fault.now))) Failed result
-        ⊎ TellsMessage (over E.state err.old err.new) (error_line (codes "no memory")) Failed result }
+        ⊎ TellsMessage (over E.state err.old err.new) (error_line NO_MEMORY.now) Failed result }
 {
     match fault_message(alloc, fault) {
         Ok(message) => tell_error(&message, err),
@@ -187,32 +195,52 @@ pub fn tell_dump_fault<E: Output>(alloc: Global, fault: &Fault, err: &mut E) -> 
     }
 }
 
-/// Appends where a fault stands.
-fn write_place(fault: &Fault, text: &mut Vec<u8>) -> Result<(), NoMemory>
-    ensures { OnOk result (text.new.items ≡ text.old.items ++ place_text fault.now.document fault.now.offset) }
+/// Appends a number.
+pub fn push_number(number: u64, text: &mut String) -> Result<(), NoMemory>
+    ensures { OnOk result (string_bytes text.new ≡ string_bytes text.old ++ decimal number) }
 {
-    text.extend_from_slice(b"document ")?;
-    write_number32(fault.document, text)?;
-    text.extend_from_slice(b", byte ")?;
-    write_number(fault.offset, text)
+    let mut buffer = Buffer::new();
+    text.push_str(buffer.format(number))
+}
+
+/// Appends the names of a path, joined by dots, as one JSON string.
+pub fn push_path(path: &[String], text: &mut String) -> Result<(), NoMemory>
+    ensures { OnOk result (string_bytes text.new ≡ string_bytes text.old ++ quoted (join_with_byte 46 (map string_bytes path.now))) }
+{
+    let mut quoted = Vec::new(*text.allocator());
+    write_path(path, &mut quoted)?;
+    match str::from_utf8(&quoted) {
+        Ok(quoted) => text.push_str(quoted),
+        Err(_) => unreachable!(),
+    }
+}
+
+/// Appends where a fault stands.
+fn push_place(fault: &Fault, text: &mut String) -> Result<(), NoMemory>
+    ensures { OnOk result (string_bytes text.new ≡ string_bytes text.old ++ place_text fault.now.document fault.now.offset) }
+{
+    text.push_str("document ")?;
+    push_number(u64::from(fault.document), text)?;
+    text.push_str(", byte ")?;
+    push_number(fault.offset, text)
 }
 
 /// Appends a fault: where it stands, the names of its path, and what it is.
-pub fn write_fault(fault: &Fault, text: &mut Vec<u8>) -> Result<(), NoMemory>
-    ensures { OnOk result (text.new.items ≡ text.old.items ++ fault_text fault.now.document (fault_view fault.now)) }
+pub fn push_fault(fault: &Fault, text: &mut String) -> Result<(), NoMemory>
+    ensures { OnOk result (string_bytes text.new ≡ string_bytes text.old ++ fault_text fault.now.document (fault_view fault.now)) }
 {
-    write_place(fault, text)?;
-    text.extend_from_slice(b", path ")?;
-    write_path(&fault.path, text)?;
-    text.extend_from_slice(b": ")?;
-    text.extend_from_slice(fault.kind.words().as_bytes())
+    push_place(fault, text)?;
+    text.push_str(", path ")?;
+    push_path(&fault.path, text)?;
+    text.push_str(": ")?;
+    text.push_str(fault.kind.words())
 }
 
 /// The message of a fault.
-pub fn fault_message(alloc: Global, fault: &Fault) -> Result<Vec<u8>, NoMemory>
-    ensures { IfOk result (λ v. v.items ≡ fault_text fault.now.document (fault_view fault.now)) }
+pub fn fault_message(alloc: Global, fault: &Fault) -> Result<String, NoMemory>
+    ensures { IfOk result (λ s. string_bytes s ≡ fault_text fault.now.document (fault_view fault.now)) }
 {
-    let mut text = Vec::new(alloc);
-    write_fault(fault, &mut text)?;
+    let mut text = String::new(alloc);
+    push_fault(fault, &mut text)?;
     Ok(text)
 }

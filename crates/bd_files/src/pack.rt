@@ -1,19 +1,21 @@
 //! `pack`: the documents of lines of text, as bytes.
 
-ghost use Rattle.std.specs.Prelude.{◌≡◌, ◌++◌, ◌∷◌, ◌≤◌, ◌⊎◌, IfErr, IfOk, OnOk, Ok, length, codes, decimal, option_map};
+ghost use Rattle.std.specs.Prelude.{◌≡◌, ◌++◌, ◌∷◌, ◌≤◌, ◌⊎◌, IfErr, IfOk, OnOk, Ok, length, decimal, option_map, string_bytes};
 ghost use Rattle.bd_value.specs.Limits.{longest_input};
 ghost use Rattle.bd_device.specs.Devices.{over};
 ghost use Rattle.bd_lines.specs.Lines.{text_lines};
 ghost use Rattle.bd_files.specs.Input.{ReadsNoFurther};
 ghost use Rattle.bd_files.specs.Output.{PrintsOrStarves, TellsMessage, Transcript, error_line, told_bytes, wrong_line, wrong_status};
 ghost use Rattle.bd_files.specs.Pack.{IsPacking, IsShownByPack, PacksInput, StopsPacking, bad_line_text, left_size, line_fault_text, lines_left};
+ghost use Rattle.bd_files.specs.declared.output.TheConstants.{NO_MEMORY};
 ghost use Rattle.bd_files.specs.declared.output.Status.TheVariants.{Failed};
 
 use crate::input::read_input;
-use crate::output::{OutputFault, Status, tell_end, tell_no_memory, tell_read_fault, tell_stop};
+use crate::output::{
+    OutputFault, Status, push_number, tell_end, tell_no_memory, tell_read_fault, tell_stop,
+};
 use bd_device::{Input, Output, write_all};
 use bd_diagnose::JsonFaultKind;
-use bd_extjson::write_number;
 use bd_lines::is_empty_line;
 use bd_pack::{LineFault, Packer};
 use bd_value::NoMemory;
@@ -21,7 +23,7 @@ use memchr::memchr;
 use std::alloc::Global;
 
 /// After the number of documents.
-const OBJECTS_PACKED: &[u8] = b" objects packed\n";
+const OBJECTS_PACKED: &str = " objects packed\n";
 
 /// Reads an input whole, and shows the bytes of its lines' documents, up to the first line that is none.
 pub fn pack<R: Input, O: Output, E: Output>(
@@ -119,7 +121,7 @@ fn tell_packing<E: Output>(alloc: Global, packing: &Packing, err: &mut E) -> Sta
     ensures { TellsMessage (over E.state err.old err.new)
         (wrong_line (option_map bad_line_text packing.now.bad) ++ (decimal packing.now.count ++ OBJECTS_PACKED.now))
         (wrong_status (option_map bad_line_text packing.now.bad)) result
-        ⊎ TellsMessage (over E.state err.old err.new) (error_line (codes "no memory")) Failed result }
+        ⊎ TellsMessage (over E.state err.old err.new) (error_line NO_MEMORY.now) Failed result }
 {
     match &packing.bad {
         None => tell_end(None, packing.count, OBJECTS_PACKED, err),
@@ -131,19 +133,19 @@ fn tell_packing<E: Output>(alloc: Global, packing: &Packing, err: &mut E) -> Sta
 }
 
 /// The message of a bad line.
-fn bad_line_message(alloc: Global, bad: &BadLine) -> Result<Vec<u8>, NoMemory>
-    ensures { IfOk result (λ v. v.items ≡ bad_line_text bad.now) }
+fn bad_line_message(alloc: Global, bad: &BadLine) -> Result<String, NoMemory>
+    ensures { IfOk result (λ s. string_bytes s ≡ bad_line_text bad.now) }
 {
-    let mut text = Vec::new(alloc);
-    text.extend_from_slice(b"line ")?;
-    write_number(bad.number, &mut text)?;
-    write_line_fault(&bad.fault, &mut text)?;
+    let mut text = String::new(alloc);
+    text.push_str("line ")?;
+    push_number(bad.number, &mut text)?;
+    push_line_fault(&bad.fault, &mut text)?;
     Ok(text)
 }
 
 /// Appends why a line is bad, after its number.
-fn write_line_fault(fault: &LineFault, text: &mut Vec<u8>) -> Result<(), NoMemory>
-    ensures { OnOk result (text.new.items ≡ text.old.items ++ line_fault_text fault.now) }
+fn push_line_fault(fault: &LineFault, text: &mut String) -> Result<(), NoMemory>
+    ensures { OnOk result (string_bytes text.new ≡ string_bytes text.old ++ line_fault_text fault.now) }
 {
     match fault {
         LineFault::Unread(fault) => {
@@ -151,13 +153,13 @@ fn write_line_fault(fault: &LineFault, text: &mut Vec<u8>) -> Result<(), NoMemor
                 // It is the whole line that is none.
                 JsonFaultKind::NotADocument => {}
                 _ => {
-                    text.extend_from_slice(b", byte ")?;
-                    write_number(fault.at, text)?;
+                    text.push_str(", byte ")?;
+                    push_number(fault.at, text)?;
                 }
             }
-            text.extend_from_slice(b": ")?;
-            text.extend_from_slice(fault.kind.words().as_bytes())
+            text.push_str(": ")?;
+            text.push_str(fault.kind.words())
         }
-        LineFault::TooLong => text.extend_from_slice(b": document too long"),
+        LineFault::TooLong => text.push_str(": document too long"),
     }
 }

@@ -1,5 +1,6 @@
 -- What the words of `find` ask for.
 use Rattle.std.proofs.Common.{◌≡◌, Result, Ok, codes, refl, inl, inr}
+use Rattle.std.specs.Prelude.{string_bytes}
 use Rattle.bd_value.specs.Tree.{Doc}
 use Rattle.bd_request.specs.{Refused.IsRefusedPart, Refused.Reason, declared.results.Refused.Refused}
 use Rattle.bd_command_line.specs.FindWords.{FindWords}
@@ -18,7 +19,7 @@ module _ (words : FindWords) (query : Doc) where
   pub sort_refused : (fault : AskingFault) → ReadsText (codes "query") words.query (Ok query) → TellsAskingFault (ReadsText (codes "sort") words.sort) fault
       → TellsAskingFault (AsksInWords words) fault
   sort_refused faults.NoMemory q none = tt
-  sort_refused (faults.Message m) q none = inr (query, q, inl (m.items, none, refl))
+  sort_refused (faults.Message m) q none = inr (query, q, inl (string_bytes m, none, refl))
 
   pub page_refused : (sort : Doc) (fault : AskingFault) → ReadsText (codes "query") words.query (Ok query) → ReadsText (codes "sort") words.sort (Ok sort)
       → TellsAskingFault (λ told. page_of words query sort ≡ told) fault → TellsAskingFault (AsksInWords words) fault

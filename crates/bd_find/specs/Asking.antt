@@ -1,6 +1,6 @@
 -- What the words of `find` ask for, or why they ask for nothing.
 use Rattle.std.specs.Prelude.{◌≡◌, ◌≢◌, ◌⊎◌, ℕ, nat_le, Bool, true, List, [], ◌++◌, length, codes, Option, Some, None}
-use Rattle.std.specs.Prelude.{Result, Ok, Err, if◌then◌else◌}
+use Rattle.std.specs.Prelude.{Result, Ok, Err, if◌then◌else◌, string_bytes}
 use Rattle.std.specs.List.{join_with_byte}
 use Rattle.bd_value.specs.{Limits.greatest_count, Tree.Doc}
 use Rattle.bd_diagnose.specs.{JsonFault.IsPlaced, JsonFault.json_fault_words, declared.json_fault.JsonFault.JsonFault}
@@ -102,7 +102,7 @@ page_request_of a = record { request = request_view a.request; batch = a.size; t
 -- the message is one of those that a part is refused with, unless memory ran out
 abbrev pub TellsAskingFault : {Given : Type 0} → (Result Given (List ℕ) → Type 0) → AskingFault → Type 0
 TellsAskingFault IsPart faults.NoMemory = Unit {0}
-TellsAskingFault IsPart (faults.Message message) = IsPart (Err message.items)
+TellsAskingFault IsPart (faults.Message message) = IsPart (Err (string_bytes message))
 
 -- so of a part that is refused for a reason
 abbrev pub TellsReason : {Given : Type 0} → Result Given Reason → AskingFault → Type 0
@@ -112,4 +112,4 @@ TellsReason part fault = TellsAskingFault (λ told. told_as refused_text part �
 abbrev pub TellsRefused : Refused → AskingFault → Type 0
 TellsRefused refused faults.NoMemory = Unit {0}
 TellsRefused refused (faults.Message message) =
-    (refused ≢ reasons.NoMemory) × (message.items ≡ refused_text (reason_of refused))
+    (refused ≢ reasons.NoMemory) × (string_bytes message ≡ refused_text (reason_of refused))

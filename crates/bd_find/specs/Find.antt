@@ -1,6 +1,6 @@
 -- What `find` shows of its words and an input, and what a run of it did.
 use Rattle.std.specs.Prelude.{◌≡◌, ◌≤◌, ◌<◌, ℕ, nat_lt, true, List, [], length, option_map, Option, Some, None, Result}
-use Rattle.std.specs.Prelude.{Ok, Err, if◌then◌else◌, ◌⊎◌, Bool, ◌∷◌, ◌++◌, codes}
+use Rattle.std.specs.Prelude.{Ok, Err, if◌then◌else◌, ◌⊎◌, Bool, ◌∷◌, ◌++◌}
 use Rattle.std.specs.{Prelude.drop, Prelude.decimal, List.All, Str.bytes_eq}
 use Rattle.bd_value.specs.{Limits.greatest_count, Tree.Doc, Tree.doc, Tree.fields_of}
 use Rattle.bd_answer.specs.Answer.{answer, rest, at_most, is_empty}
@@ -18,6 +18,7 @@ use Rattle.bd_find.specs.Asking.{AsksInWords, IsRefusedOr, PageRequest, refused_
 use Rattle.bd_find.specs.declared.batch.TheConstants.{DOCUMENTS_END, DOCUMENTS_MORE, TOKEN}
 use Rattle.bd_sort.specs.Selection.{query_to, selection_for}
 use Rattle.bd_files.specs.{Input.ReadsInput, declared.output.Status.Status}
+use Rattle.bd_files.specs.declared.output.TheConstants.{NO_MEMORY}
 use Rattle.bd_files.specs.declared.output.Status.TheVariants.{Done, Failed}
 use Rattle.bd_files.specs.Output.{PrintsInput, TellsMessage, Transcript, error_line, lines, fault_text, shown_refusal}
 use Rattle.bd_text.specs.Text.{text}
@@ -119,7 +120,7 @@ IsShownByFind words input shown =
 abbrev pub FindsDocuments : FindWords → Over Reader → Over Writer → Over Writer → Status → Type 0
 FindsDocuments words file out err status =
     ((file.after ≡ file.before) × (out.after ≡ out.before)
-    × TellsMessage err (error_line (codes "no memory")) Failed status)
+    × TellsMessage err (error_line NO_MEMORY.now) Failed status)
     ⊎ ((input : Result (List ℕ) ReadFault) × (shown : Transcript)
     × IsRefusedOr (λ message. file.after ≡ file.before) (AsksInWords words) (λ w. ReadsInput file input)
     × IsShownByFind words input shown × PrintsInput input out err shown status)

@@ -13,7 +13,8 @@ ghost use Rattle.bd_find.specs.declared.asking.AskingFault.TheVariants.{NoMemory
 use bd_command_line::FindOptions;
 use bd_cursor::{Refused, Request, Token};
 use bd_diagnose::{JsonFault, JsonFaultKind};
-use bd_extjson::{read_doc, write_number, write_path};
+use bd_extjson::read_doc;
+use bd_files::output::{push_number, push_path};
 use bd_filter::FilterFault;
 use bd_path::{Path, PathFault};
 use bd_value::{Document, GREATEST_COUNT, NoMemory};
@@ -38,7 +39,7 @@ pub enum AskingFault {
     /// Memory ran out.
     NoMemory,
     /// What is wrong, and where.
-    Message(Vec<u8>),
+    Message(String),
 }
 
 impl From<AllocError> for AskingFault {
@@ -103,21 +104,20 @@ fn read_text(alloc: Global, name: &str, text: &Option<String>) -> Result<Documen
 }
 
 /// The message of a text that is no document.
-fn json_message(alloc: Global, name: &str, fault: JsonFault) -> Result<Vec<u8>, NoMemory>
-    ensures { IfOk result (λ v. v.items ≡ json_fault_text name.now fault) }
+fn json_message(alloc: Global, name: &str, fault: JsonFault) -> Result<String, NoMemory>
+    ensures { IfOk result (λ s. string_bytes s ≡ json_fault_text name.now fault) }
 {
-    let mut message = Vec::new(alloc);
-    message.extend_from_slice(name.as_bytes())?;
+    let mut message = String::from_str(alloc, name)?;
     match fault.kind {
         // It is the whole text that is none.
         JsonFaultKind::NotADocument => {}
         _ => {
-            message.extend_from_slice(b": byte ")?;
-            write_number(fault.at, &mut message)?;
+            message.push_str(": byte ")?;
+            push_number(fault.at, &mut message)?;
         }
     }
-    message.extend_from_slice(b": ")?;
-    message.extend_from_slice(fault.kind.words().as_bytes())?;
+    message.push_str(": ")?;
+    message.push_str(fault.kind.words())?;
     Ok(message)
 }
 
@@ -193,8 +193,8 @@ fn told(alloc: Global, refused: &Refused) -> AskingFault
 }
 
 /// The message of a refusal.
-pub(crate) fn refused_message(alloc: Global, refused: &Refused) -> Result<Vec<u8>, NoMemory>
-    ensures { IfOk result (λ v. v.items ≡ refused_text (reason_of refused.now)) }
+pub(crate) fn refused_message(alloc: Global, refused: &Refused) -> Result<String, NoMemory>
+    ensures { IfOk result (λ s. string_bytes s ≡ refused_text (reason_of refused.now)) }
 {
     let option = match refused {
         Refused::BadFilter(fault) => return filter_message(alloc, fault),
@@ -206,23 +206,21 @@ pub(crate) fn refused_message(alloc: Global, refused: &Refused) -> Result<Vec<u8
 }
 
 /// The message of an option: its name, and what is wrong with it.
-fn option_message(alloc: Global, option: &str, words: &str) -> Result<Vec<u8>, NoMemory>
-    ensures { IfOk result (λ v. v.items ≡ option.now ++ words.now) }
+fn option_message(alloc: Global, option: &str, words: &str) -> Result<String, NoMemory>
+    ensures { IfOk result (λ s. string_bytes s ≡ option.now ++ words.now) }
 {
-    let mut message = Vec::new(alloc);
-    message.extend_from_slice(option.as_bytes())?;
-    message.extend_from_slice(words.as_bytes())?;
+    let mut message = String::from_str(alloc, option)?;
+    message.push_str(words)?;
     Ok(message)
 }
 
 /// The message of a document that is no filter.
-fn filter_message(alloc: Global, fault: &FilterFault) -> Result<Vec<u8>, NoMemory>
-    ensures { IfOk result (λ v. v.items ≡ refusal_text (refusal_of fault.now)) }
+fn filter_message(alloc: Global, fault: &FilterFault) -> Result<String, NoMemory>
+    ensures { IfOk result (λ s. string_bytes s ≡ refusal_text (refusal_of fault.now)) }
 {
-    let mut message = Vec::new(alloc);
-    message.extend_from_slice(b"query: place ")?;
-    write_path(&fault.place, &mut message)?;
-    message.extend_from_slice(b": ")?;
-    message.extend_from_slice(fault.kind.words().as_bytes())?;
+    let mut message = String::from_str(alloc, "query: place ")?;
+    push_path(&fault.place, &mut message)?;
+    message.push_str(": ")?;
+    message.push_str(fault.kind.words())?;
     Ok(message)
 }

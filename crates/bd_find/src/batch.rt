@@ -1,6 +1,6 @@
 //! The first batch of what is asked for, shown.
 
-ghost use Rattle.std.specs.Prelude.{◌≡◌, ◌++◌, ◌<◌, ◌≤◌, ◌⊎◌, IfErr, IfOk, MatchOption, OnOk, Some, codes, if◌then◌else◌, length, option_map, true};
+ghost use Rattle.std.specs.Prelude.{◌≡◌, ◌++◌, ◌<◌, ◌≤◌, ◌⊎◌, IfErr, IfOk, MatchOption, OnOk, Some, if◌then◌else◌, length, option_map, string_bytes, true};
 ghost use Rattle.std.specs.List.{All};
 ghost use Rattle.bd_value.specs.Limits.{greatest_count};
 ghost use Rattle.bd_device.specs.Devices.{TakesText, over};
@@ -11,6 +11,7 @@ ghost use Rattle.bd_cursor.specs.SessionView.{dump_of, hint_of, marked_token, st
 ghost use Rattle.bd_request.specs.Refused.{reason_of};
 ghost use Rattle.bd_request.specs.declared.results.Refused.TheVariants.{NoMemory as no_memory};
 ghost use Rattle.bd_files.specs.Output.{PrintsOrStarves, StopsWithin, TellsMessage, error_line, lines};
+ghost use Rattle.bd_files.specs.declared.output.TheConstants.{NO_MEMORY};
 ghost use Rattle.bd_files.specs.declared.output.Status.TheVariants.{Done, Failed};
 ghost use Rattle.bd_find.specs.Asking.{fits_batch, page_request_of, refused_text};
 ghost use Rattle.bd_find.specs.Find.{AwaitsFirst, IsOpenedOn, IsReady, find_count_line, shown_batch, shown_of_dump, token_words};
@@ -19,21 +20,23 @@ use crate::asking::{Asking, refused_message};
 use bd_bson::Dump;
 use bd_cursor::{Batch, Choice, Refused, Session, Token};
 use bd_device::{Output, write_all};
-use bd_extjson::{LineRoom, write_number};
+use bd_extjson::LineRoom;
 use bd_files::Status;
-use bd_files::output::{OutputFault, status_of, tell_error, tell_no_memory, tell_stop};
+use bd_files::output::{
+    OutputFault, push_number, status_of, tell_error, tell_no_memory, tell_stop,
+};
 use bd_path::Path;
 use bd_value::{GREATEST_COUNT, NoMemory};
 use std::alloc::Global;
 
 /// After the number of documents, where nothing is left.
-const DOCUMENTS_END: &[u8] = b" documents, end";
+const DOCUMENTS_END: &str = " documents, end";
 
 /// After the number of documents, where more are left.
-const DOCUMENTS_MORE: &[u8] = b" documents, more";
+const DOCUMENTS_MORE: &str = " documents, more";
 
 /// Before a token.
-const TOKEN: &[u8] = b", token ";
+const TOKEN: &str = ", token ";
 
 /// Shows the first batch of what is asked for of a dump.
 pub(crate) fn show_found<O: Output, E: Output>(
@@ -143,49 +146,49 @@ fn tell_batch<E: Output>(alloc: Global, batch: &Batch, err: &mut E) -> Status
     ensures { TellsMessage (over E.state err.old err.new)
         (find_count_line (length batch.now.places.items) batch.now.end
         (option_map marked_token batch.now.token)) Done result
-        ⊎ TellsMessage (over E.state err.old err.new) (error_line (codes "no memory")) Failed result }
+        ⊎ TellsMessage (over E.state err.old err.new) (error_line NO_MEMORY.now) Failed result }
 {
     match count_line(alloc, batch) {
-        Ok(line) => status_of(write_all(err, &line), Status::Done),
+        Ok(line) => status_of(write_all(err, line.as_bytes()), Status::Done),
         Err(_) => tell_no_memory(err),
     }
 }
 
 /// The line that counts the documents of a batch.
-fn count_line(alloc: Global, batch: &Batch) -> Result<Vec<u8>, NoMemory>
-    ensures { IfOk result (λ v. v.items ≡ find_count_line (length batch.now.places.items) batch.now.end (option_map marked_token batch.now.token)) }
+fn count_line(alloc: Global, batch: &Batch) -> Result<String, NoMemory>
+    ensures { IfOk result (λ s. string_bytes s ≡ find_count_line (length batch.now.places.items) batch.now.end (option_map marked_token batch.now.token)) }
 {
-    let mut line = Vec::new(alloc);
-    write_number(batch.places.len() as u64, &mut line)?;
-    line.extend_from_slice(words_of_end(batch.end))?;
-    write_token(alloc, batch.token, &mut line)?;
-    line.push(b'\n')?;
+    let mut line = String::new(alloc);
+    push_number(batch.places.len() as u64, &mut line)?;
+    line.push_str(words_of_end(batch.end))?;
+    push_token(alloc, batch.token, &mut line)?;
+    line.push('\n')?;
     Ok(line)
 }
 
 /// What stands after the number of documents.
-fn words_of_end(end: bool) -> &'static [u8]
+fn words_of_end(end: bool) -> &'static str
     ensures { result.now ≡ (if end then DOCUMENTS_END.now else DOCUMENTS_MORE.now) }
 {
     if end { DOCUMENTS_END } else { DOCUMENTS_MORE }
 }
 
 /// Appends a token, where there is one.
-fn write_token(alloc: Global, token: Option<Token>, line: &mut Vec<u8>) -> Result<(), NoMemory>
-    ensures { OnOk result (line.new.items ≡ line.old.items ++ token_words (option_map marked_token token)) }
+fn push_token(alloc: Global, token: Option<Token>, line: &mut String) -> Result<(), NoMemory>
+    ensures { OnOk result (string_bytes line.new ≡ string_bytes line.old ++ token_words (option_map marked_token token)) }
 {
     let Some(token) = token else {
         return Ok(());
     };
-    line.extend_from_slice(TOKEN)?;
+    line.push_str(TOKEN)?;
     let text = token.text(alloc)?;
-    line.extend_from_slice(text.as_bytes())
+    line.push_str(&text)
 }
 
 /// Tells why no cursor was opened.
 fn tell_refused<E: Output>(alloc: Global, refused: &Refused, err: &mut E) -> Status
     ensures { TellsMessage (over E.state err.old err.new) (error_line (refused_text (reason_of refused.now))) Failed result
-        ⊎ TellsMessage (over E.state err.old err.new) (error_line (codes "no memory")) Failed result }
+        ⊎ TellsMessage (over E.state err.old err.new) (error_line NO_MEMORY.now) Failed result }
 {
     match refused_message(alloc, refused) {
         Ok(message) => tell_error(&message, err),

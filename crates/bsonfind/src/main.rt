@@ -1,9 +1,9 @@
 //! `bsonfind`: the commands of bd_cli over the system's files and standard streams.
 #![tactic(auto)]
 
-use bd_cli::{Status, report};
+use bd_cli::{CANNOT_WRITE, Status, report};
 use bd_command_line::{Order, WordsFault, parse_words};
-use bd_device::{BufferedInput, SystemInput, SystemOutput, write_all};
+use bd_device::{BufferedInput, ReadFault, SystemInput, SystemOutput, write_all};
 use bd_gathering::{Fate, GatheredOutput, Gathering, TiedError, TiedInput, hand_on};
 use std::cell::RefCell;
 use std::io::{BufReader, Read, Stdout};
@@ -86,7 +86,7 @@ fn obey(rt: &HostRuntime, gathering: &Waiting) -> Status {
     };
     // The number of standard input, which was closed: commands would be read from the end of the file.
     if opened.as_raw_fd() == 0 && matches!(&order, Order::Serve { .. }) {
-        return tell_error(rt, "cannot read", "");
+        return tell_error(rt, ReadFault::Device.words(), "");
     }
     run(rt, &order, opened, gathering)
 }
@@ -98,7 +98,7 @@ fn status(rt: &HostRuntime) -> Status {
     let gathering = RefCell::new(Gathering::new(rt.alloc(), system));
     let status = obey(rt, &gathering);
     if hand_on(&gathering) == Fate::Lost {
-        return tell_error(rt, "cannot write", "");
+        return tell_error(rt, CANNOT_WRITE, "");
     }
     status
 }

@@ -9,7 +9,7 @@ returns-in-Whole g c = inl (rw c.in-Whole.is (rw c.from-count.ensures at c.tell_
 pub returns-in-Ok : goal.returns-in-Ok
 returns-in-Ok g c =
     let fault = c.in-Faulty.fault in
-    let text : c.deref.result.now ≡ fault_text fault.document (fault_view fault) = c.deref.ensures.value ∙ c.in-Ok.ensures in
+    let text : c.deref.result.now ≡ fault_text fault.document (fault_view fault) = c.deref.ensures ∙ c.in-Ok.ensures in
     inl (rw c.in-Faulty.is (rw (c.from-count.ensures, text) at c.tell_end-in-Ok.ensures))
 
 pub returns-in-Err : goal.returns-in-Err

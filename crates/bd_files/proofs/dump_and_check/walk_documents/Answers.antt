@@ -88,8 +88,23 @@ pub returns-in-Err-Frame-clause-walks : goal.returns-in-Err-Frame-clause-walks
 returns-in-Err-Frame-clause-walks g c =
     let l = c.loop-alloc in
     let e = c.in-Err-Frame in
+    let f = c.to_fault-fault in
     let fails = rw e.field-0-is at (e.ensures.fails l.invariant.works) in
-    rw c.number-count.ensures (walks.ends_by_length l.invariant.so_far e.fault c.to_fault.result c.to_fault.ensures.same c.to_fault.ensures.path fails)
+    let met = c.in_ok-_goes_on-in-Err-Frame in
+    rw c.number-count.ensures (walks.ends_by_length l.invariant.so_far e.fault f.result f.ensures.same f.ensures.path fails
+    (g.O.Output.state c.meet-in-Err-Frame.new.out) met._goes_on met.ensures)
+
+pub returns-in_err-_goes_on-in-Err-Frame-clause-stops : goal.returns-in_err-_goes_on-in-Err-Frame-clause-stops
+returns-in_err-_goes_on-in-Err-Frame-clause-stops g c =
+    let l = c.loop-alloc in
+    let e = c.in-Err-Frame in
+    let f = c.to_fault-fault in
+    let fails = rw e.field-0-is at (e.ensures.fails l.invariant.works) in
+    let r = c.from_residual-in_err-_goes_on-in-Err-Frame in
+    let p = err_from_is_err_and r.result r.ensures.1 in
+    let stopped = c.in_err-_goes_on-in-Err-Frame in
+    rw (p.1, p.2) (walks.stops_by_length l.invariant.so_far e.fault f.result f.ensures.same f.ensures.path fails
+    (g.O.Output.state c.meet-in-Err-Frame.new.out) stopped.field-0.0 stopped.ensures)
 
 pub returns-in-Err-Read-NoMemory-clause-stops : goal.returns-in-Err-Read-NoMemory-clause-stops
 returns-in-Err-Read-NoMemory-clause-stops g c =

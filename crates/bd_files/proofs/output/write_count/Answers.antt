@@ -13,4 +13,4 @@ returns-clause-err g c =
     let e = g.E.Output.state in
     let text : c.as_bytes.result.now ≡ decimal c.args.count = search rules in
     second_err c.write_all-2.result (e c.args.err.now) (e c.write_all.new.writer) (e c.write_all-2.new.writer) (decimal c.args.count) c.args.words.now
-    (rw text at c.in_ok-write_all.ensures.written) c.write_all-2.ensures.broken
+    (rw text at c.in_ok-write_all.ensures.written) (rw c.as_bytes-2.ensures.value at c.write_all-2.ensures.broken)

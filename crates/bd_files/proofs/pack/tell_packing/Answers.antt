@@ -7,5 +7,5 @@ returns-in-None g c = inl (rw c.in-None.is c.tell_end.ensures)
 
 pub returns-in-Ok : goal.returns-in-Ok
 returns-in-Ok g c =
-    let text : c.deref.result.now ≡ bad_line_text c.in-Some.bad = c.deref.ensures.value ∙ c.in-Ok.ensures in
+    let text : c.deref.result.now ≡ bad_line_text c.in-Some.bad = c.deref.ensures ∙ c.in-Ok.ensures in
     inl (rw c.in-Some.is (rw text at c.tell_end-in-Ok.ensures))

@@ -1,4 +1,5 @@
 use Rattle.std.proofs.Common.{Ok, Err, [], List, ℕ, refl, inl, inr, subst}
+use Rattle.std.specs.Prelude.{string_bytes}
 use Rattle.bd_find.specs.Asking.{page_request_of}
 use Rattle.bd_files.specs.Output.{TellsMessage, error_line, shown_refusal}
 use Rattle.bd_files.specs.declared.output.Status.TheVariants.{Failed}
@@ -9,7 +10,7 @@ use Rattle.bd_find.proofs.find.find.Goals as goal
 
 pub returns-in-Err-Message-clause-found : goal.returns-in-Err-Message-clause-found
 returns-in-Err-Message-clause-found g c =
-    let message = c.in-Err-Message.message.items in
+    let message = string_bytes c.in-Err-Message.message in
     let none = rw c.in-Err-Message.field-0-is at c.in-Err-Message.ensures.fault in
     let text = rw c.in-Err-Message.field-0-is at c.deref.ensures.value in
     let told = subst (λ (text : List ℕ). TellsMessage (over g.E.Output.state c.args.err.now c.tell_error.new.err) (error_line text) Failed c.tell_error.result) text c.tell_error.ensures in
