@@ -12,7 +12,7 @@ pub returns-in-Err-Message-clause-found : goal.returns-in-Err-Message-clause-fou
 returns-in-Err-Message-clause-found g c =
     let message = string_bytes c.in-Err-Message.message in
     let none = rw c.in-Err-Message.field-0-is at c.in-Err-Message.ensures.fault in
-    let text = rw c.in-Err-Message.field-0-is at c.deref.ensures.value in
+    let text = rw c.in-Err-Message.field-0-is at c.deref.ensures in
     let told = subst (λ (text : List ℕ). TellsMessage (over g.E.Output.state c.args.err.now c.tell_error.new.err) (error_line text) Failed c.tell_error.result) text c.tell_error.ensures in
     inr (
       Ok [],
