@@ -4,7 +4,8 @@ use Rattle.std.specs.Prelude.{List, [], ◌∷◌, drop, length, map, slice_get,
 use Rattle.std.specs.{declared.cmp.Ordering.Ordering, Cmp.IsTotalOrder, Option.option_cmp}
 use Rattle.std.specs.List.{AllPairs, filter_map, flat_map, zip}
 use Rattle.bd_answer.specs.Answer.{Selection, Mark, answer, batches, rest}
-use Rattle.bd_answer.specs.Session.{Call, GivenBatch, Query, Reply, State, gave, greatest_size, kill_call, most_given}
+use Rattle.bd_value.specs.Limits.{greatest_count}
+use Rattle.bd_answer.specs.Session.{Call, GivenBatch, Query, Reply, State, gave, kill_call, most_given}
 use Rattle.bd_answer.specs.Session.{next_call, reply, state_after}
 
 pub record IsStrictOrder (lt : ℕ → ℕ → Bool) : Type 0 where
@@ -84,7 +85,7 @@ replies s (c ∷ cs) = reply s c ∷ replies (state_after s c) cs
 abbrev pub sizes_to : ℕ → List Call → List ℕ
 sizes_to id [] = []
 sizes_to id (next_call i n ∷ cs) =
-    if i == id then (if nat_lt greatest_size n then sizes_to id cs else n ∷ sizes_to id cs) else sizes_to id cs
+    if i == id then (if nat_lt greatest_count n then sizes_to id cs else n ∷ sizes_to id cs) else sizes_to id cs
 sizes_to id (kill_call i ∷ cs) = if i == id then [] else sizes_to id cs
 sizes_to id (call ∷ cs) = sizes_to id cs
 

@@ -2,7 +2,8 @@
 use Rattle.std.proofs.Common.{◌≡◌, ℕ, Bool, true, false, cond, List, [], ◌∷◌, Result, Ok, Err, map, refl, sym, ap, ◌∙◌, subst, filter, ◌-◌, ◌<◌, ◌≤◌, ◌==◌, length, get_or, arith, zero, suc}
 use Rattle.std.proofs.Common.{Some, None, slice_get, slice_set}
 use Rattle.std.proofs.{lemmas.Bool.eq-eqb, lemmas.Bool.ne_eqb, lemmas.Bool.le-ltb, lemmas.Bool.cond_both, lemmas.Option.slice_get-map, lemmas.Option.slice_get_read}
-use Rattle.bd_answer.specs.Session.{Call, IndexMark, Reply, State, reply, state_after, OpenCursor, batch_of, cursor_of, gave, greatest_size, moved, next_reply, with_moved, without}
+use Rattle.bd_value.specs.Limits.{greatest_count}
+use Rattle.bd_answer.specs.Session.{Call, IndexMark, Reply, State, reply, state_after, OpenCursor, batch_of, cursor_of, gave, moved, next_reply, with_moved, without}
 use Rattle.bd_request.specs.declared.results.Refused.{Refused}
 use Rattle.bd_cursor.specs.SessionView.{IsRefusedCall, Steps, dump_of, state_of, open_cursor}
 use Rattle.bd_cursor.specs.{declared.session.Session.Session, declared.cursor.Cursor.Cursor}
@@ -74,5 +75,5 @@ pub after_batch : (id n : ℕ) (cs : List OpenCursor) (end : Bool) → cond end 
 after_batch id n cs true = without_moved id n cs
 after_batch id n cs false = refl
 
-pub gave_batch : (id n : ℕ) (cs : List OpenCursor) (c : OpenCursor) → cursor_of id cs ≡ Some c → n ≤ greatest_size → next_reply (cursor_of id cs) n ≡ gave (batch_of c n)
-gave_batch id n cs c h l = rw (h, le-ltb greatest_size n l) refl
+pub gave_batch : (id n : ℕ) (cs : List OpenCursor) (c : OpenCursor) → cursor_of id cs ≡ Some c → n ≤ greatest_count → next_reply (cursor_of id cs) n ≡ gave (batch_of c n)
+gave_batch id n cs c h l = rw (h, le-ltb greatest_count n l) refl

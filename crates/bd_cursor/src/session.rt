@@ -15,20 +15,11 @@ use bd_bson::Dump;
 use bd_index::Index;
 use bd_path::Path;
 use bd_request::{Batch, Made, Refused, Request, Token, dump_digest, request_digest};
-use bd_value::NoMemory;
+use bd_value::{GREATEST_COUNT, MOST_CURSORS, MOST_INDEXES, NoMemory};
 use std::alloc::Global;
-
-/// The most cursors that are open at once.
-const MOST_CURSORS: usize = 64;
-
-/// The most indexes that a session has at once.
-const MOST_INDEXES: usize = 16;
 
 /// The last number of a cursor.
 const LAST_ID: u64 = 9_223_372_036_854_775_807;
-
-/// The greatest size of a batch.
-const GREATEST_SIZE: u64 = 2_147_483_647;
 
 /// A dump, its indexes, and the cursors over it. A call that is refused changes nothing.
 #[derive(Drop)]
@@ -179,7 +170,7 @@ impl Session {
         let Some(place) = place_of(&self.cursors, id) else {
             return Err(Refused::NoCursor);
         };
-        if n > GREATEST_SIZE {
+        if n > GREATEST_COUNT {
             return Err(Refused::Range);
         }
         let Ok(batch) = self.cursors[place].next(self.alloc, &mut self.documents, n) else {

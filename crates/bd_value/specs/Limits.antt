@@ -9,6 +9,10 @@ longest_document = 16793600
 abbrev pub longest_input : ℕ
 longest_input = 4294967295
 
+-- of a command to a session, and so of a line that is read one by one, in bytes: 16 MiB
+abbrev pub longest_command : ℕ
+longest_command = 16777216
+
 -- of an input: one read a byte, and the one that finds the end
 abbrev pub most_reads : ℕ
 most_reads = 4294967296
@@ -32,3 +36,11 @@ most_filter_levels = 50
 -- of documents that a request passes over, gives at most, or has in a batch
 abbrev pub greatest_count : ℕ
 greatest_count = 2147483647
+
+-- of indexes in a session
+abbrev pub most_indexes : ℕ
+most_indexes = 16
+
+-- of cursors that are open
+abbrev pub most_cursors : ℕ
+most_cursors = 64

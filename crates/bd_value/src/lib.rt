@@ -30,8 +30,8 @@ pub use document::{
     to_value, try_copy, value_fits,
 };
 pub use limits::{
-    GREATEST_COUNT, LONGEST_DOCUMENT, LONGEST_INPUT, MOST_BRACKETS, MOST_FILTER_LEVELS,
-    MOST_LEVELS, MOST_NAMES, MOST_READS,
+    GREATEST_COUNT, LONGEST_COMMAND, LONGEST_DOCUMENT, LONGEST_INPUT, MOST_BRACKETS, MOST_CURSORS,
+    MOST_FILTER_LEVELS, MOST_INDEXES, MOST_LEVELS, MOST_NAMES, MOST_READS,
 };
 pub use node::{Class, Kind, Node, Reading, Scalar, Tree, TreeParts};
 pub use order::{

@@ -6,6 +6,9 @@ pub const LONGEST_DOCUMENT: usize = 16_793_600;
 /// The most bytes of an input.
 pub const LONGEST_INPUT: u64 = 4_294_967_295;
 
+/// The most bytes of a command to a session, and so of a line that is read one by one: 16 MiB.
+pub const LONGEST_COMMAND: usize = 16_777_216;
+
 /// The most reads of an input: one a byte, and the one that finds the end.
 pub const MOST_READS: u64 = 4_294_967_296;
 
@@ -24,3 +27,9 @@ pub const MOST_FILTER_LEVELS: u32 = 50;
 
 /// The greatest number of documents that a request passes over, gives at most, or has in a batch.
 pub const GREATEST_COUNT: u64 = 2_147_483_647;
+
+/// The most indexes that a session has at once.
+pub const MOST_INDEXES: usize = 16;
+
+/// The most cursors that are open at once.
+pub const MOST_CURSORS: usize = 64;
