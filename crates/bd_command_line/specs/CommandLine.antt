@@ -7,6 +7,7 @@ use Rattle.clap.specs.Simple.{App, new_app, new_rule, on_top, subcommand_of, wit
 use Rattle.clap.specs.Walk.{Row, Rule, Text, first_of, one_of}
 use Rattle.clap.specs.declared.builder.{value_parser.ValueParser.ValueParser, action.ArgAction.ArgAction}
 use Rattle.clap.specs.{Faults.fault_of, ValueTests.is_unsigned_in, declared.error.kind.ErrorKind.ErrorKind}
+use Rattle.bd_value.specs.Limits.{greatest_count}
 use Rattle.bd_command_line.specs.{FindWords.FindWords, FindWords.find_words_of}
 use Rattle.bd_command_line.specs.declared.order.{Order.Order, WordsFault.WordsFault}
 
@@ -25,7 +26,7 @@ abbrev pub option_rule : Text → Bool → Rule
 option_rule name takes_number = record (new_rule name) {
   long = Some name;
   action = Some ArgAction.Set;
-  parser = if takes_number then Some (ValueParser.Unsigned 0 2147483647) else None;
+  parser = if takes_number then Some (ValueParser.Unsigned 0 greatest_count) else None;
 }
 
 -- a command with these options more, and whether each takes a number

@@ -9,6 +9,7 @@ ghost use Rattle.bd_command_line.specs.FindWords.{find_words_of};
 ghost use Rattle.bd_command_line.specs.declared.order.WordsFault.TheVariants.{NoMemory};
 
 use crate::order::{FindOptions, Order, WordsFault};
+use bd_value::GREATEST_COUNT;
 use clap::builder::ValueParser;
 use clap::error::ErrorKind;
 use clap::{Arg, ArgAction, ArgMatches, Command, Error};
@@ -283,7 +284,7 @@ fn option_argument<'a>(alloc: Global, name: &'a str, takes_number: bool) -> Arg<
 {
     let text = Arg::new(alloc, name).long(name).action(ArgAction::Set);
     if takes_number {
-        text.value_parser(ValueParser::unsigned(0, 2_147_483_647))
+        text.value_parser(ValueParser::unsigned(0, GREATEST_COUNT))
     } else {
         text
     }

@@ -6,7 +6,7 @@ use Rattle.std.proofs.lemmas.List.{drop_all, take_all, length-append, length-dro
 use Rattle.std.proofs.lemmas.List.Elements.{All-drop, All-filter, All-take}
 use Rattle.std.specs.Prelude.{MatchOption, nat_lt, option_map}
 use Rattle.std.specs.{List.All, List.range_with_len, Str.bytes_eq}
-use Rattle.bd_value.specs.Tree.{Doc}
+use Rattle.bd_value.specs.{Limits.greatest_count, Tree.Doc}
 use Rattle.bd_answer.specs.Answer.{Selection, Mark, answer, at_most, before, cut, insert, insert_all, is_empty, matching, ordered, rest}
 use Rattle.bd_answer.specs.Session.{Call, GivenBatch, OpenCursor, Query, Reply, State, batch_of, changed_by, cursor_of, find_call, foreign_token, gave, next_call, opened, reply, resume_call}
 use Rattle.bd_answer.specs.Session.{token_after, token_place, with_open}
@@ -144,7 +144,7 @@ module _ (q : Query) (hint : Option (List ℕ)) (old new : Session) (first : Awa
       go false e place f = turned_away foreign_token reasons.ForeignToken only_foreign (λ id k. let g : ⊥ = cc in g) (rw e refl) (first_reply call foreign_token (rw e refl))
 
 -- it is ready to give a batch
-pub opened_ready : (q : Query) (token : Option Token) (s : State) (id : ℕ) → q.selection.count ≤ 2147483647 → IsOpenedOn q token s (Ok id) → IsReady s id q.selection.count
+pub opened_ready : (q : Query) (token : Option Token) (s : State) (id : ℕ) → q.selection.count ≤ greatest_count → IsOpenedOn q token s (Ok id) → IsReady s id q.selection.count
 opened_ready q token s id le (ps, led, there) =
     let few = led_few q token ps led in
     record {
@@ -157,24 +157,24 @@ opened_ready q token s id le (ps, led, there) =
 -- ---- its first batch
 
 abbrev pub IsMost : Option ℕ → ℕ → Type 0
-IsMost size most = MatchOption size (most ≡ 2147483647) (λ n. most ≡ n)
+IsMost size most = MatchOption size (most ≡ greatest_count) (λ n. most ≡ n)
 
-most_fits : (size : Option ℕ) (n : ℕ) → IsMost size n → fits_batch size ≡ true → n ≤ 2147483647
+most_fits : (size : Option ℕ) (n : ℕ) → IsMost size n → fits_batch size ≡ true → n ≤ greatest_count
 most_fits None n m fits = omega (arith, m)
-most_fits (Some k) n m fits = omega (arith, m, leb-true k 2147483647 fits)
+most_fits (Some k) n m fits = omega (arith, m, leb-true k greatest_count fits)
 
-pub taken_is : (size : Option ℕ) (n : ℕ) (ps : List ℕ) → IsMost size n → length ps ≤ 2147483647 → take n ps ≡ at_most size ps
+pub taken_is : (size : Option ℕ) (n : ℕ) (ps : List ℕ) → IsMost size n → length ps ≤ greatest_count → take n ps ≡ at_most size ps
 taken_is None n ps m le = take_all n ps (omega (arith, m, le))
 taken_is (Some k) n ps m le = ap (λ i. take i ps) m
 
-pub left_is : (size : Option ℕ) (n : ℕ) (ps : List ℕ) → IsMost size n → length ps ≤ 2147483647 → drop n ps ≡ left_over size ps
+pub left_is : (size : Option ℕ) (n : ℕ) (ps : List ℕ) → IsMost size n → length ps ≤ greatest_count → drop n ps ≡ left_over size ps
 left_is None n ps m le = drop_all n ps (omega (arith, m, le))
 left_is (Some k) n ps m le = ap (λ i. drop i ps) m
 
 pub given_is : (s : State) (id n : ℕ) (c : OpenCursor) (size : Option ℕ) (b : GivenBatch) → IsMost size n → fits_batch size ≡ true → cursor_of id s.cursors ≡ Some c
     → reply s (next_call id n) ≡ gave b → b ≡ batch_of c n
 given_is s id n c size b most fits there r =
-    let small : nat_lt 2147483647 n ≡ false = le-ltb 2147483647 n (most_fits size n most fits) in
+    let small : nat_lt greatest_count n ≡ false = le-ltb greatest_count n (most_fits size n most fits) in
     let g : gave (batch_of c n) ≡ gave b = (rw (there, small) at r) in
     cc
 
@@ -191,7 +191,7 @@ pub batch_given : (s : State) (id n : ℕ) (count : ℕ) (size : Option ℕ) (b 
     → reply s (next_call id n) ≡ gave b → (c : OpenCursor) → cursor_of id s.cursors ≡ Some c → IsBatchOf size c b
 batch_given s id n count size b ready most fits r c there =
     let same : ready.cursor ≡ c = (let e = sym ready.is_there ∙ there in cc) in
-    let few : length c.left ≤ 2147483647 = subst (λ (x : OpenCursor). length x.left ≤ 2147483647) same ready.few in
+    let few : length c.left ≤ greatest_count = subst (λ (x : OpenCursor). length x.left ≤ greatest_count) same ready.few in
     let is = given_is s id n c size b most fits there r in
     let places = taken_is size n c.left most few in
     record {

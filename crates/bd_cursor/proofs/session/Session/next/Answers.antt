@@ -1,5 +1,6 @@
 use Rattle.std.proofs.Common.{◌≡◌, ◌≤◌, ◌<◌, ap, sym, ◌∙◌, Some, List, cond, length, map, get_or, slice_get, slice_set, arith, subst}
 use Rattle.std.proofs.{lemmas.Grind.common_steps, lemmas.List.map-set}
+use Rattle.bd_value.specs.Limits.{greatest_count}
 use Rattle.bd_answer.specs.Session.{OpenCursor, State, changed_by, cursor_of, gave, next_call, reply, with_moved, without}
 use Rattle.bd_cursor.specs.{SessionView.TakesMemory, SessionView.given_batch, SessionView.open_cursor, SessionView.state_of, declared.cursor.Cursor.Cursor}
 use Rattle.bd_cursor.proofs.SessionLemmas.{after_batch, gave_batch, get_some}
@@ -15,7 +16,7 @@ returns-in_default-next c =
     let list : c.deref.result.now ≡ cs = c.deref.ensures.value in
     let below : c.in-Some.place < length cs = rw list at c.in-Some.ensures.below in
     let it : cursor_of c.args.id os ≡ slice_get os c.in-Some.place = rw list at (c.in-Some.ensures.it dump) in
-    let few : c.args.n ≤ 2147483647 = omega arith in
+    let few : c.args.n ≤ greatest_count = omega arith in
     let granted = gave_batch c.args.id c.args.n os (open_cursor dump k) (it ∙ get_some dump cs c.in-Some.place k below value) few in
     record { steps = record { because = subst TakesMemory (sym granted) tt; stays = grind (arith, common_steps); dump = c.next.ensures.dump } }
 
@@ -33,7 +34,7 @@ returns c =
     let below : c.in-Some.place < length cs = rw list at c.in-Some.ensures.below in
     let it : cursor_of id os ≡ slice_get os c.in-Some.place = rw list at (c.in-Some.ensures.it dump) in
     let found : cursor_of id os ≡ Some (open_cursor dump k) = it ∙ get_some dump cs c.in-Some.place k below value in
-    let few : n ≤ 2147483647 = omega arith in
+    let few : n ≤ greatest_count = omega arith in
     let replies : reply s (next_call id n) ≡ gave (given_batch c.in-Ok.batch) = gave_batch id n os (open_cursor dump k) found few ∙ ap gave (sym c.in-Ok.ensures.batch) in
     let moved_there : map (open_cursor dump) (slice_set cs c.in-Some.place c.next.new.self) ≡ with_moved id n os =
     map-set (open_cursor dump) cs c.in-Some.place c.next.new.self ∙ ap (slice_set os c.in-Some.place) c.in-Ok.ensures.moved
