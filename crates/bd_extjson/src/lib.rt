@@ -22,8 +22,7 @@ mod read;
 
 pub use bd_diagnose::{JsonFault, JsonFaultKind};
 pub use bd_text::{
-    LineRoom, write_doc, write_node, write_number, write_number32, write_path, write_string,
-    write_value,
+    LineRoom, write_doc, write_node, write_number, write_path, write_string, write_value,
 };
 pub use bd_wrapper::{Trouble, Wrapper};
 pub use json::Scratch;

@@ -23,5 +23,5 @@ mod scalar;
 mod text;
 
 pub use json_string::{write_path, write_string};
-pub use scalar::{write_number, write_number32};
+pub use scalar::write_number;
 pub use text::{LineRoom, write_doc, write_node, write_value};

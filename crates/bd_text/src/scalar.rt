@@ -315,16 +315,6 @@ pub fn write_number(n: u64, out: &mut Vec<u8>) -> Result<(), NoMemory>
     out.extend_from_slice(buffer.format(n).as_bytes())
 }
 
-/// Appends a number of at most 32 bits in decimal.
-///
-/// `NoMemory` leaves `out` as it was.
-pub fn write_number32(n: u32, out: &mut Vec<u8>) -> Result<(), NoMemory>
-    ensures ok { OnOk result (out.new.items ≡ out.old.items ++ decimal n) }
-    ensures err { OnErr result (out.new.items ≡ out.old.items) }
-{
-    write_number(u64::from(n), out)
-}
-
 /// The most digits of a number of 64 bits.
 const DIGITS: usize = 20;
 
