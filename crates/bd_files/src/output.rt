@@ -195,17 +195,23 @@ pub fn tell_dump_fault<E: Output>(alloc: Global, fault: &Fault, err: &mut E) -> 
     }
 }
 
-/// Appends a number.
+/// Appends a number in decimal.
+///
+/// `NoMemory` leaves `text` as it was.
 pub fn push_number(number: u64, text: &mut String) -> Result<(), NoMemory>
-    ensures { OnOk result (string_bytes text.new ≡ string_bytes text.old ++ decimal number) }
+    ensures ok { OnOk result (string_bytes text.new ≡ string_bytes text.old ++ decimal number) }
+    ensures err { OnErr result (string_bytes text.new ≡ string_bytes text.old) }
 {
     let mut buffer = Buffer::new();
     text.push_str(buffer.format(number))
 }
 
 /// Appends the names of a path, joined by dots, as one JSON string.
+///
+/// `NoMemory` leaves `text` as it was.
 pub fn push_path(path: &[String], text: &mut String) -> Result<(), NoMemory>
-    ensures { OnOk result (string_bytes text.new ≡ string_bytes text.old ++ quoted (join_with_byte 46 (map string_bytes path.now))) }
+    ensures ok { OnOk result (string_bytes text.new ≡ string_bytes text.old ++ quoted (join_with_byte 46 (map string_bytes path.now))) }
+    ensures err { OnErr result (string_bytes text.new ≡ string_bytes text.old) }
 {
     let mut quoted = Vec::new(*text.allocator());
     write_path(path, &mut quoted)?;
@@ -215,7 +221,7 @@ pub fn push_path(path: &[String], text: &mut String) -> Result<(), NoMemory>
     }
 }
 
-/// Appends where a fault stands.
+/// Appends where a fault stands. `NoMemory` may leave a front of it.
 fn push_place(fault: &Fault, text: &mut String) -> Result<(), NoMemory>
     ensures { OnOk result (string_bytes text.new ≡ string_bytes text.old ++ place_text fault.now.document fault.now.offset) }
 {
@@ -225,8 +231,8 @@ fn push_place(fault: &Fault, text: &mut String) -> Result<(), NoMemory>
     push_number(fault.offset, text)
 }
 
-/// Appends a fault: where it stands, the names of its path, and what it is.
-pub fn push_fault(fault: &Fault, text: &mut String) -> Result<(), NoMemory>
+/// Appends a fault: where it stands, the names of its path, and what it is. `NoMemory` may leave a front of it.
+pub(crate) fn push_fault(fault: &Fault, text: &mut String) -> Result<(), NoMemory>
     ensures { OnOk result (string_bytes text.new ≡ string_bytes text.old ++ fault_text fault.now.document (fault_view fault.now)) }
 {
     push_place(fault, text)?;
@@ -236,8 +242,8 @@ pub fn push_fault(fault: &Fault, text: &mut String) -> Result<(), NoMemory>
     text.push_str(fault.kind.words())
 }
 
-/// The message of a fault.
-pub fn fault_message(alloc: Global, fault: &Fault) -> Result<String, NoMemory>
+/// The message of a fault. `NoMemory` is its only error.
+pub(crate) fn fault_message(alloc: Global, fault: &Fault) -> Result<String, NoMemory>
     ensures { IfOk result (λ s. string_bytes s ≡ fault_text fault.now.document (fault_view fault.now)) }
 {
     let mut text = String::new(alloc);
