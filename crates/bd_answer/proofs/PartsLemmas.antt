@@ -90,11 +90,13 @@ map_ordered r ds =
 -- skip and limit, of places and of documents
 map_cut : {B : Type 0} (at : ℕ → B) (limit skip : ℕ) (ps : List ℕ) → map at (cut limit 0 (drop skip ps)) ≡ window limit skip (map at ps)
 map_cut at limit skip ps = rw (drop-map at skip ps, take-map at (limit - 0) (drop skip ps))
-    (elim (limit == 0) as (λ b. map at (cond b (drop skip ps) (take (limit - 0) (drop skip ps))) ≡ cond b (map at (drop skip ps)) (map at (take (limit - 0) (drop skip ps)))) [ true ↦ refl | false ↦ refl ])
+    (elim (limit == 0) as (λ b. map at (cond b (drop skip ps) (take (limit - 0) (drop skip ps))) ≡ cond b (map at (drop skip ps)) (map at (take (limit - 0) (drop skip ps))))
+    [ true ↦ refl | false ↦ refl ])
 
 window_map : {A B : Type 0} (f : A → B) (limit skip : ℕ) (xs : List A) → window limit skip (map f xs) ≡ map f (window limit skip xs)
 window_map f limit skip xs = rw (drop-map f skip xs, take-map f (limit - 0) (drop skip xs))
-    (elim (limit == 0) as (λ b. cond b (map f (drop skip xs)) (map f (take (limit - 0) (drop skip xs))) ≡ map f (cond b (drop skip xs) (take (limit - 0) (drop skip xs)))) [ true ↦ refl | false ↦ refl ])
+    (elim (limit == 0) as (λ b. cond b (map f (drop skip xs)) (map f (take (limit - 0) (drop skip xs))) ≡ map f (cond b (drop skip xs) (take (limit - 0) (drop skip xs))))
+    [ true ↦ refl | false ↦ refl ])
 
 filter_map_maps : {A B : Type 0} (at : A → Option B) (ps : List A) → filter_map at ps ≡ filter_map (λ o. o) (map at ps)
 filter_map_maps at [] = refl

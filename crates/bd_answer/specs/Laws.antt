@@ -3,8 +3,8 @@ use Rattle.std.specs.Prelude.{ℕ, ◌+◌, ◌-◌, ◌<◌, ◌≤◌, ◌≡�
 use Rattle.std.specs.Prelude.{List, [], ◌∷◌, drop, length, map, slice_get, slice_index_or, Option, Some, None, IfSome}
 use Rattle.std.specs.{declared.cmp.Ordering.Ordering, Cmp.IsTotalOrder, Option.option_cmp}
 use Rattle.std.specs.List.{AllPairs, filter_map, flat_map, zip}
-use Rattle.bd_answer.specs.Answer.{Selection, Mark, answer, batches, rest}
 use Rattle.bd_value.specs.Limits.{greatest_count}
+use Rattle.bd_answer.specs.Answer.{Selection, Mark, answer, batches, rest}
 use Rattle.bd_answer.specs.Session.{Call, GivenBatch, Query, Reply, State, gave, kill_call, most_given}
 use Rattle.bd_answer.specs.Session.{next_call, reply, state_after}
 

@@ -343,7 +343,8 @@ in_table (t ∷ ts) b type h is =
     let p = and_parts (t.0 == byte_told t.1) (list_all (λ t. t.0 == byte_told t.1) ts) h in
     found_in (eqb-true t.0 (byte_told t.1) p.0) (in_table ts b type p.1) (eqb b t.0) refl is
   where
-    found_in : t.0 ≡ byte_told t.1 → (lookup (nat_eq b) ts ≡ Some type → b ≡ byte_told type) → (same : Bool) → eqb b t.0 ≡ same → cond same (Some t.1) (lookup (nat_eq b) ts) ≡ Some type → b ≡ byte_told type
+    found_in : t.0 ≡ byte_told t.1 → (lookup (nat_eq b) ts ≡ Some type → b ≡ byte_told type) → (same : Bool)
+        → eqb b t.0 ≡ same → cond same (Some t.1) (lookup (nat_eq b) ts) ≡ Some type → b ≡ byte_told type
     found_in told others true e i = eqb-true b t.0 e ∙ told ∙ ap byte_told (same_Some t.1 type i)
     found_in told others false e i = others i
 
@@ -602,7 +603,8 @@ unfolding past_elements
 elements_nil nested place zero e = refl
 elements_nil nested place (suc n) e = refl
 
-body_again : (nested : Nested) (in_array : Bool) (e : ℕ) (body rest : List ℕ) → length (framed body) ≤ longest_document → ((e : ℕ) → past_elements nested (cond in_array (Some 0) None) (length body) e body ≡ Ok tt)
+body_again : (nested : Nested) (in_array : Bool) (e : ℕ) (body rest : List ℕ) → length (framed body) ≤ longest_document
+    → ((e : ℕ) → past_elements nested (cond in_array (Some 0) None) (length body) e body ≡ Ok tt)
     → past_body nested in_array e (framed body ++ rest) ≡ Ok rest
 body_again nested in_array e body rest short h = rw (frame_again false e body rest short (λ is. absurd cc), h (e - length (0 ∷ rest))) refl
 

@@ -40,7 +40,9 @@ pub to_a_fault : {C : Type 0} (state : C → Reader) (gives : C → Option (List
     → StopsServing state gives RepliesTo command_limits old new out s t KeepsState fault → TellsMessage err (error_line (serve_words fault)) Failed status
     → ServesToAFault state gives old new out err status (bytes_of dump) (documents dump)
 to_a_fault state gives dump old new out err s t fault status is_new is_over stops told =
-    let few : fault ≡ faults.Unread reads.TooManyTurns → ⊥ = λ is. never_too_many state gives old new out s t (subst (λ f. StopsServing state gives RepliesTo command_limits old new out s t KeepsState f) is stops) in
+    let few : fault ≡ faults.Unread reads.TooManyTurns → ⊥ = λ is.
+    never_too_many state gives old new out s t
+    (subst (λ f. StopsServing state gives RepliesTo command_limits old new out s t KeepsState f) is stops) in
     (service_state t, fault, few, rw (is_new, is_over) at (stopped state gives command_limits old new out s t fault stops), told)
 
 -- ---- what is told where nothing is served

@@ -96,7 +96,8 @@ never_wanting command before (p ∷ ps) is = go (never_wanting command (before +
     rest None other later e = later e
     rest (Some f) other later e = other e
 
-    go : (pairs_fault command (before ++ p ∷ []) ps ≡ Some CommandFault.NoMemory → ⊥) → (o : Option Tree) → option_or (cond (is_some o) (Some CommandFault.RepeatedField) (value_fault (entry_of p.0 (command_fields command)) p.1)) (pairs_fault command (before ++ p ∷ []) ps)
+    go : (pairs_fault command (before ++ p ∷ []) ps ≡ Some CommandFault.NoMemory → ⊥)
+        → (o : Option Tree) → option_or (cond (is_some o) (Some CommandFault.RepeatedField) (value_fault (entry_of p.0 (command_fields command)) p.1)) (pairs_fault command (before ++ p ∷ []) ps)
         ≡ Some CommandFault.NoMemory → ⊥
     go later (Some t) e = cc
     go later None e = rest (value_fault (entry_of p.0 (command_fields command)) p.1) (value_not_wanting (entry_of p.0 (command_fields command)) p.1) later e

@@ -219,7 +219,10 @@ pub code_unended : (k : List ℕ) (room depth n : ℕ) (ts r s : List Token) (j 
     → read_key ts ≡ Some (Some k, r) → value depth r ≡ Some (i, s) → length s ≤ n - 1 → ((q : List Token) → read_key s ≢ Some (None, q))
     → through (wrapped room kinds.Scope j t) (members (value depth) n ts) ≡ None
 code_unended k room depth n ts r s j i t le e f less g =
-    named (wrapped room kinds.Scope j t) k depth n ts r le e ∙ member_is (wrapped room kinds.Scope j t) k depth (n - 1) r s i f ∙ not_ended _ depth (n - 1) s less g (λ l h ms. nested_none room _ (no_third (wrapper_of k) j i t (wrap (room - 1) i) l h ms))
+    named (wrapped room kinds.Scope j t) k depth n ts r le e
+    ∙ member_is (wrapped room kinds.Scope j t) k depth (n - 1) r s i f
+    ∙ not_ended _ depth (n - 1) s less g
+    (λ l h ms. nested_none room _ (no_third (wrapper_of k) j i t (wrap (room - 1) i) l h ms))
 
 pub code_ended : (k : List ℕ) (room depth n : ℕ) (ts r s q : List Token) (j i : Json) (u : Tree) → length ts ≤ n → read_key ts ≡ Some (Some k, r)
     → is_code_name (wrapper_of k) ≡ true → value depth r ≡ Some (i, s)

@@ -59,7 +59,17 @@ module _ (old new : Reader) (out_old out_new : Writer) (err_old err_new : Writer
         let fault = fault_view f in
         let line = subst (λ n. Tells (error_line (fault_text n fault) ++ (decimal (length ds) ++ OBJECTS_FOUND.now)) Failed) numbered told in (
           shown_dump ds (Some (fault_text (length ds) fault)),
-          inl ((given ++ (part ++ rest), None, was, (ds, Some fault, (given, part ++ rest, joined, refl, fails), refl), wrote, λ e. (ds, given, part ++ rest, joined, refl, inr (fault, fails), (part, at))), line),
+          inl (
+            (
+              given ++ (part ++ rest),
+              None,
+              was,
+              (ds, Some fault, (given, part ++ rest, joined, refl, fails), refl),
+              wrote,
+              λ e. (ds, given, part ++ rest, joined, refl, inr (fault, fails), (part, at)),
+            ),
+            line,
+          ),
         )
     ends (endings.Unread f) (part, was, cut) (inl told) =
         (shown_dump ds (Some (read_words f)), inl ((given ++ part, Some f, was, (ds, given, part, joined, cut, refl, refl), wrote, λ e. absurd cc), told))

@@ -150,7 +150,9 @@ module _ {N : Type 0} (tree : N → Tree) (source : N → List ℕ) (dir : Dir) 
   pub known_earliest : (key : Option (Key N)) (bytes : List ℕ) (ss : Stops) (s : Stop Tree) → gives_earlier dir (option_map (key_tree tree) key) s ≡ false → IsEarliestFrom tree source dir key bytes ss
       → IsEarliestFrom tree source dir key bytes (ss ++ s ∷ [])
   known_earliest key bytes ss s none is = record {
-    earliest = sym (flat_more dir ss s ∙ ap (λ e. earlier_key dir e (earliest_key dir (stop_keys false s))) (sym is.earliest) ∙ none_taken dir (option_map (key_tree tree) key) (stop_keys false s) none);
+    earliest = sym (flat_more dir ss s
+        ∙ ap (λ e. earlier_key dir e (earliest_key dir (stop_keys false s))) (sym is.earliest)
+        ∙ none_taken dir (option_map (key_tree tree) key) (stop_keys false s) none);
     kept = is.kept;
     there = IfSome_then key is.there (stop.at_more false ss (s ∷ []));
   }
@@ -174,7 +176,8 @@ module _ {N : Type 0} (tree : N → Tree) (source : N → List ℕ) (dir : Dir) 
       }
 
   pub whole : (bytes : List ℕ) (key : Option (Key N)) (t : Tree) (p : Names) (b : Bool)
-      → TakesOrEnds (IsEarliestFrom tree source dir) (λ f. gives_earlier dir (option_map (key_tree tree) f)) (λ _. false) b bytes None key (stops t p) → IsEarliestFrom tree source dir key bytes (stops t p)
+      → TakesOrEnds (IsEarliestFrom tree source dir)
+      (λ f. gives_earlier dir (option_map (key_tree tree) f)) (λ _. false) b bytes None key (stops t p) → IsEarliestFrom tree source dir key bytes (stops t p)
   whole bytes key t p true h = h.adds [] (record { earliest = refl; kept = tt; there = tt })
   whole bytes key t p false h = let none = no_ends (stops t p) in absurd cc
 

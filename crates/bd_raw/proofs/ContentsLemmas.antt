@@ -90,7 +90,9 @@ module _ (bytes : List ℕ) (start : ℕ) (kind : Kind) (s : Sound kind (drop st
 
   framed_held : (made : Doc → Tree) → IsFramed s.tree s.begins.value made → Held made
   framed_held made f =
-      let whole : drop start bytes ≡ number (length f.body + 5) ++ (f.body ++ 0 ∷ s.begins.after) = s.begins.cut ∙ ap (λ (x : List ℕ). x ++ s.begins.after) f.frame ∙ framed_after f.body s.begins.after in
+      let whole : drop start bytes ≡ number (length f.body + 5) ++ (f.body ++ 0 ∷ s.begins.after) =
+      s.begins.cut ∙ ap (λ (x : List ℕ). x ++ s.begins.after) f.frame
+      ∙ framed_after f.body s.begins.after in
       let cut = sym (drop-drop 4 start bytes) ∙ ap (drop 4) whole ∙ number_after (length f.body + 5) (f.body ++ 0 ∷ s.begins.after) in
       let short : length f.body ≤ longest_document = omega (arith, s.begins.short, ap length f.frame, framed_length f.body) in
       let left : Left (drop (start + 4) bytes) = record { fields = f.fields; body = f.body; after = s.begins.after; spell = f.spell; cut = cut; short = short } in

@@ -106,7 +106,17 @@ module _ {bytes : List ℕ} {at : ℕ} {left : Fields} (s : Next bytes at left) 
 
   module _ (kind : Kind) (kinded : kind_of s.tree ≡ kind) where
     abbrev pub value_sound : (k : ℕ) → k ≡ length s.name → Sound kind (drop (at + k + 2) bytes)
-    value_sound k p = record { tree = s.tree; begins = record { value = s.value; after = s.rest ++ 0 ∷ s.after; spells = s.spells; typed = ap type_byte kinded; cut = value_cut k p; short = s.value_short } }
+    value_sound k p = record {
+      tree = s.tree;
+      begins = record {
+        value = s.value;
+        after = s.rest ++ 0 ∷ s.after;
+        spells = s.spells;
+        typed = ap type_byte kinded;
+        cut = value_cut k p;
+        short = s.value_short;
+      };
+    }
 
     pub after_cut : (k e : ℕ) (g : Sound kind (drop (at + k + 2) bytes)) → k ≡ length s.name → e ≡ (at + k + 2) + extent g → drop e bytes ≡ s.rest ++ 0 ∷ s.after
     after_cut k e g p q =

@@ -93,10 +93,13 @@ pub kind_is : (kind : Kind) (bytes : List ℕ) (s : Sound kind bytes) → kind_o
 kind_is kind bytes s = same_kind (kind_of s.tree) kind s.begins.typed
 
 pub reads_at : (kind : Kind) (bytes : List ℕ) (s : Sound kind bytes) → HasBytesOf kind bytes
-reads_at kind bytes s = subst (HasBytesOf kind) (sym s.begins.cut) (subst (λ (k : Kind). HasBytesOf k (s.begins.value ++ s.begins.after)) (kind_is kind bytes s) (value_reads s.tree s.begins.value s.begins.after s.begins.spells))
+reads_at kind bytes s = subst (HasBytesOf kind) (sym s.begins.cut)
+    (subst (λ (k : Kind). HasBytesOf k (s.begins.value ++ s.begins.after)) (kind_is kind bytes s) (value_reads s.tree s.begins.value s.begins.after s.begins.spells))
 
 pub size_at : (kind : Kind) (bytes : List ℕ) (s : Sound kind bytes) → size_of kind bytes ≡ extent s
-size_at kind bytes s = ap (size_of kind) s.begins.cut ∙ ap (λ (k : Kind). size_of k (s.begins.value ++ s.begins.after)) (sym (kind_is kind bytes s)) ∙ size_is s.tree s.begins.value s.begins.after s.begins.spells s.begins.short ∙ sym (extent_is s s)
+size_at kind bytes s = ap (size_of kind) s.begins.cut
+    ∙ ap (λ (k : Kind). size_of k (s.begins.value ++ s.begins.after)) (sym (kind_is kind bytes s))
+    ∙ size_is s.tree s.begins.value s.begins.after s.begins.spells s.begins.short ∙ sym (extent_is s s)
 
 -- ---- texts and the bytes that they take
 

@@ -66,7 +66,8 @@ whole_cases : {E : Type 0} (b : Bool) (c : ℕ) (cs : List ℕ) (r : Result ℤ 
 unfolding whole
 whole_cases true c cs r e w h = rw e (minus_first (c ∷ cs) r (grind arith) w h ∙ sym (in_range (λ n. neg_ℤ (pos n)) (digits_number cs) (are_digits cs) (digits_value 10 cs) refl))
 whole_cases false c cs r e w h =
-    rw e (plain_first (c ∷ cs) r (λ p. no_plus (c == 48) c cs refl w p) (λ p. grind arith) w h ∙ sym (in_range (λ n. pos n) (digits_number (c ∷ cs)) (are_digits (c ∷ cs)) (digits_value 10 (c ∷ cs)) refl))
+    rw e (plain_first (c ∷ cs) r (λ p. no_plus (c == 48) c cs refl w p) (λ p. grind arith) w h
+    ∙ sym (in_range (λ n. pos n) (digits_number (c ∷ cs)) (are_digits (c ∷ cs)) (digits_value 10 (c ∷ cs)) refl))
 
 pub parsed : {E : Type 0} (bs : List ℕ) (r : Result ℤ E) → begins_digits (unsigned bs) ≡ true → ParsesSigned w64 10 bs r → result_ok r ≡ whole_64 bs
 unfolding whole

@@ -19,5 +19,7 @@ invariant-some_bounds-loop-filter l =
 
 abbrev pub invariant-operator_bounds-loop-operator : goal.invariant-operator_bounds-loop-operator
 invariant-operator_bounds-loop-operator l =
-    conjunction l.index.multikey (parts_bounds l.parts.items) (operator_bounds (operators_from (map operator_tree (drop l.operator-index l.operators))) (Some (component_names l.index.path.now)) l.index.multikey)
+    conjunction l.index.multikey (parts_bounds l.parts.items)
+    (operator_bounds (operators_from (map operator_tree (drop l.operator-index l.operators)))
+    (Some (component_names l.index.path.now)) l.index.multikey)
     ≡ operator_bounds (operators_from (map operator_tree l.operators)) (Some (component_names l.index.path.now)) l.index.multikey

@@ -42,7 +42,8 @@ returns-in_err-end_object-clause-none c =
     rw (p.1, p.2) (λ n room j t le.
     let less : length s ≤ n - 1 = omega (arith, le, shorter, c.in_ok-code.ensures.shorter) in
     fails_where c.in_err-end_object.field-0.0 _
-    (λ e. seconds.code_unended c.in-Some.second.now room c.args.depth n c.args.reader.now r s j (value_view c.in_ok-code.code) t le key c.in_ok-code.ensures.gives less (c.in_err-end_object.ensures.refused e)))
+    (λ e. seconds.code_unended c.in-Some.second.now room c.args.depth n c.args.reader.now r s j
+    (value_view c.in_ok-code.code) t le key c.in_ok-code.ensures.gives less (c.in_err-end_object.ensures.refused e)))
 
 pub returns-clause-code : goal.returns-clause-code
 returns-clause-code c = λ n room j u le h.

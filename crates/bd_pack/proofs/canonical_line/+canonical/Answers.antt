@@ -34,14 +34,18 @@ append_fields-loop-next-preserved t c =
 
 pub append_fields-end_body-requires : goal.append_fields-end_body-requires
 append_fields-end_body-requires t c =
-    let size = bodies.body_size c.begin_body.result c.in_ok-start.start _ c.args.out.now.items (fields_bytes (fields_of c.loop-next.invariant.0)) c.loop-next.out.items c.in_ok-start.ensures.value c.begin_body.ensures.place c.loop-next.invariant.5 in
+    let size = bodies.body_size c.begin_body.result c.in_ok-start.start _ c.args.out.now.items
+    (fields_bytes (fields_of c.loop-next.invariant.0)) c.loop-next.out.items c.in_ok-start.ensures.value
+    c.begin_body.ensures.place c.loop-next.invariant.5 in
     search rules
 
 pub append_fields-returns-clause-gives : goal.append_fields-returns-clause-gives
 append_fields-returns-clause-gives t c =
     let l = c.loop-next in
     let ps = l.invariant.0 in
-    let put = bodies.if_ok _ _ _ _ c.in_ok-ok.ensures.value c.end_body.ensures.ok ∙ bodies.ended c.begin_body.result c.in_ok-start.start _ c.args.out.now.items (fields_bytes (fields_of ps)) l.out.items c.in_ok-start.ensures.value c.begin_body.ensures.place l.invariant.5 in
+    let put = bodies.if_ok _ _ _ _ c.in_ok-ok.ensures.value c.end_body.ensures.ok
+    ∙ bodies.ended c.begin_body.result c.in_ok-start.start _ c.args.out.now.items (fields_bytes (fields_of ps))
+    l.out.items c.in_ok-start.ensures.value c.begin_body.ensures.place l.invariant.5 in
     IfSome_then c.after_word-2.result c.after_word-2.ensures
     (λ rest e. (ps, pieces.ended_at 123 125 c.args.text.now (fields_text (fields_of ps)) l.rest.now rest.now (rw c.in_default.is at l.invariant.2) e, l.invariant.1, put))
 
@@ -76,14 +80,18 @@ append_items-loop-next-preserved t c =
 
 pub append_items-end_body-requires : goal.append_items-end_body-requires
 append_items-end_body-requires t c =
-    let size = bodies.body_size c.begin_body.result c.in_ok-start.start _ c.args.out.now.items (items_bytes 0 (items_of c.loop-next.invariant.0)) c.loop-next.out.items c.in_ok-start.ensures.value c.begin_body.ensures.place c.loop-next.invariant.5 in
+    let size = bodies.body_size c.begin_body.result c.in_ok-start.start _ c.args.out.now.items
+    (items_bytes 0 (items_of c.loop-next.invariant.0)) c.loop-next.out.items c.in_ok-start.ensures.value
+    c.begin_body.ensures.place c.loop-next.invariant.5 in
     search rules
 
 pub append_items-returns : goal.append_items-returns
 append_items-returns t c =
     let l = c.loop-next in
     let ts = l.invariant.0 in
-    let put = bodies.if_ok _ _ _ _ c.in_ok-ok.ensures.value c.end_body.ensures.ok ∙ bodies.ended c.begin_body.result c.in_ok-start.start _ c.args.out.now.items (items_bytes 0 (items_of ts)) l.out.items c.in_ok-start.ensures.value c.begin_body.ensures.place l.invariant.5 in
+    let put = bodies.if_ok _ _ _ _ c.in_ok-ok.ensures.value c.end_body.ensures.ok
+    ∙ bodies.ended c.begin_body.result c.in_ok-start.start _ c.args.out.now.items (items_bytes 0 (items_of ts))
+    l.out.items c.in_ok-start.ensures.value c.begin_body.ensures.place l.invariant.5 in
     IfSome_then c.after_word-2.result c.after_word-2.ensures
     (λ rest e. (ts, pieces.ended_at 91 93 c.args.text.now (items_text (items_of ts)) l.rest.now rest.now (rw c.in_default.is at l.invariant.2) e, l.invariant.1, put))
 

@@ -53,7 +53,9 @@ append_fields-loop-next-preserved t c =
 
 pub append_fields-end_body-requires : goal.append_fields-end_body-requires
 append_fields-end_body-requires t c =
-    let size = bodies.body_size c.begin_body.result c.in_ok-at.at _ c.args.out.now.items (fields_bytes (fields_of c.loop-next.invariant.1)) c.loop-next.out.items c.in_ok-at.ensures.value c.begin_body.ensures.place c.loop-next.invariant.5 in
+    let size = bodies.body_size c.begin_body.result c.in_ok-at.at _ c.args.out.now.items
+    (fields_bytes (fields_of c.loop-next.invariant.1)) c.loop-next.out.items c.in_ok-at.ensures.value
+    c.begin_body.ensures.place c.loop-next.invariant.5 in
     search rules
 
 pub append_fields-returns-clause-gives : goal.append_fields-returns-clause-gives
@@ -63,7 +65,12 @@ append_fields-returns-clause-gives t c =
     let named = ap (λ k. through (wrap_fields c.args.room) (after_key c.args.depth l.invariant.0 (option_map (λ s. s.now) k) l.reader)) c.in_default.is in
     let read = l.invariant.3 ∙ ap (parse_map (fields_before ps)) named ∙ ap (λ x. Some (x, l.reader)) (steps.fields_before-none ps) in
     bodies.some_ok c.ok-2.result c.end_body.result _ _ c.ok-2.ensures.value c.end_body.ensures.ok
-    (λ e. (fields_of ps, read, e ∙ bodies.ended c.begin_body.result c.in_ok-at.at _ c.args.out.now.items (fields_bytes (fields_of ps)) l.out.items c.in_ok-at.ensures.value c.begin_body.ensures.place l.invariant.5))
+    (λ e. (
+      fields_of ps,
+      read,
+      e ∙ bodies.ended c.begin_body.result c.in_ok-at.at _ c.args.out.now.items (fields_bytes (fields_of ps))
+          l.out.items c.in_ok-at.ensures.value c.begin_body.ensures.place l.invariant.5,
+    ))
 
 -- ---- append_items
 
@@ -96,7 +103,9 @@ append_items-loop-alloc-preserved t c =
 
 pub append_items-end_body-requires : goal.append_items-end_body-requires
 append_items-end_body-requires t c =
-    let size = bodies.body_size c.begin_body.result c.in_ok-at.at _ c.args.out.now.items (items_bytes 0 (items_of c.loop-alloc.invariant.1)) c.loop-alloc.out.items c.in_ok-at.ensures.value c.begin_body.ensures.place c.loop-alloc.invariant.5 in
+    let size = bodies.body_size c.begin_body.result c.in_ok-at.at _ c.args.out.now.items
+    (items_bytes 0 (items_of c.loop-alloc.invariant.1)) c.loop-alloc.out.items c.in_ok-at.ensures.value
+    c.begin_body.ensures.place c.loop-alloc.invariant.5 in
     search rules
 
 pub append_items-returns-clause-gives : goal.append_items-returns-clause-gives
@@ -107,7 +116,12 @@ append_items-returns-clause-gives t c =
     let read = l.invariant.3 ∙ ap (λ x. parse_map (items_before ts) (through (wrap_items c.args.room) x))
     (items_end (value c.args.depth) l.invariant.0 l.reader r l.invariant.2 (grind arith)) ∙ ap (λ x. Some (x, r)) (steps.items_before-none ts) in
     bodies.some_ok c.ok-2.result c.end_body.result _ _ c.ok-2.ensures.value c.end_body.ensures.ok
-    (λ e. (items_of ts, read, e ∙ bodies.ended c.begin_body.result c.in_ok-at.at _ c.args.out.now.items (items_bytes 0 (items_of ts)) l.out.items c.in_ok-at.ensures.value c.begin_body.ensures.place l.invariant.5))
+    (λ e. (
+      items_of ts,
+      read,
+      e ∙ bodies.ended c.begin_body.result c.in_ok-at.at _ c.args.out.now.items (items_bytes 0 (items_of ts))
+          l.out.items c.in_ok-at.ensures.value c.begin_body.ensures.place l.invariant.5,
+    ))
 
 -- ---- append_next
 

@@ -27,7 +27,8 @@ pub returns-in_err-at-2 : goal.returns-in_err-at-2
 returns-in_err-at-2 c =
     let l = c.loop-name in
     let i = l.invariant in
-    failed _ _ _ _ c.from_residual-in_err-at-2.result c.from_residual-in_err-at-2.ensures.0 (still_kept c.args.end l.at c.args.out.now.items l.out.items i.after (omega (arith, i.inside)) i.kept c.in_ok-at.at
+    failed _ _ _ _ c.from_residual-in_err-at-2.result c.from_residual-in_err-at-2.ensures.0
+    (still_kept c.args.end l.at c.args.out.now.items l.out.items i.after (omega (arith, i.inside)) i.kept c.in_ok-at.at
     c.append_separator.new.out.items c.append_text.new.out.items _ c.in_ok-at.ensures.text.0 c.in_err-at-2.ensures.text)
 
 pub loop-name-preserved : goal.loop-name-preserved

@@ -6,12 +6,16 @@ use Rattle.bd_text.proofs.scalar.append_binary.Goals as goal
 
 pub returns-in_err-at-2 : goal.returns-in_err-at-2
 returns-in_err-at-2 c =
-    failed _ _ _ _ c.from_residual-in_err-at-2.result c.from_residual-in_err-at-2.ensures.0 (front c.args.end c.in_ok-at.at c.args.out.now.items _ c.append_base64.new.out.items (omega arith) (c.in_err-at-2.ensures ∙ c.in_ok-at.ensures.text.0))
+    failed _ _ _ _ c.from_residual-in_err-at-2.result c.from_residual-in_err-at-2.ensures.0
+    (front c.args.end c.in_ok-at.at c.args.out.now.items _ c.append_base64.new.out.items
+    (omega arith) (c.in_err-at-2.ensures ∙ c.in_ok-at.ensures.text.0))
 
 pub returns-in_err-at-3 : goal.returns-in_err-at-3
 returns-in_err-at-3 c =
     let both = chained c.args.end c.in_ok-at.at c.in_ok-at-2.at c.args.out.now.items _ _ _ _ c.in_ok-at.ensures.text.0 c.in_ok-at-2.ensures.0 in
-    failed _ _ _ _ c.from_residual-in_err-at-3.result c.from_residual-in_err-at-3.ensures.0 (front c.args.end c.in_ok-at-2.at c.args.out.now.items _ c.append_few-2.new.out.items (omega arith) (c.in_err-at-3.ensures.text ∙ both))
+    failed _ _ _ _ c.from_residual-in_err-at-3.result c.from_residual-in_err-at-3.ensures.0
+    (front c.args.end c.in_ok-at-2.at c.args.out.now.items _ c.append_few-2.new.out.items
+    (omega arith) (c.in_err-at-3.ensures.text ∙ both))
 
 pub returns : goal.returns
 returns c =

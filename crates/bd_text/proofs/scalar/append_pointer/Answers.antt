@@ -5,7 +5,9 @@ use Rattle.bd_text.proofs.scalar.append_pointer.Goals as goal
 
 pub returns-in_err-at-2 : goal.returns-in_err-at-2
 returns-in_err-at-2 c =
-    failed _ _ _ _ c.from_residual-in_err-at-2.result c.from_residual-in_err-at-2.ensures.0 (front c.args.end c.in_ok-at.at c.args.out.now.items _ c.append_few.new.out.items (omega arith) (c.in_err-at-2.ensures.text ∙ c.in_ok-at.ensures.0))
+    failed _ _ _ _ c.from_residual-in_err-at-2.result c.from_residual-in_err-at-2.ensures.0
+    (front c.args.end c.in_ok-at.at c.args.out.now.items _ c.append_few.new.out.items
+    (omega arith) (c.in_err-at-2.ensures.text ∙ c.in_ok-at.ensures.0))
 
 pub returns : goal.returns
 returns c =

@@ -24,7 +24,8 @@ append_fields-returns-in_err-at-2 g t c =
     let l = c.loop-name in
     let i = l.invariant in
     let named = c.in_ok-at.ensures.text.0 in
-    failed _ _ _ _ c.from_residual-in_err-at-2.result c.from_residual-in_err-at-2.ensures.0 (still_kept c.args.end l.at c.args.out.now.items l.out.items i.after i.inside i.kept c.in_ok-at.at c.append_name.new.out.items
+    failed _ _ _ _ c.from_residual-in_err-at-2.result c.from_residual-in_err-at-2.ensures.0
+    (still_kept c.args.end l.at c.args.out.now.items l.out.items i.after i.inside i.kept c.in_ok-at.at c.append_name.new.out.items
     c.append_node.new.out.items _ named c.in_err-at-2.ensures)
 
 pub append_fields-loop-name-preserved : goal.append_fields-loop-name-preserved
@@ -66,7 +67,8 @@ pub append_items-returns-in_err-at-2 : goal.append_items-returns-in_err-at-2
 append_items-returns-in_err-at-2 g t c =
     let l = c.loop-node in
     let i = l.invariant in
-    failed _ _ _ _ c.from_residual-in_err-at-2.result c.from_residual-in_err-at-2.ensures.0 (still_kept c.args.end l.at c.args.out.now.items l.out.items i.after i.inside i.kept c.in_ok-at.at c.append_separator.new.out.items
+    failed _ _ _ _ c.from_residual-in_err-at-2.result c.from_residual-in_err-at-2.ensures.0
+    (still_kept c.args.end l.at c.args.out.now.items l.out.items i.after i.inside i.kept c.in_ok-at.at c.append_separator.new.out.items
     c.append_node.new.out.items _ c.in_ok-at.ensures.text.0 c.in_err-at-2.ensures)
 
 pub append_items-loop-node-preserved : goal.append_items-loop-node-preserved
@@ -90,7 +92,8 @@ append_items-loop-node-preserved g t c =
 pub append_items-returns : goal.append_items-returns
 append_items-returns g t c =
     let i = c.loop-node.invariant in
-    last c.args.end c.loop-node.at c.args.out.now.items c.loop-node.out.items c.append_few.new.out.items _ (text (array (items_of (values_of (g.N.Reading.left c.args.items))))) c.append_few.result i.after i.kept
+    last c.args.end c.loop-node.at c.args.out.now.items c.loop-node.out.items c.append_few.new.out.items _
+    (text (array (items_of (values_of (g.N.Reading.left c.args.items))))) c.append_few.result i.after i.kept
     (search rules) c.append_few.ensures.text
 
 pub append_node-append_fields-requires : goal.append_node-append_fields-requires

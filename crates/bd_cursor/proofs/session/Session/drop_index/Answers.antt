@@ -15,7 +15,9 @@ returns c =
     record {
       steps = record {
         replies = replies;
-        moves = with_marks s _ _ (ap (map index_mark) kept ∙ map_kept index_mark (λ (i : IndexMark). not (is_on path i)) c.args.self.now.indexes.items) ∙ ap (λ r. changed_by r (drop_call path) s) (sym replies);
+        moves = with_marks s _ _ (ap (map index_mark) kept
+            ∙ map_kept index_mark (λ (i : IndexMark). not (is_on path i)) c.args.self.now.indexes.items)
+            ∙ ap (λ r. changed_by r (drop_call path) s) (sym replies);
         dump = search rules;
       };
     }

@@ -5,7 +5,9 @@ use Rattle.bd_value.proofs.node.TreeReading.element.Goals as goal
 
 pub index-requires : goal.index-requires
 index-requires c =
-    let lt = m.inside_array (held c.args.self) c.in-Value-Array.items.items (m.is_array c.args.self c.in-Value-Array.field-0 c.in-Value-Array.items c.in-Value-Array.is (rw c.in-Value-Array.is at c.in-Value-Array.field-0-is)) c.args.i c.requires in
+    let lt = m.inside_array (held c.args.self) c.in-Value-Array.items.items
+    (m.is_array c.args.self c.in-Value-Array.field-0 c.in-Value-Array.items c.in-Value-Array.is
+    (rw c.in-Value-Array.is at c.in-Value-Array.field-0-is)) c.args.i c.requires in
     omega arith
 
 pub returns-clause-element : goal.returns-clause-element

@@ -8,4 +8,6 @@ returns-in-Doc-clause-first c = m.first_is (held c.args.self) (pairs c.in-Doc.do
 
 pub returns-in-Value-Doc-clause-first : goal.returns-in-Value-Doc-clause-first
 returns-in-Value-Doc-clause-first c =
-    m.first_is (held c.args.self) (pairs c.in-Value-Doc.document) (m.is_doc c.args.self c.in-Value-Doc.field-0 c.in-Value-Doc.document c.in-Value-Doc.is (rw c.in-Value-Doc.is at c.in-Value-Doc.field-0-is)) c.args.name.now _ c.first_in-in-Value-Doc.ensures
+    m.first_is (held c.args.self) (pairs c.in-Value-Doc.document)
+    (m.is_doc c.args.self c.in-Value-Doc.field-0 c.in-Value-Doc.document c.in-Value-Doc.is (rw c.in-Value-Doc.is at c.in-Value-Doc.field-0-is))
+    c.args.name.now _ c.first_in-in-Value-Doc.ensures

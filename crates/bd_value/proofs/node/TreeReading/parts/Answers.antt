@@ -10,9 +10,13 @@ returns-in-Doc-clause-parts c = subst (AreParts (held c.args.self)) c.as_pairs.e
 
 pub returns-in-Value-Doc-clause-parts : goal.returns-in-Value-Doc-clause-parts
 returns-in-Value-Doc-clause-parts c =
-    subst (AreParts (held c.args.self)) c.as_pairs-in-Value-Doc.ensures (m.doc_parts (held c.args.self) (pairs c.in-Value-Doc.document) (m.is_doc c.args.self c.in-Value-Doc.field-0 c.in-Value-Doc.document c.in-Value-Doc.is (rw c.in-Value-Doc.is at c.in-Value-Doc.field-0-is)))
+    subst (AreParts (held c.args.self)) c.as_pairs-in-Value-Doc.ensures
+    (m.doc_parts (held c.args.self) (pairs c.in-Value-Doc.document) (m.is_doc c.args.self c.in-Value-Doc.field-0 c.in-Value-Doc.document c.in-Value-Doc.is
+    (rw c.in-Value-Doc.is at c.in-Value-Doc.field-0-is)))
 
 pub returns-in-Value-Array-clause-parts : goal.returns-in-Value-Array-clause-parts
 returns-in-Value-Array-clause-parts c =
     subst (λ (vs : List Value). AreParts (held c.args.self) (map (λ (v : Value). ([], tree_of v)) vs)) (sym c.deref.ensures.value)
-    (m.array_parts (held c.args.self) c.in-Value-Array.items.items (m.is_array c.args.self c.in-Value-Array.field-0 c.in-Value-Array.items c.in-Value-Array.is (rw c.in-Value-Array.is at c.in-Value-Array.field-0-is)))
+    (m.array_parts (held c.args.self) c.in-Value-Array.items.items
+    (m.is_array c.args.self c.in-Value-Array.field-0 c.in-Value-Array.items c.in-Value-Array.is
+    (rw c.in-Value-Array.is at c.in-Value-Array.field-0-is)))
