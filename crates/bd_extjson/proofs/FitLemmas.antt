@@ -15,7 +15,7 @@ use Rattle.base64.specs.Decode.{push_leftover, scan_steps, scan_bytes, suffix_by
 use Rattle.base64.specs.declared.decode.DecodeError.{DecodeError}
 use Rattle.base64.proofs.Decoding.{IsLeftover, IsLeftover_next}
 use Rattle.base64.proofs.Tables.{are_tables_inverse, IsDecodeTable_from}
-use Rattle.bd_value.specs.Fits.{AreBytes, IsId, ScalarFitsType, FitsTypes, ItemsFitTypes, FieldsFitTypes, ScalarHasUtf8, HasUtf8, ItemsHaveUtf8, FieldsHaveUtf8, has_zero}
+use Rattle.bd_value.specs.Fits.{AreBytes, IsId, ScalarFits, Fits, ItemsFit, FieldsFit, has_zero}
 use Rattle.bd_extjson.proofs.Utf8Lemmas.{when, Holds, then, IsTextJson, AreTextItems, AreTextMembers, json_texts}
 use Rattle.std.specs.Int.{w32, w64}
 use Rattle.std.specs.Str.{bytes_eq}
@@ -259,11 +259,8 @@ name_text j is =
 
 -- ---- scalars
 
-abbrev IsSoundScalar : Scalar → Type 0
-IsSoundScalar s = ScalarFitsType s × ScalarHasUtf8 s
-
-if_true_fits : (b : Bool) (s : Scalar) → IsSoundScalar s → Holds IsSoundScalar (cond b (Some s) None)
-if_true_fits b s h = when (Holds IsSoundScalar) b (Some s) None (λ e. h) (λ e. tt)
+if_true_fits : (b : Bool) (s : Scalar) → ScalarFits IsUtf8 s → Holds (ScalarFits IsUtf8) (cond b (Some s) None)
+if_true_fits b s h = when (Holds (ScalarFits IsUtf8)) b (Some s) None (λ e. h) (λ e. tt)
 
 pair_holds : {A B : Type 0} (P : A → Type 0) (Q : B → Type 0) (f : Json → Option A) (g : Json → Option B)
     → ((j : Json) → IsTextJson j → Holds P (f j)) → ((j : Json) → IsTextJson j → Holds Q (g j))
@@ -274,122 +271,113 @@ pair_holds P Q f g p q a b j is =
 long_fits : (j : Json) → IsTextJson j → Holds (FitsSigned w64) (long_in j)
 long_fits j p = then (FitsSigned w64) whole_64 (as_str j) (λ s q. whole_64_fits s) (string_in j p)
 
-single_fits : (w : Wrapper) (j : Json) → IsTextJson j → Holds IsSoundScalar (single w j)
+single_fits : (w : Wrapper) (j : Json) → IsTextJson j → Holds (ScalarFits IsUtf8) (single w j)
 single_fits kinds.NumberInt j is =
-    mapped IsSoundScalar (λ z. trees.int32 z) (option_and_then whole_32 (as_str j)) (λ z h. (h, tt))
+    mapped (ScalarFits IsUtf8) (λ z. trees.int32 z) (option_and_then whole_32 (as_str j)) (λ z h. h)
     (then (FitsSigned w32) whole_32 (as_str j) (λ s p. whole_32_fits s) (string_in j is))
 single_fits kinds.NumberLong j is =
-    mapped IsSoundScalar (λ z. trees.int64 z) (long_in j) (λ z h. (h, tt)) (long_fits j is)
-single_fits kinds.Oid j is = mapped IsSoundScalar (λ b. trees.object_id b) (id_of j) (λ b h. (h, tt)) (id_fits j is)
-single_fits kinds.Symbol j is = mapped IsSoundScalar (λ s. trees.symbol s) (as_str j) (λ s h. (tt, h)) (string_in j is)
+    mapped (ScalarFits IsUtf8) (λ z. trees.int64 z) (long_in j) (λ z h. h) (long_fits j is)
+single_fits kinds.Oid j is = mapped (ScalarFits IsUtf8) (λ b. trees.object_id b) (id_of j) (λ b h. h) (id_fits j is)
+single_fits kinds.Symbol j is = mapped (ScalarFits IsUtf8) (λ s. trees.symbol s) (as_str j) (λ s h. h) (string_in j is)
 single_fits kinds.Binary j is =
-    mapped IsSoundScalar (λ (p : List ℕ × ℕ). trees.binary p.1 p.0) (option_and_then (both_in data_in subtype_in) (pair (codes "base64") (codes "subType") j))
-    (λ x h. ((h.1, h.0), tt)) (pair_holds AreBytes (λ v. v < 256) data_in subtype_in data_fits subtype_fits (codes "base64") (codes "subType") j is)
-single_fits kinds.Code j is = mapped IsSoundScalar (λ s. trees.code s) (as_str j) (λ s h. (tt, h)) (string_in j is)
+    mapped (ScalarFits IsUtf8) (λ (p : List ℕ × ℕ). trees.binary p.1 p.0) (option_and_then (both_in data_in subtype_in) (pair (codes "base64") (codes "subType") j))
+    (λ x h. (h.1, h.0)) (pair_holds AreBytes (λ v. v < 256) data_in subtype_in data_fits subtype_fits (codes "base64") (codes "subType") j is)
+single_fits kinds.Code j is = mapped (ScalarFits IsUtf8) (λ s. trees.code s) (as_str j) (λ s h. h) (string_in j is)
 single_fits kinds.Timestamp j is =
-    mapped IsSoundScalar (λ (p : ℕ × ℕ). trees.timestamp p.0 p.1) (option_and_then (both_in word_in word_in) (pair (codes "t") (codes "i") j)) (λ x h. (h, tt))
+    mapped (ScalarFits IsUtf8) (λ (p : ℕ × ℕ). trees.timestamp p.0 p.1) (option_and_then (both_in word_in word_in) (pair (codes "t") (codes "i") j)) (λ x h. h)
     (pair_holds (λ n. n < 2 ^ 32) (λ n. n < 2 ^ 32) word_in word_in (λ i p. word_fits i) (λ i p. word_fits i) (codes "t") (codes "i") j is)
 single_fits kinds.RegularExpression j is =
-    mapped IsSoundScalar (λ (p : List ℕ × List ℕ). trees.regex p.0 p.1) (option_and_then (both_in name_in name_in) (pair (codes "pattern") (codes "options") j))
-    (λ x h. (tt, h)) (pair_holds IsUtf8 IsUtf8 name_in name_in name_text name_text (codes "pattern") (codes "options") j is)
+    mapped (ScalarFits IsUtf8) (λ (p : List ℕ × List ℕ). trees.regex p.0 p.1) (option_and_then (both_in name_in name_in) (pair (codes "pattern") (codes "options") j))
+    (λ x h. h) (pair_holds IsUtf8 IsUtf8 name_in name_in name_text name_text (codes "pattern") (codes "options") j is)
 single_fits kinds.DbPointer j is =
     let id_in : Json → Option (List ℕ) = λ i. option_and_then id_of (only (codes "$oid") i) in
-    mapped IsSoundScalar (λ (p : List ℕ × List ℕ). trees.db_pointer p.0 p.1) (option_and_then (both_in as_str id_in) (pair (codes "$ref") (codes "$id") j))
-    (λ x h. (h.1, h.0)) (pair_holds IsUtf8 IsId as_str id_in string_in
+    mapped (ScalarFits IsUtf8) (λ (p : List ℕ × List ℕ). trees.db_pointer p.0 p.1) (option_and_then (both_in as_str id_in) (pair (codes "$ref") (codes "$id") j))
+    (λ x h. h) (pair_holds IsUtf8 IsId as_str id_in string_in
     (λ i p. then IsId id_of (only (codes "$oid") i) id_fits (only_text (codes "$oid") i p)) (codes "$ref") (codes "$id") j is)
 single_fits kinds.Date j is =
-    mapped IsSoundScalar (λ z. trees.date z) (option_and_then long_in (only (codes "$numberLong") j)) (λ z h. (h, tt))
+    mapped (ScalarFits IsUtf8) (λ z. trees.date z) (option_and_then long_in (only (codes "$numberLong") j)) (λ z h. h)
     (then (FitsSigned w64) long_in (only (codes "$numberLong") j) long_fits (only_text (codes "$numberLong") j is))
-single_fits kinds.MinKey j is = if_true_fits (one j) trees.min_key (tt, tt)
-single_fits kinds.MaxKey j is = if_true_fits (one j) trees.max_key (tt, tt)
-single_fits kinds.Undefined j is = if_true_fits (unwrap_or (as_bool j) false) trees.undefined (tt, tt)
+single_fits kinds.MinKey j is = if_true_fits (one j) trees.min_key tt
+single_fits kinds.MaxKey j is = if_true_fits (one j) trees.max_key tt
+single_fits kinds.Undefined j is = if_true_fits (unwrap_or (as_bool j) false) trees.undefined tt
 single_fits _ j is = tt
 
 -- ---- trees
-
-abbrev IsSound : Tree → Type 0
-IsSound t = FitsTypes t × HasUtf8 t
-
-abbrev AreSoundItems : Items → Type 0
-AreSoundItems ts = ItemsFitTypes ts × ItemsHaveUtf8 ts
-
-abbrev AreSoundFields : Fields → Type 0
-AreSoundFields fs = FieldsFitTypes fs × FieldsHaveUtf8 fs
 
 nest : {A : Type 0} (P : A → Type 0) (room : ℕ) (o : Option A) → Holds P o → Holds P (nested room o)
 nest P zero o p = tt
 nest P (suc room) o p = p
 
-number_sound : (o : Option ℤ) → Holds (FitsSigned w64) o → Holds IsSound (bare_number o)
+number_sound : (o : Option ℤ) → Holds (FitsSigned w64) o → Holds Fits (bare_number o)
 number_sound None p = tt
-number_sound (Some z) p = when (λ s. IsSound (leaf s)) (fits_bits 31 z) (trees.int32 z) (trees.int64 z) (λ e. (signed_32 z e, tt)) (λ e. (p, tt))
+number_sound (Some z) p = when (λ s. Fits (leaf s)) (fits_bits 31 z) (trees.int32 z) (trees.int64 z) (λ e. signed_32 z e) (λ e. p)
 
-item_sound : (t : Option Tree) (ts : Option Items) → Holds IsSound t → Holds AreSoundItems ts → Holds AreSoundItems (add_item t ts)
-item_sound (Some t) (Some ts) p q = ((p.0, q.0), (p.1, q.1))
+item_sound : (t : Option Tree) (ts : Option Items) → Holds Fits t → Holds (ItemsFit IsUtf8) ts → Holds (ItemsFit IsUtf8) (add_item t ts)
+item_sound (Some t) (Some ts) p q = (p, q)
 item_sound _ _ p q = tt
 
-field_sound : (name : List ℕ) (t : Option Tree) (fs : Option Fields) → IsUtf8 name → Holds IsSound t → Holds AreSoundFields fs → Holds AreSoundFields (add_field name t fs)
+field_sound : (name : List ℕ) (t : Option Tree) (fs : Option Fields) → IsUtf8 name → Holds Fits t → Holds (FieldsFit IsUtf8) fs → Holds (FieldsFit IsUtf8) (add_field name t fs)
 field_sound name (Some t) (Some fs) is p q =
-    when (Holds AreSoundFields) (has_zero name) None (Some (field name t fs)) (λ e. tt) (λ e. ((p.0, q.0), (is, (p.1, q.1))))
+    when (Holds (FieldsFit IsUtf8)) (has_zero name) None (Some (field name t fs)) (λ e. tt) (λ e. (is, (p, q)))
 field_sound name _ _ is p q = tt
 
-scope_sound : (s : Option (List ℕ)) (t : Option Tree) → Holds IsUtf8 s → Holds IsSound t → Holds IsSound (with_scope s t)
-scope_sound (Some s) (Some (doc fs)) p q = (q.0, (p, q.1))
+scope_sound : (s : Option (List ℕ)) (t : Option Tree) → Holds IsUtf8 s → Holds Fits t → Holds Fits (with_scope s t)
+scope_sound (Some s) (Some (doc fs)) p q = (p, q)
 scope_sound _ _ p q = tt
 
-two_sound : (w : Wrapper) (j : Json) (t : Option Tree) (v : Option Wrapper) (i : Json) (u : Option Tree) (ms : json.Members) → IsTextJson j → Holds IsSound t
-    → IsTextJson i → Holds IsSound u → Holds IsSound (two w j t v i u ms)
+two_sound : (w : Wrapper) (j : Json) (t : Option Tree) (v : Option Wrapper) (i : Json) (u : Option Tree) (ms : json.Members) → IsTextJson j → Holds Fits t
+    → IsTextJson i → Holds Fits u → Holds Fits (two w j t v i u ms)
 two_sound kinds.Code j t (Some kinds.Scope) i u json.no_members is p are q = scope_sound (as_str j) u (string_in j is) q
 two_sound kinds.Scope j t (Some kinds.Code) i u json.no_members is p are q = scope_sound (as_str i) t (string_in i are) p
 two_sound _ j t _ i u _ is p are q = tt
 
-either_sound : (o : Option Wrapper) (f : Wrapper → Option Tree) (d : Option Tree) → ((w : Wrapper) → Holds IsSound (f w)) → Holds IsSound d → Holds IsSound (option_map_or f o d)
+either_sound : (o : Option Wrapper) (f : Wrapper → Option Tree) (d : Option Tree) → ((w : Wrapper) → Holds Fits (f w)) → Holds Fits d → Holds Fits (option_map_or f o d)
 either_sound None f d p q = q
 either_sound (Some w) f d p q = p w
 
 mutual
-  wrap_sound : (room : ℕ) (j : Json) → IsTextJson j → Holds IsSound (wrap room j)
-  wrap_sound room json.null is = (tt, tt)
-  wrap_sound room (json.boolean b) is = (tt, tt)
+  wrap_sound : (room : ℕ) (j : Json) → IsTextJson j → Holds Fits (wrap room j)
+  wrap_sound room json.null is = tt
+  wrap_sound room (json.boolean b) is = tt
   wrap_sound room (json.number s) is = number_sound (whole_64 s) (whole_64_fits s)
-  wrap_sound room (json.string s) is = (tt, is)
-  wrap_sound room (json.array js) is = nest IsSound room (option_map array (wrap_items (room - 1) js))
-      (mapped IsSound array (wrap_items (room - 1) js) (λ ts h. h) (items_sound (room - 1) js is))
+  wrap_sound room (json.string s) is = is
+  wrap_sound room (json.array js) is = nest Fits room (option_map array (wrap_items (room - 1) js))
+      (mapped Fits array (wrap_items (room - 1) js) (λ ts h. h) (items_sound (room - 1) js is))
   wrap_sound room (json.object ms) is = object_sound room ms is
 
-  items_sound : (room : ℕ) (js : json.Items) → AreTextItems js → Holds AreSoundItems (wrap_items room js)
-  items_sound room json.no_items is = (tt, tt)
+  items_sound : (room : ℕ) (js : json.Items) → AreTextItems js → Holds (ItemsFit IsUtf8) (wrap_items room js)
+  items_sound room json.no_items is = tt
   items_sound room (json.item j js) is = item_sound (wrap room j) (wrap_items room js) (wrap_sound room j is.0) (items_sound room js is.1)
 
-  object_sound : (room : ℕ) (ms : json.Members) → AreTextMembers ms → Holds IsSound (wrap_object room ms)
-  object_sound room json.no_members is = nest IsSound room (Some (doc no_fields)) (tt, tt)
+  object_sound : (room : ℕ) (ms : json.Members) → AreTextMembers ms → Holds Fits (wrap_object room ms)
+  object_sound room json.no_members is = nest Fits room (Some (doc no_fields)) tt
   object_sound room (json.member name j ms) is =
       let fields = add_field name (wrap (room - 1) j) (wrap_fields (room - 1) ms) in
       either_sound (wrapper_of name) (λ w. wrapped room w j (wrap (room - 1) j) ms) (nested room (option_map doc fields))
       (λ w. wrapped_sound room w j (wrap (room - 1) j) ms is.1.0 (wrap_sound (room - 1) j is.1.0) is.1.1)
-      (nest IsSound room (option_map doc fields) (mapped IsSound doc fields (λ fs h. h)
+      (nest Fits room (option_map doc fields) (mapped Fits doc fields (λ fs h. h)
       (field_sound name (wrap (room - 1) j) (wrap_fields (room - 1) ms) is.0 (wrap_sound (room - 1) j is.1.0) (fields_sound (room - 1) ms is.1.1))))
 
-  wrapped_sound : (room : ℕ) (w : Wrapper) (j : Json) (t : Option Tree) (ms : json.Members) → IsTextJson j → Holds IsSound t → AreTextMembers ms → Holds IsSound (wrapped room w j t ms)
-  wrapped_sound room w j t json.no_members is p are = mapped IsSound leaf (single w j) (λ s h. h) (single_fits w j is)
-  wrapped_sound room w j t (json.member name i ms) is p are = nest IsSound room _ (two_sound w j t (wrapper_of name) i (wrap (room - 1) i) ms is p are.1.0 (wrap_sound (room - 1) i are.1.0))
+  wrapped_sound : (room : ℕ) (w : Wrapper) (j : Json) (t : Option Tree) (ms : json.Members) → IsTextJson j → Holds Fits t → AreTextMembers ms → Holds Fits (wrapped room w j t ms)
+  wrapped_sound room w j t json.no_members is p are = mapped Fits leaf (single w j) (λ s h. h) (single_fits w j is)
+  wrapped_sound room w j t (json.member name i ms) is p are = nest Fits room _ (two_sound w j t (wrapper_of name) i (wrap (room - 1) i) ms is p are.1.0 (wrap_sound (room - 1) i are.1.0))
 
-  fields_sound : (room : ℕ) (ms : json.Members) → AreTextMembers ms → Holds AreSoundFields (wrap_fields room ms)
-  fields_sound room json.no_members is = (tt, tt)
+  fields_sound : (room : ℕ) (ms : json.Members) → AreTextMembers ms → Holds (FieldsFit IsUtf8) (wrap_fields room ms)
+  fields_sound room json.no_members is = tt
   fields_sound room (json.member name j ms) is = field_sound name (wrap room j) (wrap_fields room ms) is.0 (wrap_sound room j is.1.0) (fields_sound room ms is.1.1)
 
 -- ---- documents
 
-document_sound : (t : Option Tree) (d : Doc) → Holds IsSound t → option_map pairs_of (option_and_then document t) ≡ Some d → IsSound (doc (fields_of d))
+document_sound : (t : Option Tree) (d : Doc) → Holds Fits t → option_map pairs_of (option_and_then document t) ≡ Some d → Fits (doc (fields_of d))
 document_sound (Some (doc fs)) d p e =
     let is : pairs_of fs ≡ d = cc in
     let same : fs ≡ fields_of d = sym (fields_of-pairs_of fs) ∙ ap fields_of is in
-    subst AreSoundFields same p
+    subst (FieldsFit IsUtf8) same p
 document_sound _ d p e = absurd cc
 
-pub reads_sound : (text : List ℕ) (d : Doc) → ReadsAs text d → IsSound (doc (fields_of d))
+pub reads_sound : (text : List ℕ) (d : Doc) → ReadsAs text d → Fits (doc (fields_of d))
 reads_sound text d = go (reads.json text) (json_texts text)
   where
-    go : (o : Option Json) → Holds IsTextJson o → option_map pairs_of (option_and_then document (option_and_then (wrap most_levels) o)) ≡ Some d → IsSound (doc (fields_of d))
+    go : (o : Option Json) → Holds IsTextJson o → option_map pairs_of (option_and_then document (option_and_then (wrap most_levels) o)) ≡ Some d → Fits (doc (fields_of d))
     go None is e = absurd cc
     go (Some j) is e = document_sound (wrap most_levels j) d (wrap_sound most_levels j is) e

@@ -8,7 +8,7 @@ use Rattle.json.specs.Find.{as_str}
 use Rattle.json.specs.Lex.{tokens}
 use Rattle.json.specs.Token.{Token}
 use Rattle.json.specs.Tree as kit_tree
-use Rattle.bd_value.specs.Fits.{ScalarFitsType, FitsTypes, ItemsFitTypes, FieldsFitTypes}
+use Rattle.bd_value.specs.Fits.{ScalarFits, FitsTypes, ItemsFit, FieldsFit, IsAny}
 use Rattle.bd_value.specs.Tree.{Scalar, null, text as plain_text, boolean, regex, code}
 use Rattle.bd_value.specs.Tree.{Tree, leaf, doc, array, code_scope, Items, no_items, item, Fields, no_fields, field, Doc, fields_of, pairs_in, pairs_of-fields_of}
 use Rattle.bd_text.specs.Text.{text}
@@ -65,7 +65,7 @@ abbrev mutual
   back_members kit.no_members = no_fields
   back_members (kit.member n x ms) = field n (back x) (back_members ms)
 
-back-scalar : (s : Scalar) → ScalarFitsType s → back (scalar_json s) ≡ leaf s
+back-scalar : (s : Scalar) → ScalarFits IsAny s → back (scalar_json s) ≡ leaf s
 unfolding wrapper_of pair
 back-scalar (regex p o) fits = refl
 back-scalar s fits = ap or_null (scalar_back s 0 fits refl)
@@ -84,15 +84,15 @@ mutual
   back-json (leaf s) fits plain = back-scalar s fits
   back-json (doc fs) fits plain = back-object fs plain.0 (back-members fs fits plain.1)
   back-json (array ts) fits plain = ap array (back-elements ts fits plain)
-  back-json (code_scope s fs) fits plain = back-scope s fs (back-object fs plain.0 (back-members fs fits plain.1))
+  back-json (code_scope s fs) fits plain = back-scope s fs (back-object fs plain.0 (back-members fs fits.1 plain.1))
 
-  back-elements : (ts : Items) → ItemsFitTypes ts → ArePlainItems ts → back_elements (elements_json ts) ≡ ts
+  back-elements : (ts : Items) → ItemsFit IsAny ts → ArePlainItems ts → back_elements (elements_json ts) ≡ ts
   back-elements no_items fits plain = refl
   back-elements (item t ts) fits plain = ap₂ item (back-json t fits.0 plain.0) (back-elements ts fits.1 plain.1)
 
-  back-members : (fs : Fields) → FieldsFitTypes fs → ArePlainFields fs → back_members (members_json fs) ≡ fs
+  back-members : (fs : Fields) → FieldsFit IsAny fs → ArePlainFields fs → back_members (members_json fs) ≡ fs
   back-members no_fields fits plain = refl
-  back-members (field n t fs) fits plain = ap₂ (field n) (back-json t fits.0 plain.0) (back-members fs fits.1 plain.1)
+  back-members (field n t fs) fits plain = ap₂ (field n) (back-json t fits.1.0 plain.0) (back-members fs fits.1.1 plain.1)
 
 -- one text is of one JSON value, since it is read as that value
 json-determined : (t u : Tree) → FitsTypes t → FitsTypes u → text t ≡ text u → json t ≡ json u

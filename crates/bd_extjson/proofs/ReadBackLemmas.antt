@@ -23,8 +23,9 @@ use Rattle.json.specs.Json as kit
 use Rattle.json.specs.Json.{if_last}
 use Rattle.bd_value.specs.Tree.{depth, fields_depth, items_depth, Scalar, int32, int64, binary, object_id, date, timestamp, regex, db_pointer, Tree, leaf, doc, array}
 use Rattle.bd_value.specs.Tree.{code_scope, Items, no_items, item, Fields, no_fields, field, Doc, fields_of, pairs_of, pairs_of-fields_of}
-use Rattle.bd_value.specs.Fits.{IsId, ScalarFitsType, FitsTypes, ItemsFitTypes, FieldsFitTypes, HasUtf8, has_zero, zero_in_scalar, zero_in, zero_in_items, zero_in_fields}
+use Rattle.bd_value.specs.Fits.{IsId, ScalarFits, Fits, FitsTypes, ItemsFit, FieldsFit, IsAny, has_zero, zero_in_scalar, zero_in, zero_in_items, zero_in_fields}
 use Rattle.bd_value.specs.Limits.{most_brackets, most_levels}
+use Rattle.bd_value.proofs.FitsLemmas.{fits_types}
 use Rattle.bd_text.specs.Text.{base64_text, hex_text, text}
 use Rattle.bd_wrapper.specs.Wrapper.{wrapper_of, only, pair, id_of, data_in, subtype_in, word_in, if_word, name_in}
 use Rattle.bd_extjson.specs.Read.{add_item, add_field, with_scope, wrap, wrap_items, wrap_object, wrap_fields, json as json_in, document, ReadsAs}
@@ -114,7 +115,7 @@ word_back n small =
 name_back : (s : List ℕ) → has_zero s ≡ false → name_in (kit.string s) ≡ Some s
 name_back s none = rw none refl
 
-pub scalar_back : (s : Scalar) (room : ℕ) → ScalarFitsType s → zero_in_scalar s ≡ false → wrap room (scalar_json s) ≡ Some (leaf s)
+pub scalar_back : (s : Scalar) (room : ℕ) → ScalarFits IsAny s → zero_in_scalar s ≡ false → wrap room (scalar_json s) ≡ Some (leaf s)
 unfolding wrapper_of only pair whole
 scalar_back (int32 z) room fits none = ap (λ o. option_map (λ s. leaf s) (option_map (λ y. int32 y) o)) (whole_32-signed z fits)
 scalar_back (int64 z) room fits none = ap (λ o. option_map (λ s. leaf s) (option_map (λ y. int64 y) o)) (whole_64-signed z fits)
@@ -128,7 +129,7 @@ scalar_back (regex p o) room fits none =
     let parts = or_parts (has_zero p) (has_zero o) none in
     ap₂ (λ a b. option_map (λ s. leaf s) (option_map (λ p. regex p.0 p.1) (option_zip a b))) (name_back p parts.0) (name_back o parts.1)
 scalar_back (db_pointer s id) room fits none =
-    ap (λ o. option_map (λ s. leaf s) (option_map (λ p. db_pointer p.0 p.1) (option_zip (Some s) o))) (id_back id fits)
+    ap (λ o. option_map (λ s. leaf s) (option_map (λ p. db_pointer p.0 p.1) (option_zip (Some s) o))) (id_back id fits.1)
 scalar_back _ room fits none = refl
 
 -- ---- a tree
@@ -157,41 +158,42 @@ mutual
   tree_back (array ts) zero deep fits plain none = absurd (omega arith)
   tree_back (array ts) (suc room) deep fits plain none = ap (option_map array) (items_back ts (suc room - 1) (omega arith) fits plain none)
   tree_back (code_scope s fs) zero deep fits plain none = absurd (omega arith)
-  tree_back (code_scope s fs) (suc room) deep fits plain none = scope_back s fs room (object_back fs (suc room - 1) (omega arith) fits plain none)
+  tree_back (code_scope s fs) (suc room) deep fits plain none = scope_back s fs room (object_back fs (suc room - 1) (omega arith) fits.1 plain none)
 
-  object_back : (fs : Fields) (room : ℕ) → suc (fields_depth fs) ≤ room → FieldsFitTypes fs → IsPlainFirst fs × ArePlainFields fs
+  object_back : (fs : Fields) (room : ℕ) → suc (fields_depth fs) ≤ room → FieldsFit IsAny fs → IsPlainFirst fs × ArePlainFields fs
       → zero_in_fields fs ≡ false → wrap_object room (members_json fs) ≡ Some (doc fs)
   object_back fs zero deep fits plain none = absurd (omega arith)
   object_back no_fields (suc room) deep fits plain none = refl
   object_back (field n t fs) (suc room) deep fits plain none =
       let parts = no_zeros n t fs none in
       rw plain.0
-      (ap (option_map doc) (field_back n t fs parts.0 (tree_back t (suc room - 1) (omega arith) fits.0 plain.1.0 parts.1) (fields_back fs (suc room - 1) (omega arith) fits.1 plain.1.1 parts.2)))
+      (ap (option_map doc) (field_back n t fs parts.0 (tree_back t (suc room - 1) (omega arith) fits.1.0 plain.1.0 parts.1) (fields_back fs (suc room - 1) (omega arith) fits.1.1 plain.1.1 parts.2)))
 
-  items_back : (ts : Items) (room : ℕ) → items_depth ts ≤ room → ItemsFitTypes ts → ArePlainItems ts → zero_in_items ts ≡ false → wrap_items room (elements_json ts) ≡ Some ts
+  items_back : (ts : Items) (room : ℕ) → items_depth ts ≤ room → ItemsFit IsAny ts → ArePlainItems ts → zero_in_items ts ≡ false → wrap_items room (elements_json ts) ≡ Some ts
   items_back no_items room deep fits plain none = refl
   items_back (item t ts) room deep fits plain none =
       let parts = or_parts (zero_in t) (zero_in_items ts) none in
       ap₂ add_item (tree_back t room (omega arith) fits.0 plain.0 parts.0) (items_back ts room (omega arith) fits.1 plain.1 parts.1)
 
-  fields_back : (fs : Fields) (room : ℕ) → fields_depth fs ≤ room → FieldsFitTypes fs → ArePlainFields fs → zero_in_fields fs ≡ false → wrap_fields room (members_json fs) ≡ Some fs
+  fields_back : (fs : Fields) (room : ℕ) → fields_depth fs ≤ room → FieldsFit IsAny fs → ArePlainFields fs → zero_in_fields fs ≡ false → wrap_fields room (members_json fs) ≡ Some fs
   fields_back no_fields room deep fits plain none = refl
   fields_back (field n t fs) room deep fits plain none =
       let parts = no_zeros n t fs none in
-      field_back n t fs parts.0 (tree_back t room (omega arith) fits.0 plain.0 parts.1) (fields_back fs room (omega arith) fits.1 plain.1 parts.2)
+      field_back n t fs parts.0 (tree_back t room (omega arith) fits.1.0 plain.0 parts.1) (fields_back fs room (omega arith) fits.1.1 plain.1 parts.2)
 
 -- ---- a document
 
-json_back : (t : Tree) → FitsTypes t → HasUtf8 t → depth t ≤ most_levels → json_in (text t) ≡ Some (json t)
-json_back t fits utf8 deep =
-    json_is (text t) (is_utf8-from_IsUtf8 (text t) (utf8-text t fits utf8))
-    ∙ ap (option_and_then (λ p. if_last p.0 p.1)) (value-text t most_brackets fits (omega (arith, (well t fits).0)))
+json_back : (t : Tree) → Fits t → depth t ≤ most_levels → json_in (text t) ≡ Some (json t)
+json_back t fits deep =
+    let types = fits_types t fits in
+    json_is (text t) (is_utf8-from_IsUtf8 (text t) (utf8-text t fits))
+    ∙ ap (option_and_then (λ p. if_last p.0 p.1)) (value-text t most_brackets types (omega (arith, (well t types).0)))
 
-pub document_back : (d : Doc) → FitsTypes (doc (fields_of d)) → HasUtf8 (doc (fields_of d)) → IsPlain (doc (fields_of d))
+pub document_back : (d : Doc) → Fits (doc (fields_of d)) → IsPlain (doc (fields_of d))
     → zero_in (doc (fields_of d)) ≡ false → depth (doc (fields_of d)) ≤ most_levels
     → ReadsAs (text (doc (fields_of d))) d
-document_back d fits utf8 plain none deep =
+document_back d fits plain none deep =
     let t : Tree = doc (fields_of d) in
-    ap (λ o. option_map pairs_of (option_and_then document (option_and_then (wrap most_levels) o))) (json_back t fits utf8 deep)
-    ∙ ap (λ o. option_map pairs_of (option_and_then document o)) (tree_back t most_levels deep fits plain none)
+    ap (λ o. option_map pairs_of (option_and_then document (option_and_then (wrap most_levels) o))) (json_back t fits deep)
+    ∙ ap (λ o. option_map pairs_of (option_and_then document o)) (tree_back t most_levels deep (fits_types t fits) plain none)
     ∙ ap Some (pairs_of-fields_of d)

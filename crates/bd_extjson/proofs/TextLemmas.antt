@@ -19,9 +19,10 @@ use Rattle.base64.proofs.EngineFacts.{IsAscii-encode_of}
 use Rattle.hex.specs.Hex.{lower_digits, encode_with}
 use Rattle.hex.proofs.HexLemmas.{IsAscii-encode_with}
 use Rattle.json.proofs.Printed.Utf8.{IsUtf8-quoted, IsUtf8-are_ascii, are_ascii}
-use Rattle.bd_value.specs.Fits.{ScalarFitsType, FitsTypes, ItemsFitTypes, FieldsFitTypes, ScalarHasUtf8, HasUtf8, ItemsHaveUtf8, FieldsHaveUtf8}
+use Rattle.bd_value.specs.Fits.{ScalarFits, Fits, FitsTypes, ItemsFit, FieldsFit, IsAny, TreeFits}
 use Rattle.bd_value.specs.Tree.{Scalar, min_key, undefined, null, int32, int64, text as plain_text, symbol, binary, object_id, boolean, date, timestamp, regex, db_pointer, code, max_key}
 use Rattle.bd_value.specs.Tree.{Tree, leaf, doc, array, code_scope, Items, no_items, item, Fields, no_fields, field}
+use Rattle.bd_value.proofs.FitsLemmas.{fits_with}
 use Rattle.bd_text.specs.Text.{escape_byte, escaped, quoted, object, member, wrapper_text, base64_text, hex_text, scalar_text, text, items_text, fields_text, needs_escape}
 use Rattle.bd_text.proofs.JsonStringLemmas.{fits_32, fits_64, escaped-digits, escape_byte-plain}
 use Rattle.bd_extjson.proofs.TreeJsonLemmas.{quoted-kit}
@@ -85,56 +86,56 @@ module _ (P : List ℕ → Type 0) (U : Type 0) (join : (xs ys : List ℕ) → P
   hex : (bs : List ℕ) → P (quoted (hex_text bs))
   hex bs = string (hex_text bs) (λ u. utf8-hex_text bs)
 
-  scalar : (s : Scalar) → ScalarFitsType s → (U → ScalarHasUtf8 s) → P (scalar_text s)
+  scalar : (s : Scalar) → ScalarFits (λ s. U → IsUtf8 s) s → P (scalar_text s)
   unfolding scalar_text
-  scalar min_key fits is = wrapped (codes "$minKey") _ refl (plain (codes "1") refl refl)
-  scalar undefined fits is = wrapped (codes "$undefined") _ refl (plain (codes "true") refl refl)
-  scalar null fits is = plain (codes "null") refl refl
-  scalar (int32 z) fits is = wrapped (codes "$numberInt") _ refl (signed z (fits_32 z fits))
-  scalar (int64 z) fits is = wrapped (codes "$numberLong") _ refl (signed z (fits_64 z fits))
-  scalar (plain_text s) fits is = string s is
-  scalar (symbol s) fits is = wrapped (codes "$symbol") _ refl (string s is)
-  scalar (binary k s) fits is =
+  scalar min_key fits = wrapped (codes "$minKey") _ refl (plain (codes "1") refl refl)
+  scalar undefined fits = wrapped (codes "$undefined") _ refl (plain (codes "true") refl refl)
+  scalar null fits = plain (codes "null") refl refl
+  scalar (int32 z) fits = wrapped (codes "$numberInt") _ refl (signed z (fits_32 z fits))
+  scalar (int64 z) fits = wrapped (codes "$numberLong") _ refl (signed z (fits_64 z fits))
+  scalar (plain_text s) fits = string s fits
+  scalar (symbol s) fits = wrapped (codes "$symbol") _ refl (string s fits)
+  scalar (binary k s) fits =
       wrapped (codes "$binary") _ refl
       (two (codes "base64") (codes "subType") _ _ refl refl (string (base64_text s) (λ u. utf8-base64_text s)) (hex (k ∷ [])))
-  scalar (object_id id) fits is = wrapped (codes "$oid") _ refl (hex id)
-  scalar (boolean true) fits is = plain (codes "true") refl refl
-  scalar (boolean false) fits is = plain (codes "false") refl refl
-  scalar (date z) fits is = wrapped (codes "$date") _ refl (wrapped (codes "$numberLong") _ refl (signed z (fits_64 z fits)))
-  scalar (timestamp s i) fits is =
+  scalar (object_id id) fits = wrapped (codes "$oid") _ refl (hex id)
+  scalar (boolean true) fits = plain (codes "true") refl refl
+  scalar (boolean false) fits = plain (codes "false") refl refl
+  scalar (date z) fits = wrapped (codes "$date") _ refl (wrapped (codes "$numberLong") _ refl (signed z (fits_64 z fits)))
+  scalar (timestamp s i) fits =
       wrapped (codes "$timestamp") _ refl (two (codes "t") (codes "i") _ _ refl refl (number s fits.0) (number i fits.1))
-  scalar (regex p o) fits is =
+  scalar (regex p o) fits =
       wrapped (codes "$regularExpression") _ refl
-      (two (codes "pattern") (codes "options") _ _ refl refl (string p (λ u. (is u).0)) (string o (λ u. (is u).1)))
-  scalar (db_pointer s id) fits is =
+      (two (codes "pattern") (codes "options") _ _ refl refl (string p fits.0) (string o fits.1))
+  scalar (db_pointer s id) fits =
       wrapped (codes "$dbPointer") _ refl
-      (two (codes "$ref") (codes "$id") _ _ refl refl (string s is) (wrapped (codes "$oid") _ refl (hex id)))
-  scalar (code s) fits is = wrapped (codes "$code") _ refl (string s is)
-  scalar max_key fits is = wrapped (codes "$maxKey") _ refl (plain (codes "1") refl refl)
+      (two (codes "$ref") (codes "$id") _ _ refl refl (string s fits.0) (wrapped (codes "$oid") _ refl (hex id)))
+  scalar (code s) fits = wrapped (codes "$code") _ refl (string s fits)
+  scalar max_key fits = wrapped (codes "$maxKey") _ refl (plain (codes "1") refl refl)
 
   mutual
-    tree : (t : Tree) → FitsTypes t → (U → HasUtf8 t) → P (text t)
-    tree (leaf s) fits is = scalar s fits is
-    tree (doc fs) fits is = object_holds (fields_text fs) (fields fs fits is)
-    tree (array ts) fits is = in_brackets 91 93 (items_text ts) (plain (91 ∷ []) refl refl) (plain (93 ∷ []) refl refl) (items ts fits is)
-    tree (code_scope s fs) fits is =
-        two (codes "$code") (codes "$scope") _ _ refl refl (string s (λ u. (is u).0)) (object_holds (fields_text fs) (fields fs fits (λ u. (is u).1)))
+    tree : (t : Tree) → TreeFits (λ s. U → IsUtf8 s) t → P (text t)
+    tree (leaf s) fits = scalar s fits
+    tree (doc fs) fits = object_holds (fields_text fs) (fields fs fits)
+    tree (array ts) fits = in_brackets 91 93 (items_text ts) (plain (91 ∷ []) refl refl) (plain (93 ∷ []) refl refl) (items ts fits)
+    tree (code_scope s fs) fits =
+        two (codes "$code") (codes "$scope") _ _ refl refl (string s fits.0) (object_holds (fields_text fs) (fields fs fits.1))
 
-    items : (ts : Items) → ItemsFitTypes ts → (U → ItemsHaveUtf8 ts) → Each (items_text ts)
-    items no_items fits is = tt
-    items (item t ts) fits is = (tree t fits.0 (λ u. (is u).0), items ts fits.1 (λ u. (is u).1))
+    items : (ts : Items) → ItemsFit (λ s. U → IsUtf8 s) ts → Each (items_text ts)
+    items no_items fits = tt
+    items (item t ts) fits = (tree t fits.0, items ts fits.1)
 
-    fields : (fs : Fields) → FieldsFitTypes fs → (U → FieldsHaveUtf8 fs) → Each (fields_text fs)
-    fields no_fields fits is = tt
-    fields (field n t fs) fits is =
-        (member_holds n (text t) (string n (λ u. (is u).0)) (tree t fits.0 (λ u. (is u).1.0)), fields fs fits.1 (λ u. (is u).1.1))
+    fields : (fs : Fields) → FieldsFit (λ s. U → IsUtf8 s) fs → Each (fields_text fs)
+    fields no_fields fits = tt
+    fields (field n t fs) fits =
+        (member_holds n (text t) (string n fits.0) (tree t fits.1.0), fields fs fits.1.1)
 
 -- ---- UTF-8
 
-pub utf8-text : (t : Tree) → FitsTypes t → HasUtf8 t → IsUtf8 (text t)
-utf8-text t fits is =
+pub utf8-text : (t : Tree) → Fits t → IsUtf8 (text t)
+utf8-text t fits =
     tree IsUtf8 (Unit {0}) IsUtf8-append (λ xs ascii line. IsUtf8-are_ascii xs ascii) (λ s utf8. subst IsUtf8 (quoted-kit s) (IsUtf8-quoted s (utf8 tt)))
-    (λ n small. IsUtf8-from_ascii (decimal n) (IsAscii-decimal n (omega arith))) t fits (λ u. is)
+    (λ n small. IsUtf8-from_ascii (decimal n) (IsAscii-decimal n (omega arith))) t (fits_with IsUtf8 (λ s. Unit {0} → IsUtf8 s) (λ s utf8 u. utf8) t fits)
 
 -- ---- one line
 
@@ -183,4 +184,5 @@ all_of (b ∷ bytes) e =
     All-cons (λ b. (b == 10) ≡ false) b bytes p.0 (all_of bytes p.1)
 
 pub text_line : (t : Tree) → FitsTypes t → All (λ b. (b == 10) ≡ false) (text t)
-text_line t fits = all_of (text t) (tree IsLine ⊥ line-append (λ xs ascii line. line) (λ s utf8. line-quoted s) line-decimal t fits (λ u. absurd u))
+text_line t fits = all_of (text t) (tree IsLine ⊥ line-append (λ xs ascii line. line) (λ s utf8. line-quoted s) line-decimal t
+    (fits_with IsAny (λ s. ⊥ → IsUtf8 s) (λ s any u. absurd u) t fits))

@@ -17,7 +17,7 @@ use Rattle.json.proofs.Printed.Tokens.{tokens-print}
 use Rattle.json.proofs.Printed.Trees.{value-json_tokens, ArePrintable-json_tokens}
 use Rattle.bd_value.specs.Tree.{depth, fields_depth, items_depth, Scalar, min_key, undefined, null, int32, int64, text as plain_text, symbol, binary, object_id, boolean}
 use Rattle.bd_value.specs.Tree.{date, timestamp, regex, db_pointer, code, max_key, Tree, leaf, doc, array, code_scope, Items, no_items, item, Fields, no_fields, field}
-use Rattle.bd_value.specs.Fits.{ScalarFitsType, FitsTypes, ItemsFitTypes, FieldsFitTypes}
+use Rattle.bd_value.specs.Fits.{ScalarFits, FitsTypes, ItemsFit, FieldsFit, IsAny}
 use Rattle.bd_text.specs.Text.{escape_byte, escaped, object, member, listed, quoted, base64_text, hex_text, scalar_text, text, items_text, fields_text}
 use Rattle.bd_text.proofs.TextLemmas.{before, to_come, to_come-all}
 
@@ -188,7 +188,7 @@ one_number : IsNumber (codes "1")
 unfolding after_number
 one_number = refl
 
-numbers-scalar : (s : Scalar) → ScalarFitsType s → HasNumbers (scalar_json s)
+numbers-scalar : (s : Scalar) → ScalarFits IsAny s → HasNumbers (scalar_json s)
 numbers-scalar min_key fits = (one_number, tt)
 numbers-scalar max_key fits = (one_number, tt)
 numbers-scalar (timestamp s i) fits = ((IsNumber-decimal s (omega arith), (IsNumber-decimal i (omega arith), tt)), tt)
@@ -199,20 +199,20 @@ mutual
   well (leaf s) fits = (omega (arith, shallow-scalar s), numbers-scalar s fits)
   well (doc fs) fits = let p = well-fields fs fits in (omega (arith, p.0), p.1)
   well (array ts) fits = let p = well-items ts fits in (omega (arith, p.0), p.1)
-  well (code_scope s fs) fits = let p = well-fields fs fits in (omega (arith, p.0), (tt, (p.1, tt)))
+  well (code_scope s fs) fits = let p = well-fields fs fits.1 in (omega (arith, p.0), (tt, (p.1, tt)))
 
-  well-items : (ts : Items) → ItemsFitTypes ts → (kit_tree.items_depth (elements_json ts) ≤ items_depth ts + 3) × ItemsHaveNumbers (elements_json ts)
+  well-items : (ts : Items) → ItemsFit IsAny ts → (kit_tree.items_depth (elements_json ts) ≤ items_depth ts + 3) × ItemsHaveNumbers (elements_json ts)
   well-items no_items fits = (omega arith, tt)
   well-items (item t ts) fits =
       let p = well t fits.0 in
       let q = well-items ts fits.1 in
       (omega (arith, p.0, q.0), (p.1, q.1))
 
-  well-fields : (fs : Fields) → FieldsFitTypes fs → (kit_tree.members_depth (members_json fs) ≤ fields_depth fs + 3) × MembersHaveNumbers (members_json fs)
+  well-fields : (fs : Fields) → FieldsFit IsAny fs → (kit_tree.members_depth (members_json fs) ≤ fields_depth fs + 3) × MembersHaveNumbers (members_json fs)
   well-fields no_fields fits = (omega arith, tt)
   well-fields (field n t fs) fits =
-      let p = well t fits.0 in
-      let q = well-fields fs fits.1 in
+      let p = well t fits.1.0 in
+      let q = well-fields fs fits.1.1 in
       (omega (arith, p.0, q.0), (p.1, q.1))
 
 -- ---- so the grammar reads the text as that value

@@ -2,7 +2,7 @@
 ghost use Rattle.std.specs.Prelude.{◌≡◌, ◌==◌, ◌≤◌, ℕ, List, All, false};
 ghost use Rattle.bd_value.specs.Limits.{most_levels};
 ghost use Rattle.bd_value.specs.Tree.{depth, Doc, Tree, doc, fields_of};
-ghost use Rattle.bd_value.specs.Fits.{FitsTypes, HasUtf8, zero_in};
+ghost use Rattle.bd_value.specs.Fits.{Fits, FitsTypes, zero_in};
 ghost use Rattle.bd_value.specs.View.{pairs};
 ghost use Rattle.bd_extjson.specs.Laws.{IsPlain};
 ghost use Rattle.bd_extjson.specs.Read.{ReadsAs};
@@ -24,7 +24,7 @@ pub fn text_determines_document()
 /// and it is at most 200 deep.
 #[tactic(auto, using(crate::proofs::ReadBackLemmas::document_back))]
 pub fn reads_back()
-    ensures { (d : Doc) → FitsTypes (doc (fields_of d)) → HasUtf8 (doc (fields_of d)) → IsPlain (doc (fields_of d))
+    ensures { (d : Doc) → Fits (doc (fields_of d)) → IsPlain (doc (fields_of d))
         → zero_in (doc (fields_of d)) ≡ false → depth (doc (fields_of d)) ≤ most_levels → ReadsAs (text (doc (fields_of d))) d }
 {}
 
@@ -47,8 +47,7 @@ pub fn document_reads_back(document: &Document)
 /// A document that is read from a text fits too: its numbers have the bits of their types, and its texts and names are UTF-8.
 #[tactic(auto, using(crate::proofs::FitLemmas::reads_sound))]
 pub fn reads_what_fits()
-    ensures types { (text : List ℕ) (d : Doc) → ReadsAs text d → FitsTypes (doc (fields_of d)) }
-    ensures texts { (text : List ℕ) (d : Doc) → ReadsAs text d → HasUtf8 (doc (fields_of d)) }
+    ensures { (text : List ℕ) (d : Doc) → ReadsAs text d → Fits (doc (fields_of d)) }
 {}
 
 /// A text is one line: no byte of it is a newline.

@@ -3,6 +3,7 @@ use Rattle.std.proofs.Common.{◌≡◌, ℕ, suc, List, [], ◌∷◌, ◌++◌
 use Rattle.std.proofs.{lemmas.Cmp.on_total, lemmas.List.Elements.All-head, lemmas.List.Elements.All-tail, lemmas.List.Splits.slice_split_none, lemmas.Option.get_or_from_slice_get}
 use Rattle.std.specs.{List.All, List.flat_map, Cmp.IsTotalOrder}
 use Rattle.bd_value.specs.Tree.{Doc, doc, fields_of}
+use Rattle.bd_value.proofs.FitsLemmas.{fits_types}
 use Rattle.bd_text.specs.Text.{text}
 use Rattle.bd_extjson.proofs.{FitLemmas.reads_sound, TextLemmas.text_line}
 use Rattle.bd_check.specs.Dump.{AreJoined}
@@ -73,7 +74,7 @@ parts_joined f ss most (ds ∷ parts) =
 
 lines_of : (d : Doc) (ds : List Doc) → IsReadBack d → text_lines (lines (d ∷ ds)) ≡ text (doc (fields_of d)) ∷ text_lines (lines ds)
 lines_of d ds back =
-    let line = text_line (doc (fields_of d)) (reads_sound (text (doc (fields_of d))) d back.0).0 in
+    let line = text_line (doc (fields_of d)) (fits_types (doc (fields_of d)) (reads_sound (text (doc (fields_of d))) d back.0)) in
     lines_apart (text (doc (fields_of d))) (lines ds) ∙ ap (λ xs. xs ++ text_lines (lines ds)) (slice_split_none is_newline (text (doc (fields_of d))) line)
 
 pub pack_from : (ds : List Doc) (number : ℕ) → All IsReadBack ds → PacksLines number (text_lines (lines ds)) ds None
@@ -86,7 +87,7 @@ packable_spells : (d : Doc) → IsReadBack d → IsDocument d (plain d)
 packable_spells d back =
     let sound = reads_sound (text (doc (fields_of d))) d back.0 in
     let limits = reads_plain (text (doc (fields_of d))) d back.0 in
-    plainly_spells d (plain d) sound.0 sound.1 (record { spelled = refl; no_zero = limits.1; short = back.1; shallow = limits.0 })
+    plainly_spells d (plain d) sound (record { spelled = refl; no_zero = limits.1; short = back.1; shallow = limits.0 })
 
 pub joined_of : (ds : List Doc) → All IsReadBack ds → AreJoined ds (flat_map plain ds)
 joined_of [] back = refl

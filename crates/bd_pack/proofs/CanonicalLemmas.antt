@@ -8,7 +8,7 @@ use Rattle.std.specs.{Fmt.signed_decimal, Bool.then_some, Result.result_ok, Resu
 use Rattle.base64.specs.{Engines.standard, GeneralPurpose.encode_of}
 use Rattle.bd_value.specs.{Limits.longest_document, Limits.most_levels, Tree.fields_depth, Tree.items_depth}
 use Rattle.bd_value.specs.Fits.{has_zero, zero_in_scalar, zero_in, zero_in_fields, zero_in_items}
-use Rattle.bd_value.specs.Fits.{ScalarFitsType, ScalarHasUtf8, FieldsFitTypes, ItemsFitTypes, FieldsHaveUtf8, ItemsHaveUtf8, IsId}
+use Rattle.bd_value.specs.Fits.{ScalarFits, FieldsFit, ItemsFit, IsId}
 use Rattle.bd_value.specs.Tree as trees
 use Rattle.bd_value.specs.Tree.{Scalar, Tree, leaf, doc, array, code_scope, Items, Fields, item, field, Doc, fields_of, items_of}
 use Rattle.bd_raw.specs.Spelling.{element, string}
@@ -67,35 +67,35 @@ joined_end (y ∷ z ∷ xs) x = ap (λ l. y ++ (44 ∷ l)) (joined_end (z ∷ xs
 -- ---- trees
 
 pub roomier : (few room : ℕ) (t : Tree) → few ≤ room → IsCanonical few t → IsCanonical room t
-roomier few room t le c = record { fits = c.fits; utf8 = c.utf8; determined = c.determined; no_zero = c.no_zero; shallow = omega (arith, le, c.shallow) }
+roomier few room t le c = record { fits = c.fits; determined = c.determined; no_zero = c.no_zero; shallow = omega (arith, le, c.shallow) }
 
--- the five facts, of lists of elements and of pairs
+-- the four facts, of lists of elements and of pairs
 abbrev AreItems : ℕ → Items → Type 0
-AreItems room ts = ItemsFitTypes ts × ItemsHaveUtf8 ts × ArePlainItems ts × (zero_in_items ts ≡ false) × (items_depth ts ≤ room)
+AreItems room ts = ItemsFit IsUtf8 ts × ArePlainItems ts × (zero_in_items ts ≡ false) × (items_depth ts ≤ room)
 
 abbrev AreFields : ℕ → Fields → Type 0
-AreFields room fs = FieldsFitTypes fs × FieldsHaveUtf8 fs × ArePlainFields fs × (zero_in_fields fs ≡ false) × (fields_depth fs ≤ room)
+AreFields room fs = FieldsFit IsUtf8 fs × ArePlainFields fs × (zero_in_fields fs ≡ false) × (fields_depth fs ≤ room)
 
 items_known : (room : ℕ) (ts : List Tree) → AreCanonical room ts → AreItems room (items_of ts)
-items_known room [] a = (tt, tt, tt, refl, omega arith)
+items_known room [] a = (tt, tt, refl, omega arith)
 items_known room (t ∷ ts) a =
     let c = a.0 in
     let r = items_known room ts a.1 in
-    ((c.fits, r.0), (c.utf8, r.1), (c.determined, r.2), or_from (zero_in t) (zero_in_items (items_of ts)) c.no_zero r.3, omega (arith, c.shallow, r.4))
+    ((c.fits, r.0), (c.determined, r.1), or_from (zero_in t) (zero_in_items (items_of ts)) c.no_zero r.2, omega (arith, c.shallow, r.3))
 
 pub array_known : (room : ℕ) (ts : List Tree) → AreCanonical room ts → IsCanonical (suc room) (array (items_of ts))
 array_known room ts a =
     let r = items_known room ts a in
-    record { fits = r.0; utf8 = r.1; determined = r.2; no_zero = r.3; shallow = omega (arith, r.4) }
+    record { fits = r.0; determined = r.1; no_zero = r.2; shallow = omega (arith, r.3) }
 
 fields_known : (room : ℕ) (d : Doc) → AreCanonicalFields room d → AreFields room (fields_of d)
-fields_known room [] a = (tt, tt, tt, refl, omega arith)
+fields_known room [] a = (tt, tt, refl, omega arith)
 fields_known room (p ∷ ps) a =
     let c = a.1 in
     let r = fields_known room ps a.2 in
-    let others = or_from (zero_in p.1) (zero_in_fields (fields_of ps)) c.no_zero r.3 in
+    let others = or_from (zero_in p.1) (zero_in_fields (fields_of ps)) c.no_zero r.2 in
     let zero = or_from (has_zero p.0) (zero_in p.1 || zero_in_fields (fields_of ps)) a.0.1 others in
-    ((c.fits, r.0), (a.0.0, (c.utf8, r.1)), (c.determined, r.2), zero, omega (arith, c.shallow, r.4))
+    ((a.0.0, (c.fits, r.0)), (c.determined, r.1), zero, omega (arith, c.shallow, r.3))
 
 first_plain : (room : ℕ) (d : Doc) → AreCanonicalFields room d → IsPlainFirst (fields_of d)
 first_plain room [] a = tt
@@ -104,13 +104,13 @@ first_plain room (p ∷ ps) a = a.0.2
 pub doc_known : (room : ℕ) (d : Doc) → AreCanonicalFields room d → IsCanonical (suc room) (doc (fields_of d))
 doc_known room d a =
     let r = fields_known room d a in
-    record { fits = r.0; utf8 = r.1; determined = (first_plain room d a, r.2); no_zero = r.3; shallow = omega (arith, r.4) }
+    record { fits = r.0; determined = (first_plain room d a, r.1); no_zero = r.2; shallow = omega (arith, r.3) }
 
 pub reads_canonical : (line rest : List ℕ) (d : Doc) → line ≡ text (doc (fields_of d)) ++ rest → length rest ≡ 0 → AreCanonicalFields (most_levels - 1) d → ReadsAs line d
 reads_canonical line [] d is none a =
     let c = doc_known (most_levels - 1) d a in
     let whole : line ≡ text (doc (fields_of d)) = is ∙ append-nil (text (doc (fields_of d))) in
-    rw whole (document_back d c.fits c.utf8 c.determined c.no_zero c.shallow)
+    rw whole (document_back d c.fits c.determined c.no_zero c.shallow)
 reads_canonical line (x ∷ rest) d is none a = absurd cc
 
 -- ---- one more
@@ -187,8 +187,8 @@ binary_text payload subtype =
     ap (λ x. codes "{\"$binary\":{\"base64\":" ++ x)
     (nested (quoted (encode_of standard payload)) (codes ",\"subType\":") (quoted (hex_text (subtype ∷ []))) (125 ∷ []) (125 ∷ []))
 
-pub leaf_canonical : (s : Scalar) → ScalarFitsType s → ScalarHasUtf8 s → zero_in_scalar s ≡ false → IsCanonical 0 (leaf s)
-leaf_canonical s fits utf8 none = record { fits = fits; utf8 = utf8; determined = tt; no_zero = none; shallow = omega arith }
+pub leaf_canonical : (s : Scalar) → ScalarFits IsUtf8 s → zero_in_scalar s ≡ false → IsCanonical 0 (leaf s)
+leaf_canonical s fits none = record { fits = fits; determined = tt; no_zero = none; shallow = omega arith }
 
 -- ---- a text is not empty
 
@@ -210,14 +210,14 @@ shorter t whole rest is = omega (arith, some_tree_text t, ap (λ x. length x) is
 -- ---- what is read of a value
 
 -- the scalar that was read, and the one that was written
-pub scalar_element : (whole rest name old new : List ℕ) (s given : Scalar) → given ≡ s → whole ≡ text (leaf s) ++ rest → ScalarFitsType s → ScalarHasUtf8 s → zero_in_scalar s ≡ false
+pub scalar_element : (whole rest name old new : List ℕ) (s given : Scalar) → given ≡ s → whole ≡ text (leaf s) ++ rest → ScalarFits IsUtf8 s → zero_in_scalar s ≡ false
     → new ≡ old ++ element (leaf given) name (bytes_of (leaf given)) → (t : Tree) × (whole ≡ text t ++ rest) × IsCanonical 0 t × (new ≡ old ++ element t name (bytes_of t))
-scalar_element whole rest name old new s given same is fits utf8 none put = (leaf s, is, leaf_canonical s fits utf8 none, rw (← same) put)
+scalar_element whole rest name old new s given same is fits none put = (leaf s, is, leaf_canonical s fits none, rw (← same) put)
 
 pub string_element : (whole rest name s old new : List ℕ) → whole ≡ quoted s ++ rest → IsUtf8 s → new ≡ old ++ element (leaf (trees.text s)) name (string s)
     → (t : Tree) × (whole ≡ text t ++ rest) × IsCanonical 0 t × (new ≡ old ++ element t name (bytes_of t))
 unfolding scalar_text
-string_element whole rest name s old new is utf8 put = scalar_element whole rest name old new (trees.text s) (trees.text s) refl is tt utf8 refl put
+string_element whole rest name s old new is utf8 put = scalar_element whole rest name old new (trees.text s) (trees.text s) refl is utf8 refl put
 
 pub packs_canonical : (line rest : List ℕ) (new old : List ℕ) (d : Doc) (e : Bool) (r : Option (Unit {0})) → line ≡ text (doc (fields_of d)) ++ rest
     → AreCanonicalFields (most_levels - 1) d → length new ≤ longest_document → new ≡ old ++ plain d

@@ -1,6 +1,6 @@
 -- Which lines are packed, and as what.
 use Rattle.std.specs.Prelude.{◌≡◌, ◌≢◌, ◌≤◌, ◌<◌, ℕ, List, [], ◌∷◌, length, false, None, IsUtf8}
-use Rattle.bd_value.specs.{Limits.longest_document, Tree.depth, Fits.FitsTypes, Fits.HasUtf8, Tree.Tree, Tree.Doc}
+use Rattle.bd_value.specs.{Limits.longest_document, Tree.depth, Fits.Fits, Tree.Tree, Tree.Doc}
 use Rattle.bd_value.specs.{Tree.doc, Tree.fields_of, Fits.has_zero, Fits.zero_in}
 use Rattle.bd_write.specs.TreeBytes.{bytes_of}
 use Rattle.bd_wrapper.specs.Wrapper.{wrapper_of}
@@ -25,8 +25,7 @@ IsBad line faults.TooLong = (d : Doc) × ReadsAs line d × (longest_document < l
 
 -- a tree, at most so deep, that its canonical text stands for alone: it is read back as the tree
 pub record IsCanonical (room : ℕ) (t : Tree) : Type 0 where
-  pub fits : FitsTypes t
-  pub utf8 : HasUtf8 t
+  pub fits : Fits t
   pub determined : IsPlain t
   pub no_zero : zero_in t ≡ false
   pub shallow : depth t ≤ room

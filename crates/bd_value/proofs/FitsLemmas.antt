@@ -1,37 +1,52 @@
 -- A tree fits where its parts do.
-use Rattle.std.proofs.Common.{◌≡◌, ◌⊎◌, inl, inr, [], ◌∷◌, Some, None, refl, ap, subst, ◌∙◌}
-use Rattle.bd_value.specs.Tree.{Scalar, Own, own, own_of, Tree, leaf, doc, array, Items, Fields, Doc, fields_of, items_of, fields_of-pairs_of, items_of-list_of, values_of, scope_of, AreParts}
-use Rattle.bd_value.specs.Fits.{FitsTypes, HasUtf8, ItemsFitTypes, ItemsHaveUtf8, FieldsFitTypes, FieldsHaveUtf8}
+use Rattle.std.proofs.Common.{◌≡◌, ◌⊎◌, ℕ, List, inl, inr, [], ◌∷◌, Some, None, refl, ap, subst, ◌∙◌}
+use Rattle.bd_value.specs.Tree.{Scalar, Own, own, own_of, Tree, leaf, doc, array, code_scope, Items, no_items, item, Fields, no_fields, field, Doc, fields_of, items_of, fields_of-pairs_of, items_of-list_of}
+use Rattle.bd_value.specs.Tree.{text, symbol, regex, db_pointer, code, values_of, scope_of, AreParts}
+use Rattle.bd_value.specs.Fits.{FieldsFit, Fits, FitsTypes, ItemsFit, OwnFits, ScalarFits, TreeFits}
 use Rattle.bd_value.specs.View.{kind_of}
 use Rattle.bd_value.specs.declared.node.Kind.TheVariants as kinds
 
-values_fit : (ps : Doc) → FieldsFitTypes (fields_of ps) → ItemsFitTypes (items_of (values_of ps))
-values_fit [] fits = tt
-values_fit (p ∷ ps) fits = (fits.0, values_fit ps fits.1)
+module _ (IsSuch : List ℕ → Type 0) where
+  values_fit : (ps : Doc) → FieldsFit IsSuch (fields_of ps) → ItemsFit IsSuch (items_of (values_of ps))
+  values_fit [] fits = tt
+  values_fit (p ∷ ps) fits = (fits.1.0, values_fit ps fits.1.1)
 
-values_utf8 : (ps : Doc) → FieldsHaveUtf8 (fields_of ps) → ItemsHaveUtf8 (items_of (values_of ps))
-values_utf8 [] utf8 = tt
-values_utf8 (p ∷ ps) utf8 = (utf8.1.0, values_utf8 ps utf8.1.1)
+  pub parts_fit : (t : Tree) (ps : Doc) → AreParts t ps → FieldsFit IsSuch (fields_of ps) → TreeFits IsSuch t
+  parts_fit (doc fs) ps are fits = subst (FieldsFit IsSuch) (ap fields_of are ∙ fields_of-pairs_of fs) fits
+  parts_fit (array ts) ps are fits = subst (ItemsFit IsSuch) (ap items_of are ∙ items_of-list_of ts) (values_fit ps fits)
+  parts_fit _ ps are fits = absurd are
 
--- what holds of a document by its fields, and of an array by the values alone
-module _ (Of : Tree → Type 0) (OfFields : Fields → Type 0) (of_doc : (fs : Fields) → OfFields fs → Of (doc fs))
-    (of_array : (ps : Doc) → OfFields (fields_of ps) → Of (array (items_of (values_of ps)))) where
-  pub parts_have : (t : Tree) (ps : Doc) → AreParts t ps → OfFields (fields_of ps) → Of t
-  parts_have (doc fs) ps are h = of_doc fs (subst OfFields (ap fields_of are ∙ fields_of-pairs_of fs) h)
-  parts_have (array ts) ps are h = subst (λ (x : Items). Of (array x)) (ap items_of are ∙ items_of-list_of ts) (of_array ps h)
-  parts_have _ ps are h = absurd are
+  pub leaf_fits : (t : Tree) (o : Own) → own_of t ≡ Some o → scope_of t ≡ None → OwnFits IsSuch o → TreeFits IsSuch t
+  leaf_fits (leaf s) o own_is scope_is fits = let is : o ≡ own s = cc in subst (OwnFits IsSuch) is fits
+  leaf_fits _ o own_is scope_is fits = absurd cc
 
-pub parts_fit : (t : Tree) (ps : Doc) → AreParts t ps → FieldsFitTypes (fields_of ps) → FitsTypes t
-parts_fit = parts_have FitsTypes FieldsFitTypes (λ fs h. h) values_fit
+-- what fits with texts of one kind fits with those of another that they all are
+module _ (P Q : List ℕ → Type 0) (so : (s : List ℕ) → P s → Q s) where
+  scalar_fits_with : (s : Scalar) → ScalarFits P s → ScalarFits Q s
+  scalar_fits_with (text s) fits = so s fits
+  scalar_fits_with (symbol s) fits = so s fits
+  scalar_fits_with (code s) fits = so s fits
+  scalar_fits_with (regex p o) fits = (so p fits.0, so o fits.1)
+  scalar_fits_with (db_pointer s id) fits = (so s fits.0, fits.1)
+  scalar_fits_with _ fits = fits
 
-pub parts_utf8 : (t : Tree) (ps : Doc) → AreParts t ps → FieldsHaveUtf8 (fields_of ps) → HasUtf8 t
-parts_utf8 = parts_have HasUtf8 FieldsHaveUtf8 (λ fs h. h) values_utf8
+  mutual
+    pub fits_with : (t : Tree) → TreeFits P t → TreeFits Q t
+    fits_with (leaf s) fits = scalar_fits_with s fits
+    fits_with (doc fs) fits = fields_fit_with fs fits
+    fits_with (array ts) fits = items_fit_with ts fits
+    fits_with (code_scope s fs) fits = (so s fits.0, fields_fit_with fs fits.1)
 
--- what holds of a scalar alone
-pub leaf_has : (Of : Tree → Type 0) (OfOwn : Own → Type 0) → ((s : Scalar) → OfOwn (own s) → Of (leaf s))
-    → (t : Tree) (o : Own) → own_of t ≡ Some o → scope_of t ≡ None → OfOwn o → Of t
-leaf_has Of OfOwn of_leaf (leaf s) o own_is scope_is h = let is : o ≡ own s = cc in of_leaf s (subst OfOwn is h)
-leaf_has Of OfOwn of_leaf _ o own_is scope_is h = absurd cc
+    items_fit_with : (ts : Items) → ItemsFit P ts → ItemsFit Q ts
+    items_fit_with no_items fits = tt
+    items_fit_with (item t ts) fits = (fits_with t fits.0, items_fit_with ts fits.1)
+
+    fields_fit_with : (fs : Fields) → FieldsFit P fs → FieldsFit Q fs
+    fields_fit_with no_fields fits = tt
+    fields_fit_with (field n t fs) fits = (so n fits.0, (fits_with t fits.1.0, fields_fit_with fs fits.1.1))
+
+pub fits_types : (t : Tree) → Fits t → FitsTypes t
+fits_types = fits_with _ _ (λ s utf8. tt)
 
 pub no_own : (t : Tree) → own_of t ≡ None → (kind_of t ≡ kinds.Doc) ⊎ (kind_of t ≡ kinds.Array)
 no_own (doc fs) e = inl refl

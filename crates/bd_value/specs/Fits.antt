@@ -14,64 +14,52 @@ AreBytes bytes = (i : ℕ) → slice_index bytes i < 256
 abbrev pub IsId : List ℕ → Type 0
 IsId id = (length id ≡ 12) × AreBytes id
 
--- Each number has the bits of its BSON type, and what is no text is bytes.
-abbrev pub ScalarFitsType : Scalar → Type 0
-ScalarFitsType (int32 z) = FitsSigned w32 z
-ScalarFitsType (int64 z) = FitsSigned w64 z
-ScalarFitsType (binary subtype bytes) = (subtype < 256) × AreBytes bytes
-ScalarFitsType (object_id id) = IsId id
-ScalarFitsType (date z) = FitsSigned w64 z
-ScalarFitsType (timestamp seconds increment) = (seconds < 2 ^ 32) × (increment < 2 ^ 32)
-ScalarFitsType (db_pointer space id) = IsId id
-ScalarFitsType _ = Unit {0}
+-- Each number has the bits of its BSON type, what is no text is bytes, and each text, code and name is such a text.
+module _ (IsSuch : List ℕ → Type 0) where
+  abbrev pub ScalarFits : Scalar → Type 0
+  ScalarFits (int32 z) = FitsSigned w32 z
+  ScalarFits (int64 z) = FitsSigned w64 z
+  ScalarFits (text s) = IsSuch s
+  ScalarFits (symbol s) = IsSuch s
+  ScalarFits (binary subtype bytes) = (subtype < 256) × AreBytes bytes
+  ScalarFits (object_id id) = IsId id
+  ScalarFits (date z) = FitsSigned w64 z
+  ScalarFits (timestamp seconds increment) = (seconds < 2 ^ 32) × (increment < 2 ^ 32)
+  ScalarFits (regex pattern options) = IsSuch pattern × IsSuch options
+  ScalarFits (db_pointer space id) = IsSuch space × IsId id
+  ScalarFits (code s) = IsSuch s
+  ScalarFits _ = Unit {0}
 
-abbrev mutual
-  pub FitsTypes : Tree → Type 0
-  FitsTypes (leaf s) = ScalarFitsType s
-  FitsTypes (doc fs) = FieldsFitTypes fs
-  FitsTypes (array ts) = ItemsFitTypes ts
-  FitsTypes (code_scope s fs) = FieldsFitTypes fs
+  abbrev mutual
+    pub TreeFits : Tree → Type 0
+    TreeFits (leaf s) = ScalarFits s
+    TreeFits (doc fs) = FieldsFit fs
+    TreeFits (array ts) = ItemsFit ts
+    TreeFits (code_scope s fs) = IsSuch s × FieldsFit fs
 
-  pub ItemsFitTypes : Items → Type 0
-  ItemsFitTypes no_items = Unit {0}
-  ItemsFitTypes (item t ts) = FitsTypes t × ItemsFitTypes ts
+    pub ItemsFit : Items → Type 0
+    ItemsFit no_items = Unit {0}
+    ItemsFit (item t ts) = TreeFits t × ItemsFit ts
 
-  pub FieldsFitTypes : Fields → Type 0
-  FieldsFitTypes no_fields = Unit {0}
-  FieldsFitTypes (field n t fs) = FitsTypes t × FieldsFitTypes fs
+    pub FieldsFit : Fields → Type 0
+    FieldsFit no_fields = Unit {0}
+    FieldsFit (field n t fs) = IsSuch n × (TreeFits t × FieldsFit fs)
 
-abbrev pub ScalarHasUtf8 : Scalar → Type 0
-ScalarHasUtf8 (text s) = IsUtf8 s
-ScalarHasUtf8 (symbol s) = IsUtf8 s
-ScalarHasUtf8 (regex pattern options) = IsUtf8 pattern × IsUtf8 options
-ScalarHasUtf8 (db_pointer space id) = IsUtf8 space
-ScalarHasUtf8 (code s) = IsUtf8 s
-ScalarHasUtf8 _ = Unit {0}
+  -- of what holds no other values: a scalar, or the code of code with scope
+  abbrev pub OwnFits : Own → Type 0
+  OwnFits (own s) = ScalarFits s
+  OwnFits (own_code s) = IsSuch s
 
--- each text and each name in the tree is UTF-8
-abbrev mutual
-  pub HasUtf8 : Tree → Type 0
-  HasUtf8 (leaf s) = ScalarHasUtf8 s
-  HasUtf8 (doc fs) = FieldsHaveUtf8 fs
-  HasUtf8 (array ts) = ItemsHaveUtf8 ts
-  HasUtf8 (code_scope s fs) = IsUtf8 s × FieldsHaveUtf8 fs
+-- what each value in memory is: its texts are UTF-8
+abbrev pub Fits : Tree → Type 0
+Fits = TreeFits IsUtf8
 
-  pub ItemsHaveUtf8 : Items → Type 0
-  ItemsHaveUtf8 no_items = Unit {0}
-  ItemsHaveUtf8 (item t ts) = HasUtf8 t × ItemsHaveUtf8 ts
+abbrev pub IsAny : List ℕ → Type 0
+IsAny s = Unit {0}
 
-  pub FieldsHaveUtf8 : Fields → Type 0
-  FieldsHaveUtf8 no_fields = Unit {0}
-  FieldsHaveUtf8 (field n t fs) = IsUtf8 n × (HasUtf8 t × FieldsHaveUtf8 fs)
-
--- of what holds no other values: a scalar, or the code of code with scope
-abbrev pub OwnFitsType : Own → Type 0
-OwnFitsType (own s) = ScalarFitsType s
-OwnFitsType (own_code s) = Unit {0}
-
-abbrev pub OwnHasUtf8 : Own → Type 0
-OwnHasUtf8 (own s) = ScalarHasUtf8 s
-OwnHasUtf8 (own_code s) = IsUtf8 s
+-- whatever its texts are
+abbrev pub FitsTypes : Tree → Type 0
+FitsTypes = TreeFits IsAny
 
 abbrev pub has_zero : List ℕ → Bool
 has_zero [] = false

@@ -4,10 +4,10 @@
 //! that only where the code has looked: `value_fits`, `document_fits` and `node_fits` look at all of a value, and do nothing else.
 
 ghost use Rattle.std.specs.Prelude.{◌≡◌, ◌<◌, ◌++◌, [], ◌∷◌, length, map, min, slice_get, Some, None, IfSome, IfNone};
-ghost use Rattle.std.specs.Prelude.{IfOk, OnOk, OnErr, string_bytes, IsTrue, ◌↔◌};
+ghost use Rattle.std.specs.Prelude.{IfOk, IsUtf8, OnOk, OnErr, string_bytes, IsTrue, ◌↔◌};
 ghost use Rattle.bd_value.specs.Tree.{doc, fields_of, values_of, HoldsNoParts, own_of, first_of, depth as depth_in, fields_depth};
 ghost use Rattle.bd_value.specs.View.{tree_of, pair_of, pairs, seen};
-ghost use Rattle.bd_value.specs.Fits.{AreBytes, IsId, FitsTypes, HasUtf8, FieldsFitTypes, FieldsHaveUtf8, OwnFitsType, OwnHasUtf8, has_zero};
+ghost use Rattle.bd_value.specs.Fits.{AreBytes, Fits, FieldsFit, IsId, OwnFits, has_zero};
 
 use crate::node::{Kind, Reading, Scalar, Tree};
 use std::alloc::{AllocError, Global};
@@ -300,11 +300,10 @@ fn scalar_value(alloc: Global, scalar: Scalar<'_>) -> Result<Value, NoMemory>
 ///
 /// ```
 /// value_fits(value);
-/// // A proof now has `FitsTypes` and `HasUtf8` of what `value` stands for.
+/// // A proof now has `Fits` of what `value` stands for.
 /// ```
 pub fn value_fits(value: &Value)
-    ensures types { FitsTypes (tree_of value.now) }
-    ensures texts { HasUtf8 (tree_of value.now) }
+    ensures { Fits (tree_of value.now) }
 {
     node_fits(Tree::Value(value));
 }
@@ -316,8 +315,7 @@ pub fn value_fits(value: &Value)
 /// write_doc(document, &mut text)?; // what a proof says of this text may take the facts as given
 /// ```
 pub fn document_fits(document: &Document)
-    ensures types { FitsTypes (doc (fields_of (pairs document.now))) }
-    ensures texts { HasUtf8 (doc (fields_of (pairs document.now))) }
+    ensures { Fits (doc (fields_of (pairs document.now))) }
 {
     node_fits(Tree::Doc(document));
 }
@@ -329,8 +327,7 @@ pub fn document_fits(document: &Document)
 /// ```
 #[cycle(fits)]
 pub fn node_fits<N: Reading>(node: N)
-    ensures types { FitsTypes (N.tree node) }
-    ensures texts { HasUtf8 (N.tree node) }
+    ensures { Fits (N.tree node) }
 {
     match node.kind() {
         Kind::Doc | Kind::Array => parts_fit::<N>(node.parts()),
@@ -348,8 +345,7 @@ pub fn node_fits<N: Reading>(node: N)
 /// These names and values fit.
 #[cycle(fits)]
 fn parts_fit<N: Reading>(values: N::Rest)
-    ensures types { FieldsFitTypes (fields_of (N.left values)) }
-    ensures texts { FieldsHaveUtf8 (fields_of (N.left values)) }
+    ensures { FieldsFit IsUtf8 (fields_of (N.left values)) }
 {
     let mut rest = values;
     while let Some((_, node, after)) = N::next(&rest) {
@@ -360,8 +356,7 @@ fn parts_fit<N: Reading>(values: N::Rest)
 
 /// Every scalar fits.
 fn scalar_fits(scalar: Scalar<'_>)
-    ensures types { OwnFitsType (seen scalar.entry) }
-    ensures texts { OwnHasUtf8 (seen scalar.entry) }
+    ensures { OwnFits IsUtf8 (seen scalar.entry) }
 {
     match scalar {
         Scalar::Binary { payload, .. } => bytes_fit(payload),

@@ -6,7 +6,7 @@ use Rattle.bd_raw.proofs.ValueAtLemmas.{framed_length, scoped_length}
 use Rattle.std.specs.{Char.digit_value, Str.Parse.AllDigits, List.AllByRecursion}
 use Rattle.bd_value.specs.Tree.{Tree, doc, code_scope, Fields, Doc, fields_of, items_of, Scalar, leaf, array, Items, no_items, item, no_fields, field}
 use Rattle.bd_value.specs.Fits.{has_zero, zero_in, zero_in_fields, zero_in_items, zero_in_parts, zero_in_scalar}
-use Rattle.bd_value.specs.Fits.{ScalarFitsType, FitsTypes, ItemsFitTypes, FieldsFitTypes, ScalarHasUtf8, HasUtf8, ItemsHaveUtf8, FieldsHaveUtf8}
+use Rattle.bd_value.specs.Fits.{ScalarFits, Fits, ItemsFit, FieldsFit}
 use Rattle.bd_value.specs.{Tree.scope_of, Tree.values_of, Tree.Own, Tree.own_of, Tree.own_code, Limits.longest_document}
 use Rattle.bd_raw.specs.Unique.{number_length, string_length}
 use Rattle.bd_raw.specs.Spelling.{number, string, framed, scoped, IsName, data_of, element, IsText, IsScalar, IsValue, AreFields, AreItems, IsDocument}
@@ -137,56 +137,56 @@ element_size t name value = omega (arith, length-append name (0 ∷ value))
 place_name : (n : ℕ) → n < 2 ^ 64 → IsName (decimal n)
 place_name n small = is_name (decimal n) (IsUtf8-from_ascii (decimal n) (IsAscii-decimal n small)) (decimal_no_zero n small)
 
-scalar_spelled : (s : Scalar) → ScalarFitsType s → ScalarHasUtf8 s → zero_in_scalar s ≡ false → length (scalar_bytes s) ≤ longest_document → IsScalar s (scalar_bytes s)
-scalar_spelled (trees.int32 z) fits utf8 none short = (fits, refl)
-scalar_spelled (trees.int64 z) fits utf8 none short = (fits, refl)
-scalar_spelled (trees.date z) fits utf8 none short = (fits, refl)
-scalar_spelled (trees.timestamp s i) fits utf8 none short = (fits.0, fits.1, refl)
-scalar_spelled (trees.object_id id) fits utf8 none short = (fits.0, refl)
-scalar_spelled (trees.text s) fits utf8 none short = (is_text s utf8 short, refl)
-scalar_spelled (trees.symbol s) fits utf8 none short = (is_text s utf8 short, refl)
-scalar_spelled (trees.code s) fits utf8 none short = (is_text s utf8 short, refl)
-scalar_spelled (trees.db_pointer s id) fits utf8 none short = (is_text s utf8 (omega (arith, short, length-append (string s) id)), fits.0, refl)
-scalar_spelled (trees.regex p o) fits utf8 none short = let n = are_names p o utf8.0 utf8.1 none in (n.0, n.1, refl)
-scalar_spelled (trees.binary k bs) fits utf8 none short =
+scalar_spelled : (s : Scalar) → ScalarFits IsUtf8 s → zero_in_scalar s ≡ false → length (scalar_bytes s) ≤ longest_document → IsScalar s (scalar_bytes s)
+scalar_spelled (trees.int32 z) fits none short = (fits, refl)
+scalar_spelled (trees.int64 z) fits none short = (fits, refl)
+scalar_spelled (trees.date z) fits none short = (fits, refl)
+scalar_spelled (trees.timestamp s i) fits none short = (fits.0, fits.1, refl)
+scalar_spelled (trees.object_id id) fits none short = (fits.0, refl)
+scalar_spelled (trees.text s) fits none short = (is_text s fits short, refl)
+scalar_spelled (trees.symbol s) fits none short = (is_text s fits short, refl)
+scalar_spelled (trees.code s) fits none short = (is_text s fits short, refl)
+scalar_spelled (trees.db_pointer s id) fits none short = (is_text s fits.0 (omega (arith, short, length-append (string s) id)), fits.1.0, refl)
+scalar_spelled (trees.regex p o) fits none short = let n = are_names p o fits.0 fits.1 none in (n.0, n.1, refl)
+scalar_spelled (trees.binary k bs) fits none short =
     let held = data_of k bs in
     (fits.0, omega (arith, short, length-append (number (length held)) (k ∷ held), number_length (length held)), refl)
-scalar_spelled _ fits utf8 none short = refl
+scalar_spelled _ fits none short = refl
 
 mutual
-  spelled : (t : Tree) → FitsTypes t → HasUtf8 t → zero_in t ≡ false → length (bytes_of t) ≤ longest_document → IsValue t (bytes_of t)
-  spelled (leaf s) fits utf8 none short = scalar_spelled s fits utf8 none short
-  spelled (doc fs) fits utf8 none short = (fields_bytes fs, fields_spelled fs fits utf8 none (omega (arith, short, framed_length (fields_bytes fs))), refl)
-  spelled (array ts) fits utf8 none short = (items_bytes 0 ts, items_spelled 0 ts fits utf8 none (omega (arith, short, framed_length (items_bytes 0 ts))), refl)
-  spelled (code_scope s fs) fits utf8 none short =
+  spelled : (t : Tree) → Fits t → zero_in t ≡ false → length (bytes_of t) ≤ longest_document → IsValue t (bytes_of t)
+  spelled (leaf s) fits none short = scalar_spelled s fits none short
+  spelled (doc fs) fits none short = (fields_bytes fs, fields_spelled fs fits none (omega (arith, short, framed_length (fields_bytes fs))), refl)
+  spelled (array ts) fits none short = (items_bytes 0 ts, items_spelled 0 ts fits none (omega (arith, short, framed_length (items_bytes 0 ts))), refl)
+  spelled (code_scope s fs) fits none short =
       let scope = framed (fields_bytes fs) in
       let size = scoped_size s scope in
-      (fields_bytes fs, fields_spelled fs fits utf8.1 none (omega (arith, short, size, framed_length (fields_bytes fs))), refl, is_text s utf8.0 (omega (arith, short, size)))
+      (fields_bytes fs, fields_spelled fs fits.1 none (omega (arith, short, size, framed_length (fields_bytes fs))), refl, is_text s fits.0 (omega (arith, short, size)))
 
-  fields_spelled : (fs : Fields) → FieldsFitTypes fs → FieldsHaveUtf8 fs → zero_in_fields fs ≡ false → length (fields_bytes fs) ≤ longest_document → AreFields fs (fields_bytes fs)
-  fields_spelled no_fields fits utf8 none short = refl
-  fields_spelled (field name t fs) fits utf8 none short =
+  fields_spelled : (fs : Fields) → FieldsFit IsUtf8 fs → zero_in_fields fs ≡ false → length (fields_bytes fs) ≤ longest_document → AreFields fs (fields_bytes fs)
+  fields_spelled no_fields fits none short = refl
+  fields_spelled (field name t fs) fits none short =
       let a = or_parts (has_zero name) (zero_in t || zero_in_fields fs) none in
       let b = or_parts (zero_in t) (zero_in_fields fs) a.1 in
       let size = length-append (element t name (bytes_of t)) (fields_bytes fs) in
       let one = element_size t name (bytes_of t) in
-      let first = spelled t fits.0 utf8.1.0 b.0 (omega (arith, short, size, one)) in
-      let others = fields_spelled fs fits.1 utf8.1.1 b.1 (omega (arith, short, size, one)) in
-      (bytes_of t, fields_bytes fs, is_name name utf8.0 a.0, first, others, refl)
+      let first = spelled t fits.1.0 b.0 (omega (arith, short, size, one)) in
+      let others = fields_spelled fs fits.1.1 b.1 (omega (arith, short, size, one)) in
+      (bytes_of t, fields_bytes fs, is_name name fits.0 a.0, first, others, refl)
 
-  items_spelled : (place : ℕ) (ts : Items) → ItemsFitTypes ts → ItemsHaveUtf8 ts → zero_in_items ts ≡ false
+  items_spelled : (place : ℕ) (ts : Items) → ItemsFit IsUtf8 ts → zero_in_items ts ≡ false
       → place + length (items_bytes place ts) ≤ longest_document → AreItems ts (items_bytes place ts)
-  items_spelled place no_items fits utf8 none short = refl
-  items_spelled place (item t ts) fits utf8 none short =
+  items_spelled place no_items fits none short = refl
+  items_spelled place (item t ts) fits none short =
       let b = or_parts (zero_in t) (zero_in_items ts) none in
       let size = length-append (element t (decimal place) (bytes_of t)) (items_bytes (suc place) ts) in
       let one = element_size t (decimal place) (bytes_of t) in
-      let first = spelled t fits.0 utf8.0 b.0 (omega (arith, short, size, one)) in
-      let others = items_spelled (suc place) ts fits.1 utf8.1 b.1 (omega (arith, short, size, one)) in
+      let first = spelled t fits.0 b.0 (omega (arith, short, size, one)) in
+      let others = items_spelled (suc place) ts fits.1 b.1 (omega (arith, short, size, one)) in
       (decimal place, bytes_of t, items_bytes (suc place) ts, place_name place (omega (arith, short)), first, others, refl)
 
-pub plainly_spells : (d : Doc) (bytes : List ℕ) → FitsTypes (doc (fields_of d)) → HasUtf8 (doc (fields_of d)) → SpellsPlainly d bytes → IsDocument d bytes
-plainly_spells d bytes fits utf8 plain =
+pub plainly_spells : (d : Doc) (bytes : List ℕ) → Fits (doc (fields_of d)) → SpellsPlainly d bytes → IsDocument d bytes
+plainly_spells d bytes fits plain =
     let t : Tree = doc (fields_of d) in
     let short : length (bytes_of t) ≤ longest_document = omega (arith, plain.short, ap (λ x. length x) plain.spelled) in
-    record { spells = rw plain.spelled (spelled t fits utf8 plain.no_zero short); short = plain.short; shallow = plain.shallow }
+    record { spells = rw plain.spelled (spelled t fits plain.no_zero short); short = plain.short; shallow = plain.shallow }

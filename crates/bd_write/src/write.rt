@@ -4,7 +4,7 @@
 ghost use Rattle.std.specs.Prelude.{◌≡◌, ◌≤◌, ◌<◌, ◌↔◌, ◌+◌, ◌++◌, ◌∷◌, [], ℕ, List, length, take, drop, vec_len, true, false, IfOk, IfErr, IsErrOf, OnErr, OnOk, Err};
 ghost use Rattle.bd_value.specs.Limits.{longest_document, most_levels};
 ghost use Rattle.bd_value.specs.Tree.{depth as depth_in, HoldsNoParts, Doc, doc, fields_of};
-ghost use Rattle.bd_value.specs.Fits.{FitsTypes, HasUtf8, zero_in, zero_in_parts};
+ghost use Rattle.bd_value.specs.Fits.{Fits, zero_in, zero_in_parts};
 ghost use Rattle.bd_value.specs.View.{pairs};
 ghost use Rattle.bd_raw.specs.Spelling.{type_byte as byte_of, IsDocument, IsValue, framed, number, string};
 ghost use Rattle.bd_write.specs.TreeBytes.{SpellsPlainly, bytes_of, OverrunsLimit};
@@ -49,8 +49,7 @@ pub fn write_document(alloc: Global, document: &Document) -> Result<Vec<u8>, Wri
 /// A law, whose body is empty: bytes that are plainly a document spell it, by the grammar of BSON: where its numbers have the bits of their types, and its
 /// texts and names are UTF-8, as in any document in memory.
 pub fn plainly_spells()
-    ensures { (d : Doc) (bytes : List ℕ) → FitsTypes (doc (fields_of d)) → HasUtf8 (doc (fields_of d))
-        → SpellsPlainly d bytes → IsDocument d bytes }
+    ensures { (d : Doc) (bytes : List ℕ) → Fits (doc (fields_of d)) → SpellsPlainly d bytes → IsDocument d bytes }
 {}
 
 /// Begins a document or an array: its elements come after, and then `end_body` with the place that is answered.

@@ -18,4 +18,4 @@ returns-clause-written c = plainly
 pub returns-clause-spelled : goal.returns-clause-spelled
 returns-clause-spelled c line d packable =
     let sound = reads_sound line d packable.0 in
-    plainly_spells d (plain d) sound.0 sound.1 (plainly line d packable)
+    plainly_spells d (plain d) sound (plainly line d packable)

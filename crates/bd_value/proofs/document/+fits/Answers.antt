@@ -1,6 +1,5 @@
 use Rattle.std.proofs.Common.{◌∙◌, ap, sym, inl, inr, arith}
 use Rattle.std.specs.Prelude.{option_map}
-use Rattle.bd_value.specs.Fits.{FitsTypes, HasUtf8, OwnFitsType, OwnHasUtf8}
 use Rattle.bd_value.specs.View.{seen}
 use Rattle.bd_value.proofs.FitsLemmas as fitting
 use Rattle.bd_value.proofs.PartsLemmas.{parts_smaller}
@@ -13,11 +12,8 @@ node_fits-parts_fit-requires g t c κs within =
     let e = c.decreases in
     (omega arith, within)
 
-pub node_fits-returns-in-Doc-clause-types : goal.node_fits-returns-in-Doc-clause-types
-node_fits-returns-in-Doc-clause-types g t c = fitting.parts_fit (g.N.Reading.tree c.args.node) (g.N.Reading.left c.parts.result) c.parts.ensures.parts c.parts_fit.ensures.types
-
-pub node_fits-returns-in-Doc-clause-texts : goal.node_fits-returns-in-Doc-clause-texts
-node_fits-returns-in-Doc-clause-texts g t c = fitting.parts_utf8 (g.N.Reading.tree c.args.node) (g.N.Reading.left c.parts.result) c.parts.ensures.parts c.parts_fit.ensures.texts
+pub node_fits-returns-in-Doc : goal.node_fits-returns-in-Doc
+node_fits-returns-in-Doc g t c = fitting.parts_fit _ (g.N.Reading.tree c.args.node) (g.N.Reading.left c.parts.result) c.parts.ensures.parts c.parts_fit.ensures
 
 pub node_fits-returns-in_default-scope : goal.node_fits-returns-in_default-scope
 node_fits-returns-in_default-scope g t c =
@@ -26,10 +22,7 @@ node_fits-returns-in_default-scope g t c =
     elim c.match-leaf.branch [
       | node_fits-in-Some w ↦
           let own = sym c.leaf.ensures ∙ ap (option_map seen) w.in-Some.is in
-          record {
-            types = fitting.leaf_has FitsTypes OwnFitsType (λ s h. h) tree (seen w.in-Some.own) own scope w.scalar_fits.ensures.types;
-            texts = fitting.leaf_has HasUtf8 OwnHasUtf8 (λ s h. h) tree (seen w.in-Some.own) own scope w.scalar_fits.ensures.texts;
-          }
+          fitting.leaf_fits _ tree (seen w.in-Some.own) own scope w.scalar_fits.ensures
       | node_fits-in_default-leaf w ↦
           absurd (elim (fitting.no_own tree (sym c.leaf.ensures ∙ ap (option_map seen) w.in_default-leaf.is)) [
             | inl is ↦ c.in_default.not-Doc (c.kind.ensures ∙ is)

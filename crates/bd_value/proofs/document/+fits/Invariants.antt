@@ -1,6 +1,6 @@
-use Rattle.std.proofs.Common.{◌≤◌, ◌+◌, ◌*◌, length}
+use Rattle.std.proofs.Common.{◌≤◌, ◌+◌, ◌*◌, IsUtf8, length}
 use Rattle.bd_value.specs.Tree.{tree_size, fields_size, fields_of}
-use Rattle.bd_value.specs.Fits.{FieldsFitTypes, FieldsHaveUtf8}
+use Rattle.bd_value.specs.Fits.{FieldsFit}
 use Rattle.bd_value.proofs.document.+fits.Given as goal
 
 abbrev pub decreases-node_fits : goal.decreases-node_fits
@@ -12,8 +12,7 @@ decreases-parts_fit g l = 2 * fields_size (fields_of (g.N.Reading.left l.values)
 -- where what is left fits, all does
 abbrev pub invariant-parts_fit-loop-node : goal.invariant-parts_fit-loop-node
 invariant-parts_fit-loop-node g l = record {
-  types : FieldsFitTypes (fields_of (g.N.Reading.left l.rest)) → FieldsFitTypes (fields_of (g.N.Reading.left l.fn.values));
-  texts : FieldsHaveUtf8 (fields_of (g.N.Reading.left l.rest)) → FieldsHaveUtf8 (fields_of (g.N.Reading.left l.fn.values));
+  fits : FieldsFit IsUtf8 (fields_of (g.N.Reading.left l.rest)) → FieldsFit IsUtf8 (fields_of (g.N.Reading.left l.fn.values));
   fewer : fields_size (fields_of (g.N.Reading.left l.rest)) ≤ fields_size (fields_of (g.N.Reading.left l.fn.values));
 }
 
