@@ -1,8 +1,7 @@
 -- A fault: which check failed first, at which byte, and the names from the top to the item.
 use Rattle.std.specs.Prelude.{◌≡◌, ◌⊎◌, ℕ, List, [], ◌∷◌, map, reverse, Option, Some, None, Result, Ok, Err}
-use Rattle.std.specs.Prelude.{string_bytes, get_or, ◌-◌, MatchResult}
+use Rattle.std.specs.Prelude.{string_bytes, codes, MatchResult}
 use Rattle.bd_check.specs.declared.fault.{Fault.Fault as HeldFault, Finding.Finding, FaultKind.FaultKind, Stop.Stop}
-use Rattle.bd_check.specs.declared.fault.{TheConstants.WORDS}
 
 pub record Fault : Type 0 where
   pub kind : FaultKind
@@ -79,6 +78,22 @@ fault_number FaultKind.ValueShort = 15
 fault_number FaultKind.DumpTooLong = 16
 fault_number FaultKind.NoMemory = 17
 
--- what went wrong, in words, which stand in the code by number
+-- what went wrong, in words
 unfoldable pub fault_words : FaultKind → List ℕ
-fault_words kind = get_or (map (λ text. text.now) WORDS) (fault_number kind - 1) []
+fault_words FaultKind.ShortLength = codes "length cut short"
+fault_words FaultKind.BadLength = codes "bad length"
+fault_words FaultKind.NoTerminator = codes "no terminator"
+fault_words FaultKind.UnknownType = codes "unknown type"
+fault_words FaultKind.Double = codes "double"
+fault_words FaultKind.Decimal128 = codes "decimal128"
+fault_words FaultKind.NameUnended = codes "name not ended"
+fault_words FaultKind.BadUtf8 = codes "not UTF-8"
+fault_words FaultKind.BadStringLength = codes "bad string length"
+fault_words FaultKind.StringUnended = codes "string not ended"
+fault_words FaultKind.BadBoolean = codes "bad boolean"
+fault_words FaultKind.BadBinaryLength = codes "bad binary length"
+fault_words FaultKind.BadScopeLength = codes "bad scope length"
+fault_words FaultKind.TooDeep = codes "too deep"
+fault_words FaultKind.ValueShort = codes "value cut short"
+fault_words FaultKind.DumpTooLong = codes "dump too long"
+fault_words FaultKind.NoMemory = codes "no memory"

@@ -1,9 +1,9 @@
 -- What a command asks for, with texts as their bytes and documents as their pairs; and why a document is no command.
-use Rattle.std.specs.Prelude.{ℕ, Bool, List, string_bytes, get_or, map, ◌-◌, []}
+use Rattle.std.specs.Prelude.{ℕ, Bool, List, string_bytes, codes}
 use Rattle.bd_value.specs.{Tree.Doc, View.pairs}
 use Rattle.bd_command.specs.declared.command.{Command.Command as HeldCommand, FindCommand.FindCommand as HeldFind}
 use Rattle.bd_command.specs.declared.{command.Hint.Hint as HeldHint, field.HintForm.HintForm}
-use Rattle.bd_command.specs.declared.command.{CommandFault.CommandFault, TheConstants.WORDS}
+use Rattle.bd_command.specs.declared.command.{CommandFault.CommandFault}
 
 -- by what documents are to be found: by what serves, by a look at each, or by the index on a path
 pub data Hint : Type 0 where
@@ -68,6 +68,11 @@ command_fault_number CommandFault.RepeatedField = 4
 command_fault_number CommandFault.BadField = 5
 command_fault_number CommandFault.NoMemory = 6
 
--- what went wrong, in words, which stand in the code by number
+-- what went wrong, in words
 unfoldable pub command_fault_words : CommandFault → List ℕ
-command_fault_words kind = get_or (map (λ text. text.now) WORDS) (command_fault_number kind - 1) []
+command_fault_words CommandFault.UnknownCommand = codes "unknown command"
+command_fault_words CommandFault.MissingField = codes "missing field"
+command_fault_words CommandFault.UnknownField = codes "unknown field"
+command_fault_words CommandFault.RepeatedField = codes "repeated field"
+command_fault_words CommandFault.BadField = codes "bad field"
+command_fault_words CommandFault.NoMemory = codes "no memory"

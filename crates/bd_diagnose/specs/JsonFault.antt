@@ -1,8 +1,7 @@
 -- Why a text is no document, in words, and where.
-use Rattle.std.specs.Prelude.{◌≡◌, ◌≤◌, ℕ, List, get_or, map, ◌-◌, []}
+use Rattle.std.specs.Prelude.{◌≡◌, ◌≤◌, ℕ, List, codes}
 use Rattle.std.specs.{Str.IsUtf8, Str.Lossy.utf8_valid_len}
 use Rattle.bd_diagnose.specs.{declared.json_fault.JsonFault.JsonFault, declared.json_fault.JsonFaultKind.JsonFaultKind}
-use Rattle.bd_diagnose.specs.declared.json_fault.TheConstants.{WORDS}
 use Rattle.bd_diagnose.specs.declared.json_fault.JsonFaultKind.TheVariants as kinds
 
 -- the number by which a reply tells it
@@ -17,9 +16,17 @@ json_fault_number kinds.NulInName = 7
 json_fault_number kinds.TrailingText = 8
 json_fault_number kinds.NoMemory = 9
 
--- what went wrong, in words, which stand in the code by number
+-- what went wrong, in words
 unfoldable pub json_fault_words : JsonFaultKind → List ℕ
-json_fault_words kind = get_or (map (λ text. text.now) WORDS) (json_fault_number kind - 1) []
+json_fault_words kinds.Syntax = codes "not JSON"
+json_fault_words kinds.NotADocument = codes "not a document"
+json_fault_words kinds.TooDeep = codes "too deep"
+json_fault_words kinds.BadWrapper = codes "bad wrapper"
+json_fault_words kinds.NotInProfile = codes "not in the profile"
+json_fault_words kinds.NumberRange = codes "number out of range"
+json_fault_words kinds.NulInName = codes "zero in a name"
+json_fault_words kinds.TrailingText = codes "text after the document"
+json_fault_words kinds.NoMemory = codes "no memory"
 
 -- the byte of a fault is in its text, which has that many bytes, or at the text's end; without a place it is 0
 pub record IsPlaced (size : ℕ) (fault : JsonFault) : Type 0 where

@@ -1,7 +1,6 @@
 -- Why a document is no filter: which rule a pair or a member of it breaks, and the names from the top down to that.
-use Rattle.std.specs.Prelude.{◌≡◌, ℕ, List, [], ◌∷◌, Result, Ok, Err, map, string_bytes, get_or, ◌-◌}
+use Rattle.std.specs.Prelude.{◌≡◌, ℕ, List, [], ◌∷◌, Result, Ok, Err, map, string_bytes, codes}
 use Rattle.bd_filter.specs.declared.fault.{FilterFault.FilterFault, FilterFaultKind.FilterFaultKind, Stop.Stop}
-use Rattle.bd_filter.specs.declared.fault.TheConstants.{WORDS}
 use Rattle.bd_filter.specs.declared.fault.FilterFaultKind.TheVariants as kinds
 use Rattle.bd_filter.specs.declared.fault.Stop.TheVariants as stops
 
@@ -26,9 +25,15 @@ filter_fault_number kinds.Path = 5
 filter_fault_number kinds.TooDeep = 6
 filter_fault_number kinds.NoMemory = 7
 
--- what is wrong, in words, which stand in the code by number
+-- what is wrong, in words
 unfoldable pub filter_fault_words : FilterFaultKind → List ℕ
-filter_fault_words kind = get_or (map (λ text. text.now) WORDS) (filter_fault_number kind - 1) []
+filter_fault_words kinds.UnknownOperator = codes "unknown operator"
+filter_fault_words kinds.NotInProfile = codes "not in the profile"
+filter_fault_words kinds.BadOperand = codes "bad operand"
+filter_fault_words kinds.MixedOperators = codes "operators and fields mixed"
+filter_fault_words kinds.Path = codes "bad path"
+filter_fault_words kinds.TooDeep = codes "too deep"
+filter_fault_words kinds.NoMemory = codes "no memory"
 
 abbrev pub refusal_of : FilterFault → Refusal
 refusal_of f = record { kind = f.kind; place = map string_bytes f.place.items }

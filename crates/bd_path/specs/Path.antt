@@ -1,11 +1,9 @@
 -- The path that a text is: its names, or why it has none.
-use Rattle.std.specs.Prelude.{ℕ, List, ◌==◌, nat_lt, length, map, string_bytes, Result, Ok, Err, if◌then◌else◌, get_or}
-use Rattle.std.specs.Prelude.{◌-◌, []}
+use Rattle.std.specs.Prelude.{ℕ, List, ◌==◌, nat_lt, length, map, string_bytes, Result, Ok, Err, if◌then◌else◌, codes, []}
 use Rattle.std.specs.{List.list_any, List.slice_split, Str.bytes_eq}
 use Rattle.bd_value.specs.Limits.{most_names}
 use Rattle.bd_path.specs.{Reach.Names, declared.component.Component.Component, declared.path.PathFault.PathFault}
 use Rattle.bd_path.specs.declared.path.PathFault.TheVariants.{EmptyComponent, TooLong, NoMemory}
-use Rattle.bd_path.specs.declared.path.TheConstants.{FAULT_WORDS}
 
 abbrev pub components_of : List ℕ → Names
 components_of text = slice_split (λ c. c == 46) text
@@ -26,6 +24,8 @@ path_fault_number EmptyComponent = 1
 path_fault_number TooLong = 2
 path_fault_number NoMemory = 3
 
--- what went wrong, in words, which stand in the code by number
+-- what went wrong, in words
 unfoldable pub path_fault_words : PathFault → List ℕ
-path_fault_words kind = get_or (map (λ text. text.now) FAULT_WORDS) (path_fault_number kind - 1) []
+path_fault_words EmptyComponent = codes "empty component"
+path_fault_words TooLong = codes "too many components"
+path_fault_words NoMemory = codes "no memory"

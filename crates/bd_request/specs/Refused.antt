@@ -1,8 +1,8 @@
 -- Why a call is refused, in words and by its number.
-use Rattle.std.specs.Prelude.{◌≡◌, ◌⊎◌, ◌-◌, ℕ, List, [], Result, Ok, Err, get_or, map}
+use Rattle.std.specs.Prelude.{◌≡◌, ◌⊎◌, ℕ, List, Result, Ok, Err, codes}
 use Rattle.std.specs.Result.{result_map_both}
 use Rattle.bd_filter.specs.Fault.{Refusal, filter_fault_words, refusal_of}
-use Rattle.bd_request.specs.{declared.results.Refused.Refused, declared.results.TheConstants.WORDS}
+use Rattle.bd_request.specs.{declared.results.Refused.Refused}
 use Rattle.bd_request.specs.declared.results.Refused.TheVariants as reasons
 
 -- the number by which a reply tells it
@@ -20,10 +20,20 @@ refused_number reasons.Range = 10
 refused_number reasons.NoMemory = 11
 refused_number (reasons.BadFilter fault) = 12
 
--- what is wrong, in words, which stand in the code by number; of a filter those of its fault
+-- what is wrong, in words; of a filter those of its fault
 unfoldable pub refused_words : Refused → List ℕ
 refused_words (reasons.BadFilter fault) = filter_fault_words fault.kind
-refused_words refused = get_or (map (λ text. text.now) WORDS) (refused_number refused - 1) []
+refused_words reasons.BadSort = codes "not a sort"
+refused_words reasons.NoIndex = codes "no such index"
+refused_words reasons.IndexThere = codes "index is there"
+refused_words reasons.TooManyIndexes = codes "too many indexes"
+refused_words reasons.TooManyCursors = codes "too many cursors"
+refused_words reasons.NoCursor = codes "no such cursor"
+refused_words reasons.BadToken = codes "not a token"
+refused_words reasons.ForeignToken = codes "token of another dump or request"
+refused_words reasons.TokenPlace = codes "token place past the dump"
+refused_words reasons.Range = codes "number out of range"
+refused_words reasons.NoMemory = codes "no memory"
 
 -- the reason of a refusal: that of a filter as its definition has it
 pub data Reason : Type 0 where
