@@ -13,12 +13,12 @@
 from importlib import metadata
 from pathlib import Path
 
-from .answers import Answer, find
-from .errors import BsonfindError, CommandError, DumpError, PartError, ProgramError, SessionEnded
-from .faults import Fault
-from .merge import Check, check_parts, count_parts, find_parts
-from .parts import Part, plan
-from .sessions import Cursor, Session
+from ._answers import Answer, find
+from ._errors import BsonfindError, CommandError, DumpError, PartError, ProgramError, SessionEnded
+from ._faults import Fault
+from ._merge import Check, check_parts, count_parts, find_parts
+from ._parts import Part, plan
+from ._sessions import Cursor, Session
 
 
 def _version() -> str:

@@ -8,10 +8,10 @@ import sys
 from contextlib import ExitStack
 from typing import BinaryIO, Sequence
 
-from .audit import Audit, audit, dumps_below, read_log
-from .console import CannotWrite, Console
-from .errors import BsonfindError
-from .salvage import Salvage
+from ._audit import Audit, audit, dumps_below, read_log
+from ._console import CannotWrite, Console
+from ._errors import BsonfindError
+from ._salvage import Salvage
 
 GOOD, FAULTY, FAILED, INTERRUPTED = 0, 1, 2, 130
 

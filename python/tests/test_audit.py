@@ -7,7 +7,7 @@ import subprocess
 import sys
 from unittest import mock
 
-from bsonfind.audit import audit
+from bsonfind._audit import audit
 
 from .support import DOUBLE, PEOPLE, PROGRAM, SHOP, Room, environment, run_package
 

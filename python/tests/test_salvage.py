@@ -7,7 +7,7 @@ import sys
 from typing import Tuple
 from unittest import mock
 
-from bsonfind.salvage import Salvage, next_beginning
+from bsonfind._salvage import Salvage, next_beginning
 
 from .support import DOUBLE, PEOPLE, PROGRAM, SHOP, Room, environment, run_package
 
@@ -79,7 +79,7 @@ class Salvages(Room):
             (junk + people + DOUBLE + junk * 1000, people, 2),
         ):
             good, bad = io.BytesIO(), io.BytesIO()
-            with mock.patch("bsonfind.lengths.LARGEST_INPUT", 30_000), open(self.file(data), "rb") as dump:
+            with mock.patch("bsonfind._framing.LARGEST_INPUT", 30_000), open(self.file(data), "rb") as dump:
                 salvage = Salvage(dump, good, bad, PROGRAM)
                 self.assertEqual(len(list(salvage.copy())), left_out)
             self.assertEqual(good.getvalue(), kept)

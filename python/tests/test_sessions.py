@@ -9,7 +9,7 @@ from concurrent.futures import ThreadPoolExecutor
 from unittest import mock
 
 from bsonfind import CommandError, DumpError, ProgramError, Session, SessionEnded, find
-from bsonfind.connections import LONGEST_COMMAND
+from bsonfind._connections import LONGEST_COMMAND
 
 from .support import DOUBLE, PEOPLE, PEOPLE_LINES, PROGRAM, SHOP, SHOP_LINES, Room, packed
 

@@ -7,10 +7,10 @@ import unittest
 from unittest import mock
 
 from bsonfind import CommandError, DumpError, Fault, ProgramError
-from bsonfind.faults import read_fault
-from bsonfind.replies import read_batch, read_reply
-from bsonfind.requests import Request
-from bsonfind.told import error_of
+from bsonfind._faults import read_fault
+from bsonfind._replies import read_batch, read_reply
+from bsonfind._requests import Request
+from bsonfind._messages import error_of
 
 
 class Requests(unittest.TestCase):

@@ -6,10 +6,10 @@ import os
 import re
 from typing import Any, Callable, Generator, Iterator, NamedTuple
 
-from .documents import decoder
-from .errors import ProgramError
-from .requests import Filter, Request, Sort, whole
-from .runs import Run
+from ._decoding import decoder
+from ._errors import ProgramError
+from ._requests import Filter, Request, Sort, whole
+from ._processes import Run
 
 _COUNTED = re.compile(r"(\d+) documents, (end|more)(?:, token (\S+))?")
 

@@ -6,8 +6,8 @@ import os
 import struct
 from typing import BinaryIO, Iterator
 
-from .errors import DumpError
-from .faults import Fault
+from ._errors import DumpError
+from ._faults import Fault
 
 SHORTEST, LONGEST = 5, 16_793_600
 # What a run of the program reads at most.

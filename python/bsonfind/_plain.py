@@ -5,8 +5,8 @@ from __future__ import annotations
 import re
 from typing import IO, Iterator
 
-from .errors import PartError
-from .parts import Part
+from ._errors import PartError
+from ._parts import Part
 
 # The names that begin an object of Extended JSON which stands for another value.
 _WRAPPERS = re.compile(

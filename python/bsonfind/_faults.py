@@ -1,11 +1,15 @@
-"""Faults of documents, as the program tells them."""
+"""Faults of documents, and the lines and counts of `check`."""
 
 from __future__ import annotations
 
 import json
 import re
-from typing import NamedTuple
+from typing import TYPE_CHECKING, Iterator, NamedTuple
 
+if TYPE_CHECKING:
+    from ._processes import Run
+
+_COUNTED = re.compile(r"(\d+) documents, \d+ faulty")
 _LINE = re.compile(r'document (\d+), byte (\d+), path (".*"): (.+)')
 
 
@@ -33,3 +37,20 @@ def read_fault(line: str) -> Fault | None:
         return None
     document, offset, path, kind = found.groups()
     return Fault(int(document), int(offset), json.loads(path), kind)
+
+
+def faults_of(run: Run) -> Iterator[Fault]:
+    """The faults of a dump, in the order of its documents, as a run of `check` finds them."""
+    for line in run.stdout:
+        fault = read_fault(line.decode().rstrip("\n"))
+        if fault:
+            yield fault
+
+
+def finish_check(run: Run) -> int:
+    """Waits for the end of a run of `check`, and gives the number of documents; raises the error of a run that failed."""
+    run.wait()
+    counted = _COUNTED.fullmatch(run.messages().rstrip("\n"))
+    if not counted:
+        raise run.error()
+    return int(counted.group(1))

@@ -6,11 +6,11 @@ import os
 import re
 from typing import BinaryIO, Iterator, NamedTuple
 
-from .checks import faults_of, finish_check
-from .errors import DumpError
-from .lengths import end_of_input, is_length, read_at, walk
-from .parts import Part
-from .runs import Run
+from ._faults import faults_of, finish_check
+from ._errors import DumpError
+from ._framing import end_of_input, is_length, read_at, walk
+from ._parts import Part
+from ._processes import Run
 
 # From so many documents in a row, or from fewer that end with the file, a place is guessed to be the beginning of a document.
 IN_A_ROW = 4

@@ -5,8 +5,8 @@ from __future__ import annotations
 import json
 import re
 
-from .errors import BsonfindError, CommandError, DumpError, ProgramError
-from .faults import read_fault
+from ._errors import BsonfindError, CommandError, DumpError, ProgramError
+from ._faults import read_fault
 
 _PREFIX = "bsonfind: "
 # The words of each layer of refusals, from number 1 on; words that only a session prints are left out.

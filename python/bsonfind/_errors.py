@@ -5,8 +5,8 @@ from __future__ import annotations
 from typing import TYPE_CHECKING
 
 if TYPE_CHECKING:
-    from .faults import Fault
-    from .parts import Part
+    from ._faults import Fault
+    from ._parts import Part
 
 
 class BsonfindError(Exception):

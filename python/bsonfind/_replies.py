@@ -5,7 +5,7 @@ from __future__ import annotations
 import json
 from typing import Any, NamedTuple
 
-from .errors import CommandError, ProgramError
+from ._errors import CommandError, ProgramError
 
 _scan = json.JSONDecoder().raw_decode
 _DOCUMENTS = '{"ok":true,"documents":['

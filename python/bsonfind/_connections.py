@@ -7,11 +7,11 @@ import subprocess
 import threading
 from collections import deque
 
-from .answers import file_word
-from .errors import SessionEnded
-from .requests import text_of_pairs
-from .runs import Run
-from .told import error_of
+from ._answers import file_word
+from ._errors import SessionEnded
+from ._requests import text_of_pairs
+from ._processes import Run
+from ._messages import error_of
 
 LONGEST_COMMAND = 16_777_216
 
@@ -53,7 +53,7 @@ class Connection:
     def _await_dump(self) -> None:
         """Waits until the dump is read, by a command that changes nothing."""
         if not self._exchange(b'{"killCursor":0}'):
-            raise error_of(self._run.wait(), self._run.told())
+            raise self._run.error()
 
     def _reply(self, line: bytes) -> str:
         """The reply to a line. Where there is none the run is ended, so that no later line takes the reply to this one."""
@@ -62,7 +62,7 @@ class Connection:
         try:
             reply = self._exchange(line)
             if not reply:
-                raise SessionEnded(str(error_of(self._run.wait(), self._run.told())))
+                raise SessionEnded(str(self._run.error()))
             return reply
         except BaseException:
             self._end()

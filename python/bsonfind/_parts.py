@@ -6,8 +6,8 @@ import os
 from dataclasses import dataclass
 from typing import Iterator
 
-from .errors import PartError
-from .lengths import end_of_input, walk
+from ._errors import PartError
+from ._framing import end_of_input, walk
 
 # What a part has at most where nothing else is asked for; a run of `find` holds its part in memory.
 MOST = 1 << 30

@@ -14,13 +14,13 @@ from pathlib import Path
 from typing import Any, Iterable, Iterator, NamedTuple, Sequence
 from urllib.parse import unquote
 
-from .answers import file_word
-from .checks import faults_of, finish_check
-from .console import Console
-from .errors import BsonfindError
-from .lengths import LARGEST_INPUT
-from .parts import inputs
-from .runs import Group, Run
+from ._answers import file_word
+from ._faults import faults_of, finish_check
+from ._console import Console
+from ._errors import BsonfindError
+from ._framing import LARGEST_INPUT
+from ._parts import inputs
+from ._processes import Group, Run
 
 _PIECE = 1 << 20
 _ENDINGS = (".bson", ".bson.gz")

@@ -7,8 +7,8 @@ import tempfile
 import threading
 from typing import IO, Any, Iterable, Sequence
 
-from .errors import ProgramError
-from .told import error_of
+from ._errors import BsonfindError, ProgramError
+from ._messages import error_of
 
 
 class Group:
@@ -83,12 +83,12 @@ class Run:
     ) -> None:
         self._group = group or Group()
         self._feeder: Feeder | None = None
-        self._told = tempfile.TemporaryFile()
-        streams = {"stdin": stdin if pieces is None else subprocess.PIPE, "stdout": stdout, "stderr": self._told}
+        self._stderr = tempfile.TemporaryFile()
+        streams = {"stdin": stdin if pieces is None else subprocess.PIPE, "stdout": stdout, "stderr": self._stderr}
         try:
             self.process = self._group.start(words, **streams)
         except BaseException:
-            self._told.close()
+            self._stderr.close()
             raise
         if pieces is not None:
             self._feed(pieces)
@@ -124,17 +124,20 @@ class Run:
                 raise self._feeder.error
         return status
 
-    def told(self) -> str:
+    def messages(self) -> str:
         """What standard error says, once the run has ended."""
-        self._told.seek(0)
-        return self._told.read().decode(errors="replace")
+        self._stderr.seek(0)
+        return self._stderr.read().decode(errors="replace")
 
     def finish(self) -> str:
-        """Waits for the end, and gives what was told; raises the error of a run that failed."""
-        status, told = self.wait(), self.told()
-        if status:
-            raise error_of(status, told)
-        return told
+        """Waits for the end, and gives its messages; raises the error of a run that failed."""
+        if self.wait():
+            raise self.error()
+        return self.messages()
+
+    def error(self) -> BsonfindError:
+        """The error of a run that did not end well."""
+        return error_of(self.process.wait(), self.messages())
 
     def close(self) -> None:
         """Kills the program where it runs, and lets go of all that was opened."""
@@ -146,7 +149,7 @@ class Run:
         for stream in (self.process.stdin, self.process.stdout):
             if stream:
                 _close(stream)
-        self._told.close()
+        self._stderr.close()
 
     def __enter__(self) -> Run:
         return self

@@ -19,15 +19,15 @@ import subprocess
 from functools import partial
 from typing import Any, Callable, Iterable, NamedTuple, Sequence, TypeVar
 
-from .answers import counted
-from .checks import faults_of, finish_check
-from .documents import decoder
-from .errors import BsonfindError, DumpError, PartError, ProgramError
-from .faults import Fault
-from .parts import Part
-from .plain import plain_pieces
-from .requests import Filter, Request, Sort
-from .runs import Group, Run
+from ._answers import counted
+from ._faults import faults_of, finish_check
+from ._decoding import decoder
+from ._errors import BsonfindError, DumpError, PartError, ProgramError
+from ._faults import Fault
+from ._parts import Part
+from ._plain import plain_pieces
+from ._requests import Filter, Request, Sort
+from ._processes import Group, Run
 
 T = TypeVar("T")
 Map = Callable[[Callable[[Part], Any], Sequence[Part]], Iterable[Any]]

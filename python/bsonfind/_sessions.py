@@ -6,10 +6,10 @@ import os
 from collections import deque
 from typing import Any, Iterator, Mapping, Union
 
-from .connections import Connection
-from .documents import decoder
-from .replies import Batch, read_batch, read_reply
-from .requests import Filter, Request, Sort, text_of, whole
+from ._connections import Connection
+from ._decoding import decoder
+from ._replies import Batch, read_batch, read_reply
+from ._requests import Filter, Request, Sort, text_of, whole
 
 # How documents are to be found: by what the program chooses, by each document, or by the index on a path.
 Use = Union[str, Mapping[str, str]]
