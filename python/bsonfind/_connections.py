@@ -11,7 +11,6 @@ from ._answers import file_word
 from ._errors import SessionEnded
 from ._requests import text_of_pairs
 from ._processes import Run
-from ._messages import error_of
 
 LONGEST_COMMAND = 16_777_216
 
