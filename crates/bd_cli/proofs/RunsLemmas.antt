@@ -12,8 +12,7 @@ use Rattle.bd_service.specs.ServiceView.{KeepsState, RepliesTo, service_dump, se
 use Rattle.bd_service.specs.declared.service.Service.{Service}
 use Rattle.bd_service.proofs.ServedLemmas.{served, stopped}
 use Rattle.bd_files.specs.{declared.output.Status.Status, declared.output.Status.TheVariants.Done, declared.output.Status.TheVariants.Failed}
-use Rattle.bd_files.specs.Output.{TellsMessage, error_line, fault_text}
-use Rattle.bd_files.specs.declared.output.TheConstants.{NO_MEMORY}
+use Rattle.bd_files.specs.Output.{TellsMessage, error_line, fault_text, no_memory}
 use Rattle.bd_cli.specs.Runs.{ServesRead, ServesToAFault, ServesToTheEnd, command_limits, serve_words}
 use Rattle.bd_check.specs.declared.fault.Fault as declared
 use Rattle.bd_check.specs.declared.fault.FaultKind.TheVariants as kinds
@@ -50,7 +49,7 @@ to_a_fault state gives dump old new out err s t fault status is_new is_over stop
 -- an input that is no dump
 pub fault_told : {C : Type 0} (state : C → Reader) (gives : C → Option (List ℕ) → C → Type 0) (bytes : List ℕ) (fault : declared.Fault) (old : C)
     (out err : Over Writer) (status : Status) → length bytes ≤ longest_input → IsUnread bytes fault → ¬ (fault.kind ≡ kinds.NoMemory) → out.after ≡ out.before
-    → TellsMessage err (error_line (fault_text fault.document (fault_view fault))) Failed status ⊎ TellsMessage err (error_line NO_MEMORY.now) Failed status
+    → TellsMessage err (error_line (fault_text fault.document (fault_view fault))) Failed status ⊎ TellsMessage err (error_line no_memory) Failed status
     → ServesRead state gives old old out err status (Ok bytes)
 fault_told state gives bytes fault old out err status le unread other silent (inr told) = inl (record { unread = refl; silent = silent; told = told })
 fault_told state gives bytes fault old out err status le (inl long) other silent (inl told) = absurd (let more = long.0 in omega arith)

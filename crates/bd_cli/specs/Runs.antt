@@ -9,9 +9,8 @@ use Rattle.bd_lines.specs.{Serving.ServesAll, Serving.StopsServing, declared.ser
 use Rattle.bd_service.specs.Talk.{IsKept, RepliesInText}
 use Rattle.bd_files.specs.{Input.ReadsInput, declared.output.Status.Status, Pack.PacksInput, DumpAndCheck.ChecksInput}
 use Rattle.bd_files.specs.{DumpAndCheck.DumpsInput}
-use Rattle.bd_files.specs.declared.output.TheConstants.{CANNOT_WRITE, NO_MEMORY}
 use Rattle.bd_files.specs.declared.output.Status.TheVariants.{Done, Failed, Usage}
-use Rattle.bd_files.specs.Output.{TellsMessage, error_line, fault_text, shown_refusal, Transcript}
+use Rattle.bd_files.specs.Output.{TellsMessage, cannot_write, error_line, fault_text, no_memory, shown_refusal, Transcript}
 use Rattle.bd_command_line.specs.{FindWords.find_words_of, declared.order.Order.Order}
 use Rattle.bd_command_line.specs.{declared.command_line.TheConstants.USAGE, declared.order.WordsFault.WordsFault}
 use Rattle.bd_find.specs.{Find.FindsDocuments, Asking.AsksNothing}
@@ -27,8 +26,8 @@ command_limits = record { bytes = longest_input; turns = most_reads }
 -- why the commands were not answered to their end
 abbrev pub serve_words : ServeFault → List ℕ
 serve_words (faults.Unread fault) = read_words fault
-serve_words faults.NoMemory = NO_MEMORY.now
-serve_words faults.Unwritten = CANNOT_WRITE.now
+serve_words faults.NoMemory = no_memory
+serve_words faults.Unwritten = cannot_write
 
 -- no command was read, nothing was replied, and this is told
 pub record ServesNothing {C : Type 0} (old new : C) (out err : Over Writer) (status : Status)
@@ -60,7 +59,7 @@ module _ {C : Type 0} (state : C → Reader) (gives : C → Option (List ℕ) �
   -- over what was read: it was not read whole, or it is no dump, or the commands were served, or memory ran out before
   abbrev pub ServesRead : Result (List ℕ) ReadFault → Type 0
   ServesRead (Err fault) = ServesNothing old new out err status (read_words fault)
-  ServesRead (Ok bytes) = ServesNothing old new out err status NO_MEMORY.now
+  ServesRead (Ok bytes) = ServesNothing old new out err status no_memory
       ⊎ (((ds : List Doc) × (fault : Fault) × IsWalk ds (Some fault) bytes
       × ServesNothing old new out err status (fault_text (length ds) fault))
       ⊎ ((ds : List Doc) × IsWalk ds None bytes × ServesDump bytes ds))
@@ -81,12 +80,6 @@ abbrev pub ReadsNoFile : Order → Type 0
 ReadsNoFile (orders.Find path options) = AsksNothing (find_words_of options)
 ReadsNoFile _ = ⊥
 
--- a command that holds its file whole before it shows anything
-abbrev pub HoldsFile : Order → Type 0
-HoldsFile (orders.Dump path) = ⊥
-HoldsFile (orders.Check path) = ⊥
-HoldsFile _ = Unit {0}
-
 -- a command that reads no commands
 abbrev pub ReadsNoCommands : Order → Type 0
 ReadsNoCommands (orders.Serve path) = ⊥
@@ -106,4 +99,4 @@ DeviceFails file commands out err =
 abbrev pub shown_report : WordsFault → Transcript
 shown_report words.Help = record { out = USAGE.now; err = []; status = Done }
 shown_report words.Usage = record { out = []; err = USAGE.now; status = Usage }
-shown_report words.NoMemory = shown_refusal NO_MEMORY.now
+shown_report words.NoMemory = shown_refusal no_memory

@@ -13,7 +13,7 @@ ghost use Rattle.bd_files.specs.Output.{PrintsShown, Transcript, lines};
 ghost use Rattle.bd_files.specs.Pack.{AreAlike, IsShownByPack, PacksLines};
 ghost use Rattle.bd_files.specs.declared.pack.BadLine.{BadLine};
 ghost use Rattle.bd_find.specs.{Asking.ReadsText, Find.IsShownByFind};
-ghost use Rattle.bd_cli.specs.Runs.{CarriesOut, DeviceFails, HoldsFile, ReadsNoCommands, ReadsNoFile, ServesDump, ServesInput, ServesRead, WriteFails, shown_report};
+ghost use Rattle.bd_cli.specs.Runs.{CarriesOut, DeviceFails, ReadsNoCommands, ReadsNoFile, ServesDump, ServesInput, ServesRead, WriteFails, shown_report};
 
 use bd_bson::{Dump, read_dump};
 use bd_command_line::{Order, USAGE, WordsFault};
@@ -43,8 +43,8 @@ pub fn run<F: Input, C: Input, O: Output, E: Output>(
 ) -> Status
     ensures ran { CarriesOut C.state C.read_gives commands.old commands.new (over O.state out.old out.new)
         (over E.state err.old err.new) result (over F.state file.old file.new) order.now }
-    // After a failed read, or at the end, an input that is held whole is read no more.
-    ensures further { HoldsFile order.now → ReadsNoFurther F.read_gives file.old file.new }
+    // After a failed read, or at the end, the file is read no more.
+    ensures further { ReadsNoFurther F.read_gives file.old file.new }
     // What is not wanted is not touched.
     ensures file { ReadsNoFile order.now → file.new ≡ file.old }
     ensures commands { ReadsNoCommands order.now → commands.new ≡ commands.old }

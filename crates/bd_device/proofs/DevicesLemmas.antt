@@ -1,9 +1,10 @@
 -- Lemmas on runs of reads and of writes.
-use Rattle.std.proofs.Common.{◌≡◌, ℕ, suc, append-nil, ◌+◌, ◌-◌, ◌<◌, ◌≤◌, List, [], ◌++◌, length, take, drop, Option, Some, sym, ap, ◌∙◌, subst, add-one, arith}
+use Rattle.std.proofs.Common.{◌≡◌, ℕ, suc, append-nil, ◌+◌, ◌-◌, ◌<◌, ◌≤◌, List, [], ◌∷◌, ◌++◌, length, take, drop, Option, Some, refl, sym, ap, ◌∙◌, subst, add-one, arith}
 use Rattle.std.proofs.Common.{append_assoc, take-append-drop, length-append, length-take, Result, Ok, Err, le_refl, take_at, drop_at, length-take-le}
-use Rattle.std.proofs.{Math.Nat.add-suc, Math.Nat.add-zero, lemmas.List.take_rest, KnownBytes.Consumes-trans, lemmas.Slice.take-put_mid_below}
+use Rattle.std.proofs.{Math.Nat.add-suc, Math.Nat.add-zero, lemmas.List.take_rest, KnownBytes.Appends-nil, KnownBytes.Appends-trans, KnownBytes.Consumes-trans, lemmas.Slice.take-put_mid_below}
 use Rattle.std.specs.{Io.KnownBytes.Consumes, Prelude.IfOk}
 use Rattle.bd_device.specs.Devices.{AreReads, no_read, more_reads, AreWrites, more_writes}
+use Rattle.bd_device.specs.Devices.{after_more, between, BreaksAfter, BreaksWithin, TakesText, Writer}
 use borrow.Rule.Slice.PartMut.{put_mid, post_of}
 use lib.Seq.{take-add, take-append-le}
 
@@ -54,6 +55,49 @@ writes_more {S} {takes} {bytes} s t u rest n writes last some =
 pub append-moves : (all done rest : List ℕ) (n : ℕ) → all ≡ done ++ rest → all ≡ (done ++ take n rest) ++ take (length rest - n) (drop n rest)
 append-moves all done rest n e =
     e ∙ ap (λ l. done ++ l) (sym (take-append-drop n rest)) ∙ sym (append_assoc done (take n rest) (drop n rest)) ∙ ap (λ l. (done ++ take n rest) ++ l) (sym (take_rest rest n))
+
+-- ---- texts that a writer takes one after the other
+
+pub front_none : (front rest : List ℕ) → front ++ rest ≡ [] → front ≡ []
+front_none [] rest none = refl
+front_none (x ∷ front) rest none = absurd cc
+
+rest_none : (front rest : List ℕ) → front ++ rest ≡ [] → rest ≡ []
+rest_none [] rest none = none
+rest_none (x ∷ front) rest none = absurd cc
+
+pub takes_none : (same : Writer) → TakesText (between same same) []
+takes_none same = (Appends-nil same.held, refl, λ none. refl)
+
+pub takes_both : (old mid new : Writer) (first second : List ℕ) → TakesText (between old mid) first → TakesText (between mid new) second → TakesText (between old new) (first ++ second)
+takes_both old mid new first second a b = (
+  Appends-trans old.held mid.held new.held first second a.0 b.0,
+  b.1 ∙ a.1,
+  λ none. b.2 (rest_none first second none) ∙ a.2 (front_none first second none),
+)
+
+pub breaks_first : (old new : Writer) (first second : List ℕ) → BreaksWithin (between old new) first → BreaksWithin (between old new) (first ++ second)
+breaks_first old new first second (front, rest, split, some, held, failed) =
+    (front, rest ++ second, ap (λ x. x ++ second) split ∙ append_assoc front rest second, λ none. some (front_none rest second none), held, failed)
+
+pub breaks_second : (old mid new : Writer) (first second : List ℕ) → TakesText (between old mid) first → BreaksWithin (between mid new) second → BreaksWithin (between old new) (first ++ second)
+breaks_second old mid new first second a (front, rest, split, some, held, failed) = (
+  first ++ front,
+  rest,
+  ap (λ x. first ++ x) split ∙ sym (append_assoc first front rest),
+  some,
+  Appends-trans old.held mid.held new.held first front a.0 held,
+  failed ∙ ap (λ n. after_more n 1) a.1,
+)
+
+-- a text that was taken whole, and a prefix of the next
+pub breaks_after : (old mid new : Writer) (whole text : List ℕ) → TakesText (between old mid) whole → BreaksWithin (between mid new) text → BreaksAfter (between old new) whole text
+breaks_after old mid new whole text a (front, rest, split, some, held, failed) =
+    (front, rest, split, some, Appends-trans old.held mid.held new.held whole front a.0 held, failed ∙ ap (λ n. after_more n 1) a.1)
+
+-- no write of an empty text fails
+pub nothing_breaks : (old new : Writer) (whole text : List ℕ) → BreaksAfter (between old new) whole text → text ≡ [] → ⊥
+nothing_breaks old new whole text (front, rest, split, some, held, failed) none = some (rest_none front rest (sym split ∙ none))
 
 -- what stands in front of a place in a room and what a read put after it
 pub grown : (a k n : ℕ) (xs ys : List ℕ) → a ≤ length xs → n ≤ length ys → take (a + n) (put_mid a k xs ys) ≡ take a xs ++ take n ys

@@ -1,9 +1,8 @@
 -- Devices before calls and after them, also where their bytes are not known: what was read and what was written.
-use Rattle.std.specs.Prelude.{◌≡◌, ℕ, ◌+◌, ◌<◌, ◌⊎◌, min, suc, ◌≤◌, List, [], ◌++◌, length, take, drop, Option, None}
-use Rattle.std.specs.Prelude.{Some, Result, Ok, Err}
+use Rattle.std.specs.Prelude.{◌≡◌, ◌≢◌, ℕ, ◌+◌, ◌<◌, ◌⊎◌, min, suc, ◌≤◌, List, [], ◌++◌, length, take, drop, codes}
+use Rattle.std.specs.Prelude.{Option, None, Some, Result, Ok, Err}
 use Rattle.std.specs.Io.KnownBytes.{Appends, Consumes}
-use Rattle.bd_device.specs.declared.{input.Tally.Tally, reading.ReadFault.ReadFault}
-use Rattle.bd_device.specs.declared.reading.TheConstants.{CANNOT_READ, INPUT_TOO_LONG, TOO_MANY_READS, NO_MEMORY}
+use Rattle.bd_device.specs.declared.{input.Tally.Tally, reading.Limits.Limits, reading.ReadFault.ReadFault}
 use Rattle.bd_device.specs.declared.reading.ReadFault.TheVariants as reads
 
 -- the count after n more, which stays at the greatest of 64 bits
@@ -44,29 +43,24 @@ between before after = record { before = before; after = after }
 abbrev pub over : {D Device : Type 0} → (D → Device) → D → D → Over Device
 over state old new = between (state old) (state new)
 
--- the writer took the whole text, and no write failed
+-- the writer took the whole text, and no write failed; of an empty text there was no write
 abbrev pub TakesText : Over Writer → List ℕ → Type 0
 TakesText out text = Appends out.before.held out.after.held text × (out.after.failures ≡ out.before.failures)
+    × (text ≡ [] → out.after ≡ out.before)
 
--- known bytes of a writer grew by a front of these
-abbrev pub AppendsFront : Option (List ℕ) → Option (List ℕ) → List ℕ → Type 0
-AppendsFront before after bytes =
-    (front : List ℕ) × (rest : List ℕ) × (bytes ≡ front ++ rest) × Appends before after front
-
--- the writer took a front of the text, and no write failed
+-- the writer took a prefix of the text, and no write failed
 abbrev pub TakesFront : Over Writer → List ℕ → Type 0
-TakesFront out text = AppendsFront out.before.held out.after.held text × (out.after.failures ≡ out.before.failures)
+TakesFront out text = (front : List ℕ) × (rest : List ℕ) × (text ≡ front ++ rest) × TakesText out front
 
--- the writer took a front of the text, and then a write failed
-abbrev pub BreaksWithin : Over Writer → List ℕ → Type 0
-BreaksWithin out text =
-    AppendsFront out.before.held out.after.held text × (out.after.failures ≡ after_more out.before.failures 1)
-
--- the writer took the first text whole and a front of the second, and then a write failed
+-- the writer took the first text whole and a prefix of the second, and then a write of what is left of it failed
 abbrev pub BreaksAfter : Over Writer → List ℕ → List ℕ → Type 0
-BreaksAfter out whole text = (front : List ℕ) × (rest : List ℕ) × (text ≡ front ++ rest)
+BreaksAfter out whole text = (front : List ℕ) × (rest : List ℕ) × (text ≡ front ++ rest) × (rest ≢ [])
     × Appends out.before.held out.after.held (whole ++ front)
     × (out.after.failures ≡ after_more out.before.failures 1)
+
+-- the writer took a prefix of the text, and then a write of what is left of it failed
+abbrev pub BreaksWithin : Over Writer → List ℕ → Type 0
+BreaksWithin out text = BreaksAfter out [] text
 
 -- the reader gave no more than so many bytes
 abbrev pub TakesAtMost : ℕ → Over Reader → Type 0
@@ -95,24 +89,36 @@ pub data AreWrites {S : Type 0} (takes : S → List ℕ → Option ℕ → S →
   more_writes : (s t u : S) (rest : List ℕ) (n : ℕ) → AreWrites takes bytes s rest t
       → takes t rest (Some n) u → 0 < n → AreWrites takes bytes s (drop n rest) u
 
--- so many reads gave these bytes: they are as many as the room has, or one more read found the end
-abbrev pub FillsRoom : {S : Type 0} → (S → Option (List ℕ) → S → Type 0) → ℕ → ℕ → S → List ℕ → S → Type 0
-FillsRoom {S = S} gives size turns s bytes t = ((length bytes ≡ size) × AreReads gives turns s bytes t)
-    ⊎ ((length bytes < size) × (n : ℕ) × (last : S) × (turns ≡ suc n)
-    × AreReads gives n s bytes last × gives last (Some []) t)
+-- of a reader, whose read may give these bytes, or fail at `None`, and leave this reader
+module _ {S : Type 0} (gives : S → Option (List ℕ) → S → Type 0) where
+  -- so many reads led from one device to the other: all but the last gave these bytes, each one at least,
+  -- and the last one gave this, or failed
+  abbrev pub ReadsUntil : ℕ → S → List ℕ → Option (List ℕ) → S → Type 0
+  ReadsUntil turns s bytes answer t =
+      (n : ℕ) × (last : S) × (turns ≡ suc n) × AreReads gives n s bytes last × gives last answer t
 
--- what a device gave before it failed to fill a room of that size, where it may give as many bytes as the limit
-abbrev pub FailsToFill : Over Reader → ℕ → ℕ → ReadFault → Type 0
-FailsToFill file size limit reads.TooLong =
-    (given : List ℕ) × (last : List ℕ) × Consumes file.before.left file.after.left (given ++ last)
-    × (length given ≤ limit) × (limit < length given + length last) × (length given + length last ≤ size)
-FailsToFill file size limit reads.NoMemory = Unit {0}
-FailsToFill file size limit _ =
-    (given : List ℕ) × Consumes file.before.left file.after.left given × (length given < size) × (length given ≤ limit)
+  -- so many reads gave these bytes: they are as many as the room has, or one more read found the end
+  abbrev pub FillsRoom : ℕ → ℕ → S → List ℕ → S → Type 0
+  FillsRoom size turns s bytes t = ((length bytes ≡ size) × AreReads gives turns s bytes t)
+      ⊎ ((length bytes < size) × ReadsUntil turns s bytes (Some []) t)
 
--- why a device was not read to its end, in words, which stand in the code
+  -- the reads of a room of that size that was not filled within the limits, and what they gave
+  abbrev pub FailsToFill : (S → Reader) → Limits → ℕ → S → S → ReadFault → Type 0
+  FailsToFill state limits size s t reads.TooLong =
+      (turns : ℕ) × (given : List ℕ) × (last : List ℕ) × (turns ≤ limits.turns) × ReadsUntil turns s given (Some last) t
+      × Consumes (state s).left (state t).left (given ++ last) × (length given ≤ limits.bytes)
+      × (limits.bytes < length given + length last) × (length given + length last ≤ size)
+  FailsToFill state limits size s t reads.Device =
+      (turns : ℕ) × (given : List ℕ) × (turns ≤ limits.turns) × ReadsUntil turns s given None t
+      × Consumes (state s).left (state t).left given × (length given < size) × (length given ≤ limits.bytes)
+  FailsToFill state limits size s t reads.TooManyTurns =
+      (given : List ℕ) × AreReads gives limits.turns s given t
+      × Consumes (state s).left (state t).left given × (length given < size) × (length given ≤ limits.bytes)
+  FailsToFill state limits size s t reads.NoMemory = ⊥
+
+-- why a device was not read to its end, in words
 abbrev pub read_words : ReadFault → List ℕ
-read_words reads.Device = CANNOT_READ.now
-read_words reads.TooLong = INPUT_TOO_LONG.now
-read_words reads.TooManyTurns = TOO_MANY_READS.now
-read_words reads.NoMemory = NO_MEMORY.now
+read_words reads.Device = codes "cannot read"
+read_words reads.TooLong = codes "input too long"
+read_words reads.TooManyTurns = codes "too many reads"
+read_words reads.NoMemory = codes "no memory"

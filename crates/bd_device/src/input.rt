@@ -1,5 +1,5 @@
 //! What gives bytes, with counts of calls and of failures.
-ghost use Rattle.std.specs.Prelude.{◌≡◌, ℕ, List, Option, None, Some, false, IfOk, IsTrue, OnOk, OnErr, length, ◌++◌, ◌<◌, ◌≤◌, ◌≢◌, MatchOption, ⊤};
+ghost use Rattle.std.specs.Prelude.{◌≡◌, ℕ, List, Option, None, Some, false, IfOk, IsTrue, OnOk, OnErr, length, ◌++◌, ◌<◌, ◌≤◌, ◌≢◌, min, MatchOption, ⊤};
 ghost use Rattle.std.proofs.Common.{rules};
 ghost use Rattle.std.specs.Io.Buffered.{reader_remaining};
 ghost use Rattle.std.specs.Io.KnownBytes.{Consumes, ReadConsumes};
@@ -169,7 +169,7 @@ impl<'a> MemoryInput<'a> {
     }
 }
 
-impl Input for MemoryInput<'_> {
+impl<'a> Input for MemoryInput<'a> {
     ghost state = { λ s. reader_of (Some s.bytes.now) s.tally };
 
     ghost read_gives = { λ s answer t. (t.most ≡ s.most) × (t.failing ≡ s.failing) × MatchOption answer
@@ -180,7 +180,16 @@ impl Input for MemoryInput<'_> {
 
     ghost failures_fit = { λ s. Prim.search rules };
 
-    fn read(&mut self, room: &mut [u8]) -> Result<usize, DeviceFault> {
+    /// All that the room, the device and `most` let a call give.
+    fn read(&mut self, room: &mut [u8]) -> Result<usize, DeviceFault>
+        ensures within { IfOk result (λ n. n ≤ length room.new) }
+        ensures count { IfOk result (λ n. n ≡ min (min (length self.old.bytes.now) (length room.old)) self.old.most) }
+        ensures bytes { ReadConsumes (⟦<MemoryInput<'a> as Input>⟧.state self.old).left (⟦<MemoryInput<'a> as Input>⟧.state self.new).left result room.new }
+        ensures gives { ⟦<MemoryInput<'a> as Input>⟧.read_gives self.old (bytes_given result room.new) self.new }
+        ensures called { (⟦<MemoryInput<'a> as Input>⟧.state self.new).calls ≡ after_more (⟦<MemoryInput<'a> as Input>⟧.state self.old).calls 1 }
+        ensures well { OnOk result ((⟦<MemoryInput<'a> as Input>⟧.state self.new).failures ≡ (⟦<MemoryInput<'a> as Input>⟧.state self.old).failures) }
+        ensures failed { OnErr result ((⟦<MemoryInput<'a> as Input>⟧.state self.new).failures ≡ after_more (⟦<MemoryInput<'a> as Input>⟧.state self.old).failures 1) }
+    {
         self.tally.call();
         if self.failing == Some(self.tally.calls) {
             return Err(self.tally.fail());

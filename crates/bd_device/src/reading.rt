@@ -137,19 +137,15 @@ pub fn fill<R: Input>(
     ensures within { IfOk result (λ f. (f.bytes ≤ limits.bytes) × (f.turns ≤ limits.turns)) }
     ensures called { IfOk result (λ f. (R.state reader.new).calls ≡ after_more (R.state reader.old).calls f.turns) }
     ensures turns { (R.state reader.new).calls ≤ after_more (R.state reader.old).calls limits.turns }
-    ensures unfilled { IfErr result (FailsToFill (over R.state reader.old reader.new) (length room.old) limits.bytes) }
-    // The reads, also of an unknown device. Where too many would be wanted, all were made and each gave a byte at least.
+    // The reads, also of an unknown device. Where too many would be needed, all were made and each gave a byte at least.
     ensures reads { IfOk result (λ f. FillsRoom R.read_gives (length room.old) f.turns reader.old (take f.bytes room.new) reader.new) }
-    ensures too_many { IsErrOf result ReadFault.TooManyTurns →
-        (given : List ℕ) × Consumes (R.state reader.old).left (R.state reader.new).left given
-        × (length given < length room.old) × (length given ≤ limits.bytes)
-        × AreReads R.read_gives limits.turns reader.old given reader.new }
+    ensures unfilled { IfErr result
+        (FailsToFill R.read_gives R.state limits (length room.old) reader.old reader.new) }
     ensures too_many_calls { IsErrOf result ReadFault.TooManyTurns →
         (R.state reader.new).calls ≡ after_more (R.state reader.old).calls limits.turns }
     // The last read failed, and it alone: exactly then the count of failures rises.
     ensures failed { IsErrOf result ReadFault.Device → (R.state reader.new).failures ≡ after_more (R.state reader.old).failures 1 }
     ensures well { ¬ (IsErrOf result ReadFault.Device) → (R.state reader.new).failures ≡ (R.state reader.old).failures }
-    ensures memory { ¬ (IsErrOf result ReadFault.NoMemory) }
 {
     let size = room.len();
     if 0 < limits.turns && size as u64 <= limits.bytes && reader.read_held(room) {
@@ -197,15 +193,12 @@ pub fn fill_after<R: Input>(
     ensures within { IfOk result (λ f. (f.bytes ≤ limits.bytes) × (f.turns ≤ limits.turns)) }
     ensures called { IfOk result (λ f. (R.state reader.new).calls ≡ after_more (R.state reader.old).calls f.turns) }
     ensures turns { (R.state reader.new).calls ≤ after_more (R.state reader.old).calls limits.turns }
-    ensures unfilled { IfErr result (FailsToFill (over R.state reader.old reader.new) (size - 4) limits.bytes) }
-    ensures too_many { IsErrOf result ReadFault.TooManyTurns →
-        (given : List ℕ) × Consumes (R.state reader.old).left (R.state reader.new).left given
-        × (length given < size - 4) × (length given ≤ limits.bytes) × AreReads R.read_gives limits.turns reader.old given reader.new }
+    ensures unfilled { IfErr result
+        (FailsToFill R.read_gives R.state limits (size - 4) reader.old reader.new) }
     ensures too_many_calls { IsErrOf result ReadFault.TooManyTurns →
         (R.state reader.new).calls ≡ after_more (R.state reader.old).calls limits.turns }
     ensures failed { IsErrOf result ReadFault.Device → (R.state reader.new).failures ≡ after_more (R.state reader.old).failures 1 }
     ensures well { ¬ (IsErrOf result ReadFault.Device) → (R.state reader.new).failures ≡ (R.state reader.old).failures }
-    ensures memory { ¬ (IsErrOf result ReadFault.NoMemory) }
 {
     room[..4].copy_from_slice(&head);
     fill(reader, &mut room[4..size], limits)

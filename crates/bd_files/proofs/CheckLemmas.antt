@@ -19,6 +19,7 @@ use Rattle.bd_files.specs.DumpAndCheck.{WalksDocuments, check_texts, more_visite
 use Rattle.bd_files.specs.Output.{TellsMessage, error_line, stop_words, Transcript, fault_text, wrong_status}
 use Rattle.bd_files.specs.declared.output.OutputFault.TheVariants.{NoMemory, Unwritten}
 use Rattle.bd_files.proofs.WalkLemmas.{faulty_append, faulty_count, known_whole, rest_of, visited_frames}
+use Rattle.bd_device.proofs.DevicesLemmas.{front_none, nothing_breaks}
 use Rattle.bd_files.proofs.OutputLemmas.{front_taken}
 use Rattle.bd_check.specs.declared.fault.Fault as told
 use Rattle.bd_files.specs.declared.dump_and_check.Ending.TheVariants as endings
@@ -119,9 +120,9 @@ verdict_on place bytes all f is long fails =
 
 -- a text that was taken whole and a front of the next are a front of both and more
 within_both : (old new : Writer) (whole piece more all : List ℕ) → BreaksAfter (between old new) whole piece → all ≡ whole ++ (piece ++ more) → BreaksWithin (between old new) all
-within_both old new whole piece more all (front, rest, cut, took, failed) parts =
+within_both old new whole piece more all (front, rest, cut, some, took, failed) parts =
     let both = parts ∙ ap (λ x. whole ++ (x ++ more)) cut ∙ ap (λ x. whole ++ x) (append_assoc front rest more) ∙ sym (append_assoc whole front (rest ++ more)) in
-    ((whole ++ front, rest ++ more, both, took), failed)
+    (whole ++ front, rest ++ more, both, λ none. some (front_none rest more none), took, failed)
 
 -- standard output broke in the lines of all bytes of an input, and after these verdicts
 abbrev Breaks : Reader → Reader → Writer → Writer → Type 0
@@ -229,8 +230,9 @@ module _ (old new : Reader) (out_old out_new : Writer) (err_old err_new : Writer
       let all = verdicts (given ++ bytes) in
       let front = front_taken out_old out_new text more (verdict_lines 0 all) wrote (seen_lines visited bytes) in
       (given ++ bytes, None, shown_check all None, was, (all, refl, refl), inr (inr ((refl, front), told)))
-  shows_stop Unwritten (vs, given, text, piece, visited, broke, some, inl (None, frame, is, (d, spelled, line), at, well)) told = absurd (some line)
-  shows_stop Unwritten (vs, given, text, piece, visited, broke, some, inl (Some f, frame, is, shows, at, well)) told =
+  shows_stop Unwritten (vs, given, text, piece, visited, broke, inl (None, frame, is, (d, spelled, line), at, well)) told =
+      absurd (nothing_breaks out_old out_new text piece broke line)
+  shows_stop Unwritten (vs, given, text, piece, visited, broke, inl (Some f, frame, is, shows, at, well)) told =
       let line = line_of (length vs) (length given) frame (Some f) piece shows in
       let rest = rest_of new.left in
       let last : verdicts_at (length given) frame ≡ Some f ∷ [] = ap (verdicts_at (length given)) (sym (append-nil frame)) ∙ turn_on (length given) frame [] (Some f) is line.0
@@ -238,8 +240,8 @@ module _ (old new : Reader) (out_old out_new : Writer) (err_old err_new : Writer
       broken (breaks visited old new out_old out_new frame (frame ++ rest) f (verdicts_at (length given + length frame) rest)
       (streams visited old new out_old frame at well) at last (turn_on (length given) frame rest (Some f) is line.0)
       (subst (λ (x : List ℕ). BreaksAfter (between out_old out_new) text x) line.1 broke)) told
-  shows_stop Unwritten (vs, given, text, piece, visited, broke, some, inr (f, (part, rest, was, at, numbered, fails, inl none), line)) told = absurd cc
-  shows_stop Unwritten (vs, given, text, piece, visited, broke, some, inr (f, (part, rest, was, at, numbered, fails, inr (is, long)), line)) told =
+  shows_stop Unwritten (vs, given, text, piece, visited, broke, inr (f, (part, rest, was, at, numbered, fails, inl none), line)) told = absurd cc
+  shows_stop Unwritten (vs, given, text, piece, visited, broke, inr (f, (part, rest, was, at, numbered, fails, inr (is, long)), line)) told =
       let same : piece ≡ verdict_line (length vs) (Some (fault_view f)) = cc in
       broken (breaks visited old new out_old out_new part (part ++ rest) (fault_view f) [] was at (verdict_on (length given) part (part ++ rest) f is long fails)
       (verdict_on (length given) (part ++ rest) (part ++ rest) f long long fails) (subst (λ (x : List ℕ). BreaksAfter (between out_old out_new) text x) same broke)) told

@@ -1,6 +1,7 @@
 -- How a run ends.
 use Rattle.std.proofs.Common.{◌≡◌, ◌<◌, ◌+◌, ℕ, List, [], ◌∷◌, ◌++◌, length, Option, Some, None, refl, sym, ap, ap₂, ◌∙◌, subst, append-nil, append_assoc, inl, inr, arith, length-append}
-use Rattle.std.proofs.{lemmas.List.get_or-append-add, KnownBytes.Appends-nil}
+use Rattle.std.proofs.{lemmas.List.get_or-append-add}
+use Rattle.bd_device.proofs.DevicesLemmas.{takes_none}
 use Rattle.std.specs.Prelude.{◌⊎◌, decimal, option_map}
 use Rattle.bd_value.specs.Tree.{Doc}
 use Rattle.bd_device.specs.Devices.{Reader, Writer, between, BreaksAfter, TakesText, read_words}
@@ -11,10 +12,8 @@ use Rattle.bd_check.proofs.DumpLemmas.{joined_append, joined_once, joined_one, w
 use Rattle.bd_stream.proofs.StreamLemmas.{cut_stuck}
 use Rattle.bd_files.specs.{declared.dump_and_check.Ending.Ending, declared.output.OutputFault.OutputFault, declared.output.OutputFault.TheVariants.NoMemory}
 use Rattle.bd_files.specs.{declared.output.OutputFault.TheVariants.Unwritten, declared.output.Status.Status, declared.output.Status.TheVariants.Failed, declared.dump_and_check.Walk.Walk}
-use Rattle.bd_files.specs.DumpAndCheck.{DumpsInput, IsShownByDump, shown_dump, AreVisited, EndsWalk, StopsWalk, WalksDocuments, dump_texts, ending_words, more_visited, none_visited, text_at_end}
-use Rattle.bd_files.specs.declared.dump_and_check.TheConstants.{OBJECTS_FOUND}
-use Rattle.bd_files.specs.Output.{PrintsShown, TellsMessage, Transcript, error_line, fault_text, lines, shown_refusal, wrong_line, wrong_status, stop_words}
-use Rattle.bd_files.specs.declared.output.TheConstants.{NO_MEMORY}
+use Rattle.bd_files.specs.DumpAndCheck.{DumpsInput, IsShownByDump, shown_dump, AreVisited, EndsWalk, StopsWalk, WalksDocuments, dump_texts, ending_words, objects_found, more_visited, none_visited, text_at_end}
+use Rattle.bd_files.specs.Output.{PrintsShown, TellsMessage, Transcript, error_line, fault_text, lines, no_memory, shown_refusal, wrong_line, wrong_status, stop_words}
 use Rattle.bd_files.proofs.OutputLemmas.{lines-append}
 use Rattle.bd_check.specs.declared.fault.Fault as told
 use Rattle.bd_files.specs.declared.dump_and_check.Ending.TheVariants as endings
@@ -48,8 +47,8 @@ module _ (old new : Reader) (out_old out_new : Writer) (err_old err_new : Writer
   -- what comes after so many documents was told, or memory ran out for it
   abbrev TellsEnding : ℕ → Ending → Type 0
   TellsEnding count ending =
-      Tells (wrong_line (ending_words ending) ++ (decimal count ++ OBJECTS_FOUND.now)) (wrong_status (ending_words ending))
-      ⊎ ((f : told.Fault) × (ending ≡ endings.Faulty f) × Tells (error_line NO_MEMORY.now) Failed)
+      Tells (wrong_line (ending_words ending) ++ (decimal count ++ objects_found)) (wrong_status (ending_words ending))
+      ⊎ ((f : told.Fault) × (ending ≡ endings.Faulty f) × Tells (error_line no_memory) Failed)
 
   module _ (ds : List Doc) (given : List ℕ) (joined : AreJoined ds given) (wrote : TakesText (between out_old out_new) (lines ds)) where
     ends : (ending : Ending) → EndsWalk dump_texts (between old new) (length ds) given ending → TellsEnding (length ds) ending → Shows
@@ -57,7 +56,7 @@ module _ (old new : Reader) (out_old out_new : Writer) (err_old err_new : Writer
         (shown_dump ds None, inl ((given, None, was, (ds, None, joined, refl), wrote, λ e. (ds, given, [], joined, sym (append-nil given), inl refl, at)), told))
     ends (endings.Faulty f) (part, rest, was, at, numbered, fails, last) (inl told) =
         let fault = fault_view f in
-        let line = subst (λ n. Tells (error_line (fault_text n fault) ++ (decimal (length ds) ++ OBJECTS_FOUND.now)) Failed) numbered told in (
+        let line = subst (λ n. Tells (error_line (fault_text n fault) ++ (decimal (length ds) ++ objects_found)) Failed) numbered told in (
           shown_dump ds (Some (fault_text (length ds) fault)),
           inl (
             (
@@ -88,17 +87,17 @@ module _ (old new : Reader) (out_old out_new : Writer) (err_old err_new : Writer
   shows_stop NoMemory (vs, given, text, visited, at, well, wrote) told =
       let p = printed vs given text visited in
       (shown_dump p.0 None, inr (inr ((p.0, given, p.1, at, well, subst (λ (x : List ℕ). TakesText (between out_old out_new) x) p.3 wrote), told)))
-  shows_stop Unwritten (vs, given, text, piece, visited, broke, some, inl (None, frame, is, (d, spelled, line), at, well)) told =
+  shows_stop Unwritten (vs, given, text, piece, visited, broke, inl (None, frame, is, (d, spelled, line), at, well)) told =
       let p = printed vs given text visited in
       let after : BreaksAfter (between out_old out_new) (lines p.0) (lines (d ∷ [])) = rw (sym p.3, sym line) broke in
       (shown_dump p.0 None, inr (inl ((p.0, d, given ++ frame, joined_append p.0 (d ∷ []) given frame p.1 (joined_one d frame spelled), at.0, well, after), told)))
-  shows_stop Unwritten (vs, given, text, piece, visited, broke, some, inl (Some f, frame, is, shows, at, well)) told = let e = shows.1 in absurd cc
-  shows_stop Unwritten (vs, given, text, piece, visited, broke, some, inr (f, at, line)) told = absurd cc
+  shows_stop Unwritten (vs, given, text, piece, visited, broke, inl (Some f, frame, is, shows, at, well)) told = let e = shows.1 in absurd cc
+  shows_stop Unwritten (vs, given, text, piece, visited, broke, inr (f, at, line)) told = absurd cc
 
 -- nothing was written to standard output
 pub refused : (out : Writer) (err_old err_new : Writer) (words : List ℕ) (status : Status)
     → TellsMessage (between err_old err_new) (error_line words) Failed status → PrintsShown (between out out) (between err_old err_new) (shown_refusal words) status
-refused out err_old err_new words status told = inl ((Appends-nil out.held, refl), told)
+refused out err_old err_new words status told = inl (takes_none out, told)
 
 -- ---- what is shown is determined
 

@@ -1,42 +1,23 @@
 -- Lemmas on what a run writes.
 use Rattle.std.proofs.Common.{subst, ◌≡◌, ℕ, List, [], ◌∷◌, ◌++◌, refl, sym, ap, ◌∙◌, append_assoc, ◌⊎◌, append-nil, inl, inr, arith, ap₂, map, IsUtf8, String}
-use Rattle.std.proofs.KnownBytes.{Appends-trans}
 use Rattle.std.proofs.lemmas.{Bool.Decides.nat_tests, Str.IsUtf8-append, Str.IsUtf8-nil, Str.IsUtf8-string_bytes}
 use Rattle.std.specs.Prelude.{OnErr, OnOk, Result, Ok, Err, string_bytes}
 use Rattle.std.specs.List.{join_with_byte}
 use Rattle.bd_value.specs.Tree.{Doc, doc, fields_of}
-use Rattle.bd_device.specs.Devices.{after_more, BreaksAfter, BreaksWithin, TakesFront, TakesText, Writer, between}
+use Rattle.bd_device.specs.Devices.{BreaksWithin, TakesFront, TakesText, Writer, between}
+use Rattle.bd_device.proofs.DevicesLemmas.{breaks_first, breaks_second, takes_both}
 use Rattle.json.proofs.Printed.Utf8.{IsUtf8-are_ascii, IsUtf8-quoted}
 use Rattle.bd_text.specs.Text.{escape_byte, escaped, quoted, text}
 use Rattle.bd_files.specs.{declared.output.OutputFault.OutputFault, declared.output.Status.Status, declared.output.Status.TheVariants.Failed}
-use Rattle.bd_files.specs.declared.output.TheConstants.{NO_MEMORY}
 use Rattle.bd_files.specs.declared.output.OutputFault.TheVariants.{NoMemory, Unwritten}
-use Rattle.bd_files.specs.Output.{lines, PrintsOrStarves, StopsWithin, TellsMessage, Transcript, error_line, stop_words}
+use Rattle.bd_files.specs.Output.{lines, PrintsOrStarves, StopsWithin, TellsMessage, Transcript, error_line, no_memory, stop_words}
 use Rattle.json.specs.Print as printed
 
 pub lines-append : (ds es : List Doc) → lines (ds ++ es) ≡ lines ds ++ lines es
 lines-append [] es = refl
 lines-append (d ∷ ds) es = ap (λ x. text (doc (fields_of d)) ++ 10 ∷ x) (lines-append ds es) ∙ sym (append_assoc (text (doc (fields_of d))) (10 ∷ lines ds) (lines es))
 
--- a text that was taken whole, and a front of the next
-pub breaks_after : (old mid new : Writer) (whole text : List ℕ) → TakesText (between old mid) whole → BreaksWithin (between mid new) text → BreaksAfter (between old new) whole text
-breaks_after old mid new whole text wrote broke =
-    (broke.0.0, broke.0.1, broke.0.2, Appends-trans old.held mid.held new.held whole broke.0.0 wrote.0 broke.0.3, broke.1 ∙ ap (λ n. after_more n 1) wrote.1)
-
 -- ---- one text after the other
-
-pub takes_both : (old mid new : Writer) (first second : List ℕ) → TakesText (between old mid) first → TakesText (between mid new) second → TakesText (between old new) (first ++ second)
-takes_both old mid new first second a b = (Appends-trans old.held mid.held new.held first second a.0 b.0, b.1 ∙ a.1)
-
-pub breaks_first : (old new : Writer) (first second : List ℕ) → BreaksWithin (between old new) first → BreaksWithin (between old new) (first ++ second)
-breaks_first old new first second broke =
-    ((broke.0.0, broke.0.1 ++ second, ap (λ x. x ++ second) broke.0.2 ∙ append_assoc broke.0.0 broke.0.1 second, broke.0.3), broke.1)
-
-pub breaks_second : (old mid new : Writer) (first second : List ℕ) → TakesText (between old mid) first → BreaksWithin (between mid new) second → BreaksWithin (between old new) (first ++ second)
-breaks_second old mid new first second a broke = (
-  (first ++ broke.0.0, broke.0.1, ap (λ x. first ++ x) broke.0.2 ∙ sym (append_assoc first broke.0.0 broke.0.1), Appends-trans old.held mid.held new.held first broke.0.0 a.0 broke.0.3),
-  broke.1 ∙ ap (λ n. after_more n 1) a.1,
-)
 
 pub on_err : {A E : Type 0} (r : Result A E) (P : Type 0) → P → OnErr r P
 on_err (Ok x) P h = _
@@ -62,7 +43,7 @@ pub ruleset taking = (takes_both, breaks_first, breaks_second)
 -- ---- a text of which a front was taken
 
 pub front_taken : (old new : Writer) (front rest all : List ℕ) → TakesText (between old new) front → all ≡ front ++ rest → TakesFront (between old new) all
-front_taken old new front rest all took cut = ((front, rest, cut, took.0), took.1)
+front_taken old new front rest all took cut = (front, rest, cut, took)
 
 -- a write failed in the piece after what was taken
 pub breaks_piece : (old mid new : Writer) (front piece rest all : List ℕ) → TakesText (between old mid) front → BreaksWithin (between mid new) piece
@@ -72,10 +53,10 @@ breaks_piece old mid new front piece rest all took broke cut =
     subst (λ (x : List ℕ). BreaksWithin (between old new) x) (append_assoc front piece rest ∙ sym cut) whole
 
 pub all_shown : (out_old out_new err_old err_new : Writer) (status : Status) (shown : Transcript) → TakesText (between out_old out_new) shown.out
-    → TellsMessage (between err_old err_new) shown.err shown.status status ⊎ TellsMessage (between err_old err_new) (error_line NO_MEMORY.now) Failed status
+    → TellsMessage (between err_old err_new) shown.err shown.status status ⊎ TellsMessage (between err_old err_new) (error_line no_memory) Failed status
     → PrintsOrStarves (between out_old out_new) (between err_old err_new) shown status
 all_shown out_old out_new err_old err_new status shown wrote (inl told) = inl (wrote, told)
-all_shown out_old out_new err_old err_new status shown wrote (inr told) = inr (inr (((shown.out, [], sym (append-nil shown.out), wrote.0), wrote.1), told))
+all_shown out_old out_new err_old err_new status shown wrote (inr told) = inr (inr ((shown.out, [], sym (append-nil shown.out), wrote), told))
 
 -- standard output was stopped
 pub stop_shown : (out_old out_new err_old err_new : Writer) (status : Status) (shown : Transcript) (stopped : OutputFault) → StopsWithin (between out_old out_new) shown.out stopped

@@ -13,11 +13,10 @@ use Rattle.bd_pack.specs.Packable.{plain, IsPackable, IsBad}
 use Rattle.bd_pack.specs.declared.line.LineFault.{LineFault}
 use Rattle.bd_files.specs.{declared.output.OutputFault.OutputFault, declared.output.OutputFault.TheVariants.NoMemory, declared.output.OutputFault.TheVariants.Unwritten, declared.pack.BadLine.BadLine}
 use Rattle.bd_files.specs.{declared.pack.Packing.Packing, declared.output.Status.Status, declared.output.Status.TheVariants.Failed}
-use Rattle.bd_files.specs.Output.{stop_words, PrintsOrStarves, TellsMessage, Transcript, error_line, wrong_line, wrong_status}
-use Rattle.bd_files.specs.Pack.{IsShownByPack, PacksLines, bad_line_text, shown_pack, IsPacking, StopsPacking, left_size, lines_left, AreAlike}
-use Rattle.bd_files.specs.declared.pack.TheConstants.{OBJECTS_PACKED}
-use Rattle.bd_files.specs.declared.output.TheConstants.{NO_MEMORY}
-use Rattle.bd_files.proofs.OutputLemmas.{all_shown, stop_shown, breaks_piece, front_taken, takes_both}
+use Rattle.bd_files.specs.Output.{stop_words, PrintsOrStarves, TellsMessage, Transcript, error_line, no_memory, wrong_line, wrong_status}
+use Rattle.bd_files.specs.Pack.{IsShownByPack, PacksLines, bad_line_text, shown_pack, IsPacking, StopsPacking, left_size, lines_left, objects_packed, AreAlike}
+use Rattle.bd_device.proofs.DevicesLemmas.{takes_both}
+use Rattle.bd_files.proofs.OutputLemmas.{all_shown, stop_shown, breaks_piece, front_taken}
 use Rattle.bd_lines.specs.Lines.{is_empty_line, text_lines}
 use Rattle.bd_device.specs.Devices.{BreaksWithin, TakesText, Writer, between}
 use Rattle.bd_device.specs.declared.reading.ReadFault.{ReadFault}
@@ -111,11 +110,11 @@ module _ (text : List ℕ) (out_old out_new : Writer) (err_old err_new : Writer)
   Shows = (shown : Transcript) × IsShownByPack (Ok text) shown × PrintsOrStarves (between out_old out_new) (between err_old err_new) shown status
 
   abbrev Tells : List ℕ → Status → Type 0
-  Tells told wanted = TellsMessage (between err_old err_new) told wanted status ⊎ TellsMessage (between err_old err_new) (error_line NO_MEMORY.now) Failed status
+  Tells told wanted = TellsMessage (between err_old err_new) told wanted status ⊎ TellsMessage (between err_old err_new) (error_line no_memory) Failed status
 
   -- the bad line, where there is one, and this count
   abbrev pub TellsPacking : ℕ → Option BadLine → Type 0
-  TellsPacking count bad = Tells (wrong_line (option_map bad_line_text bad) ++ (decimal count ++ OBJECTS_PACKED.now)) (wrong_status (option_map bad_line_text bad))
+  TellsPacking count bad = Tells (wrong_line (option_map bad_line_text bad) ++ (decimal count ++ objects_packed)) (wrong_status (option_map bad_line_text bad))
 
   pub shows_packing : (packing : Packing) → IsPacking text (between out_old out_new) packing → TellsPacking packing.count packing.bad → Shows
   shows_packing packing (ds, packs, counted, wrote) told =

@@ -2,22 +2,22 @@
 use Rattle.std.proofs.Common.{inl, inr, ◌≡◌, ◌≤◌, ◌<◌, ℕ, ◌+◌, ◌-◌, List, [], ◌∷◌, ◌++◌, length, length-take-le, map, append-nil, append_assoc, Option, Some, None, Result, Ok, Err, Bool, true, false, refl, sym, ap, ap₂, ◌∙◌, subst}
 use Rattle.std.proofs.Common.{arith, length-append}
 use Rattle.std.proofs.{lemmas.List.take_at, lemmas.List.Sums.sum_by-append}
-use Rattle.std.proofs.KnownBytes.{Appends-nil, Consumes-trans, Consumes-nil}
+use Rattle.std.proofs.KnownBytes.{Consumes-trans, Consumes-nil}
 use Rattle.std.specs.{List.count_by, Prelude.◌⊎◌, Prelude.IfSome, Prelude.is_some, Prelude.cond, Prelude.string_bytes, Prelude.unwrap_or}
 use Rattle.std.specs.Io.KnownBytes.{Consumes, IsAtEnd}
 use Rattle.bd_value.specs.Limits.{longest_input, most_reads}
 use Rattle.bd_device.specs.{Devices.after_more, declared.reading.ReadFault.ReadFault}
-use Rattle.bd_device.specs.Devices.{Reader, TakesText, Writer, between}
-use Rattle.bd_device.proofs.DevicesLemmas.{reads_at_least}
+use Rattle.bd_device.specs.Devices.{AreReads, Reader, ReadsUntil, TakesText, Writer, between}
+use Rattle.bd_device.proofs.DevicesLemmas.{reads_append, reads_at_least}
 use Rattle.bd_check.specs.{Fault.Fault, FirstFault.first_fault, Fault.TellsFault, Fault.fault_view}
 use Rattle.bd_check.specs.Dump.{frame_fault, frame_length, framed_fault}
-use Rattle.bd_stream.specs.{declared.doc_buffer.DocBuffer.DocBuffer, declared.doc_buffer.FrameFault.FrameFault}
-use Rattle.bd_stream.specs.Stream.{FailsToRead, IsReason, ReadsDocument, held_bytes, AreFrames, EndsWithinOne, HasNoFrame, IsFrame, IsWithinOne}
+use Rattle.bd_stream.specs.declared.doc_buffer.{DocBuffer.DocBuffer, DocFault.DocFault, FrameFault.FrameFault}
+use Rattle.bd_stream.specs.Stream.{FailsToRead, FindsEnd, IsReason, ReadsDocument, ReadsToFault, held_bytes, AreFrames, EndsWithinOne, HasNoFrame, IsFrame, IsWithinOne}
 use Rattle.bd_stream.proofs.StreamLemmas.{cut_within, frame_on, frame_within, frames_more}
-use Rattle.bd_files.specs.{Input.StopsInside, Input.StreamsInput, Output.StopsWriting, declared.dump_and_check.Ending.Ending, declared.output.OutputFault.OutputFault}
+use Rattle.bd_files.specs.{Input.ReadsNoFurther, Input.StopsInside, Input.StreamsInput, Output.StopsWriting, declared.dump_and_check.Ending.Ending, declared.output.OutputFault.OutputFault}
 use Rattle.bd_files.specs.DumpAndCheck.{AreVisited, EndsWalk, IsTextOf, MeetsFault, StopsWalk, Texts, WalksDocuments, more_visited, none_visited, text_at_end}
 use Rattle.bd_files.specs.declared.output.OutputFault.TheVariants.{NoMemory, Unwritten}
-use Rattle.bd_files.proofs.OutputLemmas.{breaks_after, takes_both}
+use Rattle.bd_device.proofs.DevicesLemmas.{breaks_after, takes_both, takes_none}
 use Rattle.bd_device.specs.declared.reading.ReadFault.TheVariants as reads
 use Rattle.bd_check.specs.declared.fault.Fault as told
 use Rattle.bd_check.specs.declared.fault.FaultKind.TheVariants as kinds
@@ -115,6 +115,44 @@ document_read {R} {state} {gives} {before} {after} {old} {new} {bytes} read show
       many = rw shown (reads_at_least (before.left.turns - after.left.turns) old new (held_bytes after) read.reads);
     }
 
+-- ---- the reads of a walk
+
+-- reads that gave a byte each led from one device to the other
+abbrev pub IsRead : {R : Type 0} → (R → Option (List ℕ) → R → Type 0) → R → R → Type 0
+IsRead gives old new = (n : ℕ) × (given : List ℕ) × AreReads gives n old given new
+
+pub reads_so_far : {R : Type 0} {gives : R → Option (List ℕ) → R → Type 0} {old new : R} → IsRead gives old new → ReadsNoFurther gives old new
+reads_so_far {R} {gives} {old} {new} read = (read.0, read.1, new, read.2, inl refl)
+
+module _ {R : Type 0} {gives : R → Option (List ℕ) → R → Type 0} {old mid new : R} (read : IsRead gives old mid) where
+  all_read : (n : ℕ) (given : List ℕ) → AreReads gives n mid given new → ReadsNoFurther gives old new
+  all_read n given more = (_, _, new, reads_append _ n old mid new _ given read.2 more, inl refl)
+
+  read_until : (turns : ℕ) (given : List ℕ) (answer : Option (List ℕ)) → ReadsUntil gives turns mid given answer new → ReadsNoFurther gives old new
+  read_until turns given answer (n, last, is, more, ends) = (_, _, last, reads_append _ n old mid last _ given read.2 more, inr (answer, ends))
+
+module _ {R : Type 0} {state : R → Reader} {gives : R → Option (List ℕ) → R → Type 0} {old mid new : R} {before after : DocBuffer} (read : IsRead gives old mid) where
+  pub read_document : ReadsDocument state gives before after mid new → IsRead gives old new
+  read_document next = (_, _, reads_append _ _ old mid new _ _ read.2 next.reads)
+
+  pub read_to_the_end : FindsEnd state gives before after mid new → ReadsNoFurther gives old new
+  read_to_the_end end = (read.0, read.1, mid, read.2, inr (Some [], end.one.1))
+
+  pub read_to_a_fault : (fault : DocFault) → FailsToRead state gives [] before after mid new fault → ReadsNoFurther gives old new
+  read_to_a_fault fault fails = by_reason fault fails.given fails.reason
+    where
+      by_reason : (fault : DocFault) (given : List ℕ) → IsReason state gives before mid new [] given fault → ReadsNoFurther gives old new
+      by_reason (faults.Frame f) given reason = by_reads reason.7
+        where
+          by_reads : ReadsToFault gives [] mid given new → ReadsNoFurther gives old new
+          by_reads (turns, inl (cut, until)) = read_until read turns given (Some []) until
+          by_reads (turns, inr (four, each)) = all_read read turns given each
+      by_reason (faults.Read reads.Device) given reason = read_until read reason.3.0 given None reason.3.1
+      by_reason (faults.Read reads.TooLong) given reason = read_until read reason.8.0 reason.0 (Some reason.1) reason.8.1
+      by_reason (faults.Read reads.TooManyTurns) given reason = all_read read before.left.turns given reason.2
+      by_reason (faults.Read reads.NoMemory) given reason = all_read read reason.4.0 given reason.4.1
+      by_reason faults.Failed given reason = absurd reason
+
 -- ---- what the loop keeps: the verdicts so far, the bytes of their documents, and what was written of them
 
 pub record SoFar (texts : Texts) (old new : Reader) (out_old out_new : Writer) (buffer : DocBuffer) (bad : ℕ) : Type 0 where
@@ -149,7 +187,7 @@ begins texts old out buffer p n r t = record {
   turned = omega arith;
   many = omega arith;
   well = refl;
-  wrote = (Appends-nil out.held, refl);
+  wrote = takes_none out;
 }
 
 module _ {texts : Texts} {old mid : Reader} {out_old out_mid : Writer} {buffer : DocBuffer} {bad : ℕ} (s : SoFar texts old mid out_old out_mid buffer bad) where
@@ -212,9 +250,9 @@ module _ {texts : Texts} {old mid : Reader} {out_old out_mid : Writer} {buffer :
     pub stops_by : (out_new : Writer) (v : Option Fault) (piece : List ℕ) (stopped : OutputFault) → IsFrame part → IsTextOf texts buffer.number buffer.place part v piece
         → StopsWriting piece (between out_mid out_new) stopped → StopsWalk texts (between old new) (between out_old out_new) stopped
     stops_by out_new v piece NoMemory is shows same = rw same starves
-    stops_by out_new v piece Unwritten is shows (broke, some) =
+    stops_by out_new v piece Unwritten is shows broke =
         let after = breaks_after out_old out_mid out_new s.text piece s.wrote broke in
-        (s.done, s.given, s.text, piece, s.visited, after, some, inl (v, part, is, next_of part v piece shows, at, g.well ∙ s.well))
+        (s.done, s.given, s.text, piece, s.visited, after, inl (v, part, is, next_of part v piece shows, at, g.well ∙ s.well))
 
     -- the input is at its end
     pub ends_whole : part ≡ [] → IsAtEnd new.left → Ended new out_mid endings.Whole
@@ -279,9 +317,9 @@ module _ {texts : Texts} {R : Type 0} {state : R → Reader} {gives : R → Opti
     pub stops_by_length : (out : Writer) (stopped : OutputFault) → Meets out (Err stopped) → StopsWalk texts (between old (state n)) (between out_old out) stopped
     stops_by_length out NoMemory (line, is, same) =
         subst (λ (w : Writer). StopsWalk texts (between old (state n)) (between out_old w) NoMemory) (sym same) (s.done, s.given, s.text, s.visited, (end.0, end.3), end.2.2, s.wrote)
-    stops_by_length out Unwritten (line, is, (broke, some)) =
+    stops_by_length out Unwritten (line, is, broke) =
         let after = breaks_after out_old out_mid out s.text line s.wrote broke in
-        (s.done, s.given, s.text, line, s.visited, after, some, inr (f, end, subst (λ n. texts.bad n (fault_view f) ≡ Some line) number is))
+        (s.done, s.given, s.text, line, s.visited, after, inr (f, end, subst (λ n. texts.bad n (fault_view f) ≡ Some line) number is))
 
   pub starves_by : FailsToRead state gives [] buffer after m n (faults.Read reads.NoMemory) → StopsWalk texts (between old (state n)) (between out_old out_mid) NoMemory
   starves_by fails =

@@ -1,5 +1,5 @@
 -- What `dump` and `check` show of an input, and what a run of them did.
-use Rattle.std.specs.Prelude.{◌≡◌, ◌≢◌, ◌≤◌, ◌⊎◌, ℕ, zero, suc, Bool, true, false, List, [], ◌∷◌, ◌++◌, length, decimal}
+use Rattle.std.specs.Prelude.{◌≡◌, ◌≤◌, ◌⊎◌, ℕ, zero, suc, Bool, true, false, List, [], ◌∷◌, ◌++◌, length, codes, decimal}
 use Rattle.std.specs.Prelude.{Option, Some, None}
 use Rattle.std.specs.Prelude.{is_some, option_map, unwrap_or, Result, Ok, Err}
 use Rattle.std.specs.{Io.KnownBytes.Consumes, List.count_by}
@@ -16,7 +16,6 @@ use Rattle.bd_files.specs.{declared.output.OutputFault.OutputFault, declared.out
 use Rattle.bd_files.specs.{declared.output.OutputFault.TheVariants.NoMemory}
 use Rattle.bd_files.specs.{declared.output.OutputFault.TheVariants.Unwritten, declared.output.Status.TheVariants.Done}
 use Rattle.bd_files.specs.{declared.output.Status.TheVariants.Failed}
-use Rattle.bd_files.specs.declared.dump_and_check.TheConstants.{DOCUMENTS, FAULTY, OBJECTS_FOUND}
 use Rattle.bd_files.specs.Input.{StopsInside, StopsWithinOne, StreamsInput}
 use Rattle.bd_files.specs.Output.{StopsWriting, TellsEnd, Transcript, fault_text, lines, shown_before, wrong_line}
 use Rattle.bd_check.specs.declared.fault.Fault as told
@@ -24,9 +23,13 @@ use Rattle.bd_files.specs.declared.dump_and_check.Ending.TheVariants as endings
 
 -- ---- `dump`
 
+-- after the number of documents that were printed
+abbrev pub objects_found : List ℕ
+objects_found = codes " objects found" ++ 10 ∷ []
+
 -- what is shown of the documents before the first fault, or before a read that failed, and of that
 abbrev pub shown_dump : List Doc → Option (List ℕ) → Transcript
-shown_dump ds wrong = shown_before (lines ds) wrong (decimal (length ds) ++ OBJECTS_FOUND.now)
+shown_dump ds wrong = shown_before (lines ds) wrong (decimal (length ds) ++ objects_found)
 
 -- what `dump` shows of all bytes of an input, or of those before a failed read:
 -- whole documents and the beginning of one more
@@ -79,8 +82,8 @@ verdict_lines number (v ∷ vs) = verdict_line number v ++ verdict_lines (suc nu
 -- and how many documents there are and how many of them have a fault
 abbrev pub check_message : Option ReadFault → ℕ → ℕ → List ℕ
 check_message unread documents faulty =
-    (wrong_line (option_map read_words unread) ++ (decimal documents ++ DOCUMENTS.now))
-    ++ (decimal faulty ++ FAULTY.now)
+    (wrong_line (option_map read_words unread) ++ (decimal documents ++ codes " documents, "))
+    ++ (decimal faulty ++ (codes " faulty" ++ 10 ∷ []))
 
 abbrev pub check_status : Option ReadFault → ℕ → Status
 check_status None zero = Done
@@ -200,7 +203,7 @@ StopsWalk texts file out NoMemory =
     × StopsWithinOne given file × (file.after.failures ≡ file.before.failures) × TakesText out text
 StopsWalk texts file out Unwritten =
     (vs : List (Option Fault)) × (given : List ℕ) × (text : List ℕ) × (piece : List ℕ)
-    × AreVisited texts vs given text × BreaksAfter out text piece × (piece ≢ [])
+    × AreVisited texts vs given text × BreaksAfter out text piece
     × (((v : Option Fault) × (frame : List ℕ) × IsFrame frame
     × IsTextOf texts (length vs) (length given) frame v piece × StopsInside given frame file
     × (file.after.failures ≡ file.before.failures))

@@ -1,5 +1,5 @@
 -- What a run writes: the text on standard output, the text on standard error, and the exit status.
-use Rattle.std.specs.Prelude.{◌≡◌, ◌≢◌, ◌⊎◌, ℕ, List, [], ◌∷◌, ◌++◌, codes, decimal, Option, Some, None, Result, Ok}
+use Rattle.std.specs.Prelude.{◌≡◌, ◌⊎◌, ℕ, List, [], ◌∷◌, ◌++◌, codes, decimal, Option, Some, None, Result, Ok}
 use Rattle.std.specs.Prelude.{Err}
 use Rattle.std.specs.{Borrow.Bor, List.join_with_byte}
 use Rattle.bd_value.specs.Tree.{Doc, doc, fields_of}
@@ -11,7 +11,6 @@ use Rattle.bd_files.specs.{declared.output.OutputFault.OutputFault, declared.out
 use Rattle.bd_files.specs.{declared.output.OutputFault.TheVariants.NoMemory}
 use Rattle.bd_files.specs.{declared.output.OutputFault.TheVariants.Unwritten, declared.output.Status.TheVariants.Done}
 use Rattle.bd_files.specs.{declared.output.Status.TheVariants.Failed}
-use Rattle.bd_files.specs.declared.output.TheConstants.{CANNOT_WRITE, NO_MEMORY}
 
 -- standard output, standard error, and the exit status
 pub record Transcript : Type 0 where
@@ -38,9 +37,16 @@ fault_text number f =
     place_text number f.offset
     ++ (codes ", path " ++ (quoted (join_with_byte 46 f.path) ++ (codes ": " ++ fault_words f.kind)))
 
+-- why a run ends where memory ran out, and where standard output failed
+abbrev pub no_memory : List ℕ
+no_memory = codes "no memory"
+
+abbrev pub cannot_write : List ℕ
+cannot_write = codes "cannot write"
+
 abbrev pub stop_words : OutputFault → List ℕ
-stop_words NoMemory = NO_MEMORY.now
-stop_words Unwritten = CANNOT_WRITE.now
+stop_words NoMemory = no_memory
+stop_words Unwritten = cannot_write
 
 -- ---- what is shown
 
@@ -78,8 +84,8 @@ TellsMessage err message wanted status =
 -- or memory ran out, as the third tells, and standard error says so.
 abbrev pub TellsEnd : Type 0 → Type 0 → Type 0 → Over Writer → Transcript → Status → Type 0
 TellsEnd Whole Broke Starved err shown status = (Whole × TellsMessage err shown.err shown.status status)
-    ⊎ (Broke × TellsMessage err (error_line CANNOT_WRITE.now) Failed status)
-    ⊎ (Starved × TellsMessage err (error_line NO_MEMORY.now) Failed status)
+    ⊎ (Broke × TellsMessage err (error_line cannot_write) Failed status)
+    ⊎ (Starved × TellsMessage err (error_line no_memory) Failed status)
 
 -- standard output has the whole text that is to be shown, or a front of it where a write failed
 abbrev pub PrintsShown : Over Writer → Over Writer → Transcript → Status → Type 0
@@ -103,7 +109,7 @@ StopsWithin out text Unwritten = BreaksWithin out text
 -- nothing of the text was written, or a write failed after a front of it, which is not all
 abbrev pub StopsWriting : List ℕ → Over Writer → OutputFault → Type 0
 StopsWriting text out NoMemory = out.after ≡ out.before
-StopsWriting text out Unwritten = BreaksWithin out text × (text ≢ [])
+StopsWriting text out Unwritten = BreaksWithin out text
 
 -- the writer took the text, or writing it was stopped
 abbrev pub Writes : {A : Type 0} → List ℕ → Over Writer → Result A OutputFault → Type 0

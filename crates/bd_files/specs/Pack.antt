@@ -10,7 +10,7 @@ use Rattle.bd_pack.specs.{Packable.plain, Packable.IsPackable, Packable.IsBad, d
 use Rattle.bd_lines.specs.Lines.{is_empty_line, text_lines}
 use Rattle.bd_files.specs.{Input.ReadsInput, declared.output.Status.Status, declared.pack.BadLine.BadLine}
 use Rattle.bd_files.specs.{declared.pack.Packing.Packing}
-use Rattle.bd_files.specs.declared.{output.OutputFault.OutputFault, pack.TheConstants.OBJECTS_PACKED}
+use Rattle.bd_files.specs.declared.{output.OutputFault.OutputFault}
 use Rattle.bd_files.specs.Output.{PrintsInput, StopsWithin, Transcript, shown_before, shown_refusal}
 use Rattle.bd_diagnose.specs.declared.json_fault.JsonFaultKind.TheVariants as kinds
 use Rattle.bd_pack.specs.declared.line.LineFault.TheVariants as faults
@@ -37,9 +37,13 @@ line_fault_text faults.TooLong = codes ": document too long"
 abbrev pub bad_line_text : BadLine → List ℕ
 bad_line_text bad = codes "line " ++ (decimal bad.number ++ line_fault_text bad.fault)
 
+-- after the number of documents that were packed
+abbrev pub objects_packed : List ℕ
+objects_packed = codes " objects packed" ++ 10 ∷ []
+
 abbrev pub shown_pack : List Doc → Option BadLine → Transcript
 shown_pack ds bad = shown_before (flat_map plain ds) (option_map bad_line_text bad)
-    (decimal (length ds) ++ OBJECTS_PACKED.now)
+    (decimal (length ds) ++ objects_packed)
 
 -- what is shown of a text, or of an input that was not read whole
 abbrev pub IsShownByPack : Result (List ℕ) ReadFault → Transcript → Type 0

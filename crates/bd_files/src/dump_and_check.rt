@@ -8,9 +8,9 @@ ghost use Rattle.bd_device.specs.Devices.{BreaksWithin, TakesText, over};
 ghost use Rattle.bd_raw.specs.Sound.{stands};
 ghost use Rattle.bd_check.specs.Fault.{fault_view};
 ghost use Rattle.bd_files.specs.DumpAndCheck.{ChecksInput, DumpsInput, MeetsFault, StopsWalk, Texts};
-ghost use Rattle.bd_files.specs.DumpAndCheck.{WalksDocuments, check_message, check_status, check_texts, dump_texts, ending_words};
-ghost use Rattle.bd_files.specs.Output.{TellsMessage, Writes, error_line, wrong_line, wrong_status};
-ghost use Rattle.bd_files.specs.declared.output.TheConstants.{NO_MEMORY};
+ghost use Rattle.bd_files.specs.DumpAndCheck.{WalksDocuments, check_message, check_status, check_texts, dump_texts, ending_words, objects_found};
+ghost use Rattle.bd_files.specs.Input.{ReadsNoFurther};
+ghost use Rattle.bd_files.specs.Output.{TellsMessage, Writes, error_line, no_memory, wrong_line, wrong_status};
 ghost use Rattle.bd_files.specs.declared.output.Status.TheVariants.{Failed};
 
 use crate::input::LIMITS;
@@ -39,8 +39,9 @@ pub fn dump<R: Input, O: Output, E: Output>(
     out: &mut O,
     err: &mut E,
 ) -> Status
-    ensures { DumpsInput (over R.state input.old input.new) (over O.state out.old out.new)
+    ensures dumps { DumpsInput (over R.state input.old input.new) (over O.state out.old out.new)
         (over E.state err.old err.new) result }
+    ensures further { ReadsNoFurther R.read_gives input.old input.new }
 {
     let room = LineRoom::new(alloc);
     match walk_documents(alloc, input, &mut Printer { room }, out) {
@@ -71,10 +72,10 @@ impl<O: Output> Visitor<O> for Printer {
 
 /// Shows a walk on standard error, after its lines on standard output. Memory is taken only for the path of a fault.
 fn tell_walk<E: Output>(alloc: Global, walk: &Walk, err: &mut E) -> Status
-    ensures { TellsMessage (over E.state err.old err.new) (wrong_line (ending_words walk.now.ending) ++ (decimal walk.now.count ++ OBJECTS_FOUND.now))
+    ensures { TellsMessage (over E.state err.old err.new) (wrong_line (ending_words walk.now.ending) ++ (decimal walk.now.count ++ objects_found))
         (wrong_status (ending_words walk.now.ending)) result
         ⊎ ((fault : Fault) × (walk.now.ending ≡ Ending.Faulty fault)
-        × TellsMessage (over E.state err.old err.new) (error_line NO_MEMORY.now) Failed result) }
+        × TellsMessage (over E.state err.old err.new) (error_line no_memory) Failed result) }
 {
     let count = u64::from(walk.count);
     match &walk.ending {
@@ -94,8 +95,9 @@ pub fn check<R: Input, O: Output, E: Output>(
     out: &mut O,
     err: &mut E,
 ) -> Status
-    ensures { ChecksInput (over R.state input.old input.new) (over O.state out.old out.new)
+    ensures checks { ChecksInput (over R.state input.old input.new) (over O.state out.old out.new)
         (over E.state err.old err.new) result }
+    ensures further { ReadsNoFurther R.read_gives input.old input.new }
 {
     let line = String::new(alloc);
     match walk_documents(alloc, input, &mut Judge { line }, out) {
@@ -187,6 +189,7 @@ pub(crate) fn walk_documents<R: Input, O: Output, V: Visitor<O>>(
     ensures few { IfOk result (λ w. (w.count < longest_input) × (w.bad ≤ w.count)) }
     ensures walks { IfOk result (WalksDocuments V.texts (over R.state input.old input.new) (over O.state out.old out.new)) }
     ensures stops { IfErr result (StopsWalk V.texts (over R.state input.old input.new) (over O.state out.old out.new)) }
+    ensures further { ReadsNoFurther R.read_gives input.old input.new }
 {
     let mut buffer = DocBuffer::new(alloc, LIMITS);
     let mut bad = 0;

@@ -6,8 +6,8 @@ ghost use Rattle.bd_device.specs.Devices.{BreaksWithin, TakesText, over, read_wo
 ghost use Rattle.bd_check.specs.Fault.{fault_view};
 ghost use Rattle.bd_check.specs.declared.fault.FaultKind.TheVariants as kinds;
 ghost use Rattle.bd_text.specs.Text.{quoted};
-ghost use Rattle.bd_files.specs.Output.{TellsMessage, error_line, fault_text, place_text, stop_words, told_bytes, wrong_line, wrong_status};
-ghost use Rattle.bd_files.specs.declared.output.OutputFault.TheVariants.{NoMemory as no_memory, Unwritten};
+ghost use Rattle.bd_files.specs.Output.{TellsMessage, cannot_write, error_line, fault_text, no_memory, place_text, stop_words, told_bytes, wrong_line, wrong_status};
+ghost use Rattle.bd_files.specs.declared.output.OutputFault.TheVariants.{NoMemory as memory, Unwritten};
 ghost use Rattle.bd_files.specs.declared.output.Status.TheVariants.{Failed};
 
 use bd_check::{Fault, FaultKind};
@@ -38,7 +38,7 @@ pub enum OutputFault {
 }
 
 impl From<AllocError> for OutputFault {
-    ghost from_gives = { λ _ s. s ≡ no_memory };
+    ghost from_gives = { λ _ s. s ≡ memory };
 
     fn from(_error: AllocError) -> OutputFault {
         OutputFault::NoMemory
@@ -155,14 +155,14 @@ pub fn tell_error<E: Output>(message: &str, err: &mut E) -> Status
 
 /// Tells that memory ran out. It takes none itself.
 pub fn tell_no_memory<E: Output>(err: &mut E) -> Status
-    ensures { TellsMessage (over E.state err.old err.new) (error_line NO_MEMORY.now) Failed result }
+    ensures { TellsMessage (over E.state err.old err.new) (error_line no_memory) Failed result }
 {
     tell_error(NO_MEMORY, err)
 }
 
 /// Tells that standard output failed.
 pub fn tell_unwritten<E: Output>(err: &mut E) -> Status
-    ensures { TellsMessage (over E.state err.old err.new) (error_line CANNOT_WRITE.now) Failed result }
+    ensures { TellsMessage (over E.state err.old err.new) (error_line cannot_write) Failed result }
 {
     tell_error(CANNOT_WRITE, err)
 }
@@ -187,7 +187,7 @@ pub fn tell_read_fault<E: Output>(fault: ReadFault, err: &mut E) -> Status
 /// Tells why an input is no dump.
 pub fn tell_dump_fault<E: Output>(alloc: Global, fault: &Fault, err: &mut E) -> Status
     ensures { TellsMessage (over E.state err.old err.new) (error_line (fault_text fault.now.document (fault_view fault.now))) Failed result
-        ⊎ TellsMessage (over E.state err.old err.new) (error_line NO_MEMORY.now) Failed result }
+        ⊎ TellsMessage (over E.state err.old err.new) (error_line no_memory) Failed result }
 {
     match fault_message(alloc, fault) {
         Ok(message) => tell_error(&message, err),

@@ -5,9 +5,8 @@ ghost use Rattle.bd_value.specs.Limits.{longest_input};
 ghost use Rattle.bd_device.specs.Devices.{over};
 ghost use Rattle.bd_lines.specs.Lines.{text_lines};
 ghost use Rattle.bd_files.specs.Input.{ReadsNoFurther};
-ghost use Rattle.bd_files.specs.Output.{PrintsOrStarves, TellsMessage, Transcript, error_line, told_bytes, wrong_line, wrong_status};
-ghost use Rattle.bd_files.specs.Pack.{IsPacking, IsShownByPack, PacksInput, StopsPacking, bad_line_text, left_size, line_fault_text, lines_left};
-ghost use Rattle.bd_files.specs.declared.output.TheConstants.{NO_MEMORY};
+ghost use Rattle.bd_files.specs.Output.{PrintsOrStarves, TellsMessage, Transcript, error_line, no_memory, told_bytes, wrong_line, wrong_status};
+ghost use Rattle.bd_files.specs.Pack.{IsPacking, IsShownByPack, PacksInput, StopsPacking, bad_line_text, left_size, line_fault_text, lines_left, objects_packed};
 ghost use Rattle.bd_files.specs.declared.output.Status.TheVariants.{Failed};
 
 use crate::input::read_input;
@@ -119,9 +118,9 @@ fn cut_line(text: &[u8]) -> (&[u8], Option<&[u8]>)
 /// Tells how lines were packed, after the bytes on standard output.
 fn tell_packing<E: Output>(alloc: Global, packing: &Packing, err: &mut E) -> Status
     ensures { TellsMessage (over E.state err.old err.new)
-        (wrong_line (option_map bad_line_text packing.now.bad) ++ (decimal packing.now.count ++ OBJECTS_PACKED.now))
+        (wrong_line (option_map bad_line_text packing.now.bad) ++ (decimal packing.now.count ++ objects_packed))
         (wrong_status (option_map bad_line_text packing.now.bad)) result
-        ⊎ TellsMessage (over E.state err.old err.new) (error_line NO_MEMORY.now) Failed result }
+        ⊎ TellsMessage (over E.state err.old err.new) (error_line no_memory) Failed result }
 {
     match &packing.bad {
         None => tell_end(None, packing.count, OBJECTS_PACKED, err),

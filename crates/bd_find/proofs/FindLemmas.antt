@@ -8,12 +8,11 @@ use Rattle.bd_text.specs.Text.{text}
 use Rattle.bd_bson.specs.{Collection.IsUnread, Collection.documents_at}
 use Rattle.bd_check.specs.Fault.{fault_view}
 use Rattle.bd_files.specs.{declared.output.Status.Status, declared.output.Status.TheVariants.Failed}
-use Rattle.bd_files.specs.Output.{PrintsOrStarves, TellsMessage, Transcript, error_line, fault_text, lines, shown_refusal}
+use Rattle.bd_files.specs.Output.{PrintsOrStarves, TellsMessage, Transcript, error_line, fault_text, lines, no_memory, shown_refusal}
 use Rattle.bd_request.specs.{declared.results.Refused.Refused, Refused.IsRefusedPart, Refused.reason_of, Refused.refused_words}
 use Rattle.bd_find.specs.Asking.{PageRequest, refused_text}
 use Rattle.bd_find.specs.Find.{places_from, IsShownOfBytes, shown_of_dump}
 use Rattle.bd_sort.specs.Selection.{query_to}
-use Rattle.bd_files.specs.declared.output.TheConstants.{NO_MEMORY}
 use Rattle.bd_files.proofs.OutputLemmas.{lines-append}
 use Rattle.bd_device.specs.Devices.{Writer, between}
 use Rattle.bd_check.specs.declared.fault.Fault as declared
@@ -45,12 +44,12 @@ module _ (ds : List Doc) (ps : List ℕ) where
 
 module _ (out_old out_new : Writer) (err_old err_new : Writer) (status : Status) where
   -- memory ran out before anything was written
-  pub nothing_shown : (shown : Transcript) → TellsMessage (between err_old err_new) (error_line NO_MEMORY.now) Failed status
+  pub nothing_shown : (shown : Transcript) → TellsMessage (between err_old err_new) (error_line no_memory) Failed status
       → PrintsOrStarves (between out_old out_old) (between err_old err_new) shown status
   nothing_shown shown told = inr (inr ((([], shown.out, refl, Appends-nil out_old.held), refl), told))
 
   -- the line of a fault alone, or memory ran out
-  pub refusal_shown : (words : List ℕ) → TellsMessage (between err_old err_new) (error_line words) Failed status ⊎ TellsMessage (between err_old err_new) (error_line NO_MEMORY.now) Failed status
+  pub refusal_shown : (words : List ℕ) → TellsMessage (between err_old err_new) (error_line words) Failed status ⊎ TellsMessage (between err_old err_new) (error_line no_memory) Failed status
       → PrintsOrStarves (between out_old out_old) (between err_old err_new) (shown_refusal words) status
   refusal_shown words (inl told) = inl ((Appends-nil out_old.held, refl), told)
   refusal_shown words (inr told) = nothing_shown (shown_refusal words) told
@@ -58,7 +57,7 @@ module _ (out_old out_new : Writer) (err_old err_new : Writer) (status : Status)
   -- what is shown of a dump with a fault
   pub fault_shown : (w : PageRequest) (bytes : List ℕ) (fault : declared.Fault) → length bytes ≤ longest_input → IsUnread bytes fault → ¬ (fault.kind ≡ kinds.NoMemory)
       → TellsMessage (between err_old err_new) (error_line (fault_text fault.document (fault_view fault))) Failed status
-      ⊎ TellsMessage (between err_old err_new) (error_line NO_MEMORY.now) Failed status
+      ⊎ TellsMessage (between err_old err_new) (error_line no_memory) Failed status
       → (shown : Transcript) × IsShownOfBytes w bytes shown × PrintsOrStarves (between out_old out_old) (between err_old err_new) shown status
   fault_shown w bytes fault le (inl long) other told = absurd (let more = long.0 in omega arith)
   fault_shown w bytes fault le (inr (_, inl want)) other told = absurd (other want.kind)
@@ -67,18 +66,18 @@ module _ (out_old out_new : Writer) (err_old err_new : Writer) (status : Status)
       let line : error_line (fault_text fault.document (fault_view fault)) ≡ error_line words = ap (λ k. error_line (fault_text k (fault_view fault))) first.document in (
         shown_refusal words,
         (first.before, Some (fault_view fault), first.fails, refl),
-        refusal_shown words (subst (λ t. TellsMessage (between err_old err_new) t Failed status ⊎ TellsMessage (between err_old err_new) (error_line NO_MEMORY.now) Failed status) line told),
+        refusal_shown words (subst (λ t. TellsMessage (between err_old err_new) t Failed status ⊎ TellsMessage (between err_old err_new) (error_line no_memory) Failed status) line told),
       )
 
   -- what is shown where no cursor was opened
   pub refused_shown : (bytes : List ℕ) (ds : List Doc) (w : PageRequest) (refused : Refused) → IsRefusedPart (places_from (query_to bytes ds w.request) w.token) refused
-      → TellsMessage (between err_old err_new) (error_line (refused_text (reason_of refused))) Failed status ⊎ TellsMessage (between err_old err_new) (error_line NO_MEMORY.now) Failed status
+      → TellsMessage (between err_old err_new) (error_line (refused_text (reason_of refused))) Failed status ⊎ TellsMessage (between err_old err_new) (error_line no_memory) Failed status
       → PrintsOrStarves (between out_old out_old) (between err_old err_new) (shown_of_dump bytes ds w) status
   unfolding refused_words
   refused_shown bytes ds w refused (inl want) told = nothing_shown (shown_of_dump bytes ds w) (either (rw want at told))
     where
-      either : TellsMessage (between err_old err_new) (error_line NO_MEMORY.now) Failed status ⊎ TellsMessage (between err_old err_new) (error_line NO_MEMORY.now) Failed status
-          → TellsMessage (between err_old err_new) (error_line NO_MEMORY.now) Failed status
+      either : TellsMessage (between err_old err_new) (error_line no_memory) Failed status ⊎ TellsMessage (between err_old err_new) (error_line no_memory) Failed status
+          → TellsMessage (between err_old err_new) (error_line no_memory) Failed status
       either (inl t) = t
       either (inr t) = t
   refused_shown bytes ds w refused (inr led) told = rw led (refusal_shown (refused_text (reason_of refused)) told)

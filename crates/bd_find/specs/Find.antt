@@ -1,6 +1,6 @@
 -- What `find` shows of its words and an input, and what a run of it did.
 use Rattle.std.specs.Prelude.{◌≡◌, ◌≤◌, ◌<◌, ℕ, nat_lt, true, List, [], length, option_map, Option, Some, None, Result}
-use Rattle.std.specs.Prelude.{Ok, Err, if◌then◌else◌, ◌⊎◌, Bool, ◌∷◌, ◌++◌}
+use Rattle.std.specs.Prelude.{Ok, Err, codes, if◌then◌else◌, ◌⊎◌, Bool, ◌∷◌, ◌++◌}
 use Rattle.std.specs.{Prelude.drop, Prelude.decimal, List.All, Str.bytes_eq}
 use Rattle.bd_value.specs.{Limits.greatest_count, Tree.Doc, Tree.doc, Tree.fields_of}
 use Rattle.bd_answer.specs.Answer.{answer, rest, at_most, is_empty}
@@ -15,12 +15,10 @@ use Rattle.bd_device.specs.{declared.reading.ReadFault.ReadFault}
 use Rattle.bd_check.specs.{Fault.Fault, Dump.IsWalk}
 use Rattle.bd_command_line.specs.FindWords.{FindWords}
 use Rattle.bd_find.specs.Asking.{AsksInWords, IsRefusedOr, PageRequest, refused_text}
-use Rattle.bd_find.specs.declared.batch.TheConstants.{DOCUMENTS_END, DOCUMENTS_MORE, TOKEN}
 use Rattle.bd_sort.specs.Selection.{query_to, selection_for}
 use Rattle.bd_files.specs.{Input.ReadsInput, declared.output.Status.Status}
-use Rattle.bd_files.specs.declared.output.TheConstants.{NO_MEMORY}
 use Rattle.bd_files.specs.declared.output.Status.TheVariants.{Done, Failed}
-use Rattle.bd_files.specs.Output.{PrintsInput, TellsMessage, Transcript, error_line, lines, fault_text, shown_refusal}
+use Rattle.bd_files.specs.Output.{PrintsInput, TellsMessage, Transcript, error_line, lines, fault_text, no_memory, shown_refusal}
 use Rattle.bd_text.specs.Text.{text}
 use Rattle.bd_path.specs.Sort.{SortPath, sort_cmp}
 use Rattle.bd_filter.specs.{Filter.Filter, FilterMatch.matches}
@@ -70,11 +68,14 @@ left_over (Some n) ps = drop n ps
 -- the token after a batch, where there is one
 abbrev pub token_words : Option MarkedToken → List ℕ
 token_words None = []
-token_words (Some t) = TOKEN.now ++ marked_text t
+token_words (Some t) = codes ", token " ++ marked_text t
+
+-- whether documents are left
+abbrev pub end_words : Bool → List ℕ
+end_words ends = if ends then codes " documents, end" else codes " documents, more"
 
 abbrev pub find_count_line : ℕ → Bool → Option MarkedToken → List ℕ
-find_count_line count ends token =
-    decimal count ++ ((if ends then DOCUMENTS_END.now else DOCUMENTS_MORE.now) ++ (token_words token ++ 10 ∷ []))
+find_count_line count ends token = decimal count ++ (end_words ends ++ (token_words token ++ 10 ∷ []))
 
 -- what is shown of a cursor: the documents of its first batch, how many they are, whether nothing is left, and
 -- the token that leads on
@@ -120,7 +121,7 @@ IsShownByFind words input shown =
 abbrev pub FindsDocuments : FindWords → Over Reader → Over Writer → Over Writer → Status → Type 0
 FindsDocuments words file out err status =
     ((file.after ≡ file.before) × (out.after ≡ out.before)
-    × TellsMessage err (error_line NO_MEMORY.now) Failed status)
+    × TellsMessage err (error_line no_memory) Failed status)
     ⊎ ((input : Result (List ℕ) ReadFault) × (shown : Transcript)
     × IsRefusedOr (λ message. file.after ≡ file.before) (AsksInWords words) (λ w. ReadsInput file input)
     × IsShownByFind words input shown × PrintsInput input out err shown status)

@@ -10,11 +10,10 @@ ghost use Rattle.bd_sort.specs.Selection.{query_of};
 ghost use Rattle.bd_cursor.specs.SessionView.{dump_of, hint_of, marked_token, state_of};
 ghost use Rattle.bd_request.specs.Refused.{reason_of};
 ghost use Rattle.bd_request.specs.declared.results.Refused.TheVariants.{NoMemory as no_memory};
-ghost use Rattle.bd_files.specs.Output.{PrintsOrStarves, StopsWithin, TellsMessage, error_line, lines};
-ghost use Rattle.bd_files.specs.declared.output.TheConstants.{NO_MEMORY};
+ghost use Rattle.bd_files.specs.Output.{PrintsOrStarves, StopsWithin, TellsMessage, error_line, lines, no_memory};
 ghost use Rattle.bd_files.specs.declared.output.Status.TheVariants.{Done, Failed};
 ghost use Rattle.bd_find.specs.Asking.{fits_batch, page_request_of, refused_text};
-ghost use Rattle.bd_find.specs.Find.{AwaitsFirst, IsOpenedOn, IsReady, find_count_line, shown_batch, shown_of_dump, token_words};
+ghost use Rattle.bd_find.specs.Find.{AwaitsFirst, IsOpenedOn, IsReady, end_words, find_count_line, shown_batch, shown_of_dump, token_words};
 
 use crate::asking::{Asking, refused_message};
 use bd_bson::Dump;
@@ -146,7 +145,7 @@ fn tell_batch<E: Output>(alloc: Global, batch: &Batch, err: &mut E) -> Status
     ensures { TellsMessage (over E.state err.old err.new)
         (find_count_line (length batch.now.places.items) batch.now.end
         (option_map marked_token batch.now.token)) Done result
-        ⊎ TellsMessage (over E.state err.old err.new) (error_line NO_MEMORY.now) Failed result }
+        ⊎ TellsMessage (over E.state err.old err.new) (error_line no_memory) Failed result }
 {
     match count_line(alloc, batch) {
         Ok(line) => status_of(write_all(err, line.as_bytes()), Status::Done),
@@ -168,7 +167,7 @@ fn count_line(alloc: Global, batch: &Batch) -> Result<String, NoMemory>
 
 /// What stands after the number of documents.
 fn words_of_end(end: bool) -> &'static str
-    ensures { result.now ≡ (if end then DOCUMENTS_END.now else DOCUMENTS_MORE.now) }
+    ensures { result.now ≡ end_words end }
 {
     if end { DOCUMENTS_END } else { DOCUMENTS_MORE }
 }
@@ -188,7 +187,7 @@ fn push_token(alloc: Global, token: Option<Token>, line: &mut String) -> Result<
 /// Tells why no cursor was opened.
 fn tell_refused<E: Output>(alloc: Global, refused: &Refused, err: &mut E) -> Status
     ensures { TellsMessage (over E.state err.old err.new) (error_line (refused_text (reason_of refused.now))) Failed result
-        ⊎ TellsMessage (over E.state err.old err.new) (error_line NO_MEMORY.now) Failed result }
+        ⊎ TellsMessage (over E.state err.old err.new) (error_line no_memory) Failed result }
 {
     match refused_message(alloc, refused) {
         Ok(message) => tell_error(&message, err),

@@ -1,7 +1,7 @@
 -- Lemmas on what was written, what of it a device has, and what waits.
 use Rattle.std.proofs.Common.{◌≡◌, ℕ, List, [], ◌++◌, take, drop, Option, None, Some, refl, sym, ap, ◌∙◌, subst, append_assoc, append-nil, take-append-drop, ◌⊎◌}
 use Rattle.std.specs.{Prelude.◌≢◌, Prelude.Result, Prelude.Ok, Prelude.Err, Prelude.OnErr, Prelude.OnOk, Prelude.true, Prelude.false, Result.is_err}
-use Rattle.std.proofs.KnownBytes.{Appends-nil, Appends-trans}
+use Rattle.bd_device.proofs.DevicesLemmas.{breaks_first as first_breaks, breaks_second, takes_both, takes_none}
 use Rattle.bd_device.specs.Devices.{AreWrites, BreaksWithin, TakesText, no_write, more_writes, over}
 use Rattle.bd_device.specs.declared.output.Output.{Ghosts as Output}
 use Rattle.bd_gathering.specs.Gathering.{AreTaken, Breaks, TakesAllBytes, none_taken, more_taken, Gathers, HandsOn}
@@ -32,7 +32,7 @@ taken_append {S} {takes} s t u first second a (more_taken v w x taken text n all
 
 module _ {D : Type 0} (o : Output D) where
   pub TakesAllBytes-nil : (s : D) → TakesAllBytes o s [] s
-  TakesAllBytes-nil s = record { held = (Appends-nil _, refl); writes = none_taken s }
+  TakesAllBytes-nil s = record { held = takes_none (o.state s); writes = none_taken s }
 
   pub TakesAllBytes-writes : (s t : D) (bytes : List ℕ) → TakesText (over o.state s t) bytes → AreWrites o.write_takes bytes s [] t → TakesAllBytes o s bytes t
   TakesAllBytes-writes s t bytes held writes =
@@ -42,7 +42,7 @@ module _ {D : Type 0} (o : Output D) where
 
   pub TakesAllBytes-trans : (s t u : D) (first second : List ℕ) → TakesAllBytes o s first t → TakesAllBytes o t second u → TakesAllBytes o s (first ++ second) u
   TakesAllBytes-trans s t u first second a b = record {
-    held = (Appends-trans _ _ _ first second a.held.0 b.held.0, b.held.1 ∙ a.held.1);
+    held = takes_both (o.state s) (o.state t) (o.state u) first second a.held b.held;
     writes = taken_append s t u first second a.writes b.writes;
   }
 
@@ -56,29 +56,18 @@ module _ {D : Type 0} (o : Output D) where
   -- more bytes that come after them
   pub Breaks-more : (s t : D) (bytes more : List ℕ) → Breaks o s bytes t → Breaks o s (bytes ++ more) t
   Breaks-more s t bytes more b =
-      let (front, rest, split, held) = b.held.0 in
       let (taken, text, later, last, is, all, some, failed) = b.writes in
       record {
-        held = ((front, rest ++ more, ap (λ l. l ++ more) split ∙ append_assoc front rest more, held), b.held.1);
+        held = first_breaks (o.state s) (o.state t) bytes more b.held;
         writes = (taken, text, later ++ more, last, ap (λ l. l ++ more) is ∙ (append_assoc taken (text ++ later) more ∙ ap (λ l. taken ++ l) (append_assoc text later more)), all, some, failed);
       }
 
   -- bytes before them that the device took
   pub Breaks-after : (s t u : D) (first bytes : List ℕ) → TakesAllBytes o s first t → Breaks o t bytes u → Breaks o s (first ++ bytes) u
   Breaks-after s t u first bytes a b =
-      let (front, rest, split, held) = b.held.0 in
       let (taken, text, later, last, is, all, some, failed) = b.writes in
       record {
-        held = (
-          (
-            first ++ front,
-            rest,
-            ap (λ l. first ++ l) split ∙ sym (append_assoc first front rest),
-            Appends-trans _ _ _ first front a.held.0
-                held,
-          ),
-          b.held.1 ∙ ap (λ n. Rattle.bd_device.specs.Devices.after_more n 1) a.held.1,
-        );
+        held = breaks_second (o.state s) (o.state t) (o.state u) first bytes a.held b.held;
         writes = (first ++ taken, text, later, last, ap (λ l. first ++ l) is ∙ sym (append_assoc first taken (text ++ later)), taken_append s t last first taken a.writes all, some, failed);
       }
 

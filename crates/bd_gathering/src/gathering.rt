@@ -138,6 +138,7 @@ impl<D: Output + Drop> Gathering<D> {
     /// for bytes that serve no one.
     fn read_after<R: Read>(&mut self, reader: &mut R, room: &mut [u8]) -> io::Result<usize>
         ensures handed { HandsOn D.Output self.old self.new }
+        ensures empty { self.new.waiting.items ≡ [] }
         ensures lost { self.new.fate ≢ Kept → IsErr result × (reader.new ≡ reader.old) × (room.new ≡ room.old) }
         ensures bound { ReadsAtMost result room.new }
         ensures bytes { ReadConsumes (R.remaining reader.old) (R.remaining reader.new) result room.new }
@@ -152,6 +153,7 @@ impl<D: Output + Drop> Gathering<D> {
     /// no count is shown of lines that did not arrive.
     fn write_after<E: Write>(&mut self, writer: &mut E, bytes: &[u8]) -> io::Result<usize>
         ensures handed { HandsOn D.Output self.old self.new }
+        ensures empty { self.new.waiting.items ≡ [] }
         ensures untold { self.new.fate ≡ Lost → IsErr result × (writer.new ≡ writer.old) }
         ensures bound { WritesAtMost result bytes.now }
         ensures bytes { WriteAppends (E.contents writer.old) (E.contents writer.new) result bytes.now }

@@ -1,7 +1,7 @@
 -- Lemmas on replies to the commands of a device.
 use Rattle.std.proofs.Common.{rules, ◌≡◌, ◌<◌, ◌≤◌, ◌+◌, ℕ, List, [], ◌∷◌, ◌++◌, length, Bool, true, false, cond, Option, refl, sym, ap, ◌∙◌, subst, append_assoc, append-nil, arith, inl, inr}
 use Rattle.std.proofs.Common.{length-append}
-use Rattle.std.proofs.KnownBytes.{Appends-nil, Appends-trans}
+use Rattle.bd_device.proofs.DevicesLemmas.{breaks_after, takes_both, takes_none}
 use Rattle.bd_device.specs.{Devices.after_more, Devices.greatest, declared.reading.Limits.Limits, declared.reading.ReadFault.ReadFault}
 use Rattle.bd_device.specs.Devices.{AreReads, BreaksAfter, BreaksWithin, Reader, TakesText, Writer, between}
 use Rattle.bd_lines.specs.{declared.serving.ServeFault.ServeFault, declared.line_buffer.LineBuffer.LineBuffer}
@@ -12,18 +12,6 @@ use Rattle.std.specs.Prelude.{◌⊎◌}
 use Rattle.bd_lines.proofs.LinesLemmas.{commands_line, no_long_line, short_after, short_line, short_whole_line, commands_whole_line, newlines_more, newlines_of_line}
 use Rattle.bd_lines.proofs.LineBufferLemmas.{before_last_then, cause_then, gives_none, gives_then, stops_then}
 use Rattle.bd_lines.specs.declared.serving.ServeFault.TheVariants as serves
-
--- ---- writers
-
-pub takes_none : (a : Writer) → TakesText (between a a) []
-takes_none a = (Appends-nil a.held, refl)
-
-takes_then : (a b c : Writer) (first second : List ℕ) → TakesText (between a b) first → TakesText (between b c) second → TakesText (between a c) (first ++ second)
-takes_then a b c first second p q = (Appends-trans a.held b.held c.held first second p.0 q.0, q.1 ∙ p.1)
-
-pub breaks_then : (a b c : Writer) (first second : List ℕ) → TakesText (between a b) first → BreaksWithin (between b c) second → BreaksAfter (between a c) first second
-breaks_then a b c first second p ((front, rest, split, some), failures) =
-    (front, rest, split, Appends-trans a.held b.held c.held first front p.0 some, failures ∙ ap (λ i. after_more i 1) p.1)
 
 -- ---- replies
 
@@ -207,7 +195,7 @@ module _ {R S : Type 0} {state : R → Reader} {gives : R → Option (List ℕ) 
                 (in_time_after so_far.whole more (so_far.whole ++ (held_after lines ++ reads.given)) old new in_time_all);
             replied = subst (λ x. RepliesInTurn replies s x (so_far.text ++ text) u) (sym commands)
                 (replied_then replies s t u (commands_of so_far.whole) (not_empty (next.line.items ∷ [])) so_far.text text so_far.replied replied);
-            written = takes_then before now later so_far.text text so_far.written written;
+            written = takes_both before now later so_far.text text so_far.written written;
           }
 
       goes_by : IsFirstLine (held_after lines ++ reads.given) next.line.items (held_after next) next.ended → Serving state gives replies limits next old new before later s u
@@ -234,4 +222,4 @@ module _ {R S : Type 0} {state : R → Reader} {gives : R → Option (List ℕ) 
     stops_answer stays later u fault (inr is) starved broke =
         let e = broke is in
         subst (λ f. StopsServing state gives replies limits old new (between before later) s u stays f) (sym is)
-        (next.line.items, so_far.text, e.1.0, t, serves_before e.0, e.1.1, breaks_then before now later so_far.text (e.1.0 ++ 10 ∷ []) so_far.written e.1.2)
+        (next.line.items, so_far.text, e.1.0, t, serves_before e.0, e.1.1, breaks_after before now later so_far.text (e.1.0 ++ 10 ∷ []) so_far.written e.1.2)

@@ -1,17 +1,18 @@
 -- Documents that a device gives one at a time.
 use Rattle.std.proofs.Common.{◌≡◌, ◌≤◌, ◌<◌, ◌⊎◌, inl, inr, ltb, ℕ, ◌+◌, ◌-◌, List, [], ◌∷◌, ◌++◌, length, take, drop, take_at, drop_at, Bool, cond, true, false, Option}
-use Rattle.std.proofs.Common.{Some, None, Ok, Err, refl, sym, ap, ap₂, ◌∙◌, subst, arith, append-nil, append_assoc, length-append, rules, IfSome, ◌||◌}
+use Rattle.std.proofs.Common.{Some, None, Ok, Err, suc, pred, refl, sym, ap, ap₂, ◌∙◌, subst, arith, append-nil, append_assoc, length-append, rules, IfSome, ◌||◌}
 use Rattle.std.proofs.lemmas.{Bool.le-ltb, Bool.lt-ltb, Bool.Decides.nat_tests}
 use Rattle.std.specs.{Io.KnownBytes.Consumes, Io.KnownBytes.IsAtEnd, Io.KnownBytes.prepend_known, Io.StartsWith}
 use Rattle.bd_value.specs.Limits.{longest_document}
 use lib.Seq.{take-append-le}
 use Rattle.bd_check.specs.declared.fault.FaultKind.TheVariants.{ShortLength, BadLength}
 use Rattle.bd_check.specs.{declared.fault.FaultKind.FaultKind, Dump.length_told, Dump.frame_length}
-use Rattle.bd_stream.specs.Stream.{IsFrame, AreFrames, IsCut, IsWithinOne, HasNoFrame, CountsReads, FailsToRead, GrowsFor, HoldsAsMuch, HoldsNone, IsReason}
+use Rattle.bd_stream.specs.Stream.{IsFrame, AreFrames, IsCut, IsWithinOne, HasNoFrame, CountsReads, FailsToRead, GrowsFor, HoldsAsMuch, HoldsNone, IsReason, ReadsToFault}
 use Rattle.bd_stream.specs.{declared.doc_buffer.DocBuffer.DocBuffer, declared.doc_buffer.DocFault.DocFault}
 use Rattle.bd_check.proofs.DumpLemmas.{frame_good, frame_inside, document_frame, Stuck}
 use Rattle.std.proofs.KnownBytes.{Consumes-trans}
-use Rattle.bd_device.specs.{Devices.after_more, Devices.AreReads, Devices.Reader, Devices.over}
+use Rattle.bd_device.specs.{Devices.after_more, Devices.AreReads, Devices.Reader, Devices.ReadsUntil, Devices.FailsToFill, Devices.FillsRoom, Devices.over}
+use Rattle.bd_device.specs.declared.reading.{Limits.Limits, ReadFault.ReadFault}
 use Rattle.bd_device.proofs.DevicesLemmas.{reads_append}
 use Rattle.bd_device.specs.declared.reading.ReadFault.TheVariants as reads
 use Rattle.bd_stream.specs.declared.doc_buffer.DocFault.TheVariants as faults
@@ -113,6 +114,11 @@ pub is_cut : (head given : List ℕ) → IsHead head → length given < length_t
 is_cut head given is less =
     let told = told_kept head given (let z = is.0 in omega arith) in
     inr (rw told is.1, rw told is.2, rw told (let z = is.0 in omega (arith, length-append head given)))
+
+pub within_head : (head given : List ℕ) → IsHead head → length given ≤ length_told head - 4 → IsWithinOne (head ++ given)
+within_head head given is fits =
+    let told = told_kept head given (let z = is.0 in omega arith) in
+    inr (rw told is.1, rw told is.2, rw told (let z = is.0 in let m = is.1 in omega (arith, length-append head given)))
 
 -- ---- the head and what is after it
 
@@ -231,11 +237,83 @@ reads_joined {R} {gives} first second third s t u head given all less fewer one 
     subst (λ l. AreReads gives (first - third) s l u) (sym is)
     (subst (λ n. AreReads gives n s (head ++ given) u) together (reads_append (first - second) (second - third) s t u head given one two))
 
+-- the reads of a room that was not filled, or was
+pub found_end : {R : Type 0} {gives : R → Option (List ℕ) → R → Type 0} {size turns : ℕ} {old new : R} {bytes : List ℕ} → length bytes < size
+    → FillsRoom gives size turns old bytes new → ReadsUntil gives turns old bytes (Some []) new
+found_end {R} {gives} {size} {turns} {old} {new} {bytes} less (inl (full, reads)) = absurd (omega (arith, less, full))
+found_end {R} {gives} {size} {turns} {old} {new} {bytes} less (inr (few, until)) = until
+
+pub filled_room : {R : Type 0} {gives : R → Option (List ℕ) → R → Type 0} {size turns : ℕ} {old new : R} {bytes : List ℕ} → length bytes ≡ size
+    → FillsRoom gives size turns old bytes new → AreReads gives turns old bytes new
+filled_room {R} {gives} {size} {turns} {old} {new} {bytes} full (inl (is, reads)) = reads
+filled_room {R} {gives} {size} {turns} {old} {new} {bytes} full (inr (few, until)) = absurd (omega (arith, few, full))
+
 module _ {R : Type 0} (state : R → Reader) (gives : R → Option (List ℕ) → R → Type 0) where
+  -- what the reader gave of a part of a document, of which so many bytes are missing after the head, and why it gave no more
+  module _ (head : List ℕ) (size : ℕ) (before : DocBuffer) (limits : Limits) (old new : R)
+      (room : limits.bytes + length head ≡ before.left.bytes) (turns : limits.turns ≡ before.left.turns)
+      (cut : (given : List ℕ) → length given < size → IsCut (head ++ given))
+      (within : (given : List ℕ) → length given ≤ size → IsWithinOne (head ++ given)) where
+    pub record Gave (fault : ReadFault) : Type 0 where
+      pub given : List ℕ
+      pub gave : Consumes (state old).left (state new).left given
+      pub reason : IsReason state gives before old new head given (faults.Read fault)
+
+    pub gave_before : (fault : ReadFault) → FailsToFill gives state limits size old new fault
+        → (fault ≡ reads.Device → (state new).failures ≡ after_more (state old).failures 1)
+        → (¬ (fault ≡ reads.Device) → (state new).failures ≡ (state old).failures)
+        → (fault ≡ reads.TooManyTurns → (state new).calls ≡ after_more (state old).calls limits.turns) → Gave fault
+    gave_before reads.Device (n, given, most, until, gave, less, short) failed well called = record {
+      given = given;
+      gave = gave;
+      reason = (cut given less, omega (arith, room, short, length-append head given), failed refl, (n, until));
+    }
+    gave_before reads.TooLong (n, given, last, most, until, gave, short, long, fits) failed well called = record {
+      given = given ++ last;
+      gave = gave;
+      reason = (
+        given,
+        last,
+        refl,
+        cut given (let some : 0 < length last = omega (arith, short, long) in omega (arith, some, fits)),
+        omega (arith, room, short, length-append head given),
+        omega (arith, room, long, length-append head given),
+        within (given ++ last) (omega (arith, fits, length-append given last)),
+        well (λ e. absurd cc),
+        (n, until),
+      );
+    }
+    gave_before reads.TooManyTurns (given, each, gave, less, short) failed well called = record {
+      given = given;
+      gave = gave;
+      reason = (
+        cut given less,
+        omega (arith, room, short, length-append head given),
+        subst (λ n. AreReads gives n old given new) turns each,
+        called refl ∙ ap (λ n. after_more (state old).calls n) turns,
+        well (λ e. absurd cc),
+      );
+    }
+    gave_before reads.NoMemory never failed well called = absurd never
+
   -- the head was read, and the rest was not
   module _ (head : List ℕ) (before mid after : DocBuffer) (old middle new : R) (gave : Consumes (state old).left (state middle).left head)
       (read : AreReads gives (before.left.turns - mid.left.turns) old head middle) (counted : CountsReads before mid (over state old middle))
       (well : (state middle).failures ≡ (state old).failures) (kept : HoldsNone before mid) (same : length mid.buffer.items ≡ length before.buffer.items) where
+    until_after : (turns : ℕ) (given : List ℕ) (answer : Option (List ℕ)) → ReadsUntil gives turns middle given answer new
+        → ReadsUntil gives (suc ((before.left.turns - mid.left.turns) + pred turns)) old (head ++ given) answer new
+    until_after turns given answer (n, last, is, reads, ends) = (
+      (before.left.turns - mid.left.turns) + n,
+      last,
+      ap (λ m. suc ((before.left.turns - mid.left.turns) + pred m)) is,
+      reads_append _ _ old middle last head given read reads,
+      ends,
+    )
+
+    stops_after : (given : List ℕ) → ReadsToFault gives head middle given new → ReadsToFault gives [] old (head ++ given) new
+    stops_after given (turns, inl (cut, until)) = (_, inl (cut, until_after turns given (Some []) until))
+    stops_after given (turns, inr (four, reads)) = (_, inr (four, reads_append _ _ old middle new head given read reads))
+
     reason_after : (given : List ℕ) (fault : DocFault) → IsReason state gives mid middle new head given fault → IsReason state gives before old new [] (head ++ given) fault
     reason_after given (faults.Frame f) is = (
       is.0 ∙ kept.offset,
@@ -245,8 +323,10 @@ module _ {R : Type 0} (state : R → Reader) (gives : R → Option (List ℕ) �
       rw kept.room at is.4,
       is.5 ∙ well,
       is.6,
+      stops_after given is.7,
     )
-    reason_after given (faults.Read reads.Device) is = (is.0, rw kept.room at is.1, is.2 ∙ ap (λ n. after_more n 1) well)
+    reason_after given (faults.Read reads.Device) is =
+        (is.0, rw kept.room at is.1, is.2 ∙ ap (λ n. after_more n 1) well, (_, until_after _ given None is.3.1))
     reason_after given (faults.Read reads.TooLong) is = (
       head ++ is.0,
       is.1,
@@ -256,6 +336,7 @@ module _ {R : Type 0} (state : R → Reader) (gives : R → Option (List ℕ) �
       rw kept.room at is.5,
       is.6,
       is.7 ∙ well,
+      (_, until_after _ is.0 (Some is.1) is.8.1),
     )
     reason_after given (faults.Read reads.TooManyTurns) is = (
       is.0,
@@ -265,7 +346,8 @@ module _ {R : Type 0} (state : R → Reader) (gives : R → Option (List ℕ) �
       let c = counted.0 in let d = counted.1 in let e = is.3 in search rules,
       is.4 ∙ well,
     )
-    reason_after given (faults.Read reads.NoMemory) is = (is.0, rw kept.room at is.1, is.2 ∙ well, is.3)
+    reason_after given (faults.Read reads.NoMemory) is =
+        (is.0, rw kept.room at is.1, is.2 ∙ well, is.3, (_, reads_append _ _ old middle new head given read is.4.1))
     reason_after given faults.Failed is = is
 
     pub fails_after : (fault : DocFault) → FailsToRead state gives head mid after middle new fault → FailsToRead state gives [] before after old new fault

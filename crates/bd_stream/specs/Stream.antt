@@ -1,9 +1,9 @@
 -- Documents that a device gives one after the other, by the lengths that they begin with.
-use Rattle.std.specs.Prelude.{◌≡◌, ◌<◌, ◌≤◌, ◌+◌, ◌-◌, ◌⊎◌, ℕ, List, [], ◌∷◌, ◌++◌, length, take, Option, Some, None}
+use Rattle.std.specs.Prelude.{◌≡◌, ◌<◌, ◌≤◌, ◌+◌, ◌-◌, ◌⊎◌, ℕ, List, [], ◌∷◌, ◌++◌, length, take, Option, Some, None, suc}
 use Rattle.std.specs.Prelude.{Result, Ok, Err, IfSome, IsTrue, false}
 use Rattle.std.specs.Io.KnownBytes.{Consumes, IsAtEnd}
 use Rattle.bd_value.specs.Limits.{longest_document}
-use Rattle.bd_device.specs.{Devices.after_more, Devices.AreReads, Devices.Over, Devices.Reader, Devices.over}
+use Rattle.bd_device.specs.{Devices.after_more, Devices.AreReads, Devices.Over, Devices.Reader, Devices.ReadsUntil, Devices.over}
 use Rattle.bd_device.specs.declared.reading.ReadFault.{ReadFault}
 use Rattle.bd_check.specs.{Dump.frame_length, Dump.length_told, declared.fault.FaultKind.FaultKind}
 use Rattle.bd_stream.specs.declared.{doc_buffer.DocBuffer.DocBuffer, doc_buffer.DocFault.DocFault}
@@ -63,18 +63,26 @@ pub record HoldsNone (before after : DocBuffer) : Type 0 where
   pub room : after.left.bytes ≡ before.left.bytes
   pub empty : after.size ≡ 0
 
+-- the reads after this head of a document: the end was found inside it,
+-- or the head is a length that is bad, after which there is no other read
+abbrev pub ReadsToFault : {R : Type 0} → (R → Option (List ℕ) → R → Type 0) → List ℕ → R → List ℕ → R → Type 0
+ReadsToFault gives head old given new = (turns : ℕ)
+    × ((IsCut (head ++ given) × ReadsUntil gives turns old given (Some []) new)
+    ⊎ ((length (head ++ given) ≡ 4) × AreReads gives turns old given new))
+
 -- of a reader, of which this is told, and whose read may give these bytes, or fail, and leave this reader
 module _ {R : Type 0} (state : R → Reader) where
-  -- there is no next document
-  pub record FindsEnd (before after : DocBuffer) (old new : R) : Type 0 where
-    pub kept : HoldsNone before after
-    pub end : IsAtEnd (state new).left
-    pub gave : Consumes (state old).left (state new).left []
-    pub counted : CountsReads before after (over state old new)
-    pub well : (state new).failures ≡ (state old).failures
-    pub grown : length after.buffer.items ≡ length before.buffer.items
-
   module _ (gives : R → Option (List ℕ) → R → Type 0) where
+    -- there is no next document, as one read says
+    pub record FindsEnd (before after : DocBuffer) (old new : R) : Type 0 where
+      pub kept : HoldsNone before after
+      pub end : IsAtEnd (state new).left
+      pub gave : Consumes (state old).left (state new).left []
+      pub one : (before.left.turns ≡ suc after.left.turns) × gives old (Some []) new
+      pub counted : CountsReads before after (over state old new)
+      pub well : (state new).failures ≡ (state old).failures
+      pub grown : length after.buffer.items ≡ length before.buffer.items
+
     -- the next document was read, and no byte after it
     pub record ReadsDocument (before after : DocBuffer) (old new : R) : Type 0 where
       pub frame : IsFrame (held_bytes after)
@@ -87,21 +95,24 @@ module _ {R : Type 0} (state : R → Reader) where
       pub well : (state new).failures ≡ (state old).failures
       pub grown : HoldsAsMuch (length before.buffer.items) (length after.buffer.items) after.size
 
-    -- why a document was not read, of which the reader gave these bytes after its head; memory is wanted once the four
+    -- why a document was not read, of which the reader gave these bytes after its head; memory is needed once the four
     -- bytes of its length were read, and none is read after them;
-    -- of a length that is none no byte is read past what it counts
+    -- of a bad length no byte is read past what it counts
     abbrev pub IsReason : DocBuffer → R → R → List ℕ → List ℕ → DocFault → Type 0
     IsReason before old new head given (DocFault.Frame f) =
         (f.offset ≡ before.place) × (f.document ≡ before.number) × HasNoFrame head (state old).left f.kind
         × (frame_length (head ++ given) ≡ Err f.kind) × (length (head ++ given) ≤ before.left.bytes)
         × ((state new).failures ≡ (state old).failures) × IsWithinOne (head ++ given)
+        × ReadsToFault gives head old given new
     IsReason before old new head given (DocFault.Read ReadFault.Device) =
         IsCut (head ++ given) × (length (head ++ given) ≤ before.left.bytes)
         × ((state new).failures ≡ after_more (state old).failures 1)
+        × ((turns : ℕ) × ReadsUntil gives turns old given None new)
     IsReason before old new head given (DocFault.Read ReadFault.TooLong) =
         (front : List ℕ) × (last : List ℕ) × (given ≡ front ++ last) × IsCut (head ++ front)
         × (length (head ++ front) ≤ before.left.bytes) × (before.left.bytes < length (head ++ front) + length last)
         × IsWithinOne (head ++ given) × ((state new).failures ≡ (state old).failures)
+        × ((turns : ℕ) × ReadsUntil gives turns old front (Some last) new)
     IsReason before old new head given (DocFault.Read ReadFault.TooManyTurns) =
         IsCut (head ++ given) × (length (head ++ given) ≤ before.left.bytes)
         × AreReads gives before.left.turns old given new
@@ -109,7 +120,7 @@ module _ {R : Type 0} (state : R → Reader) where
         × ((state new).failures ≡ (state old).failures)
     IsReason before old new head given (DocFault.Read ReadFault.NoMemory) = IsCut (head ++ given)
         × (length (head ++ given) ≤ before.left.bytes) × ((state new).failures ≡ (state old).failures)
-        × (length (head ++ given) ≡ 4)
+        × (length (head ++ given) ≡ 4) × ((turns : ℕ) × AreReads gives turns old given new)
     IsReason before old new head given DocFault.Failed = ⊥
 
     -- the rest of a document that begins with this head was not read, since the reader gave only these bytes

@@ -110,7 +110,7 @@ impl DocBuffer {
     #[inline(always)]
     pub fn read_next<R: Input>(&mut self, reader: &mut R) -> Result<bool, DocFault>
         ensures reads { result ≡ Ok true → ReadsDocument R.state R.read_gives self.old self.new reader.old reader.new }
-        ensures end { result ≡ Ok false → FindsEnd R.state self.old self.new reader.old reader.new }
+        ensures end { result ≡ Ok false → FindsEnd R.state R.read_gives self.old self.new reader.old reader.new }
         ensures fails { self.old.failed ≡ false →
             IfErr result (FailsToRead R.state R.read_gives [] self.old self.new reader.old reader.new) }
         // After a fault, and only then, the call is refused, and reads nothing.
@@ -159,7 +159,7 @@ impl DocBuffer {
     fn advance<R: Input>(&mut self, reader: &mut R) -> Result<bool, DocFault>
         requires works { self.old.failed ≡ false }
         ensures reads { result ≡ Ok true → ReadsDocument R.state R.read_gives self.old self.new reader.old reader.new }
-        ensures end { result ≡ Ok false → FindsEnd R.state self.old self.new reader.old reader.new }
+        ensures end { result ≡ Ok false → FindsEnd R.state R.read_gives self.old self.new reader.old reader.new }
         ensures fails { IfErr result (FailsToRead R.state R.read_gives [] self.old self.new reader.old reader.new) }
         ensures state { self.new.failed ≡ self.old.failed }
     {
@@ -181,7 +181,7 @@ impl DocBuffer {
             AreReads R.read_gives (self.old.left.turns - self.new.left.turns) reader.old head reader.new)) }
         ensures counted { OnOk result (CountsReads self.old self.new (over R.state reader.old reader.new)) }
         ensures well { OnOk result ((R.state reader.new).failures ≡ (R.state reader.old).failures) }
-        ensures end { result ≡ Ok None → FindsEnd R.state self.old self.new reader.old reader.new }
+        ensures end { result ≡ Ok None → FindsEnd R.state R.read_gives self.old self.new reader.old reader.new }
         ensures fails { IfErr result (FailsToRead R.state R.read_gives [] self.old self.new reader.old reader.new) }
     {
         let mut head = [0; 4];

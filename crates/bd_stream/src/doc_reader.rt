@@ -83,7 +83,7 @@ impl<R: Input + Drop> DocReader<R> {
     pub fn advance(&mut self) -> Result<bool, DocFault>
         ensures reads { result ≡ Ok true →
             ReadsDocument R.state R.read_gives self.old.documents self.new.documents self.old.reader self.new.reader }
-        ensures end { result ≡ Ok false → FindsEnd R.state self.old.documents self.new.documents self.old.reader self.new.reader }
+        ensures end { result ≡ Ok false → FindsEnd R.state R.read_gives self.old.documents self.new.documents self.old.reader self.new.reader }
         ensures fails { self.old.documents.failed ≡ false → IfErr result
             (FailsToRead R.state R.read_gives [] self.old.documents self.new.documents self.old.reader self.new.reader) }
         ensures refused { (result ≡ Err DocFault.Failed) ↔ IsTrue self.old.documents.failed }

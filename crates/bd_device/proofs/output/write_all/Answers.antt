@@ -1,4 +1,4 @@
-use Rattle.std.proofs.Common.{rules, [], ◌++◌, ◌<◌, take, refl}
+use Rattle.std.proofs.Common.{rules, arith, ap, sym, ◌∙◌, [], ◌++◌, ◌<◌, ◌≡◌, take, refl, length, length-append}
 use Rattle.std.proofs.KnownBytes.{Appends-nil, Appends-trans}
 use Rattle.bd_device.specs.Devices.{no_write}
 use Rattle.bd_device.proofs.DevicesLemmas.{writes_more, append-moves}
@@ -8,6 +8,7 @@ pub loop-rest-init : goal.loop-rest-init
 loop-rest-init g c = record {
   appended = ([], refl, Appends-nil _);
   writes = no_write _;
+  silent = λ e. refl;
   well = refl;
 }
 
@@ -20,5 +21,8 @@ loop-rest-preserved g c =
     record {
       appended = (done ++ take n rest, append-moves _ done rest n split, Appends-trans _ _ _ _ _ appended c.in_ok-n.ensures.bytes);
       writes = writes_more _ _ _ rest n c.loop-rest.invariant.writes c.in_ok-n.ensures.takes some;
+      silent = λ e.
+          let none : 0 ≡ length (done ++ rest) = ap length (sym e ∙ split) in
+          let within = c.in_ok-n.ensures.within in absurd (omega (arith, none, some, within, length-append done rest));
       well = search rules;
     }

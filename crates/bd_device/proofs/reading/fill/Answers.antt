@@ -1,4 +1,4 @@
-use Rattle.std.proofs.Common.{rules, refl, sym, inl, ap, ◌∙◌, arith, ◌<◌, ◌≡◌, ◌-◌, [], length, take, length-take-le}
+use Rattle.std.proofs.Common.{rules, refl, sym, inl, ap, ◌∙◌, add-one, arith, ◌<◌, ◌≡◌, ◌-◌, ◌+◌, [], length, take, length-take-le}
 use Rattle.std.proofs.{KnownBytes.Consumes-trans, Math.Seq.take-length}
 use Rattle.bd_device.specs.Devices.{no_read}
 use Rattle.bd_device.proofs.DevicesLemmas.{Consumes-more, reads_more, grown}
@@ -51,9 +51,25 @@ returns-then-limits-bytes-clause-unfilled g c =
     let l = c.loop-bytes in
     let size : length (take l.bytes l.room) ≡ l.bytes = length-take-le l.bytes l.room l.invariant.fits in
     let last : length (take c.in-Ok.n c.read.new.room) ≡ c.in-Ok.n = length-take-le c.in-Ok.n c.read.new.room c.in-Ok.ensures.within in (
+      l.turns + 1,
       take l.bytes l.room,
       take c.in-Ok.n c.read.new.room,
+      search rules,
+      (l.turns, l.reader, add-one l.turns, l.invariant.reads, c.in-Ok.ensures.gives),
       Consumes-trans _ _ _ _ _ l.invariant.consumed c.in-Ok.ensures.bytes.0,
+      search rules,
+      search rules,
+      search rules,
+    )
+
+pub returns-in_default-clause-unfilled : goal.returns-in_default-clause-unfilled
+returns-in_default-clause-unfilled g c =
+    let l = c.loop-bytes in
+    let size : length (take l.bytes l.room) ≡ l.bytes = length-take-le l.bytes l.room l.invariant.fits in (
+      l.turns + 1,
+      take l.bytes l.room,
+      search rules,
+      (l.turns, l.reader, add-one l.turns, l.invariant.reads, search rules),
       search rules,
       search rules,
       search rules,

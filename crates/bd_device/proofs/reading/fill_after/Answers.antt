@@ -16,8 +16,7 @@ returns-clause-gives g c =
       rw asked at reads,
     ))
 
-pub returns-clause-too_many : goal.returns-clause-too_many
-returns-clause-too_many g c is =
+pub returns-clause-unfilled : goal.returns-clause-unfilled
+returns-clause-unfilled g c =
     let asked : length (take (c.args.size - 4) (drop 4 (c.copy_from_slice.new.self ++ drop 4 c.args.room.now))) ≡ c.args.size - 4 = search rules in
-    let reads = c.fill.ensures.too_many is in
-    (reads.0, reads.1, rw asked at reads.2, reads.3, reads.4)
+    rw asked at c.fill.ensures.unfilled

@@ -2,6 +2,7 @@ use Rattle.std.proofs.Common.{rules, arith, ◌≡◌, ◌+◌, [], Some, None, 
 use Rattle.std.proofs.lemmas.Result.{err_from_is_err_and}
 use Rattle.bd_value.specs.Tree.{pairs_in}
 use Rattle.bd_check.specs.{Fault.fault_view, FirstFault.first_fault}
+use Rattle.bd_device.specs.Devices.{no_read}
 use Rattle.bd_raw.specs.Sound.{stands}
 use Rattle.bd_files.proofs.WalkLemmas as walks
 use Rattle.bd_files.proofs.dump_and_check.walk_documents.Goals as goal
@@ -11,6 +12,7 @@ loop-alloc-init g c = record {
   so_far = walks.begins g.V.Visitor.texts (g.R.Input.state c.args.input.now) (g.O.Output.state c.args.out.now) c.new-buffer.result
       (search rules) (search rules) (search rules) (search rules);
   works = search rules;
+  read = (0, [], no_read _);
 }
 
 pub loop-alloc-preserved-in_ok-visit-in-Ok : goal.loop-alloc-preserved-in_ok-visit-in-Ok
@@ -22,6 +24,7 @@ loop-alloc-preserved-in_ok-visit-in-Ok g c =
       so_far = walks.goes_on l.invariant.so_far (g.O.Output.state c.visit.new.out) None (g.V.Visitor.texts.good d) l.bad read
           (d, c.in-Ok.ensures.spelled, refl) (omega arith) c.in_ok-visit-in-Ok.ensures;
       works = search rules;
+      read = walks.read_document l.invariant.read (c.read_next.ensures.reads (search rules));
     }
 
 pub returns-in_err-visit-in-Ok-clause-stops : goal.returns-in_err-visit-in-Ok-clause-stops
@@ -74,6 +77,7 @@ loop-alloc-preserved g c =
       so_far = walks.goes_on l.invariant.so_far (g.O.Output.state c.meet.new.out) (Some (fault_view fault)) met.0 (l.bad + 1) read
           (rw c.place-base.ensures at f.0, met.1) (omega arith) met.2;
       works = search rules;
+      read = walks.read_document l.invariant.read (c.read_next.ensures.reads (search rules));
     }
 
 pub returns-in-Ok-false-clause-walks : goal.returns-in-Ok-false-clause-walks
@@ -117,3 +121,30 @@ returns-in-Err-Read-clause-walks g c =
     let l = c.loop-alloc in
     let e = c.in-Err-Read in
     rw c.number-count.ensures (walks.ends_unread l.invariant.so_far e.fault (search rules) (rw e.field-0-is at (e.ensures.fails l.invariant.works)))
+
+pub returns-in_err-visit-in-Ok-clause-further : goal.returns-in_err-visit-in-Ok-clause-further
+returns-in_err-visit-in-Ok-clause-further g c = walks.reads_so_far (walks.read_document c.loop-alloc.invariant.read (c.read_next.ensures.reads (search rules)))
+
+pub returns-then-is_want_of_memory-clause-further : goal.returns-then-is_want_of_memory-clause-further
+returns-then-is_want_of_memory-clause-further g c = walks.reads_so_far (walks.read_document c.loop-alloc.invariant.read (c.read_next.ensures.reads (search rules)))
+
+pub returns-in_err-meet-in-Err-clause-further : goal.returns-in_err-meet-in-Err-clause-further
+returns-in_err-meet-in-Err-clause-further g c = walks.reads_so_far (walks.read_document c.loop-alloc.invariant.read (c.read_next.ensures.reads (search rules)))
+
+pub returns-then-not-branch-clause-further : goal.returns-then-not-branch-clause-further
+returns-then-not-branch-clause-further g c = walks.reads_so_far (walks.read_document c.loop-alloc.invariant.read (c.read_next.ensures.reads (search rules)))
+
+pub returns-in-Ok-false-clause-further : goal.returns-in-Ok-false-clause-further
+returns-in-Ok-false-clause-further g c = walks.read_to_the_end c.loop-alloc.invariant.read (c.read_next.ensures.end (search rules))
+
+pub returns-in-Err-Frame-clause-further : goal.returns-in-Err-Frame-clause-further
+returns-in-Err-Frame-clause-further g c = walks.read_to_a_fault c.loop-alloc.invariant.read _ (c.in-Err-Frame.ensures.fails c.loop-alloc.invariant.works)
+
+pub returns-in_err-_goes_on-in-Err-Frame-clause-further : goal.returns-in_err-_goes_on-in-Err-Frame-clause-further
+returns-in_err-_goes_on-in-Err-Frame-clause-further g c = walks.read_to_a_fault c.loop-alloc.invariant.read _ (c.in-Err-Frame.ensures.fails c.loop-alloc.invariant.works)
+
+pub returns-in-Err-Read-NoMemory-clause-further : goal.returns-in-Err-Read-NoMemory-clause-further
+returns-in-Err-Read-NoMemory-clause-further g c = walks.read_to_a_fault c.loop-alloc.invariant.read _ (c.in-Err-Read-NoMemory.ensures.fails c.loop-alloc.invariant.works)
+
+pub returns-in-Err-Read-clause-further : goal.returns-in-Err-Read-clause-further
+returns-in-Err-Read-clause-further g c = walks.read_to_a_fault c.loop-alloc.invariant.read _ (c.in-Err-Read.ensures.fails c.loop-alloc.invariant.works)

@@ -1,16 +1,16 @@
-use Rattle.std.proofs.Common.{ℕ, List, ◌++◌, Option, decimal}
+use Rattle.std.proofs.Common.{ℕ, List, ◌++◌, Option, codes, decimal, [], ◌∷◌}
 use Rattle.std.specs.Prelude.{option_map}
 use Rattle.bd_device.specs.{Devices.read_words, declared.reading.ReadFault.ReadFault}
 use Rattle.bd_files.specs.Output.{wrong_line}
-use Rattle.bd_files.specs.declared.dump_and_check.TheConstants.{DOCUMENTS, FAULTY}
-use Rattle.bd_files.proofs.OutputLemmas.{breaks_first, on_err, second_err, second_ok}
+use Rattle.bd_device.proofs.DevicesLemmas.{breaks_first}
+use Rattle.bd_files.proofs.OutputLemmas.{on_err, second_err, second_ok}
 use Rattle.bd_files.proofs.dump_and_check.write_findings.Goals as goal
 
 abbrev first : Option ReadFault → ℕ → List ℕ
-first unread documents = wrong_line (option_map read_words unread) ++ (decimal documents ++ DOCUMENTS.now)
+first unread documents = wrong_line (option_map read_words unread) ++ (decimal documents ++ codes " documents, ")
 
 abbrev second : ℕ → List ℕ
-second faulty = decimal faulty ++ FAULTY.now
+second faulty = decimal faulty ++ (codes " faulty" ++ 10 ∷ [])
 
 pub returns-in_err-write_end-clause-err : goal.returns-in_err-write_end-clause-err
 returns-in_err-write_end-clause-err g c =

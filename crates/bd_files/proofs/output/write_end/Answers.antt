@@ -1,6 +1,7 @@
 use Rattle.std.proofs.Common.{◌++◌, decimal}
 use Rattle.bd_files.specs.Output.{error_line}
-use Rattle.bd_files.proofs.OutputLemmas.{breaks_first, on_err, second_err}
+use Rattle.bd_device.proofs.DevicesLemmas.{breaks_first}
+use Rattle.bd_files.proofs.OutputLemmas.{on_err, second_err}
 use Rattle.bd_files.proofs.output.write_end.Goals as goal
 
 pub returns-in_err-write_error-in-Some-clause-err : goal.returns-in_err-write_error-in-Some-clause-err

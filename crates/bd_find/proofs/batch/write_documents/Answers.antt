@@ -6,7 +6,8 @@ use Rattle.bd_raw.specs.Sound.{stands}
 use Rattle.bd_bson.specs.{Collection.documents, Collection.documents_at}
 use Rattle.bd_text.specs.Text.{text}
 use Rattle.bd_files.specs.Output.{lines}
-use Rattle.bd_files.proofs.OutputLemmas.{breaks_piece, front_taken, takes_both}
+use Rattle.bd_device.proofs.DevicesLemmas.{takes_both}
+use Rattle.bd_files.proofs.OutputLemmas.{breaks_piece, front_taken}
 use Rattle.bd_find.proofs.FindLemmas as finds
 use Rattle.bd_find.proofs.batch.write_documents.Goals as goal
 

@@ -1,9 +1,10 @@
-use Rattle.std.proofs.Common.{rules, ◌⊎◌, ◌≡◌, ◌<◌, ◌≤◌, length, take, length-take-le, inl, inr, refl}
+use Rattle.std.proofs.Common.{rules, ◌⊎◌, ◌≡◌, ◌<◌, ◌≤◌, length, take, length-take-le, inl, inr, refl, ap, [], Err}
 use Rattle.std.proofs.lemmas.List.{take_all}
 use Rattle.std.specs.Io.KnownBytes.{Consumes}
 use Rattle.bd_value.specs.Limits.{longest_document}
 use Rattle.bd_check.specs.Dump.{length_told}
-use Rattle.bd_stream.proofs.StreamLemmas.{frame_out, frame_short, has_short_length, has_bad_length}
+use Rattle.std.proofs.lemmas.Result.{err_from_is_err_and}
+use Rattle.bd_stream.proofs.StreamLemmas.{gave_before, filled_room, found_end, frame_out, frame_short, has_short_length, has_bad_length}
 use Rattle.bd_stream.proofs.doc_buffer.DocBuffer.read_length.Goals as goal
 use Rattle.bd_stream.proofs.doc_buffer.DocBuffer.read_length.Goals.{then-length-lt5-via-then-length-lt5, then-length-lt5-via-else-length-lt5+then-length-gt-LONGEST_DOCUMENT}
 
@@ -28,6 +29,7 @@ returns-then-filled-lt4-clause-fails g c =
         search rules,
         search rules,
         inl (search rules),
+        (_, inl (inl (search rules), found_end (search rules) e.reads)),
       );
     }
 
@@ -56,5 +58,23 @@ returns-then-length-lt5-clause-fails g c =
         search rules,
         search rules,
         inl (search rules),
+        (_, inr (size, filled_room size (rw all at e.reads))),
       );
+    }
+
+pub returns-in_err-filled-clause-fails : goal.returns-in_err-filled-clause-fails
+returns-in_err-filled-clause-fails g c =
+    let e = c.in_err-filled.ensures in
+    let old = c.args.self.now in
+    let p = err_from_is_err_and c.from_residual.result c.from_residual.ensures.1 in
+    let r = gave_before g.R.Input.state g.R.Input.read_gives [] 4 old old.left c.args.reader.now c.fill.new.reader
+        (search rules) refl (λ given less. inl less) (λ given fits. inl fits)
+        c.in_err-filled.field-0.0 e.unfilled (λ is. e.failed (ap Err is)) (λ other. e.well (λ is. other cc)) (λ is. e.too_many_calls (ap Err is)) in
+    rw (p.1, p.2) record {
+      given = r.given;
+      gave = r.gave;
+      kept = record { offset = refl; number = refl; room = refl; empty = c.requires.empty };
+      counted = e.turns;
+      grown = inl refl;
+      reason = r.reason;
     }
