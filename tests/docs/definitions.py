@@ -3,7 +3,8 @@
 
 usage: tests/docs/definitions.py     The last line is 'N passed, M failed'. It wants neither the program nor a proof.
 
-- Each name in docs/DEFINITIONS.md is one of a definition or of the code, and each file that it names is there.
+- Each name in docs/DEFINITIONS.md is one of a definition or of the code: of the section's crate, or of one that it stands on.
+  Each file that it names is there.
 - The section of a crate in it names each file of the crate's definitions, and each definition of the crate that the contract of a
   public function cites.
 - The root of each crate names its modules, and each file of specs that it names is there.
@@ -12,6 +13,7 @@ usage: tests/docs/definitions.py     The last line is 'N passed, M failed'. It w
 import re
 import sys
 from collections.abc import Iterator
+from functools import cache
 from pathlib import Path
 
 sys.path.insert(0, str(Path(__file__).resolve().parents[1]))
@@ -21,9 +23,10 @@ from support import ROOT
 CRATES = sorted(it for it in (ROOT / "crates").iterdir() if not it.name.endswith("_tests"))
 DEFINITIONS = ROOT / "docs/DEFINITIONS.md"
 
-# Words in backquotes that are no names of this repository: of the formats, letters of the tables, and names of the toolchain.
+# Words in backquotes that are no names of the code: of the formats, letters of the tables, commands, and names of the toolchain.
 WORDS = {
     *("true", "false", "base64", "subType", "t", "i", "p", "q", "e", "v", "help"),
+    *("dump", "check", "pack", "find", "serve"),
     *("clap", "if_last", "Consumes", "Appends", "IsAtEnd", "ReadConsumes", "WriteAppends"),
 }
 
@@ -34,36 +37,43 @@ CITES_NOTHING = re.compile(r"//.*|\b(?:ensures|requires) \w+(?= \{)|\.\w+")
 CONSTRUCTORS = {"own", "undefined"}
 
 
-def sources(crate: Path, suffix: str) -> Iterator[Path]:
-    folders = ("specs", "proofs") if suffix == ".antt" else ("src",)
-    for folder in folders:
-        yield from sorted((crate / folder).rglob(f"*{suffix}"))
+def sources(crate: Path, suffix: str) -> list[Path]:
+    return sorted((crate / ("specs" if suffix == ".antt" else "src")).rglob(f"*{suffix}"))
 
 
 def text_of(path: Path) -> str:
     return path.read_text(encoding="utf-8")
 
 
-def defined() -> set[str]:
+def defined(crate: Path) -> set[str]:
     """The names of definitions, and of their constructors and fields."""
     names: set[str] = set()
-    for crate in CRATES:
-        for path in sources(crate, ".antt"):
-            text = text_of(path)
-            names.update(re.findall(r"^ *(?:(?:unfoldable|abbrev|mutual|pub|record|data) )*([\w-]+) [^\n]*:", text, re.M))
+    for path in sources(crate, ".antt"):
+        names.update(re.findall(r"^ *(?:(?:unfoldable|abbrev|mutual|pub|record|data) )*([\w-]+) [^\n]*:", text_of(path), re.M))
     return names
 
 
-def coded() -> set[str]:
+def coded(crate: Path) -> set[str]:
     """The names of functions, types, modules, variants, fields and ghost items of the code."""
-    names: set[str] = set()
-    for crate in CRATES:
-        names.add(crate.name)
-        for path in sources(crate, ".rt"):
-            text = text_of(path)
-            names.update(re.findall(r"\b(?:fn|struct|enum|trait|const|type|mod|ensures|requires|ghost) (\w+)", text))
-            names.update(re.findall(r"^ +(?:pub )?(\w+)(?:,|:|\(| \{| = \d+,)", text, re.M))
+    names = {crate.name}
+    for path in sources(crate, ".rt"):
+        text = text_of(path)
+        names.update(re.findall(r"\b(?:fn|struct|enum|trait|const|type|mod|ghost) (\w+)", text))
+        names.update(re.findall(r"^ +(?:pub )?(\w+)(?:,|:|\(| \{| = \d+,)", text, re.M))
     return names
+
+
+def names_from() -> dict[str, set[str]]:
+    """The names that the section of a crate may have: those of the crate, and of all that it stands on."""
+    lines = (line.partition("#")[0].partition(":") for line in text_of(ROOT / "crates.txt").splitlines())
+    below = {name.strip(): under.split() for name, colon, under in lines if colon}
+    own = {it.name: defined(it) | coded(it) for it in CRATES}
+
+    @cache
+    def reached(name: str) -> set[str]:
+        return own.get(name, set()).union(*(reached(it) for it in below.get(name, ())))
+
+    return {name: reached(name) | WORDS for name in own}
 
 
 def signatures(text: str) -> Iterator[tuple[str, str]]:
@@ -118,16 +128,18 @@ def quoted_in(text: str) -> dict[str, None]:
 
 
 def names() -> Iterator[tuple[bool, str]]:
-    there = defined() | coded() | WORDS
+    there = names_from()
     files = [str(path.relative_to(ROOT)) for crate in CRATES for suffix in (".antt", ".rt") for path in sources(crate, suffix)]
     text = text_of(DEFINITIONS)
-    quoted = quoted_in(text)
-    for name in quoted:
+    for name in quoted_in(text):
         if re.fullmatch(r"[\w/]+\.(?:antt|rt)", name):
             yield any(f"/{file}".endswith(f"/{name}") for file in files), f"docs/DEFINITIONS.md names {name}, which is not there"
-        elif re.fullmatch(r"[A-Za-z_][\w-]*", name):
-            yield name in there, f"docs/DEFINITIONS.md names {name}, which is not there"
     sections = {head: quoted_in(body) for head, body in re.findall(r"^## (bd_\w+)(.*?)(?=^## |\Z)", text, re.M | re.S)}
+    for crate, quoted in [("", quoted_in(text.partition("\n## ")[0])), *sections.items()]:
+        for name in quoted:
+            if re.fullmatch(r"[A-Za-z_][\w-]*", name):
+                is_there = name in there[crate] if crate else any(name in it for it in there.values())
+                yield is_there, f"docs/DEFINITIONS.md names {name}{f' of {crate}' if crate else ''}, which is not there"
     for (crate, name), function in sorted(cited().items()):
         if name not in CONSTRUCTORS:
             yield name in sections.get(crate, ()), f"docs/DEFINITIONS.md does not name {name} of {crate}, which a contract cites ({function})"
