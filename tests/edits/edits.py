@@ -12,6 +12,10 @@ In tests/edits/CRATE.edits an edit is a line '# NAME' and the lines of a file of
 A round is a copy of a crate with one edit a function, and one check of it. An edit counts as refused where the line of
 its own function says that its proof fails for a reason of its own. Where it says that a callee is not proved, the edit
 is tried in a later round without that callee's; and each edit that no round refused is tried alone.
+
+An edit is not judged where all that failed is a proof that lacks a name or a case, with the goals beside it for which no
+proof is written, or a `search` that gave up at a limit: a proof may be there that nobody wrote. Such an edit counts neither
+as passed nor as failed. To have it judged, change a value and keep the names, or write the proof that its body would need.
 """
 
 import argparse
@@ -45,14 +49,20 @@ NAME = re.compile(r"(?<![':\w])(?:\w+::)*(\w+)")
 OF_ANOTHER = re.compile(r"it calls|it passes|waits for|which (is|are) not proved|which (has|have) no proof|could not tell")
 # What it says of a body whose form the prover does not take: it says nothing of the contract.
 NOT_COVERED = "the borrow checker does not cover this function yet"
-# A message of a proof that names what the edit took away, or that cites such a proof. As `must_fail` of rt has it, which reads
-# the first line of a message alone: the words may also begin a later line, and a proof of the same file "was rejected".
-MISSING = r"(has no field|is not in scope|has no `)"
+# A message of a proof that names what the edit took away or lacks a case that it added, or that cites such a proof. As `must_fail`
+# of rt has it, which reads the first line of a message alone: the words may also begin a later line, and a proof of the same file
+# "was rejected".
+MISSING = r"(has no field|is not in scope|has no `|no constructor `[^`]*` is in scope|write the cases? `)"
 CITING = r"(was not admitted|which was rejected, (was|were) not checked)"
 BY_NAME = re.compile(rf"(note: )?(\./)?proofs/(.*({MISSING}|{CITING})|(.*\n)+ +{MISSING})")
+# What it says of a goal: some values make it false, or nothing is known.
+IS_FALSE = re.compile(r"allow values at which this goal is false|and the goal fails, at ")
+GAVE_UP = "`search` gave up at one of its limits"
 PLACE = re.compile(r"(?:note: )?(?:\./)?(\S+?):(\d+):\d+:")
 REFUSED, NOT_REFUSED, BAD_EDIT, NOT_TRIED = "refused", "NOT REFUSED", "BAD EDIT", "not tried"
-ONLY_BY_NAME = "refused, but only because a proof names what it took away"
+NO_PROOF_WRITTEN = "not judged, since a proof lacks a name or a case"
+SEARCH_GAVE_UP = "not judged, since `search` gave up"
+NOT_JUDGED = (NO_PROOF_WRITTEN, SEARCH_GAVE_UP)
 
 # rt as a module: it knows how a crate is checked and what says that an edit cannot be read.
 rt = ModuleType("rt")
@@ -62,7 +72,7 @@ rtlib, Crate = rt.rtlib, rt.Crate
 
 
 class Function(NamedTuple):
-    """A function of a source file: the name of its proof, its own in the lines of a check, and its lines, from 1."""
+    """A function of a source file: the name of its proof, its own in the lines of a check, and its lines, from 1, with its attributes."""
 
     # That of a cycle is the proof of all its functions.
     proof: str
@@ -100,10 +110,11 @@ def functions_of(crate: Crate, path: str) -> list[Function]:
             opens = next((it for it in rows if lines[it].endswith("{")), end)
             last = next((it for it in rows if lines[it].strip() == "}"), at)
             within = "::".join([crate.name, *modules_of(crate, path, above), *map(name_of, above), ""])
-            cycle, name = cycle_above(lines, at), within + name_of(lines[at])
+            first = first_attribute(lines, at)
+            cycle, name = cycle_among(lines[first:at]), within + name_of(lines[at])
             # A cycle of functions and methods has its proof beside the functions.
             stems[cycle] = min(stems.get(cycle, within), within, key=len)
-            found.append((cycle, name, path, range(at + 1, last + 2), range(opens + 2, last + 2)))
+            found.append((cycle, name, path, range(first + 1, last + 2), range(opens + 2, last + 2)))
         above = [*above, lines[at]]
     return [Function(f"{stems[it[0]]}+{it[0]}" if it[0] else it[1], *it[1:]) for it in found]
 
@@ -128,13 +139,16 @@ def name_of(line: str) -> str:
     return "".join([name for it in [of_type, outer] for name in NAME.findall(it)[:1]] + given)
 
 
-def cycle_above(lines: list[str], at: int) -> str:
-    """Return the word of #[cycle(..)] among the attributes above an item, or an empty text."""
+def first_attribute(lines: list[str], at: int) -> int:
+    """Return where an item begins with the attributes above it."""
     while at > 0 and lines[at - 1].lstrip().startswith("#["):
         at -= 1
-        if named := re.match(r" *#\[cycle\((\w+)\)\]", lines[at]):
-            return named[1]
-    return ""
+    return at
+
+
+def cycle_among(attributes: list[str]) -> str:
+    """Return the word of #[cycle(..)], or an empty text."""
+    return next((named[1] for named in map(re.compile(r" *#\[cycle\((\w+)\)\]").match, attributes) if named), "")
 
 
 def modules_of(crate: Crate, path: str, above: list[str]) -> list[str]:
@@ -307,8 +321,7 @@ class Trial:
             if why := not_covered(said):
                 self.tell(edit, BAD_EDIT, check.seconds, why)
             elif is_refused(edit, said, check.lines):
-                own = filter(edit.owns_place, messages_of(check.lines))
-                self.tell(edit, ONLY_BY_NAME if are_by_name([*own]) else REFUSED, check.seconds)
+                self.tell(edit, outcome_of([*filter(edit.owns_place, messages_of(check.lines))]), check.seconds)
             else:
                 (blocked if said else alone).append(edit)
         return (blocked, alone) if len(blocked) < len(edits) else ([], edits)
@@ -324,7 +337,7 @@ class Trial:
         elif check.unread:
             outcome, why = BAD_EDIT, check.unread[0]
         elif check.is_refusal():
-            outcome, why = ONLY_BY_NAME if are_by_name(messages_of(check.lines)) else REFUSED, "tried alone"
+            outcome, why = outcome_of(messages_of(check.lines)), "tried alone"
         elif check.status == 0:
             outcome, why = NOT_REFUSED, "the crate is proved with it"
         else:
@@ -358,9 +371,18 @@ def is_refused(edit: Edit | None, said: list[str], lines: list[str]) -> bool:
     return bool(said and own)
 
 
-def are_by_name(messages: list[str]) -> bool:
-    """Whether all that is told is that proofs name what an edit took away."""
-    return bool(messages) and all(map(BY_NAME.match, messages))
+def outcome_of(messages: list[str]) -> str:
+    """Return whether a body that is not proved is refused, or why it is not judged.
+
+    A goal that is false refuses it, and so does a proof that says something else than its goal. Where a proof lacks a name or a
+    case, the body has goals for which no proof is written, and no `search` judges those.
+    """
+    by_name = [it for it in messages if BY_NAME.match(it)]
+    if any(map(IS_FALSE.search, messages)) or any(": error: " in it for it in messages if it not in by_name):
+        return REFUSED
+    if by_name:
+        return NO_PROOF_WRITTEN
+    return SEARCH_GAVE_UP if messages and all(GAVE_UP in it for it in messages) else REFUSED
 
 
 def messages_of(lines: list[str]) -> list[str]:
@@ -417,12 +439,13 @@ def counted(crates: list[Crate]) -> list[str]:
 
 def summed_up(outcomes: dict[str, str], seconds: float) -> int:
     """Print the sums and return the status."""
-    by_name = sum(it == ONLY_BY_NAME for it in outcomes.values())
-    failed = [it for it, outcome in outcomes.items() if outcome not in (REFUSED, ONLY_BY_NAME)]
-    if failed:
-        print(f"FAILED: {' '.join(failed)}")
-    print(f"{by_name} refused only by name; {seconds / max(len(outcomes), 1):.1f} seconds an edit")
-    print(f"{len(outcomes) - len(failed)} passed, {len(failed)} failed")
+    passed, unjudged = ([it for it, outcome in outcomes.items() if outcome in kinds] for kinds in ((REFUSED,), NOT_JUDGED))
+    failed = [it for it in outcomes if it not in passed and it not in unjudged]
+    for name, labels in (("FAILED", failed), ("not judged", unjudged)):
+        if labels:
+            print(f"{name}: {' '.join(labels)}")
+    print(f"{len(unjudged)} not judged; {seconds / max(len(outcomes), 1):.1f} seconds an edit")
+    print(f"{len(passed)} passed, {len(failed)} failed")
     return 1 if failed else 0
 
 
@@ -432,18 +455,29 @@ SELF_TEST = {
     "other_callee": ("src/node.rt", "TreeParts::Items(items),", "TreeParts::Items(&items[..0]),", REFUSED),
     "caller_with_answers": ("src/document.rt", "            if here == name {", "            if (here) == name {", NOT_REFUSED),
     "caller_without_answers": ("src/document.rt", "    depth_of(Tree::Doc(document))", "    (depth_of(Tree::Doc(document)))", NOT_REFUSED),
-    "name_gone": ("src/document.rt", "                scalar_fits(own);", "                let _own = own;", ONLY_BY_NAME),
+    "name_gone": ("src/document.rt", "                scalar_fits(own);", "                let _own = own;", NO_PROOF_WRITTEN),
     "elsewhere": ("src/document.rt", "    text.as_bytes().contains(&0)", "    text.as_bytes().contains(&0) // nothing", NOT_REFUSED),
 }
 
-# What a check tells, and whether it says only that a proof names what is gone.
+# What a check tells of an edit's function, and what that says of the edit.
+LACKS = "./proofs/a/Answers.antt:3:5: error: `returns`: record `A` has no field `b`"
+OPEN = "note: src/a.rt:7:1: it is not proved that what the function ensures holds when it returns (`returns-in-Some`)"
 MESSAGES = [
-    (["./proofs/a/Answers.antt:3:5: error: `returns`: record `A` has no field `b`", "  the fields that can be named here are `c`"], True),
-    (["./proofs/a/Answers.antt:3:5: error: `returns`: record `A`", "  has no field `b`", "  the fields that can be named here are `c`"], True),
-    (["./proofs/a/Answers.antt:3:5: error: `f`: record `A` has no field `b`", "proofs/a/Answers.antt:7:1: error: 2 declarations that depend on `f`, which was rejected, were not checked: g, h"], True),
-    (["./proofs/a/Answers.antt:3:5: error: `returns`: this has type `A`", "  one side has no field", "fn a: not proved", "  has no field `b`"], False),
-    (["./proofs/a/Answers.antt:3:5: error: `returns`: record `A`", "  has no field `b`", "note: src/a.rt:7:1: it is not proved that it holds"], False),
-    (["./proofs/a/Answers.antt:3:5: note: large solution", "fn a: not proved"], False),
+    ([LACKS, "  the fields that can be named here are `c`"], NO_PROOF_WRITTEN),
+    (["./proofs/a/Answers.antt:3:5: error: `returns`: record `A`", "  has no field `b`", "  the fields that can be named here are `c`"], NO_PROOF_WRITTEN),
+    ([LACKS, "proofs/a/Answers.antt:7:1: error: 2 declarations that depend on `f`, which was rejected, were not checked: g, h"], NO_PROOF_WRITTEN),
+    (["./proofs/a/Answers.antt:6:5: error: `returns-in-Ok`: `goal.returns-in-Ok`: module `b.Goals` has no `returns-in-Ok` that can be named from here", OPEN], NO_PROOF_WRITTEN),
+    (["./proofs/a/Answers.antt:7:9: error: module `b.Goals` has no `in-None` that can be named from here (did you mean `in-Some`?)", OPEN], NO_PROOF_WRITTEN),
+    (["./proofs/a/Answers.antt:9:9: error: `returns`: write the case `in-None _ ↦ …`", "  no case of the `elim` covers `in-None _`"], NO_PROOF_WRITTEN),
+    (["./proofs/a/Answers.antt:9:9: error: `returns`: `in-None` is applied to arguments in a pattern, but no constructor `in-None` is in scope"], NO_PROOF_WRITTEN),
+    ([LACKS, f"{OPEN}; {GAVE_UP}"], NO_PROOF_WRITTEN),
+    ([LACKS, f"{OPEN}; the facts known there allow values at which this goal is false"], REFUSED),
+    (["./proofs/a/Answers.antt:3:5: error: `returns`: this has type `A`", "  one side has no field", "fn a: not proved", "  has no field `b`"], REFUSED),
+    ([LACKS, "./proofs/a/Answers.antt:9:5: error: `returns-in-Ok`: as printed, the two types differ"], REFUSED),
+    ([f"{OPEN}; {GAVE_UP}", f"{OPEN}; {GAVE_UP}"], SEARCH_GAVE_UP),
+    ([f"{OPEN}; {GAVE_UP}", OPEN], REFUSED),
+    ([OPEN], REFUSED),
+    (["./proofs/a/Answers.antt:3:5: note: large solution", "fn a: not proved"], REFUSED),
 ]
 
 # What a check tells of a function alone, and whether its edit is refused by it.
@@ -463,7 +497,7 @@ def self_test(crates: list[Crate]) -> int:
     trial = Trial(crate, ["--jobs", "1"])
     trial.run(edits, 1)
     wrong = [it for it, wanted in SELF_TEST.items() if trial.outcomes[f"{crate.name}/{it}"] != wanted[-1]]
-    wrong += [lines[0] for lines, wanted in MESSAGES if are_by_name(messages_of(lines)) != wanted]
+    wrong += [" ".join(lines) for lines, wanted in MESSAGES if outcome_of(messages_of(lines)) != wanted]
     wrong += [line for line, wanted in SAID if is_refused(None, [line], []) != wanted]
     print(f"self-test: {'FAILED: ' + ' '.join(wrong) if wrong or not is_one_round else 'ok'}")
     return 1 if wrong or not is_one_round else 0
