@@ -5,6 +5,7 @@ usage: tests/faults/devices.py     The last line is 'N passed, M failed'.
 
 - Each read of an input fails, of a file and of pipes, with a block a read and with a byte a read: what is shown is that of the
   bytes before, and nothing is read again.
+- Each read finds the end, where the next one would give more, as that of a terminal: nothing is read again.
 - Each write fails, or takes nothing, with a block a write and with a byte a write: what stands is a front of the whole, and
   nothing is written again.
 - All goes well with a byte a read and a byte a write.
@@ -30,8 +31,9 @@ sys.path.insert(0, str(Path(__file__).resolve().parents[1]))
 
 from failing import PATIENCE, PIPE, PROGRAM, Failing, Ran, Tests, await_stop, main
 from growths import BAD, BINARY, DOUBLE, FIVE, FIVE_DUMP, INT32, INT32_LINE, INT64, SEVERAL, STARVED, TALK, USAGE, counted, frames, lines
-from model.answers import digest, token_of
-from model.sessions import request_text
+from model.answers import Dump, digest, token_of
+from model.sessions import Session, request_text
+from model.texts import read_document
 from support import ROOT
 
 # The file of an input, in the words of a run.
@@ -313,6 +315,35 @@ CUTS = {
 }
 
 
+def wrong_end(failing: Failing, way: Way, wanted: Callable[[int], Ran], read: int) -> str | None:
+    """What is wrong where a read finds the end, if anything; None where there are not so many reads."""
+    ran, counts = failing.run(way.words, way.stdin, way.pipe, input=way.descriptor, read=read, error=0, single=SINGLE)
+    reads = counts.reads[way.descriptor]
+    if reads < read:
+        return None
+    if reads > read:
+        return f"it reads on after the end, which is read {read}"
+    return "" if ran == wanted(counts.given[way.descriptor]) else f"read {read}: {ran}"
+
+
+def replied_to(given: int) -> Ran:
+    """The replies to commands, of which the last may be cut."""
+    session = Session(Dump([read_document(b'{"a":[5,7,5]}'), read_document(b'{"a":5}')], SEVERAL))
+    return Ran(0, "".join(f"{session.reply(line)}\n" for line in joined(SESSION)[:given].splitlines()).encode(), b"")
+
+
+def test_ends(tests: Tests, failing: Failing) -> None:
+    """An end of the input, after which a read would give more."""
+    for command, (data, wanted) in CUTS.items():
+        for way in ways(failing, Case(command, [command, FILE], data, wanted(len(data)), commands=EXPLAIN)):
+            results = failing.each(partial(wrong_end, failing, way, wanted))
+            judge(tests, f"{command}, each read of {way.name} finds the end", results, len(data) + 1, len(data) + 1)
+    (failing.room / "several.bson").write_bytes(SEVERAL)
+    data = joined(SESSION)
+    results = failing.each(partial(wrong_end, failing, Way("", ["serve", "several.bson"], data, b"", 0), replied_to))
+    judge(tests, "each read of commands finds the end", results, len(data) + 1, len(data) + 1)
+
+
 def changed(failing: Failing, words: list[str], read: int, size: int, change: Callable[[], object]) -> Ran:
     """A run whose file is changed while the program waits before a read."""
     with failing.started(words, EXPLAIN, input=3, pause=read, single=size) as (run, told):
@@ -477,4 +508,4 @@ def test_too_long(tests: Tests, failing: Failing) -> None:
 
 
 if __name__ == "__main__":
-    sys.exit(main([test_reads, test_commands, test_writes, test_whole, test_changes, test_closed, test_full, test_endless, test_too_long]))
+    sys.exit(main([test_reads, test_commands, test_ends, test_writes, test_whole, test_changes, test_closed, test_full, test_endless, test_too_long]))
