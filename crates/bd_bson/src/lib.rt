@@ -11,26 +11,25 @@
 //! ```
 //!
 //! - `collection`: `Dump`, the documents of a collection in their bytes.
-//! - `collecting`: `read_dump`, which makes one, and laws of documents, of dumps, and of the verdicts on their documents.
+//! - `collecting`: `read_dump`, which makes one.
+//! - `laws`: what is found of each document of a dump.
 #![tactic(auto)]
 
 mod collecting;
 mod collection;
+mod laws;
 
 pub use bd_check::{
-    Fault, FaultKind, Frame, check_document, next_document, next_frame, read_document,
+    Fault, FaultKind, Frame, check_document, dump_or_fault, next_document, next_frame,
+    no_fault_where_spelled, read_document, walks_in_one_way, walks_on,
 };
 pub use bd_device::{
     DeviceFault, FailingWrite, Input, Limits, MemoryInput, MemoryOutput, Output, ReadFault,
     SystemInput, SystemOutput, read_all, write_all,
 };
-pub use bd_raw::{At, Elements, RawDoc, RawValue};
+pub use bd_raw::{At, Elements, RawDoc, RawValue, one_value_stands, spells_one_document};
 pub use bd_stream::{DocBuffer, DocFault, DocReader, FrameFault, RawBytes};
-pub use bd_write::{
-    WriteFault, append_label, append_value, begin_body, end_body, write_document, write_text,
-};
-pub use collecting::{
-    dump_or_fault, judges_as_the_walk, judges_in_turn, no_fault_where_spelled, one_value_stands,
-    read_dump, spells_one_document, walks_in_one_way, walks_on,
-};
+pub use bd_write::{WriteFault, append_label, append_value, begin_body, end_body, write_document};
+pub use collecting::read_dump;
 pub use collection::Dump;
+pub use laws::{judges_as_the_walk, judges_in_turn};

@@ -17,11 +17,14 @@
 //! - `check`: `check_document`, down the values in values, and the documents of a dump in turn.
 //! - `parts`: what holds no other value, and the frames of documents; and elements that one look shows to have no fault.
 //! - `fault`: why bytes are no document, and where.
+//! - `laws`: there is no fault exactly where a document is spelled; bytes are a dump or have one first fault.
 #![tactic(auto)]
 
 mod check;
 mod fault;
+mod laws;
 mod parts;
 
 pub use check::{Frame, check_document, next_document, next_frame, read_document};
 pub use fault::{Fault, FaultKind, frame_fault, want_of_memory};
+pub use laws::{dump_or_fault, no_fault_where_spelled, walks_in_one_way, walks_on};

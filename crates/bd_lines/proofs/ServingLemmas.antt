@@ -2,8 +2,8 @@
 use Rattle.std.proofs.Common.{rules, ◌≡◌, ◌<◌, ◌≤◌, ◌+◌, ℕ, List, [], ◌∷◌, ◌++◌, length, Bool, true, false, cond, Option, refl, sym, ap, ◌∙◌, subst, append_assoc, append-nil, arith, inl, inr}
 use Rattle.std.proofs.Common.{length-append}
 use Rattle.bd_device.proofs.DevicesLemmas.{breaks_after, takes_both, takes_none}
-use Rattle.bd_device.specs.{Devices.after_more, Devices.greatest, declared.reading.Limits.Limits, declared.reading.ReadFault.ReadFault}
-use Rattle.bd_device.specs.Devices.{AreReads, BreaksAfter, BreaksWithin, Reader, TakesText, Writer, between}
+use Rattle.bd_device.specs.{Devices.greatest, declared.reading.Limits.Limits, declared.reading.ReadFault.ReadFault}
+use Rattle.bd_device.specs.Devices.{AreReads, BreaksWithin, Reader, TakesText, Writer, between}
 use Rattle.bd_lines.specs.{declared.serving.ServeFault.ServeFault, declared.line_buffer.LineBuffer.LineBuffer}
 use Rattle.bd_lines.specs.LineBuffer.{FailsToReadLine, FindsNoLine, GivesBeforeLast, GivesBytes, IsCause, IsLazy, ReadsLine, StopsReading, held_after}
 use Rattle.bd_lines.specs.Serving.{IsReadInTime, RepliesInTurn, ServesAll, ServesBefore, StarvesAt, StopsServing, StopsUnread}

@@ -1,9 +1,9 @@
 -- Bytes spell one value at most.
-use Rattle.std.specs.Prelude.{◌≡◌, ◌≢◌, ℕ, suc, ◌+◌, ◌-◌, ◌<◌, ◌^◌, ℤ, Bool, true, false, Option, Some, None, List, []}
-use Rattle.std.specs.Prelude.{◌∷◌, ◌++◌, length, take, drop, FitsSigned, ◌==◌, slice_index_or, if◌then◌else◌}
+use Rattle.std.specs.Prelude.{◌≡◌, ◌≢◌, ℕ, suc, ◌+◌, ◌-◌, ◌<◌, ◌^◌, Bool, true, false, Some, None, List, []}
+use Rattle.std.specs.Prelude.{◌∷◌, ◌++◌, length, take, drop, ◌==◌, slice_index_or, if◌then◌else◌}
 use Rattle.std.specs.{List.AllByRecursion, Coded.Coded-set, Coded.coded_ℕ, Coded.coded_list}
-use Rattle.std.specs.Int.{w32, w64, from_le_bytes, cast_unsigned, cast_signed}
-use Rattle.std.proofs.Common.{refl, sym, ap, ap₂, ◌∙◌, append_assoc, arith, eqb, cond}
+use Rattle.std.specs.Int.{w32, w64, from_le_bytes, cast_unsigned}
+use Rattle.std.proofs.Common.{refl, sym, ap, ap₂, ◌∙◌, append_assoc, arith, eqb}
 use Rattle.std.proofs.{Props.props, lemmas.Bool.Decides.nat_tests, lemmas.Int.ints, lemmas.Int.to_z-of_z}
 use Rattle.std.proofs.lemmas.{List.take_at, List.drop_at, List.length-append}
 use Rattle.std.proofs.lemmas.Nat.{from_le_bytes-to_le_bytes_4, from_le_bytes-to_le_bytes_8}
@@ -16,7 +16,7 @@ use Rattle.bd_value.specs.declared.node.Kind.TheVariants as kinds
 use Rattle.bd_raw.specs.{declared.raw_parts.ElementType.TheVariants.Kept, Sizes.size_of, Sizes.scalar_at}
 use Rattle.bd_raw.specs.Spelling.{type_byte, type_at, holds, number, long, string, data_of, framed, scoped, element}
 use Rattle.bd_raw.specs.Spelling.{IsName, IsText, IsScalar, IsValue, AreFields, AreItems}
-use Rattle.bd_raw.specs.Sizes.{number_of, long_of, zero_at, name_of, after_name, text_of, payload_of}
+use Rattle.bd_raw.specs.Sizes.{number_of, long_of, zero_at, name_of, after_name, text_of}
 
 -- ---- the kind that a type byte tells
 

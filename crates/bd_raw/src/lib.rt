@@ -13,13 +13,16 @@
 //!
 //! - `raw`: the views, and where the next element stands.
 //! - `views`: what is asked of a document and of a value, what a value holds, its elements, and `At`, where it stands.
+//! - `laws`: bytes spell one document at most.
 //! - `raw_parts`: types of elements, and numbers, names, texts and scalars at the front of bytes, read without a check.
 #![tactic(auto)]
 
+mod laws;
 mod raw;
 pub mod raw_parts;
 mod views;
 
+pub use laws::{one_value_stands, spells_one_document};
 pub use raw::{Elements, RawDoc, RawValue};
 pub use raw_parts::{ElementType, Holder, element_type, type_byte};
 pub use views::At;

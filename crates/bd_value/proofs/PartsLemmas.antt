@@ -1,6 +1,6 @@
 -- What a value is made of.
 use Rattle.std.proofs.Common.{◌≡◌, ℕ, ◌+◌, ◌<◌, suc, List, [], ◌∷◌, Some, max, refl, sym, ap, ap₂, ◌∙◌, arith}
-use Rattle.bd_value.specs.Tree.{Tree, leaf, doc, array, code_scope, Doc, fields_of, items_of, fields_of-pairs_of, items_of-list_of, tree_size, fields_size, items_size}
+use Rattle.bd_value.specs.Tree.{Tree, doc, array, code_scope, Doc, fields_of, items_of, fields_of-pairs_of, items_of-list_of, tree_size, fields_size, items_size}
 use Rattle.bd_value.specs.Tree.{own_code, own_of, values_of, scope_of, AreParts, depth, fields_depth, items_depth}
 use Rattle.bd_value.specs.View.{kind_of}
 use Rattle.bd_value.specs.declared.node.Kind.TheVariants as kinds

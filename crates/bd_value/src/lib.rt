@@ -16,11 +16,12 @@
 //! - `document`: `Document` and `Value`, what is asked of them, how deep they nest, copies of any value in memory, and what the
 //!   types of a value in hand promise.
 //! - `node`: `Reading` and `Node`, a value wherever it lies, with its `Kind` and `Scalar`; `Tree`, one in memory.
-//! - `order`: the comparison order, of any two readings, and its laws: `specs/Order.antt`.
+//! - `order`: the comparison order, of any two readings: `specs/Order.antt`; `laws`, its laws.
 //! - `limits`: the limits of documents, inputs, paths, filters and requests, cited by all that keeps to them.
 #![tactic(auto)]
 
 mod document;
+mod laws;
 mod limits;
 mod node;
 mod order;
@@ -29,12 +30,12 @@ pub use document::{
     Document, NoMemory, Value, depth, depth_of, document_fits, has_zero, node_fits, to_document,
     to_value, try_copy, value_fits,
 };
+pub use laws::{
+    equals_have_one_class, numbers_are_one_line, orders_all_values, pairs_compare_in_turn,
+};
 pub use limits::{
     GREATEST_COUNT, LONGEST_COMMAND, LONGEST_DOCUMENT, LONGEST_INPUT, MOST_BRACKETS, MOST_CURSORS,
     MOST_FILTER_LEVELS, MOST_INDEXES, MOST_LEVELS, MOST_NAMES, MOST_READS,
 };
 pub use node::{Class, Kind, Node, Reading, Scalar, Tree, TreeParts};
-pub use order::{
-    class, class_of_kind, class_of_node, compare, compare_nodes, equal, equals_have_one_class,
-    numbers_are_one_line, orders_all_values, pairs_compare_in_turn,
-};
+pub use order::{class, class_of_kind, class_of_node, compare, compare_nodes, equal};

@@ -1,12 +1,10 @@
-//! The comparison order of values, and its laws for a proof that calls it.
+//! The comparison order of values.
 
-ghost use Rattle.std.specs.Prelude.{◌≡◌, ◌⊎◌, ℕ, ℤ, List};
-ghost use Rattle.std.specs.{Cmp.IsTotalOrder, Ordering.int_cmp, Ordering.ordering_then};
+ghost use Rattle.std.specs.Prelude.{◌≡◌};
 ghost use Rattle.std.specs.declared.cmp.Ordering.TheVariants.{Less, Equal, Greater};
-ghost use Rattle.bd_value.specs.Order.{bytes_cmp, class_of, class_of_kind, class_cmp, cmp, equal, fields_cmp, items_cmp, pair_cmp, same_class_cmp};
+ghost use Rattle.bd_value.specs.Order.{class_of, class_of_kind, class_cmp, cmp, equal, fields_cmp, items_cmp, pair_cmp, same_class_cmp};
 ghost use Rattle.bd_value.specs.Order.{rank_cmp, rank_in, rank_view, binary_size, by_bytes, by_number, own_rank};
-ghost use Rattle.bd_value.specs.Tree.{doc, field, fields_of, Fields, int32, int64, items_of, leaf, no_fields, values_of, HoldsNoParts};
-ghost use Rattle.bd_value.specs.Tree as trees;
+ghost use Rattle.bd_value.specs.Tree.{fields_of, items_of, values_of, HoldsNoParts};
 ghost use Rattle.bd_value.specs.View.{tree_of, kind_of, seen};
 ghost use Rattle.bd_value.specs.declared.node.Kind.TheVariants as kinds;
 
@@ -287,27 +285,3 @@ fn compare_ranks(a: Rank<'_>, b: Rank<'_>) -> Ordering
         unequal => unequal,
     }
 }
-
-/// The order is total up to a tie: it goes one way round as the other, and values that are equal stand at one place.
-pub fn orders_all_values()
-    ensures { IsTotalOrder cmp }
-{}
-
-/// Equal values have one class.
-pub fn equals_have_one_class()
-    ensures { (a b : trees.Tree) → cmp a b ≡ Equal → class_of a ≡ class_of b }
-{}
-
-/// Numbers of 32 and of 64 bits are one line of whole numbers.
-pub fn numbers_are_one_line()
-    ensures { (a b : trees.Tree) (m n : ℤ) → (a ≡ leaf (int32 m)) ⊎ (a ≡ leaf (int64 m)) → (b ≡ leaf (int32 n)) ⊎ (b ≡ leaf (int64 n))
-        → cmp a b ≡ int_cmp m n }
-{}
-
-/// Documents compare pair by pair: the class of the value, then the name, then the value; one with no further pair is less.
-pub fn pairs_compare_in_turn()
-    ensures turns { (m n : List ℕ) (a b : trees.Tree) (fs gs : Fields) → cmp (doc (field m a fs)) (doc (field n b gs))
-        ≡ ordering_then (class_cmp a b) (ordering_then (bytes_cmp m n) (ordering_then (cmp a b) (cmp (doc fs) (doc gs)))) }
-    ensures shorter { (name : List ℕ) (t : trees.Tree) (fs : Fields) → cmp (doc no_fields) (doc (field name t fs)) ≡ Less }
-    ensures longer { (name : List ℕ) (t : trees.Tree) (fs : Fields) → cmp (doc (field name t fs)) (doc no_fields) ≡ Greater }
-{}

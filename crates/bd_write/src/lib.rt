@@ -11,14 +11,15 @@
 //! assert!(rt; bytes.as_slice() == b"\x0c\0\0\0\x10a\0\x01\0\0\0\0".as_slice());
 //! ```
 //!
-//! - `write`: `write_document`, a document written in pieces, and the law that what is written of a document spells it.
+//! - `write`: `write_document`, and a document written in pieces.
+//! - `laws`: what is written of a document spells it.
 //! - `writing`: values, scalars and their parts, and why a document is not written.
 #![tactic(auto)]
 
+mod laws;
 mod write;
 mod writing;
 
-pub use write::{
-    append_label, append_value, begin_body, end_body, plainly_spells, write_document, write_text,
-};
+pub use laws::plainly_spells;
+pub use write::{append_label, append_value, begin_body, end_body, write_document};
 pub use writing::WriteFault;

@@ -1,10 +1,10 @@
 //! A document written as bytes: from a tree, or in pieces by a caller that holds none. Each piece is appended whole, or what was
 //! there stays as it was.
 
-ghost use Rattle.std.specs.Prelude.{◌≡◌, ◌≤◌, ◌<◌, ◌↔◌, ◌+◌, ◌++◌, ◌∷◌, [], ℕ, List, length, take, drop, vec_len, true, false, IfOk, IfErr, IsErrOf, OnErr, OnOk, Err};
+ghost use Rattle.std.specs.Prelude.{◌≡◌, ◌≤◌, ◌<◌, ◌↔◌, ◌+◌, ◌++◌, ◌∷◌, [], length, take, drop, vec_len, true, false, IfOk, IfErr, IsErrOf, OnErr, OnOk, Err};
 ghost use Rattle.bd_value.specs.Limits.{longest_document, most_levels};
 ghost use Rattle.bd_value.specs.Tree.{depth as depth_in, HoldsNoParts, Doc, doc, fields_of};
-ghost use Rattle.bd_value.specs.Fits.{Fits, zero_in, zero_in_parts};
+ghost use Rattle.bd_value.specs.Fits.{zero_in, zero_in_parts};
 ghost use Rattle.bd_value.specs.View.{pairs};
 ghost use Rattle.bd_raw.specs.Spelling.{type_byte as byte_of, IsDocument, IsValue, framed, number, string};
 ghost use Rattle.bd_write.specs.TreeBytes.{SpellsPlainly, bytes_of, OverrunsLimit};
@@ -46,12 +46,6 @@ pub fn write_document(alloc: Global, document: &Document) -> Result<Vec<u8>, Wri
     Ok(bytes)
 }
 
-/// A law, whose body is empty: bytes that are plainly a document spell it, by the grammar of BSON: where its numbers have the bits of their types, and its
-/// texts and names are UTF-8, as in any document in memory.
-pub fn plainly_spells()
-    ensures { (d : Doc) (bytes : List ℕ) → Fits (doc (fields_of d)) → SpellsPlainly d bytes → IsDocument d bytes }
-{}
-
 /// Begins a document or an array: its elements come after, and then `end_body` with the place that is answered.
 ///
 /// # Errors
@@ -83,24 +77,6 @@ pub fn append_label(kind: Kind, name: &str, out: &mut Vec<u8>) -> Result<(), Wri
         out.truncate(before);
     }
     label
-}
-
-/// Appends a `string` of BSON 1.1: the length with the zero at the end, the text, the zero.
-///
-/// # Errors
-/// `WriteFault::TooLong` where the text has more than 16,793,600 bytes; `WriteFault::NoMemory`. Both leave `out` as it was.
-#[inline(always)]
-pub fn write_text(text: &str, out: &mut Vec<u8>) -> Result<(), WriteFault>
-    ensures ok { OnOk result ((out.new.items ≡ out.old.items ++ string text.now) × (length text.now ≤ longest_document)) }
-    ensures err { IfErr result (OverrunsLimit (length out.old.items + length (string text.now))) }
-    ensures kept { OnErr result (out.new.items ≡ out.old.items) }
-{
-    let before = out.len();
-    let string = put_text(text, out);
-    if string.is_err() {
-        out.truncate(before);
-    }
-    string
 }
 
 /// Appends the bytes of a value. The names of an array's elements are their places from 0.

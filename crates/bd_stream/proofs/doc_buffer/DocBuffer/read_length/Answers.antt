@@ -68,8 +68,8 @@ returns-in_err-filled-clause-fails g c =
     let old = c.args.self.now in
     let p = err_from_is_err_and c.from_residual.result c.from_residual.ensures.1 in
     let r = gave_before g.R.Input.state g.R.Input.read_gives [] 4 old old.left c.args.reader.now c.fill.new.reader
-        (search rules) refl (λ given less. inl less) (λ given fits. inl fits)
-        c.in_err-filled.field-0.0 e.unfilled (λ is. e.failed (ap Err is)) (λ other. e.well (λ is. other cc)) (λ is. e.too_many_calls (ap Err is)) in
+    (search rules) refl (λ given less. inl less) (λ given fits. inl fits)
+    c.in_err-filled.field-0.0 e.unfilled (λ is. e.failed (ap Err is)) (λ other. e.well (λ is. other cc)) (λ is. e.too_many_calls (ap Err is)) in
     rw (p.1, p.2) record {
       given = r.given;
       gave = r.gave;

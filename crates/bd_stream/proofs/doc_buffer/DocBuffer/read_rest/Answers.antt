@@ -70,13 +70,13 @@ returns-in_err-filled-clause-fails g c =
     let missing : c.from_le_bytes-length.result - 4 ≡ length_told c.args.head - 4 = ap (λ n. n - 4) told in
     let fits : 4 ≤ old.left.bytes = c.requires.length.2 in
     let cut : (given : List ℕ) → length given < c.from_le_bytes-length.result - 4 → IsCut (c.args.head ++ given)
-        = λ given less. is_cut c.args.head given head (omega (arith, less, missing)) in
+    = λ given less. is_cut c.args.head given head (omega (arith, less, missing)) in
     let within : (given : List ℕ) → length given ≤ c.from_le_bytes-length.result - 4 → IsWithinOne (c.args.head ++ given)
-        = λ given most. within_head c.args.head given head (omega (arith, most, missing)) in
+    = λ given most. within_head c.args.head given head (omega (arith, most, missing)) in
     let p = err_from_is_err_and c.from_residual-in_err-filled.result c.from_residual-in_err-filled.ensures.1 in
     let r = gave_before g.R.Input.state g.R.Input.read_gives c.args.head (c.from_le_bytes-length.result - 4) old
-        (record { bytes = old.left.bytes - 4; turns = old.left.turns }) c.args.reader.now c.fill_after.new.reader (omega (arith, size, fits)) refl cut within
-        c.in_err-filled.field-0.0 e.unfilled (λ is. e.failed (ap Err is)) (λ other. e.well (λ is. other cc)) (λ is. e.too_many_calls (ap Err is)) in
+    (record { bytes = old.left.bytes - 4; turns = old.left.turns }) c.args.reader.now c.fill_after.new.reader (omega (arith, size, fits)) refl cut within
+    c.in_err-filled.field-0.0 e.unfilled (λ is. e.failed (ap Err is)) (λ other. e.well (λ is. other cc)) (λ is. e.too_many_calls (ap Err is)) in
     rw (p.1, p.2) record {
       given = r.given;
       gave = r.gave;

@@ -2,7 +2,7 @@ use Rattle.std.proofs.Common.{◌≤◌, ◌⊎◌, ℕ, List, [], length, Optio
 use Rattle.bd_value.specs.{Limits.longest_input, Tree.Doc}
 use Rattle.bd_check.specs.{Fault.Fault, Dump.IsDump, Dump.IsWalk, Dump.FailsAfter}
 use Rattle.bd_check.proofs.DumpLemmas.{walk_once, walk_on}
-use Rattle.bd_bson.proofs.collecting.dump_or_fault.Goals as goal
+use Rattle.bd_check.proofs.laws.dump_or_fault.Goals as goal
 
 of_walk : (ds : List Doc) (end : Option Fault) (bytes : List ℕ) → length bytes ≤ longest_input → IsWalk ds end bytes
     → ((ds : List Doc) × IsDump ds bytes) ⊎ ((ds : List Doc) × (f : Fault) × FailsAfter ds f bytes)

@@ -1,6 +1,6 @@
 use Rattle.std.proofs.Common.{[], refl}
 use Rattle.bd_check.proofs.DumpLemmas.{walk_once, walk_on}
-use Rattle.bd_bson.proofs.collecting.walks_in_one_way.Goals as goal
+use Rattle.bd_check.proofs.laws.walks_in_one_way.Goals as goal
 
 pub returns : goal.returns
 returns c = record {

@@ -1,5 +1,5 @@
 use Rattle.bd_raw.proofs.SoundLemmas.{document_unique}
-use Rattle.bd_bson.proofs.collecting.spells_one_document.Goals as goal
+use Rattle.bd_raw.proofs.laws.spells_one_document.Goals as goal
 
 pub returns : goal.returns
 returns c = document_unique

@@ -1,5 +1,5 @@
 use Rattle.bd_value.proofs.OrderLemmas.{cmp_total}
-use Rattle.bd_value.proofs.order.orders_all_values.Goals as goal
+use Rattle.bd_value.proofs.laws.orders_all_values.Goals as goal
 
 pub returns : goal.returns
 returns c = cmp_total
