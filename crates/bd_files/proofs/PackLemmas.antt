@@ -1,14 +1,14 @@
 -- What `pack` shows is determined, but for the kind and the place of a fault.
 use Rattle.std.proofs.Common.{◌≡◌, ◌≤◌, ◌<◌, ℕ, suc, ◌+◌, List, [], ◌∷◌, ◌++◌, length, take, drop, get_or, Bool, true, false, Option, Some, None, refl, sym, ap, ◌∙◌, subst, append_assoc, append-nil}
 use Rattle.std.proofs.Common.{arith, inl, inr, decimal, Ok, length-append, length-take-le, rules, add-one, Result, Err, ap₂, true≢false}
-use Rattle.std.proofs.{lemmas.Bool.cases_lt, lemmas.Bool.Decides.nat_tests, lemmas.List.Splits.slice_split_at, lemmas.List.Splits.slice_split_none, lemmas.Grind.flat_map-append, Math.Seq.drop-cons}
+use Rattle.std.proofs.{lemmas.Bool.cases_lt, lemmas.Bool.Decides.nat_tests, lemmas.Str.utf8_valid_len_le, lemmas.List.Splits.slice_split_at, lemmas.List.Splits.slice_split_none, lemmas.Grind.flat_map-append, Math.Seq.drop-cons}
 use Rattle.std.proofs.lemmas.List.{get_or-take, get_or_default, take-append-drop}
 use Rattle.std.specs.Prelude.{◌⊎◌, ◌↔◌, ◌==◌, option_map}
-use Rattle.std.specs.List.{All, flat_map}
+use Rattle.std.specs.{List.All, List.flat_map, Str.Lossy.utf8_valid_len}
 use Rattle.bd_value.specs.{Limits.longest_document, Limits.most_reads, Tree.Doc}
 use Rattle.memchr.specs.Find.{IsFirstByte, is_byte}
 use Rattle.bd_extjson.specs.Read.{ReadsAs, reading}
-use Rattle.bd_diagnose.specs.{JsonFault.IsPlaced, declared.json_fault.JsonFault.JsonFault}
+use Rattle.bd_diagnose.specs.{JsonFault.IsPlaced, JsonFault.TellsBadUtf8, declared.json_fault.JsonFault.JsonFault}
 use Rattle.bd_pack.specs.Packable.{plain, IsPackable, IsBad}
 use Rattle.bd_pack.specs.declared.line.LineFault.{LineFault}
 use Rattle.bd_files.specs.{declared.output.OutputFault.OutputFault, declared.output.OutputFault.TheVariants.NoMemory, declared.output.OutputFault.TheVariants.Unwritten, declared.pack.BadLine.BadLine}
@@ -93,9 +93,10 @@ packs_some number (line ∷ lines) = by_blank (is_empty_line line) refl (packs_s
 
     by_reading : (o : Option Doc) → reading line ≡ o → is_empty_line line ≡ false → HasPacking (suc number) lines → HasPacking number (line ∷ lines)
     by_reading None none full rest =
-        let fault : JsonFault = record { kind = kinds.Syntax; at = 0 } in
-        let placed : IsPlaced (length line) fault = record { inside = omega arith; whole = λ e. refl; memory = λ e. refl } in
-        ([], Some (record { number = number; fault = faults.Unread fault }), inr (inr (full, (faults.Unread fault, (λ e. cc, λ d is. cc, placed), refl, refl))))
+        let fault : JsonFault = record { kind = kinds.Syntax; at = utf8_valid_len line } in
+        let placed : IsPlaced (length line) fault = record { inside = utf8_valid_len_le line; whole = λ e. absurd cc; memory = λ e. absurd cc } in
+        let bytes : TellsBadUtf8 line fault = record { kind = λ _. refl; at = λ _. refl } in
+        ([], Some (record { number = number; fault = faults.Unread fault }), inr (inr (full, (faults.Unread fault, (λ e. cc, λ d is. cc, placed, bytes), refl, refl))))
     by_reading (Some d) is full rest = short d full is rest (cases_lt longest_document (length (plain d)))
 
     by_blank : (b : Bool) → is_empty_line line ≡ b → HasPacking (suc number) lines → HasPacking number (line ∷ lines)

@@ -5,7 +5,7 @@ use Rattle.bd_value.specs.{Tree.doc, Tree.fields_of, Fits.has_zero, Fits.zero_in
 use Rattle.bd_write.specs.TreeBytes.{bytes_of}
 use Rattle.bd_wrapper.specs.Wrapper.{wrapper_of}
 use Rattle.bd_extjson.specs.{Read.ReadsAs, Laws.IsPlain}
-use Rattle.bd_diagnose.specs.JsonFault.{IsPlaced}
+use Rattle.bd_diagnose.specs.JsonFault.{IsPlaced, TellsBadUtf8}
 use Rattle.bd_diagnose.specs.declared.json_fault.JsonFaultKind.TheVariants as kinds
 use Rattle.bd_pack.specs.declared.line.LineFault.{LineFault}
 use Rattle.bd_pack.specs.declared.line.LineFault.TheVariants as faults
@@ -18,9 +18,10 @@ plain d = bytes_of (doc (fields_of d))
 abbrev pub IsPackable : List ℕ → Doc → Type 0
 IsPackable line d = ReadsAs line d × (length (plain d) ≤ longest_document)
 
--- a line is no document, or too long; of the fault of one that is none the kind is taken as given
+-- a line is no document, or too long; which fault is told of a text that is UTF-8 is taken as given
 abbrev pub IsBad : List ℕ → LineFault → Type 0
-IsBad line (faults.Unread f) = (f.kind ≢ kinds.NoMemory) × ((d : Doc) → ReadsAs line d → ⊥) × IsPlaced (length line) f
+IsBad line (faults.Unread f) = (f.kind ≢ kinds.NoMemory) × ((d : Doc) → ReadsAs line d → ⊥)
+    × IsPlaced (length line) f × TellsBadUtf8 line f
 IsBad line faults.TooLong = (d : Doc) × ReadsAs line d × (longest_document < length (plain d))
 
 -- a tree, at most so deep, that its canonical text stands for alone: it is read back as the tree
