@@ -1,15 +1,19 @@
 -- One thing is shown of the words of `find` and an input.
-use Rattle.std.proofs.Common.{◌≡◌, ℕ, List, [], Option, Some, None, Result, Ok, Err, codes, refl, sym, ap₂, ◌∙◌, subst, inl, inr, ◌⊎◌, length, arith}
+use Rattle.std.proofs.Common.{◌≡◌, ℕ, List, [], Option, Some, None, Result, Ok, Err, codes, refl, sym, ap, ap₂, ◌∙◌, subst, inl, inr, ◌⊎◌, length}
+use Rattle.std.proofs.lemmas.Str.{utf8_valid_len_le}
+use Rattle.std.specs.Str.Lossy.{utf8_valid_len}
 use Rattle.bd_value.specs.Tree.{Doc}
 use Rattle.bd_device.specs.declared.reading.ReadFault.{ReadFault}
-use Rattle.bd_check.specs.Fault.{Fault}
+use Rattle.bd_check.specs.{Dump.IsWalk, Fault.Fault}
 use Rattle.bd_check.proofs.{FirstFaultLemmas.IsBytes, DumpLemmas.walk_once, DumpLemmas.walk_on}
-use Rattle.bd_diagnose.specs.{JsonFault.IsPlaced, declared.json_fault.JsonFault.JsonFault}
+use Rattle.bd_diagnose.specs.{JsonFault.IsPlaced, JsonFault.TellsBadUtf8, declared.json_fault.JsonFault.JsonFault}
 use Rattle.bd_extjson.specs.Read.{reading}
 use Rattle.bd_command_line.specs.FindWords.{FindWords}
-use Rattle.bd_find.specs.Asking.{AsksInWords, PageRequest, ReadsText, json_fault_text, page_of}
-use Rattle.bd_find.specs.Find.{IsShownByFind, IsShownOf, IsShownOfBytes, shown_of_walk}
-use Rattle.bd_files.specs.Output.{Transcript, shown_refusal}
+use Rattle.bd_path.specs.declared.path.PathFault.{PathFault}
+use Rattle.bd_request.specs.{declared.token.Token.Token, Refused.Reason, Refused.then_part, Refused.told_as, Request.Request, Request.named_index, Request.request_of}
+use Rattle.bd_find.specs.Asking.{AsksInWords, PageRequest, ReadsText, after_part, batch_part, index_fault_text, json_fault_text, page_of, refused_text}
+use Rattle.bd_find.specs.Find.{IsShownByFind, IsShownOf, IsShownOfBytes, documents_shown, shown_of_dump, shown_of_walk}
+use Rattle.bd_files.specs.Output.{Transcript, lines, shown_refusal}
 use Rattle.bd_diagnose.specs.declared.json_fault.JsonFaultKind.TheVariants as kinds
 
 -- ---- what the words ask for
@@ -73,11 +77,54 @@ found_alike words input s t (a, p, e) (b, q, f) = go (asked_alike words a b p q)
         let second : t ≡ shown_refusal o = shows_same b (Err o) input t (shown_refusal o) are f refl in
         rw (first, second) (refl, refl)
 
+-- ---- without a batch and a token all that answers is printed
+
+-- what is asked for has the size and the token of the words
+page_parts : (words : FindWords) (query sort : Doc) (w : PageRequest) → page_of words query sort ≡ Ok w
+    → (w.batch ≡ words.batch) × (after_part words.after ≡ Ok w.token)
+page_parts words query sort w =
+    go (request_of query sort words.skip words.limit) (batch_part words.batch) (named_index words.index) (after_part words.after)
+  where
+    go : (request : Result Request Reason) (batch : Result (Unit {0}) Reason) (index : Result (Unit {0}) PathFault) (after : Result (Option Token) Reason)
+        → then_part (told_as refused_text request) (λ r. then_part (told_as refused_text batch) (λ _. then_part (told_as index_fault_text index) (λ _.
+        then_part (told_as refused_text after) (λ t. Ok (record { request = r; batch = words.batch; token = t }))))) ≡ Ok w
+        → (w.batch ≡ words.batch) × (after ≡ Ok w.token)
+    go (Ok r) (Ok _) (Ok _) (Ok t) e =
+        let page : PageRequest = record { request = r; batch = words.batch; token = t } in
+        let is : page ≡ w = cc in
+        (ap (λ (x : PageRequest). x.batch) (sym is), ap (λ (x : PageRequest). Ok x.token) is)
+    go (Ok r) (Ok b) (Ok i) (Err why) e = absurd (let f : ⊥ = cc in f)
+    go (Ok r) (Ok b) (Err why) after e = absurd (let f : ⊥ = cc in f)
+    go (Ok r) (Err why) index after e = absurd (let f : ⊥ = cc in f)
+    go (Err why) batch index after e = absurd (let f : ⊥ = cc in f)
+
+page_asked : (words : FindWords) (w : PageRequest) → AsksInWords words (Ok w) → (w.batch ≡ words.batch) × (after_part words.after ≡ Ok w.token)
+page_asked words w (inl (m, p, e)) = absurd (let f : ⊥ = cc in f)
+page_asked words w (inr (x, p, inl (m, r, e))) = absurd (let f : ⊥ = cc in f)
+page_asked words w (inr (x, p, inr (v, r, e))) = page_parts words x v w e
+
+printed_of : (w : PageRequest) (ds : List Doc) (bytes : List ℕ) → w.batch ≡ None → w.token ≡ None
+    → (shown_of_dump bytes ds w).out ≡ lines (documents_shown w.request.filter w.request.sorts w.request.skip w.request.limit ds)
+printed_of w ds bytes size token = rw (token, size) refl
+
+pub whole_printed : (words : FindWords) (w : PageRequest) (ds : List Doc) (bytes : List ℕ) (shown : Transcript)
+    → words.batch ≡ None → words.after ≡ None → AsksInWords words (Ok w) → IsWalk ds None bytes → IsShownByFind words (Ok bytes) shown
+    → shown.out ≡ lines (documents_shown w.request.filter w.request.sorts w.request.skip w.request.limit ds)
+whole_printed words w ds bytes shown size after asks walk (a, p, e) =
+    let parts = page_asked words w asks in
+    let token : Ok None ≡ Ok w.token = (rw after at parts.1) in
+    let none : w.token ≡ None = cc in
+    ap (λ (x : Transcript). x.out) (go (asked_alike words (Ok w) a asks p)) ∙ printed_of w ds bytes (parts.0 ∙ size) none
+  where
+    go : AreAlike (Ok w) a → shown ≡ shown_of_dump bytes ds w
+    go (inl same) = shows_once (Ok w) (Ok bytes) shown (shown_of_dump bytes ds w) (subst (λ (x : Result PageRequest (List ℕ)). IsShownOf x (Ok bytes) shown) (sym same) e) (ds, None, walk, refl)
+    go (inr (m, o, is, are)) = absurd (let f : ⊥ = cc in f)
+
 -- ---- something is shown
 
--- any fault that may be told of a text
-abbrev first_byte : JsonFault
-first_byte = record { kind = kinds.Syntax; at = 0 }
+-- a fault that may be told of a text
+abbrev some_fault : List ℕ → JsonFault
+some_fault text = record { kind = kinds.Syntax; at = utf8_valid_len text }
 
 abbrev HasReading : List ℕ → Option (List ℕ) → Type 0
 HasReading name text = (r : Result Doc (List ℕ)) × ReadsText name text r
@@ -89,8 +136,10 @@ text_some name (Some text) = go (reading text) refl
     go : (o : Option Doc) → reading text ≡ o → HasReading name (Some text)
     go (Some d) is = (Ok d, is)
     go None is =
-        let placed : IsPlaced (length text) first_byte = record { inside = omega arith; whole = λ e. absurd cc; memory = λ e. absurd cc } in
-        (Err (json_fault_text name first_byte), (is, (first_byte, placed, (λ e. cc), refl)))
+        let fault = some_fault text in
+        let placed : IsPlaced (length text) fault = record { inside = utf8_valid_len_le text; whole = λ e. absurd cc; memory = λ e. absurd cc } in
+        let bytes : TellsBadUtf8 text fault = record { kind = λ _. refl; at = λ _. refl } in
+        (Err (json_fault_text name fault), (is, (fault, placed, bytes, (λ e. cc), refl)))
 
 asked_some : (words : FindWords) → (a : Result PageRequest (List ℕ)) × AsksInWords words a
 asked_some words = go (text_some (codes "query") words.query) (text_some (codes "sort") words.sort)

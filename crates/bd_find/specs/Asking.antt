@@ -3,7 +3,8 @@ use Rattle.std.specs.Prelude.{◌≡◌, ◌≢◌, ◌⊎◌, ℕ, nat_le, Bool
 use Rattle.std.specs.Prelude.{Result, Ok, Err, if◌then◌else◌, string_bytes}
 use Rattle.std.specs.List.{join_with_byte}
 use Rattle.bd_value.specs.{Limits.greatest_count, Tree.Doc}
-use Rattle.bd_diagnose.specs.{JsonFault.IsPlaced, JsonFault.json_fault_words, declared.json_fault.JsonFault.JsonFault}
+use Rattle.bd_diagnose.specs.{JsonFault.IsPlaced, JsonFault.TellsBadUtf8, JsonFault.json_fault_words}
+use Rattle.bd_diagnose.specs.{declared.json_fault.JsonFault.JsonFault}
 use Rattle.bd_text.specs.Text.{quoted}
 use Rattle.bd_extjson.specs.Read.{ReadsAs, reading}
 use Rattle.bd_path.specs.{Path.path_fault_words, declared.path.PathFault.PathFault}
@@ -12,7 +13,9 @@ use Rattle.bd_request.specs.{declared.results.Refused.Refused, declared.token.To
 use Rattle.bd_request.specs.Refused.{Reason, bad_filter, plain, reason_of, refused_words, then_part, told_as}
 use Rattle.bd_request.specs.Request.{Request, named_index, request_of, request_view, token_part}
 use Rattle.bd_command_line.specs.FindWords.{FindWords}
-use Rattle.bd_files.specs.Pack.{byte_text}
+use Rattle.bd_device.specs.Devices.{Over, Writer}
+use Rattle.bd_files.specs.{Output.TellsMessage, Output.error_line, Pack.byte_text, declared.output.Status.Status}
+use Rattle.bd_files.specs.declared.output.Status.TheVariants.{Failed}
 use Rattle.bd_find.specs.{declared.asking.Asking.Asking, declared.asking.AskingFault.AskingFault}
 use Rattle.bd_diagnose.specs.declared.json_fault.JsonFaultKind.TheVariants as kinds
 use Rattle.bd_request.specs.declared.results.Refused.TheVariants as reasons
@@ -38,23 +41,28 @@ refusal_text r = codes "query: place "
 abbrev pub index_fault_text : PathFault → List ℕ
 index_fault_text fault = codes "index: " ++ path_fault_words fault
 
+-- the name of the option that is refused, where it has one
+abbrev pub refused_option : Refused → List ℕ
+refused_option reasons.BadSort = codes "sort: "
+refused_option reasons.BadToken = codes "token: "
+refused_option reasons.ForeignToken = codes "token: "
+refused_option reasons.TokenPlace = codes "token: "
+refused_option _ = []
+
 -- what is wrong, after the name of the option
 abbrev pub refused_text : Reason → List ℕ
 refused_text (bad_filter r) = refusal_text r
-refused_text (plain reasons.BadSort) = codes "sort: " ++ refused_words reasons.BadSort
-refused_text (plain reasons.BadToken) = codes "token: " ++ refused_words reasons.BadToken
-refused_text (plain reasons.ForeignToken) = codes "token: " ++ refused_words reasons.ForeignToken
-refused_text (plain reasons.TokenPlace) = codes "token: " ++ refused_words reasons.TokenPlace
-refused_text (plain refused) = refused_words refused
+refused_text (plain refused) = refused_option refused ++ refused_words refused
 
--- the document of a query or a sort; without a text it has no pairs. Of a text that is no document, one of its
--- faults is told
+-- the document of a query or a sort; without a text it has no pairs. Of a text that is no document a fault is told:
+-- which one of a text that is UTF-8, is not said
 abbrev pub ReadsText : List ℕ → Option (List ℕ) → Result Doc (List ℕ) → Type 0
 ReadsText name None (Ok d) = d ≡ []
 ReadsText name None (Err message) = ⊥
 ReadsText name (Some text) (Ok d) = ReadsAs text d
 ReadsText name (Some text) (Err message) = (reading text ≡ None)
-    × ((f : JsonFault) × IsPlaced (length text) f × (f.kind ≢ kinds.NoMemory) × (message ≡ json_fault_text name f))
+    × ((f : JsonFault) × IsPlaced (length text) f × TellsBadUtf8 text f × (f.kind ≢ kinds.NoMemory)
+    × (message ≡ json_fault_text name f))
 
 -- a batch has at most 2,147,483,647 documents
 abbrev pub fits_batch : Option ℕ → Bool
@@ -102,14 +110,15 @@ page_request_of a = record { request = request_view a.request; batch = a.size; t
 -- the message is one of those that a part is refused with, unless memory ran out
 abbrev pub TellsAskingFault : {Given : Type 0} → (Result Given (List ℕ) → Type 0) → AskingFault → Type 0
 TellsAskingFault IsPart faults.NoMemory = Unit {0}
+TellsAskingFault IsPart (faults.Refused refused) = IsPart (Err (refused_text (reason_of refused)))
 TellsAskingFault IsPart (faults.Message message) = IsPart (Err (string_bytes message))
 
 -- so of a part that is refused for a reason
 abbrev pub TellsReason : {Given : Type 0} → Result Given Reason → AskingFault → Type 0
 TellsReason part fault = TellsAskingFault (λ told. told_as refused_text part ≡ told) fault
 
--- the message is that of the refusal, unless memory ran out
-abbrev pub TellsRefused : Refused → AskingFault → Type 0
-TellsRefused refused faults.NoMemory = Unit {0}
-TellsRefused refused (faults.Message message) =
-    (refused ≢ reasons.NoMemory) × (string_bytes message ≡ refused_text (reason_of refused))
+-- the line of the refusal is written; only in place of a filter's it may be told that memory ran out
+abbrev pub TellsRefusal : Over Writer → Reason → Status → Type 0
+TellsRefusal err (plain refused) status = TellsMessage err (error_line (refused_text (plain refused))) Failed status
+TellsRefusal err (bad_filter r) status = TellsMessage err (error_line (refusal_text r)) Failed status
+    ⊎ TellsMessage err (error_line (codes "no memory")) Failed status

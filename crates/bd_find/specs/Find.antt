@@ -6,7 +6,7 @@ use Rattle.bd_value.specs.{Limits.greatest_count, Tree.Doc, Tree.doc, Tree.field
 use Rattle.bd_answer.specs.Answer.{answer, rest, at_most, is_empty}
 use Rattle.bd_answer.specs.Session.{IndexMark, OpenCursor, Query, State, cursor_of, has_index, MarkedToken, token_after}
 use Rattle.bd_answer.specs.Laws.{DocumentRequest}
-use Rattle.bd_cursor.specs.SessionView.{mark_of, marked_token}
+use Rattle.bd_cursor.specs.{Access.Way, Access.by_none, Access.by_one, SessionView.mark_of, SessionView.marked_token}
 use Rattle.bd_request.specs.{declared.results.Refused.Refused, declared.token.Token.Token, Results.marked_text}
 use Rattle.bd_request.specs.Refused.{IsRefusedPart, Reason, plain}
 use Rattle.bd_bson.specs.Collection.{documents_at}
@@ -40,6 +40,11 @@ cursor_for id q token ps = record { id = id; digest = q.digest; token = option_m
 -- a session that has opened no cursor
 abbrev pub before_first : List IndexMark → State
 before_first indexes = record { indexes = indexes; next_id = 1; cursors = [] }
+
+-- documents are looked for by the index that is named, and without one in turn
+abbrev pub index_way : Option (List ℕ) → Way
+index_way None = by_none
+index_way (Some path) = by_one path
 
 -- it has the index that is named
 pub record AwaitsFirst (s : State) (hint : Option (List ℕ)) : Type 0 where

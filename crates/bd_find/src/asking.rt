@@ -1,20 +1,24 @@
-//! What the arguments of `find` ask for.
+//! What the arguments of `find` ask for, and what is told where they are refused.
 
-ghost use Rattle.std.specs.Prelude.{◌≡◌, ◌++◌, IfErr, IfOk, Ok, OnOk, option_map, string_bytes, true};
+ghost use Rattle.std.specs.Prelude.{◌≡◌, ◌≢◌, ◌++◌, IfErr, IfOk, Ok, OnErr, OnOk, option_map, string_bytes, true};
 ghost use Rattle.bd_value.specs.View.{pairs};
+ghost use Rattle.bd_device.specs.Devices.{BreaksWithin, TakesText, over};
 ghost use Rattle.bd_filter.specs.Fault.{refusal_of};
-ghost use Rattle.bd_request.specs.Refused.{reason_of, told_as};
+ghost use Rattle.bd_request.specs.Refused.{reason_of, refused_words, told_as};
 ghost use Rattle.bd_request.specs.Request.{named_index, request_of, request_view};
 ghost use Rattle.bd_command_line.specs.FindWords.{find_words_of};
-ghost use Rattle.bd_find.specs.Asking.{AsksInWords, ReadsText, TellsAskingFault, TellsReason, TellsRefused, after_part, batch_part};
-ghost use Rattle.bd_find.specs.Asking.{fits_batch, index_fault_text, json_fault_text, page_of, page_request_of, refusal_text, refused_text};
+ghost use Rattle.bd_files.specs.Output.{error_line};
+ghost use Rattle.bd_find.specs.Asking.{AsksInWords, ReadsText, TellsAskingFault, TellsReason, TellsRefusal, after_part, batch_part};
+ghost use Rattle.bd_find.specs.Asking.{fits_batch, index_fault_text, json_fault_text, page_of, page_request_of, refusal_text, refused_option};
 ghost use Rattle.bd_find.specs.declared.asking.AskingFault.TheVariants.{NoMemory as no_memory};
 
 use bd_command_line::FindOptions;
 use bd_cursor::{Refused, Request, Token};
+use bd_device::{DeviceFault, Output, write_all};
 use bd_diagnose::{JsonFault, JsonFaultKind};
 use bd_extjson::read_doc;
-use bd_files::output::{push_number, push_path};
+use bd_files::Status;
+use bd_files::output::{push_number, push_path, status_of, tell_error, tell_no_memory};
 use bd_filter::FilterFault;
 use bd_path::{Path, PathFault};
 use bd_value::{Document, GREATEST_COUNT, NoMemory};
@@ -38,7 +42,9 @@ pub struct Asking {
 pub enum AskingFault {
     /// Memory ran out.
     NoMemory,
-    /// What is wrong, and where.
+    /// A filter, a sort, a number or a token is refused.
+    Refused(Refused),
+    /// What is wrong with a text, and where.
     Message(String),
 }
 
@@ -75,9 +81,9 @@ fn read_page(
     ensures fault { IfErr result (TellsAskingFault (λ told. page_of (find_words_of options.now) (pairs query) (pairs sort) ≡ told)) }
 {
     let request = read_request(alloc, query, sort, options)?;
-    check_batch(alloc, options.batch)?;
+    check_batch(options.batch)?;
     let index = read_index(alloc, &options.index)?;
-    let token = read_token(alloc, &options.after)?;
+    let token = read_token(&options.after)?;
     Ok(Asking {
         request,
         size: options.batch,
@@ -134,17 +140,19 @@ fn read_request(
     let (skip, limit) = (u64::from(options.skip), u64::from(options.limit));
     match Request::new(alloc, query, sort, skip, limit) {
         Ok(request) => Ok(request),
-        Err(refused) => Err(told(alloc, &refused)),
+        Err(Refused::NoMemory) => Err(AskingFault::NoMemory),
+        Err(refused) => Err(AskingFault::Refused(refused)),
     }
 }
 
-/// Refuses a batch that may not have that size.
-fn check_batch(alloc: Global, size: Option<u32>) -> Result<(), AskingFault>
+/// Refuses a batch that may not have that size. It takes no memory.
+fn check_batch(size: Option<u32>) -> Result<(), AskingFault>
     ensures fits { OnOk result (fits_batch size ≡ true) }
     ensures fault { IfErr result (TellsReason (batch_part size)) }
+    ensures known { IfErr result (λ fault. fault ≢ no_memory) }
 {
     match size {
-        Some(size) if u64::from(size) > GREATEST_COUNT => Err(told(alloc, &Refused::Range)),
+        Some(size) if u64::from(size) > GREATEST_COUNT => Err(AskingFault::Refused(Refused::Range)),
         _ => Ok(()),
     }
 }
@@ -165,44 +173,19 @@ fn read_index(alloc: Global, text: &Option<String>) -> Result<Option<Path>, Aski
     }
 }
 
-/// The token of a text, where there is one.
-fn read_token(alloc: Global, text: &Option<String>) -> Result<Option<Token>, AskingFault>
+/// The token of a text, where there is one. It takes no memory.
+fn read_token(text: &Option<String>) -> Result<Option<Token>, AskingFault>
     ensures token { IfOk result (λ token. after_part (option_map string_bytes text.now) ≡ Ok token) }
     ensures fault { IfErr result (TellsReason (after_part (option_map string_bytes text.now))) }
+    ensures known { IfErr result (λ fault. fault ≢ no_memory) }
 {
     let Some(text) = text else {
         return Ok(None);
     };
     match Token::parse(text) {
         Ok(token) => Ok(Some(token)),
-        Err(refusal) => Err(told(alloc, &refusal)),
+        Err(refusal) => Err(AskingFault::Refused(refusal)),
     }
-}
-
-/// A refusal as it is told.
-fn told(alloc: Global, refused: &Refused) -> AskingFault
-    ensures { TellsRefused refused.now result }
-{
-    match refused {
-        Refused::NoMemory => AskingFault::NoMemory,
-        _ => match refused_message(alloc, refused) {
-            Ok(message) => AskingFault::Message(message),
-            Err(_) => AskingFault::NoMemory,
-        },
-    }
-}
-
-/// The message of a refusal.
-pub(crate) fn refused_message(alloc: Global, refused: &Refused) -> Result<String, NoMemory>
-    ensures { IfOk result (λ s. string_bytes s ≡ refused_text (reason_of refused.now)) }
-{
-    let option = match refused {
-        Refused::BadFilter(fault) => return filter_message(alloc, fault),
-        Refused::BadSort => "sort: ",
-        Refused::BadToken | Refused::ForeignToken | Refused::TokenPlace => "token: ",
-        _ => "",
-    };
-    option_message(alloc, option, refused.words())
 }
 
 /// The message of an option: its name, and what is wrong with it.
@@ -223,4 +206,49 @@ fn filter_message(alloc: Global, fault: &FilterFault) -> Result<String, NoMemory
     message.push_str(": ")?;
     message.push_str(fault.kind.words())?;
     Ok(message)
+}
+
+/// Tells why a filter, a sort, a number or a token is refused. Only for the place of a filter's fault it takes memory.
+pub(crate) fn tell_refused<E: Output>(alloc: Global, refused: &Refused, err: &mut E) -> Status
+    ensures { TellsRefusal (over E.state err.old err.new) (reason_of refused.now) result }
+{
+    match refused {
+        Refused::BadFilter(fault) => match filter_message(alloc, fault) {
+            Ok(message) => tell_error(&message, err),
+            Err(_) => tell_no_memory(err),
+        },
+        refused => status_of(write_refused(refused, err), Status::Failed),
+    }
+}
+
+/// Writes the line of a refusal.
+#[tactic(auto, using(bd_files::proofs::OutputLemmas::taking))]
+fn write_refused<E: Output>(refused: &Refused, err: &mut E) -> Result<(), DeviceFault>
+    ensures ok { OnOk result (TakesText (over E.state err.old err.new) (error_line (refused_option refused.now ++ refused_words refused.now))) }
+    ensures err { OnErr result (BreaksWithin (over E.state err.old err.new) (error_line (refused_option refused.now ++ refused_words refused.now))) }
+{
+    write_all(err, b"bsonfind: ")?;
+    write_words(refused_option(refused), refused.words(), err)?;
+    write_all(err, b"\n")
+}
+
+/// Writes a text, and another after it.
+#[tactic(auto, using(bd_files::proofs::OutputLemmas::taking))]
+fn write_words<E: Output>(first: &str, second: &str, err: &mut E) -> Result<(), DeviceFault>
+    ensures ok { OnOk result (TakesText (over E.state err.old err.new) (first.now ++ second.now)) }
+    ensures err { OnErr result (BreaksWithin (over E.state err.old err.new) (first.now ++ second.now)) }
+{
+    write_all(err, first.as_bytes())?;
+    write_all(err, second.as_bytes())
+}
+
+/// The name of the option that is refused, where it has one.
+fn refused_option(refused: &Refused) -> &'static str
+    ensures { result.now ≡ refused_option refused.now }
+{
+    match refused {
+        Refused::BadSort => "sort: ",
+        Refused::BadToken | Refused::ForeignToken | Refused::TokenPlace => "token: ",
+        _ => "",
+    }
 }

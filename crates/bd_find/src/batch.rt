@@ -7,23 +7,21 @@ ghost use Rattle.bd_device.specs.Devices.{TakesText, over};
 ghost use Rattle.bd_answer.specs.{Session.OpenCursor, Session.cursor_of, Laws.new_state};
 ghost use Rattle.bd_bson.specs.{Collection.bytes_of, Collection.documents, Collection.documents_at};
 ghost use Rattle.bd_sort.specs.Selection.{query_of};
-ghost use Rattle.bd_cursor.specs.SessionView.{dump_of, hint_of, marked_token, state_of};
-ghost use Rattle.bd_request.specs.Refused.{reason_of};
-ghost use Rattle.bd_request.specs.declared.results.Refused.TheVariants.{NoMemory as no_memory};
+ghost use Rattle.bd_cursor.specs.{Access.way_of, SessionView.dump_of, SessionView.hint_of, SessionView.marked_token, SessionView.state_of};
+ghost use Rattle.bd_request.specs.declared.results.Refused.TheVariants.{NoMemory as memory};
 ghost use Rattle.bd_files.specs.Output.{PrintsOrStarves, StopsWithin, TellsMessage, error_line, lines, no_memory};
 ghost use Rattle.bd_files.specs.declared.output.Status.TheVariants.{Done, Failed};
-ghost use Rattle.bd_find.specs.Asking.{fits_batch, page_request_of, refused_text};
-ghost use Rattle.bd_find.specs.Find.{AwaitsFirst, IsOpenedOn, IsReady, end_words, find_count_line, shown_batch, shown_of_dump, token_words};
+ghost use Rattle.bd_find.specs.Asking.{fits_batch, page_request_of};
+ghost use Rattle.bd_find.specs.Find.{AwaitsFirst, IsOpenedOn, IsReady, end_words, find_count_line, index_way, shown_batch};
+ghost use Rattle.bd_find.specs.Find.{shown_of_dump, token_words};
 
-use crate::asking::{Asking, refused_message};
+use crate::asking::{Asking, tell_refused};
 use bd_bson::Dump;
 use bd_cursor::{Batch, Choice, Refused, Session, Token};
 use bd_device::{Output, write_all};
 use bd_extjson::LineRoom;
 use bd_files::Status;
-use bd_files::output::{
-    OutputFault, push_number, status_of, tell_error, tell_no_memory, tell_stop,
-};
+use bd_files::output::{OutputFault, push_number, status_of, tell_no_memory, tell_stop};
 use bd_path::Path;
 use bd_value::{GREATEST_COUNT, NoMemory};
 use std::alloc::Global;
@@ -76,7 +74,8 @@ fn open_first(alloc: Global, session: &mut Session, asking: Asking) -> Result<u6
 fn choose(alloc: Global, session: &mut Session, index: Option<Path>) -> Result<Choice, Refused>
     requires { state_of session.now ≡ new_state }
     ensures choice { IfOk result (λ choice. AwaitsFirst (state_of session.new) (hint_of choice)) }
-    ensures fault { IfErr result (λ refused. refused ≡ no_memory) }
+    ensures way { IfOk result (λ choice. way_of choice ≡ index_way (option_map (λ path. string_bytes path.text) index)) }
+    ensures fault { IfErr result (λ refused. refused ≡ memory) }
     ensures dump { dump_of session.new ≡ dump_of session.old }
 {
     let Some(path) = index else {
@@ -182,15 +181,4 @@ fn push_token(alloc: Global, token: Option<Token>, line: &mut String) -> Result<
     line.push_str(TOKEN)?;
     let text = token.text(alloc)?;
     line.push_str(&text)
-}
-
-/// Tells why no cursor was opened.
-fn tell_refused<E: Output>(alloc: Global, refused: &Refused, err: &mut E) -> Status
-    ensures { TellsMessage (over E.state err.old err.new) (error_line (refused_text (reason_of refused.now))) Failed result
-        ⊎ TellsMessage (over E.state err.old err.new) (error_line no_memory) Failed result }
-{
-    match refused_message(alloc, refused) {
-        Ok(message) => tell_error(&message, err),
-        Err(_) => tell_no_memory(err),
-    }
 }

@@ -2,6 +2,8 @@ use Rattle.std.proofs.Common.{Ok, Err, length, sym, ◌∙◌, subst}
 use Rattle.bd_bson.specs.{Collection.bytes_of, Collection.documents, declared.collection.Dump.Dump}
 use Rattle.bd_sort.specs.Selection.{query_of}
 use Rattle.bd_cursor.specs.SessionView.{state_of}
+use Rattle.bd_request.specs.Refused.{reason_of}
+use Rattle.bd_find.proofs.AskingLemmas.{refusal_told}
 use Rattle.bd_find.proofs.BatchLemmas.{opened_ready}
 use Rattle.bd_find.specs.Find.{shown_batch, IsOpenedOn, IsReady, cursor_for}
 use Rattle.bd_find.specs.Asking.{page_request_of}
@@ -32,4 +34,4 @@ returns g c =
     let o : IsOpenedOn q c.args.asking.token (state_of c.open_first.new.session) (Err c.in-Err.refused) = rw c.in-Err.is at (rw c.new-session.ensures.dump at c.open_first.ensures.opened) in
     finds.refused_shown (g.O.Output.state c.args.out.now) (g.O.Output.state c.args.out.now) (g.E.Output.state c.args.err.now)
     (g.E.Output.state c.tell_refused.new.err) _ (bytes_of c.args.dump) (documents c.args.dump) (page_request_of c.args.asking) c.in-Err.refused o
-    c.tell_refused.ensures
+    (refusal_told (over g.E.Output.state c.args.err.now c.tell_refused.new.err) (reason_of c.in-Err.refused) _ c.tell_refused.ensures)

@@ -1,6 +1,8 @@
 use Rattle.std.proofs.Common.{Ok, Err, [], List, ℕ, refl, inl, inr, subst}
 use Rattle.std.specs.Prelude.{string_bytes}
-use Rattle.bd_find.specs.Asking.{page_request_of}
+use Rattle.bd_request.specs.Refused.{reason_of}
+use Rattle.bd_find.specs.Asking.{page_request_of, refused_text}
+use Rattle.bd_find.proofs.AskingLemmas.{refusal_told}
 use Rattle.bd_files.specs.Output.{TellsMessage, error_line, shown_refusal}
 use Rattle.bd_files.specs.declared.output.Status.TheVariants.{Failed}
 use Rattle.bd_device.specs.Devices.{no_read, over, read_words}
@@ -12,8 +14,7 @@ pub returns-in-Err-Message-clause-found : goal.returns-in-Err-Message-clause-fou
 returns-in-Err-Message-clause-found g c =
     let message = string_bytes c.in-Err-Message.message in
     let none = rw c.in-Err-Message.field-0-is at c.in-Err-Message.ensures.fault in
-    let text = rw c.in-Err-Message.field-0-is at c.deref.ensures in
-    let told = subst (λ (text : List ℕ). TellsMessage (over g.E.Output.state c.args.err.now c.tell_error.new.err) (error_line text) Failed c.tell_error.result) text c.tell_error.ensures in
+    let told = subst (λ (text : List ℕ). TellsMessage (over g.E.Output.state c.args.err.now c.tell_error.new.err) (error_line text) Failed c.tell_error.result) c.deref.ensures c.tell_error.ensures in
     inr (
       Ok [],
       shown_refusal message,
@@ -21,6 +22,21 @@ returns-in-Err-Message-clause-found g c =
       (Err message, none, refl),
       finds.refusal_shown (g.O.Output.state c.args.out.now) (g.O.Output.state c.args.out.now) (g.E.Output.state c.args.err.now)
           (g.E.Output.state c.tell_error.new.err) _ message (inl told),
+    )
+
+pub returns-in-Err-Refused-clause-found : goal.returns-in-Err-Refused-clause-found
+returns-in-Err-Refused-clause-found g c =
+    let why = reason_of c.in-Err-Refused.refused in
+    let message = refused_text why in
+    let none = rw c.in-Err-Refused.field-0-is at c.in-Err-Refused.ensures.fault in
+    let err = over g.E.Output.state c.args.err.now c.tell_refused.new.err in
+    inr (
+      Ok [],
+      shown_refusal message,
+      inl (message, none, refl),
+      (Err message, none, refl),
+      finds.refusal_shown (g.O.Output.state c.args.out.now) (g.O.Output.state c.args.out.now) (g.E.Output.state c.args.err.now)
+          (g.E.Output.state c.tell_refused.new.err) _ message (refusal_told err why c.tell_refused.result c.tell_refused.ensures),
     )
 
 pub returns-in-Ok-read_input-clause-found : goal.returns-in-Ok-read_input-clause-found
@@ -56,6 +72,9 @@ returns-in-Err-clause-unread g c none = absurd (none (page_request_of c.in-Ok.as
 
 pub returns-in-Err-NoMemory-clause-further : goal.returns-in-Err-NoMemory-clause-further
 returns-in-Err-NoMemory-clause-further g c = (0, [], c.args.input.now, no_read c.args.input.now, inl refl)
+
+pub returns-in-Err-Refused-clause-further : goal.returns-in-Err-Refused-clause-further
+returns-in-Err-Refused-clause-further g c = (0, [], c.args.input.now, no_read c.args.input.now, inl refl)
 
 pub returns-in-Err-Message-clause-further : goal.returns-in-Err-Message-clause-further
 returns-in-Err-Message-clause-further g c = (0, [], c.args.input.now, no_read c.args.input.now, inl refl)
