@@ -1,8 +1,10 @@
 -- Each line may have a reply, so a talk can go on.
-use Rattle.std.proofs.Common.{◌≡◌, ℕ, List, [], ◌∷◌, ◌++◌, Option, Some, None, Err, length, refl, arith, inl, inr}
+use Rattle.std.proofs.Common.{◌≡◌, ℕ, List, [], ◌∷◌, ◌++◌, Option, Some, None, Err, length, refl, inl, inr}
+use Rattle.std.proofs.lemmas.Str.{utf8_valid_len_le}
+use Rattle.std.specs.Str.Lossy.{utf8_valid_len}
 use Rattle.bd_value.specs.Tree.{Doc}
 use Rattle.bd_answer.specs.Session.{State}
-use Rattle.bd_diagnose.specs.{JsonFault.IsPlaced, declared.json_fault.JsonFault.JsonFault}
+use Rattle.bd_diagnose.specs.{JsonFault.IsPlaced, JsonFault.TellsBadUtf8, declared.json_fault.JsonFault.JsonFault}
 use Rattle.bd_extjson.specs.Read.{reading}
 use Rattle.bd_lines.specs.Serving.{RepliesInTurn}
 use Rattle.bd_lines.proofs.ServingLemmas.{replied_then}
@@ -25,9 +27,10 @@ module _ (bytes : List ℕ) (ds : List Doc) where
       go : (o : Option Doc) → reading line ≡ o → HasPart line
       go (Some d) is = (document_call bytes ds d, inl (d, is, refl))
       go None none =
-          let fault : JsonFault = record { kind = kinds.Syntax; at = 0 } in
-          let placed : IsPlaced (length line) fault = record { inside = omega arith; whole = λ e. refl; memory = λ e. refl } in
-          (Err (json_refusal fault), inr (none, (fault, placed, (λ e. cc), refl)))
+          let fault : JsonFault = record { kind = kinds.Syntax; at = utf8_valid_len line } in
+          let placed : IsPlaced (length line) fault = record { inside = utf8_valid_len_le line; whole = λ e. absurd cc; memory = λ e. absurd cc } in
+          let bytes : TellsBadUtf8 line fault = record { kind = λ _. refl; at = λ _. refl } in
+          (Err (json_refusal fault), inr (none, (fault, placed, bytes, (λ e. cc), refl)))
 
   abbrev HasReply : State → List ℕ → Type 0
   HasReply s line = (text : List ℕ) × (t : State) × RepliesInText bytes ds s line text t

@@ -5,3 +5,4 @@ pub mod FairLemmas
 pub mod TalkLemmas
 pub mod ServedLemmas
 pub mod GoingOnLemmas
+pub mod OneReplyLemmas

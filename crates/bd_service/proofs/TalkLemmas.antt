@@ -20,7 +20,7 @@ call_is : (bytes : List ℕ) (ds : List Doc) (line : List ℕ) (part : Result Ca
     → line_call bytes ds line ≡ result_ok part
 call_is bytes ds line part (inl (d, reads, is)) =
     ap (λ (o : Option Doc). option_and_then (λ d. result_ok (document_call bytes ds d)) o) reads ∙ ap (λ (p : Result Call ToldRefusal). result_ok p) (sym is)
-call_is bytes ds line part (inr (none, (f, placed, kind, is))) =
+call_is bytes ds line part (inr (none, (f, placed, utf8, kind, is))) =
     ap (λ (o : Option Doc). option_and_then (λ d. result_ok (document_call bytes ds d)) o) none ∙ ap (λ (p : Result Call ToldRefusal). result_ok p) (sym is)
 
 -- ---- one line

@@ -6,7 +6,8 @@ use Rattle.bd_bson.specs.{Collection.bytes_of, Collection.documents, declared.co
 use Rattle.bd_cursor.specs.SessionView.{IsRefused, dump_of, state_of, explain_request, hint_of, make_index}
 use Rattle.bd_cursor.specs.SessionView.{marked_token}
 use Rattle.bd_cursor.specs.declared.session.Session.{Session}
-use Rattle.bd_request.specs.declared.results.Refused.{Refused}
+use Rattle.bd_command.specs.Command.{Command, gets_more, kills_cursor, resumes}
+use Rattle.bd_request.specs.{Request.token_part, declared.results.Refused.Refused, declared.token.Token.Token}
 use Rattle.bd_service.specs.Reply.{LineReply, ToldRefusal, line_reply, reply_text, told_refusal}
 use Rattle.bd_service.specs.declared.{call.Call.Call, call.CallFault.CallFault, reply.Reply.Reply}
 use Rattle.bd_service.specs.declared.{service.Service.Service}
@@ -67,6 +68,13 @@ session_call dump (calls.Explain request choice) = explain_request dump request 
 abbrev pub RefusesPart : {A : Type 0} → Result A ToldRefusal → CallFault → Type 0
 RefusesPart part faults.NoMemory = Unit {0}
 RefusesPart part (faults.Refused why) = part ≡ Err (told_refusal why)
+
+-- memory may run out while the command is read: not where it has numbers alone, nor where its token is none
+abbrev pub MayStarve : Command → Type 0
+MayStarve (gets_more id batch) = ⊥
+MayStarve (kills_cursor id) = ⊥
+MayStarve (resumes token f) = (t : Token) × (token_part token ≡ Ok t)
+MayStarve _ = Unit {0}
 
 -- the line is no call for this reason, unless memory ran out
 abbrev pub RefusesLine : Dump → List ℕ → CallFault → Type 0

@@ -1,7 +1,7 @@
 -- A talk with a session: the call that a line is, the replies to lines, and what always holds of them.
 use Rattle.std.specs.Prelude.{◌≡◌, ◌≢◌, ◌⊎◌, ◌==◌, ℕ, List, [], ◌∷◌, ◌++◌, length, map, if◌then◌else◌, Option, Some}
 use Rattle.std.specs.Prelude.{None, option_and_then, option_map, Result, Ok, Err}
-use Rattle.std.specs.{List.filter_map, List.flat_map, List.zip, Result.result_ok}
+use Rattle.std.specs.{List.filter_map, List.flat_map, List.zip, Result.result_ok, Str.IsUtf8}
 use Rattle.bd_value.specs.Tree.{Doc}
 use Rattle.bd_answer.specs.Laws.{GivesInTurn, new_state}
 use Rattle.bd_answer.specs.Session.{Call, GivenBatch, Query, State, drop_call, explain_call, find_call, gave, kill_call}
@@ -18,7 +18,7 @@ use Rattle.bd_command.specs.Command.{finds, gets_more, kills_cursor, resumes}
 use Rattle.bd_command.specs.CommandOf.{command_of}
 use Rattle.bd_service.specs.Reply.{LineReply, ToldRefusal, command_refusal, done, explains, gives, json_refusal, makes}
 use Rattle.bd_service.specs.Reply.{opens, path_refusal, refuses, reply_text, session_refusal}
-use Rattle.bd_diagnose.specs.{JsonFault.IsPlaced, declared.json_fault.JsonFault.JsonFault}
+use Rattle.bd_diagnose.specs.{JsonFault.IsPlaced, JsonFault.TellsBadUtf8, declared.json_fault.JsonFault.JsonFault}
 use Rattle.bd_extjson.specs.Read.{ReadsAs, reading}
 use Rattle.bd_bson.specs.Collection.{documents_at}
 use Rattle.bd_diagnose.specs.declared.json_fault.JsonFaultKind.TheVariants as json
@@ -78,10 +78,12 @@ shown_reply ds machine.foreign_token = refuses (session_refusal (plain reasons.F
 shown_reply ds machine.token_place = refuses (session_refusal (plain reasons.TokenPlace))
 shown_reply ds machine.out_of_range = refuses (session_refusal (plain reasons.Range))
 
--- the call that a line is, or why it is none. Of a text that is no document, one of its faults is told
+-- the call that a line is, or why it is none. Of a text that is no document a fault is told: which one of a text
+-- that is UTF-8, is not said
 abbrev pub IsCallIn : List ℕ → List Doc → List ℕ → Result Call ToldRefusal → Type 0
 IsCallIn bytes ds line part = ((d : Doc) × ReadsAs line d × (part ≡ document_call bytes ds d)) ⊎ ((reading line ≡ None)
-    × ((f : JsonFault) × IsPlaced (length line) f × (f.kind ≢ json.NoMemory) × (part ≡ Err (json_refusal f))))
+    × ((f : JsonFault) × IsPlaced (length line) f × TellsBadUtf8 line f × (f.kind ≢ json.NoMemory)
+    × (part ≡ Err (json_refusal f))))
 
 abbrev pub reply_to : List Doc → State → Result Call ToldRefusal → LineReply
 reply_to ds s (Ok call) = shown_reply ds (machine.reply s call)
@@ -118,6 +120,22 @@ Talks bytes ds s [] (r ∷ rs) t = ⊥
 Talks bytes ds s (line ∷ lines) [] t = ⊥
 Talks bytes ds s (line ∷ lines) (r ∷ rs) t =
     (mid : State) × Answers bytes ds s line r mid × Talks bytes ds mid lines rs t
+
+-- two replies to a line are the same; or the line is UTF-8 and no document, and each tells a fault of it
+abbrev pub AreAlike : List ℕ → LineReply → LineReply → Type 0
+AreAlike line r s = (r ≡ s) ⊎ (IsUtf8 line × (reading line ≡ None)
+    × (f : JsonFault) × (g : JsonFault) × (r ≡ refuses (json_refusal f)) × (s ≡ refuses (json_refusal g)))
+
+-- two texts of replies to lines, each a line: in turn the replies are alike
+abbrev pub AreAlikeTexts : List (List ℕ) → List ℕ → List ℕ → Type 0
+AreAlikeTexts [] text other = (text ≡ []) × (other ≡ [])
+AreAlikeTexts (line ∷ lines) text other =
+    (r : LineReply) × (s : LineReply) × (rest : List ℕ) × (more : List ℕ) × AreAlike line r s
+    × AreAlikeTexts lines rest more × (text ≡ reply_text r ++ 10 ∷ rest) × (other ≡ reply_text s ++ 10 ∷ more)
+
+-- a line that is UTF-8 is a document
+abbrev pub IsReadLine : List ℕ → Type 0
+IsReadLine line = IsUtf8 line → (d : Doc) × ReadsAs line d
 
 -- the replies as a text, each a line
 abbrev pub reply_lines : List LineReply → List ℕ

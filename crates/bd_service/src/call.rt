@@ -1,6 +1,6 @@
 //! The call of a session that a command is.
 
-ghost use Rattle.std.specs.Prelude.{◌≡◌, IfErr, IfOk, Ok, OnOk, string_bytes};
+ghost use Rattle.std.specs.Prelude.{◌≡◌, ◌≢◌, IfErr, IfOk, Ok, OnOk, string_bytes};
 ghost use Rattle.bd_bson.specs.Collection.{bytes_of, documents};
 ghost use Rattle.bd_bson.specs.declared.collection.Dump.{Dump};
 ghost use Rattle.bd_path.specs.{Path.path_of, PathNames.names_of};
@@ -9,7 +9,8 @@ ghost use Rattle.bd_cursor.specs.Access.{way_of};
 ghost use Rattle.bd_service.specs.Reply.{path_refusal, session_refusal};
 ghost use Rattle.bd_request.specs.Refused.{told_as};
 ghost use Rattle.bd_request.specs.Request.{named_index, request_view, token_part};
-ghost use Rattle.bd_service.specs.ServiceView.{RefusesPart, session_call};
+ghost use Rattle.bd_service.specs.ServiceView.{MayStarve, RefusesPart, session_call};
+ghost use Rattle.bd_service.specs.declared.call.CallFault.TheVariants.{NoMemory as no_memory};
 ghost use Rattle.bd_service.specs.Talk.{call_of, hint_path, search_of, way_by};
 
 use crate::reply::LineRefusal;
@@ -52,6 +53,7 @@ pub enum CallFault {
 pub(crate) fn call_of(alloc: Global, command: Command) -> Result<Call, CallFault>
     ensures call { (dump : Dump) → IfOk result (λ c. call_of (bytes_of dump) (documents dump) (command_tree command) ≡ Ok (session_call dump c)) }
     ensures fault { (dump : Dump) → IfErr result (RefusesPart (call_of (bytes_of dump) (documents dump) (command_tree command))) }
+    ensures known { IfErr result (λ fault. fault ≡ no_memory → MayStarve (command_tree command)) }
 {
     match command {
         Command::CreateIndex { path, sparse } => {
@@ -118,10 +120,11 @@ fn read_path(alloc: Global, text: &str) -> Result<Path, CallFault>
     }
 }
 
-/// The token of a text.
+/// The token of a text. It takes no memory.
 fn read_token(text: &str) -> Result<Token, CallFault>
     ensures token { IfOk result (λ t. token_part text.now ≡ Ok t) }
     ensures fault { IfErr result (RefusesPart (told_as session_refusal (token_part text.now))) }
+    ensures known { IfErr result (λ fault. fault ≢ no_memory) }
 {
     match Token::parse(text) {
         Ok(token) => Ok(token),

@@ -8,4 +8,4 @@ pub returns-in_default : goal.returns-in_default
 returns-in_default c =
     let other : c.in-Err.fault.kind ≢ json.NoMemory = search rules in
     let none = none_read (reading c.args.line.now) (c.in-Err.ensures.none other) in
-    record { document = tt; fault = λ dump. inr (none, (c.in-Err.fault, c.in-Err.ensures.place, other, refl)) }
+    record { document = tt; fault = λ dump. inr (none, (c.in-Err.fault, c.in-Err.ensures.place, c.in-Err.ensures.utf8, other, refl)) }
