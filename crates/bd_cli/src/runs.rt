@@ -1,12 +1,15 @@
 //! A command carried out over devices, and arguments that are no command; and laws of what is shown.
 
 ghost use Rattle.std.specs.Prelude.{◌≡◌, ◌<◌, ◌≤◌, ◌++◌, ℕ, List, Option, None, Result, Ok, codes, length, slice_index};
+ghost use Rattle.std.specs.List.{All};
 ghost use Rattle.bd_value.specs.{Limits.longest_input, Tree.Doc};
+ghost use Rattle.bd_answer.specs.{Session.State, Laws.new_state};
 ghost use Rattle.bd_device.specs.{Devices.over, declared.reading.ReadFault.ReadFault};
 ghost use Rattle.bd_bson.specs.Collection.{bytes_of, documents};
 ghost use Rattle.bd_check.specs.Dump.{AreJoined};
 ghost use Rattle.bd_command_line.specs.FindWords.{FindWords};
-ghost use Rattle.bd_lines.specs.Lines.{text_lines};
+ghost use Rattle.bd_lines.specs.{Lines.commands_of, Lines.text_lines, Serving.RepliesInTurn};
+ghost use Rattle.bd_service.specs.Talk.{AreAlikeTexts, IsReadLine, RepliesInText};
 ghost use Rattle.bd_files.specs.DumpAndCheck.{IsShownByCheck, IsShownByDump};
 ghost use Rattle.bd_files.specs.Input.{ReadsNoFurther};
 ghost use Rattle.bd_files.specs.Output.{PrintsShown, Transcript, lines};
@@ -143,7 +146,8 @@ pub fn report<O: Output, E: Output>(fault: &WordsFault, out: &mut O, err: &mut E
 
 /// One thing is shown of each input, and of each list of bytes there is something to show; so also for `check`, and for
 /// `find`, of each words. For `pack` and `find` it is one thing but for the kind and the place of the fault of a line, or of a
-/// query or a sort, that is no document.
+/// query or a sort, that is no document. `serve` has one text of replies to each text of commands, but for such a fault of a
+/// command.
 pub fn shows_one_thing()
     ensures one { (bytes : List ℕ) (fault : Option ReadFault) (shown other : Transcript) →
         IsShownByDump bytes fault shown → IsShownByDump bytes fault other → shown ≡ other }
@@ -165,6 +169,14 @@ pub fn shows_one_thing()
         IsShownByPack input shown → IsShownByPack input other → (shown.out ≡ other.out)
         × (shown.status ≡ other.status) }
     ensures packed_some { (text : List ℕ) → (shown : Transcript) × IsShownByPack (Ok text) shown }
+    ensures served_one { (bytes : List ℕ) (ds : List Doc) (commands replies other : List ℕ) (s t : State) →
+        All IsReadLine (commands_of commands) →
+        RepliesInTurn (RepliesInText bytes ds) new_state (commands_of commands) replies s →
+        RepliesInTurn (RepliesInText bytes ds) new_state (commands_of commands) other t → (replies ≡ other) × (s ≡ t) }
+    ensures served_alike { (bytes : List ℕ) (ds : List Doc) (commands replies other : List ℕ) (s t : State) →
+        RepliesInTurn (RepliesInText bytes ds) new_state (commands_of commands) replies s →
+        RepliesInTurn (RepliesInText bytes ds) new_state (commands_of commands) other t →
+        AreAlikeTexts (commands_of commands) replies other × (s ≡ t) }
 {}
 
 /// Of each input `check` and `dump` give the same status: there is a document with a fault where there is a first fault.

@@ -1,7 +1,9 @@
 use Rattle.bd_find.proofs.UniqueLemmas.{found_alike, found_once, found_some}
 use Rattle.bd_files.proofs.{CheckLemmas.judged_once, CheckLemmas.judged_some, DumpLemmas.shown_once, DumpLemmas.shown_some}
 use Rattle.bd_files.proofs.PackLemmas.{packs_once, packed_alike, packed_some}
-use Rattle.bd_lines.specs.Lines.{text_lines}
+use Rattle.bd_answer.specs.Laws.{new_state}
+use Rattle.bd_lines.specs.Lines.{commands_of, text_lines}
+use Rattle.bd_service.proofs.OneReplyLemmas.{texts_alike, texts_once}
 use Rattle.bd_cli.proofs.runs.shows_one_thing.Goals as goal
 
 pub returns : goal.returns
@@ -19,4 +21,6 @@ returns c = record {
       bad other p q. packs_once 1 (text_lines text) ds es bad other p q;
   packed_alike = packed_alike;
   packed_some = packed_some;
+  served_one = λ bytes ds commands replies other s t read p q. texts_once bytes ds new_state (commands_of commands) replies other s t read p q;
+  served_alike = λ bytes ds commands replies other s t p q. texts_alike bytes ds new_state (commands_of commands) replies other s t p q;
 }
