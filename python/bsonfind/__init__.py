@@ -13,12 +13,24 @@
 from importlib import metadata
 from pathlib import Path
 
-from ._answers import Answer, find
-from ._errors import BsonfindError, CommandError, DumpError, PartError, ProgramError, SessionEnded
+from ._answers import Answer, count_documents, find, find_one
+from ._errors import (
+    BsonfindError,
+    CancelledError,
+    CommandError,
+    CursorStateError,
+    DumpError,
+    OtherProcessError,
+    PartError,
+    ProgramError,
+    SessionEndedError,
+    TimedOutError,
+)
 from ._faults import Fault
 from ._merge import Check, check_parts, count_parts, find_parts
-from ._parts import Part, plan
+from ._parts import FileState, Part, plan
 from ._sessions import Cursor, Session
+from ._values import ObjectId
 
 
 def _version() -> str:
@@ -35,19 +47,27 @@ __version__ = _version()
 __all__ = [
     "Answer",
     "BsonfindError",
+    "CancelledError",
     "Check",
     "CommandError",
     "Cursor",
+    "CursorStateError",
     "DumpError",
     "Fault",
+    "FileState",
+    "ObjectId",
+    "OtherProcessError",
     "Part",
     "PartError",
     "ProgramError",
     "Session",
-    "SessionEnded",
+    "SessionEndedError",
+    "TimedOutError",
     "check_parts",
+    "count_documents",
     "count_parts",
     "find",
+    "find_one",
     "find_parts",
     "plan",
 ]

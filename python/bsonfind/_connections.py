@@ -3,80 +3,127 @@
 from __future__ import annotations
 
 import os
-import subprocess
 import threading
 from collections import deque
+from typing import TypeVar
 
-from ._answers import file_word
-from ._errors import SessionEnded
-from ._requests import text_of_pairs
-from ._processes import Run
+from ._dumps import Dump
+from ._errors import CancelledError, SessionEndedError, TimedOutError
+from ._processes import Group, Run
+from ._steps import Command, Steps, kill
 
-LONGEST_COMMAND = 16_777_216
+T = TypeVar("T")
+_PIECE = 1 << 20
 
 
 class Connection:
     """A run of `serve` over a dump that was read. Threads may share it: a command has its reply before the next one is sent."""
 
-    def __init__(self, path: str | os.PathLike[str], program: str) -> None:
+    def __init__(self, dump: Dump, program: str, timeout: float | None = None, group: Group | None = None) -> None:
         self._lock = threading.Lock()
-        self._run = Run([program, "serve", file_word(path)], stdin=subprocess.PIPE)
-        self._is_open = True
+        self._timeout = timeout
+        self._group = group or Group()
+        self._run = Run.serving(dump, program, self._group)
+        # Why it ended, where it has.
+        self._ended: str | None = None
         # The cursors that are to be closed.
         self._left: deque[int] = deque()
         try:
-            self._await_dump()
+            # Waits until the dump is read, by a command that changes nothing.
+            if not self._exchange(kill(0)):
+                raise self._run.error()
         except BaseException:
-            self._end()
+            self._end("the dump was not read")
             raise
 
-    def ask(self, fields: list[tuple[str, str]]) -> str:
-        """The line of the reply to a command, which is given by names and the JSON of their values."""
-        line = text_of_pairs(fields).encode()
-        if len(line) > LONGEST_COMMAND:
-            raise ValueError(f"a command has at most {LONGEST_COMMAND} bytes, not {len(line)}")
-        with self._lock:
-            while self._left:
-                self._reply(b'{"killCursor":%d}' % self._left.popleft())
-            return self._reply(line)
+    def do(self, steps: Steps[T]) -> T:
+        """What steps come to, whose commands are asked one after the other."""
+        self.check()
+        try:
+            command = next(steps)
+            while True:
+                command = steps.send(self._ask(command))
+        except StopIteration as end:
+            return end.value
+
+    def check(self) -> None:
+        """Refuses a call in another process than the one that opened the connection, such as after a fork."""
+        self._run.check_process()
 
     def leave(self, cursor: int) -> None:
-        """Has a cursor closed before the next command. It takes no lock, since cursors are let go anywhere."""
+        """Has a cursor closed before the next command. It takes no lock, since cursors are freed anywhere."""
         self._left.append(cursor)
+
+    def cancel(self) -> None:
+        """Ends the run at once. Any thread may call it: one that waits for a reply gets a `CancelledError`."""
+        self.check()
+        self._group.end(CancelledError("cancelled"))
 
     def close(self) -> None:
         """Ends the run."""
+        self.check()
         with self._lock:
-            self._end()
+            self._end("the session was closed")
 
-    def _await_dump(self) -> None:
-        """Waits until the dump is read, by a command that changes nothing."""
-        if not self._exchange(b'{"killCursor":0}'):
-            raise self._run.error()
+    def _ask(self, command: Command) -> bytes | None:
+        """The reply to a command, None where it is longer than the command says."""
+        with self._lock:
+            while self._left:
+                self._reply(kill(self._left.popleft()))
+            return self._reply(command)
 
-    def _reply(self, line: bytes) -> str:
-        """The reply to a line. Where there is none the run is ended, so that no later line takes the reply to this one."""
-        if not self._is_open:
-            raise SessionEnded("the session was closed")
+    def _reply(self, command: Command) -> bytes | None:
+        """The reply. Where there is none the run is ended, so that no later command takes the reply to this one."""
+        if self._ended:
+            raise SessionEndedError(self._ended)
         try:
-            reply = self._exchange(line)
-            if not reply:
-                raise SessionEnded(str(self._run.error()))
-            return reply
+            reply = self._exchange(command)
         except BaseException:
-            self._end()
+            self._end("a reply was interrupted")
             raise
+        if reply == b"":
+            error = self._run.error()
+            self._end(str(error))
+            raise error if isinstance(error, (CancelledError, TimedOutError)) else SessionEndedError(str(error))
+        return reply
 
-    def _exchange(self, line: bytes) -> str:
-        """Sends a line and reads that of the reply; nothing where the program has ended."""
+    def _exchange(self, command: Command) -> bytes | None:
+        """Sends a command and reads the reply; nothing where the program has ended."""
+        if self._timeout is not None:
+            self._group.end_after(self._timeout)
         try:
-            self._run.stdin.write(line + b"\n")
-            self._run.stdin.flush()
+            self._send(command.line + b"\n")
+            return self._receive(command.most)
         except BrokenPipeError:
-            return ""
-        reply = self._run.stdout.readline()
-        return reply.decode() if reply.endswith(b"\n") else ""
+            return b""
+        finally:
+            if self._timeout is not None:
+                self._group.rest()
 
-    def _end(self) -> None:
-        self._is_open = False
+    def _send(self, data: bytes) -> None:
+        """Writes all of it, past the buffer of the pipe, of which a fork would make a copy."""
+        pipe, rest = self._run.stdin.fileno(), memoryview(data)
+        while rest:
+            rest = rest[os.write(pipe, rest) :]
+
+    def _receive(self, most: int | None) -> bytes | None:
+        """Reads a line; None in place of one that is too long."""
+        pipe = self._run.stdout
+        reply = pipe.readline() if most is None else pipe.readline(most)
+        if most is not None and len(reply) == most and not reply.endswith(b"\n"):
+            while reply and not reply.endswith(b"\n"):
+                reply = pipe.readline(_PIECE)
+            return None if reply else b""
+        return reply if reply.endswith(b"\n") else b""
+
+    def _end(self, reason: str) -> None:
+        self._ended = self._ended or reason
         self._run.close()
+
+    def __enter__(self) -> Connection:
+        return self
+
+    def __exit__(self, *_: object) -> None:
+        self.close()
+
+

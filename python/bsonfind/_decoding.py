@@ -1,25 +1,95 @@
-"""Documents as the caller wants them, of the lines of canonical Extended JSON that the program prints."""
+"""Documents as the caller asks for them, of the lines of canonical Extended JSON that the program prints."""
 
 from __future__ import annotations
 
 import json
-from typing import Any, Callable
+from collections import deque
+from typing import Any, Callable, Generic, Literal, TypeVar, Union
+
+from ._replies import documents_in
+from ._values import plain_document
+
+T = TypeVar("T")
+# What makes documents of lines by a name; each gives a dictionary for a line.
+Dicts = Literal["dict", "plain", "json_util"]
+Decode = Union[Callable[[bytes], T], Literal["dict", "plain", "json_util", "bytes"]]
 
 
-def decoder(decode: str) -> Callable[[bytes], Any]:
+def decoder(decode: Decode[Any]) -> Callable[[bytes], Any]:
     """What makes a document of a line.
 
     - `"dict"` gives the canonical Extended JSON as a `dict` in the order of the fields. Of a name that stands twice in one
       document the last value stays.
+    - `"plain"` gives a `dict` of plain values of Python: `int`, `str`, `bytes`, `datetime` and the like, see `plain_document`.
     - `"json_util"` gives what `bson.json_util.loads` of pymongo makes of the line.
     - `"bytes"` gives the line as it is, without its newline.
+    - A function is called with the line.
     """
+    if callable(decode):
+        return decode
     if decode == "dict":
         return json.loads
+    if decode == "plain":
+        return lambda line: plain_document(json.loads(line))
     if decode == "json_util":
         from bson import json_util
 
         return json_util.loads
     if decode == "bytes":
         return bytes
-    raise ValueError(f'decode is "dict", "json_util" or "bytes", not {decode!r}')
+    raise ValueError(f'decode is "dict", "plain", "json_util", "bytes" or a function, not {decode!r}')
+
+
+class Texts(Generic[T]):
+    """The documents of a batch, by their texts. One that cannot be decoded is an error, and the next call gives the one after it."""
+
+    def __init__(self, texts: list[bytes], document_of: Callable[[bytes], T]) -> None:
+        self.left, self.given = deque(texts), 0
+        self._document_of = document_of
+
+    def give(self) -> T:
+        """The next document."""
+        try:
+            document = self._document_of(self.left[0])
+        except Exception:
+            self._pass_one()
+            raise
+        self._pass_one()
+        return document
+
+    def _pass_one(self) -> None:
+        self.left.popleft()
+        self.given += 1
+
+
+class Parsed:
+    """The documents of a batch, each of which is parsed where it stands, once it is asked for."""
+
+    def __init__(self, text: str, finish: Callable[[dict[str, Any]], Any]) -> None:
+        self._text, self._at, self.given = text, 0, 0
+        self._finish = finish
+        self.left = bool(text)
+
+    def give(self) -> Any:
+        """The next document."""
+        document, end = _scan(self._text, self._at)
+        document = self._finish(document)
+        self._at, self.given, self.left = end + 1, self.given + 1, end < len(self._text)
+        return document
+
+
+_scan = json.JSONDecoder().raw_decode
+
+
+def batches_by(decode: Decode[T]) -> Callable[[bytes, int], Texts[T] | Parsed]:
+    """What makes the documents of a batch of its text and their number, 0 where that is not known."""
+    if decode == "dict":
+        return lambda text, _: Parsed(text.decode(), _as_it_is)
+    if decode == "plain":
+        return lambda text, _: Parsed(text.decode(), plain_document)
+    document_of = decoder(decode)
+    return lambda text, size: Texts(documents_in(text, size), document_of)
+
+
+def _as_it_is(document: dict[str, Any]) -> dict[str, Any]:
+    return document

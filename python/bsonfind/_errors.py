@@ -36,7 +36,7 @@ class CommandError(BsonfindError):
 
 
 class DumpError(BsonfindError):
-    """A dump that is refused, with what was told of it, and its first fault where it has one."""
+    """A dump that cannot be read or is refused, such as a missing file, with its first fault where it has one."""
 
     def __init__(self, text: str, fault: Fault | None = None) -> None:
         super().__init__(text, fault)
@@ -46,16 +46,33 @@ class DumpError(BsonfindError):
         return self.text
 
 
-class PartError(BsonfindError):
+class PartError(DumpError):
     """A part that could not be asked, and why; the fault counts in the whole file."""
 
     def __init__(self, part: Part, text: str, fault: Fault | None = None) -> None:
-        super().__init__(part, text, fault)
-        self.part, self.text, self.fault = part, text, fault
+        super().__init__(text, fault)
+        self.args = part, text, fault
+        self.part = part
 
     def __str__(self) -> str:
         return f"{self.part}: {self.text}"
 
 
-class SessionEnded(BsonfindError):
+class TimedOutError(BsonfindError, TimeoutError):
+    """A question that took longer than its `timeout`."""
+
+
+class CancelledError(BsonfindError):
+    """A question that `cancel` ended."""
+
+
+class SessionEndedError(BsonfindError):
     """A session whose program is no longer there, or that was closed."""
+
+
+class CursorStateError(BsonfindError):
+    """A cursor that was interrupted while it read, so that it is not known which documents come next."""
+
+
+class OtherProcessError(BsonfindError):
+    """A session, a cursor or an answer that another process opened, as after a fork. Each process opens its own."""

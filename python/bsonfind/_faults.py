@@ -50,7 +50,7 @@ def faults_of(run: Run) -> Iterator[Fault]:
 def finish_check(run: Run) -> int:
     """Waits for the end of a run of `check`, and gives the number of documents; raises the error of a run that failed."""
     run.wait()
-    counted = _COUNTED.fullmatch(run.messages().rstrip("\n"))
-    if not counted:
+    counted = _COUNTED.fullmatch(run.last_line())
+    if not counted or run.error_line() is not None:
         raise run.error()
     return int(counted.group(1))

@@ -1,33 +1,34 @@
 """Asks the parts of a dump, each by a run of the program, and makes one answer of what they gave.
 
-    parts = plan("orders.bson", 2_500_000_000)
-    with ThreadPoolExecutor(4) as pool:
-        newest = find_parts(parts, {"status": "open"}, [("created", -1)], limit=10, map=pool.map)
+    newest = find_parts(plan("orders.bson", 2_500_000_000), {"status": "open"}, sort=[("created", -1)], limit=10, workers=4)
 
-An engine runs the parts by its `map`: a function that applies another one to each part, and gives the results in the order of the
-parts. The built-in does so one after the other, that of an executor side by side, and that of an engine over many machines wherever
-the files, this package and the program are: `lambda ask, parts: client.gather(client.map(ask, parts))` for Dask.
+`workers` asks so many parts side by side. In place of that an engine runs the parts by its `map`: a function that applies another
+one to each part, and gives the results in the order of the parts. That of an executor does so in threads or processes, and that of
+an engine over many machines wherever the files, this package and the program are:
+`lambda ask, parts: client.gather(client.map(ask, parts))` for Dask.
 
 What is found goes from the parts to the whole as lines. So no document of a part may begin with a name such as "$oid", alone or inside
-another: its text is that of another value. `find_parts` looks for such names in all bytes, and raises a `PartError` with the byte.
+another: its text is that of another value. `find_parts` looks for such names in all documents, and raises a `PartError` with the byte.
 """
 
 from __future__ import annotations
 
-import builtins
-import subprocess
+import os
+from concurrent.futures import ThreadPoolExecutor
 from functools import partial
-from typing import Any, Callable, Iterable, NamedTuple, Sequence, TypeVar
+from typing import Any, Callable, Iterable, Iterator, Literal, NamedTuple, Sequence, TypeVar, overload
 
-from ._answers import counted
-from ._faults import faults_of, finish_check
-from ._decoding import decoder
+from . import _steps
+from ._answers import Lines
+from ._connections import Connection
+from ._decoding import Decode, Dicts, decoder
+from ._dumps import Dump
 from ._errors import BsonfindError, DumpError, PartError, ProgramError
-from ._faults import Fault
+from ._faults import Fault, faults_of, finish_check
 from ._parts import Part
 from ._plain import plain_pieces
-from ._requests import Filter, Request, Sort
 from ._processes import Group, Run
+from ._requests import Filter, Request, Sort
 
 T = TypeVar("T")
 Map = Callable[[Callable[[Part], Any], Sequence[Part]], Iterable[Any]]
@@ -40,82 +41,164 @@ class Check(NamedTuple):
     faults: list[Fault]
 
 
+# fmt: off
+@overload
+def find_parts(
+    parts: Sequence[Part], filter: Filter | None = None, *, sort: Sort | None = None, skip: int = 0, limit: int = 0,
+    workers: int = 1, map: Map | None = None, decode: Dicts = "dict", program: str = "bsonfind", timeout: float | None = None,
+) -> list[dict[str, Any]]: ...
+@overload
+def find_parts(
+    parts: Sequence[Part], filter: Filter | None = None, *, sort: Sort | None = None, skip: int = 0, limit: int = 0,
+    workers: int = 1, map: Map | None = None, decode: Literal["bytes"], program: str = "bsonfind", timeout: float | None = None,
+) -> list[bytes]: ...
+@overload
+def find_parts(
+    parts: Sequence[Part], filter: Filter | None = None, *, sort: Sort | None = None, skip: int = 0, limit: int = 0,
+    workers: int = 1, map: Map | None = None, decode: Callable[[bytes], T], program: str = "bsonfind",
+    timeout: float | None = None,
+) -> list[T]: ...
+# fmt: on
 def find_parts(
     parts: Sequence[Part],
     filter: Filter | None = None,
+    *,
     sort: Sort | None = None,
     skip: int = 0,
     limit: int = 0,
-    *,
-    map: Map = builtins.map,
-    decode: str = "dict",
+    workers: int = 1,
+    map: Map | None = None,
+    decode: Decode[Any] = "dict",
     program: str = "bsonfind",
+    timeout: float | None = None,
 ) -> list[Any]:
     """The documents that `find` gives over the parts joined, in its order.
 
-    Each part is asked for its own answer, what they gave is packed and joined, and asked once more. A part that fails is a
-    `PartError`, and ends the others that run in this process.
+    Each part is asked for its own answer, what they gave is packed and joined, and asked again. A part that fails is a
+    `PartError`, and at once ends the others that run in this process; so does a `timeout`, in seconds, for all of it.
     """
     document_of = decoder(decode)
     request = Request.of(filter, sort, skip, limit)
-    _try_request(request, program)
-    packed = _ask_each(parts, map, partial(_packed_answer, request.of_part(), program))
-    with Run([program, "find", "-", *request.words()], packed) as run:
-        lines = run.stdout.read()
-        run.finish()
-    return [document_of(line) for line in lines.split(b"\n")[:-1]]
+    with _Asking(program, workers, map, timeout) as asking:
+        asking.try_request(request)
+        packed = asking.each(parts, partial(_packed_answer, request.of_part(), program))
+        joined = Lines(Dump(pieces=packed), request, program, group=asking.group)
+        lines = [line for batch in joined.batches() for line in batch]
+    return [document_of(line) for line in lines]
 
 
-def count_parts(parts: Sequence[Part], filter: Filter | None = None, *, map: Map = builtins.map, program: str = "bsonfind") -> int:
+def count_parts(
+    parts: Sequence[Part],
+    filter: Filter | None = None,
+    *,
+    workers: int = 1,
+    map: Map | None = None,
+    program: str = "bsonfind",
+    timeout: float | None = None,
+) -> int:
     """How many documents of the parts match a filter."""
     request = Request.of(filter)
-    _try_request(request, program)
-    return sum(_ask_each(parts, map, partial(_count, request, program)))
+    with _Asking(program, workers, map, timeout) as asking:
+        asking.try_request(request)
+        return sum(asking.each(parts, partial(_count, request, program)))
 
 
-def check_parts(parts: Sequence[Part], *, map: Map = builtins.map, program: str = "bsonfind") -> Check:
+def check_parts(
+    parts: Sequence[Part],
+    *,
+    workers: int = 1,
+    map: Map | None = None,
+    program: str = "bsonfind",
+    timeout: float | None = None,
+) -> Check:
     """Checks each document of the parts. Numbers of documents and bytes of faults are those of the whole file."""
-    _try_request(Request(), program)
-    checks = _ask_each(parts, map, partial(_check, program))
+    with _Asking(program, workers, map, timeout) as asking:
+        asking.try_request(Request())
+        checks = asking.each(parts, partial(_check, program))
     return Check(sum(it.documents for it in checks), [fault for it in checks for fault in it.faults])
 
 
-def _try_request(request: Request, program: str) -> None:
-    """Asks no documents, so that a refused request or a missing program is reported before any part is asked."""
-    with Run([program, "find", "-", *request.words()]) as run:
-        run.finish()
+class _Asking:
+    """The asking of parts: how they are run, and what ends all of them."""
 
+    def __init__(self, program: str, workers: int, map: Map | None, timeout: float | None) -> None:
+        if workers < 1:
+            raise ValueError(f"workers is 1 or more, not {workers}")
+        if map and workers != 1:
+            raise TypeError("workers and map both say how the parts are run: give one of them")
+        self._program, self._workers, self._map = program, workers, map
+        self.group = Group()
+        if timeout is not None:
+            self.group.end_after(timeout)
 
-def _ask_each(parts: Sequence[Part], map: Map, ask: Callable[[Group, Part], T]) -> list[T]:
-    """What each part gives, in their order. Where one fails, or the caller is interrupted, all runs of this process end."""
-    parts = list(parts)
-    group = Group()
-    try:
-        given = list(map(partial(_asked, ask, group), parts))
-    except BaseException:
-        group.end()
-        raise
-    if [part for part, _ in given] != parts:
-        raise ProgramError("map did not give a result for each part, in the order of the parts")
-    return [result for _, result in given]
+    def try_request(self, request: Request) -> None:
+        """Asks no documents, so that a refused request or a missing program is reported before any part is asked."""
+        list(Lines(Dump(path=os.devnull), request, self._program, group=self.group).batches())
+
+    def each(self, parts: Sequence[Part], ask: Callable[[Group, Part], T]) -> list[T]:
+        """What each part gives, in their order. Where one fails, or the caller is interrupted, all runs of this process end."""
+        parts = list(parts)
+        try:
+            given = list(self._run(partial(_asked, ask, self.group), parts))
+        except BaseException as error:
+            self.group.end()
+            if self.group.error and isinstance(error, Exception):
+                raise self.group.error from None  # The first part that failed, which ended the others.
+            raise
+        if [part for part, _ in given] != parts:
+            raise ProgramError("map did not give a result for each part, in the order of the parts")
+        return [result for _, result in given]
+
+    def _run(self, ask: Callable[[Part], T], parts: Sequence[Part]) -> Iterator[T]:
+        if self._map:
+            yield from self._map(ask, parts)
+        elif self._workers == 1:
+            yield from (ask(part) for part in parts)
+        else:
+            with ThreadPoolExecutor(self._workers) as pool:
+                try:
+                    yield from pool.map(ask, parts)
+                except BaseException:
+                    self.group.end()
+                    raise
+
+    def __enter__(self) -> _Asking:
+        return self
+
+    def __exit__(self, *_: object) -> None:
+        self.group.rest()
+        self.group.end()
 
 
 def _asked(ask: Callable[[Group, Part], T], group: Group, part: Part) -> tuple[Part, T]:
-    """The part with what it gave."""
+    """The part with what it gave; where it fails, the others of this process are ended for its error."""
     try:
         return part, ask(group, part)
-    except PartError:
-        raise
-    except DumpError as error:
-        fault = error.fault.moved(part.first, part.offset) if error.fault else None
-        raise PartError(part, str(fault) if fault else error.text, fault) from None
     except (BsonfindError, OSError) as error:
-        raise PartError(part, str(error)) from None
+        failed = _part_error(part, error) if error is not group.error else error
+        group.end(failed)
+        raise failed from None
+
+
+def _part_error(part: Part, error: BsonfindError | OSError) -> PartError:
+    """Why a part failed; its fault counts in the whole file."""
+    if isinstance(error, PartError):
+        return error
+    fault = error.fault if isinstance(error, DumpError) else None
+    fault = fault and fault.moved(part.first, part.offset)
+    return PartError(part, str(fault or error), fault)
 
 
 def _packed_answer(request: Request, program: str, group: Group, part: Part) -> bytes:
     """The documents of a part that are found, as a dump."""
-    with Run([program, "find", "-", *request.words()], plain_pieces(part), group=group) as found:
+    dump = Dump(pieces=plain_pieces(part))
+    if request.is_long:
+        lines = Lines(dump, request, program, group=group)
+        with Run([program, "pack", "-"], (b"".join(line + b"\n" for line in batch) for batch in lines.batches()), group=group) as packed:
+            data = packed.stdout.read()
+            packed.finish()
+            return data
+    with Run.over(dump, program, "find", request.words(), group=group) as found:
         with Run([program, "pack", "-"], stdin=found.stdout, group=group) as packed:
             found.stdout.close()
             data = packed.stdout.read()
@@ -135,12 +218,11 @@ def _finish(found: Run, packed: Run) -> None:
 
 
 def _count(request: Request, program: str, group: Group, part: Part) -> int:
-    words = [program, "find", "-", *request.words()]
-    with Run(words, part.pieces(), stdout=subprocess.DEVNULL, group=group) as run:
-        return counted(run.finish()).documents
+    with Connection(Dump(pieces=part.pieces()), program, group=group) as connection:
+        return connection.do(_steps.count(request))
 
 
 def _check(program: str, group: Group, part: Part) -> Check:
-    with Run([program, "check", "-"], part.pieces(), group=group) as run:
+    with Run.over(Dump(pieces=part.pieces()), program, "check", group=group) as run:
         faults = [fault.moved(part.first, part.offset) for fault in faults_of(run)]
         return Check(finish_check(run), faults)

@@ -1,4 +1,4 @@
-"""What the program tells on standard error, as exceptions."""
+"""What the program prints on standard error, as exceptions. Other lines may stand before its own, such as those of the loader."""
 
 from __future__ import annotations
 
@@ -23,11 +23,16 @@ _REFUSAL = re.compile(r'(query|sort|index|token): (?:byte (\d+): |place (".*"): 
 _OF_THE_DUMP = ("cannot open", "cannot read", "input too long", "too many reads")
 
 
+def error_line(told: str) -> str | None:
+    """What the last line says by which the program reports an error; None where there is none."""
+    return next((line[len(_PREFIX) :] for line in reversed(told.split("\n")) if line.startswith(_PREFIX)), None)
+
+
 def error_of(status: int, told: str) -> BsonfindError:
-    """The error of a run that did not end well, by its status and what it told."""
+    """The error of a run that did not end well, by its status and what it printed."""
     if status < 0:
         return ProgramError(f"ended by signal {-status}")
-    line = next((line[len(_PREFIX) :] for line in told.split("\n") if line.startswith(_PREFIX)), None)
+    line = error_line(told)
     if line is None:
         return ProgramError(told.strip() or f"ended with status {status}")
     fault = read_fault(line)

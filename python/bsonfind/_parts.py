@@ -3,25 +3,49 @@
 from __future__ import annotations
 
 import os
-from dataclasses import dataclass
-from typing import Iterator
+import stat
+import struct
+from dataclasses import dataclass, field
+from typing import BinaryIO, Iterable, Iterator, NamedTuple
 
-from ._errors import PartError
-from ._framing import end_of_input, walk
+from ._errors import DumpError, PartError
+from ._faults import Fault
+from ._framing import LONGEST, SHORTEST, end_of_input, walk
+from ._dumps import File, is_packed, opened, unpacked
 
 # What a part has at most where nothing else is asked for; a run of `find` holds its part in memory.
 MOST = 1 << 30
 _PIECE = 1 << 20
+_length_at = struct.Struct("<i").unpack_from
+
+
+class FileState(NamedTuple):
+    """What tells whether a file is still the one that was cut: its size, the time of its last change, and its inode."""
+
+    size: int
+    mtime_ns: int
+    inode: int
+
+    @classmethod
+    def of(cls, file: BinaryIO) -> FileState:
+        """The state of an open file."""
+        found = os.fstat(file.fileno())
+        return cls(found.st_size, found.st_mtime_ns, found.st_ino)
 
 
 @dataclass(frozen=True)
 class Part:
-    """Some documents of a file: where they begin, how many bytes they have, and the number of the first one."""
+    """Some documents of a file: where they begin, how many bytes they have, and the number of the first one.
+
+    Of a file by `mongodump --gzip` the bytes count as unpacked. A part that `plan` made keeps the state of its file, and is
+    refused once the file is another one or was written to.
+    """
 
     path: str
     offset: int
     length: int
     first: int
+    state: FileState | None = field(default=None, compare=False)
 
     def __str__(self) -> str:
         return f"{self.path}, the part of {self.length} bytes at byte {self.offset}"
@@ -29,34 +53,105 @@ class Part:
     def pieces(self) -> Iterator[bytes]:
         """The bytes of the part, which is an error where the file no longer has them."""
         left = self.length
-        with open(self.path, "rb", buffering=0) as file:
-            file.seek(self.offset)
-            while left:
-                piece = file.read(min(left, _PIECE))
-                if not piece:
-                    raise PartError(self, f"{left} bytes are missing: the file became shorter")
-                left -= len(piece)
+        with opened(self.path) as file:
+            self._check_state(file)
+            for piece in self._bytes_of(file):
                 yield piece
+                left -= len(piece)
+            if left:
+                raise PartError(self, f"{left} bytes are missing: the file became shorter")
+            self._check_state(file)
+
+    def _bytes_of(self, file: BinaryIO) -> Iterator[bytes]:
+        """The bytes of the part, as many as the file has."""
+        if is_packed(self.path):
+            yield from _between(unpacked(self.path), self.offset, self.offset + self.length)
+            return
+        left = self.length
+        file.seek(self.offset)
+        while left and (piece := file.read(min(left, _PIECE))):
+            left -= len(piece)
+            yield piece
+
+    def _check_state(self, file: BinaryIO) -> None:
+        """Refuses a file that is no longer the one that was cut."""
+        if not self.state:
+            return
+        now = FileState.of(file)
+        if now.inode != self.state.inode:
+            raise PartError(self, "the file was replaced since it was cut")
+        if now.size < self.state.size:
+            raise PartError(self, f"{self.state.size - now.size} bytes are missing: the file became shorter")
+        if now != self.state:
+            raise PartError(self, "the file was written to since it was cut")
 
 
-def plan(path: str | os.PathLike[str], most: int = MOST) -> list[Part]:
+def _between(pieces: Iterator[bytes], start: int, end: int) -> Iterator[bytes]:
+    """The bytes from one place to another."""
+    at = 0
+    for piece in pieces:
+        if at >= end:
+            return
+        if at + len(piece) > start:
+            yield piece[max(start - at, 0) : end - at]
+        at += len(piece)
+
+
+def plan(path: File, most: int = MOST) -> list[Part]:
     """Cuts a file of any size between documents into parts of at most so many bytes; a longer document is a part by itself.
 
-    Nothing but the lengths is looked at. Where one is wrong there is no plan, but a `DumpError` that tells the byte.
+    Nothing but the lengths is looked at. Where one is wrong there is no plan, but a `DumpError` that gives the byte. A file by
+    `mongodump --gzip` is unpacked for the plan, and again from its beginning for each part.
     """
     if most < 1:
         raise ValueError(f"a part has 1 byte or more, not {most}")
-    name = os.fspath(path)
+    name = os.fsdecode(path)
     parts, start, first, at, number = [], 0, 0, 0, 0
-    with open(name, "rb") as file:
-        for number, after in enumerate(walk(file)):
+    with opened(name) as file:
+        state = FileState.of(file)
+        for number, after in enumerate(_ends(name, file)):
             if after - start > most and at > start:
-                parts.append(Part(name, start, at - start, first))
+                parts.append(Part(name, start, at - start, first, state))
                 start, first = at, number
             at = after
     if at > start:
-        parts.append(Part(name, start, at - start, first))
+        parts.append(Part(name, start, at - start, first, state))
     return parts
+
+
+def _ends(name: str, file: BinaryIO) -> Iterator[int]:
+    """The place after each document of a file. What has no size, such as a pipe, cannot be cut: each part opens it again."""
+    if not stat.S_ISREG(os.fstat(file.fileno()).st_mode):
+        raise DumpError(f"{name} is no regular file")
+    return ends_in(unpacked(name)) if is_packed(name) else walk(file)
+
+
+def ends_in(pieces: Iterable[bytes]) -> Iterator[int]:
+    """The place after each document of bytes that pass, by its length alone; a length that is wrong is a `DumpError`."""
+    # The bytes from the next length on, how many passed, where the next length stands, and where the last document begins.
+    held, seen, at, start, number = b"", 0, 0, 0, 0
+    for piece in pieces:
+        held, seen = held + piece, seen + len(piece)
+        while at <= seen:
+            if at > start:
+                yield at
+                start, number = at, number + 1
+            if at + 4 > seen:
+                break
+            (length,) = _length_at(held, len(held) - (seen - at))
+            if not SHORTEST <= length <= LONGEST:
+                raise _bad(number, at, "bad length")
+            at += length
+        held = held[len(held) - (seen - at) :] if at < seen else b""
+    if at > seen:
+        raise _bad(number, start, "bad length")
+    if at < seen:
+        raise _bad(number, at, "length cut short")
+
+
+def _bad(number: int, at: int, kind: str) -> DumpError:
+    fault = Fault(number, at, "", kind)
+    return DumpError(str(fault), fault)
 
 
 def inputs(path: str) -> Iterator[Part]:

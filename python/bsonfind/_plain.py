@@ -3,9 +3,10 @@
 from __future__ import annotations
 
 import re
-from typing import IO, Iterator
+from typing import Iterator
 
 from ._errors import PartError
+from ._framing import LONGEST, SHORTEST
 from ._parts import Part
 
 # The names that begin an object of Extended JSON which stands for another value.
@@ -13,39 +14,56 @@ _WRAPPERS = re.compile(
     rb"\$(?:binary|code|date|dbPointer|maxKey|minKey|numberDecimal|numberDouble|numberInt|numberLong|oid|regularExpression|scope|symbol"
     rb"|timestamp|undefined|uuid)\0"
 )
-# More bytes than such a name has.
-_OVERLAP = 32
 # The bytes of a value by its type, where they are always as many.
 _SIZES = {1: 8, 6: 0, 7: 12, 8: 1, 9: 8, 10: 0, 16: 4, 17: 8, 18: 8, 19: 16, 127: 0, 255: 0}
 
 
 def plain_pieces(part: Part) -> Iterator[bytes]:
-    """The bytes of the part, which is an error where a document begins with such a name."""
-    with open(part.path, "rb") as file:
-        before, at, start = b"", part.offset, part.offset
-        for piece in part.pieces():
-            window = before + piece
-            for found in _WRAPPERS.finditer(window):
-                name = at - len(before) + found.start()
-                if name >= start:
-                    start, document = _document_with(file, start, name)
-                    for first in _first_names(document):
-                        if wrapper := _WRAPPERS.match(document, first):
-                            text = wrapper.group()[:-1].decode()
-                            raise PartError(part, f'byte {start + first}: a document begins with the name "{text}", and is written like another value')
-                    start += len(document)
-            before, at = window[-_OVERLAP:], at + len(piece)
-            yield piece
+    """The bytes of the part, which is an error where a document begins with such a name.
+
+    Each document is looked at in its own bytes. After a length that is wrong none is: the program refuses the part.
+    """
+    at, held = part.offset, b""
+    pieces = part.pieces()
+    for piece in pieces:
+        held += piece
+        end, is_wrong = _end_of_documents(held)
+        documents, held = held[:end], held[end:]
+        if _WRAPPERS.search(documents):
+            _refuse_wrappers(part, at, documents)
+        at += end
+        yield documents
+        if is_wrong:
+            break
+    yield held
+    yield from pieces
 
 
-def _document_with(file: IO[bytes], start: int, byte: int) -> tuple[int, bytes]:
-    """Where the document begins that has this byte, and its bytes; documents stand from `start` on."""
-    while True:
-        file.seek(start)
-        length = int.from_bytes(file.read(4), "little")
-        if length < 5 or byte < start + length:
-            file.seek(start)
-            return start, file.read(max(length, byte + _OVERLAP - start))
+def _end_of_documents(data: bytes) -> tuple[int, bool]:
+    """Where the last document ends that is there to its end, and whether the length after it is wrong."""
+    at = 0
+    while at + 4 <= len(data):
+        length = _number(data, at)
+        if not SHORTEST <= length <= LONGEST:
+            return at, True
+        if at + length > len(data):
+            break
+        at += length
+    return at, False
+
+
+def _refuse_wrappers(part: Part, at: int, documents: bytes) -> None:
+    """Raises an error where one of the documents, the first of which is at this byte of the file, begins with such a name."""
+    start = 0
+    while start < len(documents):
+        length = _number(documents, start)
+        if _WRAPPERS.search(documents, start, start + length):
+            document = documents[start : start + length]
+            for first in _first_names(document):
+                if wrapper := _WRAPPERS.match(document, first):
+                    text = wrapper.group()[:-1].decode()
+                    where = f'byte {at + start + first}: a document begins with the name "{text}"'
+                    raise PartError(part, f"{where}, and is written like another value")
         start += length
 
 

@@ -1,14 +1,21 @@
-"""Runs of the program: bytes go in, bytes come out, and what it told is read."""
+"""Runs of the program: bytes go in, bytes come out, and what it printed on standard error is read."""
 
 from __future__ import annotations
 
+import fcntl
+import os
 import subprocess
 import tempfile
 import threading
 from typing import IO, Any, Iterable, Sequence
 
-from ._errors import BsonfindError, ProgramError
-from ._messages import error_of
+from ._errors import BsonfindError, OtherProcessError, ProgramError, TimedOutError
+from ._messages import error_line, error_of
+from ._dumps import Dump, opened
+
+
+# As many bytes as a pipe of Linux holds.
+_BUFFER = 1 << 16
 
 
 class Group:
@@ -17,13 +24,16 @@ class Group:
     def __init__(self) -> None:
         self._lock = threading.Lock()
         self._processes: set[subprocess.Popen[bytes]] = set()
+        self._timer: threading.Timer | None = None
         self.is_ended = False
+        # Why it was ended, where that is an error. Each run has it then.
+        self.error: BsonfindError | None = None
 
     def start(self, words: Sequence[str], **streams: Any) -> subprocess.Popen[bytes]:
         """Starts a program."""
         with self._lock:
             if self.is_ended:
-                raise ProgramError("not started: what it is for was ended")
+                raise self.error or ProgramError("not started: what it is for was ended")
             try:
                 process = subprocess.Popen(words, **streams)
             except OSError as error:
@@ -36,35 +46,51 @@ class Group:
         with self._lock:
             self._processes.discard(process)
 
-    def end(self) -> None:
-        """Kills what runs; nothing is started any more."""
+    def end(self, error: BsonfindError | None = None) -> None:
+        """Kills what runs, for the first error that is given; nothing is started any more. Any thread may call it."""
         with self._lock:
             self.is_ended = True
+            self.error = self.error or error
             for process in self._processes:
                 process.kill()
+
+    def end_after(self, timeout: float) -> None:
+        """Ends the group once so many seconds have passed, unless `rest` comes first."""
+        self._timer = threading.Timer(timeout, self.end, [TimedOutError(f"no answer within {timeout:g} seconds")])
+        self._timer.daemon = True
+        self._timer.start()
+
+    def rest(self) -> None:
+        """Takes back what `end_after` has set."""
+        timer, self._timer = self._timer, None
+        if timer:
+            timer.cancel()
 
     def __reduce__(self) -> tuple[type[Group], tuple[()]]:
         return Group, ()
 
 
 class Feeder(threading.Thread):
-    """Writes pieces to a pipe, closes it, and keeps what was wrong with the pieces."""
+    """Writes pieces to the pipe of a program, closes it, and keeps what was wrong with the pieces."""
 
-    def __init__(self, pieces: Iterable[bytes], pipe: IO[bytes]) -> None:
+    def __init__(self, pieces: Iterable[bytes], pipe: IO[bytes], process: subprocess.Popen[bytes]) -> None:
         super().__init__(daemon=True)
-        self._pieces, self._pipe = pieces, pipe
+        self._pieces, self._pipe, self._process = pieces, pipe, process
         self.error: Exception | None = None
 
     def run(self) -> None:
-        """Writes all of them, or as many as are read."""
+        """Writes all of them, or as many as are read. The program sees the end of its input only after the last one."""
         try:
-            with self._pipe:
-                for piece in self._pieces:
-                    self._pipe.write(piece)
+            for piece in self._pieces:
+                self._pipe.write(piece)
         except BrokenPipeError:
-            pass  # The program reads no more, and its end tells why.
+            pass  # The program reads no more, and its end says why.
         except Exception as error:  # noqa: BLE001 - it is raised where the run is waited for
             self.error = error
+            self._process.kill()
+            self._process.wait()
+        finally:
+            close(self._pipe)
 
 
 class Run:
@@ -81,22 +107,49 @@ class Run:
         stdout: int = subprocess.PIPE,
         group: Group | None = None,
     ) -> None:
+        streams = {"stdin": stdin if pieces is None else subprocess.PIPE, "stdout": stdout}
+        self._start(words, group, streams)
+        if pieces is not None:
+            self._feed(pieces, self.stdin)
+
+    @classmethod
+    def over(cls, dump: Dump, program: str, command: str, options: Sequence[str] = (), **how: Any) -> Run:
+        """A run of a command that reads a dump."""
+        words = [program, command, dump.word, *options]
+        if dump.path is None:
+            return cls(words, dump.pieces, **how)
+        with opened(dump.path) as file:
+            return cls(words, stdin=file, **how)
+
+    @classmethod
+    def serving(cls, dump: Dump, program: str, group: Group | None = None) -> Run:
+        """A run of `serve`, which reads the commands from its standard input, and a dump without a name from another descriptor.
+
+        Ctrl-C at the terminal reaches the caller alone, so that the session can go on after it.
+        """
+        run = cls.__new__(cls)
+        streams = {"stdin": subprocess.PIPE, "stdout": subprocess.PIPE, "bufsize": _BUFFER, "start_new_session": True}
+        with Descriptor(dump) as descriptor:
+            run._start([program, "serve", descriptor.word], group, {**streams, "pass_fds": descriptor.passed})
+            if dump.pieces is not None:
+                run._feed(dump.pieces, descriptor.take_pipe())
+        return run
+
+    def _start(self, words: Sequence[str], group: Group | None, streams: dict[str, Any]) -> None:
         self._group = group or Group()
         self._feeder: Feeder | None = None
+        self._owner = os.getpid()
         self._stderr = tempfile.TemporaryFile()
-        streams = {"stdin": stdin if pieces is None else subprocess.PIPE, "stdout": stdout, "stderr": self._stderr}
         try:
-            self.process = self._group.start(words, **streams)
+            self.process = self._group.start(words, **streams, stderr=self._stderr)
         except BaseException:
             self._stderr.close()
             raise
-        if pieces is not None:
-            self._feed(pieces)
 
-    def _feed(self, pieces: Iterable[bytes]) -> None:
-        """Begins to write pieces to standard input."""
+    def _feed(self, pieces: Iterable[bytes], pipe: IO[bytes]) -> None:
+        """Begins to write pieces to a pipe."""
         try:
-            self._feeder = Feeder(pieces, self.stdin)
+            self._feeder = Feeder(pieces, pipe, self.process)
             self._feeder.start()
         except BaseException:
             self._feeder = None
@@ -115,9 +168,15 @@ class Run:
         assert self.process.stdout is not None
         return self.process.stdout
 
+    def check_process(self) -> None:
+        """Refuses a call in another process than the one that started the run."""
+        check_owner(self._owner)
+
     def wait(self) -> int:
-        """The status, once the run has ended; raises what was wrong with the pieces."""
+        """The status, once the run has ended; raises why its group was ended, or what was wrong with the pieces."""
         status = self.process.wait()
+        if self._group.error:
+            raise self._group.error
         if self._feeder:
             self._feeder.join()
             if self._feeder.error:
@@ -129,18 +188,31 @@ class Run:
         self._stderr.seek(0)
         return self._stderr.read().decode(errors="replace")
 
+    def last_line(self) -> str:
+        """The last line of standard error, in which a run that ended well gives its counts. The loader's lines come before it."""
+        return self.messages().rstrip("\n").rpartition("\n")[2]
+
+    def error_line(self) -> str | None:
+        """What the program says of an error of its own; None where it says nothing."""
+        return error_line(self.messages())
+
     def finish(self) -> str:
-        """Waits for the end, and gives its messages; raises the error of a run that failed."""
+        """Waits for the end, and gives the last line of standard error; raises the error of a run that failed."""
         if self.wait():
             raise self.error()
-        return self.messages()
+        return self.last_line()
 
     def error(self) -> BsonfindError:
         """The error of a run that did not end well."""
-        return error_of(self.process.wait(), self.messages())
+        try:
+            return error_of(self.wait(), self.messages())
+        except BsonfindError as error:
+            return error
 
     def close(self) -> None:
-        """Kills the program where it runs, and lets go of all that was opened."""
+        """Kills the program where it runs, and frees all that was opened. In another process it does nothing."""
+        if os.getpid() != self._owner:
+            return
         self.process.kill()
         self.process.wait()
         self._group.leave(self.process)
@@ -148,7 +220,7 @@ class Run:
             self._feeder.join()
         for stream in (self.process.stdin, self.process.stdout):
             if stream:
-                _close(stream)
+                close(stream)
         self._stderr.close()
 
     def __enter__(self) -> Run:
@@ -158,9 +230,52 @@ class Run:
         self.close()
 
 
-def _close(pipe: IO[bytes]) -> None:
+def check_owner(owner: int) -> None:
+    """Refuses a call in another process than the one with this number, such as after a fork: both would read from one pipe."""
+    if os.getpid() != owner:
+        raise OtherProcessError(f"opened in process {owner}, used in process {os.getpid()}: open it again in each process")
+
+
+class Descriptor:
+    """The word that names a dump to `serve`, and the descriptor that goes with it where the dump has no name of its own."""
+
+    def __init__(self, dump: Dump) -> None:
+        self._dump = dump
+        self._pipe: IO[bytes] | None = None
+        self.word, self.passed = dump.word, ()
+
+    def __enter__(self) -> Descriptor:
+        if self._dump.path is not None:
+            with opened(self._dump.path) as file:
+                self._pass(file.fileno())
+        elif self._dump.pieces is not None:
+            read, write = os.pipe()
+            self._pipe = open(write, "wb")
+            with open(read, "rb"):
+                self._pass(read)
+        return self
+
+    def _pass(self, descriptor: int) -> None:
+        """Passes a copy of a descriptor, with a number above those of the standard streams."""
+        copy = fcntl.fcntl(descriptor, fcntl.F_DUPFD_CLOEXEC, 3)
+        self.word, self.passed = f"/dev/fd/{copy}", (copy,)
+
+    def take_pipe(self) -> IO[bytes]:
+        """The pipe to the program, which the caller closes."""
+        pipe, self._pipe = self._pipe, None
+        assert pipe is not None
+        return pipe
+
+    def __exit__(self, *_: object) -> None:
+        for descriptor in self.passed:
+            os.close(descriptor)
+        if self._pipe:
+            close(self._pipe)
+
+
+def close(pipe: IO[bytes]) -> None:
     """Closes a pipe, of which the other end may be gone."""
     try:
         pipe.close()
     except BrokenPipeError:
-        pass
+        pass  # What was not written is not read.

@@ -7,11 +7,15 @@ import operator
 from dataclasses import dataclass, replace
 from typing import Any, Iterable, Mapping, Sequence, Union
 
+from ._values import extended
+
 Filter = Mapping[str, Any]
 Sort = Union[Mapping[str, int], Sequence["tuple[str, int]"]]
 
 # The greatest skip, limit and size of a batch.
 MOST = 2_147_483_647
+# Linux takes arguments below 131,072 bytes.
+LONGEST_ARGUMENT = 131_000
 
 
 def whole(name: str, number: int, least: int = 0) -> int:
@@ -23,22 +27,13 @@ def whole(name: str, number: int, least: int = 0) -> int:
 
 
 def text_of(value: Any) -> str:
-    """The JSON of a value. What pymongo's types stand for is written by pymongo, in canonical form."""
-    return json.dumps(value, separators=(",", ":"), default=_extended)
+    """The JSON of a value. An `ObjectId`, a date and bytes are written in canonical form, and by pymongo what its types stand for."""
+    return json.dumps(value, separators=(",", ":"), default=extended)
 
 
 def text_of_pairs(pairs: Iterable[tuple[str, str]]) -> str:
     """The JSON of an object of names and the texts of their values; a name may stand twice."""
     return "{" + ",".join(f"{text_of(name)}:{text}" for name, text in pairs) + "}"
-
-
-def _extended(value: Any) -> Any:
-    """Extended JSON of a date, an id and the like."""
-    try:
-        from bson import json_util
-    except ImportError:
-        raise TypeError(f"{type(value).__name__} is none of JSON's types; write it as Extended JSON, or install pymongo") from None
-    return json_util.default(value, json_util.CANONICAL_JSON_OPTIONS)
 
 
 @dataclass(frozen=True)
@@ -61,6 +56,11 @@ class Request:
         """What each part is asked, so that the documents of the answer are among those of the parts."""
         most = self.skip + self.limit
         return replace(self, skip=0, limit=most if self.limit and most <= MOST else 0)
+
+    @property
+    def is_long(self) -> bool:
+        """Whether a command line cannot hold it, so that it goes to `serve`."""
+        return max(len(self.filter), len(self.sort)) > LONGEST_ARGUMENT
 
     def words(self) -> list[str]:
         """The options of `find`."""

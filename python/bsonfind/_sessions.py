@@ -3,57 +3,127 @@
 from __future__ import annotations
 
 import os
-from collections import deque
-from typing import Any, Iterator, Mapping, Union
+from typing import Any, Callable, Iterator, Literal, TypeVar, overload
 
+from . import _steps
 from ._connections import Connection
-from ._decoding import decoder
-from ._replies import Batch, read_batch, read_reply
-from ._requests import Filter, Request, Sort, text_of, whole
+from ._decoding import Decode, Dicts
+from ._dumps import File, dump_of
+from ._requests import Filter, Request, Sort
+from ._steps import Hint, Reading, Use, use_of
 
-# How documents are to be found: by what the program chooses, by each document, or by the index on a path.
-Use = Union[str, Mapping[str, str]]
+T = TypeVar("T")
 
 
 class Session:
     """A dump with its indexes and cursors, held by a run of the program to the end of the session.
 
-    Threads may share a session, and a cursor belongs to one thread at a time. A dump that is refused is a `DumpError` at once, and
-    a `SessionEnded` tells that the program went away later.
+    Threads may share a session, and a cursor belongs to one thread at a time. Another process, such as one by a fork, opens its
+    own session: there each call of this one is an `OtherProcessError`. A dump that is refused is a `DumpError` at once, and a
+    `SessionEndedError` reports that the program went away later. Where a `timeout` is given, no reply may take more seconds: a
+    `TimedOutError` then ends the session.
     """
 
-    def __init__(self, path: str | os.PathLike[str], program: str = "bsonfind") -> None:
-        self._connection = Connection(path, program)
+    def __init__(self, path: File, program: str = "bsonfind", *, timeout: float | None = None) -> None:
+        self._connection = Connection(dump_of(path), program, timeout)
 
+    # fmt: off
+    @overload
+    def find(
+        self, filter: Filter | None = None, *, sort: Sort | None = None, skip: int = 0, limit: int = 0, batch_size: int = 100,
+        use: Use = "auto", hint: Hint | None = None, after: str | None = None, decode: Dicts = "dict",
+    ) -> Cursor[dict[str, Any]]: ...
+    @overload
+    def find(
+        self, filter: Filter | None = None, *, sort: Sort | None = None, skip: int = 0, limit: int = 0, batch_size: int = 100,
+        use: Use = "auto", hint: Hint | None = None, after: str | None = None, decode: Literal["bytes"],
+    ) -> Cursor[bytes]: ...
+    @overload
+    def find(
+        self, filter: Filter | None = None, *, sort: Sort | None = None, skip: int = 0, limit: int = 0, batch_size: int = 100,
+        use: Use = "auto", hint: Hint | None = None, after: str | None = None, decode: Callable[[bytes], T],
+    ) -> Cursor[T]: ...
+    # fmt: on
     def find(
         self,
         filter: Filter | None = None,
+        *,
         sort: Sort | None = None,
         skip: int = 0,
         limit: int = 0,
         batch_size: int = 100,
         use: Use = "auto",
+        hint: Hint | None = None,
         after: str | None = None,
-        decode: str = "dict",
-    ) -> Cursor:
-        """Opens a cursor over an answer, or over what follows a token of the same request."""
-        request = Request.of(filter, sort, skip, limit)
-        return Cursor(self._connection, request, use, whole("batch_size", batch_size, 1), after, decode)
+        decode: Decode[Any] = "dict",
+    ) -> Cursor[Any]:
+        """Opens a cursor over an answer, or over what follows a token of the same request.
+
+        Documents are read `batch_size` at a time, or fewer where they are long. `use` says how they are found: "auto", "scan" or
+        {"index": PATH}. `hint` says the same as pymongo does: the path of an index, [(PATH, 1)], or {"$natural": 1} for a scan.
+        """
+        reading = Reading(Request.of(filter, sort, skip, limit), use_of(use, hint), batch_size, after, decode)
+        return Cursor(self._connection, reading)
+
+    # fmt: off
+    @overload
+    def find_one(
+        self, filter: Filter | None = None, *, sort: Sort | None = None, skip: int = 0, use: Use = "auto",
+        hint: Hint | None = None, decode: Dicts = "dict",
+    ) -> dict[str, Any] | None: ...
+    @overload
+    def find_one(
+        self, filter: Filter | None = None, *, sort: Sort | None = None, skip: int = 0, use: Use = "auto",
+        hint: Hint | None = None, decode: Literal["bytes"],
+    ) -> bytes | None: ...
+    @overload
+    def find_one(
+        self, filter: Filter | None = None, *, sort: Sort | None = None, skip: int = 0, use: Use = "auto",
+        hint: Hint | None = None, decode: Callable[[bytes], T],
+    ) -> T | None: ...
+    # fmt: on
+    def find_one(
+        self,
+        filter: Filter | None = None,
+        *,
+        sort: Sort | None = None,
+        skip: int = 0,
+        use: Use = "auto",
+        hint: Hint | None = None,
+        decode: Decode[Any] = "dict",
+    ) -> Any:
+        """The first document of an answer, None where it has none."""
+        with self.find(filter, sort=sort, skip=skip, limit=1, use=use, hint=hint, decode=decode) as cursor:
+            return next(cursor, None)
+
+    def count_documents(self, filter: Filter | None = None) -> int:
+        """How many documents match."""
+        return self._connection.do(_steps.count(Request.of(filter)))
 
     def create_index(self, path: str, sparse: bool = False) -> dict[str, Any]:
         """Makes an index on a path: how many `entries` it has, and whether a document has more than one (`multikey`)."""
-        return read_reply(self._connection.ask([("createIndex", text_of(path)), ("sparse", text_of(sparse))]))
+        return self._connection.do(_steps.create_index(path, sparse))
 
     def drop_index(self, path: str) -> None:
         """Drops the index on a path; cursors that were opened by it give the same."""
-        read_reply(self._connection.ask([("dropIndex", text_of(path))]))
+        self._connection.do(_steps.drop_index(path))
 
     def explain(
-        self, filter: Filter | None = None, sort: Sort | None = None, skip: int = 0, limit: int = 0, use: Use = "auto"
+        self,
+        filter: Filter | None = None,
+        *,
+        sort: Sort | None = None,
+        skip: int = 0,
+        limit: int = 0,
+        use: Use = "auto",
+        hint: Hint | None = None,
     ) -> dict[str, Any]:
         """How an answer is found: the `plan`, the path of the `index`, and how many `entries`, `documents` and `matches`."""
-        request = Request.of(filter, sort, skip, limit)
-        return read_reply(self._connection.ask([("explain", request.filter), *request.fields(), ("use", text_of(use))]))
+        return self._connection.do(_steps.explain(Request.of(filter, sort, skip, limit), use_of(use, hint)))
+
+    def cancel(self) -> None:
+        """Ends the session at once, from any thread: a call that waits for a reply gets a `CancelledError`."""
+        self._connection.cancel()
 
     def close(self) -> None:
         """Ends the session."""
@@ -66,83 +136,49 @@ class Session:
         self.close()
 
 
-class Cursor(Iterator[Any]):
-    """The documents of an answer, which are asked for a batch at a time."""
+class Cursor(Iterator[T]):
+    """The documents of an answer, which are asked for a batch at a time.
 
-    def __init__(
-        self, connection: Connection, request: Request, use: Use, batch_size: int, after: str | None, decode: str
-    ) -> None:
-        self._number: int | None = None
-        self._connection, self._request, self._use = connection, request, text_of(use)
-        self._batch_size = batch_size
-        self._decode, self._document_of = decode, decoder(decode)
-        # What is left of the last batch, how many of it were given, and the tokens before and after it.
-        self._left: deque[Any] = deque()
-        self._given = 0
-        self._before = self._after = after
+    A batch that was read is kept as it came. So where a document cannot be decoded, or the caller is interrupted, the next call
+    gives the documents after it; a cursor that was interrupted while it read says so by a `CursorStateError`.
+    """
+
+    def __init__(self, connection: Connection, reading: Reading[T]) -> None:
+        self._connection, self._reading = connection, reading
+        self._owner = os.getpid()
         self._is_closed = False
-        self._number = self._open(after)
+        connection.do(reading.start())
 
-    def _open(self, after: str | None) -> int:
-        """Opens a cursor of the program over the answer, or over what follows a token."""
-        if after is None:
-            first = [("find", self._request.filter)]
-        else:
-            first = [("resume", text_of(after)), ("filter", self._request.filter)]
-        reply = self._connection.ask([*first, *self._request.fields(), ("use", self._use)])
-        return read_reply(reply)["cursor"]
-
-    def _read(self, number: int, size: int) -> Batch:
-        """The next documents of a cursor of the program."""
-        return read_batch(self._connection.ask([("getMore", str(number)), ("batch", str(size))]))
-
-    def __next__(self) -> Any:
-        while not self._left and self._number is not None:
-            self._read_on(self._number)
-        if self._is_closed or not self._left:
+    def __next__(self) -> T:
+        if os.getpid() != self._owner:
+            self._connection.check()
+        documents = self._reading.held.documents
+        while not documents.left and not self._reading.is_at_end and not self._is_closed:
+            self._connection.do(self._reading.read_on())
+            documents = self._reading.held.documents
+        if self._is_closed or not documents.left:
             raise StopIteration
-        self._given += 1
-        return self._left.popleft()
+        return documents.give()
 
-    def _read_on(self, number: int) -> None:
-        """Reads the next batch."""
-        batch = self._read(number, self._batch_size)
-        if batch.end:
-            self._number = None
-        if self._decode == "dict":
-            self._left.extend(batch.documents)
-        else:
-            self._left.extend(self._document_of(text.encode()) for text in batch.texts)
-        self._given = 0
-        self._before, self._after = self._after, batch.token
-
-    @property
     def token(self) -> str | None:
         """The token that leads on to what follows the documents that were given; None where none was.
 
-        Within a batch the program is asked for it, by a cursor that gives the same documents once more.
+        Within a batch the program is asked for it, by a cursor that gives the same documents again.
         """
-        if not self._left:
-            return self._after
-        if not self._given:
-            return self._before
-        number = self._open(self._before)
-        try:
-            return self._read(number, self._given).token
-        finally:
-            self._connection.leave(number)
+        return self._connection.do(self._reading.token())
 
     def close(self) -> None:
         """Closes the cursor: no document follows. Its token stays."""
+        self._connection.check()
         self._is_closed = True
         self._leave()
 
     def _leave(self) -> None:
-        number, self._number = self._number, None
+        number, self._reading.number = self._reading.number, None
         if number is not None:
             self._connection.leave(number)
 
-    def __enter__(self) -> Cursor:
+    def __enter__(self) -> Cursor[T]:
         return self
 
     def __exit__(self, *_: object) -> None:

@@ -64,8 +64,9 @@ class Plans(Room):
             self.assertEqual(str(raised.exception), f'document 2, byte 14, path "": {kind}')
 
     def test_what_is_no_file(self) -> None:
-        with self.assertRaises(FileNotFoundError):
-            plan(self.room / "missing.bson")
+        for path, text in ((self.room / "missing.bson", "cannot open"), (self.room, "cannot open"), ("/dev/null", "is no regular file")):
+            with self.assertRaisesRegex(DumpError, text):
+                plan(path)
         with self.assertRaises(ValueError):
             plan(PEOPLE, 0)
 

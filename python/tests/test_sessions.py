@@ -8,8 +8,8 @@ import types
 from concurrent.futures import ThreadPoolExecutor
 from unittest import mock
 
-from bsonfind import CommandError, DumpError, ProgramError, Session, SessionEnded, find
-from bsonfind._connections import LONGEST_COMMAND
+from bsonfind import CommandError, DumpError, ProgramError, Session, SessionEndedError, find
+from bsonfind._steps import LONGEST_COMMAND
 
 from .support import DOUBLE, PEOPLE, PEOPLE_LINES, PROGRAM, SHOP, SHOP_LINES, Room, packed
 
@@ -50,15 +50,15 @@ class Sessions(Room):
         ages = [(int(it["age"]["$numberInt"]), number) for number, it in enumerate(map(json.loads, PEOPLE_LINES))]
         wanted = [number for age, number in sorted(ages, key=lambda it: (-it[0], it[1])) if age >= 90][3:20]
         for sort in ({"age": -1}, [("age", -1)]):
-            found = self.session.find(OLD, sort, skip=3, limit=17, batch_size=5, decode="bytes")
+            found = self.session.find(OLD, sort=sort, skip=3, limit=17, batch_size=5, decode="bytes")
             self.assertEqual(list(found), [PEOPLE_LINES[number] for number in wanted])
 
     def test_indexes(self) -> None:
-        by_scan = list(self.session.find(OLD, BY_NAME, use="scan"))
+        by_scan = list(self.session.find(OLD, sort=BY_NAME, use="scan"))
         self.assertEqual(self.session.create_index("age"), {"entries": 500, "multikey": False})
         self.assertEqual(self.session.create_index("note", sparse=True), {"entries": 39, "multikey": False})
-        self.assertEqual(list(self.session.find(OLD, BY_NAME, use={"index": "age"})), by_scan)
-        plan = self.session.explain(OLD, BY_NAME)
+        self.assertEqual(list(self.session.find(OLD, sort=BY_NAME, use={"index": "age"})), by_scan)
+        plan = self.session.explain(OLD, sort=BY_NAME)
         self.assertEqual((plan["plan"], plan["index"], plan["matches"]), ("index", "age", len(by_scan)))
         self.session.drop_index("age")
         self.assertEqual(self.session.explain(OLD)["plan"], "scan")
@@ -68,8 +68,8 @@ class Sessions(Room):
         self.session.create_index("age")
         for refused, wanted in (
             (lambda: self.session.find({"a": {"$above": 1}}), ("filter", 1, "unknown operator", "a.$above")),
-            (lambda: self.session.find({"a": 1.5}), ("json", 5, "not in the profile", 13)),
-            (lambda: self.session.find({"a": float("nan")}), ("json", 1, "not JSON", 13)),
+            (lambda: self.session.find({"a": 1.5}), ("json", 5, "not in the profile", 5)),
+            (lambda: self.session.find({"a": float("nan")}), ("json", 1, "not JSON", 5)),
             (lambda: self.session.find(sort=[("a", 1), ("a", -1)]), ("session", 1, "not a sort", None)),
             (lambda: self.session.find(sort={"a": 2}), ("session", 1, "not a sort", None)),
             (lambda: self.session.find(use={"index": "b"}), ("session", 2, "no such index", None)),
@@ -94,33 +94,33 @@ class Sessions(Room):
             self.session.find(limit=1.0)
 
     def test_tokens_inside_and_between_batches(self) -> None:
-        wanted = list(find(PEOPLE, OLD, BY_NAME, decode="bytes", program=PROGRAM))
+        wanted = list(find(PEOPLE, OLD, sort=BY_NAME, decode="bytes", program=PROGRAM))
         for size in (1, 3, 4):
-            cursor = self.session.find(OLD, BY_NAME, batch_size=size, decode="bytes")
-            self.assertIsNone(cursor.token)
+            cursor = self.session.find(OLD, sort=BY_NAME, batch_size=size, decode="bytes")
+            self.assertIsNone(cursor.token())
             for given in range(1, 9):
                 next(cursor)
-                with find(PEOPLE, OLD, BY_NAME, batch=given, program=PROGRAM) as page:
+                with find(PEOPLE, OLD, sort=BY_NAME, batch_size=given, program=PROGRAM) as page:
                     self.assertEqual(len(list(page)), given)
-                self.assertEqual(cursor.token, page.token)
-                self.assertEqual(list(self.session.find(OLD, BY_NAME, after=cursor.token, decode="bytes")), wanted[given:])
+                self.assertEqual(cursor.token(), page.token)
+                self.assertEqual(list(self.session.find(OLD, sort=BY_NAME, after=cursor.token(), decode="bytes")), wanted[given:])
             self.assertEqual(list(cursor), wanted[8:])
 
     def test_token_after_a_token(self) -> None:
         first = self.session.find(OLD, limit=10, batch_size=4)
         next(first)
-        second = self.session.find(OLD, limit=10, batch_size=4, after=first.token)
-        self.assertEqual(second.token, first.token)
+        second = self.session.find(OLD, limit=10, batch_size=4, after=first.token())
+        self.assertEqual(second.token(), first.token())
         self.assertEqual([next(second) for _ in range(3)], [next(first) for _ in range(3)])
-        self.assertEqual(second.token, first.token)
+        self.assertEqual(second.token(), first.token())
         self.assertEqual(list(second), list(first))
-        self.assertEqual(second.token, first.token)
+        self.assertEqual(second.token(), first.token())
 
     def test_closed_cursor(self) -> None:
         with self.session.find(OLD, batch_size=4) as cursor:
             next(cursor)
         self.assertEqual(list(cursor), [])
-        rest = list(self.session.find(OLD, after=cursor.token))
+        rest = list(self.session.find(OLD, after=cursor.token()))
         self.assertEqual(rest, list(self.session.find(OLD))[1:])
 
     def test_cursors_that_are_left(self) -> None:
@@ -138,12 +138,12 @@ class Sessions(Room):
 
     def test_threads_share_a_session(self) -> None:
         def read(age: int) -> list:
-            return list(self.session.find({"age": {"$gte": age}}, BY_NAME, batch_size=3, decode="bytes"))
+            return list(self.session.find({"age": {"$gte": age}}, sort=BY_NAME, batch_size=3, decode="bytes"))
 
         ages = range(60, 92, 4)
         with ThreadPoolExecutor(8) as pool:
             found = list(pool.map(read, ages))
-        wanted = [find(PEOPLE, {"age": {"$gte": age}}, BY_NAME, decode="bytes", program=PROGRAM) for age in ages]
+        wanted = [find(PEOPLE, {"age": {"$gte": age}}, sort=BY_NAME, decode="bytes", program=PROGRAM) for age in ages]
         self.assertEqual(found, list(map(list, wanted)))
 
     def test_large_replies_and_commands(self) -> None:
@@ -207,9 +207,9 @@ class Endings(Room):
             cursor = session.find(batch_size=2)
             next(cursor)
         self.assertEqual(next(cursor), json.loads(PEOPLE_LINES[1]))
-        with self.assertRaises(SessionEnded):
+        with self.assertRaises(SessionEndedError):
             next(cursor)
-        with self.assertRaises(SessionEnded):
+        with self.assertRaises(SessionEndedError):
             session.find()
         session.close()
 
@@ -217,17 +217,17 @@ class Endings(Room):
         pids = self.room / "pid"
         session = Session(PEOPLE, self.script('echo $$ >"$ROOM/pid"\nexec "$PROGRAM" "$@"'))
         os.kill(int(pids.read_text()), signal.SIGKILL)
-        with self.assertRaises(SessionEnded) as raised:
+        with self.assertRaises(SessionEndedError) as raised:
             session.find()
         self.assertEqual(str(raised.exception), "ended by signal 9")
-        with self.assertRaises(SessionEnded):
+        with self.assertRaises(SessionEndedError):
             session.find()
 
     def test_reply_that_is_cut(self) -> None:
         refusal = '{"ok":false,"layer":"session","number":{"$numberInt":"6"},"text":"no such cursor"}'
         cut = "printf '{\"ok\":tr'\necho 'bsonfind: no memory' >&2\nexit 1"
         session = Session(PEOPLE, self.script(f"read line\necho '{refusal}'\nread line\n{cut}"))
-        with self.assertRaises(SessionEnded) as raised:
+        with self.assertRaises(SessionEndedError) as raised:
             session.find()
         self.assertEqual(str(raised.exception), "no memory")
 

@@ -1,14 +1,16 @@
 """Tests of the texts that go to the program and come from it."""
 
-import datetime
+import json
+import random
 import sys
 import types
 import unittest
+import uuid
 from unittest import mock
 
 from bsonfind import CommandError, DumpError, Fault, ProgramError
 from bsonfind._faults import read_fault
-from bsonfind._replies import read_batch, read_reply
+from bsonfind._replies import documents_in, read_batch, read_reply
 from bsonfind._requests import Request
 from bsonfind._messages import error_of
 
@@ -32,17 +34,18 @@ class Requests(unittest.TestCase):
             self.assertEqual(part, Request('{"a":1}', '{"b":1}', 0, wanted))
 
     def test_types_of_pymongo(self) -> None:
-        when = datetime.datetime(2025, 1, 1)
+        key = uuid.UUID(int=5)
         with mock.patch.dict(sys.modules, {"bson": None}), self.assertRaises(TypeError) as raised:
-            Request.of({"a": when})
-        self.assertIn("datetime", str(raised.exception))
+            Request.of({"a": key})
+        self.assertIn("UUID", str(raised.exception))
         json_util = types.ModuleType("bson.json_util")
         json_util.CANONICAL_JSON_OPTIONS = "canonical"
-        json_util.default = lambda value, options: {"$date": [str(value), options]}
+        json_util.default = lambda value, options: {"$uuid": [str(value), options]}
         bson = types.ModuleType("bson")
         bson.json_util = json_util
         with mock.patch.dict(sys.modules, {"bson": bson, "bson.json_util": json_util}):
-            self.assertEqual(Request.of({"a": when}).filter, '{"a":{"$date":["2025-01-01 00:00:00","canonical"]}}')
+            text = '{"a":{"$uuid":["00000000-0000-0000-0000-000000000005","canonical"]}}'
+            self.assertEqual(Request.of({"a": key}).filter, text)
 
 
 class Told(unittest.TestCase):
@@ -88,19 +91,45 @@ class Told(unittest.TestCase):
 
 class Replies(unittest.TestCase):
     def test_batches(self) -> None:
-        documents = ['{"a":"]},{"}', "{}", '{"a":[{"b":{"$numberInt":"1"}},{}]}']
-        batch = read_batch(f'{{"ok":true,"documents":[{",".join(documents)}],"end":true,"token":"AQ=="}}\n')
-        self.assertEqual(batch.texts, documents)
-        self.assertEqual(batch.documents, [{"a": "]},{"}, {}, {"a": [{"b": {"$numberInt": "1"}}, {}]}])
-        self.assertEqual((batch.end, batch.token), (True, "AQ=="))
-        self.assertEqual(read_batch('{"ok":true,"documents":[],"end":false,"token":null}\n'), ([], [], False, None))
+        documents = [b'{"a":"]},{"}', b"{}", b'{"a":[{"b":{"$numberInt":"1"}},{}]}']
+        batch = read_batch(b'{"ok":true,"documents":[%s],"end":true,"token":"AQ=="}\n' % b",".join(documents))
+        self.assertEqual(batch, (b",".join(documents), True, "AQ=="))
+        self.assertEqual(documents_in(batch.text), documents)
+        self.assertEqual(read_batch(b'{"ok":true,"documents":[],"end":false,"token":null}\n'), (b"", False, None))
+
+    def test_documents_of_random_texts(self) -> None:
+        """Texts are cut where Python's own reader of JSON ends a document."""
+        chosen = random.Random(5)
+        texts = ["", "},{", "{", "}", '"', "\\", '\\"', '},{"a":"', "],", "é\n", '\\\\"{', "x" * 9]
+
+        def value(levels: int) -> object:
+            kind = chosen.randrange(4 if levels else 2)
+            if kind == 2:
+                return [value(levels - 1) for _ in range(chosen.randrange(4))]
+            return document(levels - 1) if kind == 3 else chosen.choice(texts) if kind else chosen.randrange(9)
+
+        def document(levels: int) -> dict:
+            names = [chosen.choice(["_id", "a", *texts]) for _ in range(chosen.randrange(4))]
+            return {name: value(levels) for name in ["_id", *names][chosen.randrange(5) == 0 :]}
+
+        read = json.JSONDecoder().raw_decode
+        for _ in range(400):
+            line = ",".join(json.dumps(document(3), separators=(",", ":")) for _ in range(chosen.randrange(1, 9)))
+            wanted, at = [], 0
+            while at < len(line):
+                _, end = read(line, at)
+                wanted.append(line[at:end].encode())
+                at = end + 1
+            with self.subTest(line):
+                self.assertEqual(documents_in(line.encode()), wanted)
+                self.assertEqual(documents_in(line.encode(), len(wanted)), wanted)
 
     def test_numbers(self) -> None:
-        reply = read_reply('{"ok":true,"entries":{"$numberLong":"9223372036854775807"},"multikey":false}')
+        reply = read_reply(b'{"ok":true,"entries":{"$numberLong":"9223372036854775807"},"multikey":false}')
         self.assertEqual(reply, {"entries": 9223372036854775807, "multikey": False})
 
     def test_refusals(self) -> None:
-        line = '{"ok":false,"layer":"json","number":{"$numberInt":"2"},"text":"not a document","at":null}'
+        line = b'{"ok":false,"layer":"json","number":{"$numberInt":"2"},"text":"not a document","at":null}'
         for read in (read_reply, read_batch):
             with self.assertRaises(CommandError) as raised:
                 read(line)

@@ -1,0 +1,66 @@
+"""Dumps as runs of the program read them: by the name of a file, or by bytes that go through a pipe."""
+
+from __future__ import annotations
+
+import gzip
+import os
+import zlib
+from typing import BinaryIO, Iterable, Iterator, NamedTuple, Union
+
+from ._errors import DumpError
+
+File = Union[str, bytes, "os.PathLike[str]", "os.PathLike[bytes]"]
+
+_PIECE = 1 << 20
+
+
+class Dump(NamedTuple):
+    """A dump: the word that names it on a command line, and what comes by standard input in place of a name: pieces, or a file."""
+
+    word: str = "-"
+    pieces: Iterable[bytes] | None = None
+    path: str | None = None
+
+
+def dump_of(path: File) -> Dump:
+    """The dump of a file. The program takes names in UTF-8 alone, so a file with another name is opened here."""
+    name = os.fsdecode(path)
+    if is_packed(name):
+        return Dump(pieces=unpacked(name))
+    try:
+        os.fsencode(name).decode("utf-8")
+    except UnicodeDecodeError:
+        return Dump(path=name)
+    return Dump(file_word(name))
+
+
+def file_word(path: File) -> str:
+    """The word of the command line for a file, also for one whose name begins with a hyphen."""
+    name = os.fsdecode(path)
+    return os.path.join(os.curdir, name) if name.startswith("-") else name
+
+
+def is_packed(path: File) -> bool:
+    """Whether a file is one by `mongodump --gzip`, by its name."""
+    return os.fsdecode(path).endswith(".gz")
+
+
+def opened(path: File) -> BinaryIO:
+    """The file, without a buffer; one that cannot be opened is a `DumpError`, as the program says it."""
+    try:
+        return open(path, "rb", buffering=0)
+    except OSError as error:
+        raise DumpError(f"cannot open {os.fsdecode(path)}") from error
+
+
+def unpacked(path: File) -> Iterator[bytes]:
+    """The bytes that a file by `mongodump --gzip` stands for, in pieces. One that is cut, damaged or empty is a `DumpError`."""
+    with opened(path) as file, gzip.GzipFile(fileobj=file) as unpacking:
+        try:
+            while piece := unpacking.read(_PIECE):
+                yield piece
+            # Of an empty file gzip gives no bytes, and no error.
+            if not file.tell():
+                raise EOFError("the file is empty")
+        except (OSError, EOFError, zlib.error) as error:
+            raise DumpError(f"cannot unpack {os.fsdecode(path)}: {error}") from error

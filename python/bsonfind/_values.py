@@ -1,0 +1,107 @@
+"""Plain values of Python for values of Extended JSON, and the other way."""
+
+from __future__ import annotations
+
+import base64
+import re
+from datetime import datetime, timedelta, timezone
+from typing import Any, Callable
+
+_EPOCH = datetime(1970, 1, 1, tzinfo=timezone.utc)
+_HEX = re.compile("[0-9a-f]{24}")
+
+
+class ObjectId:
+    """An id of MongoDB, by the 24 digits of its text. It may stand in a filter."""
+
+    __slots__ = ("_digits",)
+
+    def __init__(self, digits: str) -> None:
+        if not isinstance(digits, str) or not _HEX.fullmatch(digits.lower()):
+            raise ValueError(f"an id has 24 hexadecimal digits, not {digits!r}")
+        self._digits = digits.lower()
+
+    def __str__(self) -> str:
+        return self._digits
+
+    def __repr__(self) -> str:
+        return f"ObjectId({self._digits!r})"
+
+    def __eq__(self, other: object) -> bool:
+        return self._digits == other._digits if isinstance(other, ObjectId) else NotImplemented
+
+    def __lt__(self, other: ObjectId) -> bool:
+        return self._digits < other._digits if isinstance(other, ObjectId) else NotImplemented
+
+    def __hash__(self) -> int:
+        return hash(self._digits)
+
+
+def plain_document(document: dict[str, Any]) -> dict[str, Any]:
+    """A document with plain values in place of canonical Extended JSON.
+
+    Numbers become `int`, dates a `datetime` in UTC, binary data of subtype 0 `bytes`, and ids an `ObjectId`. What Python has no
+    plain value for stays as it is, such as `{"$minKey": 1}`, and a date after the year 9999.
+    """
+    return {name: _plain(value) for name, value in document.items()}
+
+
+def _plain(value: Any) -> Any:
+    if isinstance(value, dict):
+        if len(value) == 1:
+            ((name, inner),) = value.items()
+            read = _READERS.get(name)
+            if read:
+                try:
+                    return read(inner)
+                except (AttributeError, TypeError, ValueError, OverflowError):
+                    return value  # Another document than the value that the name stands for, or one without a plain value.
+        return plain_document(value)
+    if isinstance(value, list):
+        return [_plain(it) for it in value]
+    return value
+
+
+def _whole(text: Any) -> int:
+    if not isinstance(text, str):
+        raise TypeError
+    return int(text)
+
+
+def _date(inner: Any) -> datetime:
+    ((name, text),) = inner.items()
+    if name != "$numberLong":
+        raise ValueError
+    return _EPOCH + timedelta(milliseconds=_whole(text))
+
+
+def _binary(inner: Any) -> bytes:
+    if list(inner) != ["base64", "subType"] or inner["subType"] != "00":
+        raise ValueError
+    return base64.b64decode(inner["base64"], validate=True)
+
+
+_READERS: dict[str, Callable[[Any], Any]] = {
+    "$numberInt": _whole,
+    "$numberLong": _whole,
+    "$oid": ObjectId,
+    "$date": _date,
+    "$binary": _binary,
+}
+
+
+def extended(value: Any) -> Any:
+    """Extended JSON of a value that JSON has no type for: a plain one, or by pymongo one of its types."""
+    if isinstance(value, ObjectId):
+        return {"$oid": str(value)}
+    if isinstance(value, datetime):
+        # As pymongo takes it, a time without a zone is one of UTC.
+        since = (value if value.tzinfo else value.replace(tzinfo=timezone.utc)) - _EPOCH
+        return {"$date": {"$numberLong": str(since // timedelta(milliseconds=1))}}
+    if isinstance(value, (bytes, bytearray, memoryview)):
+        return {"$binary": {"base64": base64.b64encode(value).decode(), "subType": "00"}}
+    try:
+        from bson import json_util
+    except ImportError:
+        raise TypeError(f"{type(value).__name__} is none of JSON's types; write it as Extended JSON, or install pymongo") from None
+    return json_util.default(value, json_util.CANONICAL_JSON_OPTIONS)
