@@ -1,17 +1,19 @@
-"""The commands `audit` and `salvage`, as `python3 -m bsonfind`."""
+"""The commands `audit`, `salvage` and the others, as `python3 -m bsonfind`."""
 
 from __future__ import annotations
 
 import argparse
+import io
 import os
 import sys
-from contextlib import ExitStack
-from typing import BinaryIO, Sequence
+from typing import Sequence
 
-from ._audit import Audit, audit, dumps_below, read_log
-from ._console import CannotWrite, Console
+from ._audit import MOST_FAULTS, Audit, audit_dumps
+from ._backups import dumps_of, lines_of
+from ._console import CannotWrite, Console, Progress, print_text
 from ._errors import BsonfindError
-from ._salvage import Salvage
+from ._processes import processors
+from ._salvage import salvage
 
 GOOD, FAULTY, FAILED, INTERRUPTED = 0, 1, 2, 130
 
@@ -20,44 +22,72 @@ class Refused(Exception):
     """Arguments that go with nothing."""
 
 
+class _Parser(argparse.ArgumentParser):
+    """A parser whose help is an error where it cannot be written."""
+
+    def print_help(self, file: object = None) -> None:
+        """Prints the help on standard output."""
+        print_text(self.format_help(), end="")
+
+
 def parser() -> argparse.ArgumentParser:
     """The parser of the arguments."""
-    main = argparse.ArgumentParser(
-        prog="python3 -m bsonfind", epilog="The status is 0 where all is good, 1 where something is faulty or missing, and else 2."
-    )
-    main.add_argument("--program", default="bsonfind", help="the program that is run, bsonfind on PATH without it")
+    main = _Parser(prog="python3 -m bsonfind", epilog="COMMAND --help explains a command and its status.")
+    _add_common(main, "bsonfind")
     commands = main.add_subparsers(required=True, metavar="COMMAND")
-    _add_audit(commands.add_parser("audit", help="check many files", description="Checks many files, on all processors."))
-    _add_salvage(commands.add_parser("salvage", help="copy what is good", description="Copies each document to one of two files."))
+    for name, add, about in (
+        ("audit", _add_audit, "Checks many files, on all processors."),
+        ("salvage", _add_salvage, "Copies each document of a damaged dump to one of two files."),
+    ):
+        command = commands.add_parser(name, help=about[0].lower() + about[1:-1], description=about)
+        _add_common(command, argparse.SUPPRESS)
+        add(command)
     return main
 
 
+def _add_common(command: argparse.ArgumentParser, program: str) -> None:
+    command.add_argument("--program", default=program, help="the program that is run, bsonfind on PATH without it")
+    command.add_argument("--version", action=_Version, nargs=0, help="print the version")
+
+
+class _Version(argparse.Action):
+    """Prints the version, which is looked up only then."""
+
+    def __call__(self, command: argparse.ArgumentParser, *_: object) -> None:
+        from . import __version__
+
+        print_text(f"bsonfind {__version__}")
+        command.exit()
+
+
 def _add_audit(command: argparse.ArgumentParser) -> None:
+    command.epilog = "The status is 0 where all is good, 1 where something is faulty, missing or not read, and else 2."
     command.add_argument("files", nargs="*", metavar="FILE", help="a dump, one by mongodump --gzip, or a directory of such files")
     command.add_argument("--list", metavar="F", help="also the files whose names are the lines of F")
     command.add_argument("--expect", metavar="LOG", help="compare the counts with those in a log of mongodump")
     command.add_argument("--json", action="store_true", help="print one line of JSON, and nothing else")
-    command.add_argument("--jobs", type=int, default=os.cpu_count(), metavar="N", help="check so many files at once")
+    command.add_argument("--jobs", type=int, default=processors(), metavar="N", help="check so many files at once")
+    command.add_argument("--max-faults", type=int, default=MOST_FAULTS, metavar="N", help="show so many faults of a file, not 10")
     command.set_defaults(run=run_audit)
 
 
 def _add_salvage(command: argparse.ArgumentParser) -> None:
-    command.add_argument("file", metavar="FILE", help="a damaged dump")
-    command.add_argument("--good", required=True, metavar="G", help="the file for documents without a fault, which is overwritten")
+    command.epilog = "The status is 0 where all is good, 1 where something is faulty or left out, and else 2."
+    command.add_argument("file", metavar="FILE", help="a damaged dump, or one by mongodump --gzip")
+    command.add_argument("--good", required=True, metavar="G", help="the file for documents without a fault")
     command.add_argument("--bad", required=True, metavar="B", help="the file for other documents whose length is known")
     command.set_defaults(run=run_salvage)
 
 
 def run_audit(words: argparse.Namespace) -> int:
     """Audits files, and gives the status."""
-    files = dumps_below([*words.files, *(_lines(words.list) if words.list else ())])
-    if not files:
-        raise Refused("no dump is named")
-    if words.jobs < 1:
-        raise Refused("--jobs is 1 or more")
-    expected = read_log(_lines(words.expect)) if words.expect else None
+    _refuse_below("--jobs", words.jobs, 1)
+    _refuse_below("--max-faults", words.max_faults, 0)
     console = Console()
-    done = audit(files, expected, None if words.json else console, words.jobs, words.program)
+    dumps = dumps_of([*words.files, *(_names_in(words.list) if words.list else ())])
+    if not dumps:
+        raise Refused("no dump is named")
+    done = audit_dumps(dumps, words.expect, words.jobs, words.max_faults, words.program, None if words.json else console)
     if words.json:
         console.line(done.as_json())
     else:
@@ -65,18 +95,27 @@ def run_audit(words: argparse.Namespace) -> int:
     return GOOD if done.is_good else FAULTY
 
 
-def _lines(name: str) -> list[str]:
-    with open(name, encoding="utf-8", errors="surrogateescape") as file:
-        return [line for line in file.read().split("\n") if line]
+def _refuse_below(name: str, number: int, least: int) -> None:
+    if number < least:
+        raise Refused(f"{name} is {least} or more")
+
+
+def _names_in(path: str) -> list[str]:
+    """The names of files that are the lines of a file."""
+    names = lines_of(path)
+    for number, name in enumerate(names, 1):
+        if "\0" in name:
+            raise Refused(f"{path}: name {number} has a zero byte; each line is a name")
+    return names
 
 
 def _print_audit(done: Audit, console: Console) -> None:
     for report in done.miscounted:
-        console.line(f"{report.name}: {report.documents} documents in place of {done.told(report)}")
+        console.line(f"{report.name}: {report.documents} documents in place of {report.expected}")
     for report in done.untold:
         console.line(f"{report.name}: not in the log")
-    for namespace in done.missing:
-        console.line(f"{namespace}: missing, with {(done.expected or {})[namespace]} documents")
+    for namespace, count in done.missing.items():
+        console.line(f"{namespace}: missing, with {count} documents")
     rows = done.rows()
     wide = max(len(name) for name, _ in rows)
     for name, count in rows:
@@ -85,47 +124,74 @@ def _print_audit(done: Audit, console: Console) -> None:
 
 def run_salvage(words: argparse.Namespace) -> int:
     """Salvages a file, and gives the status."""
-    console = Console()
-    with ExitStack() as files:
-        dump = files.enter_context(open(words.file, "rb"))
-        good, bad = (files.enter_context(_output(name, words.file)) for name in (words.good, words.bad))
-        if os.path.isfile(words.good) and os.path.samefile(words.good, words.bad):
-            raise Refused(f"{words.good} is named twice")
-        salvage = Salvage(dump, good, bad, words.program)
-        left_out = 0
-        for it in salvage.copy():
-            console.line(f"{words.file}: {it}")
-            left_out += it.end - it.start
-    copied = f"{salvage.good} documents to {words.good}, {salvage.bad} to {words.bad}"
-    console.line(f"{words.file}: {copied}, {left_out} bytes left out")
-    return FAULTY if salvage.bad or left_out else GOOD
-
-
-def _output(name: str, dump: str) -> BinaryIO:
-    """A file that is written, and is not the dump."""
-    if os.path.exists(name) and os.path.samefile(name, dump):
-        raise Refused(f"{name} is the dump")
-    return open(name, "wb")
+    console, name = Console(), words.file
+    with Progress(console) as progress:
+        done = salvage(
+            name,
+            words.good,
+            words.bad,
+            program=words.program,
+            say=lambda text: console.line(f"{name}: {text}"),
+            progress=progress.over,
+        )
+    return GOOD if done.is_good else FAULTY
 
 
 def main(words: Sequence[str] | None = None) -> int:
-    """Runs a command, and gives the status."""
+    """Runs a command, and gives the status. Nothing but a finding is 1: what was not foreseen is 2, with a message."""
     try:
-        known = parser().parse_args(words)
-        return known.run(known)
-    except (Refused, CannotWrite, BsonfindError) as error:
-        return _told(str(error))
-    except OSError as error:
-        return _told(f"{error.filename}: {error.strerror}" if error.filename else str(error.strerror))
+        _prepare_streams()
+        try:
+            known = parser().parse_args(words)
+            status = known.run(known)
+        except SystemExit as end:  # of the usage, or after --help
+            status = end.code if isinstance(end.code, int) else FAILED
+        _flush()
+        return status
     except KeyboardInterrupt:
         return INTERRUPTED
+    except (Refused, CannotWrite, BsonfindError) as error:
+        return _failed(str(error))
+    except OSError as error:
+        return _failed(f"{error.filename}: {error.strerror}" if error.filename else str(error.strerror or error))
+    except Exception as error:  # noqa: BLE001 - a status of 1 would be read as a fault of the dump
+        return _failed(f"{type(error).__name__}: {error}")
 
 
-def _told(text: str) -> int:
-    print(f"bsonfind: {text}", file=sys.stderr)
+def _prepare_streams() -> None:
+    """Opens what is closed of the standard streams, so that no dump is opened in its place, and has names printed as they are."""
+    for number in range(3):
+        try:
+            os.fstat(number)
+        except OSError:
+            os.open(os.devnull, os.O_RDWR)
+    if isinstance(sys.stdout, io.TextIOWrapper):
+        sys.stdout.reconfigure(encoding="utf-8", errors="surrogateescape")
+    if isinstance(sys.stderr, io.TextIOWrapper):
+        sys.stderr.reconfigure(encoding="utf-8", errors="surrogateescape")
+    if sys.stdout is None:
+        raise CannotWrite("cannot write: standard output is closed")
+
+
+def _flush() -> None:
+    try:
+        sys.stdout.flush()
+    except OSError as error:
+        raise CannotWrite(f"cannot write: {error.strerror}") from error
+
+
+def _failed(text: str) -> int:
+    """Reports on standard error why nothing more is done."""
+    if sys.stderr is not None:
+        print(f"bsonfind: {text}", file=sys.stderr)
+    if isinstance(sys.stdout, io.TextIOWrapper):
+        try:
+            sys.stdout.flush()
+        except OSError:
+            # What could not be written is not tried again at the end of Python.
+            os.dup2(os.open(os.devnull, os.O_WRONLY), sys.stdout.fileno())
     return FAILED
 
 
 if __name__ == "__main__":
-    sys.stdout.reconfigure(encoding="utf-8", errors="surrogateescape")
     sys.exit(main())

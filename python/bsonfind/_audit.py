@@ -2,39 +2,43 @@
 
 from __future__ import annotations
 
-import gzip
 import json
 import os
-import re
-import zlib
 from collections import Counter
-from concurrent.futures import ThreadPoolExecutor
-from functools import partial
-from pathlib import Path
-from typing import Any, Iterable, Iterator, NamedTuple, Sequence
-from urllib.parse import unquote
+from concurrent.futures import ThreadPoolExecutor, as_completed
+from dataclasses import dataclass, field
+from typing import Any, Callable, Iterable, NamedTuple
 
-from ._answers import file_word
-from ._faults import faults_of, finish_check
-from ._console import Console
+from ._backups import Dump, Log, dumps_of, fault_of_metadata, is_oplog, lines_of, namespace_of, read_log
+from ._console import Console, Progress
 from ._errors import BsonfindError
-from ._framing import LARGEST_INPUT
-from ._parts import inputs
-from ._processes import Group, Run
+from ._faults import NO_DAMAGE, Fault, faults_of, finish_check
+from ._processes import Group, Run, processors
+from ._sources import Source
 
-_PIECE = 1 << 20
-_ENDINGS = (".bson", ".bson.gz")
-_OPLOG = re.compile(r"(^|/)oplog\.bson(\.gz)?$")
-_DUMPED = re.compile(r"done dumping (\S.*) \((\d+) documents?\)")
+# How many faults of a file are reported one by one.
+MOST_FAULTS = 10
 
 
-class Report(NamedTuple):
-    """What the check of a file came to: its documents, how many have each kind of first fault, and why it ended before the end."""
+@dataclass
+class Report:
+    """What the check of a file came to.
+
+    `kinds` says how many documents have each kind of first fault, and `faults` has the first of those that are damage, and then
+    the first of each other kind. `error` says why the file was not read to its end, `metadata` what is wrong with its metadata.
+    """
 
     name: str
-    documents: int
-    kinds: Counter[str]
+    documents: int = 0
+    kinds: Counter[str] = field(default_factory=Counter)
+    faults: list[Fault] = field(default_factory=list)
     error: str | None = None
+    metadata: str | None = None
+    # The collections of which the log must speak, none for the oplog; and what it says of the first that it names.
+    namespaces: list[str] = field(default_factory=list)
+    expected: int | None = None
+    is_miscounted: bool = False
+    is_untold: bool = False
 
     @property
     def faulty(self) -> int:
@@ -42,18 +46,37 @@ class Report(NamedTuple):
         return sum(self.kinds.values())
 
     @property
-    def namespace(self) -> str:
-        """The database and the collection whose dump the file is, by its name."""
-        path = Path(os.path.abspath(self.name))
-        stem = re.sub(r"\.bson(\.gz)?$", "", path.name)
-        return f"{path.parent.name}.{unquote(stem)}"
+    def harmless(self) -> int:
+        """How many documents have a fault that is no damage."""
+        return sum(self.kinds[kind] for kind in NO_DAMAGE)
+
+    def compare(self, log: Log, is_oplog: bool) -> None:
+        """Compares the count with those in the log."""
+        counts = [log.oplog] if is_oplog else [log.documents.get(namespace) for namespace in self.namespaces]
+        known = [count for count in counts if count is not None]
+        self.expected = known[0] if known else None
+        self.is_miscounted = any(count != self.documents for count in known)
+        self.is_untold = len(known) < len(counts) and not is_oplog
+
+    def as_json(self) -> dict[str, Any]:
+        """The report as an object of JSON."""
+        return {
+            "name": self.name,
+            "documents": self.documents,
+            "faulty": self.faulty,
+            "kinds": self.kinds,
+            "faults": [{"document": it.document, "byte": it.offset, "path": it.path, "kind": it.kind} for it in self.faults],
+            "error": self.error,
+            "metadata": self.metadata,
+            "expected": self.expected,
+        }
 
 
 class Audit(NamedTuple):
-    """The reports of all files, and how many documents mongodump told of each namespace, where its log is there."""
+    """The reports of all files, and what the log of mongodump says that has no file, with how many documents."""
 
     reports: list[Report]
-    expected: dict[str, int] | None
+    missing: dict[str, int]
 
     @property
     def kinds(self) -> Counter[str]:
@@ -62,148 +85,181 @@ class Audit(NamedTuple):
 
     @property
     def unread(self) -> list[Report]:
-        """The files that could not be read to their ends."""
+        """The files and directories that could not be read to their ends."""
         return [it for it in self.reports if it.error]
 
     @property
     def miscounted(self) -> list[Report]:
-        """The files that have another number of documents than mongodump told."""
-        return [it for it in self.reports if self.told(it) not in (None, it.documents)]
+        """The files that have another number of documents than mongodump reports."""
+        return [it for it in self.reports if it.is_miscounted]
 
     @property
     def untold(self) -> list[Report]:
-        """The files of which the log says nothing, as one that was cut off leaves them. The oplog never stands there."""
-        return [it for it in self.reports if self.expected is not None and self.told(it) is None and not _OPLOG.search(it.name)]
+        """The files of which the log says nothing, as one that was cut off leaves them."""
+        return [it for it in self.reports if it.is_untold]
 
     @property
-    def missing(self) -> list[str]:
-        """The namespaces of which there is no file."""
-        there = {it.namespace for it in self.reports}
-        return [namespace for namespace in self.expected or () if namespace not in there]
-
-    def told(self, report: Report) -> int | None:
-        """How many documents mongodump told of a file."""
-        return (self.expected or {}).get(report.namespace)
+    def without_metadata(self) -> list[Report]:
+        """The files whose metadata is missing or cannot be read."""
+        return [it for it in self.reports if it.metadata]
 
     @property
     def is_good(self) -> bool:
         """Whether all files are there, whole and without faults."""
-        return not (self.kinds or self.unread or self.miscounted or self.untold or self.missing)
+        return not (self.kinds or self.unread or self.miscounted or self.untold or self.without_metadata or self.missing)
 
     def rows(self) -> list[tuple[str, int]]:
-        """The table."""
-        kinds = [(f"  {kind}", count) for kind, count in self.kinds.most_common()]
-        told = (
+        """The table; the kinds of faults that are no damage come last."""
+        kinds = self.kinds.most_common()
+        damage = [(f"  {kind}", count) for kind, count in kinds if kind not in NO_DAMAGE]
+        harmless = [(f"  {kind} (no damage)", count) for kind, count in kinds if kind in NO_DAMAGE]
+        others = (
             ("not read", self.unread),
             ("other counts than expected", self.miscounted),
             ("not in the log", self.untold),
+            ("without metadata", self.without_metadata),
             ("missing", self.missing),
         )
         return [
             ("files", len(self.reports)),
             ("documents", sum(it.documents for it in self.reports)),
             ("faulty", sum(self.kinds.values())),
-            *kinds,
-            *((name, len(those)) for name, those in told if those),
+            *damage,
+            *harmless,
+            *((name, len(those)) for name, those in others if those),
         ]
 
     def as_json(self) -> str:
         """All of it, as one line of JSON."""
         return json.dumps(
             {
-                "files": [self._file(it) for it in self.reports],
+                "good": self.is_good,
+                "files": [it.as_json() for it in self.reports],
                 "documents": sum(it.documents for it in self.reports),
                 "faulty": sum(self.kinds.values()),
                 "kinds": self.kinds,
+                "miscounted": [it.name for it in self.miscounted],
                 "untold": [it.name for it in self.untold],
-                "missing": {namespace: (self.expected or {})[namespace] for namespace in self.missing},
+                "missing": self.missing,
             }
         )
 
-    def _file(self, report: Report) -> dict[str, Any]:
-        return {
-            "name": report.name,
-            "documents": report.documents,
-            "faulty": report.faulty,
-            "kinds": report.kinds,
-            "error": report.error,
-            "expected": self.told(report),
-        }
+
+def audit(
+    paths: Iterable[str | os.PathLike[str]],
+    *,
+    expect: str | os.PathLike[str] | None = None,
+    jobs: int | None = None,
+    max_faults: int = MOST_FAULTS,
+    program: str = "bsonfind",
+) -> Audit:
+    """Checks all dumps of these names, and below the directories among them, several at once; `expect` is a log of mongodump.
+
+    Nothing is passed over in silence: what cannot be read has a report with its error.
+    """
+    return audit_dumps(dumps_of(map(os.fspath, paths)), expect, jobs, max_faults, program)
 
 
-def dumps_below(names: Iterable[str]) -> list[str]:
-    """The files of these names, and in place of a directory the dumps below it."""
-    files: list[str] = []
-    for name in names:
-        if os.path.isdir(name):
-            files += sorted(str(it) for it in Path(name).rglob("*") if it.name.endswith(_ENDINGS) and it.is_file())
-        else:
-            files.append(name)
-    return files
-
-
-def read_log(lines: Iterable[str]) -> dict[str, int]:
-    """How many documents of each namespace mongodump told that it dumped."""
-    found = (_DUMPED.search(line) for line in lines)
-    return {it.group(1).replace("`", ""): int(it.group(2)) for it in found if it}
-
-
-def audit(files: Sequence[str], expected: dict[str, int] | None, console: Console | None, jobs: int, program: str) -> Audit:
-    """Checks files side by side; faults and counts go to the console where there is one, the names in front, as they come."""
+def audit_dumps(
+    dumps: list[Dump],
+    expect: str | os.PathLike[str] | None = None,
+    jobs: int | None = None,
+    max_faults: int = MOST_FAULTS,
+    program: str = "bsonfind",
+    console: Console | None = None,
+) -> Audit:
+    """Checks dumps; the console gets the lines of faults as they come, and those of each file as it ends."""
+    log = read_log(lines_of(expect)) if expect is not None else None
     with Run([program, "check", "-"]) as run:
         finish_check(run)  # A program that cannot be started is reported once, not for each file.
-    group = Group()
-    check = partial(_check_file, console=console, group=group, program=program)
-    reports = []
+    with Progress(console, len(dumps), sum(it.size or 0 for it in dumps)) as progress:
+        reports = _check_all(dumps, _Checker(max_faults, program, console, progress), jobs or processors())
+    missing: dict[str, int] = {}
+    if log:
+        there = {it for report in reports for it in report.namespaces}
+        missing = {namespace: count for namespace, count in log.documents.items() if namespace not in there}
+        for report in reports:
+            if report.namespaces:
+                report.compare(log, is_oplog(report.name))
+        if log.oplog is not None and not any(is_oplog(report.name) for report in reports):
+            missing["oplog"] = log.oplog
+    return Audit(reports, missing)
+
+
+def _check_all(dumps: list[Dump], checker: _Checker, jobs: int) -> list[Report]:
+    """The reports of all dumps, in their order; the largest is checked first."""
     with ThreadPoolExecutor(jobs) as pool:
         try:
-            for report in pool.map(check, files):
-                reports.append(report)
-                if console:
-                    console.progress(f"{len(reports)} of {len(files)} files")
+            largest = sorted(dumps, key=lambda dump: -(dump.size or 0))
+            futures = {id(dump): pool.submit(checker.check, dump) for dump in largest}
+            for future in as_completed(futures.values()):
+                future.result()
         except BaseException:
-            group.end()
+            checker.group.end()
+            pool.shutdown(cancel_futures=True)
             raise
-        finally:
-            if console:
-                console.progress("")
-    return Audit(reports, expected)
+    return [futures[id(dump)].result() for dump in dumps]
 
 
-def _check_file(name: str, console: Console | None, group: Group, program: str) -> Report:
-    kinds: Counter[str] = Counter()
-    documents, error = 0, None
-    try:
-        for offset, run in _runs(name, group, program):
-            with run:
-                for fault in faults_of(run):
-                    kinds[fault.kind] += 1
-                    if console:
-                        console.line(f"{name}: {fault.moved(documents, offset)}")
-                documents += finish_check(run)
-    except (BsonfindError, OSError, EOFError, zlib.error) as failed:
-        if group.is_ended:
-            raise
-        error = str(failed)
-    report = Report(name, documents, kinds, error)
-    if console:
-        console.line(f"{name}: {error or f'{documents} documents, {report.faulty} faulty'}")
-    return report
+class _Checker:
+    """The check of one file after the other; threads share it."""
+
+    def __init__(self, max_faults: int, program: str, console: Console | None, progress: Progress) -> None:
+        self.group = Group()
+        self._max_faults, self._program = max_faults, program
+        self._console, self._progress = console, progress
+
+    def check(self, dump: Dump) -> Report:
+        """Checks a file."""
+        report = Report(dump.name, error=dump.error)
+        say = _Saying(dump.name, self._console)
+        if not dump.error:
+            report.namespaces = [namespace_of(name) for name in dump.names]
+            faults = [fault_of_metadata(name, dump.is_below) for name in dump.names]
+            report.metadata = faults[0] if all(faults) else None
+            try:
+                self._check_documents(report, say.line)
+            except (BsonfindError, OSError) as error:
+                if self.group.is_ended:
+                    raise
+                report.error = (error.strerror if isinstance(error, OSError) else None) or str(error)
+        say.line(report.error or f"{report.documents} documents, {report.faulty} faulty")
+        if report.metadata:
+            say.line(f"metadata: {report.metadata}")
+        self._progress.add_file()
+        return report
+
+    def _check_documents(self, report: Report, say: Callable[[str], None]) -> None:
+        damage, harmless = 0, {}
+        with Source(report.name) as source, self._progress.over(source):
+            try:
+                for part in source.inputs():
+                    with part.run([self._program, "check", "-"], group=self.group) as run:
+                        for fault in faults_of(run):
+                            fault = fault.moved(report.documents, part.offset)
+                            report.kinds[fault.kind] += 1
+                            if fault.kind in NO_DAMAGE:
+                                harmless.setdefault(fault.kind, fault)
+                            elif (damage := damage + 1) <= self._max_faults:
+                                report.faults.append(fault)
+                                say(str(fault))
+                        report.documents += finish_check(run)
+            finally:
+                if damage > self._max_faults:
+                    say(f"and {damage - self._max_faults} more")
+                if harmless:
+                    counts = ", ".join(f"{report.kinds[kind]} {kind}" for kind in harmless)
+                    say(f"no damage, but not readable: {counts}; the first at {next(iter(harmless.values()))}")
+                report.faults.extend(harmless.values())
 
 
-def _runs(name: str, group: Group, program: str) -> Iterator[tuple[int, Run]]:
-    """The runs over a file, with the place where the input of each begins; several where it is larger than what one reads."""
-    from_pipe = [program, "check", "-"]
-    if name.endswith(".gz"):
-        yield 0, Run(from_pipe, _unpacked(name), group=group)
-    elif os.path.isfile(name) and os.path.getsize(name) > LARGEST_INPUT:
-        for part in inputs(name):
-            yield part.offset, Run(from_pipe, part.pieces(), group=group)
-    else:
-        yield 0, Run([program, "check", file_word(name)], group=group)
+class _Saying(NamedTuple):
+    """Lines of the console about a file, where there is a console."""
 
+    name: str
+    console: Console | None
 
-def _unpacked(name: str) -> Iterator[bytes]:
-    with gzip.open(name) as file:
-        while piece := file.read(_PIECE):
-            yield piece
+    def line(self, text: str) -> None:
+        """Prints a line, with the name of the file before it."""
+        if self.console:
+            self.console.line(f"{self.name}: {text}")

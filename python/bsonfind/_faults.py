@@ -9,6 +9,8 @@ from typing import TYPE_CHECKING, Iterator, NamedTuple
 if TYPE_CHECKING:
     from ._processes import Run
 
+# The kinds of faults that are no damage: another program can read such a document.
+NO_DAMAGE = ("double", "decimal128", "too deep")
 _COUNTED = re.compile(r"(\d+) documents, \d+ faulty")
 _LINE = re.compile(r'document (\d+), byte (\d+), path (".*"): (.+)')
 

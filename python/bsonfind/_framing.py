@@ -4,7 +4,7 @@ from __future__ import annotations
 
 import os
 import struct
-from typing import BinaryIO, Iterator
+from typing import BinaryIO, Iterable, Iterator
 
 from ._errors import DumpError
 from ._faults import Fault
@@ -54,23 +54,73 @@ def walk(file: BinaryIO, start: int = 0, end: int | None = None) -> Iterator[int
         yield at
 
 
-def end_of_input(file: BinaryIO, start: int, size: int) -> int:
-    """Where the input of a run ends that begins at a place: with the file or, where that is too large, with a document.
+def inputs(pieces: Iterable[bytes], most: int | None = None) -> Iterator[tuple[int, Iterator[bytes]]]:
+    """Cuts bytes between documents, as they pass, into inputs of at most so many bytes, or of as many as a run can read.
 
-    It is that place itself where the file is too large, and the first length there is wrong.
+    Each input comes with the offset of its first byte, and is read to its end before the next one begins. A longer document is an
+    input by itself. Only the lengths are looked at: with a wrong one the last input begins.
     """
-    if size - start <= LARGEST_INPUT:
-        return size
-    end = start
-    try:
-        for after in walk(file, start, size):
-            if after - start > LARGEST_INPUT:
+    return _Inputs(pieces, LARGEST_INPUT if most is None else most).all()
+
+
+class _Inputs:
+    """A stream of bytes that is cut between documents."""
+
+    def __init__(self, pieces: Iterable[bytes], most: int) -> None:
+        self._pieces, self._most = iter(pieces), most
+        # What was read and not passed on, the offset of its first byte, and that of the next document.
+        self._held, self._offset, self._next = b"", 0, 0
+        self._is_wrong = self._is_passed_on = False
+
+    def all(self) -> Iterator[tuple[int, Iterator[bytes]]]:
+        """The inputs; none follows one that was not read to its end."""
+        self._is_passed_on = True
+        while self._is_passed_on and (self._held or self._read()):
+            self._is_passed_on = False
+            yield self._offset, self._input()
+
+    def _input(self) -> Iterator[bytes]:
+        start = self._offset
+        while self._held or self._read():
+            size, is_end = self._size(start)
+            if size:
+                piece, self._held = self._held[:size], self._held[size:]
+                self._offset += size
+                yield piece
+            if is_end:
                 break
-            end = after
-    except DumpError as error:
-        if not error.fault:
-            raise
-    return end
+            if self._held and not self._read():
+                self._is_wrong = True  # The bytes end within a length.
+                if self._offset > start:
+                    break
+        self._is_passed_on = True
+
+    def _read(self) -> bool:
+        """Reads the next piece; False where there is none."""
+        for piece in self._pieces:
+            if piece:
+                self._held += piece
+                return True
+        return False
+
+    def _size(self, start: int) -> tuple[int, bool]:
+        """How many of the bytes that are held belong to the input that began there, and whether it ends with them."""
+        held, most = self._held, start + self._most - self._offset
+        if self._is_wrong:
+            return len(held), False
+        at, last = self._next - self._offset, len(held) - 4
+        while at <= last:
+            (length,) = _length_at(held, at)
+            if not SHORTEST <= length <= LONGEST or at + length > most:
+                self._next = self._offset + at
+                if self._next > start:
+                    return at, True
+                if not SHORTEST <= length <= LONGEST:
+                    self._is_wrong = True
+                    return len(held), False
+            at += length
+        self._next = self._offset + at
+        return min(at, len(held)), False
 
 
 def _bad(number: int, at: int, kind: str) -> DumpError:

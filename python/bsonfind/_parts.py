@@ -10,7 +10,7 @@ from typing import BinaryIO, Iterable, Iterator, NamedTuple
 
 from ._errors import DumpError, PartError
 from ._faults import Fault
-from ._framing import LONGEST, SHORTEST, end_of_input, walk
+from ._framing import LONGEST, SHORTEST, walk
 from ._dumps import File, is_packed, opened, unpacked
 
 # What a part has at most where nothing else is asked for; a run of `find` holds its part in memory.
@@ -152,18 +152,3 @@ def ends_in(pieces: Iterable[bytes]) -> Iterator[int]:
 def _bad(number: int, at: int, kind: str) -> DumpError:
     fault = Fault(number, at, "", kind)
     return DumpError(str(fault), fault)
-
-
-def inputs(path: str) -> Iterator[Part]:
-    """Cuts a file into parts that a run can read, without the numbers of their documents.
-
-    The length with which the last one begins is wrong, where there is such a length.
-    """
-    with open(path, "rb") as file:
-        start, size = 0, os.fstat(file.fileno()).st_size
-        while start < size:
-            end = end_of_input(file, start, size)
-            if end == start:
-                end = size
-            yield Part(path, start, end - start, 0)
-            start = end

@@ -279,3 +279,10 @@ def close(pipe: IO[bytes]) -> None:
         pipe.close()
     except BrokenPipeError:
         pass  # What was not written is not read.
+
+
+def processors() -> int:
+    """How many processors this process may use."""
+    if hasattr(os, "sched_getaffinity"):
+        return len(os.sched_getaffinity(0))
+    return os.cpu_count() or 1

@@ -1,128 +1,404 @@
-"""Takes what is good out of a damaged dump, in memory that does not grow with it."""
+"""Takes what is good out of a damaged dump, which is read once, in memory that does not grow with it."""
 
 from __future__ import annotations
 
 import os
 import re
-from typing import BinaryIO, Iterator, NamedTuple
+import secrets
+import stat
+import struct
+from contextlib import ExitStack, nullcontext
+from typing import Callable, ContextManager, Iterable, Iterator, NamedTuple
 
-from ._faults import faults_of, finish_check
-from ._errors import DumpError
-from ._framing import end_of_input, is_length, read_at, walk
-from ._parts import Part
+from ._errors import BsonfindError, ProgramError
+from ._faults import NO_DAMAGE, Fault, faults_of, finish_check
+from ._framing import LONGEST, SHORTEST
 from ._processes import Run
+from ._sources import Source, UnpackError
 
 # From so many documents in a row, or from fewer that end with the file, a place is guessed to be the beginning of a document.
 IN_A_ROW = 4
+# The bytes that are checked by one run, at first and after damage, and at most; and the documents at most.
+_FIRST, _MOST, _MOST_DOCUMENTS = 1 << 16, 1 << 24, 100_000
 _PIECE = 1 << 20
 # The type of a first element after the last byte of a length. A document that begins with MinKey or MaxKey is not looked for.
 _BEGINNING = re.compile(rb"[\x01-\x13](?<=[\x00\x01].)", re.DOTALL)
+# The same after the last byte of a document.
+_NEXT_BEGINNING = re.compile(rb"[\x01-\x13](?<=\x00...[\x00\x01].)", re.DOTALL)
 _BEFORE = 4
+# The type and the name of a field whose value is a document or an array.
+_FIELD = re.compile(rb"[\x03\x04][\x20-\xff]*\x00\Z")
+_LONGEST_NAME = 256
+# The types of first elements, and the last byte of a document without any.
+_TYPES = frozenset([*range(0x14), 0x7F, 0xFF])
+# So many chains of documents are looked at by one run at most.
+_MOST_CHAINS = 1024
+_length_at = struct.Struct("<i").unpack_from
 
 
 class LeftOut(NamedTuple):
-    """Bytes that were left out, from a wrong length up to where a document is guessed to begin, or to the end of the file."""
+    """Bytes that were left out, from a wrong length up to where a document is guessed to begin, or to the end of the file.
+
+    A length that is wrong may pass over other documents, which is known by these alone.
+    """
 
     start: int
     end: int
     is_guess: bool
+    passes_over: bool = False
 
     def __str__(self) -> str:
-        told = f"wrong length at byte {self.start}: {self.end - self.start} bytes left out"
+        over = " that passes over other documents" if self.passes_over else ""
+        told = f"wrong length at byte {self.start}{over}: {self.end - self.start} bytes left out"
         if self.is_guess:
             return f"{told}; that a document begins at byte {self.end} is a guess"
         return f"{told}, up to the end"
 
 
-class Salvage:
-    """The copying of the documents of a file to one of two others, by whether they have a fault."""
+class Salvaged(NamedTuple):
+    """How many documents were copied to each file, what was left out, and where the file could not be read on."""
 
-    def __init__(self, dump: BinaryIO, good: BinaryIO, bad: BinaryIO, program: str) -> None:
-        self._dump, self._program = dump, program
-        self._good, self._bad = good, bad
-        self.good = self.bad = 0
+    good: int
+    bad: int
+    left_out: list[LeftOut]
+    error: str | None
 
-    def copy(self) -> Iterator[LeftOut]:
-        """Copies all documents whose length is known, and gives what is left out, as it is met."""
-        at, size = 0, os.fstat(self._dump.fileno()).st_size
-        while at < size:
-            start, end = at, end_of_input(self._dump, at, size)
-            at = self._copy_to_wrong_length(start, end)
-            if at < end or at == start:
-                found = next_beginning(self._dump, at + 1, size)
-                left_out = LeftOut(at, size if found is None else found, found is not None)
-                yield left_out
-                at = left_out.end
+    @property
+    def bytes_left_out(self) -> int:
+        """How many bytes were left out."""
+        return sum(it.end - it.start for it in self.left_out)
 
-    def _copy_to_wrong_length(self, start: int, end: int) -> int:
-        """Copies documents up to a wrong length or the end, and gives this place."""
-        stretch = _Stretch(self._dump, start, end)
-        part = Part(self._dump.name, start, end - start, 0)
-        with Run([self._program, "check", "-"], part.pieces()) as run:
-            for fault in faults_of(run):
-                self.good += stretch.copy(fault.document, self._good)
-                self.bad += stretch.copy(fault.document + 1, self._bad)
-            self.good += stretch.copy(finish_check(run), self._good)
-        return stretch.at
+    @property
+    def is_good(self) -> bool:
+        """Whether the dump has no fault."""
+        return not (self.bad or self.left_out or self.error)
 
 
-class _Stretch:
-    """Documents one after the other, of which some were copied."""
+def salvage(
+    path: str | os.PathLike[str],
+    good: str | os.PathLike[str],
+    bad: str | os.PathLike[str],
+    *,
+    program: str = "bsonfind",
+    say: Callable[[str], None] | None = None,
+    progress: Callable[[Source], ContextManager[object]] = nullcontext,
+) -> Salvaged:
+    """Copies each document of a dump to one of two files, by whether `check` finds a fault in it; `say` gets the lines of the command.
 
-    def __init__(self, file: BinaryIO, start: int, end: int) -> None:
-        self._file = file
-        self._places = walk(file, start, end)
-        self._number = 0
-        self.at = start
+    The files get their names at the end, when all was copied. Before that, whatever goes wrong, nothing that was there is touched.
+    """
+    names = [os.fspath(name) for name in (good, bad)]
+    with ExitStack() as files:
+        source = files.enter_context(Source(path))
+        _refuse_names(source.name, *names)
+        with Run([program, "check", "-"]) as run:
+            finish_check(run)
+        outputs = [files.enter_context(_Output(name)) for name in names]
+        files.enter_context(progress(source))
+        done = _Salvage(source, *outputs, program, say or (lambda _: None)).copy()
+        for output in outputs:
+            output.complete()
+        if say:
+            say(f"{done.good} documents to {names[0]}, {done.bad} to {names[1]}, {done.bytes_left_out} bytes left out")
+        for output in outputs:
+            output.put_in_place()
+        return done
 
-    def copy(self, number: int, to: BinaryIO) -> int:
-        """Copies documents up to that of a number, or to a wrong length, and gives how many."""
-        start, first = self.at, self._number
-        while self._number < number and self._pass_one():
-            self._number += 1
-        _copy_bytes(self._file, start, self.at, to)
-        return self._number - first
 
-    def _pass_one(self) -> bool:
-        """Goes to the end of the next document; stays where its length is wrong."""
+class OutputError(BsonfindError):
+    """A file that is not to be written."""
+
+
+def _refuse_names(dump: str, good: str, bad: str) -> None:
+    """Refuses files that are the dump, or one another, by whatever names."""
+    for name in (good, bad):
+        if _is_same(name, dump):
+            raise OutputError(f"{name} is the dump")
+    if _is_same(good, bad) and not (os.path.exists(good) and stat.S_ISCHR(os.stat(good).st_mode)):
+        raise OutputError(f"{good} is named twice")
+
+
+def _is_same(one: str, other: str) -> bool:
+    if os.path.exists(one) and os.path.exists(other):
+        return os.path.samefile(one, other)
+    return os.path.realpath(one) == os.path.realpath(other)
+
+
+class _Output:
+    """A file that is written under another name beside it, and gets its name at the end. A device or a pipe is written as it is."""
+
+    def __init__(self, name: str) -> None:
+        self.name = name
+        self._path = self._beside = os.path.realpath(name)
+        there = os.stat(name) if os.path.exists(name) else None
+        if there and not stat.S_ISREG(there.st_mode):
+            self._path = self._beside = name
+            self._file = open(name, "wb")
+            return
         try:
-            self.at = next(self._places)
-        except StopIteration:
-            return False
-        except DumpError as error:
-            if not error.fault:
-                raise
-            return False
+            self._beside = f"{self._path}.{secrets.token_hex(4)}.new"
+            self._file = open(self._beside, "xb")
+            if there:
+                os.chmod(self._beside, stat.S_IMODE(there.st_mode))
+        except OSError as error:
+            raise self._named(error) from None
+
+    def write(self, data: bytes | memoryview) -> None:
+        """Writes bytes."""
+        try:
+            self._file.write(data)
+        except OSError as error:
+            raise self._named(error) from None
+
+    def complete(self) -> None:
+        """Has all bytes on the disk."""
+        try:
+            self._file.flush()
+            if self._beside != self._path:
+                os.fsync(self._file.fileno())
+        except OSError as error:
+            raise self._named(error) from None
+
+    def put_in_place(self) -> None:
+        """Gives the file its name."""
+        if self._beside != self._path:
+            os.replace(self._beside, self._path)
+            self._beside = self._path
+
+    def _named(self, error: OSError) -> OSError:
+        return OSError(error.errno, error.strerror, self.name)
+
+    def __enter__(self) -> _Output:
+        return self
+
+    def __exit__(self, kind: object, *_: object) -> None:
+        try:
+            self._file.close()
+        except OSError as error:
+            if kind is None:
+                raise self._named(error) from None
+        finally:
+            if self._beside != self._path:
+                os.unlink(self._beside)
+
+
+class _Window:
+    """The bytes of a stream from a place on, as far as they were asked for."""
+
+    def __init__(self, pieces: Iterator[bytes]) -> None:
+        self._pieces = pieces
+        self._held, self.start = bytearray(), 0
+        # What ended the stream before its end.
+        self.error: str | None = None
+
+    @property
+    def end(self) -> int:
+        """The place after the last byte that was read."""
+        return self.start + len(self._held)
+
+    def has(self, end: int) -> bool:
+        """Whether the stream reaches that far."""
+        while self.end < end:
+            try:
+                piece = next(self._pieces, b"")
+            except (UnpackError, OSError) as error:
+                self.error = (error.strerror if isinstance(error, OSError) else None) or str(error)
+                piece = b""
+            if not piece:
+                return False
+            self._held += piece
         return True
 
+    def bytes(self, start: int, end: int) -> bytes:
+        """The bytes there that were read."""
+        with memoryview(self._held) as view:
+            return view[start - self.start : end - self.start].tobytes()
 
-def _copy_bytes(file: BinaryIO, start: int, end: int, to: BinaryIO) -> None:
-    while start < end:
-        piece = read_at(file, start, min(end - start, _PIECE))
-        to.write(piece)
-        start += len(piece)
+    def bytes_before(self, end: int, most: int) -> bytes:
+        """At most so many bytes before a place, of those that are held."""
+        return self.bytes(max(end - most, self.start), end)
+
+    def byte(self, at: int) -> int:
+        """A byte that was read."""
+        return self._held[at - self.start]
+
+    def drop(self, end: int) -> None:
+        """Forgets the bytes before a place."""
+        del self._held[: end - self.start]
+        self.start = end
+
+    def document_end(self, at: int) -> int | None:
+        """Where the document ends that begins there, by its length; None where this is wrong."""
+        if not self.has(at + SHORTEST):
+            return None
+        (length,) = _length_at(self._held, at - self.start)
+        return at + length if SHORTEST <= length <= LONGEST and self.has(at + length) else None
+
+    def document_ends(self, at: int, size: int, most: int) -> list[int]:
+        """Where documents end, one after the other, up to a wrong length or to so many bytes or documents."""
+        ends: list[int] = []
+        until = at + size
+        while len(ends) < most and at < until:
+            held, start, last = self._held, self.start, len(self._held)
+            here, room = at - start, most - len(ends)
+            while room and here + 4 <= last and here + start < until:
+                (length,) = _length_at(held, here)
+                if not SHORTEST <= length <= LONGEST or here + length > last:
+                    break
+                here += length
+                room -= 1
+                ends.append(start + here)
+            at = start + here
+            if room and at < until:
+                # The next document is read, or its length is wrong.
+                end = self.document_end(at)
+                if end is None:
+                    break
+        return ends
 
 
-def next_beginning(file: BinaryIO, at: int, size: int) -> int | None:
-    """The first place from there on from which lengths lead on for several documents, None where there is none."""
-    while at < size:
-        piece = read_at(file, at, min(size - at, _PIECE))
-        for found in _BEGINNING.finditer(piece, _BEFORE):
-            beginning = at + found.start() - _BEFORE
-            if _leads_on(file, beginning, size):
+class _Salvage:
+    """The copying of the documents of a stream to one of two files, by whether they have a fault."""
+
+    def __init__(self, source: Source, good: _Output, bad: _Output, program: str, say: Callable[[str], None]) -> None:
+        self._window = _Window(source.pieces())
+        self._good_file, self._bad_file = good, bad
+        self._program, self._say = program, say
+        self._good = self._bad = 0
+        self._left_out: list[LeftOut] = []
+
+    def copy(self) -> Salvaged:
+        """Copies all documents whose length is known."""
+        at, size = 0, _FIRST
+        while self._window.has(at + 1):
+            ends = self._window.document_ends(at, size, _MOST_DOCUMENTS)
+            if ends:
+                at = self._copy_documents(at, ends)
+                size = min(2 * size, _MOST) if at == ends[-1] else _FIRST
+            else:
+                found = self._next_beginning(at + 1)
+                at, size = self._leave_out(LeftOut(at, self._window.end if found is None else found, found is not None)), _FIRST
+            self._window.drop(at)
+        if self._window.error:
+            self._say(f"byte {at}: {self._window.error}; nothing after it can be read")
+        return Salvaged(self._good, self._bad, self._left_out, self._window.error)
+
+    def _copy_documents(self, start: int, ends: list[int]) -> int:
+        """Copies documents that end there, and gives the place after them, or that of documents which a wrong length passes over."""
+        whole = self._window.bytes(start, ends[-1])
+        faults, data = self._faults(whole, len(ends)), memoryview(whole)
+        at, copied = start, 0
+        for fault in faults:
+            number = fault.document
+            begin, end = ends[number - 1] if number else start, ends[number]
+            self._good_file.write(data[at - start : begin - start])
+            self._good += number - copied
+            inside = self._beginning_inside(begin, end, fault.kind)
+            if inside is not None:
+                return self._leave_out(LeftOut(begin, inside, True, True))
+            self._bad_file.write(data[begin - start : end - start])
+            self._bad += 1
+            at, copied = end, number + 1
+        self._good_file.write(data[at - start :])
+        self._good += len(ends) - copied
+        return ends[-1]
+
+    def _faults(self, data: bytes, documents: int) -> list[Fault]:
+        """The faults of so many documents."""
+        with Run([self._program, "check", "-"], [data]) as run:
+            faults = list(faults_of(run))
+            count = finish_check(run)
+        if count != documents:
+            raise ProgramError(f"check found {count} documents in place of {documents}")
+        return faults
+
+    def _leave_out(self, left_out: LeftOut) -> int:
+        """Notes what is left out, and gives the place after it."""
+        self._left_out.append(left_out)
+        self._say(str(left_out))
+        return left_out.end
+
+    def _next_beginning(self, at: int) -> int | None:
+        """The first place from there on where a document seems to begin, None where there is none. What is before it is dropped."""
+        while self._window.has(at + SHORTEST):
+            self._window.has(at + _PIECE)
+            piece = self._window.bytes(at, min(at + _PIECE, self._window.end))
+            for beginning in self._beginnings(at + found.start() - _BEFORE for found in _BEGINNING.finditer(piece, _BEFORE)):
                 return beginning
-        # A beginning may go over the end of the piece.
-        at += max(len(piece) - _BEFORE, 1)
-    return None
+            # A beginning may go over the end of the piece.
+            at += len(piece) - _BEFORE
+            self._window.drop(max(at - _LONGEST_NAME, self._window.start))
+        return None
+
+    def _beginning_inside(self, start: int, end: int, kind: str) -> int | None:
+        """Where documents begin that the length of a bad document passes over, None where this length seems to be right.
+
+        It is wrong where documents stand inside from which others lead on to the end or past it, or where none begins at the end.
+        Else they are a part of the document, such as a dump in its binary data.
+        """
+        pattern = _NEXT_BEGINNING if kind in NO_DAMAGE else _BEGINNING
+        found = pattern.finditer(self._window.bytes(start, end), SHORTEST + _BEFORE)
+        for beginning in self._beginnings(start + it.start() - _BEFORE for it in found):
+            if self._reaches(beginning, end) or not self._is_end_or_beginning(end):
+                return beginning
+            self._say(f"bad document at byte {start}: documents stand inside it from byte {beginning} on, and are copied with it")
+            return None
+        return None
+
+    def _reaches(self, at: int, end: int) -> bool:
+        """Whether documents lead on from there to a place or past it."""
+        while at < end:
+            after = self._window.document_end(at)
+            if after is None:
+                return False
+            at = after
+        return True
+
+    def _is_end_or_beginning(self, at: int) -> bool:
+        return not self._window.has(at + 1) or any(True for _ in self._beginnings([at]))
+
+    def _beginnings(self, places: Iterable[int]) -> Iterator[int]:
+        """Those of the places where several documents follow, or fewer that end with the stream, in which `check` finds no damage."""
+        chains: list[_Chain] = []
+        most = 1
+        for place in places:
+            chain = self._chain(place)
+            if chain:
+                chains.append(chain)
+                if len(chains) == most or sum(len(it.data) for it in chains) > _MOST:
+                    yield from self._undamaged(chains)
+                    chains, most = [], min(2 * most, _MOST_CHAINS)
+        yield from self._undamaged(chains)
+
+    def _chain(self, at: int) -> _Chain | None:
+        """The documents that seem to follow, by their lengths, the types of their first elements and their last bytes."""
+        end, documents = at, 0
+        while documents < IN_A_ROW and (documents == 0 or self._window.has(end + 1)):
+            after = self._window.document_end(end)
+            if after is None or self._window.byte(after - 1) or self._window.byte(end + 4) not in _TYPES:
+                return None
+            end, documents = after, documents + 1
+        if documents < IN_A_ROW and _FIELD.search(self._window.bytes_before(at, _LONGEST_NAME)):
+            return None  # It is the value of a field, and the stream was cut after it.
+        return _Chain(at, documents, self._window.bytes(at, end))
+
+    def _undamaged(self, chains: list[_Chain]) -> list[int]:
+        """The places of those chains in which `check` finds no damage; all are looked at by one run."""
+        if not chains:
+            return []
+        faults = self._faults(b"".join(it.data for it in chains), sum(it.documents for it in chains))
+        damaged = {fault.document for fault in faults if fault.kind not in NO_DAMAGE}
+        places, first = [], 0
+        for chain in chains:
+            if damaged.isdisjoint(range(first, first + chain.documents)):
+                places.append(chain.place)
+            first += chain.documents
+        return places
 
 
-def _leads_on(file: BinaryIO, at: int, size: int) -> bool:
-    """Whether several documents seem to follow, or fewer that end with the file, by their lengths and last bytes."""
-    for _ in range(IN_A_ROW):
-        if at == size:
-            break
-        length = int.from_bytes(os.pread(file.fileno(), 4, at), "little", signed=True)
-        if not is_length(length, size - at) or os.pread(file.fileno(), 1, at + length - 1) != b"\0":
-            return False
-        at += length
-    return True
+class _Chain(NamedTuple):
+    """Documents that seem to follow one another from a place on."""
+
+    place: int
+    documents: int
+    data: bytes

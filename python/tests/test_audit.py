@@ -3,11 +3,15 @@
 import gzip
 import json
 import os
+import socket
 import subprocess
 import sys
+import threading
 from unittest import mock
 
+from bsonfind import BsonfindError
 from bsonfind._audit import audit
+from bsonfind._console import progress_of
 
 from .support import DOUBLE, PEOPLE, PROGRAM, SHOP, Room, environment, run_package
 
@@ -23,8 +27,15 @@ class Audits(Room):
         super().setUp()
         self.orders = self.file(SHOP.read_bytes(), "backup/shop/orders.bson")
         self.people = self.file(gzip.compress(PEOPLE.read_bytes()), "backup/club/people.bson.gz")
-        self.file(b"{}", "backup/club/people.metadata.json")
+        # As mongodump 100.9 writes it, and one of an older mongodump.
+        self.file(b'{"indexes":[],"uuid":"","collectionName":"people","type":"collection"}', "backup/club/people.metadata.json")
+        self.file(gzip.compress(b"{}"), "backup/shop/orders.metadata.json.gz")
         self.backup = str(self.room / "backup")
+
+    def collection(self, data: bytes, name: str, metadata: bytes = b"{}") -> str:
+        """A dump of the database club, with its metadata."""
+        self.file(metadata, f"backup/club/{name}.metadata.json")
+        return str(self.file(data, f"backup/club/{name}.bson"))
 
     def audit(self, *words: str, status: int, told: str = "") -> list:
         """The lines that an audit prints."""
@@ -43,54 +54,188 @@ class Audits(Room):
         self.assertEqual(lines[2:], self.table(("files", 2), ("documents", 900), ("faulty", 0)))
 
     def test_faulty_files(self) -> None:
-        cut = self.file(DOUBLE + PEOPLE.read_bytes()[:50_000], "backup/club/old.bson")
-        lines = self.audit(self.backup, "--jobs", "1", status=1)
+        """What is no damage comes last, as one line with a count."""
+        cut = self.collection(DOUBLE * 2 + PEOPLE.read_bytes()[:50_000], "old")
+        lines = self.audit(self.backup, status=1)
+        first = 'the first at document 0, byte 4, path "d": double'
         self.assertEqual(
-            lines[:3],
+            [line for line in lines if line.startswith(cut)],
             [
-                f'{cut}: document 0, byte 4, path "d": double',
-                f'{cut}: document 274, byte 49760, path "": bad length',
-                f"{cut}: 275 documents, 2 faulty",
+                f'{cut}: document 275, byte 49776, path "": bad length',
+                f"{cut}: no damage, but not readable: 2 double; {first}",
+                f"{cut}: 276 documents, 3 faulty",
             ],
         )
-        rows = ("files", 3), ("documents", 1175), ("faulty", 2), ("  double", 1), ("  bad length", 1)
+        rows = ("files", 3), ("documents", 1176), ("faulty", 3), ("  bad length", 1), ("  double (no damage)", 2)
         self.assertEqual(lines[5:], self.table(*rows))
+
+    def test_most_faults_of_a_file(self) -> None:
+        data = bytearray(SHOP.read_bytes())
+        at, bad = 0, []
+        for number in range(13):
+            bad.append(f'document {number}, byte {at + 4}, path "": unknown type')
+            data[at + 4] = 0x14
+            at += int.from_bytes(data[at : at + 4], "little")
+        self.orders.write_bytes(data)
+        for words, shown in (((), 10), (("--max-faults", "0"), 0), (("--max-faults", "12"), 12), (("--max-faults", "13"), 13)):
+            lines = self.audit(str(self.orders), *words, status=1)
+            more = [f"{self.orders}: and {13 - shown} more"] if shown < 13 else []
+            self.assertEqual(lines[: -4], [*(f"{self.orders}: {it}" for it in bad[:shown]), *more, f"{self.orders}: 400 documents, 13 faulty"])
+        self.audit(self.backup, "--max-faults", "-1", status=2, told="bsonfind: --max-faults is 0 or more\n")
+
+    def test_the_largest_first(self) -> None:
+        self.collection(SHOP.read_bytes() * 3, "large")
+        lines = self.audit(self.backup, "--jobs", "1", status=0)
+        names = [line.partition(": ")[0] for line in lines[:3]]
+        self.assertEqual(names, [f"{self.backup}/club/large.bson", str(self.orders), str(self.people)])
 
     def test_files_of_a_list(self) -> None:
         names = self.file(f"{self.orders}\n{self.people}\n".encode(), "names")
-        lines = self.audit(str(self.orders), "--list", str(names), status=0)
-        self.assertEqual(lines[3:], self.table(("files", 3), ("documents", 1300), ("faulty", 0)))
+        lines = self.audit("--list", str(names), status=0)
+        self.assertEqual(lines[2:], self.table(("files", 2), ("documents", 900), ("faulty", 0)))
+        names.write_bytes(b"a\0b\n")
+        told = f"bsonfind: {names}: name 1 has a zero byte; each line is a name\n"
+        self.audit("--list", str(names), status=2, told=told)
+
+    def test_files_that_are_named_twice(self) -> None:
+        """By other spellings, a link or a second name."""
+        one, two = self.room / "one.bson", self.room / "two.bson"
+        one.symlink_to(self.orders)
+        os.link(self.orders, two)
+        words = str(self.orders), self.backup, f"{self.backup}/../backup/shop/orders.bson", f"{self.backup}/shop", str(one), str(two)
+        lines = self.audit(*words, status=0)
+        self.assertEqual(lines[2:], self.table(("files", 2), ("documents", 900), ("faulty", 0)))
+
+    def test_second_names_are_collections(self) -> None:
+        """As a program leaves them that links equal files."""
+        os.link(self.orders, self.room / "backup/shop/copies.bson")
+        self.file(b"{}", "backup/shop/copies.metadata.json")
+        log = self.file(f"{LOG}done dumping shop.copies (400 documents)\n".encode(), "log")
+        self.assertEqual(len(self.audit(self.backup, "--expect", str(log), status=0)), 5)
+        log.write_text(LOG)
+        lines = self.audit(self.backup, "--expect", str(log), status=1)
+        self.assertIn(f"{self.backup}/shop/copies.bson: not in the log", lines)
 
     def test_names_as_they_are(self) -> None:
-        named = self.file(SHOP.read_bytes(), "other/Łódź a:b.bson")
-        self.assertEqual(self.audit(str(self.room / "other"), status=0)[0], f"{named}: 400 documents, 0 faulty")
+        for name in ("Łódź a:b.bson".encode(), b"\xff.bson"):
+            path = os.fsencode(self.room) + b"/" + name
+            with open(path, "wb") as file:
+                file.write(SHOP.read_bytes())
+            run = subprocess.run(self.command(path), env=environment(), stdout=subprocess.PIPE, check=True)
+            self.assertEqual(run.stdout.splitlines()[0], path + b": 400 documents, 0 faulty")
+
+    def command(self, *words: object) -> list:
+        """The command line of an audit."""
+        return [sys.executable, "-m", "bsonfind", "--program", PROGRAM, "audit", *words]
+
+    def test_what_is_not_seen_below_a_directory(self) -> None:
+        """Is reported, each by its name, and nothing is good that was not seen."""
+        club, shop = self.room / "backup/club", self.room / "backup/shop"
+        (self.room / "away").mkdir()
+        os.mkfifo(club / "pipe.bson")
+        server = socket.socket(socket.AF_UNIX)
+        self.addCleanup(server.close)
+        server.bind(str(club / "socket.bson"))
+        (club / "linked").symlink_to(self.room / "away")
+        (shop / "broken.bson").symlink_to("missing.bson")
+        (shop / "broken").symlink_to("missing")
+        (shop / "loop").symlink_to("loop")
+        (shop / "fine.bson").symlink_to(self.orders)
+        lines = self.audit(self.backup, status=1)
+        for name, problem in (
+            ("club/pipe.bson", "not a regular file"),
+            ("club/socket.bson", "not a regular file"),
+            ("club/linked", "a link to a directory, which is not followed: name it too"),
+            ("shop/broken", "a link to nothing that can be seen"),
+            ("shop/broken.bson", "a link to nothing that can be seen"),
+            ("shop/loop", "Too many levels of symbolic links"),
+        ):
+            self.assertIn(f"{self.backup}/{name}: {problem}", lines)
+        self.assertEqual(lines[-4:], self.table(("files", 8), ("documents", 900), ("faulty", 0), ("not read", 6)))
+        self.assertEqual(self.audit(f"{club}/linked/", status=2, told="bsonfind: no dump is named\n"), [])
+
+    def test_directory_that_cannot_be_read(self) -> None:
+        """The system lets root read every directory, so here the call fails."""
+        closed, scandir = f"{self.backup}/club", os.scandir
+
+        def refusing(path: str) -> object:
+            if path == closed:
+                raise PermissionError(13, "Permission denied")
+            return scandir(path)
+
+        with mock.patch("os.scandir", refusing):
+            done = audit([self.backup], program=PROGRAM)
+        self.assertFalse(done.is_good)
+        self.assertEqual([(it.name, it.error) for it in done.unread], [(closed, "cannot read the directory: Permission denied")])
+
+    def test_pipes_are_read_by_their_bytes(self) -> None:
+        people = PEOPLE.read_bytes()
+        for data, name, found in (
+            (people, "pipe.bson", "500 documents, 0 faulty"),
+            (b"", "empty.bson", "0 documents, 0 faulty"),
+            (gzip.compress(people), "pipe.bson.gz", "500 documents, 0 faulty"),
+            (b"", "empty.bson.gz", "not a sound file of gzip: it is empty"),
+        ):
+            pipe = self.room / name
+            os.mkfifo(pipe)
+            writer = threading.Thread(target=pipe.write_bytes, args=[data])
+            writer.start()
+            lines = self.audit(str(pipe), status=int("gzip" in found))
+            writer.join()
+            self.assertEqual(lines[0], f"{pipe}: {found}")
+        run = subprocess.run(self.command("/dev/stdin"), env=environment(), input=people, stdout=subprocess.PIPE, check=True)
+        self.assertIn(b"/dev/stdin: 500 documents, 0 faulty\n", run.stdout)
+
+    def test_metadata(self) -> None:
+        """That of the oplog, and of the users of one database, is never there."""
+        for name in ("oplog.bson", "shop/$admin.system.users.bson"):
+            self.file(b"", f"backup/{name}")
+        bare, gone = self.file(b"", "backup/shop/bare.bson"), self.collection(b"", "gone", b"[]")
+        torn = self.collection(b"", "torn", b'{"a":')
+        (self.room / "backup/club/gone.metadata.json").unlink()
+        listed, folder = self.collection(b"", "listed", b"[]"), self.file(b"", "backup/club/folder.bson")
+        (self.room / "backup/club/folder.metadata.json").mkdir()
+        half = self.file(b"", "backup/club/half.bson")
+        self.file(gzip.compress(b"{}")[:-3], "backup/club/half.metadata.json.gz")
+        lines = self.audit(self.backup, status=1)
+        problems = [
+            f"{folder}: metadata: folder.metadata.json: Is a directory",
+            f"{gone}: metadata: no gone.metadata.json beside it",
+            f"{half}: metadata: half.metadata.json.gz: not a sound file of gzip: it ends too soon",
+            f"{listed}: metadata: listed.metadata.json: not a document",
+            f"{torn}: metadata: torn.metadata.json: Expecting value: line 1 column 6 (char 5)",
+            f"{bare}: metadata: no bare.metadata.json beside it",
+        ]
+        self.assertEqual(sorted(line for line in lines if ": metadata: " in line), problems)
+        self.assertEqual(lines[-4:], self.table(("files", 10), ("documents", 900), ("faulty", 0), ("without metadata", 6)))
+        self.audit(str(bare), status=0)  # A file by itself may have none.
 
     def test_file_larger_than_what_a_run_reads(self) -> None:
-        """With a largest input of 30,000 bytes in place of 4,294,967,295."""
+        """With a largest input of 30,000 bytes in place of 4,294,967,295: a file, a compressed one and a pipe."""
         people = PEOPLE.read_bytes()
-        whole = self.file(people[:79930] + DOUBLE + people[79930:], "large/whole.bson")
-        wrong = self.file(people[:39978] + b"\xff" * 50_000, "large/wrong.bson")
-        lines: list = []
-        console = mock.Mock(line=lines.append)
-        limits = (mock.patch(f"bsonfind.{module}.LARGEST_INPUT", 30_000) for module in ("audit", "lengths"))
-        with next(limits), next(limits):
-            done = audit([str(whole), str(wrong)], None, console, 1, PROGRAM)
-        self.assertEqual(
-            lines,
-            [
-                f'{whole}: document 436, byte 79934, path "d": double',
-                f"{whole}: 501 documents, 1 faulty",
-                f'{wrong}: document 220, byte 39978, path "": bad length',
-                f"{wrong}: 221 documents, 1 faulty",
-            ],
-        )
-        self.assertEqual([it.documents for it in done.reports], [501, 221])
+        whole, wrong = people[:79930] + DOUBLE + people[79930:], people[:39978] + b"\xff" * 50_000
+        harmless = {"document": 436, "byte": 79934, "path": "d", "kind": "double"}
+        damage = {"document": 220, "byte": 39978, "path": "", "kind": "bad length"}
+        pipe = self.room / "pipe.bson"
+        os.mkfifo(pipe)
+        for data, documents, fault in ((whole, 501, harmless), (wrong, 221, damage)):
+            writer = threading.Thread(target=pipe.write_bytes, args=[data], daemon=True)
+            writer.start()
+            files = [self.file(data, "large.bson"), self.file(gzip.compress(data), "large.bson.gz"), pipe]
+            with mock.patch("bsonfind._framing.LARGEST_INPUT", 30_000):
+                done = audit(files, program=self.counting())
+            for report in done.reports:
+                self.assertEqual((report.documents, report.error, report.as_json()["faults"]), (documents, None, [fault]))
+            # One run says whether the program is there; each file has one for each 30,000 bytes, and that with the wrong length.
+            self.assertEqual(len(self.starts()), 1 + 3 * (4 if data is whole else 3))
+            (self.room / "starts").unlink()
 
     def test_expected_counts(self) -> None:
         log = self.file(LOG.encode(), "log")
         lines = self.audit(self.backup, "--expect", str(log), status=0)
         self.assertEqual(lines[2:], self.table(("files", 2), ("documents", 900), ("faulty", 0)))
         log.write_text(LOG.replace("400", "401") + "done dumping shop.a%2Fb (1 document)\ndone dumping `shop`.`c` (0 documents)\n")
+        self.file(b"{}", "backup/shop/c.metadata.json")
         self.file(b"", "backup/shop/c.bson")
         lines = self.audit(self.backup, "--expect", str(log), status=1)
         self.assertEqual(lines[3:5], [f"{self.orders}: 400 documents in place of 401", "shop.a%2Fb: missing, with 1 documents"])
@@ -106,30 +251,95 @@ class Audits(Room):
         log.write_text("")
         self.assertIn(f"{self.orders}: not in the log", self.audit(self.backup, "--expect", str(log), status=1))
 
+    def test_oplog(self) -> None:
+        """Its entries are counted as the log says. A collection of this name is one like the others."""
+        log = self.file(f"{LOG}2026-11-25T10:00:03.000+0000\tdumped 400 oplog entries\n".encode(), "log")
+        self.assertIn("oplog: missing, with 400 documents", self.audit(self.backup, "--expect", str(log), status=1))
+        oplog = self.file(SHOP.read_bytes(), "backup/oplog.bson")
+        self.audit(self.backup, "--expect", str(log), status=0)
+        log.write_text(f"{LOG}\tdumped 1 oplog entry\n")
+        self.assertIn(f"{oplog}: 400 documents in place of 1", self.audit(self.backup, "--expect", str(log), status=1))
+        log.write_text(LOG)
+        self.audit(self.backup, "--expect", str(log), status=0)
+        collection = self.collection(b"", "oplog")
+        self.assertIn(f"{collection}: not in the log", self.audit(self.backup, "--expect", str(log), status=1))
+        self.assertIn(f"{collection}: not in the log", self.audit(f"{self.backup}/club", "--expect", str(log), status=1))
+        (self.room / "backup/club/oplog.metadata.json").unlink()
+        self.assertIn(f"{collection}: not in the log", self.audit(self.backup, "--expect", str(log), status=1))
+
+    def test_long_names_of_collections(self) -> None:
+        """mongodump shortens the name of the file; the metadata has the whole one."""
+        name = "Łódź/" * 60
+        long = "%C5%81%C3%B3d%C5%BA%2F" * 9 + "%C5%81%C3%B%24Y4gp4C6bBJZmAXR3N6Yd0b5rYZk"
+        metadata = json.dumps({"collectionName": name, "type": "collection"}).encode()
+        self.collection(PEOPLE.read_bytes(), long, metadata)
+        log = self.file(f"{LOG}done dumping club.{name} (500 documents)\n".encode(), "log")
+        self.audit(self.backup, "--expect", str(log), status=0)
+        log.write_text(f"{LOG}done dumping club.{name} (501 documents)\n")
+        lines = self.audit(self.backup, "--expect", str(log), status=1)
+        self.assertIn(f"{self.backup}/club/{long}.bson: 500 documents in place of 501", lines)
+
+    def test_users_of_one_database(self) -> None:
+        """mongodump --db=shop --dumpDbUsersAndRoles puts them beside the collections."""
+        self.file(b"", "backup/shop/$admin.system.users.bson")
+        log = self.file(f"{LOG}done dumping admin.system.users (0 documents)\n".encode(), "log")
+        self.audit(self.backup, "--expect", str(log), status=0)
+
     def test_json(self) -> None:
-        cut = self.file(PEOPLE.read_bytes()[:50_000], "backup/club/old.bson")
-        log = self.file(LOG.encode(), "log")
-        (line,) = self.audit(self.backup, str(self.room / "none.bson"), "--json", "--expect", str(log), status=1)
-        files = [
-            {"name": str(cut), "documents": 274, "faulty": 1, "kinds": {"bad length": 1}, "error": None, "expected": None},
-            {"name": str(self.people), "documents": 500, "faulty": 0, "kinds": {}, "error": None, "expected": 500},
-            {"name": str(self.orders), "documents": 400, "faulty": 0, "kinds": {}, "error": None, "expected": 400},
-        ]
+        cut = self.collection(PEOPLE.read_bytes()[:50_000], "old")
+        log = self.file(LOG.replace("500", "501").encode(), "log")
         none = str(self.room / "none.bson")
-        files.append({"name": none, "documents": 0, "faulty": 0, "kinds": {}, "error": f"cannot open {none}", "expected": None})
-        wanted = {"files": files, "documents": 1174, "faulty": 1, "kinds": {"bad length": 1}, "untold": [str(cut), none], "missing": {}}
+        (line,) = self.audit(self.backup, none, "--json", "--expect", str(log), status=1)
+        good = {"faulty": 0, "kinds": {}, "faults": [], "error": None, "metadata": None}
+        faults = [{"document": 273, "byte": 49744, "path": "", "kind": "bad length"}]
+        bad = {**good, "faulty": 1, "kinds": {"bad length": 1}, "faults": faults}
+        files = [
+            {**bad, "name": cut, "documents": 274, "expected": None},
+            {**good, "name": str(self.people), "documents": 500, "expected": 501},
+            {**good, "name": str(self.orders), "documents": 400, "expected": 400},
+            {**good, "name": none, "documents": 0, "error": "No such file or directory", "expected": None},
+        ]
+        wanted = {
+            "good": False, "files": files, "documents": 1174, "faulty": 1, "kinds": {"bad length": 1}, "miscounted": [str(self.people)],
+            "untold": [cut], "missing": {},
+        }  # fmt: skip
         self.assertEqual(json.loads(line), wanted)
+        (line,) = self.audit(str(self.orders), "--json", status=0)
+        self.assertTrue(json.loads(line)["good"])
 
     def test_what_cannot_be_read(self) -> None:
-        self.file(self.people.read_bytes()[:-500], "backup/club/people.bson.gz")
-        self.file(b"not gzip", "backup/shop/a.bson.gz")
-        lines = self.audit(self.backup, "--jobs", "1", status=1)
-        self.assertIn(f"{self.people}: Compressed file ended before the end-of-stream marker was reached", lines)
-        self.assertIn(f"{self.backup}/shop/a.bson.gz: Not a gzipped file (b'no')", lines)
-        self.assertEqual(lines[-4:], self.table(("files", 3), ("documents", 400), ("faulty", 0), ("not read", 2)))
+        """gzip -t finds each of them faulty, the empty one too."""
+        packed, a, b = gzip.compress(SHOP.read_bytes()), "backup/shop/a.bson.gz", "backup/shop/b.bson.gz"
+        self.people.write_bytes(self.people.read_bytes()[:-500])
+        wrong = bytearray(packed)
+        wrong[-5] ^= 1
+        for name, data, problem in (
+            ("a", b"not gzip", "incorrect header check"),
+            ("b", b"", "it is empty"),
+            ("c", packed[:-8], "it ends too soon"),
+            ("d", bytes(wrong), "incorrect data check"),
+            ("e", packed + b"more", "incorrect header check"),
+        ):
+            self.file(b"{}", f"backup/shop/{name}.metadata.json")
+            path = self.file(data, f"backup/shop/{name}.bson.gz")
+            self.assertEqual(subprocess.run(["gzip", "-tq", path], stderr=subprocess.DEVNULL).returncode != 0, True)
+            self.assertIn(f"{path}: not a sound file of gzip: {problem}", self.audit(self.backup, status=1))
+        lines = self.audit(self.backup, status=1)
+        self.assertIn(f"{self.people}: not a sound file of gzip: it ends too soon", lines)
+        # What stands before the damage was checked.
+        rows = ("files", 7), ("documents", 488 + 4 * 400), ("faulty", 1), ("  bad length", 1), ("not read", 6)
+        self.assertEqual(lines[-5:], self.table(*rows))
+
+    def test_compressed_in_several_parts(self) -> None:
+        """gzip takes files one after the other for one, and zeros at the end."""
+        data, at = PEOPLE.read_bytes(), 39978
+        path = self.file(gzip.compress(data[:at]) + gzip.compress(data[at:]) + b"\0" * 512, "parts.bson.gz")
+        self.assertEqual(subprocess.run(["gzip", "-dc", path], stdout=subprocess.PIPE, check=True).stdout, data)
+        self.assertEqual(self.audit(str(path), status=0)[0], f"{path}: 500 documents, 0 faulty")
 
     def test_no_files(self) -> None:
         self.audit(str(self.room / "backup/shop"), "--list", "/dev/null", status=0)
+        self.assertRaises(BsonfindError, audit, [self.orders], program="no-such-program")
         (self.room / "empty").mkdir()
         self.audit(str(self.room / "empty"), status=2, told="bsonfind: no dump is named\n")
         self.audit(self.backup, "--jobs", "0", status=2, told="bsonfind: --jobs is 1 or more\n")
@@ -153,9 +363,50 @@ class Audits(Room):
         self.assertIn(b"1 of 2 files", shown)
         self.assertTrue(shown.endswith(b"\r\x1b[K"), shown)
 
+    def test_progress_by_bytes(self) -> None:
+        """After ten seconds three of ten gigabytes were read, so the other seven take 23 more."""
+        self.assertEqual(progress_of(3_000_000_000, 10_000_000_000, 10), ["3.0 of 10.0 GB", "0:23 left"])
+        self.assertEqual(progress_of(1_000_000, 10_000_000_000, 1), ["0.0 of 10.0 GB", "2:46:39 left"])
+        self.assertEqual(progress_of(2_500_000, 5_000_000, 0.5), ["2.5 of 5.0 MB"])
+        self.assertEqual(progress_of(10, 500, 0.1), ["10 of 500 bytes"])
+        self.assertEqual(progress_of(0, 0, 3), [])
+
+    def test_closed_standard_output(self) -> None:
+        for words in ("audit", "--help", "--version", "audit --json"):
+            line = f'exec "$0" -m bsonfind --program "$1" {words} "$2" >&-'
+            command = ["sh", "-c", line, sys.executable, PROGRAM, self.backup]
+            run = subprocess.run(command, env=environment(), stderr=subprocess.PIPE, text=True)
+            self.assertEqual((run.returncode, run.stderr), (2, "bsonfind: cannot write: standard output is closed\n"))
+
+    def test_closed_streams(self) -> None:
+        line = 'exec "$0" -m bsonfind --program "$1" audit "$2" <&- 2>&-'
+        run = subprocess.run(["sh", "-c", line, sys.executable, PROGRAM, self.backup], env=environment(), stdout=subprocess.PIPE)
+        self.assertEqual((run.returncode, run.stdout.count(b"\n")), (0, 5))
+        line = 'exec "$0" -m bsonfind --program missing audit "$2" <&- 2>&-'
+        run = subprocess.run(["sh", "-c", line, sys.executable, PROGRAM, self.backup], env=environment(), stdout=subprocess.PIPE)
+        self.assertEqual((run.returncode, run.stdout), (2, b""))
+
+    def test_what_was_not_foreseen(self) -> None:
+        code = f"""
+import sys
+from unittest import mock
+from bsonfind import __main__
+with mock.patch("bsonfind.__main__.audit_dumps", side_effect=ZeroDivisionError("by chance")):
+    sys.exit(__main__.main(["audit", {self.backup!r}]))
+"""
+        run = subprocess.run([sys.executable, "-c", code], env=environment(), stdout=subprocess.PIPE, stderr=subprocess.PIPE, text=True)
+        self.assertEqual((run.returncode, run.stdout, run.stderr), (2, "", "bsonfind: ZeroDivisionError: by chance\n"))
+
+    def test_version_and_program_after_the_command(self) -> None:
+        for words in (("--version",), ("audit", "--version"), ("salvage", "--version")):
+            run = run_package(*words)
+            self.assertEqual((run.returncode, run.stdout), (0, f"bsonfind {(PEOPLE.parents[1] / 'VERSION').read_text()}"))
+        run = run_package("audit", self.backup, "--program", "no-such-program")
+        self.assertEqual(run.stderr, "bsonfind: cannot start no-such-program: No such file or directory\n")
+
     def test_full_disk(self) -> None:
         with open("/dev/full", "wb") as full:
-            for words in ((), ("--json",)):
+            for words in ((), ("--json",), ("--help",), ("--version",)):
                 run = run_package("audit", self.backup, *words, stdout=full)
                 self.assertEqual((run.returncode, run.stderr), (2, "bsonfind: cannot write: No space left on device\n"))
 
@@ -168,7 +419,7 @@ class Audits(Room):
 
     def test_interrupt(self) -> None:
         for number in range(4):
-            self.file(PEOPLE.read_bytes(), f"backup/club/{number}.bson")
+            self.collection(PEOPLE.read_bytes(), str(number))
         words = ["--program", self.stuck(), "audit", self.backup, "--jobs", "3"]
         self.assertEqual(self.interrupt(f"import sys\nfrom bsonfind.__main__ import main\nsys.exit(main({words!r}))", 3), 130)
         self.assertEqual(len((self.room / "pids").read_text().split()), 3)

@@ -1,15 +1,25 @@
 """Tests of the command `salvage`."""
 
-import io
+import gzip
 import os
+import random
 import subprocess
 import sys
-from typing import Tuple
+import threading
+from typing import List, Tuple
 from unittest import mock
 
-from bsonfind._salvage import Salvage, next_beginning
+from bsonfind._salvage import LeftOut, Salvaged, salvage
 
 from .support import DOUBLE, PEOPLE, PROGRAM, SHOP, Room, environment, run_package
+
+
+def ends_of(data: bytes) -> List[int]:
+    """Where each document of a dump ends, by its length, and 0 before them."""
+    ends = [0]
+    while ends[-1] < len(data):
+        ends.append(ends[-1] + int.from_bytes(data[ends[-1] : ends[-1] + 4], "little"))
+    return ends
 
 
 class Salvages(Room):
@@ -70,36 +80,146 @@ class Salvages(Room):
         self.assertEqual(told.count("is a guess"), 2)
         self.assertEqual(told.splitlines()[-1] + "\n", self.counted(1000, 1, 9_000_000))
 
-    def test_file_larger_than_what_a_run_reads(self) -> None:
-        """With a largest input of 30,000 bytes in place of 4,294,967,295, and with wrong lengths at cuts and elsewhere."""
+    def test_pieces_of_any_size(self) -> None:
+        """What is checked at once has 300 bytes, or few documents, in place of megabytes."""
         people, junk = PEOPLE.read_bytes(), b"\xff" * 100
         for data, kept, left_out in (
             (people, people, 0),
             (people[:39978] + junk + people[39978:], people, 1),
             (junk + people + DOUBLE + junk * 1000, people, 2),
         ):
-            good, bad = io.BytesIO(), io.BytesIO()
-            with mock.patch("bsonfind._framing.LARGEST_INPUT", 30_000), open(self.file(data), "rb") as dump:
-                salvage = Salvage(dump, good, bad, PROGRAM)
-                self.assertEqual(len(list(salvage.copy())), left_out)
-            self.assertEqual(good.getvalue(), kept)
-            self.assertEqual((salvage.good, salvage.bad), (500, len(bad.getvalue()) // len(DOUBLE)))
+            for patched in ({"_MOST": 300, "_FIRST": 300}, {"_MOST_DOCUMENTS": 7}, {"_PIECE": 64}):
+                with mock.patch.multiple("bsonfind._salvage", **patched):
+                    done = self.salvaged(data)
+                self.assertEqual((len(done.left_out), self.good.read_bytes()), (left_out, kept))
+                self.assertEqual((done.good, done.bad), (500, self.bad.stat().st_size // len(DOUBLE)))
+
+    def salvaged(self, data: bytes, name: str = "damaged.bson") -> Salvaged:
+        """What the function gives for bytes."""
+        self.good, self.bad = self.room / "good.bson", self.room / "bad.bson"
+        return salvage(self.file(data, name), self.good, self.bad, program=PROGRAM)
+
+    def test_compressed_dumps(self) -> None:
+        people = PEOPLE.read_bytes()
+        self.assertEqual(self.salvaged(gzip.compress(people), "people.bson.gz"), Salvaged(500, 0, [], None))
+        self.assertEqual(self.good.read_bytes(), people)
+
+    def test_compressed_dump_that_is_damaged(self) -> None:
+        """All that stands before the damage is copied."""
+        people = PEOPLE.read_bytes()
+        packed = gzip.compress(people, 0)  # Its bytes stand there as they are.
+        done = self.salvaged(packed[:50_000], "people.bson.gz")
+        self.assertEqual((done.good, done.bad, done.is_good), (273, 0, False))
+        self.assertEqual(done.error, "not a sound file of gzip: it ends too soon")
+        self.assertEqual(self.good.read_bytes(), people[:49744])
+        wrong = packed[:-8] + bytes(4) + packed[-4:]
+        self.assertEqual(self.salvaged(wrong, "people.bson.gz"), Salvaged(500, 0, [], "not a sound file of gzip: incorrect data check"))
+        self.assertEqual(self.good.read_bytes(), people)
+        run = run_package("salvage", str(self.room / "people.bson.gz"), "--good", str(self.good), "--bad", "/dev/null")
+        self.assertEqual(run.returncode, 1)
+        self.assertIn("byte 92726: not a sound file of gzip: incorrect data check; nothing after it can be read", run.stdout)
+
+    def test_pipes(self) -> None:
+        pipe, people = self.room / "pipe", PEOPLE.read_bytes()
+        os.mkfifo(pipe)
+        writer = threading.Thread(target=pipe.write_bytes, args=[people + DOUBLE])
+        writer.start()
+        good, bad = self.room / "good.bson", self.room / "bad.bson"
+        self.assertEqual(salvage(pipe, good, bad, program=PROGRAM), Salvaged(500, 1, [], None))
+        writer.join()
+        self.assertEqual((good.read_bytes(), bad.read_bytes()), (people, DOUBLE))
 
     def test_beginning_over_the_end_of_what_is_read_at_once(self) -> None:
         data = PEOPLE.read_bytes()
         for over in range(8):
-            self.damaged = self.file(b"\xff" * ((1 << 20) - over) + data)
-            with open(self.damaged, "rb") as file:
-                self.assertEqual(next_beginning(file, 0, (1 << 20) - over + len(data)), (1 << 20) - over)
+            beginning = (1 << 20) - over
+            done = self.salvaged(b"\xff" * beginning + data)
+            self.assertEqual(done, Salvaged(500, 0, [LeftOut(0, beginning, True)], None))
 
-    def test_last_document_after_a_wrong_length(self) -> None:
+    def test_last_documents_after_a_wrong_length(self) -> None:
         data = PEOPLE.read_bytes()
-        with open(self.file(b"\xff" * 9 + data[79930:]), "rb") as file:
-            self.assertEqual(next_beginning(file, 1, 9 + len(data) - 79930), 9)
-        with open(self.file(b"\xff" * 9 + data[79930:-1]), "rb") as file:
-            self.assertIsNotNone(next_beginning(file, 1, 9 + len(data) - 79931))
-        with open(self.file(b"\xff" * 9), "rb") as file:
-            self.assertIsNone(next_beginning(file, 0, 9))
+        ends = ends_of(data)
+        for last in (1, 3, 4, 5):
+            done = self.salvaged(b"\xff" * 9 + data[ends[-1 - last] :])
+            self.assertEqual(done, Salvaged(last, 0, [LeftOut(0, 9, True)], None))
+        done = self.salvaged(b"\xff" * 9 + data[ends[-6] : -1])
+        self.assertEqual((done.good, done.left_out[0]), (4, LeftOut(0, 9, True)))
+        self.assertEqual(self.salvaged(b"\xff" * 9), Salvaged(0, 0, [LeftOut(0, 9, False)], None))
+
+    def test_guess_is_taken_only_where_documents_are_sound(self) -> None:
+        """Four documents by their lengths and last bytes stand before the others; in one of them a boolean is 9."""
+        data = PEOPLE.read_bytes()
+        for bad in range(4):
+            fake = b"".join(b"\x09\0\0\0\x08a\0" + bytes([9 if number == bad else 1]) + b"\0" for number in range(4))
+            done = self.salvaged(b"\xff" * 9 + fake + b"\xff" * 9 + data)
+            self.assertEqual(done, Salvaged(500, 0, [LeftOut(0, 18 + len(fake), True)], None))
+            self.assertEqual(self.good.read_bytes(), data)
+
+    def test_many_places_that_seem_to_be_beginnings(self) -> None:
+        """An array of numbers, each of which leads on to another: all are looked at by a few runs."""
+        elements = b"".join(b"\x10%04d\0\x78\0\0\0" % number for number in range(9000))
+        data = PEOPLE.read_bytes()
+        program = self.counting()
+        good, bad = self.room / "good.bson", self.room / "bad.bson"
+        done = salvage(self.file(b"\xff" * 9 + elements + data), good, bad, program=program)
+        self.assertEqual((done.good, done.left_out), (500, [LeftOut(0, 9 + len(elements), True)]))
+        self.assertLess(len(self.starts()), 40)
+
+    def test_length_that_passes_over_documents(self) -> None:
+        """It is plausible: it ends at a document, or inside one, or at the end. Those inside are good, and that is reported."""
+        data = SHOP.read_bytes()
+        ends = ends_of(data)
+        for first, over in ((0, 7), (3, 20), (150, 5), (396, 3), (390, 9)):
+            for more in (0, 1, 100):
+                length = ends[first + over + 1] - ends[first] - more
+                damaged = data[: ends[first]] + length.to_bytes(4, "little") + data[ends[first] + 4 :]
+                told, good, bad = self.salvage(damaged, 1)
+                start, end = ends[first], ends[first + 1]
+                passed = "wrong length at byte {} that passes over other documents: {} bytes left out".format(start, end - start)
+                line = f"{self.damaged}: {passed}; that a document begins at byte {end} is a guess\n"
+                self.assertEqual((told, good, bad), (line + self.counted(399, 0, end - start), data[:start] + data[end:], b""))
+
+    def test_many_lengths_that_pass_over_documents(self) -> None:
+        """Each hundredth document has a length of some 4,000 bytes more; no other document is lost."""
+        data = bytearray(PEOPLE.read_bytes())
+        ends = ends_of(bytes(data))
+        wrong = range(10, 480, 100)
+        for number in wrong:
+            length = ends[number + 1] - ends[number] + 4000
+            data[ends[number] : ends[number] + 4] = length.to_bytes(4, "little")
+        done = self.salvaged(bytes(data))
+        self.assertEqual((done.good, done.bad), (495, 0))
+        self.assertEqual(done.left_out, [LeftOut(ends[number], ends[number + 1], True, True) for number in wrong])
+
+    def test_documents_that_a_document_holds(self) -> None:
+        """A dump in binary data is a part of its document, which has another fault; that it stands there is reported."""
+        people = PEOPLE.read_bytes()[:39978]
+        inside = b"\x05b\0" + len(people).to_bytes(4, "little") + b"\0" + people
+        for element in (b"\x08a\0\x09", b"\x01d\0" + bytes(8)):
+            length = 4 + len(element) + len(inside) + 1
+            holder = length.to_bytes(4, "little") + element + inside + b"\0"
+            for before, after in ((b"", b""), (people, people)):
+                told, good, bad = self.salvage(before + holder + after, 1)
+                start = len(before)
+                line = f"bad document at byte {start}: documents stand inside it from byte {start + 12 + len(element)} on, and are copied with it"
+                self.assertEqual(told, f"{self.damaged}: {line}\n" + self.counted(220 * bool(before) * 2, 1, 0))
+                self.assertEqual((good, bad), (before + after, holder))
+
+    def test_random_damage_loses_no_other_document(self) -> None:
+        """A byte of a length is another one; every document but this and its neighbour is copied as it was."""
+        data = SHOP.read_bytes()
+        ends, chance = ends_of(data), random.Random(5)
+        for _ in range(25):
+            number, byte = chance.randrange(400), chance.randrange(3)
+            damaged = bytearray(data)
+            damaged[ends[number] + byte] ^= 1 << chance.randrange(8)
+            done = self.salvaged(bytes(damaged))
+            rest = self.good.read_bytes()
+            with self.subTest(number=number, byte=byte):
+                self.assertGreaterEqual(done.good, 398)
+                self.assertTrue(rest.startswith(data[: ends[number]]))
+                self.assertTrue(rest.endswith(data[ends[min(number + 2, 400)] :]))
+                self.assertFalse(done.is_good)
 
     def test_little_memory(self) -> None:
         """A file of 600 MB: a document of 16 MB that has a fault, and then nothing."""
@@ -122,44 +242,95 @@ class BadInput(Room):
         run = run_package(*words)
         self.assertEqual((run.returncode, run.stdout, run.stderr), (2, "", f"bsonfind: {told}\n"))
 
-    def test_files(self) -> None:
-        path, missing = str(self.file(PEOPLE.read_bytes())), str(self.room / "missing.bson")
-        good, bad = str(self.room / "good.bson"), str(self.room / "bad.bson")
-        self.refused("salvage", missing, "--good", good, "--bad", bad, told=f"{missing}: No such file or directory")
-        self.assertEqual(os.listdir(self.room), ["dump.bson"])
-        self.refused("salvage", path, "--good", path, "--bad", bad, told=f"{path} is the dump")
-        self.refused("salvage", path, "--good", good, "--bad", path, told=f"{path} is the dump")
-        self.refused("salvage", path, "--good", good, "--bad", good, told=f"{good} is named twice")
-        self.refused("salvage", path, "--good", f"{missing}/a", "--bad", bad, told=f"{missing}/a: No such file or directory")
-        with open(path, "rb") as file:
-            self.assertEqual(file.read(), PEOPLE.read_bytes())
+    def test_names_that_are_refused(self) -> None:
+        """Nothing that is there is touched."""
+        people = PEOPLE.read_bytes()
+        path, missing = str(self.file(people)), str(self.room / "missing.bson")
+        good, bad = str(self.file(b"good", "good.bson")), str(self.file(b"bad", "bad.bson"))
+        link, second, linked = (str(self.room / name) for name in ("link.bson", "second.bson", "linked"))
+        os.symlink(path, link)
+        os.link(good, second)
+        os.symlink(self.room, linked)
+        (self.room / "folder").mkdir()
+        there = sorted(os.listdir(self.room))
+        for words, told in (
+            ((missing, good, bad), f"{missing}: No such file or directory"),
+            ((path, path, bad), f"{path} is the dump"),
+            ((path, good, link), f"{link} is the dump"),
+            ((path, good, f"{linked}/dump.bson"), f"{linked}/dump.bson is the dump"),
+            ((path, good, good), f"{good} is named twice"),
+            ((path, good, second), f"{good} is named twice"),
+            ((path, missing, f"{linked}/missing.bson"), f"{missing} is named twice"),
+            ((path, good, f"{missing}/a"), f"{missing}/a: No such file or directory"),
+            ((path, good, str(self.room / "folder")), f"{self.room}/folder: Is a directory"),
+            ((str(self.room / "folder"), good, bad), f"{self.room}/folder: Is a directory"),
+        ):
+            name, one, other = words
+            self.refused("salvage", name, "--good", one, "--bad", other, told=told)
+            self.assertEqual(sorted(os.listdir(self.room)), there)
+        self.kept(path, people, good, bad)
+
+    def kept(self, path: str, data: bytes, good: str, bad: str) -> None:
+        """The files are as they were."""
+        for name, wanted in ((path, data), (good, b"good"), (bad, b"bad")):
+            with open(name, "rb") as file:
+                self.assertEqual(file.read(), wanted)
+
+    def test_what_fails_leaves_files_as_they_were(self) -> None:
+        people = PEOPLE.read_bytes()
+        path, good, bad = str(self.file(people)), str(self.file(b"good", "good.bson")), str(self.file(b"bad", "bad.bson"))
+        words = "salvage", path, "--good", good, "--bad"
+        killed = self.script('[ "$(head -c 4 | wc -c)" = 4 ] && kill -9 $$; exec "$PROGRAM" "$@" </dev/null')
+        there = sorted(os.listdir(self.room))
+        self.refused("--program", "no-such-program", *words, bad, told="cannot start no-such-program: No such file or directory")
+        self.refused("--program", killed, *words, bad, told="ended by signal 9")
+        with self.subTest("a full disk"), open("/dev/full", "wb") as full:
+            run = run_package(*words, bad, stdout=full)
+            self.assertEqual((run.returncode, run.stderr), (2, "bsonfind: cannot write: No space left on device\n"))
+        self.file(people + DOUBLE)
+        self.refused(*words, "/dev/full", told="/dev/full: No space left on device")
+        self.file(people)
+        self.kept(path, people, good, bad)
+        self.assertEqual(sorted(os.listdir(self.room)), there)
+
+    def test_files_that_are_there_are_replaced_at_the_end(self) -> None:
+        """With their modes, and a link stays a link."""
+        people = PEOPLE.read_bytes()
+        path, good = str(self.file(people)), self.file(b"good", "kept/good.bson")
+        good.chmod(0o640)
+        link = self.room / "link.bson"
+        link.symlink_to(good)
+        self.assertEqual(run_package("salvage", path, "--good", str(link), "--bad", "/dev/null").returncode, 0)
+        self.assertTrue(link.is_symlink())
+        self.assertEqual((good.read_bytes(), good.stat().st_mode & 0o777), (people, 0o640))
+        self.assertEqual(os.listdir(good.parent), ["good.bson"])
 
     def test_full_disk(self) -> None:
         path = str(self.file(PEOPLE.read_bytes() + DOUBLE))
         for good, bad in (("/dev/full", "/dev/null"), ("/dev/null", "/dev/full")):
-            self.refused("salvage", path, "--good", good, "--bad", bad, told="No space left on device")
+            self.refused("salvage", path, "--good", good, "--bad", bad, told="/dev/full: No space left on device")
         with open("/dev/full", "wb") as full:
             run = run_package("salvage", path, "--good", "/dev/null", "--bad", "/dev/null", stdout=full)
         self.assertEqual((run.returncode, run.stderr), (2, "bsonfind: cannot write: No space left on device\n"))
 
-    def test_program_that_is_not_there(self) -> None:
-        path = str(self.file(PEOPLE.read_bytes()))
-        words = "salvage", path, "--good", "/dev/null", "--bad", "/dev/null"
-        self.refused("--program", "no-such-program", *words, told="cannot start no-such-program: No such file or directory")
-
-    def test_program_that_is_killed(self) -> None:
-        """What it did not look at is not copied."""
-        path, good = str(self.file(PEOPLE.read_bytes())), self.room / "good.bson"
-        words = "salvage", path, "--good", str(good), "--bad", "/dev/null"
-        self.refused("--program", self.script("kill -9 $$"), *words, told="ended by signal 9")
-        self.assertEqual(good.read_bytes(), b"")
-
     def test_file_that_shrinks(self) -> None:
+        """It does so when the program is tried, after its size was read."""
         path = self.file(PEOPLE.read_bytes())
         program = self.script(f"truncate -s 39978 {path}\nexec \"$PROGRAM\" \"$@\"")
-        run = run_package("--program", program, "salvage", str(path), "--good", "/dev/null", "--bad", "/dev/null")
-        self.assertEqual((run.returncode, run.stdout), (2, ""))
-        self.assertIn("the file became shorter", run.stderr)
+        told = "no bytes at byte 39978: the file became shorter"
+        self.refused("--program", program, "salvage", str(path), "--good", "/dev/null", "--bad", "/dev/null", told=told)
+
+    def test_progress_on_a_terminal(self) -> None:
+        path = self.file(PEOPLE.read_bytes())
+        slow = self.script('if [ "$(head -c 4 | wc -c)" = 4 ]; then sleep 1.5; cat >/dev/null; fi; exec "$PROGRAM" "$@" <"$ROOM/dump.bson"')
+        ours, theirs = os.openpty()
+        words = ["--program", slow, "salvage", str(path), "--good", "/dev/null", "--bad", "/dev/null"]
+        with os.fdopen(ours, "rb", buffering=0) as terminal:
+            run = subprocess.run([sys.executable, "-m", "bsonfind", *words], env=environment(), stdout=subprocess.PIPE, stderr=theirs)
+            os.close(theirs)
+            shown = terminal.read(4096)
+        self.assertEqual(run.returncode, 2)
+        self.assertIn(b"92.7 of 92.7 kB", shown)
 
     def test_interrupt(self) -> None:
         path = str(self.file(PEOPLE.read_bytes()))

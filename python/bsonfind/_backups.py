@@ -1,0 +1,180 @@
+"""What a backup holds: its dumps, the collections that they are of, and what the log of mongodump says of them."""
+
+from __future__ import annotations
+
+import json
+import os
+import re
+import stat
+from dataclasses import dataclass, field
+from typing import Any, Iterable, Iterator, NamedTuple
+from urllib.parse import unquote
+
+from ._errors import DumpError
+from ._sources import unpacked
+
+_ENDING = re.compile(r"\.bson(\.gz)?$")
+_DUMPED = re.compile(r"done dumping (\S.*) \((\d+) documents?\)")
+_OPLOG_DUMPED = re.compile(r"dumped (\d+) oplog entr(?:y|ies)")
+# The names of dumps that mongodump writes without a file of metadata beside them.
+_BARE = re.compile(r"^(\$admin\..*|system\.indexes)\.bson")
+
+
+@dataclass
+class Dump:
+    """A dump by its name, the other names by which it was met, and its size; or what could not be seen, and why."""
+
+    name: str
+    is_below: bool = False
+    size: int | None = None
+    error: str | None = None
+    others: list[str] = field(default_factory=list)
+
+    @property
+    def names(self) -> list[str]:
+        """All names of the file."""
+        return [self.name, *self.others]
+
+
+class Log(NamedTuple):
+    """How many documents of each collection mongodump reports to have dumped, and how many entries of the oplog."""
+
+    documents: dict[str, int]
+    oplog: int | None
+
+
+def dumps_of(names: Iterable[str]) -> list[Dump]:
+    """The files of these names, and in place of a directory the dumps below it. A file that is met twice stands there once.
+
+    What cannot be seen below a directory stands there with its error, so that nothing is passed over in silence.
+    """
+    dumps: list[Dump] = []
+    known: dict[tuple[int, int], Dump] = {}
+    for name in names:
+        for dump in dumps_below(name) if os.path.isdir(name) else [Dump(name)]:
+            first = dump if dump.error else _first_of(dump, known)
+            if first is dump:
+                dumps.append(dump)
+            else:
+                first.is_below |= dump.is_below
+                if os.path.abspath(dump.name) not in map(os.path.abspath, first.names):
+                    first.others.append(dump.name)
+    return dumps
+
+
+def _first_of(dump: Dump, known: dict[tuple[int, int], Dump]) -> Dump:
+    """The dump by which the same file was met before, or this one, of which the size is read."""
+    try:
+        status = os.stat(dump.name)
+    except OSError as error:
+        dump.error = error.strerror
+        return dump
+    if stat.S_ISREG(status.st_mode):
+        dump.size = status.st_size
+    return known.setdefault((status.st_dev, status.st_ino), dump)
+
+
+def dumps_below(directory: str) -> Iterator[Dump]:
+    """The dumps below a directory, in the order of their names, and what cannot be seen there."""
+    try:
+        with os.scandir(directory) as found:
+            entries = sorted(found, key=lambda entry: entry.name)
+    except OSError as error:
+        yield Dump(directory, error=f"cannot read the directory: {error.strerror}")
+        return
+    for entry in entries:
+        try:
+            if entry.is_dir(follow_symlinks=False):
+                yield from dumps_below(entry.path)
+            elif entry.is_dir():
+                yield Dump(entry.path, error="a link to a directory, which is not followed: name it too")
+            elif entry.is_symlink() and not os.path.exists(entry.path):
+                yield Dump(entry.path, error="a link to nothing that can be seen")
+            elif _ENDING.search(entry.name):
+                is_file = entry.is_file()
+                yield Dump(entry.path, is_below=True, error=None if is_file else "not a regular file")
+        except OSError as error:
+            yield Dump(entry.path, error=error.strerror)
+
+
+def lines_of(path: str | os.PathLike[str]) -> list[str]:
+    """The lines of a file that are not empty; bytes that are not UTF-8 stay as they are in names."""
+    with open(path, encoding="utf-8", errors="surrogateescape", newline="\n") as file:
+        return [line for line in file.read().split("\n") if line]
+
+
+def read_log(lines: Iterable[str]) -> Log:
+    """What the log of mongodump says."""
+    documents: dict[str, int] = {}
+    oplog = None
+    for line in lines:
+        if found := _DUMPED.search(line):
+            documents[found.group(1).replace("`", "")] = int(found.group(2))
+        elif found := _OPLOG_DUMPED.search(line):
+            oplog = int(found.group(1))
+    return Log(documents, oplog)
+
+
+def is_oplog(name: str) -> bool:
+    """Whether a file is the oplog of mongodump --oplog: it stands where the directories of the databases are, without metadata."""
+    directory, base = os.path.split(os.path.abspath(name))
+    if base not in ("oplog.bson", "oplog.bson.gz") or _metadata_beside(name):
+        return False
+    try:
+        with os.scandir(directory) as entries:
+            return any(entry.is_dir() for entry in entries)
+    except OSError:
+        return False  # Then it is a collection, of which the log must speak.
+
+
+def namespace_of(name: str) -> str:
+    """The database and the collection whose dump a file is: by its directory, and by its name or the metadata beside it.
+
+    mongodump shortens the name of a file whose collection has a long name, so the name in the metadata decides.
+    """
+    directory, base = os.path.split(os.path.abspath(name))
+    stem = _ENDING.sub("", base)
+    if stem.startswith("$admin."):
+        return unquote(stem[1:])  # The users and roles of one database are dumped beside it.
+    metadata, _ = _read_metadata(name)
+    collection = (metadata or {}).get("collectionName")
+    return f"{os.path.basename(directory)}.{collection if isinstance(collection, str) else unquote(stem)}"
+
+
+def fault_of_metadata(name: str, is_below: bool) -> str | None:
+    """What is wrong with the metadata beside a dump, from which mongorestore takes indexes and options.
+
+    Below a directory there must be some, but for the oplog and the like. A file that is named by itself may have none.
+    """
+    metadata, error = _read_metadata(name)
+    if error:
+        return error
+    is_bare = not is_below or _BARE.match(os.path.basename(name)) or is_oplog(name)
+    return None if metadata is not None or is_bare else f"no {os.path.basename(_metadata_names(name)[0])} beside it"
+
+
+def _metadata_names(name: str) -> list[str]:
+    stem = _ENDING.sub("", name)
+    return [f"{stem}.metadata.json", f"{stem}.metadata.json.gz"]
+
+
+def _metadata_beside(name: str) -> str | None:
+    """The file of metadata of a dump, where there is one."""
+    return next((it for it in _metadata_names(name) if os.path.lexists(it)), None)
+
+
+def _read_metadata(name: str) -> tuple[dict[str, Any] | None, str | None]:
+    """The metadata of a dump, or what is wrong with it; nothing where there is none."""
+    path = _metadata_beside(name)
+    if path is None:
+        return None, None
+    base = os.path.basename(path)
+    try:
+        with open(path, "rb") as file:
+            data = file.read()
+        metadata = json.loads(b"".join(unpacked([data])) if path.endswith(".gz") else data)
+    except OSError as error:
+        return None, f"{base}: {error.strerror}"
+    except (DumpError, ValueError, RecursionError) as error:
+        return None, f"{base}: {error}"
+    return (metadata, None) if isinstance(metadata, dict) else (None, f"{base}: not a document")

@@ -1,0 +1,134 @@
+"""The bytes of dumps: of a file of any size, of one that mongodump --gzip wrote, of a pipe or a device."""
+
+from __future__ import annotations
+
+import os
+import stat
+import zlib
+from typing import Any, BinaryIO, Iterable, Iterator, NamedTuple, Sequence
+
+from . import _framing
+from ._errors import DumpError
+from ._processes import Run
+
+_PIECE = 1 << 18
+# The most that a piece of a compressed file is unpacked to at once.
+_UNPACKED = 1 << 20
+# What zlib takes as the format of gzip.
+_GZIP = 31
+
+
+class UnpackError(DumpError):
+    """A compressed file that is damaged."""
+
+
+class Input(NamedTuple):
+    """What one run reads of a dump: its offset there, and the open file, or pieces that are written to the run."""
+
+    offset: int
+    file: BinaryIO | None
+    pieces: Iterator[bytes] | None
+
+    def run(self, words: Sequence[str], **how: Any) -> Run:
+        """A run of the program that reads it as standard input."""
+        return Run(words, stdin=self.file, **how) if self.file else Run(words, self.pieces, **how)
+
+
+class Source:
+    """A dump that is open for one reading. Its size is that of the file as it is on the disk, None for a pipe or a device."""
+
+    def __init__(self, name: str | os.PathLike[str]) -> None:
+        self.name = os.fspath(name)
+        self._file: BinaryIO = open(self.name, "rb", buffering=0)
+        status = os.fstat(self._file.fileno())
+        self.size = status.st_size if stat.S_ISREG(status.st_mode) else None
+        self._is_packed = self.name.endswith(".gz")
+        self._read = 0
+
+    def pieces(self) -> Iterator[bytes]:
+        """All bytes, unpacked where the name ends in `.gz`. A compressed file that is damaged is an `UnpackError` at its place."""
+        return unpacked(self._raw()) if self._is_packed else self._raw()
+
+    def inputs(self, most: int | None = None) -> Iterator[Input]:
+        """What runs read one after the other, at most so many bytes each; without a number as many as a run can read.
+
+        What goes wrong with the file is raised after the run over the bytes before it.
+        """
+        limit = _framing.LARGEST_INPUT if most is None else most
+        if self._is_packed or self.size is None or self.size > limit:
+            errors: list[Exception] = []
+            for offset, pieces in _framing.inputs(_up_to_error(self.pieces(), errors), limit):
+                yield Input(offset, None, pieces)
+            if errors:
+                raise errors[0]
+        else:
+            yield Input(0, self._file, None)
+
+    def position(self) -> int:
+        """How many bytes of the file were read by now, by this process or by a run."""
+        return self._read or (self._file.tell() if self.size is not None and not self._file.closed else 0)
+
+    def _raw(self) -> Iterator[bytes]:
+        while piece := self._file.read(_PIECE):
+            self._read += len(piece)
+            yield piece
+        if self.size is not None and self._read < self.size:
+            raise DumpError(f"no bytes at byte {self._read}: the file became shorter")
+
+    def close(self) -> None:
+        """Closes the file."""
+        self._file.close()
+
+    def __enter__(self) -> Source:
+        return self
+
+    def __exit__(self, *_: object) -> None:
+        self.close()
+
+
+def _up_to_error(pieces: Iterator[bytes], errors: list[Exception]) -> Iterator[bytes]:
+    """The pieces before an error, which is put into a list."""
+    try:
+        yield from pieces
+    except (DumpError, OSError) as error:
+        errors.append(error)
+
+
+def unpacked(pieces: Iterable[bytes]) -> Iterator[bytes]:
+    """What the pieces of a file of gzip hold. All bytes before a fault are given, then it is raised."""
+    unpack, is_empty = zlib.decompressobj(_GZIP), True
+    for piece in pieces:
+        is_empty, data = False, b""
+        while piece or len(data) == _UNPACKED:
+            if unpack.eof:
+                # Zeros may stand between two parts of the file, and after the last one.
+                piece = piece.lstrip(b"\0")
+                if not piece:
+                    break
+                unpack = zlib.decompressobj(_GZIP)
+            before = unpack.copy()
+            try:
+                data = unpack.decompress(piece, _UNPACKED)
+            except zlib.error as error:
+                yield _before_fault(before, piece)
+                raise UnpackError(f"not a sound file of gzip: {str(error).rpartition(': ')[2]}") from None
+            if data:
+                yield data
+            piece = unpack.unused_data if unpack.eof else unpack.unconsumed_tail
+    if is_empty:
+        raise UnpackError("not a sound file of gzip: it is empty")
+    if not unpack.eof:
+        raise UnpackError("not a sound file of gzip: it ends too soon")
+
+
+def _before_fault(unpack: zlib._Decompress, piece: bytes) -> bytes:
+    """What the most of a faulty piece unpacks to that has no fault by itself."""
+    good, bad = 0, len(piece)
+    while bad - good > 1:
+        middle = (good + bad) // 2
+        try:
+            unpack.copy().decompress(piece[:middle], _UNPACKED)
+            good = middle
+        except zlib.error:
+            bad = middle
+    return unpack.decompress(piece[:good], _UNPACKED)
