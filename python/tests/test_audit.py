@@ -310,7 +310,7 @@ class Audits(Room):
     def test_what_cannot_be_read(self) -> None:
         """gzip -t finds each of them faulty, the empty one too."""
         packed, a, b = gzip.compress(SHOP.read_bytes()), "backup/shop/a.bson.gz", "backup/shop/b.bson.gz"
-        self.people.write_bytes(self.people.read_bytes()[:-500])
+        self.people.write_bytes(gzip.compress(PEOPLE.read_bytes(), 0)[:50_000])  # Its bytes stand there as they are.
         wrong = bytearray(packed)
         wrong[-5] ^= 1
         for name, data, problem in (
@@ -327,7 +327,7 @@ class Audits(Room):
         lines = self.audit(self.backup, status=1)
         self.assertIn(f"{self.people}: not a sound file of gzip: it ends too soon", lines)
         # What stands before the damage was checked.
-        rows = ("files", 7), ("documents", 488 + 4 * 400), ("faulty", 1), ("  bad length", 1), ("not read", 6)
+        rows = ("files", 7), ("documents", 274 + 4 * 400), ("faulty", 1), ("  bad length", 1), ("not read", 6)
         self.assertEqual(lines[-5:], self.table(*rows))
 
     def test_compressed_in_several_parts(self) -> None:
