@@ -9,11 +9,17 @@ import sys
 from typing import Sequence
 
 from ._audit import MOST_FAULTS, Audit, audit_dumps
-from ._backups import dumps_of, lines_of
+from ._backups import Dump, dumps_of, text_lines
+from ._compare import NOTHING, CompareError, compare, pairs_of, rows
 from ._console import CannotWrite, Console, Progress, print_text
-from ._errors import BsonfindError
+from ._errors import BsonfindError, DumpError
+from ._ids import Ids, find_ids
+from ._outputs import Output, refuse_names
 from ._processes import processors
+from ._query import query_dumps
+from ._requests import Request
 from ._salvage import salvage
+from ._sources import try_program
 
 GOOD, FAULTY, FAILED, INTERRUPTED = 0, 1, 2, 130
 
@@ -38,6 +44,9 @@ def parser() -> argparse.ArgumentParser:
     for name, add, about in (
         ("audit", _add_audit, "Checks many files, on all processors."),
         ("salvage", _add_salvage, "Copies each document of a damaged dump to one of two files."),
+        ("compare", _add_compare, "Compares two dumps, or the dumps of two directories."),
+        ("query", _add_query, "Prints the documents of many files that match a query, each with its file."),
+        ("ids", _add_ids, "Prints the documents of a file of ids, and reports ids without a document."),
     ):
         command = commands.add_parser(name, help=about[0].lower() + about[1:-1], description=about)
         _add_common(command, argparse.SUPPRESS)
@@ -62,13 +71,17 @@ class _Version(argparse.Action):
 
 def _add_audit(command: argparse.ArgumentParser) -> None:
     command.epilog = "The status is 0 where all is good, 1 where something is faulty, missing or not read, and else 2."
-    command.add_argument("files", nargs="*", metavar="FILE", help="a dump, one by mongodump --gzip, or a directory of such files")
-    command.add_argument("--list", metavar="F", help="also the files whose names are the lines of F")
+    _add_files(command)
     command.add_argument("--expect", metavar="LOG", help="compare the counts with those in a log of mongodump")
     command.add_argument("--json", action="store_true", help="print one line of JSON, and nothing else")
     command.add_argument("--jobs", type=int, default=processors(), metavar="N", help="check so many files at once")
     command.add_argument("--max-faults", type=int, default=MOST_FAULTS, metavar="N", help="show so many faults of a file, not 10")
     command.set_defaults(run=run_audit)
+
+
+def _add_files(command: argparse.ArgumentParser) -> None:
+    command.add_argument("files", nargs="*", metavar="FILE", help="a dump, one by mongodump --gzip, or a directory of such files")
+    command.add_argument("--list", metavar="F", help="also the files whose names are the lines of F")
 
 
 def _add_salvage(command: argparse.ArgumentParser) -> None:
@@ -79,14 +92,36 @@ def _add_salvage(command: argparse.ArgumentParser) -> None:
     command.set_defaults(run=run_salvage)
 
 
+def _add_compare(command: argparse.ArgumentParser) -> None:
+    command.epilog = "The status is 0 where both have the same documents, in whatever order, 1 where they differ, and else 2."
+    command.add_argument("first", metavar="A", help="a dump, one by mongodump --gzip, or a directory of such files")
+    command.add_argument("second", metavar="B", help="what it is compared with")
+    command.add_argument("--by", default="_id", metavar="PATH", help="the field by which documents belong together, not _id")
+    command.set_defaults(run=run_compare)
+
+
+def _add_query(command: argparse.ArgumentParser) -> None:
+    command.epilog = "The status is 0 where all files were asked, 1 where a file is refused for a fault, and else 2."
+    _add_files(command)
+    command.add_argument("--query", default="{}", metavar="Q", help="a query as bsonfind find takes it")
+    command.add_argument("--jobs", type=int, default=processors(), metavar="N", help="ask so many files at once")
+    command.set_defaults(run=run_query)
+
+
+def _add_ids(command: argparse.ArgumentParser) -> None:
+    command.epilog = "The status is 0 where each id has a document, 1 where one has none, and else 2."
+    command.add_argument("file", metavar="FILE", help="a dump of any size, or one by mongodump --gzip")
+    command.add_argument("--ids", required=True, metavar="F", help="the file of ids, one a line: 24 digits, or as dump prints them")
+    command.add_argument("--missing", metavar="M", help="write the ids without a document to this file")
+    command.set_defaults(run=run_ids)
+
+
 def run_audit(words: argparse.Namespace) -> int:
     """Audits files, and gives the status."""
     _refuse_below("--jobs", words.jobs, 1)
     _refuse_below("--max-faults", words.max_faults, 0)
     console = Console()
-    dumps = dumps_of([*words.files, *(_names_in(words.list) if words.list else ())])
-    if not dumps:
-        raise Refused("no dump is named")
+    dumps = _dumps_in(words)
     done = audit_dumps(dumps, words.expect, words.jobs, words.max_faults, words.program, None if words.json else console)
     if words.json:
         console.line(done.as_json())
@@ -100,13 +135,18 @@ def _refuse_below(name: str, number: int, least: int) -> None:
         raise Refused(f"{name} is {least} or more")
 
 
-def _names_in(path: str) -> list[str]:
-    """The names of files that are the lines of a file."""
-    names = lines_of(path)
-    for number, name in enumerate(names, 1):
+def _dumps_in(words: argparse.Namespace) -> list[Dump]:
+    """The dumps that are named, and those of a list."""
+    names = list(words.files)
+    for number, name in enumerate(text_lines(words.list) if words.list else (), 1):
         if "\0" in name:
-            raise Refused(f"{path}: name {number} has a zero byte; each line is a name")
-    return names
+            raise Refused(f"{words.list}: line {number} has a zero byte; each line is a name")
+        if name:
+            names.append(name)
+    dumps = dumps_of(names)
+    if not dumps:
+        raise Refused("no dump is named")
+    return dumps
 
 
 def _print_audit(done: Audit, console: Console) -> None:
@@ -116,7 +156,10 @@ def _print_audit(done: Audit, console: Console) -> None:
         console.line(f"{report.name}: not in the log")
     for namespace, count in done.missing.items():
         console.line(f"{namespace}: missing, with {count} documents")
-    rows = done.rows()
+    _print_table(done.rows(), console)
+
+
+def _print_table(rows: Sequence[tuple[str, int]], console: Console) -> None:
     wide = max(len(name) for name, _ in rows)
     for name, count in rows:
         console.line(f"{name:{wide}} {count:12}")
@@ -135,6 +178,61 @@ def run_salvage(words: argparse.Namespace) -> int:
             progress=progress.over,
         )
     return GOOD if done.is_good else FAULTY
+
+
+def run_compare(words: argparse.Namespace) -> int:
+    """Compares dumps, and gives the status."""
+    console = Console()
+    try_program(words.program)
+    pairs, problems = pairs_of(words.first, words.second)
+    is_of_directories, total = os.path.isdir(words.first), NOTHING
+    for pair in pairs:
+        front = f"{pair.name}: " if is_of_directories else ""
+        try:
+            total += compare(pair, words.by, words.program, lambda text: console.line(f"{front}{text}"))
+        except CompareError as error:
+            problems.append(error)
+    _print_table(rows(total, (words.first, words.second), words.by), console)
+    for problem in problems:
+        console.problem(str(problem))
+    return FAILED if problems else GOOD if total.is_same else FAULTY
+
+
+def run_query(words: argparse.Namespace) -> int:
+    """Asks many dumps, and gives the status."""
+    _refuse_below("--jobs", words.jobs, 1)
+    console, dumps = Console(), _dumps_in(words)
+    documents, status, names = 0, GOOD, set()
+    for name, lines, error in query_dumps(dumps, Request(words.query), words.jobs, words.program):
+        if lines:
+            front = os.fsencode(name) + b"\t"
+            console.documents([front + line + b"\n" for line in lines])
+            documents += len(lines)
+            names.add(name)
+        if error:
+            console.problem(f"{name}: {getattr(error, 'strerror', None) or error}")
+            status = max(status, FAULTY if isinstance(error, DumpError) and error.fault else FAILED)
+    console.note(f"{documents} documents in {len(names)} of {len(dumps)} files")
+    return status
+
+
+def run_ids(words: argparse.Namespace) -> int:
+    """Prints the documents of ids, and gives the status."""
+    console = Console()
+    ids = Ids(text_lines(words.ids), words.ids)
+    if words.missing is not None:
+        refuse_names(words.file, words.missing, words.ids)
+    missing = find_ids(words.file, ids, words.program, console.documents)
+    if words.missing is not None:
+        with Output(words.missing) as output:
+            output.write("".join(f"{line}\n" for line in missing).encode(errors="surrogateescape"))
+            output.complete()
+            output.put_in_place()
+    else:
+        for line in missing:
+            console.note(f"missing: {line}")
+    console.note(f"{len(ids) - len(missing)} of {len(ids)} ids found")
+    return FAULTY if missing else GOOD
 
 
 def main(words: Sequence[str] | None = None) -> int:

@@ -9,12 +9,12 @@ from concurrent.futures import ThreadPoolExecutor, as_completed
 from dataclasses import dataclass, field
 from typing import Any, Callable, Iterable, NamedTuple
 
-from ._backups import Dump, Log, dumps_of, fault_of_metadata, is_oplog, lines_of, namespace_of, read_log
+from ._backups import Dump, Log, dumps_of, fault_of_metadata, is_oplog, namespace_of, read_log, text_lines
 from ._console import Console, Progress
 from ._errors import BsonfindError
 from ._faults import NO_DAMAGE, Fault, faults_of, finish_check
-from ._processes import Group, Run, processors
-from ._sources import Source
+from ._processes import Group, processors
+from ._sources import Source, try_program
 
 # How many faults of a file are reported one by one.
 MOST_FAULTS = 10
@@ -169,9 +169,8 @@ def audit_dumps(
     console: Console | None = None,
 ) -> Audit:
     """Checks dumps; the console gets the lines of faults as they come, and those of each file as it ends."""
-    log = read_log(lines_of(expect)) if expect is not None else None
-    with Run([program, "check", "-"]) as run:
-        finish_check(run)  # A program that cannot be started is reported once, not for each file.
+    log = read_log(text_lines(expect)) if expect is not None else None
+    try_program(program)
     with Progress(console, len(dumps), sum(it.size or 0 for it in dumps)) as progress:
         reports = _check_all(dumps, _Checker(max_faults, program, console, progress), jobs or processors())
     missing: dict[str, int] = {}

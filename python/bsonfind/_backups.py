@@ -97,10 +97,10 @@ def dumps_below(directory: str) -> Iterator[Dump]:
             yield Dump(entry.path, error=error.strerror)
 
 
-def lines_of(path: str | os.PathLike[str]) -> list[str]:
-    """The lines of a file that are not empty; bytes that are not UTF-8 stay as they are in names."""
+def text_lines(path: str | os.PathLike[str]) -> list[str]:
+    """The lines of a file; bytes that are not UTF-8 stay as they are in names."""
     with open(path, encoding="utf-8", errors="surrogateescape", newline="\n") as file:
-        return [line for line in file.read().split("\n") if line]
+        return file.read().split("\n")
 
 
 def read_log(lines: Iterable[str]) -> Log:

@@ -50,11 +50,15 @@ class Console:
                 sys.stdout.buffer.flush()
 
     def problem(self, text: str) -> None:
+        """Prints what is wrong on standard error."""
+        self.note(f"bsonfind: {text}")
+
+    def note(self, text: str) -> None:
         """Prints a line on standard error."""
         with self._lock:
             self._clear()
             if sys.stderr is not None:
-                print(f"bsonfind: {text}", file=sys.stderr, flush=True)
+                print(text, file=sys.stderr, flush=True)
 
     def progress(self, text: str) -> None:
         """Shows how far it is, in place of what was shown before; nothing where standard error is no terminal."""

@@ -54,11 +54,11 @@ def walk(file: BinaryIO, start: int = 0, end: int | None = None) -> Iterator[int
         yield at
 
 
-def inputs(pieces: Iterable[bytes], most: int | None = None) -> Iterator[tuple[int, Iterator[bytes]]]:
+def inputs(pieces: Iterable[bytes], most: int | None = None) -> Iterator[tuple[int, int, Iterator[bytes]]]:
     """Cuts bytes between documents, as they pass, into inputs of at most so many bytes, or of as many as a run can read.
 
-    Each input comes with the offset of its first byte, and is read to its end before the next one begins. A longer document is an
-    input by itself. Only the lengths are looked at: with a wrong one the last input begins.
+    Each input comes with the offset and the number of its first document, and is read to its end before the next one begins. A
+    longer document is an input by itself. Only the lengths are looked at: with a wrong one the last input begins.
     """
     return _Inputs(pieces, LARGEST_INPUT if most is None else most).all()
 
@@ -70,14 +70,15 @@ class _Inputs:
         self._pieces, self._most = iter(pieces), most
         # What was read and not passed on, the offset of its first byte, and that of the next document.
         self._held, self._offset, self._next = b"", 0, 0
+        self._number = 0
         self._is_wrong = self._is_passed_on = False
 
-    def all(self) -> Iterator[tuple[int, Iterator[bytes]]]:
+    def all(self) -> Iterator[tuple[int, int, Iterator[bytes]]]:
         """The inputs; none follows one that was not read to its end."""
         self._is_passed_on = True
         while self._is_passed_on and (self._held or self._read()):
             self._is_passed_on = False
-            yield self._offset, self._input()
+            yield self._offset, self._number, self._input()
 
     def _input(self) -> Iterator[bytes]:
         start = self._offset
@@ -108,18 +109,19 @@ class _Inputs:
         held, most = self._held, start + self._most - self._offset
         if self._is_wrong:
             return len(held), False
-        at, last = self._next - self._offset, len(held) - 4
+        at, last, number = self._next - self._offset, len(held) - 4, self._number
         while at <= last:
             (length,) = _length_at(held, at)
             if not SHORTEST <= length <= LONGEST or at + length > most:
-                self._next = self._offset + at
+                self._next, self._number = self._offset + at, number
                 if self._next > start:
                     return at, True
                 if not SHORTEST <= length <= LONGEST:
                     self._is_wrong = True
                     return len(held), False
             at += length
-        self._next = self._offset + at
+            number += 1
+        self._next, self._number = self._offset + at, number
         return min(at, len(held)), False
 
 

@@ -4,17 +4,16 @@ from __future__ import annotations
 
 import os
 import re
-import secrets
-import stat
 import struct
 from contextlib import ExitStack, nullcontext
 from typing import Callable, ContextManager, Iterable, Iterator, NamedTuple
 
-from ._errors import BsonfindError, ProgramError
+from ._errors import ProgramError
 from ._faults import NO_DAMAGE, Fault, faults_of, finish_check
 from ._framing import LONGEST, SHORTEST
+from ._outputs import Output, refuse_names
 from ._processes import Run
-from ._sources import Source, UnpackError
+from ._sources import Source, UnpackError, try_program
 
 # From so many documents in a row, or from fewer that end with the file, a place is guessed to be the beginning of a document.
 IN_A_ROW = 4
@@ -90,10 +89,9 @@ def salvage(
     names = [os.fspath(name) for name in (good, bad)]
     with ExitStack() as files:
         source = files.enter_context(Source(path))
-        _refuse_names(source.name, *names)
-        with Run([program, "check", "-"]) as run:
-            finish_check(run)
-        outputs = [files.enter_context(_Output(name)) for name in names]
+        refuse_names(source.name, *names)
+        try_program(program)
+        outputs = [files.enter_context(Output(name)) for name in names]
         files.enter_context(progress(source))
         done = _Salvage(source, *outputs, program, say or (lambda _: None)).copy()
         for output in outputs:
@@ -103,83 +101,6 @@ def salvage(
         for output in outputs:
             output.put_in_place()
         return done
-
-
-class OutputError(BsonfindError):
-    """A file that is not to be written."""
-
-
-def _refuse_names(dump: str, good: str, bad: str) -> None:
-    """Refuses files that are the dump, or one another, by whatever names."""
-    for name in (good, bad):
-        if _is_same(name, dump):
-            raise OutputError(f"{name} is the dump")
-    if _is_same(good, bad) and not (os.path.exists(good) and stat.S_ISCHR(os.stat(good).st_mode)):
-        raise OutputError(f"{good} is named twice")
-
-
-def _is_same(one: str, other: str) -> bool:
-    if os.path.exists(one) and os.path.exists(other):
-        return os.path.samefile(one, other)
-    return os.path.realpath(one) == os.path.realpath(other)
-
-
-class _Output:
-    """A file that is written under another name beside it, and gets its name at the end. A device or a pipe is written as it is."""
-
-    def __init__(self, name: str) -> None:
-        self.name = name
-        self._path = self._beside = os.path.realpath(name)
-        there = os.stat(name) if os.path.exists(name) else None
-        if there and not stat.S_ISREG(there.st_mode):
-            self._path = self._beside = name
-            self._file = open(name, "wb")
-            return
-        try:
-            self._beside = f"{self._path}.{secrets.token_hex(4)}.new"
-            self._file = open(self._beside, "xb")
-            if there:
-                os.chmod(self._beside, stat.S_IMODE(there.st_mode))
-        except OSError as error:
-            raise self._named(error) from None
-
-    def write(self, data: bytes | memoryview) -> None:
-        """Writes bytes."""
-        try:
-            self._file.write(data)
-        except OSError as error:
-            raise self._named(error) from None
-
-    def complete(self) -> None:
-        """Has all bytes on the disk."""
-        try:
-            self._file.flush()
-            if self._beside != self._path:
-                os.fsync(self._file.fileno())
-        except OSError as error:
-            raise self._named(error) from None
-
-    def put_in_place(self) -> None:
-        """Gives the file its name."""
-        if self._beside != self._path:
-            os.replace(self._beside, self._path)
-            self._beside = self._path
-
-    def _named(self, error: OSError) -> OSError:
-        return OSError(error.errno, error.strerror, self.name)
-
-    def __enter__(self) -> _Output:
-        return self
-
-    def __exit__(self, kind: object, *_: object) -> None:
-        try:
-            self._file.close()
-        except OSError as error:
-            if kind is None:
-                raise self._named(error) from None
-        finally:
-            if self._beside != self._path:
-                os.unlink(self._beside)
 
 
 class _Window:
@@ -260,7 +181,7 @@ class _Window:
 class _Salvage:
     """The copying of the documents of a stream to one of two files, by whether they have a fault."""
 
-    def __init__(self, source: Source, good: _Output, bad: _Output, program: str, say: Callable[[str], None]) -> None:
+    def __init__(self, source: Source, good: Output, bad: Output, program: str, say: Callable[[str], None]) -> None:
         self._window = _Window(source.pieces())
         self._good_file, self._bad_file = good, bad
         self._program, self._say = program, say

@@ -9,6 +9,7 @@ from typing import Any, BinaryIO, Iterable, Iterator, NamedTuple, Sequence
 
 from . import _framing
 from ._errors import DumpError
+from ._faults import finish_check
 from ._processes import Run
 
 _PIECE = 1 << 18
@@ -23,9 +24,10 @@ class UnpackError(DumpError):
 
 
 class Input(NamedTuple):
-    """What one run reads of a dump: its offset there, and the open file, or pieces that are written to the run."""
+    """What one run reads of a dump: the place of its first document, and the open file, or pieces that are written to the run."""
 
     offset: int
+    first: int
     file: BinaryIO | None
     pieces: Iterator[bytes] | None
 
@@ -57,12 +59,12 @@ class Source:
         limit = _framing.LARGEST_INPUT if most is None else most
         if self._is_packed or self.size is None or self.size > limit:
             errors: list[Exception] = []
-            for offset, pieces in _framing.inputs(_up_to_error(self.pieces(), errors), limit):
-                yield Input(offset, None, pieces)
+            for offset, first, pieces in _framing.inputs(_up_to_error(self.pieces(), errors), limit):
+                yield Input(offset, first, None, pieces)
             if errors:
                 raise errors[0]
         else:
-            yield Input(0, self._file, None)
+            yield Input(0, 0, self._file, None)
 
     def position(self) -> int:
         """How many bytes of the file were read by now, by this process or by a run."""
@@ -84,6 +86,12 @@ class Source:
 
     def __exit__(self, *_: object) -> None:
         self.close()
+
+
+def try_program(program: str) -> None:
+    """Has the program check nothing, so that one that cannot be started is reported before anything else is done."""
+    with Run([program, "check", "-"]) as run:
+        finish_check(run)
 
 
 def _up_to_error(pieces: Iterator[bytes], errors: list[Exception]) -> Iterator[bytes]:

@@ -94,7 +94,7 @@ class Audits(Room):
         lines = self.audit("--list", str(names), status=0)
         self.assertEqual(lines[2:], self.table(("files", 2), ("documents", 900), ("faulty", 0)))
         names.write_bytes(b"a\0b\n")
-        told = f"bsonfind: {names}: name 1 has a zero byte; each line is a name\n"
+        told = f"bsonfind: {names}: line 1 has a zero byte; each line is a name\n"
         self.audit("--list", str(names), status=2, told=told)
 
     def test_files_that_are_named_twice(self) -> None:

@@ -1,0 +1,87 @@
+"""Files that a command writes, which get their names at the end."""
+
+from __future__ import annotations
+
+import os
+import secrets
+import stat
+
+from ._errors import BsonfindError
+
+
+class OutputError(BsonfindError):
+    """A file that is not to be written."""
+
+
+def refuse_names(dump: str, good: str, bad: str) -> None:
+    """Refuses files that are the dump, or one another, by whatever names."""
+    for name in (good, bad):
+        if is_same(name, dump):
+            raise OutputError(f"{name} is the dump")
+    if is_same(good, bad) and not (os.path.exists(good) and stat.S_ISCHR(os.stat(good).st_mode)):
+        raise OutputError(f"{good} is named twice")
+
+
+def is_same(one: str, other: str) -> bool:
+    """Whether two names are of one file, or would be."""
+    if os.path.exists(one) and os.path.exists(other):
+        return os.path.samefile(one, other)
+    return os.path.realpath(one) == os.path.realpath(other)
+
+
+class Output:
+    """A file that is written under another name beside it, and gets its name at the end. A device or a pipe is written as it is."""
+
+    def __init__(self, name: str) -> None:
+        self.name = name
+        self._path = self._beside = os.path.realpath(name)
+        there = os.stat(name) if os.path.exists(name) else None
+        if there and not stat.S_ISREG(there.st_mode):
+            self._path = self._beside = name
+            self._file = open(name, "wb")
+            return
+        try:
+            self._beside = f"{self._path}.{secrets.token_hex(4)}.new"
+            self._file = open(self._beside, "xb")
+            if there:
+                os.chmod(self._beside, stat.S_IMODE(there.st_mode))
+        except OSError as error:
+            raise self._named(error) from None
+
+    def write(self, data: bytes | memoryview) -> None:
+        """Writes bytes."""
+        try:
+            self._file.write(data)
+        except OSError as error:
+            raise self._named(error) from None
+
+    def complete(self) -> None:
+        """Has all bytes on the disk."""
+        try:
+            self._file.flush()
+            if self._beside != self._path:
+                os.fsync(self._file.fileno())
+        except OSError as error:
+            raise self._named(error) from None
+
+    def put_in_place(self) -> None:
+        """Gives the file its name."""
+        if self._beside != self._path:
+            os.replace(self._beside, self._path)
+            self._beside = self._path
+
+    def _named(self, error: OSError) -> OSError:
+        return OSError(error.errno, error.strerror, self.name)
+
+    def __enter__(self) -> Output:
+        return self
+
+    def __exit__(self, kind: object, *_: object) -> None:
+        try:
+            self._file.close()
+        except OSError as error:
+            if kind is None:
+                raise self._named(error) from None
+        finally:
+            if self._beside != self._path:
+                os.unlink(self._beside)

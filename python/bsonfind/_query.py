@@ -1,0 +1,79 @@
+"""One query over many dumps."""
+
+from __future__ import annotations
+
+from collections import deque
+from typing import Iterator, NamedTuple, Sequence
+
+from ._answers import counted, lines_of
+from ._backups import Dump
+from ._errors import BsonfindError, DumpError
+from ._faults import Fault
+from ._processes import Group, Run
+from ._requests import Request
+from ._sources import Input, Source
+
+# What one run holds in memory of a larger dump.
+MOST_HELD = 1 << 28
+
+
+class Found(NamedTuple):
+    """Documents of a dump, or why it does not give all of them."""
+
+    name: str
+    lines: list[bytes]
+    error: Exception | None = None
+
+
+def query_dumps(dumps: Sequence[Dump], request: Request, jobs: int, program: str) -> Iterator[Found]:
+    """The documents of dumps that match, in the order of the dumps; so many are asked at once. A refused request is raised."""
+    with Run([program, "find", "-", *request.words()]) as run:
+        run.finish()
+    group = Group()
+    ahead: deque[Iterator[Found]] = deque()
+    try:
+        for dump in dumps:
+            answer = _answer(dump, request, program, group)
+            ahead.append(answer)
+            next(answer)  # starts the first run, whose answer waits until it is read
+            if len(ahead) >= jobs:
+                yield from ahead.popleft()
+        while ahead:
+            yield from ahead.popleft()
+    finally:
+        group.end()
+
+
+def _answer(dump: Dump, request: Request, program: str, group: Group) -> Iterator[Found]:
+    """The documents of a dump, after one thing that is empty, which is given when its first run is started."""
+    name, is_started = dump.name, False
+    try:
+        if dump.error:
+            raise DumpError(dump.error)
+        with Source(name) as source:
+            for part in source.inputs(MOST_HELD):
+                with part.run([program, "find", "-", *request.words()], group=group) as run:
+                    if not is_started:
+                        is_started = True
+                        yield Found(name, [])
+                    for lines in lines_of(run.stdout):
+                        yield Found(name, lines)
+                    try:
+                        counted(run.finish())
+                    except DumpError as error:
+                        raise moved(error, part) from None
+    except (BsonfindError, OSError) as error:
+        if not is_started:
+            yield Found(name, [])
+        yield Found(name, [], error)
+        return
+    if not is_started:
+        yield Found(name, [])
+
+
+def moved(error: DumpError, part: Input) -> DumpError:
+    """The error of an input, with the place in the whole dump."""
+    if not error.fault:
+        return error
+    fault: Fault = error.fault.moved(part.first, part.offset)
+    return DumpError(str(fault), fault)

@@ -1,0 +1,179 @@
+"""Tests of the command `compare`."""
+
+import gzip
+import json
+import os
+import random
+import tracemalloc
+from typing import List, Tuple
+from unittest import mock
+
+from bsonfind._compare import Pair, compare
+from bsonfind._fields import field_of, id_of
+from bsonfind._sorting import Sorter
+
+from .support import DOUBLE, PEOPLE, PEOPLE_LINES, PROGRAM, SHOP, SHOP_LINES, Room, packed, run_package
+
+Rows = Tuple[Tuple[str, int], ...]
+
+
+def table(*rows: Tuple[str, int]) -> List[str]:
+    """The lines of a table."""
+    wide = max(len(name) for name, _ in rows)
+    return [f"{name:{wide}} {count:12}" for name, count in rows]
+
+
+class Compares(Room):
+    def dump(self, *lines: str, name: str) -> str:
+        """A dump of lines."""
+        return str(self.file(packed(lines), name))
+
+    def compared(self, *words: str, status: int, told: str = "") -> List[str]:
+        """The lines that a comparison prints."""
+        run = run_package("compare", *words)
+        self.assertEqual((run.returncode, run.stderr), (status, told))
+        return run.stdout.splitlines()
+
+    def rows(self, one: str, other: str, documents: Tuple[int, int], *counts: int, more: Rows = ()) -> List[str]:
+        """The table of counts: the same, changed, removed and added, and others."""
+        named = zip((f"documents in {one}", f"documents in {other}"), documents)
+        return table(*named, *zip(("same", "changed", "removed", "added"), counts), *more)
+
+    def test_the_same_in_another_order(self) -> None:
+        lines = [line.decode() for line in SHOP_LINES]
+        random.Random(1).shuffle(lines)
+        other = self.dump(*lines, name="other.bson")
+        shop, packed_shop = str(SHOP), str(self.file(gzip.compress(SHOP.read_bytes()), "shop.bson.gz"))
+        for one, two in ((shop, other), (other, packed_shop), (shop, shop)):
+            self.assertEqual(self.compared(one, two, status=0), self.rows(one, two, (400, 400), 400, 0, 0, 0))
+
+    def test_what_was_changed_removed_and_added(self) -> None:
+        lines = [line.decode() for line in PEOPLE_LINES]
+        changed = lines[1].replace('"95"', '"96"')
+        other = self.dump(*lines[5:], changed, lines[0], *lines[2:4], '{"_id":500,"name":"Ada"}', name="other.bson")
+        found = self.compared(str(PEOPLE), other, status=1)
+        self.assertEqual(found[:3], ['changed {"$numberInt":"1"}', 'removed {"$numberInt":"4"}', 'added {"$numberInt":"500"}'])
+        self.assertEqual(found[3:], self.rows(str(PEOPLE), other, (500, 500), 498, 1, 1, 1))
+        found = self.compared(other, str(PEOPLE), status=1)
+        self.assertEqual(found[:3], ['changed {"$numberInt":"1"}', 'added {"$numberInt":"4"}', 'removed {"$numberInt":"500"}'])
+
+    def test_fields_in_another_order_and_other_types_are_changes(self) -> None:
+        one = self.dump('{"_id":1,"a":1,"b":2}', '{"_id":2,"a":1}', name="one.bson")
+        two = self.dump('{"_id":1,"b":2,"a":1}', '{"_id":2,"a":{"$numberLong":"1"}}', name="two.bson")
+        self.assertEqual(self.compared(one, two, status=1)[-3:], table(("documents in " + one, 0), ("changed", 2), ("removed", 0), ("added", 0))[1:])
+
+    def test_by_another_path(self) -> None:
+        one = self.dump('{"_id":1,"a":{"b":[1]},"c":1}', '{"_id":2,"a":{"b":"x"},"c":2}', '{"_id":3,"a":{"d":1}}', name="one.bson")
+        two = self.dump('{"_id":1,"a":{"b":[1]},"c":7}', '{"_id":9,"a":{"b":"y\\t"},"c":2}', '{"_id":4,"a":[{"b":1}]}', name="two.bson")
+        found = self.compared(one, two, "--by", "a.b", status=1)
+        self.assertEqual(
+            found[:4],
+            ["without a.b: 1 and 1 documents, 1 removed, 1 added", 'removed "x"', 'added "y\\t"', 'changed [{"$numberInt":"1"}]'],
+        )
+        self.assertEqual(found[4:], self.rows(one, two, (3, 3), 0, 1, 2, 2, more=(("without a.b", 2),)))
+
+    def test_keys_of_several_documents(self) -> None:
+        one = self.dump('{"_id":1,"a":1}', '{"_id":1,"a":2}', '{"_id":1,"a":2}', '{"_id":2}', '{"a":1}', name="one.bson")
+        two = self.dump('{"_id":2}', '{"_id":1,"a":2}', '{"_id":1,"a":3}', '{"_id":2}', '{"a":1}', name="two.bson")
+        found = self.compared(one, two, status=1)
+        int1, int2 = '{"$numberInt":"1"}', '{"$numberInt":"2"}'
+        lines = ["without _id: 1 and 1 documents, 0 removed, 0 added", f"repeated {int1}: 3 and 2 documents", f"changed {int1}", f"removed {int1}"]
+        lines += [f"repeated {int2}: 1 and 2 documents", f"added {int2}"]
+        self.assertEqual(found[:6], lines)
+        more = ("with the _id of another", 7), ("without _id", 2)
+        self.assertEqual(found[6:], self.rows(one, two, (5, 5), 3, 1, 1, 1, more=more))
+
+    def test_directories(self) -> None:
+        for name, data in {
+            "a/shop/orders.bson": SHOP.read_bytes(), "b/shop/orders.bson.gz": gzip.compress(SHOP.read_bytes()[:99809]),
+            "a/club/people.bson.gz": gzip.compress(PEOPLE.read_bytes()), "b/club/people.bson": PEOPLE.read_bytes(),
+            "a/club/old.bson": PEOPLE.read_bytes()[:39978], "b/club/new.bson": b"",
+        }.items():  # fmt: skip
+            self.file(data, name)
+        one, two = str(self.room / "a"), str(self.room / "b")
+        found = self.compared(one, two, status=1)
+        ids = sorted(json.dumps(json.loads(line)["_id"], separators=(",", ":")) for line in SHOP_LINES[309:])
+        orders = [f"shop/orders.bson: removed {it}" for it in ids]
+        alone = ["club/new.bson: added with all of its 0 documents", "club/old.bson: removed with all of its 220 documents"]
+        self.assertEqual(found[:-7], alone + orders)
+        more = (("dumps of one alone", 2),)
+        self.assertEqual(found[-7:], self.rows(one, two, (1120, 809), 809, 0, 311, 0, more=more))
+        self.assertEqual(len(self.compared(one, one, status=0)), 6)
+
+    def test_what_cannot_be_compared(self) -> None:
+        bad = str(self.file(PEOPLE.read_bytes() + DOUBLE, "a/club/people.bson"))
+        self.file(PEOPLE.read_bytes(), "b/club/people.bson")
+        self.file(SHOP.read_bytes(), "a/orders.bson")
+        orders = self.file(SHOP.read_bytes()[:99809], "b/orders.bson")
+        (self.room / "b/lost").symlink_to("nothing")
+        missing, one, two = str(self.room / "missing.bson"), str(self.room / "a"), str(self.room / "b")
+        double = f'bsonfind: {bad}: document 500, byte 92730, path "d": double\n'
+        self.assertEqual(self.compared(bad, str(PEOPLE), status=2, told=double)[-4:], table(("documents in " + bad, 0), *((it, 0) for it in ("same", "changed", "removed", "added")))[1:])
+        self.compared(missing, bad, status=2, told=f"bsonfind: {missing}: No such file or directory\n")
+        self.compared(one, bad, status=2, told=f"bsonfind: {bad} is no directory, and {one} is one\n")
+        told = f"bsonfind: {two}/lost: a link to nothing that can be seen\n{double}"
+        found = self.compared(one, two, status=2, told=told)
+        self.assertEqual(len(found), 91 + 6)  # The others are compared nevertheless.
+        run = run_package("--program", "no-such-program", "compare", one, two)
+        self.assertEqual((run.returncode, run.stderr), (2, "bsonfind: cannot start no-such-program: No such file or directory\n"))
+        half = self.file(gzip.compress(SHOP.read_bytes(), 0)[:50_000], "half.bson.gz")
+        run = run_package("compare", str(half), str(orders))
+        self.assertEqual(run.returncode, 2)
+        self.assertIn(f"bsonfind: {half}: ", run.stderr)
+
+    def test_files_larger_than_what_a_run_reads(self) -> None:
+        """With a largest input of 10,000 bytes, and runs of 7 lines."""
+        other = self.file(PEOPLE.read_bytes()[39978:] + PEOPLE.read_bytes()[:39978])
+        with mock.patch("bsonfind._framing.LARGEST_INPUT", 10_000), mock.patch("bsonfind._sorting._MOST_LINES", 7):
+            with mock.patch("bsonfind._sorting._MOST_RUNS", 5):
+                done = compare(Pair("", str(PEOPLE), str(other)), "_id", PROGRAM, self.fail)
+        self.assertTrue(done.is_same)
+        self.assertEqual((done.documents, done.kinds["same"]), ((500, 500), 500))
+
+    def test_memory_does_not_grow_with_the_dump(self) -> None:
+        peaks = []
+        for count in (3000, 12_000):
+            path = self.dump(*(f'{{"_id":{number},"text":"{"x" * 50}"}}' for number in range(count)), name=f"{count}.bson")
+            with mock.patch("bsonfind._sorting._MOST_LINES", 500):
+                tracemalloc.start()
+                compare(Pair("", path, path), "_id", PROGRAM, self.fail)
+                peaks.append(tracemalloc.get_traced_memory()[1])
+                tracemalloc.stop()
+        self.assertLess(peaks[1], 1.5 * peaks[0])
+
+
+class Fields(Room):
+    def test_texts_of_fields(self) -> None:
+        line = '{"a":{"b":1,"":{"c":[1,{"d":2}]},"b":3},"é\\"":"\\u0001","_id":{"$oid":"x"}}'.encode()
+        for names, wanted in (
+            (["a", "b"], b"1"),
+            (["a", "", "c"], b'[1,{"d":2}]'),
+            (["a", "", "c", "0"], None),
+            (['é"'], b'"\\u0001"'),
+            (["_id"], b'{"$oid":"x"}'),
+            (["_id", "c"], None),
+            (["b"], None),
+        ):
+            self.assertEqual(field_of(line, names), wanted)
+        for line, wanted in (
+            (b'{"_id":{"$oid":"0af98b87145f708ed341a680"},"a":1}', b'{"$oid":"0af98b87145f708ed341a680"}'),
+            (b'{"_id":{"$numberInt":"-7"}}', b'{"$numberInt":"-7"}'),
+            (b'{"_id":"a,}b","c":1}', b'"a,}b"'),
+            (b'{"_id":"a\\"}","c":1}', b'"a\\"}"'),
+            (b'{"a":{"_id":1},"_id":{"$numberInt":"2","b":1}}', b'{"$numberInt":"2","b":1}'),
+            (b'{"_id":{"$numberInt":"2","b":1}}', b'{"$numberInt":"2","b":1}'),
+            (b'{"_id":null}', b"null"),
+            (b"{}", None),
+        ):
+            self.assertEqual(id_of(line), wanted)
+        for number, text in enumerate(SHOP_LINES + PEOPLE_LINES):
+            self.assertEqual(json.loads(id_of(text) or b""), json.loads(text)["_id"], number)
+
+    def test_sorted_lines(self) -> None:
+        chance = random.Random(4)
+        lines = [os.urandom(chance.randrange(9)).replace(b"\n", b"") + b"\n" for _ in range(2000)]
+        for most, runs in ((1, 2), (7, 3), (100, 64), (5000, 64)):
+            with mock.patch("bsonfind._sorting._MOST_LINES", most), mock.patch("bsonfind._sorting._MOST_RUNS", runs), Sorter() as sorter:
+                for line in lines:
+                    sorter.add(line)
+                self.assertEqual(list(sorter.all()), sorted(lines))
