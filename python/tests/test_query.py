@@ -1,0 +1,143 @@
+"""Tests of the commands `query` and `ids`."""
+
+import gzip
+import json
+import os
+import threading
+from typing import List, Tuple
+from unittest import mock
+
+from bsonfind._backups import Dump
+from bsonfind._ids import Ids, find_ids
+from bsonfind._query import query_dumps
+from bsonfind._requests import Request
+
+from .support import DOUBLE, PEOPLE, PEOPLE_LINES, PROGRAM, SHOP, SHOP_LINES, Room, packed, run_package
+
+OLD = '{"age":{"$gte":90}}'
+OLD_LINES = [line.decode() for line in PEOPLE_LINES if int(json.loads(line)["age"]["$numberInt"]) >= 90]
+
+
+class Queries(Room):
+    def query(self, *words: str, status: int, told: str) -> List[str]:
+        """The lines that a query prints."""
+        run = run_package("query", *words)
+        self.assertEqual((run.returncode, run.stderr), (status, told))
+        return run.stdout.splitlines()
+
+    def test_files_beside_their_documents(self) -> None:
+        """In the order of the files, however many are asked at once."""
+        names = ["a/club/1.bson", "a/club/2.bson.gz", "a/shop/orders.bson", "a/z.bson"]
+        for name, data in zip(names, (PEOPLE.read_bytes(), gzip.compress(PEOPLE.read_bytes()), SHOP.read_bytes(), b"")):
+            self.file(data, name)
+        directory = str(self.room / "a")
+        wanted = [f"{self.room}/{name}\t{line}" for name in names[:2] for line in OLD_LINES]
+        for jobs in ("1", "2", "9"):
+            found = self.query(directory, "--query", OLD, "--jobs", jobs, status=0, told="98 documents in 2 of 4 files\n")
+            self.assertEqual(found, wanted)
+        listed = self.file("".join(f"{self.room}/{name}\n" for name in names).encode(), "names")
+        self.assertEqual(self.query("--list", str(listed), "--query", OLD, status=0, told="98 documents in 2 of 4 files\n"), wanted)
+        lines = [f"{SHOP}\t{line.decode()}" for line in SHOP_LINES]
+        self.assertEqual(self.query(str(SHOP), status=0, told="400 documents in 1 of 1 files\n"), lines)
+
+    def test_files_that_are_refused(self) -> None:
+        """The others are asked nevertheless."""
+        bad, missing = self.file(PEOPLE.read_bytes() + DOUBLE, "bad.bson"), self.room / "missing.bson"
+        wanted = [f"{PEOPLE}\t{line}" for line in OLD_LINES]
+        fault = f'bsonfind: {bad}: document 500, byte 92730, path "d": double\n'
+        for words, status, told in (
+            ([bad, PEOPLE], 1, f"{fault}49 documents in 1 of 2 files\n"),
+            ([missing, PEOPLE, bad], 2, f"bsonfind: {missing}: No such file or directory\n{fault}49 documents in 1 of 3 files\n"),
+        ):
+            self.assertEqual(self.query(*map(str, words), "--query", OLD, status=status, told=told), wanted)
+        self.query(str(PEOPLE), "--query", '{"$a":1}', status=2, told='bsonfind: filter: place "$a": unknown operator\n')
+        self.query(str(PEOPLE), "--query", "{", status=2, told="bsonfind: json: byte 1: not JSON\n")
+        self.query(status=2, told="bsonfind: no dump is named\n")
+        self.query(str(PEOPLE), "--jobs", "0", status=2, told="bsonfind: --jobs is 1 or more\n")
+
+    def test_files_larger_than_a_run_holds(self) -> None:
+        """With at most 20,000 bytes in place of megabytes: a file, a compressed one and a pipe, one with a fault."""
+        data, pipe = PEOPLE.read_bytes(), self.room / "pipe"
+        bad = data[:79930] + DOUBLE + data[79930:]
+        os.mkfifo(pipe)
+        writer = threading.Thread(target=pipe.write_bytes, args=[data])
+        writer.start()
+        paths = [str(PEOPLE), str(self.file(gzip.compress(data), "a.bson.gz")), str(pipe), str(self.file(bad, "bad.bson"))]
+        with mock.patch("bsonfind._query.MOST_HELD", 20_000):
+            found = list(query_dumps([Dump(path) for path in paths], Request(OLD), 2, PROGRAM))
+        writer.join()
+        for path in paths[:3]:
+            self.assertEqual([line.decode() for it in found for line in it.lines if it.name == path], OLD_LINES)
+        self.assertEqual([(it.name, str(it.error)) for it in found if it.error], [(paths[3], 'document 436, byte 79934, path "d": double')])
+
+    def test_full_disk(self) -> None:
+        with open("/dev/full", "wb") as full:
+            run = run_package("query", str(PEOPLE), stdout=full)
+        self.assertEqual((run.returncode, run.stderr), (2, "bsonfind: cannot write: No space left on device\n"))
+
+
+class AsksForIds(Room):
+    def ids(self, lines: List[str], *words: str, status: int, told: str, path: object = SHOP) -> List[str]:
+        """The documents that are printed for the ids of a file."""
+        self.list = self.file("".join(f"{line}\n" for line in lines).encode(), "ids")
+        run = run_package("ids", str(path), "--ids", str(self.list), *words)
+        self.assertEqual((run.returncode, run.stderr), (status, told))
+        return run.stdout.splitlines()
+
+    def test_ids_of_every_kind(self) -> None:
+        documents = [
+            '{"_id":1,"a":1}', '{"_id":{"$numberLong":"2"}}', '{"_id":"3"}', '{"_id":{"$oid":"0af98b87145f708ed341a680"}}',
+            '{"_id":{"b":1,"c":"é"}}', '{"_id":true}', '{"_id":null}', '{"_id":"0af98b87145f708ed341a680"}', '{"_id":{"$symbol":"6"}}',
+        ]  # fmt: skip
+        path = self.file(packed(documents))
+        asked = [
+            "2", '{"$numberLong":"1"}', '"3"', "0AF98B87145F708ED341A680", ' {"b": 1, "c": "\\u00e9"} ', "", "true", "null", '"6"', "3",
+            "false", '{"c":"é","b":1}', "2",
+        ]  # fmt: skip
+        found = self.ids(asked, status=1, told='missing: 3\nmissing: false\nmissing: {"c":"é","b":1}\n8 of 11 ids found\n', path=path)
+        self.assertEqual([packed([line]) for line in found], [packed([documents[at]]) for at in (0, 1, 2, 3, 4, 5, 6, 8)])
+
+    def test_many_ids(self) -> None:
+        """More than are asked for at once, and more than an argument holds."""
+        oids = [json.loads(line)["_id"]["$oid"] for line in SHOP_LINES]
+        none = [f"{number:024x}" for number in range(5000)]
+        missing = self.room / "missing"
+        told = "390 of 5390 ids found\n"
+        found = self.ids(none[:2500] + oids[5:395] + none[2500:], "--missing", str(missing), status=1, told=told)
+        self.assertEqual(sorted(found), sorted(line.decode() for line in SHOP_LINES[5:395]))
+        self.assertEqual(missing.read_text().splitlines(), none)
+        self.assertEqual(self.ids(oids, status=0, told="400 of 400 ids found\n"), [line.decode() for line in SHOP_LINES])
+
+    def test_files_of_any_size(self) -> None:
+        """With at most 20,000 bytes in place of megabytes: a file, a compressed one and a pipe."""
+        data, pipe = PEOPLE.read_bytes(), self.room / "pipe"
+        os.mkfifo(pipe)
+        writer = threading.Thread(target=pipe.write_bytes, args=[data])
+        writer.start()
+        with mock.patch("bsonfind._query.MOST_HELD", 20_000), mock.patch("bsonfind._ids.MOST_HELD", 20_000):
+            for path in (PEOPLE, self.file(gzip.compress(data), "a.bson.gz"), pipe):
+                found: List[bytes] = []
+                missing = find_ids(str(path), Ids(["7", "600", "480", "241"], "ids"), PROGRAM, found.extend)
+                self.assertEqual((missing, found), (["600"], [PEOPLE_LINES[number] + b"\n" for number in (7, 241, 480)]))
+        writer.join()
+
+    def test_bad_input(self) -> None:
+        for line, problem in (("abc", "neither JSON nor 24 hexadecimal digits"), ("1.5", "not in the profile"), ("00", "neither JSON nor 24 hexadecimal digits")):
+            self.ids(["1", "", line], status=2, told=f"bsonfind: {self.room}/ids: line 3: {problem}\n")
+        bad, half = self.file(PEOPLE.read_bytes() + DOUBLE, "bad.bson"), self.file(gzip.compress(PEOPLE.read_bytes())[:-9], "half.bson.gz")
+        self.ids(["1"], status=2, told=f'bsonfind: {bad}: document 500, byte 92730, path "d": double\n', path=bad)
+        self.ids(["1"], status=2, told="bsonfind: /missing: No such file or directory\n", path="/missing")
+        run = run_package("ids", str(half), "--ids", str(self.list))
+        self.assertEqual((run.returncode, "not a sound file of gzip: it ends too soon" in run.stderr), (2, True))
+        run = run_package("ids", str(SHOP), "--ids", "/missing")
+        self.assertEqual((run.returncode, run.stderr), (2, "bsonfind: /missing: No such file or directory\n"))
+
+    def test_file_of_missing_ids(self) -> None:
+        """It is no other file of the command, and is written at the end."""
+        dump = self.file(SHOP.read_bytes())
+        for name, problem in ((str(dump), f"{dump} is the dump"), (str(self.room / "ids"), f"{self.room}/ids is named twice")):
+            self.ids(["1"], "--missing", name, status=2, told=f"bsonfind: {problem}\n", path=dump)
+        self.assertEqual((dump.read_bytes(), self.list.read_text()), (SHOP.read_bytes(), "1\n"))
+        kept = self.file(b"kept", "kept")
+        self.ids(["1"], "--missing", str(kept), status=2, told="bsonfind: /missing: No such file or directory\n", path="/missing")
+        self.assertEqual(kept.read_bytes(), b"kept")
