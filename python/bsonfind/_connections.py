@@ -50,6 +50,11 @@ class Connection:
         """Refuses a call in another process than the one that opened the connection, such as after a fork."""
         self._run.check_process()
 
+    def check_open(self) -> None:
+        """Raises why the connection ended, where it has."""
+        if self._ended:
+            raise SessionEndedError(self._ended)
+
     def leave(self, cursor: int) -> None:
         """Has a cursor closed before the next command. It takes no lock, since cursors are freed anywhere."""
         self._left.append(cursor)
@@ -74,8 +79,7 @@ class Connection:
 
     def _reply(self, command: Command) -> bytes | None:
         """The reply. Where there is none the run is ended, so that no later command takes the reply to this one."""
-        if self._ended:
-            raise SessionEndedError(self._ended)
+        self.check_open()
         try:
             reply = self._exchange(command)
         except BaseException:

@@ -61,7 +61,7 @@ def _cut_by_name(text: bytes, size: int) -> list[bytes]:
     if len(pieces) != size:
         return []
     bare = map(_without_braces_in_texts, pieces) if _has_braces_in_texts(text) else pieces
-    if any(it.count(b"{") != it.count(b"}") for it in bare):
+    if any([it.count(b"{") - it.count(b"}") for it in bare]):
         return []
     return [head + it + b"}" for it in pieces]
 

@@ -154,6 +154,7 @@ class Cursor(Iterator[T]):
             self._connection.check()
         documents = self._reading.held.documents
         while not documents.left and not self._reading.is_at_end and not self._is_closed:
+            self._connection.check_open()
             self._connection.do(self._reading.read_on())
             documents = self._reading.held.documents
         if self._is_closed or not documents.left:

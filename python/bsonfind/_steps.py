@@ -153,9 +153,9 @@ class Reading(Generic[T]):
             reply = yield more(self.number, size, MOST_BYTES if size > 1 else None)
             if reply is not None:
                 return read_batch(reply), size
-            # The reply was passed over, so another cursor reads the batch in parts.
+            # The reply was passed over, so another cursor reads the batch in parts. Where it was the last one, there is none to close.
             self._size = max(1, size // 8)
-            yield from ask(kill(self.number))
+            yield kill(self.number)
             yield from self.start()
 
     def _open(self, after: str | None) -> Steps[int]:

@@ -55,47 +55,6 @@ class Law(Room):
                 self.assertEqual([read_document(line) for line in found], wanted)
 
 
-def field(kind: int, name: str, value: bytes) -> bytes:
-    """An element of BSON."""
-    return bytes([kind]) + name.encode() + b"\0" + value
-
-
-def document(*fields: bytes) -> bytes:
-    """A document of BSON."""
-    body = b"".join(fields)
-    return (len(body) + 5).to_bytes(4, "little") + body + b"\0"
-
-
-def text(value: str) -> bytes:
-    """The value of a text of BSON."""
-    return (len(value) + 1).to_bytes(4, "little") + value.encode() + b"\0"
-
-
-class Plain(Room):
-    """Documents that are written like another value."""
-
-    def asked(self, *documents: bytes) -> list:
-        return find_parts(plan(self.file(b"".join(documents))), program=PROGRAM, decode="bytes")
-
-    def test_a_document_like_a_number(self) -> None:
-        inside = document(field(2, "$numberInt", text("5")))
-        like = document(field(16, "n", bytes(4)), field(3, "a", inside))
-        for before in (0, 1, 70000):
-            dump = [document(field(2, "s", text("x" * 9)))] * before + [like]
-            with self.subTest(before=before), self.assertRaises(PartError) as raised:
-                self.asked(*dump)
-            self.assertIn(f'byte {22 * before + 19}: a document begins with the name "$numberInt"', str(raised.exception))
-
-    def test_one_at_the_top(self) -> None:
-        with self.assertRaisesRegex(PartError, 'byte 5: a document begins with the name "\\$oid"'):
-            self.asked(document(field(2, "$oid", text("0" * 24))))
-
-    def test_such_names_elsewhere(self) -> None:
-        plain = document(field(2, "a", text("$date")), field(16, "b", (7).to_bytes(4, "little")), field(2, "$oids", text("$oid")))
-        second = document(field(10, "a", b""), field(2, "$code", text("x")))
-        self.assertEqual(len(self.asked(plain, second)), 2)
-
-
 class Engines(Room):
     def wanted(self) -> list:
         return list(find(PEOPLE, OLD, sort=SORT, skip=3, limit=20, decode="bytes", program=PROGRAM))

@@ -1,0 +1,23 @@
+"""Bytes of BSON, by the specification."""
+
+
+def field(kind: int, name: str, value: bytes) -> bytes:
+    """An element of BSON."""
+    return bytes([kind]) + name.encode() + b"\0" + value
+
+
+def document(*fields: bytes) -> bytes:
+    """A document of BSON."""
+    body = b"".join(fields)
+    return (len(body) + 5).to_bytes(4, "little") + body + b"\0"
+
+
+def text(value: str) -> bytes:
+    """The value of a text of BSON."""
+    data = value.encode()
+    return (len(data) + 1).to_bytes(4, "little") + data + b"\0"
+
+
+def int32(value: int) -> bytes:
+    """The value of an int32."""
+    return value.to_bytes(4, "little", signed=True)

@@ -1,0 +1,385 @@
+"""Tests of how questions are asked: sources, names, long filters, and what a user of pymongo expects."""
+
+import gzip
+import inspect
+import json
+import os
+import pickle
+import shutil
+import subprocess
+import sys
+import threading
+from datetime import datetime, timedelta, timezone
+
+import bsonfind
+from bsonfind import (
+    CommandError,
+    DumpError,
+    ObjectId,
+    PartError,
+    Session,
+    check_parts,
+    count_documents,
+    count_parts,
+    find,
+    find_one,
+    find_parts,
+    plan,
+)
+
+from .bson import document, field, int32, text
+from .support import DOUBLE, PATIENCE, PEOPLE, PEOPLE_LINES, PROGRAM, SHOP, SHOP_LINES, Room, environment
+
+OLD = {"age": {"$gte": 90}}
+OLD_LINES = [line for line in PEOPLE_LINES if int(json.loads(line)["age"]["$numberInt"]) >= 90]
+
+
+class Names(Room):
+    """Files with names that are no UTF-8, or begin with a hyphen, or are bytes."""
+
+    def test_names(self) -> None:
+        for name in (b"\xff\xfe.bson", b"a\xe9.bson", b"-.bson", "é 東.bson".encode()):
+            path = os.fsencode(self.room) + b"/" + name
+            shutil.copy(PEOPLE, path)
+            for it in (path, os.fsdecode(path)):
+                with self.subTest(it):
+                    self.assertEqual(list(find(it, OLD, decode="bytes", program=PROGRAM)), OLD_LINES)
+                    self.assertEqual(count_documents(it, OLD, program=PROGRAM), len(OLD_LINES))
+                    self.assertEqual(find_parts(plan(it, 40_000), OLD, decode="bytes", program=PROGRAM), OLD_LINES)
+                    with Session(it, PROGRAM) as session:
+                        self.assertEqual(list(session.find(OLD, decode="bytes")), OLD_LINES)
+
+    def test_descriptors_without_standard_streams(self) -> None:
+        """A dump that is passed as a descriptor is none of the standard streams, where these are closed."""
+        path = self.room / os.fsdecode(b"\xff.bson")
+        shutil.copy(PEOPLE, path)
+        code = f"import os\nos.close(0)\nimport bsonfind\nprint(bsonfind.count_documents({os.fsencode(path)!r}, program={PROGRAM!r}))"
+        ran = subprocess.run([sys.executable, "-c", code], env=environment(), capture_output=True, text=True, timeout=PATIENCE)
+        self.assertEqual((ran.stdout, ran.stderr), ("500\n", ""))
+
+
+class Compressed(Room):
+    """Files by mongodump --gzip."""
+
+    def setUp(self) -> None:
+        super().setUp()
+        self.path = self.file(gzip.compress(PEOPLE.read_bytes()), "people.bson.gz")
+
+    def test_answers(self) -> None:
+        self.assertEqual(list(find(self.path, OLD, decode="bytes", program=PROGRAM)), OLD_LINES)
+        self.assertEqual(count_documents(self.path, OLD, program=PROGRAM), len(OLD_LINES))
+        with Session(self.path, PROGRAM) as session:
+            session.create_index("age")
+            self.assertEqual(list(session.find(OLD, decode="bytes")), OLD_LINES)
+
+    def test_parts(self) -> None:
+        parts, plain = plan(self.path, 40_000), plan(PEOPLE, 40_000)
+        self.assertEqual([(it.offset, it.length, it.first) for it in parts], [(it.offset, it.length, it.first) for it in plain])
+        self.assertEqual(b"".join(piece for part in parts for piece in part.pieces()), PEOPLE.read_bytes())
+        self.assertEqual(find_parts(parts, OLD, workers=3, decode="bytes", program=PROGRAM), OLD_LINES)
+        self.assertEqual(check_parts(parts, program=PROGRAM).documents, 500)
+
+    def test_several_members(self) -> None:
+        data = PEOPLE.read_bytes()
+        path = self.file(gzip.compress(data[:1000]) + gzip.compress(data[1000:]), "members.bson.gz")
+        self.assertEqual(list(find(path, decode="bytes", program=PROGRAM)), PEOPLE_LINES)
+
+    def test_files_that_are_cut_or_damaged(self) -> None:
+        """Also where what is left of them ends between two documents."""
+        data = PEOPLE.read_bytes()
+        whole = gzip.compress(data)
+        between = gzip.compress(data[:79930])[:-8]
+        for packed in (b"", whole[:-1], whole[:1000], between, whole[:500] + b"\0" * 9 + whole[509:], data):
+            path = self.file(packed, "bad.bson.gz")
+            for ask in (
+                lambda: list(find(path, program=PROGRAM)),
+                lambda: count_documents(path, program=PROGRAM),
+                lambda: Session(path, PROGRAM),
+                lambda: plan(path),
+            ):
+                with self.subTest(len(packed)), self.assertRaisesRegex(DumpError, "gzip|unpack|length"):
+                    ask()
+
+    def test_wrong_lengths(self) -> None:
+        good = document() + document(field(16, "a", int32(1)))
+        for bad, kind in ((bytes(8), "bad length"), (int32(10) + b"\0" * 5, "bad length"), (b"\5\0\0", "length cut short")):
+            with self.subTest(bad), self.assertRaises(DumpError) as raised:
+                plan(self.file(gzip.compress(good + bad), "wrong.bson.gz"))
+            self.assertEqual(raised.exception.fault, (2, len(good), "", kind))
+
+
+class Pipes(Room):
+    def test_pipe_with_a_name(self) -> None:
+        """It is read by its bytes, and cannot be cut."""
+        path = self.room / "pipe"
+        os.mkfifo(path)
+        for ask in (lambda: len(list(find(path, program=PROGRAM))), lambda: count_documents(path, program=PROGRAM)):
+            threading.Thread(target=lambda: path.write_bytes(PEOPLE.read_bytes()), daemon=True).start()
+            self.assertEqual(ask(), 500)
+        threading.Thread(target=lambda: path.write_bytes(b""), daemon=True).start()
+        with self.assertRaisesRegex(DumpError, "is no regular file"):
+            plan(path)
+
+
+class Loader(Room):
+    def test_lines_of_the_loader(self) -> None:
+        """A line that stands before the program's own on standard error changes nothing."""
+        code = f"""
+import bsonfind
+people, program = {str(PEOPLE)!r}, {PROGRAM!r}
+parts = bsonfind.plan(people, 40_000)
+answer = bsonfind.find(people, program=program)
+print(len(list(answer)), answer.token is not None)
+print(len(bsonfind.find_parts(parts, program=program)), bsonfind.count_parts(parts, program=program))
+print(bsonfind.check_parts(parts, program=program).documents, bsonfind.Session(people, program).count_documents())
+for ask in (lambda: bsonfind.Session("missing.bson", program), lambda: list(bsonfind.find(people, {{"$a": 1}}, program=program))):
+    try:
+        ask()
+    except bsonfind.BsonfindError as error:
+        print(repr(error))
+"""
+        env = {**environment(), "LD_PRELOAD": str(self.room / "missing.so")}
+        ran = subprocess.run([sys.executable, "-c", code], env=env, capture_output=True, text=True, timeout=PATIENCE)
+        wanted = "500 True\n500 500\n500 500\nDumpError('cannot open missing.bson', None)\n"
+        self.assertEqual(ran.stdout, wanted + "CommandError('filter', 1, 'unknown operator', '$a')\n", ran.stderr)
+
+
+class LongFilters(Room):
+    """Filters that no command line takes."""
+
+    IDS = {"_id": {"$in": [*range(0, 500, 2), *range(1_000_000, 1_020_000)]}}
+
+    def test_answers(self) -> None:
+        self.assertGreater(len(json.dumps(self.IDS)), 131_072)
+        wanted = PEOPLE_LINES[::2]
+        answer = find(PEOPLE, self.IDS, decode="bytes", program=PROGRAM)
+        self.assertEqual(list(answer), wanted)
+        self.assertTrue(answer.end)
+        self.assertEqual(list(find(PEOPLE, self.IDS, after=answer.token, decode="bytes", program=PROGRAM)), [])
+        self.assertEqual(find_one(PEOPLE, self.IDS, skip=3, decode="bytes", program=PROGRAM), wanted[3])
+        self.assertEqual(count_documents(PEOPLE, self.IDS, program=PROGRAM), 250)
+
+    def test_pages(self) -> None:
+        found, token, ends = [], None, []
+        for _ in range(3):
+            page = find(PEOPLE, self.IDS, sort={"_id": -1}, batch_size=100, index="_id", after=token, decode="bytes", program=PROGRAM)
+            found += page
+            token = page.token
+            ends.append(page.end)
+        self.assertEqual((found, ends), (PEOPLE_LINES[-2::-2], [False, False, True]))
+
+    def test_parts(self) -> None:
+        parts = plan(PEOPLE, 20_000)
+        for sort, wanted in ((None, PEOPLE_LINES[::2]), ({"_id": -1}, PEOPLE_LINES[-2::-2])):
+            self.assertEqual(find_parts(parts, self.IDS, sort=sort, workers=2, decode="bytes", program=PROGRAM), wanted)
+        self.assertEqual(find_parts(parts, self.IDS, skip=5, limit=7, decode="bytes", program=PROGRAM), PEOPLE_LINES[10:24:2])
+        self.assertEqual(count_parts(parts, self.IDS, program=PROGRAM), 250)
+
+    def test_refusals(self) -> None:
+        """They are those of a short filter, with the byte of the filter's own text."""
+        long = "x" * 200_000
+        for ask in (
+            lambda query: list(find(PEOPLE, query, program=PROGRAM)),
+            lambda query: find_parts(plan(PEOPLE), query, program=PROGRAM),
+            lambda query: count_documents(PEOPLE, query, program=PROGRAM),
+        ):
+            with self.assertRaises(CommandError) as raised:
+                ask({"a": long, "b": {"$above": 1}})
+            self.assertEqual(raised.exception.args, ("filter", 1, "unknown operator", "b.$above"))
+            with self.assertRaises(CommandError) as raised:
+                ask({"a": long, "b": 1.5})
+            self.assertEqual(raised.exception.args, ("json", 5, "not in the profile", json.dumps({"a": long, "b": 1}, separators=(",", ":")).rindex("1")))
+        for ask in (find_parts, count_parts):
+            with self.assertRaises(PartError) as failed:
+                ask(plan(self.file(DOUBLE)), {"a": long}, program=PROGRAM)
+            self.assertEqual(failed.exception.fault, (0, 4, "d", "double"))
+
+
+class Parts(Room):
+    """Files that change after they were cut."""
+
+    def test_file_that_was_replaced(self) -> None:
+        path = self.file(PEOPLE.read_bytes())
+        parts = plan(path, 40_000)
+        new = self.file(PEOPLE.read_bytes(), "new.bson")
+        os.utime(new, ns=(os.stat(path).st_atime_ns, os.stat(path).st_mtime_ns))
+        new.replace(path)
+        for ask in (find_parts, count_parts, check_parts):
+            with self.assertRaisesRegex(PartError, "the file was replaced since it was cut"):
+                ask(parts, program=PROGRAM)
+        self.assertEqual(count_parts(plan(path, 40_000), program=PROGRAM), 500)
+
+    def test_file_that_was_written_to(self) -> None:
+        for change in (lambda file: file.write(b"\0"), lambda file: (file.seek(0, 2), file.write(document()))):
+            path = self.file(PEOPLE.read_bytes())
+            os.utime(path, ns=(1, 1))
+            parts = plan(path, 40_000)
+            with path.open("r+b") as file:
+                change(file)
+            with self.assertRaisesRegex(PartError, "the file was written to since it was cut"):
+                count_parts(parts, program=PROGRAM)
+
+    def test_state_of_a_file(self) -> None:
+        found = os.stat(PEOPLE)
+        (part,) = plan(PEOPLE)
+        self.assertEqual(part.state, (found.st_size, found.st_mtime_ns, found.st_ino))
+        self.assertEqual(pickle.loads(pickle.dumps(part)).state, part.state)
+
+
+class Pymongo(Room):
+    """What a user of pymongo expects."""
+
+    def setUp(self) -> None:
+        super().setUp()
+        self.session = Session(PEOPLE, PROGRAM)
+        self.addCleanup(self.session.close)
+
+    def test_arguments_after_the_filter_are_by_keyword(self) -> None:
+        """Where pymongo's second argument is a projection, none is taken for a sort."""
+        for ask in (
+            lambda: find(PEOPLE, {}, {"name": 1}, program=PROGRAM),
+            lambda: find_one(PEOPLE, {}, {"name": 1}, program=PROGRAM),
+            lambda: find_parts(plan(PEOPLE), {}, {"name": 1}, program=PROGRAM),
+            lambda: count_parts(plan(PEOPLE), {}, 5, program=PROGRAM),
+            lambda: self.session.find({}, {"name": 1}),
+            lambda: self.session.find_one({}, {"name": 1}),
+            lambda: self.session.explain({}, {"name": 1}),
+        ):
+            with self.assertRaisesRegex(TypeError, "positional argument"):
+                ask()
+
+    def test_find_one(self) -> None:
+        for one in (self.session.find_one, lambda *words, **request: find_one(PEOPLE, *words, **request, program=PROGRAM)):
+            self.assertEqual(one(), json.loads(PEOPLE_LINES[0]))
+            self.assertEqual(one({"_id": 7}, decode="bytes"), PEOPLE_LINES[7])
+            self.assertEqual(one(OLD, sort={"_id": -1}, skip=1, decode="bytes"), OLD_LINES[-2])
+            self.assertIsNone(one({"_id": -1}))
+
+    def test_count_documents(self) -> None:
+        for count in (self.session.count_documents, lambda *words: count_documents(PEOPLE, *words, program=PROGRAM)):
+            self.assertEqual((count(), count(OLD), count({"_id": -1})), (500, len(OLD_LINES), 0))
+            with self.assertRaises(CommandError):
+                count({"a": {"$above": 1}})
+
+    def test_hints(self) -> None:
+        self.session.create_index("age")
+        for hint, plan_ in (("age", "index"), ([("age", 1)], "index"), ({"age": -1}, "index"), ({"$natural": 1}, "scan"), ([("$natural", 1)], "scan")):
+            self.assertEqual(self.session.explain(OLD, hint=hint)["plan"], plan_)
+            self.assertEqual(list(self.session.find(OLD, hint=hint, decode="bytes")), OLD_LINES)
+            self.assertEqual(self.session.find_one(OLD, hint=hint, decode="bytes"), OLD_LINES[0])
+        with self.assertRaises(CommandError) as raised:
+            self.session.find(hint="name")
+        self.assertEqual(raised.exception.text, "no such index")
+        with self.assertRaises(ValueError):
+            self.session.find(hint=[("a", 1), ("b", 1)])
+        with self.assertRaises(TypeError):
+            self.session.find(hint="age", use="scan")
+
+    def test_batch_size(self) -> None:
+        page = find(PEOPLE, OLD, batch_size=5, decode="bytes", program=PROGRAM)
+        self.assertEqual((list(page), page.end), (OLD_LINES[:5], False))
+        self.assertEqual(list(self.session.find(OLD, batch_size=5, decode="bytes")), OLD_LINES)
+
+    def test_errors_end_in_error(self) -> None:
+        errors = [it for it in vars(bsonfind).values() if inspect.isclass(it) and issubclass(it, Exception)]
+        self.assertGreater(len(errors), 8)
+        for error in errors:
+            self.assertTrue(error.__name__.endswith("Error"), error)
+            self.assertTrue(issubclass(error, bsonfind.BsonfindError), error)
+
+    def test_workers(self) -> None:
+        parts = plan(PEOPLE, 20_000)
+        self.assertEqual(find_parts(parts, OLD, workers=3, decode="bytes", program=PROGRAM), OLD_LINES)
+        self.assertEqual(count_parts(parts, OLD, workers=2, program=PROGRAM), len(OLD_LINES))
+        self.assertEqual(check_parts(parts, workers=2, program=PROGRAM).documents, 500)
+        with self.assertRaises(ValueError):
+            find_parts(parts, workers=0, program=PROGRAM)
+        with self.assertRaises(TypeError):
+            find_parts(parts, workers=2, map=map, program=PROGRAM)
+
+
+class Decoding(Room):
+    """What documents are given as."""
+
+    def test_functions(self) -> None:
+        wanted = [len(line) for line in OLD_LINES]
+        self.assertEqual(list(find(PEOPLE, OLD, decode=len, program=PROGRAM)), wanted)
+        self.assertEqual(find_parts(plan(PEOPLE), OLD, decode=len, program=PROGRAM), wanted)
+        self.assertEqual(find_one(PEOPLE, OLD, decode=len, program=PROGRAM), wanted[0])
+        with Session(PEOPLE, PROGRAM) as session:
+            self.assertEqual(list(session.find(OLD, decode=len)), wanted)
+
+    def test_unknown_names(self) -> None:
+        for ask in (find, find_one):
+            with self.assertRaisesRegex(ValueError, '"plain"'):
+                ask(PEOPLE, decode="bson", program=PROGRAM)
+
+    def test_plain_values(self) -> None:
+        oid, moment = bytes(range(12)), 1_735_689_600_123
+        date = (moment).to_bytes(8, "little")
+        far = (253_402_300_800_000).to_bytes(8, "little")
+        data = document(
+            field(16, "int", int32(-5)),
+            field(18, "long", (1 << 62).to_bytes(8, "little")),
+            field(2, "text", text("é")),
+            field(8, "yes", b"\1"),
+            field(10, "none", b""),
+            field(9, "date", date),
+            field(9, "before", (-1).to_bytes(8, "little", signed=True)),
+            field(9, "far", far),
+            field(7, "id", oid),
+            field(5, "bytes", int32(3) + b"\0abc"),
+            field(5, "uuid", int32(2) + b"\4ab"),
+            field(3, "inside", document(field(4, "array", document(field(16, "0", int32(1)), field(9, "1", date))))),
+            field(255, "least", b""),
+        )
+        utc = timezone.utc
+        wanted = {
+            "int": -5,
+            "long": 1 << 62,
+            "text": "é",
+            "yes": True,
+            "none": None,
+            "date": datetime(2025, 1, 1, 0, 0, 0, 123_000, tzinfo=utc),
+            "before": datetime(1969, 12, 31, 23, 59, 59, 999_000, tzinfo=utc),
+            "far": {"$date": {"$numberLong": "253402300800000"}},
+            "id": ObjectId(oid.hex()),
+            "bytes": b"abc",
+            "uuid": {"$binary": {"base64": "YWI=", "subType": "04"}},
+            "inside": {"array": [1, datetime(2025, 1, 1, 0, 0, 0, 123_000, tzinfo=utc)]},
+            "least": {"$minKey": 1},
+        }
+        path = self.file(data)
+        with Session(path, PROGRAM) as session:
+            for found in (session.find_one(decode="plain"), find_one(path, decode="plain", program=PROGRAM)):
+                self.assertEqual(found, wanted)
+                self.assertEqual(list(found), list(wanted))
+                self.assertEqual({type(it) for it in found.values()}, {int, str, bool, type(None), datetime, dict, ObjectId, bytes})
+            # Each of these values finds its document.
+            for name, value in wanted.items():
+                self.assertEqual(session.count_documents({name: value}), 1, name)
+            zone = timezone(timedelta(hours=2))
+            self.assertEqual(session.count_documents({"date": wanted["date"].astimezone(zone)}), 1)
+            self.assertEqual(session.count_documents({"date": wanted["date"].replace(tzinfo=None)}), 1)
+
+    def test_documents_that_are_no_values(self) -> None:
+        """The document of a dump itself is never a value."""
+        path = self.file(document(field(2, "$numberInt", text("5"))))
+        self.assertEqual(find_one(path, decode="plain", program=PROGRAM), {"$numberInt": "5"})
+
+    def test_ids(self) -> None:
+        one, other = ObjectId("0AF98b87145f708ed341a680"), ObjectId("0af98b87145f708ed341a681")
+        self.assertEqual((str(one), repr(one)), ("0af98b87145f708ed341a680", "ObjectId('0af98b87145f708ed341a680')"))
+        self.assertTrue(one == ObjectId(str(one)) and one != other and one < other and one != str(one))
+        self.assertEqual(len({one, other, ObjectId(str(one))}), 2)
+        self.assertEqual(pickle.loads(pickle.dumps(one)), one)
+        for wrong in ("", "0af98b87145f708ed341a68", "x" * 24, "0af98b87145f708ed341a680\n", 5):
+            with self.assertRaises(ValueError):
+                ObjectId(wrong)
+
+    def test_shop(self) -> None:
+        """The documents of another dump, by ids and dates."""
+        with Session(SHOP, PROGRAM) as session:
+            for document_, line in zip(session.find(decode="plain"), SHOP_LINES):
+                self.assertEqual(str(document_["_id"]), json.loads(line)["_id"]["$oid"])
+                self.assertEqual(session.find_one({"_id": document_["_id"]}, decode="bytes"), line)

@@ -1,0 +1,344 @@
+"""Tests of what goes wrong between documents: forks, interrupts, documents that cannot be decoded, and questions that take long."""
+
+import json
+import os
+import subprocess
+import sys
+import threading
+import time
+from typing import Callable
+from unittest import mock
+
+from bsonfind import (
+    BsonfindError,
+    CancelledError,
+    CursorStateError,
+    DumpError,
+    PartError,
+    Session,
+    SessionEndedError,
+    TimedOutError,
+    count_documents,
+    find,
+    find_one,
+    find_parts,
+    plan,
+)
+from bsonfind import _connections, _steps
+
+from .support import DOUBLE, PATIENCE, PEOPLE, PEOPLE_LINES, PROGRAM, Room, environment, packed, wait_for
+
+
+def told_by_fork(ask: Callable[[], object]) -> str:
+    """What a call says in another process, which a fork makes and which ends as Python does at `os._exit`."""
+    read, write = os.pipe()
+    child = os.fork()
+    if not child:
+        try:
+            ask()
+            told = "no error"
+        except BsonfindError as error:
+            told = type(error).__name__
+        os.write(write, told.encode())
+        os._exit(0)
+    os.close(write)
+    with open(read) as pipe:
+        told = pipe.read()
+    os.waitpid(child, 0)
+    return told
+
+
+class Forks(Room):
+    """A session that another process opened is refused by name, and stays as it is."""
+
+    def test_session_and_cursor(self) -> None:
+        with Session(PEOPLE, PROGRAM) as session:
+            cursor = session.find(batch_size=3, decode="bytes")
+            given = [next(cursor)]
+            for ask in (
+                lambda: next(cursor),
+                lambda: cursor.token(),
+                lambda: cursor.close(),
+                lambda: session.find({"age": 99}),
+                lambda: session.find_one(),
+                lambda: session.count_documents(),
+                lambda: session.create_index("age"),
+                lambda: session.drop_index("age"),
+                lambda: session.explain(),
+                lambda: session.cancel(),
+                lambda: session.close(),
+            ):
+                self.assertEqual(told_by_fork(ask), "OtherProcessError")
+            self.assertEqual(given + list(cursor), PEOPLE_LINES)
+
+    def test_answer(self) -> None:
+        path = self.file(PEOPLE.read_bytes() * 20)
+        with find(path, decode="bytes", program=PROGRAM) as answer:
+            given = [next(answer)]
+            for ask in (lambda: next(answer), lambda: answer.close(), lambda: answer.cancel()):
+                self.assertEqual(told_by_fork(ask), "OtherProcessError")
+            self.assertEqual(given + list(answer), PEOPLE_LINES * 20)
+
+    def test_process_that_ends_while_a_session_is_open(self) -> None:
+        """What Python does at the end of a process leaves the session of the other one alone."""
+        code = f"""
+import os, sys
+from bsonfind import Session, find
+session = Session({str(PEOPLE)!r}, {PROGRAM!r})
+cursor, answer = session.find(batch_size=7), find({str(PEOPLE)!r}, program={PROGRAM!r})
+next(cursor), next(answer)
+if not os.fork():
+    sys.exit(0)
+os.wait()
+print(1 + len(list(cursor)), 1 + len(list(answer)), session.count_documents())
+"""
+        ran = subprocess.run([sys.executable, "-c", code], env=environment(), capture_output=True, text=True, timeout=PATIENCE)
+        self.assertEqual((ran.stdout, ran.stderr), ("500 500 500\n", ""))
+
+    def test_processes_that_open_their_own(self) -> None:
+        def ask() -> None:
+            with Session(PEOPLE, PROGRAM) as session:
+                if len(list(session.find())) != 500:
+                    raise BsonfindError
+
+        with Session(PEOPLE, PROGRAM):
+            self.assertEqual(told_by_fork(ask), "no error")
+
+
+class Decoding(Room):
+    """No document is lost where another one cannot be decoded."""
+
+    def decode(self, line: bytes) -> object:
+        document = json.loads(line)
+        number = int(document["_id"]["$numberInt"])
+        if number % 7 == 3:
+            raise OverflowError(number)
+        return number
+
+    def test_documents_after_one_that_is_not_decoded(self) -> None:
+        wanted = [number for number in range(500) if number % 7 != 3]
+        with Session(PEOPLE, PROGRAM) as session:
+            for documents in (session.find(batch_size=40, decode=self.decode), find(PEOPLE, decode=self.decode, program=PROGRAM)):
+                found, failed = [], 0
+                while True:
+                    try:
+                        found.append(next(documents))
+                    except OverflowError:
+                        failed += 1
+                    except StopIteration:
+                        break
+                self.assertEqual((found, failed), (wanted, 71))
+
+    def test_token_after_one_that_is_not_decoded(self) -> None:
+        with Session(PEOPLE, PROGRAM) as session:
+            cursor = session.find(batch_size=40, decode=self.decode)
+            self.assertEqual([next(cursor) for _ in range(3)], [0, 1, 2])
+            with self.assertRaises(OverflowError):
+                next(cursor)
+            self.assertEqual(list(session.find(after=cursor.token(), decode="bytes")), PEOPLE_LINES[4:])
+
+    def test_interrupt_of_the_decoding(self) -> None:
+        """The document that was being decoded comes again."""
+        interrupts = [3, 4, 40, 41]
+
+        def decode(line: bytes) -> bytes:
+            number = int(json.loads(line)["_id"]["$numberInt"])
+            if interrupts and number == interrupts[0]:
+                interrupts.pop(0)
+                raise KeyboardInterrupt
+            return line
+
+        with Session(PEOPLE, PROGRAM) as session:
+            for documents in (session.find(batch_size=40, decode=decode), find(PEOPLE, decode=decode, program=PROGRAM)):
+                interrupts[:] = [3, 4, 40, 41]
+                found, interrupted = [], 0
+                while len(found) < 500:
+                    try:
+                        found.append(next(documents))
+                    except KeyboardInterrupt:
+                        interrupted += 1
+                self.assertEqual((found, interrupted), (PEOPLE_LINES, 4))
+
+
+class Interrupts(Room):
+    """A cursor that was interrupted while it read says so, and its token leads to all documents that were not given."""
+
+    def test_between_a_reply_and_the_cursor(self) -> None:
+        with Session(PEOPLE, PROGRAM) as session:
+            cursor = session.find(batch_size=40, decode="bytes")
+            found = [next(cursor) for _ in range(40)]
+            with mock.patch("bsonfind._steps.read_batch", side_effect=KeyboardInterrupt), self.assertRaises(KeyboardInterrupt):
+                next(cursor)
+            for _ in range(2):
+                with self.assertRaises(CursorStateError):
+                    next(cursor)
+            found += session.find(after=cursor.token(), decode="bytes")
+            self.assertEqual(found, PEOPLE_LINES)
+
+    def test_in_the_middle_of_a_reply(self) -> None:
+        session = Session(PEOPLE, PROGRAM)
+        self.addCleanup(session.close)
+        cursor = session.find(batch_size=40, decode="bytes")
+        found = [next(cursor) for _ in range(40)]
+        interrupt = mock.patch.object(_connections.Connection, "_receive", side_effect=KeyboardInterrupt)
+        with interrupt, self.assertRaises(KeyboardInterrupt):
+            next(cursor)
+        for _ in range(2):
+            with self.assertRaisesRegex(SessionEndedError, "a reply was interrupted"):
+                next(cursor)
+        with Session(PEOPLE, PROGRAM) as again:
+            self.assertEqual(found + list(again.find(after=cursor.token(), decode="bytes")), PEOPLE_LINES)
+
+    def test_in_the_middle_of_an_answer(self) -> None:
+        answer = find(PEOPLE, decode="bytes", program=PROGRAM)
+        with mock.patch("bsonfind._answers.counted", side_effect=KeyboardInterrupt), self.assertRaises(KeyboardInterrupt):
+            list(answer)
+        with self.assertRaises(CursorStateError):
+            next(answer)
+
+    def test_control_c_of_a_terminal(self) -> None:
+        """It reaches all processes of its group, and not the session's program."""
+        code = f"""
+import os, signal
+from bsonfind import Session
+signal.signal(signal.SIGINT, signal.default_int_handler)
+os.setpgrp()
+session = Session({str(PEOPLE)!r}, {PROGRAM!r})
+cursor = session.find(batch_size=40)
+found = [next(cursor)["_id"]]
+try:
+    os.killpg(0, signal.SIGINT)
+    signal.pause()
+except KeyboardInterrupt:
+    pass
+found += [it["_id"] for it in cursor]
+print(found == [{{"$numberInt": str(number)}} for number in range(500)])
+"""
+        ran = subprocess.run([sys.executable, "-c", code], env=environment(), capture_output=True, text=True, timeout=PATIENCE)
+        self.assertEqual((ran.stdout, ran.stderr), ("True\n", ""))
+
+
+class LongQuestions(Room):
+    """Timeouts and cancelling."""
+
+    def slow(self) -> str:
+        """A program that never answers."""
+        return self.script("exec sleep 600")
+
+    def test_timeouts(self) -> None:
+        program, parts = self.slow(), plan(PEOPLE, 40_000)
+        for ask in (
+            lambda: next(find(PEOPLE, program=program, timeout=0.2)),
+            lambda: find_one(PEOPLE, program=program, timeout=0.2),
+            lambda: count_documents(PEOPLE, program=program, timeout=0.2),
+            lambda: Session(PEOPLE, program, timeout=0.2),
+            lambda: find_parts(parts, program=program, timeout=0.2),
+        ):
+            begun = time.monotonic()
+            with self.assertRaisesRegex(TimedOutError, "no answer within 0.2 seconds") as raised:
+                ask()
+            self.assertIsInstance(raised.exception, TimeoutError)
+            self.assertLess(time.monotonic() - begun, 20)
+
+    def test_timeout_of_a_part(self) -> None:
+        first = 'if mkdir "$ROOM/first" 2>/dev/null; then exec "$PROGRAM" "$@"; fi\nexec sleep 600'
+        for workers in (1, 3):
+            with self.subTest(workers), self.assertRaises(TimedOutError):
+                find_parts(plan(PEOPLE, 40_000), workers=workers, program=self.script(first), timeout=0.5)
+
+    def test_timeout_of_a_command(self) -> None:
+        program = self.script('read line\necho \'{"ok":true}\'\nexec sleep 600')
+        session = Session(PEOPLE, program, timeout=0.5)
+        with self.assertRaises(TimedOutError):
+            session.find()
+        with self.assertRaisesRegex(SessionEndedError, "no answer within 0.5 seconds"):
+            session.find()
+
+    def test_no_timeout_where_the_answer_is_there(self) -> None:
+        with Session(PEOPLE, PROGRAM, timeout=PATIENCE) as session:
+            self.assertEqual(len(list(session.find())), 500)
+        self.assertEqual(len(list(find(PEOPLE, program=PROGRAM, timeout=PATIENCE))), 500)
+        wait_for(lambda: threading.active_count() == 1)
+
+    def test_cancelled_session(self) -> None:
+        session = Session(PEOPLE, self.script('read line\necho \'{"ok":true}\'\nexec sleep 600'))
+        threading.Timer(0.3, session.cancel).start()
+        with self.assertRaises(CancelledError):
+            session.count_documents()
+        with self.assertRaisesRegex(SessionEndedError, "cancelled"):
+            session.count_documents()
+
+    def test_cancelled_answer(self) -> None:
+        answer = find(PEOPLE, program=self.slow())
+        threading.Timer(0.3, answer.cancel).start()
+        with self.assertRaises(CancelledError):
+            next(answer)
+
+
+class Bounds(Room):
+    """How much a cursor holds."""
+
+    def test_bytes_of_a_batch(self) -> None:
+        """With a most of 10,000 bytes in place of 16 MiB."""
+        sizes = [10] * 60 + [3000] * 30 + [20_000] * 3 + [10] * 60
+        dump = self.file(packed(f'{{"_id":{number},"a":"{"x" * size}"}}' for number, size in enumerate(sizes)))
+        held = []
+        batches_by = _steps.batches_by
+
+        def watched(decode: object) -> Callable:
+            documents_of = batches_by(decode)
+            return lambda text, size: held.append(len(text)) or documents_of(text, size)
+
+        with mock.patch.object(_steps, "MOST_BYTES", 10_000), mock.patch.object(_steps, "batches_by", watched):
+            with Session(dump, PROGRAM) as session:
+                found = [json.loads(line) for line in session.find(decode="bytes", batch_size=50)]
+        self.assertEqual([(it["_id"], len(it["a"])) for it in found], [({"$numberInt": str(n)}, size) for n, size in enumerate(sizes)])
+        self.assertLess(max(it for it in held if it < 20_000), 10_001)
+        self.assertEqual(sum(it > 10_000 for it in held), 3)
+        self.assertLess(len(held), 60)
+
+    def test_a_batch_that_is_passed_over_keeps_the_token(self) -> None:
+        dump = self.file(packed(f'{{"_id":{number},"a":"{"x" * 3000}"}}' for number in range(20)))
+        with mock.patch.object(_steps, "MOST_BYTES", 10_000), Session(dump, PROGRAM) as session:
+            lines = list(session.find(decode="bytes"))
+            cursor = session.find(sort={"_id": -1}, decode="bytes")
+            found = [next(cursor) for _ in range(7)]
+            rest = list(session.find(sort={"_id": -1}, after=cursor.token(), decode="bytes"))
+        self.assertEqual(found + rest, lines[::-1])
+
+
+class Failing(Room):
+    """Parts that fail end the others at once."""
+
+    def test_first_part_that_fails(self) -> None:
+        """The last part, which begins with a document of 16 bytes, fails at once, and the others would take ten minutes."""
+        program = self.script(
+            '[ "$1" = pack ] && exec "$PROGRAM" "$@"\n'
+            '[ "$(dd bs=1 count=1 2>/dev/null | od -An -tu1 | tr -d " ")" = 16 ] || exec sleep 600\n'
+            'echo "bsonfind: document 0, byte 4, path \\"d\\": double" >&2\nexit 1'
+        )
+        parts = plan(PEOPLE, 40_000) + plan(self.file(DOUBLE))
+        begun = time.monotonic()
+        with mock.patch("bsonfind._merge._Asking.try_request"), self.assertRaises(PartError) as raised:
+            find_parts(parts, workers=4, program=program)
+        self.assertEqual((raised.exception.part, raised.exception.fault), (parts[-1], (0, 4, "d", "double")))
+        self.assertLess(time.monotonic() - begun, 30)
+
+
+class Missing(Room):
+    """A missing file is one error, whoever asks."""
+
+    def test_missing_file(self) -> None:
+        path = self.room / "missing.bson"
+        for name in (path, str(path), os.fsencode(path), self.room / "missing.bson.gz", self.room / os.fsdecode(b"\xff.bson")):
+            for ask in (
+                lambda: next(find(name, program=PROGRAM)),
+                lambda: find_one(name, program=PROGRAM),
+                lambda: count_documents(name, program=PROGRAM),
+                lambda: Session(name, PROGRAM),
+                lambda: plan(name),
+            ):
+                with self.subTest(name), self.assertRaises(DumpError) as raised:
+                    ask()
+                self.assertIn("cannot open ", raised.exception.text)
+
