@@ -11,7 +11,7 @@ from typing import Any, Iterable, Iterator, NamedTuple
 from urllib.parse import unquote
 
 from ._errors import DumpError
-from ._sources import unpacked
+from ._unpacking import unpacked
 
 _ENDING = re.compile(r"\.bson(\.gz)?$")
 _DUMPED = re.compile(r"done dumping (\S.*) \((\d+) documents?\)")

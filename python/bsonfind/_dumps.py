@@ -2,11 +2,10 @@
 
 from __future__ import annotations
 
-import gzip
 import os
-import zlib
 from typing import BinaryIO, Iterable, Iterator, NamedTuple, Union
 
+from . import _unpacking
 from ._errors import DumpError
 
 File = Union[str, bytes, "os.PathLike[str]", "os.PathLike[bytes]"]
@@ -54,13 +53,6 @@ def opened(path: File) -> BinaryIO:
 
 
 def unpacked(path: File) -> Iterator[bytes]:
-    """The bytes that a file by `mongodump --gzip` stands for, in pieces. One that is cut, damaged or empty is a `DumpError`."""
-    with opened(path) as file, gzip.GzipFile(fileobj=file) as unpacking:
-        try:
-            while piece := unpacking.read(_PIECE):
-                yield piece
-            # Of an empty file gzip gives no bytes, and no error.
-            if not file.tell():
-                raise EOFError("the file is empty")
-        except (OSError, EOFError, zlib.error) as error:
-            raise DumpError(f"cannot unpack {os.fsdecode(path)}: {error}") from error
+    """The bytes that a file by `mongodump --gzip` holds, in pieces. One that is cut, damaged or empty is a `DumpError`."""
+    with opened(path) as file:
+        yield from _unpacking.unpacked(iter(lambda: file.read(_PIECE), b""))
