@@ -5,6 +5,7 @@ from __future__ import annotations
 import os
 import re
 import struct
+from collections import deque
 from contextlib import ExitStack, nullcontext
 from typing import Callable, ContextManager, Iterable, Iterator, NamedTuple
 
@@ -12,14 +13,16 @@ from ._errors import ProgramError
 from ._faults import NO_DAMAGE, Fault, faults_of, finish_check
 from ._framing import LONGEST, SHORTEST
 from ._outputs import Output, refuse_names
-from ._processes import Run
+from ._processes import Run, processors
 from ._sources import Source, try_program
 from ._unpacking import UnpackError
 
 # From so many documents in a row, or from fewer that end with the file, a place is guessed to be the beginning of a document.
 IN_A_ROW = 4
 # The bytes that are checked by one run, at first and after damage, and at most; and the documents at most.
-_FIRST, _MOST, _MOST_DOCUMENTS = 1 << 16, 1 << 24, 100_000
+_FIRST, _MOST, _MOST_DOCUMENTS = 1 << 16, 1 << 22, 100_000
+# So many runs check at once at most.
+_MOST_AHEAD = 4
 _PIECE = 1 << 20
 # The type of a first element after the last byte of a length. A document that begins with MinKey or MaxKey is not looked for.
 _BEGINNING = re.compile(rb"[\x01-\x13](?<=[\x00\x01].)", re.DOTALL)
@@ -157,25 +160,20 @@ class _Window:
         return at + length if SHORTEST <= length <= LONGEST and self.has(at + length) else None
 
     def document_ends(self, at: int, size: int, most: int) -> list[int]:
-        """Where documents end, one after the other, up to a wrong length or to so many bytes or documents."""
+        """Where documents end, one after the other, up to a wrong length or past so many bytes or documents."""
         ends: list[int] = []
         until = at + size
-        while len(ends) < most and at < until:
+        while at < until and len(ends) < most and self.document_end(at) is not None:
             held, start, last = self._held, self.start, len(self._held)
-            here, room = at - start, most - len(ends)
-            while room and here + 4 <= last and here + start < until:
+            here = at - start
+            stop = min(last - 4, until - start, here + _PIECE)
+            while here < stop:
                 (length,) = _length_at(held, here)
                 if not SHORTEST <= length <= LONGEST or here + length > last:
                     break
                 here += length
-                room -= 1
                 ends.append(start + here)
             at = start + here
-            if room and at < until:
-                # The next document is read, or its length is wrong.
-                end = self.document_end(at)
-                if end is None:
-                    break
         return ends
 
 
@@ -188,29 +186,54 @@ class _Salvage:
         self._program, self._say = program, say
         self._good = self._bad = 0
         self._left_out: list[LeftOut] = []
+        # Documents that are being checked, how many runs do so at most, and the bytes that the next one checks.
+        self._ahead: deque[_Batch] = deque()
+        self._most_ahead, self._size = min(processors(), _MOST_AHEAD), _FIRST
 
     def copy(self) -> Salvaged:
         """Copies all documents whose length is known."""
-        at, size = 0, _FIRST
-        while self._window.has(at + 1):
-            ends = self._window.document_ends(at, size, _MOST_DOCUMENTS)
-            if ends:
-                at = self._copy_documents(at, ends)
-                size = min(2 * size, _MOST) if at == ends[-1] else _FIRST
-            else:
-                found = self._next_beginning(at + 1)
-                at, size = self._leave_out(LeftOut(at, self._window.end if found is None else found, found is not None)), _FIRST
-            self._window.drop(at)
+        at = 0
+        try:
+            while self._check_ahead(at) or self._window.has(at + 1):
+                if self._ahead:
+                    batch = self._ahead.popleft()
+                    at = self._copy_documents(batch)
+                    if at != batch.ends[-1]:
+                        self._forget_ahead()
+                else:
+                    found = self._next_beginning(at + 1)
+                    at = self._leave_out(LeftOut(at, self._window.end if found is None else found, found is not None))
+                    self._size = _FIRST
+                self._window.drop(at)
+        finally:
+            self._forget_ahead()
         if self._window.error:
             self._say(f"byte {at}: {self._window.error}; nothing after it can be read")
         return Salvaged(self._good, self._bad, self._left_out, self._window.error)
 
-    def _copy_documents(self, start: int, ends: list[int]) -> int:
-        """Copies documents that end there, and gives the place after them, or that of documents which a wrong length passes over."""
-        whole = self._window.bytes(start, ends[-1])
-        faults, data = self._faults(whole, len(ends)), memoryview(whole)
+    def _check_ahead(self, at: int) -> bool:
+        """Starts runs over the documents from there on, one for each processor; False where the first length is wrong."""
+        while len(self._ahead) < self._most_ahead:
+            start = self._ahead[-1].ends[-1] if self._ahead else at
+            ends = self._window.document_ends(start, self._size, _MOST_DOCUMENTS)
+            if not ends:
+                break
+            data = self._window.bytes(start, ends[-1])
+            self._ahead.append(_Batch(start, ends, data, Run([self._program, "check", "-"], [data])))
+            self._size = min(2 * self._size, _MOST)
+        return bool(self._ahead)
+
+    def _forget_ahead(self) -> None:
+        """Ends the runs over what comes later: it is read in another way."""
+        while self._ahead:
+            self._ahead.pop().run.close()
+        self._size = _FIRST
+
+    def _copy_documents(self, batch: _Batch) -> int:
+        """Copies documents, and gives the place after them, or that of documents which a wrong length passes over."""
+        start, ends, data = batch.start, batch.ends, memoryview(batch.data)
         at, copied = start, 0
-        for fault in faults:
+        for fault in _faults(batch.run, len(ends)):
             number = fault.document
             begin, end = ends[number - 1] if number else start, ends[number]
             self._good_file.write(data[at - start : begin - start])
@@ -224,15 +247,6 @@ class _Salvage:
         self._good_file.write(data[at - start :])
         self._good += len(ends) - copied
         return ends[-1]
-
-    def _faults(self, data: bytes, documents: int) -> list[Fault]:
-        """The faults of so many documents."""
-        with Run([self._program, "check", "-"], [data]) as run:
-            faults = list(faults_of(run))
-            count = finish_check(run)
-        if count != documents:
-            raise ProgramError(f"check found {count} documents in place of {documents}")
-        return faults
 
     def _leave_out(self, left_out: LeftOut) -> int:
         """Notes what is left out, and gives the place after it."""
@@ -308,7 +322,8 @@ class _Salvage:
         """The places of those chains in which `check` finds no damage; all are looked at by one run."""
         if not chains:
             return []
-        faults = self._faults(b"".join(it.data for it in chains), sum(it.documents for it in chains))
+        run = Run([self._program, "check", "-"], [it.data for it in chains])
+        faults = _faults(run, sum(it.documents for it in chains))
         damaged = {fault.document for fault in faults if fault.kind not in NO_DAMAGE}
         places, first = [], 0
         for chain in chains:
@@ -316,6 +331,25 @@ class _Salvage:
                 places.append(chain.place)
             first += chain.documents
         return places
+
+
+def _faults(run: Run, documents: int) -> list[Fault]:
+    """The faults that a run finds in so many documents."""
+    with run:
+        faults = list(faults_of(run))
+        count = finish_check(run)
+    if count != documents:
+        raise ProgramError(f"check found {count} documents in place of {documents}")
+    return faults
+
+
+class _Batch(NamedTuple):
+    """Documents with their places and their bytes, and the run that checks them."""
+
+    start: int
+    ends: list[int]
+    data: bytes
+    run: Run
 
 
 class _Chain(NamedTuple):
