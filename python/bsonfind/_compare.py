@@ -5,7 +5,6 @@ from __future__ import annotations
 import os
 from collections import Counter
 from hashlib import blake2b
-from itertools import groupby
 from typing import Callable, Iterator, NamedTuple, Sequence
 
 from ._answers import lines_of
@@ -91,7 +90,7 @@ def compare(pair: Pair, path: str, program: str, say: Callable[[str], None]) -> 
     """
     if pair.first is None or pair.second is None:
         return _one_alone(pair, program, say)
-    names, key_of = path.split("."), id_of if path == "_id" else None
+    names = path.split(".")
     documents = [0, 0]
     with Sorter() as sorter:
         for side, name in enumerate((pair.first, pair.second)):
@@ -99,53 +98,63 @@ def compare(pair: Pair, path: str, program: str, say: Callable[[str], None]) -> 
             for lines in _lines(name, program):
                 documents[side] += len(lines)
                 for line in lines:
-                    key = key_of(line) if key_of else field_of(line, names)
-                    # Texts of JSON have no tab. A document without a key comes first.
+                    key = id_of(line) if path == "_id" else field_of(line, names)
+                    # Texts of JSON have no tab. Documents without a key come first.
                     digest = blake2b(line, digest_size=16).hexdigest().encode()
-                    sorter.add((key or b"") + b"\t" + digest + mark)
-        kinds: Counter[str] = Counter()
-        repeated = without = 0
-        for key, counts in _by_key(sorter.all()):
-            kinds["same"] += counts.same
-            if not key:
-                without = sum(counts.documents)
-                kinds["removed"] += counts.left[0]
-                kinds["added"] += counts.left[1]
-                one, other = counts.documents
-                say(f"without {path}: {one} and {other} documents, {counts.left[0]} removed, {counts.left[1]} added")
-                continue
-            if max(counts.documents) > 1:
-                repeated += sum(it for it in counts.documents if it > 1)
-                say("repeated {}: {} and {} documents".format(key.decode(), *counts.documents))
-            changed = min(counts.left)
-            for kind, count in (("changed", changed), ("removed", counts.left[0] - changed), ("added", counts.left[1] - changed)):
-                kinds[kind] += count
+                    sorter.add(b"%s\t%s%s" % (key or b"", digest, mark))
+        return _compare_sorted(sorter.all(), (documents[0], documents[1]), path, say)
+
+
+def _compare_sorted(lines: Iterator[bytes], documents: tuple[int, int], path: str, say: Callable[[str], None]) -> Comparison:
+    """Compares the sorted lines of two dumps."""
+    kinds: Counter[str] = Counter()
+    repeated = without = 0
+    for key, first, second, same in _by_key(lines):
+        if key and same == first == second == 1:
+            kinds["same"] += 1
+            continue
+        removed, added = first - same, second - same
+        if key:
+            changed = min(removed, added)
+            counts = {"changed": changed, "removed": removed - changed, "added": added - changed}
+            if max(first, second) > 1:
+                repeated += sum(count for count in (first, second) if count > 1)
+                say(f"repeated {key.decode()}: {first} and {second} documents")
+            for kind, count in counts.items():
                 for _ in range(count):
                     say(f"{kind} {key.decode()}")
-    return Comparison((documents[0], documents[1]), kinds, repeated, without)
+        else:
+            counts, without = {"removed": removed, "added": added}, first + second
+            say(f"without {path}: {first} and {second} documents, {removed} removed, {added} added")
+        kinds.update(counts, same=same)
+    return Comparison(documents, kinds, repeated, without)
 
 
-class _Counts(NamedTuple):
-    """How many documents each dump has of a key, how many of these are the same, and how many of each are left."""
+def _by_key(lines: Iterator[bytes]) -> Iterator[tuple[bytes, int, int, int]]:
+    """Each key of sorted lines, how many documents of it each dump has, and how many of these are the same in both.
 
-    documents: list[int]
-    same: int
-
-    @property
-    def left(self) -> list[int]:
-        return [count - self.same for count in self.documents]
-
-
-def _by_key(lines: Iterator[bytes]) -> Iterator[tuple[bytes, _Counts]]:
-    """The counts of each key, of the sorted lines that have a key, a digest of the document, and the number of its dump."""
-    for key, of_key in groupby(lines, lambda line: line[: line.index(b"\t")]):
-        documents, same = [0, 0], 0
-        for _, alike in groupby(of_key, lambda line: line[:-2]):
-            counts = Counter(line[-2] - ord("0") for line in alike)
-            for side in (0, 1):
-                documents[side] += counts[side]
-            same += min(counts[0], counts[1])
-        yield key, _Counts(documents, same)
+    A line has the key, a digest of the document, and which dump it is of.
+    """
+    key, document = b"", b""
+    first = second = same = one = other = 0
+    for line in lines:
+        found = line[:-2]
+        if found != document:
+            first, second, same = first + one, second + other, same + min(one, other)
+            one = other = 0
+            document, found = found, found[: found.index(b"\t")]
+            if found != key:
+                if first or second:
+                    yield key, first, second, same
+                key = found
+                first = second = same = 0
+        if line.endswith(b"0\n"):
+            one += 1
+        else:
+            other += 1
+    first, second, same = first + one, second + other, same + min(one, other)
+    if first or second:
+        yield key, first, second, same
 
 
 def _one_alone(pair: Pair, program: str, say: Callable[[str], None]) -> Comparison:
