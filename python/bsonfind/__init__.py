@@ -13,6 +13,7 @@
 from importlib import metadata
 from pathlib import Path
 
+from ._asyncio_sessions import AsyncCursor, AsyncSession
 from ._answers import Answer, count_documents, find, find_one
 from ._errors import (
     BsonfindError,
@@ -46,6 +47,8 @@ __version__ = _version()
 
 __all__ = [
     "Answer",
+    "AsyncCursor",
+    "AsyncSession",
     "BsonfindError",
     "CancelledError",
     "Check",

@@ -7,7 +7,7 @@ import os
 import subprocess
 import tempfile
 import threading
-from typing import IO, Any, Iterable, Sequence
+from typing import IO, Any, Callable, Iterable, Sequence
 
 from ._errors import BsonfindError, OtherProcessError, ProgramError, TimedOutError
 from ._messages import error_line, error_of
@@ -73,13 +73,13 @@ class Group:
 class Feeder(threading.Thread):
     """Writes pieces to the pipe of a program, closes it, and keeps what was wrong with the pieces."""
 
-    def __init__(self, pieces: Iterable[bytes], pipe: IO[bytes], process: subprocess.Popen[bytes]) -> None:
+    def __init__(self, pieces: Iterable[bytes], pipe: IO[bytes], kill: Callable[[], object]) -> None:
         super().__init__(daemon=True)
-        self._pieces, self._pipe, self._process = pieces, pipe, process
+        self._pieces, self._pipe, self._kill = pieces, pipe, kill
         self.error: Exception | None = None
 
     def run(self) -> None:
-        """Writes all of them, or as many as are read. The program sees the end of its input only after the last one."""
+        """Writes all of them, or as many as are read. After an error the program is killed before it sees the end of its input."""
         try:
             for piece in self._pieces:
                 self._pipe.write(piece)
@@ -87,8 +87,7 @@ class Feeder(threading.Thread):
             pass  # The program reads no more, and its end says why.
         except Exception as error:  # noqa: BLE001 - it is raised where the run is waited for
             self.error = error
-            self._process.kill()
-            self._process.wait()
+            self._kill()
         finally:
             close(self._pipe)
 
@@ -149,7 +148,7 @@ class Run:
     def _feed(self, pieces: Iterable[bytes], pipe: IO[bytes]) -> None:
         """Begins to write pieces to a pipe."""
         try:
-            self._feeder = Feeder(pieces, pipe, self.process)
+            self._feeder = Feeder(pieces, pipe, self.process.kill)
             self._feeder.start()
         except BaseException:
             self._feeder = None

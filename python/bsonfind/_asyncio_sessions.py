@@ -1,0 +1,337 @@
+"""Sessions for asyncio: what `_sessions` does, without a thread that waits."""
+
+from __future__ import annotations
+
+import asyncio
+import contextlib
+import os
+import tempfile
+from collections import deque
+from typing import Any, AsyncIterator, Callable, Literal, TypeVar, overload
+
+from . import _steps
+from ._decoding import Decode, Dicts
+from ._dumps import File, dump_of
+from ._errors import BsonfindError, CancelledError, ProgramError, SessionEndedError, TimedOutError
+from ._messages import error_of
+from ._processes import Descriptor, Feeder, check_owner
+from ._requests import Filter, Request, Sort
+from ._steps import Command, Hint, Reading, Steps, Use, kill, use_of
+
+T = TypeVar("T")
+# How many bytes the pipe from the program may hold before they are read.
+_BUFFER = 1 << 20
+
+
+class AsyncSession:
+    """A session whose calls are awaited: `async with AsyncSession("people.bson") as session`.
+
+    Tasks may share a session, and a cursor belongs to one task at a time. A call that is cancelled in the middle of a reply ends
+    the session. Otherwise it is a `Session`: a dump that is refused is a `DumpError` at once, and so on.
+    """
+
+    def __init__(self, path: File, program: str = "bsonfind", *, timeout: float | None = None) -> None:
+        self._connection = _Connection(path, program, timeout)
+
+    async def open(self) -> AsyncSession:
+        """Starts the program, and waits until the dump is read."""
+        await self._connection.open()
+        return self
+
+    # fmt: off
+    @overload
+    def find(
+        self, filter: Filter | None = None, *, sort: Sort | None = None, skip: int = 0, limit: int = 0, batch_size: int = 100,
+        use: Use = "auto", hint: Hint | None = None, after: str | None = None, decode: Dicts = "dict",
+    ) -> AsyncCursor[dict[str, Any]]: ...
+    @overload
+    def find(
+        self, filter: Filter | None = None, *, sort: Sort | None = None, skip: int = 0, limit: int = 0, batch_size: int = 100,
+        use: Use = "auto", hint: Hint | None = None, after: str | None = None, decode: Literal["bytes"],
+    ) -> AsyncCursor[bytes]: ...
+    @overload
+    def find(
+        self, filter: Filter | None = None, *, sort: Sort | None = None, skip: int = 0, limit: int = 0, batch_size: int = 100,
+        use: Use = "auto", hint: Hint | None = None, after: str | None = None, decode: Callable[[bytes], T],
+    ) -> AsyncCursor[T]: ...
+    # fmt: on
+    def find(
+        self,
+        filter: Filter | None = None,
+        *,
+        sort: Sort | None = None,
+        skip: int = 0,
+        limit: int = 0,
+        batch_size: int = 100,
+        use: Use = "auto",
+        hint: Hint | None = None,
+        after: str | None = None,
+        decode: Decode[Any] = "dict",
+    ) -> AsyncCursor[Any]:
+        """A cursor over an answer, or over what follows a token, for `async for`. It is opened by its first document."""
+        reading = Reading(Request.of(filter, sort, skip, limit), use_of(use, hint), batch_size, after, decode)
+        return AsyncCursor(self._connection, reading)
+
+    # fmt: off
+    @overload
+    async def find_one(
+        self, filter: Filter | None = None, *, sort: Sort | None = None, skip: int = 0, use: Use = "auto",
+        hint: Hint | None = None, decode: Dicts = "dict",
+    ) -> dict[str, Any] | None: ...
+    @overload
+    async def find_one(
+        self, filter: Filter | None = None, *, sort: Sort | None = None, skip: int = 0, use: Use = "auto",
+        hint: Hint | None = None, decode: Literal["bytes"],
+    ) -> bytes | None: ...
+    @overload
+    async def find_one(
+        self, filter: Filter | None = None, *, sort: Sort | None = None, skip: int = 0, use: Use = "auto",
+        hint: Hint | None = None, decode: Callable[[bytes], T],
+    ) -> T | None: ...
+    # fmt: on
+    async def find_one(
+        self,
+        filter: Filter | None = None,
+        *,
+        sort: Sort | None = None,
+        skip: int = 0,
+        use: Use = "auto",
+        hint: Hint | None = None,
+        decode: Decode[Any] = "dict",
+    ) -> Any:
+        """The first document of an answer, None where it has none."""
+        async with self.find(filter, sort=sort, skip=skip, limit=1, use=use, hint=hint, decode=decode) as cursor:
+            async for document in cursor:
+                return document
+        return None
+
+    async def count_documents(self, filter: Filter | None = None) -> int:
+        """How many documents match."""
+        return await self._connection.do(_steps.count(Request.of(filter)))
+
+    async def create_index(self, path: str, sparse: bool = False) -> dict[str, Any]:
+        """Makes an index on a path: how many `entries` it has, and whether a document has more than one (`multikey`)."""
+        return await self._connection.do(_steps.create_index(path, sparse))
+
+    async def drop_index(self, path: str) -> None:
+        """Drops the index on a path; cursors that were opened by it give the same."""
+        await self._connection.do(_steps.drop_index(path))
+
+    async def explain(
+        self,
+        filter: Filter | None = None,
+        *,
+        sort: Sort | None = None,
+        skip: int = 0,
+        limit: int = 0,
+        use: Use = "auto",
+        hint: Hint | None = None,
+    ) -> dict[str, Any]:
+        """How an answer is found: the `plan`, the path of the `index`, and how many `entries`, `documents` and `matches`."""
+        return await self._connection.do(_steps.explain(Request.of(filter, sort, skip, limit), use_of(use, hint)))
+
+    def cancel(self) -> None:
+        """Ends the session at once: a call that waits for a reply gets a `CancelledError` of this package."""
+        self._connection.stop(CancelledError("cancelled"))
+
+    async def close(self) -> None:
+        """Ends the session."""
+        await self._connection.close()
+
+    async def __aenter__(self) -> AsyncSession:
+        return await self.open()
+
+    async def __aexit__(self, *_: object) -> None:
+        await self.close()
+
+
+class AsyncCursor(AsyncIterator[T]):
+    """The documents of an answer, which are asked for a batch at a time. It keeps what it read as a `Cursor` does."""
+
+    def __init__(self, connection: _Connection, reading: Reading[T]) -> None:
+        self._connection, self._reading = connection, reading
+        self._is_closed = False
+
+    async def __anext__(self) -> T:
+        self._connection.check()
+        documents = self._reading.held.documents
+        while not documents.left and not self._reading.is_at_end and not self._is_closed:
+            self._connection.check_open()
+            await self._connection.do(self._reading.read_on())
+            documents = self._reading.held.documents
+        if self._is_closed or not documents.left:
+            raise StopAsyncIteration
+        return documents.give()
+
+    async def token(self) -> str | None:
+        """The token that leads on to what follows the documents that were given; None where none was."""
+        return await self._connection.do(self._reading.token())
+
+    async def close(self) -> None:
+        """Closes the cursor: no document follows. Its token stays."""
+        self._connection.check()
+        self._is_closed = True
+        self._leave()
+
+    def _leave(self) -> None:
+        number, self._reading.number = self._reading.number, None
+        if number is not None:
+            self._connection.leave(number)
+
+    async def __aenter__(self) -> AsyncCursor[T]:
+        return self
+
+    async def __aexit__(self, *_: object) -> None:
+        await self.close()
+
+    def __del__(self) -> None:
+        self._leave()
+
+
+class _Connection:
+    """A run of `serve` over a dump. Tasks may share it: a command has its reply before the next one is sent."""
+
+    def __init__(self, path: File, program: str, timeout: float | None) -> None:
+        self._dump, self._program, self._timeout = dump_of(path), program, timeout
+        self._owner = os.getpid()
+        self._left: deque[int] = deque()
+        self._files = contextlib.ExitStack()
+        self._ended: str | None = "the session was not opened"
+        # Why it was stopped, where it was.
+        self._stopped: BsonfindError | None = None
+        self._feeder: Feeder | None = None
+        self._process: asyncio.subprocess.Process | None = None
+
+    async def open(self) -> None:
+        """Starts the program, and waits until the dump is read."""
+        self.check()
+        self._lock, self._stderr = asyncio.Lock(), self._files.enter_context(tempfile.TemporaryFile())
+        try:
+            await self._start()
+            self._ended = None
+            # It waits by a command that changes nothing.
+            if not await self._within(self._exchange(kill(0))):
+                raise await self._error()
+        except BaseException:
+            await self._end("the dump was not read")
+            raise
+
+    async def _start(self) -> None:
+        """Starts the program."""
+        pipe, how = asyncio.subprocess.PIPE, {"stderr": self._stderr, "start_new_session": True, "limit": _BUFFER}
+        with Descriptor(self._dump) as descriptor:
+            words = (self._program, "serve", descriptor.word)
+            try:
+                self._process = await asyncio.create_subprocess_exec(*words, stdin=pipe, stdout=pipe, pass_fds=descriptor.passed, **how)
+            except OSError as error:
+                raise ProgramError(f"cannot start {self._program}: {error.strerror}") from error
+            if self._dump.pieces is not None:
+                self._feeder = Feeder(self._dump.pieces, descriptor.take_pipe(), self._kill)
+                self._feeder.start()
+
+    async def do(self, steps: Steps[T]) -> T:
+        """What steps come to, whose commands are asked one after the other."""
+        self.check()
+        try:
+            command = next(steps)
+            while True:
+                command = steps.send(await self._ask(command))
+        except StopIteration as end:
+            return end.value
+
+    def check(self) -> None:
+        """Refuses a call in another process than the one that opened the connection."""
+        check_owner(self._owner)
+
+    def check_open(self) -> None:
+        """Raises why the connection ended, where it has."""
+        if self._ended:
+            raise SessionEndedError(self._ended)
+
+    def leave(self, cursor: int) -> None:
+        """Has a cursor closed before the next command."""
+        self._left.append(cursor)
+
+    def stop(self, error: BsonfindError) -> None:
+        """Kills the program; what waits for a reply has this error."""
+        self.check()
+        self._stopped = self._stopped or error
+        self._kill()
+
+    async def close(self) -> None:
+        """Ends the run."""
+        self.check()
+        await self._end("the session was closed")
+
+    async def _ask(self, command: Command) -> bytes | None:
+        """The reply to a command, None where it is longer than the command says."""
+        self.check_open()
+        async with self._lock:
+            while self._left:
+                await self._reply(kill(self._left.popleft()))
+            return await self._reply(command)
+
+    async def _reply(self, command: Command) -> bytes | None:
+        """The reply. Where there is none the run is ended, so that no later command takes the reply to this one."""
+        self.check_open()
+        try:
+            reply = await self._within(self._exchange(command))
+        except BaseException:
+            await self._end("a reply was interrupted")
+            raise
+        if reply == b"":
+            error = await self._error()
+            await self._end(str(error))
+            raise error if isinstance(error, (CancelledError, TimedOutError)) else SessionEndedError(str(error))
+        return reply
+
+    async def _within(self, reply: Any) -> bytes | None:
+        """A reply that is there in time."""
+        try:
+            return await asyncio.wait_for(reply, self._timeout)
+        except asyncio.TimeoutError:
+            self.stop(TimedOutError(f"no answer within {self._timeout:g} seconds"))
+            return b""
+
+    async def _exchange(self, command: Command) -> bytes | None:
+        """Sends a command and reads the reply; nothing where the program has ended."""
+        assert self._process and self._process.stdin and self._process.stdout
+        try:
+            self._process.stdin.write(command.line + b"\n")
+            await self._process.stdin.drain()
+        except (BrokenPipeError, ConnectionResetError):
+            return b""
+        pieces: list[bytes] | None = []
+        size = 0
+        while piece := await self._process.stdout.read(_BUFFER):
+            size += len(piece)
+            if command.most is not None and size > command.most:
+                pieces = None
+            if pieces is not None:
+                pieces.append(piece)
+            if piece.endswith(b"\n"):
+                return None if pieces is None else b"".join(pieces)
+        return b""
+
+    async def _error(self) -> BsonfindError:
+        """The error of a run that did not end well."""
+        assert self._process
+        status = await self._process.wait()
+        if self._feeder and isinstance(self._feeder.error, BsonfindError):
+            return self._feeder.error
+        self._stderr.seek(0)
+        return self._stopped or error_of(status, self._stderr.read().decode(errors="replace"))
+
+    def _kill(self) -> None:
+        if self._process and self._process.returncode is None:
+            with contextlib.suppress(ProcessLookupError):
+                self._process.kill()
+
+    async def _end(self, reason: str) -> None:
+        self._ended = self._ended or reason
+        self._kill()
+        if self._process:
+            await asyncio.shield(self._process.wait())
+            assert self._process.stdin
+            self._process.stdin.close()
+        self._files.close()
