@@ -26,7 +26,7 @@ ZSH = $(SHARE)/zsh/site-functions
 FISH = $(SHARE)/fish/vendor_completions.d
 # Where the Python at hand looks for packages below PREFIX.
 PACKAGE = $(DESTDIR)$(shell $(PYTHON) tools/packages.py "$(PREFIX)")/bsonfind
-MODULES = python/bsonfind/*.py python/bsonfind/py.typed VERSION
+MODULES = python/bsonfind/*.py python/bsonfind/py.typed python/bsonfind/VERSION
 
 .PHONY: all build look test edits bench install uninstall deb dist clean
 
@@ -54,24 +54,26 @@ bench: bsonfind
 	$(PYTHON) bench/bench.py $(MB) --kind $(KIND)
 
 install: bsonfind
-	install -d "$(BIN)" "$(DOC)/examples" "$(MAN)" "$(BASH)" "$(ZSH)" "$(FISH)"
+	install -d "$(BIN)" "$(DOC)/docs" "$(DOC)/examples" "$(MAN)" "$(BASH)" "$(ZSH)" "$(FISH)"
 	install -m 755 bsonfind "$(BIN)/bsonfind"
-	install -m 644 LICENSE CHANGELOG.md README.md docs/GUIDE.md "$(DOC)"
+	install -m 644 LICENSE CHANGELOG.md CONTRIBUTING.md README.md "$(DOC)"
+	install -m 644 docs/*.md "$(DOC)/docs"
 	install -m 644 examples/* "$(DOC)/examples"
 	install -m 644 docs/bsonfind.1 "$(MAN)/bsonfind.1"
 	sed -i 's/^\.Os$$/.Os bsonfind $(VERSION)/' "$(MAN)/bsonfind.1"
 	install -m 644 completions/bsonfind.bash "$(BASH)/bsonfind"
 	install -m 644 completions/_bsonfind "$(ZSH)/_bsonfind"
 	install -m 644 completions/bsonfind.fish "$(FISH)/bsonfind.fish"
-	if command -v $(PYTHON) >/dev/null; then install -d "$(PACKAGE)" && install -m 644 $(MODULES) "$(PACKAGE)"; fi
+	if command -v $(PYTHON) >/dev/null; then install -d "$(PACKAGE)" && install -m 644 $(MODULES) "$(PACKAGE)" && \
+	  $(PYTHON) python/backend.py "$(PACKAGE)/.."; fi
 
 uninstall:
 	rm -f "$(BIN)/bsonfind" "$(MAN)/bsonfind.1"
 	rm -f "$(BASH)/bsonfind" "$(ZSH)/_bsonfind" "$(FISH)/bsonfind.fish"
-	rm -f "$(DOC)/LICENSE" "$(DOC)/CHANGELOG.md" "$(DOC)/README.md" "$(DOC)/GUIDE.md"
-	rm -rf "$(DOC)/examples"
+	rm -f "$(DOC)/LICENSE" "$(DOC)/CHANGELOG.md" "$(DOC)/CONTRIBUTING.md" "$(DOC)/README.md" "$(DOC)/GUIDE.md"
+	rm -rf "$(DOC)/docs" "$(DOC)/examples"
 	rmdir "$(DOC)" 2>/dev/null || true
-	if command -v $(PYTHON) >/dev/null; then rm -rf "$(PACKAGE)"; fi
+	if command -v $(PYTHON) >/dev/null; then rm -rf "$(PACKAGE)" "$(PACKAGE)-$(VERSION).dist-info"; fi
 
 # Both are made from what make install puts below /usr.
 deb dist: build

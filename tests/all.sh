@@ -24,7 +24,7 @@ add
 
 # The gate leaves the program and the tests of the calls that grow, proved and built, so nothing is proved again.
 if cp crates/bsonfind/out/bsonfind bsonfind; then
-	for script in program/program.sh program/pages.py program/talk.py faults/growths.py faults/devices.py package/package.py; do
+	for script in program/program.sh program/pages.py program/talk.py faults/growths.py faults/devices.py package/package.py package/wheels.py; do
 		"tests/$script" | tee "$log"
 		add
 	done

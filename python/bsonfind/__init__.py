@@ -10,8 +10,7 @@
 `find_parts`, `count_parts` and `check_parts` make one answer. `python3 -m bsonfind` has the commands `audit` and `salvage`.
 """
 
-from importlib import metadata
-from pathlib import Path
+import pkgutil
 
 from ._asyncio_sessions import AsyncCursor, AsyncSession
 from ._answers import Answer, count_documents, find, find_one
@@ -35,12 +34,8 @@ from ._values import ObjectId
 
 
 def _version() -> str:
-    """Tell the version: `VERSION` at the top of a clone has it, and a copy of that beside the modules that `make install` puts."""
-    here = Path(__file__).resolve().parent
-    for file in (here / "VERSION", here.parents[1] / "VERSION"):
-        if file.is_file():
-            return file.read_text(encoding="ascii").strip()
-    return metadata.version("bsonfind")
+    """Return the version, which a file beside the modules has, also in a zip."""
+    return (pkgutil.get_data(__name__, "VERSION") or b"").decode("ascii").strip()
 
 
 __version__ = _version()

@@ -48,6 +48,15 @@ def run(words: list[str], cwd: Optional[Path] = None, umask: int = -1, **env: st
     return subprocess.run(words, cwd=cwd, env=told, umask=umask, stdin=subprocess.DEVNULL, capture_output=True, text=True)
 
 
+def links_that_lead_nowhere(documents: Path) -> list[str]:
+    """Return the links of the README and of the guide to files that are not installed."""
+    lost = []
+    for page in (documents / "README.md", documents / "docs/GUIDE.md"):
+        links = re.findall(r"\]\(([^)#\s]+)", page.read_text(encoding="utf-8"))
+        lost += [f"{page.name}: {it}" for it in links if "://" not in it and not (page.parent / it).is_file()]
+    return lost
+
+
 def copy_of_tree(to: Path) -> Path:
     """Copy this folder, as it stands, with its program."""
     skipped = shutil.ignore_patterns(".git", "out", "dist", "__pycache__", ".build-times")
@@ -200,10 +209,12 @@ class Archives(unittest.TestCase):
         self.assertEqual((told.returncode, told.stdout[:15]), (0, "usage: bsonfind"))
         told = run([program, "dump", str(examples / "shop.bson")])
         self.assertEqual((told.returncode, told.stdout), (0, (ROOT / "examples/shop.jsonl").read_text(encoding="utf-8")))
-        asks = "import bsonfind, sys; print(bsonfind.__version__, len(list(bsonfind.find(sys.argv[1], limit=3))))"
+        asks = "import bsonfind, sys; from importlib.metadata import version; "
+        asks += "print(bsonfind.__version__, version('bsonfind'), len(list(bsonfind.find(sys.argv[1], limit=3))))"
         path = f"{prefix}/bin:{os.environ['PATH']}"
         told = run([sys.executable, "-c", asks, str(examples / "shop.bson")], self.own, PYTHONPATH=str(prefix / MODULES), PATH=path)
-        self.assertEqual(told.stdout, f"{VERSION} 3\n", told.stderr)
+        self.assertEqual(told.stdout, f"{VERSION} {VERSION} 3\n", told.stderr)
+        self.assertEqual(links_that_lead_nowhere(prefix / "share/doc/bsonfind"), [])
         if shutil.which("man"):
             page = run(["man", "bsonfind"], MANPATH=str(prefix / "share/man"), MANWIDTH="80").stdout
             self.assertEqual(page.splitlines()[-1].split()[:2], ["bsonfind", VERSION])

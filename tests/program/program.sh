@@ -1373,18 +1373,15 @@ installed() {
 
 # The files of the package of Python, where this one looks for them.
 packages=$("$root/tools/packages.py" /usr)
-package=$(cd "$root/python" && printf ".$packages/%s\n" bsonfind/*.py bsonfind/py.typed bsonfind/VERSION | sort)
-examples=$(cd "$root" && printf './usr/share/doc/bsonfind/%s\n' examples/* | sort)
+info=bsonfind-$(cat "$root/VERSION").dist-info
+package=$(cd "$root/python" && printf ".$packages/%s\n" "$info/INSTALLER" "$info/METADATA" bsonfind/*.py bsonfind/py.typed bsonfind/VERSION | sort)
+documents=$(cd "$root" && printf './usr/share/doc/bsonfind/%s\n' CHANGELOG.md CONTRIBUTING.md LICENSE README.md docs/*.md examples/* | sort)
 
 installed install
 expect 'make install' 0 "./usr/bin/bsonfind
 $package
 ./usr/share/bash-completion/completions/bsonfind
-./usr/share/doc/bsonfind/CHANGELOG.md
-./usr/share/doc/bsonfind/GUIDE.md
-./usr/share/doc/bsonfind/LICENSE
-./usr/share/doc/bsonfind/README.md
-$examples
+$documents
 ./usr/share/fish/vendor_completions.d/bsonfind.fish
 ./usr/share/man/man1/bsonfind.1
 ./usr/share/zsh/site-functions/_bsonfind" ''
