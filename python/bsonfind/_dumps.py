@@ -55,4 +55,13 @@ def opened(path: File) -> BinaryIO:
 def unpacked(path: File) -> Iterator[bytes]:
     """The bytes that a file by `mongodump --gzip` holds, in pieces. One that is cut, damaged or empty is a `DumpError`."""
     with opened(path) as file:
-        yield from _unpacking.unpacked(iter(lambda: file.read(_PIECE), b""))
+        yield from _unpacking.unpacked(pieces_of(file, path))
+
+
+def pieces_of(file: BinaryIO, path: File) -> Iterator[bytes]:
+    """The bytes of an open file from where it stands; a read that fails is a `DumpError`."""
+    try:
+        while piece := file.read(_PIECE):
+            yield piece
+    except OSError as error:
+        raise DumpError(f"cannot read {os.fsdecode(path)}: {error.strerror}") from error

@@ -123,7 +123,10 @@ def _ends(name: str, file: BinaryIO) -> Iterator[int]:
     """The place after each document of a file. What has no size, such as a pipe, cannot be cut: each part opens it again."""
     if not stat.S_ISREG(os.fstat(file.fileno()).st_mode):
         raise DumpError(f"{name} is no regular file")
-    return ends_in(unpacked(name)) if is_packed(name) else walk(file)
+    try:
+        yield from ends_in(unpacked(name)) if is_packed(name) else walk(file)
+    except OSError as error:
+        raise DumpError(f"cannot read {name}: {error.strerror}") from error
 
 
 def ends_in(pieces: Iterable[bytes]) -> Iterator[int]:
