@@ -27,7 +27,7 @@ sys.path.insert(0, str(Path(__file__).resolve().parents[1]))
 from support import ROOT
 
 # What a command writes, and a word of it that may name a file.
-WRITTEN = re.compile(r"\d?>>?\s*\S+|\bmv \S+ \S+|\btee \S+|\bof=\S+|--(?:good|bad) \S+")
+WRITTEN = re.compile(r"\d?>>?\s*\S+|\bmv \S+ \S+|\btee \S+|\bof=\S+|--(?:good|bad|missing) \S+")
 WORD = re.compile(r"(?<![\w./$*-])(?<!bsonfind )\w[\w./*-]*")
 FUNCTION = re.compile(r"(\w+)\(\) \{")
 # Programs that see a damaged file; cp, head and others take it as it is.
@@ -149,7 +149,7 @@ def run_harmed(command: str, reads: str, shell: Shell, room: Path, counts: Count
         for harm in (damage, Path.unlink) if JUDGES.search(reads) else (Path.unlink,):
             with tempfile.TemporaryDirectory() as folder:
                 copy = Path(folder, "room")
-                shutil.copytree(room, copy)
+                shutil.copytree(room, copy, symlinks=True)
                 for file in files:
                     harm(copy / file)
                 status, text = shell.run(f"(cd {copy}\n{command}\n)")
