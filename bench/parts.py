@@ -7,7 +7,7 @@ Of each size, 200 megabytes without one, it makes a dump of orders and prints a 
 
 - a session that gives all documents of a dump of small ones (kind counter), as lines: documents a second;
 - a plan of four parts: megabytes a second;
-- find_parts over four parts, by four threads, beside one run of `find`: a small answer by a sort with a limit, and all documents. An
+- find_parts over four parts, by four workers, beside one run of `find`: a small answer by a sort with a limit, and all documents. An
   answer is the same, byte for byte, before it is timed.
 
 With --times the parts of a dump are those of a file with N copies of it, one after the other; a run can't read more than 4,294,967,295
@@ -21,7 +21,6 @@ import sys
 import tempfile
 import time
 from collections.abc import Callable
-from concurrent.futures import ThreadPoolExecutor
 from pathlib import Path
 
 ROOT = Path(__file__).resolve().parent.parent
@@ -53,9 +52,8 @@ def one_run(program: str, dump: str, words: list[str]) -> bytes:
 
 
 def asked(program: str, parts: list[Part], **request: object) -> list[bytes]:
-    """Return the lines that find_parts gives, asked by as many threads as there are parts."""
-    with ThreadPoolExecutor(PARTS) as pool:
-        return find_parts(parts, map=pool.map, decode="bytes", program=program, **request)
+    """Return the lines that find_parts gives, all parts at once."""
+    return find_parts(parts, workers=PARTS, decode="bytes", program=program, **request)
 
 
 def time_session(program: str, room: str, seed: int, runs: int) -> None:

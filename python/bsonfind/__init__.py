@@ -6,14 +6,16 @@
         for person in session.find({"age": {"$gte": 90}}, sort=[("name", 1)]):
             print(person["name"])
 
-`find` answers one request by one run, a `Session` many of one dump. `plan` cuts a dump of any size into parts, of which
-`find_parts`, `count_parts` and `check_parts` make one answer. `python3 -m bsonfind` has the commands `audit` and `salvage`.
+`find`, `find_one` and `count_documents` answer one request by one run, a `Session` many of one dump, and an `AsyncSession` does for
+asyncio. `plan` cuts a dump of any size into parts, of which `find_parts`, `count_parts` and `check_parts` make one answer. `audit`
+checks the dumps of a backup, and `salvage` copies what is good of a damaged one. `python3 -m bsonfind` has these and other commands.
 """
 
 import pkgutil
 
-from ._asyncio_sessions import AsyncCursor, AsyncSession
 from ._answers import Answer, count_documents, find, find_one
+from ._asyncio_sessions import AsyncCursor, AsyncSession
+from ._audit import Audit, Report, audit
 from ._errors import (
     BsonfindError,
     CancelledError,
@@ -29,7 +31,9 @@ from ._errors import (
 from ._faults import Fault
 from ._merge import Check, check_parts, count_parts, find_parts
 from ._parts import FileState, Part, plan
+from ._salvage import LeftOut, Salvaged, salvage
 from ._sessions import Cursor, Session
+from ._unpacking import UnpackError
 from ._values import ObjectId
 
 
@@ -44,6 +48,7 @@ __all__ = [
     "Answer",
     "AsyncCursor",
     "AsyncSession",
+    "Audit",
     "BsonfindError",
     "CancelledError",
     "Check",
@@ -53,14 +58,19 @@ __all__ = [
     "DumpError",
     "Fault",
     "FileState",
+    "LeftOut",
     "ObjectId",
     "OtherProcessError",
     "Part",
     "PartError",
     "ProgramError",
+    "Report",
+    "Salvaged",
     "Session",
     "SessionEndedError",
     "TimedOutError",
+    "UnpackError",
+    "audit",
     "check_parts",
     "count_documents",
     "count_parts",
@@ -68,4 +78,5 @@ __all__ = [
     "find_one",
     "find_parts",
     "plan",
+    "salvage",
 ]

@@ -79,7 +79,7 @@ class Lines:
             while not reading.is_at_end and left != 0:
                 connection.do(reading.read_on(left))
                 texts = reading.held.documents
-                lines = [texts.give() for _ in range(len(texts.left))]
+                lines = [texts.give() for _ in range(texts.left)]
                 left = None if left is None else left - len(lines)
                 yield lines
             self.end, self.token = reading.is_at_end, connection.do(reading.token())

@@ -3,7 +3,6 @@
 from __future__ import annotations
 
 import json
-from collections import deque
 from typing import Any, Callable, Generic, Literal, TypeVar, Union
 
 from ._replies import documents_in
@@ -44,13 +43,13 @@ class Texts(Generic[T]):
     """The documents of a batch, by their texts. One that cannot be decoded is an error, and the next call gives the one after it."""
 
     def __init__(self, texts: list[bytes], document_of: Callable[[bytes], T]) -> None:
-        self.left, self.given = deque(texts), 0
-        self._document_of = document_of
+        self._texts, self._document_of = texts, document_of
+        self.given, self.left = 0, len(texts)
 
     def give(self) -> T:
         """The next document."""
         try:
-            document = self._document_of(self.left[0])
+            document = self._document_of(self._texts[self.given])
         except Exception:
             self._pass_one()
             raise
@@ -58,8 +57,8 @@ class Texts(Generic[T]):
         return document
 
     def _pass_one(self) -> None:
-        self.left.popleft()
         self.given += 1
+        self.left -= 1
 
 
 class Parsed:

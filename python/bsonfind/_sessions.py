@@ -2,7 +2,7 @@
 
 from __future__ import annotations
 
-import os
+from os import getpid
 from typing import Any, Callable, Iterator, Literal, TypeVar, overload
 
 from . import _steps
@@ -145,12 +145,12 @@ class Cursor(Iterator[T]):
 
     def __init__(self, connection: Connection, reading: Reading[T]) -> None:
         self._connection, self._reading = connection, reading
-        self._owner = os.getpid()
+        self._owner = getpid()
         self._is_closed = False
         connection.do(reading.start())
 
     def __next__(self) -> T:
-        if os.getpid() != self._owner:
+        if getpid() != self._owner:
             self._connection.check()
         documents = self._reading.held.documents
         while not documents.left and not self._reading.is_at_end and not self._is_closed:
