@@ -123,6 +123,6 @@ def _find_part(dump: Dump, part: Input, ids: Ids, program: str) -> Iterator[list
                 while not reading.is_at_end:
                     connection.do(reading.read_on())
                     batch = reading.held.documents
-                    yield [batch.give() for _ in range(len(batch.left))]
+                    yield [batch.give() for _ in range(batch.left)]
     except DumpError as error:
         raise moved(error, part) from None
