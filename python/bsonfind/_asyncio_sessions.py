@@ -203,8 +203,10 @@ class _Connection:
         self._process: asyncio.subprocess.Process | None = None
 
     async def open(self) -> None:
-        """Starts the program, and waits until the dump is read."""
+        """Starts the program, and waits until the dump is read; does nothing where it was started."""
         self.check()
+        if self._process:
+            return self.check_open()
         self._lock, self._stderr = asyncio.Lock(), self._files.enter_context(tempfile.TemporaryFile())
         try:
             await self._start()
@@ -220,9 +222,9 @@ class _Connection:
         """Starts the program."""
         pipe, how = asyncio.subprocess.PIPE, {"stderr": self._stderr, "start_new_session": True, "limit": _BUFFER}
         with Descriptor(self._dump) as descriptor:
-            words = (self._program, "serve", descriptor.word)
+            words, passed = (self._program, "serve", descriptor.word), descriptor.passed
             try:
-                self._process = await asyncio.create_subprocess_exec(*words, stdin=pipe, stdout=pipe, pass_fds=descriptor.passed, **how)
+                self._process = await asyncio.create_subprocess_exec(*words, stdin=pipe, stdout=pipe, pass_fds=passed, **how)
             except OSError as error:
                 raise ProgramError(f"cannot start {self._program}: {error.strerror}") from error
             if self._dump.pieces is not None:

@@ -193,8 +193,9 @@ def _packed_answer(request: Request, program: str, group: Group, part: Part) -> 
     """The documents of a part that are found, as a dump."""
     dump = Dump(pieces=plain_pieces(part))
     if request.is_long:
-        lines = Lines(dump, request, program, group=group)
-        with Run([program, "pack", "-"], (b"".join(line + b"\n" for line in batch) for batch in lines.batches()), group=group) as packed:
+        batches = Lines(dump, request, program, group=group).batches()
+        texts = (b"".join(line + b"\n" for line in batch) for batch in batches)
+        with Run([program, "pack", "-"], texts, group=group) as packed:
             data = packed.stdout.read()
             packed.finish()
             return data

@@ -3,6 +3,7 @@
 from __future__ import annotations
 
 import re
+import struct
 from typing import Iterator
 
 from ._errors import PartError
@@ -14,6 +15,7 @@ _WRAPPERS = re.compile(
     rb"\$(?:binary|code|date|dbPointer|maxKey|minKey|numberDecimal|numberDouble|numberInt|numberLong|oid|regularExpression|scope|symbol"
     rb"|timestamp|undefined|uuid)\0"
 )
+_length_at = struct.Struct("<i").unpack_from
 # The bytes of a value by its type, where they are always as many.
 _SIZES = {1: 8, 6: 0, 7: 12, 8: 1, 9: 8, 10: 0, 16: 4, 17: 8, 18: 8, 19: 16, 127: 0, 255: 0}
 
@@ -26,27 +28,25 @@ def plain_pieces(part: Part) -> Iterator[bytes]:
     at, held = part.offset, b""
     pieces = part.pieces()
     for piece in pieces:
-        held += piece
-        end, is_wrong = _end_of_documents(held)
-        documents, held = held[:end], held[end:]
-        if _WRAPPERS.search(documents):
-            _refuse_wrappers(part, at, documents)
-        at += end
-        yield documents
+        yield piece
+        data = held + piece if held else piece
+        end, is_wrong = _end_of_documents(data)
+        if _WRAPPERS.search(data, 0, end):
+            _refuse_wrappers(part, at, data[:end])
+        at, held = at + end, data[end:]
         if is_wrong:
             break
-    yield held
     yield from pieces
 
 
 def _end_of_documents(data: bytes) -> tuple[int, bool]:
     """Where the last document ends that is there to its end, and whether the length after it is wrong."""
-    at = 0
-    while at + 4 <= len(data):
-        length = _number(data, at)
+    at, last, end = 0, len(data) - 4, len(data)
+    while at <= last:
+        (length,) = _length_at(data, at)
         if not SHORTEST <= length <= LONGEST:
             return at, True
-        if at + length > len(data):
+        if at + length > end:
             break
         at += length
     return at, False

@@ -97,10 +97,12 @@ class AsyncSessions(Room, unittest.IsolatedAsyncioTestCase):
             self.assertEqual(await session.count_documents(), 500)
 
     async def test_closed_session(self) -> None:
-        session = AsyncSession(PEOPLE, PROGRAM)
+        session = AsyncSession(PEOPLE, self.counting())
         with self.assertRaisesRegex(SessionEndedError, "not opened"):
             await session.count_documents()
         await session.open()
+        await session.open()
+        self.assertEqual(len(self.starts()), 1)
         cursor = session.find(batch_size=2, decode="bytes")
         found = [await cursor.__anext__()]
         await session.close()
@@ -108,6 +110,8 @@ class AsyncSessions(Room, unittest.IsolatedAsyncioTestCase):
         self.assertEqual(found, PEOPLE_LINES[:2])
         with self.assertRaisesRegex(SessionEndedError, "closed"):
             await cursor.__anext__()
+        with self.assertRaisesRegex(SessionEndedError, "closed"):
+            await session.open()
 
     async def test_cancelled_task(self) -> None:
         """The program ends, and later calls say why."""
