@@ -11,6 +11,8 @@ from ._errors import DumpError
 File = Union[str, bytes, "os.PathLike[str]", "os.PathLike[bytes]"]
 
 _PIECE = 1 << 20
+# Names that mean another file in another process.
+_DESCRIPTORS = ("/dev/fd/", "/dev/stdin", "/proc/self/fd/")
 
 
 class Dump(NamedTuple):
@@ -22,10 +24,15 @@ class Dump(NamedTuple):
 
 
 def dump_of(path: File) -> Dump:
-    """The dump of a file. The program takes names in UTF-8 alone, so a file with another name is opened here."""
+    """The dump of a file.
+
+    The program takes names in UTF-8 alone, so a file with another name is opened here, and so is a descriptor of this process.
+    """
     name = os.fsdecode(path)
     if is_packed(name):
         return Dump(pieces=unpacked(name))
+    if name.startswith(_DESCRIPTORS):
+        return Dump(path=name)
     try:
         os.fsencode(name).decode("utf-8")
     except UnicodeDecodeError:

@@ -8,10 +8,10 @@ import struct
 from dataclasses import dataclass, field
 from typing import BinaryIO, Iterable, Iterator, NamedTuple
 
+from ._dumps import File, is_packed, opened, unpacked
 from ._errors import DumpError, PartError
 from ._faults import Fault
 from ._framing import LONGEST, SHORTEST, walk
-from ._dumps import File, is_packed, opened, unpacked
 
 # What a part has at most where nothing else is asked for; a run of `find` holds its part in memory.
 MOST = 1 << 30

@@ -9,10 +9,9 @@ import tempfile
 import threading
 from typing import IO, Any, Callable, Iterable, Sequence
 
+from ._dumps import Dump, opened
 from ._errors import BsonfindError, OtherProcessError, ProgramError, TimedOutError
 from ._messages import error_line, error_of
-from ._dumps import Dump, opened
-
 
 # As many bytes as a pipe of Linux holds.
 _BUFFER = 1 << 16

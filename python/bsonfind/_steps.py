@@ -69,10 +69,15 @@ def use_of(use: Use, hint: Hint | None) -> Use:
         raise TypeError("use and hint say the same: give one of them")
     if isinstance(hint, str):
         return {"index": hint}
-    paths = list(hint) if isinstance(hint, Mapping) else [path for path, _ in hint]
-    if len(paths) != 1:
-        raise ValueError(f"an index is on one path, not on {len(paths)}")
-    return "scan" if paths == ["$natural"] else {"index": paths[0]}
+    pairs = list(hint.items() if isinstance(hint, Mapping) else hint)
+    if len(pairs) != 1:
+        raise ValueError(f"an index is on one path, not on {len(pairs)}")
+    ((path, way),) = pairs
+    if path != "$natural":
+        return {"index": path}
+    if way != 1:
+        raise ValueError("documents are read in the order of the dump, not backwards")
+    return "scan"
 
 
 def create_index(path: str, sparse: bool) -> Steps[dict[str, Any]]:

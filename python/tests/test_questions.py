@@ -121,6 +121,27 @@ class Pipes(Room):
             plan(path)
 
 
+    def test_descriptors(self) -> None:
+        """A pipe of this process, such as one that the shell makes by <(..)."""
+
+        def feed(pipe: int) -> None:
+            with open(pipe, "wb") as file:
+                file.write(PEOPLE.read_bytes())
+
+        def by_session(name: str) -> int:
+            with Session(name, PROGRAM) as session:
+                return len(list(session.find()))
+
+        for ask in (lambda name: len(list(find(name, program=PROGRAM))), lambda name: count_documents(name, program=PROGRAM), by_session):
+            for name in ("/dev/fd/{}", "/proc/self/fd/{}"):
+                read, write = os.pipe()
+                threading.Thread(target=feed, args=[write], daemon=True).start()
+                try:
+                    self.assertEqual(ask(name.format(read)), 500)
+                finally:
+                    os.close(read)
+
+
 class Loader(Room):
     def test_lines_of_the_loader(self) -> None:
         """A line that stands before the program's own on standard error changes nothing."""
@@ -270,8 +291,9 @@ class Pymongo(Room):
         with self.assertRaises(CommandError) as raised:
             self.session.find(hint="name")
         self.assertEqual(raised.exception.text, "no such index")
-        with self.assertRaises(ValueError):
-            self.session.find(hint=[("a", 1), ("b", 1)])
+        for hint in ([("a", 1), ("b", 1)], [], {"$natural": -1}):
+            with self.assertRaises(ValueError):
+                self.session.find(hint=hint)
         with self.assertRaises(TypeError):
             self.session.find(hint="age", use="scan")
 
