@@ -9,7 +9,7 @@ from typing import IO, Any, Callable, Iterator, Literal, NamedTuple, TypeVar, ov
 from . import _steps
 from ._connections import Connection
 from ._decoding import Decode, Dicts, Texts, decoder
-from ._dumps import Dump, File, dump_of, file_word  # noqa: F401 - other modules take file_word from here
+from ._dumps import Dump, File, dump_of
 from ._errors import CancelledError, CursorStateError, ProgramError
 from ._processes import Group, Run, check_owner
 from ._requests import Filter, Request, Sort, whole

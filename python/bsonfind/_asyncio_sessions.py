@@ -333,7 +333,9 @@ class _Connection:
         self._ended = self._ended or reason
         self._kill()
         if self._process:
-            await asyncio.shield(self._process.wait())
             assert self._process.stdin
             self._process.stdin.close()
+            with contextlib.suppress(BrokenPipeError, ConnectionResetError):
+                await self._process.stdin.wait_closed()  # The program may have ended before all was written.
+            await self._process.wait()
         self._files.close()

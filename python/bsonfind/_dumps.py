@@ -37,13 +37,8 @@ def dump_of(path: File) -> Dump:
         os.fsencode(name).decode("utf-8")
     except UnicodeDecodeError:
         return Dump(path=name)
-    return Dump(file_word(name))
-
-
-def file_word(path: File) -> str:
-    """The word of the command line for a file, also for one whose name begins with a hyphen."""
-    name = os.fsdecode(path)
-    return os.path.join(os.curdir, name) if name.startswith("-") else name
+    # A name that begins with a hyphen would be an option.
+    return Dump(os.path.join(os.curdir, name) if name.startswith("-") else name)
 
 
 def is_packed(path: File) -> bool:

@@ -150,7 +150,7 @@ class Archives(unittest.TestCase):
         package = f"PACKAGE={stage}/usr/{MODULES}/bsonfind"
         ran = run(["make", "-s", "install", f"DESTDIR={stage}", "PREFIX=/usr", package], self.first)
         self.assertEqual(ran.returncode, 0, ran.stderr)
-        return sorted(str(it.relative_to(stage / "usr")) for it in stage.rglob("*") if it.is_file())
+        return [str(it) for it in sorted(it.relative_to(stage / "usr") for it in stage.rglob("*") if it.is_file())]
 
     def want_plain(self, entries: list[tarfile.TarInfo]) -> None:
         """Check that all entries have fixed owners, modes and times, and that their names are sorted."""
@@ -158,7 +158,7 @@ class Archives(unittest.TestCase):
             self.assertEqual((it.uid, it.gid, it.uname, it.gname, it.mtime), (0, 0, "root", "root", TIME), it.name)
             runs = it.isdir() or it.name.endswith("/bin/bsonfind")
             self.assertEqual(it.mode, 0o755 if runs else 0o644, it.name)
-        names = [it.name for it in entries]
+        names = [Path(it.name) for it in entries]
         self.assertEqual(names, sorted(names))
 
     def test_files_of_the_tar(self) -> None:
