@@ -2,11 +2,13 @@
 
 import json
 import os
+import random
+import signal
 import subprocess
 import sys
 import threading
 import time
-from typing import Callable
+from typing import Callable, List
 from unittest import mock
 
 from bsonfind import (
@@ -195,6 +197,50 @@ class Interrupts(Room):
             list(answer)
         with self.assertRaises(CursorStateError):
             next(answer)
+
+    def test_interrupts_at_any_time(self) -> None:
+        """Whenever they come, no document is lost and none is invented: each comes in its turn, the one that was decoded perhaps twice."""
+        self.addCleanup(signal.signal, signal.SIGALRM, signal.signal(signal.SIGALRM, self.interrupted))
+        self.addCleanup(signal.setitimer, signal.ITIMER_REAL, 0)
+        chosen = random.Random(3)
+        for _ in range(25):
+            self.seen: List[bytes] = []
+            self.read_all(chosen)
+            in_turn = [line for number, line in enumerate(self.seen) if not number or line != self.seen[number - 1]]
+            self.assertEqual(in_turn, PEOPLE_LINES)
+
+    is_armed = False
+
+    def interrupted(self, *_: object) -> None:
+        """What a signal does."""
+        if self.is_armed:
+            raise KeyboardInterrupt
+
+    def read_all(self, chosen: random.Random) -> None:
+        """Reads all documents, with interrupts, and with another cursor or session where one is at its end."""
+        session = Session(PEOPLE, PROGRAM)
+        cursor = session.find(batch_size=3, decode=lambda line: self.seen.append(line))
+        is_read, failed = False, None
+        while not is_read:
+            signal.setitimer(signal.ITIMER_REAL, chosen.random() * 0.004)
+            try:
+                self.is_armed = True
+                try:
+                    for _ in cursor:
+                        pass
+                    is_read = True
+                except (CursorStateError, SessionEndedError) as error:
+                    failed = error
+                self.is_armed = False
+            except KeyboardInterrupt:
+                self.is_armed = False
+            if failed:
+                if isinstance(failed, SessionEndedError):
+                    session.close()
+                    session = Session(PEOPLE, PROGRAM)
+                size, failed = chosen.choice((1, 40, 500)), None
+                cursor = session.find(after=cursor.token(), batch_size=size, decode=lambda line: self.seen.append(line))
+        session.close()
 
     def test_control_c_of_a_terminal(self) -> None:
         """It reaches all processes of its group, and not the session's program."""
