@@ -29,8 +29,8 @@ _BEGINNING = re.compile(rb"[\x01-\x13](?<=[\x00\x01].)", re.DOTALL)
 # The same after the last byte of a document.
 _NEXT_BEGINNING = re.compile(rb"[\x01-\x13](?<=\x00...[\x00\x01].)", re.DOTALL)
 _BEFORE = 4
-# The type and the name of a field whose value is a document or an array.
-_FIELD = re.compile(rb"[\x03\x04][\x20-\xff]*\x00\Z")
+# The type and the name of a field whose value may look like a document: a document, an array, or the number of the bytes left.
+_FIELD = re.compile(rb"[\x03\x04\x10][\x20-\xff]*\x00\Z")
 _LONGEST_NAME = 256
 # The types of first elements, and the last byte of a document without any.
 _TYPES = frozenset([*range(0x14), 0x7F, 0xFF])
@@ -201,7 +201,7 @@ class _Salvage:
                     if at != batch.ends[-1]:
                         self._forget_ahead()
                 else:
-                    found = self._next_beginning(at + 1)
+                    found = self._next_beginning(at)
                     at = self._leave_out(LeftOut(at, self._window.end if found is None else found, found is not None))
                     self._size = _FIRST
                 self._window.drop(at)
@@ -254,12 +254,13 @@ class _Salvage:
         self._say(str(left_out))
         return left_out.end
 
-    def _next_beginning(self, at: int) -> int | None:
-        """The first place from there on where a document seems to begin, None where there is none. What is before it is dropped."""
+    def _next_beginning(self, start: int) -> int | None:
+        """Where a document begins after a wrong length, None where none seems to. What is before that is dropped."""
+        at = start + 1
         while self._window.has(at + SHORTEST):
             self._window.has(at + _PIECE)
             piece = self._window.bytes(at, min(at + _PIECE, self._window.end))
-            for beginning in self._beginnings(at + found.start() - _BEFORE for found in _BEGINNING.finditer(piece, _BEFORE)):
+            for beginning in self._undamaged(self._chain(at + it, start) for it in _places(_BEGINNING, piece, 0)):
                 return beginning
             # A beginning may go over the end of the piece.
             at += len(piece) - _BEFORE
@@ -272,9 +273,11 @@ class _Salvage:
         It is wrong where documents stand inside from which others lead on to the end or past it, or where none begins at the end.
         Else they are a part of the document, such as a dump in its binary data.
         """
-        pattern = _NEXT_BEGINNING if kind in NO_DAMAGE else _BEGINNING
-        found = pattern.finditer(self._window.bytes(start, end), SHORTEST + _BEFORE)
-        for beginning in self._beginnings(start + it.start() - _BEFORE for it in found):
+        is_whole = kind in NO_DAMAGE
+        pattern = _NEXT_BEGINNING if is_whole else _BEGINNING
+        self._window.has(end + _BEFORE)
+        data = self._window.bytes(start, min(end + _BEFORE, self._window.end))
+        for beginning in self._undamaged(self._chain(start + it, start, not is_whole) for it in _places(pattern, data, SHORTEST)):
             if self._reaches(beginning, end) or not self._is_end_or_beginning(end):
                 return beginning
             self._say(f"bad document at byte {start}: documents stand inside it from byte {beginning} on, and are copied with it")
@@ -291,46 +294,62 @@ class _Salvage:
         return True
 
     def _is_end_or_beginning(self, at: int) -> bool:
-        return not self._window.has(at + 1) or any(True for _ in self._beginnings([at]))
+        return not self._window.has(at + 1) or any(True for _ in self._undamaged([self._chain(at)]))
 
-    def _beginnings(self, places: Iterable[int]) -> Iterator[int]:
-        """Those of the places where several documents follow, or fewer that end with the stream, in which `check` finds no damage."""
-        chains: list[_Chain] = []
-        most = 1
-        for place in places:
-            chain = self._chain(place)
-            if chain:
-                chains.append(chain)
-                if len(chains) == most or sum(len(it.data) for it in chains) > _MOST:
-                    yield from self._undamaged(chains)
-                    chains, most = [], min(2 * most, _MOST_CHAINS)
-        yield from self._undamaged(chains)
+    def _chain(self, at: int, start: int | None = None, may_end: bool = True) -> _Chain | None:
+        """The documents that seem to follow, by their lengths, the types of their first elements and their last bytes.
 
-    def _chain(self, at: int) -> _Chain | None:
-        """The documents that seem to follow, by their lengths, the types of their first elements and their last bytes."""
+        Where the bytes before them look like a field, they may be its value, inside the document with a fault that begins at
+        `start`. Then this one, as if it ended before them, must have no fault; it `may_end` there.
+        """
         end, documents = at, 0
         while documents < IN_A_ROW and (documents == 0 or self._window.has(end + 1)):
             after = self._window.document_end(end)
             if after is None or self._window.byte(after - 1) or self._window.byte(end + 4) not in _TYPES:
                 return None
             end, documents = after, documents + 1
-        if documents < IN_A_ROW and _FIELD.search(self._window.bytes_before(at, _LONGEST_NAME)):
-            return None  # It is the value of a field, and the stream was cut after it.
-        return _Chain(at, documents, self._window.bytes(at, end))
+        before = b""
+        if start is not None and _FIELD.search(self._window.bytes_before(at, _LONGEST_NAME)):
+            if not may_end or not SHORTEST <= at - start <= LONGEST or start < self._window.start:
+                return None
+            before = (at - start).to_bytes(4, "little") + self._window.bytes(start + 4, at)
+        return _Chain(at, before, documents, self._window.bytes(at, end))
 
-    def _undamaged(self, chains: list[_Chain]) -> list[int]:
-        """The places of those chains in which `check` finds no damage; all are looked at by one run."""
+    def _undamaged(self, chains: Iterable[_Chain | None]) -> Iterator[int]:
+        """The places of those chains in which `check` finds no damage. One run looks at one chain at first, then at more."""
+        waiting: list[_Chain] = []
+        most = 1
+        for chain in filter(None, chains):
+            waiting.append(chain)
+            if len(waiting) == most or sum(len(it.data) for it in waiting) > _MOST:
+                yield from self._undamaged_of(waiting)
+                waiting, most = [], min(2 * most, _MOST_CHAINS)
+        yield from self._undamaged_of(waiting)
+
+    def _undamaged_of(self, chains: list[_Chain]) -> list[int]:
+        """The places of those chains in which one run finds no damage."""
         if not chains:
             return []
-        run = Run([self._program, "check", "-"], [it.data for it in chains])
-        faults = _faults(run, sum(it.documents for it in chains))
-        damaged = {fault.document for fault in faults if fault.kind not in NO_DAMAGE}
+        run = Run([self._program, "check", "-"], [data for it in chains for data in (it.before, it.data)])
+        faults = {it.document: it.kind for it in _faults(run, sum(bool(it.before) + it.documents for it in chains))}
         places, first = [], 0
         for chain in chains:
-            if damaged.isdisjoint(range(first, first + chain.documents)):
+            documents = range(first + bool(chain.before), first + bool(chain.before) + chain.documents)
+            is_ended = not chain.before or first not in faults
+            if is_ended and all(faults.get(it, NO_DAMAGE[0]) in NO_DAMAGE for it in documents):
                 places.append(chain.place)
-            first += chain.documents
+            first = documents.stop
         return places
+
+
+def _places(pattern: re.Pattern[bytes], data: bytes, first: int) -> Iterator[int]:
+    """Where a document may begin in some bytes, by its length, and by its last byte where this is among them."""
+    size = len(data)
+    for found in pattern.finditer(data, first + _BEFORE):
+        at = found.start() - _BEFORE
+        (length,) = _length_at(data, at)
+        if SHORTEST <= length <= LONGEST and (at + length > size or not data[at + length - 1]):
+            yield at
 
 
 def _faults(run: Run, documents: int) -> list[Fault]:
@@ -353,8 +372,9 @@ class _Batch(NamedTuple):
 
 
 class _Chain(NamedTuple):
-    """Documents that seem to follow one another from a place on."""
+    """Documents that seem to follow one another from a place on, and perhaps one that must have no fault before them."""
 
     place: int
+    before: bytes
     documents: int
     data: bytes

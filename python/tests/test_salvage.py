@@ -169,8 +169,8 @@ class Salvages(Room):
         """It is plausible: it ends at a document, or inside one, or at the end. Those inside are good, and that is reported."""
         data = SHOP.read_bytes()
         ends = ends_of(data)
-        for first, over in ((0, 7), (3, 20), (150, 5), (396, 3), (390, 9)):
-            for more in (0, 1, 100):
+        for first, over in ((0, 7), (3, 20), (150, 5), (396, 3), (390, 9), (200, 0)):
+            for more in (-1, -4, -5) if over == 0 else (0, 1, 100):
                 length = ends[first + over + 1] - ends[first] - more
                 damaged = data[: ends[first]] + length.to_bytes(4, "little") + data[ends[first] + 4 :]
                 told, good, bad = self.salvage(damaged, 1)
@@ -178,6 +178,29 @@ class Salvages(Room):
                 passed = "wrong length at byte {} that passes over other documents: {} bytes left out".format(start, end - start)
                 line = f"{self.damaged}: {passed}; that a document begins at byte {end} is a guess\n"
                 self.assertEqual((told, good, bad), (line + self.counted(399, 0, end - start), data[:start] + data[end:], b""))
+
+    def test_numbers_that_look_like_lengths(self) -> None:
+        """The number of the bytes that are left stands in a document: with the fields after it, it is like a sound document."""
+        rest = b"\x02name\0\x06\0\0\0hello\0"
+        inside = (4 + len(rest) + 1).to_bytes(4, "little") + rest
+        for first in (b"\x01d\0" + bytes(8), b"\x08a\0\x09", b"\x02s\0\x03\0\0\0\xff\xff\0"):
+            body = first + b"\x10left\0" + inside
+            bad = (4 + len(body) + 1).to_bytes(4, "little") + body + b"\0"
+            good = PEOPLE.read_bytes()
+            self.assertEqual(self.salvaged(bad * 3 + good + bad + good), Salvaged(1000, 4, [], None))
+            self.assertEqual((self.good.read_bytes(), self.bad.read_bytes()), (good * 2, bad * 4))
+            wrong = b"\xff\xff\xff\x7f" + bad[4:]
+            self.assertEqual(self.salvaged(good + wrong + good), Salvaged(1000, 0, [LeftOut(len(good), len(good) + len(bad), True)], None))
+
+    def test_length_that_is_wrong_before_a_document_that_seems_to_be_a_number(self) -> None:
+        """The last bytes of the document with the wrong length are like the type and the name of a field."""
+        people = PEOPLE.read_bytes()
+        ends = ends_of(people)
+        body = b"\x07_id\0abcdefg\x10wxyz"
+        first = (4 + len(body) + 1).to_bytes(4, "little") + body + b"\0"
+        for length in (ends[4] + 20, 1 << 30):
+            done = self.salvaged(length.to_bytes(4, "little") + first[4:] + people)
+            self.assertEqual(done, Salvaged(500, 0, [LeftOut(0, len(first), True, length < 1 << 30)], None))
 
     def test_many_lengths_that_pass_over_documents(self) -> None:
         """Each hundredth document has a length of some 4,000 bytes more; no other document is lost."""
