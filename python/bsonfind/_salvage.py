@@ -29,9 +29,10 @@ _BEGINNING = re.compile(rb"[\x01-\x13](?<=[\x00\x01].)", re.DOTALL)
 # The same after the last byte of a document.
 _NEXT_BEGINNING = re.compile(rb"[\x01-\x13](?<=\x00...[\x00\x01].)", re.DOTALL)
 _BEFORE = 4
-# The type and the name of a field whose value may look like a document: a document, an array, or the number of the bytes left.
-_FIELD = re.compile(rb"[\x03\x04\x10][\x20-\xff]*\x00\Z")
-_LONGEST_NAME = 256
+# The types of fields whose value may look like a document: a document, an array, and an int32, if it is the number of bytes left.
+_LIKE_DOCUMENTS = (b"\x03", b"\x04", b"\x10")
+# The bytes of a name that is looked for before a value, and how many.
+_OF_NAMES, _LONGEST_NAME = bytes(range(0x20, 0x100)), 256
 # The types of first elements, and the last byte of a document without any.
 _TYPES = frozenset([*range(0x14), 0x7F, 0xFF])
 # So many chains of documents are looked at by one run at most.
@@ -277,7 +278,7 @@ class _Salvage:
         pattern = _NEXT_BEGINNING if is_whole else _BEGINNING
         self._window.has(end + _BEFORE)
         data = self._window.bytes(start, min(end + _BEFORE, self._window.end))
-        for beginning in self._undamaged(self._chain(start + it, start, not is_whole) for it in _places(pattern, data, SHORTEST)):
+        for beginning in self._undamaged(self._chain(start + it, start) for it in _places(pattern, data, SHORTEST, not is_whole)):
             if self._reaches(beginning, end) or not self._is_end_or_beginning(end):
                 return beginning
             self._say(f"bad document at byte {start}: documents stand inside it from byte {beginning} on, and are copied with it")
@@ -296,11 +297,11 @@ class _Salvage:
     def _is_end_or_beginning(self, at: int) -> bool:
         return not self._window.has(at + 1) or any(True for _ in self._undamaged([self._chain(at)]))
 
-    def _chain(self, at: int, start: int | None = None, may_end: bool = True) -> _Chain | None:
+    def _chain(self, at: int, start: int | None = None) -> _Chain | None:
         """The documents that seem to follow, by their lengths, the types of their first elements and their last bytes.
 
         Where the bytes before them look like a field, they may be its value, inside the document with a fault that begins at
-        `start`. Then this one, as if it ended before them, must have no fault; it `may_end` there.
+        `start`. Then this one, as if it ended before them, must have no fault.
         """
         end, documents = at, 0
         while documents < IN_A_ROW and (documents == 0 or self._window.has(end + 1)):
@@ -309,8 +310,8 @@ class _Salvage:
                 return None
             end, documents = after, documents + 1
         before = b""
-        if start is not None and _FIELD.search(self._window.bytes_before(at, _LONGEST_NAME)):
-            if not may_end or not SHORTEST <= at - start <= LONGEST or start < self._window.start:
+        if start is not None and _is_field(self._window.bytes_before(at, _LONGEST_NAME)):
+            if not SHORTEST <= at - start <= LONGEST or start < self._window.start:
                 return None
             before = (at - start).to_bytes(4, "little") + self._window.bytes(start + 4, at)
         return _Chain(at, before, documents, self._window.bytes(at, end))
@@ -342,14 +343,20 @@ class _Salvage:
         return places
 
 
-def _places(pattern: re.Pattern[bytes], data: bytes, first: int) -> Iterator[int]:
+def _is_field(before: bytes) -> bool:
+    """Whether bytes end with the type and the name of a field whose value may look like a document."""
+    return before.endswith(b"\0") and before[:-1].rstrip(_OF_NAMES).endswith(_LIKE_DOCUMENTS)
+
+
+def _places(pattern: re.Pattern[bytes], data: bytes, first: int, with_values: bool = True) -> Iterator[int]:
     """Where a document may begin in some bytes, by its length, and by its last byte where this is among them."""
     size = len(data)
     for found in pattern.finditer(data, first + _BEFORE):
         at = found.start() - _BEFORE
         (length,) = _length_at(data, at)
         if SHORTEST <= length <= LONGEST and (at + length > size or not data[at + length - 1]):
-            yield at
+            if with_values or not _is_field(data[max(at - _LONGEST_NAME, 0) : at]):
+                yield at
 
 
 def _faults(run: Run, documents: int) -> list[Fault]:
