@@ -5,8 +5,10 @@ from __future__ import annotations
 import argparse
 import io
 import os
+import signal
 import sys
-from typing import Sequence
+import threading
+from typing import NoReturn, Sequence
 
 from ._audit import MOST_FAULTS, Audit, audit_dumps
 from ._backups import Dump, dumps_of, text_lines
@@ -143,10 +145,9 @@ def _dumps_in(words: argparse.Namespace) -> list[Dump]:
             raise Refused(f"{words.list}: line {number} has a zero byte; each line is a name")
         if name:
             names.append(name)
-    dumps = dumps_of(names)
-    if not dumps:
+    if not names:
         raise Refused("no dump is named")
-    return dumps
+    return dumps_of(names)
 
 
 def _print_audit(done: Audit, console: Console) -> None:
@@ -257,7 +258,12 @@ def main(words: Sequence[str] | None = None) -> int:
 
 
 def _prepare_streams() -> None:
-    """Opens what is closed of the standard streams, so that no dump is opened in its place, and has names printed as they are."""
+    """Opens what is closed of the standard streams, so that no dump is opened in its place, and has names printed as they are.
+
+    A signal that ends a command also ends its runs, and leaves no file behind.
+    """
+    if threading.current_thread() is threading.main_thread():
+        signal.signal(signal.SIGTERM, _terminate)
     for number in range(3):
         try:
             os.fstat(number)
@@ -269,6 +275,10 @@ def _prepare_streams() -> None:
         sys.stderr.reconfigure(encoding="utf-8", errors="surrogateescape")
     if sys.stdout is None:
         raise CannotWrite("cannot write: standard output is closed")
+
+
+def _terminate(number: int, _: object) -> NoReturn:
+    sys.exit(128 + number)
 
 
 def _flush() -> None:

@@ -11,6 +11,7 @@ from typing import Any, Callable, Iterable, NamedTuple
 
 from ._backups import Dump, Log, dumps_of, fault_of_metadata, is_oplog, namespace_of, read_log, text_lines
 from ._console import Console, Progress
+from ._dumps import File
 from ._errors import BsonfindError
 from ._faults import NO_DAMAGE, Fault, faults_of, finish_check
 from ._processes import Group, processors
@@ -146,18 +147,19 @@ class Audit(NamedTuple):
 
 
 def audit(
-    paths: Iterable[str | os.PathLike[str]],
+    paths: File | Iterable[File],
     *,
     expect: str | os.PathLike[str] | None = None,
     jobs: int | None = None,
     max_faults: int = MOST_FAULTS,
     program: str = "bsonfind",
 ) -> Audit:
-    """Checks all dumps of these names, and below the directories among them, several at once; `expect` is a log of mongodump.
+    """Checks the dumps of one or more names, and those below directories, several at once; `expect` is a log of mongodump.
 
     Nothing is passed over in silence: what cannot be read has a report with its error.
     """
-    return audit_dumps(dumps_of(map(os.fspath, paths)), expect, jobs, max_faults, program)
+    names = [paths] if isinstance(paths, (str, bytes, os.PathLike)) else paths
+    return audit_dumps(dumps_of(map(os.fsdecode, names)), expect, jobs, max_faults, program)
 
 
 def audit_dumps(

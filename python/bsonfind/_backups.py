@@ -14,6 +14,7 @@ from ._errors import DumpError
 from ._unpacking import unpacked
 
 _ENDING = re.compile(r"\.bson(\.gz)?$")
+_METADATA = re.compile(r"\.metadata\.json(\.gz)?$")
 _DUMPED = re.compile(r"done dumping (\S.*) \((\d+) documents?\)")
 _OPLOG_DUMPED = re.compile(r"dumped (\d+) oplog entr(?:y|ies)")
 # The names of dumps that mongodump writes without a file of metadata beside them.
@@ -51,7 +52,7 @@ def dumps_of(names: Iterable[str]) -> list[Dump]:
     dumps: list[Dump] = []
     known: dict[tuple[int, int], Dump] = {}
     for name in names:
-        for dump in dumps_below(name) if os.path.isdir(name) else [Dump(name)]:
+        for dump in _below_or_none(name) if os.path.isdir(name) else [Dump(name)]:
             first = dump if dump.error else _first_of(dump, known)
             if first is dump:
                 dumps.append(dump)
@@ -60,6 +61,16 @@ def dumps_of(names: Iterable[str]) -> list[Dump]:
                 if os.path.abspath(dump.name) not in map(os.path.abspath, first.names):
                     first.others.append(dump.name)
     return dumps
+
+
+def _below_or_none(directory: str) -> Iterator[Dump]:
+    """The dumps below a directory that was named; one without any is an error, such as where a disk is missing."""
+    is_empty = True
+    for dump in dumps_below(directory):
+        is_empty = False
+        yield dump
+    if is_empty:
+        yield Dump(directory, error="no dump is below this directory")
 
 
 def _first_of(dump: Dump, known: dict[tuple[int, int], Dump]) -> Dump:
@@ -75,13 +86,14 @@ def _first_of(dump: Dump, known: dict[tuple[int, int], Dump]) -> Dump:
 
 
 def dumps_below(directory: str) -> Iterator[Dump]:
-    """The dumps below a directory, in the order of their names, and what cannot be seen there."""
+    """The dumps below a directory, in the order of their names, and what cannot be seen there or is missing."""
     try:
-        with os.scandir(directory) as found:
-            entries = sorted(found, key=lambda entry: entry.name)
+        with os.scandir(directory) as listed:
+            entries = sorted(listed, key=lambda entry: entry.name)
     except OSError as error:
         yield Dump(directory, error=f"cannot read the directory: {error.strerror}")
         return
+    stems = {_ENDING.sub("", entry.name) for entry in entries if _ENDING.search(entry.name)}
     for entry in entries:
         try:
             if entry.is_dir(follow_symlinks=False):
@@ -93,6 +105,9 @@ def dumps_below(directory: str) -> Iterator[Dump]:
             elif _ENDING.search(entry.name):
                 is_file = entry.is_file()
                 yield Dump(entry.path, is_below=True, error=None if is_file else "not a regular file")
+            elif (found := _METADATA.search(entry.name)) and entry.name[: found.start()] not in stems and not _is_view(entry.path):
+                stem = entry.path[: -len(found.group())]
+                yield Dump(f"{stem}.bson", error=f"missing: only {entry.name} is there")
         except OSError as error:
             yield Dump(entry.path, error=error.strerror)
 
@@ -153,6 +168,13 @@ def fault_of_metadata(name: str, is_below: bool) -> str | None:
     return None if metadata is not None or is_bare else f"no {os.path.basename(_metadata_names(name)[0])} beside it"
 
 
+def _is_view(metadata: str) -> bool:
+    """Whether metadata is that of a view or a time series, of which mongodump writes no dump of this name."""
+    found, _ = _read(metadata)
+    options = (found or {}).get("options")
+    return (found or {}).get("type") in ("view", "timeseries") or isinstance(options, dict) and bool({"viewOn", "timeseries"} & {*options})
+
+
 def _metadata_names(name: str) -> list[str]:
     stem = _ENDING.sub("", name)
     return [f"{stem}.metadata.json", f"{stem}.metadata.json.gz"]
@@ -166,8 +188,11 @@ def _metadata_beside(name: str) -> str | None:
 def _read_metadata(name: str) -> tuple[dict[str, Any] | None, str | None]:
     """The metadata of a dump, or what is wrong with it; nothing where there is none."""
     path = _metadata_beside(name)
-    if path is None:
-        return None, None
+    return (None, None) if path is None else _read(path)
+
+
+def _read(path: str) -> tuple[dict[str, Any] | None, str | None]:
+    """The metadata of a file, or what is wrong with it."""
     base = os.path.basename(path)
     try:
         with open(path, "rb") as file:

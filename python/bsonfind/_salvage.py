@@ -9,6 +9,7 @@ from collections import deque
 from contextlib import ExitStack, nullcontext
 from typing import Callable, ContextManager, Iterable, Iterator, NamedTuple
 
+from ._dumps import File
 from ._errors import ProgramError
 from ._faults import NO_DAMAGE, Fault, faults_of, finish_check
 from ._framing import LONGEST, SHORTEST
@@ -79,9 +80,9 @@ class Salvaged(NamedTuple):
 
 
 def salvage(
-    path: str | os.PathLike[str],
-    good: str | os.PathLike[str],
-    bad: str | os.PathLike[str],
+    path: File,
+    good: File,
+    bad: File,
     *,
     program: str = "bsonfind",
     say: Callable[[str], None] | None = None,
@@ -91,7 +92,7 @@ def salvage(
 
     The files get their names at the end, when all was copied. Before that, whatever goes wrong, nothing that was there is touched.
     """
-    names = [os.fspath(name) for name in (good, bad)]
+    names = [os.fsdecode(name) for name in (good, bad)]
     with ExitStack() as files:
         source = files.enter_context(Source(path))
         refuse_names(source.name, *names)

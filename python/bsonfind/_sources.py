@@ -7,6 +7,7 @@ import stat
 from typing import Any, BinaryIO, Iterator, NamedTuple, Sequence
 
 from . import _framing
+from ._dumps import File
 from ._errors import DumpError
 from ._faults import finish_check
 from ._processes import Run
@@ -31,8 +32,8 @@ class Input(NamedTuple):
 class Source:
     """A dump that is open for one reading. Its size is that of the file as it is on the disk, None for a pipe or a device."""
 
-    def __init__(self, name: str | os.PathLike[str]) -> None:
-        self.name = os.fspath(name)
+    def __init__(self, path: File) -> None:
+        self.name = os.fsdecode(path)
         self._file: BinaryIO = open(self.name, "rb", buffering=0)
         status = os.fstat(self._file.fileno())
         self.size = status.st_size if stat.S_ISREG(status.st_mode) else None

@@ -152,7 +152,7 @@ class Audits(Room):
         ):
             self.assertIn(f"{self.backup}/{name}: {problem}", lines)
         self.assertEqual(lines[-4:], self.table(("files", 8), ("documents", 900), ("faulty", 0), ("not read", 6)))
-        self.assertEqual(self.audit(f"{club}/linked/", status=2, told="bsonfind: no dump is named\n"), [])
+        self.assertIn(f"{club}/linked/: no dump is below this directory", self.audit(f"{club}/linked/", status=1))
 
     def test_directory_that_cannot_be_read(self) -> None:
         """The system lets root read every directory, so here the call fails."""
@@ -279,6 +279,27 @@ class Audits(Room):
         lines = self.audit(self.backup, "--expect", str(log), status=1)
         self.assertIn(f"{self.backup}/club/{long}.bson: 500 documents in place of 501", lines)
 
+    def test_metadata_without_a_dump(self) -> None:
+        """The dump is missing, but for a view and a time series, which have none of their name."""
+        for name, metadata in (
+            ("view", '{"type":"view","options":{"viewOn":"people","pipeline":[]}}'),
+            ("old_view", '{"options":{"viewOn":"people","pipeline":[]},"indexes":[]}'),
+            ("series", '{"type":"timeseries","options":{"timeseries":{"timeField":"t"}}}'),
+        ):
+            self.file(metadata.encode(), f"backup/club/{name}.metadata.json")
+        self.audit(self.backup, status=0)
+        self.file(b'{"type":"collection"}', "backup/club/lost.metadata.json")
+        self.file(gzip.compress(b"{}"), "backup/shop/gone.metadata.json.gz")
+        lines = self.audit(self.backup, status=1)
+        self.assertIn(f"{self.backup}/club/lost.bson: missing: only lost.metadata.json is there", lines)
+        self.assertIn(f"{self.backup}/shop/gone.bson: missing: only gone.metadata.json.gz is there", lines)
+
+    def test_function(self) -> None:
+        """It takes one name, or several; the reports are in their order."""
+        for paths in (self.backup, os.fsencode(self.backup), self.room / "backup", [self.people, str(self.orders)]):
+            done = audit(paths, program=PROGRAM)
+            self.assertEqual((done.is_good, [it.documents for it in done.reports]), (True, [500, 400]))
+
     def test_users_of_one_database(self) -> None:
         """mongodump --db=shop --dumpDbUsersAndRoles puts them beside the collections."""
         self.file(b"", "backup/shop/$admin.system.users.bson")
@@ -340,8 +361,12 @@ class Audits(Room):
     def test_no_files(self) -> None:
         self.audit(str(self.room / "backup/shop"), "--list", "/dev/null", status=0)
         self.assertRaises(BsonfindError, audit, [self.orders], program="no-such-program")
-        (self.room / "empty").mkdir()
-        self.audit(str(self.room / "empty"), status=2, told="bsonfind: no dump is named\n")
+        empty = self.room / "empty"
+        empty.mkdir()
+        for words in ([str(empty)], [str(empty), self.backup]):
+            lines = self.audit(*words, status=1)
+            self.assertIn(f"{empty}: no dump is below this directory", lines)
+        self.audit(status=2, told="bsonfind: no dump is named\n")
         self.audit(self.backup, "--jobs", "0", status=2, told="bsonfind: --jobs is 1 or more\n")
         self.audit("--list", "/missing", status=2, told="bsonfind: /missing: No such file or directory\n")
         self.assertEqual(run_package("audit", "--unknown").returncode, 2)

@@ -114,6 +114,10 @@ class Compares(Room):
         told = f"bsonfind: {two}/lost: a link to nothing that can be seen\n{double}"
         found = self.compared(one, two, status=2, told=told)
         self.assertEqual(len(found), 91 + 6)  # The others are compared nevertheless.
+        for name in ("empty", "other"):
+            (self.room / name).mkdir()
+        empty, other = str(self.room / "empty"), str(self.room / "other")
+        self.compared(empty, other, status=2, told=f"bsonfind: no dump is below {empty} and {other}\n")
         run = run_package("--program", "no-such-program", "compare", one, two)
         self.assertEqual((run.returncode, run.stderr), (2, "bsonfind: cannot start no-such-program: No such file or directory\n"))
         half = self.file(gzip.compress(SHOP.read_bytes(), 0)[:50_000], "half.bson.gz")

@@ -11,7 +11,7 @@ from unittest import mock
 
 from bsonfind._salvage import LeftOut, Salvaged, salvage
 
-from .support import DOUBLE, PEOPLE, PROGRAM, SHOP, Room, environment, run_package
+from .support import DOUBLE, PEOPLE, PROGRAM, SHOP, Room, environment, run_package, wait_for
 
 
 def ends_of(data: bytes) -> List[int]:
@@ -354,6 +354,20 @@ class BadInput(Room):
             shown = terminal.read(4096)
         self.assertEqual(run.returncode, 2)
         self.assertIn(b"92.7 of 92.7 kB", shown)
+
+    def test_termination(self) -> None:
+        """The signal of kill ends the program too, and leaves the files as they were."""
+        path, good = self.file(PEOPLE.read_bytes()), self.file(b"good", "good.bson")
+        stuck = self.script('[ "$(head -c 4 | wc -c)" = 4 ] || exec "$PROGRAM" check /dev/null\necho $$ >>"$ROOM/pids"\nexec sleep 600')
+        words = ["--program", stuck, "salvage", str(path), "--good", str(good), "--bad", str(self.room / "bad.bson")]
+        python = subprocess.Popen([sys.executable, "-m", "bsonfind", *words], env=environment(), stderr=subprocess.PIPE, text=True)
+        pids = self.room / "pids"
+        wait_for(lambda: pids.exists() and bool(pids.read_text()))
+        python.terminate()
+        self.assertEqual((python.communicate()[1], python.returncode), ("", 143))
+        self.assertFalse(any(os.path.exists(f"/proc/{pid}") for pid in pids.read_text().split()))
+        self.assertEqual(sorted(os.listdir(self.room)), ["dump.bson", "good.bson", "pids", "program"])
+        self.assertEqual(good.read_bytes(), b"good")
 
     def test_interrupt(self) -> None:
         path = str(self.file(PEOPLE.read_bytes()))
