@@ -1,0 +1,18 @@
+-- The same bytes with types that are read: a double is an int64, a decimal128 an ObjectId whose name has four letters more.
+use Rattle.std.specs.Prelude.{◌≡◌, ℕ, ◌+◌, ◌-◌, List, [], ◌∷◌, ◌++◌, length, take, drop, is_some, ◌==◌, ◌&&◌, if◌then◌else◌, codes}
+use Rattle.bd_raw.specs.declared.raw_parts.ElementType.{ElementType}
+use Rattle.bd_raw.specs.declared.raw_parts.ElementType.TheVariants.{Kept, Double, Decimal128}
+use Rattle.bd_wide.specs.Rewritten.{first_zero}
+
+abbrev pub masked_element : ElementType → List ℕ → List ℕ → List ℕ
+masked_element Double head value = 18 ∷ (drop 1 head ++ value)
+masked_element Decimal128 head value = 7 ∷ (take (length head - 2) (drop 1 head) ++ (codes "####" ++ 0 ∷ drop 4 value))
+masked_element (Kept _) head value = head ++ value
+
+-- a double whose eight bytes do not fit is an int64 all the same
+abbrev pub masked_others : List ℕ → List ℕ
+masked_others [] = []
+masked_others (b ∷ bytes) = (if b == 1 && is_some (first_zero bytes) then 18 else b) ∷ bytes
+
+abbrev pub IsMasked : ElementType → List ℕ → List ℕ → List ℕ → Type 0
+IsMasked type head value new = new ≡ masked_element type head value

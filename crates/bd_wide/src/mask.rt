@@ -1,0 +1,65 @@
+//! Bytes of the same length, in which each type is read.
+
+ghost use Rattle.std.specs.Prelude.{◌≡◌, ◌++◌, List, ℕ, length, OnOk, OnErr};
+ghost use Rattle.std.specs.Io.{StartsWith};
+ghost use Rattle.bd_wide.specs.Mask.{IsMasked, masked_element, masked_others};
+ghost use Rattle.bd_wide.specs.Rewritten.{Adds, IsRewritten};
+
+use crate::walk::NumberWriter;
+use bd_raw::{ElementType, raw_parts as raw};
+use bd_value::NoMemory;
+
+/// A double becomes an int64 of the same eight bytes, and a decimal128 an ObjectId whose name has four letters more.
+pub struct Mask;
+
+impl NumberWriter for Mask {
+    ghost is_written = { λ _. IsMasked };
+
+    ghost others_of = { λ _. masked_others };
+
+    #[tactic(auto, using(bd_value::proofs::FrontLemmas::fronts), unfolding(crate::specs::Rewritten::least))]
+    fn element(
+        &self,
+        typed: ElementType,
+        head: &[u8],
+        value: &[u8],
+        out: &mut Vec<u8>,
+    ) -> Result<(), NoMemory> {
+        match typed {
+            ElementType::Double => {
+                let (_, name) = head.split_at(1);
+                out.extend_from_slice(&[0x12])?;
+                out.extend_from_slice(name)?;
+                out.extend_from_slice(value)?;
+            }
+            ElementType::Decimal128 => {
+                let (_, more) = head.split_at(1);
+                let (name, _) = more.split_at(head.len() - 2);
+                let (_, last) = value.split_at(4);
+                out.extend_from_slice(&[0x07])?;
+                out.extend_from_slice(name)?;
+                out.extend_from_slice(b"####\0")?;
+                out.extend_from_slice(last)?;
+            }
+            ElementType::Kept(_) => {
+                out.extend_from_slice(head)?;
+                out.extend_from_slice(value)?;
+            }
+        }
+        Ok(())
+    }
+
+    #[tactic(auto, using(bd_value::proofs::FrontLemmas::fronts), unfolding(crate::specs::Rewritten::least))]
+    fn others(&self, bytes: &[u8], out: &mut Vec<u8>) -> Result<(), NoMemory> {
+        let (first, rest) = bytes.split_at(1);
+        let cut_double = first[0] == 1 && raw::first_zero(rest).is_some();
+        out.extend_from_slice(&[if cut_double { 0x12 } else { first[0] }])?;
+        out.extend_from_slice(rest)?;
+        Ok(())
+    }
+}
+
+/// A law, whose body is empty: the masked bytes are as many.
+pub fn mask_keeps_length()
+    ensures { (bytes new : List ℕ) → IsRewritten IsMasked masked_others bytes new → length new ≡ length bytes }
+{}
