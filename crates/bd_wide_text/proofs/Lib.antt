@@ -1,0 +1,2 @@
+pub mod DoubleLemmas
+pub mod LayoutLemmas

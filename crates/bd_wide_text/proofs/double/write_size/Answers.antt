@@ -1,0 +1,58 @@
+use Rattle.std.proofs.Common.{◌≡◌, ◌≢◌, ◌<◌, List, ℕ, [], ◌++◌, length, get_or, refl, sym, ap, ◌∙◌, subst, true, false, codes, OnOk}
+use Rattle.fast_float.specs.Text.{Parts, scan}
+use Rattle.bd_wide_text.specs.Double.{padded}
+use Rattle.bd_wide_text.specs.Layout.{mantissa}
+use Rattle.bd_wide_text.specs.LaidOutAnew.{AreParts, AreZerosAfter, AreZerosBefore, IsLaidOutAnew, large_text, small_text}
+use Rattle.bd_wide_text.proofs.LayoutLemmas as layouts
+use Rattle.bd_wide_text.proofs.DoubleLemmas as doubles
+use Rattle.bd_wide_text.proofs.double.write_size.Goals as goal
+
+pub returns-then-is_exponent_negative-clause-ok : goal.returns-then-is_exponent_negative-clause-ok
+returns-then-is_exponent_negative-clause-ok c =
+    let p = scan c.args.size.now in
+    let is = c.scan-numeral.ensures.parts in
+    let w : c.whole-whole.result.now ≡ p.whole = c.whole-whole.ensures.value ∙ ap (λ (n : Parts). n.whole) is in
+    let f : c.fraction-fraction.result.now ≡ p.fraction = c.fraction-fraction.ensures.value ∙ ap (λ (n : Parts). n.fraction) is in
+    let x : c.exponent-exponent.result.now ≡ p.exponent = c.exponent-exponent.ensures.value ∙ ap (λ (n : Parts). n.exponent) is in
+    let sign : p.exponent_negative ≡ true = sym (c.is_exponent_negative.ensures ∙ ap (λ (n : Parts). n.exponent_negative) is) ∙ c.if-is_exponent_negative.true in
+    let some : 0 < length p.exponent = subst (λ (y : List ℕ). 0 < length y) x (doubles.some_of c.exponent-exponent.result.now c.is_empty.result c.is_empty.ensures c.if-not-is_empty.true) in
+    doubles.ok_on c.write_scientific.result _ _ c.write_scientific.ensures.ok
+    (λ e. (_, layouts.far_down c.args.size.now p c.requires some sign, e ∙ (λ i. c.args.out.now.items ++ (mantissa (w i ++ f i) ++ (codes "E-" ++ padded (x i))))))
+
+pub returns-then-not-is_empty-clause-ok : goal.returns-then-not-is_empty-clause-ok
+returns-then-not-is_empty-clause-ok c =
+    let p = scan c.args.size.now in
+    let is = c.scan-numeral.ensures.parts in
+    let w : c.whole-whole.result.now ≡ p.whole = c.whole-whole.ensures.value ∙ ap (λ (n : Parts). n.whole) is in
+    let f : c.fraction-fraction.result.now ≡ p.fraction = c.fraction-fraction.ensures.value ∙ ap (λ (n : Parts). n.fraction) is in
+    let x : c.exponent-exponent.result.now ≡ p.exponent = c.exponent-exponent.ensures.value ∙ ap (λ (n : Parts). n.exponent) is in
+    let sign : p.exponent_negative ≡ false = sym (c.is_exponent_negative.ensures ∙ ap (λ (n : Parts). n.exponent_negative) is) ∙ c.if-is_exponent_negative.false in
+    let some : 0 < length p.exponent = subst (λ (y : List ℕ). 0 < length y) x (doubles.some_of c.exponent-exponent.result.now c.is_empty.result c.is_empty.ensures c.if-not-is_empty.true) in
+    doubles.ok_on c.write_scientific-then-not-is_empty.result _ _ c.write_scientific-then-not-is_empty.ensures.ok
+    (λ e. (_, layouts.far_up c.args.size.now p c.requires some sign, e ∙ (λ i. c.args.out.now.items ++ (mantissa (w i ++ f i) ++ (codes "E+" ++ padded (x i))))))
+
+pub returns-then-whole-eq48-clause-ok : goal.returns-then-whole-eq48-clause-ok
+returns-then-whole-eq48-clause-ok c =
+    let p = scan c.args.size.now in
+    let is = c.scan-numeral.ensures.parts in
+    let w : c.whole-whole.result.now ≡ p.whole = c.whole-whole.ensures.value ∙ ap (λ (n : Parts). n.whole) is in
+    let f : c.fraction-fraction.result.now ≡ p.fraction = c.fraction-fraction.ensures.value ∙ ap (λ (n : Parts). n.fraction) is in
+    let x : c.exponent-exponent.result.now ≡ p.exponent = c.exponent-exponent.ensures.value ∙ ap (λ (n : Parts). n.exponent) is in
+    let none : p.exponent ≡ [] = sym x ∙ doubles.none_of c.exponent-exponent.result.now c.is_empty.result c.is_empty.ensures c.if-not-is_empty.false in
+    let first : get_or p.whole 0 0 ≡ 48 = ap (λ y. get_or y 0 0) (sym w) ∙ c.if-whole-eq48.true in
+    let before : AreZerosBefore p.fraction c.zeros_before.result = subst (λ (y : List ℕ). AreZerosBefore y c.zeros_before.result) f c.zeros_before.ensures in
+    doubles.ok_on c.write_small.result _ _ c.write_small.ensures.ok
+    (λ e. (_, layouts.small c.args.size.now p c.zeros_before.result c.requires none first before, e ∙ (λ i. c.args.out.now.items ++ small_text c.args.size.now (f i) c.zeros_before.result)))
+
+pub returns-else-whole-eq48-clause-ok : goal.returns-else-whole-eq48-clause-ok
+returns-else-whole-eq48-clause-ok c =
+    let p = scan c.args.size.now in
+    let is = c.scan-numeral.ensures.parts in
+    let w : c.whole-whole.result.now ≡ p.whole = c.whole-whole.ensures.value ∙ ap (λ (n : Parts). n.whole) is in
+    let f : c.fraction-fraction.result.now ≡ p.fraction = c.fraction-fraction.ensures.value ∙ ap (λ (n : Parts). n.fraction) is in
+    let x : c.exponent-exponent.result.now ≡ p.exponent = c.exponent-exponent.ensures.value ∙ ap (λ (n : Parts). n.exponent) is in
+    let none : p.exponent ≡ [] = sym x ∙ doubles.none_of c.exponent-exponent.result.now c.is_empty.result c.is_empty.ensures c.if-not-is_empty.false in
+    let first : get_or p.whole 0 0 ≢ 48 = λ e. c.if-whole-eq48.false (ap (λ y. get_or y 0 0) w ∙ e) in
+    let after : AreZerosAfter p.whole c.without_zeros.result = subst (λ (y : List ℕ). AreZerosAfter y c.without_zeros.result) w c.without_zeros.ensures in
+    doubles.ok_on c.write_large.result _ _ c.write_large.ensures.ok
+    (λ e. (_, layouts.large c.args.size.now p c.without_zeros.result c.requires none after first, e ∙ (λ i. c.args.out.now.items ++ large_text c.args.size.now (w i) (f i) c.without_zeros.result)))

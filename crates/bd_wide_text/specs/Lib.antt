@@ -1,0 +1,4 @@
+pub mod Decimal128
+pub mod Double
+pub mod Layout
+pub mod LaidOutAnew

@@ -1,0 +1,36 @@
+//! What both texts are made of. `NoMemory` may leave a prefix of what is appended.
+
+ghost use Rattle.std.specs.Prelude.{◌≡◌, ◌<◌, ◌++◌, length, OnErr, OnOk};
+ghost use Rattle.std.specs.Io.{StartsWith};
+ghost use Rattle.bd_wide_text.specs.Layout.{mantissa, zeros as zeros_of};
+
+use bd_value::NoMemory;
+
+/// Appends the first of two runs of digits, and a point and all others where there are others.
+#[tactic(auto, using(bd_value::proofs::FrontLemmas::fronts))]
+pub(crate) fn write_mantissa(digits: &[u8], more: &[u8], out: &mut Vec<u8>) -> Result<(), NoMemory>
+    requires { 0 < length digits.now }
+    ensures ok { OnOk result (out.new.items ≡ out.old.items ++ mantissa (digits.now ++ more.now)) }
+    ensures front { OnErr result (StartsWith out.new.items out.old.items) }
+{
+    let (first, others) = digits.split_at(1);
+    out.extend_from_slice(first)?;
+    if others.is_empty() && more.is_empty() {
+        return Ok(());
+    }
+    out.extend_from_slice(b".")?;
+    out.extend_from_slice(others)?;
+    out.extend_from_slice(more)
+}
+
+/// Appends so many zeros.
+#[tactic(auto, using(bd_value::proofs::FrontLemmas::fronts))]
+pub(crate) fn write_zeros(count: usize, out: &mut Vec<u8>) -> Result<(), NoMemory>
+    ensures ok { OnOk result (out.new.items ≡ out.old.items ++ zeros_of count) }
+    ensures front { OnErr result (StartsWith out.new.items out.old.items) }
+{
+    for _ in 0..count {
+        out.push(b'0')?;
+    }
+    Ok(())
+}

@@ -1,0 +1,15 @@
+//! The texts of doubles and of decimal128, as Extended JSON v2 has them.
+//!
+//! Which texts these are: `specs/Double.antt` and `specs/Decimal128.antt`; how digits are laid out: `specs/Layout.antt`.
+//!
+//! - `double`: `write_double`, by the digits that `ryu` finds (`specs/LaidOutAnew.antt`).
+//! - `decimal128`: `write_decimal128`.
+//! - `layout`: what both write.
+#![tactic(auto)]
+
+mod decimal128;
+mod double;
+mod layout;
+
+pub use decimal128::write_decimal128;
+pub use double::write_double;
