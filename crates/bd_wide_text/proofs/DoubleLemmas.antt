@@ -1,22 +1,21 @@
 -- What `ryu` gives of a double is its text, laid out anew; and the words of the doubles that have no digits.
-use Rattle.std.proofs.Common.{◌≡◌, ◌≢◌, ◌<◌, ◌≤◌, ◌⊎◌, ℕ, zero, suc, ◌+◌, ◌-◌, ◌*◌, ◌/◌, ◌%◌, ◌^◌, ◌==◌, ℤ, Bool, true, false, cond, not, T, IsTrue, List, [], ◌∷◌, ◌++◌, length, take, drop, get_or, refl, sym, ap, ◌∙◌, subst, inl, inr, arith, true≢false, codes, pos, negsuc, ltb, ne_eqb, eqb-true, Some, Result, Ok, Err, OnOk, append_assoc, rules}
+use Rattle.std.proofs.Common.{◌≡◌, ◌≢◌, ◌<◌, ◌≤◌, ℕ, zero, suc, ◌+◌, ◌-◌, ◌*◌, ◌/◌, ◌%◌, ◌^◌, ◌==◌, ℤ, Bool, true, false, cond, not, T, IsTrue, List, [], ◌∷◌, ◌++◌, length, drop, get_or, refl, sym, ap, ◌∙◌, subst, inl, inr, arith, true≢false, codes, pos, ne_eqb, Some, Result, Ok, Err, OnOk, append_assoc, rules}
 use Rattle.std.proofs.lemmas.List.{get_or_append_left}
 use Rattle.std.proofs.lemmas.Str.Parse.{digit_at}
 use Rattle.std.proofs.lemmas.Float.Parse.{parse_float-text_of, scan_numeral-text_of}
 use Rattle.std.proofs.Math.Nat.{zero-div}
 use borrow.Author.Tests.{lt-ltb, le-ltb}
 use Rattle.std.specs.Fmt.{sign_text}
-use Rattle.std.specs.Str.Parse.{AllDigits}
 use Rattle.std.specs.Float.{binary64, float_is_finite}
 use Rattle.std.specs.Float.Parse.{parse_float}
-use lib.Ieee.{Float, nan, inf, fin, round, of_bits, to_bits, nan_bits, is_nan, fits, size, prec, low, hid, top, ones, up, down}
+use lib.Ieee.{Float, nan, inf, fin, round, of_bits, to_bits, nan_bits, is_nan, size, prec, low, hid, top, up, down}
 use lib.Ieee.Bits.{to_bits-of_bits, nan_bits_is, nan_bits_above}
 use lib.Ieee.Scale.{round_same}
 use Rattle.fast_float.specs.Text.{Parts, digits_of, tens_up, tens_down, nearest, text_of, exponent_text, scan}
 use Rattle.fast_float.proofs.ExactLemmas.{ten_to_pos}
 use Rattle.ryu.specs.Plain.{IsPlain, IsLaidOut, IsLaidOutNumber}
 use Rattle.bd_wide_text.specs.Layout.{Adds}
-use Rattle.bd_wide_text.specs.Double.{IsTextOf, IsDoubleText, laid_out, nearest_double}
+use Rattle.bd_wide_text.specs.Double.{IsTextOf, IsDoubleText}
 use Rattle.bd_wide_text.specs.LaidOutAnew.{AreParts, IsLaidOutAnew, IsSized}
 
 -- ---- words

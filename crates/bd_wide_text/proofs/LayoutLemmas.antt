@@ -1,8 +1,8 @@
 -- A number laid out anew is the number that it was.
-use Rattle.std.proofs.Common.{◌≡◌, ◌≢◌, ◌<◌, ◌≤◌, ◌⊎◌, ℕ, zero, suc, ◌+◌, ◌-◌, ◌*◌, ◌/◌, ◌%◌, ◌^◌, ◌==◌, Bool, true, false, cond, List, [], ◌∷◌, ◌++◌, length, take, drop, get_or, replicate, refl, sym, ap, ◌∙◌, subst, inl, inr, arith, true≢false, append-nil, append_assoc, length-append, length-take, length-drop, take-append-drop, take_at, drop_at, codes, pos, negsuc, ltb, eq-eqb, ne_eqb, ltb-false, pow-add, ℤ}
+use Rattle.std.proofs.Common.{◌≡◌, ◌≢◌, ◌<◌, ◌≤◌, ℕ, zero, suc, ◌+◌, ◌-◌, ◌*◌, ◌/◌, ◌%◌, ◌^◌, ◌==◌, Bool, true, false, cond, List, [], ◌∷◌, ◌++◌, length, take, drop, get_or, refl, sym, ap, ◌∙◌, subst, inl, inr, arith, append-nil, append_assoc, length-append, length-take, length-drop, take-append-drop, take_at, drop_at, codes, pos, negsuc, ltb, eq-eqb, ne_eqb}
 use Rattle.std.proofs.lemmas.Bool.{cases_lt}
 use Rattle.std.proofs.lemmas.Fmt.{decimal_is_IsNumeral_wide}
-use Rattle.std.proofs.lemmas.List.{length-replicate, replicate-append-replicate, get_or_append_left, get_or-append_right, get_or-take, get_or-drop}
+use Rattle.std.proofs.lemmas.List.{length-replicate, get_or_append_left, get_or-append_right, get_or-take, get_or-drop}
 use Rattle.std.proofs.lemmas.Str.Parse.{digit_at}
 use Rattle.std.proofs.Math.Nat.{pow-suc, mul-one, eq-zero-or-pos}
 use borrow.Author.Tests.{lt-ltb, le-ltb, le-leb, lt-leb}
@@ -11,15 +11,14 @@ use Rattle.std.specs.Str.Parse.{digits_value, AllDigits}
 use Rattle.std.specs.Float.{binary64}
 use Rattle.std.specs.Float.Ieee.{round}
 use lib.Ieee.Scale.{round_same}
-use Rattle.fast_float.specs.Text.{Parts, digits_of, tens_up, tens_down, nearest, text_of, exponent_text}
+use Rattle.fast_float.specs.Text.{Parts, digits_of, tens_up, tens_down, nearest, exponent_text}
 use Rattle.fast_float.proofs.DigitsLemmas.{digits_value-append}
 use Rattle.fast_float.proofs.ExactLemmas.{ten_to_pos}
 use Rattle.fast_float.proofs.Extremes.{tens_eq}
 use Rattle.fast_float.proofs.Rows.{AllDigits-take, AllDigits-drop, AllDigits-append}
-use Rattle.ryu.specs.Plain.{IsPlain, IsLaidOut}
 use Rattle.ryu.proofs.Texts.{value_zeros}
 use Rattle.bd_wide_text.specs.Layout.{mantissa, zeros}
-use Rattle.bd_wide_text.specs.Double.{AreSignificant, padded, plain, laid_out, nearest_double}
+use Rattle.bd_wide_text.specs.Double.{AreSignificant, padded, laid_out, nearest_double}
 use Rattle.bd_wide_text.specs.LaidOutAnew.{AreParts, IsNumberOf, IsLaidOutAnew, AreZerosBefore, AreZerosAfter, small_text, large_text}
 
 -- ---- equal decimals have one nearest double

@@ -1,5 +1,5 @@
 -- The text of a decimal128: to-scientific-string of the decimal128 specification.
-use Rattle.std.specs.Prelude.{ℕ, ◌+◌, ◌-◌, ◌*◌, ◌/◌, ◌%◌, ◌^◌, ◌==◌, ◌||◌, List, [], ◌∷◌, ◌++◌, length, take, drop, nat_lt, nat_le, if◌then◌else◌, codes, decimal}
+use Rattle.std.specs.Prelude.{ℕ, ◌+◌, ◌-◌, ◌*◌, ◌/◌, ◌%◌, ◌^◌, ◌==◌, ◌||◌, List, ◌++◌, length, take, drop, nat_lt, nat_le, if◌then◌else◌, codes, decimal}
 use Rattle.std.specs.Fmt.{sign_text}
 use Rattle.bd_wide_text.specs.Layout.{mantissa, zeros}
 

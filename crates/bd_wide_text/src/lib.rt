@@ -12,4 +12,4 @@ mod double;
 mod layout;
 
 pub use decimal128::write_decimal128;
-pub use double::write_double;
+pub use double::{double_text_reads_back, write_double};

@@ -1,4 +1,4 @@
-use Rattle.std.proofs.Common.{◌<◌, ◌^◌, ℕ, arith, length, ◌+◌, ◌*◌, ◌%◌}
+use Rattle.std.proofs.Common.{◌<◌, ◌^◌, ℕ, arith, length}
 use Rattle.std.proofs.lemmas.Fmt.{decimal_is_IsNumeral_wide}
 use Rattle.std.specs.Fmt.{decimal}
 use Rattle.bd_wide_text.proofs.decimal128.coefficient.Goals as goal

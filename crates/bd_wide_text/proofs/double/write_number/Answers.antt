@@ -1,11 +1,10 @@
-use Rattle.std.proofs.Common.{◌≡◌, ◌≤◌, List, ℕ, [], ◌++◌, length, append-nil, refl, sym, ap, ◌∙◌, subst, true, false, get_or, ◌==◌, drop, Some, codes}
+use Rattle.std.proofs.Common.{◌≡◌, ◌≤◌, List, ℕ, length, append-nil, sym, ap, ◌∙◌, subst, true, false, drop}
 use Rattle.std.specs.Float.{binary64}
 use Rattle.std.specs.Float.Ieee.{of_bits}
 use Rattle.std.specs.Float.Parse.{parse_float}
 use Rattle.fast_float.specs.Text.{scan, nearest}
 use Rattle.ryu.specs.Plain.{IsLaidOutNumber}
-use Rattle.bd_wide_text.specs.Layout.{Adds}
-use Rattle.bd_wide_text.specs.LaidOutAnew.{AreParts, IsLaidOutAnew}
+use Rattle.bd_wide_text.specs.LaidOutAnew.{AreParts}
 use Rattle.bd_wide_text.proofs.DoubleLemmas as doubles
 use Rattle.bd_wide_text.proofs.double.write_number.Goals as goal
 

@@ -1,8 +1,8 @@
-use Rattle.std.proofs.Common.{◌≡◌, ◌≢◌, ◌<◌, List, ℕ, [], ◌++◌, length, get_or, refl, sym, ap, ◌∙◌, subst, true, false, codes, OnOk}
+use Rattle.std.proofs.Common.{◌≡◌, ◌≢◌, ◌<◌, List, ℕ, [], ◌++◌, length, get_or, sym, ap, ◌∙◌, subst, true, false, codes}
 use Rattle.fast_float.specs.Text.{Parts, scan}
 use Rattle.bd_wide_text.specs.Double.{padded}
 use Rattle.bd_wide_text.specs.Layout.{mantissa}
-use Rattle.bd_wide_text.specs.LaidOutAnew.{AreParts, AreZerosAfter, AreZerosBefore, IsLaidOutAnew, large_text, small_text}
+use Rattle.bd_wide_text.specs.LaidOutAnew.{AreZerosAfter, AreZerosBefore, large_text, small_text}
 use Rattle.bd_wide_text.proofs.LayoutLemmas as layouts
 use Rattle.bd_wide_text.proofs.DoubleLemmas as doubles
 use Rattle.bd_wide_text.proofs.double.write_size.Goals as goal
