@@ -1,0 +1,39 @@
+-- Doubles and decimal128 as the documents of Extended JSON that hold their texts.
+use Rattle.std.specs.Prelude.{◌≡◌, ℕ, List, [], ◌∷◌, ◌++◌, drop, codes}
+use Rattle.bd_raw.specs.declared.raw_parts.ElementType.{ElementType}
+use Rattle.bd_raw.specs.declared.raw_parts.ElementType.TheVariants.{Kept, Double, Decimal128}
+use Rattle.bd_raw.specs.{Spelling.framed, Spelling.string, Sizes.long_of}
+use Rattle.bd_wide_text.specs.{Double.IsDoubleText, Decimal128.decimal128_text}
+use Rattle.bd_wide.specs.declared.wrap.Number.{Number}
+use Rattle.bd_wide.specs.declared.wrap.Number.TheVariants as numbers
+
+-- the text of a number
+abbrev pub IsNumberText : Number → List ℕ → Type 0
+IsNumberText (numbers.Double bits) text = IsDoubleText bits text
+IsNumberText (numbers.Decimal128 low high) text = text ≡ decimal128_text low high
+
+-- the name of its wrapper
+abbrev pub wrapper_name : Number → List ℕ
+wrapper_name (numbers.Double bits) = codes "$numberDouble"
+wrapper_name (numbers.Decimal128 low high) = codes "$numberDecimal"
+
+-- `{"$numberDouble": text}`, as BSON
+unfoldable pub wrapper : List ℕ → List ℕ → List ℕ
+wrapper name text = framed (2 ∷ (name ++ 0 ∷ string text))
+
+abbrev pub IsWrapper : Number → List ℕ → Type 0
+IsWrapper number new = (text : List ℕ) × IsNumberText number text × (new ≡ wrapper (wrapper_name number) text)
+
+-- its text as a string of BSON
+abbrev pub IsStringOf : Number → List ℕ → Type 0
+IsStringOf number new = (text : List ℕ) × IsNumberText number text × (new ≡ string text)
+
+-- an element with such a document, under the name of another element
+abbrev pub IsElementOf : List ℕ → Number → List ℕ → Type 0
+IsElementOf head number new = (document : List ℕ) × IsWrapper number document × (new ≡ 3 ∷ (drop 1 head ++ document))
+
+-- an element with a double or a decimal128 becomes such an element
+abbrev pub IsWrapped : ElementType → List ℕ → List ℕ → List ℕ → Type 0
+IsWrapped Double head value new = IsElementOf head (numbers.Double (long_of value)) new
+IsWrapped Decimal128 head value new = IsElementOf head (numbers.Decimal128 (long_of value) (long_of (drop 8 value))) new
+IsWrapped (Kept _) head value new = new ≡ head ++ value

@@ -1,0 +1,131 @@
+//! Doubles and decimal128 as the documents of Extended JSON that hold their texts.
+
+ghost use Rattle.std.specs.Prelude.{◌≡◌, ◌≤◌, ◌++◌, ◌∷◌, [], List, ℕ, length, OnErr, OnOk};
+ghost use Rattle.std.specs.Io.{StartsWith};
+ghost use Rattle.bd_raw.specs.Sizes.{long_of};
+ghost use Rattle.bd_raw.specs.Spelling.{string};
+ghost use Rattle.bd_wide.specs.Rewritten.{Adds};
+ghost use Rattle.bd_wide.specs.Wrap.{IsElementOf, IsNumberText, IsStringOf, IsWrapped, IsWrapper, wrapper_name};
+
+use crate::walk::{NumberWriter, put_number, seal, write_number};
+use bd_raw::ElementType;
+use bd_value::NoMemory;
+use bd_wide_text::{write_decimal128, write_double};
+
+/// What is wrapped, by its bits.
+#[derive(Clone, Copy)]
+pub enum Number {
+    Double(u64),
+    /// The lower half and the upper half.
+    Decimal128(u64, u64),
+}
+
+/// A double or a decimal128 becomes a document that holds its text.
+pub struct Wrap;
+
+impl NumberWriter for Wrap {
+    ghost is_written = { λ _. IsWrapped };
+
+    ghost others_of = { λ _ bytes. bytes };
+
+    #[tactic(auto, using(bd_value::proofs::FrontLemmas::fronts), unfolding(crate::specs::Rewritten::least))]
+    fn element(
+        &self,
+        typed: ElementType,
+        head: &[u8],
+        value: &[u8],
+        out: &mut Vec<u8>,
+    ) -> Result<(), NoMemory> {
+        match typed {
+            ElementType::Double => put_element(head, Number::Double(long(value)), out),
+            ElementType::Decimal128 => {
+                let (_, upper) = value.split_at(8);
+                put_element(head, Number::Decimal128(long(value), long(upper)), out)
+            }
+            ElementType::Kept(_) => {
+                out.extend_from_slice(head)?;
+                out.extend_from_slice(value)
+            }
+        }
+    }
+
+    fn others(&self, bytes: &[u8], out: &mut Vec<u8>) -> Result<(), NoMemory> {
+        out.extend_from_slice(bytes)?;
+        Ok(())
+    }
+}
+
+/// The number that the first eight bytes are.
+fn long(bytes: &[u8]) -> u64
+    requires { 8 ≤ length bytes.now }
+    ensures { result ≡ long_of bytes.now }
+{
+    let (front, _) = bytes.split_at(8);
+    u64::from_le_bytes([
+        front[0], front[1], front[2], front[3], front[4], front[5], front[6], front[7],
+    ])
+}
+
+/// Appends an element with the document of a number, under the name of an element.
+#[tactic(auto, using(bd_value::proofs::FrontLemmas::fronts))]
+fn put_element(head: &[u8], number: Number, out: &mut Vec<u8>) -> Result<(), NoMemory>
+    requires { 2 ≤ length head.now }
+    ensures ok { OnOk result (Adds (IsElementOf head.now number) out.old.items out.new.items) }
+    ensures front { OnErr result (StartsWith out.new.items out.old.items) }
+{
+    let (_, name) = head.split_at(1);
+    out.extend_from_slice(&[0x03])?;
+    out.extend_from_slice(name)?;
+    put_document(number, out)
+}
+
+/// Appends the document of a number.
+#[tactic(auto, using(bd_value::proofs::FrontLemmas::fronts))]
+fn put_document(number: Number, out: &mut Vec<u8>) -> Result<(), NoMemory>
+    ensures ok { OnOk result (Adds (IsWrapper number) out.old.items out.new.items) }
+    ensures front { OnErr result (StartsWith out.new.items out.old.items) }
+{
+    let at = out.len();
+    write_number(0, out)?;
+    out.extend_from_slice(label(number))?;
+    put_string(number, out)?;
+    out.extend_from_slice(b"\0")?;
+    seal(at, out);
+    Ok(())
+}
+
+/// The type and the name of the one element of such a document.
+fn label(number: Number) -> &'static [u8]
+    ensures { result.now ≡ 2 ∷ (wrapper_name number ++ 0 ∷ []) }
+{
+    match number {
+        Number::Double(_) => b"\x02$numberDouble\0",
+        Number::Decimal128(_, _) => b"\x02$numberDecimal\0",
+    }
+}
+
+/// Appends the text of a number as a string.
+#[tactic(auto, using(bd_value::proofs::FrontLemmas::fronts))]
+fn put_string(number: Number, out: &mut Vec<u8>) -> Result<(), NoMemory>
+    ensures ok { OnOk result (Adds (IsStringOf number) out.old.items out.new.items) }
+    ensures front { OnErr result (StartsWith out.new.items out.old.items) }
+{
+    let at = out.len();
+    write_number(0, out)?;
+    put_text(number, out)?;
+    out.extend_from_slice(b"\0")?;
+    let count = out.len() - at - 4;
+    put_number(at, count as u64, out);
+    Ok(())
+}
+
+/// Appends the text of a number.
+fn put_text(number: Number, out: &mut Vec<u8>) -> Result<(), NoMemory>
+    ensures ok { OnOk result (Adds (IsNumberText number) out.old.items out.new.items) }
+    ensures front { OnErr result (StartsWith out.new.items out.old.items) }
+{
+    match number {
+        Number::Double(bits) => write_double(bits, out),
+        Number::Decimal128(low, high) => write_decimal128(low, high, out),
+    }
+}
