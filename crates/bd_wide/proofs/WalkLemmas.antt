@@ -28,7 +28,7 @@ unfolding front
 front_takes [] x is = absurd cc
 front_takes (b ∷ bytes) x is = named (type_at b) (first_zero bytes) (λ type k. size_at type (drop (k + 1) bytes)) x is
 
-shorter : (b : ℕ) (bytes : List ℕ) (x : ElementType × ℕ × ℕ) → front (b ∷ bytes) ≡ Some x → length (drop x.2 (drop x.1 (b ∷ bytes))) ≤ length bytes
+pub shorter : (b : ℕ) (bytes : List ℕ) (x : ElementType × ℕ × ℕ) → front (b ∷ bytes) ≡ Some x → length (drop x.2 (drop x.1 (b ∷ bytes))) ≤ length bytes
 shorter b bytes x is = omega (arith, front_takes (b ∷ bytes) x is, length-drop x.2 (drop x.1 (b ∷ bytes)), length-drop x.1 (b ∷ bytes))
 
 -- ---- elements
@@ -85,7 +85,7 @@ enough Is others nested (suc n) (suc m) (b ∷ bytes) new p q h =
     ] in
     from_turn Is others nested m b bytes new (here (front (b ∷ bytes)) refl (to_turn Is others nested n b bytes new h))
 
-front_nil : front [] ≡ None
+pub front_nil : front [] ≡ None
 unfolding front
 front_nil = refl
 

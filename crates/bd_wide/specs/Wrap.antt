@@ -1,9 +1,12 @@
 -- Doubles and decimal128 as the documents of Extended JSON that hold their texts.
-use Rattle.std.specs.Prelude.{◌≡◌, ℕ, List, [], ◌∷◌, ◌++◌, drop, codes}
+use Rattle.std.specs.Prelude.{◌≡◌, ◌<◌, ◌≤◌, ◌⊎◌, ℕ, zero, Bool, true, false, List, [], ◌∷◌, ◌++◌, length, drop, codes, Option, None, Some, IsSome}
+use Rattle.bd_value.specs.Limits.{longest_document}
 use Rattle.bd_raw.specs.declared.raw_parts.ElementType.{ElementType}
 use Rattle.bd_raw.specs.declared.raw_parts.ElementType.TheVariants.{Kept, Double, Decimal128}
 use Rattle.bd_raw.specs.{Spelling.framed, Spelling.string, Sizes.long_of}
 use Rattle.bd_wide_text.specs.{Double.IsDoubleText, Decimal128.decimal128_text}
+use Rattle.bd_wide.specs.{Refused.Refuses, Refused.first_refused, Rewritten.IsRewritten}
+use Rattle.bd_wide.specs.declared.find.Refusal.TheVariants.{TooDeep}
 use Rattle.bd_wide.specs.declared.wrap.Number.{Number}
 use Rattle.bd_wide.specs.declared.wrap.Number.TheVariants as numbers
 
@@ -37,3 +40,16 @@ abbrev pub IsWrapped : ElementType → List ℕ → List ℕ → List ℕ → Ty
 IsWrapped Double head value new = IsElementOf head (numbers.Double (long_of value)) new
 IsWrapped Decimal128 head value new = IsElementOf head (numbers.Decimal128 (long_of value) (long_of (drop 8 value))) new
 IsWrapped (Kept _) head value new = new ≡ head ++ value
+
+-- what is wrapped needs a level more
+abbrev pub refuses_deepest : Refuses
+refuses_deepest zero path Double value = Some TooDeep
+refuses_deepest zero path Decimal128 value = Some TooDeep
+refuses_deepest room path type value = None
+
+-- what may be written of a document: it is wrapped, or it stays as it is where it would be too deep or too long
+abbrev pub IsWrappedDocument : List ℕ → Bool → List ℕ → Type 0
+IsWrappedDocument bytes true new = (first_refused refuses_deepest bytes ≡ None)
+    × IsRewritten IsWrapped (λ others. others) bytes new × (length new ≤ longest_document)
+IsWrappedDocument bytes false new = (new ≡ bytes) × (IsSome (first_refused refuses_deepest bytes)
+    ⊎ ((long : List ℕ) × IsRewritten IsWrapped (λ others. others) bytes long × (longest_document < length long)))

@@ -2,16 +2,19 @@
 //!
 //! What may be written of a document's bytes, whatever they are: `specs/Rewritten.antt`.
 //!
+//! - `find`: `find_refused`, the first number that a `Refuser` refuses: `specs/Refused.antt`.
 //! - `walk`: `write_rewritten`, the one walker, and `NumberWriter`, what it asks for each number.
 //! - `wrap`: `Wrap`, in which doubles and decimal128 are documents that hold their texts: `specs/Wrap.antt`.
 //! - `mask`: `Mask`, in which each element has a type that bsonfind reads, at the same place.
 #![tactic(auto)]
 
 mod element;
+mod find;
 mod mask;
 mod walk;
 mod wrap;
 
+pub use find::{Found, Refusal, Refuser, find_refused};
 pub use mask::{Mask, mask_keeps_length};
 pub use walk::{NumberWriter, write_rewritten};
-pub use wrap::{Number, Wrap};
+pub use wrap::{Number, Wrap, write_wrapped};

@@ -217,7 +217,7 @@ fn scoped<W: NumberWriter>(
 
 /// Where the scope of code with scope begins; none where it does not end where the code with scope does.
 #[tactic(auto, unfolding(crate::specs::Rewritten::scope_at))]
-fn scope_at(value: &[u8]) -> Option<usize>
+pub(crate) fn scope_at(value: &[u8]) -> Option<usize>
     requires { 14 ≤ length value.now }
     ensures gives { result ≡ scope_at_of value.now }
     ensures inside { IfSome result (λ at. (8 ≤ at) × (at + 5 ≤ length value.now)) }

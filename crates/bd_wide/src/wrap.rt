@@ -1,15 +1,16 @@
 //! Doubles and decimal128 as the documents of Extended JSON that hold their texts.
 
-ghost use Rattle.std.specs.Prelude.{◌≡◌, ◌≤◌, ◌++◌, ◌∷◌, [], List, ℕ, length, OnErr, OnOk};
+ghost use Rattle.std.specs.Prelude.{◌≡◌, ◌≤◌, ◌++◌, ◌∷◌, [], List, ℕ, length, IfOk, OnErr, OnOk};
 ghost use Rattle.std.specs.Io.{StartsWith};
 ghost use Rattle.bd_raw.specs.Sizes.{long_of};
 ghost use Rattle.bd_raw.specs.Spelling.{string};
 ghost use Rattle.bd_wide.specs.Rewritten.{Adds};
-ghost use Rattle.bd_wide.specs.Wrap.{IsElementOf, IsNumberText, IsStringOf, IsWrapped, IsWrapper, wrapper_name};
+ghost use Rattle.bd_wide.specs.Wrap.{IsElementOf, IsNumberText, IsStringOf, IsWrapped, IsWrappedDocument, IsWrapper, refuses_deepest, wrapper_name};
 
-use crate::walk::{NumberWriter, put_number, seal, write_number};
+use crate::find::{Refusal, Refuser, find_refused};
+use crate::walk::{NumberWriter, put_number, seal, write_number, write_rewritten};
 use bd_raw::ElementType;
-use bd_value::NoMemory;
+use bd_value::{LONGEST_DOCUMENT, NoMemory};
 use bd_wide_text::{write_decimal128, write_double};
 
 /// What is wrapped, by its bits.
@@ -53,6 +54,49 @@ impl NumberWriter for Wrap {
         out.extend_from_slice(bytes)?;
         Ok(())
     }
+}
+
+/// Numbers in whose place no document can stand, since it would be too deep.
+struct Deepest;
+
+impl Refuser for Deepest {
+    ghost refuses = { λ _. refuses_deepest };
+
+    fn refuse(
+        &self,
+        room: u32,
+        _path: &[u8],
+        typed: ElementType,
+        _value: &[u8],
+    ) -> Option<Refusal> {
+        match typed {
+            ElementType::Double | ElementType::Decimal128 if room == 0 => Some(Refusal::TooDeep),
+            _ => None,
+        }
+    }
+}
+
+/// Appends a document in which doubles and decimal128 are wrapped, and says so; or the document as it is, where it would be
+/// too deep or too long. `path` is a buffer.
+///
+/// # Errors
+/// `NoMemory` leaves `out` as it was.
+pub fn write_wrapped(bytes: &[u8], path: &mut Vec<u8>, out: &mut Vec<u8>) -> Result<bool, NoMemory>
+    ensures ok { IfOk result (λ wrapped.
+        Adds (IsWrappedDocument bytes.now wrapped) out.old.items out.new.items) }
+    ensures kept { OnErr result (out.new.items ≡ out.old.items) }
+{
+    path.clear();
+    let before = out.len();
+    if find_refused(&Deepest, bytes, path)?.is_none() {
+        write_rewritten(&Wrap, bytes, out)?;
+        if out.len() - before <= LONGEST_DOCUMENT {
+            return Ok(true);
+        }
+        out.truncate(before);
+    }
+    out.extend_from_slice(bytes)?;
+    Ok(false)
 }
 
 /// The number that the first eight bytes are.

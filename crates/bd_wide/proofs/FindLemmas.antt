@@ -1,0 +1,125 @@
+-- The first refused number among elements.
+use Rattle.std.proofs.Common.{◌≡◌, ℕ, zero, suc, ◌+◌, ◌-◌, ◌<◌, ◌≤◌, List, [], ◌∷◌, ◌++◌, length, take, drop, Option, Some, None, refl, sym, ap, ◌∙◌, arith, subst, length-drop, Bool, true, false, true≢false, Result, Ok, Err, IfOk}
+use Rattle.bd_raw.specs.declared.raw_parts.ElementType.{ElementType}
+use Rattle.bd_wide.specs.Rewritten.{front}
+use Rattle.bd_raw.specs.declared.raw_parts.Holder.TheVariants as holders
+use Rattle.std.specs.Io.{StartsWith}
+use Rattle.std.specs.Option.{is_some}
+use Rattle.bd_value.proofs.FrontLemmas.{front_then}
+use Rattle.std.proofs.Math.Seq.{take-append_seam, take-length}
+use Rattle.bd_wide.specs.declared.find.Found.{Found}
+use Rattle.bd_wide.specs.Refused.{Refused, Refuses, Element, Finds, FindsPlaced, first_of_two, name_in, path_of, refused_body, refused_element, refused_elements, refused_nested, refused_scope}
+use Rattle.bd_wide.proofs.WalkLemmas.{shorter, front_nil}
+
+-- one turn, by what stands at the front
+abbrev pub Turn : Element → (List ℕ → List ℕ) → ℕ → ℕ → List ℕ → Option (ElementType × ℕ × ℕ) → Option Refused
+Turn element own n at bytes None = None
+Turn element own n at bytes (Some x) =
+    first_of_two (element x.0 (own (take x.1 bytes)) at x.1 (take x.2 (drop x.1 bytes))) (refused_elements element own n (at + x.1 + x.2) (drop x.2 (drop x.1 bytes)))
+
+turned : (element : Element) (own : List ℕ → List ℕ) (n at b : ℕ) (bytes : List ℕ) → refused_elements element own (suc n) at (b ∷ bytes) ≡ Turn element own n at (b ∷ bytes) (front (b ∷ bytes))
+unfolding refused_elements
+turned element own n at b bytes = elim (front (b ∷ bytes)) as (λ f. (elim f [
+  | None ↦ None
+  | Some x ↦ first_of_two (element x.0 (own (take x.1 (b ∷ bytes))) at x.1 (take x.2 (drop x.1 (b ∷ bytes)))) (refused_elements element own n (at + x.1 + x.2) (drop x.2 (drop x.1 (b ∷ bytes))))
+]) ≡ Turn element own n at (b ∷ bytes) f) [ None ↦ refl | Some x ↦ refl ]
+
+none_in : (element : Element) (own : List ℕ → List ℕ) (n at : ℕ) → refused_elements element own n at [] ≡ None
+unfolding refused_elements
+none_in element own zero at = refl
+none_in element own (suc n) at = refl
+
+-- any number of turns from the count of the bytes on is as good
+enough : (element : Element) (own : List ℕ → List ℕ) (n m at : ℕ) (bytes : List ℕ) → length bytes ≤ n → length bytes ≤ m → refused_elements element own n at bytes ≡ refused_elements element own m at bytes
+enough element own n m at [] p q = none_in element own n at ∙ sym (none_in element own m at)
+enough element own zero m at (b ∷ bytes) p q = absurd (omega arith)
+enough element own (suc n) zero at (b ∷ bytes) p q = absurd (omega arith)
+enough element own (suc n) (suc m) at (b ∷ bytes) p q =
+    let here : (f : Option (ElementType × ℕ × ℕ)) → front (b ∷ bytes) ≡ f → Turn element own n at (b ∷ bytes) f ≡ Turn element own m at (b ∷ bytes) f = elim [
+      | None ↦ λ is. refl
+      | Some x ↦ λ is.
+          let less = shorter b bytes x is in
+          ap (first_of_two (element x.0 (own (take x.1 (b ∷ bytes))) at x.1 (take x.2 (drop x.1 (b ∷ bytes))))) (enough element own n m (at + x.1 + x.2) (drop x.2 (drop x.1 (b ∷ bytes))) (omega (arith, less)) (omega (arith, less)))
+    ] in
+    turned element own n at b bytes ∙ here (front (b ∷ bytes)) refl ∙ sym (turned element own m at b bytes)
+
+-- the first element, and the others
+pub goes_on : (element : Element) (own : List ℕ → List ℕ) (at : ℕ) (bytes : List ℕ) (x : ElementType × ℕ × ℕ) → Some x ≡ front bytes
+    → refused_elements element own (length bytes) at bytes
+    ≡ first_of_two (element x.0 (own (take x.1 bytes)) at x.1 (take x.2 (drop x.1 bytes))) (refused_elements element own (length (drop x.2 (drop x.1 bytes))) (at + x.1 + x.2) (drop x.2 (drop x.1 bytes)))
+goes_on element own at [] x is = let e = is ∙ front_nil in absurd cc
+goes_on element own at (b ∷ bytes) x is =
+    let less = shorter b bytes x (sym is) in
+    let rest : List ℕ = drop x.2 (drop x.1 (b ∷ bytes)) in
+    turned element own (length bytes) at b bytes ∙ ap (Turn element own (length bytes) at (b ∷ bytes)) (sym is)
+    ∙ ap (first_of_two (element x.0 (own (take x.1 (b ∷ bytes))) at x.1 (take x.2 (drop x.1 (b ∷ bytes))))) (enough element own (length bytes) (length rest) (at + x.1 + x.2) rest less (omega arith))
+
+pub ends : (element : Element) (own : List ℕ → List ℕ) (at : ℕ) (bytes : List ℕ) → None ≡ front bytes → refused_elements element own (length bytes) at bytes ≡ None
+ends element own at [] is = none_in element own 0 at
+ends element own at (b ∷ bytes) is = turned element own (length bytes) at b bytes ∙ ap (Turn element own (length bytes) at (b ∷ bytes)) (sym is)
+
+-- ---- what is found
+
+-- one element was looked at
+pub found_here : (element : Element) (b : Bool) (old : List ℕ) (at here : ℕ) (bytes rest head more value path new : List ℕ) (t : ElementType) (k n : ℕ) (found : Option Found)
+    → refused_elements element (path_of b old) (length bytes) at bytes ≡ refused_elements element (path_of b old) (length rest) here rest
+    → Some (t, k, n) ≡ front rest → head ≡ take k rest → length head ≡ k → more ≡ drop k rest → value ≡ take n more → path ≡ old
+    → Finds (element t (path_of b path head) here (length head) value) path new found → is_some found ≡ true
+    → Finds (refused_elements element (path_of b old) (length bytes) at bytes) old new found
+found_here element b old at here bytes rest head more value path new t k n None passed is h l m v p finds yes_is = absurd (true≢false (sym yes_is))
+found_here element b old at here bytes rest head more value path new t k n (Some f) passed is h l m v p finds yes_is =
+    let one : element t (path_of b path head) here (length head) value ≡ element t (path_of b old (take k rest)) here k (take n (drop k rest)) =
+    (λ i. element t (path_of b (p i) (h i)) here (l i) ((v ∙ ap (take n) m) i)) in
+    passed ∙ goes_on element (path_of b old) here rest (t, k, n) is
+    ∙ ap (λ o. first_of_two o (refused_elements element (path_of b old) (length (drop n (drop k rest))) (here + k + n) (drop n (drop k rest)))) (sym one ∙ finds)
+
+pub passed_on : (element : Element) (b : Bool) (old : List ℕ) (at here : ℕ) (bytes rest head more value after path new : List ℕ) (t : ElementType) (k n : ℕ) (found : Option Found)
+    → refused_elements element (path_of b old) (length bytes) at bytes ≡ refused_elements element (path_of b old) (length rest) here rest
+    → Some (t, k, n) ≡ front rest → head ≡ take k rest → length head ≡ k → more ≡ drop k rest → value ≡ take n more → after ≡ drop n more → path ≡ old
+    → Finds (element t (path_of b path head) here (length head) value) path new found → is_some found ≡ false
+    → (refused_elements element (path_of b old) (length bytes) at bytes ≡ refused_elements element (path_of b old) (length after) (here + k + n) after) × (new ≡ old)
+passed_on element b old at here bytes rest head more value after path new t k n (Some f) passed is h l m v a p finds none = absurd (true≢false none)
+passed_on element b old at here bytes rest head more value after path new t k n None passed is h l m v a p finds none =
+    let one : element t (path_of b path head) here (length head) value ≡ element t (path_of b old (take k rest)) here k (take n (drop k rest)) =
+    (λ i. element t (path_of b (p i) (h i)) here (l i) ((v ∙ ap (take n) m) i)) in
+    let later : after ≡ drop n (drop k rest) = a ∙ ap (drop n) m in (
+      passed ∙ goes_on element (path_of b old) here rest (t, k, n) is
+          ∙ ap (λ o. first_of_two o (refused_elements element (path_of b old) (length (drop n (drop k rest))) (here + k + n) (drop n (drop k rest)))) (sym one ∙ finds.0)
+          ∙ ap (λ x. refused_elements element (path_of b old) (length x) (here + k + n) x) (sym later),
+      finds.1 ∙ p,
+    )
+
+-- the path is cut to what it was
+own_begins : (b : Bool) (old head : List ℕ) → StartsWith (path_of b old head) old
+own_begins true old head = take-length old
+own_begins false old head = take-append_seam old (name_in head)
+
+pub restored : (F : List ℕ → Option Refused) (b : Bool) (old head own after new : List ℕ) (size : ℕ) (found : Option Found) → own ≡ path_of b old head → size ≡ length old
+    → FindsPlaced (F own) own after found → is_some found ≡ false → new ≡ take size after → Finds (F (path_of b old head)) old new found
+restored F b old head own after new size (Some f) is here placed none cut = absurd (true≢false none)
+restored F b old head own after new size None is here placed none cut =
+    let begun : StartsWith own old = subst (λ (p : List ℕ). StartsWith p old) (sym is) (own_begins b old head) in
+    (ap F (sym is) ∙ placed.0, cut ∙ ap (λ n. take n after) here ∙ front_then old own after begun placed.1)
+
+pub kept_path : (F : List ℕ → Option Refused) (b : Bool) (old head own after : List ℕ) (found : Option Found) → own ≡ path_of b old head
+    → FindsPlaced (F own) own after found → is_some found ≡ true → Finds (F (path_of b old head)) old after found
+kept_path F b old head own after None is placed yes_is = absurd (true≢false (sym yes_is))
+kept_path F b old head own after (Some f) is placed yes_is = ap F (sym is) ∙ placed
+
+pub deeper : (refuses : Refuses) (room : ℕ) (path : List ℕ) (at : ℕ) (value : List ℕ) → 0 < room
+    → (refused_nested refuses room holders.Document path at value ≡ refused_body (refused_element (refuses (room - 1)) (refused_nested refuses (room - 1))) (path_of false path) at value)
+    × (refused_nested refuses room holders.Array path at value ≡ refused_body (refused_element (refuses (room - 1)) (refused_nested refuses (room - 1))) (path_of true path) at value)
+    × (refused_nested refuses room holders.CodeScope path at value ≡ refused_scope (refused_nested refuses (room - 1) holders.Document path) at value)
+unfolding refused_nested
+deeper refuses zero path at value some = absurd (omega arith)
+deeper refuses (suc room) path at value some =
+    let s : room ≡ suc room - 1 = omega arith in (
+      ap (λ r. refused_body (refused_element (refuses r) (refused_nested refuses r)) (path_of false path) at value) s,
+      ap (λ r. refused_body (refused_element (refuses r) (refused_nested refuses r)) (path_of true path) at value) s,
+      ap (λ r. refused_scope (refused_nested refuses r holders.Document path) at value) s,
+    )
+
+pub finds_as : {E : Type 0} (r : Result (Option Found) E) (one two : Option Refused) (old new : List ℕ) → two ≡ one → IfOk r (Finds one old new) → IfOk r (Finds two old new)
+finds_as (Err e) one two old new same h = _
+finds_as (Ok None) one two old new same h = (same ∙ h.0, h.1)
+finds_as (Ok (Some f)) one two old new same h = same ∙ h

@@ -1,0 +1,88 @@
+use Rattle.std.proofs.Common.{◌≡◌, ◌≤◌, ◌<◌, ◌+◌, ◌-◌, List, ℕ, length, drop, arith, rules, sym, ap, ◌∙◌, length-drop, false, true, not}
+use Rattle.bd_raw.specs.declared.raw_parts.Holder.TheVariants as holders
+use Rattle.bd_wide.specs.Refused.{path_of, refused_element, refused_elements, refused_nested}
+use Rattle.bd_wide.specs.Rewritten.{holder_least, least}
+use Rattle.bd_wide.proofs.FindLemmas as finds
+use Rattle.bd_wide.proofs.find.+finding.Goals as goal
+
+pub element-returns-then-is_none : goal.element-returns-then-is_none
+element-returns-then-is_none g t c =
+    finds.restored (λ p. refused_element (g.R.Refuser.refuses c.args.refuser.now c.args.room) (refused_nested (g.R.Refuser.refuses c.args.refuser.now) c.args.room) c.args.typed p c.args.at (length c.args.head.now) c.args.value.now)
+    c.args.in_array c.args.path.now.items c.args.head.now c.enter.new.path.items c.placed.new.path.items c.truncate.new.self.items c.len-before.result c.in_ok-found.found c.in_ok-enter.ensures (search rules)
+    c.in_ok-found.ensures (c.is_none.ensures ∙ ap not c.if-is_none.true) c.truncate.ensures.items
+
+pub elements-returns-then-is_some : goal.elements-returns-then-is_some
+elements-returns-then-is_some g t c =
+    finds.found_here (refused_element (g.R.Refuser.refuses c.args.refuser.now c.args.room) (refused_nested (g.R.Refuser.refuses c.args.refuser.now) c.args.room))
+    c.args.in_array c.args.path.now.items c.args.at c.loop-typed.here c.args.bytes.now c.loop-typed.rest.now c.split_at.result.0.now c.split_at.result.1.now c.split_at-in-Some.result.0.now
+    c.loop-typed.path.items c.element.new.path.items c.in-Some.typed c.in-Some.k c.in-Some.n c.in_ok-found.found
+    c.loop-typed.invariant.passed c.in-Some.ensures.gives c.split_at.ensures.front c.split_at.ensures.front_len c.split_at.ensures.back c.split_at-in-Some.ensures.front c.loop-typed.invariant.path_is
+    c.in_ok-found.ensures (sym c.is_some.ensures ∙ c.if-is_some.true)
+
+pub elements-loop-typed-preserved : goal.elements-loop-typed-preserved
+elements-loop-typed-preserved g t c =
+    let on = finds.passed_on (refused_element (g.R.Refuser.refuses c.args.refuser.now c.args.room) (refused_nested (g.R.Refuser.refuses c.args.refuser.now) c.args.room))
+    c.args.in_array c.args.path.now.items c.args.at c.loop-typed.here c.args.bytes.now c.loop-typed.rest.now c.split_at.result.0.now c.split_at.result.1.now c.split_at-in-Some.result.0.now c.split_at-in-Some.result.1.now
+    c.loop-typed.path.items c.element.new.path.items c.in-Some.typed c.in-Some.k c.in-Some.n c.in_ok-found.found
+    c.loop-typed.invariant.passed c.in-Some.ensures.gives c.split_at.ensures.front c.split_at.ensures.front_len c.split_at.ensures.back c.split_at-in-Some.ensures.front c.split_at-in-Some.ensures.back c.loop-typed.invariant.path_is
+    c.in_ok-found.ensures (sym c.is_some.ensures ∙ c.if-is_some.false) in
+    let one = c.split_at.ensures.back_len in
+    let two = c.split_at-in-Some.ensures.back_len in
+    let before = c.loop-typed.invariant.counted in
+    record { passed = on.0; path_is = on.1; counted = omega (arith, one, two, before) }
+
+pub elements-returns : goal.elements-returns
+elements-returns g t c = (
+  c.loop-typed.invariant.passed
+      ∙ finds.ends (refused_element (g.R.Refuser.refuses c.args.refuser.now c.args.room) (refused_nested (g.R.Refuser.refuses c.args.refuser.now) c.args.room)) (path_of c.args.in_array c.args.path.now.items) c.loop-typed.here c.loop-typed.rest.now c.in_default.ensures.gives,
+  c.loop-typed.invariant.path_is,
+)
+
+pub nested-returns-in-Document : goal.nested-returns-in-Document
+nested-returns-in-Document g t c =
+    finds.finds_as c.body.result _ _ c.args.path.now.items c.body.new.path.items
+    (ap (λ h. refused_nested (g.R.Refuser.refuses c.args.refuser.now) c.args.room h c.args.path.now.items c.args.at c.args.value.now) c.in-Document.is
+    ∙ (finds.deeper (g.R.Refuser.refuses c.args.refuser.now) c.args.room c.args.path.now.items c.args.at c.args.value.now (omega arith)).0) c.body.ensures
+
+pub nested-returns-in-Array : goal.nested-returns-in-Array
+nested-returns-in-Array g t c =
+    finds.finds_as c.body-in-Array.result _ _ c.args.path.now.items c.body-in-Array.new.path.items
+    (ap (λ h. refused_nested (g.R.Refuser.refuses c.args.refuser.now) c.args.room h c.args.path.now.items c.args.at c.args.value.now) c.in-Array.is
+    ∙ (finds.deeper (g.R.Refuser.refuses c.args.refuser.now) c.args.room c.args.path.now.items c.args.at c.args.value.now (omega arith)).1) c.body-in-Array.ensures
+
+pub nested-returns-in-CodeScope : goal.nested-returns-in-CodeScope
+nested-returns-in-CodeScope g t c =
+    finds.finds_as c.scoped.result _ _ c.args.path.now.items c.scoped.new.path.items
+    (ap (λ h. refused_nested (g.R.Refuser.refuses c.args.refuser.now) c.args.room h c.args.path.now.items c.args.at c.args.value.now) c.in-CodeScope.is
+    ∙ (finds.deeper (g.R.Refuser.refuses c.args.refuser.now) c.args.room c.args.path.now.items c.args.at c.args.value.now (omega arith)).2) c.scoped.ensures
+
+pub placed-nested-requires : goal.placed-nested-requires
+unfolding holder_least least
+placed-nested-requires g t c κs within =
+    let e = c.decreases in
+    let f = c.requires.fits in
+    (omega arith, (within, (rw (c.in-Kept.is, c.in-Doc.is) at c.requires.value, f)))
+
+pub placed-nested-requires-in-Array : goal.placed-nested-requires-in-Array
+unfolding holder_least least
+placed-nested-requires-in-Array g t c κs within =
+    let e = c.decreases in
+    let f = c.requires.fits in
+    (omega arith, (within, (rw (c.in-Kept.is, c.in-Array.is) at c.requires.value, f)))
+
+pub placed-nested-requires-in-CodeScope : goal.placed-nested-requires-in-CodeScope
+unfolding holder_least least
+placed-nested-requires-in-CodeScope g t c κs within =
+    let e = c.decreases in
+    let f = c.requires.fits in
+    (omega arith, (within, (rw (c.in-Kept.is, c.in-CodeScope.is) at c.requires.value, f)))
+
+pub scoped-nested-requires : goal.scoped-nested-requires
+unfolding holder_least
+scoped-nested-requires g t c κs within =
+    let e = c.decreases in
+    let b = c.split_at.ensures.back in
+    let i = c.in-Some.ensures.inside in
+    let f = c.requires.fits in
+    let long : length c.split_at.result.1.now ≡ length c.args.value.now - c.in-Some.k = ap (λ xs. length xs) b ∙ length-drop c.in-Some.k c.args.value.now in
+    (omega arith, (within, (omega (arith, long, i.1), omega (arith, long, i.1, f))))

@@ -1,0 +1,34 @@
+use Rattle.std.proofs.Common.{◌≡◌, ◌+◌, ◌*◌, ◌++◌, length}
+use Rattle.bd_wide.specs.Refused.{path_of, refused_element, refused_elements, refused_nested}
+use Rattle.bd_wide.proofs.find.+finding.Given as goal
+
+abbrev pub decreases-nested : goal.decreases-nested
+decreases-nested g l = 5 * l.room
+
+abbrev pub decreases-placed : goal.decreases-placed
+decreases-placed g l = 5 * l.room + 1
+
+abbrev pub decreases-element : goal.decreases-element
+decreases-element g l = 5 * l.room + 2
+
+abbrev pub decreases-elements : goal.decreases-elements
+decreases-elements g l = 5 * l.room + 3
+
+abbrev pub decreases-body : goal.decreases-body
+decreases-body g l = 5 * l.room + 4
+
+abbrev pub decreases-scoped : goal.decreases-scoped
+decreases-scoped g l = 5 * l.room + 4
+
+abbrev pub invariant-elements-loop-typed : goal.invariant-elements-loop-typed
+invariant-elements-loop-typed g l =
+    let element = refused_element (g.R.Refuser.refuses l.refuser l.room) (refused_nested (g.R.Refuser.refuses l.refuser) l.room) in
+    let own = path_of l.in_array l.fn.path.items in
+    record {
+      passed : refused_elements element own (length l.bytes) l.at l.bytes ≡ refused_elements element own (length l.rest) l.here l.rest;
+      path_is : l.path.items ≡ l.fn.path.items;
+      counted : l.here + length l.rest ≡ l.at + length l.bytes;
+    }
+
+abbrev pub decreases-elements-loop-typed : goal.decreases-elements-loop-typed
+decreases-elements-loop-typed g l = length l.rest

@@ -1,0 +1,100 @@
+-- The first number of a document that is refused, from left to right, and where it stands.
+use Rattle.std.specs.Prelude.{◌≡◌, ℕ, zero, suc, ◌+◌, ◌-◌, List, [], ◌∷◌, ◌++◌, length, take, drop, Option, Some, None, option_map, Bool, true, false, nat_lt, if◌then◌else◌, codes}
+use Rattle.std.specs.Io.{StartsWith}
+use Rattle.bd_value.specs.declared.node.Kind.TheVariants as kinds
+use Rattle.bd_raw.specs.declared.raw_parts.ElementType.{ElementType}
+use Rattle.bd_raw.specs.declared.raw_parts.ElementType.TheVariants.{Kept, Double, Decimal128}
+use Rattle.bd_raw.specs.declared.raw_parts.Holder.{Holder}
+use Rattle.bd_raw.specs.declared.raw_parts.Holder.TheVariants as holders
+use Rattle.bd_wide.specs.declared.find.Refusal.{Refusal}
+use Rattle.bd_wide.specs.declared.find.Found.{Found}
+use Rattle.bd_wide.specs.Rewritten.{front, scope_at}
+
+-- why a number is refused, if it is: by how many levels are left below it, its path, its type and its value
+abbrev pub Refuses : Type 0
+Refuses = ℕ → List ℕ → ElementType → List ℕ → Option Refusal
+
+-- a refused number: how many bytes stand before its element, its path, and why it is refused
+pub record Refused : Type 0 where
+  pub at : ℕ
+  pub path : List ℕ
+  pub why : Refusal
+
+abbrev pub refused_at : ℕ → List ℕ → Option Refusal → Option Refused
+refused_at at path why = option_map (λ w. record { at = at; path = path; why = w }) why
+
+-- ---- paths: the names from the top joined by dots; positions in arrays are left out
+
+-- the name in the head of an element
+abbrev pub name_in : List ℕ → List ℕ
+name_in head = take (length head - 2) (drop 1 head)
+
+-- the path of an element in an array with this path, or in a document whose names come after these bytes
+abbrev pub path_of : Bool → List ℕ → List ℕ → List ℕ
+path_of in_array path head = if in_array then path else path ++ name_in head
+
+-- ---- by recursion, as `IsRewritten`; the number is how many bytes stand before what is looked at
+
+-- what holds values: by its kind, and by its path as `path_of` has it
+abbrev pub Nested : Type 0
+Nested = Holder → List ℕ → ℕ → List ℕ → Option Refused
+
+-- an element with its path, a head of so many bytes and a value
+abbrev pub Element : Type 0
+Element = ElementType → List ℕ → ℕ → ℕ → List ℕ → Option Refused
+
+-- the first of two
+abbrev pub first_of_two : Option Refused → Option Refused → Option Refused
+first_of_two None next = next
+first_of_two (Some first) next = Some first
+
+unfoldable pub refused_element : (List ℕ → ElementType → List ℕ → Option Refusal) → Nested → Element
+refused_element refuses nested Double path at k value = refused_at at path (refuses path Double value)
+refused_element refuses nested Decimal128 path at k value = refused_at at path (refuses path Decimal128 value)
+refused_element refuses nested (Kept kinds.Int32) path at k value = refused_at at path (refuses path (Kept kinds.Int32) value)
+refused_element refuses nested (Kept kinds.Int64) path at k value = refused_at at path (refuses path (Kept kinds.Int64) value)
+refused_element refuses nested (Kept kinds.Doc) path at k value = nested holders.Document (path ++ codes ".") (at + k) value
+refused_element refuses nested (Kept kinds.Array) path at k value = nested holders.Array path (at + k) value
+refused_element refuses nested (Kept kinds.CodeScope) path at k value = nested holders.CodeScope (path ++ codes ".$scope.") (at + k) value
+refused_element refuses nested (Kept _) path at k value = None
+
+unfoldable pub refused_elements : Element → (List ℕ → List ℕ) → ℕ → ℕ → List ℕ → Option Refused
+refused_elements element own zero at bytes = None
+refused_elements element own (suc n) at [] = None
+refused_elements element own (suc n) at (b ∷ bytes) = elim (front (b ∷ bytes)) [
+  | None ↦ None
+  | Some x ↦
+      let rest = drop x.1 (b ∷ bytes) in
+      first_of_two (element x.0 (own (take x.1 (b ∷ bytes))) at x.1 (take x.2 rest))
+      (refused_elements element own n (at + x.1 + x.2) (drop x.2 rest))
+]
+
+unfoldable pub refused_body : Element → (List ℕ → List ℕ) → ℕ → List ℕ → Option Refused
+refused_body element own at value =
+    let inner = take (length value - 5) (drop 4 value) in refused_elements element own (length inner) (at + 4) inner
+
+unfoldable pub refused_scope : (ℕ → List ℕ → Option Refused) → ℕ → List ℕ → Option Refused
+refused_scope document at value = elim (scope_at value) [ None ↦ None | Some k ↦ document (at + k) (drop k value) ]
+
+unfoldable pub refused_nested : Refuses → ℕ → Nested
+refused_nested refuses zero holder path at value = None
+refused_nested refuses (suc room) holders.Document path at value =
+    refused_body (refused_element (refuses room) (refused_nested refuses room)) (path_of false path) at value
+refused_nested refuses (suc room) holders.Array path at value =
+    refused_body (refused_element (refuses room) (refused_nested refuses room)) (path_of true path) at value
+refused_nested refuses (suc room) holders.CodeScope path at value =
+    refused_scope (refused_nested refuses room holders.Document path) at value
+
+-- of the document that all of the bytes are
+unfoldable pub first_refused : Refuses → List ℕ → Option Refused
+first_refused refuses bytes = if nat_lt (length bytes) 5 then None else refused_nested refuses 200 holders.Document [] 0 bytes
+
+-- what is found, and the path where there is none is as it was
+abbrev pub Finds : Option Refused → List ℕ → List ℕ → Option Found → Type 0
+Finds refused old new None = (refused ≡ None) × (new ≡ old)
+Finds refused old new (Some f) = refused ≡ Some (record { at = f.at; path = new; why = f.why })
+
+-- the same, but where there is none the path may have got longer
+abbrev pub FindsPlaced : Option Refused → List ℕ → List ℕ → Option Found → Type 0
+FindsPlaced refused old new None = (refused ≡ None) × StartsWith new old
+FindsPlaced refused old new (Some f) = refused ≡ Some (record { at = f.at; path = new; why = f.why })

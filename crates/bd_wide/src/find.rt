@@ -1,0 +1,264 @@
+//! The first number of a document that is refused.
+
+ghost use Rattle.std.specs.Prelude.{◌≡◌, ◌≤◌, ◌<◌, ◌+◌, ◌^◌, ◌++◌, List, ℕ, length, Option, OnOk, IfOk, codes};
+ghost use Rattle.std.specs.Io.{StartsWith};
+ghost use Rattle.bd_raw.specs.declared.raw_parts.ElementType as element_type;
+ghost use Rattle.bd_raw.specs.declared.raw_parts.Holder.TheVariants as holders;
+ghost use Rattle.bd_wide.specs.Rewritten.{holder_least, least};
+ghost use Rattle.bd_wide.specs.Refused.{Finds, FindsPlaced, path_of, first_refused, refused_at, refused_body, refused_element, refused_elements, refused_nested, refused_scope};
+ghost use Rattle.bd_wide.specs.declared.find.Refusal as refusal;
+
+use crate::element::front;
+use crate::walk::scope_at;
+use bd_raw::{ElementType, Holder};
+use bd_value::{Kind, MOST_LEVELS, NoMemory};
+
+/// Why a number is refused.
+#[derive(Clone, Copy, Debug, PartialEq, Eq)]
+pub enum Refusal {
+    /// Nothing can stand in its place at a level more.
+    TooDeep,
+}
+
+/// A refused number.
+#[derive(Clone, Copy, Debug)]
+pub struct Found {
+    /// How many bytes stand before its element.
+    pub at: usize,
+    pub why: Refusal,
+}
+
+/// Which numbers are refused.
+pub trait Refuser {
+    /// Why one is, by how many levels are left below it, its path, its type and its value.
+    ghost refuses: { Self → ℕ → List ℕ → element_type.ElementType → List ℕ → Option refusal.Refusal };
+
+    fn refuse(&self, room: u32, path: &[u8], typed: ElementType, value: &[u8]) -> Option<Refusal>
+        requires { least typed ≤ length value.now }
+        ensures { result ≡ refuses self.now room path.now typed value.now };
+}
+
+/// The first number that is refused of the document that all of the bytes are. `path` is empty, and gets the path of it.
+#[tactic(auto, unfolding(crate::specs::Refused::first_refused, crate::specs::Rewritten::holder_least))]
+pub fn find_refused<R: Refuser>(
+    refuser: &R,
+    bytes: &[u8],
+    path: &mut Vec<u8>,
+) -> Result<Option<Found>, NoMemory>
+    requires { length path.old.items ≡ 0 }
+    ensures { IfOk result (Finds (first_refused (R.refuses refuser.now) bytes.now)
+        path.old.items path.new.items) }
+{
+    if bytes.len() < 5 {
+        return Ok(None);
+    }
+    nested(
+        refuser,
+        MOST_LEVELS as u32,
+        Holder::Document,
+        0,
+        bytes,
+        path,
+    )
+}
+
+/// Of elements, with so many levels left below them.
+#[cycle(finding)]
+fn elements<R: Refuser>(
+    refuser: &R,
+    room: u32,
+    in_array: bool,
+    at: usize,
+    bytes: &[u8],
+    path: &mut Vec<u8>,
+) -> Result<Option<Found>, NoMemory>
+    requires { at + length bytes.now < 2 ^ 64 }
+    ensures { IfOk result (Finds (refused_elements
+        (refused_element (R.refuses refuser.now room) (refused_nested (R.refuses refuser.now) room))
+        (path_of in_array path.old.items) (length bytes.now) at bytes.now) path.old.items path.new.items) }
+{
+    let mut rest = bytes;
+    let mut here = at;
+    while let Some((typed, k, n)) = front(rest) {
+        let (head, more) = rest.split_at(k);
+        let (value, after) = more.split_at(n);
+        let found = element(refuser, room, in_array, here, typed, head, value, path)?;
+        if found.is_some() {
+            return Ok(found);
+        }
+        rest = after;
+        here = here + k + n;
+    }
+    Ok(None)
+}
+
+/// Of an element, with so many levels left below it.
+#[cycle(finding)]
+#[tactic(auto, using(bd_value::proofs::FrontLemmas::fronts), unfolding(crate::specs::Refused::refused_element))]
+fn element<R: Refuser>(
+    refuser: &R,
+    room: u32,
+    in_array: bool,
+    at: usize,
+    typed: ElementType,
+    head: &[u8],
+    value: &[u8],
+    path: &mut Vec<u8>,
+) -> Result<Option<Found>, NoMemory>
+    requires head { 2 ≤ length head.now }
+    requires value { least typed ≤ length value.now }
+    requires fits { at + length head.now + length value.now < 2 ^ 64 }
+    ensures { IfOk result (Finds (refused_element (R.refuses refuser.now room)
+        (refused_nested (R.refuses refuser.now) room) typed (path_of in_array path.old.items head.now)
+        at (length head.now) value.now) path.old.items path.new.items) }
+{
+    let before = path.len();
+    enter(in_array, head, path)?;
+    let found = placed(refuser, room, at, typed, head.len(), value, path)?;
+    if found.is_none() {
+        path.truncate(before);
+    }
+    Ok(found)
+}
+
+/// Makes the path that of an element.
+fn enter(in_array: bool, head: &[u8], path: &mut Vec<u8>) -> Result<(), NoMemory>
+    requires { 2 ≤ length head.now }
+    ensures { OnOk result (path.new.items ≡ path_of in_array path.old.items head.now) }
+{
+    if in_array {
+        return Ok(());
+    }
+    let (_, more) = head.split_at(1);
+    let (name, _) = more.split_at(head.len() - 2);
+    path.extend_from_slice(name)
+}
+
+/// Of an element whose path this is.
+#[cycle(finding)]
+#[tactic(auto, using(bd_value::proofs::FrontLemmas::fronts), unfolding(crate::specs::Refused::refused_element, crate::specs::Rewritten::least))]
+fn placed<R: Refuser>(
+    refuser: &R,
+    room: u32,
+    at: usize,
+    typed: ElementType,
+    size: usize,
+    value: &[u8],
+    path: &mut Vec<u8>,
+) -> Result<Option<Found>, NoMemory>
+    requires value { least typed ≤ length value.now }
+    requires fits { at + size + length value.now < 2 ^ 64 }
+    ensures { IfOk result (FindsPlaced (refused_element (R.refuses refuser.now room)
+        (refused_nested (R.refuses refuser.now) room) typed path.old.items at size value.now)
+        path.old.items path.new.items) }
+{
+    let kind = match typed {
+        ElementType::Kept(kind) => kind,
+        ElementType::Double | ElementType::Decimal128 => {
+            return Ok(number(refuser, room, at, typed, value, path));
+        }
+    };
+    match kind {
+        Kind::Int32 | Kind::Int64 => Ok(number(refuser, room, at, typed, value, path)),
+        Kind::Doc => {
+            path.extend_from_slice(b".")?;
+            nested(refuser, room, Holder::Document, at + size, value, path)
+        }
+        Kind::Array => nested(refuser, room, Holder::Array, at + size, value, path),
+        Kind::CodeScope => {
+            path.extend_from_slice(b".$scope.")?;
+            nested(refuser, room, Holder::CodeScope, at + size, value, path)
+        }
+        _ => Ok(None),
+    }
+}
+
+/// Of a number.
+fn number<R: Refuser>(
+    refuser: &R,
+    room: u32,
+    at: usize,
+    typed: ElementType,
+    value: &[u8],
+    path: &[u8],
+) -> Option<Found>
+    requires { least typed ≤ length value.now }
+    ensures { Finds (refused_at at path.now (R.refuses refuser.now room path.now typed value.now))
+        path.now path.now result }
+{
+    match refuser.refuse(room, path, typed, value) {
+        Some(why) => Some(Found { at, why }),
+        None => None,
+    }
+}
+
+/// Of a value that holds values, with so many levels left for it.
+#[cycle(finding)]
+#[tactic(auto, unfolding(crate::specs::Refused::refused_nested, crate::specs::Rewritten::holder_least))]
+fn nested<R: Refuser>(
+    refuser: &R,
+    room: u32,
+    holder: Holder,
+    at: usize,
+    value: &[u8],
+    path: &mut Vec<u8>,
+) -> Result<Option<Found>, NoMemory>
+    requires least { holder_least holder ≤ length value.now }
+    requires fits { at + length value.now < 2 ^ 64 }
+    ensures { IfOk result (Finds (refused_nested (R.refuses refuser.now) room holder path.old.items
+        at value.now) path.old.items path.new.items) }
+{
+    if room == 0 {
+        return Ok(None);
+    }
+    match holder {
+        Holder::Document => body(refuser, room - 1, false, at, value, path),
+        Holder::Array => body(refuser, room - 1, true, at, value, path),
+        Holder::CodeScope => scoped(refuser, room - 1, at, value, path),
+    }
+}
+
+/// Of a document or an array, with so many levels left below it.
+#[cycle(finding)]
+#[tactic(auto, unfolding(crate::specs::Refused::refused_body))]
+fn body<R: Refuser>(
+    refuser: &R,
+    room: u32,
+    in_array: bool,
+    at: usize,
+    value: &[u8],
+    path: &mut Vec<u8>,
+) -> Result<Option<Found>, NoMemory>
+    requires least { 5 ≤ length value.now }
+    requires fits { at + length value.now < 2 ^ 64 }
+    ensures { IfOk result (Finds (refused_body
+        (refused_element (R.refuses refuser.now room) (refused_nested (R.refuses refuser.now) room))
+        (path_of in_array path.old.items) at value.now) path.old.items path.new.items) }
+{
+    let (_, more) = value.split_at(4);
+    let (inner, _) = more.split_at(value.len() - 5);
+    elements(refuser, room, in_array, at + 4, inner, path)
+}
+
+/// Of code with scope, with so many levels left for its scope.
+#[cycle(finding)]
+#[tactic(auto, unfolding(crate::specs::Refused::refused_scope))]
+fn scoped<R: Refuser>(
+    refuser: &R,
+    room: u32,
+    at: usize,
+    value: &[u8],
+    path: &mut Vec<u8>,
+) -> Result<Option<Found>, NoMemory>
+    requires least { 14 ≤ length value.now }
+    requires fits { at + length value.now < 2 ^ 64 }
+    ensures { IfOk result (Finds (refused_scope
+        (refused_nested (R.refuses refuser.now) room holders.Document path.old.items) at value.now)
+        path.old.items path.new.items) }
+{
+    let Some(k) = scope_at(value) else {
+        return Ok(None);
+    };
+    let (_, scope) = value.split_at(k);
+    nested(refuser, room, Holder::Document, at + k, scope, path)
+}
