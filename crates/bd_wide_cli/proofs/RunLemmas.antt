@@ -1,0 +1,174 @@
+-- How far a run has come, and how it ends.
+use Rattle.std.proofs.Common.{◌≡◌, ◌≤◌, ◌<◌, ◌⊎◌, ℕ, ◌+◌, ◌-◌, Bool, true, false, cond, List, [], ◌++◌, length, take, drop, refl, sym, ap, ◌∙◌, subst, inl, inr, arith, append_assoc, append-nil, length-append, Option, Some, None, Result, Ok, Err, OnOk, IfErr, take_at}
+use Rattle.std.proofs.KnownBytes.{Appends-trans, Appends-nil, Consumes-nil, Consumes-trans}
+use Rattle.std.specs.Io.KnownBytes.{Appends, Consumes, IsAtEnd}
+use Rattle.std.specs.Int.{w32, from_le_bytes}
+use Rattle.bd_device.specs.Devices.{BreaksWithin, Over, Reader, TakesFront, TakesText, Writer, after_more, between}
+use Rattle.bd_raw.specs.Sizes.{number_of}
+use Rattle.bd_wide_cli.specs.declared.filter.Filter.{Filter}
+use Rattle.bd_wide_cli.specs.declared.frame.Next.{Next}
+use Rattle.bd_wide_cli.specs.declared.frame.Next.TheVariants as nexts
+use Rattle.bd_wide_cli.specs.declared.running.Stop.{Stop}
+use Rattle.bd_wide_cli.specs.declared.running.Stop.TheVariants as stops
+use Rattle.bd_wide_cli.specs.Filtered.{AreDocuments, none, more, AreFiltered, ArePartlyFiltered, BeginsWithNone, FiltersAll, FiltersPartly, IsBadLength, IsFiltered, IsFrame, IsNext, IsWritten, CopiesRest, PassesOn, StopsCopying, StopsDocument, StopsPassing, WritesDocument}
+use Rattle.bd_wide_cli.proofs.OutputLemmas.{takes_both, breaks_second}
+
+pub record Progress (filter : Filter) (file left : Reader) (old new : Writer) (kept : ℕ) : Type 0 where
+  pub documents : List ℕ
+  pub written : List ℕ
+  pub are : AreDocuments filter documents kept written
+  pub gave : Consumes file.left left.left documents
+  pub took : TakesText (between old new) written
+
+pub begins : (filter : Filter) (file : Reader) (out : Writer) → Progress filter file file out out 0
+begins filter file out = record { documents = []; written = []; are = none; gave = Consumes-nil file.left; took = (Appends-nil out.held, refl) }
+
+pub goes_on : (filter : Filter) (file left later : Reader) (old new last : Writer) (kept : ℕ) (bytes : List ℕ) (filtered : Bool) → Progress filter file left old new kept
+    → Consumes left.left later.left bytes → IsFrame bytes → WritesDocument filter bytes (between new last) filtered
+    → Progress filter file later old last (cond filtered kept (kept + 1))
+goes_on filter file left later old new last kept bytes filtered p gave frame wrote = record {
+  documents = p.documents ++ bytes;
+  written = p.written ++ wrote.0;
+  are = more p.documents p.written bytes wrote.0 kept filtered p.are frame wrote.1;
+  gave = Consumes-trans file.left left.left later.left p.documents bytes p.gave gave;
+  took = takes_both old new last p.written wrote.0 p.took wrote.2;
+}
+
+-- a text that was taken whole is a front of itself, and of a longer one
+pub front_of : (out : Over Writer) (text later : List ℕ) → TakesText out text → TakesFront out (text ++ later)
+front_of out text later t = ((text, later, refl, t.0), t.1)
+
+pub is_front : (out : Over Writer) (text : List ℕ) → TakesText out text → TakesFront out text
+is_front out text t = ((text, [], sym (append-nil text), t.0), t.1)
+
+pub fronts_after : (old mid new : Writer) (first second : List ℕ) → TakesText (between old mid) first → TakesFront (between mid new) second → TakesFront (between old new) (first ++ second)
+fronts_after old mid new first second a b = (
+  (first ++ b.0.0, b.0.1, ap (λ x. first ++ x) b.0.2 ∙ sym (append_assoc first b.0.0 b.0.1), Appends-trans old.held mid.held new.held first b.0.0 a.0 b.0.3),
+  b.1 ∙ a.1,
+)
+
+pub written_after : (stop : Stop) (old mid new : Writer) (first second : List ℕ) → TakesText (between old mid) first → IsWritten stop (between mid new) second → IsWritten stop (between old new) (first ++ second)
+written_after stops.Unwritten old mid new first second a b = breaks_second old mid new first second a b
+written_after stops.NoMemory old mid new first second a b = fronts_after old mid new first second a b
+written_after (stops.Unread f) old mid new first second a b = fronts_after old mid new first second a b
+
+-- ---- what begins with no document
+
+first_four : (bytes rest : List ℕ) → length bytes ≡ 4 → number_of (bytes ++ rest) ≡ number_of bytes
+first_four bytes rest four = ap (from_le_bytes w32) (take_at bytes rest 4 four ∙ sym (ap (take 4) (sym (append-nil bytes)) ∙ take_at bytes [] 4 four))
+
+pub bad_length : (bytes rest : List ℕ) → length bytes ≡ 4 → IsBadLength bytes → BeginsWithNone (bytes ++ rest)
+bad_length bytes rest four bad =
+    let same = first_four bytes rest four in
+    inr (inl (subst (λ (n : ℕ). (n < 5) ⊎ (16793600 < n)) (sym same) bad))
+
+cut : (bytes : List ℕ) → (length bytes < 4) ⊎ (length bytes < number_of bytes) → BeginsWithNone bytes
+cut bytes (inl short) = inl short
+cut bytes (inr past) = inr (inr past)
+
+-- ---- what is passed on
+
+pub copied : (file left last : Reader) (old mid new : Writer) (given part : List ℕ) → Consumes file.left left.left given → Consumes left.left last.left part
+    → TakesText (between old mid) given → TakesText (between mid new) part → (bytes : List ℕ) × Consumes file.left last.left bytes × TakesText (between old new) bytes
+copied file left last old mid new given part gave one took two = (given ++ part, Consumes-trans file.left left.left last.left given part gave one, takes_both old mid new given part took two)
+
+pub copied_to : (stop : Stop) (file left last : Reader) (old mid new : Writer) (given part : List ℕ) → Consumes file.left left.left given → Consumes left.left last.left part
+    → TakesText (between old mid) given → IsWritten stop (between mid new) part → StopsCopying (between file last) (between old new) stop
+copied_to stop file left last old mid new given part gave one took two = (given ++ part, Consumes-trans file.left left.left last.left given part gave one, written_after stop old mid new given part took two)
+
+pub front_none : (out : Writer) (text : List ℕ) → TakesFront (between out out) text
+front_none out text = (([], text, refl, Appends-nil out.held), refl)
+
+pub passes_on : (bytes : List ℕ) (file last : Reader) (old mid new : Writer) → length bytes ≡ 4 → IsBadLength bytes → TakesText (between old mid) bytes → CopiesRest (between file last) (between mid new)
+    → PassesOn bytes (between file last) (between old new)
+passes_on bytes file last old mid new four bad took copy = (copy.0, bad_length bytes copy.0 four bad, copy.1, copy.2, takes_both old mid new bytes copy.0 took copy.3)
+
+pub stops_on : (stop : Stop) (bytes : List ℕ) (file last : Reader) (old mid new : Writer) → length bytes ≡ 4 → IsBadLength bytes → TakesText (between old mid) bytes → StopsCopying (between file last) (between mid new) stop
+    → StopsPassing bytes (between file last) (between old new) stop
+stops_on stop bytes file last old mid new four bad took copy = (copy.0, bad_length bytes copy.0 four bad, copy.1, written_after stop old mid new bytes copy.0 took copy.2)
+
+pub begins_with_none : (next : Next) (bytes : List ℕ) (left : Option (List ℕ)) → IsNext next bytes left → (next ≡ nexts.Document → ⊥) → BeginsWithNone (bytes ++ [])
+begins_with_none nexts.Document bytes left is other = absurd (other refl)
+begins_with_none nexts.BadLength bytes left is other = bad_length bytes [] is.0 is.1
+begins_with_none nexts.Last bytes left is other = subst BeginsWithNone (sym (append-nil bytes)) (cut bytes is.1)
+
+pub nothing_more : (bytes : List ℕ) (file : Reader) (old new : Writer) → IsNext nexts.Last bytes file.left → TakesText (between old new) bytes → PassesOn bytes (between file file) (between old new)
+nothing_more bytes file old new is took =
+    ([], subst BeginsWithNone (sym (append-nil bytes)) (cut bytes is.1), Consumes-nil file.left, is.0, subst (λ (x : List ℕ). TakesText (between old new) x) (sym (append-nil bytes)) took)
+
+pub breaks_on : (next : Next) (bytes : List ℕ) (file : Reader) (old new : Writer) → IsNext next bytes file.left → (next ≡ nexts.Document → ⊥) → BreaksWithin (between old new) bytes
+    → StopsPassing bytes (between file file) (between old new) stops.Unwritten
+breaks_on next bytes file old new is other broke =
+    ([], begins_with_none next bytes file.left is other, Consumes-nil file.left, subst (λ (x : List ℕ). BreaksWithin (between old new) x) (sym (append-nil bytes)) broke)
+
+-- ---- the ends
+
+pub all_filtered : (filter : Filter) (file left mid last : Reader) (old new end : Writer) (kept : ℕ) (bytes : List ℕ) → Progress filter file left old new kept
+    → Consumes left.left mid.left bytes → PassesOn bytes (between mid last) (between new end) → FiltersAll filter (between file last) (between old end) kept
+all_filtered filter file left mid last old new end kept bytes p gave pass =
+    let rest = bytes ++ pass.0 in (
+      p.documents ++ rest,
+      p.written ++ rest,
+      Consumes-trans file.left left.left last.left p.documents rest p.gave (Consumes-trans left.left mid.left last.left bytes pass.0 gave pass.2),
+      pass.3,
+      (p.documents, p.written, rest, p.are, pass.1, refl, refl),
+      takes_both old new end p.written rest p.took pass.4,
+    )
+
+pub stops_passing : (filter : Filter) (file left mid last : Reader) (old new end : Writer) (kept : ℕ) (bytes : List ℕ) (stop : Stop) → Progress filter file left old new kept
+    → Consumes left.left mid.left bytes → StopsPassing bytes (between mid last) (between new end) stop → FiltersPartly filter (between file last) (between old end) stop
+stops_passing filter file left mid last old new end kept bytes stop p gave pass =
+    let rest = bytes ++ pass.0 in (
+      p.documents ++ rest,
+      p.written ++ rest,
+      Consumes-trans file.left left.left last.left p.documents rest p.gave (Consumes-trans left.left mid.left last.left bytes pass.0 gave pass.2),
+      (p.documents, p.written, rest, kept, p.are, refl, inr (pass.1, refl)),
+      written_after stop old new end p.written rest p.took pass.3,
+    )
+
+pub unread : (filter : Filter) (file left last : Reader) (old new : Writer) (kept : ℕ) (stop : Stop) → Progress filter file left old new kept
+    → (given : List ℕ) × Consumes left.left last.left given → IsWritten stop (between new new) [] → FiltersPartly filter (between file last) (between old new) stop
+unread filter file left last old new kept stop p gave wrote = (
+  p.documents ++ gave.0,
+  p.written,
+  Consumes-trans file.left left.left last.left p.documents gave.0 p.gave gave.1,
+  (p.documents, p.written, gave.0, kept, p.are, refl, inl refl),
+  subst (λ (x : List ℕ). IsWritten stop (between old new) x) (append-nil p.written) (written_after stop old new new p.written [] p.took wrote),
+)
+
+pub nothing_written : (out : Writer) → TakesFront (between out out) []
+nothing_written out = is_front (between out out) [] (Appends-nil out.held, refl)
+
+pub stops_document : (filter : Filter) (file left last : Reader) (old new end : Writer) (kept : ℕ) (bytes : List ℕ) (stop : Stop) → Progress filter file left old new kept
+    → Consumes left.left last.left bytes → IsFrame bytes → StopsDocument filter bytes (between new end) stop → FiltersPartly filter (between file last) (between old end) stop
+stops_document filter file left last old new end kept bytes stops.NoMemory p gave frame stop = (
+  p.documents ++ bytes,
+  p.written,
+  Consumes-trans file.left left.left last.left p.documents bytes p.gave gave,
+  (p.documents, p.written, bytes, kept, p.are, refl, inl refl),
+  is_front (between old end) p.written (subst (λ (x : List ℕ). TakesText (between old end) x) (append-nil p.written) (takes_both old new end p.written [] p.took stop)),
+)
+stops_document filter file left last old new end kept bytes stops.Unwritten p gave frame stop =
+    let documents = p.documents ++ bytes in
+    let written = p.written ++ stop.0 in (
+      documents,
+      written,
+      Consumes-trans file.left left.left last.left p.documents bytes p.gave gave,
+      (documents, written, [], cond stop.1 kept (kept + 1), more p.documents p.written bytes stop.0 kept stop.1 p.are frame stop.2, sym (append-nil documents), inl refl),
+      breaks_second old new end p.written stop.0 p.took stop.3,
+    )
+stops_document filter file left last old new end kept bytes (stops.Unread f) p gave frame stop = absurd stop
+
+-- ---- results
+
+pub ok_map : {A E : Type 0} (r : Result A E) (P Q : Type 0) → OnOk r P → (P → Q) → OnOk r Q
+ok_map (Ok x) P Q h f = f h
+ok_map (Err e) P Q h f = _
+
+pub err_map : {A E : Type 0} (r : Result A E) (P Q : E → Type 0) → IfErr r P → ((e : E) → P e → Q e) → IfErr r Q
+err_map (Ok x) P Q h f = _
+err_map (Err e) P Q h f = f e h
+
+pub count_most : (kept : ℕ) (filtered : Bool) → cond filtered kept (kept + 1) ≤ kept + 1
+count_most kept true = omega arith
+count_most kept false = omega arith

@@ -1,0 +1,33 @@
+use Rattle.std.proofs.Common.{◌≡◌, List, ℕ, sym, ap, ◌∙◌, subst, true, false}
+use Rattle.std.specs.Io.KnownBytes.{Consumes}
+use Rattle.bd_device.specs.Devices.{BreaksWithin, TakesText, between}
+use Rattle.bd_wide_cli.specs.declared.running.Stop.TheVariants as stops
+use Rattle.bd_device.specs.declared.reading.ReadFault.TheVariants as faults
+use Rattle.bd_wide_cli.proofs.OutputLemmas.{broke_of, took_of}
+use Rattle.bd_wide_cli.proofs.RunLemmas as runs
+use Rattle.bd_wide_cli.proofs.running.copy_rest.Goals as goal
+
+pub returns-then-bytes-n-clause-err : goal.returns-then-bytes-n-clause-err
+returns-then-bytes-n-clause-err g c =
+    let i = c.loop.invariant in
+    let r = g.R.Input.state in
+    let o = g.O.Output.state in
+    runs.copied_to (stops.Unread faults.TooLong) (r c.args.input.now) (r c.loop.input) (r c.read.new.self) (o c.args.out.now) (o c.loop.out) (o c.loop.out) i.0 _ i.1 c.in-Ok.ensures.bytes.0 i.2 (runs.front_none (o c.loop.out) _)
+
+pub returns-then-is_err-clause-err : goal.returns-then-is_err-clause-err
+returns-then-is_err-clause-err g c =
+    let i = c.loop.invariant in
+    let r = g.R.Input.state in
+    let o = g.O.Output.state in
+    let broke = broke_of c.write_all.result _ (sym c.is_err.ensures.value ∙ c.if-is_err.true) c.write_all.ensures.broken in
+    runs.copied_to stops.Unwritten (r c.args.input.now) (r c.loop.input) (r c.read.new.self) (o c.args.out.now) (o c.loop.out) (o c.write_all.new.writer) i.0 _ i.1 c.in-Ok.ensures.bytes.0 i.2
+    (subst (λ (t : List ℕ). BreaksWithin (between (o c.loop.out) (o c.write_all.new.writer)) t) c.split_at.ensures.front broke)
+
+pub loop-preserved : goal.loop-preserved
+loop-preserved g c =
+    let i = c.loop.invariant in
+    let r = g.R.Input.state in
+    let o = g.O.Output.state in
+    let took = took_of c.write_all.result _ (sym c.is_err.ensures.value ∙ c.if-is_err.false) c.write_all.ensures.written in
+    runs.copied (r c.args.input.now) (r c.loop.input) (r c.read.new.self) (o c.args.out.now) (o c.loop.out) (o c.write_all.new.writer) i.0 _ i.1 c.in-Ok.ensures.bytes.0 i.2
+    (subst (λ (t : List ℕ). TakesText (between (o c.loop.out) (o c.write_all.new.writer)) t) c.split_at.ensures.front took)

@@ -1,0 +1,76 @@
+use Rattle.std.proofs.Common.{◌≡◌, ◌≤◌, ◌+◌, List, ℕ, length, sym, ap, ◌∙◌, subst, arith, rules, refl}
+use Rattle.std.proofs.lemmas.Result.{err_from_is_err_and}
+use Rattle.std.specs.Io.KnownBytes.{Consumes}
+use Rattle.bd_value.specs.Limits.{longest_input}
+use Rattle.bd_wide_cli.specs.Filtered.{IsFrame, IsNext}
+use Rattle.bd_wide_cli.specs.declared.frame.Next.{Next}
+use Rattle.bd_wide_cli.specs.declared.frame.Next.TheVariants as nexts
+use Rattle.bd_wide_cli.specs.declared.running.Stop.TheVariants as stops
+use Rattle.bd_wide_cli.proofs.RunLemmas as runs
+use Rattle.bd_wide_cli.proofs.running.filter_documents.Goals as goal
+
+pub loop-next-init : goal.loop-next-init
+loop-next-init g c = record {
+  so_far = runs.begins c.args.filter (g.R.Input.state c.args.input.now) (g.O.Output.state c.args.out.now);
+  counted = search rules;
+}
+
+pub loop-next-preserved : goal.loop-next-preserved
+loop-next-preserved g c =
+    let l = c.loop-next in
+    let r = g.R.Input.state in
+    let o = g.O.Output.state in
+    let e = c.deref-in-loop-next.ensures.value in
+    let gave = subst (λ (x : List ℕ). Consumes (r l.input).left (r c.next_frame.new.input).left x) (sym e) c.in-Ok.ensures.gave in
+    let frame : IsFrame c.next_frame.new.buffer.items = subst (λ (n : Next). IsNext n c.next_frame.new.buffer.items (r c.next_frame.new.input).left) c.in-Document.is c.in-Ok.ensures.next in
+    let k = c.count_kept-kept.ensures in
+    let most = runs.count_most l.kept c.in_ok-filtered.filtered in
+    let counted = c.in-Ok.ensures.counted in
+    let before = l.invariant.counted in
+    let least = frame.least in
+    record {
+      so_far = subst (λ (n : ℕ). runs.Progress c.args.filter (r c.args.input.now) (r c.next_frame.new.input) (o c.args.out.now) (o c.write_document.new.out) n) (sym k)
+          (runs.goes_on c.args.filter (r c.args.input.now) (r l.input) (r c.next_frame.new.input) (o c.args.out.now) (o l.out) (o c.write_document.new.out) l.kept c.deref-in-loop-next.result.now c.in_ok-filtered.filtered
+          l.invariant.so_far gave (subst IsFrame (sym e) frame) c.in_ok-filtered.ensures.ok);
+      counted = omega (arith, k, most, counted, before, least);
+    }
+
+pub returns-in-Err-clause-partly : goal.returns-in-Err-clause-partly
+returns-in-Err-clause-partly g c =
+    let l = c.loop-next in
+    let r = g.R.Input.state in
+    let o = g.O.Output.state in
+    runs.unread c.args.filter (r c.args.input.now) (r l.input) (r c.next_frame.new.input) (o c.args.out.now) (o l.out) l.kept (stops.Unread c.in-Err.fault) l.invariant.so_far c.in-Err.ensures.fault (runs.nothing_written (o l.out))
+
+pub returns-in_err-pass_on-clause-partly : goal.returns-in_err-pass_on-clause-partly
+returns-in_err-pass_on-clause-partly g c =
+    let l = c.loop-next in
+    let r = g.R.Input.state in
+    let o = g.O.Output.state in
+    let e = c.deref.ensures.value in
+    let gave = subst (λ (x : List ℕ). Consumes (r l.input).left (r c.next_frame.new.input).left x) (sym e) c.in-Ok.ensures.gave in
+    let p = err_from_is_err_and c.from_residual.result c.from_residual.ensures.1 in
+    rw (p.1, p.2) (runs.stops_passing c.args.filter (r c.args.input.now) (r l.input) (r c.next_frame.new.input) (r c.pass_on.new.input) (o c.args.out.now) (o l.out) (o c.pass_on.new.out) l.kept c.deref.result.now c.in_err-pass_on.field-0.0
+    l.invariant.so_far gave c.in_err-pass_on.ensures.err)
+
+pub returns-in_default-clause-all : goal.returns-in_default-clause-all
+returns-in_default-clause-all g c =
+    let l = c.loop-next in
+    let r = g.R.Input.state in
+    let o = g.O.Output.state in
+    let e = c.deref.ensures.value in
+    let gave = subst (λ (x : List ℕ). Consumes (r l.input).left (r c.next_frame.new.input).left x) (sym e) c.in-Ok.ensures.gave in
+    runs.all_filtered c.args.filter (r c.args.input.now) (r l.input) (r c.next_frame.new.input) (r c.pass_on.new.input) (o c.args.out.now) (o l.out) (o c.pass_on.new.out) l.kept c.deref.result.now
+    l.invariant.so_far gave c.in_ok-pass_on.ensures.ok
+
+pub returns-in_err-filtered-clause-partly : goal.returns-in_err-filtered-clause-partly
+returns-in_err-filtered-clause-partly g c =
+    let l = c.loop-next in
+    let r = g.R.Input.state in
+    let o = g.O.Output.state in
+    let e = c.deref-in-loop-next.ensures.value in
+    let gave = subst (λ (x : List ℕ). Consumes (r l.input).left (r c.next_frame.new.input).left x) (sym e) c.in-Ok.ensures.gave in
+    let frame : IsFrame c.next_frame.new.buffer.items = subst (λ (n : Next). IsNext n c.next_frame.new.buffer.items (r c.next_frame.new.input).left) c.in-Document.is c.in-Ok.ensures.next in
+    let p = err_from_is_err_and c.from_residual-in_err-filtered.result c.from_residual-in_err-filtered.ensures.1 in
+    rw (p.1, p.2) (runs.stops_document c.args.filter (r c.args.input.now) (r l.input) (r c.next_frame.new.input) (o c.args.out.now) (o l.out) (o c.write_document.new.out) l.kept c.deref-in-loop-next.result.now c.in_err-filtered.field-0.0
+    l.invariant.so_far gave (subst IsFrame (sym e) frame) c.in_err-filtered.ensures.err)

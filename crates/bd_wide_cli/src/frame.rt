@@ -1,0 +1,90 @@
+//! The next document of a device, as far as its length says.
+
+ghost use Rattle.std.specs.Prelude.{◌≡◌, ◌≤◌, ◌+◌, ◌++◌, IfOk, OnErr, OnOk, List, ℕ, length};
+ghost use Rattle.std.specs.Io.KnownBytes.{Consumes};
+ghost use Rattle.std.specs.Int.{w32, from_le_bytes};
+ghost use Rattle.bd_value.specs.Limits.{longest_document};
+ghost use Rattle.bd_wide_cli.specs.Filtered.{IsNext};
+
+use bd_device::{Input, Limits, ReadFault, fill, fill_after};
+use bd_value::LONGEST_DOCUMENT;
+
+/// What a buffer holds of a device.
+#[derive(Clone, Copy, Debug, PartialEq, Eq)]
+pub enum Next {
+    /// A document.
+    Document,
+    /// Four bytes that are the length of none.
+    BadLength,
+    /// What the device had left, perhaps nothing: less than a document.
+    Last,
+}
+
+/// Reads the next document into the buffer, or the bytes from which on there is none. `left` is what the device may still give.
+pub(crate) fn next_frame<R: Input>(
+    input: &mut R,
+    left: &mut Limits,
+    buffer: &mut Vec<u8>,
+) -> Result<Next, ReadFault>
+    ensures gave { OnOk result
+        (Consumes (R.state input.old).left (R.state input.new).left buffer.new.items) }
+    ensures next { IfOk result (λ n. IsNext n buffer.new.items (R.state input.new).left) }
+    ensures counted { OnOk result (left.new.bytes + length buffer.new.items ≡ left.old.bytes) }
+    ensures fault { OnErr result ((given : List ℕ)
+        × Consumes (R.state input.old).left (R.state input.new).left given) }
+{
+    let mut head = [0; 4];
+    let filled = fill(input, &mut head, *left)?;
+    left.bytes -= filled.bytes as u64;
+    left.turns -= filled.turns;
+    if filled.bytes < 4 {
+        hold(&head[..filled.bytes], buffer)?;
+        return Ok(Next::Last);
+    }
+    let length = u32::from_le_bytes(head) as usize;
+    if length < 5 || length > LONGEST_DOCUMENT {
+        hold(&head, buffer)?;
+        return Ok(Next::BadLength);
+    }
+    read_rest(input, head, length, left, buffer)
+}
+
+/// Reads what follows the length of a document.
+fn read_rest<R: Input>(
+    input: &mut R,
+    head: [u8; 4],
+    size: usize,
+    left: &mut Limits,
+    buffer: &mut Vec<u8>,
+) -> Result<Next, ReadFault>
+    requires { (size ≡ from_le_bytes w32 head) × (5 ≤ size) × (size ≤ longest_document) }
+    ensures gave { OnOk result ((given : List ℕ) × (buffer.new.items ≡ head ++ given)
+        × Consumes (R.state input.old).left (R.state input.new).left given) }
+    ensures next { IfOk result (λ n. IsNext n buffer.new.items (R.state input.new).left) }
+    ensures counted { OnOk result (left.new.bytes + length buffer.new.items ≡ left.old.bytes + 4) }
+    ensures fault { OnErr result ((given : List ℕ)
+        × Consumes (R.state input.old).left (R.state input.new).left given) }
+{
+    if buffer.resize(size, 0).is_err() {
+        return Err(ReadFault::NoMemory);
+    }
+    let filled = fill_after(input, buffer, head, size, *left)?;
+    left.bytes -= filled.bytes as u64;
+    left.turns -= filled.turns;
+    buffer.truncate(4 + filled.bytes);
+    if filled.bytes < size - 4 {
+        return Ok(Next::Last);
+    }
+    Ok(Next::Document)
+}
+
+/// Makes the buffer hold these bytes.
+fn hold(bytes: &[u8], buffer: &mut Vec<u8>) -> Result<(), ReadFault>
+    ensures { OnOk result (buffer.new.items ≡ bytes.now) }
+{
+    buffer.clear();
+    if buffer.extend_from_slice(bytes).is_err() {
+        return Err(ReadFault::NoMemory);
+    }
+    Ok(())
+}

@@ -1,0 +1,91 @@
+//! What a run tells on standard error, and how it ends. It takes no memory.
+
+ghost use Rattle.std.specs.Prelude.{◌≡◌, ◌++◌, OnErr, OnOk, decimal};
+ghost use Rattle.bd_device.specs.Devices.{BreaksWithin, TakesText, over};
+ghost use Rattle.bd_wide_cli.specs.Output.{TellsMessage, error_line, kept_line, stop_words};
+ghost use Rattle.bd_wide_cli.specs.declared.output.Status.TheVariants.{Done, Failed};
+
+use crate::running::Stop;
+use bd_device::{DeviceFault, Output, write_all};
+use itoa::Buffer;
+
+/// The exit status of a run.
+#[derive(Clone, Copy, Debug, PartialEq, Eq)]
+pub enum Status {
+    /// All was done.
+    Done = 0,
+    /// A read, a write or memory failed.
+    Failed = 1,
+    /// The arguments were refused.
+    Usage = 2,
+}
+
+/// Why a run ends where memory ran out.
+pub const NO_MEMORY: &str = "no memory";
+
+/// Why a run ends where standard output failed.
+pub const CANNOT_WRITE: &str = "cannot write";
+
+/// Writes the line of an error.
+#[tactic(auto, using(crate::proofs::OutputLemmas::taking))]
+pub fn write_error<E: Output>(message: &str, err: &mut E) -> Result<(), DeviceFault>
+    ensures ok { OnOk result (TakesText (over E.state err.old err.new) (error_line message.now)) }
+    ensures err { OnErr result (BreaksWithin (over E.state err.old err.new) (error_line message.now)) }
+{
+    write_all(err, b"bsonwide: ")?;
+    write_all(err, message.as_bytes())?;
+    write_all(err, b"\n")
+}
+
+/// The status that is wanted where a message was written, and 1 where it was not.
+pub fn status_of(written: Result<(), DeviceFault>, wanted: Status) -> Status
+    ensures ok { OnOk written (result ≡ wanted) }
+    ensures err { OnErr written (result ≡ Failed) }
+{
+    match written {
+        Ok(()) => wanted,
+        Err(_) => Status::Failed,
+    }
+}
+
+/// Tells why no more of an input was filtered.
+pub(crate) fn tell_stop<E: Output>(stop: Stop, err: &mut E) -> Status
+    ensures { TellsMessage (over E.state err.old err.new) (error_line (stop_words stop)) Failed result }
+{
+    let words = match stop {
+        Stop::NoMemory => NO_MEMORY,
+        Stop::Unwritten => CANNOT_WRITE,
+        Stop::Unread(fault) => fault.words(),
+    };
+    status_of(write_error(words, err), Status::Failed)
+}
+
+/// Tells how many documents stay as they are, where some do.
+pub(crate) fn tell_kept<E: Output>(kept: u64, err: &mut E) -> Status
+    ensures { TellsMessage (over E.state err.old err.new) (kept_line kept) Done result }
+{
+    status_of(write_kept(kept, err), Status::Done)
+}
+
+/// Writes how many documents stay as they are, where some do.
+#[tactic(auto, using(crate::proofs::OutputLemmas::taking))]
+fn write_kept<E: Output>(kept: u64, err: &mut E) -> Result<(), DeviceFault>
+    ensures ok { OnOk result (TakesText (over E.state err.old err.new) (kept_line kept)) }
+    ensures err { OnErr result (BreaksWithin (over E.state err.old err.new) (kept_line kept)) }
+{
+    if kept == 0 {
+        return write_all(err, b"");
+    }
+    write_count(kept, " documents too long or too deep to wrap\n", err)
+}
+
+/// Writes a number and the words after it.
+#[tactic(auto, using(crate::proofs::OutputLemmas::taking))]
+fn write_count<E: Output>(count: u64, words: &str, err: &mut E) -> Result<(), DeviceFault>
+    ensures ok { OnOk result (TakesText (over E.state err.old err.new) (decimal count ++ words.now)) }
+    ensures err { OnErr result (BreaksWithin (over E.state err.old err.new) (decimal count ++ words.now)) }
+{
+    let mut buffer = Buffer::new();
+    write_all(err, buffer.format(count).as_bytes())?;
+    write_all(err, words.as_bytes())
+}

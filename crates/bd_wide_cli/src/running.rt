@@ -1,0 +1,162 @@
+//! A whole run over devices.
+
+ghost use Rattle.std.specs.Prelude.{◌≡◌, ◌≢◌, ◌≤◌, ◌+◌, IfOk, IfErr, OnOk, if◌then◌else◌};
+ghost use Rattle.bd_value.specs.Limits.{longest_input};
+ghost use Rattle.bd_device.specs.Devices.{over};
+ghost use Rattle.bd_wide_cli.specs.Filtered.{CopiesRest, FiltersAll, FiltersPartly, IsNext, PassesOn, StopsCopying, StopsDocument, StopsPassing, WritesDocument};
+ghost use Rattle.bd_wide_cli.specs.Output.{FiltersInput};
+
+use crate::filter::{Filter, write_filtered};
+use crate::frame::{Next, next_frame};
+use crate::output::{Status, tell_kept, tell_stop};
+use bd_device::{Input, Limits, Output, ReadFault, write_all};
+use bd_value::{LONGEST_INPUT, MOST_READS};
+use std::alloc::Global;
+
+/// Why no more of an input was filtered.
+#[derive(Clone, Copy, Debug, PartialEq, Eq)]
+pub enum Stop {
+    /// Memory ran out.
+    NoMemory,
+    /// A write failed.
+    Unwritten,
+    /// The input was not read to its end.
+    Unread(ReadFault),
+}
+
+/// Filters an input document by document, and writes each before the next is read. The memory is that of one document.
+pub fn run<R: Input, O: Output, E: Output>(
+    alloc: Global,
+    filter: Filter,
+    input: &mut R,
+    out: &mut O,
+    err: &mut E,
+) -> Status
+    ensures { FiltersInput filter (over R.state input.old input.new) (over O.state out.old out.new)
+        (over E.state err.old err.new) result }
+{
+    match filter_documents(alloc, filter, input, out) {
+        Ok(kept) => tell_kept(kept, err),
+        Err(stop) => tell_stop(stop, err),
+    }
+}
+
+/// An input has at most 4,294,967,295 bytes, and takes at most 4,294,967,296 reads: one a byte, and the one that finds the end.
+const LIMITS: Limits = Limits {
+    bytes: LONGEST_INPUT,
+    turns: MOST_READS,
+};
+
+/// How many bytes are passed on together.
+const BLOCK: usize = 65_536;
+
+/// Filters the documents of an input, and says how many of them stay as they are.
+fn filter_documents<R: Input, O: Output>(
+    alloc: Global,
+    filter: Filter,
+    input: &mut R,
+    out: &mut O,
+) -> Result<u64, Stop>
+    ensures all { IfOk result
+        (FiltersAll filter (over R.state input.old input.new) (over O.state out.old out.new)) }
+    ensures partly { IfErr result
+        (FiltersPartly filter (over R.state input.old input.new) (over O.state out.old out.new)) }
+{
+    let mut left = LIMITS;
+    let mut kept = 0;
+    let mut buffer = Vec::new(alloc);
+    let mut path = Vec::new(alloc);
+    let mut written = Vec::new(alloc);
+    loop {
+        let next = match next_frame(input, &mut left, &mut buffer) {
+            Ok(next) => next,
+            Err(fault) => return Err(Stop::Unread(fault)),
+        };
+        let Next::Document = next else {
+            pass_on(next, &buffer, input, left, out)?;
+            return Ok(kept);
+        };
+        let filtered = write_document(filter, &buffer, &mut path, &mut written, out)?;
+        kept = count_kept(kept, filtered);
+    }
+}
+
+/// One more where a document stays as it is.
+fn count_kept(kept: u64, filtered: bool) -> u64
+    requires { kept ≤ longest_input }
+    ensures { result ≡ (if filtered then kept else kept + 1) }
+{
+    if filtered { kept } else { kept + 1 }
+}
+
+/// Writes what is to be written of a document.
+fn write_document<O: Output>(
+    filter: Filter,
+    bytes: &[u8],
+    path: &mut Vec<u8>,
+    written: &mut Vec<u8>,
+    out: &mut O,
+) -> Result<bool, Stop>
+    ensures ok { IfOk result (WritesDocument filter bytes.now (over O.state out.old out.new)) }
+    ensures err { IfErr result (StopsDocument filter bytes.now (over O.state out.old out.new)) }
+{
+    written.clear();
+    let Ok(filtered) = write_filtered(filter, bytes, path, written) else {
+        return Err(Stop::NoMemory);
+    };
+    if write_all(out, written).is_err() {
+        return Err(Stop::Unwritten);
+    }
+    Ok(filtered)
+}
+
+/// Passes on bytes that begin with no document, and all that follow them.
+fn pass_on<R: Input, O: Output>(
+    next: Next,
+    bytes: &[u8],
+    input: &mut R,
+    left: Limits,
+    out: &mut O,
+) -> Result<(), Stop>
+    requires { IsNext next bytes.now (R.state input.old).left × (next ≢ Next.Document) }
+    ensures ok { OnOk result
+        (PassesOn bytes.now (over R.state input.old input.new) (over O.state out.old out.new)) }
+    ensures err { IfErr result
+        (StopsPassing bytes.now (over R.state input.old input.new) (over O.state out.old out.new)) }
+{
+    if write_all(out, bytes).is_err() {
+        return Err(Stop::Unwritten);
+    }
+    match next {
+        Next::BadLength => copy_rest(input, left, out),
+        Next::Document | Next::Last => Ok(()),
+    }
+}
+
+/// Writes all that an input still gives.
+fn copy_rest<R: Input, O: Output>(input: &mut R, left: Limits, out: &mut O) -> Result<(), Stop>
+    ensures ok { OnOk result
+        (CopiesRest (over R.state input.old input.new) (over O.state out.old out.new)) }
+    ensures err { IfErr result
+        (StopsCopying (over R.state input.old input.new) (over O.state out.old out.new)) }
+{
+    let mut room = [0u8; BLOCK];
+    let mut bytes = left.bytes;
+    for _ in 0..left.turns {
+        let Ok(n) = input.read(&mut room) else {
+            return Err(Stop::Unread(ReadFault::Device));
+        };
+        if n == 0 {
+            return Ok(());
+        }
+        if bytes < n as u64 {
+            return Err(Stop::Unread(ReadFault::TooLong));
+        }
+        bytes -= n as u64;
+        let (part, _) = room.split_at(n);
+        if write_all(out, part).is_err() {
+            return Err(Stop::Unwritten);
+        }
+    }
+    Err(Stop::Unread(ReadFault::TooManyTurns))
+}
