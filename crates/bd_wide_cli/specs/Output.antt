@@ -1,9 +1,11 @@
 -- What a run tells on standard error, and its status.
 use Rattle.std.specs.Prelude.{◌≡◌, ◌⊎◌, ℕ, ◌==◌, List, [], ◌∷◌, ◌++◌, codes, decimal, if◌then◌else◌}
 use Rattle.bd_device.specs.Devices.{BreaksWithin, Over, Reader, TakesText, Writer, read_words}
+use Rattle.bd_command_line.specs.declared.order.WordsFault.{WordsFault}
+use Rattle.bd_command_line.specs.declared.order.WordsFault.TheVariants as words
 use Rattle.bd_wide_cli.specs.declared.filter.Filter.{Filter}
 use Rattle.bd_wide_cli.specs.declared.output.Status.{Status}
-use Rattle.bd_wide_cli.specs.declared.output.Status.TheVariants.{Done, Failed}
+use Rattle.bd_wide_cli.specs.declared.output.Status.TheVariants.{Done, Failed, Usage}
 use Rattle.bd_wide_cli.specs.declared.running.Stop.{Stop}
 use Rattle.bd_wide_cli.specs.declared.running.Stop.TheVariants as stops
 use Rattle.bd_wide_cli.specs.Filtered.{FiltersAll, FiltersPartly}
@@ -30,3 +32,14 @@ abbrev pub FiltersInput : Filter → Over Reader → Over Writer → Over Writer
 FiltersInput filter file out err status =
     ((kept : ℕ) × FiltersAll filter file out kept × TellsMessage err (kept_line kept) Done status)
     ⊎ ((stop : Stop) × FiltersPartly filter file out stop × TellsMessage err (error_line (stop_words stop)) Failed status)
+
+abbrev pub usage_text : List ℕ
+usage_text = codes "usage: bsonwide mask FILE\n       bsonwide wrap FILE\n"
+
+-- Arguments that are no command: help is printed on standard output, and a refusal on standard error. Where a write
+-- fails the status is 1.
+abbrev pub ReportsFault : WordsFault → Over Writer → Over Writer → Status → Type 0
+ReportsFault words.Help out err status = (TakesText out usage_text × (status ≡ Done))
+    ⊎ (BreaksWithin out usage_text × TellsMessage err (error_line (codes "cannot write")) Failed status)
+ReportsFault words.Usage out err status = TellsMessage err usage_text Usage status
+ReportsFault words.NoMemory out err status = TellsMessage err (error_line (codes "no memory")) Failed status

@@ -14,5 +14,5 @@ mod output;
 mod running;
 
 pub use filter::Filter;
-pub use output::{CANNOT_WRITE, Status, status_of, write_error};
+pub use output::{CANNOT_WRITE, Status, report, write_error};
 pub use running::{Stop, run};

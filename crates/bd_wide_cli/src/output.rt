@@ -2,10 +2,11 @@
 
 ghost use Rattle.std.specs.Prelude.{◌≡◌, ◌++◌, OnErr, OnOk, decimal};
 ghost use Rattle.bd_device.specs.Devices.{BreaksWithin, TakesText, over};
-ghost use Rattle.bd_wide_cli.specs.Output.{TellsMessage, error_line, kept_line, stop_words};
-ghost use Rattle.bd_wide_cli.specs.declared.output.Status.TheVariants.{Done, Failed};
+ghost use Rattle.bd_wide_cli.specs.Output.{ReportsFault, TellsMessage, error_line, kept_line, stop_words, usage_text};
+ghost use Rattle.bd_wide_cli.specs.declared.output.Status.TheVariants.{Done, Failed, Usage};
 
 use crate::running::Stop;
+use bd_command_line::WordsFault;
 use bd_device::{DeviceFault, Output, write_all};
 use itoa::Buffer;
 
@@ -88,4 +89,33 @@ fn write_count<E: Output>(count: u64, words: &str, err: &mut E) -> Result<(), De
     let mut buffer = Buffer::new();
     write_all(err, buffer.format(count).as_bytes())?;
     write_all(err, words.as_bytes())
+}
+
+/// What a request for help and a refused line are answered with.
+pub const USAGE: &str = "usage: bsonwide mask FILE
+       bsonwide wrap FILE
+";
+
+/// Tells why words are no order, and gives the exit status. It takes no memory.
+///
+/// A request for help prints the usage on `out`, with status 0; words that are not taken print it on `err`, with status 2;
+/// out of memory is reported on `err`, with status 1. A device that fails makes the status 1.
+pub fn report<O: Output, E: Output>(fault: WordsFault, out: &mut O, err: &mut E) -> Status
+    ensures { ReportsFault fault (over O.state out.old out.new) (over E.state err.old err.new) result }
+{
+    match fault {
+        WordsFault::Help => match write_all(out, USAGE.as_bytes()) {
+            Ok(()) => Status::Done,
+            Err(_) => tell_stop(Stop::Unwritten, err),
+        },
+        WordsFault::Usage => tell_usage(err),
+        WordsFault::NoMemory => tell_stop(Stop::NoMemory, err),
+    }
+}
+
+/// Tells which arguments are taken.
+fn tell_usage<E: Output>(err: &mut E) -> Status
+    ensures { TellsMessage (over E.state err.old err.new) usage_text Usage result }
+{
+    status_of(write_all(err, USAGE.as_bytes()), Status::Usage)
 }

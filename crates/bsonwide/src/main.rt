@@ -1,0 +1,97 @@
+//! `bsonwide`: a filter that makes a dump one that `bsonfind` reads, over the system's files and standard streams.
+#![tactic(auto)]
+
+use bd_command_line::WordsFault;
+use bd_device::{BufferedInput, SystemOutput, write_all};
+use bd_gathering::{Fate, GatheredOutput, Gathering, TiedError, TiedInput, hand_on};
+use bd_wide_cli::{CANNOT_WRITE, Filter, Status, report};
+use bd_wide_command_line::{Order, parse_words};
+use std::cell::RefCell;
+use std::io::{BufReader, Read, Stdout};
+use std::process::ExitCode;
+use std::{env, fs, io};
+
+/// The order of the process's words, without the name of the program.
+fn order(rt: &HostRuntime) -> Result<Order, WordsFault> {
+    let words = match env::args(rt) {
+        Ok(words) => words,
+        Err(error) if error.kind() == io::ErrorKind::OutOfMemory => {
+            return Err(WordsFault::NoMemory);
+        }
+        // A word that is not UTF-8 names nothing that is taken.
+        Err(_) => return Err(WordsFault::Usage),
+    };
+    let words: Vec<String> = words.skip(1).collect(rt.alloc())?;
+    parse_words(rt.alloc(), &words)
+}
+
+/// How many bytes the system is asked for at once. It answers with what there is.
+const BUFFER: usize = 65_536;
+
+/// What waits to be written to standard output.
+type Waiting = RefCell<Gathering<SystemOutput<Stdout>>>;
+
+/// Tells why there is no order to be carried out.
+fn refuse(rt: &HostRuntime, fault: WordsFault, gathering: &Waiting) -> Status {
+    let writer = rt.stderr();
+    let mut out = SystemOutput::new(GatheredOutput { gathering });
+    let mut err = SystemOutput::new(TiedError { writer, gathering });
+    report(fault, &mut out, &mut err)
+}
+
+/// Filters the input that a file is.
+fn run<F: Read + Drop>(rt: &HostRuntime, filter: Filter, reader: F, gathering: &Waiting) -> Status {
+    let alloc = rt.alloc();
+    let file = TiedInput { reader, gathering };
+    let Ok(file) = BufReader::with_capacity(alloc, BUFFER, file) else {
+        return refuse(rt, WordsFault::NoMemory, gathering);
+    };
+    let mut file = BufferedInput::new(file);
+    let writer = rt.stderr();
+    let mut out = SystemOutput::new(GatheredOutput { gathering });
+    let mut err = SystemOutput::new(TiedError { writer, gathering });
+    bd_wide_cli::run(alloc, filter, &mut file, &mut out, &mut err)
+}
+
+/// Tells an error, and of which file. Where standard error fails too, the status tells it alone.
+fn tell_error(rt: &HostRuntime, message: &str, file: &str) -> Status {
+    let mut err = SystemOutput::new(rt.stderr());
+    for part in ["bsonwide: ", message, file, "\n"] {
+        if write_all(&mut err, part.as_bytes()).is_err() {
+            break;
+        }
+    }
+    Status::Failed
+}
+
+/// Does what the process's words say.
+fn obey(rt: &HostRuntime, gathering: &Waiting) -> Status {
+    let (filter, file) = match order(rt) {
+        Ok(Order::Mask { file }) => (Filter::Mask, file),
+        Ok(Order::Wrap { file }) => (Filter::Wrap, file),
+        Err(fault) => return refuse(rt, fault, gathering),
+    };
+    if file.as_str() == "-" {
+        return run(rt, filter, rt.reader(), gathering);
+    }
+    let Ok(opened) = fs::open(rt, &file) else {
+        return tell_error(rt, "cannot open ", &file);
+    };
+    run(rt, filter, opened, gathering)
+}
+
+/// Does what the process's words say, up to the last byte of standard output. A loss of which the run did not learn is told
+/// here; nothing else was told then.
+fn status(rt: &HostRuntime) -> Status {
+    let system = SystemOutput::new(rt.stdout());
+    let gathering = RefCell::new(Gathering::new(rt.alloc(), system));
+    let status = obey(rt, &gathering);
+    if hand_on(&gathering) == Fate::Lost {
+        return tell_error(rt, CANNOT_WRITE, "");
+    }
+    status
+}
+
+fn main(rt: HostRuntime) -> ExitCode {
+    ExitCode::from(status(&rt) as u8)
+}
