@@ -1,7 +1,6 @@
 -- Where what is written of each number is as long as it, all is.
-use Rattle.std.proofs.Common.{◌≡◌, ℕ, zero, suc, ◌+◌, ◌-◌, ◌<◌, ◌≤◌, List, [], ◌∷◌, ◌++◌, length, take, drop, Option, Some, None, refl, sym, ap, ap₂, ◌∙◌, arith, length-append, length-drop, Bool, true, false, if◌then◌else◌, nat_lt, ◌==◌, ◌||◌, not, subst}
-use Rattle.std.proofs.lemmas.{Bool.Decides.nat_tests, List.length-take-le, List.length-take, List.Quantifiers.position-Some}
-use Rattle.bd_value.specs.declared.node.Kind.{Kind}
+use Rattle.std.proofs.Common.{◌≡◌, ℕ, zero, suc, ◌+◌, ◌-◌, ◌≤◌, List, [], ◌∷◌, ◌++◌, length, take, drop, Option, Some, None, refl, sym, ap, ◌∙◌, arith, length-append, length-drop, Bool, true, false, if◌then◌else◌, nat_lt, ◌==◌, ◌||◌, not, subst}
+use Rattle.std.proofs.lemmas.{Bool.Decides.nat_tests, List.length-take-le, List.Quantifiers.position-Some}
 use Rattle.bd_value.specs.declared.node.Kind.TheVariants as kinds
 use Rattle.bd_raw.specs.declared.raw_parts.ElementType.{ElementType}
 use Rattle.bd_raw.specs.declared.raw_parts.ElementType.TheVariants.{Kept, Double, Decimal128}

@@ -1,13 +1,13 @@
 -- Elements one after the other.
-use Rattle.std.proofs.Common.{◌≡◌, ℕ, zero, suc, ◌+◌, ◌-◌, ◌<◌, ◌≤◌, List, [], ◌∷◌, ◌++◌, length, take, drop, Option, Some, None, refl, sym, ap, ap₂, ◌∙◌, arith, append_assoc, length-append, length-drop, append-nil, Result, Ok, Err, OnOk, OnErr, take_at, drop_at, subst, eqb, true, ◌==◌, ◌||◌, not, nat_lt, false}
-use Rattle.std.proofs.lemmas.{Bool.Decides.nat_tests, Bool.eqb-true, List.nil_from_length, List.length-take-le}
-use Rattle.bd_raw.specs.{Spelling.type_at, Spelling.number, Sizes.number_of, Unique.number_length}
+use Rattle.std.proofs.Common.{◌≡◌, ℕ, zero, suc, ◌+◌, ◌-◌, ◌<◌, ◌≤◌, List, [], ◌∷◌, ◌++◌, length, take, drop, Option, Some, None, refl, sym, ap, ap₂, ◌∙◌, arith, append_assoc, length-append, length-drop, append-nil, Result, Ok, Err, OnOk, OnErr, take_at, drop_at, subst, true, ◌==◌}
+use Rattle.std.proofs.lemmas.{Bool.eqb-true, List.nil_from_length, List.length-take-le}
+use Rattle.bd_raw.specs.{Spelling.type_at, Spelling.number, Unique.number_length}
 use Rattle.std.specs.Io.{StartsWith}
 use Rattle.bd_value.proofs.FrontLemmas.{front_then, front_all}
 use Rattle.bd_raw.specs.declared.raw_parts.ElementType.{ElementType}
 use Rattle.bd_raw.specs.declared.raw_parts.Holder.{Holder}
 use Rattle.bd_raw.specs.declared.raw_parts.Holder.TheVariants as holders
-use Rattle.bd_wide.specs.Rewritten.{Writes, Others, Nested, Adds, front, IsElement, AreElements, IsBody, IsScoped, IsNested, IsRewritten, scope_at, ◌>>=◌, first_zero, size_at}
+use Rattle.bd_wide.specs.Rewritten.{Writes, Others, Nested, Adds, front, IsElement, AreElements, IsBody, IsScoped, IsNested, scope_at, ◌>>=◌, first_zero, size_at}
 
 -- ---- the element at the front
 

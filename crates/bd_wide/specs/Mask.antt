@@ -1,5 +1,5 @@
 -- The same bytes with types that are read: a double is an int64, a decimal128 an ObjectId whose name has four letters more.
-use Rattle.std.specs.Prelude.{◌≡◌, ℕ, ◌+◌, ◌-◌, List, [], ◌∷◌, ◌++◌, length, take, drop, is_some, ◌==◌, ◌&&◌, if◌then◌else◌, codes}
+use Rattle.std.specs.Prelude.{◌≡◌, ℕ, ◌-◌, List, [], ◌∷◌, ◌++◌, length, take, drop, is_some, ◌==◌, ◌&&◌, if◌then◌else◌, codes}
 use Rattle.bd_raw.specs.declared.raw_parts.ElementType.{ElementType}
 use Rattle.bd_raw.specs.declared.raw_parts.ElementType.TheVariants.{Kept, Double, Decimal128}
 use Rattle.bd_wide.specs.Rewritten.{first_zero}

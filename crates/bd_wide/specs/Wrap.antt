@@ -1,5 +1,5 @@
 -- Doubles and decimal128 as the documents of Extended JSON that hold their texts.
-use Rattle.std.specs.Prelude.{◌≡◌, ◌<◌, ◌≤◌, ◌⊎◌, ℕ, zero, Bool, true, false, List, [], ◌∷◌, ◌++◌, length, drop, codes, Option, None, Some, IsSome}
+use Rattle.std.specs.Prelude.{◌≡◌, ◌<◌, ◌≤◌, ◌⊎◌, ℕ, zero, Bool, true, false, List, ◌∷◌, ◌++◌, length, drop, codes, None, Some, IsSome}
 use Rattle.bd_value.specs.Limits.{longest_document}
 use Rattle.bd_raw.specs.declared.raw_parts.ElementType.{ElementType}
 use Rattle.bd_raw.specs.declared.raw_parts.ElementType.TheVariants.{Kept, Double, Decimal128}

@@ -1,16 +1,16 @@
 -- How far a run has come, and how it ends.
-use Rattle.std.proofs.Common.{◌≡◌, ◌≤◌, ◌<◌, ◌⊎◌, ℕ, ◌+◌, ◌-◌, Bool, true, false, cond, List, [], ◌++◌, length, take, drop, refl, sym, ap, ◌∙◌, subst, inl, inr, arith, append_assoc, append-nil, length-append, Option, Some, None, Result, Ok, Err, OnOk, IfErr, take_at}
+use Rattle.std.proofs.Common.{◌≡◌, ◌≤◌, ◌<◌, ◌⊎◌, ℕ, ◌+◌, Bool, true, false, cond, List, [], ◌++◌, length, take, refl, sym, ap, ◌∙◌, subst, inl, inr, arith, append_assoc, append-nil, Option, Result, Ok, Err, OnOk, IfErr, take_at}
 use Rattle.std.proofs.KnownBytes.{Appends-trans, Appends-nil, Consumes-nil, Consumes-trans}
-use Rattle.std.specs.Io.KnownBytes.{Appends, Consumes, IsAtEnd}
+use Rattle.std.specs.Io.KnownBytes.{Consumes}
 use Rattle.std.specs.Int.{w32, from_le_bytes}
-use Rattle.bd_device.specs.Devices.{BreaksWithin, Over, Reader, TakesFront, TakesText, Writer, after_more, between}
+use Rattle.bd_device.specs.Devices.{BreaksWithin, Over, Reader, TakesFront, TakesText, Writer, between}
 use Rattle.bd_raw.specs.Sizes.{number_of}
 use Rattle.bd_wide_cli.specs.declared.filter.Filter.{Filter}
 use Rattle.bd_wide_cli.specs.declared.frame.Next.{Next}
 use Rattle.bd_wide_cli.specs.declared.frame.Next.TheVariants as nexts
 use Rattle.bd_wide_cli.specs.declared.running.Stop.{Stop}
 use Rattle.bd_wide_cli.specs.declared.running.Stop.TheVariants as stops
-use Rattle.bd_wide_cli.specs.Filtered.{AreDocuments, none, more, AreFiltered, ArePartlyFiltered, BeginsWithNone, FiltersAll, FiltersPartly, IsBadLength, IsFiltered, IsFrame, IsNext, IsWritten, CopiesRest, PassesOn, StopsCopying, StopsDocument, StopsPassing, WritesDocument}
+use Rattle.bd_wide_cli.specs.Filtered.{AreDocuments, none, more, BeginsWithNone, FiltersAll, FiltersPartly, IsBadLength, IsFrame, IsNext, IsWritten, CopiesRest, PassesOn, StopsCopying, StopsDocument, StopsPassing, WritesDocument}
 use Rattle.bd_wide_cli.proofs.OutputLemmas.{takes_both, breaks_second}
 
 pub record Progress (filter : Filter) (file left : Reader) (old new : Writer) (kept : ℕ) : Type 0 where

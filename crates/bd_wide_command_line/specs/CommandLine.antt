@@ -1,5 +1,5 @@
 -- What the words of a line order, by the parser's own definition of the lines that it takes.
-use Rattle.std.specs.Prelude.{◌≡◌, ◌⊎◌, List, [], ◌∷◌, if◌then◌else◌, slice_get, codes, string_bytes, Option, Some, None, option_map, option_and_then, true}
+use Rattle.std.specs.Prelude.{List, [], ◌∷◌, if◌then◌else◌, slice_get, codes, string_bytes, Option, None, option_map, option_and_then, true}
 use Rattle.std.specs.Str.{bytes_eq}
 use Rattle.clap.specs.Simple.{App, new_app, on_top, subcommand_of}
 use Rattle.clap.specs.Walk.{Row, Text, first_of}

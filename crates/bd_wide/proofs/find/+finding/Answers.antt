@@ -1,6 +1,5 @@
-use Rattle.std.proofs.Common.{◌≡◌, ◌≤◌, ◌<◌, ◌+◌, ◌-◌, List, ℕ, length, drop, arith, rules, sym, ap, ◌∙◌, length-drop, false, true, not}
-use Rattle.bd_raw.specs.declared.raw_parts.Holder.TheVariants as holders
-use Rattle.bd_wide.specs.Refused.{path_of, refused_element, refused_elements, refused_nested}
+use Rattle.std.proofs.Common.{◌≡◌, ◌-◌, length, arith, rules, sym, ap, ◌∙◌, length-drop, not}
+use Rattle.bd_wide.specs.Refused.{path_of, refused_element, refused_nested}
 use Rattle.bd_wide.specs.Rewritten.{holder_least, least}
 use Rattle.bd_wide.proofs.FindLemmas as finds
 use Rattle.bd_wide.proofs.find.+finding.Goals as goal

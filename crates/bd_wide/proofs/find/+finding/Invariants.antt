@@ -1,4 +1,4 @@
-use Rattle.std.proofs.Common.{◌≡◌, ◌+◌, ◌*◌, ◌++◌, length}
+use Rattle.std.proofs.Common.{◌≡◌, ◌+◌, ◌*◌, length}
 use Rattle.bd_wide.specs.Refused.{path_of, refused_element, refused_elements, refused_nested}
 use Rattle.bd_wide.proofs.find.+finding.Given as goal
 

@@ -1,12 +1,10 @@
-use Rattle.std.proofs.Common.{◌≡◌, ◌≤◌, ◌<◌, ◌+◌, ◌-◌, ◌++◌, length, take, drop, vec_len, OnOk, OnErr, ℕ, ◌*◌, arith, rules, sym, ap, ◌∙◌, subst}
-use Rattle.std.specs.Io.{StartsWith}
+use Rattle.std.proofs.Common.{◌≡◌, ◌<◌, ◌-◌, length, arith, rules, ap}
 use Rattle.bd_raw.specs.Spelling.{number}
-use Rattle.bd_wide.specs.Rewritten.{Adds, least, holder_least, IsElement, AreElements, IsBody, IsScoped, IsNested}
+use Rattle.bd_wide.specs.Rewritten.{least, holder_least, IsBody, IsScoped, IsNested}
 use Rattle.bd_raw.specs.declared.raw_parts.Holder.TheVariants as holders
 use Rattle.std.proofs.Common.{length-drop}
 use Rattle.std.proofs.lemmas.Bool.Decides.{nat_tests}
 use Rattle.bd_value.proofs.FrontLemmas.{front_more}
-use Rattle.bd_raw.specs.Sizes.{number_of}
 use Rattle.bd_wide.proofs.WalkLemmas as walks
 use Rattle.bd_wide.proofs.walk.+walking.Goals as goal
 

@@ -1,4 +1,4 @@
-use Rattle.std.proofs.Common.{◌≡◌, ◌+◌, ◌*◌, ◌++◌, length}
+use Rattle.std.proofs.Common.{◌+◌, ◌*◌, length}
 use Rattle.std.specs.Io.{StartsWith}
 use Rattle.bd_wide.specs.Rewritten.{IsNested}
 use Rattle.bd_wide.proofs.WalkLemmas.{Comes}

@@ -1,4 +1,4 @@
-use Rattle.std.proofs.Common.{◌≡◌, ◌+◌, length, arith, rules}
+use Rattle.std.proofs.Common.{◌≡◌, length, arith, rules}
 use Rattle.bd_wide.specs.Wrap.{IsNumberText}
 use Rattle.bd_wide.proofs.WrapLemmas.{string_ok, string_size}
 use Rattle.bd_wide.proofs.wrap.put_string.Goals as goal

@@ -1,4 +1,3 @@
-use Rattle.std.proofs.Common.{List, ℕ, ◌++◌}
 use Rattle.std.proofs.KnownBytes.{Consumes-trans}
 use Rattle.bd_wide_cli.proofs.OutputLemmas.{on_err_map}
 use Rattle.bd_wide_cli.proofs.frame.next_frame.Goals as goal

@@ -1,10 +1,8 @@
-use Rattle.std.proofs.Common.{◌≡◌, ◌≤◌, ◌+◌, List, ℕ, length, sym, ap, ◌∙◌, subst, arith, rules, refl}
+use Rattle.std.proofs.Common.{List, ℕ, sym, subst, arith, rules}
 use Rattle.std.proofs.lemmas.Result.{err_from_is_err_and}
 use Rattle.std.specs.Io.KnownBytes.{Consumes}
-use Rattle.bd_value.specs.Limits.{longest_input}
 use Rattle.bd_wide_cli.specs.Filtered.{IsFrame, IsNext}
 use Rattle.bd_wide_cli.specs.declared.frame.Next.{Next}
-use Rattle.bd_wide_cli.specs.declared.frame.Next.TheVariants as nexts
 use Rattle.bd_wide_cli.specs.declared.running.Stop.TheVariants as stops
 use Rattle.bd_wide_cli.proofs.RunLemmas as runs
 use Rattle.bd_wide_cli.proofs.running.filter_documents.Goals as goal

@@ -1,8 +1,6 @@
-use Rattle.std.proofs.Common.{◌≡◌, List, ℕ, length, sym, ◌∙◌, subst, true, false, Result, Ok, Err, OnOk, IfErr, inl, inr}
-use Rattle.bd_device.specs.Devices.{between}
-use Rattle.bd_wide_cli.specs.Filtered.{IsNext, IsBadLength, PassesOn, StopsPassing}
+use Rattle.std.proofs.Common.{sym, ◌∙◌, subst, inl, inr}
+use Rattle.bd_wide_cli.specs.Filtered.{IsNext}
 use Rattle.bd_wide_cli.specs.declared.frame.Next.{Next}
-use Rattle.bd_wide_cli.specs.declared.frame.Next.TheVariants as nexts
 use Rattle.bd_wide_cli.proofs.OutputLemmas.{broke_of, took_of}
 use Rattle.bd_wide_cli.proofs.RunLemmas as runs
 use Rattle.bd_wide_cli.proofs.running.pass_on.Goals as goal

@@ -1,0 +1,171 @@
+"""What `bsonwide` writes of a dump, by Python: `mask`, and `wrap` with the texts of doubles and decimal128."""
+
+import struct
+from collections.abc import Callable
+from decimal import Decimal
+
+from model.dumps import LEVELS, LONGEST
+
+FIXED = {0x01: 8, 0x06: 0, 0x07: 12, 0x08: 1, 0x09: 8, 0x0A: 0, 0x10: 4, 0x11: 8, 0x12: 8, 0x13: 16, 0x7F: 0, 0xFF: 0}
+# A count of four bytes, at least so many, counts all bytes of the value but so many.
+COUNTED = {0x02: (1, 4), 0x03: (5, 0), 0x04: (5, 0), 0x05: (0, 5), 0x0C: (1, 16), 0x0D: (1, 4), 0x0E: (1, 4), 0x0F: (14, 0)}
+
+
+def number(data: bytes, at: int = 0) -> int:
+    return int.from_bytes(data[at : at + 4], "little")
+
+
+def size_of(kind: int, data: bytes) -> int | None:
+    """How many bytes the value at the front has; None where that is not known, or they are not there."""
+    if kind in FIXED:
+        size = FIXED[kind]
+    elif kind == 0x0B:
+        pattern = data.find(0)
+        options = data.find(0, pattern + 1)
+        if pattern < 0 or options < 0:
+            return None
+        size = options + 1
+    elif kind in COUNTED and len(data) >= 4 and number(data) >= COUNTED[kind][0]:
+        size = number(data) + COUNTED[kind][1]
+    else:
+        return None
+    return size if size <= len(data) else None
+
+
+class TooDeep(Exception):
+    """Nothing can stand in the place of a number at the deepest level."""
+
+
+# An element by its type, its name with the zero, its value, and how many levels are left below it.
+Element = Callable[[int, bytes, bytes, int], bytes]
+Others = Callable[[bytes], bytes]
+
+
+def elements(data: bytes, room: int, element: Element, others: Others) -> bytes:
+    made = b""
+    while data:
+        zero = data.find(0, 1)
+        size = size_of(data[0], data[zero + 1 :]) if zero > 0 else None
+        if size is None:
+            return made + others(data)
+        kind, name, value = data[0], data[1 : zero + 1], data[zero + 1 : zero + 1 + size]
+        if kind in (0x03, 0x04) and room > 0:
+            made += data[: zero + 1] + document(value, room - 1, element, others)
+        elif kind == 0x0F and room > 0:
+            made += data[: zero + 1] + scoped(value, room - 1, element, others)
+        elif kind in (0x01, 0x10, 0x12, 0x13):
+            made += element(kind, name, value, room)
+        else:
+            made += data[: zero + 1 + size]
+        data = data[zero + 1 + size :]
+    return made
+
+
+def document(data: bytes, room: int, element: Element, others: Others) -> bytes:
+    made = elements(data[4:-1], room, element, others)
+    return (len(made) + 5).to_bytes(4, "little") + made + data[-1:]
+
+
+def scoped(data: bytes, room: int, element: Element, others: Others) -> bytes:
+    at = 8 + number(data, 4)
+    if at == 8 or len(data) < at + 5 or number(data, at) != len(data) - at:
+        return data
+    scope = document(data[at:], room - 1, element, others) if room > 0 else data[at:]
+    return (at + len(scope)).to_bytes(4, "little") + data[4:at] + scope
+
+
+def frames(data: bytes) -> tuple[list[bytes], bytes]:
+    """The documents, and the bytes from the first bad length on."""
+    found, at = [], 0
+    while len(data) - at >= 4 and 5 <= number(data, at) <= min(LONGEST, len(data) - at):
+        found.append(data[at : at + number(data, at)])
+        at += number(data, at)
+    return found, data[at:]
+
+
+def mask(data: bytes) -> bytes:
+    def element(kind: int, name: bytes, value: bytes, _room: int) -> bytes:
+        if kind == 0x01:
+            return b"\x12" + name + value
+        if kind == 0x13:
+            return b"\x07" + name[:-1] + b"####\0" + value[4:]
+        return bytes([kind]) + name + value
+
+    def others(rest: bytes) -> bytes:
+        return (b"\x12" if rest[0] == 0x01 and 0 in rest[1:] else rest[:1]) + rest[1:]
+
+    documents, rest = frames(data)
+    return b"".join(document(it, LEVELS - 1, element, others) for it in documents) + rest
+
+
+def double_text(bits: bytes) -> bytes:
+    """As Go's `strconv.FormatFloat(x, 'G', -1, 64)` lays it out, with `.0` where it would have neither point nor power."""
+    value = struct.unpack("<d", bits)[0]
+    if value != value:
+        return b"NaN"
+    sign = "-" if bits[7] & 0x80 else ""
+    if value in (float("inf"), float("-inf")):
+        return f"{sign}Infinity".encode()
+    if value == 0:
+        return f"{sign}0.0".encode()
+    # `repr` gives the shortest digits that read back.
+    _, digits, power = Decimal(repr(abs(value))).normalize().as_tuple()
+    text = "".join(map(str, digits))
+    first = int(power) + len(text) - 1
+    if not -4 <= first <= 5:
+        mantissa = text[0] + ("." + text[1:] if text[1:] else "")
+        return f"{sign}{mantissa}E{'-' if first < 0 else '+'}{abs(first):02}".encode()
+    if first < 0:
+        return f"{sign}0.{'0' * (-first - 1)}{text}".encode()
+    whole = text[: first + 1].ljust(first + 1, "0")
+    return f"{sign}{whole}.{text[first + 1 :] or '0'}".encode()
+
+
+def decimal_text(data: bytes) -> bytes:
+    """To-scientific-string, by Python's `decimal`, of the 16 bytes."""
+    bits = int.from_bytes(data, "little")
+    sign = bits >> 127
+    five = bits >> 122 & 31
+    if five == 31:
+        return b"NaN"
+    if five == 30:
+        return b"-Infinity" if sign else b"Infinity"
+    if five >= 24:
+        coefficient, power = 0, bits >> 111 & 0x3FFF
+    else:
+        coefficient, power = bits & (1 << 113) - 1, bits >> 113 & 0x3FFF
+    if coefficient >= 10**34:
+        coefficient = 0
+    return str(Decimal((sign, tuple(map(int, str(coefficient))), power - 6176))).encode()
+
+
+def wrapper(name: bytes, text: bytes) -> bytes:
+    body = b"\x02" + name + b"\0" + (len(text) + 1).to_bytes(4, "little") + text + b"\0"
+    return (len(body) + 5).to_bytes(4, "little") + body + b"\0"
+
+
+def wrap(data: bytes) -> tuple[bytes, int]:
+    """What is written, and how many documents stay as they are."""
+
+    def element(kind: int, name: bytes, value: bytes, room: int) -> bytes:
+        if kind in (0x01, 0x13) and room == 0:
+            raise TooDeep
+        if kind == 0x01:
+            return b"\x03" + name + wrapper(b"$numberDouble", double_text(value))
+        if kind == 0x13:
+            return b"\x03" + name + wrapper(b"$numberDecimal", decimal_text(value))
+        return bytes([kind]) + name + value
+
+    made, kept = [], 0
+    documents, rest = frames(data)
+    for it in documents:
+        try:
+            new = document(it, LEVELS - 1, element, lambda others: others)
+        except TooDeep:
+            new = b""
+        if new and len(new) <= LONGEST:
+            made.append(new)
+        else:
+            made.append(it)
+            kept += 1
+    return b"".join(made) + rest, kept

@@ -1,0 +1,181 @@
+#!/usr/bin/env python3
+"""Runs `bsonwide` beside the model of it: over worked examples, random and damaged documents, and each prefix of a small dump.
+
+usage: tests/wide/wide.py [PROGRAM] [DOCUMENTS]     The last line is 'N passed, M failed'.
+"""
+
+import random
+import struct
+import subprocess
+import sys
+from pathlib import Path
+
+sys.path.insert(0, str(Path(__file__).resolve().parents[1]))
+
+from model.wide import decimal_text, double_text, mask, wrap
+from support import ROOT, Tests
+
+PROGRAM = Path(sys.argv[1]).resolve() if len(sys.argv) > 1 else ROOT / "bsonwide"
+DOCUMENTS = int(sys.argv[2]) if len(sys.argv) > 2 else 20_000
+USAGE = b"usage: bsonwide mask FILE\n       bsonwide wrap FILE\n"
+
+# Texts that stand in the pages of Go's driver, of bsondump, of Extended JSON v2 and of the decimal128 specification.
+DOUBLES = {
+    1234567.5: b"1.2345675E+06", 1e20: b"1E+20", 5e-324: b"5E-324", 999999.0: b"999999.0", 1e6: b"1E+06", 0.0: b"0.0",
+    1.0: b"1.0", 0.1: b"0.1", 1e-4: b"0.0001", 1e-5: b"1E-05", 0.00012: b"0.00012", 123456.7: b"123456.7", 100000.0: b"100000.0",
+    1.7976931348623157e308: b"1.7976931348623157E+308", 9007199254740993.0: b"9.007199254740992E+15", -1.5: b"-1.5",
+    float("inf"): b"Infinity", float("-inf"): b"-Infinity", 1.0001220703125e18: b"1.0001220703125E+18", 2.5e-7: b"2.5E-07",
+}  # fmt: skip
+DECIMALS = {
+    (0, 0x3040000000000000): b"0", (0, 0xB040000000000000): b"-0", (1, 0x3040000000000000): b"1", (1, 0x3046000000000000): b"1E+3",
+    (0, 0x3046000000000000): b"0E+3", (5, 0x303E000000000000): b"0.5", (12345, 0x303C000000000000): b"123.45",
+    (1, 0x3032000000000000): b"1E-7", (1, 0x3034000000000000): b"0.000001", (1, 0x5FFE000000000000): b"1E+6111",
+    (0, 0x7C00000000000000): b"NaN", (0, 0xFC00000000000000): b"NaN", (0, 0x7800000000000000): b"Infinity",
+    (0, 0xF800000000000000): b"-Infinity", (0, 0x6C10000000000000): b"0", (0xFFFFFFFFFFFFFFFF, 0x3041FFFFFFFFFFFF): b"0",
+    (0x378D8E63FFFFFFFF, 0x3041ED09BEAD87C0): b"9999999999999999999999999999999999",
+    (0x378D8E63FFFFFFFF, 0x5FFFED09BEAD87C0): b"9.999999999999999999999999999999999E+6144", (1, 0x0000000000000000): b"1E-6176",
+}  # fmt: skip
+
+
+def four(count: int) -> bytes:
+    return count.to_bytes(4, "little")
+
+
+def document(body: bytes) -> bytes:
+    return four(len(body) + 5) + body + b"\0"
+
+
+def a_double() -> bytes:
+    chosen = random.randrange(7)
+    if chosen == 0:
+        return struct.pack("<d", random.choice([*DOUBLES, -0.0]))
+    if chosen == 1:
+        return struct.pack("<d", random.uniform(-1e7, 1e7))
+    if chosen == 2:
+        return struct.pack("<d", float(random.randrange(-(10**8), 10**8)))
+    if chosen == 3:
+        return struct.pack("<d", round(random.uniform(-1000, 1000), 2))
+    if chosen == 4:
+        return struct.pack("<d", random.choice([1, 3, 7, 12, 125]) * 10.0 ** random.randrange(-12, 25))
+    return random.randbytes(8)
+
+
+def a_decimal() -> bytes:
+    if random.randrange(3) == 0:
+        return random.randbytes(16)
+    coefficient = random.randrange(10 ** random.randrange(36))
+    power = random.choice([random.randrange(12288), 6176 + random.randrange(-45, 45)])
+    return (random.randrange(2) << 127 | power << 113 | coefficient & (1 << 113) - 1).to_bytes(16, "little")
+
+
+def a_value(levels: int) -> tuple[int, bytes]:
+    kind = random.choice([1, 1, 1, 2, 3, 3, 4, 5, 6, 7, 8, 9, 10, 11, 12, 13, 14, 15, 16, 17, 18, 19, 19, 127, 255])
+    if levels <= 0 and kind in (3, 4, 15):
+        kind = 1
+    text = random.choices(b"xyz", k=random.randrange(6))
+    string = four(len(text) + 1) + bytes(text) + b"\0"
+    if kind == 1:
+        return kind, a_double()
+    if kind == 19:
+        return kind, a_decimal()
+    if kind in (3, 4):
+        return kind, a_document(levels - 1)
+    if kind == 15:
+        inner = string + a_document(levels - 1)
+        return kind, four(len(inner) + 4) + inner
+    if kind == 5:
+        return kind, four(len(text)) + bytes([random.randrange(3)]) + bytes(text)
+    if kind == 11:
+        return kind, bytes(text) + b"\0" + bytes(text) + b"\0"
+    sizes = {7: 12, 8: 1, 9: 8, 16: 4, 17: 8, 18: 8}
+    if kind in sizes:
+        return kind, random.randbytes(sizes[kind])
+    return kind, {2: string, 12: string + random.randbytes(12), 13: string, 14: string}.get(kind, b"")
+
+
+def a_document(levels: int) -> bytes:
+    body = b""
+    for _ in range(random.choice([0, 1, 2, 3, 5])):
+        kind, value = a_value(levels)
+        body += bytes([kind]) + bytes(random.choices(b"abc$.~", k=random.choice([0, 1, 1, 2, 3, 17]))) + b"\0" + value
+    return document(body)
+
+
+def damaged(data: bytes) -> bytes:
+    """The same with some bytes changed, but with its length."""
+    changed = bytearray(data)
+    for _ in range(random.choice([0, 0, 1, 1, 2])):
+        if len(data) > 5:
+            at = random.randrange(4, len(data))
+            changed[at] = random.choice([0, 1, 2, 3, 4, 5, 15, 19, 255, changed[at] ^ 1 << random.randrange(8)])
+    return bytes(changed)
+
+
+def deep(levels: int, kind: int) -> bytes:
+    """Documents, arrays or code with scope in one another, with a double and a decimal128 at the bottom."""
+    data = document(b"\x01q\0" + bytes(range(8)) + b"\x13r\0" + bytes(range(16)))
+    for _ in range(levels):
+        if kind == 15:
+            inner = four(1) + b"\0" + data
+            data = document(b"\x0fa\0" + four(len(inner) + 4) + inner)
+        else:
+            data = document(bytes([kind]) + b"a\0" + data)
+    return data
+
+
+def ran(command: str, data: bytes) -> tuple[bytes, bytes, int]:
+    made = subprocess.run([PROGRAM, command, "-"], input=data, capture_output=True, check=False)
+    return made.stdout, made.stderr, made.returncode
+
+
+def main() -> int:
+    tests = Tests()
+    random.seed(57)
+    tests.want("model of -0.0", double_text(bytes(7) + b"\x80") == b"-0.0")
+    for value, text in DOUBLES.items():
+        tests.want(f"model of {value}", double_text(struct.pack("<d", value)) == text, double_text(struct.pack("<d", value)))
+    for halves, text in DECIMALS.items():
+        tests.want(f"model of {text!r}", decimal_text(struct.pack("<QQ", *halves)) == text, decimal_text(struct.pack("<QQ", *halves)))
+
+    inputs = {
+        "worked doubles": document(b"".join(b"\x01a\0" + struct.pack("<d", it) for it in [*DOUBLES, -0.0])),
+        "worked decimals": document(b"".join(b"\x13a\0" + struct.pack("<QQ", *it) for it in DECIMALS)),
+        "random": b"".join(a_document(random.choice([0, 1, 2, 4])) for _ in range(DOCUMENTS)),
+        "damaged": b"".join(damaged(a_document(random.choice([0, 1, 2, 4]))) for _ in range(DOCUMENTS)),
+        "nested": b"".join(deep(levels, kind) for levels in (0, 3, 98, 99, 100, 101, 197, 198, 199, 200, 201) for kind in (3, 4, 15)),
+        "doubles": b"".join(document(b"\x01a\0" + a_double()) for _ in range(10 * DOCUMENTS)),
+        "decimals": b"".join(document(b"\x13a\0" + a_decimal()) for _ in range(10 * DOCUMENTS)),
+        "too long": document(b"\x02a\0" + four(16 << 20) + bytes((16 << 20) - 1) + b"\0" + (b"\x01b\0" + bytes(8)) * 100),
+        "empty": b"",
+    }
+    small = document(b"\x01d\0" + bytes(8) + b"\x03o\0" + document(b"\x13e\0" + bytes(16)) + b"\x10i\0" + bytes(4)) + document(b"")
+    for end in range(len(small)):
+        inputs[f"first {end} bytes"] = small[:end]
+    for at in range(len(small)):
+        for byte in (0, 1, 5, 0x13, 0xFF, small[at] ^ 1):
+            inputs[f"byte {at} is {byte}"] = small[:at] + bytes([byte]) + small[at + 1 :]
+    for name, data in inputs.items():
+        made = ran("mask", data)
+        tests.want(f"mask, {name}", made == (mask(data), b"", 0), made[1:])
+        tests.want(f"mask, {name}: the length", len(made[0]) == len(data))
+        wanted, kept = wrap(data)
+        message = f"{kept} documents too long or too deep to wrap\n".encode() if kept else b""
+        made = ran("wrap", data)
+        tests.want(f"wrap, {name}", made == (wanted, message, 0), made[1:])
+
+    for words, status, out, err in (
+        ([], 2, b"", USAGE), (["mask"], 2, b"", USAGE), (["sort", "-"], 2, b"", USAGE), (["mask", "-", "-"], 2, b"", USAGE),
+        (["--help"], 0, USAGE, b""), (["wrap", "-h"], 0, USAGE, b""), (["mask", "absent"], 1, b"", b"bsonwide: cannot open absent\n"),
+        (["mask", "--", "-x"], 1, b"", b"bsonwide: cannot open -x\n"), (["mask", "/"], 1, b"", b"bsonwide: cannot read\n"),
+    ):  # fmt: skip
+        got = subprocess.run([PROGRAM, *words], input=b"", capture_output=True, check=False)
+        tests.want(f"words {words}", (got.returncode, got.stdout, got.stderr) == (status, out, err), got)
+    with open("/dev/full", "wb") as full:
+        got = subprocess.run([PROGRAM, "wrap", "-"], input=small, stdout=full, stderr=subprocess.PIPE, check=False)
+    tests.want("a full device", (got.returncode, got.stderr) == (1, b"bsonwide: cannot write\n"), got)
+    print(f"{tests.passed} passed, {tests.failed} failed")
+    return int(tests.failed > 0)
+
+
+if __name__ == "__main__":
+    sys.exit(main())
