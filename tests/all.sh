@@ -18,7 +18,7 @@ add() {
 }
 
 # What an earlier run left is not tested in place of what the gate builds.
-rm -f crates/bsonfind/out/bsonfind crates/bd_growth_tests/out/bd_growth_tests_tests
+rm -f crates/bsonfind/out/bsonfind crates/bsonwide/out/bsonwide crates/bd_growth_tests/out/bd_growth_tests_tests
 rt ci | tee "$log"
 add
 
@@ -33,6 +33,13 @@ if cp crates/bsonfind/out/bsonfind bsonfind; then
 	add
 else
 	echo 'the gate built no program: its tests were not run'
+	failed=$((failed + 1))
+fi
+if [ -x crates/bsonwide/out/bsonwide ]; then
+	tests/wide/wide.py crates/bsonwide/out/bsonwide 2000 | tee "$log"
+	add
+else
+	echo 'the gate built no bsonwide: its tests were not run'
 	failed=$((failed + 1))
 fi
 if [ -x crates/bd_growth_tests/out/bd_growth_tests_tests ]; then

@@ -5,6 +5,7 @@
 //! - `find`: `find_refused`, the first number that a `Refuser` refuses: `specs/Refused.antt`.
 //! - `walk`: `write_rewritten`, the one walker, and `NumberWriter`, what it asks for each number.
 //! - `wrap`: `Wrap`, in which doubles and decimal128 are documents that hold their texts: `specs/Wrap.antt`.
+//! - `element`: the element at the front of bytes, of which only sizes are looked at.
 //! - `mask`: `Mask`, in which each element has a type that bsonfind reads, at the same place.
 #![tactic(auto)]
 
