@@ -1,23 +1,10 @@
 -- Lemmas on texts that a device takes one after the other.
-use Rattle.std.proofs.Common.{◌≡◌, ℕ, List, ◌++◌, sym, ap, ◌∙◌, append_assoc, Result, Ok, Err, OnErr, OnOk, true, false, true≢false}
+use Rattle.std.proofs.Common.{◌≡◌, ℕ, List, ◌++◌, sym, Result, Ok, Err, OnErr, OnOk, true, false, true≢false}
 use Rattle.std.specs.Result.{is_err}
-use Rattle.std.proofs.KnownBytes.{Appends-trans}
-use Rattle.bd_device.specs.Devices.{after_more, BreaksWithin, TakesText, Writer, between}
+use Rattle.bd_device.specs.Devices.{BreaksWithin, TakesText, Writer, between}
+use Rattle.bd_device.proofs.DevicesLemmas.{breaks_first, breaks_second, takes_both}
 
 -- ---- one text after the other
-
-pub takes_both : (old mid new : Writer) (first second : List ℕ) → TakesText (between old mid) first → TakesText (between mid new) second → TakesText (between old new) (first ++ second)
-takes_both old mid new first second a b = (Appends-trans old.held mid.held new.held first second a.0 b.0, b.1 ∙ a.1)
-
-pub breaks_first : (old new : Writer) (first second : List ℕ) → BreaksWithin (between old new) first → BreaksWithin (between old new) (first ++ second)
-breaks_first old new first second broke =
-    ((broke.0.0, broke.0.1 ++ second, ap (λ x. x ++ second) broke.0.2 ∙ append_assoc broke.0.0 broke.0.1 second, broke.0.3), broke.1)
-
-pub breaks_second : (old mid new : Writer) (first second : List ℕ) → TakesText (between old mid) first → BreaksWithin (between mid new) second → BreaksWithin (between old new) (first ++ second)
-breaks_second old mid new first second a broke = (
-  (first ++ broke.0.0, broke.0.1, ap (λ x. first ++ x) broke.0.2 ∙ sym (append_assoc first broke.0.0 broke.0.1), Appends-trans old.held mid.held new.held first broke.0.0 a.0 broke.0.3),
-  broke.1 ∙ ap (λ n. after_more n 1) a.1,
-)
 
 pub on_err : {A E : Type 0} (r : Result A E) (P : Type 0) → P → OnErr r P
 on_err (Ok x) P h = _

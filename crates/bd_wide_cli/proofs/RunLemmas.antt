@@ -1,6 +1,6 @@
 -- How far a run has come, and how it ends.
 use Rattle.std.proofs.Common.{◌≡◌, ◌≤◌, ◌<◌, ◌⊎◌, ℕ, ◌+◌, Bool, true, false, cond, List, [], ◌++◌, length, take, refl, sym, ap, ◌∙◌, subst, inl, inr, arith, append_assoc, append-nil, Option, Result, Ok, Err, OnOk, IfErr, take_at}
-use Rattle.std.proofs.KnownBytes.{Appends-trans, Appends-nil, Consumes-nil, Consumes-trans}
+use Rattle.std.proofs.KnownBytes.{Consumes-nil, Consumes-trans}
 use Rattle.std.specs.Io.KnownBytes.{Consumes}
 use Rattle.std.specs.Int.{w32, from_le_bytes}
 use Rattle.bd_device.specs.Devices.{BreaksWithin, Over, Reader, TakesFront, TakesText, Writer, between}
@@ -11,7 +11,7 @@ use Rattle.bd_wide_cli.specs.declared.frame.Next.TheVariants as nexts
 use Rattle.bd_wide_cli.specs.declared.running.Stop.{Stop}
 use Rattle.bd_wide_cli.specs.declared.running.Stop.TheVariants as stops
 use Rattle.bd_wide_cli.specs.Filtered.{AreDocuments, none, more, BeginsWithNone, FiltersAll, FiltersPartly, IsBadLength, IsFrame, IsNext, IsWritten, CopiesRest, PassesOn, StopsCopying, StopsDocument, StopsPassing, WritesDocument}
-use Rattle.bd_wide_cli.proofs.OutputLemmas.{takes_both, breaks_second}
+use Rattle.bd_device.proofs.DevicesLemmas.{breaks_second, takes_both, takes_none}
 
 pub record Progress (filter : Filter) (file left : Reader) (old new : Writer) (kept : ℕ) : Type 0 where
   pub documents : List ℕ
@@ -21,7 +21,7 @@ pub record Progress (filter : Filter) (file left : Reader) (old new : Writer) (k
   pub took : TakesText (between old new) written
 
 pub begins : (filter : Filter) (file : Reader) (out : Writer) → Progress filter file file out out 0
-begins filter file out = record { documents = []; written = []; are = none; gave = Consumes-nil file.left; took = (Appends-nil out.held, refl) }
+begins filter file out = record { documents = []; written = []; are = none; gave = Consumes-nil file.left; took = takes_none out }
 
 pub goes_on : (filter : Filter) (file left later : Reader) (old new last : Writer) (kept : ℕ) (bytes : List ℕ) (filtered : Bool) → Progress filter file left old new kept
     → Consumes left.left later.left bytes → IsFrame bytes → WritesDocument filter bytes (between new last) filtered
@@ -36,16 +36,14 @@ goes_on filter file left later old new last kept bytes filtered p gave frame wro
 
 -- a text that was taken whole is a front of itself, and of a longer one
 pub front_of : (out : Over Writer) (text later : List ℕ) → TakesText out text → TakesFront out (text ++ later)
-front_of out text later t = ((text, later, refl, t.0), t.1)
+front_of out text later t = (text, later, refl, t)
 
 pub is_front : (out : Over Writer) (text : List ℕ) → TakesText out text → TakesFront out text
-is_front out text t = ((text, [], sym (append-nil text), t.0), t.1)
+is_front out text t = (text, [], sym (append-nil text), t)
 
 pub fronts_after : (old mid new : Writer) (first second : List ℕ) → TakesText (between old mid) first → TakesFront (between mid new) second → TakesFront (between old new) (first ++ second)
-fronts_after old mid new first second a b = (
-  (first ++ b.0.0, b.0.1, ap (λ x. first ++ x) b.0.2 ∙ sym (append_assoc first b.0.0 b.0.1), Appends-trans old.held mid.held new.held first b.0.0 a.0 b.0.3),
-  b.1 ∙ a.1,
-)
+fronts_after old mid new first second a (front, rest, split, took) =
+    (first ++ front, rest, ap (λ x. first ++ x) split ∙ sym (append_assoc first front rest), takes_both old mid new first front a took)
 
 pub written_after : (stop : Stop) (old mid new : Writer) (first second : List ℕ) → TakesText (between old mid) first → IsWritten stop (between mid new) second → IsWritten stop (between old new) (first ++ second)
 written_after stops.Unwritten old mid new first second a b = breaks_second old mid new first second a b
@@ -77,7 +75,7 @@ pub copied_to : (stop : Stop) (file left last : Reader) (old mid new : Writer) (
 copied_to stop file left last old mid new given part gave one took two = (given ++ part, Consumes-trans file.left left.left last.left given part gave one, written_after stop old mid new given part took two)
 
 pub front_none : (out : Writer) (text : List ℕ) → TakesFront (between out out) text
-front_none out text = (([], text, refl, Appends-nil out.held), refl)
+front_none out text = ([], text, refl, takes_none out)
 
 pub passes_on : (bytes : List ℕ) (file last : Reader) (old mid new : Writer) → length bytes ≡ 4 → IsBadLength bytes → TakesText (between old mid) bytes → CopiesRest (between file last) (between mid new)
     → PassesOn bytes (between file last) (between old new)
@@ -137,7 +135,7 @@ unread filter file left last old new kept stop p gave wrote = (
 )
 
 pub nothing_written : (out : Writer) → TakesFront (between out out) []
-nothing_written out = is_front (between out out) [] (Appends-nil out.held, refl)
+nothing_written out = is_front (between out out) [] (takes_none out)
 
 pub stops_document : (filter : Filter) (file left last : Reader) (old new end : Writer) (kept : ℕ) (bytes : List ℕ) (stop : Stop) → Progress filter file left old new kept
     → Consumes left.left last.left bytes → IsFrame bytes → StopsDocument filter bytes (between new end) stop → FiltersPartly filter (between file last) (between old end) stop
