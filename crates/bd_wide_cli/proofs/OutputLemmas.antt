@@ -1,7 +1,8 @@
 -- Lemmas on texts that a device takes one after the other.
-use Rattle.std.proofs.Common.{◌≡◌, ℕ, List, ◌++◌, sym, Result, Ok, Err, OnErr, OnOk, true, false, true≢false}
+use Rattle.std.proofs.Common.{◌≡◌, ℕ, List, ◌++◌, sym, subst, inl, inr, Result, Ok, Err, OnErr, OnOk, true, false, true≢false}
 use Rattle.std.specs.Result.{is_err}
-use Rattle.bd_device.specs.Devices.{BreaksWithin, TakesText, Writer, between}
+use Rattle.bd_device.specs.Devices.{BreaksWithin, Over, TakesText, Writer, between}
+use Rattle.bd_wide_cli.specs.{Output.TellsMessage, declared.output.Status.Status, declared.output.Status.TheVariants.Failed}
 use Rattle.bd_device.proofs.DevicesLemmas.{breaks_first, breaks_second, takes_both}
 
 -- ---- one text after the other
@@ -27,5 +28,11 @@ broke_of (Err e) P is h = h
 pub took_of : {A E : Type 0} (r : Result A E) (P : Type 0) → is_err r ≡ false → OnOk r P → P
 took_of (Ok x) P is h = h
 took_of (Err e) P is h = absurd (true≢false is)
+
+-- what is told by writing a message
+pub told_by : {A E : Type 0} (r : Result A E) (err : Over Writer) (text message : List ℕ) (wanted status : Status) → text ≡ message → OnOk r (TakesText err text) → OnErr r (BreaksWithin err text)
+    → OnOk r (status ≡ wanted) → OnErr r (status ≡ Failed) → TellsMessage err message wanted status
+told_by (Ok x) err text message wanted status is took broke ok failed = inl (subst (λ (x : List ℕ). TakesText err x) is took, ok)
+told_by (Err e) err text message wanted status is took broke ok failed = inr (subst (λ (x : List ℕ). BreaksWithin err x) is broke, failed)
 
 pub ruleset taking = (takes_both, breaks_first, breaks_second)
