@@ -375,14 +375,15 @@ def outcome_of(messages: list[str]) -> str:
     """Return whether a body that is not proved is refused, or why it is not judged.
 
     A goal that is false refuses it, and so does a proof that says something else than its goal. Where a proof lacks a name or a
-    case, the body has goals for which no proof is written, and no `search` judges those.
+    case, the body has goals for which no proof is written, and no `search` judges those. Where `search` gave up at a goal, it may
+    also have left open others that hold.
     """
     by_name = [it for it in messages if BY_NAME.match(it)]
     if any(map(IS_FALSE.search, messages)) or any(": error: " in it for it in messages if it not in by_name):
         return REFUSED
     if by_name:
         return NO_PROOF_WRITTEN
-    return SEARCH_GAVE_UP if messages and all(GAVE_UP in it for it in messages) else REFUSED
+    return SEARCH_GAVE_UP if any(GAVE_UP in it for it in messages) else REFUSED
 
 
 def messages_of(lines: list[str]) -> list[str]:
@@ -475,7 +476,8 @@ MESSAGES = [
     (["./proofs/a/Answers.antt:3:5: error: `returns`: this has type `A`", "  one side has no field", "fn a: not proved", "  has no field `b`"], REFUSED),
     ([LACKS, "./proofs/a/Answers.antt:9:5: error: `returns-in-Ok`: as printed, the two types differ"], REFUSED),
     ([f"{OPEN}; {GAVE_UP}", f"{OPEN}; {GAVE_UP}"], SEARCH_GAVE_UP),
-    ([f"{OPEN}; {GAVE_UP}", OPEN], REFUSED),
+    ([f"{OPEN}; {GAVE_UP}", OPEN], SEARCH_GAVE_UP),
+    ([f"{OPEN}; {GAVE_UP}", f"{OPEN}; the facts known there allow values at which this goal is false"], REFUSED),
     ([OPEN], REFUSED),
     (["./proofs/a/Answers.antt:3:5: note: large solution", "fn a: not proved"], REFUSED),
 ]
