@@ -10,7 +10,7 @@ from contextlib import ExitStack, nullcontext
 from typing import Callable, ContextManager, Iterable, Iterator, NamedTuple
 
 from ._dumps import File
-from ._errors import ProgramError
+from ._errors import DumpError, ProgramError
 from ._faults import NO_DAMAGE, Fault, faults_of, finish_check
 from ._framing import LONGEST, SHORTEST
 from ._outputs import Output, refuse_names
@@ -94,12 +94,15 @@ def salvage(
     """
     names = [os.fsdecode(name) for name in (good, bad)]
     with ExitStack() as files:
-        source = files.enter_context(Source(path))
-        refuse_names(source.name, *names)
-        try_program(program)
-        outputs = [files.enter_context(Output(name)) for name in names]
-        files.enter_context(progress(source))
-        done = _Salvage(source, *outputs, program, say or (lambda _: None)).copy()
+        try:
+            source = files.enter_context(Source(path))
+            refuse_names(source.name, *names)
+            try_program(program)
+            outputs = [files.enter_context(Output(name)) for name in names]
+            files.enter_context(progress(source))
+            done = _Salvage(source, *outputs, program, say or (lambda _: None)).copy()
+        except DumpError as error:
+            raise DumpError(f"{os.fsdecode(path)}: {error}", error.fault) from error
         for output in outputs:
             output.complete()
         if say:

@@ -30,11 +30,17 @@ class Input(NamedTuple):
 
 
 class Source:
-    """A dump that is open for one reading. Its size is that of the file as it is on the disk, None for a pipe or a device."""
+    """A dump that is open for one reading. Its size is that of the file as it is on the disk, None for a pipe or a device.
+
+    The errors do not name it: whoever reads many adds the name.
+    """
 
     def __init__(self, path: File) -> None:
         self.name = os.fsdecode(path)
-        self._file: BinaryIO = open(self.name, "rb", buffering=0)
+        try:
+            self._file: BinaryIO = open(self.name, "rb", buffering=0)
+        except OSError as error:
+            raise DumpError(str(error.strerror)) from error
         status = os.fstat(self._file.fileno())
         self.size = status.st_size if stat.S_ISREG(status.st_mode) else None
         self._is_packed = self.name.endswith(".gz")

@@ -340,7 +340,7 @@ class BadInput(Room):
         """It does so when the program is tried, after its size was read."""
         path = self.file(PEOPLE.read_bytes())
         program = self.script(f"truncate -s 39978 {path}\nexec \"$PROGRAM\" \"$@\"")
-        told = "no bytes at byte 39978: the file became shorter"
+        told = f"{path}: no bytes at byte 39978: the file became shorter"
         self.refused("--program", program, "salvage", str(path), "--good", "/dev/null", "--bad", "/dev/null", told=told)
 
     def test_progress_on_a_terminal(self) -> None:
