@@ -4,7 +4,8 @@ from __future__ import annotations
 
 import os
 import re
-from typing import IO, Any, Callable, Iterator, Literal, NamedTuple, TypeVar, overload
+from io import BufferedReader
+from typing import Any, Callable, Generator, Iterator, Literal, NamedTuple, TypeVar, overload
 
 from . import _steps
 from ._connections import Connection
@@ -17,6 +18,7 @@ from ._steps import Reading
 
 T = TypeVar("T")
 _COUNTED = re.compile(r"(\d+) documents, (end|more)(?:, token (\S+))?")
+Batches = Generator["list[bytes]", None, None]
 _PIECE = 1 << 16
 
 
@@ -57,11 +59,11 @@ class Lines:
         # Whether nothing follows the lines, and the token that leads on; known once all are read.
         self.end, self.token = False, after
 
-    def batches(self) -> Iterator[list[bytes]]:
+    def batches(self) -> Batches:
         """The lines as they come, without their newlines. Closing this ends the program."""
         return self._by_session() if self._request.is_long else self._by_run()
 
-    def _by_run(self) -> Iterator[list[bytes]]:
+    def _by_run(self) -> Batches:
         words = self._request.words()
         options = (("batch", self._size), ("index", self._index), ("after", self._after))
         words += [f"--{name}={value}" for name, value in options if value is not None]
@@ -69,7 +71,7 @@ class Lines:
             yield from lines_of(run.stdout)
             _, self.end, self.token = counted(run.finish())
 
-    def _by_session(self) -> Iterator[list[bytes]]:
+    def _by_session(self) -> Batches:
         with Connection(self._dump, self._program, group=self._group) as connection:
             if self._index is not None:
                 connection.do(_steps.create_index(self._index, False))
@@ -85,7 +87,7 @@ class Lines:
             self.end, self.token = reading.is_at_end, connection.do(reading.token())
 
 
-def lines_of(pipe: IO[bytes]) -> Iterator[list[bytes]]:
+def lines_of(pipe: BufferedReader) -> Batches:
     """The lines that a program prints, as they come. Bytes after the last newline are none."""
     parts: list[bytes] = []
     while piece := pipe.read1(_PIECE):

@@ -3,6 +3,7 @@
 from __future__ import annotations
 
 import fcntl
+import io
 import os
 import subprocess
 import tempfile
@@ -15,6 +16,8 @@ from ._messages import error_line, error_of
 
 # As many bytes as a pipe of Linux holds.
 _BUFFER = 1 << 16
+# How many seconds a source of bytes that stalls is waited for, once no one reads them.
+_PATIENCE = 1.0
 
 
 class Group:
@@ -161,9 +164,9 @@ class Run:
         return self.process.stdin
 
     @property
-    def stdout(self) -> IO[bytes]:
+    def stdout(self) -> io.BufferedReader:
         """The pipe from standard output."""
-        assert self.process.stdout is not None
+        assert isinstance(self.process.stdout, io.BufferedReader)
         return self.process.stdout
 
     def check_process(self) -> None:
@@ -215,7 +218,7 @@ class Run:
         self.process.wait()
         self._group.leave(self.process)
         if self._feeder:
-            self._feeder.join()
+            self._feeder.join(_PATIENCE)
         for stream in (self.process.stdin, self.process.stdout):
             if stream:
                 close(stream)

@@ -1,5 +1,6 @@
 """Tests of what goes wrong between documents: forks, interrupts, documents that cannot be decoded, and questions that take long."""
 
+import gzip
 import json
 import os
 import random
@@ -299,6 +300,19 @@ class LongQuestions(Room):
             session.find()
         with self.assertRaisesRegex(SessionEndedError, "no answer within 0.5 seconds"):
             session.find()
+
+    def test_source_that_stalls(self) -> None:
+        """A compressed dump that comes by a pipe, of which no more comes."""
+        path = self.room / "stalled.bson.gz"
+        os.mkfifo(path)
+        pipe = os.open(path, os.O_RDWR)
+        self.addCleanup(os.close, pipe)
+        os.write(pipe, gzip.compress(PEOPLE.read_bytes())[:1000])
+        begun = time.monotonic()
+        for ask in (lambda: next(find(path, program=PROGRAM, timeout=0.3)), lambda: Session(path, PROGRAM, timeout=0.3)):
+            with self.assertRaises(TimedOutError):
+                ask()
+        self.assertLess(time.monotonic() - begun, 20)
 
     def test_no_timeout_where_the_answer_is_there(self) -> None:
         with Session(PEOPLE, PROGRAM, timeout=PATIENCE) as session:
