@@ -77,7 +77,7 @@ def _add_audit(command: argparse.ArgumentParser) -> None:
     command.add_argument("--expect", metavar="LOG", help="compare the counts with those in a log of mongodump")
     command.add_argument("--json", action="store_true", help="print one line of JSON, and nothing else")
     command.add_argument("--jobs", type=int, default=processors(), metavar="N", help="check so many files at once")
-    command.add_argument("--max-faults", type=int, default=MOST_FAULTS, metavar="N", help="show so many faults of a file, not 10")
+    command.add_argument("--max-faults", type=int, default=MOST_FAULTS, metavar="N", help="show so many faults of a file")
     command.set_defaults(run=run_audit)
 
 
@@ -113,7 +113,7 @@ def _add_query(command: argparse.ArgumentParser) -> None:
 def _add_ids(command: argparse.ArgumentParser) -> None:
     command.epilog = "The status is 0 where each id has a document, 1 where one has none, and else 2."
     command.add_argument("file", metavar="FILE", help="a dump of any size, or one by mongodump --gzip")
-    command.add_argument("--ids", required=True, metavar="F", help="the file of ids, one a line: 24 digits, or as dump prints them")
+    command.add_argument("--ids", required=True, metavar="F", help="a file of ids: 24 digits a line, or as dump prints them")
     command.add_argument("--missing", metavar="M", help="write the ids without a document to this file")
     command.set_defaults(run=run_ids)
 

@@ -105,9 +105,9 @@ def dumps_below(directory: str) -> Iterator[Dump]:
             elif _ENDING.search(entry.name):
                 is_file = entry.is_file()
                 yield Dump(entry.path, is_below=True, error=None if is_file else "not a regular file")
-            elif (found := _METADATA.search(entry.name)) and entry.name[: found.start()] not in stems and not _is_view(entry.path):
-                stem = entry.path[: -len(found.group())]
-                yield Dump(f"{stem}.bson", error=f"missing: only {entry.name} is there")
+            elif _METADATA.search(entry.name) and _METADATA.sub("", entry.name) not in stems and not _is_view(entry.path):
+                name = f"{_METADATA.sub('', entry.path)}.bson"
+                yield Dump(name, error=f"missing: only {entry.name} is there")
         except OSError as error:
             yield Dump(entry.path, error=error.strerror)
 
@@ -131,7 +131,7 @@ def read_log(lines: Iterable[str]) -> Log:
 
 
 def is_oplog(name: str) -> bool:
-    """Whether a file is the oplog of mongodump --oplog: it stands where the directories of the databases are, without metadata."""
+    """Whether a file is the oplog of mongodump --oplog: it stands beside the directories of databases, without metadata."""
     directory, base = os.path.split(os.path.abspath(name))
     if base not in ("oplog.bson", "oplog.bson.gz") or _metadata_beside(name):
         return False
@@ -171,8 +171,8 @@ def fault_of_metadata(name: str, is_below: bool) -> str | None:
 def _is_view(metadata: str) -> bool:
     """Whether metadata is that of a view or a time series, of which mongodump writes no dump of this name."""
     found, _ = _read(metadata)
-    options = (found or {}).get("options")
-    return (found or {}).get("type") in ("view", "timeseries") or isinstance(options, dict) and bool({"viewOn", "timeseries"} & {*options})
+    kind, options = (found or {}).get("type"), (found or {}).get("options")
+    return kind in ("view", "timeseries") or isinstance(options, dict) and bool({"viewOn", "timeseries"} & {*options})
 
 
 def _metadata_names(name: str) -> list[str]:

@@ -185,7 +185,8 @@ def _lines(name: str, program: str) -> Iterator[list[bytes]]:
 
 def rows(done: Comparison, names: Sequence[str], path: str) -> list[tuple[str, int]]:
     """The table of counts."""
-    more = ((f"with the {path} of another", done.repeated), (f"without {path}", done.without), ("dumps of one alone", done.alone))
+    named = f"with the {path} of another", f"without {path}", "dumps of one alone"
+    more = zip(named, (done.repeated, done.without, done.alone))
     return [
         *((f"documents in {name}", count) for name, count in zip(names, done.documents)),
         *((kind, done.kinds[kind]) for kind in KINDS),

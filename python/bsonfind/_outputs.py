@@ -30,7 +30,7 @@ def is_same(one: str, other: str) -> bool:
 
 
 class Output:
-    """A file that is written under another name beside it, and gets its name at the end. A device or a pipe is written as it is."""
+    """A file that is written under another name beside it, and gets its name at the end. A device or pipe is written as it is."""
 
     def __init__(self, name: str) -> None:
         self.name = name

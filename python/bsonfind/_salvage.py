@@ -30,7 +30,7 @@ _BEGINNING = re.compile(rb"[\x01-\x13](?<=[\x00\x01].)", re.DOTALL)
 # The same after the last byte of a document.
 _NEXT_BEGINNING = re.compile(rb"[\x01-\x13](?<=\x00...[\x00\x01].)", re.DOTALL)
 _BEFORE = 4
-# The types of fields whose value may look like a document: a document, an array, and an int32, if it is the number of bytes left.
+# The types of fields whose value may look like a document: a document, an array, and an int32 that is the number of bytes left.
 _LIKE_DOCUMENTS = (b"\x03", b"\x04", b"\x10")
 # The bytes of a name that is looked for before a value, and how many.
 _OF_NAMES, _LONGEST_NAME = bytes(range(0x20, 0x100)), 256
@@ -88,9 +88,10 @@ def salvage(
     say: Callable[[str], None] | None = None,
     progress: Callable[[Source], ContextManager[object]] = nullcontext,
 ) -> Salvaged:
-    """Copies each document of a dump to one of two files, by whether `check` finds a fault in it; `say` gets the lines of the command.
+    """Copies each document of a dump to one of two files, by whether `check` finds a fault in it.
 
-    The files get their names at the end, when all was copied. Before that, whatever goes wrong, nothing that was there is touched.
+    The files get their names at the end, when all was copied. Before that, whatever goes wrong, nothing that was there is
+    touched. `say` gets what the command prints.
     """
     names = [os.fsdecode(name) for name in (good, bad)]
     with ExitStack() as files:
@@ -275,17 +276,19 @@ class _Salvage:
     def _beginning_inside(self, start: int, end: int, kind: str) -> int | None:
         """Where documents begin that the length of a bad document passes over, None where this length seems to be right.
 
-        It is wrong where documents stand inside from which others lead on to the end or past it, or where none begins at the end.
-        Else they are a part of the document, such as a dump in its binary data.
+        It is wrong where documents stand inside from which others lead on to the end or past it, or where none begins at the
+        end. Else they are a part of the document, such as a dump in its binary data.
         """
         is_whole = kind in NO_DAMAGE
         pattern = _NEXT_BEGINNING if is_whole else _BEGINNING
         self._window.has(end + _BEFORE)
         data = self._window.bytes(start, min(end + _BEFORE, self._window.end))
-        for beginning in self._undamaged(self._chain(start + it, start) for it in _places(pattern, data, SHORTEST, not is_whole)):
+        places = _places(pattern, data, SHORTEST, not is_whole)
+        for beginning in self._undamaged(self._chain(start + it, start) for it in places):
             if self._reaches(beginning, end) or not self._is_end_or_beginning(end):
                 return beginning
-            self._say(f"bad document at byte {start}: documents stand inside it from byte {beginning} on, and are copied with it")
+            inside = f"documents stand inside it from byte {beginning} on"
+            self._say(f"bad document at byte {start}: {inside}, and are copied with it")
             return None
         return None
 

@@ -17,7 +17,7 @@ _PIECE = 1 << 18
 
 
 class Input(NamedTuple):
-    """What one run reads of a dump: the place of its first document, and the open file, or pieces that are written to the run."""
+    """What one run reads of a dump: the place of its first document, and the open file, or pieces that are written to it."""
 
     offset: int
     first: int
@@ -47,7 +47,7 @@ class Source:
         self._read = 0
 
     def pieces(self) -> Iterator[bytes]:
-        """All bytes, unpacked where the name ends in `.gz`. A compressed file that is damaged is an `UnpackError` at its place."""
+        """All bytes, unpacked where the name ends in `.gz`. A damaged file of gzip is an `UnpackError` after what comes before."""
         return unpacked(self._raw()) if self._is_packed else self._raw()
 
     def inputs(self, most: int | None = None) -> Iterator[Input]:

@@ -79,8 +79,9 @@ class Audits(Room):
         self.orders.write_bytes(data)
         for words, shown in (((), 10), (("--max-faults", "0"), 0), (("--max-faults", "12"), 12), (("--max-faults", "13"), 13)):
             lines = self.audit(str(self.orders), *words, status=1)
-            more = [f"{self.orders}: and {13 - shown} more"] if shown < 13 else []
-            self.assertEqual(lines[: -4], [*(f"{self.orders}: {it}" for it in bad[:shown]), *more, f"{self.orders}: 400 documents, 13 faulty"])
+            more = [f"and {13 - shown} more"] if shown < 13 else []
+            wanted = [*bad[:shown], *more, "400 documents, 13 faulty"]
+            self.assertEqual(lines[:-4], [f"{self.orders}: {it}" for it in wanted])
         self.audit(self.backup, "--max-faults", "-1", status=2, told="bsonfind: --max-faults is 0 or more\n")
 
     def test_the_largest_first(self) -> None:
@@ -102,8 +103,8 @@ class Audits(Room):
         one, two = self.room / "one.bson", self.room / "two.bson"
         one.symlink_to(self.orders)
         os.link(self.orders, two)
-        words = str(self.orders), self.backup, f"{self.backup}/../backup/shop/orders.bson", f"{self.backup}/shop", str(one), str(two)
-        lines = self.audit(*words, status=0)
+        words = self.orders, self.backup, f"{self.backup}/../backup/shop/orders.bson", f"{self.backup}/shop", one, two
+        lines = self.audit(*map(str, words), status=0)
         self.assertEqual(lines[2:], self.table(("files", 2), ("documents", 900), ("faulty", 0)))
 
     def test_second_names_are_collections(self) -> None:
@@ -321,8 +322,8 @@ class Audits(Room):
             {**good, "name": none, "documents": 0, "error": "No such file or directory", "expected": None},
         ]
         wanted = {
-            "good": False, "files": files, "documents": 1174, "faulty": 1, "kinds": {"bad length": 1}, "miscounted": [str(self.people)],
-            "untold": [cut], "missing": {},
+            "good": False, "files": files, "documents": 1174, "faulty": 1, "kinds": {"bad length": 1},
+            "miscounted": [str(self.people)], "untold": [cut], "missing": {},
         }  # fmt: skip
         self.assertEqual(json.loads(line), wanted)
         (line,) = self.audit(str(self.orders), "--json", status=0)
@@ -419,7 +420,7 @@ from bsonfind import __main__
 with mock.patch("bsonfind.__main__.audit_dumps", side_effect=ZeroDivisionError("by chance")):
     sys.exit(__main__.main(["audit", {self.backup!r}]))
 """
-        run = subprocess.run([sys.executable, "-c", code], env=environment(), stdout=subprocess.PIPE, stderr=subprocess.PIPE, text=True)
+        run = subprocess.run([sys.executable, "-c", code], env=environment(), capture_output=True, text=True)
         self.assertEqual((run.returncode, run.stdout, run.stderr), (2, "", "bsonfind: ZeroDivisionError: by chance\n"))
 
     def test_version_and_program_after_the_command(self) -> None:

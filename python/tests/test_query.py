@@ -68,7 +68,8 @@ class Queries(Room):
         writer.join()
         for path in paths[:3]:
             self.assertEqual([line.decode() for it in found for line in it.lines if it.name == path], OLD_LINES)
-        self.assertEqual([(it.name, str(it.error)) for it in found if it.error], [(paths[3], 'document 436, byte 79934, path "d": double')])
+        errors = [(it.name, str(it.error)) for it in found if it.error]
+        self.assertEqual(errors, [(paths[3], 'document 436, byte 79934, path "d": double')])
 
     def test_full_disk(self) -> None:
         with open("/dev/full", "wb") as full:
@@ -87,14 +88,16 @@ class AsksForIds(Room):
     def test_ids_of_every_kind(self) -> None:
         documents = [
             '{"_id":1,"a":1}', '{"_id":{"$numberLong":"2"}}', '{"_id":"3"}', '{"_id":{"$oid":"0af98b87145f708ed341a680"}}',
-            '{"_id":{"b":1,"c":"é"}}', '{"_id":true}', '{"_id":null}', '{"_id":"0af98b87145f708ed341a680"}', '{"_id":{"$symbol":"6"}}',
+            '{"_id":{"b":1,"c":"é"}}', '{"_id":true}', '{"_id":null}', '{"_id":"0af98b87145f708ed341a680"}',
+            '{"_id":{"$symbol":"6"}}',
         ]  # fmt: skip
         path = self.file(packed(documents))
         asked = [
-            "2", '{"$numberLong":"1"}', '"3"', "0AF98B87145F708ED341A680", ' {"b": 1, "c": "\\u00e9"} ', "", "true", "null", '"6"', "3",
-            "false", '{"c":"é","b":1}', "2",
+            "2", '{"$numberLong":"1"}', '"3"', "0AF98B87145F708ED341A680", ' {"b": 1, "c": "\\u00e9"} ', "", "true",
+            "null", '"6"', "3", "false", '{"c":"é","b":1}', "2",
         ]  # fmt: skip
-        found = self.ids(asked, status=1, told='missing: 3\nmissing: false\nmissing: {"c":"é","b":1}\n8 of 11 ids found\n', path=path)
+        told = 'missing: 3\nmissing: false\nmissing: {"c":"é","b":1}\n8 of 11 ids found\n'
+        found = self.ids(asked, status=1, told=told, path=path)
         self.assertEqual([packed([line]) for line in found], [packed([documents[at]]) for at in (0, 1, 2, 3, 4, 5, 6, 8)])
 
     def test_many_ids(self) -> None:
@@ -122,9 +125,11 @@ class AsksForIds(Room):
         writer.join()
 
     def test_bad_input(self) -> None:
-        for line, problem in (("abc", "neither JSON nor 24 hexadecimal digits"), ("1.5", "not in the profile"), ("00", "neither JSON nor 24 hexadecimal digits")):
+        neither = "neither JSON nor 24 hexadecimal digits"
+        for line, problem in (("abc", neither), ("1.5", "not in the profile"), ("00", neither)):
             self.ids(["1", "", line], status=2, told=f"bsonfind: {self.room}/ids: line 3: {problem}\n")
-        bad, half = self.file(PEOPLE.read_bytes() + DOUBLE, "bad.bson"), self.file(gzip.compress(PEOPLE.read_bytes())[:-9], "half.bson.gz")
+        bad = self.file(PEOPLE.read_bytes() + DOUBLE, "bad.bson")
+        half = self.file(gzip.compress(PEOPLE.read_bytes())[:-9], "half.bson.gz")
         self.ids(["1"], status=2, told=f'bsonfind: {bad}: document 500, byte 92730, path "d": double\n', path=bad)
         self.ids(["1"], status=2, told="bsonfind: /missing: No such file or directory\n", path="/missing")
         run = run_package("ids", str(half), "--ids", str(self.list))

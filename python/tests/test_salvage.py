@@ -113,7 +113,8 @@ class Salvages(Room):
         self.assertEqual(done.error, "not a sound file of gzip: it ends too soon")
         self.assertEqual(self.good.read_bytes(), people[:49744])
         wrong = packed[:-8] + bytes(4) + packed[-4:]
-        self.assertEqual(self.salvaged(wrong, "people.bson.gz"), Salvaged(500, 0, [], "not a sound file of gzip: incorrect data check"))
+        error = "not a sound file of gzip: incorrect data check"
+        self.assertEqual(self.salvaged(wrong, "people.bson.gz"), Salvaged(500, 0, [], error))
         self.assertEqual(self.good.read_bytes(), people)
         run = run_package("salvage", str(self.room / "people.bson.gz"), "--good", str(self.good), "--bad", "/dev/null")
         self.assertEqual(run.returncode, 1)
@@ -190,7 +191,8 @@ class Salvages(Room):
             self.assertEqual(self.salvaged(bad * 3 + good + bad + good), Salvaged(1000, 4, [], None))
             self.assertEqual((self.good.read_bytes(), self.bad.read_bytes()), (good * 2, bad * 4))
             wrong = b"\xff\xff\xff\x7f" + bad[4:]
-            self.assertEqual(self.salvaged(good + wrong + good), Salvaged(1000, 0, [LeftOut(len(good), len(good) + len(bad), True)], None))
+            left_out = LeftOut(len(good), len(good) + len(bad), True)
+            self.assertEqual(self.salvaged(good + wrong + good), Salvaged(1000, 0, [left_out], None))
 
     def test_length_that_is_wrong_before_a_document_that_seems_to_be_a_number(self) -> None:
         """The last bytes of the document with the wrong length are like the type and the name of a field."""
@@ -224,7 +226,8 @@ class Salvages(Room):
             for before, after in ((b"", b""), (people, people)):
                 told, good, bad = self.salvage(before + holder + after, 1)
                 start = len(before)
-                line = f"bad document at byte {start}: documents stand inside it from byte {start + 12 + len(element)} on, and are copied with it"
+                stand = f"documents stand inside it from byte {start + 12 + len(element)} on"
+                line = f"bad document at byte {start}: {stand}, and are copied with it"
                 self.assertEqual(told, f"{self.damaged}: {line}\n" + self.counted(220 * bool(before) * 2, 1, 0))
                 self.assertEqual((good, bad), (before + after, holder))
 
@@ -345,11 +348,13 @@ class BadInput(Room):
 
     def test_progress_on_a_terminal(self) -> None:
         path = self.file(PEOPLE.read_bytes())
-        slow = self.script('if [ "$(head -c 4 | wc -c)" = 4 ]; then sleep 1.5; cat >/dev/null; fi; exec "$PROGRAM" "$@" <"$ROOM/dump.bson"')
+        wait = 'if [ "$(head -c 4 | wc -c)" = 4 ]; then sleep 1.5; cat >/dev/null; fi'
+        slow = self.script(f'{wait}\nexec "$PROGRAM" "$@" <"$ROOM/dump.bson"')
         ours, theirs = os.openpty()
         words = ["--program", slow, "salvage", str(path), "--good", "/dev/null", "--bad", "/dev/null"]
         with os.fdopen(ours, "rb", buffering=0) as terminal:
-            run = subprocess.run([sys.executable, "-m", "bsonfind", *words], env=environment(), stdout=subprocess.PIPE, stderr=theirs)
+            command = [sys.executable, "-m", "bsonfind", *words]
+            run = subprocess.run(command, env=environment(), stdout=subprocess.PIPE, stderr=theirs)
             os.close(theirs)
             shown = terminal.read(4096)
         self.assertEqual(run.returncode, 2)
@@ -358,7 +363,8 @@ class BadInput(Room):
     def test_termination(self) -> None:
         """The signal of kill ends the program too, and leaves the files as they were."""
         path, good = self.file(PEOPLE.read_bytes()), self.file(b"good", "good.bson")
-        stuck = self.script('[ "$(head -c 4 | wc -c)" = 4 ] || exec "$PROGRAM" check /dev/null\necho $$ >>"$ROOM/pids"\nexec sleep 600')
+        empty = '[ "$(head -c 4 | wc -c)" = 4 ] || exec "$PROGRAM" check /dev/null'
+        stuck = self.script(f'{empty}\necho $$ >>"$ROOM/pids"\nexec sleep 600')
         words = ["--program", stuck, "salvage", str(path), "--good", str(good), "--bad", str(self.room / "bad.bson")]
         python = subprocess.Popen([sys.executable, "-m", "bsonfind", *words], env=environment(), stderr=subprocess.PIPE, text=True)
         pids = self.room / "pids"
