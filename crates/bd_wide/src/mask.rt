@@ -61,5 +61,6 @@ impl NumberWriter for Mask {
 
 /// A law, whose body is empty: the masked bytes are as many.
 pub fn mask_keeps_length()
-    ensures { (bytes new : List ℕ) → IsRewritten IsMasked masked_others bytes new → length new ≡ length bytes }
+    ensures { (bytes new : List ℕ) → IsRewritten IsMasked masked_others bytes new →
+        length new ≡ length bytes }
 {}

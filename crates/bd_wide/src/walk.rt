@@ -28,7 +28,8 @@ pub trait NumberWriter {
     ) -> Result<(), NoMemory>
         requires head { 2 ≤ length head.now }
         requires value { least typed ≤ length value.now }
-        ensures ok { OnOk result (Adds (is_written self.now typed head.now value.now) out.old.items out.new.items) }
+        ensures ok { OnOk result (Adds
+            (is_written self.now typed head.now value.now) out.old.items out.new.items) }
         ensures front { OnErr result (StartsWith out.new.items out.old.items) };
 
     /// Appends what is written of bytes from the first element on that can't be passed on.
@@ -47,7 +48,8 @@ pub fn write_rewritten<W: NumberWriter>(
     bytes: &[u8],
     out: &mut Vec<u8>,
 ) -> Result<(), NoMemory>
-    ensures ok { OnOk result (Adds (IsRewritten (W.is_written writer.now) (W.others_of writer.now) bytes.now) out.old.items out.new.items) }
+    ensures ok { OnOk result (Adds (IsRewritten (W.is_written writer.now)
+        (W.others_of writer.now) bytes.now) out.old.items out.new.items) }
     ensures kept { OnErr result (out.new.items ≡ out.old.items) }
 {
     let before = out.len();
@@ -60,7 +62,8 @@ pub fn write_rewritten<W: NumberWriter>(
 
 #[tactic(auto, using(bd_value::proofs::FrontLemmas::fronts), unfolding(crate::specs::Rewritten::IsRewritten))]
 fn whole<W: NumberWriter>(writer: &W, bytes: &[u8], out: &mut Vec<u8>) -> Result<(), NoMemory>
-    ensures ok { OnOk result (Adds (IsRewritten (W.is_written writer.now) (W.others_of writer.now) bytes.now) out.old.items out.new.items) }
+    ensures ok { OnOk result (Adds (IsRewritten (W.is_written writer.now)
+        (W.others_of writer.now) bytes.now) out.old.items out.new.items) }
     ensures front { OnErr result (StartsWith out.new.items out.old.items) }
 {
     if bytes.len() < 5 {
@@ -79,7 +82,9 @@ fn elements<W: NumberWriter>(
     bytes: &[u8],
     out: &mut Vec<u8>,
 ) -> Result<(), NoMemory>
-    ensures ok { OnOk result (Adds (AreElements (W.is_written writer.now) (W.others_of writer.now) (IsNested (W.is_written writer.now) (W.others_of writer.now) room) (length bytes.now) bytes.now) out.old.items out.new.items) }
+    ensures ok { OnOk result (Adds (AreElements (W.is_written writer.now) (W.others_of writer.now)
+        (IsNested (W.is_written writer.now) (W.others_of writer.now) room)
+        (length bytes.now) bytes.now) out.old.items out.new.items) }
     ensures front { OnErr result (StartsWith out.new.items out.old.items) }
 {
     let mut rest = bytes;
@@ -108,7 +113,9 @@ fn element<W: NumberWriter>(
 ) -> Result<(), NoMemory>
     requires head { 2 ≤ length head.now }
     requires value { least typed ≤ length value.now }
-    ensures ok { OnOk result (Adds (IsElement (W.is_written writer.now) (IsNested (W.is_written writer.now) (W.others_of writer.now) room) typed head.now value.now) out.old.items out.new.items) }
+    ensures ok { OnOk result (Adds (IsElement (W.is_written writer.now) (IsNested
+        (W.is_written writer.now)
+        (W.others_of writer.now) room) typed head.now value.now) out.old.items out.new.items) }
     ensures front { OnErr result (StartsWith out.new.items out.old.items) }
 {
     let kind = match typed {
@@ -149,7 +156,8 @@ fn nested<W: NumberWriter>(
     out: &mut Vec<u8>,
 ) -> Result<(), NoMemory>
     requires { holder_least holder ≤ length value.now }
-    ensures ok { OnOk result (Adds (IsNested (W.is_written writer.now) (W.others_of writer.now) room holder value.now) out.old.items out.new.items) }
+    ensures ok { OnOk result (Adds (IsNested (W.is_written writer.now)
+        (W.others_of writer.now) room holder value.now) out.old.items out.new.items) }
     ensures front { OnErr result (StartsWith out.new.items out.old.items) }
 {
     if room == 0 {
@@ -173,7 +181,9 @@ fn body<W: NumberWriter>(
     out: &mut Vec<u8>,
 ) -> Result<(), NoMemory>
     requires { 5 ≤ length value.now }
-    ensures ok { OnOk result (Adds (IsBody (W.is_written writer.now) (W.others_of writer.now) (IsNested (W.is_written writer.now) (W.others_of writer.now) room) value.now) out.old.items out.new.items) }
+    ensures ok { OnOk result (Adds (IsBody (W.is_written writer.now) (W.others_of writer.now)
+        (IsNested (W.is_written writer.now)
+        (W.others_of writer.now) room) value.now) out.old.items out.new.items) }
     ensures front { OnErr result (StartsWith out.new.items out.old.items) }
 {
     let (_, more) = value.split_at(4);
@@ -197,7 +207,8 @@ fn scoped<W: NumberWriter>(
     out: &mut Vec<u8>,
 ) -> Result<(), NoMemory>
     requires { 14 ≤ length value.now }
-    ensures ok { OnOk result (Adds (IsScoped (IsNested (W.is_written writer.now) (W.others_of writer.now) room holders.Document) value.now) out.old.items out.new.items) }
+    ensures ok { OnOk result (Adds (IsScoped (IsNested (W.is_written writer.now)
+        (W.others_of writer.now) room holders.Document) value.now) out.old.items out.new.items) }
     ensures front { OnErr result (StartsWith out.new.items out.old.items) }
 {
     let Some(at) = scope_at(value) else {
@@ -238,7 +249,8 @@ pub(crate) fn scope_at(value: &[u8]) -> Option<usize>
 /// Puts the count of the bytes from a place on into the four bytes at that place.
 pub(crate) fn seal(at: usize, out: &mut Vec<u8>)
     requires { at + 4 ≤ vec_len out.old }
-    ensures { out.new.items ≡ take at out.old.items ++ (number (length out.old.items - at) ++ drop (at + 4) out.old.items) }
+    ensures { out.new.items ≡ take at out.old.items ++ (number (length out.old.items - at) ++ drop
+        (at + 4) out.old.items) }
 {
     let count = out.len() - at;
     put_number(at, count as u64, out);

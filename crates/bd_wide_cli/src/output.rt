@@ -31,7 +31,8 @@ pub const CANNOT_WRITE: &str = "cannot write";
 #[tactic(auto, using(crate::proofs::OutputLemmas::taking))]
 pub fn write_error<E: Output>(message: &str, err: &mut E) -> Result<(), DeviceFault>
     ensures ok { OnOk result (TakesText (over E.state err.old err.new) (error_line message.now)) }
-    ensures err { OnErr result (BreaksWithin (over E.state err.old err.new) (error_line message.now)) }
+    ensures err { OnErr result (BreaksWithin (over E.state err.old err.new)
+        (error_line message.now)) }
 {
     write_all(err, b"bsonwide: ")?;
     write_all(err, message.as_bytes())?;
@@ -51,7 +52,8 @@ pub fn status_of(written: Result<(), DeviceFault>, wanted: Status) -> Status
 
 /// Tells why no more of an input was filtered.
 pub(crate) fn tell_stop<E: Output>(stop: Stop, err: &mut E) -> Status
-    ensures { TellsMessage (over E.state err.old err.new) (error_line (stop_words stop)) Failed result }
+    ensures { TellsMessage (over E.state err.old err.new) (error_line
+        (stop_words stop)) Failed result }
 {
     let words = match stop {
         Stop::NoMemory => NO_MEMORY,
@@ -83,8 +85,10 @@ fn write_kept<E: Output>(kept: u64, err: &mut E) -> Result<(), DeviceFault>
 /// Writes a number and the words after it.
 #[tactic(auto, using(crate::proofs::OutputLemmas::taking))]
 fn write_count<E: Output>(count: u64, words: &str, err: &mut E) -> Result<(), DeviceFault>
-    ensures ok { OnOk result (TakesText (over E.state err.old err.new) (decimal count ++ words.now)) }
-    ensures err { OnErr result (BreaksWithin (over E.state err.old err.new) (decimal count ++ words.now)) }
+    ensures ok { OnOk result (TakesText (over E.state err.old err.new)
+        (decimal count ++ words.now)) }
+    ensures err { OnErr result (BreaksWithin (over E.state err.old err.new)
+        (decimal count ++ words.now)) }
 {
     let mut buffer = Buffer::new();
     write_all(err, buffer.format(count).as_bytes())?;
@@ -101,7 +105,8 @@ pub const USAGE: &str = "usage: bsonwide mask FILE
 /// A request for help prints the usage on `out`, with status 0; words that are not taken print it on `err`, with status 2;
 /// out of memory is reported on `err`, with status 1. A device that fails makes the status 1.
 pub fn report<O: Output, E: Output>(fault: WordsFault, out: &mut O, err: &mut E) -> Status
-    ensures { ReportsFault fault (over O.state out.old out.new) (over E.state err.old err.new) result }
+    ensures { ReportsFault fault (over O.state out.old out.new)
+        (over E.state err.old err.new) result }
 {
     match fault {
         WordsFault::Help => match write_all(out, USAGE.as_bytes()) {

@@ -60,7 +60,8 @@ fn fault_told(error: &Error) -> WordsFault
 #[tactic(auto, using(crate::proofs::LineLemmas::no_file, crate::proofs::LineLemmas::readings))]
 fn order_named(alloc: Global, name: &str, matches: &ArgMatches<'_>) -> Result<Order, WordsFault>
     requires { IsSome (ordered_by name.now (rows_of (found_of matches.now))) }
-    ensures order { IfOk result (λ o. ordered_by name.now (rows_of (found_of matches.now)) ≡ Some (meant o)) }
+    ensures order { IfOk result (λ o. ordered_by name.now (rows_of (found_of matches.now)) ≡ Some
+        (meant o)) }
     ensures fault { IfErr result (λ f. f ≡ NoMemory) }
 {
     let Some(file) = matches.get_str("file") else {
@@ -100,7 +101,8 @@ const COMMANDS: [&str; 2] = ["mask", "wrap"];
 /// The line with these commands more.
 fn with_commands<'a>(alloc: Global, line: Command<'a>, names: &[&'a str]) -> Made<'a>
     requires { (fields_of line).has_globals ≡ false }
-    ensures app { IfOk result (λ c. app_of c ≡ with_file_commands (app_of line.entry) (map (λ name. name.now) names.now)) }
+    ensures app { IfOk result (λ c. app_of c ≡ with_file_commands (app_of line.entry) (map
+        (λ name. name.now) names.now)) }
     ensures local { IfOk result (λ c. (fields_of c).has_globals ≡ false) }
 {
     let mut with = line;
@@ -113,7 +115,8 @@ fn with_commands<'a>(alloc: Global, line: Command<'a>, names: &[&'a str]) -> Mad
 
 /// A command that takes a file and nothing else.
 fn of_file<'a>(alloc: Global, name: &'a str) -> Made<'a>
-    ensures { IfOk result (λ c. (app_of c ≡ file_app name.entry.now) × ((fields_of c).has_globals ≡ false)) }
+    ensures { IfOk result (λ c. (app_of c ≡ file_app name.entry.now) ×
+        ((fields_of c).has_globals ≡ false)) }
 {
     let file = file_argument(alloc);
     Command::new(alloc, name).arg(file)

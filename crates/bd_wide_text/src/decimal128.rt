@@ -70,7 +70,8 @@ fn coefficient(low: u64, high: u64) -> u128
 fn write_scientific_string(digits: &[u8], biased: usize, out: &mut Vec<u8>) -> Result<(), NoMemory>
     requires digits { (0 < length digits.now) × (length digits.now ≤ 40) }
     requires biased { biased < 2 ^ 14 }
-    ensures ok { OnOk result (out.new.items ≡ out.old.items ++ scientific_string digits.now biased) }
+    ensures ok { OnOk result
+        (out.new.items ≡ out.old.items ++ scientific_string digits.now biased) }
     ensures front { OnErr result (StartsWith out.new.items out.old.items) }
 {
     let sum = biased + digits.len();

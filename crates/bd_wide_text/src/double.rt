@@ -141,7 +141,8 @@ fn write_small(
     out: &mut Vec<u8>,
 ) -> Result<(), NoMemory>
     requires { zeros ≤ length fraction.now }
-    ensures ok { OnOk result (out.new.items ≡ out.old.items ++ small_text size.now fraction.now zeros) }
+    ensures ok { OnOk result
+        (out.new.items ≡ out.old.items ++ small_text size.now fraction.now zeros) }
     ensures front { OnErr result (StartsWith out.new.items out.old.items) }
 {
     if zeros <= 3 || zeros == fraction.len() {
