@@ -7,15 +7,18 @@
 //! - `wrap`: `Wrap`, in which doubles and decimal128 are documents that hold their texts: `specs/Wrap.antt`.
 //! - `element`: the element at the front of bytes, of which only sizes are looked at.
 //! - `mask`: `Mask`, in which each element has a type that bsonfind reads, at the same place.
+//! - `laws`: that `mask` keeps the length.
 #![tactic(auto)]
 
 mod element;
 mod find;
+mod laws;
 mod mask;
 mod walk;
 mod wrap;
 
 pub use find::{Found, Refusal, Refuser, find_refused};
-pub use mask::{Mask, mask_keeps_length};
+pub use laws::mask_keeps_length;
+pub use mask::Mask;
 pub use walk::{NumberWriter, write_rewritten};
 pub use wrap::{Number, Wrap, write_wrapped};

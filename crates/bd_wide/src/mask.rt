@@ -1,9 +1,9 @@
 //! Bytes of the same length, in which each type is read.
 
-ghost use Rattle.std.specs.Prelude.{◌≡◌, ◌++◌, List, ℕ, length, OnOk, OnErr};
+ghost use Rattle.std.specs.Prelude.{◌≡◌, ◌++◌, length, OnOk, OnErr};
 ghost use Rattle.std.specs.Io.{StartsWith};
 ghost use Rattle.bd_wide.specs.Mask.{IsMasked, masked_element, masked_others};
-ghost use Rattle.bd_wide.specs.Rewritten.{Adds, IsRewritten};
+ghost use Rattle.bd_wide.specs.Rewritten.{Adds};
 
 use crate::walk::NumberWriter;
 use bd_raw::{ElementType, raw_parts as raw};
@@ -58,9 +58,3 @@ impl NumberWriter for Mask {
         Ok(())
     }
 }
-
-/// A law, whose body is empty: the masked bytes are as many.
-pub fn mask_keeps_length()
-    ensures { (bytes new : List ℕ) → IsRewritten IsMasked masked_others bytes new →
-        length new ≡ length bytes }
-{}

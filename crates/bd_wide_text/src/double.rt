@@ -1,10 +1,9 @@
 //! The text of a double. `NoMemory` may leave a prefix of it.
 
-ghost use Rattle.std.specs.Prelude.{◌≡◌, ◌<◌, ◌≤◌, ◌≢◌, ◌==◌, ◌^◌, ◌++◌, List, ℕ, length, OnErr, OnOk, IfSome, IfNone, Some, slice_index};
+ghost use Rattle.std.specs.Prelude.{◌≡◌, ◌<◌, ◌≤◌, ◌≢◌, ◌==◌, ◌++◌, length, OnErr, OnOk, IfSome, IfNone, slice_index};
 ghost use Rattle.std.specs.Io.{StartsWith};
 ghost use Rattle.std.specs.Float.{binary64};
 ghost use Rattle.std.specs.Float.Ieee.{of_bits};
-ghost use Rattle.std.specs.Float.Parse.{parse_float};
 ghost use Rattle.fast_float.specs.Text.{scan};
 ghost use Rattle.bd_wide_text.specs.Double.{IsDoubleText, padded};
 ghost use Rattle.bd_wide_text.specs.LaidOutAnew.{AreParts, AreZerosAfter, AreZerosBefore, IsLaidOutAnew, IsSized, large_text, small_text};
@@ -14,12 +13,6 @@ use crate::layout::write_mantissa;
 use bd_value::NoMemory;
 use fast_float::Numeral;
 use itoa::Buffer;
-
-/// A law, whose body is empty: the text of each double reads back as it.
-pub fn double_text_reads_back()
-    ensures { (bits : ℕ) (text : List ℕ) → bits < 2 ^ 64 → IsDoubleText bits text
-        → parse_float binary64 text ≡ Some (of_bits binary64 bits) }
-{}
 
 /// Appends the text of the double with these bits.
 pub fn write_double(bits: u64, out: &mut Vec<u8>) -> Result<(), NoMemory>

@@ -5,11 +5,14 @@
 //! - `double`: `write_double`, by the digits that `ryu` finds (`specs/LaidOutAnew.antt`).
 //! - `decimal128`: `write_decimal128`.
 //! - `layout`: what both write.
+//! - `laws`: that the text of a double reads back as it.
 #![tactic(auto)]
 
 mod decimal128;
 mod double;
+mod laws;
 mod layout;
 
 pub use decimal128::write_decimal128;
-pub use double::{double_text_reads_back, write_double};
+pub use double::write_double;
+pub use laws::double_text_reads_back;

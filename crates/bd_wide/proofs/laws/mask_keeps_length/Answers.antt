@@ -5,7 +5,7 @@ use Rattle.bd_raw.specs.declared.raw_parts.ElementType.TheVariants.{Kept, Double
 use Rattle.bd_wide.proofs.LengthLemmas.{Keeps, rewritten_keeps}
 use Rattle.bd_wide.specs.Rewritten.{least}
 use Rattle.bd_wide.specs.Mask.{IsMasked, masked_element, masked_others}
-use Rattle.bd_wide.proofs.mask.mask_keeps_length.Goals as goal
+use Rattle.bd_wide.proofs.laws.mask_keeps_length.Goals as goal
 
 each : (t : ElementType) (head value : List ℕ) → 2 ≤ length head → least t ≤ length value → length (masked_element t head value) ≡ length head + length value
 unfolding least
