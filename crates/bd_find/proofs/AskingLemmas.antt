@@ -28,7 +28,7 @@ pub plain_told : (err : Over Writer) (refused : Refused) (status : Status) → (
 plain_told err (reasons.BadFilter fault) status other told = absurd (other fault refl)
 plain_told err refused status other told = told
 
--- the line of a refusal is written, or it is told that memory ran out
+-- the line of a refusal is written, or that memory ran out
 pub refusal_told : (err : Over Writer) (reason : Reason) (status : Status) → TellsRefusal err reason status
     → TellsMessage err (error_line (refused_text reason)) Failed status ⊎ TellsMessage err (error_line no_memory) Failed status
 refusal_told err (plain refused) status told = inl told

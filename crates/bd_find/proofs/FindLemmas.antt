@@ -1,6 +1,7 @@
 -- The lines of documents that were found, and the ends of a run of `find`.
 use Rattle.std.proofs.Common.{◌≡◌, ◌≤◌, ◌<◌, ◌+◌, ℕ, List, [], ◌∷◌, ◌++◌, length, get_or, take, drop, Some, refl, sym, ap, ◌∙◌, subst, arith, inl, inr, ◌⊎◌}
-use Rattle.std.proofs.{lemmas.List.take-append-drop, lemmas.List.take_more, lemmas.List.Elements.filter_map-append, KnownBytes.Appends-nil}
+use Rattle.std.proofs.{lemmas.List.take-append-drop, lemmas.List.take_more, lemmas.List.Elements.filter_map-append}
+use Rattle.bd_device.proofs.DevicesLemmas.{takes_none}
 use Rattle.std.specs.Prelude.{slice_get}
 use Rattle.bd_value.specs.Tree.{Doc, doc, fields_of}
 use Rattle.bd_value.specs.Limits.{longest_input}
@@ -46,12 +47,12 @@ module _ (out_old out_new : Writer) (err_old err_new : Writer) (status : Status)
   -- memory ran out before anything was written
   pub nothing_shown : (shown : Transcript) → TellsMessage (between err_old err_new) (error_line no_memory) Failed status
       → PrintsOrStarves (between out_old out_old) (between err_old err_new) shown status
-  nothing_shown shown told = inr (inr ((([], shown.out, refl, Appends-nil out_old.held), refl), told))
+  nothing_shown shown told = inr (inr (([], shown.out, refl, takes_none out_old), told))
 
   -- the line of a fault alone, or memory ran out
   pub refusal_shown : (words : List ℕ) → TellsMessage (between err_old err_new) (error_line words) Failed status ⊎ TellsMessage (between err_old err_new) (error_line no_memory) Failed status
       → PrintsOrStarves (between out_old out_old) (between err_old err_new) (shown_refusal words) status
-  refusal_shown words (inl told) = inl ((Appends-nil out_old.held, refl), told)
+  refusal_shown words (inl told) = inl (takes_none out_old, told)
   refusal_shown words (inr told) = nothing_shown (shown_refusal words) told
 
   -- what is shown of a dump with a fault

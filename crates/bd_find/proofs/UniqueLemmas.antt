@@ -122,7 +122,7 @@ whole_printed words w ds bytes shown size after asks walk (a, p, e) =
 
 -- ---- something is shown
 
--- a fault that may be told of a text
+-- a fault that may be reported of a text
 abbrev some_fault : List ℕ → JsonFault
 some_fault text = record { kind = kinds.Syntax; at = utf8_valid_len text }
 

@@ -54,8 +54,8 @@ abbrev pub refused_text : Reason → List ℕ
 refused_text (bad_filter r) = refusal_text r
 refused_text (plain refused) = refused_option refused ++ refused_words refused
 
--- the document of a query or a sort; without a text it has no pairs. Of a text that is no document a fault is told:
--- which one of a text that is UTF-8, is not said
+-- the document of a query or a sort; without a text it has no pairs. A text that is no document has a fault: which
+-- one, no definition says of a text that is UTF-8
 abbrev pub ReadsText : List ℕ → Option (List ℕ) → Result Doc (List ℕ) → Type 0
 ReadsText name None (Ok d) = d ≡ []
 ReadsText name None (Err message) = ⊥
@@ -117,7 +117,7 @@ TellsAskingFault IsPart (faults.Message message) = IsPart (Err (string_bytes mes
 abbrev pub TellsReason : {Given : Type 0} → Result Given Reason → AskingFault → Type 0
 TellsReason part fault = TellsAskingFault (λ told. told_as refused_text part ≡ told) fault
 
--- the line of the refusal is written; only in place of a filter's it may be told that memory ran out
+-- the line of the refusal is written; only in place of that of a filter it may say that memory ran out
 abbrev pub TellsRefusal : Over Writer → Reason → Status → Type 0
 TellsRefusal err (plain refused) status = TellsMessage err (error_line (refused_text (plain refused))) Failed status
 TellsRefusal err (bad_filter r) status = TellsMessage err (error_line (refusal_text r)) Failed status

@@ -1,4 +1,4 @@
-//! What the arguments of `find` ask for, and what is told where they are refused.
+//! What the arguments of `find` ask for, and the messages where they are refused.
 
 ghost use Rattle.std.specs.Prelude.{◌≡◌, ◌≢◌, ◌++◌, IfErr, IfOk, Ok, OnErr, OnOk, option_map, string_bytes, true};
 ghost use Rattle.bd_value.specs.View.{pairs};

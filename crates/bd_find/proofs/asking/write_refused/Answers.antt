@@ -1,5 +1,6 @@
 use Rattle.std.proofs.Common.{◌++◌, ◌∷◌, [], codes}
-use Rattle.bd_files.proofs.OutputLemmas.{breaks_first, breaks_second, on_err, on_err_map}
+use Rattle.bd_device.proofs.DevicesLemmas.{breaks_first, breaks_second}
+use Rattle.bd_files.proofs.OutputLemmas.{on_err, on_err_map}
 use Rattle.bd_request.specs.Refused.{refused_words}
 use Rattle.bd_find.specs.Asking.{refused_option}
 use Rattle.bd_find.proofs.asking.write_refused.Goals as goal

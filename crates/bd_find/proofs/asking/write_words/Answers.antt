@@ -1,4 +1,5 @@
-use Rattle.bd_files.proofs.OutputLemmas.{breaks_first, on_err, second_err}
+use Rattle.bd_device.proofs.DevicesLemmas.{breaks_first}
+use Rattle.bd_files.proofs.OutputLemmas.{on_err, second_err}
 use Rattle.bd_find.proofs.asking.write_words.Goals as goal
 
 pub returns-in_err-write_all-clause-err : goal.returns-in_err-write_all-clause-err
