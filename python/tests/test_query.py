@@ -77,6 +77,20 @@ class Queries(Room):
         self.assertEqual((run.returncode, run.stderr), (2, "bsonfind: cannot write: No space left on device\n"))
 
 
+class Interrupts(Room):
+    def test_no_program_is_left(self) -> None:
+        ids = self.file(b"7\n", "ids")
+        for words, stuck in (
+            (["query", str(PEOPLE), str(SHOP), "--jobs", "2"], 2),
+            (["compare", str(PEOPLE), str(SHOP)], 1),
+            (["ids", str(PEOPLE), "--ids", str(ids)], 1),
+        ):
+            code = f"import sys\nfrom bsonfind.__main__ import main\nsys.exit(main({['--program', self.stuck(), *words]!r}))"
+            self.assertEqual(self.interrupt(code, stuck), 130)
+            (self.room / "first").rmdir()
+            (self.room / "pids").unlink()
+
+
 class AsksForIds(Room):
     def ids(self, lines: List[str], *words: str, status: int, told: str, path: object = SHOP) -> List[str]:
         """The documents that are printed for the ids of a file."""
