@@ -1,4 +1,4 @@
-"""Asks dumps of MongoDB, which the program `bsonfind` reads: each answer is the program's, this package starts it and moves bytes.
+"""Asks dumps of MongoDB by the program `bsonfind`: each answer is the program's, and this package starts it and moves bytes.
 
     from bsonfind import Session, find, find_parts, plan
 
@@ -6,9 +6,10 @@
         for person in session.find({"age": {"$gte": 90}}, sort=[("name", 1)]):
             print(person["name"])
 
-`find`, `find_one` and `count_documents` answer one request by one run, a `Session` many of one dump, and an `AsyncSession` does for
-asyncio. `plan` cuts a dump of any size into parts, of which `find_parts`, `count_parts` and `check_parts` make one answer. `audit`
-checks the dumps of a backup, and `salvage` copies what is good of a damaged one. `python3 -m bsonfind` has these and other commands.
+`find`, `find_one` and `count_documents` answer one request by one run, a `Session` many of one dump, and an `AsyncSession` does
+for asyncio. `plan` cuts a dump of any size into parts, of which `find_parts`, `count_parts` and `check_parts` make one answer.
+`audit` checks the dumps of a backup, and `salvage` copies what is good of a damaged one. `python3 -m bsonfind` has these and
+other commands.
 """
 
 import pkgutil

@@ -40,7 +40,7 @@ def counted(told: str) -> Counted:
 
 
 class Lines:
-    """The lines that answer a request over a dump: by a run of `find`, or by a session where no command line holds the request."""
+    """The lines that answer a request over a dump: by a run of `find`, or by a session where a command line is too short."""
 
     def __init__(
         self,
@@ -203,9 +203,9 @@ def find(
 ) -> Answer[Any]:
     """Finds documents of a dump by one run of the program, which begins with the first document that is asked for.
 
-    `batch_size` gives the next so many documents of the answer in place of all, and `after` resumes after the documents that were
-    given with this token. `index` makes an index on a path, and changes no answer. Where the whole answer is not there within
-    `timeout` seconds, that is a `TimedOutError`.
+    `batch_size` gives the next so many documents of the answer in place of all, and `after` resumes after the documents that
+    were given with this token. `index` makes an index on a path, and changes no answer. Where the whole answer is not there
+    within `timeout` seconds, that is a `TimedOutError`.
     """
     request, group = Request.of(filter, sort, skip, limit), Group()
     size = None if batch_size is None else whole("batch_size", batch_size)

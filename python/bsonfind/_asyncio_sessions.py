@@ -26,8 +26,8 @@ _BUFFER = 1 << 20
 class AsyncSession:
     """A session whose calls are awaited: `async with AsyncSession("people.bson") as session`.
 
-    Tasks may share a session, and a cursor belongs to one task at a time. A call that is cancelled in the middle of a reply ends
-    the session. Otherwise it is a `Session`: a dump that is refused is a `DumpError` at once, and so on.
+    Tasks may share a session, and a cursor belongs to one task at a time. A call that is cancelled in the middle of a reply
+    ends the session. Otherwise it is a `Session`: a dump that is refused is a `DumpError` at once, and so on.
     """
 
     def __init__(self, path: File, program: str = "bsonfind", *, timeout: float | None = None) -> None:

@@ -40,7 +40,7 @@ def decoder(decode: Decode[Any]) -> Callable[[bytes], Any]:
 
 
 class Texts(Generic[T]):
-    """The documents of a batch, by their texts. One that cannot be decoded is an error, and the next call gives the one after it."""
+    """The documents of a batch, by their texts. After one that cannot be decoded the next call gives the one after it."""
 
     def __init__(self, texts: list[bytes], document_of: Callable[[bytes], T]) -> None:
         self._texts, self._document_of = texts, document_of

@@ -16,7 +16,7 @@ _DESCRIPTORS = ("/dev/fd/", "/dev/stdin", "/proc/self/fd/")
 
 
 class Dump(NamedTuple):
-    """A dump: the word that names it on a command line, and what comes by standard input in place of a name: pieces, or a file."""
+    """A dump: the word that names it on a command line, or what comes by standard input in place of it: pieces, or a file."""
 
     word: str = "-"
     pieces: Iterable[bytes] | None = None

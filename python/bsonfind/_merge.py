@@ -2,13 +2,14 @@
 
     newest = find_parts(plan("orders.bson", 2_500_000_000), {"status": "open"}, sort=[("created", -1)], limit=10, workers=4)
 
-`workers` asks so many parts side by side. In place of that an engine runs the parts by its `map`: a function that applies another
-one to each part, and gives the results in the order of the parts. That of an executor does so in threads or processes, and that of
-an engine over many machines wherever the files, this package and the program are:
+`workers` asks so many parts side by side. In place of that an engine runs the parts by its `map`: a function that applies
+another one to each part, and gives the results in the order of the parts. That of an executor does so in threads or processes,
+and that of an engine over many machines wherever the files, this package and the program are:
 `lambda ask, parts: client.gather(client.map(ask, parts))` for Dask.
 
-What is found goes from the parts to the whole as lines. So no document of a part may begin with a name such as "$oid", alone or inside
-another: its text is that of another value. `find_parts` looks for such names in all documents, and raises a `PartError` with the byte.
+What is found goes from the parts to the whole as lines. So no document of a part may begin with a name such as "$oid", alone or
+inside another: its text is that of another value. `find_parts` looks for such names in all documents, and raises a `PartError`
+with the byte.
 """
 
 from __future__ import annotations

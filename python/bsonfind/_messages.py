@@ -1,4 +1,4 @@
-"""What the program prints on standard error, as exceptions. Other lines may stand before its own, such as those of the loader."""
+"""What the program prints on standard error, as exceptions. Lines of the loader may stand before its own."""
 
 from __future__ import annotations
 

@@ -12,8 +12,8 @@ from ._parts import Part
 
 # The names that begin an object of Extended JSON which stands for another value.
 _WRAPPERS = re.compile(
-    rb"\$(?:binary|code|date|dbPointer|maxKey|minKey|numberDecimal|numberDouble|numberInt|numberLong|oid|regularExpression|scope|symbol"
-    rb"|timestamp|undefined|uuid)\0"
+    rb"\$(?:binary|code|date|dbPointer|maxKey|minKey|numberDecimal|numberDouble|numberInt|numberLong|oid|regularExpression"
+    rb"|scope|symbol|timestamp|undefined|uuid)\0"
 )
 _length_at = struct.Struct("<i").unpack_from
 # The bytes of a value by its type, where they are always as many.
@@ -68,7 +68,7 @@ def _refuse_wrappers(part: Part, at: int, documents: bytes) -> None:
 
 
 def _first_names(document: bytes) -> Iterator[int]:
-    """Where the first name of each document stands: of this one, and of those in it. After a fault, which the program tells, none."""
+    """Where the first name of each document stands: of this one, and of those in it. After a fault, there is none."""
     at = 4
     yield at + 1
     while at < len(document):

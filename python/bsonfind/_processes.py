@@ -81,7 +81,7 @@ class Feeder(threading.Thread):
         self.error: Exception | None = None
 
     def run(self) -> None:
-        """Writes all of them, or as many as are read. After an error the program is killed before it sees the end of its input."""
+        """Writes all of them, or as many as are read. After an error the program is killed before it sees an end."""
         try:
             for piece in self._pieces:
                 self._pipe.write(piece)
@@ -124,7 +124,7 @@ class Run:
 
     @classmethod
     def serving(cls, dump: Dump, program: str, group: Group | None = None) -> Run:
-        """A run of `serve`, which reads the commands from its standard input, and a dump without a name from another descriptor.
+        """A run of `serve`, which reads commands from its standard input, and a dump without a name from another descriptor.
 
         Ctrl-C at the terminal reaches the caller alone, so that the session can go on after it.
         """
@@ -190,7 +190,7 @@ class Run:
         return self._stderr.read().decode(errors="replace")
 
     def last_line(self) -> str:
-        """The last line of standard error, in which a run that ended well gives its counts. The loader's lines come before it."""
+        """The last line of standard error, in which a run that ended well gives its counts; the loader's come before it."""
         return self.messages().rstrip("\n").rpartition("\n")[2]
 
     def error_line(self) -> str | None:

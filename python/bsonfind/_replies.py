@@ -52,7 +52,8 @@ def _cut_by_name(text: bytes, size: int) -> list[bytes]:
     """So many documents, where all of them begin with the same name; else nothing.
 
     Where a quotation mark follows a brace, and no comma, colon or bracket follows it, a text begins, and the brace is none of a
-    text. So `},{"NAME":` stands between two documents of the whole or of an array, and of the whole where braces are in balance.
+    text. So `},{"NAME":` stands between two documents of the whole or of an array, and of the whole where braces are in
+    balance.
     """
     head = text[: text.find(b'":') + 2]
     if not size or not _NAME.fullmatch(head):
@@ -87,7 +88,7 @@ def _without_escapes(text: bytes) -> bytes:
 
 
 def _has_braces_in_texts(text: bytes) -> bool:
-    """Whether a brace stands within quotation marks. If none does, these stand in pairs when all else but braces is taken out."""
+    """Whether a brace stands within quotation marks. If none does, these stand in pairs once all but braces is taken out."""
     return b'"' in _without_escapes(text).translate(None, _REST).replace(b'""', b"")
 
 

@@ -27,7 +27,7 @@ def whole(name: str, number: int, least: int = 0) -> int:
 
 
 def text_of(value: Any) -> str:
-    """The JSON of a value. An `ObjectId`, a date and bytes are written in canonical form, and by pymongo what its types stand for."""
+    """The JSON of a value. An `ObjectId`, a date, bytes, and by pymongo its own types, are written in canonical form."""
     return json.dumps(value, separators=(",", ":"), default=extended)
 
 

@@ -59,8 +59,9 @@ class Session:
     ) -> Cursor[Any]:
         """Opens a cursor over an answer, or over what follows a token of the same request.
 
-        Documents are read `batch_size` at a time, or fewer where they are long. `use` says how they are found: "auto", "scan" or
-        {"index": PATH}. `hint` says the same as pymongo does: the path of an index, [(PATH, 1)], or {"$natural": 1} for a scan.
+        Documents are read `batch_size` at a time, or fewer where they are long. `use` says how they are found: "auto", "scan"
+        or {"index": PATH}. `hint` says the same as pymongo does: the path of an index, [(PATH, 1)], or {"$natural": 1} for a
+        scan.
         """
         reading = Reading(Request.of(filter, sort, skip, limit), use_of(use, hint), batch_size, after, decode)
         return Cursor(self._connection, reading)

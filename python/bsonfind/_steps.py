@@ -158,7 +158,7 @@ class Reading(Generic[T]):
             reply = yield more(self.number, size, MOST_BYTES if size > 1 else None)
             if reply is not None:
                 return read_batch(reply), size
-            # The reply was passed over, so another cursor reads the batch in parts. Where it was the last one, there is none to close.
+            # The reply was passed over, so another cursor reads the batch in parts. This one may be closed, if it was the last.
             self._size = max(1, size // 8)
             yield kill(self.number)
             yield from self.start()

@@ -103,5 +103,6 @@ def extended(value: Any) -> Any:
     try:
         from bson import json_util
     except ImportError:
-        raise TypeError(f"{type(value).__name__} is none of JSON's types; write it as Extended JSON, or install pymongo") from None
+        kind = type(value).__name__
+        raise TypeError(f"{kind} is none of JSON's types; write it as Extended JSON, or install pymongo") from None
     return json_util.default(value, json_util.CANONICAL_JSON_OPTIONS)

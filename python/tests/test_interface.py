@@ -17,7 +17,8 @@ from .support import DOUBLE, PACKAGE, PEOPLE, PROGRAM, Room
 class Exports(Room):
     def test_names(self) -> None:
         """What is exported is `__all__`, and each of it has a docstring; modules are private."""
-        public = {name for name, value in vars(bsonfind).items() if not name.startswith("_") and not isinstance(value, types.ModuleType)}
+        own = {name: value for name, value in vars(bsonfind).items() if not name.startswith("_")}
+        public = {name for name, value in own.items() if not isinstance(value, types.ModuleType)}
         self.assertEqual(public, set(bsonfind.__all__))
         for name in bsonfind.__all__:
             self.assertTrue(inspect.getdoc(getattr(bsonfind, name)), name)

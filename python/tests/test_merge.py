@@ -51,7 +51,8 @@ class Law(Room):
             values = [read_document(json.dumps(it).encode()) for it in (query, sort)]
             wanted = [dump.documents[place] for place in dump.answer(Request(*values, skip, limit))]
             with self.subTest(query=query, sort=sort, skip=skip, limit=limit), ThreadPoolExecutor(4) as pool:
-                found = find_parts(plan(path, most), query, sort=sort, skip=skip, limit=limit, map=pool.map, decode="bytes", program=PROGRAM)
+                cut = {"sort": sort, "skip": skip, "limit": limit}
+                found = find_parts(plan(path, most), query, **cut, map=pool.map, decode="bytes", program=PROGRAM)
                 self.assertEqual([read_document(line) for line in found], wanted)
 
 

@@ -64,7 +64,8 @@ class Plans(Room):
             self.assertEqual(str(raised.exception), f'document 2, byte 14, path "": {kind}')
 
     def test_what_is_no_file(self) -> None:
-        for path, text in ((self.room / "missing.bson", "cannot open"), (self.room, "cannot open"), ("/dev/null", "is no regular file")):
+        missing = self.room / "missing.bson"
+        for path, text in ((missing, "cannot open"), (self.room, "cannot open"), ("/dev/null", "is no regular file")):
             with self.assertRaisesRegex(DumpError, text):
                 plan(path)
         with self.assertRaises(ValueError):

@@ -132,7 +132,10 @@ class Pipes(Room):
             with Session(name, PROGRAM) as session:
                 return len(list(session.find()))
 
-        for ask in (lambda name: len(list(find(name, program=PROGRAM))), lambda name: count_documents(name, program=PROGRAM), by_session):
+        def by_run(name: str) -> int:
+            return len(list(find(name, program=PROGRAM)))
+
+        for ask in (by_run, lambda name: count_documents(name, program=PROGRAM), by_session):
             for name in ("/dev/fd/{}", "/proc/self/fd/{}"):
                 read, write = os.pipe()
                 threading.Thread(target=feed, args=[write], daemon=True).start()
@@ -209,7 +212,8 @@ class LongFilters(Room):
             self.assertEqual(raised.exception.args, ("filter", 1, "unknown operator", "b.$above"))
             with self.assertRaises(CommandError) as raised:
                 ask({"a": long, "b": 1.5})
-            self.assertEqual(raised.exception.args, ("json", 5, "not in the profile", json.dumps({"a": long, "b": 1}, separators=(",", ":")).rindex("1")))
+            at = len('{"a":"","b":') + len(long)
+            self.assertEqual(raised.exception.args, ("json", 5, "not in the profile", at))
         for ask in (find_parts, count_parts):
             with self.assertRaises(PartError) as failed:
                 ask(plan(self.file(DOUBLE)), {"a": long}, program=PROGRAM)
@@ -284,8 +288,9 @@ class Pymongo(Room):
 
     def test_hints(self) -> None:
         self.session.create_index("age")
-        for hint, plan_ in (("age", "index"), ([("age", 1)], "index"), ({"age": -1}, "index"), ({"$natural": 1}, "scan"), ([("$natural", 1)], "scan")):
-            self.assertEqual(self.session.explain(OLD, hint=hint)["plan"], plan_)
+        for hint in ("age", [("age", 1)], {"age": -1}, {"$natural": 1}, [("$natural", 1)]):
+            wanted = "scan" if "$natural" in str(hint) else "index"
+            self.assertEqual(self.session.explain(OLD, hint=hint)["plan"], wanted)
             self.assertEqual(list(self.session.find(OLD, hint=hint, decode="bytes")), OLD_LINES)
             self.assertEqual(self.session.find_one(OLD, hint=hint, decode="bytes"), OLD_LINES[0])
         with self.assertRaises(CommandError) as raised:
