@@ -17,7 +17,7 @@ Turn element own n at bytes None = None
 Turn element own n at bytes (Some x) =
     first_of_two (element x.0 (own (take x.1 bytes)) at x.1 (take x.2 (drop x.1 bytes))) (refused_elements element own n (at + x.1 + x.2) (drop x.2 (drop x.1 bytes)))
 
-turned : (element : Element) (own : List ℕ → List ℕ) (n at b : ℕ) (bytes : List ℕ) → refused_elements element own (suc n) at (b ∷ bytes) ≡ Turn element own n at (b ∷ bytes) (front (b ∷ bytes))
+pub turned : (element : Element) (own : List ℕ → List ℕ) (n at b : ℕ) (bytes : List ℕ) → refused_elements element own (suc n) at (b ∷ bytes) ≡ Turn element own n at (b ∷ bytes) (front (b ∷ bytes))
 unfolding refused_elements
 turned element own n at b bytes = elim (front (b ∷ bytes)) as (λ f. (elim f [
   | None ↦ None

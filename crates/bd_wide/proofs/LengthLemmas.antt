@@ -16,7 +16,7 @@ fixed_cases : (b : Bool) (m l n : ℕ) → nat_lt l m ≡ b → (if b then None 
 fixed_cases true m l n at is = absurd cc
 fixed_cases false m l n at is = let e : m ≡ n = cc in let le : m ≤ l = grind (arith, nat_tests, at) in (e, omega arith)
 
-fixed_fits : (m : ℕ) (bytes : List ℕ) (n : ℕ) → fixed m bytes ≡ Some n → (m ≡ n) × (n ≤ length bytes)
+pub fixed_fits : (m : ℕ) (bytes : List ℕ) (n : ℕ) → fixed m bytes ≡ Some n → (m ≡ n) × (n ≤ length bytes)
 fixed_fits m bytes n is = fixed_cases (nat_lt (length bytes) m) m (length bytes) n refl is
 
 enough_there : (l n m : ℕ) → (nat_lt l 4 || nat_lt n m) ≡ false → m ≤ n
@@ -30,7 +30,7 @@ counted_cases false low others bytes n at is =
     let most = enough_there (length bytes) (number_of bytes) low at in
     (omega (arith, f.0, most), f.1)
 
-counted_fits : (low others : ℕ) (bytes : List ℕ) (n : ℕ) → counted low others bytes ≡ Some n → (low + others ≤ n) × (n ≤ length bytes)
+pub counted_fits : (low others : ℕ) (bytes : List ℕ) (n : ℕ) → counted low others bytes ≡ Some n → (low + others ≤ n) × (n ≤ length bytes)
 counted_fits low others bytes n is = counted_cases (nat_lt (length bytes) 4 || nat_lt (number_of bytes) low) low others bytes n refl is
 
 two_zeros : (bytes : List ℕ) (p q : Option ℕ) (n : ℕ) → first_zero bytes ≡ p → ((k : ℕ) → p ≡ Some k → first_zero (drop (k + 1) bytes) ≡ q)
@@ -164,7 +164,7 @@ scope_cases count size n at false is h =
     let e : 8 + count ≡ at = cc in
     let f : 8 + count + 5 ≤ size = grind (arith, nat_tests, is) in (omega arith, omega arith)
 
-scope_inside : (value : List ℕ) (at : ℕ) → scope_at value ≡ Some at → (8 ≤ at) × (at + 5 ≤ length value)
+pub scope_inside : (value : List ℕ) (at : ℕ) → scope_at value ≡ Some at → (8 ≤ at) × (at + 5 ≤ length value)
 unfolding scope_at
 scope_inside value at h =
     let count : ℕ = number_of (drop 4 value) in
@@ -191,14 +191,14 @@ nested_keeps Is others keeps (suc room) holders.Array value new some is = body_k
 nested_keeps Is others keeps (suc room) holders.CodeScope value new some is =
     scoped_keeps (IsNested Is others room holders.Document) (λ v n h. nested_keeps Is others keeps room holders.Document v n h) value new is
 
-long_enough : (bytes : List ℕ) → nat_lt (length bytes) 5 ≡ false → 5 ≤ length bytes
+pub long_enough : (bytes : List ℕ) → nat_lt (length bytes) 5 ≡ false → 5 ≤ length bytes
 long_enough bytes at = grind (arith, nat_tests)
 
-abbrev WholeTurn : Writes → Others → List ℕ → List ℕ → Bool → Type 0
+abbrev pub WholeTurn : Writes → Others → List ℕ → List ℕ → Bool → Type 0
 WholeTurn Is others bytes new true = new ≡ bytes
 WholeTurn Is others bytes new false = IsNested Is others 200 holders.Document bytes new
 
-to_whole : (Is : Writes) (others : Others) (bytes new : List ℕ) → IsRewritten Is others bytes new → WholeTurn Is others bytes new (nat_lt (length bytes) 5)
+pub to_whole : (Is : Writes) (others : Others) (bytes new : List ℕ) → IsRewritten Is others bytes new → WholeTurn Is others bytes new (nat_lt (length bytes) 5)
 unfolding IsRewritten
 to_whole Is others bytes new = elim (nat_lt (length bytes) 5) as (λ b. (elim b [ true ↦ new ≡ bytes | false ↦ IsNested Is others 200 holders.Document bytes new ]) → WholeTurn Is others bytes new b) [ true ↦ λ h. h | false ↦ λ h. h ]
 

@@ -53,3 +53,9 @@ IsWrappedDocument bytes true new = (first_refused refuses_deepest bytes ≡ None
     × IsRewritten IsWrapped (λ others. others) bytes new × (length new ≤ longest_document)
 IsWrappedDocument bytes false new = (new ≡ bytes) × (IsSome (first_refused refuses_deepest bytes)
     ⊎ ((long : List ℕ) × IsRewritten IsWrapped (λ others. others) bytes long × (longest_document < length long)))
+
+-- what is wrapped, wherever it stands; the reason tells nothing
+abbrev pub refuses_wide : Refuses
+refuses_wide room path Double value = Some TooDeep
+refuses_wide room path Decimal128 value = Some TooDeep
+refuses_wide room path (Kept _) value = None

@@ -1,11 +1,21 @@
 //! Laws of what is written of documents. The body of each is empty: its contract is the law.
 
-ghost use Rattle.std.specs.Prelude.{◌≡◌, List, ℕ, length};
+ghost use Rattle.std.specs.Prelude.{◌≡◌, ◌<◌, List, ℕ, None, length, slice_index};
+ghost use Rattle.bd_raw.specs.Sizes.{number_of};
 ghost use Rattle.bd_wide.specs.Mask.{IsMasked, masked_others};
+ghost use Rattle.bd_wide.specs.Refused.{first_refused};
 ghost use Rattle.bd_wide.specs.Rewritten.{IsRewritten};
+ghost use Rattle.bd_wide.specs.Wrap.{IsWrapped, refuses_wide};
 
 /// Masked bytes are as many.
 pub fn mask_keeps_length()
     ensures { (bytes new : List ℕ) → IsRewritten IsMasked masked_others bytes new
         → length new ≡ length bytes }
+{}
+
+/// A document of which no double and no decimal128 is found stays as it is.
+pub fn wrap_leaves_others()
+    ensures { (bytes new : List ℕ) → ((i : ℕ) → slice_index bytes i < 256)
+        → number_of bytes ≡ length bytes → first_refused refuses_wide bytes ≡ None
+        → IsRewritten IsWrapped (λ others. others) bytes new → new ≡ bytes }
 {}

@@ -1,0 +1,17 @@
+use Rattle.std.proofs.Common.{◌≡◌, ◌++◌, List, ℕ, None, Some, refl}
+use Rattle.bd_raw.specs.declared.raw_parts.ElementType.{ElementType}
+use Rattle.bd_raw.specs.declared.raw_parts.ElementType.TheVariants.{Kept, Double, Decimal128}
+use Rattle.bd_wide.specs.Wrap.{IsWrapped, refuses_wide}
+use Rattle.bd_wide.proofs.SameLemmas.{Same, rewritten_same}
+use Rattle.bd_wide.proofs.laws.wrap_leaves_others.Goals as goal
+
+kept : (room : ℕ) (path : List ℕ) (t : ElementType) (head value new : List ℕ) → refuses_wide room path t value ≡ None → IsWrapped t head value new → new ≡ head ++ value
+kept room path Double head value new clear is = let f : ⊥ = cc in absurd f
+kept room path Decimal128 head value new clear is = let f : ⊥ = cc in absurd f
+kept room path (Kept k) head value new clear is = is
+
+same : Same IsWrapped (λ others. others) refuses_wide
+same = record { element = kept; rest = λ bytes. refl }
+
+pub returns : goal.returns
+returns c = λ bytes new fits counts clear is. rewritten_same IsWrapped (λ others. others) refuses_wide same bytes new counts fits clear is
