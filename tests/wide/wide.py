@@ -1,13 +1,16 @@
 #!/usr/bin/env python3
-"""Runs `bsonwide` beside the model of it: over worked examples, random and damaged documents, and each prefix of a small dump.
+"""Runs `bsonwide` beside the model of it: over worked examples, random and damaged documents, and each prefix of a small dump; and
+with each growth of memory, each read and each write failed in turn.
 
 usage: tests/wide/wide.py [PROGRAM] [DOCUMENTS]     The last line is 'N passed, M failed'.
 """
 
 import random
+import shutil
 import struct
 import subprocess
 import sys
+import tempfile
 from pathlib import Path
 
 sys.path.insert(0, str(Path(__file__).resolve().parents[1]))
@@ -128,6 +131,33 @@ def ran(command: str, data: bytes) -> tuple[bytes, bytes, int]:
     return made.stdout, made.stderr, made.returncode
 
 
+def fail_each(tests: Tests, command: str, data: bytes, whole: bytes) -> None:
+    """Fails each growth of memory, each read and each write in turn: a prefix is written, and why no more is."""
+    ways = (
+        (b"bsonwide: no memory\n", {}, "FAILING_GROWTH"),
+        (b"bsonwide: cannot read\n", {"FAILING_INPUT": "0", "FAILING_ERROR": "5"}, "FAILING_READ"),
+        (b"bsonwide: cannot write\n", {"FAILING_OUTPUT": "1", "FAILING_ERROR": "28"}, "FAILING_WRITE"),
+        (b"bsonwide: cannot write\n", {"FAILING_OUTPUT": "1", "FAILING_ERROR": "0"}, "FAILING_WRITE"),
+    )  # fmt: skip
+    with tempfile.TemporaryDirectory() as room:
+        library = f"{room}/failing.so"
+        subprocess.run(["cc", "-shared", "-fPIC", "-O2", "-o", library, ROOT / "tests/faults/failing.c"], check=True)
+        for message, how, name in ways:
+            failed = 0
+            for at in range(1, 1000):
+                counts = Path(room, "counts")
+                counts.write_bytes(bytes(19 * 8))
+                env = {"LD_PRELOAD": library, "FAILING_COUNTS": str(counts), "FAILING_SINGLE": "1", name: str(at), **how}
+                made = subprocess.run([PROGRAM, command, "-"], input=data, capture_output=True, env=env, check=False)
+                tests.want(f"{command}: {name} {at}, loaded", counts.read_bytes()[:8] != bytes(8))
+                if (made.returncode, made.stdout, made.stderr) == (0, whole, b""):
+                    break
+                failed += 1
+                told = made.returncode == 1 and made.stderr == message and whole.startswith(made.stdout)
+                tests.want(f"{command}: {name} {at}", told, made)
+            tests.want(f"{command}: {name}, some failed", failed > 0)
+
+
 def main() -> int:
     tests = Tests()
     random.seed(57)
@@ -162,6 +192,12 @@ def main() -> int:
         message = f"{kept} documents too long or too deep to wrap\n".encode() if kept else b""
         made = ran("wrap", data)
         tests.want(f"wrap, {name}", made == (wanted, message, 0), made[1:])
+
+    if shutil.which("cc") is None:
+        print("there is no C compiler: nothing was made to fail")
+    else:
+        fail_each(tests, "mask", small + b"\1\0\0\0xyz", mask(small) + b"\1\0\0\0xyz")
+        fail_each(tests, "wrap", small + small[:9], wrap(small)[0] + small[:9])
 
     for words, status, out, err in (
         ([], 2, b"", USAGE), (["mask"], 2, b"", USAGE), (["sort", "-"], 2, b"", USAGE), (["mask", "-", "-"], 2, b"", USAGE),
