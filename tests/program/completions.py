@@ -1,7 +1,7 @@
 #!/usr/bin/env python3
 """Asks bash, zsh and fish, as they run, what they offer after a line: commands, options that the line has not, and files.
 
-usage: tests/program/completions.py     The last line is 'N passed, M failed'; bash, zsh and fish are wanted, and not the program.
+usage: tests/program/completions.py     The last line is 'N passed, M failed'; it needs bash, zsh and fish, and no program.
 """
 
 import os
@@ -21,13 +21,15 @@ from support import ROOT
 
 COMPLETIONS = ROOT / "completions"
 COMMANDS = {"dump", "check", "pack", "find", "serve"}
+FILTERS = {"mask", "wrap"}
 OPTIONS = {"--query", "--sort", "--skip", "--limit", "--batch", "--index", "--after"}
 DUMPS = {"one.bson", "two.bson", "room/"}
 OTHERS = {"lines.jsonl"}
 HELP = {"-h", "--help"}
 
-# A line, what is offered after it, and what only some shells offer there.
-ROWS: list[tuple[str, set[str], set[str]]] = [
+# A line after the name of a program, what is offered after it, and what only some shells offer there.
+Row = tuple[str, set[str], set[str]]
+OF_BSONFIND: list[Row] = [
     ("", COMMANDS, HELP),
     ("-", {"--help"}, HELP),
     ("s", {"serve"}, set()),
@@ -59,7 +61,23 @@ ROWS: list[tuple[str, set[str], set[str]]] = [
     *((f"find one.bson {option} ", set(), set()) for option in sorted(OPTIONS)),
     *((f"find {option}=", set(), set()) for option in sorted(OPTIONS)),
 ]
-KNOWN = COMMANDS | OPTIONS | DUMPS | OTHERS | HELP | {"-"}
+OF_BSONWIDE: list[Row] = [
+    ("", FILTERS, HELP),
+    ("-", {"--help"}, HELP),
+    ("w", {"wrap"}, set()),
+    *(
+        row
+        for name in sorted(FILTERS)
+        for row in (
+            (f"{name} ", DUMPS | {"-"}, OTHERS),
+            (f"{name} o", {"one.bson"}, set()),
+            (f"{name} -- ", DUMPS | {"-"}, OTHERS),
+            (f"{name} one.bson ", set(), set()),
+        )
+    ),
+]
+ROWS = {"bsonfind": OF_BSONFIND, "bsonwide": OF_BSONWIDE}
+KNOWN = COMMANDS | FILTERS | OPTIONS | DUMPS | OTHERS | HELP | {"-"}
 PROMPT = "ready> "
 
 
@@ -86,16 +104,16 @@ class Terminal:
             shown += os.read(self.file, 65536).decode(errors="replace")
         return shown.partition("echo told-")[0]
 
-    def offered(self, line: str) -> set[str]:
-        shown = re.sub(r"\x1b\[[0-9;?]*[A-Za-z]", "", self.tell(f"bsonfind {line}\t"))
+    def offered(self, program: str, line: str) -> set[str]:
+        shown = re.sub(r"\x1b\[[0-9;?]*[A-Za-z]", "", self.tell(f"{program} {line}\t"))
         shown = re.sub(r".\x08", "", shown)
         # What was typed stands there too, and is no offer.
         return set(re.findall(r"[^\s=\x07]+", shown)) - set(re.findall(r"[^\s=]+", line))
 
 
-def fish(room: str) -> Callable[[str], set[str]]:
-    def offered(line: str) -> set[str]:
-        words = ["fish", "--no-config", "-c", f"source {COMPLETIONS}/bsonfind.fish; complete -C $argv[1]", f"bsonfind {line}"]
+def fish(room: str) -> Callable[[str, str], set[str]]:
+    def offered(program: str, line: str) -> set[str]:
+        words = ["fish", "--no-config", "-c", f"source {COMPLETIONS}/{program}.fish; complete -C $argv[1]", f"{program} {line}"]
         ran = subprocess.run(words, cwd=room, env={**os.environ, "HOME": room}, stdout=subprocess.PIPE, check=True)
         return {it.partition("\t")[0] for it in ran.stdout.decode().splitlines()}
 
@@ -114,7 +132,8 @@ def main() -> int:
             place.mkdir() if name.endswith("/") else place.touch()
         bash = Terminal(
             ["bash", "--norc", "--noprofile"],
-            f"bind 'set show-all-if-ambiguous on' 'set bell-style none'; source {COMPLETIONS}/bsonfind.bash",
+            f"bind 'set show-all-if-ambiguous on' 'set bell-style none'; source {COMPLETIONS}/bsonfind.bash;"
+            f" source {COMPLETIONS}/bsonwide.bash",
             room,
         )
         zsh = Terminal(
@@ -124,15 +143,15 @@ def main() -> int:
             room,
         )
         for shell, offered in (("bash", bash.offered), ("zsh", zsh.offered), ("fish", fish(room))):
-            for line, wanted, allowed in ROWS:
-                words = offered(line)
+            for program, line, wanted, allowed in ((program, *row) for program, rows in ROWS.items() for row in rows):
+                words = offered(program, line)
                 # The front that all offers have is put in the line: of options it is their hyphens.
                 strange = words & KNOWN - wanted - allowed
                 if wanted <= words and not strange:
                     passed += 1
                 else:
                     failed += 1
-                    print(f"FAILED: {shell}, after 'bsonfind {line}': missing {wanted - words}, not wanted {strange}")
+                    print(f"FAILED: {shell}, after '{program} {line}': missing {wanted - words}, not wanted {strange}")
     print(f"{passed} passed, {failed} failed")
     return 1 if failed else 0
 

@@ -1,0 +1,23 @@
+# Completion of bsonwide in fish.
+
+# Whether the command of the line is one of these.
+function __bsonwide_command
+    set -l words (commandline -opc)
+    test (count $words) -gt 1; and contains -- $words[2] $argv
+end
+
+# The same, and there is no file yet.
+function __bsonwide_needs_file
+    __bsonwide_command $argv; or return
+    set -l words (commandline -opc)
+    for word in $words[3..]
+        string match -q -- '--*' $word; or return 1
+    end
+end
+
+complete -c bsonwide -f
+complete -c bsonwide -n 'not __bsonwide_command mask wrap' -a mask -d 'rewrite doubles and decimal128, for bsonfind check'
+complete -c bsonwide -n 'not __bsonwide_command mask wrap' -a wrap -d 'rewrite doubles and decimal128, for bsonfind dump'
+complete -c bsonwide -n 'not __bsonwide_command mask wrap' -s h -l help -d 'print the usage'
+complete -c bsonwide -n '__bsonwide_needs_file mask wrap' -a - -d 'standard input'
+complete -c bsonwide -n '__bsonwide_needs_file mask wrap' -k -a '(__fish_complete_suffix .bson)'
