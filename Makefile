@@ -1,13 +1,13 @@
-# make            builds the program, ./bsonfind; with ANEW=1 from nothing, whatever was proved before
+# make            builds the programs, ./bsonfind and ./bsonwide; with ANEW=1 from nothing, whatever was proved before
 # make look       prints the documents of FILE, examples/shop.bson without it, by the program as it stands, with no proof
 # make test       passes all tests
 # make edits      tries wrong bodies, of CRATE alone where it is given: the proofs must refuse each
 # make bench      times the commands over a dump of MB megabytes, 20 without it, of documents of a KIND, mixed without it; of several MB how cost grows
-# make install    puts the program, its man page, completions, licence, documents and package of Python below PREFIX
+# make install    puts the programs, their man pages, completions, licence, documents and package of Python below PREFIX
 # make uninstall  takes them away
-# make deb        builds the program, and puts the same files in a package of Debian, below dist
-# make dist       builds the program, and puts the same files in a tar.gz, below dist
-# make clean      removes the program, the packages, and the proofs and builds that rt keeps
+# make deb        builds the programs, and puts the same files in a package of Debian, below dist
+# make dist       builds the programs, and puts the same files in a tar.gz, below dist
+# make clean      removes the programs, the packages, and the proofs and builds that rt keeps
 #
 # Nothing but rt is wanted on PATH, and python3, which rt wants too.
 
@@ -32,7 +32,7 @@ MODULES = python/bsonfind/*.py python/bsonfind/py.typed python/bsonfind/VERSION
 
 all: build
 
-# Proves what has changed, as many crates side by side as there are processors and memory, and leaves ./bsonfind.
+# Proves what has changed, as many crates side by side as there are processors and memory, and leaves ./bsonfind and ./bsonwide.
 build:
 	@$(PYTHON) tools/build.py $(if $(ANEW),--anew)
 
@@ -40,8 +40,11 @@ look:
 	@echo 'make look: the program is run as it stands, and nothing of it is proved; make proves and builds it' >&2
 	@cd crates/bsonfind && rt try --data 'dump.bson=$(abspath $(FILE))' -- dump dump.bson
 
-# What was built is installed; it is built first only where there is none.
+# What was built is installed; it is built first only where there is none. One build makes both.
 bsonfind:
+	$(MAKE) build
+
+bsonwide: | bsonfind
 	$(MAKE) build
 
 test:
@@ -53,23 +56,24 @@ edits:
 bench: bsonfind
 	$(PYTHON) bench/bench.py $(MB) --kind $(KIND)
 
-install: bsonfind
+install: bsonfind bsonwide
 	install -d "$(BIN)" "$(DOC)/docs" "$(DOC)/examples" "$(MAN)" "$(BASH)" "$(ZSH)" "$(FISH)"
-	install -m 755 bsonfind "$(BIN)/bsonfind"
+	install -m 755 bsonfind bsonwide "$(BIN)"
 	install -m 644 LICENSE CHANGELOG.md CONTRIBUTING.md README.md "$(DOC)"
 	install -m 644 docs/*.md "$(DOC)/docs"
 	install -m 644 examples/* "$(DOC)/examples"
-	install -m 644 docs/bsonfind.1 "$(MAN)/bsonfind.1"
-	sed -i 's/^\.Os$$/.Os bsonfind $(VERSION)/' "$(MAN)/bsonfind.1"
+	install -m 644 docs/bsonfind.1 docs/bsonwide.1 "$(MAN)"
+	sed -i 's/^\.Os$$/.Os bsonfind $(VERSION)/' "$(MAN)/bsonfind.1" "$(MAN)/bsonwide.1"
 	install -m 644 completions/bsonfind.bash "$(BASH)/bsonfind"
-	install -m 644 completions/_bsonfind "$(ZSH)/_bsonfind"
-	install -m 644 completions/bsonfind.fish "$(FISH)/bsonfind.fish"
+	install -m 644 completions/bsonwide.bash "$(BASH)/bsonwide"
+	install -m 644 completions/_bsonfind completions/_bsonwide "$(ZSH)"
+	install -m 644 completions/bsonfind.fish completions/bsonwide.fish "$(FISH)"
 	if command -v $(PYTHON) >/dev/null; then install -d "$(PACKAGE)" && install -m 644 $(MODULES) "$(PACKAGE)" && \
 	  $(PYTHON) python/backend.py "$(PACKAGE)/.."; fi
 
 uninstall:
-	rm -f "$(BIN)/bsonfind" "$(MAN)/bsonfind.1"
-	rm -f "$(BASH)/bsonfind" "$(ZSH)/_bsonfind" "$(FISH)/bsonfind.fish"
+	rm -f "$(BIN)/bsonfind" "$(MAN)/bsonfind.1" "$(BASH)/bsonfind" "$(ZSH)/_bsonfind" "$(FISH)/bsonfind.fish"
+	rm -f "$(BIN)/bsonwide" "$(MAN)/bsonwide.1" "$(BASH)/bsonwide" "$(ZSH)/_bsonwide" "$(FISH)/bsonwide.fish"
 	rm -f "$(DOC)/LICENSE" "$(DOC)/CHANGELOG.md" "$(DOC)/CONTRIBUTING.md" "$(DOC)/README.md" "$(DOC)/GUIDE.md"
 	rm -rf "$(DOC)/docs" "$(DOC)/examples"
 	rmdir "$(DOC)" 2>/dev/null || true
@@ -80,5 +84,5 @@ deb dist: build
 	@$(PYTHON) tools/dist.py $@
 
 clean:
-	rm -f bsonfind
+	rm -f bsonfind bsonwide
 	rm -rf crates/*/out dist

@@ -1,5 +1,5 @@
 #!/bin/sh
-# Runs the gate, then the tests of the program that the gate proved and built, those of the package of Python, the rows, the rows of
+# Runs the gate, then the tests of the programs that the gate proved and built, those of the package of Python, the rows, the rows of
 # the calls that grow, the looks at the examples and the definitions and two rounds of the edits, and prints the sum of all as its
 # last line. The status is 0 where nothing failed.
 set -u
@@ -22,24 +22,19 @@ rm -f crates/bsonfind/out/bsonfind crates/bsonwide/out/bsonwide crates/bd_growth
 rt ci | tee "$log"
 add
 
-# The gate leaves the program and the tests of the calls that grow, proved and built, so nothing is proved again.
-if cp crates/bsonfind/out/bsonfind bsonfind; then
-	for script in program/program.sh program/pages.py program/talk.py faults/growths.py faults/devices.py package/package.py package/wheels.py; do
+# The gate leaves the programs and the tests of the calls that grow, proved and built, so nothing is proved again.
+if cp crates/bsonfind/out/bsonfind bsonfind && cp crates/bsonwide/out/bsonwide bsonwide; then
+	for script in program/program.sh program/pages.py program/talk.py faults/growths.py faults/devices.py package/package.py package/wheels.py docs/usage.py; do
 		"tests/$script" | tee "$log"
 		add
 	done
 	# As LLVM builds it, and as Rattle's own compiler does.
 	tests/rows/rows.py --program crates/bsonfind/out/bsonfind --program crates/bsonfind/out/bsonfind.by-rattle | tee "$log"
 	add
-else
-	echo 'the gate built no program: its tests were not run'
-	failed=$((failed + 1))
-fi
-if [ -x crates/bsonwide/out/bsonwide ]; then
-	tests/wide/wide.py crates/bsonwide/out/bsonwide 2000 | tee "$log"
+	tests/wide/wide.py bsonwide 2000 | tee "$log"
 	add
 else
-	echo 'the gate built no bsonwide: its tests were not run'
+	echo 'the gate did not build both programs: their tests were not run'
 	failed=$((failed + 1))
 fi
 if [ -x crates/bd_growth_tests/out/bd_growth_tests_tests ]; then

@@ -1,5 +1,5 @@
 #!/usr/bin/env python3
-"""Proves every crate that the program stands on, and builds the program.
+"""Proves every crate that the programs stand on, and builds them: ./bsonfind and ./bsonwide.
 
 usage: tools/build.py [--anew]     With --anew everything is proved and built, whatever is kept.
 
@@ -23,7 +23,7 @@ from pathlib import Path
 from meter import Meter
 
 ROOT = Path(__file__).resolve().parent.parent
-PROGRAM = "bsonfind"
+PROGRAMS = ("bsonfind", "bsonwide")
 TIMES = ROOT / ".build-times"
 CUT_OFF = "cut off: type make again"
 KEPT = "each crate that is proved is kept: a build that is cut off resumes"
@@ -33,30 +33,30 @@ PARTS = ("src", "specs", "proofs", "args", "stdin", "stdout")
 
 
 def lines_of_crates() -> dict[str, str]:
-    """Return the lines of crates.txt for the program and the crates that it stands on, by crate."""
+    """Return the lines of crates.txt for the programs and the crates that they stand on, by crate."""
     lines = {}
     for line in (ROOT / "crates.txt").read_text(encoding="utf-8").splitlines():
         name, colon, below = line.partition("#")[0].partition(":")
         if colon:
             lines[name.strip()] = below.split()
-    wanted = [PROGRAM]
+    wanted = [*PROGRAMS]
     for name in wanted:
         wanted += [below for below in lines[name] if below in lines and below not in wanted]
     return {name: f"{name}: {' '.join(lines[name])}\n" for name in lines if name in wanted}
 
 
 def files_of(crate: str) -> Iterator[Path]:
-    """Yield the files of a crate that the program is made from."""
+    """Yield the files of a crate that a program is made from."""
     for part in PARTS:
         place = ROOT / "crates" / crate / part
         yield from (it for it in place.rglob("*") if it.is_file()) if place.is_dir() else [place] * place.is_file()
 
 
 def is_built(crates: dict[str, str]) -> bool:
-    """Return whether the program is newer than all that it is made from."""
-    program = ROOT / PROGRAM
+    """Return whether each program is newer than all that they are made from."""
     made_from = [ROOT / "crates.txt", *(file for crate in crates for file in files_of(crate))]
-    return program.is_file() and max(it.stat().st_mtime for it in made_from) < program.stat().st_mtime
+    newest = max(it.stat().st_mtime for it in made_from)
+    return all((ROOT / it).is_file() and newest < (ROOT / it).stat().st_mtime for it in PROGRAMS)
 
 
 def copy_crates(crates: dict[str, str], room: str) -> None:
@@ -92,7 +92,7 @@ def keeps() -> bool:
 
 
 def prove(room: str, count: int, anew: bool) -> int:
-    """Prove the crates of a repository and build its program; print a line a crate; return the status."""
+    """Prove the crates of a repository and build its programs; print a line a crate; return the status."""
     started, done, proved, said = time.monotonic(), 0, 0, []
     how = {"stdin": subprocess.DEVNULL, "stdout": subprocess.PIPE, "stderr": subprocess.STDOUT}
     with subprocess.Popen(["rt", "ci", *(["--anew"] if anew and keeps() else [])], cwd=room, text=True, errors="replace", **how) as run:
@@ -119,7 +119,7 @@ def prove(room: str, count: int, anew: bool) -> int:
         print(CUT_OFF)
     elif run.returncode:
         print("".join(said)[-8000:])
-        print("not every crate is proved, so the program is not built")
+        print("not every crate is proved, so no program is built")
     else:
         minutes = (time.monotonic() - started) / 60
         line = f"{time.strftime('%Y-%m-%d')}, {minutes:.1f} minutes on {machine()}; {proved} of {count} crates were proved, the others kept"
@@ -129,28 +129,29 @@ def prove(room: str, count: int, anew: bool) -> int:
 
 
 def build(crates: dict[str, str], anew: bool) -> int:
-    """Prove the crates and leave the program; return the status."""
+    """Prove the crates and leave the programs; return the status."""
     with tempfile.TemporaryDirectory(prefix="bsonfind-build-") as room:
         copy_crates(crates, room)
         status = prove(room, len(crates), anew)
-        if status == 0:
-            made = Path(room, "crates", PROGRAM, "out", PROGRAM)
-            shutil.copyfile(made, ROOT / f"{PROGRAM}.new")
-            os.chmod(ROOT / f"{PROGRAM}.new", 0o755)
-            os.replace(ROOT / f"{PROGRAM}.new", ROOT / PROGRAM)
+        for program in PROGRAMS if status == 0 else ():
+            new = ROOT / f"{program}.new"
+            shutil.copyfile(Path(room, "crates", program, "out", program), new)
+            os.chmod(new, 0o755)
+            os.replace(new, ROOT / program)
     return status
 
 
 def main(anew: bool) -> int:
-    """Build the program, unless it is built."""
+    """Build the programs, unless they are built."""
     crates = lines_of_crates()
+    built = " and ".join(str(ROOT / it) for it in PROGRAMS)
     if is_built(crates) and not anew:
-        print(f"{ROOT / PROGRAM} is built, and nothing that it is made from has changed")
+        print(f"{built} are built, and nothing that they are made from has changed")
         return 0
     if not shutil.which("rt"):
         print("there is no rt on PATH: the Rattle kit has it, and only a build needs it, not an archive of a release")
         return 1
-    print(f"proving {len(crates)} crates, each function of them, before the program is built")
+    print(f"proving {len(crates)} crates, each function of them, before the programs are built")
     print(last_time())
     print("make look shows the program in about a minute, with no proof", flush=True)
     if keeps():
@@ -161,7 +162,7 @@ def main(anew: bool) -> int:
         print(CUT_OFF)
         return 130
     if status == 0:
-        print(f"built: {ROOT / PROGRAM}\nnext: {NEXT}")
+        print(f"built: {built}\nnext: {NEXT}")
     return status
 
 

@@ -33,6 +33,7 @@ MODULES = "lib/python3/dist-packages"
 DEBIAN_NAMES = {
     "usr/share/doc/bsonfind/LICENSE": "usr/share/doc/bsonfind/copyright",
     "usr/share/zsh/site-functions/_bsonfind": "usr/share/zsh/vendor-completions/_bsonfind",
+    "usr/share/zsh/site-functions/_bsonwide": "usr/share/zsh/vendor-completions/_bsonwide",
 }
 
 
@@ -77,13 +78,15 @@ def install(stage: Path) -> None:
     subprocess.run(words, env=env, check=True)
 
 
-def needed(program: Path) -> str:
-    """Return the package of Debian that the program needs: a C library that has each version of a symbol that it names."""
-    told = subprocess.run(["ldd", program], capture_output=True, text=True, check=True).stdout
-    libraries = set(re.findall(r"^\s*(\S+) =>", told, re.MULTILINE))
-    if libraries != {"libc.so.6"}:
-        raise Refused(f"packaging/control knows libc.so.6 alone, and the program needs {', '.join(sorted(libraries))}")
-    named = re.findall(rb"GLIBC_(\d+)\.(\d+)", program.read_bytes())
+def needed(programs: list[Path]) -> str:
+    """Return the package of Debian that the programs need: a C library that has each version of a symbol that they name."""
+    named = []
+    for program in programs:
+        told = subprocess.run(["ldd", program], capture_output=True, text=True, check=True).stdout
+        libraries = set(re.findall(r"^\s*(\S+) =>", told, re.MULTILINE))
+        if libraries != {"libc.so.6"}:
+            raise Refused(f"packaging/control knows libc.so.6 alone, and {program.name} needs {', '.join(sorted(libraries))}")
+        named += re.findall(rb"GLIBC_(\d+)\.(\d+)", program.read_bytes())
     newest = max((int(major), int(minor)) for major, minor in named)
     return f"libc6 (>= {newest[0]}.{newest[1]})"
 
@@ -110,9 +113,9 @@ def make_deb(number: str, time: int, stage: Path) -> Path:
     documents = stage / "usr/share/doc/bsonfind"
     (documents / "CHANGELOG.md").unlink()
     packed = {documents / "changelog": debian_changelog(maintainer).encode()}
-    manual = stage / "usr/share/man/man1/bsonfind.1"
-    packed[manual] = manual.read_bytes()
-    manual.unlink()
+    for manual in (stage / "usr/share/man/man1").iterdir():
+        packed[manual] = manual.read_bytes()
+        manual.unlink()
     for place, content in packed.items():
         Path(f"{place}.gz").write_bytes(gzip.compress(content, 9, mtime=0))
     overrides = stage / "usr/share/lintian/overrides/bsonfind"
@@ -125,7 +128,8 @@ def make_deb(number: str, time: int, stage: Path) -> Path:
     architecture = ask.stdout.strip()
     # As dpkg-gencontrol counts: whole KiB of each file, and one for each folder.
     size = sum((it.stat().st_size + 1023) // 1024 for it in files) + folders
-    told = {"VERSION": number, "ARCHITECTURE": architecture, "SIZE": size, "DEPENDS": needed(stage / "usr/bin/bsonfind")}
+    depends = needed(sorted((stage / "usr/bin").iterdir()))
+    told = {"VERSION": number, "ARCHITECTURE": architecture, "SIZE": size, "DEPENDS": depends}
     sums = "".join(f"{hashlib.md5(it.read_bytes()).hexdigest()}  {it.relative_to(stage)}\n" for it in files)
     control = stage / "DEBIAN"
     control.mkdir()

@@ -1,10 +1,10 @@
 #!/usr/bin/env python3
 """Makes the archives of a release, and installs, runs and removes what is in them, each in a folder of its own.
 
-usage: tests/package/dist.py [--build]     The last line is 'N passed, M failed'. It needs ./bsonfind, and for the package dpkg-deb.
+usage: tests/package/dist.py [--build]     The last line is 'N passed, M failed'. It needs ./bsonfind and ./bsonwide, and for the package dpkg-deb.
 
 The archives are made twice, in two copies of this folder that differ in what must not matter: the name of the folder, the mode of
-new files, the time zone, the times of the files. With --build the second copy builds the program too, over kept proofs, by rt.
+new files, the time zone, the times of the files. With --build the second copy builds the programs too, over kept proofs, by rt.
 What this machine lacks is named, and its tests are skipped.
 """
 
@@ -34,9 +34,12 @@ RENAMED = {
     "share/doc/bsonfind/LICENSE": "share/doc/bsonfind/copyright",
     "share/doc/bsonfind/CHANGELOG.md": "share/doc/bsonfind/changelog.gz",
     "share/man/man1/bsonfind.1": "share/man/man1/bsonfind.1.gz",
+    "share/man/man1/bsonwide.1": "share/man/man1/bsonwide.1.gz",
     "share/zsh/site-functions/_bsonfind": "share/zsh/vendor-completions/_bsonfind",
+    "share/zsh/site-functions/_bsonwide": "share/zsh/vendor-completions/_bsonwide",
 }
 OWN = "share/lintian/overrides/bsonfind"
+PROGRAMS = ("bsonfind", "bsonwide")
 
 
 def run(words: list[str], cwd: Optional[Path] = None, umask: int = -1, **env: str) -> subprocess.CompletedProcess:
@@ -58,7 +61,7 @@ def links_that_lead_nowhere(documents: Path) -> list[str]:
 
 
 def copy_of_tree(to: Path) -> Path:
-    """Copy this folder, as it stands, with its program."""
+    """Copy this folder, as it stands, with its programs."""
     skipped = shutil.ignore_patterns(".git", "out", "dist", "__pycache__", ".build-times")
     shutil.copytree(ROOT, to, symlinks=True, ignore=skipped)
     return to
@@ -77,11 +80,11 @@ class Archives(unittest.TestCase):
         for it in cls.second.rglob("*"):
             if not it.is_symlink():
                 os.utime(it, (TIME - 9, TIME - 9))
-        program = cls.second / "bsonfind"
-        if BUILDS:
-            program.unlink()
-        else:
-            os.utime(program, (TIME - 8, TIME - 8))
+        for program in (cls.second / it for it in PROGRAMS):
+            if BUILDS:
+                program.unlink()
+            else:
+                os.utime(program, (TIME - 8, TIME - 8))
         # One takes the time from its commit, the other is told it.
         env = {"GIT_COMMITTER_DATE": f"{TIME} +0000", "GIT_CONFIG_GLOBAL": "/dev/null"}
         for name in ("AUTHOR", "COMMITTER"):
@@ -132,10 +135,11 @@ class Archives(unittest.TestCase):
         self.assertEqual(len(first), 3 if HAS_DPKG else 2)
 
     def test_twice_the_same_program(self) -> None:
-        """The program that a copy builds is the one that was there."""
+        """The programs that a copy builds are those that were there."""
         if not BUILDS:
-            self.skipTest("no --build: the second copy has a copy of the program")
-        self.assertEqual((self.first / "bsonfind").read_bytes(), (self.second / "bsonfind").read_bytes())
+            self.skipTest("no --build: the second copy has copies of the programs")
+        for it in PROGRAMS:
+            self.assertEqual((self.first / it).read_bytes(), (self.second / it).read_bytes(), it)
 
     def test_sums(self) -> None:
         """SHA256SUMS has all archives, and sha256sum agrees."""
@@ -156,7 +160,7 @@ class Archives(unittest.TestCase):
         """Check that all entries have fixed owners, modes and times, and that their names are sorted."""
         for it in entries:
             self.assertEqual((it.uid, it.gid, it.uname, it.gname, it.mtime), (0, 0, "root", "root", TIME), it.name)
-            runs = it.isdir() or it.name.endswith("/bin/bsonfind")
+            runs = it.isdir() or it.name.endswith(tuple(f"/bin/{program}" for program in PROGRAMS))
             self.assertEqual(it.mode, 0o755 if runs else 0o644, it.name)
         names = [Path(it.name) for it in entries]
         self.assertEqual(names, sorted(names))
@@ -185,11 +189,11 @@ class Archives(unittest.TestCase):
         return run(["dpkg-deb", "-f", str(self.deb()), name]).stdout.strip()
 
     def test_fields(self) -> None:
-        """The package has the version, and needs the newest version of the C library that a symbol of the program has."""
+        """The package has the version, and needs the newest version of the C library that a symbol of a program has."""
         self.assertEqual(self.field("Version"), VERSION)
         if not shutil.which("objdump"):
             self.skipTest("this machine has no objdump")
-        symbols = run(["objdump", "-T", str(self.first / "bsonfind")]).stdout
+        symbols = run(["objdump", "-T", *(str(self.first / it) for it in PROGRAMS)]).stdout
         newest = max(re.findall(r"GLIBC_([\d.]+)", symbols), key=lambda it: [int(part) for part in it.split(".")])
         self.assertEqual(self.field("Depends"), f"libc6 (>= {newest})")
 
@@ -202,13 +206,15 @@ class Archives(unittest.TestCase):
         self.assertEqual((ran.returncode, ran.stdout), (0, ""), ran.stderr)
 
     def want_working(self, prefix: Path) -> None:
-        """Check what is installed below a prefix: the program, the manual page, the Python package."""
+        """Check what is installed below a prefix: the programs, their manual pages, the Python package."""
         program = str(prefix / "bin/bsonfind")
         examples = prefix / "share/doc/bsonfind/examples"
         told = run([program, "--help"])
         self.assertEqual((told.returncode, told.stdout[:15]), (0, "usage: bsonfind"))
         told = run([program, "dump", str(examples / "shop.bson")])
         self.assertEqual((told.returncode, told.stdout), (0, (ROOT / "examples/shop.jsonl").read_text(encoding="utf-8")))
+        told = run([str(prefix / "bin/bsonwide"), "--help"])
+        self.assertEqual((told.returncode, told.stdout[:15]), (0, "usage: bsonwide"))
         asks = "import bsonfind, sys; from importlib.metadata import version; "
         asks += "print(bsonfind.__version__, version('bsonfind'), len(list(bsonfind.find(sys.argv[1], limit=3))))"
         path = f"{prefix}/bin:{os.environ['PATH']}"
@@ -216,8 +222,9 @@ class Archives(unittest.TestCase):
         self.assertEqual(told.stdout, f"{VERSION} {VERSION} 3\n", told.stderr)
         self.assertEqual(links_that_lead_nowhere(prefix / "share/doc/bsonfind"), [])
         if shutil.which("man"):
-            page = run(["man", "bsonfind"], MANPATH=str(prefix / "share/man"), MANWIDTH="80").stdout
-            self.assertEqual(page.splitlines()[-1].split()[:2], ["bsonfind", VERSION])
+            for name in PROGRAMS:
+                page = run(["man", name], MANPATH=str(prefix / "share/man"), MANWIDTH="80").stdout
+                self.assertEqual(page.splitlines()[-1].split()[:2], ["bsonfind", VERSION])
 
     def test_tar_installed(self) -> None:
         """The tar.gz works below any prefix, and leaves a folder that is there as it is."""

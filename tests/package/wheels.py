@@ -138,8 +138,8 @@ class Wheels(unittest.TestCase):
         stage = self.room / "a stage"
         package = stage / "packages/bsonfind"
         make = ("make", "-s", "-C", ROOT, f"DESTDIR={stage}", f"PACKAGE={package}", f"PYTHON={sys.executable}")
-        if not (ROOT / "bsonfind").is_file():
-            self.skipTest("there is no ./bsonfind to install")
+        if not all((ROOT / it).is_file() for it in ("bsonfind", "bsonwide")):
+            self.skipTest("there is no ./bsonfind or no ./bsonwide to install")
         self.done(*make, "install")
         self.want_working(package.parent, str(package))
         listed = self.done(sys.executable, "-c", "from importlib.metadata import version\nprint(version('bsonfind'))", PYTHONPATH=str(package.parent))

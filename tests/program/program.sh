@@ -1362,7 +1362,7 @@ echo $? >status
 : >out
 expect 'a request for help, and a full standard output' 1 '' 'bsonfind: cannot write'
 
-# What make puts in place, of the program that is there.
+# What make puts in place, of the programs that are there.
 
 # With a word: install or uninstall.
 installed() {
@@ -1379,12 +1379,17 @@ documents=$(cd "$root" && printf './usr/share/doc/bsonfind/%s\n' CHANGELOG.md CO
 
 installed install
 expect 'make install' 0 "./usr/bin/bsonfind
+./usr/bin/bsonwide
 $package
 ./usr/share/bash-completion/completions/bsonfind
+./usr/share/bash-completion/completions/bsonwide
 $documents
 ./usr/share/fish/vendor_completions.d/bsonfind.fish
+./usr/share/fish/vendor_completions.d/bsonwide.fish
 ./usr/share/man/man1/bsonfind.1
-./usr/share/zsh/site-functions/_bsonfind" ''
+./usr/share/man/man1/bsonwide.1
+./usr/share/zsh/site-functions/_bsonfind
+./usr/share/zsh/site-functions/_bsonwide" ''
 
 installed uninstall
 expect 'make uninstall' 0 '' ''
