@@ -153,6 +153,11 @@ class _Window:
         """A byte that was read."""
         return self._held[at - self.start]
 
+    def put_back(self, start: int, data: bytes) -> None:
+        """Takes bytes again that were dropped, from a place on up to the first one that is held."""
+        self._held[:0] = data
+        self.start = start
+
     def drop(self, end: int) -> None:
         """Forgets the bytes before a place."""
         del self._held[: end - self.start]
@@ -206,11 +211,12 @@ class _Salvage:
                     at = self._copy_documents(batch)
                     if at != batch.ends[-1]:
                         self._forget_ahead()
+                    self._window.drop(self._ahead[-1].ends[-1] if self._ahead else at)
                 else:
                     found = self._next_beginning(at)
                     at = self._leave_out(LeftOut(at, self._window.end if found is None else found, found is not None))
                     self._size = _FIRST
-                self._window.drop(at)
+                    self._window.drop(at)
         finally:
             self._forget_ahead()
         if self._window.error:
@@ -219,13 +225,14 @@ class _Salvage:
 
     def _check_ahead(self, at: int) -> bool:
         """Starts runs over the documents from there on, one for each processor; False where the first length is wrong."""
-        while len(self._ahead) < self._most_ahead:
+        while len(self._ahead) < self._most_ahead and sum(len(it.data) for it in self._ahead) < _MOST * _MOST_AHEAD:
             start = self._ahead[-1].ends[-1] if self._ahead else at
             ends = self._window.document_ends(start, self._size, _MOST_DOCUMENTS)
             if not ends:
                 break
             data = self._window.bytes(start, ends[-1])
             self._ahead.append(_Batch(start, ends, data, Run([self._program, "check", "-"], [data])))
+            self._window.drop(ends[-1])
             self._size = min(2 * self._size, _MOST)
         return bool(self._ahead)
 
@@ -239,7 +246,11 @@ class _Salvage:
         """Copies documents, and gives the place after them, or that of documents which a wrong length passes over."""
         start, ends, data = batch.start, batch.ends, memoryview(batch.data)
         at, copied = start, 0
-        for fault in _faults(batch.run, len(ends)):
+        faults = _faults(batch.run, len(ends))
+        if faults:
+            # What stands in and after a bad document is looked at.
+            self._window.put_back(start, b"".join([batch.data, *(it.data for it in self._ahead)]))
+        for fault in faults:
             number = fault.document
             begin, end = ends[number - 1] if number else start, ends[number]
             self._good_file.write(data[at - start : begin - start])
