@@ -119,6 +119,11 @@ class Wheels(unittest.TestCase):
             self.assertIn(f"bsonfind-{VERSION}/{own}", members)
         self.assertEqual(self.wheel(self.room / name).read_bytes(), self.wheel(PACKAGE, "others").read_bytes())
 
+    def test_copies(self) -> None:
+        """The package has copies of two files of the repository, since a zip of its folder holds no link."""
+        for copy, own in (("bsonfind/VERSION", "VERSION"), ("LICENSE", "LICENSE")):
+            self.assertEqual((PACKAGE / copy).read_bytes(), (ROOT / own).read_bytes())
+
     def test_zips(self) -> None:
         """The wheel itself, and a zip of the folder, are imported as they are."""
         self.want_working(self.wheel(), WHEEL)
