@@ -1,6 +1,6 @@
 #!/usr/bin/env python3
-"""Runs what the documents show with ./bsonfind: README.md up to its first heading, the recipes of docs/GUIDE.md, the examples of
-the man page.
+"""Runs what the documents show with ./bsonfind and ./bsonwide: README.md up to its first heading, the recipes of docs/GUIDE.md, the
+examples of the man pages.
 
 usage: tests/docs/guide.py     The last line is 'N passed, M failed'. It needs jq; recipes with pv and node are run where these are there.
 
@@ -28,11 +28,11 @@ from support import ROOT
 
 # What a command writes, and a word of it that may name a file.
 WRITTEN = re.compile(r"\d?>>?\s*\S+|\bmv \S+ \S+|\btee \S+|\bof=\S+|--(?:good|bad|missing) \S+")
-WORD = re.compile(r"(?<![\w./$*-])(?<!bsonfind )\w[\w./*-]*")
+WORD = re.compile(r"(?<![\w./$*-])(?<!bsonfind )(?<!bsonwide )\w[\w./*-]*")
 FUNCTION = re.compile(r"(\w+)\(\) \{")
 # Programs that see a damaged file; cp, head and others take it as it is.
-JUDGES = re.compile(r"\b(?:bsonfind|python3|bash|node)\b")
-FAULT = re.compile(r"\bbsonfind: |^\w+\.(?:py|sh|mjs): |, [1-9]\d* faulty$|, [1-9]\d* to bad\.|, [1-9]\d* bytes left out$", re.MULTILINE)
+JUDGES = re.compile(r"\b(?:bsonfind|bsonwide|python3|bash|node)\b")
+FAULT = re.compile(r"\b(?:bsonfind|bsonwide): |^\w+\.(?:py|sh|mjs): |, [1-9]\d* faulty$|, [1-9]\d* to bad\.|, [1-9]\d* bytes left out$", re.MULTILINE)
 # A program that a machine may not have, where a command begins with it or pipes to it.
 OPTIONAL = re.compile(r"(?:^|\| )(node|pv)\b")
 SCRIPTS = (".py", ".sh", ".mjs", ".jq")
@@ -110,7 +110,7 @@ def long_blocks(text: str) -> list[str]:
 
 
 def examples(text: str) -> list[Step]:
-    """The examples of the man page, as they are typed. A line that ends with a pipe or && goes on in the next one."""
+    """The examples of a man page, as they are typed. A line that ends with a pipe or && goes on in the next one."""
     text = re.sub(r"(\||&&)\n\.Dl \\& *", r"\1 ", text)
     for escape, typed in ((r"\(dq", '"'), (r"\(aq", "'"), (r"\-", "-"), (r"\e", "\\")):
         text = text.replace(escape, typed)
@@ -180,12 +180,12 @@ def run(steps: list[Step], room: Path, counts: Counts) -> None:
 
 def main() -> int:
     counts = Counts()
-    for name in ("README.md", "docs/GUIDE.md", "docs/bsonfind.1"):
+    for name in ("README.md", "docs/GUIDE.md", "docs/bsonfind.1", "docs/bsonwide.1"):
         text = (ROOT / name).read_text(encoding="utf-8")
         with tempfile.TemporaryDirectory() as folder:
             room = Path(folder)
             shutil.copytree(ROOT / "examples", room / "examples")
-            if name == "docs/bsonfind.1":
+            if name.endswith(".1"):
                 shutil.copytree(ROOT / "examples", room, dirs_exist_ok=True)
                 (room / "people.bson.gz").write_bytes(gzip.compress((room / "people.bson").read_bytes()))
                 (room / "dump/mydb").mkdir(parents=True)

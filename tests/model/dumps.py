@@ -14,7 +14,7 @@ FAULT_WORDS = (
     "bad string length", "string not ended", "bad boolean", "bad binary length", "bad scope length", "too deep", "value cut short",
 )  # fmt: skip
 TYPES = {byte: kind for kind, (byte, _) in KINDS.items()} | {0x01: "double", 0x13: "decimal128"}
-SIZES = {"objectId": 12, "bool": 1, "date": 8, "int": 4, "timestamp": 8, "long": 8}
+SIZES = {"objectId": 12, "bool": 1, "date": 8, "int": 4, "timestamp": 8, "long": 8, "double": 8, "decimal128": 16}
 
 Path = tuple[str, ...]
 
@@ -32,10 +32,11 @@ class ByteFault(Exception):
 
 
 class Walk:
-    """Goes over bytes. What it reads may not pass an end, and is below a path."""
+    """Goes over bytes. What it reads may not pass an end, and is below a path. Doubles and decimal128 are faults, unless it is wide."""
 
-    def __init__(self, data: bytes) -> None:
+    def __init__(self, data: bytes, is_wide: bool = False) -> None:
         self.data = data
+        self.is_wide = is_wide
 
     def number(self, at: int, size: int = 4, signed: bool = True) -> int:
         return int.from_bytes(self.data[at : at + size], "little", signed=signed)
@@ -76,7 +77,7 @@ class Walk:
             raise ByteFault(NAME_UNENDED, at + 1, path)
         name = self.utf8(at + 1, zero, path)
         path = (*path, name if place is None else str(place))
-        if kind in ("double", "decimal128"):
+        if kind in ("double", "decimal128") and not self.is_wide:
             raise ByteFault(DOUBLE if kind == "double" else DECIMAL128, at, path)
         if level + {"object": 1, "array": 1, "javascriptWithScope": 2}.get(kind, 0) > LEVELS:
             raise ByteFault(TOO_DEEP, at, path)
@@ -180,10 +181,10 @@ class Read(NamedTuple):
         return self.documents[:first]
 
 
-def read_dump(data: bytes) -> Read:
+def read_dump(data: bytes, is_wide: bool = False) -> Read:
     """Goes on after a document with a fault, where its length tells its end."""
     documents: list[Value | ByteFault] = []
-    walk, at = Walk(data), 0
+    walk, at = Walk(data, is_wide), 0
     while at < len(data):
         try:
             end = walk.frame(at, len(data), (), SHORT_LENGTH)

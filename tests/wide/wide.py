@@ -2,7 +2,10 @@
 """Runs `bsonwide` beside the model of it: over worked examples, random and damaged documents, and each prefix of a small dump; and
 with each growth of memory, each read and each write failed in turn.
 
-usage: tests/wide/wide.py [PROGRAM] [DOCUMENTS]     The last line is 'N passed, M failed'.
+usage: tests/wide/wide.py [PROGRAM] [DOCUMENTS]     The last line is 'N passed, M failed'. It needs ./bsonfind too.
+
+What `bsonfind check` reports of a masked dump is what a reader that passes doubles and decimal128 reports of the dump. Only of a
+damaged document it may report one of them: a decimal128 that is cut short, and what is in code with scope of a wrong length, stay.
 """
 
 import random
@@ -15,7 +18,9 @@ from pathlib import Path
 
 sys.path.insert(0, str(Path(__file__).resolve().parents[1]))
 
+from model.dumps import read_dump
 from model.wide import decimal_text, double_text, mask, wrap
+from support import PROGRAM as BSONFIND
 from support import ROOT, Tests
 
 PROGRAM = Path(sys.argv[1]).resolve() if len(sys.argv) > 1 else ROOT / "bsonwide"
@@ -158,6 +163,14 @@ def fail_each(tests: Tests, command: str, data: bytes, whole: bytes) -> None:
             tests.want(f"{command}: {name}, some failed", failed > 0)
 
 
+def wrong_faults(data: bytes, masked: bytes) -> list[str]:
+    """The lines of `bsonfind check` over a masked dump that are not those of the dump, and those that are missing."""
+    checked = subprocess.run([BSONFIND, "check", "-"], input=masked, capture_output=True, check=False).stdout.decode()
+    shown, wanted = ({it.partition(",")[0]: it for it in lines} for lines in (checked.splitlines(True), read_dump(data, True).faults()))
+    stay = {it for it in shown if it in wanted and shown[it].endswith((": double\n", ": decimal128\n"))}
+    return [shown.get(it, f"missing: {wanted.get(it)}") for it in shown | wanted if it not in stay and shown.get(it) != wanted.get(it)]
+
+
 def main() -> int:
     tests = Tests()
     random.seed(57)
@@ -188,6 +201,8 @@ def main() -> int:
         made = ran("mask", data)
         tests.want(f"mask, {name}", made == (mask(data), b"", 0), made[1:])
         tests.want(f"mask, {name}: the length", len(made[0]) == len(data))
+        wrong = wrong_faults(data, made[0])
+        tests.want(f"mask and check, {name}", not wrong, wrong[:3])
         wanted, kept = wrap(data)
         message = f"{kept} documents too long or too deep to wrap\n".encode() if kept else b""
         made = ran("wrap", data)
