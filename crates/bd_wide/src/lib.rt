@@ -2,6 +2,16 @@
 //!
 //! What may be written of a document's bytes, whatever they are: `specs/Rewritten.antt`.
 //!
+//! An example, which `bd_wide_tests` proves and runs as `examples::masked`:
+//!
+//! ```
+//! let bytes = b"\x10\0\0\0\x01d\0\0\0\0\0\0\0\xf0\x3f\0";
+//! let mut out = Vec::new(alloc);
+//! write_rewritten(&Mask, bytes, &mut out)?;
+//! // The same eight bytes, as an int64.
+//! assert!(rt; out.as_slice() == b"\x10\0\0\0\x12d\0\0\0\0\0\0\0\xf0\x3f\0".as_slice());
+//! ```
+//!
 //! - `find`: `find_refused`, the first number that a `Refuser` refuses: `specs/Refused.antt`.
 //! - `walk`: `write_rewritten`, the one walker, and `NumberWriter`, what it asks for each number.
 //! - `wrap`: `Wrap`, in which doubles and decimal128 are documents that hold their texts: `specs/Wrap.antt`.

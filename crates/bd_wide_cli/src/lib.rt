@@ -2,6 +2,19 @@
 //!
 //! What a filter writes of a dump: `specs/Filtered.antt`. What a run tells, and its status: `specs/Output.antt`.
 //!
+//! An example, which `bd_wide_tests` proves and runs as `examples::filtered`:
+//!
+//! ```
+//! let mut input = MemoryInput::new(b"\x05\0\0\0\0", 100, None);
+//! let mut room = [0; 100];
+//! let mut out = MemoryOutput::new(&mut room, 100, None);
+//! let mut told = [0; 100];
+//! let mut err = MemoryOutput::new(&mut told, 100, None);
+//! let status = run(rt.alloc(), Filter::Mask, &mut input, &mut out, &mut err);
+//! assert!(rt; status == Status::Done);
+//! assert!(rt; out.bytes() == b"\x05\0\0\0\0".as_slice());
+//! ```
+//!
 //! - `filter`: `Filter`, and what it writes of a document.
 //! - `frame`: the next document of a device, or what begins with none.
 //! - `running`: `run`, a whole run over devices.

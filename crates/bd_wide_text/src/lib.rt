@@ -2,6 +2,14 @@
 //!
 //! Which texts these are: `specs/Double.antt` and `specs/Decimal128.antt`; how digits are laid out: `specs/Layout.antt`.
 //!
+//! An example, which `bd_wide_tests` proves and runs as `examples::double_text`:
+//!
+//! ```
+//! let mut text = Vec::new(alloc);
+//! write_double(0x3ff8_0000_0000_0000, &mut text)?;
+//! assert!(rt; text.as_slice() == b"1.5".as_slice());
+//! ```
+//!
 //! - `double`: `write_double`, by the digits that `ryu` finds (`specs/LaidOutAnew.antt`).
 //! - `decimal128`: `write_decimal128`.
 //! - `layout`: what both write.

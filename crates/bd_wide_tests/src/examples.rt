@@ -1,0 +1,51 @@
+//! The examples of use in the roots of `bd_wide_text`, `bd_wide`, `bd_wide_command_line` and `bd_wide_cli`.
+use bd_device::{MemoryInput, MemoryOutput};
+use bd_wide::{Mask, write_rewritten};
+use bd_wide_cli::{Filter, Status, run};
+use bd_wide_command_line::{Order, parse_words};
+use bd_wide_text::write_double;
+use std::test::Fail;
+
+#[test]
+fn double_text(rt: HostRuntime) -> Result<(), Fail> {
+    let alloc = rt.alloc();
+    let mut text = Vec::new(alloc);
+    write_double(0x3ff8_0000_0000_0000, &mut text)?;
+    assert!(rt; text.as_slice() == b"1.5".as_slice());
+    Ok(())
+}
+
+#[test]
+fn masked(rt: HostRuntime) -> Result<(), Fail> {
+    let alloc = rt.alloc();
+    let bytes = b"\x10\0\0\0\x01d\0\0\0\0\0\0\0\xf0\x3f\0";
+    let mut out = Vec::new(alloc);
+    write_rewritten(&Mask, bytes, &mut out)?;
+    // The same eight bytes, as an int64.
+    assert!(rt; out.as_slice() == b"\x10\0\0\0\x12d\0\0\0\0\0\0\0\xf0\x3f\0".as_slice());
+    Ok(())
+}
+
+#[test]
+fn command_line(rt: HostRuntime) -> Result<(), Fail> {
+    let alloc = rt.alloc();
+    let words = [
+        String::from_str(alloc, "wrap")?,
+        String::from_str(alloc, "-")?,
+    ];
+    let order = parse_words(alloc, &words);
+    assert!(rt; matches!(order, Ok(Order::Wrap { .. })));
+    Ok(())
+}
+
+#[test]
+fn filtered(rt: HostRuntime) {
+    let mut input = MemoryInput::new(b"\x05\0\0\0\0", 100, None);
+    let mut room = [0; 100];
+    let mut out = MemoryOutput::new(&mut room, 100, None);
+    let mut told = [0; 100];
+    let mut err = MemoryOutput::new(&mut told, 100, None);
+    let status = run(rt.alloc(), Filter::Mask, &mut input, &mut out, &mut err);
+    assert!(rt; status == Status::Done);
+    assert!(rt; out.bytes() == b"\x05\0\0\0\0".as_slice());
+}

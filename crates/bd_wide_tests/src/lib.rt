@@ -1,0 +1,5 @@
+//! The examples of `bsonwide`'s crates, over their public calls.
+#![tactic(auto)]
+
+#[cfg(test)]
+mod examples;
