@@ -186,14 +186,17 @@ def run_compare(words: argparse.Namespace) -> int:
     console = Console()
     try_program(words.program)
     pairs, problems = pairs_of(words.first, words.second)
-    is_of_directories, total = os.path.isdir(words.first), NOTHING
+    is_of_directories, total, compared = os.path.isdir(words.first), NOTHING, 0
     for pair in pairs:
         front = f"{pair.name}: " if is_of_directories else ""
         try:
             total += compare(pair, words.by, words.program, lambda text: console.line(f"{front}{text}"))
+            compared += 1
         except CompareError as error:
             problems.append(error)
-    _print_table(rows(total, (words.first, words.second), words.by), console)
+    # Zeros of dumps that were not compared would say that they are the same.
+    if compared or not problems:
+        _print_table(rows(total, (words.first, words.second), words.by), console)
     for problem in problems:
         console.problem(str(problem))
     return FAILED if problems else GOOD if total.is_same else FAULTY
