@@ -136,6 +136,7 @@ impl<D: Output + Drop> Gathering<D> {
 
     /// Reads after all that waits was handed on. After a loss it fails and asks the reader for nothing, since that could wait
     /// for bytes that serve no one.
+    #[tactic(auto, using(crate::proofs::GatheringLemmas::hands_none))]
     fn read_after<R: Read>(&mut self, reader: &mut R, room: &mut [u8]) -> io::Result<usize>
         ensures handed { HandsOn D.Output self.old self.new }
         ensures empty { self.new.waiting.items ≡ [] }
@@ -151,6 +152,7 @@ impl<D: Output + Drop> Gathering<D> {
 
     /// Writes to another writer after all that waits was handed on. It fails and writes nothing while a loss is untold, so that
     /// no count is shown of lines that did not arrive.
+    #[tactic(auto, using(crate::proofs::GatheringLemmas::hands_none))]
     fn write_after<E: Write>(&mut self, writer: &mut E, bytes: &[u8]) -> io::Result<usize>
         ensures handed { HandsOn D.Output self.old self.new }
         ensures empty { self.new.waiting.items ≡ [] }
