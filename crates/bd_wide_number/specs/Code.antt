@@ -1,0 +1,49 @@
+-- The whole number that a number becomes, if it becomes one.
+use Rattle.std.specs.Prelude.{ℕ, zero, suc, ◌+◌, ◌-◌, ◌*◌, ◌/◌, ◌%◌, ◌^◌, ◌==◌, nat_lt, nat_le, if◌then◌else◌}
+use Rattle.std.specs.Prelude.{Option, Some, None, option_map, Bool, ℤ, pos, neg_ℤ}
+use Rattle.bd_wide_number.specs.Value.{Value, nan, infinite, finite, one, least_double, infinite_bits, signed}
+
+-- ---- the number itself, or times a power of ten
+
+-- with the sign, where it is within 64 bits
+abbrev pub within_64 : Bool → ℕ → Option ℤ
+within_64 negative n = if nat_le n (if negative then 2 ^ 63 else 2 ^ 63 - 1) then Some (signed negative n) else None
+
+-- so many units as a whole number
+unfoldable pub whole_part : Bool → ℕ → Option ℤ
+whole_part negative size = if size % one == 0 then within_64 negative (size / one) else None
+
+-- the value times 10 ^ k
+unfoldable pub scaled_code : ℕ → Value → Option ℤ
+scaled_code k nan = None
+scaled_code k (infinite negative) = None
+scaled_code k (finite negative size) = whole_part negative (size * 10 ^ k)
+
+-- the value itself
+abbrev pub whole_code : Value → Option ℤ
+whole_code value = scaled_code 0 value
+
+-- ---- the bits of the double that is equal
+
+-- Of a number that is so many times the least double, without the sign. Up to 53 bits they are the number itself, and of a
+-- double twice as large they are 2 ^ 52 more. `exponents` is how many exponents there are.
+unfoldable pub bits_of : ℕ → ℕ → Option ℕ
+bits_of zero n = None
+bits_of (suc exponents) n = if nat_lt n (2 ^ 53) then Some n else (
+    if n % 2 == 0 then option_map (λ b. 2 ^ 52 + b) (bits_of exponents (n / 2)) else None)
+
+-- so many units as a double
+unfoldable pub double_part : Bool → ℕ → Option ℤ
+double_part negative size = if size % least_double == 0
+    then option_map (signed negative) (bits_of 2046 (size / least_double)) else None
+
+-- its bits as a whole number, those without the sign and less than 0 where the sign is set; what is no number is least
+unfoldable pub double_code : Value → Option ℤ
+double_code nan = Some (neg_ℤ (pos (2 ^ 63)))
+double_code (infinite negative) = Some (signed negative infinite_bits)
+double_code (finite negative size) = double_part negative size
+
+-- ---- at a path: by a power of ten, or by the double that is equal
+unfoldable pub number_code : Option ℕ → Value → Option ℤ
+number_code None value = double_code value
+number_code (Some k) value = scaled_code k value

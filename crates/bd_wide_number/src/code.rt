@@ -1,0 +1,169 @@
+//! The whole number that a number becomes.
+
+ghost use Rattle.std.specs.Prelude.{◌≡◌, ◌≢◌, ◌<◌, ◌≤◌, ℕ, ◌+◌, ◌-◌, ◌*◌, ◌/◌, ◌%◌, ◌^◌, Some, option_map, ℤ};
+ghost use Rattle.bd_wide_number.specs.Code.{double_code as double_code_of, double_part as double_part_of, number_code, scaled_code as scaled_code_of, whole_code, whole_part as whole_part_of, within_64 as within_64_of};
+ghost use Rattle.bd_wide_number.specs.Value.{double_value, infinite_bits, least_double, magnitude, one, signed as signed_of, value_of};
+ghost use Rattle.bd_wide_number.specs.Odd.{fives};
+
+use crate::decimal128::{biased_exponent, coefficient, five_bits};
+use crate::number::Number;
+use crate::odd::odd_part;
+
+/// The code of a number at a path, where it has one: by a power of ten, the number times 10 ^ power; else the bits of the
+/// double that is equal, which of a negative one are those without the sign, and less than 0.
+pub fn code_of(number: Number, power: Option<u32>) -> Option<i64>
+    ensures { result ≡ number_code power (value_of number) }
+{
+    match power {
+        None => double_code(number),
+        Some(k) => scaled_code(number, k),
+    }
+}
+
+/// A number that is a whole one of 64 bits, as this.
+pub fn whole_of(number: Number) -> Option<i64>
+    ensures { result ≡ whole_code (value_of number) }
+{
+    scaled_code(number, 0)
+}
+
+/// The bits of an infinite double.
+const INFINITE: u64 = 0x7FF0_0000_0000_0000;
+
+/// The bits of -0.0, of which the sign alone is set.
+const SIGN: u64 = 0x8000_0000_0000_0000;
+
+/// By the double that is equal.
+fn double_code(number: Number) -> Option<i64>
+    ensures { result ≡ double_code_of (value_of number) }
+{
+    match number {
+        Number::Whole(z) => double_part(z < 0, z.unsigned_abs() as u128, 6176),
+        Number::Double(bits) => Some(code_of_double(bits)),
+        Number::Decimal128(low, high) => match five_bits(high) {
+            31 => Some(i64::MIN),
+            30 => Some(signed(high >= SIGN, INFINITE)),
+            _ => double_part(high >= SIGN, coefficient(low, high), biased_exponent(high)),
+        },
+    }
+}
+
+/// Of a double, by its bits.
+fn code_of_double(bits: u64) -> i64
+    ensures { double_code_of (double_value bits) ≡ Some result }
+{
+    let size = bits % SIGN;
+    if size > INFINITE {
+        i64::MIN
+    } else {
+        signed(bits >= SIGN, size)
+    }
+}
+
+/// With its sign.
+fn signed(negative: bool, n: u64) -> i64
+    requires { n < 2 ^ 63 }
+    ensures { result ≡ signed_of negative n }
+{
+    if negative { -(n as i64) } else { n as i64 }
+}
+
+/// Of a number times 10 ^ exponent units.
+fn double_part(negative: bool, number: u128, exponent: u64) -> Option<i64>
+    requires number { number < 2 ^ 113 }
+    requires exponent { exponent < 2 ^ 14 }
+    ensures { result ≡ double_part_of negative (number * 10 ^ exponent) }
+{
+    if number == 0 {
+        return Some(0);
+    }
+    let odd = odd_part(number, exponent, exponent)?;
+    if odd.odd >= 0x0020_0000_0000_0000 {
+        return None;
+    }
+    Some(signed(negative, double_bits(odd.odd, odd.twos)))
+}
+
+/// The bits of the double that is an odd number times 2 ^ twos, in units of 2 ^ -6176.
+fn double_bits(odd: u64, twos: u64) -> u64
+    requires odd { (0 < odd) × (odd < 2 ^ 53) }
+    requires twos { (6128 ≤ twos) × (twos < 6400) }
+    ensures below { result < infinite_bits }
+    ensures is { (d : ℕ) → 5102 + d ≡ twos → magnitude result ≡ odd * 2 ^ d }
+{
+    let shift = odd.leading_zeros() - 11;
+    let exponent = twos - 5102 - shift as u64;
+    exponent * 0x0010_0000_0000_0000 + (odd << shift)
+}
+
+/// By a power of ten.
+fn scaled_code(number: Number, power: u32) -> Option<i64>
+    ensures { result ≡ scaled_code_of power (value_of number) }
+{
+    let k = power as u64;
+    match number {
+        Number::Whole(z) => whole_part(z < 0, z.unsigned_abs() as u128, 6176 + k, 6176 + k),
+        Number::Double(bits) => scaled_double(bits, k),
+        Number::Decimal128(low, high) => {
+            if five_bits(high) >= 30 {
+                return None;
+            }
+            let exponent = biased_exponent(high) + k;
+            whole_part(high >= SIGN, coefficient(low, high), exponent, exponent)
+        }
+    }
+}
+
+/// Of a double, by its bits.
+fn scaled_double(bits: u64, power: u64) -> Option<i64>
+    requires { power < 2 ^ 32 }
+    ensures { result ≡ scaled_code_of power (double_value bits) }
+{
+    let size = bits % SIGN;
+    if size >= INFINITE {
+        return None;
+    }
+    let exponent = size / 0x0010_0000_0000_0000;
+    let fraction = size % 0x0010_0000_0000_0000;
+    let negative = bits >= SIGN;
+    if exponent == 0 {
+        return whole_part(negative, fraction as u128, 5102 + power, 6176 + power);
+    }
+    let number = 0x0010_0000_0000_0000 + fraction;
+    whole_part(
+        negative,
+        number as u128,
+        5101 + exponent + power,
+        6176 + power,
+    )
+}
+
+/// Of a number times 2 ^ twos and 5 ^ fives units.
+fn whole_part(negative: bool, number: u128, twos: u64, fives: u64) -> Option<i64>
+    requires number { number < 2 ^ 113 }
+    requires twos { twos < 2 ^ 60 }
+    ensures { result ≡ whole_part_of negative (number * 2 ^ twos * 5 ^ fives) }
+{
+    if number == 0 {
+        return Some(0);
+    }
+    let odd = odd_part(number, twos, fives)?;
+    if odd.twos < 6176 || odd.twos > 6239 {
+        return None;
+    }
+    let shift = (odd.twos - 6176) as u32;
+    within_64(negative, (odd.odd as u128) << shift)
+}
+
+/// With its sign, where it is within 64 bits.
+fn within_64(negative: bool, n: u128) -> Option<i64>
+    ensures { result ≡ within_64_of negative n }
+{
+    if n > 0x8000_0000_0000_0000 || n == 0x8000_0000_0000_0000 && !negative {
+        return None;
+    }
+    if n == 0x8000_0000_0000_0000 {
+        return Some(i64::MIN);
+    }
+    Some(signed(negative, n as u64))
+}

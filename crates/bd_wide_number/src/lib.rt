@@ -1,0 +1,27 @@
+//! The numbers of BSON, what they are worth, and the whole numbers that `bsonwide order` writes for them.
+//!
+//! What each is worth, and the order of that: `specs/Value.antt`; which whole number it becomes: `specs/Code.antt`.
+//!
+//! An example, which `bd_wide_tests` proves and runs as `examples::code`:
+//!
+//! ```
+//! let half = Number::Double(0x3fe0_0000_0000_0000);
+//! assert!(rt; code_of(half, None) == Some(0x3fe0_0000_0000_0000));
+//! assert!(rt; code_of(half, Some(1)) == Some(5));
+//! assert!(rt; whole_of(half) == None);
+//! ```
+//!
+//! - `number`: what a number of BSON is.
+//! - `decimal128`: the parts of a decimal128.
+//! - `odd`: numbers as an odd number times a power of two (`specs/Odd.antt`).
+//! - `code`: `code_of` for numbers at a path, `whole_of` for all others.
+#![tactic(auto)]
+
+mod code;
+mod decimal128;
+mod number;
+mod odd;
+
+pub use code::{code_of, whole_of};
+pub use decimal128::{biased_exponent, coefficient, five_bits};
+pub use number::Number;

@@ -1,0 +1,12 @@
+//! The numbers of BSON.
+
+/// A number, as its bytes have it.
+#[derive(Clone, Copy, Debug, PartialEq, Eq)]
+pub enum Number {
+    /// An int32 or an int64.
+    Whole(i64),
+    /// The bits of a double.
+    Double(u64),
+    /// The lower half and the upper half of the bits of a decimal128.
+    Decimal128(u64, u64),
+}
