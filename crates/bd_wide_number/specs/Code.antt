@@ -1,7 +1,7 @@
 -- The whole number that a number becomes, if it becomes one.
 use Rattle.std.specs.Prelude.{ℕ, zero, suc, ◌+◌, ◌-◌, ◌*◌, ◌/◌, ◌%◌, ◌^◌, ◌==◌, nat_lt, nat_le, if◌then◌else◌}
-use Rattle.std.specs.Prelude.{Option, Some, None, option_map, Bool, ℤ, pos, neg_ℤ}
-use Rattle.bd_wide_number.specs.Value.{Value, nan, infinite, finite, one, least_double, infinite_bits, signed}
+use Rattle.std.specs.Prelude.{Option, Some, None, option_map, Bool, ℤ, pos, negsuc, neg_ℤ}
+use Rattle.bd_wide_number.specs.Value.{Value, nan, infinite, finite, one, least_double, magnitude, infinite_bits, signed}
 
 -- ---- the number itself, or times a power of ten
 
@@ -47,3 +47,8 @@ double_code (finite negative size) = double_part negative size
 unfoldable pub number_code : Option ℕ → Value → Option ℤ
 number_code None value = double_code value
 number_code (Some k) value = scaled_code k value
+
+-- the number that the bits of a double as a whole number stand for, as so many times the least double
+abbrev pub code_value : ℤ → ℤ
+code_value (pos bits) = pos (magnitude bits)
+code_value (negsuc bits) = neg_ℤ (pos (magnitude (suc bits)))

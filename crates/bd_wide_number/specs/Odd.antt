@@ -1,17 +1,17 @@
 -- Numbers as an odd number times a power of two: a means of proof.
-use Rattle.std.specs.Prelude.{◌≡◌, ◌≢◌, ◌<◌, ◌≤◌, ℕ, ◌+◌, ◌*◌, ◌%◌, ◌^◌, Option, Some, None}
+use Rattle.std.specs.Prelude.{◌≡◌, ◌≢◌, ◌<◌, ◌≤◌, ℕ, ◌+◌, ◌*◌, ◌%◌, ◌^◌}
 use Rattle.bd_wide_number.specs.declared.odd.Odd.{Odd}
 
 -- 5 ^ 6176
 unfoldable pub fives : ℕ
 fives = 5 ^ 6176
 
--- an odd number times 2 ^ twos is such a number, and a power of two of at least so much
-pub record IsOddOf (number least : ℕ) (o : Odd) : Type 0 where
+-- such a number is an odd number times a power of two, which is `start` or somewhat above
+pub record IsOddOf (number start : ℕ) (o : Odd) : Type 0 where
   pub odd : o.odd % 2 ≡ 1
   pub is : o.odd * 2 ^ o.twos ≡ number
-  pub least : least ≤ o.twos
-  pub most : o.twos < least + 128
+  pub from : start ≤ o.twos
+  pub near : o.twos < start + 128
 
 -- no number of 64 bits times a power of two is it
 abbrev pub IsWide : ℕ → Type 0

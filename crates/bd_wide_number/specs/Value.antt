@@ -1,6 +1,6 @@
 -- What numbers are worth, and the order of what they are worth.
 use Rattle.std.specs.Prelude.{◌≡◌, ◌<◌, ℕ, zero, suc, ◌+◌, ◌*◌, ◌/◌, ◌%◌, ◌^◌, ◌==◌, nat_lt, nat_le, if◌then◌else◌}
-use Rattle.std.specs.Prelude.{Bool, true, false, ℤ, pos, negsuc, neg_ℤ, ◌<ℤ◌, unsigned_abs, int_lt}
+use Rattle.std.specs.Prelude.{Bool, ℤ, pos, neg_ℤ, ◌<ℤ◌, unsigned_abs, int_lt}
 use Rattle.bd_wide_number.specs.declared.number.Number.{Number}
 use Rattle.bd_wide_number.specs.declared.number.Number.TheVariants as numbers
 use Rattle.bd_wide_number.specs.Decimal128.{five_bits, coefficient_of, biased_exponent}

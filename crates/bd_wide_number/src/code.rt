@@ -2,7 +2,7 @@
 
 ghost use Rattle.std.specs.Prelude.{◌≡◌, ◌≢◌, ◌<◌, ◌≤◌, ℕ, ◌+◌, ◌-◌, ◌*◌, ◌/◌, ◌%◌, ◌^◌, Some, option_map, ℤ};
 ghost use Rattle.bd_wide_number.specs.Code.{double_code as double_code_of, double_part as double_part_of, number_code, scaled_code as scaled_code_of, whole_code, whole_part as whole_part_of, within_64 as within_64_of};
-ghost use Rattle.bd_wide_number.specs.Value.{double_value, infinite_bits, least_double, magnitude, one, signed as signed_of, value_of};
+ghost use Rattle.bd_wide_number.specs.Value.{decimal128_value, double_value, infinite_bits, least_double, magnitude, one, signed as signed_of, value_of};
 ghost use Rattle.bd_wide_number.specs.Odd.{fives};
 
 use crate::decimal128::{biased_exponent, coefficient, five_bits};
@@ -40,12 +40,23 @@ fn double_code(number: Number) -> Option<i64>
     match number {
         Number::Whole(z) => double_part(z < 0, z.unsigned_abs() as u128, 6176),
         Number::Double(bits) => Some(code_of_double(bits)),
-        Number::Decimal128(low, high) => match five_bits(high) {
-            31 => Some(i64::MIN),
-            30 => Some(signed(high >= SIGN, INFINITE)),
-            _ => double_part(high >= SIGN, coefficient(low, high), biased_exponent(high)),
-        },
+        Number::Decimal128(low, high) => decimal128_code(low, high),
     }
+}
+
+/// Of a decimal128, by the halves of its bits.
+fn decimal128_code(low: u64, high: u64) -> Option<i64>
+    ensures { result ≡ double_code_of (decimal128_value low high) }
+{
+    let five = five_bits(high);
+    let negative = high >= SIGN;
+    if five == 31 {
+        return Some(i64::MIN);
+    }
+    if five == 30 {
+        return Some(signed(negative, INFINITE));
+    }
+    double_part(negative, coefficient(low, high), biased_exponent(high))
 }
 
 /// Of a double, by its bits.

@@ -15,13 +15,18 @@
 //! - `decimal128`: the parts of a decimal128.
 //! - `odd`: numbers as an odd number times a power of two (`specs/Odd.antt`).
 //! - `code`: `code_of` for numbers at a path, `whole_of` for all others.
+//! - `laws`: codes are in the order of the numbers.
 #![tactic(auto)]
 
 mod code;
 mod decimal128;
+mod laws;
 mod number;
 mod odd;
 
 pub use code::{code_of, whole_of};
 pub use decimal128::{biased_exponent, coefficient, five_bits};
+pub use laws::{
+    code_is_of_the_equal_double, codes_rise, codes_stand_for_numbers, equal_numbers_have_one_code,
+};
 pub use number::Number;

@@ -1,0 +1,483 @@
+-- The codes of numbers by what they are worth.
+use Rattle.std.proofs.Common.{◌≡◌, ◌≢◌, ◌⊎◌, ℕ, zero, suc, ◌+◌, ◌-◌, ◌*◌, ◌/◌, ◌%◌, ◌^◌, ◌<◌, ◌≤◌, Bool, true, false, ℤ, pos, neg_ℤ, Option, None, Some, refl, sym, ap, ◌∙◌, arith, inl, inr, ⊎_elim, pow-suc, pow-add, pow_pos, mul-one, zero-mul, mul-pos, mul-div_cancel, le-mul_of_pos_right, option_map, w64, SFits, to_z, of_z, mod-eq_of_lt}
+use Rattle.std.specs.Prelude.{unsigned_abs}
+use Rattle.std.proofs.Math.Nat.{one-le-pow, pow-le-pow_right, eq_of_mul-eq-mul_right, mul-mod_left, mul-le-mul_right, mul-lt-mul_of_pos_right, mul_comm}
+use Rattle.std.proofs.lemmas.Nat.{mul-pow, div-add-mod', leading_top}
+use Rattle.std.proofs.lemmas.Int.{to_z-of_z, fits_signed_from_abs}
+use Rattle.std.proofs.lemmas.Bool.{cases_lt, cases_eq}
+use borrow.Author.Tests.{lt-ltb, le-ltb, le-leb, lt-leb, eq-eqb, ne_eqb}
+use lib.Count.{count_leading_zeros}
+use Rattle.bd_wide_number.specs.Value.{nan, infinite, finite, one, least_double, magnitude, spelled, infinite_bits, has_sign, signed, double_value, decimal128_value}
+use Rattle.bd_wide_number.specs.Decimal128.{five_bits, coefficient_of, biased_exponent}
+use Rattle.bd_wide_number.specs.Code.{bits_of, double_code, double_part, scaled_code, whole_part, within_64}
+use Rattle.bd_wide_number.specs.declared.odd.Odd.{Odd}
+use Rattle.bd_wide_number.specs.Odd.{fives, IsOddOf, IsWide}
+use Rattle.bd_wide_number.proofs.OddLemmas.{products, fives_pos, odd_form, odd_least}
+
+-- ---- magnitudes
+
+-- a number by its quotient and its remainder
+by_parts : (e f : ℕ) → f < 2 ^ 52 → magnitude (e * 2 ^ 52 + f) ≡ spelled e f
+unfolding magnitude
+by_parts e f few =
+    let q : (e * 2 ^ 52 + f) / 2 ^ 52 ≡ e = omega arith in
+    let r : (e * 2 ^ 52 + f) % 2 ^ 52 ≡ f = omega arith in
+    rw (q, r) refl
+
+parts_of : (b : ℕ) → (b / 2 ^ 52) * 2 ^ 52 + b % 2 ^ 52 ≡ b
+parts_of b = omega arith
+
+-- up to 53 bits
+pub small_magnitude : (b : ℕ) → b < 2 ^ 53 → magnitude b ≡ b
+small_magnitude b few = ⊎_elim
+    (λ (l : b < 2 ^ 52). let e : 0 * 2 ^ 52 + b ≡ b = omega arith in sym (ap magnitude e) ∙ by_parts 0 b l)
+    (λ (l : 2 ^ 52 ≤ b).
+    let e : 1 * 2 ^ 52 + (b - 2 ^ 52) ≡ b = omega arith in
+    sym (ap magnitude e) ∙ by_parts 1 (b - 2 ^ 52) (omega arith) ∙ (let f : (2 ^ 52 + (b - 2 ^ 52)) * 2 ^ 0 ≡ b = omega arith in f))
+    (cases_lt b (2 ^ 52))
+
+-- the next exponent
+doubled_parts : (e f : ℕ) → f < 2 ^ 52 → magnitude (suc (suc e) * 2 ^ 52 + f) ≡ 2 * magnitude (suc e * 2 ^ 52 + f)
+doubled_parts e f few =
+    let turned : (2 ^ 52 + f) * 2 ^ suc e ≡ 2 * ((2 ^ 52 + f) * 2 ^ e) = simp (pow-suc, products) in
+    by_parts (suc (suc e)) f few ∙ turned ∙ ap (λ (z : ℕ). 2 * z) (sym (by_parts (suc e) f few))
+
+pub doubled_magnitude : (b : ℕ) → 2 ^ 52 ≤ b → magnitude (2 ^ 52 + b) ≡ 2 * magnitude b
+doubled_magnitude b high =
+    let e = b / 2 ^ 52 - 1 in
+    let one_more : suc e * 2 ^ 52 + b % 2 ^ 52 ≡ b = omega arith in
+    let two_more : suc (suc e) * 2 ^ 52 + b % 2 ^ 52 ≡ 2 ^ 52 + b = omega arith in
+    sym (ap magnitude two_more) ∙ doubled_parts e (b % 2 ^ 52) (omega arith) ∙ ap (λ (z : ℕ). 2 * magnitude z) one_more
+
+-- 53 bits times a power of two
+pub scaled_magnitude : (e q : ℕ) → 2 ^ 52 ≤ q → q < 2 ^ 53 → magnitude (e * 2 ^ 52 + q) ≡ q * 2 ^ e
+scaled_magnitude zero q low high =
+    let e : zero * 2 ^ 52 + q ≡ q = omega arith in ap magnitude e ∙ small_magnitude q high ∙ sym (mul-one q)
+scaled_magnitude (suc e) q low high =
+    let b : suc e * 2 ^ 52 + q ≡ 2 ^ 52 + (e * 2 ^ 52 + q) = omega arith in
+    let turned : 2 * (q * 2 ^ e) ≡ q * 2 ^ suc e = simp (pow-suc, products) in
+    ap magnitude b ∙ doubled_magnitude (e * 2 ^ 52 + q) (omega arith) ∙ ap (λ (z : ℕ). 2 * z) (scaled_magnitude e q low high) ∙ turned
+
+-- each is a number of 53 bits times a power of two
+spelled_form : (e f : ℕ) → f < 2 ^ 52 → (m : ℕ) × (j : ℕ) × (m < 2 ^ 53) × (m * 2 ^ j ≡ spelled e f)
+spelled_form zero f few = (f, 0, omega arith, mul-one f)
+spelled_form (suc e) f few = (2 ^ 52 + f, e, omega arith, refl)
+
+pub magnitude_form : (b : ℕ) → (m : ℕ) × (j : ℕ) × (m < 2 ^ 53) × (m * 2 ^ j ≡ magnitude b)
+magnitude_form b =
+    let s = spelled_form (b / 2 ^ 52) (b % 2 ^ 52) (omega arith) in
+    (s.0, s.1, s.2, s.3 ∙ sym (by_parts (b / 2 ^ 52) (b % 2 ^ 52) (omega arith)) ∙ ap magnitude (parts_of b))
+
+-- from 2 ^ 52 on it is no less
+spelled_least : (e f : ℕ) → 2 ^ 52 ≤ spelled (suc e) f
+spelled_least e f = omega (arith, le-mul_of_pos_right (2 ^ 52 + f) (pow_pos e))
+
+magnitude_least : (b : ℕ) → 2 ^ 52 ≤ b → 2 ^ 52 ≤ magnitude b
+magnitude_least b high =
+    let e = b / 2 ^ 52 - 1 in
+    let same : suc e * 2 ^ 52 + b % 2 ^ 52 ≡ b = omega arith in
+    let is : magnitude b ≡ spelled (suc e) (b % 2 ^ 52) = sym (ap magnitude same) ∙ by_parts (suc e) (b % 2 ^ 52) (omega arith) in
+    omega (arith, spelled_least e (b % 2 ^ 52))
+
+-- ---- options
+
+mapped : {B : Type 0} (f : ℕ → B) (o : Option ℕ) (c : B) → option_map f o ≡ Some c → (x : ℕ) × (o ≡ Some x) × (c ≡ f x)
+mapped f None c h = absurd (let no : ⊥ = cc in no)
+mapped f (Some x) c h = (x, refl, cc)
+
+none_from : {B : Type 0} (o : Option B) → ((c : B) → o ≡ Some c → ⊥) → o ≡ None
+none_from None h = refl
+none_from (Some c) h = absurd (h c refl)
+
+-- ---- the bits of a magnitude
+
+bits_low : (n u : ℕ) → u < 2 ^ 53 → bits_of (suc n) u ≡ Some u
+unfolding bits_of
+bits_low n u few = rw (lt-ltb u (2 ^ 53) few) refl
+
+bits_even : (n u : ℕ) → 2 ^ 53 ≤ u → u % 2 ≡ 0 → bits_of (suc n) u ≡ option_map (λ b. 2 ^ 52 + b) (bits_of n (u / 2))
+unfolding bits_of
+bits_even n u high even = rw (le-ltb u (2 ^ 53) high, eq-eqb (u % 2) 0 even) refl
+
+bits_odd : (n u : ℕ) → 2 ^ 53 ≤ u → (u % 2 ≡ 0 → ⊥) → bits_of (suc n) u ≡ None
+unfolding bits_of
+bits_odd n u high odd = rw (le-ltb u (2 ^ 53) high, ne_eqb (u % 2) 0 odd) refl
+
+halves_sound : (n u b x : ℕ) → 2 ^ 53 ≤ u → u % 2 ≡ 0 → b ≡ 2 ^ 52 + x → magnitude x ≡ u / 2 → x < suc n * 2 ^ 52
+    → (magnitude b ≡ u) × (b < suc (suc n) * 2 ^ 52)
+halves_sound n u b x high even is half few =
+    let from : 2 ^ 52 ≤ x = ⊎_elim (λ (l : x < 2 ^ 52). absurd (omega (arith, small_magnitude x (omega arith)))) (λ (l : 2 ^ 52 ≤ x). l) (cases_lt x (2 ^ 52)) in
+    (ap magnitude is ∙ doubled_magnitude x from ∙ omega arith, omega arith)
+
+module _ (n u b : ℕ) (below : (x : ℕ) → bits_of n (u / 2) ≡ Some x → (magnitude x ≡ u / 2) × (x < suc n * 2 ^ 52)) (h : bits_of (suc n) u ≡ Some b) where
+  sound_above : 2 ^ 53 ≤ u → (u % 2 ≡ 0) ⊎ (u % 2 ≡ 0 → ⊥) → (magnitude b ≡ u) × (b < suc (suc n) * 2 ^ 52)
+  sound_above high (inl even) =
+      let r = mapped (λ (x : ℕ). 2 ^ 52 + x) (bits_of n (u / 2)) b (sym (bits_even n u high even) ∙ h) in
+      let s = below r.0 r.1 in
+      halves_sound n u b r.0 high even r.2 s.0 s.1
+  sound_above high (inr odd) = absurd (let no : ⊥ = cc (bits_odd n u high odd) in no)
+
+  sound_step : (u < 2 ^ 53) ⊎ (2 ^ 53 ≤ u) → (magnitude b ≡ u) × (b < suc (suc n) * 2 ^ 52)
+  sound_step (inl few) =
+      let is : u ≡ b = cc (bits_low n u few) in
+      (ap magnitude (sym is) ∙ small_magnitude u few, omega arith)
+  sound_step (inr high) = sound_above high (cases_eq (u % 2) 0)
+
+bits_sound : (n u b : ℕ) → bits_of n u ≡ Some b → (magnitude b ≡ u) × (b < suc n * 2 ^ 52)
+unfolding bits_of
+bits_sound zero u b h = absurd (let no : ⊥ = cc in no)
+bits_sound (suc n) u b h = sound_step n u b (λ x e. bits_sound n (u / 2) x e) h (cases_lt u (2 ^ 53))
+
+complete_low : (n b : ℕ) → b < 2 ^ 53 → bits_of (suc n) (magnitude b) ≡ Some b
+complete_low n b low = ap (bits_of (suc n)) (small_magnitude b low) ∙ bits_low n b low
+
+complete_high : (n b : ℕ) → 2 ^ 53 ≤ b → bits_of (suc n) (magnitude (b - 2 ^ 52)) ≡ Some (b - 2 ^ 52) → bits_of (suc (suc n)) (magnitude b) ≡ Some b
+complete_high n b high below =
+    let x = b - 2 ^ 52 in
+    let back : 2 ^ 52 + x ≡ b = omega arith in
+    let twice : magnitude b ≡ 2 * magnitude x = sym (ap magnitude back) ∙ doubled_magnitude x (omega arith) in
+    let least : 2 ^ 52 ≤ magnitude x = magnitude_least x (omega arith) in
+    let half : magnitude b / 2 ≡ magnitude x = omega arith in
+    bits_even (suc n) (magnitude b) (omega arith) (omega arith)
+    ∙ ap (λ (z : ℕ). option_map (λ y. 2 ^ 52 + y) (bits_of (suc n) z)) half
+    ∙ ap (option_map (λ (y : ℕ). 2 ^ 52 + y)) below ∙ ap Some back
+
+bits_complete : (n b : ℕ) → b < suc (suc n) * 2 ^ 52 → bits_of (suc n) (magnitude b) ≡ Some b
+bits_complete zero b few = complete_low zero b (omega arith)
+bits_complete (suc n) b few = ⊎_elim
+    (λ (low : b < 2 ^ 53). complete_low (suc n) b low)
+    (λ (high : 2 ^ 53 ≤ b). complete_high n b high (bits_complete n (b - 2 ^ 52) (omega arith)))
+    (cases_lt b (2 ^ 53))
+
+-- ---- multiples of a unit
+
+module _ (x unit size : ℕ) (some : 0 < unit) (is : x * unit ≡ size) where
+  no_rest : size % unit ≡ 0
+  no_rest = sym (ap (λ (z : ℕ). z % unit) is) ∙ mul-mod_left x unit
+
+  quotient : size / unit ≡ x
+  quotient = sym (ap (λ (z : ℕ). z / unit) is) ∙ mul-div_cancel x some
+
+multiple : (size unit : ℕ) → size % unit ≡ 0 → (size / unit) * unit ≡ size
+multiple size unit h = let split = div-add-mod' size unit in omega arith
+
+pub least_pos : 0 < least_double
+unfolding least_double
+least_pos = mul-pos (pow_pos 5102) (one-le-pow 6176 5 (omega arith))
+
+pub one_pos : 0 < one
+unfolding one
+one_pos = one-le-pow 6176 10 (omega arith)
+
+-- ---- so many units as a double
+
+pub double_is : (negative : Bool) (size b : ℕ) → b < infinite_bits → magnitude b * least_double ≡ size → double_part negative size ≡ Some (signed negative b)
+unfolding double_part
+double_is negative size b few is =
+    let whole = eq-eqb (size % least_double) 0 (no_rest (magnitude b) least_double size least_pos is) in
+    let bits : bits_of 2046 (size / least_double) ≡ Some b =
+    ap (bits_of 2046) (quotient (magnitude b) least_double size least_pos is) ∙ bits_complete 2045 b few in
+    rw (whole, bits) refl
+
+pub double_gives : (negative : Bool) (size : ℕ) (c : ℤ) → double_part negative size ≡ Some c
+    → (b : ℕ) × (b < infinite_bits) × (magnitude b * least_double ≡ size) × (c ≡ signed negative b)
+unfolding double_part
+double_gives negative size c h = by_rest (cases_eq (size % least_double) 0) where
+  by_rest : (size % least_double ≡ 0) ⊎ (size % least_double ≡ 0 → ⊥)
+      → (b : ℕ) × (b < infinite_bits) × (magnitude b * least_double ≡ size) × (c ≡ signed negative b)
+  by_rest (inl none) =
+      let found : option_map (signed negative) (bits_of 2046 (size / least_double)) ≡ Some c = rw (eq-eqb (size % least_double) 0 none) at h in
+      let r = mapped (signed negative) (bits_of 2046 (size / least_double)) c found in
+      let s = bits_sound 2046 (size / least_double) r.0 r.1 in
+      (r.0, s.1, ap (λ (z : ℕ). z * least_double) s.0 ∙ multiple size least_double none, r.2)
+  by_rest (inr some) = absurd (let f : None ≡ Some c = rw (ne_eqb (size % least_double) 0 some) at h in let no : ⊥ = cc in no)
+
+pub double_none : (negative : Bool) (size : ℕ) → ((b : ℕ) → b < infinite_bits → magnitude b * least_double ≡ size → ⊥) → double_part negative size ≡ None
+double_none negative size h = none_from (double_part negative size)
+    (λ (c : ℤ) (e : double_part negative size ≡ Some c). let r = double_gives negative size c e in h r.0 r.1 r.2)
+
+-- ---- so many units as a whole number
+
+within_gives : (negative : Bool) (n : ℕ) (c : ℤ) → within_64 negative n ≡ Some c → (n ≤ 2 ^ 63) × (c ≡ signed negative n)
+within_gives true n c h = ⊎_elim
+    (λ (l : 2 ^ 63 < n). absurd (let f : None ≡ Some c = rw (lt-leb n (2 ^ 63) l) at h in let no : ⊥ = cc in no))
+    (λ (l : n ≤ 2 ^ 63). let f : Some (signed true n) ≡ Some c = rw (le-leb n (2 ^ 63) l) at h in (l, cc))
+    (cases_lt (2 ^ 63) n)
+within_gives false n c h = ⊎_elim
+    (λ (l : 2 ^ 63 - 1 < n). absurd (let f : None ≡ Some c = rw (lt-leb n (2 ^ 63 - 1) l) at h in let no : ⊥ = cc in no))
+    (λ (l : n ≤ 2 ^ 63 - 1). let f : Some (signed false n) ≡ Some c = rw (le-leb n (2 ^ 63 - 1) l) at h in (omega arith, cc))
+    (cases_lt (2 ^ 63 - 1) n)
+
+pub whole_is : (negative : Bool) (size w : ℕ) → w * one ≡ size → whole_part negative size ≡ within_64 negative w
+unfolding whole_part
+whole_is negative size w is =
+    rw (eq-eqb (size % one) 0 (no_rest w one size one_pos is), quotient w one size one_pos is) refl
+
+pub whole_gives : (negative : Bool) (size : ℕ) (c : ℤ) → whole_part negative size ≡ Some c
+    → (w : ℕ) × (w * one ≡ size) × (w ≤ 2 ^ 63) × (c ≡ signed negative w)
+unfolding whole_part
+whole_gives negative size c h = by_rest (cases_eq (size % one) 0) where
+  by_rest : (size % one ≡ 0) ⊎ (size % one ≡ 0 → ⊥) → (w : ℕ) × (w * one ≡ size) × (w ≤ 2 ^ 63) × (c ≡ signed negative w)
+  by_rest (inl none) =
+      let found : within_64 negative (size / one) ≡ Some c = rw (eq-eqb (size % one) 0 none) at h in
+      let r = within_gives negative (size / one) c found in
+      (size / one, multiple size one none, r.0, r.1)
+  by_rest (inr some) = absurd (let f : None ≡ Some c = rw (ne_eqb (size % one) 0 some) at h in let no : ⊥ = cc in no)
+
+pub whole_none : (negative : Bool) (size : ℕ) → ((w : ℕ) → w ≤ 2 ^ 63 → w * one ≡ size → ⊥) → whole_part negative size ≡ None
+whole_none negative size h = none_from (whole_part negative size)
+    (λ (c : ℤ) (e : whole_part negative size ≡ Some c). let r = whole_gives negative size c e in h r.0 r.2 r.1)
+
+-- ---- the units
+
+pub least_is : least_double ≡ 2 ^ 5102 * fives
+unfolding least_double fives
+least_is = refl
+
+pub one_is : one ≡ 2 ^ 6176 * fives
+unfolding one fives
+one_is = refl
+
+fives_is : fives ≡ 5 ^ 6176
+unfolding fives
+fives_is = refl
+
+tens : (x n : ℕ) → x * 10 ^ n ≡ x * 2 ^ n * 5 ^ n
+tens x n = let e : 10 ^ n ≡ 2 ^ n * 5 ^ n = mul-pow 2 5 n in ap (λ (z : ℕ). x * z) e ∙ (let f : x * (2 ^ n * 5 ^ n) ≡ x * 2 ^ n * 5 ^ n = simp products in f)
+
+more_tens : (a t k : ℕ) → a * 10 ^ t * 10 ^ k ≡ a * 2 ^ (t + k) * 5 ^ (t + k)
+more_tens a t k = let e : a * 10 ^ t * 10 ^ k ≡ a * 10 ^ (t + k) = simp (pow-add, products) in e ∙ tens a (t + k)
+
+module _ (s : ℕ) (unit : least_double ≡ 2 ^ s * fives) where
+  as_form : (b size : ℕ) → magnitude b * least_double ≡ size → (m : ℕ) × (j : ℕ) × (m < 2 ^ 53) × ((m * 2 ^ j) * fives ≡ size)
+  as_form b size is =
+      let f = magnitude_form b in
+      let turned : (f.0 * 2 ^ (f.1 + s)) * fives ≡ (f.0 * 2 ^ f.1) * (2 ^ s * fives) = simp (pow-add, products) in
+      (f.0, f.1 + s, f.2, turned ∙ ap (λ (z : ℕ). z * (2 ^ s * fives)) f.3 ∙ ap (λ (z : ℕ). magnitude b * z) (sym unit) ∙ is)
+
+  found_units : (b odd d : ℕ) → magnitude b ≡ odd * 2 ^ d → magnitude b * least_double ≡ (odd * 2 ^ (s + d)) * fives
+  found_units b odd d is =
+      let turned : (odd * 2 ^ d) * (2 ^ s * fives) ≡ (odd * 2 ^ (s + d)) * fives = simp (pow-add, products) in
+      ap (λ (z : ℕ). z * least_double) is ∙ ap (λ (z : ℕ). (odd * 2 ^ d) * z) unit ∙ turned
+
+  scaled_units : (t m j k x y : ℕ) → fives ≡ 5 ^ t → s + j + k ≡ x → t + k ≡ y → (m * 2 ^ j) * least_double * 10 ^ k ≡ m * 2 ^ x * 5 ^ y
+  scaled_units t m j k x y power twos more =
+      let turned : (m * 2 ^ j) * (2 ^ s * 5 ^ t) * 2 ^ k * 5 ^ k ≡ m * 2 ^ (s + j + k) * 5 ^ (t + k) = simp (pow-add, products) in
+      tens ((m * 2 ^ j) * least_double) k
+      ∙ ap (λ (z : ℕ). (m * 2 ^ j) * z * 2 ^ k * 5 ^ k) (unit ∙ ap (λ (z : ℕ). 2 ^ s * z) power)
+      ∙ turned ∙ ap (λ (z : ℕ). m * 2 ^ z * 5 ^ (t + k)) twos ∙ ap (λ (z : ℕ). m * 2 ^ x * 5 ^ z) more
+
+module _ (t : ℕ) (unit : one ≡ 2 ^ t * fives) where
+  whole_units : (w size : ℕ) → w * one ≡ size → (w * 2 ^ t) * fives ≡ size
+  whole_units w size is = let turned : (w * 2 ^ t) * fives ≡ w * (2 ^ t * fives) = simp products in turned ∙ ap (λ (z : ℕ). w * z) (sym unit) ∙ is
+
+-- ---- a number times a power of ten as a double
+
+pub zero_double : (negative : Bool) (size : ℕ) → size ≡ 0 → Some (pos 0) ≡ double_part negative size
+zero_double true size e = sym (double_is true size 0 (omega arith) (ap (λ (z : ℕ). z * least_double) (small_magnitude 0 (omega arith)) ∙ zero-mul least_double ∙ sym e))
+zero_double false size e = sym (double_is false size 0 (omega arith) (ap (λ (z : ℕ). z * least_double) (small_magnitude 0 (omega arith)) ∙ zero-mul least_double ∙ sym e))
+
+pub double_wide : (negative : Bool) (number e : ℕ) → ((n : ℕ) → n * fives ≡ number * 2 ^ e * 5 ^ e → IsWide n) → double_part negative (number * 10 ^ e) ≡ None
+double_wide negative number e wide = double_none negative (number * 10 ^ e) (λ b few is.
+    let r = as_form 5102 least_is b (number * 10 ^ e) is in
+    wide (r.0 * 2 ^ r.1) (r.3 ∙ tens number e) r.0 r.1 (omega arith) refl)
+
+module _ (negative : Bool) (number e n : ℕ) (o : Odd) (units : n * fives ≡ number * 2 ^ e * 5 ^ e) (odd : IsOddOf n e o) where
+  pub double_large : 2 ^ 53 ≤ o.odd → double_part negative (number * 10 ^ e) ≡ None
+  double_large large = double_none negative (number * 10 ^ e) (λ b few is.
+      let r = as_form 5102 least_is b (number * 10 ^ e) is in
+      let same : r.0 * 2 ^ r.1 ≡ n = eq_of_mul-eq-mul_right fives fives_pos _ _ (r.3 ∙ tens number e ∙ sym units) in
+      let least : o.odd ≤ r.0 = odd_least o.odd o.twos r.0 r.1 odd.odd (same ∙ sym odd.is) in
+      omega arith)
+
+  pub double_found : (b d : ℕ) → b < infinite_bits → 5102 + d ≡ o.twos → magnitude b ≡ o.odd * 2 ^ d
+      → double_part negative (number * 10 ^ e) ≡ Some (signed negative b)
+  double_found b d few sum is = double_is negative (number * 10 ^ e) b few
+      (found_units 5102 least_is b o.odd d is ∙ ap (λ (z : ℕ). (o.odd * 2 ^ z) * fives) sum ∙ ap (λ (z : ℕ). z * fives) odd.is ∙ units ∙ sym (tens number e))
+
+-- ---- so many units as a whole number
+
+pub zero_whole : (negative : Bool) (size : ℕ) → size ≡ 0 → Some (pos 0) ≡ whole_part negative size
+zero_whole true size e = sym (whole_is true size 0 (zero-mul one ∙ sym e))
+zero_whole false size e = sym (whole_is false size 0 (zero-mul one ∙ sym e))
+
+pub whole_wide : (negative : Bool) (size : ℕ) → ((n : ℕ) → n * fives ≡ size → IsWide n) → whole_part negative size ≡ None
+whole_wide negative size wide = whole_none negative size (λ w few is.
+    wide (w * 2 ^ 6176) (whole_units 6176 one_is w size is) w 6176 (omega arith) refl)
+
+far : (odd d w twos : ℕ) → odd % 2 ≡ 1 → w ≤ 2 ^ 63 → 6176 + d ≡ twos → w ≡ odd * 2 ^ d → (twos < 6176) ⊎ (6239 < twos) → ⊥
+far odd d w twos is few sum form (inl low) = omega arith
+far odd d w twos is few sum form (inr high) =
+    let back : 64 + (d - 64) ≡ d = omega arith in
+    let power : 2 ^ d ≡ 2 ^ 64 * 2 ^ (d - 64) = ap (λ (z : ℕ). 2 ^ z) (sym back) ∙ pow-add 2 64 (d - 64) in
+    let some : 0 < odd = omega arith in
+    omega (arith, le-mul_of_pos_right (2 ^ d) some, pow_pos (d - 64), mul_comm odd (2 ^ d))
+
+module _ (negative : Bool) (size n start : ℕ) (o : Odd) (units : n * fives ≡ size) (odd : IsOddOf n start o) where
+  pub whole_far : (o.twos < 6176) ⊎ (6239 < o.twos) → whole_part negative size ≡ None
+  whole_far apart = whole_none negative size (λ w few is.
+      let same : w * 2 ^ 6176 ≡ n = eq_of_mul-eq-mul_right fives fives_pos _ _ (whole_units 6176 one_is w size is ∙ sym units) in
+      let r = odd_form o.odd o.twos w 6176 odd.odd (same ∙ sym odd.is) in
+      far o.odd r.0 w o.twos odd.odd few r.1 r.2 apart)
+
+  pub whole_found : (shift : ℕ) → 6176 + shift ≡ o.twos → whole_part negative size ≡ within_64 negative (o.odd * 2 ^ shift)
+  whole_found shift sum = whole_is negative size (o.odd * 2 ^ shift)
+      (let w = o.odd * 2 ^ shift in
+      let turned : w * (2 ^ 6176 * fives) ≡ (o.odd * (2 ^ 6176 * 2 ^ shift)) * fives = simp products in
+      ap (λ (z : ℕ). w * z) one_is ∙ turned ∙ ap (λ (z : ℕ). (o.odd * z) * fives) (sym (pow-add 2 6176 shift) ∙ ap (λ (z : ℕ). 2 ^ z) sum) ∙ ap (λ (z : ℕ). z * fives) odd.is ∙ units)
+
+-- ---- `double_bits`
+
+module _ (odd : ℕ) (some : 0 < odd) (few : odd < 2 ^ 53) where
+  -- 53 bits after the shift
+  shifted : (shift : ℕ) × (count_leading_zeros 64 odd ≡ 11 + shift) × (2 ^ 52 ≤ odd * 2 ^ shift) × (odd * 2 ^ shift < 2 ^ 53) × (shift ≤ 52)
+  shifted =
+      let top = leading_top 64 odd some (omega arith) in
+      let j = top.0 in
+      let low : j ≤ 52 = ⊎_elim (λ (l : 52 < j). absurd (omega (arith, pow-le-pow_right {n = 2} (omega arith) l))) (λ (l : j ≤ 52). l) (cases_lt 52 j) in
+      let sum : j + (52 - j) ≡ 52 = omega arith in
+      let power : 2 ^ j * 2 ^ (52 - j) ≡ 2 ^ 52 = sym (pow-add 2 j (52 - j)) ∙ ap (λ (z : ℕ). 2 ^ z) sum in
+      let more : 2 ^ suc j * 2 ^ (52 - j) ≡ 2 ^ 53 = (let turned : 2 ^ suc j * 2 ^ (52 - j) ≡ 2 * (2 ^ j * 2 ^ (52 - j)) = simp (pow-suc, products) in turned ∙ ap (λ (z : ℕ). 2 * z) power) in
+      (52 - j, omega (arith, top.1), omega (arith, power, mul-le-mul_right (2 ^ (52 - j)) top.2), omega (arith, more, mul-lt-mul_of_pos_right top.3 (pow_pos (52 - j))), omega arith)
+
+  bits_are : (twos d shift : ℕ) → 5102 + d ≡ twos → shift ≤ d → 2 ^ 52 ≤ odd * 2 ^ shift → odd * 2 ^ shift < 2 ^ 53
+      → magnitude ((d - shift) * 2 ^ 52 + odd * 2 ^ shift) ≡ odd * 2 ^ d
+  bits_are twos d shift sum less low high =
+      let back : shift + (d - shift) ≡ d = omega arith in
+      scaled_magnitude (d - shift) (odd * 2 ^ shift) low high
+      ∙ (let turned : odd * 2 ^ shift * 2 ^ (d - shift) ≡ odd * 2 ^ (shift + (d - shift)) = simp (pow-add, products) in turned)
+      ∙ ap (λ (z : ℕ). odd * 2 ^ z) back
+
+  pub leading_high : 11 ≤ count_leading_zeros 64 odd
+  leading_high = let s = shifted in omega (arith, s.1)
+
+  module _ (twos : ℕ) (from : 6128 ≤ twos) (to : twos < 6400) where
+    leading_is : (zeros : ℕ) → count_leading_zeros 64 odd ≡ zeros → (bits : ℕ)
+        → bits ≡ (twos - 5102 - (zeros - 11)) * 2 ^ 52 + odd * 2 ^ (zeros - 11) % 2 ^ 64
+        → (bits < infinite_bits) × ((d : ℕ) → 5102 + d ≡ twos → magnitude bits ≡ odd * 2 ^ d)
+    leading_is zeros z bits b =
+        let s = shifted in
+        let shift = s.0 in
+        let same : zeros - 11 ≡ shift = omega (arith, s.1) in
+        let kept : odd * 2 ^ shift % 2 ^ 64 ≡ odd * 2 ^ shift = mod-eq_of_lt (let f : odd * 2 ^ shift < 2 ^ 64 = omega (arith, s.3) in f) in
+        let is : bits ≡ (twos - 5102 - shift) * 2 ^ 52 + odd * 2 ^ shift =
+        b ∙ ap (λ (k : ℕ). (twos - 5102 - k) * 2 ^ 52 + odd * 2 ^ k % 2 ^ 64) same ∙ ap (λ (k : ℕ). (twos - 5102 - shift) * 2 ^ 52 + k) kept in (
+          omega (arith, is, s.3),
+          λ d sum.
+              let start : twos - 5102 - shift ≡ d - shift = omega arith in
+              ap magnitude (is ∙ ap (λ (k : ℕ). k * 2 ^ 52 + odd * 2 ^ shift) start) ∙ bits_are twos d shift sum (omega (arith, s.4)) s.2 s.3,
+        )
+
+    pub leading_bits : (bits : ℕ) → bits ≡ (twos - 5102 - (count_leading_zeros 64 odd - 11)) * 2 ^ 52 + odd * 2 ^ (count_leading_zeros 64 odd - 11) % 2 ^ 64
+        → (bits < infinite_bits) × ((d : ℕ) → 5102 + d ≡ twos → magnitude bits ≡ odd * 2 ^ d)
+    leading_bits bits b = leading_is (count_leading_zeros 64 odd) refl bits b
+
+-- ---- signs
+
+signed_size : (negative : Bool) (n : ℕ) → unsigned_abs (signed negative n) ≡ n
+signed_size true zero = refl
+signed_size true (suc n) = refl
+signed_size false n = refl
+
+pub same_passed : (z : ℤ) → SFits w64 z → Some (to_z w64 (of_z w64 z)) ≡ Some z
+same_passed z fits = ap Some (to_z-of_z w64 z fits)
+
+pub passed : (negative : Bool) (n : ℕ) (z : ℤ) → n < 2 ^ 63 → z ≡ signed negative n → Some (to_z w64 (of_z w64 z)) ≡ Some (signed negative n)
+passed negative n z few e =
+    let size : unsigned_abs z ≡ n = ap unsigned_abs e ∙ signed_size negative n in
+    same_passed z (fits_signed_from_abs w64 z (let f : unsigned_abs z < 2 ^ 63 = omega arith in f)) ∙ ap Some e
+
+-- ---- doubles
+
+module _ (bits : ℕ) where
+  pub nan_is : infinite_bits < bits % 2 ^ 63 → double_value bits ≡ nan
+  unfolding double_value
+  nan_is h = rw (lt-ltb infinite_bits (bits % 2 ^ 63) h) refl
+
+  pub infinite_is : bits % 2 ^ 63 ≡ infinite_bits → double_value bits ≡ infinite (has_sign bits)
+  unfolding double_value
+  infinite_is h = rw (le-ltb infinite_bits (bits % 2 ^ 63) (omega arith), eq-eqb (bits % 2 ^ 63) infinite_bits h) refl
+
+  pub finite_is : bits % 2 ^ 63 < infinite_bits → double_value bits ≡ finite (has_sign bits) (magnitude (bits % 2 ^ 63) * least_double)
+  unfolding double_value
+  finite_is h = rw (le-ltb infinite_bits (bits % 2 ^ 63) (omega arith), ne_eqb (bits % 2 ^ 63) infinite_bits (omega arith)) refl
+
+  pub nan_code : infinite_bits < bits % 2 ^ 63 → double_code (double_value bits) ≡ Some (neg_ℤ (pos (2 ^ 63)))
+  unfolding double_code
+  nan_code h = ap double_code (nan_is h)
+
+  pub bits_code : bits % 2 ^ 63 ≤ infinite_bits → double_code (double_value bits) ≡ Some (signed (has_sign bits) (bits % 2 ^ 63))
+  unfolding double_code
+  bits_code h = ⊎_elim
+      (λ (l : bits % 2 ^ 63 < infinite_bits). ap double_code (finite_is l) ∙ double_is (has_sign bits) (magnitude (bits % 2 ^ 63) * least_double) (bits % 2 ^ 63) l refl)
+      (λ (l : infinite_bits ≤ bits % 2 ^ 63). let same : bits % 2 ^ 63 ≡ infinite_bits = omega arith in
+      ap double_code (infinite_is same) ∙ ap (λ (z : ℕ). Some (signed (has_sign bits) z)) (sym same))
+      (cases_lt (bits % 2 ^ 63) infinite_bits)
+
+  module _ (k : ℕ) where
+    pub scaled_none : infinite_bits ≤ bits % 2 ^ 63 → scaled_code k (double_value bits) ≡ None
+    unfolding scaled_code
+    scaled_none h = ⊎_elim
+        (λ (l : infinite_bits < bits % 2 ^ 63). ap (scaled_code k) (nan_is l))
+        (λ (l : bits % 2 ^ 63 ≤ infinite_bits). ap (scaled_code k) (infinite_is (omega arith)))
+        (cases_lt infinite_bits (bits % 2 ^ 63))
+
+    pub scaled_finite : (m j twos : ℕ) → bits % 2 ^ 63 < infinite_bits → magnitude (bits % 2 ^ 63) ≡ m * 2 ^ j → 5102 + j + k ≡ twos
+        → scaled_code k (double_value bits) ≡ whole_part (has_sign bits) (m * 2 ^ twos * 5 ^ (6176 + k))
+    unfolding scaled_code
+    scaled_finite m j twos l is sum = ap (scaled_code k) (finite_is l)
+        ∙ ap (λ (z : ℕ). whole_part (has_sign bits) (z * least_double * 10 ^ k)) is
+        ∙ ap (whole_part (has_sign bits)) (scaled_units 5102 least_is 6176 m j k twos (6176 + k) fives_is sum refl)
+
+    pub scaled_low : bits % 2 ^ 63 < infinite_bits → bits % 2 ^ 63 / 2 ^ 52 ≡ 0
+        → scaled_code k (double_value bits) ≡ whole_part (has_sign bits) (bits % 2 ^ 63 % 2 ^ 52 * 2 ^ (5102 + k) * 5 ^ (6176 + k))
+    scaled_low l none = scaled_finite (bits % 2 ^ 63 % 2 ^ 52) 0 (5102 + k) l
+        (small_magnitude (bits % 2 ^ 63) (omega arith) ∙ (let f : bits % 2 ^ 63 ≡ bits % 2 ^ 63 % 2 ^ 52 = omega arith in f) ∙ sym (mul-one _)) (omega arith)
+
+    pub scaled_high : bits % 2 ^ 63 < infinite_bits → bits % 2 ^ 63 / 2 ^ 52 ≢ 0
+        → scaled_code k (double_value bits) ≡ whole_part (has_sign bits) ((2 ^ 52 + bits % 2 ^ 63 % 2 ^ 52) * 2 ^ (5101 + bits % 2 ^ 63 / 2 ^ 52 + k) * 5 ^ (6176 + k))
+    scaled_high l some =
+        let size = bits % 2 ^ 63 in
+        let e = size / 2 ^ 52 - 1 in
+        let back : suc e ≡ size / 2 ^ 52 = omega arith in
+        let same : suc e * 2 ^ 52 + size % 2 ^ 52 ≡ size = omega arith in
+        scaled_finite (2 ^ 52 + size % 2 ^ 52) e (5101 + size / 2 ^ 52 + k) l
+        (sym (ap magnitude same) ∙ by_parts (suc e) (size % 2 ^ 52) (omega arith)) (omega arith)
+
+-- ---- decimals
+
+module _ (low high : ℕ) where
+  pub decimal_nan : five_bits high ≡ 31 → decimal128_value low high ≡ nan
+  unfolding decimal128_value
+  decimal_nan h = rw (eq-eqb (five_bits high) 31 h) refl
+
+  pub decimal_infinite : five_bits high ≡ 30 → decimal128_value low high ≡ infinite (has_sign high)
+  unfolding decimal128_value
+  decimal_infinite h = rw (ne_eqb (five_bits high) 31 (omega arith), eq-eqb (five_bits high) 30 h) refl
+
+  pub decimal_finite : five_bits high ≢ 31 → five_bits high ≢ 30
+      → decimal128_value low high ≡ finite (has_sign high) (coefficient_of low high * 10 ^ biased_exponent high)
+  unfolding decimal128_value
+  decimal_finite g h = rw (ne_eqb (five_bits high) 31 g, ne_eqb (five_bits high) 30 h) refl
+
+  pub decimal_none : (k : ℕ) → 30 ≤ five_bits high → scaled_code k (decimal128_value low high) ≡ None
+  unfolding scaled_code
+  decimal_none k h = ⊎_elim
+      (λ (l : 30 < five_bits high). ap (scaled_code k) (decimal_nan (omega arith)))
+      (λ (l : five_bits high ≤ 30). ap (scaled_code k) (decimal_infinite (omega arith)))
+      (cases_lt 30 (five_bits high))
+
+  pub decimal_scaled : (k : ℕ) → five_bits high < 30 → scaled_code k (decimal128_value low high)
+      ≡ whole_part (has_sign high) (coefficient_of low high * 2 ^ (biased_exponent high + k) * 5 ^ (biased_exponent high + k))
+  unfolding scaled_code
+  decimal_scaled k h = ap (scaled_code k) (decimal_finite (omega arith) (omega arith))
+      ∙ ap (whole_part (has_sign high)) (more_tens (coefficient_of low high) (biased_exponent high) k)
+
+-- ---- whole numbers
+
+one_tens : one ≡ 10 ^ 6176
+unfolding one
+one_tens = refl
+
+pub whole_scaled : (a k : ℕ) → a * one * 10 ^ k ≡ a * 2 ^ (6176 + k) * 5 ^ (6176 + k)
+whole_scaled a k = ap (λ (z : ℕ). a * z * 10 ^ k) one_tens ∙ more_tens a 6176 k

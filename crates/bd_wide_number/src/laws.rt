@@ -1,0 +1,35 @@
+//! Laws of codes. The body of each is empty: its contract is the law.
+
+ghost use Rattle.std.specs.Prelude.{◌≡◌, ◌<◌, ◌≤◌, ◌↔◌, ◌%◌, ◌^◌, ℕ, Option, Some, None, Bool, ℤ, pos, neg_ℤ, ◌*ℤ◌, ◌<ℤ◌};
+ghost use Rattle.bd_wide_number.specs.Code.{code_value, number_code};
+ghost use Rattle.bd_wide_number.specs.Value.{IsEqual, IsLess, Value, double_value, finite, has_sign, infinite_bits, least_double, signed};
+
+/// Two codes, both by doubles or both by one power of ten, are in the order of the numbers.
+pub fn codes_rise()
+    ensures less { (k : Option ℕ) (a b : Value) (c d : ℤ) → number_code k a ≡ Some c
+        → number_code k b ≡ Some d → ((c <ℤ d) ↔ IsLess a b) }
+    ensures equal { (k : Option ℕ) (a b : Value) (c d : ℤ) → number_code k a ≡ Some c
+        → number_code k b ≡ Some d → ((c ≡ d) ↔ IsEqual a b) }
+{}
+
+/// Numbers that are equal have the same code, or none.
+pub fn equal_numbers_have_one_code()
+    ensures { (k : Option ℕ) (a b : Value) → IsEqual a b → number_code k a ≡ number_code k b }
+{}
+
+/// Of a double the code is its bits, and a number has a code only where a double is equal.
+pub fn code_is_of_the_equal_double()
+    ensures bits { (bits : ℕ) → bits % 2 ^ 63 ≤ infinite_bits
+        → number_code None (double_value bits) ≡ Some (signed (has_sign bits) (bits % 2 ^ 63)) }
+    ensures not_a_number { (bits : ℕ) → infinite_bits < bits % 2 ^ 63
+        → number_code None (double_value bits) ≡ Some (neg_ℤ (pos (2 ^ 63))) }
+    ensures only { (a : Value) (c : ℤ) → number_code None a ≡ Some c
+        → (bits : ℕ) × (bits < 2 ^ 64) × IsEqual a (double_value bits) }
+{}
+
+/// A code by a double stands for the number, and codes rise with what they stand for.
+pub fn codes_stand_for_numbers()
+    ensures stands { (negative : Bool) (size : ℕ) (c : ℤ) → number_code None (finite negative size) ≡ Some c
+        → code_value c *ℤ pos least_double ≡ signed negative size }
+    ensures rise { (c d : ℤ) → c <ℤ d → code_value c <ℤ code_value d }
+{}
