@@ -1,6 +1,8 @@
 #!/usr/bin/env python3
 """Looks whether the example in the root of each library is the one that its crate of tests proves and runs.
 
+A library of laws alone needs none: it has nothing to run.
+
 usage: tests/docs/examples.py
 """
 import glob
@@ -10,6 +12,7 @@ import sys
 
 ROOT = os.path.dirname(os.path.dirname(os.path.dirname(os.path.realpath(__file__))))
 SHOWN = re.compile(r"//! An example, which `(\w+)` proves and runs as `examples::(\w+)`:\n//!\n//! ```\n(.*?)//! ```\n", re.S)
+MODULES = re.compile(r"^(?:pub )?mod (\w+);", re.M)
 
 
 def text_of(path):
@@ -27,9 +30,10 @@ def main():
     failed = passed = 0
     for root in sorted(glob.glob(f"{ROOT}/crates/*/src/lib.rt")):
         crate = root.split("/")[-3]
-        if crate.endswith("_tests"):
+        text = text_of(f"{crate}/src/lib.rt")
+        if crate.endswith("_tests") or MODULES.findall(text) == ["laws"]:
             continue
-        shown = SHOWN.search(text_of(f"{crate}/src/lib.rt"))
+        shown = SHOWN.search(text)
         if shown and is_proved(*shown.groups()):
             passed += 1
         else:
