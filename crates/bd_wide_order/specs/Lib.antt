@@ -1,0 +1,4 @@
+pub mod Double
+pub mod Pages
+pub mod Query
+pub mod Renumber

@@ -1,0 +1,90 @@
+-- The document of a query, in which each number that it compares by is another one, by the path that it is compared at.
+-- The operands of `$size`, `$exists` and `$type` stay; in a value that is compared as a whole such names are names as
+-- others.
+use Rattle.std.specs.Prelude.{ℕ, List, if◌then◌else◌}
+use Rattle.bd_value.specs.Tree.{Tree, doc, array, Items, no_items, item, Fields, no_fields, field, Doc, fields_of, pairs_of}
+use Rattle.bd_path.specs.Path.{components_of}
+use Rattle.bd_filter.specs.FilterOf.{first_is_operator, has_value_form}
+use Rattle.bd_filter.specs.Word.{word_of}
+use Rattle.bd_filter.specs.declared.filter_of.{PlainOperator.PlainOperator, Word.Word}
+use Rattle.bd_filter.specs.declared.filter_of.PlainOperator.TheVariants as plain
+use Rattle.bd_filter.specs.declared.filter_of.Word.TheVariants as words
+use Rattle.bd_request.specs.Request.{Request}
+use Rattle.bd_wide_order.specs.Renumber.{AsksOf, Codes, SortsReadAlike, below, renumber, renumber_fields}
+use Rattle.bd_wide_order.specs.Renumber.{renumber_filter}
+
+-- the value of a pair, by its name: of `$and` and the like, or of a path
+abbrev pub pair_value : Word → Tree → Tree → Tree
+pair_value (words.Logical l) members value = members
+pair_value w members value = value
+
+-- the operand of an operator that takes values, or of another
+abbrev pub plain_operand : PlainOperator → Tree → Tree → Tree
+plain_operand plain.Size t value = t
+plain_operand plain.Exists t value = t
+plain_operand plain.Type t value = t
+plain_operand p t value = value
+
+-- the operand of an operator, by its name
+abbrev pub operand : Word → Tree → Tree → Tree → Tree → Tree
+operand (words.Plain p) t value inverse element = plain_operand p t value
+operand words.Not t value inverse element = inverse
+operand words.ElemMatch t value inverse element = element
+operand w t value inverse element = t
+
+abbrev mutual
+  -- the pairs of a document that is a filter
+  pub query_fields : Codes → Fields → Fields
+  query_fields c no_fields = no_fields
+  query_fields c (field n t fs) =
+      field n
+      (pair_value (word_of n) (query_members c t) (query_value (below (components_of n) c) t))
+      (query_fields c fs)
+
+  -- the filters of `$and`, `$or`, `$nor`
+  pub query_members : Codes → Tree → Tree
+  query_members c (array ts) = array (query_items c ts)
+  query_members c t = t
+
+  pub query_items : Codes → Items → Items
+  query_items c no_items = no_items
+  query_items c (item t ts) = item (query_member c t) (query_items c ts)
+
+  pub query_member : Codes → Tree → Tree
+  query_member c (doc fs) = doc (query_fields c fs)
+  query_member c t = t
+
+  -- the value of a path: operators, or a value that is to be equalled
+  pub query_value : Codes → Tree → Tree
+  query_value c (doc fs) =
+      if first_is_operator fs then doc (query_operators c fs) else doc (renumber_fields c fs)
+  query_value c t = renumber c t
+
+  pub query_operators : Codes → Fields → Fields
+  query_operators c no_fields = no_fields
+  query_operators c (field n t fs) =
+      field n
+      (operand (word_of n) t (renumber c t) (query_inverse c t) (query_element c t))
+      (query_operators c fs)
+
+  -- the body of `$not`, and of `$elemMatch`
+  pub query_inverse : Codes → Tree → Tree
+  query_inverse c (doc fs) = doc (query_operators c fs)
+  query_inverse c t = t
+
+  pub query_element : Codes → Tree → Tree
+  query_element c (doc fs) =
+      if has_value_form fs then doc (query_operators c fs) else doc (query_fields c fs)
+  query_element c t = t
+
+abbrev pub renumber_query : Codes → Doc → Doc
+renumber_query c d = pairs_of (query_fields c (fields_of d))
+
+-- ---- requests
+
+abbrev pub RequestAsksOf : Codes → Request → Type 0
+RequestAsksOf c r = AsksOf c r.filter × SortsReadAlike c r.sorts
+
+-- its filter renumbered, and another text, to which its tokens are tied
+abbrev pub renumber_request : Codes → List ℕ → Request → Request
+renumber_request c text r = record r { filter = renumber_filter c r.filter; text = text }

@@ -1,0 +1,90 @@
+//! Laws of other numbers in the same order. The body of each is empty: its contract is the law.
+
+ghost use Rattle.std.specs.Prelude.{Bool, List, false, Ok, ◌*◌, ◌<ℤ◌, ◌^◌, ◌≡◌, map, neg_ℤ, option_map, pos, ℕ, ℤ};
+ghost use Rattle.std.specs.List.{list_any};
+ghost use Rattle.bd_value.specs.Order.{cmp};
+ghost use Rattle.bd_value.specs.Tree.{Doc, Tree};
+ghost use Rattle.bd_path.specs.{Key.indexed_keys, Reach.Names, Reach.is_index, Reach.reach, Sort.SortPath, Sort.sort_cmp};
+ghost use Rattle.bd_filter.specs.{Filter.Filter, FilterMatch.matches, FilterOf.filter_of, FilterOf.read_as};
+ghost use Rattle.bd_bson.specs.Collection.{documents_at};
+ghost use Rattle.bd_request.specs.Refused.{then_part};
+ghost use Rattle.bd_request.specs.Request.{Request, request_of, request_text};
+ghost use Rattle.bd_sort.specs.Selection.{query_to};
+ghost use Rattle.bd_wide_order.specs.Double.{double_value, signed_bits, values_at};
+ghost use Rattle.bd_wide_order.specs.Pages.{HaveOneAnswer};
+ghost use Rattle.bd_wide_order.specs.Query.{RequestAsksOf, renumber_query, renumber_request};
+ghost use Rattle.bd_wide_order.specs.Renumber.{AreIncreasing, AsksOf, Code, Codes, DocumentsAreOf, IsOf, ReadsAlike};
+ghost use Rattle.bd_wide_order.specs.Renumber.{SortsReadAlike, below, renumber, renumber_documents, renumber_filter};
+
+/// Values are in the same order, a path reaches the same in them, they have the same keys, sorts order them alike, and a filter
+/// matches the same, if each of their numbers, and of the filter's, becomes another one, in the same order at each path.
+#[tactic(auto, using(crate::proofs::OrderLemmas::order_stays, crate::proofs::ReachLemmas::reach_stays, crate::proofs::ReachLemmas::keys_stay, crate::proofs::ReachLemmas::sorts_stay, crate::proofs::MatchLemmas::match_stays))]
+pub fn numbers_matter_by_order()
+    ensures order { (c : Codes) → AreIncreasing c → (a b : Tree) → IsOf c a → IsOf c b →
+        cmp (renumber c a) (renumber c b) ≡ cmp a b }
+    ensures reach { (c : Codes) (path : Names) → ReadsAlike c path → (t : Tree) →
+        reach (renumber c t) path ≡ map (option_map (renumber (below path c))) (reach t path) }
+    ensures keys { (c : Codes) → AreIncreasing c → (path : Names) → ReadsAlike c path →
+        (sparse : Bool) (t : Tree) → IsOf c t → indexed_keys sparse (renumber c t) path
+        ≡ map (renumber (below path c)) (indexed_keys sparse t path) }
+    ensures sorts { (c : Codes) → AreIncreasing c → (ss : List SortPath) → SortsReadAlike c ss →
+        (a b : Tree) → IsOf c a → IsOf c b →
+        sort_cmp ss (renumber c a) (renumber c b) ≡ sort_cmp ss a b }
+    ensures matching { (c : Codes) → AreIncreasing c → (f : Filter) → AsksOf c f →
+        (t : Tree) → IsOf c t → matches (renumber_filter c f) (renumber c t) ≡ matches f t }
+{}
+
+/// A path reads alike if none of its names is an index, and any path does if all numbers have one code.
+#[tactic(auto, using(crate::proofs::ReachLemmas::one_code, crate::proofs::ReachLemmas::without_indexes))]
+pub fn paths_read_alike()
+    ensures without_indexes { (c : Codes) (path : Names) → list_any is_index path ≡ false →
+        ReadsAlike c path }
+    ensures one_code { (code : Code) (path : Names) → ReadsAlike (λ names. code) path }
+{}
+
+/// A query in which each value that it compares by is renumbered is the renumbered filter, or it is refused for the reason and at
+/// the place where the query is. So is a request.
+#[tactic(auto, using(crate::proofs::QueryLemmas::query_read, crate::proofs::QueryLemmas::request_read))]
+pub fn queries_are_renumbered()
+    ensures filter { (c : Codes) (query : Doc) →
+        filter_of (renumber_query c query) ≡ read_as (renumber_filter c) (filter_of query) }
+    ensures request { (c : Codes) (query sort : Doc) (skip limit : ℕ) →
+        let text = request_text (renumber_query c query) sort skip limit in
+        request_of (renumber_query c query) sort skip limit
+        ≡ then_part (request_of query sort skip limit) (λ r. Ok (renumber_request c text r)) }
+{}
+
+/// A renumbered request to renumbered documents has the answer of the request to the documents: the same places, and at each
+/// place the renumbered document. What bytes spell either, and what text the request has, are no matter.
+pub fn answers_stay()
+    ensures answer { (c : Codes) → AreIncreasing c → (r : Request) → RequestAsksOf c r →
+        (ds : List Doc) → DocumentsAreOf c ds → (bytes new text : List ℕ) →
+        HaveOneAnswer (query_to new (renumber_documents c ds) (renumber_request c text r))
+        (query_to bytes ds r) }
+    ensures documents { (c : Codes) (ds : List Doc) (places : List ℕ) →
+        documents_at (renumber_documents c ds) places
+        ≡ renumber_documents c (documents_at ds places) }
+{}
+
+/// The bits of doubles, as whole numbers below 0 if the sign is set, are in the order of the doubles.
+#[tactic(auto, using(crate::proofs::DoubleLemmas::doubles_rise), unfolding(crate::specs::Double::magnitude))]
+pub fn doubles_rise_with_their_bits()
+    ensures rises { (m n : ℤ) → m <ℤ n → double_value m <ℤ double_value n }
+    ensures one { double_value (signed_bits 4607182418800017408) ≡ pos (2 ^ 1074) }
+    ensures minus_one { double_value (signed_bits 13830554455654793216) ≡ neg_ℤ (pos (2 ^ 1074)) }
+    ensures minus_zero { double_value (signed_bits 9223372036854775808) ≡ pos 0 }
+    ensures tenth { double_value (signed_bits 4591870180066957722)
+        ≡ pos (3602879701896397 * 2 ^ 1019) }
+    ensures least { double_value (signed_bits 1) ≡ pos 1 }
+    ensures greatest { double_value (signed_bits 9218868437227405311)
+        ≡ pos (9007199254740991 * 2 ^ 2045) }
+{}
+
+/// Over documents with the bits of doubles at some paths, and whole numbers at all others, a request has the answer that it has by
+/// value: that of the request over the documents whose numbers are their values, in units of 2 ^ -1074.
+pub fn ordered_dumps_answer_by_value()
+    ensures { (has_bits : Names → Bool) (r : Request) → RequestAsksOf (values_at has_bits) r →
+        (ds : List Doc) (bytes new text : List ℕ) → let c = values_at has_bits in
+        HaveOneAnswer (query_to new (renumber_documents c ds) (renumber_request c text r))
+        (query_to bytes ds r) }
+{}
