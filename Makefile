@@ -2,7 +2,7 @@
 # make look       prints the documents of FILE, examples/shop.bson without it, by the program as it stands, with no proof
 # make test       passes all tests
 # make edits      tries wrong bodies, of CRATE alone where it is given: the proofs must refuse each
-# make bench      times the commands over a dump of MB megabytes, 20 without it, of documents of a KIND, mixed without it; of several MB how cost grows
+# make bench      times the commands over a dump of MB megabytes, 20 without it, of documents of a KIND, mixed without it, and draws docs/performance.svg; of several MB how cost grows
 # make install    puts the programs, their man pages, completions, licence, documents and package of Python below PREFIX
 # make uninstall  takes them away
 # make deb        builds the programs, and puts the same files in a package of Debian, below dist
@@ -53,7 +53,7 @@ test:
 edits:
 	@tests/edits.sh $(CRATE)
 
-bench: bsonfind
+bench: bsonfind bsonwide
 	$(PYTHON) bench/bench.py $(MB) --kind $(KIND)
 
 install: bsonfind bsonwide

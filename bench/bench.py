@@ -1,17 +1,20 @@
 #!/usr/bin/env python3
-"""Times ./bsonfind over dumps that it makes, beside other programs where these are installed, and prints one table.
+"""Times ./bsonfind and ./bsonwide over dumps that they are given, beside other programs where these are installed, and prints one table.
 
-usage: bench/bench.py [MEGABYTES ..] [--kind KIND] [--runs N] [--seed N] [--only TEXT] [--program FILE]
+usage: bench/bench.py [MEGABYTES ..] [--kind KIND] [--runs N] [--seed N] [--only TEXT] [--program FILE] [--wide FILE] [--picture FILE]
 
 Of one size, 20 megabytes without it: a row a task, with its time, how many times that of `check` of the same dump it is, its memory, and
 how many times as long each other program (bench/peers.py) takes. `dump`, `check` and `pack` are over documents of a KIND
-(bench/make_dump.py; mixed without it), `find` and `serve` over orders, and sorts over orders and, of the kind link, over texts that
-begin alike. Of several sizes: for each of them a column of times of `check`, and one of memory, all over orders.
+(bench/make_dump.py; mixed without it), over orders, and over orders that hold doubles (the kind priced), which go through `bsonwide`;
+`find` and `serve` over orders, and sorts over orders and, of the kind link, over texts that begin alike. Of several sizes: for each of
+them a column of times of `check`, and one of memory, all over orders, or over documents of a KIND that hold doubles.
 
 A time is that of the processor in all processes of a task, the least of N runs (5 without it), between which all other tasks are run;
-what takes above 5 seconds is run twice. Memory, in megabytes, is the greatest resident set, where GNU time is installed to tell it.
-Output goes to /dev/null. First each task is looked at: it prints what another way prints. --only takes the tasks that have TEXT
-in their names, beside `check`.
+what takes above 5 seconds is run twice. Memory, in megabytes, is the greatest resident set of a process, where GNU time is installed to
+tell it. Output goes to /dev/null. First each task is looked at: it prints what another way prints. --only takes the tasks that have
+TEXT in their names, beside `check`.
+
+A run of one size without --only also draws docs/performance.svg, or what --picture names, where this python has matplotlib.
 
 With MONGODB_URI a server is asked too: mongorestore puts the orders into bench.orders, in place of what is there, and mongoexport
 finds them.
@@ -21,17 +24,22 @@ import argparse
 import itertools
 import json
 import os
+import platform
+import shlex
 import shutil
 import subprocess
 import sys
 import tempfile
+import time
 from pathlib import Path
 from typing import NamedTuple
 
 import peers
-from make_dump import KINDS, make, order_number
+from make_dump import DOUBLES, KINDS, make, order_number
 from peers import OWN
+from picture import draw
 
+ROOT = Path(__file__).resolve().parent.parent
 SLOW = 5.0
 FOUND = 1_000
 # The sorts of orders and of links, and for some the path of an index.
@@ -53,17 +61,29 @@ class Task(NamedTuple):
     alike: list[str] = []
 
 
-def run(words: list[str], sent: str, to: int = subprocess.DEVNULL) -> float:
-    """The processor time of a run, which is to end well."""
+class Took(NamedTuple):
+    """The seconds of a run: of the processor, and by the clock."""
+
+    processor: float
+    clock: float
+
+
+NEVER = Took(float("inf"), float("inf"))
+
+
+def run(words: list[str], sent: str, to: int = subprocess.DEVNULL) -> Took:
+    """The time of a run, which is to end well."""
     with tempfile.TemporaryFile() as commands:
         commands.write(sent.encode())
         commands.seek(0)
+        started = time.monotonic()
         process = subprocess.Popen(words, stdin=commands, stdout=to, stderr=subprocess.DEVNULL)
         _, status, used = os.wait4(process.pid, 0)
+        clock = time.monotonic() - started
     process.returncode = os.waitstatus_to_exitcode(status)
     if status:
         sys.exit(f"status {process.returncode}: {' '.join(words)[:200]}")
-    return used.ru_utime + used.ru_stime
+    return Took(used.ru_utime + used.ru_stime, clock)
 
 
 def printed(words: list[str], sent: str = "") -> bytes:
@@ -82,14 +102,18 @@ def memory(task: Task) -> str:
         return f"{int(told.read()) / 1024:.0f}"
 
 
-def seconds(tasks: list[Task], runs: int) -> dict[tuple[str, str], float]:
-    """The least time of each task by each program."""
-    least: dict[tuple[str, str], float] = {}
+Times = dict[tuple[str, str], Took]
+
+
+def times(tasks: list[Task], runs: int) -> Times:
+    """The least times of each task by each program."""
+    least: Times = {}
     for turn, task in itertools.product(range(runs), tasks):
         for program, words in task.words.items():
-            old = least.get((task.name, program), float("inf"))
-            if turn < 2 or old < SLOW:
-                least[task.name, program] = min(old, run(words, task.sent))
+            old = least.get((task.name, program), NEVER)
+            if turn < 2 or old.processor < SLOW:
+                took = run(words, task.sent)
+                least[task.name, program] = Took(min(old.processor, took.processor), min(old.clock, took.clock))
     return least
 
 
@@ -105,12 +129,47 @@ def file_tasks(program: str, name: str, room: str) -> list[Task]:
     return [Task(command, {OWN: [program, command, file], **others[command]}, alike=alike[command]) for command, file in inputs.items()]
 
 
+class Wide(NamedTuple):
+    """A dump with doubles, and the programs that read it."""
+
+    program: str
+    wide: str
+    dump: str
+
+    def through(self, first: str, then: str) -> str:
+        """The words for a shell that filter the dump for a command."""
+        return f"{shlex.quote(self.wide)} {first} {shlex.quote(self.dump)} | {shlex.quote(self.program)} {then} -"
+
+    def file_tasks(self, lines: str, paths: list[str], room: str) -> list[Task]:
+        """The whole file, `check` first; `pack` is by other programs alone. And each filter by itself."""
+        others = peers.of_files({"check": self.dump, "dump": self.dump, "pack": lines}, room)
+        known = printed([self.wide, "--help"]).decode()
+        filters = {"mask": [], "wrap": [], "order": paths}
+        return [
+            Task("check", {OWN: ["sh", "-c", self.through("mask", "check")], **others["check"]}),
+            Task("dump", {OWN: ["sh", "-c", self.through("wrap", "dump")], **others["dump"]}, alike=["cat", lines]),
+            Task("pack", others["pack"]),
+            *(Task(f"{it} alone", {OWN: [self.wide, it, self.dump, *of]}) for it, of in filters.items() if f"bsonwide {it}" in known),
+        ]
+
+    def find_tasks(self, order: dict) -> list[Task]:
+        """Queries, by the package of Python where it reads doubles."""
+        package = ["env", f"PYTHONPATH={ROOT}/python", f"PATH={Path(self.wide).parent}:{os.environ['PATH']}", sys.executable, "-m", "bsonfind"]
+        does_find = not subprocess.run([*package, "find", "--help"], stdout=subprocess.DEVNULL, stderr=subprocess.DEVNULL, check=False).returncode
+        tasks = []
+        for query in peers.queries(order):
+            own = {OWN: [*package, "--program", self.program, "find", self.dump, *query.words()]} if does_find else {}
+            others = peers.of_query(query, self.through("wrap", "dump"), self.dump)
+            tasks.append(Task(f"find {query.name}", own | others, alike=others.get("dump, jq", []) if own else []))
+        return tasks
+
+
 def find_tasks(program: str, dump: str, order: dict) -> list[Task]:
     """Queries; one is an order that is to be found. And by an index, which each run makes anew."""
     tasks = []
     for query in peers.queries(order):
         own = [program, "find", dump, *query.words()]
-        others = peers.of_query(query, program, dump)
+        others = peers.of_query(query, f"{shlex.quote(program)} dump {shlex.quote(dump)}", dump)
         tasks.append(Task(f"find {query.name}", {OWN: own, **others}, alike=others.get("dump, jq", [])))
     number = order["order_no"]["$numberInt"]
     for name, options in {
@@ -147,40 +206,51 @@ def serve_tasks(program: str, dump: str, count: int) -> list[Task]:
     return [Task(name, {OWN: [program, "serve", dump]}, sent) for name, sent in talks.items()]
 
 
-def order_tasks(program: str, name: str) -> list[Task]:
+def counted(name: str) -> tuple[int, dict]:
+    """How many documents a dump has, and one of them."""
     with open(f"{name}.jsonl", "rb") as lines:
         count = sum(1 for _ in lines)
         lines.seek(0)
-        order = json.loads(next(itertools.islice(lines, count * 7 // 10, None)))
+        return count, json.loads(next(itertools.islice(lines, count * 7 // 10, None)))
+
+
+def tasks_of(kind: str, program: str, wide: str, name: str, room: str) -> list[Task]:
+    """The tasks of a dump of documents of a kind."""
     dump = f"{name}.bson"
-    return [*find_tasks(program, dump, order), *sort_tasks(program, dump, SORTS), *serve_tasks(program, dump, count)]
+    count, one = counted(name)
+    if kind in DOUBLES:
+        it = Wide(program, wide, dump)
+        return it.file_tasks(f"{name}.jsonl", DOUBLES[kind], room) + (it.find_tasks(one) if kind == "priced" else [])
+    tasks = file_tasks(program, name, room)
+    if kind == "order":
+        tasks += [*find_tasks(program, dump, one), *sort_tasks(program, dump, SORTS), *serve_tasks(program, dump, count)]
+    return tasks + (sort_tasks(program, dump, LINKS) if kind == "link" else [])
 
 
 # ---- the table
 
 
-def beside(groups: list[list[Task]], runs: int) -> list[list[str]]:
-    """The rows of one size, with a column for each other program. A group is over one dump, and begins with its `check`."""
-    names = dict.fromkeys(name for group in groups for task in group for name in task.words if name != OWN)
+def beside(group: list[Task], least: Times) -> list[list[str]]:
+    """The rows of one dump, with a column for each other program. `check` is the first."""
+    names = dict.fromkeys(name for task in group for name in task.words if name != OWN)
     rows = [["", "seconds", "of check", "MB", *names]]
-    for group in groups:
-        least = seconds(group, runs)
-        check = least["check", OWN]
-        for task in group:
-            own = least[task.name, OWN]
-            others = [f"{least[task.name, name] / own:.1f}" if name in task.words else "" for name in names]
+    check = least["check", OWN].processor
+    for task in group:
+        if OWN in task.words:
+            own = least[task.name, OWN].processor
+            others = [f"{least[task.name, name].processor / own:.1f}" if name in task.words else "" for name in names]
             rows.append([task.name, f"{own:.3f}", f"{own / check:.2f}", memory(task), *others])
     return rows
 
 
 def by_size(sizes: list[int], groups: list[list[Task]], runs: int) -> list[list[str]]:
     """The rows of several sizes, of each of which there is a group."""
-    alone = [[task._replace(words={OWN: task.words[OWN]}) for task in group] for group in groups]
-    least = [seconds(group, runs) for group in alone]
+    alone = [[task._replace(words={OWN: task.words[OWN]}) for task in group if OWN in task.words] for group in groups]
+    least = [times(group, runs) for group in alone]
     rows = [["", *(f"{size} MB" for size in sizes), *(f"memory at {size}" for size in sizes)]]
     for same in zip(*alone):
-        times = [f"{of[task.name, OWN] / of['check', OWN]:.2f}" for of, task in zip(least, same)]
-        rows.append([same[0].name, *times, *map(memory, same)])
+        shares = [f"{of[task.name, OWN].processor / of['check', OWN].processor:.2f}" for of, task in zip(least, same)]
+        rows.append([same[0].name, *shares, *map(memory, same)])
     return rows
 
 
@@ -192,6 +262,32 @@ def show(rows: list[list[str]]) -> None:
         print("| " + " | ".join([first.ljust(widths[0]), *(cell.rjust(width) for cell, width in zip(others, widths[1:]))]) + " |")
 
 
+# ---- the picture
+
+# What it shows, by the tasks.
+SHOWN = {"check": "check", "dump": "dump", "pack": "pack", "find by three conditions, the last 100 by date": "find"}
+
+
+def speeds(name: str, least: Times) -> dict[str, dict[str, float]]:
+    """The megabytes a second of what the picture shows of a dump, by the clock, for each program."""
+    found: dict[str, dict[str, float]] = {title: {} for title in SHOWN.values()}
+    for (task, program), took in least.items():
+        if task in SHOWN:
+            file = f"{name}.jsonl" if task == "pack" else f"{name}.bson"
+            found[SHOWN[task]][program] = os.path.getsize(file) / 1e6 / took.clock
+    return found
+
+
+def machine() -> str:
+    """The processor, and how many there are."""
+    try:
+        lines = Path("/proc/cpuinfo").read_text().splitlines()
+    except OSError:
+        lines = []
+    names = [line.partition(": ")[2] for line in lines if line.startswith("model name")]
+    return f"{names[0] if names else platform.machine()}, {os.cpu_count()} processors"
+
+
 def main() -> int:
     read = argparse.ArgumentParser(usage=__doc__)
     read.add_argument("megabytes", nargs="*", type=int)
@@ -199,18 +295,18 @@ def main() -> int:
     read.add_argument("--runs", type=int, default=5)
     read.add_argument("--seed", type=int, default=1)
     read.add_argument("--only", default="")
-    read.add_argument("--program", default=str(Path(__file__).resolve().parent.parent / OWN))
+    read.add_argument("--program", default=str(ROOT / OWN))
+    read.add_argument("--wide", default=str(ROOT / "bsonwide"))
+    read.add_argument("--picture", type=Path, default=ROOT / "docs/performance.svg")
     words = read.parse_args()
     sizes = words.megabytes or [20]
-    kinds = ["order"] if len(sizes) > 1 or words.kind == "order" else [words.kind, "order"]
+    kinds = [words.kind if words.kind in DOUBLES else "order"] if len(sizes) > 1 else list(dict.fromkeys([words.kind, "order", "priced"]))
     with tempfile.TemporaryDirectory() as room:
-        groups = []
+        groups, names = [], []
         for size, kind in itertools.product(sizes, kinds):
-            name = f"{room}/{kind}-{size}"
-            make(name, size * 1_000_000, words.seed, kind)
-            tasks = file_tasks(words.program, name, room)[: None if kind == kinds[0] else 1]
-            tasks += order_tasks(words.program, name) if kind == "order" else []
-            tasks += sort_tasks(words.program, f"{name}.bson", LINKS) if kind == "link" else []
+            names.append(f"{room}/{kind}-{size}")
+            make(names[-1], size * 1_000_000, words.seed, kind)
+            tasks = tasks_of(kind, words.program, words.wide, names[-1], room)
             groups.append([task for task in tasks if words.only in task.name or task.name == "check"])
         # Of several sizes the first alone is looked at.
         for task in itertools.chain(*groups[: len(kinds)]):
@@ -218,8 +314,18 @@ def main() -> int:
                 print(f"something else is printed: {task.name}")
                 return 1
         peers.restore(f"{room}/order-{sizes[0]}.bson")
-        print(f"{', '.join(map(str, sizes))} MB of {' and '.join(kinds)}, seed {words.seed}, load {os.getloadavg()[0]:.1f}\n")
-        show(beside(groups, words.runs) if len(sizes) == 1 else by_size(sizes, groups, words.runs))
+        print(f"{', '.join(map(str, sizes))} MB, seed {words.seed}, {machine()}, load {os.getloadavg()[0]:.1f}")
+        if len(sizes) > 1:
+            print(f"\nkind {kinds[0]}\n")
+            show(by_size(sizes, groups, words.runs))
+            return 0
+        least = [times(group, words.runs) for group in groups]
+        for kind, group, of in zip(kinds, groups, least):
+            print(f"\nkind {kind}\n")
+            show(beside(group, of))
+        if not words.only:
+            shown = {name: speeds(file, of) for name, file, of in zip(kinds, names, least)}
+            draw(shown["order"], shown["priced"], f"{sizes[0]} MB of orders, {machine()}", words.picture)
     return 0
 
 

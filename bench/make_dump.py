@@ -3,8 +3,9 @@
 
 usage: bench/make_dump.py NAME MEGABYTES [SEED [KIND]]     writes NAME.bson of so many megabytes, and NAME.jsonl
 
-KIND is counter, person, order, article, thread, numbers, wide or link; without it the first five are mixed. Parts of it are made side by
-side, each of its own numbers, so that one of a gigabyte takes minutes.
+KIND is counter, person, order, article, thread, numbers, wide, link, priced or measured; without it the first five are mixed. Each
+document of the last two holds doubles. Parts of it are made side by side, each of its own numbers, so that one of a gigabyte takes
+minutes.
 """
 
 import base64
@@ -15,7 +16,12 @@ import struct
 import sys
 from collections.abc import Callable
 from functools import partial
+from pathlib import Path
 from typing import Any
+
+sys.path.append(str(Path(__file__).resolve().parent.parent / "tests"))
+
+from model.wide import double_text
 
 WORDS = "red green blue alpha omega Łódź 東京 São Paulo queue river “quoted” back\\slash tab\t line\n naïve stone".split(" ")
 
@@ -54,6 +60,8 @@ def encoded(value: Any) -> tuple[int, bytes]:
             return 0x09, struct.pack("<q", value)
         case Long():
             return 0x12, struct.pack("<q", value)
+        case float():
+            return 0x01, struct.pack("<d", value)
         case _:
             return 0x10, struct.pack("<i", value)
 
@@ -82,6 +90,8 @@ def wrapped(value: Any) -> Any:
             return {"$date": {"$numberLong": str(int(value))}}
         case Long():
             return {"$numberLong": str(int(value))}
+        case float():
+            return {"$numberDouble": double_text(struct.pack("<d", value)).decode()}
         case None | bool() | str():
             return value
         case _:
@@ -144,13 +154,28 @@ def wide(rng: random.Random, number: int) -> dict[str, Any]:
     return {"_id": number, **{f"field{place:03}": rng.choice([rng.randrange(1 << 20), words(rng, 1, 2), True, None]) for place in range(200)}}
 
 
-Kind = Callable[[random.Random, int], dict[str, Any]]
 def link(rng: random.Random, number: int) -> dict[str, Any]:
     """Texts that begin alike, for 30 bytes."""
     return {"_id": Id(rng.randbytes(12)), "url": f"https://example.com/orders/of/{rng.randrange(1 << 48):012x}"}
 
 
-KINDS: dict[str, Kind] = {kind.__name__: kind for kind in (counter, person, order, article, thread, numbers, wide, link)}
+def priced(rng: random.Random, number: int) -> dict[str, Any]:
+    """An order with doubles: prices of few digits, places of some, a weight of all."""
+    made = order(rng, number)
+    for item in made["items"]:
+        item["price"] = round(rng.uniform(0, 1000), 2)
+    return made | {"weight": rng.random() * 40, "place": [round(rng.uniform(-180, 180), 6), round(rng.uniform(-90, 90), 6)]}
+
+
+def measured(rng: random.Random, number: int) -> dict[str, Any]:
+    """Hardly anything but doubles, of all sizes and digits."""
+    return {"_id": number, "values": [rng.uniform(-1, 1) * 10.0 ** rng.randint(-12, 12) for _ in range(200)]}
+
+
+Kind = Callable[[random.Random, int], dict[str, Any]]
+KINDS: dict[str, Kind] = {kind.__name__: kind for kind in (counter, person, order, article, thread, numbers, wide, link, priced, measured)}
+# The paths of the doubles, by kind.
+DOUBLES = {"priced": ["items.price", "weight", "place"], "measured": ["values"]}
 # Of a hundred documents, where kinds are mixed.
 SHARES: dict[Kind, int] = {counter: 30, person: 35, order: 25, article: 2, thread: 8}
 

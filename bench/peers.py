@@ -1,4 +1,5 @@
-"""Other programs that do what bsonfind does, where they are installed: libbson, bsondump, python's module bson, jq and mongoexport."""
+"""Other programs that do what bsonfind does, where they are installed: libbson, Go's driver and Java's org.bson of Debian, bsondump,
+python's module bson, jq and mongoexport."""
 
 import functools
 import importlib.util
@@ -11,6 +12,7 @@ from pathlib import Path
 from typing import NamedTuple
 
 OWN = "bsonfind"
+HERE = Path(__file__).resolve().parent
 # Dates of the orders are below 2^41, amounts below 2^40.
 LATE = 1 << 40
 MUCH = 1 << 39
@@ -39,25 +41,47 @@ def has_bson() -> bool:
 
 
 @functools.cache
-def libbson(room: str) -> str | None:
-    """The program over libbson, built below a room, where that and a compiler are installed."""
+def libbson(room: str) -> list[str]:
+    """The words of the program over libbson, built below a room, where that and a compiler are installed; none elsewhere."""
     if not shutil.which("cc") or not shutil.which("pkg-config"):
-        return None
+        return []
     flags = subprocess.run(["pkg-config", "--cflags", "--libs", "libbson-1.0"], capture_output=True, text=True)
     if flags.returncode:
-        return None
-    source = Path(__file__).resolve().parent / "libbson.c"
-    subprocess.run(["cc", "-O2", "-o", f"{room}/libbson", str(source), *flags.stdout.split()], check=True)
-    return f"{room}/libbson"
+        return []
+    subprocess.run(["cc", "-O2", "-o", f"{room}/libbson", str(HERE / "libbson.c"), *flags.stdout.split()], check=True)
+    return [f"{room}/libbson"]
+
+
+# Where Debian has the packages of Go, and the one of Java.
+GO = Path("/usr/share/gocode")
+JAR = Path("/usr/share/java/bson.jar")
+
+
+@functools.cache
+def go_driver(room: str) -> list[str]:
+    """The same over Go's driver."""
+    if not shutil.which("go") or not (GO / "src/go.mongodb.org/mongo-driver/bson").is_dir():
+        return []
+    env = os.environ | {"GO111MODULE": "off", "GOPATH": str(GO), "GOFLAGS": ""}
+    subprocess.run(["go", "build", "-o", f"{room}/driver", str(HERE / "driver.go")], env=env, check=True)
+    return [f"{room}/driver"]
+
+
+@functools.cache
+def java(room: str) -> list[str]:
+    """The same over Java's org.bson."""
+    if not shutil.which("javac") or not JAR.exists():
+        return []
+    subprocess.run(["javac", "-cp", str(JAR), "-d", room, str(HERE / "Driver.java")], check=True)
+    return ["java", "-cp", f"{JAR}:{room}", "Driver"]
 
 
 def of_files(inputs: dict[str, str], room: str) -> dict[str, dict[str, list[str]]]:
     """The words of each command by each of them."""
     words: dict[str, dict[str, list[str]]] = {command: {} for command in inputs}
-    built = libbson(room)
+    built = {"libbson": libbson(room), "Go's driver": go_driver(room), "Java's org.bson": java(room)}
     for command, file in inputs.items():
-        if built:
-            words[command]["libbson"] = [built, command, file]
+        words[command] |= {name: [*program, command, file] for name, program in built.items() if program}
         if command == "dump" and shutil.which("bsondump"):
             words[command]["bsondump"] = ["bsondump", "--quiet", file]
         if has_bson():
@@ -119,8 +143,8 @@ def queries(order: dict) -> list[Query]:
     ]
 
 
-def of_query(query: Query, program: str, dump: str) -> dict[str, list[str]]:
-    """The words that find the same."""
+def of_query(query: Query, shown: str, dump: str) -> dict[str, list[str]]:
+    """The words that find the same. `shown` is for the shell, and prints the lines of the dump."""
     words = {}
     if has_bson():
         found = f"[d for d in documents() if {query.test}]"
@@ -128,7 +152,7 @@ def of_query(query: Query, program: str, dump: str) -> dict[str, list[str]]:
         words["python3 bson"] = python(body, dump)
     if shutil.which("jq"):
         sort = f" | jq -cs '{query.sort}'" if query.sort else ""
-        words["dump, jq"] = ["sh", "-c", f"\"$0\" dump \"$1\" | jq -c '{query.select}'{sort}", program, dump]
+        words["dump, jq"] = ["sh", "-c", f"{shown} | jq -c '{query.select}'{sort}"]
     if has_server():
         words["mongoexport"] = ["mongoexport", *SERVER, "--quiet", "--jsonFormat=canonical", *query.words()]
     return words
