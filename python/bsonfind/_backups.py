@@ -6,10 +6,14 @@ import json
 import os
 import re
 import stat
+from base64 import urlsafe_b64encode
 from dataclasses import dataclass, field
+from hashlib import sha1
 from typing import Any, Iterable, Iterator, NamedTuple
-from urllib.parse import unquote
+from urllib.parse import quote, unquote
 
+from ._archive import Listed, Namespace
+from ._dumps import file_of, member_of
 from ._errors import DumpError
 from ._unpacking import unpacked
 
@@ -19,6 +23,12 @@ _DUMPED = re.compile(r"done dumping (\S.*) \((\d+) documents?\)")
 _OPLOG_DUMPED = re.compile(r"dumped (\d+) oplog entr(?:y|ies)")
 # The names of dumps that mongodump writes without a file of metadata beside them.
 _BARE = re.compile(r"^(\$admin\..*|system\.indexes)\.bson")
+# A file that is not whole, as `unpack` leaves it.
+_HALF = re.compile(r"\.bson\.part$")
+# What mongodump does not escape in the name of a collection beside letters, digits and "_.-~"; its longest name of a file without
+# an ending, and how much of a longer one stays before "%24" and a hash.
+_UNESCAPED, _LONGEST_STEM, _KEPT = "$&+:=@", 238, 208
+_OPLOG = Namespace("", "oplog")
 
 
 @dataclass
@@ -50,7 +60,7 @@ def dumps_of(names: Iterable[str]) -> list[Dump]:
     What cannot be seen below a directory stands there with its error, so that nothing is passed over in silence.
     """
     dumps: list[Dump] = []
-    known: dict[tuple[int, int], Dump] = {}
+    known: dict[tuple[object, ...], Dump] = {}
     for name in names:
         for dump in _below_or_none(name) if os.path.isdir(name) else [Dump(name)]:
             first = dump if dump.error else _first_of(dump, known)
@@ -73,16 +83,17 @@ def _below_or_none(directory: str) -> Iterator[Dump]:
         yield Dump(directory, error="no dump is below this directory")
 
 
-def _first_of(dump: Dump, known: dict[tuple[int, int], Dump]) -> Dump:
+def _first_of(dump: Dump, known: dict[tuple[object, ...], Dump]) -> Dump:
     """The dump by which the same file was met before, or this one, of which the size is read."""
     try:
-        status = os.stat(dump.name)
+        status = os.stat(file_of(dump.name))
     except OSError as error:
         dump.error = error.strerror
         return dump
     if stat.S_ISREG(status.st_mode):
         dump.size = status.st_size
-    return known.setdefault((status.st_dev, status.st_ino), dump)
+    member = member_of(dump.name)
+    return known.setdefault((status.st_dev, status.st_ino, member and member.namespace), dump)
 
 
 def dumps_below(directory: str) -> Iterator[Dump]:
@@ -93,7 +104,7 @@ def dumps_below(directory: str) -> Iterator[Dump]:
     except OSError as error:
         yield Dump(directory, error=f"cannot read the directory: {error.strerror}")
         return
-    stems = {_ENDING.sub("", entry.name) for entry in entries if _ENDING.search(entry.name)}
+    stems = {it.sub("", entry.name) for entry in entries for it in (_ENDING, _HALF) if it.search(entry.name)}
     for entry in entries:
         try:
             if entry.is_dir(follow_symlinks=False):
@@ -105,6 +116,8 @@ def dumps_below(directory: str) -> Iterator[Dump]:
             elif _ENDING.search(entry.name):
                 is_file = entry.is_file()
                 yield Dump(entry.path, is_below=True, error=None if is_file else "not a regular file")
+            elif _HALF.search(entry.name):
+                yield Dump(entry.path, error="not whole: unpack left it so")
             elif _METADATA.search(entry.name) and _METADATA.sub("", entry.name) not in stems and not _is_view(entry.path):
                 name = f"{_METADATA.sub('', entry.path)}.bson"
                 yield Dump(name, error=f"missing: only {entry.name} is there")
@@ -132,6 +145,8 @@ def read_log(lines: Iterable[str]) -> Log:
 
 def is_oplog(name: str) -> bool:
     """Whether a file is the oplog of mongodump --oplog: it stands beside the directories of databases, without metadata."""
+    if member := member_of(name):
+        return member.namespace == _OPLOG
     directory, base = os.path.split(os.path.abspath(name))
     if base not in ("oplog.bson", "oplog.bson.gz") or _metadata_beside(name):
         return False
@@ -147,13 +162,29 @@ def namespace_of(name: str) -> str:
 
     mongodump shortens the name of a file whose collection has a long name, so the name in the metadata decides.
     """
+    member = member_of(name)
     directory, base = os.path.split(os.path.abspath(name))
-    stem = _ENDING.sub("", base)
+    stem = member.namespace.collection if member else _ENDING.sub("", base)
     if stem.startswith("$admin."):
         return unquote(stem[1:])  # The users and roles of one database are dumped beside it.
+    if member:
+        return str(member.namespace)
     metadata, _ = _read_metadata(name)
     collection = (metadata or {}).get("collectionName")
     return f"{os.path.basename(directory)}.{collection if isinstance(collection, str) else unquote(stem)}"
+
+
+def stem_of(namespace: Namespace) -> str:
+    """The name of a file by mongodump for a collection, below its directory and without an ending.
+
+    A collection without a database, and one of a database that begins with "$", stands at the top.
+    """
+    escaped = quote(namespace.collection, _UNESCAPED)
+    if len(escaped) > _LONGEST_STEM:
+        digest = urlsafe_b64encode(sha1(namespace.collection.encode()).digest()).decode().rstrip("=")
+        escaped = f"{escaped[:_KEPT]}%24{digest}"
+    is_at_top = not namespace.database or namespace.database.startswith("$")
+    return escaped if is_at_top else os.path.join(os.fsdecode(namespace.database.encode()), escaped)
 
 
 def fault_of_metadata(name: str, is_below: bool) -> str | None:
@@ -166,6 +197,18 @@ def fault_of_metadata(name: str, is_below: bool) -> str | None:
         return error
     is_bare = not is_below or _BARE.match(os.path.basename(name)) or is_oplog(name)
     return None if metadata is not None or is_bare else f"no {os.path.basename(_metadata_names(name)[0])} beside it"
+
+
+def fault_of_listed(listed: Listed) -> str | None:
+    """What is wrong with the metadata that an archive has of a collection. That of the oplog and the like is empty."""
+    if not listed.metadata:
+        is_bare = stem_of(listed.namespace) == listed.namespace.collection or _BARE.match(f"{listed.namespace.collection}.bson")
+        return None if is_bare else "none in the archive"
+    try:
+        metadata = json.loads(listed.metadata)
+    except (ValueError, RecursionError) as error:
+        return str(error)
+    return None if isinstance(metadata, dict) else "not a document"
 
 
 def _is_view(metadata: str) -> bool:

@@ -1,4 +1,7 @@
-"""Dumps as runs of the program read them: by the name of a file, or by bytes that go through a pipe."""
+"""Dumps as runs of the program read them: by the name of a file, or by bytes that go through a pipe.
+
+The name ARCHIVE::db.collection is that of one collection of an archive, unless a file has it.
+"""
 
 from __future__ import annotations
 
@@ -6,11 +9,14 @@ import os
 from typing import BinaryIO, Iterable, Iterator, NamedTuple, Union
 
 from . import _unpacking
+from ._archive import Namespace, documents_of
 from ._errors import DumpError
 
 File = Union[str, bytes, "os.PathLike[str]", "os.PathLike[bytes]"]
 
 _PIECE = 1 << 20
+# What stands between the name of an archive and that of a collection in it.
+INSIDE = "::"
 # Names that mean another file in another process.
 _DESCRIPTORS = ("/dev/fd/", "/dev/stdin", "/proc/self/fd/")
 
@@ -41,23 +47,61 @@ def dump_of(path: File) -> Dump:
     return Dump(os.path.join(os.curdir, name) if name.startswith("-") else name)
 
 
+class Member(NamedTuple):
+    """A collection of an archive."""
+
+    archive: str
+    namespace: Namespace
+
+
+def member_of(path: File) -> Member | None:
+    """The collection of an archive that a name is of, None where it is the name of a file or of nothing that is there."""
+    name = os.fsdecode(path)
+    if INSIDE in name and not os.path.lexists(name):
+        at = name.find(INSIDE)
+        while at >= 0:
+            archive, inside = name[:at], name[at + len(INSIDE) :]
+            if inside and os.path.exists(archive) and not os.path.isdir(archive):
+                database, dot, collection = inside.partition(".")
+                return Member(archive, Namespace(database, collection) if dot else Namespace("", inside))
+            at = name.find(INSIDE, at + 1)
+    return None
+
+
+def name_in(archive: str, namespace: Namespace) -> str:
+    """The name of a collection of an archive."""
+    return f"{archive}{INSIDE}{namespace}"
+
+
+def file_of(path: File) -> str:
+    """The file that is opened for a name: the archive, where it is that of a collection of one."""
+    member = member_of(path)
+    return member.archive if member else os.fsdecode(path)
+
+
 def is_packed(path: File) -> bool:
-    """Whether a file is one by `mongodump --gzip`, by its name."""
-    return os.fsdecode(path).endswith(".gz")
+    """Whether a dump is unpacked as it is read, by its name: by `mongodump --gzip`, or inside an archive."""
+    return os.fsdecode(path).endswith(".gz") or member_of(path) is not None
 
 
 def opened(path: File) -> BinaryIO:
     """The file, without a buffer; one that cannot be opened is a `DumpError`, as the program says it."""
     try:
-        return open(path, "rb", buffering=0)
+        return open(file_of(path), "rb", buffering=0)
     except OSError as error:
         raise DumpError(f"cannot open {os.fsdecode(path)}") from error
 
 
 def unpacked(path: File) -> Iterator[bytes]:
-    """The bytes that a file by `mongodump --gzip` holds, in pieces. One that is cut, damaged or empty is a `DumpError`."""
+    """The bytes of a dump that is packed, in pieces. One that is cut, damaged or empty is a `DumpError`."""
     with opened(path) as file:
-        yield from _unpacking.unpacked(pieces_of(file, path))
+        yield from unpacked_of(path, pieces_of(file, path))
+
+
+def unpacked_of(path: File, pieces: Iterator[bytes]) -> Iterator[bytes]:
+    """The bytes of a dump that is packed, out of the pieces of its file."""
+    member = member_of(path)
+    return documents_of(pieces, member.namespace) if member else _unpacking.unpacked(pieces)
 
 
 def pieces_of(file: BinaryIO, path: File) -> Iterator[bytes]:

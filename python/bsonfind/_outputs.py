@@ -6,6 +6,7 @@ import os
 import secrets
 import stat
 
+from ._dumps import file_of
 from ._errors import BsonfindError
 
 
@@ -16,7 +17,7 @@ class OutputError(BsonfindError):
 def refuse_names(dump: str, good: str, bad: str) -> None:
     """Refuses files that are the dump, or one another, by whatever names."""
     for name in (good, bad):
-        if is_same(name, dump):
+        if is_same(name, file_of(dump)):
             raise OutputError(f"{name} is the dump")
     if is_same(good, bad) and not (os.path.exists(good) and stat.S_ISCHR(os.stat(good).st_mode)):
         raise OutputError(f"{good} is named twice")
@@ -85,3 +86,43 @@ class Output:
         finally:
             if self._beside != self._path:
                 os.unlink(self._beside)
+
+
+class NewOutput(Output):
+    """A file that is written as NAME.part, and gets its name at the end. Nothing may be there of either name."""
+
+    def __init__(self, name: str) -> None:
+        self.name = self._path = name
+        self._beside = f"{name}.part"
+        refuse_there(name)
+        try:
+            self._file = open(self._beside, "xb")
+        except OSError as error:
+            raise self._named(error) from None
+
+    @property
+    def path(self) -> str:
+        """The name that the file has now."""
+        return self._beside
+
+    def complete(self) -> None:
+        """Has all bytes on the disk, and takes no more."""
+        super().complete()
+        self._file.close()
+
+    def put_in_place(self) -> None:
+        """Gives the file its name."""
+        if os.path.lexists(self._path):
+            raise OutputError(f"{self._path} is there")
+        super().put_in_place()
+
+    def keep(self) -> None:
+        """Leaves the file the name that it has."""
+        self._path = self._beside
+
+
+def refuse_there(name: str) -> None:
+    """Refuses the name of a file that is there, or that was left there not whole."""
+    for it in (name, f"{name}.part"):
+        if os.path.lexists(it):
+            raise OutputError(f"{it} is there")

@@ -7,13 +7,15 @@ import stat
 from typing import Any, BinaryIO, Iterator, NamedTuple, Sequence
 
 from . import _framing
-from ._dumps import File
+from ._archive import is_archive
+from ._dumps import INSIDE, File, file_of, is_packed, member_of, unpacked_of
 from ._errors import DumpError
 from ._faults import finish_check
 from ._processes import Run
-from ._unpacking import unpacked
 
 _PIECE = 1 << 18
+# As many bytes as tell what a file is.
+_HEAD = 1 << 12
 
 
 class Input(NamedTuple):
@@ -32,23 +34,31 @@ class Input(NamedTuple):
 class Source:
     """A dump that is open for one reading. Its size is that of the file as it is on the disk, None for a pipe or a device.
 
+    The name `-` is that of standard input.
+
     The errors do not name it: whoever reads many adds the name.
     """
 
     def __init__(self, path: File) -> None:
         self.name = os.fsdecode(path)
         try:
-            self._file: BinaryIO = open(self.name, "rb", buffering=0)
+            is_stdin = self.name == "-"
+            self._file: BinaryIO = open(0 if is_stdin else file_of(path), "rb", buffering=0, closefd=not is_stdin)
         except OSError as error:
             raise DumpError(str(error.strerror)) from error
         status = os.fstat(self._file.fileno())
         self.size = status.st_size if stat.S_ISREG(status.st_mode) else None
-        self._is_packed = self.name.endswith(".gz")
+        self._is_packed = is_packed(path)
         self._read = 0
 
+    def is_archive(self) -> bool:
+        """Whether it is a file of a whole archive. Of a pipe or a device this is not known."""
+        return self.size is not None and member_of(self.name) is None and is_archive(os.pread(self._file.fileno(), _HEAD, 0))
+
     def pieces(self) -> Iterator[bytes]:
-        """All bytes, unpacked where the name ends in `.gz`. A damaged file of gzip is an `UnpackError` after what comes before."""
-        return unpacked(self._raw()) if self._is_packed else self._raw()
+        """All bytes of the dump, unpacked where it is packed. One that is damaged is an `UnpackError` after what comes before."""
+        self._refuse_archive()
+        return unpacked_of(self.name, self.raw()) if self._is_packed else self.raw()
 
     def inputs(self, most: int | None = None) -> Iterator[Input]:
         """What runs read one after the other, at most so many bytes each; without a number as many as a run can read.
@@ -63,13 +73,19 @@ class Source:
             if errors:
                 raise errors[0]
         else:
+            self._refuse_archive()
             yield Input(0, 0, self._file, None)
+
+    def _refuse_archive(self) -> None:
+        if self.is_archive():
+            raise DumpError(f"an archive: name one of its collections, {self.name}{INSIDE}db.collection, or unpack it")
 
     def position(self) -> int:
         """How many bytes of the file were read by now, by this process or by a run."""
         return self._read or (self._file.tell() if self.size is not None and not self._file.closed else 0)
 
-    def _raw(self) -> Iterator[bytes]:
+    def raw(self) -> Iterator[bytes]:
+        """All bytes of the file, as they are on the disk."""
         while piece := self._file.read(_PIECE):
             self._read += len(piece)
             yield piece

@@ -14,7 +14,7 @@ _GZIP = 31
 
 
 class UnpackError(DumpError):
-    """A compressed file that is damaged."""
+    """A compressed file or an archive that is damaged."""
 
 
 def unpacked(pieces: Iterable[bytes]) -> Iterator[bytes]:
