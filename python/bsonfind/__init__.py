@@ -8,8 +8,9 @@
 
 `find`, `find_one` and `count_documents` answer one request by one run, a `Session` many of one dump, and an `AsyncSession` does
 for asyncio. `plan` cuts a dump of any size into parts, of which `find_parts`, `count_parts` and `check_parts` make one answer.
-`audit` checks the dumps of a backup, and `salvage` copies what is good of a damaged one. `python3 -m bsonfind` has these and
-other commands.
+`audit` checks the dumps of a backup, and `salvage` copies what is good of a damaged one. `unpack` writes the collections of an
+archive to files; where a file is named, "ARCHIVE::db.collection" names one of them. `python3 -m bsonfind` has these and other
+commands.
 """
 
 import pkgutil
@@ -34,6 +35,7 @@ from ._merge import Check, check_parts, count_parts, find_parts
 from ._parts import FileState, Part, plan
 from ._salvage import LeftOut, Salvaged, salvage
 from ._sessions import Cursor, Session
+from ._unpack import Collection, Unpacked, unpack
 from ._unpacking import UnpackError
 from ._values import ObjectId
 
@@ -53,6 +55,7 @@ __all__ = [
     "BsonfindError",
     "CancelledError",
     "Check",
+    "Collection",
     "CommandError",
     "Cursor",
     "CursorStateError",
@@ -71,6 +74,7 @@ __all__ = [
     "SessionEndedError",
     "TimedOutError",
     "UnpackError",
+    "Unpacked",
     "audit",
     "check_parts",
     "count_documents",
@@ -80,4 +84,5 @@ __all__ = [
     "find_parts",
     "plan",
     "salvage",
+    "unpack",
 ]

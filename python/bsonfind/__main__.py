@@ -22,8 +22,10 @@ from ._query import query_dumps
 from ._requests import Request
 from ._salvage import salvage
 from ._sources import try_program
+from ._unpack import unpack
 
 GOOD, FAULTY, FAILED, INTERRUPTED = 0, 1, 2, 130
+_EPILOG = "COMMAND --help explains a command and its status. ARCHIVE::db.collection names a collection of an archive as a FILE."
 
 
 class Refused(Exception):
@@ -40,12 +42,13 @@ class _Parser(argparse.ArgumentParser):
 
 def parser() -> argparse.ArgumentParser:
     """The parser of the arguments."""
-    main = _Parser(prog="python3 -m bsonfind", epilog="COMMAND --help explains a command and its status.")
+    main = _Parser(prog="python3 -m bsonfind", epilog=_EPILOG)
     _add_common(main, "bsonfind")
     commands = main.add_subparsers(required=True, metavar="COMMAND")
     for name, add, about in (
         ("audit", _add_audit, "Checks many files, on all processors."),
         ("salvage", _add_salvage, "Copies each document of a damaged dump to one of two files."),
+        ("unpack", _add_unpack, "Writes the collections of an archive of mongodump to files."),
         ("compare", _add_compare, "Compares two dumps, or the dumps of two directories."),
         ("query", _add_query, "Prints the documents of many files that match a query, each with its file."),
         ("ids", _add_ids, "Prints the documents of a file of ids, and reports ids without a document."),
@@ -92,6 +95,14 @@ def _add_salvage(command: argparse.ArgumentParser) -> None:
     command.add_argument("--good", required=True, metavar="G", help="the file for documents without a fault")
     command.add_argument("--bad", required=True, metavar="B", help="the file for other documents whose length is known")
     command.set_defaults(run=run_salvage)
+
+
+def _add_unpack(command: argparse.ArgumentParser) -> None:
+    command.epilog = "The status is 0 where all is whole, 1 where a collection is not, whose file ends in .part, and else 2."
+    command.add_argument("archive", metavar="ARCHIVE", help="a file by mongodump --archive, also with --gzip, or - for a pipe")
+    command.add_argument("directory", nargs="?", default="dump", metavar="DIR", help="where the files go, dump without it")
+    command.add_argument("--no-crc", action="store_true", help="do not compare the CRC-64 of each collection")
+    command.set_defaults(run=run_unpack)
 
 
 def _add_compare(command: argparse.ArgumentParser) -> None:
@@ -178,6 +189,19 @@ def run_salvage(words: argparse.Namespace) -> int:
             say=lambda text: console.line(f"{name}: {text}"),
             progress=progress.over,
         )
+    return GOOD if done.is_good else FAULTY
+
+
+def run_unpack(words: argparse.Namespace) -> int:
+    """Unpacks an archive, and gives the status."""
+    console = Console()
+    if words.no_crc:
+        console.problem("no CRC-64 is compared, as --no-crc says")
+    with Progress(console) as progress:
+        done = unpack(words.archive, words.directory, with_crc=not words.no_crc, say=console.line, progress=progress.over)
+    rows = ("collections", len(done.collections)), ("documents", sum(it.documents for it in done.collections))
+    broken = sum(bool(it.error) for it in done.collections)
+    _print_table([*rows, *([("not whole", broken)] if broken else [])], console)
     return GOOD if done.is_good else FAULTY
 
 

@@ -9,13 +9,15 @@ from concurrent.futures import ThreadPoolExecutor, as_completed
 from dataclasses import dataclass, field
 from typing import Any, Callable, Iterable, NamedTuple
 
-from ._backups import Dump, Log, dumps_of, fault_of_metadata, is_oplog, namespace_of, read_log, text_lines
+from ._archive import Archive, Namespace
+from ._backups import Dump, Log, dumps_of, fault_of_listed, fault_of_metadata, is_oplog, namespace_of, read_log, text_lines
 from ._console import Console, Progress
-from ._dumps import File
+from ._dumps import File, name_in
 from ._errors import BsonfindError
 from ._faults import NO_DAMAGE, Fault, faults_of, finish_check
 from ._processes import Group, processors
 from ._sources import Source, try_program
+from ._split import split
 
 # How many faults of a file are reported one by one.
 MOST_FAULTS = 10
@@ -199,7 +201,7 @@ def _check_all(dumps: list[Dump], checker: _Checker, jobs: int) -> list[Report]:
             checker.group.end()
             pool.shutdown(cancel_futures=True)
             raise
-    return [futures[id(dump)].result() for dump in dumps]
+    return [report for dump in dumps for report in futures[id(dump)].result()]
 
 
 class _Checker:
@@ -210,48 +212,93 @@ class _Checker:
         self._max_faults, self._program = max_faults, program
         self._console, self._progress = console, progress
 
-    def check(self, dump: Dump) -> Report:
-        """Checks a file."""
+    def check(self, dump: Dump) -> list[Report]:
+        """Checks a file, or each collection of an archive."""
         report = Report(dump.name, error=dump.error)
-        say = _Saying(dump.name, self._console)
+        reports = [report]
         if not dump.error:
             report.namespaces = [namespace_of(name) for name in dump.names]
             faults = [fault_of_metadata(name, dump.is_below) for name in dump.names]
             report.metadata = faults[0] if all(faults) else None
             try:
-                self._check_documents(report, say.line)
+                with Source(dump.name) as source, self._progress.over(source):
+                    if source.is_archive():
+                        report.namespaces, report.metadata = [], None
+                        reports = self._check_archive(source)
+                    else:
+                        self._check_documents(report, source)
             except (BsonfindError, OSError) as error:
-                if self.group.is_ended:
-                    raise
-                report.error = (error.strerror if isinstance(error, OSError) else None) or str(error)
-        say.line(report.error or f"{report.documents} documents, {report.faulty} faulty")
-        if report.metadata:
-            say.line(f"metadata: {report.metadata}")
+                self._note(report, error)
+        for it in reports:
+            say = self._saying(it)
+            say(it.error or f"{it.documents} documents, {it.faulty} faulty")
+            if it.metadata:
+                say(f"metadata: {it.metadata}")
         self._progress.add_file()
-        return report
+        return reports
 
-    def _check_documents(self, report: Report, say: Callable[[str], None]) -> None:
-        damage, harmless = 0, {}
-        with Source(report.name) as source, self._progress.over(source):
+    def _note(self, report: Report, error: BsonfindError | OSError) -> None:
+        """Notes why a file was not read to its end; where all was ended, that is raised."""
+        if self.group.is_ended:
+            raise error
+        report.error = (error.strerror if isinstance(error, OSError) else None) or str(error)
+
+    def _saying(self, report: Report) -> Callable[[str], None]:
+        return _Saying(report.name, self._console).line
+
+    def _check_archive(self, source: Source) -> list[Report]:
+        """The reports of the collections of an archive, which are checked side by side as their documents come."""
+        archive = Archive(source.raw())
+        reports: dict[Namespace, Report] = {}
+
+        def report_of(namespace: Namespace) -> Report:
+            if namespace not in reports:
+                name = name_in(source.name, namespace)
+                reports[namespace] = Report(name, namespaces=[namespace_of(name)])
+            return reports[namespace]
+
+        def check(namespace: Namespace, documents: Source) -> None:
+            report = report_of(namespace)
             try:
-                for part in source.inputs():
-                    with part.run([self._program, "check", "-"], group=self.group) as run:
-                        for fault in faults_of(run):
-                            fault = fault.moved(report.documents, part.offset)
-                            report.kinds[fault.kind] += 1
-                            if fault.kind in NO_DAMAGE:
-                                harmless.setdefault(fault.kind, fault)
-                            elif (damage := damage + 1) <= self._max_faults:
-                                report.faults.append(fault)
-                                say(str(fault))
-                        report.documents += finish_check(run)
-            finally:
-                if damage > self._max_faults:
-                    say(f"and {damage - self._max_faults} more")
-                if harmless:
-                    counts = ", ".join(f"{report.kinds[kind]} {kind}" for kind in harmless)
-                    say(f"no damage, but not readable: {counts}; the first at {next(iter(harmless.values()))}")
-                report.faults.extend(harmless.values())
+                self._check_documents(report, documents)
+            except (BsonfindError, OSError) as error:
+                self._note(report, error)
+
+        others: list[Report] = []
+        try:
+            for end in split(archive, check):
+                report_of(end.namespace).error = end.error
+        except (BsonfindError, OSError) as error:
+            others = [Report(source.name)]
+            self._note(others[0], error)
+        for namespace in archive.unended():
+            report_of(namespace).error = "no end"
+        for listed in archive.listed:
+            if fault := fault_of_listed(listed):
+                report_of(listed.buckets if listed.buckets in reports else listed.namespace).metadata = fault
+        return [*(reports[namespace] for namespace in sorted(reports)), *others]
+
+    def _check_documents(self, report: Report, source: Source) -> None:
+        damage, harmless, say = 0, {}, self._saying(report)
+        try:
+            for part in source.inputs():
+                with part.run([self._program, "check", "-"], group=self.group) as run:
+                    for fault in faults_of(run):
+                        fault = fault.moved(report.documents, part.offset)
+                        report.kinds[fault.kind] += 1
+                        if fault.kind in NO_DAMAGE:
+                            harmless.setdefault(fault.kind, fault)
+                        elif (damage := damage + 1) <= self._max_faults:
+                            report.faults.append(fault)
+                            say(str(fault))
+                    report.documents += finish_check(run)
+        finally:
+            if damage > self._max_faults:
+                say(f"and {damage - self._max_faults} more")
+            if harmless:
+                counts = ", ".join(f"{report.kinds[kind]} {kind}" for kind in harmless)
+                say(f"no damage, but not readable: {counts}; the first at {next(iter(harmless.values()))}")
+            report.faults.extend(harmless.values())
 
 
 class _Saying(NamedTuple):

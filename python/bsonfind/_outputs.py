@@ -89,12 +89,12 @@ class Output:
 
 
 class NewOutput(Output):
-    """A file that is written as NAME.part, and gets its name at the end. Nothing may be there of either name."""
+    """A file that is written under the name of a part, and gets its own at the end. Nothing may be there of either name."""
 
-    def __init__(self, name: str) -> None:
+    def __init__(self, name: str, part: str) -> None:
         self.name = self._path = name
-        self._beside = f"{name}.part"
-        refuse_there(name)
+        self._beside = part
+        refuse_there(name, part)
         try:
             self._file = open(self._beside, "xb")
         except OSError as error:
@@ -112,8 +112,7 @@ class NewOutput(Output):
 
     def put_in_place(self) -> None:
         """Gives the file its name."""
-        if os.path.lexists(self._path):
-            raise OutputError(f"{self._path} is there")
+        refuse_there(self._path)
         super().put_in_place()
 
     def keep(self) -> None:
@@ -121,8 +120,8 @@ class NewOutput(Output):
         self._path = self._beside
 
 
-def refuse_there(name: str) -> None:
-    """Refuses the name of a file that is there, or that was left there not whole."""
-    for it in (name, f"{name}.part"):
-        if os.path.lexists(it):
-            raise OutputError(f"{it} is there")
+def refuse_there(*names: str) -> None:
+    """Refuses names of what is there."""
+    for name in names:
+        if os.path.lexists(name):
+            raise OutputError(f"{name} is there")
